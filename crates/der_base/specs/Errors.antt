@@ -1,0 +1,11 @@
+-- What the calls on errors answer.
+use Rattle.std.specs.Prelude.{◌≡◌}
+use Rattle.der_base.specs.declared.error.Err.{Err}
+use Rattle.der_base.specs.declared.error.Err.TheVariants.{Incomplete, Error, Failure, OutOfMemory}
+
+-- the new answer is the old one with an error that R allows for its own
+abbrev pub MapsError : {E X : Type 0} → (E → X → Type 0) → Err E → Err X → Type 0
+MapsError R (Incomplete n) new = new ≡ Incomplete n
+MapsError {E} {X} R (Error e) new = (x : X) × R e x × (new ≡ Error x)
+MapsError {E} {X} R (Failure e) new = (x : X) × R e x × (new ≡ Failure x)
+MapsError R OutOfMemory new = new ≡ OutOfMemory

@@ -1,0 +1,32 @@
+-- Headers in front of a content (X.690 8.1.1), and fronts of them.
+use Rattle.std.specs.Prelude.{◌≡◌, ℕ, ◌+◌, ◌^◌, ◌<◌, ◌≤◌, Bool, Some, List, ◌∷◌, ◌++◌, length}
+use Rattle.der_base.specs.declared.header.Class.{Class}
+use Rattle.der_base.specs.declared.header.Header.{Header}
+use Rattle.der_base.specs.declared.header.Length.TheVariants.{Definite}
+use Rattle.der_base.specs.Fault.{DerHeaderRefuses}
+use Rattle.der_base.specs.Header.{IsHeader, class_of, is_constructed, number_of}
+use Rattle.der_base.specs.Octets.{identifier, shortest_length}
+use Rattle.der_base.specs.Refusal.{Refusal}
+
+-- i begins with identifier octets, and with a length in its shortest octets (10.1), and rest follows
+pub record BeginsWithDerHeader (i : List ℕ) (c : Class) (p : Bool) (t n : ℕ) (rest : List ℕ) : Type 0 where
+  pub octets : i ≡ identifier c p t ++ shortest_length n ++ rest
+  pub number : t < 2 ^ 32
+  pub length : n < 2 ^ 64
+
+-- i begins with the header h as DER writes it, and rest follows
+pub record ReadsDerHeader (i : List ℕ) (h : Header) (rest : List ℕ) : Type 0 where
+  pub size : ℕ
+  pub begins : BeginsWithDerHeader i (class_of h) (is_constructed h) (number_of h) size rest
+  pub header : IsHeader h (class_of h) (is_constructed h) (number_of h) (Definite size) (Some (identifier (class_of h) (is_constructed h) (number_of h)))
+
+-- How many octets i lacks where it ends within a header, whose tag number and length may have any size: one in or before the identifier or before the length, and those of a length that are announced and missing.
+pub data HeaderLacks : List ℕ → ℕ → Type 0 where
+  in_identifier : {i : List ℕ} (c : Class) (p : Bool) (t : ℕ) (r : List ℕ) → i ++ r ≡ identifier c p t → HeaderLacks i 1
+  in_length : {i : List ℕ} {n : ℕ} (c : Class) (p : Bool) (t b : ℕ) (bs : List ℕ)
+      → b < 255 → 1 ≤ n → 128 + length bs + n ≡ b
+      → i ≡ identifier c p t ++ b ∷ bs → HeaderLacks i n
+
+-- the same, where what is there shows no refusal
+abbrev pub DerHeaderLacks : List ℕ → ℕ → Type 0
+DerHeaderLacks i n = HeaderLacks i n × ((e : Refusal) → ¬ DerHeaderRefuses i e)

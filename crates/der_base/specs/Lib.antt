@@ -1,0 +1,17 @@
+pub mod Answer
+pub mod Arcs
+pub mod Cut
+pub mod Encoding
+pub mod Errors
+pub mod Fault
+pub mod Framed
+pub mod Header
+pub mod Headers
+pub mod Leaf
+pub mod LeafRefusal
+pub mod Octets
+pub mod Refusal
+pub mod Spelling
+pub mod Text
+pub mod Time
+pub mod Tree

@@ -1,0 +1,368 @@
+//! Refusals, and what a parser answers in place of a value.
+ghost use Rattle.std.specs.Prelude.{◌≡◌, ◌≢◌, None};
+ghost use Rattle.der_base.specs.Errors.{MapsError};
+ghost use Rattle.der_base.specs.declared.error.Err.TheVariants.{Error as an_error, OutOfMemory as out_of_memory};
+ghost use Rattle.der_base.specs.declared.error.Error.TheVariants.{NomError};
+
+use crate::header::{Class, Tag};
+use std::alloc::{AllocError, AllocFailed};
+use std::{fmt, io};
+
+/// What a parser answers in place of a value.
+#[derive(Debug, PartialEq, Drop)]
+pub enum Err<E> {
+    /// The input is cut short: more octets may change the answer.
+    Incomplete(Needed),
+    /// The input is refused here; another parser may still read it.
+    Error(E),
+    /// The input is refused, and no other parser is to be tried.
+    Failure(E),
+    /// There was no memory for the answer.
+    OutOfMemory,
+}
+
+/// The answer of a parser: what is left of the input, and a value.
+pub type IResult<I, O, E> = Result<(I, O), Err<E>>;
+
+impl<E> Err<E> {
+    /// The same answer, with another error in the place of its own.
+    pub fn map<X, F: FnOnce(E) -> X>(self, f: F) -> Err<X>
+    where
+        F: Drop,
+        requires { F.IsAlwaysCallable f }
+        ensures { MapsError (F.post f) self result }
+    {
+        match self {
+            Err::Incomplete(needed) => Err::Incomplete(needed),
+            Err::Error(e) => Err::Error(f(e)),
+            Err::Failure(e) => Err::Failure(f(e)),
+            Err::OutOfMemory => Err::OutOfMemory,
+        }
+    }
+
+    /// The same answer, with its error converted.
+    pub fn convert<X: From<E>>(e: Err<E>) -> Err<X>
+        ensures { MapsError X.from_gives e result }
+    {
+        e.map(|x| X::from(x))
+    }
+}
+
+impl From<BerError> for Err<BerError> {
+    ghost from_gives = { λ e r. r ≡ an_error e };
+
+    fn from(e: BerError) -> Err<BerError> {
+        Err::Error(e)
+    }
+}
+
+impl<E> From<AllocError> for Err<E> {
+    ghost from_gives = { λ _ r. r ≡ out_of_memory };
+
+    fn from(_e: AllocError) -> Err<E> {
+        Err::OutOfMemory
+    }
+}
+
+impl<T: Drop, E> From<AllocFailed<T>> for Err<E> {
+    ghost from_gives = { λ _ r. r ≡ out_of_memory };
+
+    fn from(_e: AllocFailed<T>) -> Err<E> {
+        Err::OutOfMemory
+    }
+}
+
+/// How many octets an input that is cut short lacks, as far as it shows.
+#[derive(Clone, Copy, Debug, PartialEq)]
+pub enum Needed {
+    Unknown,
+    Size(usize),
+}
+
+impl Needed {
+    /// A number of octets; 0 stands for one that isn't known.
+    pub fn new(n: usize) -> Needed
+        ensures unknown { n ≡ 0 → result ≡ Needed.Unknown }
+        ensures size { n ≢ 0 → result ≡ Needed.Size n }
+    {
+        if n == 0 {
+            Needed::Unknown
+        } else {
+            Needed::Size(n)
+        }
+    }
+}
+
+/// A fault of a parser over its input as a whole.
+#[derive(Clone, Copy, Debug, PartialEq)]
+pub enum ErrorKind {
+    /// The input ends too early, or octets are left where none may be.
+    Eof,
+    /// A parser that is called again and again takes nothing.
+    Many0,
+}
+
+/// A rule of DER beyond those of BER (X.690 10 and 11).
+#[derive(Clone, Copy, Debug, PartialEq, thiserror::Error)]
+pub enum DerConstraint {
+    /// A length is of the indefinite form (10.1).
+    #[error("indefinite length")]
+    IndefiniteLength,
+    /// A length isn't in the fewest octets (10.1).
+    #[error("length not minimal")]
+    LengthNotMinimal,
+    /// A type that is no SEQUENCE or SET is constructed (10.2).
+    #[error("constructed")]
+    Constructed,
+    /// A BOOLEAN is neither 00 nor ff (11.1).
+    #[error("invalid boolean")]
+    InvalidBoolean,
+    /// An INTEGER has no octet (8.3.1).
+    #[error("integer empty")]
+    IntegerEmpty,
+    /// The first nine bits of an INTEGER are 0 (8.3.2).
+    #[error("integer with leading zeroes")]
+    IntegerLeadingZeroes,
+    /// The first nine bits of an INTEGER are 1 (8.3.2).
+    #[error("integer with leading ff")]
+    IntegerLeadingFF,
+    /// A time doesn't end in Z (11.7.1, 11.8.1).
+    #[error("missing time zone")]
+    MissingTimeZone,
+    /// A time has no seconds (11.7.2, 11.8.2).
+    #[error("missing seconds")]
+    MissingSeconds,
+    /// A fraction of a second has a comma, or ends in 0 (11.7.3, 11.7.4).
+    #[error("fraction not minimal")]
+    FractionNotMinimal,
+    /// An unused bit of a BIT STRING is 1 (11.2.1).
+    #[error("unused bits not zero")]
+    UnusedBitsNotZero,
+}
+
+/// Why an input is refused.
+#[derive(Clone, Copy, Debug, PartialEq, thiserror::Error)]
+pub enum Error {
+    /// An object is of another type than the one asked for.
+    #[error("wrong type")]
+    BerTypeError,
+    /// The content octets are no value of their type.
+    #[error("wrong value")]
+    BerValueError,
+    /// Objects are nested deeper than was asked for.
+    #[error("maximum depth reached")]
+    BerMaxDepth,
+    /// Length octets are reserved or too large (8.1.3.5), or their number fits no value of the type.
+    #[error("invalid length")]
+    InvalidLength,
+    /// Identifier octets are no tag number, or one above 2^32-1 (8.1.2.4).
+    #[error("invalid tag")]
+    InvalidTag,
+    /// A tag number that isn't known. No reader answers it.
+    #[error("unknown tag {0}")]
+    UnknownTag(u32),
+    /// The tag number is another one than the one asked for.
+    #[error("unexpected tag (expected {}, actual {actual})", OrAny(*expected))]
+    UnexpectedTag {
+        expected: Option<Tag>,
+        actual: Tag,
+    },
+    /// The class is another one than the one asked for.
+    #[error("unexpected class (expected {}, actual {actual})", OrAny(*expected))]
+    UnexpectedClass {
+        expected: Option<Class>,
+        actual: Class,
+    },
+    /// An element is primitive that has to be constructed.
+    #[error("constructed encoding expected")]
+    ConstructExpected,
+    /// An element is constructed that has to be primitive.
+    #[error("primitive encoding expected")]
+    ConstructUnexpected,
+    /// A number is above what its type holds.
+    #[error("integer too large")]
+    IntegerTooLarge,
+    /// A number is negative where none may be.
+    #[error("integer negative")]
+    IntegerNegative,
+    /// The content octets are no value of the type, for a reason in words.
+    #[error("invalid value for {tag}: {msg}")]
+    InvalidValue {
+        tag: Tag,
+        msg: &'static str,
+    },
+    /// An octet is outside the character set of a string type (8.23).
+    #[error("invalid character in string")]
+    StringInvalidCharset,
+    /// The text of a time is none (8.25, 8.26).
+    #[error("invalid date or time")]
+    InvalidDateTime,
+    /// A form of encoding that isn't read.
+    #[error("unsupported")]
+    Unsupported,
+    /// A rule of DER is broken.
+    #[error("DER constraint failed: {0}")]
+    DerConstraintFailed(DerConstraint),
+    /// An item is cut by the end of its container: more octets don't help.
+    #[error("incomplete{}", Needs(*.0))]
+    Incomplete(Needed),
+    /// A fault of a parser over its input as a whole.
+    #[error("parser fault: {0:?}")]
+    NomError(ErrorKind),
+}
+
+/// Why an input is refused.
+pub type BerError = Error;
+
+impl Error {
+    /// The tag is not the one expected.
+    pub fn unexpected_tag(expected: Option<Tag>, actual: Tag) -> BerError
+        ensures { result ≡ Error.UnexpectedTag expected actual }
+    {
+        BerError::UnexpectedTag { expected, actual }
+    }
+
+    /// The class is not the one expected.
+    pub fn unexpected_class(expected: Option<Class>, actual: Class) -> BerError
+        ensures { result ≡ Error.UnexpectedClass expected actual }
+    {
+        BerError::UnexpectedClass { expected, actual }
+    }
+
+    /// No value of the type, for a reason in words.
+    pub fn invalid_value(tag: Tag, msg: &'static str) -> BerError
+        ensures { result ≡ Error.InvalidValue tag msg.entry }
+    {
+        BerError::InvalidValue { tag, msg }
+    }
+}
+
+/// What was expected, or `any`.
+#[derive(Drop)]
+struct OrAny<T>(Option<T>);
+
+impl<T: fmt::Display> fmt::Display for OrAny<T> {
+    fn fmt<W: fmt::Write>(&self, f: &mut fmt::Formatter<W>) -> fmt::Result {
+        match &self.0 {
+            Some(expected) => write!(f, "{expected}"),
+            None => write!(f, "any"),
+        }
+    }
+}
+
+/// How many octets are needed, where that is known.
+#[derive(Drop)]
+struct Needs(Needed);
+
+impl fmt::Display for Needs {
+    fn fmt<W: fmt::Write>(&self, f: &mut fmt::Formatter<W>) -> fmt::Result {
+        match self.0 {
+            Needed::Unknown => Ok(()),
+            Needed::Size(n) => write!(f, ", needs {n}"),
+        }
+    }
+}
+
+/// An error type that parsers can answer in place of `BerError`.
+pub trait ParseError<I>: Sized {
+    ghost use Rattle.der_base.specs.declared.error.ErrorKind.{ErrorKind};
+
+    // Holds of an input, a kind and each value that `from_error_kind` may answer.
+    ghost from_error_kind_gives: { I → ErrorKind → Self → Type 0 };
+
+    // Holds of an input, a kind, the value before and each value that `append` may answer.
+    ghost append_gives: { I → ErrorKind → Self → Self → Type 0 };
+
+    /// The error for a fault of this kind at this input.
+    fn from_error_kind(input: I, kind: ErrorKind) -> Self
+        ensures { from_error_kind_gives input kind result };
+
+    /// The error for a fault of this kind at this input, behind another one.
+    fn append(input: I, kind: ErrorKind, other: Self) -> Self
+        ensures { append_gives input kind other result };
+}
+
+impl<I: Drop> ParseError<I> for BerError {
+    ghost from_error_kind_gives = { λ _ kind e. e ≡ NomError kind };
+
+    ghost append_gives = { λ _ _ other e. e ≡ other };
+
+    fn from_error_kind(_input: I, kind: ErrorKind) -> BerError {
+        BerError::NomError(kind)
+    }
+
+    fn append(_input: I, _kind: ErrorKind, other: BerError) -> BerError {
+        other
+    }
+}
+
+/// Why an object isn't written.
+#[derive(Debug, PartialEq, Drop, thiserror::Error)]
+pub enum GenError {
+    /// The writer failed, or took nothing.
+    #[error("write failed")]
+    Io(io::ErrorKind),
+    /// The octets to write are more than 2^64-1.
+    #[error("object too large")]
+    TooLarge,
+    /// There was no memory for the octets.
+    #[error("out of memory")]
+    OutOfMemory,
+}
+
+impl From<AllocError> for GenError {
+    ghost use Rattle.der_base.specs.declared.error.GenError.TheVariants.{OutOfMemory};
+
+    ghost from_gives = { λ _ e. e ≡ OutOfMemory };
+
+    fn from(_e: AllocError) -> GenError {
+        GenError::OutOfMemory
+    }
+}
+
+impl<T: Drop> From<AllocFailed<T>> for GenError {
+    ghost use Rattle.der_base.specs.declared.error.GenError.TheVariants.{OutOfMemory};
+
+    ghost from_gives = { λ _ e. e ≡ OutOfMemory };
+
+    fn from(_e: AllocFailed<T>) -> GenError {
+        GenError::OutOfMemory
+    }
+}
+
+/// Why arcs are no object identifier.
+#[derive(Debug, PartialEq, Drop, thiserror::Error)]
+pub enum OidParseError {
+    /// Fewer arcs than two, or none of a relative one.
+    #[error("too few components")]
+    TooShort,
+    /// The first two arcs have no subidentifier (X.690 8.19.4).
+    #[error("first components too large")]
+    FirstComponentsTooLarge,
+    /// An arc isn't a decimal number of at most 2^64-1.
+    #[error("not a number")]
+    ParseInt,
+    /// There was no memory for the octets.
+    #[error("out of memory")]
+    OutOfMemory,
+}
+
+impl From<AllocError> for OidParseError {
+    ghost use Rattle.der_base.specs.declared.error.OidParseError.TheVariants.{OutOfMemory};
+
+    ghost from_gives = { λ _ e. e ≡ OutOfMemory };
+
+    fn from(_e: AllocError) -> OidParseError {
+        OidParseError::OutOfMemory
+    }
+}
+
+impl<T: Drop> From<AllocFailed<T>> for OidParseError {
+    ghost use Rattle.der_base.specs.declared.error.OidParseError.TheVariants.{OutOfMemory};
+
+    ghost from_gives = { λ _ e. e ≡ OutOfMemory };
+
+    fn from(_e: AllocFailed<T>) -> OidParseError {
+        OidParseError::OutOfMemory
+    }
+}

@@ -1,0 +1,362 @@
+//! Tags, lengths and headers: the octets in front of a content (X.690 8.1.2 and 8.1.3).
+ghost use Rattle.std.specs.Prelude.{◌≡◌, ◌&&◌, ◌==◌, ◌↔◌, false, true, if◌then◌else◌, IsTrue, None, MatchResult};
+ghost use Rattle.std.specs.Option.{option_copied};
+ghost use Rattle.der_base.specs.declared.error.Error.{Error};
+ghost use Rattle.der_base.specs.declared.error.DerConstraint.{DerConstraint};
+
+use crate::error::{BerError, DerConstraint};
+use std::fmt;
+
+/// The class of a tag (X.690 8.1.2.2).
+#[derive(Clone, Copy, Debug, PartialEq)]
+pub enum Class {
+    Universal,
+    Application,
+    ContextSpecific,
+    Private,
+}
+
+impl fmt::Display for Class {
+    fn fmt<W: fmt::Write>(&self, f: &mut fmt::Formatter<W>) -> fmt::Result {
+        let name = match self {
+            Class::Universal => "UNIVERSAL",
+            Class::Application => "APPLICATION",
+            Class::ContextSpecific => "CONTEXT-SPECIFIC",
+            Class::Private => "PRIVATE",
+        };
+        write!(f, "{name}")
+    }
+}
+
+/// A tag number.
+#[derive(Clone, Copy, Debug, PartialEq)]
+pub struct Tag(pub u32);
+
+/// The universal types (X.680 8.4, table 1).
+#[allow(non_upper_case_globals)]
+impl Tag {
+    pub const EndOfContent: Tag = Tag(0);
+
+    pub const Boolean: Tag = Tag(1);
+
+    pub const Integer: Tag = Tag(2);
+
+    pub const BitString: Tag = Tag(3);
+
+    pub const OctetString: Tag = Tag(4);
+
+    pub const Null: Tag = Tag(5);
+
+    pub const Oid: Tag = Tag(6);
+
+    pub const ObjectDescriptor: Tag = Tag(7);
+
+    pub const External: Tag = Tag(8);
+
+    pub const RealType: Tag = Tag(9);
+
+    pub const Enumerated: Tag = Tag(10);
+
+    pub const EmbeddedPdv: Tag = Tag(11);
+
+    pub const Utf8String: Tag = Tag(12);
+
+    pub const RelativeOid: Tag = Tag(13);
+
+    pub const Sequence: Tag = Tag(16);
+
+    pub const Set: Tag = Tag(17);
+
+    pub const NumericString: Tag = Tag(18);
+
+    pub const PrintableString: Tag = Tag(19);
+
+    pub const T61String: Tag = Tag(20);
+
+    pub const TeletexString: Tag = Tag(20);
+
+    pub const VideotexString: Tag = Tag(21);
+
+    pub const Ia5String: Tag = Tag(22);
+
+    pub const UtcTime: Tag = Tag(23);
+
+    pub const GeneralizedTime: Tag = Tag(24);
+
+    pub const GraphicString: Tag = Tag(25);
+
+    pub const VisibleString: Tag = Tag(26);
+
+    pub const GeneralString: Tag = Tag(27);
+
+    pub const UniversalString: Tag = Tag(28);
+
+    pub const BmpString: Tag = Tag(30);
+}
+
+impl From<u32> for Tag {
+    ghost from_gives = { λ n t. t.0 ≡ n };
+
+    fn from(n: u32) -> Tag {
+        Tag(n)
+    }
+}
+
+/// The name of the universal type, or `Tag(n)`.
+impl fmt::Display for Tag {
+    fn fmt<W: fmt::Write>(&self, f: &mut fmt::Formatter<W>) -> fmt::Result {
+        let name = match self.0 {
+            0 => "EndOfContent",
+            1 => "Boolean",
+            2 => "Integer",
+            3 => "BitString",
+            4 => "OctetString",
+            5 => "Null",
+            6 => "Oid",
+            7 => "ObjectDescriptor",
+            8 => "External",
+            9 => "RealType",
+            10 => "Enumerated",
+            11 => "EmbeddedPdv",
+            12 => "Utf8String",
+            13 => "RelativeOid",
+            16 => "Sequence",
+            17 => "Set",
+            18 => "NumericString",
+            19 => "PrintableString",
+            20 => "TeletexString",
+            21 => "VideotexString",
+            22 => "Ia5String",
+            23 => "UtcTime",
+            24 => "GeneralizedTime",
+            25 => "GraphicString",
+            26 => "VisibleString",
+            27 => "GeneralString",
+            28 => "UniversalString",
+            30 => "BmpString",
+            n => return write!(f, "Tag({n})"),
+        };
+        write!(f, "{name}")
+    }
+}
+
+/// The length that a header states (X.690 8.1.3).
+#[derive(Clone, Copy, Debug, PartialEq)]
+pub enum Length {
+    /// So many content octets.
+    Definite(usize),
+    /// The content goes on to its end marker.
+    Indefinite,
+}
+
+impl Length {
+    /// The number of content octets; an indefinite length is refused as DER does (X.690 10.1).
+    pub fn definite(&self) -> Result<usize, BerError>
+        ensures { MatchResult result
+            (λ n. self.now ≡ Length.Definite n)
+            (λ e. (self.now ≡ Length.Indefinite) × (e ≡ Error.DerConstraintFailed DerConstraint.IndefiniteLength)) }
+    {
+        match self {
+            Length::Definite(n) => Ok(*n),
+            Length::Indefinite => Err(BerError::DerConstraintFailed(
+                DerConstraint::IndefiniteLength,
+            )),
+        }
+    }
+}
+
+impl From<usize> for Length {
+    ghost use Rattle.der_base.specs.declared.header.Length.TheVariants.{Definite};
+
+    ghost from_gives = { λ n l. l ≡ Definite n };
+
+    fn from(n: usize) -> Length {
+        Length::Definite(n)
+    }
+}
+
+/// What stands in front of a content: its class, whether it is constructed, its tag number and
+/// its length (X.690 8.1.1). One that was read has its identifier octets too.
+#[derive(Clone, Copy, Debug)]
+pub struct Header<'a> {
+    class: Class,
+    constructed: bool,
+    definite: bool,
+    has_raw_tag: bool,
+    tag: Tag,
+    // How many content octets, 0 where the length is indefinite.
+    size: usize,
+    // The identifier octets, none where there is no raw tag.
+    raw_tag: &'a [u8],
+}
+
+impl<'a> Header<'a> {
+    ghost use Rattle.der_base.specs.Header.{IsHeader, class_of, is_constructed, number_of, length_of, raw_tag_of};
+
+    /// A header with no identifier octets of its own.
+    pub fn new(class: Class, constructed: bool, tag: Tag, length: Length) -> Header<'a>
+        ensures { IsHeader result class constructed tag.0 length None }
+    {
+        let (definite, size) = parts_of(length);
+        Header {
+            class,
+            constructed,
+            definite,
+            has_raw_tag: false,
+            tag,
+            size,
+            raw_tag: &[],
+        }
+    }
+
+    /// The same header with another length.
+    pub fn with_length(self, length: Length) -> Header<'a>
+        ensures { IsHeader result (class_of self.entry) (is_constructed self.entry) (number_of self.entry) length (raw_tag_of self.entry) }
+    {
+        let (definite, size) = parts_of(length);
+        Header {
+            definite,
+            size,
+            ..self
+        }
+    }
+
+    /// The same header with other identifier octets, or none.
+    pub fn with_raw_tag(self, raw_tag: Option<&'a [u8]>) -> Header<'a>
+        ensures { IsHeader result (class_of self.entry) (is_constructed self.entry) (number_of self.entry) (length_of self.entry) (option_copied raw_tag.entry) }
+    {
+        match raw_tag {
+            Some(octets) => Header {
+                has_raw_tag: true,
+                raw_tag: octets,
+                ..self
+            },
+            None => Header {
+                has_raw_tag: false,
+                raw_tag: &[],
+                ..self
+            },
+        }
+    }
+
+    /// The same header with another class.
+    pub fn with_class(self, class: Class) -> Header<'a>
+        ensures { IsHeader result class (is_constructed self.entry) (number_of self.entry) (length_of self.entry) (raw_tag_of self.entry) }
+    {
+        Header { class, ..self }
+    }
+
+    /// The class.
+    pub fn class(&self) -> Class
+        ensures { result ≡ class_of self.now }
+    {
+        self.class
+    }
+
+    /// The tag number.
+    pub fn tag(&self) -> Tag
+        ensures { result.0 ≡ number_of self.now }
+    {
+        self.tag
+    }
+
+    /// The length.
+    pub fn length(&self) -> Length
+        ensures { result ≡ length_of self.now }
+    {
+        if self.definite {
+            Length::Definite(self.size)
+        } else {
+            Length::Indefinite
+        }
+    }
+
+    /// Whether the content is made of elements.
+    pub fn constructed(&self) -> bool
+        ensures { result ≡ is_constructed self.now }
+    {
+        self.constructed
+    }
+
+    /// The identifier octets as they were read, where the header has them.
+    pub fn raw_tag(&self) -> Option<&'a [u8]>
+        ensures { option_copied result ≡ raw_tag_of self.now }
+    {
+        if self.has_raw_tag {
+            Some(self.raw_tag)
+        } else {
+            None
+        }
+    }
+
+    /// Whether the class is Universal.
+    pub fn is_universal(&self) -> bool
+        ensures { IsTrue result ↔ (class_of self.now ≡ Class.Universal) }
+    {
+        self.class == Class::Universal
+    }
+
+    /// Whether the class is Application.
+    pub fn is_application(&self) -> bool
+        ensures { IsTrue result ↔ (class_of self.now ≡ Class.Application) }
+    {
+        self.class == Class::Application
+    }
+
+    /// Whether the class is Context-specific.
+    pub fn is_contextspecific(&self) -> bool
+        ensures { IsTrue result ↔ (class_of self.now ≡ Class.ContextSpecific) }
+    {
+        self.class == Class::ContextSpecific
+    }
+
+    /// Whether the class is Private.
+    pub fn is_private(&self) -> bool
+        ensures { IsTrue result ↔ (class_of self.now ≡ Class.Private) }
+    {
+        self.class == Class::Private
+    }
+
+    /// Whether the content is a value, and not made of elements.
+    pub fn is_primitive(&self) -> bool
+        ensures { IsTrue result ↔ (is_constructed self.now ≡ false) }
+    {
+        !self.constructed
+    }
+
+    /// Whether the content is made of elements.
+    pub fn is_constructed(&self) -> bool
+        ensures { IsTrue result ↔ (is_constructed self.now ≡ true) }
+    {
+        self.constructed
+    }
+}
+
+/// Headers are equal where their class, constructed bit and tag number are.
+impl PartialEq for Header<'_> {
+    ghost use Rattle.std.specs.Ordering.{eq_of_both, on};
+    ghost use Rattle.std.specs.Cmp.Rules.{comparing};
+    ghost use Rattle.std.proofs.Common.{rules};
+    ghost use denote.Enum.Bare.{sameb};
+    ghost use mathlib.Core.Bool.{beq};
+    ghost use Rattle.der_base.specs.contracts.header.Class as Class_type;
+    ghost use Rattle.der_base.specs.Header.{class_of, is_constructed, number_of};
+
+    ghost eq = { eq_of_both (on class_of (sameb Class_type.the_type)) (eq_of_both (on is_constructed beq) (on number_of ◌==◌)) };
+
+    ghost laws = { Prim.search (comparing, rules) };
+
+    fn eq(&self, other: &Self) -> bool {
+        self.class == other.class && self.constructed == other.constructed && self.tag == other.tag
+    }
+}
+
+/// Whether a length is definite, and how many octets it says.
+fn parts_of(length: Length) -> (bool, usize)
+    ensures { length ≡ (if result.0 then Length.Definite result.1 else Length.Indefinite) }
+{
+    match length {
+        Length::Definite(n) => (true, n),
+        Length::Indefinite => (false, 0),
+    }
+}
