@@ -1,11 +1,11 @@
 -- Headers in front of a content (X.690 8.1.1), and fronts of them.
-use Rattle.std.specs.Prelude.{◌≡◌, ℕ, ◌+◌, ◌^◌, ◌<◌, ◌≤◌, Bool, Some, List, ◌∷◌, ◌++◌, length}
+use Rattle.std.specs.Prelude.{◌≡◌, ◌≢◌, ℕ, ◌+◌, ◌^◌, ◌<◌, ◌≤◌, ◌⊎◌, Bool, Some, List, [], ◌∷◌, ◌++◌, length}
 use Rattle.der_base.specs.declared.header.Class.{Class}
 use Rattle.der_base.specs.declared.header.Header.{Header}
 use Rattle.der_base.specs.declared.header.Length.TheVariants.{Definite}
 use Rattle.der_base.specs.Fault.{DerHeaderRefuses}
 use Rattle.der_base.specs.Header.{IsHeader, class_of, is_constructed, number_of}
-use Rattle.der_base.specs.Octets.{identifier, shortest_length}
+use Rattle.der_base.specs.Octets.{identifier, SpellsAnyLength, shortest_length}
 use Rattle.der_base.specs.Refusal.{Refusal}
 
 -- i begins with identifier octets, and with a length in its shortest octets (10.1), and rest follows
@@ -27,6 +27,15 @@ pub data HeaderLacks : List ℕ → ℕ → Type 0 where
       → b < 255 → 1 ≤ n → 128 + length bs + n ≡ b
       → i ≡ identifier c p t ++ b ∷ bs → HeaderLacks i n
 
--- the same, where what is there shows no refusal
+-- a header, of a tag number and a length of any size, definite or not (8.1.3.2)
+abbrev pub IsHeaderShape : List ℕ → Type 0
+IsHeaderShape b = (c : Class) × (p : Bool) × (t : ℕ) × (s : List ℕ) × (b ≡ identifier c p t ++ s)
+    × (((n : ℕ) × SpellsAnyLength s n) ⊎ (s ≡ 128 ∷ []))
+
+-- i is a proper front of one
+abbrev pub IsHeaderCut : List ℕ → Type 0
+IsHeaderCut i = (r : List ℕ) × (r ≢ []) × IsHeaderShape (i ++ r)
+
+-- i is cut short within a header, shows no refusal, and lacks n octets
 abbrev pub DerHeaderLacks : List ℕ → ℕ → Type 0
-DerHeaderLacks i n = HeaderLacks i n × ((e : Refusal) → ¬ DerHeaderRefuses i e)
+DerHeaderLacks i n = IsHeaderCut i × HeaderLacks i n × ((e : Refusal) → ¬ DerHeaderRefuses i e)

@@ -7,8 +7,10 @@ pub mod Fault
 pub mod Framed
 pub mod Header
 pub mod Headers
+pub mod Identifier
 pub mod Leaf
 pub mod LeafRefusal
+pub mod LengthOctets
 pub mod Octets
 pub mod Refusal
 pub mod Spelling

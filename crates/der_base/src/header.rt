@@ -1,10 +1,18 @@
 //! Tags, lengths and headers: the octets in front of a content (X.690 8.1.2 and 8.1.3).
-ghost use Rattle.std.specs.Prelude.{◌≡◌, ◌&&◌, ◌==◌, ◌↔◌, false, true, if◌then◌else◌, IsTrue, None, MatchResult};
+ghost use Rattle.std.specs.Prelude.{◌≡◌, ◌&&◌, ◌==◌, ◌↔◌, ℕ, Bool, false, true, if◌then◌else◌, IsTrue, IsOkAnd, List, None, MatchResult};
 ghost use Rattle.std.specs.Option.{option_copied};
 ghost use Rattle.der_base.specs.declared.error.Error.{Error};
 ghost use Rattle.der_base.specs.declared.error.DerConstraint.{DerConstraint};
+ghost use Rattle.der_base.specs.Answer.{MatchAnswer, AnswersError, AnswersIncomplete};
+ghost use Rattle.der_base.specs.Fault.{DerHeaderRefuses};
+ghost use Rattle.der_base.specs.Header.{IsHeader};
+ghost use Rattle.der_base.specs.Headers.{BeginsWithDerHeader, ReadsDerHeader, DerHeaderLacks};
+ghost use Rattle.der_base.specs.Octets.{identifier};
+ghost use Rattle.der_base.specs.Refusal.{Refusal};
 
-use crate::error::{BerError, DerConstraint};
+use crate::error::{BerError, DerConstraint, IResult};
+use crate::identifier::{Identifier, read_identifier};
+use crate::length::read_der_length;
 use std::fmt;
 
 /// The class of a tag (X.690 8.1.2.2).
@@ -358,5 +366,47 @@ fn parts_of(length: Length) -> (bool, usize)
     match length {
         Length::Definite(n) => (true, n),
         Length::Indefinite => (false, 0),
+    }
+}
+
+/// Reads the header in front of an element, as DER writes it: identifier octets (X.690 8.1.2), and a
+/// definite length in the fewest octets (10.1). The header has its identifier octets as raw tag.
+///
+/// Refusals: InvalidTag, InvalidLength, and of DerConstraintFailed IndefiniteLength and
+/// LengthNotMinimal, each at the octet that shows it; Incomplete with the number of octets that a
+/// header lacks which is cut short. It takes no memory.
+pub fn der_read_element_header(i: &[u8]) -> IResult<&[u8], Header<'_>, BerError>
+    ensures found { MatchAnswer result (λ x. ReadsDerHeader i.now x.1 x.0.now) (DerHeaderRefuses i.now) (DerHeaderLacks i.now) ⊥ }
+    ensures only { (c : Class) (p : Bool) (t n : ℕ) (rest : List ℕ) → BeginsWithDerHeader i.now c p t n rest
+        → IsOkAnd result (λ x. IsHeader x.1 c p t (Length.Definite n) (Some (identifier c p t)) × (x.0.now ≡ rest)) }
+    ensures refuses { (e : Refusal) → DerHeaderRefuses i.now e → AnswersError result e }
+    ensures lacks { (n : ℕ) → DerHeaderLacks i.now n → AnswersIncomplete result n }
+{
+    read_der_header(i)
+}
+
+#[inline]
+fn read_der_header(i: &[u8]) -> IResult<&[u8], Header<'_>, BerError>
+    ensures { MatchAnswer result (λ x. ReadsDerHeader i.now x.1 x.0.now) (DerHeaderRefuses i.now) (DerHeaderLacks i.now) ⊥ }
+{
+    let (rest, identifier) = read_identifier(i)?;
+    let (rest, length) = read_der_length(rest)?;
+    Ok((rest, header_of(identifier, Length::Definite(length))))
+}
+
+/// The header that begins with these identifier octets.
+#[inline]
+fn header_of(identifier: Identifier<'_>, length: Length) -> Header<'_>
+    ensures { IsHeader result identifier.entry.class identifier.entry.constructed identifier.entry.tag.0 length (Some identifier.entry.octets.now) }
+{
+    let (definite, size) = parts_of(length);
+    Header {
+        class: identifier.class,
+        constructed: identifier.constructed,
+        definite,
+        has_raw_tag: true,
+        tag: identifier.tag,
+        size,
+        raw_tag: identifier.octets,
     }
 }

@@ -4,6 +4,8 @@
 
 pub mod error;
 pub mod header;
+mod identifier;
+mod length;
 pub mod time;
 
 /// How deep the readers go that are given no depth, and how deep indefinite lengths may nest.

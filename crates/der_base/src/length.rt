@@ -1,0 +1,118 @@
+//! Length octets, read by DER and by BER (X.690 8.1.3 and 10.1).
+ghost use Rattle.std.specs.Prelude.{◌≡◌, ◌+◌, ◌<◌, ◌≤◌, ◌^◌, ◌∷◌, ◌++◌, length};
+ghost use Rattle.std.specs.Option.{SomeIff};
+ghost use Rattle.der_base.specs.Answer.{MatchAnswer};
+ghost use Rattle.der_base.specs.Fault.{BerLengthRefuses, DerLengthRefuses};
+ghost use Rattle.der_base.specs.LengthOctets.{BeginsWithDerLength, BeginsWithLength, LengthLacks, Announces};
+ghost use Rattle.der_base.specs.Octets.{number};
+ghost use Rattle.der_base.specs.Refusal.{invalid_length};
+
+use crate::error::{BerError, DerConstraint, Err, IResult, Needed};
+use crate::header::Length;
+
+/// The least length that has no short form, of one octet (X.690 8.1.3.4).
+const LEAST_LONG: usize = 128;
+
+/// Reads length octets as DER writes them, definite and the fewest (X.690 10.1): what follows
+/// them, and the number of content octets. Refusals: InvalidLength for `ff` (8.1.3.5 c), and for a
+/// number above 2^64-1 once all its octets are there; DerConstraintFailed(IndefiniteLength); then
+/// DerConstraintFailed(LengthNotMinimal). Incomplete of 1 where there is no octet, else of those
+/// that are announced and missing.
+#[inline]
+pub fn read_der_length(s: &[u8]) -> IResult<&[u8], usize, BerError>
+    ensures { MatchAnswer result (λ x. BeginsWithDerLength s.now x.1 x.0.now) (DerLengthRefuses s.now) (LengthLacks s.now) ⊥ }
+{
+    let Some((first, behind)) = s.split_first() else {
+        return Err(Err::Incomplete(Needed::Size(1)));
+    };
+    if *first < 128 {
+        return Ok((behind, *first as usize));
+    }
+    read_long_der_length(*first, behind)
+}
+
+/// Reads length octets as BER allows them (X.690 8.1.3), behind an identifier that is constructed
+/// or not: what follows them, and the length. Refusals: InvalidLength as by DER; ConstructExpected
+/// for the indefinite form, where not constructed (8.1.3.2). Incomplete as by DER.
+#[inline]
+pub fn read_ber_length(constructed: bool, s: &[u8]) -> IResult<&[u8], Length, BerError>
+    ensures { MatchAnswer result (λ x. BeginsWithLength s.now constructed x.1 x.0.now) (BerLengthRefuses constructed s.now) (LengthLacks s.now) ⊥ }
+{
+    let Some((first, behind)) = s.split_first() else {
+        return Err(Err::Incomplete(Needed::Size(1)));
+    };
+    if *first < 128 {
+        return Ok((behind, Length::Definite(*first as usize)));
+    }
+    read_long_ber_length(constructed, *first, behind)
+}
+
+/// The rest of `read_der_length`, behind a first octet from 128 on.
+fn read_long_der_length(first: u8, behind: &[u8]) -> IResult<&[u8], usize, BerError>
+    requires { 128 ≤ first }
+    ensures { MatchAnswer result (λ x. BeginsWithDerLength (first ∷ behind.now) x.1 x.0.now) (DerLengthRefuses (first ∷ behind.now)) (LengthLacks (first ∷ behind.now)) ⊥ }
+{
+    if first == 128 {
+        return Err(Err::Error(BerError::DerConstraintFailed(DerConstraint::IndefiniteLength)));
+    }
+    let (rest, octets) = announced_octets(first, behind)?;
+    let Some(n) = number_that_fits(octets) else {
+        return Err(Err::Error(BerError::InvalidLength));
+    };
+    if n < LEAST_LONG || octets[0] == 0 {
+        return Err(Err::Error(BerError::DerConstraintFailed(DerConstraint::LengthNotMinimal)));
+    }
+    Ok((rest, n))
+}
+
+/// The rest of `read_ber_length`, behind a first octet from 128 on.
+fn read_long_ber_length(
+    constructed: bool,
+    first: u8,
+    behind: &[u8],
+) -> IResult<&[u8], Length, BerError>
+    requires { 128 ≤ first }
+    ensures { MatchAnswer result (λ x. BeginsWithLength (first ∷ behind.now) constructed x.1 x.0.now) (BerLengthRefuses constructed (first ∷ behind.now)) (LengthLacks (first ∷ behind.now)) ⊥ }
+{
+    if first == 128 {
+        if constructed {
+            return Ok((behind, Length::Indefinite));
+        }
+        return Err(Err::Error(BerError::ConstructExpected));
+    }
+    let (rest, octets) = announced_octets(first, behind)?;
+    let Some(n) = number_that_fits(octets) else {
+        return Err(Err::Error(BerError::InvalidLength));
+    };
+    Ok((rest, Length::Definite(n)))
+}
+
+/// The octets of the number that a first octet above 128 announces, behind what follows them.
+fn announced_octets(first: u8, behind: &[u8]) -> IResult<&[u8], &[u8], BerError>
+    requires { 128 < first }
+    ensures { MatchAnswer result (λ x. Announces first behind.now x.1.now x.0.now) (λ e. (first ≡ 255) × (e ≡ invalid_length)) (LengthLacks (first ∷ behind.now)) ⊥ }
+{
+    if first == 255 {
+        return Err(Err::Error(BerError::InvalidLength));
+    }
+    let count = (first - 128) as usize;
+    if behind.len() < count {
+        return Err(Err::Incomplete(Needed::Size(count - behind.len())));
+    }
+    let (octets, rest) = behind.split_at(count);
+    Ok((rest, octets))
+}
+
+/// The number that octets spell, where it is below 2^64. They may begin with any number of zeros.
+fn number_that_fits(octets: &[u8]) -> Option<usize>
+    ensures { SomeIff result (number octets.now < 2 ^ 64) (number octets.now) }
+{
+    let mut n: usize = 0;
+    for b in octets {
+        if n >= 1 << 56 {
+            return None;
+        }
+        n = n * 256 + *b as usize;
+    }
+    Some(n)
+}
