@@ -10,7 +10,7 @@ use Rattle.der_base.specs.Identifier.{IsCutIdentifier}
 use Rattle.der_base.specs.LengthOctets.{BeginsWithDerLength, LengthLacks}
 use Rattle.der_base.specs.Octets.{identifier, shortest_length}
 use Rattle.der_base.specs.Refusal.{Refusal}
-use Rattle.der_base.proofs.HeaderLaws.{LengthLaws, SameHeader, Reads, header_same, header_not_refused, header_not_lacking, refusal_same, lacks_is_cut, cut_identifier, cut_length}
+use Rattle.der_base.proofs.HeaderLaws.{LengthLaws, SameHeader, Reads, read_header, header_same, header_not_refused, header_not_lacking, refusal_same, lacks_is_cut, cut_identifier, cut_length}
 use Rattle.der_base.proofs.LengthOctets.{der_length_same, der_length_not_refused, der_length_not_lacking, der_refused_not_lacking, der_refusal_same}
 
 abbrev Begins : Bool → List ℕ → ℕ → List ℕ → Type 0
@@ -57,13 +57,5 @@ der_cut_length i s c p t m ht d l = let q = cut_length laws i s c p t m ht d l i
 -- the header that is read is the one that begins the input
 pub der_header_only : (i rest rest' : List ℕ) (c : Class) (p : Bool) (t n : ℕ) (h : Header) → BeginsWithDerHeader i c p t n rest → ReadsDerHeader i h rest' → IsHeader h c p t (Definite n) (Some (identifier c p t)) × (rest' ≡ rest)
 der_header_only i rest rest' c p t n h b r =
-    let s = der_header_same i rest' rest (class_of h) c (is_constructed h) p (number_of h) t r.size n r.begins b in (
-      record {
-        class = s.class;
-        constructed = s.constructed;
-        number = s.number;
-        length = r.header.length ∙ ap Definite s.length;
-        raw_tag = r.header.raw_tag ∙ ap (λ q. Some (identifier q (is_constructed h) (number_of h))) s.class ∙ ap (λ q. Some (identifier c q (number_of h))) s.constructed ∙ ap (λ q. Some (identifier c p q)) s.number;
-      },
-      s.rest,
-    )
+    let s = der_header_same i rest' rest (class_of h) c (is_constructed h) p (number_of h) t r.size n r.begins b in
+    (read_header h (class_of h) c (is_constructed h) p (number_of h) t (Definite r.size) (Definite n) s.class s.constructed s.number (ap Definite s.length) refl refl refl r.length r.raw_tag, s.rest)

@@ -1,8 +1,11 @@
 -- A header in front of the input, a refusal that it shows, and the end of the input within a header: one of them holds at most, and each in one way. All of it stands on the same laws of length octets, those of BER or those of DER.
-use Rattle.std.proofs.Common.{◌≡◌, ◌≢◌, ℕ, ◌^◌, ◌<◌, ◌≤◌, Bool, List, [], ◌∷◌, ◌++◌, length, refl, sym, ap, ◌∙◌, arith, append_assoc, inl, inr, ⊎_elim, ◌⊎◌}
+use Rattle.std.proofs.Common.{◌≡◌, ◌≢◌, ℕ, ◌^◌, ◌<◌, ◌≤◌, Bool, Some, List, [], ◌∷◌, ◌++◌, length, refl, sym, ap, ◌∙◌, arith, append_assoc, inl, inr, ⊎_elim, ◌⊎◌}
 use Rattle.der_base.specs.declared.header.Class.{Class}
+use Rattle.der_base.specs.declared.header.Header.{Header}
+use Rattle.der_base.specs.declared.header.Length.{Length}
 use Rattle.der_base.specs.Cut.{Lacks, in_identifier as lacks_in_identifier, in_length as lacks_in_length}
 use Rattle.der_base.specs.Fault.{HasBadTag, HasIdentifier}
+use Rattle.der_base.specs.Header.{IsHeader, class_of, is_constructed, number_of, length_of, raw_tag_of}
 use Rattle.der_base.specs.Headers.{HeaderLacks, in_identifier, in_length, IsHeaderCut}
 use Rattle.der_base.specs.Identifier.{IsCutIdentifier}
 use Rattle.der_base.specs.LengthOctets.{LengthLacks, before_length, in_length as in_length_octets}
@@ -142,3 +145,14 @@ module _ {L : Type 0} {Begins : Bool → List ℕ → L → List ℕ → Type 0}
       refused e (inr (p', s', (c', t', ht', d'), q)) =
           let same : s' ≡ s = behind i s' s c' c p' p t' t d' d in
           laws.refused_not_lacking p' s e m (rw same at q) l
+
+-- the parts of a header that was read, by other names for them
+pub read_header : (h : Header) (c c' : Class) (p p' : Bool) (t t' : ℕ) (l l' : Length) → c ≡ c' → p ≡ p' → t ≡ t' → l ≡ l'
+    → class_of h ≡ c → is_constructed h ≡ p → number_of h ≡ t → length_of h ≡ l → raw_tag_of h ≡ Some (identifier c p t) → IsHeader h c' p' t' l' (Some (identifier c' p' t'))
+read_header h c c' p p' t t' l l' ec ep et el hc hp ht hl raw = record {
+  class = hc ∙ ec;
+  constructed = hp ∙ ep;
+  number = ht ∙ et;
+  length = hl ∙ el;
+  raw_tag = raw ∙ ap (λ q. Some (identifier q p t)) ec ∙ ap (λ q. Some (identifier c' q t)) ep ∙ ap (λ q. Some (identifier c' p' q)) et;
+}

@@ -2,9 +2,11 @@
 use Rattle.std.specs.Prelude.{◌≡◌, ◌≢◌, ℕ, ◌+◌, ◌^◌, ◌<◌, ◌≤◌, ◌⊎◌, Bool, Some, List, [], ◌∷◌, ◌++◌, length}
 use Rattle.der_base.specs.declared.header.Class.{Class}
 use Rattle.der_base.specs.declared.header.Header.{Header}
+use Rattle.der_base.specs.declared.header.Length.{Length}
 use Rattle.der_base.specs.declared.header.Length.TheVariants.{Definite}
-use Rattle.der_base.specs.Fault.{DerHeaderRefuses}
-use Rattle.der_base.specs.Header.{IsHeader, class_of, is_constructed, number_of}
+use Rattle.der_base.specs.Fault.{BerHeaderRefuses, DerHeaderRefuses}
+use Rattle.der_base.specs.Header.{class_of, is_constructed, number_of, length_of, raw_tag_of}
+use Rattle.der_base.specs.LengthOctets.{BeginsWithLength}
 use Rattle.der_base.specs.Octets.{identifier, SpellsAnyLength, shortest_length}
 use Rattle.der_base.specs.Refusal.{Refusal}
 
@@ -14,11 +16,24 @@ pub record BeginsWithDerHeader (i : List ℕ) (c : Class) (p : Bool) (t n : ℕ)
   pub number : t < 2 ^ 32
   pub length : n < 2 ^ 64
 
+-- i begins with identifier octets, and with a length in any octets that BER allows behind them (8.1.3), and rest follows
+pub record BeginsWithHeader (i : List ℕ) (c : Class) (p : Bool) (t : ℕ) (l : Length) (rest : List ℕ) : Type 0 where
+  pub following : List ℕ
+  pub octets : i ≡ identifier c p t ++ following
+  pub number : t < 2 ^ 32
+  pub length : BeginsWithLength following p l rest
+
 -- i begins with the header h as DER writes it, and rest follows
 pub record ReadsDerHeader (i : List ℕ) (h : Header) (rest : List ℕ) : Type 0 where
   pub size : ℕ
   pub begins : BeginsWithDerHeader i (class_of h) (is_constructed h) (number_of h) size rest
-  pub header : IsHeader h (class_of h) (is_constructed h) (number_of h) (Definite size) (Some (identifier (class_of h) (is_constructed h) (number_of h)))
+  pub length : length_of h ≡ Definite size
+  pub raw_tag : raw_tag_of h ≡ Some (identifier (class_of h) (is_constructed h) (number_of h))
+
+-- the same by BER
+pub record ReadsHeader (i : List ℕ) (h : Header) (rest : List ℕ) : Type 0 where
+  pub begins : BeginsWithHeader i (class_of h) (is_constructed h) (number_of h) (length_of h) rest
+  pub raw_tag : raw_tag_of h ≡ Some (identifier (class_of h) (is_constructed h) (number_of h))
 
 -- How many octets i lacks where it ends within a header, whose tag number and length may have any size: one in or before the identifier or before the length, and those of a length that are announced and missing.
 pub data HeaderLacks : List ℕ → ℕ → Type 0 where
@@ -36,6 +51,10 @@ IsHeaderShape b = (c : Class) × (p : Bool) × (t : ℕ) × (s : List ℕ) × (b
 abbrev pub IsHeaderCut : List ℕ → Type 0
 IsHeaderCut i = (r : List ℕ) × (r ≢ []) × IsHeaderShape (i ++ r)
 
--- i is cut short within a header, shows no refusal, and lacks n octets
+-- i is cut short within a header, lacks n octets, and shows no refusal of DER
 abbrev pub DerHeaderLacks : List ℕ → ℕ → Type 0
 DerHeaderLacks i n = IsHeaderCut i × HeaderLacks i n × ((e : Refusal) → ¬ DerHeaderRefuses i e)
+
+-- nor of BER
+abbrev pub BerHeaderLacks : List ℕ → ℕ → Type 0
+BerHeaderLacks i n = IsHeaderCut i × HeaderLacks i n × ((e : Refusal) → ¬ BerHeaderRefuses i e)

@@ -1,5 +1,7 @@
 pub mod Answer
+pub mod Any
 pub mod Arcs
+pub mod Count
 pub mod Cut
 pub mod Encoding
 pub mod Errors

@@ -1,19 +1,21 @@
 //! Tags, lengths and headers: the octets in front of a content (X.690 8.1.2 and 8.1.3).
-ghost use Rattle.std.specs.Prelude.{◌≡◌, ◌&&◌, ◌==◌, ◌↔◌, ℕ, Bool, false, true, if◌then◌else◌, IsTrue, IsOkAnd, List, None, MatchResult};
+ghost use Rattle.std.specs.Prelude.{◌≡◌, ◌≢◌, ◌&&◌, ◌==◌, ◌↔◌, ℕ, Bool, false, true, if◌then◌else◌, IsTrue, IsOkAnd, List, None, MatchResult};
 ghost use Rattle.std.specs.Option.{option_copied};
 ghost use Rattle.der_base.specs.declared.error.Error.{Error};
 ghost use Rattle.der_base.specs.declared.error.DerConstraint.{DerConstraint};
 ghost use Rattle.der_base.specs.Answer.{MatchAnswer, AnswersError, AnswersIncomplete};
-ghost use Rattle.der_base.specs.Fault.{DerHeaderRefuses};
+ghost use Rattle.der_base.specs.Fault.{BerHeaderRefuses, DerHeaderRefuses};
+ghost use Rattle.der_base.specs.Count.{one_more};
 ghost use Rattle.der_base.specs.Header.{IsHeader};
-ghost use Rattle.der_base.specs.Headers.{BeginsWithDerHeader, ReadsDerHeader, DerHeaderLacks};
+ghost use Rattle.der_base.specs.Headers.{BeginsWithHeader, ReadsHeader, BerHeaderLacks, BeginsWithDerHeader, ReadsDerHeader, DerHeaderLacks};
 ghost use Rattle.der_base.specs.Octets.{identifier};
-ghost use Rattle.der_base.specs.Refusal.{Refusal};
+ghost use Rattle.der_base.specs.Refusal.{Refusal, refusal, construct_expected, construct_unexpected, unexpected_class, unexpected_tag};
 
 use crate::error::{BerError, DerConstraint, IResult};
 use crate::identifier::{Identifier, read_identifier};
-use crate::length::read_der_length;
+use crate::length::{read_ber_length, read_der_length};
 use std::fmt;
+use std::marker::Model;
 
 /// The class of a tag (X.690 8.1.2.2).
 #[derive(Clone, Copy, Debug, PartialEq)]
@@ -338,6 +340,58 @@ impl<'a> Header<'a> {
     {
         self.constructed
     }
+
+    /// Ok where the class is this one, UnexpectedClass otherwise.
+    pub fn assert_class(&self, class: Class) -> Result<(), BerError>
+        ensures { MatchResult result
+            (λ _. class_of self.now ≡ class)
+            (λ e. (class_of self.now ≢ class) × (refusal e ≡ unexpected_class (Some class) (class_of self.now))) }
+    {
+        if self.class == class {
+            Ok(())
+        } else {
+            Err(BerError::unexpected_class(Some(class), self.class))
+        }
+    }
+
+    /// Ok where the tag number is this one, UnexpectedTag otherwise.
+    pub fn assert_tag(&self, tag: Tag) -> Result<(), BerError>
+        ensures { MatchResult result
+            (λ _. number_of self.now ≡ tag.0)
+            (λ e. (number_of self.now ≢ tag.0) × (refusal e ≡ unexpected_tag (Some tag.0) (number_of self.now))) }
+    {
+        if self.tag == tag {
+            Ok(())
+        } else {
+            Err(BerError::unexpected_tag(Some(tag), self.tag))
+        }
+    }
+
+    /// Ok where the content is made of elements, ConstructExpected otherwise.
+    pub fn assert_constructed(&self) -> Result<(), BerError>
+        ensures { MatchResult result
+            (λ _. is_constructed self.now ≡ true)
+            (λ e. (is_constructed self.now ≡ false) × (refusal e ≡ construct_expected)) }
+    {
+        if self.constructed {
+            Ok(())
+        } else {
+            Err(BerError::ConstructExpected)
+        }
+    }
+
+    /// Ok where the content is a value, ConstructUnexpected otherwise.
+    pub fn assert_primitive(&self) -> Result<(), BerError>
+        ensures { MatchResult result
+            (λ _. is_constructed self.now ≡ false)
+            (λ e. (is_constructed self.now ≡ true) × (refusal e ≡ construct_unexpected)) }
+    {
+        if self.constructed {
+            Err(BerError::ConstructUnexpected)
+        } else {
+            Ok(())
+        }
+    }
 }
 
 /// Headers are equal where their class, constructed bit and tag number are.
@@ -367,6 +421,31 @@ fn parts_of(length: Length) -> (bool, usize)
         Length::Definite(n) => (true, n),
         Length::Indefinite => (false, 0),
     }
+}
+
+/// Reads the header in front of an element as BER allows it: identifier octets (X.690 8.1.2), and a length in any
+/// octets, definite or, where constructed, indefinite (8.1.3). The header has its identifier octets as raw tag.
+///
+/// Refusals: InvalidTag, InvalidLength, and ConstructExpected for an indefinite length behind a primitive
+/// identifier, each at the octet that shows it; Incomplete with the number of octets that a header lacks which
+/// is cut short. It takes no memory.
+pub fn ber_read_element_header(i: &[u8]) -> IResult<&[u8], Header<'_>, BerError>
+    ensures found { MatchAnswer result (λ x. ReadsHeader i.now x.1 x.0.now) (BerHeaderRefuses i.now) (BerHeaderLacks i.now) ⊥ }
+    ensures only { (c : Class) (p : Bool) (t : ℕ) (l : Length) (rest : List ℕ) → BeginsWithHeader i.now c p t l rest
+        → IsOkAnd result (λ x. IsHeader x.1 c p t l (Some (identifier c p t)) × (x.0.now ≡ rest)) }
+    ensures refuses { (e : Refusal) → BerHeaderRefuses i.now e → AnswersError result e }
+    ensures lacks { (n : ℕ) → BerHeaderLacks i.now n → AnswersIncomplete result n }
+{
+    read_ber_header(i)
+}
+
+#[inline]
+fn read_ber_header(i: &[u8]) -> IResult<&[u8], Header<'_>, BerError>
+    ensures { MatchAnswer result (λ x. ReadsHeader i.now x.1 x.0.now) (BerHeaderRefuses i.now) (BerHeaderLacks i.now) ⊥ }
+{
+    let (rest, identifier) = read_identifier(i)?;
+    let (rest, length) = read_ber_length(identifier.constructed, rest)?;
+    Ok((rest, header_of(identifier, length)))
 }
 
 /// Reads the header in front of an element, as DER writes it: identifier octets (X.690 8.1.2), and a
@@ -409,4 +488,69 @@ fn header_of(identifier: Identifier<'_>, length: Length) -> Header<'_>
         size,
         raw_tag: identifier.octets,
     }
+}
+
+/// How many headers were read: one for each call of a counted reader. It stays at its greatest value.
+#[derive(Debug, Drop)]
+pub struct HeaderCount(u128);
+
+impl Model for HeaderCount {
+    ghost Value = { ℕ };
+
+    ghost view = { λ c. c.0 };
+}
+
+impl HeaderCount {
+    /// No header yet.
+    pub fn new() -> HeaderCount
+        ensures { result ≡ 0 }
+    {
+        HeaderCount(0)
+    }
+
+    /// The number of headers.
+    pub fn count(&self) -> u128
+        ensures { result ≡ self.now }
+    {
+        self.0
+    }
+
+    #[inline]
+    fn raise(&mut self)
+        ensures { self.new ≡ one_more self.old }
+    {
+        self.0 = self.0.saturating_add(1);
+    }
+}
+
+/// Reads a header as `ber_read_element_header`, and counts it.
+pub fn ber_header_counted<'a>(
+    i: &'a [u8],
+    count: &mut HeaderCount,
+) -> IResult<&'a [u8], Header<'a>, BerError>
+    ensures found { MatchAnswer result (λ x. ReadsHeader i.now x.1 x.0.now) (BerHeaderRefuses i.now) (BerHeaderLacks i.now) ⊥ }
+    ensures only { (c : Class) (p : Bool) (t : ℕ) (l : Length) (rest : List ℕ) → BeginsWithHeader i.now c p t l rest
+        → IsOkAnd result (λ x. IsHeader x.1 c p t l (Some (identifier c p t)) × (x.0.now ≡ rest)) }
+    ensures refuses { (e : Refusal) → BerHeaderRefuses i.now e → AnswersError result e }
+    ensures lacks { (n : ℕ) → BerHeaderLacks i.now n → AnswersIncomplete result n }
+    ensures counted { count.new ≡ one_more count.old }
+{
+    count.raise();
+    ber_read_element_header(i)
+}
+
+/// Reads a header as `der_read_element_header`, and counts it.
+pub fn der_header_counted<'a>(
+    i: &'a [u8],
+    count: &mut HeaderCount,
+) -> IResult<&'a [u8], Header<'a>, BerError>
+    ensures found { MatchAnswer result (λ x. ReadsDerHeader i.now x.1 x.0.now) (DerHeaderRefuses i.now) (DerHeaderLacks i.now) ⊥ }
+    ensures only { (c : Class) (p : Bool) (t n : ℕ) (rest : List ℕ) → BeginsWithDerHeader i.now c p t n rest
+        → IsOkAnd result (λ x. IsHeader x.1 c p t (Length.Definite n) (Some (identifier c p t)) × (x.0.now ≡ rest)) }
+    ensures refuses { (e : Refusal) → DerHeaderRefuses i.now e → AnswersError result e }
+    ensures lacks { (n : ℕ) → DerHeaderLacks i.now n → AnswersIncomplete result n }
+    ensures counted { count.new ≡ one_more count.old }
+{
+    count.raise();
+    der_read_element_header(i)
 }

@@ -2,6 +2,7 @@
 //! that every contract of the project cites, in `specs/`.
 #![tactic(auto)]
 
+pub mod any;
 pub mod error;
 pub mod header;
 mod identifier;

@@ -1,0 +1,98 @@
+//! Elements whose content isn't read: a header, and the octets behind it.
+ghost use Rattle.std.specs.Prelude.{◌≡◌, ◌++◌, ℕ, Bool, IsOkAnd, List, None, Some, length};
+ghost use Rattle.der_base.specs.declared.header.Class.{Class};
+ghost use Rattle.der_base.specs.Answer.{MatchAnswer, AnswersError, AnswersIncomplete};
+ghost use Rattle.der_base.specs.Any.{ReadsDerAny, DerAnyLacks};
+ghost use Rattle.der_base.specs.Fault.{DerHeaderRefuses};
+ghost use Rattle.der_base.specs.Header.{IsHeader, class_of, is_constructed, number_of, length_of, raw_tag_of};
+ghost use Rattle.der_base.specs.Headers.{BeginsWithDerHeader};
+ghost use Rattle.der_base.specs.Leaf.{is_list};
+ghost use Rattle.der_base.specs.Octets.{identifier};
+ghost use Rattle.der_base.specs.Refusal.{Refusal};
+
+use crate::error::{BerError, Err, IResult, Needed};
+use crate::header::{Class, Header, Length, Tag, der_read_element_header};
+
+/// An element whose content isn't read.
+#[derive(Clone, Copy, Debug, PartialEq)]
+pub struct Any<'a> {
+    /// What stands in front of the content.
+    pub header: Header<'a>,
+    /// The content octets.
+    pub bytes: &'a [u8],
+}
+
+impl<'a> Any<'a> {
+    /// An element of these parts.
+    pub fn new(header: Header<'a>, bytes: &'a [u8]) -> Any<'a>
+        ensures header { result.header ≡ header.entry }
+        ensures bytes { result.bytes ≡ bytes.entry }
+    {
+        Any { header, bytes }
+    }
+
+    /// An element of a universal type, of the length that its content octets have; constructed for
+    /// SEQUENCE and SET, with no raw tag.
+    pub fn from_tag_and_data(tag: Tag, data: &'a [u8]) -> Any<'a>
+        ensures header { IsHeader result.header Class.Universal (is_list tag.0) tag.0 (Length.Definite (length data.entry.now)) None }
+        ensures bytes { result.bytes ≡ data.entry }
+    {
+        let constructed = tag == Tag::Sequence || tag == Tag::Set;
+        let length = Length::Definite(data.len());
+        let header = Header::new(Class::Universal, constructed, tag, length);
+        Any {
+            header,
+            bytes: data,
+        }
+    }
+
+    /// The same element with another class.
+    pub fn with_class(self, class: Class) -> Any<'a>
+        ensures header { let h = self.entry.header in IsHeader result.header class (is_constructed h) (number_of h) (length_of h) (raw_tag_of h) }
+        ensures bytes { result.bytes ≡ self.entry.bytes }
+    {
+        Any {
+            header: self.header.with_class(class),
+            bytes: self.bytes,
+        }
+    }
+
+    /// The class of the header.
+    pub fn class(&self) -> Class
+        ensures { result ≡ class_of self.now.header }
+    {
+        self.header.class()
+    }
+
+    /// The tag number of the header.
+    pub fn tag(&self) -> Tag
+        ensures { result.0 ≡ number_of self.now.header }
+    {
+        self.header.tag()
+    }
+
+    /// Reads an element as DER writes its header, with as many content octets as that says, and answers what is left of the input.
+    /// Refusals are those of `der_read_element_header`; Incomplete with the number of octets that the header or the content lacks. It takes no memory.
+    pub fn from_der(i: &'a [u8]) -> IResult<&'a [u8], Any<'a>, BerError>
+        ensures found { MatchAnswer result (λ x. ReadsDerAny i.now x.1 x.0.now) (DerHeaderRefuses i.now) (DerAnyLacks i.now) ⊥ }
+        ensures only { (c : Class) (p : Bool) (t : ℕ) (w rest : List ℕ) → BeginsWithDerHeader i.now c p t (length w) (w ++ rest)
+            → IsOkAnd result (λ x. IsHeader x.1.header c p t (Length.Definite (length w)) (Some (identifier c p t)) × (x.1.bytes.now ≡ w) × (x.0.now ≡ rest)) }
+        ensures refuses { (e : Refusal) → DerHeaderRefuses i.now e → AnswersError result e }
+        ensures lacks { (n : ℕ) → DerAnyLacks i.now n → AnswersIncomplete result n }
+    {
+        Any::read_der(i)
+    }
+
+    #[inline]
+    fn read_der(i: &'a [u8]) -> IResult<&'a [u8], Any<'a>, BerError>
+        ensures { MatchAnswer result (λ x. ReadsDerAny i.now x.1 x.0.now) (DerHeaderRefuses i.now) (DerAnyLacks i.now) ⊥ }
+    {
+        let (rest, header) = der_read_element_header(i)?;
+        let length = header.length().definite()?;
+        if rest.len() < length {
+            return Err(Err::Incomplete(Needed::Size(length - rest.len())));
+        }
+        let (bytes, rest) = rest.split_at(length);
+        Ok((rest, Any { header, bytes }))
+    }
+}
