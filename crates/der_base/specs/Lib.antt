@@ -10,11 +10,13 @@ pub mod Framed
 pub mod Header
 pub mod Headers
 pub mod Identifier
+pub mod Laws
 pub mod Leaf
 pub mod LeafRefusal
 pub mod LengthOctets
 pub mod Octets
 pub mod Refusal
+pub mod Same
 pub mod Spelling
 pub mod Text
 pub mod Time

@@ -6,6 +6,7 @@ pub mod any;
 pub mod error;
 pub mod header;
 mod identifier;
+pub mod laws;
 mod length;
 pub mod time;
 

@@ -1,0 +1,89 @@
+-- Laws of the definitions.
+use Rattle.std.specs.Prelude.{◌≡◌, ◌≢◌, ℕ, ◌-◌, ◌%◌, ◌^◌, ◌<◌, ◌≤◌, ◌⊎◌, ◌↔◌, Bool, false, IsTrue, pos, List, [], ◌∷◌, length, slice_index, All}
+use Rattle.der_base.specs.Encoding.{content_octets}
+use Rattle.der_base.specs.Leaf.{is_list, is_mapped, IsLeafContent, IsDerLeaf, IsMinimalInteger, HasZeroUnusedBits}
+use Rattle.der_base.specs.LeafRefusal.{BerLeafRefuses, DerLeafRefuses}
+use Rattle.der_base.specs.Octets.{number, octets, groups, groups_value, integer_value, shortest_integer, shortest_length, SpellsAnyLength}
+use Rattle.der_base.specs.Refusal.{Refusal}
+use Rattle.der_base.specs.Tree.{Content}
+
+abbrev pub AreOctets : List ℕ → Type 0
+AreOctets w = All (λ b. b < 256) w
+
+-- by BER, octets of a type have one content
+abbrev pub HaveOneContent : Type 0
+HaveOneContent = (p : Bool) (t : ℕ) (w : List ℕ) (x y : Content) → IsLeafContent p t w x → IsLeafContent p t w y → x ≡ y
+
+-- by DER, they are written for one
+abbrev pub AreWrittenForOne : Type 0
+AreWrittenForOne = (t : ℕ) (x y : Content) → IsDerLeaf t x → IsDerLeaf t y → content_octets x ≡ content_octets y → x ≡ y
+
+-- where BER or DER refuses octets, it is with one refusal
+abbrev pub HaveOneBerRefusal : Type 0
+HaveOneBerRefusal = (p : Bool) (t : ℕ) (w : List ℕ) (e e' : Refusal) → BerLeafRefuses p t w e → BerLeafRefuses p t w e' → e ≡ e'
+
+abbrev pub HaveOneDerRefusal : Type 0
+HaveOneDerRefusal = (p : Bool) (t : ℕ) (w : List ℕ) (e e' : Refusal) → DerLeafRefuses p t w e → DerLeafRefuses p t w e' → e ≡ e'
+
+-- octets with a content are not refused by BER
+abbrev pub ContentsPassBer : Type 0
+ContentsPassBer = (p : Bool) (t : ℕ) (w : List ℕ) (x : Content) (e : Refusal) → IsLeafContent p t w x → ¬ BerLeafRefuses p t w e
+
+-- what is written for a content is not refused by DER
+abbrev pub WrittenPassDer : Type 0
+WrittenPassDer = (t : ℕ) (x : Content) (e : Refusal) → IsDerLeaf t x → ¬ DerLeafRefuses false t (content_octets x) e
+
+-- octets of a type that has contents of its own, but for lists, have a content or are refused, by BER
+abbrev pub ReadOrRefusedByBer : Type 0
+ReadOrRefusedByBer = (p : Bool) (t : ℕ) (w : List ℕ) → IsTrue (is_mapped t) → is_list t ≡ false
+    → ((x : Content) × IsLeafContent p t w x) ⊎ ((e : Refusal) × BerLeafRefuses p t w e)
+
+-- by DER, they are primitive and written for a content, or are refused
+abbrev pub WrittenOrRefusedByDer : Type 0
+WrittenOrRefusedByDer = (p : Bool) (t : ℕ) (w : List ℕ) → AreOctets w → IsTrue (is_mapped t) → is_list t ≡ false
+    → ((x : Content) × (p ≡ false) × IsDerLeaf t x × (w ≡ content_octets x)) ⊎ ((e : Refusal) × DerLeafRefuses p t w e)
+
+-- octets with a content by BER that DER does not refuse are those that are written for it
+abbrev pub AcceptedAreWritten : Type 0
+AcceptedAreWritten = (t : ℕ) (w : List ℕ) (x : Content) → AreOctets w → IsLeafContent false t w x → ((e : Refusal) → ¬ DerLeafRefuses false t w e)
+    → IsDerLeaf t x × (w ≡ content_octets x)
+
+-- The list f, of some lists, is the shortest, and the only one of its length.
+pub record IsShortest (among : List ℕ → Type 0) (f : List ℕ) : Type 0 where
+  pub is_one : among f
+  pub fewest : (w : List ℕ) → among w → length f ≤ length w
+  pub only : (w : List ℕ) → among w → length w ≡ length f → w ≡ f
+
+-- the octets of a number
+abbrev pub OctetsAreShortest : Type 0
+OctetsAreShortest = (n : ℕ) → IsShortest (λ w. AreOctets w × (number w ≡ n)) (octets n)
+
+-- the length octets of a number that up to 126 octets can spell (8.1.3.5, 10.1)
+abbrev pub LengthsAreShortest : Type 0
+LengthsAreShortest = (n : ℕ) → n < 256 ^ 126 → IsShortest (λ s. AreOctets s × SpellsAnyLength s n) (shortest_length n)
+
+-- the content octets of an integer that is not negative (8.3.2)
+abbrev pub IntegersAreShortest : Type 0
+IntegersAreShortest = (n : ℕ) → IsShortest (λ w. AreOctets w × (w ≢ []) × (integer_value w ≡ pos n)) (shortest_integer n)
+
+-- an INTEGER is minimal where its octets are the fewest of its value (8.3.2)
+abbrev pub MinimalIsShortest : Type 0
+MinimalIsShortest = (w : List ℕ) → AreOctets w → IsMinimalInteger w ↔ IsShortest (λ v. AreOctets v × (v ≢ []) × (integer_value v ≡ integer_value w)) w
+
+-- groups of seven bits, each but the last with the high bit (8.1.2.4.2)
+abbrev pub AreGroups : List ℕ → Type 0
+AreGroups [] = ⊥
+AreGroups (b ∷ []) = b < 128
+AreGroups (b ∷ c ∷ bs) = (128 ≤ b) × (b < 256) × AreGroups (c ∷ bs)
+
+-- the groups of a tag number
+abbrev pub GroupsAreShortest : Type 0
+GroupsAreShortest = (n : ℕ) → IsShortest (λ bs. AreGroups bs × (groups_value 0 bs ≡ n)) (groups n)
+
+-- the last u bits of the last octet are 0, at most seven, and none where there is no octet (11.2)
+abbrev pub HasZeroLastBits : ℕ → List ℕ → Type 0
+HasZeroLastBits u w = (u ≤ 7) × (w ≡ [] → u ≡ 0) × (slice_index w (length w - 1) % 2 ^ u ≡ 0)
+
+-- those are the unused bits of a BIT STRING
+abbrev pub UnusedBitsAreLast : Type 0
+UnusedBitsAreLast = (u : ℕ) (w : List ℕ) → HasZeroUnusedBits u w ↔ HasZeroLastBits u w

@@ -1,0 +1,65 @@
+//! Laws of the definitions. Each function's contract is a law, and its body is empty.
+ghost use Rattle.der_base.specs.Laws.{
+  HaveOneContent,
+  AreWrittenForOne,
+  HaveOneBerRefusal,
+  HaveOneDerRefusal,
+  ContentsPassBer,
+  WrittenPassDer,
+  ReadOrRefusedByBer,
+  WrittenOrRefusedByDer,
+  AcceptedAreWritten,
+  OctetsAreShortest,
+  LengthsAreShortest,
+  IntegersAreShortest,
+  MinimalIsShortest,
+  GroupsAreShortest,
+  UnusedBitsAreLast,
+};
+
+/// Content octets of a universal type have one content by BER, and are written for one by DER.
+pub fn one_content()
+    ensures ber { HaveOneContent }
+    ensures der { AreWrittenForOne }
+{}
+
+/// Refused content octets have one refusal.
+pub fn one_refusal()
+    ensures ber { HaveOneBerRefusal }
+    ensures der { HaveOneDerRefusal }
+{}
+
+/// No content octets both have a content and are refused.
+pub fn never_both()
+    ensures ber { ContentsPassBer }
+    ensures der { WrittenPassDer }
+{}
+
+/// Content octets of a universal type that has contents of its own, and is no list, have a content or are refused.
+pub fn always_one()
+    ensures ber { ReadOrRefusedByBer }
+    ensures der { WrittenOrRefusedByDer }
+    ensures written { AcceptedAreWritten }
+{}
+
+/// The octets of a number and of a length are the fewest (X.690 10.1).
+pub fn lengths_are_shortest()
+    ensures number { OctetsAreShortest }
+    ensures length { LengthsAreShortest }
+{}
+
+/// The content octets of an INTEGER and of an ENUMERATED are the fewest (X.690 8.3.2).
+pub fn integers_are_shortest()
+    ensures written { IntegersAreShortest }
+    ensures minimal { MinimalIsShortest }
+{}
+
+/// The octets of a tag number from 31 on are the fewest (X.690 8.1.2.4).
+pub fn tag_numbers_are_shortest()
+    ensures { GroupsAreShortest }
+{}
+
+/// The unused bits of a BIT STRING are those of its last octet (X.690 8.6.2, 11.2).
+pub fn unused_bits_are_last()
+    ensures { UnusedBitsAreLast }
+{}

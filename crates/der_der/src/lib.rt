@@ -1,0 +1,5 @@
+//! The readers of DER (X.690 10 and 11).
+#![tactic(auto)]
+
+mod leaf;
+pub mod parser;

@@ -1,0 +1,9 @@
+//! What a reader of objects answers.
+use crate::object::{BerObject, DerObject};
+use der_base::error::{BerError, IResult};
+
+/// What is left of the input, and an object or another value; or the refusal.
+pub type BerResult<'a, O = BerObject<'a>> = IResult<&'a [u8], O, BerError>;
+
+/// The same of a DER reader.
+pub type DerResult<'a> = BerResult<'a, DerObject<'a>>;

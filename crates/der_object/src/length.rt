@@ -1,0 +1,84 @@
+//! How many octets an object has, counted before any is written.
+ghost use Rattle.std.specs.Prelude.{◌≡◌, ℕ, ◌+◌, ◌<◌, ◌≤◌, ◌^◌, Bool, List, length};
+ghost use Rattle.std.specs.Option.{SomeIff};
+ghost use Rattle.der_base.specs.declared.header.Class.{Class};
+ghost use Rattle.der_base.specs.Encoding.{encoding, content_octets, element};
+ghost use Rattle.der_base.specs.Octets.{identifier, shortest_length, octets, groups};
+ghost use Rattle.der_object.specs.View.{tree, content_tree};
+
+use crate::object::{BerObject, BerObjectContent};
+use der_base::header::Tag;
+
+/// How many octets an object has, if at most 2^64-1.
+pub fn object_length(o: &BerObject<'_>) -> Option<usize>
+    ensures { SomeIff result (length (encoding (tree o.now)) < 2 ^ 64) (length (encoding (tree o.now))) }
+{
+    element_length(o.header.tag(), content_length(&o.content)?)
+}
+
+/// How many content octets there are, if at most 2^64-1.
+pub fn content_length(content: &BerObjectContent<'_>) -> Option<usize>
+    ensures { let n = length (content_octets (content_tree content.now)) in
+        SomeIff result (n < 2 ^ 64) n }
+{
+    match content {
+        BerObjectContent::Boolean(_) => Some(1),
+        BerObjectContent::Integer(octets) => Some(octets.len()),
+        BerObjectContent::OctetString(octets) => Some(octets.len()),
+    }
+}
+
+/// How many octets an element of this tag with n content octets has, if at most 2^64-1.
+pub fn element_length(tag: Tag, n: usize) -> Option<usize>
+    ensures { (c : Class) (p : Bool) →
+        let total = length (identifier c p tag.0) + length (shortest_length n) + n in
+        SomeIff result (total < 2 ^ 64) total }
+{
+    (identifier_octet_count(tag) + length_octet_count(n)).checked_add(n)
+}
+
+/// How many identifier octets a tag number has (8.1.2).
+#[tactic(auto, using(der_base::proofs::Numbers::identifier_short_length, der_base::proofs::Numbers::identifier_long_length))]
+fn identifier_octet_count(tag: Tag) -> usize
+    ensures count { (c : Class) (p : Bool) → result ≡ length (identifier c p tag.0) }
+    ensures few { result ≤ 6 }
+{
+    if tag.0 < 31 {
+        1
+    } else {
+        1 + group_count(tag.0)
+    }
+}
+
+/// How many length octets a length has, in the shortest form (8.1.3, 10.1).
+#[tactic(auto, unfolding(der_base::specs::Octets::shortest_length))]
+pub fn length_octet_count(n: usize) -> usize
+    ensures count { result ≡ length (shortest_length n) }
+    ensures few { result ≤ 9 }
+{
+    if n < 128 { 1 } else { 1 + octet_count(n) }
+}
+
+/// How many octets a number has, none for 0.
+#[tactic(auto, using(der_base::proofs::Numbers::octets_leading))]
+pub fn octet_count(n: usize) -> usize
+    ensures count { result ≡ length (octets n) }
+    ensures few { result ≤ 8 }
+{
+    8 - n.leading_zeros() as usize / 8
+}
+
+/// How many groups of seven bits a tag number has (8.1.2.4.2).
+#[tactic(auto, using(der_base::proofs::Numbers::groups_one, der_base::proofs::Numbers::groups_count))]
+fn group_count(n: u32) -> usize
+    ensures count { result ≡ length (groups n) }
+    ensures few { result ≤ 5 }
+{
+    match n {
+        0..0x80 => 1,
+        0x80..0x4000 => 2,
+        0x4000..0x20_0000 => 3,
+        0x20_0000..0x1000_0000 => 4,
+        _ => 5,
+    }
+}

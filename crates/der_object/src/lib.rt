@@ -1,0 +1,8 @@
+//! Objects: the values that are read and written, their trees, their equality and their encoding.
+#![tactic(auto)]
+
+pub mod equality;
+pub mod error;
+mod length;
+pub mod object;
+mod serialize;
