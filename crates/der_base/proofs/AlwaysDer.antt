@@ -183,9 +183,10 @@ primitive_part true ts us u e n = absurd (never (sym e))
 primitive_part false ts us u e n = n.1
 
 -- octets of a type that has contents are written for one, in a primitive element, or refused
-pub always_der : (p : Bool) (t : ℕ) (w : List ℕ) → is_mapped t ≡ true → is_list t ≡ false → All IsOctet w → ((x : Content) × (p ≡ false) × IsDerLeaf t x × (w ≡ content_octets x)) ⊎ ((e : Refusal) × DerLeafRefuses p t w e)
-always_der true t w mapped no_list octets = inr (der_constraint Constructed, constructed_refused t w mapped no_list)
-always_der false t w mapped no_list octets = elim (first_or_none (der_tests false t w) (der_decided false t w)) [
+pub always_der : (p : Bool) (t : ℕ) (w : List ℕ) → All IsOctet w → is_mapped t ≡ true → is_list t ≡ false
+    → ((x : Content) × (p ≡ false) × IsDerLeaf t x × (w ≡ content_octets x)) ⊎ ((e : Refusal) × DerLeafRefuses p t w e)
+always_der true t w octets mapped no_list = inr (der_constraint Constructed, constructed_refused t w mapped no_list)
+always_der false t w octets mapped no_list = elim (first_or_none (der_tests false t w) (der_decided false t w)) [
   | inl r ↦ inr (r.0, (mapped, r.1))
   | inr n ↦ (let h = passed_content false t w mapped no_list (passes_ber t w mapped no_list (primitive_part (is_list t) _ (der_primitive_tests t w) _ no_list n)) in
       let k : IsWritten w h.0 = passed_written t w h.0 (each_from_all IsOctet w octets) h.1 n in

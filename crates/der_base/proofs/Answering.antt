@@ -1,6 +1,6 @@
 -- From what each answer says, and from what excludes what, the only answer.
 use Rattle.std.proofs.Common.{◌≡◌, ℕ, Result, Ok, Err}
-use Rattle.std.specs.Prelude.{IsOkAnd}
+use Rattle.std.specs.Prelude.{IfOk, IsOkAnd}
 use Rattle.der_base.specs.declared.error.Err.{Err as Refused}
 use Rattle.der_base.specs.declared.error.Err.TheVariants.{Incomplete, Error, Failure, OutOfMemory}
 use Rattle.der_base.specs.declared.error.Error.{Error as BerError}
@@ -32,6 +32,11 @@ module _ {T : Type 0} {P : T → Type 0} {Q : Refusal → Type 0} {R : ℕ → T
   only_incomplete (Err (Incomplete Unknown)) m h p q n = absurd h
   only_incomplete (Err (Failure e)) m h p q n = absurd h
   only_incomplete (Err OutOfMemory) m h p q n = absurd h
+
+-- what follows from an Ok
+pub ok_weaker : {T : Type 0} {P : T → Type 0} (Q : Refusal → Type 0) (R : ℕ → Type 0) (M : Type 0) (r : Result T (Refused BerError)) (G : T → Type 0) → MatchAnswer r P Q R M → ((x : T) → P x → G x) → IfOk r G
+ok_weaker Q R M (Ok x) G h f = f x h
+ok_weaker Q R M (Err e) G h f = tt
 
 -- an answer that is no Ok, passed on as the answer of another call
 pub passed_on : {T T' : Type 0} (P : T → Type 0) (P' : T' → Type 0) {Q Q' : Refusal → Type 0} {R R' : ℕ → Type 0} {M M' : Type 0} (e : Refused BerError)

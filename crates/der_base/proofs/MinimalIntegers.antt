@@ -95,12 +95,6 @@ minimal_one w v are also m e len = elim (sign w are (some_of_minimal w m)) [
     is_none [] h = refl
     is_none (b ∷ w) h = absurd (omega arith)
 
-number_more : (m n : ℕ) (w : List ℕ) → number_from (m + n) w ≡ m * 256 ^ length w + number_from n w
-number_more m n [] = omega arith
-number_more m n (b ∷ w) =
-    let e : (m + n) * 256 + b ≡ m * 256 + (n * 256 + b) = omega arith in
-    ap (λ k. number_from k w) e ∙ number_more (m * 256) (n * 256 + b) w ∙ ap (λ k. k + number_from (n * 256 + b) w) (mul_assoc m 256 (256 ^ length w) ∙ ap (λ k. m * k) (mul_comm 256 (256 ^ length w) ∙ sym (pow-suc 256 (length w))))
-
 -- a first octet that tells no more than the next bit
 value_without_zero : (b : ℕ) (w : List ℕ) → b < 128 → integer_value (b ∷ w) ≡ integer_value (0 ∷ b ∷ w)
 value_without_zero b w h = low_value b w h

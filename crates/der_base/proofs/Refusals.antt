@@ -47,7 +47,3 @@ decided_append (t ∷ ts) us d e = (d.0, decided_append ts us d.1 e)
 pub none_of_front : (ts us : List Test) → NoneHolds (ts ++ us) → NoneHolds ts
 none_of_front [] us n = tt
 none_of_front (t ∷ ts) us n = (n.0, none_of_front ts us n.1)
-
-pub none_of_rest : (ts us : List Test) → NoneHolds (ts ++ us) → NoneHolds us
-none_of_rest [] us n = n
-none_of_rest (t ∷ ts) us n = none_of_rest ts us n.1

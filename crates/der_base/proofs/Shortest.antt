@@ -5,7 +5,7 @@ use Rattle.std.proofs.lemmas.Int.{ints}
 use Rattle.std.proofs.Math.Nat.{pow-suc, mul-le-mul_right, mul_assoc, mul_comm}
 use Rattle.std.proofs.lemmas.Bool.{cases_lt}
 use Rattle.std.proofs.lemmas.Bool.Decides.{nat_tests}
-use Rattle.der_base.specs.Octets.{number, number_from, octets, octets_before, groups, groups_before, groups_value, integer_value, shortest_integer, shortest_length, needs_zero, SpellsAnyLength}
+use Rattle.der_base.specs.Octets.{number, number_from, octets, octets_before, groups, groups_before, groups_value, integer_value, shortest_integer, shortest_length, needs_zero, SpellsAnyLength, SpellsLength}
 use Rattle.der_base.specs.Laws.{AreGroups}
 use Rattle.der_base.specs.Leaf.{IsMinimalInteger}
 use Rattle.der_base.proofs.Each.{Each}
@@ -61,10 +61,6 @@ one_more k m b after small some h = at_suc k (m * 256 + b) refl h
     at_suc zero n e g = absurd (omega arith)
     at_suc (suc k) zero e g = absurd (omega arith)
     at_suc (suc k) (suc n) e g = let q : suc n / 256 ≡ m = omega arith in let r : suc n % 256 ≡ b = omega arith in rw (q, r) (any_bound k m m (b ∷ after) (omega arith) (omega arith))
-
-pub grows : (m : ℕ) (bs : List ℕ) → m ≤ number_from m bs
-grows m [] = omega arith
-grows m (b ∷ bs) = omega (arith, grows (m * 256 + b) bs)
 
 pub octets_back : (m most : ℕ) (bs : List ℕ) → Each IsOctet bs → 0 < m → number_from m bs ≤ most → octets_before most (number_from m bs) [] ≡ octets_before m m bs
 octets_back m most [] small some h = any_bound most m m [] h (omega arith)
@@ -169,6 +165,9 @@ shortest_length_spells n h =
     (λ a. subst (λ s. SpellsAnyLength s n) (sym (length_short n a)) (inl (a, refl, refl)))
     (λ a. subst (λ s. SpellsAnyLength s n) (sym (length_long n a)) (inr (omega (arith, octets_few 126 n h), refl, octets_some n (omega arith), sym (number_octets n))))
     (cases_lt n 128)
+
+pub shortest_length_fits : (n : ℕ) → n < 2 ^ 64 → SpellsLength (shortest_length n) n
+shortest_length_fits n h = (h, shortest_length_spells n (omega arith))
 
 pub shortest_length_are : (n : ℕ) → n < 256 ^ 126 → Each IsOctet (shortest_length n)
 shortest_length_are n h =

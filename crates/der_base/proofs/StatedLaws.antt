@@ -1,13 +1,11 @@
 -- The laws, as the definitions state them.
-use Rattle.std.proofs.Common.{◌≡◌, ◌≢◌, ℕ, ◌<◌, ◌≤◌, List, [], length, refl, sym, ap, subst, ◌∙◌, pos}
-use Rattle.der_base.specs.Laws.{AreOctets, AreGroups, IsShortest, HaveOneBerRefusal, HaveOneDerRefusal, WrittenOrRefusedByDer, OctetsAreShortest, LengthsAreShortest, IntegersAreShortest, MinimalIsShortest, GroupsAreShortest}
-use Rattle.der_base.specs.Leaf.{IsMinimalInteger}
+use Rattle.std.proofs.Common.{◌≢◌, ℕ, ◌≤◌, List, [], length, refl, sym, subst, ◌∙◌}
+use Rattle.der_base.specs.Laws.{AreGroups, HaveOneBerRefusal, HaveOneDerRefusal, OctetsAreShortest, LengthsAreShortest, IntegersAreShortest, MinimalIsShortest, GroupsAreShortest}
 use Rattle.der_base.specs.LeafRefusal.{ber_tests, der_tests}
-use Rattle.der_base.specs.Octets.{number, octets, groups, groups_value, integer_value}
+use Rattle.der_base.specs.Octets.{octets, groups}
 use Rattle.der_base.proofs.Each.{each_from_all, all_from_each}
 use Rattle.der_base.proofs.Identifiers.{number_octets}
 use Rattle.der_base.proofs.Refusals.{first_refusal_once}
-use Rattle.der_base.proofs.AlwaysDer.{always_der}
 use Rattle.der_base.proofs.MinimalIntegers.{minimal_fewest, minimal_one, fewest_minimal, some_of_minimal}
 use Rattle.der_base.proofs.Shortest.{IsOctet, octets_are, octets_fewest, number_same, shortest_length_are, shortest_length_spells, shortest_length_fewest, shortest_length_one, shortest_integer_are, shortest_integer_some, integer_shortest, shortest_integer_fewest, shortest_integer_one, groups_are, groups_spell, groups_fewest, groups_one}
 
@@ -16,9 +14,6 @@ one_ber_refusal p t w e e' h g = first_refusal_once (ber_tests p t w) e e' h g
 
 pub one_der_refusal : HaveOneDerRefusal
 one_der_refusal p t w e e' h g = first_refusal_once (der_tests p t w) e e' h.1 g.1
-
-pub written_or_refused : WrittenOrRefusedByDer
-written_or_refused p t w are mapped no_list = always_der p t w mapped no_list are
 
 pub octets_shortest : OctetsAreShortest
 octets_shortest n = record {

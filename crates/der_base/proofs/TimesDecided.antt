@@ -72,7 +72,7 @@ decided_marked mark (b ∷ ds) = decided_like ((b ≡ mark) × (All IsDigit ds �
     (decided_and _ _ (decided_equal b mark) (decided_and _ _ (decided_each IsDigit ds decided_digit) (decided_and _ _ (decided_at_most 1 (length ds)) (decided_at_most (length ds) 9))))
 
 -- a fraction behind seconds, or none
-abbrev IsLastFraction : List ℕ → List ℕ → Option ℕ → Type 0
+abbrev pub IsLastFraction : List ℕ → List ℕ → Option ℕ → Type 0
 IsLastFraction s f x = ((f ≡ []) × (x ≡ None)) ⊎ ((s ≢ []) × (n : ℕ) × IsFraction f n × (x ≡ Some n))
 
 decided_fraction : (s f : List ℕ) → Decided ((x : Option ℕ) × IsLastFraction s f x)

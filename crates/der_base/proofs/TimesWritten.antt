@@ -1,16 +1,16 @@
 -- A text of a time that passes the tests of DER is what is written for the time.
-use Rattle.std.proofs.Common.{◌≡◌, ◌≢◌, ℕ, ◌-◌, ◌*◌, ◌^◌, ◌≤◌, ◌⊎◌, Option, Some, None, List, [], ◌∷◌, ◌++◌, length, refl, sym, ap, subst, ◌∙◌, arith, inl, inr, append_assoc, codes, length-append}
+use Rattle.std.proofs.Common.{◌≡◌, ◌≢◌, ℕ, ◌-◌, ◌*◌, ◌^◌, ◌≤◌, Option, Some, None, List, [], ◌∷◌, ◌++◌, length, refl, sym, ap, subst, ◌∙◌, arith, inl, inr, append_assoc, codes, length-append}
 use Rattle.std.proofs.lemmas.Fmt.{decimal_digit}
 use Rattle.der_base.specs.declared.time.ASN1DateTime.{ASN1DateTime}
 use Rattle.der_base.specs.declared.time.ASN1TimeZone.{ASN1TimeZone}
 use Rattle.der_base.specs.declared.time.ASN1TimeZone.TheVariants.{Undefined, Z, Offset}
 use Rattle.der_base.specs.LeafRefusal.{time_tests, HasLooseFraction}
-use Rattle.der_base.specs.Time.{two_digits, four_digits, decimal_from, IsDigit, AreSeconds, IsZone, IsFraction, month_to_minute, IsUtcTime, IsGeneralizedTime, IsTimeText, at_least_digits, without_last_zeros, or_zero, fraction_text, time_text}
+use Rattle.der_base.specs.Time.{two_digits, four_digits, decimal_from, IsDigit, AreSeconds, IsZone, month_to_minute, IsUtcTime, IsGeneralizedTime, IsTimeText, at_least_digits, without_last_zeros, or_zero, fraction_text, time_text}
 use Rattle.der_base.proofs.Identifiers.{fronts_same}
 use Rattle.der_base.proofs.Raws.{append_nil}
 use Rattle.der_base.proofs.Decided.{sure}
 use Rattle.der_base.proofs.Refusals.{NoneHolds}
-use Rattle.der_base.proofs.TimesDecided.{decided_ends}
+use Rattle.der_base.proofs.TimesDecided.{IsLastFraction, decided_ends}
 use Rattle.der_base.proofs.TimeTexts.{nine_written, zeros_go, stays}
 use Rattle.der_base.proofs.Each.{Each, each_from_all}
 use Rattle.der_base.proofs.DerTimes.{few_seconds, utc_written, generalized_written, two_are, or_some}
@@ -65,10 +65,6 @@ utc_is_written w v t (year, moment, none, seconds, zone, hs, hz, e) n ends =
       zone = z.0;
       fraction = λ h. let k : None ≡ Some 0 = sym none ∙ h in cc;
     }
-
--- a fraction behind seconds, or none
-abbrev IsLastFraction : List ℕ → List ℕ → Option ℕ → Type 0
-IsLastFraction s f x = ((f ≡ []) × (x ≡ None)) ⊎ ((s ≢ []) × (n : ℕ) × IsFraction f n × (x ≡ Some n))
 
 -- a text with no zone ends in a digit
 no_zone : (p s f v : List ℕ) (m n : ℕ) (x : Option ℕ) → AreSeconds s n → IsLastFraction s f x → p ++ (two_digits m ++ (s ++ f)) ≢ v ++ codes "Z"

@@ -1,7 +1,7 @@
 -- An object that begins the input, a refusal, and an input that is cut short: one of them holds at most, and each in one way.
 use Rattle.std.proofs.Common.{◌≡◌, ◌≢◌, ℕ, zero, suc, ◌+◌, ◌^◌, ◌<◌, ◌≤◌, Bool, true, false, IsTrue, ◌||◌, ◌==◌, List, [], ◌∷◌, ◌++◌, length, take, drop, refl, sym, ap, ◌∙◌, arith, append_assoc, length-append, inl, inr, ◌⊎◌, ⊎_elim, Some}
 use Rattle.std.proofs.Math.Seq.{take-append_seam, drop-append_seam}
-use Rattle.std.proofs.lemmas.Bool.{false≢true, eqb-true}
+use Rattle.std.proofs.lemmas.Bool.{cases_lt, false≢true, eqb-true}
 use Rattle.der_base.specs.declared.header.Class.{Class}
 use Rattle.der_base.specs.declared.header.Class.TheVariants.{Universal}
 use Rattle.der_base.specs.Encoding.{encoding, element, content_octets, content_octets_of}
@@ -13,7 +13,7 @@ use Rattle.der_base.specs.Octets.{identifier, shortest_length}
 use Rattle.der_base.specs.Refusal.{Refusal}
 use Rattle.der_base.specs.Spelling.{IsDerValid, IsDerContent, IsKept, DerSpells, max_object_size}
 use Rattle.der_base.specs.Tree.{Node, node, Content, end_of_content, boolean, integer, bit_string, octet_string, null, enumerated, object_identifier, relative_oid, text, bmp_string, universal_string, time, sequence, set, absent, present, tagged, unknown, height, content_height}
-use Rattle.der_base.proofs.Identifiers.{fronts_same}
+use Rattle.der_base.proofs.Identifiers.{fronts_same, identifier_short, identifier_long}
 use Rattle.der_base.proofs.DerHeaders.{der_header_same, der_header_not_refused, der_header_not_lacking, der_header_refusal_same}
 use Rattle.der_base.proofs.HeaderLaws.{SameHeader, header_lacks_same}
 use Rattle.der_der.specs.Leaves.{is_built, IsBuiltType, IsBuilt}
@@ -231,3 +231,18 @@ lacks_same (suc d) i n n' (inr (c, p, t, rest, b, k, le, l)) (inr (c', p', t', r
 pub refused_behind : (d : ℕ) (i rest : List ℕ) (c : Class) (p : Bool) (t n : ℕ) (e : Refusal) → d ≢ 0 → BeginsWithDerHeader i c p t n rest → DerElementRefuses c p t n rest e → DerRefuses d i e
 refused_behind zero i rest c p t n e z b r = absurd (z refl)
 refused_behind (suc d) i rest c p t n e z b r = inr (c, p, t, n, rest, b, r)
+
+-- an identifier has an octet
+identifier_octets : (c : Class) (p : Bool) (t : ℕ) → 0 < length (identifier c p t)
+identifier_octets c p t =
+    ⊎_elim
+    (λ h. omega (arith, ap length (identifier_short c p t h)))
+    (λ h. omega (arith, ap length (identifier_long c p t h)))
+    (cases_lt t 31)
+
+-- an object takes at least an octet
+pub spelled_some : (d : ℕ) (i rest : List ℕ) (o : Node) → Spelled d i o rest → length rest < length i
+spelled_some d i rest (node c p t x) h =
+    let b = (parts h).begins in
+    let w = content_octets x in
+    omega (arith, ap length b.octets, length-append (identifier c p t ++ shortest_length (length w)) (w ++ rest), length-append (identifier c p t) (shortest_length (length w)), length-append w rest, identifier_octets c p t)

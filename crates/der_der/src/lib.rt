@@ -3,3 +3,5 @@
 
 mod leaf;
 pub mod parser;
+
+pub use parser::{parse_der, parse_der_recursive};

@@ -1,5 +1,5 @@
 //! The full reader of DER.
-ghost use Rattle.std.specs.Prelude.{◌≡◌, ℕ, List, ◌++◌, IsOkAnd, IsTrue};
+ghost use Rattle.std.specs.Prelude.{◌≡◌, ◌<◌, ℕ, List, ◌++◌, IfOk, IsOkAnd, IsTrue, length};
 ghost use Rattle.der_base.specs.Answer.{MatchAnswer, AnswersError, AnswersIncomplete};
 ghost use Rattle.der_base.specs.Refusal.{Refusal};
 ghost use Rattle.der_base.specs.Spelling.{DerSpells};
@@ -21,6 +21,7 @@ pub fn parse_der<'a>(alloc: Global, i: &'a [u8]) -> BerResult<'a>
     ensures found { MatchAnswer result (λ x. ReadsDer 50 i.now x.1 x.0.now) (DerRefuses 50 i.now) (DerLacks 50 i.now) ⊥ }
     ensures only { (b rest : List ℕ) (o : Node) → IsBuilt o → DerSpells b o 50 → i.now ≡ b ++ rest
         → IsOkAnd result (λ x. (tree x.1 ≡ o) × (x.0.now ≡ rest)) }
+    ensures shorter { IfOk result (λ x. length x.0.now < length i.now) }
     ensures refuses { (e : Refusal) → DerRefuses 50 i.now e → AnswersError result e }
     ensures lacks { (n : ℕ) → DerLacks 50 i.now n → AnswersIncomplete result n }
 {
@@ -39,6 +40,7 @@ pub fn parse_der_recursive<'a>(alloc: Global, i: &'a [u8], max_depth: usize) -> 
     ensures found { MatchAnswer result (λ x. ReadsDer max_depth i.now x.1 x.0.now) (DerRefuses max_depth i.now) (DerLacks max_depth i.now) ⊥ }
     ensures only { (b rest : List ℕ) (o : Node) → IsBuilt o → DerSpells b o max_depth → i.now ≡ b ++ rest
         → IsOkAnd result (λ x. (tree x.1 ≡ o) × (x.0.now ≡ rest)) }
+    ensures shorter { IfOk result (λ x. length x.0.now < length i.now) }
     ensures refuses { (e : Refusal) → DerRefuses max_depth i.now e → AnswersError result e }
     ensures lacks { (n : ℕ) → DerLacks max_depth i.now n → AnswersIncomplete result n }
 {

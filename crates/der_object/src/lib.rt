@@ -6,3 +6,6 @@ pub mod error;
 mod length;
 pub mod object;
 mod serialize;
+
+pub use error::{BerResult, DerResult};
+pub use object::{BerObject, BerObjectContent, DerObject, DerObjectContent};

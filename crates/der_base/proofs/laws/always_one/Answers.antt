@@ -1,13 +1,12 @@
 use Rattle.der_base.proofs.Always.{always_ber}
-use Rattle.der_base.proofs.AlwaysDer.{accepted_written}
-use Rattle.der_base.proofs.StatedLaws.{written_or_refused}
+use Rattle.der_base.proofs.AlwaysDer.{accepted_written, always_der}
 use Rattle.der_base.proofs.laws.always_one.Goals as goal
 
 pub returns-clause-ber : goal.returns-clause-ber
 returns-clause-ber c = always_ber
 
 pub returns-clause-der : goal.returns-clause-der
-returns-clause-der c = written_or_refused
+returns-clause-der c = always_der
 
 pub returns-clause-written : goal.returns-clause-written
 returns-clause-written c = accepted_written

@@ -1,7 +1,6 @@
-use Rattle.std.proofs.Common.{sym}
 use Rattle.der_object.specs.View.{tree}
-use Rattle.der_base.proofs.Answering.{only_ok, only_error, only_incomplete}
-use Rattle.der_der.proofs.ReadingLaws.{Spelled, spelled_accepted, spelled_whole, spelled_same, refusal_same, cut_not_refused, lacks_same}
+use Rattle.der_base.proofs.Answering.{only_ok, only_error, only_incomplete, ok_weaker}
+use Rattle.der_der.proofs.ReadingLaws.{Spelled, spelled_accepted, spelled_whole, spelled_same, spelled_some, refusal_same, cut_not_refused, lacks_same}
 use Rattle.der_der.proofs.parser.parse_der_recursive.Goals as goal
 
 pub returns-clause-only : goal.returns-clause-only
@@ -31,3 +30,7 @@ returns-clause-lacks c = λ n h.
     (λ x r. spelled_whole d i x.0.now (tree x.1) n (record { spelling = r.spelling; octets = r.octets; spells = r.spells; built = r.built }) h)
     (λ e r. cut_not_refused d i n e h r)
     (λ m l. lacks_same d i m n l h)
+
+pub returns-clause-shorter : goal.returns-clause-shorter
+returns-clause-shorter c = ok_weaker _ _ _ c.read_element.result _ c.read_element.ensures
+    (λ x r. spelled_some c.args.max_depth c.args.i.now x.0.now (tree x.1) (record { spelling = r.spelling; octets = r.octets; spells = r.spells; built = r.built }))
