@@ -1,0 +1,138 @@
+//! What is read by DER, and written again.
+use crate::answer::Answer;
+use crate::answer::Answer::{Broken, Incomplete, Read, Refused};
+use crate::answer::Content::{Boolean, Integer, OctetString};
+use crate::octets::octets;
+use der_parser::ber::{Class, Length, Tag};
+use der_parser::der::parse_der_recursive;
+use der_parser::error::DerConstraint::{
+    Constructed, IndefiniteLength, IntegerEmpty, IntegerLeadingFF, IntegerLeadingZeroes,
+    InvalidBoolean, LengthNotMinimal,
+};
+use der_parser::error::Error::{BerMaxDepth, InvalidLength, InvalidTag, Unsupported};
+use der_parser::parse_der;
+use std::test::Fail;
+
+/// A name, octets, and what `parse_der` answers on them.
+#[rattlefmt::skip]
+const PARSE_DER: &[(&str, &str, Answer)] = &[
+    ("BOOLEAN false", "01 01 00", Read(Boolean(false), "")),
+    ("BOOLEAN true", "01 01 ff 02 01 05 04 02 61 62", Read(Boolean(true), "02 01 05 04 02 61 62")),
+    ("INTEGER", "02 01 05 04 02 61 62", Read(Integer("05"), "04 02 61 62")),
+    ("INTEGER above 127", "02 02 00 80", Read(Integer("00 80"), "")),
+    ("INTEGER below -128", "02 02 ff 7f", Read(Integer("ff 7f"), "")),
+    ("OCTET STRING", "04 02 61 62", Read(OctetString("61 62"), "")),
+    ("OCTET STRING of no octets", "04 00 ff", Read(OctetString(""), "ff")),
+
+    ("no octets", "", Incomplete(1)),
+    ("no length", "30", Incomplete(1)),
+    ("cut in a long identifier", "9f a2", Incomplete(1)),
+    ("no length octet of five", "02 85", Incomplete(5)),
+    ("one length octet of five", "02 85 ff", Incomplete(4)),
+    ("one length octet of two, a zero", "02 82 00", Incomplete(1)),
+    ("short content", "02 02 00", Incomplete(2)),
+    ("short content of 128 octets", "04 81 80", Incomplete(128)),
+    ("short content of the largest size", "04 84 ff ff ff ff", Incomplete(4294967295)),
+    ("short content of a constructed BOOLEAN", "21 02 ff", Incomplete(2)),
+
+    ("a number below 31 in the long form", "1f 1e 00", Refused(InvalidTag)),
+    ("a number that begins with zeros", "1f 80", Refused(InvalidTag)),
+    ("a number of 2^32", "1f 90 80 80 80 80", Refused(InvalidTag)),
+    ("a number above 2^32", "9f a2 a2 a2 a2 a2 22 01 00", Refused(InvalidTag)),
+    ("the reserved length", "02 ff 00", Refused(InvalidLength)),
+    ("a length above 2^64-1", "02 8a ff ff ff ff ff ff ff ff ff ff 00", Refused(InvalidLength)),
+    ("a length above 2^64-1, zeros first", "02 8a 00 ff ff ff ff ff ff ff ff ff", Refused(InvalidLength)),
+    ("a length above the largest size", "04 85 01 00 00 00 00", Refused(InvalidLength)),
+    ("BOOLEAN of two octets", "01 02 00 00", Refused(InvalidLength)),
+    // Not built yet.
+    ("SEQUENCE", "30 00", Refused(Unsupported)),
+
+    ("an indefinite length", "04 80", Broken(IndefiniteLength)),
+    ("an indefinite length of a SEQUENCE", "30 80", Broken(IndefiniteLength)),
+    ("a length below 128 in the long form", "02 81 01 05", Broken(LengthNotMinimal)),
+    ("a length that begins with zeros", "02 82 00 ff", Broken(LengthNotMinimal)),
+    ("constructed INTEGER", "22 01 05", Broken(Constructed)),
+    ("BOOLEAN of 7f", "01 01 7f", Broken(InvalidBoolean)),
+    ("INTEGER of no octets", "02 00", Broken(IntegerEmpty)),
+    ("INTEGER that begins with nine bits 0", "02 02 00 7f", Broken(IntegerLeadingZeroes)),
+    ("INTEGER that begins with nine bits 1", "02 02 ff 80", Broken(IntegerLeadingFF)),
+];
+
+/// A depth, octets, and what `parse_der_recursive` answers on them to this depth.
+#[rattlefmt::skip]
+const AT_DEPTH: &[(usize, &str, Answer)] = &[
+    (0, "", Refused(BerMaxDepth)),
+    (1, "", Incomplete(1)),
+    (0, "01 01 ff", Refused(BerMaxDepth)),
+    (1, "01 01 ff", Read(Boolean(true), "")),
+    (0, "02 81 01 05", Refused(BerMaxDepth)),
+    (1, "02 81 01 05", Broken(LengthNotMinimal)),
+];
+
+/// Octets, and the header of the object that `parse_der` reads: its class, whether it is
+/// constructed, its tag number, its length and its identifier octets.
+#[rattlefmt::skip]
+const HEADERS: &[(&str, Class, bool, Tag, Length, &str)] = &[
+    ("01 01 ff", Class::Universal, false, Tag::Boolean, Length::Definite(1), "01"),
+    ("02 02 00 80", Class::Universal, false, Tag::Integer, Length::Definite(2), "02"),
+    ("04 00 ff", Class::Universal, false, Tag::OctetString, Length::Definite(0), "04"),
+];
+
+#[test]
+fn parse_der_answers(rt: HostRuntime) -> Result<(), Fail> {
+    for (name, text, answer) in PARSE_DER {
+        let input = octets(rt.alloc(), text)?;
+        let given = parse_der(rt.alloc(), &input);
+        assert!(rt;
+            answer.is_given_by(rt.alloc(), &given)?,
+            "{name}: {given:?}"
+        );
+    }
+    Ok(())
+}
+
+#[test]
+fn parse_der_recursive_answers(rt: HostRuntime) -> Result<(), Fail> {
+    for (depth, text, answer) in AT_DEPTH {
+        let input = octets(rt.alloc(), text)?;
+        let given = parse_der_recursive(rt.alloc(), &input, *depth);
+        assert!(rt;
+            answer.is_given_by(rt.alloc(), &given)?,
+            "{text} to {depth}: {given:?}"
+        );
+    }
+    Ok(())
+}
+
+#[test]
+fn parse_der_keeps_headers(rt: HostRuntime) -> Result<(), Fail> {
+    for (text, class, constructed, tag, length, raw_tag) in HEADERS {
+        let input = octets(rt.alloc(), text)?;
+        let raw_tag = octets(rt.alloc(), raw_tag)?;
+        let (_, object) = parse_der(rt.alloc(), &input)?;
+        assert_eq!(rt; object.header.class(), *class, "{text}");
+        assert_eq!(rt; object.header.constructed(), *constructed, "{text}");
+        assert_eq!(rt; object.header.tag(), *tag, "{text}");
+        assert_eq!(rt; object.header.length(), *length, "{text}");
+        assert!(rt;
+            object.header.raw_tag() == Some(raw_tag.as_slice()),
+            "{text}"
+        );
+    }
+    Ok(())
+}
+
+/// DER has one spelling of an object, so what is read is written again as it was.
+#[test]
+fn to_vec_writes_what_was_read(rt: HostRuntime) -> Result<(), Fail> {
+    for (name, text, answer) in PARSE_DER {
+        if let Read(_, behind) = answer {
+            let input = octets(rt.alloc(), text)?;
+            let (_, object) = parse_der(rt.alloc(), &input)?;
+            let mut written = object.to_vec(rt.alloc())?;
+            written.extend_from_slice(&octets(rt.alloc(), behind)?)?;
+            assert_eq!(rt; written.as_slice(), input.as_slice(), "{name}");
+        }
+    }
+    Ok(())
+}

@@ -1,0 +1,13 @@
+//! The rows that the library is tested on: tables of inputs and answers, a row a line.
+#![tactic(auto)]
+
+#[cfg(test)]
+mod answer;
+#[cfg(test)]
+mod der_rows;
+#[cfg(test)]
+mod header_rows;
+#[cfg(test)]
+mod octets;
+#[cfg(test)]
+mod text_rows;

@@ -1,0 +1,52 @@
+//! Octets in hexadecimal text, as `02 01 05`.
+ghost use Rattle.std.specs.Prelude.{◌<◌, IfOk};
+
+use std::alloc::{AllocFailed, Global};
+use std::test::Fail;
+
+/// Why a text gives no octets.
+#[derive(Debug, Drop)]
+pub enum TextFault {
+    NoOctet,
+    OutOfMemory,
+}
+
+impl From<AllocFailed<u8>> for TextFault {
+    fn from(_e: AllocFailed<u8>) -> TextFault {
+        TextFault::OutOfMemory
+    }
+}
+
+/// The octets that a text spells: numbers of two digits, with a space between them.
+pub fn octets(alloc: Global, text: &str) -> Result<Vec<u8>, TextFault> {
+    let mut octets = Vec::new(alloc);
+    for number in text.split_ascii_whitespace() {
+        let [high, low] = number.as_bytes() else {
+            return Err(TextFault::NoOctet);
+        };
+        octets.push(digit(*high)? * 16 + digit(*low)?)?;
+    }
+    Ok(octets)
+}
+
+/// The number of a hexadecimal digit.
+fn digit(code: u8) -> Result<u8, TextFault>
+    ensures { IfOk result (λ n. n < 16) }
+{
+    match code {
+        b'0'..=b'9' => Ok(code - b'0'),
+        b'a'..=b'f' => Ok(code - b'a' + 10),
+        _ => Err(TextFault::NoOctet),
+    }
+}
+
+#[test]
+fn octets_of_texts(rt: HostRuntime) -> Result<(), Fail> {
+    assert!(rt; octets(rt.alloc(), "")?.is_empty());
+    let four = octets(rt.alloc(), "00 1f a0 ff")?;
+    assert_eq!(rt; four.as_slice(), b"\x00\x1f\xa0\xff".as_slice());
+    for wrong in ["0", "000", "0g", "1 2", "0A"] {
+        assert!(rt; octets(rt.alloc(), wrong).is_err(), "{wrong}");
+    }
+    Ok(())
+}

@@ -1,0 +1,329 @@
+//! What no clause of `run` says: the texts, and what faults leave.
+use crate::fault::Fault;
+use crate::only_argument;
+use crate::run::run;
+use der_parser::error::{BerError, Err as Refused, Needed};
+use std::alloc::Global;
+use std::env::{Env, FillError};
+use std::io::{ErrorKind, Read, Write};
+use std::test::Fail;
+use std::{io, str};
+
+/// Gives its octets, at most three a read, and then an error, or nothing where there is none.
+#[derive(Drop)]
+struct Source<'a> {
+    left: &'a [u8],
+    fault: Option<ErrorKind>,
+}
+
+impl Read for Source<'_> {
+    fn read(&mut self, buf: &mut [u8]) -> io::Result<usize> {
+        let n = buf.len().min(self.left.len()).min(3);
+        match self.fault {
+            Some(kind) if n == 0 => Err(io::Error::from(kind)),
+            _ => {
+                let (now, later) = self.left.split_at(n);
+                buf[..n].copy_from_slice(now);
+                self.left = later;
+                Ok(n)
+            }
+        }
+    }
+}
+
+/// Gives so many octets ff.
+#[derive(Drop)]
+struct Ones {
+    left: usize,
+}
+
+impl Read for Ones {
+    fn read(&mut self, buf: &mut [u8]) -> io::Result<usize> {
+        let n = buf.len().min(self.left);
+        for octet in &mut buf[..n] {
+            *octet = 0xff;
+        }
+        self.left -= n;
+        Ok(n)
+    }
+}
+
+/// Takes so many octets, and then answers an error, or takes nothing where there is none.
+#[derive(Drop)]
+struct Sink {
+    taken: Vec<u8>,
+    room: usize,
+    fault: Option<ErrorKind>,
+    writes: usize,
+}
+
+impl Sink {
+    fn new(alloc: Global, room: usize, fault: Option<ErrorKind>) -> Sink {
+        Sink {
+            taken: Vec::new(alloc),
+            room,
+            fault,
+            writes: 0,
+        }
+    }
+}
+
+impl Write for Sink {
+    fn write(&mut self, buf: &[u8]) -> io::Result<usize> {
+        self.writes = self.writes.saturating_add(1);
+        let n = buf.len().min(self.room);
+        match self.fault {
+            Some(kind) if n == 0 => Err(io::Error::from(kind)),
+            _ => {
+                self.taken.extend_from_slice(&buf[..n])?;
+                self.room -= n;
+                Ok(n)
+            }
+        }
+    }
+
+    fn flush(&mut self) -> io::Result<()> {
+        Ok(())
+    }
+}
+
+const USAGE: &str = "usage: derdump ber|der|canon\n";
+
+/// An input, what is printed, what is told of a fault, and the status.
+const RUNS: &[(&[u8], &str, &str, u8)] = &[
+    (b"", "", "", 0),
+    (
+        b"\x01\x01\x00\x01\x01\xff",
+        "Boolean(false)\nBoolean(true)\n",
+        "",
+        0,
+    ),
+    (
+        b"\x02\x02\x01\x0f\x02\x01\xa5",
+        "Integer([01 0f])\nInteger([a5])\n",
+        "",
+        0,
+    ),
+    (
+        b"\x04\x00\x04\x03abc",
+        "OctetString([])\nOctetString([61 62 63])\n",
+        "",
+        0,
+    ),
+    (
+        b"\x01\x01\xff\x02\x81\x01\x05",
+        "Boolean(true)\n",
+        "error at 3: DER constraint failed: length not minimal\n",
+        1,
+    ),
+    (b"\x02\x02\x00", "", "error at 0: incomplete, needs 2\n", 1),
+    (
+        b"\x04\x01a\x04\x01b\x01\x01\x02",
+        "OctetString([61])\nOctetString([62])\n",
+        "error at 6: DER constraint failed: invalid boolean\n",
+        1,
+    ),
+];
+
+#[test]
+fn prints_elements_up_to_a_fault(rt: HostRuntime) {
+    for (input, printed, told, status) in RUNS {
+        let mut reader = Source {
+            left: input,
+            fault: None,
+        };
+        let mut out = Vec::new(rt.alloc());
+        let mut err = Vec::new(rt.alloc());
+        assert_eq!(rt;
+            run(rt.alloc(), "der", &mut reader, &mut out, &mut err),
+            *status
+        );
+        assert_eq!(rt; str::from_utf8(&out), Ok(*printed));
+        assert_eq!(rt; str::from_utf8(&err), Ok(*told));
+    }
+}
+
+#[test]
+fn other_words_are_usage_faults(rt: HostRuntime) {
+    for word in ["", "ber", "canon", "DER", "der ", "de", "derdump"] {
+        let mut reader = Source {
+            left: b"\x01\x01\xff",
+            fault: None,
+        };
+        let mut out = Vec::new(rt.alloc());
+        let mut err = Vec::new(rt.alloc());
+        assert_eq!(rt;
+            run(rt.alloc(), word, &mut reader, &mut out, &mut err),
+            2,
+            "{word}"
+        );
+        assert_eq!(rt; reader.left.len(), 3, "{word}");
+        assert!(rt; out.is_empty(), "{word}");
+        assert_eq!(rt; str::from_utf8(&err), Ok(USAGE), "{word}");
+    }
+}
+
+#[test]
+fn a_failed_read_ends_it(rt: HostRuntime) {
+    for left in [
+        b"".as_slice(),
+        b"\x01\x01\xff",
+        b"\x01\x01\xff\x01\x01\xff\x01",
+    ] {
+        for kind in [
+            ErrorKind::Other,
+            ErrorKind::Interrupted,
+            ErrorKind::UnexpectedEof,
+        ] {
+            let mut reader = Source {
+                left,
+                fault: Some(kind),
+            };
+            let mut out = Vec::new(rt.alloc());
+            let mut err = Vec::new(rt.alloc());
+            assert_eq!(rt; run(rt.alloc(), "der", &mut reader, &mut out, &mut err), 1);
+            assert!(rt; out.is_empty());
+            assert_eq!(rt; str::from_utf8(&err), Ok("error: read failed\n"));
+        }
+    }
+}
+
+#[test]
+fn a_failed_write_ends_it(rt: HostRuntime) {
+    let text = b"Boolean(true)\nBoolean(false)\n";
+    for fault in [None, Some(ErrorKind::Other), Some(ErrorKind::BrokenPipe)] {
+        for room in 0..text.len() + 1 {
+            let mut input: &[u8] = b"\x01\x01\xff\x01\x01\x00\x01\x01\x02";
+            let mut out = Sink::new(rt.alloc(), room, fault);
+            let mut err = Vec::new(rt.alloc());
+            assert_eq!(rt; run(rt.alloc(), "der", &mut input, &mut out, &mut err), 1);
+            assert_eq!(rt; out.taken.as_slice(), &text[..room]);
+            let told = if room < text.len() {
+                "error: write failed\n"
+            } else {
+                "error at 6: DER constraint failed: invalid boolean\n"
+            };
+            assert_eq!(rt; str::from_utf8(&err), Ok(told));
+        }
+    }
+}
+
+#[test]
+fn a_fault_of_err_changes_nothing(rt: HostRuntime) {
+    for fault in [None, Some(ErrorKind::Other), Some(ErrorKind::BrokenPipe)] {
+        for (word, status) in [("der", 1), ("", 2)] {
+            let mut input: &[u8] = b"\x01\x01\xff\x01\x01\x02";
+            let mut out = Vec::new(rt.alloc());
+            let mut err = Sink::new(rt.alloc(), 4, fault);
+            assert_eq!(rt;
+                run(rt.alloc(), word, &mut input, &mut out, &mut err),
+                status
+            );
+            assert_eq!(rt; err.taken.len(), 4);
+        }
+    }
+}
+
+/// Nothing is written where nothing is printed, so a writer that always fails is none.
+#[test]
+fn nothing_is_written_for_nothing(rt: HostRuntime) {
+    let mut input: &[u8] = b"";
+    let mut out = Sink::new(rt.alloc(), 0, Some(ErrorKind::Other));
+    let mut err = Sink::new(rt.alloc(), 0, Some(ErrorKind::Other));
+    assert_eq!(rt; run(rt.alloc(), "der", &mut input, &mut out, &mut err), 0);
+    assert_eq!(rt; out.writes, 0);
+    assert_eq!(rt; err.writes, 0);
+}
+
+#[test]
+fn long_output_takes_few_writes(rt: HostRuntime) -> Result<(), Fail> {
+    let mut input = Vec::new(rt.alloc());
+    let mut text = Vec::new(rt.alloc());
+    for _ in 0..10000 {
+        input.extend_from_slice(b"\x01\x01\xff")?;
+        text.extend_from_slice(b"Boolean(true)\n")?;
+    }
+    let mut out = Sink::new(rt.alloc(), usize::MAX, None);
+    let mut err = Vec::new(rt.alloc());
+    assert_eq!(rt;
+        run(rt.alloc(), "der", &mut input.as_slice(), &mut out, &mut err),
+        0
+    );
+    assert!(rt; out.taken == text);
+    assert!(rt; out.writes <= 20);
+    Ok(())
+}
+
+#[test]
+fn input_is_bounded(rt: HostRuntime) {
+    for (left, too_large) in [(67108864, false), (67108865, true)] {
+        let mut reader = Ones { left };
+        let mut out = Vec::new(rt.alloc());
+        let mut err = Vec::new(rt.alloc());
+        assert_eq!(rt; run(rt.alloc(), "der", &mut reader, &mut out, &mut err), 1);
+        assert!(rt; out.is_empty());
+        assert_eq!(rt;
+            str::from_utf8(&err) == Ok("error: input too large\n"),
+            too_large
+        );
+    }
+}
+
+/// Arguments, the program's name first.
+#[derive(Drop)]
+struct Arguments<'a>(&'a [&'a [u8]]);
+
+impl Env for Arguments<'_> {
+    fn arg(&self, i: usize, buf: &mut [u8]) -> Result<usize, FillError> {
+        match self.0.get(i) {
+            None => Err(FillError::NotPresent),
+            Some(text) if text.len() > buf.len() => Err(FillError::TooLong),
+            Some(text) => {
+                buf[..text.len()].copy_from_slice(text);
+                Ok(text.len())
+            }
+        }
+    }
+
+    fn var(&self, _name: &str, _buf: &mut [u8]) -> Result<usize, FillError> {
+        Err(FillError::NotPresent)
+    }
+
+    fn var_at(&self, _i: usize, _buf: &mut [u8]) -> Result<usize, FillError> {
+        Err(FillError::NotPresent)
+    }
+}
+
+/// Arguments, the program's name first, and the word among them.
+const ARGUMENTS: &[(&[&[u8]], Option<&str>)] = &[
+    (&[], None),
+    (&[b"derdump"], None),
+    (&[b"derdump", b""], Some("")),
+    (&[b"derdump", b"der"], Some("der")),
+    (&[b"derdump", b"der", b"der"], None),
+    (&[b"derdump", b"\xff"], None),
+    (&[b"derdump", b"der", b"\xff"], None),
+];
+
+#[test]
+fn the_word_is_the_only_argument(rt: HostRuntime) {
+    for (arguments, expected) in ARGUMENTS {
+        let word = only_argument(&(Arguments(arguments), rt.alloc()));
+        assert_eq!(rt; word.as_ref().map(|word| word.as_str()), *expected);
+    }
+}
+
+#[test]
+fn a_refusal_has_a_text(rt: HostRuntime) -> Result<(), Fail> {
+    for (reason, text) in [
+        (Refused::Incomplete(Needed::Size(1)), "incomplete, needs 1"),
+        (Refused::Incomplete(Needed::Unknown), "incomplete"),
+        (Refused::Error(BerError::Unsupported), "unsupported"),
+        (Refused::Failure(BerError::InvalidTag), "invalid tag"),
+        (Refused::OutOfMemory, "out of memory"),
+    ] {
+        let told = format!(in rt.alloc(); "{}", Fault::Element { offset: 7, reason })?;
+        assert_eq!(rt; told.strip_prefix("error at 7: "), Some(text));
+    }
+    Ok(())
+}
