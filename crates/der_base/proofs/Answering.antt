@@ -5,7 +5,7 @@ use Rattle.der_base.specs.declared.error.Err.{Err as Refused}
 use Rattle.der_base.specs.declared.error.Err.TheVariants.{Incomplete, Error, Failure, OutOfMemory}
 use Rattle.der_base.specs.declared.error.Error.{Error as BerError}
 use Rattle.der_base.specs.declared.error.Needed.TheVariants.{Unknown, Size}
-use Rattle.der_base.specs.Answer.{MatchAnswer, AnswersError, AnswersIncomplete}
+use Rattle.der_base.specs.Answer.{MatchAnswer, AnswersError, AnswersIncomplete, AnswersOkOr, AnswersErrorOr, AnswersIncompleteOr}
 use Rattle.der_base.specs.Refusal.{Refusal, refusal}
 
 module _ {T : Type 0} {P : T → Type 0} {Q : Refusal → Type 0} {R : ℕ → Type 0} where
@@ -32,6 +32,32 @@ module _ {T : Type 0} {P : T → Type 0} {Q : Refusal → Type 0} {R : ℕ → T
   only_incomplete (Err (Incomplete Unknown)) m h p q n = absurd h
   only_incomplete (Err (Failure e)) m h p q n = absurd h
   only_incomplete (Err OutOfMemory) m h p q n = absurd h
+
+-- the same of a call that may find no memory
+module _ {T : Type 0} {P : T → Type 0} {Q : Refusal → Type 0} {R : ℕ → Type 0} where
+  pub only_ok_or : (M : Type 0) (r : Result T (Refused BerError)) (G : T → Type 0) → MatchAnswer r P Q R M → ((x : T) → P x → G x) → ((e : Refusal) → ¬ Q e) → ((n : ℕ) → ¬ R n) → AnswersOkOr M r G
+  only_ok_or M (Ok x) G h p q n = p x h
+  only_ok_or M (Err (Error e)) G h p q n = q (refusal e) h
+  only_ok_or M (Err (Incomplete (Size m))) G h p q n = n m h
+  only_ok_or M (Err (Incomplete Unknown)) G h p q n = h
+  only_ok_or M (Err (Failure e)) G h p q n = h
+  only_ok_or M (Err OutOfMemory) G h p q n = h
+
+  pub only_error_or : (M : Type 0) (r : Result T (Refused BerError)) (e : Refusal) → MatchAnswer r P Q R M → ((x : T) → ¬ P x) → ((e' : Refusal) → Q e' → e' ≡ e) → ((n : ℕ) → ¬ R n) → AnswersErrorOr M r e
+  only_error_or M (Ok x) e h p q n = p x h
+  only_error_or M (Err (Error e')) e h p q n = q (refusal e') h
+  only_error_or M (Err (Incomplete (Size m))) e h p q n = n m h
+  only_error_or M (Err (Incomplete Unknown)) e h p q n = h
+  only_error_or M (Err (Failure e')) e h p q n = h
+  only_error_or M (Err OutOfMemory) e h p q n = h
+
+  pub only_incomplete_or : (M : Type 0) (r : Result T (Refused BerError)) (m : ℕ) → MatchAnswer r P Q R M → ((x : T) → ¬ P x) → ((e : Refusal) → ¬ Q e) → ((n : ℕ) → R n → n ≡ m) → AnswersIncompleteOr M r m
+  only_incomplete_or M (Ok x) m h p q n = p x h
+  only_incomplete_or M (Err (Error e)) m h p q n = q (refusal e) h
+  only_incomplete_or M (Err (Incomplete (Size k))) m h p q n = n k h
+  only_incomplete_or M (Err (Incomplete Unknown)) m h p q n = h
+  only_incomplete_or M (Err (Failure e)) m h p q n = h
+  only_incomplete_or M (Err OutOfMemory) m h p q n = h
 
 -- what follows from an Ok
 pub ok_weaker : {T : Type 0} {P : T → Type 0} (Q : Refusal → Type 0) (R : ℕ → Type 0) (M : Type 0) (r : Result T (Refused BerError)) (G : T → Type 0) → MatchAnswer r P Q R M → ((x : T) → P x → G x) → IfOk r G

@@ -6,7 +6,7 @@ use Rattle.std.proofs.lemmas.List.{take_all}
 use Rattle.std.specs.Int.{w64, byte_at, bytes_high_first, to_be_bytes}
 use Rattle.std.specs.Int.Count.{count_leading_zeros, leading_of_zero}
 use Rattle.der_base.specs.declared.header.Class.{Class}
-use Rattle.der_base.specs.Octets.{octets_before, octets, groups_before, groups, identifier, shortest_length}
+use Rattle.der_base.specs.Octets.{octets_before, octets, groups_before, groups, identifier}
 use Rattle.der_base.proofs.Identifiers.{identifier_short, identifier_long}
 
 octets_fuel : (m k n : ℕ) (a b : List ℕ) → n ≤ m → n ≤ k → octets_before m n (a ++ b) ≡ octets_before k n a ++ b

@@ -22,3 +22,13 @@ AnswersError r e = MatchAnswer r (λ _. ⊥) (λ x. x ≡ e) (λ _. ⊥) ⊥
 -- the answer is Incomplete of this number
 abbrev pub AnswersIncomplete : {T : Type 0} → Result T (Refused BerError) → ℕ → Type 0
 AnswersIncomplete r n = MatchAnswer r (λ _. ⊥) (λ _. ⊥) (λ m. m ≡ n) ⊥
+
+-- the same of a call that may find no memory where M holds
+abbrev pub AnswersOkOr : {T : Type 0} → Type 0 → Result T (Refused BerError) → (T → Type 0) → Type 0
+AnswersOkOr M r P = MatchAnswer r P (λ _. ⊥) (λ _. ⊥) M
+
+abbrev pub AnswersErrorOr : {T : Type 0} → Type 0 → Result T (Refused BerError) → Refusal → Type 0
+AnswersErrorOr M r e = MatchAnswer r (λ _. ⊥) (λ x. x ≡ e) (λ _. ⊥) M
+
+abbrev pub AnswersIncompleteOr : {T : Type 0} → Type 0 → Result T (Refused BerError) → ℕ → Type 0
+AnswersIncompleteOr M r n = MatchAnswer r (λ _. ⊥) (λ _. ⊥) (λ m. m ≡ n) M

@@ -1,6 +1,8 @@
 -- What the calls on errors answer.
 use Rattle.std.specs.Prelude.{◌≡◌}
 use Rattle.der_base.specs.declared.error.Err.{Err}
+use Rattle.der_base.specs.declared.error.Error.{Error as BerError}
+use Rattle.der_base.specs.declared.error.Error.TheVariants.{Incomplete as CutShort}
 use Rattle.der_base.specs.declared.error.Err.TheVariants.{Incomplete, Error, Failure, OutOfMemory}
 
 -- the new answer is the old one with an error that R allows for its own
@@ -9,3 +11,10 @@ MapsError R (Incomplete n) new = new ≡ Incomplete n
 MapsError {E} {X} R (Error e) new = (x : X) × R e x × (new ≡ Error x)
 MapsError {E} {X} R (Failure e) new = (x : X) × R e x × (new ≡ Failure x)
 MapsError R OutOfMemory new = new ≡ OutOfMemory
+
+-- the answer for an item that its list cuts short: more octets behind the list do not help
+abbrev pub CutsItem : Err BerError → Err BerError → Type 0
+CutsItem (Incomplete n) new = new ≡ Error (CutShort n)
+CutsItem (Error e) new = new ≡ Error e
+CutsItem (Failure e) new = new ≡ Failure e
+CutsItem OutOfMemory new = new ≡ OutOfMemory

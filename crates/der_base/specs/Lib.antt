@@ -3,6 +3,7 @@ pub mod Any
 pub mod Arcs
 pub mod Count
 pub mod Cut
+pub mod DerColumns
 pub mod Encoding
 pub mod Errors
 pub mod Fault

@@ -1,11 +1,11 @@
 //! What a reader answers on the octets of a row.
 use crate::octets::{TextFault, octets};
-use der_parser::ber::{BerObject, BerObjectContent};
+use der_parser::ber::{BerObject, BerObjectContent, Class, Tag};
 use der_parser::error::{BerError, BerResult, DerConstraint, Err as Refused, Needed};
 use std::alloc::Global;
 
 /// What a row says that a reader answers.
-#[derive(Debug, Drop)]
+#[derive(Drop)]
 pub enum Answer {
     /// An object of this content, and these octets behind it.
     Read(Content, &'static str),
@@ -18,11 +18,17 @@ pub enum Answer {
 }
 
 /// A content, its octets in hexadecimal text.
-#[derive(Debug, Drop)]
+#[derive(Drop)]
 pub enum Content {
+    EndOfContent,
     Boolean(bool),
     Integer(&'static str),
     OctetString(&'static str),
+    Null,
+    Sequence(&'static [Content]),
+    Set(&'static [Content]),
+    /// The class and the number of the tag, and the octets.
+    Unknown(Class, u32, &'static str),
 }
 
 impl Answer {
@@ -44,14 +50,37 @@ impl Answer {
 
 impl Content {
     /// Whether the object has this content.
+    #[cycle(contents)]
     fn is_in(&self, alloc: Global, object: &BerObject<'_>) -> Result<bool, TextFault> {
         match (self, &object.content) {
+            (Content::EndOfContent, BerObjectContent::EndOfContent) => Ok(true),
             (Content::Boolean(a), BerObjectContent::Boolean(b)) => Ok(a == b),
             (Content::Integer(text), BerObjectContent::Integer(b))
             | (Content::OctetString(text), BerObjectContent::OctetString(b)) => {
                 Ok(octets(alloc, text)?.as_slice() == *b)
             }
+            (Content::Null, BerObjectContent::Null) => Ok(true),
+            (Content::Sequence(list), BerObjectContent::Sequence(items))
+            | (Content::Set(list), BerObjectContent::Set(items)) => are_in(alloc, list, items),
+            (Content::Unknown(class, number, text), BerObjectContent::Unknown(any)) => {
+                let header_is = any.class() == *class && any.tag() == Tag(*number);
+                Ok(header_is && octets(alloc, text)?.as_slice() == any.bytes)
+            }
             _ => Ok(false),
         }
     }
+}
+
+/// Whether the objects have these contents, one by one.
+#[cycle(contents)]
+fn are_in(alloc: Global, list: &[Content], items: &[BerObject<'_>]) -> Result<bool, TextFault> {
+    if list.len() != items.len() {
+        return Ok(false);
+    }
+    for (content, item) in list.iter().zip(items) {
+        if !content.is_in(alloc, item)? {
+            return Ok(false);
+        }
+    }
+    Ok(true)
 }

@@ -1,7 +1,9 @@
 //! What is read by DER, and written again.
 use crate::answer::Answer;
 use crate::answer::Answer::{Broken, Incomplete, Read, Refused};
-use crate::answer::Content::{Boolean, Integer, OctetString};
+use crate::answer::Content::{
+    Boolean, EndOfContent, Integer, Null, OctetString, Sequence, Set, Unknown,
+};
 use crate::octets::octets;
 use der_parser::ber::{Class, Length, Tag};
 use der_parser::der::parse_der_recursive;
@@ -9,7 +11,10 @@ use der_parser::error::DerConstraint::{
     Constructed, IndefiniteLength, IntegerEmpty, IntegerLeadingFF, IntegerLeadingZeroes,
     InvalidBoolean, LengthNotMinimal,
 };
-use der_parser::error::Error::{BerMaxDepth, InvalidLength, InvalidTag, Unsupported};
+use der_parser::error::Error::{
+    BerMaxDepth, ConstructExpected, Incomplete as CutShort, InvalidLength, InvalidTag, Unsupported,
+};
+use der_parser::error::Needed;
 use der_parser::parse_der;
 use std::test::Fail;
 
@@ -24,6 +29,17 @@ const PARSE_DER: &[(&str, &str, Answer)] = &[
     ("OCTET STRING", "04 02 61 62", Read(OctetString("61 62"), "")),
     ("OCTET STRING of no octets", "04 00 ff", Read(OctetString(""), "ff")),
 
+    ("NULL", "05 00 05 00", Read(Null, "05 00")),
+    ("end of content", "00 00", Read(EndOfContent, "")),
+    ("SEQUENCE of nothing", "30 00 ff", Read(Sequence(&[]), "ff")),
+    ("SET of two", "31 06 01 01 00 02 01 05", Read(Set(&[Boolean(false), Integer("05")]), "")),
+    ("SEQUENCE in SET", "31 05 30 03 01 01 00", Read(Set(&[Sequence(&[Boolean(false)])]), "")),
+    ("an unmapped universal number", "1d 01 00", Read(Unknown(Class::Universal, 29, "00"), "")),
+    ("context-specific", "80 01 05", Read(Unknown(Class::ContextSpecific, 0, "05"), "")),
+    ("context-specific, constructed", "a0 03 02 01 05", Read(Unknown(Class::ContextSpecific, 0, "02 01 05"), "")),
+    ("a long tag number", "9f a2 22 01 00", Read(Unknown(Class::ContextSpecific, 4386, "00"), "")),
+    ("the largest tag number", "1f 8f ff ff ff 7f 00", Read(Unknown(Class::Universal, 4294967295, ""), "")),
+
     ("no octets", "", Incomplete(1)),
     ("no length", "30", Incomplete(1)),
     ("cut in a long identifier", "9f a2", Incomplete(1)),
@@ -34,6 +50,8 @@ const PARSE_DER: &[(&str, &str, Answer)] = &[
     ("short content of 128 octets", "04 81 80", Incomplete(128)),
     ("short content of the largest size", "04 84 ff ff ff ff", Incomplete(4294967295)),
     ("short content of a constructed BOOLEAN", "21 02 ff", Incomplete(2)),
+    ("short content of a SEQUENCE", "30 05 01 01 ff", Incomplete(5)),
+    ("short content of another class", "80 05 01", Incomplete(4)),
 
     ("a number below 31 in the long form", "1f 1e 00", Refused(InvalidTag)),
     ("a number that begins with zeros", "1f 80", Refused(InvalidTag)),
@@ -44,8 +62,18 @@ const PARSE_DER: &[(&str, &str, Answer)] = &[
     ("a length above 2^64-1, zeros first", "02 8a 00 ff ff ff ff ff ff ff ff ff", Refused(InvalidLength)),
     ("a length above the largest size", "04 85 01 00 00 00 00", Refused(InvalidLength)),
     ("BOOLEAN of two octets", "01 02 00 00", Refused(InvalidLength)),
-    // Not built yet.
-    ("SEQUENCE", "30 00", Refused(Unsupported)),
+    ("a primitive SEQUENCE", "10 00", Refused(ConstructExpected)),
+    ("a type that isn't read yet", "0c 00", Refused(Unsupported)),
+    ("a constructed NULL", "25 00", Broken(Constructed)),
+    ("NULL of an octet", "05 01 00", Refused(InvalidLength)),
+    ("end of content of an octet", "00 01 00", Refused(InvalidLength)),
+    ("an item cut by its list", "30 04 02 03 01 00", Refused(CutShort(Needed::Size(3)))),
+    ("an item cut by its list, octets behind it", "30 04 02 03 01 00 01 02 03", Refused(CutShort(Needed::Size(3)))),
+    ("an item cut in its header", "30 01 02", Refused(CutShort(Needed::Size(1)))),
+    ("an item of another class, cut by its list", "30 03 80 05 01", Refused(CutShort(Needed::Size(4)))),
+    ("an item of an item", "30 05 30 03 01 01 7f", Broken(InvalidBoolean)),
+    ("an item behind another", "30 06 01 01 ff 01 01 7f", Broken(InvalidBoolean)),
+    ("the outer header before the item", "30 81 03 01 01 7f", Broken(LengthNotMinimal)),
 
     ("an indefinite length", "04 80", Broken(IndefiniteLength)),
     ("an indefinite length of a SEQUENCE", "30 80", Broken(IndefiniteLength)),
@@ -67,6 +95,12 @@ const AT_DEPTH: &[(usize, &str, Answer)] = &[
     (1, "01 01 ff", Read(Boolean(true), "")),
     (0, "02 81 01 05", Refused(BerMaxDepth)),
     (1, "02 81 01 05", Broken(LengthNotMinimal)),
+    (1, "30 00", Read(Sequence(&[]), "")),
+    (1, "30 02 05 00", Refused(BerMaxDepth)),
+    (2, "30 02 05 00", Read(Sequence(&[Null]), "")),
+    (0, "03 02 00 80", Refused(BerMaxDepth)),
+    (3, "31 05 30 03 01 01 00", Read(Set(&[Sequence(&[Boolean(false)])]), "")),
+    (2, "31 05 30 03 01 01 00", Refused(BerMaxDepth)),
 ];
 
 /// Octets, and the header of the object that `parse_der` reads: its class, whether it is
@@ -76,6 +110,8 @@ const HEADERS: &[(&str, Class, bool, Tag, Length, &str)] = &[
     ("01 01 ff", Class::Universal, false, Tag::Boolean, Length::Definite(1), "01"),
     ("02 02 00 80", Class::Universal, false, Tag::Integer, Length::Definite(2), "02"),
     ("04 00 ff", Class::Universal, false, Tag::OctetString, Length::Definite(0), "04"),
+    ("31 05 30 03 01 01 00", Class::Universal, true, Tag::Set, Length::Definite(5), "31"),
+    ("9f a2 22 01 00", Class::ContextSpecific, false, Tag(4386), Length::Definite(1), "9f a2 22"),
 ];
 
 #[test]

@@ -1,43 +1,68 @@
 -- What the full reader of DER answers: an object, a refusal, or how many octets are lacking.
-use Rattle.std.specs.Prelude.{◌≡◌, ℕ, zero, suc, ◌<◌, ◌≤◌, ◌⊎◌, Bool, Some, List, ◌++◌, length}
+use Rattle.std.specs.Prelude.{◌≡◌, ◌≢◌, ℕ, ◌-◌, ◌<◌, ◌≤◌, Bool, true, IsTrue, List, [], ◌++◌, length, All}
 use Rattle.der_base.specs.declared.header.Class.{Class}
-use Rattle.der_base.specs.declared.header.Length.TheVariants.{Definite}
-use Rattle.der_base.specs.Encoding.{content_octets_of}
-use Rattle.der_base.specs.Fault.{DerHeaderRefuses}
-use Rattle.der_base.specs.Header.{class_of, is_constructed, number_of, length_of, raw_tag_of}
-use Rattle.der_base.specs.Headers.{BeginsWithDerHeader, DerHeaderLacks}
-use Rattle.der_base.specs.LeafRefusal.{DerLeafRefuses}
-use Rattle.der_base.specs.Octets.{identifier}
-use Rattle.der_base.specs.Refusal.{Refusal, max_depth, invalid_length, unsupported}
-use Rattle.der_base.specs.Spelling.{DerSpells, max_object_size}
+use Rattle.der_base.specs.declared.header.Class.TheVariants.{Universal}
+use Rattle.der_base.specs.Cut.{IsCut, DerLacks}
+use Rattle.der_base.specs.DerColumns.{IsReadBy, AreReadBy, ShowsBy, ShowsInsideBy}
+use Rattle.der_base.specs.Fault.{DerJoins, ItemRefuses}
+use Rattle.der_base.specs.Headers.{BeginsWithDerHeader}
+use Rattle.der_base.specs.Leaf.{is_list, is_mapped}
+use Rattle.der_base.specs.Refusal.{Refusal}
+use Rattle.der_base.specs.Spelling.{DerSpells}
+use Rattle.der_base.specs.Tree.{Node, Nodes}
 use Rattle.der_object.specs.declared.object.BerObject.{BerObject}
-use Rattle.der_object.specs.View.{tree}
-use Rattle.der_der.specs.Leaves.{IsBuiltType, IsBuilt}
+use Rattle.der_object.specs.declared.object.BerObjectContent.{BerObjectContent}
+use Rattle.der_object.specs.Marks.{EachInside, HasShortestMark, HasShortestMarks}
+use Rattle.der_object.specs.View.{tree, content_tree, trees}
+use Rattle.der_der.specs.Leaves.{IsBuiltType, ColumnRefuses, IsDerContentOf}
 
--- i begins with the DER spelling of the object to depth d, and rest follows; its header has the length and the identifier octets that are there
+-- each leaf of the tree is of a type that is read
+abbrev pub IsBuilt : Node → Type 0
+IsBuilt o = IsReadBy IsBuiltType o
+
+abbrev pub AreBuilt : Nodes → Type 0
+AreBuilt l = AreReadBy IsBuiltType l
+
+-- a front of i shows the refusal, to depth d: `DerShowsFault`, with the types that are read so far
+abbrev pub DerRefuses : ℕ → List ℕ → Refusal → Type 0
+DerRefuses d i e = ShowsBy ColumnRefuses IsBuiltType d i e
+
+-- i is a proper front of an element, lacks n octets, and shows no refusal
+abbrev pub DerIsCut : ℕ → List ℕ → ℕ → Type 0
+DerIsCut d i n = IsCut i × DerLacks i n × ((e : Refusal) → ¬ DerRefuses d i e)
+
+-- i begins with the DER spelling of the object to depth d, and rest follows
 pub record ReadsDer (d : ℕ) (i : List ℕ) (o : BerObject) (rest : List ℕ) : Type 0 where
   pub spelling : List ℕ
   pub octets : i ≡ spelling ++ rest
   pub spells : DerSpells spelling (tree o) d
   pub built : IsBuilt (tree o)
-  pub length : length_of o.header ≡ Definite (length (content_octets_of (tree o)))
-  pub raw_tag : raw_tag_of o.header ≡ Some (identifier (class_of o.header) (is_constructed o.header) (number_of o.header))
+  -- each header in it has the length and the identifier octets that are there
+  pub marked : HasShortestMarks o
 
--- what is refused behind a header: the type, the size, and content octets that are there
-abbrev pub DerElementRefuses : Class → Bool → ℕ → ℕ → List ℕ → Refusal → Type 0
-DerElementRefuses c p t n rest e =
-    (¬ IsBuiltType c t × (e ≡ unsupported))
-    ⊎ (IsBuiltType c t × (max_object_size < n) × (e ≡ invalid_length))
-    ⊎ (IsBuiltType c t × (n ≤ max_object_size) × (w r : List ℕ) × (rest ≡ w ++ r) × (length w ≡ n) × DerLeafRefuses p t w e)
+-- i begins with a whole list that has items
+abbrev pub BeginsWithItems : List ℕ → Type 0
+BeginsWithItems i = (t : ℕ) × (w rest : List ℕ) × IsTrue (is_list t) × (w ≢ []) × BeginsWithDerHeader i Universal true t (length w) (w ++ rest)
 
--- the refusal of i to depth d
-abbrev pub DerRefuses : ℕ → List ℕ → Refusal → Type 0
-DerRefuses zero i e = e ≡ max_depth
-DerRefuses (suc d) i e = DerHeaderRefuses i e
-    ⊎ ((c : Class) × (p : Bool) × (t n : ℕ) × (rest : List ℕ) × BeginsWithDerHeader i c p t n rest × DerElementRefuses c p t n rest e)
+-- where the reader may want memory, to depth d
+abbrev pub NeedsMemory : ℕ → List ℕ → Type 0
+NeedsMemory d i = (2 ≤ d) × BeginsWithItems i
 
--- i ends within a header, or within a content, of which the whole length is told, and shows no refusal
-abbrev pub DerLacks : ℕ → List ℕ → ℕ → Type 0
-DerLacks zero i n = ⊥
-DerLacks (suc d) i n = DerHeaderLacks i n
-    ⊎ ((c : Class) × (p : Bool) × (t : ℕ) × (rest : List ℕ) × BeginsWithDerHeader i c p t n rest × IsBuiltType c t × (n ≤ max_object_size) × (length rest < n))
+-- content octets behind a header of this class, bit and number show the refusal, to a depth of at least 1
+abbrev pub ContentRefuses : Class → Bool → ℕ → List ℕ → ℕ → Refusal → Type 0
+ContentRefuses c p t w d e = (c ≡ Universal) × IsTrue (is_mapped t) × ShowsInsideBy ColumnRefuses IsBuiltType (d - 1) p t w e
+
+-- w joins items to depth d, and shows the refusal where the next one should begin
+abbrev pub ItemsRefuse : List ℕ → ℕ → Refusal → Type 0
+ItemsRefuse w d e = (l : Nodes) × (u r : List ℕ) × (w ≡ u ++ r) × DerJoins u l d × AreBuilt l × ItemRefuses (DerRefuses d) DerLacks r e
+
+-- the octets w join the objects, to depth d
+pub record AreItems (w : List ℕ) (os : List BerObject) (d : ℕ) : Type 0 where
+  pub joins : DerJoins w (trees os) d
+  pub built : AreBuilt (trees os)
+  pub marked : All HasShortestMarks os
+
+-- the octets w are the content of an object with this class, bit and number, to depth d
+pub record IsContentOf (w : List ℕ) (c : Class) (p : Bool) (t : ℕ) (x : BerObjectContent) (d : ℕ) : Type 0 where
+  pub content : IsDerContentOf w c p t (content_tree x) d
+  pub marked : EachInside HasShortestMark x

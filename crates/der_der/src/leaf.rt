@@ -1,31 +1,36 @@
 //! The content octets of the universal types that are no list, by DER (X.690 8.2 to 8.25, and 11).
 ghost use Rattle.std.specs.Prelude.{◌≡◌, false, IsTrue, MatchResult};
+ghost use Rattle.der_base.specs.Leaf.{is_list, is_mapped};
 ghost use Rattle.der_base.specs.LeafRefusal.{DerLeafRefuses};
 ghost use Rattle.der_base.specs.Refusal.{refusal};
 ghost use Rattle.der_base.specs.Tree.{boolean, integer};
 ghost use Rattle.der_object.specs.View.{content_tree};
-ghost use Rattle.der_der.specs.Leaves.{is_built, ReadsDerLeaf};
+ghost use Rattle.der_der.specs.Leaves.{is_built, ReadsDerLeaf, ColumnRefuses};
 
 use der_base::error::{BerError, DerConstraint};
 use der_base::header::Tag;
 use der_object::object::BerObjectContent;
 
-/// Whether the content octets of a universal type are read.
+/// Whether a universal type has a content of its own (X.680 8.4, table 1).
 #[inline]
-pub fn is_built(tag: Tag) -> bool
-    ensures { result ≡ is_built tag.0 }
+pub fn is_mapped(tag: Tag) -> bool
+    ensures { result ≡ is_mapped tag.0 }
 {
-    tag == Tag::Boolean || tag == Tag::Integer || tag == Tag::OctetString
+    matches!(tag.0, 0..=7 | 10 | 12 | 13 | 16..=28 | 30)
 }
 
-/// Reads the content octets of a universal type, which DER wants primitive.
+/// Reads the content octets of a universal type that is no list, which DER wants primitive.
+/// A type that isn't read yet is Unsupported.
 pub fn read_leaf<'a>(
     constructed: bool,
     tag: Tag,
     content: &'a [u8],
 ) -> Result<BerObjectContent<'a>, BerError>
-    requires { IsTrue (is_built tag.0) }
-    ensures { MatchResult result (λ x. ReadsDerLeaf constructed tag.0 content.now (content_tree x)) (λ e. DerLeafRefuses constructed tag.0 content.now (refusal e)) }
+    requires mapped { IsTrue (is_mapped tag.0) }
+    requires no_list { is_list tag.0 ≡ false }
+    ensures { MatchResult result
+        (λ x. IsTrue (is_built tag.0) × ReadsDerLeaf constructed tag.0 content.now (content_tree x))
+        (λ e. ColumnRefuses constructed tag.0 content.now (refusal e)) }
 {
     if constructed {
         return Err(BerError::DerConstraintFailed(DerConstraint::Constructed));
@@ -33,7 +38,11 @@ pub fn read_leaf<'a>(
     match tag {
         Tag::Boolean => Ok(BerObjectContent::Boolean(read_boolean(content)?)),
         Tag::Integer => Ok(BerObjectContent::Integer(read_integer(content)?)),
-        _ => Ok(BerObjectContent::OctetString(content)),
+        Tag::OctetString => Ok(BerObjectContent::OctetString(content)),
+        Tag::EndOfContent if content.is_empty() => Ok(BerObjectContent::EndOfContent),
+        Tag::Null if content.is_empty() => Ok(BerObjectContent::Null),
+        Tag::EndOfContent | Tag::Null => Err(BerError::InvalidLength),
+        _ => Err(BerError::Unsupported),
     }
 }
 

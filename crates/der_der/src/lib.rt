@@ -3,5 +3,6 @@
 
 mod leaf;
 pub mod parser;
+mod reader;
 
-pub use parser::{parse_der, parse_der_recursive};
+pub use parser::{parse_der, parse_der_counted, parse_der_recursive};

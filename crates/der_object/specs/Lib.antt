@@ -1,2 +1,4 @@
+pub mod Marks
 pub mod Objects
+pub mod Room
 pub mod View

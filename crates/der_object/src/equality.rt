@@ -1,7 +1,7 @@
 //! Equality: objects are equal where their trees are. The length and the raw tag of a header don't count.
 ghost use Rattle.std.specs.Prelude.{◌≡◌, ◌↔◌, IsTrue};
-ghost use Rattle.der_base.specs.Same.{same_node, same_content};
-ghost use Rattle.der_object.specs.View.{tree, content_tree};
+ghost use Rattle.der_base.specs.Same.{same_node, same_content, same_nodes};
+ghost use Rattle.der_object.specs.View.{tree, content_tree, trees};
 
 use crate::object::{BerObject, BerObjectContent};
 
@@ -38,6 +38,7 @@ impl PartialEq for BerObjectContent<'_> {
 }
 
 /// Whether two objects have the same tree.
+#[cycle(equality)]
 fn same_object<'a>(a: &BerObject<'a>, b: &BerObject<'a>) -> bool
     ensures { result ≡ same_node (tree a.now) (tree b.now) }
 {
@@ -45,13 +46,37 @@ fn same_object<'a>(a: &BerObject<'a>, b: &BerObject<'a>) -> bool
 }
 
 /// Whether two contents have the same tree.
+#[cycle(equality)]
+#[tactic(auto, using(crate::proofs::Trees::sequence_tree, crate::proofs::Trees::set_tree, crate::proofs::Trees::not_sequence, crate::proofs::Trees::not_set))]
 fn same_content<'a>(a: &BerObjectContent<'a>, b: &BerObjectContent<'a>) -> bool
     ensures { result ≡ same_content (content_tree a.now) (content_tree b.now) }
 {
     match (a, b) {
+        (BerObjectContent::EndOfContent, BerObjectContent::EndOfContent) => true,
         (BerObjectContent::Boolean(x), BerObjectContent::Boolean(y)) => x == y,
         (BerObjectContent::Integer(x), BerObjectContent::Integer(y)) => x == y,
         (BerObjectContent::OctetString(x), BerObjectContent::OctetString(y)) => x == y,
+        (BerObjectContent::Null, BerObjectContent::Null) => true,
+        (BerObjectContent::Sequence(x), BerObjectContent::Sequence(y)) => same_items(x, y),
+        (BerObjectContent::Set(x), BerObjectContent::Set(y)) => same_items(x, y),
+        (BerObjectContent::Unknown(x), BerObjectContent::Unknown(y)) => x == y,
         _ => false,
     }
+}
+
+/// Whether two lists have the same trees, one after another.
+#[cycle(equality)]
+#[tactic(auto, using(crate::proofs::Trees::trees_end, crate::proofs::Trees::other_length))]
+fn same_items<'a>(a: &[BerObject<'a>], b: &[BerObject<'a>]) -> bool
+    ensures { result ≡ same_nodes (trees a.now) (trees b.now) }
+{
+    if a.len() != b.len() {
+        return false;
+    }
+    for i in 0..a.len() {
+        if !same_object(&a[i], &b[i]) {
+            return false;
+        }
+    }
+    true
 }

@@ -2,14 +2,16 @@
 ghost use Rattle.std.specs.Prelude.{◌≡◌, ℕ, ◌+◌, ◌<◌, ◌≤◌, ◌^◌, Bool, List, length};
 ghost use Rattle.std.specs.Option.{SomeIff};
 ghost use Rattle.der_base.specs.declared.header.Class.{Class};
-ghost use Rattle.der_base.specs.Encoding.{encoding, content_octets, element};
+ghost use Rattle.der_base.specs.Encoding.{encoding, encodings, content_octets, element};
 ghost use Rattle.der_base.specs.Octets.{identifier, shortest_length, octets, groups};
-ghost use Rattle.der_object.specs.View.{tree, content_tree};
+ghost use Rattle.der_object.specs.View.{tree, content_tree, trees};
 
 use crate::object::{BerObject, BerObjectContent};
 use der_base::header::Tag;
 
 /// How many octets an object has, if at most 2^64-1.
+#[cycle(length)]
+#[tactic(auto, using(crate::proofs::Trees::encoding_length))]
 pub fn object_length(o: &BerObject<'_>) -> Option<usize>
     ensures { SomeIff result (length (encoding (tree o.now)) < 2 ^ 64) (length (encoding (tree o.now))) }
 {
@@ -17,19 +19,40 @@ pub fn object_length(o: &BerObject<'_>) -> Option<usize>
 }
 
 /// How many content octets there are, if at most 2^64-1.
-pub fn content_length(content: &BerObjectContent<'_>) -> Option<usize>
+#[cycle(length)]
+#[tactic(auto, using(crate::proofs::Trees::sequence_tree, crate::proofs::Trees::set_tree))]
+fn content_length(content: &BerObjectContent<'_>) -> Option<usize>
     ensures { let n = length (content_octets (content_tree content.now)) in
         SomeIff result (n < 2 ^ 64) n }
 {
     match content {
+        BerObjectContent::EndOfContent => Some(0),
         BerObjectContent::Boolean(_) => Some(1),
         BerObjectContent::Integer(octets) => Some(octets.len()),
         BerObjectContent::OctetString(octets) => Some(octets.len()),
+        BerObjectContent::Null => Some(0),
+        BerObjectContent::Sequence(items) => items_length(items),
+        BerObjectContent::Set(items) => items_length(items),
+        BerObjectContent::Unknown(any) => Some(any.bytes.len()),
     }
 }
 
+/// How many octets objects have together, if at most 2^64-1.
+#[cycle(length)]
+#[tactic(auto, using(crate::proofs::Trees::trees_end))]
+fn items_length(items: &[BerObject<'_>]) -> Option<usize>
+    ensures { let n = length (encodings (trees items.now)) in
+        SomeIff result (n < 2 ^ 64) n }
+{
+    let mut total: usize = 0;
+    for o in items {
+        total = total.checked_add(object_length(o)?)?;
+    }
+    Some(total)
+}
+
 /// How many octets an element of this tag with n content octets has, if at most 2^64-1.
-pub fn element_length(tag: Tag, n: usize) -> Option<usize>
+fn element_length(tag: Tag, n: usize) -> Option<usize>
     ensures { (c : Class) (p : Bool) →
         let total = length (identifier c p tag.0) + length (shortest_length n) + n in
         SomeIff result (total < 2 ^ 64) total }
@@ -52,7 +75,7 @@ fn identifier_octet_count(tag: Tag) -> usize
 
 /// How many length octets a length has, in the shortest form (8.1.3, 10.1).
 #[tactic(auto, unfolding(der_base::specs::Octets::shortest_length))]
-pub fn length_octet_count(n: usize) -> usize
+fn length_octet_count(n: usize) -> usize
     ensures count { result ≡ length (shortest_length n) }
     ensures few { result ≤ 9 }
 {
@@ -61,7 +84,7 @@ pub fn length_octet_count(n: usize) -> usize
 
 /// How many octets a number has, none for 0.
 #[tactic(auto, using(der_base::proofs::Numbers::octets_leading))]
-pub fn octet_count(n: usize) -> usize
+fn octet_count(n: usize) -> usize
     ensures count { result ≡ length (octets n) }
     ensures few { result ≤ 8 }
 {

@@ -1,7 +1,7 @@
 //! Objects: the values that are read and written, their trees, their equality and their encoding.
 #![tactic(auto)]
 
-pub mod equality;
+mod equality;
 pub mod error;
 mod length;
 pub mod object;

@@ -1,15 +1,20 @@
 //! The octets of an object: the header as DER writes it (X.690 8.1.2, 10.1), and the content octets.
-ghost use Rattle.std.specs.Prelude.{◌≡◌, ◌≢◌, ℕ, ◌+◌, ◌*◌, ◌<◌, ◌≤◌, ◌^◌, ◌↔◌, ◌⊎◌, [], ◌∷◌, ◌++◌, length, OnOk, IfOk, IfErr};
+//!
+//! They are written from the last to the first: a length is written when its content stands already,
+//! so that no content is measured again for each list around it.
+ghost use Rattle.std.specs.Prelude.{◌≡◌, ◌≢◌, ℕ, ◌+◌, ◌-◌, ◌*◌, ◌<◌, ◌≤◌, ◌^◌, ◌↔◌, ◌⊎◌, [], ◌∷◌, ◌++◌, length, IfOk, IfErr};
 ghost use Rattle.std.specs.Result.{IsErrOf};
-ghost use Rattle.der_base.specs.Encoding.{encoding, content_octets};
+ghost use Rattle.der_base.specs.Encoding.{encoding, encodings, content_octets};
+ghost use Rattle.der_base.specs.Header.{class_of, is_constructed, number_of};
 ghost use Rattle.der_base.specs.Octets.{identifier, shortest_length, octets, groups, leading_bits, class_number};
-ghost use Rattle.der_object.specs.View.{tree, content_tree};
+ghost use Rattle.der_object.specs.Room.{PutsBefore};
+ghost use Rattle.der_object.specs.View.{tree, content_tree, trees};
 
-use crate::length::{content_length, object_length, octet_count};
+use crate::length::object_length;
 use crate::object::{BerObject, BerObjectContent};
 use der_base::error::GenError;
-use der_base::header::{Class, Tag};
-use std::alloc::{AllocError, Global};
+use der_base::header::{Class, Header, Tag};
+use std::alloc::Global;
 
 impl BerObject<'_> {
     /// The octets of the object. Refusals: `TooLarge` where they are more than 2^64-1, and
@@ -26,54 +31,89 @@ impl BerObject<'_> {
         if length == 0 {
             return Ok(Vec::new(alloc));
         }
-        let mut out = Vec::with_capacity(alloc, length)?;
-        write_object(&mut out, self)?;
+        let mut out = vec![in alloc; 0; length]?;
+        write_object(&mut out, length, self);
         Ok(out)
     }
 }
 
-/// Writes an object at the end (8.1.1).
-fn write_object(out: &mut Vec<u8>, o: &BerObject<'_>) -> Result<(), AllocError>
-    requires { length (encoding (tree o.now)) < 2 ^ 64 }
-    ensures { OnOk result (out.new.items ≡ out.old.items ++ encoding (tree o.now)) }
+/// Writes an object in front of a place (8.1.1), and answers where it begins.
+#[cycle(serialize)]
+fn write_object(out: &mut [u8], end: usize, o: &BerObject<'_>) -> usize
+    requires room { length (encoding (tree o.now)) ≤ end }
+    requires within { end ≤ length out.old }
+    ensures { PutsBefore out.old out.new end (encoding (tree o.now)) result }
 {
-    let header = &o.header;
-    write_identifier(out, header.class(), header.constructed(), header.tag())?;
-    write_length(out, content_length(&o.content).unwrap())?;
-    write_content(out, &o.content)?;
-    Ok(())
+    let content = write_content(out, end, &o.content);
+    write_header(out, content, &o.header, end - content)
 }
 
-/// Writes content octets at the end.
-fn write_content(out: &mut Vec<u8>, content: &BerObjectContent<'_>) -> Result<(), AllocError>
-    ensures { OnOk result (out.new.items ≡ out.old.items ++ content_octets (content_tree content.now)) }
+/// Writes content octets in front of a place.
+#[cycle(serialize)]
+#[tactic(auto, using(crate::proofs::Trees::sequence_tree, crate::proofs::Trees::set_tree))]
+fn write_content(out: &mut [u8], end: usize, content: &BerObjectContent<'_>) -> usize
+    requires room { length (content_octets (content_tree content.now)) ≤ end }
+    requires within { end ≤ length out.old }
+    ensures { PutsBefore out.old out.new end (content_octets (content_tree content.now)) result }
 {
     match content {
-        BerObjectContent::Boolean(b) => out.push(if *b { 0xff } else { 0 })?,
-        BerObjectContent::Integer(octets) => out.extend_from_slice(octets)?,
-        BerObjectContent::OctetString(octets) => out.extend_from_slice(octets)?,
+        BerObjectContent::EndOfContent => end,
+        BerObjectContent::Boolean(b) => write_octet(out, end, if *b { 0xff } else { 0 }),
+        BerObjectContent::Integer(octets) => write_octets(out, end, octets),
+        BerObjectContent::OctetString(octets) => write_octets(out, end, octets),
+        BerObjectContent::Null => end,
+        BerObjectContent::Sequence(items) => write_items(out, end, items),
+        BerObjectContent::Set(items) => write_items(out, end, items),
+        BerObjectContent::Unknown(any) => write_octets(out, end, any.bytes),
     }
-    Ok(())
 }
 
-/// Writes identifier octets at the end (8.1.2).
-#[tactic(auto, using(der_base::proofs::Identifiers::identifier_short, der_base::proofs::Identifiers::identifier_long))]
-fn write_identifier(
-    out: &mut Vec<u8>,
-    class: Class,
-    constructed: bool,
-    tag: Tag,
-) -> Result<(), AllocError>
-    ensures { OnOk result (out.new.items ≡ out.old.items ++ identifier class constructed tag.0) }
+/// Writes objects in front of a place, one after another.
+#[cycle(serialize)]
+fn write_items(out: &mut [u8], end: usize, items: &[BerObject<'_>]) -> usize
+    requires room { length (encodings (trees items.now)) ≤ end }
+    requires within { end ≤ length out.old }
+    ensures { PutsBefore out.old out.new end (encodings (trees items.now)) result }
+{
+    let mut begin = end;
+    for i in (0..items.len()).rev() {
+        begin = write_object(out, begin, &items[i]);
+    }
+    begin
+}
+
+/// Writes the identifier octets of a header and the octets of a length in front of a place.
+fn write_header(out: &mut [u8], end: usize, header: &Header<'_>, n: usize) -> usize
+    requires room { let h = header.now in
+        length (identifier (class_of h) (is_constructed h) (number_of h) ++ shortest_length n) ≤ end }
+    requires within { end ≤ length out.old }
+    ensures { let h = header.now in
+        PutsBefore out.old out.new end (identifier (class_of h) (is_constructed h) (number_of h) ++ shortest_length n) result }
+{
+    let begin = write_length(out, end, n);
+    write_identifier(
+        out,
+        begin,
+        header.class(),
+        header.constructed(),
+        header.tag(),
+    )
+}
+
+/// Writes identifier octets in front of a place (8.1.2).
+#[tactic(auto, using(der_base::proofs::Identifiers::identifier_short, der_base::proofs::Identifiers::identifier_long, der_base::proofs::Numbers::identifier_short_length, der_base::proofs::Numbers::identifier_long_length))]
+fn write_identifier(out: &mut [u8], end: usize, class: Class, constructed: bool, tag: Tag) -> usize
+    requires room { length (identifier class constructed tag.0) ≤ end }
+    requires within { end ≤ length out.old }
+    ensures { PutsBefore out.old out.new end (identifier class constructed tag.0) result }
 {
     let leading = leading_octet(class, constructed);
     if tag.0 < 31 {
-        out.push(leading + tag.0 as u8)?;
+        write_octet(out, end, leading + tag.0 as u8)
     } else {
-        out.push(leading + 31)?;
-        write_groups(out, tag.0)?;
+        let begin = write_groups(out, end, tag.0);
+        write_octet(out, begin, leading + 31)
     }
-    Ok(())
 }
 
 /// The first identifier octet, with no bit of the tag number (8.1.2.2, 8.1.2.5).
@@ -90,43 +130,67 @@ fn leading_octet(class: Class, constructed: bool) -> u8
     if constructed { class + 0x20 } else { class }
 }
 
-/// Writes a tag number at the end, in groups of seven bits (8.1.2.4.2).
-fn write_groups(out: &mut Vec<u8>, n: u32) -> Result<(), AllocError>
-    ensures { OnOk result (out.new.items ≡ out.old.items ++ groups n) }
+/// Writes a tag number in front of a place, in groups of seven bits (8.1.2.4.2).
+fn write_groups(out: &mut [u8], end: usize, n: u32) -> usize
+    requires room { length (groups n) ≤ end }
+    requires within { end ≤ length out.old }
+    ensures { PutsBefore out.old out.new end (groups n) result }
 {
-    let mut octets = [0u8; 5];
-    let mut first = 4;
-    octets[first] = (n % 128) as u8;
+    let mut begin = end - 1;
+    out[begin] = (n % 128) as u8;
     let mut rest = n / 128;
     while rest != 0 {
-        first -= 1;
-        octets[first] = 128 + (rest % 128) as u8;
+        begin -= 1;
+        out[begin] = 128 + (rest % 128) as u8;
         rest /= 128;
     }
-    out.extend_from_slice(&octets[first..])?;
-    Ok(())
+    begin
 }
 
-/// Writes length octets at the end, the fewest (8.1.3, 10.1).
-#[tactic(auto, unfolding(der_base::specs::Octets::shortest_length))]
-fn write_length(out: &mut Vec<u8>, n: usize) -> Result<(), AllocError>
-    ensures { OnOk result (out.new.items ≡ out.old.items ++ shortest_length n) }
+/// Writes length octets in front of a place, the fewest (8.1.3, 10.1).
+#[tactic(auto, using(der_base::proofs::Numbers::octets_leading), unfolding(der_base::specs::Octets::shortest_length))]
+fn write_length(out: &mut [u8], end: usize, n: usize) -> usize
+    requires room { length (shortest_length n) ≤ end }
+    requires within { end ≤ length out.old }
+    ensures { PutsBefore out.old out.new end (shortest_length n) result }
 {
     if n < 128 {
-        out.push(n as u8)?;
+        write_octet(out, end, n as u8)
     } else {
-        out.push(128 + octet_count(n) as u8)?;
-        write_octets(out, n)?;
+        let begin = write_number(out, end, n);
+        write_octet(out, begin, 128 + (end - begin) as u8)
     }
-    Ok(())
 }
 
-/// Writes the fewest octets of a number at the end, none for 0.
+/// Writes the fewest octets of a number in front of a place, none for 0.
 #[tactic(auto, using(der_base::proofs::Numbers::octets_from_bytes))]
-fn write_octets(out: &mut Vec<u8>, n: usize) -> Result<(), AllocError>
-    ensures { OnOk result (out.new.items ≡ out.old.items ++ octets n) }
+fn write_number(out: &mut [u8], end: usize, n: usize) -> usize
+    requires room { length (octets n) ≤ end }
+    requires within { end ≤ length out.old }
+    ensures { PutsBefore out.old out.new end (octets n) result }
 {
     let zeros = n.leading_zeros() as usize / 8;
-    out.extend_from_slice(&n.to_be_bytes()[zeros..])?;
-    Ok(())
+    write_octets(out, end, &n.to_be_bytes()[zeros..])
+}
+
+/// Writes octets in front of a place.
+fn write_octets(out: &mut [u8], end: usize, octets: &[u8]) -> usize
+    requires room { length octets.now ≤ end }
+    requires within { end ≤ length out.old }
+    ensures { PutsBefore out.old out.new end octets.now result }
+{
+    let begin = end - octets.len();
+    out[begin..end].copy_from_slice(octets);
+    begin
+}
+
+/// Writes an octet in front of a place.
+fn write_octet(out: &mut [u8], end: usize, octet: u8) -> usize
+    requires room { length (octet ∷ []) ≤ end }
+    requires within { end ≤ length out.old }
+    ensures { PutsBefore out.old out.new end (octet ∷ []) result }
+{
+    let begin = end - 1;
+    out[begin] = octet;
+    begin
 }

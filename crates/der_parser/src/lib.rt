@@ -27,7 +27,7 @@ pub mod ber {
 /// Reading by DER.
 pub mod der {
     pub use der_base::header::{Class, Header, Tag, der_read_element_header};
-    pub use der_der::{parse_der, parse_der_recursive};
+    pub use der_der::{parse_der, parse_der_counted, parse_der_recursive};
     pub use der_object::{DerObject, DerObjectContent};
 }
 

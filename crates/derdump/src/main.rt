@@ -2,6 +2,7 @@
 #![tactic(auto)]
 
 mod fault;
+mod hex;
 mod input;
 mod run;
 #[cfg(test)]

@@ -67,7 +67,7 @@ fn print_elements<W: Write + Drop>(
     while !rest.is_empty() {
         match parse_der(alloc, rest) {
             Ok((after, object)) => {
-                write_text(output, &object)?;
+                write_text(output, &object, 0)?;
                 output.write_all(b"\n")?;
                 rest = after;
             }

@@ -111,6 +111,26 @@ const RUNS: &[(&[u8], &str, &str, u8)] = &[
         0,
     ),
     (
+        b"\x30\x0a\x02\x03\x01\x00\x01\x02\x03\x01\x00\x00",
+        "Sequence[\n  Integer([01 00 01])  Integer([01 00 00])]\n",
+        "",
+        0,
+    ),
+    (
+        b"\x31\x04\x30\x02\x05\x00\x30\x00",
+        "Set[\n  Sequence[\n    Null  ]]\nSequence[\n]\n",
+        "",
+        0,
+    ),
+    (b"\x80\x01a\x00\x00", "Unknown [61]\nEndOfContent\n", "", 0),
+    (
+        b"\x05\x00\x30\x03\x02\x02\x01",
+        "Null\n",
+        "error at 2: incomplete, needs 2\n",
+        1,
+    ),
+    (b"\x0c\x01a", "", "error at 0: unsupported\n", 1),
+    (
         b"\x01\x01\xff\x02\x81\x01\x05",
         "Boolean(true)\n",
         "error at 3: DER constraint failed: length not minimal\n",

@@ -1,0 +1,248 @@
+-- Items that are read one after another, and the elements around them.
+use Rattle.std.proofs.Common.{◌≡◌, ◌≢◌, ℕ, zero, suc, ◌+◌, ◌-◌, ◌^◌, ◌<◌, ◌≤◌, Bool, true, false, IsTrue, List, [], ◌∷◌, ◌++◌, length, refl, sym, ap, subst, ◌∙◌, arith, append_assoc, length-append, inl, inr, ⊎_elim, ◌⊎◌, Err, All}
+use Rattle.std.proofs.lemmas.Bool.{cases_lt, false≢true}
+use Rattle.std.proofs.lemmas.List.Elements.{All-nil}
+use Rattle.std.proofs.lemmas.List.{append-nil}
+use Rattle.der_base.specs.declared.header.Class.{Class}
+use Rattle.der_base.specs.declared.header.Class.TheVariants.{Universal, Application, ContextSpecific, Private}
+use Rattle.std.specs.declared.vec.Vec.{Vec}
+use Rattle.std.specs.declared.alloc.Global.{Global}
+use Rattle.der_base.specs.declared.any.Any.{Any}
+use Rattle.der_base.specs.declared.header.Length.TheVariants.{Definite}
+use Rattle.der_base.specs.declared.error.Err.{Err as Refused}
+use Rattle.der_base.specs.declared.error.Err.TheVariants.{Incomplete, Error, Failure, OutOfMemory}
+use Rattle.der_base.specs.declared.error.Error.{Error as BerError}
+use Rattle.der_base.specs.declared.error.Needed.TheVariants.{Unknown, Size}
+use Rattle.der_base.specs.Answer.{MatchAnswer}
+use Rattle.der_base.specs.Cut.{DerLacks}
+use Rattle.der_base.specs.Errors.{CutsItem}
+use Rattle.der_base.specs.DerColumns.{IsContentReadBy}
+use Rattle.der_base.specs.Encoding.{encoding, encodings, element, content_octets}
+use Rattle.der_base.specs.Fault.{DerHeaderRefuses, DerJoins, ItemRefuses}
+use Rattle.der_base.specs.Headers.{BeginsWithDerHeader, DerHeaderLacks}
+use Rattle.der_base.specs.Header.{class_of, is_constructed, number_of, length_of}
+use Rattle.der_base.specs.Leaf.{is_list, is_mapped, IsDerLeaf}
+use Rattle.der_base.specs.Octets.{identifier, shortest_length}
+use Rattle.der_base.specs.Refusal.{Refusal, refusal, incomplete, invalid_length}
+use Rattle.der_base.specs.Spelling.{IsDerContent, AreDerValid, DerSpells, max_object_size}
+use Rattle.der_base.specs.Tree.{Node, node, Content, end_of_content, boolean, integer, bit_string, octet_string, null, enumerated, object_identifier, relative_oid, text, bmp_string, universal_string, time, sequence, set, absent, present, tagged, unknown, Nodes, no_nodes, nodes, content_height, list_height}
+use Rattle.der_base.proofs.DerFaults.{header_shows, size_shows, behind_shows, header_cut_shows_nothing, content_cut_shows_nothing}
+use Rattle.der_base.proofs.DerLacking.{der_header_cut, der_content_cut}
+use Rattle.der_base.proofs.DerWithinBer.{valid_element}
+use Rattle.der_base.proofs.Identifiers.{identifier_short, identifier_long}
+use Rattle.der_object.specs.declared.object.BerObject.{BerObject}
+use Rattle.der_object.specs.declared.object.BerObjectContent.{BerObjectContent}
+use Rattle.der_object.specs.declared.object.BerObjectContent.TheVariants.{Sequence, Set, Unknown}
+use Rattle.der_object.specs.Marks.{HasRawTag, HasShortestMark, HasShortestMarks}
+use Rattle.der_object.specs.View.{tree, content_tree, trees}
+use Rattle.der_object.proofs.Joins.{der_joins_push}
+use Rattle.der_object.proofs.Marks.{sequence_each, set_each, leaf_each, each_push}
+use Rattle.der_object.proofs.Trees.{sequence_tree, set_tree}
+use Rattle.der_der.specs.Leaves.{is_built, IsBuiltType, ColumnRefuses, ReadsDerLeaf, IsDerContentOf}
+use Rattle.der_der.specs.Reading.{IsBuilt, AreBuilt, ReadsDer, AreItems, IsContentOf, DerRefuses, DerIsCut, BeginsWithItems, ContentRefuses}
+
+built_push : (os : List BerObject) (o : BerObject) → AreBuilt (trees os) → IsBuilt (tree o) → AreBuilt (trees (os ++ o ∷ []))
+built_push [] o k h = (h, tt)
+built_push (x ∷ os) o k h = (k.0, built_push os o k.1 h)
+
+leaf_valid : (c : Class) (p : Bool) (t : ℕ) (x : Content) → c ≡ Universal → p ≡ false → IsDerLeaf t x → IsDerContent c p t x
+leaf_valid c p t end_of_content u h k = inl (u, h, k)
+leaf_valid c p t (boolean v) u h k = inl (u, h, k)
+leaf_valid c p t (integer v) u h k = inl (u, h, k)
+leaf_valid c p t (bit_string m v) u h k = inl (u, h, k)
+leaf_valid c p t (octet_string v) u h k = inl (u, h, k)
+leaf_valid c p t null u h k = inl (u, h, k)
+leaf_valid c p t (enumerated n) u h k = inl (u, h, k)
+leaf_valid c p t (object_identifier q v) u h k = inl (u, h, k)
+leaf_valid c p t (relative_oid q v) u h k = inl (u, h, k)
+leaf_valid c p t (text m v) u h k = inl (u, h, k)
+leaf_valid c p t (bmp_string v) u h k = inl (u, h, k)
+leaf_valid c p t (universal_string v) u h k = inl (u, h, k)
+leaf_valid c p t (time m v) u h k = inl (u, h, k)
+leaf_valid c p t (sequence l) u h k = absurd k.0
+leaf_valid c p t (set l) u h k = absurd k.0
+leaf_valid c p t absent u h k = absurd k.0
+leaf_valid c p t (present o) u h k = absurd k.0
+leaf_valid c p t (tagged q m o) u h k = absurd k.0
+leaf_valid c p t (unknown q m n v) u h k = absurd k.0
+
+leaf_built : (t : ℕ) (x : Content) → IsDerLeaf t x → IsContentReadBy IsBuiltType x
+leaf_built t (sequence l) k = absurd k.0
+leaf_built t (set l) k = absurd k.0
+leaf_built t _ k = tt
+
+leaf_height : (t : ℕ) (x : Content) → IsDerLeaf t x → content_height x ≡ 1
+leaf_height t (sequence l) k = absurd k.0
+leaf_height t (set l) k = absurd k.0
+leaf_height t _ k = refl
+
+leaf_tree : (w : List ℕ) (c : Class) (p : Bool) (t : ℕ) (x : Content) (d : ℕ) → c ≡ Universal → 1 ≤ d → IsTrue (is_built t) → ReadsDerLeaf p t w x → IsDerContentOf w c p t x d
+leaf_tree w c p t x d u h b r = record {
+  octets = r.octets;
+  valid = leaf_valid c p t x u r.primitive r.leaf;
+  built = ((λ k m n. b), leaf_built t x r.leaf);
+  depth = omega (arith, leaf_height t x r.leaf, h);
+}
+
+-- the items in front of rest
+pub record Read (w rest : List ℕ) (os : List BerObject) (d : ℕ) : Type 0 where
+  pub read : List ℕ
+  pub parts : w ≡ read ++ rest
+  pub joins : DerJoins read (trees os) d
+  pub built : AreBuilt (trees os)
+  pub marked : All HasShortestMarks os
+
+pub read_none : (w : List ℕ) (d : ℕ) → Read w w [] d
+read_none w d = record { read = []; parts = refl; joins = refl; built = tt; marked = All-nil HasShortestMarks }
+
+pub read_more : (w rest after : List ℕ) (os : List BerObject) (o : BerObject) (d : ℕ) → Read w rest os d → ReadsDer d rest o after → Read w after (os ++ o ∷ []) d
+read_more w rest after os o d h k = record {
+  read = h.read ++ k.spelling;
+  parts = h.parts ∙ ap (λ v. h.read ++ v) k.octets ∙ sym (append_assoc h.read k.spelling after);
+  joins = der_joins_push os h.read k.spelling o d h.joins k.spells;
+  built = built_push os o h.built k.built;
+  marked = each_push HasShortestMark os o h.marked k.marked;
+}
+
+pub read_all : (w rest : List ℕ) (os : List BerObject) (d : ℕ) → Read w rest os d → length rest ≡ 0 → AreItems w os d
+read_all w [] os d h z = record { joins = subst (λ v. DerJoins v (trees os) d) (sym (h.parts ∙ append-nil h.read)) h.joins; built = h.built; marked = h.marked }
+read_all w (b ∷ rest) os d h z = absurd (omega arith)
+
+-- joined items are the encodings of a valid list
+pub record Encoded (w : List ℕ) (l : Nodes) (d : ℕ) : Type 0 where
+  pub octets : w ≡ encodings l
+  pub valid : AreDerValid l
+  pub depth : list_height l ≤ d
+
+pub joins_encoded : (l : Nodes) (w : List ℕ) (d : ℕ) → DerJoins w l d → Encoded w l d
+joins_encoded no_nodes w d j = record { octets = j; valid = tt; depth = omega arith }
+joins_encoded (nodes o l) w d (b, rest, e, h, j) =
+    let k = joins_encoded l rest d j in
+    record {
+      octets = e ∙ ap (λ v. v ++ rest) h.encoded ∙ ap (λ v. encoding o ++ v) k.octets;
+      valid = (h.valid, k.valid);
+      depth = omega (arith, h.depth, k.depth);
+    }
+
+pub sequence_content : (w : List ℕ) (c : Class) (p : Bool) (t : ℕ) (v : Vec BerObject Global) (d : ℕ) → c ≡ Universal → p ≡ true → t ≡ 16 → 1 ≤ d → AreItems w v.items (d - 1) → IsContentOf w c p t (Sequence v) d
+sequence_content w c p t v d ec ep et h j =
+    let q = joins_encoded (trees v.items) w (d - 1) j.joins in
+    let k : IsDerContentOf w c p t (sequence (trees v.items)) d = record { octets = q.octets; valid = (ec, et, ep, q.valid); built = ((λ u m n. absurd (let z = sym (ap is_list et) ∙ n in cc)), j.built); depth = omega (arith, q.depth) } in
+    record { content = subst (λ x. IsDerContentOf w c p t x d) (sym (sequence_tree v)) k; marked = sequence_each HasShortestMark v j.marked }
+
+pub set_content : (w : List ℕ) (c : Class) (p : Bool) (t : ℕ) (v : Vec BerObject Global) (d : ℕ) → c ≡ Universal → p ≡ true → t ≡ 17 → 1 ≤ d → AreItems w v.items (d - 1) → IsContentOf w c p t (Set v) d
+set_content w c p t v d ec ep et h j =
+    let q = joins_encoded (trees v.items) w (d - 1) j.joins in
+    let k : IsDerContentOf w c p t (set (trees v.items)) d = record { octets = q.octets; valid = (ec, et, ep, q.valid); built = ((λ u m n. absurd (let z = sym (ap is_list et) ∙ n in cc)), j.built); depth = omega (arith, q.depth) } in
+    record { content = subst (λ x. IsDerContentOf w c p t x d) (sym (set_tree v)) k; marked = set_each HasShortestMark v j.marked }
+
+pub raw_content : (w : List ℕ) (a : Any) (d : ℕ) → 1 ≤ d → a.bytes.now ≡ w → (class_of a.header ≡ Universal → is_mapped (number_of a.header) ≡ false)
+    → IsContentOf w (class_of a.header) (is_constructed a.header) (number_of a.header) (Unknown a) d
+raw_content w a d h e k = record {
+  content = record {
+    octets = sym e;
+    valid = inr (refl, refl, refl, refl, k);
+    built = ((λ u m n. absurd (false≢true (sym (k u) ∙ m))), tt);
+    depth = h;
+  };
+  marked = tt;
+}
+
+pub leaf_content : (w : List ℕ) (c : Class) (p : Bool) (t : ℕ) (x : BerObjectContent) (d : ℕ) → c ≡ Universal → 1 ≤ d → IsTrue (is_built t) → ReadsDerLeaf p t w (content_tree x) → IsContentOf w c p t x d
+leaf_content w c p t x d u h b r = record {
+  content = leaf_tree w c p t (content_tree x) d u h b r;
+  marked = leaf_each HasShortestMark false t (content_octets (content_tree x)) x r.leaf.0;
+}
+
+-- an element of a header and a content
+pub element_read : (i rest w r : List ℕ) (o : BerObject) (n d : ℕ) → BeginsWithDerHeader i (class_of o.header) (is_constructed o.header) (number_of o.header) n rest → length_of o.header ≡ Definite n → HasRawTag o.header
+    → n ≤ max_object_size → rest ≡ w ++ r → length w ≡ n → IsContentOf w (class_of o.header) (is_constructed o.header) (number_of o.header) o.content d → ReadsDer d i o r
+element_read i rest w r o n d b l raw s e z k =
+    let c = class_of o.header in
+    let p = is_constructed o.header in
+    let t = number_of o.header in
+    let x = content_tree o.content in
+    let v = content_octets x in
+    let f : i ≡ element c p t v ++ r = b.octets ∙ ap (λ q. identifier c p t ++ shortest_length q ++ rest) (sym z) ∙ ap (λ q. identifier c p t ++ shortest_length (length w) ++ q) e
+    ∙ sym (append_assoc (identifier c p t ++ shortest_length (length w)) w r) ∙ ap (λ q. element c p t q ++ r) k.content.octets in
+    let m : n ≡ length v = sym z ∙ ap (λ q. length q) k.content.octets in
+    record {
+      spelling = element c p t v;
+      octets = f;
+      spells = record { encoded = sym (valid_element c p t x k.content.valid); valid = (b.number, k.content.valid); depth = k.content.depth; size = omega (arith, m) };
+      built = k.content.built;
+      marked = (record { raw_tag = raw; length = l ∙ ap Definite m }, k.marked);
+    }
+
+-- a refusal of the content, at the depth of the element
+pub content_refused : (d : ℕ) (i rest w r : List ℕ) (c : Class) (p : Bool) (t n : ℕ) (e : Refusal) → 1 ≤ d → BeginsWithDerHeader i c p t n rest → n ≤ max_object_size → rest ≡ w ++ r → length w ≡ n
+    → ContentRefuses c p t w d e → DerRefuses d i e
+content_refused zero i rest w r c p t n e h b s o z q = absurd (omega arith)
+content_refused (suc d) i rest w r c p t n e h b s o z (u, m, q) =
+    let k : suc d - 1 ≡ d = omega arith in
+    behind_shows ColumnRefuses IsBuiltType d i rest c p t n e b (inr (s, u, m, w, r, o, z, rw k at q))
+
+some_octets : (r : List ℕ) → 0 < length r → r ≢ []
+some_octets r h e = omega (arith, h, ap (λ l. length l) e)
+
+-- the refusal of an item is that of its list
+pub item_answer : {T T' : Type 0} (P : T → Type 0) (P' : T' → Type 0) (M M' : Type 0) (Q : Refusal → Type 0) (d : ℕ) (r : List ℕ) (e e' : Refused BerError) → CutsItem e e' → 0 < length r
+    → MatchAnswer {T = T} (Err e) P (DerRefuses d r) (DerIsCut d r) M → ((x : Refusal) → ItemRefuses (DerRefuses d) DerLacks r x → Q x) → (M → M')
+    → MatchAnswer {T = T'} (Err e') P' Q (λ _. ⊥) M'
+item_answer P P' M M' Q d r (Error x) e' k some h f g = rw k (f (refusal x) (some_octets r some, inl h))
+item_answer P P' M M' Q d r (Incomplete (Size n)) e' k some h f g = rw k (f (incomplete (Size n)) (some_octets r some, inr (n, h.0, h.1, h.2, refl)))
+item_answer P P' M M' Q d r (Incomplete Unknown) e' k some h f g = absurd h
+item_answer P P' M M' Q d r (Failure x) e' k some h f g = absurd h
+item_answer P P' M M' Q d r OutOfMemory e' k some h f g = rw k (g h)
+
+universal_or_not : (c : Class) → (c ≡ Universal) ⊎ (c ≢ Universal)
+universal_or_not Universal = inl refl
+universal_or_not Application = inr (λ e. cc)
+universal_or_not ContextSpecific = inr (λ e. cc)
+universal_or_not Private = inr (λ e. cc)
+
+-- an identifier has an octet
+identifier_octets : (c : Class) (p : Bool) (t : ℕ) → 0 < length (identifier c p t)
+identifier_octets c p t =
+    ⊎_elim
+    (λ h. omega (arith, ap length (identifier_short c p t h)))
+    (λ h. omega (arith, ap length (identifier_long c p t h)))
+    (cases_lt t 31)
+
+-- refusals and cuts of a header, at a depth of at least 1
+pub header_refused : (d : ℕ) (i : List ℕ) (e : Refusal) → 1 ≤ d → DerHeaderRefuses i e → DerRefuses d i e
+header_refused zero i e h r = absurd (omega arith)
+header_refused (suc d) i e h r = header_shows ColumnRefuses IsBuiltType d i e r
+
+pub header_cut : (d : ℕ) (i : List ℕ) (n : ℕ) → 1 ≤ d → DerHeaderLacks i n → DerIsCut d i n
+header_cut zero i n h l = absurd (omega arith)
+header_cut (suc d) i n h l = let q = der_header_cut i n l in (q.0, q.1, λ e r. header_cut_shows_nothing ColumnRefuses IsBuiltType d i n e l r)
+
+pub size_refused : (d : ℕ) (i rest : List ℕ) (c : Class) (p : Bool) (t n : ℕ) → 1 ≤ d → BeginsWithDerHeader i c p t n rest → max_object_size < n → DerRefuses d i invalid_length
+size_refused zero i rest c p t n h b s = absurd (omega arith)
+size_refused (suc d) i rest c p t n h b s = size_shows ColumnRefuses IsBuiltType d i rest c p t n b s
+
+pub content_cut : (d : ℕ) (i rest : List ℕ) (c : Class) (p : Bool) (t m n : ℕ) → 1 ≤ d → BeginsWithDerHeader i c p t m rest → m ≤ max_object_size → length rest < m
+    → (c ≡ Universal → n ≡ m) → (c ≢ Universal → length rest + n ≡ m) → DerIsCut d i n
+content_cut zero i rest c p t m n h b s l u o = absurd (omega arith)
+content_cut (suc d) i rest c p t m n h b s l u o =
+    let q = der_content_cut i rest c p t m b l in
+    (q.0, lacks (universal_or_not c), λ e r. content_cut_shows_nothing ColumnRefuses IsBuiltType d i rest c p t m e b l s r)
+  where
+    lacks : (c ≡ Universal) ⊎ (c ≢ Universal) → DerLacks i n
+    lacks (inl k) = rw (u k) ((der_content_cut i rest c p t m b l).1.0 k)
+    lacks (inr k) = (der_content_cut i rest c p t m b l).1.1 k n (o k)
+
+pub content_memory : (d : ℕ) (i rest w r : List ℕ) (c : Class) (p : Bool) (t n : ℕ) → BeginsWithDerHeader i c p t n rest → rest ≡ w ++ r → length w ≡ n
+    → (2 ≤ d) × (c ≡ Universal) × (p ≡ true) × IsTrue (is_list t) × (w ≢ []) → (2 ≤ d) × BeginsWithItems i
+content_memory d i rest w r c p t n b o z (deep, u, q, k, some) = (deep, (t, w, r, k, some, begins))
+  where
+    begins : BeginsWithDerHeader i Universal true t (length w) (w ++ r)
+    begins = rw (z, ← o, ← u, ← q) b
+
+pub header_shorter : (i rest : List ℕ) (c : Class) (p : Bool) (t n : ℕ) → BeginsWithDerHeader i c p t n rest → length rest < length i
+header_shorter i rest c p t n b =
+    omega (arith, ap length b.octets, length-append (identifier c p t ++ shortest_length n) rest, length-append (identifier c p t) (shortest_length n), identifier_octets c p t)
+
+pub some_content : (w u r : List ℕ) → w ≡ u ++ r → 0 < length r → w ≢ []
+some_content w u r e h z = omega (arith, h, ap (λ l. length l) z, ap (λ l. length l) e, length-append u r)

@@ -1,0 +1,128 @@
+//! One element of DER and what is inside it: element, content and items call each other, a depth less at each list.
+ghost use Rattle.std.specs.Prelude.{◌≡◌, ◌≢◌, ◌+◌, ◌-◌, ◌<◌, ◌≤◌, ℕ, List, [], ◌++◌, IfOk, IsOkAnd, IsTrue, length, true};
+ghost use Rattle.der_base.specs.declared.header.Class.{Class};
+ghost use Rattle.der_base.specs.Answer.{MatchAnswer, AnswersError, AnswersIncomplete};
+ghost use Rattle.der_base.specs.Errors.{CutsItem};
+ghost use Rattle.der_base.specs.Header.{class_of, is_constructed, number_of};
+ghost use Rattle.der_base.specs.Leaf.{is_list};
+ghost use Rattle.der_base.specs.Refusal.{Refusal};
+ghost use Rattle.der_base.specs.Spelling.{DerSpells};
+ghost use Rattle.der_base.specs.Tree.{Node};
+ghost use Rattle.der_der.specs.Reading.{ReadsDer, AreItems, IsContentOf, DerRefuses, DerIsCut, NeedsMemory, ContentRefuses, ItemsRefuse};
+
+use crate::leaf::{is_mapped, read_leaf};
+use der_base::MAX_OBJECT_SIZE;
+use der_base::any::Any;
+use der_base::error::{BerError, Err, Needed};
+use der_base::header::{Header, HeaderCount, Tag, der_header_counted};
+use der_object::{BerObject, BerObjectContent, BerResult};
+use std::alloc::Global;
+
+/// One element in front.
+#[cycle(reader)]
+pub fn read_element<'a>(
+    alloc: Global,
+    i: &'a [u8],
+    max_depth: usize,
+    count: &mut HeaderCount,
+) -> BerResult<'a>
+    ensures found { MatchAnswer result (λ x. ReadsDer max_depth i.now x.1 x.0.now) (DerRefuses max_depth i.now) (DerIsCut max_depth i.now) (NeedsMemory max_depth i.now) }
+    ensures shorter { IfOk result (λ x. length x.0.now < length i.now) }
+{
+    if max_depth == 0 {
+        return Err(Err::Error(BerError::BerMaxDepth));
+    }
+    let (rest, header) = der_header_counted(i, count)?;
+    let length = header.length().definite()?;
+    if length > MAX_OBJECT_SIZE {
+        return Err(Err::Error(BerError::InvalidLength));
+    }
+    if rest.len() < length {
+        return Err(Err::Incomplete(Needed::Size(lacking(&header, length, rest))));
+    }
+    let (content, rest) = rest.split_at(length);
+    let content = read_content(alloc, header, content, max_depth, count)?;
+    Ok((rest, BerObject::from_header_and_content(header, content)))
+}
+
+/// How many octets a content lacks that is cut short: by DER the whole length for class Universal.
+fn lacking(header: &Header<'_>, size: usize, rest: &[u8]) -> usize
+    requires { length rest.now < size }
+    ensures universal { class_of header.now ≡ Class.Universal → result ≡ size }
+    ensures other { class_of header.now ≢ Class.Universal → length rest.now + result ≡ size }
+{
+    if header.is_universal() {
+        size
+    } else {
+        size - rest.len()
+    }
+}
+
+/// The content of an element behind its header.
+#[cycle(reader)]
+fn read_content<'a>(
+    alloc: Global,
+    header: Header<'a>,
+    content: &'a [u8],
+    max_depth: usize,
+    count: &mut HeaderCount,
+) -> Result<BerObjectContent<'a>, Err<BerError>>
+    requires { 1 ≤ max_depth }
+    ensures { let h = header.entry in MatchAnswer result
+        (λ x. IsContentOf content.now (class_of h) (is_constructed h) (number_of h) x max_depth)
+        (ContentRefuses (class_of h) (is_constructed h) (number_of h) content.now max_depth)
+        (λ _. ⊥)
+        ((2 ≤ max_depth) × (class_of h ≡ Class.Universal) × (is_constructed h ≡ true) × IsTrue (is_list (number_of h)) × (content.now ≢ [])) }
+{
+    let tag = header.tag();
+    if !header.is_universal() || !is_mapped(tag) {
+        return Ok(BerObjectContent::Unknown(Any::new(header, content)));
+    }
+    if tag == Tag::Sequence {
+        header.assert_constructed()?;
+        return Ok(BerObjectContent::Sequence(read_items(alloc, content, max_depth - 1, count)?));
+    }
+    if tag == Tag::Set {
+        header.assert_constructed()?;
+        return Ok(BerObjectContent::Set(read_items(alloc, content, max_depth - 1, count)?));
+    }
+    Ok(read_leaf(header.constructed(), tag, content)?)
+}
+
+/// The elements that content octets join.
+#[cycle(reader)]
+fn read_items<'a>(
+    alloc: Global,
+    content: &'a [u8],
+    max_depth: usize,
+    count: &mut HeaderCount,
+) -> Result<Vec<BerObject<'a>>, Err<BerError>>
+    ensures { MatchAnswer result
+        (λ v. AreItems content.now v.items max_depth)
+        (ItemsRefuse content.now max_depth)
+        (λ _. ⊥)
+        ((1 ≤ max_depth) × (content.now ≢ [])) }
+{
+    let mut items = Vec::new(alloc);
+    let mut rest = content;
+    while !rest.is_empty() {
+        match read_element(alloc, rest, max_depth, count) {
+            Ok((after, item)) => {
+                items.push(item)?;
+                rest = after;
+            }
+            Err(e) => return Err(cut_item(e)),
+        }
+    }
+    Ok(items)
+}
+
+/// An item that is cut short by the end of its list is refused: more octets behind the list don't help.
+fn cut_item(e: Err<BerError>) -> Err<BerError>
+    ensures { CutsItem e result }
+{
+    match e {
+        Err::Incomplete(needed) => Err::Error(BerError::Incomplete(needed)),
+        other => other,
+    }
+}

@@ -1,0 +1,4 @@
+pub mod Joins
+pub mod Marks
+pub mod Room
+pub mod Trees

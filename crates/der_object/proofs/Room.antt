@@ -1,0 +1,20 @@
+-- Octets that were written in front of others.
+use Rattle.std.proofs.Common.{◌≡◌, ℕ, ◌≤◌, List, [], ◌++◌, length, drop, refl, ap, ◌∙◌, sym, arith, append_assoc, length-append}
+use Rattle.std.proofs.lemmas.List.{append-nil, drop_all}
+use Rattle.der_object.specs.Room.{PutsBefore}
+
+pub puts_none : (old : List ℕ) (end : ℕ) → PutsBefore old old end [] end
+puts_none old end = record { begins = omega arith; octets = refl }
+
+-- first y, and then x in front of it
+pub puts_both : {a b c x y : List ℕ} {end mid begin : ℕ} → PutsBefore a b end y mid → PutsBefore b c mid x begin → PutsBefore a c end (x ++ y) begin
+puts_both {a = a} {x = x} {y = y} {end = end} h k = record {
+  begins = omega (arith, h.begins, k.begins, length-append x y);
+  octets = k.octets ∙ ap (λ w. x ++ w) h.octets ∙ sym (append_assoc x y (drop end a));
+}
+
+-- octets that fill the room are all that is there
+pub puts_all : {old new w : List ℕ} {end begin : ℕ} → PutsBefore old new end w begin → length w ≡ end → length old ≤ end → new ≡ w
+puts_all {old = old} {new = new} {w = w} {end = end} {begin = begin} h fills most =
+    let b : begin ≡ 0 = omega (arith, h.begins) in
+    sym (ap (λ n. drop n new) b) ∙ h.octets ∙ ap (λ l. w ++ l) (drop_all end old most) ∙ append-nil w

@@ -1,0 +1,48 @@
+use Rattle.std.proofs.Common.{rules, ◌≡◌, ◌≤◌, ◌-◌, length, ap, ◌∙◌, arith, length-append}
+use Rattle.der_base.specs.Encoding.{encoding, encodings, content_octets}
+use Rattle.der_base.specs.Header.{class_of, is_constructed, number_of}
+use Rattle.der_base.specs.Octets.{identifier, shortest_length}
+use Rattle.der_object.specs.declared.object.BerObjectContent.{the_lemmas}
+use Rattle.der_object.specs.View.{tree, trees, content_tree}
+use Rattle.der_object.proofs.Room.{puts_both}
+use Rattle.der_object.proofs.Trees.{sequence_tree, set_tree, plain_encoding, encoding_length, item_room}
+use Rattle.der_object.proofs.serialize.+serialize.Goals as goal
+
+pub write_content-write_items-requires : goal.write_content-write_items-requires
+write_content-write_items-requires t c =
+    let w = ap content_octets (ap content_tree c.in-Sequence.is ∙ sequence_tree c.in-Sequence.items) in
+    let room : length (encodings (trees c.deref.result.now)) ≤ c.args.end = rw (c.deref.ensures.value) (omega (arith, ap length w)) in
+    search (rules, the_lemmas)
+
+pub write_content-write_items-requires-in-Set : goal.write_content-write_items-requires-in-Set
+write_content-write_items-requires-in-Set t c =
+    let w = ap content_octets (ap content_tree c.in-Set.is ∙ set_tree c.in-Set.items) in
+    let room : length (encodings (trees c.deref-in-Set.result.now)) ≤ c.args.end = rw (c.deref-in-Set.ensures.value) (omega (arith, ap length w)) in
+    search (rules, the_lemmas)
+
+pub write_items-write_object-begin-requires : goal.write_items-write_object-begin-requires
+write_items-write_object-begin-requires t c =
+    let o = c.index-items-i.result in
+    let within = item_room c.args.items.now c.loop-i.i o c.loop-i-test.true c.loop-i.auto.i c.index-items-i.is in
+    let room : length (encoding (tree o)) ≤ c.loop-i.begin = omega (arith, within, c.loop-i.invariant.begins) in
+    search (rules, the_lemmas)
+
+pub write_object-write_content-content-requires : goal.write_object-write_content-content-requires
+write_object-write_content-content-requires t c =
+    let o = c.args.o.now in
+    let room : length (content_octets (content_tree o.content)) ≤ c.args.end = omega (arith, encoding_length o.header o.content) in
+    search (rules, the_lemmas)
+
+pub write_object-write_header-requires-clause-room : goal.write_object-write_header-requires-clause-room
+write_object-write_header-requires-clause-room t c =
+    let o = c.args.o.now in
+    let w = content_octets (content_tree o.content) in
+    let begins = c.write_content-content.ensures.begins in
+    let n : c.args.end - c.write_content-content.result ≡ length w = omega (arith, begins) in
+    rw n (omega (arith, begins, encoding_length o.header o.content, length-append (identifier (class_of o.header) (is_constructed o.header) (number_of o.header)) (shortest_length (length w))))
+
+pub write_object-returns : goal.write_object-returns
+write_object-returns t c =
+    let o = c.args.o.now in
+    let n : c.args.end - c.write_content-content.result ≡ length (content_octets (content_tree o.content)) = omega (arith, c.write_content-content.ensures.begins) in
+    rw (plain_encoding o.header o.content) (puts_both c.write_content-content.ensures (rw n at c.write_header.ensures))
