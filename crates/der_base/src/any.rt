@@ -33,17 +33,14 @@ impl<'a> Any<'a> {
 
     /// An element of a universal type, of the length that its content octets have; constructed for
     /// SEQUENCE and SET, with no raw tag.
-    pub fn from_tag_and_data(tag: Tag, data: &'a [u8]) -> Any<'a>
-        ensures header { IsHeader result.header Class.Universal (is_list tag.0) tag.0 (Length.Definite (length data.entry.now)) None }
-        ensures bytes { result.bytes ≡ data.entry }
+    pub fn from_tag_and_data(tag: Tag, bytes: &'a [u8]) -> Any<'a>
+        ensures header { IsHeader result.header Class.Universal (is_list tag.0) tag.0 (Length.Definite (length bytes.entry.now)) None }
+        ensures bytes { result.bytes ≡ bytes.entry }
     {
         let constructed = tag == Tag::Sequence || tag == Tag::Set;
-        let length = Length::Definite(data.len());
+        let length = Length::Definite(bytes.len());
         let header = Header::new(Class::Universal, constructed, tag, length);
-        Any {
-            header,
-            bytes: data,
-        }
+        Any { header, bytes }
     }
 
     /// The same element with another class.
@@ -71,8 +68,10 @@ impl<'a> Any<'a> {
         self.header.tag()
     }
 
-    /// Reads an element as DER writes its header, with as many content octets as that says, and answers what is left of the input.
-    /// Refusals are those of `der_read_element_header`; Incomplete with the number of octets that the header or the content lacks. It takes no memory.
+    /// Reads an element as DER writes its header, with as many content octets as that says, and
+    /// answers what is left of the input. Refusals are those of `der_read_element_header`;
+    /// Incomplete with the number of octets that the header or the content lacks. It takes no
+    /// memory.
     pub fn from_der(i: &'a [u8]) -> IResult<&'a [u8], Any<'a>, BerError>
         ensures found { MatchAnswer result (λ x. ReadsDerAny i.now x.1 x.0.now) (DerHeaderRefuses i.now) (DerAnyLacks i.now) ⊥ }
         ensures only { (c : Class) (p : Bool) (t : ℕ) (w rest : List ℕ) → BeginsWithDerHeader i.now c p t (length w) (w ++ rest)

@@ -152,7 +152,8 @@ pub enum Error {
     /// Objects are nested deeper than was asked for.
     #[error("maximum depth reached")]
     BerMaxDepth,
-    /// Length octets are reserved or too large (8.1.3.5), or their number fits no value of the type.
+    /// Length octets are reserved or too large (8.1.3.5), or their number fits no value of the
+    /// type.
     #[error("invalid length")]
     InvalidLength,
     /// Identifier octets are no tag number, or one above 2^32-1 (8.1.2.4).

@@ -423,12 +423,13 @@ fn parts_of(length: Length) -> (bool, usize)
     }
 }
 
-/// Reads the header in front of an element as BER allows it: identifier octets (X.690 8.1.2), and a length in any
-/// octets, definite or, where constructed, indefinite (8.1.3). The header has its identifier octets as raw tag.
+/// Reads the header in front of an element as BER allows it: identifier octets (X.690 8.1.2), and a
+/// length in any octets, definite or, where constructed, indefinite (8.1.3). The header has its
+/// identifier octets as raw tag.
 ///
-/// Refusals: InvalidTag, InvalidLength, and ConstructExpected for an indefinite length behind a primitive
-/// identifier, each at the octet that shows it; Incomplete with the number of octets that a header lacks which
-/// is cut short. It takes no memory.
+/// Refusals: InvalidTag, InvalidLength, and ConstructExpected for an indefinite length behind a
+/// primitive identifier, each at the octet that shows it; Incomplete with the number of octets that
+/// a header lacks which is cut short. It takes no memory.
 pub fn ber_read_element_header(i: &[u8]) -> IResult<&[u8], Header<'_>, BerError>
     ensures found { MatchAnswer result (λ x. ReadsHeader i.now x.1 x.0.now) (BerHeaderRefuses i.now) (BerHeaderLacks i.now) ⊥ }
     ensures only { (c : Class) (p : Bool) (t : ℕ) (l : Length) (rest : List ℕ) → BeginsWithHeader i.now c p t l rest
@@ -448,8 +449,8 @@ fn read_ber_header(i: &[u8]) -> IResult<&[u8], Header<'_>, BerError>
     Ok((rest, header_of(identifier, length)))
 }
 
-/// Reads the header in front of an element, as DER writes it: identifier octets (X.690 8.1.2), and a
-/// definite length in the fewest octets (10.1). The header has its identifier octets as raw tag.
+/// Reads the header in front of an element, as DER writes it: identifier octets (X.690 8.1.2), and
+/// a definite length in the fewest octets (10.1). The header has its identifier octets as raw tag.
 ///
 /// Refusals: InvalidTag, InvalidLength, and of DerConstraintFailed IndefiniteLength and
 /// LengthNotMinimal, each at the octet that shows it; Incomplete with the number of octets that a
@@ -490,7 +491,8 @@ fn header_of(identifier: Identifier<'_>, length: Length) -> Header<'_>
     }
 }
 
-/// How many headers were read: one for each call of a counted reader. It stays at its greatest value.
+/// How many headers were read: one for each call of a counted reader. It stays at its greatest
+/// value.
 #[derive(Debug, Drop)]
 pub struct HeaderCount(u128);
 

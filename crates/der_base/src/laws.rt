@@ -35,7 +35,8 @@ pub fn never_both()
     ensures der { WrittenPassDer }
 {}
 
-/// Content octets of a universal type that has contents of its own, and is no list, have a content or are refused.
+/// Content octets of a universal type that has contents of its own, and is no list, have a content
+/// or are refused.
 pub fn always_one()
     ensures ber { ReadOrRefusedByBer }
     ensures der { WrittenOrRefusedByDer }

@@ -1,13 +1,13 @@
 -- An object that begins the input, a refusal, and an input that is cut short: one of them holds at most, and each in one way.
-use Rattle.std.proofs.Common.{◌≡◌, ℕ, Bool, true, false, IsTrue, List, [], ◌∷◌, ◌++◌, refl, sym, ap, ◌∙◌, arith, inl, inr}
+use Rattle.std.proofs.Common.{◌≡◌, ℕ, Bool, true, false, IsTrue, List, [], ◌∷◌, ◌++◌, refl, sym, ◌∙◌, inl, inr}
 use Rattle.std.proofs.lemmas.Bool.{false≢true}
 use Rattle.der_base.specs.declared.error.DerConstraint.TheVariants.{Constructed}
 use Rattle.der_base.specs.Encoding.{content_octets}
-use Rattle.der_base.specs.Leaf.{is_list, is_mapped, IsDerLeaf}
-use Rattle.der_base.specs.LeafRefusal.{Test, IsFirstRefusal, choose, refuse, DerLeafRefuses, der_primitive_tests, der_tests}
+use Rattle.der_base.specs.Leaf.{is_list}
+use Rattle.der_base.specs.LeafRefusal.{Test, IsFirstRefusal, choose, refuse, DerLeafRefuses, der_primitive_tests}
 use Rattle.der_base.specs.Refusal.{Refusal, construct_expected, unsupported, der_constraint}
 use Rattle.der_base.specs.Spelling.{DerSpells}
-use Rattle.der_base.specs.Tree.{Node, Content}
+use Rattle.der_base.specs.Tree.{Node}
 use Rattle.der_base.proofs.DerFaults.{ColumnLaws, spelled_shows_nothing, shows_one}
 use Rattle.der_base.proofs.DerLacking.{der_lacks_same}
 use Rattle.der_base.proofs.DerWithinBer.{der_spelling_same, der_spelled_not_cut}

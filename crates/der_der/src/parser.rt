@@ -25,15 +25,18 @@ pub fn parse_der<'a>(alloc: Global, i: &'a [u8]) -> BerResult<'a>
     parse_der_recursive(alloc, i, MAX_RECURSION)
 }
 
-/// Reads one object in DER, and answers what is left of the input: Ok exactly where the input begins with the one DER
-/// spelling of an object, nested no deeper than `max_depth` and with content octets of at most `MAX_OBJECT_SIZE`. Each header
-/// has the length and the identifier octets as read.
+/// Reads one object in DER, and answers what is left of the input: Ok exactly where the input
+/// begins with the one DER spelling of an object, nested no deeper than `max_depth` and with
+/// content octets of at most `MAX_OBJECT_SIZE`. Each header has the length and the identifier
+/// octets as read.
 ///
-/// Refusals, in this order: BerMaxDepth at depth 0; those of `der_read_element_header`; InvalidLength above
-/// `MAX_OBJECT_SIZE`; Incomplete where the content is cut short, with the whole length for class Universal and with what is missing
-/// for others; ConstructExpected for a primitive SEQUENCE or SET, and of DerConstraintFailed Constructed for another universal type; those of the
-/// type; those of the first item that is refused, at a depth less, where an item that its list cuts short is the refusal Incomplete.
-/// OutOfMemory only at depth 2 and more, where the input begins with a whole list that has items.
+/// Refusals, in this order: BerMaxDepth at depth 0; those of `der_read_element_header`;
+/// InvalidLength above `MAX_OBJECT_SIZE`; Incomplete where the content is cut short, with the whole
+/// length for class Universal and with what is missing for others; ConstructExpected for a
+/// primitive SEQUENCE or SET, and the constraint Constructed for another type that is constructed;
+/// those of the type; those of the first item that is refused, at a depth less, where an item that
+/// its list cuts short is the refusal Incomplete. OutOfMemory only at depth 2 and more, where the
+/// input begins with a whole list that has items.
 pub fn parse_der_recursive<'a>(alloc: Global, i: &'a [u8], max_depth: usize) -> BerResult<'a>
     ensures found { MatchAnswer result (λ x. ReadsDer max_depth i.now x.1 x.0.now) (DerRefuses max_depth i.now) (DerIsCut max_depth i.now) (NeedsMemory max_depth i.now) }
     ensures only { (b rest : List ℕ) (o : Node) → IsBuilt o → DerSpells b o max_depth → i.now ≡ b ++ rest

@@ -1,4 +1,5 @@
-//! One element of DER and what is inside it: element, content and items call each other, a depth less at each list.
+//! One element of DER and what is inside it: element, content and items call each other, a depth
+//! less at each list.
 ghost use Rattle.std.specs.Prelude.{◌≡◌, ◌≢◌, ◌+◌, ◌-◌, ◌<◌, ◌≤◌, ℕ, List, [], ◌++◌, IfOk, IsOkAnd, IsTrue, length, true};
 ghost use Rattle.der_base.specs.declared.header.Class.{Class};
 ghost use Rattle.der_base.specs.Answer.{MatchAnswer, AnswersError, AnswersIncomplete};
@@ -117,7 +118,8 @@ fn read_items<'a>(
     Ok(items)
 }
 
-/// An item that is cut short by the end of its list is refused: more octets behind the list don't help.
+/// An item that is cut short by the end of its list is refused: more octets behind the list don't
+/// help.
 fn cut_item(e: Err<BerError>) -> Err<BerError>
     ensures { CutsItem e result }
 {

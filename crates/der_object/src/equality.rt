@@ -1,4 +1,5 @@
-//! Equality: objects are equal where their trees are. The length and the raw tag of a header don't count.
+//! Equality: objects are equal where their trees are. The length and the raw tag of a header don't
+//! count.
 ghost use Rattle.std.specs.Prelude.{◌≡◌, ◌↔◌, IsTrue};
 ghost use Rattle.der_base.specs.Same.{same_node, same_content, same_nodes};
 ghost use Rattle.der_object.specs.View.{tree, content_tree, trees};

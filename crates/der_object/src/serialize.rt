@@ -1,7 +1,8 @@
-//! The octets of an object: the header as DER writes it (X.690 8.1.2, 10.1), and the content octets.
+//! The octets of an object: the header as DER writes it (X.690 8.1.2, 10.1), and the content
+//! octets.
 //!
-//! They are written from the last to the first: a length is written when its content stands already,
-//! so that no content is measured again for each list around it.
+//! They are written from the last to the first: a length is written when its content stands
+//! already, so that no content is measured again for each list around it.
 ghost use Rattle.std.specs.Prelude.{◌≡◌, ◌≢◌, ℕ, ◌+◌, ◌-◌, ◌*◌, ◌<◌, ◌≤◌, ◌^◌, ◌↔◌, ◌⊎◌, [], ◌∷◌, ◌++◌, length, IfOk, IfErr};
 ghost use Rattle.std.specs.Result.{IsErrOf};
 ghost use Rattle.der_base.specs.Encoding.{encoding, encodings, content_octets};

@@ -1,12 +1,15 @@
 //! What the program does, over any reader and writers.
 ghost use Rattle.std.specs.Prelude.{◌≡◌, ◌≢◌, ◌≤◌, ◌↔◌, codes, length, IfSome, OnOk};
 ghost use Rattle.std.specs.Io.KnownBytes.{IsAtEnd};
+ghost use Rattle.derdump.specs.Elements.{AreDerElements};
 
 use crate::fault::Fault;
 use crate::input::read_input;
 use crate::text::write_text;
+use der_parser::ber::BerObject;
 use der_parser::parse_der;
 use std::alloc::Global;
+use std::io;
 use std::io::{BufWriter, Read, Write};
 
 /// Prints the elements that the reader gives, each one's text on a line of its own, and answers
@@ -26,8 +29,10 @@ pub fn run<R: Read, W: Write, X: Write>(
     ensures unread { word.now ≢ codes "der" → reader.new ≡ reader.old }
     ensures unwritten { word.now ≢ codes "der" → out.new ≡ out.old }
 
-    // No fault: the whole input was read, it is no larger than the limit, and nothing was told.
+    // No fault: the whole input was read, it is DER throughout and no larger than the limit, and
+    // nothing was told.
     ensures whole { result ≡ 0 → IsAtEnd (R.remaining reader.new) }
+    ensures elements { result ≡ 0 → IfSome (R.remaining reader.old) AreDerElements }
     ensures bounded { result ≡ 0 → IfSome (R.remaining reader.old) (λ xs. length xs ≤ 67108864) }
     ensures quiet { result ≡ 0 → err.new ≡ err.old }
 {
@@ -47,6 +52,7 @@ pub fn run<R: Read, W: Write, X: Write>(
 /// Reads everything, and then prints the elements.
 fn dump<R: Read, W: Write>(alloc: Global, reader: &mut R, out: &mut W) -> Result<(), Fault>
     ensures whole { OnOk result (IsAtEnd (R.remaining reader.new)) }
+    ensures elements { OnOk result (IfSome (R.remaining reader.old) AreDerElements) }
     ensures bounded { OnOk result (IfSome (R.remaining reader.old) (λ xs. length xs ≤ 67108864)) }
 {
     let input = read_input(alloc, reader)?;
@@ -62,13 +68,14 @@ fn print_elements<W: Write + Drop>(
     alloc: Global,
     input: &[u8],
     output: &mut BufWriter<W>,
-) -> Result<(), Fault> {
+) -> Result<(), Fault>
+    ensures { OnOk result (AreDerElements input.now) }
+{
     let mut rest = input;
     while !rest.is_empty() {
         match parse_der(alloc, rest) {
             Ok((after, object)) => {
-                write_text(output, &object, 0)?;
-                output.write_all(b"\n")?;
+                print_line(output, object)?;
                 rest = after;
             }
             Err(reason) => {
@@ -80,6 +87,12 @@ fn print_elements<W: Write + Drop>(
     }
     output.flush()?;
     Ok(())
+}
+
+/// Writes the text of an object on a line of its own, and lets go of the object.
+fn print_line<W: Write>(output: &mut W, object: BerObject<'_>) -> io::Result<()> {
+    write_text(output, &object, 0)?;
+    output.write_all(b"\n")
 }
 
 /// Writes a line about a fault, and lets go of a fault of that.

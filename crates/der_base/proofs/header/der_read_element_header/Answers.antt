@@ -1,5 +1,3 @@
-use Rattle.std.proofs.Common.{Some, sym, ◌∙◌, ap}
-use Rattle.der_base.specs.Header.{IsHeader, class_of, is_constructed, number_of}
 use Rattle.der_base.proofs.Answering.{only_ok, only_error, only_incomplete}
 use Rattle.der_base.proofs.DerHeaders.{der_header_not_refused, der_header_not_lacking, der_header_refusal_same, der_header_only}
 use Rattle.der_base.proofs.HeaderLaws.{header_lacks_same}

@@ -1,15 +1,9 @@
-use Rattle.std.proofs.Common.{◌≡◌, ℕ, ◌+◌, ◌<◌, ◌≤◌, Bool, List, ◌∷◌, ◌++◌, length, length-append, take, Err, refl, sym, ap, ◌∙◌, subst, arith}
+use Rattle.std.proofs.Common.{◌≡◌, ℕ, ◌+◌, ◌<◌, ◌≤◌, Bool, List, ◌∷◌, ◌++◌, length, length-append, take, refl, sym, ap, ◌∙◌, subst, arith}
 use Rattle.std.proofs.lemmas.List.{nil_from_length, take_at}
 use Rattle.std.proofs.lemmas.Result.{err_from_is_err_and}
 use Rattle.der_base.specs.declared.header.Class.{Class}
-use Rattle.der_base.specs.declared.error.Err.{Err as Refused}
-use Rattle.der_base.specs.declared.error.Err.TheVariants.{Incomplete, Error, Failure, OutOfMemory}
-use Rattle.der_base.specs.declared.error.Error.{Error as BerError}
-use Rattle.der_base.specs.declared.error.Needed.TheVariants.{Unknown, Size}
-use Rattle.der_base.specs.Answer.{MatchAnswer}
 use Rattle.der_base.specs.Identifier.{IsCutIdentifier}
 use Rattle.der_base.specs.Octets.{identifier, groups, leading_bits}
-use Rattle.der_base.specs.Refusal.{Refusal, refusal}
 use Rattle.der_base.proofs.Answering.{passed_on}
 use Rattle.der_base.proofs.Identifiers.{identifier_short, identifier_long}
 use Rattle.der_base.proofs.TagNumbers.{cut_empty, cut_behind, bad_tag_behind}

@@ -1,4 +1,4 @@
-use Rattle.std.proofs.Common.{◌≡◌, ◌≢◌, ◌<◌, ◌≤◌, ◌+◌, ◌-◌, ◌++◌, true, IsTrue, length, length-append, take, sym, ap, subst, ◌∙◌, arith, rules, inl, inr, refl}
+use Rattle.std.proofs.Common.{◌≡◌, ◌<◌, ◌≤◌, ◌++◌, true, IsTrue, length, take, sym, ap, ◌∙◌, arith, rules, inl}
 use Rattle.std.proofs.lemmas.Bool.Decides.{nat_tests}
 use Rattle.std.proofs.lemmas.List.{take-append-drop}
 use Rattle.std.proofs.lemmas.Result.{err_from_is_err_and}
@@ -11,7 +11,7 @@ use Rattle.der_base.proofs.Answering.{passed_on}
 use Rattle.der_base.proofs.DerWithinBer.{content_tall}
 use Rattle.der_object.specs.View.{content_tree, trees}
 use Rattle.der_der.specs.Leaves.{ColumnRefuses}
-use Rattle.der_der.proofs.Items.{sequence_content, set_content, header_refused, header_cut, size_refused, content_cut, content_refused, content_memory, element_read, header_shorter, item_answer, some_content, read_none, read_more, read_all}
+use Rattle.der_der.proofs.Items.{sequence_content, set_content, header_refused, header_cut, size_refused, content_cut, content_refused, content_memory, element_read, header_shorter, item_answer, some_content, read_more, read_all}
 use Rattle.der_der.proofs.reader.+reader.Goals as goal
 
 pub read_content-returns-then-eq : goal.read_content-returns-then-eq

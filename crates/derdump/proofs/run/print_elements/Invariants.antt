@@ -1,8 +1,13 @@
 use Rattle.std.proofs.Common.{length, ◌≤◌}
+use Rattle.derdump.specs.Elements.{AreDerElements}
 use Rattle.derdump.proofs.run.print_elements.Given as goal
 
+-- the input is in order if what is left of it is
 abbrev pub invariant-loop-rest : goal.invariant-loop-rest
-invariant-loop-rest g l = length l.rest ≤ length l.input
+invariant-loop-rest g l = record {
+  in_range : length l.rest ≤ length l.input;
+  read : AreDerElements l.rest → AreDerElements l.input;
+}
 
 abbrev pub decreases-loop-rest : goal.decreases-loop-rest
 decreases-loop-rest g l = length l.rest
