@@ -137,15 +137,15 @@ set_content w c p t v d ec ep et h j =
     record { content = subst (λ x. IsDerContentOf w c p t x d) (sym (set_tree v)) k; marked = set_each HasShortestMark v j.marked }
 
 pub raw_content : (w : List ℕ) (a : Any) (d : ℕ) → 1 ≤ d → a.bytes.now ≡ w → (class_of a.header ≡ Universal → is_mapped (number_of a.header) ≡ false)
-    → IsContentOf w (class_of a.header) (is_constructed a.header) (number_of a.header) (Unknown a) d
-raw_content w a d h e k = record {
+    → HasShortestMark a.header (content_tree (Unknown a)) → IsContentOf w (class_of a.header) (is_constructed a.header) (number_of a.header) (Unknown a) d
+raw_content w a d h e k m = record {
   content = record {
     octets = sym e;
     valid = inr (refl, refl, refl, refl, k);
     built = ((λ u m n. absurd (false≢true (sym (k u) ∙ m))), tt);
     depth = h;
   };
-  marked = tt;
+  marked = m;
 }
 
 pub leaf_content : (w : List ℕ) (c : Class) (p : Bool) (t : ℕ) (x : BerObjectContent) (d : ℕ) → c ≡ Universal → 1 ≤ d → IsTrue (is_built t) → ReadsDerLeaf p t w (content_tree x) → IsContentOf w c p t x d

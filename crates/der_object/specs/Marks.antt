@@ -9,7 +9,7 @@ use Rattle.der_base.specs.Spelling.{Form, form, Forms, no_forms, forms}
 use Rattle.der_base.specs.Tree.{Content}
 use Rattle.der_object.specs.declared.object.BerObject.{BerObject}
 use Rattle.der_object.specs.declared.object.BerObjectContent.{BerObjectContent, Row_of-BerObject, end_of-BerObject, more_of-BerObject}
-use Rattle.der_object.specs.declared.object.BerObjectContent.TheVariants.{Sequence', Set'}
+use Rattle.der_object.specs.declared.object.BerObjectContent.TheVariants.{Sequence', Set', Unknown}
 use Rattle.der_object.specs.View.{content_tree}
 
 abbrev mutual
@@ -32,10 +32,11 @@ forms_of [] = no_forms
 forms_of (o ∷ os) = forms (form_of o) (forms_of os)
 
 abbrev mutual
-  -- the fact holds of each item's header with the content behind it, at any depth
+  -- the fact holds of each item's header with the content behind it, at any depth, and of the header that an unknown content keeps
   pub EachInside : (Header → Content → Type 0) → BerObjectContent → Type 0
   EachInside P (Sequence' shape row) = EachInRow P row
   EachInside P (Set' shape row) = EachInRow P row
+  EachInside P (Unknown a) = P a.header (content_tree (Unknown a))
   EachInside P _ = Unit {0}
 
   pub EachInRow : {m : _} → (Header → Content → Type 0) → Row_of-BerObject m → Type 0
