@@ -8,6 +8,7 @@ use Rattle.der_base.specs.declared.header.Class.TheVariants.{Universal, Applicat
 use Rattle.std.specs.declared.vec.Vec.{Vec}
 use Rattle.std.specs.declared.alloc.Global.{Global}
 use Rattle.der_base.specs.declared.any.Any.{Any}
+use Rattle.der_base.specs.declared.header.Header.{Header}
 use Rattle.der_base.specs.declared.header.Length.TheVariants.{Definite}
 use Rattle.der_base.specs.declared.error.Err.{Err as Refused}
 use Rattle.der_base.specs.declared.error.Err.TheVariants.{Incomplete, Error, Failure, OutOfMemory}
@@ -36,7 +37,7 @@ use Rattle.der_object.specs.declared.object.BerObjectContent.TheVariants.{Sequen
 use Rattle.der_object.specs.Marks.{HasRawTag, HasShortestMark, HasShortestMarks}
 use Rattle.der_object.specs.View.{tree, content_tree, trees}
 use Rattle.der_object.proofs.Joins.{der_joins_push}
-use Rattle.der_object.proofs.Marks.{sequence_each, set_each, leaf_each, each_push}
+use Rattle.der_object.proofs.Marks.{sequence_each, set_each, leaf_each, leaf_keeps, each_push}
 use Rattle.der_object.proofs.Trees.{sequence_tree, set_tree}
 use Rattle.der_der.specs.Leaves.{is_built, IsBuiltType, ColumnRefuses, ReadsDerLeaf, IsDerContentOf}
 use Rattle.der_der.specs.Reading.{IsBuilt, AreBuilt, ReadsDer, AreItems, IsContentOf, DerRefuses, DerIsCut, BeginsWithItems, ContentRefuses}
@@ -124,39 +125,40 @@ joins_encoded (nodes o l) w d (b, rest, e, h, j) =
       depth = omega (arith, h.depth, k.depth);
     }
 
-pub sequence_content : (w : List ℕ) (c : Class) (p : Bool) (t : ℕ) (v : Vec BerObject Global) (d : ℕ) → c ≡ Universal → p ≡ true → t ≡ 16 → 1 ≤ d → AreItems w v.items (d - 1) → IsContentOf w c p t (Sequence v) d
-sequence_content w c p t v d ec ep et h j =
+pub sequence_content : (w : List ℕ) (h : Header) (v : Vec BerObject Global) (d : ℕ) → class_of h ≡ Universal → is_constructed h ≡ true → number_of h ≡ 16 → 1 ≤ d → AreItems w v.items (d - 1) → IsContentOf w h (Sequence v) d
+sequence_content w h v d ec ep et le j =
     let q = joins_encoded (trees v.items) w (d - 1) j.joins in
-    let k : IsDerContentOf w c p t (sequence (trees v.items)) d = record { octets = q.octets; valid = (ec, et, ep, q.valid); built = ((λ u m n. absurd (let z = sym (ap is_list et) ∙ n in cc)), j.built); depth = omega (arith, q.depth) } in
-    record { content = subst (λ x. IsDerContentOf w c p t x d) (sym (sequence_tree v)) k; marked = sequence_each HasShortestMark v j.marked }
+    let k : IsDerContentOf w (class_of h) (is_constructed h) (number_of h) (sequence (trees v.items)) d = record { octets = q.octets; valid = (ec, et, ep, q.valid); built = ((λ u m n. absurd (let z = sym (ap is_list et) ∙ n in cc)), j.built); depth = omega (arith, q.depth) } in
+    record { content = subst (λ x. IsDerContentOf w (class_of h) (is_constructed h) (number_of h) x d) (sym (sequence_tree v)) k; kept = tt; marked = sequence_each HasShortestMark v j.marked }
 
-pub set_content : (w : List ℕ) (c : Class) (p : Bool) (t : ℕ) (v : Vec BerObject Global) (d : ℕ) → c ≡ Universal → p ≡ true → t ≡ 17 → 1 ≤ d → AreItems w v.items (d - 1) → IsContentOf w c p t (Set v) d
-set_content w c p t v d ec ep et h j =
+pub set_content : (w : List ℕ) (h : Header) (v : Vec BerObject Global) (d : ℕ) → class_of h ≡ Universal → is_constructed h ≡ true → number_of h ≡ 17 → 1 ≤ d → AreItems w v.items (d - 1) → IsContentOf w h (Set v) d
+set_content w h v d ec ep et le j =
     let q = joins_encoded (trees v.items) w (d - 1) j.joins in
-    let k : IsDerContentOf w c p t (set (trees v.items)) d = record { octets = q.octets; valid = (ec, et, ep, q.valid); built = ((λ u m n. absurd (let z = sym (ap is_list et) ∙ n in cc)), j.built); depth = omega (arith, q.depth) } in
-    record { content = subst (λ x. IsDerContentOf w c p t x d) (sym (set_tree v)) k; marked = set_each HasShortestMark v j.marked }
+    let k : IsDerContentOf w (class_of h) (is_constructed h) (number_of h) (set (trees v.items)) d = record { octets = q.octets; valid = (ec, et, ep, q.valid); built = ((λ u m n. absurd (let z = sym (ap is_list et) ∙ n in cc)), j.built); depth = omega (arith, q.depth) } in
+    record { content = subst (λ x. IsDerContentOf w (class_of h) (is_constructed h) (number_of h) x d) (sym (set_tree v)) k; kept = tt; marked = set_each HasShortestMark v j.marked }
 
-pub raw_content : (w : List ℕ) (a : Any) (d : ℕ) → 1 ≤ d → a.bytes.now ≡ w → (class_of a.header ≡ Universal → is_mapped (number_of a.header) ≡ false)
-    → HasShortestMark a.header (content_tree (Unknown a)) → IsContentOf w (class_of a.header) (is_constructed a.header) (number_of a.header) (Unknown a) d
-raw_content w a d h e k m = record {
+pub raw_content : (w : List ℕ) (h : Header) (a : Any) (d : ℕ) → 1 ≤ d → a.header ≡ h → a.bytes.now ≡ w → (class_of h ≡ Universal → is_mapped (number_of h) ≡ false) → IsContentOf w h (Unknown a) d
+raw_content w h a d le q e k = record {
   content = record {
     octets = sym e;
-    valid = inr (refl, refl, refl, refl, k);
+    valid = inr (ap class_of q, ap is_constructed q, ap number_of q, refl, k);
     built = ((λ u m n. absurd (false≢true (sym (k u) ∙ m))), tt);
-    depth = h;
+    depth = le;
   };
-  marked = m;
+  kept = q;
+  marked = tt;
 }
 
-pub leaf_content : (w : List ℕ) (c : Class) (p : Bool) (t : ℕ) (x : BerObjectContent) (d : ℕ) → c ≡ Universal → 1 ≤ d → IsTrue (is_built t) → ReadsDerLeaf p t w (content_tree x) → IsContentOf w c p t x d
-leaf_content w c p t x d u h b r = record {
-  content = leaf_tree w c p t (content_tree x) d u h b r;
-  marked = leaf_each HasShortestMark false t (content_octets (content_tree x)) x r.leaf.0;
+pub leaf_content : (w : List ℕ) (h : Header) (x : BerObjectContent) (d : ℕ) → class_of h ≡ Universal → 1 ≤ d → IsTrue (is_built (number_of h)) → ReadsDerLeaf (is_constructed h) (number_of h) w (content_tree x) → IsContentOf w h x d
+leaf_content w h x d u le b r = record {
+  content = leaf_tree w (class_of h) (is_constructed h) (number_of h) (content_tree x) d u le b r;
+  kept = leaf_keeps h false (number_of h) (content_octets (content_tree x)) x r.leaf.0;
+  marked = leaf_each HasShortestMark false (number_of h) (content_octets (content_tree x)) x r.leaf.0;
 }
 
 -- an element of a header and a content
 pub element_read : (i rest w r : List ℕ) (o : BerObject) (n d : ℕ) → BeginsWithDerHeader i (class_of o.header) (is_constructed o.header) (number_of o.header) n rest → length_of o.header ≡ Definite n → HasRawTag o.header
-    → n ≤ max_object_size → rest ≡ w ++ r → length w ≡ n → IsContentOf w (class_of o.header) (is_constructed o.header) (number_of o.header) o.content d → ReadsDer d i o r
+    → n ≤ max_object_size → rest ≡ w ++ r → length w ≡ n → IsContentOf w o.header o.content d → ReadsDer d i o r
 element_read i rest w r o n d b l raw s e z k =
     let c = class_of o.header in
     let p = is_constructed o.header in
@@ -171,7 +173,7 @@ element_read i rest w r o n d b l raw s e z k =
       octets = f;
       spells = record { encoded = sym (valid_element c p t x k.content.valid); valid = (b.number, k.content.valid); depth = k.content.depth; size = omega (arith, m) };
       built = k.content.built;
-      marked = (record { raw_tag = raw; length = l ∙ ap Definite m }, k.marked);
+      marked = (record { raw_tag = raw; length = l ∙ ap Definite m; kept = k.kept }, k.marked);
     }
 
 -- a refusal of the content, at the depth of the element

@@ -5,6 +5,8 @@ use Rattle.der_base.specs.declared.header.Class.TheVariants.{Universal}
 use Rattle.der_base.specs.Cut.{IsCut, DerLacks}
 use Rattle.der_base.specs.DerColumns.{IsReadBy, AreReadBy, ShowsBy, ShowsInsideBy}
 use Rattle.der_base.specs.Fault.{DerJoins, ItemRefuses}
+use Rattle.der_base.specs.declared.header.Header.{Header}
+use Rattle.der_base.specs.Header.{class_of, is_constructed, number_of}
 use Rattle.der_base.specs.Headers.{BeginsWithDerHeader}
 use Rattle.der_base.specs.Leaf.{is_list, is_mapped}
 use Rattle.der_base.specs.Refusal.{Refusal}
@@ -12,7 +14,7 @@ use Rattle.der_base.specs.Spelling.{DerSpells}
 use Rattle.der_base.specs.Tree.{Node, Nodes}
 use Rattle.der_object.specs.declared.object.BerObject.{BerObject}
 use Rattle.der_object.specs.declared.object.BerObjectContent.{BerObjectContent}
-use Rattle.der_object.specs.Marks.{EachInside, HasShortestMark, HasShortestMarks}
+use Rattle.der_object.specs.Marks.{EachInside, KeepsHeader, HasShortestMark, HasShortestMarks}
 use Rattle.der_object.specs.View.{tree, content_tree, trees}
 use Rattle.der_der.specs.Leaves.{IsBuiltType, ColumnRefuses, IsDerContentOf}
 
@@ -62,7 +64,8 @@ pub record AreItems (w : List ℕ) (os : List BerObject) (d : ℕ) : Type 0 wher
   pub built : AreBuilt (trees os)
   pub marked : All HasShortestMarks os
 
--- the octets w are the content of an object with this class, bit and number, to depth d
-pub record IsContentOf (w : List ℕ) (c : Class) (p : Bool) (t : ℕ) (x : BerObjectContent) (d : ℕ) : Type 0 where
-  pub content : IsDerContentOf w c p t (content_tree x) d
+-- the octets w are the content of an object with this header, to depth d
+pub record IsContentOf (w : List ℕ) (h : Header) (x : BerObjectContent) (d : ℕ) : Type 0 where
+  pub content : IsDerContentOf w (class_of h) (is_constructed h) (number_of h) (content_tree x) d
+  pub kept : KeepsHeader h x
   pub marked : EachInside HasShortestMark x

@@ -2,15 +2,13 @@
 //! less at each list.
 ghost use Rattle.std.specs.Prelude.{◌≡◌, ◌≢◌, ◌+◌, ◌-◌, ◌<◌, ◌≤◌, ℕ, List, [], ◌++◌, IfOk, IsOkAnd, IsTrue, length, true};
 ghost use Rattle.der_base.specs.declared.header.Class.{Class};
-ghost use Rattle.der_base.specs.declared.header.Length.{Length};
 ghost use Rattle.der_base.specs.Answer.{MatchAnswer, AnswersError, AnswersIncomplete};
 ghost use Rattle.der_base.specs.Errors.{CutsItem};
-ghost use Rattle.der_base.specs.Header.{class_of, is_constructed, length_of, number_of};
+ghost use Rattle.der_base.specs.Header.{class_of, is_constructed, number_of};
 ghost use Rattle.der_base.specs.Leaf.{is_list};
 ghost use Rattle.der_base.specs.Refusal.{Refusal};
 ghost use Rattle.der_base.specs.Spelling.{DerSpells};
 ghost use Rattle.der_base.specs.Tree.{Node};
-ghost use Rattle.der_object.specs.Marks.{HasRawTag};
 ghost use Rattle.der_der.specs.Reading.{ReadsDer, AreItems, IsContentOf, DerRefuses, DerIsCut, NeedsMemory, ContentRefuses, ItemsRefuse};
 
 use crate::leaf::{is_mapped, read_leaf};
@@ -70,11 +68,9 @@ fn read_content<'a>(
     max_depth: usize,
     count: &mut HeaderCount,
 ) -> Result<BerObjectContent<'a>, Err<BerError>>
-    requires depth { 1 ≤ max_depth }
-    requires raw_tag { HasRawTag header }
-    requires length { length_of header ≡ Length.Definite (length content.now) }
+    requires { 1 ≤ max_depth }
     ensures { let h = header.entry in MatchAnswer result
-        (λ x. IsContentOf content.now (class_of h) (is_constructed h) (number_of h) x max_depth)
+        (λ x. IsContentOf content.now h x max_depth)
         (ContentRefuses (class_of h) (is_constructed h) (number_of h) content.now max_depth)
         (λ _. ⊥)
         ((2 ≤ max_depth) × (class_of h ≡ Class.Universal) × (is_constructed h ≡ true) × IsTrue (is_list (number_of h)) × (content.now ≢ [])) }

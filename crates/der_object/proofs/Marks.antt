@@ -10,12 +10,11 @@ use Rattle.der_base.specs.Encoding.{content_octets, encodings}
 use Rattle.der_base.specs.Header.{length_of}
 use Rattle.der_base.specs.Leaf.{IsLeafContent}
 use Rattle.der_base.specs.Spelling.{no_forms, forms}
-use Rattle.der_base.specs.Tree.{Content}
 use Rattle.der_object.specs.declared.object.BerObject.{BerObject}
 use Rattle.der_object.specs.declared.object.BerObjectContent.{BerObjectContent, Row_of-BerObject, end_of-BerObject, more_of-BerObject, items-the_row-BerObject}
 use Rattle.der_object.specs.declared.object.BerObjectContent.TheVariants.{Sequence, Set, Sequence', Set', Unknown}
 use Rattle.der_object.specs.declared.object.BerObjectContent.TheBlock.{hidden-the_row-BerObject-0, items_hidden-the_row-BerObject-0}
-use Rattle.der_object.specs.Marks.{inner_forms, row_forms, form_of, forms_of, EachInside, EachInRow, EachHeader, HasRawTag, HasShortestMark, HasRawTags, HasShortestMarks}
+use Rattle.der_object.specs.Marks.{inner_forms, row_forms, form_of, forms_of, EachInside, EachInRow, EachHeader, HasRawTag, KeepsHeader, HasMark, HasShortestMark, HasMarks, HasShortestMarks}
 use Rattle.der_object.specs.View.{content_tree, trees}
 use Rattle.der_object.proofs.Trees.{sequence_tree, set_tree}
 
@@ -35,7 +34,7 @@ leaf_forms p t w (Sequence' shape row) h = absurd h
 leaf_forms p t w (Set' shape row) h = absurd h
 leaf_forms p t w _ h = refl
 
-module _ (P : Header → Content → Type 0) where
+module _ (P : Header → BerObjectContent → Type 0) where
   row_each : {m : _} (k : Row_of-BerObject m) → AllByRecursion (EachHeader P) (items-the_row-BerObject m k) → EachInRow P k
   row_each end_of-BerObject a = tt
   row_each (more_of-BerObject h x rest) a = (a.0.0, a.0.1, row_each rest a.1)
@@ -66,29 +65,33 @@ module _ (P : Header → Content → Type 0) where
   pub leaf_each : (p : Bool) (t : ℕ) (w : List ℕ) (x : BerObjectContent) → IsLeafContent p t w (content_tree x) → EachInside P x
   leaf_each p t w (Sequence' shape row) h = absurd h
   leaf_each p t w (Set' shape row) h = absurd h
-  leaf_each p t w (Unknown a) h = absurd h
   leaf_each p t w _ h = tt
 
   -- one more item
   pub each_push : (os : List BerObject) (o : BerObject) → All (EachHeader P) os → EachHeader P o → All (EachHeader P) (os ++ o ∷ [])
   each_push os o a h = All-append (EachHeader P) os (o ∷ []) a (All-cons (EachHeader P) o [] h (All-nil (EachHeader P)))
 
--- a list has raw tags where its header and its items have them
-pub sequence_raw_tags : (o : BerObject) (v : Vec BerObject Global) → o.content ≡ Sequence v → HasRawTag o.header → All HasRawTags v.items → HasRawTags o
-sequence_raw_tags o v e h a = (h, subst (EachInside (λ h x. HasRawTag h)) (sym e) (sequence_each (λ h x. HasRawTag h) v a))
+-- a list has marks where its header has one and its items have theirs
+pub sequence_marks : (o : BerObject) (v : Vec BerObject Global) → o.content ≡ Sequence v → HasRawTag o.header → All HasMarks v.items → HasMarks o
+sequence_marks o v e h a = (record { raw_tag = h; kept = subst (KeepsHeader o.header) (sym e) tt }, subst (EachInside HasMark) (sym e) (sequence_each HasMark v a))
 
-pub set_raw_tags : (o : BerObject) (v : Vec BerObject Global) → o.content ≡ Set v → HasRawTag o.header → All HasRawTags v.items → HasRawTags o
-set_raw_tags o v e h a = (h, subst (EachInside (λ h x. HasRawTag h)) (sym e) (set_each (λ h x. HasRawTag h) v a))
+pub set_marks : (o : BerObject) (v : Vec BerObject Global) → o.content ≡ Set v → HasRawTag o.header → All HasMarks v.items → HasMarks o
+set_marks o v e h a = (record { raw_tag = h; kept = subst (KeepsHeader o.header) (sym e) tt }, subst (EachInside HasMark) (sym e) (set_each HasMark v a))
 
 -- the same of lengths in the DER form, where the list's is that of its items together
 pub sequence_shortest_marks : (o : BerObject) (v : Vec BerObject Global) → o.content ≡ Sequence v → HasRawTag o.header
     → length_of o.header ≡ Definite (length (encodings (trees v.items))) → All HasShortestMarks v.items → HasShortestMarks o
 sequence_shortest_marks o v e h n a =
     let l = ap (λ x. length (content_octets x)) (ap content_tree e ∙ sequence_tree v) in
-    (record { raw_tag = h; length = n ∙ ap Definite (sym l) }, subst (EachInside HasShortestMark) (sym e) (sequence_each HasShortestMark v a))
+    (record { raw_tag = h; length = n ∙ ap Definite (sym l); kept = subst (KeepsHeader o.header) (sym e) tt }, subst (EachInside HasShortestMark) (sym e) (sequence_each HasShortestMark v a))
 
 pub set_shortest_marks : (o : BerObject) (v : Vec BerObject Global) → o.content ≡ Set v → HasRawTag o.header
     → length_of o.header ≡ Definite (length (encodings (trees v.items))) → All HasShortestMarks v.items → HasShortestMarks o
 set_shortest_marks o v e h n a =
     let l = ap (λ x. length (content_octets x)) (ap content_tree e ∙ set_tree v) in
-    (record { raw_tag = h; length = n ∙ ap Definite (sym l) }, subst (EachInside HasShortestMark) (sym e) (set_each HasShortestMark v a))
+    (record { raw_tag = h; length = n ∙ ap Definite (sym l); kept = subst (KeepsHeader o.header) (sym e) tt }, subst (EachInside HasShortestMark) (sym e) (set_each HasShortestMark v a))
+
+-- the content of a leaf has no header to keep
+pub leaf_keeps : (h : Header) (p : Bool) (t : ℕ) (w : List ℕ) (x : BerObjectContent) → IsLeafContent p t w (content_tree x) → KeepsHeader h x
+leaf_keeps h p t w (Unknown a) k = absurd k
+leaf_keeps h p t w _ k = tt

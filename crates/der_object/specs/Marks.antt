@@ -6,7 +6,6 @@ use Rattle.der_base.specs.Encoding.{content_octets}
 use Rattle.der_base.specs.Header.{class_of, is_constructed, number_of, length_of, raw_tag_of}
 use Rattle.der_base.specs.Octets.{identifier}
 use Rattle.der_base.specs.Spelling.{Form, form, Forms, no_forms, forms}
-use Rattle.der_base.specs.Tree.{Content}
 use Rattle.der_object.specs.declared.object.BerObject.{BerObject}
 use Rattle.der_object.specs.declared.object.BerObjectContent.{BerObjectContent, Row_of-BerObject, end_of-BerObject, more_of-BerObject}
 use Rattle.der_object.specs.declared.object.BerObjectContent.TheVariants.{Sequence', Set', Unknown}
@@ -32,34 +31,44 @@ forms_of [] = no_forms
 forms_of (o ∷ os) = forms (form_of o) (forms_of os)
 
 abbrev mutual
-  -- the fact holds of each item's header with the content behind it, at any depth, and of the header that an unknown content keeps
-  pub EachInside : (Header → Content → Type 0) → BerObjectContent → Type 0
+  -- the fact holds of each item's header and content, at any depth
+  pub EachInside : (Header → BerObjectContent → Type 0) → BerObjectContent → Type 0
   EachInside P (Sequence' shape row) = EachInRow P row
   EachInside P (Set' shape row) = EachInRow P row
-  EachInside P (Unknown a) = P a.header (content_tree (Unknown a))
   EachInside P _ = Unit {0}
 
-  pub EachInRow : {m : _} → (Header → Content → Type 0) → Row_of-BerObject m → Type 0
+  pub EachInRow : {m : _} → (Header → BerObjectContent → Type 0) → Row_of-BerObject m → Type 0
   EachInRow P end_of-BerObject = Unit {0}
-  EachInRow P (more_of-BerObject h x rest) = P h (content_tree x) × EachInside P x × EachInRow P rest
+  EachInRow P (more_of-BerObject h x rest) = P h x × EachInside P x × EachInRow P rest
 
 -- and of the object's own
-abbrev pub EachHeader : (Header → Content → Type 0) → BerObject → Type 0
-EachHeader P o = P o.header (content_tree o.content) × EachInside P o.content
+abbrev pub EachHeader : (Header → BerObjectContent → Type 0) → BerObject → Type 0
+EachHeader P o = P o.header o.content × EachInside P o.content
 
 -- the raw tag is there, and is the header's identifier octets
 abbrev pub HasRawTag : Header → Type 0
 HasRawTag h = raw_tag_of h ≡ Some (identifier (class_of h) (is_constructed h) (number_of h))
 
--- the same, and the length is definite and that of the content octets
-pub record HasShortestMark (h : Header) (x : Content) : Type 0 where
+-- an unknown content keeps the header of its object
+abbrev pub KeepsHeader : Header → BerObjectContent → Type 0
+KeepsHeader h (Unknown a) = a.header ≡ h
+KeepsHeader h _ = Unit {0}
+
+-- the raw tag is there, and the content keeps the header
+pub record HasMark (h : Header) (x : BerObjectContent) : Type 0 where
   pub raw_tag : HasRawTag h
-  pub length : length_of h ≡ Definite (length (content_octets x))
+  pub kept : KeepsHeader h x
 
--- an object whose headers all have their raw tags
-abbrev pub HasRawTags : BerObject → Type 0
-HasRawTags o = EachHeader (λ h x. HasRawTag h) o
+-- the same, and the length is definite and that of the content octets
+pub record HasShortestMark (h : Header) (x : BerObjectContent) : Type 0 where
+  pub raw_tag : HasRawTag h
+  pub length : length_of h ≡ Definite (length (content_octets (content_tree x)))
+  pub kept : KeepsHeader h x
 
--- an object whose headers all have their raw tags and, as DER spells them, their lengths
+-- an object whose headers all have their raw tags, also those that unknown contents keep
+abbrev pub HasMarks : BerObject → Type 0
+HasMarks o = EachHeader HasMark o
+
+-- and, as DER spells them, their lengths
 abbrev pub HasShortestMarks : BerObject → Type 0
 HasShortestMarks o = EachHeader HasShortestMark o

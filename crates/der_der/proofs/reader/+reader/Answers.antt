@@ -20,7 +20,7 @@ read_content-returns-then-eq t c =
     let universal : class_of h ≡ Universal = search rules in
     let constructed : is_constructed h ≡ true = search rules in
     let number : number_of h ≡ 16 = search rules in
-    sequence_content c.args.content.now (class_of h) (is_constructed h) (number_of h) c.in_ok-read_items.field-0 c.args.max_depth universal constructed number c.requires.depth c.in_ok-read_items.ensures
+    sequence_content c.args.content.now h c.in_ok-read_items.field-0 c.args.max_depth universal constructed number c.requires c.in_ok-read_items.ensures
 
 pub read_content-returns-then-eq-2 : goal.read_content-returns-then-eq-2
 read_content-returns-then-eq-2 t c =
@@ -28,7 +28,7 @@ read_content-returns-then-eq-2 t c =
     let universal : class_of h ≡ Universal = search rules in
     let constructed : is_constructed h ≡ true = search rules in
     let number : number_of h ≡ 17 = search rules in
-    set_content c.args.content.now (class_of h) (is_constructed h) (number_of h) c.in_ok-read_items-2.field-0 c.args.max_depth universal constructed number c.requires.depth c.in_ok-read_items-2.ensures
+    set_content c.args.content.now h c.in_ok-read_items-2.field-0 c.args.max_depth universal constructed number c.requires c.in_ok-read_items-2.ensures
 
 pub read_element-returns-in_err-rest-clause-found : goal.read_element-returns-in_err-rest-clause-found
 read_element-returns-in_err-rest-clause-found t c =
