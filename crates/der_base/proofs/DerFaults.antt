@@ -43,7 +43,7 @@ kind readable c p t (sequence l) h k = inl (l, record { class = h.0; list = ap i
 kind readable c p t (set l) h k = inl (l, record { class = h.0; list = ap is_list h.1; constructed = h.2; valid = h.3; octets = refl; height = refl }, k)
 kind readable c p t x h k = inr h
 
-kept_unmapped : (c : Class) (p : Bool) (t : ℕ) (w : List ℕ) (x : Content) → IsKept c p t w x → c ≡ Universal → is_mapped t ≡ false
+pub kept_unmapped : (c : Class) (p : Bool) (t : ℕ) (w : List ℕ) (x : Content) → IsKept c p t w x → c ≡ Universal → is_mapped t ≡ false
 kept_unmapped c p t w (unknown c' p' t' v) h u = h.4 u
 kept_unmapped c p t w _ h u = absurd h
 
@@ -63,7 +63,7 @@ or_last false b e = e
 pub list_mapped : (t : ℕ) → IsTrue (is_list t) → IsTrue (is_mapped t)
 list_mapped t h = or_last _ (is_list t) h
 
-is_false : (b : Bool) → (IsTrue b → ⊥) → b ≡ false
+pub is_false : (b : Bool) → (IsTrue b → ⊥) → b ≡ false
 is_false true n = absurd (n refl)
 is_false false n = refl
 

@@ -16,7 +16,7 @@ use Rattle.der_base.proofs.BerHeaders.{ber_header_not_refused, ber_header_refusa
 use Rattle.der_base.proofs.Framed.{at_marker, element_same}
 use Rattle.der_base.proofs.Identifiers.{head_same, identifier_same}
 use Rattle.der_base.proofs.Raws.{definite_not_open, marker_is, open_not_end, zero_length}
-use Rattle.der_base.proofs.Restated.{raws_are}
+use Rattle.der_base.proofs.Restated.{raws_are, are_raws}
 use Rattle.der_base.proofs.Shapes.{cut_is_none}
 
 -- headers in front
@@ -50,6 +50,12 @@ begins_framed i k c p t w rest (ht, hk, inl (s, hs, e)) =
     (identifier c p t ++ (s ++ w), Definite (length w), definite s refl ht hk hs refl, e ∙ ap (λ l. l ++ rest) (append_assoc (identifier c p t) s w))
 begins_framed i k c p t w rest (ht, hk, inr (ep, h2, hw, e)) =
     (identifier c p t ++ (128 ∷ w ++ end_marker), Indefinite, indefinite refl ep ht h2 (raws_are hw) refl, e ∙ ap (λ l. l ++ rest) (append_assoc (identifier c p t) (128 ∷ w) end_marker))
+
+-- and back
+pub framed_begins : {b : List ℕ} {h : Length} {c : Class} {p : Bool} {t : ℕ} {w : List ℕ} {k : ℕ} (rest : List ℕ) → IsElement b h c p t w k → BeginsWithElement (b ++ rest) k c p t w rest
+framed_begins rest (definite {c = c} {p = p} {t = t} {w = w} s eh ht hk hs d) = (ht, hk, inl (s, hs, ap (λ l. l ++ rest) (d ∙ sym (append_assoc (identifier c p t) s w))))
+framed_begins rest (indefinite {c = c} {p = p} {t = t} {w = w} eh ep ht hk hw d) =
+    (ht, omega (arith, hk), inr (ep, hk, are_raws hw, ap (λ l. l ++ rest) (d ∙ sym (append_assoc (identifier c p t) (128 ∷ w) end_marker))))
 
 -- the end marker is a header too
 pub marker_has_header : (i x : List ℕ) → i ≡ end_marker ++ x → BeginsWithHeader i Universal false 0 (Definite 0) x

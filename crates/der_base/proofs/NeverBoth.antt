@@ -72,7 +72,7 @@ not_primitive : ¬ (false ≡ true)
 not_primitive h = cc
 
 -- no number is one of a text and of a list
-text_no_list : (k : ℕ) → is_text_type k ≡ true → is_list k ≡ false
+pub text_no_list : (k : ℕ) → is_text_type k ≡ true → is_list k ≡ false
 text_no_list k h = at (k == 16) refl (k == 17) refl
   where
     at : (b : Bool) → (k == 16) ≡ b → (c : Bool) → (k == 17) ≡ c → is_list k ≡ false

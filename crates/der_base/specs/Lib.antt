@@ -1,6 +1,7 @@
 pub mod Answer
 pub mod Any
 pub mod Arcs
+pub mod BerColumns
 pub mod Count
 pub mod Cut
 pub mod DerColumns
