@@ -2,6 +2,7 @@ pub mod Answer
 pub mod Any
 pub mod Arcs
 pub mod BerColumns
+pub mod Content
 pub mod Count
 pub mod Cut
 pub mod DerColumns

@@ -2,16 +2,21 @@
 ghost use Rattle.std.specs.Prelude.{◌≡◌, ◌++◌, ℕ, Bool, IsOkAnd, List, None, Some, length};
 ghost use Rattle.der_base.specs.declared.header.Class.{Class};
 ghost use Rattle.der_base.specs.Answer.{MatchAnswer, AnswersError, AnswersIncomplete};
-ghost use Rattle.der_base.specs.Any.{ReadsDerAny, DerAnyLacks};
+ghost use Rattle.der_base.specs.Any.{ReadsAny, AnyRefuses, AnyLacks, ReadsDerAny, DerAnyLacks};
 ghost use Rattle.der_base.specs.Fault.{DerHeaderRefuses};
 ghost use Rattle.der_base.specs.Header.{IsHeader, class_of, is_constructed, number_of, length_of, raw_tag_of};
 ghost use Rattle.der_base.specs.Headers.{BeginsWithDerHeader};
 ghost use Rattle.der_base.specs.Leaf.{is_list};
 ghost use Rattle.der_base.specs.Octets.{identifier};
 ghost use Rattle.der_base.specs.Refusal.{Refusal};
+ghost use Rattle.der_base.specs.Spelling.{BeginsWithElement, framing_budget};
 
+use crate::MAX_RECURSION;
+use crate::content::read_content;
 use crate::error::{BerError, Err, IResult, Needed};
-use crate::header::{Class, Header, Length, Tag, der_read_element_header};
+use crate::header::{
+    Class, Header, HeaderCount, Length, Tag, ber_header_counted, der_read_element_header,
+};
 
 /// An element whose content isn't read.
 #[derive(Clone, Copy, Debug, PartialEq)]
@@ -68,6 +73,35 @@ impl<'a> Any<'a> {
         self.header.tag()
     }
 
+    /// Reads an element by BER: a header, and the content behind it, of which only the framing is
+    /// read. A definite length has that many content octets; the content of an indefinite one is
+    /// the elements in front of its end marker, the two octets `00 00` (X.690 8.1.3.6, 8.1.5), and
+    /// what follows the end marker is left of the input. An end marker in front is an element too,
+    /// without content.
+    ///
+    /// Refusals: those of `ber_read_element_header`, also for the headers inside an indefinite
+    /// length, and BerMaxDepth where indefinite lengths are nested `MAX_RECURSION` deep, once the
+    /// header is read that stands in the last of them. Incomplete with the number of octets that a
+    /// header or a definite content lacks. It takes no memory.
+    pub fn from_ber(i: &'a [u8]) -> IResult<&'a [u8], Any<'a>, BerError>
+        ensures found { MatchAnswer result (λ x. ReadsAny i.now x.1 x.0.now) (AnyRefuses i.now) (AnyLacks i.now) ⊥ }
+        ensures only { (c : Class) (p : Bool) (t : ℕ) (w rest : List ℕ) → BeginsWithElement i.now framing_budget c p t w rest
+            → IsOkAnd result (λ x. (class_of x.1.header ≡ c) × (is_constructed x.1.header ≡ p) × (number_of x.1.header ≡ t) × (x.1.bytes.now ≡ w) × (x.0.now ≡ rest)) }
+        ensures refuses { (e : Refusal) → AnyRefuses i.now e → AnswersError result e }
+        ensures lacks { (n : ℕ) → AnyLacks i.now n → AnswersIncomplete result n }
+    {
+        ber_any_counted(i, &mut HeaderCount::new())
+    }
+
+    #[inline]
+    fn read_ber(i: &'a [u8], count: &mut HeaderCount) -> IResult<&'a [u8], Any<'a>, BerError>
+        ensures { MatchAnswer result (λ x. ReadsAny i.now x.1 x.0.now) (AnyRefuses i.now) (AnyLacks i.now) ⊥ }
+    {
+        let (behind, header) = ber_header_counted(i, count)?;
+        let (rest, bytes) = read_content(behind, header.length(), MAX_RECURSION, count)?;
+        Ok((rest, Any { header, bytes }))
+    }
+
     /// Reads an element as DER writes its header, with as many content octets as that says, and
     /// answers what is left of the input. Refusals are those of `der_read_element_header`;
     /// Incomplete with the number of octets that the header or the content lacks. It takes no
@@ -94,4 +128,19 @@ impl<'a> Any<'a> {
         let (bytes, rest) = rest.split_at(length);
         Ok((rest, Any { header, bytes }))
     }
+}
+
+/// Reads an element as `Any::from_ber`, and counts the headers that it reads, those of end markers
+/// too.
+pub fn ber_any_counted<'a>(
+    i: &'a [u8],
+    count: &mut HeaderCount,
+) -> IResult<&'a [u8], Any<'a>, BerError>
+    ensures found { MatchAnswer result (λ x. ReadsAny i.now x.1 x.0.now) (AnyRefuses i.now) (AnyLacks i.now) ⊥ }
+    ensures only { (c : Class) (p : Bool) (t : ℕ) (w rest : List ℕ) → BeginsWithElement i.now framing_budget c p t w rest
+        → IsOkAnd result (λ x. (class_of x.1.header ≡ c) × (is_constructed x.1.header ≡ p) × (number_of x.1.header ≡ t) × (x.1.bytes.now ≡ w) × (x.0.now ≡ rest)) }
+    ensures refuses { (e : Refusal) → AnyRefuses i.now e → AnswersError result e }
+    ensures lacks { (n : ℕ) → AnyLacks i.now n → AnswersIncomplete result n }
+{
+    Any::read_ber(i, count)
 }

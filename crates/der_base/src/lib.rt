@@ -3,6 +3,7 @@
 #![tactic(auto)]
 
 pub mod any;
+mod content;
 pub mod error;
 pub mod header;
 mod identifier;

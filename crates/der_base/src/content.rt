@@ -1,0 +1,85 @@
+//! Framing: where the content of an element ends, by BER (X.690 8.1.3). What stands inside a
+//! definite length isn't looked into.
+ghost use Rattle.std.specs.Prelude.{◌≡◌, ◌≤◌, ◌++◌, List, ℕ, MatchBool};
+ghost use Rattle.der_base.specs.declared.header.Length.{Length};
+ghost use Rattle.der_base.specs.Answer.{MatchAnswer};
+ghost use Rattle.der_base.specs.Content.{BeginsWithContent, ContentRefuses, ContentLacks};
+ghost use Rattle.der_base.specs.Spelling.{end_marker};
+
+use crate::error::{BerError, Err, IResult, Needed};
+use crate::header::{HeaderCount, Length, ber_header_counted};
+
+/// The content behind a header of this length: what follows the element, and the content octets,
+/// without the end marker. Indefinite lengths, this one among them, are nested below the budget.
+#[cycle(framing)]
+pub fn read_content<'a>(
+    i: &'a [u8],
+    length: Length,
+    budget: usize,
+    count: &mut HeaderCount,
+) -> IResult<&'a [u8], &'a [u8], BerError>
+    requires { 1 ≤ budget }
+    ensures { MatchAnswer result
+        (λ x. BeginsWithContent i.now length budget x.1.now x.0.now)
+        (ContentRefuses i.now length budget)
+        (ContentLacks i.now length budget)
+        ⊥ }
+{
+    match length {
+        Length::Definite(n) => read_definite(i, n),
+        Length::Indefinite => read_to_end_marker(i, budget, count),
+    }
+}
+
+/// A content of so many octets.
+#[inline]
+fn read_definite(i: &[u8], length: usize) -> IResult<&[u8], &[u8], BerError>
+    ensures { MatchAnswer result
+        (λ x. BeginsWithContent i.now (Length.Definite length) 0 x.1.now x.0.now)
+        (λ _. ⊥)
+        (ContentLacks i.now (Length.Definite length) 0)
+        ⊥ }
+{
+    if i.len() < length {
+        return Err(Err::Incomplete(Needed::Size(length - i.len())));
+    }
+    let (content, rest) = i.split_at(length);
+    Ok((rest, content))
+}
+
+/// The elements in front of the end marker of an indefinite length. The header of each comes before
+/// the budget, which the end marker needs too.
+#[cycle(framing)]
+fn read_to_end_marker<'a>(
+    i: &'a [u8],
+    budget: usize,
+    count: &mut HeaderCount,
+) -> IResult<&'a [u8], &'a [u8], BerError>
+    requires { 1 ≤ budget }
+    ensures { MatchAnswer result
+        (λ x. BeginsWithContent i.now Length.Indefinite budget x.1.now x.0.now)
+        (ContentRefuses i.now Length.Indefinite budget)
+        (ContentLacks i.now Length.Indefinite budget)
+        ⊥ }
+{
+    let mut rest = i;
+    loop {
+        let (behind, header) = ber_header_counted(rest, count)?;
+        if budget == 1 {
+            return Err(Err::Error(BerError::BerMaxDepth));
+        }
+        if begins_with_end_marker(rest) {
+            return Ok((behind, &i[..i.len() - rest.len()]));
+        }
+        let (after, _) = read_content(behind, header.length(), budget - 1, count)?;
+        rest = after;
+    }
+}
+
+/// Whether the two octets of an end marker stand in front (X.690 8.1.5).
+#[inline]
+fn begins_with_end_marker(i: &[u8]) -> bool
+    ensures { MatchBool result ((rest : List ℕ) × (i.now ≡ end_marker ++ rest)) ((rest : List ℕ) → ¬ (i.now ≡ end_marker ++ rest)) }
+{
+    matches!(i, [0, 0, ..])
+}
