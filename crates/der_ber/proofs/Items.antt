@@ -29,8 +29,8 @@ use Rattle.der_object.specs.View.{tree, node_of, content_tree, trees}
 use Rattle.der_object.proofs.Joins.{joins_push}
 use Rattle.der_object.proofs.Marks.{sequence_each, set_each, sequence_forms, set_forms, leaf_forms, leaf_each, leaf_keeps, each_push}
 use Rattle.der_object.proofs.Trees.{sequence_tree, set_tree}
-use Rattle.der_ber.specs.Leaves.{is_built, IsBuiltType, ColumnRefuses}
-use Rattle.der_ber.specs.Reading.{IsBuilt, AreBuilt, ReadsBer, AreItems, IsContentOf, BerRefuses, BerIsCut, BeginsWithItems, ContentRefuses}
+use Rattle.der_ber.specs.BerLeaves.{is_built, IsBuiltType, ColumnRefuses}
+use Rattle.der_ber.specs.BerReading.{IsBuilt, AreBuilt, ReadsBer, AreItems, IsContentOf, BerRefuses, BerIsCut, BeginsWithItems, ContentRefuses}
 
 built_push : (os : List BerObject) (o : BerObject) → AreBuilt (trees os) → IsBuilt (tree o) → AreBuilt (trees (os ++ o ∷ []))
 built_push [] o k h = (h, tt)

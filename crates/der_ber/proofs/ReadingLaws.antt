@@ -11,8 +11,8 @@ use Rattle.der_base.proofs.BerFaults.{BerColumnLaws}
 use Rattle.der_base.proofs.Cuts.{lacks_same}
 use Rattle.der_base.proofs.FirstLeaves.{first_refusal_same}
 use Rattle.der_base.proofs.NeverBoth.{never_both_ber}
-use Rattle.der_ber.specs.Leaves.{is_built, IsBuiltType, column_tests, ColumnRefuses}
-use Rattle.der_ber.specs.Reading.{IsBuilt, BerRefuses, BerIsCut}
+use Rattle.der_ber.specs.BerLeaves.{is_built, IsBuiltType, column_tests, ColumnRefuses}
+use Rattle.der_ber.specs.BerReading.{IsBuilt, BerRefuses, BerIsCut}
 
 picked : (a b : Bool) (ts us : List Test) (e : Refusal) → IsTrue a → IsFirstRefusal (choose (a || b) ts us) e → IsFirstRefusal ts e
 picked true b ts us e h r = r

@@ -5,7 +5,7 @@ ghost use Rattle.der_base.specs.LeafRefusal.{BerLeafRefuses};
 ghost use Rattle.der_base.specs.Refusal.{refusal};
 ghost use Rattle.der_base.specs.Tree.{boolean};
 ghost use Rattle.der_object.specs.View.{content_tree};
-ghost use Rattle.der_ber.specs.Leaves.{is_built, ColumnRefuses};
+ghost use Rattle.der_ber.specs.BerLeaves.{is_built, ColumnRefuses};
 
 use der_base::error::BerError;
 use der_base::header::Tag;

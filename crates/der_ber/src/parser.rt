@@ -5,7 +5,7 @@ ghost use Rattle.der_base.specs.Refusal.{Refusal};
 ghost use Rattle.der_base.specs.Spelling.{BerSpells, framing_budget};
 ghost use Rattle.der_base.specs.Tree.{Node};
 ghost use Rattle.der_object.specs.View.{tree};
-ghost use Rattle.der_ber.specs.Reading.{IsBuilt, ReadsBer, BerRefuses, BerIsCut, NeedsMemory};
+ghost use Rattle.der_ber.specs.BerReading.{IsBuilt, ReadsBer, BerRefuses, BerIsCut, NeedsMemory};
 
 use crate::reader::read_element;
 use der_base::MAX_RECURSION;

@@ -5,7 +5,7 @@ ghost use Rattle.der_base.specs.declared.header.Class.{Class};
 ghost use Rattle.der_base.specs.Answer.{MatchAnswer};
 ghost use Rattle.der_base.specs.Header.{class_of, is_constructed, number_of};
 ghost use Rattle.der_base.specs.Leaf.{is_list};
-ghost use Rattle.der_ber.specs.Reading.{ReadsBer, AreItems, IsContentOf, BerRefuses, BerIsCut, NeedsMemory, ContentRefuses, ItemsRefuse};
+ghost use Rattle.der_ber.specs.BerReading.{ReadsBer, AreItems, IsContentOf, BerRefuses, BerIsCut, NeedsMemory, ContentRefuses, ItemsRefuse};
 
 use crate::leaf::read_leaf;
 use der_base::any::{Any, ber_any_counted};

@@ -33,8 +33,8 @@ use Rattle.der_object.specs.View.{tree, content_tree, trees}
 use Rattle.der_object.proofs.Joins.{der_joins_push}
 use Rattle.der_object.proofs.Marks.{sequence_each, set_each, leaf_each, leaf_keeps, each_push}
 use Rattle.der_object.proofs.Trees.{sequence_tree, set_tree}
-use Rattle.der_der.specs.Leaves.{is_built, IsBuiltType, ColumnRefuses, ReadsDerLeaf, IsDerContentOf}
-use Rattle.der_der.specs.Reading.{IsBuilt, AreBuilt, ReadsDer, AreItems, IsContentOf, DerRefuses, DerIsCut, BeginsWithItems, ContentRefuses}
+use Rattle.der_der.specs.DerLeaves.{is_built, IsBuiltType, ColumnRefuses, ReadsDerLeaf, IsDerContentOf}
+use Rattle.der_der.specs.DerReading.{IsBuilt, AreBuilt, ReadsDer, AreItems, IsContentOf, DerRefuses, DerIsCut, BeginsWithItems, ContentRefuses}
 
 built_push : (os : List BerObject) (o : BerObject) → AreBuilt (trees os) → IsBuilt (tree o) → AreBuilt (trees (os ++ o ∷ []))
 built_push [] o k h = (h, tt)

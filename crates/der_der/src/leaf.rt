@@ -5,7 +5,7 @@ ghost use Rattle.der_base.specs.LeafRefusal.{DerLeafRefuses};
 ghost use Rattle.der_base.specs.Refusal.{refusal};
 ghost use Rattle.der_base.specs.Tree.{boolean, integer};
 ghost use Rattle.der_object.specs.View.{content_tree};
-ghost use Rattle.der_der.specs.Leaves.{is_built, ReadsDerLeaf, ColumnRefuses};
+ghost use Rattle.der_der.specs.DerLeaves.{is_built, ReadsDerLeaf, ColumnRefuses};
 
 use der_base::error::{BerError, DerConstraint};
 use der_base::header::Tag;

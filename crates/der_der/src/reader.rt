@@ -8,7 +8,7 @@ ghost use Rattle.der_base.specs.Leaf.{is_list};
 ghost use Rattle.der_base.specs.Refusal.{Refusal};
 ghost use Rattle.der_base.specs.Spelling.{DerSpells};
 ghost use Rattle.der_base.specs.Tree.{Node};
-ghost use Rattle.der_der.specs.Reading.{ReadsDer, AreItems, IsContentOf, DerRefuses, DerIsCut, NeedsMemory, ContentRefuses, ItemsRefuse};
+ghost use Rattle.der_der.specs.DerReading.{ReadsDer, AreItems, IsContentOf, DerRefuses, DerIsCut, NeedsMemory, ContentRefuses, ItemsRefuse};
 
 use crate::leaf::read_leaf;
 use der_base::MAX_OBJECT_SIZE;

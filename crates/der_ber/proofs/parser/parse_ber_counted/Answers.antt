@@ -1,7 +1,7 @@
 use Rattle.der_base.proofs.Answering.{only_ok_or, only_error_or, only_incomplete_or}
 use Rattle.der_object.specs.Marks.{form_of}
 use Rattle.der_object.specs.View.{tree}
-use Rattle.der_ber.specs.Reading.{NeedsMemory}
+use Rattle.der_ber.specs.BerReading.{NeedsMemory}
 use Rattle.der_ber.proofs.ReadingLaws.{spelled_not_refused, refusal_same, spelled_not_cut, cut_same, spelled_same}
 use Rattle.der_ber.proofs.parser.parse_ber_counted.Goals as goal
 

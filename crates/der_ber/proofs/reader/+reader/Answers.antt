@@ -10,7 +10,7 @@ use Rattle.der_base.proofs.FramingLaws.{element_shorter}
 use Rattle.der_base.proofs.ItemAnswers.{item_answer, some_content}
 use Rattle.der_object.specs.View.{trees}
 use Rattle.der_object.specs.Marks.{forms_of}
-use Rattle.der_ber.specs.Reading.{BerRefuses}
+use Rattle.der_ber.specs.BerReading.{BerRefuses}
 use Rattle.der_ber.proofs.Items.{sequence_content, set_content, any_refused, any_cut, content_refused, content_memory, element_read, read_more}
 use Rattle.der_ber.proofs.reader.+reader.Goals as goal
 

@@ -12,8 +12,8 @@ use Rattle.der_base.proofs.Answering.{passed_on}
 use Rattle.der_base.proofs.DerWithinBer.{content_tall}
 use Rattle.der_base.proofs.ItemAnswers.{item_answer, some_content}
 use Rattle.der_object.specs.View.{content_tree, trees}
-use Rattle.der_der.specs.Leaves.{ColumnRefuses}
-use Rattle.der_der.specs.Reading.{DerRefuses}
+use Rattle.der_der.specs.DerLeaves.{ColumnRefuses}
+use Rattle.der_der.specs.DerReading.{DerRefuses}
 use Rattle.der_der.proofs.Items.{sequence_content, set_content, header_refused, header_cut, size_refused, content_cut, content_refused, content_memory, element_read, header_shorter, read_more, read_all}
 use Rattle.der_der.proofs.reader.+reader.Goals as goal
 

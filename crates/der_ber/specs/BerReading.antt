@@ -17,7 +17,7 @@ use Rattle.der_object.specs.declared.object.BerObject.{BerObject}
 use Rattle.der_object.specs.declared.object.BerObjectContent.{BerObjectContent}
 use Rattle.der_object.specs.Marks.{form_of, forms_of, inner_forms, EachInside, KeepsHeader, HasMark, HasMarks}
 use Rattle.der_object.specs.View.{tree, trees, node_of, content_tree}
-use Rattle.der_ber.specs.Leaves.{IsBuiltType, ColumnRefuses}
+use Rattle.der_ber.specs.BerLeaves.{IsBuiltType, ColumnRefuses}
 
 -- each leaf of the tree is of a type that is read
 abbrev pub IsBuilt : Node → Type 0
