@@ -20,6 +20,7 @@ pub mod Oids
 pub mod Refusal
 pub mod Same
 pub mod Spelling
+pub mod Subidentifiers
 pub mod Text
 pub mod Time
 pub mod Tree

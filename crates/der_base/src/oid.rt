@@ -1,7 +1,10 @@
 //! Object identifiers, absolute and relative (X.690 8.19 and 8.20).
-ghost use Rattle.std.specs.Prelude.{◌≡◌, ◌↔◌, true, false, IsTrue};
+ghost use Rattle.std.specs.Prelude.{◌≡◌, ◌↔◌, true, false, IsTrue, [], ◌∷◌, MatchOption};
 ghost use Rattle.std.specs.Cow.{cow_slice_items};
-ghost use Rattle.der_base.specs.Oids.{octets_of, is_relative_of};
+ghost use Rattle.std.specs.Option.{option_map};
+ghost use Rattle.std.specs.List.{list_all};
+ghost use Rattle.der_base.specs.Arcs.{subidentifiers, is_whole, first_arcs};
+ghost use Rattle.der_base.specs.Subidentifiers.{AreWhole, subidentifier_values};
 
 use std::borrow::CowSlice;
 
@@ -13,6 +16,9 @@ pub struct Oid<'a> {
 }
 
 impl<'a> Oid<'a> {
+    ghost use Rattle.der_base.specs.Arcs.{arcs};
+    ghost use Rattle.der_base.specs.Oids.{octets_of, is_relative_of, arcs_left};
+
     /// The OBJECT IDENTIFIER with these content octets (8.19), whatever they are.
     pub fn new(octets: CowSlice<'a, u8>) -> Oid<'a>
         ensures octets { octets_of result ≡ cow_slice_items octets.entry }
@@ -48,6 +54,23 @@ impl<'a> Oid<'a> {
     {
         self.relative
     }
+
+    /// The arcs, in order. None where a subidentifier has no last octet, or ten octets or more
+    /// (8.19.2).
+    pub fn iter(&self) -> Option<OidIter<'_>>
+        ensures { option_map arcs_left result ≡ arcs (is_relative_of self.now) (octets_of self.now) }
+    {
+        let octets = self.as_bytes();
+        if !are_whole(octets) {
+            return None;
+        }
+        let next = if self.relative {
+            NextArc::Further
+        } else {
+            NextArc::First
+        };
+        Some(OidIter { octets, next })
+    }
 }
 
 /// Identifiers are equal where their octets are, and both or neither are relative.
@@ -55,6 +78,7 @@ impl PartialEq for Oid<'_> {
     ghost use Rattle.std.specs.Ordering.{eq_of_both, on};
     ghost use Rattle.std.specs.Cmp.Rules.{comparing};
     ghost use Rattle.std.proofs.Common.{rules};
+    ghost use Rattle.der_base.specs.Oids.{octets_of, is_relative_of};
     ghost use Rattle.der_base.specs.Same.{same_octets};
     ghost use mathlib.Core.Bool.{beq};
 
@@ -68,4 +92,95 @@ impl PartialEq for Oid<'_> {
     {
         self.as_bytes() == other.as_bytes() && self.relative == other.relative
     }
+}
+
+/// The arc that an iterator answers next.
+#[derive(Clone, Copy, Debug)]
+enum NextArc {
+    /// The first of the two arcs that the first subidentifier of an absolute identifier holds
+    /// (8.19.4).
+    First,
+    /// The second of them.
+    Second(u64),
+    /// The one that the next subidentifier is.
+    Further,
+}
+
+/// The arcs of an identifier, in order.
+#[derive(Debug, Drop)]
+pub struct OidIter<'a> {
+    octets: &'a [u8],
+    next: NextArc,
+    ghost whole: { AreWhole octets.now },
+}
+
+impl Iterator for OidIter<'_> {
+    ghost use Rattle.std.specs.Iterator.{YieldsFirst, item_count};
+    ghost use Rattle.der_base.specs.Oids.{arcs_left};
+
+    type Item = u64;
+
+    ghost next_gives = { YieldsFirst arcs_left };
+
+    ghost remaining = { item_count arcs_left };
+
+    fn next(&mut self) -> Option<u64> {
+        if let NextArc::Second(arc) = self.next {
+            self.next = NextArc::Further;
+            return Some(arc);
+        }
+        let (value, octets) = split_subidentifier(self.octets)?;
+        self.octets = octets;
+        if let NextArc::First = self.next {
+            let (first, second) = first_arcs(value);
+            self.next = NextArc::Second(second);
+            return Some(first);
+        }
+        Some(value)
+    }
+}
+
+/// The two arcs that the first subidentifier of an absolute identifier holds (8.19.4).
+fn first_arcs(value: u64) -> (u64, u64)
+    ensures { first_arcs value ≡ result.0 ∷ result.1 ∷ [] }
+{
+    match value {
+        0..40 => (0, value),
+        40..80 => (1, value - 40),
+        _ => (2, value - 80),
+    }
+}
+
+/// Whether each subidentifier has a last octet, and fewer than ten octets.
+fn are_whole(octets: &[u8]) -> bool
+    ensures { result ≡ list_all is_whole (subidentifiers octets.now) }
+{
+    // How many octets there are behind the last subidentifier that has its last one.
+    let mut open: usize = 0;
+    for octet in octets {
+        if *octet < 128 {
+            open = 0;
+        } else if open == 8 {
+            return false;
+        } else {
+            open += 1;
+        }
+    }
+    open == 0
+}
+
+/// The number that the first subidentifier is, and the octets behind it; None where there is none.
+fn split_subidentifier(octets: &[u8]) -> Option<(u64, &[u8])>
+    requires { AreWhole octets.now }
+    ensures { MatchOption result (octets.now ≡ [])
+        (λ x. (subidentifier_values octets.now ≡ x.0 ∷ subidentifier_values x.1.now) × AreWhole x.1.now) }
+{
+    let mut number: u64 = 0;
+    for (index, octet) in octets.iter().enumerate() {
+        number = number * 128 + u64::from(*octet % 128);
+        if *octet < 128 {
+            return Some((number, &octets[index + 1..]));
+        }
+    }
+    None
 }
