@@ -34,10 +34,10 @@ values_start w = start (subidentifiers w)
     start [] = refl
     start (s ∷ ss) = refl
 
-last_octet : (b : ℕ) (w : List ℕ) → b < 128 → subidentifiers (b ∷ w) ≡ (b ∷ []) ∷ subidentifiers w
+pub last_octet : (b : ℕ) (w : List ℕ) → b < 128 → subidentifiers (b ∷ w) ≡ (b ∷ []) ∷ subidentifiers w
 last_octet b w h = grind (arith, nat_tests)
 
-more_octet : (b : ℕ) (w : List ℕ) → 128 ≤ b → subidentifiers (b ∷ w) ≡ in_front b (subidentifiers w)
+pub more_octet : (b : ℕ) (w : List ℕ) → 128 ≤ b → subidentifiers (b ∷ w) ≡ in_front b (subidentifiers w)
 more_octet b w h = grind (arith, nat_tests)
 
 not_low : (b : ℕ) → 128 ≤ b → nat_lt b 128 ≡ false

@@ -1,11 +1,14 @@
 //! Object identifiers, absolute and relative (X.690 8.19 and 8.20).
-ghost use Rattle.std.specs.Prelude.{◌≡◌, ◌↔◌, true, false, IsTrue, [], ◌∷◌, MatchOption};
+ghost use Rattle.std.specs.Prelude.{◌+◌, ◌*◌, ◌++◌, OnOk, ◌≡◌, ◌↔◌, true, false, IsTrue, [], ◌∷◌, MatchOption};
 ghost use Rattle.std.specs.Cow.{cow_slice_items};
-ghost use Rattle.std.specs.Option.{option_map};
-ghost use Rattle.std.specs.List.{list_all};
+ghost use Rattle.std.specs.Option.{option_map, SomeIff};
+ghost use Rattle.std.specs.List.{list_all, flat_map};
 ghost use Rattle.der_base.specs.Arcs.{subidentifiers, is_whole, first_arcs};
-ghost use Rattle.der_base.specs.Subidentifiers.{AreWhole, subidentifier_values};
+ghost use Rattle.der_base.specs.Octets.{groups_before, groups};
+ghost use Rattle.der_base.specs.Subidentifiers.{AreWhole, subidentifier_values, have_one, octets_of_arcs, ArcsComeBack};
 
+use crate::error::OidParseError;
+use std::alloc::{AllocError, Global};
 use std::borrow::CowSlice;
 
 /// An object identifier, as the content octets that it has.
@@ -17,7 +20,7 @@ pub struct Oid<'a> {
 
 impl<'a> Oid<'a> {
     ghost use Rattle.der_base.specs.Arcs.{arcs};
-    ghost use Rattle.der_base.specs.Oids.{octets_of, is_relative_of, arcs_left};
+    ghost use Rattle.der_base.specs.Oids.{octets_of, is_relative_of, arcs_left, Makes};
 
     /// The OBJECT IDENTIFIER with these content octets (8.19), whatever they are.
     pub fn new(octets: CowSlice<'a, u8>) -> Oid<'a>
@@ -39,6 +42,39 @@ impl<'a> Oid<'a> {
             octets,
             relative: true,
         }
+    }
+
+    /// The OBJECT IDENTIFIER with these arcs (8.19).
+    ///
+    /// Refusals: TooShort for fewer than two arcs; FirstComponentsTooLarge where the first is above
+    /// 2, the second above 39 under 0 or 1, or the number of both above 2^64-1; OutOfMemory.
+    pub fn from(alloc: Global, arcs: &[u64]) -> Result<Oid<'a>, OidParseError>
+        ensures { Makes false (octets_of_arcs false arcs.now) result }
+    {
+        let [first, second, others @ ..] = arcs else {
+            return Err(OidParseError::TooShort);
+        };
+        let Some(value) = first_value(*first, *second) else {
+            return Err(OidParseError::FirstComponentsTooLarge);
+        };
+        let mut octets = Vec::new(alloc);
+        push_subidentifier(&mut octets, value)?;
+        push_subidentifiers(&mut octets, others)?;
+        Ok(Oid::new(CowSlice::Owned(octets)))
+    }
+
+    /// The RELATIVE-OID with these arcs (8.20).
+    ///
+    /// Refusals: TooShort for no arcs; OutOfMemory.
+    pub fn from_relative(alloc: Global, arcs: &[u64]) -> Result<Oid<'a>, OidParseError>
+        ensures { Makes true (octets_of_arcs true arcs.now) result }
+    {
+        if arcs.is_empty() {
+            return Err(OidParseError::TooShort);
+        }
+        let mut octets = Vec::new(alloc);
+        push_subidentifiers(&mut octets, arcs)?;
+        Ok(Oid::new_relative(CowSlice::Owned(octets)))
     }
 
     /// The content octets.
@@ -184,3 +220,46 @@ fn split_subidentifier(octets: &[u8]) -> Option<(u64, &[u8])>
     }
     None
 }
+
+/// The number of the first two arcs of an absolute identifier (8.19.4), where they have one.
+fn first_value(first: u64, second: u64) -> Option<u64>
+    ensures { SomeIff result (IsTrue (have_one first second)) (40 * first + second) }
+{
+    match first {
+        0 | 1 if second < 40 => Some(first * 40 + second),
+        2 => second.checked_add(80),
+        _ => None,
+    }
+}
+
+/// Writes numbers at the end, each as a subidentifier.
+fn push_subidentifiers(octets: &mut Vec<u8>, values: &[u64]) -> Result<(), AllocError>
+    ensures { OnOk result (octets.new.items ≡ octets.old.items ++ flat_map groups values.now) }
+{
+    for value in values {
+        push_subidentifier(octets, *value)?;
+    }
+    Ok(())
+}
+
+/// Writes a number at the end as a subidentifier, in the fewest groups of seven bits (8.19.2).
+fn push_subidentifier(octets: &mut Vec<u8>, value: u64) -> Result<(), AllocError>
+    ensures { OnOk result (octets.new.items ≡ octets.old.items ++ groups value) }
+{
+    let mut last_groups = [0; 10];
+    last_groups[9] = (value % 128) as u8;
+    let mut begin: usize = 9;
+    let mut rest = value / 128;
+    while rest != 0 {
+        begin -= 1;
+        last_groups[begin] = 128 + (rest % 128) as u8;
+        rest /= 128;
+    }
+    octets.extend_from_slice(&last_groups[begin..])
+}
+
+/// The arcs that an identifier is made of come back from it, where each of its subidentifiers is
+/// below 2^63.
+pub fn arcs_come_back()
+    ensures { ArcsComeBack }
+{}
