@@ -8,7 +8,7 @@ use Rattle.std.proofs.lemmas.Bool.{cases_lt}
 use Rattle.std.proofs.lemmas.Bool.Decides.{nat_tests}
 use Rattle.der_base.specs.Arcs.{in_front, subidentifiers, ends_below_128, is_whole}
 use Rattle.der_base.specs.Octets.{groups_value}
-use Rattle.der_base.specs.Subidentifiers.{AreWhole, subidentifier_values}
+use Rattle.der_base.specs.OidArcs.{AreWhole, subidentifier_values}
 
 -- whether subidentifiers are whole, the first one behind n more octets with the high bit
 abbrev pub whole_after : ℕ → List (List ℕ) → Bool
@@ -97,11 +97,11 @@ read_none w h = record { whole = whole_start w ∙ h; values = values_start w; s
 powers : (n k : ℕ) → n < 128 ^ k → k ≤ 8 → n < 128 ^ 8
 powers n k h e = omega (arith, h, pow-le-pow_right {n = 128} (omega arith) {i = k} {j = 8} e)
 
-and_first : (x y : Bool) → (x && y) ≡ true → x ≡ true
+pub and_first : (x y : Bool) → (x && y) ≡ true → x ≡ true
 and_first true y e = refl
 and_first false y e = e
 
-and_second : (x y : Bool) → (x && y) ≡ true → y ≡ true
+pub and_second : (x y : Bool) → (x && y) ≡ true → y ≡ true
 and_second true y e = e
 and_second false y e = let f : false ≡ true = e in cc
 

@@ -8,7 +8,7 @@ use Rattle.der_base.specs.Arcs.{in_front, subidentifiers, ends_below_128, is_who
 use Rattle.der_base.specs.declared.error.OidParseError.TheVariants.{FirstComponentsTooLarge}
 use Rattle.der_base.specs.Laws.{AreGroups}
 use Rattle.der_base.specs.Octets.{groups_before, groups, groups_value}
-use Rattle.der_base.specs.Subidentifiers.{have_one, ArcsComeBack}
+use Rattle.der_base.specs.OidArcs.{have_one, ArcsComeBack}
 use Rattle.der_base.proofs.Arcs.{last_octet, more_octet}
 use Rattle.der_base.proofs.Each.{Each, each_from_all}
 use Rattle.der_base.proofs.Shortest.{groups_are, groups_spell}

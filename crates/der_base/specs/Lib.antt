@@ -16,11 +16,11 @@ pub mod Leaf
 pub mod LeafRefusal
 pub mod LengthOctets
 pub mod Octets
+pub mod OidArcs
 pub mod Oids
 pub mod Refusal
 pub mod Same
 pub mod Spelling
-pub mod Subidentifiers
 pub mod Text
 pub mod Time
 pub mod Tree

@@ -1,6 +1,6 @@
 -- Object identifiers (X.690 8.19 and 8.20).
 use Rattle.std.specs.Prelude.{◌≡◌, ℕ, Bool, false, List, ◌∷◌, Result, Ok, Err}
-use Rattle.std.specs.Cow.{cow_slice_items}
+use Rattle.std.specs.Cow.{cow_slice_items, IsBorrowedSlice}
 use Rattle.der_base.specs.declared.error.OidParseError.{OidParseError}
 use Rattle.der_base.specs.declared.error.OidParseError.TheVariants.{OutOfMemory}
 use Rattle.der_base.specs.declared.oid.Oid.{Oid}
@@ -8,7 +8,7 @@ use Rattle.der_base.specs.declared.oid.OidIter.{OidIter}
 use Rattle.der_base.specs.declared.oid.NextArc.{NextArc}
 use Rattle.der_base.specs.declared.oid.NextArc.TheVariants.{First, Second, Further}
 use Rattle.der_base.specs.Arcs.{arcs_of_values}
-use Rattle.der_base.specs.Subidentifiers.{subidentifier_values}
+use Rattle.der_base.specs.OidArcs.{subidentifier_values}
 
 -- the content octets
 abbrev pub octets_of : Oid → List ℕ
@@ -16,6 +16,10 @@ octets_of x = cow_slice_items x.octets
 
 abbrev pub is_relative_of : Oid → Bool
 is_relative_of x = x.relative
+
+-- it does not own its octets
+abbrev pub IsBorrowed : Oid → Type 0
+IsBorrowed x = IsBorrowedSlice x.octets
 
 -- the arcs that are left where octets stand behind those that were read
 abbrev pub arcs_from : NextArc → List ℕ → List ℕ

@@ -1,11 +1,13 @@
 //! Object identifiers, absolute and relative (X.690 8.19 and 8.20).
-ghost use Rattle.std.specs.Prelude.{◌+◌, ◌*◌, ◌++◌, OnOk, ◌≡◌, ◌↔◌, true, false, IsTrue, [], ◌∷◌, MatchOption};
-ghost use Rattle.std.specs.Cow.{cow_slice_items};
+ghost use Rattle.std.specs.Prelude.{◌+◌, ◌*◌, ◌++◌, ◌⊎◌, OnOk, IfOk, IsOkAnd, MatchResult, Some, None, Err, ◌≡◌, ◌↔◌, true, false, IsTrue, [], ◌∷◌, MatchOption};
+ghost use Rattle.std.specs.Cow.{cow_slice_items, IsBorrowedSlice};
 ghost use Rattle.std.specs.Option.{option_map, SomeIff};
+ghost use Rattle.std.specs.Str.Parse.{digits_value};
+ghost use Rattle.der_base.specs.declared.error.OidParseError.TheVariants.{OutOfMemory, ParseInt};
 ghost use Rattle.std.specs.List.{list_all, flat_map};
 ghost use Rattle.der_base.specs.Arcs.{subidentifiers, is_whole, first_arcs};
 ghost use Rattle.der_base.specs.Octets.{groups_before, groups};
-ghost use Rattle.der_base.specs.Subidentifiers.{AreWhole, subidentifier_values, have_one, octets_of_arcs, ArcsComeBack};
+ghost use Rattle.der_base.specs.OidArcs.{AreWhole, subidentifier_values, have_one, octets_of_arcs, is_arc, dotted_arcs, octets_if_arcs, ArcsComeBack};
 
 use crate::error::OidParseError;
 use std::alloc::{AllocError, Global};
@@ -20,12 +22,13 @@ pub struct Oid<'a> {
 
 impl<'a> Oid<'a> {
     ghost use Rattle.der_base.specs.Arcs.{arcs};
-    ghost use Rattle.der_base.specs.Oids.{octets_of, is_relative_of, arcs_left, Makes};
+    ghost use Rattle.der_base.specs.Oids.{octets_of, is_relative_of, arcs_left, Makes, IsBorrowed};
 
     /// The OBJECT IDENTIFIER with these content octets (8.19), whatever they are.
     pub fn new(octets: CowSlice<'a, u8>) -> Oid<'a>
         ensures octets { octets_of result ≡ cow_slice_items octets.entry }
         ensures absolute { is_relative_of result ≡ false }
+        ensures borrowed { IsBorrowedSlice octets.entry → IsBorrowed result }
     {
         Oid {
             octets,
@@ -37,6 +40,7 @@ impl<'a> Oid<'a> {
     pub fn new_relative(octets: CowSlice<'a, u8>) -> Oid<'a>
         ensures octets { octets_of result ≡ cow_slice_items octets.entry }
         ensures relative { is_relative_of result ≡ true }
+        ensures borrowed { IsBorrowedSlice octets.entry → IsBorrowed result }
     {
         Oid {
             octets,
@@ -75,6 +79,33 @@ impl<'a> Oid<'a> {
         let mut octets = Vec::new(alloc);
         push_subidentifiers(&mut octets, arcs)?;
         Ok(Oid::new_relative(CowSlice::Owned(octets)))
+    }
+
+    /// The OBJECT IDENTIFIER with the arcs that a text writes in decimal digits, with a point
+    /// between them.
+    ///
+    /// Refusals: ParseInt where a component isn't made of digits, has none, or is above 2^64-1; then
+    /// those of `from`.
+    pub fn from_dotted(alloc: Global, text: &str) -> Result<Oid<'a>, OidParseError>
+        ensures { (result ≡ Err OutOfMemory) ⊎ Makes false (octets_if_arcs (dotted_arcs text.now)) result }
+    {
+        let arcs = parse_arcs(alloc, text)?;
+        Oid::from(alloc, &arcs)
+    }
+
+    /// A copy. One that is borrowed takes no memory, and is borrowed from the same place.
+    pub fn try_clone(&self, alloc: Global) -> Result<Oid<'a>, AllocError>
+        ensures same { IfOk result (λ x. (octets_of x ≡ octets_of self.now) × (is_relative_of x ≡ is_relative_of self.now)) }
+        ensures borrowed { IsBorrowed self.now → IsOkAnd result IsBorrowed }
+    {
+        let octets = match &self.octets {
+            CowSlice::Borrowed(octets) => CowSlice::Borrowed(*octets),
+            CowSlice::Owned(octets) => CowSlice::Owned(Vec::from_slice(alloc, octets)?),
+        };
+        Ok(Oid {
+            octets,
+            relative: self.relative,
+        })
     }
 
     /// The content octets.
@@ -174,6 +205,33 @@ impl Iterator for OidIter<'_> {
         }
         Some(value)
     }
+}
+
+/// The arcs that a text writes, with a point between them.
+fn parse_arcs(alloc: Global, text: &str) -> Result<Vec<u64>, OidParseError>
+    ensures { MatchResult result
+        (λ v. dotted_arcs text.now ≡ Some v.items)
+        (λ e. (e ≡ OutOfMemory) ⊎ ((e ≡ ParseInt) × (dotted_arcs text.now ≡ None))) }
+{
+    let mut arcs = Vec::new(alloc);
+    for component in text.split('.') {
+        let Some(arc) = parse_arc(component) else {
+            return Err(OidParseError::ParseInt);
+        };
+        arcs.push(arc)?;
+    }
+    Ok(arcs)
+}
+
+/// The number of at most 2^64-1 that digits write.
+fn parse_arc(digits: &str) -> Option<u64>
+    ensures { SomeIff result (IsTrue (is_arc digits.now)) (digits_value 10 digits.now) }
+{
+    // A sign is no digit, though `parse` takes one.
+    if digits.starts_with('+') {
+        return None;
+    }
+    digits.parse().ok()
 }
 
 /// The two arcs that the first subidentifier of an absolute identifier holds (8.19.4).
