@@ -18,6 +18,8 @@ pub mod Leaf
 pub mod LeafRefusal
 pub mod LengthOctets
 pub mod Octets
+pub mod OidArcs
+pub mod Oids
 pub mod Refusal
 pub mod Same
 pub mod Spelling
