@@ -25,4 +25,5 @@ pub mod Same
 pub mod Spelling
 pub mod Text
 pub mod Time
+pub mod TimeParts
 pub mod Tree
