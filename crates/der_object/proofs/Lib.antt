@@ -1,3 +1,4 @@
+pub mod Integers
 pub mod Joins
 pub mod Marks
 pub mod Room
