@@ -1,3 +1,4 @@
+pub mod Digits
 pub mod Integers
 pub mod Joins
 pub mod Marks

@@ -3,10 +3,10 @@ use Rattle.std.specs.Prelude.{List, map}
 use Rattle.der_base.specs.declared.header.Header.{Header}
 use Rattle.der_base.specs.Header.{class_of, is_constructed, number_of}
 use Rattle.der_base.specs.Oids.{octets_of, is_relative_of}
-use Rattle.der_base.specs.Tree.{Node, node, Content, end_of_content, boolean, integer, bit_string, octet_string, null, enumerated, object_identifier, relative_oid, text, bmp_string, universal_string, sequence, set, unknown, Nodes, no_nodes, nodes, nodes_of}
+use Rattle.der_base.specs.Tree.{Node, node, Content, end_of_content, boolean, integer, bit_string, octet_string, null, enumerated, object_identifier, relative_oid, text, bmp_string, universal_string, time, sequence, set, unknown, Nodes, no_nodes, nodes, nodes_of}
 use Rattle.der_object.specs.declared.object.BerObject.{BerObject}
 use Rattle.der_object.specs.declared.object.BerObjectContent.{BerObjectContent, Row_of-BerObject, end_of-BerObject, more_of-BerObject}
-use Rattle.der_object.specs.declared.object.BerObjectContent.TheVariants.{EndOfContent, Boolean, Integer, BitString, OctetString, Null, Enum, OID, RelativeOID, NumericString, VisibleString, PrintableString, IA5String, UTF8String, T61String, VideotexString, ObjectDescriptor, GraphicString, GeneralString, BmpString, UniversalString, Sequence', Set', Unknown}
+use Rattle.der_object.specs.declared.object.BerObjectContent.TheVariants.{EndOfContent, Boolean, Integer, BitString, OctetString, Null, Enum, OID, RelativeOID, NumericString, VisibleString, PrintableString, IA5String, UTF8String, T61String, VideotexString, ObjectDescriptor, GraphicString, GeneralString, BmpString, UniversalString, Sequence', Set', UTCTime, GeneralizedTime, Unknown}
 
 -- The node of a header and a content. The length and the raw tag of the header are no part of it.
 abbrev pub node_of : Header → Content → Node
@@ -37,6 +37,8 @@ abbrev mutual
   content_tree (UniversalString w) = universal_string w.now
   content_tree (Sequence' shape row) = sequence (row_tree row)
   content_tree (Set' shape row) = set (row_tree row)
+  content_tree (UTCTime t) = time 23 t
+  content_tree (GeneralizedTime t) = time 24 t
   content_tree (Unknown a) = unknown (class_of a.header) (is_constructed a.header) (number_of a.header) a.bytes.now
 
   -- the items of a list

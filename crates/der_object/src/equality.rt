@@ -82,6 +82,8 @@ fn same_content<'a>(a: &BerObjectContent<'a>, b: &BerObjectContent<'a>) -> bool
             BerObjectContent::Set(y) => same_items(x, y),
             _ => false,
         },
+        (BerObjectContent::UTCTime(x), BerObjectContent::UTCTime(y)) => x == y,
+        (BerObjectContent::GeneralizedTime(x), BerObjectContent::GeneralizedTime(y)) => x == y,
         (BerObjectContent::Unknown(x), BerObjectContent::Unknown(y)) => x == y,
         _ => false,
     }

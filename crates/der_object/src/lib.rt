@@ -6,7 +6,9 @@ mod equality;
 pub mod error;
 mod length;
 pub mod object;
+mod octets;
 mod serialize;
+mod time;
 
 pub use bit_string::BitStringObject;
 pub use error::{BerResult, DerResult};

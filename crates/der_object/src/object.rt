@@ -8,6 +8,7 @@ use crate::bit_string::BitStringObject;
 use der_base::any::Any;
 use der_base::header::{Class, Header, Length, Tag};
 use der_base::oid::Oid;
+use der_base::time::ASN1DateTime;
 
 /// A header and the content behind it (X.690 8.1.1).
 #[cycle(ast)]
@@ -67,6 +68,10 @@ pub enum BerObjectContent<'a> {
     Sequence(Vec<BerObject<'a>>),
     /// SET and SET OF, by the items in the order in which they stand (8.11, 8.12).
     Set(Vec<BerObject<'a>>),
+    /// UTCTime, by its fields, with the last two digits of the year (X.680 47).
+    UTCTime(ASN1DateTime),
+    /// GeneralizedTime, by its fields (X.680 46).
+    GeneralizedTime(ASN1DateTime),
     /// An element of another class or type, with its content octets as they stand.
     Unknown(Any<'a>),
 }
@@ -202,6 +207,8 @@ impl BerObjectContent<'_> {
             BerObjectContent::UniversalString(_) => Tag::UniversalString,
             BerObjectContent::Sequence(_) => Tag::Sequence,
             BerObjectContent::Set(_) => Tag::Set,
+            BerObjectContent::UTCTime(_) => Tag::UtcTime,
+            BerObjectContent::GeneralizedTime(_) => Tag::GeneralizedTime,
             BerObjectContent::Unknown(any) => any.tag(),
         }
     }
@@ -234,7 +241,9 @@ impl BerObjectContent<'_> {
             | BerObjectContent::Null
             | BerObjectContent::Enum(_)
             | BerObjectContent::Sequence(_)
-            | BerObjectContent::Set(_) => &[],
+            | BerObjectContent::Set(_)
+            | BerObjectContent::UTCTime(_)
+            | BerObjectContent::GeneralizedTime(_) => &[],
         }
     }
 }

@@ -13,6 +13,8 @@ ghost use Rattle.der_object.specs.View.{tree, content_tree, trees};
 
 use crate::length::{needs_zero, object_length};
 use crate::object::{BerObject, BerObjectContent};
+use crate::octets::{write_octet, write_octets};
+use crate::time::write_time;
 use der_base::error::GenError;
 use der_base::header::{Class, Header, Tag};
 use std::alloc::Global;
@@ -66,6 +68,8 @@ fn write_content(out: &mut [u8], end: usize, content: &BerObjectContent<'_>) -> 
         BerObjectContent::Enum(n) => write_integer(out, end, *n),
         BerObjectContent::Sequence(items) => write_items(out, end, items),
         BerObjectContent::Set(items) => write_items(out, end, items),
+        BerObjectContent::UTCTime(time) => write_time(out, end, 2, *time),
+        BerObjectContent::GeneralizedTime(time) => write_time(out, end, 4, *time),
         _ => write_octets(out, end, content.kept_octets()),
     }
 }
@@ -188,26 +192,4 @@ fn write_integer(out: &mut [u8], end: usize, n: u64) -> usize
     } else {
         begin
     }
-}
-
-/// Writes octets in front of a place.
-fn write_octets(out: &mut [u8], end: usize, octets: &[u8]) -> usize
-    requires room { length octets.now ≤ end }
-    requires within { end ≤ length out.old }
-    ensures { PutsBefore out.old out.new end octets.now result }
-{
-    let begin = end - octets.len();
-    out[begin..end].copy_from_slice(octets);
-    begin
-}
-
-/// Writes an octet in front of a place.
-fn write_octet(out: &mut [u8], end: usize, octet: u8) -> usize
-    requires room { length (octet ∷ []) ≤ end }
-    requires within { end ≤ length out.old }
-    ensures { PutsBefore out.old out.new end (octet ∷ []) result }
-{
-    let begin = end - 1;
-    out[begin] = octet;
-    begin
 }

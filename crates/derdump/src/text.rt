@@ -44,6 +44,8 @@ fn write_leaf<W: Write>(out: &mut W, content: &BerObjectContent<'_>) -> io::Resu
         BerObjectContent::BmpString(octets) => write_bmp(out, octets),
         BerObjectContent::UniversalString(octets) => write_universal(out, octets),
         BerObjectContent::Sequence(_) | BerObjectContent::Set(_) => Ok(()),
+        BerObjectContent::UTCTime(time) => write!(out, "UTCTime({time:?})"),
+        BerObjectContent::GeneralizedTime(time) => write!(out, "GeneralizedTime({time:?})"),
         BerObjectContent::Unknown(any) => {
             out.write_all(b"Unknown ")?;
             write_hex(out, any.bytes)
