@@ -63,7 +63,7 @@ fn read_to_end_marker<'a>(
         ⊥ }
 {
     let mut rest = i;
-    loop {
+    'elements: loop {
         let (behind, header) = ber_header_counted(rest, count)?;
         if budget == 1 {
             return Err(Err::Error(BerError::BerMaxDepth));
