@@ -12,7 +12,6 @@ use Rattle.der_base.specs.Headers.{BeginsWithHeader, ReadsHeader, BerHeaderLacks
 use Rattle.der_base.specs.Refusal.{Refusal}
 use Rattle.der_base.specs.Spelling.{BeginsWithElement, framing_budget}
 use Rattle.der_base.proofs.BerHeaders.{ber_header_same, ber_header_not_refused, ber_header_not_lacking}
-use Rattle.der_base.proofs.Elements.{element_begins}
 use Rattle.der_base.proofs.FramingCuts.{header_cut, content_cut, open_cut}
 use Rattle.der_base.proofs.FramingLaws.{open_header, framed_begins}
 use Rattle.der_base.proofs.FramingLists.{indefinite_header, element_from}

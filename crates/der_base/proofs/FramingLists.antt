@@ -1,5 +1,5 @@
 -- Elements that were read in front of a list, and what the list behind them shows.
-use Rattle.std.proofs.Common.{◌≡◌, ◌≢◌, ℕ, ◌+◌, ◌-◌, ◌^◌, ◌<◌, ◌≤◌, Bool, true, List, [], ◌∷◌, ◌++◌, length, refl, sym, ap, subst, ◌∙◌, arith, append_assoc, length-append, ◌⊎◌, inl, inr, ⊎_elim}
+use Rattle.std.proofs.Common.{◌≡◌, ℕ, ◌-◌, ◌<◌, ◌≤◌, Bool, true, List, [], ◌∷◌, ◌++◌, length, refl, sym, ap, subst, ◌∙◌, arith, append_assoc, length-append, ◌⊎◌, inl, inr, ⊎_elim}
 use Rattle.std.proofs.lemmas.Bool.{cases_lt}
 use Rattle.der_base.specs.declared.header.Class.{Class}
 use Rattle.der_base.specs.declared.header.Length.{Length}
@@ -11,7 +11,7 @@ use Rattle.der_base.specs.Headers.{BeginsWithHeader}
 use Rattle.der_base.specs.LengthOctets.{BeginsWithLength}
 use Rattle.der_base.specs.Octets.{identifier, SpellsLength}
 use Rattle.der_base.specs.Refusal.{Refusal}
-use Rattle.der_base.specs.Spelling.{IsRawList, end_marker}
+use Rattle.der_base.specs.Spelling.{end_marker}
 use Rattle.der_base.proofs.BerHeaders.{ber_header_same, ber_header_not_refused}
 use Rattle.der_base.proofs.Framed.{element_same, elements_append, elements_more}
 use Rattle.der_base.proofs.FramingLaws.{HasSomeHeader, element_has_header, marker_has_header, inside_not_refused}
