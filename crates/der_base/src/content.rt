@@ -13,6 +13,7 @@ use crate::header::{HeaderCount, Length, ber_header_counted};
 /// octets, without the end marker. Indefinite lengths, this one among them, are nested below the
 /// budget. Each header that is counted takes an octet at least.
 #[cycle(framing)]
+#[inline]
 pub fn read_content<'a>(
     i: &'a [u8],
     stated: Length,
