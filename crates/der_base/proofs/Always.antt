@@ -69,7 +69,7 @@ even n h = grind arith
 time_content : (p : Bool) (k : ℕ) (w : List ℕ) → p ≡ false → ¬ IsNotTime k w → HasContent p k w
 time_content p k w q n = let h = sure _ (decided_time k w) (λ m. n (λ t h. m (t, h))) in (time k h.0, (refl, q, h.1))
 
-or_cases : (a b : Bool) (P : Type 0) → (a || b) ≡ true → (a ≡ true → P) → (b ≡ true → P) → P
+pub or_cases : (a b : Bool) (P : Type 0) → (a || b) ≡ true → (a ≡ true → P) → (b ≡ true → P) → P
 or_cases true b P h f g = f refl
 or_cases false b P h f g = g h
 

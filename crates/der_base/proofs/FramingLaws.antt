@@ -1,5 +1,5 @@
 -- An element in front of the input, a refusal of its header or of its framing, and its end within an element: one of them holds at most, and each in one way.
-use Rattle.std.proofs.Common.{◌≡◌, ◌≢◌, ℕ, ◌-◌, ◌^◌, ◌<◌, ◌≤◌, Bool, true, false, List, [], ◌∷◌, ◌++◌, length, refl, sym, ap, subst, ◌∙◌, arith, append_assoc, ◌⊎◌, inl, inr}
+use Rattle.std.proofs.Common.{◌≡◌, ◌≢◌, ℕ, ◌-◌, ◌^◌, ◌<◌, ◌≤◌, Bool, true, false, List, [], ◌∷◌, ◌++◌, length, refl, sym, ap, subst, ◌∙◌, arith, append_assoc, length-append, ◌⊎◌, inl, inr}
 use Rattle.der_base.specs.declared.header.Class.{Class}
 use Rattle.der_base.specs.declared.header.Class.TheVariants.{Universal}
 use Rattle.der_base.specs.declared.header.Length.{Length}
@@ -14,7 +14,7 @@ use Rattle.der_base.specs.Refusal.{Refusal}
 use Rattle.der_base.specs.Spelling.{IsRawList, end_marker, framing_budget, BeginsWithElement}
 use Rattle.der_base.proofs.BerHeaders.{ber_header_not_refused, ber_header_refusal_same}
 use Rattle.der_base.proofs.Framed.{at_marker, element_same}
-use Rattle.der_base.proofs.Identifiers.{head_same, identifier_same}
+use Rattle.der_base.proofs.Identifiers.{head_same, identifier_octets, identifier_same}
 use Rattle.der_base.proofs.Raws.{definite_not_open, marker_is, open_not_end, zero_length}
 use Rattle.der_base.proofs.Restated.{raws_are, are_raws}
 use Rattle.der_base.proofs.Shapes.{cut_is_none}
@@ -56,6 +56,17 @@ pub framed_begins : {b : List ℕ} {h : Length} {c : Class} {p : Bool} {t : ℕ}
 framed_begins rest (definite {c = c} {p = p} {t = t} {w = w} s eh ht hk hs d) = (ht, hk, inl (s, hs, ap (λ l. l ++ rest) (d ∙ sym (append_assoc (identifier c p t) s w))))
 framed_begins rest (indefinite {c = c} {p = p} {t = t} {w = w} eh ep ht hk hw d) =
     (ht, omega (arith, hk), inr (ep, hk, are_raws hw, ap (λ l. l ++ rest) (d ∙ sym (append_assoc (identifier c p t) (128 ∷ w) end_marker))))
+
+-- an element has an octet
+element_octets : {b : List ℕ} {h : Length} {c : Class} {p : Bool} {t : ℕ} {w : List ℕ} {k : ℕ} → IsElement b h c p t w k → 0 < length b
+element_octets (definite {c = c} {p = p} {t = t} {w = w} s eh ht hk hs d) = omega (arith, ap length d, length-append (identifier c p t) (s ++ w), identifier_octets c p t)
+element_octets (indefinite {c = c} {p = p} {t = t} {w = w} eh ep ht hk hw d) = omega (arith, ap length d, length-append (identifier c p t) (128 ∷ w ++ end_marker), identifier_octets c p t)
+
+-- so what follows it is shorter
+pub element_shorter : (i : List ℕ) (k : ℕ) (c : Class) (p : Bool) (t : ℕ) (w rest : List ℕ) → BeginsWithElement i k c p t w rest → length rest < length i
+element_shorter i k c p t w rest g =
+    let a = begins_framed i k c p t w rest g in
+    omega (arith, ap length a.3, length-append a.0 rest, element_octets a.2)
 
 -- the end marker is a header too
 pub marker_has_header : (i x : List ℕ) → i ≡ end_marker ++ x → BeginsWithHeader i Universal false 0 (Definite 0) x

@@ -1,6 +1,6 @@
 //! Refusals, and what a parser answers in place of a value.
 ghost use Rattle.std.specs.Prelude.{◌≡◌, ◌≢◌, None};
-ghost use Rattle.der_base.specs.Errors.{MapsError};
+ghost use Rattle.der_base.specs.Errors.{CutsItem, MapsError};
 ghost use Rattle.der_base.specs.declared.error.Err.TheVariants.{Error as an_error, OutOfMemory as out_of_memory};
 ghost use Rattle.der_base.specs.declared.error.Error.TheVariants.{NomError};
 
@@ -45,6 +45,17 @@ impl<E> Err<E> {
         ensures { MapsError X.from_gives e result }
     {
         e.map(|x| X::from(x))
+    }
+}
+
+/// The answer for an item of a list: one that the end of its list cuts short is refused, since
+/// more octets behind the list don't help.
+pub fn cut_item(e: Err<BerError>) -> Err<BerError>
+    ensures { CutsItem e result }
+{
+    match e {
+        Err::Incomplete(needed) => Err::Error(BerError::Incomplete(needed)),
+        other => other,
     }
 }
 

@@ -8,6 +8,7 @@ ghost use Rattle.der_base.specs.Fault.{BerHeaderRefuses, DerHeaderRefuses};
 ghost use Rattle.der_base.specs.Count.{one_more};
 ghost use Rattle.der_base.specs.Header.{IsHeader};
 ghost use Rattle.der_base.specs.Headers.{BeginsWithHeader, ReadsHeader, BerHeaderLacks, BeginsWithDerHeader, ReadsDerHeader, DerHeaderLacks};
+ghost use Rattle.der_base.specs.Leaf.{is_mapped};
 ghost use Rattle.der_base.specs.Octets.{identifier};
 ghost use Rattle.der_base.specs.Refusal.{Refusal, refusal, construct_expected, construct_unexpected, unexpected_class, unexpected_tag};
 
@@ -102,6 +103,14 @@ impl Tag {
     pub const UniversalString: Tag = Tag(28);
 
     pub const BmpString: Tag = Tag(30);
+
+    /// Whether the universal type of this number has a content of its own.
+    #[inline]
+    pub fn is_mapped(self) -> bool
+        ensures { result ≡ is_mapped self.0 }
+    {
+        matches!(self.0, 0..=7 | 10 | 12 | 13 | 16..=28 | 30)
+    }
 }
 
 impl From<u32> for Tag {

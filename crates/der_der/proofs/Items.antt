@@ -10,13 +10,7 @@ use Rattle.std.specs.declared.alloc.Global.{Global}
 use Rattle.der_base.specs.declared.any.Any.{Any}
 use Rattle.der_base.specs.declared.header.Header.{Header}
 use Rattle.der_base.specs.declared.header.Length.TheVariants.{Definite}
-use Rattle.der_base.specs.declared.error.Err.{Err as Refused}
-use Rattle.der_base.specs.declared.error.Err.TheVariants.{Incomplete, Error, Failure, OutOfMemory}
-use Rattle.der_base.specs.declared.error.Error.{Error as BerError}
-use Rattle.der_base.specs.declared.error.Needed.TheVariants.{Unknown, Size}
-use Rattle.der_base.specs.Answer.{MatchAnswer}
 use Rattle.der_base.specs.Cut.{DerLacks}
-use Rattle.der_base.specs.Errors.{CutsItem}
 use Rattle.der_base.specs.DerColumns.{IsContentReadBy}
 use Rattle.der_base.specs.Encoding.{encoding, encodings, element, content_octets}
 use Rattle.der_base.specs.Fault.{DerHeaderRefuses, DerJoins, ItemRefuses}
@@ -30,7 +24,7 @@ use Rattle.der_base.specs.Tree.{Content, end_of_content, boolean, integer, bit_s
 use Rattle.der_base.proofs.DerFaults.{header_shows, size_shows, behind_shows, header_cut_shows_nothing, content_cut_shows_nothing}
 use Rattle.der_base.proofs.DerLacking.{der_header_cut, der_content_cut}
 use Rattle.der_base.proofs.DerWithinBer.{valid_element}
-use Rattle.der_base.proofs.Identifiers.{identifier_short, identifier_long}
+use Rattle.der_base.proofs.Identifiers.{identifier_octets}
 use Rattle.der_object.specs.declared.object.BerObject.{BerObject}
 use Rattle.der_object.specs.declared.object.BerObjectContent.{BerObjectContent}
 use Rattle.der_object.specs.declared.object.BerObjectContent.TheVariants.{Sequence, Set, Unknown}
@@ -39,8 +33,8 @@ use Rattle.der_object.specs.View.{tree, content_tree, trees}
 use Rattle.der_object.proofs.Joins.{der_joins_push}
 use Rattle.der_object.proofs.Marks.{sequence_each, set_each, leaf_each, leaf_keeps, each_push}
 use Rattle.der_object.proofs.Trees.{sequence_tree, set_tree}
-use Rattle.der_der.specs.Leaves.{is_built, IsBuiltType, ColumnRefuses, ReadsDerLeaf, IsDerContentOf}
-use Rattle.der_der.specs.Reading.{IsBuilt, AreBuilt, ReadsDer, AreItems, IsContentOf, DerRefuses, DerIsCut, BeginsWithItems, ContentRefuses}
+use Rattle.der_der.specs.DerLeaves.{is_built, IsBuiltType, ColumnRefuses, ReadsDerLeaf, IsDerContentOf}
+use Rattle.der_der.specs.DerReading.{IsBuilt, AreBuilt, ReadsDer, AreItems, IsContentOf, DerRefuses, DerIsCut, BeginsWithItems, ContentRefuses}
 
 built_push : (os : List BerObject) (o : BerObject) → AreBuilt (trees os) → IsBuilt (tree o) → AreBuilt (trees (os ++ o ∷ []))
 built_push [] o k h = (h, tt)
@@ -184,32 +178,11 @@ content_refused (suc d) i rest w r c p t n e h b s o z (u, m, q) =
     let k : suc d - 1 ≡ d = omega arith in
     behind_shows ColumnRefuses IsBuiltType d i rest c p t n e b (inr (s, u, m, w, r, o, z, rw k at q))
 
-some_octets : (r : List ℕ) → 0 < length r → r ≢ []
-some_octets r h e = omega (arith, h, ap (λ l. length l) e)
-
--- the refusal of an item is that of its list
-pub item_answer : {T T' : Type 0} (P : T → Type 0) (P' : T' → Type 0) (M M' : Type 0) (Q : Refusal → Type 0) (d : ℕ) (r : List ℕ) (e e' : Refused BerError) → CutsItem e e' → 0 < length r
-    → MatchAnswer {T = T} (Err e) P (DerRefuses d r) (DerIsCut d r) M → ((x : Refusal) → ItemRefuses (DerRefuses d) DerLacks r x → Q x) → (M → M')
-    → MatchAnswer {T = T'} (Err e') P' Q (λ _. ⊥) M'
-item_answer P P' M M' Q d r (Error x) e' k some h f g = rw k (f (refusal x) (some_octets r some, inl h))
-item_answer P P' M M' Q d r (Incomplete (Size n)) e' k some h f g = rw k (f (incomplete (Size n)) (some_octets r some, inr (n, h.0, h.1, h.2, refl)))
-item_answer P P' M M' Q d r (Incomplete Unknown) e' k some h f g = absurd h
-item_answer P P' M M' Q d r (Failure x) e' k some h f g = absurd h
-item_answer P P' M M' Q d r OutOfMemory e' k some h f g = rw k (g h)
-
 universal_or_not : (c : Class) → (c ≡ Universal) ⊎ (c ≢ Universal)
 universal_or_not Universal = inl refl
 universal_or_not Application = inr (λ e. cc)
 universal_or_not ContextSpecific = inr (λ e. cc)
 universal_or_not Private = inr (λ e. cc)
-
--- an identifier has an octet
-identifier_octets : (c : Class) (p : Bool) (t : ℕ) → 0 < length (identifier c p t)
-identifier_octets c p t =
-    ⊎_elim
-    (λ h. omega (arith, ap length (identifier_short c p t h)))
-    (λ h. omega (arith, ap length (identifier_long c p t h)))
-    (cases_lt t 31)
 
 -- refusals and cuts of a header, at a depth of at least 1
 pub header_refused : (d : ℕ) (i : List ℕ) (e : Refusal) → 1 ≤ d → DerHeaderRefuses i e → DerRefuses d i e
@@ -245,6 +218,3 @@ content_memory d i rest w r c p t n b o z (deep, u, q, k, some) = (deep, (t, w, 
 pub header_shorter : (i rest : List ℕ) (c : Class) (p : Bool) (t n : ℕ) → BeginsWithDerHeader i c p t n rest → length rest < length i
 header_shorter i rest c p t n b =
     omega (arith, ap length b.octets, length-append (identifier c p t ++ shortest_length n) rest, length-append (identifier c p t) (shortest_length n), identifier_octets c p t)
-
-pub some_content : (w u r : List ℕ) → w ≡ u ++ r → 0 < length r → w ≢ []
-some_content w u r e h z = omega (arith, h, ap (λ l. length l) z, ap (λ l. length l) e, length-append u r)

@@ -12,8 +12,8 @@ use Rattle.der_base.proofs.DerFaults.{ColumnLaws, spelled_shows_nothing, shows_o
 use Rattle.der_base.proofs.DerLacking.{der_lacks_same}
 use Rattle.der_base.proofs.DerWithinBer.{der_spelling_same, der_spelled_not_cut}
 use Rattle.der_base.proofs.FirstLeaves.{der_leaf_accepted, first_refusal_same}
-use Rattle.der_der.specs.Leaves.{is_built, IsBuiltType, column_tests, ColumnRefuses}
-use Rattle.der_der.specs.Reading.{IsBuilt, DerRefuses, DerIsCut}
+use Rattle.der_der.specs.DerLeaves.{is_built, IsBuiltType, column_tests, ColumnRefuses}
+use Rattle.der_der.specs.DerReading.{IsBuilt, DerRefuses, DerIsCut}
 
 pick : (b : Bool) (ts us : List Test) (e : Refusal) → IsTrue b → IsFirstRefusal (choose b ts us) e → IsFirstRefusal ts e
 pick true ts us e h r = r

@@ -1,2 +1,2 @@
-pub mod Leaves
-pub mod Reading
+pub mod DerLeaves
+pub mod DerReading

@@ -5,19 +5,11 @@ ghost use Rattle.der_base.specs.LeafRefusal.{DerLeafRefuses};
 ghost use Rattle.der_base.specs.Refusal.{refusal};
 ghost use Rattle.der_base.specs.Tree.{boolean, integer};
 ghost use Rattle.der_object.specs.View.{content_tree};
-ghost use Rattle.der_der.specs.Leaves.{is_built, ReadsDerLeaf, ColumnRefuses};
+ghost use Rattle.der_der.specs.DerLeaves.{is_built, ReadsDerLeaf, ColumnRefuses};
 
 use der_base::error::{BerError, DerConstraint};
 use der_base::header::Tag;
 use der_object::object::BerObjectContent;
-
-/// Whether a universal type has a content of its own (X.680 8.4, table 1).
-#[inline]
-pub fn is_mapped(tag: Tag) -> bool
-    ensures { result ≡ is_mapped tag.0 }
-{
-    matches!(tag.0, 0..=7 | 10 | 12 | 13 | 16..=28 | 30)
-}
 
 /// Reads the content octets of a universal type that is no list, which DER wants primitive.
 /// A type that isn't read yet is Unsupported.

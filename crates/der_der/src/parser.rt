@@ -5,7 +5,7 @@ ghost use Rattle.der_base.specs.Refusal.{Refusal};
 ghost use Rattle.der_base.specs.Spelling.{DerSpells};
 ghost use Rattle.der_base.specs.Tree.{Node};
 ghost use Rattle.der_object.specs.View.{tree};
-ghost use Rattle.der_der.specs.Reading.{IsBuilt, ReadsDer, DerRefuses, DerIsCut, NeedsMemory};
+ghost use Rattle.der_der.specs.DerReading.{IsBuilt, ReadsDer, DerRefuses, DerIsCut, NeedsMemory};
 
 use crate::reader::read_element;
 use der_base::MAX_RECURSION;

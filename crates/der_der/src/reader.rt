@@ -3,18 +3,17 @@
 ghost use Rattle.std.specs.Prelude.{◌≡◌, ◌≢◌, ◌+◌, ◌-◌, ◌<◌, ◌≤◌, ℕ, List, [], ◌++◌, IfOk, IsOkAnd, IsTrue, length, true};
 ghost use Rattle.der_base.specs.declared.header.Class.{Class};
 ghost use Rattle.der_base.specs.Answer.{MatchAnswer, AnswersError, AnswersIncomplete};
-ghost use Rattle.der_base.specs.Errors.{CutsItem};
 ghost use Rattle.der_base.specs.Header.{class_of, is_constructed, number_of};
 ghost use Rattle.der_base.specs.Leaf.{is_list};
 ghost use Rattle.der_base.specs.Refusal.{Refusal};
 ghost use Rattle.der_base.specs.Spelling.{DerSpells};
 ghost use Rattle.der_base.specs.Tree.{Node};
-ghost use Rattle.der_der.specs.Reading.{ReadsDer, AreItems, IsContentOf, DerRefuses, DerIsCut, NeedsMemory, ContentRefuses, ItemsRefuse};
+ghost use Rattle.der_der.specs.DerReading.{ReadsDer, AreItems, IsContentOf, DerRefuses, DerIsCut, NeedsMemory, ContentRefuses, ItemsRefuse};
 
-use crate::leaf::{is_mapped, read_leaf};
+use crate::leaf::read_leaf;
 use der_base::MAX_OBJECT_SIZE;
 use der_base::any::Any;
-use der_base::error::{BerError, Err, Needed};
+use der_base::error::{BerError, Err, Needed, cut_item};
 use der_base::header::{Header, HeaderCount, Tag, der_header_counted};
 use der_object::{BerObject, BerObjectContent, BerResult};
 use std::alloc::Global;
@@ -76,7 +75,7 @@ fn read_content<'a>(
         ((2 ≤ max_depth) × (class_of h ≡ Class.Universal) × (is_constructed h ≡ true) × IsTrue (is_list (number_of h)) × (content.now ≢ [])) }
 {
     let tag = header.tag();
-    if !header.is_universal() || !is_mapped(tag) {
+    if !header.is_universal() || !tag.is_mapped() {
         return Ok(BerObjectContent::Unknown(Any::new(header, content)));
     }
     if tag == Tag::Sequence {
@@ -116,15 +115,4 @@ fn read_items<'a>(
         }
     }
     Ok(items)
-}
-
-/// An item that is cut short by the end of its list is refused: more octets behind the list don't
-/// help.
-fn cut_item(e: Err<BerError>) -> Err<BerError>
-    ensures { CutsItem e result }
-{
-    match e {
-        Err::Incomplete(needed) => Err::Error(BerError::Incomplete(needed)),
-        other => other,
-    }
 }

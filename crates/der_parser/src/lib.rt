@@ -3,6 +3,7 @@
 #![tactic(auto)]
 
 pub use der_base::error::IResult;
+pub use der_ber::parse_ber;
 pub use der_der::parse_der;
 
 /// Refusals, and what a parser answers.
@@ -13,20 +14,30 @@ pub mod error {
     pub use der_object::{BerResult, DerResult};
 }
 
-/// Objects, and what BER and DER share.
+/// Objects, what BER and DER share, and reading by BER.
 pub mod ber {
     pub use der_base::any::Any;
     pub use der_base::header::{
         Class, Header, HeaderCount, Length, Tag, ber_header_counted, ber_read_element_header,
-        der_header_counted,
     };
     pub use der_base::{MAX_OBJECT_SIZE, MAX_RECURSION};
+    pub use der_ber::{parse_ber, parse_ber_any_r, parse_ber_counted, parse_ber_recursive};
     pub use der_object::{BerObject, BerObjectContent};
+
+    /// Names that earlier versions of the crate had.
+    pub mod compat {
+        pub use der_base::header::{
+            Class as BerClass, Header as BerObjectHeader, Length as BerSize, Tag, Tag as BerTag,
+        };
+    }
 }
 
 /// Reading by DER.
 pub mod der {
-    pub use der_base::header::{Class, Header, Tag, der_read_element_header};
+    pub use der_base::header::{
+        Class, Class as DerClass, Header, Header as DerObjectHeader, Tag, Tag as DerTag,
+        der_header_counted, der_read_element_header,
+    };
     pub use der_der::{parse_der, parse_der_counted, parse_der_recursive};
     pub use der_object::{DerObject, DerObjectContent};
 }

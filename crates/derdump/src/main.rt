@@ -1,9 +1,10 @@
-//! `derdump der` prints the DER elements of its standard input, one a line.
+//! `derdump ber` and `derdump der` print the elements of their standard input, one a line.
 #![tactic(auto)]
 
 mod fault;
 mod hex;
 mod input;
+mod rules;
 mod run;
 #[cfg(test)]
 mod tests;

@@ -1,13 +1,14 @@
 //! What the program does, over any reader and writers.
-ghost use Rattle.std.specs.Prelude.{◌≡◌, ◌≢◌, ◌≤◌, ◌↔◌, codes, length, IfSome, OnOk};
+ghost use Rattle.std.specs.Prelude.{◌≡◌, ◌≤◌, ◌↔◌, length, IfSome, OnOk};
 ghost use Rattle.std.specs.Io.KnownBytes.{IsAtEnd};
-ghost use Rattle.derdump.specs.Elements.{AreDerElements};
+ghost use Rattle.derdump.specs.Elements.{AreElements};
+ghost use Rattle.derdump.specs.Words.{Names};
 
 use crate::fault::Fault;
 use crate::input::read_input;
+use crate::rules::{Rules, named_rules, read_object};
 use crate::text::write_text;
 use der_parser::ber::BerObject;
-use der_parser::parse_der;
 use std::alloc::Global;
 use std::io;
 use std::io::{BufWriter, Read, Write};
@@ -24,23 +25,23 @@ pub fn run<R: Read, W: Write, X: Write>(
 ) -> u8
     ensures status { result ≤ 2 }
 
-    // Another word: nothing is read, and nothing printed.
-    ensures usage { (result ≡ 2) ↔ (word.now ≢ codes "der") }
-    ensures unread { word.now ≢ codes "der" → reader.new ≡ reader.old }
-    ensures unwritten { word.now ≢ codes "der" → out.new ≡ out.old }
+    // A word that names no rules: nothing is read, and nothing printed.
+    ensures usage { (result ≡ 2) ↔ ((rules : Rules) → ¬ Names word.now rules) }
+    ensures unread { result ≡ 2 → reader.new ≡ reader.old }
+    ensures unwritten { result ≡ 2 → out.new ≡ out.old }
 
-    // No fault: the whole input was read, it is DER throughout and no larger than the limit, and
-    // nothing was told.
+    // No fault: the whole input was read, it is elements by these rules throughout and no larger
+    // than the limit, and nothing was told.
     ensures whole { result ≡ 0 → IsAtEnd (R.remaining reader.new) }
-    ensures elements { result ≡ 0 → IfSome (R.remaining reader.old) AreDerElements }
+    ensures elements { (rules : Rules) → Names word.now rules → result ≡ 0 → IfSome (R.remaining reader.old) (AreElements rules) }
     ensures bounded { result ≡ 0 → IfSome (R.remaining reader.old) (λ xs. length xs ≤ 67108864) }
     ensures quiet { result ≡ 0 → err.new ≡ err.old }
 {
-    if word != "der" {
+    let Some(rules) = named_rules(word) else {
         tell(err, Fault::Usage);
         return 2;
-    }
-    match dump(alloc, reader, out) {
+    };
+    match dump(alloc, rules, reader, out) {
         Ok(()) => 0,
         Err(fault) => {
             tell(err, fault);
@@ -50,30 +51,36 @@ pub fn run<R: Read, W: Write, X: Write>(
 }
 
 /// Reads everything, and then prints the elements.
-fn dump<R: Read, W: Write>(alloc: Global, reader: &mut R, out: &mut W) -> Result<(), Fault>
+fn dump<R: Read, W: Write>(
+    alloc: Global,
+    rules: Rules,
+    reader: &mut R,
+    out: &mut W,
+) -> Result<(), Fault>
     ensures whole { OnOk result (IsAtEnd (R.remaining reader.new)) }
-    ensures elements { OnOk result (IfSome (R.remaining reader.old) AreDerElements) }
+    ensures elements { OnOk result (IfSome (R.remaining reader.old) (AreElements rules)) }
     ensures bounded { OnOk result (IfSome (R.remaining reader.old) (λ xs. length xs ≤ 67108864)) }
 {
     let input = read_input(alloc, reader)?;
     let Ok(mut output) = BufWriter::new(alloc, out) else {
         return Err(Fault::OutOfMemory);
     };
-    print_elements(alloc, &input, &mut output)
+    print_elements(alloc, rules, &input, &mut output)
 }
 
 /// Prints each element of the input, up to one that is refused. What was printed has been handed
 /// on when a refusal is answered.
 fn print_elements<W: Write + Drop>(
     alloc: Global,
+    rules: Rules,
     input: &[u8],
     output: &mut BufWriter<W>,
 ) -> Result<(), Fault>
-    ensures { OnOk result (AreDerElements input.now) }
+    ensures { OnOk result (AreElements rules input.now) }
 {
     let mut rest = input;
     while !rest.is_empty() {
-        match parse_der(alloc, rest) {
+        match read_object(alloc, rules, rest) {
             Ok((after, object)) => {
                 print_line(output, object)?;
                 rest = after;

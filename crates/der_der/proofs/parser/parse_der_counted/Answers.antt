@@ -1,6 +1,6 @@
 use Rattle.der_base.proofs.Answering.{only_ok_or, only_error_or, only_incomplete_or}
 use Rattle.der_object.specs.View.{tree}
-use Rattle.der_der.specs.Reading.{NeedsMemory}
+use Rattle.der_der.specs.DerReading.{NeedsMemory}
 use Rattle.der_der.proofs.ReadingLaws.{spelled_not_refused, refusal_same, spelled_not_cut, cut_same, spelled_same}
 use Rattle.der_der.proofs.parser.parse_der_counted.Goals as goal
 

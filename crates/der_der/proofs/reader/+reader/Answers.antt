@@ -3,15 +3,18 @@ use Rattle.std.proofs.lemmas.Bool.Decides.{nat_tests}
 use Rattle.std.proofs.lemmas.List.{take-append-drop}
 use Rattle.std.proofs.lemmas.Result.{err_from_is_err_and}
 use Rattle.der_base.specs.declared.header.Class.TheVariants.{Universal}
+use Rattle.der_base.specs.Cut.{DerLacks}
 use Rattle.der_base.specs.Header.{class_of, is_constructed, number_of}
 use Rattle.der_base.specs.Spelling.{max_object_size}
 use Rattle.der_base.specs.Leaf.{is_mapped}
 use Rattle.der_base.specs.Refusal.{refusal}
 use Rattle.der_base.proofs.Answering.{passed_on}
 use Rattle.der_base.proofs.DerWithinBer.{content_tall}
+use Rattle.der_base.proofs.ItemAnswers.{item_answer, some_content}
 use Rattle.der_object.specs.View.{content_tree, trees}
-use Rattle.der_der.specs.Leaves.{ColumnRefuses}
-use Rattle.der_der.proofs.Items.{sequence_content, set_content, header_refused, header_cut, size_refused, content_cut, content_refused, content_memory, element_read, header_shorter, item_answer, some_content, read_more, read_all}
+use Rattle.der_der.specs.DerLeaves.{ColumnRefuses}
+use Rattle.der_der.specs.DerReading.{DerRefuses}
+use Rattle.der_der.proofs.Items.{sequence_content, set_content, header_refused, header_cut, size_refused, content_cut, content_refused, content_memory, element_read, header_shorter, read_more, read_all}
 use Rattle.der_der.proofs.reader.+reader.Goals as goal
 
 pub read_content-returns-then-eq : goal.read_content-returns-then-eq
@@ -112,7 +115,7 @@ read_items-returns-in-Err t c =
     let rest = c.loop-rest.rest.now in
     let r = c.loop-rest.invariant in
     let some : 0 < length rest = grind (arith, nat_tests) in
-    item_answer _ _ _ _ _ c.args.max_depth rest c.in-Err.e c.cut_item.result c.cut_item.ensures some c.in-Err.ensures.found
+    item_answer _ _ _ _ _ (DerRefuses c.args.max_depth) DerLacks rest c.in-Err.e c.cut_item.result c.cut_item.ensures some c.in-Err.ensures.found
     (λ x h. (trees c.loop-rest.items.items, r.read, rest, r.parts, r.joins, r.built, h))
     (λ m. (omega (arith, m.0), some_content w r.read rest r.parts some))
 

@@ -16,7 +16,7 @@ use Rattle.der_object.specs.declared.object.BerObject.{BerObject}
 use Rattle.der_object.specs.declared.object.BerObjectContent.{BerObjectContent}
 use Rattle.der_object.specs.Marks.{EachInside, KeepsHeader, HasShortestMark, HasShortestMarks}
 use Rattle.der_object.specs.View.{tree, content_tree, trees}
-use Rattle.der_der.specs.Leaves.{IsBuiltType, ColumnRefuses, IsDerContentOf}
+use Rattle.der_der.specs.DerLeaves.{IsBuiltType, ColumnRefuses, IsDerContentOf}
 
 -- each leaf of the tree is of a type that is read
 abbrev pub IsBuilt : Node → Type 0

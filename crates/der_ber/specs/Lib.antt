@@ -1,0 +1,2 @@
+pub mod BerLeaves
+pub mod BerReading

@@ -1,0 +1,8 @@
+//! The readers of BER (X.690 8).
+#![tactic(auto)]
+
+mod leaf;
+pub mod parser;
+mod reader;
+
+pub use parser::{parse_ber, parse_ber_any_r, parse_ber_counted, parse_ber_recursive};

@@ -1,0 +1,78 @@
+//! The full reader of BER.
+ghost use Rattle.std.specs.Prelude.{◌≡◌, ◌<◌, ℕ, List, ◌++◌, IfOk, length};
+ghost use Rattle.der_base.specs.Answer.{MatchAnswer, AnswersOkOr, AnswersErrorOr, AnswersIncompleteOr};
+ghost use Rattle.der_base.specs.Refusal.{Refusal};
+ghost use Rattle.der_base.specs.Spelling.{BerSpells, framing_budget};
+ghost use Rattle.der_base.specs.Tree.{Node};
+ghost use Rattle.der_object.specs.View.{tree};
+ghost use Rattle.der_ber.specs.BerReading.{IsBuilt, ReadsBer, BerRefuses, BerIsCut, NeedsMemory};
+
+use crate::reader::read_element;
+use der_base::MAX_RECURSION;
+use der_base::header::HeaderCount;
+use der_object::BerResult;
+use std::alloc::Global;
+
+/// Reads one object in BER, to the depth `MAX_RECURSION`: as `parse_ber_recursive`.
+pub fn parse_ber<'a>(alloc: Global, i: &'a [u8]) -> BerResult<'a>
+    ensures found { MatchAnswer result (λ x. ReadsBer 50 i.now x.1 x.0.now) (BerRefuses 50 i.now) (BerIsCut 50 i.now) (NeedsMemory 50 i.now) }
+    ensures only { (b rest : List ℕ) (o : Node) → IsBuilt o → BerSpells b o 50 framing_budget → i.now ≡ b ++ rest
+        → AnswersOkOr (NeedsMemory 50 i.now) result (λ x. (tree x.1 ≡ o) × (x.0.now ≡ rest)) }
+    ensures refuses { (e : Refusal) → BerRefuses 50 i.now e → AnswersErrorOr (NeedsMemory 50 i.now) result e }
+    ensures lacks { (n : ℕ) → BerIsCut 50 i.now n → AnswersIncompleteOr (NeedsMemory 50 i.now) result n }
+    ensures shorter { IfOk result (λ x. length x.0.now < length i.now) }
+{
+    parse_ber_recursive(alloc, i, MAX_RECURSION)
+}
+
+/// Reads one object in BER, and answers what is left of the input: Ok exactly where the input
+/// begins with a BER spelling of an object, nested no deeper than `max_depth`, with indefinite
+/// lengths nested no deeper than 49 (8.1.3). Each header has the length and the identifier octets
+/// as read.
+///
+/// Refusals, in this order: BerMaxDepth at depth 0; those of `Any::from_ber`, which are those of
+/// the header and, for an indefinite length, of the headers in it; ConstructExpected for a
+/// primitive SEQUENCE or SET; those of the type; those of the first item that is refused, at a
+/// depth less, where an item that its list cuts short is the refusal Incomplete. Incomplete where
+/// the input ends within the element, with the number of octets that it lacks. OutOfMemory only at
+/// depth 2 and more, where the input begins with a whole list that has items.
+pub fn parse_ber_recursive<'a>(alloc: Global, i: &'a [u8], max_depth: usize) -> BerResult<'a>
+    ensures found { MatchAnswer result (λ x. ReadsBer max_depth i.now x.1 x.0.now) (BerRefuses max_depth i.now) (BerIsCut max_depth i.now) (NeedsMemory max_depth i.now) }
+    ensures only { (b rest : List ℕ) (o : Node) → IsBuilt o → BerSpells b o max_depth framing_budget → i.now ≡ b ++ rest
+        → AnswersOkOr (NeedsMemory max_depth i.now) result (λ x. (tree x.1 ≡ o) × (x.0.now ≡ rest)) }
+    ensures refuses { (e : Refusal) → BerRefuses max_depth i.now e → AnswersErrorOr (NeedsMemory max_depth i.now) result e }
+    ensures lacks { (n : ℕ) → BerIsCut max_depth i.now n → AnswersIncompleteOr (NeedsMemory max_depth i.now) result n }
+    ensures shorter { IfOk result (λ x. length x.0.now < length i.now) }
+{
+    let mut count = HeaderCount::new();
+    parse_ber_counted(alloc, i, max_depth, &mut count)
+}
+
+/// The same as `parse_ber_recursive`.
+pub fn parse_ber_any_r<'a>(alloc: Global, i: &'a [u8], max_depth: usize) -> BerResult<'a>
+    ensures found { MatchAnswer result (λ x. ReadsBer max_depth i.now x.1 x.0.now) (BerRefuses max_depth i.now) (BerIsCut max_depth i.now) (NeedsMemory max_depth i.now) }
+    ensures only { (b rest : List ℕ) (o : Node) → IsBuilt o → BerSpells b o max_depth framing_budget → i.now ≡ b ++ rest
+        → AnswersOkOr (NeedsMemory max_depth i.now) result (λ x. (tree x.1 ≡ o) × (x.0.now ≡ rest)) }
+    ensures refuses { (e : Refusal) → BerRefuses max_depth i.now e → AnswersErrorOr (NeedsMemory max_depth i.now) result e }
+    ensures lacks { (n : ℕ) → BerIsCut max_depth i.now n → AnswersIncompleteOr (NeedsMemory max_depth i.now) result n }
+    ensures shorter { IfOk result (λ x. length x.0.now < length i.now) }
+{
+    parse_ber_recursive(alloc, i, max_depth)
+}
+
+/// Reads as `parse_ber_recursive`, and counts the headers that are read, end markers too.
+pub fn parse_ber_counted<'a>(
+    alloc: Global,
+    i: &'a [u8],
+    max_depth: usize,
+    count: &mut HeaderCount,
+) -> BerResult<'a>
+    ensures found { MatchAnswer result (λ x. ReadsBer max_depth i.now x.1 x.0.now) (BerRefuses max_depth i.now) (BerIsCut max_depth i.now) (NeedsMemory max_depth i.now) }
+    ensures only { (b rest : List ℕ) (o : Node) → IsBuilt o → BerSpells b o max_depth framing_budget → i.now ≡ b ++ rest
+        → AnswersOkOr (NeedsMemory max_depth i.now) result (λ x. (tree x.1 ≡ o) × (x.0.now ≡ rest)) }
+    ensures refuses { (e : Refusal) → BerRefuses max_depth i.now e → AnswersErrorOr (NeedsMemory max_depth i.now) result e }
+    ensures lacks { (n : ℕ) → BerIsCut max_depth i.now n → AnswersIncompleteOr (NeedsMemory max_depth i.now) result n }
+    ensures shorter { IfOk result (λ x. length x.0.now < length i.now) }
+{
+    read_element(alloc, i, max_depth, count)
+}
