@@ -12,9 +12,9 @@ use Rattle.der_base.specs.Headers.{BeginsWithHeader, ReadsHeader, BerHeaderLacks
 use Rattle.der_base.specs.Refusal.{Refusal}
 use Rattle.der_base.specs.Spelling.{BeginsWithElement, framing_budget}
 use Rattle.der_base.proofs.BerHeaders.{ber_header_same, ber_header_not_refused, ber_header_not_lacking}
-use Rattle.der_base.proofs.Elements.{element_begins}
 use Rattle.der_base.proofs.FramingCuts.{header_cut, content_cut, open_cut}
-use Rattle.der_base.proofs.FramingLists.{open_header, begins_open, element_from}
+use Rattle.der_base.proofs.FramingLaws.{open_header, framed_begins}
+use Rattle.der_base.proofs.FramingLists.{indefinite_header, element_from}
 
 -- what a header and its content say
 
@@ -22,29 +22,28 @@ pub any_read : (i behind rest : List ℕ) (a : Any) → ReadsHeader i a.header b
 any_read i behind rest a h g =
     let x = a.header in
     let b = element_from i behind a.bytes.now rest framing_budget (class_of x) (is_constructed x) (number_of x) (length_of x) (omega arith) h.begins g in
-    let e = element_begins b.0 rest framing_budget (class_of x) (is_constructed x) (number_of x) a.bytes.now b.2 in
     record {
-      element = subst (λ v. BeginsWithElement v framing_budget (class_of x) (is_constructed x) (number_of x) a.bytes.now rest) (sym b.1) e;
+      element = subst (λ v. BeginsWithElement v framing_budget (class_of x) (is_constructed x) (number_of x) a.bytes.now rest) (sym b.2) (framed_begins rest b.1);
       behind = behind;
       header = h;
     }
 
 pub any_refused : (i behind : List ℕ) (c : Class) (p : Bool) (t : ℕ) (l : Length) (e : Refusal) → BeginsWithHeader i c p t l behind → ContentRefuses behind l framing_budget e → AnyRefuses i e
 any_refused i behind c p t (Definite n) e h r = absurd r
-any_refused i behind c p t Indefinite e h r = inr (c, t, behind, h.number, (open_header i behind c p t h).1, r)
+any_refused i behind c p t Indefinite e h r = inr (c, t, behind, h.number, (indefinite_header i behind c p t h), r)
 
 pub any_lacks_header : (i : List ℕ) (n : ℕ) → BerHeaderLacks i n → AnyLacks i n
 any_lacks_header i n h = let q = header_cut h.1 in (q.0, q.1, (λ e r. refused e r))
   where
     refused : (e : Refusal) → AnyRefuses i e → ⊥
     refused e (inl r) = h.2 e r
-    refused e (inr (c, t, v, ht, d, r)) = ber_header_not_lacking i v c true t Indefinite n (subst (λ x. BeginsWithHeader x c true t Indefinite v) (sym d) (begins_open c t v ht)) h.1
+    refused e (inr (c, t, v, ht, d, r)) = ber_header_not_lacking i v c true t Indefinite n (open_header i v c t ht d) h.1
 
 -- a refusal of an element of indefinite length shows behind its header
 behind_open : (i behind : List ℕ) (c : Class) (p : Bool) (t : ℕ) (l : Length) (e : Refusal) → BeginsWithHeader i c p t l behind → AnyRefuses i e → (l ≡ Indefinite) × InsideRefuses behind framing_budget e
 behind_open i behind c p t l e h (inl r) = absurd (ber_header_not_refused i behind c p t l e h r)
 behind_open i behind c p t l e h (inr (c', t', v, ht, d, r)) =
-    let s = ber_header_same i behind v c c' p true t t' l Indefinite h (subst (λ x. BeginsWithHeader x c' true t' Indefinite v) (sym d) (begins_open c' t' v ht)) in
+    let s = ber_header_same i behind v c c' p true t t' l Indefinite h (open_header i v c' t' ht d) in
     (s.length, subst (λ x. InsideRefuses x framing_budget e) (sym s.rest) r)
 
 pub any_lacks_content : (i behind : List ℕ) (c : Class) (p : Bool) (t : ℕ) (l : Length) (n : ℕ) → BeginsWithHeader i c p t l behind → ContentLacks behind l framing_budget n → AnyLacks i n
@@ -52,5 +51,5 @@ any_lacks_content i behind c p t (Definite m) n h (h1, z) =
     let q = content_cut i behind c p t m n h h1 z in
     (q.0, q.1, (λ e r. let d = (behind_open i behind c p t (Definite m) e h r).0 in cc))
 any_lacks_content i behind c p t Indefinite n h inside =
-    let q = open_cut i behind c t framing_budget n (open_header i behind c p t h).1 inside in
+    let q = open_cut i behind c t framing_budget n (indefinite_header i behind c p t h) inside in
     (q.0, q.1, (λ e r. inside.not_refused e (behind_open i behind c p t Indefinite e h r).1))

@@ -5,16 +5,19 @@ use Rattle.der_base.specs.declared.header.Length.{Length}
 use Rattle.der_base.specs.declared.header.Length.TheVariants.{Definite, Indefinite}
 use Rattle.der_base.specs.Content.{ContentRefuses, ContentLacks, InsideLacks}
 use Rattle.der_base.specs.Cut.{AreShapes, no_shapes, definite_shape, indefinite_shape, IsShape, IsCut, Lacks, in_identifier as lacks_in_identifier, in_length as lacks_in_length, in_content, in_elements}
+use Rattle.der_base.specs.Framed.{IsElement, definite, indefinite, AreElements, no_elements, elements}
 use Rattle.der_base.specs.Fault.{BerHeaderRefuses, InsideRefuses, at_header, too_deep, further_in}
 use Rattle.der_base.specs.Headers.{BeginsWithHeader, HeaderLacks, in_identifier, in_length, BerHeaderLacks}
 use Rattle.der_base.specs.Octets.{identifier, number, SpellsAnyLength}
 use Rattle.der_base.specs.Refusal.{Refusal}
-use Rattle.der_base.specs.Spelling.{IsRawList, empty, definite, indefinite, end_marker}
+use Rattle.der_base.specs.Spelling.{end_marker}
 use Rattle.der_base.proofs.BerHeaders.{ber_header_same, ber_header_not_refused, ber_header_not_lacking}
 use Rattle.der_base.proofs.Cuts.{lacks_stuck}
-use Rattle.der_base.proofs.FramingLists.{SomeHeader, some_header, open_header, definite_header, begins_open, refuses_behind}
+use Rattle.der_base.proofs.FramingLaws.{HasSomeHeader, open_header}
+use Rattle.der_base.proofs.FramingLists.{some_header, indefinite_header, definite_header, refuses_behind, tail_more}
 use Rattle.der_base.proofs.Identifiers.{head_same}
 use Rattle.der_base.proofs.Raws.{append_nil}
+use Rattle.der_base.proofs.Restated.{raws_are, are_raws}
 use Rattle.der_base.proofs.Shapes.{raws_are_shapes}
 
 zeros : (n : ℕ) → (r : List ℕ) × (length r ≡ n)
@@ -75,9 +78,6 @@ last_shape : {b : List ℕ} → IsShape b → b ≢ end_marker → AreShapes b
 last_shape {b = b} (c, p, t, v, inl (s, hs, e)) n = definite_shape c p t s v [] hs (λ z. n (e ∙ z)) (e ∙ sym (append_nil (identifier c p t ++ s ++ v))) no_shapes
 last_shape {b = b} (c, p, t, v, inr (ep, hv, e)) n = indefinite_shape c t v [] hv (e ∙ ap (λ q. identifier c q t ++ 128 ∷ v ++ end_marker) ep ∙ sym (append_nil (identifier c true t ++ 128 ∷ v ++ end_marker))) no_shapes
 
-tail_more : (b rest w x : List ℕ) → w ≡ b ++ rest → w ++ x ≡ b ++ (rest ++ x)
-tail_more b rest w x e = ap (λ l. l ++ x) e ∙ append_assoc b rest x
-
 shapes_append : {u : List ℕ} (x : List ℕ) → AreShapes u → AreShapes x → AreShapes (u ++ x)
 shapes_append x no_shapes h = h
 shapes_append x (definite_shape {w = u} c p t s v rest hs hn d r) h = definite_shape c p t s v (rest ++ x) hs hn (tail_more (identifier c p t ++ s ++ v) rest u x d) (shapes_append x r h)
@@ -102,41 +102,42 @@ open_cut i v c t k n e h =
     (open_is_cut i h.whole h.cut c t d h.elements h.ends, in_elements c t h.whole h.cut h.elements h.lacks (d ∙ sym (append_assoc (identifier c true t) (128 ∷ h.whole) h.cut)))
 
 -- no element stands in front of what is cut short
-none_in_front : {u v : List ℕ} {k n : ℕ} (r : List ℕ) → Lacks v n → IsRawList u k → v ≡ u ++ r → u ≡ []
-none_in_front r h empty e = refl
-none_in_front {v = v} r h (definite {w = u} c p t s w rest ht hk hl hn d g) e =
-    absurd (lacks_stuck h (identifier c p t ++ s ++ w) (rest ++ r) (c, p, t, w, inl (s, hl.1, refl)) (e ∙ tail_more (identifier c p t ++ s ++ w) rest u r d))
-none_in_front {v = v} r h (indefinite {w = u} c t w rest ht hk hw d g) e =
-    absurd (lacks_stuck h (identifier c true t ++ 128 ∷ w ++ end_marker) (rest ++ r) (c, true, t, w, inr (refl, raws_are_shapes hw, refl)) (e ∙ tail_more (identifier c true t ++ 128 ∷ w ++ end_marker) rest u r d))
+framed_shape : {b : List ℕ} {h : Length} {c : Class} {p : Bool} {t : ℕ} {w : List ℕ} {k : ℕ} → IsElement b h c p t w k → IsShape b
+framed_shape (definite {c = c} {p = p} {t = t} {w = w} s eh ht hk hs d) = (c, p, t, w, inl (s, hs.1, d ∙ sym (append_assoc (identifier c p t) s w)))
+framed_shape (indefinite {c = c} {p = p} {t = t} {w = w} eh ep ht hk hw d) = (c, p, t, w, inr (ep, raws_are_shapes (are_raws hw), d ∙ sym (append_assoc (identifier c p t) (128 ∷ w) end_marker)))
+
+none_in_front : {u v : List ℕ} {k n : ℕ} (r : List ℕ) → Lacks v n → AreElements u k → v ≡ u ++ r → u ≡ []
+none_in_front r h no_elements e = refl
+none_in_front r h (elements {w = u} {b = b} {rest = rest} g n q d) e = absurd (lacks_stuck h b (rest ++ r) (framed_shape g) (e ∙ tail_more b rest u r d))
 
 -- so a refusal of it shows in its first header, or further in behind that
 ShowsFirst : List ℕ → ℕ → Refusal → Type 0
-ShowsFirst v k e = BerHeaderRefuses v e ⊎ ((k ≡ 1) × SomeHeader v)
+ShowsFirst v k e = BerHeaderRefuses v e ⊎ ((k ≡ 1) × HasSomeHeader v)
     ⊎ ((c : Class) × (t : ℕ) × (r : List ℕ) × BeginsWithHeader v c true t Indefinite r × InsideRefuses r (k - 1) e)
 
 shows_first : {v : List ℕ} {k n : ℕ} {e : Refusal} → Lacks v n → InsideRefuses v k e → ShowsFirst v k e
 unfolding ShowsFirst
-shows_first {e = e} h (at_header u r h1 d hu hr) = inl (subst (λ i. BerHeaderRefuses i e) (sym (d ∙ ap (λ l. l ++ r) (none_in_front r h hu d))) hr)
+shows_first {e = e} h (at_header u r h1 d hu hr) = inl (subst (λ i. BerHeaderRefuses i e) (sym (d ∙ ap (λ l. l ++ r) (none_in_front r h (raws_are hu) d))) hr)
 shows_first h (too_deep hk hh) = inr (inl (hk, some_header hh))
 shows_first {v = v} h (further_in u c t r h2 ht d hu hi) =
     let a = identifier c true t in
     let z = d ∙ append_assoc u a (128 ∷ r) in
-    let o = z ∙ ap (λ l. l ++ (a ++ 128 ∷ r)) (none_in_front (a ++ 128 ∷ r) h hu z) in
-    inr (inr (c, t, r, subst (λ i. BeginsWithHeader i c true t Indefinite r) (sym o) (begins_open c t r ht), hi))
+    let o = z ∙ ap (λ l. l ++ (a ++ 128 ∷ r)) (none_in_front (a ++ 128 ∷ r) h (raws_are hu) z) in
+    inr (inr (c, t, r, open_header v r c t ht o, hi))
 
 -- where the octets behind the elements that were read are cut short
-behind_elements : (v u rest : List ℕ) (k n : ℕ) → 1 ≤ k → IsRawList u (k - 1) → v ≡ u ++ rest → IsCut rest → Lacks rest n → ((e : Refusal) → ShowsFirst rest k e → ⊥) → InsideLacks v k n
+behind_elements : (v u rest : List ℕ) (k n : ℕ) → 1 ≤ k → AreElements u (k - 1) → v ≡ u ++ rest → IsCut rest → Lacks rest n → ((e : Refusal) → ShowsFirst rest k e → ⊥) → InsideLacks v k n
 behind_elements v u rest k n h1 hu d cut lacks never = record {
   whole = u;
   cut = rest;
   octets = d;
-  elements = raws_are_shapes hu;
+  elements = raws_are_shapes (are_raws hu);
   ends = cut;
   lacks = lacks;
   not_refused = λ e h. never e (shows_first lacks (refuses_behind rest v k e (omega (arith, h1)) hu h d));
 }
 
-pub lacks_header : (v u rest : List ℕ) (k n : ℕ) → 1 ≤ k → IsRawList u (k - 1) → v ≡ u ++ rest → BerHeaderLacks rest n → InsideLacks v k n
+pub lacks_header : (v u rest : List ℕ) (k n : ℕ) → 1 ≤ k → AreElements u (k - 1) → v ≡ u ++ rest → BerHeaderLacks rest n → InsideLacks v k n
 unfolding ShowsFirst
 lacks_header v u rest k n h1 hu d h =
     let q = header_cut h.1 in
@@ -147,7 +148,7 @@ lacks_header v u rest k n h1 hu d h =
     refused e (inr (inl (hk, (c, p, t, l, behind, g)))) = ber_header_not_lacking rest behind c p t l n g h.1
     refused e (inr (inr (c, t, r, g, hi))) = ber_header_not_lacking rest r c true t Indefinite n g h.1
 
-pub lacks_content : (v u rest behind : List ℕ) (k n : ℕ) (c : Class) (p : Bool) (t : ℕ) (l : Length) → 2 ≤ k → IsRawList u (k - 1) → v ≡ u ++ rest → BeginsWithHeader rest c p t l behind → ContentLacks behind l (k - 1) n → InsideLacks v k n
+pub lacks_content : (v u rest behind : List ℕ) (k n : ℕ) (c : Class) (p : Bool) (t : ℕ) (l : Length) → 2 ≤ k → AreElements u (k - 1) → v ≡ u ++ rest → BeginsWithHeader rest c p t l behind → ContentLacks behind l (k - 1) n → InsideLacks v k n
 unfolding ShowsFirst
 lacks_content v u rest behind k n c p t (Definite m) h2 hu d h (h1, z) =
     let q = content_cut rest behind c p t m n h h1 z in
@@ -158,7 +159,7 @@ lacks_content v u rest behind k n c p t (Definite m) h2 hu d h (h1, z) =
     refused e (inr (inl (hk, g))) = omega (arith, h2, hk)
     refused e (inr (inr (c', t', r, g, hi))) = let s = (ber_header_same rest behind r c c' p true t t' (Definite m) Indefinite h g).length in cc
 lacks_content v u rest behind k n c p t Indefinite h2 hu d h inside =
-    let q = open_cut rest behind c t (k - 1) n (open_header rest behind c p t h).1 inside in
+    let q = open_cut rest behind c t (k - 1) n (indefinite_header rest behind c p t h) inside in
     behind_elements v u rest k n (omega (arith, h2)) hu d q.0 q.1 (λ e s. refused e s)
   where
     refused : (e : Refusal) → ShowsFirst rest k e → ⊥
@@ -167,7 +168,7 @@ lacks_content v u rest behind k n c p t Indefinite h2 hu d h inside =
     refused e (inr (inr (c', t', r, g, hi))) = inside.not_refused e (subst (λ i. InsideRefuses i (k - 1) e) (sym (ber_header_same rest behind r c c' p true t t' Indefinite Indefinite h g).rest) hi)
 
 -- a refusal behind the elements that were read
-pub refuses_content : (v u rest behind : List ℕ) (k : ℕ) (e : Refusal) (c : Class) (p : Bool) (t : ℕ) (l : Length) → 2 ≤ k → IsRawList u (k - 1) → v ≡ u ++ rest → BeginsWithHeader rest c p t l behind → ContentRefuses behind l (k - 1) e → InsideRefuses v k e
+pub refuses_content : (v u rest behind : List ℕ) (k : ℕ) (e : Refusal) (c : Class) (p : Bool) (t : ℕ) (l : Length) → 2 ≤ k → AreElements u (k - 1) → v ≡ u ++ rest → BeginsWithHeader rest c p t l behind → ContentRefuses behind l (k - 1) e → InsideRefuses v k e
 refuses_content v u rest behind k e c p t (Definite m) h2 hu d h r = absurd r
 refuses_content v u rest behind k e c p t Indefinite h2 hu d h r =
-    further_in u c t behind h2 h.number (d ∙ ap (λ l. u ++ l) (open_header rest behind c p t h).1 ∙ sym (append_assoc u (identifier c true t) (128 ∷ behind))) hu r
+    further_in u c t behind h2 h.number (d ∙ ap (λ l. u ++ l) (indefinite_header rest behind c p t h) ∙ sym (append_assoc u (identifier c true t) (128 ∷ behind))) (are_raws hu) r

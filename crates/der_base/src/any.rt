@@ -1,8 +1,9 @@
 //! Elements whose content isn't read: a header, and the octets behind it.
-ghost use Rattle.std.specs.Prelude.{◌≡◌, ◌++◌, ℕ, Bool, IsOkAnd, List, None, Some, length};
+ghost use Rattle.std.specs.Prelude.{◌≡◌, ◌≤◌, ◌+◌, ◌++◌, ℕ, Bool, IfOk, IsOkAnd, List, None, Some, length};
 ghost use Rattle.der_base.specs.declared.header.Class.{Class};
 ghost use Rattle.der_base.specs.Answer.{MatchAnswer, AnswersError, AnswersIncomplete};
 ghost use Rattle.der_base.specs.Any.{ReadsAny, AnyRefuses, AnyLacks, ReadsDerAny, DerAnyLacks};
+ghost use Rattle.der_base.specs.Count.{one_more};
 ghost use Rattle.der_base.specs.Fault.{DerHeaderRefuses};
 ghost use Rattle.der_base.specs.Header.{IsHeader, class_of, is_constructed, number_of, length_of, raw_tag_of};
 ghost use Rattle.der_base.specs.Headers.{BeginsWithDerHeader};
@@ -95,7 +96,9 @@ impl<'a> Any<'a> {
 
     #[inline]
     fn read_ber(i: &'a [u8], count: &mut HeaderCount) -> IResult<&'a [u8], Any<'a>, BerError>
-        ensures { MatchAnswer result (λ x. ReadsAny i.now x.1 x.0.now) (AnyRefuses i.now) (AnyLacks i.now) ⊥ }
+        ensures found { MatchAnswer result (λ x. ReadsAny i.now x.1 x.0.now) (AnyRefuses i.now) (AnyLacks i.now) ⊥ }
+        ensures counted { (one_more count.old ≤ count.new) × (count.new ≤ count.old + length i.now + 1) }
+        ensures counted_ok { IfOk result (λ x. count.new + length x.0.now ≤ count.old + length i.now) }
     {
         let (behind, header) = ber_header_counted(i, count)?;
         let (rest, bytes) = read_content(behind, header.length(), MAX_RECURSION, count)?;
@@ -131,7 +134,8 @@ impl<'a> Any<'a> {
 }
 
 /// Reads an element as `Any::from_ber`, and counts the headers that it reads, those of end markers
-/// too.
+/// too: one at least, and no more of them than octets that were read, but for one more where the
+/// answer is no element.
 pub fn ber_any_counted<'a>(
     i: &'a [u8],
     count: &mut HeaderCount,
@@ -141,6 +145,8 @@ pub fn ber_any_counted<'a>(
         → IsOkAnd result (λ x. (class_of x.1.header ≡ c) × (is_constructed x.1.header ≡ p) × (number_of x.1.header ≡ t) × (x.1.bytes.now ≡ w) × (x.0.now ≡ rest)) }
     ensures refuses { (e : Refusal) → AnyRefuses i.now e → AnswersError result e }
     ensures lacks { (n : ℕ) → AnyLacks i.now n → AnswersIncomplete result n }
+    ensures counted { (one_more count.old ≤ count.new) × (count.new ≤ count.old + length i.now + 1) }
+    ensures counted_ok { IfOk result (λ x. count.new + length x.0.now ≤ count.old + length i.now) }
 {
     Any::read_ber(i, count)
 }

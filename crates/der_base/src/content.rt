@@ -1,6 +1,6 @@
 //! Framing: where the content of an element ends, by BER (X.690 8.1.3). What stands inside a
 //! definite length isn't looked into.
-ghost use Rattle.std.specs.Prelude.{◌≡◌, ◌≤◌, ◌++◌, List, ℕ, MatchBool};
+ghost use Rattle.std.specs.Prelude.{◌≡◌, ◌≤◌, ◌+◌, ◌-◌, ◌^◌, ◌++◌, IfOk, List, ℕ, MatchBool, length, min};
 ghost use Rattle.der_base.specs.declared.header.Length.{Length};
 ghost use Rattle.der_base.specs.Answer.{MatchAnswer};
 ghost use Rattle.der_base.specs.Content.{BeginsWithContent, ContentRefuses, ContentLacks};
@@ -9,23 +9,27 @@ ghost use Rattle.der_base.specs.Spelling.{end_marker};
 use crate::error::{BerError, Err, IResult, Needed};
 use crate::header::{HeaderCount, Length, ber_header_counted};
 
-/// The content behind a header of this length: what follows the element, and the content octets,
-/// without the end marker. Indefinite lengths, this one among them, are nested below the budget.
+/// The content behind a header that states this length: what follows the element, and the content
+/// octets, without the end marker. Indefinite lengths, this one among them, are nested below the
+/// budget. Each header that is counted takes an octet at least.
 #[cycle(framing)]
+#[inline]
 pub fn read_content<'a>(
     i: &'a [u8],
-    length: Length,
+    stated: Length,
     budget: usize,
     count: &mut HeaderCount,
 ) -> IResult<&'a [u8], &'a [u8], BerError>
     requires { 1 ≤ budget }
-    ensures { MatchAnswer result
-        (λ x. BeginsWithContent i.now length budget x.1.now x.0.now)
-        (ContentRefuses i.now length budget)
-        (ContentLacks i.now length budget)
+    ensures found { MatchAnswer result
+        (λ x. BeginsWithContent i.now stated budget x.1.now x.0.now)
+        (ContentRefuses i.now stated budget)
+        (ContentLacks i.now stated budget)
         ⊥ }
+    ensures counted { (min count.old (2 ^ 128 - 1) ≤ count.new) × (count.new ≤ count.old + length i.now + 1) }
+    ensures counted_ok { IfOk result (λ x. count.new + length x.0.now ≤ count.old + length i.now) }
 {
-    match length {
+    match stated {
         Length::Definite(n) => read_definite(i, n),
         Length::Indefinite => read_to_end_marker(i, budget, count),
     }
@@ -56,14 +60,16 @@ fn read_to_end_marker<'a>(
     count: &mut HeaderCount,
 ) -> IResult<&'a [u8], &'a [u8], BerError>
     requires { 1 ≤ budget }
-    ensures { MatchAnswer result
+    ensures found { MatchAnswer result
         (λ x. BeginsWithContent i.now Length.Indefinite budget x.1.now x.0.now)
         (ContentRefuses i.now Length.Indefinite budget)
         (ContentLacks i.now Length.Indefinite budget)
         ⊥ }
+    ensures counted { (min count.old (2 ^ 128 - 1) ≤ count.new) × (count.new ≤ count.old + length i.now + 1) }
+    ensures counted_ok { IfOk result (λ x. count.new + length x.0.now ≤ count.old + length i.now) }
 {
     let mut rest = i;
-    loop {
+    'elements: loop {
         let (behind, header) = ber_header_counted(rest, count)?;
         if budget == 1 {
             return Err(Err::Error(BerError::BerMaxDepth));
