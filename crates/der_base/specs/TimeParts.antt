@@ -1,5 +1,5 @@
 -- The parts that stand behind the minutes of a time, one after another, each with what follows it.
-use Rattle.std.specs.Prelude.{◌≡◌, ℕ, ◌<◌, ◌⊎◌, Option, Some, None, List, [], ◌∷◌, ◌++◌}
+use Rattle.std.specs.Prelude.{◌≡◌, ℕ, ◌<◌, ◌⊎◌, Option, Some, None, List, [], ◌∷◌, ◌++◌, codes}
 use Rattle.der_base.specs.declared.time.ASN1TimeZone.{ASN1TimeZone}
 use Rattle.der_base.specs.declared.time.ASN1TimeZone.TheVariants.{Undefined}
 use Rattle.der_base.specs.Time.{two_digits, IsDigit, IsZone, IsFraction}
@@ -31,3 +31,7 @@ BeginsWithFineSeconds w n nanosecond rest = ((n ≡ 0) × (nanosecond ≡ None) 
 -- a zone, or none where nothing is left
 abbrev pub IsLastZone : List ℕ → ASN1TimeZone → Type 0
 IsLastZone w zone = ((w ≡ []) × (zone ≡ Undefined)) ⊎ IsZone w zone
+
+-- behind the seconds, a comma, or a fraction that ends in 0 before the Z
+abbrev pub IsLooseEnd : List ℕ → Type 0
+IsLooseEnd w = ((f : List ℕ) × (w ≡ codes "," ++ f)) ⊎ ((f : List ℕ) × (w ≡ codes "." ++ (f ++ codes "0Z")))
