@@ -16,6 +16,7 @@ pub mod Leaf
 pub mod LeafRefusal
 pub mod LengthOctets
 pub mod Octets
+pub mod OidArcs
 pub mod Oids
 pub mod Refusal
 pub mod Same
