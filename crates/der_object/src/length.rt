@@ -7,7 +7,7 @@ ghost use Rattle.der_base.specs.Octets.{identifier, shortest_length, shortest_in
 ghost use Rattle.der_object.specs.View.{tree, content_tree, trees};
 
 use crate::object::{BerObject, BerObjectContent};
-use crate::time::time_length;
+use crate::time::{GENERALIZED_YEAR, UTC_YEAR, time_length};
 use der_base::header::Tag;
 
 /// How many octets an object has, if at most 2^64-1.
@@ -32,8 +32,8 @@ fn content_length(content: &BerObjectContent<'_>) -> Option<usize>
         BerObjectContent::Enum(n) => Some(integer_octet_count(*n)),
         BerObjectContent::Sequence(items) => items_length(items),
         BerObjectContent::Set(items) => items_length(items),
-        BerObjectContent::UTCTime(time) => Some(time_length(2, *time)),
-        BerObjectContent::GeneralizedTime(time) => Some(time_length(4, *time)),
+        BerObjectContent::UTCTime(time) => Some(time_length(UTC_YEAR, *time)),
+        BerObjectContent::GeneralizedTime(time) => Some(time_length(GENERALIZED_YEAR, *time)),
         _ => Some(content.kept_octets().len()),
     }
 }

@@ -2,6 +2,7 @@
 #![tactic(auto)]
 
 pub mod bit_string;
+mod decimal;
 mod equality;
 pub mod error;
 mod length;

@@ -14,7 +14,7 @@ ghost use Rattle.der_object.specs.View.{tree, content_tree, trees};
 use crate::length::{needs_zero, object_length};
 use crate::object::{BerObject, BerObjectContent};
 use crate::octets::{write_octet, write_octets};
-use crate::time::write_time;
+use crate::time::{GENERALIZED_YEAR, UTC_YEAR, write_time};
 use der_base::error::GenError;
 use der_base::header::{Class, Header, Tag};
 use std::alloc::Global;
@@ -68,8 +68,8 @@ fn write_content(out: &mut [u8], end: usize, content: &BerObjectContent<'_>) -> 
         BerObjectContent::Enum(n) => write_integer(out, end, *n),
         BerObjectContent::Sequence(items) => write_items(out, end, items),
         BerObjectContent::Set(items) => write_items(out, end, items),
-        BerObjectContent::UTCTime(time) => write_time(out, end, 2, *time),
-        BerObjectContent::GeneralizedTime(time) => write_time(out, end, 4, *time),
+        BerObjectContent::UTCTime(time) => write_time(out, end, UTC_YEAR, *time),
+        BerObjectContent::GeneralizedTime(time) => write_time(out, end, GENERALIZED_YEAR, *time),
         _ => write_octets(out, end, content.kept_octets()),
     }
 }

@@ -1,11 +1,18 @@
 //! The texts of UTCTime and GeneralizedTime, written from the last digit to the first (X.690 11.7
 //! and 11.8).
-ghost use Rattle.std.specs.Prelude.{◌≡◌, ◌+◌, ◌≤◌, ◌||◌, [], ◌∷◌, if◌then◌else◌, codes, decimal, int_lt, length, pos, replicate};
-ghost use Rattle.der_base.specs.Time.{at_least_digits, digit, or_zero, without_last_zeros, fraction_text, zone_text, text_from_year};
+ghost use Rattle.std.specs.Prelude.{◌≡◌, ◌+◌, ◌≤◌, ◌||◌, [], ◌∷◌, if◌then◌else◌, codes, int_lt, length, pos};
+ghost use Rattle.der_base.specs.Time.{at_least_digits, or_zero, without_last_zeros, fraction_text, zone_text, text_from_year};
 ghost use Rattle.der_object.specs.Room.{PutsBefore};
 
+use crate::decimal::{digits_length, write_digits};
 use crate::octets::write_octet;
 use der_base::time::{ASN1DateTime, ASN1TimeZone};
+
+/// The digits that the year of a UTCTime has at least.
+pub const UTC_YEAR: usize = 2;
+
+/// The digits that the year of a GeneralizedTime has at least.
+pub const GENERALIZED_YEAR: usize = 4;
 
 /// How many octets the text of a time has, with a year of at least so many digits.
 #[tactic(auto, using(crate::proofs::Digits::text_length))]
@@ -50,30 +57,6 @@ fn fraction_length(nanosecond: Option<u32>) -> usize
         }
         None => 0,
     }
-}
-
-/// How many digits a number has in decimal, with zeros in front up to a number of digits.
-#[tactic(auto, using(crate::proofs::Digits::length_at_least))]
-fn digits_length(digits: usize, n: u32) -> usize
-    ensures count { result ≡ length (at_least_digits digits n) }
-    ensures few { result ≤ digits + 10 }
-{
-    decimal_length(n).max(digits)
-}
-
-/// How many digits a number has in decimal.
-#[tactic(auto, using(crate::proofs::Digits::decimal_count, crate::proofs::Digits::decimal_one, crate::proofs::Digits::decimal_few))]
-fn decimal_length(n: u32) -> usize
-    ensures count { result ≡ length (decimal n) }
-    ensures few { result ≤ 10 }
-{
-    let mut count = 1;
-    let mut rest = n;
-    while rest >= 10 {
-        count += 1;
-        rest /= 10;
-    }
-    count
 }
 
 /// Writes the text of a time in front of a place, with a year of at least so many digits.
@@ -145,47 +128,4 @@ fn without_last_zeros(n: u32) -> (usize, u32)
         rest /= 10;
     }
     (digits, rest)
-}
-
-/// Writes a number in decimal in front of a place, with zeros in front up to a number of digits.
-fn write_digits(out: &mut [u8], end: usize, digits: usize, n: u32) -> usize
-    requires room { length (at_least_digits digits n) ≤ end }
-    requires within { end ≤ length out.old }
-    ensures { PutsBefore out.old out.new end (at_least_digits digits n) result }
-{
-    let begin = write_decimal(out, end, n);
-    write_zeros(out, begin, digits.saturating_sub(end - begin))
-}
-
-/// Writes so many zeros in front of a place.
-fn write_zeros(out: &mut [u8], end: usize, count: usize) -> usize
-    requires room { count ≤ end }
-    requires within { end ≤ length out.old }
-    ensures { PutsBefore out.old out.new end (replicate count 0x30) result }
-{
-    let begin = end - count;
-    out[begin..end].fill(b'0');
-    begin
-}
-
-/// Writes a number in decimal in front of a place.
-fn write_decimal(out: &mut [u8], end: usize, n: u32) -> usize
-    requires room { length (decimal n) ≤ end }
-    requires within { end ≤ length out.old }
-    ensures { PutsBefore out.old out.new end (decimal n) result }
-{
-    let mut begin = end;
-    let mut rest = n;
-    while rest >= 10 {
-        begin = write_octet(out, begin, digit(rest));
-        rest /= 10;
-    }
-    write_octet(out, begin, digit(rest))
-}
-
-/// The last digit of a number.
-fn digit(n: u32) -> u8
-    ensures { result ≡ digit n }
-{
-    b'0' + (n % 10) as u8
 }

@@ -1,6 +1,6 @@
 use Rattle.std.proofs.Common.{arith}
 use Rattle.der_object.proofs.Digits.{written_none, written_room, written_more, written_last}
-use Rattle.der_object.proofs.time.write_decimal.Goals as goal
+use Rattle.der_object.proofs.decimal.write_decimal.Goals as goal
 
 pub write_octet-begin-requires-clause-room : goal.write_octet-begin-requires-clause-room
 write_octet-begin-requires-clause-room c = written_room _ _ _ _ _ _ c.loop-rest.invariant.behind (omega arith) (omega arith)

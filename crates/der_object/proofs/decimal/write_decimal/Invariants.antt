@@ -1,6 +1,6 @@
 use Rattle.std.proofs.Common.{◌≡◌, length}
 use Rattle.der_object.proofs.Digits.{Written}
-use Rattle.der_object.proofs.time.write_decimal.Given as goal
+use Rattle.der_object.proofs.decimal.write_decimal.Given as goal
 
 abbrev pub invariant-loop-rest : goal.invariant-loop-rest
 invariant-loop-rest l = record {

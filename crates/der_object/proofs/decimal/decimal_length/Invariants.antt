@@ -1,5 +1,5 @@
 use Rattle.std.proofs.Common.{◌≡◌, ◌+◌, decimal, length}
-use Rattle.der_object.proofs.time.decimal_length.Given as goal
+use Rattle.der_object.proofs.decimal.decimal_length.Given as goal
 
 -- the digits counted so far, one too many, and those of what is left of the number
 abbrev pub invariant-loop-rest : goal.invariant-loop-rest
