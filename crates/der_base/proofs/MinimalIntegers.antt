@@ -31,17 +31,17 @@ turned_number m n (b ∷ w) h =
     let e : m * 256 + b + (n * 256 + (255 - b)) + 1 ≡ (m + n + 1) * 256 = omega (arith, h.0) in
     i ∙ ap (λ k. k * 256 ^ length w) e ∙ mul_assoc (m + n + 1) 256 (256 ^ length w) ∙ ap (λ k. (m + n + 1) * k) (mul_comm 256 (256 ^ length w) ∙ sym (pow-suc 256 (length w)))
 
-high_value : (b : ℕ) (w : List ℕ) → 128 ≤ b → integer_value (b ∷ w) ≡ pos (number (b ∷ w)) -ℤ pos (256 ^ suc (length w))
+pub high_value : (b : ℕ) (w : List ℕ) → 128 ≤ b → integer_value (b ∷ w) ≡ pos (number (b ∷ w)) -ℤ pos (256 ^ suc (length w))
 high_value b w h = let f : nat_lt b 128 ≡ false = grind (arith, nat_tests) in rw f refl
 
-low_value : (b : ℕ) (w : List ℕ) → b < 128 → integer_value (b ∷ w) ≡ pos (number (b ∷ w))
+pub low_value : (b : ℕ) (w : List ℕ) → b < 128 → integer_value (b ∷ w) ≡ pos (number (b ∷ w))
 low_value b w h = let f : nat_lt b 128 ≡ true = grind (arith, nat_tests) in rw f refl
 
 minus : (x c p : ℕ) → x + c + 1 ≡ p → pos x -ℤ pos p ≡ negsuc c
 minus x c p e = omega (arith, ints)
 
 -- where the first bit is set, the value is below 0 by the turned bits
-negative_value : (b : ℕ) (w : List ℕ) → Each IsOctet (b ∷ w) → 128 ≤ b → integer_value (b ∷ w) ≡ negsuc (number (turned (b ∷ w)))
+pub negative_value : (b : ℕ) (w : List ℕ) → Each IsOctet (b ∷ w) → 128 ≤ b → integer_value (b ∷ w) ≡ negsuc (number (turned (b ∷ w)))
 negative_value b w are h =
     let e : number (b ∷ w) + number (turned (b ∷ w)) + 1 ≡ 1 * 256 ^ suc (length w) = turned_number 0 0 (b ∷ w) are in
     high_value b w h ∙ minus (number (b ∷ w)) (number (turned (b ∷ w))) (256 ^ suc (length w)) (omega (arith, e))

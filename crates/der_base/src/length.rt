@@ -1,6 +1,5 @@
 //! Length octets, read by DER and by BER (X.690 8.1.3 and 10.1).
 ghost use Rattle.std.specs.Prelude.{◌≡◌, ◌+◌, ◌<◌, ◌≤◌, ◌^◌, ◌∷◌, ◌++◌, length};
-ghost use Rattle.std.specs.Option.{SomeIff};
 ghost use Rattle.der_base.specs.Answer.{MatchAnswer};
 ghost use Rattle.der_base.specs.Fault.{BerLengthRefuses, DerLengthRefuses};
 ghost use Rattle.der_base.specs.LengthOctets.{BeginsWithDerLength, BeginsWithLength, LengthLacks, Announces};
@@ -9,6 +8,7 @@ ghost use Rattle.der_base.specs.Refusal.{invalid_length};
 
 use crate::error::{BerError, DerConstraint, Err, IResult, Needed};
 use crate::header::Length;
+use crate::integer::number_that_fits;
 
 /// The least length that has no short form, of one octet (X.690 8.1.3.4).
 const LEAST_LONG: usize = 128;
@@ -101,18 +101,4 @@ fn announced_octets(first: u8, behind: &[u8]) -> IResult<&[u8], &[u8], BerError>
     }
     let (octets, rest) = behind.split_at(count);
     Ok((rest, octets))
-}
-
-/// The number that octets spell, where it is below 2^64. They may begin with any number of zeros.
-fn number_that_fits(octets: &[u8]) -> Option<usize>
-    ensures { SomeIff result (number octets.now < 2 ^ 64) (number octets.now) }
-{
-    let mut n: usize = 0;
-    for b in octets {
-        if n >= 1 << 56 {
-            return None;
-        }
-        n = n * 256 + *b as usize;
-    }
-    Some(n)
 }

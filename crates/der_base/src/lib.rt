@@ -7,6 +7,7 @@ mod content;
 pub mod error;
 pub mod header;
 mod identifier;
+pub mod integer;
 pub mod laws;
 mod length;
 pub mod oid;
