@@ -83,6 +83,9 @@ element_in_front i b rest c p t x (form h fs) d e (hd, w, g, k) =
 spelled_element : (i b rest : List ℕ) (c : Class) (p : Bool) (t : ℕ) (x : Content) (d : ℕ) → i ≡ b ++ rest → BerSpells b (node c p t x) d framing_budget → SpelledElement i rest c p t x d
 spelled_element i b rest c p t x d e h = let q = restated b (node c p t x) d h in element_in_front i b rest c p t x q.0 d e q.1
 
+pub spelled_begins : (i b rest : List ℕ) (c : Class) (p : Bool) (t : ℕ) (x : Content) (d : ℕ) → i ≡ b ++ rest → BerSpells b (node c p t x) d framing_budget → (w : List ℕ) × BeginsWithElement i framing_budget c p t w rest
+spelled_begins i b rest c p t x d e h = let q = spelled_element i b rest c p t x d e h in (q.content, q.begins)
+
 -- so an input that begins with one is not cut short
 pub spelled_not_cut : (i b rest : List ℕ) (o : Node) (d : ℕ) → BerSpells b o d framing_budget → i ≡ b ++ rest → IsCut i → ⊥
 spelled_not_cut i b rest (node c p t x) d h e k = let q = spelled_element i b rest c p t x d e h in begins_not_cut i framing_budget c p t q.content rest q.begins k

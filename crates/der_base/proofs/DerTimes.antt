@@ -37,10 +37,10 @@ front_are t = each_append IsDigit (month_to_minute t) (two_digits t.second) (eac
 abbrev pub IsNoMark : ℕ → Type 0
 IsNoMark b = (b ≢ 0x2C) × (b ≢ 0x2E)
 
-digit_no_mark : (b : ℕ) → IsDigit b → IsNoMark b
+pub digit_no_mark : (b : ℕ) → IsDigit b → IsNoMark b
 digit_no_mark b h = ((λ e. omega arith), (λ e. omega arith))
 
-whole_is_strict : (v : List ℕ) → Each IsDigit v → ¬ HasLooseFraction (v ++ codes "Z")
+pub whole_is_strict : (v : List ℕ) → Each IsDigit v → ¬ HasLooseFraction (v ++ codes "Z")
 whole_is_strict v h (a, f, inl e) = (each_at IsNoMark a 0x2C f (v ++ codes "Z") (each_append IsNoMark v (codes "Z") (each_map IsDigit IsNoMark v digit_no_mark h) (((λ e. omega arith), (λ e. omega arith)), tt)) e).0 refl
 whole_is_strict v h (a, f, inr e) = (each_at IsNoMark a 0x2E (f ++ codes "0Z") (v ++ codes "Z") (each_append IsNoMark v (codes "Z") (each_map IsDigit IsNoMark v digit_no_mark h) (((λ e. omega arith), (λ e. omega arith)), tt)) e).1 refl
 
@@ -63,7 +63,7 @@ utc_passes t h z =
     )
 
 -- behind digits, a fraction begins at one place
-marks_same : (a v x y : List ℕ) → Each IsDigit a → Each IsNoMark x → a ++ (0x2E ∷ x) ≡ v ++ (0x2E ∷ y) → x ≡ y
+pub marks_same : (a v x y : List ℕ) → Each IsDigit a → Each IsNoMark x → a ++ (0x2E ∷ x) ≡ v ++ (0x2E ∷ y) → x ≡ y
 marks_same [] [] x y h g e = cc
 marks_same [] (b ∷ v) x y h g e = absurd ((each_at IsNoMark v 0x2E y x g (cc)).1 refl)
 marks_same (d ∷ a) [] x y h g e = absurd (let k : d ≡ 0x2E = cc in omega (arith, h.0))

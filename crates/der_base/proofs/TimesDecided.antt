@@ -206,10 +206,10 @@ decided_loose w = decided_like (((v f : List ℕ) × (w ≡ v ++ (codes "," ++ f
     back (v, f, inl e) = inl (v, f, e)
     back (v, f, inr e) = inr (v, codes "." ++ (f ++ codes "0Z"), e, (codes ".", f ++ codes "0Z", refl, (refl, (f, refl))))
 
-two_last : (n : ℕ) → two_digits n ≡ two_digits (n % 100)
+pub two_last : (n : ℕ) → two_digits n ≡ two_digits (n % 100)
 two_last n = let a : digit (n / 10) ≡ digit (n % 100 / 10) = omega arith in let b : digit n ≡ digit (n % 100) = omega arith in cc
 
-four_last : (n : ℕ) → four_digits n ≡ four_digits (n % 10000)
+pub four_last : (n : ℕ) → four_digits n ≡ four_digits (n % 10000)
 four_last n = let a : digit (n / 100 / 10) ≡ digit (n % 10000 / 100 / 10) = omega arith in let b : digit (n / 100) ≡ digit (n % 10000 / 100) = omega arith in let c : digit (n / 10) ≡ digit (n % 10000 / 10) = omega arith in let d : digit n ≡ digit (n % 10000) = omega arith in cc
 
 parts_same : (z : List ℕ) {a b c d e a' b' c' d' e' : List ℕ} → a ≡ a' → b ≡ b' → c ≡ c' → d ≡ d' → e ≡ e' → a ++ (b ++ c ++ d ++ e ++ z) ≡ a' ++ (b' ++ c' ++ d' ++ e' ++ z)

@@ -28,7 +28,7 @@ no_z : (u ds v : List ℕ) → Each IsDigit ds → 1 ≤ length ds → u ++ ds �
 no_z u ds v h l e = let d : IsDigit 0x5A = ends_in_digit u ds v 0x5A h l e in omega (arith, d.1)
 
 -- where a text ends in Z, so does its zone
-zone_is_z : (u v z : List ℕ) (x : ASN1TimeZone) → IsZone z x → u ++ z ≡ v ++ codes "Z" → (x ≡ Z) × (z ≡ codes "Z")
+pub zone_is_z : (u v z : List ℕ) (x : ASN1TimeZone) → IsZone z x → u ++ z ≡ v ++ codes "Z" → (x ≡ Z) × (z ≡ codes "Z")
 zone_is_z u v z Undefined h e = absurd h
 zone_is_z u v z Z h e = (refl, h)
 zone_is_z u v z (Offset a b) (hours, minutes, lh, lm, inl h) e = absurd (no_z (u ++ (codes "+" ++ two_digits hours)) (two_digits minutes) v (two_are minutes) (omega arith) (append_assoc u (codes "+" ++ two_digits hours) (two_digits minutes) ∙ ap (λ l. u ++ l) (sym h.2) ∙ e))
@@ -67,7 +67,7 @@ utc_is_written w v t (year, moment, none, seconds, zone, hs, hz, e) n ends =
     }
 
 -- a text with no zone ends in a digit
-no_zone : (p s f v : List ℕ) (m n : ℕ) (x : Option ℕ) → AreSeconds s n → IsLastFraction s f x → p ++ (two_digits m ++ (s ++ f)) ≢ v ++ codes "Z"
+pub no_zone : (p s f v : List ℕ) (m n : ℕ) (x : Option ℕ) → AreSeconds s n → IsLastFraction s f x → p ++ (two_digits m ++ (s ++ f)) ≢ v ++ codes "Z"
 no_zone p s f v m n x (inl h) (inl g) e = no_z p (two_digits m) v (two_are m) (omega arith) (ap (λ l. p ++ (two_digits m ++ l)) (sym (ap (λ l. l ++ f) h.0 ∙ g.0)) ∙ e)
 no_zone p s f v m n x (inr h) (inl g) e = no_z (p ++ two_digits m) (two_digits n) v (two_are n) (omega arith) (append_assoc p (two_digits m) (two_digits n) ∙ ap (λ l. p ++ (two_digits m ++ l)) (sym (ap (λ l. l ++ f) h.1 ∙ ap (λ l. two_digits n ++ l) g.0)) ∙ e)
 no_zone p s f v m n x h (inr (some, k, (mark, ds, mk, is, are, one, few, value), q)) e =

@@ -18,9 +18,12 @@ pub mod Leaf
 pub mod LeafRefusal
 pub mod LengthOctets
 pub mod Octets
+pub mod OidArcs
+pub mod Oids
 pub mod Refusal
 pub mod Same
 pub mod Spelling
 pub mod Text
 pub mod Time
+pub mod TimeParts
 pub mod Tree

@@ -9,6 +9,8 @@ pub mod header;
 mod identifier;
 pub mod laws;
 mod length;
+pub mod oid;
+pub mod text;
 pub mod time;
 
 /// How deep the readers go that are given no depth, and how deep indefinite lengths may nest.

@@ -1,5 +1,5 @@
 -- What the full reader of BER answers: an object, a refusal, or how many octets are lacking.
-use Rattle.std.specs.Prelude.{◌≡◌, ◌≢◌, ℕ, ◌-◌, ◌≤◌, Bool, true, IsTrue, List, [], ◌++◌, All}
+use Rattle.std.specs.Prelude.{◌≡◌, ◌≢◌, ℕ, ◌-◌, ◌≤◌, ◌⊎◌, Bool, true, Some, IsTrue, List, [], ◌++◌, All}
 use Rattle.der_base.specs.declared.header.Class.{Class}
 use Rattle.der_base.specs.declared.header.Class.TheVariants.{Universal}
 use Rattle.der_base.specs.declared.header.Header.{Header}
@@ -10,7 +10,7 @@ use Rattle.der_base.specs.Fault.{ItemRefuses}
 use Rattle.der_base.specs.Framed.{HasContent}
 use Rattle.der_base.specs.Header.{class_of, is_constructed, number_of}
 use Rattle.der_base.specs.Leaf.{is_list, is_mapped}
-use Rattle.der_base.specs.Refusal.{Refusal}
+use Rattle.der_base.specs.Refusal.{Refusal, unexpected_tag}
 use Rattle.der_base.specs.Spelling.{BeginsWithElement, BerSpellsAs, Forms, Joins, framing_budget}
 use Rattle.der_base.specs.Tree.{Node, Nodes}
 use Rattle.der_object.specs.declared.object.BerObject.{BerObject}
@@ -43,6 +43,15 @@ pub record ReadsBer (d : ℕ) (i : List ℕ) (o : BerObject) (rest : List ℕ) :
   pub built : IsBuilt (tree o)
   -- and the identifier octets
   pub marked : HasMarks o
+
+-- i begins with an element of this number, which is another than n
+abbrev pub IsOther : ℕ → List ℕ → ℕ → Type 0
+IsOther n i t = (t ≢ n) × (c : Class) × (p : Bool) × (w rest : List ℕ) × BeginsWithElement i framing_budget c p t w rest
+
+-- the refusals of a reader that wants the number n: another number is told behind header and framing, and before the content
+abbrev pub NumberRefuses : ℕ → ℕ → List ℕ → Refusal → Type 0
+NumberRefuses n d i e = ((1 ≤ d) × (t : ℕ) × IsOther n i t × (e ≡ unexpected_tag (Some n) t))
+    ⊎ (((d ≡ 0) ⊎ ((t : ℕ) → ¬ IsOther n i t)) × BerRefuses d i e)
 
 -- i begins with a whole list that has items
 abbrev pub BeginsWithItems : List ℕ → Type 0

@@ -5,4 +5,7 @@ mod leaf;
 pub mod parser;
 mod reader;
 
-pub use parser::{parse_ber, parse_ber_any_r, parse_ber_counted, parse_ber_recursive};
+pub use parser::{
+    parse_ber, parse_ber_any, parse_ber_any_r, parse_ber_any_with_tag_r, parse_ber_counted,
+    parse_ber_recursive,
+};

@@ -1,15 +1,20 @@
 //! The full reader of BER.
-ghost use Rattle.std.specs.Prelude.{◌≡◌, ◌<◌, ℕ, List, ◌++◌, IfOk, length};
-ghost use Rattle.der_base.specs.Answer.{MatchAnswer, AnswersOkOr, AnswersErrorOr, AnswersIncompleteOr};
+ghost use Rattle.std.specs.Prelude.{◌≡◌, ◌<◌, ℕ, Bool, List, ◌++◌, IfOk, IsOkAnd, length};
+ghost use Rattle.der_base.specs.declared.header.Class.{Class};
+ghost use Rattle.der_base.specs.Answer.{MatchAnswer, AnswersError, AnswersIncomplete, AnswersOkOr, AnswersErrorOr, AnswersIncompleteOr};
+ghost use Rattle.der_base.specs.Any.{ReadsAny, AnyRefuses, AnyLacks};
+ghost use Rattle.der_base.specs.Header.{class_of, is_constructed, number_of};
 ghost use Rattle.der_base.specs.Refusal.{Refusal};
-ghost use Rattle.der_base.specs.Spelling.{BerSpells, framing_budget};
-ghost use Rattle.der_base.specs.Tree.{Node};
+ghost use Rattle.der_base.specs.Spelling.{BeginsWithElement, BerSpells, framing_budget};
+ghost use Rattle.der_base.specs.Tree.{Node, node, Content};
 ghost use Rattle.der_object.specs.View.{tree};
-ghost use Rattle.der_ber.specs.BerReading.{IsBuilt, ReadsBer, BerRefuses, BerIsCut, NeedsMemory};
+ghost use Rattle.der_ber.specs.BerReading.{IsBuilt, ReadsBer, BerRefuses, BerIsCut, NumberRefuses, NeedsMemory};
 
-use crate::reader::read_element;
+use crate::reader::{read_element, read_element_with_tag};
 use der_base::MAX_RECURSION;
-use der_base::header::HeaderCount;
+use der_base::any::Any;
+use der_base::error::{BerError, IResult};
+use der_base::header::{HeaderCount, Tag};
 use der_object::BerResult;
 use std::alloc::Global;
 
@@ -58,6 +63,36 @@ pub fn parse_ber_any_r<'a>(alloc: Global, i: &'a [u8], max_depth: usize) -> BerR
     ensures shorter { IfOk result (λ x. length x.0.now < length i.now) }
 {
     parse_ber_recursive(alloc, i, max_depth)
+}
+
+/// Reads as `parse_ber_recursive` an element of this tag number, of any class. Another number is
+/// UnexpectedTag, told behind the refusals of the header and of framing, and before those of the
+/// content.
+pub fn parse_ber_any_with_tag_r<'a>(
+    alloc: Global,
+    i: &'a [u8],
+    tag: Tag,
+    max_depth: usize,
+) -> BerResult<'a>
+    ensures found { MatchAnswer result (λ x. ReadsBer max_depth i.now x.1 x.0.now × (number_of x.1.header ≡ tag.0)) (NumberRefuses tag.0 max_depth i.now) (BerIsCut max_depth i.now) (NeedsMemory max_depth i.now) }
+    ensures only { (b rest : List ℕ) (c : Class) (p : Bool) (x : Content) → IsBuilt (node c p tag.0 x) → BerSpells b (node c p tag.0 x) max_depth framing_budget → i.now ≡ b ++ rest
+        → AnswersOkOr (NeedsMemory max_depth i.now) result (λ y. (tree y.1 ≡ node c p tag.0 x) × (y.0.now ≡ rest)) }
+    ensures refuses { (e : Refusal) → NumberRefuses tag.0 max_depth i.now e → AnswersErrorOr (NeedsMemory max_depth i.now) result e }
+    ensures lacks { (n : ℕ) → BerIsCut max_depth i.now n → AnswersIncompleteOr (NeedsMemory max_depth i.now) result n }
+    ensures shorter { IfOk result (λ x. length x.0.now < length i.now) }
+{
+    read_element_with_tag(alloc, i, tag, max_depth, &mut HeaderCount::new())
+}
+
+/// Reads an element whose content isn't read: as `Any::from_ber`.
+pub fn parse_ber_any<'a>(i: &'a [u8]) -> IResult<&'a [u8], Any<'a>, BerError>
+    ensures found { MatchAnswer result (λ x. ReadsAny i.now x.1 x.0.now) (AnyRefuses i.now) (AnyLacks i.now) ⊥ }
+    ensures only { (c : Class) (p : Bool) (t : ℕ) (w rest : List ℕ) → BeginsWithElement i.now framing_budget c p t w rest
+        → IsOkAnd result (λ x. (class_of x.1.header ≡ c) × (is_constructed x.1.header ≡ p) × (number_of x.1.header ≡ t) × (x.1.bytes.now ≡ w) × (x.0.now ≡ rest)) }
+    ensures refuses { (e : Refusal) → AnyRefuses i.now e → AnswersError result e }
+    ensures lacks { (n : ℕ) → AnyLacks i.now n → AnswersIncomplete result n }
+{
+    Any::from_ber(i)
 }
 
 /// Reads as `parse_ber_recursive`, and counts the headers that are read, end markers too.

@@ -5,7 +5,7 @@ ghost use Rattle.der_base.specs.declared.header.Class.{Class};
 ghost use Rattle.der_base.specs.Answer.{MatchAnswer};
 ghost use Rattle.der_base.specs.Header.{class_of, is_constructed, number_of};
 ghost use Rattle.der_base.specs.Leaf.{is_list};
-ghost use Rattle.der_ber.specs.BerReading.{ReadsBer, AreItems, IsContentOf, BerRefuses, BerIsCut, NeedsMemory, ContentRefuses, ItemsRefuse};
+ghost use Rattle.der_ber.specs.BerReading.{ReadsBer, AreItems, IsContentOf, BerRefuses, BerIsCut, NumberRefuses, NeedsMemory, ContentRefuses, ItemsRefuse};
 
 use crate::leaf::read_leaf;
 use der_base::any::{Any, ber_any_counted};
@@ -29,6 +29,26 @@ pub fn read_element<'a>(
         return Err(Err::Error(BerError::BerMaxDepth));
     }
     let (rest, any) = ber_any_counted(i, count)?;
+    let content = read_content(alloc, any, max_depth, count)?;
+    Ok((rest, BerObject::from_header_and_content(any.header, content)))
+}
+
+/// One element in front, of this tag number.
+pub fn read_element_with_tag<'a>(
+    alloc: Global,
+    i: &'a [u8],
+    tag: Tag,
+    max_depth: usize,
+    count: &mut HeaderCount,
+) -> BerResult<'a>
+    ensures found { MatchAnswer result (λ x. ReadsBer max_depth i.now x.1 x.0.now × (number_of x.1.header ≡ tag.0)) (NumberRefuses tag.0 max_depth i.now) (BerIsCut max_depth i.now) (NeedsMemory max_depth i.now) }
+    ensures shorter { IfOk result (λ x. length x.0.now < length i.now) }
+{
+    if max_depth == 0 {
+        return Err(Err::Error(BerError::BerMaxDepth));
+    }
+    let (rest, any) = ber_any_counted(i, count)?;
+    any.header.assert_tag(tag)?;
     let content = read_content(alloc, any, max_depth, count)?;
     Ok((rest, BerObject::from_header_and_content(any.header, content)))
 }

@@ -1,3 +1,5 @@
+pub mod Digits
+pub mod Integers
 pub mod Joins
 pub mod Marks
 pub mod Room

@@ -104,3 +104,12 @@ not_sequence _ l h = refl
 pub not_set : (x : BerObjectContent) (l : Nodes) → ((v : Vec BerObject Global) → x ≡ Set v → ⊥) → false ≡ same_content (set l) (content_tree x)
 not_set (Set' shape row) l h = absurd (h (shown-the_row-BerObject-0 shape row) (every_set shape row))
 not_set _ l h = refl
+
+-- lists have the same tree where their items have
+pub same_sequences : (x y : BerObjectContent) (v w : Vec BerObject Global) (xs ys : List BerObject) → x ≡ Sequence v → y ≡ Sequence w → xs ≡ v.items → ys ≡ w.items
+    → same_nodes (trees xs) (trees ys) ≡ same_content (content_tree x) (content_tree y)
+same_sequences x y v w xs ys e f g h = rw (e, f, g, h, sequence_tree v, sequence_tree w) refl
+
+pub same_sets : (x y : BerObjectContent) (v w : Vec BerObject Global) (xs ys : List BerObject) → x ≡ Set v → y ≡ Set w → xs ≡ v.items → ys ≡ w.items
+    → same_nodes (trees xs) (trees ys) ≡ same_content (content_tree x) (content_tree y)
+same_sets x y v w xs ys e f g h = rw (e, f, g, h, set_tree v, set_tree w) refl

@@ -1,3 +1,5 @@
+pub mod Bits
+pub mod Made
 pub mod Marks
 pub mod Objects
 pub mod Room

@@ -3,10 +3,11 @@ ghost use Rattle.std.specs.Prelude.{◌≡◌, ℕ, ◌+◌, ◌<◌, ◌≤◌,
 ghost use Rattle.std.specs.Option.{SomeIff};
 ghost use Rattle.der_base.specs.declared.header.Class.{Class};
 ghost use Rattle.der_base.specs.Encoding.{encoding, encodings, content_octets, element};
-ghost use Rattle.der_base.specs.Octets.{identifier, shortest_length, octets, groups};
+ghost use Rattle.der_base.specs.Octets.{identifier, shortest_length, shortest_integer, octets, groups, needs_zero};
 ghost use Rattle.der_object.specs.View.{tree, content_tree, trees};
 
 use crate::object::{BerObject, BerObjectContent};
+use crate::time::{GENERALIZED_YEAR, UTC_YEAR, time_length};
 use der_base::header::Tag;
 
 /// How many octets an object has, if at most 2^64-1.
@@ -26,14 +27,14 @@ fn content_length(content: &BerObjectContent<'_>) -> Option<usize>
         SomeIff result (n < 2 ^ 64) n }
 {
     match content {
-        BerObjectContent::EndOfContent => Some(0),
         BerObjectContent::Boolean(_) => Some(1),
-        BerObjectContent::Integer(octets) => Some(octets.len()),
-        BerObjectContent::OctetString(octets) => Some(octets.len()),
-        BerObjectContent::Null => Some(0),
+        BerObjectContent::BitString(_, bits) => Some(1 + bits.bytes.len()),
+        BerObjectContent::Enum(n) => Some(integer_octet_count(*n)),
         BerObjectContent::Sequence(items) => items_length(items),
         BerObjectContent::Set(items) => items_length(items),
-        BerObjectContent::Unknown(any) => Some(any.bytes.len()),
+        BerObjectContent::UTCTime(time) => Some(time_length(UTC_YEAR, *time)),
+        BerObjectContent::GeneralizedTime(time) => Some(time_length(GENERALIZED_YEAR, *time)),
+        _ => Some(content.kept_octets().len()),
     }
 }
 
@@ -89,6 +90,23 @@ fn octet_count(n: usize) -> usize
     ensures few { result ≤ 8 }
 {
     8 - n.leading_zeros() as usize / 8
+}
+
+/// How many octets a number has in two's complement, the fewest (8.3.2).
+#[tactic(auto, unfolding(der_base::specs::Octets::shortest_integer))]
+fn integer_octet_count(n: u64) -> usize
+    ensures { result ≡ length (shortest_integer n) }
+{
+    octet_count(n as usize) + usize::from(needs_zero(n))
+}
+
+/// Whether the octets of a number want one of 0 in front of them, since there are none or their first
+/// bit says that the number is negative (8.3.3).
+#[tactic(auto, using(crate::proofs::Integers::needs_zero_leading))]
+pub fn needs_zero(n: u64) -> bool
+    ensures { result ≡ needs_zero (octets n) }
+{
+    n.leading_zeros() % 8 == 0
 }
 
 /// How many groups of seven bits a tag number has (8.1.2.4.2).

@@ -4,8 +4,11 @@ ghost use Rattle.std.specs.Option.{option_copied};
 ghost use Rattle.der_base.specs.Header.{IsHeader, class_of, is_constructed, number_of, length_of};
 ghost use Rattle.der_base.specs.Tree.{node, sequence, set};
 
+use crate::bit_string::BitStringObject;
 use der_base::any::Any;
 use der_base::header::{Class, Header, Length, Tag};
+use der_base::oid::Oid;
+use der_base::time::ASN1DateTime;
 
 /// A header and the content behind it (X.690 8.1.1).
 #[cycle(ast)]
@@ -25,14 +28,50 @@ pub enum BerObjectContent<'a> {
     Boolean(bool),
     /// INTEGER, by its content octets (8.3).
     Integer(&'a [u8]),
+    /// BIT STRING: how many bits of the last octet are unused, and the octets (8.6).
+    BitString(u8, BitStringObject<'a>),
     /// OCTET STRING (8.7).
     OctetString(&'a [u8]),
     /// NULL (8.8).
     Null,
+    /// ENUMERATED, by its number, which isn't negative (8.4).
+    Enum(u64),
+    /// OBJECT IDENTIFIER (8.19).
+    OID(Oid<'a>),
+    /// RELATIVE-OID (8.20).
+    RelativeOID(Oid<'a>),
+    /// NumericString, as its text (8.23).
+    NumericString(&'a str),
+    /// VisibleString.
+    VisibleString(&'a str),
+    /// PrintableString.
+    PrintableString(&'a str),
+    /// IA5String.
+    IA5String(&'a str),
+    /// UTF8String.
+    UTF8String(&'a str),
+    /// T61String, also named TeletexString.
+    T61String(&'a str),
+    /// VideotexString.
+    VideotexString(&'a str),
+    /// ObjectDescriptor (8.25).
+    ObjectDescriptor(&'a str),
+    /// GraphicString.
+    GraphicString(&'a str),
+    /// GeneralString.
+    GeneralString(&'a str),
+    /// BMPString, by its octets: characters of two octets, the high one first.
+    BmpString(&'a [u8]),
+    /// UniversalString, by its octets: characters of four octets, the highest first.
+    UniversalString(&'a [u8]),
     /// SEQUENCE and SEQUENCE OF, by the items in their order (8.9, 8.10).
     Sequence(Vec<BerObject<'a>>),
     /// SET and SET OF, by the items in the order in which they stand (8.11, 8.12).
     Set(Vec<BerObject<'a>>),
+    /// UTCTime, by its fields, with the last two digits of the year (X.680 47).
+    UTCTime(ASN1DateTime),
+    /// GeneralizedTime, by its fields (X.680 46).
+    GeneralizedTime(ASN1DateTime),
     /// An element of another class or type, with its content octets as they stand.
     Unknown(Any<'a>),
 }
@@ -113,9 +152,32 @@ impl<'a> BerObject<'a> {
     }
 }
 
+/// The object that `from_obj` makes of the content.
+impl<'a> From<BerObjectContent<'a>> for BerObject<'a> {
+    ghost use Rattle.der_object.specs.Made.{IsMadeOf};
+
+    ghost from_gives = { λ x o. IsMadeOf x o };
+
+    fn from(content: BerObjectContent<'a>) -> BerObject<'a> {
+        BerObject::from_obj(content)
+    }
+}
+
+/// The object that `from_obj` makes of an OBJECT IDENTIFIER.
+impl<'a> From<Oid<'a>> for BerObject<'a> {
+    ghost use Rattle.der_object.specs.declared.object.BerObjectContent.TheVariants.{OID};
+    ghost use Rattle.der_object.specs.Made.{IsMadeOf};
+
+    ghost from_gives = { λ x o. IsMadeOf (OID x) o };
+
+    fn from(oid: Oid<'a>) -> BerObject<'a> {
+        BerObject::from_obj(BerObjectContent::OID(oid))
+    }
+}
+
 impl BerObjectContent<'_> {
     ghost use Rattle.der_object.specs.View.{content_tree};
-    ghost use Rattle.der_object.specs.Objects.{content_number};
+    ghost use Rattle.der_object.specs.Objects.{content_number, kept_octets};
 
     /// The number of the universal type, or of the tag of an unknown one.
     fn tag(&self) -> Tag
@@ -125,11 +187,63 @@ impl BerObjectContent<'_> {
             BerObjectContent::EndOfContent => Tag::EndOfContent,
             BerObjectContent::Boolean(_) => Tag::Boolean,
             BerObjectContent::Integer(_) => Tag::Integer,
+            BerObjectContent::BitString(..) => Tag::BitString,
             BerObjectContent::OctetString(_) => Tag::OctetString,
             BerObjectContent::Null => Tag::Null,
+            BerObjectContent::Enum(_) => Tag::Enumerated,
+            BerObjectContent::OID(_) => Tag::Oid,
+            BerObjectContent::RelativeOID(_) => Tag::RelativeOid,
+            BerObjectContent::NumericString(_) => Tag::NumericString,
+            BerObjectContent::VisibleString(_) => Tag::VisibleString,
+            BerObjectContent::PrintableString(_) => Tag::PrintableString,
+            BerObjectContent::IA5String(_) => Tag::Ia5String,
+            BerObjectContent::UTF8String(_) => Tag::Utf8String,
+            BerObjectContent::T61String(_) => Tag::T61String,
+            BerObjectContent::VideotexString(_) => Tag::VideotexString,
+            BerObjectContent::ObjectDescriptor(_) => Tag::ObjectDescriptor,
+            BerObjectContent::GraphicString(_) => Tag::GraphicString,
+            BerObjectContent::GeneralString(_) => Tag::GeneralString,
+            BerObjectContent::BmpString(_) => Tag::BmpString,
+            BerObjectContent::UniversalString(_) => Tag::UniversalString,
             BerObjectContent::Sequence(_) => Tag::Sequence,
             BerObjectContent::Set(_) => Tag::Set,
+            BerObjectContent::UTCTime(_) => Tag::UtcTime,
+            BerObjectContent::GeneralizedTime(_) => Tag::GeneralizedTime,
             BerObjectContent::Unknown(any) => any.tag(),
+        }
+    }
+    /// The octets that a content keeps as they are written, and none for a content that is written
+    /// otherwise.
+    pub(crate) fn kept_octets(&self) -> &[u8]
+        ensures { result.now ≡ kept_octets (content_tree self.now) }
+    {
+        match self {
+            BerObjectContent::Integer(octets) => octets,
+            BerObjectContent::OctetString(octets) => octets,
+            BerObjectContent::OID(oid) => oid.as_bytes(),
+            BerObjectContent::RelativeOID(oid) => oid.as_bytes(),
+            BerObjectContent::NumericString(text) => text.as_bytes(),
+            BerObjectContent::VisibleString(text) => text.as_bytes(),
+            BerObjectContent::PrintableString(text) => text.as_bytes(),
+            BerObjectContent::IA5String(text) => text.as_bytes(),
+            BerObjectContent::UTF8String(text) => text.as_bytes(),
+            BerObjectContent::T61String(text) => text.as_bytes(),
+            BerObjectContent::VideotexString(text) => text.as_bytes(),
+            BerObjectContent::ObjectDescriptor(text) => text.as_bytes(),
+            BerObjectContent::GraphicString(text) => text.as_bytes(),
+            BerObjectContent::GeneralString(text) => text.as_bytes(),
+            BerObjectContent::BmpString(octets) => octets,
+            BerObjectContent::UniversalString(octets) => octets,
+            BerObjectContent::Unknown(any) => any.bytes,
+            BerObjectContent::EndOfContent
+            | BerObjectContent::Boolean(_)
+            | BerObjectContent::BitString(..)
+            | BerObjectContent::Null
+            | BerObjectContent::Enum(_)
+            | BerObjectContent::Sequence(_)
+            | BerObjectContent::Set(_)
+            | BerObjectContent::UTCTime(_)
+            | BerObjectContent::GeneralizedTime(_) => &[],
         }
     }
 }

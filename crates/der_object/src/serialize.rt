@@ -7,12 +7,14 @@ ghost use Rattle.std.specs.Prelude.{◌≡◌, ◌≢◌, ℕ, ◌+◌, ◌-◌,
 ghost use Rattle.std.specs.Result.{IsErrOf};
 ghost use Rattle.der_base.specs.Encoding.{encoding, encodings, content_octets};
 ghost use Rattle.der_base.specs.Header.{class_of, is_constructed, number_of};
-ghost use Rattle.der_base.specs.Octets.{identifier, shortest_length, octets, groups, leading_bits, class_number};
+ghost use Rattle.der_base.specs.Octets.{identifier, shortest_length, shortest_integer, octets, groups, leading_bits, class_number};
 ghost use Rattle.der_object.specs.Room.{PutsBefore};
 ghost use Rattle.der_object.specs.View.{tree, content_tree, trees};
 
-use crate::length::object_length;
+use crate::length::{needs_zero, object_length};
 use crate::object::{BerObject, BerObjectContent};
+use crate::octets::{write_octet, write_octets};
+use crate::time::{GENERALIZED_YEAR, UTC_YEAR, write_time};
 use der_base::error::GenError;
 use der_base::header::{Class, Header, Tag};
 use std::alloc::Global;
@@ -58,14 +60,17 @@ fn write_content(out: &mut [u8], end: usize, content: &BerObjectContent<'_>) -> 
     ensures { PutsBefore out.old out.new end (content_octets (content_tree content.now)) result }
 {
     match content {
-        BerObjectContent::EndOfContent => end,
         BerObjectContent::Boolean(b) => write_octet(out, end, if *b { 0xff } else { 0 }),
-        BerObjectContent::Integer(octets) => write_octets(out, end, octets),
-        BerObjectContent::OctetString(octets) => write_octets(out, end, octets),
-        BerObjectContent::Null => end,
+        BerObjectContent::BitString(unused, bits) => {
+            let begin = write_octets(out, end, bits.bytes);
+            write_octet(out, begin, *unused)
+        }
+        BerObjectContent::Enum(n) => write_integer(out, end, *n),
         BerObjectContent::Sequence(items) => write_items(out, end, items),
         BerObjectContent::Set(items) => write_items(out, end, items),
-        BerObjectContent::Unknown(any) => write_octets(out, end, any.bytes),
+        BerObjectContent::UTCTime(time) => write_time(out, end, UTC_YEAR, *time),
+        BerObjectContent::GeneralizedTime(time) => write_time(out, end, GENERALIZED_YEAR, *time),
+        _ => write_octets(out, end, content.kept_octets()),
     }
 }
 
@@ -174,24 +179,17 @@ fn write_number(out: &mut [u8], end: usize, n: usize) -> usize
     write_octets(out, end, &n.to_be_bytes()[zeros..])
 }
 
-/// Writes octets in front of a place.
-fn write_octets(out: &mut [u8], end: usize, octets: &[u8]) -> usize
-    requires room { length octets.now ≤ end }
+/// Writes a number in two's complement in front of a place, in the fewest octets (8.3.2).
+#[tactic(auto, using(crate::proofs::Room::puts_both), unfolding(der_base::specs::Octets::shortest_integer))]
+fn write_integer(out: &mut [u8], end: usize, n: u64) -> usize
+    requires room { length (shortest_integer n) ≤ end }
     requires within { end ≤ length out.old }
-    ensures { PutsBefore out.old out.new end octets.now result }
+    ensures { PutsBefore out.old out.new end (shortest_integer n) result }
 {
-    let begin = end - octets.len();
-    out[begin..end].copy_from_slice(octets);
-    begin
-}
-
-/// Writes an octet in front of a place.
-fn write_octet(out: &mut [u8], end: usize, octet: u8) -> usize
-    requires room { length (octet ∷ []) ≤ end }
-    requires within { end ≤ length out.old }
-    ensures { PutsBefore out.old out.new end (octet ∷ []) result }
-{
-    let begin = end - 1;
-    out[begin] = octet;
-    begin
+    let begin = write_number(out, end, n as usize);
+    if needs_zero(n) {
+        write_octet(out, begin, 0)
+    } else {
+        begin
+    }
 }

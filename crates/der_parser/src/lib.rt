@@ -21,7 +21,10 @@ pub mod ber {
         Class, Header, HeaderCount, Length, Tag, ber_header_counted, ber_read_element_header,
     };
     pub use der_base::{MAX_OBJECT_SIZE, MAX_RECURSION};
-    pub use der_ber::{parse_ber, parse_ber_any_r, parse_ber_counted, parse_ber_recursive};
+    pub use der_ber::{
+        parse_ber, parse_ber_any, parse_ber_any_r, parse_ber_any_with_tag_r, parse_ber_counted,
+        parse_ber_recursive,
+    };
     pub use der_object::{BerObject, BerObjectContent};
 
     /// Names that earlier versions of the crate had.

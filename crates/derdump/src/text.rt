@@ -13,13 +13,39 @@ const INCREMENT: usize = 2;
 pub fn write_text<W: Write>(out: &mut W, object: &BerObject<'_>, indent: usize) -> io::Result<()> {
     write_spaces(out, indent)?;
     match &object.content {
+        BerObjectContent::Sequence(items) => write_list(out, object.header.tag(), items, indent),
+        BerObjectContent::Set(items) => write_list(out, object.header.tag(), items, indent),
+        leaf => write_leaf(out, leaf),
+    }
+}
+
+/// Writes the text of a content that has no items; of a list, nothing.
+fn write_leaf<W: Write>(out: &mut W, content: &BerObjectContent<'_>) -> io::Result<()> {
+    match content {
         BerObjectContent::EndOfContent => out.write_all(b"EndOfContent"),
         BerObjectContent::Boolean(value) => write!(out, "Boolean({value})"),
         BerObjectContent::Integer(octets) => write_octets(out, "Integer", octets),
+        BerObjectContent::BitString(unused, bits) => write_bits(out, *unused, bits.bytes),
         BerObjectContent::OctetString(octets) => write_octets(out, "OctetString", octets),
         BerObjectContent::Null => out.write_all(b"Null"),
-        BerObjectContent::Sequence(items) => write_list(out, object.header.tag(), items, indent),
-        BerObjectContent::Set(items) => write_list(out, object.header.tag(), items, indent),
+        BerObjectContent::Enum(number) => write!(out, "Enum({number})"),
+        BerObjectContent::OID(oid) => write_octets(out, "OID", oid.as_bytes()),
+        BerObjectContent::RelativeOID(oid) => write_octets(out, "RelativeOID", oid.as_bytes()),
+        BerObjectContent::NumericString(text) => write_quoted(out, "NumericString", text),
+        BerObjectContent::VisibleString(text) => write_quoted(out, "VisibleString", text),
+        BerObjectContent::PrintableString(text) => write_quoted(out, "PrintableString", text),
+        BerObjectContent::IA5String(text) => write_quoted(out, "IA5String", text),
+        BerObjectContent::UTF8String(text) => write_quoted(out, "UTF8String", text),
+        BerObjectContent::T61String(text) => write!(out, "T61String({text})"),
+        BerObjectContent::VideotexString(text) => write!(out, "VideotexString({text})"),
+        BerObjectContent::ObjectDescriptor(text) => write_quoted(out, "ObjectDescriptor", text),
+        BerObjectContent::GraphicString(text) => write_quoted(out, "GraphicString", text),
+        BerObjectContent::GeneralString(text) => write_quoted(out, "GeneralString", text),
+        BerObjectContent::BmpString(octets) => write_bmp(out, octets),
+        BerObjectContent::UniversalString(octets) => write_universal(out, octets),
+        BerObjectContent::Sequence(_) | BerObjectContent::Set(_) => Ok(()),
+        BerObjectContent::UTCTime(time) => write!(out, "UTCTime({time:?})"),
+        BerObjectContent::GeneralizedTime(time) => write!(out, "GeneralizedTime({time:?})"),
         BerObjectContent::Unknown(any) => {
             out.write_all(b"Unknown ")?;
             write_hex(out, any.bytes)
@@ -62,4 +88,69 @@ fn write_octets<W: Write>(out: &mut W, name: &str, octets: &[u8]) -> io::Result<
     out.write_all(b"(")?;
     write_hex(out, octets)?;
     out.write_all(b")")
+}
+
+/// Writes how many bits of a BIT STRING are unused, and its octets.
+fn write_bits<W: Write>(out: &mut W, unused: u8, octets: &[u8]) -> io::Result<()> {
+    write!(out, "BitString({unused},")?;
+    write_hex(out, octets)?;
+    out.write_all(b")")
+}
+
+/// Writes the name of a content and its text, with no character escaped.
+fn write_quoted<W: Write>(out: &mut W, name: &str, text: &str) -> io::Result<()> {
+    write!(out, "{name}(\"{text}\")")
+}
+
+/// Writes the text of a BMPString, of its whole pairs of octets as UTF-16, and ends the line.
+fn write_bmp<W: Write>(out: &mut W, octets: &[u8]) -> io::Result<()> {
+    if char::decode_utf16(octets.chunks_exact(2).map(unit)).any(|c| c.is_err()) {
+        return write_undecoded(out, "BmpString", octets);
+    }
+    out.write_all(b"BmpString(\"")?;
+    for c in char::decode_utf16(octets.chunks_exact(2).map(unit)) {
+        if let Ok(c) = c {
+            write!(out, "{c}")?;
+        }
+    }
+    out.write_all(b"\")\n")
+}
+
+/// The unit of UTF-16 that a pair of octets is, the high one first.
+fn unit(pair: &[u8]) -> u16 {
+    match pair {
+        [high, low] => u16::from_be_bytes([*high, *low]),
+        _ => 0,
+    }
+}
+
+/// Writes the text of a UniversalString, of its whole groups of four octets, and ends the line.
+fn write_universal<W: Write>(out: &mut W, octets: &[u8]) -> io::Result<()> {
+    if octets
+        .chunks_exact(4)
+        .any(|group| character(group).is_none())
+    {
+        return write_undecoded(out, "UniversalString", octets);
+    }
+    out.write_all(b"UniversalString(\"")?;
+    for group in octets.chunks_exact(4) {
+        if let Some(c) = character(group) {
+            write!(out, "{c}")?;
+        }
+    }
+    out.write_all(b"\")\n")
+}
+
+/// The character whose number is four octets, the highest first.
+fn character(group: &[u8]) -> Option<char> {
+    match group {
+        [a, b, c, d] => char::from_u32(u32::from_be_bytes([*a, *b, *c, *d])),
+        _ => None,
+    }
+}
+
+/// Writes the octets of a text that is none, and ends the line.
+fn write_undecoded<W: Write>(out: &mut W, name: &str, octets: &[u8]) -> io::Result<()> {
+    write_octets(out, name, octets)?;
+    out.write_all(b" <error decoding utf32 string>\n")
 }
