@@ -5,8 +5,8 @@ use Rattle.der_base.specs.declared.header.Length.{Length}
 use Rattle.der_base.specs.declared.header.Length.TheVariants.{Definite, Indefinite}
 use Rattle.der_base.specs.Content.{ContentRefuses, ContentLacks, InsideLacks}
 use Rattle.der_base.specs.Cut.{AreShapes, no_shapes, definite_shape, indefinite_shape, IsShape, IsCut, Lacks, in_identifier as lacks_in_identifier, in_length as lacks_in_length, in_content, in_elements}
-use Rattle.der_base.specs.Framed.{IsElement, definite, indefinite, AreElements, no_elements, elements}
 use Rattle.der_base.specs.Fault.{BerHeaderRefuses, InsideRefuses, at_header, too_deep, further_in}
+use Rattle.der_base.specs.Framed.{IsElement, definite, indefinite, AreElements, no_elements, elements}
 use Rattle.der_base.specs.Headers.{BeginsWithHeader, HeaderLacks, in_identifier, in_length, BerHeaderLacks}
 use Rattle.der_base.specs.Octets.{identifier, number, SpellsAnyLength}
 use Rattle.der_base.specs.Refusal.{Refusal}

@@ -1,6 +1,5 @@
 -- Elements that were read in front of a list, and what the list behind them shows.
 use Rattle.std.proofs.Common.{◌≡◌, ℕ, ◌-◌, ◌<◌, ◌≤◌, Bool, true, List, [], ◌∷◌, ◌++◌, length, refl, sym, ap, subst, ◌∙◌, arith, append_assoc, length-append, ◌⊎◌, inl, inr, ⊎_elim}
-use Rattle.std.proofs.lemmas.Bool.{cases_lt}
 use Rattle.der_base.specs.declared.header.Class.{Class}
 use Rattle.der_base.specs.declared.header.Length.{Length}
 use Rattle.der_base.specs.declared.header.Length.TheVariants.{Definite, Indefinite}
@@ -15,7 +14,7 @@ use Rattle.der_base.specs.Spelling.{end_marker}
 use Rattle.der_base.proofs.BerHeaders.{ber_header_same, ber_header_not_refused}
 use Rattle.der_base.proofs.Framed.{element_same, elements_append, elements_more}
 use Rattle.der_base.proofs.FramingLaws.{HasSomeHeader, element_has_header, marker_has_header, inside_not_refused}
-use Rattle.der_base.proofs.Identifiers.{identifier_short, identifier_long, identifier_same, head_same}
+use Rattle.der_base.proofs.Identifiers.{identifier_octets, identifier_same, head_same}
 use Rattle.der_base.proofs.Raws.{append_nil, definite_not_open}
 use Rattle.der_base.proofs.Restated.{raws_are, are_raws}
 
@@ -37,11 +36,8 @@ some_header (p, s, (c, t, ht, e), inr (ep, r, d)) = (c, p, t, Indefinite, r, rec
 
 -- a header takes an octet at least
 pub header_shorter : (i behind : List ℕ) (c : Class) (p : Bool) (t : ℕ) (l : Length) → BeginsWithHeader i c p t l behind → length behind < length i
-header_shorter i behind c p t l h = omega (arith, some, behind_length l h.length, ap length h.octets, length-append (identifier c p t) h.following)
+header_shorter i behind c p t l h = omega (arith, identifier_octets c p t, behind_length l h.length, ap length h.octets, length-append (identifier c p t) h.following)
   where
-    some : 1 ≤ length (identifier c p t)
-    some = ⊎_elim (λ a. omega (arith, ap length (identifier_short c p t a))) (λ a. omega (arith, ap length (identifier_long c p t a))) (cases_lt t 31)
-
     behind_length : (l : Length) → BeginsWithLength h.following p l behind → length behind ≤ length h.following
     behind_length (Definite n) g = omega (arith, ap length g.2, length-append g.0 behind)
     behind_length Indefinite g = omega (arith, ap length g.1)
