@@ -8,7 +8,7 @@ use Rattle.der_base.specs.Arcs.{in_front, subidentifiers, ends_below_128, is_who
 use Rattle.der_base.specs.declared.error.OidParseError.TheVariants.{FirstComponentsTooLarge}
 use Rattle.der_base.specs.Laws.{AreGroups}
 use Rattle.der_base.specs.Octets.{groups_before, groups, groups_value}
-use Rattle.der_base.specs.OidArcs.{have_one, ArcsComeBack}
+use Rattle.der_base.specs.OidArcs.{have_subidentifier, ArcsComeBack}
 use Rattle.der_base.proofs.Arcs.{last_octet, more_octet}
 use Rattle.der_base.proofs.Each.{Each, each_from_all}
 use Rattle.der_base.proofs.Shortest.{groups_are, groups_spell}
@@ -63,7 +63,7 @@ arcs_by_values relative vs h =
     ∙ ap (λ l. Some (arcs_of_values relative l)) (values_back vs)
 
 -- the first two arcs, from their number
-first_back : (x y : ℕ) → have_one x y ≡ true → first_arcs (40 * x + y) ≡ x ∷ y ∷ []
+first_back : (x y : ℕ) → have_subidentifier x y ≡ true → first_arcs (40 * x + y) ≡ x ∷ y ∷ []
 first_back zero y h = grind (arith, nat_tests)
 first_back (suc zero) y h = grind (arith, nat_tests)
 first_back (suc (suc zero)) y h = grind (arith, nat_tests)
@@ -81,5 +81,5 @@ arcs_come_back true (x ∷ given) w e h =
 arcs_come_back false [] w e h = cc
 arcs_come_back false (x ∷ []) w e h = cc
 arcs_come_back false (x ∷ y ∷ given) w e h =
-    let q = if_ok (have_one x y) (flat_map groups ((40 * x + y) ∷ given)) w FirstComponentsTooLarge e in
+    let q = if_ok (have_subidentifier x y) (flat_map groups ((40 * x + y) ∷ given)) w FirstComponentsTooLarge e in
     ap (arcs false) (sym q.1) ∙ arcs_by_values false ((40 * x + y) ∷ given) h ∙ ap (λ l. Some (l ++ given)) (first_back x y q.0)

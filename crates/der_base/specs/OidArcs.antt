@@ -8,18 +8,18 @@ use Rattle.der_base.specs.declared.error.OidParseError.TheVariants.{TooShort, Fi
 use Rattle.der_base.specs.Arcs.{subidentifiers, is_whole, arcs}
 use Rattle.der_base.specs.Octets.{groups, groups_value}
 
--- each has an end, and fits a number of 64 bits
+-- each subidentifier in the octets has an end, and fits a number of 64 bits
 abbrev pub AreWhole : List ℕ → Type 0
 AreWhole w = list_all is_whole (subidentifiers w) ≡ true
 
--- the numbers that they spell
+-- the numbers that the subidentifiers spell
 abbrev pub subidentifier_values : List ℕ → List ℕ
 subidentifier_values w = map (groups_value 0) (subidentifiers w)
 
 -- The first two arcs of an absolute identifier have one subidentifier: the first is 0, 1 or 2, the second below 40 where the first is
 -- 0 or 1 (8.19.4), and it fits a number of 64 bits.
-abbrev pub have_one : ℕ → ℕ → Bool
-have_one x y = (nat_lt x 2 && nat_lt y 40) || (x == 2 && nat_lt (80 + y) (2 ^ 64))
+abbrev pub have_subidentifier : ℕ → ℕ → Bool
+have_subidentifier x y = (nat_lt x 2 && nat_lt y 40) || (x == 2 && nat_lt (80 + y) (2 ^ 64))
 
 -- the numbers that the subidentifiers of arcs spell: each arc, but the first two of an absolute identifier in one
 abbrev pub values_of_arcs : Bool → List ℕ → List ℕ
@@ -32,7 +32,7 @@ octets_of_arcs true [] = Err TooShort
 octets_of_arcs true (x ∷ others) = Ok (flat_map groups (values_of_arcs true (x ∷ others)))
 octets_of_arcs false [] = Err TooShort
 octets_of_arcs false (x ∷ []) = Err TooShort
-octets_of_arcs false (x ∷ y ∷ others) = if have_one x y then Ok (flat_map groups (values_of_arcs false (x ∷ y ∷ others))) else Err FirstComponentsTooLarge
+octets_of_arcs false (x ∷ y ∷ others) = if have_subidentifier x y then Ok (flat_map groups (values_of_arcs false (x ∷ y ∷ others))) else Err FirstComponentsTooLarge
 
 -- the components of a text, between its points
 abbrev pub components : List ℕ → List (List ℕ)

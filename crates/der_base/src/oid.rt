@@ -7,7 +7,7 @@ ghost use Rattle.der_base.specs.declared.error.OidParseError.TheVariants.{OutOfM
 ghost use Rattle.std.specs.List.{list_all, flat_map};
 ghost use Rattle.der_base.specs.Arcs.{subidentifiers, is_whole, first_arcs};
 ghost use Rattle.der_base.specs.Octets.{groups_before, groups};
-ghost use Rattle.der_base.specs.OidArcs.{AreWhole, subidentifier_values, have_one, octets_of_arcs, is_arc, dotted_arcs, octets_if_arcs, ArcsComeBack};
+ghost use Rattle.der_base.specs.OidArcs.{AreWhole, subidentifier_values, have_subidentifier, octets_of_arcs, is_arc, dotted_arcs, octets_if_arcs, ArcsComeBack};
 
 use crate::error::OidParseError;
 use std::alloc::{AllocError, Global};
@@ -245,6 +245,9 @@ fn first_arcs(value: u64) -> (u64, u64)
     }
 }
 
+/// How many octets a subidentifier of fewer than ten has at most in front of its last one.
+const MOST_BEFORE_LAST: usize = 8;
+
 /// Whether each subidentifier has a last octet, and fewer than ten octets.
 fn are_whole(octets: &[u8]) -> bool
     ensures { result ≡ list_all is_whole (subidentifiers octets.now) }
@@ -254,7 +257,7 @@ fn are_whole(octets: &[u8]) -> bool
     for octet in octets {
         if *octet < 128 {
             open = 0;
-        } else if open == 8 {
+        } else if open == MOST_BEFORE_LAST {
             return false;
         } else {
             open += 1;
@@ -281,7 +284,7 @@ fn split_subidentifier(octets: &[u8]) -> Option<(u64, &[u8])>
 
 /// The number of the first two arcs of an absolute identifier (8.19.4), where they have one.
 fn first_value(first: u64, second: u64) -> Option<u64>
-    ensures { SomeIff result (IsTrue (have_one first second)) (40 * first + second) }
+    ensures { SomeIff result (IsTrue (have_subidentifier first second)) (40 * first + second) }
 {
     match first {
         0 | 1 if second < 40 => Some(first * 40 + second),

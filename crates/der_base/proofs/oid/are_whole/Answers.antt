@@ -6,7 +6,7 @@ use Rattle.std.proofs.lemmas.List.{drop_all}
 use Rattle.der_base.specs.Arcs.{subidentifiers, is_whole}
 use Rattle.der_base.proofs.Arcs.{whole_after, whole_start, whole_last, whole_more, too_many, octet_at}
 use Rattle.der_base.proofs.oid.are_whole.Goals as goal
-use Rattle.der_base.proofs.oid.are_whole.Goals.{then-octet-lt128, else-octet-lt128+else-open-eq8}
+use Rattle.der_base.proofs.oid.are_whole.Goals.{then-octet-lt128, else-octet-lt128+else-open-eq-MOST_BEFORE_LAST}
 
 last : (w : List ℕ) (n k : ℕ) → n ≤ 8 → k < length w → get_or w k 0 < 128 → whole_after 0 (subidentifiers (drop (k + 1) w)) ≡ whole_after n (subidentifiers (drop k w))
 last w n k few within low =
@@ -20,8 +20,8 @@ more w n k within high = sym (whole_more n (get_or w k 0) (drop (k + 1) w) high)
 pub loop-octet-init : goal.loop-octet-init
 loop-octet-init c = record { few = omega arith; rest = whole_start c.args.octets.now }
 
-pub returns-then-open-eq8 : goal.returns-then-open-eq8
-returns-then-open-eq8 c =
+pub returns-then-open-eq-MOST_BEFORE_LAST : goal.returns-then-open-eq-MOST_BEFORE_LAST
+returns-then-open-eq-MOST_BEFORE_LAST c =
     let w = c.args.octets.now in
     let k = c.loop-octet.octet-index in
     let e : c.loop-octet.open ≡ 8 = omega arith in
@@ -36,7 +36,7 @@ loop-octet-preserved c =
         few = omega arith;
         rest = ap (λ n. whole_after n (subidentifiers (drop (k + 1) w))) v.open-is ∙ last w c.loop-octet.open k (omega arith) (omega arith) (omega arith) ∙ c.loop-octet.invariant.rest;
       }
-      | else-octet-lt128+else-open-eq8 v ↦ record {
+      | else-octet-lt128+else-open-eq-MOST_BEFORE_LAST v ↦ record {
         few = omega arith;
         rest = ap (λ n. whole_after n (subidentifiers (drop (k + 1) w))) v.open-is ∙ more w c.loop-octet.open k (omega arith) (omega arith) ∙ c.loop-octet.invariant.rest;
       }
