@@ -1,3 +1,4 @@
 pub mod Items
+pub mod Leaves
 pub mod ReadingLaws
 pub mod WantedNumbers
