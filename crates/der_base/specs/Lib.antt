@@ -4,7 +4,6 @@ pub mod Arcs
 pub mod Content
 pub mod Count
 pub mod Cut
-pub mod DerColumns
 pub mod Encoding
 pub mod Errors
 pub mod Fault

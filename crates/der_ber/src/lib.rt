@@ -1,7 +1,7 @@
 //! The readers of BER (X.690 8).
 #![tactic(auto)]
 
-mod leaf;
+pub mod leaf;
 pub mod parser;
 mod reader;
 

@@ -4,7 +4,6 @@ pub use Rattle.der_base.specs.Any
 pub use Rattle.der_base.specs.Arcs
 pub use Rattle.der_base.specs.Count
 pub use Rattle.der_base.specs.Cut
-pub use Rattle.der_base.specs.DerColumns
 pub use Rattle.der_base.specs.Encoding
 pub use Rattle.der_base.specs.Errors
 pub use Rattle.der_base.specs.Fault
@@ -24,5 +23,4 @@ pub use Rattle.der_object.specs.Objects
 pub use Rattle.der_object.specs.Room
 pub use Rattle.der_object.specs.View
 pub use Rattle.der_ber.specs.BerReading
-pub use Rattle.der_der.specs.DerLeaves
 pub use Rattle.der_der.specs.DerReading
