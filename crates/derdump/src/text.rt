@@ -29,8 +29,8 @@ fn write_leaf<W: Write>(out: &mut W, content: &BerObjectContent<'_>) -> io::Resu
         BerObjectContent::OctetString(octets) => write_octets(out, "OctetString", octets),
         BerObjectContent::Null => out.write_all(b"Null"),
         BerObjectContent::Enum(number) => write!(out, "Enum({number})"),
-        BerObjectContent::OID(oid) => write_octets(out, "OID", oid.as_bytes()),
-        BerObjectContent::RelativeOID(oid) => write_octets(out, "RelativeOID", oid.as_bytes()),
+        BerObjectContent::OID(_) => write_identifier(out, "OID", content),
+        BerObjectContent::RelativeOID(_) => write_identifier(out, "RelativeOID", content),
         BerObjectContent::NumericString(text) => write_quoted(out, "NumericString", text),
         BerObjectContent::VisibleString(text) => write_quoted(out, "VisibleString", text),
         BerObjectContent::PrintableString(text) => write_quoted(out, "PrintableString", text),
@@ -94,6 +94,29 @@ fn write_octets<W: Write>(out: &mut W, name: &str, octets: &[u8]) -> io::Result<
 fn write_bits<W: Write>(out: &mut W, unused: u8, octets: &[u8]) -> io::Result<()> {
     write!(out, "BitString({unused},")?;
     write_hex(out, octets)?;
+    out.write_all(b")")
+}
+
+/// Writes the name of an identifier and its arcs, with a point between them, or the octets where
+/// they are no arcs; of another content, nothing.
+fn write_identifier<W: Write>(
+    out: &mut W,
+    name: &str,
+    content: &BerObjectContent<'_>,
+) -> io::Result<()> {
+    let (BerObjectContent::OID(oid) | BerObjectContent::RelativeOID(oid)) = content else {
+        return Ok(());
+    };
+    let Some(arcs) = oid.iter() else {
+        return write_octets(out, name, oid.as_bytes());
+    };
+    write!(out, "{name}(")?;
+    let mut separator: &[u8] = b"";
+    for arc in arcs {
+        out.write_all(separator)?;
+        write!(out, "{arc}")?;
+        separator = b".";
+    }
     out.write_all(b")")
 }
 
