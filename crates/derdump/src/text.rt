@@ -29,8 +29,8 @@ fn write_leaf<W: Write>(out: &mut W, content: &BerObjectContent<'_>) -> io::Resu
         BerObjectContent::OctetString(octets) => write_octets(out, "OctetString", octets),
         BerObjectContent::Null => out.write_all(b"Null"),
         BerObjectContent::Enum(number) => write!(out, "Enum({number})"),
-        BerObjectContent::OID(oid) => write_octets(out, "OID", oid.as_bytes()),
-        BerObjectContent::RelativeOID(oid) => write_octets(out, "RelativeOID", oid.as_bytes()),
+        BerObjectContent::OID(_) => write_identifier(out, "OID", content),
+        BerObjectContent::RelativeOID(_) => write_identifier(out, "RelativeOID", content),
         BerObjectContent::NumericString(text) => write_quoted(out, "NumericString", text),
         BerObjectContent::VisibleString(text) => write_quoted(out, "VisibleString", text),
         BerObjectContent::PrintableString(text) => write_quoted(out, "PrintableString", text),
@@ -97,6 +97,29 @@ fn write_bits<W: Write>(out: &mut W, unused: u8, octets: &[u8]) -> io::Result<()
     out.write_all(b")")
 }
 
+/// Writes the name of an identifier and its arcs, with a point between them, or the octets where
+/// they are no arcs; of another content, nothing.
+fn write_identifier<W: Write>(
+    out: &mut W,
+    name: &str,
+    content: &BerObjectContent<'_>,
+) -> io::Result<()> {
+    let (BerObjectContent::OID(oid) | BerObjectContent::RelativeOID(oid)) = content else {
+        return Ok(());
+    };
+    let Some(arcs) = oid.iter() else {
+        return write_octets(out, name, oid.as_bytes());
+    };
+    write!(out, "{name}(")?;
+    let mut separator: &[u8] = b"";
+    for arc in arcs {
+        out.write_all(separator)?;
+        write!(out, "{arc}")?;
+        separator = b".";
+    }
+    out.write_all(b")")
+}
+
 /// Writes the name of a content and its text, with no character escaped.
 fn write_quoted<W: Write>(out: &mut W, name: &str, text: &str) -> io::Result<()> {
     write!(out, "{name}(\"{text}\")")
@@ -153,4 +176,73 @@ fn character(group: &[u8]) -> Option<char> {
 fn write_undecoded<W: Write>(out: &mut W, name: &str, octets: &[u8]) -> io::Result<()> {
     write_octets(out, name, octets)?;
     out.write_all(b" <error decoding utf32 string>\n")
+}
+
+#[cfg(test)]
+mod tests {
+    use super::*;
+    use std::alloc::Global;
+    use std::test::Fail;
+
+    /// The text of an object of a content.
+    fn text_of(alloc: Global, content: BerObjectContent<'_>) -> Result<Vec<u8>, Fail> {
+        let mut out = Vec::new(alloc);
+        write_text(&mut out, &BerObject::from_obj(content), 0)?;
+        Ok(out)
+    }
+
+    #[test]
+    fn texts_of_leaves(rt: HostRuntime) -> Result<(), Fail> {
+        let rows = [
+            (BerObjectContent::Enum(5), "Enum(5)"),
+            (
+                BerObjectContent::UTF8String("\u{e9}"),
+                "UTF8String(\"\u{e9}\")",
+            ),
+            (
+                BerObjectContent::NumericString("1 2"),
+                "NumericString(\"1 2\")",
+            ),
+            (BerObjectContent::T61String("a\"b"), "T61String(a\"b)"),
+            (BerObjectContent::VideotexString("v"), "VideotexString(v)"),
+        ];
+        for (content, text) in rows {
+            assert_eq!(rt; text_of(rt.alloc(), content)?.as_slice(), text.as_bytes());
+        }
+        Ok(())
+    }
+
+    #[test]
+    fn texts_of_wide_strings(rt: HostRuntime) -> Result<(), Fail> {
+        let rows: [(BerObjectContent<'_>, &str); 6] = [
+            (
+                BerObjectContent::BmpString(&[0, 0x41, 0, 0xe9, 7]),
+                "BmpString(\"A\u{e9}\")\n",
+            ),
+            (
+                BerObjectContent::BmpString(&[0xd8, 0x3d, 0xde, 0]),
+                "BmpString(\"\u{1f600}\")\n",
+            ),
+            (
+                BerObjectContent::BmpString(&[0xd8, 0x3d]),
+                "BmpString([d8 3d]) <error decoding utf32 string>\n",
+            ),
+            (
+                BerObjectContent::UniversalString(&[0, 1, 0xf6, 0, 9]),
+                "UniversalString(\"\u{1f600}\")\n",
+            ),
+            (
+                BerObjectContent::UniversalString(&[0, 0, 0xd8, 0]),
+                "UniversalString([00 00 d8 00]) <error decoding utf32 string>\n",
+            ),
+            (
+                BerObjectContent::UniversalString(&[]),
+                "UniversalString(\"\")\n",
+            ),
+        ];
+        for (content, text) in rows {
+            assert_eq!(rt; text_of(rt.alloc(), content)?.as_slice(), text.as_bytes());
+        }
+        Ok(())
+    }
 }
