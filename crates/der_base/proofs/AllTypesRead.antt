@@ -1,21 +1,15 @@
--- Where all leaf types are read, the refusals by the columns of DER and of BER are those of the definitions, and have their laws.
-use Rattle.std.proofs.Common.{◌≡◌, ℕ, zero, suc, Bool, true, false, IsTrue, ◌==◌, List, ◌++◌, ◌⊎◌, inl, inr, refl, sym, subst}
-use Rattle.der_base.specs.BerColumns.{BerShowsBy}
-use Rattle.der_base.specs.Cut.{Lacks, DerLacks}
-use Rattle.der_base.specs.Fault.{ItemRefuses, ShowsFault, DerShowsFault}
+-- Where all leaf types are read, the refusals by the column of DER are those of DER, and have their laws.
+use Rattle.std.proofs.Common.{◌≡◌, ℕ, zero, suc, Bool, true, false, List, ◌++◌, ◌⊎◌, inl, inr, refl}
+use Rattle.der_base.specs.Cut.{DerLacks}
+use Rattle.der_base.specs.Fault.{ItemRefuses, DerShowsFault}
 use Rattle.der_base.specs.Leaf.{is_list}
-use Rattle.der_base.specs.LeafRefusal.{Test, IsFirstRefusal, choose, BerLeafRefuses, DerLeafRefuses, ber_tests, der_tests}
+use Rattle.der_base.specs.LeafRefusal.{Test, IsFirstRefusal, choose, DerLeafRefuses, der_tests}
 use Rattle.der_base.specs.Refusal.{Refusal}
-use Rattle.der_base.specs.Spelling.{BerSpells, DerSpells, framing_budget}
+use Rattle.der_base.specs.Spelling.{DerSpells}
 use Rattle.der_base.specs.Tree.{Node, node, Content, sequence, set, Nodes, no_nodes, nodes}
 use Rattle.der_base.specs.DerColumns.{IsReadBy, IsContentReadBy, AreReadBy, ShowsBy}
-use Rattle.std.proofs.lemmas.Bool.Decides.{Decides-eqb}
-use Rattle.der_base.proofs.Always.{or_cases}
-use Rattle.der_base.proofs.BerFaults as ber
-use Rattle.der_base.proofs.BerFaults.{BerColumnLaws}
 use Rattle.der_base.proofs.DerFaults.{ColumnLaws, spelled_shows_nothing, shows_one}
 use Rattle.der_base.proofs.FirstLeaves.{der_leaf_accepted, first_refusal_same}
-use Rattle.der_base.proofs.NeverBoth.{never_both_ber}
 
 abbrev pub Every : ℕ → Type 0
 Every t = Unit {0}
@@ -78,52 +72,3 @@ der_spelled_shows_nothing d i b rest o e q h s = spelled_shows_nothing der_colum
 -- no input shows two
 pub der_shows_one : (d : ℕ) (i : List ℕ) (e e' : Refusal) → DerShowsFault d i e → DerShowsFault d i e' → e ≡ e'
 der_shows_one d i e e' h h' = shows_one der_column d i e e' (der_shows_by d i e h) (der_shows_by d i e' h')
-
--- the same by BER
-
-at_list : (P : ℕ → Type 0) (t : ℕ) → IsTrue (is_list t) → P 16 → P 17 → P t
-at_list P t h a b = or_cases (t == 16) (t == 17) (P t) h (λ e. subst P (sym ((Decides-eqb t 16).0 e)) a) (λ e. subst P (sym ((Decides-eqb t 17).0 e)) b)
-
--- a list that is constructed is not refused as such
-pub list_passes_ber : (t : ℕ) (w : List ℕ) (e : Refusal) → IsTrue (is_list t) → BerLeafRefuses true t w e → ⊥
-list_passes_ber t w e h = at_list (λ t. BerLeafRefuses true t w e → ⊥) t h (λ r. not_primitive {B = Unit {0}} (kept r)) (λ r. not_primitive {B = Unit {0}} (kept r))
-  where
-    kept : {A B : Type 0} → ((true ≡ false) × A) ⊎ (B × ⊥) → ((true ≡ false) × A) ⊎ (Unit {0} × ⊥)
-    kept (inl h) = inl h
-    kept (inr h) = inr (tt, h.1)
-
-pub ber_column : BerColumnLaws BerLeafRefuses Every
-ber_column = record {
-  accepted = λ p t w x e k h r. never_both_ber p t w x e h r;
-  list_accepted = λ t w e l r. list_passes_ber t w e l r;
-  one = λ p t w e e' h h'. first_refusal_same (ber_tests p t w) e e' h h';
-}
-
-ber_item_like : (F G : List ℕ → Refusal → Type 0) (r : List ℕ) (e : Refusal) → ((x : Refusal) → F r x → G r x) → ((x : Refusal) → G r x → F r x) → ItemRefuses F Lacks r e → ItemRefuses G Lacks r e
-ber_item_like F G r e f g (n, inl h) = (n, inl (f e h))
-ber_item_like F G r e f g (n, inr (m, c, y, z, q)) = (n, inr (m, c, y, (λ x k. z x (g x k)), q))
-
-mutual
-  pub shows_by_fault : (d : ℕ) (i : List ℕ) (e : Refusal) → ShowsFault d i e → BerShowsBy BerLeafRefuses Every d i e
-  shows_by_fault zero i e h = h
-  shows_by_fault (suc d) i e (inl h) = inl (inl h)
-  shows_by_fault (suc d) i e (inr (inl h)) = inl (inr h)
-  shows_by_fault (suc d) i e (inr (inr (p, t, w, rest, g, m, inl h))) = inr (p, t, w, rest, g, m, inl h)
-  shows_by_fault (suc d) i e (inr (inr (p, t, w, rest, g, m, inr (hl, hp, l, fs, u, r, v, j, y)))) =
-      inr (p, t, w, rest, g, m, inr (hl, hp, l, fs, u, r, v, j, all_read l, ber_item_like (ShowsFault d) (BerShowsBy BerLeafRefuses Every d) r e (shows_by_fault d r) (fault_by_shows d r) y))
-
-  pub fault_by_shows : (d : ℕ) (i : List ℕ) (e : Refusal) → BerShowsBy BerLeafRefuses Every d i e → ShowsFault d i e
-  fault_by_shows zero i e h = h
-  fault_by_shows (suc d) i e (inl (inl h)) = inl h
-  fault_by_shows (suc d) i e (inl (inr h)) = inr (inl h)
-  fault_by_shows (suc d) i e (inr (p, t, w, rest, g, m, inl h)) = inr (inr (p, t, w, rest, g, m, inl h))
-  fault_by_shows (suc d) i e (inr (p, t, w, rest, g, m, inr (hl, hp, l, fs, u, r, v, j, a, y))) =
-      inr (inr (p, t, w, rest, g, m, inr (hl, hp, l, fs, u, r, v, j, ber_item_like (BerShowsBy BerLeafRefuses Every d) (ShowsFault d) r e (fault_by_shows d r) (shows_by_fault d r) y)))
-
--- what begins with a BER spelling shows no refusal
-pub ber_spelled_shows_nothing : (d : ℕ) (i b rest : List ℕ) (o : Node) (e : Refusal) → i ≡ b ++ rest → BerSpells b o d framing_budget → ShowsFault d i e → ⊥
-ber_spelled_shows_nothing d i b rest o e q h s = ber.spelled_shows_nothing ber_column d i b rest o e q h (every_read o) (shows_by_fault d i e s)
-
--- no input shows two
-pub ber_shows_one : (d : ℕ) (i : List ℕ) (e e' : Refusal) → ShowsFault d i e → ShowsFault d i e' → e ≡ e'
-ber_shows_one d i e e' h h' = ber.shows_one ber_column d i e e' (shows_by_fault d i e h) (shows_by_fault d i e' h')

@@ -1,27 +1,29 @@
--- A BER spelling in front of the input, a refusal that it shows, and its end within an element: one of them holds at most, and each in one way. It stands on the laws of a column of refusals of content octets.
-use Rattle.std.proofs.Common.{◌≡◌, ℕ, zero, suc, ◌-◌, ◌≤◌, Bool, true, false, IsTrue, List, [], ◌∷◌, ◌++◌, length, refl, sym, ap, subst, ◌∙◌, arith, append_assoc, ◌⊎◌, inl, inr}
+-- A BER spelling in front of the input, a refusal that it shows, and its end within an element: one of them holds at most, and each in one way.
+use Rattle.std.proofs.Common.{◌≡◌, ℕ, zero, suc, ◌-◌, ◌≤◌, Bool, true, false, IsTrue, ◌==◌, List, [], ◌∷◌, ◌++◌, length, refl, sym, ap, subst, ◌∙◌, arith, append_assoc, ◌⊎◌, inl, inr}
+use Rattle.std.proofs.lemmas.Bool.Decides.{Decides-eqb}
 use Rattle.der_base.specs.declared.header.Class.{Class}
 use Rattle.der_base.specs.declared.header.Class.TheVariants.{Universal}
 use Rattle.der_base.specs.declared.header.Length.{Length}
 use Rattle.der_base.specs.declared.error.Needed.TheVariants.{Size}
 use Rattle.der_base.specs.Any.{AnyRefuses, AnyLacks}
-use Rattle.der_base.specs.BerColumns.{BerShowsBy, BerShowsInsideBy}
 use Rattle.der_base.specs.Cut.{IsCut, Lacks}
-use Rattle.der_base.specs.DerColumns.{IsReadBy, IsContentReadBy, AreReadBy}
-use Rattle.der_base.specs.Fault.{ItemRefuses}
+use Rattle.der_base.specs.Fault.{ItemRefuses, ShowsFault, ShowsInside}
 use Rattle.der_base.specs.Framed.{IsElement, HasContent, JoinSpellings, Spells}
 use Rattle.der_base.specs.Leaf.{is_list, is_mapped, IsLeafContent}
+use Rattle.der_base.specs.LeafRefusal.{BerLeafRefuses, ber_tests}
 use Rattle.der_base.specs.Refusal.{Refusal, incomplete}
 use Rattle.der_base.specs.Spelling.{BeginsWithElement, BerSpells, Form, form, Forms, no_forms, forms, IsKept, Joins, framing_budget}
 use Rattle.der_base.specs.Tree.{Node, node, Content, end_of_content, boolean, integer, bit_string, octet_string, null, enumerated, object_identifier, relative_oid, text, bmp_string, universal_string, time, sequence, set, Nodes, no_nodes, nodes}
+use Rattle.der_base.proofs.Always.{or_cases}
 use Rattle.der_base.proofs.Cuts.{lacks_same}
 use Rattle.der_base.proofs.DerFaults.{kept_unmapped}
 use Rattle.der_base.proofs.Elements.{begins_element, element_some}
 use Rattle.der_base.proofs.Framing.{begins_same, unique_spelling}
 use Rattle.der_base.proofs.FramingLaws.{any_refusal_same, begins_not_cut, begins_not_refused, framed_begins}
 use Rattle.der_base.proofs.Identifiers.{fronts_same}
-use Rattle.der_base.proofs.NeverBoth.{text_no_list}
+use Rattle.der_base.proofs.NeverBoth.{never_both_ber, text_no_list}
 use Rattle.der_base.proofs.Raws.{append_nil}
+use Rattle.der_base.proofs.Refusals.{first_refusal_once}
 use Rattle.der_base.proofs.Restated.{restated, joins_then}
 
 -- contents
@@ -45,13 +47,12 @@ leaf_no_list p t w (bmp_string v) h = ap is_list h.0
 leaf_no_list p t w _ h = absurd h
 
 -- a content with items: SEQUENCE and SET
-record ListContent (w : List ℕ) (p : Bool) (t : ℕ) (d : ℕ) (readable : ℕ → Type 0) : Type 0 where
+record ListContent (w : List ℕ) (p : Bool) (t : ℕ) (d : ℕ) : Type 0 where
   list : IsTrue (is_list t)
   constructed : p ≡ true
   items : Nodes
   forms : Forms
   joins : JoinSpellings w items forms d
-  read : AreReadBy readable items
 
 abbrev LeafOrKept : List ℕ → Class → Bool → ℕ → Content → Type 0
 LeafOrKept w c p t x = ((c ≡ Universal) × IsLeafContent p t w x) ⊎ IsKept c p t w x
@@ -60,11 +61,10 @@ less : (d : ℕ) → suc d - 1 ≡ d
 less d = omega arith
 
 -- a content is one of a list, of a leaf, or raw
-kind : (readable : ℕ → Type 0) (w : List ℕ) (c : Class) (p : Bool) (t : ℕ) (x : Content) (fs : Forms) (d : ℕ) → HasContent w c p t x fs (suc d) → IsContentReadBy readable x
-    → ListContent w p t d readable ⊎ LeafOrKept w c p t x
-kind readable w c p t (sequence l) fs d h k = inl (record { list = ap is_list h.1; constructed = h.2; items = l; forms = fs; joins = subst (JoinSpellings w l fs) (less d) h.3; read = k })
-kind readable w c p t (set l) fs d h k = inl (record { list = ap is_list h.1; constructed = h.2; items = l; forms = fs; joins = subst (JoinSpellings w l fs) (less d) h.3; read = k })
-kind readable w c p t x fs d h k = inr h.1
+kind : (w : List ℕ) (c : Class) (p : Bool) (t : ℕ) (x : Content) (fs : Forms) (d : ℕ) → HasContent w c p t x fs (suc d) → ListContent w p t d ⊎ LeafOrKept w c p t x
+kind w c p t (sequence l) fs d h = inl (record { list = ap is_list h.1; constructed = h.2; items = l; forms = fs; joins = subst (JoinSpellings w l fs) (less d) h.3 })
+kind w c p t (set l) fs d h = inl (record { list = ap is_list h.1; constructed = h.2; items = l; forms = fs; joins = subst (JoinSpellings w l fs) (less d) h.3 })
+kind w c p t x fs d h = inr h.1
 
 -- spellings
 
@@ -105,107 +105,129 @@ spelling_same b b' x y o o' d d' h h' e =
 
 -- where refusals show
 
-module _ (column : Bool → ℕ → List ℕ → Refusal → Type 0) (readable : ℕ → Type 0) where
-  -- Where there is an element, a refusal shows in its content.
-  pub shows_in_content : (d : ℕ) (i rest w : List ℕ) (c : Class) (p : Bool) (t : ℕ) (e : Refusal) → BeginsWithElement i framing_budget c p t w rest → BerShowsBy column readable (suc d) i e
-      → (c ≡ Universal) × IsTrue (is_mapped t) × BerShowsInsideBy column readable d p t w e
-  shows_in_content d i rest w c p t e g (inl r) = absurd (begins_not_refused i c p t w rest e g r)
-  shows_in_content d i rest w c p t e g (inr (p', t', w', rest', g', m, h)) =
-      let a = begins_same i framing_budget framing_budget c Universal p p' t t' w w' rest rest' g g' in
-      (a.0, subst (λ q. IsTrue (is_mapped q)) (sym a.2) m, rw (a.1, a.2, a.3) h)
+-- in the header and framing, or in the content
+shown_where : (d : ℕ) (i : List ℕ) (e : Refusal) → ShowsFault (suc d) i e
+    → AnyRefuses i e ⊎ ((p : Bool) × (t : ℕ) × (w rest : List ℕ) × BeginsWithElement i framing_budget Universal p t w rest × IsTrue (is_mapped t) × ShowsInside d p t w e)
+shown_where d i e (inl h) = inl (inl h)
+shown_where d i e (inr (inl h)) = inl (inr h)
+shown_where d i e (inr (inr h)) = inr h
 
-  -- and where one shows in the content, it shows in the element
-  pub content_shows : (d : ℕ) (i rest w : List ℕ) (c : Class) (p : Bool) (t : ℕ) (e : Refusal) → BeginsWithElement i framing_budget c p t w rest
-      → c ≡ Universal → IsTrue (is_mapped t) → BerShowsInsideBy column readable d p t w e → BerShowsBy column readable (suc d) i e
-  content_shows d i rest w c p t e g u m h = inr (p, t, w, rest, subst (λ q. BeginsWithElement i framing_budget q p t w rest) u g, m, h)
+pub any_shows : (d : ℕ) (i : List ℕ) (e : Refusal) → AnyRefuses i e → ShowsFault (suc d) i e
+any_shows d i e (inl h) = inl h
+any_shows d i e (inr h) = inr (inl h)
 
-  -- what is cut short and shows no refusal of a header or of framing shows none
-  pub cut_shows_nothing : (d : ℕ) (i : List ℕ) (n : ℕ) (e : Refusal) → AnyLacks i n → BerShowsBy column readable (suc d) i e → ⊥
-  cut_shows_nothing d i n e l (inl r) = l.2 e r
-  cut_shows_nothing d i n e l (inr (p, t, w, rest, g, m, h)) = begins_not_cut i framing_budget Universal p t w rest g l.0
+-- Where there is an element, a refusal shows in its content.
+pub shows_in_content : (d : ℕ) (i rest w : List ℕ) (c : Class) (p : Bool) (t : ℕ) (e : Refusal) → BeginsWithElement i framing_budget c p t w rest → ShowsFault (suc d) i e
+    → (c ≡ Universal) × IsTrue (is_mapped t) × ShowsInside d p t w e
+shows_in_content d i rest w c p t e g h = at (shown_where d i e h)
+  where
+    at : AnyRefuses i e ⊎ ((p : Bool) × (t : ℕ) × (w rest : List ℕ) × BeginsWithElement i framing_budget Universal p t w rest × IsTrue (is_mapped t) × ShowsInside d p t w e) → (c ≡ Universal) × IsTrue (is_mapped t) × ShowsInside d p t w e
+    at (inl r) = absurd (begins_not_refused i c p t w rest e g r)
+    at (inr (p', t', w', rest', g', m, h)) =
+        let a = begins_same i framing_budget framing_budget c Universal p p' t t' w w' rest rest' g g' in
+        (a.0, subst (λ q. IsTrue (is_mapped q)) (sym a.2) m, rw (a.1, a.2, a.3) h)
 
--- What the laws ask of a column: octets of a type that is read are not refused where they are a content, those of a list are not refused as such, and none have two refusals.
-pub record BerColumnLaws (column : Bool → ℕ → List ℕ → Refusal → Type 0) (readable : ℕ → Type 0) : Type 0 where
-  pub accepted : (p : Bool) (t : ℕ) (w : List ℕ) (x : Content) (e : Refusal) → readable t → IsLeafContent p t w x → column p t w e → ⊥
-  pub list_accepted : (t : ℕ) (w : List ℕ) (e : Refusal) → IsTrue (is_list t) → column true t w e → ⊥
-  pub one : (p : Bool) (t : ℕ) (w : List ℕ) (e e' : Refusal) → column p t w e → column p t w e' → e ≡ e'
+-- and where one shows in the content, it shows in the element
+pub content_shows : (d : ℕ) (i rest w : List ℕ) (c : Class) (p : Bool) (t : ℕ) (e : Refusal) → BeginsWithElement i framing_budget c p t w rest
+    → c ≡ Universal → IsTrue (is_mapped t) → ShowsInside d p t w e → ShowsFault (suc d) i e
+content_shows d i rest w c p t e g u m h = inr (inr (p, t, w, rest, subst (λ q. BeginsWithElement i framing_budget q p t w rest) u g, m, h))
 
-module _ {column : Bool → ℕ → List ℕ → Refusal → Type 0} {readable : ℕ → Type 0} (laws : BerColumnLaws column readable) where
-  -- no item that is read begins here
-  abbrev Stops : ℕ → List ℕ → Type 0
-  Stops d r = (b rest : List ℕ) (o : Node) → r ≡ b ++ rest → BerSpells b o d framing_budget → IsReadBy readable o → ⊥
+-- what is cut short and shows no refusal of a header or of framing shows none
+pub cut_shows_nothing : (d : ℕ) (i : List ℕ) (n : ℕ) (e : Refusal) → AnyLacks i n → ShowsFault (suc d) i e → ⊥
+cut_shows_nothing d i n e l h = elim (shown_where d i e h) [
+  | inl r ↦ l.2 e r
+  | inr (p, t, w, rest, g, m, h) ↦ begins_not_cut i framing_budget Universal p t w rest g l.0
+]
 
-  tail_part : (b rest u x : List ℕ) → u ≡ b ++ rest → u ++ x ≡ b ++ (rest ++ x)
-  tail_part b rest u x e = ap (λ l. l ++ x) e ∙ append_assoc b rest x
+-- one of them, in one way
 
-  -- items in front of a list that none follows are one list of items
-  joins_same : (d : ℕ) (l l' : Nodes) (fs fs' : Forms) (u u' r r' : List ℕ) → Stops d r → Stops d r' → Joins u l fs d framing_budget → AreReadBy readable l → Joins u' l' fs' d framing_budget → AreReadBy readable l'
-      → u ++ r ≡ u' ++ r' → (l ≡ l') × (r ≡ r')
-  joins_same d no_nodes l' (forms f fs) fs' u u' r r' s s' j k j' k' e = absurd j
-  joins_same d (nodes o l) l' no_forms fs' u u' r r' s s' j k j' k' e = absurd j
-  joins_same d l no_nodes fs (forms f' fs') u u' r r' s s' j k j' k' e = absurd j'
-  joins_same d l (nodes o' l') fs no_forms u u' r r' s s' j k j' k' e = absurd j'
-  joins_same d no_nodes no_nodes no_forms no_forms u u' r r' s s' j k j' k' e = (refl, ap (λ x. x ++ r) (sym j) ∙ e ∙ ap (λ x. x ++ r') j')
-  joins_same d no_nodes (nodes o' l') no_forms (forms f' fs') u u' r r' s s' j k (b', rest', q', h', j') k' e =
-      absurd (s b' (rest' ++ r') o' (ap (λ x. x ++ r) (sym j) ∙ e ∙ tail_part b' rest' u' r' q') (f', h') k'.0)
-  joins_same d (nodes o l) no_nodes (forms f fs) no_forms u u' r r' s s' (b, rest, q, h, j) k j' k' e =
-      absurd (s' b (rest ++ r) o (ap (λ x. x ++ r') (sym j') ∙ sym e ∙ tail_part b rest u r q) (f, h) k.0)
-  joins_same d (nodes o l) (nodes o' l') (forms f fs) (forms f' fs') u u' r r' s s' (b, rest, q, h, j) k (b', rest', q', h', j') k' e =
-      let a = spelling_same b b' (rest ++ r) (rest' ++ r') o o' d d (f, h) (f', h') (sym (tail_part b rest u r q) ∙ e ∙ tail_part b' rest' u' r' q') in
-      let z = joins_same d l l' fs fs' rest rest' r r' s s' j k.1 j' k'.1 a.2 in
-      (ap (λ x. nodes x l) a.1 ∙ ap (nodes o') z.0, z.1)
+-- a list that is constructed is not refused as such
+list_passes : (t : ℕ) (w : List ℕ) (e : Refusal) → IsTrue (is_list t) → BerLeafRefuses true t w e → ⊥
+list_passes t w e h = at_list (λ t. BerLeafRefuses true t w e → ⊥) t h only_primitive only_primitive
+  where
+    at_list : (P : ℕ → Type 0) (t : ℕ) → IsTrue (is_list t) → P 16 → P 17 → P t
+    at_list P t h a b = or_cases (t == 16) (t == 17) (P t) h (λ e. subst P (sym ((Decides-eqb t 16).0 e)) a) (λ e. subst P (sym ((Decides-eqb t 17).0 e)) b)
 
-  -- what begins with a spelling that is read shows no refusal
-  abbrev ShowNothing : ℕ → Type 0
-  ShowNothing d = (i b rest : List ℕ) (o : Node) (e : Refusal) → i ≡ b ++ rest → BerSpells b o d framing_budget → IsReadBy readable o → BerShowsBy column readable d i e → ⊥
+    only_primitive : {A B : Type 0} → ((true ≡ false) × A) ⊎ (B × ⊥) → ⊥
+    only_primitive (inl h) = let q = h.0 in cc
+    only_primitive (inr h) = h.1
 
-  item_stops : (d : ℕ) (r : List ℕ) (e : Refusal) → ShowNothing d → ItemRefuses (BerShowsBy column readable d) Lacks r e → Stops d r
-  item_stops d r e f (n, inl h) b rest o q s k = f r b rest o e q s k h
-  item_stops d r e f (n, inr (m, c, h, z, y)) b rest o q s k = spelled_not_cut r b rest o d s q c
+-- no item begins here
+abbrev Stops : ℕ → List ℕ → Type 0
+Stops d r = (b rest : List ℕ) (o : Node) → r ≡ b ++ rest → BerSpells b o d framing_budget → ⊥
 
-  none_stops : (d : ℕ) → Stops d []
-  none_stops d b rest o q s k = spelled_some b rest o d s q
+tail_part : (b rest u x : List ℕ) → u ≡ b ++ rest → u ++ x ≡ b ++ (rest ++ x)
+tail_part b rest u x e = ap (λ l. l ++ x) e ∙ append_assoc b rest x
 
-  nothing_inside : (d : ℕ) (w : List ℕ) (c : Class) (p : Bool) (t : ℕ) (x : Content) (fs : Forms) (e : Refusal) → ShowNothing d → c ≡ Universal → HasContent w c p t x fs (suc d) → IsReadBy readable (node c p t x)
-      → IsTrue (is_mapped t) → BerShowsInsideBy column readable d p t w e → ⊥
-  nothing_inside d w c p t x fs e f u h k m q = at (kind readable w c p t x fs d h k.1) q
-    where
-      at : ListContent w p t d readable ⊎ LeafOrKept w c p t x → BerShowsInsideBy column readable d p t w e → ⊥
-      at (inl g) (inl q) = laws.list_accepted t w e g.list (subst (λ b. column b t w e) g.constructed q)
-      at (inl g) (inr (hl, hp, l', fs', v, r, o, j, b, y)) =
-          y.0 (sym (joins_same d g.items l' g.forms fs' w v [] r (none_stops d) (item_stops d r e f y) (joins_then g.items w g.forms d g.joins) g.read j b (append_nil w ∙ o)).1)
-      at (inr (inl (a, y))) (inl q) = laws.accepted p t w x e (k.0 u m (leaf_no_list p t w x y)) y q
-      at (inr (inl (a, y))) (inr z) = let n = sym (leaf_no_list p t w x y) ∙ z.0 in cc
-      at (inr (inr y)) z = let a = sym (kept_unmapped c p t w x y u) ∙ m in cc
+-- items in front of a list that none follows are one list of items
+joins_same : (d : ℕ) (l l' : Nodes) (fs fs' : Forms) (u u' r r' : List ℕ) → Stops d r → Stops d r' → Joins u l fs d framing_budget → Joins u' l' fs' d framing_budget
+    → u ++ r ≡ u' ++ r' → (l ≡ l') × (r ≡ r')
+joins_same d no_nodes l' (forms f fs) fs' u u' r r' s s' j j' e = absurd j
+joins_same d (nodes o l) l' no_forms fs' u u' r r' s s' j j' e = absurd j
+joins_same d l no_nodes fs (forms f' fs') u u' r r' s s' j j' e = absurd j'
+joins_same d l (nodes o' l') fs no_forms u u' r r' s s' j j' e = absurd j'
+joins_same d no_nodes no_nodes no_forms no_forms u u' r r' s s' j j' e = (refl, ap (λ x. x ++ r) (sym j) ∙ e ∙ ap (λ x. x ++ r') j')
+joins_same d no_nodes (nodes o' l') no_forms (forms f' fs') u u' r r' s s' j (b', rest', q', h', j') e =
+    absurd (s b' (rest' ++ r') o' (ap (λ x. x ++ r) (sym j) ∙ e ∙ tail_part b' rest' u' r' q') (f', h'))
+joins_same d (nodes o l) no_nodes (forms f fs) no_forms u u' r r' s s' (b, rest, q, h, j) j' e =
+    absurd (s' b (rest ++ r) o (ap (λ x. x ++ r') (sym j') ∙ sym e ∙ tail_part b rest u r q) (f, h))
+joins_same d (nodes o l) (nodes o' l') (forms f fs) (forms f' fs') u u' r r' s s' (b, rest, q, h, j) (b', rest', q', h', j') e =
+    let a = spelling_same b b' (rest ++ r) (rest' ++ r') o o' d d (f, h) (f', h') (sym (tail_part b rest u r q) ∙ e ∙ tail_part b' rest' u' r' q') in
+    let z = joins_same d l l' fs fs' rest rest' r r' s s' j j' a.2 in
+    (ap (λ x. nodes x l) a.1 ∙ ap (nodes o') z.0, z.1)
 
-  pub spelled_shows_nothing : (d : ℕ) (i b rest : List ℕ) (o : Node) (e : Refusal) → i ≡ b ++ rest → BerSpells b o d framing_budget → IsReadBy readable o → BerShowsBy column readable d i e → ⊥
-  spelled_shows_nothing zero i b rest (node c p t x) e q h k s = omega (arith, (spelled_element i b rest c p t x zero q h).deep)
-  spelled_shows_nothing (suc d) i b rest (node c p t x) e q h k s =
-      let g = spelled_element i b rest c p t x (suc d) q h in
-      let z = shows_in_content column readable d i rest g.content c p t e g.begins s in
-      nothing_inside d g.content c p t x g.forms e (spelled_shows_nothing d) z.0 g.has k z.1 z.2
+-- what begins with a spelling that is read shows no refusal
+abbrev ShowNothing : ℕ → Type 0
+ShowNothing d = (i b rest : List ℕ) (o : Node) (e : Refusal) → i ≡ b ++ rest → BerSpells b o d framing_budget → ShowsFault d i e → ⊥
 
-  -- one refusal shows
-  abbrev ShowOne : ℕ → Type 0
-  ShowOne d = (i : List ℕ) (e e' : Refusal) → BerShowsBy column readable d i e → BerShowsBy column readable d i e' → e ≡ e'
+item_stops : (d : ℕ) (r : List ℕ) (e : Refusal) → ShowNothing d → ItemRefuses (ShowsFault d) Lacks r e → Stops d r
+item_stops d r e f (n, inl h) b rest o q s = f r b rest o e q s h
+item_stops d r e f (n, inr (m, c, h, z, y)) b rest o q s = spelled_not_cut r b rest o d s q c
 
-  item_one : (d : ℕ) (r : List ℕ) (e e' : Refusal) → ShowOne d → ItemRefuses (BerShowsBy column readable d) Lacks r e → ItemRefuses (BerShowsBy column readable d) Lacks r e' → e ≡ e'
-  item_one d r e e' f (n, inl h) (n', inl h') = f r e e' h h'
-  item_one d r e e' f (n, inl h) (n', inr (m', c', a', z', q')) = absurd (z' e h)
-  item_one d r e e' f (n, inr (m, c, a, z, q)) (n', inl h') = absurd (z e' h')
-  item_one d r e e' f (n, inr (m, c, a, z, q)) (n', inr (m', c', a', z', q')) = q ∙ ap (λ k. incomplete (Size k)) (lacks_same a a' refl) ∙ sym q'
+none_stops : (d : ℕ) → Stops d []
+none_stops d b rest o q s = spelled_some b rest o d s q
 
-  inside_one : (d : ℕ) (p : Bool) (t : ℕ) (w : List ℕ) (e e' : Refusal) → ShowOne d → BerShowsInsideBy column readable d p t w e → BerShowsInsideBy column readable d p t w e' → e ≡ e'
-  inside_one d p t w e e' f (inl h) (inl h') = laws.one p t w e e' h h'
-  inside_one d p t w e e' f (inl h) (inr h') = absurd (laws.list_accepted t w e h'.0 (subst (λ b. column b t w e) h'.1 h))
-  inside_one d p t w e e' f (inr h) (inl h') = absurd (laws.list_accepted t w e' h.0 (subst (λ b. column b t w e') h.1 h'))
-  inside_one d p t w e e' f (inr (hl, hp, l, fs, u, r, o, j, k, y)) (inr (hl', hp', l', fs', u', r', o', j', k', y')) =
-      let n = spelled_shows_nothing d in
-      let q = joins_same d l l' fs fs' u u' r r' (item_stops d r e n y) (item_stops d r' e' n y') j k j' k' (sym o ∙ o') in
-      item_one d r e e' f y (subst (λ x. ItemRefuses (BerShowsBy column readable d) Lacks x e') (sym q.1) y')
+nothing_inside : (d : ℕ) (w : List ℕ) (c : Class) (p : Bool) (t : ℕ) (x : Content) (fs : Forms) (e : Refusal) → ShowNothing d → c ≡ Universal → HasContent w c p t x fs (suc d)
+    → IsTrue (is_mapped t) → ShowsInside d p t w e → ⊥
+nothing_inside d w c p t x fs e f u h m q = at (kind w c p t x fs d h) q
+  where
+    at : ListContent w p t d ⊎ LeafOrKept w c p t x → ShowsInside d p t w e → ⊥
+    at (inl g) (inl q) = list_passes t w e g.list (subst (λ b. BerLeafRefuses b t w e) g.constructed q)
+    at (inl g) (inr (hl, hp, l', fs', v, r, o, j, y)) =
+        y.0 (sym (joins_same d g.items l' g.forms fs' w v [] r (none_stops d) (item_stops d r e f y) (joins_then g.items w g.forms d g.joins) j (append_nil w ∙ o)).1)
+    at (inr (inl (a, y))) (inl q) = never_both_ber p t w x e y q
+    at (inr (inl (a, y))) (inr z) = let n = sym (leaf_no_list p t w x y) ∙ z.0 in cc
+    at (inr (inr y)) z = let a = sym (kept_unmapped c p t w x y u) ∙ m in cc
 
-  pub shows_one : (d : ℕ) (i : List ℕ) (e e' : Refusal) → BerShowsBy column readable d i e → BerShowsBy column readable d i e' → e ≡ e'
-  shows_one zero i e e' h h' = h ∙ sym h'
-  shows_one (suc d) i e e' (inl r) (inl r') = any_refusal_same i e e' r r'
-  shows_one (suc d) i e e' (inl r) (inr (p', t', w', rest', g', m', h')) = absurd (begins_not_refused i Universal p' t' w' rest' e g' r)
-  shows_one (suc d) i e e' (inr (p, t, w, rest, g, m, h)) z = inside_one d p t w e e' (shows_one d) h (shows_in_content column readable d i rest w Universal p t e' g z).2
+pub spelled_shows_nothing : (d : ℕ) (i b rest : List ℕ) (o : Node) (e : Refusal) → i ≡ b ++ rest → BerSpells b o d framing_budget → ShowsFault d i e → ⊥
+spelled_shows_nothing zero i b rest (node c p t x) e q h s = omega (arith, (spelled_element i b rest c p t x zero q h).deep)
+spelled_shows_nothing (suc d) i b rest (node c p t x) e q h s =
+    let g = spelled_element i b rest c p t x (suc d) q h in
+    let z = shows_in_content d i rest g.content c p t e g.begins s in
+    nothing_inside d g.content c p t x g.forms e (spelled_shows_nothing d) z.0 g.has z.1 z.2
+
+-- one refusal shows
+abbrev ShowOne : ℕ → Type 0
+ShowOne d = (i : List ℕ) (e e' : Refusal) → ShowsFault d i e → ShowsFault d i e' → e ≡ e'
+
+item_one : (d : ℕ) (r : List ℕ) (e e' : Refusal) → ShowOne d → ItemRefuses (ShowsFault d) Lacks r e → ItemRefuses (ShowsFault d) Lacks r e' → e ≡ e'
+item_one d r e e' f (n, inl h) (n', inl h') = f r e e' h h'
+item_one d r e e' f (n, inl h) (n', inr (m', c', a', z', q')) = absurd (z' e h)
+item_one d r e e' f (n, inr (m, c, a, z, q)) (n', inl h') = absurd (z e' h')
+item_one d r e e' f (n, inr (m, c, a, z, q)) (n', inr (m', c', a', z', q')) = q ∙ ap (λ k. incomplete (Size k)) (lacks_same a a' refl) ∙ sym q'
+
+inside_one : (d : ℕ) (p : Bool) (t : ℕ) (w : List ℕ) (e e' : Refusal) → ShowOne d → ShowsInside d p t w e → ShowsInside d p t w e' → e ≡ e'
+inside_one d p t w e e' f (inl h) (inl h') = first_refusal_once (ber_tests p t w) e e' h h'
+inside_one d p t w e e' f (inl h) (inr h') = absurd (list_passes t w e h'.0 (subst (λ b. BerLeafRefuses b t w e) h'.1 h))
+inside_one d p t w e e' f (inr h) (inl h') = absurd (list_passes t w e' h.0 (subst (λ b. BerLeafRefuses b t w e') h.1 h'))
+inside_one d p t w e e' f (inr (hl, hp, l, fs, u, r, o, j, y)) (inr (hl', hp', l', fs', u', r', o', j', y')) =
+    let n = spelled_shows_nothing d in
+    let q = joins_same d l l' fs fs' u u' r r' (item_stops d r e n y) (item_stops d r' e' n y') j j' (sym o ∙ o') in
+    item_one d r e e' f y (subst (λ x. ItemRefuses (ShowsFault d) Lacks x e') (sym q.1) y')
+
+pub shows_one : (d : ℕ) (i : List ℕ) (e e' : Refusal) → ShowsFault d i e → ShowsFault d i e' → e ≡ e'
+shows_one zero i e e' h h' = h ∙ sym h'
+shows_one (suc d) i e e' h h' = elim (shown_where d i e h) [
+  | inl r ↦ (elim (shown_where d i e' h') [ inl r' ↦ any_refusal_same i e e' r r' | inr (p, t, w, rest, g, m, k) ↦ absurd (begins_not_refused i Universal p t w rest e g r) ])
+  | inr (p, t, w, rest, g, m, k) ↦ inside_one d p t w e e' (shows_one d) k (shows_in_content d i rest w Universal p t e' g h').2
+]

@@ -82,6 +82,11 @@ ShowsFault (suc d) i e =
     -- in an item
     ⊎ (IsTrue (is_list t) × (p ≡ true) × (l : Nodes) × (fs : Forms) × (u r : List ℕ) × (w ≡ u ++ r) × Joins u l fs d framing_budget × ItemRefuses (ShowsFault d) Lacks r e)))
 
+-- the content octets w of a mapped universal type show the refusal, where items are read to depth d
+abbrev pub ShowsInside : ℕ → Bool → ℕ → List ℕ → Refusal → Type 0
+ShowsInside d p t w e = BerLeafRefuses p t w e
+    ⊎ (IsTrue (is_list t) × (p ≡ true) × (l : Nodes) × (fs : Forms) × (u r : List ℕ) × (w ≡ u ++ r) × Joins u l fs d framing_budget × ItemRefuses (ShowsFault d) Lacks r e)
+
 -- u joins the DER spellings of the items
 abbrev pub DerJoins : List ℕ → Nodes → ℕ → Type 0
 DerJoins u no_nodes d = u ≡ []
@@ -97,3 +102,7 @@ DerShowsFault (suc d) i e =
     ⊎ ((p : Bool) × (t : ℕ) × (w rest : List ℕ) × (t < 2 ^ 32) × (i ≡ element Universal p t w ++ rest) × (length w ≤ max_object_size) × IsTrue (is_mapped t)
     × (DerLeafRefuses p t w e
     ⊎ (IsTrue (is_list t) × (p ≡ true) × (l : Nodes) × (u r : List ℕ) × (w ≡ u ++ r) × DerJoins u l d × ItemRefuses (DerShowsFault d) DerLacks r e)))
+
+abbrev pub DerShowsInside : ℕ → Bool → ℕ → List ℕ → Refusal → Type 0
+DerShowsInside d p t w e = DerLeafRefuses p t w e
+    ⊎ (IsTrue (is_list t) × (p ≡ true) × (l : Nodes) × (u r : List ℕ) × (w ≡ u ++ r) × DerJoins u l d × ItemRefuses (DerShowsFault d) DerLacks r e)

@@ -1,7 +1,6 @@
 pub mod Answer
 pub mod Any
 pub mod Arcs
-pub mod BerColumns
 pub mod Content
 pub mod Count
 pub mod Cut

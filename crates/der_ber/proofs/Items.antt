@@ -10,14 +10,14 @@ use Rattle.std.specs.declared.vec.Vec.{Vec}
 use Rattle.std.specs.declared.alloc.Global.{Global}
 use Rattle.der_base.specs.declared.any.Any.{Any}
 use Rattle.der_base.specs.Any.{ReadsAny, AnyRefuses, AnyLacks}
-use Rattle.der_base.specs.DerColumns.{IsContentReadBy}
+use Rattle.der_base.specs.Fault.{ShowsFault}
 use Rattle.der_base.specs.Framed.{IsElement, HasContent}
 use Rattle.der_base.specs.Header.{class_of, is_constructed, number_of, length_of}
 use Rattle.der_base.specs.Leaf.{is_list, is_mapped, IsLeafContent}
 use Rattle.der_base.specs.Refusal.{Refusal}
 use Rattle.der_base.specs.Spelling.{BeginsWithElement, form, Forms, no_forms, Joins, framing_budget}
 use Rattle.der_base.specs.Tree.{Content, sequence, set}
-use Rattle.der_base.proofs.BerFaults.{content_shows, cut_shows_nothing}
+use Rattle.der_base.proofs.BerFaults.{any_shows, content_shows, cut_shows_nothing}
 use Rattle.der_base.proofs.BerHeaders.{ber_header_same}
 use Rattle.der_base.proofs.FramingLaws.{begins_framed, element_has_header}
 use Rattle.der_base.proofs.Restated.{joins_now, spells_then}
@@ -29,53 +29,37 @@ use Rattle.der_object.specs.View.{tree, node_of, content_tree, trees}
 use Rattle.der_object.proofs.Joins.{joins_push}
 use Rattle.der_object.proofs.Marks.{sequence_each, set_each, sequence_forms, set_forms, leaf_forms, leaf_each, leaf_keeps, each_push}
 use Rattle.der_object.proofs.Trees.{sequence_tree, set_tree}
-use Rattle.der_ber.specs.BerLeaves.{is_built, IsBuiltType, ColumnRefuses}
-use Rattle.der_ber.specs.BerReading.{IsBuilt, AreBuilt, ReadsBer, AreItems, IsContentOf, BerRefuses, BerIsCut, BeginsWithItems, ContentRefuses}
-
-built_push : (os : List BerObject) (o : BerObject) → AreBuilt (trees os) → IsBuilt (tree o) → AreBuilt (trees (os ++ o ∷ []))
-built_push [] o k h = (h, tt)
-built_push (x ∷ os) o k h = (k.0, built_push os o k.1 h)
-
-leaf_built : (p : Bool) (t : ℕ) (w : List ℕ) (x : Content) → IsLeafContent p t w x → IsContentReadBy IsBuiltType x
-leaf_built p t w (sequence l) k = absurd k
-leaf_built p t w (set l) k = absurd k
-leaf_built p t w _ k = tt
+use Rattle.der_ber.specs.BerReading.{ReadsBer, AreItems, IsContentOf, BerIsCut, BeginsWithItems, ContentRefuses}
 
 -- the items in front of rest
 pub record Read (w rest : List ℕ) (os : List BerObject) (d : ℕ) : Type 0 where
   pub read : List ℕ
   pub parts : w ≡ read ++ rest
   pub joins : Joins read (trees os) (forms_of os) d framing_budget
-  pub built : AreBuilt (trees os)
   pub marked : All HasMarks os
 
 pub read_none : (w : List ℕ) (d : ℕ) → Read w w [] d
-read_none w d = record { read = []; parts = refl; joins = refl; built = tt; marked = All-nil HasMarks }
+read_none w d = record { read = []; parts = refl; joins = refl; marked = All-nil HasMarks }
 
 pub read_more : (w rest after : List ℕ) (os : List BerObject) (o : BerObject) (d : ℕ) → Read w rest os d → ReadsBer d rest o after → Read w after (os ++ o ∷ []) d
 read_more w rest after os o d h k = record {
   read = h.read ++ k.spelling;
   parts = h.parts ∙ ap (λ v. h.read ++ v) k.octets ∙ sym (append_assoc h.read k.spelling after);
   joins = joins_push os h.read k.spelling o d framing_budget h.joins k.spells;
-  built = built_push os o h.built k.built;
   marked = each_push HasMark os o h.marked k.marked;
 }
 
 pub read_all : (w rest : List ℕ) (os : List BerObject) (d : ℕ) → Read w rest os d → length rest ≡ 0 → AreItems w os d
-read_all w [] os d h z = record { joins = subst (λ v. Joins v (trees os) (forms_of os) d framing_budget) (sym (h.parts ∙ append-nil h.read)) h.joins; built = h.built; marked = h.marked }
+read_all w [] os d h z = record { joins = subst (λ v. Joins v (trees os) (forms_of os) d framing_budget) (sym (h.parts ∙ append-nil h.read)) h.joins; marked = h.marked }
 read_all w (b ∷ rest) os d h z = absurd (omega arith)
 
 -- contents
-
-no_leaf : (t n : ℕ) → t ≡ n → is_list n ≡ true → is_list t ≡ false → ⊥
-no_leaf t n e l f = false≢true (sym f ∙ ap is_list e ∙ l)
 
 pub sequence_content : (w : List ℕ) (h : Header) (v : Vec BerObject Global) (d : ℕ) → class_of h ≡ Universal → is_constructed h ≡ true → number_of h ≡ 16 → AreItems w v.items (d - 1) → IsContentOf w h (Sequence v) d
 sequence_content w h v d ec ep et j =
     let q = joins_now (trees v.items) w (forms_of v.items) (d - 1) framing_budget (omega arith) j.joins in record {
       content = subst (λ x. HasContent w (class_of h) (is_constructed h) (number_of h) x (inner_forms (Sequence v)) d) (sym (sequence_tree v))
           (subst (λ fs. HasContent w (class_of h) (is_constructed h) (number_of h) (sequence (trees v.items)) fs d) (sym (sequence_forms v)) (ec, et, ep, q));
-      built = subst (λ x. IsBuilt (node_of h x)) (sym (sequence_tree v)) ((λ u m n. absurd (no_leaf (number_of h) 16 et refl n)), j.built);
       kept = tt;
       marked = sequence_each HasMark v j.marked;
     }
@@ -85,7 +69,6 @@ set_content w h v d ec ep et j =
     let q = joins_now (trees v.items) w (forms_of v.items) (d - 1) framing_budget (omega arith) j.joins in record {
       content = subst (λ x. HasContent w (class_of h) (is_constructed h) (number_of h) x (inner_forms (Set v)) d) (sym (set_tree v))
           (subst (λ fs. HasContent w (class_of h) (is_constructed h) (number_of h) (set (trees v.items)) fs d) (sym (set_forms v)) (ec, et, ep, q));
-      built = subst (λ x. IsBuilt (node_of h x)) (sym (set_tree v)) ((λ u m n. absurd (no_leaf (number_of h) 17 et refl n)), j.built);
       kept = tt;
       marked = set_each HasMark v j.marked;
     }
@@ -93,7 +76,6 @@ set_content w h v d ec ep et j =
 pub raw_content : (w : List ℕ) (h : Header) (a : Any) (d : ℕ) → a.header ≡ h → a.bytes.now ≡ w → (class_of h ≡ Universal → is_mapped (number_of h) ≡ false) → IsContentOf w h (Unknown a) d
 raw_content w h a d q e k = record {
   content = (refl, inr (ap class_of q, ap is_constructed q, ap number_of q, e, k));
-  built = ((λ u m n. absurd (false≢true (sym (k u) ∙ m))), tt);
   kept = q;
   marked = tt;
 }
@@ -103,12 +85,11 @@ leaf_has w c p t (sequence l) fs d u f k = absurd k
 leaf_has w c p t (set l) fs d u f k = absurd k
 leaf_has w c p t _ fs d u f k = (f, inl (u, k))
 
-pub leaf_content : (w : List ℕ) (h : Header) (x : BerObjectContent) (d : ℕ) → class_of h ≡ Universal → IsTrue (is_built (number_of h)) → IsLeafContent (is_constructed h) (number_of h) w (content_tree x) → IsContentOf w h x d
-leaf_content w h x d u b r =
+pub leaf_content : (w : List ℕ) (h : Header) (x : BerObjectContent) (d : ℕ) → class_of h ≡ Universal → IsLeafContent (is_constructed h) (number_of h) w (content_tree x) → IsContentOf w h x d
+leaf_content w h x d u r =
     let p = is_constructed h in
     let t = number_of h in record {
       content = leaf_has w (class_of h) p t (content_tree x) (inner_forms x) d u (leaf_forms p t w x r) r;
-      built = ((λ u m n. b), leaf_built p t w (content_tree x) r);
       kept = leaf_keeps h p t w x r;
       marked = leaf_each HasMark p t w x r;
     }
@@ -128,25 +109,24 @@ element_read i rest a x d r deep k =
       spelling = g.0;
       octets = g.3;
       spells = spells_then (node_of h (content_tree x)) g.0 (form (length_of h) (inner_forms x)) d framing_budget (deep, a.bytes.now, e, k.content) (a.bytes.now, e);
-      built = k.built;
       marked = (record { raw_tag = r.header.raw_tag; kept = k.kept }, k.marked);
     }
 
 -- refusals and cuts of an element, at a depth of at least 1
-pub any_refused : (d : ℕ) (i : List ℕ) (e : Refusal) → 1 ≤ d → AnyRefuses i e → BerRefuses d i e
+pub any_refused : (d : ℕ) (i : List ℕ) (e : Refusal) → 1 ≤ d → AnyRefuses i e → ShowsFault d i e
 any_refused zero i e h r = absurd (omega arith)
-any_refused (suc d) i e h r = inl r
+any_refused (suc d) i e h r = any_shows d i e r
 
 pub any_cut : (d : ℕ) (i : List ℕ) (n : ℕ) → 1 ≤ d → AnyLacks i n → BerIsCut d i n
 any_cut zero i n h l = absurd (omega arith)
-any_cut (suc d) i n h l = (l.0, l.1, λ e r. cut_shows_nothing ColumnRefuses IsBuiltType d i n e l r)
+any_cut (suc d) i n h l = (l.0, l.1, λ e r. cut_shows_nothing d i n e l r)
 
 -- a refusal of the content
-pub content_refused : (d : ℕ) (i rest w : List ℕ) (c : Class) (p : Bool) (t : ℕ) (e : Refusal) → 1 ≤ d → BeginsWithElement i framing_budget c p t w rest → ContentRefuses c p t w d e → BerRefuses d i e
+pub content_refused : (d : ℕ) (i rest w : List ℕ) (c : Class) (p : Bool) (t : ℕ) (e : Refusal) → 1 ≤ d → BeginsWithElement i framing_budget c p t w rest → ContentRefuses c p t w d e → ShowsFault d i e
 content_refused zero i rest w c p t e h b r = absurd (omega arith)
 content_refused (suc d) i rest w c p t e h b (u, m, q) =
     let k : suc d - 1 ≡ d = omega arith in
-    content_shows ColumnRefuses IsBuiltType d i rest w c p t e b u m (rw k at q)
+    content_shows d i rest w c p t e b u m (rw k at q)
 
 pub content_memory : (d : ℕ) (i rest w : List ℕ) (c : Class) (p : Bool) (t : ℕ) → BeginsWithElement i framing_budget c p t w rest
     → (2 ≤ d) × (c ≡ Universal) × (p ≡ true) × IsTrue (is_list t) × (w ≢ []) → (2 ≤ d) × BeginsWithItems i

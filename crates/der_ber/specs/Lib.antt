@@ -1,2 +1,1 @@
-pub mod BerLeaves
 pub mod BerReading

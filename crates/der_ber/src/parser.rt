@@ -3,12 +3,13 @@ ghost use Rattle.std.specs.Prelude.{◌≡◌, ◌<◌, ℕ, Bool, List, ◌++�
 ghost use Rattle.der_base.specs.declared.header.Class.{Class};
 ghost use Rattle.der_base.specs.Answer.{MatchAnswer, AnswersError, AnswersIncomplete, AnswersOkOr, AnswersErrorOr, AnswersIncompleteOr};
 ghost use Rattle.der_base.specs.Any.{ReadsAny, AnyRefuses, AnyLacks};
+ghost use Rattle.der_base.specs.Fault.{ShowsFault};
 ghost use Rattle.der_base.specs.Header.{class_of, is_constructed, number_of};
 ghost use Rattle.der_base.specs.Refusal.{Refusal};
 ghost use Rattle.der_base.specs.Spelling.{BeginsWithElement, BerSpells, framing_budget};
 ghost use Rattle.der_base.specs.Tree.{Node, node, Content};
 ghost use Rattle.der_object.specs.View.{tree};
-ghost use Rattle.der_ber.specs.BerReading.{IsBuilt, ReadsBer, BerRefuses, BerIsCut, NumberRefuses, NeedsMemory};
+ghost use Rattle.der_ber.specs.BerReading.{ReadsBer, BerIsCut, NumberRefuses, NeedsMemory};
 
 use crate::reader::{read_element, read_element_with_tag};
 use der_base::MAX_RECURSION;
@@ -20,10 +21,10 @@ use std::alloc::Global;
 
 /// Reads one object in BER, to the depth `MAX_RECURSION`: as `parse_ber_recursive`.
 pub fn parse_ber<'a>(alloc: Global, i: &'a [u8]) -> BerResult<'a>
-    ensures found { MatchAnswer result (λ x. ReadsBer 50 i.now x.1 x.0.now) (BerRefuses 50 i.now) (BerIsCut 50 i.now) (NeedsMemory 50 i.now) }
-    ensures only { (b rest : List ℕ) (o : Node) → IsBuilt o → BerSpells b o 50 framing_budget → i.now ≡ b ++ rest
+    ensures found { MatchAnswer result (λ x. ReadsBer 50 i.now x.1 x.0.now) (ShowsFault 50 i.now) (BerIsCut 50 i.now) (NeedsMemory 50 i.now) }
+    ensures only { (b rest : List ℕ) (o : Node) → BerSpells b o 50 framing_budget → i.now ≡ b ++ rest
         → AnswersOkOr (NeedsMemory 50 i.now) result (λ x. (tree x.1 ≡ o) × (x.0.now ≡ rest)) }
-    ensures refuses { (e : Refusal) → BerRefuses 50 i.now e → AnswersErrorOr (NeedsMemory 50 i.now) result e }
+    ensures refuses { (e : Refusal) → ShowsFault 50 i.now e → AnswersErrorOr (NeedsMemory 50 i.now) result e }
     ensures lacks { (n : ℕ) → BerIsCut 50 i.now n → AnswersIncompleteOr (NeedsMemory 50 i.now) result n }
     ensures shorter { IfOk result (λ x. length x.0.now < length i.now) }
 {
@@ -42,10 +43,10 @@ pub fn parse_ber<'a>(alloc: Global, i: &'a [u8]) -> BerResult<'a>
 /// the input ends within the element, with the number of octets that it lacks. OutOfMemory only at
 /// depth 2 and more, where the input begins with a whole list that has items.
 pub fn parse_ber_recursive<'a>(alloc: Global, i: &'a [u8], max_depth: usize) -> BerResult<'a>
-    ensures found { MatchAnswer result (λ x. ReadsBer max_depth i.now x.1 x.0.now) (BerRefuses max_depth i.now) (BerIsCut max_depth i.now) (NeedsMemory max_depth i.now) }
-    ensures only { (b rest : List ℕ) (o : Node) → IsBuilt o → BerSpells b o max_depth framing_budget → i.now ≡ b ++ rest
+    ensures found { MatchAnswer result (λ x. ReadsBer max_depth i.now x.1 x.0.now) (ShowsFault max_depth i.now) (BerIsCut max_depth i.now) (NeedsMemory max_depth i.now) }
+    ensures only { (b rest : List ℕ) (o : Node) → BerSpells b o max_depth framing_budget → i.now ≡ b ++ rest
         → AnswersOkOr (NeedsMemory max_depth i.now) result (λ x. (tree x.1 ≡ o) × (x.0.now ≡ rest)) }
-    ensures refuses { (e : Refusal) → BerRefuses max_depth i.now e → AnswersErrorOr (NeedsMemory max_depth i.now) result e }
+    ensures refuses { (e : Refusal) → ShowsFault max_depth i.now e → AnswersErrorOr (NeedsMemory max_depth i.now) result e }
     ensures lacks { (n : ℕ) → BerIsCut max_depth i.now n → AnswersIncompleteOr (NeedsMemory max_depth i.now) result n }
     ensures shorter { IfOk result (λ x. length x.0.now < length i.now) }
 {
@@ -55,10 +56,10 @@ pub fn parse_ber_recursive<'a>(alloc: Global, i: &'a [u8], max_depth: usize) -> 
 
 /// The same as `parse_ber_recursive`.
 pub fn parse_ber_any_r<'a>(alloc: Global, i: &'a [u8], max_depth: usize) -> BerResult<'a>
-    ensures found { MatchAnswer result (λ x. ReadsBer max_depth i.now x.1 x.0.now) (BerRefuses max_depth i.now) (BerIsCut max_depth i.now) (NeedsMemory max_depth i.now) }
-    ensures only { (b rest : List ℕ) (o : Node) → IsBuilt o → BerSpells b o max_depth framing_budget → i.now ≡ b ++ rest
+    ensures found { MatchAnswer result (λ x. ReadsBer max_depth i.now x.1 x.0.now) (ShowsFault max_depth i.now) (BerIsCut max_depth i.now) (NeedsMemory max_depth i.now) }
+    ensures only { (b rest : List ℕ) (o : Node) → BerSpells b o max_depth framing_budget → i.now ≡ b ++ rest
         → AnswersOkOr (NeedsMemory max_depth i.now) result (λ x. (tree x.1 ≡ o) × (x.0.now ≡ rest)) }
-    ensures refuses { (e : Refusal) → BerRefuses max_depth i.now e → AnswersErrorOr (NeedsMemory max_depth i.now) result e }
+    ensures refuses { (e : Refusal) → ShowsFault max_depth i.now e → AnswersErrorOr (NeedsMemory max_depth i.now) result e }
     ensures lacks { (n : ℕ) → BerIsCut max_depth i.now n → AnswersIncompleteOr (NeedsMemory max_depth i.now) result n }
     ensures shorter { IfOk result (λ x. length x.0.now < length i.now) }
 {
@@ -75,7 +76,7 @@ pub fn parse_ber_any_with_tag_r<'a>(
     max_depth: usize,
 ) -> BerResult<'a>
     ensures found { MatchAnswer result (λ x. ReadsBer max_depth i.now x.1 x.0.now × (number_of x.1.header ≡ tag.0)) (NumberRefuses tag.0 max_depth i.now) (BerIsCut max_depth i.now) (NeedsMemory max_depth i.now) }
-    ensures only { (b rest : List ℕ) (c : Class) (p : Bool) (x : Content) → IsBuilt (node c p tag.0 x) → BerSpells b (node c p tag.0 x) max_depth framing_budget → i.now ≡ b ++ rest
+    ensures only { (b rest : List ℕ) (c : Class) (p : Bool) (x : Content) → BerSpells b (node c p tag.0 x) max_depth framing_budget → i.now ≡ b ++ rest
         → AnswersOkOr (NeedsMemory max_depth i.now) result (λ y. (tree y.1 ≡ node c p tag.0 x) × (y.0.now ≡ rest)) }
     ensures refuses { (e : Refusal) → NumberRefuses tag.0 max_depth i.now e → AnswersErrorOr (NeedsMemory max_depth i.now) result e }
     ensures lacks { (n : ℕ) → BerIsCut max_depth i.now n → AnswersIncompleteOr (NeedsMemory max_depth i.now) result n }
@@ -102,10 +103,10 @@ pub fn parse_ber_counted<'a>(
     max_depth: usize,
     count: &mut HeaderCount,
 ) -> BerResult<'a>
-    ensures found { MatchAnswer result (λ x. ReadsBer max_depth i.now x.1 x.0.now) (BerRefuses max_depth i.now) (BerIsCut max_depth i.now) (NeedsMemory max_depth i.now) }
-    ensures only { (b rest : List ℕ) (o : Node) → IsBuilt o → BerSpells b o max_depth framing_budget → i.now ≡ b ++ rest
+    ensures found { MatchAnswer result (λ x. ReadsBer max_depth i.now x.1 x.0.now) (ShowsFault max_depth i.now) (BerIsCut max_depth i.now) (NeedsMemory max_depth i.now) }
+    ensures only { (b rest : List ℕ) (o : Node) → BerSpells b o max_depth framing_budget → i.now ≡ b ++ rest
         → AnswersOkOr (NeedsMemory max_depth i.now) result (λ x. (tree x.1 ≡ o) × (x.0.now ≡ rest)) }
-    ensures refuses { (e : Refusal) → BerRefuses max_depth i.now e → AnswersErrorOr (NeedsMemory max_depth i.now) result e }
+    ensures refuses { (e : Refusal) → ShowsFault max_depth i.now e → AnswersErrorOr (NeedsMemory max_depth i.now) result e }
     ensures lacks { (n : ℕ) → BerIsCut max_depth i.now n → AnswersIncompleteOr (NeedsMemory max_depth i.now) result n }
     ensures shorter { IfOk result (λ x. length x.0.now < length i.now) }
 {

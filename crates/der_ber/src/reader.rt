@@ -3,9 +3,10 @@
 ghost use Rattle.std.specs.Prelude.{◌≡◌, ◌≢◌, ◌<◌, ◌≤◌, [], IfOk, IsTrue, length, true};
 ghost use Rattle.der_base.specs.declared.header.Class.{Class};
 ghost use Rattle.der_base.specs.Answer.{MatchAnswer};
+ghost use Rattle.der_base.specs.Fault.{ShowsFault};
 ghost use Rattle.der_base.specs.Header.{class_of, is_constructed, number_of};
 ghost use Rattle.der_base.specs.Leaf.{is_list};
-ghost use Rattle.der_ber.specs.BerReading.{ReadsBer, AreItems, IsContentOf, BerRefuses, BerIsCut, NumberRefuses, NeedsMemory, ContentRefuses, ItemsRefuse};
+ghost use Rattle.der_ber.specs.BerReading.{ReadsBer, AreItems, IsContentOf, BerIsCut, NumberRefuses, NeedsMemory, ContentRefuses, ItemsRefuse};
 
 use crate::leaf::read_leaf;
 use der_base::any::{Any, ber_any_counted};
@@ -22,7 +23,7 @@ pub fn read_element<'a>(
     max_depth: usize,
     count: &mut HeaderCount,
 ) -> BerResult<'a>
-    ensures found { MatchAnswer result (λ x. ReadsBer max_depth i.now x.1 x.0.now) (BerRefuses max_depth i.now) (BerIsCut max_depth i.now) (NeedsMemory max_depth i.now) }
+    ensures found { MatchAnswer result (λ x. ReadsBer max_depth i.now x.1 x.0.now) (ShowsFault max_depth i.now) (BerIsCut max_depth i.now) (NeedsMemory max_depth i.now) }
     ensures shorter { IfOk result (λ x. length x.0.now < length i.now) }
 {
     if max_depth == 0 {

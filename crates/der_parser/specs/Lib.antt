@@ -2,7 +2,6 @@
 pub use Rattle.der_base.specs.Answer
 pub use Rattle.der_base.specs.Any
 pub use Rattle.der_base.specs.Arcs
-pub use Rattle.der_base.specs.BerColumns
 pub use Rattle.der_base.specs.Count
 pub use Rattle.der_base.specs.Cut
 pub use Rattle.der_base.specs.DerColumns
@@ -24,7 +23,6 @@ pub use Rattle.der_object.specs.Marks
 pub use Rattle.der_object.specs.Objects
 pub use Rattle.der_object.specs.Room
 pub use Rattle.der_object.specs.View
-pub use Rattle.der_ber.specs.BerLeaves
 pub use Rattle.der_ber.specs.BerReading
 pub use Rattle.der_der.specs.DerLeaves
 pub use Rattle.der_der.specs.DerReading

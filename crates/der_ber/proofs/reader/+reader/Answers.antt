@@ -1,17 +1,20 @@
-use Rattle.std.proofs.Common.{◌≡◌, ◌<◌, ◌≤◌, true, length, arith, rules}
+use Rattle.std.proofs.Common.{◌≡◌, ◌<◌, ◌≤◌, true, IsTrue, length, arith, rules, inl}
 use Rattle.std.proofs.lemmas.Bool.Decides.{nat_tests}
 use Rattle.std.proofs.lemmas.Result.{err_from_is_err_and}
 use Rattle.der_base.specs.declared.header.Class.TheVariants.{Universal}
 use Rattle.der_base.specs.Cut.{Lacks}
+use Rattle.der_base.specs.Fault.{ShowsFault}
 use Rattle.der_base.specs.Header.{class_of, is_constructed, number_of}
+use Rattle.der_base.specs.Leaf.{is_mapped, IsLeafContent}
+use Rattle.der_base.specs.LeafRefusal.{BerLeafRefuses}
+use Rattle.der_base.specs.Refusal.{refusal}
 use Rattle.der_base.specs.Spelling.{framing_budget}
 use Rattle.der_base.proofs.Answering.{passed_on}
 use Rattle.der_base.proofs.FramingLaws.{element_shorter}
 use Rattle.der_base.proofs.ItemAnswers.{item_answer, some_content}
-use Rattle.der_object.specs.View.{trees}
+use Rattle.der_object.specs.View.{content_tree, trees}
 use Rattle.der_object.specs.Marks.{forms_of}
-use Rattle.der_ber.specs.BerReading.{BerRefuses}
-use Rattle.der_ber.proofs.Items.{sequence_content, set_content, any_refused, any_cut, content_refused, content_memory, element_read, read_more}
+use Rattle.der_ber.proofs.Items.{sequence_content, set_content, any_refused, any_cut, content_refused, content_memory, element_read, leaf_content, read_more}
 use Rattle.der_ber.proofs.reader.+reader.Goals as goal
 
 pub read_content-returns-then-eq : goal.read_content-returns-then-eq
@@ -74,6 +77,22 @@ read_items-returns-in-Err t c =
     let rest = c.loop-rest.rest.now in
     let r = c.loop-rest.invariant in
     let some : 0 < length rest = grind (arith, nat_tests) in
-    item_answer _ _ _ _ _ (BerRefuses c.args.max_depth) Lacks rest c.in-Err.e c.cut_item.result c.cut_item.ensures some c.in-Err.ensures.found
-    (λ x h. (trees c.loop-rest.items.items, forms_of c.loop-rest.items.items, r.read, rest, r.parts, r.joins, r.built, h))
+    item_answer _ _ _ _ _ (ShowsFault c.args.max_depth) Lacks rest c.in-Err.e c.cut_item.result c.cut_item.ensures some c.in-Err.ensures.found
+    (λ x h. (trees c.loop-rest.items.items, forms_of c.loop-rest.items.items, r.read, rest, r.parts, r.joins, h))
     (λ m. (omega (arith, m.0), some_content w r.read rest r.parts some))
+
+pub read_content-returns-in_err-read_leaf : goal.read_content-returns-in_err-read_leaf
+read_content-returns-in_err-read_leaf t c =
+    let h = c.args.any.header in
+    let universal : class_of h ≡ Universal = search rules in
+    let mapped : IsTrue (is_mapped (number_of h)) = search rules in
+    let refused : BerLeafRefuses (is_constructed h) (number_of h) c.args.any.bytes.now (refusal c.in_err-read_leaf.field-0.0) = rw (← c.constructed.ensures, ← c.tag-tag.ensures) c.in_err-read_leaf.ensures in
+    let p = err_from_is_err_and c.from_residual-in_err-read_leaf.result c.from_residual-in_err-read_leaf.ensures.1 in
+    rw (p.1, p.2) (universal, mapped, inl refused)
+
+pub read_content-returns : goal.read_content-returns
+read_content-returns t c =
+    let h = c.args.any.header in
+    let universal : class_of h ≡ Universal = search rules in
+    let read : IsLeafContent (is_constructed h) (number_of h) c.args.any.bytes.now (content_tree c.in_ok-read_leaf.field-0) = rw (← c.constructed.ensures, ← c.tag-tag.ensures) c.in_ok-read_leaf.ensures in
+    leaf_content c.args.any.bytes.now h c.in_ok-read_leaf.field-0 c.args.max_depth universal read
