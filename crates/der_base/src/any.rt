@@ -3,6 +3,7 @@ ghost use Rattle.std.specs.Prelude.{◌≡◌, ◌≤◌, ◌+◌, ◌++◌, ℕ
 ghost use Rattle.der_base.specs.declared.header.Class.{Class};
 ghost use Rattle.der_base.specs.Answer.{MatchAnswer, AnswersError, AnswersIncomplete};
 ghost use Rattle.der_base.specs.Any.{ReadsAny, AnyRefuses, AnyLacks, ReadsDerAny, DerAnyLacks};
+ghost use Rattle.der_base.specs.Content.{BeginsWithContent, ContentRefuses, ContentLacks};
 ghost use Rattle.der_base.specs.Count.{one_more};
 ghost use Rattle.der_base.specs.Fault.{DerHeaderRefuses};
 ghost use Rattle.der_base.specs.Header.{IsHeader, class_of, is_constructed, number_of, length_of, raw_tag_of};
@@ -149,4 +150,32 @@ pub fn ber_any_counted<'a>(
     ensures counted_ok { IfOk result (λ x. count.new + length x.0.now ≤ count.old + length i.now) }
 {
     Any::read_ber(i, count)
+}
+
+/// Reads the content that stands behind a header of this length by BER, and answers what follows
+/// the element, and the content octets. A definite length has that many of them, and nothing looks
+/// into them; the content of an indefinite one is the elements in front of its end marker, the two
+/// octets `00 00` (X.690 8.1.3.6, 8.1.5), with indefinite lengths, this one among them, nested
+/// below the budget.
+///
+/// Refusals, of an indefinite length alone: those of `ber_read_element_header` for the headers
+/// inside, and BerMaxDepth where the budget is used up, once the header is read that stands in the
+/// last of them. Incomplete with the number of octets that a header or a definite content lacks.
+/// It takes no memory.
+pub fn ber_read_content<'a>(
+    i: &'a [u8],
+    length: Length,
+    budget: usize,
+) -> IResult<&'a [u8], &'a [u8], BerError>
+    requires { 1 ≤ budget }
+    ensures found { MatchAnswer result
+        (λ x. BeginsWithContent i.now length budget x.1.now x.0.now)
+        (ContentRefuses i.now length budget)
+        (ContentLacks i.now length budget)
+        ⊥ }
+    ensures only { (w rest : List ℕ) → BeginsWithContent i.now length budget w rest → IsOkAnd result (λ x. (x.1.now ≡ w) × (x.0.now ≡ rest)) }
+    ensures refuses { (e : Refusal) → ContentRefuses i.now length budget e → AnswersError result e }
+    ensures lacks { (n : ℕ) → ContentLacks i.now length budget n → AnswersIncomplete result n }
+{
+    read_content(i, length, budget, &mut HeaderCount::new())
 }
