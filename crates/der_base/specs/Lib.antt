@@ -19,6 +19,7 @@ pub mod Octets
 pub mod OidArcs
 pub mod Oids
 pub mod Refusal
+pub mod Runs
 pub mod Same
 pub mod Spelling
 pub mod Text
