@@ -13,11 +13,14 @@ pub use Rattle.der_base.specs.Headers
 pub use Rattle.der_base.specs.Leaf
 pub use Rattle.der_base.specs.LeafRefusal
 pub use Rattle.der_base.specs.Octets
+pub use Rattle.der_base.specs.OidArcs
+pub use Rattle.der_base.specs.Oids
 pub use Rattle.der_base.specs.Refusal
 pub use Rattle.der_base.specs.Spelling
 pub use Rattle.der_base.specs.Text
 pub use Rattle.der_base.specs.Time
 pub use Rattle.der_base.specs.Tree
+pub use Rattle.der_object.specs.Bits
 pub use Rattle.der_object.specs.Marks
 pub use Rattle.der_object.specs.Objects
 pub use Rattle.der_object.specs.Room

@@ -3,6 +3,7 @@
 #![tactic(auto)]
 
 pub use der_base::error::IResult;
+pub use der_base::oid::Oid;
 pub use der_ber::parse_ber;
 pub use der_der::parse_der;
 
@@ -20,12 +21,13 @@ pub mod ber {
     pub use der_base::header::{
         Class, Header, HeaderCount, Length, Tag, ber_header_counted, ber_read_element_header,
     };
+    pub use der_base::time::{ASN1DateTime, ASN1TimeZone, TimeText};
     pub use der_base::{MAX_OBJECT_SIZE, MAX_RECURSION};
     pub use der_ber::{
         parse_ber, parse_ber_any, parse_ber_any_r, parse_ber_any_with_tag_r, parse_ber_counted,
         parse_ber_recursive,
     };
-    pub use der_object::{BerObject, BerObjectContent};
+    pub use der_object::{BerObject, BerObjectContent, BitStringObject};
 
     /// Names that earlier versions of the crate had.
     pub mod compat {
@@ -48,4 +50,5 @@ pub mod der {
 /// Object identifiers.
 pub mod oid {
     pub use der_base::error::OidParseError;
+    pub use der_base::oid::{Oid, OidIter};
 }

@@ -1,6 +1,6 @@
 //! The texts of objects, an arm for each content.
 use crate::hex::write_hex;
-use der_parser::ber::{BerObject, BerObjectContent, Tag};
+use der_parser::ber::{ASN1DateTime, BerObject, BerObjectContent, Tag, TimeText};
 use std::io;
 use std::io::Write;
 
@@ -44,8 +44,10 @@ fn write_leaf<W: Write>(out: &mut W, content: &BerObjectContent<'_>) -> io::Resu
         BerObjectContent::BmpString(octets) => write_bmp(out, octets),
         BerObjectContent::UniversalString(octets) => write_universal(out, octets),
         BerObjectContent::Sequence(_) | BerObjectContent::Set(_) => Ok(()),
-        BerObjectContent::UTCTime(time) => write!(out, "UTCTime({time:?})"),
-        BerObjectContent::GeneralizedTime(time) => write!(out, "GeneralizedTime({time:?})"),
+        BerObjectContent::UTCTime(time) => write_time(out, "UTCTime", Tag::UtcTime, *time),
+        BerObjectContent::GeneralizedTime(time) => {
+            write_time(out, "GeneralizedTime", Tag::GeneralizedTime, *time)
+        }
         BerObjectContent::Unknown(any) => {
             out.write_all(b"Unknown ")?;
             write_hex(out, any.bytes)
@@ -118,6 +120,12 @@ fn write_identifier<W: Write>(
         separator = b".";
     }
     out.write_all(b")")
+}
+
+/// Writes the name of a type of times and the text of a time.
+fn write_time<W: Write>(out: &mut W, name: &str, tag: Tag, time: ASN1DateTime) -> io::Result<()> {
+    let text = TimeText { tag, time };
+    write!(out, "{name}(\"{text}\")")
 }
 
 /// Writes the name of a content and its text, with no character escaped.
