@@ -1,2 +1,3 @@
 pub mod BerLeaves
 pub mod BerReading
+pub mod BerSlices

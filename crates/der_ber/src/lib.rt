@@ -2,6 +2,7 @@
 #![tactic(auto)]
 
 mod leaf;
+pub mod multi;
 pub mod parser;
 mod reader;
 
@@ -9,3 +10,4 @@ pub use parser::{
     parse_ber, parse_ber_any, parse_ber_any_r, parse_ber_any_with_tag_r, parse_ber_counted,
     parse_ber_recursive,
 };
+pub use multi::{BerContainer, parse_ber_container, parse_ber_slice};
