@@ -1,5 +1,5 @@
 -- The element that begins the input, what a container refuses, and which of the two a run shows: one of them holds at most, and each in one way.
-use Rattle.std.proofs.Common.{◌≡◌, ℕ, ◌-◌, Bool, List, length, Err, Bor, refl, sym, ap, ◌∙◌, arith, inl, inr}
+use Rattle.std.proofs.Common.{◌≡◌, ℕ, ◌-◌, ◌<◌, Bool, List, length, Err, Bor, refl, sym, ap, subst, ◌∙◌, arith, inl, inr}
 use Rattle.der_base.specs.declared.any.Any.{Any}
 use Rattle.der_base.specs.declared.error.Err.{Err as Refused}
 use Rattle.der_base.specs.declared.error.Err.TheVariants.{Incomplete, Error, Failure, OutOfMemory}
@@ -13,6 +13,7 @@ use Rattle.der_base.specs.declared.header.Length.TheVariants.{Definite}
 use Rattle.der_base.specs.Answer.{MatchAnswer}
 use Rattle.der_base.specs.Any.{ReadsAny, AnyRefuses, AnyLacks}
 use Rattle.der_base.specs.Errors.{MapsError}
+use Rattle.der_base.specs.Headers.{ReadsHeader}
 use Rattle.der_base.specs.Header.{IsHeader, class_of, is_constructed, number_of, length_of, raw_tag_of}
 use Rattle.der_base.specs.Refusal.{Refusal, refusal}
 use Rattle.der_base.specs.Runs.{Answered, OpensBer, HasShortContent, OpeningLacks, faulty, cut, too_short, RefusesBer, OneCall, stopped, accepted, NoCall, refused, ContainerRun}
@@ -41,6 +42,12 @@ short_lacks i behind (c, p, t, m, h, l) = let n = m - length behind in (n, any_l
 
 short_same : (i v v' : List ℕ) → HasShortContent i v → HasShortContent i v' → v ≡ v'
 short_same i v v' (c, p, t, n, h, l) (c', p', t', n', h', l') = (ber_header_same i v v' c c' p p' t t' (Definite n) (Definite n') h h').rest
+
+-- a content is short by the header that is read
+pub short_behind : (i v v' : List ℕ) (h : Header) → ReadsHeader i h v → HasShortContent i v' → (n : ℕ) × (length_of h ≡ Definite n) × (v ≡ v') × (length v < n)
+short_behind i v v' h r (c, p, t, n, b, l) =
+    let q = ber_header_only i v' v c p t (Definite n) h b r in
+    (n, q.0.length, q.1, subst (λ x. length x < n) (sym q.1) l)
 
 -- an element is no short content
 pub begins_not_short : (i : List ℕ) (c : Class) (p : Bool) (t : ℕ) (w rest behind : List ℕ) → BeginsWithElement i framing_budget c p t w rest → HasShortContent i behind → ⊥

@@ -13,7 +13,7 @@ use Rattle.der_base.specs.declared.header.Length.TheVariants.{Definite}
 use Rattle.der_base.specs.Any.{AnyRefuses, AnyLacks}
 use Rattle.der_base.specs.Header.{class_of, is_constructed, number_of}
 use Rattle.der_base.specs.Headers.{BeginsWithHeader, ReadsHeader}
-use Rattle.der_base.specs.Refusal.{Refusal, refusal, unexpected_tag, parser_fault}
+use Rattle.der_base.specs.Refusal.{Refusal, refusal, unexpected_tag}
 use Rattle.der_base.specs.Spelling.{BeginsWithElement, framing_budget}
 
 -- what a parser answers
@@ -78,9 +78,3 @@ module _ {F O E : Type 0} (refuses : List ℕ → Refused E → Type 0) where
 abbrev pub ContainerRun : {F O E : Type 0} → (List ℕ → Header → List ℕ → List ℕ → Type 0) → (List ℕ → Refused E → Type 0)
     → (F → Bor (List ℕ) → Header → Answered O E → F → Type 0) → List ℕ → F → Answered O E → F → Type 0
 ContainerRun opens refuses step i f r g = NoCall refuses i f r g ⊎ OneCall opens step i f r g
-
--- the refusals of a slice reader that wants the number n, by BER
-abbrev pub SliceRefuses : ℕ → List ℕ → Refusal → Type 0
-SliceRefuses n i e = AnyRefuses i e
-    ⊎ ((behind : List ℕ) × HasShortContent i behind × (e ≡ parser_fault Eof))
-    ⊎ ((c : Class) × (p : Bool) × (t : ℕ) × (w rest : List ℕ) × BeginsWithElement i framing_budget c p t w rest × (t ≢ n) × (e ≡ unexpected_tag (Some n) t))
