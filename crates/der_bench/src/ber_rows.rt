@@ -154,7 +154,7 @@ pub const REFUSED_CONTENTS: &[Row] = &[
     ("constructed BOOLEAN of indefinite length", "21 80 00 00", Refused(ConstructUnexpected)),
     ("BOOLEAN of no octets", "01 00", Refused(InvalidLength)),
     ("BOOLEAN of two octets", "01 02 00 00", Refused(InvalidLength)),
-    ("a type that isn't read yet", "0c 00", Refused(Unsupported)),
+    ("a constructed string", "2c 00", Refused(Unsupported)),
     ("an item cut by its list", "30 04 02 03 01 00", Refused(CutShort(Needed::Size(1)))),
     ("an item cut by its list, octets behind it", "30 04 02 03 01 00 01 02 03", Refused(CutShort(Needed::Size(1)))),
     ("an item cut in its header", "30 01 02", Refused(CutShort(Needed::Size(1)))),

@@ -12,7 +12,7 @@ use der_parser::error::DerConstraint::{
     InvalidBoolean, LengthNotMinimal,
 };
 use der_parser::error::Error::{
-    BerMaxDepth, ConstructExpected, Incomplete as CutShort, InvalidLength, InvalidTag, Unsupported,
+    BerMaxDepth, ConstructExpected, Incomplete as CutShort, InvalidLength, InvalidTag,
 };
 use der_parser::error::Needed;
 use std::test::Fail;
@@ -70,7 +70,7 @@ pub const PARSE_DER: &[Row] = &[
     ("BOOLEAN of two octets", "01 02 00 00", Refused(InvalidLength)),
     ("a primitive SEQUENCE", "10 00", Refused(ConstructExpected)),
     ("a primitive SET", "11 00", Refused(ConstructExpected)),
-    ("a type that isn't read yet", "0c 00", Refused(Unsupported)),
+    ("a constructed string", "2c 00", Broken(Constructed)),
     ("a constructed NULL", "25 00", Broken(Constructed)),
     ("NULL of an octet", "05 01 00", Refused(InvalidLength)),
     ("end of content of an octet", "00 01 00", Refused(InvalidLength)),

@@ -139,7 +139,13 @@ const DER_RUNS: &[Run] = &[
         "error at 2: incomplete, needs 2\n",
         1,
     ),
-    (b"\x0c\x01a", "", "error at 0: unsupported\n", 1),
+    (b"\x0c\x01a", "UTF8String(\"a\")\n", "", 0),
+    (
+        b"\x2c\x01a",
+        "",
+        "error at 0: DER constraint failed: constructed\n",
+        1,
+    ),
     (
         b"\x01\x01\xff\x02\x81\x01\x05",
         "Boolean(true)\n",
@@ -255,7 +261,7 @@ const BER_RUNS: &[Run] = &[
         1,
     ),
     (
-        b"\x05\x00\x0c\x01a",
+        b"\x05\x00\x2c\x01a",
         "Null\n",
         "error at 2: unsupported\n",
         1,
