@@ -1,7 +1,5 @@
-use Rattle.std.proofs.Common.{◌≡◌, false, arith, All}
+use Rattle.std.proofs.Common.{false, arith, All}
 use Rattle.std.proofs.lemmas.Result.{err_from_is_err_and}
-use Rattle.der_base.specs.Encoding.{content_octets}
-use Rattle.der_base.specs.Leaf.{IsDerLeaf}
 use Rattle.der_base.specs.LeafRefusal.{DerLeafRefuses}
 use Rattle.der_base.specs.Refusal.{refusal}
 use Rattle.der_base.proofs.Each.{all_from_each}
