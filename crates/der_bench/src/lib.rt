@@ -4,6 +4,8 @@
 #[cfg(test)]
 mod answer;
 #[cfg(test)]
+mod container_rows;
+#[cfg(test)]
 mod der_rows;
 #[cfg(test)]
 mod header_rows;

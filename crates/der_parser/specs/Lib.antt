@@ -16,6 +16,7 @@ pub use Rattle.der_base.specs.Leaf
 pub use Rattle.der_base.specs.LeafRefusal
 pub use Rattle.der_base.specs.Octets
 pub use Rattle.der_base.specs.Refusal
+pub use Rattle.der_base.specs.Runs
 pub use Rattle.der_base.specs.Spelling
 pub use Rattle.der_base.specs.Text
 pub use Rattle.der_base.specs.Time
@@ -26,5 +27,6 @@ pub use Rattle.der_object.specs.Room
 pub use Rattle.der_object.specs.View
 pub use Rattle.der_ber.specs.BerLeaves
 pub use Rattle.der_ber.specs.BerReading
+pub use Rattle.der_ber.specs.BerSlices
 pub use Rattle.der_der.specs.DerLeaves
 pub use Rattle.der_der.specs.DerReading
