@@ -46,35 +46,41 @@ module _ {E : Type 0} (from_error_kind_gives : Bor (List ℕ) → ErrorKind → 
 abbrev pub RefusesBer : {E : Type 0} → (Bor (List ℕ) → ErrorKind → E → Type 0) → (BerError → E → Type 0) → List ℕ → Refused E → Type 0
 RefusesBer from_error_kind_gives from_gives i r = NotOpened from_error_kind_gives from_gives AnyRefuses OpeningLacks HasShortContent i r
 
-module _ (opens : List ℕ → Header → List ℕ → List ℕ → Type 0) where
-  -- the same of an element with this tag number
-  abbrev pub OpensNumber : ℕ → List ℕ → Header → List ℕ → List ℕ → Type 0
-  OpensNumber n i h w after = opens i h w after × (number_of h ≡ n)
+-- One call of the parser takes it from f to g. It has exactly the content and the header of an element that is opened, and its answer is the answer, an Ok with what follows the element.
+module _ {F O E : Type 0} (opens : Header → List ℕ → List ℕ → Type 0) (step : F → Bor (List ℕ) → Header → Answered O E → F → Type 0) where
+  pub data OneCall (f : F) : Answered O E → F → Type 0 where
+    stopped : {g : F} {h : Header} {w after : List ℕ} {content : Bor (List ℕ)} {e : Refused E} → opens h w after
+        → step f content h (Err e) g → content.now ≡ w → OneCall f (Err e) g
+    accepted : {g : F} {h : Header} {w : List ℕ} {content left after : Bor (List ℕ)} {v : O} → opens h w after.now
+        → step f content h (Ok (left, v)) g → content.now ≡ w → OneCall f (Ok (after, v)) g
 
-  -- i begins with an element of another number, t
-  abbrev pub OpensOther : ℕ → List ℕ → ℕ → Type 0
-  OpensOther n i t = (t ≢ n) × (h : Header) × (w after : List ℕ) × opens i h w after × (number_of h ≡ t)
+-- the answer is a refusal, and no call leaves the parser as it is
+module _ {F O E : Type 0} (refuses : Refused E → Type 0) where
+  pub data NoCall (f : F) : Answered O E → F → Type 0 where
+    refused : {e : Refused E} → refuses e → NoCall f (Err e) f
 
-  -- another number is told behind the refusals of the container
-  module _ {E : Type 0} (refuses : List ℕ → Refused E → Type 0) (from_gives : BerError → E → Type 0) where
-    pub data RefusesNumber (n : ℕ) (i : List ℕ) : Refused E → Type 0 where
-      unopened : {r : Refused E} → refuses i r → RefusesNumber n i r
-      other_number : {t : ℕ} {e : BerError} {x : E} → OpensOther n i t → refusal e ≡ unexpected_tag (Some n) t → from_gives e x → RefusesNumber n i (Error x)
+-- a container's answer: a refusal without a call, or that of one call
+abbrev pub ContainerRun : {F O E : Type 0} → (Header → List ℕ → List ℕ → Type 0) → (Refused E → Type 0)
+    → (F → Bor (List ℕ) → Header → Answered O E → F → Type 0) → F → Answered O E → F → Type 0
+ContainerRun opens refuses step f r g = NoCall refuses f r g ⊎ OneCall opens step f r g
 
-  module _ {F O E : Type 0} (step : F → Bor (List ℕ) → Header → Answered O E → F → Type 0) where
-    -- One call of the parser takes it from f to g. It has exactly the content and the header of the element that i begins with, and its answer is the answer, an Ok with what follows the element.
-    pub data OneCall (i : List ℕ) (f : F) : Answered O E → F → Type 0 where
-      stopped : {g : F} {h : Header} {w after : List ℕ} {content : Bor (List ℕ)} {e : Refused E} → opens i h w after
-          → step f content h (Err e) g → content.now ≡ w → OneCall i f (Err e) g
-      accepted : {g : F} {h : Header} {w : List ℕ} {content left after : Bor (List ℕ)} {v : O} → opens i h w after.now
-          → step f content h (Ok (left, v)) g → content.now ≡ w → OneCall i f (Ok (after, v)) g
+-- Of the elements that are opened, those of the tag number n. Another number is told behind the refusals of the container.
+module _ (opens : Header → List ℕ → List ℕ → Type 0) where
+  abbrev pub OpensNumber : ℕ → Header → List ℕ → List ℕ → Type 0
+  OpensNumber n h w after = opens h w after × (number_of h ≡ n)
 
-module _ {F O E : Type 0} (refuses : List ℕ → Refused E → Type 0) where
-  -- the answer is a refusal, and no call leaves the parser as it is
-  pub data NoCall (i : List ℕ) (f : F) : Answered O E → F → Type 0 where
-    refused : {e : Refused E} → refuses i e → NoCall i f (Err e) f
+  -- an element of another number, t
+  abbrev pub OpensOther : ℕ → ℕ → Type 0
+  OpensOther n t = (t ≢ n) × (h : Header) × (w after : List ℕ) × opens h w after × (number_of h ≡ t)
 
--- a container's answer on i: a refusal without a call, or that of one call
-abbrev pub ContainerRun : {F O E : Type 0} → (List ℕ → Header → List ℕ → List ℕ → Type 0) → (List ℕ → Refused E → Type 0)
-    → (F → Bor (List ℕ) → Header → Answered O E → F → Type 0) → List ℕ → F → Answered O E → F → Type 0
-ContainerRun opens refuses step i f r g = NoCall refuses i f r g ⊎ OneCall opens step i f r g
+  module _ {E : Type 0} (refuses : Refused E → Type 0) (from_gives : BerError → E → Type 0) where
+    pub data RefusesNumber (n : ℕ) : Refused E → Type 0 where
+      unopened : {r : Refused E} → refuses r → RefusesNumber n r
+      other_number : {t : ℕ} {e : BerError} {x : E} → OpensOther n t → refusal e ≡ unexpected_tag (Some n) t → from_gives e x → RefusesNumber n (Error x)
+
+-- the same by BER
+abbrev pub OpensBerNumber : ℕ → List ℕ → Header → List ℕ → List ℕ → Type 0
+OpensBerNumber n i h w after = OpensNumber (OpensBer i) n h w after
+
+abbrev pub RefusesBerNumber : {E : Type 0} → (Bor (List ℕ) → ErrorKind → E → Type 0) → (BerError → E → Type 0) → ℕ → List ℕ → Refused E → Type 0
+RefusesBerNumber from_error_kind_gives from_gives n i r = RefusesNumber (OpensBer i) (RefusesBer from_error_kind_gives from_gives i) from_gives n r

@@ -24,8 +24,10 @@ pub mod ber {
     pub use der_base::time::{ASN1DateTime, ASN1TimeZone, TimeText};
     pub use der_base::{MAX_OBJECT_SIZE, MAX_RECURSION};
     pub use der_ber::{
-        parse_ber, parse_ber_any, parse_ber_any_r, parse_ber_any_with_tag_r, parse_ber_counted,
-        parse_ber_recursive,
+        BerContainer, BerSequenceDefinedG, BerSetDefinedG, parse_ber, parse_ber_any,
+        parse_ber_any_r, parse_ber_any_with_tag_r, parse_ber_container, parse_ber_counted,
+        parse_ber_recursive, parse_ber_sequence_defined_g, parse_ber_set_defined_g,
+        parse_ber_slice,
     };
     pub use der_object::{BerObject, BerObjectContent, BitStringObject};
 
