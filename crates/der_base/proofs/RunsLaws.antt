@@ -1,5 +1,5 @@
 -- The element that begins the input, what a container refuses, and which of the two a run shows: one of them holds at most, and each in one way.
-use Rattle.std.proofs.Common.{◌≡◌, ◌≢◌, ℕ, ◌-◌, ◌<◌, Bool, Some, List, length, Result, Ok, Err, MatchResult, IfOk, IfErr, Bor, refl, sym, ap, subst, ◌∙◌, arith, inl, inr}
+use Rattle.std.proofs.Common.{◌≡◌, ◌≢◌, ℕ, ◌-◌, ◌<◌, Bool, Some, List, length, Result, Ok, Err, MatchResult, IfOk, IfErr, IsOkAnd, Bor, refl, sym, ap, subst, ◌∙◌, arith, inl, inr}
 use Rattle.der_base.specs.declared.any.Any.{Any}
 use Rattle.der_base.specs.declared.error.Err.{Err as Refused}
 use Rattle.der_base.specs.declared.error.Err.TheVariants.{Incomplete, Error, Failure, OutOfMemory}
@@ -125,3 +125,19 @@ module _ {F O E : Type 0} (opens : Header → List ℕ → List ℕ → Type 0) 
   opened_run (Ok x) (stopped {h = h} {w = w} {after = after} (p, q, a) s c) o n = let y : opens h w after = rw (p, q, a) o in inr (stopped y s c)
   opened_run (Ok x) (accepted {h = h} {w = w} {after = after} (p, q, a) s c) o n = let y : opens h w after.now = rw (p, q, a) o in inr (accepted y s c)
   opened_run (Err e) (refused {e = r} q) o n = let y : refuses r = rw q n in inl (refused y)
+
+-- what a container says, where its parser says P of a content and a value
+module _ {F O E : Type 0} (opens : Header → List ℕ → List ℕ → Type 0) (refuses : Refused E → Type 0) (step : F → Bor (List ℕ) → Header → Answered O E → F → Type 0) (P : List ℕ → O → Type 0) where
+  -- an Ok is an element whose content P holds of
+  pub container_ok : ((f g : F) (content left : Bor (List ℕ)) (h : Header) (v : O) → step f content h (Ok (left, v)) g → P content.now v)
+      → {f g : F} {r : Answered O E} → ContainerRun opens refuses step f r g → IfOk r (λ x. (h : Header) × (w : List ℕ) × opens h w x.0.now × P w x.1)
+  container_ok says (inl (refused e)) = tt
+  container_ok says (inr (stopped o s e)) = tt
+  container_ok says {f = f} (inr (accepted {g = g} {h = h} {w = w} {content = content} {left = left} {v = v} o s e)) = (h, w, o, subst (λ x. P x v) e (says f g content left h v s))
+
+  -- and an element is an Ok where the parser answers one on its content
+  pub container_reads : {f g : F} {r : Answered O E} → OneCall opens step f r g
+      → ((h : Header) (w after : List ℕ) (content : Bor (List ℕ)) (a : Answered O E) → opens h w after → content.now ≡ w → step f content h a g → IsOkAnd a (λ x. P w x.1))
+      → IsOkAnd r (λ x. (h : Header) × (w : List ℕ) × opens h w x.0.now × P w x.1)
+  container_reads (stopped {h = h} {w = w} {after = after} {content = content} {e = e} o s q) reads = absurd (reads h w after content (Err e) o q s)
+  container_reads (accepted {h = h} {w = w} {content = content} {left = left} {after = after} {v = v} o s q) reads = (h, w, o, reads h w after.now content (Ok (left, v)) o q s)

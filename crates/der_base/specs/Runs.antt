@@ -1,5 +1,5 @@
 -- Combinators that keep a caller's parser: what they answer, in terms of its answers. By BER and by DER the relations are the same: `opens` says which element the input begins with, `refuses` what is answered where it begins with none, `step` what the parser promises of a call.
-use Rattle.std.specs.Prelude.{◌≡◌, ◌≢◌, ℕ, ◌<◌, ◌⊎◌, Bool, Some, List, length, Result, Ok, Err}
+use Rattle.std.specs.Prelude.{◌≡◌, ◌≢◌, ℕ, ◌<◌, ◌⊎◌, Bool, Some, List, ◌++◌, length, Result, Ok, Err}
 use Rattle.std.specs.Borrow.{Bor}
 use Rattle.der_base.specs.declared.error.Err.{Err as Refused}
 use Rattle.der_base.specs.declared.error.Err.TheVariants.{Incomplete, Error}
@@ -11,8 +11,9 @@ use Rattle.der_base.specs.declared.header.Class.{Class}
 use Rattle.der_base.specs.declared.header.Header.{Header}
 use Rattle.der_base.specs.declared.header.Length.TheVariants.{Definite}
 use Rattle.der_base.specs.Any.{AnyRefuses, AnyLacks}
-use Rattle.der_base.specs.Header.{class_of, is_constructed, number_of}
-use Rattle.der_base.specs.Headers.{BeginsWithHeader, ReadsHeader}
+use Rattle.der_base.specs.Fault.{DerHeaderRefuses}
+use Rattle.der_base.specs.Header.{class_of, is_constructed, number_of, length_of}
+use Rattle.der_base.specs.Headers.{BeginsWithHeader, ReadsHeader, BeginsWithDerHeader, ReadsDerHeader, DerHeaderLacks}
 use Rattle.der_base.specs.Refusal.{Refusal, refusal, unexpected_tag}
 use Rattle.der_base.specs.Spelling.{BeginsWithElement, framing_budget}
 
@@ -34,6 +35,13 @@ HasShortContent i behind = (c : Class) × (p : Bool) × (t n : ℕ) × BeginsWit
 abbrev pub OpeningLacks : List ℕ → ℕ → Type 0
 OpeningLacks i n = AnyLacks i n × ((behind : List ℕ) → ¬ HasShortContent i behind)
 
+-- By DER: a header as DER writes it, whose length is that of the content.
+abbrev pub OpensDer : List ℕ → Header → List ℕ → List ℕ → Type 0
+OpensDer i h w after = ReadsDerHeader i h (w ++ after) × (length_of h ≡ Definite (length w))
+
+abbrev pub HasShortDerContent : List ℕ → List ℕ → Type 0
+HasShortDerContent i behind = (c : Class) × (p : Bool) × (t n : ℕ) × BeginsWithDerHeader i c p t n behind × (length behind < n)
+
 -- Where no element with its whole content begins i: a fault of header or framing, the end of the input in them, or a definite content that is short, which is Eof at the octets behind the header.
 module _ {E : Type 0} (from_error_kind_gives : Bor (List ℕ) → ErrorKind → E → Type 0) (from_gives : BerError → E → Type 0)
     (faults : List ℕ → Refusal → Type 0) (lacks : List ℕ → ℕ → Type 0) (short : List ℕ → List ℕ → Type 0) where
@@ -45,6 +53,10 @@ module _ {E : Type 0} (from_error_kind_gives : Bor (List ℕ) → ErrorKind → 
 -- the refusals of a container by BER
 abbrev pub RefusesBer : {E : Type 0} → (Bor (List ℕ) → ErrorKind → E → Type 0) → (BerError → E → Type 0) → List ℕ → Refused E → Type 0
 RefusesBer from_error_kind_gives from_gives i r = NotOpened from_error_kind_gives from_gives AnyRefuses OpeningLacks HasShortContent i r
+
+-- by DER
+abbrev pub RefusesDer : {E : Type 0} → (Bor (List ℕ) → ErrorKind → E → Type 0) → (BerError → E → Type 0) → List ℕ → Refused E → Type 0
+RefusesDer from_error_kind_gives from_gives i r = NotOpened from_error_kind_gives from_gives DerHeaderRefuses DerHeaderLacks HasShortDerContent i r
 
 -- One call of the parser takes it from f to g. It has exactly the content and the header of an element that is opened, and its answer is the answer, an Ok with what follows the element.
 module _ {F O E : Type 0} (opens : Header → List ℕ → List ℕ → Type 0) (step : F → Bor (List ℕ) → Header → Answered O E → F → Type 0) where
@@ -84,3 +96,10 @@ OpensBerNumber n i h w after = OpensNumber (OpensBer i) n h w after
 
 abbrev pub RefusesBerNumber : {E : Type 0} → (Bor (List ℕ) → ErrorKind → E → Type 0) → (BerError → E → Type 0) → ℕ → List ℕ → Refused E → Type 0
 RefusesBerNumber from_error_kind_gives from_gives n i r = RefusesNumber (OpensBer i) (RefusesBer from_error_kind_gives from_gives i) from_gives n r
+
+-- and by DER
+abbrev pub OpensDerNumber : ℕ → List ℕ → Header → List ℕ → List ℕ → Type 0
+OpensDerNumber n i h w after = OpensNumber (OpensDer i) n h w after
+
+abbrev pub RefusesDerNumber : {E : Type 0} → (Bor (List ℕ) → ErrorKind → E → Type 0) → (BerError → E → Type 0) → ℕ → List ℕ → Refused E → Type 0
+RefusesDerNumber from_error_kind_gives from_gives n i r = RefusesNumber (OpensDer i) (RefusesDer from_error_kind_gives from_gives i) from_gives n r

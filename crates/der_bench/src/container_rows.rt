@@ -1,4 +1,7 @@
 //! What is handed to a parser that a combinator keeps, and what is answered without calling it.
+ghost use Rattle.std.specs.Prelude.{◌≡◌};
+ghost use Rattle.der_bench.specs.declared.container_rows.Met.TheVariants.{At};
+
 use crate::octets::octets;
 use der_parser::IResult;
 use der_parser::ber::Length::{Definite, Indefinite};
@@ -12,7 +15,7 @@ use der_parser::error::Error::{
 };
 use der_parser::error::ErrorKind::Eof;
 use der_parser::error::Needed::Size;
-use der_parser::error::{BerError, Err as Refused};
+use der_parser::error::{BerError, Err as Refused, ErrorKind, ParseError};
 use std::test::Fail;
 
 /// Octets, the content that a container hands on, the length that its header says, and what
@@ -109,6 +112,45 @@ fn containers_refuse_without_a_call(rt: HostRuntime) -> Result<(), Fail> {
             "{text}: {given:?}"
         );
     }
+    Ok(())
+}
+
+/// An error that keeps where it was met.
+#[derive(Debug, PartialEq, Drop)]
+enum Met<'a> {
+    Refused(BerError),
+    At(&'a [u8], ErrorKind),
+}
+
+impl<'a> From<BerError> for Met<'a> {
+    fn from(e: BerError) -> Met<'a> {
+        Met::Refused(e)
+    }
+}
+
+impl<'a> ParseError<&'a [u8]> for Met<'a> {
+    ghost from_error_kind_gives = { λ input kind e. e ≡ At input kind };
+
+    ghost append_gives = { λ _ _ other e. e ≡ other };
+
+    fn from_error_kind(input: &'a [u8], kind: ErrorKind) -> Met<'a> {
+        Met::At(input, kind)
+    }
+
+    fn append(_input: &'a [u8], _kind: ErrorKind, other: Met<'a>) -> Met<'a> {
+        other
+    }
+}
+
+/// A content that is short is told at the octets behind the header.
+#[test]
+fn containers_tell_where(rt: HostRuntime) -> Result<(), Fail> {
+    let input = octets(rt.alloc(), "30 05 02 01")?;
+    let given: IResult<&[u8], u8, Met<'_>> = parse_ber_container(|_, _| Ok((b"", 0))).parse(&input);
+    assert!(rt; matches!(given, Err(Error(Met::At([2, 1], Eof)))));
+    let input = octets(rt.alloc(), "10 80")?;
+    let given: IResult<&[u8], u8, Met<'_>> = parse_ber_container(|_, _| Ok((b"", 0))).parse(&input);
+    assert!(rt; matches!(given, Err(Error(Met::Refused(ConstructExpected)))));
     Ok(())
 }
 
