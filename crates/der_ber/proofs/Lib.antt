@@ -1,3 +1,5 @@
+pub mod ContentLaws
+pub mod ContentsRead
 pub mod Items
 pub mod Leaves
 pub mod ReadingLaws

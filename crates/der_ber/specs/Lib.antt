@@ -1,1 +1,2 @@
 pub mod BerReading
+pub mod ContentReading

@@ -22,7 +22,7 @@ pub mod ber {
     };
     pub use der_base::{MAX_OBJECT_SIZE, MAX_RECURSION};
     pub use der_ber::{
-        parse_ber, parse_ber_any, parse_ber_any_r, parse_ber_any_with_tag_r, parse_ber_counted,
+        ber_read_element_content_as, parse_ber, parse_ber_any, parse_ber_any_r, parse_ber_any_with_tag_r, parse_ber_counted,
         parse_ber_recursive,
     };
     pub use der_object::{BerObject, BerObjectContent};
