@@ -3,4 +3,5 @@ pub mod ContentsRead
 pub mod Items
 pub mod Leaves
 pub mod ReadingLaws
+pub mod TypedLaws
 pub mod WantedNumbers

@@ -2,6 +2,7 @@
 use Rattle.std.specs.Prelude.{◌≡◌, ◌≢◌, ℕ, ◌-◌, ◌<◌, ◌≤◌, ◌⊎◌, Bool, true, false, None, Some, IsTrue, List, [], length, min}
 use Rattle.der_base.specs.declared.header.Class.{Class}
 use Rattle.der_base.specs.declared.header.Class.TheVariants.{Universal}
+use Rattle.der_base.specs.declared.header.Header.{Header}
 use Rattle.der_base.specs.declared.header.Length.{Length}
 use Rattle.der_base.specs.declared.header.Length.TheVariants.{Definite, Indefinite}
 use Rattle.der_base.specs.Content.{BeginsWithContent, InsideLacks}
@@ -78,23 +79,35 @@ ContentAsNeedsMemory t l p d i = (2 ≤ d) × IsTrue (is_list t) × (p ≡ true)
 
 -- objects of one number, of any class
 
--- i begins with a header of this number and such a content, and rest follows
-pub record ReadsNumber (t : ℕ) (i : List ℕ) (o : BerObject) (rest : List ℕ) : Type 0 where
+-- i begins with a header of this number
+pub record ReadsHeaderOf (t : ℕ) (i : List ℕ) (h : Header) (behind : List ℕ) : Type 0 where
+  pub header : ReadsHeader i h behind
+  pub number : number_of h ≡ t
+
+-- i begins with such a header, and with octets of such a content, and rest follows
+pub record ReadsTyped (t : ℕ) (i : List ℕ) (o : BerObject) (rest : List ℕ) : Type 0 where
   pub behind : List ℕ
-  pub header : ReadsHeader i o.header behind
-  pub number : number_of o.header ≡ t
+  pub header : ReadsHeaderOf t i o.header behind
   pub content : ReadsContentAs t (length_of o.header) (is_constructed o.header) 50 behind o.content rest
 
--- a header is refused, or has another number, or its content is refused
-abbrev pub NumberReaderRefuses : ℕ → List ℕ → Refusal → Type 0
-NumberReaderRefuses t i e = BerHeaderRefuses i e
+-- the same of a class, bit, number and content of which there is no object yet
+abbrev pub BeginsWithTyped : List ℕ → Class → Bool → ℕ → Content → List ℕ → Type 0
+BeginsWithTyped i c p t x rest = (l : Length) × (behind w : List ℕ) × (fs : Forms) × BeginsWithHeader i c p t l behind × FramesContent l p 50 behind w rest × IsContentAs t l p 50 w x fs
+
+-- the header is refused, or has another number
+abbrev pub HeaderOfRefuses : ℕ → List ℕ → Refusal → Type 0
+HeaderOfRefuses t i e = BerHeaderRefuses i e
     ⊎ ((c : Class) × (p : Bool) × (n : ℕ) × (l : Length) × (behind : List ℕ) × BeginsWithHeader i c p n l behind × (n ≢ t) × (e ≡ unexpected_tag (Some t) n))
+
+-- or its content is refused
+abbrev pub TypedRefuses : ℕ → List ℕ → Refusal → Type 0
+TypedRefuses t i e = HeaderOfRefuses t i e
     ⊎ ((c : Class) × (p : Bool) × (l : Length) × (behind : List ℕ) × BeginsWithHeader i c p t l behind × ContentAsRefuses t l p 50 behind e)
 
 -- i ends within the header, or within the content octets behind one of this number
-abbrev pub NumberReaderLacks : ℕ → List ℕ → ℕ → Type 0
-NumberReaderLacks t i n = BerHeaderLacks i n
+abbrev pub TypedLacks : ℕ → List ℕ → ℕ → Type 0
+TypedLacks t i n = BerHeaderLacks i n
     ⊎ ((c : Class) × (p : Bool) × (l : Length) × (behind : List ℕ) × BeginsWithHeader i c p t l behind × FrameLacks l p 50 behind n)
 
-abbrev pub NumberReaderNeedsMemory : ℕ → List ℕ → Type 0
-NumberReaderNeedsMemory t i = (c : Class) × (p : Bool) × (l : Length) × (behind : List ℕ) × BeginsWithHeader i c p t l behind × ContentAsNeedsMemory t l p 50 behind
+abbrev pub TypedNeedsMemory : ℕ → List ℕ → Type 0
+TypedNeedsMemory t i = (c : Class) × (p : Bool) × (l : Length) × (behind : List ℕ) × BeginsWithHeader i c p t l behind × ContentAsNeedsMemory t l p 50 behind

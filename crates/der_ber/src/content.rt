@@ -2,6 +2,7 @@
 //! length and the constructed bit.
 ghost use Rattle.std.specs.Prelude.{◌≡◌, ℕ, List};
 ghost use Rattle.der_base.specs.Answer.{MatchAnswer, AnswersOkOr, AnswersErrorOr, AnswersIncompleteOr};
+ghost use Rattle.der_base.specs.Header.{is_constructed, length_of};
 ghost use Rattle.der_base.specs.Refusal.{Refusal};
 ghost use Rattle.der_base.specs.Spelling.{Forms};
 ghost use Rattle.der_base.specs.Tree.{Content};
@@ -18,7 +19,7 @@ use std::alloc::Global;
 
 /// The content octets behind a header of this length and constructed bit, and what follows the
 /// element.
-pub fn frame_content(
+pub(crate) fn frame_content(
     i: &[u8],
     length: Length,
     constructed: bool,
@@ -93,4 +94,86 @@ pub fn ber_read_element_content_as<'a>(
     ensures lacks { (n : ℕ) → FrameLacks length constructed max_depth i.now n → AnswersIncompleteOr (ContentAsNeedsMemory tag.0 length constructed max_depth i.now) result n }
 {
     read_content_as(alloc, i, tag, length, constructed, max_depth)
+}
+
+/// A reader of contents of one universal type, which `parse_ber_content` makes.
+#[derive(Clone, Copy)]
+pub struct BerContent {
+    /// The tag number of the type.
+    pub tag: Tag,
+    alloc: Global,
+}
+
+/// The reader of contents of this universal type, behind headers that are borrowed.
+pub fn parse_ber_content(alloc: Global, tag: Tag) -> BerContent
+    ensures { result.tag ≡ tag }
+{
+    BerContent { tag, alloc }
+}
+
+impl BerContent {
+    /// Reads as `ber_read_element_content_as` the content that stands behind a header of this
+    /// length and constructed bit. Its class and tag number aren't looked at.
+    pub fn parse<'a>(
+        &self,
+        i: &'a [u8],
+        header: &Header<'_>,
+        max_depth: usize,
+    ) -> BerResult<'a, BerObjectContent<'a>>
+        ensures found { let l = length_of header.now in let p = is_constructed header.now in MatchAnswer result
+            (λ x. ReadsContentAs self.now.tag.0 l p max_depth i.now x.1 x.0.now)
+            (ContentAsRefuses self.now.tag.0 l p max_depth i.now)
+            (FrameLacks l p max_depth i.now)
+            (ContentAsNeedsMemory self.now.tag.0 l p max_depth i.now) }
+        ensures only { let l = length_of header.now in let p = is_constructed header.now in (w rest : List ℕ) (x : Content) (fs : Forms) → FramesContent l p max_depth i.now w rest → IsContentAs self.now.tag.0 l p max_depth w x fs
+            → AnswersOkOr (ContentAsNeedsMemory self.now.tag.0 l p max_depth i.now) result (λ y. (content_tree y.1 ≡ x) × (y.0.now ≡ rest)) }
+        ensures refuses { let l = length_of header.now in let p = is_constructed header.now in (e : Refusal) → ContentAsRefuses self.now.tag.0 l p max_depth i.now e → AnswersErrorOr (ContentAsNeedsMemory self.now.tag.0 l p max_depth i.now) result e }
+        ensures lacks { let l = length_of header.now in let p = is_constructed header.now in (n : ℕ) → FrameLacks l p max_depth i.now n → AnswersIncompleteOr (ContentAsNeedsMemory self.now.tag.0 l p max_depth i.now) result n }
+    {
+        ber_read_element_content_as(
+            self.alloc,
+            i,
+            self.tag,
+            header.length(),
+            header.constructed(),
+            max_depth,
+        )
+    }
+}
+
+/// A reader of contents of one universal type, which `parse_ber_content2` makes.
+#[derive(Clone, Copy)]
+pub struct BerContent2 {
+    /// The tag number of the type.
+    pub tag: Tag,
+    alloc: Global,
+}
+
+/// The reader of contents of this universal type, behind headers by value.
+pub fn parse_ber_content2(alloc: Global, tag: Tag) -> BerContent2
+    ensures { result.tag ≡ tag }
+{
+    BerContent2 { tag, alloc }
+}
+
+impl BerContent2 {
+    /// Reads as `BerContent::parse`.
+    pub fn parse<'a>(
+        &self,
+        i: &'a [u8],
+        header: Header<'_>,
+        max_depth: usize,
+    ) -> BerResult<'a, BerObjectContent<'a>>
+        ensures found { let l = length_of header.entry in let p = is_constructed header.entry in MatchAnswer result
+            (λ x. ReadsContentAs self.now.tag.0 l p max_depth i.now x.1 x.0.now)
+            (ContentAsRefuses self.now.tag.0 l p max_depth i.now)
+            (FrameLacks l p max_depth i.now)
+            (ContentAsNeedsMemory self.now.tag.0 l p max_depth i.now) }
+        ensures only { let l = length_of header.entry in let p = is_constructed header.entry in (w rest : List ℕ) (x : Content) (fs : Forms) → FramesContent l p max_depth i.now w rest → IsContentAs self.now.tag.0 l p max_depth w x fs
+            → AnswersOkOr (ContentAsNeedsMemory self.now.tag.0 l p max_depth i.now) result (λ y. (content_tree y.1 ≡ x) × (y.0.now ≡ rest)) }
+        ensures refuses { let l = length_of header.entry in let p = is_constructed header.entry in (e : Refusal) → ContentAsRefuses self.now.tag.0 l p max_depth i.now e → AnswersErrorOr (ContentAsNeedsMemory self.now.tag.0 l p max_depth i.now) result e }
+        ensures lacks { let l = length_of header.entry in let p = is_constructed header.entry in (n : ℕ) → FrameLacks l p max_depth i.now n → AnswersIncompleteOr (ContentAsNeedsMemory self.now.tag.0 l p max_depth i.now) result n }
+    {
+        parse_ber_content(self.alloc, self.tag).parse(i, &header, max_depth)
+    }
 }
