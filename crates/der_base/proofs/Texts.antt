@@ -1,13 +1,14 @@
 -- Octets of the string types.
-use Rattle.std.proofs.Common.{◌≡◌, ℕ, zero, suc, ◌+◌, ◌*◌, ◌<◌, ◌≤◌, ◌⊎◌, inl, inr, Bool, true, false, not, ◌&&◌, List, [], ◌∷◌, length, drop, All, get_or, arith, refl, sym, ap, ◌∙◌}
+use Rattle.std.proofs.Common.{◌≡◌, ◌==◌, ℕ, zero, suc, ◌+◌, ◌*◌, ◌<◌, ◌≤◌, ◌⊎◌, inl, inr, Bool, true, false, not, ◌&&◌, List, [], ◌∷◌, length, drop, All, get_or, arith, refl, sym, ap, ◌∙◌}
 use mathlib.Core.Bool.{beq}
-use Rattle.std.specs.Str.{IsAscii}
+use Rattle.std.specs.Bool.{MatchBool, IsTrue}
+use Rattle.std.specs.Str.{IsAscii, IsNotAscii}
 use Rattle.std.specs.Char.Utf16.{has_unpaired_surrogate}
 use Rattle.std.proofs.str.Utf16.{IsPair, utf16_chars_lone, utf16_chars_pair, lone_unit_char_low, lone_unit_char_high, lone_unit_char_surrogate, utf16_chars-nil}
-use Rattle.std.proofs.lemmas.List.Elements.{All-head, All-tail}
-use Rattle.std.proofs.lemmas.Bool.{cases_lt}
+use Rattle.std.proofs.lemmas.List.Elements.{All-head, All-tail, All-from_get_or, All-weaker}
+use Rattle.std.proofs.lemmas.Bool.{cases_lt, cases_eq}
 use Rattle.std.proofs.lemmas.Bool.Decides.{nat_tests}
-use Rattle.der_base.specs.Text.{is_within, units, IsUtf16}
+use Rattle.der_base.specs.Text.{is_within, is_ia5, is_printable, units, IsUtf16}
 use Rattle.der_base.proofs.Decided.{never}
 use Rattle.der_base.proofs.Each.{Each}
 use Rattle.der_base.proofs.Shortest.{IsOctet}
@@ -143,3 +144,38 @@ pairs_of_utf16 w h e = at (pairs_match false w) refl
     at : (t : Bool) → pairs_match false w ≡ t → t ≡ true
     at true f = refl
     at false f = absurd (never (sym e ∙ (matched w (octets_from w h)).alone ∙ ap not f))
+
+-- two tests agree below n
+abbrev pub agree_below : (ℕ → Bool) → (ℕ → Bool) → ℕ → Bool
+agree_below f g zero = true
+agree_below f g (suc n) = beq (f n) (g n) && agree_below f g n
+
+both_of : (x y rest : Bool) → (beq x y && rest) ≡ true → (x ≡ y) × (rest ≡ true)
+both_of true true rest h = (refl, h)
+both_of true false rest h = absurd (never h)
+both_of false true rest h = absurd (never h)
+both_of false false rest h = (refl, h)
+
+agree_at : (f g : ℕ → Bool) (n : ℕ) → agree_below f g n ≡ true → (b : ℕ) → b < n → f b ≡ g b
+agree_at f g zero h b l = absurd (omega arith)
+agree_at f g (suc n) h b l =
+    let both = both_of (f n) (g n) (agree_below f g n) h in
+    elim (cases_eq b n) [ inl same ↦ rw same both.0 | inr other ↦ agree_at f g n both.1 b (omega arith) ]
+
+-- a table that agrees with a character set at each octet, with a low line where none of its characters stands
+pub by_table : (table : List ℕ) (b : ℕ) → b < 256 → agree_below (λ k. not (get_or table k 0 == 0x5F)) is_printable 256 ≡ true → not (get_or table b 0 == 0x5F) ≡ is_printable b
+by_table table b l h = agree_at (λ k. not (get_or table k 0 == 0x5F)) is_printable 256 h b l
+
+-- ASCII is the character set of an IA5String
+ia5_of_low : (b : ℕ) → b < 128 → is_ia5 b ≡ true
+ia5_of_low b l = grind (arith, nat_tests)
+
+low_of_ia5 : (b : ℕ) → is_ia5 b ≡ true → b < 128
+low_of_ia5 b e = grind (arith, nat_tests)
+
+pub ia5_of_ascii : (w : List ℕ) (r : Bool) → MatchBool r (IsAscii w) (IsNotAscii w) → (IsTrue r → All (λ b. IsTrue (is_ia5 b)) w) × (All (λ b. IsTrue (is_ia5 b)) w → IsTrue r)
+ia5_of_ascii w true h = ((λ e. All-from_get_or (λ b. IsTrue (is_ia5 b)) w 0 (λ i l. ia5_of_low (get_or w i 0) (h i))), (λ all. refl))
+ia5_of_ascii w false h = (
+  (λ e. absurd (never e)),
+  (λ all. absurd (omega (arith, h.1, ascii_of_all w (All-weaker (λ b. IsTrue (is_ia5 b)) (λ b. b < 128) low_of_ia5 w all) h.0))),
+)

@@ -25,7 +25,7 @@ padded_zero (suc k) x = padded_zero k (0x30 ∷ x) ∙ more_zeros k x
 at_least_short : (k n : ℕ) → n < 10 → at_least_digits (suc k) n ≡ replicate k 0x30 ++ (0x30 + n) ∷ []
 at_least_short k n h = let e : suc k - 1 ≡ k = omega arith in rw (decimal_digit n h, e) refl
 
-at_least_step : (k n : ℕ) → 10 ≤ n → n < 2 ^ 64 → at_least_digits (suc k) n ≡ at_least_digits k (n / 10) ++ digit n ∷ []
+pub at_least_step : (k n : ℕ) → 10 ≤ n → n < 2 ^ 64 → at_least_digits (suc k) n ≡ at_least_digits k (n / 10) ++ digit n ∷ []
 at_least_step k n h g =
     let e : suc k - length (decimal n) ≡ k - length (decimal (n / 10)) = omega (arith, ap length (decimal_step n h g), length-append (decimal (n / 10)) ((0x30 + n % 10) ∷ [])) in
     rw (e, decimal_step n h g) (sym (append_assoc (replicate (k - length (decimal (n / 10))) 0x30) (decimal (n / 10)) (digit n ∷ [])))

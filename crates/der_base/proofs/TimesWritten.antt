@@ -34,7 +34,7 @@ zone_is_z u v z Z h e = (refl, h)
 zone_is_z u v z (Offset a b) (hours, minutes, lh, lm, inl h) e = absurd (no_z (u ++ (codes "+" ++ two_digits hours)) (two_digits minutes) v (two_are minutes) (omega arith) (append_assoc u (codes "+" ++ two_digits hours) (two_digits minutes) ∙ ap (λ l. u ++ l) (sym h.2) ∙ e))
 zone_is_z u v z (Offset a b) (hours, minutes, lh, lm, inr h) e = absurd (no_z (u ++ (codes "-" ++ two_digits hours)) (two_digits minutes) v (two_are minutes) (omega arith) (append_assoc u (codes "-" ++ two_digits hours) (two_digits minutes) ∙ ap (λ l. u ++ l) (sym h.2) ∙ e))
 
-none_of_zero : without_last_zeros (at_least_digits 9 0) ≡ []
+pub none_of_zero : without_last_zeros (at_least_digits 9 0) ≡ []
 none_of_zero = rw (decimal_digit 0 (omega arith)) refl
 
 -- a fraction whose digits end in no 0 is written as it stands

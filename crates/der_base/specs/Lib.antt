@@ -4,7 +4,6 @@ pub mod Arcs
 pub mod Content
 pub mod Count
 pub mod Cut
-pub mod DerColumns
 pub mod Encoding
 pub mod Errors
 pub mod Fault
@@ -20,6 +19,7 @@ pub mod Octets
 pub mod OidArcs
 pub mod Oids
 pub mod Refusal
+pub mod Runs
 pub mod Same
 pub mod Spelling
 pub mod Text

@@ -1,7 +1,7 @@
 //! The content octets of the string types (X.690 8.23), as this project keeps them: the octets of
 //! a character set, or UTF-8, are a `&str`.
 ghost use Rattle.std.specs.Prelude.{◌≡◌, ◌↔◌, ◌<◌, IsTrue, All, MatchOption, false};
-ghost use Rattle.der_base.specs.Text.{is_numeric, is_printable, is_text_type, is_within, IsTextOf, IsUtf16};
+ghost use Rattle.der_base.specs.Text.{is_ia5, is_numeric, is_printable, is_text_type, is_within, IsTextOf, IsUtf16};
 
 use crate::header::Tag;
 use std::str;
@@ -19,7 +19,7 @@ pub fn read_text(tag: Tag, content: &[u8]) -> Option<&str>
     let is_in_set = match tag {
         Tag::NumericString => content.iter().all(|b| is_numeric(*b)),
         Tag::PrintableString => content.iter().all(|b| is_printable(*b)),
-        Tag::Ia5String => content.iter().all(|b| *b <= 0x7f),
+        Tag::Ia5String => is_ia5(content),
         Tag::VisibleString => content.iter().all(|b| matches!(*b, b' '..=b'~')),
         Tag::ObjectDescriptor
         | Tag::Utf8String
@@ -44,12 +44,30 @@ fn is_numeric(b: u8) -> bool
     matches!(b, b'0'..=b'9' | b' ')
 }
 
+/// Whether the octets are characters of an IA5String.
+fn is_ia5(content: &[u8]) -> bool
+    ensures { IsTrue result ↔ All (λ b. IsTrue (is_ia5 b)) content.now }
+{
+    content.is_ascii()
+}
+
+// Each character of a PrintableString stands at its own place, and a low line at every other place.
+static PRINTABLE: [u8; 256] = *b"\
+    ________________________________\
+    \x20______'()_+,-./0123456789:__=_?\
+    _ABCDEFGHIJKLMNOPQRSTUVWXYZ_____\
+    _abcdefghijklmnopqrstuvwxyz_____\
+    ________________________________\
+    ________________________________\
+    ________________________________\
+    ________________________________";
+
 /// Whether an octet is a character of a PrintableString.
 #[inline]
 fn is_printable(b: u8) -> bool
     ensures { result ≡ is_printable b }
 {
-    matches!(b, b'A'..=b'Z' | b'a'..=b'z' | b'0'..=b'9' | b' ' | b'\'' | b'(' | b')' | b'+' | b',' | b'-' | b'.' | b'/' | b':' | b'=' | b'?')
+    PRINTABLE[b as usize] != b'_'
 }
 
 /// The text of octets below 80.

@@ -1,20 +1,26 @@
 //! What a reader answers on the octets of a row.
 use crate::octets::{TextFault, octets};
-use der_parser::ber::{BerObject, BerObjectContent, Class, Tag};
+use der_parser::ber::{Any, BerObject, BerObjectContent, Class, Header, Length, Tag};
 use der_parser::error::{BerError, BerResult, DerConstraint, Err as Refused, Needed};
 use std::alloc::Global;
 
-/// What a row says that a reader answers.
+/// What a row says that a reader answers, with what it says of a value that is read.
 #[derive(Drop)]
-pub enum Answer {
-    /// An object of this content, and these octets behind it.
-    Read(Content, &'static str),
+pub enum Answer<T = Content> {
+    /// A value that is so, and these octets behind it.
+    Read(T, &'static str),
     /// So many octets are lacking.
     Incomplete(usize),
     /// This refusal, as an `Err::Error`.
     Refused(BerError),
     /// The refusal for a rule of DER.
     Broken(DerConstraint),
+}
+
+/// What a row says of a value.
+pub trait Describes<V> {
+    /// Whether the value is so.
+    fn describes(&self, alloc: Global, value: &V) -> Result<bool, TextFault>;
 }
 
 /// A content, its octets in hexadecimal text.
@@ -27,16 +33,32 @@ pub enum Content {
     Null,
     Sequence(&'static [Content]),
     Set(&'static [Content]),
+    /// So many SEQUENCEs one in the other, each the only item of the one around it; the innermost
+    /// has no items.
+    Nested(usize),
     /// The class and the number of the tag, and the octets.
     Unknown(Class, u32, &'static str),
 }
 
-impl Answer {
+/// The parts of a header: its class, whether it is constructed, its tag number, its length and its
+/// identifier octets.
+#[derive(Drop)]
+pub struct Parts(pub Class, pub bool, pub Tag, pub Length, pub &'static str);
+
+/// An element whose content isn't read: the parts of its header, and its content octets.
+#[derive(Drop)]
+pub struct Element(pub Parts, pub &'static str);
+
+impl<T> Answer<T> {
     /// Whether a reader answers so.
-    pub fn is_given_by(&self, alloc: Global, given: &BerResult<'_>) -> Result<bool, TextFault> {
+    pub fn is_given_by<V>(&self, alloc: Global, given: &BerResult<'_, V>) -> Result<bool, TextFault>
+    where
+        T: Describes<V>,
+    {
         match (self, given) {
-            (Answer::Read(content, behind), Ok((rest, object))) => {
-                Ok(content.is_in(alloc, object)? && octets(alloc, behind)?.as_slice() == *rest)
+            (Answer::Read(described, behind), Ok((rest, value))) => {
+                let rest_is = octets(alloc, behind)?.as_slice() == *rest;
+                Ok(rest_is && described.describes(alloc, value)?)
             }
             (Answer::Incomplete(n), Err(Refused::Incomplete(Needed::Size(m)))) => Ok(n == m),
             (Answer::Refused(e), Err(Refused::Error(f))) => Ok(e == f),
@@ -45,6 +67,12 @@ impl Answer {
             }
             _ => Ok(false),
         }
+    }
+}
+
+impl Describes<BerObject<'_>> for Content {
+    fn describes(&self, alloc: Global, value: &BerObject<'_>) -> Result<bool, TextFault> {
+        self.is_in(alloc, value)
     }
 }
 
@@ -62,6 +90,7 @@ impl Content {
             (Content::Null, BerObjectContent::Null) => Ok(true),
             (Content::Sequence(list), BerObjectContent::Sequence(items))
             | (Content::Set(list), BerObjectContent::Set(items)) => are_in(alloc, list, items),
+            (Content::Nested(count), _) => Ok(are_nested(*count, object)),
             (Content::Unknown(class, number, text), BerObjectContent::Unknown(any)) => {
                 let header_is = any.class() == *class && any.tag() == Tag(*number);
                 Ok(header_is && octets(alloc, text)?.as_slice() == any.bytes)
@@ -83,4 +112,44 @@ fn are_in(alloc: Global, list: &[Content], items: &[BerObject<'_>]) -> Result<bo
         }
     }
     Ok(true)
+}
+
+/// Whether the object is the outermost of so many SEQUENCEs one in the other.
+fn are_nested(count: usize, object: &BerObject<'_>) -> bool {
+    let innermost = (1..count).try_fold(object, |outer, _| only_item(outer));
+    match innermost {
+        Some(object) =>
+            matches!(&object.content, BerObjectContent::Sequence(items) if items.is_empty()),
+        None => false,
+    }
+}
+
+/// The item of a SEQUENCE of one.
+fn only_item<'a, 'b>(object: &'b BerObject<'a>) -> Option<&'b BerObject<'a>> {
+    match &object.content {
+        BerObjectContent::Sequence(items) if items.len() == 1 => items.first(),
+        _ => None,
+    }
+}
+
+impl Describes<Header<'_>> for Parts {
+    fn describes(&self, alloc: Global, value: &Header<'_>) -> Result<bool, TextFault> {
+        let Parts(class, constructed, tag, length, raw_tag) = self;
+        let identifier = octets(alloc, raw_tag)?;
+        Ok(
+            value.class() == *class
+                && value.constructed() == *constructed
+                && value.tag() == *tag
+                && value.length() == *length
+                && value.raw_tag() == Some(identifier.as_slice()),
+        )
+    }
+}
+
+impl Describes<Any<'_>> for Element {
+    fn describes(&self, alloc: Global, value: &Any<'_>) -> Result<bool, TextFault> {
+        let Element(parts, content) = self;
+        let content_is = octets(alloc, content)?.as_slice() == value.bytes;
+        Ok(content_is && parts.describes(alloc, &value.header)?)
+    }
 }

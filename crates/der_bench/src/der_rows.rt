@@ -1,26 +1,25 @@
 //! What is read by DER, and written again.
-use crate::answer::Answer;
 use crate::answer::Answer::{Broken, Incomplete, Read, Refused};
 use crate::answer::Content::{
     Boolean, EndOfContent, Integer, Null, OctetString, Sequence, Set, Unknown,
 };
+use crate::answer::Parts;
 use crate::octets::octets;
+use crate::reading::{DepthRow, Reader, Row, expect_answer, expect_answers, expect_header};
 use der_parser::ber::{Class, Length, Tag};
-use der_parser::der::parse_der_recursive;
 use der_parser::error::DerConstraint::{
     Constructed, IndefiniteLength, IntegerEmpty, IntegerLeadingFF, IntegerLeadingZeroes,
     InvalidBoolean, LengthNotMinimal,
 };
 use der_parser::error::Error::{
-    BerMaxDepth, ConstructExpected, Incomplete as CutShort, InvalidLength, InvalidTag, Unsupported,
+    BerMaxDepth, ConstructExpected, Incomplete as CutShort, InvalidLength, InvalidTag,
 };
 use der_parser::error::Needed;
-use der_parser::parse_der;
 use std::test::Fail;
 
 /// A name, octets, and what `parse_der` answers on them.
 #[rattlefmt::skip]
-const PARSE_DER: &[(&str, &str, Answer)] = &[
+pub const PARSE_DER: &[Row] = &[
     ("BOOLEAN false", "01 01 00", Read(Boolean(false), "")),
     ("BOOLEAN true", "01 01 ff 02 01 05 04 02 61 62", Read(Boolean(true), "02 01 05 04 02 61 62")),
     ("INTEGER", "02 01 05 04 02 61 62", Read(Integer("05"), "04 02 61 62")),
@@ -43,10 +42,14 @@ const PARSE_DER: &[(&str, &str, Answer)] = &[
     ("no octets", "", Incomplete(1)),
     ("no length", "30", Incomplete(1)),
     ("cut in a long identifier", "9f a2", Incomplete(1)),
+    ("cut in the largest tag number and one more", "1f 90 80 80 80", Incomplete(1)),
+    ("cut in a tag number of five octets", "1f 81 80 80 80 80", Incomplete(1)),
     ("no length octet of five", "02 85", Incomplete(5)),
     ("one length octet of five", "02 85 ff", Incomplete(4)),
     ("one length octet of two, a zero", "02 82 00", Incomplete(1)),
+    ("125 length octets of 126, all zero", "02 fe 00*125", Incomplete(1)),
     ("short content", "02 02 00", Incomplete(2)),
+    ("short content of five octets", "02 05 01", Incomplete(5)),
     ("short content of 128 octets", "04 81 80", Incomplete(128)),
     ("short content of the largest size", "04 84 ff ff ff ff", Incomplete(4294967295)),
     ("short content of a constructed BOOLEAN", "21 02 ff", Incomplete(2)),
@@ -54,8 +57,11 @@ const PARSE_DER: &[(&str, &str, Answer)] = &[
     ("short content of another class", "80 05 01", Incomplete(4)),
 
     ("a number below 31 in the long form", "1f 1e 00", Refused(InvalidTag)),
+    ("a number below 31 in the long form, nothing behind it", "1f 1e", Refused(InvalidTag)),
     ("a number that begins with zeros", "1f 80", Refused(InvalidTag)),
     ("a number of 2^32", "1f 90 80 80 80 80", Refused(InvalidTag)),
+    ("a number of 2^32, ended", "1f 90 80 80 80 00", Refused(InvalidTag)),
+    ("a number of 2^35", "1f 81 80 80 80 80 00", Refused(InvalidTag)),
     ("a number above 2^32", "9f a2 a2 a2 a2 a2 22 01 00", Refused(InvalidTag)),
     ("the reserved length", "02 ff 00", Refused(InvalidLength)),
     ("a length above 2^64-1", "02 8a ff ff ff ff ff ff ff ff ff ff 00", Refused(InvalidLength)),
@@ -63,7 +69,8 @@ const PARSE_DER: &[(&str, &str, Answer)] = &[
     ("a length above the largest size", "04 85 01 00 00 00 00", Refused(InvalidLength)),
     ("BOOLEAN of two octets", "01 02 00 00", Refused(InvalidLength)),
     ("a primitive SEQUENCE", "10 00", Refused(ConstructExpected)),
-    ("a type that isn't read yet", "0c 00", Refused(Unsupported)),
+    ("a primitive SET", "11 00", Refused(ConstructExpected)),
+    ("a constructed string", "2c 00", Broken(Constructed)),
     ("a constructed NULL", "25 00", Broken(Constructed)),
     ("NULL of an octet", "05 01 00", Refused(InvalidLength)),
     ("end of content of an octet", "00 01 00", Refused(InvalidLength)),
@@ -74,86 +81,71 @@ const PARSE_DER: &[(&str, &str, Answer)] = &[
     ("an item of an item", "30 05 30 03 01 01 7f", Broken(InvalidBoolean)),
     ("an item behind another", "30 06 01 01 ff 01 01 7f", Broken(InvalidBoolean)),
     ("the outer header before the item", "30 81 03 01 01 7f", Broken(LengthNotMinimal)),
+    ("an indefinite length before the item", "30 80 01 01 7f 00 00", Broken(IndefiniteLength)),
+    ("an indefinite length with a rest", "30 80 04 03 56 78 90 00 00 02 01 01", Broken(IndefiniteLength)),
 
     ("an indefinite length", "04 80", Broken(IndefiniteLength)),
     ("an indefinite length of a SEQUENCE", "30 80", Broken(IndefiniteLength)),
     ("a length below 128 in the long form", "02 81 01 05", Broken(LengthNotMinimal)),
     ("a length that begins with zeros", "02 82 00 ff", Broken(LengthNotMinimal)),
+    ("a length of 126 octets", "02 fe 00*125 01 05", Broken(LengthNotMinimal)),
     ("constructed INTEGER", "22 01 05", Broken(Constructed)),
+    ("constructed OCTET STRING", "24 03 04 01 61", Broken(Constructed)),
+    ("constructed BOOLEAN", "21 01 ff", Broken(Constructed)),
     ("BOOLEAN of 7f", "01 01 7f", Broken(InvalidBoolean)),
+    ("BOOLEAN of 7f in a SEQUENCE", "30 03 01 01 7f", Broken(InvalidBoolean)),
     ("INTEGER of no octets", "02 00", Broken(IntegerEmpty)),
     ("INTEGER that begins with nine bits 0", "02 02 00 7f", Broken(IntegerLeadingZeroes)),
     ("INTEGER that begins with nine bits 1", "02 02 ff 80", Broken(IntegerLeadingFF)),
 ];
 
-/// A depth, octets, and what `parse_der_recursive` answers on them to this depth.
+/// A name, a depth, octets, and what `parse_der_recursive` answers on them to this depth.
 #[rattlefmt::skip]
-const AT_DEPTH: &[(usize, &str, Answer)] = &[
-    (0, "", Refused(BerMaxDepth)),
-    (1, "", Incomplete(1)),
-    (0, "01 01 ff", Refused(BerMaxDepth)),
-    (1, "01 01 ff", Read(Boolean(true), "")),
-    (0, "02 81 01 05", Refused(BerMaxDepth)),
-    (1, "02 81 01 05", Broken(LengthNotMinimal)),
-    (1, "30 00", Read(Sequence(&[]), "")),
-    (1, "30 02 05 00", Refused(BerMaxDepth)),
-    (2, "30 02 05 00", Read(Sequence(&[Null]), "")),
-    (0, "03 02 00 80", Refused(BerMaxDepth)),
-    (3, "31 05 30 03 01 01 00", Read(Set(&[Sequence(&[Boolean(false)])]), "")),
-    (2, "31 05 30 03 01 01 00", Refused(BerMaxDepth)),
+pub const AT_DEPTH: &[DepthRow] = &[
+    ("no octets, no depth", 0, "", Refused(BerMaxDepth)),
+    ("no octets", 1, "", Incomplete(1)),
+    ("a leaf, no depth", 0, "01 01 ff", Refused(BerMaxDepth)),
+    ("a leaf", 1, "01 01 ff", Read(Boolean(true), "")),
+    ("a refused header, no depth", 0, "02 81 01 05", Refused(BerMaxDepth)),
+    ("a refused header", 1, "02 81 01 05", Broken(LengthNotMinimal)),
+    ("a list of nothing", 1, "30 00", Read(Sequence(&[]), "")),
+    ("a list of one, no depth for it", 1, "30 02 05 00", Refused(BerMaxDepth)),
+    ("a list of one", 2, "30 02 05 00", Read(Sequence(&[Null]), "")),
+    ("BIT STRING, no depth", 0, "03 02 00 80", Refused(BerMaxDepth)),
+    ("a list in a list", 3, "31 05 30 03 01 01 00", Read(Set(&[Sequence(&[Boolean(false)])]), "")),
+    ("a list in a list, no depth for its item", 2, "31 05 30 03 01 01 00", Refused(BerMaxDepth)),
 ];
 
-/// Octets, and the header of the object that `parse_der` reads: its class, whether it is
-/// constructed, its tag number, its length and its identifier octets.
+/// Octets, the place of an item in the object that `parse_der` reads, and of one in that, and the
+/// header there.
 #[rattlefmt::skip]
-const HEADERS: &[(&str, Class, bool, Tag, Length, &str)] = &[
-    ("01 01 ff", Class::Universal, false, Tag::Boolean, Length::Definite(1), "01"),
-    ("02 02 00 80", Class::Universal, false, Tag::Integer, Length::Definite(2), "02"),
-    ("04 00 ff", Class::Universal, false, Tag::OctetString, Length::Definite(0), "04"),
-    ("31 05 30 03 01 01 00", Class::Universal, true, Tag::Set, Length::Definite(5), "31"),
-    ("9f a2 22 01 00", Class::ContextSpecific, false, Tag(4386), Length::Definite(1), "9f a2 22"),
+const HEADERS: &[(&str, &[usize], Parts)] = &[
+    ("01 01 ff", &[], Parts(Class::Universal, false, Tag::Boolean, Length::Definite(1), "01")),
+    ("02 02 00 80", &[], Parts(Class::Universal, false, Tag::Integer, Length::Definite(2), "02")),
+    ("04 00 ff", &[], Parts(Class::Universal, false, Tag::OctetString, Length::Definite(0), "04")),
+    ("31 05 30 03 01 01 00", &[], Parts(Class::Universal, true, Tag::Set, Length::Definite(5), "31")),
+    ("31 05 30 03 01 01 00", &[0], Parts(Class::Universal, true, Tag::Sequence, Length::Definite(3), "30")),
+    ("31 05 30 03 01 01 00", &[0, 0], Parts(Class::Universal, false, Tag::Boolean, Length::Definite(1), "01")),
+    ("9f a2 22 01 00", &[], Parts(Class::ContextSpecific, false, Tag(4386), Length::Definite(1), "9f a2 22")),
 ];
 
 #[test]
 fn parse_der_answers(rt: HostRuntime) -> Result<(), Fail> {
-    for (name, text, answer) in PARSE_DER {
-        let input = octets(rt.alloc(), text)?;
-        let given = parse_der(rt.alloc(), &input);
-        assert!(rt;
-            answer.is_given_by(rt.alloc(), &given)?,
-            "{name}: {given:?}"
-        );
-    }
-    Ok(())
+    expect_answers(&rt, Reader::ParseDer, PARSE_DER)
 }
 
 #[test]
 fn parse_der_recursive_answers(rt: HostRuntime) -> Result<(), Fail> {
-    for (depth, text, answer) in AT_DEPTH {
-        let input = octets(rt.alloc(), text)?;
-        let given = parse_der_recursive(rt.alloc(), &input, *depth);
-        assert!(rt;
-            answer.is_given_by(rt.alloc(), &given)?,
-            "{text} to {depth}: {given:?}"
-        );
+    for (name, depth, text, answer) in AT_DEPTH {
+        expect_answer(&rt, Reader::ParseDerRecursive(*depth), name, text, answer)?;
     }
     Ok(())
 }
 
 #[test]
 fn parse_der_keeps_headers(rt: HostRuntime) -> Result<(), Fail> {
-    for (text, class, constructed, tag, length, raw_tag) in HEADERS {
-        let input = octets(rt.alloc(), text)?;
-        let raw_tag = octets(rt.alloc(), raw_tag)?;
-        let (_, object) = parse_der(rt.alloc(), &input)?;
-        assert_eq!(rt; object.header.class(), *class, "{text}");
-        assert_eq!(rt; object.header.constructed(), *constructed, "{text}");
-        assert_eq!(rt; object.header.tag(), *tag, "{text}");
-        assert_eq!(rt; object.header.length(), *length, "{text}");
-        assert!(rt;
-            object.header.raw_tag() == Some(raw_tag.as_slice()),
-            "{text}"
-        );
+    for (text, path, parts) in HEADERS {
+        expect_header(&rt, Reader::ParseDer, text, path, parts)?;
     }
     Ok(())
 }
@@ -164,7 +156,7 @@ fn to_vec_writes_what_was_read(rt: HostRuntime) -> Result<(), Fail> {
     for (name, text, answer) in PARSE_DER {
         if let Read(_, behind) = answer {
             let input = octets(rt.alloc(), text)?;
-            let (_, object) = parse_der(rt.alloc(), &input)?;
+            let (_, object) = Reader::ParseDer.read(rt.alloc(), &input)?;
             let mut written = object.to_vec(rt.alloc())?;
             written.extend_from_slice(&octets(rt.alloc(), behind)?)?;
             assert_eq!(rt; written.as_slice(), input.as_slice(), "{name}");

@@ -1,7 +1,9 @@
-//! Which headers are equal.
+//! Which headers are equal, and the other names of their types.
 use der_parser::ber::Class::{Private, Universal};
 use der_parser::ber::Length::{Definite, Indefinite};
+use der_parser::ber::compat::{BerClass, BerObjectHeader, BerSize, BerTag};
 use der_parser::ber::{Class, Header, Length, Tag};
+use der_parser::der::{DerClass, DerObjectHeader, DerTag};
 
 /// A class, whether it is constructed, a tag number and a length.
 type Parts = (Class, bool, u32, Length);
@@ -31,4 +33,12 @@ fn headers_are_compared(rt: HostRuntime) {
         let marked = right.with_raw_tag(Some(b"\x02"));
         assert_eq!(rt; left == marked, *equal, "{left:?}, {marked:?}");
     }
+}
+
+#[test]
+fn other_names_are_the_same_types(rt: HostRuntime) {
+    let by_ber = BerObjectHeader::new(BerClass::Private, true, BerTag(2), BerSize::Definite(1));
+    let by_der = DerObjectHeader::new(DerClass::Private, true, DerTag(2), Definite(1));
+    assert_eq!(rt; by_ber, header(&(Private, true, 2, Definite(1))));
+    assert_eq!(rt; by_der, by_ber);
 }

@@ -4,10 +4,20 @@
 #[cfg(test)]
 mod answer;
 #[cfg(test)]
+mod any_rows;
+#[cfg(test)]
+mod ber_rows;
+#[cfg(test)]
+mod count_rows;
+#[cfg(test)]
 mod der_rows;
 #[cfg(test)]
 mod header_rows;
 #[cfg(test)]
 mod octets;
+#[cfg(test)]
+mod reading;
+#[cfg(test)]
+mod round_trips;
 #[cfg(test)]
 mod text_rows;

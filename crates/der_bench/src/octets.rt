@@ -8,6 +8,7 @@ use std::test::Fail;
 #[derive(Debug, Drop)]
 pub enum TextFault {
     NoOctet,
+    NoCount,
     OutOfMemory,
 }
 
@@ -17,16 +18,32 @@ impl From<AllocFailed<u8>> for TextFault {
     }
 }
 
-/// The octets that a text spells: numbers of two digits, with a space between them.
+/// The octets that a text spells: numbers of two digits, with a space between them. With points in
+/// place of the spaces, and a star and a count behind them, they stand so many times: `30.80*2` is
+/// `30 80 30 80`.
 pub fn octets(alloc: Global, text: &str) -> Result<Vec<u8>, TextFault> {
     let mut octets = Vec::new(alloc);
-    for number in text.split_ascii_whitespace() {
+    for word in text.split_ascii_whitespace() {
+        let (numbers, count) = word.split_once('*').unwrap_or((word, "1"));
+        let Ok(count) = count.parse::<u16>() else {
+            return Err(TextFault::NoCount);
+        };
+        for _ in 0..count {
+            push_numbers(&mut octets, numbers)?;
+        }
+    }
+    Ok(octets)
+}
+
+/// Adds the octets of numbers with points between them.
+fn push_numbers(octets: &mut Vec<u8>, numbers: &str) -> Result<(), TextFault> {
+    for number in numbers.split('.') {
         let [high, low] = number.as_bytes() else {
             return Err(TextFault::NoOctet);
         };
         octets.push(digit(*high)? * 16 + digit(*low)?)?;
     }
-    Ok(octets)
+    Ok(())
 }
 
 /// The number of a hexadecimal digit.
@@ -45,7 +62,12 @@ fn octets_of_texts(rt: HostRuntime) -> Result<(), Fail> {
     assert!(rt; octets(rt.alloc(), "")?.is_empty());
     let four = octets(rt.alloc(), "00 1f a0 ff")?;
     assert_eq!(rt; four.as_slice(), b"\x00\x1f\xa0\xff".as_slice());
-    for wrong in ["0", "000", "0g", "1 2", "0A"] {
+    let repeated = octets(rt.alloc(), "01.02*2 03*3 04")?;
+    assert_eq!(rt;
+        repeated.as_slice(),
+        b"\x01\x02\x01\x02\x03\x03\x03\x04".as_slice()
+    );
+    for wrong in ["0", "000", "0g", "1 2", "0A", "00.", "00*", "*2", "00*x"] {
         assert!(rt; octets(rt.alloc(), wrong).is_err(), "{wrong}");
     }
     Ok(())

@@ -3,5 +3,6 @@ pub mod ContentsRead
 pub mod Items
 pub mod Leaves
 pub mod ReadingLaws
+pub mod Slices
 pub mod TypedLaws
 pub mod WantedNumbers

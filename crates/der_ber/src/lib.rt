@@ -2,7 +2,8 @@
 #![tactic(auto)]
 
 pub mod content;
-mod leaf;
+pub mod leaf;
+pub mod multi;
 pub mod parser;
 mod reader;
 pub mod typed;
@@ -10,6 +11,7 @@ pub mod typed;
 pub use content::{
     BerContent, BerContent2, ber_read_element_content_as, parse_ber_content, parse_ber_content2,
 };
+pub use multi::{BerContainer, parse_ber_container, parse_ber_slice};
 pub use parser::{
     parse_ber, parse_ber_any, parse_ber_any_r, parse_ber_any_with_tag_r, parse_ber_counted,
     parse_ber_recursive,

@@ -11,9 +11,8 @@ use Rattle.der_base.specs.declared.any.Any.{Any}
 use Rattle.der_base.specs.declared.header.Header.{Header}
 use Rattle.der_base.specs.declared.header.Length.TheVariants.{Definite}
 use Rattle.der_base.specs.Cut.{DerLacks}
-use Rattle.der_base.specs.DerColumns.{IsContentReadBy}
 use Rattle.der_base.specs.Encoding.{encoding, encodings, element, content_octets}
-use Rattle.der_base.specs.Fault.{DerHeaderRefuses, DerJoins, ItemRefuses}
+use Rattle.der_base.specs.Fault.{DerHeaderRefuses, DerJoins, DerShowsFault}
 use Rattle.der_base.specs.Headers.{BeginsWithDerHeader, DerHeaderLacks}
 use Rattle.der_base.specs.Header.{class_of, is_constructed, number_of, length_of}
 use Rattle.der_base.specs.Leaf.{is_list, is_mapped, IsDerLeaf}
@@ -33,12 +32,7 @@ use Rattle.der_object.specs.View.{tree, content_tree, trees}
 use Rattle.der_object.proofs.Joins.{der_joins_push}
 use Rattle.der_object.proofs.Marks.{sequence_each, set_each, leaf_each, leaf_keeps, each_push}
 use Rattle.der_object.proofs.Trees.{sequence_tree, set_tree}
-use Rattle.der_der.specs.DerLeaves.{is_built, IsBuiltType, ColumnRefuses, ReadsDerLeaf, IsDerContentOf}
-use Rattle.der_der.specs.DerReading.{IsBuilt, AreBuilt, ReadsDer, AreItems, IsContentOf, DerRefuses, DerIsCut, BeginsWithItems, ContentRefuses}
-
-built_push : (os : List BerObject) (o : BerObject) → AreBuilt (trees os) → IsBuilt (tree o) → AreBuilt (trees (os ++ o ∷ []))
-built_push [] o k h = (h, tt)
-built_push (x ∷ os) o k h = (k.0, built_push os o k.1 h)
+use Rattle.der_der.specs.DerReading.{ReadsDer, AreItems, IsDerContentOf, IsContentOf, DerIsCut, BeginsWithItems, ContentRefuses}
 
 leaf_valid : (c : Class) (p : Bool) (t : ℕ) (x : Content) → c ≡ Universal → p ≡ false → IsDerLeaf t x → IsDerContent c p t x
 leaf_valid c p t end_of_content u h k = inl (u, h, k)
@@ -61,46 +55,31 @@ leaf_valid c p t (present o) u h k = absurd k.0
 leaf_valid c p t (tagged q m o) u h k = absurd k.0
 leaf_valid c p t (unknown q m n v) u h k = absurd k.0
 
-leaf_built : (t : ℕ) (x : Content) → IsDerLeaf t x → IsContentReadBy IsBuiltType x
-leaf_built t (sequence l) k = absurd k.0
-leaf_built t (set l) k = absurd k.0
-leaf_built t _ k = tt
-
 leaf_height : (t : ℕ) (x : Content) → IsDerLeaf t x → content_height x ≡ 1
 leaf_height t (sequence l) k = absurd k.0
 leaf_height t (set l) k = absurd k.0
 leaf_height t _ k = refl
-
-leaf_tree : (w : List ℕ) (c : Class) (p : Bool) (t : ℕ) (x : Content) (d : ℕ) → c ≡ Universal → 1 ≤ d → IsTrue (is_built t) → ReadsDerLeaf p t w x → IsDerContentOf w c p t x d
-leaf_tree w c p t x d u h b r = record {
-  octets = r.octets;
-  valid = leaf_valid c p t x u r.primitive r.leaf;
-  built = ((λ k m n. b), leaf_built t x r.leaf);
-  depth = omega (arith, leaf_height t x r.leaf, h);
-}
 
 -- the items in front of rest
 pub record Read (w rest : List ℕ) (os : List BerObject) (d : ℕ) : Type 0 where
   pub read : List ℕ
   pub parts : w ≡ read ++ rest
   pub joins : DerJoins read (trees os) d
-  pub built : AreBuilt (trees os)
   pub marked : All HasShortestMarks os
 
 pub read_none : (w : List ℕ) (d : ℕ) → Read w w [] d
-read_none w d = record { read = []; parts = refl; joins = refl; built = tt; marked = All-nil HasShortestMarks }
+read_none w d = record { read = []; parts = refl; joins = refl; marked = All-nil HasShortestMarks }
 
 pub read_more : (w rest after : List ℕ) (os : List BerObject) (o : BerObject) (d : ℕ) → Read w rest os d → ReadsDer d rest o after → Read w after (os ++ o ∷ []) d
 read_more w rest after os o d h k = record {
   read = h.read ++ k.spelling;
   parts = h.parts ∙ ap (λ v. h.read ++ v) k.octets ∙ sym (append_assoc h.read k.spelling after);
   joins = der_joins_push os h.read k.spelling o d h.joins k.spells;
-  built = built_push os o h.built k.built;
   marked = each_push HasShortestMark os o h.marked k.marked;
 }
 
 pub read_all : (w rest : List ℕ) (os : List BerObject) (d : ℕ) → Read w rest os d → length rest ≡ 0 → AreItems w os d
-read_all w [] os d h z = record { joins = subst (λ v. DerJoins v (trees os) d) (sym (h.parts ∙ append-nil h.read)) h.joins; built = h.built; marked = h.marked }
+read_all w [] os d h z = record { joins = subst (λ v. DerJoins v (trees os) d) (sym (h.parts ∙ append-nil h.read)) h.joins; marked = h.marked }
 read_all w (b ∷ rest) os d h z = absurd (omega arith)
 
 -- joined items are the encodings of a valid list
@@ -122,13 +101,13 @@ joins_encoded (nodes o l) w d (b, rest, e, h, j) =
 pub sequence_content : (w : List ℕ) (h : Header) (v : Vec BerObject Global) (d : ℕ) → class_of h ≡ Universal → is_constructed h ≡ true → number_of h ≡ 16 → 1 ≤ d → AreItems w v.items (d - 1) → IsContentOf w h (Sequence v) d
 sequence_content w h v d ec ep et le j =
     let q = joins_encoded (trees v.items) w (d - 1) j.joins in
-    let k : IsDerContentOf w (class_of h) (is_constructed h) (number_of h) (sequence (trees v.items)) d = record { octets = q.octets; valid = (ec, et, ep, q.valid); built = ((λ u m n. absurd (let z = sym (ap is_list et) ∙ n in cc)), j.built); depth = omega (arith, q.depth) } in
+    let k : IsDerContentOf w (class_of h) (is_constructed h) (number_of h) (sequence (trees v.items)) d = record { octets = q.octets; valid = (ec, et, ep, q.valid); depth = omega (arith, q.depth) } in
     record { content = subst (λ x. IsDerContentOf w (class_of h) (is_constructed h) (number_of h) x d) (sym (sequence_tree v)) k; kept = tt; marked = sequence_each HasShortestMark v j.marked }
 
 pub set_content : (w : List ℕ) (h : Header) (v : Vec BerObject Global) (d : ℕ) → class_of h ≡ Universal → is_constructed h ≡ true → number_of h ≡ 17 → 1 ≤ d → AreItems w v.items (d - 1) → IsContentOf w h (Set v) d
 set_content w h v d ec ep et le j =
     let q = joins_encoded (trees v.items) w (d - 1) j.joins in
-    let k : IsDerContentOf w (class_of h) (is_constructed h) (number_of h) (set (trees v.items)) d = record { octets = q.octets; valid = (ec, et, ep, q.valid); built = ((λ u m n. absurd (let z = sym (ap is_list et) ∙ n in cc)), j.built); depth = omega (arith, q.depth) } in
+    let k : IsDerContentOf w (class_of h) (is_constructed h) (number_of h) (set (trees v.items)) d = record { octets = q.octets; valid = (ec, et, ep, q.valid); depth = omega (arith, q.depth) } in
     record { content = subst (λ x. IsDerContentOf w (class_of h) (is_constructed h) (number_of h) x d) (sym (set_tree v)) k; kept = tt; marked = set_each HasShortestMark v j.marked }
 
 pub raw_content : (w : List ℕ) (h : Header) (a : Any) (d : ℕ) → 1 ≤ d → a.header ≡ h → a.bytes.now ≡ w → (class_of h ≡ Universal → is_mapped (number_of h) ≡ false) → IsContentOf w h (Unknown a) d
@@ -136,18 +115,21 @@ raw_content w h a d le q e k = record {
   content = record {
     octets = sym e;
     valid = inr (ap class_of q, ap is_constructed q, ap number_of q, refl, k);
-    built = ((λ u m n. absurd (false≢true (sym (k u) ∙ m))), tt);
     depth = le;
   };
   kept = q;
   marked = tt;
 }
 
-pub leaf_content : (w : List ℕ) (h : Header) (x : BerObjectContent) (d : ℕ) → class_of h ≡ Universal → 1 ≤ d → IsTrue (is_built (number_of h)) → ReadsDerLeaf (is_constructed h) (number_of h) w (content_tree x) → IsContentOf w h x d
-leaf_content w h x d u le b r = record {
-  content = leaf_tree w (class_of h) (is_constructed h) (number_of h) (content_tree x) d u le b r;
-  kept = leaf_keeps h false (number_of h) (content_octets (content_tree x)) x r.leaf.0;
-  marked = leaf_each HasShortestMark false (number_of h) (content_octets (content_tree x)) x r.leaf.0;
+pub leaf_content : (w : List ℕ) (h : Header) (x : BerObjectContent) (d : ℕ) → class_of h ≡ Universal → 1 ≤ d → is_constructed h ≡ false → IsDerLeaf (number_of h) (content_tree x) → w ≡ content_octets (content_tree x) → IsContentOf w h x d
+leaf_content w h x d u le p r e = record {
+  content = record {
+    octets = e;
+    valid = leaf_valid (class_of h) (is_constructed h) (number_of h) (content_tree x) u p r;
+    depth = omega (arith, leaf_height (number_of h) (content_tree x) r, le);
+  };
+  kept = leaf_keeps h false (number_of h) (content_octets (content_tree x)) x r.0;
+  marked = leaf_each HasShortestMark false (number_of h) (content_octets (content_tree x)) x r.0;
 }
 
 -- an element of a header and a content
@@ -166,17 +148,16 @@ element_read i rest w r o n d b l raw s e z k =
       spelling = element c p t v;
       octets = f;
       spells = record { encoded = sym (valid_element c p t x k.content.valid); valid = (b.number, k.content.valid); depth = k.content.depth; size = omega (arith, m) };
-      built = k.content.built;
       marked = (record { raw_tag = raw; length = l ∙ ap Definite m; kept = k.kept }, k.marked);
     }
 
 -- a refusal of the content, at the depth of the element
 pub content_refused : (d : ℕ) (i rest w r : List ℕ) (c : Class) (p : Bool) (t n : ℕ) (e : Refusal) → 1 ≤ d → BeginsWithDerHeader i c p t n rest → n ≤ max_object_size → rest ≡ w ++ r → length w ≡ n
-    → ContentRefuses c p t w d e → DerRefuses d i e
+    → ContentRefuses c p t w d e → DerShowsFault d i e
 content_refused zero i rest w r c p t n e h b s o z q = absurd (omega arith)
 content_refused (suc d) i rest w r c p t n e h b s o z (u, m, q) =
     let k : suc d - 1 ≡ d = omega arith in
-    behind_shows ColumnRefuses IsBuiltType d i rest c p t n e b (inr (s, u, m, w, r, o, z, rw k at q))
+    behind_shows d i rest c p t n e b (inr (s, u, m, w, r, o, z, rw k at q))
 
 universal_or_not : (c : Class) → (c ≡ Universal) ⊎ (c ≢ Universal)
 universal_or_not Universal = inl refl
@@ -185,24 +166,24 @@ universal_or_not ContextSpecific = inr (λ e. cc)
 universal_or_not Private = inr (λ e. cc)
 
 -- refusals and cuts of a header, at a depth of at least 1
-pub header_refused : (d : ℕ) (i : List ℕ) (e : Refusal) → 1 ≤ d → DerHeaderRefuses i e → DerRefuses d i e
+pub header_refused : (d : ℕ) (i : List ℕ) (e : Refusal) → 1 ≤ d → DerHeaderRefuses i e → DerShowsFault d i e
 header_refused zero i e h r = absurd (omega arith)
-header_refused (suc d) i e h r = header_shows ColumnRefuses IsBuiltType d i e r
+header_refused (suc d) i e h r = header_shows d i e r
 
 pub header_cut : (d : ℕ) (i : List ℕ) (n : ℕ) → 1 ≤ d → DerHeaderLacks i n → DerIsCut d i n
 header_cut zero i n h l = absurd (omega arith)
-header_cut (suc d) i n h l = let q = der_header_cut i n l in (q.0, q.1, λ e r. header_cut_shows_nothing ColumnRefuses IsBuiltType d i n e l r)
+header_cut (suc d) i n h l = let q = der_header_cut i n l in (q.0, q.1, λ e r. header_cut_shows_nothing d i n e l r)
 
-pub size_refused : (d : ℕ) (i rest : List ℕ) (c : Class) (p : Bool) (t n : ℕ) → 1 ≤ d → BeginsWithDerHeader i c p t n rest → max_object_size < n → DerRefuses d i invalid_length
+pub size_refused : (d : ℕ) (i rest : List ℕ) (c : Class) (p : Bool) (t n : ℕ) → 1 ≤ d → BeginsWithDerHeader i c p t n rest → max_object_size < n → DerShowsFault d i invalid_length
 size_refused zero i rest c p t n h b s = absurd (omega arith)
-size_refused (suc d) i rest c p t n h b s = size_shows ColumnRefuses IsBuiltType d i rest c p t n b s
+size_refused (suc d) i rest c p t n h b s = size_shows d i rest c p t n b s
 
 pub content_cut : (d : ℕ) (i rest : List ℕ) (c : Class) (p : Bool) (t m n : ℕ) → 1 ≤ d → BeginsWithDerHeader i c p t m rest → m ≤ max_object_size → length rest < m
     → (c ≡ Universal → n ≡ m) → (c ≢ Universal → length rest + n ≡ m) → DerIsCut d i n
 content_cut zero i rest c p t m n h b s l u o = absurd (omega arith)
 content_cut (suc d) i rest c p t m n h b s l u o =
     let q = der_content_cut i rest c p t m b l in
-    (q.0, lacks (universal_or_not c), λ e r. content_cut_shows_nothing ColumnRefuses IsBuiltType d i rest c p t m e b l s r)
+    (q.0, lacks (universal_or_not c), λ e r. content_cut_shows_nothing d i rest c p t m e b l s r)
   where
     lacks : (c ≡ Universal) ⊎ (c ≢ Universal) → DerLacks i n
     lacks (inl k) = rw (u k) ((der_content_cut i rest c p t m b l).1.0 k)

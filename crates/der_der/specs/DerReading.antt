@@ -3,42 +3,29 @@ use Rattle.std.specs.Prelude.{◌≡◌, ◌≢◌, ℕ, ◌-◌, ◌≤◌, Boo
 use Rattle.der_base.specs.declared.header.Class.{Class}
 use Rattle.der_base.specs.declared.header.Class.TheVariants.{Universal}
 use Rattle.der_base.specs.Cut.{IsCut, DerLacks}
-use Rattle.der_base.specs.DerColumns.{IsReadBy, AreReadBy, ShowsBy, ShowsInsideBy}
-use Rattle.der_base.specs.Fault.{DerJoins, ItemRefuses}
+use Rattle.der_base.specs.Encoding.{content_octets}
+use Rattle.der_base.specs.Fault.{DerJoins, ItemRefuses, DerShowsFault, DerShowsInside}
 use Rattle.der_base.specs.declared.header.Header.{Header}
 use Rattle.der_base.specs.Header.{class_of, is_constructed, number_of}
 use Rattle.der_base.specs.Headers.{BeginsWithDerHeader}
 use Rattle.der_base.specs.Leaf.{is_list, is_mapped}
 use Rattle.der_base.specs.Refusal.{Refusal}
-use Rattle.der_base.specs.Spelling.{DerSpells}
-use Rattle.der_base.specs.Tree.{Node, Nodes}
+use Rattle.der_base.specs.Spelling.{DerSpells, IsDerContent}
+use Rattle.der_base.specs.Tree.{Content, Nodes, content_height}
 use Rattle.der_object.specs.declared.object.BerObject.{BerObject}
 use Rattle.der_object.specs.declared.object.BerObjectContent.{BerObjectContent}
 use Rattle.der_object.specs.Marks.{EachInside, KeepsHeader, HasShortestMark, HasShortestMarks}
 use Rattle.der_object.specs.View.{tree, content_tree, trees}
-use Rattle.der_der.specs.DerLeaves.{IsBuiltType, ColumnRefuses, IsDerContentOf}
-
--- each leaf of the tree is of a type that is read
-abbrev pub IsBuilt : Node → Type 0
-IsBuilt o = IsReadBy IsBuiltType o
-
-abbrev pub AreBuilt : Nodes → Type 0
-AreBuilt l = AreReadBy IsBuiltType l
-
--- a front of i shows the refusal, to depth d: `DerShowsFault`, with the types that are read so far
-abbrev pub DerRefuses : ℕ → List ℕ → Refusal → Type 0
-DerRefuses d i e = ShowsBy ColumnRefuses IsBuiltType d i e
 
 -- i is a proper front of an element, lacks n octets, and shows no refusal
 abbrev pub DerIsCut : ℕ → List ℕ → ℕ → Type 0
-DerIsCut d i n = IsCut i × DerLacks i n × ((e : Refusal) → ¬ DerRefuses d i e)
+DerIsCut d i n = IsCut i × DerLacks i n × ((e : Refusal) → ¬ DerShowsFault d i e)
 
 -- i begins with the DER spelling of the object to depth d, and rest follows
 pub record ReadsDer (d : ℕ) (i : List ℕ) (o : BerObject) (rest : List ℕ) : Type 0 where
   pub spelling : List ℕ
   pub octets : i ≡ spelling ++ rest
   pub spells : DerSpells spelling (tree o) d
-  pub built : IsBuilt (tree o)
   -- each header in it has the length and the identifier octets that are there
   pub marked : HasShortestMarks o
 
@@ -52,19 +39,24 @@ NeedsMemory d i = (2 ≤ d) × BeginsWithItems i
 
 -- content octets behind a header of this class, bit and number show the refusal, to a depth of at least 1
 abbrev pub ContentRefuses : Class → Bool → ℕ → List ℕ → ℕ → Refusal → Type 0
-ContentRefuses c p t w d e = (c ≡ Universal) × IsTrue (is_mapped t) × ShowsInsideBy ColumnRefuses IsBuiltType (d - 1) p t w e
+ContentRefuses c p t w d e = (c ≡ Universal) × IsTrue (is_mapped t) × DerShowsInside (d - 1) p t w e
 
 -- w joins items to depth d, and shows the refusal where the next one should begin
 abbrev pub ItemsRefuse : List ℕ → ℕ → Refusal → Type 0
-ItemsRefuse w d e = (l : Nodes) × (u r : List ℕ) × (w ≡ u ++ r) × DerJoins u l d × AreBuilt l × ItemRefuses (DerRefuses d) DerLacks r e
+ItemsRefuse w d e = (l : Nodes) × (u r : List ℕ) × (w ≡ u ++ r) × DerJoins u l d × ItemRefuses (DerShowsFault d) DerLacks r e
 
 -- the octets w join the objects, to depth d
 pub record AreItems (w : List ℕ) (os : List BerObject) (d : ℕ) : Type 0 where
   pub joins : DerJoins w (trees os) d
-  pub built : AreBuilt (trees os)
   pub marked : All HasShortestMarks os
 
--- the octets w are the content of an object with this header, to depth d
+-- the octets w are the DER content octets of x in an element of this class, bit and number, to depth d
+pub record IsDerContentOf (w : List ℕ) (c : Class) (p : Bool) (t : ℕ) (x : Content) (d : ℕ) : Type 0 where
+  pub octets : w ≡ content_octets x
+  pub valid : IsDerContent c p t x
+  pub depth : content_height x ≤ d
+
+-- they are the content of an object with this header
 pub record IsContentOf (w : List ℕ) (h : Header) (x : BerObjectContent) (d : ℕ) : Type 0 where
   pub content : IsDerContentOf w (class_of h) (is_constructed h) (number_of h) (content_tree x) d
   pub kept : KeepsHeader h x

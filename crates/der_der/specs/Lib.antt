@@ -1,2 +1,2 @@
-pub mod DerLeaves
+pub mod DerForms
 pub mod DerReading

@@ -1,18 +1,21 @@
-//! The content octets of the universal types that are no list, by DER (X.690 8.2 to 8.25, and 11).
-ghost use Rattle.std.specs.Prelude.{◌≡◌, false, IsTrue, MatchResult};
-ghost use Rattle.der_base.specs.Leaf.{is_list, is_mapped};
-ghost use Rattle.der_base.specs.LeafRefusal.{DerLeafRefuses};
-ghost use Rattle.der_base.specs.Refusal.{refusal};
-ghost use Rattle.der_base.specs.Tree.{boolean, integer};
+//! The content octets of the universal types that are no list, by DER (X.690 8.2 to 8.25, and 11):
+//! what DER asks beside the rules of BER.
+ghost use Rattle.std.specs.Prelude.{◌≡◌, ◌≢◌, ◌≤◌, ◌⊎◌, ◌↔◌, false, IsTrue, MatchResult, [], ◌∷◌};
+ghost use Rattle.der_base.specs.Encoding.{content_octets};
+ghost use Rattle.der_base.specs.Leaf.{is_list, is_mapped, is_time, IsDerLeaf, HasZeroUnusedBits};
+ghost use Rattle.der_base.specs.LeafRefusal.{DerLeafRefuses, IsFirstRefusal, bit_string_tests, der_primitive_tests};
+ghost use Rattle.der_base.specs.Refusal.{refusal, invalid_length};
 ghost use Rattle.der_object.specs.View.{content_tree};
-ghost use Rattle.der_der.specs.DerLeaves.{is_built, ReadsDerLeaf, ColumnRefuses};
+ghost use Rattle.der_der.specs.DerForms.{HasUnusedZeros, IsInForm};
 
 use der_base::error::{BerError, DerConstraint};
 use der_base::header::Tag;
-use der_object::object::BerObjectContent;
+use der_base::integer::check_fewest_octets;
+use der_base::time::read_der_time;
+use der_ber::leaf::read_leaf as read_ber_leaf;
+use der_object::BerObjectContent;
 
 /// Reads the content octets of a universal type that is no list, which DER wants primitive.
-/// A type that isn't read yet is Unsupported.
 pub fn read_leaf<'a>(
     constructed: bool,
     tag: Tag,
@@ -21,47 +24,91 @@ pub fn read_leaf<'a>(
     requires mapped { IsTrue (is_mapped tag.0) }
     requires no_list { is_list tag.0 ≡ false }
     ensures { MatchResult result
-        (λ x. IsTrue (is_built tag.0) × ReadsDerLeaf constructed tag.0 content.now (content_tree x))
-        (λ e. ColumnRefuses constructed tag.0 content.now (refusal e)) }
+        (λ x. (constructed ≡ false) × IsDerLeaf tag.0 (content_tree x) × (content.now ≡ content_octets (content_tree x)))
+        (λ e. DerLeafRefuses constructed tag.0 content.now (refusal e)) }
 {
     if constructed {
         return Err(BerError::DerConstraintFailed(DerConstraint::Constructed));
     }
     match tag {
-        Tag::Boolean => Ok(BerObjectContent::Boolean(read_boolean(content)?)),
-        Tag::Integer => Ok(BerObjectContent::Integer(read_integer(content)?)),
-        Tag::OctetString => Ok(BerObjectContent::OctetString(content)),
-        Tag::EndOfContent if content.is_empty() => Ok(BerObjectContent::EndOfContent),
-        Tag::Null if content.is_empty() => Ok(BerObjectContent::Null),
-        Tag::EndOfContent | Tag::Null => Err(BerError::InvalidLength),
-        _ => Err(BerError::Unsupported),
+        Tag::UtcTime => Ok(BerObjectContent::UTCTime(read_der_time(tag, content)?)),
+        Tag::GeneralizedTime => Ok(BerObjectContent::GeneralizedTime(read_der_time(tag, content)?)),
+        _ => {
+            check_form(tag, content)?;
+            Ok(read_ber_leaf(false, tag, content)?)
+        }
+    }
+}
+
+/// The tests that DER puts in front of those of BER, of a type that is no time.
+fn check_form(tag: Tag, content: &[u8]) -> Result<(), BerError>
+    requires mapped { IsTrue (is_mapped tag.0) }
+    requires no_list { is_list tag.0 ≡ false }
+    requires no_time { is_time tag.0 ≡ false }
+    ensures { MatchResult result
+        (λ _. IsInForm tag.0 content.now)
+        (λ e. IsFirstRefusal (der_primitive_tests tag.0 content.now) (refusal e)) }
+{
+    match tag {
+        Tag::EndOfContent | Tag::Null => check_empty(content),
+        Tag::Boolean => check_boolean(content),
+        Tag::Integer | Tag::Enumerated => check_fewest_octets(content),
+        Tag::BitString => check_bit_string(content),
+        _ => Ok(()),
+    }
+}
+
+/// An end of content or a NULL has no octets (8.1.5, 8.8.2).
+fn check_empty(content: &[u8]) -> Result<(), BerError>
+    ensures { MatchResult result (λ _. content.now ≡ []) (λ e. (content.now ≢ []) × (refusal e ≡ invalid_length)) }
+{
+    if content.is_empty() {
+        Ok(())
+    } else {
+        Err(BerError::InvalidLength)
     }
 }
 
 /// A BOOLEAN is one octet, 00 or ff (8.2, 11.1).
-fn read_boolean(content: &[u8]) -> Result<bool, BerError>
-    ensures { MatchResult result (λ v. ReadsDerLeaf false 1 content.now (boolean v)) (λ e. DerLeafRefuses false 1 content.now (refusal e)) }
+fn check_boolean(content: &[u8]) -> Result<(), BerError>
+    ensures { MatchResult result
+        (λ _. (content.now ≡ 0 ∷ []) ⊎ (content.now ≡ 255 ∷ []))
+        (λ e. IsFirstRefusal (der_primitive_tests 1 content.now) (refusal e)) }
 {
     match content {
-        [0x00] => Ok(false),
-        [0xff] => Ok(true),
+        [0x00] | [0xff] => Ok(()),
         [_] => Err(BerError::DerConstraintFailed(DerConstraint::InvalidBoolean)),
         _ => Err(BerError::InvalidLength),
     }
 }
 
-/// An INTEGER has an octet, and its first nine bits aren't all alike (8.3.2).
-fn read_integer(content: &[u8]) -> Result<&[u8], BerError>
-    ensures { MatchResult result (λ v. ReadsDerLeaf false 2 content.now (integer v.now)) (λ e. DerLeafRefuses false 2 content.now (refusal e)) }
+/// The unused bits of a BIT STRING are 0, at most seven, and none where there is no octet (8.6.2,
+/// 11.2.1).
+fn check_bit_string(content: &[u8]) -> Result<(), BerError>
+    ensures { MatchResult result
+        (λ _. HasUnusedZeros content.now)
+        (λ e. IsFirstRefusal (bit_string_tests content.now) (refusal e)) }
 {
-    match content {
-        [] => Err(BerError::DerConstraintFailed(DerConstraint::IntegerEmpty)),
-        [0x00, second, ..] if *second < 0x80 => Err(BerError::DerConstraintFailed(
-            DerConstraint::IntegerLeadingZeroes,
-        )),
-        [0xff, second, ..] if *second >= 0x80 => Err(BerError::DerConstraintFailed(
-            DerConstraint::IntegerLeadingFF,
-        )),
-        _ => Ok(content),
+    let [unused, octets @ ..] = content else {
+        return Err(BerError::InvalidLength);
+    };
+    if *unused > 7 {
+        return Err(BerError::invalid_value(Tag::BitString, "More than 7 unused bits"));
+    }
+    if !are_last_bits_zero(*unused, octets) {
+        return Err(BerError::DerConstraintFailed(DerConstraint::UnusedBitsNotZero));
+    }
+    Ok(())
+}
+
+/// Whether so many last bits of the last octet are 0; where there is no octet, whether there are
+/// none.
+fn are_last_bits_zero(count: u8, octets: &[u8]) -> bool
+    requires { count ≤ 7 }
+    ensures { IsTrue result ↔ HasZeroUnusedBits count octets.now }
+{
+    match octets {
+        [] => count == 0,
+        [.., last] => *last % (1 << count) == 0,
     }
 }

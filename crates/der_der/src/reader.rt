@@ -3,12 +3,13 @@
 ghost use Rattle.std.specs.Prelude.{◌≡◌, ◌≢◌, ◌+◌, ◌-◌, ◌<◌, ◌≤◌, ℕ, List, [], ◌++◌, IfOk, IsOkAnd, IsTrue, length, true};
 ghost use Rattle.der_base.specs.declared.header.Class.{Class};
 ghost use Rattle.der_base.specs.Answer.{MatchAnswer, AnswersError, AnswersIncomplete};
+ghost use Rattle.der_base.specs.Fault.{DerShowsFault};
 ghost use Rattle.der_base.specs.Header.{class_of, is_constructed, number_of};
 ghost use Rattle.der_base.specs.Leaf.{is_list};
 ghost use Rattle.der_base.specs.Refusal.{Refusal};
 ghost use Rattle.der_base.specs.Spelling.{DerSpells};
 ghost use Rattle.der_base.specs.Tree.{Node};
-ghost use Rattle.der_der.specs.DerReading.{ReadsDer, AreItems, IsContentOf, DerRefuses, DerIsCut, NeedsMemory, ContentRefuses, ItemsRefuse};
+ghost use Rattle.der_der.specs.DerReading.{ReadsDer, AreItems, IsContentOf, DerIsCut, NeedsMemory, ContentRefuses, ItemsRefuse};
 
 use crate::leaf::read_leaf;
 use der_base::MAX_OBJECT_SIZE;
@@ -26,7 +27,7 @@ pub fn read_element<'a>(
     max_depth: usize,
     count: &mut HeaderCount,
 ) -> BerResult<'a>
-    ensures found { MatchAnswer result (λ x. ReadsDer max_depth i.now x.1 x.0.now) (DerRefuses max_depth i.now) (DerIsCut max_depth i.now) (NeedsMemory max_depth i.now) }
+    ensures found { MatchAnswer result (λ x. ReadsDer max_depth i.now x.1 x.0.now) (DerShowsFault max_depth i.now) (DerIsCut max_depth i.now) (NeedsMemory max_depth i.now) }
     ensures shorter { IfOk result (λ x. length x.0.now < length i.now) }
 {
     if max_depth == 0 {

@@ -1,5 +1,4 @@
 -- The laws of the definitions and of answers, under this name.
-pub use Rattle.der_base.proofs.AllTypesRead
 pub use Rattle.der_base.proofs.Answering
 pub use Rattle.der_base.proofs.BerFaults
 pub use Rattle.der_base.proofs.DerFaults

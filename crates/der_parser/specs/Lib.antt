@@ -4,7 +4,6 @@ pub use Rattle.der_base.specs.Any
 pub use Rattle.der_base.specs.Arcs
 pub use Rattle.der_base.specs.Count
 pub use Rattle.der_base.specs.Cut
-pub use Rattle.der_base.specs.DerColumns
 pub use Rattle.der_base.specs.Encoding
 pub use Rattle.der_base.specs.Errors
 pub use Rattle.der_base.specs.Fault
@@ -14,15 +13,17 @@ pub use Rattle.der_base.specs.Headers
 pub use Rattle.der_base.specs.Leaf
 pub use Rattle.der_base.specs.LeafRefusal
 pub use Rattle.der_base.specs.Octets
+pub use Rattle.der_base.specs.OidArcs
+pub use Rattle.der_base.specs.Oids
 pub use Rattle.der_base.specs.Refusal
 pub use Rattle.der_base.specs.Spelling
 pub use Rattle.der_base.specs.Text
 pub use Rattle.der_base.specs.Time
 pub use Rattle.der_base.specs.Tree
+pub use Rattle.der_object.specs.Bits
 pub use Rattle.der_object.specs.Marks
 pub use Rattle.der_object.specs.Objects
 pub use Rattle.der_object.specs.Room
 pub use Rattle.der_object.specs.View
 pub use Rattle.der_ber.specs.BerReading
-pub use Rattle.der_der.specs.DerLeaves
 pub use Rattle.der_der.specs.DerReading

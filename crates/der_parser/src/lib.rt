@@ -3,6 +3,7 @@
 #![tactic(auto)]
 
 pub use der_base::error::IResult;
+pub use der_base::oid::Oid;
 pub use der_ber::parse_ber;
 pub use der_der::parse_der;
 
@@ -20,6 +21,7 @@ pub mod ber {
     pub use der_base::header::{
         Class, Header, HeaderCount, Length, Tag, ber_header_counted, ber_read_element_header,
     };
+    pub use der_base::time::{ASN1DateTime, ASN1TimeZone, TimeText};
     pub use der_base::{MAX_OBJECT_SIZE, MAX_RECURSION};
     pub use der_ber::{
         BerContent, BerContent2, ber_read_element_content_as, parse_ber, parse_ber_any,
@@ -33,7 +35,7 @@ pub mod ber {
         parse_ber_utf8string, parse_ber_videotexstring, parse_ber_visiblestring,
         parse_ber_with_tag,
     };
-    pub use der_object::{BerObject, BerObjectContent};
+    pub use der_object::{BerObject, BerObjectContent, BitStringObject};
 
     /// Names that earlier versions of the crate had.
     pub mod compat {
@@ -56,4 +58,5 @@ pub mod der {
 /// Object identifiers.
 pub mod oid {
     pub use der_base::error::OidParseError;
+    pub use der_base::oid::{Oid, OidIter};
 }

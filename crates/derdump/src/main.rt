@@ -7,6 +7,8 @@ mod input;
 mod rules;
 mod run;
 #[cfg(test)]
+mod real_inputs;
+#[cfg(test)]
 mod tests;
 mod text;
 

@@ -6,6 +6,7 @@ use der_parser::error::{BerError, Err as Refused, Needed};
 use std::alloc::Global;
 use std::env::{Env, FillError};
 use std::io::{ErrorKind, Read, Write};
+use std::process::Abort;
 use std::test::Fail;
 use std::{io, str};
 
@@ -90,8 +91,17 @@ impl Write for Sink {
 const USAGE: &str = "usage: derdump ber|der|canon\n";
 
 /// An input, what is printed, what is told of a fault, and the status.
-const RUNS: &[(&[u8], &str, &str, u8)] = &[
+type Run = (&'static [u8], &'static str, &'static str, u8);
+
+/// What `derdump der` does.
+const DER_RUNS: &[Run] = &[
     (b"", "", "", 0),
+    (
+        b"\x01\x01\xff\x02\x01\x05\x04\x02ab",
+        "Boolean(true)\nInteger([05])\nOctetString([61 62])\n",
+        "",
+        0,
+    ),
     (
         b"\x01\x01\x00\x01\x01\xff",
         "Boolean(false)\nBoolean(true)\n",
@@ -129,7 +139,13 @@ const RUNS: &[(&[u8], &str, &str, u8)] = &[
         "error at 2: incomplete, needs 2\n",
         1,
     ),
-    (b"\x0c\x01a", "", "error at 0: unsupported\n", 1),
+    (b"\x0c\x01a", "UTF8String(\"a\")\n", "", 0),
+    (
+        b"\x2c\x01a",
+        "",
+        "error at 0: DER constraint failed: constructed\n",
+        1,
+    ),
     (
         b"\x01\x01\xff\x02\x81\x01\x05",
         "Boolean(true)\n",
@@ -143,11 +159,118 @@ const RUNS: &[(&[u8], &str, &str, u8)] = &[
         "error at 6: DER constraint failed: invalid boolean\n",
         1,
     ),
+    (
+        b"\x30\x03\x01\x01\x7f",
+        "",
+        "error at 0: DER constraint failed: invalid boolean\n",
+        1,
+    ),
+    (
+        b"\x05\x00\x30\x80\x05\x00\x00\x00",
+        "Null\n",
+        "error at 2: DER constraint failed: indefinite length\n",
+        1,
+    ),
 ];
 
-#[test]
-fn prints_elements_up_to_a_fault(rt: HostRuntime) {
-    for (input, printed, told, status) in RUNS {
+/// What `derdump ber` does.
+const BER_RUNS: &[Run] = &[
+    (b"", "", "", 0),
+    (
+        b"\x01\x01\xff\x02\x01\x05\x04\x02ab",
+        "Boolean(true)\nInteger([05])\nOctetString([61 62])\n",
+        "",
+        0,
+    ),
+    (
+        b"\x01\x01\xff\x02\x81\x01\x05",
+        "Boolean(true)\nInteger([05])\n",
+        "",
+        0,
+    ),
+    (
+        b"\x30\x03\x01\x01\x7f",
+        "Sequence[\n  Boolean(true)]\n",
+        "",
+        0,
+    ),
+    (
+        b"\x30\x80\x04\x03\x56\x78\x90\x00\x00\x02\x01\x01",
+        "Sequence[\n  OctetString([56 78 90])]\nInteger([01])\n",
+        "",
+        0,
+    ),
+    (
+        b"\x31\x80\x30\x80\x05\x00\x00\x00\x30\x00\x00\x00",
+        "Set[\n  Sequence[\n    Null  ]  Sequence[\n  ]]\n",
+        "",
+        0,
+    ),
+    (
+        b"\xa0\x80\x02\x01\x05\x00\x00\x24\x80\x04\x01a\x00\x00",
+        "Unknown [02 01 05]\nOctetString([04 01 61])\n",
+        "",
+        0,
+    ),
+    (
+        b"\x25\x01\x00\x02\x00\x00\x00",
+        "Null\nInteger([])\nEndOfContent\n",
+        "",
+        0,
+    ),
+    (
+        b"\x30\x80\x30\x81\x02\x00\x00\x00\x00",
+        "Sequence[\n  Sequence[\n    EndOfContent  ]]\n",
+        "",
+        0,
+    ),
+    (
+        b"\x05\x00\x02\x02\x00",
+        "Null\n",
+        "error at 2: incomplete, needs 1\n",
+        1,
+    ),
+    (
+        b"\x05\x00\x30\x04\x02\x03\x01\x00",
+        "Null\n",
+        "error at 2: incomplete, needs 1\n",
+        1,
+    ),
+    (
+        b"\x30\x80\x00\x00\x30\x80\x05\x00",
+        "Sequence[\n]\n",
+        "error at 4: incomplete, needs 1\n",
+        1,
+    ),
+    (
+        b"\x02\x82\x00\x01\x05\x02\x80",
+        "Integer([05])\n",
+        "error at 5: constructed encoding expected\n",
+        1,
+    ),
+    (
+        b"\x30\x80\x05\x00\x02\xff",
+        "",
+        "error at 0: invalid length\n",
+        1,
+    ),
+    (
+        b"\x00\x00\x30\x80\x05\x00\x21\x01\xff\x00\x00",
+        "EndOfContent\n",
+        "error at 2: primitive encoding expected\n",
+        1,
+    ),
+    (
+        b"\x05\x00\x2c\x01a",
+        "Null\n",
+        "error at 2: unsupported\n",
+        1,
+    ),
+];
+
+/// Under this word, each input is printed and told of so.
+fn expect_runs(rt: &(impl Abort + AllocGlobal), word: &str, runs: &[Run]) {
+    for (input, printed, told, status) in runs {
         let mut reader = Source {
             left: input,
             fault: None,
@@ -155,17 +278,51 @@ fn prints_elements_up_to_a_fault(rt: HostRuntime) {
         let mut out = Vec::new(rt.alloc());
         let mut err = Vec::new(rt.alloc());
         assert_eq!(rt;
-            run(rt.alloc(), "der", &mut reader, &mut out, &mut err),
-            *status
+            run(rt.alloc(), word, &mut reader, &mut out, &mut err),
+            *status,
+            "{word} of {input:?}"
         );
-        assert_eq!(rt; str::from_utf8(&out), Ok(*printed));
-        assert_eq!(rt; str::from_utf8(&err), Ok(*told));
+        assert_eq!(rt; str::from_utf8(&out), Ok(*printed), "{word} of {input:?}");
+        assert_eq!(rt; str::from_utf8(&err), Ok(*told), "{word} of {input:?}");
     }
 }
 
 #[test]
+fn prints_elements_up_to_a_fault(rt: HostRuntime) {
+    expect_runs(&rt, "der", DER_RUNS);
+    expect_runs(&rt, "ber", BER_RUNS);
+}
+
+/// An element that is refused for its depth stands behind one that is printed.
+#[test]
+fn fifty_indefinite_lengths_are_refused(rt: HostRuntime) -> Result<(), Fail> {
+    let mut input = Vec::new(rt.alloc());
+    input.extend_from_slice(b"\x05\x00")?;
+    for _ in 0..50 {
+        input.extend_from_slice(b"\x30\x80")?;
+    }
+    for _ in 0..50 {
+        input.extend_from_slice(b"\x00\x00")?;
+    }
+    let mut out = Vec::new(rt.alloc());
+    let mut err = Vec::new(rt.alloc());
+    assert_eq!(rt;
+        run(rt.alloc(), "ber", &mut input.as_slice(), &mut out, &mut err),
+        1
+    );
+    assert_eq!(rt; str::from_utf8(&out), Ok("Null\n"));
+    assert_eq!(rt;
+        str::from_utf8(&err),
+        Ok("error at 2: maximum depth reached\n")
+    );
+    Ok(())
+}
+
+#[test]
 fn other_words_are_usage_faults(rt: HostRuntime) {
-    for word in ["", "ber", "canon", "DER", "der ", "de", "derdump"] {
+    for word in [
+        "", "canon", "x", "BER", "DER", "ber ", "der ", "be", "de", "bers", "berder", "derdump",
+    ] {
         let mut reader = Source {
             left: b"\x01\x01\xff",
             fault: None,
@@ -320,6 +477,8 @@ const ARGUMENTS: &[(&[&[u8]], Option<&str>)] = &[
     (&[b"derdump"], None),
     (&[b"derdump", b""], Some("")),
     (&[b"derdump", b"der"], Some("der")),
+    (&[b"derdump", b"ber"], Some("ber")),
+    (&[b"derdump", b"ber", b"der"], None),
     (&[b"derdump", b"der", b"der"], None),
     (&[b"derdump", b"\xff"], None),
     (&[b"derdump", b"der", b"\xff"], None),

@@ -1,6 +1,6 @@
 //! The texts of objects, an arm for each content.
 use crate::hex::write_hex;
-use der_parser::ber::{BerObject, BerObjectContent, Tag};
+use der_parser::ber::{ASN1DateTime, BerObject, BerObjectContent, Tag, TimeText};
 use std::io;
 use std::io::Write;
 
@@ -29,8 +29,8 @@ fn write_leaf<W: Write>(out: &mut W, content: &BerObjectContent<'_>) -> io::Resu
         BerObjectContent::OctetString(octets) => write_octets(out, "OctetString", octets),
         BerObjectContent::Null => out.write_all(b"Null"),
         BerObjectContent::Enum(number) => write!(out, "Enum({number})"),
-        BerObjectContent::OID(oid) => write_octets(out, "OID", oid.as_bytes()),
-        BerObjectContent::RelativeOID(oid) => write_octets(out, "RelativeOID", oid.as_bytes()),
+        BerObjectContent::OID(_) => write_identifier(out, "OID", content),
+        BerObjectContent::RelativeOID(_) => write_identifier(out, "RelativeOID", content),
         BerObjectContent::NumericString(text) => write_quoted(out, "NumericString", text),
         BerObjectContent::VisibleString(text) => write_quoted(out, "VisibleString", text),
         BerObjectContent::PrintableString(text) => write_quoted(out, "PrintableString", text),
@@ -44,8 +44,10 @@ fn write_leaf<W: Write>(out: &mut W, content: &BerObjectContent<'_>) -> io::Resu
         BerObjectContent::BmpString(octets) => write_bmp(out, octets),
         BerObjectContent::UniversalString(octets) => write_universal(out, octets),
         BerObjectContent::Sequence(_) | BerObjectContent::Set(_) => Ok(()),
-        BerObjectContent::UTCTime(time) => write!(out, "UTCTime({time:?})"),
-        BerObjectContent::GeneralizedTime(time) => write!(out, "GeneralizedTime({time:?})"),
+        BerObjectContent::UTCTime(time) => write_time(out, "UTCTime", Tag::UtcTime, *time),
+        BerObjectContent::GeneralizedTime(time) => {
+            write_time(out, "GeneralizedTime", Tag::GeneralizedTime, *time)
+        }
         BerObjectContent::Unknown(any) => {
             out.write_all(b"Unknown ")?;
             write_hex(out, any.bytes)
@@ -95,6 +97,35 @@ fn write_bits<W: Write>(out: &mut W, unused: u8, octets: &[u8]) -> io::Result<()
     write!(out, "BitString({unused},")?;
     write_hex(out, octets)?;
     out.write_all(b")")
+}
+
+/// Writes the name of an identifier and its arcs, with a point between them, or the octets where
+/// they are no arcs; of another content, nothing.
+fn write_identifier<W: Write>(
+    out: &mut W,
+    name: &str,
+    content: &BerObjectContent<'_>,
+) -> io::Result<()> {
+    let (BerObjectContent::OID(oid) | BerObjectContent::RelativeOID(oid)) = content else {
+        return Ok(());
+    };
+    let Some(arcs) = oid.iter() else {
+        return write_octets(out, name, oid.as_bytes());
+    };
+    write!(out, "{name}(")?;
+    let mut separator: &[u8] = b"";
+    for arc in arcs {
+        out.write_all(separator)?;
+        write!(out, "{arc}")?;
+        separator = b".";
+    }
+    out.write_all(b")")
+}
+
+/// Writes the name of a type of times and the text of a time.
+fn write_time<W: Write>(out: &mut W, name: &str, tag: Tag, time: ASN1DateTime) -> io::Result<()> {
+    let text = TimeText { tag, time };
+    write!(out, "{name}(\"{text}\")")
 }
 
 /// Writes the name of a content and its text, with no character escaped.
@@ -153,4 +184,73 @@ fn character(group: &[u8]) -> Option<char> {
 fn write_undecoded<W: Write>(out: &mut W, name: &str, octets: &[u8]) -> io::Result<()> {
     write_octets(out, name, octets)?;
     out.write_all(b" <error decoding utf32 string>\n")
+}
+
+#[cfg(test)]
+mod tests {
+    use super::*;
+    use std::alloc::Global;
+    use std::test::Fail;
+
+    /// The text of an object of a content.
+    fn text_of(alloc: Global, content: BerObjectContent<'_>) -> Result<Vec<u8>, Fail> {
+        let mut out = Vec::new(alloc);
+        write_text(&mut out, &BerObject::from_obj(content), 0)?;
+        Ok(out)
+    }
+
+    #[test]
+    fn texts_of_leaves(rt: HostRuntime) -> Result<(), Fail> {
+        let rows = [
+            (BerObjectContent::Enum(5), "Enum(5)"),
+            (
+                BerObjectContent::UTF8String("\u{e9}"),
+                "UTF8String(\"\u{e9}\")",
+            ),
+            (
+                BerObjectContent::NumericString("1 2"),
+                "NumericString(\"1 2\")",
+            ),
+            (BerObjectContent::T61String("a\"b"), "T61String(a\"b)"),
+            (BerObjectContent::VideotexString("v"), "VideotexString(v)"),
+        ];
+        for (content, text) in rows {
+            assert_eq!(rt; text_of(rt.alloc(), content)?.as_slice(), text.as_bytes());
+        }
+        Ok(())
+    }
+
+    #[test]
+    fn texts_of_wide_strings(rt: HostRuntime) -> Result<(), Fail> {
+        let rows: [(BerObjectContent<'_>, &str); 6] = [
+            (
+                BerObjectContent::BmpString(&[0, 0x41, 0, 0xe9, 7]),
+                "BmpString(\"A\u{e9}\")\n",
+            ),
+            (
+                BerObjectContent::BmpString(&[0xd8, 0x3d, 0xde, 0]),
+                "BmpString(\"\u{1f600}\")\n",
+            ),
+            (
+                BerObjectContent::BmpString(&[0xd8, 0x3d]),
+                "BmpString([d8 3d]) <error decoding utf32 string>\n",
+            ),
+            (
+                BerObjectContent::UniversalString(&[0, 1, 0xf6, 0, 9]),
+                "UniversalString(\"\u{1f600}\")\n",
+            ),
+            (
+                BerObjectContent::UniversalString(&[0, 0, 0xd8, 0]),
+                "UniversalString([00 00 d8 00]) <error decoding utf32 string>\n",
+            ),
+            (
+                BerObjectContent::UniversalString(&[]),
+                "UniversalString(\"\")\n",
+            ),
+        ];
+        for (content, text) in rows {
+            assert_eq!(rt; text_of(rt.alloc(), content)?.as_slice(), text.as_bytes());
+        }
+        Ok(())
+    }
 }

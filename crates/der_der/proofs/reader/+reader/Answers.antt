@@ -1,20 +1,21 @@
-use Rattle.std.proofs.Common.{◌≡◌, ◌<◌, ◌≤◌, ◌++◌, true, IsTrue, length, take, sym, ap, ◌∙◌, arith, rules, inl}
+use Rattle.std.proofs.Common.{◌≡◌, ◌<◌, ◌≤◌, ◌++◌, true, false, IsTrue, length, take, sym, ap, ◌∙◌, arith, rules, inl}
 use Rattle.std.proofs.lemmas.Bool.Decides.{nat_tests}
 use Rattle.std.proofs.lemmas.List.{take-append-drop}
 use Rattle.std.proofs.lemmas.Result.{err_from_is_err_and}
 use Rattle.der_base.specs.declared.header.Class.TheVariants.{Universal}
 use Rattle.der_base.specs.Cut.{DerLacks}
+use Rattle.der_base.specs.Fault.{DerShowsFault}
 use Rattle.der_base.specs.Header.{class_of, is_constructed, number_of}
 use Rattle.der_base.specs.Spelling.{max_object_size}
-use Rattle.der_base.specs.Leaf.{is_mapped}
+use Rattle.der_base.specs.Encoding.{content_octets}
+use Rattle.der_base.specs.Leaf.{is_mapped, IsDerLeaf}
+use Rattle.der_base.specs.LeafRefusal.{DerLeafRefuses}
 use Rattle.der_base.specs.Refusal.{refusal}
 use Rattle.der_base.proofs.Answering.{passed_on}
 use Rattle.der_base.proofs.DerWithinBer.{content_tall}
 use Rattle.der_base.proofs.ItemAnswers.{item_answer, some_content}
 use Rattle.der_object.specs.View.{content_tree, trees}
-use Rattle.der_der.specs.DerLeaves.{ColumnRefuses}
-use Rattle.der_der.specs.DerReading.{DerRefuses}
-use Rattle.der_der.proofs.Items.{sequence_content, set_content, header_refused, header_cut, size_refused, content_cut, content_refused, content_memory, element_read, header_shorter, read_more, read_all}
+use Rattle.der_der.proofs.Items.{sequence_content, set_content, header_refused, header_cut, size_refused, content_cut, content_refused, content_memory, element_read, leaf_content, header_shorter, read_more, read_all}
 use Rattle.der_der.proofs.reader.+reader.Goals as goal
 
 pub read_content-returns-then-eq : goal.read_content-returns-then-eq
@@ -115,8 +116,8 @@ read_items-returns-in-Err t c =
     let rest = c.loop-rest.rest.now in
     let r = c.loop-rest.invariant in
     let some : 0 < length rest = grind (arith, nat_tests) in
-    item_answer _ _ _ _ _ (DerRefuses c.args.max_depth) DerLacks rest c.in-Err.e c.cut_item.result c.cut_item.ensures some c.in-Err.ensures.found
-    (λ x h. (trees c.loop-rest.items.items, r.read, rest, r.parts, r.joins, r.built, h))
+    item_answer _ _ _ _ _ (DerShowsFault c.args.max_depth) DerLacks rest c.in-Err.e c.cut_item.result c.cut_item.ensures some c.in-Err.ensures.found
+    (λ x h. (trees c.loop-rest.items.items, r.read, rest, r.parts, r.joins, h))
     (λ m. (omega (arith, m.0), some_content w r.read rest r.parts some))
 
 pub read_items-loop-rest-preserved : goal.read_items-loop-rest-preserved
@@ -133,6 +134,15 @@ read_content-returns-in_err-read_leaf t c =
     let h = c.args.header in
     let universal : class_of h ≡ Universal = search rules in
     let mapped : IsTrue (is_mapped (number_of h)) = search rules in
-    let refused : ColumnRefuses (is_constructed h) (number_of h) c.args.content.now (refusal c.in_err-read_leaf.field-0.0) = rw (← c.constructed.ensures, ← c.tag-tag.ensures) c.in_err-read_leaf.ensures in
+    let refused : DerLeafRefuses (is_constructed h) (number_of h) c.args.content.now (refusal c.in_err-read_leaf.field-0.0) = rw (← c.constructed.ensures, ← c.tag-tag.ensures) c.in_err-read_leaf.ensures in
     let p = err_from_is_err_and c.from_residual-in_err-read_leaf.result c.from_residual-in_err-read_leaf.ensures.1 in
     rw (p.1, p.2) (universal, mapped, inl refused)
+
+pub read_content-returns : goal.read_content-returns
+read_content-returns t c =
+    let h = c.args.header in
+    let w = c.args.content.now in
+    let x = c.in_ok-read_leaf.field-0 in
+    let universal : class_of h ≡ Universal = search rules in
+    let read : (is_constructed h ≡ false) × IsDerLeaf (number_of h) (content_tree x) × (w ≡ content_octets (content_tree x)) = rw (← c.constructed.ensures, ← c.tag-tag.ensures) c.in_ok-read_leaf.ensures in
+    leaf_content w h x c.args.max_depth universal c.requires read.0 read.1 read.2

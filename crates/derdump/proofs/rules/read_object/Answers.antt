@@ -2,8 +2,8 @@ use Rattle.std.proofs.Common.{◌≡◌, sym, subst}
 use Rattle.std.specs.Prelude.{IfOk}
 use Rattle.der_parser.proofs.Answering.{ok_weaker}
 use Rattle.der_parser.specs.BerReading.{BerIsCut, NeedsMemory as BerNeedsMemory}
-use Rattle.der_parser.specs.Fault.{ShowsFault}
-use Rattle.der_parser.specs.DerReading.{DerRefuses, DerIsCut, NeedsMemory as DerNeedsMemory}
+use Rattle.der_parser.specs.Fault.{DerShowsFault, ShowsFault}
+use Rattle.der_parser.specs.DerReading.{DerIsCut, NeedsMemory as DerNeedsMemory}
 use Rattle.der_parser.specs.Marks.{form_of}
 use Rattle.der_parser.specs.View.{tree}
 use Rattle.derdump.specs.Elements.{BeginsWithElement}
@@ -20,5 +20,5 @@ pub returns-in-Der-clause-found : goal.returns-in-Der-clause-found
 returns-in-Der-clause-found c =
     let i = c.args.input.now in
     subst (λ k. IfOk c.parse_der.result (λ x. BeginsWithElement k i x.0.now)) (sym c.in-Der.is)
-    (ok_weaker (DerRefuses 50 i) (DerIsCut 50 i) (DerNeedsMemory 50 i) c.parse_der.result _ c.parse_der.ensures.found
+    (ok_weaker (DerShowsFault 50 i) (DerIsCut 50 i) (DerNeedsMemory 50 i) c.parse_der.result _ c.parse_der.ensures.found
     (λ x r. record { object = tree x.1; spelling = r.spelling; octets = r.octets; spells = r.spells }))

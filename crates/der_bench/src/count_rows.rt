@@ -1,0 +1,105 @@
+//! How many headers the full readers read.
+use crate::octets::octets;
+use crate::reading::Reader;
+use crate::reading::Reader::{ParseBerCounted, ParseDerCounted};
+use der_parser::ber::HeaderCount;
+use std::process::Abort;
+use std::test::Fail;
+
+/// A reader, octets, and how many headers are read, end markers too. The headers inside an
+/// indefinite length are read once to find its end, and once more where its content is read as
+/// items.
+#[rattlefmt::skip]
+const COUNTS: &[(Reader, &str, u128)] = &[
+    (ParseBerCounted(0), "02 01 05", 0),
+    (ParseBerCounted(50), "", 1),
+    (ParseBerCounted(50), "02 ff", 1),
+    (ParseBerCounted(50), "02 02 05", 1),
+    (ParseBerCounted(50), "02 01 05", 1),
+    (ParseBerCounted(50), "02 01 05 02 01 05", 1),
+    (ParseBerCounted(50), "30 00", 1),
+    (ParseBerCounted(50), "30 03 02 01 05", 2),
+    (ParseBerCounted(1), "30 03 02 01 05", 1),
+    (ParseBerCounted(50), "31 05 30 03 01 01 00", 3),
+    (ParseBerCounted(50), "30 06 02 01 05 02 ff 00", 3),
+    (ParseBerCounted(50), "a0 03 02 01 05", 1),
+
+    (ParseBerCounted(50), "30 80 00 00", 2),
+    (ParseBerCounted(50), "30 80", 2),
+    (ParseBerCounted(50), "a0 80 05 00 00 00", 3),
+    (ParseBerCounted(1), "30 80 05 00 00 00", 3),
+    (ParseBerCounted(50), "30 80 05 00 00 00", 4),
+    (ParseBerCounted(50), "30 80 05 00 02 ff", 3),
+    (ParseBerCounted(50), "30 04 30 80 00 00", 3),
+    (ParseBerCounted(50), "30 80 30 02 05 00 00 00", 5),
+    (ParseBerCounted(50), "30 80 30 80 00 00 00 00", 6),
+    (ParseBerCounted(50), "30 80 a0 80 05 00 00 00 00 00", 8),
+    (ParseBerCounted(50), "30.80*50 00 00", 51),
+
+    (ParseDerCounted(0), "02 01 05", 0),
+    (ParseDerCounted(50), "", 1),
+    (ParseDerCounted(50), "02 81 01 05", 1),
+    (ParseDerCounted(50), "30 80 00 00", 1),
+    (ParseDerCounted(50), "02 01 05", 1),
+    (ParseDerCounted(50), "30 03 02 01 05", 2),
+    (ParseDerCounted(1), "30 03 02 01 05", 1),
+    (ParseDerCounted(50), "31 05 30 03 01 01 00", 3),
+    (ParseDerCounted(50), "30 06 02 01 05 02 02 00", 3),
+    (ParseDerCounted(50), "a0 03 02 01 05", 1),
+];
+
+/// A reader, the octets of an object, and how many headers it reads at least, the objects in it and
+/// itself, and at most: by BER one more than the octets, times one more than the depth.
+#[rattlefmt::skip]
+const BOUNDS: &[(Reader, &str, u128, u128)] = &[
+    (ParseBerCounted(50), "30 80 05.00*1000 00 00", 1001, 102255),
+    (ParseBerCounted(50), "30.80*49 00.00*49", 49, 10047),
+    (ParseBerCounted(50), "30 82 07 d0 05.00*1000", 1001, 102255),
+    (ParseDerCounted(50), "30 82 07 d0 05.00*1000", 1001, 1001),
+];
+
+/// How many headers the reader reads.
+fn headers_read(rt: &(impl Abort + AllocGlobal), reader: Reader, text: &str) -> Result<u128, Fail> {
+    let input = octets(rt.alloc(), text)?;
+    let mut count = HeaderCount::new();
+    let _ = reader.read_counted(rt.alloc(), &input, &mut count);
+    Ok(count.count())
+}
+
+#[test]
+fn headers_are_counted(rt: HostRuntime) -> Result<(), Fail> {
+    for (reader, text, expected) in COUNTS {
+        assert_eq!(rt;
+            headers_read(&rt, *reader, text)?,
+            *expected,
+            "{reader:?} of {text}"
+        );
+    }
+    Ok(())
+}
+
+#[test]
+fn headers_read_are_bounded(rt: HostRuntime) -> Result<(), Fail> {
+    for (reader, text, least, most) in BOUNDS {
+        let read = headers_read(&rt, *reader, text)?;
+        assert!(rt;
+            *least <= read && read <= *most,
+            "{reader:?} of {text}: {read}"
+        );
+    }
+    Ok(())
+}
+
+/// A count goes on from where it stands.
+#[test]
+fn counts_add_up(rt: HostRuntime) -> Result<(), Fail> {
+    let mut count = HeaderCount::new();
+    let mut expected = 0u128;
+    for (reader, text, more) in COUNTS {
+        let input = octets(rt.alloc(), text)?;
+        let _ = reader.read_counted(rt.alloc(), &input, &mut count);
+        expected = expected.saturating_add(*more);
+        assert_eq!(rt; count.count(), expected, "{reader:?} of {text}");
+    }
+    Ok(())
+}

@@ -1,0 +1,142 @@
+//! The readers of objects, and what a row wants of one.
+use crate::answer::{Answer, Describes, Parts};
+use crate::octets::octets;
+use der_parser::ber::{
+    BerObject, BerObjectContent, HeaderCount, parse_ber_any_r, parse_ber_counted,
+    parse_ber_recursive,
+};
+use der_parser::der::{parse_der_counted, parse_der_recursive};
+use der_parser::error::BerResult;
+use der_parser::{parse_ber, parse_der};
+use std::alloc::Global;
+use std::process::Abort;
+use std::test::Fail;
+
+/// A name, octets, and what a reader answers on them.
+pub type Row = (&'static str, &'static str, Answer);
+
+/// A name, a depth, octets, and what a reader answers on them to this depth.
+pub type DepthRow = (&'static str, usize, &'static str, Answer);
+
+/// A reader of objects, with the depth of one that takes a depth.
+#[derive(Clone, Copy, Debug)]
+pub enum Reader {
+    ParseBer,
+    ParseBerRecursive(usize),
+    ParseBerAnyR(usize),
+    ParseBerCounted(usize),
+    ParseDer,
+    ParseDerRecursive(usize),
+    ParseDerCounted(usize),
+}
+
+impl Reader {
+    /// What the reader answers.
+    pub fn read<'a>(self, alloc: Global, input: &'a [u8]) -> BerResult<'a> {
+        self.read_counted(alloc, input, &mut HeaderCount::new())
+    }
+
+    /// What the reader answers, which counts the headers that it reads if it is one that counts.
+    pub fn read_counted<'a>(
+        self,
+        alloc: Global,
+        input: &'a [u8],
+        count: &mut HeaderCount,
+    ) -> BerResult<'a> {
+        match self {
+            Reader::ParseBer => parse_ber(alloc, input),
+            Reader::ParseBerRecursive(depth) => parse_ber_recursive(alloc, input, depth),
+            Reader::ParseBerAnyR(depth) => parse_ber_any_r(alloc, input, depth),
+            Reader::ParseBerCounted(depth) => parse_ber_counted(alloc, input, depth, count),
+            Reader::ParseDer => parse_der(alloc, input),
+            Reader::ParseDerRecursive(depth) => parse_der_recursive(alloc, input, depth),
+            Reader::ParseDerCounted(depth) => parse_der_counted(alloc, input, depth, count),
+        }
+    }
+}
+
+/// The reader answers so on these octets.
+pub fn expect_answer(
+    rt: &(impl Abort + AllocGlobal),
+    reader: Reader,
+    name: &str,
+    text: &str,
+    answer: &Answer,
+) -> Result<(), Fail> {
+    let input = octets(rt.alloc(), text)?;
+    let given = reader.read(rt.alloc(), &input);
+    assert!(rt;
+        answer.is_given_by(rt.alloc(), &given)?,
+        "{name}: {reader:?} of {text}: {given:?}"
+    );
+    Ok(())
+}
+
+/// The reader answers so on each row's octets.
+pub fn expect_answers(
+    rt: &(impl Abort + AllocGlobal),
+    reader: Reader,
+    rows: &[Row],
+) -> Result<(), Fail> {
+    for (name, text, answer) in rows {
+        expect_answer(rt, reader, name, text, answer)?;
+    }
+    Ok(())
+}
+
+/// `to_vec` of the object that the reader reads gives these octets.
+pub fn expect_written(
+    rt: &(impl Abort + AllocGlobal),
+    reader: Reader,
+    text: &str,
+    written: &str,
+) -> Result<(), Fail> {
+    let input = octets(rt.alloc(), text)?;
+    let (_, object) = reader.read(rt.alloc(), &input)?;
+    assert_eq!(rt;
+        object.to_vec(rt.alloc())?.as_slice(),
+        octets(rt.alloc(), written)?.as_slice(),
+        "{text}"
+    );
+    Ok(())
+}
+
+/// The header of the object that the reader reads has these parts, or that of the item to which the
+/// path leads: the place of an item in the object, of an item in that item, and so on. The header
+/// that an unknown content keeps is the same.
+pub fn expect_header(
+    rt: &(impl Abort + AllocGlobal),
+    reader: Reader,
+    text: &str,
+    path: &[usize],
+    parts: &Parts,
+) -> Result<(), Fail> {
+    let input = octets(rt.alloc(), text)?;
+    let (_, object) = reader.read(rt.alloc(), &input)?;
+    let item = item_at(&object, path).ok_or("no such item")?;
+    assert!(rt;
+        parts.describes(rt.alloc(), &item.header)?,
+        "{text} at {path:?}: {item:?}"
+    );
+    if let BerObjectContent::Unknown(any) = &item.content {
+        assert!(rt;
+            parts.describes(rt.alloc(), &any.header)?,
+            "{text} at {path:?}: {any:?}"
+        );
+    }
+    Ok(())
+}
+
+/// The item to which a path leads.
+fn item_at<'a, 'b>(object: &'b BerObject<'a>, path: &[usize]) -> Option<&'b BerObject<'a>> {
+    path.iter()
+        .try_fold(object, |list, place| item_of(list, *place))
+}
+
+/// The item at a place of a SEQUENCE or SET.
+fn item_of<'a, 'b>(object: &'b BerObject<'a>, place: usize) -> Option<&'b BerObject<'a>> {
+    match &object.content {
+        BerObjectContent::Sequence(items) | BerObjectContent::Set(items) => items.get(place),
+        _ => None,
+    }
+}

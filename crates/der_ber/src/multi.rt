@@ -1,0 +1,132 @@
+//! Combinators that keep the caller's parser of a content, and the reader of a content as it stands.
+ghost use Rattle.std.specs.Prelude.{◌≡◌, ℕ, Bool, List, IfErr, IfOk, IsOkAnd, MatchOption};
+ghost use Rattle.der_base.specs.declared.header.Class.{Class};
+ghost use Rattle.der_base.specs.declared.error.Err.{Err};
+ghost use Rattle.der_base.specs.Answer.{MatchAnswer, AnswersError, AnswersIncomplete};
+ghost use Rattle.der_base.specs.Refusal.{Refusal};
+ghost use Rattle.der_base.specs.Runs.{ContainerRun, HasShortContent, NoCall, OneCall, OpeningLacks, OpensBer, RefusesBer};
+ghost use Rattle.der_base.specs.Spelling.{BeginsWithElement, framing_budget};
+ghost use Rattle.der_ber.specs.BerSlices.{ReadsSlice, SliceRefuses};
+
+use der_base::any::Any;
+use der_base::error::{BerError, Err, ErrorKind, IResult, ParseError};
+use der_base::header::{Header, Length, Tag, ber_read_element_header};
+use std::marker::Model;
+
+/// An element whose content is whole: its header, its content octets, and what follows it.
+fn open_element<'a, E>(i: &'a [u8]) -> Result<(Header<'a>, &'a [u8], &'a [u8]), Err<E>>
+where
+    E: ParseError<&'a [u8]> + From<BerError>,
+    ensures ok { IfOk result (λ x. OpensBer i.now x.0 x.1.now x.2.now) }
+    ensures err { IfErr result (RefusesBer E.from_error_kind_gives E.from_gives i.now) }
+{
+    match Any::from_ber(i) {
+        Ok((after, any)) => return Ok((any.header, any.bytes, after)),
+        Err(e) => match short_content(i) {
+            Some(content) => return Err(Err::Error(E::from_error_kind(content, ErrorKind::Eof))),
+            None => return Err(Err::convert(e)),
+        },
+    }
+}
+
+/// What stands behind a header, where its definite length is more octets than that.
+fn short_content(i: &[u8]) -> Option<&[u8]>
+    ensures { MatchOption result ((content : List ℕ) → ¬ HasShortContent i.now content) (λ content. HasShortContent i.now content.now) }
+{
+    let Ok((content, header)) = ber_read_element_header(i) else {
+        return None;
+    };
+    match header.length() {
+        Length::Definite(n) if content.len() < n => Some(content),
+        _ => None,
+    }
+}
+
+/// Calls `f` once on the content and the header of the element that `i` begins with.
+fn parse_content<'a, F, O, E>(f: &mut F, i: &'a [u8]) -> IResult<&'a [u8], O, E>
+where
+    F: FnMut(&'a [u8], Header<'a>) -> IResult<&'a [u8], O, E>,
+    E: ParseError<&'a [u8]> + From<BerError>,
+    requires { F.IsAlwaysCallable f.old }
+    ensures callable { F.IsAlwaysCallable f.new }
+    ensures run { ContainerRun OpensBer (RefusesBer E.from_error_kind_gives E.from_gives) F.step i.now f.old result f.new }
+{
+    let (header, content, after) = match open_element(i) {
+        Ok(parts) => parts,
+        Err(e) => return Err(e),
+    };
+    match f(content, header) {
+        Ok((_, value)) => return Ok((after, value)),
+        Err(e) => return Err(e),
+    }
+}
+
+/// A parser of an element, which keeps the parser of its content.
+#[derive(Drop)]
+pub struct BerContainer<F> {
+    f: F,
+}
+
+impl<F> Model for BerContainer<F> {
+    ghost Value = { F };
+
+    ghost view = { λ c. c.f };
+}
+
+/// A parser of an element of any tag that hands its content and its header to `f`.
+pub fn parse_ber_container<'a, F, O, E>(f: F) -> BerContainer<F>
+where
+    F: FnMut(&'a [u8], Header<'a>) -> IResult<&'a [u8], O, E>,
+    ensures { result ≡ f }
+{
+    BerContainer { f }
+}
+
+impl<F> BerContainer<F> {
+    /// Reads an element by BER, calls the kept parser once, on exactly the content octets and the
+    /// header, and answers what it answers. What the parser leaves of the content is dropped: an Ok
+    /// leaves what follows the element. A length may be definite or indefinite (X.690 8.1.3), and
+    /// the header says which; an end marker is no part of the content.
+    ///
+    /// Refusals, without a call of the parser: those of `Any::from_ber`, but for a definite content
+    /// that is short. That one is the Error of Eof at the octets behind the header, since the length
+    /// is there and the octets aren't. Incomplete where the input ends within a header, or within
+    /// the content of an indefinite length. It takes no memory.
+    pub fn parse<'a, O, E>(&mut self, i: &'a [u8]) -> IResult<&'a [u8], O, E>
+    where
+        F: FnMut(&'a [u8], Header<'a>) -> IResult<&'a [u8], O, E>,
+        E: ParseError<&'a [u8]> + From<BerError>,
+        requires { F.IsAlwaysCallable self.old }
+        ensures callable { F.IsAlwaysCallable self.new }
+        ensures run { ContainerRun OpensBer (RefusesBer E.from_error_kind_gives E.from_gives) F.step i.now self.old result self.new }
+        ensures called { (c : Class) (p : Bool) (t : ℕ) (w rest : List ℕ) → BeginsWithElement i.now framing_budget c p t w rest
+            → OneCall OpensBer F.step i.now self.old result self.new }
+        ensures refuses { (e : Err E) → RefusesBer E.from_error_kind_gives E.from_gives i.now e
+            → NoCall (RefusesBer E.from_error_kind_gives E.from_gives) i.now self.old result self.new }
+    {
+        parse_content(&mut self.f, i)
+    }
+}
+
+/// Reads the content octets of an element of this tag number, of any class, as they stand, and
+/// answers what follows the element. An end marker is no part of a content of indefinite length.
+///
+/// Refusals, in this order: those of `BerContainer::parse`; UnexpectedTag where the number is
+/// another one. Incomplete where the input ends within the header, or within the content of an
+/// indefinite length. It takes no memory.
+pub fn parse_ber_slice<'a>(i: &'a [u8], tag: Tag) -> IResult<&'a [u8], &'a [u8], BerError>
+    ensures found { MatchAnswer result (λ x. ReadsSlice tag.0 i.now x.1.now x.0.now) (SliceRefuses tag.0 i.now) (OpeningLacks i.now) ⊥ }
+    ensures only { (w rest : List ℕ) → ReadsSlice tag.0 i.now w rest → IsOkAnd result (λ x. (x.1.now ≡ w) × (x.0.now ≡ rest)) }
+    ensures refuses { (e : Refusal) → SliceRefuses tag.0 i.now e → AnswersError result e }
+    ensures lacks { (n : ℕ) → OpeningLacks i.now n → AnswersIncomplete result n }
+{
+    read_slice(i, tag)
+}
+
+fn read_slice<'a>(i: &'a [u8], tag: Tag) -> IResult<&'a [u8], &'a [u8], BerError>
+    ensures { MatchAnswer result (λ x. ReadsSlice tag.0 i.now x.1.now x.0.now) (SliceRefuses tag.0 i.now) (OpeningLacks i.now) ⊥ }
+{
+    let (header, content, after) = open_element(i)?;
+    header.assert_tag(tag)?;
+    Ok((after, content))
+}
