@@ -79,7 +79,7 @@ raw_content w h a d q e k = record {
   marked = tt;
 }
 
-leaf_has : (w : List ℕ) (c : Class) (p : Bool) (t : ℕ) (x : Content) (fs : Forms) (d : ℕ) → c ≡ Universal → fs ≡ no_forms → IsLeafContent p t w x → HasContent w c p t x fs d
+pub leaf_has : (w : List ℕ) (c : Class) (p : Bool) (t : ℕ) (x : Content) (fs : Forms) (d : ℕ) → c ≡ Universal → fs ≡ no_forms → IsLeafContent p t w x → HasContent w c p t x fs d
 leaf_has w c p t (sequence l) fs d u f k = absurd k
 leaf_has w c p t (set l) fs d u f k = absurd k
 leaf_has w c p t _ fs d u f k = (f, inl (u, k))

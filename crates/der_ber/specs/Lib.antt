@@ -1,2 +1,3 @@
 pub mod BerReading
 pub mod BerSlices
+pub mod ContentReading

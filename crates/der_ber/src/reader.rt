@@ -62,7 +62,7 @@ pub fn read_element_with_tag<'a>(
 
 /// The content of an element.
 #[cycle(reader)]
-fn read_content<'a>(
+pub(crate) fn read_content<'a>(
     alloc: Global,
     any: Any<'a>,
     max_depth: usize,

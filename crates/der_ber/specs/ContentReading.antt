@@ -1,0 +1,113 @@
+-- What the readers of a content answer that are given its tag number, its length and its constructed bit, and what the readers of one tag number answer.
+use Rattle.std.specs.Prelude.{◌≡◌, ◌≢◌, ℕ, ◌-◌, ◌<◌, ◌≤◌, ◌⊎◌, Bool, true, false, None, Some, IsTrue, List, [], length, min}
+use Rattle.der_base.specs.declared.header.Class.{Class}
+use Rattle.der_base.specs.declared.header.Class.TheVariants.{Universal}
+use Rattle.der_base.specs.declared.header.Header.{Header}
+use Rattle.der_base.specs.declared.header.Length.{Length}
+use Rattle.der_base.specs.declared.header.Length.TheVariants.{Definite, Indefinite}
+use Rattle.der_base.specs.Content.{BeginsWithContent, InsideLacks}
+use Rattle.der_base.specs.Fault.{BerHeaderRefuses, InsideRefuses}
+use Rattle.der_base.specs.Header.{is_constructed, number_of, length_of, IsHeader}
+use Rattle.der_base.specs.Headers.{BeginsWithHeader, ReadsHeader, BerHeaderLacks}
+use Rattle.der_base.specs.Leaf.{is_list}
+use Rattle.der_base.specs.Refusal.{Refusal, construct_expected, invalid_length, max_depth, unexpected_tag}
+use Rattle.der_base.specs.Spelling.{Forms, IsContent, IsOpenContent, framing_budget, max_object_size}
+use Rattle.der_base.specs.Tree.{Content}
+use Rattle.der_object.specs.declared.object.BerObject.{BerObject}
+use Rattle.der_object.specs.declared.object.BerObjectContent.{BerObjectContent}
+use Rattle.der_object.specs.declared.object.BerObjectContent.TheVariants.{Unknown}
+use Rattle.der_object.specs.Marks.{inner_forms, EachInside, HasMark}
+use Rattle.der_object.specs.View.{content_tree}
+use Rattle.der_ber.specs.BerReading.{ContentRefuses}
+
+-- content octets
+
+-- a definite length is one that an object may have, and an indefinite one is that of a constructed element
+abbrev pub LengthPasses : Length → Bool → Type 0
+LengthPasses (Definite n) p = n ≤ max_object_size
+LengthPasses Indefinite p = p ≡ true
+
+-- the tests of length and depth pass, i begins with the content octets w, and rest follows; indefinite lengths are nested below the depth and below 50
+pub record FramesContent (l : Length) (p : Bool) (d : ℕ) (i w rest : List ℕ) : Type 0 where
+  pub deep : 1 ≤ d
+  pub passes : LengthPasses l p
+  pub begins : BeginsWithContent i l (min d framing_budget) w rest
+
+-- a test of length or depth, or the framing of an indefinite length, shows the refusal
+abbrev pub FrameRefuses : Length → Bool → ℕ → List ℕ → Refusal → Type 0
+FrameRefuses (Definite n) p d i e = ((max_object_size < n) × (e ≡ invalid_length))
+    ⊎ ((n ≤ max_object_size) × (n ≤ length i) × (d ≡ 0) × (e ≡ max_depth))
+FrameRefuses Indefinite p d i e = ((d ≡ 0) × (e ≡ max_depth))
+    ⊎ ((1 ≤ d) × (p ≡ false) × (e ≡ construct_expected))
+    ⊎ ((1 ≤ d) × (p ≡ true) × InsideRefuses i (min d framing_budget) e)
+
+-- i ends within the content octets, and n is the whole definite length, or what the elements of an indefinite one lack
+abbrev pub FrameLacks : Length → Bool → ℕ → List ℕ → ℕ → Type 0
+FrameLacks (Definite m) p d i n = (m ≤ max_object_size) × (length i < m) × (n ≡ m)
+FrameLacks Indefinite p d i n = (1 ≤ d) × (p ≡ true) × InsideLacks i (min d framing_budget) n
+
+-- contents
+
+-- the octets w are the content of the universal type of number t, behind a length of this form
+abbrev pub IsContentAs : ℕ → Length → Bool → ℕ → List ℕ → Content → Forms → Type 0
+IsContentAs t (Definite n) p d w x fs = IsContent w Universal p t x fs d framing_budget
+IsContentAs t Indefinite p d w x fs = IsOpenContent w Universal t x fs d (min d framing_budget - 1)
+
+-- an unknown content has a header of class Universal with these parts
+abbrev pub HasOwnHeader : ℕ → Length → Bool → BerObjectContent → Type 0
+HasOwnHeader t l p (Unknown a) = IsHeader a.header Universal p t l None
+HasOwnHeader t l p _ = Unit {0}
+
+-- i begins with the octets of the content, and rest follows
+pub record ReadsContentAs (t : ℕ) (l : Length) (p : Bool) (d : ℕ) (i : List ℕ) (x : BerObjectContent) (rest : List ℕ) : Type 0 where
+  pub octets : List ℕ
+  pub framed : FramesContent l p d i octets rest
+  -- each header of an item has the length that is there
+  pub content : IsContentAs t l p d octets (content_tree x) (inner_forms x)
+  -- and the identifier octets
+  pub marked : EachInside HasMark x
+  pub own : HasOwnHeader t l p x
+
+-- the octets show the refusal, in a test, in framing or in the content
+abbrev pub ContentAsRefuses : ℕ → Length → Bool → ℕ → List ℕ → Refusal → Type 0
+ContentAsRefuses t l p d i e = FrameRefuses l p d i e
+    ⊎ ((w rest : List ℕ) × FramesContent l p d i w rest × ContentRefuses Universal p t w d e)
+
+-- the octets are a list that has items
+abbrev pub ContentAsNeedsMemory : ℕ → Length → Bool → ℕ → List ℕ → Type 0
+ContentAsNeedsMemory t l p d i = (2 ≤ d) × IsTrue (is_list t) × (p ≡ true) × (w rest : List ℕ) × (w ≢ []) × FramesContent l p d i w rest
+
+-- objects of one number, of any class
+
+-- i begins with a header of this number
+pub record ReadsHeaderOf (t : ℕ) (i : List ℕ) (h : Header) (behind : List ℕ) : Type 0 where
+  pub header : ReadsHeader i h behind
+  pub number : number_of h ≡ t
+
+-- i begins with such a header, and with octets of such a content, and rest follows
+pub record ReadsTyped (t : ℕ) (i : List ℕ) (o : BerObject) (rest : List ℕ) : Type 0 where
+  pub behind : List ℕ
+  pub header : ReadsHeaderOf t i o.header behind
+  pub content : ReadsContentAs t (length_of o.header) (is_constructed o.header) 50 behind o.content rest
+
+-- the same of a class, bit, number and content of which there is no object yet
+abbrev pub BeginsWithTyped : List ℕ → Class → Bool → ℕ → Content → List ℕ → Type 0
+BeginsWithTyped i c p t x rest = (l : Length) × (behind w : List ℕ) × (fs : Forms) × BeginsWithHeader i c p t l behind × FramesContent l p 50 behind w rest × IsContentAs t l p 50 w x fs
+
+-- the header is refused, or has another number
+abbrev pub HeaderOfRefuses : ℕ → List ℕ → Refusal → Type 0
+HeaderOfRefuses t i e = BerHeaderRefuses i e
+    ⊎ ((c : Class) × (p : Bool) × (n : ℕ) × (l : Length) × (behind : List ℕ) × BeginsWithHeader i c p n l behind × (n ≢ t) × (e ≡ unexpected_tag (Some t) n))
+
+-- or its content is refused
+abbrev pub TypedRefuses : ℕ → List ℕ → Refusal → Type 0
+TypedRefuses t i e = HeaderOfRefuses t i e
+    ⊎ ((c : Class) × (p : Bool) × (l : Length) × (behind : List ℕ) × BeginsWithHeader i c p t l behind × ContentAsRefuses t l p 50 behind e)
+
+-- i ends within the header, or within the content octets behind one of this number
+abbrev pub TypedLacks : ℕ → List ℕ → ℕ → Type 0
+TypedLacks t i n = BerHeaderLacks i n
+    ⊎ ((c : Class) × (p : Bool) × (l : Length) × (behind : List ℕ) × BeginsWithHeader i c p t l behind × FrameLacks l p 50 behind n)
+
+abbrev pub TypedNeedsMemory : ℕ → List ℕ → Type 0
+TypedNeedsMemory t i = (c : Class) × (p : Bool) × (l : Length) × (behind : List ℕ) × BeginsWithHeader i c p t l behind × ContentAsNeedsMemory t l p 50 behind

@@ -1,0 +1,179 @@
+//! Contents of universal types, read without their header: the caller says the tag number, the
+//! length and the constructed bit.
+ghost use Rattle.std.specs.Prelude.{◌≡◌, ℕ, List};
+ghost use Rattle.der_base.specs.Answer.{MatchAnswer, AnswersOkOr, AnswersErrorOr, AnswersIncompleteOr};
+ghost use Rattle.der_base.specs.Header.{is_constructed, length_of};
+ghost use Rattle.der_base.specs.Refusal.{Refusal};
+ghost use Rattle.der_base.specs.Spelling.{Forms};
+ghost use Rattle.der_base.specs.Tree.{Content};
+ghost use Rattle.der_object.specs.View.{content_tree};
+ghost use Rattle.der_ber.specs.ContentReading.{FramesContent, FrameRefuses, FrameLacks, IsContentAs, ReadsContentAs, ContentAsRefuses, ContentAsNeedsMemory};
+
+use crate::reader::read_content;
+use der_base::any::{Any, ber_read_content};
+use der_base::error::{BerError, Err, IResult, Needed};
+use der_base::header::{Class, Header, HeaderCount, Length, Tag};
+use der_base::{MAX_OBJECT_SIZE, MAX_RECURSION};
+use der_object::{BerObjectContent, BerResult};
+use std::alloc::Global;
+
+/// The content octets behind a header of this length and constructed bit, and what follows the
+/// element.
+pub(crate) fn frame_content(
+    i: &[u8],
+    length: Length,
+    constructed: bool,
+    max_depth: usize,
+) -> IResult<&[u8], &[u8], BerError>
+    ensures { MatchAnswer result
+        (λ x. FramesContent length constructed max_depth i.now x.1.now x.0.now)
+        (FrameRefuses length constructed max_depth i.now)
+        (FrameLacks length constructed max_depth i.now)
+        ⊥ }
+{
+    match length {
+        Length::Definite(n) if n > MAX_OBJECT_SIZE => Err(Err::Error(BerError::InvalidLength)),
+        Length::Definite(n) if i.len() < n => Err(Err::Incomplete(Needed::Size(n))),
+        _ if max_depth == 0 => Err(Err::Error(BerError::BerMaxDepth)),
+        Length::Indefinite if !constructed => Err(Err::Error(BerError::ConstructExpected)),
+        _ => ber_read_content(i, length, max_depth.min(MAX_RECURSION)),
+    }
+}
+
+/// The content of the universal type of this number, and what follows the element.
+fn read_content_as<'a>(
+    alloc: Global,
+    i: &'a [u8],
+    tag: Tag,
+    length: Length,
+    constructed: bool,
+    max_depth: usize,
+) -> BerResult<'a, BerObjectContent<'a>>
+    ensures { MatchAnswer result
+        (λ x. ReadsContentAs tag.0 length constructed max_depth i.now x.1 x.0.now)
+        (ContentAsRefuses tag.0 length constructed max_depth i.now)
+        (FrameLacks length constructed max_depth i.now)
+        (ContentAsNeedsMemory tag.0 length constructed max_depth i.now) }
+{
+    let (rest, bytes) = frame_content(i, length, constructed, max_depth)?;
+    let header = Header::new(Class::Universal, constructed, tag, length);
+    let any = Any::new(header, bytes);
+    let content = read_content(alloc, any, max_depth, &mut HeaderCount::new())?;
+    Ok((rest, content))
+}
+
+/// Reads the content of a universal type behind its header, of which the caller gives the tag
+/// number, the length and the constructed bit, and answers what follows the element. The content
+/// octets are those of `ber_read_content`, with indefinite lengths nested below the depth, and below
+/// `MAX_RECURSION`; they are read as `parse_ber_recursive` reads those of an object of class
+/// Universal at this depth, so the items of a list at one less. A number that has no content of its
+/// own gives Unknown, with a header of class Universal that has no raw tag.
+///
+/// Refusals, in this order: InvalidLength for a definite length above `MAX_OBJECT_SIZE`;
+/// BerMaxDepth at depth 0; ConstructExpected for an indefinite length without the constructed bit;
+/// those of the framing; those of the type, and of the first item that is refused. Incomplete, with
+/// the whole of a definite length, where fewer octets are there, told before the depth; and where
+/// the elements of an indefinite length are cut short, with the number of octets that they lack.
+/// OutOfMemory only at depth 2 and more, of a list that has items.
+pub fn ber_read_element_content_as<'a>(
+    alloc: Global,
+    i: &'a [u8],
+    tag: Tag,
+    length: Length,
+    constructed: bool,
+    max_depth: usize,
+) -> BerResult<'a, BerObjectContent<'a>>
+    ensures found { MatchAnswer result
+        (λ x. ReadsContentAs tag.0 length constructed max_depth i.now x.1 x.0.now)
+        (ContentAsRefuses tag.0 length constructed max_depth i.now)
+        (FrameLacks length constructed max_depth i.now)
+        (ContentAsNeedsMemory tag.0 length constructed max_depth i.now) }
+    ensures only { (w rest : List ℕ) (x : Content) (fs : Forms) → FramesContent length constructed max_depth i.now w rest → IsContentAs tag.0 length constructed max_depth w x fs
+        → AnswersOkOr (ContentAsNeedsMemory tag.0 length constructed max_depth i.now) result (λ y. (content_tree y.1 ≡ x) × (y.0.now ≡ rest)) }
+    ensures refuses { (e : Refusal) → ContentAsRefuses tag.0 length constructed max_depth i.now e → AnswersErrorOr (ContentAsNeedsMemory tag.0 length constructed max_depth i.now) result e }
+    ensures lacks { (n : ℕ) → FrameLacks length constructed max_depth i.now n → AnswersIncompleteOr (ContentAsNeedsMemory tag.0 length constructed max_depth i.now) result n }
+{
+    read_content_as(alloc, i, tag, length, constructed, max_depth)
+}
+
+/// A reader of contents of one universal type, which `parse_ber_content` makes.
+#[derive(Clone, Copy)]
+pub struct BerContent {
+    /// The tag number of the type.
+    pub tag: Tag,
+    alloc: Global,
+}
+
+/// The reader of contents of this universal type, behind headers that are borrowed.
+pub fn parse_ber_content(alloc: Global, tag: Tag) -> BerContent
+    ensures { result.tag ≡ tag }
+{
+    BerContent { tag, alloc }
+}
+
+impl BerContent {
+    /// Reads as `ber_read_element_content_as` the content that stands behind a header of this
+    /// length and constructed bit. Its class and tag number aren't looked at.
+    pub fn parse<'a>(
+        &self,
+        i: &'a [u8],
+        header: &Header<'_>,
+        max_depth: usize,
+    ) -> BerResult<'a, BerObjectContent<'a>>
+        ensures found { let l = length_of header.now in let p = is_constructed header.now in MatchAnswer result
+            (λ x. ReadsContentAs self.now.tag.0 l p max_depth i.now x.1 x.0.now)
+            (ContentAsRefuses self.now.tag.0 l p max_depth i.now)
+            (FrameLacks l p max_depth i.now)
+            (ContentAsNeedsMemory self.now.tag.0 l p max_depth i.now) }
+        ensures only { let l = length_of header.now in let p = is_constructed header.now in (w rest : List ℕ) (x : Content) (fs : Forms) → FramesContent l p max_depth i.now w rest → IsContentAs self.now.tag.0 l p max_depth w x fs
+            → AnswersOkOr (ContentAsNeedsMemory self.now.tag.0 l p max_depth i.now) result (λ y. (content_tree y.1 ≡ x) × (y.0.now ≡ rest)) }
+        ensures refuses { let l = length_of header.now in let p = is_constructed header.now in (e : Refusal) → ContentAsRefuses self.now.tag.0 l p max_depth i.now e → AnswersErrorOr (ContentAsNeedsMemory self.now.tag.0 l p max_depth i.now) result e }
+        ensures lacks { let l = length_of header.now in let p = is_constructed header.now in (n : ℕ) → FrameLacks l p max_depth i.now n → AnswersIncompleteOr (ContentAsNeedsMemory self.now.tag.0 l p max_depth i.now) result n }
+    {
+        ber_read_element_content_as(
+            self.alloc,
+            i,
+            self.tag,
+            header.length(),
+            header.constructed(),
+            max_depth,
+        )
+    }
+}
+
+/// A reader of contents of one universal type, which `parse_ber_content2` makes.
+#[derive(Clone, Copy)]
+pub struct BerContent2 {
+    /// The tag number of the type.
+    pub tag: Tag,
+    alloc: Global,
+}
+
+/// The reader of contents of this universal type, behind headers by value.
+pub fn parse_ber_content2(alloc: Global, tag: Tag) -> BerContent2
+    ensures { result.tag ≡ tag }
+{
+    BerContent2 { tag, alloc }
+}
+
+impl BerContent2 {
+    /// Reads as `BerContent::parse`.
+    pub fn parse<'a>(
+        &self,
+        i: &'a [u8],
+        header: Header<'_>,
+        max_depth: usize,
+    ) -> BerResult<'a, BerObjectContent<'a>>
+        ensures found { let l = length_of header.entry in let p = is_constructed header.entry in MatchAnswer result
+            (λ x. ReadsContentAs self.now.tag.0 l p max_depth i.now x.1 x.0.now)
+            (ContentAsRefuses self.now.tag.0 l p max_depth i.now)
+            (FrameLacks l p max_depth i.now)
+            (ContentAsNeedsMemory self.now.tag.0 l p max_depth i.now) }
+        ensures only { let l = length_of header.entry in let p = is_constructed header.entry in (w rest : List ℕ) (x : Content) (fs : Forms) → FramesContent l p max_depth i.now w rest → IsContentAs self.now.tag.0 l p max_depth w x fs
+            → AnswersOkOr (ContentAsNeedsMemory self.now.tag.0 l p max_depth i.now) result (λ y. (content_tree y.1 ≡ x) × (y.0.now ≡ rest)) }
+        ensures refuses { let l = length_of header.entry in let p = is_constructed header.entry in (e : Refusal) → ContentAsRefuses self.now.tag.0 l p max_depth i.now e → AnswersErrorOr (ContentAsNeedsMemory self.now.tag.0 l p max_depth i.now) result e }
+        ensures lacks { let l = length_of header.entry in let p = is_constructed header.entry in (n : ℕ) → FrameLacks l p max_depth i.now n → AnswersIncompleteOr (ContentAsNeedsMemory self.now.tag.0 l p max_depth i.now) result n }
+    {
+        parse_ber_content(self.alloc, self.tag).parse(i, &header, max_depth)
+    }
+}
