@@ -1,3 +1,6 @@
+pub mod ContentLaws
 pub mod Forms
 pub mod Items
 pub mod ReadingLaws
+pub mod TypedLaws
+pub mod TypedRead

@@ -1,2 +1,3 @@
+pub mod ContentReading
 pub mod DerForms
 pub mod DerReading

@@ -47,7 +47,7 @@ pub fn read_element<'a>(
 }
 
 /// How many octets a content lacks that is cut short: by DER the whole length for class Universal.
-fn lacking(header: &Header<'_>, size: usize, rest: &[u8]) -> usize
+pub(crate) fn lacking(header: &Header<'_>, size: usize, rest: &[u8]) -> usize
     requires { length rest.now < size }
     ensures universal { class_of header.now ≡ Class.Universal → result ≡ size }
     ensures other { class_of header.now ≢ Class.Universal → length rest.now + result ≡ size }
@@ -61,7 +61,7 @@ fn lacking(header: &Header<'_>, size: usize, rest: &[u8]) -> usize
 
 /// The content of an element behind its header.
 #[cycle(reader)]
-fn read_content<'a>(
+pub(crate) fn read_content<'a>(
     alloc: Global,
     header: Header<'a>,
     content: &'a [u8],

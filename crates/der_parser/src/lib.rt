@@ -52,7 +52,17 @@ pub mod der {
         Class, Class as DerClass, Header, Header as DerObjectHeader, Tag, Tag as DerTag,
         der_header_counted, der_read_element_header,
     };
-    pub use der_der::{parse_der, parse_der_counted, parse_der_recursive};
+    pub use der_der::{
+        DerContent, DerContent2, der_read_element_content, der_read_element_content_as, parse_der,
+        parse_der_bitstring, parse_der_bmpstring, parse_der_bool, parse_der_content,
+        parse_der_content2, parse_der_counted, parse_der_endofcontent, parse_der_enum,
+        parse_der_generalizedtime, parse_der_generalstring, parse_der_graphicstring,
+        parse_der_ia5string, parse_der_integer, parse_der_null, parse_der_numericstring,
+        parse_der_objectdescriptor, parse_der_octetstring, parse_der_oid, parse_der_printablestring,
+        parse_der_recursive, parse_der_relative_oid, parse_der_sequence, parse_der_set,
+        parse_der_t61string, parse_der_universalstring, parse_der_utctime, parse_der_utf8string,
+        parse_der_videotexstring, parse_der_visiblestring, parse_der_with_tag, visiblestring,
+    };
     pub use der_object::{DerObject, DerObjectContent};
 }
 

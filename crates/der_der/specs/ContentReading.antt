@@ -1,0 +1,112 @@
+-- What the readers of a content answer that are given its header or the parts of one, and what the readers of one tag number answer.
+use Rattle.std.specs.Prelude.{◌≡◌, ◌≢◌, ℕ, ◌+◌, ◌<◌, ◌≤◌, ◌⊎◌, Bool, true, None, Some, IsTrue, List, [], ◌++◌, length}
+use Rattle.der_base.specs.declared.error.DerConstraint.TheVariants.{IndefiniteLength}
+use Rattle.der_base.specs.declared.header.Class.{Class}
+use Rattle.der_base.specs.declared.header.Class.TheVariants.{Universal}
+use Rattle.der_base.specs.declared.header.Header.{Header}
+use Rattle.der_base.specs.declared.header.Length.{Length}
+use Rattle.der_base.specs.declared.header.Length.TheVariants.{Definite, Indefinite}
+use Rattle.der_base.specs.Fault.{DerHeaderRefuses}
+use Rattle.der_base.specs.Header.{class_of, is_constructed, number_of, length_of, IsHeader}
+use Rattle.der_base.specs.Headers.{BeginsWithDerHeader, ReadsDerHeader, DerHeaderLacks}
+use Rattle.der_base.specs.Leaf.{is_list}
+use Rattle.der_base.specs.Refusal.{Refusal, der_constraint, invalid_length, max_depth, unexpected_tag}
+use Rattle.der_base.specs.Spelling.{max_object_size}
+use Rattle.der_base.specs.Tree.{Content}
+use Rattle.der_object.specs.declared.object.BerObject.{BerObject}
+use Rattle.der_object.specs.declared.object.BerObjectContent.{BerObjectContent}
+use Rattle.der_object.specs.declared.object.BerObjectContent.TheVariants.{Unknown}
+use Rattle.der_object.specs.Marks.{EachInside, KeepsHeader, HasShortestMark}
+use Rattle.der_object.specs.View.{content_tree}
+use Rattle.der_der.specs.DerReading.{IsDerContentOf, ContentRefuses}
+
+-- content octets
+
+-- the tests of length and depth pass, i begins with the content octets w, and rest follows
+pub record FramesContent (l : Length) (d : ℕ) (i w rest : List ℕ) : Type 0 where
+  pub deep : 1 ≤ d
+  pub definite : l ≡ Definite (length w)
+  pub size : length w ≤ max_object_size
+  pub octets : i ≡ w ++ rest
+
+-- a test of length or depth shows the refusal
+abbrev pub FrameRefuses : Length → ℕ → List ℕ → Refusal → Type 0
+FrameRefuses Indefinite d i e = e ≡ der_constraint IndefiniteLength
+FrameRefuses (Definite n) d i e = ((max_object_size < n) × (e ≡ invalid_length))
+    ⊎ ((n ≤ max_object_size) × (n ≤ length i) × (d ≡ 0) × (e ≡ max_depth))
+
+-- i ends within the content octets, and n is their whole length for class Universal, and what is missing of it for others
+abbrev pub FrameLacks : Class → Length → List ℕ → ℕ → Type 0
+FrameLacks c Indefinite i n = ⊥
+FrameLacks c (Definite m) i n = (m ≤ max_object_size) × (length i < m) × (c ≡ Universal → n ≡ m) × (c ≢ Universal → length i + n ≡ m)
+
+-- contents, behind a header of this class, number, length and constructed bit
+
+-- i begins with the octets of the content, and rest follows
+pub record ReadsContent (c : Class) (t : ℕ) (l : Length) (p : Bool) (d : ℕ) (i : List ℕ) (x : BerObjectContent) (rest : List ℕ) : Type 0 where
+  pub octets : List ℕ
+  pub framed : FramesContent l d i octets rest
+  pub content : IsDerContentOf octets c p t (content_tree x) d
+  -- each header of an item has the length and the identifier octets that are there
+  pub marked : EachInside HasShortestMark x
+
+-- the octets show the refusal, in a test or in the content
+abbrev pub ReadingRefuses : Class → ℕ → Length → Bool → ℕ → List ℕ → Refusal → Type 0
+ReadingRefuses c t l p d i e = FrameRefuses l d i e
+    ⊎ ((w rest : List ℕ) × FramesContent l d i w rest × ContentRefuses c p t w d e)
+
+-- the octets are a list that has items
+abbrev pub ReadingNeedsMemory : Class → ℕ → Length → Bool → ℕ → List ℕ → Type 0
+ReadingNeedsMemory c t l p d i = (2 ≤ d) × (c ≡ Universal) × IsTrue (is_list t) × (p ≡ true) × (w rest : List ℕ) × (w ≢ []) × FramesContent l d i w rest
+
+-- an unknown content has a header of class Universal with these parts
+abbrev pub HasOwnHeader : ℕ → Length → Bool → BerObjectContent → Type 0
+HasOwnHeader t l p (Unknown a) = IsHeader a.header Universal p t l None
+HasOwnHeader t l p _ = Unit {0}
+
+-- a content of the universal type of number t, whose header the reader makes
+pub record ReadsContentAs (t : ℕ) (l : Length) (p : Bool) (d : ℕ) (i : List ℕ) (x : BerObjectContent) (rest : List ℕ) : Type 0 where
+  pub read : ReadsContent Universal t l p d i x rest
+  pub own : HasOwnHeader t l p x
+
+-- the content of an object with the header h, to depth d
+pub record ReadsContentOf (h : Header) (d : ℕ) (i : List ℕ) (o : BerObject) (rest : List ℕ) : Type 0 where
+  pub header : o.header ≡ h
+  pub read : ReadsContent (class_of h) (number_of h) (length_of h) (is_constructed h) d i o.content rest
+  pub kept : KeepsHeader h o.content
+
+-- objects of one number, of any class
+
+-- i begins with a header of this number
+pub record ReadsHeaderOf (t : ℕ) (i : List ℕ) (h : Header) (behind : List ℕ) : Type 0 where
+  pub header : ReadsDerHeader i h behind
+  pub number : number_of h ≡ t
+
+-- i begins with such a header, and with octets of such a content, and rest follows
+pub record ReadsTyped (t : ℕ) (i : List ℕ) (o : BerObject) (rest : List ℕ) : Type 0 where
+  pub behind : List ℕ
+  pub header : ReadsHeaderOf t i o.header behind
+  pub content : ReadsContentAs t (length_of o.header) (is_constructed o.header) 50 behind o.content rest
+
+-- the same of a class, bit, number and content of which there is no object yet
+abbrev pub BeginsWithTyped : List ℕ → Class → Bool → ℕ → Content → List ℕ → Type 0
+BeginsWithTyped i c p t x rest = (m : ℕ) × (behind w : List ℕ) × BeginsWithDerHeader i c p t m behind × FramesContent (Definite m) 50 behind w rest × IsDerContentOf w Universal p t x 50
+
+-- the header is refused, or has another number
+abbrev pub HeaderOfRefuses : ℕ → List ℕ → Refusal → Type 0
+HeaderOfRefuses t i e = DerHeaderRefuses i e
+    ⊎ ((c : Class) × (p : Bool) × (n m : ℕ) × (behind : List ℕ) × BeginsWithDerHeader i c p n m behind × (n ≢ t) × (e ≡ unexpected_tag (Some t) n))
+
+-- or its content is refused
+abbrev pub TypedRefuses : ℕ → List ℕ → Refusal → Type 0
+TypedRefuses t i e = HeaderOfRefuses t i e
+    ⊎ ((c : Class) × (p : Bool) × (m : ℕ) × (behind : List ℕ) × BeginsWithDerHeader i c p t m behind × ReadingRefuses Universal t (Definite m) p 50 behind e)
+
+-- i ends within the header, or within the content octets behind one of this number
+abbrev pub TypedLacks : ℕ → List ℕ → ℕ → Type 0
+TypedLacks t i n = DerHeaderLacks i n
+    ⊎ ((c : Class) × (p : Bool) × (m : ℕ) × (behind : List ℕ) × BeginsWithDerHeader i c p t m behind × FrameLacks Universal (Definite m) behind n)
+
+-- behind a header of this number is a list that has items
+abbrev pub TypedNeedsMemory : ℕ → List ℕ → Type 0
+TypedNeedsMemory t i = (c : Class) × (p : Bool) × (m : ℕ) × (behind : List ℕ) × BeginsWithDerHeader i c p t m behind × ReadingNeedsMemory Universal t (Definite m) p 50 behind

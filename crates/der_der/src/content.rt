@@ -1,0 +1,225 @@
+//! Contents read without their header: the caller gives it, or the tag number, the length and the
+//! constructed bit of a universal type.
+ghost use Rattle.std.specs.Prelude.{◌≡◌, ℕ, List};
+ghost use Rattle.der_base.specs.declared.header.Class.{Class};
+ghost use Rattle.der_base.specs.Answer.{MatchAnswer, AnswersOkOr, AnswersErrorOr, AnswersIncompleteOr};
+ghost use Rattle.der_base.specs.Header.{class_of, is_constructed, number_of, length_of};
+ghost use Rattle.der_base.specs.Refusal.{Refusal};
+ghost use Rattle.der_base.specs.Tree.{Content};
+ghost use Rattle.der_object.specs.View.{content_tree};
+ghost use Rattle.der_der.specs.DerReading.{IsDerContentOf};
+ghost use Rattle.der_der.specs.ContentReading.{FramesContent, FrameRefuses, FrameLacks, ReadingRefuses, ReadingNeedsMemory, ReadsContentAs, ReadsContentOf};
+
+use crate::reader::{lacking, read_content};
+use der_base::error::{BerError, Err, IResult, Needed};
+use der_base::header::{Class, Header, HeaderCount, Length, Tag};
+use der_base::{MAX_OBJECT_SIZE, MAX_RECURSION};
+use der_object::{BerObject, BerObjectContent, BerResult};
+use std::alloc::Global;
+
+/// The content octets behind a header, and what follows the element.
+pub(crate) fn frame_content<'a>(
+    i: &'a [u8],
+    header: &Header<'_>,
+    max_depth: usize,
+) -> IResult<&'a [u8], &'a [u8], BerError>
+    ensures { MatchAnswer result
+        (λ x. FramesContent (length_of header.now) max_depth i.now x.1.now x.0.now)
+        (FrameRefuses (length_of header.now) max_depth i.now)
+        (FrameLacks (class_of header.now) (length_of header.now) i.now)
+        ⊥ }
+{
+    let size = header.length().definite()?;
+    if size > MAX_OBJECT_SIZE {
+        return Err(Err::Error(BerError::InvalidLength));
+    }
+    if i.len() < size {
+        return Err(Err::Incomplete(Needed::Size(lacking(header, size, i))));
+    }
+    if max_depth == 0 {
+        return Err(Err::Error(BerError::BerMaxDepth));
+    }
+    let (content, rest) = i.split_at(size);
+    Ok((rest, content))
+}
+
+/// The object of a header and the content behind it, and what follows the element.
+fn read_content_of<'a>(
+    alloc: Global,
+    i: &'a [u8],
+    header: Header<'a>,
+    max_depth: usize,
+) -> BerResult<'a>
+    ensures { let h = header.entry in MatchAnswer result
+        (λ x. ReadsContentOf h max_depth i.now x.1 x.0.now)
+        (ReadingRefuses (class_of h) (number_of h) (length_of h) (is_constructed h) max_depth i.now)
+        (FrameLacks (class_of h) (length_of h) i.now)
+        (ReadingNeedsMemory (class_of h) (number_of h) (length_of h) (is_constructed h) max_depth i.now) }
+{
+    let (rest, octets) = frame_content(i, &header, max_depth)?;
+    let content = read_content(alloc, header, octets, max_depth, &mut HeaderCount::new())?;
+    Ok((rest, BerObject::from_header_and_content(header, content)))
+}
+
+/// The content of the universal type of this number, and what follows the element.
+fn read_content_as<'a>(
+    alloc: Global,
+    i: &'a [u8],
+    tag: Tag,
+    length: Length,
+    constructed: bool,
+    max_depth: usize,
+) -> BerResult<'a, BerObjectContent<'a>>
+    ensures { MatchAnswer result
+        (λ x. ReadsContentAs tag.0 length constructed max_depth i.now x.1 x.0.now)
+        (ReadingRefuses Class.Universal tag.0 length constructed max_depth i.now)
+        (FrameLacks Class.Universal length i.now)
+        (ReadingNeedsMemory Class.Universal tag.0 length constructed max_depth i.now) }
+{
+    let header = Header::new(Class::Universal, constructed, tag, length);
+    let (rest, object) = read_content_of(alloc, i, header, max_depth)?;
+    Ok((rest, object.content))
+}
+
+/// Reads the content of a universal type behind its header, of which the caller gives the tag
+/// number, the length and the constructed bit, and answers what follows the element. The content
+/// octets are as many as the length says; they are read as `parse_der_recursive` reads those of an
+/// object of class Universal at this depth, so the items of a list at one less. A number that has
+/// no content of its own gives Unknown, with a header of class Universal that has no raw tag.
+///
+/// Refusals, in this order: the constraint IndefiniteLength; InvalidLength for a length above
+/// `MAX_OBJECT_SIZE`; BerMaxDepth at depth 0; ConstructExpected for a primitive SEQUENCE or SET, and
+/// the constraint Constructed for another type that is constructed; those of the type, and of the
+/// first item that is refused. Incomplete, with the whole length, where fewer octets are there, told
+/// before the depth. OutOfMemory only at depth 2 and more, of a list that has items.
+pub fn der_read_element_content_as<'a>(
+    alloc: Global,
+    i: &'a [u8],
+    tag: Tag,
+    length: Length,
+    constructed: bool,
+    max_depth: usize,
+) -> BerResult<'a, BerObjectContent<'a>>
+    ensures found { MatchAnswer result
+        (λ x. ReadsContentAs tag.0 length constructed max_depth i.now x.1 x.0.now)
+        (ReadingRefuses Class.Universal tag.0 length constructed max_depth i.now)
+        (FrameLacks Class.Universal length i.now)
+        (ReadingNeedsMemory Class.Universal tag.0 length constructed max_depth i.now) }
+    ensures only { (w rest : List ℕ) (x : Content) → FramesContent length max_depth i.now w rest → IsDerContentOf w Class.Universal constructed tag.0 x max_depth
+        → AnswersOkOr (ReadingNeedsMemory Class.Universal tag.0 length constructed max_depth i.now) result (λ y. (content_tree y.1 ≡ x) × (y.0.now ≡ rest)) }
+    ensures refuses { (e : Refusal) → ReadingRefuses Class.Universal tag.0 length constructed max_depth i.now e
+        → AnswersErrorOr (ReadingNeedsMemory Class.Universal tag.0 length constructed max_depth i.now) result e }
+    ensures lacks { (n : ℕ) → FrameLacks Class.Universal length i.now n
+        → AnswersIncompleteOr (ReadingNeedsMemory Class.Universal tag.0 length constructed max_depth i.now) result n }
+{
+    read_content_as(alloc, i, tag, length, constructed, max_depth)
+}
+
+/// Reads the content of an object behind its header, which the caller gives and the object keeps,
+/// and answers what follows the element. The content octets are as many as the length says; they
+/// are read as `parse_der` reads those of an object with this header, to the depth
+/// `MAX_RECURSION`: those of a class other than Universal, and of a number that has no content of
+/// its own, give Unknown.
+///
+/// Refusals, in this order: the constraint IndefiniteLength; InvalidLength for a length above
+/// `MAX_OBJECT_SIZE`; ConstructExpected for a primitive SEQUENCE or SET, and the constraint
+/// Constructed for another type that is constructed; those of the type, and of the first item that
+/// is refused. Incomplete where fewer octets are there, with the whole length for class Universal
+/// and with what is missing for others. OutOfMemory only of a list that has items.
+pub fn der_read_element_content<'a>(alloc: Global, i: &'a [u8], hdr: Header<'a>) -> BerResult<'a>
+    ensures found { let h = hdr.entry in MatchAnswer result
+        (λ x. ReadsContentOf h 50 i.now x.1 x.0.now)
+        (ReadingRefuses (class_of h) (number_of h) (length_of h) (is_constructed h) 50 i.now)
+        (FrameLacks (class_of h) (length_of h) i.now)
+        (ReadingNeedsMemory (class_of h) (number_of h) (length_of h) (is_constructed h) 50 i.now) }
+    ensures only { let h = hdr.entry in (w rest : List ℕ) (x : Content) → FramesContent (length_of h) 50 i.now w rest → IsDerContentOf w (class_of h) (is_constructed h) (number_of h) x 50
+        → AnswersOkOr (ReadingNeedsMemory (class_of h) (number_of h) (length_of h) (is_constructed h) 50 i.now) result (λ y. (y.1.header ≡ h) × (content_tree y.1.content ≡ x) × (y.0.now ≡ rest)) }
+    ensures refuses { let h = hdr.entry in (e : Refusal) → ReadingRefuses (class_of h) (number_of h) (length_of h) (is_constructed h) 50 i.now e
+        → AnswersErrorOr (ReadingNeedsMemory (class_of h) (number_of h) (length_of h) (is_constructed h) 50 i.now) result e }
+    ensures lacks { let h = hdr.entry in (n : ℕ) → FrameLacks (class_of h) (length_of h) i.now n
+        → AnswersIncompleteOr (ReadingNeedsMemory (class_of h) (number_of h) (length_of h) (is_constructed h) 50 i.now) result n }
+{
+    read_content_of(alloc, i, hdr, MAX_RECURSION)
+}
+
+/// A reader of contents of one universal type, which `parse_der_content` makes.
+#[derive(Clone, Copy)]
+pub struct DerContent {
+    /// The tag number of the type.
+    pub tag: Tag,
+    alloc: Global,
+}
+
+/// The reader of contents of this universal type, behind headers that are borrowed.
+pub fn parse_der_content(alloc: Global, tag: Tag) -> DerContent
+    ensures { result.tag ≡ tag }
+{
+    DerContent { tag, alloc }
+}
+
+impl DerContent {
+    /// Reads as `der_read_element_content_as` the content that stands behind a header of this
+    /// length and constructed bit. Its class and tag number aren't looked at.
+    pub fn parse<'a>(
+        &self,
+        i: &'a [u8],
+        header: &Header<'_>,
+        max_depth: usize,
+    ) -> BerResult<'a, BerObjectContent<'a>>
+        ensures found { let l = length_of header.now in let p = is_constructed header.now in MatchAnswer result
+            (λ x. ReadsContentAs self.now.tag.0 l p max_depth i.now x.1 x.0.now)
+            (ReadingRefuses Class.Universal self.now.tag.0 l p max_depth i.now)
+            (FrameLacks Class.Universal l i.now)
+            (ReadingNeedsMemory Class.Universal self.now.tag.0 l p max_depth i.now) }
+        ensures only { let l = length_of header.now in let p = is_constructed header.now in (w rest : List ℕ) (x : Content) → FramesContent l max_depth i.now w rest → IsDerContentOf w Class.Universal p self.now.tag.0 x max_depth
+            → AnswersOkOr (ReadingNeedsMemory Class.Universal self.now.tag.0 l p max_depth i.now) result (λ y. (content_tree y.1 ≡ x) × (y.0.now ≡ rest)) }
+        ensures refuses { let l = length_of header.now in let p = is_constructed header.now in (e : Refusal) → ReadingRefuses Class.Universal self.now.tag.0 l p max_depth i.now e → AnswersErrorOr (ReadingNeedsMemory Class.Universal self.now.tag.0 l p max_depth i.now) result e }
+        ensures lacks { let l = length_of header.now in let p = is_constructed header.now in (n : ℕ) → FrameLacks Class.Universal l i.now n → AnswersIncompleteOr (ReadingNeedsMemory Class.Universal self.now.tag.0 l p max_depth i.now) result n }
+    {
+        der_read_element_content_as(
+            self.alloc,
+            i,
+            self.tag,
+            header.length(),
+            header.constructed(),
+            max_depth,
+        )
+    }
+}
+
+/// A reader of contents of one universal type, which `parse_der_content2` makes.
+#[derive(Clone, Copy)]
+pub struct DerContent2 {
+    /// The tag number of the type.
+    pub tag: Tag,
+    alloc: Global,
+}
+
+/// The reader of contents of this universal type, behind headers by value.
+pub fn parse_der_content2(alloc: Global, tag: Tag) -> DerContent2
+    ensures { result.tag ≡ tag }
+{
+    DerContent2 { tag, alloc }
+}
+
+impl DerContent2 {
+    /// Reads as `DerContent::parse`.
+    pub fn parse<'a>(
+        &self,
+        i: &'a [u8],
+        header: Header<'_>,
+        max_depth: usize,
+    ) -> BerResult<'a, BerObjectContent<'a>>
+        ensures found { let l = length_of header.entry in let p = is_constructed header.entry in MatchAnswer result
+            (λ x. ReadsContentAs self.now.tag.0 l p max_depth i.now x.1 x.0.now)
+            (ReadingRefuses Class.Universal self.now.tag.0 l p max_depth i.now)
+            (FrameLacks Class.Universal l i.now)
+            (ReadingNeedsMemory Class.Universal self.now.tag.0 l p max_depth i.now) }
+        ensures only { let l = length_of header.entry in let p = is_constructed header.entry in (w rest : List ℕ) (x : Content) → FramesContent l max_depth i.now w rest → IsDerContentOf w Class.Universal p self.now.tag.0 x max_depth
+            → AnswersOkOr (ReadingNeedsMemory Class.Universal self.now.tag.0 l p max_depth i.now) result (λ y. (content_tree y.1 ≡ x) × (y.0.now ≡ rest)) }
+        ensures refuses { let l = length_of header.entry in let p = is_constructed header.entry in (e : Refusal) → ReadingRefuses Class.Universal self.now.tag.0 l p max_depth i.now e → AnswersErrorOr (ReadingNeedsMemory Class.Universal self.now.tag.0 l p max_depth i.now) result e }
+        ensures lacks { let l = length_of header.entry in let p = is_constructed header.entry in (n : ℕ) → FrameLacks Class.Universal l i.now n → AnswersIncompleteOr (ReadingNeedsMemory Class.Universal self.now.tag.0 l p max_depth i.now) result n }
+    {
+        parse_der_content(self.alloc, self.tag).parse(i, &header, max_depth)
+    }
+}
