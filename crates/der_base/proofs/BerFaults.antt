@@ -1,14 +1,13 @@
 -- A BER spelling in front of the input, a refusal that it shows, and its end within an element: one of them holds at most, and each in one way.
-use Rattle.std.proofs.Common.{◌≡◌, ℕ, zero, suc, ◌-◌, ◌≤◌, Bool, true, false, IsTrue, ◌==◌, List, [], ◌∷◌, ◌++◌, length, refl, sym, ap, subst, ◌∙◌, arith, append_assoc, ◌⊎◌, inl, inr}
+use Rattle.std.proofs.Common.{◌≡◌, ℕ, zero, suc, ◌-◌, ◌≤◌, Bool, true, false, IsTrue, ◌==◌, List, [], ◌++◌, length, refl, sym, ap, subst, ◌∙◌, arith, append_assoc, ◌⊎◌, inl, inr}
 use Rattle.std.proofs.lemmas.Bool.Decides.{Decides-eqb}
 use Rattle.der_base.specs.declared.header.Class.{Class}
 use Rattle.der_base.specs.declared.header.Class.TheVariants.{Universal}
-use Rattle.der_base.specs.declared.header.Length.{Length}
 use Rattle.der_base.specs.declared.error.Needed.TheVariants.{Size}
 use Rattle.der_base.specs.Any.{AnyRefuses, AnyLacks}
 use Rattle.der_base.specs.Cut.{IsCut, Lacks}
 use Rattle.der_base.specs.Fault.{ItemRefuses, ShowsFault, ShowsInside}
-use Rattle.der_base.specs.Framed.{IsElement, HasContent, JoinSpellings, Spells}
+use Rattle.der_base.specs.Framed.{HasContent, JoinSpellings, Spells}
 use Rattle.der_base.specs.Leaf.{is_list, is_mapped, IsLeafContent}
 use Rattle.der_base.specs.LeafRefusal.{BerLeafRefuses, ber_tests}
 use Rattle.der_base.specs.Refusal.{Refusal, incomplete}

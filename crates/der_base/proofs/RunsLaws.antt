@@ -1,5 +1,5 @@
 -- The element that begins the input, what a container refuses, and which of the two a run shows: one of them holds at most, and each in one way.
-use Rattle.std.proofs.Common.{◌≡◌, ℕ, ◌-◌, ◌<◌, Bool, List, length, Err, Bor, refl, sym, ap, subst, ◌∙◌, arith, inl, inr}
+use Rattle.std.proofs.Common.{◌≡◌, ◌≢◌, ℕ, ◌-◌, ◌<◌, Bool, Some, List, length, Result, Ok, Err, MatchResult, IfOk, IfErr, IsOkAnd, Bor, refl, sym, ap, subst, ◌∙◌, arith, inl, inr}
 use Rattle.der_base.specs.declared.any.Any.{Any}
 use Rattle.der_base.specs.declared.error.Err.{Err as Refused}
 use Rattle.der_base.specs.declared.error.Err.TheVariants.{Incomplete, Error, Failure, OutOfMemory}
@@ -15,8 +15,8 @@ use Rattle.der_base.specs.Any.{ReadsAny, AnyRefuses, AnyLacks}
 use Rattle.der_base.specs.Errors.{MapsError}
 use Rattle.der_base.specs.Headers.{ReadsHeader}
 use Rattle.der_base.specs.Header.{IsHeader, class_of, is_constructed, number_of, length_of, raw_tag_of}
-use Rattle.der_base.specs.Refusal.{Refusal, refusal}
-use Rattle.der_base.specs.Runs.{Answered, OpensBer, HasShortContent, OpeningLacks, faulty, cut, too_short, RefusesBer, OneCall, stopped, accepted, NoCall, refused, ContainerRun}
+use Rattle.der_base.specs.Refusal.{Refusal, refusal, unexpected_tag}
+use Rattle.der_base.specs.Runs.{Answered, OpensBer, HasShortContent, OpeningLacks, faulty, cut, too_short, RefusesBer, RefusesBerNumber, OpensBerNumber, unopened, other_number, OneCall, stopped, accepted, NoCall, refused, ContainerRun}
 use Rattle.der_base.specs.Spelling.{BeginsWithElement, framing_budget}
 use Rattle.der_base.proofs.BerHeaders.{ber_header_same, ber_header_only}
 use Rattle.der_base.proofs.Cuts.{lacks_same}
@@ -90,13 +90,54 @@ module _ {E : Type 0} {from_error_kind_gives : Bor (List ℕ) → ErrorKind → 
   short_told behind s (cut (l, s')) = absurd (s' behind s)
   short_told {i = i} behind s (too_short {behind = v} {x = x} s' k) = (v, x, short_same i v.now behind s' s, k, refl)
 
--- of the two ends of a run, the one that is not excluded
-module _ {F O E : Type 0} (opens : List ℕ → Header → List ℕ → List ℕ → Type 0) (refuses : List ℕ → Refused E → Type 0) (step : F → Bor (List ℕ) → Header → Answered O E → F → Type 0) where
-  pub one_call : {i : List ℕ} {f g : F} {r : Answered O E} → ContainerRun opens refuses step i f r g → ((e : Refused E) → ¬ refuses i e) → OneCall opens step i f r g
+  -- an element of the number is not refused for its number
+  pub number_begins_not_refused : {n : ℕ} {i : List ℕ} {r : Refused E} (c : Class) (p : Bool) (w rest : List ℕ) → BeginsWithElement i framing_budget c p n w rest → RefusesBerNumber from_error_kind_gives from_gives n i r → ⊥
+  number_begins_not_refused {n = n} c p w rest b (unopened h) = ber_begins_not_refused c p n w rest b h
+  number_begins_not_refused {n = n} {i = i} c p w rest b (other_number (o, h, w', after, q, z) e g) = o (sym ((begins_same i framing_budget framing_budget c (class_of h) p (is_constructed h) n (number_of h) w w' rest after b q.element).2 ∙ z))
+
+  pub number_opens_not_refused : {n : ℕ} {i : List ℕ} {r : Refused E} (h : Header) (w after : List ℕ) → OpensBerNumber n i h w after → RefusesBerNumber from_error_kind_gives from_gives n i r → ⊥
+  number_opens_not_refused {n = n} {i = i} h w after (o, z) r =
+      number_begins_not_refused (class_of h) (is_constructed h) w after (subst (λ t. BeginsWithElement i framing_budget (class_of h) (is_constructed h) t w after) z o.element) r
+
+  -- another number is told by its name
+  pub number_told : {i : List ℕ} {r : Refused E} (n t : ℕ) (c : Class) (p : Bool) (w rest : List ℕ) → t ≢ n → BeginsWithElement i framing_budget c p t w rest → RefusesBerNumber from_error_kind_gives from_gives n i r
+      → (y : BerError) × (x : E) × (refusal y ≡ unexpected_tag (Some n) t) × from_gives y x × (r ≡ Error x)
+  number_told n t c p w rest o b (unopened h) = absurd (ber_begins_not_refused c p t w rest b h)
+  number_told {i = i} n t c p w rest o b (other_number {e = y} {x = x} (o', h, w', after, q, z) e g) =
+      let s = (begins_same i framing_budget framing_budget (class_of h) c (is_constructed h) p (number_of h) t w' w after rest q.element b).2 in
+      (y, x, e ∙ ap (unexpected_tag (Some n)) (sym z ∙ s), g, refl)
+
+module _ {F O E : Type 0} (opens : Header → List ℕ → List ℕ → Type 0) (refuses : Refused E → Type 0) (step : F → Bor (List ℕ) → Header → Answered O E → F → Type 0) where
+  -- of the two ends of a run, the one that is not excluded
+  pub one_call : {f g : F} {r : Answered O E} → ContainerRun opens refuses step f r g → ((e : Refused E) → ¬ refuses e) → OneCall opens step f r g
   one_call (inl (refused {e = e} h)) n = absurd (n e h)
   one_call (inr h) n = h
 
-  pub no_call : {i : List ℕ} {f g : F} {r : Answered O E} → ContainerRun opens refuses step i f r g → ((h : Header) (w after : List ℕ) → ¬ opens i h w after) → NoCall refuses i f r g
+  pub no_call : {f g : F} {r : Answered O E} → ContainerRun opens refuses step f r g → ((h : Header) (w after : List ℕ) → ¬ opens h w after) → NoCall refuses f r g
   no_call (inl h) n = h
   no_call (inr (stopped {h = h} {w = w} {after = after} o s e)) n = absurd (n h w after o)
   no_call (inr (accepted {h = h} {w = w} {after = after} o s e)) n = absurd (n h w after.now o)
+
+  -- a run over an element that was opened, or over a refusal
+  pub opened_run : (opened : Result (Header × Bor (List ℕ) × Bor (List ℕ)) (Refused E)) {f g : F} {r : Answered O E}
+      → MatchResult opened (λ x. OneCall (λ h w after. (h ≡ x.0) × (w ≡ x.1.now) × (after ≡ x.2.now)) step f r g) (λ e. NoCall (λ y. y ≡ e) f r g)
+      → IfOk opened (λ x. opens x.0 x.1.now x.2.now) → IfErr opened refuses → ContainerRun opens refuses step f r g
+  opened_run (Ok x) (stopped {h = h} {w = w} {after = after} (p, q, a) s c) o n = let y : opens h w after = rw (p, q, a) o in inr (stopped y s c)
+  opened_run (Ok x) (accepted {h = h} {w = w} {after = after} (p, q, a) s c) o n = let y : opens h w after.now = rw (p, q, a) o in inr (accepted y s c)
+  opened_run (Err e) (refused {e = r} q) o n = let y : refuses r = rw q n in inl (refused y)
+
+-- what a container says, where its parser says P of a content and a value
+module _ {F O E : Type 0} (opens : Header → List ℕ → List ℕ → Type 0) (refuses : Refused E → Type 0) (step : F → Bor (List ℕ) → Header → Answered O E → F → Type 0) (P : List ℕ → O → Type 0) where
+  -- an Ok is an element whose content P holds of
+  pub container_ok : ((f g : F) (content left : Bor (List ℕ)) (h : Header) (v : O) → step f content h (Ok (left, v)) g → P content.now v)
+      → {f g : F} {r : Answered O E} → ContainerRun opens refuses step f r g → IfOk r (λ x. (h : Header) × (w : List ℕ) × opens h w x.0.now × P w x.1)
+  container_ok says (inl (refused e)) = tt
+  container_ok says (inr (stopped o s e)) = tt
+  container_ok says {f = f} (inr (accepted {g = g} {h = h} {w = w} {content = content} {left = left} {v = v} o s e)) = (h, w, o, subst (λ x. P x v) e (says f g content left h v s))
+
+  -- and an element is an Ok where the parser answers one on its content
+  pub container_reads : {f g : F} {r : Answered O E} → OneCall opens step f r g
+      → ((h : Header) (w after : List ℕ) (content : Bor (List ℕ)) (a : Answered O E) → opens h w after → content.now ≡ w → step f content h a g → IsOkAnd a (λ x. P w x.1))
+      → IsOkAnd r (λ x. (h : Header) × (w : List ℕ) × opens h w x.0.now × P w x.1)
+  container_reads (stopped {h = h} {w = w} {after = after} {content = content} {e = e} o s q) reads = absurd (reads h w after content (Err e) o q s)
+  container_reads (accepted {h = h} {w = w} {content = content} {left = left} {after = after} {v = v} o s q) reads = (h, w, o, reads h w after.now content (Ok (left, v)) o q s)

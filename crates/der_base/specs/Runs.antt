@@ -1,5 +1,5 @@
 -- Combinators that keep a caller's parser: what they answer, in terms of its answers. By BER and by DER the relations are the same: `opens` says which element the input begins with, `refuses` what is answered where it begins with none, `step` what the parser promises of a call.
-use Rattle.std.specs.Prelude.{◌≡◌, ◌≢◌, ℕ, ◌<◌, ◌⊎◌, Bool, Some, List, length, Result, Ok, Err}
+use Rattle.std.specs.Prelude.{◌≡◌, ◌≢◌, ℕ, ◌<◌, ◌⊎◌, Bool, Some, List, ◌++◌, length, Result, Ok, Err}
 use Rattle.std.specs.Borrow.{Bor}
 use Rattle.der_base.specs.declared.error.Err.{Err as Refused}
 use Rattle.der_base.specs.declared.error.Err.TheVariants.{Incomplete, Error}
@@ -11,8 +11,9 @@ use Rattle.der_base.specs.declared.header.Class.{Class}
 use Rattle.der_base.specs.declared.header.Header.{Header}
 use Rattle.der_base.specs.declared.header.Length.TheVariants.{Definite}
 use Rattle.der_base.specs.Any.{AnyRefuses, AnyLacks}
-use Rattle.der_base.specs.Header.{class_of, is_constructed, number_of}
-use Rattle.der_base.specs.Headers.{BeginsWithHeader, ReadsHeader}
+use Rattle.der_base.specs.Fault.{DerHeaderRefuses}
+use Rattle.der_base.specs.Header.{class_of, is_constructed, number_of, length_of}
+use Rattle.der_base.specs.Headers.{BeginsWithHeader, ReadsHeader, BeginsWithDerHeader, ReadsDerHeader, DerHeaderLacks}
 use Rattle.der_base.specs.Refusal.{Refusal, refusal, unexpected_tag}
 use Rattle.der_base.specs.Spelling.{BeginsWithElement, framing_budget}
 
@@ -34,6 +35,13 @@ HasShortContent i behind = (c : Class) × (p : Bool) × (t n : ℕ) × BeginsWit
 abbrev pub OpeningLacks : List ℕ → ℕ → Type 0
 OpeningLacks i n = AnyLacks i n × ((behind : List ℕ) → ¬ HasShortContent i behind)
 
+-- By DER: a header as DER writes it, whose length is that of the content.
+abbrev pub OpensDer : List ℕ → Header → List ℕ → List ℕ → Type 0
+OpensDer i h w after = ReadsDerHeader i h (w ++ after) × (length_of h ≡ Definite (length w))
+
+abbrev pub HasShortDerContent : List ℕ → List ℕ → Type 0
+HasShortDerContent i behind = (c : Class) × (p : Bool) × (t n : ℕ) × BeginsWithDerHeader i c p t n behind × (length behind < n)
+
 -- Where no element with its whole content begins i: a fault of header or framing, the end of the input in them, or a definite content that is short, which is Eof at the octets behind the header.
 module _ {E : Type 0} (from_error_kind_gives : Bor (List ℕ) → ErrorKind → E → Type 0) (from_gives : BerError → E → Type 0)
     (faults : List ℕ → Refusal → Type 0) (lacks : List ℕ → ℕ → Type 0) (short : List ℕ → List ℕ → Type 0) where
@@ -46,35 +54,52 @@ module _ {E : Type 0} (from_error_kind_gives : Bor (List ℕ) → ErrorKind → 
 abbrev pub RefusesBer : {E : Type 0} → (Bor (List ℕ) → ErrorKind → E → Type 0) → (BerError → E → Type 0) → List ℕ → Refused E → Type 0
 RefusesBer from_error_kind_gives from_gives i r = NotOpened from_error_kind_gives from_gives AnyRefuses OpeningLacks HasShortContent i r
 
-module _ (opens : List ℕ → Header → List ℕ → List ℕ → Type 0) where
-  -- the same of an element with this tag number
-  abbrev pub OpensNumber : ℕ → List ℕ → Header → List ℕ → List ℕ → Type 0
-  OpensNumber n i h w after = opens i h w after × (number_of h ≡ n)
+-- by DER
+abbrev pub RefusesDer : {E : Type 0} → (Bor (List ℕ) → ErrorKind → E → Type 0) → (BerError → E → Type 0) → List ℕ → Refused E → Type 0
+RefusesDer from_error_kind_gives from_gives i r = NotOpened from_error_kind_gives from_gives DerHeaderRefuses DerHeaderLacks HasShortDerContent i r
 
-  -- i begins with an element of another number, t
-  abbrev pub OpensOther : ℕ → List ℕ → ℕ → Type 0
-  OpensOther n i t = (t ≢ n) × (h : Header) × (w after : List ℕ) × opens i h w after × (number_of h ≡ t)
+-- One call of the parser takes it from f to g. It has exactly the content and the header of an element that is opened, and its answer is the answer, an Ok with what follows the element.
+module _ {F O E : Type 0} (opens : Header → List ℕ → List ℕ → Type 0) (step : F → Bor (List ℕ) → Header → Answered O E → F → Type 0) where
+  pub data OneCall (f : F) : Answered O E → F → Type 0 where
+    stopped : {g : F} {h : Header} {w after : List ℕ} {content : Bor (List ℕ)} {e : Refused E} → opens h w after
+        → step f content h (Err e) g → content.now ≡ w → OneCall f (Err e) g
+    accepted : {g : F} {h : Header} {w : List ℕ} {content left after : Bor (List ℕ)} {v : O} → opens h w after.now
+        → step f content h (Ok (left, v)) g → content.now ≡ w → OneCall f (Ok (after, v)) g
 
-  -- another number is told behind the refusals of the container
-  module _ {E : Type 0} (refuses : List ℕ → Refused E → Type 0) (from_gives : BerError → E → Type 0) where
-    pub data RefusesNumber (n : ℕ) (i : List ℕ) : Refused E → Type 0 where
-      unopened : {r : Refused E} → refuses i r → RefusesNumber n i r
-      other_number : {t : ℕ} {e : BerError} {x : E} → OpensOther n i t → refusal e ≡ unexpected_tag (Some n) t → from_gives e x → RefusesNumber n i (Error x)
+-- the answer is a refusal, and no call leaves the parser as it is
+module _ {F O E : Type 0} (refuses : Refused E → Type 0) where
+  pub data NoCall (f : F) : Answered O E → F → Type 0 where
+    refused : {e : Refused E} → refuses e → NoCall f (Err e) f
 
-  module _ {F O E : Type 0} (step : F → Bor (List ℕ) → Header → Answered O E → F → Type 0) where
-    -- One call of the parser takes it from f to g. It has exactly the content and the header of the element that i begins with, and its answer is the answer, an Ok with what follows the element.
-    pub data OneCall (i : List ℕ) (f : F) : Answered O E → F → Type 0 where
-      stopped : {g : F} {h : Header} {w after : List ℕ} {content : Bor (List ℕ)} {e : Refused E} → opens i h w after
-          → step f content h (Err e) g → content.now ≡ w → OneCall i f (Err e) g
-      accepted : {g : F} {h : Header} {w : List ℕ} {content left after : Bor (List ℕ)} {v : O} → opens i h w after.now
-          → step f content h (Ok (left, v)) g → content.now ≡ w → OneCall i f (Ok (after, v)) g
+-- a container's answer: a refusal without a call, or that of one call
+abbrev pub ContainerRun : {F O E : Type 0} → (Header → List ℕ → List ℕ → Type 0) → (Refused E → Type 0)
+    → (F → Bor (List ℕ) → Header → Answered O E → F → Type 0) → F → Answered O E → F → Type 0
+ContainerRun opens refuses step f r g = NoCall refuses f r g ⊎ OneCall opens step f r g
 
-module _ {F O E : Type 0} (refuses : List ℕ → Refused E → Type 0) where
-  -- the answer is a refusal, and no call leaves the parser as it is
-  pub data NoCall (i : List ℕ) (f : F) : Answered O E → F → Type 0 where
-    refused : {e : Refused E} → refuses i e → NoCall i f (Err e) f
+-- Of the elements that are opened, those of the tag number n. Another number is told behind the refusals of the container.
+module _ (opens : Header → List ℕ → List ℕ → Type 0) where
+  abbrev pub OpensNumber : ℕ → Header → List ℕ → List ℕ → Type 0
+  OpensNumber n h w after = opens h w after × (number_of h ≡ n)
 
--- a container's answer on i: a refusal without a call, or that of one call
-abbrev pub ContainerRun : {F O E : Type 0} → (List ℕ → Header → List ℕ → List ℕ → Type 0) → (List ℕ → Refused E → Type 0)
-    → (F → Bor (List ℕ) → Header → Answered O E → F → Type 0) → List ℕ → F → Answered O E → F → Type 0
-ContainerRun opens refuses step i f r g = NoCall refuses i f r g ⊎ OneCall opens step i f r g
+  -- an element of another number, t
+  abbrev pub OpensOther : ℕ → ℕ → Type 0
+  OpensOther n t = (t ≢ n) × (h : Header) × (w after : List ℕ) × opens h w after × (number_of h ≡ t)
+
+  module _ {E : Type 0} (refuses : Refused E → Type 0) (from_gives : BerError → E → Type 0) where
+    pub data RefusesNumber (n : ℕ) : Refused E → Type 0 where
+      unopened : {r : Refused E} → refuses r → RefusesNumber n r
+      other_number : {t : ℕ} {e : BerError} {x : E} → OpensOther n t → refusal e ≡ unexpected_tag (Some n) t → from_gives e x → RefusesNumber n (Error x)
+
+-- the same by BER
+abbrev pub OpensBerNumber : ℕ → List ℕ → Header → List ℕ → List ℕ → Type 0
+OpensBerNumber n i h w after = OpensNumber (OpensBer i) n h w after
+
+abbrev pub RefusesBerNumber : {E : Type 0} → (Bor (List ℕ) → ErrorKind → E → Type 0) → (BerError → E → Type 0) → ℕ → List ℕ → Refused E → Type 0
+RefusesBerNumber from_error_kind_gives from_gives n i r = RefusesNumber (OpensBer i) (RefusesBer from_error_kind_gives from_gives i) from_gives n r
+
+-- and by DER
+abbrev pub OpensDerNumber : ℕ → List ℕ → Header → List ℕ → List ℕ → Type 0
+OpensDerNumber n i h w after = OpensNumber (OpensDer i) n h w after
+
+abbrev pub RefusesDerNumber : {E : Type 0} → (Bor (List ℕ) → ErrorKind → E → Type 0) → (BerError → E → Type 0) → ℕ → List ℕ → Refused E → Type 0
+RefusesDerNumber from_error_kind_gives from_gives n i r = RefusesNumber (OpensDer i) (RefusesDer from_error_kind_gives from_gives i) from_gives n r

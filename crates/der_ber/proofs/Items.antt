@@ -1,6 +1,5 @@
 -- Items that are read one after another, and the elements around them.
-use Rattle.std.proofs.Common.{◌≡◌, ◌≢◌, ℕ, zero, suc, ◌+◌, ◌-◌, ◌<◌, ◌≤◌, Bool, true, false, IsTrue, List, [], ◌∷◌, ◌++◌, length, refl, sym, ap, subst, ◌∙◌, arith, append_assoc, length-append, inl, inr, All}
-use Rattle.std.proofs.lemmas.Bool.{false≢true}
+use Rattle.std.proofs.Common.{◌≡◌, ◌≢◌, ℕ, zero, suc, ◌-◌, ◌≤◌, Bool, true, false, IsTrue, List, [], ◌∷◌, ◌++◌, length, refl, sym, ap, subst, ◌∙◌, arith, append_assoc, inl, inr, All}
 use Rattle.std.proofs.lemmas.List.Elements.{All-nil}
 use Rattle.std.proofs.lemmas.List.{append-nil}
 use Rattle.der_base.specs.declared.header.Class.{Class}
@@ -24,8 +23,8 @@ use Rattle.der_base.proofs.Restated.{joins_now, spells_then}
 use Rattle.der_object.specs.declared.object.BerObject.{BerObject}
 use Rattle.der_object.specs.declared.object.BerObjectContent.{BerObjectContent}
 use Rattle.der_object.specs.declared.object.BerObjectContent.TheVariants.{Sequence, Set, Unknown}
-use Rattle.der_object.specs.Marks.{form_of, forms_of, inner_forms, HasRawTag, HasMark, HasMarks}
-use Rattle.der_object.specs.View.{tree, node_of, content_tree, trees}
+use Rattle.der_object.specs.Marks.{forms_of, inner_forms, HasMark, HasMarks}
+use Rattle.der_object.specs.View.{node_of, content_tree, trees}
 use Rattle.der_object.proofs.Joins.{joins_push}
 use Rattle.der_object.proofs.Marks.{sequence_each, set_each, sequence_forms, set_forms, leaf_forms, leaf_each, leaf_keeps, each_push}
 use Rattle.der_object.proofs.Trees.{sequence_tree, set_tree}

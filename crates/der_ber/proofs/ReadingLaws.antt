@@ -1,6 +1,5 @@
 -- An object that begins the input, a refusal, and an input that is cut short: one of them holds at most, and each in one way.
 use Rattle.std.proofs.Common.{◌≡◌, ℕ, List, ◌++◌, refl, sym, ◌∙◌}
-use Rattle.der_base.specs.Fault.{ShowsFault}
 use Rattle.der_base.specs.Spelling.{BerSpells, framing_budget}
 use Rattle.der_base.specs.Tree.{Node}
 use Rattle.der_base.proofs.BerFaults as faults

@@ -1,16 +1,12 @@
 -- The contents that a slice reader finds, its refusals and its lack of octets: one of them holds at most, and each in one way.
-use Rattle.std.proofs.Common.{◌≡◌, ◌≢◌, ℕ, Bool, Some, List, Err, Bor, refl, sym, ap, ◌∙◌, inl, inr}
+use Rattle.std.proofs.Common.{◌≡◌, ℕ, Some, List, Err, refl, sym, ap, ◌∙◌, inl, inr}
 use Rattle.der_base.specs.declared.error.Err.{Err as Refused}
 use Rattle.der_base.specs.declared.error.Error.{Error as BerError}
-use Rattle.der_base.specs.declared.error.ErrorKind.{ErrorKind}
-use Rattle.der_base.specs.declared.error.ErrorKind.TheVariants.{Eof}
 use Rattle.der_base.specs.declared.error.Error.TheVariants.{NomError}
-use Rattle.der_base.specs.declared.header.Class.{Class}
 use Rattle.der_base.specs.Answer.{MatchAnswer}
-use Rattle.der_base.specs.Any.{AnyRefuses}
-use Rattle.der_base.specs.Refusal.{Refusal, refusal, parser_fault, unexpected_tag}
-use Rattle.der_base.specs.Runs.{HasShortContent, OpeningLacks, RefusesBer, faulty, cut, too_short}
-use Rattle.der_base.specs.Spelling.{BeginsWithElement, framing_budget}
+use Rattle.der_base.specs.Refusal.{Refusal, unexpected_tag}
+use Rattle.der_base.specs.Runs.{OpeningLacks, RefusesBer, faulty, cut, too_short}
+use Rattle.der_base.specs.Spelling.{framing_budget}
 use Rattle.der_base.proofs.Framing.{begins_same}
 use Rattle.der_base.proofs.FramingLaws.{begins_not_refused, begins_not_cut, any_refusal_same}
 use Rattle.der_base.proofs.RunsLaws.{short_lacks, begins_not_short}

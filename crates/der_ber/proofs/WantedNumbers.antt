@@ -1,5 +1,5 @@
 -- A reader that wants one tag number: an object of it, a refusal, and an input that is cut short exclude each other.
-use Rattle.std.proofs.Common.{◌≡◌, ◌≢◌, ℕ, zero, suc, ◌≤◌, Bool, List, ◌++◌, Some, refl, sym, ap, ◌∙◌, arith, inl, inr}
+use Rattle.std.proofs.Common.{◌≡◌, ℕ, Bool, List, ◌++◌, Some, sym, ap, ◌∙◌, arith, inl, inr}
 use Rattle.der_base.specs.declared.header.Class.{Class}
 use Rattle.der_base.specs.Any.{AnyRefuses}
 use Rattle.der_base.specs.Cut.{IsCut}

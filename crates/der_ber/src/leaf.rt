@@ -51,8 +51,15 @@ pub fn read_leaf<'a>(
         }
         Tag::Enumerated => Ok(BerObjectContent::Enum(read_enumerated(constructed, content)?)),
         Tag::UtcTime => Ok(BerObjectContent::UTCTime(read_moment(constructed, tag, content)?)),
-        Tag::GeneralizedTime => Ok(BerObjectContent::GeneralizedTime(read_moment(constructed, tag, content)?)),
-        Tag::UniversalString => Ok(BerObjectContent::UniversalString(read_universal_string(constructed, content)?)),
+        Tag::GeneralizedTime => Ok(BerObjectContent::GeneralizedTime(read_moment(
+            constructed,
+            tag,
+            content,
+        )?)),
+        Tag::UniversalString => Ok(BerObjectContent::UniversalString(read_universal_string(
+            constructed,
+            content,
+        )?)),
         Tag::BmpString => Ok(BerObjectContent::BmpString(read_bmp_string(constructed, content)?)),
         _ => Ok(text_content(tag, read_string(constructed, tag, content)?)),
     }

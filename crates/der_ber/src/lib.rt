@@ -11,7 +11,10 @@ pub mod typed;
 pub use content::{
     BerContent, BerContent2, ber_read_element_content_as, parse_ber_content, parse_ber_content2,
 };
-pub use multi::{BerContainer, parse_ber_container, parse_ber_slice};
+pub use multi::{
+    BerContainer, BerSequenceDefinedG, BerSetDefinedG, parse_ber_container,
+    parse_ber_sequence_defined_g, parse_ber_set_defined_g, parse_ber_slice,
+};
 pub use parser::{
     parse_ber, parse_ber_any, parse_ber_any_r, parse_ber_any_with_tag_r, parse_ber_counted,
     parse_ber_recursive,

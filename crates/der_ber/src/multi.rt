@@ -1,10 +1,10 @@
 //! Combinators that keep the caller's parser of a content, and the reader of a content as it stands.
-ghost use Rattle.std.specs.Prelude.{◌≡◌, ℕ, Bool, List, IfErr, IfOk, IsOkAnd, MatchOption};
+ghost use Rattle.std.specs.Prelude.{◌≡◌, ℕ, Bool, List, IfErr, IfOk, IsOkAnd, MatchOption, MatchResult};
 ghost use Rattle.der_base.specs.declared.header.Class.{Class};
 ghost use Rattle.der_base.specs.declared.error.Err.{Err};
 ghost use Rattle.der_base.specs.Answer.{MatchAnswer, AnswersError, AnswersIncomplete};
 ghost use Rattle.der_base.specs.Refusal.{Refusal};
-ghost use Rattle.der_base.specs.Runs.{ContainerRun, HasShortContent, NoCall, OneCall, OpeningLacks, OpensBer, RefusesBer};
+ghost use Rattle.der_base.specs.Runs.{ContainerRun, HasShortContent, NoCall, OneCall, OpeningLacks, OpensBer, OpensBerNumber, RefusesBer, RefusesBerNumber};
 ghost use Rattle.der_base.specs.Spelling.{BeginsWithElement, framing_budget};
 ghost use Rattle.der_ber.specs.BerSlices.{ReadsSlice, SliceRefuses};
 
@@ -13,8 +13,11 @@ use der_base::error::{BerError, Err, ErrorKind, IResult, ParseError};
 use der_base::header::{Header, Length, Tag, ber_read_element_header};
 use std::marker::Model;
 
-/// An element whose content is whole: its header, its content octets, and what follows it.
-fn open_element<'a, E>(i: &'a [u8]) -> Result<(Header<'a>, &'a [u8], &'a [u8]), Err<E>>
+/// An element that was opened: its header, its content octets, and what follows it.
+type Opened<'a> = (Header<'a>, &'a [u8], &'a [u8]);
+
+/// The element that `i` begins with, where its content is whole.
+fn open_element<'a, E>(i: &'a [u8]) -> Result<Opened<'a>, Err<E>>
 where
     E: ParseError<&'a [u8]> + From<BerError>,
     ensures ok { IfOk result (λ x. OpensBer i.now x.0 x.1.now x.2.now) }
@@ -26,6 +29,23 @@ where
             Some(content) => return Err(Err::Error(E::from_error_kind(content, ErrorKind::Eof))),
             None => return Err(Err::convert(e)),
         },
+    }
+}
+
+/// The same of an element of this tag number, of any class.
+fn open_number<'a, E>(i: &'a [u8], tag: Tag) -> Result<Opened<'a>, Err<E>>
+where
+    E: ParseError<&'a [u8]> + From<BerError>,
+    ensures ok { IfOk result (λ x. OpensBerNumber tag.0 i.now x.0 x.1.now x.2.now) }
+    ensures err { IfErr result (RefusesBerNumber E.from_error_kind_gives E.from_gives tag.0 i.now) }
+{
+    let (header, content, after) = match open_element(i) {
+        Ok(parts) => parts,
+        Err(e) => return Err(e),
+    };
+    match header.assert_tag(tag) {
+        Ok(()) => return Ok((header, content, after)),
+        Err(e) => return Err(Err::Error(E::from(e))),
     }
 }
 
@@ -42,16 +62,21 @@ fn short_content(i: &[u8]) -> Option<&[u8]>
     }
 }
 
-/// Calls `f` once on the content and the header of the element that `i` begins with.
-fn parse_content<'a, F, O, E>(f: &mut F, i: &'a [u8]) -> IResult<&'a [u8], O, E>
+/// Calls `f` once on the content and the header of an element that was opened, or passes on why
+/// none was.
+fn parse_content<'a, F, O, E>(
+    f: &mut F,
+    opened: Result<Opened<'a>, Err<E>>,
+) -> IResult<&'a [u8], O, E>
 where
     F: FnMut(&'a [u8], Header<'a>) -> IResult<&'a [u8], O, E>,
-    E: ParseError<&'a [u8]> + From<BerError>,
     requires { F.IsAlwaysCallable f.old }
     ensures callable { F.IsAlwaysCallable f.new }
-    ensures run { ContainerRun OpensBer (RefusesBer E.from_error_kind_gives E.from_gives) F.step i.now f.old result f.new }
+    ensures run { MatchResult opened.entry
+        (λ x. OneCall (λ h w after. (h ≡ x.0) × (w ≡ x.1.now) × (after ≡ x.2.now)) F.step f.old result f.new)
+        (λ e. NoCall (λ r. r ≡ e) f.old result f.new) }
 {
-    let (header, content, after) = match open_element(i) {
+    let (header, content, after) = match opened {
         Ok(parts) => parts,
         Err(e) => return Err(e),
     };
@@ -98,13 +123,97 @@ impl<F> BerContainer<F> {
         E: ParseError<&'a [u8]> + From<BerError>,
         requires { F.IsAlwaysCallable self.old }
         ensures callable { F.IsAlwaysCallable self.new }
-        ensures run { ContainerRun OpensBer (RefusesBer E.from_error_kind_gives E.from_gives) F.step i.now self.old result self.new }
+        ensures run { ContainerRun (OpensBer i.now) (RefusesBer E.from_error_kind_gives E.from_gives i.now) F.step self.old result self.new }
         ensures called { (c : Class) (p : Bool) (t : ℕ) (w rest : List ℕ) → BeginsWithElement i.now framing_budget c p t w rest
-            → OneCall OpensBer F.step i.now self.old result self.new }
+            → OneCall (OpensBer i.now) F.step self.old result self.new }
         ensures refuses { (e : Err E) → RefusesBer E.from_error_kind_gives E.from_gives i.now e
-            → NoCall (RefusesBer E.from_error_kind_gives E.from_gives) i.now self.old result self.new }
+            → NoCall (RefusesBer E.from_error_kind_gives E.from_gives i.now) self.old result self.new }
     {
-        parse_content(&mut self.f, i)
+        parse_content(&mut self.f, open_element(i))
+    }
+}
+
+/// A parser of a SEQUENCE, which keeps the parser of its content.
+#[derive(Drop)]
+pub struct BerSequenceDefinedG<F> {
+    f: F,
+}
+
+impl<F> Model for BerSequenceDefinedG<F> {
+    ghost Value = { F };
+
+    ghost view = { λ c. c.f };
+}
+
+/// A parser of an element of the tag number 16, SEQUENCE, that hands its content and its header to
+/// `f`.
+pub fn parse_ber_sequence_defined_g<'a, F, O, E>(f: F) -> BerSequenceDefinedG<F>
+where
+    F: FnMut(&'a [u8], Header<'a>) -> IResult<&'a [u8], O, E>,
+    ensures { result ≡ f }
+{
+    BerSequenceDefinedG { f }
+}
+
+impl<F> BerSequenceDefinedG<F> {
+    /// Reads as `BerContainer::parse` an element of the tag number 16, of any class. Another number
+    /// is UnexpectedTag, told behind the refusals of `BerContainer::parse`, without a call of the
+    /// parser.
+    pub fn parse<'a, O, E>(&mut self, i: &'a [u8]) -> IResult<&'a [u8], O, E>
+    where
+        F: FnMut(&'a [u8], Header<'a>) -> IResult<&'a [u8], O, E>,
+        E: ParseError<&'a [u8]> + From<BerError>,
+        requires { F.IsAlwaysCallable self.old }
+        ensures callable { F.IsAlwaysCallable self.new }
+        ensures run { ContainerRun (OpensBerNumber 16 i.now) (RefusesBerNumber E.from_error_kind_gives E.from_gives 16 i.now) F.step self.old result self.new }
+        ensures called { (c : Class) (p : Bool) (w rest : List ℕ) → BeginsWithElement i.now framing_budget c p 16 w rest
+            → OneCall (OpensBerNumber 16 i.now) F.step self.old result self.new }
+        ensures refuses { (e : Err E) → RefusesBerNumber E.from_error_kind_gives E.from_gives 16 i.now e
+            → NoCall (RefusesBerNumber E.from_error_kind_gives E.from_gives 16 i.now) self.old result self.new }
+    {
+        parse_content(&mut self.f, open_number(i, Tag::Sequence))
+    }
+}
+
+/// A parser of a SET, which keeps the parser of its content.
+#[derive(Drop)]
+pub struct BerSetDefinedG<F> {
+    f: F,
+}
+
+impl<F> Model for BerSetDefinedG<F> {
+    ghost Value = { F };
+
+    ghost view = { λ c. c.f };
+}
+
+/// A parser of an element of the tag number 17, SET, that hands its content and its header to
+/// `f`.
+pub fn parse_ber_set_defined_g<'a, F, O, E>(f: F) -> BerSetDefinedG<F>
+where
+    F: FnMut(&'a [u8], Header<'a>) -> IResult<&'a [u8], O, E>,
+    ensures { result ≡ f }
+{
+    BerSetDefinedG { f }
+}
+
+impl<F> BerSetDefinedG<F> {
+    /// Reads as `BerContainer::parse` an element of the tag number 17, of any class. Another number
+    /// is UnexpectedTag, told behind the refusals of `BerContainer::parse`, without a call of the
+    /// parser.
+    pub fn parse<'a, O, E>(&mut self, i: &'a [u8]) -> IResult<&'a [u8], O, E>
+    where
+        F: FnMut(&'a [u8], Header<'a>) -> IResult<&'a [u8], O, E>,
+        E: ParseError<&'a [u8]> + From<BerError>,
+        requires { F.IsAlwaysCallable self.old }
+        ensures callable { F.IsAlwaysCallable self.new }
+        ensures run { ContainerRun (OpensBerNumber 17 i.now) (RefusesBerNumber E.from_error_kind_gives E.from_gives 17 i.now) F.step self.old result self.new }
+        ensures called { (c : Class) (p : Bool) (w rest : List ℕ) → BeginsWithElement i.now framing_budget c p 17 w rest
+            → OneCall (OpensBerNumber 17 i.now) F.step self.old result self.new }
+        ensures refuses { (e : Err E) → RefusesBerNumber E.from_error_kind_gives E.from_gives 17 i.now e
+            → NoCall (RefusesBerNumber E.from_error_kind_gives E.from_gives 17 i.now) self.old result self.new }
+    {
+        parse_content(&mut self.f, open_number(i, Tag::Set))
     }
 }
 

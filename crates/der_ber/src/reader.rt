@@ -31,7 +31,10 @@ pub fn read_element<'a>(
     }
     let (rest, any) = ber_any_counted(i, count)?;
     let content = read_content(alloc, any, max_depth, count)?;
-    Ok((rest, BerObject::from_header_and_content(any.header, content)))
+    Ok((
+        rest,
+        BerObject::from_header_and_content(any.header, content),
+    ))
 }
 
 /// One element in front, of this tag number.
@@ -51,7 +54,10 @@ pub fn read_element_with_tag<'a>(
     let (rest, any) = ber_any_counted(i, count)?;
     any.header.assert_tag(tag)?;
     let content = read_content(alloc, any, max_depth, count)?;
-    Ok((rest, BerObject::from_header_and_content(any.header, content)))
+    Ok((
+        rest,
+        BerObject::from_header_and_content(any.header, content),
+    ))
 }
 
 /// The content of an element.

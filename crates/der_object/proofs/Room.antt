@@ -13,6 +13,9 @@ puts_both {a = a} {x = x} {y = y} {end = end} h k = record {
   octets = k.octets ∙ ap (λ w. x ++ w) h.octets ∙ sym (append_assoc x y (drop end a));
 }
 
+pub puts_three : {a b c d x y z : List ℕ} {end mid mid' begin : ℕ} → PutsBefore a b end z mid → PutsBefore b c mid y mid' → PutsBefore c d mid' x begin → PutsBefore a d end (x ++ y ++ z) begin
+puts_three {x = x} {y = y} {z = z} h k l = rw (append_assoc x y z) (puts_both (puts_both h k) l)
+
 -- octets that fill the room are all that is there
 pub puts_all : {old new w : List ℕ} {end begin : ℕ} → PutsBefore old new end w begin → length w ≡ end → length old ≤ end → new ≡ w
 puts_all {old = old} {new = new} {w = w} {end = end} {begin = begin} h fills most =

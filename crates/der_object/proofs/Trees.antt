@@ -12,8 +12,11 @@ use Rattle.der_base.specs.Same.{same_node, same_content, same_nodes}
 use Rattle.der_base.specs.Tree.{sequence, set, Nodes, no_nodes, nodes}
 use Rattle.der_object.specs.declared.object.BerObject.{BerObject}
 use Rattle.der_object.specs.declared.object.BerObjectContent.{BerObjectContent, roll-BerObjectContent, roll-out-BerObjectContent, Row_of-BerObject, end_of-BerObject, more_of-BerObject, items-the_row-BerObject}
-use Rattle.der_object.specs.declared.object.BerObjectContent.TheVariants.{Null, Sequence, Set, Sequence', Set', outs-Sequence', outs-Set', rolls-Sequence, rolls-Set}
+use Rattle.der_object.specs.declared.object.BerObjectContent.TheVariants.{Null, Boolean, BitString, Enum, UTCTime, GeneralizedTime, Sequence, Set, Sequence', Set', outs-Sequence', outs-Set', rolls-Sequence, rolls-Set}
 use Rattle.der_object.specs.declared.object.BerObjectContent.TheBlock.{hidden-the_row-BerObject-0, items_hidden-the_row-BerObject-0, shown-the_row-BerObject-0}
+use Rattle.der_object.specs.declared.bit_string.BitStringObject.{BitStringObject}
+use Rattle.der_base.specs.declared.time.ASN1DateTime.{ASN1DateTime}
+use Rattle.der_object.specs.Objects.{kept_octets}
 use Rattle.der_object.specs.View.{node_of, tree, content_tree, row_tree, trees}
 
 row_trees : {m : _} (k : Row_of-BerObject m) → row_tree k ≡ trees (items-the_row-BerObject m k)
@@ -113,3 +116,16 @@ same_sequences x y v w xs ys e f g h = rw (e, f, g, h, sequence_tree v, sequence
 pub same_sets : (x y : BerObjectContent) (v w : Vec BerObject Global) (xs ys : List BerObject) → x ≡ Set v → y ≡ Set w → xs ≡ v.items → ys ≡ w.items
     → same_nodes (trees xs) (trees ys) ≡ same_content (content_tree x) (content_tree y)
 same_sets x y v w xs ys e f g h = rw (e, f, g, h, set_tree v, set_tree w) refl
+
+-- all other contents keep their octets
+pub kept_all : (x : BerObjectContent) → ((b : Bool) → x ≡ Boolean b → ⊥) → ((u : ℕ) (w : BitStringObject) → x ≡ BitString u w → ⊥) → ((n : ℕ) → x ≡ Enum n → ⊥)
+    → ((v : Vec BerObject Global) → x ≡ Sequence v → ⊥) → ((v : Vec BerObject Global) → x ≡ Set v → ⊥) → ((t : ASN1DateTime) → x ≡ UTCTime t → ⊥) → ((t : ASN1DateTime) → x ≡ GeneralizedTime t → ⊥)
+    → kept_octets (content_tree x) ≡ content_octets (content_tree x)
+kept_all (Boolean b) f g h i j k l = absurd (f b refl)
+kept_all (BitString u w) f g h i j k l = absurd (g u w refl)
+kept_all (Enum n) f g h i j k l = absurd (h n refl)
+kept_all (Sequence' shape row) f g h i j k l = absurd (i (shown-the_row-BerObject-0 shape row) (every_sequence shape row))
+kept_all (Set' shape row) f g h i j k l = absurd (j (shown-the_row-BerObject-0 shape row) (every_set shape row))
+kept_all (UTCTime t) f g h i j k l = absurd (k t refl)
+kept_all (GeneralizedTime t) f g h i j k l = absurd (l t refl)
+kept_all _ f g h i j k l = refl

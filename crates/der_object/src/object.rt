@@ -212,8 +212,10 @@ impl BerObjectContent<'_> {
             BerObjectContent::Unknown(any) => any.tag(),
         }
     }
+
     /// The octets that a content keeps as they are written, and none for a content that is written
     /// otherwise.
+    #[inline]
     pub(crate) fn kept_octets(&self) -> &[u8]
         ensures { result.now ≡ kept_octets (content_tree self.now) }
     {

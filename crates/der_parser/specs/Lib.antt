@@ -16,6 +16,7 @@ pub use Rattle.der_base.specs.Octets
 pub use Rattle.der_base.specs.OidArcs
 pub use Rattle.der_base.specs.Oids
 pub use Rattle.der_base.specs.Refusal
+pub use Rattle.der_base.specs.Runs
 pub use Rattle.der_base.specs.Spelling
 pub use Rattle.der_base.specs.Text
 pub use Rattle.der_base.specs.Time
@@ -26,4 +27,5 @@ pub use Rattle.der_object.specs.Objects
 pub use Rattle.der_object.specs.Room
 pub use Rattle.der_object.specs.View
 pub use Rattle.der_ber.specs.BerReading
+pub use Rattle.der_ber.specs.BerSlices
 pub use Rattle.der_der.specs.DerReading

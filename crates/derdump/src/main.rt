@@ -4,10 +4,10 @@
 mod fault;
 mod hex;
 mod input;
-mod rules;
-mod run;
 #[cfg(test)]
 mod real_inputs;
+mod rules;
+mod run;
 #[cfg(test)]
 mod tests;
 mod text;

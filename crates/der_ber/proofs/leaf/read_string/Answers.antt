@@ -1,5 +1,5 @@
-use Rattle.std.proofs.Common.{rules, ◌≡◌, false}
-use Rattle.der_base.specs.Text.{is_text_type, IsTextOf}
+use Rattle.std.proofs.Common.{rules}
+use Rattle.der_base.specs.Text.{IsTextOf}
 use Rattle.der_ber.proofs.Leaves.{text_refused}
 use Rattle.der_ber.proofs.leaf.read_string.Goals as goal
 

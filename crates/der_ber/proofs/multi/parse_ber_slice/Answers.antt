@@ -1,5 +1,4 @@
 use Rattle.std.proofs.Common.{refl}
-use Rattle.der_base.specs.Spelling.{framing_budget}
 use Rattle.der_base.proofs.Answering.{only_ok, only_error, only_incomplete}
 use Rattle.der_base.proofs.Cuts.{lacks_same}
 use Rattle.der_ber.proofs.Slices.{slice_same, slice_not_refused, slice_not_lacking, slice_refusal_same, slice_refused_not_lacking}

@@ -13,7 +13,7 @@ returns-in_default-length c = λ content s.
     let l = c.length.ensures ∙ q.1 in
     elim c.in_default-length.branch [
       | in_default-length-via-in-Definite+else-content-n w ↦ (let d : Definite w.in-Definite.n ≡ Definite q.0 = sym w.in-Definite.is ∙ l in
-        let e : w.in-Definite.n ≡ q.0 = cc in
-        omega (arith, e, q.3, w.if-content-n.false))
+          let e : w.in-Definite.n ≡ q.0 = cc in
+          omega (arith, e, q.3, w.if-content-n.false))
       | in_default-length-via-in_default-length w ↦ w.in_default-length.not-Definite q.0 l
     ]

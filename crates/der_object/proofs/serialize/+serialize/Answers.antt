@@ -1,11 +1,12 @@
-use Rattle.std.proofs.Common.{rules, ◌≡◌, ◌≤◌, ◌-◌, length, ap, ◌∙◌, arith, length-append}
+use Rattle.std.proofs.Common.{rules, ◌≡◌, ◌≤◌, ◌-◌, length, ap, subst, ◌∙◌, arith, length-append}
 use Rattle.der_base.specs.Encoding.{encoding, encodings, content_octets}
 use Rattle.der_base.specs.Header.{class_of, is_constructed, number_of}
 use Rattle.der_base.specs.Octets.{identifier, shortest_length}
 use Rattle.der_object.specs.declared.object.BerObjectContent.{the_lemmas}
+use Rattle.der_object.specs.Room.{PutsBefore}
 use Rattle.der_object.specs.View.{tree, trees, content_tree}
 use Rattle.der_object.proofs.Room.{puts_both}
-use Rattle.der_object.proofs.Trees.{sequence_tree, set_tree, plain_encoding, encoding_length, item_room}
+use Rattle.der_object.proofs.Trees.{sequence_tree, set_tree, plain_encoding, encoding_length, item_room, kept_all}
 use Rattle.der_object.proofs.serialize.+serialize.Goals as goal
 
 pub write_content-write_items-requires : goal.write_content-write_items-requires
@@ -46,3 +47,9 @@ write_object-returns t c =
     let o = c.args.o.now in
     let n : c.args.end - c.write_content-content.result ≡ length (content_octets (content_tree o.content)) = omega (arith, c.write_content-content.ensures.begins) in
     rw (plain_encoding o.header o.content) (puts_both c.write_content-content.ensures (rw n at c.write_header.ensures))
+
+pub write_content-returns-in_default : goal.write_content-returns-in_default
+write_content-returns-in_default t c =
+    let d = c.in_default in
+    let e = kept_all c.args.content.now d.not-Boolean d.not-BitString d.not-Enum d.not-Sequence d.not-Set d.not-UTCTime d.not-GeneralizedTime in
+    subst (λ w. PutsBefore c.args.out.now c.write_octets.new.out c.args.end w c.write_octets.result) (c.kept_octets.ensures ∙ e) c.write_octets.ensures

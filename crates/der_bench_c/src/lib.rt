@@ -1,0 +1,105 @@
+//! The readers as a program in C calls them, for measuring: a slice crosses as a pointer and a
+//! length.
+#![tactic(auto)]
+
+use der_parser::ber::{Any, BerObject, BerObjectContent, parse_ber};
+use der_parser::der::parse_der;
+use std::alloc::Global;
+
+/// What one pass does with each element.
+#[derive(Clone, Copy, PartialEq)]
+enum Mode {
+    /// Reads it by DER.
+    Der,
+    /// Reads it by BER.
+    Ber,
+    /// Reads it by BER, and writes it as DER does.
+    Canonical,
+}
+
+/// How many objects stand in an object, itself among them.
+#[cycle(counting)]
+fn count_object(object: &BerObject<'_>) -> u64 {
+    match &object.content {
+        BerObjectContent::Sequence(items) => 1u64.wrapping_add(count_objects(items)),
+        BerObjectContent::Set(items) => 1u64.wrapping_add(count_objects(items)),
+        _ => 1,
+    }
+}
+
+/// How many objects stand in objects, themselves among them.
+#[cycle(counting)]
+fn count_objects(objects: &[BerObject<'_>]) -> u64 {
+    let mut count: u64 = 0;
+    for object in objects {
+        count = count.wrapping_add(count_object(object));
+    }
+    count
+}
+
+/// The elements of a slice, one behind the other, or none of them where one is refused.
+fn read_objects<'a>(alloc: Global, s: &'a [u8], mode: Mode) -> Option<Vec<BerObject<'a>>> {
+    let mut objects = Vec::new(alloc);
+    let mut left = s;
+    for _ in 0..u64::MAX {
+        if left.is_empty() {
+            break;
+        }
+        let answer = match mode {
+            Mode::Der => parse_der(alloc, left),
+            Mode::Ber | Mode::Canonical => parse_ber(alloc, left),
+        };
+        let Ok((rest, object)) = answer else {
+            return None;
+        };
+        if mode == Mode::Canonical && object.to_vec(alloc).is_err() {
+            return None;
+        }
+        if objects.push(object).is_err() {
+            return None;
+        }
+        left = rest;
+    }
+    Some(objects)
+}
+
+/// How many elements stand in a slice, one behind the other, with no look into them; 0 where one is
+/// refused.
+fn count_elements(s: &[u8]) -> u64 {
+    let mut count: u64 = 0;
+    let mut left = s;
+    for _ in 0..u64::MAX {
+        if left.is_empty() {
+            break;
+        }
+        let Ok((rest, _)) = Any::from_ber(left) else {
+            return 0;
+        };
+        count = count.wrapping_add(1);
+        left = rest;
+    }
+    count
+}
+
+/// How many objects a slice has; 0 where one is refused.
+fn count_read(alloc: Global, s: &[u8], mode: Mode) -> u64 {
+    match read_objects(alloc, s, mode) {
+        Some(objects) => count_objects(&objects),
+        None => 0,
+    }
+}
+
+/// One pass over the elements of a slice: 0 reads them by DER, 1 by BER, 2 by BER and writes each
+/// as DER does, 4 reads the outermost elements alone. It keeps the objects until its end, and
+/// answers how many it read, those inside lists among them; 0 where an element is refused, and for
+/// another mode.
+#[unsafe(no_mangle)]
+pub extern "C" fn der_bench_pass(alloc: Global, s: &[u8], mode: u64) -> u64 {
+    match mode {
+        0 => count_read(alloc, s, Mode::Der),
+        1 => count_read(alloc, s, Mode::Ber),
+        2 => count_read(alloc, s, Mode::Canonical),
+        4 => count_elements(s),
+        _ => 0,
+    }
+}
