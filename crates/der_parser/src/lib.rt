@@ -47,10 +47,11 @@ pub mod der {
         parse_der_content2, parse_der_counted, parse_der_endofcontent, parse_der_enum,
         parse_der_generalizedtime, parse_der_generalstring, parse_der_graphicstring,
         parse_der_ia5string, parse_der_integer, parse_der_null, parse_der_numericstring,
-        parse_der_objectdescriptor, parse_der_octetstring, parse_der_oid, parse_der_printablestring,
-        parse_der_recursive, parse_der_relative_oid, parse_der_sequence, parse_der_set,
-        parse_der_t61string, parse_der_universalstring, parse_der_utctime, parse_der_utf8string,
-        parse_der_videotexstring, parse_der_visiblestring, parse_der_with_tag, visiblestring,
+        parse_der_objectdescriptor, parse_der_octetstring, parse_der_oid,
+        parse_der_printablestring, parse_der_recursive, parse_der_relative_oid, parse_der_sequence,
+        parse_der_set, parse_der_t61string, parse_der_universalstring, parse_der_utctime,
+        parse_der_utf8string, parse_der_videotexstring, parse_der_visiblestring,
+        parse_der_with_tag, visiblestring,
     };
     pub use der_object::{DerObject, DerObjectContent};
 }
