@@ -95,7 +95,7 @@ impl<'a> Any<'a> {
         ber_any_counted(i, &mut HeaderCount::new())
     }
 
-    #[inline]
+    #[inline(always)]
     fn read_ber(i: &'a [u8], count: &mut HeaderCount) -> IResult<&'a [u8], Any<'a>, BerError>
         ensures found { MatchAnswer result (λ x. ReadsAny i.now x.1 x.0.now) (AnyRefuses i.now) (AnyLacks i.now) ⊥ }
         ensures counted { (one_more count.old ≤ count.new) × (count.new ≤ count.old + length i.now + 1) }
@@ -137,6 +137,7 @@ impl<'a> Any<'a> {
 /// Reads an element as `Any::from_ber`, and counts the headers that it reads, those of end markers
 /// too: one at least, and no more of them than octets that were read, but for one more where the
 /// answer is no element.
+#[inline(always)]
 pub fn ber_any_counted<'a>(
     i: &'a [u8],
     count: &mut HeaderCount,

@@ -13,7 +13,7 @@ use crate::header::{HeaderCount, Length, ber_header_counted};
 /// octets, without the end marker. Indefinite lengths, this one among them, are nested below the
 /// budget. Each header that is counted takes an octet at least.
 #[cycle(framing)]
-#[inline]
+#[inline(always)]
 pub fn read_content<'a>(
     i: &'a [u8],
     stated: Length,
@@ -54,6 +54,7 @@ fn read_definite(i: &[u8], length: usize) -> IResult<&[u8], &[u8], BerError>
 /// The elements in front of the end marker of an indefinite length. The header of each comes before
 /// the budget, which the end marker needs too.
 #[cycle(framing)]
+#[inline(never)]
 fn read_to_end_marker<'a>(
     i: &'a [u8],
     budget: usize,

@@ -439,6 +439,7 @@ fn parts_of(length: Length) -> (bool, usize)
 /// Refusals: InvalidTag, InvalidLength, and ConstructExpected for an indefinite length behind a
 /// primitive identifier, each at the octet that shows it; Incomplete with the number of octets that
 /// a header lacks which is cut short. It takes no memory.
+#[inline(always)]
 pub fn ber_read_element_header(i: &[u8]) -> IResult<&[u8], Header<'_>, BerError>
     ensures found { MatchAnswer result (λ x. ReadsHeader i.now x.1 x.0.now) (BerHeaderRefuses i.now) (BerHeaderLacks i.now) ⊥ }
     ensures only { (c : Class) (p : Bool) (t : ℕ) (l : Length) (rest : List ℕ) → BeginsWithHeader i.now c p t l rest
@@ -449,7 +450,7 @@ pub fn ber_read_element_header(i: &[u8]) -> IResult<&[u8], Header<'_>, BerError>
     read_ber_header(i)
 }
 
-#[inline]
+#[inline(always)]
 fn read_ber_header(i: &[u8]) -> IResult<&[u8], Header<'_>, BerError>
     ensures { MatchAnswer result (λ x. ReadsHeader i.now x.1 x.0.now) (BerHeaderRefuses i.now) (BerHeaderLacks i.now) ⊥ }
 {
@@ -535,6 +536,7 @@ impl HeaderCount {
 }
 
 /// Reads a header as `ber_read_element_header`, and counts it.
+#[inline(always)]
 pub fn ber_header_counted<'a>(
     i: &'a [u8],
     count: &mut HeaderCount,

@@ -18,7 +18,7 @@ use Rattle.der_base.proofs.Restated.{raws_are, content_now, open_now, content_th
 use Rattle.der_base.proofs.ShortestLengths.{shortest_spells}
 use Rattle.der_base.proofs.Times.{times_same}
 use Rattle.der_ber.specs.BerReading.{ContentRefuses}
-use Rattle.der_ber.specs.ContentReading.{FramesContent, FrameRefuses, FrameLacks, IsContentAs, ContentAsRefuses}
+use Rattle.der_ber.specs.BerContents.{FramesContent, FrameRefuses, FrameLacks, IsContentAs, ContentAsRefuses}
 use Rattle.der_ber.proofs.Items.{content_refused}
 
 -- framing

@@ -13,7 +13,7 @@ use Rattle.der_object.specs.Marks.{inner_forms, KeepsHeader, HasMark}
 use Rattle.der_object.specs.View.{content_tree}
 use Rattle.der_object.proofs.Marks.{leaf_forms, leaf_each}
 use Rattle.der_ber.specs.BerReading.{IsContentOf, ContentRefuses}
-use Rattle.der_ber.specs.ContentReading.{FramesContent, HasOwnHeader, ReadsContentAs, ContentAsRefuses, ContentAsNeedsMemory}
+use Rattle.der_ber.specs.BerContents.{FramesContent, HasOwnHeader, ReadsContentAs, ContentAsRefuses, ContentAsNeedsMemory}
 use Rattle.der_ber.proofs.ContentLaws.{content_as}
 use Rattle.der_ber.proofs.Items.{leaf_has}
 

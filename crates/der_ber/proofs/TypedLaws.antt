@@ -13,7 +13,7 @@ use Rattle.der_object.specs.declared.object.BerObject.{BerObject}
 use Rattle.der_object.specs.declared.object.BerObjectContent.{BerObjectContent}
 use Rattle.der_object.specs.Marks.{inner_forms}
 use Rattle.der_object.specs.View.{tree, content_tree}
-use Rattle.der_ber.specs.ContentReading.{FramesContent, FrameLacks, IsContentAs, ReadsContentAs, ContentAsRefuses, ReadsHeaderOf, ReadsTyped, BeginsWithTyped, HeaderOfRefuses, TypedRefuses, TypedLacks}
+use Rattle.der_ber.specs.BerContents.{FramesContent, FrameLacks, IsContentAs, ReadsContentAs, ContentAsRefuses, ReadsHeaderOf, ReadsTyped, BeginsWithTyped, HeaderOfRefuses, TypedRefuses, TypedLacks}
 use Rattle.der_ber.proofs.ContentLaws.{frames_not_lacking, frame_lacks_same, content_as_same, content_as_not_refused, content_as_refusal_same, content_as_refused_not_lacking}
 
 -- two headers in front are one: so what is said of the octets behind one is said of those behind the other

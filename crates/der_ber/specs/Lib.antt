@@ -1,3 +1,3 @@
+pub mod BerContents
 pub mod BerReading
 pub mod BerSlices
-pub mod ContentReading

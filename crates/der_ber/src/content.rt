@@ -7,7 +7,7 @@ ghost use Rattle.der_base.specs.Refusal.{Refusal};
 ghost use Rattle.der_base.specs.Spelling.{Forms};
 ghost use Rattle.der_base.specs.Tree.{Content};
 ghost use Rattle.der_object.specs.View.{content_tree};
-ghost use Rattle.der_ber.specs.ContentReading.{FramesContent, FrameRefuses, FrameLacks, IsContentAs, ReadsContentAs, ContentAsRefuses, ContentAsNeedsMemory};
+ghost use Rattle.der_ber.specs.BerContents.{FramesContent, FrameRefuses, FrameLacks, IsContentAs, ReadsContentAs, ContentAsRefuses, ContentAsNeedsMemory};
 
 use crate::reader::read_content;
 use der_base::any::{Any, ber_read_content};

@@ -20,6 +20,7 @@ use std::borrow::CowSlice;
 
 /// Reads the content octets of a universal type that is no list, in an element that is constructed
 /// or not.
+#[inline(always)]
 pub fn read_leaf<'a>(
     constructed: bool,
     tag: Tag,

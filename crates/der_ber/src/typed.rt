@@ -8,7 +8,7 @@ ghost use Rattle.der_base.specs.Leaf.{is_list, is_mapped};
 ghost use Rattle.der_base.specs.Refusal.{Refusal};
 ghost use Rattle.der_base.specs.Tree.{node, Content};
 ghost use Rattle.der_object.specs.View.{tree};
-ghost use Rattle.der_ber.specs.ContentReading.{ReadsHeaderOf, ReadsTyped, BeginsWithTyped, HeaderOfRefuses, TypedRefuses, TypedLacks, TypedNeedsMemory};
+ghost use Rattle.der_ber.specs.BerContents.{ReadsHeaderOf, ReadsTyped, BeginsWithTyped, HeaderOfRefuses, TypedRefuses, TypedLacks, TypedNeedsMemory};
 
 use crate::content::{ber_read_element_content_as, frame_content};
 use crate::leaf::read_leaf;

@@ -14,7 +14,7 @@ use Rattle.der_base.proofs.DerFaults.{spelled_shows_nothing, shows_one}
 use Rattle.der_base.proofs.DerWithinBer.{valid_element, der_spelling_same, element_header}
 use Rattle.der_base.proofs.Identifiers.{fronts_same}
 use Rattle.der_der.specs.DerReading.{IsDerContentOf, ContentRefuses}
-use Rattle.der_der.specs.ContentReading.{FramesContent, FrameRefuses, FrameLacks, ReadingRefuses}
+use Rattle.der_der.specs.DerContents.{FramesContent, FrameRefuses, FrameLacks, ReadingRefuses}
 use Rattle.der_der.proofs.Items.{content_refused}
 
 -- framing

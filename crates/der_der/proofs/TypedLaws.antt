@@ -14,7 +14,7 @@ use Rattle.der_object.specs.declared.object.BerObject.{BerObject}
 use Rattle.der_object.specs.declared.object.BerObjectContent.{BerObjectContent}
 use Rattle.der_object.specs.View.{tree, content_tree}
 use Rattle.der_der.specs.DerReading.{IsDerContentOf}
-use Rattle.der_der.specs.ContentReading.{FramesContent, FrameLacks, ReadsContentAs, ReadingRefuses, ReadsHeaderOf, ReadsTyped, BeginsWithTyped, HeaderOfRefuses, TypedRefuses, TypedLacks}
+use Rattle.der_der.specs.DerContents.{FramesContent, FrameLacks, ReadsContentAs, ReadingRefuses, ReadsHeaderOf, ReadsTyped, BeginsWithTyped, HeaderOfRefuses, TypedRefuses, TypedLacks}
 use Rattle.der_der.proofs.ContentLaws.{frames_not_lacking, frame_lacks_same, content_same, content_not_refused, refusal_same, refused_not_lacking}
 
 -- two headers in front are one: so what is said of the octets behind one is said of those behind the other

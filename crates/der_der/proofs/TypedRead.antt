@@ -10,7 +10,7 @@ use Rattle.der_object.specs.declared.object.BerObjectContent.{BerObjectContent}
 use Rattle.der_object.specs.declared.object.BerObjectContent.TheVariants.{Unknown}
 use Rattle.der_object.specs.View.{content_tree}
 use Rattle.der_der.specs.DerReading.{IsDerContentOf, IsContentOf}
-use Rattle.der_der.specs.ContentReading.{FramesContent, HasOwnHeader, ReadsContentAs}
+use Rattle.der_der.specs.DerContents.{FramesContent, HasOwnHeader, ReadsContentAs}
 use Rattle.der_der.proofs.Items.{leaf_content}
 
 own_leaf : (t : ℕ) (l : Length) (p : Bool) (x : BerObjectContent) → IsDerLeaf t (content_tree x) → HasOwnHeader t l p x

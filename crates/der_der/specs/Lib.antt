@@ -1,3 +1,3 @@
-pub mod ContentReading
+pub mod DerContents
 pub mod DerForms
 pub mod DerReading

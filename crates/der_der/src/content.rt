@@ -8,7 +8,7 @@ ghost use Rattle.der_base.specs.Refusal.{Refusal};
 ghost use Rattle.der_base.specs.Tree.{Content};
 ghost use Rattle.der_object.specs.View.{content_tree};
 ghost use Rattle.der_der.specs.DerReading.{IsDerContentOf};
-ghost use Rattle.der_der.specs.ContentReading.{FramesContent, FrameRefuses, FrameLacks, ReadingRefuses, ReadingNeedsMemory, ReadsContentAs, ReadsContentOf};
+ghost use Rattle.der_der.specs.DerContents.{FramesContent, FrameRefuses, FrameLacks, ReadingRefuses, ReadingNeedsMemory, ReadsContentAs, ReadsContentOf};
 
 use crate::reader::{lacking, read_content};
 use der_base::error::{BerError, Err, IResult, Needed};

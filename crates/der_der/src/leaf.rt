@@ -16,6 +16,7 @@ use der_ber::leaf::read_leaf as read_ber_leaf;
 use der_object::BerObjectContent;
 
 /// Reads the content octets of a universal type that is no list, which DER wants primitive.
+#[inline(always)]
 pub fn read_leaf<'a>(
     constructed: bool,
     tag: Tag,

@@ -4,3 +4,4 @@ pub use Rattle.der_base.proofs.BerFaults
 pub use Rattle.der_base.proofs.DerFaults
 pub use Rattle.der_base.proofs.DerWithinBer
 pub use Rattle.der_base.proofs.Framing
+pub use Rattle.der_base.proofs.RunsLaws

@@ -3,6 +3,7 @@ pub use Rattle.der_base.specs.Answer
 pub use Rattle.der_base.specs.Any
 pub use Rattle.der_base.specs.Arcs
 pub use Rattle.der_base.specs.Count
+pub use Rattle.der_base.specs.Content
 pub use Rattle.der_base.specs.Cut
 pub use Rattle.der_base.specs.Encoding
 pub use Rattle.der_base.specs.Errors
@@ -26,6 +27,8 @@ pub use Rattle.der_object.specs.Marks
 pub use Rattle.der_object.specs.Objects
 pub use Rattle.der_object.specs.Room
 pub use Rattle.der_object.specs.View
+pub use Rattle.der_ber.specs.BerContents
 pub use Rattle.der_ber.specs.BerReading
 pub use Rattle.der_ber.specs.BerSlices
+pub use Rattle.der_der.specs.DerContents
 pub use Rattle.der_der.specs.DerReading

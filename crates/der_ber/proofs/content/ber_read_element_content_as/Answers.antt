@@ -2,7 +2,7 @@ use Rattle.std.proofs.Common.{◌^◌, ◌<◌, arith}
 use Rattle.der_base.proofs.Answering.{only_ok_or, only_error_or, only_incomplete_or}
 use Rattle.der_object.specs.Marks.{inner_forms}
 use Rattle.der_object.specs.View.{content_tree}
-use Rattle.der_ber.specs.ContentReading.{ContentAsNeedsMemory}
+use Rattle.der_ber.specs.BerContents.{ContentAsNeedsMemory}
 use Rattle.der_ber.proofs.ContentLaws.{frames_not_lacking, frame_lacks_same, content_as_same, content_as_not_refused, content_as_refusal_same, content_as_refused_not_lacking}
 use Rattle.der_ber.proofs.content.ber_read_element_content_as.Goals as goal
 

@@ -3,7 +3,7 @@ use Rattle.std.proofs.lemmas.Result.{err_from_is_err_and}
 use Rattle.der_base.specs.declared.header.Class.TheVariants.{Universal}
 use Rattle.der_base.specs.Header.{IsHeader}
 use Rattle.der_base.proofs.Answering.{passed_on}
-use Rattle.der_ber.specs.ContentReading.{FramesContent}
+use Rattle.der_ber.specs.BerContents.{FramesContent}
 use Rattle.der_ber.proofs.ContentsRead.{content_read, content_as_refused, content_as_memory}
 use Rattle.der_ber.proofs.content.read_content_as.Goals as goal
 

@@ -2,7 +2,7 @@ use Rattle.std.proofs.Common.{◌^◌, ◌<◌, arith}
 use Rattle.der_base.specs.Header.{class_of, is_constructed}
 use Rattle.der_base.proofs.Answering.{only_ok_or, only_error_or, only_incomplete_or}
 use Rattle.der_object.specs.View.{content_tree}
-use Rattle.der_ber.specs.ContentReading.{TypedNeedsMemory}
+use Rattle.der_ber.specs.BerContents.{TypedNeedsMemory}
 use Rattle.der_ber.proofs.TypedLaws.{typed_begins, typed_same, typed_not_refused, typed_not_lacking, typed_refusal_same, typed_refused_not_lacking, typed_lacks_same}
 use Rattle.der_ber.proofs.typed.parse_ber_with_tag.Goals as goal
 

@@ -1,7 +1,7 @@
 use Rattle.der_base.specs.Header.{is_constructed, length_of}
 use Rattle.der_base.specs.Leaf.{IsLeafContent}
 use Rattle.der_object.specs.View.{content_tree}
-use Rattle.der_ber.specs.ContentReading.{FramesContent}
+use Rattle.der_ber.specs.BerContents.{FramesContent}
 use Rattle.der_ber.proofs.ContentsRead.{leaf_as_read}
 use Rattle.der_ber.proofs.TypedLaws.{typed_read}
 use Rattle.der_ber.proofs.typed.read_typed_leaf.Goals as goal

@@ -3,7 +3,7 @@ use Rattle.der_base.specs.Encoding.{content_octets}
 use Rattle.der_base.specs.Header.{is_constructed, number_of, length_of}
 use Rattle.der_base.specs.Leaf.{IsDerLeaf}
 use Rattle.der_object.specs.View.{content_tree}
-use Rattle.der_der.specs.ContentReading.{FramesContent}
+use Rattle.der_der.specs.DerContents.{FramesContent}
 use Rattle.der_der.proofs.TypedRead.{leaf_as_read}
 use Rattle.der_der.proofs.TypedLaws.{typed_read}
 use Rattle.der_der.proofs.typed.read_typed_leaf.Goals as goal
