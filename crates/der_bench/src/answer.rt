@@ -1,6 +1,8 @@
 //! What a reader answers on the octets of a row.
 use crate::octets::{TextFault, octets};
-use der_parser::ber::{Any, BerObject, BerObjectContent, Class, Header, Length, Tag};
+use der_parser::ber::{
+    ASN1DateTime, ASN1TimeZone, Any, BerObject, BerObjectContent, Class, Header, Length, Tag,
+};
 use der_parser::error::{BerError, BerResult, DerConstraint, Err as Refused, Needed};
 use std::alloc::Global;
 
@@ -38,6 +40,17 @@ pub enum Content {
     Nested(usize),
     /// The class and the number of the tag, and the octets.
     Unknown(Class, u32, &'static str),
+    /// The number of unused bits, and the octets.
+    BitString(u8, &'static str),
+    Enum(u64),
+    Oid(&'static str),
+    RelativeOid(&'static str),
+    /// The string type, and the text.
+    Text(Tag, &'static str),
+    BmpString(&'static str),
+    UniversalString(&'static str),
+    /// Midnight at the beginning of a year: the type of times, the year, the nanosecond and the zone.
+    NewYear(Tag, u32, Option<u32>, ASN1TimeZone),
 }
 
 /// The parts of a header: its class, whether it is constructed, its tag number, its length and its
@@ -95,8 +108,58 @@ impl Content {
                 let header_is = any.class() == *class && any.tag() == Tag(*number);
                 Ok(header_is && octets(alloc, text)?.as_slice() == any.bytes)
             }
+            (leaf, content) => leaf.is_leaf(alloc, content),
+        }
+    }
+
+    /// Whether the content is this one, of the types that have no items.
+    fn is_leaf(&self, alloc: Global, content: &BerObjectContent<'_>) -> Result<bool, TextFault> {
+        match (self, content) {
+            (Content::BitString(unused, text), BerObjectContent::BitString(count, bits)) => {
+                Ok(unused == count && octets(alloc, text)?.as_slice() == bits.bytes)
+            }
+            (Content::Enum(a), BerObjectContent::Enum(b)) => Ok(a == b),
+            (Content::Oid(text), BerObjectContent::OID(oid))
+            | (Content::RelativeOid(text), BerObjectContent::RelativeOID(oid)) => {
+                Ok(octets(alloc, text)?.as_slice() == oid.as_bytes())
+            }
+            (Content::Text(tag, text), content) => Ok(string_of(content) == Some((*tag, *text))),
+            (Content::BmpString(text), BerObjectContent::BmpString(b))
+            | (Content::UniversalString(text), BerObjectContent::UniversalString(b)) => {
+                Ok(octets(alloc, text)?.as_slice() == *b)
+            }
+            (
+                Content::NewYear(Tag::UtcTime, year, nanosecond, zone),
+                BerObjectContent::UTCTime(time),
+            )
+            | (
+                Content::NewYear(Tag::GeneralizedTime, year, nanosecond, zone),
+                BerObjectContent::GeneralizedTime(time),
+            ) => Ok(*time == new_year(*year, *nanosecond, *zone)),
             _ => Ok(false),
         }
+    }
+}
+
+/// Midnight at the beginning of a year.
+fn new_year(year: u32, nanosecond: Option<u32>, tz: ASN1TimeZone) -> ASN1DateTime {
+    ASN1DateTime::new(year, 1, 1, 0, 0, 0, nanosecond, tz)
+}
+
+/// The string type and the text of a content that is kept as a text.
+fn string_of<'a>(content: &BerObjectContent<'a>) -> Option<(Tag, &'a str)> {
+    match content {
+        BerObjectContent::ObjectDescriptor(text) => Some((Tag::ObjectDescriptor, *text)),
+        BerObjectContent::UTF8String(text) => Some((Tag::Utf8String, *text)),
+        BerObjectContent::NumericString(text) => Some((Tag::NumericString, *text)),
+        BerObjectContent::PrintableString(text) => Some((Tag::PrintableString, *text)),
+        BerObjectContent::T61String(text) => Some((Tag::T61String, *text)),
+        BerObjectContent::VideotexString(text) => Some((Tag::VideotexString, *text)),
+        BerObjectContent::IA5String(text) => Some((Tag::Ia5String, *text)),
+        BerObjectContent::GraphicString(text) => Some((Tag::GraphicString, *text)),
+        BerObjectContent::VisibleString(text) => Some((Tag::VisibleString, *text)),
+        BerObjectContent::GeneralString(text) => Some((Tag::GeneralString, *text)),
+        _ => None,
     }
 }
 

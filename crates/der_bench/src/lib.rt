@@ -16,6 +16,8 @@ mod der_rows;
 #[cfg(test)]
 mod header_rows;
 #[cfg(test)]
+mod leaf_rows;
+#[cfg(test)]
 mod octets;
 #[cfg(test)]
 mod reading;

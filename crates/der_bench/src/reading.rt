@@ -2,10 +2,12 @@
 use crate::answer::{Answer, Describes, Parts};
 use crate::octets::octets;
 use der_parser::ber::{
-    BerObject, BerObjectContent, HeaderCount, parse_ber_any_r, parse_ber_counted,
-    parse_ber_recursive,
+    BerObject, BerObjectContent, HeaderCount, Tag, parse_ber_any_r, parse_ber_bool,
+    parse_ber_counted, parse_ber_integer, parse_ber_recursive, parse_ber_with_tag,
 };
-use der_parser::der::{parse_der_counted, parse_der_recursive};
+use der_parser::der::{
+    parse_der_bool, parse_der_counted, parse_der_integer, parse_der_recursive, parse_der_with_tag,
+};
 use der_parser::error::BerResult;
 use der_parser::{parse_ber, parse_der};
 use std::alloc::Global;
@@ -28,6 +30,12 @@ pub enum Reader {
     ParseDer,
     ParseDerRecursive(usize),
     ParseDerCounted(usize),
+    ParseBerBool,
+    ParseBerInteger,
+    ParseBerWithTag(Tag),
+    ParseDerBool,
+    ParseDerInteger,
+    ParseDerWithTag(Tag),
 }
 
 impl Reader {
@@ -51,6 +59,12 @@ impl Reader {
             Reader::ParseDer => parse_der(alloc, input),
             Reader::ParseDerRecursive(depth) => parse_der_recursive(alloc, input, depth),
             Reader::ParseDerCounted(depth) => parse_der_counted(alloc, input, depth, count),
+            Reader::ParseBerBool => parse_ber_bool(input),
+            Reader::ParseBerInteger => parse_ber_integer(input),
+            Reader::ParseBerWithTag(tag) => parse_ber_with_tag(alloc, input, tag),
+            Reader::ParseDerBool => parse_der_bool(input),
+            Reader::ParseDerInteger => parse_der_integer(input),
+            Reader::ParseDerWithTag(tag) => parse_der_with_tag(alloc, input, tag),
         }
     }
 }
