@@ -93,6 +93,30 @@ const USAGE: &str = "usage: derdump ber|der|canon\n";
 /// An input, what is printed, what is told of a fault, and the status.
 type Run = (&'static [u8], &'static str, &'static str, u8);
 
+/// Both words print these types alike.
+#[rattlefmt::skip]
+const TYPE_RUNS: &[Run] = &[
+    (b"\x0a\x01\x05", "Enum(5)\n", "", 0),
+    (b"\x03\x02\x04\xf0", "BitString(4,[f0])\n", "", 0),
+    (b"\x06\x03\x2a\x03\x04", "OID(1.2.3.4)\n", "", 0),
+    (b"\x06\x01\x80", "OID([80])\n", "", 0),
+    (b"\x0d\x04\xc2\x7b\x03\x02", "RelativeOID(8571.3.2)\n", "", 0),
+    (b"\x12\x031 2", "NumericString(\"1 2\")\n", "", 0),
+    (b"\x13\x03A'z", "PrintableString(\"A'z\")\n", "", 0),
+    (b"\x16\x02a@", "IA5String(\"a@\")\n", "", 0),
+    (b"\x1a\x01~", "VisibleString(\"~\")\n", "", 0),
+    (b"\x0c\x01a", "UTF8String(\"a\")\n", "", 0),
+    (b"\x07\x01a", "ObjectDescriptor(\"a\")\n", "", 0),
+    (b"\x14\x01a", "T61String(a)\n", "", 0),
+    (b"\x15\x01a", "VideotexString(a)\n", "", 0),
+    (b"\x19\x01a", "GraphicString(\"a\")\n", "", 0),
+    (b"\x1b\x00", "GeneralString(\"\")\n", "", 0),
+    (b"\x1e\x04\x00L\x00e", "BmpString(\"Le\")\n\n", "", 0),
+    (b"\x1c\x04\x00\x00\x00A", "UniversalString(\"A\")\n\n", "", 0),
+    (b"\x17\x0d200101000000Z", "UTCTime(\"200101000000Z\")\n", "", 0),
+    (b"\x18\x1120200101000000.1Z", "GeneralizedTime(\"20200101000000.1Z\")\n", "", 0),
+];
+
 /// What `derdump der` does.
 const DER_RUNS: &[Run] = &[
     (b"", "", "", 0),
@@ -139,7 +163,6 @@ const DER_RUNS: &[Run] = &[
         "error at 2: incomplete, needs 2\n",
         1,
     ),
-    (b"\x0c\x01a", "UTF8String(\"a\")\n", "", 0),
     (
         b"\x2c\x01a",
         "",
@@ -266,6 +289,12 @@ const BER_RUNS: &[Run] = &[
         "error at 2: unsupported\n",
         1,
     ),
+    (
+        b"\x18\x0d202001010000Z\x17\x11200101000000-0000",
+        "GeneralizedTime(\"20200101000000Z\")\nUTCTime(\"200101000000+0000\")\n",
+        "",
+        0,
+    ),
 ];
 
 /// Under this word, each input is printed and told of so.
@@ -294,6 +323,12 @@ fn prints_elements_up_to_a_fault(rt: HostRuntime) {
 }
 
 /// An element that is refused for its depth stands behind one that is printed.
+#[test]
+fn types_are_printed(rt: HostRuntime) {
+    expect_runs(&rt, "der", TYPE_RUNS);
+    expect_runs(&rt, "ber", TYPE_RUNS);
+}
+
 #[test]
 fn fifty_indefinite_lengths_are_refused(rt: HostRuntime) -> Result<(), Fail> {
     let mut input = Vec::new(rt.alloc());
