@@ -3,8 +3,12 @@ use crate::answer::Answer::{Broken, Incomplete, Read, Refused};
 use crate::answer::Content::{
     BitString, BmpString, Boolean, Enum, Integer, NewYear, Oid, RelativeOid, Text, UniversalString,
 };
+use crate::octets::octets;
 use crate::reading::{Reader, Row, expect_answers, expect_written};
-use der_parser::ber::{ASN1TimeZone, Tag};
+use der_parser::ber::{
+    ASN1TimeZone, BerObjectContent, Tag, ber_read_element_header, parse_ber_content,
+};
+use der_parser::der::parse_der_content;
 use der_parser::error::DerConstraint::{
     Constructed, FractionNotMinimal, IntegerEmpty, IntegerLeadingFF, IntegerLeadingZeroes,
     InvalidBoolean, MissingSeconds, MissingTimeZone, UnusedBitsNotZero,
@@ -141,6 +145,18 @@ fn both_rule_sets_read_leaves(rt: HostRuntime) -> Result<(), Fail> {
 }
 
 #[test]
+fn typed_readers_read_leaves(rt: HostRuntime) -> Result<(), Fail> {
+    expect_answers(&rt, Reader::TypedByBer, ALIKE)?;
+    expect_answers(&rt, Reader::TypedByDer, ALIKE)
+}
+
+#[test]
+fn typed_readers_refuse_leaves(rt: HostRuntime) -> Result<(), Fail> {
+    expect_answers(&rt, Reader::TypedByBer, BY_BER)?;
+    expect_answers(&rt, Reader::TypedByDer, BY_DER)
+}
+
+#[test]
 fn leaves_by_ber(rt: HostRuntime) -> Result<(), Fail> {
     expect_answers(&rt, Reader::ParseBer, BY_BER)
 }
@@ -180,4 +196,19 @@ fn booleans_by_typed_readers(rt: HostRuntime) -> Result<(), Fail> {
     ];
     expect_answers(&rt, Reader::ParseBerBool, by_ber)?;
     expect_answers(&rt, Reader::ParseDerBool, by_der)
+}
+
+/// A content is read behind a header of another class and number, as a type that the caller names.
+#[test]
+fn contents_behind_a_header(rt: HostRuntime) -> Result<(), Fail> {
+    let input = octets(rt.alloc(), "80 04 00 4c 00 65")?;
+    let (behind, header) = ber_read_element_header(&input)?;
+    let by_ber = parse_ber_content(rt.alloc(), Tag::BmpString).parse(behind, &header, 50);
+    let by_der = parse_der_content(rt.alloc(), Tag::BmpString).parse(behind, &header, 50);
+    for given in [by_ber, by_der] {
+        let (rest, content) = given?;
+        assert!(rt; rest.is_empty());
+        assert_eq!(rt; content, BerObjectContent::BmpString(&[0, 0x4c, 0, 0x65]));
+    }
+    Ok(())
 }

@@ -20,8 +20,12 @@ mod leaf_rows;
 #[cfg(test)]
 mod octets;
 #[cfg(test)]
+mod oid_rows;
+#[cfg(test)]
 mod reading;
 #[cfg(test)]
 mod round_trips;
 #[cfg(test)]
 mod text_rows;
+#[cfg(test)]
+mod typed;

@@ -1,6 +1,7 @@
 //! The readers of objects, and what a row wants of one.
 use crate::answer::{Answer, Describes, Parts};
 use crate::octets::octets;
+use crate::typed::{read_typed_by_ber, read_typed_by_der};
 use der_parser::ber::{
     BerObject, BerObjectContent, HeaderCount, Tag, parse_ber_any_r, parse_ber_bool,
     parse_ber_counted, parse_ber_integer, parse_ber_recursive, parse_ber_with_tag,
@@ -36,6 +37,8 @@ pub enum Reader {
     ParseDerBool,
     ParseDerInteger,
     ParseDerWithTag(Tag),
+    TypedByBer,
+    TypedByDer,
 }
 
 impl Reader {
@@ -65,6 +68,8 @@ impl Reader {
             Reader::ParseDerBool => parse_der_bool(input),
             Reader::ParseDerInteger => parse_der_integer(input),
             Reader::ParseDerWithTag(tag) => parse_der_with_tag(alloc, input, tag),
+            Reader::TypedByBer => read_typed_by_ber(alloc, input),
+            Reader::TypedByDer => read_typed_by_der(alloc, input),
         }
     }
 }
