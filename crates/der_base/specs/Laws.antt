@@ -1,11 +1,13 @@
 -- Laws of the definitions.
-use Rattle.std.specs.Prelude.{◌≡◌, ◌≢◌, ℕ, ◌-◌, ◌%◌, ◌^◌, ◌<◌, ◌≤◌, ◌⊎◌, ◌↔◌, Bool, false, IsTrue, pos, List, [], ◌∷◌, length, slice_index, All}
+use Rattle.std.specs.Prelude.{◌≡◌, ◌≢◌, ℕ, ◌-◌, ◌%◌, ◌^◌, ◌<◌, ◌≤◌, ◌⊎◌, ◌↔◌, Bool, false, IsTrue, pos, List, [], ◌∷◌, ◌++◌, length, slice_index, All}
 use Rattle.der_base.specs.Encoding.{content_octets}
+use Rattle.der_base.specs.Fault.{ShowsFault, DerShowsFault}
 use Rattle.der_base.specs.Leaf.{is_list, is_mapped, IsLeafContent, IsDerLeaf, IsMinimalInteger, HasZeroUnusedBits}
 use Rattle.der_base.specs.LeafRefusal.{BerLeafRefuses, DerLeafRefuses}
 use Rattle.der_base.specs.Octets.{number, octets, groups, groups_value, integer_value, shortest_integer, shortest_length, SpellsAnyLength}
 use Rattle.der_base.specs.Refusal.{Refusal}
-use Rattle.der_base.specs.Tree.{Content}
+use Rattle.der_base.specs.Spelling.{BerSpells, DerSpells, framing_budget}
+use Rattle.der_base.specs.Tree.{Node, Content}
 
 abbrev pub AreOctets : List ℕ → Type 0
 AreOctets w = All (λ b. b < 256) w
@@ -87,3 +89,22 @@ HasZeroLastBits u w = (u ≤ 7) × (w ≡ [] → u ≡ 0) × (slice_index w (len
 -- those are the unused bits of a BIT STRING
 abbrev pub UnusedBitsAreLast : Type 0
 UnusedBitsAreLast = (u : ℕ) (w : List ℕ) → HasZeroUnusedBits u w ↔ HasZeroLastBits u w
+
+-- what DER spells, BER spells alike
+abbrev pub DerIsWithinBer : Type 0
+DerIsWithinBer = (b : List ℕ) (o : Node) (d : ℕ) → DerSpells b o d → BerSpells b o d framing_budget
+
+-- spellings by BER in front of one list of octets are one, of one tree
+abbrev pub SpellingsAreOne : Type 0
+SpellingsAreOne = (b b' x y : List ℕ) (o o' : Node) (d d' : ℕ) → BerSpells b o d framing_budget → BerSpells b' o' d' framing_budget → b ++ x ≡ b' ++ y → (b ≡ b') × (o ≡ o') × (x ≡ y)
+
+-- one refusal shows at most
+abbrev pub FaultsAreOne : (ℕ → List ℕ → Refusal → Type 0) → Type 0
+FaultsAreOne faults = (d : ℕ) (i : List ℕ) (e e' : Refusal) → faults d i e → faults d i e' → e ≡ e'
+
+-- and none beside a spelling
+abbrev pub SpellingsShowNoFault : Type 0
+SpellingsShowNoFault = (d : ℕ) (i b rest : List ℕ) (o : Node) (e : Refusal) → i ≡ b ++ rest → BerSpells b o d framing_budget → ¬ ShowsFault d i e
+
+abbrev pub DerSpellingsShowNoFault : Type 0
+DerSpellingsShowNoFault = (d : ℕ) (i b rest : List ℕ) (o : Node) (e : Refusal) → i ≡ b ++ rest → DerSpells b o d → ¬ DerShowsFault d i e

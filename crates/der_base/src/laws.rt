@@ -15,7 +15,13 @@ ghost use Rattle.der_base.specs.Laws.{
   MinimalIsShortest,
   GroupsAreShortest,
   UnusedBitsAreLast,
+  DerIsWithinBer,
+  SpellingsAreOne,
+  FaultsAreOne,
+  SpellingsShowNoFault,
+  DerSpellingsShowNoFault,
 };
+ghost use Rattle.der_base.specs.Fault.{ShowsFault, DerShowsFault};
 
 /// Content octets of a universal type have one content by BER, and are written for one by DER.
 pub fn one_content()
@@ -63,4 +69,22 @@ pub fn tag_numbers_are_shortest()
 /// The unused bits of a BIT STRING are those of its last octet (X.690 8.6.2, 11.2).
 pub fn unused_bits_are_last()
     ensures { UnusedBitsAreLast }
+{}
+
+/// What DER spells, BER spells alike (X.690 10).
+pub fn der_is_within_ber()
+    ensures { DerIsWithinBer }
+{}
+
+/// No two fronts of an input are spellings, and no octets spell two trees (X.690 8.1).
+pub fn spellings_are_one()
+    ensures { SpellingsAreOne }
+{}
+
+/// An input shows one refusal at most, and none where it begins with a spelling.
+pub fn faults_are_one()
+    ensures ber { FaultsAreOne ShowsFault }
+    ensures der { FaultsAreOne DerShowsFault }
+    ensures spelled { SpellingsShowNoFault }
+    ensures der_spelled { DerSpellingsShowNoFault }
 {}
