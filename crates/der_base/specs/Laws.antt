@@ -108,3 +108,20 @@ SpellingsShowNoFault = (d : ℕ) (i b rest : List ℕ) (o : Node) (e : Refusal) 
 
 abbrev pub DerSpellingsShowNoFault : Type 0
 DerSpellingsShowNoFault = (d : ℕ) (i b rest : List ℕ) (o : Node) (e : Refusal) → i ≡ b ++ rest → DerSpells b o d → ¬ DerShowsFault d i e
+
+-- i begins with a spelling of the tree to depth d, and rest follows
+abbrev pub BeginsWithBer : ℕ → List ℕ → Node → List ℕ → Type 0
+BeginsWithBer d i o rest = (b : List ℕ) × (i ≡ b ++ rest) × BerSpells b o d framing_budget
+
+-- the same by DER
+abbrev pub BeginsWithDer : ℕ → List ℕ → Node → List ℕ → Type 0
+BeginsWithDer d i o rest = (b : List ℕ) × (i ≡ b ++ rest) × DerSpells b o d
+
+-- octets appended to an input leave the refusal that it shows
+abbrev pub AppendedLeaveFaults : (ℕ → List ℕ → Refusal → Type 0) → Type 0
+AppendedLeaveFaults faults = (d : ℕ) (i z : List ℕ) (e : Refusal) → faults d i e → faults d (i ++ z) e
+
+-- and where it begins with a spelling, they only lengthen the rest: to whatever depth, what it then begins with is one of the same tree
+abbrev pub AppendedLengthenRests : (ℕ → List ℕ → Node → List ℕ → Type 0) → Type 0
+AppendedLengthenRests begins = (d : ℕ) (i z rest : List ℕ) (o : Node) → begins d i o rest
+    → begins d (i ++ z) o (rest ++ z) × ((d' : ℕ) (rest' : List ℕ) (o' : Node) → begins d' (i ++ z) o' rest' → (o' ≡ o) × (rest' ≡ rest ++ z))

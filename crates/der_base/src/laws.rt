@@ -20,6 +20,10 @@ ghost use Rattle.der_base.specs.Laws.{
   FaultsAreOne,
   SpellingsShowNoFault,
   DerSpellingsShowNoFault,
+  BeginsWithBer,
+  BeginsWithDer,
+  AppendedLeaveFaults,
+  AppendedLengthenRests,
 };
 ghost use Rattle.der_base.specs.Fault.{ShowsFault, DerShowsFault};
 
@@ -87,4 +91,13 @@ pub fn faults_are_one()
     ensures der { FaultsAreOne DerShowsFault }
     ensures spelled { SpellingsShowNoFault }
     ensures der_spelled { DerSpellingsShowNoFault }
+{}
+
+/// Octets appended to an input leave the refusal that it shows, and where it begins with a spelling
+/// they only lengthen the rest.
+pub fn appended_only_lengthen()
+    ensures ber { AppendedLeaveFaults ShowsFault }
+    ensures der { AppendedLeaveFaults DerShowsFault }
+    ensures spelled { AppendedLengthenRests BeginsWithBer }
+    ensures der_spelled { AppendedLengthenRests BeginsWithDer }
 {}
