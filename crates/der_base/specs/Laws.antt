@@ -1,6 +1,6 @@
 -- Laws of the definitions.
 use Rattle.std.specs.Prelude.{◌≡◌, ◌≢◌, ℕ, ◌-◌, ◌%◌, ◌^◌, ◌<◌, ◌≤◌, ◌⊎◌, ◌↔◌, Bool, false, IsTrue, pos, List, [], ◌∷◌, ◌++◌, length, slice_index, All}
-use Rattle.der_base.specs.Encoding.{content_octets}
+use Rattle.der_base.specs.Encoding.{encoding, content_octets}
 use Rattle.der_base.specs.Fault.{ShowsFault, DerShowsFault}
 use Rattle.der_base.specs.Leaf.{is_list, is_mapped, IsLeafContent, IsDerLeaf, IsMinimalInteger, HasZeroUnusedBits}
 use Rattle.der_base.specs.LeafRefusal.{BerLeafRefuses, DerLeafRefuses}
@@ -108,3 +108,7 @@ SpellingsShowNoFault = (d : ℕ) (i b rest : List ℕ) (o : Node) (e : Refusal) 
 
 abbrev pub DerSpellingsShowNoFault : Type 0
 DerSpellingsShowNoFault = (d : ℕ) (i b rest : List ℕ) (o : Node) (e : Refusal) → i ≡ b ++ rest → DerSpells b o d → ¬ DerShowsFault d i e
+
+-- what is written for a tree that BER spells, up to 2^64-1 octets, spells it too, to the same depth: it is a normal form
+abbrev pub EncodingIsNormalForm : Type 0
+EncodingIsNormalForm = (b : List ℕ) (o : Node) (d k : ℕ) → BerSpells b o d k → length (encoding o) < 2 ^ 64 → BerSpells (encoding o) o d framing_budget

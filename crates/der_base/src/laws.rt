@@ -20,6 +20,7 @@ ghost use Rattle.der_base.specs.Laws.{
   FaultsAreOne,
   SpellingsShowNoFault,
   DerSpellingsShowNoFault,
+  EncodingIsNormalForm,
 };
 ghost use Rattle.der_base.specs.Fault.{ShowsFault, DerShowsFault};
 
@@ -87,4 +88,9 @@ pub fn faults_are_one()
     ensures der { FaultsAreOne DerShowsFault }
     ensures spelled { SpellingsShowNoFault }
     ensures der_spelled { DerSpellingsShowNoFault }
+{}
+
+/// What is written for a tree that BER spells spells it too: it is a normal form (X.690 8.1).
+pub fn encoding_is_normal_form()
+    ensures { EncodingIsNormalForm }
 {}
