@@ -1,6 +1,6 @@
 -- Laws of the definitions.
 use Rattle.std.specs.Prelude.{◌≡◌, ◌≢◌, ℕ, ◌-◌, ◌%◌, ◌^◌, ◌<◌, ◌≤◌, ◌⊎◌, ◌↔◌, Bool, false, IsTrue, pos, List, [], ◌∷◌, ◌++◌, length, slice_index, All}
-use Rattle.der_base.specs.Encoding.{content_octets}
+use Rattle.der_base.specs.Encoding.{encoding, content_octets}
 use Rattle.der_base.specs.Fault.{ShowsFault, DerShowsFault}
 use Rattle.der_base.specs.Leaf.{is_list, is_mapped, IsLeafContent, IsDerLeaf, IsMinimalInteger, HasZeroUnusedBits}
 use Rattle.der_base.specs.LeafRefusal.{BerLeafRefuses, DerLeafRefuses}
@@ -125,3 +125,7 @@ AppendedLeaveFaults faults = (d : ℕ) (i z : List ℕ) (e : Refusal) → faults
 abbrev pub AppendedLengthenRests : (ℕ → List ℕ → Node → List ℕ → Type 0) → Type 0
 AppendedLengthenRests begins = (d : ℕ) (i z rest : List ℕ) (o : Node) → begins d i o rest
     → begins d (i ++ z) o (rest ++ z) × ((d' : ℕ) (rest' : List ℕ) (o' : Node) → begins d' (i ++ z) o' rest' → (o' ≡ o) × (rest' ≡ rest ++ z))
+
+-- what is written for a tree that BER spells, up to 2^64-1 octets, spells it too, to the same depth: it is a normal form
+abbrev pub EncodingIsNormalForm : Type 0
+EncodingIsNormalForm = (b : List ℕ) (o : Node) (d k : ℕ) → BerSpells b o d k → length (encoding o) < 2 ^ 64 → BerSpells (encoding o) o d framing_budget

@@ -24,6 +24,7 @@ ghost use Rattle.der_base.specs.Laws.{
   BeginsWithDer,
   AppendedLeaveFaults,
   AppendedLengthenRests,
+  EncodingIsNormalForm,
 };
 ghost use Rattle.der_base.specs.Fault.{ShowsFault, DerShowsFault};
 
@@ -100,4 +101,9 @@ pub fn appended_only_lengthen()
     ensures der { AppendedLeaveFaults DerShowsFault }
     ensures spelled { AppendedLengthenRests BeginsWithBer }
     ensures der_spelled { AppendedLengthenRests BeginsWithDer }
+{}
+
+/// What is written for a tree that BER spells spells it too: it is a normal form (X.690 8.1).
+pub fn encoding_is_normal_form()
+    ensures { EncodingIsNormalForm }
 {}
