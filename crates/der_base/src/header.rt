@@ -465,6 +465,7 @@ fn read_ber_header(i: &[u8]) -> IResult<&[u8], Header<'_>, BerError>
 /// Refusals: InvalidTag, InvalidLength, and of DerConstraintFailed IndefiniteLength and
 /// LengthNotMinimal, each at the octet that shows it; Incomplete with the number of octets that a
 /// header lacks which is cut short. It takes no memory.
+#[inline(always)]
 pub fn der_read_element_header(i: &[u8]) -> IResult<&[u8], Header<'_>, BerError>
     ensures found { MatchAnswer result (λ x. ReadsDerHeader i.now x.1 x.0.now) (DerHeaderRefuses i.now) (DerHeaderLacks i.now) ⊥ }
     ensures only { (c : Class) (p : Bool) (t n : ℕ) (rest : List ℕ) → BeginsWithDerHeader i.now c p t n rest
@@ -475,7 +476,7 @@ pub fn der_read_element_header(i: &[u8]) -> IResult<&[u8], Header<'_>, BerError>
     read_der_header(i)
 }
 
-#[inline]
+#[inline(always)]
 fn read_der_header(i: &[u8]) -> IResult<&[u8], Header<'_>, BerError>
     ensures { MatchAnswer result (λ x. ReadsDerHeader i.now x.1 x.0.now) (DerHeaderRefuses i.now) (DerHeaderLacks i.now) ⊥ }
 {
@@ -553,6 +554,7 @@ pub fn ber_header_counted<'a>(
 }
 
 /// Reads a header as `der_read_element_header`, and counts it.
+#[inline(always)]
 pub fn der_header_counted<'a>(
     i: &'a [u8],
     count: &mut HeaderCount,
