@@ -1,5 +1,5 @@
 //! Tags, lengths and headers: the octets in front of a content (X.690 8.1.2 and 8.1.3).
-ghost use Rattle.std.specs.Prelude.{◌≡◌, ◌≢◌, ◌&&◌, ◌==◌, ◌↔◌, ℕ, Bool, false, true, if◌then◌else◌, IsTrue, IsOkAnd, List, None, MatchResult};
+ghost use Rattle.std.specs.Prelude.{◌≡◌, ◌≢◌, ◌&&◌, ◌==◌, ◌↔◌, ℕ, Bool, false, true, if◌then◌else◌, IsTrue, IfSome, IsOkAnd, List, None, MatchResult};
 ghost use Rattle.std.specs.Option.{option_copied};
 ghost use Rattle.der_base.specs.declared.error.Error.{Error};
 ghost use Rattle.der_base.specs.declared.error.DerConstraint.{DerConstraint};
@@ -13,7 +13,7 @@ ghost use Rattle.der_base.specs.Octets.{identifier};
 ghost use Rattle.der_base.specs.Refusal.{Refusal, refusal, construct_expected, construct_unexpected, unexpected_class, unexpected_tag};
 
 use crate::error::{BerError, DerConstraint, IResult};
-use crate::identifier::{Identifier, read_identifier};
+use crate::identifier::{Identifier, first_octet, read_identifier};
 use crate::length::{read_ber_length, read_der_length};
 use std::fmt;
 use std::marker::Model;
@@ -454,6 +454,16 @@ pub fn ber_read_element_header(i: &[u8]) -> IResult<&[u8], Header<'_>, BerError>
 fn read_ber_header(i: &[u8]) -> IResult<&[u8], Header<'_>, BerError>
     ensures { MatchAnswer result (λ x. ReadsHeader i.now x.1 x.0.now) (BerHeaderRefuses i.now) (BerHeaderLacks i.now) ⊥ }
 {
+    match read_short_header(i) {
+        Some(found) => Ok(found),
+        None => read_any_ber_header(i),
+    }
+}
+
+#[inline(always)]
+fn read_any_ber_header(i: &[u8]) -> IResult<&[u8], Header<'_>, BerError>
+    ensures { MatchAnswer result (λ x. ReadsHeader i.now x.1 x.0.now) (BerHeaderRefuses i.now) (BerHeaderLacks i.now) ⊥ }
+{
     let (rest, identifier) = read_identifier(i)?;
     let (rest, length) = read_ber_length(identifier.constructed, rest)?;
     Ok((rest, header_of(identifier, length)))
@@ -465,6 +475,7 @@ fn read_ber_header(i: &[u8]) -> IResult<&[u8], Header<'_>, BerError>
 /// Refusals: InvalidTag, InvalidLength, and of DerConstraintFailed IndefiniteLength and
 /// LengthNotMinimal, each at the octet that shows it; Incomplete with the number of octets that a
 /// header lacks which is cut short. It takes no memory.
+#[inline(always)]
 pub fn der_read_element_header(i: &[u8]) -> IResult<&[u8], Header<'_>, BerError>
     ensures found { MatchAnswer result (λ x. ReadsDerHeader i.now x.1 x.0.now) (DerHeaderRefuses i.now) (DerHeaderLacks i.now) ⊥ }
     ensures only { (c : Class) (p : Bool) (t n : ℕ) (rest : List ℕ) → BeginsWithDerHeader i.now c p t n rest
@@ -475,13 +486,46 @@ pub fn der_read_element_header(i: &[u8]) -> IResult<&[u8], Header<'_>, BerError>
     read_der_header(i)
 }
 
-#[inline]
+#[inline(always)]
 fn read_der_header(i: &[u8]) -> IResult<&[u8], Header<'_>, BerError>
+    ensures { MatchAnswer result (λ x. ReadsDerHeader i.now x.1 x.0.now) (DerHeaderRefuses i.now) (DerHeaderLacks i.now) ⊥ }
+{
+    match read_short_header(i) {
+        Some(found) => Ok(found),
+        None => read_any_der_header(i),
+    }
+}
+
+#[inline(always)]
+fn read_any_der_header(i: &[u8]) -> IResult<&[u8], Header<'_>, BerError>
     ensures { MatchAnswer result (λ x. ReadsDerHeader i.now x.1 x.0.now) (DerHeaderRefuses i.now) (DerHeaderLacks i.now) ⊥ }
 {
     let (rest, identifier) = read_identifier(i)?;
     let (rest, length) = read_der_length(rest)?;
     Ok((rest, header_of(identifier, Length::Definite(length))))
+}
+
+/// Reads a header of two octets, as most are: a tag number below 31, and a length below 128
+/// (X.690 8.1.2.2, 8.1.3.4).
+#[inline(always)]
+fn read_short_header(i: &[u8]) -> Option<(&[u8], Header<'_>)>
+    ensures ber { IfSome result (λ x. ReadsHeader i.now x.1 x.0.now) }
+    ensures der { IfSome result (λ x. ReadsDerHeader i.now x.1 x.0.now) }
+{
+    let (first, following) = i.split_first()?;
+    let (length, rest) = following.split_first()?;
+    let (class, constructed, low_bits) = first_octet(*first);
+    if low_bits == 31 || *length >= 128 {
+        return None;
+    }
+    let identifier = Identifier {
+        class,
+        constructed,
+        tag: Tag(u32::from(low_bits)),
+        octets: &i[..1],
+    };
+    let length = Length::Definite(usize::from(*length));
+    Some((rest, header_of(identifier, length)))
 }
 
 /// The header that begins with these identifier octets.
@@ -553,6 +597,7 @@ pub fn ber_header_counted<'a>(
 }
 
 /// Reads a header as `der_read_element_header`, and counts it.
+#[inline(always)]
 pub fn der_header_counted<'a>(
     i: &'a [u8],
     count: &mut HeaderCount,

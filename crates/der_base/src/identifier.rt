@@ -62,7 +62,7 @@ pub fn read_identifier(i: &[u8]) -> IResult<&[u8], Identifier<'_>, BerError>
 /// The class, whether the content is constructed, and the five bits that are a tag number below
 /// 31, or 31 for the long form (8.1.2.2 to 8.1.2.5).
 #[inline]
-fn first_octet(first: u8) -> (Class, bool, u8)
+pub fn first_octet(first: u8) -> (Class, bool, u8)
     ensures octet { first ≡ leading_bits result.0 result.1 + result.2 }
     ensures low { result.2 < 32 }
 {

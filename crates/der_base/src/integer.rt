@@ -38,6 +38,7 @@ pub fn is_negative(octets: &[u8]) -> bool
 
 /// Ok where content octets are the fewest of their number (8.3.2): IntegerEmpty where there are
 /// none, IntegerLeadingZeroes and IntegerLeadingFF where the first nine bits are all alike.
+#[inline(always)]
 pub fn check_fewest_octets(octets: &[u8]) -> Result<(), BerError>
     ensures { MatchResult result
         (λ _. IsMinimalInteger octets.now)

@@ -12,11 +12,13 @@ use crate::leaf::read_leaf;
 use der_base::any::{Any, ber_any_counted};
 use der_base::error::{BerError, Err, cut_item};
 use der_base::header::{HeaderCount, Tag};
+use der_object::growth::make_room;
 use der_object::{BerObject, BerObjectContent, BerResult};
 use std::alloc::Global;
 
 /// One element in front.
 #[cycle(reader)]
+#[inline(always)]
 pub fn read_element<'a>(
     alloc: Global,
     i: &'a [u8],
@@ -62,6 +64,7 @@ pub fn read_element_with_tag<'a>(
 
 /// The content of an element.
 #[cycle(reader)]
+#[inline(always)]
 pub(crate) fn read_content<'a>(
     alloc: Global,
     any: Any<'a>,
@@ -110,6 +113,7 @@ fn read_items<'a>(
     while !rest.is_empty() {
         match read_element(alloc, rest, max_depth, count) {
             Ok((after, item)) => {
+                make_room(&mut items, after);
                 items.push(item)?;
                 rest = after;
             }

@@ -42,6 +42,7 @@ pub fn read_leaf<'a>(
 }
 
 /// The tests that DER puts in front of those of BER, of a type that is no time.
+#[inline(always)]
 fn check_form(tag: Tag, content: &[u8]) -> Result<(), BerError>
     requires mapped { IsTrue (is_mapped tag.0) }
     requires no_list { is_list tag.0 ≡ false }

@@ -16,11 +16,13 @@ use der_base::MAX_OBJECT_SIZE;
 use der_base::any::Any;
 use der_base::error::{BerError, Err, Needed, cut_item};
 use der_base::header::{Header, HeaderCount, Tag, der_header_counted};
+use der_object::growth::make_room;
 use der_object::{BerObject, BerObjectContent, BerResult};
 use std::alloc::Global;
 
 /// One element in front.
 #[cycle(reader)]
+#[inline(always)]
 pub fn read_element<'a>(
     alloc: Global,
     i: &'a [u8],
@@ -61,6 +63,7 @@ pub(crate) fn lacking(header: &Header<'_>, size: usize, rest: &[u8]) -> usize
 
 /// The content of an element behind its header.
 #[cycle(reader)]
+#[inline(always)]
 pub(crate) fn read_content<'a>(
     alloc: Global,
     header: Header<'a>,
@@ -109,6 +112,7 @@ fn read_items<'a>(
     while !rest.is_empty() {
         match read_element(alloc, rest, max_depth, count) {
             Ok((after, item)) => {
+                make_room(&mut items, after);
                 items.push(item)?;
                 rest = after;
             }

@@ -5,6 +5,7 @@ pub mod bit_string;
 mod decimal;
 mod equality;
 pub mod error;
+pub mod growth;
 mod length;
 pub mod object;
 mod octets;

@@ -69,7 +69,7 @@ read_element-returns-clause-shorter t c =
 
 pub read_items-loop-rest-preserved : goal.read_items-loop-rest-preserved
 read_items-loop-rest-preserved t c =
-    rw c.in_ok-push-in-Ok.ensures.items (read_more c.args.content.now c.loop-rest.rest.now c.in-Ok.after.now c.loop-rest.items.items c.in-Ok.item c.args.max_depth c.loop-rest.invariant c.in-Ok.ensures.found)
+    rw (c.in_ok-push-in-Ok.ensures.items, c.make_room.ensures) (read_more c.args.content.now c.loop-rest.rest.now c.in-Ok.after.now c.loop-rest.items.items c.in-Ok.item c.args.max_depth c.loop-rest.invariant c.in-Ok.ensures.found)
 
 pub read_items-returns-in-Err : goal.read_items-returns-in-Err
 read_items-returns-in-Err t c =
