@@ -80,7 +80,7 @@ pub(crate) fn read_content<'a>(
 {
     let header = any.header;
     let tag = header.tag();
-    if !header.is_universal() || !tag.is_mapped() {
+    if !header.is_universal() {
         return Ok(BerObjectContent::Unknown(any));
     }
     if tag == Tag::Sequence {
@@ -91,7 +91,10 @@ pub(crate) fn read_content<'a>(
         header.assert_constructed()?;
         return Ok(BerObjectContent::Set(read_items(alloc, any.bytes, max_depth - 1, count)?));
     }
-    Ok(read_leaf(header.constructed(), tag, any.bytes)?)
+    if tag.is_mapped() {
+        return Ok(read_leaf(header.constructed(), tag, any.bytes)?);
+    }
+    Ok(BerObjectContent::Unknown(any))
 }
 
 /// The elements that content octets join.

@@ -79,7 +79,7 @@ pub(crate) fn read_content<'a>(
         ((2 ≤ max_depth) × (class_of h ≡ Class.Universal) × (is_constructed h ≡ true) × IsTrue (is_list (number_of h)) × (content.now ≢ [])) }
 {
     let tag = header.tag();
-    if !header.is_universal() || !tag.is_mapped() {
+    if !header.is_universal() {
         return Ok(BerObjectContent::Unknown(Any::new(header, content)));
     }
     if tag == Tag::Sequence {
@@ -90,7 +90,10 @@ pub(crate) fn read_content<'a>(
         header.assert_constructed()?;
         return Ok(BerObjectContent::Set(read_items(alloc, content, max_depth - 1, count)?));
     }
-    Ok(read_leaf(header.constructed(), tag, content)?)
+    if tag.is_mapped() {
+        return Ok(read_leaf(header.constructed(), tag, content)?);
+    }
+    Ok(BerObjectContent::Unknown(Any::new(header, content)))
 }
 
 /// The elements that content octets join.

@@ -138,8 +138,8 @@ read_content-returns-in_err-read_leaf t c =
     let p = err_from_is_err_and c.from_residual-in_err-read_leaf.result c.from_residual-in_err-read_leaf.ensures.1 in
     rw (p.1, p.2) (universal, mapped, inl refused)
 
-pub read_content-returns : goal.read_content-returns
-read_content-returns t c =
+pub read_content-returns-then-is_mapped : goal.read_content-returns-then-is_mapped
+read_content-returns-then-is_mapped t c =
     let h = c.args.header in
     let w = c.args.content.now in
     let x = c.in_ok-read_leaf.field-0 in
