@@ -1,3 +1,4 @@
 pub mod BerContents
 pub mod BerReading
 pub mod BerSlices
+pub mod Laws

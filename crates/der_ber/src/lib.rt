@@ -2,6 +2,7 @@
 #![tactic(auto)]
 
 pub mod content;
+pub mod laws;
 pub mod leaf;
 pub mod multi;
 pub mod parser;

@@ -1,3 +1,4 @@
 pub mod DerContents
 pub mod DerForms
 pub mod DerReading
+pub mod Laws

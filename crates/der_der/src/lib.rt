@@ -2,6 +2,7 @@
 #![tactic(auto)]
 
 pub mod content;
+pub mod laws;
 mod leaf;
 pub mod parser;
 mod reader;
