@@ -7,7 +7,7 @@ use Rattle.der_base.specs.Octets.{identifier}
 use Rattle.der_base.specs.Refusal.{Refusal}
 use Rattle.der_base.specs.Spelling.{BeginsWithElement, end_marker}
 use Rattle.der_base.proofs.BerFaults.{spelling_same}
-use Rattle.der_base.proofs.FramingLists.{tail_more}
+use Rattle.der_base.proofs.Raws.{tail_more}
 use Rattle.der_base.proofs.HeaderLaws.{Shows}
 
 -- headers

@@ -8,7 +8,7 @@ use Rattle.der_base.specs.Octets.{identifier, shortest_length}
 use Rattle.der_base.specs.Refusal.{Refusal}
 use Rattle.der_base.proofs.AppendedBer.{large_length_appended, header_appended}
 use Rattle.der_base.proofs.DerWithinBer.{der_spelling_same}
-use Rattle.der_base.proofs.FramingLists.{tail_more}
+use Rattle.der_base.proofs.Raws.{tail_more}
 
 der_length_appended : (p : Bool) (s z : List ℕ) (e : Refusal) → DerLengthRefuses s e → DerLengthRefuses (s ++ z) e
 der_length_appended p s z e (inl ((r, d), q)) = inl ((r ++ z, ap (λ l. l ++ z) d), q)

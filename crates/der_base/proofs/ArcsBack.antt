@@ -2,16 +2,16 @@
 use Rattle.std.proofs.Common.{◌≡◌, ℕ, zero, suc, ◌+◌, ◌*◌, ◌/◌, ◌%◌, ◌^◌, ◌<◌, ◌≤◌, Bool, true, false, if◌then◌else◌, List, [], ◌∷◌, ◌++◌, length, map, refl, sym, ap, ◌∙◌, arith, All}
 use Rattle.std.specs.Prelude.{◌&&◌, nat_le, Some, None, Ok, Err}
 use Rattle.std.specs.List.{list_all, flat_map}
-use Rattle.std.proofs.Math.Nat.{pow-suc}
 use Rattle.std.proofs.lemmas.Bool.Decides.{nat_tests}
 use Rattle.der_base.specs.Arcs.{in_front, subidentifiers, ends_below_128, is_whole, first_arcs, arcs_of_values, arcs}
 use Rattle.der_base.specs.declared.error.OidParseError.TheVariants.{FirstComponentsTooLarge}
 use Rattle.der_base.specs.Laws.{AreGroups}
-use Rattle.der_base.specs.Octets.{groups_before, groups, groups_value}
+use Rattle.der_base.specs.Octets.{groups, groups_value}
 use Rattle.der_base.specs.OidArcs.{have_subidentifier, ArcsComeBack}
 use Rattle.der_base.proofs.Arcs.{last_octet, more_octet}
 use Rattle.der_base.proofs.Each.{Each, each_from_all}
 use Rattle.der_base.proofs.Shortest.{groups_are, groups_spell}
+use Rattle.der_base.proofs.Shortest.{groups_before_few}
 
 -- groups of seven bits are the first subidentifier of what they begin
 groups_first : (s w : List ℕ) → AreGroups s → subidentifiers (s ++ w) ≡ s ∷ subidentifiers w
@@ -24,18 +24,9 @@ groups_end [] h = absurd h
 groups_end (b ∷ []) h = grind (arith, nat_tests)
 groups_end (b ∷ c ∷ s) h = groups_end (c ∷ s) h.2
 
-few_before : (k most n : ℕ) (after : List ℕ) → n ≤ most → n < 128 ^ k → length (groups_before most n after) ≤ k + length after
-few_before k zero zero after h g = omega arith
-few_before k (suc most) zero after h g = omega arith
-few_before zero most (suc n) after h g = absurd (omega arith)
-few_before (suc k) zero (suc n) after h g = absurd (omega arith)
-few_before (suc k) (suc most) (suc n) after h g =
-    let q : suc n / 128 < 128 ^ k = omega (arith, pow-suc 128 k) in
-    omega (arith, few_before k most (suc n / 128) ((128 + suc n % 128) ∷ after) (omega arith) q)
-
 -- a number below 2^63 has at most nine groups
 few_groups : (n : ℕ) → n < 2 ^ 63 → length (groups n) ≤ 9
-few_groups n h = omega (arith, few_before 8 n (n / 128) ((n % 128) ∷ []) (omega arith) (omega arith))
+few_groups n h = omega (arith, groups_before_few 8 n (n / 128) ((n % 128) ∷ []) (omega arith) (omega arith))
 
 whole_groups : (n : ℕ) → n < 2 ^ 63 → is_whole (groups n) ≡ true
 whole_groups n h =

@@ -1,5 +1,5 @@
 -- A BER spelling in front of the input, a refusal that it shows, and its end within an element: one of them holds at most, and each in one way.
-use Rattle.std.proofs.Common.{◌≡◌, ℕ, zero, suc, ◌-◌, ◌≤◌, Bool, true, false, IsTrue, ◌==◌, List, [], ◌++◌, length, refl, sym, ap, subst, ◌∙◌, arith, append_assoc, ◌⊎◌, inl, inr}
+use Rattle.std.proofs.Common.{◌≡◌, ℕ, zero, suc, ◌-◌, ◌≤◌, Bool, true, false, IsTrue, ◌==◌, List, [], ◌++◌, length, refl, sym, ap, subst, ◌∙◌, arith, ◌⊎◌, inl, inr, append-nil}
 use Rattle.std.proofs.lemmas.Bool.Decides.{Decides-eqb}
 use Rattle.der_base.specs.declared.header.Class.{Class}
 use Rattle.der_base.specs.declared.header.Class.TheVariants.{Universal}
@@ -21,9 +21,10 @@ use Rattle.der_base.proofs.Framing.{begins_same, unique_spelling}
 use Rattle.der_base.proofs.FramingLaws.{any_refusal_same, begins_not_cut, begins_not_refused, framed_begins}
 use Rattle.der_base.proofs.Identifiers.{fronts_same}
 use Rattle.der_base.proofs.NeverBoth.{never_both_ber, text_no_list}
-use Rattle.der_base.proofs.Raws.{append_nil}
 use Rattle.der_base.proofs.Refusals.{first_refusal_once}
 use Rattle.der_base.proofs.Restated.{restated, joins_then}
+use Rattle.der_base.proofs.Raws.{tail_more}
+use Rattle.der_base.proofs.DerFaults.{not_primitive}
 
 -- contents
 
@@ -142,21 +143,14 @@ cut_shows_nothing d i n e l h = elim (shown_where d i e h) [
 
 -- a list that is constructed is not refused as such
 list_passes : (t : ℕ) (w : List ℕ) (e : Refusal) → IsTrue (is_list t) → BerLeafRefuses true t w e → ⊥
-list_passes t w e h = at_list (λ t. BerLeafRefuses true t w e → ⊥) t h only_primitive only_primitive
+list_passes t w e h = at_list (λ t. BerLeafRefuses true t w e → ⊥) t h not_primitive not_primitive
   where
     at_list : (P : ℕ → Type 0) (t : ℕ) → IsTrue (is_list t) → P 16 → P 17 → P t
     at_list P t h a b = or_cases (t == 16) (t == 17) (P t) h (λ e. subst P (sym ((Decides-eqb t 16).0 e)) a) (λ e. subst P (sym ((Decides-eqb t 17).0 e)) b)
 
-    only_primitive : {A B : Type 0} → ((true ≡ false) × A) ⊎ (B × ⊥) → ⊥
-    only_primitive (inl h) = let q = h.0 in cc
-    only_primitive (inr h) = h.1
-
 -- no item begins here
 abbrev Stops : ℕ → List ℕ → Type 0
 Stops d r = (b rest : List ℕ) (o : Node) → r ≡ b ++ rest → BerSpells b o d framing_budget → ⊥
-
-tail_part : (b rest u x : List ℕ) → u ≡ b ++ rest → u ++ x ≡ b ++ (rest ++ x)
-tail_part b rest u x e = ap (λ l. l ++ x) e ∙ append_assoc b rest x
 
 -- items in front of a list that none follows are one list of items
 joins_same : (d : ℕ) (l l' : Nodes) (fs fs' : Forms) (u u' r r' : List ℕ) → Stops d r → Stops d r' → Joins u l fs d framing_budget → Joins u' l' fs' d framing_budget
@@ -167,11 +161,11 @@ joins_same d l no_nodes fs (forms f' fs') u u' r r' s s' j j' e = absurd j'
 joins_same d l (nodes o' l') fs no_forms u u' r r' s s' j j' e = absurd j'
 joins_same d no_nodes no_nodes no_forms no_forms u u' r r' s s' j j' e = (refl, ap (λ x. x ++ r) (sym j) ∙ e ∙ ap (λ x. x ++ r') j')
 joins_same d no_nodes (nodes o' l') no_forms (forms f' fs') u u' r r' s s' j (b', rest', q', h', j') e =
-    absurd (s b' (rest' ++ r') o' (ap (λ x. x ++ r) (sym j) ∙ e ∙ tail_part b' rest' u' r' q') (f', h'))
+    absurd (s b' (rest' ++ r') o' (ap (λ x. x ++ r) (sym j) ∙ e ∙ tail_more b' rest' u' r' q') (f', h'))
 joins_same d (nodes o l) no_nodes (forms f fs) no_forms u u' r r' s s' (b, rest, q, h, j) j' e =
-    absurd (s' b (rest ++ r) o (ap (λ x. x ++ r') (sym j') ∙ sym e ∙ tail_part b rest u r q) (f, h))
+    absurd (s' b (rest ++ r) o (ap (λ x. x ++ r') (sym j') ∙ sym e ∙ tail_more b rest u r q) (f, h))
 joins_same d (nodes o l) (nodes o' l') (forms f fs) (forms f' fs') u u' r r' s s' (b, rest, q, h, j) (b', rest', q', h', j') e =
-    let a = spelling_same b b' (rest ++ r) (rest' ++ r') o o' d d (f, h) (f', h') (sym (tail_part b rest u r q) ∙ e ∙ tail_part b' rest' u' r' q') in
+    let a = spelling_same b b' (rest ++ r) (rest' ++ r') o o' d d (f, h) (f', h') (sym (tail_more b rest u r q) ∙ e ∙ tail_more b' rest' u' r' q') in
     let z = joins_same d l l' fs fs' rest rest' r r' s s' j j' a.2 in
     (ap (λ x. nodes x l) a.1 ∙ ap (nodes o') z.0, z.1)
 
@@ -193,7 +187,7 @@ nothing_inside d w c p t x fs e f u h m q = at (kind w c p t x fs d h) q
     at : ListContent w p t d ⊎ LeafOrKept w c p t x → ShowsInside d p t w e → ⊥
     at (inl g) (inl q) = list_passes t w e g.list (subst (λ b. BerLeafRefuses b t w e) g.constructed q)
     at (inl g) (inr (hl, hp, l', fs', v, r, o, j, y)) =
-        y.0 (sym (joins_same d g.items l' g.forms fs' w v [] r (none_stops d) (item_stops d r e f y) (joins_then g.items w g.forms d g.joins) j (append_nil w ∙ o)).1)
+        y.0 (sym (joins_same d g.items l' g.forms fs' w v [] r (none_stops d) (item_stops d r e f y) (joins_then g.items w g.forms d g.joins) j (append-nil w ∙ o)).1)
     at (inr (inl (a, y))) (inl q) = never_both_ber p t w x e y q
     at (inr (inl (a, y))) (inr z) = let n = sym (leaf_no_list p t w x y) ∙ z.0 in cc
     at (inr (inr y)) z = let a = sym (kept_unmapped c p t w x y u) ∙ m in cc

@@ -1,5 +1,5 @@
 -- A DER spelling in front of the input, a refusal that it shows, and its end within an element: one of them holds at most, and each in one way.
-use Rattle.std.proofs.Common.{◌≡◌, ℕ, zero, suc, ◌<◌, ◌≤◌, Bool, true, false, IsTrue, List, [], ◌++◌, length, refl, sym, ap, subst, ◌∙◌, arith, append_assoc, length-append, ◌||◌, ◌⊎◌, inl, inr}
+use Rattle.std.proofs.Common.{◌≡◌, ℕ, zero, suc, ◌<◌, ◌≤◌, Bool, true, false, IsTrue, List, [], ◌++◌, length, refl, sym, ap, subst, ◌∙◌, arith, append_assoc, length-append, ◌||◌, ◌⊎◌, inl, inr, append-nil}
 use Rattle.der_base.specs.declared.header.Class.{Class}
 use Rattle.der_base.specs.declared.header.Class.TheVariants.{Universal}
 use Rattle.der_base.specs.declared.error.Needed.TheVariants.{Size}
@@ -20,7 +20,7 @@ use Rattle.der_base.proofs.DerWithinBer.{content_tall, element_header, der_spell
 use Rattle.der_base.proofs.FirstLeaves.{der_leaf_accepted, first_refusal_same}
 use Rattle.der_base.proofs.Identifiers.{fronts_same}
 use Rattle.der_base.proofs.NeverBoth.{never_both_der}
-use Rattle.der_base.proofs.Raws.{append_nil}
+use Rattle.der_base.proofs.Raws.{tail_more}
 
 -- contents
 
@@ -134,7 +134,7 @@ chosen : (b : Bool) (ts us : List Test) (e : Refusal) → b ≡ true → IsFirst
 chosen true ts us e q h = h
 chosen false ts us e q h = cc
 
-not_primitive : {A B : Type 0} → ((true ≡ false) × A) ⊎ (B × ⊥) → ⊥
+pub not_primitive : {A B : Type 0} → ((true ≡ false) × A) ⊎ (B × ⊥) → ⊥
 not_primitive (inl h) = let q = h.0 in cc
 not_primitive (inr h) = h.1
 
@@ -146,19 +146,16 @@ list_passes t w e l r = not_primitive (chosen (is_list t) _ _ e l r.1)
 abbrev Stops : ℕ → List ℕ → Type 0
 Stops d r = (b rest : List ℕ) (o : Node) → r ≡ b ++ rest → DerSpells b o d → ⊥
 
-tail_part : (b rest u x : List ℕ) → u ≡ b ++ rest → u ++ x ≡ b ++ (rest ++ x)
-tail_part b rest u x e = ap (λ l. l ++ x) e ∙ append_assoc b rest x
-
 -- items in front of a list that none follows are one list of items
 joins_same : (d : ℕ) (l l' : Nodes) (u u' r r' : List ℕ) → Stops d r → Stops d r' → DerJoins u l d → DerJoins u' l' d
     → u ++ r ≡ u' ++ r' → (u ≡ u') × (l ≡ l') × (r ≡ r')
 joins_same d no_nodes no_nodes u u' r r' s s' j j' e = (j ∙ sym j', refl, ap (λ x. x ++ r) (sym j) ∙ e ∙ ap (λ x. x ++ r') j')
 joins_same d no_nodes (nodes o' l') u u' r r' s s' j (b', rest', q', h', j') e =
-    absurd (s b' (rest' ++ r') o' (ap (λ x. x ++ r) (sym j) ∙ e ∙ tail_part b' rest' u' r' q') h')
+    absurd (s b' (rest' ++ r') o' (ap (λ x. x ++ r) (sym j) ∙ e ∙ tail_more b' rest' u' r' q') h')
 joins_same d (nodes o l) no_nodes u u' r r' s s' (b, rest, q, h, j) j' e =
-    absurd (s' b (rest ++ r) o (ap (λ x. x ++ r') (sym j') ∙ sym e ∙ tail_part b rest u r q) h)
+    absurd (s' b (rest ++ r) o (ap (λ x. x ++ r') (sym j') ∙ sym e ∙ tail_more b rest u r q) h)
 joins_same d (nodes o l) (nodes o' l') u u' r r' s s' (b, rest, q, h, j) (b', rest', q', h', j') e =
-    let a = der_spelling_same b b' (rest ++ r) (rest' ++ r') o o' d d h h' (sym (tail_part b rest u r q) ∙ e ∙ tail_part b' rest' u' r' q') in
+    let a = der_spelling_same b b' (rest ++ r) (rest' ++ r') o o' d d h h' (sym (tail_more b rest u r q) ∙ e ∙ tail_more b' rest' u' r' q') in
     let z = joins_same d l l' rest rest' r r' s s' j j' a.2 in
     (q ∙ ap (λ x. x ++ rest) a.0 ∙ ap (λ x. b' ++ x) z.0 ∙ sym q', ap (λ x. nodes x l) a.1 ∙ ap (nodes o') z.1, z.2)
 
@@ -181,7 +178,7 @@ nothing_inside d c p t x e f u v h s m q = at (kind c p t x v) q
     at (inl (l, g)) (inl q) = list_passes t (content_octets x) e g.list (subst (λ b. DerLeafRefuses b t (content_octets x) e) g.constructed q)
     at (inl (l, g)) (inr (hl, hp, l', u, r, o, j, y)) =
         let z = encodings_join l d g.valid (omega (arith, h, g.height)) (omega (arith, s, ap length g.octets)) in
-        y.0 (sym (joins_same d l l' (encodings l) u [] r (none_stops d) (item_stops d r e f y) z j (append_nil (encodings l) ∙ sym g.octets ∙ o)).2)
+        y.0 (sym (joins_same d l l' (encodings l) u [] r (none_stops d) (item_stops d r e f y) z j (append-nil (encodings l) ∙ sym g.octets ∙ o)).2)
     at (inr (inl (a, n, y))) (inl q) = der_leaf_accepted p t x e y n q
     at (inr (inl (a, n, y))) (inr z) = leaf_no_list t x y z.0
     at (inr (inr y)) z = let a = sym (kept_unmapped c p t (content_octets x) x y u) ∙ m in cc

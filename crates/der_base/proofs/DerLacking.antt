@@ -1,16 +1,17 @@
 -- An input that is cut short lacks one number of octets, as DER tells it; and where the reader of a header or of a content finds it cut short, it is.
-use Rattle.std.proofs.Common.{◌≡◌, ◌≢◌, ℕ, zero, suc, ◌+◌, ◌-◌, ◌<◌, Bool, List, [], ◌∷◌, ◌++◌, length, refl, sym, ap, subst, ◌∙◌, arith, append_assoc, length-append, ◌⊎◌, inl, inr}
+use Rattle.std.proofs.Common.{◌≡◌, ◌≢◌, ℕ, ◌+◌, ◌-◌, ◌<◌, Bool, List, [], ◌∷◌, ◌++◌, length, refl, sym, ap, subst, ◌∙◌, arith, append_assoc, length-append, ◌⊎◌, inl, inr}
 use Rattle.der_base.specs.declared.header.Class.{Class}
 use Rattle.der_base.specs.declared.header.Class.TheVariants.{Universal}
 use Rattle.der_base.specs.Cut.{IsCut, DerLacks, der_in_identifier, der_in_length, der_in_universal, der_in_content}
 use Rattle.der_base.specs.Headers.{BeginsWithDerHeader, HeaderLacks, in_identifier, in_length, DerHeaderLacks}
 use Rattle.der_base.specs.LengthOctets.{LengthLacks, before_length, in_length as in_length_octets}
-use Rattle.der_base.specs.Octets.{identifier, number, shortest_length, SpellsAnyLength}
+use Rattle.der_base.specs.Octets.{identifier, shortest_length, SpellsAnyLength}
+use Rattle.der_base.proofs.FramingCuts.{header_cut}
 use Rattle.der_base.proofs.HeaderLaws.{lacks_length, header_lacks_same}
 use Rattle.der_base.proofs.Identifiers.{head_same, identifier_same}
-use Rattle.der_base.proofs.Raws.{append_nil}
 use Rattle.der_base.proofs.Shapes.{any_length_same}
 use Rattle.der_base.proofs.ShortestLengths.{shortest_spells}
+use Rattle.der_base.proofs.LengthOctets.{zeros}
 
 -- an element of definite length m that ends within its content, of which v is there
 record EndsInContent (i : List ℕ) (c : Class) (p : Bool) (t m : ℕ) (s v : List ℕ) : Type 0 where
@@ -67,17 +68,6 @@ der_lacks_same i n n' h h' = same (where_it_ends h) (where_it_ends h')
 
 -- what a reader meets
 
-zeros : (n : ℕ) → (r : List ℕ) × (length r ≡ n)
-zeros zero = ([], refl)
-zeros (suc n) = let z = zeros n in (0 ∷ z.0, omega (arith, z.1))
-
-some_last : (r : List ℕ) (b : ℕ) (x : List ℕ) → r ++ b ∷ x ≢ []
-some_last [] b x e = cc
-some_last (a ∷ r) b x e = cc
-
-announced : (i a s z v : List ℕ) → i ≡ a ++ s → i ++ (z ++ v) ≡ a ++ (s ++ z) ++ v
-announced i a s z v e = ap (λ x. x ++ (z ++ v)) e ∙ sym (append_assoc (a ++ s) z v) ∙ ap (λ x. x ++ v) (append_assoc a s z)
-
 -- an input that ends in an element of definite length is cut short
 ends_in_content : (i : List ℕ) (c : Class) (p : Bool) (t m : ℕ) (s v : List ℕ) → EndsInContent i c p t m s v → IsCut i
 ends_in_content i c p t m s v h =
@@ -89,19 +79,8 @@ ends_in_content i c p t m s v h =
 
 -- one that ends in a header too
 header_ends : {i : List ℕ} {n : ℕ} → HeaderLacks i n → IsCut i × DerLacks i n
-header_ends (in_identifier {i = i} c p t r e) =
-    let o = sym (append_assoc i r (0 ∷ [])) ∙ ap (λ x. x ++ 0 ∷ []) e ∙ sym (append_nil (identifier c p t ++ 0 ∷ [])) in
-    let cut : IsCut i = (r ++ 0 ∷ [], some_last r 0 [], (c, p, t, [], inl (0 ∷ [], inl (omega arith, refl, refl), o))) in
-    (cut, der_in_identifier c p t r e)
-header_ends (in_length {i = i} {n = n} c p t b bs h h1 hb e) =
-    let z = zeros n in
-    let w = bs ++ z.0 in
-    let l = length-append bs z.0 in
-    let v = zeros (number w) in
-    let s : SpellsAnyLength (b ∷ w) (length v.0) = inr (h, omega (arith, hb, z.1, l), omega (arith, h1, z.1, l), v.1) in
-    let some : z.0 ++ v.0 ≢ [] = λ y. omega (arith, h1, z.1, ap length y, length-append z.0 v.0) in
-    let cut : IsCut i = (z.0 ++ v.0, some, (c, p, t, v.0, inl (b ∷ w, s, announced i (identifier c p t) (b ∷ bs) z.0 v.0 e))) in
-    (cut, der_in_length c p t b bs h h1 hb e)
+header_ends (in_identifier c p t r e) = ((header_cut (in_identifier c p t r e)).0, der_in_identifier c p t r e)
+header_ends (in_length c p t b bs h h1 hb e) = ((header_cut (in_length c p t b bs h h1 hb e)).0, der_in_length c p t b bs h h1 hb e)
 
 pub der_header_cut : (i : List ℕ) (n : ℕ) → DerHeaderLacks i n → IsCut i × DerLacks i n
 der_header_cut i n h = header_ends h.1

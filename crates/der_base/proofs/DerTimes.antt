@@ -3,11 +3,12 @@ use Rattle.std.proofs.Common.{◌≡◌, ◌≢◌, ℕ, ◌-◌, ◌/◌, ◌*�
 use Rattle.der_base.specs.declared.time.ASN1DateTime.{ASN1DateTime}
 use Rattle.der_base.specs.declared.time.ASN1TimeZone.TheVariants.{Z}
 use Rattle.der_base.specs.LeafRefusal.{time_tests, HasLooseFraction}
-use Rattle.der_base.specs.Time.{digit, two_digits, four_digits, IsDigit, AreSeconds, IsFraction, IsMoment, month_to_minute, IsUtcTime, IsGeneralizedTime, IsTimeText, at_least_digits, without_last_zeros, or_zero, fraction_text, time_text}
+use Rattle.der_base.specs.Time.{two_digits, four_digits, IsDigit, AreSeconds, IsFraction, IsMoment, month_to_minute, IsUtcTime, IsGeneralizedTime, IsTimeText, at_least_digits, without_last_zeros, or_zero, fraction_text, time_text}
 use Rattle.der_base.proofs.Identifiers.{fronts_same}
 use Rattle.der_base.proofs.Refusals.{NoneHolds}
 use Rattle.der_base.proofs.Each.{Each, each_append, each_at, each_from_all, each_map}
 use Rattle.der_base.proofs.TimeTexts.{two_written, four_written, nine_written, left_ends, left_digits, none_left_zero, zeros_go}
+use Rattle.der_base.proofs.Times.{digit_is}
 
 -- the seconds are fewer than 60
 pub few_seconds : (s : List ℕ) (n : ℕ) → AreSeconds s n → n < 60
@@ -22,9 +23,6 @@ utc_written t y m s n z = rw (n, z, two_written t.year y, two_written t.month (o
 pub generalized_written : (t : ASN1DateTime) → t.year < 10000 → IsMoment t → t.second < 60 → t.tz ≡ Z
     → time_text 24 t ≡ four_digits t.year ++ (month_to_minute t ++ (two_digits t.second ++ (fraction_text t.nanosecond ++ codes "Z")))
 generalized_written t y m s z = rw (z, four_written t.year y, two_written t.month (omega (arith, m.month)), two_written t.day (omega (arith, m.day)), two_written t.hour (omega (arith, m.hour)), two_written t.minute (omega (arith, m.minute)), two_written t.second (omega (arith, s))) refl
-
-pub digit_is : (n : ℕ) → IsDigit (digit n)
-digit_is n = (omega arith, omega arith)
 
 pub two_are : (n : ℕ) → Each IsDigit (two_digits n)
 two_are n = (digit_is (n / 10), (digit_is n, tt))

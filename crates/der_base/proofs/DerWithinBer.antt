@@ -1,5 +1,5 @@
 -- What DER writes is a spelling by BER. So DER encodings are prefix free, and each has one tree.
-use Rattle.std.proofs.Common.{◌≡◌, ℕ, ◌-◌, ◌^◌, ◌<◌, ◌≤◌, Bool, false, List, [], ◌∷◌, ◌++◌, length, refl, sym, ap, subst, ◌∙◌, arith, append_assoc, length-append, ◌⊎◌, inl, inr}
+use Rattle.std.proofs.Common.{◌≡◌, ℕ, ◌-◌, ◌^◌, ◌<◌, ◌≤◌, Bool, false, List, [], ◌++◌, length, refl, sym, ap, subst, ◌∙◌, arith, append_assoc, length-append, ◌⊎◌, inl, inr, append-nil}
 use Rattle.der_base.specs.declared.header.Class.{Class}
 use Rattle.der_base.specs.declared.header.Class.TheVariants.{Universal}
 use Rattle.der_base.specs.declared.header.Length.TheVariants.{Definite}
@@ -14,9 +14,9 @@ use Rattle.der_base.specs.Tree.{Node, node, Content, sequence, set, absent, pres
 use Rattle.der_base.proofs.Elements.{identifier_some}
 use Rattle.der_base.proofs.Framing.{unique_spelling}
 use Rattle.der_base.proofs.Identifiers.{fronts_same}
-use Rattle.der_base.proofs.Raws.{append_nil}
 use Rattle.der_base.proofs.Shapes.{shape_same}
 use Rattle.der_base.proofs.ShortestLengths.{shortest_spells}
+use Rattle.der_base.proofs.LengthOctets.{no_more}
 
 no_content : {A B C : Type 0} → (A × B × (⊥ × C)) ⊎ ⊥ → ⊥
 no_content (inl h) = h.2.0
@@ -102,15 +102,11 @@ der_shape b (node c p t x) d h =
     let w = content_octets x in
     (c, p, t, w, inl (shortest_length (length w), (shortest_spells (length w) (omega (arith, h.size))).1, der_element b c p t x d h))
 
-none_behind : (xs ys : List ℕ) → xs ++ ys ≡ [] → ys ≡ []
-none_behind [] ys e = e
-none_behind (x ∷ xs) ys e = cc
-
 -- so an input that is cut short begins with none
 pub der_spelled_not_cut : (i b rest : List ℕ) (o : Node) (d : ℕ) → DerSpells b o d → i ≡ b ++ rest → IsCut i → ⊥
 der_spelled_not_cut i b rest o d h e (r, n, s) =
-    let q = shape_same b (i ++ r) (rest ++ r) [] (der_shape b o d h) s (sym (append_assoc b rest r) ∙ ap (λ l. l ++ r) (sym e) ∙ sym (append_nil (i ++ r))) in
-    n (none_behind rest r q.1)
+    let q = shape_same b (i ++ r) (rest ++ r) [] (der_shape b o d h) s (sym (append_assoc b rest r) ∙ ap (λ l. l ++ r) (sym e) ∙ sym (append-nil (i ++ r))) in
+    n (no_more rest r q.1)
 
 -- the items of a list, one after another
 

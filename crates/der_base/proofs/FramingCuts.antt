@@ -1,5 +1,5 @@
 -- Inputs that end in an element: they are proper fronts of one, lack one number of octets, and show no refusal.
-use Rattle.std.proofs.Common.{◌≡◌, ◌≢◌, ℕ, zero, suc, ◌+◌, ◌-◌, ◌≤◌, Bool, true, List, [], ◌∷◌, ◌++◌, length, refl, sym, ap, subst, ◌∙◌, arith, append_assoc, length-append, ◌⊎◌, inl, inr, ⊎_elim}
+use Rattle.std.proofs.Common.{◌≡◌, ◌≢◌, ℕ, zero, suc, ◌+◌, ◌-◌, ◌≤◌, Bool, true, List, [], ◌∷◌, ◌++◌, length, refl, sym, ap, subst, ◌∙◌, arith, append_assoc, length-append, ◌⊎◌, inl, inr, ⊎_elim, append-nil}
 use Rattle.der_base.specs.declared.header.Class.{Class}
 use Rattle.der_base.specs.declared.header.Length.{Length}
 use Rattle.der_base.specs.declared.header.Length.TheVariants.{Definite, Indefinite}
@@ -14,15 +14,12 @@ use Rattle.der_base.specs.Spelling.{end_marker}
 use Rattle.der_base.proofs.BerHeaders.{ber_header_same, ber_header_not_refused, ber_header_not_lacking}
 use Rattle.der_base.proofs.Cuts.{lacks_stuck}
 use Rattle.der_base.proofs.FramingLaws.{HasSomeHeader, open_header}
-use Rattle.der_base.proofs.FramingLists.{some_header, indefinite_header, definite_header, refuses_behind, tail_more}
+use Rattle.der_base.proofs.FramingLists.{some_header, indefinite_header, definite_header, refuses_behind}
 use Rattle.der_base.proofs.Identifiers.{head_same}
-use Rattle.der_base.proofs.Raws.{append_nil}
 use Rattle.der_base.proofs.Restated.{raws_are, are_raws}
 use Rattle.der_base.proofs.Shapes.{raws_are_shapes}
-
-zeros : (n : ℕ) → (r : List ℕ) × (length r ≡ n)
-zeros zero = ([], refl)
-zeros (suc n) = let z = zeros n in (0 ∷ z.0, omega (arith, z.1))
+use Rattle.der_base.proofs.LengthOctets.{zeros}
+use Rattle.der_base.proofs.Raws.{tail_more}
 
 some_last : (r : List ℕ) (b : ℕ) (x : List ℕ) → r ++ b ∷ x ≢ []
 some_last [] b x e = cc
@@ -38,7 +35,7 @@ announced i a s z v e = ap (λ x. x ++ (z ++ v)) e ∙ sym (append_assoc (a ++ s
 -- an input that ends within a header
 pub header_cut : {i : List ℕ} {n : ℕ} → HeaderLacks i n → IsCut i × Lacks i n
 header_cut (in_identifier {i = i} c p t r e) =
-    let o = sym (append_assoc i r (0 ∷ [])) ∙ ap (λ x. x ++ 0 ∷ []) e ∙ sym (append_nil (identifier c p t ++ 0 ∷ [])) in
+    let o = sym (append_assoc i r (0 ∷ [])) ∙ ap (λ x. x ++ 0 ∷ []) e ∙ sym (append-nil (identifier c p t ++ 0 ∷ [])) in
     let cut : IsCut i = (r ++ 0 ∷ [], some_last r 0 [], (c, p, t, [], inl (0 ∷ [], inl (omega arith, refl, refl), o))) in
     (cut, lacks_in_identifier c p t r e)
 header_cut (in_length {i = i} {n = n} c p t b bs h h1 hb e) =
@@ -75,8 +72,8 @@ marker_or_not (zero ∷ suc b ∷ r) = inr (λ e. omega (arith, (head_same (head
 marker_or_not (zero ∷ zero ∷ a ∷ r) = inr (λ e. cc)
 
 last_shape : {b : List ℕ} → IsShape b → b ≢ end_marker → AreShapes b
-last_shape {b = b} (c, p, t, v, inl (s, hs, e)) n = definite_shape c p t s v [] hs (λ z. n (e ∙ z)) (e ∙ sym (append_nil (identifier c p t ++ s ++ v))) no_shapes
-last_shape {b = b} (c, p, t, v, inr (ep, hv, e)) n = indefinite_shape c t v [] hv (e ∙ ap (λ q. identifier c q t ++ 128 ∷ v ++ end_marker) ep ∙ sym (append_nil (identifier c true t ++ 128 ∷ v ++ end_marker))) no_shapes
+last_shape {b = b} (c, p, t, v, inl (s, hs, e)) n = definite_shape c p t s v [] hs (λ z. n (e ∙ z)) (e ∙ sym (append-nil (identifier c p t ++ s ++ v))) no_shapes
+last_shape {b = b} (c, p, t, v, inr (ep, hv, e)) n = indefinite_shape c t v [] hv (e ∙ ap (λ q. identifier c q t ++ 128 ∷ v ++ end_marker) ep ∙ sym (append-nil (identifier c true t ++ 128 ∷ v ++ end_marker))) no_shapes
 
 shapes_append : {u : List ℕ} (x : List ℕ) → AreShapes u → AreShapes x → AreShapes (u ++ x)
 shapes_append x no_shapes h = h

@@ -18,6 +18,7 @@ use Rattle.der_base.proofs.Identifiers.{head_same, identifier_octets, identifier
 use Rattle.der_base.proofs.Raws.{definite_not_open, marker_is, open_not_end, zero_length}
 use Rattle.der_base.proofs.Restated.{raws_are, are_raws}
 use Rattle.der_base.proofs.Shapes.{cut_is_none}
+use Rattle.der_base.proofs.Raws.{tail_more}
 
 -- headers in front
 
@@ -109,19 +110,16 @@ starts_opens v c t k (b, x, h, c', p', t', w, g, n, e) = element_opens x v c t g
 abbrev Compared : (u u' y y' : List ℕ) (k k' : ℕ) → Type 0
 Compared u u' y y' k k' = ((u ≡ u') × (y ≡ y')) ⊎ Starts y' k ⊎ Starts y k'
 
-tail_part : (b rest u y : List ℕ) → u ≡ b ++ rest → u ++ y ≡ b ++ (rest ++ y)
-tail_part b rest u y e = ap (λ l. l ++ y) e ∙ append_assoc b rest y
-
 also_first : {b b' r r' u u' y y' : List ℕ} {k k' : ℕ} → b ≡ b' → u ≡ b ++ r → u' ≡ b' ++ r' → Compared r r' y y' k k' → Compared u u' y y' k k'
 also_first {b = b} {b' = b'} {r = r} {r' = r'} q d d' (inl (e, f)) = inl (d ∙ ap (λ l. l ++ r) q ∙ ap (λ l. b' ++ l) e ∙ sym d', f)
 also_first q d d' (inr s) = inr s
 
 compare : {u u' : List ℕ} {k k' : ℕ} (y y' : List ℕ) → AreElements u k → AreElements u' k' → u ++ y ≡ u' ++ y' → Compared u u' y y' k k'
 compare y y' no_elements no_elements e = inl (refl, e)
-compare y y' no_elements (elements {w = u'} {b = b} {rest = rest} {h = h} {c = c} {p = p} {t = t} {v = v} g n r d) e = inr (inr (b, rest ++ y', h, c, p, t, v, g, n, e ∙ tail_part b rest u' y' d))
-compare y y' (elements {w = u} {b = b} {rest = rest} {h = h} {c = c} {p = p} {t = t} {v = v} g n r d) no_elements e = inr (inl (b, rest ++ y, h, c, p, t, v, g, n, sym e ∙ tail_part b rest u y d))
+compare y y' no_elements (elements {w = u'} {b = b} {rest = rest} {h = h} {c = c} {p = p} {t = t} {v = v} g n r d) e = inr (inr (b, rest ++ y', h, c, p, t, v, g, n, e ∙ tail_more b rest u' y' d))
+compare y y' (elements {w = u} {b = b} {rest = rest} {h = h} {c = c} {p = p} {t = t} {v = v} g n r d) no_elements e = inr (inl (b, rest ++ y, h, c, p, t, v, g, n, sym e ∙ tail_more b rest u y d))
 compare y y' (elements {w = u} {b = b} {rest = rest} g n r d) (elements {w = u'} {b = b'} {rest = rest'} g' n' r' d') e =
-    let q = element_same (rest ++ y) (rest' ++ y') g g' (sym (tail_part b rest u y d) ∙ e ∙ tail_part b' rest' u' y' d') in
+    let q = element_same (rest ++ y) (rest' ++ y') g g' (sym (tail_more b rest u y d) ∙ e ∙ tail_more b' rest' u' y' d') in
     also_first q.octets d d' (compare y y' r r' q.rest)
 
 -- refusals of framing

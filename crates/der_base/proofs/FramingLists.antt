@@ -1,5 +1,5 @@
 -- Elements that were read in front of a list, and what the list behind them shows.
-use Rattle.std.proofs.Common.{◌≡◌, ℕ, ◌-◌, ◌<◌, ◌≤◌, Bool, true, List, [], ◌∷◌, ◌++◌, length, refl, sym, ap, subst, ◌∙◌, arith, append_assoc, length-append, ◌⊎◌, inl, inr, ⊎_elim}
+use Rattle.std.proofs.Common.{◌≡◌, ℕ, ◌-◌, ◌<◌, ◌≤◌, Bool, true, List, [], ◌∷◌, ◌++◌, length, refl, sym, ap, subst, ◌∙◌, arith, append_assoc, length-append, ◌⊎◌, inl, inr, ⊎_elim, append-nil}
 use Rattle.der_base.specs.declared.header.Class.{Class}
 use Rattle.der_base.specs.declared.header.Length.{Length}
 use Rattle.der_base.specs.declared.header.Length.TheVariants.{Definite, Indefinite}
@@ -15,8 +15,9 @@ use Rattle.der_base.proofs.BerHeaders.{ber_header_same, ber_header_not_refused}
 use Rattle.der_base.proofs.Framed.{element_same, elements_append, elements_more}
 use Rattle.der_base.proofs.FramingLaws.{HasSomeHeader, element_has_header, marker_has_header, inside_not_refused}
 use Rattle.der_base.proofs.Identifiers.{identifier_octets, identifier_same, head_same}
-use Rattle.der_base.proofs.Raws.{append_nil, definite_not_open}
+use Rattle.der_base.proofs.Raws.{definite_not_open}
 use Rattle.der_base.proofs.Restated.{raws_are, are_raws}
+use Rattle.der_base.proofs.Raws.{tail_more}
 
 -- headers
 
@@ -68,16 +69,13 @@ pub one_more_element : (i rest behind after w u : List ℕ) (k : ℕ) (c : Class
     → ((x : List ℕ) → ¬ (rest ≡ end_marker ++ x)) → (u' : List ℕ) × AreElements u' k × (i ≡ u' ++ after)
 one_more_element i rest behind after w u k c p t l h1 hu e h g n =
     let b = element_from rest behind w after k c p t l h1 h g in
-    let one = elements b.1 (λ z. n after (b.2 ∙ ap (λ v. v ++ after) z)) no_elements (sym (append_nil b.0)) in
+    let one = elements b.1 (λ z. n after (b.2 ∙ ap (λ v. v ++ after) z)) no_elements (sym (append-nil b.0)) in
     (u ++ b.0, elements_append b.0 hu one, e ∙ ap (λ v. u ++ v) b.2 ∙ sym (append_assoc u b.0 after))
 
 pub none_at_zero : {u : List ℕ} {k : ℕ} → AreElements u k → k ≡ 0 → u ≡ []
 none_at_zero no_elements z = refl
 none_at_zero (elements (definite s eh ht hk hs d) n r q) z = absurd (omega (arith, z, hk))
 none_at_zero (elements (indefinite eh ep ht hk hw d) n r q) z = absurd (omega (arith, z, hk))
-
-pub tail_more : (b rest w x : List ℕ) → w ≡ b ++ rest → w ++ x ≡ b ++ (rest ++ x)
-tail_more b rest w x e = ap (λ l. l ++ x) e ∙ append_assoc b rest x
 
 -- where an element stands in front, a list of them is empty or goes on behind it
 behind_first : {u b : List ℕ} {k m : ℕ} {h : Length} {c : Class} {p : Bool} {t : ℕ} {w : List ℕ} (x y : List ℕ) → AreElements u k → IsElement b h c p t w m → u ++ y ≡ b ++ x

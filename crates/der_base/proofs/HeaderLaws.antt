@@ -1,5 +1,5 @@
 -- A header in front of the input, a refusal that it shows, and the end of the input within a header: one of them holds at most, and each in one way. All of it stands on the same laws of length octets, those of BER or those of DER.
-use Rattle.std.proofs.Common.{◌≡◌, ◌≢◌, ℕ, ◌^◌, ◌<◌, Bool, Some, List, [], ◌∷◌, ◌++◌, length, refl, sym, ap, ◌∙◌, arith, append_assoc, inl, inr, ⊎_elim, ◌⊎◌}
+use Rattle.std.proofs.Common.{◌≡◌, ◌≢◌, ℕ, ◌^◌, ◌<◌, Bool, Some, List, [], ◌∷◌, ◌++◌, length, refl, sym, ap, ◌∙◌, arith, append_assoc, inl, inr, ⊎_elim, ◌⊎◌, append-nil}
 use Rattle.der_base.specs.declared.header.Class.{Class}
 use Rattle.der_base.specs.declared.header.Header.{Header}
 use Rattle.der_base.specs.declared.header.Length.{Length}
@@ -15,7 +15,6 @@ use Rattle.der_base.proofs.Cuts.{lacks_same}
 use Rattle.der_base.proofs.TagNumbers.{bad_tag_no_identifier, cut_no_identifier}
 use Rattle.der_base.proofs.LengthOctets.{lacks_then_length, length_front_lacks}
 use Rattle.der_base.proofs.Identifiers.{head_same, identifier_same}
-use Rattle.der_base.proofs.Raws.{append_nil}
 
 -- what follows an identifier that two readings of the input name
 behind : (i s s' : List ℕ) (c c' : Class) (p p' : Bool) (t t' : ℕ) → i ≡ identifier c p t ++ s → i ≡ identifier c' p' t' ++ s' → s ≡ s'
@@ -24,7 +23,7 @@ behind i s s' c c' p p' t t' e e' = (identifier_same c c' p p' t t' s s' (sym e 
 -- an identifier that is whole is no proper front of one
 whole_identifier : (i s r : List ℕ) (c c' : Class) (p p' : Bool) (t t' : ℕ) → i ≡ identifier c p t ++ s → i ++ r ≡ identifier c' p' t' → s ≡ []
 whole_identifier i s r c c' p p' t t' e d =
-    let q = identifier_same c c' p p' t t' (s ++ r) [] (sym (append_assoc (identifier c p t) s r) ∙ ap (λ l. l ++ r) (sym e) ∙ d ∙ sym (append_nil (identifier c' p' t'))) in
+    let q = identifier_same c c' p p' t t' (s ++ r) [] (sym (append_assoc (identifier c p t) s r) ∙ ap (λ l. l ++ r) (sym e) ∙ d ∙ sym (append-nil (identifier c' p' t'))) in
     empty s r q.3
   where
     empty : (s r : List ℕ) → s ++ r ≡ [] → s ≡ []
@@ -63,7 +62,7 @@ fronts (k ∷ a) (m ∷ b) x y e =
     ⊎_elim (λ z. inl (z.0, ap (λ l. k ∷ l) z.1 ∙ ap (λ h. h ∷ b) q.0)) (λ z. inr (z.0, ap (λ l. k ∷ l) z.1 ∙ ap (λ h. h ∷ (b ++ z.0)) q.0, z.2)) (fronts a b x y q.1)
 
 lacks_behind : (i x : List ℕ) (c : Class) (p : Bool) (t n : ℕ) → i ≡ identifier c p t ++ x → LengthLacks x n → HeaderLacks i n
-lacks_behind i x c p t n e (before_length z o) = rw o (in_identifier c p t [] (append_nil i ∙ e ∙ ap (λ l. identifier c p t ++ l) z ∙ append_nil (identifier c p t)))
+lacks_behind i x c p t n e (before_length z o) = rw o (in_identifier c p t [] (append-nil i ∙ e ∙ ap (λ l. identifier c p t ++ l) z ∙ append-nil (identifier c p t)))
 lacks_behind i x c p t n e (in_length_octets b bs h h1 hb z) = in_length c p t b bs h h1 hb (e ∙ ap (λ l. identifier c p t ++ l) z)
 
 pub cut_lacks : (i : List ℕ) → IsHeaderCut i → (n : ℕ) × HeaderLacks i n

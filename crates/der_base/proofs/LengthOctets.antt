@@ -202,7 +202,8 @@ ber_refusal_same s p e e' g g' = ber_front_one p (front s) e e' (ber_refused_fro
 abbrev pub AreLengthOctets : List ℕ → Type 0
 AreLengthOctets w = ((n : ℕ) × SpellsAnyLength w n) ⊎ (w ≡ 128 ∷ [])
 
-zeros : (n : ℕ) → (r : List ℕ) × (length r ≡ n)
+-- so many octets
+pub zeros : (n : ℕ) → (r : List ℕ) × (length r ≡ n)
 zeros zero = ([], refl)
 zeros (suc n) = let z = zeros n in (0 ∷ z.0, omega (arith, z.1))
 
@@ -213,7 +214,7 @@ lacks_then_length s n (in_length b bs h p c e) =
     let z = zeros n in
     (z.0, z.1, inl (number (bs ++ z.0), subst (λ l. SpellsAnyLength (l ++ z.0) (number (bs ++ z.0))) (sym e) (inr (h, omega (arith, z.1, length-append bs z.0), omega (arith, z.1, length-append bs z.0), refl))))
 
-no_more : (xs ys : List ℕ) → xs ++ ys ≡ [] → ys ≡ []
+pub no_more : (xs ys : List ℕ) → xs ++ ys ≡ [] → ys ≡ []
 no_more [] ys e = e
 no_more (x ∷ xs) ys e = cc
 

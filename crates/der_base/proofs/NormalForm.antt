@@ -1,5 +1,5 @@
 -- What is written for a tree that has a spelling by BER is one too: each length is definite, so no framing budget is needed.
-use Rattle.std.proofs.Common.{◌≡◌, ℕ, ◌-◌, ◌^◌, ◌<◌, ◌≤◌, Bool, true, List, ◌++◌, length, length-append, refl, sym, ap, subst, arith, ◌⊎◌, inl, inr}
+use Rattle.std.proofs.Common.{◌≡◌, ℕ, ◌-◌, ◌^◌, ◌<◌, ◌≤◌, Bool, List, ◌++◌, length, length-append, refl, sym, ap, subst, arith, ◌⊎◌, inl, inr}
 use Rattle.der_base.specs.declared.header.Class.{Class}
 use Rattle.der_base.specs.declared.header.Class.TheVariants.{Universal}
 use Rattle.der_base.specs.declared.header.Length.TheVariants.{Definite}
@@ -7,22 +7,11 @@ use Rattle.der_base.specs.Encoding.{encoding, element, content_octets, encodings
 use Rattle.der_base.specs.Laws.{EncodingIsNormalForm}
 use Rattle.der_base.specs.Leaf.{IsLeafContent}
 use Rattle.der_base.specs.Octets.{identifier, shortest_length}
-use Rattle.der_base.specs.Spelling.{framing_budget, IsKept, Form, form, Forms, no_forms, forms, BerSpellsAs, BerSpells, IsContent, IsOpenContent, Joins, OpenJoins}
+use Rattle.der_base.specs.Spelling.{framing_budget, IsKept, Form, form, Forms, no_forms, forms, BerSpellsAs, BerSpells, IsContent, Joins}
 use Rattle.der_base.specs.Tree.{Node, node, Content, sequence, set, absent, present, tagged, unknown, Nodes, no_nodes, nodes}
+use Rattle.der_base.proofs.Contents.{closed}
 use Rattle.der_base.proofs.NormalLeaves.{leaf_written}
 use Rattle.der_base.proofs.ShortestLengths.{shortest_spells}
-
--- the items of an indefinite length are items, and its content is a content
-items_closed : (l : Nodes) (w : List ℕ) (fs : Forms) (d k : ℕ) → OpenJoins w l fs d k → Joins w l fs d k
-items_closed no_nodes w no_forms d k h = h
-items_closed no_nodes w (forms f fs) d k h = absurd h
-items_closed (nodes o l) w no_forms d k h = absurd h
-items_closed (nodes o l) w (forms f fs) d k (b, rest, e, n, hb, hr) = (b, rest, e, hb, items_closed l rest fs d k hr)
-
-closed : (x : Content) (w : List ℕ) (c : Class) (t : ℕ) (fs : Forms) (d k : ℕ) → IsOpenContent w c t x fs d k → IsContent w c true t x fs d k
-closed (sequence l) w c t fs d k (ec, et, j) = (ec, et, refl, items_closed l w fs (d - 1) k j)
-closed (set l) w c t fs d k (ec, et, j) = (ec, et, refl, items_closed l w fs (d - 1) k j)
-closed _ w c t fs d k (ef, hr, hx) = (ef, hx)
 
 no_leaf : {A : Type 0} → (A × ⊥) ⊎ ⊥ → ⊥
 no_leaf (inl h) = h.1

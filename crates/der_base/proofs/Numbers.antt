@@ -43,7 +43,7 @@ octets_many (suc k) n h =
     let p : 0 < n = omega (arith, pow-suc 256 k, pow-le-pow_right {n = 256} (omega arith) {i = 0} {j = k} (omega arith)) in
     omega (arith, octets_count n p, octets_many k (n / 256) q)
 
-powers : (k : ℕ) → 256 ^ k ≡ 2 ^ (8 * k)
+pub powers : (k : ℕ) → 256 ^ k ≡ 2 ^ (8 * k)
 powers zero = refl
 powers (suc k) =
     let e : 8 * suc k ≡ 8 * k + 8 = omega arith in

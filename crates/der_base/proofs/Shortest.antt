@@ -280,7 +280,7 @@ groups_below m (b ∷ bs) =
     scaled : (m b p x : ℕ) → b < 128 → x < suc (m * 128 + b) * p → x < suc m * (p * 128)
     scaled m b p x h k = let f : suc (m * 128 + b) * p ≤ suc m * 128 * p = mul-le-mul_right p (omega arith) in let e : suc m * 128 * p ≡ suc m * (p * 128) = rw (mul_assoc (suc m) 128 p, mul_comm 128 p) refl in omega arith
 
-groups_before_few : (k most n : ℕ) (after : List ℕ) → n ≤ most → n < 128 ^ k → length (groups_before most n after) ≤ k + length after
+pub groups_before_few : (k most n : ℕ) (after : List ℕ) → n ≤ most → n < 128 ^ k → length (groups_before most n after) ≤ k + length after
 groups_before_few k zero zero after h g = omega arith
 groups_before_few k (suc most) zero after h g = omega arith
 groups_before_few zero most (suc n) after h g = absurd (omega arith)

@@ -1,44 +1,18 @@
 -- The fewest octets of a number, and the shortest octets of a length (X.690 8.1.3 and 10.1).
-use Rattle.std.proofs.Common.{◌≡◌, ◌≢◌, ℕ, zero, suc, ◌+◌, ◌*◌, ◌/◌, ◌%◌, ◌^◌, ◌<◌, ◌≤◌, List, [], ◌∷◌, ◌++◌, length, get_or, refl, sym, ap, ◌∙◌, subst, arith, append_assoc, length-append, inl, inr, ⊎_elim}
-use Rattle.std.proofs.Math.Nat.{pow-suc}
+use Rattle.std.proofs.Common.{◌≡◌, ◌≢◌, ℕ, zero, suc, ◌+◌, ◌*◌, ◌/◌, ◌%◌, ◌^◌, ◌<◌, ◌≤◌, List, [], ◌∷◌, ◌++◌, length, get_or, refl, sym, ap, ◌∙◌, subst, arith, append_assoc, inl, inr, ⊎_elim, append-nil}
 use Rattle.std.proofs.lemmas.Bool.{cases_lt}
 use Rattle.std.proofs.lemmas.Bool.Decides.{nat_tests}
-use Rattle.der_base.specs.Octets.{number_from, number, octets_before, octets, SpellsLength, shortest_length}
+use Rattle.der_base.specs.Octets.{number_from, number, octets, SpellsLength, shortest_length}
 use Rattle.der_base.proofs.Identifiers.{number_octets}
-use Rattle.der_base.proofs.Raws.{append_nil}
+use Rattle.der_base.proofs.Numbers.{octets_more, octets_count, octets_few}
 
 -- the fewest octets of a number
-
-octets_longer : (m k n : ℕ) (a b : List ℕ) → n ≤ m → n ≤ k → octets_before m n (a ++ b) ≡ octets_before k n a ++ b
-octets_longer zero zero n a b hm hk = refl
-octets_longer zero (suc k) zero a b hm hk = refl
-octets_longer zero (suc k) (suc n) a b hm hk = absurd (omega arith)
-octets_longer (suc m) zero zero a b hm hk = refl
-octets_longer (suc m) zero (suc n) a b hm hk = absurd (omega arith)
-octets_longer (suc m) (suc k) zero a b hm hk = refl
-octets_longer (suc m) (suc k) (suc n) a b hm hk = octets_longer m k (suc n / 256) ((suc n % 256) ∷ a) b (omega arith) (omega arith)
-
--- the last of them is the remainder
-pub octets_last : (n : ℕ) → 0 < n → octets n ≡ octets (n / 256) ++ (n % 256) ∷ []
-octets_last zero h = absurd (omega arith)
-octets_last (suc n) h = octets_longer n (suc n / 256) (suc n / 256) [] ((suc n % 256) ∷ []) (omega arith) (omega arith)
-
-octets_count : (n : ℕ) → 0 < n → length (octets n) ≡ length (octets (n / 256)) + 1
-octets_count n h = ap length (octets_last n h) ∙ length-append (octets (n / 256)) ((n % 256) ∷ [])
-
-octets_within : (k n : ℕ) → n < 256 ^ k → length (octets n) ≤ k
-octets_within zero zero h = omega arith
-octets_within zero (suc n) h = absurd (omega arith)
-octets_within (suc k) zero h = omega arith
-octets_within (suc k) (suc n) h =
-    let q : suc n / 256 < 256 ^ k = omega (arith, pow-suc 256 k) in
-    omega (arith, octets_count (suc n) (omega arith), octets_within k (suc n / 256) q)
 
 octets_one : (n : ℕ) → 0 < n → n < 256 → octets n ≡ n ∷ []
 octets_one n h l =
     let d : n / 256 ≡ 0 = omega arith in
     let m : n % 256 ≡ n = omega arith in
-    octets_last n h ∙ ap (λ k. octets k ++ (n % 256) ∷ []) d ∙ ap (λ k. k ∷ []) m
+    octets_more n h ∙ ap (λ k. octets k ++ (n % 256) ∷ []) d ∙ ap (λ k. k ∷ []) m
 
 -- the shortest octets of a length
 
@@ -56,7 +30,7 @@ shortest_spells n h =
     ⊎_elim
     (λ a. subst (λ w. SpellsLength w n) (sym (shortest_short n a)) (h, inl (a, refl, refl)))
     (λ a.
-    let l = octets_within 8 n h in
+    let l = octets_few 8 n h in
     let c = octets_count n (omega arith) in
     subst (λ w. SpellsLength w n) (sym (shortest_long n a)) (h, inr (omega arith, refl, omega arith, sym (number_octets n))))
     (cases_lt n 128)
@@ -85,10 +59,10 @@ octets_next : (n b : ℕ) → 0 < n → b < 256 → octets (n * 256 + b) ≡ oct
 octets_next n b h l =
     let d : (n * 256 + b) / 256 ≡ n = omega arith in
     let m : (n * 256 + b) % 256 ≡ b = omega arith in
-    octets_last (n * 256 + b) (omega arith) ∙ ap (λ k. octets k ++ ((n * 256 + b) % 256) ∷ []) d ∙ ap (λ k. octets n ++ k ∷ []) m
+    octets_more (n * 256 + b) (omega arith) ∙ ap (λ k. octets k ++ ((n * 256 + b) % 256) ∷ []) d ∙ ap (λ k. octets n ++ k ∷ []) m
 
 octets_number_from : (n : ℕ) (bs : List ℕ) → 0 < n → IsBytes bs → octets (number_from n bs) ≡ octets n ++ bs
-octets_number_from n [] h k = sym (append_nil (octets n))
+octets_number_from n [] h k = sym (append-nil (octets n))
 octets_number_from n (b ∷ bs) h k =
     octets_number_from (n * 256 + b) bs (omega arith) k.1 ∙ ap (λ l. l ++ bs) (octets_next n b h k.0) ∙ append_assoc (octets n) (b ∷ []) bs
 
@@ -108,7 +82,7 @@ octets_head_to zero n h p = absurd (omega arith)
 octets_head_to (suc m) n h p =
     ⊎_elim
     (λ a. let e = ap (λ l. get_or l 0 0) (octets_one n p a) in λ z. absurd (omega (arith, e, z, p)))
-    (λ a. let e = ap (λ l. get_or l 0 0) (octets_last n p) ∙ head_front (octets (n / 256)) ((n % 256) ∷ []) (omega (arith, octets_count (n / 256) (omega arith))) in
+    (λ a. let e = ap (λ l. get_or l 0 0) (octets_more n p) ∙ head_front (octets (n / 256)) ((n % 256) ∷ []) (omega (arith, octets_count (n / 256) (omega arith))) in
     λ z. octets_head_to m (n / 256) (omega arith) (omega arith) (sym e ∙ z))
     (cases_lt n 256)
 

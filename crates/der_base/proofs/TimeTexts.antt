@@ -1,5 +1,5 @@
 -- The texts that are written for times: digits, and fractions without zeros at the end.
-use Rattle.std.proofs.Common.{◌≡◌, ◌≢◌, ℕ, zero, suc, ◌+◌, ◌-◌, ◌*◌, ◌/◌, ◌%◌, ◌^◌, ◌<◌, ◌≤◌, ◌⊎◌, ◌==◌, Bool, true, false, List, [], ◌∷◌, ◌++◌, length, replicate, refl, sym, ap, subst, ◌∙◌, arith, inl, inr, append_assoc, decimal, length-append, ⊎_elim}
+use Rattle.std.proofs.Common.{◌≡◌, ◌≢◌, ℕ, zero, suc, ◌+◌, ◌-◌, ◌*◌, ◌/◌, ◌%◌, ◌^◌, ◌<◌, ◌≤◌, ◌⊎◌, ◌==◌, Bool, true, false, List, [], ◌∷◌, ◌++◌, length, replicate, refl, sym, ap, subst, ◌∙◌, arith, inl, inr, append_assoc, decimal, length-append, ⊎_elim, append-nil}
 use Rattle.std.proofs.lemmas.List.{length-replicate}
 use Rattle.std.proofs.Math.Nat.{pow-suc, mul-le-mul_right, mul_assoc, mul_comm}
 use Rattle.std.proofs.lemmas.Bool.{cases_lt}
@@ -44,17 +44,13 @@ at_least_padded (suc k) n after h g =
     ∙ at_least_padded k (n / 10) (digit n ∷ after) (let q : n < 10 ^ suc k * 10 = omega (arith, h, pow-suc 10 (suc k)) in omega arith) (omega arith))
     (cases_lt n 10)
 
-append_none : (w : List ℕ) → w ++ [] ≡ w
-append_none [] = refl
-append_none (b ∷ w) = ap (λ l. b ∷ l) (append_none w)
-
 pub two_written : (n : ℕ) → n < 100 → at_least_digits 2 n ≡ two_digits n
-two_written n h = sym (append_none (at_least_digits 2 n)) ∙ at_least_padded 1 n [] (omega arith) (omega arith)
+two_written n h = sym (append-nil (at_least_digits 2 n)) ∙ at_least_padded 1 n [] (omega arith) (omega arith)
 
 pub four_written : (n : ℕ) → n < 10000 → at_least_digits 4 n ≡ four_digits n
 four_written n h =
     let a : n / 10 / 10 ≡ n / 100 = omega arith in
-    sym (append_none (at_least_digits 4 n)) ∙ at_least_padded 3 n [] (omega arith) (omega arith) ∙ ap (λ m. digit (m / 10) ∷ digit m ∷ two_digits n) a
+    sym (append-nil (at_least_digits 4 n)) ∙ at_least_padded 3 n [] (omega arith) (omega arith) ∙ ap (λ m. digit (m / 10) ∷ digit m ∷ two_digits n) a
 
 -- digits are those of the number that they spell
 pub digits_back : (bs : List ℕ) (j m : ℕ) (after : List ℕ) → Each IsDigit bs → padded (length bs + j) (decimal_from m bs) after ≡ padded j m (bs ++ after)
@@ -91,7 +87,7 @@ nine_back : (ds : List ℕ) → Each IsDigit ds → length ds ≡ 9 → at_least
 nine_back ds are e =
     let below : decimal_from 0 ds < 10 ^ 9 = omega (arith, subst (λ k. decimal_from 0 ds < 1 * 10 ^ k) e (decimal_below 0 ds are)) in
     let nine : 9 ≡ length ds + 0 = omega (arith, e) in
-    sym (append_none _) ∙ at_least_padded 8 (decimal_from 0 ds) [] below (omega arith) ∙ ap (λ k. padded k (decimal_from 0 ds) []) nine ∙ digits_back ds 0 0 [] are ∙ append_none ds
+    sym (append-nil _) ∙ at_least_padded 8 (decimal_from 0 ds) [] below (omega arith) ∙ ap (λ k. padded k (decimal_from 0 ds) []) nine ∙ digits_back ds 0 0 [] are ∙ append-nil ds
 
 -- the nine digits of a fraction
 pub nine_written : (ds : List ℕ) → Each IsDigit ds → length ds ≤ 9 → at_least_digits 9 (decimal_from 0 ds * 10 ^ (9 - length ds)) ≡ ds ++ replicate (9 - length ds) 0x30

@@ -1,5 +1,5 @@
 -- What is written for a time, piece by piece.
-use Rattle.std.proofs.Common.{◌≡◌, ◌≢◌, ◌==◌, ℕ, zero, suc, ◌+◌, ◌-◌, ◌/◌, ◌%◌, ◌^◌, ◌<◌, ◌≤◌, List, [], ◌∷◌, ◌++◌, length, length-append, replicate, decimal, refl, sym, ap, ◌∙◌, arith, append_assoc, false, ◌||◌, if◌then◌else◌, ℤ, pos, codes, nat_abs, int_lt, inl, inr, ◌*◌}
+use Rattle.std.proofs.Common.{◌≡◌, ◌≢◌, ◌==◌, ℕ, zero, suc, ◌+◌, ◌-◌, ◌/◌, ◌%◌, ◌^◌, ◌<◌, ◌≤◌, List, [], ◌∷◌, ◌++◌, length, length-append, replicate, decimal, refl, sym, ap, ◌∙◌, arith, append_assoc, false, ◌||◌, if◌then◌else◌, ℤ, pos, codes, nat_abs, int_lt, inl, inr, ◌*◌, append-nil}
 use Rattle.std.specs.Fmt.{format_spec, styled_decimal, padded_integral, char_count}
 use Rattle.std.proofs.Math.Nat.{pow-suc}
 use Rattle.std.proofs.lemmas.Bool.{cases_lt}
@@ -11,7 +11,6 @@ use Rattle.der_base.specs.declared.time.ASN1TimeZone.TheVariants.{Offset}
 use Rattle.der_base.specs.Time.{digit, time_text, fraction_text, zone_text, at_least_digits, without_last_zeros, or_zero}
 use Rattle.der_base.proofs.DerTimes.{or_some}
 use Rattle.der_base.proofs.Identifiers.{fronts_same}
-use Rattle.der_base.proofs.Raws.{append_nil}
 use Rattle.der_base.proofs.TimeTexts.{at_least_step, zeros_go, stays}
 use Rattle.der_base.proofs.TimesWritten.{none_of_zero}
 
@@ -60,7 +59,7 @@ padded_at_least : (k n : ℕ) → padded_integral (format_spec 32 0 4 k (2 ^ 64 
 unfolding padded_integral char_count
 padded_at_least k n =
     let e : k - length (decimal n) - 0 - 0 ≡ k - length (decimal n) = omega arith in
-    ap (λ m. replicate m 0x30 ++ (decimal n ++ [])) e ∙ ap (λ l. replicate (k - length (decimal n)) 0x30 ++ l) (append_nil (decimal n))
+    ap (λ m. replicate m 0x30 ++ (decimal n ++ [])) e ∙ ap (λ l. replicate (k - length (decimal n)) 0x30 ++ l) (append-nil (decimal n))
 
 pub styled_at_least : (k n : ℕ) → styled_decimal (format_spec 32 0 4 k (2 ^ 64 - 1)) n ≡ at_least_digits k n
 styled_at_least zero n = let e : 0 - length (decimal n) ≡ 0 = omega arith in rw e refl

@@ -1,5 +1,5 @@
 -- What DER wants of a text in universal time, as its octets show it.
-use Rattle.std.proofs.Common.{◌≡◌, ◌≢◌, ℕ, ◌+◌, ◌<◌, ◌≤◌, ◌/◌, ◌==◌, Bool, true, false, IsTrue, if◌then◌else◌, Option, Result, Ok, Err, MatchResult, IsOkAnd, IsErrAnd, List, [], ◌∷◌, ◌++◌, length, length-append, take, drop, codes, refl, sym, ap, subst, ◌∙◌, arith, inl, inr, append_assoc}
+use Rattle.std.proofs.Common.{◌≡◌, ◌≢◌, ℕ, ◌+◌, ◌<◌, ◌≤◌, ◌/◌, ◌==◌, Bool, true, false, IsTrue, if◌then◌else◌, Option, Result, Ok, Err, MatchResult, IsOkAnd, IsErrAnd, List, [], ◌∷◌, ◌++◌, length, length-append, take, drop, codes, refl, sym, ap, subst, ◌∙◌, arith, inl, inr, append_assoc, append-nil}
 use Rattle.std.proofs.lemmas.List.{take-append-drop, drop_at}
 use Rattle.der_base.specs.declared.time.ASN1DateTime.{ASN1DateTime}
 use Rattle.der_base.specs.declared.time.ASN1TimeZone.TheVariants.{Z}
@@ -14,7 +14,6 @@ use Rattle.der_base.specs.Tree.{time}
 use Rattle.der_base.proofs.DerTimes.{IsNoMark, time_passes, two_are, whole_is_strict, marks_same, digit_no_mark}
 use Rattle.der_base.proofs.Each.{Each, each_append, each_at, each_map, each_from_all}
 use Rattle.der_base.proofs.Identifiers.{head_same}
-use Rattle.der_base.proofs.Raws.{append_nil}
 use Rattle.der_base.proofs.Refusals.{NoneHolds, none_refuses, first_refusal_once}
 use Rattle.der_base.proofs.Times.{times_same}
 use Rattle.der_base.proofs.TimesDecided.{IsLastFraction}
@@ -59,7 +58,7 @@ generalized_universal : (w v : List ℕ) (t : ASN1DateTime) → IsGeneralizedTim
 generalized_universal w v t (year, moment, s, f, z, hs, hf, hz, e) ends =
     let zone : (t.tz ≡ Z) × (z ≡ codes "Z") = elim hz [
       | inl h ↦ absurd (no_zone (four_digits t.year ++ (two_digits t.month ++ two_digits t.day ++ two_digits t.hour)) s f v t.minute t.second t.nanosecond hs hf
-          (sym (append_nil (four_digits t.year ++ (month_to_minute t ++ (s ++ f)))) ∙ ap (λ l. four_digits t.year ++ month_to_minute t ++ s ++ f ++ l) (sym h.0) ∙ sym e ∙ ends))
+          (sym (append-nil (four_digits t.year ++ (month_to_minute t ++ (s ++ f)))) ∙ ap (λ l. four_digits t.year ++ month_to_minute t ++ s ++ f ++ l) (sym h.0) ∙ sym e ∙ ends))
       | inr h ↦ zone_is_z (four_digits t.year ++ month_to_minute t ++ s ++ f) v z t.tz h (sym e ∙ ends)
     ] in
     let whole : w ≡ four_digits t.year ++ (month_to_minute t ++ (s ++ (f ++ codes "Z"))) = e ∙ ap (λ l. four_digits t.year ++ (month_to_minute t ++ l)) (append_assoc s f z) ∙ ap (λ l. four_digits t.year ++ (month_to_minute t ++ (s ++ (f ++ l)))) zone.1 in

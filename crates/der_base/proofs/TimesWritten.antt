@@ -1,5 +1,5 @@
 -- A text of a time that passes the tests of DER is what is written for the time.
-use Rattle.std.proofs.Common.{◌≡◌, ◌≢◌, ℕ, ◌-◌, ◌*◌, ◌^◌, ◌≤◌, Option, Some, None, List, [], ◌∷◌, ◌++◌, length, refl, sym, ap, subst, ◌∙◌, arith, inl, inr, append_assoc, codes, length-append}
+use Rattle.std.proofs.Common.{◌≡◌, ◌≢◌, ℕ, ◌-◌, ◌*◌, ◌^◌, ◌≤◌, Option, Some, None, List, [], ◌∷◌, ◌++◌, length, refl, sym, ap, subst, ◌∙◌, arith, inl, inr, append_assoc, codes, length-append, append-nil}
 use Rattle.std.proofs.lemmas.Fmt.{decimal_digit}
 use Rattle.der_base.specs.declared.time.ASN1DateTime.{ASN1DateTime}
 use Rattle.der_base.specs.declared.time.ASN1TimeZone.{ASN1TimeZone}
@@ -7,7 +7,6 @@ use Rattle.der_base.specs.declared.time.ASN1TimeZone.TheVariants.{Undefined, Z, 
 use Rattle.der_base.specs.LeafRefusal.{time_tests, HasLooseFraction}
 use Rattle.der_base.specs.Time.{two_digits, four_digits, decimal_from, IsDigit, AreSeconds, IsZone, month_to_minute, IsUtcTime, IsGeneralizedTime, IsTimeText, at_least_digits, without_last_zeros, or_zero, fraction_text, time_text}
 use Rattle.der_base.proofs.Identifiers.{fronts_same}
-use Rattle.der_base.proofs.Raws.{append_nil}
 use Rattle.der_base.proofs.Decided.{sure}
 use Rattle.der_base.proofs.Refusals.{NoneHolds}
 use Rattle.der_base.proofs.TimesDecided.{IsLastFraction, decided_ends}
@@ -106,7 +105,7 @@ generalized_is_written : (w v : List ℕ) (t : ASN1DateTime) → IsGeneralizedTi
 generalized_is_written w v t (year, moment, s, f, z, hs, hf, hz, e) n ends =
     let zone : (t.tz ≡ Z) × (z ≡ codes "Z") = elim hz [
       | inl h ↦ absurd (no_zone (four_digits t.year ++ (two_digits t.month ++ two_digits t.day ++ two_digits t.hour)) s f v t.minute t.second t.nanosecond hs hf
-          (sym (append_nil (four_digits t.year ++ (month_to_minute t ++ (s ++ f)))) ∙ ap (λ l. four_digits t.year ++ month_to_minute t ++ s ++ f ++ l) (sym h.0) ∙ sym e ∙ ends))
+          (sym (append-nil (four_digits t.year ++ (month_to_minute t ++ (s ++ f)))) ∙ ap (λ l. four_digits t.year ++ month_to_minute t ++ s ++ f ++ l) (sym h.0) ∙ sym e ∙ ends))
       | inr h ↦ zone_is_z (four_digits t.year ++ month_to_minute t ++ s ++ f) v z t.tz h (sym e ∙ ends)
     ] in
     let cut : w ≡ (four_digits t.year ++ month_to_minute t) ++ (s ++ (f ++ z)) = e ∙ ap (λ l. (four_digits t.year ++ month_to_minute t) ++ l) (append_assoc s f z) in

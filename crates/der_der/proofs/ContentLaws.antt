@@ -1,7 +1,6 @@
 -- A content behind a header that the caller gives, a refusal, and its end within the octets: one of them holds at most, and each in one way.
-use Rattle.std.proofs.Common.{◌≡◌, ◌≢◌, ℕ, ◌^◌, ◌<◌, ◌⊎◌, Bool, List, ◌++◌, length, refl, sym, ap, subst, ◌∙◌, arith, length-append, inl, inr}
+use Rattle.std.proofs.Common.{◌≡◌, ℕ, ◌^◌, ◌<◌, Bool, List, ◌++◌, length, refl, sym, ap, subst, ◌∙◌, arith, length-append, inl, inr}
 use Rattle.der_base.specs.declared.header.Class.{Class}
-use Rattle.der_base.specs.declared.header.Class.TheVariants.{Universal, Application, ContextSpecific, Private}
 use Rattle.der_base.specs.declared.header.Length.{Length}
 use Rattle.der_base.specs.declared.header.Length.TheVariants.{Definite, Indefinite}
 use Rattle.der_base.specs.Encoding.{element}
@@ -15,7 +14,7 @@ use Rattle.der_base.proofs.DerWithinBer.{valid_element, der_spelling_same, eleme
 use Rattle.der_base.proofs.Identifiers.{fronts_same}
 use Rattle.der_der.specs.DerReading.{IsDerContentOf, ContentRefuses}
 use Rattle.der_der.specs.DerContents.{FramesContent, FrameRefuses, FrameLacks, ReadingRefuses}
-use Rattle.der_der.proofs.Items.{content_refused}
+use Rattle.der_der.proofs.Items.{content_refused, universal_or_not}
 
 -- framing
 
@@ -46,12 +45,6 @@ frame_refused_not_lacking : (c : Class) (l : Length) (d : ℕ) (i : List ℕ) (e
 frame_refused_not_lacking c Indefinite d i e n q k = k
 frame_refused_not_lacking c (Definite m) d i e n (inl (h, q)) (h', s', u, o) = omega (arith, h, h')
 frame_refused_not_lacking c (Definite m) d i e n (inr (h, s, z, q)) (h', s', u, o) = omega (arith, s, s')
-
-universal_or_not : (c : Class) → (c ≡ Universal) ⊎ (c ≢ Universal)
-universal_or_not Universal = inl refl
-universal_or_not Application = inr (λ e. cc)
-universal_or_not ContextSpecific = inr (λ e. cc)
-universal_or_not Private = inr (λ e. cc)
 
 pub frame_lacks_same : (c : Class) (l : Length) (i : List ℕ) (n n' : ℕ) → FrameLacks c l i n → FrameLacks c l i n' → n ≡ n'
 frame_lacks_same c Indefinite i n n' k k' = absurd k

@@ -158,7 +158,7 @@ content_refused (suc d) i rest w r c p t n e h b s o z (u, m, q) =
     let k : suc d - 1 ≡ d = omega arith in
     behind_shows d i rest c p t n e b (inr (s, u, m, w, r, o, z, rw k at q))
 
-universal_or_not : (c : Class) → (c ≡ Universal) ⊎ (c ≢ Universal)
+pub universal_or_not : (c : Class) → (c ≡ Universal) ⊎ (c ≢ Universal)
 universal_or_not Universal = inl refl
 universal_or_not Application = inr (λ e. cc)
 universal_or_not ContextSpecific = inr (λ e. cc)

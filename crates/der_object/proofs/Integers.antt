@@ -10,6 +10,7 @@ use Rattle.der_base.specs.Octets.{number, number_from, octets, needs_zero}
 use Rattle.der_base.proofs.Each.{Each}
 use Rattle.der_base.proofs.Identifiers.{number_octets}
 use Rattle.der_base.proofs.Shortest.{IsOctet, leads, octets_are, number_below}
+use Rattle.der_base.proofs.Numbers.{powers}
 
 number_above : (m : ℕ) (bs : List ℕ) → m * 256 ^ length bs ≤ number_from m bs
 number_above m [] = omega arith
@@ -18,13 +19,6 @@ number_above m (b ∷ bs) =
     let e : m * (256 ^ length bs * 256) ≡ m * 256 * 256 ^ length bs = rw (mul_comm (256 ^ length bs) 256, mul_assoc m 256 (256 ^ length bs)) refl in
     let q : m * 256 * 256 ^ length bs ≤ (m * 256 + b) * 256 ^ length bs = mul-le-mul_right (256 ^ length bs) (omega arith) in
     rw p (omega (arith, e, q, number_above (m * 256 + b) bs))
-
-powers : (k : ℕ) → 256 ^ k ≡ 2 ^ (8 * k)
-powers zero = refl
-powers (suc k) =
-    let e : 8 * suc k ≡ 8 * k + 8 = omega arith in
-    let p : 2 ^ (8 * k + 8) ≡ 2 ^ (8 * k) * 256 = pow-add 2 (8 * k) 8 in
-    pow-suc 256 k ∙ ap (λ q. q * 256) (powers k) ∙ sym p ∙ ap (λ j. 2 ^ j) (sym e)
 
 -- a power between two others
 below_power : (i j : ℕ) → 2 ^ i < 2 ^ j → i < j

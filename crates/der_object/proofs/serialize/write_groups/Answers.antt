@@ -5,6 +5,7 @@ use Rattle.std.proofs.lemmas.List.{length-set}
 use Rattle.der_base.specs.Octets.{groups_before, groups}
 use Rattle.der_base.proofs.Numbers.{groups_start, groups_step}
 use Rattle.der_object.proofs.serialize.write_groups.Goals as goal
+use Rattle.der_base.proofs.Identifiers.{groups_append}
 
 groups_longer : (m n : ℕ) (after : List ℕ) → length after ≤ length (groups_before m n after)
 groups_longer zero n after = omega arith
@@ -13,11 +14,6 @@ groups_longer (suc m) (suc n) after = omega (arith, groups_longer m (suc n / 128
 
 groups_some : (n : ℕ) → 1 ≤ length (groups n)
 groups_some n = groups_longer n (n / 128) ((n % 128) ∷ [])
-
-groups-append : (m n : ℕ) (a b : List ℕ) → groups_before m n a ++ b ≡ groups_before m n (a ++ b)
-groups-append zero n a b = refl
-groups-append (suc m) zero a b = refl
-groups-append (suc m) (suc n) a b = groups-append m (suc n / 128) ((128 + suc n % 128) ∷ a) b
 
 set_front : (begin x : ℕ) (l : List ℕ) → 1 ≤ begin → begin ≤ length l → drop (begin - 1) (set l (begin - 1) x) ≡ x ∷ drop begin l
 set_front zero x l some within = absurd (omega arith)
@@ -56,7 +52,7 @@ loop-rest-init c =
     let front = set_front c.args.end (n % 128) old (omega (arith, some)) (omega arith) in
     record {
       written =
-          ap (groups_before (n / 128) (n / 128)) front ∙ sym (groups-append (n / 128) (n / 128) ((n % 128) ∷ []) (drop c.args.end old))
+          ap (groups_before (n / 128) (n / 128)) front ∙ sym (groups_append (n / 128) (n / 128) ((n % 128) ∷ []) (drop c.args.end old))
           ∙ ap (λ g. g ++ drop c.args.end old) (sym (groups_start n));
       within = omega arith;
       size = length-set old (c.args.end - 1) (n % 128);
