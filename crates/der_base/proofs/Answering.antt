@@ -72,3 +72,9 @@ passed_on P P' (Incomplete (Size k)) h q n m = n k h
 passed_on P P' (Incomplete Unknown) h q n m = absurd h
 passed_on P P' (Failure e) h q n m = absurd h
 passed_on P P' OutOfMemory h q n m = m h
+
+-- a whole answer, said in other words
+pub answered : {T : Type 0} (P P' : T → Type 0) {Q Q' : Refusal → Type 0} {R R' : ℕ → Type 0} {M M' : Type 0} (r : Result T (Refused BerError))
+    → MatchAnswer r P Q R M → ((x : T) → P x → P' x) → ((x : Refusal) → Q x → Q' x) → ((n : ℕ) → R n → R' n) → (M → M') → MatchAnswer r P' Q' R' M'
+answered P P' (Ok x) h p q n m = p x h
+answered P P' (Err e) h p q n m = passed_on P P' e h q n m

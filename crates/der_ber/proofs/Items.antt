@@ -111,6 +111,11 @@ element_read i rest a x d r deep k =
       marked = (record { raw_tag = r.header.raw_tag; kept = k.kept }, k.marked);
     }
 
+-- an object that has this content
+pub object_read : (i rest r : List ℕ) (a : Any) (o : BerObject) (d : ℕ) → ReadsAny i a rest → 1 ≤ d → (r ≡ rest) × (o.header ≡ a.header) × IsContentOf a.bytes.now a.header o.content d → ReadsBer d i o r
+object_read i rest r a o d q deep (er, eh, k) =
+    subst (ReadsBer d i o) (sym er) (subst (λ h. ReadsBer d i (record { header = h; content = o.content }) rest) (sym eh) (element_read i rest a o.content d q deep k))
+
 -- refusals and cuts of an element, at a depth of at least 1
 pub any_refused : (d : ℕ) (i : List ℕ) (e : Refusal) → 1 ≤ d → AnyRefuses i e → ShowsFault d i e
 any_refused zero i e h r = absurd (omega arith)

@@ -9,7 +9,7 @@ ghost use Rattle.der_base.specs.Tree.{Content};
 ghost use Rattle.der_object.specs.View.{content_tree};
 ghost use Rattle.der_ber.specs.BerContents.{FramesContent, FrameRefuses, FrameLacks, IsContentAs, ReadsContentAs, ContentAsRefuses, ContentAsNeedsMemory};
 
-use crate::reader::read_content;
+use crate::reader::read_object;
 use der_base::any::{Any, ber_read_content};
 use der_base::error::{BerError, Err, IResult, Needed};
 use der_base::header::{Class, Header, HeaderCount, Length, Tag};
@@ -58,8 +58,8 @@ fn read_content_as<'a>(
     let (rest, bytes) = frame_content(i, length, constructed, max_depth)?;
     let header = Header::new(Class::Universal, constructed, tag, length);
     let any = Any::new(header, bytes);
-    let content = read_content(alloc, any, max_depth, &mut HeaderCount::new())?;
-    Ok((rest, content))
+    let (rest, object) = read_object(alloc, any, rest, max_depth, &mut HeaderCount::new())?;
+    Ok((rest, object.content))
 }
 
 /// Reads the content of a universal type behind its header, of which the caller gives the tag

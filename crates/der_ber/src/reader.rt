@@ -32,11 +32,7 @@ pub fn read_element<'a>(
         return Err(Err::Error(BerError::BerMaxDepth));
     }
     let (rest, any) = ber_any_counted(i, count)?;
-    let content = read_content(alloc, any, max_depth, count)?;
-    Ok((
-        rest,
-        BerObject::from_header_and_content(any.header, content),
-    ))
+    read_object(alloc, any, rest, max_depth, count)
 }
 
 /// One element in front, of this tag number.
@@ -55,46 +51,49 @@ pub fn read_element_with_tag<'a>(
     }
     let (rest, any) = ber_any_counted(i, count)?;
     any.header.assert_tag(tag)?;
-    let content = read_content(alloc, any, max_depth, count)?;
-    Ok((
-        rest,
-        BerObject::from_header_and_content(any.header, content),
-    ))
+    read_object(alloc, any, rest, max_depth, count)
 }
 
-/// The content of an element.
+/// The object of an element whose header and content octets are told apart, and what follows it.
 #[cycle(reader)]
 #[inline(always)]
-pub(crate) fn read_content<'a>(
+pub(crate) fn read_object<'a>(
     alloc: Global,
     any: Any<'a>,
+    rest: &'a [u8],
     max_depth: usize,
     count: &mut HeaderCount,
-) -> Result<BerObjectContent<'a>, Err<BerError>>
+) -> BerResult<'a>
     requires { 1 ≤ max_depth }
     ensures { let h = any.entry.header in let w = any.entry.bytes.now in MatchAnswer result
-        (λ x. IsContentOf w h x max_depth)
+        (λ x. (x.0.now ≡ rest.now) × (x.1.header ≡ h) × IsContentOf w h x.1.content max_depth)
         (ContentRefuses (class_of h) (is_constructed h) (number_of h) w max_depth)
         (λ _. ⊥)
         ((2 ≤ max_depth) × (class_of h ≡ Class.Universal) × (is_constructed h ≡ true) × IsTrue (is_list (number_of h)) × (w ≢ [])) }
 {
     let header = any.header;
+    let octets = any.bytes;
     let tag = header.tag();
     if !header.is_universal() {
-        return Ok(BerObjectContent::Unknown(any));
+        let content = BerObjectContent::Unknown(any);
+        return Ok((rest, BerObject::from_header_and_content(header, content)));
     }
     if tag == Tag::Sequence {
         header.assert_constructed()?;
-        return Ok(BerObjectContent::Sequence(read_items(alloc, any.bytes, max_depth - 1, count)?));
+        let content = BerObjectContent::Sequence(read_items(alloc, octets, max_depth - 1, count)?);
+        return Ok((rest, BerObject::from_header_and_content(header, content)));
     }
     if tag == Tag::Set {
         header.assert_constructed()?;
-        return Ok(BerObjectContent::Set(read_items(alloc, any.bytes, max_depth - 1, count)?));
+        let content = BerObjectContent::Set(read_items(alloc, octets, max_depth - 1, count)?);
+        return Ok((rest, BerObject::from_header_and_content(header, content)));
     }
     if tag.is_mapped() {
-        return Ok(read_leaf(header.constructed(), tag, any.bytes)?);
+        let content = read_leaf(header.constructed(), tag, octets)?;
+        return Ok((rest, BerObject::from_header_and_content(header, content)));
     }
-    Ok(BerObjectContent::Unknown(any))
+    let content = BerObjectContent::Unknown(any);
+    Ok((rest, BerObject::from_header_and_content(header, content)))
 }
 
 /// The elements that content octets join.

@@ -150,6 +150,12 @@ element_read i rest w r o n d b l raw s e z k =
       marked = (record { raw_tag = raw; length = l ∙ ap Definite m; kept = k.kept }, k.marked);
     }
 
+-- an object that has this content
+pub object_read : (i rest w r r' : List ℕ) (h : Header) (o : BerObject) (n d : ℕ) → BeginsWithDerHeader i (class_of h) (is_constructed h) (number_of h) n rest → length_of h ≡ Definite n → HasRawTag h
+    → n ≤ max_object_size → rest ≡ w ++ r → length w ≡ n → (r' ≡ r) × (o.header ≡ h) × IsContentOf w h o.content d → ReadsDer d i o r'
+object_read i rest w r r' h o n d b l raw s e z (er, eh, k) =
+    subst (ReadsDer d i o) (sym er) (subst (λ h. ReadsDer d i (record { header = h; content = o.content }) r) (sym eh) (element_read i rest w r (record { header = h; content = o.content }) n d b l raw s e z k))
+
 -- a refusal of the content, at the depth of the element
 pub content_refused : (d : ℕ) (i rest w r : List ℕ) (c : Class) (p : Bool) (t n : ℕ) (e : Refusal) → 1 ≤ d → BeginsWithDerHeader i c p t n rest → n ≤ max_object_size → rest ≡ w ++ r → length w ≡ n
     → ContentRefuses c p t w d e → DerShowsFault d i e

@@ -10,7 +10,7 @@ ghost use Rattle.der_object.specs.View.{content_tree};
 ghost use Rattle.der_der.specs.DerReading.{IsDerContentOf};
 ghost use Rattle.der_der.specs.DerContents.{FramesContent, FrameRefuses, FrameLacks, ReadingRefuses, ReadingNeedsMemory, ReadsContentAs, ReadsContentOf};
 
-use crate::reader::{lacking, read_content};
+use crate::reader::{lacking, read_object};
 use der_base::error::{BerError, Err, IResult, Needed};
 use der_base::header::{Class, Header, HeaderCount, Length, Tag};
 use der_base::{MAX_OBJECT_SIZE, MAX_RECURSION};
@@ -57,8 +57,8 @@ fn read_content_of<'a>(
         (ReadingNeedsMemory (class_of h) (number_of h) (length_of h) (is_constructed h) max_depth i.now) }
 {
     let (rest, octets) = frame_content(i, &header, max_depth)?;
-    let content = read_content(alloc, header, octets, max_depth, &mut HeaderCount::new())?;
-    Ok((rest, BerObject::from_header_and_content(header, content)))
+    let mut count = HeaderCount::new();
+    read_object(alloc, header, octets, rest, max_depth, &mut count)
 }
 
 /// The content of the universal type of this number, and what follows the element.

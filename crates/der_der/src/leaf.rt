@@ -12,7 +12,7 @@ use der_base::error::{BerError, DerConstraint};
 use der_base::header::Tag;
 use der_base::integer::check_fewest_octets;
 use der_base::time::read_der_time;
-use der_ber::leaf::read_leaf as read_ber_leaf;
+use der_ber::leaf::{read_leaf as read_ber_leaf, time_content};
 use der_object::BerObjectContent;
 
 /// Reads the content octets of a universal type that is no list, which DER wants primitive.
@@ -32,13 +32,23 @@ pub fn read_leaf<'a>(
         return Err(BerError::DerConstraintFailed(DerConstraint::Constructed));
     }
     match tag {
-        Tag::UtcTime => Ok(BerObjectContent::UTCTime(read_der_time(tag, content)?)),
-        Tag::GeneralizedTime => Ok(BerObjectContent::GeneralizedTime(read_der_time(tag, content)?)),
+        Tag::UtcTime | Tag::GeneralizedTime => Ok(read_moment(tag, content)?),
         _ => {
             check_form(tag, content)?;
-            Ok(read_ber_leaf(false, tag, content)?)
+            read_ber_leaf(false, tag, content)
         }
     }
+}
+
+/// A UTCTime or a GeneralizedTime, as DER writes it (11.7, 11.8).
+#[inline(never)]
+fn read_moment(tag: Tag, content: &[u8]) -> Result<BerObjectContent<'_>, BerError>
+    requires { IsTrue (is_time tag.0) }
+    ensures { MatchResult result
+        (λ x. IsDerLeaf tag.0 (content_tree x) × (content.now ≡ content_octets (content_tree x)))
+        (λ e. DerLeafRefuses false tag.0 content.now (refusal e)) }
+{
+    Ok(time_content(tag, read_der_time(tag, content)?))
 }
 
 /// The tests that DER puts in front of those of BER, of a type that is no time.

@@ -44,8 +44,7 @@ pub fn read_element<'a>(
         return Err(Err::Incomplete(Needed::Size(lacking(&header, length, rest))));
     }
     let (content, rest) = rest.split_at(length);
-    let content = read_content(alloc, header, content, max_depth, count)?;
-    Ok((rest, BerObject::from_header_and_content(header, content)))
+    read_object(alloc, header, content, rest, max_depth, count)
 }
 
 /// How many octets a content lacks that is cut short: by DER the whole length for class Universal.
@@ -61,39 +60,45 @@ pub(crate) fn lacking(header: &Header<'_>, size: usize, rest: &[u8]) -> usize
     }
 }
 
-/// The content of an element behind its header.
+/// The object of an element whose header and content octets are told apart, and what follows it.
 #[cycle(reader)]
 #[inline(always)]
-pub(crate) fn read_content<'a>(
+pub(crate) fn read_object<'a>(
     alloc: Global,
     header: Header<'a>,
-    content: &'a [u8],
+    octets: &'a [u8],
+    rest: &'a [u8],
     max_depth: usize,
     count: &mut HeaderCount,
-) -> Result<BerObjectContent<'a>, Err<BerError>>
+) -> BerResult<'a>
     requires { 1 ≤ max_depth }
     ensures { let h = header.entry in MatchAnswer result
-        (λ x. IsContentOf content.now h x max_depth)
-        (ContentRefuses (class_of h) (is_constructed h) (number_of h) content.now max_depth)
+        (λ x. (x.0.now ≡ rest.now) × (x.1.header ≡ h) × IsContentOf octets.now h x.1.content max_depth)
+        (ContentRefuses (class_of h) (is_constructed h) (number_of h) octets.now max_depth)
         (λ _. ⊥)
-        ((2 ≤ max_depth) × (class_of h ≡ Class.Universal) × (is_constructed h ≡ true) × IsTrue (is_list (number_of h)) × (content.now ≢ [])) }
+        ((2 ≤ max_depth) × (class_of h ≡ Class.Universal) × (is_constructed h ≡ true) × IsTrue (is_list (number_of h)) × (octets.now ≢ [])) }
 {
     let tag = header.tag();
     if !header.is_universal() {
-        return Ok(BerObjectContent::Unknown(Any::new(header, content)));
+        let content = BerObjectContent::Unknown(Any::new(header, octets));
+        return Ok((rest, BerObject::from_header_and_content(header, content)));
     }
     if tag == Tag::Sequence {
         header.assert_constructed()?;
-        return Ok(BerObjectContent::Sequence(read_items(alloc, content, max_depth - 1, count)?));
+        let content = BerObjectContent::Sequence(read_items(alloc, octets, max_depth - 1, count)?);
+        return Ok((rest, BerObject::from_header_and_content(header, content)));
     }
     if tag == Tag::Set {
         header.assert_constructed()?;
-        return Ok(BerObjectContent::Set(read_items(alloc, content, max_depth - 1, count)?));
+        let content = BerObjectContent::Set(read_items(alloc, octets, max_depth - 1, count)?);
+        return Ok((rest, BerObject::from_header_and_content(header, content)));
     }
     if tag.is_mapped() {
-        return Ok(read_leaf(header.constructed(), tag, content)?);
+        let content = read_leaf(header.constructed(), tag, octets)?;
+        return Ok((rest, BerObject::from_header_and_content(header, content)));
     }
-    Ok(BerObjectContent::Unknown(Any::new(header, content)))
+    let content = BerObjectContent::Unknown(Any::new(header, octets));
+    Ok((rest, BerObject::from_header_and_content(header, content)))
 }
 
 /// The elements that content octets join.

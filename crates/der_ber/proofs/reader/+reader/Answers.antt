@@ -1,4 +1,4 @@
-use Rattle.std.proofs.Common.{◌≡◌, ◌<◌, ◌≤◌, true, IsTrue, length, arith, rules, inl}
+use Rattle.std.proofs.Common.{◌≡◌, ◌<◌, ◌≤◌, true, IsTrue, length, arith, rules, inl, refl}
 use Rattle.std.proofs.lemmas.Bool.Decides.{nat_tests}
 use Rattle.std.proofs.lemmas.Result.{err_from_is_err_and}
 use Rattle.der_base.specs.declared.header.Class.TheVariants.{Universal}
@@ -8,30 +8,12 @@ use Rattle.der_base.specs.Header.{class_of, is_constructed, number_of}
 use Rattle.der_base.specs.Leaf.{is_mapped, IsLeafContent}
 use Rattle.der_base.specs.LeafRefusal.{BerLeafRefuses}
 use Rattle.der_base.specs.Refusal.{refusal}
-use Rattle.der_base.specs.Spelling.{framing_budget}
-use Rattle.der_base.proofs.Answering.{passed_on}
-use Rattle.der_base.proofs.FramingLaws.{element_shorter}
+use Rattle.der_base.proofs.Answering.{passed_on, answered}
 use Rattle.der_base.proofs.ItemAnswers.{item_answer, some_content}
 use Rattle.der_object.specs.View.{content_tree, trees}
 use Rattle.der_object.specs.Marks.{forms_of}
-use Rattle.der_ber.proofs.Items.{sequence_content, set_content, any_refused, any_cut, content_refused, content_memory, element_read, leaf_content, read_more}
+use Rattle.der_ber.proofs.Items.{sequence_content, set_content, any_refused, any_cut, content_refused, content_memory, object_read, leaf_content, read_more}
 use Rattle.der_ber.proofs.reader.+reader.Goals as goal
-
-pub read_content-returns-then-eq : goal.read_content-returns-then-eq
-read_content-returns-then-eq t c =
-    let h = c.args.any.header in
-    let universal : class_of h ≡ Universal = search rules in
-    let constructed : is_constructed h ≡ true = search rules in
-    let number : number_of h ≡ 16 = search rules in
-    sequence_content c.args.any.bytes.now h c.in_ok-read_items.field-0 c.args.max_depth universal constructed number c.in_ok-read_items.ensures
-
-pub read_content-returns-then-eq-2 : goal.read_content-returns-then-eq-2
-read_content-returns-then-eq-2 t c =
-    let h = c.args.any.header in
-    let universal : class_of h ≡ Universal = search rules in
-    let constructed : is_constructed h ≡ true = search rules in
-    let number : number_of h ≡ 17 = search rules in
-    set_content c.args.any.bytes.now h c.in_ok-read_items-2.field-0 c.args.max_depth universal constructed number c.in_ok-read_items-2.ensures
 
 pub read_element-returns-in_err-rest-clause-found : goal.read_element-returns-in_err-rest-clause-found
 read_element-returns-in_err-rest-clause-found t c =
@@ -40,32 +22,6 @@ read_element-returns-in_err-rest-clause-found t c =
     let deep : 1 ≤ d = omega arith in
     let p = err_from_is_err_and c.from_residual.result c.from_residual.ensures.1 in
     rw (p.1, p.2) (passed_on _ _ c.in_err-rest.field-0.0 c.in_err-rest.ensures.found (λ e h. any_refused d i e deep h) (λ n h. any_cut d i n deep h) (λ m. absurd m))
-
-pub read_element-returns-in_err-content-clause-found : goal.read_element-returns-in_err-content-clause-found
-read_element-returns-in_err-content-clause-found t c =
-    let a = c.in_ok-rest.any in
-    let h = a.header in
-    let b = c.in_ok-rest.ensures.found.element in
-    let rest = c.in_ok-rest.rest.now in
-    let i = c.args.i.now in
-    let d = c.args.max_depth in
-    let deep : 1 ≤ d = omega arith in
-    let p = err_from_is_err_and c.from_residual-in_err-content.result c.from_residual-in_err-content.ensures.1 in
-    rw (p.1, p.2) (passed_on _ _ c.in_err-content.field-0.0 c.in_err-content.ensures
-    (λ e q. content_refused d i rest a.bytes.now (class_of h) (is_constructed h) (number_of h) e deep b q)
-    (λ m q. absurd q)
-    (λ m. content_memory d i rest a.bytes.now (class_of h) (is_constructed h) (number_of h) b m))
-
-pub read_element-returns-clause-found : goal.read_element-returns-clause-found
-read_element-returns-clause-found t c =
-    rw (c.from_header_and_content.ensures.header, c.from_header_and_content.ensures.content)
-    (element_read c.args.i.now c.in_ok-rest.rest.now c.in_ok-rest.any c.in_ok-content.content c.args.max_depth c.in_ok-rest.ensures.found (omega arith) c.in_ok-content.ensures)
-
-pub read_element-returns-clause-shorter : goal.read_element-returns-clause-shorter
-read_element-returns-clause-shorter t c =
-    let a = c.in_ok-rest.any in
-    let h = a.header in
-    element_shorter c.args.i.now framing_budget (class_of h) (is_constructed h) (number_of h) a.bytes.now c.in_ok-rest.rest.now c.in_ok-rest.ensures.found.element
 
 pub read_items-loop-rest-preserved : goal.read_items-loop-rest-preserved
 read_items-loop-rest-preserved t c =
@@ -81,18 +37,54 @@ read_items-returns-in-Err t c =
     (λ x h. (trees c.loop-rest.items.items, forms_of c.loop-rest.items.items, r.read, rest, r.parts, r.joins, h))
     (λ m. (omega (arith, m.0), some_content w r.read rest r.parts some))
 
-pub read_content-returns-in_err-read_leaf : goal.read_content-returns-in_err-read_leaf
-read_content-returns-in_err-read_leaf t c =
+pub read_element-returns-clause-found : goal.read_element-returns-clause-found
+read_element-returns-clause-found t c =
+    let a = c.in_ok-rest.any in
+    let h = a.header in
+    let b = c.in_ok-rest.ensures.found.element in
+    let rest = c.in_ok-rest.rest.now in
+    let i = c.args.i.now in
+    let d = c.args.max_depth in
+    let deep : 1 ≤ d = omega arith in
+    answered _ _ c.read_object.result c.read_object.ensures
+    (λ x q. object_read i rest x.0.now a x.1 d c.in_ok-rest.ensures.found deep q)
+    (λ e q. content_refused d i rest a.bytes.now (class_of h) (is_constructed h) (number_of h) e deep b q)
+    (λ m q. absurd q)
+    (λ m. content_memory d i rest a.bytes.now (class_of h) (is_constructed h) (number_of h) b m)
+
+pub read_object-returns-in_err-content : goal.read_object-returns-in_err-content
+read_object-returns-in_err-content t c =
     let h = c.args.any.header in
     let universal : class_of h ≡ Universal = search rules in
     let mapped : IsTrue (is_mapped (number_of h)) = search rules in
-    let refused : BerLeafRefuses (is_constructed h) (number_of h) c.args.any.bytes.now (refusal c.in_err-read_leaf.field-0.0) = rw (← c.constructed.ensures, ← c.tag-tag.ensures) c.in_err-read_leaf.ensures in
-    let p = err_from_is_err_and c.from_residual-in_err-read_leaf.result c.from_residual-in_err-read_leaf.ensures.1 in
+    let refused : BerLeafRefuses (is_constructed h) (number_of h) c.args.any.bytes.now (refusal c.in_err-content.field-0.0) = rw (← c.constructed.ensures, ← c.tag-tag.ensures) c.in_err-content.ensures in
+    let p = err_from_is_err_and c.from_residual-in_err-content.result c.from_residual-in_err-content.ensures.1 in
     rw (p.1, p.2) (universal, mapped, inl refused)
 
-pub read_content-returns-then-is_mapped : goal.read_content-returns-then-is_mapped
-read_content-returns-then-is_mapped t c =
+pub read_object-returns-then-eq : goal.read_object-returns-then-eq
+read_object-returns-then-eq t c =
     let h = c.args.any.header in
     let universal : class_of h ≡ Universal = search rules in
-    let read : IsLeafContent (is_constructed h) (number_of h) c.args.any.bytes.now (content_tree c.in_ok-read_leaf.field-0) = rw (← c.constructed.ensures, ← c.tag-tag.ensures) c.in_ok-read_leaf.ensures in
-    leaf_content c.args.any.bytes.now h c.in_ok-read_leaf.field-0 c.args.max_depth universal read
+    let constructed : is_constructed h ≡ true = search rules in
+    let number : number_of h ≡ 16 = search rules in
+    let e = c.from_header_and_content-then-eq.ensures in
+    (refl, e.header, rw e.content (sequence_content c.args.any.bytes.now h c.in_ok-read_items.field-0 c.args.max_depth universal constructed number c.in_ok-read_items.ensures))
+
+pub read_object-returns-then-eq-2 : goal.read_object-returns-then-eq-2
+read_object-returns-then-eq-2 t c =
+    let h = c.args.any.header in
+    let universal : class_of h ≡ Universal = search rules in
+    let constructed : is_constructed h ≡ true = search rules in
+    let number : number_of h ≡ 17 = search rules in
+    let e = c.from_header_and_content-then-eq-2.ensures in
+    (refl, e.header, rw e.content (set_content c.args.any.bytes.now h c.in_ok-read_items-2.field-0 c.args.max_depth universal constructed number c.in_ok-read_items-2.ensures))
+
+pub read_object-returns-then-is_mapped : goal.read_object-returns-then-is_mapped
+read_object-returns-then-is_mapped t c =
+    let h = c.args.any.header in
+    let w = c.args.any.bytes.now in
+    let x = c.in_ok-content.content in
+    let universal : class_of h ≡ Universal = search rules in
+    let read : IsLeafContent (is_constructed h) (number_of h) w (content_tree x) = rw (← c.constructed.ensures, ← c.tag-tag.ensures) c.in_ok-content.ensures in
+    let e = c.from_header_and_content-then-is_mapped.ensures in
+    (refl, e.header, rw e.content (leaf_content w h x c.args.max_depth universal read))

@@ -5,8 +5,8 @@ use Rattle.der_ber.proofs.reader.+reader.Given as goal
 abbrev pub decreases-read_element : goal.decreases-read_element
 decreases-read_element l = 3 * l.max_depth + 2
 
-abbrev pub decreases-read_content : goal.decreases-read_content
-decreases-read_content l = 3 * l.max_depth + 1
+abbrev pub decreases-read_object : goal.decreases-read_object
+decreases-read_object l = 3 * l.max_depth + 1
 
 abbrev pub decreases-read_items : goal.decreases-read_items
 decreases-read_items l = 3 * l.max_depth + 3

@@ -1,10 +1,8 @@
-use Rattle.std.proofs.Common.{◌≡◌, ◌≤◌, arith, rules, inr}
+use Rattle.std.proofs.Common.{◌≡◌, ◌≤◌, arith, rules, inr, ap, ◌∙◌}
 use Rattle.std.proofs.lemmas.Result.{err_from_is_err_and}
 use Rattle.der_base.specs.Header.{class_of, is_constructed, number_of}
-use Rattle.der_base.specs.Spelling.{framing_budget}
-use Rattle.der_base.proofs.Answering.{passed_on}
-use Rattle.der_base.proofs.FramingLaws.{element_shorter}
-use Rattle.der_ber.proofs.Items.{any_refused, any_cut, content_refused, content_memory, element_read}
+use Rattle.der_base.proofs.Answering.{passed_on, answered}
+use Rattle.der_ber.proofs.Items.{any_refused, any_cut, content_refused, content_memory, object_read}
 use Rattle.der_ber.proofs.WantedNumbers.{not_other, refused_not_other}
 use Rattle.der_ber.proofs.reader.read_element_with_tag.Goals as goal
 
@@ -17,8 +15,8 @@ returns-in_err-rest-clause-found c =
     rw (p.1, p.2) (passed_on _ _ c.in_err-rest.field-0.0 c.in_err-rest.ensures.found
     (λ e h. inr (inr (λ m. refused_not_other c.args.tag.0 i e m h), any_refused d i e deep h)) (λ n h. any_cut d i n deep h) (λ m. absurd m))
 
-pub returns-in_err-content-clause-found : goal.returns-in_err-content-clause-found
-returns-in_err-content-clause-found c =
+pub returns-clause-found : goal.returns-clause-found
+returns-clause-found c =
     let a = c.in_ok-rest.any in
     let h = a.header in
     let b = c.in_ok-rest.ensures.found.element in
@@ -29,20 +27,8 @@ returns-in_err-content-clause-found c =
     let w = a.bytes.now in
     let deep : 1 ≤ d = omega arith in
     let wanted : number_of h ≡ n = search rules in
-    let p = err_from_is_err_and c.from_residual-in_err-content.result c.from_residual-in_err-content.ensures.1 in
-    rw (p.1, p.2) (passed_on _ _ c.in_err-content.field-0.0 c.in_err-content.ensures
+    answered _ _ c.read_object.result c.read_object.ensures
+    (λ x q. (object_read i rest x.0.now a x.1 d c.in_ok-rest.ensures.found deep q, ap number_of q.1 ∙ wanted))
     (λ e q. inr (inr (λ m. not_other n i w rest (class_of h) (is_constructed h) (number_of h) m b wanted), content_refused d i rest w (class_of h) (is_constructed h) (number_of h) e deep b q))
     (λ m q. absurd q)
-    (λ m. content_memory d i rest w (class_of h) (is_constructed h) (number_of h) b m))
-
-pub returns-clause-found : goal.returns-clause-found
-returns-clause-found c =
-    let wanted : number_of c.in_ok-rest.any.header ≡ c.args.tag.0 = search rules in
-    rw (c.from_header_and_content.ensures.header, c.from_header_and_content.ensures.content)
-    (element_read c.args.i.now c.in_ok-rest.rest.now c.in_ok-rest.any c.in_ok-content.content c.args.max_depth c.in_ok-rest.ensures.found (omega arith) c.in_ok-content.ensures, wanted)
-
-pub returns-clause-shorter : goal.returns-clause-shorter
-returns-clause-shorter c =
-    let a = c.in_ok-rest.any in
-    let h = a.header in
-    element_shorter c.args.i.now framing_budget (class_of h) (is_constructed h) (number_of h) a.bytes.now c.in_ok-rest.rest.now c.in_ok-rest.ensures.found.element
+    (λ m. content_memory d i rest w (class_of h) (is_constructed h) (number_of h) b m)

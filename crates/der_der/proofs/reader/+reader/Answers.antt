@@ -1,4 +1,4 @@
-use Rattle.std.proofs.Common.{◌≡◌, ◌<◌, ◌≤◌, ◌++◌, true, false, IsTrue, length, take, sym, ap, ◌∙◌, arith, rules, inl}
+use Rattle.std.proofs.Common.{◌≡◌, ◌<◌, ◌≤◌, ◌++◌, true, false, IsTrue, length, take, sym, ap, ◌∙◌, arith, rules, inl, refl}
 use Rattle.std.proofs.lemmas.Bool.Decides.{nat_tests}
 use Rattle.std.proofs.lemmas.List.{take-append-drop}
 use Rattle.std.proofs.lemmas.Result.{err_from_is_err_and}
@@ -11,28 +11,12 @@ use Rattle.der_base.specs.Encoding.{content_octets}
 use Rattle.der_base.specs.Leaf.{is_mapped, IsDerLeaf}
 use Rattle.der_base.specs.LeafRefusal.{DerLeafRefuses}
 use Rattle.der_base.specs.Refusal.{refusal}
-use Rattle.der_base.proofs.Answering.{passed_on}
+use Rattle.der_base.proofs.Answering.{passed_on, answered, ok_weaker}
 use Rattle.der_base.proofs.DerWithinBer.{content_tall}
 use Rattle.der_base.proofs.ItemAnswers.{item_answer, some_content}
 use Rattle.der_object.specs.View.{content_tree, trees}
-use Rattle.der_der.proofs.Items.{sequence_content, set_content, header_refused, header_cut, size_refused, content_cut, content_refused, content_memory, element_read, leaf_content, header_shorter, read_more, read_all}
+use Rattle.der_der.proofs.Items.{sequence_content, set_content, header_refused, header_cut, size_refused, content_cut, content_refused, content_memory, object_read, leaf_content, header_shorter, read_more, read_all}
 use Rattle.der_der.proofs.reader.+reader.Goals as goal
-
-pub read_content-returns-then-eq : goal.read_content-returns-then-eq
-read_content-returns-then-eq t c =
-    let h = c.args.header in
-    let universal : class_of h ≡ Universal = search rules in
-    let constructed : is_constructed h ≡ true = search rules in
-    let number : number_of h ≡ 16 = search rules in
-    sequence_content c.args.content.now h c.in_ok-read_items.field-0 c.args.max_depth universal constructed number c.requires c.in_ok-read_items.ensures
-
-pub read_content-returns-then-eq-2 : goal.read_content-returns-then-eq-2
-read_content-returns-then-eq-2 t c =
-    let h = c.args.header in
-    let universal : class_of h ≡ Universal = search rules in
-    let constructed : is_constructed h ≡ true = search rules in
-    let number : number_of h ≡ 17 = search rules in
-    set_content c.args.content.now h c.in_ok-read_items-2.field-0 c.args.max_depth universal constructed number c.requires c.in_ok-read_items-2.ensures
 
 pub read_element-returns-in_err-rest-clause-found : goal.read_element-returns-in_err-rest-clause-found
 read_element-returns-in_err-rest-clause-found t c =
@@ -56,50 +40,6 @@ read_element-returns-then-rest-length-clause-found t c =
     let size : c.in_ok-length.length ≡ found.size = (let stated = found.length in let taken = c.length.ensures in let is = c.in_ok-length.ensures in cc) in
     content_cut c.args.max_depth c.args.i.now c.in_ok-rest.rest.now (class_of h) (is_constructed h) (number_of h) found.size c.lacking.result (omega arith) found.begins (omega arith) (omega arith)
     (λ u. c.lacking.ensures.universal u ∙ size) (λ u. c.lacking.ensures.other u ∙ size)
-
-pub read_element-returns-in_err-content-clause-found : goal.read_element-returns-in_err-content-clause-found
-read_element-returns-in_err-content-clause-found t c =
-    let h = c.in_ok-rest.header in
-    let found = c.in_ok-rest.ensures.found in
-    let n = c.in_ok-length.length in
-    let rest = c.in_ok-rest.rest.now in
-    let w = c.split_at.result.0.now in
-    let r = c.split_at.result.1.now in
-    let i = c.args.i.now in
-    let d = c.args.max_depth in
-    let deep : 1 ≤ d = omega arith in
-    let size : n ≡ found.size = (let stated = found.length in let taken = c.length.ensures in let is = c.in_ok-length.ensures in cc) in
-    let small : found.size ≤ max_object_size = omega arith in
-    let parts : rest ≡ w ++ r = sym (ap (λ v. v ++ r) c.split_at.ensures.front ∙ ap (λ v. take n rest ++ v) c.split_at.ensures.back ∙ take-append-drop n rest) in
-    let whole : length w ≡ found.size = omega arith in
-    let p = err_from_is_err_and c.from_residual-in_err-content.result c.from_residual-in_err-content.ensures.1 in
-    rw (p.1, p.2) (passed_on _ _ c.in_err-content.field-0.0 c.in_err-content.ensures
-    (λ e q. content_refused d i rest w r (class_of h) (is_constructed h) (number_of h) found.size e deep found.begins small parts whole q)
-    (λ m q. absurd q)
-    (λ m. content_memory d i rest w r (class_of h) (is_constructed h) (number_of h) found.size found.begins parts whole m))
-
-pub read_element-returns-clause-found : goal.read_element-returns-clause-found
-read_element-returns-clause-found t c =
-    let h = c.in_ok-rest.header in
-    let found = c.in_ok-rest.ensures.found in
-    let n = c.in_ok-length.length in
-    let rest = c.in_ok-rest.rest.now in
-    let w = c.split_at.result.0.now in
-    let r = c.split_at.result.1.now in
-    let size : n ≡ found.size = (let stated = found.length in let taken = c.length.ensures in let is = c.in_ok-length.ensures in cc) in
-    let small : found.size ≤ max_object_size = omega arith in
-    let parts : rest ≡ w ++ r = sym (ap (λ v. v ++ r) c.split_at.ensures.front ∙ ap (λ v. take n rest ++ v) c.split_at.ensures.back ∙ take-append-drop n rest) in
-    let whole : length w ≡ found.size = omega arith in
-    let content = c.in_ok-content.ensures in
-    rw (c.from_header_and_content.ensures.header, c.from_header_and_content.ensures.content)
-    (element_read c.args.i.now rest w r (record { header = h; content = c.in_ok-content.content }) found.size c.args.max_depth found.begins found.length found.raw_tag small parts whole content)
-
-pub read_element-returns-clause-shorter : goal.read_element-returns-clause-shorter
-read_element-returns-clause-shorter t c =
-    let h = c.in_ok-rest.header in
-    let found = c.in_ok-rest.ensures.found in
-    let s = header_shorter c.args.i.now c.in_ok-rest.rest.now (class_of h) (is_constructed h) (number_of h) found.size found.begins in
-    omega (arith, s, c.split_at.ensures.back_len)
 
 pub read_items-returns-in_err-push-in-Ok : goal.read_items-returns-in_err-push-in-Ok
 read_items-returns-in_err-push-in-Ok t c =
@@ -129,20 +69,67 @@ read_items-returns t c =
     let none : length c.loop-rest.rest.now ≡ 0 = grind (arith, nat_tests) in
     read_all c.args.content.now c.loop-rest.rest.now c.loop-rest.items.items c.args.max_depth c.loop-rest.invariant none
 
-pub read_content-returns-in_err-read_leaf : goal.read_content-returns-in_err-read_leaf
-read_content-returns-in_err-read_leaf t c =
+pub read_element-returns-clause-found : goal.read_element-returns-clause-found
+read_element-returns-clause-found t c =
+    let h = c.in_ok-rest.header in
+    let found = c.in_ok-rest.ensures.found in
+    let n = c.in_ok-length.length in
+    let rest = c.in_ok-rest.rest.now in
+    let w = c.split_at.result.0.now in
+    let r = c.split_at.result.1.now in
+    let i = c.args.i.now in
+    let d = c.args.max_depth in
+    let deep : 1 ≤ d = omega arith in
+    let size : n ≡ found.size = (let stated = found.length in let taken = c.length.ensures in let is = c.in_ok-length.ensures in cc) in
+    let small : found.size ≤ max_object_size = omega arith in
+    let parts : rest ≡ w ++ r = sym (ap (λ v. v ++ r) c.split_at.ensures.front ∙ ap (λ v. take n rest ++ v) c.split_at.ensures.back ∙ take-append-drop n rest) in
+    let whole : length w ≡ found.size = omega arith in
+    answered _ _ c.read_object.result c.read_object.ensures
+    (λ x q. object_read i rest w r x.0.now h x.1 found.size d found.begins found.length found.raw_tag small parts whole q)
+    (λ e q. content_refused d i rest w r (class_of h) (is_constructed h) (number_of h) found.size e deep found.begins small parts whole q)
+    (λ m q. absurd q)
+    (λ m. content_memory d i rest w r (class_of h) (is_constructed h) (number_of h) found.size found.begins parts whole m)
+
+pub read_element-returns-clause-shorter : goal.read_element-returns-clause-shorter
+read_element-returns-clause-shorter t c =
+    let h = c.in_ok-rest.header in
+    let found = c.in_ok-rest.ensures.found in
+    let s = header_shorter c.args.i.now c.in_ok-rest.rest.now (class_of h) (is_constructed h) (number_of h) found.size found.begins in
+    ok_weaker _ _ _ c.read_object.result _ c.read_object.ensures (λ x q. omega (arith, s, ap length q.0, c.split_at.ensures.back_len))
+
+pub read_object-returns-in_err-content : goal.read_object-returns-in_err-content
+read_object-returns-in_err-content t c =
     let h = c.args.header in
     let universal : class_of h ≡ Universal = search rules in
     let mapped : IsTrue (is_mapped (number_of h)) = search rules in
-    let refused : DerLeafRefuses (is_constructed h) (number_of h) c.args.content.now (refusal c.in_err-read_leaf.field-0.0) = rw (← c.constructed.ensures, ← c.tag-tag.ensures) c.in_err-read_leaf.ensures in
-    let p = err_from_is_err_and c.from_residual-in_err-read_leaf.result c.from_residual-in_err-read_leaf.ensures.1 in
+    let refused : DerLeafRefuses (is_constructed h) (number_of h) c.args.octets.now (refusal c.in_err-content.field-0.0) = rw (← c.constructed.ensures, ← c.tag-tag.ensures) c.in_err-content.ensures in
+    let p = err_from_is_err_and c.from_residual-in_err-content.result c.from_residual-in_err-content.ensures.1 in
     rw (p.1, p.2) (universal, mapped, inl refused)
 
-pub read_content-returns-then-is_mapped : goal.read_content-returns-then-is_mapped
-read_content-returns-then-is_mapped t c =
+pub read_object-returns-then-eq : goal.read_object-returns-then-eq
+read_object-returns-then-eq t c =
     let h = c.args.header in
-    let w = c.args.content.now in
-    let x = c.in_ok-read_leaf.field-0 in
     let universal : class_of h ≡ Universal = search rules in
-    let read : (is_constructed h ≡ false) × IsDerLeaf (number_of h) (content_tree x) × (w ≡ content_octets (content_tree x)) = rw (← c.constructed.ensures, ← c.tag-tag.ensures) c.in_ok-read_leaf.ensures in
-    leaf_content w h x c.args.max_depth universal c.requires read.0 read.1 read.2
+    let constructed : is_constructed h ≡ true = search rules in
+    let number : number_of h ≡ 16 = search rules in
+    let e = c.from_header_and_content-then-eq.ensures in
+    (refl, e.header, rw e.content (sequence_content c.args.octets.now h c.in_ok-read_items.field-0 c.args.max_depth universal constructed number c.requires c.in_ok-read_items.ensures))
+
+pub read_object-returns-then-eq-2 : goal.read_object-returns-then-eq-2
+read_object-returns-then-eq-2 t c =
+    let h = c.args.header in
+    let universal : class_of h ≡ Universal = search rules in
+    let constructed : is_constructed h ≡ true = search rules in
+    let number : number_of h ≡ 17 = search rules in
+    let e = c.from_header_and_content-then-eq-2.ensures in
+    (refl, e.header, rw e.content (set_content c.args.octets.now h c.in_ok-read_items-2.field-0 c.args.max_depth universal constructed number c.requires c.in_ok-read_items-2.ensures))
+
+pub read_object-returns-then-is_mapped : goal.read_object-returns-then-is_mapped
+read_object-returns-then-is_mapped t c =
+    let h = c.args.header in
+    let w = c.args.octets.now in
+    let x = c.in_ok-content.content in
+    let universal : class_of h ≡ Universal = search rules in
+    let read : (is_constructed h ≡ false) × IsDerLeaf (number_of h) (content_tree x) × (w ≡ content_octets (content_tree x)) = rw (← c.constructed.ensures, ← c.tag-tag.ensures) c.in_ok-content.ensures in
+    let e = c.from_header_and_content-then-is_mapped.ensures in
+    (refl, e.header, rw e.content (leaf_content w h x c.args.max_depth universal c.requires read.0 read.1 read.2))
