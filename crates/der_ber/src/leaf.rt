@@ -31,6 +31,8 @@ pub fn read_leaf<'a>(
         (λ x. IsLeafContent constructed tag.0 content.now (content_tree x))
         (λ e. BerLeafRefuses constructed tag.0 content.now (refusal e)) }
 {
+    // Times and strings are calls, whose answers are copied by `Ok(..?)`; the other readers are
+    // compiled in (docs/PERFORMANCE.md).
     match tag {
         Tag::EndOfContent => Ok(BerObjectContent::EndOfContent),
         Tag::Boolean => read_boolean(constructed, content),

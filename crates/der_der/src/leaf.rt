@@ -31,6 +31,7 @@ pub fn read_leaf<'a>(
     if constructed {
         return Err(BerError::DerConstraintFailed(DerConstraint::Constructed));
     }
+    // The answer of a call is copied, by `Ok(..?)`; BER's reader is compiled in.
     match tag {
         Tag::UtcTime | Tag::GeneralizedTime => Ok(read_moment(tag, content)?),
         _ => {
