@@ -3,11 +3,11 @@ use Rattle.std.proofs.Common.{◌≢◌, ℕ, ◌≤◌, List, [], length, refl,
 use Rattle.der_base.specs.Laws.{AreGroups, HaveOneBerRefusal, HaveOneDerRefusal, OctetsAreShortest, LengthsAreShortest, IntegersAreShortest, MinimalIsShortest, GroupsAreShortest}
 use Rattle.der_base.specs.LeafRefusal.{ber_tests, der_tests}
 use Rattle.der_base.specs.Octets.{octets, groups}
-use Rattle.der_base.proofs.Each.{each_from_all, all_from_each}
-use Rattle.der_base.proofs.Identifiers.{number_octets}
-use Rattle.der_base.proofs.Refusals.{first_refusal_once}
-use Rattle.der_base.proofs.MinimalIntegers.{minimal_fewest, minimal_one, fewest_minimal, some_of_minimal}
-use Rattle.der_base.proofs.Shortest.{IsOctet, octets_are, octets_fewest, number_same, shortest_length_are, shortest_length_spells, shortest_length_fewest, shortest_length_one, shortest_integer_are, shortest_integer_some, integer_shortest, shortest_integer_fewest, shortest_integer_one, groups_are, groups_spell, groups_fewest, groups_one}
+use Rattle.der_base.proofs.AllByRecursion.{each_from_all, all_from_each}
+use Rattle.der_base.proofs.Octets.Identifiers.{number_octets}
+use Rattle.der_base.proofs.Leaves.Refusals.{first_refusal_once}
+use Rattle.der_base.proofs.Octets.MinimalIntegers.{minimal_fewest, minimal_one, fewest_minimal, some_of_minimal}
+use Rattle.der_base.proofs.Octets.Shortest.{IsOctet, octets_are, octets_fewest, number_same, shortest_length_are, shortest_length_spells, shortest_length_fewest, shortest_length_one, shortest_integer_are, shortest_integer_some, integer_shortest, shortest_integer_fewest, shortest_integer_one, groups_are, groups_spell, groups_fewest, groups_one}
 
 pub one_ber_refusal : HaveOneBerRefusal
 one_ber_refusal p t w e e' h g = first_refusal_once (ber_tests p t w) e e' h g

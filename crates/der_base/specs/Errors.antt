@@ -13,8 +13,8 @@ MapsError {E} {X} R (Failure e) new = (x : X) × R e x × (new ≡ Failure x)
 MapsError R OutOfMemory new = new ≡ OutOfMemory
 
 -- the answer for an item that its list cuts short: more octets behind the list do not help
-abbrev pub CutsItem : Err BerError → Err BerError → Type 0
-CutsItem (Incomplete n) new = new ≡ Error (CutShort n)
-CutsItem (Error e) new = new ≡ Error e
-CutsItem (Failure e) new = new ≡ Failure e
-CutsItem OutOfMemory new = new ≡ OutOfMemory
+abbrev pub RefusesCutItem : Err BerError → Err BerError → Type 0
+RefusesCutItem (Incomplete n) new = new ≡ Error (CutShort n)
+RefusesCutItem (Error e) new = new ≡ Error e
+RefusesCutItem (Failure e) new = new ≡ Failure e
+RefusesCutItem OutOfMemory new = new ≡ OutOfMemory

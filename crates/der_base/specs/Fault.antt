@@ -68,6 +68,11 @@ abbrev pub ItemRefuses : (List ℕ → Refusal → Type 0) → (List ℕ → ℕ
 ItemRefuses faults lacks r e = (r ≢ [])
     × (faults r e ⊎ ((n : ℕ) × IsCut r × lacks r n × ((x : Refusal) → ¬ faults r x) × (e ≡ incomplete (Size n))))
 
+-- The content octets w of a mapped universal type show the refusal, in themselves or in an item. Items are read to depth d, and faults are those of an item.
+abbrev pub ShowsWithin : (List ℕ → Refusal → Type 0) → ℕ → Bool → ℕ → List ℕ → Refusal → Type 0
+ShowsWithin faults d p t w e = BerLeafRefuses p t w e
+    ⊎ (IsTrue (is_list t) × (p ≡ true) × (l : Nodes) × (fs : Forms) × (u r : List ℕ) × (w ≡ u ++ r) × Joins u l fs d framing_budget × ItemRefuses faults Lacks r e)
+
 -- A front of i shows the refusal, to depth d (the depth comes first: the definition recurses on it).
 abbrev pub ShowsFault : ℕ → List ℕ → Refusal → Type 0
 ShowsFault zero i e = e ≡ max_depth
@@ -77,15 +82,10 @@ ShowsFault (suc d) i e =
     -- in the framing of an indefinite length
     ⊎ ((c : Class) × (t : ℕ) × (v : List ℕ) × (t < 2 ^ 32) × (i ≡ identifier c true t ++ 128 ∷ v) × InsideRefuses v framing_budget e)
     -- in the content
-    ⊎ ((p : Bool) × (t : ℕ) × (w rest : List ℕ) × BeginsWithElement i framing_budget Universal p t w rest × IsTrue (is_mapped t)
-    × (BerLeafRefuses p t w e
-    -- in an item
-    ⊎ (IsTrue (is_list t) × (p ≡ true) × (l : Nodes) × (fs : Forms) × (u r : List ℕ) × (w ≡ u ++ r) × Joins u l fs d framing_budget × ItemRefuses (ShowsFault d) Lacks r e)))
+    ⊎ ((p : Bool) × (t : ℕ) × (w rest : List ℕ) × BeginsWithElement i framing_budget Universal p t w rest × IsTrue (is_mapped t) × ShowsWithin (ShowsFault d) d p t w e)
 
--- the content octets w of a mapped universal type show the refusal, where items are read to depth d
 abbrev pub ShowsInside : ℕ → Bool → ℕ → List ℕ → Refusal → Type 0
-ShowsInside d p t w e = BerLeafRefuses p t w e
-    ⊎ (IsTrue (is_list t) × (p ≡ true) × (l : Nodes) × (fs : Forms) × (u r : List ℕ) × (w ≡ u ++ r) × Joins u l fs d framing_budget × ItemRefuses (ShowsFault d) Lacks r e)
+ShowsInside d p t w e = ShowsWithin (ShowsFault d) d p t w e
 
 -- u joins the DER spellings of the items
 abbrev pub DerJoins : List ℕ → Nodes → ℕ → Type 0
@@ -93,16 +93,17 @@ DerJoins u no_nodes d = u ≡ []
 DerJoins u (nodes o l) d = (b rest : List ℕ) × (u ≡ b ++ rest) × DerSpells b o d × DerJoins rest l d
 
 -- The same for DER.
+abbrev pub DerShowsWithin : (List ℕ → Refusal → Type 0) → ℕ → Bool → ℕ → List ℕ → Refusal → Type 0
+DerShowsWithin faults d p t w e = DerLeafRefuses p t w e
+    ⊎ (IsTrue (is_list t) × (p ≡ true) × (l : Nodes) × (u r : List ℕ) × (w ≡ u ++ r) × DerJoins u l d × ItemRefuses faults DerLacks r e)
+
 abbrev pub DerShowsFault : ℕ → List ℕ → Refusal → Type 0
 DerShowsFault zero i e = e ≡ max_depth
 DerShowsFault (suc d) i e =
     DerHeaderRefuses i e
     -- in the size
     ⊎ ((c : Class) × (p : Bool) × (t n : ℕ) × (r : List ℕ) × (t < 2 ^ 32) × (i ≡ identifier c p t ++ shortest_length n ++ r) × (n < 2 ^ 64) × (max_object_size < n) × (e ≡ invalid_length))
-    ⊎ ((p : Bool) × (t : ℕ) × (w rest : List ℕ) × (t < 2 ^ 32) × (i ≡ element Universal p t w ++ rest) × (length w ≤ max_object_size) × IsTrue (is_mapped t)
-    × (DerLeafRefuses p t w e
-    ⊎ (IsTrue (is_list t) × (p ≡ true) × (l : Nodes) × (u r : List ℕ) × (w ≡ u ++ r) × DerJoins u l d × ItemRefuses (DerShowsFault d) DerLacks r e)))
+    ⊎ ((p : Bool) × (t : ℕ) × (w rest : List ℕ) × (t < 2 ^ 32) × (i ≡ element Universal p t w ++ rest) × (length w ≤ max_object_size) × IsTrue (is_mapped t) × DerShowsWithin (DerShowsFault d) d p t w e)
 
 abbrev pub DerShowsInside : ℕ → Bool → ℕ → List ℕ → Refusal → Type 0
-DerShowsInside d p t w e = DerLeafRefuses p t w e
-    ⊎ (IsTrue (is_list t) × (p ≡ true) × (l : Nodes) × (u r : List ℕ) × (w ≡ u ++ r) × DerJoins u l d × ItemRefuses (DerShowsFault d) DerLacks r e)
+DerShowsInside d p t w e = DerShowsWithin (DerShowsFault d) d p t w e

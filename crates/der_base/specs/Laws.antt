@@ -109,14 +109,6 @@ SpellingsShowNoFault = (d : ℕ) (i b rest : List ℕ) (o : Node) (e : Refusal) 
 abbrev pub DerSpellingsShowNoFault : Type 0
 DerSpellingsShowNoFault = (d : ℕ) (i b rest : List ℕ) (o : Node) (e : Refusal) → i ≡ b ++ rest → DerSpells b o d → ¬ DerShowsFault d i e
 
--- i begins with a spelling of the tree to depth d, and rest follows
-abbrev pub BeginsWithBer : ℕ → List ℕ → Node → List ℕ → Type 0
-BeginsWithBer d i o rest = (b : List ℕ) × (i ≡ b ++ rest) × BerSpells b o d framing_budget
-
--- the same by DER
-abbrev pub BeginsWithDer : ℕ → List ℕ → Node → List ℕ → Type 0
-BeginsWithDer d i o rest = (b : List ℕ) × (i ≡ b ++ rest) × DerSpells b o d
-
 -- octets appended to an input leave the refusal that it shows
 abbrev pub AppendedLeaveFaults : (ℕ → List ℕ → Refusal → Type 0) → Type 0
 AppendedLeaveFaults faults = (d : ℕ) (i z : List ℕ) (e : Refusal) → faults d i e → faults d (i ++ z) e

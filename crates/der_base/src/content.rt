@@ -37,7 +37,7 @@ pub fn read_content<'a>(
 
 /// A content of so many octets.
 #[inline]
-fn read_definite(i: &[u8], length: usize) -> IResult<&[u8], &[u8], BerError>
+pub fn read_definite(i: &[u8], length: usize) -> IResult<&[u8], &[u8], BerError>
     ensures { MatchAnswer result
         (λ x. BeginsWithContent i.now (Length.Definite length) 0 x.1.now x.0.now)
         (λ _. ⊥)
@@ -85,7 +85,7 @@ fn read_to_end_marker<'a>(
 
 /// Whether the two octets of an end marker stand in front (X.690 8.1.5).
 #[inline]
-fn begins_with_end_marker(i: &[u8]) -> bool
+pub fn begins_with_end_marker(i: &[u8]) -> bool
     ensures { MatchBool result ((rest : List ℕ) × (i.now ≡ end_marker ++ rest)) ((rest : List ℕ) → ¬ (i.now ≡ end_marker ++ rest)) }
 {
     matches!(i, [0, 0, ..])

@@ -1,6 +1,6 @@
 //! Refusals, and what a parser answers in place of a value.
 ghost use Rattle.std.specs.Prelude.{◌≡◌, ◌≢◌, None};
-ghost use Rattle.der_base.specs.Errors.{CutsItem, MapsError};
+ghost use Rattle.der_base.specs.Errors.{RefusesCutItem, MapsError};
 ghost use Rattle.der_base.specs.declared.error.Err.TheVariants.{Error as an_error, OutOfMemory as out_of_memory};
 ghost use Rattle.der_base.specs.declared.error.Error.TheVariants.{NomError};
 
@@ -50,8 +50,8 @@ impl<E> Err<E> {
 
 /// The answer for an item of a list: one that the end of its list cuts short is refused, since
 /// more octets behind the list don't help.
-pub fn cut_item(e: Err<BerError>) -> Err<BerError>
-    ensures { CutsItem e result }
+pub fn refuse_cut_item(e: Err<BerError>) -> Err<BerError>
+    ensures { RefusesCutItem e result }
 {
     match e {
         Err::Incomplete(needed) => Err::Error(BerError::Incomplete(needed)),

@@ -2,7 +2,7 @@
 ghost use Rattle.std.specs.Prelude.{◌≡◌, ◌+◌, ◌^◌, ◌<◌, ◌≤◌, ◌∷◌, ◌++◌};
 ghost use Rattle.der_base.specs.Answer.{MatchAnswer};
 ghost use Rattle.der_base.specs.Fault.{HasBadTag};
-ghost use Rattle.der_base.specs.Identifier.{ReadsIdentifier, IsCutIdentifier};
+ghost use Rattle.der_base.specs.Inner.Identifier.{ReadsIdentifier, IsCutIdentifier};
 ghost use Rattle.der_base.specs.Octets.{leading_bits, groups};
 ghost use Rattle.der_base.specs.Refusal.{invalid_tag};
 

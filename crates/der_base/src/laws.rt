@@ -20,13 +20,12 @@ ghost use Rattle.der_base.specs.Laws.{
   FaultsAreOne,
   SpellingsShowNoFault,
   DerSpellingsShowNoFault,
-  BeginsWithBer,
-  BeginsWithDer,
   AppendedLeaveFaults,
   AppendedLengthenRests,
   EncodingIsNormalForm,
 };
 ghost use Rattle.der_base.specs.Fault.{ShowsFault, DerShowsFault};
+ghost use Rattle.der_base.specs.Spelling.{BeginsWithBer, BeginsWithDer};
 
 /// Content octets of a universal type have one content by BER, and are written for one by DER.
 pub fn one_content()

@@ -146,7 +146,7 @@ impl PartialEq for Oid<'_> {
     ghost use Rattle.std.specs.Cmp.Rules.{comparing};
     ghost use Rattle.std.proofs.Common.{rules};
     ghost use Rattle.der_base.specs.Oids.{octets_of, is_relative_of};
-    ghost use Rattle.der_base.specs.Same.{same_octets};
+    ghost use Rattle.der_base.specs.TreeEquality.{same_octets};
     ghost use mathlib.Core.Bool.{beq};
 
     ghost eq = { eq_of_both (on octets_of same_octets) (on is_relative_of beq) };

@@ -6,9 +6,7 @@ use der_parser::ber::HeaderCount;
 use std::process::Abort;
 use std::test::Fail;
 
-/// A reader, octets, and how many headers are read, end markers too. The headers inside an
-/// indefinite length are read once to find its end, and once more where its content is read as
-/// items.
+/// A reader, octets, and how many headers are read, end markers too. None is read twice.
 #[rattlefmt::skip]
 const COUNTS: &[(Reader, &str, u128)] = &[
     (ParseBerCounted(0), "02 01 05", 0),
@@ -28,13 +26,21 @@ const COUNTS: &[(Reader, &str, u128)] = &[
     (ParseBerCounted(50), "30 80", 2),
     (ParseBerCounted(50), "a0 80 05 00 00 00", 3),
     (ParseBerCounted(1), "30 80 05 00 00 00", 3),
-    (ParseBerCounted(50), "30 80 05 00 00 00", 4),
+    (ParseBerCounted(50), "30 80 05 00 00 00", 3),
     (ParseBerCounted(50), "30 80 05 00 02 ff", 3),
     (ParseBerCounted(50), "30 04 30 80 00 00", 3),
-    (ParseBerCounted(50), "30 80 30 02 05 00 00 00", 5),
-    (ParseBerCounted(50), "30 80 30 80 00 00 00 00", 6),
-    (ParseBerCounted(50), "30 80 a0 80 05 00 00 00 00 00", 8),
+    (ParseBerCounted(50), "30 80 30 02 05 00 00 00", 4),
+    (ParseBerCounted(50), "30 80 30 80 00 00 00 00", 4),
+    (ParseBerCounted(50), "30 80 a0 80 05 00 00 00 00 00", 5),
     (ParseBerCounted(50), "30.80*50 00 00", 51),
+    (ParseBerCounted(50), "30 80 05.00*1000 00 00", 1002),
+    (ParseBerCounted(50), "30.80*49 00.00*49", 98),
+    (ParseBerCounted(50), "a0.80*49 00.00*49", 98),
+    (ParseBerCounted(50), "30 04 30 80 00 00 30 04 30 80 00 00", 3),
+    (ParseBerCounted(50), "30 08 30 80 05 00 00 00 05 00", 5),
+    (ParseBerCounted(50), "30 80 30 80 30 04 30 80 00 00 05 00 00 00 00 00", 8),
+    (ParseBerCounted(3), "30 80 30 80 30 80 05 00 00 00 00 00 00 00", 7),
+    (ParseBerCounted(50), "30 80 21 01 ff 02 ff", 3),
 
     (ParseDerCounted(0), "02 01 05", 0),
     (ParseDerCounted(50), "", 1),
@@ -49,12 +55,12 @@ const COUNTS: &[(Reader, &str, u128)] = &[
 ];
 
 /// A reader, the octets of an object, and how many headers it reads at least, the objects in it and
-/// itself, and at most: by BER one more than the octets, times one more than the depth.
+/// itself, and at most: one more than the octets.
 #[rattlefmt::skip]
 const BOUNDS: &[(Reader, &str, u128, u128)] = &[
-    (ParseBerCounted(50), "30 80 05.00*1000 00 00", 1001, 102255),
-    (ParseBerCounted(50), "30.80*49 00.00*49", 49, 10047),
-    (ParseBerCounted(50), "30 82 07 d0 05.00*1000", 1001, 102255),
+    (ParseBerCounted(50), "30 80 05.00*1000 00 00", 1001, 2005),
+    (ParseBerCounted(50), "30.80*49 00.00*49", 49, 197),
+    (ParseBerCounted(50), "30 82 07 d0 05.00*1000", 1001, 1001),
     (ParseDerCounted(50), "30 82 07 d0 05.00*1000", 1001, 1001),
 ];
 

@@ -30,8 +30,8 @@ fn headers_are_compared(rt: HostRuntime) {
     for (left, right, equal) in EQUALITY {
         let (left, right) = (header(left), header(right));
         assert_eq!(rt; left == right, *equal, "{left:?}, {right:?}");
-        let marked = right.with_raw_tag(Some(b"\x02"));
-        assert_eq!(rt; left == marked, *equal, "{left:?}, {marked:?}");
+        let headers = right.with_raw_tag(Some(b"\x02"));
+        assert_eq!(rt; left == headers, *equal, "{left:?}, {headers:?}");
     }
 }
 

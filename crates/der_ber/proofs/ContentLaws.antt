@@ -4,21 +4,25 @@ use Rattle.der_base.specs.declared.header.Class.TheVariants.{Universal}
 use Rattle.der_base.specs.declared.header.Length.{Length}
 use Rattle.der_base.specs.declared.header.Length.TheVariants.{Definite, Indefinite}
 use Rattle.der_base.specs.Fault.{ShowsFault}
-use Rattle.der_base.specs.Framed.{IsElement, definite, indefinite, HasContent}
+use Rattle.der_base.specs.Inner.Framed.{IsElement, definite, indefinite, HasContent}
 use Rattle.der_base.specs.Octets.{identifier, shortest_length}
 use Rattle.der_base.specs.Refusal.{Refusal}
 use Rattle.der_base.specs.Spelling.{end_marker, Forms, form, BerSpells, framing_budget}
 use Rattle.der_base.specs.Tree.{Content, node}
-use Rattle.der_base.proofs.BerFaults.{spelled_shows_nothing, shows_one}
-use Rattle.der_base.proofs.ContentLaws as framing
-use Rattle.der_base.proofs.Contents as contents
-use Rattle.der_base.proofs.Framed.{elements_more}
-use Rattle.der_base.proofs.FramingLaws.{framed_begins}
-use Rattle.der_base.proofs.Restated.{raws_are, content_now, open_now, content_then, open_then, restated_back}
-use Rattle.der_base.proofs.ShortestLengths.{shortest_spells}
-use Rattle.der_base.proofs.Times.{times_same}
+use Rattle.der_base.proofs.Spellings.BerFaults.{spelled_shows_nothing, shows_one}
+use Rattle.der_base.proofs.Framing.ContentLaws as framing
+use Rattle.der_base.proofs.Spellings.Contents as contents
+use Rattle.der_base.proofs.Framing.Framed.{elements_more}
+use Rattle.der_base.proofs.Answers.Exactness.{ShowsOne}
+use Rattle.der_base.proofs.Framing.FramingLaws.{framed_begins}
+use Rattle.der_base.proofs.Framing.FramedIsSpelling.{raws_are, content_now, open_now, content_then, open_then, restated_back}
+use Rattle.der_base.proofs.Octets.ShortestLengths.{shortest_spells}
+use Rattle.der_base.proofs.Times.OneReading.{times_same}
+use Rattle.der_object.specs.HeaderFacts.{inner_forms}
+use Rattle.der_object.specs.Readings.{content_value_of}
+use Rattle.der_object.specs.View.{content_tree}
 use Rattle.der_ber.specs.BerReading.{ContentRefuses}
-use Rattle.der_ber.specs.BerContents.{FramesContent, FrameRefuses, FrameLacks, IsContentAs, ContentAsRefuses}
+use Rattle.der_ber.specs.BerContents.{FramesContent, FrameRefuses, FrameLacks, IsContentAs, ReadsContentAs, SpellsContentAs, ContentAsRefuses}
 use Rattle.der_ber.proofs.Items.{content_refused}
 
 -- framing
@@ -123,3 +127,15 @@ content_as_refusal_same l p d t i e e' h (inr (w, rest, f, r)) (inr (w', rest', 
 pub content_as_refused_not_lacking : (l : Length) (p : Bool) (d t : ℕ) (i : List ℕ) (e : Refusal) (n : ℕ) → ContentAsRefuses t l p d i e → FrameLacks l p d i n → ⊥
 content_as_refused_not_lacking l p d t i e n (inl r) k = frame_refused_not_lacking l p d i e n r k
 content_as_refused_not_lacking l p d t i e n (inr (w, rest, f, r)) k = frames_not_lacking l p d i w rest n f k
+
+-- of a content, a refusal and a lack, an input shows one at most
+pub content_shows_one : (t : ℕ) (l : Length) (p : Bool) (d : ℕ) (i : List ℕ) → t < 2 ^ 32 → ShowsOne content_value_of (λ x. ReadsContentAs t l p d i x.1 x.0.now) (SpellsContentAs t l p d i) (ContentAsRefuses t l p d i) (FrameLacks l p d i)
+content_shows_one t l p d i fits = record {
+  spelled = λ x r. (r.octets, inner_forms x.1, r.framed, r.content);
+  one_value = λ x v r s. (let z = content_as_same l p d t i r.octets s.0 x.0.now v.1 (content_tree x.1) v.0 (inner_forms x.1) s.1 r.framed r.content s.2 s.3 in ap (λ y. (y, x.0.now)) z.0 ∙ ap (λ w. (v.0, w)) z.1);
+  one_refusal = λ e e' r r'. content_as_refusal_same l p d t i e e' fits r r';
+  one_lack = λ n n' h h'. frame_lacks_same l p d i n n' h h';
+  not_refused = λ v e s r. content_as_not_refused l p d t i s.0 v.1 v.0 s.1 e fits s.2 s.3 r;
+  not_lacking = λ v n s h. frames_not_lacking l p d i s.0 v.1 n s.2 h;
+  not_both = λ e n r h. content_as_refused_not_lacking l p d t i e n r h;
+}

@@ -4,5 +4,6 @@ pub mod Items
 pub mod Leaves
 pub mod ReadingLaws
 pub mod Slices
+pub mod SpanItems
 pub mod TypedLaws
 pub mod WantedNumbers

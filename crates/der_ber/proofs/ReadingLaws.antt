@@ -1,10 +1,14 @@
 -- An object that begins the input, a refusal, and an input that is cut short: one of them holds at most, and each in one way.
-use Rattle.std.proofs.Common.{◌≡◌, ℕ, List, ◌++◌, refl, sym, ◌∙◌}
-use Rattle.der_base.specs.Spelling.{BerSpells, framing_budget}
+use Rattle.std.proofs.Common.{◌≡◌, ℕ, List, ◌++◌, refl, sym, ap, ◌∙◌}
+use Rattle.der_base.specs.Spelling.{BeginsWithBer, BerSpells, framing_budget}
 use Rattle.der_base.specs.Tree.{Node}
-use Rattle.der_base.proofs.BerFaults as faults
-use Rattle.der_base.proofs.Cuts.{lacks_same}
-use Rattle.der_ber.specs.BerReading.{BerIsCut}
+use Rattle.der_base.proofs.Spellings.BerFaults as faults
+use Rattle.der_base.proofs.Framing.Cuts.{lacks_same}
+use Rattle.der_base.proofs.Answers.Exactness.{ShowsOne}
+use Rattle.der_base.specs.Fault.{ShowsFault}
+use Rattle.der_object.specs.HeaderFacts.{form_of}
+use Rattle.der_object.specs.Readings.{value_of}
+use Rattle.der_ber.specs.BerReading.{BerIsCut, ReadsBer}
 
 pub spelled_not_cut : (d : ℕ) (i b rest : List ℕ) (o : Node) (n : ℕ) → i ≡ b ++ rest → BerSpells b o d framing_budget → BerIsCut d i n → ⊥
 spelled_not_cut d i b rest o n q s k = faults.spelled_not_cut i b rest o d s q k.0
@@ -14,3 +18,15 @@ cut_same d i n n' h h' = lacks_same h.1 h'.1 refl
 
 pub spelled_same : (d : ℕ) (i b b' rest rest' : List ℕ) (o o' : Node) → i ≡ b ++ rest → BerSpells b o d framing_budget → i ≡ b' ++ rest' → BerSpells b' o' d framing_budget → (o ≡ o') × (rest ≡ rest')
 spelled_same d i b b' rest rest' o o' q s q' s' = let z = faults.spelling_same b b' rest rest' o o' d d s s' (sym q ∙ q') in (z.1, z.2)
+
+-- of an object, a refusal and a cut, an input shows one at most
+pub ber_shows_one : (d : ℕ) (i : List ℕ) → ShowsOne value_of (λ x. ReadsBer d i x.1 x.0.now) (λ v. BeginsWithBer d i v.0 v.1) (ShowsFault d i) (BerIsCut d i)
+ber_shows_one d i = record {
+  spelled = λ x r. (r.spelling, r.octets, (form_of x.1, r.spells));
+  one_value = λ x v r s. (let z = spelled_same d i r.spelling s.0 x.0.now v.1 (value_of x).0 v.0 r.octets (form_of x.1, r.spells) s.1 s.2 in ap (λ o. (o, x.0.now)) z.0 ∙ ap (λ w. (v.0, w)) z.1);
+  one_refusal = λ e e' r r'. faults.shows_one d i e e' r r';
+  one_lack = λ n n' h h'. cut_same d i n n' h h';
+  not_refused = λ v e s r. faults.spelled_shows_nothing d i s.0 v.1 v.0 e s.1 s.2 r;
+  not_lacking = λ v n s h. spelled_not_cut d i s.0 v.1 v.0 n s.1 s.2 h;
+  not_both = λ e n r h. h.2 e r;
+}

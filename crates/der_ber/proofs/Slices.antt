@@ -5,11 +5,11 @@ use Rattle.der_base.specs.declared.error.Error.{Error as BerError}
 use Rattle.der_base.specs.declared.error.Error.TheVariants.{NomError}
 use Rattle.der_base.specs.Answer.{MatchAnswer}
 use Rattle.der_base.specs.Refusal.{Refusal, unexpected_tag}
-use Rattle.der_base.specs.Runs.{OpeningLacks, RefusesBer, faulty, cut, too_short}
+use Rattle.der_base.specs.Containers.{OpeningLacks, RefusesBer, faulty, cut, too_short}
 use Rattle.der_base.specs.Spelling.{framing_budget}
-use Rattle.der_base.proofs.Framing.{begins_same}
-use Rattle.der_base.proofs.FramingLaws.{begins_not_refused, begins_not_cut, any_refusal_same}
-use Rattle.der_base.proofs.RunsLaws.{short_lacks, begins_not_short}
+use Rattle.der_base.proofs.Framing.UniqueSpelling.{begins_same}
+use Rattle.der_base.proofs.Framing.FramingLaws.{begins_not_refused, begins_not_cut, any_refusal_same}
+use Rattle.der_base.proofs.Containers.ContainerLaws.{short_lacks, begins_not_short}
 use Rattle.der_ber.specs.BerSlices.{ReadsSlice, SliceRefuses}
 
 -- what a container refuses, told by the errors of the crate

@@ -6,14 +6,16 @@ use Rattle.der_base.specs.declared.header.Length.{Length}
 use Rattle.der_base.specs.Header.{class_of, is_constructed, length_of}
 use Rattle.der_base.specs.Headers.{BeginsWithHeader}
 use Rattle.der_base.specs.Refusal.{Refusal, unexpected_tag}
-use Rattle.der_base.specs.Tree.{Content, node}
-use Rattle.der_base.proofs.BerHeaders.{ber_header_same, ber_header_not_refused, ber_header_not_lacking, ber_header_refusal_same}
-use Rattle.der_base.proofs.HeaderLaws.{header_lacks_same}
+use Rattle.der_base.specs.Tree.{Node, Content, node}
+use Rattle.der_base.proofs.Headers.BerHeaders.{ber_header_same, ber_header_not_refused, ber_header_not_lacking, ber_header_refusal_same}
+use Rattle.der_base.proofs.Headers.HeaderLaws.{header_lacks_same}
 use Rattle.der_object.specs.declared.object.BerObject.{BerObject}
 use Rattle.der_object.specs.declared.object.BerObjectContent.{BerObjectContent}
-use Rattle.der_object.specs.Marks.{inner_forms}
+use Rattle.der_object.specs.HeaderFacts.{inner_forms}
+use Rattle.der_base.proofs.Answers.Exactness.{ShowsOne}
+use Rattle.der_object.specs.Readings.{value_of}
 use Rattle.der_object.specs.View.{tree, content_tree}
-use Rattle.der_ber.specs.BerContents.{FramesContent, FrameLacks, IsContentAs, ReadsContentAs, ContentAsRefuses, ReadsHeaderOf, ReadsTyped, BeginsWithTyped, HeaderOfRefuses, TypedRefuses, TypedLacks}
+use Rattle.der_ber.specs.BerContents.{FramesContent, FrameLacks, IsContentAs, ReadsContentAs, ContentAsRefuses, ReadsHeaderOf, ReadsTyped, BeginsWithTyped, HeaderOfRefuses, SpellsTyped, TypedRefuses, TypedLacks}
 use Rattle.der_ber.proofs.ContentLaws.{frames_not_lacking, frame_lacks_same, content_as_same, content_as_not_refused, content_as_refusal_same, content_as_refused_not_lacking}
 
 -- two headers in front are one: so what is said of the octets behind one is said of those behind the other
@@ -91,3 +93,26 @@ typed_lacks_same t i n n' (inl h) (inr (c', p', l', v', b', h')) = absurd (ber_h
 typed_lacks_same t i n n' (inr (c, p, l, v, b, h)) (inl h') = absurd (ber_header_not_lacking i v c p t l n' b h'.1)
 typed_lacks_same t i n n' (inr (c, p, l, v, b, h)) (inr (c', p', l', v', b', h')) =
     frame_lacks_same l p 50 v n n' h (behind_same (λ l p v. FrameLacks l p 50 v n') i v v' c c' p p' t t l l' b b' h')
+
+spells_same : (t : ℕ) (i : List ℕ) (o : BerObject) (rest : List ℕ) (v : Node × List ℕ) → ReadsTyped t i o rest → SpellsTyped t i v → (tree o, rest) ≡ v
+spells_same t i o rest (node c p n x, rest') r (e, b) =
+    let z = typed_same t i o rest rest' c p x r b in
+    ap (λ o. (o, rest)) z.0 ∙ ap (λ w. (node c p t x, w)) z.1 ∙ ap (λ n. (node c p n x, rest')) (sym e)
+
+spelled_not_refused : (t : ℕ) (i : List ℕ) (v : Node × List ℕ) (e : Refusal) → t < 2 ^ 32 → SpellsTyped t i v → TypedRefuses t i e → ⊥
+spelled_not_refused t i (node c p n x, rest) e fits (q, b) r = typed_not_refused t i c p x rest e fits b r
+
+spelled_not_lacking : (t : ℕ) (i : List ℕ) (v : Node × List ℕ) (n : ℕ) → SpellsTyped t i v → TypedLacks t i n → ⊥
+spelled_not_lacking t i (node c p m x, rest) n (q, b) h = typed_not_lacking t i c p x rest n b h
+
+-- of an object of one number, a refusal and a lack, an input shows one at most
+pub typed_shows_one : (t : ℕ) (i : List ℕ) → t < 2 ^ 32 → ShowsOne value_of (λ x. ReadsTyped t i x.1 x.0.now) (SpellsTyped t i) (TypedRefuses t i) (TypedLacks t i)
+typed_shows_one t i fits = record {
+  spelled = λ x r. (r.header.number, typed_begins t i x.1 x.0.now r);
+  one_value = λ x v r s. spells_same t i x.1 x.0.now v r s;
+  one_refusal = λ e e' r r'. typed_refusal_same t i e e' fits r r';
+  one_lack = λ n n' h h'. typed_lacks_same t i n n' h h';
+  not_refused = λ v e s r. spelled_not_refused t i v e fits s r;
+  not_lacking = λ v n s h. spelled_not_lacking t i v n s h;
+  not_both = λ e n r h. typed_refused_not_lacking t i e n r h;
+}

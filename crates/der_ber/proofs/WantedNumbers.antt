@@ -4,12 +4,16 @@ use Rattle.der_base.specs.declared.header.Class.{Class}
 use Rattle.der_base.specs.Any.{AnyRefuses}
 use Rattle.der_base.specs.Cut.{IsCut}
 use Rattle.der_base.specs.Refusal.{Refusal, unexpected_tag}
-use Rattle.der_base.specs.Spelling.{BeginsWithElement, BerSpells, framing_budget}
-use Rattle.der_base.specs.Tree.{node, Content}
-use Rattle.der_base.proofs.BerFaults.{spelled_begins, spelled_shows_nothing, shows_one}
-use Rattle.der_base.proofs.Framing.{begins_same}
-use Rattle.der_base.proofs.FramingLaws.{begins_not_cut, begins_not_refused}
-use Rattle.der_ber.specs.BerReading.{BerIsCut, IsOther, NumberRefuses}
+use Rattle.der_base.specs.Spelling.{BeginsWithBer, BeginsWithElement, BerSpells, framing_budget}
+use Rattle.der_base.specs.Header.{number_of}
+use Rattle.der_base.specs.Tree.{Node, node, Content}
+use Rattle.der_base.proofs.Spellings.BerFaults.{spelled_begins, spelled_shows_nothing, shows_one}
+use Rattle.der_base.proofs.Framing.UniqueSpelling.{begins_same}
+use Rattle.der_base.proofs.Framing.FramingLaws.{begins_not_cut, begins_not_refused}
+use Rattle.der_base.proofs.Answers.Exactness.{ShowsOne}
+use Rattle.der_object.specs.Readings.{value_of}
+use Rattle.der_ber.specs.BerReading.{BerIsCut, IsOther, NumberRefuses, ReadsBer, number}
+use Rattle.der_ber.proofs.ReadingLaws.{ber_shows_one}
 
 -- an element of the number is no other
 pub not_other : (n : ℕ) (i w rest : List ℕ) (c : Class) (p : Bool) (t m : ℕ) → BeginsWithElement i framing_budget c p t w rest → t ≡ n → ¬ IsOther n i m
@@ -38,3 +42,18 @@ number_refusal_same n d i e e' (inr (h, r)) (inr (h', r')) = shows_one d i e e' 
 pub cut_not_number_refused : (n d : ℕ) (i : List ℕ) (m : ℕ) (e : Refusal) → BerIsCut d i m → NumberRefuses n d i e → ⊥
 cut_not_number_refused n d i m e k (inl (deep, t, o, q)) = cut_not_other n i t k.0 o
 cut_not_number_refused n d i m e k (inr (h, r)) = k.2 e r
+
+spelled_wanted : (n d : ℕ) (i b rest : List ℕ) (o : Node) (e : Refusal) → i ≡ b ++ rest → BerSpells b o d framing_budget → number o ≡ n → NumberRefuses n d i e → ⊥
+spelled_wanted n d i b rest (node c p t x) e q s z r = spelled_not_number_refused n d i b rest c p t x e z q s r
+
+-- of an object of the number, a refusal and a cut, an input shows one at most
+pub number_shows_one : (n d : ℕ) (i : List ℕ) → ShowsOne value_of (λ x. ReadsBer d i x.1 x.0.now × (number_of x.1.header ≡ n)) (λ v. BeginsWithBer d i v.0 v.1 × (number v.0 ≡ n)) (NumberRefuses n d i) (BerIsCut d i)
+number_shows_one n d i = let s = ber_shows_one d i in record {
+  spelled = λ x r. (s.spelled x r.0, r.1);
+  one_value = λ x v r q. s.one_value x v r.0 q.0;
+  one_refusal = λ e e' r r'. number_refusal_same n d i e e' r r';
+  one_lack = s.one_lack;
+  not_refused = λ v e q r. spelled_wanted n d i q.0.0 v.1 v.0 e q.0.1 q.0.2 q.1 r;
+  not_lacking = λ v m q h. s.not_lacking v m q.0 h;
+  not_both = λ e m r h. cut_not_number_refused n d i m e h r;
+}

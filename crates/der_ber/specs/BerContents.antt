@@ -6,17 +6,19 @@ use Rattle.der_base.specs.declared.header.Header.{Header}
 use Rattle.der_base.specs.declared.header.Length.{Length}
 use Rattle.der_base.specs.declared.header.Length.TheVariants.{Definite, Indefinite}
 use Rattle.der_base.specs.Content.{BeginsWithContent, InsideLacks}
+use Rattle.der_base.specs.Exactly.{AnswersExactly}
 use Rattle.der_base.specs.Fault.{BerHeaderRefuses, InsideRefuses}
 use Rattle.der_base.specs.Header.{is_constructed, number_of, length_of, IsHeader}
-use Rattle.der_base.specs.Headers.{BeginsWithHeader, ReadsHeader, BerHeaderLacks}
+use Rattle.der_base.specs.Headers.{BehindHeader, BeginsWithHeader, ReadsHeader, BerHeaderLacks}
 use Rattle.der_base.specs.Leaf.{is_list}
 use Rattle.der_base.specs.Refusal.{Refusal, construct_expected, invalid_length, max_depth, unexpected_tag}
 use Rattle.der_base.specs.Spelling.{Forms, IsContent, IsOpenContent, framing_budget, max_object_size}
-use Rattle.der_base.specs.Tree.{Content}
+use Rattle.der_base.specs.Tree.{Node, node, Content}
 use Rattle.der_object.specs.declared.object.BerObject.{BerObject}
 use Rattle.der_object.specs.declared.object.BerObjectContent.{BerObjectContent}
 use Rattle.der_object.specs.declared.object.BerObjectContent.TheVariants.{Unknown}
-use Rattle.der_object.specs.Marks.{inner_forms, EachInside, HasMark}
+use Rattle.der_object.specs.HeaderFacts.{inner_forms, EachInside, HasRawTagAndHeader}
+use Rattle.der_object.specs.Readings.{Answer, value_of, ContentAnswer, content_value_of}
 use Rattle.der_object.specs.View.{content_tree}
 use Rattle.der_ber.specs.BerReading.{ContentRefuses}
 
@@ -26,6 +28,11 @@ use Rattle.der_ber.specs.BerReading.{ContentRefuses}
 abbrev pub LengthPasses : Length → Bool → Type 0
 LengthPasses (Definite n) p = n ≤ max_object_size
 LengthPasses Indefinite p = p ≡ true
+
+-- the tests of length and depth pass, and a definite content is there
+abbrev pub MayFollow : Length → Bool → ℕ → List ℕ → Type 0
+MayFollow (Definite n) p d i = (1 ≤ d) × (n ≤ max_object_size) × (n ≤ length i)
+MayFollow Indefinite p d i = (1 ≤ d) × (p ≡ true)
 
 -- the tests of length and depth pass, i begins with the content octets w, and rest follows; indefinite lengths are nested below the depth and below 50
 pub record FramesContent (l : Length) (p : Bool) (d : ℕ) (i w rest : List ℕ) : Type 0 where
@@ -65,7 +72,7 @@ pub record ReadsContentAs (t : ℕ) (l : Length) (p : Bool) (d : ℕ) (i : List 
   -- each header of an item has the length that is there
   pub content : IsContentAs t l p d octets (content_tree x) (inner_forms x)
   -- and the identifier octets
-  pub marked : EachInside HasMark x
+  pub headers : EachInside HasRawTagAndHeader x
   pub own : HasOwnHeader t l p x
 
 -- the octets show the refusal, in a test, in framing or in the content
@@ -73,9 +80,19 @@ abbrev pub ContentAsRefuses : ℕ → Length → Bool → ℕ → List ℕ → R
 ContentAsRefuses t l p d i e = FrameRefuses l p d i e
     ⊎ ((w rest : List ℕ) × FramesContent l p d i w rest × ContentRefuses Universal p t w d e)
 
--- the octets are a list that has items
+-- the octets are a list that has items, or elements up to an end marker
 abbrev pub ContentAsNeedsMemory : ℕ → Length → Bool → ℕ → List ℕ → Type 0
-ContentAsNeedsMemory t l p d i = (2 ≤ d) × IsTrue (is_list t) × (p ≡ true) × (w rest : List ℕ) × (w ≢ []) × FramesContent l p d i w rest
+ContentAsNeedsMemory t l p d i = ((2 ≤ d) × IsTrue (is_list t) × (p ≡ true) × (w rest : List ℕ) × (w ≢ []) × FramesContent l p d i w rest)
+    ⊎ ((1 ≤ d) × (p ≡ true) × (l ≡ Indefinite))
+
+-- i begins with the octets of a content as that of the universal type of number t, and rest follows
+abbrev pub SpellsContentAs : ℕ → Length → Bool → ℕ → List ℕ → Content × List ℕ → Type 0
+SpellsContentAs t l p d i (x, rest) = (w : List ℕ) × (fs : Forms) × FramesContent l p d i w rest × IsContentAs t l p d w x fs
+
+-- a reader of contents answers exactly what i shows, behind a length of this form
+abbrev pub AnswersContentAs : ℕ → Length → Bool → ℕ → List ℕ → ContentAnswer → Type 0
+AnswersContentAs t l p d i result = AnswersExactly result content_value_of (λ x. ReadsContentAs t l p d i x.1 x.0.now)
+    (SpellsContentAs t l p d i) (ContentAsRefuses t l p d i) (FrameLacks l p d i) (ContentAsNeedsMemory t l p d i)
 
 -- objects of one number, of any class
 
@@ -102,12 +119,28 @@ HeaderOfRefuses t i e = BerHeaderRefuses i e
 -- or its content is refused
 abbrev pub TypedRefuses : ℕ → List ℕ → Refusal → Type 0
 TypedRefuses t i e = HeaderOfRefuses t i e
-    ⊎ ((c : Class) × (p : Bool) × (l : Length) × (behind : List ℕ) × BeginsWithHeader i c p t l behind × ContentAsRefuses t l p 50 behind e)
+    ⊎ BehindHeader t i (λ l p v. ContentAsRefuses t l p 50 v e)
 
 -- i ends within the header, or within the content octets behind one of this number
 abbrev pub TypedLacks : ℕ → List ℕ → ℕ → Type 0
 TypedLacks t i n = BerHeaderLacks i n
-    ⊎ ((c : Class) × (p : Bool) × (l : Length) × (behind : List ℕ) × BeginsWithHeader i c p t l behind × FrameLacks l p 50 behind n)
+    ⊎ BehindHeader t i (λ l p v. FrameLacks l p 50 v n)
 
 abbrev pub TypedNeedsMemory : ℕ → List ℕ → Type 0
-TypedNeedsMemory t i = (c : Class) × (p : Bool) × (l : Length) × (behind : List ℕ) × BeginsWithHeader i c p t l behind × ContentAsNeedsMemory t l p 50 behind
+TypedNeedsMemory t i = BehindHeader t i (λ l p v. ContentAsNeedsMemory t l p 50 v)
+
+-- i begins with an element of the number t that has this tree, and rest follows
+abbrev pub SpellsTyped : ℕ → List ℕ → Node × List ℕ → Type 0
+SpellsTyped t i (node c p n x, rest) = (n ≡ t) × BeginsWithTyped i c p t x rest
+
+-- a reader of the type of number t answers exactly what i shows, and may want memory only where M holds
+abbrev pub AnswersTypedOr : Type 0 → ℕ → List ℕ → Answer → Type 0
+AnswersTypedOr M t i result = AnswersExactly result value_of (λ x. ReadsTyped t i x.1 x.0.now) (SpellsTyped t i) (TypedRefuses t i) (TypedLacks t i) M
+
+-- the same of a reader that may want it for a list that has items, and for an indefinite length
+abbrev pub AnswersTyped : ℕ → List ℕ → Answer → Type 0
+AnswersTyped t i = AnswersTypedOr (TypedNeedsMemory t i) t i
+
+-- the same of a reader that takes no memory
+abbrev pub AnswersLeaf : ℕ → List ℕ → Answer → Type 0
+AnswersLeaf t i = AnswersTypedOr ⊥ t i

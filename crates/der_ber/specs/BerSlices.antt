@@ -4,7 +4,7 @@ use Rattle.der_base.specs.declared.error.ErrorKind.TheVariants.{Eof}
 use Rattle.der_base.specs.declared.header.Class.{Class}
 use Rattle.der_base.specs.Any.{AnyRefuses}
 use Rattle.der_base.specs.Refusal.{Refusal, unexpected_tag, parser_fault}
-use Rattle.der_base.specs.Runs.{HasShortContent}
+use Rattle.der_base.specs.Containers.{HasShortContent}
 use Rattle.der_base.specs.Spelling.{BeginsWithElement, framing_budget}
 
 -- i begins with an element of the number n, of any class, with the content w, and rest follows

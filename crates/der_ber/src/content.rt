@@ -1,21 +1,40 @@
 //! Contents of universal types, read without their header: the caller says the tag number, the
 //! length and the constructed bit.
-ghost use Rattle.std.specs.Prelude.{◌≡◌, ℕ, List};
-ghost use Rattle.der_base.specs.Answer.{MatchAnswer, AnswersOkOr, AnswersErrorOr, AnswersIncompleteOr};
+ghost use Rattle.std.specs.Prelude.{◌≡◌};
+ghost use Rattle.der_base.specs.Answer.{MatchAnswer};
 ghost use Rattle.der_base.specs.Header.{is_constructed, length_of};
-ghost use Rattle.der_base.specs.Refusal.{Refusal};
-ghost use Rattle.der_base.specs.Spelling.{Forms};
-ghost use Rattle.der_base.specs.Tree.{Content};
-ghost use Rattle.der_object.specs.View.{content_tree};
-ghost use Rattle.der_ber.specs.BerContents.{FramesContent, FrameRefuses, FrameLacks, IsContentAs, ReadsContentAs, ContentAsRefuses, ContentAsNeedsMemory};
+ghost use Rattle.der_ber.specs.BerContents.{AnswersContentAs, MayFollow, FramesContent, FrameRefuses, FrameLacks, ReadsContentAs, ContentAsRefuses, ContentAsNeedsMemory};
 
-use crate::reader::read_object;
-use der_base::any::{Any, ber_read_content};
+use crate::reader::read_behind;
+use der_base::any::ber_read_content;
 use der_base::error::{BerError, Err, IResult, Needed};
 use der_base::header::{Class, Header, HeaderCount, Length, Tag};
 use der_base::{MAX_OBJECT_SIZE, MAX_RECURSION};
 use der_object::{BerObjectContent, BerResult};
 use std::alloc::Global;
+
+/// Whether a header may have this length and this constructed bit, and the depth lets its content be
+/// read; a definite content is there.
+fn check_length(
+    i: &[u8],
+    length: Length,
+    constructed: bool,
+    max_depth: usize,
+) -> Result<(), Err<BerError>>
+    ensures { MatchAnswer result
+        (λ _. MayFollow length constructed max_depth i.now)
+        (FrameRefuses length constructed max_depth i.now)
+        (FrameLacks length constructed max_depth i.now)
+        ⊥ }
+{
+    match length {
+        Length::Definite(n) if n > MAX_OBJECT_SIZE => Err(Err::Error(BerError::InvalidLength)),
+        Length::Definite(n) if i.len() < n => Err(Err::Incomplete(Needed::Size(n))),
+        _ if max_depth == 0 => Err(Err::Error(BerError::BerMaxDepth)),
+        Length::Indefinite if !constructed => Err(Err::Error(BerError::ConstructExpected)),
+        _ => Ok(()),
+    }
+}
 
 /// The content octets behind a header of this length and constructed bit, and what follows the
 /// element.
@@ -31,13 +50,8 @@ pub(crate) fn frame_content(
         (FrameLacks length constructed max_depth i.now)
         ⊥ }
 {
-    match length {
-        Length::Definite(n) if n > MAX_OBJECT_SIZE => Err(Err::Error(BerError::InvalidLength)),
-        Length::Definite(n) if i.len() < n => Err(Err::Incomplete(Needed::Size(n))),
-        _ if max_depth == 0 => Err(Err::Error(BerError::BerMaxDepth)),
-        Length::Indefinite if !constructed => Err(Err::Error(BerError::ConstructExpected)),
-        _ => ber_read_content(i, length, max_depth.min(MAX_RECURSION)),
-    }
+    check_length(i, length, constructed, max_depth)?;
+    ber_read_content(i, length, max_depth.min(MAX_RECURSION))
 }
 
 /// The content of the universal type of this number, and what follows the element.
@@ -55,10 +69,11 @@ fn read_content_as<'a>(
         (FrameLacks length constructed max_depth i.now)
         (ContentAsNeedsMemory tag.0 length constructed max_depth i.now) }
 {
-    let (rest, bytes) = frame_content(i, length, constructed, max_depth)?;
+    check_length(i, length, constructed, max_depth)?;
     let header = Header::new(Class::Universal, constructed, tag, length);
-    let any = Any::new(header, bytes);
-    let (rest, object) = read_object(alloc, any, rest, max_depth, &mut HeaderCount::new())?;
+    let budget = max_depth.min(MAX_RECURSION);
+    let mut count = HeaderCount::new();
+    let (rest, object) = read_behind(alloc, header, i, budget, max_depth, &mut count)?;
     Ok((rest, object.content))
 }
 
@@ -74,7 +89,7 @@ fn read_content_as<'a>(
 /// those of the framing; those of the type, and of the first item that is refused. Incomplete, with
 /// the whole of a definite length, where fewer octets are there, told before the depth; and where
 /// the elements of an indefinite length are cut short, with the number of octets that they lack.
-/// OutOfMemory only at depth 2 and more, of a list that has items.
+/// OutOfMemory only of an indefinite length, or at depth 2 and more of a list that has items.
 pub fn ber_read_element_content_as<'a>(
     alloc: Global,
     i: &'a [u8],
@@ -83,15 +98,7 @@ pub fn ber_read_element_content_as<'a>(
     constructed: bool,
     max_depth: usize,
 ) -> BerResult<'a, BerObjectContent<'a>>
-    ensures found { MatchAnswer result
-        (λ x. ReadsContentAs tag.0 length constructed max_depth i.now x.1 x.0.now)
-        (ContentAsRefuses tag.0 length constructed max_depth i.now)
-        (FrameLacks length constructed max_depth i.now)
-        (ContentAsNeedsMemory tag.0 length constructed max_depth i.now) }
-    ensures only { (w rest : List ℕ) (x : Content) (fs : Forms) → FramesContent length constructed max_depth i.now w rest → IsContentAs tag.0 length constructed max_depth w x fs
-        → AnswersOkOr (ContentAsNeedsMemory tag.0 length constructed max_depth i.now) result (λ y. (content_tree y.1 ≡ x) × (y.0.now ≡ rest)) }
-    ensures refuses { (e : Refusal) → ContentAsRefuses tag.0 length constructed max_depth i.now e → AnswersErrorOr (ContentAsNeedsMemory tag.0 length constructed max_depth i.now) result e }
-    ensures lacks { (n : ℕ) → FrameLacks length constructed max_depth i.now n → AnswersIncompleteOr (ContentAsNeedsMemory tag.0 length constructed max_depth i.now) result n }
+    ensures { AnswersContentAs tag.0 length constructed max_depth i.now result }
 {
     read_content_as(alloc, i, tag, length, constructed, max_depth)
 }
@@ -120,15 +127,7 @@ impl BerContent {
         header: &Header<'_>,
         max_depth: usize,
     ) -> BerResult<'a, BerObjectContent<'a>>
-        ensures found { let l = length_of header.now in let p = is_constructed header.now in MatchAnswer result
-            (λ x. ReadsContentAs self.now.tag.0 l p max_depth i.now x.1 x.0.now)
-            (ContentAsRefuses self.now.tag.0 l p max_depth i.now)
-            (FrameLacks l p max_depth i.now)
-            (ContentAsNeedsMemory self.now.tag.0 l p max_depth i.now) }
-        ensures only { let l = length_of header.now in let p = is_constructed header.now in (w rest : List ℕ) (x : Content) (fs : Forms) → FramesContent l p max_depth i.now w rest → IsContentAs self.now.tag.0 l p max_depth w x fs
-            → AnswersOkOr (ContentAsNeedsMemory self.now.tag.0 l p max_depth i.now) result (λ y. (content_tree y.1 ≡ x) × (y.0.now ≡ rest)) }
-        ensures refuses { let l = length_of header.now in let p = is_constructed header.now in (e : Refusal) → ContentAsRefuses self.now.tag.0 l p max_depth i.now e → AnswersErrorOr (ContentAsNeedsMemory self.now.tag.0 l p max_depth i.now) result e }
-        ensures lacks { let l = length_of header.now in let p = is_constructed header.now in (n : ℕ) → FrameLacks l p max_depth i.now n → AnswersIncompleteOr (ContentAsNeedsMemory self.now.tag.0 l p max_depth i.now) result n }
+        ensures { AnswersContentAs self.now.tag.0 (length_of header.now) (is_constructed header.now) max_depth i.now result }
     {
         ber_read_element_content_as(
             self.alloc,
@@ -164,15 +163,7 @@ impl BerContent2 {
         header: Header<'_>,
         max_depth: usize,
     ) -> BerResult<'a, BerObjectContent<'a>>
-        ensures found { let l = length_of header.entry in let p = is_constructed header.entry in MatchAnswer result
-            (λ x. ReadsContentAs self.now.tag.0 l p max_depth i.now x.1 x.0.now)
-            (ContentAsRefuses self.now.tag.0 l p max_depth i.now)
-            (FrameLacks l p max_depth i.now)
-            (ContentAsNeedsMemory self.now.tag.0 l p max_depth i.now) }
-        ensures only { let l = length_of header.entry in let p = is_constructed header.entry in (w rest : List ℕ) (x : Content) (fs : Forms) → FramesContent l p max_depth i.now w rest → IsContentAs self.now.tag.0 l p max_depth w x fs
-            → AnswersOkOr (ContentAsNeedsMemory self.now.tag.0 l p max_depth i.now) result (λ y. (content_tree y.1 ≡ x) × (y.0.now ≡ rest)) }
-        ensures refuses { let l = length_of header.entry in let p = is_constructed header.entry in (e : Refusal) → ContentAsRefuses self.now.tag.0 l p max_depth i.now e → AnswersErrorOr (ContentAsNeedsMemory self.now.tag.0 l p max_depth i.now) result e }
-        ensures lacks { let l = length_of header.entry in let p = is_constructed header.entry in (n : ℕ) → FrameLacks l p max_depth i.now n → AnswersIncompleteOr (ContentAsNeedsMemory self.now.tag.0 l p max_depth i.now) result n }
+        ensures { AnswersContentAs self.now.tag.0 (length_of header.entry) (is_constructed header.entry) max_depth i.now result }
     {
         parse_ber_content(self.alloc, self.tag).parse(i, &header, max_depth)
     }

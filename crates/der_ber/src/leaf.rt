@@ -1,12 +1,11 @@
 //! The content octets of the universal types that are no list, by BER (X.690 8.2 to 8.25): a
 //! function for each rule.
-ghost use Rattle.std.specs.Prelude.{◌≡◌, false, IsTrue, MatchResult};
-ghost use Rattle.der_base.specs.Leaf.{is_list, is_mapped, is_time, IsLeafContent};
-ghost use Rattle.der_base.specs.LeafRefusal.{BerLeafRefuses};
-ghost use Rattle.der_base.specs.Refusal.{refusal};
+ghost use Rattle.std.specs.Prelude.{◌≡◌, false, IsTrue};
+ghost use Rattle.der_base.specs.Leaf.{is_list, is_mapped, is_time};
 ghost use Rattle.der_base.specs.Text.{is_text_type};
 ghost use Rattle.der_base.specs.Tree.{text, time};
 ghost use Rattle.der_object.specs.View.{content_tree};
+ghost use Rattle.der_ber.specs.BerLeaves.{ReadsLeaf};
 
 use der_base::error::BerError;
 use der_base::header::Tag;
@@ -27,9 +26,7 @@ pub fn read_leaf<'a>(
 ) -> Result<BerObjectContent<'a>, BerError>
     requires mapped { IsTrue (is_mapped tag.0) }
     requires no_list { is_list tag.0 ≡ false }
-    ensures { MatchResult result
-        (λ x. IsLeafContent constructed tag.0 content.now (content_tree x))
-        (λ e. BerLeafRefuses constructed tag.0 content.now (refusal e)) }
+    ensures { ReadsLeaf constructed tag.0 content.now result }
 {
     // Times and strings are calls, whose answers are copied by `Ok(..?)`; the other readers are
     // compiled in (docs/PERFORMANCE.md).
@@ -43,7 +40,7 @@ pub fn read_leaf<'a>(
         Tag::Oid => read_identifier(constructed, content),
         Tag::RelativeOid => read_relative_identifier(constructed, content),
         Tag::Enumerated => read_enumerated(constructed, content),
-        Tag::UtcTime | Tag::GeneralizedTime => Ok(read_moment(constructed, tag, content)?),
+        Tag::UtcTime | Tag::GeneralizedTime => Ok(read_time_content(constructed, tag, content)?),
         Tag::UniversalString => read_universal_string(constructed, content),
         Tag::BmpString => read_bmp_string(constructed, content),
         _ => Ok(read_string(constructed, tag, content)?),
@@ -53,7 +50,7 @@ pub fn read_leaf<'a>(
 /// A BOOLEAN is one octet, false where it is 00 (8.2), in a primitive element.
 #[inline(always)]
 fn read_boolean(constructed: bool, content: &[u8]) -> Result<BerObjectContent<'_>, BerError>
-    ensures { MatchResult result (λ x. IsLeafContent constructed 1 content.now (content_tree x)) (λ e. BerLeafRefuses constructed 1 content.now (refusal e)) }
+    ensures { ReadsLeaf constructed 1 content.now result }
 {
     if constructed {
         return Err(BerError::ConstructUnexpected);
@@ -68,7 +65,7 @@ fn read_boolean(constructed: bool, content: &[u8]) -> Result<BerObjectContent<'_
 /// joined.
 #[inline(always)]
 fn read_bit_string(constructed: bool, content: &[u8]) -> Result<BerObjectContent<'_>, BerError>
-    ensures { MatchResult result (λ x. IsLeafContent constructed 3 content.now (content_tree x)) (λ e. BerLeafRefuses constructed 3 content.now (refusal e)) }
+    ensures { ReadsLeaf constructed 3 content.now result }
 {
     let [unused, bytes @ ..] = content else {
         return Err(BerError::BerValueError);
@@ -82,7 +79,7 @@ fn read_bit_string(constructed: bool, content: &[u8]) -> Result<BerObjectContent
 /// An OBJECT IDENTIFIER, by its octets, in a primitive element (8.19.1).
 #[inline(always)]
 fn read_identifier(constructed: bool, content: &[u8]) -> Result<BerObjectContent<'_>, BerError>
-    ensures { MatchResult result (λ x. IsLeafContent constructed 6 content.now (content_tree x)) (λ e. BerLeafRefuses constructed 6 content.now (refusal e)) }
+    ensures { ReadsLeaf constructed 6 content.now result }
 {
     if constructed {
         return Err(BerError::ConstructUnexpected);
@@ -96,7 +93,7 @@ fn read_relative_identifier(
     constructed: bool,
     content: &[u8],
 ) -> Result<BerObjectContent<'_>, BerError>
-    ensures { MatchResult result (λ x. IsLeafContent constructed 13 content.now (content_tree x)) (λ e. BerLeafRefuses constructed 13 content.now (refusal e)) }
+    ensures { ReadsLeaf constructed 13 content.now result }
 {
     if constructed {
         return Err(BerError::ConstructUnexpected);
@@ -107,7 +104,7 @@ fn read_relative_identifier(
 /// An ENUMERATED is a primitive INTEGER (8.4), here of a number from 0 to 2^64-1.
 #[inline(always)]
 fn read_enumerated(constructed: bool, content: &[u8]) -> Result<BerObjectContent<'_>, BerError>
-    ensures { MatchResult result (λ x. IsLeafContent constructed 10 content.now (content_tree x)) (λ e. BerLeafRefuses constructed 10 content.now (refusal e)) }
+    ensures { ReadsLeaf constructed 10 content.now result }
 {
     if constructed {
         return Err(BerError::ConstructUnexpected);
@@ -117,13 +114,13 @@ fn read_enumerated(constructed: bool, content: &[u8]) -> Result<BerObjectContent
 
 /// A UTCTime or a GeneralizedTime (8.25). One that is constructed isn't joined.
 #[inline(never)]
-fn read_moment(
+fn read_time_content(
     constructed: bool,
     tag: Tag,
     content: &[u8],
 ) -> Result<BerObjectContent<'_>, BerError>
     requires { IsTrue (is_time tag.0) }
-    ensures { MatchResult result (λ x. IsLeafContent constructed tag.0 content.now (content_tree x)) (λ e. BerLeafRefuses constructed tag.0 content.now (refusal e)) }
+    ensures { ReadsLeaf constructed tag.0 content.now result }
 {
     if constructed {
         return Err(BerError::Unsupported);
@@ -152,7 +149,7 @@ fn read_universal_string(
     constructed: bool,
     content: &[u8],
 ) -> Result<BerObjectContent<'_>, BerError>
-    ensures { MatchResult result (λ x. IsLeafContent constructed 28 content.now (content_tree x)) (λ e. BerLeafRefuses constructed 28 content.now (refusal e)) }
+    ensures { ReadsLeaf constructed 28 content.now result }
 {
     if constructed {
         return Err(BerError::Unsupported);
@@ -163,7 +160,7 @@ fn read_universal_string(
 /// A BMPString (8.23.9), by its octets. One that is constructed isn't joined.
 #[inline(always)]
 fn read_bmp_string(constructed: bool, content: &[u8]) -> Result<BerObjectContent<'_>, BerError>
-    ensures { MatchResult result (λ x. IsLeafContent constructed 30 content.now (content_tree x)) (λ e. BerLeafRefuses constructed 30 content.now (refusal e)) }
+    ensures { ReadsLeaf constructed 30 content.now result }
 {
     if constructed || content.len() % 2 == 1 {
         return Err(BerError::Unsupported);
@@ -182,7 +179,7 @@ fn read_string(
     content: &[u8],
 ) -> Result<BerObjectContent<'_>, BerError>
     requires { IsTrue (is_text_type tag.0) }
-    ensures { MatchResult result (λ x. IsLeafContent constructed tag.0 content.now (content_tree x)) (λ e. BerLeafRefuses constructed tag.0 content.now (refusal e)) }
+    ensures { ReadsLeaf constructed tag.0 content.now result }
 {
     if constructed {
         return Err(BerError::Unsupported);

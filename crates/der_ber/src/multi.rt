@@ -4,7 +4,7 @@ ghost use Rattle.der_base.specs.declared.header.Class.{Class};
 ghost use Rattle.der_base.specs.declared.error.Err.{Err};
 ghost use Rattle.der_base.specs.Answer.{MatchAnswer, AnswersError, AnswersIncomplete};
 ghost use Rattle.der_base.specs.Refusal.{Refusal};
-ghost use Rattle.der_base.specs.Runs.{ContainerRun, HasShortContent, NoCall, OneCall, OpeningLacks, OpensBer, OpensBerNumber, RefusesBer, RefusesBerNumber};
+ghost use Rattle.der_base.specs.Containers.{ContainerRun, HasShortContent, NoCall, OneCall, OpeningLacks, OpensBer, OpensBerNumber, RefusesBer, RefusesBerNumber};
 ghost use Rattle.der_base.specs.Spelling.{BeginsWithElement, framing_budget};
 ghost use Rattle.der_ber.specs.BerSlices.{ReadsSlice, SliceRefuses};
 

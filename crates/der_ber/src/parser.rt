@@ -1,15 +1,12 @@
 //! The full reader of BER.
-ghost use Rattle.std.specs.Prelude.{◌≡◌, ◌<◌, ℕ, Bool, List, ◌++◌, IfOk, IsOkAnd, length};
+ghost use Rattle.std.specs.Prelude.{◌≡◌, ◌+◌, ◌<◌, ◌≤◌, ℕ, Bool, List, IfOk, IsOkAnd, length};
 ghost use Rattle.der_base.specs.declared.header.Class.{Class};
-ghost use Rattle.der_base.specs.Answer.{MatchAnswer, AnswersError, AnswersIncomplete, AnswersOkOr, AnswersErrorOr, AnswersIncompleteOr};
+ghost use Rattle.der_base.specs.Answer.{MatchAnswer, AnswersError, AnswersIncomplete};
 ghost use Rattle.der_base.specs.Any.{ReadsAny, AnyRefuses, AnyLacks};
-ghost use Rattle.der_base.specs.Fault.{ShowsFault};
 ghost use Rattle.der_base.specs.Header.{class_of, is_constructed, number_of};
 ghost use Rattle.der_base.specs.Refusal.{Refusal};
-ghost use Rattle.der_base.specs.Spelling.{BeginsWithElement, BerSpells, framing_budget};
-ghost use Rattle.der_base.specs.Tree.{Node, node, Content};
-ghost use Rattle.der_object.specs.View.{tree};
-ghost use Rattle.der_ber.specs.BerReading.{ReadsBer, BerIsCut, NumberRefuses, NeedsMemory};
+ghost use Rattle.der_base.specs.Spelling.{BeginsWithElement, framing_budget};
+ghost use Rattle.der_ber.specs.BerReading.{AnswersBer, AnswersNumber};
 
 use crate::reader::{read_element, read_element_with_tag};
 use der_base::MAX_RECURSION;
@@ -21,11 +18,7 @@ use std::alloc::Global;
 
 /// Reads one object in BER, to the depth `MAX_RECURSION`: as `parse_ber_recursive`.
 pub fn parse_ber<'a>(alloc: Global, i: &'a [u8]) -> BerResult<'a>
-    ensures found { MatchAnswer result (λ x. ReadsBer 50 i.now x.1 x.0.now) (ShowsFault 50 i.now) (BerIsCut 50 i.now) (NeedsMemory 50 i.now) }
-    ensures only { (b rest : List ℕ) (o : Node) → BerSpells b o 50 framing_budget → i.now ≡ b ++ rest
-        → AnswersOkOr (NeedsMemory 50 i.now) result (λ x. (tree x.1 ≡ o) × (x.0.now ≡ rest)) }
-    ensures refuses { (e : Refusal) → ShowsFault 50 i.now e → AnswersErrorOr (NeedsMemory 50 i.now) result e }
-    ensures lacks { (n : ℕ) → BerIsCut 50 i.now n → AnswersIncompleteOr (NeedsMemory 50 i.now) result n }
+    ensures exactly { AnswersBer 50 i.now result }
     ensures shorter { IfOk result (λ x. length x.0.now < length i.now) }
 {
     parse_ber_recursive(alloc, i, MAX_RECURSION)
@@ -41,13 +34,10 @@ pub fn parse_ber<'a>(alloc: Global, i: &'a [u8]) -> BerResult<'a>
 /// primitive SEQUENCE or SET; those of the type; those of the first item that is refused, at a
 /// depth less, where an item that its list cuts short is the refusal Incomplete. Incomplete where
 /// the input ends within the element, with the number of octets that it lacks. OutOfMemory only at
-/// depth 2 and more, where the input begins with a whole list that has items.
+/// depth 2 and more, where the input begins with a whole list that has items, and at depth 1 and
+/// more, where it begins with a header of indefinite length.
 pub fn parse_ber_recursive<'a>(alloc: Global, i: &'a [u8], max_depth: usize) -> BerResult<'a>
-    ensures found { MatchAnswer result (λ x. ReadsBer max_depth i.now x.1 x.0.now) (ShowsFault max_depth i.now) (BerIsCut max_depth i.now) (NeedsMemory max_depth i.now) }
-    ensures only { (b rest : List ℕ) (o : Node) → BerSpells b o max_depth framing_budget → i.now ≡ b ++ rest
-        → AnswersOkOr (NeedsMemory max_depth i.now) result (λ x. (tree x.1 ≡ o) × (x.0.now ≡ rest)) }
-    ensures refuses { (e : Refusal) → ShowsFault max_depth i.now e → AnswersErrorOr (NeedsMemory max_depth i.now) result e }
-    ensures lacks { (n : ℕ) → BerIsCut max_depth i.now n → AnswersIncompleteOr (NeedsMemory max_depth i.now) result n }
+    ensures exactly { AnswersBer max_depth i.now result }
     ensures shorter { IfOk result (λ x. length x.0.now < length i.now) }
 {
     let mut count = HeaderCount::new();
@@ -56,11 +46,7 @@ pub fn parse_ber_recursive<'a>(alloc: Global, i: &'a [u8], max_depth: usize) -> 
 
 /// The same as `parse_ber_recursive`.
 pub fn parse_ber_any_r<'a>(alloc: Global, i: &'a [u8], max_depth: usize) -> BerResult<'a>
-    ensures found { MatchAnswer result (λ x. ReadsBer max_depth i.now x.1 x.0.now) (ShowsFault max_depth i.now) (BerIsCut max_depth i.now) (NeedsMemory max_depth i.now) }
-    ensures only { (b rest : List ℕ) (o : Node) → BerSpells b o max_depth framing_budget → i.now ≡ b ++ rest
-        → AnswersOkOr (NeedsMemory max_depth i.now) result (λ x. (tree x.1 ≡ o) × (x.0.now ≡ rest)) }
-    ensures refuses { (e : Refusal) → ShowsFault max_depth i.now e → AnswersErrorOr (NeedsMemory max_depth i.now) result e }
-    ensures lacks { (n : ℕ) → BerIsCut max_depth i.now n → AnswersIncompleteOr (NeedsMemory max_depth i.now) result n }
+    ensures exactly { AnswersBer max_depth i.now result }
     ensures shorter { IfOk result (λ x. length x.0.now < length i.now) }
 {
     parse_ber_recursive(alloc, i, max_depth)
@@ -75,11 +61,7 @@ pub fn parse_ber_any_with_tag_r<'a>(
     tag: Tag,
     max_depth: usize,
 ) -> BerResult<'a>
-    ensures found { MatchAnswer result (λ x. ReadsBer max_depth i.now x.1 x.0.now × (number_of x.1.header ≡ tag.0)) (NumberRefuses tag.0 max_depth i.now) (BerIsCut max_depth i.now) (NeedsMemory max_depth i.now) }
-    ensures only { (b rest : List ℕ) (c : Class) (p : Bool) (x : Content) → BerSpells b (node c p tag.0 x) max_depth framing_budget → i.now ≡ b ++ rest
-        → AnswersOkOr (NeedsMemory max_depth i.now) result (λ y. (tree y.1 ≡ node c p tag.0 x) × (y.0.now ≡ rest)) }
-    ensures refuses { (e : Refusal) → NumberRefuses tag.0 max_depth i.now e → AnswersErrorOr (NeedsMemory max_depth i.now) result e }
-    ensures lacks { (n : ℕ) → BerIsCut max_depth i.now n → AnswersIncompleteOr (NeedsMemory max_depth i.now) result n }
+    ensures exactly { AnswersNumber tag.0 max_depth i.now result }
     ensures shorter { IfOk result (λ x. length x.0.now < length i.now) }
 {
     read_element_with_tag(alloc, i, tag, max_depth, &mut HeaderCount::new())
@@ -96,19 +78,18 @@ pub fn parse_ber_any<'a>(i: &'a [u8]) -> IResult<&'a [u8], Any<'a>, BerError>
     Any::from_ber(i)
 }
 
-/// Reads as `parse_ber_recursive`, and counts the headers that are read, end markers too.
+/// Reads as `parse_ber_recursive`, and counts the headers that are read, end markers too: no more of
+/// them than octets that were read, but for one more where the answer is no object.
 pub fn parse_ber_counted<'a>(
     alloc: Global,
     i: &'a [u8],
     max_depth: usize,
     count: &mut HeaderCount,
 ) -> BerResult<'a>
-    ensures found { MatchAnswer result (λ x. ReadsBer max_depth i.now x.1 x.0.now) (ShowsFault max_depth i.now) (BerIsCut max_depth i.now) (NeedsMemory max_depth i.now) }
-    ensures only { (b rest : List ℕ) (o : Node) → BerSpells b o max_depth framing_budget → i.now ≡ b ++ rest
-        → AnswersOkOr (NeedsMemory max_depth i.now) result (λ x. (tree x.1 ≡ o) × (x.0.now ≡ rest)) }
-    ensures refuses { (e : Refusal) → ShowsFault max_depth i.now e → AnswersErrorOr (NeedsMemory max_depth i.now) result e }
-    ensures lacks { (n : ℕ) → BerIsCut max_depth i.now n → AnswersIncompleteOr (NeedsMemory max_depth i.now) result n }
+    ensures exactly { AnswersBer max_depth i.now result }
     ensures shorter { IfOk result (λ x. length x.0.now < length i.now) }
+    ensures counted { count.new ≤ count.old + length i.now + 1 }
+    ensures counted_ok { IfOk result (λ x. count.new + length x.0.now ≤ count.old + length i.now) }
 {
     read_element(alloc, i, max_depth, count)
 }

@@ -1,17 +1,23 @@
 //! One element of BER and what is inside it: element, content and items call each other, a depth
-//! less at each list.
-ghost use Rattle.std.specs.Prelude.{◌≡◌, ◌≢◌, ◌<◌, ◌≤◌, [], IfOk, IsTrue, length, true};
+//! less at each list. An element of indefinite length is framed once, and the elements inside it are
+//! recorded; their values are read from the record.
+ghost use Rattle.std.specs.Prelude.{◌≡◌, ◌≢◌, ◌+◌, ◌-◌, ◌<◌, ◌≤◌, ℕ, List, [], IfOk, IsTrue, length, true};
 ghost use Rattle.der_base.specs.declared.header.Class.{Class};
 ghost use Rattle.der_base.specs.Answer.{MatchAnswer};
+ghost use Rattle.der_base.specs.Content.{ContentLacks};
 ghost use Rattle.der_base.specs.Fault.{ShowsFault};
-ghost use Rattle.der_base.specs.Header.{class_of, is_constructed, number_of};
+ghost use Rattle.der_base.specs.Header.{class_of, is_constructed, number_of, length_of};
 ghost use Rattle.der_base.specs.Leaf.{is_list};
-ghost use Rattle.der_ber.specs.BerReading.{ReadsBer, AreItems, IsContentOf, BerIsCut, NumberRefuses, NeedsMemory, ContentRefuses, ItemsRefuse};
+ghost use Rattle.der_base.specs.Inner.Spans.{AreInside, AreSpans, content_octets_left, span_octets};
+ghost use Rattle.der_base.specs.Spelling.{framing_budget};
+ghost use Rattle.der_ber.specs.BerReading.{ReadsBer, ReadsBehind, BehindRefuses, BehindNeedsMemory, AreItems, IsContentOf, BerIsCut, NumberRefuses, NeedsMemory, ContentRefuses, ItemsRefuse};
 
 use crate::leaf::read_leaf;
-use der_base::any::{Any, ber_any_counted};
-use der_base::error::{BerError, Err, cut_item};
-use der_base::header::{HeaderCount, Tag};
+use der_base::MAX_RECURSION;
+use der_base::any::Any;
+use der_base::error::{BerError, Err, refuse_cut_item};
+use der_base::header::{Header, HeaderCount, Length, Tag, ber_header_counted};
+use der_base::spans::{Span, ber_read_definite, ber_record_content};
 use der_object::growth::make_room;
 use der_object::{BerObject, BerObjectContent, BerResult};
 use std::alloc::Global;
@@ -27,12 +33,22 @@ pub fn read_element<'a>(
 ) -> BerResult<'a>
     ensures found { MatchAnswer result (λ x. ReadsBer max_depth i.now x.1 x.0.now) (ShowsFault max_depth i.now) (BerIsCut max_depth i.now) (NeedsMemory max_depth i.now) }
     ensures shorter { IfOk result (λ x. length x.0.now < length i.now) }
+    ensures counted { count.new ≤ count.old + length i.now + 1 }
+    ensures counted_ok { IfOk result (λ x. count.new + length x.0.now ≤ count.old + length i.now) }
 {
     if max_depth == 0 {
         return Err(Err::Error(BerError::BerMaxDepth));
     }
-    let (rest, any) = ber_any_counted(i, count)?;
-    read_object(alloc, any, rest, max_depth, count)
+    let (behind, header) = ber_header_counted(i, count)?;
+    match header.length() {
+        Length::Definite(size) => {
+            let (rest, bytes) = ber_read_definite(behind, size)?;
+            read_object(alloc, Any { header, bytes }, &[], rest, max_depth, count)
+        }
+        Length::Indefinite => {
+            read_behind(alloc, header, behind, MAX_RECURSION, max_depth, count)
+        }
+    }
 }
 
 /// One element in front, of this tag number.
@@ -49,27 +65,68 @@ pub fn read_element_with_tag<'a>(
     if max_depth == 0 {
         return Err(Err::Error(BerError::BerMaxDepth));
     }
-    let (rest, any) = ber_any_counted(i, count)?;
-    any.header.assert_tag(tag)?;
-    read_object(alloc, any, rest, max_depth, count)
+    let (behind, header) = ber_header_counted(i, count)?;
+    let mut spans = Vec::new(alloc);
+    let (rest, bytes) = ber_record_content(
+        behind,
+        header.length(),
+        MAX_RECURSION,
+        count,
+        &mut spans,
+    )?;
+    header.assert_tag(tag)?;
+    read_object(alloc, Any { header, bytes }, &spans, rest, max_depth, count)
+}
+
+/// The object of a header and of the content behind it; the elements inside an indefinite length are
+/// recorded first.
+#[cycle(reader)]
+#[inline(never)]
+pub(crate) fn read_behind<'a>(
+    alloc: Global,
+    header: Header<'a>,
+    behind: &'a [u8],
+    budget: usize,
+    max_depth: usize,
+    count: &mut HeaderCount,
+) -> BerResult<'a>
+    requires some { 1 ≤ budget }
+    requires bounded { budget ≤ framing_budget }
+    requires deep { 1 ≤ max_depth }
+    ensures found { MatchAnswer result
+        (λ x. ReadsBehind header.entry budget max_depth behind.now x.1 x.0.now)
+        (BehindRefuses header.entry budget max_depth behind.now)
+        (ContentLacks behind.now (length_of header.entry) budget)
+        (BehindNeedsMemory header.entry budget max_depth behind.now) }
+    ensures counted { count.new ≤ count.old + length behind.now + 1 }
+    ensures counted_ok { IfOk result (λ x. count.new + length x.0.now ≤ count.old + length behind.now) }
+{
+    let mut spans = Vec::new(alloc);
+    let (rest, bytes) = ber_record_content(behind, header.length(), budget, count, &mut spans)?;
+    read_object(alloc, Any { header, bytes }, &spans, rest, max_depth, count)
 }
 
 /// The object of an element whose header and content octets are told apart, and what follows it.
+/// Where its length is indefinite, the spans are of the elements inside it.
 #[cycle(reader)]
 #[inline(always)]
-pub(crate) fn read_object<'a>(
+fn read_object<'a>(
     alloc: Global,
     any: Any<'a>,
+    inside: &[Span<'a>],
     rest: &'a [u8],
     max_depth: usize,
     count: &mut HeaderCount,
 ) -> BerResult<'a>
-    requires { 1 ≤ max_depth }
-    ensures { let h = any.entry.header in let w = any.entry.bytes.now in MatchAnswer result
+    requires deep { 1 ≤ max_depth }
+    requires recorded { AreInside (length_of any.header) inside.now any.bytes.now framing_budget }
+    ensures found { let h = any.entry.header in let w = any.entry.bytes.now in MatchAnswer result
         (λ x. (x.0.now ≡ rest.now) × (x.1.header ≡ h) × IsContentOf w h x.1.content max_depth)
         (ContentRefuses (class_of h) (is_constructed h) (number_of h) w max_depth)
         (λ _. ⊥)
         ((2 ≤ max_depth) × (class_of h ≡ Class.Universal) × (is_constructed h ≡ true) × IsTrue (is_list (number_of h)) × (w ≢ [])) }
+    ensures counted { count.new ≤ count.old + content_octets_left (length_of any.entry.header) any.entry.bytes.now inside.now + 1 }
+    ensures counted_ok { IfOk result (λ _. count.new ≤ count.old + content_octets_left (length_of any.entry.header) any.entry.bytes.now inside.now) }
 {
     let header = any.header;
     let octets = any.bytes;
@@ -80,12 +137,14 @@ pub(crate) fn read_object<'a>(
     }
     if tag == Tag::Sequence {
         header.assert_constructed()?;
-        let content = BerObjectContent::Sequence(read_items(alloc, octets, max_depth - 1, count)?);
+        let items = read_list(alloc, any, inside, max_depth - 1, count)?;
+        let content = BerObjectContent::Sequence(items);
         return Ok((rest, BerObject::from_header_and_content(header, content)));
     }
     if tag == Tag::Set {
         header.assert_constructed()?;
-        let content = BerObjectContent::Set(read_items(alloc, octets, max_depth - 1, count)?);
+        let items = read_list(alloc, any, inside, max_depth - 1, count)?;
+        let content = BerObjectContent::Set(items);
         return Ok((rest, BerObject::from_header_and_content(header, content)));
     }
     if tag.is_mapped() {
@@ -96,19 +155,47 @@ pub(crate) fn read_object<'a>(
     Ok((rest, BerObject::from_header_and_content(header, content)))
 }
 
+/// The items of a list: from its content octets where its length is definite, else from the spans.
+#[cycle(reader)]
+#[inline(always)]
+fn read_list<'a>(
+    alloc: Global,
+    any: Any<'a>,
+    inside: &[Span<'a>],
+    max_depth: usize,
+    count: &mut HeaderCount,
+) -> Result<Vec<BerObject<'a>>, Err<BerError>>
+    requires { AreInside (length_of any.header) inside.now any.bytes.now framing_budget }
+    ensures found { let w = any.entry.bytes.now in MatchAnswer result
+        (λ v. AreItems w v.items max_depth)
+        (ItemsRefuse w max_depth)
+        (λ _. ⊥)
+        ((1 ≤ max_depth) × (w ≢ [])) }
+    ensures counted { count.new ≤ count.old + content_octets_left (length_of any.entry.header) any.entry.bytes.now inside.now + 1 }
+    ensures counted_ok { IfOk result (λ _. count.new ≤ count.old + content_octets_left (length_of any.entry.header) any.entry.bytes.now inside.now) }
+{
+    match any.header.length() {
+        Length::Definite(_) => read_items(alloc, any.bytes, max_depth, count),
+        Length::Indefinite => read_spans(alloc, inside, max_depth, count),
+    }
+}
+
 /// The elements that content octets join.
 #[cycle(reader)]
+#[inline(never)]
 fn read_items<'a>(
     alloc: Global,
     content: &'a [u8],
     max_depth: usize,
     count: &mut HeaderCount,
 ) -> Result<Vec<BerObject<'a>>, Err<BerError>>
-    ensures { MatchAnswer result
+    ensures found { MatchAnswer result
         (λ v. AreItems content.now v.items max_depth)
         (ItemsRefuse content.now max_depth)
         (λ _. ⊥)
         ((1 ≤ max_depth) × (content.now ≢ [])) }
+    ensures counted { count.new ≤ count.old + length content.now + 1 }
+    ensures counted_ok { IfOk result (λ _. count.new ≤ count.old + length content.now) }
 {
     let mut items = Vec::new(alloc);
     let mut rest = content;
@@ -119,8 +206,59 @@ fn read_items<'a>(
                 items.push(item)?;
                 rest = after;
             }
-            Err(e) => return Err(cut_item(e)),
+            Err(e) => return Err(refuse_cut_item(e)),
         }
     }
     Ok(items)
+}
+
+/// The elements that spans are of, whatever their octets are.
+#[cycle(reader)]
+#[inline(never)]
+fn read_spans<'a>(
+    alloc: Global,
+    spans: &[Span<'a>],
+    max_depth: usize,
+    count: &mut HeaderCount,
+) -> Result<Vec<BerObject<'a>>, Err<BerError>>
+    requires { (w : List ℕ) × AreSpans spans.now w framing_budget }
+    ensures found { (w : List ℕ) → AreSpans spans.now w framing_budget → MatchAnswer result
+        (λ v. AreItems w v.items max_depth)
+        (ItemsRefuse w max_depth)
+        (λ _. ⊥)
+        ((1 ≤ max_depth) × (w ≢ [])) }
+    ensures counted { count.new ≤ count.old + span_octets spans.now + 1 }
+    ensures counted_ok { IfOk result (λ _. count.new ≤ count.old + span_octets spans.now) }
+{
+    let mut items = Vec::new(alloc);
+    let _ = items.reserve_exact(outermost(spans));
+    let mut at = 0;
+    while at < spans.len() {
+        if max_depth == 0 {
+            return Err(Err::Error(BerError::BerMaxDepth));
+        }
+        let span = spans[at];
+        let first = at + 1;
+        let end = first + span.inside;
+        let inside = &spans[first..end];
+        match read_object(alloc, span.element, inside, &[], max_depth, count) {
+            Ok((_, item)) => {
+                items.push(item)?;
+                at = end;
+            }
+            Err(e) => return Err(e),
+        }
+    }
+    Ok(items)
+}
+
+/// How many of the spans lie inside no other: as many items are read of them.
+fn outermost(spans: &[Span<'_>]) -> usize {
+    let mut number = 0usize;
+    let mut at = 0usize;
+    while at < spans.len() {
+        number = number.saturating_add(1);
+        at = at.saturating_add(spans[at].inside).saturating_add(1);
+    }
+    number
 }

@@ -1,14 +1,11 @@
-//! Readers of one universal type: an element of this tag number and of any class, with the header
-//! that is there.
-ghost use Rattle.std.specs.Prelude.{◌≡◌, false, ℕ, Bool, IsOkAnd, IsTrue, List};
-ghost use Rattle.der_base.specs.declared.header.Class.{Class};
-ghost use Rattle.der_base.specs.Answer.{MatchAnswer, AnswersError, AnswersIncomplete, AnswersOkOr, AnswersErrorOr, AnswersIncompleteOr};
+//! Readers of one universal type (X.690 8.2 to 8.25). Each reads an element of the type's tag number
+//! and of any class, as `parse_ber_with_tag` does, and keeps the header that is there. Those of types
+//! that are no list take no memory.
+ghost use Rattle.std.specs.Prelude.{◌≡◌, false, IsTrue};
+ghost use Rattle.der_base.specs.Answer.{MatchAnswer};
 ghost use Rattle.der_base.specs.Headers.{BerHeaderLacks};
 ghost use Rattle.der_base.specs.Leaf.{is_list, is_mapped};
-ghost use Rattle.der_base.specs.Refusal.{Refusal};
-ghost use Rattle.der_base.specs.Tree.{node, Content};
-ghost use Rattle.der_object.specs.View.{tree};
-ghost use Rattle.der_ber.specs.BerContents.{ReadsHeaderOf, ReadsTyped, BeginsWithTyped, HeaderOfRefuses, TypedRefuses, TypedLacks, TypedNeedsMemory};
+ghost use Rattle.der_ber.specs.BerContents.{AnswersLeaf, AnswersTyped, ReadsHeaderOf, ReadsTyped, HeaderOfRefuses, TypedRefuses, TypedLacks, TypedNeedsMemory};
 
 use crate::content::{ber_read_element_content_as, frame_content};
 use crate::leaf::read_leaf;
@@ -65,10 +62,7 @@ fn read_typed_leaf<'a>(i: &'a [u8], tag: Tag) -> BerResult<'a>
 fn parse_typed_leaf<'a>(i: &'a [u8], tag: Tag) -> BerResult<'a>
     requires mapped { IsTrue (is_mapped tag.0) }
     requires no_list { is_list tag.0 ≡ false }
-    ensures found { MatchAnswer result (λ x. ReadsTyped tag.0 i.now x.1 x.0.now) (TypedRefuses tag.0 i.now) (TypedLacks tag.0 i.now) ⊥ }
-    ensures only { (c : Class) (p : Bool) (x : Content) (rest : List ℕ) → BeginsWithTyped i.now c p tag.0 x rest → IsOkAnd result (λ y. (tree y.1 ≡ node c p tag.0 x) × (y.0.now ≡ rest)) }
-    ensures refuses { (e : Refusal) → TypedRefuses tag.0 i.now e → AnswersError result e }
-    ensures lacks { (n : ℕ) → TypedLacks tag.0 i.now n → AnswersIncomplete result n }
+    ensures { AnswersLeaf tag.0 i.now result }
 {
     read_typed_leaf(i, tag)
 }
@@ -80,12 +74,10 @@ fn parse_typed_leaf<'a>(i: &'a [u8], tag: Tag) -> BerResult<'a>
 /// Refusals, in this order: those of `ber_read_element_header`; UnexpectedTag for another number;
 /// those of `ber_read_element_content_as`. Incomplete with the number of octets that the header
 /// lacks, the whole of a definite length whose content is cut short, or the number of octets that
-/// the elements of an indefinite length lack. OutOfMemory only for a list that has items.
+/// the elements of an indefinite length lack. OutOfMemory only for a list that has items, or for an
+/// indefinite length.
 pub fn parse_ber_with_tag<'a>(alloc: Global, i: &'a [u8], tag: Tag) -> BerResult<'a>
-    ensures found { MatchAnswer result (λ x. ReadsTyped tag.0 i.now x.1 x.0.now) (TypedRefuses tag.0 i.now) (TypedLacks tag.0 i.now) (TypedNeedsMemory tag.0 i.now) }
-    ensures only { (c : Class) (p : Bool) (x : Content) (rest : List ℕ) → BeginsWithTyped i.now c p tag.0 x rest → AnswersOkOr (TypedNeedsMemory tag.0 i.now) result (λ y. (tree y.1 ≡ node c p tag.0 x) × (y.0.now ≡ rest)) }
-    ensures refuses { (e : Refusal) → TypedRefuses tag.0 i.now e → AnswersErrorOr (TypedNeedsMemory tag.0 i.now) result e }
-    ensures lacks { (n : ℕ) → TypedLacks tag.0 i.now n → AnswersIncompleteOr (TypedNeedsMemory tag.0 i.now) result n }
+    ensures { AnswersTyped tag.0 i.now result }
 {
     read_typed(alloc, i, tag)
 }
@@ -93,10 +85,7 @@ pub fn parse_ber_with_tag<'a>(alloc: Global, i: &'a [u8], tag: Tag) -> BerResult
 /// Reads a SEQUENCE or SEQUENCE OF (X.690 8.9, 8.10): as `parse_ber_with_tag` with its number.
 /// ConstructExpected where it is primitive, and the first refusal of an item.
 pub fn parse_ber_sequence<'a>(alloc: Global, i: &'a [u8]) -> BerResult<'a>
-    ensures found { MatchAnswer result (λ x. ReadsTyped 16 i.now x.1 x.0.now) (TypedRefuses 16 i.now) (TypedLacks 16 i.now) (TypedNeedsMemory 16 i.now) }
-    ensures only { (c : Class) (p : Bool) (x : Content) (rest : List ℕ) → BeginsWithTyped i.now c p 16 x rest → AnswersOkOr (TypedNeedsMemory 16 i.now) result (λ y. (tree y.1 ≡ node c p 16 x) × (y.0.now ≡ rest)) }
-    ensures refuses { (e : Refusal) → TypedRefuses 16 i.now e → AnswersErrorOr (TypedNeedsMemory 16 i.now) result e }
-    ensures lacks { (n : ℕ) → TypedLacks 16 i.now n → AnswersIncompleteOr (TypedNeedsMemory 16 i.now) result n }
+    ensures { AnswersTyped 16 i.now result }
 {
     parse_ber_with_tag(alloc, i, Tag::Sequence)
 }
@@ -104,281 +93,183 @@ pub fn parse_ber_sequence<'a>(alloc: Global, i: &'a [u8]) -> BerResult<'a>
 /// Reads a SET or SET OF (X.690 8.11, 8.12): as `parse_ber_with_tag` with its number.
 /// ConstructExpected where it is primitive, and the first refusal of an item.
 pub fn parse_ber_set<'a>(alloc: Global, i: &'a [u8]) -> BerResult<'a>
-    ensures found { MatchAnswer result (λ x. ReadsTyped 17 i.now x.1 x.0.now) (TypedRefuses 17 i.now) (TypedLacks 17 i.now) (TypedNeedsMemory 17 i.now) }
-    ensures only { (c : Class) (p : Bool) (x : Content) (rest : List ℕ) → BeginsWithTyped i.now c p 17 x rest → AnswersOkOr (TypedNeedsMemory 17 i.now) result (λ y. (tree y.1 ≡ node c p 17 x) × (y.0.now ≡ rest)) }
-    ensures refuses { (e : Refusal) → TypedRefuses 17 i.now e → AnswersErrorOr (TypedNeedsMemory 17 i.now) result e }
-    ensures lacks { (n : ℕ) → TypedLacks 17 i.now n → AnswersIncompleteOr (TypedNeedsMemory 17 i.now) result n }
+    ensures { AnswersTyped 17 i.now result }
 {
     parse_ber_with_tag(alloc, i, Tag::Set)
 }
 
-/// Reads the type of tag number 0, whose content octets aren't kept (X.690 8.1.5), in an element of
-/// its tag number and of any class: as `parse_ber_with_tag`, and takes no memory.
-pub fn parse_ber_endofcontent<'a>(i: &'a [u8]) -> BerResult<'a>
-    ensures found { MatchAnswer result (λ x. ReadsTyped 0 i.now x.1 x.0.now) (TypedRefuses 0 i.now) (TypedLacks 0 i.now) ⊥ }
-    ensures only { (c : Class) (p : Bool) (x : Content) (rest : List ℕ) → BeginsWithTyped i.now c p 0 x rest → IsOkAnd result (λ y. (tree y.1 ≡ node c p 0 x) × (y.0.now ≡ rest)) }
-    ensures refuses { (e : Refusal) → TypedRefuses 0 i.now e → AnswersError result e }
-    ensures lacks { (n : ℕ) → TypedLacks 0 i.now n → AnswersIncomplete result n }
+/// Reads the type of tag number 0, whose content octets aren't kept (8.1.5).
+pub fn parse_ber_endofcontent(i: &[u8]) -> BerResult<'_>
+    ensures { AnswersLeaf 0 i.now result }
 {
     parse_typed_leaf(i, Tag::EndOfContent)
 }
 
-/// Reads a BOOLEAN (X.690 8.2), in an element of its tag number and of any class: as
-/// `parse_ber_with_tag`, and takes no memory. Refusals of its content: ConstructUnexpected,
-/// InvalidLength.
-pub fn parse_ber_bool<'a>(i: &'a [u8]) -> BerResult<'a>
-    ensures found { MatchAnswer result (λ x. ReadsTyped 1 i.now x.1 x.0.now) (TypedRefuses 1 i.now) (TypedLacks 1 i.now) ⊥ }
-    ensures only { (c : Class) (p : Bool) (x : Content) (rest : List ℕ) → BeginsWithTyped i.now c p 1 x rest → IsOkAnd result (λ y. (tree y.1 ≡ node c p 1 x) × (y.0.now ≡ rest)) }
-    ensures refuses { (e : Refusal) → TypedRefuses 1 i.now e → AnswersError result e }
-    ensures lacks { (n : ℕ) → TypedLacks 1 i.now n → AnswersIncomplete result n }
+/// Reads a BOOLEAN (8.2). Refusals of its content: ConstructUnexpected, InvalidLength.
+pub fn parse_ber_bool(i: &[u8]) -> BerResult<'_>
+    ensures { AnswersLeaf 1 i.now result }
 {
     parse_typed_leaf(i, Tag::Boolean)
 }
 
-/// Reads an INTEGER, whose octets are kept as they stand (X.690 8.3), in an element of its tag
-/// number and of any class: as `parse_ber_with_tag`, and takes no memory.
-pub fn parse_ber_integer<'a>(i: &'a [u8]) -> BerResult<'a>
-    ensures found { MatchAnswer result (λ x. ReadsTyped 2 i.now x.1 x.0.now) (TypedRefuses 2 i.now) (TypedLacks 2 i.now) ⊥ }
-    ensures only { (c : Class) (p : Bool) (x : Content) (rest : List ℕ) → BeginsWithTyped i.now c p 2 x rest → IsOkAnd result (λ y. (tree y.1 ≡ node c p 2 x) × (y.0.now ≡ rest)) }
-    ensures refuses { (e : Refusal) → TypedRefuses 2 i.now e → AnswersError result e }
-    ensures lacks { (n : ℕ) → TypedLacks 2 i.now n → AnswersIncomplete result n }
+/// Reads an INTEGER, whose octets are kept as they stand (8.3).
+pub fn parse_ber_integer(i: &[u8]) -> BerResult<'_>
+    ensures { AnswersLeaf 2 i.now result }
 {
     parse_typed_leaf(i, Tag::Integer)
 }
 
-/// Reads a BIT STRING (X.690 8.6), in an element of its tag number and of any class: as
-/// `parse_ber_with_tag`, and takes no memory. Refusals of its content: BerValueError without
-/// content octets, Unsupported where constructed.
-pub fn parse_ber_bitstring<'a>(i: &'a [u8]) -> BerResult<'a>
-    ensures found { MatchAnswer result (λ x. ReadsTyped 3 i.now x.1 x.0.now) (TypedRefuses 3 i.now) (TypedLacks 3 i.now) ⊥ }
-    ensures only { (c : Class) (p : Bool) (x : Content) (rest : List ℕ) → BeginsWithTyped i.now c p 3 x rest → IsOkAnd result (λ y. (tree y.1 ≡ node c p 3 x) × (y.0.now ≡ rest)) }
-    ensures refuses { (e : Refusal) → TypedRefuses 3 i.now e → AnswersError result e }
-    ensures lacks { (n : ℕ) → TypedLacks 3 i.now n → AnswersIncomplete result n }
+/// Reads a BIT STRING (8.6). Refusals of its content: BerValueError without content octets,
+/// Unsupported where constructed.
+pub fn parse_ber_bitstring(i: &[u8]) -> BerResult<'_>
+    ensures { AnswersLeaf 3 i.now result }
 {
     parse_typed_leaf(i, Tag::BitString)
 }
 
 /// Reads an OCTET STRING, whose octets are kept as they stand, those of elements too where it is
-/// constructed (X.690 8.7), in an element of its tag number and of any class: as
-/// `parse_ber_with_tag`, and takes no memory.
-pub fn parse_ber_octetstring<'a>(i: &'a [u8]) -> BerResult<'a>
-    ensures found { MatchAnswer result (λ x. ReadsTyped 4 i.now x.1 x.0.now) (TypedRefuses 4 i.now) (TypedLacks 4 i.now) ⊥ }
-    ensures only { (c : Class) (p : Bool) (x : Content) (rest : List ℕ) → BeginsWithTyped i.now c p 4 x rest → IsOkAnd result (λ y. (tree y.1 ≡ node c p 4 x) × (y.0.now ≡ rest)) }
-    ensures refuses { (e : Refusal) → TypedRefuses 4 i.now e → AnswersError result e }
-    ensures lacks { (n : ℕ) → TypedLacks 4 i.now n → AnswersIncomplete result n }
+/// constructed (8.7).
+pub fn parse_ber_octetstring(i: &[u8]) -> BerResult<'_>
+    ensures { AnswersLeaf 4 i.now result }
 {
     parse_typed_leaf(i, Tag::OctetString)
 }
 
-/// Reads a NULL, whose content octets aren't kept (X.690 8.8), in an element of its tag number and
-/// of any class: as `parse_ber_with_tag`, and takes no memory.
-pub fn parse_ber_null<'a>(i: &'a [u8]) -> BerResult<'a>
-    ensures found { MatchAnswer result (λ x. ReadsTyped 5 i.now x.1 x.0.now) (TypedRefuses 5 i.now) (TypedLacks 5 i.now) ⊥ }
-    ensures only { (c : Class) (p : Bool) (x : Content) (rest : List ℕ) → BeginsWithTyped i.now c p 5 x rest → IsOkAnd result (λ y. (tree y.1 ≡ node c p 5 x) × (y.0.now ≡ rest)) }
-    ensures refuses { (e : Refusal) → TypedRefuses 5 i.now e → AnswersError result e }
-    ensures lacks { (n : ℕ) → TypedLacks 5 i.now n → AnswersIncomplete result n }
+/// Reads a NULL, whose content octets aren't kept (8.8).
+pub fn parse_ber_null(i: &[u8]) -> BerResult<'_>
+    ensures { AnswersLeaf 5 i.now result }
 {
     parse_typed_leaf(i, Tag::Null)
 }
 
-/// Reads an OBJECT IDENTIFIER (X.690 8.19), in an element of its tag number and of any class: as
-/// `parse_ber_with_tag`, and takes no memory. Refusals of its content: ConstructUnexpected.
-pub fn parse_ber_oid<'a>(i: &'a [u8]) -> BerResult<'a>
-    ensures found { MatchAnswer result (λ x. ReadsTyped 6 i.now x.1 x.0.now) (TypedRefuses 6 i.now) (TypedLacks 6 i.now) ⊥ }
-    ensures only { (c : Class) (p : Bool) (x : Content) (rest : List ℕ) → BeginsWithTyped i.now c p 6 x rest → IsOkAnd result (λ y. (tree y.1 ≡ node c p 6 x) × (y.0.now ≡ rest)) }
-    ensures refuses { (e : Refusal) → TypedRefuses 6 i.now e → AnswersError result e }
-    ensures lacks { (n : ℕ) → TypedLacks 6 i.now n → AnswersIncomplete result n }
+/// Reads an OBJECT IDENTIFIER (8.19). Refusals of its content: ConstructUnexpected.
+pub fn parse_ber_oid(i: &[u8]) -> BerResult<'_>
+    ensures { AnswersLeaf 6 i.now result }
 {
     parse_typed_leaf(i, Tag::Oid)
 }
 
-/// Reads an ENUMERATED of a number from 0 to 2^64-1 (X.690 8.4), in an element of its tag number
-/// and of any class: as `parse_ber_with_tag`, and takes no memory. Refusals of its content:
+/// Reads an ENUMERATED of a number from 0 to 2^64-1 (8.4). Refusals of its content:
 /// ConstructUnexpected, IntegerNegative, IntegerTooLarge.
-pub fn parse_ber_enum<'a>(i: &'a [u8]) -> BerResult<'a>
-    ensures found { MatchAnswer result (λ x. ReadsTyped 10 i.now x.1 x.0.now) (TypedRefuses 10 i.now) (TypedLacks 10 i.now) ⊥ }
-    ensures only { (c : Class) (p : Bool) (x : Content) (rest : List ℕ) → BeginsWithTyped i.now c p 10 x rest → IsOkAnd result (λ y. (tree y.1 ≡ node c p 10 x) × (y.0.now ≡ rest)) }
-    ensures refuses { (e : Refusal) → TypedRefuses 10 i.now e → AnswersError result e }
-    ensures lacks { (n : ℕ) → TypedLacks 10 i.now n → AnswersIncomplete result n }
+pub fn parse_ber_enum(i: &[u8]) -> BerResult<'_>
+    ensures { AnswersLeaf 10 i.now result }
 {
     parse_typed_leaf(i, Tag::Enumerated)
 }
 
-/// Reads a UTF8String (X.690 8.23), in an element of its tag number and of any class: as
-/// `parse_ber_with_tag`, and takes no memory. Refusals of its content: Unsupported where
-/// constructed, StringInvalidCharset.
-pub fn parse_ber_utf8string<'a>(i: &'a [u8]) -> BerResult<'a>
-    ensures found { MatchAnswer result (λ x. ReadsTyped 12 i.now x.1 x.0.now) (TypedRefuses 12 i.now) (TypedLacks 12 i.now) ⊥ }
-    ensures only { (c : Class) (p : Bool) (x : Content) (rest : List ℕ) → BeginsWithTyped i.now c p 12 x rest → IsOkAnd result (λ y. (tree y.1 ≡ node c p 12 x) × (y.0.now ≡ rest)) }
-    ensures refuses { (e : Refusal) → TypedRefuses 12 i.now e → AnswersError result e }
-    ensures lacks { (n : ℕ) → TypedLacks 12 i.now n → AnswersIncomplete result n }
+/// Reads a UTF8String (8.23). Refusals of its content: Unsupported where constructed,
+/// StringInvalidCharset.
+pub fn parse_ber_utf8string(i: &[u8]) -> BerResult<'_>
+    ensures { AnswersLeaf 12 i.now result }
 {
     parse_typed_leaf(i, Tag::Utf8String)
 }
 
-/// Reads a RELATIVE-OID (X.690 8.20), in an element of its tag number and of any class: as
-/// `parse_ber_with_tag`, and takes no memory. Refusals of its content: ConstructUnexpected.
-pub fn parse_ber_relative_oid<'a>(i: &'a [u8]) -> BerResult<'a>
-    ensures found { MatchAnswer result (λ x. ReadsTyped 13 i.now x.1 x.0.now) (TypedRefuses 13 i.now) (TypedLacks 13 i.now) ⊥ }
-    ensures only { (c : Class) (p : Bool) (x : Content) (rest : List ℕ) → BeginsWithTyped i.now c p 13 x rest → IsOkAnd result (λ y. (tree y.1 ≡ node c p 13 x) × (y.0.now ≡ rest)) }
-    ensures refuses { (e : Refusal) → TypedRefuses 13 i.now e → AnswersError result e }
-    ensures lacks { (n : ℕ) → TypedLacks 13 i.now n → AnswersIncomplete result n }
+/// Reads a RELATIVE-OID (8.20). Refusals of its content: ConstructUnexpected.
+pub fn parse_ber_relative_oid(i: &[u8]) -> BerResult<'_>
+    ensures { AnswersLeaf 13 i.now result }
 {
     parse_typed_leaf(i, Tag::RelativeOid)
 }
 
-/// Reads a NumericString (X.690 8.23), in an element of its tag number and of any class: as
-/// `parse_ber_with_tag`, and takes no memory. Refusals of its content: Unsupported where
-/// constructed, StringInvalidCharset.
-pub fn parse_ber_numericstring<'a>(i: &'a [u8]) -> BerResult<'a>
-    ensures found { MatchAnswer result (λ x. ReadsTyped 18 i.now x.1 x.0.now) (TypedRefuses 18 i.now) (TypedLacks 18 i.now) ⊥ }
-    ensures only { (c : Class) (p : Bool) (x : Content) (rest : List ℕ) → BeginsWithTyped i.now c p 18 x rest → IsOkAnd result (λ y. (tree y.1 ≡ node c p 18 x) × (y.0.now ≡ rest)) }
-    ensures refuses { (e : Refusal) → TypedRefuses 18 i.now e → AnswersError result e }
-    ensures lacks { (n : ℕ) → TypedLacks 18 i.now n → AnswersIncomplete result n }
+/// Reads a NumericString (8.23). Refusals of its content: Unsupported where constructed,
+/// StringInvalidCharset.
+pub fn parse_ber_numericstring(i: &[u8]) -> BerResult<'_>
+    ensures { AnswersLeaf 18 i.now result }
 {
     parse_typed_leaf(i, Tag::NumericString)
 }
 
-/// Reads a VisibleString (X.690 8.23), in an element of its tag number and of any class: as
-/// `parse_ber_with_tag`, and takes no memory. Refusals of its content: Unsupported where
-/// constructed, StringInvalidCharset.
-pub fn parse_ber_visiblestring<'a>(i: &'a [u8]) -> BerResult<'a>
-    ensures found { MatchAnswer result (λ x. ReadsTyped 26 i.now x.1 x.0.now) (TypedRefuses 26 i.now) (TypedLacks 26 i.now) ⊥ }
-    ensures only { (c : Class) (p : Bool) (x : Content) (rest : List ℕ) → BeginsWithTyped i.now c p 26 x rest → IsOkAnd result (λ y. (tree y.1 ≡ node c p 26 x) × (y.0.now ≡ rest)) }
-    ensures refuses { (e : Refusal) → TypedRefuses 26 i.now e → AnswersError result e }
-    ensures lacks { (n : ℕ) → TypedLacks 26 i.now n → AnswersIncomplete result n }
+/// Reads a VisibleString (8.23). Refusals of its content: Unsupported where constructed,
+/// StringInvalidCharset.
+pub fn parse_ber_visiblestring(i: &[u8]) -> BerResult<'_>
+    ensures { AnswersLeaf 26 i.now result }
 {
     parse_typed_leaf(i, Tag::VisibleString)
 }
 
-/// Reads a PrintableString (X.690 8.23), in an element of its tag number and of any class: as
-/// `parse_ber_with_tag`, and takes no memory. Refusals of its content: Unsupported where
-/// constructed, StringInvalidCharset.
-pub fn parse_ber_printablestring<'a>(i: &'a [u8]) -> BerResult<'a>
-    ensures found { MatchAnswer result (λ x. ReadsTyped 19 i.now x.1 x.0.now) (TypedRefuses 19 i.now) (TypedLacks 19 i.now) ⊥ }
-    ensures only { (c : Class) (p : Bool) (x : Content) (rest : List ℕ) → BeginsWithTyped i.now c p 19 x rest → IsOkAnd result (λ y. (tree y.1 ≡ node c p 19 x) × (y.0.now ≡ rest)) }
-    ensures refuses { (e : Refusal) → TypedRefuses 19 i.now e → AnswersError result e }
-    ensures lacks { (n : ℕ) → TypedLacks 19 i.now n → AnswersIncomplete result n }
+/// Reads a PrintableString (8.23). Refusals of its content: Unsupported where constructed,
+/// StringInvalidCharset.
+pub fn parse_ber_printablestring(i: &[u8]) -> BerResult<'_>
+    ensures { AnswersLeaf 19 i.now result }
 {
     parse_typed_leaf(i, Tag::PrintableString)
 }
 
-/// Reads a T61String (X.690 8.23), in an element of its tag number and of any class: as
-/// `parse_ber_with_tag`, and takes no memory. Refusals of its content: Unsupported where
-/// constructed, StringInvalidCharset.
-pub fn parse_ber_t61string<'a>(i: &'a [u8]) -> BerResult<'a>
-    ensures found { MatchAnswer result (λ x. ReadsTyped 20 i.now x.1 x.0.now) (TypedRefuses 20 i.now) (TypedLacks 20 i.now) ⊥ }
-    ensures only { (c : Class) (p : Bool) (x : Content) (rest : List ℕ) → BeginsWithTyped i.now c p 20 x rest → IsOkAnd result (λ y. (tree y.1 ≡ node c p 20 x) × (y.0.now ≡ rest)) }
-    ensures refuses { (e : Refusal) → TypedRefuses 20 i.now e → AnswersError result e }
-    ensures lacks { (n : ℕ) → TypedLacks 20 i.now n → AnswersIncomplete result n }
+/// Reads a T61String (8.23). Refusals of its content: Unsupported where constructed,
+/// StringInvalidCharset.
+pub fn parse_ber_t61string(i: &[u8]) -> BerResult<'_>
+    ensures { AnswersLeaf 20 i.now result }
 {
     parse_typed_leaf(i, Tag::T61String)
 }
 
-/// Reads a VideotexString (X.690 8.23), in an element of its tag number and of any class: as
-/// `parse_ber_with_tag`, and takes no memory. Refusals of its content: Unsupported where
-/// constructed, StringInvalidCharset.
-pub fn parse_ber_videotexstring<'a>(i: &'a [u8]) -> BerResult<'a>
-    ensures found { MatchAnswer result (λ x. ReadsTyped 21 i.now x.1 x.0.now) (TypedRefuses 21 i.now) (TypedLacks 21 i.now) ⊥ }
-    ensures only { (c : Class) (p : Bool) (x : Content) (rest : List ℕ) → BeginsWithTyped i.now c p 21 x rest → IsOkAnd result (λ y. (tree y.1 ≡ node c p 21 x) × (y.0.now ≡ rest)) }
-    ensures refuses { (e : Refusal) → TypedRefuses 21 i.now e → AnswersError result e }
-    ensures lacks { (n : ℕ) → TypedLacks 21 i.now n → AnswersIncomplete result n }
+/// Reads a VideotexString (8.23). Refusals of its content: Unsupported where constructed,
+/// StringInvalidCharset.
+pub fn parse_ber_videotexstring(i: &[u8]) -> BerResult<'_>
+    ensures { AnswersLeaf 21 i.now result }
 {
     parse_typed_leaf(i, Tag::VideotexString)
 }
 
-/// Reads an IA5String (X.690 8.23), in an element of its tag number and of any class: as
-/// `parse_ber_with_tag`, and takes no memory. Refusals of its content: Unsupported where
-/// constructed, StringInvalidCharset.
-pub fn parse_ber_ia5string<'a>(i: &'a [u8]) -> BerResult<'a>
-    ensures found { MatchAnswer result (λ x. ReadsTyped 22 i.now x.1 x.0.now) (TypedRefuses 22 i.now) (TypedLacks 22 i.now) ⊥ }
-    ensures only { (c : Class) (p : Bool) (x : Content) (rest : List ℕ) → BeginsWithTyped i.now c p 22 x rest → IsOkAnd result (λ y. (tree y.1 ≡ node c p 22 x) × (y.0.now ≡ rest)) }
-    ensures refuses { (e : Refusal) → TypedRefuses 22 i.now e → AnswersError result e }
-    ensures lacks { (n : ℕ) → TypedLacks 22 i.now n → AnswersIncomplete result n }
+/// Reads an IA5String (8.23). Refusals of its content: Unsupported where constructed,
+/// StringInvalidCharset.
+pub fn parse_ber_ia5string(i: &[u8]) -> BerResult<'_>
+    ensures { AnswersLeaf 22 i.now result }
 {
     parse_typed_leaf(i, Tag::Ia5String)
 }
 
-/// Reads a UTCTime (X.690 8.25), in an element of its tag number and of any class: as
-/// `parse_ber_with_tag`, and takes no memory. Refusals of its content: Unsupported where
-/// constructed, InvalidDateTime.
-pub fn parse_ber_utctime<'a>(i: &'a [u8]) -> BerResult<'a>
-    ensures found { MatchAnswer result (λ x. ReadsTyped 23 i.now x.1 x.0.now) (TypedRefuses 23 i.now) (TypedLacks 23 i.now) ⊥ }
-    ensures only { (c : Class) (p : Bool) (x : Content) (rest : List ℕ) → BeginsWithTyped i.now c p 23 x rest → IsOkAnd result (λ y. (tree y.1 ≡ node c p 23 x) × (y.0.now ≡ rest)) }
-    ensures refuses { (e : Refusal) → TypedRefuses 23 i.now e → AnswersError result e }
-    ensures lacks { (n : ℕ) → TypedLacks 23 i.now n → AnswersIncomplete result n }
+/// Reads a UTCTime (8.25). Refusals of its content: Unsupported where constructed, InvalidDateTime.
+pub fn parse_ber_utctime(i: &[u8]) -> BerResult<'_>
+    ensures { AnswersLeaf 23 i.now result }
 {
     parse_typed_leaf(i, Tag::UtcTime)
 }
 
-/// Reads a GeneralizedTime (X.690 8.25), in an element of its tag number and of any class: as
-/// `parse_ber_with_tag`, and takes no memory. Refusals of its content: Unsupported where
-/// constructed, InvalidDateTime.
-pub fn parse_ber_generalizedtime<'a>(i: &'a [u8]) -> BerResult<'a>
-    ensures found { MatchAnswer result (λ x. ReadsTyped 24 i.now x.1 x.0.now) (TypedRefuses 24 i.now) (TypedLacks 24 i.now) ⊥ }
-    ensures only { (c : Class) (p : Bool) (x : Content) (rest : List ℕ) → BeginsWithTyped i.now c p 24 x rest → IsOkAnd result (λ y. (tree y.1 ≡ node c p 24 x) × (y.0.now ≡ rest)) }
-    ensures refuses { (e : Refusal) → TypedRefuses 24 i.now e → AnswersError result e }
-    ensures lacks { (n : ℕ) → TypedLacks 24 i.now n → AnswersIncomplete result n }
+/// Reads a GeneralizedTime (8.25). Refusals of its content: Unsupported where constructed,
+/// InvalidDateTime.
+pub fn parse_ber_generalizedtime(i: &[u8]) -> BerResult<'_>
+    ensures { AnswersLeaf 24 i.now result }
 {
     parse_typed_leaf(i, Tag::GeneralizedTime)
 }
 
-/// Reads an ObjectDescriptor (X.690 8.25), in an element of its tag number and of any class: as
-/// `parse_ber_with_tag`, and takes no memory. Refusals of its content: Unsupported where
-/// constructed, StringInvalidCharset.
-pub fn parse_ber_objectdescriptor<'a>(i: &'a [u8]) -> BerResult<'a>
-    ensures found { MatchAnswer result (λ x. ReadsTyped 7 i.now x.1 x.0.now) (TypedRefuses 7 i.now) (TypedLacks 7 i.now) ⊥ }
-    ensures only { (c : Class) (p : Bool) (x : Content) (rest : List ℕ) → BeginsWithTyped i.now c p 7 x rest → IsOkAnd result (λ y. (tree y.1 ≡ node c p 7 x) × (y.0.now ≡ rest)) }
-    ensures refuses { (e : Refusal) → TypedRefuses 7 i.now e → AnswersError result e }
-    ensures lacks { (n : ℕ) → TypedLacks 7 i.now n → AnswersIncomplete result n }
+/// Reads an ObjectDescriptor (8.25). Refusals of its content: Unsupported where constructed,
+/// StringInvalidCharset.
+pub fn parse_ber_objectdescriptor(i: &[u8]) -> BerResult<'_>
+    ensures { AnswersLeaf 7 i.now result }
 {
     parse_typed_leaf(i, Tag::ObjectDescriptor)
 }
 
-/// Reads a GraphicString (X.690 8.23), in an element of its tag number and of any class: as
-/// `parse_ber_with_tag`, and takes no memory. Refusals of its content: Unsupported where
-/// constructed, StringInvalidCharset.
-pub fn parse_ber_graphicstring<'a>(i: &'a [u8]) -> BerResult<'a>
-    ensures found { MatchAnswer result (λ x. ReadsTyped 25 i.now x.1 x.0.now) (TypedRefuses 25 i.now) (TypedLacks 25 i.now) ⊥ }
-    ensures only { (c : Class) (p : Bool) (x : Content) (rest : List ℕ) → BeginsWithTyped i.now c p 25 x rest → IsOkAnd result (λ y. (tree y.1 ≡ node c p 25 x) × (y.0.now ≡ rest)) }
-    ensures refuses { (e : Refusal) → TypedRefuses 25 i.now e → AnswersError result e }
-    ensures lacks { (n : ℕ) → TypedLacks 25 i.now n → AnswersIncomplete result n }
+/// Reads a GraphicString (8.23). Refusals of its content: Unsupported where constructed,
+/// StringInvalidCharset.
+pub fn parse_ber_graphicstring(i: &[u8]) -> BerResult<'_>
+    ensures { AnswersLeaf 25 i.now result }
 {
     parse_typed_leaf(i, Tag::GraphicString)
 }
 
-/// Reads a GeneralString (X.690 8.23), in an element of its tag number and of any class: as
-/// `parse_ber_with_tag`, and takes no memory. Refusals of its content: Unsupported where
-/// constructed, StringInvalidCharset.
-pub fn parse_ber_generalstring<'a>(i: &'a [u8]) -> BerResult<'a>
-    ensures found { MatchAnswer result (λ x. ReadsTyped 27 i.now x.1 x.0.now) (TypedRefuses 27 i.now) (TypedLacks 27 i.now) ⊥ }
-    ensures only { (c : Class) (p : Bool) (x : Content) (rest : List ℕ) → BeginsWithTyped i.now c p 27 x rest → IsOkAnd result (λ y. (tree y.1 ≡ node c p 27 x) × (y.0.now ≡ rest)) }
-    ensures refuses { (e : Refusal) → TypedRefuses 27 i.now e → AnswersError result e }
-    ensures lacks { (n : ℕ) → TypedLacks 27 i.now n → AnswersIncomplete result n }
+/// Reads a GeneralString (8.23). Refusals of its content: Unsupported where constructed,
+/// StringInvalidCharset.
+pub fn parse_ber_generalstring(i: &[u8]) -> BerResult<'_>
+    ensures { AnswersLeaf 27 i.now result }
 {
     parse_typed_leaf(i, Tag::GeneralString)
 }
 
-/// Reads a BMPString (X.690 8.23.9), in an element of its tag number and of any class: as
-/// `parse_ber_with_tag`, and takes no memory. Refusals of its content: Unsupported where
-/// constructed or of an odd length, StringInvalidCharset.
-pub fn parse_ber_bmpstring<'a>(i: &'a [u8]) -> BerResult<'a>
-    ensures found { MatchAnswer result (λ x. ReadsTyped 30 i.now x.1 x.0.now) (TypedRefuses 30 i.now) (TypedLacks 30 i.now) ⊥ }
-    ensures only { (c : Class) (p : Bool) (x : Content) (rest : List ℕ) → BeginsWithTyped i.now c p 30 x rest → IsOkAnd result (λ y. (tree y.1 ≡ node c p 30 x) × (y.0.now ≡ rest)) }
-    ensures refuses { (e : Refusal) → TypedRefuses 30 i.now e → AnswersError result e }
-    ensures lacks { (n : ℕ) → TypedLacks 30 i.now n → AnswersIncomplete result n }
+/// Reads a BMPString (8.23.9). Refusals of its content: Unsupported where constructed or of an odd
+/// length, StringInvalidCharset.
+pub fn parse_ber_bmpstring(i: &[u8]) -> BerResult<'_>
+    ensures { AnswersLeaf 30 i.now result }
 {
     parse_typed_leaf(i, Tag::BmpString)
 }
 
-/// Reads a UniversalString (X.690 8.23.8), in an element of its tag number and of any class: as
-/// `parse_ber_with_tag`, and takes no memory. Refusals of its content: Unsupported where
-/// constructed.
-pub fn parse_ber_universalstring<'a>(i: &'a [u8]) -> BerResult<'a>
-    ensures found { MatchAnswer result (λ x. ReadsTyped 28 i.now x.1 x.0.now) (TypedRefuses 28 i.now) (TypedLacks 28 i.now) ⊥ }
-    ensures only { (c : Class) (p : Bool) (x : Content) (rest : List ℕ) → BeginsWithTyped i.now c p 28 x rest → IsOkAnd result (λ y. (tree y.1 ≡ node c p 28 x) × (y.0.now ≡ rest)) }
-    ensures refuses { (e : Refusal) → TypedRefuses 28 i.now e → AnswersError result e }
-    ensures lacks { (n : ℕ) → TypedLacks 28 i.now n → AnswersIncomplete result n }
+/// Reads a UniversalString (8.23.8). Refusals of its content: Unsupported where constructed.
+pub fn parse_ber_universalstring(i: &[u8]) -> BerResult<'_>
+    ensures { AnswersLeaf 28 i.now result }
 {
     parse_typed_leaf(i, Tag::UniversalString)
 }

@@ -9,9 +9,9 @@ use Rattle.der_base.specs.Headers.{BeginsWithDerHeader}
 use Rattle.der_base.specs.Refusal.{Refusal}
 use Rattle.der_base.specs.Spelling.{DerSpells}
 use Rattle.der_base.specs.Tree.{Content, node}
-use Rattle.der_base.proofs.DerFaults.{spelled_shows_nothing, shows_one}
-use Rattle.der_base.proofs.DerWithinBer.{valid_element, der_spelling_same, element_header}
-use Rattle.der_base.proofs.Identifiers.{fronts_same}
+use Rattle.der_base.proofs.Spellings.DerFaults.{spelled_shows_nothing, shows_one}
+use Rattle.der_base.proofs.Spellings.DerWithinBer.{valid_element, der_spelling_same, element_header}
+use Rattle.der_base.proofs.Octets.Identifiers.{fronts_same}
 use Rattle.der_der.specs.DerReading.{IsDerContentOf, ContentRefuses}
 use Rattle.der_der.specs.DerContents.{FramesContent, FrameRefuses, FrameLacks, ReadingRefuses}
 use Rattle.der_der.proofs.Items.{content_refused, universal_or_not}

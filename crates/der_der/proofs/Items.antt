@@ -19,17 +19,17 @@ use Rattle.der_base.specs.Octets.{identifier, shortest_length}
 use Rattle.der_base.specs.Refusal.{Refusal, invalid_length}
 use Rattle.der_base.specs.Spelling.{IsDerContent, AreDerValid, max_object_size}
 use Rattle.der_base.specs.Tree.{Content, end_of_content, boolean, integer, bit_string, octet_string, null, enumerated, object_identifier, relative_oid, text, bmp_string, universal_string, time, sequence, set, absent, present, tagged, unknown, Nodes, no_nodes, nodes, content_height, list_height}
-use Rattle.der_base.proofs.DerFaults.{header_shows, size_shows, behind_shows, header_cut_shows_nothing, content_cut_shows_nothing}
-use Rattle.der_base.proofs.DerLacking.{der_header_cut, der_content_cut}
-use Rattle.der_base.proofs.DerWithinBer.{valid_element}
-use Rattle.der_base.proofs.Identifiers.{identifier_octets}
+use Rattle.der_base.proofs.Spellings.DerFaults.{header_shows, size_shows, behind_shows, header_cut_shows_nothing, content_cut_shows_nothing}
+use Rattle.der_base.proofs.Spellings.DerLacking.{der_header_cut, der_content_cut}
+use Rattle.der_base.proofs.Spellings.DerWithinBer.{valid_element}
+use Rattle.der_base.proofs.Octets.Identifiers.{identifier_octets}
 use Rattle.der_object.specs.declared.object.BerObject.{BerObject}
 use Rattle.der_object.specs.declared.object.BerObjectContent.{BerObjectContent}
 use Rattle.der_object.specs.declared.object.BerObjectContent.TheVariants.{Sequence, Set, Unknown}
-use Rattle.der_object.specs.Marks.{HasRawTag, HasShortestMark, HasShortestMarks}
+use Rattle.der_object.specs.HeaderFacts.{HasRawTag, HasDerHeader, EachHasDerHeader}
 use Rattle.der_object.specs.View.{content_tree, trees}
 use Rattle.der_object.proofs.Joins.{der_joins_push}
-use Rattle.der_object.proofs.Marks.{sequence_each, set_each, leaf_each, leaf_keeps, each_push}
+use Rattle.der_object.proofs.HeaderFacts.{sequence_each, set_each, leaf_each, leaf_keeps, each_push}
 use Rattle.der_object.proofs.Trees.{sequence_tree, set_tree}
 use Rattle.der_der.specs.DerReading.{ReadsDer, AreItems, IsDerContentOf, IsContentOf, DerIsCut, BeginsWithItems, ContentRefuses}
 
@@ -64,21 +64,21 @@ pub record Read (w rest : List ℕ) (os : List BerObject) (d : ℕ) : Type 0 whe
   pub read : List ℕ
   pub parts : w ≡ read ++ rest
   pub joins : DerJoins read (trees os) d
-  pub marked : All HasShortestMarks os
+  pub headers : All EachHasDerHeader os
 
 pub read_none : (w : List ℕ) (d : ℕ) → Read w w [] d
-read_none w d = record { read = []; parts = refl; joins = refl; marked = All-nil HasShortestMarks }
+read_none w d = record { read = []; parts = refl; joins = refl; headers = All-nil EachHasDerHeader }
 
 pub read_more : (w rest after : List ℕ) (os : List BerObject) (o : BerObject) (d : ℕ) → Read w rest os d → ReadsDer d rest o after → Read w after (os ++ o ∷ []) d
 read_more w rest after os o d h k = record {
   read = h.read ++ k.spelling;
   parts = h.parts ∙ ap (λ v. h.read ++ v) k.octets ∙ sym (append_assoc h.read k.spelling after);
   joins = der_joins_push os h.read k.spelling o d h.joins k.spells;
-  marked = each_push HasShortestMark os o h.marked k.marked;
+  headers = each_push HasDerHeader os o h.headers k.headers;
 }
 
 pub read_all : (w rest : List ℕ) (os : List BerObject) (d : ℕ) → Read w rest os d → length rest ≡ 0 → AreItems w os d
-read_all w [] os d h z = record { joins = subst (λ v. DerJoins v (trees os) d) (sym (h.parts ∙ append-nil h.read)) h.joins; marked = h.marked }
+read_all w [] os d h z = record { joins = subst (λ v. DerJoins v (trees os) d) (sym (h.parts ∙ append-nil h.read)) h.joins; headers = h.headers }
 read_all w (b ∷ rest) os d h z = absurd (omega arith)
 
 -- joined items are the encodings of a valid list
@@ -101,13 +101,13 @@ pub sequence_content : (w : List ℕ) (h : Header) (v : Vec BerObject Global) (d
 sequence_content w h v d ec ep et le j =
     let q = joins_encoded (trees v.items) w (d - 1) j.joins in
     let k : IsDerContentOf w (class_of h) (is_constructed h) (number_of h) (sequence (trees v.items)) d = record { octets = q.octets; valid = (ec, et, ep, q.valid); depth = omega (arith, q.depth) } in
-    record { content = subst (λ x. IsDerContentOf w (class_of h) (is_constructed h) (number_of h) x d) (sym (sequence_tree v)) k; kept = tt; marked = sequence_each HasShortestMark v j.marked }
+    record { content = subst (λ x. IsDerContentOf w (class_of h) (is_constructed h) (number_of h) x d) (sym (sequence_tree v)) k; kept = tt; headers = sequence_each HasDerHeader v j.headers }
 
 pub set_content : (w : List ℕ) (h : Header) (v : Vec BerObject Global) (d : ℕ) → class_of h ≡ Universal → is_constructed h ≡ true → number_of h ≡ 17 → 1 ≤ d → AreItems w v.items (d - 1) → IsContentOf w h (Set v) d
 set_content w h v d ec ep et le j =
     let q = joins_encoded (trees v.items) w (d - 1) j.joins in
     let k : IsDerContentOf w (class_of h) (is_constructed h) (number_of h) (set (trees v.items)) d = record { octets = q.octets; valid = (ec, et, ep, q.valid); depth = omega (arith, q.depth) } in
-    record { content = subst (λ x. IsDerContentOf w (class_of h) (is_constructed h) (number_of h) x d) (sym (set_tree v)) k; kept = tt; marked = set_each HasShortestMark v j.marked }
+    record { content = subst (λ x. IsDerContentOf w (class_of h) (is_constructed h) (number_of h) x d) (sym (set_tree v)) k; kept = tt; headers = set_each HasDerHeader v j.headers }
 
 pub raw_content : (w : List ℕ) (h : Header) (a : Any) (d : ℕ) → 1 ≤ d → a.header ≡ h → a.bytes.now ≡ w → (class_of h ≡ Universal → is_mapped (number_of h) ≡ false) → IsContentOf w h (Unknown a) d
 raw_content w h a d le q e k = record {
@@ -117,7 +117,7 @@ raw_content w h a d le q e k = record {
     depth = le;
   };
   kept = q;
-  marked = tt;
+  headers = tt;
 }
 
 pub leaf_content : (w : List ℕ) (h : Header) (x : BerObjectContent) (d : ℕ) → class_of h ≡ Universal → 1 ≤ d → is_constructed h ≡ false → IsDerLeaf (number_of h) (content_tree x) → w ≡ content_octets (content_tree x) → IsContentOf w h x d
@@ -128,7 +128,7 @@ leaf_content w h x d u le p r e = record {
     depth = omega (arith, leaf_height (number_of h) (content_tree x) r, le);
   };
   kept = leaf_keeps h false (number_of h) (content_octets (content_tree x)) x r.0;
-  marked = leaf_each HasShortestMark false (number_of h) (content_octets (content_tree x)) x r.0;
+  headers = leaf_each HasDerHeader false (number_of h) (content_octets (content_tree x)) x r.0;
 }
 
 -- an element of a header and a content
@@ -147,7 +147,7 @@ element_read i rest w r o n d b l raw s e z k =
       spelling = element c p t v;
       octets = f;
       spells = record { encoded = sym (valid_element c p t x k.content.valid); valid = (b.number, k.content.valid); depth = k.content.depth; size = omega (arith, m) };
-      marked = (record { raw_tag = raw; length = l ∙ ap Definite m; kept = k.kept }, k.marked);
+      headers = (record { raw_tag = raw; length = l ∙ ap Definite m; kept = k.kept }, k.headers);
     }
 
 -- an object that has this content

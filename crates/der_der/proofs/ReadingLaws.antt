@@ -1,10 +1,14 @@
 -- An object that begins the input, and an input that is cut short: one of them holds at most, and each in one way.
-use Rattle.std.proofs.Common.{◌≡◌, ℕ, List, ◌++◌, sym, ◌∙◌}
-use Rattle.der_base.specs.Spelling.{DerSpells}
+use Rattle.std.proofs.Common.{◌≡◌, ℕ, List, ◌++◌, sym, ap, ◌∙◌}
+use Rattle.der_base.specs.Spelling.{BeginsWithDer, DerSpells}
 use Rattle.der_base.specs.Tree.{Node}
-use Rattle.der_base.proofs.DerLacking.{der_lacks_same}
-use Rattle.der_base.proofs.DerWithinBer.{der_spelling_same, der_spelled_not_cut}
-use Rattle.der_der.specs.DerReading.{DerIsCut}
+use Rattle.der_base.proofs.Spellings.DerLacking.{der_lacks_same}
+use Rattle.der_base.proofs.Spellings.DerWithinBer.{der_spelling_same, der_spelled_not_cut}
+use Rattle.der_base.proofs.Spellings.DerFaults.{spelled_shows_nothing, shows_one}
+use Rattle.der_base.proofs.Answers.Exactness.{ShowsOne}
+use Rattle.der_base.specs.Fault.{DerShowsFault}
+use Rattle.der_object.specs.Readings.{value_of}
+use Rattle.der_der.specs.DerReading.{DerIsCut, ReadsDer}
 
 pub spelled_not_cut : (d : ℕ) (i b rest : List ℕ) (o : Node) (n : ℕ) → i ≡ b ++ rest → DerSpells b o d → DerIsCut d i n → ⊥
 spelled_not_cut d i b rest o n q s k = der_spelled_not_cut i b rest o d s q k.0
@@ -14,3 +18,15 @@ cut_same d i n n' h h' = der_lacks_same i n n' h.1 h'.1
 
 pub spelled_same : (d : ℕ) (i b b' rest rest' : List ℕ) (o o' : Node) → i ≡ b ++ rest → DerSpells b o d → i ≡ b' ++ rest' → DerSpells b' o' d → (o ≡ o') × (rest ≡ rest')
 spelled_same d i b b' rest rest' o o' q s q' s' = let z = der_spelling_same b b' rest rest' o o' d d s s' (sym q ∙ q') in (z.1, z.2)
+
+-- of an object, a refusal and a cut, an input shows one at most
+pub der_shows_one : (d : ℕ) (i : List ℕ) → ShowsOne value_of (λ x. ReadsDer d i x.1 x.0.now) (λ v. BeginsWithDer d i v.0 v.1) (DerShowsFault d i) (DerIsCut d i)
+der_shows_one d i = record {
+  spelled = λ x r. (r.spelling, r.octets, r.spells);
+  one_value = λ x v r s. (let z = spelled_same d i r.spelling s.0 x.0.now v.1 (value_of x).0 v.0 r.octets r.spells s.1 s.2 in ap (λ o. (o, x.0.now)) z.0 ∙ ap (λ w. (v.0, w)) z.1);
+  one_refusal = λ e e' r r'. shows_one d i e e' r r';
+  one_lack = λ n n' h h'. cut_same d i n n' h h';
+  not_refused = λ v e s r. spelled_shows_nothing d i s.0 v.1 v.0 e s.1 s.2 r;
+  not_lacking = λ v n s h. spelled_not_cut d i s.0 v.1 v.0 n s.1 s.2 h;
+  not_both = λ e n r h. h.2 e r;
+}

@@ -1,20 +1,23 @@
 -- An object of one tag number, a refusal of the reader that wants it, and its end within the octets: one of them holds at most, and each in one way.
-use Rattle.std.proofs.Common.{◌≡◌, ℕ, ◌^◌, ◌<◌, Bool, List, Some, sym, ap, subst, ◌∙◌, inl, inr}
+use Rattle.std.proofs.Common.{◌≡◌, ℕ, ◌^◌, ◌<◌, Bool, MatchBool, List, Some, sym, ap, subst, ◌∙◌, inl, inr}
 use Rattle.der_base.specs.declared.header.Class.{Class}
 use Rattle.der_base.specs.declared.header.Class.TheVariants.{Universal}
 use Rattle.der_base.specs.declared.header.Header.{Header}
 use Rattle.der_base.specs.declared.header.Length.TheVariants.{Definite}
 use Rattle.der_base.specs.Header.{class_of, is_constructed, length_of}
 use Rattle.der_base.specs.Headers.{BeginsWithDerHeader}
+use Rattle.der_base.specs.Leaf.{is_list}
 use Rattle.der_base.specs.Refusal.{Refusal, unexpected_tag}
-use Rattle.der_base.specs.Tree.{Content, node}
-use Rattle.der_base.proofs.DerHeaders.{der_header_same, der_header_not_refused, der_header_not_lacking, der_header_refusal_same}
-use Rattle.der_base.proofs.HeaderLaws.{header_lacks_same}
+use Rattle.der_base.specs.Tree.{Node, Content, node}
+use Rattle.der_base.proofs.Headers.DerHeaders.{der_header_same, der_header_not_refused, der_header_not_lacking, der_header_refusal_same}
+use Rattle.der_base.proofs.Headers.HeaderLaws.{header_lacks_same}
 use Rattle.der_object.specs.declared.object.BerObject.{BerObject}
 use Rattle.der_object.specs.declared.object.BerObjectContent.{BerObjectContent}
+use Rattle.der_base.proofs.Answers.Exactness.{ShowsOne}
+use Rattle.der_object.specs.Readings.{value_of}
 use Rattle.der_object.specs.View.{tree, content_tree}
 use Rattle.der_der.specs.DerReading.{IsDerContentOf}
-use Rattle.der_der.specs.DerContents.{FramesContent, FrameLacks, ReadsContentAs, ReadingRefuses, ReadsHeaderOf, ReadsTyped, BeginsWithTyped, HeaderOfRefuses, TypedRefuses, TypedLacks}
+use Rattle.der_der.specs.DerContents.{FramesContent, FrameLacks, ReadsContentAs, ReadingRefuses, ReadsHeaderOf, ReadsTyped, BeginsWithTyped, HeaderOfRefuses, SpellsTyped, TypedRefuses, TypedLacks, TypedNeedsMemory}
 use Rattle.der_der.proofs.ContentLaws.{frames_not_lacking, frame_lacks_same, content_same, content_not_refused, refusal_same, refused_not_lacking}
 
 -- two headers in front are one: so what is said of the octets behind one is said of those behind the other
@@ -93,3 +96,30 @@ typed_lacks_same t i n n' (inl h) (inr (c', p', m', v', b', h')) = absurd (der_h
 typed_lacks_same t i n n' (inr (c, p, m, v, b, h)) (inl h') = absurd (der_header_not_lacking i v c p t m n' b h'.1)
 typed_lacks_same t i n n' (inr (c, p, m, v, b, h)) (inr (c', p', m', v', b', h')) =
     frame_lacks_same Universal (Definite m) v n n' h (behind_same (λ m p v. FrameLacks Universal (Definite m) v n') i v v' c c' p p' t t m m' b b' h')
+
+spells_same : (t : ℕ) (i : List ℕ) (o : BerObject) (rest : List ℕ) (v : Node × List ℕ) → t < 2 ^ 32 → ReadsTyped t i o rest → SpellsTyped t i v → (tree o, rest) ≡ v
+spells_same t i o rest (node c p n x, rest') fits r (e, b) =
+    let z = typed_same t i o rest rest' c p x fits r b in
+    ap (λ o. (o, rest)) z.0 ∙ ap (λ w. (node c p t x, w)) z.1 ∙ ap (λ n. (node c p n x, rest')) (sym e)
+
+spelled_not_refused : (t : ℕ) (i : List ℕ) (v : Node × List ℕ) (e : Refusal) → t < 2 ^ 32 → SpellsTyped t i v → TypedRefuses t i e → ⊥
+spelled_not_refused t i (node c p n x, rest) e fits (q, b) r = typed_not_refused t i c p x rest e fits b r
+
+spelled_not_lacking : (t : ℕ) (i : List ℕ) (v : Node × List ℕ) (n : ℕ) → SpellsTyped t i v → TypedLacks t i n → ⊥
+spelled_not_lacking t i (node c p m x, rest) n (q, b) h = typed_not_lacking t i c p x rest n b h
+
+-- of an object of one number, a refusal and a lack, an input shows one at most
+pub typed_shows_one : (t : ℕ) (i : List ℕ) → t < 2 ^ 32 → ShowsOne value_of (λ x. ReadsTyped t i x.1 x.0.now) (SpellsTyped t i) (TypedRefuses t i) (TypedLacks t i)
+typed_shows_one t i fits = record {
+  spelled = λ x r. (r.header.number, typed_begins t i x.1 x.0.now r);
+  one_value = λ x v r s. spells_same t i x.1 x.0.now v fits r s;
+  one_refusal = λ e e' r r'. typed_refusal_same t i e e' fits r r';
+  one_lack = λ n n' h h'. typed_lacks_same t i n n' h h';
+  not_refused = λ v e s r. spelled_not_refused t i v e fits s r;
+  not_lacking = λ v n s h. spelled_not_lacking t i v n s h;
+  not_both = λ e n r h. typed_refused_not_lacking t i e n r h;
+}
+
+-- only a list needs memory
+pub list_needs : (t : ℕ) (i : List ℕ) → TypedNeedsMemory t i → MatchBool (is_list t) (TypedNeedsMemory t i) ⊥
+list_needs t i m = let (c, p, l, v, b, k) = m in subst (λ q. MatchBool q (TypedNeedsMemory t i) ⊥) (sym k.2) m

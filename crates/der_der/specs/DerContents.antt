@@ -1,22 +1,24 @@
 -- What the readers of a content answer that are given its header or the parts of one, and what the readers of one tag number answer.
-use Rattle.std.specs.Prelude.{◌≡◌, ◌≢◌, ℕ, ◌+◌, ◌<◌, ◌≤◌, ◌⊎◌, Bool, true, None, Some, IsTrue, List, [], ◌++◌, length}
+use Rattle.std.specs.Prelude.{◌≡◌, ◌≢◌, ℕ, ◌+◌, ◌<◌, ◌≤◌, ◌⊎◌, Bool, true, None, Some, IsTrue, MatchBool, List, [], ◌++◌, length}
 use Rattle.der_base.specs.declared.error.DerConstraint.TheVariants.{IndefiniteLength}
 use Rattle.der_base.specs.declared.header.Class.{Class}
 use Rattle.der_base.specs.declared.header.Class.TheVariants.{Universal}
 use Rattle.der_base.specs.declared.header.Header.{Header}
 use Rattle.der_base.specs.declared.header.Length.{Length}
 use Rattle.der_base.specs.declared.header.Length.TheVariants.{Definite, Indefinite}
+use Rattle.der_base.specs.Exactly.{AnswersExactly}
 use Rattle.der_base.specs.Fault.{DerHeaderRefuses}
 use Rattle.der_base.specs.Header.{class_of, is_constructed, number_of, length_of, IsHeader}
-use Rattle.der_base.specs.Headers.{BeginsWithDerHeader, ReadsDerHeader, DerHeaderLacks}
+use Rattle.der_base.specs.Headers.{BehindDerHeader, BeginsWithDerHeader, ReadsDerHeader, DerHeaderLacks}
 use Rattle.der_base.specs.Leaf.{is_list}
 use Rattle.der_base.specs.Refusal.{Refusal, der_constraint, invalid_length, max_depth, unexpected_tag}
 use Rattle.der_base.specs.Spelling.{max_object_size}
-use Rattle.der_base.specs.Tree.{Content}
+use Rattle.der_base.specs.Tree.{Node, node, Content}
 use Rattle.der_object.specs.declared.object.BerObject.{BerObject}
 use Rattle.der_object.specs.declared.object.BerObjectContent.{BerObjectContent}
 use Rattle.der_object.specs.declared.object.BerObjectContent.TheVariants.{Unknown}
-use Rattle.der_object.specs.Marks.{EachInside, KeepsHeader, HasShortestMark}
+use Rattle.der_object.specs.HeaderFacts.{EachInside, KeepsHeader, HasDerHeader}
+use Rattle.der_object.specs.Readings.{Answer, value_of}
 use Rattle.der_object.specs.View.{content_tree}
 use Rattle.der_der.specs.DerReading.{IsDerContentOf, ContentRefuses}
 
@@ -48,7 +50,7 @@ pub record ReadsContent (c : Class) (t : ℕ) (l : Length) (p : Bool) (d : ℕ) 
   pub framed : FramesContent l d i octets rest
   pub content : IsDerContentOf octets c p t (content_tree x) d
   -- each header of an item has the length and the identifier octets that are there
-  pub marked : EachInside HasShortestMark x
+  pub headers : EachInside HasDerHeader x
 
 -- the octets show the refusal, in a test or in the content
 abbrev pub ReadingRefuses : Class → ℕ → Length → Bool → ℕ → List ℕ → Refusal → Type 0
@@ -100,13 +102,22 @@ HeaderOfRefuses t i e = DerHeaderRefuses i e
 -- or its content is refused
 abbrev pub TypedRefuses : ℕ → List ℕ → Refusal → Type 0
 TypedRefuses t i e = HeaderOfRefuses t i e
-    ⊎ ((c : Class) × (p : Bool) × (m : ℕ) × (behind : List ℕ) × BeginsWithDerHeader i c p t m behind × ReadingRefuses Universal t (Definite m) p 50 behind e)
+    ⊎ BehindDerHeader t i (λ l p v. ReadingRefuses Universal t l p 50 v e)
 
 -- i ends within the header, or within the content octets behind one of this number
 abbrev pub TypedLacks : ℕ → List ℕ → ℕ → Type 0
 TypedLacks t i n = DerHeaderLacks i n
-    ⊎ ((c : Class) × (p : Bool) × (m : ℕ) × (behind : List ℕ) × BeginsWithDerHeader i c p t m behind × FrameLacks Universal (Definite m) behind n)
+    ⊎ BehindDerHeader t i (λ l p v. FrameLacks Universal l v n)
 
 -- behind a header of this number is a list that has items
 abbrev pub TypedNeedsMemory : ℕ → List ℕ → Type 0
-TypedNeedsMemory t i = (c : Class) × (p : Bool) × (m : ℕ) × (behind : List ℕ) × BeginsWithDerHeader i c p t m behind × ReadingNeedsMemory Universal t (Definite m) p 50 behind
+TypedNeedsMemory t i = BehindDerHeader t i (λ l p v. ReadingNeedsMemory Universal t l p 50 v)
+
+-- i begins with an element of the number t that has this tree, and rest follows
+abbrev pub SpellsTyped : ℕ → List ℕ → Node × List ℕ → Type 0
+SpellsTyped t i (node c p n x, rest) = (n ≡ t) × BeginsWithTyped i c p t x rest
+
+-- A reader of the type of number t answers exactly what i shows. Only a list may want memory.
+abbrev pub AnswersTyped : ℕ → List ℕ → Answer → Type 0
+AnswersTyped t i result = AnswersExactly result value_of (λ x. ReadsTyped t i x.1 x.0.now) (SpellsTyped t i) (TypedRefuses t i) (TypedLacks t i)
+    (MatchBool (is_list t) (TypedNeedsMemory t i) ⊥)

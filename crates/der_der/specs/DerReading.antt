@@ -4,17 +4,19 @@ use Rattle.der_base.specs.declared.header.Class.{Class}
 use Rattle.der_base.specs.declared.header.Class.TheVariants.{Universal}
 use Rattle.der_base.specs.Cut.{IsCut, DerLacks}
 use Rattle.der_base.specs.Encoding.{content_octets}
+use Rattle.der_base.specs.Exactly.{AnswersExactly}
 use Rattle.der_base.specs.Fault.{DerJoins, ItemRefuses, DerShowsFault, DerShowsInside}
 use Rattle.der_base.specs.declared.header.Header.{Header}
 use Rattle.der_base.specs.Header.{class_of, is_constructed, number_of}
 use Rattle.der_base.specs.Headers.{BeginsWithDerHeader}
 use Rattle.der_base.specs.Leaf.{is_list, is_mapped}
 use Rattle.der_base.specs.Refusal.{Refusal}
-use Rattle.der_base.specs.Spelling.{DerSpells, IsDerContent}
+use Rattle.der_base.specs.Spelling.{BeginsWithDer, DerSpells, IsDerContent}
 use Rattle.der_base.specs.Tree.{Content, Nodes, content_height}
 use Rattle.der_object.specs.declared.object.BerObject.{BerObject}
 use Rattle.der_object.specs.declared.object.BerObjectContent.{BerObjectContent}
-use Rattle.der_object.specs.Marks.{EachInside, KeepsHeader, HasShortestMark, HasShortestMarks}
+use Rattle.der_object.specs.HeaderFacts.{EachInside, KeepsHeader, HasDerHeader, EachHasDerHeader}
+use Rattle.der_object.specs.Readings.{Answer, value_of}
 use Rattle.der_object.specs.View.{tree, content_tree, trees}
 
 -- i is a proper front of an element, lacks n octets, and shows no refusal
@@ -27,7 +29,7 @@ pub record ReadsDer (d : ℕ) (i : List ℕ) (o : BerObject) (rest : List ℕ) :
   pub octets : i ≡ spelling ++ rest
   pub spells : DerSpells spelling (tree o) d
   -- each header in it has the length and the identifier octets that are there
-  pub marked : HasShortestMarks o
+  pub headers : EachHasDerHeader o
 
 -- i begins with a whole list that has items
 abbrev pub BeginsWithItems : List ℕ → Type 0
@@ -48,7 +50,7 @@ ItemsRefuse w d e = (l : Nodes) × (u r : List ℕ) × (w ≡ u ++ r) × DerJoin
 -- the octets w join the objects, to depth d
 pub record AreItems (w : List ℕ) (os : List BerObject) (d : ℕ) : Type 0 where
   pub joins : DerJoins w (trees os) d
-  pub marked : All HasShortestMarks os
+  pub headers : All EachHasDerHeader os
 
 -- the octets w are the DER content octets of x in an element of this class, bit and number, to depth d
 pub record IsDerContentOf (w : List ℕ) (c : Class) (p : Bool) (t : ℕ) (x : Content) (d : ℕ) : Type 0 where
@@ -60,4 +62,8 @@ pub record IsDerContentOf (w : List ℕ) (c : Class) (p : Bool) (t : ℕ) (x : C
 pub record IsContentOf (w : List ℕ) (h : Header) (x : BerObjectContent) (d : ℕ) : Type 0 where
   pub content : IsDerContentOf w (class_of h) (is_constructed h) (number_of h) (content_tree x) d
   pub kept : KeepsHeader h x
-  pub marked : EachInside HasShortestMark x
+  pub headers : EachInside HasDerHeader x
+
+-- the full reader answers exactly what i shows to depth d
+abbrev pub AnswersDer : ℕ → List ℕ → Answer → Type 0
+AnswersDer d i result = AnswersExactly result value_of (λ x. ReadsDer d i x.1 x.0.now) (λ v. BeginsWithDer d i v.0 v.1) (DerShowsFault d i) (DerIsCut d i) (NeedsMemory d i)

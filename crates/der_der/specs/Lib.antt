@@ -1,4 +1,4 @@
 pub mod DerContents
-pub mod DerForms
 pub mod DerReading
+pub mod Inner
 pub mod Laws

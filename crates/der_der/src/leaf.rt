@@ -6,7 +6,7 @@ ghost use Rattle.der_base.specs.Leaf.{is_list, is_mapped, is_time, IsDerLeaf, Ha
 ghost use Rattle.der_base.specs.LeafRefusal.{DerLeafRefuses, IsFirstRefusal, bit_string_tests, der_primitive_tests};
 ghost use Rattle.der_base.specs.Refusal.{refusal, invalid_length};
 ghost use Rattle.der_object.specs.View.{content_tree};
-ghost use Rattle.der_der.specs.DerForms.{HasUnusedZeros, IsInForm};
+ghost use Rattle.der_der.specs.Inner.DerForms.{HasUnusedZeros, IsInForm};
 
 use der_base::error::{BerError, DerConstraint};
 use der_base::header::Tag;
@@ -33,7 +33,7 @@ pub fn read_leaf<'a>(
     }
     // The answer of a call is copied, by `Ok(..?)`; BER's reader is compiled in.
     match tag {
-        Tag::UtcTime | Tag::GeneralizedTime => Ok(read_moment(tag, content)?),
+        Tag::UtcTime | Tag::GeneralizedTime => Ok(read_time_content(tag, content)?),
         _ => {
             check_form(tag, content)?;
             read_ber_leaf(false, tag, content)
@@ -43,7 +43,7 @@ pub fn read_leaf<'a>(
 
 /// A UTCTime or a GeneralizedTime, as DER writes it (11.7, 11.8).
 #[inline(never)]
-fn read_moment(tag: Tag, content: &[u8]) -> Result<BerObjectContent<'_>, BerError>
+fn read_time_content(tag: Tag, content: &[u8]) -> Result<BerObjectContent<'_>, BerError>
     requires { IsTrue (is_time tag.0) }
     ensures { MatchResult result
         (λ x. IsDerLeaf tag.0 (content_tree x) × (content.now ≡ content_octets (content_tree x)))

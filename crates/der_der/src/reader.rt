@@ -14,7 +14,7 @@ ghost use Rattle.der_der.specs.DerReading.{ReadsDer, AreItems, IsContentOf, DerI
 use crate::leaf::read_leaf;
 use der_base::MAX_OBJECT_SIZE;
 use der_base::any::Any;
-use der_base::error::{BerError, Err, Needed, cut_item};
+use der_base::error::{BerError, Err, Needed, refuse_cut_item};
 use der_base::header::{Header, HeaderCount, Tag, der_header_counted};
 use der_object::growth::make_room;
 use der_object::{BerObject, BerObjectContent, BerResult};
@@ -31,6 +31,8 @@ pub fn read_element<'a>(
 ) -> BerResult<'a>
     ensures found { MatchAnswer result (λ x. ReadsDer max_depth i.now x.1 x.0.now) (DerShowsFault max_depth i.now) (DerIsCut max_depth i.now) (NeedsMemory max_depth i.now) }
     ensures shorter { IfOk result (λ x. length x.0.now < length i.now) }
+    ensures counted { count.new ≤ count.old + length i.now + 1 }
+    ensures counted_ok { IfOk result (λ x. count.new + length x.0.now ≤ count.old + length i.now) }
 {
     if max_depth == 0 {
         return Err(Err::Error(BerError::BerMaxDepth));
@@ -72,11 +74,13 @@ pub(crate) fn read_object<'a>(
     count: &mut HeaderCount,
 ) -> BerResult<'a>
     requires { 1 ≤ max_depth }
-    ensures { let h = header.entry in MatchAnswer result
+    ensures found { let h = header.entry in MatchAnswer result
         (λ x. (x.0.now ≡ rest.now) × (x.1.header ≡ h) × IsContentOf octets.now h x.1.content max_depth)
         (ContentRefuses (class_of h) (is_constructed h) (number_of h) octets.now max_depth)
         (λ _. ⊥)
         ((2 ≤ max_depth) × (class_of h ≡ Class.Universal) × (is_constructed h ≡ true) × IsTrue (is_list (number_of h)) × (octets.now ≢ [])) }
+    ensures counted { count.new ≤ count.old + length octets.now + 1 }
+    ensures counted_ok { IfOk result (λ _. count.new ≤ count.old + length octets.now) }
 {
     let tag = header.tag();
     if !header.is_universal() {
@@ -109,11 +113,13 @@ fn read_items<'a>(
     max_depth: usize,
     count: &mut HeaderCount,
 ) -> Result<Vec<BerObject<'a>>, Err<BerError>>
-    ensures { MatchAnswer result
+    ensures found { MatchAnswer result
         (λ v. AreItems content.now v.items max_depth)
         (ItemsRefuse content.now max_depth)
         (λ _. ⊥)
         ((1 ≤ max_depth) × (content.now ≢ [])) }
+    ensures counted { count.new ≤ count.old + length content.now + 1 }
+    ensures counted_ok { IfOk result (λ _. count.new ≤ count.old + length content.now) }
 {
     let mut items = Vec::new(alloc);
     let mut rest = content;
@@ -124,7 +130,7 @@ fn read_items<'a>(
                 items.push(item)?;
                 rest = after;
             }
-            Err(e) => return Err(cut_item(e)),
+            Err(e) => return Err(refuse_cut_item(e)),
         }
     }
     Ok(items)

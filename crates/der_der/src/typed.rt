@@ -1,14 +1,10 @@
 //! Readers of one universal type: an element of this tag number and of any class, with the header
 //! that is there.
-ghost use Rattle.std.specs.Prelude.{◌≡◌, false, ℕ, Bool, IsOkAnd, IsTrue, List};
-ghost use Rattle.der_base.specs.declared.header.Class.{Class};
-ghost use Rattle.der_base.specs.Answer.{MatchAnswer, AnswersError, AnswersIncomplete, AnswersOkOr, AnswersErrorOr, AnswersIncompleteOr};
+ghost use Rattle.std.specs.Prelude.{◌≡◌, false, IsTrue};
+ghost use Rattle.der_base.specs.Answer.{MatchAnswer};
 ghost use Rattle.der_base.specs.Headers.{DerHeaderLacks};
 ghost use Rattle.der_base.specs.Leaf.{is_list, is_mapped};
-ghost use Rattle.der_base.specs.Refusal.{Refusal};
-ghost use Rattle.der_base.specs.Tree.{node, Content};
-ghost use Rattle.der_object.specs.View.{tree};
-ghost use Rattle.der_der.specs.DerContents.{ReadsHeaderOf, ReadsTyped, BeginsWithTyped, HeaderOfRefuses, TypedRefuses, TypedLacks, TypedNeedsMemory};
+ghost use Rattle.der_der.specs.DerContents.{AnswersTyped, ReadsHeaderOf, ReadsTyped, HeaderOfRefuses, TypedRefuses, TypedLacks, TypedNeedsMemory};
 
 use crate::content::{der_read_element_content_as, frame_content};
 use crate::leaf::read_leaf;
@@ -62,10 +58,7 @@ fn read_typed_leaf<'a>(i: &'a [u8], tag: Tag) -> BerResult<'a>
 fn parse_typed_leaf<'a>(i: &'a [u8], tag: Tag) -> BerResult<'a>
     requires mapped { IsTrue (is_mapped tag.0) }
     requires no_list { is_list tag.0 ≡ false }
-    ensures found { MatchAnswer result (λ x. ReadsTyped tag.0 i.now x.1 x.0.now) (TypedRefuses tag.0 i.now) (TypedLacks tag.0 i.now) ⊥ }
-    ensures only { (c : Class) (p : Bool) (x : Content) (rest : List ℕ) → BeginsWithTyped i.now c p tag.0 x rest → IsOkAnd result (λ y. (tree y.1 ≡ node c p tag.0 x) × (y.0.now ≡ rest)) }
-    ensures refuses { (e : Refusal) → TypedRefuses tag.0 i.now e → AnswersError result e }
-    ensures lacks { (n : ℕ) → TypedLacks tag.0 i.now n → AnswersIncomplete result n }
+    ensures { AnswersTyped tag.0 i.now result }
 {
     read_typed_leaf(i, tag)
 }
@@ -79,10 +72,7 @@ fn parse_typed_leaf<'a>(i: &'a [u8], tag: Tag) -> BerResult<'a>
 /// lacks, or with the whole length of a content that is cut short. OutOfMemory only for a list that
 /// has items.
 pub fn parse_der_with_tag<'a>(alloc: Global, i: &'a [u8], tag: Tag) -> BerResult<'a>
-    ensures found { MatchAnswer result (λ x. ReadsTyped tag.0 i.now x.1 x.0.now) (TypedRefuses tag.0 i.now) (TypedLacks tag.0 i.now) (TypedNeedsMemory tag.0 i.now) }
-    ensures only { (c : Class) (p : Bool) (x : Content) (rest : List ℕ) → BeginsWithTyped i.now c p tag.0 x rest → AnswersOkOr (TypedNeedsMemory tag.0 i.now) result (λ y. (tree y.1 ≡ node c p tag.0 x) × (y.0.now ≡ rest)) }
-    ensures refuses { (e : Refusal) → TypedRefuses tag.0 i.now e → AnswersErrorOr (TypedNeedsMemory tag.0 i.now) result e }
-    ensures lacks { (n : ℕ) → TypedLacks tag.0 i.now n → AnswersIncompleteOr (TypedNeedsMemory tag.0 i.now) result n }
+    ensures { AnswersTyped tag.0 i.now result }
 {
     read_typed(alloc, i, tag)
 }
@@ -90,10 +80,7 @@ pub fn parse_der_with_tag<'a>(alloc: Global, i: &'a [u8], tag: Tag) -> BerResult
 /// Reads a SEQUENCE or SEQUENCE OF (X.690 8.9, 8.10): as `parse_der_with_tag` with its number.
 /// ConstructExpected where it is primitive, and the first refusal of an item.
 pub fn parse_der_sequence<'a>(alloc: Global, i: &'a [u8]) -> BerResult<'a>
-    ensures found { MatchAnswer result (λ x. ReadsTyped 16 i.now x.1 x.0.now) (TypedRefuses 16 i.now) (TypedLacks 16 i.now) (TypedNeedsMemory 16 i.now) }
-    ensures only { (c : Class) (p : Bool) (x : Content) (rest : List ℕ) → BeginsWithTyped i.now c p 16 x rest → AnswersOkOr (TypedNeedsMemory 16 i.now) result (λ y. (tree y.1 ≡ node c p 16 x) × (y.0.now ≡ rest)) }
-    ensures refuses { (e : Refusal) → TypedRefuses 16 i.now e → AnswersErrorOr (TypedNeedsMemory 16 i.now) result e }
-    ensures lacks { (n : ℕ) → TypedLacks 16 i.now n → AnswersIncompleteOr (TypedNeedsMemory 16 i.now) result n }
+    ensures { AnswersTyped 16 i.now result }
 {
     parse_der_with_tag(alloc, i, Tag::Sequence)
 }
@@ -102,10 +89,7 @@ pub fn parse_der_sequence<'a>(alloc: Global, i: &'a [u8]) -> BerResult<'a>
 /// its items isn't looked at. ConstructExpected where it is primitive, and the first refusal of an
 /// item.
 pub fn parse_der_set<'a>(alloc: Global, i: &'a [u8]) -> BerResult<'a>
-    ensures found { MatchAnswer result (λ x. ReadsTyped 17 i.now x.1 x.0.now) (TypedRefuses 17 i.now) (TypedLacks 17 i.now) (TypedNeedsMemory 17 i.now) }
-    ensures only { (c : Class) (p : Bool) (x : Content) (rest : List ℕ) → BeginsWithTyped i.now c p 17 x rest → AnswersOkOr (TypedNeedsMemory 17 i.now) result (λ y. (tree y.1 ≡ node c p 17 x) × (y.0.now ≡ rest)) }
-    ensures refuses { (e : Refusal) → TypedRefuses 17 i.now e → AnswersErrorOr (TypedNeedsMemory 17 i.now) result e }
-    ensures lacks { (n : ℕ) → TypedLacks 17 i.now n → AnswersIncompleteOr (TypedNeedsMemory 17 i.now) result n }
+    ensures { AnswersTyped 17 i.now result }
 {
     parse_der_with_tag(alloc, i, Tag::Set)
 }
@@ -114,10 +98,7 @@ pub fn parse_der_set<'a>(alloc: Global, i: &'a [u8]) -> BerResult<'a>
 /// tag number and of any class: as `parse_der_with_tag`, and takes no memory. Refusals of its
 /// content: Constructed, InvalidLength.
 pub fn parse_der_endofcontent<'a>(i: &'a [u8]) -> BerResult<'a>
-    ensures found { MatchAnswer result (λ x. ReadsTyped 0 i.now x.1 x.0.now) (TypedRefuses 0 i.now) (TypedLacks 0 i.now) ⊥ }
-    ensures only { (c : Class) (p : Bool) (x : Content) (rest : List ℕ) → BeginsWithTyped i.now c p 0 x rest → IsOkAnd result (λ y. (tree y.1 ≡ node c p 0 x) × (y.0.now ≡ rest)) }
-    ensures refuses { (e : Refusal) → TypedRefuses 0 i.now e → AnswersError result e }
-    ensures lacks { (n : ℕ) → TypedLacks 0 i.now n → AnswersIncomplete result n }
+    ensures { AnswersTyped 0 i.now result }
 {
     parse_typed_leaf(i, Tag::EndOfContent)
 }
@@ -126,10 +107,7 @@ pub fn parse_der_endofcontent<'a>(i: &'a [u8]) -> BerResult<'a>
 /// of any class: as `parse_der_with_tag`, and takes no memory. Refusals of its content:
 /// Constructed, InvalidLength, InvalidBoolean.
 pub fn parse_der_bool<'a>(i: &'a [u8]) -> BerResult<'a>
-    ensures found { MatchAnswer result (λ x. ReadsTyped 1 i.now x.1 x.0.now) (TypedRefuses 1 i.now) (TypedLacks 1 i.now) ⊥ }
-    ensures only { (c : Class) (p : Bool) (x : Content) (rest : List ℕ) → BeginsWithTyped i.now c p 1 x rest → IsOkAnd result (λ y. (tree y.1 ≡ node c p 1 x) × (y.0.now ≡ rest)) }
-    ensures refuses { (e : Refusal) → TypedRefuses 1 i.now e → AnswersError result e }
-    ensures lacks { (n : ℕ) → TypedLacks 1 i.now n → AnswersIncomplete result n }
+    ensures { AnswersTyped 1 i.now result }
 {
     parse_typed_leaf(i, Tag::Boolean)
 }
@@ -138,10 +116,7 @@ pub fn parse_der_bool<'a>(i: &'a [u8]) -> BerResult<'a>
 /// number and of any class: as `parse_der_with_tag`, and takes no memory. Refusals of its content:
 /// Constructed, IntegerEmpty, IntegerLeadingZeroes, IntegerLeadingFF.
 pub fn parse_der_integer<'a>(i: &'a [u8]) -> BerResult<'a>
-    ensures found { MatchAnswer result (λ x. ReadsTyped 2 i.now x.1 x.0.now) (TypedRefuses 2 i.now) (TypedLacks 2 i.now) ⊥ }
-    ensures only { (c : Class) (p : Bool) (x : Content) (rest : List ℕ) → BeginsWithTyped i.now c p 2 x rest → IsOkAnd result (λ y. (tree y.1 ≡ node c p 2 x) × (y.0.now ≡ rest)) }
-    ensures refuses { (e : Refusal) → TypedRefuses 2 i.now e → AnswersError result e }
-    ensures lacks { (n : ℕ) → TypedLacks 2 i.now n → AnswersIncomplete result n }
+    ensures { AnswersTyped 2 i.now result }
 {
     parse_typed_leaf(i, Tag::Integer)
 }
@@ -151,10 +126,7 @@ pub fn parse_der_integer<'a>(i: &'a [u8]) -> BerResult<'a>
 /// Constructed, InvalidLength without content octets, InvalidValue above 7 unused bits,
 /// UnusedBitsNotZero.
 pub fn parse_der_bitstring<'a>(i: &'a [u8]) -> BerResult<'a>
-    ensures found { MatchAnswer result (λ x. ReadsTyped 3 i.now x.1 x.0.now) (TypedRefuses 3 i.now) (TypedLacks 3 i.now) ⊥ }
-    ensures only { (c : Class) (p : Bool) (x : Content) (rest : List ℕ) → BeginsWithTyped i.now c p 3 x rest → IsOkAnd result (λ y. (tree y.1 ≡ node c p 3 x) × (y.0.now ≡ rest)) }
-    ensures refuses { (e : Refusal) → TypedRefuses 3 i.now e → AnswersError result e }
-    ensures lacks { (n : ℕ) → TypedLacks 3 i.now n → AnswersIncomplete result n }
+    ensures { AnswersTyped 3 i.now result }
 {
     parse_typed_leaf(i, Tag::BitString)
 }
@@ -162,10 +134,7 @@ pub fn parse_der_bitstring<'a>(i: &'a [u8]) -> BerResult<'a>
 /// Reads an OCTET STRING (X.690 8.7), in an element of its tag number and of any class: as
 /// `parse_der_with_tag`, and takes no memory. Refusals of its content: Constructed.
 pub fn parse_der_octetstring<'a>(i: &'a [u8]) -> BerResult<'a>
-    ensures found { MatchAnswer result (λ x. ReadsTyped 4 i.now x.1 x.0.now) (TypedRefuses 4 i.now) (TypedLacks 4 i.now) ⊥ }
-    ensures only { (c : Class) (p : Bool) (x : Content) (rest : List ℕ) → BeginsWithTyped i.now c p 4 x rest → IsOkAnd result (λ y. (tree y.1 ≡ node c p 4 x) × (y.0.now ≡ rest)) }
-    ensures refuses { (e : Refusal) → TypedRefuses 4 i.now e → AnswersError result e }
-    ensures lacks { (n : ℕ) → TypedLacks 4 i.now n → AnswersIncomplete result n }
+    ensures { AnswersTyped 4 i.now result }
 {
     parse_typed_leaf(i, Tag::OctetString)
 }
@@ -173,10 +142,7 @@ pub fn parse_der_octetstring<'a>(i: &'a [u8]) -> BerResult<'a>
 /// Reads a NULL (X.690 8.8), in an element of its tag number and of any class: as
 /// `parse_der_with_tag`, and takes no memory. Refusals of its content: Constructed, InvalidLength.
 pub fn parse_der_null<'a>(i: &'a [u8]) -> BerResult<'a>
-    ensures found { MatchAnswer result (λ x. ReadsTyped 5 i.now x.1 x.0.now) (TypedRefuses 5 i.now) (TypedLacks 5 i.now) ⊥ }
-    ensures only { (c : Class) (p : Bool) (x : Content) (rest : List ℕ) → BeginsWithTyped i.now c p 5 x rest → IsOkAnd result (λ y. (tree y.1 ≡ node c p 5 x) × (y.0.now ≡ rest)) }
-    ensures refuses { (e : Refusal) → TypedRefuses 5 i.now e → AnswersError result e }
-    ensures lacks { (n : ℕ) → TypedLacks 5 i.now n → AnswersIncomplete result n }
+    ensures { AnswersTyped 5 i.now result }
 {
     parse_typed_leaf(i, Tag::Null)
 }
@@ -184,10 +150,7 @@ pub fn parse_der_null<'a>(i: &'a [u8]) -> BerResult<'a>
 /// Reads an OBJECT IDENTIFIER (X.690 8.19), in an element of its tag number and of any class: as
 /// `parse_der_with_tag`, and takes no memory. Refusals of its content: Constructed.
 pub fn parse_der_oid<'a>(i: &'a [u8]) -> BerResult<'a>
-    ensures found { MatchAnswer result (λ x. ReadsTyped 6 i.now x.1 x.0.now) (TypedRefuses 6 i.now) (TypedLacks 6 i.now) ⊥ }
-    ensures only { (c : Class) (p : Bool) (x : Content) (rest : List ℕ) → BeginsWithTyped i.now c p 6 x rest → IsOkAnd result (λ y. (tree y.1 ≡ node c p 6 x) × (y.0.now ≡ rest)) }
-    ensures refuses { (e : Refusal) → TypedRefuses 6 i.now e → AnswersError result e }
-    ensures lacks { (n : ℕ) → TypedLacks 6 i.now n → AnswersIncomplete result n }
+    ensures { AnswersTyped 6 i.now result }
 {
     parse_typed_leaf(i, Tag::Oid)
 }
@@ -197,10 +160,7 @@ pub fn parse_der_oid<'a>(i: &'a [u8]) -> BerResult<'a>
 /// its content: Constructed, IntegerEmpty, IntegerLeadingZeroes, IntegerLeadingFF, IntegerNegative,
 /// IntegerTooLarge.
 pub fn parse_der_enum<'a>(i: &'a [u8]) -> BerResult<'a>
-    ensures found { MatchAnswer result (λ x. ReadsTyped 10 i.now x.1 x.0.now) (TypedRefuses 10 i.now) (TypedLacks 10 i.now) ⊥ }
-    ensures only { (c : Class) (p : Bool) (x : Content) (rest : List ℕ) → BeginsWithTyped i.now c p 10 x rest → IsOkAnd result (λ y. (tree y.1 ≡ node c p 10 x) × (y.0.now ≡ rest)) }
-    ensures refuses { (e : Refusal) → TypedRefuses 10 i.now e → AnswersError result e }
-    ensures lacks { (n : ℕ) → TypedLacks 10 i.now n → AnswersIncomplete result n }
+    ensures { AnswersTyped 10 i.now result }
 {
     parse_typed_leaf(i, Tag::Enumerated)
 }
@@ -209,10 +169,7 @@ pub fn parse_der_enum<'a>(i: &'a [u8]) -> BerResult<'a>
 /// `parse_der_with_tag`, and takes no memory. Refusals of its content: Constructed,
 /// StringInvalidCharset.
 pub fn parse_der_utf8string<'a>(i: &'a [u8]) -> BerResult<'a>
-    ensures found { MatchAnswer result (λ x. ReadsTyped 12 i.now x.1 x.0.now) (TypedRefuses 12 i.now) (TypedLacks 12 i.now) ⊥ }
-    ensures only { (c : Class) (p : Bool) (x : Content) (rest : List ℕ) → BeginsWithTyped i.now c p 12 x rest → IsOkAnd result (λ y. (tree y.1 ≡ node c p 12 x) × (y.0.now ≡ rest)) }
-    ensures refuses { (e : Refusal) → TypedRefuses 12 i.now e → AnswersError result e }
-    ensures lacks { (n : ℕ) → TypedLacks 12 i.now n → AnswersIncomplete result n }
+    ensures { AnswersTyped 12 i.now result }
 {
     parse_typed_leaf(i, Tag::Utf8String)
 }
@@ -220,10 +177,7 @@ pub fn parse_der_utf8string<'a>(i: &'a [u8]) -> BerResult<'a>
 /// Reads a RELATIVE-OID (X.690 8.20), in an element of its tag number and of any class: as
 /// `parse_der_with_tag`, and takes no memory. Refusals of its content: Constructed.
 pub fn parse_der_relative_oid<'a>(i: &'a [u8]) -> BerResult<'a>
-    ensures found { MatchAnswer result (λ x. ReadsTyped 13 i.now x.1 x.0.now) (TypedRefuses 13 i.now) (TypedLacks 13 i.now) ⊥ }
-    ensures only { (c : Class) (p : Bool) (x : Content) (rest : List ℕ) → BeginsWithTyped i.now c p 13 x rest → IsOkAnd result (λ y. (tree y.1 ≡ node c p 13 x) × (y.0.now ≡ rest)) }
-    ensures refuses { (e : Refusal) → TypedRefuses 13 i.now e → AnswersError result e }
-    ensures lacks { (n : ℕ) → TypedLacks 13 i.now n → AnswersIncomplete result n }
+    ensures { AnswersTyped 13 i.now result }
 {
     parse_typed_leaf(i, Tag::RelativeOid)
 }
@@ -232,10 +186,7 @@ pub fn parse_der_relative_oid<'a>(i: &'a [u8]) -> BerResult<'a>
 /// `parse_der_with_tag`, and takes no memory. Refusals of its content: Constructed,
 /// StringInvalidCharset.
 pub fn parse_der_numericstring<'a>(i: &'a [u8]) -> BerResult<'a>
-    ensures found { MatchAnswer result (λ x. ReadsTyped 18 i.now x.1 x.0.now) (TypedRefuses 18 i.now) (TypedLacks 18 i.now) ⊥ }
-    ensures only { (c : Class) (p : Bool) (x : Content) (rest : List ℕ) → BeginsWithTyped i.now c p 18 x rest → IsOkAnd result (λ y. (tree y.1 ≡ node c p 18 x) × (y.0.now ≡ rest)) }
-    ensures refuses { (e : Refusal) → TypedRefuses 18 i.now e → AnswersError result e }
-    ensures lacks { (n : ℕ) → TypedLacks 18 i.now n → AnswersIncomplete result n }
+    ensures { AnswersTyped 18 i.now result }
 {
     parse_typed_leaf(i, Tag::NumericString)
 }
@@ -244,10 +195,7 @@ pub fn parse_der_numericstring<'a>(i: &'a [u8]) -> BerResult<'a>
 /// `parse_der_with_tag`, and takes no memory. Refusals of its content: Constructed,
 /// StringInvalidCharset.
 pub fn parse_der_visiblestring<'a>(i: &'a [u8]) -> BerResult<'a>
-    ensures found { MatchAnswer result (λ x. ReadsTyped 26 i.now x.1 x.0.now) (TypedRefuses 26 i.now) (TypedLacks 26 i.now) ⊥ }
-    ensures only { (c : Class) (p : Bool) (x : Content) (rest : List ℕ) → BeginsWithTyped i.now c p 26 x rest → IsOkAnd result (λ y. (tree y.1 ≡ node c p 26 x) × (y.0.now ≡ rest)) }
-    ensures refuses { (e : Refusal) → TypedRefuses 26 i.now e → AnswersError result e }
-    ensures lacks { (n : ℕ) → TypedLacks 26 i.now n → AnswersIncomplete result n }
+    ensures { AnswersTyped 26 i.now result }
 {
     parse_typed_leaf(i, Tag::VisibleString)
 }
@@ -256,10 +204,7 @@ pub fn parse_der_visiblestring<'a>(i: &'a [u8]) -> BerResult<'a>
 /// `parse_der_with_tag`, and takes no memory. Refusals of its content: Constructed,
 /// StringInvalidCharset.
 pub fn parse_der_printablestring<'a>(i: &'a [u8]) -> BerResult<'a>
-    ensures found { MatchAnswer result (λ x. ReadsTyped 19 i.now x.1 x.0.now) (TypedRefuses 19 i.now) (TypedLacks 19 i.now) ⊥ }
-    ensures only { (c : Class) (p : Bool) (x : Content) (rest : List ℕ) → BeginsWithTyped i.now c p 19 x rest → IsOkAnd result (λ y. (tree y.1 ≡ node c p 19 x) × (y.0.now ≡ rest)) }
-    ensures refuses { (e : Refusal) → TypedRefuses 19 i.now e → AnswersError result e }
-    ensures lacks { (n : ℕ) → TypedLacks 19 i.now n → AnswersIncomplete result n }
+    ensures { AnswersTyped 19 i.now result }
 {
     parse_typed_leaf(i, Tag::PrintableString)
 }
@@ -268,10 +213,7 @@ pub fn parse_der_printablestring<'a>(i: &'a [u8]) -> BerResult<'a>
 /// `parse_der_with_tag`, and takes no memory. Refusals of its content: Constructed,
 /// StringInvalidCharset.
 pub fn parse_der_t61string<'a>(i: &'a [u8]) -> BerResult<'a>
-    ensures found { MatchAnswer result (λ x. ReadsTyped 20 i.now x.1 x.0.now) (TypedRefuses 20 i.now) (TypedLacks 20 i.now) ⊥ }
-    ensures only { (c : Class) (p : Bool) (x : Content) (rest : List ℕ) → BeginsWithTyped i.now c p 20 x rest → IsOkAnd result (λ y. (tree y.1 ≡ node c p 20 x) × (y.0.now ≡ rest)) }
-    ensures refuses { (e : Refusal) → TypedRefuses 20 i.now e → AnswersError result e }
-    ensures lacks { (n : ℕ) → TypedLacks 20 i.now n → AnswersIncomplete result n }
+    ensures { AnswersTyped 20 i.now result }
 {
     parse_typed_leaf(i, Tag::T61String)
 }
@@ -280,10 +222,7 @@ pub fn parse_der_t61string<'a>(i: &'a [u8]) -> BerResult<'a>
 /// `parse_der_with_tag`, and takes no memory. Refusals of its content: Constructed,
 /// StringInvalidCharset.
 pub fn parse_der_videotexstring<'a>(i: &'a [u8]) -> BerResult<'a>
-    ensures found { MatchAnswer result (λ x. ReadsTyped 21 i.now x.1 x.0.now) (TypedRefuses 21 i.now) (TypedLacks 21 i.now) ⊥ }
-    ensures only { (c : Class) (p : Bool) (x : Content) (rest : List ℕ) → BeginsWithTyped i.now c p 21 x rest → IsOkAnd result (λ y. (tree y.1 ≡ node c p 21 x) × (y.0.now ≡ rest)) }
-    ensures refuses { (e : Refusal) → TypedRefuses 21 i.now e → AnswersError result e }
-    ensures lacks { (n : ℕ) → TypedLacks 21 i.now n → AnswersIncomplete result n }
+    ensures { AnswersTyped 21 i.now result }
 {
     parse_typed_leaf(i, Tag::VideotexString)
 }
@@ -292,10 +231,7 @@ pub fn parse_der_videotexstring<'a>(i: &'a [u8]) -> BerResult<'a>
 /// `parse_der_with_tag`, and takes no memory. Refusals of its content: Constructed,
 /// StringInvalidCharset.
 pub fn parse_der_ia5string<'a>(i: &'a [u8]) -> BerResult<'a>
-    ensures found { MatchAnswer result (λ x. ReadsTyped 22 i.now x.1 x.0.now) (TypedRefuses 22 i.now) (TypedLacks 22 i.now) ⊥ }
-    ensures only { (c : Class) (p : Bool) (x : Content) (rest : List ℕ) → BeginsWithTyped i.now c p 22 x rest → IsOkAnd result (λ y. (tree y.1 ≡ node c p 22 x) × (y.0.now ≡ rest)) }
-    ensures refuses { (e : Refusal) → TypedRefuses 22 i.now e → AnswersError result e }
-    ensures lacks { (n : ℕ) → TypedLacks 22 i.now n → AnswersIncomplete result n }
+    ensures { AnswersTyped 22 i.now result }
 {
     parse_typed_leaf(i, Tag::Ia5String)
 }
@@ -304,10 +240,7 @@ pub fn parse_der_ia5string<'a>(i: &'a [u8]) -> BerResult<'a>
 /// any class: as `parse_der_with_tag`, and takes no memory. Refusals of its content: Constructed,
 /// MissingTimeZone, InvalidDateTime, MissingSeconds.
 pub fn parse_der_utctime<'a>(i: &'a [u8]) -> BerResult<'a>
-    ensures found { MatchAnswer result (λ x. ReadsTyped 23 i.now x.1 x.0.now) (TypedRefuses 23 i.now) (TypedLacks 23 i.now) ⊥ }
-    ensures only { (c : Class) (p : Bool) (x : Content) (rest : List ℕ) → BeginsWithTyped i.now c p 23 x rest → IsOkAnd result (λ y. (tree y.1 ≡ node c p 23 x) × (y.0.now ≡ rest)) }
-    ensures refuses { (e : Refusal) → TypedRefuses 23 i.now e → AnswersError result e }
-    ensures lacks { (n : ℕ) → TypedLacks 23 i.now n → AnswersIncomplete result n }
+    ensures { AnswersTyped 23 i.now result }
 {
     parse_typed_leaf(i, Tag::UtcTime)
 }
@@ -316,10 +249,7 @@ pub fn parse_der_utctime<'a>(i: &'a [u8]) -> BerResult<'a>
 /// and of any class: as `parse_der_with_tag`, and takes no memory. Refusals of its content:
 /// Constructed, MissingTimeZone, InvalidDateTime, MissingSeconds, FractionNotMinimal.
 pub fn parse_der_generalizedtime<'a>(i: &'a [u8]) -> BerResult<'a>
-    ensures found { MatchAnswer result (λ x. ReadsTyped 24 i.now x.1 x.0.now) (TypedRefuses 24 i.now) (TypedLacks 24 i.now) ⊥ }
-    ensures only { (c : Class) (p : Bool) (x : Content) (rest : List ℕ) → BeginsWithTyped i.now c p 24 x rest → IsOkAnd result (λ y. (tree y.1 ≡ node c p 24 x) × (y.0.now ≡ rest)) }
-    ensures refuses { (e : Refusal) → TypedRefuses 24 i.now e → AnswersError result e }
-    ensures lacks { (n : ℕ) → TypedLacks 24 i.now n → AnswersIncomplete result n }
+    ensures { AnswersTyped 24 i.now result }
 {
     parse_typed_leaf(i, Tag::GeneralizedTime)
 }
@@ -328,10 +258,7 @@ pub fn parse_der_generalizedtime<'a>(i: &'a [u8]) -> BerResult<'a>
 /// `parse_der_with_tag`, and takes no memory. Refusals of its content: Constructed,
 /// StringInvalidCharset.
 pub fn parse_der_objectdescriptor<'a>(i: &'a [u8]) -> BerResult<'a>
-    ensures found { MatchAnswer result (λ x. ReadsTyped 7 i.now x.1 x.0.now) (TypedRefuses 7 i.now) (TypedLacks 7 i.now) ⊥ }
-    ensures only { (c : Class) (p : Bool) (x : Content) (rest : List ℕ) → BeginsWithTyped i.now c p 7 x rest → IsOkAnd result (λ y. (tree y.1 ≡ node c p 7 x) × (y.0.now ≡ rest)) }
-    ensures refuses { (e : Refusal) → TypedRefuses 7 i.now e → AnswersError result e }
-    ensures lacks { (n : ℕ) → TypedLacks 7 i.now n → AnswersIncomplete result n }
+    ensures { AnswersTyped 7 i.now result }
 {
     parse_typed_leaf(i, Tag::ObjectDescriptor)
 }
@@ -340,10 +267,7 @@ pub fn parse_der_objectdescriptor<'a>(i: &'a [u8]) -> BerResult<'a>
 /// `parse_der_with_tag`, and takes no memory. Refusals of its content: Constructed,
 /// StringInvalidCharset.
 pub fn parse_der_graphicstring<'a>(i: &'a [u8]) -> BerResult<'a>
-    ensures found { MatchAnswer result (λ x. ReadsTyped 25 i.now x.1 x.0.now) (TypedRefuses 25 i.now) (TypedLacks 25 i.now) ⊥ }
-    ensures only { (c : Class) (p : Bool) (x : Content) (rest : List ℕ) → BeginsWithTyped i.now c p 25 x rest → IsOkAnd result (λ y. (tree y.1 ≡ node c p 25 x) × (y.0.now ≡ rest)) }
-    ensures refuses { (e : Refusal) → TypedRefuses 25 i.now e → AnswersError result e }
-    ensures lacks { (n : ℕ) → TypedLacks 25 i.now n → AnswersIncomplete result n }
+    ensures { AnswersTyped 25 i.now result }
 {
     parse_typed_leaf(i, Tag::GraphicString)
 }
@@ -352,10 +276,7 @@ pub fn parse_der_graphicstring<'a>(i: &'a [u8]) -> BerResult<'a>
 /// `parse_der_with_tag`, and takes no memory. Refusals of its content: Constructed,
 /// StringInvalidCharset.
 pub fn parse_der_generalstring<'a>(i: &'a [u8]) -> BerResult<'a>
-    ensures found { MatchAnswer result (λ x. ReadsTyped 27 i.now x.1 x.0.now) (TypedRefuses 27 i.now) (TypedLacks 27 i.now) ⊥ }
-    ensures only { (c : Class) (p : Bool) (x : Content) (rest : List ℕ) → BeginsWithTyped i.now c p 27 x rest → IsOkAnd result (λ y. (tree y.1 ≡ node c p 27 x) × (y.0.now ≡ rest)) }
-    ensures refuses { (e : Refusal) → TypedRefuses 27 i.now e → AnswersError result e }
-    ensures lacks { (n : ℕ) → TypedLacks 27 i.now n → AnswersIncomplete result n }
+    ensures { AnswersTyped 27 i.now result }
 {
     parse_typed_leaf(i, Tag::GeneralString)
 }
@@ -364,10 +285,7 @@ pub fn parse_der_generalstring<'a>(i: &'a [u8]) -> BerResult<'a>
 /// `parse_der_with_tag`, and takes no memory. Refusals of its content: Constructed, Unsupported for
 /// an odd number of octets, StringInvalidCharset.
 pub fn parse_der_bmpstring<'a>(i: &'a [u8]) -> BerResult<'a>
-    ensures found { MatchAnswer result (λ x. ReadsTyped 30 i.now x.1 x.0.now) (TypedRefuses 30 i.now) (TypedLacks 30 i.now) ⊥ }
-    ensures only { (c : Class) (p : Bool) (x : Content) (rest : List ℕ) → BeginsWithTyped i.now c p 30 x rest → IsOkAnd result (λ y. (tree y.1 ≡ node c p 30 x) × (y.0.now ≡ rest)) }
-    ensures refuses { (e : Refusal) → TypedRefuses 30 i.now e → AnswersError result e }
-    ensures lacks { (n : ℕ) → TypedLacks 30 i.now n → AnswersIncomplete result n }
+    ensures { AnswersTyped 30 i.now result }
 {
     parse_typed_leaf(i, Tag::BmpString)
 }
@@ -375,20 +293,14 @@ pub fn parse_der_bmpstring<'a>(i: &'a [u8]) -> BerResult<'a>
 /// Reads a UniversalString (X.690 8.23), in an element of its tag number and of any class: as
 /// `parse_der_with_tag`, and takes no memory. Refusals of its content: Constructed.
 pub fn parse_der_universalstring<'a>(i: &'a [u8]) -> BerResult<'a>
-    ensures found { MatchAnswer result (λ x. ReadsTyped 28 i.now x.1 x.0.now) (TypedRefuses 28 i.now) (TypedLacks 28 i.now) ⊥ }
-    ensures only { (c : Class) (p : Bool) (x : Content) (rest : List ℕ) → BeginsWithTyped i.now c p 28 x rest → IsOkAnd result (λ y. (tree y.1 ≡ node c p 28 x) × (y.0.now ≡ rest)) }
-    ensures refuses { (e : Refusal) → TypedRefuses 28 i.now e → AnswersError result e }
-    ensures lacks { (n : ℕ) → TypedLacks 28 i.now n → AnswersIncomplete result n }
+    ensures { AnswersTyped 28 i.now result }
 {
     parse_typed_leaf(i, Tag::UniversalString)
 }
 
 /// Reads a VisibleString: as `parse_der_visiblestring`.
 pub fn visiblestring<'a>(i: &'a [u8]) -> BerResult<'a>
-    ensures found { MatchAnswer result (λ x. ReadsTyped 26 i.now x.1 x.0.now) (TypedRefuses 26 i.now) (TypedLacks 26 i.now) ⊥ }
-    ensures only { (c : Class) (p : Bool) (x : Content) (rest : List ℕ) → BeginsWithTyped i.now c p 26 x rest → IsOkAnd result (λ y. (tree y.1 ≡ node c p 26 x) × (y.0.now ≡ rest)) }
-    ensures refuses { (e : Refusal) → TypedRefuses 26 i.now e → AnswersError result e }
-    ensures lacks { (n : ℕ) → TypedLacks 26 i.now n → AnswersIncomplete result n }
+    ensures { AnswersTyped 26 i.now result }
 {
     parse_der_visiblestring(i)
 }

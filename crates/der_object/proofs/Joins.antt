@@ -4,7 +4,7 @@ use Rattle.std.proofs.lemmas.List.{append-nil}
 use Rattle.der_base.specs.Fault.{DerJoins}
 use Rattle.der_base.specs.Spelling.{end_marker, BerSpellsAs, Joins, OpenJoins, DerSpells}
 use Rattle.der_object.specs.declared.object.BerObject.{BerObject}
-use Rattle.der_object.specs.Marks.{form_of, forms_of}
+use Rattle.der_object.specs.HeaderFacts.{form_of, forms_of}
 use Rattle.der_object.specs.View.{tree, trees}
 
 first : (w b : List ℕ) → w ≡ [] → w ++ b ≡ b ++ []

@@ -1,6 +1,6 @@
 pub mod Digits
+pub mod HeaderFacts
 pub mod Integers
 pub mod Joins
-pub mod Marks
 pub mod Room
 pub mod Trees

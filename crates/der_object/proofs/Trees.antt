@@ -8,7 +8,7 @@ use Rattle.der_base.specs.declared.header.Header.{Header}
 use Rattle.der_base.specs.Encoding.{encoding, encodings, content_octets, element}
 use Rattle.der_base.specs.Header.{class_of, is_constructed, number_of}
 use Rattle.der_base.specs.Octets.{identifier, shortest_length}
-use Rattle.der_base.specs.Same.{same_node, same_content, same_nodes}
+use Rattle.der_base.specs.TreeEquality.{same_node, same_content, same_nodes}
 use Rattle.der_base.specs.Tree.{sequence, set, Nodes, no_nodes, nodes}
 use Rattle.der_object.specs.declared.object.BerObject.{BerObject}
 use Rattle.der_object.specs.declared.object.BerObjectContent.{BerObjectContent, roll-BerObjectContent, roll-out-BerObjectContent, Row_of-BerObject, end_of-BerObject, more_of-BerObject, items-the_row-BerObject}

@@ -1,6 +1,6 @@
 pub mod Bits
-pub mod Made
-pub mod Marks
+pub mod HeaderFacts
 pub mod Objects
+pub mod Readings
 pub mod Room
 pub mod View

@@ -1,14 +1,14 @@
 //! Equality: objects are equal where their trees are. The length and the raw tag of a header don't
 //! count.
 ghost use Rattle.std.specs.Prelude.{◌≡◌, ◌↔◌, IsTrue};
-ghost use Rattle.der_base.specs.Same.{same_node, same_content, same_nodes};
+ghost use Rattle.der_base.specs.TreeEquality.{same_node, same_content, same_nodes};
 ghost use Rattle.der_object.specs.View.{tree, content_tree, trees};
 
 use crate::object::{BerObject, BerObjectContent};
 
 impl PartialEq for BerObject<'_> {
     ghost use Rattle.std.specs.Cmp.{partial_equiv_from_equiv, decided, on_per};
-    ghost use Rattle.der_base.proofs.SameIs.{same_node-Decides};
+    ghost use Rattle.der_base.proofs.TreeEqualityLaws.{same_node-Decides};
 
     ghost eq = { λ a b. same_node (tree a) (tree b) };
 
@@ -24,7 +24,7 @@ impl PartialEq for BerObject<'_> {
 
 impl PartialEq for BerObjectContent<'_> {
     ghost use Rattle.std.specs.Cmp.{partial_equiv_from_equiv, decided, on_per};
-    ghost use Rattle.der_base.proofs.SameIs.{same_content-Decides};
+    ghost use Rattle.der_base.proofs.TreeEqualityLaws.{same_content-Decides};
 
     ghost eq = { λ a b. same_content (content_tree a) (content_tree b) };
 

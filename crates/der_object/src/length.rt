@@ -62,7 +62,7 @@ fn element_length(tag: Tag, n: usize) -> Option<usize>
 }
 
 /// How many identifier octets a tag number has (8.1.2).
-#[tactic(auto, using(der_base::proofs::Numbers::identifier_short_length, der_base::proofs::Numbers::identifier_long_length))]
+#[tactic(auto, using(der_base::proofs::Octets::Numbers::identifier_short_length, der_base::proofs::Octets::Numbers::identifier_long_length))]
 fn identifier_octet_count(tag: Tag) -> usize
     ensures count { (c : Class) (p : Bool) → result ≡ length (identifier c p tag.0) }
     ensures few { result ≤ 6 }
@@ -84,7 +84,7 @@ fn length_octet_count(n: usize) -> usize
 }
 
 /// How many octets a number has, none for 0.
-#[tactic(auto, using(der_base::proofs::Numbers::octets_leading))]
+#[tactic(auto, using(der_base::proofs::Octets::Numbers::octets_leading))]
 fn octet_count(n: usize) -> usize
     ensures count { result ≡ length (octets n) }
     ensures few { result ≤ 8 }
@@ -110,7 +110,7 @@ pub fn needs_zero(n: u64) -> bool
 }
 
 /// How many groups of seven bits a tag number has (8.1.2.4.2).
-#[tactic(auto, using(der_base::proofs::Numbers::groups_one, der_base::proofs::Numbers::groups_count))]
+#[tactic(auto, using(der_base::proofs::Octets::Numbers::groups_one, der_base::proofs::Octets::Numbers::groups_count))]
 fn group_count(n: u32) -> usize
     ensures count { result ≡ length (groups n) }
     ensures few { result ≤ 5 }

@@ -154,7 +154,7 @@ impl<'a> BerObject<'a> {
 
 /// The object that `from_obj` makes of the content.
 impl<'a> From<BerObjectContent<'a>> for BerObject<'a> {
-    ghost use Rattle.der_object.specs.Made.{IsMadeOf};
+    ghost use Rattle.der_object.specs.Objects.{IsMadeOf};
 
     ghost from_gives = { λ x o. IsMadeOf x o };
 
@@ -166,7 +166,7 @@ impl<'a> From<BerObjectContent<'a>> for BerObject<'a> {
 /// The object that `from_obj` makes of an OBJECT IDENTIFIER.
 impl<'a> From<Oid<'a>> for BerObject<'a> {
     ghost use Rattle.der_object.specs.declared.object.BerObjectContent.TheVariants.{OID};
-    ghost use Rattle.der_object.specs.Made.{IsMadeOf};
+    ghost use Rattle.der_object.specs.Objects.{IsMadeOf};
 
     ghost from_gives = { λ x o. IsMadeOf (OID x) o };
 

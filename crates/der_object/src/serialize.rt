@@ -107,7 +107,7 @@ fn write_header(out: &mut [u8], end: usize, header: &Header<'_>, n: usize) -> us
 }
 
 /// Writes identifier octets in front of a place (8.1.2).
-#[tactic(auto, using(der_base::proofs::Identifiers::identifier_short, der_base::proofs::Identifiers::identifier_long, der_base::proofs::Numbers::identifier_short_length, der_base::proofs::Numbers::identifier_long_length))]
+#[tactic(auto, using(der_base::proofs::Octets::Identifiers::identifier_short, der_base::proofs::Octets::Identifiers::identifier_long, der_base::proofs::Octets::Numbers::identifier_short_length, der_base::proofs::Octets::Numbers::identifier_long_length))]
 fn write_identifier(out: &mut [u8], end: usize, class: Class, constructed: bool, tag: Tag) -> usize
     requires room { length (identifier class constructed tag.0) ≤ end }
     requires within { end ≤ length out.old }
@@ -154,7 +154,7 @@ fn write_groups(out: &mut [u8], end: usize, n: u32) -> usize
 }
 
 /// Writes length octets in front of a place, the fewest (8.1.3, 10.1).
-#[tactic(auto, using(der_base::proofs::Numbers::octets_leading), unfolding(der_base::specs::Octets::shortest_length))]
+#[tactic(auto, using(der_base::proofs::Octets::Numbers::octets_leading), unfolding(der_base::specs::Octets::shortest_length))]
 fn write_length(out: &mut [u8], end: usize, n: usize) -> usize
     requires room { length (shortest_length n) ≤ end }
     requires within { end ≤ length out.old }
@@ -169,7 +169,7 @@ fn write_length(out: &mut [u8], end: usize, n: usize) -> usize
 }
 
 /// Writes the fewest octets of a number in front of a place, none for 0.
-#[tactic(auto, using(der_base::proofs::Numbers::octets_from_bytes))]
+#[tactic(auto, using(der_base::proofs::Octets::Numbers::octets_from_bytes))]
 fn write_number(out: &mut [u8], end: usize, n: usize) -> usize
     requires room { length (octets n) ≤ end }
     requires within { end ≤ length out.old }

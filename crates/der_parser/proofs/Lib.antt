@@ -1,7 +1,8 @@
 -- The laws of the definitions and of answers, under this name.
-pub use Rattle.der_base.proofs.Answering
-pub use Rattle.der_base.proofs.BerFaults
-pub use Rattle.der_base.proofs.DerFaults
-pub use Rattle.der_base.proofs.DerWithinBer
-pub use Rattle.der_base.proofs.Framing
-pub use Rattle.der_base.proofs.RunsLaws
+pub use Rattle.der_base.proofs.Answers.Answering
+pub use Rattle.der_base.proofs.Spellings.BerFaults
+pub use Rattle.der_base.proofs.Spellings.DerFaults
+pub use Rattle.der_base.proofs.Spellings.DerWithinBer
+pub use Rattle.der_base.proofs.Answers.Exactness
+pub use Rattle.der_base.proofs.Framing.UniqueSpelling
+pub use Rattle.der_base.proofs.Containers.ContainerLaws

@@ -7,8 +7,8 @@ pub use Rattle.der_base.specs.Content
 pub use Rattle.der_base.specs.Cut
 pub use Rattle.der_base.specs.Encoding
 pub use Rattle.der_base.specs.Errors
+pub use Rattle.der_base.specs.Exactly
 pub use Rattle.der_base.specs.Fault
-pub use Rattle.der_base.specs.Framed
 pub use Rattle.der_base.specs.Header
 pub use Rattle.der_base.specs.Headers
 pub use Rattle.der_base.specs.Leaf
@@ -17,14 +17,15 @@ pub use Rattle.der_base.specs.Octets
 pub use Rattle.der_base.specs.OidArcs
 pub use Rattle.der_base.specs.Oids
 pub use Rattle.der_base.specs.Refusal
-pub use Rattle.der_base.specs.Runs
+pub use Rattle.der_base.specs.Containers
 pub use Rattle.der_base.specs.Spelling
 pub use Rattle.der_base.specs.Text
 pub use Rattle.der_base.specs.Time
 pub use Rattle.der_base.specs.Tree
 pub use Rattle.der_object.specs.Bits
-pub use Rattle.der_object.specs.Marks
+pub use Rattle.der_object.specs.HeaderFacts
 pub use Rattle.der_object.specs.Objects
+pub use Rattle.der_object.specs.Readings
 pub use Rattle.der_object.specs.Room
 pub use Rattle.der_object.specs.View
 pub use Rattle.der_ber.specs.BerContents

@@ -1,9 +1,9 @@
 use Rattle.std.proofs.Common.{refl}
 use Rattle.der_base.specs.Spelling.{framing_budget}
-use Rattle.der_base.proofs.Answering.{only_ok, only_error, only_incomplete}
-use Rattle.der_base.proofs.Cuts.{lacks_same}
-use Rattle.der_base.proofs.Framing.{begins_same}
-use Rattle.der_base.proofs.FramingLaws.{begins_not_refused, begins_not_cut, any_refusal_same}
+use Rattle.der_base.proofs.Answers.Answering.{only_ok, only_error, only_incomplete}
+use Rattle.der_base.proofs.Framing.Cuts.{lacks_same}
+use Rattle.der_base.proofs.Framing.UniqueSpelling.{begins_same}
+use Rattle.der_base.proofs.Framing.FramingLaws.{begins_not_refused, begins_not_cut, any_refusal_same}
 use Rattle.der_base.proofs.any.ber_any_counted.Goals as goal
 
 pub returns-clause-only : goal.returns-clause-only

@@ -1,5 +1,5 @@
-use Rattle.der_base.proofs.Answering.{only_ok, only_error, only_incomplete}
-use Rattle.der_base.proofs.ContentLaws.{content_same, content_not_refused, content_not_lacking, content_refusal_same, content_refused_not_lacking, content_lacks_same}
+use Rattle.der_base.proofs.Answers.Answering.{only_ok, only_error, only_incomplete}
+use Rattle.der_base.proofs.Framing.ContentLaws.{content_same, content_not_refused, content_not_lacking, content_refusal_same, content_refused_not_lacking, content_lacks_same}
 use Rattle.der_base.proofs.any.ber_read_content.Goals as goal
 
 pub returns-clause-only : goal.returns-clause-only

@@ -2,13 +2,13 @@ use Rattle.std.proofs.Common.{◌≡◌, ◌++◌, ◌-◌, List, ℕ, [], lengt
 use Rattle.std.proofs.lemmas.List.{take_at}
 use Rattle.std.proofs.lemmas.Result.{err_from_is_err_and}
 use Rattle.der_base.specs.Fault.{HasHeader, at_header, too_deep}
-use Rattle.der_base.specs.Framed.{no_elements}
+use Rattle.der_base.specs.Inner.Framed.{no_elements}
 use Rattle.der_base.specs.Header.{class_of, is_constructed, number_of, length_of}
 use Rattle.der_base.specs.Spelling.{end_marker}
-use Rattle.der_base.proofs.Answering.{passed_on}
-use Rattle.der_base.proofs.FramingCuts.{lacks_header, lacks_content, refuses_content}
-use Rattle.der_base.proofs.FramingLists.{has_header, header_shorter, none_at_zero, behind_marker, one_more_element}
-use Rattle.der_base.proofs.Restated.{are_raws}
+use Rattle.der_base.proofs.Answers.Answering.{passed_on}
+use Rattle.der_base.proofs.Framing.FramingCuts.{lacks_header, lacks_content, refuses_content}
+use Rattle.der_base.proofs.Framing.FramingLists.{has_header, header_shorter, none_at_zero, behind_marker, one_more_element}
+use Rattle.der_base.proofs.Framing.FramedIsSpelling.{are_raws}
 use Rattle.der_base.proofs.content.+framing.Goals as goal
 
 pub read_to_end_marker-elements-init : goal.read_to_end_marker-elements-init

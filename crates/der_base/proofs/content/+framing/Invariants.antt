@@ -1,5 +1,5 @@
 use Rattle.std.proofs.Common.{◌≡◌, ◌^◌, min, ◌+◌, ◌*◌, ◌-◌, ◌≤◌, ◌++◌, List, ℕ, length}
-use Rattle.der_base.specs.Framed.{AreElements}
+use Rattle.der_base.specs.Inner.Framed.{AreElements}
 use Rattle.der_base.proofs.content.+framing.Given as goal
 
 abbrev pub decreases-read_content : goal.decreases-read_content

@@ -1,6 +1,6 @@
-use Rattle.der_base.proofs.Answering.{only_ok, only_error, only_incomplete}
-use Rattle.der_base.proofs.BerHeaders.{ber_header_not_refused, ber_header_not_lacking, ber_header_refusal_same, ber_header_only}
-use Rattle.der_base.proofs.HeaderLaws.{header_lacks_same}
+use Rattle.der_base.proofs.Answers.Answering.{only_ok, only_error, only_incomplete}
+use Rattle.der_base.proofs.Headers.BerHeaders.{ber_header_not_refused, ber_header_not_lacking, ber_header_refusal_same, ber_header_only}
+use Rattle.der_base.proofs.Headers.HeaderLaws.{header_lacks_same}
 use Rattle.der_base.proofs.header.ber_read_element_header.Goals as goal
 
 pub returns-clause-only : goal.returns-clause-only

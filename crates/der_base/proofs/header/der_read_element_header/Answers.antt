@@ -1,6 +1,6 @@
-use Rattle.der_base.proofs.Answering.{only_ok, only_error, only_incomplete}
-use Rattle.der_base.proofs.DerHeaders.{der_header_not_refused, der_header_not_lacking, der_header_refusal_same, der_header_only}
-use Rattle.der_base.proofs.HeaderLaws.{header_lacks_same}
+use Rattle.der_base.proofs.Answers.Answering.{only_ok, only_error, only_incomplete}
+use Rattle.der_base.proofs.Headers.DerHeaders.{der_header_not_refused, der_header_not_lacking, der_header_refusal_same, der_header_only}
+use Rattle.der_base.proofs.Headers.HeaderLaws.{header_lacks_same}
 use Rattle.der_base.proofs.header.der_read_element_header.Goals as goal
 
 pub returns-clause-only : goal.returns-clause-only

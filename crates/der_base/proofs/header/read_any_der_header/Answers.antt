@@ -1,7 +1,7 @@
 use Rattle.std.proofs.Common.{inl, inr}
 use Rattle.std.proofs.lemmas.Result.{err_from_is_err_and}
-use Rattle.der_base.proofs.Answering.{passed_on}
-use Rattle.der_base.proofs.DerHeaders.{der_cut_identifier, der_cut_length}
+use Rattle.der_base.proofs.Answers.Answering.{passed_on}
+use Rattle.der_base.proofs.Headers.DerHeaders.{der_cut_identifier, der_cut_length}
 use Rattle.der_base.proofs.header.read_any_der_header.Goals as goal
 
 -- the identifier is refused or cut

@@ -5,8 +5,8 @@ use Rattle.der_base.specs.declared.header.Length.TheVariants.{Definite}
 use Rattle.der_base.specs.Header.{IsHeader, class_of, is_constructed, number_of, raw_tag_of}
 use Rattle.der_base.specs.Headers.{BeginsWithHeader, BeginsWithDerHeader, ReadsHeader, ReadsDerHeader}
 use Rattle.der_base.specs.Octets.{identifier, leading_bits}
-use Rattle.der_base.proofs.Identifiers.{identifier_short}
-use Rattle.der_base.proofs.ShortestLengths.{shortest_short}
+use Rattle.der_base.proofs.Octets.Identifiers.{identifier_short}
+use Rattle.der_base.proofs.Octets.ShortestLengths.{shortest_short}
 use Rattle.der_base.proofs.header.read_short_header.Goals as goal
 
 -- i is the octet of an identifier, the octet of the length n, and r

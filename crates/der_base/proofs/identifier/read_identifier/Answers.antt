@@ -2,11 +2,11 @@ use Rattle.std.proofs.Common.{◌≡◌, ℕ, ◌+◌, ◌<◌, ◌≤◌, Bool,
 use Rattle.std.proofs.lemmas.List.{nil_from_length, take_at}
 use Rattle.std.proofs.lemmas.Result.{err_from_is_err_and}
 use Rattle.der_base.specs.declared.header.Class.{Class}
-use Rattle.der_base.specs.Identifier.{IsCutIdentifier}
+use Rattle.der_base.specs.Inner.Identifier.{IsCutIdentifier}
 use Rattle.der_base.specs.Octets.{identifier, groups, leading_bits}
-use Rattle.der_base.proofs.Answering.{passed_on}
-use Rattle.der_base.proofs.Identifiers.{identifier_short, identifier_long}
-use Rattle.der_base.proofs.TagNumbers.{cut_empty, cut_behind, bad_tag_behind}
+use Rattle.der_base.proofs.Answers.Answering.{passed_on}
+use Rattle.der_base.proofs.Octets.Identifiers.{identifier_short, identifier_long}
+use Rattle.der_base.proofs.Octets.TagNumbers.{cut_empty, cut_behind, bad_tag_behind}
 use Rattle.der_base.proofs.identifier.read_identifier.Goals as goal
 
 short : (i r : List ℕ) (f t : ℕ) (c : Class) (p : Bool) → i ≡ f ∷ r → f ≡ leading_bits c p + t → t < 31 → i ≡ identifier c p t ++ r

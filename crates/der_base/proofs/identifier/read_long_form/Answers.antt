@@ -4,8 +4,8 @@ use Rattle.std.proofs.lemmas.List.{take-append-drop, take_rest, take_all, nil_fr
 use Rattle.std.proofs.lemmas.List.Elements.{All-nil}
 use Rattle.der_base.specs.Fault.{HasBadTag}
 use Rattle.der_base.specs.Octets.{groups, groups_value}
-use Rattle.der_base.proofs.Identifiers.{head_same}
-use Rattle.der_base.proofs.TagNumbers.{open_groups, open_groups_more, open_high, groups_last, value_open, value-append, cut_open}
+use Rattle.der_base.proofs.Octets.Identifiers.{head_same}
+use Rattle.der_base.proofs.Octets.TagNumbers.{open_groups, open_groups_more, open_high, groups_last, value_open, value-append, cut_open}
 use Rattle.der_base.proofs.identifier.read_long_form.Goals as goal
 use Rattle.der_base.proofs.identifier.read_long_form.Goals.{then-first-lt31-via-then-first-lt31, then-first-lt31-via-else-first-lt31+then-first}
 

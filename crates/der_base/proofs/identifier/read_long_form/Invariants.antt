@@ -1,5 +1,5 @@
 use Rattle.std.proofs.Common.{◌≡◌, take}
-use Rattle.der_base.proofs.TagNumbers.{open_groups}
+use Rattle.der_base.proofs.Octets.TagNumbers.{open_groups}
 use Rattle.der_base.proofs.identifier.read_long_form.Given as goal
 
 abbrev pub invariant-loop-index : goal.invariant-loop-index

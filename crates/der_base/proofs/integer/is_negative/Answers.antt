@@ -1,10 +1,10 @@
 use Rattle.std.proofs.Common.{◌≤◌, arith}
 use Rattle.std.specs.Prelude.{slice_index_or}
 use Rattle.std.proofs.lemmas.Bool.Decides.{nat_tests}
-use Rattle.der_base.proofs.Each.{Each}
-use Rattle.der_base.proofs.Shortest.{IsOctet}
-use Rattle.der_base.proofs.ShortestLengths.{bytes_from}
-use Rattle.der_base.proofs.Signs.{below_zero}
+use Rattle.der_base.proofs.AllByRecursion.{Each}
+use Rattle.der_base.proofs.Octets.Shortest.{IsOctet}
+use Rattle.der_base.proofs.Octets.ShortestLengths.{bytes_from}
+use Rattle.der_base.proofs.Octets.SignBit.{below_zero}
 use Rattle.der_base.proofs.integer.is_negative.Goals as goal
 
 pub returns-in-len1-up-clause-negative : goal.returns-in-len1-up-clause-negative

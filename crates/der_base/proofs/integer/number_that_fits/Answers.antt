@@ -1,7 +1,7 @@
 use Rattle.std.proofs.Common.{◌+◌, ◌*◌, drop, get_or, suc, ap, arith}
 use Rattle.std.proofs.Math.Seq.{drop-cons}
 use Rattle.der_base.specs.Octets.{number_from}
-use Rattle.der_base.proofs.ShortestLengths.{number_grows}
+use Rattle.der_base.proofs.Octets.ShortestLengths.{number_grows}
 use Rattle.der_base.proofs.integer.number_that_fits.Goals as goal
 
 pub returns-then-n : goal.returns-then-n

@@ -1,5 +1,5 @@
-use Rattle.der_base.proofs.Always.{always_ber}
-use Rattle.der_base.proofs.AlwaysDer.{accepted_written, always_der}
+use Rattle.der_base.proofs.Leaves.Always.{always_ber}
+use Rattle.der_base.proofs.Leaves.AlwaysDer.{accepted_written, always_der}
 use Rattle.der_base.proofs.laws.always_one.Goals as goal
 
 pub returns-clause-ber : goal.returns-clause-ber

@@ -1,5 +1,5 @@
-use Rattle.der_base.proofs.AppendedBer.{shown_appended, spelled_appended}
-use Rattle.der_base.proofs.AppendedDer.{der_shown_appended, der_spelled_appended}
+use Rattle.der_base.proofs.Spellings.AppendedBer.{shown_appended, spelled_appended}
+use Rattle.der_base.proofs.Spellings.AppendedDer.{der_shown_appended, der_spelled_appended}
 use Rattle.der_base.proofs.laws.appended_only_lengthen.Goals as goal
 
 pub returns-clause-ber : goal.returns-clause-ber

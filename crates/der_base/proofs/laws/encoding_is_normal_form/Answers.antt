@@ -1,4 +1,4 @@
-use Rattle.der_base.proofs.NormalForm.{encoding_normal_form}
+use Rattle.der_base.proofs.Spellings.NormalForm.{encoding_normal_form}
 use Rattle.der_base.proofs.laws.encoding_is_normal_form.Goals as goal
 
 pub returns : goal.returns

@@ -1,5 +1,5 @@
-use Rattle.der_base.proofs.BerFaults as ber
-use Rattle.der_base.proofs.DerFaults as der
+use Rattle.der_base.proofs.Spellings.BerFaults as ber
+use Rattle.der_base.proofs.Spellings.DerFaults as der
 use Rattle.der_base.proofs.laws.faults_are_one.Goals as goal
 
 pub returns-clause-ber : goal.returns-clause-ber

@@ -1,4 +1,4 @@
-use Rattle.der_base.proofs.NeverBoth.{never_both_ber, never_both_der}
+use Rattle.der_base.proofs.Leaves.NeverBoth.{never_both_ber, never_both_der}
 use Rattle.der_base.proofs.laws.never_both.Goals as goal
 
 pub returns-clause-ber : goal.returns-clause-ber

@@ -1,4 +1,4 @@
-use Rattle.der_base.proofs.OneContent.{one_content, one_der_leaf}
+use Rattle.der_base.proofs.Leaves.OneContent.{one_content, one_der_leaf}
 use Rattle.der_base.proofs.laws.one_content.Goals as goal
 
 pub returns-clause-ber : goal.returns-clause-ber

@@ -1,5 +1,5 @@
 use Rattle.std.proofs.Common.{◌∷◌, [], refl, arith, inl}
-use Rattle.der_base.proofs.LongLengths.{none_lacks}
+use Rattle.der_base.proofs.Octets.LongLengths.{none_lacks}
 use Rattle.der_base.proofs.length.read_ber_length.Goals as goal
 
 pub returns-in_default : goal.returns-in_default

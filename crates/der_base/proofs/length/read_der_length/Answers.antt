@@ -1,4 +1,4 @@
-use Rattle.der_base.proofs.LongLengths.{none_lacks, short_begins}
+use Rattle.der_base.proofs.Octets.LongLengths.{none_lacks, short_begins}
 use Rattle.der_base.proofs.length.read_der_length.Goals as goal
 
 pub returns-in_default : goal.returns-in_default

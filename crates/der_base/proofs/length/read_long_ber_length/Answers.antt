@@ -1,5 +1,5 @@
 use Rattle.std.proofs.Common.{arith}
-use Rattle.der_base.proofs.LongLengths.{announced_begins}
+use Rattle.der_base.proofs.Octets.LongLengths.{announced_begins}
 use Rattle.der_base.proofs.length.read_long_ber_length.Goals as goal
 
 pub returns : goal.returns

@@ -1,6 +1,6 @@
 use Rattle.std.proofs.Common.{arith}
-use Rattle.der_base.proofs.ShortestLengths.{bytes_from}
-use Rattle.der_base.proofs.LongLengths.{announced_fewest, announced_small, announced_zero, announced_refused}
+use Rattle.der_base.proofs.Octets.ShortestLengths.{bytes_from}
+use Rattle.der_base.proofs.Octets.LongLengths.{announced_fewest, announced_small, announced_zero, announced_refused}
 use Rattle.der_base.proofs.length.read_long_der_length.Goals as goal
 use Rattle.der_base.proofs.length.read_long_der_length.Goals.{then-n-lt-LEAST_LONG-via-then-n-lt-LEAST_LONG, then-n-lt-LEAST_LONG-via-else-n-lt-LEAST_LONG+then-octets-eq0}
 

@@ -4,7 +4,7 @@ use Rattle.std.specs.List.{list_all}
 use Rattle.std.proofs.lemmas.Bool.Decides.{nat_tests}
 use Rattle.std.proofs.lemmas.List.{drop_all}
 use Rattle.der_base.specs.Arcs.{subidentifiers, is_whole}
-use Rattle.der_base.proofs.Arcs.{whole_after, whole_start, whole_last, whole_more, too_many, octet_at}
+use Rattle.der_base.proofs.Oids.Arcs.{whole_after, whole_start, whole_last, whole_more, too_many, octet_at}
 use Rattle.der_base.proofs.oid.are_whole.Goals as goal
 use Rattle.der_base.proofs.oid.are_whole.Goals.{then-octet-lt128, else-octet-lt128+else-open-eq-MOST_BEFORE_LAST}
 

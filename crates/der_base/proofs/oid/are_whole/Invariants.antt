@@ -1,7 +1,7 @@
 use Rattle.std.proofs.Common.{◌≡◌, ◌≤◌, drop}
 use Rattle.std.specs.List.{list_all}
 use Rattle.der_base.specs.Arcs.{subidentifiers, is_whole}
-use Rattle.der_base.proofs.Arcs.{whole_after}
+use Rattle.der_base.proofs.Oids.Arcs.{whole_after}
 use Rattle.der_base.proofs.oid.are_whole.Given as goal
 
 abbrev pub invariant-loop-octet : goal.invariant-loop-octet

@@ -8,7 +8,7 @@ use Rattle.std.specs.Str.Parse.{digits_value, ParsesUnsigned}
 use Rattle.std.proofs.lemmas.Bool.Decides.{nat_tests}
 use Rattle.std.proofs.lemmas.Str.Parse.{IsNumeralModel, numerals_by_value, tells_all_ascii_digits, parse_plain}
 use Rattle.der_base.specs.OidArcs.{is_arc}
-use Rattle.der_base.proofs.Arcs.{and_first, and_second}
+use Rattle.der_base.proofs.Oids.Arcs.{and_first, and_second}
 use Rattle.der_base.proofs.oid.parse_arc.Goals as goal
 
 numerals : IsNumeralModel (λ ds. all_ascii_digits ds ≡ true) (digits_value 10)

@@ -4,7 +4,7 @@ use Rattle.std.proofs.Math.Nat.{pow-suc}
 use Rattle.std.proofs.lemmas.Grind.{drop-set_at}
 use Rattle.std.proofs.lemmas.List.{length-set}
 use Rattle.der_base.specs.Octets.{groups_before}
-use Rattle.der_base.proofs.Numbers.{groups_start, groups_step}
+use Rattle.der_base.proofs.Octets.Numbers.{groups_start, groups_step}
 use Rattle.der_base.proofs.oid.push_subidentifier.Goals as goal
 
 -- one more group in front

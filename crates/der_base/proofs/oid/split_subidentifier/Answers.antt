@@ -1,5 +1,5 @@
 use Rattle.std.proofs.Common.{◌+◌, ◌<◌, ◌∷◌, ℕ, List, length, drop, get_or, subst, arith}
-use Rattle.der_base.proofs.Arcs.{ReadSoFar, read_small, octet_at}
+use Rattle.der_base.proofs.Oids.Arcs.{ReadSoFar, read_small, octet_at}
 use Rattle.der_base.proofs.oid.split_subidentifier.Goals as goal
 
 -- the octet that is read next

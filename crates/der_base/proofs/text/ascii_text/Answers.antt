@@ -1,5 +1,5 @@
 use Rattle.std.proofs.lemmas.Str.{IsUtf8-from_ascii}
-use Rattle.der_base.proofs.Texts.{ascii_of_all}
+use Rattle.der_base.proofs.Leaves.Texts.{ascii_of_all}
 use Rattle.der_base.proofs.text.ascii_text.Goals as goal
 
 pub from_utf8_unchecked-requires : goal.from_utf8_unchecked-requires

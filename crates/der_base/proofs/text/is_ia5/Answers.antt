@@ -1,4 +1,4 @@
-use Rattle.der_base.proofs.Texts.{ia5_of_ascii}
+use Rattle.der_base.proofs.Leaves.Texts.{ia5_of_ascii}
 use Rattle.der_base.proofs.text.is_ia5.Goals as goal
 
 pub returns : goal.returns

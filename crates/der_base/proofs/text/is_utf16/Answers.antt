@@ -1,7 +1,7 @@
 use Rattle.std.proofs.Common.{drop, sym, ap, ◌∙◌, arith}
 use Rattle.std.proofs.lemmas.List.{take_rest}
-use Rattle.der_base.proofs.Decided.{never}
-use Rattle.der_base.proofs.Texts.{pairs_match, pairs_match_step, pairs_match_not, pairs_match_end, utf16_of_pairs, pairs_of_utf16}
+use Rattle.der_base.proofs.Leaves.Decided.{never}
+use Rattle.der_base.proofs.Leaves.Texts.{pairs_match, pairs_match_step, pairs_match_not, pairs_match_end, utf16_of_pairs, pairs_of_utf16}
 use Rattle.der_base.proofs.text.is_utf16.Goals as goal
 
 pub returns-then-begins_low_surrogate-expects_low : goal.returns-then-begins_low_surrogate-expects_low

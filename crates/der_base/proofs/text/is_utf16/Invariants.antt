@@ -1,5 +1,5 @@
 use Rattle.std.proofs.Common.{◌≡◌, false, length}
-use Rattle.der_base.proofs.Texts.{pairs_match}
+use Rattle.der_base.proofs.Leaves.Texts.{pairs_match}
 use Rattle.der_base.proofs.text.is_utf16.Given as goal
 
 abbrev pub invariant-loop-rest : goal.invariant-loop-rest

@@ -1,8 +1,8 @@
 use Rattle.std.proofs.Common.{codes, refl}
 use Rattle.std.proofs.lemmas.Bool.Decides.{Decides-eqb}
 use Rattle.std.proofs.lemmas.Slice.Eq.{starts_is, ends_is}
-use Rattle.der_base.proofs.Decided.{never}
-use Rattle.der_base.proofs.TimesStrict.{loose_end_by}
+use Rattle.der_base.proofs.Leaves.Decided.{never}
+use Rattle.der_base.proofs.Times.TimesStrict.{loose_end_by}
 use Rattle.der_base.proofs.time.is_loose_end.Goals as goal
 
 pub returns-then-starts_with-2 : goal.returns-then-starts_with-2

@@ -1,6 +1,6 @@
 use Rattle.std.proofs.Common.{◌*◌, ◌<◌, ◌^◌, length, ap, subst, arith}
 use Rattle.std.proofs.lemmas.Grind.{pow_more}
-use Rattle.der_base.proofs.TimesRead.{few_digits, digits_more, few_nanoseconds}
+use Rattle.der_base.proofs.Times.TimesRead.{few_digits, digits_more, few_nanoseconds}
 use Rattle.der_base.proofs.time.nanoseconds.Goals as goal
 
 pub overflow_mul-number : goal.overflow_mul-number

@@ -1,5 +1,5 @@
 use Rattle.der_base.specs.Refusal.{refusal}
-use Rattle.der_base.proofs.TimesStrict.{strict_only, strict_refuses}
+use Rattle.der_base.proofs.Times.TimesStrict.{strict_only, strict_refuses}
 use Rattle.der_base.proofs.time.read_der_time.Goals as goal
 
 pub returns-clause-only : goal.returns-clause-only

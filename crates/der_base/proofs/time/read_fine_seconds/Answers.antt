@@ -1,4 +1,4 @@
-use Rattle.der_base.proofs.TimesRead.{no_fine}
+use Rattle.der_base.proofs.Times.TimesRead.{no_fine}
 use Rattle.der_base.proofs.time.read_fine_seconds.Goals as goal
 
 pub returns-in_err-second : goal.returns-in_err-second

@@ -1,6 +1,6 @@
 use Rattle.std.proofs.Common.{refl, subst, inl, inr}
-use Rattle.der_base.specs.TimeParts.{BeginsWithFraction}
-use Rattle.der_base.proofs.TimesRead.{fraction_refused, fraction_found}
+use Rattle.der_base.specs.Inner.TimeParts.{BeginsWithFraction}
+use Rattle.der_base.proofs.Times.TimesRead.{fraction_refused, fraction_found}
 use Rattle.der_base.proofs.time.read_fraction.Goals as goal
 
 pub returns-then-count-eq0 : goal.returns-then-count-eq0

@@ -1,6 +1,6 @@
 use Rattle.std.proofs.Common.{subst}
-use Rattle.der_base.specs.TimeParts.{IsLastZone}
-use Rattle.der_base.proofs.TimesRead.{not_generalized, generalized_behind, generalized_end, generalized_found, fine_once}
+use Rattle.der_base.specs.Inner.TimeParts.{IsLastZone}
+use Rattle.der_base.proofs.Times.TimesRead.{not_generalized, generalized_behind, generalized_end, generalized_found, fine_once}
 use Rattle.der_base.proofs.time.read_generalized_time.Goals as goal
 
 pub returns-in_err-time : goal.returns-in_err-time

@@ -1,6 +1,6 @@
 use Rattle.std.proofs.Common.{◌++◌, sym, ◌∙◌, arith}
 use Rattle.der_base.specs.Time.{two_digits}
-use Rattle.der_base.proofs.Times.{two_same}
+use Rattle.der_base.proofs.Times.OneReading.{two_same}
 use Rattle.der_base.proofs.time.read_month_to_minute.Goals as goal
 
 pub returns-in_err-day : goal.returns-in_err-day

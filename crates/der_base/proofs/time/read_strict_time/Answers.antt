@@ -1,8 +1,8 @@
 use Rattle.std.proofs.Common.{◌∙◌, drop, refl, sym, subst, arith}
 use Rattle.std.proofs.lemmas.List.{take_rest}
-use Rattle.der_base.specs.TimeParts.{IsLooseEnd}
-use Rattle.der_base.proofs.Decided.{never}
-use Rattle.der_base.proofs.TimesStrict.{seconds_refused, fraction_refused, strict_time}
+use Rattle.der_base.specs.Inner.TimeParts.{IsLooseEnd}
+use Rattle.der_base.proofs.Leaves.Decided.{never}
+use Rattle.der_base.proofs.Times.TimesStrict.{seconds_refused, fraction_refused, strict_time}
 use Rattle.der_base.proofs.time.read_strict_time.Goals as goal
 
 pub returns-in_default-get : goal.returns-in_default-get

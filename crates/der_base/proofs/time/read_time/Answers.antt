@@ -1,5 +1,5 @@
 use Rattle.std.proofs.Common.{arith}
-use Rattle.der_base.proofs.TimesRead.{utc_text, generalized_text, time_only}
+use Rattle.der_base.proofs.Times.TimesRead.{utc_text, generalized_text, time_only}
 use Rattle.der_base.proofs.time.read_time.Goals as goal
 
 pub returns-in-UtcTime-clause-found : goal.returns-in-UtcTime-clause-found

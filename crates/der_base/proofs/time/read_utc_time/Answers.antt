@@ -1,5 +1,5 @@
 use Rattle.std.proofs.Common.{arith}
-use Rattle.der_base.proofs.TimesRead.{not_utc, utc_end, utc_found}
+use Rattle.der_base.proofs.Times.TimesRead.{not_utc, utc_end, utc_found}
 use Rattle.der_base.proofs.time.read_utc_time.Goals as goal
 
 pub returns-in_err-second : goal.returns-in_err-second

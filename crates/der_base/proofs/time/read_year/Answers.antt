@@ -1,5 +1,5 @@
 use Rattle.std.proofs.Common.{◌%◌, arith}
-use Rattle.der_base.proofs.TimesRead.{years_behind}
+use Rattle.der_base.proofs.Times.TimesRead.{years_behind}
 use Rattle.der_base.proofs.time.read_year.Goals as goal
 
 pub returns-in_err-year : goal.returns-in_err-year

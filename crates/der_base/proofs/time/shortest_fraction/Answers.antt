@@ -1,6 +1,6 @@
 use Rattle.std.proofs.Common.{◌≤◌, sym, ap, ◌∙◌, arith}
 use Rattle.der_base.specs.Time.{at_least_digits, without_last_zeros, or_zero}
-use Rattle.der_base.proofs.TimesShown.{wide, fewer, zero_goes, nonzero_stays, zero_shown}
+use Rattle.der_base.proofs.Times.TimesShown.{wide, fewer, zero_goes, nonzero_stays, zero_shown}
 use Rattle.der_base.proofs.time.shortest_fraction.Goals as goal
 
 pub overflow_sub-least : goal.overflow_sub-least

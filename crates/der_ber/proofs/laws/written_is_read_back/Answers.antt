@@ -1,10 +1,10 @@
 use Rattle.std.proofs.Common.{[], sym, ◌∙◌}
 use Rattle.std.proofs.lemmas.List.{append-nil}
-use Rattle.der_base.proofs.BerFaults.{spelling_same}
-use Rattle.der_base.proofs.NormalForm.{encoding_normal_form}
+use Rattle.der_base.proofs.Spellings.BerFaults.{spelling_same}
+use Rattle.der_base.proofs.Spellings.NormalForm.{encoding_normal_form}
 use Rattle.der_base.specs.Encoding.{encoding}
 use Rattle.der_base.specs.Spelling.{framing_budget}
-use Rattle.der_object.specs.Marks.{form_of}
+use Rattle.der_object.specs.HeaderFacts.{form_of}
 use Rattle.der_object.specs.View.{tree}
 use Rattle.der_ber.specs.Laws.{WrittenSpells, WrittenIsReadBack}
 use Rattle.der_ber.proofs.laws.written_is_read_back.Goals as goal

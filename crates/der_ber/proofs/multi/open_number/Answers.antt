@@ -1,5 +1,5 @@
 use Rattle.std.proofs.Common.{refl}
-use Rattle.der_base.specs.Runs.{unopened, other_number}
+use Rattle.der_base.specs.Containers.{unopened, other_number}
 use Rattle.der_ber.proofs.multi.open_number.Goals as goal
 
 pub returns-in-Err-clause-err : goal.returns-in-Err-clause-err

@@ -1,6 +1,6 @@
 use Rattle.std.proofs.Common.{refl}
-use Rattle.der_base.proofs.Answering.{only_ok, only_error, only_incomplete}
-use Rattle.der_base.proofs.Cuts.{lacks_same}
+use Rattle.der_base.proofs.Answers.Answering.{only_ok, only_error, only_incomplete}
+use Rattle.der_base.proofs.Framing.Cuts.{lacks_same}
 use Rattle.der_ber.proofs.Slices.{slice_same, slice_not_refused, slice_not_lacking, slice_refusal_same, slice_refused_not_lacking}
 use Rattle.der_ber.proofs.multi.parse_ber_slice.Goals as goal
 

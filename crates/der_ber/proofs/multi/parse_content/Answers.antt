@@ -1,5 +1,5 @@
 use Rattle.std.proofs.Common.{refl}
-use Rattle.der_base.specs.Runs.{refused, stopped, accepted}
+use Rattle.der_base.specs.Containers.{refused, stopped, accepted}
 use Rattle.der_ber.proofs.multi.parse_content.Goals as goal
 
 pub returns-in-Err-clause-run : goal.returns-in-Err-clause-run

@@ -2,7 +2,7 @@ use Rattle.std.proofs.Common.{inr}
 use Rattle.std.proofs.lemmas.Result.{err_from_is_err_and}
 use Rattle.der_base.specs.Header.{class_of}
 use Rattle.der_base.specs.Headers.{BeginsWithHeader}
-use Rattle.der_base.proofs.Answering.{passed_on}
+use Rattle.der_base.proofs.Answers.Answering.{passed_on}
 use Rattle.der_ber.proofs.TypedLaws.{header_of_begins}
 use Rattle.der_ber.proofs.typed.read_typed.Goals as goal
 

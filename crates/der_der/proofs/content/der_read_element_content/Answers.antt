@@ -1,6 +1,6 @@
 use Rattle.std.proofs.Common.{◌^◌, ◌<◌, arith}
 use Rattle.der_base.specs.Header.{class_of, is_constructed, number_of, length_of}
-use Rattle.der_base.proofs.Answering.{only_ok_or, only_error_or, only_incomplete_or}
+use Rattle.der_base.proofs.Answers.Answering.{only_ok_or, only_error_or, only_incomplete_or}
 use Rattle.der_object.specs.View.{content_tree}
 use Rattle.der_der.specs.DerContents.{ReadingNeedsMemory}
 use Rattle.der_der.proofs.ContentLaws.{frames_not_lacking, frame_lacks_same, content_same, content_not_refused, refusal_same, refused_not_lacking}

@@ -4,12 +4,12 @@ use Rattle.der_base.specs.Encoding.{content_octets}
 use Rattle.der_base.specs.Leaf.{is_list, is_mapped, IsLeafContent, IsDerLeaf}
 use Rattle.der_base.specs.LeafRefusal.{BerLeafRefuses, DerLeafRefuses}
 use Rattle.der_base.specs.Refusal.{refusal}
-use Rattle.der_base.proofs.Each.{all_from_each}
-use Rattle.der_base.proofs.Shortest.{IsOctet}
-use Rattle.der_base.proofs.ShortestLengths.{bytes_from}
+use Rattle.der_base.proofs.AllByRecursion.{all_from_each}
+use Rattle.der_base.proofs.Octets.Shortest.{IsOctet}
+use Rattle.der_base.proofs.Octets.ShortestLengths.{bytes_from}
 use Rattle.der_object.specs.declared.object.BerObjectContent.{BerObjectContent}
 use Rattle.der_object.specs.View.{content_tree}
-use Rattle.der_der.specs.DerForms.{IsInForm}
+use Rattle.der_der.specs.Inner.DerForms.{IsInForm}
 use Rattle.der_der.proofs.Forms.{form_read, form_refused}
 use Rattle.der_der.proofs.leaf.read_leaf.Goals as goal
 

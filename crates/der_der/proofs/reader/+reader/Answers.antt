@@ -11,9 +11,9 @@ use Rattle.der_base.specs.Encoding.{content_octets}
 use Rattle.der_base.specs.Leaf.{is_mapped, IsDerLeaf}
 use Rattle.der_base.specs.LeafRefusal.{DerLeafRefuses}
 use Rattle.der_base.specs.Refusal.{refusal}
-use Rattle.der_base.proofs.Answering.{passed_on, answered, ok_weaker}
-use Rattle.der_base.proofs.DerWithinBer.{content_tall}
-use Rattle.der_base.proofs.ItemAnswers.{item_answer, some_content}
+use Rattle.der_base.proofs.Answers.Answering.{passed_on, answered, ok_weaker, ok_with}
+use Rattle.der_base.proofs.Spellings.DerWithinBer.{content_tall}
+use Rattle.der_base.proofs.Answers.ItemAnswers.{item_answer, some_content}
 use Rattle.der_object.specs.View.{content_tree, trees}
 use Rattle.der_der.proofs.Items.{sequence_content, set_content, header_refused, header_cut, size_refused, content_cut, content_refused, content_memory, object_read, leaf_content, header_shorter, read_more, read_all}
 use Rattle.der_der.proofs.reader.+reader.Goals as goal
@@ -41,33 +41,35 @@ read_element-returns-then-rest-length-clause-found t c =
     content_cut c.args.max_depth c.args.i.now c.in_ok-rest.rest.now (class_of h) (is_constructed h) (number_of h) found.size c.lacking.result (omega arith) found.begins (omega arith) (omega arith)
     (λ u. c.lacking.ensures.universal u ∙ size) (λ u. c.lacking.ensures.other u ∙ size)
 
-pub read_items-returns-in_err-push-in-Ok : goal.read_items-returns-in_err-push-in-Ok
-read_items-returns-in_err-push-in-Ok t c =
-    let r = c.loop-rest.invariant in
+pub read_items-returns-in_err-push-in-Ok-clause-found : goal.read_items-returns-in_err-push-in-Ok-clause-found
+read_items-returns-in_err-push-in-Ok-clause-found t c =
+    let r = c.loop-rest.invariant.0 in
     let k = c.in-Ok.ensures.found in
     let some : 0 < length c.loop-rest.rest.now = grind (arith, nat_tests) in
     let deep : 1 ≤ c.args.max_depth = omega (arith, k.spells.depth, content_tall (content_tree c.in-Ok.item.content)) in
     let p = err_from_is_err_and c.from_residual.result c.from_residual.ensures.1 in
     rw (p.1, p.2) (deep, some_content c.args.content.now r.read c.loop-rest.rest.now r.parts some)
 
-pub read_items-returns-in-Err : goal.read_items-returns-in-Err
-read_items-returns-in-Err t c =
+pub read_items-returns-in-Err-clause-found : goal.read_items-returns-in-Err-clause-found
+read_items-returns-in-Err-clause-found t c =
     let w = c.args.content.now in
     let rest = c.loop-rest.rest.now in
-    let r = c.loop-rest.invariant in
+    let r = c.loop-rest.invariant.0 in
     let some : 0 < length rest = grind (arith, nat_tests) in
-    item_answer _ _ _ _ _ (DerShowsFault c.args.max_depth) DerLacks rest c.in-Err.e c.cut_item.result c.cut_item.ensures some c.in-Err.ensures.found
+    item_answer _ _ _ _ _ (DerShowsFault c.args.max_depth) DerLacks rest c.in-Err.e c.refuse_cut_item.result c.refuse_cut_item.ensures some c.in-Err.ensures.found
     (λ x h. (trees c.loop-rest.items.items, r.read, rest, r.parts, r.joins, h))
     (λ m. (omega (arith, m.0), some_content w r.read rest r.parts some))
 
 pub read_items-loop-rest-preserved : goal.read_items-loop-rest-preserved
-read_items-loop-rest-preserved t c =
-    rw (c.in_ok-push-in-Ok.ensures.items, c.make_room.ensures) (read_more c.args.content.now c.loop-rest.rest.now c.in-Ok.after.now c.loop-rest.items.items c.in-Ok.item c.args.max_depth c.loop-rest.invariant c.in-Ok.ensures.found)
+read_items-loop-rest-preserved t c = (
+  rw (c.in_ok-push-in-Ok.ensures.items, c.make_room.ensures) (read_more c.args.content.now c.loop-rest.rest.now c.in-Ok.after.now c.loop-rest.items.items c.in-Ok.item c.args.max_depth c.loop-rest.invariant.0 c.in-Ok.ensures.found),
+  omega (arith, c.loop-rest.invariant.1, c.in-Ok.ensures.counted_ok),
+)
 
-pub read_items-returns : goal.read_items-returns
-read_items-returns t c =
+pub read_items-returns-clause-found : goal.read_items-returns-clause-found
+read_items-returns-clause-found t c =
     let none : length c.loop-rest.rest.now ≡ 0 = grind (arith, nat_tests) in
-    read_all c.args.content.now c.loop-rest.rest.now c.loop-rest.items.items c.args.max_depth c.loop-rest.invariant none
+    read_all c.args.content.now c.loop-rest.rest.now c.loop-rest.items.items c.args.max_depth c.loop-rest.invariant.0 none
 
 pub read_element-returns-clause-found : goal.read_element-returns-clause-found
 read_element-returns-clause-found t c =
@@ -84,7 +86,7 @@ read_element-returns-clause-found t c =
     let small : found.size ≤ max_object_size = omega arith in
     let parts : rest ≡ w ++ r = sym (ap (λ v. v ++ r) c.split_at.ensures.front ∙ ap (λ v. take n rest ++ v) c.split_at.ensures.back ∙ take-append-drop n rest) in
     let whole : length w ≡ found.size = omega arith in
-    answered _ _ c.read_object.result c.read_object.ensures
+    answered _ _ c.read_object.result c.read_object.ensures.found
     (λ x q. object_read i rest w r x.0.now h x.1 found.size d found.begins found.length found.raw_tag small parts whole q)
     (λ e q. content_refused d i rest w r (class_of h) (is_constructed h) (number_of h) found.size e deep found.begins small parts whole q)
     (λ m q. absurd q)
@@ -95,10 +97,10 @@ read_element-returns-clause-shorter t c =
     let h = c.in_ok-rest.header in
     let found = c.in_ok-rest.ensures.found in
     let s = header_shorter c.args.i.now c.in_ok-rest.rest.now (class_of h) (is_constructed h) (number_of h) found.size found.begins in
-    ok_weaker _ _ _ c.read_object.result _ c.read_object.ensures (λ x q. omega (arith, s, ap length q.0, c.split_at.ensures.back_len))
+    ok_weaker _ _ _ c.read_object.result _ c.read_object.ensures.found (λ x q. omega (arith, s, ap length q.0, c.split_at.ensures.back_len))
 
-pub read_object-returns-in_err-content : goal.read_object-returns-in_err-content
-read_object-returns-in_err-content t c =
+pub read_object-returns-in_err-content-clause-found : goal.read_object-returns-in_err-content-clause-found
+read_object-returns-in_err-content-clause-found t c =
     let h = c.args.header in
     let universal : class_of h ≡ Universal = search rules in
     let mapped : IsTrue (is_mapped (number_of h)) = search rules in
@@ -106,26 +108,26 @@ read_object-returns-in_err-content t c =
     let p = err_from_is_err_and c.from_residual-in_err-content.result c.from_residual-in_err-content.ensures.1 in
     rw (p.1, p.2) (universal, mapped, inl refused)
 
-pub read_object-returns-then-eq : goal.read_object-returns-then-eq
-read_object-returns-then-eq t c =
+pub read_object-returns-then-eq-clause-found : goal.read_object-returns-then-eq-clause-found
+read_object-returns-then-eq-clause-found t c =
     let h = c.args.header in
     let universal : class_of h ≡ Universal = search rules in
     let constructed : is_constructed h ≡ true = search rules in
     let number : number_of h ≡ 16 = search rules in
     let e = c.from_header_and_content-then-eq.ensures in
-    (refl, e.header, rw e.content (sequence_content c.args.octets.now h c.in_ok-read_items.field-0 c.args.max_depth universal constructed number c.requires c.in_ok-read_items.ensures))
+    (refl, e.header, rw e.content (sequence_content c.args.octets.now h c.in_ok-read_items.field-0 c.args.max_depth universal constructed number c.requires c.in_ok-read_items.ensures.found))
 
-pub read_object-returns-then-eq-2 : goal.read_object-returns-then-eq-2
-read_object-returns-then-eq-2 t c =
+pub read_object-returns-then-eq-2-clause-found : goal.read_object-returns-then-eq-2-clause-found
+read_object-returns-then-eq-2-clause-found t c =
     let h = c.args.header in
     let universal : class_of h ≡ Universal = search rules in
     let constructed : is_constructed h ≡ true = search rules in
     let number : number_of h ≡ 17 = search rules in
     let e = c.from_header_and_content-then-eq-2.ensures in
-    (refl, e.header, rw e.content (set_content c.args.octets.now h c.in_ok-read_items-2.field-0 c.args.max_depth universal constructed number c.requires c.in_ok-read_items-2.ensures))
+    (refl, e.header, rw e.content (set_content c.args.octets.now h c.in_ok-read_items-2.field-0 c.args.max_depth universal constructed number c.requires c.in_ok-read_items-2.ensures.found))
 
-pub read_object-returns-then-is_mapped : goal.read_object-returns-then-is_mapped
-read_object-returns-then-is_mapped t c =
+pub read_object-returns-then-is_mapped-clause-found : goal.read_object-returns-then-is_mapped-clause-found
+read_object-returns-then-is_mapped-clause-found t c =
     let h = c.args.header in
     let w = c.args.octets.now in
     let x = c.in_ok-content.content in
@@ -133,3 +135,20 @@ read_object-returns-then-is_mapped t c =
     let read : (is_constructed h ≡ false) × IsDerLeaf (number_of h) (content_tree x) × (w ≡ content_octets (content_tree x)) = rw (← c.constructed.ensures, ← c.tag-tag.ensures) c.in_ok-content.ensures in
     let e = c.from_header_and_content-then-is_mapped.ensures in
     (refl, e.header, rw e.content (leaf_content w h x c.args.max_depth universal c.requires read.0 read.1 read.2))
+
+-- counts
+
+pub read_element-returns-clause-counted : goal.read_element-returns-clause-counted
+read_element-returns-clause-counted t c =
+    let h = c.in_ok-rest.header in
+    let found = c.in_ok-rest.ensures.found in
+    let s = header_shorter c.args.i.now c.in_ok-rest.rest.now (class_of h) (is_constructed h) (number_of h) found.size found.begins in
+    omega (arith, s, c.in_ok-rest.ensures.counted, c.split_at.ensures.front_len, c.split_at.ensures.back_len, c.read_object.ensures.counted)
+
+pub read_element-returns-clause-counted_ok : goal.read_element-returns-clause-counted_ok
+read_element-returns-clause-counted_ok t c =
+    let h = c.in_ok-rest.header in
+    let found = c.in_ok-rest.ensures.found in
+    let s = header_shorter c.args.i.now c.in_ok-rest.rest.now (class_of h) (is_constructed h) (number_of h) found.size found.begins in
+    ok_with _ _ _ c.read_object.result _ _ c.read_object.ensures.found c.read_object.ensures.counted_ok
+    (λ x q n. omega (arith, s, c.in_ok-rest.ensures.counted, c.split_at.ensures.front_len, c.split_at.ensures.back_len, ap length q.0, n))

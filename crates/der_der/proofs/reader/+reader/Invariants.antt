@@ -1,4 +1,4 @@
-use Rattle.std.proofs.Common.{◌+◌, ◌*◌, length}
+use Rattle.std.proofs.Common.{◌+◌, ◌*◌, ◌≤◌, length}
 use Rattle.der_der.proofs.Items.{Read}
 use Rattle.der_der.proofs.reader.+reader.Given as goal
 
@@ -12,7 +12,7 @@ abbrev pub decreases-read_items : goal.decreases-read_items
 decreases-read_items l = 3 * l.max_depth + 3
 
 abbrev pub invariant-read_items-loop-rest : goal.invariant-read_items-loop-rest
-invariant-read_items-loop-rest l = Read l.content l.rest l.items.items l.max_depth
+invariant-read_items-loop-rest l = Read l.content l.rest l.items.items l.max_depth × (l.count + length l.rest ≤ l.fn.count + length l.content)
 
 abbrev pub decreases-read_items-loop-rest : goal.decreases-read_items-loop-rest
 decreases-read_items-loop-rest l = length l.rest

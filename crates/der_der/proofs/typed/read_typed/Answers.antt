@@ -4,7 +4,7 @@ use Rattle.der_base.specs.declared.header.Class.TheVariants.{Universal}
 use Rattle.der_base.specs.declared.header.Length.TheVariants.{Definite}
 use Rattle.der_base.specs.Header.{class_of}
 use Rattle.der_base.specs.Headers.{BeginsWithDerHeader}
-use Rattle.der_base.proofs.Answering.{passed_on}
+use Rattle.der_base.proofs.Answers.Answering.{passed_on}
 use Rattle.der_der.specs.DerContents.{FrameLacks, ReadingRefuses, ReadingNeedsMemory}
 use Rattle.der_der.proofs.TypedLaws.{header_of_begins}
 use Rattle.der_der.proofs.typed.read_typed.Goals as goal

@@ -1,5 +1,5 @@
 use Rattle.std.proofs.Common.{◌≡◌, drop}
-use Rattle.der_base.specs.Same.{same_nodes}
+use Rattle.der_base.specs.TreeEquality.{same_nodes}
 use Rattle.der_object.specs.View.{trees}
 use Rattle.der_object.proofs.equality.+equality.Given as goal
 

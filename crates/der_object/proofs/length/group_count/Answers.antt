@@ -1,5 +1,5 @@
 use Rattle.std.proofs.Common.{sym, arith}
-use Rattle.der_base.proofs.Numbers.{groups_count}
+use Rattle.der_base.proofs.Octets.Numbers.{groups_count}
 use Rattle.der_object.proofs.length.group_count.Goals as goal
 
 pub returns-in-128-to-16383-clause-count : goal.returns-in-128-to-16383-clause-count

@@ -3,9 +3,9 @@ use Rattle.std.proofs.Math.ListN.{set}
 use Rattle.std.proofs.lemmas.Grind.{drop-set_at}
 use Rattle.std.proofs.lemmas.List.{length-set}
 use Rattle.der_base.specs.Octets.{groups_before, groups}
-use Rattle.der_base.proofs.Numbers.{groups_start, groups_step}
+use Rattle.der_base.proofs.Octets.Numbers.{groups_start, groups_step}
 use Rattle.der_object.proofs.serialize.write_groups.Goals as goal
-use Rattle.der_base.proofs.Identifiers.{groups_append}
+use Rattle.der_base.proofs.Octets.Identifiers.{groups_append}
 
 groups_longer : (m n : ℕ) (after : List ℕ) → length after ≤ length (groups_before m n after)
 groups_longer zero n after = omega arith

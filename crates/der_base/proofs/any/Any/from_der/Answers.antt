@@ -1,6 +1,6 @@
-use Rattle.der_base.proofs.Answering.{only_ok, only_error, only_incomplete}
-use Rattle.der_base.proofs.AnyLaws.{der_any_not_lacking, der_lacking_not_refused, der_any_lacks_same, der_any_only}
-use Rattle.der_base.proofs.DerHeaders.{der_header_not_refused, der_header_refusal_same}
+use Rattle.der_base.proofs.Answers.Answering.{only_ok, only_error, only_incomplete}
+use Rattle.der_base.proofs.Framing.AnyLaws.{der_any_not_lacking, der_lacking_not_refused, der_any_lacks_same, der_any_only}
+use Rattle.der_base.proofs.Headers.DerHeaders.{der_header_not_refused, der_header_refusal_same}
 use Rattle.der_base.proofs.any.Any.from_der.Goals as goal
 
 pub returns-clause-only : goal.returns-clause-only

@@ -1,8 +1,8 @@
 use Rattle.std.proofs.Common.{inl}
 use Rattle.std.proofs.lemmas.Result.{err_from_is_err_and}
 use Rattle.der_base.specs.Header.{class_of, is_constructed, number_of, length_of}
-use Rattle.der_base.proofs.Answering.{passed_on}
-use Rattle.der_base.proofs.FramingAny.{any_read, any_refused, any_lacks_header, any_lacks_content}
+use Rattle.der_base.proofs.Answers.Answering.{passed_on}
+use Rattle.der_base.proofs.Framing.FramingAny.{any_read, any_refused, any_lacks_header, any_lacks_content}
 use Rattle.der_base.proofs.any.Any.read_ber.Goals as goal
 
 -- the header is refused or cut

@@ -1,7 +1,7 @@
 use Rattle.std.proofs.Common.{ap, ◌∙◌}
 use Rattle.std.specs.Fmt.{styled_decimal}
 use Rattle.std.proofs.Output.{has_written_of_eq}
-use Rattle.der_base.proofs.TimesShown.{styled_at_least}
+use Rattle.der_base.proofs.Times.TimesShown.{styled_at_least}
 use Rattle.der_base.proofs.time.DigitsDisplay.fmt.Goals as goal
 
 pub returns-clause-writes : goal.returns-clause-writes

@@ -1,5 +1,5 @@
 use Rattle.std.proofs.Output.{has_written_of_eq}
-use Rattle.der_base.proofs.TimesShown.{text_shown}
+use Rattle.der_base.proofs.Times.TimesShown.{text_shown}
 use Rattle.der_base.proofs.time.TimeTextDisplay.fmt.Goals as goal
 
 pub returns-clause-writes : goal.returns-clause-writes

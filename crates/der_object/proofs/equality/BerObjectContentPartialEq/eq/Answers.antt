@@ -1,5 +1,5 @@
 use Rattle.std.proofs.Common.{sym, ◌∙◌}
-use Rattle.der_base.proofs.SameIs.{same_content-Decides}
+use Rattle.der_base.proofs.TreeEqualityLaws.{same_content-Decides}
 use Rattle.der_object.specs.View.{content_tree}
 use Rattle.der_object.proofs.equality.BerObjectContentPartialEq.eq.Goals as goal
 

@@ -1,5 +1,5 @@
 use Rattle.std.proofs.Common.{sym, ◌∙◌}
-use Rattle.der_base.proofs.SameIs.{same_node-Decides}
+use Rattle.der_base.proofs.TreeEqualityLaws.{same_node-Decides}
 use Rattle.der_object.specs.View.{tree}
 use Rattle.der_object.proofs.equality.BerObjectPartialEq.eq.Goals as goal
 

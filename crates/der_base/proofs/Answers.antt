@@ -1,0 +1,4 @@
+-- What a reader answers.
+pub mod Answering
+pub mod Exactness
+pub mod ItemAnswers

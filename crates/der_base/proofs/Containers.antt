@@ -1,0 +1,3 @@
+-- Combinators that keep a parser.
+pub mod ContainerLaws
+pub mod DerContainers

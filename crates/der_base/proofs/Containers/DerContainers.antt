@@ -1,0 +1,43 @@
+-- By DER: the element that begins the input, and what a container refuses.
+use Rattle.std.proofs.Common.{◌≡◌, ℕ, List, ◌++◌, length, Bor, sym, ap, ◌∙◌, arith, length-append}
+use Rattle.der_base.specs.declared.error.Err.{Err as Refused}
+use Rattle.der_base.specs.declared.error.Error.{Error as BerError}
+use Rattle.der_base.specs.declared.error.ErrorKind.{ErrorKind}
+use Rattle.der_base.specs.declared.header.Header.{Header}
+use Rattle.der_base.specs.declared.header.Length.TheVariants.{Definite}
+use Rattle.der_base.specs.Header.{IsHeader, class_of, is_constructed, number_of, length_of, raw_tag_of}
+use Rattle.der_base.specs.Refusal.{refusal}
+use Rattle.der_base.specs.Containers.{OpensDer, HasShortDerContent, RefusesDer, RefusesDerNumber, OpensDerNumber, faulty, cut, too_short, unopened, other_number}
+use Rattle.der_base.proofs.Headers.DerHeaders.{der_header_same, der_header_only, der_header_not_refused, der_header_not_lacking}
+use Rattle.der_base.proofs.Octets.Identifiers.{fronts_same}
+
+-- the size of the header is the length of the content
+pub opened_size : (i w after : List ℕ) (h : Header) (o : OpensDer i h w after) → o.0.size ≡ length w
+opened_size i w after h (r, l) = let e : Definite r.size ≡ Definite (length w) = sym r.length ∙ l in cc
+
+-- the input opens in one way
+pub der_opens_same : (i w w' after after' : List ℕ) (h h' : Header) → OpensDer i h w after → OpensDer i h' w' after'
+    → IsHeader h (class_of h') (is_constructed h') (number_of h') (length_of h') (raw_tag_of h') × (w ≡ w') × (after ≡ after')
+der_opens_same i w w' after after' h h' o o' =
+    let q = der_header_only i (w' ++ after') (w ++ after) (class_of h') (is_constructed h') (number_of h') o'.0.size h o'.0.begins o.0 in
+    let s = der_header_same i (w ++ after) (w' ++ after') _ _ _ _ _ _ o.0.size o'.0.size o.0.begins o'.0.begins in
+    let l : length w ≡ length w' = sym (opened_size i w after h o) ∙ s.length ∙ opened_size i w' after' h' o' in
+    let f = fronts_same w w' after after' l q.1 in
+    (record { class = q.0.class; constructed = q.0.constructed; number = q.0.number; length = q.0.length ∙ sym o'.0.length; raw_tag = q.0.raw_tag ∙ sym o'.0.raw_tag }, f.0, f.1)
+
+pub short_der_same : (i v v' : List ℕ) → HasShortDerContent i v → HasShortDerContent i v' → v ≡ v'
+short_der_same i v v' (c, p, t, n, h, l) (c', p', t', n', h', l') = (der_header_same i v v' c c' p p' t t' n n' h h').rest
+
+module _ {E : Type 0} {from_error_kind_gives : Bor (List ℕ) → ErrorKind → E → Type 0} {from_gives : BerError → E → Type 0} where
+  -- an element in front is not refused
+  pub der_opens_not_refused : {i : List ℕ} {r : Refused E} (h : Header) (w after : List ℕ) → OpensDer i h w after → RefusesDer from_error_kind_gives from_gives i r → ⊥
+  der_opens_not_refused {i = i} h w after o (faulty {e = e} f g) = der_header_not_refused i (w ++ after) _ _ _ o.0.size (refusal e) o.0.begins f
+  der_opens_not_refused {i = i} h w after o (cut {n = n} l) = der_header_not_lacking i (w ++ after) _ _ _ o.0.size n o.0.begins l.1
+  der_opens_not_refused {i = i} h w after o (too_short {behind = v} (c, p, t, n, b, l) k) =
+      let s = der_header_same i (w ++ after) v.now _ c _ p _ t o.0.size n o.0.begins b in
+      omega (arith, l, s.length, opened_size i w after h o, ap length s.rest, length-append w after)
+
+  -- nor one of the number for its number
+  pub der_number_opens_not_refused : {n : ℕ} {i : List ℕ} {r : Refused E} (h : Header) (w after : List ℕ) → OpensDerNumber n i h w after → RefusesDerNumber from_error_kind_gives from_gives n i r → ⊥
+  der_number_opens_not_refused h w after (o, z) (unopened u) = der_opens_not_refused h w after o u
+  der_number_opens_not_refused {i = i} h w after (o, z) (other_number (n, h', w', after', q, z') e g) = n (sym z' ∙ sym (der_opens_same i w w' after after' h h' o q).0.number ∙ z)

@@ -1,0 +1,53 @@
+-- The laws of headers, for headers as BER allows them.
+use Rattle.std.proofs.Common.{◌≡◌, ℕ, ◌^◌, ◌<◌, Bool, Some, List, ◌++◌, refl}
+use Rattle.der_base.specs.declared.header.Class.{Class}
+use Rattle.der_base.specs.declared.header.Header.{Header}
+use Rattle.der_base.specs.declared.header.Length.{Length}
+use Rattle.der_base.specs.Fault.{BerLengthRefuses, BerHeaderRefuses}
+use Rattle.der_base.specs.Header.{IsHeader, class_of, is_constructed, number_of, length_of}
+use Rattle.der_base.specs.Headers.{BeginsWithHeader, ReadsHeader, HeaderLacks, BerHeaderLacks}
+use Rattle.der_base.specs.Inner.Identifier.{IsCutIdentifier}
+use Rattle.der_base.specs.LengthOctets.{BeginsWithLength, LengthLacks}
+use Rattle.der_base.specs.Octets.{identifier}
+use Rattle.der_base.specs.Refusal.{Refusal}
+use Rattle.der_base.proofs.Headers.HeaderLaws.{LengthLaws, SameHeader, Reads, read_header, header_same, header_not_refused, header_not_lacking, refusal_same, lacks_is_cut, cut_identifier, cut_length}
+use Rattle.der_base.proofs.Octets.LengthOctets.{ber_length_same, ber_length_not_refused, ber_length_not_lacking, ber_refused_not_lacking, ber_refusal_same}
+
+abbrev Begins : Bool → List ℕ → Length → List ℕ → Type 0
+Begins p s l rest = BeginsWithLength s p l rest
+
+laws : LengthLaws Begins BerLengthRefuses
+laws = record {
+  same = λ p s l l' r r' h h'. ber_length_same s p l l' r r' h h';
+  not_refused = λ p s l r e h q. ber_length_not_refused s p l r e h q;
+  not_lacking = λ p s l r m h k. ber_length_not_lacking s p l r m h k;
+  refused_not_lacking = λ p s e m q k. ber_refused_not_lacking s p e m q k;
+  refusal_same = λ p s e e' q q'. ber_refusal_same s p e e' q q';
+}
+
+reads : (i rest : List ℕ) (c : Class) (p : Bool) (t : ℕ) (l : Length) → BeginsWithHeader i c p t l rest → Reads Begins i c p t l rest
+reads i rest c p t l h = record { number = h.number; following = h.following; octets = h.octets; length = h.length }
+
+pub ber_header_same : (i rest rest' : List ℕ) (c c' : Class) (p p' : Bool) (t t' : ℕ) (l l' : Length) → BeginsWithHeader i c p t l rest → BeginsWithHeader i c' p' t' l' rest' → SameHeader c c' p p' t t' l l' rest rest'
+ber_header_same i rest rest' c c' p p' t t' l l' h k = header_same laws i rest rest' c c' p p' t t' l l' (reads i rest c p t l h) (reads i rest' c' p' t' l' k)
+
+pub ber_header_not_refused : (i rest : List ℕ) (c : Class) (p : Bool) (t : ℕ) (l : Length) (e : Refusal) → BeginsWithHeader i c p t l rest → BerHeaderRefuses i e → ⊥
+ber_header_not_refused i rest c p t l e h r = header_not_refused laws i rest c p t l e (reads i rest c p t l h) r
+
+pub ber_header_not_lacking : (i rest : List ℕ) (c : Class) (p : Bool) (t : ℕ) (l : Length) (m : ℕ) → BeginsWithHeader i c p t l rest → HeaderLacks i m → ⊥
+ber_header_not_lacking i rest c p t l m h k = header_not_lacking laws i rest c p t l m (reads i rest c p t l h) k
+
+pub ber_header_refusal_same : (i : List ℕ) (e e' : Refusal) → BerHeaderRefuses i e → BerHeaderRefuses i e' → e ≡ e'
+ber_header_refusal_same i e e' h h' = refusal_same laws i e e' h h'
+
+pub ber_cut_identifier : (i : List ℕ) → IsCutIdentifier i → BerHeaderLacks i 1
+ber_cut_identifier i h = let q = cut_identifier laws i h in (lacks_is_cut q.0, q.0, q.1)
+
+pub ber_cut_length : (i s : List ℕ) (c : Class) (p : Bool) (t m : ℕ) → t < 2 ^ 32 → i ≡ identifier c p t ++ s → LengthLacks s m → BerHeaderLacks i m
+ber_cut_length i s c p t m ht d l = let q = cut_length laws i s c p t m ht d l in (lacks_is_cut q.0, q.0, q.1)
+
+-- the header that is read is the one that begins the input
+pub ber_header_only : (i rest rest' : List ℕ) (c : Class) (p : Bool) (t : ℕ) (l : Length) (h : Header) → BeginsWithHeader i c p t l rest → ReadsHeader i h rest' → IsHeader h c p t l (Some (identifier c p t)) × (rest' ≡ rest)
+ber_header_only i rest rest' c p t l h b r =
+    let s = ber_header_same i rest' rest (class_of h) c (is_constructed h) p (number_of h) t (length_of h) l r.begins b in
+    (read_header h (class_of h) c (is_constructed h) p (number_of h) t (length_of h) l s.class s.constructed s.number s.length refl refl refl refl r.raw_tag, s.rest)

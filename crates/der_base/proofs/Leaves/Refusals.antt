@@ -1,0 +1,49 @@
+-- Lists of tests: the refusal of the first test that holds.
+use Rattle.std.proofs.Common.{◌≡◌, ◌⊎◌, Bool, true, false, List, [], ◌∷◌, ◌++◌, refl, sym, ◌∙◌, inl, inr}
+use Rattle.der_base.specs.LeafRefusal.{Test, IsFirstRefusal, choose}
+use Rattle.der_base.specs.Refusal.{Refusal}
+use Rattle.der_base.proofs.Leaves.Decided.{Decided}
+
+-- tests have one refusal
+pub first_refusal_once : (ts : List Test) (e e' : Refusal) → IsFirstRefusal ts e → IsFirstRefusal ts e' → e ≡ e'
+first_refusal_once [] e e' h g = absurd h
+first_refusal_once (t ∷ ts) e e' (inl h) (inl g) = h.1 ∙ sym g.1
+first_refusal_once (t ∷ ts) e e' (inl h) (inr g) = absurd (g.0 h.0)
+first_refusal_once (t ∷ ts) e e' (inr h) (inl g) = absurd (h.0 g.0)
+first_refusal_once (t ∷ ts) e e' (inr h) (inr g) = first_refusal_once ts e e' h.1 g.1
+
+-- none of the tests holds
+abbrev pub NoneHolds : List Test → Type 0
+NoneHolds [] = Unit {0}
+NoneHolds (t ∷ ts) = ¬ t.holds × NoneHolds ts
+
+pub none_refuses : (ts : List Test) (e : Refusal) → NoneHolds ts → ¬ IsFirstRefusal ts e
+none_refuses [] e n h = h
+none_refuses (t ∷ ts) e n (inl h) = n.0 h.0
+none_refuses (t ∷ ts) e n (inr h) = none_refuses ts e n.1 h.1
+
+-- each of the tests can be told
+abbrev pub AllDecided : List Test → Type 0
+AllDecided [] = Unit {0}
+AllDecided (t ∷ ts) = Decided t.holds × AllDecided ts
+
+pub first_or_none : (ts : List Test) → AllDecided ts → ((e : Refusal) × IsFirstRefusal ts e) ⊎ NoneHolds ts
+first_or_none [] d = inr tt
+first_or_none (t ∷ ts) (inl h, d) = inl (t.tells, inl (h, refl))
+first_or_none (t ∷ ts) (inr h, d) = elim (first_or_none ts d) [ inl r ↦ inl (r.0, inr (h, r.1)) | inr n ↦ inr (h, n) ]
+
+-- where there is no refusal, no test holds
+pub none_refused : (ts : List Test) → AllDecided ts → ((e : Refusal) → ¬ IsFirstRefusal ts e) → NoneHolds ts
+none_refused ts d n = elim (first_or_none ts d) [ inl r ↦ absurd (n r.0 r.1) | inr h ↦ h ]
+
+pub row_decided : (b : Bool) (ts us : List Test) → (b ≡ true → AllDecided ts) → AllDecided us → AllDecided (choose b ts us)
+row_decided true ts us f d = f refl
+row_decided false ts us f d = d
+
+pub decided_append : (ts us : List Test) → AllDecided ts → AllDecided us → AllDecided (ts ++ us)
+decided_append [] us d e = e
+decided_append (t ∷ ts) us d e = (d.0, decided_append ts us d.1 e)
+
+pub none_of_front : (ts us : List Test) → NoneHolds (ts ++ us) → NoneHolds ts
+none_of_front [] us n = tt
+none_of_front (t ∷ ts) us n = (n.0, none_of_front ts us n.1)

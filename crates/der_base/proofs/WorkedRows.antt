@@ -1,0 +1,9 @@
+-- The definitions on worked inputs, computed, proved or refuted.
+mod Computed
+mod Identifiers
+mod Nested
+mod NoDerFault
+mod NoFault
+mod OneFault
+mod Shown
+mod ShownMore

@@ -1,0 +1,18 @@
+use Rattle.std.proofs.Common.{◌≡◌, ◌+◌, ◌*◌, ◌-◌, ◌≤◌, ◌++◌, List, ℕ, length}
+use Rattle.der_base.specs.declared.spans.Span.{Span}
+use Rattle.der_base.specs.Inner.Spans.{AreSpans, span_octets}
+use Rattle.der_base.proofs.spans.+recording.Given as goal
+
+abbrev pub decreases-record_open : goal.decreases-record_open
+decreases-record_open l = 2 * l.budget + 1
+
+abbrev pub decreases-record_to_end_marker : goal.decreases-record_to_end_marker
+decreases-record_to_end_marker l = 2 * l.budget
+
+-- what was read so far is the elements of the spans, and each header of them took an octet at least
+abbrev pub invariant-record_to_end_marker-elements : goal.invariant-record_to_end_marker-elements
+invariant-record_to_end_marker-elements l = ((u : List ℕ) × (ss : List Span) × AreSpans ss u (l.budget - 1) × (l.i ≡ u ++ l.rest) × (l.spans.items ≡ l.fn.spans.items ++ ss))
+    × (l.count + span_octets l.spans.items + length l.rest ≤ l.fn.count + span_octets l.fn.spans.items + length l.i)
+
+abbrev pub decreases-record_to_end_marker-elements : goal.decreases-record_to_end_marker-elements
+decreases-record_to_end_marker-elements l = length l.rest
