@@ -80,10 +80,14 @@ abbrev pub ContentAsRefuses : ℕ → Length → Bool → ℕ → List ℕ → R
 ContentAsRefuses t l p d i e = FrameRefuses l p d i e
     ⊎ ((w rest : List ℕ) × FramesContent l p d i w rest × ContentRefuses Universal p t w d e)
 
--- the octets are a list that has items, or elements up to an end marker
+-- the octets are elements up to an end marker
+abbrev pub FramingAsNeedsMemory : Length → Bool → ℕ → Type 0
+FramingAsNeedsMemory l p d = (1 ≤ d) × (p ≡ true) × (l ≡ Indefinite)
+
+-- or a list that has items
 abbrev pub ContentAsNeedsMemory : ℕ → Length → Bool → ℕ → List ℕ → Type 0
 ContentAsNeedsMemory t l p d i = ((2 ≤ d) × IsTrue (is_list t) × (p ≡ true) × (w rest : List ℕ) × (w ≢ []) × FramesContent l p d i w rest)
-    ⊎ ((1 ≤ d) × (p ≡ true) × (l ≡ Indefinite))
+    ⊎ FramingAsNeedsMemory l p d
 
 -- i begins with the octets of a content as that of the universal type of number t, and rest follows
 abbrev pub SpellsContentAs : ℕ → Length → Bool → ℕ → List ℕ → Content × List ℕ → Type 0
@@ -92,7 +96,8 @@ SpellsContentAs t l p d i (x, rest) = (w : List ℕ) × (fs : Forms) × FramesCo
 -- a reader of contents answers exactly what i shows, behind a length of this form
 abbrev pub AnswersContentAs : ℕ → Length → Bool → ℕ → List ℕ → ContentAnswer → Type 0
 AnswersContentAs t l p d i result = AnswersExactly result content_value_of (λ x. ReadsContentAs t l p d i x.1 x.0.now)
-    (SpellsContentAs t l p d i) (ContentAsRefuses t l p d i) (FrameLacks l p d i) (ContentAsNeedsMemory t l p d i)
+    (SpellsContentAs t l p d i) (ContentAsRefuses t l p d i) (FrameLacks l p d i)
+    (ContentAsNeedsMemory t l p d i) (FramingAsNeedsMemory l p d)
 
 -- objects of one number, of any class
 
@@ -133,14 +138,15 @@ TypedNeedsMemory t i = BehindHeader t i (λ l p v. ContentAsNeedsMemory t l p 50
 abbrev pub SpellsTyped : ℕ → List ℕ → Node × List ℕ → Type 0
 SpellsTyped t i (node c p n x, rest) = (n ≡ t) × BeginsWithTyped i c p t x rest
 
--- a reader of the type of number t answers exactly what i shows, and may want memory only where M holds
-abbrev pub AnswersTypedOr : Type 0 → ℕ → List ℕ → Answer → Type 0
-AnswersTypedOr M t i result = AnswersExactly result value_of (λ x. ReadsTyped t i x.1 x.0.now) (SpellsTyped t i) (TypedRefuses t i) (TypedLacks t i) M
+-- a reader of the type of number t answers exactly what i shows, and may want memory only where M holds, and C of a cut input
+abbrev pub AnswersTypedOr : Type 0 → Type 0 → ℕ → List ℕ → Answer → Type 0
+AnswersTypedOr M C t i result = AnswersExactly result value_of (λ x. ReadsTyped t i x.1 x.0.now) (SpellsTyped t i)
+    (TypedRefuses t i) (TypedLacks t i) M C
 
 -- the same of a reader that may want it for a list that has items, and for an indefinite length
 abbrev pub AnswersTyped : ℕ → List ℕ → Answer → Type 0
-AnswersTyped t i = AnswersTypedOr (TypedNeedsMemory t i) t i
+AnswersTyped t i = AnswersTypedOr (TypedNeedsMemory t i) (BehindHeader t i (λ l p v. FramingAsNeedsMemory l p 50)) t i
 
 -- the same of a reader that takes no memory
 abbrev pub AnswersLeaf : ℕ → List ℕ → Answer → Type 0
-AnswersLeaf t i = AnswersTypedOr ⊥ t i
+AnswersLeaf t i = AnswersTypedOr ⊥ ⊥ t i

@@ -51,9 +51,13 @@ BeginsWithItems i = (t : ℕ) × (w rest : List ℕ) × IsTrue (is_list t) × (w
 abbrev pub BeginsOpen : List ℕ → Type 0
 BeginsOpen i = (c : Class) × (t : ℕ) × (behind : List ℕ) × BeginsWithHeader i c true t Indefinite behind
 
+-- where the reader may want memory for the elements of an indefinite length, which it keeps while it frames them
+abbrev pub FramingNeedsMemory : ℕ → List ℕ → Type 0
+FramingNeedsMemory d i = (1 ≤ d) × BeginsOpen i
+
 -- where the reader may want memory, to depth d
 abbrev pub NeedsMemory : ℕ → List ℕ → Type 0
-NeedsMemory d i = ((2 ≤ d) × BeginsWithItems i) ⊎ ((1 ≤ d) × BeginsOpen i)
+NeedsMemory d i = ((2 ≤ d) × BeginsWithItems i) ⊎ FramingNeedsMemory d i
 
 -- content octets behind a header of this class, bit and number show the refusal, to a depth of at least 1
 abbrev pub ContentRefuses : Class → Bool → ℕ → List ℕ → ℕ → Refusal → Type 0
@@ -93,7 +97,8 @@ BehindNeedsMemory h k d behind = ((2 ≤ d) × (class_of h ≡ Universal) × (is
 
 -- the full reader answers exactly what i shows to depth d
 abbrev pub AnswersBer : ℕ → List ℕ → Answer → Type 0
-AnswersBer d i result = AnswersExactly result value_of (λ x. ReadsBer d i x.1 x.0.now) (λ v. BeginsWithBer d i v.0 v.1) (ShowsFault d i) (BerIsCut d i) (NeedsMemory d i)
+AnswersBer d i result = AnswersExactly result value_of (λ x. ReadsBer d i x.1 x.0.now) (λ v. BeginsWithBer d i v.0 v.1)
+    (ShowsFault d i) (BerIsCut d i) (NeedsMemory d i) (FramingNeedsMemory d i)
 
 -- the tag number of a tree
 abbrev pub number : Node → ℕ
@@ -101,4 +106,5 @@ number (node c p t x) = t
 
 -- the reader that wants the number n answers exactly what i shows to depth d
 abbrev pub AnswersNumber : ℕ → ℕ → List ℕ → Answer → Type 0
-AnswersNumber n d i result = AnswersExactly result value_of (λ x. ReadsBer d i x.1 x.0.now × (number_of x.1.header ≡ n)) (λ v. BeginsWithBer d i v.0 v.1 × (number v.0 ≡ n)) (NumberRefuses n d i) (BerIsCut d i) (NeedsMemory d i)
+AnswersNumber n d i result = AnswersExactly result value_of (λ x. ReadsBer d i x.1 x.0.now × (number_of x.1.header ≡ n))
+    (λ v. BeginsWithBer d i v.0 v.1 × (number v.0 ≡ n)) (NumberRefuses n d i) (BerIsCut d i) (NeedsMemory d i) (FramingNeedsMemory d i)

@@ -119,5 +119,5 @@ SpellsTyped t i (node c p n x, rest) = (n ≡ t) × BeginsWithTyped i c p t x re
 
 -- A reader of the type of number t answers exactly what i shows. Only a list may want memory.
 abbrev pub AnswersTyped : ℕ → List ℕ → Answer → Type 0
-AnswersTyped t i result = AnswersExactly result value_of (λ x. ReadsTyped t i x.1 x.0.now) (SpellsTyped t i) (TypedRefuses t i) (TypedLacks t i)
-    (MatchBool (is_list t) (TypedNeedsMemory t i) ⊥)
+AnswersTyped t i result = AnswersExactly result value_of (λ x. ReadsTyped t i x.1 x.0.now) (SpellsTyped t i)
+    (TypedRefuses t i) (TypedLacks t i) (MatchBool (is_list t) (TypedNeedsMemory t i) ⊥) ⊥

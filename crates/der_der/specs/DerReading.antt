@@ -66,4 +66,5 @@ pub record IsContentOf (w : List ℕ) (h : Header) (x : BerObjectContent) (d : �
 
 -- the full reader answers exactly what i shows to depth d
 abbrev pub AnswersDer : ℕ → List ℕ → Answer → Type 0
-AnswersDer d i result = AnswersExactly result value_of (λ x. ReadsDer d i x.1 x.0.now) (λ v. BeginsWithDer d i v.0 v.1) (DerShowsFault d i) (DerIsCut d i) (NeedsMemory d i)
+AnswersDer d i result = AnswersExactly result value_of (λ x. ReadsDer d i x.1 x.0.now) (λ v. BeginsWithDer d i v.0 v.1)
+    (DerShowsFault d i) (DerIsCut d i) (NeedsMemory d i) ⊥
