@@ -16,6 +16,7 @@ pub mod Laws
 pub mod Leaf
 pub mod LeafRefusal
 pub mod LengthOctets
+pub mod Listing
 pub mod Octets
 pub mod OidArcs
 pub mod Oids
