@@ -7,7 +7,8 @@ use Rattle.der_base.specs.declared.error.Needed.TheVariants.{Unknown, Size}
 use Rattle.der_base.specs.Refusal.{Refusal, refusal}
 
 -- An Ok, an Error, an Incomplete of a number, or want of memory, and what holds at each. Nothing else is answered.
-abbrev pub MatchAnswer : {T : Type 0} → Result T (Refused BerError) → (T → Type 0) → (Refusal → Type 0) → (ℕ → Type 0) → Type 0 → Type 0
+abbrev pub MatchAnswer : {T : Type 0} → Result T (Refused BerError) → (T → Type 0) → (Refusal → Type 0) → (ℕ → Type 0)
+    → Type 0 → Type 0
 MatchAnswer (Ok x) P Q R M = P x
 MatchAnswer (Err (Error e)) P Q R M = Q (refusal e)
 MatchAnswer (Err (Incomplete (Size n))) P Q R M = R n

@@ -1,4 +1,6 @@
--- Combinators that keep a caller's parser: what they answer, in terms of its answers. By BER and by DER the relations are the same: `opens` says which element the input begins with, `refuses` what is answered where it begins with none, `step` what the parser promises of a call.
+-- Combinators that keep a caller's parser: what they answer, in terms of its answers. By BER and by DER the relations
+-- are the same: `opens` says which element the input begins with, `refuses` what is answered where it begins with none,
+-- `step` what the parser promises of a call.
 use Rattle.std.specs.Prelude.{◌≡◌, ◌≢◌, ℕ, ◌<◌, ◌⊎◌, Bool, Some, List, ◌++◌, length, Result, Ok, Err}
 use Rattle.std.specs.Borrow.{Bor}
 use Rattle.der_base.specs.declared.error.Err.{Err as Refused}
@@ -29,7 +31,8 @@ pub record OpensBer (i : List ℕ) (h : Header) (w after : List ℕ) : Type 0 wh
 
 -- a definite length in front of i is more than the octets behind it
 abbrev pub HasShortContent : List ℕ → List ℕ → Type 0
-HasShortContent i behind = (c : Class) × (p : Bool) × (t n : ℕ) × BeginsWithHeader i c p t (Definite n) behind × (length behind < n)
+HasShortContent i behind = (c : Class) × (p : Bool) × (t n : ℕ) × BeginsWithHeader i c p t (Definite n) behind
+    × (length behind < n)
 
 -- i ends within its header or within the content of an indefinite length, lacks n octets, and shows no refusal
 abbrev pub OpeningLacks : List ℕ → ℕ → Type 0
@@ -40,26 +43,36 @@ abbrev pub OpensDer : List ℕ → Header → List ℕ → List ℕ → Type 0
 OpensDer i h w after = ReadsDerHeader i h (w ++ after) × (length_of h ≡ Definite (length w))
 
 abbrev pub HasShortDerContent : List ℕ → List ℕ → Type 0
-HasShortDerContent i behind = (c : Class) × (p : Bool) × (t n : ℕ) × BeginsWithDerHeader i c p t n behind × (length behind < n)
+HasShortDerContent i behind = (c : Class) × (p : Bool) × (t n : ℕ) × BeginsWithDerHeader i c p t n behind
+    × (length behind < n)
 
--- Where no element with its whole content begins i: a fault of header or framing, the end of the input in them, or a definite content that is short, which is Eof at the octets behind the header.
-module _ {E : Type 0} (from_error_kind_gives : Bor (List ℕ) → ErrorKind → E → Type 0) (from_gives : BerError → E → Type 0)
+-- Where no element with its whole content begins i: a fault of header or framing, the end of the input in them, or a
+-- definite content that is short, which is Eof at the octets behind the header.
+module _ {E : Type 0} (from_error_kind_gives : Bor (List ℕ) → ErrorKind → E → Type 0)
+    (from_gives : BerError → E → Type 0)
     (faults : List ℕ → Refusal → Type 0) (lacks : List ℕ → ℕ → Type 0) (short : List ℕ → List ℕ → Type 0) where
   pub data NotOpened (i : List ℕ) : Refused E → Type 0 where
     faulty : {e : BerError} {x : E} → faults i (refusal e) → from_gives e x → NotOpened i (Error x)
     cut : {n : ℕ} → lacks i n → NotOpened i (Incomplete (Size n))
-    too_short : {behind : Bor (List ℕ)} {x : E} → short i behind.now → from_error_kind_gives behind Eof x → NotOpened i (Error x)
+    too_short : {behind : Bor (List ℕ)} {x : E} → short i behind.now → from_error_kind_gives behind Eof x
+        → NotOpened i (Error x)
 
 -- the refusals of a container by BER
-abbrev pub RefusesBer : {E : Type 0} → (Bor (List ℕ) → ErrorKind → E → Type 0) → (BerError → E → Type 0) → List ℕ → Refused E → Type 0
-RefusesBer from_error_kind_gives from_gives i r = NotOpened from_error_kind_gives from_gives AnyRefuses OpeningLacks HasShortContent i r
+abbrev pub RefusesBer : {E : Type 0} → (Bor (List ℕ) → ErrorKind → E → Type 0) → (BerError → E → Type 0) → List ℕ
+    → Refused E → Type 0
+RefusesBer from_error_kind_gives from_gives i r =
+    NotOpened from_error_kind_gives from_gives AnyRefuses OpeningLacks HasShortContent i r
 
 -- by DER
-abbrev pub RefusesDer : {E : Type 0} → (Bor (List ℕ) → ErrorKind → E → Type 0) → (BerError → E → Type 0) → List ℕ → Refused E → Type 0
-RefusesDer from_error_kind_gives from_gives i r = NotOpened from_error_kind_gives from_gives DerHeaderRefuses DerHeaderLacks HasShortDerContent i r
+abbrev pub RefusesDer : {E : Type 0} → (Bor (List ℕ) → ErrorKind → E → Type 0) → (BerError → E → Type 0) → List ℕ
+    → Refused E → Type 0
+RefusesDer from_error_kind_gives from_gives i r =
+    NotOpened from_error_kind_gives from_gives DerHeaderRefuses DerHeaderLacks HasShortDerContent i r
 
--- One call of the parser takes it from f to g. It has exactly the content and the header of an element that is opened, and its answer is the answer, an Ok with what follows the element.
-module _ {F O E : Type 0} (opens : Header → List ℕ → List ℕ → Type 0) (step : F → Bor (List ℕ) → Header → Answered O E → F → Type 0) where
+-- One call of the parser takes it from f to g. It has exactly the content and the header of an element that is opened,
+-- and its answer is the answer, an Ok with what follows the element.
+module _ {F O E : Type 0} (opens : Header → List ℕ → List ℕ → Type 0)
+    (step : F → Bor (List ℕ) → Header → Answered O E → F → Type 0) where
   pub data OneCall (f : F) : Answered O E → F → Type 0 where
     stopped : {g : F} {h : Header} {w after : List ℕ} {content : Bor (List ℕ)} {e : Refused E} → opens h w after
         → step f content h (Err e) g → content.now ≡ w → OneCall f (Err e) g
@@ -76,7 +89,8 @@ abbrev pub ContainerRun : {F O E : Type 0} → (Header → List ℕ → List ℕ
     → (F → Bor (List ℕ) → Header → Answered O E → F → Type 0) → F → Answered O E → F → Type 0
 ContainerRun opens refuses step f r g = NoCall refuses f r g ⊎ OneCall opens step f r g
 
--- Of the elements that are opened, those of the tag number n. Another number is told behind the refusals of the container.
+-- Of the elements that are opened, those of the tag number n. Another number is told behind the refusals of the
+-- container.
 module _ (opens : Header → List ℕ → List ℕ → Type 0) where
   abbrev pub OpensNumber : ℕ → Header → List ℕ → List ℕ → Type 0
   OpensNumber n h w after = opens h w after × (number_of h ≡ n)
@@ -88,18 +102,23 @@ module _ (opens : Header → List ℕ → List ℕ → Type 0) where
   module _ {E : Type 0} (refuses : Refused E → Type 0) (from_gives : BerError → E → Type 0) where
     pub data RefusesNumber (n : ℕ) : Refused E → Type 0 where
       unopened : {r : Refused E} → refuses r → RefusesNumber n r
-      other_number : {t : ℕ} {e : BerError} {x : E} → OpensOther n t → refusal e ≡ unexpected_tag (Some n) t → from_gives e x → RefusesNumber n (Error x)
+      other_number : {t : ℕ} {e : BerError} {x : E} → OpensOther n t → refusal e ≡ unexpected_tag (Some n) t
+          → from_gives e x → RefusesNumber n (Error x)
 
 -- the same by BER
 abbrev pub OpensBerNumber : ℕ → List ℕ → Header → List ℕ → List ℕ → Type 0
 OpensBerNumber n i h w after = OpensNumber (OpensBer i) n h w after
 
-abbrev pub RefusesBerNumber : {E : Type 0} → (Bor (List ℕ) → ErrorKind → E → Type 0) → (BerError → E → Type 0) → ℕ → List ℕ → Refused E → Type 0
-RefusesBerNumber from_error_kind_gives from_gives n i r = RefusesNumber (OpensBer i) (RefusesBer from_error_kind_gives from_gives i) from_gives n r
+abbrev pub RefusesBerNumber : {E : Type 0} → (Bor (List ℕ) → ErrorKind → E → Type 0) → (BerError → E → Type 0) → ℕ
+    → List ℕ → Refused E → Type 0
+RefusesBerNumber from_error_kind_gives from_gives n i r =
+    RefusesNumber (OpensBer i) (RefusesBer from_error_kind_gives from_gives i) from_gives n r
 
 -- and by DER
 abbrev pub OpensDerNumber : ℕ → List ℕ → Header → List ℕ → List ℕ → Type 0
 OpensDerNumber n i h w after = OpensNumber (OpensDer i) n h w after
 
-abbrev pub RefusesDerNumber : {E : Type 0} → (Bor (List ℕ) → ErrorKind → E → Type 0) → (BerError → E → Type 0) → ℕ → List ℕ → Refused E → Type 0
-RefusesDerNumber from_error_kind_gives from_gives n i r = RefusesNumber (OpensDer i) (RefusesDer from_error_kind_gives from_gives i) from_gives n r
+abbrev pub RefusesDerNumber : {E : Type 0} → (Bor (List ℕ) → ErrorKind → E → Type 0) → (BerError → E → Type 0) → ℕ
+    → List ℕ → Refused E → Type 0
+RefusesDerNumber from_error_kind_gives from_gives n i r =
+    RefusesNumber (OpensDer i) (RefusesDer from_error_kind_gives from_gives i) from_gives n r

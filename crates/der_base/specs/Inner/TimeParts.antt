@@ -21,7 +21,8 @@ BeginsWithSeconds w (Some n) rest = (n < 60) × (w ≡ two_digits n ++ rest)
 -- a fraction with all its digits, in nanoseconds, or none where no mark stands in front
 abbrev pub BeginsWithFraction : List ℕ → Option ℕ → List ℕ → Type 0
 BeginsWithFraction w None rest = BeginsWithNo IsMark w × (w ≡ rest)
-BeginsWithFraction w (Some n) rest = (fraction : List ℕ) × IsFraction fraction n × BeginsWithNo IsDigit rest × (w ≡ fraction ++ rest)
+BeginsWithFraction w (Some n) rest = (fraction : List ℕ) × IsFraction fraction n × BeginsWithNo IsDigit rest
+    × (w ≡ fraction ++ rest)
 
 -- seconds, which may have a fraction behind them
 abbrev pub BeginsWithFineSeconds : List ℕ → ℕ → Option ℕ → List ℕ → Type 0
