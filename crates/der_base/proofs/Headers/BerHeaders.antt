@@ -1,11 +1,15 @@
 -- The laws of headers, for headers as BER allows them.
-use Rattle.std.proofs.Common.{◌≡◌, ℕ, ◌^◌, ◌<◌, Bool, Some, List, ◌++◌, refl}
+use Rattle.std.proofs.Common.{◌≡◌, ℕ, ◌^◌, ◌<◌, Bool, Some, List, ◌++◌, Err, refl}
+use Rattle.der_base.specs.declared.error.Err.{Err as Refused}
+use Rattle.der_base.specs.declared.error.Err.TheVariants.{Incomplete, Error, Failure, OutOfMemory}
+use Rattle.der_base.specs.declared.error.Error.{Error as BerError}
+use Rattle.der_base.specs.declared.error.Needed.TheVariants.{Unknown, Size}
 use Rattle.der_base.specs.declared.header.Class.{Class}
 use Rattle.der_base.specs.declared.header.Header.{Header}
 use Rattle.der_base.specs.declared.header.Length.{Length}
 use Rattle.der_base.specs.Fault.{BerLengthRefuses, BerHeaderRefuses}
 use Rattle.der_base.specs.Header.{IsHeader, class_of, is_constructed, number_of, length_of}
-use Rattle.der_base.specs.Headers.{BeginsWithHeader, ReadsHeader, HeaderLacks, BerHeaderLacks, SpellsHeader, leading_header}
+use Rattle.der_base.specs.Headers.{BeginsWithHeader, ReadsHeader, HeaderLacks, BerHeaderLacks, AnswersBerHeader, SpellsHeader, LeadingHeader, leading_header}
 use Rattle.der_base.specs.Inner.Identifier.{IsCutIdentifier}
 use Rattle.der_base.specs.LengthOctets.{BeginsWithLength, LengthLacks}
 use Rattle.der_base.specs.Octets.{identifier}
@@ -64,3 +68,11 @@ ber_header_shows_one i = record {
   not_lacking = λ v n s l. ber_header_not_lacking i v.rest v.class v.constructed v.number v.length n s l.1;
   not_both = λ e n r l. l.2 e r;
 }
+
+-- a header in front of the input is read
+pub ber_header_read : (i : List ℕ) (e : Refused BerError) (v : LeadingHeader) → AnswersBerHeader i (Err e) → SpellsHeader i v → ⊥
+ber_header_read i (Error x) v a s = a.only v s
+ber_header_read i (Incomplete (Size n)) v a s = a.only v s
+ber_header_read i (Incomplete Unknown) v a s = a.only v s
+ber_header_read i (Failure x) v a s = a.only v s
+ber_header_read i OutOfMemory v a s = a.only v s
