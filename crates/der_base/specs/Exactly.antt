@@ -5,9 +5,9 @@ use Rattle.der_base.specs.declared.error.Error.{Error as BerError}
 use Rattle.der_base.specs.Answer.{MatchAnswer, AnswersOkOr, AnswersErrorOr, AnswersIncompleteOr}
 use Rattle.der_base.specs.Refusal.{Refusal}
 
--- What is answered is so, and what is so is answered. `Reads` says what an Ok holds, `Spelled` which value the input has,
--- `Refuses` and `Lacks` what it shows to be wrong or missing. Only where `NeedsMemory` holds may OutOfMemory be answered in
--- the place of each, and for an input that is cut short only where `CutNeedsMemory` does.
+-- What is answered is so, and what is so is answered. `Reads` says what an Ok holds, `Spelled` which value the input
+-- has, `Refuses` and `Lacks` what it shows to be wrong or missing. Only where `NeedsMemory` holds may OutOfMemory be
+-- answered in the place of each, and for an input that is cut short only where `CutNeedsMemory` does.
 pub record AnswersExactly {T V : Type 0} (result : Result T (Refused BerError)) (value : T → V)
     (Reads : T → Type 0) (Spelled : V → Type 0) (Refuses : Refusal → Type 0) (Lacks : ℕ → Type 0)
     (NeedsMemory CutNeedsMemory : Type 0) : Type 0 where

@@ -9,12 +9,14 @@ pub record BeginsWithDerLength (s : List ℕ) (n : ℕ) (rest : List ℕ) : Type
   pub octets : s ≡ shortest_length n ++ rest
   pub length : n < 2 ^ 64
 
--- s begins with a length behind an identifier that is constructed or not, and rest follows: a definite one in any octets that spell it, or the octet of the indefinite form, where constructed (8.1.3.2)
+-- s begins with a length behind an identifier that is constructed or not, and rest follows: a definite one in any
+-- octets that spell it, or the octet of the indefinite form, where constructed (8.1.3.2)
 abbrev pub BeginsWithLength : List ℕ → Bool → Length → List ℕ → Type 0
 BeginsWithLength s p (Definite n) rest = (w : List ℕ) × SpellsLength w n × (s ≡ w ++ rest)
 BeginsWithLength s p Indefinite rest = (p ≡ true) × (s ≡ 128 ∷ rest)
 
--- How many octets s lacks where it ends before or within a length, whose size is any: one before it, and then those that are announced and missing.
+-- How many octets s lacks where it ends before or within a length, whose size is any: one before it, and then those
+-- that are announced and missing.
 pub data LengthLacks : List ℕ → ℕ → Type 0 where
   before_length : {s : List ℕ} {n : ℕ} → s ≡ [] → n ≡ 1 → LengthLacks s n
   in_length : {s : List ℕ} {n : ℕ} (b : ℕ) (bs : List ℕ)

@@ -1,15 +1,13 @@
 //! Elements whose content isn't read: a header, and the octets behind it.
-ghost use Rattle.std.specs.Prelude.{◌≡◌, ◌≤◌, ◌+◌, ◌++◌, ℕ, Bool, IfOk, IsOkAnd, List, None, Some, length};
+ghost use Rattle.std.specs.Prelude.{◌≡◌, ◌≤◌, ◌+◌, ℕ, Bool, IfOk, IsOkAnd, List, None, length};
 ghost use Rattle.der_base.specs.declared.header.Class.{Class};
 ghost use Rattle.der_base.specs.Answer.{MatchAnswer, AnswersError, AnswersIncomplete};
+ghost use Rattle.der_base.specs.Any.{AnswersAny, AnswersDerAny, AnswersContent};
 ghost use Rattle.der_base.specs.Any.{ReadsAny, AnyRefuses, AnyLacks, ReadsDerAny, DerAnyLacks};
-ghost use Rattle.der_base.specs.Content.{BeginsWithContent, ContentRefuses, ContentLacks};
 ghost use Rattle.der_base.specs.Count.{one_more};
 ghost use Rattle.der_base.specs.Fault.{DerHeaderRefuses};
 ghost use Rattle.der_base.specs.Header.{IsHeader, class_of, is_constructed, number_of, length_of, raw_tag_of};
-ghost use Rattle.der_base.specs.Headers.{BeginsWithDerHeader};
 ghost use Rattle.der_base.specs.Leaf.{is_list};
-ghost use Rattle.der_base.specs.Octets.{identifier};
 ghost use Rattle.der_base.specs.Refusal.{Refusal};
 ghost use Rattle.der_base.specs.Spelling.{BeginsWithElement, framing_budget};
 
@@ -41,7 +39,8 @@ impl<'a> Any<'a> {
     /// An element of a universal type, of the length that its content octets have; constructed for
     /// SEQUENCE and SET, with no raw tag.
     pub fn from_tag_and_data(tag: Tag, bytes: &'a [u8]) -> Any<'a>
-        ensures header { IsHeader result.header Class.Universal (is_list tag.0) tag.0 (Length.Definite (length bytes.entry.now)) None }
+        ensures header { let w = bytes.entry.now in
+            IsHeader result.header Class.Universal (is_list tag.0) tag.0 (Length.Definite (length w)) None }
         ensures bytes { result.bytes ≡ bytes.entry }
     {
         let constructed = tag == Tag::Sequence || tag == Tag::Set;
@@ -52,7 +51,8 @@ impl<'a> Any<'a> {
 
     /// The same element with another class.
     pub fn with_class(self, class: Class) -> Any<'a>
-        ensures header { let h = self.entry.header in IsHeader result.header class (is_constructed h) (number_of h) (length_of h) (raw_tag_of h) }
+        ensures header { let h = self.entry.header in
+            IsHeader result.header class (is_constructed h) (number_of h) (length_of h) (raw_tag_of h) }
         ensures bytes { result.bytes ≡ self.entry.bytes }
     {
         Any {
@@ -86,11 +86,7 @@ impl<'a> Any<'a> {
     /// header is read that stands in the last of them. Incomplete with the number of octets that a
     /// header or a definite content lacks. It takes no memory.
     pub fn from_ber(i: &'a [u8]) -> IResult<&'a [u8], Any<'a>, BerError>
-        ensures found { MatchAnswer result (λ x. ReadsAny i.now x.1 x.0.now) (AnyRefuses i.now) (AnyLacks i.now) ⊥ }
-        ensures only { (c : Class) (p : Bool) (t : ℕ) (w rest : List ℕ) → BeginsWithElement i.now framing_budget c p t w rest
-            → IsOkAnd result (λ x. (class_of x.1.header ≡ c) × (is_constructed x.1.header ≡ p) × (number_of x.1.header ≡ t) × (x.1.bytes.now ≡ w) × (x.0.now ≡ rest)) }
-        ensures refuses { (e : Refusal) → AnyRefuses i.now e → AnswersError result e }
-        ensures lacks { (n : ℕ) → AnyLacks i.now n → AnswersIncomplete result n }
+        ensures { AnswersAny i.now result }
     {
         ber_any_counted(i, &mut HeaderCount::new())
     }
@@ -111,18 +107,18 @@ impl<'a> Any<'a> {
     /// Incomplete with the number of octets that the header or the content lacks. It takes no
     /// memory.
     pub fn from_der(i: &'a [u8]) -> IResult<&'a [u8], Any<'a>, BerError>
-        ensures found { MatchAnswer result (λ x. ReadsDerAny i.now x.1 x.0.now) (DerHeaderRefuses i.now) (DerAnyLacks i.now) ⊥ }
-        ensures only { (c : Class) (p : Bool) (t : ℕ) (w rest : List ℕ) → BeginsWithDerHeader i.now c p t (length w) (w ++ rest)
-            → IsOkAnd result (λ x. IsHeader x.1.header c p t (Length.Definite (length w)) (Some (identifier c p t)) × (x.1.bytes.now ≡ w) × (x.0.now ≡ rest)) }
-        ensures refuses { (e : Refusal) → DerHeaderRefuses i.now e → AnswersError result e }
-        ensures lacks { (n : ℕ) → DerAnyLacks i.now n → AnswersIncomplete result n }
+        ensures { AnswersDerAny i.now result }
     {
         Any::read_der(i)
     }
 
     #[inline]
     fn read_der(i: &'a [u8]) -> IResult<&'a [u8], Any<'a>, BerError>
-        ensures { MatchAnswer result (λ x. ReadsDerAny i.now x.1 x.0.now) (DerHeaderRefuses i.now) (DerAnyLacks i.now) ⊥ }
+        ensures { MatchAnswer result
+            (λ x. ReadsDerAny i.now x.1 x.0.now)
+            (DerHeaderRefuses i.now)
+            (DerAnyLacks i.now)
+            ⊥ }
     {
         let (rest, header) = der_read_element_header(i)?;
         let length = header.length().definite()?;
@@ -169,14 +165,7 @@ pub fn ber_read_content<'a>(
     budget: usize,
 ) -> IResult<&'a [u8], &'a [u8], BerError>
     requires { 1 ≤ budget }
-    ensures found { MatchAnswer result
-        (λ x. BeginsWithContent i.now length budget x.1.now x.0.now)
-        (ContentRefuses i.now length budget)
-        (ContentLacks i.now length budget)
-        ⊥ }
-    ensures only { (w rest : List ℕ) → BeginsWithContent i.now length budget w rest → IsOkAnd result (λ x. (x.1.now ≡ w) × (x.0.now ≡ rest)) }
-    ensures refuses { (e : Refusal) → ContentRefuses i.now length budget e → AnswersError result e }
-    ensures lacks { (n : ℕ) → ContentLacks i.now length budget n → AnswersIncomplete result n }
+    ensures { AnswersContent length budget i.now result }
 {
     read_content(i, length, budget, &mut HeaderCount::new())
 }

@@ -1,16 +1,18 @@
 //! Tags, lengths and headers: the octets in front of a content (X.690 8.1.2 and 8.1.3).
-ghost use Rattle.std.specs.Prelude.{◌≡◌, ◌≢◌, ◌&&◌, ◌==◌, ◌↔◌, ℕ, Bool, false, true, if◌then◌else◌, IsTrue, IfSome, IsOkAnd, List, None, MatchResult};
+ghost use Rattle.std.specs.Prelude.{◌≡◌, ◌≢◌, ◌&&◌, ◌==◌, ◌↔◌, ℕ, false, true, if◌then◌else◌};
+ghost use Rattle.std.specs.Prelude.{IsTrue, IfSome, None, Some, MatchResult};
 ghost use Rattle.std.specs.Option.{option_copied};
 ghost use Rattle.der_base.specs.declared.error.Error.{Error};
 ghost use Rattle.der_base.specs.declared.error.DerConstraint.{DerConstraint};
-ghost use Rattle.der_base.specs.Answer.{MatchAnswer, AnswersError, AnswersIncomplete};
+ghost use Rattle.der_base.specs.Answer.{MatchAnswer};
 ghost use Rattle.der_base.specs.Fault.{BerHeaderRefuses, DerHeaderRefuses};
 ghost use Rattle.der_base.specs.Count.{one_more};
 ghost use Rattle.der_base.specs.Header.{IsHeader};
-ghost use Rattle.der_base.specs.Headers.{BeginsWithHeader, ReadsHeader, BerHeaderLacks, BeginsWithDerHeader, ReadsDerHeader, DerHeaderLacks};
+ghost use Rattle.der_base.specs.Headers.{AnswersBerHeader, ReadsHeader, BerHeaderLacks};
+ghost use Rattle.der_base.specs.Headers.{AnswersDerHeader, ReadsDerHeader, DerHeaderLacks};
 ghost use Rattle.der_base.specs.Leaf.{is_mapped};
-ghost use Rattle.der_base.specs.Octets.{identifier};
-ghost use Rattle.der_base.specs.Refusal.{Refusal, refusal, construct_expected, construct_unexpected, unexpected_class, unexpected_tag};
+ghost use Rattle.der_base.specs.Refusal.{refusal, construct_expected, construct_unexpected};
+ghost use Rattle.der_base.specs.Refusal.{unexpected_class, unexpected_tag};
 
 use crate::error::{BerError, DerConstraint, IResult};
 use crate::identifier::{Identifier, first_octet, read_identifier};
@@ -230,7 +232,8 @@ impl<'a> Header<'a> {
 
     /// The same header with another length.
     pub fn with_length(self, length: Length) -> Header<'a>
-        ensures { IsHeader result (class_of self.entry) (is_constructed self.entry) (number_of self.entry) length (raw_tag_of self.entry) }
+        ensures { let h = self.entry in
+            IsHeader result (class_of h) (is_constructed h) (number_of h) length (raw_tag_of h) }
     {
         let (definite, size) = parts_of(length);
         Header {
@@ -242,7 +245,8 @@ impl<'a> Header<'a> {
 
     /// The same header with other identifier octets, or none.
     pub fn with_raw_tag(self, raw_tag: Option<&'a [u8]>) -> Header<'a>
-        ensures { IsHeader result (class_of self.entry) (is_constructed self.entry) (number_of self.entry) (length_of self.entry) (option_copied raw_tag.entry) }
+        ensures { let h = self.entry in
+            IsHeader result (class_of h) (is_constructed h) (number_of h) (length_of h) (option_copied raw_tag.entry) }
     {
         match raw_tag {
             Some(octets) => Header {
@@ -260,7 +264,8 @@ impl<'a> Header<'a> {
 
     /// The same header with another class.
     pub fn with_class(self, class: Class) -> Header<'a>
-        ensures { IsHeader result class (is_constructed self.entry) (number_of self.entry) (length_of self.entry) (raw_tag_of self.entry) }
+        ensures { let h = self.entry in
+            IsHeader result class (is_constructed h) (number_of h) (length_of h) (raw_tag_of h) }
     {
         Header { class, ..self }
     }
@@ -413,7 +418,8 @@ impl PartialEq for Header<'_> {
     ghost use Rattle.der_base.specs.contracts.header.Class as Class_type;
     ghost use Rattle.der_base.specs.Header.{class_of, is_constructed, number_of};
 
-    ghost eq = { eq_of_both (on class_of (sameb Class_type.the_type)) (eq_of_both (on is_constructed beq) (on number_of ◌==◌)) };
+    ghost eq = { eq_of_both (on class_of (sameb Class_type.the_type))
+        (eq_of_both (on is_constructed beq) (on number_of ◌==◌)) };
 
     ghost laws = { Prim.search (comparing, rules) };
 
@@ -441,18 +447,18 @@ fn parts_of(length: Length) -> (bool, usize)
 /// a header lacks which is cut short. It takes no memory.
 #[inline(always)]
 pub fn ber_read_element_header(i: &[u8]) -> IResult<&[u8], Header<'_>, BerError>
-    ensures found { MatchAnswer result (λ x. ReadsHeader i.now x.1 x.0.now) (BerHeaderRefuses i.now) (BerHeaderLacks i.now) ⊥ }
-    ensures only { (c : Class) (p : Bool) (t : ℕ) (l : Length) (rest : List ℕ) → BeginsWithHeader i.now c p t l rest
-        → IsOkAnd result (λ x. IsHeader x.1 c p t l (Some (identifier c p t)) × (x.0.now ≡ rest)) }
-    ensures refuses { (e : Refusal) → BerHeaderRefuses i.now e → AnswersError result e }
-    ensures lacks { (n : ℕ) → BerHeaderLacks i.now n → AnswersIncomplete result n }
+    ensures { AnswersBerHeader i.now result }
 {
     read_ber_header(i)
 }
 
 #[inline(always)]
 fn read_ber_header(i: &[u8]) -> IResult<&[u8], Header<'_>, BerError>
-    ensures { MatchAnswer result (λ x. ReadsHeader i.now x.1 x.0.now) (BerHeaderRefuses i.now) (BerHeaderLacks i.now) ⊥ }
+    ensures { MatchAnswer result
+        (λ x. ReadsHeader i.now x.1 x.0.now)
+        (BerHeaderRefuses i.now)
+        (BerHeaderLacks i.now)
+        ⊥ }
 {
     match read_short_header(i) {
         Some(found) => Ok(found),
@@ -462,7 +468,11 @@ fn read_ber_header(i: &[u8]) -> IResult<&[u8], Header<'_>, BerError>
 
 #[inline(always)]
 fn read_any_ber_header(i: &[u8]) -> IResult<&[u8], Header<'_>, BerError>
-    ensures { MatchAnswer result (λ x. ReadsHeader i.now x.1 x.0.now) (BerHeaderRefuses i.now) (BerHeaderLacks i.now) ⊥ }
+    ensures { MatchAnswer result
+        (λ x. ReadsHeader i.now x.1 x.0.now)
+        (BerHeaderRefuses i.now)
+        (BerHeaderLacks i.now)
+        ⊥ }
 {
     let (rest, identifier) = read_identifier(i)?;
     let (rest, length) = read_ber_length(identifier.constructed, rest)?;
@@ -477,18 +487,18 @@ fn read_any_ber_header(i: &[u8]) -> IResult<&[u8], Header<'_>, BerError>
 /// header lacks which is cut short. It takes no memory.
 #[inline(always)]
 pub fn der_read_element_header(i: &[u8]) -> IResult<&[u8], Header<'_>, BerError>
-    ensures found { MatchAnswer result (λ x. ReadsDerHeader i.now x.1 x.0.now) (DerHeaderRefuses i.now) (DerHeaderLacks i.now) ⊥ }
-    ensures only { (c : Class) (p : Bool) (t n : ℕ) (rest : List ℕ) → BeginsWithDerHeader i.now c p t n rest
-        → IsOkAnd result (λ x. IsHeader x.1 c p t (Length.Definite n) (Some (identifier c p t)) × (x.0.now ≡ rest)) }
-    ensures refuses { (e : Refusal) → DerHeaderRefuses i.now e → AnswersError result e }
-    ensures lacks { (n : ℕ) → DerHeaderLacks i.now n → AnswersIncomplete result n }
+    ensures { AnswersDerHeader i.now result }
 {
     read_der_header(i)
 }
 
 #[inline(always)]
 fn read_der_header(i: &[u8]) -> IResult<&[u8], Header<'_>, BerError>
-    ensures { MatchAnswer result (λ x. ReadsDerHeader i.now x.1 x.0.now) (DerHeaderRefuses i.now) (DerHeaderLacks i.now) ⊥ }
+    ensures { MatchAnswer result
+        (λ x. ReadsDerHeader i.now x.1 x.0.now)
+        (DerHeaderRefuses i.now)
+        (DerHeaderLacks i.now)
+        ⊥ }
 {
     match read_short_header(i) {
         Some(found) => Ok(found),
@@ -498,7 +508,11 @@ fn read_der_header(i: &[u8]) -> IResult<&[u8], Header<'_>, BerError>
 
 #[inline(always)]
 fn read_any_der_header(i: &[u8]) -> IResult<&[u8], Header<'_>, BerError>
-    ensures { MatchAnswer result (λ x. ReadsDerHeader i.now x.1 x.0.now) (DerHeaderRefuses i.now) (DerHeaderLacks i.now) ⊥ }
+    ensures { MatchAnswer result
+        (λ x. ReadsDerHeader i.now x.1 x.0.now)
+        (DerHeaderRefuses i.now)
+        (DerHeaderLacks i.now)
+        ⊥ }
 {
     let (rest, identifier) = read_identifier(i)?;
     let (rest, length) = read_der_length(rest)?;
@@ -531,7 +545,7 @@ fn read_short_header(i: &[u8]) -> Option<(&[u8], Header<'_>)>
 /// The header that begins with these identifier octets.
 #[inline]
 fn header_of(identifier: Identifier<'_>, length: Length) -> Header<'_>
-    ensures { IsHeader result identifier.entry.class identifier.entry.constructed identifier.entry.tag.0 length (Some identifier.entry.octets.now) }
+    ensures { let x = identifier.entry in IsHeader result x.class x.constructed x.tag.0 length (Some x.octets.now) }
 {
     let (definite, size) = parts_of(length);
     Header {
@@ -585,11 +599,7 @@ pub fn ber_header_counted<'a>(
     i: &'a [u8],
     count: &mut HeaderCount,
 ) -> IResult<&'a [u8], Header<'a>, BerError>
-    ensures found { MatchAnswer result (λ x. ReadsHeader i.now x.1 x.0.now) (BerHeaderRefuses i.now) (BerHeaderLacks i.now) ⊥ }
-    ensures only { (c : Class) (p : Bool) (t : ℕ) (l : Length) (rest : List ℕ) → BeginsWithHeader i.now c p t l rest
-        → IsOkAnd result (λ x. IsHeader x.1 c p t l (Some (identifier c p t)) × (x.0.now ≡ rest)) }
-    ensures refuses { (e : Refusal) → BerHeaderRefuses i.now e → AnswersError result e }
-    ensures lacks { (n : ℕ) → BerHeaderLacks i.now n → AnswersIncomplete result n }
+    ensures exactly { AnswersBerHeader i.now result }
     ensures counted { count.new ≡ one_more count.old }
 {
     count.raise();
@@ -602,11 +612,7 @@ pub fn der_header_counted<'a>(
     i: &'a [u8],
     count: &mut HeaderCount,
 ) -> IResult<&'a [u8], Header<'a>, BerError>
-    ensures found { MatchAnswer result (λ x. ReadsDerHeader i.now x.1 x.0.now) (DerHeaderRefuses i.now) (DerHeaderLacks i.now) ⊥ }
-    ensures only { (c : Class) (p : Bool) (t n : ℕ) (rest : List ℕ) → BeginsWithDerHeader i.now c p t n rest
-        → IsOkAnd result (λ x. IsHeader x.1 c p t (Length.Definite n) (Some (identifier c p t)) × (x.0.now ≡ rest)) }
-    ensures refuses { (e : Refusal) → DerHeaderRefuses i.now e → AnswersError result e }
-    ensures lacks { (n : ℕ) → DerHeaderLacks i.now n → AnswersIncomplete result n }
+    ensures exactly { AnswersDerHeader i.now result }
     ensures counted { count.new ≡ one_more count.old }
 {
     count.raise();

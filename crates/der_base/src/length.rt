@@ -20,7 +20,11 @@ const LEAST_LONG: usize = 128;
 /// that are announced and missing.
 #[inline]
 pub fn read_der_length(s: &[u8]) -> IResult<&[u8], usize, BerError>
-    ensures { MatchAnswer result (λ x. BeginsWithDerLength s.now x.1 x.0.now) (DerLengthRefuses s.now) (LengthLacks s.now) ⊥ }
+    ensures { MatchAnswer result
+        (λ x. BeginsWithDerLength s.now x.1 x.0.now)
+        (DerLengthRefuses s.now)
+        (LengthLacks s.now)
+        ⊥ }
 {
     let Some((first, behind)) = s.split_first() else {
         return Err(Err::Incomplete(Needed::Size(1)));
@@ -36,7 +40,11 @@ pub fn read_der_length(s: &[u8]) -> IResult<&[u8], usize, BerError>
 /// for the indefinite form, where not constructed (8.1.3.2). Incomplete as by DER.
 #[inline]
 pub fn read_ber_length(constructed: bool, s: &[u8]) -> IResult<&[u8], Length, BerError>
-    ensures { MatchAnswer result (λ x. BeginsWithLength s.now constructed x.1 x.0.now) (BerLengthRefuses constructed s.now) (LengthLacks s.now) ⊥ }
+    ensures { MatchAnswer result
+        (λ x. BeginsWithLength s.now constructed x.1 x.0.now)
+        (BerLengthRefuses constructed s.now)
+        (LengthLacks s.now)
+        ⊥ }
 {
     let Some((first, behind)) = s.split_first() else {
         return Err(Err::Incomplete(Needed::Size(1)));
@@ -50,7 +58,11 @@ pub fn read_ber_length(constructed: bool, s: &[u8]) -> IResult<&[u8], Length, Be
 /// The rest of `read_der_length`, behind a first octet from 128 on.
 fn read_long_der_length(first: u8, behind: &[u8]) -> IResult<&[u8], usize, BerError>
     requires { 128 ≤ first }
-    ensures { MatchAnswer result (λ x. BeginsWithDerLength (first ∷ behind.now) x.1 x.0.now) (DerLengthRefuses (first ∷ behind.now)) (LengthLacks (first ∷ behind.now)) ⊥ }
+    ensures { MatchAnswer result
+        (λ x. BeginsWithDerLength (first ∷ behind.now) x.1 x.0.now)
+        (DerLengthRefuses (first ∷ behind.now))
+        (LengthLacks (first ∷ behind.now))
+        ⊥ }
 {
     if first == 128 {
         return Err(Err::Error(BerError::DerConstraintFailed(DerConstraint::IndefiniteLength)));
@@ -72,7 +84,11 @@ fn read_long_ber_length(
     behind: &[u8],
 ) -> IResult<&[u8], Length, BerError>
     requires { 128 ≤ first }
-    ensures { MatchAnswer result (λ x. BeginsWithLength (first ∷ behind.now) constructed x.1 x.0.now) (BerLengthRefuses constructed (first ∷ behind.now)) (LengthLacks (first ∷ behind.now)) ⊥ }
+    ensures { MatchAnswer result
+        (λ x. BeginsWithLength (first ∷ behind.now) constructed x.1 x.0.now)
+        (BerLengthRefuses constructed (first ∷ behind.now))
+        (LengthLacks (first ∷ behind.now))
+        ⊥ }
 {
     if first == 128 {
         if constructed {
@@ -90,7 +106,11 @@ fn read_long_ber_length(
 /// The octets of the number that a first octet above 128 announces, behind what follows them.
 fn announced_octets(first: u8, behind: &[u8]) -> IResult<&[u8], &[u8], BerError>
     requires { 128 < first }
-    ensures { MatchAnswer result (λ x. Announces first behind.now x.1.now x.0.now) (λ e. (first ≡ 255) × (e ≡ invalid_length)) (LengthLacks (first ∷ behind.now)) ⊥ }
+    ensures { MatchAnswer result
+        (λ x. Announces first behind.now x.1.now x.0.now)
+        (λ e. (first ≡ 255) × (e ≡ invalid_length))
+        (LengthLacks (first ∷ behind.now))
+        ⊥ }
 {
     if first == 255 {
         return Err(Err::Error(BerError::InvalidLength));

@@ -1,5 +1,6 @@
 //! Object identifiers, absolute and relative (X.690 8.19 and 8.20).
-ghost use Rattle.std.specs.Prelude.{◌+◌, ◌*◌, ◌++◌, ◌⊎◌, OnOk, IfOk, IsOkAnd, MatchResult, Some, None, Err, ◌≡◌, ◌↔◌, true, false, IsTrue, [], ◌∷◌, MatchOption};
+ghost use Rattle.std.specs.Prelude.{◌≡◌, ◌↔◌, ◌+◌, ◌*◌, ◌++◌, ◌∷◌, [], ◌⊎◌, true, false, IsTrue};
+ghost use Rattle.std.specs.Prelude.{OnOk, IfOk, IsOkAnd, MatchResult, Some, None, Err, MatchOption};
 ghost use Rattle.std.specs.Cow.{cow_slice_items, IsBorrowedSlice};
 ghost use Rattle.std.specs.Option.{option_map, SomeIff};
 ghost use Rattle.std.specs.Str.Parse.{digits_value};
@@ -7,7 +8,8 @@ ghost use Rattle.der_base.specs.declared.error.OidParseError.TheVariants.{OutOfM
 ghost use Rattle.std.specs.List.{list_all, flat_map};
 ghost use Rattle.der_base.specs.Arcs.{subidentifiers, is_whole, first_arcs};
 ghost use Rattle.der_base.specs.Octets.{groups_before, groups};
-ghost use Rattle.der_base.specs.OidArcs.{AreWhole, subidentifier_values, have_subidentifier, octets_of_arcs, is_arc, dotted_arcs, octets_if_arcs, ArcsComeBack};
+ghost use Rattle.der_base.specs.OidArcs.{AreWhole, subidentifier_values, have_subidentifier};
+ghost use Rattle.der_base.specs.OidArcs.{octets_of_arcs, is_arc, dotted_arcs, octets_if_arcs, ArcsComeBack};
 
 use crate::error::OidParseError;
 use std::alloc::{AllocError, Global};
@@ -95,7 +97,8 @@ impl<'a> Oid<'a> {
 
     /// A copy. One that is borrowed takes no memory, and is borrowed from the same place.
     pub fn try_clone(&self, alloc: Global) -> Result<Oid<'a>, AllocError>
-        ensures same { IfOk result (λ x. (octets_of x ≡ octets_of self.now) × (is_relative_of x ≡ is_relative_of self.now)) }
+        ensures same { IfOk result
+            (λ x. (octets_of x ≡ octets_of self.now) × (is_relative_of x ≡ is_relative_of self.now)) }
         ensures borrowed { IsBorrowed self.now → IsOkAnd result IsBorrowed }
     {
         let octets = match &self.octets {
@@ -155,7 +158,8 @@ impl PartialEq for Oid<'_> {
 
     fn eq(&self, other: &Self) -> bool
         ensures value { result ≡ eq_of_both (on octets_of same_octets) (on is_relative_of beq) self.now other.now }
-        ensures equal { IsTrue result ↔ ((octets_of self.now ≡ octets_of other.now) × (is_relative_of self.now ≡ is_relative_of other.now)) }
+        ensures equal { IsTrue result
+            ↔ ((octets_of self.now ≡ octets_of other.now) × (is_relative_of self.now ≡ is_relative_of other.now)) }
     {
         self.as_bytes() == other.as_bytes() && self.relative == other.relative
     }

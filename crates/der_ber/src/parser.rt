@@ -1,11 +1,6 @@
 //! The full reader of BER.
-ghost use Rattle.std.specs.Prelude.{◌≡◌, ◌+◌, ◌<◌, ◌≤◌, ℕ, Bool, List, IfOk, IsOkAnd, length};
-ghost use Rattle.der_base.specs.declared.header.Class.{Class};
-ghost use Rattle.der_base.specs.Answer.{MatchAnswer, AnswersError, AnswersIncomplete};
-ghost use Rattle.der_base.specs.Any.{ReadsAny, AnyRefuses, AnyLacks};
-ghost use Rattle.der_base.specs.Header.{class_of, is_constructed, number_of};
-ghost use Rattle.der_base.specs.Refusal.{Refusal};
-ghost use Rattle.der_base.specs.Spelling.{BeginsWithElement, framing_budget};
+ghost use Rattle.std.specs.Prelude.{◌+◌, ◌<◌, ◌≤◌, IfOk, length};
+ghost use Rattle.der_base.specs.Any.{AnswersAny};
 ghost use Rattle.der_ber.specs.BerReading.{AnswersBer, AnswersNumber};
 
 use crate::reader::{read_element, read_element_with_tag};
@@ -69,11 +64,7 @@ pub fn parse_ber_any_with_tag_r<'a>(
 
 /// Reads an element whose content isn't read: as `Any::from_ber`.
 pub fn parse_ber_any<'a>(i: &'a [u8]) -> IResult<&'a [u8], Any<'a>, BerError>
-    ensures found { MatchAnswer result (λ x. ReadsAny i.now x.1 x.0.now) (AnyRefuses i.now) (AnyLacks i.now) ⊥ }
-    ensures only { (c : Class) (p : Bool) (t : ℕ) (w rest : List ℕ) → BeginsWithElement i.now framing_budget c p t w rest
-        → IsOkAnd result (λ x. (class_of x.1.header ≡ c) × (is_constructed x.1.header ≡ p) × (number_of x.1.header ≡ t) × (x.1.bytes.now ≡ w) × (x.0.now ≡ rest)) }
-    ensures refuses { (e : Refusal) → AnyRefuses i.now e → AnswersError result e }
-    ensures lacks { (n : ℕ) → AnyLacks i.now n → AnswersIncomplete result n }
+    ensures { AnswersAny i.now result }
 {
     Any::from_ber(i)
 }

@@ -22,7 +22,7 @@ read_to_end_marker-returns-in_err-behind-clause-found t c =
     let rest = c.elements.rest.now in
     let u = c.elements.invariant.0 in
     let p = err_from_is_err_and c.from_residual.result c.from_residual.ensures.1 in
-    rw (p.1, p.2) (passed_on _ _ c.in_err-behind.field-0.0 c.in_err-behind.ensures.found
+    rw (p.1, p.2) (passed_on _ _ c.in_err-behind.field-0.0 c.in_err-behind.ensures.exactly.found
     (λ e h. at_header u.0 rest (omega arith) u.2 (are_raws u.1) h)
     (λ n h. lacks_header i u.0 rest k n (omega arith) u.1 u.2 h)
     (λ m. m))
@@ -32,7 +32,7 @@ read_to_end_marker-returns-then-budget-eq1-clause-found t c =
     let u = c.elements.invariant.0 in
     let rest = c.elements.rest.now in
     let whole : rest ≡ c.args.i.now = sym (u.2 ∙ ap (λ l. l ++ rest) (none_at_zero u.1 (omega arith))) in
-    too_deep (omega arith) (subst HasHeader whole (has_header rest _ _ _ _ _ c.in_ok-behind.ensures.found.begins))
+    too_deep (omega arith) (subst HasHeader whole (has_header rest _ _ _ _ _ c.in_ok-behind.ensures.exactly.found.begins))
 
 front : (i u rest : List ℕ) → i ≡ u ++ rest → take (length i - length rest) i ≡ u
 front i u rest e =
@@ -48,7 +48,7 @@ read_to_end_marker-returns-then-begins_with_end_marker-clause-found t c =
     let behind = c.in_ok-behind.behind.now in
     let u = c.elements.invariant.0 in
     let m = c.if-begins_with_end_marker.ensures in
-    let b = behind_marker rest m.0 behind _ _ _ _ m.1 c.in_ok-behind.ensures.found.begins in
+    let b = behind_marker rest m.0 behind _ _ _ _ m.1 c.in_ok-behind.ensures.exactly.found.begins in
     let e = u.2 ∙ ap (λ x. u.0 ++ x) (m.1 ∙ ap (λ x. end_marker ++ x) (sym b)) ∙ sym (append_assoc u.0 end_marker behind) in
     rw (front i u.0 rest u.2) (omega arith, are_raws u.1, e)
 
@@ -61,7 +61,7 @@ read_to_end_marker-returns-in_err-after-clause-found t c =
     let behind = c.in_ok-behind.behind.now in
     let u = c.elements.invariant.0 in
     let h = c.in_ok-behind.header in
-    let b = c.in_ok-behind.ensures.found.begins in
+    let b = c.in_ok-behind.ensures.exactly.found.begins in
     let p = err_from_is_err_and c.from_residual-in_err-after.result c.from_residual-in_err-after.ensures.1 in
     rw (p.1, p.2) (passed_on _ _ c.in_err-after.field-0.0 c.in_err-after.ensures.found
     (λ e r. refuses_content i u.0 rest behind k e (class_of h) (is_constructed h) (number_of h) (length_of h) (omega arith) u.1 u.2 b (rw (c.length.ensures) at r))
@@ -76,7 +76,7 @@ read_to_end_marker-elements-preserved t c =
     let behind = c.in_ok-behind.behind.now in
     let u = c.elements.invariant.0 in
     let h = c.in_ok-behind.header in
-    let b = c.in_ok-behind.ensures.found.begins in
+    let b = c.in_ok-behind.ensures.exactly.found.begins in
     let n = c.in_ok-after.ensures in
     let s = header_shorter rest behind _ _ _ _ b in (
       one_more_element i rest behind c.in_ok-after.after.now c.in_ok-after.field-0-1.now u.0 (k - 1) (class_of h) (is_constructed h) (number_of h) (length_of h) (omega arith) u.1 u.2 b
@@ -105,6 +105,6 @@ read_to_end_marker-returns-then-begins_with_end_marker-clause-counted t c =
 pub read_to_end_marker-returns-in_err-after-clause-counted : goal.read_to_end_marker-returns-in_err-after-clause-counted
 read_to_end_marker-returns-in_err-after-clause-counted t c =
     let u = c.elements.invariant in
-    let s = header_shorter _ _ _ _ _ _ c.in_ok-behind.ensures.found.begins in
+    let s = header_shorter _ _ _ _ _ _ c.in_ok-behind.ensures.exactly.found.begins in
     let n = c.in_err-after.ensures.counted in
     (omega (arith, u.1, c.in_ok-behind.ensures.counted, n.0), omega (arith, s, u.2, c.in_ok-behind.ensures.counted, n.1))

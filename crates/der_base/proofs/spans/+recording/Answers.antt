@@ -28,7 +28,7 @@ record_to_end_marker-returns-in_err-behind-clause-found t c =
     let u = c.elements.invariant.0 in
     let us = spans_are_elements u.2 in
     let p = err_from_is_err_and c.from_residual.result c.from_residual.ensures.1 in
-    rw (p.1, p.2) (passed_on _ _ c.in_err-behind.field-0.0 c.in_err-behind.ensures.found
+    rw (p.1, p.2) (passed_on _ _ c.in_err-behind.field-0.0 c.in_err-behind.ensures.exactly.found
     (λ e h. at_header u.0 rest (omega arith) u.3 (are_raws us) h)
     (λ n h. lacks_header i u.0 rest k n (omega arith) us u.3 h)
     (λ m. absurd m))
@@ -38,7 +38,7 @@ record_to_end_marker-returns-then-budget-eq1-clause-found t c =
     let u = c.elements.invariant.0 in
     let rest = c.elements.rest.now in
     let whole : rest ≡ c.args.i.now = sym (u.3 ∙ ap (λ l. l ++ rest) (none_at_zero (spans_are_elements u.2) (omega arith))) in
-    too_deep (omega arith) (subst HasHeader whole (has_header rest _ _ _ _ _ c.in_ok-behind.ensures.found.begins))
+    too_deep (omega arith) (subst HasHeader whole (has_header rest _ _ _ _ _ c.in_ok-behind.ensures.exactly.found.begins))
 
 front : (i u rest : List ℕ) → i ≡ u ++ rest → take (length i - length rest) i ≡ u
 front i u rest e =
@@ -54,7 +54,7 @@ record_to_end_marker-returns-then-begins_with_end_marker-clause-found t c =
     let behind = c.in_ok-behind.behind.now in
     let u = c.elements.invariant.0 in
     let m = c.if-begins_with_end_marker.ensures in
-    let b = behind_marker rest m.0 behind _ _ _ _ m.1 c.in_ok-behind.ensures.found.begins in
+    let b = behind_marker rest m.0 behind _ _ _ _ m.1 c.in_ok-behind.ensures.exactly.found.begins in
     let e = u.3 ∙ ap (λ x. u.0 ++ x) (m.1 ∙ ap (λ x. end_marker ++ x) (sym b)) ∙ sym (append_assoc u.0 end_marker behind) in
     rw (front i u.0 rest u.3) ((omega arith, are_raws (spans_are_elements u.2), e), u.1, u.4, u.2)
 
@@ -68,7 +68,7 @@ record_to_end_marker-returns-in_err-rest-clause-found t c =
     let u = c.elements.invariant.0 in
     let us = spans_are_elements u.2 in
     let h = c.in_ok-behind.header in
-    let b = c.in_ok-behind.ensures.found.begins in
+    let b = c.in_ok-behind.ensures.exactly.found.begins in
     let p = err_from_is_err_and c.from_residual-in_err-rest.result c.from_residual-in_err-rest.ensures.1 in
     rw (p.1, p.2) (passed_on _ _ c.in_err-rest.field-0.0 c.in_err-rest.ensures.found
     (λ e r. refuses_content i u.0 rest behind k e (class_of h) (is_constructed h) (number_of h) (length_of h) (omega arith) us u.3 b r)
@@ -99,7 +99,7 @@ pub record_to_end_marker-returns-in_err-rest-clause-counted : goal.record_to_end
 record_to_end_marker-returns-in_err-rest-clause-counted t c =
     let u = c.elements.invariant.0 in
     let o = ap span_octets u.4 ∙ span_octets_append c.args.spans.now.items u.1 in
-    let s = header_shorter _ _ _ _ _ _ c.in_ok-behind.ensures.found.begins in
+    let s = header_shorter _ _ _ _ _ _ c.in_ok-behind.ensures.exactly.found.begins in
     omega (arith, o, s, c.elements.invariant.1, c.in_ok-behind.ensures.counted, c.in_err-rest.ensures.counted)
 
 pub record_to_end_marker-elements-preserved : goal.record_to_end_marker-elements-preserved
@@ -110,7 +110,7 @@ record_to_end_marker-elements-preserved t c =
     let behind = c.in_ok-behind.behind.now in
     let u = c.elements.invariant.0 in
     let h = c.in_ok-behind.header in
-    let g = c.in_ok-behind.ensures.found in
+    let g = c.in_ok-behind.ensures.exactly.found in
     let s = header_shorter rest behind _ _ _ _ g.begins in
     let r = c.in_ok-rest.ensures in
     let o = one_more_span i rest behind c.in_ok-rest.rest.now u.0 u.1 r.found.0 (k - 1) h (omega arith) u.2 u.3 g r.found.2 c.if-begins_with_end_marker.ensures in (
@@ -174,7 +174,7 @@ record_to_end_marker-returns-in_err-after-clause-found t c =
     let u = c.elements.invariant.0 in
     let us = spans_are_elements u.2 in
     let h = c.in_ok-behind.header in
-    let b = c.in_ok-behind.ensures.found.begins in
+    let b = c.in_ok-behind.ensures.exactly.found.begins in
     let l : length_of h ≡ Definite c.in-Definite.size = sym c.length.ensures ∙ c.in-Definite.is in
     let p = err_from_is_err_and c.from_residual-in_err-after.result c.from_residual-in_err-after.ensures.1 in
     rw (p.1, p.2) (passed_on _ _ c.in_err-after.field-0.0 c.in_err-after.ensures
@@ -202,7 +202,7 @@ record_to_end_marker-elements-preserved-in-Definite t c =
     let behind = c.in_ok-behind.behind.now in
     let u = c.elements.invariant.0 in
     let h = c.in_ok-behind.header in
-    let g = c.in_ok-behind.ensures.found in
+    let g = c.in_ok-behind.ensures.exactly.found in
     let w = c.in_ok-after.bytes in
     let after = c.in_ok-after.after.now in
     let f = c.in_ok-after.ensures in

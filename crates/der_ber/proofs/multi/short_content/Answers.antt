@@ -1,11 +1,13 @@
 use Rattle.std.proofs.Common.{◌≡◌, sym, ◌∙◌, arith}
 use Rattle.der_base.specs.declared.header.Length.TheVariants.{Definite}
 use Rattle.der_base.proofs.Containers.ContainerLaws.{short_behind}
+use Rattle.der_base.proofs.Headers.BerHeaders.{ber_header_read}
 use Rattle.der_ber.proofs.multi.short_content.Goals.{in_default-length-via-in-Definite+else-content-n, in_default-length-via-in_default-length}
 use Rattle.der_ber.proofs.multi.short_content.Goals as goal
 
 pub returns-in_default : goal.returns-in_default
-returns-in_default c = λ content s. c.in_default.ensures.only s.0 s.1 s.2 (Definite s.3) content s.4
+returns-in_default c = λ content s.
+    ber_header_read c.args.i.now c.in_default.field-0 (record { class = s.0; constructed = s.1; number = s.2; length = Definite s.3; rest = content }) c.in_default.ensures s.4
 
 pub returns-in_default-length : goal.returns-in_default-length
 returns-in_default-length c = λ content s.

@@ -84,7 +84,7 @@ read_element-returns-in_err-behind-clause-found t c =
     let d = c.args.max_depth in
     let deep : 1 ≤ d = omega arith in
     let p = err_from_is_err_and c.from_residual.result c.from_residual.ensures.1 in
-    rw (p.1, p.2) (passed_on _ _ c.in_err-behind.field-0.0 c.in_err-behind.ensures.found (λ e h. any_refused d i e deep (inl h)) (λ n h. any_cut d i n deep (any_lacks_header i n h)) (λ m. absurd m))
+    rw (p.1, p.2) (passed_on _ _ c.in_err-behind.field-0.0 c.in_err-behind.ensures.exactly.found (λ e h. any_refused d i e deep (inl h)) (λ n h. any_cut d i n deep (any_lacks_header i n h)) (λ m. absurd m))
 
 pub read_element-returns-in_err-rest-in-Definite-clause-found : goal.read_element-returns-in_err-rest-in-Definite-clause-found
 read_element-returns-in_err-rest-in-Definite-clause-found t c =
@@ -92,7 +92,7 @@ read_element-returns-in_err-rest-in-Definite-clause-found t c =
     let d = c.args.max_depth in
     let behind = c.in_ok-behind.behind.now in
     let h = c.in_ok-behind.header in
-    let q = c.in_ok-behind.ensures.found in
+    let q = c.in_ok-behind.ensures.exactly.found in
     let deep : 1 ≤ d = omega arith in
     let l : length_of h ≡ Definite c.in-Definite.size = sym c.length.ensures ∙ c.in-Definite.is in
     let p = err_from_is_err_and c.from_residual-in_err-rest-in-Definite.result c.from_residual-in_err-rest-in-Definite.ensures.1 in
@@ -107,7 +107,7 @@ read_element-returns-in_ok-rest-in-Definite-clause-found t c =
     let d = c.args.max_depth in
     let behind = c.in_ok-behind.behind.now in
     let h = c.in_ok-behind.header in
-    let q = c.in_ok-behind.ensures.found in
+    let q = c.in_ok-behind.ensures.exactly.found in
     let w = c.in_ok-rest-in-Definite.bytes.now in
     let rest = c.in_ok-rest-in-Definite.rest.now in
     let deep : 1 ≤ d = omega arith in
@@ -126,7 +126,7 @@ read_element-returns-in-Indefinite-clause-found t c =
     let d = c.args.max_depth in
     let behind = c.in_ok-behind.behind.now in
     let h = c.in_ok-behind.header in
-    let q = c.in_ok-behind.ensures.found in
+    let q = c.in_ok-behind.ensures.exactly.found in
     let deep : 1 ≤ d = omega arith in
     answered _ _ c.read_behind.result c.read_behind.ensures.found
     (λ x y. object_read i behind y.octets x.0.now x.0.now h x.1 d q y.framed deep (refl, y.header, y.content))

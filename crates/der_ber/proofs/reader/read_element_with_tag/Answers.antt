@@ -18,7 +18,7 @@ returns-in_err-behind-clause-found c =
     let d = c.args.max_depth in
     let deep : 1 ≤ d = omega arith in
     let p = err_from_is_err_and c.from_residual.result c.from_residual.ensures.1 in
-    rw (p.1, p.2) (passed_on _ _ c.in_err-behind.field-0.0 c.in_err-behind.ensures.found
+    rw (p.1, p.2) (passed_on _ _ c.in_err-behind.field-0.0 c.in_err-behind.ensures.exactly.found
     (λ e h. inr (inr (λ m. refused_not_other c.args.tag.0 i e m (inl h)), any_refused d i e deep (inl h))) (λ n h. any_cut d i n deep (any_lacks_header i n h)) (λ m. absurd m))
 
 pub returns-in_err-rest-clause-found : goal.returns-in_err-rest-clause-found
@@ -28,7 +28,7 @@ returns-in_err-rest-clause-found c =
     let n = c.args.tag.0 in
     let behind = c.in_ok-behind.behind.now in
     let h = c.in_ok-behind.header in
-    let q = c.in_ok-behind.ensures.found in
+    let q = c.in_ok-behind.ensures.exactly.found in
     let deep : 1 ≤ d = omega arith in
     let p = err_from_is_err_and c.from_residual-in_err-rest.result c.from_residual-in_err-rest.ensures.1 in
     rw (p.1, p.2) (passed_on _ _ c.in_err-rest.field-0.0 c.in_err-rest.ensures.found
@@ -47,7 +47,7 @@ returns-in_err-assert_tag-clause-found c =
     let rest = c.in_ok-rest.rest.now in
     let deep : 1 ≤ c.args.max_depth = omega arith in
     let f : BeginsWithContent behind (length_of h) framing_budget w rest = rw c.length.ensures at c.in_ok-rest.ensures.found.0 in
-    let b = begins_behind i behind w rest h c.in_ok-behind.ensures.found f in
+    let b = begins_behind i behind w rest h c.in_ok-behind.ensures.exactly.found f in
     let p = err_from_is_err_and c.from_residual-in_err-assert_tag.result c.from_residual-in_err-assert_tag.ensures.1 in
     let e = c.in_err-assert_tag.ensures in
     rw (p.1, p.2) (inl (deep, number_of h, (e.0, class_of h, is_constructed h, w, rest, b), e.1))
@@ -66,7 +66,7 @@ returns-clause-found c =
     let n = c.args.tag.0 in
     let behind = c.in_ok-behind.behind.now in
     let h = c.in_ok-behind.header in
-    let q = c.in_ok-behind.ensures.found in
+    let q = c.in_ok-behind.ensures.exactly.found in
     let w = c.in_ok-rest.bytes.now in
     let rest = c.in_ok-rest.rest.now in
     let deep : 1 ≤ d = omega arith in
@@ -87,5 +87,5 @@ returns-clause-shorter c =
     let w = c.in_ok-rest.bytes.now in
     let rest = c.in_ok-rest.rest.now in
     let f : BeginsWithContent behind (length_of h) framing_budget w rest = rw c.length.ensures at c.in_ok-rest.ensures.found.0 in
-    let s = element_shorter i framing_budget (class_of h) (is_constructed h) (number_of h) w rest (begins_behind i behind w rest h c.in_ok-behind.ensures.found f) in
+    let s = element_shorter i framing_budget (class_of h) (is_constructed h) (number_of h) w rest (begins_behind i behind w rest h c.in_ok-behind.ensures.exactly.found f) in
     ok_weaker _ _ _ c.read_object.result _ c.read_object.ensures.found (λ x y. omega (arith, s, ap length y.0))

@@ -24,19 +24,19 @@ read_element-returns-in_err-rest-clause-found t c =
     let d = c.args.max_depth in
     let deep : 1 ≤ d = omega arith in
     let p = err_from_is_err_and c.from_residual.result c.from_residual.ensures.1 in
-    rw (p.1, p.2) (passed_on _ _ c.in_err-rest.field-0.0 c.in_err-rest.ensures.found (λ e h. header_refused d i e deep h) (λ n h. header_cut d i n deep h) (λ m. absurd m))
+    rw (p.1, p.2) (passed_on _ _ c.in_err-rest.field-0.0 c.in_err-rest.ensures.exactly.found (λ e h. header_refused d i e deep h) (λ n h. header_cut d i n deep h) (λ m. absurd m))
 
 pub read_element-returns-then-length-gt-MAX_OBJECT_SIZE-clause-found : goal.read_element-returns-then-length-gt-MAX_OBJECT_SIZE-clause-found
 read_element-returns-then-length-gt-MAX_OBJECT_SIZE-clause-found t c =
     let h = c.in_ok-rest.header in
-    let found = c.in_ok-rest.ensures.found in
+    let found = c.in_ok-rest.ensures.exactly.found in
     let size : c.in_ok-length.length ≡ found.size = (let stated = found.length in let taken = c.length.ensures in let is = c.in_ok-length.ensures in cc) in
     size_refused c.args.max_depth c.args.i.now c.in_ok-rest.rest.now (class_of h) (is_constructed h) (number_of h) found.size (omega arith) found.begins (omega arith)
 
 pub read_element-returns-then-rest-length-clause-found : goal.read_element-returns-then-rest-length-clause-found
 read_element-returns-then-rest-length-clause-found t c =
     let h = c.in_ok-rest.header in
-    let found = c.in_ok-rest.ensures.found in
+    let found = c.in_ok-rest.ensures.exactly.found in
     let size : c.in_ok-length.length ≡ found.size = (let stated = found.length in let taken = c.length.ensures in let is = c.in_ok-length.ensures in cc) in
     content_cut c.args.max_depth c.args.i.now c.in_ok-rest.rest.now (class_of h) (is_constructed h) (number_of h) found.size c.lacking.result (omega arith) found.begins (omega arith) (omega arith)
     (λ u. c.lacking.ensures.universal u ∙ size) (λ u. c.lacking.ensures.other u ∙ size)
@@ -74,7 +74,7 @@ read_items-returns-clause-found t c =
 pub read_element-returns-clause-found : goal.read_element-returns-clause-found
 read_element-returns-clause-found t c =
     let h = c.in_ok-rest.header in
-    let found = c.in_ok-rest.ensures.found in
+    let found = c.in_ok-rest.ensures.exactly.found in
     let n = c.in_ok-length.length in
     let rest = c.in_ok-rest.rest.now in
     let w = c.split_at.result.0.now in
@@ -95,7 +95,7 @@ read_element-returns-clause-found t c =
 pub read_element-returns-clause-shorter : goal.read_element-returns-clause-shorter
 read_element-returns-clause-shorter t c =
     let h = c.in_ok-rest.header in
-    let found = c.in_ok-rest.ensures.found in
+    let found = c.in_ok-rest.ensures.exactly.found in
     let s = header_shorter c.args.i.now c.in_ok-rest.rest.now (class_of h) (is_constructed h) (number_of h) found.size found.begins in
     ok_weaker _ _ _ c.read_object.result _ c.read_object.ensures.found (λ x q. omega (arith, s, ap length q.0, c.split_at.ensures.back_len))
 
@@ -141,14 +141,14 @@ read_object-returns-then-is_mapped-clause-found t c =
 pub read_element-returns-clause-counted : goal.read_element-returns-clause-counted
 read_element-returns-clause-counted t c =
     let h = c.in_ok-rest.header in
-    let found = c.in_ok-rest.ensures.found in
+    let found = c.in_ok-rest.ensures.exactly.found in
     let s = header_shorter c.args.i.now c.in_ok-rest.rest.now (class_of h) (is_constructed h) (number_of h) found.size found.begins in
     omega (arith, s, c.in_ok-rest.ensures.counted, c.split_at.ensures.front_len, c.split_at.ensures.back_len, c.read_object.ensures.counted)
 
 pub read_element-returns-clause-counted_ok : goal.read_element-returns-clause-counted_ok
 read_element-returns-clause-counted_ok t c =
     let h = c.in_ok-rest.header in
-    let found = c.in_ok-rest.ensures.found in
+    let found = c.in_ok-rest.ensures.exactly.found in
     let s = header_shorter c.args.i.now c.in_ok-rest.rest.now (class_of h) (is_constructed h) (number_of h) found.size found.begins in
     ok_with _ _ _ c.read_object.result _ _ c.read_object.ensures.found c.read_object.ensures.counted_ok
     (λ x q n. omega (arith, s, c.in_ok-rest.ensures.counted, c.split_at.ensures.front_len, c.split_at.ensures.back_len, ap length q.0, n))
