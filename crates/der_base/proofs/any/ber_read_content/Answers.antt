@@ -7,7 +7,7 @@ returns-clause-only c = λ w rest b.
     let i = c.args.i.now in
     let l = c.args.length in
     let k = c.args.budget in
-    only_ok c.read_content.result _ c.read_content.ensures.found
+    only_ok c.read_content.result _ c.read_content.ensures
     (λ x r. content_same i x.1.now w x.0.now rest l k r b)
     (λ e r. content_not_refused i w rest l k e b r)
     (λ n r. content_not_lacking i w rest l k n b r)
@@ -17,7 +17,7 @@ returns-clause-refuses c = λ e h.
     let i = c.args.i.now in
     let l = c.args.length in
     let k = c.args.budget in
-    only_error c.read_content.result e c.read_content.ensures.found
+    only_error c.read_content.result e c.read_content.ensures
     (λ x r. content_not_refused i x.1.now x.0.now l k e r h)
     (λ e' r. content_refusal_same i l k e' e r h)
     (λ n r. content_refused_not_lacking i l k n e h r)
@@ -27,7 +27,7 @@ returns-clause-lacks c = λ n h.
     let i = c.args.i.now in
     let l = c.args.length in
     let k = c.args.budget in
-    only_incomplete c.read_content.result n c.read_content.ensures.found
+    only_incomplete c.read_content.result n c.read_content.ensures
     (λ x r. content_not_lacking i x.1.now x.0.now l k n r h)
     (λ e r. content_refused_not_lacking i l k n e r h)
     (λ m r. content_lacks_same i l k m n r h)
