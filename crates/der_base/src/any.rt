@@ -1,10 +1,9 @@
 //! Elements whose content isn't read: a header, and the octets behind it.
-ghost use Rattle.std.specs.Prelude.{◌≡◌, ◌≤◌, ◌+◌, ℕ, Bool, IfOk, IsOkAnd, List, None, length};
+ghost use Rattle.std.specs.Prelude.{◌≡◌, ◌≤◌, None, length};
 ghost use Rattle.der_base.specs.declared.header.Class.{Class};
 ghost use Rattle.der_base.specs.Answer.{MatchAnswer, AnswersError, AnswersIncomplete};
 ghost use Rattle.der_base.specs.Any.{AnswersAny, AnswersDerAny, AnswersContent};
 ghost use Rattle.der_base.specs.Any.{ReadsAny, AnyRefuses, AnyLacks, ReadsDerAny, DerAnyLacks};
-ghost use Rattle.der_base.specs.Count.{one_more};
 ghost use Rattle.der_base.specs.Fault.{DerHeaderRefuses};
 ghost use Rattle.der_base.specs.Header.{IsHeader, class_of, is_constructed, number_of, length_of, raw_tag_of};
 ghost use Rattle.der_base.specs.Leaf.{is_list};
@@ -14,9 +13,7 @@ ghost use Rattle.der_base.specs.Spelling.{BeginsWithElement, framing_budget};
 use crate::MAX_RECURSION;
 use crate::content::read_content;
 use crate::error::{BerError, Err, IResult, Needed};
-use crate::header::{
-    Class, Header, HeaderCount, Length, Tag, ber_header_counted, der_read_element_header,
-};
+use crate::header::{Class, Header, Length, Tag, ber_read_element_header, der_read_element_header};
 
 /// An element whose content isn't read.
 #[derive(Clone, Copy, Debug, PartialEq)]
@@ -88,17 +85,15 @@ impl<'a> Any<'a> {
     pub fn from_ber(i: &'a [u8]) -> IResult<&'a [u8], Any<'a>, BerError>
         ensures { AnswersAny i.now result }
     {
-        ber_any_counted(i, &mut HeaderCount::new())
+        Any::read_ber(i)
     }
 
     #[inline(always)]
-    fn read_ber(i: &'a [u8], count: &mut HeaderCount) -> IResult<&'a [u8], Any<'a>, BerError>
-        ensures found { MatchAnswer result (λ x. ReadsAny i.now x.1 x.0.now) (AnyRefuses i.now) (AnyLacks i.now) ⊥ }
-        ensures counted { (one_more count.old ≤ count.new) × (count.new ≤ count.old + length i.now + 1) }
-        ensures counted_ok { IfOk result (λ x. count.new + length x.0.now ≤ count.old + length i.now) }
+    fn read_ber(i: &'a [u8]) -> IResult<&'a [u8], Any<'a>, BerError>
+        ensures { MatchAnswer result (λ x. ReadsAny i.now x.1 x.0.now) (AnyRefuses i.now) (AnyLacks i.now) ⊥ }
     {
-        let (behind, header) = ber_header_counted(i, count)?;
-        let (rest, bytes) = read_content(behind, header.length(), MAX_RECURSION, count)?;
+        let (behind, header) = ber_read_element_header(i)?;
+        let (rest, bytes) = read_content(behind, header.length(), MAX_RECURSION)?;
         Ok((rest, Any { header, bytes }))
     }
 
@@ -130,25 +125,6 @@ impl<'a> Any<'a> {
     }
 }
 
-/// Reads an element as `Any::from_ber`, and counts the headers that it reads, those of end markers
-/// too: one at least, and no more of them than octets that were read, but for one more where the
-/// answer is no element.
-#[inline(always)]
-pub fn ber_any_counted<'a>(
-    i: &'a [u8],
-    count: &mut HeaderCount,
-) -> IResult<&'a [u8], Any<'a>, BerError>
-    ensures found { MatchAnswer result (λ x. ReadsAny i.now x.1 x.0.now) (AnyRefuses i.now) (AnyLacks i.now) ⊥ }
-    ensures only { (c : Class) (p : Bool) (t : ℕ) (w rest : List ℕ) → BeginsWithElement i.now framing_budget c p t w rest
-        → IsOkAnd result (λ x. (class_of x.1.header ≡ c) × (is_constructed x.1.header ≡ p) × (number_of x.1.header ≡ t) × (x.1.bytes.now ≡ w) × (x.0.now ≡ rest)) }
-    ensures refuses { (e : Refusal) → AnyRefuses i.now e → AnswersError result e }
-    ensures lacks { (n : ℕ) → AnyLacks i.now n → AnswersIncomplete result n }
-    ensures counted { (one_more count.old ≤ count.new) × (count.new ≤ count.old + length i.now + 1) }
-    ensures counted_ok { IfOk result (λ x. count.new + length x.0.now ≤ count.old + length i.now) }
-{
-    Any::read_ber(i, count)
-}
-
 /// Reads the content that stands behind a header of this length by BER, and answers what follows
 /// the element, and the content octets. A definite length has that many of them, and nothing looks
 /// into them; the content of an indefinite one is the elements in front of its end marker, the two
@@ -167,5 +143,5 @@ pub fn ber_read_content<'a>(
     requires { 1 ≤ budget }
     ensures { AnswersContent length budget i.now result }
 {
-    read_content(i, length, budget, &mut HeaderCount::new())
+    read_content(i, length, budget)
 }

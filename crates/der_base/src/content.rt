@@ -1,53 +1,46 @@
 //! Framing: where the content of an element ends, by BER (X.690 8.1.3). What stands inside a
 //! definite length isn't looked into.
-ghost use Rattle.std.specs.Prelude.{◌≡◌, ◌≤◌, ◌+◌, ◌-◌, ◌^◌, ◌++◌, IfOk, List, ℕ, MatchBool, length, min};
+ghost use Rattle.std.specs.Prelude.{◌≡◌, ◌≤◌, ◌++◌, List, ℕ, MatchBool};
 ghost use Rattle.der_base.specs.declared.header.Length.{Length};
 ghost use Rattle.der_base.specs.Answer.{MatchAnswer};
 ghost use Rattle.der_base.specs.Content.{BeginsWithContent, ContentRefuses, ContentLacks};
 ghost use Rattle.der_base.specs.Spelling.{end_marker};
 
 use crate::error::{BerError, Err, IResult, Needed};
-use crate::header::{HeaderCount, Length, ber_header_counted};
+use crate::header::{Length, ber_read_element_header};
 
 /// The content behind a header that states this length: what follows the element, and the content
 /// octets, without the end marker. Indefinite lengths, this one among them, are nested below the
-/// budget. Each header that is counted takes an octet at least.
+/// budget.
 #[cycle(framing)]
 #[inline(always)]
-pub fn read_content<'a>(
-    i: &'a [u8],
-    stated: Length,
-    budget: usize,
-    count: &mut HeaderCount,
-) -> IResult<&'a [u8], &'a [u8], BerError>
+pub fn read_content(i: &[u8], stated: Length, budget: usize) -> IResult<&[u8], &[u8], BerError>
     requires { 1 ≤ budget }
-    ensures found { MatchAnswer result
+    ensures { MatchAnswer result
         (λ x. BeginsWithContent i.now stated budget x.1.now x.0.now)
         (ContentRefuses i.now stated budget)
         (ContentLacks i.now stated budget)
         ⊥ }
-    ensures counted { (min count.old (2 ^ 128 - 1) ≤ count.new) × (count.new ≤ count.old + length i.now + 1) }
-    ensures counted_ok { IfOk result (λ x. count.new + length x.0.now ≤ count.old + length i.now) }
 {
     match stated {
-        Length::Definite(n) => read_definite(i, n),
-        Length::Indefinite => read_to_end_marker(i, budget, count),
+        Length::Definite(size) => ber_read_definite(i, size),
+        Length::Indefinite => read_to_end_marker(i, budget),
     }
 }
 
-/// A content of so many octets.
-#[inline]
-pub fn read_definite(i: &[u8], length: usize) -> IResult<&[u8], &[u8], BerError>
+/// Reads a content of so many octets, and answers what follows the element, and the content octets.
+#[inline(always)]
+pub fn ber_read_definite(i: &[u8], size: usize) -> IResult<&[u8], &[u8], BerError>
     ensures { MatchAnswer result
-        (λ x. BeginsWithContent i.now (Length.Definite length) 0 x.1.now x.0.now)
+        (λ x. BeginsWithContent i.now (Length.Definite size) 0 x.1.now x.0.now)
         (λ _. ⊥)
-        (ContentLacks i.now (Length.Definite length) 0)
+        (ContentLacks i.now (Length.Definite size) 0)
         ⊥ }
 {
-    if i.len() < length {
-        return Err(Err::Incomplete(Needed::Size(length - i.len())));
+    if i.len() < size {
+        return Err(Err::Incomplete(Needed::Size(size - i.len())));
     }
-    let (content, rest) = i.split_at(length);
+    let (content, rest) = i.split_at(size);
     Ok((rest, content))
 }
 
@@ -55,30 +48,24 @@ pub fn read_definite(i: &[u8], length: usize) -> IResult<&[u8], &[u8], BerError>
 /// the budget, which the end marker needs too.
 #[cycle(framing)]
 #[inline(never)]
-fn read_to_end_marker<'a>(
-    i: &'a [u8],
-    budget: usize,
-    count: &mut HeaderCount,
-) -> IResult<&'a [u8], &'a [u8], BerError>
+fn read_to_end_marker(i: &[u8], budget: usize) -> IResult<&[u8], &[u8], BerError>
     requires { 1 ≤ budget }
-    ensures found { MatchAnswer result
+    ensures { MatchAnswer result
         (λ x. BeginsWithContent i.now Length.Indefinite budget x.1.now x.0.now)
         (ContentRefuses i.now Length.Indefinite budget)
         (ContentLacks i.now Length.Indefinite budget)
         ⊥ }
-    ensures counted { (min count.old (2 ^ 128 - 1) ≤ count.new) × (count.new ≤ count.old + length i.now + 1) }
-    ensures counted_ok { IfOk result (λ x. count.new + length x.0.now ≤ count.old + length i.now) }
 {
     let mut rest = i;
     'elements: loop {
-        let (behind, header) = ber_header_counted(rest, count)?;
+        let (behind, header) = ber_read_element_header(rest)?;
         if budget == 1 {
             return Err(Err::Error(BerError::BerMaxDepth));
         }
         if begins_with_end_marker(rest) {
             return Ok((behind, &i[..i.len() - rest.len()]));
         }
-        let (after, _) = read_content(behind, header.length(), budget - 1, count)?;
+        let (after, _) = read_content(behind, header.length(), budget - 1)?;
         rest = after;
     }
 }
@@ -86,7 +73,9 @@ fn read_to_end_marker<'a>(
 /// Whether the two octets of an end marker stand in front (X.690 8.1.5).
 #[inline]
 pub fn begins_with_end_marker(i: &[u8]) -> bool
-    ensures { MatchBool result ((rest : List ℕ) × (i.now ≡ end_marker ++ rest)) ((rest : List ℕ) → ¬ (i.now ≡ end_marker ++ rest)) }
+    ensures { MatchBool result
+        ((rest : List ℕ) × (i.now ≡ end_marker ++ rest))
+        ((rest : List ℕ) → ¬ (i.now ≡ end_marker ++ rest)) }
 {
     matches!(i, [0, 0, ..])
 }

@@ -1,5 +1,5 @@
 -- Elements that were read in front of a list, and what the list behind them shows.
-use Rattle.std.proofs.Common.{◌≡◌, ℕ, ◌-◌, ◌<◌, ◌≤◌, Bool, true, List, [], ◌∷◌, ◌++◌, length, refl, sym, ap, subst, ◌∙◌, arith, append_assoc, length-append, ◌⊎◌, inl, inr, ⊎_elim, append-nil}
+use Rattle.std.proofs.Common.{◌≡◌, ℕ, ◌+◌, ◌-◌, ◌<◌, ◌≤◌, Bool, true, List, [], ◌∷◌, ◌++◌, length, refl, sym, ap, subst, ◌∙◌, arith, append_assoc, length-append, ◌⊎◌, inl, inr, ⊎_elim, append-nil}
 use Rattle.der_base.specs.declared.header.Class.{Class}
 use Rattle.der_base.specs.declared.header.Length.{Length}
 use Rattle.der_base.specs.declared.header.Length.TheVariants.{Definite, Indefinite}
@@ -35,13 +35,20 @@ pub some_header : {i : List ℕ} → HasHeader i → HasSomeHeader i
 some_header (p, s, (c, t, ht, e), inl (l, r, n, d, hl)) = (c, p, t, Definite n, r, record { following = s; octets = e; number = ht; length = (l, hl, d) })
 some_header (p, s, (c, t, ht, e), inr (ep, r, d)) = (c, p, t, Indefinite, r, record { following = s; octets = e; number = ht; length = (ep, d) })
 
--- a header takes an octet at least
-pub header_shorter : (i behind : List ℕ) (c : Class) (p : Bool) (t : ℕ) (l : Length) → BeginsWithHeader i c p t l behind → length behind < length i
-header_shorter i behind c p t l h = omega (arith, identifier_octets c p t, behind_length l h.length, ap length h.octets, length-append (identifier c p t) h.following)
+-- a header takes two octets at least, one of the identifier and one of the length
+pub header_takes_two : (i behind : List ℕ) (c : Class) (p : Bool) (t : ℕ) (l : Length) → BeginsWithHeader i c p t l behind → length behind + 2 ≤ length i
+header_takes_two i behind c p t l h = omega (arith, identifier_octets c p t, behind_length l h.length, ap length h.octets, length-append (identifier c p t) h.following)
   where
-    behind_length : (l : Length) → BeginsWithLength h.following p l behind → length behind ≤ length h.following
-    behind_length (Definite n) g = omega (arith, ap length g.2, length-append g.0 behind)
+    some_length : (s : List ℕ) (n : ℕ) → SpellsLength s n → 1 ≤ length s
+    some_length [] n g = absurd g.1
+    some_length (b ∷ s) n g = omega arith
+
+    behind_length : (l : Length) → BeginsWithLength h.following p l behind → length behind + 1 ≤ length h.following
+    behind_length (Definite n) g = omega (arith, some_length g.0 n g.1, ap length g.2, length-append g.0 behind)
     behind_length Indefinite g = omega (arith, ap length g.1)
+
+pub header_shorter : (i behind : List ℕ) (c : Class) (p : Bool) (t : ℕ) (l : Length) → BeginsWithHeader i c p t l behind → length behind < length i
+header_shorter i behind c p t l h = omega (arith, header_takes_two i behind c p t l h)
 
 pub behind_marker : (i x behind : List ℕ) (c : Class) (p : Bool) (t : ℕ) (l : Length) → i ≡ end_marker ++ x → BeginsWithHeader i c p t l behind → behind ≡ x
 behind_marker i x behind c p t l e h = (ber_header_same i behind x c _ p _ t _ l _ h (marker_has_header i x e)).rest

@@ -11,13 +11,13 @@ use lib.ListN.{set}
 use Rattle.der_base.specs.Spelling.{end_marker}
 use Rattle.der_base.proofs.Answers.Answering.{passed_on}
 use Rattle.der_base.proofs.Framing.FramingCuts.{lacks_header, lacks_content, refuses_content}
-use Rattle.der_base.proofs.Framing.FramingLists.{has_header, header_shorter, none_at_zero, behind_marker}
+use Rattle.der_base.proofs.Framing.FramingLists.{has_header, header_takes_two, none_at_zero, behind_marker}
 use Rattle.der_base.proofs.Framing.Recording.{spans_are_elements, one_more_span, span_octets_append}
 use Rattle.der_base.proofs.Framing.FramedIsSpelling.{are_raws}
 use Rattle.der_base.proofs.spans.+recording.Goals as goal
 
 pub record_to_end_marker-elements-init : goal.record_to_end_marker-elements-init
-record_to_end_marker-elements-init t c = (([], [], no_spans, refl, sym (append-nil c.args.spans.now.items)), omega arith)
+record_to_end_marker-elements-init t c = (([], [], no_spans, refl, sym (append-nil c.args.spans.now.items)), omega arith, omega arith)
 
 -- the header is refused or cut
 pub record_to_end_marker-returns-in_err-behind-clause-found : goal.record_to_end_marker-returns-in_err-behind-clause-found
@@ -77,30 +77,35 @@ record_to_end_marker-returns-in_err-rest-clause-found t c =
 
 -- counts
 
-pub record_to_end_marker-returns-in_err-behind-clause-counted : goal.record_to_end_marker-returns-in_err-behind-clause-counted
-record_to_end_marker-returns-in_err-behind-clause-counted t c =
+pub record_to_end_marker-returns-in_err-behind-clause-bounded : goal.record_to_end_marker-returns-in_err-behind-clause-bounded
+record_to_end_marker-returns-in_err-behind-clause-bounded t c =
     let u = c.elements.invariant.0 in
     let o = ap span_octets u.4 ∙ span_octets_append c.args.spans.now.items u.1 in
-    omega (arith, o, c.elements.invariant.1, c.in_err-behind.ensures.counted)
+    omega (arith, o, c.elements.invariant.2, c.in_err-behind.ensures.counted)
 
-pub record_to_end_marker-returns-then-budget-eq1-clause-counted : goal.record_to_end_marker-returns-then-budget-eq1-clause-counted
-record_to_end_marker-returns-then-budget-eq1-clause-counted t c =
+pub record_to_end_marker-returns-then-budget-eq1-clause-bounded : goal.record_to_end_marker-returns-then-budget-eq1-clause-bounded
+record_to_end_marker-returns-then-budget-eq1-clause-bounded t c =
     let u = c.elements.invariant.0 in
     let o = ap span_octets u.4 ∙ span_octets_append c.args.spans.now.items u.1 in
-    omega (arith, o, c.elements.invariant.1, c.in_ok-behind.ensures.counted)
+    omega (arith, o, c.elements.invariant.2, c.in_ok-behind.ensures.counted)
 
-pub record_to_end_marker-returns-then-begins_with_end_marker-clause-counted : goal.record_to_end_marker-returns-then-begins_with_end_marker-clause-counted
-record_to_end_marker-returns-then-begins_with_end_marker-clause-counted t c =
+pub record_to_end_marker-returns-then-begins_with_end_marker-clause-bounded : goal.record_to_end_marker-returns-then-begins_with_end_marker-clause-bounded
+record_to_end_marker-returns-then-begins_with_end_marker-clause-bounded t c =
     let u = c.elements.invariant.0 in
     let o = ap span_octets u.4 ∙ span_octets_append c.args.spans.now.items u.1 in
-    omega (arith, o, c.elements.invariant.1, c.in_ok-behind.ensures.counted)
+    omega (arith, o, c.elements.invariant.2, c.in_ok-behind.ensures.counted)
 
-pub record_to_end_marker-returns-in_err-rest-clause-counted : goal.record_to_end_marker-returns-in_err-rest-clause-counted
-record_to_end_marker-returns-in_err-rest-clause-counted t c =
+pub record_to_end_marker-returns-then-begins_with_end_marker-clause-bounded_ok : goal.record_to_end_marker-returns-then-begins_with_end_marker-clause-bounded_ok
+record_to_end_marker-returns-then-begins_with_end_marker-clause-bounded_ok t c =
+    let s = header_takes_two _ _ _ _ _ _ c.in_ok-behind.ensures.exactly.found.begins in
+    omega (arith, s, c.elements.invariant.2, c.in_ok-behind.ensures.counted)
+
+pub record_to_end_marker-returns-in_err-rest-clause-bounded : goal.record_to_end_marker-returns-in_err-rest-clause-bounded
+record_to_end_marker-returns-in_err-rest-clause-bounded t c =
     let u = c.elements.invariant.0 in
     let o = ap span_octets u.4 ∙ span_octets_append c.args.spans.now.items u.1 in
-    let s = header_shorter _ _ _ _ _ _ c.in_ok-behind.ensures.exactly.found.begins in
-    omega (arith, o, s, c.elements.invariant.1, c.in_ok-behind.ensures.counted, c.in_err-rest.ensures.counted)
+    let s = header_takes_two _ _ _ _ _ _ c.in_ok-behind.ensures.exactly.found.begins in
+    omega (arith, o, s, c.elements.invariant.2, c.in_ok-behind.ensures.counted, c.in_err-rest.ensures.bounded)
 
 pub record_to_end_marker-elements-preserved : goal.record_to_end_marker-elements-preserved
 record_to_end_marker-elements-preserved t c =
@@ -111,12 +116,17 @@ record_to_end_marker-elements-preserved t c =
     let u = c.elements.invariant.0 in
     let h = c.in_ok-behind.header in
     let g = c.in_ok-behind.ensures.exactly.found in
-    let s = header_shorter rest behind _ _ _ _ g.begins in
+    let s = header_takes_two rest behind _ _ _ _ g.begins in
     let r = c.in_ok-rest.ensures in
     let o = one_more_span i rest behind c.in_ok-rest.rest.now u.0 u.1 r.found.0 (k - 1) h (omega arith) u.2 u.3 g r.found.2 c.if-begins_with_end_marker.ensures in (
       (o.0, u.1 ++ r.found.0, o.1, o.2, r.found.1 ∙ ap (λ v. v ++ r.found.0) u.4 ∙ append_assoc c.args.spans.now.items u.1 r.found.0),
-      omega (arith, s, c.elements.invariant.1, c.in_ok-behind.ensures.counted, r.counted_ok),
+      omega (arith, c.elements.invariant.1, c.in_ok-behind.ensures.counted, r.counted),
+      omega (arith, s, c.elements.invariant.2, c.in_ok-behind.ensures.counted, r.bounded_ok),
     )
+
+pub record_to_end_marker-returns-then-begins_with_end_marker-clause-counted : goal.record_to_end_marker-returns-then-begins_with_end_marker-clause-counted
+record_to_end_marker-returns-then-begins_with_end_marker-clause-counted t c =
+    omega (arith, c.elements.invariant.1, c.in_ok-behind.ensures.counted)
 
 -- one element of indefinite length
 
@@ -145,8 +155,23 @@ record_open-returns-clause-found t c =
       },
     )
 
-pub record_open-returns-clause-counted_ok : goal.record_open-returns-clause-counted_ok
-record_open-returns-clause-counted_ok t c =
+pub record_open-returns-clause-counted : goal.record_open-returns-clause-counted
+record_open-returns-clause-counted t c =
+    let items = c.args.spans.now.items in
+    let h = c.args.header in
+    let w = c.in_ok-rest.bytes in
+    let f = c.in_ok-rest.ensures.found in
+    let p : Span = record { element = record { header = h; bytes = c.args.behind }; inside = 0 } in
+    let s : Span = record { element = record { header = h; bytes = w }; inside = c.len.result - c.len-place.result - 1 } in
+    let whole : c.record_to_end_marker.new.spans.items ≡ items ++ p ∷ f.1 = f.2 ∙ ap (λ v. v ++ f.1) c.in_ok-push.ensures.items ∙ append_assoc items (p ∷ []) f.1 in
+    let place : length items ≡ c.len-place.result = sym c.args.spans.now.ok.0 ∙ sym c.len-place.ensures in
+    let new = ap (λ v. length (set v c.len-place.result s)) whole ∙ ap length (set_at items p f.1 s c.len-place.result place) ∙ length-append items (s ∷ f.1) in
+    let old = ap length whole ∙ length-append items (p ∷ f.1) in
+    let pushed = ap length c.in_ok-push.ensures.items ∙ length-append items (p ∷ []) in
+    omega (arith, new, old, pushed, c.in_ok-rest.ensures.counted)
+
+pub record_open-returns-clause-bounded_ok : goal.record_open-returns-clause-bounded_ok
+record_open-returns-clause-bounded_ok t c =
     let items = c.args.spans.now.items in
     let h = c.args.header in
     let w = c.in_ok-rest.bytes in
@@ -161,7 +186,7 @@ record_open-returns-clause-counted_ok t c =
     let pushed = ap span_octets c.in_ok-push.ensures.items ∙ span_octets_append items (p ∷ []) in
     let z : open_octets (length_of h) w.now ≡ 0 = ap (λ l. open_octets l w.now) e in
     let y : open_octets (length_of h) c.args.behind.now ≡ 0 = ap (λ l. open_octets l c.args.behind.now) e in
-    omega (arith, new, old, pushed, z, y, c.in_ok-rest.ensures.counted_ok)
+    omega (arith, new, old, pushed, z, y, c.in_ok-rest.ensures.bounded_ok)
 
 -- one of a definite length
 
@@ -182,17 +207,17 @@ record_to_end_marker-returns-in_err-after-clause-found t c =
     (λ n r. lacks_content i u.0 rest behind k n (class_of h) (is_constructed h) (number_of h) (length_of h) (omega arith) us u.3 b (subst (λ v. ContentLacks behind v (k - 1) n) (sym l) r))
     (λ m. absurd m))
 
-pub record_to_end_marker-returns-in_err-after-clause-counted : goal.record_to_end_marker-returns-in_err-after-clause-counted
-record_to_end_marker-returns-in_err-after-clause-counted t c =
+pub record_to_end_marker-returns-in_err-after-clause-bounded : goal.record_to_end_marker-returns-in_err-after-clause-bounded
+record_to_end_marker-returns-in_err-after-clause-bounded t c =
     let u = c.elements.invariant.0 in
     let o = ap span_octets u.4 ∙ span_octets_append c.args.spans.now.items u.1 in
-    omega (arith, o, c.elements.invariant.1, c.in_ok-behind.ensures.counted)
+    omega (arith, o, c.elements.invariant.2, c.in_ok-behind.ensures.counted)
 
-pub record_to_end_marker-returns-in_err-push-clause-counted : goal.record_to_end_marker-returns-in_err-push-clause-counted
-record_to_end_marker-returns-in_err-push-clause-counted t c =
+pub record_to_end_marker-returns-in_err-push-clause-bounded : goal.record_to_end_marker-returns-in_err-push-clause-bounded
+record_to_end_marker-returns-in_err-push-clause-bounded t c =
     let u = c.elements.invariant.0 in
     let o = ap span_octets u.4 ∙ span_octets_append c.args.spans.now.items u.1 in
-    omega (arith, o, c.elements.invariant.1, c.in_ok-behind.ensures.counted)
+    omega (arith, o, c.elements.invariant.2, c.in_ok-behind.ensures.counted)
 
 pub record_to_end_marker-elements-preserved-in-Definite : goal.record_to_end_marker-elements-preserved-in-Definite
 record_to_end_marker-elements-preserved-in-Definite t c =
@@ -217,10 +242,11 @@ record_to_end_marker-elements-preserved-in-Definite t c =
       content = subst (λ v. BeginsWithContent behind v (k - 1) w.now after) (sym l) f;
       recorded = subst (λ v. AreInside v [] w.now (k - 1 - 1)) (sym l) refl;
     } in
-    let shorter = header_shorter rest behind _ _ _ _ g.begins in
+    let shorter = header_takes_two rest behind _ _ _ _ g.begins in
     let o = one_more_span i rest behind after u.0 u.1 (s ∷ []) (k - 1) h (omega arith) u.2 u.3 g r c.if-begins_with_end_marker.ensures in
     let z : open_octets (length_of h) w.now ≡ length w.now = ap (λ v. open_octets v w.now) l in
     let pushed = ap span_octets c.in_ok-push.ensures.items ∙ span_octets_append c.elements.spans.items (s ∷ []) in (
       (o.0, u.1 ++ s ∷ [], o.1, o.2, c.in_ok-push.ensures.items ∙ ap (λ v. v ++ s ∷ []) u.4 ∙ append_assoc c.args.spans.now.items u.1 (s ∷ [])),
-      omega (arith, shorter, pushed, z, ap length f.1, length-append w.now after, c.elements.invariant.1, c.in_ok-behind.ensures.counted),
+      omega (arith, ap length c.in_ok-push.ensures.items, length-append c.elements.spans.items (s ∷ []), c.elements.invariant.1, c.in_ok-behind.ensures.counted),
+      omega (arith, shorter, pushed, z, ap length f.1, length-append w.now after, c.elements.invariant.2, c.in_ok-behind.ensures.counted),
     )
