@@ -6,4 +6,6 @@ pub mod Contents
 pub mod DerFaults
 pub mod DerLacking
 pub mod DerWithinBer
+pub mod FrontsAreCut
 pub mod NormalForm
+pub mod StableAnswers
