@@ -22,7 +22,7 @@ use Rattle.der_object.specs.HeaderFacts.{inner_forms}
 use Rattle.der_object.specs.Readings.{content_value_of}
 use Rattle.der_object.specs.View.{content_tree}
 use Rattle.der_ber.specs.BerReading.{ContentRefuses}
-use Rattle.der_ber.specs.BerContents.{FramesContent, FrameRefuses, FrameLacks, IsContentAs, ReadsContentAs, SpellsContentAs, ContentAsRefuses}
+use Rattle.der_ber.specs.BerContents.{FramesContent, FrameRefuses, FrameLacks, IsContentAs, ReadsContentAs, SpellsContentAs, ContentAsRefuses, ContentAsNeedsMemory, FramingAsNeedsMemory}
 use Rattle.der_ber.proofs.Items.{content_refused}
 
 -- framing
@@ -127,6 +127,11 @@ content_as_refusal_same l p d t i e e' h (inr (w, rest, f, r)) (inr (w', rest', 
 pub content_as_refused_not_lacking : (l : Length) (p : Bool) (d t : ℕ) (i : List ℕ) (e : Refusal) (n : ℕ) → ContentAsRefuses t l p d i e → FrameLacks l p d i n → ⊥
 content_as_refused_not_lacking l p d t i e n (inl r) k = frame_refused_not_lacking l p d i e n r k
 content_as_refused_not_lacking l p d t i e n (inr (w, rest, f, r)) k = frames_not_lacking l p d i w rest n f k
+
+-- octets that are cut short are no whole list: they want memory for what framing keeps alone
+pub cut_content_needs : (t : ℕ) (l : Length) (p : Bool) (d : ℕ) (i : List ℕ) (n : ℕ) → FrameLacks l p d i n → ContentAsNeedsMemory t l p d i → FramingAsNeedsMemory l p d
+cut_content_needs t l p d i n k (inl (two, list, q, w, rest, some, f)) = absurd (frames_not_lacking l p d i w rest n f k)
+cut_content_needs t l p d i n k (inr m) = m
 
 -- of a content, a refusal and a lack, an input shows one at most
 pub content_shows_one : (t : ℕ) (l : Length) (p : Bool) (d : ℕ) (i : List ℕ) → t < 2 ^ 32 → ShowsOne content_value_of (λ x. ReadsContentAs t l p d i x.1 x.0.now) (SpellsContentAs t l p d i) (ContentAsRefuses t l p d i) (FrameLacks l p d i)

@@ -4,7 +4,7 @@ use Rattle.der_base.specs.declared.header.Class.{Class}
 use Rattle.der_base.specs.declared.header.Header.{Header}
 use Rattle.der_base.specs.declared.header.Length.{Length}
 use Rattle.der_base.specs.Header.{class_of, is_constructed, length_of}
-use Rattle.der_base.specs.Headers.{BeginsWithHeader}
+use Rattle.der_base.specs.Headers.{BehindHeader, BeginsWithHeader}
 use Rattle.der_base.specs.Refusal.{Refusal, unexpected_tag}
 use Rattle.der_base.specs.Tree.{Node, Content, node}
 use Rattle.der_base.proofs.Headers.BerHeaders.{ber_header_same, ber_header_not_refused, ber_header_not_lacking, ber_header_refusal_same}
@@ -15,8 +15,8 @@ use Rattle.der_object.specs.HeaderFacts.{inner_forms}
 use Rattle.der_base.proofs.Answers.Exactness.{ShowsOne}
 use Rattle.der_object.specs.Readings.{value_of}
 use Rattle.der_object.specs.View.{tree, content_tree}
-use Rattle.der_ber.specs.BerContents.{FramesContent, FrameLacks, IsContentAs, ReadsContentAs, ContentAsRefuses, ReadsHeaderOf, ReadsTyped, BeginsWithTyped, HeaderOfRefuses, SpellsTyped, TypedRefuses, TypedLacks}
-use Rattle.der_ber.proofs.ContentLaws.{frames_not_lacking, frame_lacks_same, content_as_same, content_as_not_refused, content_as_refusal_same, content_as_refused_not_lacking}
+use Rattle.der_ber.specs.BerContents.{FramesContent, FrameLacks, IsContentAs, ReadsContentAs, ContentAsRefuses, ReadsHeaderOf, ReadsTyped, BeginsWithTyped, HeaderOfRefuses, SpellsTyped, TypedRefuses, TypedLacks, TypedNeedsMemory, FramingAsNeedsMemory}
+use Rattle.der_ber.proofs.ContentLaws.{frames_not_lacking, frame_lacks_same, content_as_same, content_as_not_refused, content_as_refusal_same, content_as_refused_not_lacking, cut_content_needs}
 
 -- two headers in front are one: so what is said of the octets behind one is said of those behind the other
 behind_same : (P : Length → Bool → List ℕ → Type 0) (i v v' : List ℕ) (c c' : Class) (p p' : Bool) (t t' : ℕ) (l l' : Length) → BeginsWithHeader i c p t l v → BeginsWithHeader i c' p' t' l' v' → P l' p' v' → P l p v
@@ -104,6 +104,12 @@ spelled_not_refused t i (node c p n x, rest) e fits (q, b) r = typed_not_refused
 
 spelled_not_lacking : (t : ℕ) (i : List ℕ) (v : Node × List ℕ) (n : ℕ) → SpellsTyped t i v → TypedLacks t i n → ⊥
 spelled_not_lacking t i (node c p m x, rest) n (q, b) h = typed_not_lacking t i c p x rest n b h
+
+-- an input that is cut short is no whole list
+pub cut_typed_needs : (t : ℕ) (i : List ℕ) (n : ℕ) → TypedLacks t i n → TypedNeedsMemory t i → BehindHeader t i (λ l p v. FramingAsNeedsMemory l p 50)
+cut_typed_needs t i n (inl h) (c, p, l, v, b, m) = absurd (ber_header_not_lacking i v c p t l n b h.1)
+cut_typed_needs t i n (inr (c', p', l', v', b', h)) (c, p, l, v, b, m) =
+    (c, p, l, v, b, cut_content_needs t l p 50 v n (behind_same (λ l p v. FrameLacks l p 50 v n) i v v' c c' p p' t t l l' b b' h) m)
 
 -- of an object of one number, a refusal and a lack, an input shows one at most
 pub typed_shows_one : (t : ℕ) (i : List ℕ) → t < 2 ^ 32 → ShowsOne value_of (λ x. ReadsTyped t i x.1 x.0.now) (SpellsTyped t i) (TypedRefuses t i) (TypedLacks t i)
