@@ -13,7 +13,7 @@ use Rattle.der_base.proofs.Spellings.DerFaults.{spelled_shows_nothing, shows_one
 use Rattle.der_base.proofs.Spellings.DerWithinBer.{valid_element, der_spelling_same, element_header}
 use Rattle.der_base.proofs.Octets.Identifiers.{fronts_same}
 use Rattle.der_der.specs.DerReading.{IsDerContentOf, ContentRefuses}
-use Rattle.der_der.specs.DerContents.{FramesContent, FrameRefuses, FrameLacks, ReadingRefuses}
+use Rattle.der_der.specs.DerContents.{FramesContent, FrameRefuses, FrameLacks, ReadingRefuses, ReadingNeedsMemory}
 use Rattle.der_der.proofs.Items.{content_refused, universal_or_not}
 
 -- framing
@@ -100,3 +100,7 @@ refusal_same c p t l d i e e' h (inr (w, rest, f, r)) (inr (w', rest', f', r')) 
 pub refused_not_lacking : (c : Class) (p : Bool) (t : ℕ) (l : Length) (d : ℕ) (i : List ℕ) (e : Refusal) (n : ℕ) → ReadingRefuses c t l p d i e → FrameLacks c l i n → ⊥
 refused_not_lacking c p t l d i e n (inl r) k = frame_refused_not_lacking c l d i e n r k
 refused_not_lacking c p t l d i e n (inr (w, rest, f, r)) k = frames_not_lacking c l d i w rest n f k
+
+-- a list that is cut short is no whole one, so it wants no memory
+pub reading_not_lacking : (c : Class) (t : ℕ) (l : Length) (p : Bool) (d : ℕ) (i : List ℕ) (n : ℕ) → ReadingNeedsMemory c t l p d i → FrameLacks c l i n → ⊥
+reading_not_lacking c t l p d i n (two, u, list, q, w, rest, some, f) k = frames_not_lacking c l d i w rest n f k
