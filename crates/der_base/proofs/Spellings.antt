@@ -3,6 +3,7 @@ pub mod AppendedBer
 pub mod AppendedDer
 pub mod BerFaults
 pub mod Contents
+pub mod Counted
 pub mod DerFaults
 pub mod DerLacking
 pub mod DerWithinBer
