@@ -18,7 +18,7 @@ use Rattle.der_object.specs.Readings.{value_of}
 use Rattle.der_object.specs.View.{tree, content_tree}
 use Rattle.der_der.specs.DerReading.{IsDerContentOf}
 use Rattle.der_der.specs.DerContents.{FramesContent, FrameLacks, ReadsContentAs, ReadingRefuses, ReadsHeaderOf, ReadsTyped, BeginsWithTyped, HeaderOfRefuses, SpellsTyped, TypedRefuses, TypedLacks, TypedNeedsMemory}
-use Rattle.der_der.proofs.ContentLaws.{frames_not_lacking, reading_not_lacking, frame_lacks_same, content_same, content_not_refused, refusal_same, refused_not_lacking}
+use Rattle.der_der.proofs.ContentLaws.{frames_not_lacking, cut_content_needs_none, frame_lacks_same, content_same, content_not_refused, refusal_same, refused_not_lacking}
 
 -- two headers in front are one: so what is said of the octets behind one is said of those behind the other
 behind_same : (P : ℕ → Bool → List ℕ → Type 0) (i v v' : List ℕ) (c c' : Class) (p p' : Bool) (t t' m m' : ℕ) → BeginsWithDerHeader i c p t m v → BeginsWithDerHeader i c' p' t' m' v' → P m' p' v' → P m p v
@@ -131,8 +131,8 @@ cut_typed_needs_none t i n h m = lacks_needs_none h (of_list (is_list t) (TypedN
     lacks_needs_none : TypedLacks t i n → TypedNeedsMemory t i → ⊥
     lacks_needs_none (inl h) (c, p, m, v, b, k) = der_header_not_lacking i v c p t m n b h.1
     lacks_needs_none (inr (c', p', m', v', b', h)) (c, p, m, v, b, k) =
-        reading_not_lacking Universal t (Definite m) p 50 v n k
-        (behind_same (λ m p v. FrameLacks Universal (Definite m) v n) i v v' c c' p p' t t m m' b b' h)
+        cut_content_needs_none Universal t (Definite m) p 50 v n
+        (behind_same (λ m p v. FrameLacks Universal (Definite m) v n) i v v' c c' p p' t t m m' b b' h) k
 
 -- only a list needs memory
 pub list_needs : (t : ℕ) (i : List ℕ) → TypedNeedsMemory t i → MatchBool (is_list t) (TypedNeedsMemory t i) ⊥
