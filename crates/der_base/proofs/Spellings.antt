@@ -7,4 +7,6 @@ pub mod Counted
 pub mod DerFaults
 pub mod DerLacking
 pub mod DerWithinBer
+pub mod FrontsAreCut
 pub mod NormalForm
+pub mod StableAnswers

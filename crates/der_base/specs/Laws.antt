@@ -1,12 +1,13 @@
 -- Laws of the definitions.
 use Rattle.std.specs.Prelude.{◌≡◌, ◌≢◌, ℕ, ◌-◌, ◌%◌, ◌^◌, ◌<◌, ◌≤◌, ◌⊎◌, ◌↔◌, Bool, false, IsTrue, pos, List, [], ◌∷◌, ◌++◌, length, slice_index, All}
 use Rattle.der_base.specs.Encoding.{encoding, content_octets}
-use Rattle.der_base.specs.Fault.{ShowsFault, DerShowsFault}
+use Rattle.der_base.specs.Fault.{BerHeaderRefuses, DerHeaderRefuses, ShowsFault, DerShowsFault}
 use Rattle.der_base.specs.Leaf.{is_list, is_mapped, IsLeafContent, IsDerLeaf, IsMinimalInteger, HasZeroUnusedBits}
 use Rattle.der_base.specs.LeafRefusal.{BerLeafRefuses, DerLeafRefuses}
 use Rattle.der_base.specs.Octets.{number, octets, groups, groups_value, integer_value, shortest_integer, shortest_length, SpellsAnyLength}
 use Rattle.der_base.specs.Refusal.{Refusal}
 use Rattle.der_base.specs.Spelling.{BerSpells, DerSpells, framing_budget}
+use Rattle.der_base.specs.Stable.{BerIsCut, DerIsCut, BeginsNoHeader, BeginsNoDerHeader, FrontsAreCut}
 use Rattle.der_base.specs.Tree.{Node, Content}
 
 abbrev pub AreOctets : List ℕ → Type 0
@@ -117,6 +118,20 @@ AppendedLeaveFaults faults = (d : ℕ) (i z : List ℕ) (e : Refusal) → faults
 abbrev pub AppendedLengthenRests : (ℕ → List ℕ → Node → List ℕ → Type 0) → Type 0
 AppendedLengthenRests begins = (d : ℕ) (i z rest : List ℕ) (o : Node) → begins d i o rest
     → begins d (i ++ z) o (rest ++ z) × ((d' : ℕ) (rest' : List ℕ) (o' : Node) → begins d' (i ++ z) o' rest' → (o' ≡ o) × (rest' ≡ rest ++ z))
+
+-- behind a header that is refused no octets make one
+abbrev pub BerRefusedBeginsNone : Type 0
+BerRefusedBeginsNone = (i : List ℕ) (e : Refusal) → BerHeaderRefuses i e → BeginsNoHeader i
+
+abbrev pub DerRefusedBeginsNone : Type 0
+DerRefusedBeginsNone = (i : List ℕ) (e : Refusal) → DerHeaderRefuses i e → BeginsNoDerHeader i
+
+-- each proper front of a spelling is cut short: it lacks some number of octets, and shows no refusal
+abbrev pub BerFrontsAreCut : Type 0
+BerFrontsAreCut = (d : ℕ) (b : List ℕ) (o : Node) → BerSpells b o d framing_budget → FrontsAreCut BerIsCut d b
+
+abbrev pub DerFrontsAreCut : Type 0
+DerFrontsAreCut = (d : ℕ) (b : List ℕ) (o : Node) → DerSpells b o d → FrontsAreCut DerIsCut d b
 
 -- what is written for a tree that BER spells, up to 2^64-1 octets, spells it too, to the same depth: it is a normal form
 abbrev pub EncodingIsNormalForm : Type 0

@@ -22,6 +22,7 @@ pub mod OidArcs
 pub mod Oids
 pub mod Refusal
 pub mod Spelling
+pub mod Stable
 pub mod Text
 pub mod Time
 pub mod Tree

@@ -22,6 +22,10 @@ ghost use Rattle.der_base.specs.Laws.{
   DerSpellingsShowNoFault,
   AppendedLeaveFaults,
   AppendedLengthenRests,
+  BerRefusedBeginsNone,
+  DerRefusedBeginsNone,
+  BerFrontsAreCut,
+  DerFrontsAreCut,
   EncodingIsNormalForm,
 };
 ghost use Rattle.der_base.specs.Fault.{ShowsFault, DerShowsFault};
@@ -100,6 +104,19 @@ pub fn appended_only_lengthen()
     ensures der { AppendedLeaveFaults DerShowsFault }
     ensures spelled { AppendedLengthenRests BeginsWithBer }
     ensures der_spelled { AppendedLengthenRests BeginsWithDer }
+{}
+
+/// Where a header is refused, no header begins the input, whatever octets follow.
+pub fn refused_headers_stay_refused()
+    ensures ber { BerRefusedBeginsNone }
+    ensures der { DerRefusedBeginsNone }
+{}
+
+/// Each proper front of a spelling is cut short: it lacks some number of octets, and shows no
+/// refusal.
+pub fn fronts_are_cut()
+    ensures ber { BerFrontsAreCut }
+    ensures der { DerFrontsAreCut }
 {}
 
 /// What is written for a tree that BER spells spells it too: it is a normal form (X.690 8.1).
