@@ -1,20 +1,40 @@
 -- An object that begins the input, and an input that is cut short: one of them holds at most, and each in one way.
-use Rattle.std.proofs.Common.{◌≡◌, ℕ, List, ◌++◌, sym, ap, ◌∙◌}
+use Rattle.std.proofs.Common.{◌≡◌, ℕ, ◌^◌, ◌<◌, ◌≤◌, Bool, true, List, ◌++◌, length, sym, ap, ◌∙◌, arith, append_assoc, inl}
+use Rattle.der_base.specs.declared.header.Class.{Class}
+use Rattle.der_base.specs.declared.header.Class.TheVariants.{Universal}
+use Rattle.der_base.specs.Cut.{IsCut}
+use Rattle.der_base.specs.Headers.{BeginsWithDerHeader}
+use Rattle.der_base.specs.Octets.{identifier, shortest_length}
 use Rattle.der_base.specs.Spelling.{BeginsWithDer, DerSpells}
 use Rattle.der_base.specs.Tree.{Node}
+use Rattle.der_base.proofs.Framing.Shapes.{cut_is_none}
+use Rattle.der_base.proofs.Octets.ShortestLengths.{shortest_spells}
 use Rattle.der_base.proofs.Spellings.DerLacking.{der_lacks_same}
 use Rattle.der_base.proofs.Spellings.DerWithinBer.{der_spelling_same, der_spelled_not_cut}
 use Rattle.der_base.proofs.Spellings.DerFaults.{spelled_shows_nothing, shows_one}
 use Rattle.der_base.proofs.Answers.Exactness.{ShowsOne}
 use Rattle.der_base.specs.Fault.{DerShowsFault}
 use Rattle.der_object.specs.Readings.{value_of}
-use Rattle.der_der.specs.DerReading.{DerIsCut, ReadsDer}
+use Rattle.der_der.specs.DerReading.{DerIsCut, NeedsMemory, ReadsDer}
 
 pub spelled_not_cut : (d : ℕ) (i b rest : List ℕ) (o : Node) (n : ℕ) → i ≡ b ++ rest → DerSpells b o d → DerIsCut d i n → ⊥
 spelled_not_cut d i b rest o n q s k = der_spelled_not_cut i b rest o d s q k.0
 
 pub cut_same : (d : ℕ) (i : List ℕ) (n n' : ℕ) → DerIsCut d i n → DerIsCut d i n' → n ≡ n'
 cut_same d i n n' h h' = der_lacks_same i n n' h.1 h'.1
+
+-- an element whose content octets are all there is not cut short
+whole_not_cut : (i : List ℕ) (c : Class) (p : Bool) (t : ℕ) (w rest : List ℕ)
+    → BeginsWithDerHeader i c p t (length w) (w ++ rest) → IsCut i → ⊥
+whole_not_cut i c p t w rest b k =
+    let s = shortest_length (length w) in
+    let one : 1 ≤ 1 = omega arith in
+    let octets = b.octets ∙ sym (append_assoc (identifier c p t ++ s) w rest) in
+    cut_is_none i 1 c p t w rest k (b.number, one, inl (s, shortest_spells (length w) b.length, octets))
+
+-- an input that is cut short begins with no whole list, so it wants no memory
+pub cut_needs_none : (d : ℕ) (i : List ℕ) (n : ℕ) → DerIsCut d i n → NeedsMemory d i → ⊥
+cut_needs_none d i n k (two, (t, w, rest, list, some, b)) = whole_not_cut i Universal true t w rest b k.0
 
 pub spelled_same : (d : ℕ) (i b b' rest rest' : List ℕ) (o o' : Node) → i ≡ b ++ rest → DerSpells b o d → i ≡ b' ++ rest' → DerSpells b' o' d → (o ≡ o') × (rest ≡ rest')
 spelled_same d i b b' rest rest' o o' q s q' s' = let z = der_spelling_same b b' rest rest' o o' d d s s' (sym q ∙ q') in (z.1, z.2)

@@ -18,7 +18,7 @@ use Rattle.der_object.specs.declared.object.BerObject.{BerObject}
 use Rattle.der_object.specs.declared.object.BerObjectContent.{BerObjectContent}
 use Rattle.der_object.specs.declared.object.BerObjectContent.TheVariants.{Unknown}
 use Rattle.der_object.specs.HeaderFacts.{EachInside, KeepsHeader, HasDerHeader}
-use Rattle.der_object.specs.Readings.{Answer, value_of}
+use Rattle.der_object.specs.Readings.{Answer, value_of, ContentAnswer, content_value_of}
 use Rattle.der_object.specs.View.{content_tree}
 use Rattle.der_der.specs.DerReading.{IsDerContentOf, ContentRefuses}
 
@@ -61,6 +61,10 @@ ReadingRefuses c t l p d i e = FrameRefuses l d i e
 abbrev pub ReadingNeedsMemory : Class → ℕ → Length → Bool → ℕ → List ℕ → Type 0
 ReadingNeedsMemory c t l p d i = (2 ≤ d) × (c ≡ Universal) × IsTrue (is_list t) × (p ≡ true) × (w rest : List ℕ) × (w ≢ []) × FramesContent l d i w rest
 
+-- i begins with the octets of the content, of which there is no object yet, and rest follows
+abbrev pub SpellsContent : Class → ℕ → Length → Bool → ℕ → List ℕ → Content × List ℕ → Type 0
+SpellsContent c t l p d i (x, rest) = (w : List ℕ) × FramesContent l d i w rest × IsDerContentOf w c p t x d
+
 -- an unknown content has a header of class Universal with these parts
 abbrev pub HasOwnHeader : ℕ → Length → Bool → BerObjectContent → Type 0
 HasOwnHeader t l p (Unknown a) = IsHeader a.header Universal p t l None
@@ -76,6 +80,28 @@ pub record ReadsContentOf (h : Header) (d : ℕ) (i : List ℕ) (o : BerObject) 
   pub header : o.header ≡ h
   pub read : ReadsContent (class_of h) (number_of h) (length_of h) (is_constructed h) d i o.content rest
   pub kept : KeepsHeader h o.content
+
+-- i begins with the octets of a content of the tree, behind a header that has its class, bit and number
+abbrev pub SpellsContentOf : Header → ℕ → List ℕ → Node × List ℕ → Type 0
+SpellsContentOf h d i (node c p t x, rest) = (c ≡ class_of h) × (p ≡ is_constructed h) × (t ≡ number_of h)
+    × SpellsContent c t (length_of h) p d i (x, rest)
+
+-- a reader of contents answers exactly what i shows, behind a length of this form
+abbrev pub AnswersContentAs : ℕ → Length → Bool → ℕ → List ℕ → ContentAnswer → Type 0
+AnswersContentAs t l p d i result = AnswersExactly result content_value_of (λ x. ReadsContentAs t l p d i x.1 x.0.now)
+    (SpellsContent Universal t l p d i) (ReadingRefuses Universal t l p d i) (FrameLacks Universal l i)
+    (ReadingNeedsMemory Universal t l p d i) ⊥
+
+-- the same behind a header, of which the class and the number aren't looked at
+abbrev pub AnswersContentBehind : ℕ → Header → ℕ → List ℕ → ContentAnswer → Type 0
+AnswersContentBehind t h = AnswersContentAs t (length_of h) (is_constructed h)
+
+-- a reader of the objects of a header answers exactly what i shows behind it
+abbrev pub AnswersContentOf : Header → ℕ → List ℕ → Answer → Type 0
+AnswersContentOf h d i result = AnswersExactly result value_of (λ x. ReadsContentOf h d i x.1 x.0.now)
+    (SpellsContentOf h d i) (ReadingRefuses (class_of h) (number_of h) (length_of h) (is_constructed h) d i)
+    (FrameLacks (class_of h) (length_of h) i)
+    (ReadingNeedsMemory (class_of h) (number_of h) (length_of h) (is_constructed h) d i) ⊥
 
 -- objects of one number, of any class
 

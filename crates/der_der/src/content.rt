@@ -1,14 +1,12 @@
 //! Contents read without their header: the caller gives it, or the tag number, the length and the
 //! constructed bit of a universal type.
-ghost use Rattle.std.specs.Prelude.{◌≡◌, ℕ, List};
+ghost use Rattle.std.specs.Prelude.{◌≡◌};
 ghost use Rattle.der_base.specs.declared.header.Class.{Class};
-ghost use Rattle.der_base.specs.Answer.{MatchAnswer, AnswersOkOr, AnswersErrorOr, AnswersIncompleteOr};
+ghost use Rattle.der_base.specs.Answer.{MatchAnswer};
 ghost use Rattle.der_base.specs.Header.{class_of, is_constructed, number_of, length_of};
-ghost use Rattle.der_base.specs.Refusal.{Refusal};
-ghost use Rattle.der_base.specs.Tree.{Content};
-ghost use Rattle.der_object.specs.View.{content_tree};
-ghost use Rattle.der_der.specs.DerReading.{IsDerContentOf};
-ghost use Rattle.der_der.specs.DerContents.{FramesContent, FrameRefuses, FrameLacks, ReadingRefuses, ReadingNeedsMemory, ReadsContentAs, ReadsContentOf};
+ghost use Rattle.der_der.specs.DerContents.{AnswersContentAs, AnswersContentBehind, AnswersContentOf};
+ghost use Rattle.der_der.specs.DerContents.{FramesContent, FrameRefuses, FrameLacks};
+ghost use Rattle.der_der.specs.DerContents.{ReadsContentAs, ReadsContentOf, ReadingRefuses, ReadingNeedsMemory};
 
 use crate::reader::{lacking, read_object};
 use der_base::error::{BerError, Err, IResult, Needed};
@@ -100,17 +98,7 @@ pub fn der_read_element_content_as<'a>(
     constructed: bool,
     max_depth: usize,
 ) -> BerResult<'a, BerObjectContent<'a>>
-    ensures found { MatchAnswer result
-        (λ x. ReadsContentAs tag.0 length constructed max_depth i.now x.1 x.0.now)
-        (ReadingRefuses Class.Universal tag.0 length constructed max_depth i.now)
-        (FrameLacks Class.Universal length i.now)
-        (ReadingNeedsMemory Class.Universal tag.0 length constructed max_depth i.now) }
-    ensures only { (w rest : List ℕ) (x : Content) → FramesContent length max_depth i.now w rest → IsDerContentOf w Class.Universal constructed tag.0 x max_depth
-        → AnswersOkOr (ReadingNeedsMemory Class.Universal tag.0 length constructed max_depth i.now) result (λ y. (content_tree y.1 ≡ x) × (y.0.now ≡ rest)) }
-    ensures refuses { (e : Refusal) → ReadingRefuses Class.Universal tag.0 length constructed max_depth i.now e
-        → AnswersErrorOr (ReadingNeedsMemory Class.Universal tag.0 length constructed max_depth i.now) result e }
-    ensures lacks { (n : ℕ) → FrameLacks Class.Universal length i.now n
-        → AnswersIncompleteOr (ReadingNeedsMemory Class.Universal tag.0 length constructed max_depth i.now) result n }
+    ensures { AnswersContentAs tag.0 length constructed max_depth i.now result }
 {
     read_content_as(alloc, i, tag, length, constructed, max_depth)
 }
@@ -127,17 +115,7 @@ pub fn der_read_element_content_as<'a>(
 /// is refused. Incomplete where fewer octets are there, with the whole length for class Universal
 /// and with what is missing for others. OutOfMemory only of a list that has items.
 pub fn der_read_element_content<'a>(alloc: Global, i: &'a [u8], hdr: Header<'a>) -> BerResult<'a>
-    ensures found { let h = hdr.entry in MatchAnswer result
-        (λ x. ReadsContentOf h 50 i.now x.1 x.0.now)
-        (ReadingRefuses (class_of h) (number_of h) (length_of h) (is_constructed h) 50 i.now)
-        (FrameLacks (class_of h) (length_of h) i.now)
-        (ReadingNeedsMemory (class_of h) (number_of h) (length_of h) (is_constructed h) 50 i.now) }
-    ensures only { let h = hdr.entry in (w rest : List ℕ) (x : Content) → FramesContent (length_of h) 50 i.now w rest → IsDerContentOf w (class_of h) (is_constructed h) (number_of h) x 50
-        → AnswersOkOr (ReadingNeedsMemory (class_of h) (number_of h) (length_of h) (is_constructed h) 50 i.now) result (λ y. (y.1.header ≡ h) × (content_tree y.1.content ≡ x) × (y.0.now ≡ rest)) }
-    ensures refuses { let h = hdr.entry in (e : Refusal) → ReadingRefuses (class_of h) (number_of h) (length_of h) (is_constructed h) 50 i.now e
-        → AnswersErrorOr (ReadingNeedsMemory (class_of h) (number_of h) (length_of h) (is_constructed h) 50 i.now) result e }
-    ensures lacks { let h = hdr.entry in (n : ℕ) → FrameLacks (class_of h) (length_of h) i.now n
-        → AnswersIncompleteOr (ReadingNeedsMemory (class_of h) (number_of h) (length_of h) (is_constructed h) 50 i.now) result n }
+    ensures { AnswersContentOf hdr.entry 50 i.now result }
 {
     read_content_of(alloc, i, hdr, MAX_RECURSION)
 }
@@ -166,15 +144,7 @@ impl DerContent {
         header: &Header<'_>,
         max_depth: usize,
     ) -> BerResult<'a, BerObjectContent<'a>>
-        ensures found { let l = length_of header.now in let p = is_constructed header.now in MatchAnswer result
-            (λ x. ReadsContentAs self.now.tag.0 l p max_depth i.now x.1 x.0.now)
-            (ReadingRefuses Class.Universal self.now.tag.0 l p max_depth i.now)
-            (FrameLacks Class.Universal l i.now)
-            (ReadingNeedsMemory Class.Universal self.now.tag.0 l p max_depth i.now) }
-        ensures only { let l = length_of header.now in let p = is_constructed header.now in (w rest : List ℕ) (x : Content) → FramesContent l max_depth i.now w rest → IsDerContentOf w Class.Universal p self.now.tag.0 x max_depth
-            → AnswersOkOr (ReadingNeedsMemory Class.Universal self.now.tag.0 l p max_depth i.now) result (λ y. (content_tree y.1 ≡ x) × (y.0.now ≡ rest)) }
-        ensures refuses { let l = length_of header.now in let p = is_constructed header.now in (e : Refusal) → ReadingRefuses Class.Universal self.now.tag.0 l p max_depth i.now e → AnswersErrorOr (ReadingNeedsMemory Class.Universal self.now.tag.0 l p max_depth i.now) result e }
-        ensures lacks { let l = length_of header.now in let p = is_constructed header.now in (n : ℕ) → FrameLacks Class.Universal l i.now n → AnswersIncompleteOr (ReadingNeedsMemory Class.Universal self.now.tag.0 l p max_depth i.now) result n }
+        ensures { AnswersContentBehind self.now.tag.0 header.now max_depth i.now result }
     {
         der_read_element_content_as(
             self.alloc,
@@ -210,15 +180,7 @@ impl DerContent2 {
         header: Header<'_>,
         max_depth: usize,
     ) -> BerResult<'a, BerObjectContent<'a>>
-        ensures found { let l = length_of header.entry in let p = is_constructed header.entry in MatchAnswer result
-            (λ x. ReadsContentAs self.now.tag.0 l p max_depth i.now x.1 x.0.now)
-            (ReadingRefuses Class.Universal self.now.tag.0 l p max_depth i.now)
-            (FrameLacks Class.Universal l i.now)
-            (ReadingNeedsMemory Class.Universal self.now.tag.0 l p max_depth i.now) }
-        ensures only { let l = length_of header.entry in let p = is_constructed header.entry in (w rest : List ℕ) (x : Content) → FramesContent l max_depth i.now w rest → IsDerContentOf w Class.Universal p self.now.tag.0 x max_depth
-            → AnswersOkOr (ReadingNeedsMemory Class.Universal self.now.tag.0 l p max_depth i.now) result (λ y. (content_tree y.1 ≡ x) × (y.0.now ≡ rest)) }
-        ensures refuses { let l = length_of header.entry in let p = is_constructed header.entry in (e : Refusal) → ReadingRefuses Class.Universal self.now.tag.0 l p max_depth i.now e → AnswersErrorOr (ReadingNeedsMemory Class.Universal self.now.tag.0 l p max_depth i.now) result e }
-        ensures lacks { let l = length_of header.entry in let p = is_constructed header.entry in (n : ℕ) → FrameLacks Class.Universal l i.now n → AnswersIncompleteOr (ReadingNeedsMemory Class.Universal self.now.tag.0 l p max_depth i.now) result n }
+        ensures { AnswersContentBehind self.now.tag.0 header.entry max_depth i.now result }
     {
         parse_der_content(self.alloc, self.tag).parse(i, &header, max_depth)
     }

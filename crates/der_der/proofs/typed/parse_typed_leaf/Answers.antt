@@ -6,4 +6,4 @@ use Rattle.der_der.proofs.typed.parse_typed_leaf.Goals as goal
 pub returns : goal.returns
 returns c =
     let fits : c.args.tag.0 < 2 ^ 32 = omega arith in
-    rw c.requires.no_list (exactly c.read_typed_leaf.result (typed_shows_one c.args.tag.0 c.args.i.now fits) c.read_typed_leaf.ensures)
+    rw c.requires.no_list (exactly c.read_typed_leaf.result (typed_shows_one c.args.tag.0 c.args.i.now fits) (λ n h m. m) c.read_typed_leaf.ensures)
