@@ -3,6 +3,7 @@ pub mod Any
 pub mod Arcs
 pub mod Containers
 pub mod Content
+pub mod Copies
 pub mod Count
 pub mod Cut
 pub mod Encoding

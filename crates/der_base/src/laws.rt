@@ -1,4 +1,5 @@
-//! Laws of the definitions. Each function's contract is a law, and its body is empty.
+//! Laws of the definitions, and of copies and equality of the types. Each function's contract is a
+//! law, and its body is empty.
 ghost use Rattle.der_base.specs.Laws.{
   HaveOneContent,
   AreWrittenForOne,
@@ -28,8 +29,60 @@ ghost use Rattle.der_base.specs.Laws.{
   DerFrontsAreCut,
   EncodingIsNormalForm,
 };
+ghost use Rattle.std.specs.Prelude.{◌≡◌};
+ghost use Rattle.std.specs.Cmp.{IsEquivalence};
+ghost use Rattle.der_base.specs.Copies.{ClonesAreTheValue, EqualsAre, AreAlikeHeaders, AreAlikeElements, AreAlikeIdentifiers, AreAlikeErrors, AreAlikeAnswers};
+ghost use Rattle.der_base.specs.TreeEquality.{same_node};
 ghost use Rattle.der_base.specs.Fault.{ShowsFault, DerShowsFault};
 ghost use Rattle.der_base.specs.Spelling.{BeginsWithBer, BeginsWithDer};
+
+use crate::any::Any;
+use crate::error::{DerConstraint, Err, Error, ErrorKind, Needed, OidParseError};
+use crate::header::{Class, Header, Length, Tag};
+use crate::oid::Oid;
+use crate::time::{ASN1DateTime, ASN1TimeZone, TimeText};
+
+/// A clone is the value itself, and never wants memory.
+pub fn clones_are_the_value()
+    ensures class { ClonesAreTheValue ⟦<Class as Clone>⟧.is_clone ⟦<Class as Clone>⟧.is_infallible }
+    ensures tag { ClonesAreTheValue ⟦<Tag as Clone>⟧.is_clone ⟦<Tag as Clone>⟧.is_infallible }
+    ensures length { ClonesAreTheValue ⟦<Length as Clone>⟧.is_clone ⟦<Length as Clone>⟧.is_infallible }
+    ensures header { ClonesAreTheValue ⟦<Header<'static> as Clone>⟧.is_clone ⟦<Header<'static> as Clone>⟧.is_infallible }
+    ensures any { ClonesAreTheValue ⟦<Any<'static> as Clone>⟧.is_clone ⟦<Any<'static> as Clone>⟧.is_infallible }
+    ensures needed { ClonesAreTheValue ⟦<Needed as Clone>⟧.is_clone ⟦<Needed as Clone>⟧.is_infallible }
+    ensures kind { ClonesAreTheValue ⟦<ErrorKind as Clone>⟧.is_clone ⟦<ErrorKind as Clone>⟧.is_infallible }
+    ensures error { ClonesAreTheValue ⟦<Error as Clone>⟧.is_clone ⟦<Error as Clone>⟧.is_infallible }
+    ensures constraint { ClonesAreTheValue ⟦<DerConstraint as Clone>⟧.is_clone ⟦<DerConstraint as Clone>⟧.is_infallible }
+    ensures time { ClonesAreTheValue ⟦<ASN1DateTime as Clone>⟧.is_clone ⟦<ASN1DateTime as Clone>⟧.is_infallible }
+    ensures zone { ClonesAreTheValue ⟦<ASN1TimeZone as Clone>⟧.is_clone ⟦<ASN1TimeZone as Clone>⟧.is_infallible }
+    ensures text { ClonesAreTheValue ⟦<TimeText as Clone>⟧.is_clone ⟦<TimeText as Clone>⟧.is_infallible }
+{}
+
+/// Values are equal exactly where they are the same.
+pub fn equals_are_the_same()
+    ensures class { EqualsAre ◌≡◌ ⟦<Class as PartialEq>⟧.eq }
+    ensures tag { EqualsAre ◌≡◌ ⟦<Tag as PartialEq>⟧.eq }
+    ensures length { EqualsAre ◌≡◌ ⟦<Length as PartialEq>⟧.eq }
+    ensures needed { EqualsAre ◌≡◌ ⟦<Needed as PartialEq>⟧.eq }
+    ensures kind { EqualsAre ◌≡◌ ⟦<ErrorKind as PartialEq>⟧.eq }
+    ensures constraint { EqualsAre ◌≡◌ ⟦<DerConstraint as PartialEq>⟧.eq }
+    ensures oid_error { EqualsAre ◌≡◌ ⟦<OidParseError as PartialEq>⟧.eq }
+    ensures time { EqualsAre ◌≡◌ ⟦<ASN1DateTime as PartialEq>⟧.eq }
+    ensures zone { EqualsAre ◌≡◌ ⟦<ASN1TimeZone as PartialEq>⟧.eq }
+{}
+
+/// Headers, elements, identifiers and errors are equal exactly where they are alike in the parts
+/// that are named. So equality of them is an equivalence.
+pub fn equals_are_alike()
+    ensures header { EqualsAre AreAlikeHeaders ⟦<Header<'static> as PartialEq>⟧.eq }
+    ensures any { EqualsAre AreAlikeElements ⟦<Any<'static> as PartialEq>⟧.eq }
+    ensures oid { EqualsAre AreAlikeIdentifiers ⟦<Oid<'static> as PartialEq>⟧.eq }
+    ensures error { EqualsAre AreAlikeErrors ⟦<Error as PartialEq>⟧.eq }
+    ensures answer { EqualsAre AreAlikeAnswers ⟦<Err<Error> as PartialEq>⟧.eq }
+    ensures headers { IsEquivalence ⟦<Header<'static> as PartialEq>⟧.eq }
+    ensures elements { IsEquivalence ⟦<Any<'static> as PartialEq>⟧.eq }
+    ensures trees { IsEquivalence same_node }
+{}
 
 /// Content octets of a universal type have one content by BER, and are written for one by DER.
 pub fn one_content()

@@ -57,9 +57,9 @@ before_content i x c p t n e (in_length_octets b bs h h1 hb z) = in_length c p t
 definite_front : (i r : List ℕ) (c : Class) (p : Bool) (t : ℕ) (s v : List ℕ) → r ≢ [] → SpellsAnyLength s (length v) → i ++ r ≡ identifier c p t ++ (s ++ v) → (n : ℕ) × Lacks i n
 unfolding Fronts
 definite_front i r c p t s v some hs e = elim (fronts i (identifier c p t) r (s ++ v) e) [
-    | inl (m, k, z) ↦ (1, in_identifier c p t m z)
-    | inr (x, z, w) ↦ behind x z (fronts x s r v w)
-  ]
+  | inl (m, k, z) ↦ (1, in_identifier c p t m z)
+  | inr (x, z, w) ↦ behind x z (fronts x s r v w)
+]
   where
     behind : (x : List ℕ) → i ≡ identifier c p t ++ x → Fronts x s r v → (n : ℕ) × Lacks i n
     behind x z (inl (m, k, w)) = let q = length_front_lacks x m k (inl (length v, subst (λ l. SpellsAnyLength l (length v)) (sym w) hs)) in (q.0, before_content i x c p t q.0 z q.1)
@@ -81,9 +81,9 @@ open_front : (i r : List ℕ) (c : Class) (p : Bool) (t : ℕ) (v : List ℕ) �
     → i ++ r ≡ identifier c p t ++ 128 ∷ (v ++ end_marker) → (n : ℕ) × Lacks i n
 unfolding Fronts
 open_front i r c p t v some ep inside e = elim (fronts i (identifier c p t) r (128 ∷ (v ++ end_marker)) e) [
-    | inl (m, k, z) ↦ (1, in_identifier c p t m z)
-    | inr (x, z, w) ↦ behind x z w
-  ]
+  | inl (m, k, z) ↦ (1, in_identifier c p t m z)
+  | inr (x, z, w) ↦ behind x z w
+]
   where
     behind : (x : List ℕ) → i ≡ identifier c p t ++ x → x ++ r ≡ 128 ∷ (v ++ end_marker) → (n : ℕ) × Lacks i n
     behind [] z w = (1, in_identifier c p t [] (append-nil i ∙ z ∙ append-nil (identifier c p t)))
@@ -170,9 +170,9 @@ der_content_front i Private p t s y m h hs e = (m, der_in_content Private p t s 
 der_definite_front : (i r : List ℕ) (c : Class) (p : Bool) (t : ℕ) (s v : List ℕ) → r ≢ [] → SpellsAnyLength s (length v) → i ++ r ≡ identifier c p t ++ (s ++ v) → (n : ℕ) × DerLacks i n
 unfolding Fronts
 der_definite_front i r c p t s v some hs e = elim (fronts i (identifier c p t) r (s ++ v) e) [
-    | inl (m, k, z) ↦ (1, der_in_identifier c p t m z)
-    | inr (x, z, w) ↦ behind x z (fronts x s r v w)
-  ]
+  | inl (m, k, z) ↦ (1, der_in_identifier c p t m z)
+  | inr (x, z, w) ↦ behind x z (fronts x s r v w)
+]
   where
     behind : (x : List ℕ) → i ≡ identifier c p t ++ x → Fronts x s r v → (n : ℕ) × DerLacks i n
     behind x z (inl (m, k, w)) = let q = length_front_lacks x m k (inl (length v, subst (λ l. SpellsAnyLength l (length v)) (sym w) hs)) in (q.0, der_before_content i x c p t q.0 z q.1)
