@@ -2,8 +2,10 @@
 pub use Rattle.der_base.specs.Answer
 pub use Rattle.der_base.specs.Any
 pub use Rattle.der_base.specs.Arcs
-pub use Rattle.der_base.specs.Count
+pub use Rattle.der_base.specs.Containers
 pub use Rattle.der_base.specs.Content
+pub use Rattle.der_base.specs.Copies
+pub use Rattle.der_base.specs.Count
 pub use Rattle.der_base.specs.Cut
 pub use Rattle.der_base.specs.Encoding
 pub use Rattle.der_base.specs.Errors
@@ -13,16 +15,21 @@ pub use Rattle.der_base.specs.Header
 pub use Rattle.der_base.specs.Headers
 pub use Rattle.der_base.specs.Leaf
 pub use Rattle.der_base.specs.LeafRefusal
+pub use Rattle.der_base.specs.LengthOctets
+pub use Rattle.der_base.specs.Listing
 pub use Rattle.der_base.specs.Octets
 pub use Rattle.der_base.specs.OidArcs
 pub use Rattle.der_base.specs.Oids
 pub use Rattle.der_base.specs.Refusal
-pub use Rattle.der_base.specs.Containers
 pub use Rattle.der_base.specs.Spelling
+pub use Rattle.der_base.specs.Stable
 pub use Rattle.der_base.specs.Text
 pub use Rattle.der_base.specs.Time
 pub use Rattle.der_base.specs.Tree
+pub use Rattle.der_base.specs.TreeEquality
+pub use Rattle.der_base.specs.Laws
 pub use Rattle.der_object.specs.Bits
+pub use Rattle.der_object.specs.Counting
 pub use Rattle.der_object.specs.HeaderFacts
 pub use Rattle.der_object.specs.Objects
 pub use Rattle.der_object.specs.Readings
@@ -31,5 +38,7 @@ pub use Rattle.der_object.specs.View
 pub use Rattle.der_ber.specs.BerContents
 pub use Rattle.der_ber.specs.BerReading
 pub use Rattle.der_ber.specs.BerSlices
+pub use Rattle.der_ber.specs.Laws as BerLaws
 pub use Rattle.der_der.specs.DerContents
 pub use Rattle.der_der.specs.DerReading
+pub use Rattle.der_der.specs.Laws as DerLaws

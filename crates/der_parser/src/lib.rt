@@ -72,3 +72,17 @@ pub mod oid {
     pub use der_base::error::OidParseError;
     pub use der_base::oid::{Oid, OidIter};
 }
+
+/// Laws of the definitions and of what is read and written. Each is a function with an empty body,
+/// whose contract is the law.
+pub mod laws {
+    pub use der_base::laws::{
+        always_one, appended_only_lengthen, clones_are_the_value, der_is_within_ber,
+        encoding_is_normal_form, equals_are_alike, equals_are_the_same, faults_are_one,
+        fronts_are_cut, integers_are_shortest, lengths_are_shortest, never_both, one_content,
+        one_refusal, refused_headers_stay_refused, spellings_are_one, tag_numbers_are_shortest,
+        unused_bits_are_last,
+    };
+    pub use der_ber::laws::written_is_read_back;
+    pub use der_der::laws::written_is_what_was_read;
+}
