@@ -10,9 +10,13 @@ use Rattle.der_base.specs.Header.{class_of, is_constructed, number_of}
 use Rattle.der_base.specs.Oids.{octets_of, is_relative_of}
 use Rattle.der_base.specs.Refusal.{refusal}
 
--- a clone is the value itself, and there always is one
-abbrev pub ClonesAreTheValue : {T : Type 0} → (T → T → Type 0) → (T → Type 0) → Type 0
-ClonesAreTheValue {T} is_clone is_infallible = ((x y : T) → is_clone x y → y ≡ x) × ((x : T) → is_infallible x)
+-- each clone is the value itself
+abbrev pub AreTheValue : {T : Type 0} → (T → T → Type 0) → Type 0
+AreTheValue {T} is_clone = (x y : T) → is_clone x y → y ≡ x
+
+-- it is so of each value
+abbrev pub AlwaysSo : {T : Type 0} → (T → Type 0) → Type 0
+AlwaysSo {T} P = (x : T) → P x
 
 -- values are equal exactly where they are alike
 abbrev pub EqualsAre : {T : Type 0} → (T → T → Type 0) → (T → T → Bool) → Type 0

@@ -1,10 +1,12 @@
 -- Laws of the definitions.
-use Rattle.std.specs.Prelude.{◌≡◌, ◌≢◌, ℕ, ◌-◌, ◌%◌, ◌^◌, ◌<◌, ◌≤◌, ◌⊎◌, ◌↔◌, Bool, false, IsTrue, pos, List, [], ◌∷◌, ◌++◌, length, slice_index, All}
+use Rattle.std.specs.Prelude.{◌≡◌, ◌≢◌, ℕ, ◌-◌, ◌%◌, ◌^◌, ◌<◌, ◌≤◌, ◌⊎◌, ◌↔◌, Bool, false, IsTrue, pos}
+use Rattle.std.specs.Prelude.{List, [], ◌∷◌, ◌++◌, length, slice_index, All}
 use Rattle.der_base.specs.Encoding.{encoding, content_octets}
 use Rattle.der_base.specs.Fault.{BerHeaderRefuses, DerHeaderRefuses, ShowsFault, DerShowsFault}
 use Rattle.der_base.specs.Leaf.{is_list, is_mapped, IsLeafContent, IsDerLeaf, IsMinimalInteger, HasZeroUnusedBits}
 use Rattle.der_base.specs.LeafRefusal.{BerLeafRefuses, DerLeafRefuses}
-use Rattle.der_base.specs.Octets.{number, octets, groups, groups_value, integer_value, shortest_integer, shortest_length, SpellsAnyLength}
+use Rattle.der_base.specs.Octets.{number, octets, groups, groups_value, integer_value}
+use Rattle.der_base.specs.Octets.{shortest_integer, shortest_length, SpellsAnyLength}
 use Rattle.der_base.specs.Refusal.{Refusal}
 use Rattle.der_base.specs.Spelling.{BerSpells, DerSpells, framing_budget}
 use Rattle.der_base.specs.Stable.{BerIsCut, DerIsCut, BeginsNoHeader, BeginsNoDerHeader, FrontsAreCut}
@@ -23,14 +25,17 @@ AreWrittenForOne = (t : ℕ) (x y : Content) → IsDerLeaf t x → IsDerLeaf t y
 
 -- where BER or DER refuses octets, it is with one refusal
 abbrev pub HaveOneBerRefusal : Type 0
-HaveOneBerRefusal = (p : Bool) (t : ℕ) (w : List ℕ) (e e' : Refusal) → BerLeafRefuses p t w e → BerLeafRefuses p t w e' → e ≡ e'
+HaveOneBerRefusal = (p : Bool) (t : ℕ) (w : List ℕ) (e e' : Refusal)
+    → BerLeafRefuses p t w e → BerLeafRefuses p t w e' → e ≡ e'
 
 abbrev pub HaveOneDerRefusal : Type 0
-HaveOneDerRefusal = (p : Bool) (t : ℕ) (w : List ℕ) (e e' : Refusal) → DerLeafRefuses p t w e → DerLeafRefuses p t w e' → e ≡ e'
+HaveOneDerRefusal = (p : Bool) (t : ℕ) (w : List ℕ) (e e' : Refusal)
+    → DerLeafRefuses p t w e → DerLeafRefuses p t w e' → e ≡ e'
 
 -- octets with a content are not refused by BER
 abbrev pub ContentsPassBer : Type 0
-ContentsPassBer = (p : Bool) (t : ℕ) (w : List ℕ) (x : Content) (e : Refusal) → IsLeafContent p t w x → ¬ BerLeafRefuses p t w e
+ContentsPassBer = (p : Bool) (t : ℕ) (w : List ℕ) (x : Content) (e : Refusal)
+    → IsLeafContent p t w x → ¬ BerLeafRefuses p t w e
 
 -- what is written for a content is not refused by DER
 abbrev pub WrittenPassDer : Type 0
@@ -48,7 +53,8 @@ WrittenOrRefusedByDer = (p : Bool) (t : ℕ) (w : List ℕ) → AreOctets w → 
 
 -- octets with a content by BER that DER does not refuse are those that are written for it
 abbrev pub AcceptedAreWritten : Type 0
-AcceptedAreWritten = (t : ℕ) (w : List ℕ) (x : Content) → AreOctets w → IsLeafContent false t w x → ((e : Refusal) → ¬ DerLeafRefuses false t w e)
+AcceptedAreWritten = (t : ℕ) (w : List ℕ) (x : Content)
+    → AreOctets w → IsLeafContent false t w x → ((e : Refusal) → ¬ DerLeafRefuses false t w e)
     → IsDerLeaf t x × (w ≡ content_octets x)
 
 -- The list f, of some lists, is the shortest, and the only one of its length.
@@ -67,11 +73,13 @@ LengthsAreShortest = (n : ℕ) → n < 256 ^ 126 → IsShortest (λ s. AreOctets
 
 -- the content octets of an integer that is not negative (8.3.2)
 abbrev pub IntegersAreShortest : Type 0
-IntegersAreShortest = (n : ℕ) → IsShortest (λ w. AreOctets w × (w ≢ []) × (integer_value w ≡ pos n)) (shortest_integer n)
+IntegersAreShortest = (n : ℕ)
+    → IsShortest (λ w. AreOctets w × (w ≢ []) × (integer_value w ≡ pos n)) (shortest_integer n)
 
 -- an INTEGER is minimal where its octets are the fewest of its value (8.3.2)
 abbrev pub MinimalIsShortest : Type 0
-MinimalIsShortest = (w : List ℕ) → AreOctets w → IsMinimalInteger w ↔ IsShortest (λ v. AreOctets v × (v ≢ []) × (integer_value v ≡ integer_value w)) w
+MinimalIsShortest = (w : List ℕ) → AreOctets w
+    → IsMinimalInteger w ↔ IsShortest (λ v. AreOctets v × (v ≢ []) × (integer_value v ≡ integer_value w)) w
 
 -- groups of seven bits, each but the last with the high bit (8.1.2.4.2)
 abbrev pub AreGroups : List ℕ → Type 0
@@ -97,7 +105,9 @@ DerIsWithinBer = (b : List ℕ) (o : Node) (d : ℕ) → DerSpells b o d → Ber
 
 -- spellings by BER in front of one list of octets are one, of one tree
 abbrev pub SpellingsAreOne : Type 0
-SpellingsAreOne = (b b' x y : List ℕ) (o o' : Node) (d d' : ℕ) → BerSpells b o d framing_budget → BerSpells b' o' d' framing_budget → b ++ x ≡ b' ++ y → (b ≡ b') × (o ≡ o') × (x ≡ y)
+SpellingsAreOne = (b b' x y : List ℕ) (o o' : Node) (d d' : ℕ)
+    → BerSpells b o d framing_budget → BerSpells b' o' d' framing_budget
+    → b ++ x ≡ b' ++ y → (b ≡ b') × (o ≡ o') × (x ≡ y)
 
 -- one refusal shows at most
 abbrev pub FaultsAreOne : (ℕ → List ℕ → Refusal → Type 0) → Type 0
@@ -105,19 +115,23 @@ FaultsAreOne faults = (d : ℕ) (i : List ℕ) (e e' : Refusal) → faults d i e
 
 -- and none beside a spelling
 abbrev pub SpellingsShowNoFault : Type 0
-SpellingsShowNoFault = (d : ℕ) (i b rest : List ℕ) (o : Node) (e : Refusal) → i ≡ b ++ rest → BerSpells b o d framing_budget → ¬ ShowsFault d i e
+SpellingsShowNoFault = (d : ℕ) (i b rest : List ℕ) (o : Node) (e : Refusal)
+    → i ≡ b ++ rest → BerSpells b o d framing_budget → ¬ ShowsFault d i e
 
 abbrev pub DerSpellingsShowNoFault : Type 0
-DerSpellingsShowNoFault = (d : ℕ) (i b rest : List ℕ) (o : Node) (e : Refusal) → i ≡ b ++ rest → DerSpells b o d → ¬ DerShowsFault d i e
+DerSpellingsShowNoFault = (d : ℕ) (i b rest : List ℕ) (o : Node) (e : Refusal)
+    → i ≡ b ++ rest → DerSpells b o d → ¬ DerShowsFault d i e
 
 -- octets appended to an input leave the refusal that it shows
 abbrev pub AppendedLeaveFaults : (ℕ → List ℕ → Refusal → Type 0) → Type 0
 AppendedLeaveFaults faults = (d : ℕ) (i z : List ℕ) (e : Refusal) → faults d i e → faults d (i ++ z) e
 
--- and where it begins with a spelling, they only lengthen the rest: to whatever depth, what it then begins with is one of the same tree
+-- and where it begins with a spelling, they only lengthen the rest: to whatever depth, what it then begins with is one
+-- of the same tree
 abbrev pub AppendedLengthenRests : (ℕ → List ℕ → Node → List ℕ → Type 0) → Type 0
 AppendedLengthenRests begins = (d : ℕ) (i z rest : List ℕ) (o : Node) → begins d i o rest
-    → begins d (i ++ z) o (rest ++ z) × ((d' : ℕ) (rest' : List ℕ) (o' : Node) → begins d' (i ++ z) o' rest' → (o' ≡ o) × (rest' ≡ rest ++ z))
+    → begins d (i ++ z) o (rest ++ z)
+    × ((d' : ℕ) (rest' : List ℕ) (o' : Node) → begins d' (i ++ z) o' rest' → (o' ≡ o) × (rest' ≡ rest ++ z))
 
 -- behind a header that is refused no octets make one
 abbrev pub BerRefusedBeginsNone : Type 0
@@ -133,6 +147,8 @@ BerFrontsAreCut = (d : ℕ) (b : List ℕ) (o : Node) → BerSpells b o d framin
 abbrev pub DerFrontsAreCut : Type 0
 DerFrontsAreCut = (d : ℕ) (b : List ℕ) (o : Node) → DerSpells b o d → FrontsAreCut DerIsCut d b
 
--- what is written for a tree that BER spells, up to 2^64-1 octets, spells it too, to the same depth: it is a normal form
+-- what is written for a tree that BER spells, up to 2^64-1 octets, spells it too, to the same depth: it is a
+-- normal form
 abbrev pub EncodingIsNormalForm : Type 0
-EncodingIsNormalForm = (b : List ℕ) (o : Node) (d k : ℕ) → BerSpells b o d k → length (encoding o) < 2 ^ 64 → BerSpells (encoding o) o d framing_budget
+EncodingIsNormalForm = (b : List ℕ) (o : Node) (d k : ℕ)
+    → BerSpells b o d k → length (encoding o) < 2 ^ 64 → BerSpells (encoding o) o d framing_budget

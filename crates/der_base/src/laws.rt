@@ -31,7 +31,16 @@ ghost use Rattle.der_base.specs.Laws.{
 };
 ghost use Rattle.std.specs.Prelude.{◌≡◌};
 ghost use Rattle.std.specs.Cmp.{IsEquivalence};
-ghost use Rattle.der_base.specs.Copies.{ClonesAreTheValue, EqualsAre, AreAlikeHeaders, AreAlikeElements, AreAlikeIdentifiers, AreAlikeErrors, AreAlikeAnswers};
+ghost use Rattle.der_base.specs.Copies.{
+  AreTheValue,
+  AlwaysSo,
+  EqualsAre,
+  AreAlikeHeaders,
+  AreAlikeElements,
+  AreAlikeIdentifiers,
+  AreAlikeErrors,
+  AreAlikeAnswers,
+};
 ghost use Rattle.der_base.specs.TreeEquality.{same_node};
 ghost use Rattle.der_base.specs.Fault.{ShowsFault, DerShowsFault};
 ghost use Rattle.der_base.specs.Spelling.{BeginsWithBer, BeginsWithDer};
@@ -42,20 +51,36 @@ use crate::header::{Class, Header, Length, Tag};
 use crate::oid::Oid;
 use crate::time::{ASN1DateTime, ASN1TimeZone, TimeText};
 
-/// A clone is the value itself, and never wants memory.
+/// A clone is the value itself.
 pub fn clones_are_the_value()
-    ensures class { ClonesAreTheValue ⟦<Class as Clone>⟧.is_clone ⟦<Class as Clone>⟧.is_infallible }
-    ensures tag { ClonesAreTheValue ⟦<Tag as Clone>⟧.is_clone ⟦<Tag as Clone>⟧.is_infallible }
-    ensures length { ClonesAreTheValue ⟦<Length as Clone>⟧.is_clone ⟦<Length as Clone>⟧.is_infallible }
-    ensures header { ClonesAreTheValue ⟦<Header<'static> as Clone>⟧.is_clone ⟦<Header<'static> as Clone>⟧.is_infallible }
-    ensures any { ClonesAreTheValue ⟦<Any<'static> as Clone>⟧.is_clone ⟦<Any<'static> as Clone>⟧.is_infallible }
-    ensures needed { ClonesAreTheValue ⟦<Needed as Clone>⟧.is_clone ⟦<Needed as Clone>⟧.is_infallible }
-    ensures kind { ClonesAreTheValue ⟦<ErrorKind as Clone>⟧.is_clone ⟦<ErrorKind as Clone>⟧.is_infallible }
-    ensures error { ClonesAreTheValue ⟦<Error as Clone>⟧.is_clone ⟦<Error as Clone>⟧.is_infallible }
-    ensures constraint { ClonesAreTheValue ⟦<DerConstraint as Clone>⟧.is_clone ⟦<DerConstraint as Clone>⟧.is_infallible }
-    ensures time { ClonesAreTheValue ⟦<ASN1DateTime as Clone>⟧.is_clone ⟦<ASN1DateTime as Clone>⟧.is_infallible }
-    ensures zone { ClonesAreTheValue ⟦<ASN1TimeZone as Clone>⟧.is_clone ⟦<ASN1TimeZone as Clone>⟧.is_infallible }
-    ensures text { ClonesAreTheValue ⟦<TimeText as Clone>⟧.is_clone ⟦<TimeText as Clone>⟧.is_infallible }
+    ensures class { AreTheValue ⟦<Class as Clone>⟧.is_clone }
+    ensures tag { AreTheValue ⟦<Tag as Clone>⟧.is_clone }
+    ensures length { AreTheValue ⟦<Length as Clone>⟧.is_clone }
+    ensures header { AreTheValue ⟦<Header<'static> as Clone>⟧.is_clone }
+    ensures any { AreTheValue ⟦<Any<'static> as Clone>⟧.is_clone }
+    ensures needed { AreTheValue ⟦<Needed as Clone>⟧.is_clone }
+    ensures kind { AreTheValue ⟦<ErrorKind as Clone>⟧.is_clone }
+    ensures error { AreTheValue ⟦<Error as Clone>⟧.is_clone }
+    ensures constraint { AreTheValue ⟦<DerConstraint as Clone>⟧.is_clone }
+    ensures time { AreTheValue ⟦<ASN1DateTime as Clone>⟧.is_clone }
+    ensures zone { AreTheValue ⟦<ASN1TimeZone as Clone>⟧.is_clone }
+    ensures text { AreTheValue ⟦<TimeText as Clone>⟧.is_clone }
+{}
+
+/// A clone never wants memory.
+pub fn clones_want_no_memory()
+    ensures class { AlwaysSo ⟦<Class as Clone>⟧.is_infallible }
+    ensures tag { AlwaysSo ⟦<Tag as Clone>⟧.is_infallible }
+    ensures length { AlwaysSo ⟦<Length as Clone>⟧.is_infallible }
+    ensures header { AlwaysSo ⟦<Header<'static> as Clone>⟧.is_infallible }
+    ensures any { AlwaysSo ⟦<Any<'static> as Clone>⟧.is_infallible }
+    ensures needed { AlwaysSo ⟦<Needed as Clone>⟧.is_infallible }
+    ensures kind { AlwaysSo ⟦<ErrorKind as Clone>⟧.is_infallible }
+    ensures error { AlwaysSo ⟦<Error as Clone>⟧.is_infallible }
+    ensures constraint { AlwaysSo ⟦<DerConstraint as Clone>⟧.is_infallible }
+    ensures time { AlwaysSo ⟦<ASN1DateTime as Clone>⟧.is_infallible }
+    ensures zone { AlwaysSo ⟦<ASN1TimeZone as Clone>⟧.is_infallible }
+    ensures text { AlwaysSo ⟦<TimeText as Clone>⟧.is_infallible }
 {}
 
 /// Values are equal exactly where they are the same.

@@ -1,4 +1,4 @@
-use Rattle.std.proofs.Common.{rules, ◌≡◌, Bool, refl, sym, ◌∙◌}
+use Rattle.std.proofs.Common.{rules, Bool, refl, sym, ◌∙◌}
 use Rattle.std.specs.Bool.{one_answer}
 use Rattle.std.specs.Cmp.{IsEquivalence, decided}
 use Rattle.der_base.specs.declared.any.Any.{Any}
