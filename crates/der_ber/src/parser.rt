@@ -1,5 +1,5 @@
 //! The full reader of BER.
-ghost use Rattle.std.specs.Prelude.{◌≡◌, ◌+◌, ◌<◌, ◌≤◌, ℕ, Bool, List, IfOk, IsOkAnd, length};
+ghost use Rattle.std.specs.Prelude.{◌≡◌, ◌<◌, ℕ, Bool, List, IfOk, IsOkAnd, length};
 ghost use Rattle.der_base.specs.declared.header.Class.{Class};
 ghost use Rattle.der_base.specs.Answer.{MatchAnswer, AnswersError, AnswersIncomplete};
 ghost use Rattle.der_base.specs.Any.{ReadsAny, AnyRefuses, AnyLacks};
@@ -7,6 +7,7 @@ ghost use Rattle.der_base.specs.Header.{class_of, is_constructed, number_of};
 ghost use Rattle.der_base.specs.Refusal.{Refusal};
 ghost use Rattle.der_base.specs.Spelling.{BeginsWithElement, framing_budget};
 ghost use Rattle.der_ber.specs.BerReading.{AnswersBer, AnswersNumber};
+ghost use Rattle.der_object.specs.Counting.{CountsObjects, CountsWithinOctets};
 
 use crate::reader::{read_element, read_element_with_tag};
 use der_base::MAX_RECURSION;
@@ -78,8 +79,9 @@ pub fn parse_ber_any<'a>(i: &'a [u8]) -> IResult<&'a [u8], Any<'a>, BerError>
     Any::from_ber(i)
 }
 
-/// Reads as `parse_ber_recursive`, and counts the headers that are read, end markers too: no more of
-/// them than octets that were read, but for one more where the answer is no object.
+/// Reads as `parse_ber_recursive`, and counts the headers that are read, end markers too: at least
+/// one for each object that was read, and at most one for each two octets that were, and one more
+/// where the answer is no object.
 pub fn parse_ber_counted<'a>(
     alloc: Global,
     i: &'a [u8],
@@ -88,8 +90,8 @@ pub fn parse_ber_counted<'a>(
 ) -> BerResult<'a>
     ensures exactly { AnswersBer max_depth i.now result }
     ensures shorter { IfOk result (λ x. length x.0.now < length i.now) }
-    ensures counted { count.new ≤ count.old + length i.now + 1 }
-    ensures counted_ok { IfOk result (λ x. count.new + length x.0.now ≤ count.old + length i.now) }
+    ensures counted { CountsObjects result count.old count.new }
+    ensures bounded { CountsWithinOctets i.now result count.old count.new }
 {
     read_element(alloc, i, max_depth, count)
 }
