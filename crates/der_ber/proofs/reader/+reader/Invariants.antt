@@ -34,7 +34,8 @@ invariant-read_items-loop-rest l = Read l.content l.rest l.items.items l.max_dep
 abbrev pub decreases-read_items-loop-rest : goal.decreases-read_items-loop-rest
 decreases-read_items-loop-rest l = length l.rest
 
--- whatever octets the spans are of, the items in front of those that are left were read, and counted where no span is of them
+-- whatever octets the spans are of, the items in front of those that are left were read; what no span is of in them was
+-- counted
 abbrev pub invariant-read_spans-loop-at : goal.invariant-read_spans-loop-at
 invariant-read_spans-loop-at l =
     ((w : List ℕ) → AreSpans l.spans w framing_budget
