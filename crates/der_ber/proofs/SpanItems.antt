@@ -28,14 +28,24 @@ next ss at x w k lt h = first_span (get_or ss at x) (drop (at + 1) ss) (drop_mor
 pub span_end : (ss : List Span) (at : ℕ) (x : Span) (w : List ℕ) (k : ℕ) → at < length ss → AreSpans (drop at ss) w k → at + 1 + (get_or ss at x).inside ≤ length ss
 span_end ss at x w k lt h = let q = next ss at x w k lt h in omega (arith, lt, q.number, ap length q.spans ∙ length-append q.inside q.after, length-drop (at + 1) ss)
 
+taken : (ss : List Span) (at : ℕ) (x : Span) (w : List ℕ) (k : ℕ) (lt : at < length ss) (h : AreSpans (drop at ss) w k)
+    → take (at + 1 + (get_or ss at x).inside - (at + 1)) (drop (at + 1) ss) ≡ (next ss at x w k lt h).inside
+taken ss at x w k lt h =
+    let q = next ss at x w k lt h in
+    let n = at + 1 + (get_or ss at x).inside - (at + 1) in
+    let l : length q.inside ≡ n = omega (arith, q.number) in
+    ap (λ v. take n v) q.spans ∙ take_at q.inside q.after n l
+
 pub span_inside : (ss : List Span) (at : ℕ) (x : Span) (w : List ℕ) (k : ℕ) → at < length ss → AreSpans (drop at ss) w k
     → AreInside (length_of (get_or ss at x).element.header) (take (at + 1 + (get_or ss at x).inside - (at + 1)) (drop (at + 1) ss)) (get_or ss at x).element.bytes.now k
 span_inside ss at x w k lt h =
     let q = next ss at x w k lt h in
     let s = get_or ss at x in
-    let n = at + 1 + s.inside - (at + 1) in
-    let l : length q.inside ≡ n = omega (arith, q.number) in
-    subst (λ v. AreInside (length_of s.element.header) v s.element.bytes.now k) (sym (ap (λ v. take n v) q.spans ∙ take_at q.inside q.after n l)) q.recorded
+    subst (λ v. AreInside (length_of s.element.header) v s.element.bytes.now k) (sym (taken ss at x w k lt h)) q.recorded
+
+pub length_inside : (ss : List Span) (at : ℕ) (x : Span) (w : List ℕ) (k : ℕ) → at < length ss → AreSpans (drop at ss) w k
+    → length (take (at + 1 + (get_or ss at x).inside - (at + 1)) (drop (at + 1) ss)) ≡ (get_or ss at x).inside
+length_inside ss at x w k lt h = ap length (taken ss at x w k lt h) ∙ sym (next ss at x w k lt h).number
 
 pub span_after : (ss : List Span) (at : ℕ) (x : Span) (w : List ℕ) (k : ℕ) (lt : at < length ss) (h : AreSpans (drop at ss) w k) → drop (at + 1 + (get_or ss at x).inside) ss ≡ (next ss at x w k lt h).after
 span_after ss at x w k lt h =

@@ -1,7 +1,8 @@
 //! The full reader of BER.
-ghost use Rattle.std.specs.Prelude.{◌+◌, ◌<◌, ◌≤◌, IfOk, length};
+ghost use Rattle.std.specs.Prelude.{◌<◌, IfOk, length};
 ghost use Rattle.der_base.specs.Any.{AnswersAny};
 ghost use Rattle.der_ber.specs.BerReading.{AnswersBer, AnswersNumber};
+ghost use Rattle.der_object.specs.Counting.{CountsObjects, CountsWithinOctets};
 
 use crate::reader::{read_element, read_element_with_tag};
 use der_base::MAX_RECURSION;
@@ -69,8 +70,9 @@ pub fn parse_ber_any<'a>(i: &'a [u8]) -> IResult<&'a [u8], Any<'a>, BerError>
     Any::from_ber(i)
 }
 
-/// Reads as `parse_ber_recursive`, and counts the headers that are read, end markers too: no more of
-/// them than octets that were read, but for one more where the answer is no object.
+/// Reads as `parse_ber_recursive`, and counts the headers that are read, end markers too: at least
+/// one for each object that was read, and at most one for each two octets that were, and one more
+/// where the answer is no object.
 pub fn parse_ber_counted<'a>(
     alloc: Global,
     i: &'a [u8],
@@ -79,8 +81,8 @@ pub fn parse_ber_counted<'a>(
 ) -> BerResult<'a>
     ensures exactly { AnswersBer max_depth i.now result }
     ensures shorter { IfOk result (λ x. length x.0.now < length i.now) }
-    ensures counted { count.new ≤ count.old + length i.now + 1 }
-    ensures counted_ok { IfOk result (λ x. count.new + length x.0.now ≤ count.old + length i.now) }
+    ensures counted { CountsObjects result count.old count.new }
+    ensures bounded { CountsWithinOctets i.now result count.old count.new }
 {
     read_element(alloc, i, max_depth, count)
 }

@@ -1,7 +1,7 @@
 //! One element of BER and what is inside it: element, content and items call each other, a depth
 //! less at each list. An element of indefinite length is framed once, and the elements inside it are
 //! recorded; their values are read from the record.
-ghost use Rattle.std.specs.Prelude.{◌≡◌, ◌≢◌, ◌+◌, ◌-◌, ◌<◌, ◌≤◌, ℕ, List, [], IfOk, IsTrue, length, true};
+ghost use Rattle.std.specs.Prelude.{◌≡◌, ◌≢◌, ◌+◌, ◌*◌, ◌-◌, ◌<◌, ◌≤◌, ℕ, List, [], IfOk, IsTrue, length, true};
 ghost use Rattle.der_base.specs.declared.header.Class.{Class};
 ghost use Rattle.der_base.specs.Answer.{MatchAnswer};
 ghost use Rattle.der_base.specs.Content.{ContentLacks};
@@ -10,8 +10,10 @@ ghost use Rattle.der_base.specs.Header.{class_of, is_constructed, number_of, len
 ghost use Rattle.der_base.specs.Leaf.{is_list};
 ghost use Rattle.der_base.specs.Inner.Spans.{AreInside, AreSpans, content_octets_left, span_octets};
 ghost use Rattle.der_base.specs.Spelling.{framing_budget};
-ghost use Rattle.der_ber.specs.BerReading.{ReadsBer, ReadsBehind, BehindRefuses, BehindNeedsMemory, AreItems, IsContentOf, BerIsCut, NumberRefuses, NeedsMemory, ContentRefuses, ItemsRefuse};
-ghost use Rattle.der_ber.specs.BerReading.{NumberNeedsMemory};
+ghost use Rattle.der_ber.specs.BerReading.{ReadsBer, BerIsCut, NumberRefuses, NeedsMemory, NumberNeedsMemory};
+ghost use Rattle.der_ber.specs.BerReading.{ContentRefuses, ItemsRefuse};
+ghost use Rattle.der_ber.specs.BerReading.{ReadsBehind, BehindRefuses, BehindNeedsMemory, AreItems, IsContentOf};
+ghost use Rattle.der_object.specs.Counting.{CountsObjects, CountsInside, CountsItems};
 
 use crate::leaf::read_leaf;
 use der_base::MAX_RECURSION;
@@ -32,10 +34,15 @@ pub fn read_element<'a>(
     max_depth: usize,
     count: &mut HeaderCount,
 ) -> BerResult<'a>
-    ensures found { MatchAnswer result (λ x. ReadsBer max_depth i.now x.1 x.0.now) (ShowsFault max_depth i.now) (BerIsCut max_depth i.now) (NeedsMemory max_depth i.now) }
+    ensures found { MatchAnswer result
+        (λ x. ReadsBer max_depth i.now x.1 x.0.now)
+        (ShowsFault max_depth i.now)
+        (BerIsCut max_depth i.now)
+        (NeedsMemory max_depth i.now) }
     ensures shorter { IfOk result (λ x. length x.0.now < length i.now) }
-    ensures counted { count.new ≤ count.old + length i.now + 1 }
-    ensures counted_ok { IfOk result (λ x. count.new + length x.0.now ≤ count.old + length i.now) }
+    ensures counted { CountsObjects result count.old count.new }
+    ensures bounded { 2 * count.new ≤ 2 * count.old + length i.now + 2 }
+    ensures bounded_ok { IfOk result (λ x. 2 * count.new + length x.0.now ≤ 2 * count.old + length i.now) }
 {
     if max_depth == 0 {
         return Err(Err::Error(BerError::BerMaxDepth));
@@ -103,8 +110,9 @@ pub(crate) fn read_behind<'a>(
         (BehindRefuses header.entry budget max_depth behind.now)
         (ContentLacks behind.now (length_of header.entry) budget)
         (BehindNeedsMemory header.entry budget max_depth behind.now) }
-    ensures counted { count.new ≤ count.old + length behind.now + 1 }
-    ensures counted_ok { IfOk result (λ x. count.new + length x.0.now ≤ count.old + length behind.now) }
+    ensures counted { CountsInside 0 result count.old count.new }
+    ensures bounded { 2 * count.new ≤ 2 * count.old + length behind.now + 2 }
+    ensures bounded_ok { IfOk result (λ x. 2 * count.new + length x.0.now ≤ 2 * count.old + length behind.now) }
 {
     let mut spans = Vec::new(alloc);
     let (rest, bytes) = ber_record_content(behind, header.length(), budget, count, &mut spans)?;
@@ -129,9 +137,13 @@ fn read_object<'a>(
         (λ x. (x.0.now ≡ rest.now) × (x.1.header ≡ h) × IsContentOf w h x.1.content max_depth)
         (ContentRefuses (class_of h) (is_constructed h) (number_of h) w max_depth)
         (λ _. ⊥)
-        ((2 ≤ max_depth) × (class_of h ≡ Class.Universal) × (is_constructed h ≡ true) × IsTrue (is_list (number_of h)) × (w ≢ [])) }
-    ensures counted { count.new ≤ count.old + content_octets_left (length_of any.entry.header) any.entry.bytes.now inside.now + 1 }
-    ensures counted_ok { IfOk result (λ _. count.new ≤ count.old + content_octets_left (length_of any.entry.header) any.entry.bytes.now inside.now) }
+        ((2 ≤ max_depth) × (class_of h ≡ Class.Universal) × (is_constructed h ≡ true)
+        × IsTrue (is_list (number_of h)) × (w ≢ [])) }
+    ensures counted { CountsInside (length inside.now) result count.old count.new }
+    ensures bounded { let left = content_octets_left (length_of any.entry.header) any.entry.bytes.now inside.now in
+        2 * count.new ≤ 2 * count.old + left + 2 }
+    ensures bounded_ok { let left = content_octets_left (length_of any.entry.header) any.entry.bytes.now inside.now in
+        IfOk result (λ _. 2 * count.new ≤ 2 * count.old + left) }
 {
     let header = any.header;
     let octets = any.bytes;
@@ -176,8 +188,11 @@ fn read_list<'a>(
         (ItemsRefuse w max_depth)
         (λ _. ⊥)
         ((1 ≤ max_depth) × (w ≢ [])) }
-    ensures counted { count.new ≤ count.old + content_octets_left (length_of any.entry.header) any.entry.bytes.now inside.now + 1 }
-    ensures counted_ok { IfOk result (λ _. count.new ≤ count.old + content_octets_left (length_of any.entry.header) any.entry.bytes.now inside.now) }
+    ensures counted { CountsItems (length inside.now) result count.old count.new }
+    ensures bounded { let left = content_octets_left (length_of any.entry.header) any.entry.bytes.now inside.now in
+        2 * count.new ≤ 2 * count.old + left + 2 }
+    ensures bounded_ok { let left = content_octets_left (length_of any.entry.header) any.entry.bytes.now inside.now in
+        IfOk result (λ _. 2 * count.new ≤ 2 * count.old + left) }
 {
     match any.header.length() {
         Length::Definite(_) => read_items(alloc, any.bytes, max_depth, count),
@@ -199,8 +214,9 @@ fn read_items<'a>(
         (ItemsRefuse content.now max_depth)
         (λ _. ⊥)
         ((1 ≤ max_depth) × (content.now ≢ [])) }
-    ensures counted { count.new ≤ count.old + length content.now + 1 }
-    ensures counted_ok { IfOk result (λ _. count.new ≤ count.old + length content.now) }
+    ensures counted { CountsItems 0 result count.old count.new }
+    ensures bounded { 2 * count.new ≤ 2 * count.old + length content.now + 2 }
+    ensures bounded_ok { IfOk result (λ _. 2 * count.new ≤ 2 * count.old + length content.now) }
 {
     let mut items = Vec::new(alloc);
     let mut rest = content;
@@ -232,8 +248,9 @@ fn read_spans<'a>(
         (ItemsRefuse w max_depth)
         (λ _. ⊥)
         ((1 ≤ max_depth) × (w ≢ [])) }
-    ensures counted { count.new ≤ count.old + span_octets spans.now + 1 }
-    ensures counted_ok { IfOk result (λ _. count.new ≤ count.old + span_octets spans.now) }
+    ensures counted { CountsItems (length spans.now) result count.old count.new }
+    ensures bounded { 2 * count.new ≤ 2 * count.old + span_octets spans.now + 2 }
+    ensures bounded_ok { IfOk result (λ _. 2 * count.new ≤ 2 * count.old + span_octets spans.now) }
 {
     let mut items = Vec::new(alloc);
     let _ = items.reserve_exact(outermost(spans));

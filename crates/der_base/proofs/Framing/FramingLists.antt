@@ -47,9 +47,6 @@ header_takes_two i behind c p t l h = omega (arith, identifier_octets c p t, beh
     behind_length (Definite n) g = omega (arith, some_length g.0 n g.1, ap length g.2, length-append g.0 behind)
     behind_length Indefinite g = omega (arith, ap length g.1)
 
-pub header_shorter : (i behind : List ℕ) (c : Class) (p : Bool) (t : ℕ) (l : Length) → BeginsWithHeader i c p t l behind → length behind < length i
-header_shorter i behind c p t l h = omega (arith, header_takes_two i behind c p t l h)
-
 pub behind_marker : (i x behind : List ℕ) (c : Class) (p : Bool) (t : ℕ) (l : Length) → i ≡ end_marker ++ x → BeginsWithHeader i c p t l behind → behind ≡ x
 behind_marker i x behind c p t l e h = (ber_header_same i behind x c _ p _ t _ l _ h (marker_has_header i x e)).rest
 

@@ -1,4 +1,4 @@
-use Rattle.std.proofs.Common.{◌≡◌, ◌<◌, ◌≤◌, ◌++◌, true, false, IsTrue, [], length, ap, drop, arith, rules, inl, inr, refl, sym, subst, ◌∙◌}
+use Rattle.std.proofs.Common.{◌≡◌, ◌<◌, ◌≤◌, ◌++◌, true, false, IsTrue, [], length, length-append, ap, drop, arith, rules, inl, inr, refl, sym, subst, ◌∙◌}
 use Rattle.std.proofs.lemmas.Bool.Decides.{nat_tests}
 use Rattle.std.proofs.lemmas.Result.{err_from_is_err_and}
 use Rattle.der_base.specs.declared.header.Class.TheVariants.{Universal}
@@ -8,25 +8,29 @@ use Rattle.der_base.specs.Header.{class_of, is_constructed, number_of, length_of
 use Rattle.der_base.specs.Leaf.{is_mapped, IsLeafContent}
 use Rattle.der_base.specs.LeafRefusal.{BerLeafRefuses}
 use Rattle.der_base.specs.Refusal.{refusal}
-use Rattle.der_base.proofs.Answers.Answering.{passed_on, answered}
+use Rattle.der_base.proofs.Answers.Answering.{passed_on, answered, ok_with}
 use Rattle.der_base.proofs.Answers.ItemAnswers.{item_answer, some_content}
 use Rattle.der_object.specs.View.{content_tree, trees}
 use Rattle.der_object.specs.HeaderFacts.{forms_of}
+use Rattle.der_object.proofs.Counting.{sequence_content_count, set_content_count, item_count_push}
 use Rattle.der_ber.proofs.Items.{sequence_content, set_content, content_refused, content_memory, object_read, leaf_content, read_none, read_more, read_all, memory_deep, begins_behind, any_refused, any_cut, framing_cut, behind_refused, behind_memory}
 use Rattle.der_base.specs.declared.header.Length.TheVariants.{Definite}
 use Rattle.der_base.specs.Content.{BeginsWithContent, ContentLacks}
 use Rattle.der_base.specs.Spelling.{framing_budget}
+use Rattle.der_base.specs.Inner.Spans.{open_octets}
 use Rattle.der_base.proofs.Framing.FramingAny.{any_lacks_header}
+use Rattle.der_base.proofs.Framing.FramingLists.{header_takes_two}
 use Rattle.std.proofs.lemmas.List.{length-drop}
 use Rattle.der_base.specs.declared.spans.Span.{Span}
 use Rattle.der_base.proofs.Framing.Recording.{inside_more, none_left}
-use Rattle.der_ber.proofs.SpanItems.{span_end, span_inside, octets_split, span_refused, depth_refused, some_items, one_more_item, no_length}
+use Rattle.der_ber.proofs.SpanItems.{span_end, span_inside, length_inside, octets_split, span_refused, depth_refused, some_items, one_more_item, no_length}
 use Rattle.der_ber.proofs.reader.+reader.Goals as goal
 
 pub read_items-loop-rest-preserved : goal.read_items-loop-rest-preserved
 read_items-loop-rest-preserved t c = (
   rw (c.in_ok-push-in-Ok.ensures.items, c.make_room.ensures) (read_more c.args.content.now c.loop-rest.rest.now c.in-Ok.after.now c.loop-rest.items.items c.in-Ok.item c.args.max_depth c.loop-rest.invariant.0 c.in-Ok.ensures.found),
-  omega (arith, c.loop-rest.invariant.1, c.in-Ok.ensures.counted_ok),
+  rw (c.in_ok-push-in-Ok.ensures.items, c.make_room.ensures) (omega (arith, item_count_push c.loop-rest.items.items c.in-Ok.item, c.loop-rest.invariant.1, c.in-Ok.ensures.counted)),
+  omega (arith, c.loop-rest.invariant.2, c.in-Ok.ensures.bounded_ok),
 )
 
 pub read_items-returns-in-Err-clause-found : goal.read_items-returns-in-Err-clause-found
@@ -134,6 +138,52 @@ read_element-returns-in-Indefinite-clause-found t c =
     (λ n y. framing_cut d i behind h n deep q y)
     (λ m. behind_memory d i behind h deep q m)
 
+-- counts of an element
+
+pub read_element-returns-in_ok-rest-in-Definite-clause-bounded : goal.read_element-returns-in_ok-rest-in-Definite-clause-bounded
+read_element-returns-in_ok-rest-in-Definite-clause-bounded t c =
+    let w = c.in_ok-rest-in-Definite.bytes.now in
+    let rest = c.in_ok-rest-in-Definite.rest.now in
+    let h = c.in_ok-behind.header in
+    let l : length_of h ≡ Definite c.in-Definite.size = sym c.length.ensures ∙ c.in-Definite.is in
+    let z : open_octets (length_of h) w ≡ length w = ap (λ v. open_octets v w) l in
+    let parts = ap length c.in_ok-rest-in-Definite.ensures.1 ∙ length-append w rest in
+    let two = header_takes_two _ _ _ _ _ _ c.in_ok-behind.ensures.found.begins in
+    omega (arith, z, parts, two, c.in_ok-behind.ensures.counted, c.read_object.ensures.bounded)
+
+pub read_element-returns-in_ok-rest-in-Definite-clause-bounded_ok : goal.read_element-returns-in_ok-rest-in-Definite-clause-bounded_ok
+read_element-returns-in_ok-rest-in-Definite-clause-bounded_ok t c =
+    let w = c.in_ok-rest-in-Definite.bytes.now in
+    let rest = c.in_ok-rest-in-Definite.rest.now in
+    let h = c.in_ok-behind.header in
+    let l : length_of h ≡ Definite c.in-Definite.size = sym c.length.ensures ∙ c.in-Definite.is in
+    let z : open_octets (length_of h) w ≡ length w = ap (λ v. open_octets v w) l in
+    let parts = ap length c.in_ok-rest-in-Definite.ensures.1 ∙ length-append w rest in
+    let two = header_takes_two _ _ _ _ _ _ c.in_ok-behind.ensures.found.begins in
+    ok_with _ _ _ c.read_object.result _ _ c.read_object.ensures.found c.read_object.ensures.bounded_ok
+    (λ x y k. omega (arith, z, parts, two, ap length y.0, c.in_ok-behind.ensures.counted, k))
+
+pub read_element-returns-in-Indefinite-clause-bounded : goal.read_element-returns-in-Indefinite-clause-bounded
+read_element-returns-in-Indefinite-clause-bounded t c =
+    let two = header_takes_two _ _ _ _ _ _ c.in_ok-behind.ensures.found.begins in
+    omega (arith, two, c.in_ok-behind.ensures.counted, c.read_behind.ensures.bounded)
+
+pub read_element-returns-in-Indefinite-clause-bounded_ok : goal.read_element-returns-in-Indefinite-clause-bounded_ok
+read_element-returns-in-Indefinite-clause-bounded_ok t c =
+    let two = header_takes_two _ _ _ _ _ _ c.in_ok-behind.ensures.found.begins in
+    ok_with _ _ _ c.read_behind.result _ _ c.read_behind.ensures.found c.read_behind.ensures.bounded_ok
+    (λ x y k. omega (arith, two, c.in_ok-behind.ensures.counted, k))
+
+-- and of a list in it
+
+pub read_object-returns-then-eq-clause-counted : goal.read_object-returns-then-eq-clause-counted
+read_object-returns-then-eq-clause-counted t c =
+    rw c.from_header_and_content-then-eq.ensures.content (omega (arith, sequence_content_count c.in_ok-items.items, c.in_ok-items.ensures.counted))
+
+pub read_object-returns-then-eq-2-clause-counted : goal.read_object-returns-then-eq-2-clause-counted
+read_object-returns-then-eq-2-clause-counted t c =
+    rw c.from_header_and_content-then-eq-2.ensures.content (omega (arith, set_content_count c.in_ok-items-2.items, c.in_ok-items-2.ensures.counted))
+
 -- what stands behind a header
 
 pub read_behind-returns-in_err-rest-clause-found : goal.read_behind-returns-in_err-rest-clause-found
@@ -183,6 +233,7 @@ pub read_spans-loop-at-init : goal.read_spans-loop-at-init
 read_spans-loop-at-init t c = (
   (λ w h. (w, rw (c.reserve_exact.ensures.items, c.new-items.ensures.items) (read_none w c.args.max_depth), h)),
   omega arith,
+  rw (c.reserve_exact.ensures.items, c.new-items.ensures.items) (omega arith),
   omega arith,
 )
 
@@ -221,9 +272,9 @@ read_spans-returns-in-Err-clause-found t c = λ w h.
     (λ n r. absurd r)
     (λ m. (deep, some_items ss at none w i.0 os d c.loop-at-test.true i.1 i.2))
 
-pub read_spans-returns-in-Err-clause-counted : goal.read_spans-returns-in-Err-clause-counted
-read_spans-returns-in-Err-clause-counted t c =
-    omega (arith, c.loop-at.invariant.2, octets_split c.args.spans.now c.loop-at.at none c.loop-at-test.true, c.in-Err.ensures.counted)
+pub read_spans-returns-in-Err-clause-bounded : goal.read_spans-returns-in-Err-clause-bounded
+read_spans-returns-in-Err-clause-bounded t c =
+    omega (arith, c.loop-at.invariant.3, octets_split c.args.spans.now c.loop-at.at none c.loop-at-test.true, c.in-Err.ensures.bounded)
 
 pub read_spans-returns-in_err-push-in-Ok-clause-found : goal.read_spans-returns-in_err-push-in-Ok-clause-found
 read_spans-returns-in_err-push-in-Ok-clause-found t c = λ w h.
@@ -233,9 +284,9 @@ read_spans-returns-in_err-push-in-Ok-clause-found t c = λ w h.
     let p = err_from_is_err_and c.from_residual.result c.from_residual.ensures.1 in
     rw (p.1, p.2) (deep, some_items c.args.spans.now c.loop-at.at none w i.0 c.loop-at.items.items d c.loop-at-test.true i.1 i.2)
 
-pub read_spans-returns-in_err-push-in-Ok-clause-counted : goal.read_spans-returns-in_err-push-in-Ok-clause-counted
-read_spans-returns-in_err-push-in-Ok-clause-counted t c =
-    omega (arith, c.loop-at.invariant.2, octets_split c.args.spans.now c.loop-at.at none c.loop-at-test.true, c.in-Ok.ensures.counted)
+pub read_spans-returns-in_err-push-in-Ok-clause-bounded : goal.read_spans-returns-in_err-push-in-Ok-clause-bounded
+read_spans-returns-in_err-push-in-Ok-clause-bounded t c =
+    omega (arith, c.loop-at.invariant.3, octets_split c.args.spans.now c.loop-at.at none c.loop-at-test.true, c.in-Ok.ensures.bounded)
 
 pub read_spans-loop-at-preserved : goal.read_spans-loop-at-preserved
 read_spans-loop-at-preserved t c =
@@ -249,7 +300,8 @@ read_spans-loop-at-preserved t c =
           let i = c.loop-at.invariant.0 w h in
           rw c.in_ok-push-in-Ok.ensures.items (one_more_item ss at none w i.0 c.loop-at.items.items c.in-Ok.item d deep c.loop-at-test.true i.1 i.2 y.1 y.2)),
       span_end ss at none first.0 framing_budget c.loop-at-test.true first.2,
-      omega (arith, c.loop-at.invariant.2, octets_split ss at none c.loop-at-test.true, c.in-Ok.ensures.counted_ok),
+      rw c.in_ok-push-in-Ok.ensures.items (omega (arith, item_count_push c.loop-at.items.items c.in-Ok.item, length_inside ss at none first.0 framing_budget c.loop-at-test.true first.2, c.loop-at.invariant.2, c.in-Ok.ensures.counted)),
+      omega (arith, c.loop-at.invariant.3, octets_split ss at none c.loop-at-test.true, c.in-Ok.ensures.bounded_ok),
     )
 
 pub read_spans-returns-clause-found : goal.read_spans-returns-clause-found

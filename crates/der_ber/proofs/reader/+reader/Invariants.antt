@@ -1,6 +1,9 @@
 use Rattle.std.proofs.Common.{◌+◌, ◌*◌, ◌-◌, ◌≤◌, List, ℕ, length, drop}
+use Rattle.der_base.specs.Count.{some_more}
 use Rattle.der_base.specs.Inner.Spans.{AreSpans, span_octets}
+use Rattle.der_base.specs.Listing.{item_count}
 use Rattle.der_base.specs.Spelling.{framing_budget}
+use Rattle.der_object.specs.View.{trees}
 use Rattle.der_ber.proofs.Items.{Read}
 use Rattle.der_ber.proofs.reader.+reader.Given as goal
 
@@ -22,17 +25,24 @@ decreases-read_items l = 5 * l.max_depth + 4
 abbrev pub decreases-read_spans : goal.decreases-read_spans
 decreases-read_spans l = 5 * l.max_depth + 4
 
--- each header that was counted took an octet at least
+-- each object that was read was counted, and each header that was counted took two octets at least
 abbrev pub invariant-read_items-loop-rest : goal.invariant-read_items-loop-rest
-invariant-read_items-loop-rest l = Read l.content l.rest l.items.items l.max_depth × (l.count + length l.rest ≤ l.fn.count + length l.content)
+invariant-read_items-loop-rest l = Read l.content l.rest l.items.items l.max_depth
+    × (some_more (item_count (trees l.items.items)) l.fn.count ≤ l.count)
+    × (2 * l.count + length l.rest ≤ 2 * l.fn.count + length l.content)
 
 abbrev pub decreases-read_items-loop-rest : goal.decreases-read_items-loop-rest
 decreases-read_items-loop-rest l = length l.rest
 
--- whatever octets the spans are of, the items in front of those that are left were read
+-- whatever octets the spans are of, the items in front of those that are left were read; what no span is of in them was
+-- counted
 abbrev pub invariant-read_spans-loop-at : goal.invariant-read_spans-loop-at
-invariant-read_spans-loop-at l = ((w : List ℕ) → AreSpans l.spans w framing_budget → (rest : List ℕ) × Read w rest l.items.items l.max_depth × AreSpans (drop l.at l.spans) rest framing_budget)
-    × (l.at ≤ length l.spans) × (l.count + span_octets (drop l.at l.spans) ≤ l.fn.count + span_octets l.spans)
+invariant-read_spans-loop-at l =
+    ((w : List ℕ) → AreSpans l.spans w framing_budget
+    → (rest : List ℕ) × Read w rest l.items.items l.max_depth × AreSpans (drop l.at l.spans) rest framing_budget)
+    × (l.at ≤ length l.spans)
+    × (some_more (item_count (trees l.items.items) - l.at) l.fn.count ≤ l.count)
+    × (2 * l.count + span_octets (drop l.at l.spans) ≤ 2 * l.fn.count + span_octets l.spans)
 
 abbrev pub decreases-read_spans-loop-at : goal.decreases-read_spans-loop-at
 decreases-read_spans-loop-at l = length l.spans - l.at
