@@ -6,7 +6,7 @@ ghost use Rattle.der_base.specs.Any.{ReadsAny, AnyRefuses, AnyLacks};
 ghost use Rattle.der_base.specs.Header.{class_of, is_constructed, number_of};
 ghost use Rattle.der_base.specs.Refusal.{Refusal};
 ghost use Rattle.der_base.specs.Spelling.{BeginsWithElement, framing_budget};
-ghost use Rattle.der_ber.specs.BerReading.{AnswersBer, AnswersNumber};
+ghost use Rattle.der_ber.specs.BerReading.{AnswersBer, AnswersNumber, IsStableBer};
 
 use crate::reader::{read_element, read_element_with_tag};
 use der_base::MAX_RECURSION;
@@ -19,6 +19,7 @@ use std::alloc::Global;
 /// Reads one object in BER, to the depth `MAX_RECURSION`: as `parse_ber_recursive`.
 pub fn parse_ber<'a>(alloc: Global, i: &'a [u8]) -> BerResult<'a>
     ensures exactly { AnswersBer 50 i.now result }
+    ensures stable { IsStableBer 50 i.now result }
     ensures shorter { IfOk result (λ x. length x.0.now < length i.now) }
 {
     parse_ber_recursive(alloc, i, MAX_RECURSION)
@@ -38,6 +39,7 @@ pub fn parse_ber<'a>(alloc: Global, i: &'a [u8]) -> BerResult<'a>
 /// more, where it begins with a header of indefinite length.
 pub fn parse_ber_recursive<'a>(alloc: Global, i: &'a [u8], max_depth: usize) -> BerResult<'a>
     ensures exactly { AnswersBer max_depth i.now result }
+    ensures stable { IsStableBer max_depth i.now result }
     ensures shorter { IfOk result (λ x. length x.0.now < length i.now) }
 {
     let mut count = HeaderCount::new();
@@ -47,6 +49,7 @@ pub fn parse_ber_recursive<'a>(alloc: Global, i: &'a [u8], max_depth: usize) -> 
 /// The same as `parse_ber_recursive`.
 pub fn parse_ber_any_r<'a>(alloc: Global, i: &'a [u8], max_depth: usize) -> BerResult<'a>
     ensures exactly { AnswersBer max_depth i.now result }
+    ensures stable { IsStableBer max_depth i.now result }
     ensures shorter { IfOk result (λ x. length x.0.now < length i.now) }
 {
     parse_ber_recursive(alloc, i, max_depth)
@@ -87,6 +90,7 @@ pub fn parse_ber_counted<'a>(
     count: &mut HeaderCount,
 ) -> BerResult<'a>
     ensures exactly { AnswersBer max_depth i.now result }
+    ensures stable { IsStableBer max_depth i.now result }
     ensures shorter { IfOk result (λ x. length x.0.now < length i.now) }
     ensures counted { count.new ≤ count.old + length i.now + 1 }
     ensures counted_ok { IfOk result (λ x. count.new + length x.0.now ≤ count.old + length i.now) }
