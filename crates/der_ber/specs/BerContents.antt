@@ -105,6 +105,10 @@ AnswersContentAs t l p d i result = AnswersExactly result content_value_of (λ x
     (SpellsContentAs t l p d i) (ContentAsRefuses t l p d i) (FrameLacks l p d i)
     (ContentAsNeedsMemory t l p d i) (FramingAsNeedsMemory l p d)
 
+-- the same behind a header, of which the class and the number aren't looked at
+abbrev pub AnswersContentBehind : ℕ → Header → ℕ → List ℕ → ContentAnswer → Type 0
+AnswersContentBehind t h = AnswersContentAs t (length_of h) (is_constructed h)
+
 -- objects of one number, of any class
 
 -- i begins with a header of this number
@@ -122,7 +126,7 @@ pub record ReadsTyped (t : ℕ) (i : List ℕ) (o : BerObject) (rest : List ℕ)
 abbrev pub HeaderOfRefuses : ℕ → List ℕ → Refusal → Type 0
 HeaderOfRefuses t i e = BerHeaderRefuses i e
     ⊎ ((c : Class) × (p : Bool) × (n : ℕ) × (l : Length) × (behind : List ℕ) × BeginsWithHeader i c p n l behind
-        × (n ≢ t) × (e ≡ unexpected_tag (Some t) n))
+    × (n ≢ t) × (e ≡ unexpected_tag (Some t) n))
 
 -- or its content is refused
 abbrev pub TypedRefuses : ℕ → List ℕ → Refusal → Type 0
@@ -142,7 +146,8 @@ abbrev pub SpellsTyped : ℕ → List ℕ → Node × List ℕ → Type 0
 SpellsTyped t i (node c p n x, rest) = (n ≡ t) × (l : Length) × (behind : List ℕ)
     × BeginsWithHeader i c p t l behind × SpellsContentAs t l p 50 behind (x, rest)
 
--- a reader of the type of number t answers exactly what i shows, and may want memory only where M holds, and C of a cut input
+-- A reader of the type of number t answers exactly what i shows. It may want memory only where M holds, and C of a cut
+-- input.
 abbrev pub AnswersTypedOr : Type 0 → Type 0 → ℕ → List ℕ → Answer → Type 0
 AnswersTypedOr M C t i result = AnswersExactly result value_of (λ x. ReadsTyped t i x.1 x.0.now)
     (SpellsTyped t i) (TypedRefuses t i) (TypedLacks t i) M C

@@ -101,13 +101,13 @@ pub record ReadsBehind (h : Header) (k d : ℕ) (behind : List ℕ) (o : BerObje
 abbrev pub BehindRefuses : Header → ℕ → ℕ → List ℕ → Refusal → Type 0
 BehindRefuses h k d behind e = FramingRefuses behind (length_of h) k e
     ⊎ ((w rest : List ℕ) × BeginsWithContent behind (length_of h) k w rest
-        × ContentRefuses (class_of h) (is_constructed h) (number_of h) w d e)
+    × ContentRefuses (class_of h) (is_constructed h) (number_of h) w d e)
 
 -- what stands behind the header is a list that has items, or its length is indefinite
 abbrev pub BehindNeedsMemory : Header → ℕ → ℕ → List ℕ → Type 0
 BehindNeedsMemory h k d behind =
     ((2 ≤ d) × (class_of h ≡ Universal) × (is_constructed h ≡ true) × IsTrue (is_list (number_of h))
-        × (w rest : List ℕ) × (w ≢ []) × BeginsWithContent behind (length_of h) k w rest)
+    × (w rest : List ℕ) × (w ≢ []) × BeginsWithContent behind (length_of h) k w rest)
     ⊎ (length_of h ≡ Indefinite)
 
 -- the full reader answers exactly what i shows to depth d

@@ -14,4 +14,5 @@ WrittenSpells = (d : ℕ) (i rest : List ℕ) (o : BerObject) → ReadsBer d i o
 -- and whatever object is read of it, to whatever depth, has that tree, and nothing is left
 abbrev pub WrittenIsReadBack : Type 0
 WrittenIsReadBack = (d d' : ℕ) (i rest rest' : List ℕ) (o o' : BerObject)
-    → ReadsBer d i o rest → length (encoding (tree o)) < 2 ^ 64 → ReadsBer d' (encoding (tree o)) o' rest' → (tree o' ≡ tree o) × (rest' ≡ [])
+    → ReadsBer d i o rest → length (encoding (tree o)) < 2 ^ 64
+    → ReadsBer d' (encoding (tree o)) o' rest' → (tree o' ≡ tree o) × (rest' ≡ [])

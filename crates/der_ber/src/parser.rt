@@ -6,7 +6,8 @@ ghost use Rattle.der_base.specs.Any.{ReadsAny, AnyRefuses, AnyLacks};
 ghost use Rattle.der_base.specs.Header.{class_of, is_constructed, number_of};
 ghost use Rattle.der_base.specs.Refusal.{Refusal};
 ghost use Rattle.der_base.specs.Spelling.{BeginsWithElement, framing_budget};
-ghost use Rattle.der_ber.specs.BerReading.{AnswersBer, AnswersNumber, IsStableBer};
+ghost use Rattle.der_ber.specs.BerReading.{AnswersBer, AnswersNumber};
+ghost use Rattle.der_ber.specs.BerReading.{IsStableBer};
 
 use crate::reader::{read_element, read_element_with_tag};
 use der_base::MAX_RECURSION;
