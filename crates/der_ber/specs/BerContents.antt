@@ -1,5 +1,7 @@
--- What the readers of a content answer that are given its tag number, its length and its constructed bit, and what the readers of one tag number answer.
-use Rattle.std.specs.Prelude.{◌≡◌, ◌≢◌, ℕ, ◌-◌, ◌<◌, ◌≤◌, ◌⊎◌, Bool, true, false, None, Some, IsTrue, List, [], length, min}
+-- What the readers of a content answer that are given its tag number, its length and its constructed bit, and what the
+-- readers of one tag number answer.
+use Rattle.std.specs.Prelude.{◌≡◌, ◌≢◌, ℕ, ◌-◌, ◌<◌, ◌≤◌, ◌⊎◌, Bool, true, false, None, Some, IsTrue}
+use Rattle.std.specs.Prelude.{List, [], length, min}
 use Rattle.der_base.specs.declared.header.Class.{Class}
 use Rattle.der_base.specs.declared.header.Class.TheVariants.{Universal}
 use Rattle.der_base.specs.declared.header.Header.{Header}
@@ -34,7 +36,8 @@ abbrev pub MayFollow : Length → Bool → ℕ → List ℕ → Type 0
 MayFollow (Definite n) p d i = (1 ≤ d) × (n ≤ max_object_size) × (n ≤ length i)
 MayFollow Indefinite p d i = (1 ≤ d) × (p ≡ true)
 
--- the tests of length and depth pass, i begins with the content octets w, and rest follows; indefinite lengths are nested below the depth and below 50
+-- the tests of length and depth pass, i begins with the content octets w, and rest follows; indefinite lengths are
+-- nested below the depth and below 50
 pub record FramesContent (l : Length) (p : Bool) (d : ℕ) (i w rest : List ℕ) : Type 0 where
   pub deep : 1 ≤ d
   pub passes : LengthPasses l p
@@ -66,7 +69,8 @@ HasOwnHeader t l p (Unknown a) = IsHeader a.header Universal p t l None
 HasOwnHeader t l p _ = Unit {0}
 
 -- i begins with the octets of the content, and rest follows
-pub record ReadsContentAs (t : ℕ) (l : Length) (p : Bool) (d : ℕ) (i : List ℕ) (x : BerObjectContent) (rest : List ℕ) : Type 0 where
+pub record ReadsContentAs (t : ℕ) (l : Length) (p : Bool) (d : ℕ) (i : List ℕ) (x : BerObjectContent) (rest : List ℕ)
+    : Type 0 where
   pub octets : List ℕ
   pub framed : FramesContent l p d i octets rest
   -- each header of an item has the length that is there
@@ -86,18 +90,24 @@ FramingAsNeedsMemory l p d = (1 ≤ d) × (p ≡ true) × (l ≡ Indefinite)
 
 -- or a list that has items
 abbrev pub ContentAsNeedsMemory : ℕ → Length → Bool → ℕ → List ℕ → Type 0
-ContentAsNeedsMemory t l p d i = ((2 ≤ d) × IsTrue (is_list t) × (p ≡ true) × (w rest : List ℕ) × (w ≢ []) × FramesContent l p d i w rest)
+ContentAsNeedsMemory t l p d i =
+    ((2 ≤ d) × IsTrue (is_list t) × (p ≡ true) × (w rest : List ℕ) × (w ≢ []) × FramesContent l p d i w rest)
     ⊎ FramingAsNeedsMemory l p d
 
 -- i begins with the octets of a content as that of the universal type of number t, and rest follows
 abbrev pub SpellsContentAs : ℕ → Length → Bool → ℕ → List ℕ → Content × List ℕ → Type 0
-SpellsContentAs t l p d i (x, rest) = (w : List ℕ) × (fs : Forms) × FramesContent l p d i w rest × IsContentAs t l p d w x fs
+SpellsContentAs t l p d i (x, rest) = (w : List ℕ) × (fs : Forms)
+    × FramesContent l p d i w rest × IsContentAs t l p d w x fs
 
 -- a reader of contents answers exactly what i shows, behind a length of this form
 abbrev pub AnswersContentAs : ℕ → Length → Bool → ℕ → List ℕ → ContentAnswer → Type 0
 AnswersContentAs t l p d i result = AnswersExactly result content_value_of (λ x. ReadsContentAs t l p d i x.1 x.0.now)
     (SpellsContentAs t l p d i) (ContentAsRefuses t l p d i) (FrameLacks l p d i)
     (ContentAsNeedsMemory t l p d i) (FramingAsNeedsMemory l p d)
+
+-- the same behind a header, of which the class and the number aren't looked at
+abbrev pub AnswersContentBehind : ℕ → Header → ℕ → List ℕ → ContentAnswer → Type 0
+AnswersContentBehind t h = AnswersContentAs t (length_of h) (is_constructed h)
 
 -- objects of one number, of any class
 
@@ -115,7 +125,8 @@ pub record ReadsTyped (t : ℕ) (i : List ℕ) (o : BerObject) (rest : List ℕ)
 -- the header is refused, or has another number
 abbrev pub HeaderOfRefuses : ℕ → List ℕ → Refusal → Type 0
 HeaderOfRefuses t i e = BerHeaderRefuses i e
-    ⊎ ((c : Class) × (p : Bool) × (n : ℕ) × (l : Length) × (behind : List ℕ) × BeginsWithHeader i c p n l behind × (n ≢ t) × (e ≡ unexpected_tag (Some t) n))
+    ⊎ ((c : Class) × (p : Bool) × (n : ℕ) × (l : Length) × (behind : List ℕ) × BeginsWithHeader i c p n l behind
+    × (n ≢ t) × (e ≡ unexpected_tag (Some t) n))
 
 -- or its content is refused
 abbrev pub TypedRefuses : ℕ → List ℕ → Refusal → Type 0
@@ -135,14 +146,16 @@ abbrev pub SpellsTyped : ℕ → List ℕ → Node × List ℕ → Type 0
 SpellsTyped t i (node c p n x, rest) = (n ≡ t) × (l : Length) × (behind : List ℕ)
     × BeginsWithHeader i c p t l behind × SpellsContentAs t l p 50 behind (x, rest)
 
--- a reader of the type of number t answers exactly what i shows, and may want memory only where M holds, and C of a cut input
+-- A reader of the type of number t answers exactly what i shows. It may want memory only where M holds, and C of a cut
+-- input.
 abbrev pub AnswersTypedOr : Type 0 → Type 0 → ℕ → List ℕ → Answer → Type 0
-AnswersTypedOr M C t i result = AnswersExactly result value_of (λ x. ReadsTyped t i x.1 x.0.now) (SpellsTyped t i)
-    (TypedRefuses t i) (TypedLacks t i) M C
+AnswersTypedOr M C t i result = AnswersExactly result value_of (λ x. ReadsTyped t i x.1 x.0.now)
+    (SpellsTyped t i) (TypedRefuses t i) (TypedLacks t i) M C
 
 -- the same of a reader that may want it for a list that has items, and for an indefinite length
 abbrev pub AnswersTyped : ℕ → List ℕ → Answer → Type 0
-AnswersTyped t i = AnswersTypedOr (TypedNeedsMemory t i) (BehindHeader t i (λ l p v. FramingAsNeedsMemory l p 50)) t i
+AnswersTyped t i =
+    AnswersTypedOr (TypedNeedsMemory t i) (BehindHeader t i (λ l p v. FramingAsNeedsMemory l p 50)) t i
 
 -- the same of a reader that takes no memory
 abbrev pub AnswersLeaf : ℕ → List ℕ → Answer → Type 0

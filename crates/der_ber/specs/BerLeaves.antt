@@ -9,4 +9,5 @@ use Rattle.der_object.specs.View.{content_tree}
 
 -- the content that the octets w of type t are, primitive or constructed, or why they are none
 abbrev pub ReadsLeaf : Bool → ℕ → List ℕ → Result BerObjectContent BerError → Type 0
-ReadsLeaf p t w result = MatchResult result (λ x. IsLeafContent p t w (content_tree x)) (λ e. BerLeafRefuses p t w (refusal e))
+ReadsLeaf p t w result =
+    MatchResult result (λ x. IsLeafContent p t w (content_tree x)) (λ e. BerLeafRefuses p t w (refusal e))

@@ -5,7 +5,7 @@ use Rattle.der_base.specs.declared.header.Class.TheVariants.{Universal}
 use Rattle.der_base.specs.declared.header.Header.{Header}
 use Rattle.der_base.specs.declared.header.Length.TheVariants.{Indefinite}
 use Rattle.der_base.specs.Content.{BeginsWithContent, ContentRefuses as FramingRefuses}
-use Rattle.der_base.specs.Cut.{IsCut, Lacks}
+use Rattle.der_base.specs.Cut.{Lacks}
 use Rattle.der_base.specs.Exactly.{AnswersExactly}
 use Rattle.der_base.specs.Fault.{ItemRefuses, ShowsFault, ShowsInside}
 use Rattle.der_base.specs.Inner.Framed.{HasContent}
@@ -14,16 +14,15 @@ use Rattle.der_base.specs.Headers.{BeginsWithHeader}
 use Rattle.der_base.specs.Leaf.{is_list, is_mapped}
 use Rattle.der_base.specs.Refusal.{Refusal, unexpected_tag}
 use Rattle.der_base.specs.Spelling.{BeginsWithBer, BeginsWithElement, BerSpellsAs, Forms, Joins, framing_budget}
+pub use Rattle.der_base.specs.Stable.{BerIsCut}
+use Rattle.der_base.specs.Stable.{AnswerStays}
 use Rattle.der_base.specs.Tree.{Node, node, Nodes}
 use Rattle.der_object.specs.declared.object.BerObject.{BerObject}
 use Rattle.der_object.specs.declared.object.BerObjectContent.{BerObjectContent}
-use Rattle.der_object.specs.HeaderFacts.{form_of, forms_of, inner_forms, EachInside, KeepsHeader, HasRawTagAndHeader, EachHasRawTagAndHeader}
+use Rattle.der_object.specs.HeaderFacts.{form_of, forms_of, inner_forms, EachInside, KeepsHeader}
+use Rattle.der_object.specs.HeaderFacts.{HasRawTagAndHeader, EachHasRawTagAndHeader}
 use Rattle.der_object.specs.Readings.{Answer, value_of}
 use Rattle.der_object.specs.View.{tree, trees, content_tree}
-
--- i is a proper front of an element, lacks n octets, and shows no refusal
-abbrev pub BerIsCut : ℕ → List ℕ → ℕ → Type 0
-BerIsCut d i n = IsCut i × Lacks i n × ((e : Refusal) → ¬ ShowsFault d i e)
 
 -- i begins with a BER spelling of the object to depth d, and rest follows
 pub record ReadsBer (d : ℕ) (i : List ℕ) (o : BerObject) (rest : List ℕ) : Type 0 where
@@ -36,9 +35,11 @@ pub record ReadsBer (d : ℕ) (i : List ℕ) (o : BerObject) (rest : List ℕ) :
 
 -- i begins with an element of this number, which is another than n
 abbrev pub IsOther : ℕ → List ℕ → ℕ → Type 0
-IsOther n i t = (t ≢ n) × (c : Class) × (p : Bool) × (w rest : List ℕ) × BeginsWithElement i framing_budget c p t w rest
+IsOther n i t = (t ≢ n) × (c : Class) × (p : Bool) × (w rest : List ℕ)
+    × BeginsWithElement i framing_budget c p t w rest
 
--- the refusals of a reader that wants the number n: another number is told behind header and framing, and before the content
+-- The refusals of a reader that wants the number n: another number is told behind header and framing, and before the
+-- content.
 abbrev pub NumberRefuses : ℕ → ℕ → List ℕ → Refusal → Type 0
 NumberRefuses n d i e = ((1 ≤ d) × (t : ℕ) × IsOther n i t × (e ≡ unexpected_tag (Some n) t))
     ⊎ (((d ≡ 0) ⊎ ((t : ℕ) → ¬ IsOther n i t)) × ShowsFault d i e)
@@ -74,7 +75,8 @@ ContentRefuses c p t w d e = (c ≡ Universal) × IsTrue (is_mapped t) × ShowsI
 
 -- w joins items to depth d, and shows the refusal where the next one should begin
 abbrev pub ItemsRefuse : List ℕ → ℕ → Refusal → Type 0
-ItemsRefuse w d e = (l : Nodes) × (fs : Forms) × (u r : List ℕ) × (w ≡ u ++ r) × Joins u l fs d framing_budget × ItemRefuses (ShowsFault d) Lacks r e
+ItemsRefuse w d e = (l : Nodes) × (fs : Forms) × (u r : List ℕ) × (w ≡ u ++ r) × Joins u l fs d framing_budget
+    × ItemRefuses (ShowsFault d) Lacks r e
 
 -- the octets w join the objects, to depth d
 pub record AreItems (w : List ℕ) (os : List BerObject) (d : ℕ) : Type 0 where
@@ -87,7 +89,8 @@ pub record IsContentOf (w : List ℕ) (h : Header) (x : BerObjectContent) (d : �
   pub kept : KeepsHeader h x
   pub headers : EachInside HasRawTagAndHeader x
 
--- behind a header stands its content, with indefinite lengths nested below the budget k, and it is that of the object, to depth d
+-- behind a header stands its content, with indefinite lengths nested below the budget k, and it is that of the object,
+-- to depth d
 pub record ReadsBehind (h : Header) (k d : ℕ) (behind : List ℕ) (o : BerObject) (rest : List ℕ) : Type 0 where
   pub octets : List ℕ
   pub framed : BeginsWithContent behind (length_of h) k octets rest
@@ -97,17 +100,25 @@ pub record ReadsBehind (h : Header) (k d : ℕ) (behind : List ℕ) (o : BerObje
 -- the framing behind the header is refused, or the content
 abbrev pub BehindRefuses : Header → ℕ → ℕ → List ℕ → Refusal → Type 0
 BehindRefuses h k d behind e = FramingRefuses behind (length_of h) k e
-    ⊎ ((w rest : List ℕ) × BeginsWithContent behind (length_of h) k w rest × ContentRefuses (class_of h) (is_constructed h) (number_of h) w d e)
+    ⊎ ((w rest : List ℕ) × BeginsWithContent behind (length_of h) k w rest
+    × ContentRefuses (class_of h) (is_constructed h) (number_of h) w d e)
 
 -- what stands behind the header is a list that has items, or its length is indefinite
 abbrev pub BehindNeedsMemory : Header → ℕ → ℕ → List ℕ → Type 0
-BehindNeedsMemory h k d behind = ((2 ≤ d) × (class_of h ≡ Universal) × (is_constructed h ≡ true) × IsTrue (is_list (number_of h)) × (w rest : List ℕ) × (w ≢ []) × BeginsWithContent behind (length_of h) k w rest)
+BehindNeedsMemory h k d behind =
+    ((2 ≤ d) × (class_of h ≡ Universal) × (is_constructed h ≡ true) × IsTrue (is_list (number_of h))
+    × (w rest : List ℕ) × (w ≢ []) × BeginsWithContent behind (length_of h) k w rest)
     ⊎ (length_of h ≡ Indefinite)
 
 -- the full reader answers exactly what i shows to depth d
 abbrev pub AnswersBer : ℕ → List ℕ → Answer → Type 0
-AnswersBer d i result = AnswersExactly result value_of (λ x. ReadsBer d i x.1 x.0.now) (λ v. BeginsWithBer d i v.0 v.1)
-    (ShowsFault d i) (BerIsCut d i) (NeedsMemory d i) (FramingNeedsMemory d i)
+AnswersBer d i result = AnswersExactly result value_of (λ x. ReadsBer d i x.1 x.0.now)
+    (λ v. BeginsWithBer d i v.0 v.1) (ShowsFault d i) (BerIsCut d i) (NeedsMemory d i) (FramingNeedsMemory d i)
+
+-- What was answered stays, whatever octets follow: an Error, and an Ok but for its rest. Each proper front of what was
+-- read is cut short.
+abbrev pub IsStableBer : ℕ → List ℕ → Answer → Type 0
+IsStableBer d i result = AnswerStays result value_of BeginsWithBer ShowsFault BerIsCut d i
 
 -- the tag number of a tree
 abbrev pub number : Node → ℕ

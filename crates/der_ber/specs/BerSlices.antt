@@ -20,7 +20,7 @@ abbrev pub SliceRefuses : ℕ → List ℕ → Refusal → Type 0
 SliceRefuses n i e = AnyRefuses i e
     ⊎ ((behind : List ℕ) × HasShortContent i behind × (e ≡ parser_fault Eof))
     ⊎ ((c : Class) × (p : Bool) × (t : ℕ) × (w rest : List ℕ) × BeginsWithElement i framing_budget c p t w rest
-        × (t ≢ n) × (e ≡ unexpected_tag (Some n) t))
+    × (t ≢ n) × (e ≡ unexpected_tag (Some n) t))
 
 -- the answer of such a reader
 abbrev pub SliceAnswer : Type 0

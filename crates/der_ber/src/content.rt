@@ -2,8 +2,8 @@
 //! length and the constructed bit.
 ghost use Rattle.std.specs.Prelude.{◌≡◌};
 ghost use Rattle.der_base.specs.Answer.{MatchAnswer};
-ghost use Rattle.der_base.specs.Header.{is_constructed, length_of};
-ghost use Rattle.der_ber.specs.BerContents.{AnswersContentAs, MayFollow, FramesContent, FrameRefuses, FrameLacks, ReadsContentAs, ContentAsRefuses, ContentAsNeedsMemory};
+ghost use Rattle.der_ber.specs.BerContents.{AnswersContentAs, AnswersContentBehind, MayFollow, FramesContent, FrameRefuses, FrameLacks};
+ghost use Rattle.der_ber.specs.BerContents.{ReadsContentAs, ContentAsRefuses, ContentAsNeedsMemory};
 
 use crate::reader::read_behind;
 use der_base::any::ber_read_content;
@@ -127,7 +127,7 @@ impl BerContent {
         header: &Header<'_>,
         max_depth: usize,
     ) -> BerResult<'a, BerObjectContent<'a>>
-        ensures { AnswersContentAs self.now.tag.0 (length_of header.now) (is_constructed header.now) max_depth i.now result }
+        ensures { AnswersContentBehind self.now.tag.0 header.now max_depth i.now result }
     {
         ber_read_element_content_as(
             self.alloc,
@@ -163,7 +163,7 @@ impl BerContent2 {
         header: Header<'_>,
         max_depth: usize,
     ) -> BerResult<'a, BerObjectContent<'a>>
-        ensures { AnswersContentAs self.now.tag.0 (length_of header.entry) (is_constructed header.entry) max_depth i.now result }
+        ensures { AnswersContentBehind self.now.tag.0 header.entry max_depth i.now result }
     {
         parse_ber_content(self.alloc, self.tag).parse(i, &header, max_depth)
     }

@@ -2,6 +2,7 @@
 ghost use Rattle.std.specs.Prelude.{◌<◌, IfOk, length};
 ghost use Rattle.der_base.specs.Any.{AnswersAny};
 ghost use Rattle.der_ber.specs.BerReading.{AnswersBer, AnswersNumber};
+ghost use Rattle.der_ber.specs.BerReading.{IsStableBer};
 ghost use Rattle.der_object.specs.Counting.{CountsObjects, CountsWithinOctets};
 
 use crate::reader::{read_element, read_element_with_tag};
@@ -15,6 +16,7 @@ use std::alloc::Global;
 /// Reads one object in BER, to the depth `MAX_RECURSION`: as `parse_ber_recursive`.
 pub fn parse_ber<'a>(alloc: Global, i: &'a [u8]) -> BerResult<'a>
     ensures exactly { AnswersBer 50 i.now result }
+    ensures stable { IsStableBer 50 i.now result }
     ensures shorter { IfOk result (λ x. length x.0.now < length i.now) }
 {
     parse_ber_recursive(alloc, i, MAX_RECURSION)
@@ -34,6 +36,7 @@ pub fn parse_ber<'a>(alloc: Global, i: &'a [u8]) -> BerResult<'a>
 /// more, where it begins with a header of indefinite length.
 pub fn parse_ber_recursive<'a>(alloc: Global, i: &'a [u8], max_depth: usize) -> BerResult<'a>
     ensures exactly { AnswersBer max_depth i.now result }
+    ensures stable { IsStableBer max_depth i.now result }
     ensures shorter { IfOk result (λ x. length x.0.now < length i.now) }
 {
     let mut count = HeaderCount::new();
@@ -43,6 +46,7 @@ pub fn parse_ber_recursive<'a>(alloc: Global, i: &'a [u8], max_depth: usize) -> 
 /// The same as `parse_ber_recursive`.
 pub fn parse_ber_any_r<'a>(alloc: Global, i: &'a [u8], max_depth: usize) -> BerResult<'a>
     ensures exactly { AnswersBer max_depth i.now result }
+    ensures stable { IsStableBer max_depth i.now result }
     ensures shorter { IfOk result (λ x. length x.0.now < length i.now) }
 {
     parse_ber_recursive(alloc, i, max_depth)
@@ -80,6 +84,7 @@ pub fn parse_ber_counted<'a>(
     count: &mut HeaderCount,
 ) -> BerResult<'a>
     ensures exactly { AnswersBer max_depth i.now result }
+    ensures stable { IsStableBer max_depth i.now result }
     ensures shorter { IfOk result (λ x. length x.0.now < length i.now) }
     ensures counted { CountsObjects result count.old count.new }
     ensures bounded { CountsWithinOctets i.now result count.old count.new }
