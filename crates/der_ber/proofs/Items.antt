@@ -138,7 +138,7 @@ content_refused (suc d) i rest w c p t e h b (u, m, q) =
 
 pub content_memory : (d : ℕ) (i rest w : List ℕ) (c : Class) (p : Bool) (t : ℕ) → BeginsWithElement i framing_budget c p t w rest
     → (2 ≤ d) × (c ≡ Universal) × (p ≡ true) × IsTrue (is_list t) × (w ≢ []) → NeedsMemory d i
-content_memory d i rest w c p t b (deep, u, q, k, some) = inl (deep, (t, w, rest, k, some, subst (λ k. BeginsWithElement i framing_budget Universal k t w rest) q (subst (λ k. BeginsWithElement i framing_budget k p t w rest) u b)))
+content_memory d i rest w c p t b (deep, u, q, k, some) = inl (deep, (t, (w, rest, k, some, subst (λ k. BeginsWithElement i framing_budget Universal k t w rest) q (subst (λ k. BeginsWithElement i framing_budget k p t w rest) u b))))
 
 -- refusals and cuts behind a header, at a depth of at least 1
 

@@ -20,7 +20,7 @@ cut_same d i n n' h h' = lacks_same h.1 h'.1 refl
 
 -- a cut input is no whole list: it wants memory for what framing keeps alone
 pub cut_needs : (d : ℕ) (i : List ℕ) (n : ℕ) → BerIsCut d i n → NeedsMemory d i → FramingNeedsMemory d i
-cut_needs d i n k (inl (two, (t, w, rest, list, some, b))) = absurd (begins_not_cut i framing_budget Universal true t w rest b k.0)
+cut_needs d i n k (inl (two, (t, (w, rest, list, some, b)))) = absurd (begins_not_cut i framing_budget Universal true t w rest b k.0)
 cut_needs d i n k (inr m) = m
 
 pub spelled_same : (d : ℕ) (i b b' rest rest' : List ℕ) (o o' : Node) → i ≡ b ++ rest → BerSpells b o d framing_budget → i ≡ b' ++ rest' → BerSpells b' o' d framing_budget → (o ≡ o') × (rest ≡ rest')

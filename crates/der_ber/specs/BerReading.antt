@@ -43,9 +43,14 @@ abbrev pub NumberRefuses : ℕ → ℕ → List ℕ → Refusal → Type 0
 NumberRefuses n d i e = ((1 ≤ d) × (t : ℕ) × IsOther n i t × (e ≡ unexpected_tag (Some n) t))
     ⊎ (((d ≡ 0) ⊎ ((t : ℕ) → ¬ IsOther n i t)) × ShowsFault d i e)
 
--- i begins with a whole list that has items
+-- i begins with a whole list of the number t that has items
+abbrev pub BeginsWithItemsOf : ℕ → List ℕ → Type 0
+BeginsWithItemsOf t i = (w rest : List ℕ) × IsTrue (is_list t) × (w ≢ [])
+    × BeginsWithElement i framing_budget Universal true t w rest
+
+-- of any number
 abbrev pub BeginsWithItems : List ℕ → Type 0
-BeginsWithItems i = (t : ℕ) × (w rest : List ℕ) × IsTrue (is_list t) × (w ≢ []) × BeginsWithElement i framing_budget Universal true t w rest
+BeginsWithItems i = (t : ℕ) × BeginsWithItemsOf t i
 
 -- i begins with a header of indefinite length
 abbrev pub BeginsOpen : List ℕ → Type 0
@@ -58,6 +63,10 @@ FramingNeedsMemory d i = (1 ≤ d) × BeginsOpen i
 -- where the reader may want memory, to depth d
 abbrev pub NeedsMemory : ℕ → List ℕ → Type 0
 NeedsMemory d i = ((2 ≤ d) × BeginsWithItems i) ⊎ FramingNeedsMemory d i
+
+-- the same of a reader that wants the number n: framing comes before the comparison, and the content behind it
+abbrev pub NumberNeedsMemory : ℕ → ℕ → List ℕ → Type 0
+NumberNeedsMemory n d i = ((2 ≤ d) × BeginsWithItemsOf n i) ⊎ FramingNeedsMemory d i
 
 -- content octets behind a header of this class, bit and number show the refusal, to a depth of at least 1
 abbrev pub ContentRefuses : Class → Bool → ℕ → List ℕ → ℕ → Refusal → Type 0
@@ -106,5 +115,6 @@ number (node c p t x) = t
 
 -- the reader that wants the number n answers exactly what i shows to depth d
 abbrev pub AnswersNumber : ℕ → ℕ → List ℕ → Answer → Type 0
-AnswersNumber n d i result = AnswersExactly result value_of (λ x. ReadsBer d i x.1 x.0.now × (number_of x.1.header ≡ n))
-    (λ v. BeginsWithBer d i v.0 v.1 × (number v.0 ≡ n)) (NumberRefuses n d i) (BerIsCut d i) (NeedsMemory d i) (FramingNeedsMemory d i)
+AnswersNumber n d i result = AnswersExactly result value_of
+    (λ x. ReadsBer d i x.1 x.0.now × (number_of x.1.header ≡ n)) (λ v. BeginsWithBer d i v.0 v.1 × (number v.0 ≡ n))
+    (NumberRefuses n d i) (BerIsCut d i) (NumberNeedsMemory n d i) (FramingNeedsMemory d i)

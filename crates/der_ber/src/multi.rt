@@ -1,12 +1,11 @@
 //! Combinators that keep the caller's parser of a content, and the reader of a content as it stands.
-ghost use Rattle.std.specs.Prelude.{◌≡◌, ℕ, Bool, List, IfErr, IfOk, IsOkAnd, MatchOption, MatchResult};
+ghost use Rattle.std.specs.Prelude.{◌≡◌, ℕ, Bool, List, IfErr, IfOk, MatchOption, MatchResult};
 ghost use Rattle.der_base.specs.declared.header.Class.{Class};
 ghost use Rattle.der_base.specs.declared.error.Err.{Err};
-ghost use Rattle.der_base.specs.Answer.{MatchAnswer, AnswersError, AnswersIncomplete};
-ghost use Rattle.der_base.specs.Refusal.{Refusal};
+ghost use Rattle.der_base.specs.Answer.{MatchAnswer};
 ghost use Rattle.der_base.specs.Containers.{ContainerRun, HasShortContent, NoCall, OneCall, OpeningLacks, OpensBer, OpensBerNumber, RefusesBer, RefusesBerNumber};
 ghost use Rattle.der_base.specs.Spelling.{BeginsWithElement, framing_budget};
-ghost use Rattle.der_ber.specs.BerSlices.{ReadsSlice, SliceRefuses};
+ghost use Rattle.der_ber.specs.BerSlices.{AnswersSlice, ReadsSlice, SliceRefuses};
 
 use der_base::any::Any;
 use der_base::error::{BerError, Err, ErrorKind, IResult, ParseError};
@@ -224,16 +223,17 @@ impl<F> BerSetDefinedG<F> {
 /// another one. Incomplete where the input ends within the header, or within the content of an
 /// indefinite length. It takes no memory.
 pub fn parse_ber_slice<'a>(i: &'a [u8], tag: Tag) -> IResult<&'a [u8], &'a [u8], BerError>
-    ensures found { MatchAnswer result (λ x. ReadsSlice tag.0 i.now x.1.now x.0.now) (SliceRefuses tag.0 i.now) (OpeningLacks i.now) ⊥ }
-    ensures only { (w rest : List ℕ) → ReadsSlice tag.0 i.now w rest → IsOkAnd result (λ x. (x.1.now ≡ w) × (x.0.now ≡ rest)) }
-    ensures refuses { (e : Refusal) → SliceRefuses tag.0 i.now e → AnswersError result e }
-    ensures lacks { (n : ℕ) → OpeningLacks i.now n → AnswersIncomplete result n }
+    ensures { AnswersSlice tag.0 i.now result }
 {
     read_slice(i, tag)
 }
 
 fn read_slice<'a>(i: &'a [u8], tag: Tag) -> IResult<&'a [u8], &'a [u8], BerError>
-    ensures { MatchAnswer result (λ x. ReadsSlice tag.0 i.now x.1.now x.0.now) (SliceRefuses tag.0 i.now) (OpeningLacks i.now) ⊥ }
+    ensures { MatchAnswer result
+        (λ x. ReadsSlice tag.0 i.now x.1.now x.0.now)
+        (SliceRefuses tag.0 i.now)
+        (OpeningLacks i.now)
+        ⊥ }
 {
     let (header, content, after) = open_element(i)?;
     header.assert_tag(tag)?;

@@ -54,7 +54,7 @@ pub fn parse_ber_any_r<'a>(alloc: Global, i: &'a [u8], max_depth: usize) -> BerR
 
 /// Reads as `parse_ber_recursive` an element of this tag number, of any class. Another number is
 /// UnexpectedTag, told behind the refusals of the header and of framing, and before those of the
-/// content.
+/// content. Only a list of this number that has items, or an indefinite length, can run out of memory.
 pub fn parse_ber_any_with_tag_r<'a>(
     alloc: Global,
     i: &'a [u8],

@@ -11,6 +11,7 @@ ghost use Rattle.der_base.specs.Leaf.{is_list};
 ghost use Rattle.der_base.specs.Inner.Spans.{AreInside, AreSpans, content_octets_left, span_octets};
 ghost use Rattle.der_base.specs.Spelling.{framing_budget};
 ghost use Rattle.der_ber.specs.BerReading.{ReadsBer, ReadsBehind, BehindRefuses, BehindNeedsMemory, AreItems, IsContentOf, BerIsCut, NumberRefuses, NeedsMemory, ContentRefuses, ItemsRefuse};
+ghost use Rattle.der_ber.specs.BerReading.{NumberNeedsMemory};
 
 use crate::leaf::read_leaf;
 use der_base::MAX_RECURSION;
@@ -59,7 +60,11 @@ pub fn read_element_with_tag<'a>(
     max_depth: usize,
     count: &mut HeaderCount,
 ) -> BerResult<'a>
-    ensures found { MatchAnswer result (λ x. ReadsBer max_depth i.now x.1 x.0.now × (number_of x.1.header ≡ tag.0)) (NumberRefuses tag.0 max_depth i.now) (BerIsCut max_depth i.now) (NeedsMemory max_depth i.now) }
+    ensures found { MatchAnswer result
+        (λ x. ReadsBer max_depth i.now x.1 x.0.now × (number_of x.1.header ≡ tag.0))
+        (NumberRefuses tag.0 max_depth i.now)
+        (BerIsCut max_depth i.now)
+        (NumberNeedsMemory tag.0 max_depth i.now) }
     ensures shorter { IfOk result (λ x. length x.0.now < length i.now) }
 {
     if max_depth == 0 {

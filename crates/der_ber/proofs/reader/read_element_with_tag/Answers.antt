@@ -8,8 +8,8 @@ use Rattle.der_base.proofs.Framing.FramingAny.{any_lacks_header}
 use Rattle.der_base.proofs.Framing.FramingAny as framing
 use Rattle.der_base.proofs.Framing.FramingLaws.{element_shorter}
 use Rattle.der_base.proofs.Framing.Recording.{inside_more}
-use Rattle.der_ber.proofs.Items.{any_refused, any_cut, framing_cut, recording_memory, begins_behind, content_refused, content_memory, object_read}
-use Rattle.der_ber.proofs.WantedNumbers.{not_other, refused_not_other}
+use Rattle.der_ber.proofs.Items.{any_refused, any_cut, framing_cut, begins_behind, content_refused, object_read}
+use Rattle.der_ber.proofs.WantedNumbers.{not_other, refused_not_other, framing_needs, content_needs}
 use Rattle.der_ber.proofs.reader.read_element_with_tag.Goals as goal
 
 pub returns-in_err-behind-clause-found : goal.returns-in_err-behind-clause-found
@@ -36,7 +36,7 @@ returns-in_err-rest-clause-found c =
     let a = framing.any_refused i behind (class_of h) (is_constructed h) (number_of h) (length_of h) e q.begins (rw c.length.ensures at r) in
     inr (inr (λ m. refused_not_other n i e m a), any_refused d i e deep a))
     (λ m r. framing_cut d i behind h m deep q (rw c.length.ensures at r))
-    (λ m. recording_memory d i behind h deep q (rw c.length.ensures at m)))
+    (λ m. framing_needs n d i behind h deep q (rw c.length.ensures at m)))
 
 pub returns-in_err-assert_tag-clause-found : goal.returns-in_err-assert_tag-clause-found
 returns-in_err-assert_tag-clause-found c =
@@ -77,7 +77,7 @@ returns-clause-found c =
     (λ x y. (object_read i behind w rest x.0.now h x.1 d q f deep y, ap number_of y.1 ∙ wanted))
     (λ e y. inr (inr (λ m. not_other n i w rest (class_of h) (is_constructed h) (number_of h) m b wanted), content_refused d i rest w (class_of h) (is_constructed h) (number_of h) e deep b y))
     (λ m y. absurd y)
-    (λ m. content_memory d i rest w (class_of h) (is_constructed h) (number_of h) b m)
+    (λ m. content_needs n d i rest w (class_of h) (is_constructed h) (number_of h) wanted b m)
 
 pub returns-clause-shorter : goal.returns-clause-shorter
 returns-clause-shorter c =
