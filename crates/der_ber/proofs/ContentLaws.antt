@@ -20,7 +20,7 @@ use Rattle.der_base.proofs.Octets.ShortestLengths.{shortest_spells}
 use Rattle.der_base.proofs.Times.OneReading.{times_same}
 use Rattle.der_object.specs.HeaderFacts.{inner_forms}
 use Rattle.der_object.specs.Readings.{content_value_of}
-use Rattle.der_object.specs.View.{content_tree}
+use Rattle.der_object.proofs.TypedLaws.{shows_read}
 use Rattle.der_ber.specs.BerReading.{ContentRefuses}
 use Rattle.der_ber.specs.BerContents.{FramesContent, FrameRefuses, FrameLacks, IsContentAs, ReadsContentAs, SpellsContentAs, ContentAsRefuses, ContentAsNeedsMemory, FramingAsNeedsMemory}
 use Rattle.der_ber.proofs.Items.{content_refused}
@@ -134,13 +134,16 @@ cut_content_needs t l p d i n k (inl (two, list, q, w, rest, some, f)) = absurd 
 cut_content_needs t l p d i n k (inr m) = m
 
 -- of a content, a refusal and a lack, an input shows one at most
-pub content_shows_one : (t : ℕ) (l : Length) (p : Bool) (d : ℕ) (i : List ℕ) → t < 2 ^ 32 → ShowsOne content_value_of (λ x. ReadsContentAs t l p d i x.1 x.0.now) (SpellsContentAs t l p d i) (ContentAsRefuses t l p d i) (FrameLacks l p d i)
-content_shows_one t l p d i fits = record {
-  spelled = λ x r. (r.octets, inner_forms x.1, r.framed, r.content);
-  one_value = λ x v r s. (let z = content_as_same l p d t i r.octets s.0 x.0.now v.1 (content_tree x.1) v.0 (inner_forms x.1) s.1 r.framed r.content s.2 s.3 in ap (λ y. (y, x.0.now)) z.0 ∙ ap (λ w. (v.0, w)) z.1);
+pub content_one : (t : ℕ) (l : Length) (p : Bool) (d : ℕ) (i : List ℕ) → t < 2 ^ 32 → ShowsOne (λ v. v) (SpellsContentAs t l p d i) (SpellsContentAs t l p d i) (ContentAsRefuses t l p d i) (FrameLacks l p d i)
+content_one t l p d i fits = record {
+  spelled = λ v s. s;
+  one_value = λ v v' s s'. (let z = content_as_same l p d t i s.0 s'.0 v.1 v'.1 v.0 v'.0 s.1 s'.1 s.2 s.3 s'.2 s'.3 in ap (λ y. (y, v.1)) z.0 ∙ ap (λ w. (v'.0, w)) z.1);
   one_refusal = λ e e' r r'. content_as_refusal_same l p d t i e e' fits r r';
   one_lack = λ n n' h h'. frame_lacks_same l p d i n n' h h';
   not_refused = λ v e s r. content_as_not_refused l p d t i s.0 v.1 v.0 s.1 e fits s.2 s.3 r;
   not_lacking = λ v n s h. frames_not_lacking l p d i s.0 v.1 n s.2 h;
   not_both = λ e n r h. content_as_refused_not_lacking l p d t i e n r h;
 }
+
+pub content_shows_one : (t : ℕ) (l : Length) (p : Bool) (d : ℕ) (i : List ℕ) → t < 2 ^ 32 → ShowsOne content_value_of (λ x. ReadsContentAs t l p d i x.1 x.0.now) (SpellsContentAs t l p d i) (ContentAsRefuses t l p d i) (FrameLacks l p d i)
+content_shows_one t l p d i fits = shows_read (content_one t l p d i fits) (λ v s. s) (λ x r. (r.octets, inner_forms x.1, r.framed, r.content))

@@ -112,10 +112,6 @@ pub record ReadsTyped (t : ℕ) (i : List ℕ) (o : BerObject) (rest : List ℕ)
   pub header : ReadsHeaderOf t i o.header behind
   pub content : ReadsContentAs t (length_of o.header) (is_constructed o.header) 50 behind o.content rest
 
--- the same of a class, bit, number and content of which there is no object yet
-abbrev pub BeginsWithTyped : List ℕ → Class → Bool → ℕ → Content → List ℕ → Type 0
-BeginsWithTyped i c p t x rest = (l : Length) × (behind w : List ℕ) × (fs : Forms) × BeginsWithHeader i c p t l behind × FramesContent l p 50 behind w rest × IsContentAs t l p 50 w x fs
-
 -- the header is refused, or has another number
 abbrev pub HeaderOfRefuses : ℕ → List ℕ → Refusal → Type 0
 HeaderOfRefuses t i e = BerHeaderRefuses i e
@@ -136,7 +132,8 @@ TypedNeedsMemory t i = BehindHeader t i (λ l p v. ContentAsNeedsMemory t l p 50
 
 -- i begins with an element of the number t that has this tree, and rest follows
 abbrev pub SpellsTyped : ℕ → List ℕ → Node × List ℕ → Type 0
-SpellsTyped t i (node c p n x, rest) = (n ≡ t) × BeginsWithTyped i c p t x rest
+SpellsTyped t i (node c p n x, rest) = (n ≡ t) × (l : Length) × (behind : List ℕ)
+    × BeginsWithHeader i c p t l behind × SpellsContentAs t l p 50 behind (x, rest)
 
 -- a reader of the type of number t answers exactly what i shows, and may want memory only where M holds, and C of a cut input
 abbrev pub AnswersTypedOr : Type 0 → Type 0 → ℕ → List ℕ → Answer → Type 0

@@ -5,3 +5,4 @@ pub mod Integers
 pub mod Joins
 pub mod Room
 pub mod Trees
+pub mod TypedLaws
