@@ -15,7 +15,7 @@ use Rattle.der_object.specs.Readings.{value_of}
 use Rattle.der_object.specs.View.{tree}
 use Rattle.der_object.proofs.TypedLaws.{OneHeader, shows_read}
 use Rattle.der_object.proofs.TypedLaws as typed
-use Rattle.der_ber.specs.BerContents.{ReadsContentAs, ReadsHeaderOf, ReadsTyped, SpellsTyped, TypedRefuses, TypedLacks, TypedNeedsMemory, FramingAsNeedsMemory}
+use Rattle.der_ber.specs.BerContents.{FrameLacks, ContentAsNeedsMemory, ReadsContentAs, ReadsHeaderOf, ReadsTyped, SpellsTyped, TypedRefuses, TypedLacks, TypedNeedsMemory, FramingAsNeedsMemory}
 use Rattle.der_ber.proofs.ContentLaws.{content_one, cut_content_needs}
 
 headers : OneHeader BeginsWithHeader BerHeaderRefuses BerHeaderLacks
@@ -49,5 +49,7 @@ typed_shows_one t i fits = shows_read (typed.shows_one headers t i (λ l p v. co
     spelled (node c p n x, rest) s = s
 
 -- an input that is cut short is no whole list
-pub cut_typed_needs : (t : ℕ) (i : List ℕ) (n : ℕ) → t < 2 ^ 32 → TypedLacks t i n → TypedNeedsMemory t i → BehindHeader t i (λ l p v. FramingAsNeedsMemory l p 50)
-cut_typed_needs t i n fits h m = typed.cut_needs headers t i (λ l p v. content_one t l p 50 v fits) (λ l p v n k m. cut_content_needs t l p 50 v n k m) n h m
+pub cut_typed_needs : (t : ℕ) (i : List ℕ) (n : ℕ) → TypedLacks t i n → TypedNeedsMemory t i → BehindHeader t i (λ l p v. FramingAsNeedsMemory l p 50)
+cut_typed_needs t i n h m =
+    typed.cut_needs headers t i (λ l p v n. FrameLacks l p 50 v n) (λ l p v. ContentAsNeedsMemory t l p 50 v) (λ l p v. FramingAsNeedsMemory l p 50)
+    (λ l p v n k m. cut_content_needs t l p 50 v n k m) n h m

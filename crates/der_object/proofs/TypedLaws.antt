@@ -56,6 +56,13 @@ module _ {L : Type 0} {Begins : List ℕ → Class → Bool → ℕ → L → Li
   header_refusal_same e e' (inr (c, p, n, l, v, b, other, q)) (inr (c', p', n', l', v', b', other', q')) =
       q ∙ ap (unexpected_tag (Some t)) (headers.same i v v' c c' p p' n n' l l' b b').number ∙ sym q'
 
+  -- what needs memory needs less of it where the input lacks octets, if that is so behind the header
+  pub cut_needs : (Lacks : L → Bool → List ℕ → ℕ → Type 0) (M C : L → Bool → List ℕ → Type 0) → ((l : L) (p : Bool) (v : List ℕ) (n : ℕ) → Lacks l p v n → M l p v → C l p v)
+      → (n : ℕ) → Ends i n ⊎ Behind (λ l p v. Lacks l p v n) → Behind M → Behind C
+  cut_needs Lacks M C less n (inl h) (c, p, l, v, b, m) = absurd (headers.not_ended i v c p t l n b h)
+  cut_needs Lacks M C less n (inr (c', p', l', v', b', h)) (c, p, l, v, b, m) =
+      (c, p, l, v, b, less l p v n (behind_same (λ l p v. Lacks l p v n) v v' c c' p p' l l' b b' h) m)
+
   -- and the contents behind it
   module _ {Spells : L → Bool → List ℕ → Content × List ℕ → Type 0} {Refuses : L → Bool → List ℕ → Refusal → Type 0} {Lacks : L → Bool → List ℕ → ℕ → Type 0}
       (contents : (l : L) (p : Bool) (v : List ℕ) → ShowsOne (λ x. x) (Spells l p v) (Spells l p v) (Refuses l p v) (Lacks l p v)) where
@@ -117,9 +124,3 @@ module _ {L : Type 0} {Begins : List ℕ → Class → Bool → ℕ → L → Li
       not_lacking = not_lacking;
       not_both = refused_not_lacking;
     }
-
-    -- what needs memory needs less of it where the input lacks octets, if that is so behind the header
-    pub cut_needs : {M C : L → Bool → List ℕ → Type 0} → ((l : L) (p : Bool) (v : List ℕ) (n : ℕ) → Lacks l p v n → M l p v → C l p v) → (n : ℕ) → TypedLacks n → Behind M → Behind C
-    cut_needs less n (inl h) (c, p, l, v, b, m) = absurd (headers.not_ended i v c p t l n b h)
-    cut_needs less n (inr (c', p', l', v', b', h)) (c, p, l, v, b, m) =
-        (c, p, l, v, b, less l p v n (behind_same (λ l p v. Lacks l p v n) v v' c c' p p' l l' b b' h) m)

@@ -6,4 +6,4 @@ use Rattle.der_ber.proofs.typed.parse_ber_with_tag.Goals as goal
 pub returns : goal.returns
 returns c =
     let fits : c.args.tag.0 < 2 ^ 32 = omega arith in
-    exactly c.read_typed.result (typed_shows_one c.args.tag.0 c.args.i.now fits) (λ n h m. cut_typed_needs c.args.tag.0 c.args.i.now n fits h m) c.read_typed.ensures
+    exactly c.read_typed.result (typed_shows_one c.args.tag.0 c.args.i.now fits) (cut_typed_needs c.args.tag.0 c.args.i.now) c.read_typed.ensures
