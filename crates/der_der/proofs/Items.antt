@@ -1,5 +1,5 @@
 -- Items that are read one after another, and the elements around them.
-use Rattle.std.proofs.Common.{◌≡◌, ◌≢◌, ℕ, zero, suc, ◌+◌, ◌-◌, ◌<◌, ◌≤◌, Bool, true, false, IsTrue, List, [], ◌∷◌, ◌++◌, length, refl, sym, ap, subst, ◌∙◌, arith, append_assoc, length-append, inl, inr, ◌⊎◌, All}
+use Rattle.std.proofs.Common.{◌≡◌, ◌≢◌, ℕ, zero, suc, ◌+◌, ◌-◌, ◌<◌, ◌≤◌, Bool, true, false, nat_lt, if◌then◌else◌, IsTrue, List, [], ◌∷◌, ◌++◌, length, refl, sym, ap, subst, ◌∙◌, arith, append_assoc, length-append, inl, inr, ◌⊎◌, All}
 use Rattle.std.proofs.lemmas.List.Elements.{All-nil}
 use Rattle.std.proofs.lemmas.List.{append-nil}
 use Rattle.der_base.specs.declared.header.Class.{Class}
@@ -15,10 +15,11 @@ use Rattle.der_base.specs.Fault.{DerHeaderRefuses, DerJoins, DerShowsFault}
 use Rattle.der_base.specs.Headers.{BeginsWithDerHeader, DerHeaderLacks}
 use Rattle.der_base.specs.Header.{class_of, is_constructed, number_of, length_of}
 use Rattle.der_base.specs.Leaf.{is_list, is_mapped, IsDerLeaf}
-use Rattle.der_base.specs.Octets.{identifier, shortest_length}
+use Rattle.der_base.specs.Octets.{identifier, shortest_length, octets}
 use Rattle.der_base.specs.Refusal.{Refusal, invalid_length}
 use Rattle.der_base.specs.Spelling.{IsDerContent, AreDerValid, max_object_size}
 use Rattle.der_base.specs.Tree.{Content, end_of_content, boolean, integer, bit_string, octet_string, null, enumerated, object_identifier, relative_oid, text, bmp_string, universal_string, time, sequence, set, absent, present, tagged, unknown, Nodes, no_nodes, nodes, content_height, list_height}
+use Rattle.der_base.specs.Stable.{DerIsCut}
 use Rattle.der_base.proofs.Spellings.DerFaults.{header_shows, size_shows, behind_shows, header_cut_shows_nothing, content_cut_shows_nothing}
 use Rattle.der_base.proofs.Spellings.DerLacking.{der_header_cut, der_content_cut}
 use Rattle.der_base.proofs.Spellings.DerWithinBer.{valid_element}
@@ -31,7 +32,8 @@ use Rattle.der_object.specs.View.{content_tree, trees}
 use Rattle.der_object.proofs.Joins.{der_joins_push}
 use Rattle.der_object.proofs.HeaderFacts.{sequence_each, set_each, leaf_each, leaf_keeps, each_push}
 use Rattle.der_object.proofs.Trees.{sequence_tree, set_tree}
-use Rattle.der_der.specs.DerReading.{ReadsDer, AreItems, IsDerContentOf, IsContentOf, DerIsCut, BeginsWithItems, ContentRefuses}
+use Rattle.der_der.specs.DerReading.{ReadsDer, IsDerContentOf, BeginsWithItems, ContentRefuses}
+use Rattle.der_der.specs.Inner.DerItems.{AreItems, IsContentOf}
 
 leaf_valid : (c : Class) (p : Bool) (t : ℕ) (x : Content) → c ≡ Universal → p ≡ false → IsDerLeaf t x → IsDerContent c p t x
 leaf_valid c p t end_of_content u h k = inl (u, h, k)
@@ -201,6 +203,17 @@ content_memory d i rest w r c p t n b o z (deep, u, q, k, some) = (deep, (t, w, 
     begins : BeginsWithDerHeader i Universal true t (length w) (w ++ r)
     begins = rw (z, ← o, ← u, ← q) b
 
-pub header_shorter : (i rest : List ℕ) (c : Class) (p : Bool) (t n : ℕ) → BeginsWithDerHeader i c p t n rest → length rest < length i
+pub length_octets : (n : ℕ) → 0 < length (shortest_length n)
+unfolding shortest_length
+length_octets n = some_octets (nat_lt n 128)
+  where
+    some_octets : (b : Bool) → 0 < length (if b then n ∷ [] else (128 + length (octets n)) ∷ octets n)
+    some_octets true = omega arith
+    some_octets false = omega arith
+
+-- a header takes two octets at least
+pub header_shorter : (i rest : List ℕ) (c : Class) (p : Bool) (t n : ℕ) → BeginsWithDerHeader i c p t n rest → 2 + length rest ≤ length i
 header_shorter i rest c p t n b =
-    omega (arith, ap length b.octets, length-append (identifier c p t ++ shortest_length n) rest, length-append (identifier c p t) (shortest_length n), identifier_octets c p t)
+    let a = identifier c p t in
+    let s = shortest_length n in
+    omega (arith, ap length b.octets, length-append (a ++ s) rest, length-append a s, identifier_octets c p t, length_octets n)

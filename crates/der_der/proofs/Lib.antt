@@ -1,4 +1,5 @@
 pub mod ContentLaws
+pub mod Counts
 pub mod Forms
 pub mod Items
 pub mod ReadingLaws

@@ -6,6 +6,7 @@ use Rattle.der_base.specs.Cut.{IsCut}
 use Rattle.der_base.specs.Headers.{BeginsWithDerHeader}
 use Rattle.der_base.specs.Octets.{identifier, shortest_length}
 use Rattle.der_base.specs.Spelling.{BeginsWithDer, DerSpells}
+use Rattle.der_base.specs.Stable.{DerIsCut}
 use Rattle.der_base.specs.Tree.{Node}
 use Rattle.der_base.proofs.Framing.Shapes.{cut_is_none}
 use Rattle.der_base.proofs.Octets.ShortestLengths.{shortest_spells}
@@ -15,7 +16,7 @@ use Rattle.der_base.proofs.Spellings.DerFaults.{spelled_shows_nothing, shows_one
 use Rattle.der_base.proofs.Answers.Exactness.{ShowsOne}
 use Rattle.der_base.specs.Fault.{DerShowsFault}
 use Rattle.der_object.specs.Readings.{value_of}
-use Rattle.der_der.specs.DerReading.{DerIsCut, NeedsMemory, ReadsDer}
+use Rattle.der_der.specs.DerReading.{NeedsMemory, ReadsDer}
 
 pub spelled_not_cut : (d : ℕ) (i b rest : List ℕ) (o : Node) (n : ℕ) → i ≡ b ++ rest → DerSpells b o d → DerIsCut d i n → ⊥
 spelled_not_cut d i b rest o n q s k = der_spelled_not_cut i b rest o d s q k.0

@@ -9,7 +9,8 @@ use Rattle.der_base.specs.Leaf.{IsDerLeaf}
 use Rattle.der_object.specs.declared.object.BerObjectContent.{BerObjectContent}
 use Rattle.der_object.specs.declared.object.BerObjectContent.TheVariants.{Unknown}
 use Rattle.der_object.specs.View.{content_tree}
-use Rattle.der_der.specs.DerReading.{IsDerContentOf, IsContentOf}
+use Rattle.der_der.specs.DerReading.{IsDerContentOf}
+use Rattle.der_der.specs.Inner.DerItems.{IsContentOf}
 use Rattle.der_der.specs.DerContents.{FramesContent, HasOwnHeader, ReadsContentAs}
 use Rattle.der_der.proofs.Items.{leaf_content}
 

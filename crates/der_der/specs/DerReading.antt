@@ -1,27 +1,20 @@
 -- What the full reader of DER answers: an object, a refusal, or how many octets are lacking.
-use Rattle.std.specs.Prelude.{◌≡◌, ◌≢◌, ℕ, ◌-◌, ◌≤◌, Bool, true, IsTrue, List, [], ◌++◌, length, All}
+use Rattle.std.specs.Prelude.{◌≡◌, ◌≢◌, ℕ, ◌-◌, ◌≤◌, Bool, true, IsTrue, List, [], ◌++◌, length}
 use Rattle.der_base.specs.declared.header.Class.{Class}
 use Rattle.der_base.specs.declared.header.Class.TheVariants.{Universal}
-use Rattle.der_base.specs.Cut.{IsCut, DerLacks}
 use Rattle.der_base.specs.Encoding.{content_octets}
 use Rattle.der_base.specs.Exactly.{AnswersExactly}
-use Rattle.der_base.specs.Fault.{DerJoins, ItemRefuses, DerShowsFault, DerShowsInside}
-use Rattle.der_base.specs.declared.header.Header.{Header}
-use Rattle.der_base.specs.Header.{class_of, is_constructed, number_of}
+use Rattle.der_base.specs.Fault.{DerShowsFault, DerShowsInside}
 use Rattle.der_base.specs.Headers.{BeginsWithDerHeader}
 use Rattle.der_base.specs.Leaf.{is_list, is_mapped}
 use Rattle.der_base.specs.Refusal.{Refusal}
 use Rattle.der_base.specs.Spelling.{BeginsWithDer, DerSpells, IsDerContent}
-use Rattle.der_base.specs.Tree.{Content, Nodes, content_height}
+use Rattle.der_base.specs.Stable.{DerIsCut, AnswerStays}
+use Rattle.der_base.specs.Tree.{Content, content_height}
 use Rattle.der_object.specs.declared.object.BerObject.{BerObject}
-use Rattle.der_object.specs.declared.object.BerObjectContent.{BerObjectContent}
-use Rattle.der_object.specs.HeaderFacts.{EachInside, KeepsHeader, HasDerHeader, EachHasDerHeader}
+use Rattle.der_object.specs.HeaderFacts.{EachHasDerHeader}
 use Rattle.der_object.specs.Readings.{Answer, value_of}
-use Rattle.der_object.specs.View.{tree, content_tree, trees}
-
--- i is a proper front of an element, lacks n octets, and shows no refusal
-abbrev pub DerIsCut : ℕ → List ℕ → ℕ → Type 0
-DerIsCut d i n = IsCut i × DerLacks i n × ((e : Refusal) → ¬ DerShowsFault d i e)
+use Rattle.der_object.specs.View.{tree}
 
 -- i begins with the DER spelling of the object to depth d, and rest follows
 pub record ReadsDer (d : ℕ) (i : List ℕ) (o : BerObject) (rest : List ℕ) : Type 0 where
@@ -33,7 +26,8 @@ pub record ReadsDer (d : ℕ) (i : List ℕ) (o : BerObject) (rest : List ℕ) :
 
 -- i begins with a whole list that has items
 abbrev pub BeginsWithItems : List ℕ → Type 0
-BeginsWithItems i = (t : ℕ) × (w rest : List ℕ) × IsTrue (is_list t) × (w ≢ []) × BeginsWithDerHeader i Universal true t (length w) (w ++ rest)
+BeginsWithItems i = (t : ℕ) × (w rest : List ℕ) × IsTrue (is_list t) × (w ≢ [])
+    × BeginsWithDerHeader i Universal true t (length w) (w ++ rest)
 
 -- where the reader may want memory, to depth d
 abbrev pub NeedsMemory : ℕ → List ℕ → Type 0
@@ -43,28 +37,18 @@ NeedsMemory d i = (2 ≤ d) × BeginsWithItems i
 abbrev pub ContentRefuses : Class → Bool → ℕ → List ℕ → ℕ → Refusal → Type 0
 ContentRefuses c p t w d e = (c ≡ Universal) × IsTrue (is_mapped t) × DerShowsInside (d - 1) p t w e
 
--- w joins items to depth d, and shows the refusal where the next one should begin
-abbrev pub ItemsRefuse : List ℕ → ℕ → Refusal → Type 0
-ItemsRefuse w d e = (l : Nodes) × (u r : List ℕ) × (w ≡ u ++ r) × DerJoins u l d × ItemRefuses (DerShowsFault d) DerLacks r e
-
--- the octets w join the objects, to depth d
-pub record AreItems (w : List ℕ) (os : List BerObject) (d : ℕ) : Type 0 where
-  pub joins : DerJoins w (trees os) d
-  pub headers : All EachHasDerHeader os
-
 -- the octets w are the DER content octets of x in an element of this class, bit and number, to depth d
 pub record IsDerContentOf (w : List ℕ) (c : Class) (p : Bool) (t : ℕ) (x : Content) (d : ℕ) : Type 0 where
   pub octets : w ≡ content_octets x
   pub valid : IsDerContent c p t x
   pub depth : content_height x ≤ d
 
--- they are the content of an object with this header
-pub record IsContentOf (w : List ℕ) (h : Header) (x : BerObjectContent) (d : ℕ) : Type 0 where
-  pub content : IsDerContentOf w (class_of h) (is_constructed h) (number_of h) (content_tree x) d
-  pub kept : KeepsHeader h x
-  pub headers : EachInside HasDerHeader x
-
 -- the full reader answers exactly what i shows to depth d
 abbrev pub AnswersDer : ℕ → List ℕ → Answer → Type 0
-AnswersDer d i result = AnswersExactly result value_of (λ x. ReadsDer d i x.1 x.0.now) (λ v. BeginsWithDer d i v.0 v.1)
-    (DerShowsFault d i) (DerIsCut d i) (NeedsMemory d i) ⊥
+AnswersDer d i result = AnswersExactly result value_of (λ x. ReadsDer d i x.1 x.0.now)
+    (λ v. BeginsWithDer d i v.0 v.1) (DerShowsFault d i) (DerIsCut d i) (NeedsMemory d i) ⊥
+
+-- The answer stays whatever octets follow: an Ok is given a longer rest, and an Error is the same. Of an Ok each proper
+-- front of what was read is cut short.
+abbrev pub IsStableDer : ℕ → List ℕ → Answer → Type 0
+IsStableDer d i result = AnswerStays result value_of BeginsWithDer DerShowsFault DerIsCut d i

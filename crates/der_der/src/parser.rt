@@ -1,6 +1,7 @@
 //! The full reader of DER.
-ghost use Rattle.std.specs.Prelude.{◌+◌, ◌<◌, ◌≤◌, IfOk, length};
-ghost use Rattle.der_der.specs.DerReading.{AnswersDer};
+ghost use Rattle.std.specs.Prelude.{◌<◌, IfOk, length};
+ghost use Rattle.der_object.specs.Counting.{CountsJustObjects, CountsWithinOctets};
+ghost use Rattle.der_der.specs.DerReading.{AnswersDer, IsStableDer};
 
 use crate::reader::read_element;
 use der_base::MAX_RECURSION;
@@ -11,6 +12,7 @@ use std::alloc::Global;
 /// Reads one object in DER, to the depth `MAX_RECURSION`: as `parse_der_recursive`.
 pub fn parse_der<'a>(alloc: Global, i: &'a [u8]) -> BerResult<'a>
     ensures exactly { AnswersDer 50 i.now result }
+    ensures stable { IsStableDer 50 i.now result }
     ensures shorter { IfOk result (λ x. length x.0.now < length i.now) }
 {
     parse_der_recursive(alloc, i, MAX_RECURSION)
@@ -30,14 +32,16 @@ pub fn parse_der<'a>(alloc: Global, i: &'a [u8]) -> BerResult<'a>
 /// input begins with a whole list that has items.
 pub fn parse_der_recursive<'a>(alloc: Global, i: &'a [u8], max_depth: usize) -> BerResult<'a>
     ensures exactly { AnswersDer max_depth i.now result }
+    ensures stable { IsStableDer max_depth i.now result }
     ensures shorter { IfOk result (λ x. length x.0.now < length i.now) }
 {
     let mut count = HeaderCount::new();
     parse_der_counted(alloc, i, max_depth, &mut count)
 }
 
-/// Reads as `parse_der_recursive`, and counts the headers that are read: no more of them than
-/// octets that were read, but for one more where the answer is no object.
+/// Reads as `parse_der_recursive`, and counts the headers that are read. An Ok has one for the
+/// object and for each item at any depth; whatever is answered, at most one is counted for each two
+/// octets of the input, and one more. The count stays at its greatest value.
 pub fn parse_der_counted<'a>(
     alloc: Global,
     i: &'a [u8],
@@ -45,9 +49,10 @@ pub fn parse_der_counted<'a>(
     count: &mut HeaderCount,
 ) -> BerResult<'a>
     ensures exactly { AnswersDer max_depth i.now result }
+    ensures stable { IsStableDer max_depth i.now result }
     ensures shorter { IfOk result (λ x. length x.0.now < length i.now) }
-    ensures counted { count.new ≤ count.old + length i.now + 1 }
-    ensures counted_ok { IfOk result (λ x. count.new + length x.0.now ≤ count.old + length i.now) }
+    ensures counted { CountsJustObjects result count.old count.new }
+    ensures bounded { CountsWithinOctets i.now result count.old count.new }
 {
     read_element(alloc, i, max_depth, count)
 }

@@ -1,15 +1,18 @@
 //! One element of DER and what is inside it: element, content and items call each other, a depth
 //! less at each list.
-ghost use Rattle.std.specs.Prelude.{◌≡◌, ◌≢◌, ◌+◌, ◌-◌, ◌<◌, ◌≤◌, ℕ, List, [], ◌++◌, IfOk, IsOkAnd, IsTrue, length, true};
+ghost use Rattle.std.specs.Prelude.{◌≡◌, ◌≢◌, ◌+◌, ◌*◌, ◌^◌, ◌<◌, ◌≤◌, [], IfOk, IsTrue, length, true};
 ghost use Rattle.der_base.specs.declared.header.Class.{Class};
-ghost use Rattle.der_base.specs.Answer.{MatchAnswer, AnswersError, AnswersIncomplete};
+ghost use Rattle.der_base.specs.Answer.{MatchAnswer};
+ghost use Rattle.der_base.specs.Count.{some_more};
 ghost use Rattle.der_base.specs.Fault.{DerShowsFault};
 ghost use Rattle.der_base.specs.Header.{class_of, is_constructed, number_of};
 ghost use Rattle.der_base.specs.Leaf.{is_list};
-ghost use Rattle.der_base.specs.Refusal.{Refusal};
-ghost use Rattle.der_base.specs.Spelling.{DerSpells};
-ghost use Rattle.der_base.specs.Tree.{Node};
-ghost use Rattle.der_der.specs.DerReading.{ReadsDer, AreItems, IsContentOf, DerIsCut, NeedsMemory, ContentRefuses, ItemsRefuse};
+ghost use Rattle.der_base.specs.Listing.{content_count, item_count};
+ghost use Rattle.der_object.specs.Counting.{CountsJustObjects};
+ghost use Rattle.der_object.specs.View.{content_tree, trees};
+ghost use Rattle.der_base.specs.Stable.{DerIsCut};
+ghost use Rattle.der_der.specs.DerReading.{ReadsDer, NeedsMemory, ContentRefuses};
+ghost use Rattle.der_der.specs.Inner.DerItems.{AreItems, IsContentOf, ItemsRefuse};
 
 use crate::leaf::read_leaf;
 use der_base::MAX_OBJECT_SIZE;
@@ -29,10 +32,14 @@ pub fn read_element<'a>(
     max_depth: usize,
     count: &mut HeaderCount,
 ) -> BerResult<'a>
-    ensures found { MatchAnswer result (λ x. ReadsDer max_depth i.now x.1 x.0.now) (DerShowsFault max_depth i.now) (DerIsCut max_depth i.now) (NeedsMemory max_depth i.now) }
+    ensures found { MatchAnswer result
+        (λ x. ReadsDer max_depth i.now x.1 x.0.now)
+        (DerShowsFault max_depth i.now)
+        (DerIsCut max_depth i.now)
+        (NeedsMemory max_depth i.now) }
     ensures shorter { IfOk result (λ x. length x.0.now < length i.now) }
-    ensures counted { count.new ≤ count.old + length i.now + 1 }
-    ensures counted_ok { IfOk result (λ x. count.new + length x.0.now ≤ count.old + length i.now) }
+    ensures counted { CountsJustObjects result count.old count.new }
+    ensures bounded { 2 * count.new ≤ 2 * count.old + length i.now + 2 }
 {
     if max_depth == 0 {
         return Err(Err::Error(BerError::BerMaxDepth));
@@ -73,14 +80,16 @@ pub(crate) fn read_object<'a>(
     max_depth: usize,
     count: &mut HeaderCount,
 ) -> BerResult<'a>
-    requires { 1 ≤ max_depth }
+    requires deep { 1 ≤ max_depth }
+    requires counts { count.old < 2 ^ 128 }
     ensures found { let h = header.entry in MatchAnswer result
         (λ x. (x.0.now ≡ rest.now) × (x.1.header ≡ h) × IsContentOf octets.now h x.1.content max_depth)
         (ContentRefuses (class_of h) (is_constructed h) (number_of h) octets.now max_depth)
         (λ _. ⊥)
-        ((2 ≤ max_depth) × (class_of h ≡ Class.Universal) × (is_constructed h ≡ true) × IsTrue (is_list (number_of h)) × (octets.now ≢ [])) }
-    ensures counted { count.new ≤ count.old + length octets.now + 1 }
-    ensures counted_ok { IfOk result (λ _. count.new ≤ count.old + length octets.now) }
+        ((2 ≤ max_depth) × (class_of h ≡ Class.Universal) × (is_constructed h ≡ true)
+            × IsTrue (is_list (number_of h)) × (octets.now ≢ [])) }
+    ensures counted { IfOk result (λ x. count.new ≡ some_more (content_count (content_tree x.1.content)) count.old) }
+    ensures bounded { 2 * count.new ≤ 2 * count.old + length octets.now + 2 }
 {
     let tag = header.tag();
     if !header.is_universal() {
@@ -113,13 +122,14 @@ fn read_items<'a>(
     max_depth: usize,
     count: &mut HeaderCount,
 ) -> Result<Vec<BerObject<'a>>, Err<BerError>>
+    requires { count.old < 2 ^ 128 }
     ensures found { MatchAnswer result
         (λ v. AreItems content.now v.items max_depth)
         (ItemsRefuse content.now max_depth)
         (λ _. ⊥)
         ((1 ≤ max_depth) × (content.now ≢ [])) }
-    ensures counted { count.new ≤ count.old + length content.now + 1 }
-    ensures counted_ok { IfOk result (λ _. count.new ≤ count.old + length content.now) }
+    ensures counted { IfOk result (λ v. count.new ≡ some_more (item_count (trees v.items)) count.old) }
+    ensures bounded { 2 * count.new ≤ 2 * count.old + length content.now + 2 }
 {
     let mut items = Vec::new(alloc);
     let mut rest = content;

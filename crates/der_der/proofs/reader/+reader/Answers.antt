@@ -1,4 +1,4 @@
-use Rattle.std.proofs.Common.{◌≡◌, ◌<◌, ◌≤◌, ◌++◌, true, false, IsTrue, length, take, sym, ap, ◌∙◌, arith, rules, inl, refl}
+use Rattle.std.proofs.Common.{◌≡◌, ◌^◌, ◌<◌, ◌≤◌, ◌++◌, true, false, IsTrue, length, take, sym, ap, ◌∙◌, arith, rules, inl, refl}
 use Rattle.std.proofs.lemmas.Bool.Decides.{nat_tests}
 use Rattle.std.proofs.lemmas.List.{take-append-drop}
 use Rattle.std.proofs.lemmas.Result.{err_from_is_err_and}
@@ -14,8 +14,13 @@ use Rattle.der_base.specs.Refusal.{refusal}
 use Rattle.der_base.proofs.Answers.Answering.{passed_on, answered, ok_weaker, ok_with}
 use Rattle.der_base.proofs.Spellings.DerWithinBer.{content_tall}
 use Rattle.der_base.proofs.Answers.ItemAnswers.{item_answer, some_content}
-use Rattle.der_object.specs.View.{content_tree, trees}
-use Rattle.der_der.proofs.Items.{sequence_content, set_content, header_refused, header_cut, size_refused, content_cut, content_refused, content_memory, object_read, leaf_content, header_shorter, read_more, read_all}
+use Rattle.der_base.specs.Count.{some_more}
+use Rattle.der_base.specs.Listing.{object_count, content_count}
+use Rattle.der_base.proofs.Spellings.Counted.{leaf_counted}
+use Rattle.der_object.proofs.Counting.{sequence_content_count, set_content_count}
+use Rattle.der_object.specs.View.{tree, content_tree, trees}
+use Rattle.der_der.proofs.Counts.{none_counted, bounded_behind, counted_more, counted_around}
+use Rattle.der_der.proofs.Items.{sequence_content, set_content, header_refused, header_cut, size_refused, content_cut, content_refused, content_memory, object_read, leaf_content, header_shorter, read_none, read_more, read_all}
 use Rattle.der_der.proofs.reader.+reader.Goals as goal
 
 pub read_element-returns-in_err-rest-clause-found : goal.read_element-returns-in_err-rest-clause-found
@@ -63,7 +68,7 @@ read_items-returns-in-Err-clause-found t c =
 pub read_items-loop-rest-preserved : goal.read_items-loop-rest-preserved
 read_items-loop-rest-preserved t c = (
   rw (c.in_ok-push-in-Ok.ensures.items, c.make_room.ensures) (read_more c.args.content.now c.loop-rest.rest.now c.in-Ok.after.now c.loop-rest.items.items c.in-Ok.item c.args.max_depth c.loop-rest.invariant.0 c.in-Ok.ensures.found),
-  omega (arith, c.loop-rest.invariant.1, c.in-Ok.ensures.counted_ok),
+  rw (c.in_ok-push-in-Ok.ensures.items, c.make_room.ensures) (c.in-Ok.ensures.counted ∙ ap (some_more (object_count (tree c.in-Ok.item))) c.loop-rest.invariant.1 ∙ counted_more c.loop-rest.items.items c.in-Ok.item c.args.count.now),
 )
 
 pub read_items-returns-clause-found : goal.read_items-returns-clause-found
@@ -115,7 +120,7 @@ read_object-returns-then-eq-clause-found t c =
     let constructed : is_constructed h ≡ true = search rules in
     let number : number_of h ≡ 16 = search rules in
     let e = c.from_header_and_content-then-eq.ensures in
-    (refl, e.header, rw e.content (sequence_content c.args.octets.now h c.in_ok-read_items.field-0 c.args.max_depth universal constructed number c.requires c.in_ok-read_items.ensures.found))
+    (refl, e.header, rw e.content (sequence_content c.args.octets.now h c.in_ok-read_items.field-0 c.args.max_depth universal constructed number c.requires.deep c.in_ok-read_items.ensures.found))
 
 pub read_object-returns-then-eq-2-clause-found : goal.read_object-returns-then-eq-2-clause-found
 read_object-returns-then-eq-2-clause-found t c =
@@ -124,7 +129,7 @@ read_object-returns-then-eq-2-clause-found t c =
     let constructed : is_constructed h ≡ true = search rules in
     let number : number_of h ≡ 17 = search rules in
     let e = c.from_header_and_content-then-eq-2.ensures in
-    (refl, e.header, rw e.content (set_content c.args.octets.now h c.in_ok-read_items-2.field-0 c.args.max_depth universal constructed number c.requires c.in_ok-read_items-2.ensures.found))
+    (refl, e.header, rw e.content (set_content c.args.octets.now h c.in_ok-read_items-2.field-0 c.args.max_depth universal constructed number c.requires.deep c.in_ok-read_items-2.ensures.found))
 
 pub read_object-returns-then-is_mapped-clause-found : goal.read_object-returns-then-is_mapped-clause-found
 read_object-returns-then-is_mapped-clause-found t c =
@@ -134,21 +139,63 @@ read_object-returns-then-is_mapped-clause-found t c =
     let universal : class_of h ≡ Universal = search rules in
     let read : (is_constructed h ≡ false) × IsDerLeaf (number_of h) (content_tree x) × (w ≡ content_octets (content_tree x)) = rw (← c.constructed.ensures, ← c.tag-tag.ensures) c.in_ok-content.ensures in
     let e = c.from_header_and_content-then-is_mapped.ensures in
-    (refl, e.header, rw e.content (leaf_content w h x c.args.max_depth universal c.requires read.0 read.1 read.2))
+    (refl, e.header, rw e.content (leaf_content w h x c.args.max_depth universal c.requires.deep read.0 read.1 read.2))
 
 -- counts
 
+pub read_items-loop-rest-init : goal.read_items-loop-rest-init
+read_items-loop-rest-init t c =
+    let n = c.args.count.now in
+    rw c.new-items.ensures.items (read_none c.args.content.now c.args.max_depth, none_counted 0 n refl c.requires)
+
+pub read_items-returns-in_err-push-in-Ok-clause-bounded : goal.read_items-returns-in_err-push-in-Ok-clause-bounded
+read_items-returns-in_err-push-in-Ok-clause-bounded t c =
+    bounded_behind c.args.content.now c.loop-rest.rest.now c.loop-rest.items.items c.args.max_depth c.args.count.now c.loop-rest.count _ c.loop-rest.invariant.0 c.loop-rest.invariant.1 c.in-Ok.ensures.bounded
+
+pub read_items-returns-in-Err-clause-bounded : goal.read_items-returns-in-Err-clause-bounded
+read_items-returns-in-Err-clause-bounded t c =
+    bounded_behind c.args.content.now c.loop-rest.rest.now c.loop-rest.items.items c.args.max_depth c.args.count.now c.loop-rest.count _ c.loop-rest.invariant.0 c.loop-rest.invariant.1 c.in-Err.ensures.bounded
+
+pub read_items-returns-clause-bounded : goal.read_items-returns-clause-bounded
+read_items-returns-clause-bounded t c =
+    bounded_behind c.args.content.now c.loop-rest.rest.now c.loop-rest.items.items c.args.max_depth c.args.count.now c.loop-rest.count _ c.loop-rest.invariant.0 c.loop-rest.invariant.1 (omega arith)
+
+pub read_element-returns-clause-bounded : goal.read_element-returns-clause-bounded
+read_element-returns-clause-bounded t c =
+    let h = c.in_ok-rest.header in
+    let found = c.in_ok-rest.ensures.exactly.found in
+    let s = header_shorter c.args.i.now c.in_ok-rest.rest.now (class_of h) (is_constructed h) (number_of h) found.size found.begins in
+    omega (arith, s, c.in_ok-rest.ensures.counted, c.split_at.ensures.front_len, c.split_at.ensures.back_len, c.read_object.ensures.bounded)
+
+pub read_object-returns-then-not-is_universal-clause-counted : goal.read_object-returns-then-not-is_universal-clause-counted
+read_object-returns-then-not-is_universal-clause-counted t c =
+    let n = c.args.count.now in
+    rw c.from_header_and_content.ensures.content (none_counted 0 n refl c.requires.counts)
+
+pub read_object-returns-clause-counted : goal.read_object-returns-clause-counted
+read_object-returns-clause-counted t c =
+    let n = c.args.count.now in
+    rw c.from_header_and_content-2.ensures.content (none_counted 0 n refl c.requires.counts)
+
+pub read_object-returns-then-is_mapped-clause-counted : goal.read_object-returns-then-is_mapped-clause-counted
+read_object-returns-then-is_mapped-clause-counted t c =
+    let n = c.args.count.now in
+    let x = content_tree c.in_ok-content.content in
+    let none = leaf_counted false c.tag-tag.result.0 (content_octets x) x c.in_ok-content.ensures.1.0 in
+    rw c.from_header_and_content-then-is_mapped.ensures.content (none_counted (content_count x) n none c.requires.counts)
+
+pub read_object-returns-then-eq-clause-counted : goal.read_object-returns-then-eq-clause-counted
+read_object-returns-then-eq-clause-counted t c =
+    let v = c.in_ok-read_items.field-0 in
+    let n = c.args.count.now in
+    rw c.from_header_and_content-then-eq.ensures.content (c.in_ok-read_items.ensures.counted ∙ ap (λ k. some_more k n) (sym (sequence_content_count v)))
+
+pub read_object-returns-then-eq-2-clause-counted : goal.read_object-returns-then-eq-2-clause-counted
+read_object-returns-then-eq-2-clause-counted t c =
+    let v = c.in_ok-read_items-2.field-0 in
+    let n = c.args.count.now in
+    rw c.from_header_and_content-then-eq-2.ensures.content (c.in_ok-read_items-2.ensures.counted ∙ ap (λ k. some_more k n) (sym (set_content_count v)))
+
 pub read_element-returns-clause-counted : goal.read_element-returns-clause-counted
 read_element-returns-clause-counted t c =
-    let h = c.in_ok-rest.header in
-    let found = c.in_ok-rest.ensures.exactly.found in
-    let s = header_shorter c.args.i.now c.in_ok-rest.rest.now (class_of h) (is_constructed h) (number_of h) found.size found.begins in
-    omega (arith, s, c.in_ok-rest.ensures.counted, c.split_at.ensures.front_len, c.split_at.ensures.back_len, c.read_object.ensures.counted)
-
-pub read_element-returns-clause-counted_ok : goal.read_element-returns-clause-counted_ok
-read_element-returns-clause-counted_ok t c =
-    let h = c.in_ok-rest.header in
-    let found = c.in_ok-rest.ensures.exactly.found in
-    let s = header_shorter c.args.i.now c.in_ok-rest.rest.now (class_of h) (is_constructed h) (number_of h) found.size found.begins in
-    ok_with _ _ _ c.read_object.result _ _ c.read_object.ensures.found c.read_object.ensures.counted_ok
-    (λ x q n. omega (arith, s, c.in_ok-rest.ensures.counted, c.split_at.ensures.front_len, c.split_at.ensures.back_len, ap length q.0, n))
+    counted_around c.read_object.result c.args.count.now _ c.read_object.new.count c.in_ok-rest.ensures.counted c.read_object.ensures.counted
