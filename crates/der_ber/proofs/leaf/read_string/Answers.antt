@@ -1,6 +1,6 @@
 use Rattle.std.proofs.Common.{rules}
 use Rattle.der_base.specs.Text.{IsTextOf}
-use Rattle.der_ber.proofs.Leaves.{text_refused}
+use Rattle.der_ber.proofs.Leaves.{text_read, text_refused}
 use Rattle.der_ber.proofs.leaf.read_string.Goals as goal
 
 pub returns-in-None : goal.returns-in-None
@@ -9,3 +9,6 @@ returns-in-None c =
     let w = c.args.content.now in
     let wrong : ¬ IsTextOf t w = search rules in
     text_refused c.args.constructed t w c.if-constructed.false c.requires wrong
+
+pub returns-in-Some : goal.returns-in-Some
+returns-in-Some c = text_read c.args.constructed c.args.tag.0 c.args.content.now c.in-Some.string.now _ c.if-constructed.false c.in-Some.ensures c.text_content.ensures
