@@ -1,6 +1,6 @@
-use Rattle.std.proofs.Common.{rules}
+use Rattle.std.proofs.Common.{rules, refl, inr}
 use Rattle.der_base.specs.Text.{IsTextOf}
-use Rattle.der_ber.proofs.Leaves.{text_read, text_refused}
+use Rattle.der_ber.proofs.Leaves.{text_refused}
 use Rattle.der_ber.proofs.leaf.read_string.Goals as goal
 
 pub returns-in-None : goal.returns-in-None
@@ -11,4 +11,6 @@ returns-in-None c =
     text_refused c.args.constructed t w c.if-constructed.false c.requires wrong
 
 pub returns-in-Some : goal.returns-in-Some
-returns-in-Some c = text_read c.args.constructed c.args.tag.0 c.args.content.now c.in-Some.string.now _ c.if-constructed.false c.in-Some.ensures c.text_content.ensures
+returns-in-Some c =
+    let h = c.in-Some.ensures in
+    rw (c.text_content.ensures, h.2) (refl, inr (inr (inr (h.0, c.if-constructed.false, h.1))), refl)
