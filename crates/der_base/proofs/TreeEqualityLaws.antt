@@ -13,7 +13,7 @@ use Rattle.der_base.specs.declared.time.ASN1DateTime.{ASN1DateTime}
 use Rattle.der_base.specs.declared.time.ASN1TimeZone.{ASN1TimeZone}
 use Rattle.der_base.specs.declared.time.ASN1TimeZone.TheVariants.{Undefined, Z, Offset}
 use Rattle.der_base.specs.contracts.header.Class as Class_type
-use Rattle.der_base.specs.Tree.{Node, node, Content, end_of_content, boolean, integer, bit_string, octet_string, null, enumerated, object_identifier, relative_oid, text, bmp_string, universal_string, time, sequence, set, absent, present, tagged, unknown, Nodes, no_nodes, nodes}
+use Rattle.der_base.specs.Tree.{Node, node, Content, end_of_content, boolean, integer, bit_string, string, null, enumerated, object_identifier, relative_oid, time, sequence, set, absent, present, tagged, unknown, Nodes, no_nodes, nodes}
 use Rattle.der_base.specs.TreeEquality.{same_class, same_octets, same_zone, same_time, same_node, same_content, same_nodes}
 
 -- a test of one part, or of two, is one of the whole
@@ -87,14 +87,11 @@ mutual
   same_content-Decides (boolean b) (boolean b') = one (beq b b') (booleans_Decides b b') (λ h. cc) (λ e. cc)
   same_content-Decides (integer w) (integer w') = one (same_octets w w') (octets-Decides w w') (λ h. cc) (λ e. cc)
   same_content-Decides (bit_string u w) (bit_string u' w') = two (u == u') (same_octets w w') (unsigned_Decides u u') (octets-Decides w w') (λ h. cc) (λ e. (cc, cc))
-  same_content-Decides (octet_string w) (octet_string w') = one (same_octets w w') (octets-Decides w w') (λ h. cc) (λ e. cc)
+  same_content-Decides (string k w) (string k' w') = two (k == k') (same_octets w w') (unsigned_Decides k k') (octets-Decides w w') (λ h. cc) (λ e. (cc, cc))
   same_content-Decides null null = always refl
   same_content-Decides (enumerated n) (enumerated n') = one (n == n') (unsigned_Decides n n') (λ h. cc) (λ e. cc)
   same_content-Decides (object_identifier r w) (object_identifier r' w') = two (beq r r') (same_octets w w') (booleans_Decides r r') (octets-Decides w w') (λ h. cc) (λ e. (cc, cc))
   same_content-Decides (relative_oid r w) (relative_oid r' w') = two (beq r r') (same_octets w w') (booleans_Decides r r') (octets-Decides w w') (λ h. cc) (λ e. (cc, cc))
-  same_content-Decides (text k w) (text k' w') = two (k == k') (same_octets w w') (unsigned_Decides k k') (octets-Decides w w') (λ h. cc) (λ e. (cc, cc))
-  same_content-Decides (bmp_string w) (bmp_string w') = one (same_octets w w') (octets-Decides w w') (λ h. cc) (λ e. cc)
-  same_content-Decides (universal_string w) (universal_string w') = one (same_octets w w') (octets-Decides w w') (λ h. cc) (λ e. cc)
   same_content-Decides (time k t) (time k' t') = two (k == k') (same_time t t') (unsigned_Decides k k') (time-Decides t t') (λ h. cc) (λ e. (cc, cc))
   same_content-Decides (sequence l) (sequence l') = one (same_nodes l l') (same_nodes-Decides l l') (λ h. cc) (λ e. cc)
   same_content-Decides (set l) (set l') = one (same_nodes l l') (same_nodes-Decides l l') (λ h. cc) (λ e. cc)

@@ -10,7 +10,7 @@ use Rattle.der_base.specs.declared.time.ASN1DateTime.{ASN1DateTime}
 use Rattle.der_base.specs.declared.time.ASN1TimeZone.{ASN1TimeZone}
 use Rattle.der_base.specs.declared.time.ASN1TimeZone.TheVariants.{Undefined, Z, Offset}
 use Rattle.der_base.specs.contracts.header.Class as Class_type
-use Rattle.der_base.specs.Tree.{Node, node, Content, end_of_content, boolean, integer, bit_string, octet_string, null, enumerated, object_identifier, relative_oid, text, bmp_string, universal_string, time, sequence, set, absent, present, tagged, unknown, Nodes, no_nodes, nodes}
+use Rattle.der_base.specs.Tree.{Node, node, Content, end_of_content, boolean, integer, bit_string, string, null, enumerated, object_identifier, relative_oid, time, sequence, set, absent, present, tagged, unknown, Nodes, no_nodes, nodes}
 
 abbrev pub same_class : Class → Class → Bool
 same_class = sameb Class_type.the_type
@@ -38,14 +38,11 @@ abbrev mutual
   same_content (boolean b) (boolean b') = beq b b'
   same_content (integer w) (integer w') = same_octets w w'
   same_content (bit_string u w) (bit_string u' w') = (u == u') && same_octets w w'
-  same_content (octet_string w) (octet_string w') = same_octets w w'
+  same_content (string k w) (string k' w') = (k == k') && same_octets w w'
   same_content null null = true
   same_content (enumerated n) (enumerated n') = n == n'
   same_content (object_identifier r w) (object_identifier r' w') = beq r r' && same_octets w w'
   same_content (relative_oid r w) (relative_oid r' w') = beq r r' && same_octets w w'
-  same_content (text k w) (text k' w') = (k == k') && same_octets w w'
-  same_content (bmp_string w) (bmp_string w') = same_octets w w'
-  same_content (universal_string w) (universal_string w') = same_octets w w'
   same_content (time k t) (time k' t') = (k == k') && same_time t t'
   same_content (sequence l) (sequence l') = same_nodes l l'
   same_content (set l) (set l') = same_nodes l l'

@@ -3,7 +3,7 @@
 ghost use Rattle.std.specs.Prelude.{◌≡◌, false, IsTrue};
 ghost use Rattle.der_base.specs.Leaf.{is_list, is_mapped, is_time};
 ghost use Rattle.der_base.specs.Text.{is_text_type};
-ghost use Rattle.der_base.specs.Tree.{text, time};
+ghost use Rattle.der_base.specs.Tree.{string, time};
 ghost use Rattle.der_object.specs.View.{content_tree};
 ghost use Rattle.der_ber.specs.BerLeaves.{ReadsLeaf};
 
@@ -191,20 +191,20 @@ fn read_string(
 }
 
 /// The content of a string type that is kept as a text.
-fn text_content<'a>(tag: Tag, string: &'a str) -> BerObjectContent<'a>
+fn text_content<'a>(tag: Tag, text: &'a str) -> BerObjectContent<'a>
     requires { IsTrue (is_text_type tag.0) }
-    ensures { content_tree result ≡ text tag.0 string.now }
+    ensures { content_tree result ≡ string tag.0 text.now }
 {
     match tag {
-        Tag::ObjectDescriptor => BerObjectContent::ObjectDescriptor(string),
-        Tag::Utf8String => BerObjectContent::UTF8String(string),
-        Tag::NumericString => BerObjectContent::NumericString(string),
-        Tag::PrintableString => BerObjectContent::PrintableString(string),
-        Tag::T61String => BerObjectContent::T61String(string),
-        Tag::VideotexString => BerObjectContent::VideotexString(string),
-        Tag::Ia5String => BerObjectContent::IA5String(string),
-        Tag::GraphicString => BerObjectContent::GraphicString(string),
-        Tag::VisibleString => BerObjectContent::VisibleString(string),
-        _ => BerObjectContent::GeneralString(string),
+        Tag::ObjectDescriptor => BerObjectContent::ObjectDescriptor(text),
+        Tag::Utf8String => BerObjectContent::UTF8String(text),
+        Tag::NumericString => BerObjectContent::NumericString(text),
+        Tag::PrintableString => BerObjectContent::PrintableString(text),
+        Tag::T61String => BerObjectContent::T61String(text),
+        Tag::VideotexString => BerObjectContent::VideotexString(text),
+        Tag::Ia5String => BerObjectContent::IA5String(text),
+        Tag::GraphicString => BerObjectContent::GraphicString(text),
+        Tag::VisibleString => BerObjectContent::VisibleString(text),
+        _ => BerObjectContent::GeneralString(text),
     }
 }

@@ -18,7 +18,7 @@ use Rattle.der_base.specs.Leaf.{is_list, is_mapped, IsDerLeaf}
 use Rattle.der_base.specs.Octets.{identifier, shortest_length, octets}
 use Rattle.der_base.specs.Refusal.{Refusal, invalid_length}
 use Rattle.der_base.specs.Spelling.{IsDerContent, AreDerValid, max_object_size}
-use Rattle.der_base.specs.Tree.{Content, end_of_content, boolean, integer, bit_string, octet_string, null, enumerated, object_identifier, relative_oid, text, bmp_string, universal_string, time, sequence, set, absent, present, tagged, unknown, Nodes, no_nodes, nodes, content_height, list_height}
+use Rattle.der_base.specs.Tree.{Content, end_of_content, boolean, integer, bit_string, string, null, enumerated, object_identifier, relative_oid, time, sequence, set, absent, present, tagged, unknown, Nodes, no_nodes, nodes, content_height, list_height}
 use Rattle.der_base.specs.Stable.{DerIsCut}
 use Rattle.der_base.proofs.Spellings.DerFaults.{header_shows, size_shows, behind_shows, header_cut_shows_nothing, content_cut_shows_nothing}
 use Rattle.der_base.proofs.Spellings.DerLacking.{der_header_cut, der_content_cut}
@@ -40,14 +40,11 @@ leaf_valid c p t end_of_content u h k = inl (u, h, k)
 leaf_valid c p t (boolean v) u h k = inl (u, h, k)
 leaf_valid c p t (integer v) u h k = inl (u, h, k)
 leaf_valid c p t (bit_string m v) u h k = inl (u, h, k)
-leaf_valid c p t (octet_string v) u h k = inl (u, h, k)
+leaf_valid c p t (string m v) u h k = inl (u, h, k)
 leaf_valid c p t null u h k = inl (u, h, k)
 leaf_valid c p t (enumerated n) u h k = inl (u, h, k)
 leaf_valid c p t (object_identifier q v) u h k = inl (u, h, k)
 leaf_valid c p t (relative_oid q v) u h k = inl (u, h, k)
-leaf_valid c p t (text m v) u h k = inl (u, h, k)
-leaf_valid c p t (bmp_string v) u h k = inl (u, h, k)
-leaf_valid c p t (universal_string v) u h k = inl (u, h, k)
 leaf_valid c p t (time m v) u h k = inl (u, h, k)
 leaf_valid c p t (sequence l) u h k = absurd k.0
 leaf_valid c p t (set l) u h k = absurd k.0

@@ -3,7 +3,7 @@ use Rattle.std.specs.Prelude.{List, map}
 use Rattle.der_base.specs.declared.header.Header.{Header}
 use Rattle.der_base.specs.Header.{class_of, is_constructed, number_of}
 use Rattle.der_base.specs.Oids.{octets_of, is_relative_of}
-use Rattle.der_base.specs.Tree.{Node, node, Content, end_of_content, boolean, integer, bit_string, octet_string, null, enumerated, object_identifier, relative_oid, text, bmp_string, universal_string, time, sequence, set, unknown, Nodes, no_nodes, nodes, nodes_of}
+use Rattle.der_base.specs.Tree.{Node, node, Content, end_of_content, boolean, integer, bit_string, string, null, enumerated, object_identifier, relative_oid, time, sequence, set, unknown, Nodes, no_nodes, nodes, nodes_of}
 use Rattle.der_object.specs.declared.object.BerObject.{BerObject}
 use Rattle.der_object.specs.declared.object.BerObjectContent.{BerObjectContent, Row_of-BerObject, end_of-BerObject, more_of-BerObject}
 use Rattle.der_object.specs.declared.object.BerObjectContent.TheVariants.{EndOfContent, Boolean, Integer, BitString, OctetString, Null, Enum, OID, RelativeOID, NumericString, VisibleString, PrintableString, IA5String, UTF8String, T61String, VideotexString, ObjectDescriptor, GraphicString, GeneralString, BmpString, UniversalString, Sequence', Set', UTCTime, GeneralizedTime, Unknown}
@@ -18,23 +18,23 @@ abbrev mutual
   content_tree (Boolean b) = boolean b
   content_tree (Integer w) = integer w.now
   content_tree (BitString u w) = bit_string u w.bytes.now
-  content_tree (OctetString w) = octet_string w.now
+  content_tree (OctetString w) = string 4 w.now
   content_tree Null = null
   content_tree (Enum n) = enumerated n
   content_tree (OID x) = object_identifier (is_relative_of x) (octets_of x)
   content_tree (RelativeOID x) = relative_oid (is_relative_of x) (octets_of x)
-  content_tree (NumericString s) = text 18 s.now
-  content_tree (VisibleString s) = text 26 s.now
-  content_tree (PrintableString s) = text 19 s.now
-  content_tree (IA5String s) = text 22 s.now
-  content_tree (UTF8String s) = text 12 s.now
-  content_tree (T61String s) = text 20 s.now
-  content_tree (VideotexString s) = text 21 s.now
-  content_tree (ObjectDescriptor s) = text 7 s.now
-  content_tree (GraphicString s) = text 25 s.now
-  content_tree (GeneralString s) = text 27 s.now
-  content_tree (BmpString w) = bmp_string w.now
-  content_tree (UniversalString w) = universal_string w.now
+  content_tree (NumericString s) = string 18 s.now
+  content_tree (VisibleString s) = string 26 s.now
+  content_tree (PrintableString s) = string 19 s.now
+  content_tree (IA5String s) = string 22 s.now
+  content_tree (UTF8String s) = string 12 s.now
+  content_tree (T61String s) = string 20 s.now
+  content_tree (VideotexString s) = string 21 s.now
+  content_tree (ObjectDescriptor s) = string 7 s.now
+  content_tree (GraphicString s) = string 25 s.now
+  content_tree (GeneralString s) = string 27 s.now
+  content_tree (BmpString w) = string 30 w.now
+  content_tree (UniversalString w) = string 28 w.now
   content_tree (Sequence' shape row) = sequence (row_tree row)
   content_tree (Set' shape row) = set (row_tree row)
   content_tree (UTCTime t) = time 23 t

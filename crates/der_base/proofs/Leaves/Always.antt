@@ -7,8 +7,8 @@ use Rattle.der_base.specs.declared.time.ASN1DateTime.{ASN1DateTime}
 use Rattle.der_base.specs.Octets.{integer_value}
 use Rattle.der_base.specs.Text.{is_text_type, is_utf8_type, is_one_of, is_numeric, is_printable, is_ia5, is_visible, IsTextOf}
 use Rattle.der_base.specs.Time.{IsTimeText}
-use Rattle.der_base.specs.Tree.{Content, end_of_content, boolean, integer, bit_string, octet_string, null, enumerated, object_identifier, relative_oid, text, bmp_string, universal_string, time}
-use Rattle.der_base.specs.Leaf.{is_list, is_time, is_mapped, IsLeafContent}
+use Rattle.der_base.specs.Tree.{Content, end_of_content, boolean, integer, bit_string, string, null, enumerated, object_identifier, relative_oid, time}
+use Rattle.der_base.specs.Leaf.{is_list, is_time, is_mapped, IsStringOf, IsLeafContent}
 use Rattle.der_base.specs.LeafRefusal.{ber_tests, range_tests, BerLeafRefuses, IsNotTime}
 use Rattle.der_base.specs.Refusal.{Refusal}
 use Rattle.der_base.proofs.Leaves.Decided.{Decided, never, sure, decided_like, decided_and, decided_not, decided_when, decided_true, decided_false, decided_equal, decided_less, decided_empty, decided_all, decided_utf8}
@@ -90,6 +90,13 @@ each_mapped P t mapped no_list others texts utc generalized = or_cases _ (is_lis
     (λ h. or_cases (t == 23) (t == 24) (P t) h (λ e. subst P (sym ((Decides-eqb t 23).0 e)) utc) (λ e. subst P (sym ((Decides-eqb t 24).0 e)) generalized)))
     (λ h. absurd (never (sym no_list ∙ h)))
 
+-- each type of strings
+pub each_string : (P : ℕ → Type 0) (p : Bool) (k : ℕ) (w : List ℕ) → IsStringOf p k w → P 4 → P 28 → P 30 → (is_text_type k ≡ true → P k) → P k
+each_string P p k w (inl e) octets universal bmp text = subst P (sym e) octets
+each_string P p k w (inr (inl h)) octets universal bmp text = subst P (sym h.0) universal
+each_string P p k w (inr (inr (inl h))) octets universal bmp text = subst P (sym h.0) bmp
+each_string P p k w (inr (inr (inr h))) octets universal bmp text = text h.0
+
 -- octets that pass the tests of BER
 pub passed_content : (p : Bool) (t : ℕ) (w : List ℕ) → is_mapped t ≡ true → is_list t ≡ false → NoneHolds (ber_tests p t w) → HasContent p t w
 passed_content p t w mapped no_list = each_mapped (λ t. NoneHolds (ber_tests p t w) → HasContent p t w) t mapped no_list (
@@ -101,7 +108,7 @@ passed_content p t w mapped no_list = each_mapped (λ t. NoneHolds (ber_tests p 
       (
         (λ n. bits_content p w (be_false p n.1.0) n.0),
         (
-          (λ n. (octet_string w, (refl, refl))),
+          (λ n. (string 4 w, (refl, inl refl, refl))),
           (
             (λ n. (null, refl)),
             (
@@ -111,9 +118,9 @@ passed_content p t w mapped no_list = each_mapped (λ t. NoneHolds (ber_tests p 
                 (
                   (λ n. (relative_oid true w, (refl, be_false p n.0, refl, refl))),
                   (
-                    (λ n. (universal_string w, (refl, be_false p n.0, refl))),
+                    (λ n. (string 28 w, (refl, inr (inl (refl, be_false p n.0)), refl))),
                     (
-                      (λ n. (bmp_string w, (refl, be_false p n.0, even (length w) n.1.0, sure _ (decided_false _) n.1.1.0, refl))),
+                      (λ n. (string 30 w, (refl, inr (inr (inl (refl, be_false p n.0, even (length w) n.1.0, sure _ (decided_false _) n.1.1.0))), refl))),
                       tt,
                     ),
                   ),
@@ -126,7 +133,7 @@ passed_content p t w mapped no_list = each_mapped (λ t. NoneHolds (ber_tests p 
     ),
   ),
 )
-    (λ k n. let m = rw k at n in (text t w, (refl, be_false p m.0, k, sure _ (decided_text t w) m.1.0, refl)))
+    (λ k n. let m = rw k at n in (string t w, (refl, inr (inr (inr (k, be_false p m.0, sure _ (decided_text t w) m.1.0))), refl)))
     (λ n. time_content p 23 w (be_false p n.0) n.1.0)
     (λ n. time_content p 24 w (be_false p n.0) n.1.0)
 

@@ -6,7 +6,7 @@ use Rattle.der_base.specs.Octets.{number}
 use Rattle.der_base.specs.Encoding.{content_octets}
 use Rattle.der_base.specs.Text.{is_text_type}
 use Rattle.der_base.specs.Time.{IsTimeText, time_text}
-use Rattle.der_base.specs.Tree.{Content, end_of_content, boolean, integer, bit_string, octet_string, null, enumerated, object_identifier, relative_oid, text, bmp_string, universal_string, time, sequence, set, absent, present, tagged, unknown}
+use Rattle.der_base.specs.Tree.{Content, end_of_content, boolean, integer, bit_string, string, null, enumerated, object_identifier, relative_oid, time, sequence, set, absent, present, tagged, unknown}
 use Rattle.der_base.specs.Leaf.{is_list, is_time, is_mapped, IsLeafContent, IsStrict, IsDerLeaf, HasZeroUnusedBits, IsMinimalInteger}
 use Rattle.der_base.specs.LeafRefusal.{Test, choose, ber_tests, integer_tests, bit_string_tests, range_tests, der_primitive_tests, der_tests, DerLeafRefuses}
 use Rattle.der_base.specs.Refusal.{Refusal, der_constraint}
@@ -16,7 +16,7 @@ use Rattle.der_base.proofs.Leaves.Refusals.{AllDecided, NoneHolds, first_or_none
 use Rattle.der_base.proofs.Octets.Shortest.{IsOctet, shortest_of_value}
 use Rattle.der_base.proofs.Times.TimesDecided.{time_tests_decided}
 use Rattle.der_base.proofs.Times.TimesWritten.{time_is_written}
-use Rattle.der_base.proofs.Leaves.Always.{ber_decided, range_decided, each_mapped, passed_content}
+use Rattle.der_base.proofs.Leaves.Always.{ber_decided, range_decided, each_mapped, each_string, passed_content}
 
 decided_front : (P : ℕ → List ℕ → Type 0) (w : List ℕ) → ((b : ℕ) (v : List ℕ) → Decided (P b v)) → Decided ((b : ℕ) × (v : List ℕ) × (w ≡ b ∷ v) × P b v)
 decided_front P [] d = inr (λ q. let e = q.2 in cc)
@@ -127,15 +127,12 @@ passed_written t w end_of_content a h n = (is_none w (rw h at n).1.0, tt)
 passed_written t w (boolean v) a h n = rw (h.4, h.3) (boolean_octets h.2 (rw (h.0, h.3) at n).1.1.0, tt)
 passed_written t w (integer v) a h n = (h.1, passed_minimal v (rw (h.0, h.1) at n).1)
 passed_written t w (bit_string u v) a h n = (h.2, sure _ (decided_unused u v) (λ k. (rw h.0 at n).1.1.1.0 (u, v, h.2, k)))
-passed_written t w (octet_string v) a h n = (h.1, tt)
+passed_written t w (string k v) a h n = (h.2, tt)
 passed_written t w null a h n = (is_none w (rw h at n).1.0, tt)
 passed_written t w (object_identifier q v) a h n = (h.3, tt)
 passed_written t w (enumerated k) a h n = (shortest_of_value w k a (passed_minimal w (none_of_front (integer_tests w) (range_tests w) (rw h.0 at n).1)) h.3, tt)
 passed_written t w (relative_oid q v) a h n = (h.3, tt)
-passed_written t w (text k v) a h n = (h.4, tt)
 passed_written t w (time k d) a h n = time_written k w d h.2 (rw h.0 at n)
-passed_written t w (universal_string v) a h n = (h.2, tt)
-passed_written t w (bmp_string v) a h n = (h.4, tt)
 passed_written t w (sequence l) a h n = absurd h
 passed_written t w (set l) a h n = absurd h
 passed_written t w absent a h n = absurd h
@@ -156,16 +153,13 @@ leaf_mapped p t w end_of_content h = rw h refl
 leaf_mapped p t w (boolean v) h = rw h.0 refl
 leaf_mapped p t w (integer v) h = rw h.0 refl
 leaf_mapped p t w (bit_string u v) h = rw h.0 refl
-leaf_mapped p t w (octet_string v) h = rw h.0 refl
+leaf_mapped p t w (string k v) h = rw h.0 (each_string (λ k. is_mapped k ≡ true) p k v h.1 refl refl refl (λ s. or_left _ _ (or_left _ _ (or_right _ _ s))))
 leaf_mapped p t w null h = rw h refl
 leaf_mapped p t w (object_identifier q v) h = rw h.0 refl
 leaf_mapped p t w (enumerated k) h = rw h.0 refl
 leaf_mapped p t w (relative_oid q v) h = rw h.0 refl
-leaf_mapped p t w (text k v) h = rw h.0 (or_left _ _ (or_left _ _ (or_right _ _ h.2)))
 leaf_mapped p t w (time k d) (e, q, inl h) = rw (e, h.0) refl
 leaf_mapped p t w (time k d) (e, q, inr h) = rw (e, h.0) refl
-leaf_mapped p t w (universal_string v) h = rw h.0 refl
-leaf_mapped p t w (bmp_string v) h = rw h.0 refl
 leaf_mapped p t w _ h = absurd h
 
 -- a content whose octets DER does not refuse is a DER leaf, and the octets are those that are written

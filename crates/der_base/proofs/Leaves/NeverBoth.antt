@@ -8,11 +8,12 @@ use Rattle.der_base.specs.declared.time.ASN1DateTime.{ASN1DateTime}
 use Rattle.der_base.specs.Text.{is_text_type}
 use Rattle.der_base.specs.declared.time.ASN1TimeZone.TheVariants.{Z}
 use Rattle.der_base.specs.Time.{IsTimeText, time_text}
-use Rattle.der_base.specs.Tree.{Content, end_of_content, boolean, integer, bit_string, octet_string, null, enumerated, object_identifier, relative_oid, text, bmp_string, universal_string, time, sequence, set, absent, present, tagged, unknown}
-use Rattle.der_base.specs.Leaf.{is_list, IsLeafContent, IsDerLeaf, HasZeroUnusedBits, IsMinimalInteger}
+use Rattle.der_base.specs.Tree.{Content, end_of_content, boolean, integer, bit_string, string, null, enumerated, object_identifier, relative_oid, time, sequence, set, absent, present, tagged, unknown}
+use Rattle.der_base.specs.Leaf.{is_list, IsStringOf, IsLeafContent, IsDerLeaf, HasZeroUnusedBits, IsMinimalInteger}
 use Rattle.der_base.specs.LeafRefusal.{BerLeafRefuses, integer_tests, bit_string_tests, ber_tests, der_tests, DerLeafRefuses}
 use Rattle.der_base.specs.Refusal.{Refusal}
 use Rattle.der_base.proofs.Octets.Shortest.{minimal_shortest}
+use Rattle.der_base.proofs.Leaves.Always.{each_string}
 use Rattle.der_base.proofs.Leaves.Refusals.{NoneHolds, none_refuses}
 use Rattle.der_base.proofs.Leaves.Decided.{never}
 use Rattle.der_base.proofs.Times.DerTimes.{time_passes}
@@ -24,21 +25,24 @@ no_time_tests : (p : Bool) (k : ℕ) (w : List ℕ) (d : ASN1DateTime) → p ≡
 no_time_tests p k w d q (inl h) = rw h.0 (primitive p q, ((λ no. no d (inl (refl, h.1))), tt))
 no_time_tests p k w d q (inr h) = rw h.0 (primitive p q, ((λ no. no d (inr (refl, h.1))), tt))
 
+string_passes : (p : Bool) (k : ℕ) (w : List ℕ) → IsStringOf p k w → NoneHolds (ber_tests p k w)
+string_passes p k w (inl e) = rw e tt
+string_passes p k w (inr (inl h)) = rw h.0 (primitive p h.1, tt)
+string_passes p k w (inr (inr (inl h))) = rw h.0 (primitive p h.1, ((λ q. omega (arith, h.2)), ((λ q. q h.3), tt)))
+string_passes p k w (inr (inr (inr h))) = rw h.0 (primitive p h.1, ((λ q. q h.2), tt))
+
 -- the tests of BER on a content
 pub ber_passes : (p : Bool) (t : ℕ) (w : List ℕ) (x : Content) → IsLeafContent p t w x → NoneHolds (ber_tests p t w)
 ber_passes p t w end_of_content h = rw h tt
 ber_passes p t w (boolean v) h = rw h.0 (primitive p h.1, ((λ k. k (ap length h.3)), tt))
 ber_passes p t w (integer v) h = rw h.0 tt
 ber_passes p t w (bit_string u v) h = rw h.0 ((λ k. cc), (primitive p h.1, tt))
-ber_passes p t w (octet_string v) h = rw h.0 tt
+ber_passes p t w (string k v) h = rw (h.0, h.2) (string_passes p k v h.1)
 ber_passes p t w null h = rw h tt
 ber_passes p t w (object_identifier r v) h = rw h.0 (primitive p h.1, tt)
 ber_passes p t w (enumerated n) h = rw (h.0, h.3) (primitive p h.1, ((λ k. omega (arith, ints)), ((λ k. omega (arith, ints)), tt)))
 ber_passes p t w (relative_oid r v) h = rw h.0 (primitive p h.1, tt)
-ber_passes p t w (text k v) h = rw (h.0, h.4, h.2) (primitive p h.1, ((λ q. q h.3), tt))
 ber_passes p t w (time k d) h = rw h.0 (no_time_tests p k w d h.1 h.2)
-ber_passes p t w (universal_string v) h = rw h.0 (primitive p h.1, tt)
-ber_passes p t w (bmp_string v) h = rw (h.0, h.4) (primitive p h.1, ((λ q. omega (arith, h.2)), ((λ q. q h.3), tt)))
 ber_passes p t w (sequence l) h = absurd h
 ber_passes p t w (set l) h = absurd h
 ber_passes p t w absent h = absurd h
@@ -92,7 +96,10 @@ der_passes t (boolean true) h = rw h.0.0 (not_primitive, ((λ q. q refl), ((λ q
 der_passes t (boolean false) h = rw h.0.0 (not_primitive, ((λ q. q refl), ((λ q. q.0 refl), tt)))
 der_passes t (integer v) h = rw h.0.0 (not_primitive, minimal_passes v h.1)
 der_passes t (bit_string u v) h = rw h.0.0 (not_primitive, bit_string_passes u v h.1)
-der_passes t (octet_string v) h = rw h.0.0 (not_primitive, tt)
+der_passes t (string k v) h =
+    rw h.0.0 (each_string (λ k. NoneHolds (ber_tests false k v) → NoneHolds (der_tests false k v)) false k v h.0.1
+    (λ n. (not_primitive, tt)) (λ n. (not_primitive, tt)) (λ n. (not_primitive, n)) (λ s n. rw (text_no_list k s, s) (not_primitive, rw s at n))
+    (string_passes false k v h.0.1))
 der_passes t null h = rw h.0 (not_primitive, ((λ q. q refl), tt))
 der_passes t (object_identifier r v) h = rw h.0.0 (not_primitive, tt)
 der_passes t (enumerated k) h = rw h.0.0 (
@@ -101,10 +108,7 @@ der_passes t (enumerated k) h = rw h.0.0 (
     let few : k < 2 ^ 64 = h.0.2 in
     (not_primitive, (i.0, (i.1.0, (i.1.1.0, (rw e (λ q. omega (arith, ints)), (rw e (λ q. omega (arith, ints)), tt)))))))
 der_passes t (relative_oid r v) h = rw h.0.0 (not_primitive, tt)
-der_passes t (text k v) h = rw (h.0.0, text_no_list k h.0.2, h.0.2) (not_primitive, (not_primitive, ((λ q. q h.0.3), tt)))
 der_passes t (time k d) h = rw h.0.0 (written_time_passes k d h.0.2 h.1.0 h.1.1)
-der_passes t (universal_string v) h = rw h.0.0 (not_primitive, tt)
-der_passes t (bmp_string v) h = rw h.0.0 (not_primitive, (not_primitive, ((λ q. omega (arith, h.0.2)), ((λ q. q h.0.3), tt))))
 der_passes t (sequence l) h = absurd h.0
 der_passes t (set l) h = absurd h.0
 der_passes t absent h = absurd h.0

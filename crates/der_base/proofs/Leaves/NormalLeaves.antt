@@ -9,7 +9,7 @@ use Rattle.der_base.specs.declared.time.ASN1TimeZone.TheVariants.{Undefined, Z, 
 use Rattle.der_base.specs.Encoding.{content_octets}
 use Rattle.der_base.specs.Leaf.{IsLeafContent}
 use Rattle.der_base.specs.Time.{two_digits, decimal_from, IsDigit, IsZone, IsFraction, IsUtcTime, IsGeneralizedTime, IsTimeText, at_least_digits, without_last_zeros, or_zero, fraction_text, zone_text, time_text}
-use Rattle.der_base.specs.Tree.{Content, end_of_content, boolean, integer, bit_string, octet_string, null, enumerated, object_identifier, relative_oid, text, bmp_string, universal_string, time, sequence, set, absent, present, tagged, unknown}
+use Rattle.der_base.specs.Tree.{Content, end_of_content, boolean, integer, bit_string, string, null, enumerated, object_identifier, relative_oid, time, sequence, set, absent, present, tagged, unknown}
 use Rattle.der_base.proofs.Times.DerTimes.{few_seconds}
 use Rattle.der_base.proofs.AllByRecursion.{Each, each_from_all, all_from_each}
 use Rattle.der_base.proofs.Octets.Shortest.{integer_shortest}
@@ -127,15 +127,12 @@ leaf_written p t w (boolean true) h = (h.0, h.1, 255, refl, refl)
 leaf_written p t w (boolean false) h = (h.0, h.1, 0, refl, refl)
 leaf_written p t w (integer v) h = (h.0, refl)
 leaf_written p t w (bit_string u v) h = (h.0, h.1, refl)
-leaf_written p t w (octet_string v) h = (h.0, refl)
+leaf_written p t w (string k v) h = (h.0, h.1, refl)
 leaf_written p t w null h = h
 leaf_written p t w (object_identifier r v) h = (h.0, h.1, h.2, refl)
 leaf_written p t w (enumerated n) h = (h.0, h.1, h.2, integer_shortest n)
 leaf_written p t w (relative_oid r v) h = (h.0, h.1, h.2, refl)
-leaf_written p t w (text k v) h = (h.0, h.1, h.2, h.3, refl)
 leaf_written p t w (time k x) h = (h.0, h.1, time_written k w x h.2)
-leaf_written p t w (universal_string v) h = (h.0, h.1, refl)
-leaf_written p t w (bmp_string v) h = (h.0, h.1, h.2, h.3, refl)
 leaf_written p t w (sequence l) h = absurd h
 leaf_written p t w (set l) h = absurd h
 leaf_written p t w absent h = absurd h

@@ -12,7 +12,7 @@ use Rattle.der_base.specs.Leaf.{is_list, is_mapped, IsLeafContent}
 use Rattle.der_base.specs.LeafRefusal.{BerLeafRefuses, ber_tests}
 use Rattle.der_base.specs.Refusal.{Refusal, incomplete}
 use Rattle.der_base.specs.Spelling.{BeginsWithElement, BerSpells, Form, form, Forms, no_forms, forms, IsKept, Joins, framing_budget}
-use Rattle.der_base.specs.Tree.{Node, node, Content, end_of_content, boolean, integer, bit_string, octet_string, null, enumerated, object_identifier, relative_oid, text, bmp_string, universal_string, time, sequence, set, Nodes, no_nodes, nodes}
+use Rattle.der_base.specs.Tree.{Node, node, Content, end_of_content, boolean, integer, bit_string, string, null, enumerated, object_identifier, relative_oid, time, sequence, set, Nodes, no_nodes, nodes}
 use Rattle.der_base.proofs.Leaves.Always.{or_cases}
 use Rattle.der_base.proofs.Framing.Cuts.{lacks_same}
 use Rattle.der_base.proofs.Spellings.DerFaults.{kept_unmapped}
@@ -22,6 +22,7 @@ use Rattle.der_base.proofs.Framing.FramingLaws.{any_refusal_same, begins_not_cut
 use Rattle.der_base.proofs.Octets.Identifiers.{fronts_same}
 use Rattle.der_base.proofs.Leaves.NeverBoth.{never_both_ber, text_no_list}
 use Rattle.der_base.proofs.Leaves.Refusals.{first_refusal_once}
+use Rattle.der_base.proofs.Leaves.Always.{each_string}
 use Rattle.der_base.proofs.Framing.FramedIsSpelling.{restated, joins_then}
 use Rattle.der_base.proofs.Framing.RawLists.{tail_more}
 use Rattle.der_base.proofs.Spellings.DerFaults.{not_primitive}
@@ -34,16 +35,13 @@ leaf_no_list p t w end_of_content h = ap is_list h
 leaf_no_list p t w (boolean v) h = ap is_list h.0
 leaf_no_list p t w (integer v) h = ap is_list h.0
 leaf_no_list p t w (bit_string u v) h = ap is_list h.0
-leaf_no_list p t w (octet_string v) h = ap is_list h.0
+leaf_no_list p t w (string k v) h = ap is_list h.0 ∙ each_string (λ k. is_list k ≡ false) p k v h.1 refl refl refl (text_no_list k)
 leaf_no_list p t w null h = ap is_list h
 leaf_no_list p t w (object_identifier r v) h = ap is_list h.0
 leaf_no_list p t w (enumerated n) h = ap is_list h.0
 leaf_no_list p t w (relative_oid r v) h = ap is_list h.0
-leaf_no_list p t w (text k v) h = ap is_list h.0 ∙ text_no_list k h.2
 leaf_no_list p t w (time k x) (et, ep, inl (ek, h)) = ap is_list (et ∙ ek)
 leaf_no_list p t w (time k x) (et, ep, inr (ek, h)) = ap is_list (et ∙ ek)
-leaf_no_list p t w (universal_string v) h = ap is_list h.0
-leaf_no_list p t w (bmp_string v) h = ap is_list h.0
 leaf_no_list p t w _ h = absurd h
 
 -- a content with items: SEQUENCE and SET

@@ -1,13 +1,14 @@
 -- A spelling has one tree.
-use Rattle.std.proofs.Common.{◌≡◌, ℕ, ◌-◌, Bool, true, false, cond, ◌||◌, ◌==◌, not, pos, List, [], ◌++◌, refl, sym, ap, subst, ◌∙◌, arith, ◌⊎◌, inl, inr, true≢false}
+use Rattle.std.proofs.Common.{◌≡◌, ℕ, ◌-◌, Bool, true, false, cond, ◌||◌, ◌==◌, not, pos, List, [], ◌∷◌, ◌++◌, refl, sym, ap, subst, ◌∙◌, arith, ◌⊎◌, inl, inr, true≢false}
 use Rattle.der_base.specs.declared.header.Class.{Class}
 use Rattle.der_base.specs.declared.header.Class.TheVariants.{Universal, Application, ContextSpecific, Private}
 use Rattle.der_base.specs.declared.time.ASN1DateTime.{ASN1DateTime}
-use Rattle.der_base.specs.Text.{is_text_type}
+use Rattle.der_base.specs.Text.{is_one_of, is_text_type}
 use Rattle.der_base.specs.Time.{IsTimeText}
-use Rattle.der_base.specs.Tree.{Node, node, Content, end_of_content, boolean, integer, bit_string, octet_string, null, enumerated, object_identifier, relative_oid, text, bmp_string, universal_string, time, sequence, set, absent, present, tagged, unknown, Nodes, no_nodes, nodes}
+use Rattle.der_base.specs.Tree.{Node, node, Content, end_of_content, boolean, integer, bit_string, string, null, enumerated, object_identifier, relative_oid, time, sequence, set, absent, present, tagged, unknown, Nodes, no_nodes, nodes}
 use Rattle.der_base.specs.Leaf.{is_mapped, is_time, IsLeafContent}
 use Rattle.der_base.specs.Spelling.{IsKept, framing_budget, Form, form, Forms, no_forms, forms, BerSpellsAs, BerSpells, IsContent, IsOpenContent, Joins, OpenJoins}
+use Rattle.der_base.proofs.Leaves.Always.{each_string}
 use Rattle.der_base.proofs.Octets.Identifiers.{head_same}
 use Rattle.der_base.proofs.Framing.Elements.{IsElement, element_same, element_some}
 use Rattle.der_base.proofs.Framing.BudgetIndependence.{open_element}
@@ -18,25 +19,26 @@ type_of end_of_content = 0
 type_of (boolean b) = 1
 type_of (integer w) = 2
 type_of (bit_string u w) = 3
-type_of (octet_string w) = 4
 type_of null = 5
 type_of (object_identifier r w) = 6
 type_of (enumerated n) = 10
 type_of (relative_oid r w) = 13
 type_of (sequence l) = 16
 type_of (set l) = 17
-type_of (universal_string w) = 28
-type_of (bmp_string w) = 30
-type_of (text k w) = 100
+type_of (string k w) = 100
 type_of (time k t) = 101
 type_of (unknown c p t w) = 102
 type_of absent = 103
 type_of (present o) = 104
 type_of (tagged c t o) = 105
 
+-- the kind of a type that is no text and no time
+of_type : ℕ → ℕ
+of_type t = cond (is_one_of (4 ∷ 28 ∷ 30 ∷ []) t) 100 t
+
 -- the kind of the content under a header
 sort : Class → ℕ → ℕ
-sort Universal t = cond (is_text_type t) 100 (cond (is_time t) 101 (cond (is_mapped t) t 102))
+sort Universal t = cond (is_text_type t) 100 (cond (is_time t) 101 (cond (is_mapped t) (of_type t) 102))
 sort _ t = 102
 
 or_left : (a b : Bool) → a || b ≡ false → a ≡ false
@@ -53,25 +55,24 @@ kept_sort Universal t f =
     let m = f refl in
     let a : is_text_type t ≡ false = grind (arith, or_left, or_right, m) in
     let b : is_time t ≡ false = grind (arith, or_left, or_right, m) in
-    ap (λ x. cond x 100 (cond (is_time t) 101 (cond (is_mapped t) t 102))) a ∙ ap (λ x. cond x 101 (cond (is_mapped t) t 102)) b ∙ ap (λ x. cond x t 102) m
+    ap (λ x. cond x 100 (cond (is_time t) 101 (cond (is_mapped t) (of_type t) 102))) a ∙ ap (λ x. cond x 101 (cond (is_mapped t) (of_type t) 102)) b ∙ ap (λ x. cond x (of_type t) 102) m
 kept_sort Application t f = refl
 kept_sort ContextSpecific t f = refl
 kept_sort Private t f = refl
 
 leaf_sort : (p : Bool) (t : ℕ) (w : List ℕ) (x : Content) → IsLeafContent p t w x → sort Universal t ≡ type_of x
-unfolding sort type_of
+unfolding sort of_type type_of
 leaf_sort p t w end_of_content h = ap (λ n. sort Universal n) h
 leaf_sort p t w (boolean v) h = ap (λ n. sort Universal n) h.0
 leaf_sort p t w (integer v) h = ap (λ n. sort Universal n) h.0
 leaf_sort p t w (bit_string u v) h = ap (λ n. sort Universal n) h.0
-leaf_sort p t w (octet_string v) h = ap (λ n. sort Universal n) h.0
+leaf_sort p t w (string k v) h =
+    ap (λ n. sort Universal n) h.0
+    ∙ each_string (λ k. sort Universal k ≡ 100) p k v h.1 refl refl refl (λ s. ap (λ b. cond b 100 (cond (is_time k) 101 (cond (is_mapped k) (of_type k) 102))) s)
 leaf_sort p t w null h = ap (λ n. sort Universal n) h
 leaf_sort p t w (object_identifier r v) h = ap (λ n. sort Universal n) h.0
 leaf_sort p t w (enumerated n) h = ap (λ n. sort Universal n) h.0
 leaf_sort p t w (relative_oid r v) h = ap (λ n. sort Universal n) h.0
-leaf_sort p t w (universal_string v) h = ap (λ n. sort Universal n) h.0
-leaf_sort p t w (bmp_string v) h = ap (λ n. sort Universal n) h.0
-leaf_sort p t w (text k v) h = ap (λ n. sort Universal n) h.0 ∙ ap (λ b. cond b 100 (cond (is_time k) 101 (cond (is_mapped k) k 102))) h.2
 leaf_sort p t w (time k x) (et, ep, inl (ek, h)) = ap (λ n. sort Universal n) (et ∙ ek)
 leaf_sort p t w (time k x) (et, ep, inr (ek, h)) = ap (λ n. sort Universal n) (et ∙ ek)
 leaf_sort p t w _ h = absurd h
@@ -86,7 +87,7 @@ flat_sort w c p t x (inl (ec, h)) = ap (λ k. sort k t) ec ∙ leaf_sort p t w x
 flat_sort w c p t x (inr h) = kept_type w c p t x h
 
 content_sort : (w : List ℕ) (c : Class) (p : Bool) (t : ℕ) (x : Content) (fs : Forms) (d k : ℕ) → IsContent w c p t x fs d k → sort c t ≡ type_of x
-unfolding sort type_of
+unfolding sort of_type type_of
 content_sort w c p t (sequence l) fs d k h = ap (λ k. sort k t) h.0 ∙ ap (λ n. sort Universal n) h.1
 content_sort w c p t (set l) fs d k h = ap (λ k. sort k t) h.0 ∙ ap (λ n. sort Universal n) h.1
 content_sort w c p t x fs d k h = flat_sort w c p t x h.1
@@ -158,7 +159,10 @@ module _ (times : TimesSame) where
     content_same (integer a) (integer a') w c p t fs fs' d d' k k' h h' = ap integer (sym (leaf h.1).1 ∙ (leaf h'.1).1)
     content_same (bit_string u a) (bit_string u' a') w c p t fs fs' d d' k k' h h' =
         let z = head_same (sym (leaf h.1).2 ∙ (leaf h'.1).2) in cc
-    content_same (octet_string a) (octet_string a') w c p t fs fs' d d' k k' h h' = ap octet_string (sym (leaf h.1).1 ∙ (leaf h'.1).1)
+    content_same (string n a) (string n' a') w c p t fs fs' d d' k k' h h' =
+        let i = leaf h.1 in
+        let j = leaf h'.1 in
+        cc
     content_same null null w c p t fs fs' d d' k k' h h' = refl
     content_same (object_identifier r a) (object_identifier r' a') w c p t fs fs' d d' k k' h h' =
         let i = leaf h.1 in
@@ -170,17 +174,11 @@ module _ (times : TimesSame) where
         let i = leaf h.1 in
         let j = leaf h'.1 in
         cc
-    content_same (text n a) (text n' a') w c p t fs fs' d d' k k' h h' =
-        let i = leaf h.1 in
-        let j = leaf h'.1 in
-        cc
     content_same (time n a) (time n' a') w c p t fs fs' d d' k k' h h' =
         let i = leaf h.1 in
         let j = leaf h'.1 in
         let m = sym i.0 ∙ j.0 in
         let z = times n' w a a' (subst (λ q. IsTimeText q w a) m i.2) j.2 in cc
-    content_same (bmp_string a) (bmp_string a') w c p t fs fs' d d' k k' h h' = ap bmp_string (sym (leaf h.1).4 ∙ (leaf h'.1).4)
-    content_same (universal_string a) (universal_string a') w c p t fs fs' d d' k k' h h' = ap universal_string (sym (leaf h.1).2 ∙ (leaf h'.1).2)
     content_same absent absent w c p t fs fs' d d' k k' h h' = refl
     content_same (present o) (present o') w c p t fs fs' d d' k k' h h' = absurd (leaf h.1)
     content_same (tagged n m o) (tagged n' m' o') w c p t fs fs' d d' k k' h h' = absurd (leaf h.1)

@@ -1,4 +1,4 @@
-use Rattle.std.proofs.Common.{rules}
+use Rattle.std.proofs.Common.{rules, refl, inr}
 use Rattle.der_base.specs.Text.{IsTextOf}
 use Rattle.der_ber.proofs.Leaves.{text_refused}
 use Rattle.der_ber.proofs.leaf.read_string.Goals as goal
@@ -9,3 +9,8 @@ returns-in-None c =
     let w = c.args.content.now in
     let wrong : ¬ IsTextOf t w = search rules in
     text_refused c.args.constructed t w c.if-constructed.false c.requires wrong
+
+pub returns-in-Some : goal.returns-in-Some
+returns-in-Some c =
+    let h = c.in-Some.ensures in
+    rw (c.text_content.ensures, h.2) (refl, inr (inr (inr (h.0, c.if-constructed.false, h.1))), refl)
