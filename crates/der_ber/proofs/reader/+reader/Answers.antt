@@ -148,7 +148,7 @@ read_element-returns-in_ok-rest-in-Definite-clause-bounded t c =
     let l : length_of h ≡ Definite c.in-Definite.size = sym c.length.ensures ∙ c.in-Definite.is in
     let z : open_octets (length_of h) w ≡ length w = ap (λ v. open_octets v w) l in
     let parts = ap length c.in_ok-rest-in-Definite.ensures.1 ∙ length-append w rest in
-    let two = header_takes_two _ _ _ _ _ _ c.in_ok-behind.ensures.found.begins in
+    let two = header_takes_two _ _ _ _ _ _ c.in_ok-behind.ensures.exactly.found.begins in
     omega (arith, z, parts, two, c.in_ok-behind.ensures.counted, c.read_object.ensures.bounded)
 
 pub read_element-returns-in_ok-rest-in-Definite-clause-bounded_ok : goal.read_element-returns-in_ok-rest-in-Definite-clause-bounded_ok
@@ -159,18 +159,18 @@ read_element-returns-in_ok-rest-in-Definite-clause-bounded_ok t c =
     let l : length_of h ≡ Definite c.in-Definite.size = sym c.length.ensures ∙ c.in-Definite.is in
     let z : open_octets (length_of h) w ≡ length w = ap (λ v. open_octets v w) l in
     let parts = ap length c.in_ok-rest-in-Definite.ensures.1 ∙ length-append w rest in
-    let two = header_takes_two _ _ _ _ _ _ c.in_ok-behind.ensures.found.begins in
+    let two = header_takes_two _ _ _ _ _ _ c.in_ok-behind.ensures.exactly.found.begins in
     ok_with _ _ _ c.read_object.result _ _ c.read_object.ensures.found c.read_object.ensures.bounded_ok
     (λ x y k. omega (arith, z, parts, two, ap length y.0, c.in_ok-behind.ensures.counted, k))
 
 pub read_element-returns-in-Indefinite-clause-bounded : goal.read_element-returns-in-Indefinite-clause-bounded
 read_element-returns-in-Indefinite-clause-bounded t c =
-    let two = header_takes_two _ _ _ _ _ _ c.in_ok-behind.ensures.found.begins in
+    let two = header_takes_two _ _ _ _ _ _ c.in_ok-behind.ensures.exactly.found.begins in
     omega (arith, two, c.in_ok-behind.ensures.counted, c.read_behind.ensures.bounded)
 
 pub read_element-returns-in-Indefinite-clause-bounded_ok : goal.read_element-returns-in-Indefinite-clause-bounded_ok
 read_element-returns-in-Indefinite-clause-bounded_ok t c =
-    let two = header_takes_two _ _ _ _ _ _ c.in_ok-behind.ensures.found.begins in
+    let two = header_takes_two _ _ _ _ _ _ c.in_ok-behind.ensures.exactly.found.begins in
     ok_with _ _ _ c.read_behind.result _ _ c.read_behind.ensures.found c.read_behind.ensures.bounded_ok
     (λ x y k. omega (arith, two, c.in_ok-behind.ensures.counted, k))
 
