@@ -2,4 +2,4 @@
 pub mod BerHeaders
 pub mod DerHeaders
 pub mod HeaderLaws
-pub mod RefusedHeaders
+pub mod StableHeaders

@@ -1,8 +1,11 @@
 -- Laws of the definitions.
 use Rattle.std.specs.Prelude.{◌≡◌, ◌≢◌, ℕ, ◌-◌, ◌%◌, ◌^◌, ◌<◌, ◌≤◌, ◌⊎◌, ◌↔◌, Bool, false, IsTrue, pos}
 use Rattle.std.specs.Prelude.{List, [], ◌∷◌, ◌++◌, length, slice_index, All}
+use Rattle.der_base.specs.declared.header.Class.{Class}
+use Rattle.der_base.specs.declared.header.Length.{Length}
 use Rattle.der_base.specs.Encoding.{encoding, content_octets}
 use Rattle.der_base.specs.Fault.{BerHeaderRefuses, DerHeaderRefuses, ShowsFault, DerShowsFault}
+use Rattle.der_base.specs.Headers.{BeginsWithHeader, BeginsWithDerHeader, BerHeaderLacks, DerHeaderLacks}
 use Rattle.der_base.specs.Leaf.{is_list, is_mapped, IsLeafContent, IsDerLeaf, IsMinimalInteger, HasZeroUnusedBits}
 use Rattle.der_base.specs.LeafRefusal.{BerLeafRefuses, DerLeafRefuses}
 use Rattle.der_base.specs.Octets.{number, octets, groups, groups_value, integer_value}
@@ -139,6 +142,24 @@ BerRefusedBeginsNone = (i : List ℕ) (e : Refusal) → BerHeaderRefuses i e →
 
 abbrev pub DerRefusedBeginsNone : Type 0
 DerRefusedBeginsNone = (i : List ℕ) (e : Refusal) → DerHeaderRefuses i e → BeginsNoDerHeader i
+
+-- octets appended to an input that begins with a header lengthen the rest
+abbrev pub AppendedLengthenBerHeaders : Type 0
+AppendedLengthenBerHeaders = (i z : List ℕ) (c : Class) (p : Bool) (t : ℕ) (l : Length) (rest : List ℕ)
+    → BeginsWithHeader i c p t l rest → BeginsWithHeader (i ++ z) c p t l (rest ++ z)
+
+abbrev pub AppendedLengthenDerHeaders : Type 0
+AppendedLengthenDerHeaders = (i z : List ℕ) (c : Class) (p : Bool) (t n : ℕ) (rest : List ℕ)
+    → BeginsWithDerHeader i c p t n rest → BeginsWithDerHeader (i ++ z) c p t n (rest ++ z)
+
+-- each proper front of a header is cut short: it lacks some number of octets, and shows no refusal
+abbrev pub BerHeaderFrontsAreCut : Type 0
+BerHeaderFrontsAreCut = (b : List ℕ) (c : Class) (p : Bool) (t : ℕ) (l : Length) → BeginsWithHeader b c p t l []
+    → (u v : List ℕ) → v ≢ [] → b ≡ u ++ v → (n : ℕ) × BerHeaderLacks u n
+
+abbrev pub DerHeaderFrontsAreCut : Type 0
+DerHeaderFrontsAreCut = (b : List ℕ) (c : Class) (p : Bool) (t n : ℕ) → BeginsWithDerHeader b c p t n []
+    → (u v : List ℕ) → v ≢ [] → b ≡ u ++ v → (k : ℕ) × DerHeaderLacks u k
 
 -- each proper front of a spelling is cut short: it lacks some number of octets, and shows no refusal
 abbrev pub BerFrontsAreCut : Type 0

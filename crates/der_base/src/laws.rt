@@ -25,6 +25,10 @@ ghost use Rattle.der_base.specs.Laws.{
   AppendedLengthenRests,
   BerRefusedBeginsNone,
   DerRefusedBeginsNone,
+  AppendedLengthenBerHeaders,
+  AppendedLengthenDerHeaders,
+  BerHeaderFrontsAreCut,
+  DerHeaderFrontsAreCut,
   BerFrontsAreCut,
   DerFrontsAreCut,
   EncodingIsNormalForm,
@@ -188,6 +192,19 @@ pub fn appended_only_lengthen()
 pub fn refused_headers_stay_refused()
     ensures ber { BerRefusedBeginsNone }
     ensures der { DerRefusedBeginsNone }
+{}
+
+/// Octets appended to an input that begins with a header lengthen the rest.
+pub fn appended_lengthen_headers()
+    ensures ber { AppendedLengthenBerHeaders }
+    ensures der { AppendedLengthenDerHeaders }
+{}
+
+/// Each proper front of a header is cut short: it lacks some number of octets, and shows no
+/// refusal.
+pub fn header_fronts_are_cut()
+    ensures ber { BerHeaderFrontsAreCut }
+    ensures der { DerHeaderFrontsAreCut }
 {}
 
 /// Each proper front of a spelling is cut short: it lacks some number of octets, and shows no

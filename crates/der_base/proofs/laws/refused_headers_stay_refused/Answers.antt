@@ -1,4 +1,4 @@
-use Rattle.der_base.proofs.Headers.RefusedHeaders.{ber_refused_begins_none, der_refused_begins_none}
+use Rattle.der_base.proofs.Headers.StableHeaders.{ber_refused_begins_none, der_refused_begins_none}
 use Rattle.der_base.proofs.laws.refused_headers_stay_refused.Goals as goal
 
 pub returns-clause-ber : goal.returns-clause-ber
