@@ -10,7 +10,9 @@ ghost use Rattle.der_base.specs.Header.{class_of, is_constructed, number_of, len
 ghost use Rattle.der_base.specs.Leaf.{is_list};
 ghost use Rattle.der_base.specs.Inner.Spans.{AreInside, AreSpans, content_octets_left, span_octets};
 ghost use Rattle.der_base.specs.Spelling.{framing_budget};
-ghost use Rattle.der_ber.specs.BerReading.{ReadsBer, ReadsBehind, BehindRefuses, BehindNeedsMemory, AreItems, IsContentOf, BerIsCut, NumberRefuses, NeedsMemory, ContentRefuses, ItemsRefuse};
+ghost use Rattle.der_base.specs.Stable.{BerIsCut};
+ghost use Rattle.der_ber.specs.BerReading.{ReadsBer, NumberRefuses, NeedsMemory, ContentRefuses};
+ghost use Rattle.der_ber.specs.Inner.ElementParts.{ReadsBehind, BehindRefuses, BehindNeedsMemory, AreItems, IsContentOf, ItemsRefuse};
 ghost use Rattle.der_ber.specs.BerReading.{NumberNeedsMemory};
 
 use crate::leaf::read_leaf;
