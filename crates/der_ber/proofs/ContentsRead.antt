@@ -16,8 +16,10 @@ use Rattle.der_object.specs.declared.object.BerObjectContent.TheVariants.{Unknow
 use Rattle.der_object.specs.HeaderFacts.{inner_forms, KeepsHeader, HasRawTagAndHeader}
 use Rattle.der_object.specs.View.{content_tree}
 use Rattle.der_object.proofs.HeaderFacts.{leaf_forms, leaf_each}
-use Rattle.der_ber.specs.BerReading.{IsContentOf, ContentRefuses, ReadsBehind, BehindRefuses, BehindNeedsMemory}
-use Rattle.der_ber.specs.BerContents.{MayFollow, FramesContent, FrameRefuses, FrameLacks, HasOwnHeader, ReadsContentAs, ContentAsRefuses, ContentAsNeedsMemory}
+use Rattle.der_ber.specs.BerReading.{ContentRefuses}
+use Rattle.der_ber.specs.Inner.ElementParts.{IsContentOf, ReadsBehind, BehindRefuses, BehindNeedsMemory}
+use Rattle.der_ber.specs.BerContents.{FramesContent, FrameRefuses, FrameLacks, HasOwnHeader, ReadsContentAs, ContentAsRefuses, ContentAsNeedsMemory}
+use Rattle.der_ber.specs.Inner.ElementParts.{MayFollow}
 use Rattle.der_ber.proofs.ContentLaws.{content_as}
 use Rattle.der_ber.proofs.Items.{leaf_has}
 

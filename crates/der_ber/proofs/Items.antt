@@ -34,7 +34,9 @@ use Rattle.der_object.specs.View.{node_of, content_tree, trees}
 use Rattle.der_object.proofs.Joins.{joins_push}
 use Rattle.der_object.proofs.HeaderFacts.{sequence_each, set_each, sequence_forms, set_forms, leaf_forms, leaf_each, leaf_keeps, each_push}
 use Rattle.der_object.proofs.Trees.{sequence_tree, set_tree}
-use Rattle.der_ber.specs.BerReading.{ReadsBer, AreItems, IsContentOf, BerIsCut, NeedsMemory, BehindRefuses, BehindNeedsMemory, ContentRefuses}
+use Rattle.der_base.specs.Stable.{BerIsCut}
+use Rattle.der_ber.specs.BerReading.{ReadsBer, NeedsMemory, ContentRefuses}
+use Rattle.der_ber.specs.Inner.ElementParts.{AreItems, IsContentOf, BehindRefuses, BehindNeedsMemory}
 
 -- the items in front of rest
 pub record Read (w rest : List ℕ) (os : List BerObject) (d : ℕ) : Type 0 where

@@ -10,7 +10,8 @@ use Rattle.der_base.proofs.Answers.Exactness.{ShowsOne}
 use Rattle.der_base.specs.Fault.{ShowsFault}
 use Rattle.der_object.specs.HeaderFacts.{form_of}
 use Rattle.der_object.specs.Readings.{value_of}
-use Rattle.der_ber.specs.BerReading.{BerIsCut, FramingNeedsMemory, NeedsMemory, ReadsBer}
+use Rattle.der_base.specs.Stable.{BerIsCut}
+use Rattle.der_ber.specs.BerReading.{FramingNeedsMemory, NeedsMemory, ReadsBer}
 
 pub spelled_not_cut : (d : ℕ) (i b rest : List ℕ) (o : Node) (n : ℕ) → i ≡ b ++ rest → BerSpells b o d framing_budget → BerIsCut d i n → ⊥
 spelled_not_cut d i b rest o n q s k = faults.spelled_not_cut i b rest o d s q k.0

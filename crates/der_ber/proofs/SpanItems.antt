@@ -17,7 +17,8 @@ use Rattle.der_object.specs.declared.object.BerObject.{BerObject}
 use Rattle.der_object.specs.declared.object.BerObjectContent.{BerObjectContent}
 use Rattle.der_object.specs.HeaderFacts.{forms_of, inner_forms}
 use Rattle.der_object.specs.View.{node_of, content_tree, trees}
-use Rattle.der_ber.specs.BerReading.{ReadsBer, IsContentOf, ContentRefuses, ItemsRefuse}
+use Rattle.der_ber.specs.BerReading.{ReadsBer, ContentRefuses}
+use Rattle.der_ber.specs.Inner.ElementParts.{IsContentOf, ItemsRefuse}
 use Rattle.der_ber.proofs.Items.{Read, read_more, content_refused}
 
 -- the span at a place

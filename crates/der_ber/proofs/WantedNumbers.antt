@@ -18,7 +18,8 @@ use Rattle.der_base.proofs.Framing.UniqueSpelling.{begins_same}
 use Rattle.der_base.proofs.Framing.FramingLaws.{begins_not_cut, begins_not_refused}
 use Rattle.der_base.proofs.Answers.Exactness.{ShowsOne}
 use Rattle.der_object.specs.Readings.{value_of}
-use Rattle.der_ber.specs.BerReading.{BerIsCut, FramingNeedsMemory, IsOther, NumberNeedsMemory, NumberRefuses, ReadsBer, number}
+use Rattle.der_base.specs.Stable.{BerIsCut}
+use Rattle.der_ber.specs.BerReading.{FramingNeedsMemory, IsOther, NumberNeedsMemory, NumberRefuses, ReadsBer, number}
 use Rattle.der_ber.proofs.ReadingLaws.{ber_shows_one}
 
 -- an element of the number is no other

@@ -31,11 +31,6 @@ abbrev pub LengthPasses : Length → Bool → Type 0
 LengthPasses (Definite n) p = n ≤ max_object_size
 LengthPasses Indefinite p = p ≡ true
 
--- the tests of length and depth pass, and a definite content is there
-abbrev pub MayFollow : Length → Bool → ℕ → List ℕ → Type 0
-MayFollow (Definite n) p d i = (1 ≤ d) × (n ≤ max_object_size) × (n ≤ length i)
-MayFollow Indefinite p d i = (1 ≤ d) × (p ≡ true)
-
 -- the tests of length and depth pass, i begins with the content octets w, and rest follows; indefinite lengths are
 -- nested below the depth and below 50
 pub record FramesContent (l : Length) (p : Bool) (d : ℕ) (i w rest : List ℕ) : Type 0 where

@@ -2,7 +2,8 @@
 //! length and the constructed bit.
 ghost use Rattle.std.specs.Prelude.{◌≡◌};
 ghost use Rattle.der_base.specs.Answer.{MatchAnswer};
-ghost use Rattle.der_ber.specs.BerContents.{AnswersContentAs, AnswersContentBehind, MayFollow, FramesContent, FrameRefuses, FrameLacks};
+ghost use Rattle.der_ber.specs.BerContents.{AnswersContentAs, AnswersContentBehind, FramesContent, FrameRefuses, FrameLacks};
+ghost use Rattle.der_ber.specs.Inner.ElementParts.{MayFollow};
 ghost use Rattle.der_ber.specs.BerContents.{ReadsContentAs, ContentAsRefuses, ContentAsNeedsMemory};
 
 use crate::reader::read_behind;

@@ -5,7 +5,7 @@ ghost use Rattle.der_base.specs.Leaf.{is_list, is_mapped, is_time};
 ghost use Rattle.der_base.specs.Text.{is_text_type};
 ghost use Rattle.der_base.specs.Tree.{string, time};
 ghost use Rattle.der_object.specs.View.{content_tree};
-ghost use Rattle.der_ber.specs.BerLeaves.{ReadsLeaf};
+ghost use Rattle.der_ber.specs.Inner.BerLeaves.{ReadsLeaf};
 
 use der_base::error::BerError;
 use der_base::header::Tag;

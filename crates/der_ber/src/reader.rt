@@ -10,9 +10,10 @@ ghost use Rattle.der_base.specs.Header.{class_of, is_constructed, number_of, len
 ghost use Rattle.der_base.specs.Leaf.{is_list};
 ghost use Rattle.der_base.specs.Inner.Spans.{AreInside, AreSpans, content_octets_left, span_octets};
 ghost use Rattle.der_base.specs.Spelling.{framing_budget};
-ghost use Rattle.der_ber.specs.BerReading.{ReadsBer, BerIsCut, NumberRefuses, NeedsMemory, NumberNeedsMemory};
-ghost use Rattle.der_ber.specs.BerReading.{ContentRefuses, ItemsRefuse};
-ghost use Rattle.der_ber.specs.BerReading.{ReadsBehind, BehindRefuses, BehindNeedsMemory, AreItems, IsContentOf};
+ghost use Rattle.der_base.specs.Stable.{BerIsCut};
+ghost use Rattle.der_ber.specs.BerReading.{ReadsBer, NumberRefuses, NeedsMemory, NumberNeedsMemory, ContentRefuses};
+ghost use Rattle.der_ber.specs.Inner.ElementParts.{ReadsBehind, BehindRefuses, BehindNeedsMemory};
+ghost use Rattle.der_ber.specs.Inner.ElementParts.{AreItems, IsContentOf, ItemsRefuse};
 ghost use Rattle.der_object.specs.Counting.{CountsObjects, CountsInside, CountsItems};
 
 use crate::leaf::read_leaf;
