@@ -17,10 +17,11 @@ use Rattle.der_base.proofs.Spellings.DerWithinBer.{valid_element, der_spelling_s
 use Rattle.der_base.proofs.Octets.Identifiers.{fronts_same}
 use Rattle.der_base.proofs.Answers.Exactness.{ShowsOne}
 use Rattle.der_object.specs.declared.object.BerObject.{BerObject}
-use Rattle.der_object.specs.Readings.{value_of, content_value_of}
+use Rattle.der_object.specs.Readings.{content_value_of}
 use Rattle.der_object.specs.View.{tree, content_tree}
+use Rattle.der_object.proofs.TypedLaws.{shows_read}
 use Rattle.der_der.specs.DerReading.{IsDerContentOf, ContentRefuses}
-use Rattle.der_der.specs.DerContents.{FramesContent, FrameRefuses, FrameLacks, ReadingRefuses, ReadingNeedsMemory, ReadsContentAs, ReadsContentOf, SpellsContent, SpellsContentOf}
+use Rattle.der_der.specs.DerContents.{FramesContent, FrameRefuses, FrameLacks, ReadingRefuses, ReadingNeedsMemory, ReadsContentAs, ReadsContentOf, SpellsContent, inner_value_of}
 use Rattle.der_der.proofs.Items.{content_refused, universal_or_not}
 
 -- framing
@@ -113,66 +114,26 @@ pub cut_content_needs_none : (c : Class) (t : ℕ) (l : Length) (p : Bool) (d : 
 cut_content_needs_none c t l p d i n k (two, u, list, q, w, rest, some, f) = frames_not_lacking c l d i w rest n f k
 
 -- of a content, a refusal and a lack, an input shows one at most
-pub content_shows_one : (t : ℕ) (l : Length) (p : Bool) (d : ℕ) (i : List ℕ) → t < 2 ^ 32
-    → ShowsOne content_value_of (λ x. ReadsContentAs t l p d i x.1 x.0.now) (SpellsContent Universal t l p d i) (ReadingRefuses Universal t l p d i) (FrameLacks Universal l i)
-content_shows_one t l p d i fits = record {
-  spelled = λ x r. (r.read.octets, r.read.framed, r.read.content);
-  one_value = λ x v r s. (let z = content_same Universal p t l d i r.read.octets s.0 x.0.now v.1 (content_tree x.1) v.0 fits r.read.framed r.read.content s.1 s.2 in ap (λ y. (y, x.0.now)) z.0 ∙ ap (λ w. (v.0, w)) z.1);
-  one_refusal = λ e e' r r'. refusal_same Universal p t l d i e e' fits r r';
-  one_lack = λ n n' h h'. frame_lacks_same Universal l i n n' h h';
-  not_refused = λ v e s r. content_not_refused Universal p t l d i s.0 v.1 v.0 e fits s.1 s.2 r;
-  not_lacking = λ v n s h. frames_not_lacking Universal l d i s.0 v.1 n s.1 h;
-  not_both = λ e n r h. refused_not_lacking Universal p t l d i e n r h;
+pub content_one : (c : Class) (t : ℕ) (l : Length) (p : Bool) (d : ℕ) (i : List ℕ) → t < 2 ^ 32
+    → ShowsOne (λ v. v) (SpellsContent c t l p d i) (SpellsContent c t l p d i) (ReadingRefuses c t l p d i) (FrameLacks c l i)
+content_one c t l p d i fits = record {
+  spelled = λ v s. s;
+  one_value = λ v v' s s'. (let z = content_same c p t l d i s.0 s'.0 v.1 v'.1 v.0 v'.0 fits s.1 s.2 s'.1 s'.2 in ap (λ y. (y, v.1)) z.0 ∙ ap (λ w. (v'.0, w)) z.1);
+  one_refusal = λ e e' r r'. refusal_same c p t l d i e e' fits r r';
+  one_lack = λ n n' h h'. frame_lacks_same c l i n n' h h';
+  not_refused = λ v e s r. content_not_refused c p t l d i s.0 v.1 v.0 e fits s.1 s.2 r;
+  not_lacking = λ v n s h. frames_not_lacking c l d i s.0 v.1 n s.1 h;
+  not_both = λ e n r h. refused_not_lacking c p t l d i e n r h;
 }
 
--- what the tree is spelled by is a content behind the header
-spelled_content : (h : Header) (d : ℕ) (i : List ℕ) (c : Class) (p : Bool) (t : ℕ) (x : Content) (rest : List ℕ) → SpellsContentOf h d i (node c p t x, rest)
-    → SpellsContent (class_of h) (number_of h) (length_of h) (is_constructed h) d i (x, rest)
-spelled_content h d i c p t x rest (ec, ep, et, s) =
-    subst (λ c. SpellsContent c (number_of h) (length_of h) (is_constructed h) d i (x, rest)) ec
-    (subst (λ p. SpellsContent c (number_of h) (length_of h) p d i (x, rest)) ep (subst (λ t. SpellsContent c t (length_of h) p d i (x, rest)) et s))
+-- the same of what is read, behind the parts of a header
+pub content_shows_one : (t : ℕ) (l : Length) (p : Bool) (d : ℕ) (i : List ℕ) → t < 2 ^ 32
+    → ShowsOne content_value_of (λ x. ReadsContentAs t l p d i x.1 x.0.now) (SpellsContent Universal t l p d i) (ReadingRefuses Universal t l p d i) (FrameLacks Universal l i)
+content_shows_one t l p d i fits = shows_read (content_one Universal t l p d i fits) (λ v s. s) (λ x r. (r.read.octets, r.read.framed, r.read.content))
 
-read_is_spelled : (h : Header) (d : ℕ) (i : List ℕ) (o : BerObject) (rest : List ℕ) → ReadsContentOf h d i o rest → SpellsContentOf h d i (tree o, rest)
-read_is_spelled h d i o rest r =
-    let x = content_tree o.content in
-    subst (λ k. SpellsContentOf h d i (node (class_of k) (is_constructed k) (number_of k) x, rest)) (sym r.header)
-    (refl, refl, refl, (r.read.octets, r.read.framed, r.read.content))
-
-content_of_same : (h : Header) (d : ℕ) (i : List ℕ) (o : BerObject) (rest : List ℕ) (v : Node × List ℕ) → number_of h < 2 ^ 32 → ReadsContentOf h d i o rest → SpellsContentOf h d i v → (tree o, rest) ≡ v
-content_of_same h d i o rest (node c p t x, rest') fits r s =
-    let (w, f, k) = spelled_content h d i c p t x rest' s in
-    let z = content_same (class_of h) (is_constructed h) (number_of h) (length_of h) d i r.read.octets w rest rest' (content_tree o.content) x fits r.read.framed r.read.content f k in
-    let same : node (class_of o.header) (is_constructed o.header) (number_of o.header) (content_tree o.content) ≡ node c p t x =
-        ap (λ h. node (class_of h) (is_constructed h) (number_of h) (content_tree o.content)) r.header
-        ∙ ap (λ c. node c (is_constructed h) (number_of h) (content_tree o.content)) (sym s.0) ∙ ap (λ p. node c p (number_of h) (content_tree o.content)) (sym s.1)
-        ∙ ap (λ t. node c p t (content_tree o.content)) (sym s.2) ∙ ap (node c p t) z.0 in
-    ap (λ o. (o, rest)) same ∙ ap (λ w. (node c p t x, w)) z.1
-
-content_of_not_refused : (h : Header) (d : ℕ) (i : List ℕ) (v : Node × List ℕ) (e : Refusal) → number_of h < 2 ^ 32 → SpellsContentOf h d i v
-    → ReadingRefuses (class_of h) (number_of h) (length_of h) (is_constructed h) d i e → ⊥
-content_of_not_refused h d i (node c p t x, rest) e fits s r =
-    let (w, f, k) = spelled_content h d i c p t x rest s in
-    content_not_refused (class_of h) (is_constructed h) (number_of h) (length_of h) d i w rest x e fits f k r
-
-content_of_not_lacking : (h : Header) (d : ℕ) (i : List ℕ) (v : Node × List ℕ) (n : ℕ) → SpellsContentOf h d i v → FrameLacks (class_of h) (length_of h) i n → ⊥
-content_of_not_lacking h d i (node c p t x, rest) n s k =
-    let (w, f, y) = spelled_content h d i c p t x rest s in
-    frames_not_lacking (class_of h) (length_of h) d i w rest n f k
-
--- the same of an object whose header is given
+-- and behind a header that is given
 pub content_of_shows_one : (h : Header) (d : ℕ) (i : List ℕ) → number_of h < 2 ^ 32
-    → ShowsOne value_of (λ x. ReadsContentOf h d i x.1 x.0.now) (SpellsContentOf h d i) (ReadingRefuses (class_of h) (number_of h) (length_of h) (is_constructed h) d i) (FrameLacks (class_of h) (length_of h) i)
+    → ShowsOne inner_value_of (λ x. ReadsContentOf h d i x.1 x.0.now) (SpellsContent (class_of h) (number_of h) (length_of h) (is_constructed h) d i)
+    (ReadingRefuses (class_of h) (number_of h) (length_of h) (is_constructed h) d i) (FrameLacks (class_of h) (length_of h) i)
 content_of_shows_one h d i fits =
-    let c = class_of h in
-    let p = is_constructed h in
-    let t = number_of h in
-    let l = length_of h in
-    record {
-      spelled = λ x r. read_is_spelled h d i x.1 x.0.now r;
-      one_value = λ x v r s. content_of_same h d i x.1 x.0.now v fits r s;
-      one_refusal = λ e e' r r'. refusal_same c p t l d i e e' fits r r';
-      one_lack = λ n n' k k'. frame_lacks_same c l i n n' k k';
-      not_refused = λ v e s r. content_of_not_refused h d i v e fits s r;
-      not_lacking = λ v n s k. content_of_not_lacking h d i v n s k;
-      not_both = λ e n r k. refused_not_lacking c p t l d i e n r k;
-    }
+    shows_read (content_one (class_of h) (number_of h) (length_of h) (is_constructed h) d i fits) (λ v s. s) (λ x r. (r.read.octets, r.read.framed, r.read.content))

@@ -17,9 +17,8 @@ use Rattle.der_object.specs.Readings.{value_of}
 use Rattle.der_object.specs.View.{tree}
 use Rattle.der_object.proofs.TypedLaws.{OneHeader, shows_read}
 use Rattle.der_object.proofs.TypedLaws as typed
-use Rattle.der_der.specs.DerReading.{IsDerContentOf}
 use Rattle.der_der.specs.DerContents.{FramesContent, FrameLacks, ReadsContentAs, ReadingRefuses, ReadingNeedsMemory, ReadsHeaderOf, ReadsTyped, SpellsTyped, TypedRefuses, TypedLacks, TypedNeedsMemory}
-use Rattle.der_der.proofs.ContentLaws.{frames_not_lacking, frame_lacks_same, content_same, content_not_refused, refusal_same, refused_not_lacking}
+use Rattle.der_der.proofs.ContentLaws.{content_one, cut_content_needs_none}
 
 headers : OneHeader BeginsWithDerHeader DerHeaderRefuses DerHeaderLacks
 headers = record {
@@ -29,22 +28,6 @@ headers = record {
   not_refused = der_header_not_refused;
   not_ended = λ i v c p t m n b h. der_header_not_lacking i v c p t m n b h.1;
   not_both = λ i e n r h. h.2 e r;
-}
-
--- v begins with the octets of a content as that of the universal type of number t, and rest follows
-abbrev Spells : ℕ → ℕ → Bool → List ℕ → Content × List ℕ → Type 0
-Spells t m p v (x, rest) = (w : List ℕ) × FramesContent (Definite m) 50 v w rest × IsDerContentOf w Universal p t x 50
-
-content_one : (t m : ℕ) (p : Bool) (v : List ℕ) → t < 2 ^ 32
-    → ShowsOne (λ o. o) (Spells t m p v) (Spells t m p v) (ReadingRefuses Universal t (Definite m) p 50 v) (FrameLacks Universal (Definite m) v)
-content_one t m p v fits = record {
-  spelled = λ o s. s;
-  one_value = λ o o' s s'. (let z = content_same Universal p t (Definite m) 50 v s.0 s'.0 o.1 o'.1 o.0 o'.0 fits s.1 s.2 s'.1 s'.2 in ap (λ y. (y, o.1)) z.0 ∙ ap (λ w. (o'.0, w)) z.1);
-  one_refusal = λ e e' r r'. refusal_same Universal p t (Definite m) 50 v e e' fits r r';
-  one_lack = λ n n' h h'. frame_lacks_same Universal (Definite m) v n n' h h';
-  not_refused = λ o e s r. content_not_refused Universal p t (Definite m) 50 v s.0 o.1 o.0 e fits s.1 s.2 r;
-  not_lacking = λ o n s h. frames_not_lacking Universal (Definite m) 50 v s.0 o.1 n s.1 h;
-  not_both = λ e n r h. refused_not_lacking Universal p t (Definite m) 50 v e n r h;
 }
 
 -- what is read
@@ -59,14 +42,14 @@ typed_spelled : (t : ℕ) (i : List ℕ) (o : BerObject) (rest : List ℕ) → R
 typed_spelled t i o rest r =
     let k = r.content.read in
     let f = subst (λ l. FramesContent l 50 r.behind k.octets rest) r.header.header.length k.framed in
-    (r.header.number, (r.header.header.size, r.behind, k.octets, header_of_begins t i r.behind o.header r.header, f, k.content))
+    (r.header.number, r.header.header.size, r.behind, header_of_begins t i r.behind o.header r.header, (k.octets, f, k.content))
 
 -- of an object of one number, a refusal and a lack, an input shows one at most
 pub typed_shows_one : (t : ℕ) (i : List ℕ) → t < 2 ^ 32 → ShowsOne value_of (λ x. ReadsTyped t i x.1 x.0.now) (SpellsTyped t i) (TypedRefuses t i) (TypedLacks t i)
-typed_shows_one t i fits = shows_read (typed.shows_one headers t i (λ m p v. content_one t m p v fits)) spelled (λ x r. typed_spelled t i x.1 x.0.now r)
+typed_shows_one t i fits = shows_read (typed.shows_one headers t i (λ m p v. content_one Universal t (Definite m) p 50 v fits)) spelled (λ x r. typed_spelled t i x.1 x.0.now r)
   where
-    spelled : (v : Node × List ℕ) → SpellsTyped t i v → typed.SpellsTyped headers t i (λ m p v. content_one t m p v fits) v
-    spelled (node c p n x, rest) (e, (m, v, w, b, f, k)) = (e, m, v, b, (w, f, k))
+    spelled : (v : Node × List ℕ) → SpellsTyped t i v → typed.SpellsTyped headers t i (λ m p v. content_one Universal t (Definite m) p 50 v fits) v
+    spelled (node c p n x, rest) s = s
 
 -- an input that is cut short is no whole list
 pub cut_typed_needs_none : (t : ℕ) (i : List ℕ) (n : ℕ) → TypedLacks t i n → MatchBool (is_list t) (TypedNeedsMemory t i) ⊥ → ⊥
@@ -78,7 +61,7 @@ cut_typed_needs_none t i n h m = none (of_list (is_list t) (TypedNeedsMemory t i
 
     none : TypedNeedsMemory t i → ⊥
     none m = (typed.cut_needs headers t i (λ m p v n. FrameLacks Universal (Definite m) v n) (λ m p v. ReadingNeedsMemory Universal t (Definite m) p 50 v) (λ m p v. ⊥)
-        (λ m p v n k y. frames_not_lacking Universal (Definite m) 50 v y.4 y.5 n y.7 k) n h m).5
+        (λ m p v. cut_content_needs_none Universal t (Definite m) p 50 v) n h m).5
 
 -- only a list needs memory
 pub list_needs : (t : ℕ) (i : List ℕ) → TypedNeedsMemory t i → MatchBool (is_list t) (TypedNeedsMemory t i) ⊥

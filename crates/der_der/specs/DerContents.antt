@@ -1,5 +1,8 @@
--- What the readers of a content answer that are given its header or the parts of one, and what the readers of one tag number answer.
-use Rattle.std.specs.Prelude.{◌≡◌, ◌≢◌, ℕ, ◌+◌, ◌<◌, ◌≤◌, ◌⊎◌, Bool, true, None, Some, IsTrue, MatchBool, List, [], ◌++◌, length}
+-- What the readers of a content answer that are given its header or the parts of one, and what the readers of one tag
+-- number answer.
+use Rattle.std.specs.Borrow.{Bor}
+use Rattle.std.specs.Prelude.{◌≡◌, ◌≢◌, ℕ, ◌+◌, ◌<◌, ◌≤◌, ◌⊎◌, Bool, true, None, Some, IsTrue, MatchBool}
+use Rattle.std.specs.Prelude.{List, [], ◌++◌, length}
 use Rattle.der_base.specs.declared.error.DerConstraint.TheVariants.{IndefiniteLength}
 use Rattle.der_base.specs.declared.header.Class.{Class}
 use Rattle.der_base.specs.declared.header.Class.TheVariants.{Universal}
@@ -37,15 +40,18 @@ FrameRefuses Indefinite d i e = e ≡ der_constraint IndefiniteLength
 FrameRefuses (Definite n) d i e = ((max_object_size < n) × (e ≡ invalid_length))
     ⊎ ((n ≤ max_object_size) × (n ≤ length i) × (d ≡ 0) × (e ≡ max_depth))
 
--- i ends within the content octets, and n is their whole length for class Universal, and what is missing of it for others
+-- i ends within the content octets, and n is their whole length for class Universal, and what is missing of it for
+-- others
 abbrev pub FrameLacks : Class → Length → List ℕ → ℕ → Type 0
 FrameLacks c Indefinite i n = ⊥
-FrameLacks c (Definite m) i n = (m ≤ max_object_size) × (length i < m) × (c ≡ Universal → n ≡ m) × (c ≢ Universal → length i + n ≡ m)
+FrameLacks c (Definite m) i n = (m ≤ max_object_size) × (length i < m) × (c ≡ Universal → n ≡ m)
+    × (c ≢ Universal → length i + n ≡ m)
 
 -- contents, behind a header of this class, number, length and constructed bit
 
 -- i begins with the octets of the content, and rest follows
-pub record ReadsContent (c : Class) (t : ℕ) (l : Length) (p : Bool) (d : ℕ) (i : List ℕ) (x : BerObjectContent) (rest : List ℕ) : Type 0 where
+pub record ReadsContent (c : Class) (t : ℕ) (l : Length) (p : Bool) (d : ℕ) (i : List ℕ) (x : BerObjectContent)
+    (rest : List ℕ) : Type 0 where
   pub octets : List ℕ
   pub framed : FramesContent l d i octets rest
   pub content : IsDerContentOf octets c p t (content_tree x) d
@@ -59,7 +65,8 @@ ReadingRefuses c t l p d i e = FrameRefuses l d i e
 
 -- the octets are a list that has items
 abbrev pub ReadingNeedsMemory : Class → ℕ → Length → Bool → ℕ → List ℕ → Type 0
-ReadingNeedsMemory c t l p d i = (2 ≤ d) × (c ≡ Universal) × IsTrue (is_list t) × (p ≡ true) × (w rest : List ℕ) × (w ≢ []) × FramesContent l d i w rest
+ReadingNeedsMemory c t l p d i = (2 ≤ d) × (c ≡ Universal) × IsTrue (is_list t) × (p ≡ true) × (w rest : List ℕ)
+    × (w ≢ []) × FramesContent l d i w rest
 
 -- i begins with the octets of the content, of which there is no object yet, and rest follows
 abbrev pub SpellsContent : Class → ℕ → Length → Bool → ℕ → List ℕ → Content × List ℕ → Type 0
@@ -71,7 +78,8 @@ HasOwnHeader t l p (Unknown a) = IsHeader a.header Universal p t l None
 HasOwnHeader t l p _ = Unit {0}
 
 -- a content of the universal type of number t, whose header the reader makes
-pub record ReadsContentAs (t : ℕ) (l : Length) (p : Bool) (d : ℕ) (i : List ℕ) (x : BerObjectContent) (rest : List ℕ) : Type 0 where
+pub record ReadsContentAs (t : ℕ) (l : Length) (p : Bool) (d : ℕ) (i : List ℕ) (x : BerObjectContent)
+    (rest : List ℕ) : Type 0 where
   pub read : ReadsContent Universal t l p d i x rest
   pub own : HasOwnHeader t l p x
 
@@ -80,11 +88,6 @@ pub record ReadsContentOf (h : Header) (d : ℕ) (i : List ℕ) (o : BerObject) 
   pub header : o.header ≡ h
   pub read : ReadsContent (class_of h) (number_of h) (length_of h) (is_constructed h) d i o.content rest
   pub kept : KeepsHeader h o.content
-
--- i begins with the octets of a content of the tree, behind a header that has its class, bit and number
-abbrev pub SpellsContentOf : Header → ℕ → List ℕ → Node × List ℕ → Type 0
-SpellsContentOf h d i (node c p t x, rest) = (c ≡ class_of h) × (p ≡ is_constructed h) × (t ≡ number_of h)
-    × SpellsContent c t (length_of h) p d i (x, rest)
 
 -- a reader of contents answers exactly what i shows, behind a length of this form
 abbrev pub AnswersContentAs : ℕ → Length → Bool → ℕ → List ℕ → ContentAnswer → Type 0
@@ -96,10 +99,15 @@ AnswersContentAs t l p d i result = AnswersExactly result content_value_of (λ x
 abbrev pub AnswersContentBehind : ℕ → Header → ℕ → List ℕ → ContentAnswer → Type 0
 AnswersContentBehind t h = AnswersContentAs t (length_of h) (is_constructed h)
 
--- a reader of the objects of a header answers exactly what i shows behind it
+-- the content of an object that was read, and what is left of the input
+abbrev pub inner_value_of : Bor (List ℕ) × BerObject → Content × List ℕ
+inner_value_of x = (content_tree x.1.content, x.0.now)
+
+-- a reader of the object that has the header h answers exactly what i shows behind it
 abbrev pub AnswersContentOf : Header → ℕ → List ℕ → Answer → Type 0
-AnswersContentOf h d i result = AnswersExactly result value_of (λ x. ReadsContentOf h d i x.1 x.0.now)
-    (SpellsContentOf h d i) (ReadingRefuses (class_of h) (number_of h) (length_of h) (is_constructed h) d i)
+AnswersContentOf h d i result = AnswersExactly result inner_value_of (λ x. ReadsContentOf h d i x.1 x.0.now)
+    (SpellsContent (class_of h) (number_of h) (length_of h) (is_constructed h) d i)
+    (ReadingRefuses (class_of h) (number_of h) (length_of h) (is_constructed h) d i)
     (FrameLacks (class_of h) (length_of h) i)
     (ReadingNeedsMemory (class_of h) (number_of h) (length_of h) (is_constructed h) d i) ⊥
 
@@ -116,14 +124,11 @@ pub record ReadsTyped (t : ℕ) (i : List ℕ) (o : BerObject) (rest : List ℕ)
   pub header : ReadsHeaderOf t i o.header behind
   pub content : ReadsContentAs t (length_of o.header) (is_constructed o.header) 50 behind o.content rest
 
--- the same of a class, bit, number and content of which there is no object yet
-abbrev pub BeginsWithTyped : List ℕ → Class → Bool → ℕ → Content → List ℕ → Type 0
-BeginsWithTyped i c p t x rest = (m : ℕ) × (behind w : List ℕ) × BeginsWithDerHeader i c p t m behind × FramesContent (Definite m) 50 behind w rest × IsDerContentOf w Universal p t x 50
-
 -- the header is refused, or has another number
 abbrev pub HeaderOfRefuses : ℕ → List ℕ → Refusal → Type 0
 HeaderOfRefuses t i e = DerHeaderRefuses i e
-    ⊎ ((c : Class) × (p : Bool) × (n m : ℕ) × (behind : List ℕ) × BeginsWithDerHeader i c p n m behind × (n ≢ t) × (e ≡ unexpected_tag (Some t) n))
+    ⊎ ((c : Class) × (p : Bool) × (n m : ℕ) × (behind : List ℕ) × BeginsWithDerHeader i c p n m behind × (n ≢ t)
+    × (e ≡ unexpected_tag (Some t) n))
 
 -- or its content is refused
 abbrev pub TypedRefuses : ℕ → List ℕ → Refusal → Type 0
@@ -141,7 +146,8 @@ TypedNeedsMemory t i = BehindDerHeader t i (λ l p v. ReadingNeedsMemory Univers
 
 -- i begins with an element of the number t that has this tree, and rest follows
 abbrev pub SpellsTyped : ℕ → List ℕ → Node × List ℕ → Type 0
-SpellsTyped t i (node c p n x, rest) = (n ≡ t) × BeginsWithTyped i c p t x rest
+SpellsTyped t i (node c p n x, rest) = (n ≡ t) × (m : ℕ) × (behind : List ℕ) × BeginsWithDerHeader i c p t m behind
+    × SpellsContent Universal t (Definite m) p 50 behind (x, rest)
 
 -- A reader of the type of number t answers exactly what i shows. Only a list may want memory.
 abbrev pub AnswersTyped : ℕ → List ℕ → Answer → Type 0

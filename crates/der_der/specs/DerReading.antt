@@ -48,7 +48,7 @@ abbrev pub AnswersDer : ℕ → List ℕ → Answer → Type 0
 AnswersDer d i result = AnswersExactly result value_of (λ x. ReadsDer d i x.1 x.0.now)
     (λ v. BeginsWithDer d i v.0 v.1) (DerShowsFault d i) (DerIsCut d i) (NeedsMemory d i) ⊥
 
--- The answer stays whatever octets follow: an Ok is given a longer rest, and an Error is the same. Of an Ok each proper
--- front of what was read is cut short.
+-- What was answered stays, whatever octets follow: an Error, and an Ok but for its rest. Each proper front of what was
+-- read is cut short.
 abbrev pub IsStableDer : ℕ → List ℕ → Answer → Type 0
 IsStableDer d i result = AnswerStays result value_of BeginsWithDer DerShowsFault DerIsCut d i

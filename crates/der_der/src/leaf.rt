@@ -25,7 +25,8 @@ pub fn read_leaf<'a>(
     requires mapped { IsTrue (is_mapped tag.0) }
     requires no_list { is_list tag.0 ≡ false }
     ensures { MatchResult result
-        (λ x. (constructed ≡ false) × IsDerLeaf tag.0 (content_tree x) × (content.now ≡ content_octets (content_tree x)))
+        (λ x. (constructed ≡ false) × IsDerLeaf tag.0 (content_tree x)
+        × (content.now ≡ content_octets (content_tree x)))
         (λ e. DerLeafRefuses constructed tag.0 content.now (refusal e)) }
 {
     if constructed {

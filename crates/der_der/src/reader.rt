@@ -87,7 +87,7 @@ pub(crate) fn read_object<'a>(
         (ContentRefuses (class_of h) (is_constructed h) (number_of h) octets.now max_depth)
         (λ _. ⊥)
         ((2 ≤ max_depth) × (class_of h ≡ Class.Universal) × (is_constructed h ≡ true)
-            × IsTrue (is_list (number_of h)) × (octets.now ≢ [])) }
+        × IsTrue (is_list (number_of h)) × (octets.now ≢ [])) }
     ensures counted { IfOk result (λ x. count.new ≡ some_more (content_count (content_tree x.1.content)) count.old) }
     ensures bounded { 2 * count.new ≤ 2 * count.old + length octets.now + 2 }
 {

@@ -4,7 +4,8 @@ ghost use Rattle.std.specs.Prelude.{◌≡◌, false, IsTrue};
 ghost use Rattle.der_base.specs.Answer.{MatchAnswer};
 ghost use Rattle.der_base.specs.Headers.{DerHeaderLacks};
 ghost use Rattle.der_base.specs.Leaf.{is_list, is_mapped};
-ghost use Rattle.der_der.specs.DerContents.{AnswersTyped, ReadsHeaderOf, ReadsTyped, HeaderOfRefuses, TypedRefuses, TypedLacks, TypedNeedsMemory};
+ghost use Rattle.der_der.specs.DerContents.{AnswersTyped, ReadsHeaderOf, ReadsTyped, HeaderOfRefuses};
+ghost use Rattle.der_der.specs.DerContents.{TypedRefuses, TypedLacks, TypedNeedsMemory};
 
 use crate::content::{der_read_element_content_as, frame_content};
 use crate::leaf::read_leaf;
@@ -16,7 +17,11 @@ use std::alloc::Global;
 
 /// The header of an element of this tag number.
 fn read_header_of(i: &[u8], tag: Tag) -> IResult<&[u8], Header<'_>, BerError>
-    ensures { MatchAnswer result (λ x. ReadsHeaderOf tag.0 i.now x.1 x.0.now) (HeaderOfRefuses tag.0 i.now) (DerHeaderLacks i.now) ⊥ }
+    ensures { MatchAnswer result
+        (λ x. ReadsHeaderOf tag.0 i.now x.1 x.0.now)
+        (HeaderOfRefuses tag.0 i.now)
+        (DerHeaderLacks i.now)
+        ⊥ }
 {
     let (behind, header) = der_read_element_header(i)?;
     header.assert_tag(tag)?;
@@ -25,7 +30,11 @@ fn read_header_of(i: &[u8], tag: Tag) -> IResult<&[u8], Header<'_>, BerError>
 
 /// An element of this tag number.
 fn read_typed<'a>(alloc: Global, i: &'a [u8], tag: Tag) -> BerResult<'a>
-    ensures { MatchAnswer result (λ x. ReadsTyped tag.0 i.now x.1 x.0.now) (TypedRefuses tag.0 i.now) (TypedLacks tag.0 i.now) (TypedNeedsMemory tag.0 i.now) }
+    ensures { MatchAnswer result
+        (λ x. ReadsTyped tag.0 i.now x.1 x.0.now)
+        (TypedRefuses tag.0 i.now)
+        (TypedLacks tag.0 i.now)
+        (TypedNeedsMemory tag.0 i.now) }
 {
     let (behind, header) = read_header_of(i, tag)?;
     let (length, constructed) = (header.length(), header.constructed());
@@ -45,7 +54,11 @@ fn read_typed<'a>(alloc: Global, i: &'a [u8], tag: Tag) -> BerResult<'a>
 fn read_typed_leaf<'a>(i: &'a [u8], tag: Tag) -> BerResult<'a>
     requires mapped { IsTrue (is_mapped tag.0) }
     requires no_list { is_list tag.0 ≡ false }
-    ensures { MatchAnswer result (λ x. ReadsTyped tag.0 i.now x.1 x.0.now) (TypedRefuses tag.0 i.now) (TypedLacks tag.0 i.now) ⊥ }
+    ensures { MatchAnswer result
+        (λ x. ReadsTyped tag.0 i.now x.1 x.0.now)
+        (TypedRefuses tag.0 i.now)
+        (TypedLacks tag.0 i.now)
+        ⊥ }
 {
     let (behind, header) = read_header_of(i, tag)?;
     let universal = header.with_class(Class::Universal);

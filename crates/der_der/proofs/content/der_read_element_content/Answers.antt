@@ -10,4 +10,4 @@ returns c =
     let i = c.args.i.now in
     let fits : number_of h < 2 ^ 32 = omega arith in
     exactly c.read_content_of.result (content_of_shows_one h 50 i fits)
-        (cut_content_needs_none (class_of h) (number_of h) (length_of h) (is_constructed h) 50 i) c.read_content_of.ensures
+    (cut_content_needs_none (class_of h) (number_of h) (length_of h) (is_constructed h) 50 i) c.read_content_of.ensures

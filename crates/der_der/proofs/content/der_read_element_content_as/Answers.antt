@@ -9,4 +9,4 @@ returns c =
     let a = c.args in
     let fits : a.tag.0 < 2 ^ 32 = omega arith in
     exactly c.read_content_as.result (content_shows_one a.tag.0 a.length a.constructed a.max_depth a.i.now fits)
-        (cut_content_needs_none Universal a.tag.0 a.length a.constructed a.max_depth a.i.now) c.read_content_as.ensures
+    (cut_content_needs_none Universal a.tag.0 a.length a.constructed a.max_depth a.i.now) c.read_content_as.ensures
