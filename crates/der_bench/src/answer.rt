@@ -85,15 +85,21 @@ impl<T> Answer<T> {
 
 impl Describes<BerObject<'_>> for Content {
     fn describes(&self, alloc: Global, value: &BerObject<'_>) -> Result<bool, TextFault> {
-        self.is_in(alloc, value)
+        self.is(alloc, &value.content)
+    }
+}
+
+impl Describes<BerObjectContent<'_>> for Content {
+    fn describes(&self, alloc: Global, value: &BerObjectContent<'_>) -> Result<bool, TextFault> {
+        self.is(alloc, value)
     }
 }
 
 impl Content {
-    /// Whether the object has this content.
+    /// Whether the content is this one.
     #[cycle(contents)]
-    fn is_in(&self, alloc: Global, object: &BerObject<'_>) -> Result<bool, TextFault> {
-        match (self, &object.content) {
+    fn is(&self, alloc: Global, content: &BerObjectContent<'_>) -> Result<bool, TextFault> {
+        match (self, content) {
             (Content::EndOfContent, BerObjectContent::EndOfContent) => Ok(true),
             (Content::Boolean(a), BerObjectContent::Boolean(b)) => Ok(a == b),
             (Content::Integer(text), BerObjectContent::Integer(b))
@@ -103,7 +109,7 @@ impl Content {
             (Content::Null, BerObjectContent::Null) => Ok(true),
             (Content::Sequence(list), BerObjectContent::Sequence(items))
             | (Content::Set(list), BerObjectContent::Set(items)) => are_in(alloc, list, items),
-            (Content::Nested(count), _) => Ok(are_nested(*count, object)),
+            (Content::Nested(count), _) => Ok(are_nested(*count, content)),
             (Content::Unknown(class, number, text), BerObjectContent::Unknown(any)) => {
                 let header_is = any.class() == *class && any.tag() == Tag(*number);
                 Ok(header_is && octets(alloc, text)?.as_slice() == any.bytes)
@@ -170,27 +176,27 @@ fn are_in(alloc: Global, list: &[Content], items: &[BerObject<'_>]) -> Result<bo
         return Ok(false);
     }
     for (content, item) in list.iter().zip(items) {
-        if !content.is_in(alloc, item)? {
+        if !content.is(alloc, &item.content)? {
             return Ok(false);
         }
     }
     Ok(true)
 }
 
-/// Whether the object is the outermost of so many SEQUENCEs one in the other.
-fn are_nested(count: usize, object: &BerObject<'_>) -> bool {
-    let innermost = (1..count).try_fold(object, |outer, _| only_item(outer));
+/// Whether the content is that of the outermost of so many SEQUENCEs one in the other.
+fn are_nested(count: usize, content: &BerObjectContent<'_>) -> bool {
+    let innermost = (1..count).try_fold(content, |outer, _| only_item(outer));
     match innermost {
-        Some(object) =>
-            matches!(&object.content, BerObjectContent::Sequence(items) if items.is_empty()),
-        None => false,
+        Some(BerObjectContent::Sequence(items)) => items.is_empty(),
+        _ => false,
     }
 }
 
-/// The item of a SEQUENCE of one.
-fn only_item<'a, 'b>(object: &'b BerObject<'a>) -> Option<&'b BerObject<'a>> {
-    match &object.content {
-        BerObjectContent::Sequence(items) if items.len() == 1 => items.first(),
+/// The content of the item of a SEQUENCE of one.
+fn only_item<'a, 'b>(content: &'b BerObjectContent<'a>) -> Option<&'b BerObjectContent<'a>> {
+    match content {
+        BerObjectContent::Sequence(items) if items.len() == 1 =>
+            items.first().map(|item| &item.content),
         _ => None,
     }
 }

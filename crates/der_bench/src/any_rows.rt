@@ -2,16 +2,19 @@
 use crate::answer::Answer::{self, Broken, Incomplete, Read, Refused};
 use crate::answer::{Element, Parts};
 use crate::octets::octets;
+use crate::rows;
+use crate::rows::Trial;
 use der_parser::ber::Class::{Application, ContextSpecific, Universal};
 use der_parser::ber::Length::{Definite, Indefinite};
-use der_parser::ber::{Any, Tag};
+use der_parser::ber::{Any, Tag, parse_ber_any};
 use der_parser::error::DerConstraint::{IndefiniteLength, LengthNotMinimal};
 use der_parser::error::Error::{BerMaxDepth, ConstructExpected, InvalidLength, InvalidTag};
+use std::process::Abort;
 use std::test::Fail;
 
-/// A name, octets, and what `Any::from_ber` answers on them.
+/// A name, octets, and what `Any::from_ber` and `parse_ber_any` answer on them.
 #[rattlefmt::skip]
-pub const FROM_BER: &[(&str, &str, Answer<Element>)] = &[
+const FROM_BER: &[(&str, &str, Answer<Element>)] = &[
     ("definite", "04 02 61 62 63", Read(Element(Parts(Universal, false, Tag::OctetString, Definite(2), "04"), "61 62"), "63")),
     ("a length that begins with zeros", "02 82 00 01 05", Read(Element(Parts(Universal, false, Tag::Integer, Definite(1), "02"), "05"), "")),
     ("indefinite", "30 80 05 00 00 00 ff", Read(Element(Parts(Universal, true, Tag::Sequence, Indefinite, "30"), "05 00"), "ff")),
@@ -45,7 +48,7 @@ pub const FROM_BER: &[(&str, &str, Answer<Element>)] = &[
 
 /// A name, octets, and what `Any::from_der` answers on them.
 #[rattlefmt::skip]
-pub const FROM_DER: &[(&str, &str, Answer<Element>)] = &[
+const FROM_DER: &[(&str, &str, Answer<Element>)] = &[
     ("primitive", "04 02 61 62 63", Read(Element(Parts(Universal, false, Tag::OctetString, Definite(2), "04"), "61 62"), "63")),
     ("constructed", "a0 03 02 01 05", Read(Element(Parts(ContextSpecific, true, Tag(0), Definite(3), "a0"), "02 01 05"), "")),
     ("a long tag number", "9f a2 22 01 00", Read(Element(Parts(ContextSpecific, false, Tag(4386), Definite(1), "9f a2 22"), "00"), "")),
@@ -70,15 +73,22 @@ pub const FROM_DER: &[(&str, &str, Answer<Element>)] = &[
     ("a length that begins with zeros", "02 82 00 ff", Broken(LengthNotMinimal)),
 ];
 
+/// What is tried holds of each row's octets.
+pub fn try_rows(rt: &(impl Abort + AllocGlobal), trial: Trial) -> Result<(), Fail> {
+    rows::try_rows(rt, trial, FROM_BER)?;
+    rows::try_rows(rt, trial, FROM_DER)
+}
+
 #[test]
 fn any_from_ber_answers(rt: HostRuntime) -> Result<(), Fail> {
     for (name, text, answer) in FROM_BER {
         let input = octets(rt.alloc(), text)?;
-        let given = Any::from_ber(&input);
-        assert!(rt;
-            answer.is_given_by(rt.alloc(), &given)?,
-            "{name}: {given:?}"
-        );
+        for given in [Any::from_ber(&input), parse_ber_any(&input)] {
+            assert!(rt;
+                answer.is_given_by(rt.alloc(), &given)?,
+                "{name}: {given:?}"
+            );
+        }
     }
     Ok(())
 }

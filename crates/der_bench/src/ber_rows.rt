@@ -7,19 +7,22 @@ use crate::answer::Parts;
 use crate::reading::{
     DepthRow, Reader, Row, expect_answer, expect_answers, expect_header, expect_written,
 };
+use crate::rows;
+use crate::rows::Trial;
 use der_parser::ber::Class::{Application, ContextSpecific, Private, Universal};
 use der_parser::ber::Length::{Definite, Indefinite};
-use der_parser::ber::Tag;
+use der_parser::ber::{MAX_RECURSION, Tag};
 use der_parser::error::Error::{
     BerMaxDepth, ConstructExpected, ConstructUnexpected, Incomplete as CutShort, InvalidLength,
     InvalidTag, Unsupported,
 };
 use der_parser::error::Needed;
+use std::process::Abort;
 use std::test::Fail;
 
 /// A name, octets, and what `parse_ber` reads on them, of definite lengths.
 #[rattlefmt::skip]
-pub const READ: &[Row] = &[
+const READ: &[Row] = &[
     ("BOOLEAN false", "01 01 00", Read(Boolean(false), "")),
     ("BOOLEAN true", "01 01 ff 02 01 05", Read(Boolean(true), "02 01 05")),
     ("BOOLEAN of 01", "01 01 01", Read(Boolean(true), "")),
@@ -63,7 +66,7 @@ pub const READ: &[Row] = &[
 
 /// What `parse_ber` reads of indefinite lengths.
 #[rattlefmt::skip]
-pub const INDEFINITE: &[Row] = &[
+const INDEFINITE: &[Row] = &[
     ("indefinite length with a rest", "30 80 04 03 56 78 90 00 00 02 01 01", Read(Sequence(&[OctetString("56 78 90")]), "02 01 01")),
     ("indefinite length of nothing", "30 80 00 00 00 00", Read(Sequence(&[]), "00 00")),
     ("context-specific end marker is an item", "30 80 80 00 00 00", Read(Sequence(&[Unknown(ContextSpecific, 0, "")]), "")),
@@ -84,7 +87,7 @@ pub const INDEFINITE: &[Row] = &[
 
 /// What `parse_ber` answers where the input is cut short.
 #[rattlefmt::skip]
-pub const CUT: &[Row] = &[
+const CUT: &[Row] = &[
     ("no octets", "", Incomplete(1)),
     ("no length", "30", Incomplete(1)),
     ("cut in a long identifier", "9f a2", Incomplete(1)),
@@ -116,7 +119,7 @@ pub const CUT: &[Row] = &[
 
 /// What `parse_ber` refuses for a header, and for indefinite lengths nested too deep.
 #[rattlefmt::skip]
-pub const REFUSED_HEADERS: &[Row] = &[
+const REFUSED_HEADERS: &[Row] = &[
     ("a number below 31 in the long form", "1f 1e 00", Refused(InvalidTag)),
     ("a number below 31 in the long form, nothing behind it", "1f 1e", Refused(InvalidTag)),
     ("a number that begins with zeros", "1f 80", Refused(InvalidTag)),
@@ -146,7 +149,7 @@ pub const REFUSED_HEADERS: &[Row] = &[
 
 /// What `parse_ber` refuses for a content.
 #[rattlefmt::skip]
-pub const REFUSED_CONTENTS: &[Row] = &[
+const REFUSED_CONTENTS: &[Row] = &[
     ("a primitive SEQUENCE", "10 00", Refused(ConstructExpected)),
     ("a primitive SET", "11 00", Refused(ConstructExpected)),
     ("constructed BOOLEAN", "21 01 ff", Refused(ConstructUnexpected)),
@@ -170,7 +173,7 @@ pub const REFUSED_CONTENTS: &[Row] = &[
 
 /// A name, a depth, octets, and what `parse_ber_recursive` answers on them to this depth.
 #[rattlefmt::skip]
-pub const AT_DEPTH: &[DepthRow] = &[
+const AT_DEPTH: &[DepthRow] = &[
     ("no octets, no depth", 0, "", Refused(BerMaxDepth)),
     ("no octets", 1, "", Incomplete(1)),
     ("a leaf, no depth", 0, "01 01 ff", Refused(BerMaxDepth)),
@@ -201,7 +204,7 @@ pub const AT_DEPTH: &[DepthRow] = &[
 
 /// Octets, and what `to_vec` of the object that `parse_ber` reads gives.
 #[rattlefmt::skip]
-pub const WRITTEN: &[(&str, &str)] = &[
+const WRITTEN: &[(&str, &str)] = &[
     ("01 01 7f", "01 01 ff"),
     ("30 03 01 01 7f", "30 03 01 01 ff"),
     ("02 81 01 05", "02 01 05"),
@@ -248,6 +251,26 @@ const HEADERS: &[(&str, &[usize], Parts)] = &[
     ("30 80 5f 81 00 81 01 ff 00 00", &[0], Parts(Application, false, Tag(128), Definite(1), "5f 81 00")),
     ("ff 8f ff ff ff 7f 00", &[], Parts(Private, true, Tag(4294967295), Definite(0), "ff 8f ff ff ff 7f")),
 ];
+
+/// What is tried holds of each row's octets.
+pub fn try_rows(rt: &(impl Abort + AllocGlobal), trial: Trial) -> Result<(), Fail> {
+    rows::try_rows(rt, trial, READ)?;
+    rows::try_rows(rt, trial, INDEFINITE)?;
+    rows::try_rows(rt, trial, CUT)?;
+    rows::try_rows(rt, trial, REFUSED_HEADERS)?;
+    rows::try_rows(rt, trial, REFUSED_CONTENTS)?;
+    rows::try_rows(rt, trial, AT_DEPTH)?;
+    rows::try_rows(rt, trial, WRITTEN)?;
+    rows::try_rows(rt, trial, HEADERS)
+}
+
+/// What is tried holds of the octets that are written.
+pub fn try_written(rt: &(impl Abort + AllocGlobal), trial: Trial) -> Result<(), Fail> {
+    for (_, written) in WRITTEN {
+        trial.try_on(rt, MAX_RECURSION, written)?;
+    }
+    Ok(())
+}
 
 #[test]
 fn parse_ber_answers(rt: HostRuntime) -> Result<(), Fail> {

@@ -3,6 +3,8 @@ ghost use Rattle.std.specs.Prelude.{◌≡◌};
 ghost use Rattle.der_bench.specs.declared.container_rows.Met.TheVariants.{At};
 
 use crate::octets::octets;
+use crate::rows;
+use crate::rows::Trial;
 use der_parser::IResult;
 use der_parser::ber::Length::{Definite, Indefinite};
 use der_parser::ber::{
@@ -16,6 +18,7 @@ use der_parser::error::Error::{
 use der_parser::error::ErrorKind::Eof;
 use der_parser::error::Needed::Size;
 use der_parser::error::{BerError, Err as Refused, ErrorKind, ParseError};
+use std::process::Abort;
 use std::test::Fail;
 
 /// Octets, the content that a container hands on, the length that its header says, and what
@@ -81,6 +84,14 @@ fn container(i: &[u8]) -> (u64, Given<'_>) {
     });
     let given = parser.parse(i);
     (calls, given)
+}
+
+/// What is tried holds of each row's octets.
+pub fn try_rows(rt: &(impl Abort + AllocGlobal), trial: Trial) -> Result<(), Fail> {
+    rows::try_rows(rt, trial, OPENED)?;
+    rows::try_rows(rt, trial, UNOPENED)?;
+    rows::try_rows(rt, trial, SLICES)?;
+    rows::try_rows(rt, trial, UNWANTED)
 }
 
 #[test]

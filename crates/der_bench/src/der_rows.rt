@@ -6,6 +6,8 @@ use crate::answer::Content::{
 use crate::answer::Parts;
 use crate::octets::octets;
 use crate::reading::{DepthRow, Reader, Row, expect_answer, expect_answers, expect_header};
+use crate::rows;
+use crate::rows::Trial;
 use der_parser::ber::{Class, Length, Tag};
 use der_parser::error::DerConstraint::{
     Constructed, IndefiniteLength, IntegerEmpty, IntegerLeadingFF, IntegerLeadingZeroes,
@@ -15,11 +17,12 @@ use der_parser::error::Error::{
     BerMaxDepth, ConstructExpected, Incomplete as CutShort, InvalidLength, InvalidTag,
 };
 use der_parser::error::Needed;
+use std::process::Abort;
 use std::test::Fail;
 
 /// A name, octets, and what `parse_der` answers on them.
 #[rattlefmt::skip]
-pub const PARSE_DER: &[Row] = &[
+const PARSE_DER: &[Row] = &[
     ("BOOLEAN false", "01 01 00", Read(Boolean(false), "")),
     ("BOOLEAN true", "01 01 ff 02 01 05 04 02 61 62", Read(Boolean(true), "02 01 05 04 02 61 62")),
     ("INTEGER", "02 01 05 04 02 61 62", Read(Integer("05"), "04 02 61 62")),
@@ -101,7 +104,7 @@ pub const PARSE_DER: &[Row] = &[
 
 /// A name, a depth, octets, and what `parse_der_recursive` answers on them to this depth.
 #[rattlefmt::skip]
-pub const AT_DEPTH: &[DepthRow] = &[
+const AT_DEPTH: &[DepthRow] = &[
     ("no octets, no depth", 0, "", Refused(BerMaxDepth)),
     ("no octets", 1, "", Incomplete(1)),
     ("a leaf, no depth", 0, "01 01 ff", Refused(BerMaxDepth)),
@@ -128,6 +131,13 @@ const HEADERS: &[(&str, &[usize], Parts)] = &[
     ("31 05 30 03 01 01 00", &[0, 0], Parts(Class::Universal, false, Tag::Boolean, Length::Definite(1), "01")),
     ("9f a2 22 01 00", &[], Parts(Class::ContextSpecific, false, Tag(4386), Length::Definite(1), "9f a2 22")),
 ];
+
+/// What is tried holds of each row's octets.
+pub fn try_rows(rt: &(impl Abort + AllocGlobal), trial: Trial) -> Result<(), Fail> {
+    rows::try_rows(rt, trial, PARSE_DER)?;
+    rows::try_rows(rt, trial, AT_DEPTH)?;
+    rows::try_rows(rt, trial, HEADERS)
+}
 
 #[test]
 fn parse_der_answers(rt: HostRuntime) -> Result<(), Fail> {

@@ -4,10 +4,15 @@ use crate::answer::Content::{
     BitString, BmpString, Boolean, Enum, Integer, NewYear, Oid, RelativeOid, Text, UniversalString,
 };
 use crate::octets::octets;
-use crate::reading::{Reader, Row, expect_answers, expect_written};
+use crate::answer::Parts;
+use crate::reading::{Reader, Row, expect_answers, expect_header, expect_written};
+use crate::rows;
+use crate::rows::Trial;
 use der_parser::ber::{
     ASN1TimeZone, BerObjectContent, Tag, ber_read_element_header, parse_ber_content,
 };
+use der_parser::ber::Class::ContextSpecific;
+use der_parser::ber::Length::Definite;
 use der_parser::der::parse_der_content;
 use der_parser::error::DerConstraint::{
     Constructed, FractionNotMinimal, IntegerEmpty, IntegerLeadingFF, IntegerLeadingZeroes,
@@ -17,6 +22,7 @@ use der_parser::error::Error::{
     BerValueError, ConstructUnexpected, IntegerNegative, IntegerTooLarge, InvalidDateTime,
     InvalidLength, InvalidValue, StringInvalidCharset, UnexpectedTag, Unsupported,
 };
+use std::process::Abort;
 use std::test::Fail;
 
 /// Octets on which both readers answer alike.
@@ -138,6 +144,16 @@ const INTEGER_BY_DER: &[Row] = &[
     ("leading zeros", "02 02 00 05", Broken(IntegerLeadingZeroes)),
 ];
 
+/// What is tried holds of each row's octets.
+pub fn try_rows(rt: &(impl Abort + AllocGlobal), trial: Trial) -> Result<(), Fail> {
+    rows::try_rows(rt, trial, ALIKE)?;
+    rows::try_rows(rt, trial, BY_BER)?;
+    rows::try_rows(rt, trial, BY_DER)?;
+    rows::try_rows(rt, trial, WRITTEN)?;
+    rows::try_rows(rt, trial, INTEGER_BY_BER)?;
+    rows::try_rows(rt, trial, INTEGER_BY_DER)
+}
+
 #[test]
 fn both_rule_sets_read_leaves(rt: HostRuntime) -> Result<(), Fail> {
     expect_answers(&rt, Reader::ParseBer, ALIKE)?;
@@ -180,6 +196,21 @@ fn integers_by_typed_readers(rt: HostRuntime) -> Result<(), Fail> {
     expect_answers(&rt, Reader::ParseBerWithTag(Tag::Integer), INTEGER_BY_BER)?;
     expect_answers(&rt, Reader::ParseDerInteger, INTEGER_BY_DER)?;
     expect_answers(&rt, Reader::ParseDerWithTag(Tag::Integer), INTEGER_BY_DER)
+}
+
+/// The header is the one that is there, of another class too.
+#[test]
+fn typed_readers_keep_other_classes(rt: HostRuntime) -> Result<(), Fail> {
+    let parts = Parts(ContextSpecific, false, Tag::Integer, Definite(3), "82");
+    for reader in [
+        Reader::ParseBerInteger,
+        Reader::ParseBerWithTag(Tag::Integer),
+        Reader::ParseDerInteger,
+        Reader::ParseDerWithTag(Tag::Integer),
+    ] {
+        expect_header(&rt, reader, "82 03 01 00 01", &[], &parts)?;
+    }
+    Ok(())
 }
 
 #[test]

@@ -10,13 +10,27 @@ mod ber_rows;
 #[cfg(test)]
 mod container_rows;
 #[cfg(test)]
+mod content_rows;
+#[cfg(test)]
 mod count_rows;
 #[cfg(test)]
 mod der_rows;
 #[cfg(test)]
+mod error_rows;
+#[cfg(test)]
+mod fronts;
+#[cfg(test)]
 mod header_rows;
 #[cfg(test)]
 mod leaf_rows;
+#[cfg(test)]
+mod list_rows;
+#[cfg(test)]
+mod made_rows;
+#[cfg(test)]
+mod name_rows;
+#[cfg(test)]
+mod no_memory;
 #[cfg(test)]
 mod octets;
 #[cfg(test)]
@@ -24,7 +38,11 @@ mod oid_rows;
 #[cfg(test)]
 mod reading;
 #[cfg(test)]
+mod refused_growths;
+#[cfg(test)]
 mod round_trips;
+#[cfg(test)]
+mod rows;
 #[cfg(test)]
 mod text_rows;
 #[cfg(test)]

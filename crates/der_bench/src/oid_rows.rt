@@ -17,6 +17,17 @@ const FROM_ARCS: &[(&[u64], Result<&str, OidParseError>)] = &[
     (&[2, 18446744073709551615], Err(OidParseError::FirstComponentsTooLarge)),
 ];
 
+/// Arcs of a relative identifier, and the octets that they make or the refusal.
+#[rattlefmt::skip]
+const FROM_RELATIVE_ARCS: &[(&[u64], Result<&str, OidParseError>)] = &[
+    (&[8571, 3, 2], Ok("c2 7b 03 02")),
+    (&[0], Ok("00")),
+    (&[40], Ok("28")),
+    (&[127, 128], Ok("7f 81 00")),
+    (&[18446744073709551615], Ok("81 ff*8 7f")),
+    (&[], Err(OidParseError::TooShort)),
+];
+
 /// A dotted text, and the octets that it makes or the refusal.
 #[rattlefmt::skip]
 const FROM_DOTTED: &[(&str, Result<&str, OidParseError>)] = &[
@@ -52,11 +63,50 @@ fn arcs_make_octets(rt: HostRuntime) -> Result<(), Fail> {
                     octets(rt.alloc(), text)?.as_slice(),
                     "{arcs:?}"
                 );
+                assert!(rt; !oid.is_relative(), "{arcs:?}");
             }
             (Err(given), Err(expected)) => assert_eq!(rt; given, *expected, "{arcs:?}"),
             (given, _) => assert!(rt; false, "{arcs:?}: {given:?}"),
         }
     }
+    Ok(())
+}
+
+#[test]
+fn relative_arcs_make_octets(rt: HostRuntime) -> Result<(), Fail> {
+    for (arcs, made) in FROM_RELATIVE_ARCS {
+        match (Oid::from_relative(rt.alloc(), arcs), made) {
+            (Ok(oid), Ok(text)) => {
+                assert_eq!(rt;
+                    oid.as_bytes(),
+                    octets(rt.alloc(), text)?.as_slice(),
+                    "{arcs:?}"
+                );
+                assert!(rt; oid.is_relative(), "{arcs:?}");
+            }
+            (Err(given), Err(expected)) => assert_eq!(rt; given, *expected, "{arcs:?}"),
+            (given, _) => assert!(rt; false, "{arcs:?}: {given:?}"),
+        }
+    }
+    Ok(())
+}
+
+/// A copy is equal, of the same octets and as relative, be they borrowed or not.
+#[test]
+fn identifiers_are_copied(rt: HostRuntime) -> Result<(), Fail> {
+    let borrowed = Oid::new(CowSlice::Borrowed(b"\x88\x37"));
+    let relative = Oid::new_relative(CowSlice::Borrowed(b"\x88\x37"));
+    let made = Oid::from(rt.alloc(), &[2, 999])?;
+    let made_relative = Oid::from_relative(rt.alloc(), &[1079])?;
+    for oid in [&borrowed, &relative, &made, &made_relative] {
+        let copy = oid.try_clone(rt.alloc())?;
+        assert!(rt; copy == *oid, "{oid:?}");
+        assert!(rt; copy.as_bytes() == b"\x88\x37".as_slice(), "{oid:?}");
+        assert_eq!(rt; copy.is_relative(), oid.is_relative(), "{oid:?}");
+    }
+    assert!(rt; borrowed == made);
+    assert!(rt; relative == made_relative);
+    assert!(rt; borrowed != relative);
     Ok(())
 }
 

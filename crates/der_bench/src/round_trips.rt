@@ -1,9 +1,9 @@
 //! What holds between reading and writing, and between BER and DER, on the inputs of all rows.
 use crate::octets::octets;
 use crate::reading::Reader::{ParseBerRecursive, ParseDerRecursive};
-use crate::reading::{DepthRow, Row};
-use crate::{any_rows, ber_rows, der_rows};
-use der_parser::ber::MAX_RECURSION;
+use crate::rows::Trial::RoundTrip;
+use crate::{any_rows, ber_rows, container_rows, count_rows, der_rows, header_rows, leaf_rows};
+use crate::{content_rows, list_rows, name_rows};
 use der_parser::error::GenError;
 use std::alloc::Global;
 use std::process::Abort;
@@ -11,7 +11,7 @@ use std::test::Fail;
 
 /// Where BER reads an object, it reads the encoding of it as an equal one, to the same depth. Where
 /// DER reads an object, BER reads an equal one, and leaves the same.
-fn expect_round_trip(
+pub fn expect_round_trip(
     rt: &(impl Abort + AllocGlobal),
     depth: usize,
     text: &str,
@@ -60,54 +60,54 @@ fn expect_read_by_both(
     Ok(())
 }
 
-fn expect_round_trips(rt: &(impl Abort + AllocGlobal), rows: &[Row]) -> Result<(), Fail> {
-    for (_, text, _) in rows {
-        expect_round_trip(rt, MAX_RECURSION, text)?;
-    }
-    Ok(())
-}
-
-fn expect_round_trips_to_depths(
-    rt: &(impl Abort + AllocGlobal),
-    rows: &[DepthRow],
-) -> Result<(), Fail> {
-    for (_, depth, text, _) in rows {
-        expect_round_trip(rt, *depth, text)?;
-    }
-    Ok(())
+#[test]
+fn any_rows_go_round(rt: HostRuntime) -> Result<(), Fail> {
+    any_rows::try_rows(&rt, RoundTrip)
 }
 
 #[test]
-fn what_ber_rows_read_goes_round(rt: HostRuntime) -> Result<(), Fail> {
-    expect_round_trips(&rt, ber_rows::READ)?;
-    expect_round_trips(&rt, ber_rows::INDEFINITE)?;
-    expect_round_trips(&rt, ber_rows::CUT)?;
-    expect_round_trips(&rt, ber_rows::REFUSED_HEADERS)?;
-    expect_round_trips(&rt, ber_rows::REFUSED_CONTENTS)?;
-    expect_round_trips_to_depths(&rt, ber_rows::AT_DEPTH)
+fn ber_rows_go_round(rt: HostRuntime) -> Result<(), Fail> {
+    ber_rows::try_rows(&rt, RoundTrip)?;
+    ber_rows::try_written(&rt, RoundTrip)
 }
 
 #[test]
-fn what_der_rows_read_goes_round(rt: HostRuntime) -> Result<(), Fail> {
-    expect_round_trips(&rt, der_rows::PARSE_DER)?;
-    expect_round_trips_to_depths(&rt, der_rows::AT_DEPTH)
+fn container_rows_go_round(rt: HostRuntime) -> Result<(), Fail> {
+    container_rows::try_rows(&rt, RoundTrip)
 }
 
 #[test]
-fn what_is_written_goes_round(rt: HostRuntime) -> Result<(), Fail> {
-    for (text, written) in ber_rows::WRITTEN {
-        expect_round_trip(&rt, MAX_RECURSION, text)?;
-        expect_round_trip(&rt, MAX_RECURSION, written)?;
-    }
-    Ok(())
+fn content_rows_go_round(rt: HostRuntime) -> Result<(), Fail> {
+    content_rows::try_rows(&rt, RoundTrip)
 }
 
 #[test]
-fn what_any_finds_goes_round(rt: HostRuntime) -> Result<(), Fail> {
-    for rows in [any_rows::FROM_BER, any_rows::FROM_DER] {
-        for (_, text, _) in rows {
-            expect_round_trip(&rt, MAX_RECURSION, text)?;
-        }
-    }
-    Ok(())
+fn count_rows_go_round(rt: HostRuntime) -> Result<(), Fail> {
+    count_rows::try_rows(&rt, RoundTrip)?;
+    count_rows::try_long_rows(&rt, RoundTrip)
+}
+
+#[test]
+fn der_rows_go_round(rt: HostRuntime) -> Result<(), Fail> {
+    der_rows::try_rows(&rt, RoundTrip)
+}
+
+#[test]
+fn header_rows_go_round(rt: HostRuntime) -> Result<(), Fail> {
+    header_rows::try_rows(&rt, RoundTrip)
+}
+
+#[test]
+fn leaf_rows_go_round(rt: HostRuntime) -> Result<(), Fail> {
+    leaf_rows::try_rows(&rt, RoundTrip)
+}
+
+#[test]
+fn list_rows_go_round(rt: HostRuntime) -> Result<(), Fail> {
+    list_rows::try_rows(&rt, RoundTrip)
+}
+
+#[test]
+fn name_rows_go_round(rt: HostRuntime) -> Result<(), Fail> {
+    name_rows::try_rows(&rt, RoundTrip)
 }
