@@ -77,10 +77,11 @@ pub mod oid {
 /// whose contract is the law.
 pub mod laws {
     pub use der_base::laws::{
-        always_one, appended_only_lengthen, clones_are_the_value, der_is_within_ber,
-        encoding_is_normal_form, equals_are_alike, equals_are_the_same, faults_are_one,
-        fronts_are_cut, integers_are_shortest, lengths_are_shortest, never_both, one_content,
-        one_refusal, refused_headers_stay_refused, spellings_are_one, tag_numbers_are_shortest,
+        always_one, appended_lengthen_headers, appended_only_lengthen, clones_are_the_value,
+        clones_want_no_memory, der_is_within_ber, encoding_is_normal_form, equals_are_alike,
+        equals_are_the_same, faults_are_one, fronts_are_cut, header_fronts_are_cut,
+        integers_are_shortest, lengths_are_shortest, never_both, one_content, one_refusal,
+        refused_headers_stay_refused, spellings_are_one, tag_numbers_are_shortest,
         unused_bits_are_last,
     };
     pub use der_ber::laws::written_is_read_back;
