@@ -1,3 +1,3 @@
--- What private functions promise, and what the crates above build on: no contract of a call that users import cites these.
+-- What private functions promise: no contract of a call that users import cites these.
 pub mod BerLeaves
 pub mod ElementParts

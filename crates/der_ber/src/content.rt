@@ -2,9 +2,10 @@
 //! length and the constructed bit.
 ghost use Rattle.std.specs.Prelude.{◌≡◌};
 ghost use Rattle.der_base.specs.Answer.{MatchAnswer};
-ghost use Rattle.der_ber.specs.BerContents.{AnswersContentAs, AnswersContentBehind, FramesContent, FrameRefuses, FrameLacks};
-ghost use Rattle.der_ber.specs.Inner.ElementParts.{MayFollow};
+ghost use Rattle.der_ber.specs.BerContents.{AnswersContentAs, AnswersContentBehind};
+ghost use Rattle.der_ber.specs.BerContents.{FramesContent, FrameRefuses, FrameLacks};
 ghost use Rattle.der_ber.specs.BerContents.{ReadsContentAs, ContentAsRefuses, ContentAsNeedsMemory};
+ghost use Rattle.der_ber.specs.Inner.ElementParts.{MayFollow};
 
 use crate::reader::read_behind;
 use der_base::any::ber_read_content;

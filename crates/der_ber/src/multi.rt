@@ -185,7 +185,8 @@ impl<F, const NUMBER: u32> BerDefinedG<F, NUMBER> {
         ensures callable { F.IsAlwaysCallable self.new }
         ensures run { ContainerRun (OpensBerNumber NUMBER i.now)
             (RefusesBerNumber E.from_error_kind_gives E.from_gives NUMBER i.now) F.step self.old result self.new }
-        ensures called { (c : Class) (p : Bool) (w rest : List ℕ) → BeginsWithElement i.now framing_budget c p NUMBER w rest
+        ensures called { (c : Class) (p : Bool) (w rest : List ℕ)
+            → BeginsWithElement i.now framing_budget c p NUMBER w rest
             → OneCall (OpensBerNumber NUMBER i.now) F.step self.old result self.new }
         ensures refuses { (e : Err E) → RefusesBerNumber E.from_error_kind_gives E.from_gives NUMBER i.now e
             → NoCall (RefusesBerNumber E.from_error_kind_gives E.from_gives NUMBER i.now) self.old result self.new }

@@ -1,5 +1,4 @@
--- What the parts of an element are read as, told by private readers: the items of a list, a content behind its header, and
--- the tests before it.
+-- What the private readers of an element's parts answer: of the items of a list, and of the content behind a header.
 use Rattle.std.specs.Prelude.{◌≡◌, ◌≢◌, ℕ, ◌≤◌, ◌⊎◌, Bool, true, IsTrue, List, [], ◌++◌, length, All}
 use Rattle.der_base.specs.declared.header.Class.TheVariants.{Universal}
 use Rattle.der_base.specs.declared.header.Header.{Header}
