@@ -195,8 +195,9 @@ fn are_nested(count: usize, content: &BerObjectContent<'_>) -> bool {
 /// The content of the item of a SEQUENCE of one.
 fn only_item<'a, 'b>(content: &'b BerObjectContent<'a>) -> Option<&'b BerObjectContent<'a>> {
     match content {
-        BerObjectContent::Sequence(items) if items.len() == 1 =>
-            items.first().map(|item| &item.content),
+        BerObjectContent::Sequence(items) if items.len() == 1 => items
+            .first()
+            .map(|item| &item.content),
         _ => None,
     }
 }

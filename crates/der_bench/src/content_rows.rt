@@ -15,7 +15,9 @@ use der_parser::ber::{
 use der_parser::der::{
     der_read_element_content, der_read_element_content_as, parse_der_content, parse_der_content2,
 };
-use der_parser::error::DerConstraint::{Constructed, IndefiniteLength, IntegerEmpty, InvalidBoolean};
+use der_parser::error::DerConstraint::{
+    Constructed, IndefiniteLength, IntegerEmpty, InvalidBoolean,
+};
 use der_parser::error::Error::{
     BerMaxDepth, ConstructExpected, ConstructUnexpected, Incomplete as CutShort, InvalidLength,
 };
@@ -57,12 +59,14 @@ const BY_BER: &[ContentRow] = &[
     ContentRow("short, of the largest size", Tag::OctetString, Definite(4294967295), false, 1, "61",
         Incomplete(4294967295)),
     ContentRow("no end marker", Tag::Sequence, Indefinite, true, 2, "05 00", Incomplete(1)),
-    ContentRow("above the largest size", Tag::OctetString, Definite(4294967296), false, 1, "61", Refused(InvalidLength)),
+    ContentRow("above the largest size", Tag::OctetString, Definite(4294967296), false, 1, "61",
+        Refused(InvalidLength)),
     ContentRow("above the largest size, no depth", Tag::OctetString, Definite(4294967296), false, 0, "",
         Refused(InvalidLength)),
     ContentRow("no depth", Tag::Integer, Definite(1), false, 0, "05", Refused(BerMaxDepth)),
     ContentRow("no depth, an indefinite length", Tag::Integer, Indefinite, false, 0, "00 00", Refused(BerMaxDepth)),
-    ContentRow("a primitive indefinite length", Tag::Integer, Indefinite, false, 1, "00 00", Refused(ConstructExpected)),
+    ContentRow("a primitive indefinite length", Tag::Integer, Indefinite, false, 1, "00 00",
+        Refused(ConstructExpected)),
     ContentRow("an indefinite length at depth 1", Tag::Sequence, Indefinite, true, 1, "00 00", Refused(BerMaxDepth)),
     ContentRow("no depth for an item", Tag::Sequence, Definite(2), true, 1, "05 00", Refused(BerMaxDepth)),
     ContentRow("a primitive list", Tag::Sequence, Definite(0), false, 1, "", Refused(ConstructExpected)),
@@ -85,11 +89,13 @@ const BY_DER: &[ContentRow] = &[
         Read(Sequence(&[Integer("05"), Null]), "ff")),
     ContentRow("a list of nothing", Tag::Set, Definite(0), true, 1, "ff", Read(Set(&[]), "ff")),
     ContentRow("an unmapped number", Tag(29), Definite(1), false, 1, "00 ff", Read(Unknown(Universal, 29, "00"), "ff")),
-    ContentRow("an unmapped number, constructed", Tag(29), Definite(1), true, 1, "00", Read(Unknown(Universal, 29, "00"), "")),
+    ContentRow("an unmapped number, constructed", Tag(29), Definite(1), true, 1, "00",
+        Read(Unknown(Universal, 29, "00"), "")),
 
     ContentRow("short", Tag::Integer, Definite(2), false, 50, "00", Incomplete(2)),
     ContentRow("short, no depth", Tag::Integer, Definite(2), false, 0, "00", Incomplete(2)),
-    ContentRow("above the largest size", Tag::OctetString, Definite(4294967296), false, 0, "61", Refused(InvalidLength)),
+    ContentRow("above the largest size", Tag::OctetString, Definite(4294967296), false, 0, "61",
+        Refused(InvalidLength)),
     ContentRow("no depth", Tag::Integer, Definite(1), false, 0, "05", Refused(BerMaxDepth)),
     ContentRow("no depth for an item", Tag::Sequence, Definite(2), true, 1, "05 00", Refused(BerMaxDepth)),
     ContentRow("an indefinite length", Tag::Sequence, Indefinite, true, 2, "00 00", Broken(IndefiniteLength)),
@@ -195,7 +201,8 @@ const BEHIND_HEADERS: &[HeaderRow] = &[
         Read(Unknown(ContextSpecific, 2, "05"), "ff")),
     HeaderRow("another class, constructed", Application, true, Tag(16), Definite(3), "02 01 05",
         Read(Unknown(Application, 16, "02 01 05"), "")),
-    HeaderRow("an unmapped number", Universal, false, Tag(29), Definite(1), "00", Read(Unknown(Universal, 29, "00"), "")),
+    HeaderRow("an unmapped number", Universal, false, Tag(29), Definite(1), "00",
+        Read(Unknown(Universal, 29, "00"), "")),
     HeaderRow("short, the whole length", Universal, false, Tag::Integer, Definite(2), "00", Incomplete(2)),
     HeaderRow("short, of another class", ContextSpecific, false, Tag(0), Definite(5), "01", Incomplete(4)),
     HeaderRow("an indefinite length", Universal, true, Tag::Sequence, Indefinite, "00 00", Broken(IndefiniteLength)),
@@ -219,11 +226,17 @@ fn contents_behind_headers(rt: HostRuntime) -> Result<(), Fail> {
         let input = octets(rt.alloc(), text)?;
         let header = Header::new(*class, *constructed, *tag, *length).with_raw_tag(Some(b"\x01"));
         let given = der_read_element_content(rt.alloc(), &input, header);
-        assert!(rt; answer.is_given_by(rt.alloc(), &given)?, "{name}: {given:?}");
+        assert!(rt;
+            answer.is_given_by(rt.alloc(), &given)?,
+            "{name}: {given:?}"
+        );
         if let Ok((_, object)) = &given {
             assert_eq!(rt; object.header, header, "{name}");
             assert_eq!(rt; object.header.length(), *length, "{name}");
-            assert!(rt; object.header.raw_tag() == Some(b"\x01".as_slice()), "{name}");
+            assert!(rt;
+                object.header.raw_tag() == Some(b"\x01".as_slice()),
+                "{name}"
+            );
         }
     }
     Ok(())

@@ -34,7 +34,11 @@ fn parsers_make_errors(rt: HostRuntime) {
     assert_eq!(rt; kind, BerError::NomError(ErrorKind::Eof));
     let many = <BerError as ParseError<&[u8]>>::from_error_kind(input, ErrorKind::Many0);
     assert_eq!(rt; many, BerError::NomError(ErrorKind::Many0));
-    let other = <BerError as ParseError<&[u8]>>::append(input, ErrorKind::Eof, BerError::InvalidTag);
+    let other = <BerError as ParseError<&[u8]>>::append(
+        input,
+        ErrorKind::Eof,
+        BerError::InvalidTag,
+    );
     assert_eq!(rt; other, BerError::InvalidTag);
 }
 
@@ -44,7 +48,10 @@ fn answers_are_mapped(rt: HostRuntime) {
     let refused: Refused<BerError> = Refused::from(BerError::InvalidTag);
     assert_eq!(rt; refused, Refused::Error(BerError::InvalidTag));
     assert_eq!(rt; Refused::Error(5u8).map(|e| e == 5), Refused::Error(true));
-    assert_eq!(rt; Refused::Failure(5u8).map(|e| e == 5), Refused::Failure(true));
+    assert_eq!(rt;
+        Refused::Failure(5u8).map(|e| e == 5),
+        Refused::Failure(true)
+    );
     let cut: Refused<u8> = Refused::Incomplete(Needed::Size(3));
     assert_eq!(rt; cut.map(|e| e == 5), Refused::Incomplete(Needed::Size(3)));
     let wanting: Refused<u8> = Refused::OutOfMemory;

@@ -4,8 +4,10 @@ use crate::octets::octets;
 use crate::reading::Reader;
 use crate::reading::Reader::{ParseBerRecursive, ParseDerRecursive};
 use crate::rows::Trial::Fronts;
-use crate::{any_rows, ber_rows, container_rows, count_rows, der_rows, header_rows, leaf_rows};
-use crate::{content_rows, list_rows, name_rows};
+use crate::{
+    any_rows, ber_rows, container_rows, content_rows, count_rows, der_rows, header_rows, leaf_rows,
+    list_rows, name_rows,
+};
 use der_parser::error::{BerResult, Err as Refused};
 use std::process::Abort;
 use std::test::Fail;
@@ -25,11 +27,7 @@ pub fn expect_stable_fronts(rt: &(impl Abort + AllocGlobal), text: &str) -> Resu
 }
 
 /// Both readers, to this depth, answer on the fronts of these octets as the module says.
-fn expect_stable_to(
-    rt: &(impl Abort + AllocGlobal),
-    depth: usize,
-    text: &str,
-) -> Result<(), Fail> {
+fn expect_stable_to(rt: &(impl Abort + AllocGlobal), depth: usize, text: &str) -> Result<(), Fail> {
     let input = octets(rt.alloc(), text)?;
     expect_stable(rt, ParseBerRecursive(depth), &input)?;
     expect_stable(rt, ParseDerRecursive(depth), &input)
@@ -93,13 +91,19 @@ fn expect_stands(
 /// may become any but a failure.
 fn stands(given: &BerResult<'_>, again: &BerResult<'_>, tail: &[u8]) -> bool {
     match (given, again) {
-        (Ok((rest, object)), Ok((left, same))) => {
-            object == same && left.strip_prefix(*rest) == Some(tail)
-        }
+        (Ok((rest, object)), Ok((left, same))) => { object == same && lengthened(rest, left, tail) }
         (Err(Refused::Error(e)), Err(Refused::Error(f))) => e == f,
         (Err(Refused::Incomplete(_)), Ok(_)) => true,
         (Err(Refused::Incomplete(_)), Err(Refused::Incomplete(_) | Refused::Error(_))) => true,
         _ => false,
+    }
+}
+
+/// Whether what is left is a rest with these octets behind it.
+fn lengthened(rest: &[u8], left: &[u8], tail: &[u8]) -> bool {
+    match left.strip_prefix(rest) {
+        Some(behind) => behind == tail,
+        None => false,
     }
 }
 

@@ -30,12 +30,15 @@ const ALIKE: &[HeaderRow] = &[
     ("application", "61 7f", Read(Told(Application, true, Tag(1), Definite(127), "61"), "")),
     ("context-specific", "9e 00", Read(Told(ContextSpecific, false, Tag(30), Definite(0), "9e"), "")),
     ("private, a long tag number", "df 1f 00", Read(Told(Private, false, Tag(31), Definite(0), "df 1f"), "")),
-    ("a tag number of two octets", "9f a2 22 01 00", Read(Told(ContextSpecific, false, Tag(4386), Definite(1), "9f a2 22"), "00")),
+    ("a tag number of two octets", "9f a2 22 01 00",
+        Read(Told(ContextSpecific, false, Tag(4386), Definite(1), "9f a2 22"), "00")),
     ("the largest tag number", "1f 8f ff ff ff 7f 00",
         Read(Told(Universal, false, Tag(4294967295), Definite(0), "1f 8f ff ff ff 7f"), "")),
     ("a length of 128", "04 81 80", Read(Told(Universal, false, Tag::OctetString, Definite(128), "04"), "")),
-    ("a length of 2^32", "04 85 01 00 00 00 00", Read(Told(Universal, false, Tag::OctetString, Definite(4294967296), "04"), "")),
-    ("the largest length", "04 88 ff*8", Read(Told(Universal, false, Tag::OctetString, Definite(18446744073709551615), "04"), "")),
+    ("a length of 2^32", "04 85 01 00 00 00 00",
+        Read(Told(Universal, false, Tag::OctetString, Definite(4294967296), "04"), "")),
+    ("the largest length", "04 88 ff*8",
+        Read(Told(Universal, false, Tag::OctetString, Definite(18446744073709551615), "04"), "")),
     ("an end marker", "00 00", Read(Told(Universal, false, Tag::EndOfContent, Definite(0), "00"), "")),
 
     ("no octets", "", Incomplete(1)),
@@ -57,10 +60,13 @@ const ALIKE: &[HeaderRow] = &[
 #[rattlefmt::skip]
 const BY_BER: &[HeaderRow] = &[
     ("an indefinite length", "30 80 05 00", Read(Told(Universal, true, Tag::Sequence, Indefinite, "30"), "05 00")),
-    ("an indefinite length of a constructed INTEGER", "22 80", Read(Told(Universal, true, Tag::Integer, Indefinite, "22"), "")),
+    ("an indefinite length of a constructed INTEGER", "22 80",
+        Read(Told(Universal, true, Tag::Integer, Indefinite, "22"), "")),
     ("a primitive indefinite length", "02 80", Refused(ConstructExpected)),
-    ("a length below 128 in the long form", "02 81 01", Read(Told(Universal, false, Tag::Integer, Definite(1), "02"), "")),
-    ("a length that begins with zeros", "30 82 00 80", Read(Told(Universal, true, Tag::Sequence, Definite(128), "30"), "")),
+    ("a length below 128 in the long form", "02 81 01",
+        Read(Told(Universal, false, Tag::Integer, Definite(1), "02"), "")),
+    ("a length that begins with zeros", "30 82 00 80",
+        Read(Told(Universal, true, Tag::Sequence, Definite(128), "30"), "")),
     ("a length of 126 octets", "02 fe 00*125 01", Read(Told(Universal, false, Tag::Integer, Definite(1), "02"), "")),
 ];
 
@@ -111,7 +117,10 @@ fn expect_headers(
         let input = octets(rt.alloc(), text)?;
         let mut count = HeaderCount::new();
         let given = reader.read(&input, &mut count);
-        assert!(rt; answer.is_given_by(rt.alloc(), &given)?, "{name}: {reader:?}: {given:?}");
+        assert!(rt;
+            answer.is_given_by(rt.alloc(), &given)?,
+            "{name}: {reader:?}: {given:?}"
+        );
         assert_eq!(rt; count.count(), reader.counts(), "{name}: {reader:?}");
     }
     Ok(())
@@ -203,11 +212,15 @@ fn headers_tell_their_class(rt: HostRuntime) {
 #[test]
 fn headers_tell_their_parts(rt: HostRuntime) {
     let primitive = Header::new(Universal, false, Tag(2), Definite(1));
-    assert!(rt; !primitive.constructed() && !primitive.is_constructed() && primitive.is_primitive());
+    assert!(rt;
+        !primitive.constructed() && !primitive.is_constructed() && primitive.is_primitive()
+    );
     assert_eq!(rt; primitive.assert_primitive(), Ok(()));
     assert_eq!(rt; primitive.assert_constructed(), Err(ConstructExpected));
     let constructed = Header::new(Universal, true, Tag(3), Indefinite);
-    assert!(rt; constructed.constructed() && constructed.is_constructed() && !constructed.is_primitive());
+    assert!(rt;
+        constructed.constructed() && constructed.is_constructed() && !constructed.is_primitive()
+    );
     assert_eq!(rt; constructed.assert_constructed(), Ok(()));
     assert_eq!(rt; constructed.assert_primitive(), Err(ConstructUnexpected));
     assert_eq!(rt; primitive.assert_tag(Tag(2)), Ok(()));
@@ -235,6 +248,9 @@ fn headers_change_their_parts(rt: HostRuntime) {
 fn lengths_and_tags_are_made(rt: HostRuntime) {
     assert_eq!(rt; Length::from(5), Definite(5));
     assert_eq!(rt; Definite(5).definite(), Ok(5));
-    assert_eq!(rt; Indefinite.definite(), Err(DerConstraintFailed(IndefiniteLength)));
+    assert_eq!(rt;
+        Indefinite.definite(),
+        Err(DerConstraintFailed(IndefiniteLength))
+    );
     assert_eq!(rt; Tag::from(4386u32), Tag(4386));
 }

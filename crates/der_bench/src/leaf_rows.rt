@@ -3,16 +3,16 @@ use crate::answer::Answer::{Broken, Incomplete, Read, Refused};
 use crate::answer::Content::{
     BitString, BmpString, Boolean, Enum, Integer, NewYear, Oid, RelativeOid, Text, UniversalString,
 };
-use crate::octets::octets;
 use crate::answer::Parts;
+use crate::octets::octets;
 use crate::reading::{Reader, Row, expect_answers, expect_header, expect_written};
 use crate::rows;
 use crate::rows::Trial;
+use der_parser::ber::Class::ContextSpecific;
+use der_parser::ber::Length::Definite;
 use der_parser::ber::{
     ASN1TimeZone, BerObjectContent, Tag, ber_read_element_header, parse_ber_content,
 };
-use der_parser::ber::Class::ContextSpecific;
-use der_parser::ber::Length::Definite;
 use der_parser::der::parse_der_content;
 use der_parser::error::DerConstraint::{
     Constructed, FractionNotMinimal, IntegerEmpty, IntegerLeadingFF, IntegerLeadingZeroes,
@@ -56,10 +56,13 @@ const ALIKE: &[Row] = &[
     ("BMPString, an odd octet", "1e 03 00 41 00", Refused(Unsupported)),
     ("BMPString, half a pair", "1e 04 d8 00 00 41", Refused(StringInvalidCharset)),
     ("UniversalString, three octets", "1c 03 00 00 00", Read(UniversalString("00 00 00"), "")),
-    ("UTCTime", "17 0d 32 30 30 31 30 31 30 30 30 30 30 30 5a", Read(NewYear(Tag::UtcTime, 20, None, ASN1TimeZone::Z), "")),
+    ("UTCTime", "17 0d 32 30 30 31 30 31 30 30 30 30 30 30 5a",
+        Read(NewYear(Tag::UtcTime, 20, None, ASN1TimeZone::Z), "")),
     ("UTCTime of month 13", "17 0d 32 30 31 33 30 31 30 30 30 30 30 30 5a", Refused(InvalidDateTime)),
-    ("GeneralizedTime", "18 0f 32 30 32 30 30 31 30 31 30 30 30 30 30 30 5a", Read(NewYear(Tag::GeneralizedTime, 2020, None, ASN1TimeZone::Z), "")),
-    ("GeneralizedTime, a tenth", "18 11 32 30 32 30 30 31 30 31 30 30 30 30 30 30 2e 31 5a", Read(NewYear(Tag::GeneralizedTime, 2020, Some(100000000), ASN1TimeZone::Z), "")),
+    ("GeneralizedTime", "18 0f 32 30 32 30 30 31 30 31 30 30 30 30 30 30 5a",
+        Read(NewYear(Tag::GeneralizedTime, 2020, None, ASN1TimeZone::Z), "")),
+    ("GeneralizedTime, a tenth", "18 11 32 30 32 30 30 31 30 31 30 30 30 30 30 30 2e 31 5a",
+        Read(NewYear(Tag::GeneralizedTime, 2020, Some(100000000), ASN1TimeZone::Z), "")),
 ];
 
 /// Octets, and what BER answers.
@@ -78,13 +81,19 @@ const BY_BER: &[Row] = &[
     ("constructed OBJECT IDENTIFIER", "26 00", Refused(ConstructUnexpected)),
     ("constructed UTCTime", "37 00", Refused(Unsupported)),
     ("INTEGER, ones in front", "02 02 ff 80", Read(Integer("ff 80"), "")),
-    ("UTCTime without seconds", "17 0b 32 30 30 31 30 31 30 30 30 30 5a", Read(NewYear(Tag::UtcTime, 20, None, ASN1TimeZone::Z), "")),
-    ("UTCTime with an offset", "17 11 32 30 30 31 30 31 30 30 30 30 30 30 2d 30 30 30 30", Read(NewYear(Tag::UtcTime, 20, None, ASN1TimeZone::Offset(0, 0)), "")),
+    ("UTCTime without seconds", "17 0b 32 30 30 31 30 31 30 30 30 30 5a",
+        Read(NewYear(Tag::UtcTime, 20, None, ASN1TimeZone::Z), "")),
+    ("UTCTime with an offset", "17 11 32 30 30 31 30 31 30 30 30 30 30 30 2d 30 30 30 30",
+        Read(NewYear(Tag::UtcTime, 20, None, ASN1TimeZone::Offset(0, 0)), "")),
     ("UTCTime of no octets", "17 00", Refused(InvalidDateTime)),
-    ("GeneralizedTime without seconds", "18 0d 32 30 32 30 30 31 30 31 30 30 30 30 5a", Read(NewYear(Tag::GeneralizedTime, 2020, None, ASN1TimeZone::Z), "")),
-    ("GeneralizedTime without a zone", "18 0e 32 30 32 30 30 31 30 31 30 30 30 30 30 30", Read(NewYear(Tag::GeneralizedTime, 2020, None, ASN1TimeZone::Undefined), "")),
-    ("GeneralizedTime, a tenth and a zero", "18 12 32 30 32 30 30 31 30 31 30 30 30 30 30 30 2e 31 30 5a", Read(NewYear(Tag::GeneralizedTime, 2020, Some(100000000), ASN1TimeZone::Z), "")),
-    ("GeneralizedTime with a comma", "18 11 32 30 32 30 30 31 30 31 30 30 30 30 30 30 2c 35 5a", Read(NewYear(Tag::GeneralizedTime, 2020, Some(500000000), ASN1TimeZone::Z), "")),
+    ("GeneralizedTime without seconds", "18 0d 32 30 32 30 30 31 30 31 30 30 30 30 5a",
+        Read(NewYear(Tag::GeneralizedTime, 2020, None, ASN1TimeZone::Z), "")),
+    ("GeneralizedTime without a zone", "18 0e 32 30 32 30 30 31 30 31 30 30 30 30 30 30",
+        Read(NewYear(Tag::GeneralizedTime, 2020, None, ASN1TimeZone::Undefined), "")),
+    ("GeneralizedTime, a tenth and a zero", "18 12 32 30 32 30 30 31 30 31 30 30 30 30 30 30 2e 31 30 5a",
+        Read(NewYear(Tag::GeneralizedTime, 2020, Some(100000000), ASN1TimeZone::Z), "")),
+    ("GeneralizedTime with a comma", "18 11 32 30 32 30 30 31 30 31 30 30 30 30 30 30 2c 35 5a",
+        Read(NewYear(Tag::GeneralizedTime, 2020, Some(500000000), ASN1TimeZone::Z), "")),
 ];
 
 /// Octets, and what DER answers.
@@ -98,7 +107,8 @@ const BY_DER: &[Row] = &[
     ("BIT STRING of no octets", "03 00 ff", Refused(InvalidLength)),
     ("constructed BIT STRING", "23 01 00", Broken(Constructed)),
     ("BIT STRING, unused bits that are set", "03 04 06 6e 5d e0", Broken(UnusedBitsNotZero)),
-    ("BIT STRING, more unused bits than seven", "03 02 08 00", Refused(InvalidValue { tag: Tag::BitString, msg: "More than 7 unused bits" })),
+    ("BIT STRING, more unused bits than seven", "03 02 08 00",
+        Refused(InvalidValue { tag: Tag::BitString, msg: "More than 7 unused bits" })),
     ("constructed OBJECT IDENTIFIER", "26 00", Broken(Constructed)),
     ("INTEGER, ones in front", "02 02 ff 80", Broken(IntegerLeadingFF)),
     ("UTCTime without seconds", "17 0b 32 30 30 31 30 31 30 30 30 30 5a", Broken(MissingSeconds)),
@@ -107,9 +117,12 @@ const BY_DER: &[Row] = &[
     ("UTCTime of a zone alone", "17 01 5a", Refused(InvalidDateTime)),
     ("GeneralizedTime without seconds", "18 0d 32 30 32 30 30 31 30 31 30 30 30 30 5a", Broken(MissingSeconds)),
     ("GeneralizedTime without a zone", "18 0e 32 30 32 30 30 31 30 31 30 30 30 30 30 30", Broken(MissingTimeZone)),
-    ("GeneralizedTime, a tenth and a zero", "18 12 32 30 32 30 30 31 30 31 30 30 30 30 30 30 2e 31 30 5a", Broken(FractionNotMinimal)),
-    ("GeneralizedTime, a fraction of zero", "18 11 32 30 32 30 30 31 30 31 30 30 30 30 30 30 2e 30 5a", Broken(FractionNotMinimal)),
-    ("GeneralizedTime with a comma", "18 11 32 30 32 30 30 31 30 31 30 30 30 30 30 30 2c 35 5a", Broken(FractionNotMinimal)),
+    ("GeneralizedTime, a tenth and a zero", "18 12 32 30 32 30 30 31 30 31 30 30 30 30 30 30 2e 31 30 5a",
+        Broken(FractionNotMinimal)),
+    ("GeneralizedTime, a fraction of zero", "18 11 32 30 32 30 30 31 30 31 30 30 30 30 30 30 2e 30 5a",
+        Broken(FractionNotMinimal)),
+    ("GeneralizedTime with a comma", "18 11 32 30 32 30 30 31 30 31 30 30 30 30 30 30 2c 35 5a",
+        Broken(FractionNotMinimal)),
 ];
 
 /// Octets that BER reads, and those that are written of it.
@@ -121,10 +134,13 @@ const WRITTEN: &[(&str, &str)] = &[
     ("0d 04 c2 7b 03 02", "0d 04 c2 7b 03 02"),
     ("1e 04 00 4c 00 65", "1e 04 00 4c 00 65"),
     ("17 0b 32 30 30 31 30 31 30 30 30 30 5a", "17 0d 32 30 30 31 30 31 30 30 30 30 30 30 5a"),
-    ("17 11 32 30 30 31 30 31 30 30 30 30 30 30 2d 30 30 30 30", "17 11 32 30 30 31 30 31 30 30 30 30 30 30 2b 30 30 30 30"),
+    ("17 11 32 30 30 31 30 31 30 30 30 30 30 30 2d 30 30 30 30",
+        "17 11 32 30 30 31 30 31 30 30 30 30 30 30 2b 30 30 30 30"),
     ("18 0d 32 30 32 30 30 31 30 31 30 30 30 30 5a", "18 0f 32 30 32 30 30 31 30 31 30 30 30 30 30 30 5a"),
-    ("18 12 32 30 32 30 30 31 30 31 30 30 30 30 30 30 2e 31 30 5a", "18 11 32 30 32 30 30 31 30 31 30 30 30 30 30 30 2e 31 5a"),
-    ("18 11 32 30 32 30 30 31 30 31 30 30 30 30 30 30 2c 35 5a", "18 11 32 30 32 30 30 31 30 31 30 30 30 30 30 30 2e 35 5a"),
+    ("18 12 32 30 32 30 30 31 30 31 30 30 30 30 30 30 2e 31 30 5a",
+        "18 11 32 30 32 30 30 31 30 31 30 30 30 30 30 30 2e 31 5a"),
+    ("18 11 32 30 32 30 30 31 30 31 30 30 30 30 30 30 2c 35 5a",
+        "18 11 32 30 32 30 30 31 30 31 30 30 30 30 30 30 2e 35 5a"),
 ];
 
 /// Octets, and what the typed readers of BER answer.

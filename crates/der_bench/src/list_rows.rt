@@ -8,7 +8,9 @@ use crate::rows::Trial;
 use der_parser::ber::Class::{ContextSpecific, Universal};
 use der_parser::ber::Length::{Definite, Indefinite};
 use der_parser::ber::Tag;
-use der_parser::error::DerConstraint::{Constructed, IndefiniteLength, InvalidBoolean, LengthNotMinimal};
+use der_parser::error::DerConstraint::{
+    Constructed, IndefiniteLength, InvalidBoolean, LengthNotMinimal,
+};
 use der_parser::error::Error::{
     BerMaxDepth, ConstructExpected, ConstructUnexpected, Incomplete as CutShort, InvalidLength,
     InvalidTag, UnexpectedTag,
@@ -144,9 +146,17 @@ pub fn try_rows(rt: &(impl Abort + AllocGlobal), trial: Trial) -> Result<(), Fai
 #[test]
 fn sequences_by_their_readers(rt: HostRuntime) -> Result<(), Fail> {
     expect_answers(&rt, Reader::ParseBerSequence, SEQUENCES_BY_BER)?;
-    expect_answers(&rt, Reader::ParseBerWithTag(Tag::Sequence), SEQUENCES_BY_BER)?;
+    expect_answers(
+        &rt,
+        Reader::ParseBerWithTag(Tag::Sequence),
+        SEQUENCES_BY_BER,
+    )?;
     expect_answers(&rt, Reader::ParseDerSequence, SEQUENCES_BY_DER)?;
-    expect_answers(&rt, Reader::ParseDerWithTag(Tag::Sequence), SEQUENCES_BY_DER)
+    expect_answers(
+        &rt,
+        Reader::ParseDerWithTag(Tag::Sequence),
+        SEQUENCES_BY_DER,
+    )
 }
 
 #[test]
@@ -175,7 +185,13 @@ fn typed_readers_keep_headers(rt: HostRuntime) -> Result<(), Fail> {
     expect_header(&rt, Reader::ParseBerSequence, "b0 02 05 00", &[0], &of_item)?;
     expect_header(&rt, Reader::ParseDerSequence, "b0 02 05 00", &[0], &of_item)?;
     let without_end = Parts(Universal, true, Tag::Set, Indefinite, "31");
-    expect_header(&rt, Reader::ParseBerSet, "31 80 05 00 00 00", &[], &without_end)?;
+    expect_header(
+        &rt,
+        Reader::ParseBerSet,
+        "31 80 05 00 00 00",
+        &[],
+        &without_end,
+    )?;
     let of_tag = Reader::ParseBerAnyWithTagR(Tag::Set, 2);
     expect_header(&rt, of_tag, "31 80 05 00 00 00", &[], &without_end)
 }

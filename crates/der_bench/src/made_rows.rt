@@ -111,7 +111,9 @@ fn elements_are_made(rt: HostRuntime) {
 
 #[test]
 fn bits_are_told(rt: HostRuntime) {
-    let bits = BitStringObject { bytes: b"\x0f\x00\x40" };
+    let bits = BitStringObject {
+        bytes: b"\x0f\x00\x40",
+    };
     for (place, is_set) in [(0, false), (7, true), (9, false), (17, true), (24, false)] {
         assert_eq!(rt; bits.is_set(place), is_set, "{place}");
     }

@@ -93,7 +93,8 @@ const TYPES: &[TypeRow] = &[
     TypeRow(Tag(23), "17 0d 32 30 30 31 30 31 30 30 30 30 30 30 5a", "17 81 0d 32 30 30 31 30 31 30 30 30 30 30 30 5a",
         Read(NewYear(Tag(23), 20, None, ASN1TimeZone::Z), "")),
     TypeRow(Tag(24), "18 0f 32 30 32 30 30 31 30 31 30 30 30 30 30 30 5a",
-        "18 81 0f 32 30 32 30 30 31 30 31 30 30 30 30 30 30 5a", Read(NewYear(Tag(24), 2020, None, ASN1TimeZone::Z), "")),
+        "18 81 0f 32 30 32 30 30 31 30 31 30 30 30 30 30 30 5a",
+        Read(NewYear(Tag(24), 2020, None, ASN1TimeZone::Z), "")),
     TypeRow(Tag(25), "19 01 31", "19 81 01 31", Read(Text(Tag(25), "1"), "")),
     TypeRow(Tag(26), "1a 01 31", "1a 81 01 31", Read(Text(Tag(26), "1"), "")),
     TypeRow(Tag(27), "1b 01 31", "1b 81 01 31", Read(Text(Tag(27), "1"), "")),
@@ -139,19 +140,27 @@ fn each_reader_reads_its_type(rt: HostRuntime) -> Result<(), Fail> {
         expect_answer(&rt, Reader::TypeByBer(*tag), "", long, answer)?;
         expect_answer(&rt, Reader::ParseBerWithTag(*tag), "", long, answer)?;
         expect_answer(&rt, Reader::TypeByDer(*tag), "", short, answer)?;
-        expect_answer(&rt, Reader::TypeByDer(*tag), "", long, &Broken(LengthNotMinimal))?;
+        expect_answer(
+            &rt,
+            Reader::TypeByDer(*tag),
+            "",
+            long,
+            &Broken(LengthNotMinimal),
+        )?;
         expect_answer(&rt, Reader::ParseDerWithTag(*tag), "", short, answer)?;
-        expect_answer(&rt, Reader::ParseDerWithTag(*tag), "", long, &Broken(LengthNotMinimal))?;
+        expect_answer(
+            &rt,
+            Reader::ParseDerWithTag(*tag),
+            "",
+            long,
+            &Broken(LengthNotMinimal),
+        )?;
     }
     Ok(())
 }
 
 /// The reader of a type refuses the elements of all other types.
-fn expect_refusals(
-    rt: &(impl Abort + AllocGlobal),
-    reader: Reader,
-    tag: Tag,
-) -> Result<(), Fail> {
+fn expect_refusals(rt: &(impl Abort + AllocGlobal), reader: Reader, tag: Tag) -> Result<(), Fail> {
     for TypeRow(actual, short, _, _) in TYPES {
         if *actual != tag {
             let refusal = UnexpectedTag {
@@ -253,7 +262,9 @@ fn under_der_result<'a>(answer: BerResult<'a>) -> DerResult<'a> {
 }
 
 /// An answer under the names of its parts, at the root and in `error`.
-fn under_longer_names<'a>(answer: BerResult<'a>) -> der_parser::IResult<&'a [u8], BerObject<'a>, BerError> {
+fn under_longer_names<'a>(
+    answer: BerResult<'a>,
+) -> der_parser::IResult<&'a [u8], BerObject<'a>, BerError> {
     let same: der_parser::error::IResult<&'a [u8], BerObject<'a>, Error> = answer;
     same
 }

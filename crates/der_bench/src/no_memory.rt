@@ -13,8 +13,8 @@ use der_parser::der::{
     der_read_element_content, der_read_element_header, parse_der_content, parse_der_counted,
     parse_der_recursive,
 };
-use der_parser::error::Error::{BerMaxDepth, ConstructExpected};
 use der_parser::error::Err::Error;
+use der_parser::error::Error::{BerMaxDepth, ConstructExpected};
 use der_parser::error::{BerError, BerResult, IResult};
 use der_parser::oid::Oid;
 use der_parser::{parse_ber, parse_der};
@@ -157,7 +157,12 @@ fn no_memory_for_headers_and_elements(rt: HostRuntime) {
         );
     }
     assert!(rt; Any::from_der(b"\x30\x02\x05\x00").is_ok());
-    assert!(rt; Any::from_tag_and_data(Tag::Sequence, b"\x05\x00").bytes.len() == 2);
+    assert!(rt;
+        Any::from_tag_and_data(Tag::Sequence, b"\x05\x00")
+            .bytes
+            .len()
+            == 2
+    );
 }
 
 /// What a container's parser is given, as it is.
@@ -171,9 +176,13 @@ fn no_memory_for_containers(rt: HostRuntime) {
     let set = b"\x31\x80\x30\x80\x00\x00\x00\x00";
     let of_any = parse_ber_container(|content, header| whole(content, header)).parse(sequence);
     assert!(rt; matches!(&of_any, Ok((b"", Tag::Sequence))), "{of_any:?}");
-    let of_sequence =
-        parse_ber_sequence_defined_g(|content, header| whole(content, header)).parse(sequence);
-    assert!(rt; matches!(&of_sequence, Ok((b"", Tag::Sequence))), "{of_sequence:?}");
+    let of_sequence = parse_ber_sequence_defined_g(|content, header| whole(content, header)).parse(
+        sequence,
+    );
+    assert!(rt;
+        matches!(&of_sequence, Ok((b"", Tag::Sequence))),
+        "{of_sequence:?}"
+    );
     let of_set = parse_ber_set_defined_g(|content, header| whole(content, header)).parse(set);
     assert!(rt; matches!(&of_set, Ok((b"", Tag::Set))), "{of_set:?}");
     let slice = parse_ber_slice(b"\x22\x80\x02\x01\x01\x00\x00", Tag(2));
@@ -200,6 +209,8 @@ fn no_memory_for_made_objects(rt: HostRuntime) {
     let nothing = BerObject::from_set(Vec::new(rt.alloc()));
     assert!(rt; nothing.header.tag() == Tag::Set);
     let oid = BerObject::from(Oid::new(CowSlice::Borrowed(b"\x2a")));
-    assert!(rt; oid == BerObject::from_obj(BerObjectContent::OID(Oid::new(CowSlice::Borrowed(b"\x2a")))));
+    assert!(rt;
+        oid == BerObject::from_obj(BerObjectContent::OID(Oid::new(CowSlice::Borrowed(b"\x2a"))))
+    );
     assert!(rt; BitStringObject { bytes: b"\x0f" }.is_set(7));
 }

@@ -2,8 +2,10 @@
 //! no memory but that of the calls. `tools/refused-growths` runs them with a growth refused: those
 //! that begin with `wants_memory` then end in OutOfMemory where it is the first, the others pass.
 use crate::reading::Reader;
-use crate::reading::Reader::{ParseBer, ParseBerAnyWithTagR, ParseBerSequence, ParseBerSet};
-use crate::reading::Reader::{ParseDer, ParseDerSequence, ParseDerSet};
+use crate::reading::Reader::{
+    ParseBer, ParseBerAnyWithTagR, ParseBerSequence, ParseBerSet, ParseDer, ParseDerSequence,
+    ParseDerSet,
+};
 use der_parser::ber::{BerObject, Tag, parse_ber_any_with_tag_r};
 use der_parser::error::{Err as Refused, GenError};
 use der_parser::oid::{Oid, OidParseError};

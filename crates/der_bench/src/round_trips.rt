@@ -2,8 +2,10 @@
 use crate::octets::octets;
 use crate::reading::Reader::{ParseBerRecursive, ParseDerRecursive};
 use crate::rows::Trial::RoundTrip;
-use crate::{any_rows, ber_rows, container_rows, count_rows, der_rows, header_rows, leaf_rows};
-use crate::{content_rows, list_rows, name_rows};
+use crate::{
+    any_rows, ber_rows, container_rows, content_rows, count_rows, der_rows, header_rows, leaf_rows,
+    list_rows, name_rows,
+};
 use der_parser::error::GenError;
 use std::alloc::Global;
 use std::process::Abort;

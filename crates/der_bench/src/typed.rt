@@ -4,16 +4,18 @@ use der_parser::ber::{
     parse_ber_enum, parse_ber_generalizedtime, parse_ber_generalstring, parse_ber_graphicstring,
     parse_ber_ia5string, parse_ber_integer, parse_ber_null, parse_ber_numericstring,
     parse_ber_objectdescriptor, parse_ber_octetstring, parse_ber_oid, parse_ber_printablestring,
-    parse_ber_relative_oid, parse_ber_sequence, parse_ber_set, parse_ber_t61string, parse_ber_universalstring, parse_ber_utctime,
-    parse_ber_utf8string, parse_ber_videotexstring, parse_ber_visiblestring,
+    parse_ber_relative_oid, parse_ber_sequence, parse_ber_set, parse_ber_t61string,
+    parse_ber_universalstring, parse_ber_utctime, parse_ber_utf8string, parse_ber_videotexstring,
+    parse_ber_visiblestring,
 };
 use der_parser::der::{
     parse_der_bitstring, parse_der_bmpstring, parse_der_bool, parse_der_endofcontent,
     parse_der_enum, parse_der_generalizedtime, parse_der_generalstring, parse_der_graphicstring,
     parse_der_ia5string, parse_der_integer, parse_der_null, parse_der_numericstring,
     parse_der_objectdescriptor, parse_der_octetstring, parse_der_oid, parse_der_printablestring,
-    parse_der_relative_oid, parse_der_sequence, parse_der_set, parse_der_t61string, parse_der_universalstring, parse_der_utctime,
-    parse_der_utf8string, parse_der_videotexstring, parse_der_visiblestring,
+    parse_der_relative_oid, parse_der_sequence, parse_der_set, parse_der_t61string,
+    parse_der_universalstring, parse_der_utctime, parse_der_utf8string, parse_der_videotexstring,
+    parse_der_visiblestring,
 };
 use der_parser::error::BerResult;
 use der_parser::{parse_ber, parse_der};
