@@ -1,5 +1,6 @@
 -- Items that are read one after another, and the elements around them.
-use Rattle.std.proofs.Common.{◌≡◌, ◌≢◌, ℕ, zero, suc, ◌-◌, ◌≤◌, Bool, true, false, IsTrue, List, [], ◌∷◌, ◌++◌, length, refl, sym, ap, subst, ◌∙◌, arith, append_assoc, inl, inr, All}
+use Rattle.std.proofs.Common.{◌≡◌, ◌≢◌, ℕ, zero, suc, ◌-◌, ◌≤◌, Bool, true, false, IsTrue, List, [], ◌∷◌, ◌++◌, length}
+use Rattle.std.proofs.Common.{refl, sym, ap, subst, ◌∙◌, arith, append_assoc, inl, inr, All}
 use Rattle.std.proofs.lemmas.List.Elements.{All-nil}
 use Rattle.std.proofs.lemmas.List.{append-nil}
 use Rattle.der_base.specs.declared.header.Class.{Class}
@@ -32,7 +33,8 @@ use Rattle.der_object.specs.declared.object.BerObjectContent.TheVariants.{Sequen
 use Rattle.der_object.specs.HeaderFacts.{forms_of, inner_forms, HasRawTagAndHeader, EachHasRawTagAndHeader}
 use Rattle.der_object.specs.View.{node_of, content_tree, trees}
 use Rattle.der_object.proofs.Joins.{joins_push}
-use Rattle.der_object.proofs.HeaderFacts.{sequence_each, set_each, sequence_forms, set_forms, leaf_forms, leaf_each, leaf_keeps, each_push}
+use Rattle.der_object.proofs.HeaderFacts.{sequence_each, set_each, sequence_forms, set_forms, leaf_forms, leaf_each}
+use Rattle.der_object.proofs.HeaderFacts.{leaf_keeps, each_push}
 use Rattle.der_object.proofs.Trees.{sequence_tree, set_tree}
 use Rattle.der_base.specs.Stable.{BerIsCut}
 use Rattle.der_ber.specs.BerReading.{ReadsBer, NeedsMemory, ContentRefuses}
@@ -48,7 +50,8 @@ pub record Read (w rest : List ℕ) (os : List BerObject) (d : ℕ) : Type 0 whe
 pub read_none : (w : List ℕ) (d : ℕ) → Read w w [] d
 read_none w d = record { read = []; parts = refl; joins = refl; headers = All-nil EachHasRawTagAndHeader }
 
-pub read_more : (w rest after : List ℕ) (os : List BerObject) (o : BerObject) (d : ℕ) → Read w rest os d → ReadsBer d rest o after → Read w after (os ++ o ∷ []) d
+pub read_more : (w rest after : List ℕ) (os : List BerObject) (o : BerObject) (d : ℕ) → Read w rest os d
+    → ReadsBer d rest o after → Read w after (os ++ o ∷ []) d
 read_more w rest after os o d h k = record {
   read = h.read ++ k.spelling;
   parts = h.parts ∙ ap (λ v. h.read ++ v) k.octets ∙ sym (append_assoc h.read k.spelling after);
@@ -57,42 +60,55 @@ read_more w rest after os o d h k = record {
 }
 
 pub read_all : (w rest : List ℕ) (os : List BerObject) (d : ℕ) → Read w rest os d → length rest ≡ 0 → AreItems w os d
-read_all w [] os d h z = record { joins = subst (λ v. Joins v (trees os) (forms_of os) d framing_budget) (sym (h.parts ∙ append-nil h.read)) h.joins; headers = h.headers }
+read_all w [] os d h z = record {
+  joins = subst (λ v. Joins v (trees os) (forms_of os) d framing_budget)
+      (sym (h.parts ∙ append-nil h.read)) h.joins;
+  headers = h.headers;
+}
 read_all w (b ∷ rest) os d h z = absurd (omega arith)
 
 -- contents
 
-pub sequence_content : (w : List ℕ) (h : Header) (v : Vec BerObject Global) (d : ℕ) → class_of h ≡ Universal → is_constructed h ≡ true → number_of h ≡ 16 → AreItems w v.items (d - 1) → IsContentOf w h (Sequence v) d
+pub sequence_content : (w : List ℕ) (h : Header) (v : Vec BerObject Global) (d : ℕ) → class_of h ≡ Universal
+    → is_constructed h ≡ true → number_of h ≡ 16 → AreItems w v.items (d - 1) → IsContentOf w h (Sequence v) d
 sequence_content w h v d ec ep et j =
     let q = joins_now (trees v.items) w (forms_of v.items) (d - 1) framing_budget (omega arith) j.joins in record {
-      content = subst (λ x. HasContent w (class_of h) (is_constructed h) (number_of h) x (inner_forms (Sequence v)) d) (sym (sequence_tree v))
-          (subst (λ fs. HasContent w (class_of h) (is_constructed h) (number_of h) (sequence (trees v.items)) fs d) (sym (sequence_forms v)) (ec, et, ep, q));
+      content = subst (λ x. HasContent w (class_of h) (is_constructed h) (number_of h) x (inner_forms (Sequence v)) d)
+          (sym (sequence_tree v))
+          (subst (λ fs. HasContent w (class_of h) (is_constructed h) (number_of h) (sequence (trees v.items)) fs d)
+          (sym (sequence_forms v)) (ec, et, ep, q));
       kept = tt;
       headers = sequence_each HasRawTagAndHeader v j.headers;
     }
 
-pub set_content : (w : List ℕ) (h : Header) (v : Vec BerObject Global) (d : ℕ) → class_of h ≡ Universal → is_constructed h ≡ true → number_of h ≡ 17 → AreItems w v.items (d - 1) → IsContentOf w h (Set v) d
+pub set_content : (w : List ℕ) (h : Header) (v : Vec BerObject Global) (d : ℕ) → class_of h ≡ Universal
+    → is_constructed h ≡ true → number_of h ≡ 17 → AreItems w v.items (d - 1) → IsContentOf w h (Set v) d
 set_content w h v d ec ep et j =
     let q = joins_now (trees v.items) w (forms_of v.items) (d - 1) framing_budget (omega arith) j.joins in record {
-      content = subst (λ x. HasContent w (class_of h) (is_constructed h) (number_of h) x (inner_forms (Set v)) d) (sym (set_tree v))
-          (subst (λ fs. HasContent w (class_of h) (is_constructed h) (number_of h) (set (trees v.items)) fs d) (sym (set_forms v)) (ec, et, ep, q));
+      content = subst (λ x. HasContent w (class_of h) (is_constructed h) (number_of h) x (inner_forms (Set v)) d)
+          (sym (set_tree v))
+          (subst (λ fs. HasContent w (class_of h) (is_constructed h) (number_of h) (set (trees v.items)) fs d)
+          (sym (set_forms v)) (ec, et, ep, q));
       kept = tt;
       headers = set_each HasRawTagAndHeader v j.headers;
     }
 
-pub raw_content : (w : List ℕ) (h : Header) (a : Any) (d : ℕ) → a.header ≡ h → a.bytes.now ≡ w → (class_of h ≡ Universal → is_mapped (number_of h) ≡ false) → IsContentOf w h (Unknown a) d
+pub raw_content : (w : List ℕ) (h : Header) (a : Any) (d : ℕ) → a.header ≡ h → a.bytes.now ≡ w
+    → (class_of h ≡ Universal → is_mapped (number_of h) ≡ false) → IsContentOf w h (Unknown a) d
 raw_content w h a d q e k = record {
   content = (refl, inr (ap class_of q, ap is_constructed q, ap number_of q, e, k));
   kept = q;
   headers = tt;
 }
 
-pub leaf_has : (w : List ℕ) (c : Class) (p : Bool) (t : ℕ) (x : Content) (fs : Forms) (d : ℕ) → c ≡ Universal → fs ≡ no_forms → IsLeafContent p t w x → HasContent w c p t x fs d
+pub leaf_has : (w : List ℕ) (c : Class) (p : Bool) (t : ℕ) (x : Content) (fs : Forms) (d : ℕ) → c ≡ Universal
+    → fs ≡ no_forms → IsLeafContent p t w x → HasContent w c p t x fs d
 leaf_has w c p t (sequence l) fs d u f k = absurd k
 leaf_has w c p t (set l) fs d u f k = absurd k
 leaf_has w c p t _ fs d u f k = (f, inl (u, k))
 
-pub leaf_content : (w : List ℕ) (h : Header) (x : BerObjectContent) (d : ℕ) → class_of h ≡ Universal → IsLeafContent (is_constructed h) (number_of h) w (content_tree x) → IsContentOf w h x d
+pub leaf_content : (w : List ℕ) (h : Header) (x : BerObjectContent) (d : ℕ) → class_of h ≡ Universal
+    → IsLeafContent (is_constructed h) (number_of h) w (content_tree x) → IsContentOf w h x d
 leaf_content w h x d u r =
     let p = is_constructed h in
     let t = number_of h in record {
@@ -102,25 +118,36 @@ leaf_content w h x d u r =
     }
 
 -- a header and its content are an element
-pub begins_behind : (i behind w rest : List ℕ) (h : Header) → ReadsHeader i h behind → BeginsWithContent behind (length_of h) framing_budget w rest → BeginsWithElement i framing_budget (class_of h) (is_constructed h) (number_of h) w rest
+pub begins_behind : (i behind w rest : List ℕ) (h : Header) → ReadsHeader i h behind
+    → BeginsWithContent behind (length_of h) framing_budget w rest
+    → BeginsWithElement i framing_budget (class_of h) (is_constructed h) (number_of h) w rest
 begins_behind i behind w rest h r f =
-    let e = element_from i behind w rest framing_budget (class_of h) (is_constructed h) (number_of h) (length_of h) (omega arith) r.begins f in
-    subst (λ v. BeginsWithElement v framing_budget (class_of h) (is_constructed h) (number_of h) w rest) (sym e.2) (framed_begins rest e.1)
+    let e = element_from i behind w rest framing_budget (class_of h) (is_constructed h) (number_of h) (length_of h)
+    (omega arith) r.begins f in
+    subst (λ v. BeginsWithElement v framing_budget (class_of h) (is_constructed h) (number_of h) w rest) (sym e.2)
+    (framed_begins rest e.1)
 
-element_read : (i behind w rest : List ℕ) (h : Header) (x : BerObjectContent) (d : ℕ) → ReadsHeader i h behind → BeginsWithContent behind (length_of h) framing_budget w rest → 1 ≤ d → IsContentOf w h x d → ReadsBer d i (record { header = h; content = x }) rest
+element_read : (i behind w rest : List ℕ) (h : Header) (x : BerObjectContent) (d : ℕ) → ReadsHeader i h behind
+    → BeginsWithContent behind (length_of h) framing_budget w rest → 1 ≤ d → IsContentOf w h x d
+    → ReadsBer d i (record { header = h; content = x }) rest
 element_read i behind w rest h x d r f deep k =
-    let e = element_from i behind w rest framing_budget (class_of h) (is_constructed h) (number_of h) (length_of h) (omega arith) r.begins f in
+    let e = element_from i behind w rest framing_budget (class_of h) (is_constructed h) (number_of h) (length_of h)
+    (omega arith) r.begins f in
     record {
       spelling = e.0;
       octets = e.2;
-      spells = spells_then (node_of h (content_tree x)) e.0 (form (length_of h) (inner_forms x)) d framing_budget (deep, w, e.1, k.content) (w, e.1);
+      spells = spells_then (node_of h (content_tree x)) e.0 (form (length_of h) (inner_forms x)) d framing_budget
+          (deep, w, e.1, k.content) (w, e.1);
       headers = (record { raw_tag = r.raw_tag; kept = k.kept }, k.headers);
     }
 
 -- an object that has this header and content
-pub object_read : (i behind w rest r : List ℕ) (h : Header) (o : BerObject) (d : ℕ) → ReadsHeader i h behind → BeginsWithContent behind (length_of h) framing_budget w rest → 1 ≤ d → (r ≡ rest) × (o.header ≡ h) × IsContentOf w h o.content d → ReadsBer d i o r
+pub object_read : (i behind w rest r : List ℕ) (h : Header) (o : BerObject) (d : ℕ) → ReadsHeader i h behind
+    → BeginsWithContent behind (length_of h) framing_budget w rest → 1 ≤ d → (r ≡ rest) × (o.header ≡ h)
+    × IsContentOf w h o.content d → ReadsBer d i o r
 object_read i behind w rest r h o d q f deep (er, eh, k) =
-    subst (ReadsBer d i o) (sym er) (subst (λ y. ReadsBer d i (record { header = y; content = o.content }) rest) (sym eh) (element_read i behind w rest h o.content d q f deep k))
+    subst (ReadsBer d i o) (sym er) (subst (λ y. ReadsBer d i (record { header = y; content = o.content }) rest)
+    (sym eh) (element_read i behind w rest h o.content d q f deep k))
 
 -- refusals and cuts of an element, at a depth of at least 1
 pub any_refused : (d : ℕ) (i : List ℕ) (e : Refusal) → 1 ≤ d → AnyRefuses i e → ShowsFault d i e
@@ -132,38 +159,77 @@ any_cut zero i n h l = absurd (omega arith)
 any_cut (suc d) i n h l = (l.0, l.1, λ e r. cut_shows_nothing d i n e l r)
 
 -- a refusal of the content
-pub content_refused : (d : ℕ) (i rest w : List ℕ) (c : Class) (p : Bool) (t : ℕ) (e : Refusal) → 1 ≤ d → BeginsWithElement i framing_budget c p t w rest → ContentRefuses c p t w d e → ShowsFault d i e
+pub content_refused : (d : ℕ) (i rest w : List ℕ) (c : Class) (p : Bool) (t : ℕ) (e : Refusal) → 1 ≤ d
+    → BeginsWithElement i framing_budget c p t w rest → ContentRefuses c p t w d e → ShowsFault d i e
 content_refused zero i rest w c p t e h b r = absurd (omega arith)
 content_refused (suc d) i rest w c p t e h b (u, m, q) =
     let k : suc d - 1 ≡ d = omega arith in
     content_shows d i rest w c p t e b u m (rw k at q)
 
-pub content_memory : (d : ℕ) (i rest w : List ℕ) (c : Class) (p : Bool) (t : ℕ) → BeginsWithElement i framing_budget c p t w rest
+pub content_memory : (d : ℕ) (i rest w : List ℕ) (c : Class) (p : Bool) (t : ℕ)
+    → BeginsWithElement i framing_budget c p t w rest
     → (2 ≤ d) × (c ≡ Universal) × (p ≡ true) × IsTrue (is_list t) × (w ≢ []) → NeedsMemory d i
-content_memory d i rest w c p t b (deep, u, q, k, some) = inl (deep, (t, (w, rest, k, some, subst (λ k. BeginsWithElement i framing_budget Universal k t w rest) q (subst (λ k. BeginsWithElement i framing_budget k p t w rest) u b))))
+content_memory d i rest w c p t b (deep, u, q, k, some) =
+    inl (
+      deep,
+      (
+        t,
+        w,
+        rest,
+        k,
+        some,
+        subst (λ k. BeginsWithElement i framing_budget Universal k t w rest) q
+            (subst (λ k. BeginsWithElement i framing_budget k p t w rest) u b),
+      ),
+    )
 
 -- refusals and cuts behind a header, at a depth of at least 1
 
-pub framing_refused : (d : ℕ) (i behind : List ℕ) (h : Header) (e : Refusal) → 1 ≤ d → ReadsHeader i h behind → FramingRefuses behind (length_of h) framing_budget e → ShowsFault d i e
-framing_refused d i behind h e deep q r = any_refused d i e deep (framing.any_refused i behind (class_of h) (is_constructed h) (number_of h) (length_of h) e q.begins r)
+pub framing_refused : (d : ℕ) (i behind : List ℕ) (h : Header) (e : Refusal) → 1 ≤ d → ReadsHeader i h behind
+    → FramingRefuses behind (length_of h) framing_budget e → ShowsFault d i e
+framing_refused d i behind h e deep q r = any_refused d i e deep
+    (framing.any_refused i behind (class_of h) (is_constructed h) (number_of h) (length_of h) e q.begins r)
 
-pub framing_cut : (d : ℕ) (i behind : List ℕ) (h : Header) (n : ℕ) → 1 ≤ d → ReadsHeader i h behind → ContentLacks behind (length_of h) framing_budget n → BerIsCut d i n
-framing_cut d i behind h n deep q l = any_cut d i n deep (any_lacks_content i behind (class_of h) (is_constructed h) (number_of h) (length_of h) n q.begins l)
+pub framing_cut : (d : ℕ) (i behind : List ℕ) (h : Header) (n : ℕ) → 1 ≤ d → ReadsHeader i h behind
+    → ContentLacks behind (length_of h) framing_budget n → BerIsCut d i n
+framing_cut d i behind h n deep q l = any_cut d i n deep
+    (any_lacks_content i behind (class_of h) (is_constructed h) (number_of h) (length_of h) n q.begins l)
 
-pub behind_refused : (d : ℕ) (i behind : List ℕ) (h : Header) (e : Refusal) → 1 ≤ d → ReadsHeader i h behind → BehindRefuses h framing_budget d behind e → ShowsFault d i e
+pub behind_refused : (d : ℕ) (i behind : List ℕ) (h : Header) (e : Refusal) → 1 ≤ d → ReadsHeader i h behind
+    → BehindRefuses h framing_budget d behind e → ShowsFault d i e
 behind_refused d i behind h e deep q (inl r) = framing_refused d i behind h e deep q r
-behind_refused d i behind h e deep q (inr (w, rest, f, r)) = content_refused d i rest w (class_of h) (is_constructed h) (number_of h) e deep (begins_behind i behind w rest h q f) r
+behind_refused d i behind h e deep q (inr (w, rest, f, r)) =
+    content_refused d i rest w (class_of h) (is_constructed h) (number_of h) e deep
+    (begins_behind i behind w rest h q f) r
 
-open_memory : (d : ℕ) (i behind : List ℕ) (h : Header) (l : Length) → 1 ≤ d → l ≡ Indefinite → BeginsWithHeader i (class_of h) (is_constructed h) (number_of h) l behind → NeedsMemory d i
+open_memory : (d : ℕ) (i behind : List ℕ) (h : Header) (l : Length) → 1 ≤ d → l ≡ Indefinite
+    → BeginsWithHeader i (class_of h) (is_constructed h) (number_of h) l behind → NeedsMemory d i
 open_memory d i behind h (Definite n) deep e b = absurd (cc)
 open_memory d i behind h Indefinite deep e b =
-    inr (deep, (class_of h, number_of h, behind, subst (λ p. BeginsWithHeader i (class_of h) p (number_of h) Indefinite behind) b.length.0 b))
+    inr (
+      deep,
+      (
+        class_of h,
+        number_of h,
+        behind,
+        subst (λ p. BeginsWithHeader i (class_of h) p (number_of h) Indefinite behind) b.length.0 b,
+      ),
+    )
 
-pub recording_memory : (d : ℕ) (i behind : List ℕ) (h : Header) → 1 ≤ d → ReadsHeader i h behind → length_of h ≡ Indefinite → NeedsMemory d i
+pub recording_memory : (d : ℕ) (i behind : List ℕ) (h : Header) → 1 ≤ d → ReadsHeader i h behind
+    → length_of h ≡ Indefinite → NeedsMemory d i
 recording_memory d i behind h deep q e = open_memory d i behind h (length_of h) deep e q.begins
 
-pub behind_memory : (d : ℕ) (i behind : List ℕ) (h : Header) → 1 ≤ d → ReadsHeader i h behind → BehindNeedsMemory h framing_budget d behind → NeedsMemory d i
-behind_memory d i behind h deep q (inl (two, u, p, k, w, rest, some, f)) = content_memory d i rest w (class_of h) (is_constructed h) (number_of h) (begins_behind i behind w rest h q f) (two, u, p, k, some)
+pub behind_memory : (d : ℕ) (i behind : List ℕ) (h : Header) → 1 ≤ d → ReadsHeader i h behind
+    → BehindNeedsMemory h framing_budget d behind → NeedsMemory d i
+behind_memory d i behind h deep q (inl (two, u, p, k, w, rest, some, f)) =
+    content_memory d i rest w (class_of h) (is_constructed h) (number_of h) (begins_behind i behind w rest h q f) (
+      two,
+      u,
+      p,
+      k,
+      some,
+    )
 behind_memory d i behind h deep q (inr e) = recording_memory d i behind h deep q e
 
 -- memory is wanted at a depth of at least 1

@@ -1,5 +1,6 @@
 -- Spans that are recorded of elements.
-use Rattle.std.proofs.Common.{◌≡◌, ℕ, ◌+◌, ◌-◌, ◌≤◌, List, [], ◌∷◌, ◌++◌, length, refl, sym, ap, subst, ◌∙◌, arith, append_assoc, append-nil}
+use Rattle.std.proofs.Common.{◌≡◌, ℕ, ◌+◌, ◌-◌, ◌≤◌, List, [], ◌∷◌, ◌++◌, length, refl, sym, ap, subst, ◌∙◌, arith}
+use Rattle.std.proofs.Common.{append_assoc, append-nil}
 use Rattle.der_base.specs.declared.header.Header.{Header}
 use Rattle.der_base.specs.declared.header.Length.{Length}
 use Rattle.der_base.specs.declared.header.Length.TheVariants.{Definite, Indefinite}
@@ -8,7 +9,8 @@ use Rattle.der_base.specs.Content.{BeginsWithContent}
 use Rattle.der_base.specs.Inner.Framed.{AreElements, no_elements, elements}
 use Rattle.der_base.specs.Header.{class_of, is_constructed, number_of, length_of}
 use Rattle.der_base.specs.Headers.{ReadsHeader}
-use Rattle.der_base.specs.Inner.Spans.{IsSpan, AreSpans, no_spans, closed_span, open_span, AreInside, RecordsElement, span_octets}
+use Rattle.der_base.specs.Inner.Spans.{IsSpan, AreSpans, no_spans, closed_span, open_span, AreInside, RecordsElement}
+use Rattle.der_base.specs.Inner.Spans.{span_octets}
 use Rattle.der_base.specs.Spelling.{end_marker}
 use Rattle.der_base.proofs.Framing.Framed.{element_more}
 use Rattle.der_base.proofs.Framing.FramingLists.{element_from}
@@ -18,23 +20,31 @@ use Rattle.der_base.proofs.Framing.RawLists.{tail_more}
 pub spans_are_elements : {ss : List Span} {w : List ℕ} {k : ℕ} → AreSpans ss w k → AreElements w k
 spans_are_elements no_spans = no_elements
 spans_are_elements (closed_span s n after b rest is l z r q d) = elements is.element is.other (spans_are_elements r) d
-spans_are_elements (open_span s inside after b rest is l z v r q d) = elements is.element is.other (spans_are_elements r) d
+spans_are_elements (open_span s inside after b rest is l z v r q d) =
+    elements is.element is.other (spans_are_elements r) d
 
 -- spans behind spans
-pub spans_append : {ss ts : List Span} {u x : List ℕ} {k : ℕ} → AreSpans ss u k → AreSpans ts x k → AreSpans (ss ++ ts) (u ++ x) k
+pub spans_append : {ss ts : List Span} {u x : List ℕ} {k : ℕ} → AreSpans ss u k → AreSpans ts x k
+    → AreSpans (ss ++ ts) (u ++ x) k
 spans_append no_spans h = h
 spans_append {ts = ts} {u = u} {x = x} (closed_span s n after b rest is l z r q d) h =
     closed_span s n (after ++ ts) b (rest ++ x) is l z (spans_append r h) (ap (λ v. v ++ ts) q) (tail_more b rest u x d)
 spans_append {ts = ts} {u = u} {x = x} (open_span s inside after b rest is l z v r q d) h =
-    open_span s inside (after ++ ts) b (rest ++ x) is l z v (spans_append r h) (ap (λ v. v ++ ts) q ∙ append_assoc (s ∷ inside) after ts) (tail_more b rest u x d)
+    open_span s inside (after ++ ts) b (rest ++ x) is l z v (spans_append r h)
+    (ap (λ v. v ++ ts) q ∙ append_assoc (s ∷ inside) after ts) (tail_more b rest u x d)
 
 -- the spans of one element
-one_span : (s : Span) (inside : List Span) (b : List ℕ) (k : ℕ) (l : Length) → length_of s.element.header ≡ l → IsSpan s b k → s.inside ≡ length inside → AreInside l inside s.element.bytes.now (k - 1) → AreSpans (s ∷ inside) b k
-one_span s inside b k (Definite n) e is z r = closed_span s n [] b [] is e (z ∙ ap length r) no_spans (ap (λ v. s ∷ v) r) (sym (append-nil b))
-one_span s inside b k Indefinite e is z r = open_span s inside [] b [] is e z r no_spans (sym (append-nil (s ∷ inside))) (sym (append-nil b))
+one_span : (s : Span) (inside : List Span) (b : List ℕ) (k : ℕ) (l : Length) → length_of s.element.header ≡ l
+    → IsSpan s b k → s.inside ≡ length inside → AreInside l inside s.element.bytes.now (k - 1)
+    → AreSpans (s ∷ inside) b k
+one_span s inside b k (Definite n) e is z r =
+    closed_span s n [] b [] is e (z ∙ ap length r) no_spans (ap (λ v. s ∷ v) r) (sym (append-nil b))
+one_span s inside b k Indefinite e is z r = open_span s inside [] b [] is e z r no_spans
+    (sym (append-nil (s ∷ inside))) (sym (append-nil b))
 
 -- one more element behind those that were recorded
-pub one_more_span : (i rest behind after u : List ℕ) (ss added : List Span) (k : ℕ) (h : Header) → 1 ≤ k → AreSpans ss u k → i ≡ u ++ rest → ReadsHeader rest h behind → RecordsElement h behind k added after
+pub one_more_span : (i rest behind after u : List ℕ) (ss added : List Span) (k : ℕ) (h : Header) → 1 ≤ k
+    → AreSpans ss u k → i ≡ u ++ rest → ReadsHeader rest h behind → RecordsElement h behind k added after
     → ((x : List ℕ) → ¬ (rest ≡ end_marker ++ x)) → (u' : List ℕ) × AreSpans (ss ++ added) u' k × (i ≡ u' ++ after)
 one_more_span i rest behind after u ss added k h h1 hu e g r n =
     let s = r.span in
@@ -44,10 +54,18 @@ one_more_span i rest behind after u ss added k h h1 hu e g r n =
     let head = subst (λ y. ReadsHeader rest y behind) eh g in
     let content = subst (λ y. BeginsWithContent behind (length_of y) k w after) eh r.content in
     let recorded = subst (λ y. AreInside (length_of y) r.inside w (k - 1)) eh r.recorded in
-    let b = element_from rest behind w after k (class_of x) (is_constructed x) (number_of x) (length_of x) h1 head.begins content in
-    let is : IsSpan s b.0 k = record { element = b.1; raw_tag = head.raw_tag; other = λ z. n after (b.2 ∙ ap (λ v. v ++ after) z) } in
-    let one = one_span s r.inside b.0 k (length_of x) refl is r.number recorded in
-    (u ++ b.0, subst (λ v. AreSpans (ss ++ v) (u ++ b.0) k) (sym r.spans) (spans_append hu one), e ∙ ap (λ v. u ++ v) b.2 ∙ sym (append_assoc u b.0 after))
+    let b = element_from rest behind w after k (class_of x) (is_constructed x) (number_of x)
+    (length_of x) h1 head.begins content in
+    let is : IsSpan s b.0 k = record {
+      element = b.1;
+      raw_tag = head.raw_tag;
+      other = λ z. n after (b.2 ∙ ap (λ v. v ++ after) z);
+    } in
+    let one = one_span s r.inside b.0 k (length_of x) refl is r.number recorded in (
+      u ++ b.0,
+      subst (λ v. AreSpans (ss ++ v) (u ++ b.0) k) (sym r.spans) (spans_append hu one),
+      e ∙ ap (λ v. u ++ v) b.2 ∙ sym (append_assoc u b.0 after),
+    )
 
 -- octets
 
@@ -60,11 +78,20 @@ span_octets_append (s ∷ ss) ts = omega (arith, span_octets_append ss ts)
 pub spans_more : {ss : List Span} {w : List ℕ} {k : ℕ} (m : ℕ) → k ≤ m → AreSpans ss w k → AreSpans ss w m
 spans_more m le no_spans = no_spans
 spans_more m le (closed_span s n after b rest is l z r q d) =
-    closed_span s n after b rest (record { element = element_more m le is.element; raw_tag = is.raw_tag; other = is.other }) l z (spans_more m le r) q d
+    closed_span s n after b rest (record {
+      element = element_more m le is.element;
+      raw_tag = is.raw_tag;
+      other = is.other;
+    }) l z (spans_more m le r) q d
 spans_more m le (open_span s inside after b rest is l z v r q d) =
-    open_span s inside after b rest (record { element = element_more m le is.element; raw_tag = is.raw_tag; other = is.other }) l z (spans_more (m - 1) (omega (arith, le)) v) (spans_more m le r) q d
+    open_span s inside after b rest (record {
+      element = element_more m le is.element;
+      raw_tag = is.raw_tag;
+      other = is.other;
+    }) l z (spans_more (m - 1) (omega (arith, le)) v) (spans_more m le r) q d
 
-pub inside_more : {k : ℕ} (l : Length) (ss : List Span) (w : List ℕ) (m : ℕ) → k ≤ m → AreInside l ss w k → AreInside l ss w m
+pub inside_more : {k : ℕ} (l : Length) (ss : List Span) (w : List ℕ) (m : ℕ) → k ≤ m → AreInside l ss w k
+    → AreInside l ss w m
 inside_more (Definite n) ss w m le r = r
 inside_more Indefinite ss w m le r = spans_more m le r
 
@@ -84,7 +111,8 @@ pub record FirstSpan (s : Span) (more : List Span) (w : List ℕ) (k : ℕ) : Ty
 cons_same : {x y : Span} {xs ys : List Span} → x ∷ xs ≡ y ∷ ys → (x ≡ y) × (xs ≡ ys)
 cons_same e = (cc, cc)
 
-pub first_span : {ts : List Span} {w : List ℕ} {k : ℕ} (s : Span) (more : List Span) → ts ≡ s ∷ more → AreSpans ts w k → FirstSpan s more w k
+pub first_span : {ts : List Span} {w : List ℕ} {k : ℕ} (s : Span) (more : List Span) → ts ≡ s ∷ more → AreSpans ts w k
+    → FirstSpan s more w k
 first_span s more e no_spans = absurd (cc)
 first_span {k = k} s more e (closed_span x n after b rest is l z r q d) =
     let same = cons_same (sym q ∙ e) in

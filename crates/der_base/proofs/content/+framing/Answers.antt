@@ -1,4 +1,5 @@
-use Rattle.std.proofs.Common.{◌≡◌, ◌++◌, ◌-◌, List, ℕ, [], length, length-append, take, refl, sym, ap, subst, ◌∙◌, arith, append_assoc}
+use Rattle.std.proofs.Common.{◌≡◌, ◌++◌, ◌-◌, List, ℕ, [], length, length-append, take, refl, sym, ap, subst, ◌∙◌}
+use Rattle.std.proofs.Common.{arith, append_assoc}
 use Rattle.std.proofs.lemmas.List.{take_at}
 use Rattle.std.proofs.lemmas.Result.{err_from_is_err_and}
 use Rattle.der_base.specs.Fault.{HasHeader, at_header, too_deep}
@@ -49,7 +50,8 @@ read_to_end_marker-returns-then-begins_with_end_marker t c =
     let u = c.elements.invariant in
     let m = c.if-begins_with_end_marker.ensures in
     let b = behind_marker rest m.0 behind _ _ _ _ m.1 c.in_ok-behind.ensures.found.begins in
-    let e = u.2 ∙ ap (λ x. u.0 ++ x) (m.1 ∙ ap (λ x. end_marker ++ x) (sym b)) ∙ sym (append_assoc u.0 end_marker behind) in
+    let e = u.2 ∙ ap (λ x. u.0 ++ x) (m.1 ∙ ap (λ x. end_marker ++ x) (sym b))
+    ∙ sym (append_assoc u.0 end_marker behind) in
     rw (front i u.0 rest u.2) (omega arith, are_raws u.1, e)
 
 -- the element is refused or cut
@@ -64,8 +66,10 @@ read_to_end_marker-returns-in_err-after t c =
     let b = c.in_ok-behind.ensures.found.begins in
     let p = err_from_is_err_and c.from_residual-in_err-after.result c.from_residual-in_err-after.ensures.1 in
     rw (p.1, p.2) (passed_on _ _ c.in_err-after.field-0.0 c.in_err-after.ensures
-    (λ e r. refuses_content i u.0 rest behind k e (class_of h) (is_constructed h) (number_of h) (length_of h) (omega arith) u.1 u.2 b (rw (c.length.ensures) at r))
-    (λ n r. lacks_content i u.0 rest behind k n (class_of h) (is_constructed h) (number_of h) (length_of h) (omega arith) u.1 u.2 b (rw (c.length.ensures) at r))
+    (λ e r. refuses_content i u.0 rest behind k e (class_of h) (is_constructed h) (number_of h) (length_of h)
+    (omega arith) u.1 u.2 b (rw (c.length.ensures) at r))
+    (λ n r. lacks_content i u.0 rest behind k n (class_of h) (is_constructed h) (number_of h) (length_of h)
+    (omega arith) u.1 u.2 b (rw (c.length.ensures) at r))
     (λ m. m))
 
 pub read_to_end_marker-elements-preserved : goal.read_to_end_marker-elements-preserved
@@ -77,5 +81,6 @@ read_to_end_marker-elements-preserved t c =
     let u = c.elements.invariant in
     let h = c.in_ok-behind.header in
     let b = c.in_ok-behind.ensures.found.begins in
-    one_more_element i rest behind c.in_ok-after.after.now c.in_ok-after.field-0-1.now u.0 (k - 1) (class_of h) (is_constructed h) (number_of h) (length_of h) (omega arith) u.1 u.2 b
+    one_more_element i rest behind c.in_ok-after.after.now c.in_ok-after.field-0-1.now u.0 (k - 1) (class_of h)
+    (is_constructed h) (number_of h) (length_of h) (omega arith) u.1 u.2 b
     (rw c.length.ensures at c.in_ok-after.ensures) c.if-begins_with_end_marker.ensures
