@@ -1,6 +1,6 @@
 //! Faults that end the program, and what is told of them.
 use der_parser::error::{BerError, Err as Refused, Needed};
-use std::{fmt, io};
+use std::fmt;
 
 /// Why the program ends before its input does.
 #[derive(Debug, Drop, thiserror::Error)]
@@ -8,23 +8,20 @@ pub enum Fault {
     #[error("usage: derdump ber|der|canon")]
     Usage,
     #[error("error: {0}")]
-    Input(#[from] InputFault),
-    /// The element at this offset is refused.
-    #[error("error at {offset}: {}", Reason(reason))]
-    Element {
-        offset: usize,
-        reason: Refused<BerError>,
-    },
+    Input(InputFault),
+    #[error("error at {0}")]
+    Element(RefusedElement),
     #[error("error: write failed")]
     Write,
     #[error("error: out of memory")]
     OutOfMemory,
 }
 
-impl From<io::Error> for Fault {
-    fn from(_e: io::Error) -> Fault {
-        Fault::Write
-    }
+/// What a parser answers in place of the element at an offset.
+#[derive(Debug, Drop)]
+pub struct RefusedElement {
+    pub offset: usize,
+    pub reason: Refused<BerError>,
 }
 
 /// Why there is no input.
@@ -40,13 +37,10 @@ pub enum InputFault {
     OutOfMemory,
 }
 
-/// What a parser answers in place of an element.
-#[derive(Drop)]
-struct Reason<'a>(&'a Refused<BerError>);
-
-impl fmt::Display for Reason<'_> {
+impl fmt::Display for RefusedElement {
     fn fmt<W: fmt::Write>(&self, f: &mut fmt::Formatter<W>) -> fmt::Result {
-        match self.0 {
+        write!(f, "{}: ", self.offset)?;
+        match &self.reason {
             Refused::Incomplete(Needed::Size(n)) => write!(f, "incomplete, needs {n}"),
             Refused::Incomplete(Needed::Unknown) => write!(f, "incomplete"),
             Refused::Error(e) | Refused::Failure(e) => write!(f, "{e}"),

@@ -1,6 +1,6 @@
 //! Inputs of the kind that users have, an element a row: its octets, up to its content where it is
 //! a list, and the text that is printed of it.
-use crate::run::run;
+use crate::tests::run;
 use std::str;
 use std::test::Fail;
 

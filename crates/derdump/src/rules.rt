@@ -1,6 +1,6 @@
 //! The rules by which the input is read.
 ghost use Rattle.std.specs.Prelude.{◌≡◌, ◌<◌, IfOk, IfSome, None, length};
-ghost use Rattle.derdump.specs.Elements.{BeginsWithElement};
+ghost use Rattle.derdump.specs.Elements.{AnswersElement};
 ghost use Rattle.derdump.specs.Words.{Names};
 
 use der_parser::error::BerResult;
@@ -28,7 +28,7 @@ pub fn named_rules(word: &str) -> Option<Rules>
 
 /// Reads one object by these rules, and answers what is left of the input.
 pub fn read_object<'a>(alloc: Global, rules: Rules, input: &'a [u8]) -> BerResult<'a>
-    ensures found { IfOk result (λ x. BeginsWithElement rules input.now x.0.now) }
+    ensures exactly { AnswersElement rules input.now result }
     ensures shorter { IfOk result (λ x. length x.0.now < length input.now) }
 {
     match rules {

@@ -1,7 +1,9 @@
 //! What no clause of `run` says: the texts, and what faults leave.
-use crate::fault::Fault;
-use crate::only_argument;
-use crate::run::run;
+use crate::arguments::only_argument;
+use crate::fault::{Fault, RefusedElement};
+use crate::run;
+use crate::sink::Sink;
+use crate::source::Source;
 use der_parser::error::{BerError, Err as Refused, Needed};
 use std::alloc::Global;
 use std::env::{Env, FillError};
@@ -12,12 +14,12 @@ use std::{io, str};
 
 /// Gives its octets, at most three a read, and then an error, or nothing where there is none.
 #[derive(Drop)]
-struct Source<'a> {
+struct ShortReads<'a> {
     left: &'a [u8],
     fault: Option<ErrorKind>,
 }
 
-impl Read for Source<'_> {
+impl Read for ShortReads<'_> {
     fn read(&mut self, buf: &mut [u8]) -> io::Result<usize> {
         let n = buf.len().min(self.left.len()).min(3);
         match self.fault {
@@ -29,6 +31,30 @@ impl Read for Source<'_> {
                 Ok(n)
             }
         }
+    }
+}
+
+/// Answers an error once, where its octets reach so far, and then goes on well.
+#[derive(Drop)]
+struct FailsOnce<'a> {
+    left: &'a [u8],
+    fails_at: usize,
+    failed: bool,
+    reads: usize,
+}
+
+impl Read for FailsOnce<'_> {
+    fn read(&mut self, buf: &mut [u8]) -> io::Result<usize> {
+        self.reads = self.reads.saturating_add(1);
+        if self.left.len() == self.fails_at && !self.failed {
+            self.failed = true;
+            return Err(io::Error::from(ErrorKind::Interrupted));
+        }
+        let n = buf.len().min(self.left.len()).min(3);
+        let (now, later) = self.left.split_at(n);
+        buf[..n].copy_from_slice(now);
+        self.left = later;
+        Ok(n)
     }
 }
 
@@ -51,16 +77,16 @@ impl Read for Ones {
 
 /// Takes so many octets, and then answers an error, or takes nothing where there is none.
 #[derive(Drop)]
-struct Sink {
+struct SmallRoom {
     taken: Vec<u8>,
     room: usize,
     fault: Option<ErrorKind>,
     writes: usize,
 }
 
-impl Sink {
-    fn new(alloc: Global, room: usize, fault: Option<ErrorKind>) -> Sink {
-        Sink {
+impl SmallRoom {
+    fn new(alloc: Global, room: usize, fault: Option<ErrorKind>) -> SmallRoom {
+        SmallRoom {
             taken: Vec::new(alloc),
             room,
             fault,
@@ -69,7 +95,7 @@ impl Sink {
     }
 }
 
-impl Write for Sink {
+impl Write for SmallRoom {
     fn write(&mut self, buf: &[u8]) -> io::Result<usize> {
         self.writes = self.writes.saturating_add(1);
         let n = buf.len().min(self.room);
@@ -86,6 +112,23 @@ impl Write for Sink {
     fn flush(&mut self) -> io::Result<()> {
         Ok(())
     }
+}
+
+/// The status of a run over any reader and writers.
+pub fn run<R: Read, W: Write, X: Write>(
+    alloc: Global,
+    word: &str,
+    reader: &mut R,
+    out: &mut W,
+    err: &mut X,
+) -> u8 {
+    run::run(
+        alloc,
+        word,
+        &mut Source::new(reader),
+        &mut Sink::new(out),
+        err,
+    )
 }
 
 const USAGE: &str = "usage: derdump ber|der|canon\n";
@@ -300,7 +343,7 @@ const BER_RUNS: &[Run] = &[
 /// Under this word, each input is printed and told of so.
 fn expect_runs(rt: &(impl Abort + AllocGlobal), word: &str, runs: &[Run]) {
     for (input, printed, told, status) in runs {
-        let mut reader = Source {
+        let mut reader = ShortReads {
             left: input,
             fault: None,
         };
@@ -358,7 +401,7 @@ fn other_words_are_usage_faults(rt: HostRuntime) {
     for word in [
         "", "canon", "x", "BER", "DER", "ber ", "der ", "be", "de", "bers", "berder", "derdump",
     ] {
-        let mut reader = Source {
+        let mut reader = ShortReads {
             left: b"\x01\x01\xff",
             fault: None,
         };
@@ -387,7 +430,7 @@ fn a_failed_read_ends_it(rt: HostRuntime) {
             ErrorKind::Interrupted,
             ErrorKind::UnexpectedEof,
         ] {
-            let mut reader = Source {
+            let mut reader = ShortReads {
                 left,
                 fault: Some(kind),
             };
@@ -400,13 +443,106 @@ fn a_failed_read_ends_it(rt: HostRuntime) {
     }
 }
 
+/// The reader would go on well behind its error, and is not read again.
+#[test]
+fn a_failed_read_is_the_last(rt: HostRuntime) {
+    for (fails_at, reads) in [(6, 1), (3, 2), (0, 3)] {
+        let mut reader = FailsOnce {
+            left: b"\x01\x01\xff\x01\x01\x00",
+            fails_at,
+            failed: false,
+            reads: 0,
+        };
+        let mut out = Vec::new(rt.alloc());
+        let mut err = Vec::new(rt.alloc());
+        assert_eq!(rt; run(rt.alloc(), "der", &mut reader, &mut out, &mut err), 1);
+        assert!(rt; out.is_empty());
+        assert_eq!(rt; str::from_utf8(&err), Ok("error: read failed\n"));
+        assert_eq!(rt; reader.reads, reads);
+        assert_eq!(rt; reader.left.len(), fails_at);
+    }
+}
+
+/// The run would end well, and the writer has no room for all of it.
+#[test]
+fn a_failed_write_of_good_elements_ends_it(rt: HostRuntime) {
+    let text = b"Boolean(true)\nBoolean(false)\n";
+    for fault in [None, Some(ErrorKind::Other), Some(ErrorKind::StorageFull)] {
+        for room in 0..text.len() + 1 {
+            let mut input: &[u8] = b"\x01\x01\xff\x01\x01\x00";
+            let mut out = SmallRoom::new(rt.alloc(), room, fault);
+            let mut err = Vec::new(rt.alloc());
+            let status = run(rt.alloc(), "der", &mut input, &mut out, &mut err);
+            assert_eq!(rt; out.taken.as_slice(), &text[..room]);
+            let (told, expected) = if room < text.len() {
+                ("error: write failed\n", 1)
+            } else {
+                ("", 0)
+            };
+            assert_eq!(rt; status, expected);
+            assert_eq!(rt; str::from_utf8(&err), Ok(told));
+        }
+    }
+}
+
+/// Takes all that is written, and answers an error where it is flushed.
+#[derive(Drop)]
+struct NoFlush {
+    taken: usize,
+}
+
+impl Write for NoFlush {
+    fn write(&mut self, buf: &[u8]) -> io::Result<usize> {
+        self.taken = self.taken.saturating_add(buf.len());
+        Ok(buf.len())
+    }
+
+    fn flush(&mut self) -> io::Result<()> {
+        Err(io::Error::from(ErrorKind::StorageFull))
+    }
+}
+
+#[test]
+fn a_failed_flush_ends_it(rt: HostRuntime) {
+    for mut input in [b"\x05\x00".as_slice(), b"\x05\x00\x05\x01"] {
+        let mut out = NoFlush { taken: 0 };
+        let mut err = Vec::new(rt.alloc());
+        assert_eq!(rt; run(rt.alloc(), "ber", &mut input, &mut out, &mut err), 1);
+        assert_eq!(rt; out.taken, 5);
+        assert_eq!(rt; str::from_utf8(&err), Ok("error: write failed\n"));
+    }
+}
+
+/// Inputs of a few hundred octets, read in parts.
+#[test]
+fn long_inputs_end_well(rt: HostRuntime) -> Result<(), Fail> {
+    for count in [86, 100, 257, 1000] {
+        let mut input = Vec::new(rt.alloc());
+        let mut text = Vec::new(rt.alloc());
+        for _ in 0..count {
+            input.extend_from_slice(b"\x02\x01\x05")?;
+            text.extend_from_slice(b"Integer([05])\n")?;
+        }
+        let mut reader = ShortReads {
+            left: &input,
+            fault: None,
+        };
+        let mut out = Vec::new(rt.alloc());
+        let mut err = Vec::new(rt.alloc());
+        assert_eq!(rt; run(rt.alloc(), "der", &mut reader, &mut out, &mut err), 0);
+        assert!(rt; out == text);
+        assert!(rt; err.is_empty());
+    }
+    Ok(())
+}
+
 #[test]
 fn a_failed_write_ends_it(rt: HostRuntime) {
     let text = b"Boolean(true)\nBoolean(false)\n";
     for fault in [None, Some(ErrorKind::Other), Some(ErrorKind::BrokenPipe)] {
         for room in 0..text.len() + 1 {
             let mut input: &[u8] = b"\x01\x01\xff\x01\x01\x00\x01\x01\x02";
-            let mut out = Sink::new(rt.alloc(), room, fault);
+            let mut out = SmallRoom::new(rt.alloc(), room, fault);
             let mut err = Vec::new(rt.alloc());
             assert_eq!(rt; run(rt.alloc(), "der", &mut input, &mut out, &mut err), 1);
             assert_eq!(rt; out.taken.as_slice(), &text[..room]);
@@ -426,7 +562,7 @@ fn a_fault_of_err_changes_nothing(rt: HostRuntime) {
         for (word, status) in [("der", 1), ("", 2)] {
             let mut input: &[u8] = b"\x01\x01\xff\x01\x01\x02";
             let mut out = Vec::new(rt.alloc());
-            let mut err = Sink::new(rt.alloc(), 4, fault);
+            let mut err = SmallRoom::new(rt.alloc(), 4, fault);
             assert_eq!(rt;
                 run(rt.alloc(), word, &mut input, &mut out, &mut err),
                 status
@@ -440,8 +576,8 @@ fn a_fault_of_err_changes_nothing(rt: HostRuntime) {
 #[test]
 fn nothing_is_written_for_nothing(rt: HostRuntime) {
     let mut input: &[u8] = b"";
-    let mut out = Sink::new(rt.alloc(), 0, Some(ErrorKind::Other));
-    let mut err = Sink::new(rt.alloc(), 0, Some(ErrorKind::Other));
+    let mut out = SmallRoom::new(rt.alloc(), 0, Some(ErrorKind::Other));
+    let mut err = SmallRoom::new(rt.alloc(), 0, Some(ErrorKind::Other));
     assert_eq!(rt; run(rt.alloc(), "der", &mut input, &mut out, &mut err), 0);
     assert_eq!(rt; out.writes, 0);
     assert_eq!(rt; err.writes, 0);
@@ -455,7 +591,7 @@ fn long_output_takes_few_writes(rt: HostRuntime) -> Result<(), Fail> {
         input.extend_from_slice(b"\x01\x01\xff")?;
         text.extend_from_slice(b"Boolean(true)\n")?;
     }
-    let mut out = Sink::new(rt.alloc(), usize::MAX, None);
+    let mut out = SmallRoom::new(rt.alloc(), usize::MAX, None);
     let mut err = Vec::new(rt.alloc());
     assert_eq!(rt;
         run(rt.alloc(), "der", &mut input.as_slice(), &mut out, &mut err),
@@ -536,7 +672,10 @@ fn a_refusal_has_a_text(rt: HostRuntime) -> Result<(), Fail> {
         (Refused::Failure(BerError::InvalidTag), "invalid tag"),
         (Refused::OutOfMemory, "out of memory"),
     ] {
-        let told = format!(in rt.alloc(); "{}", Fault::Element { offset: 7, reason })?;
+        let told = format!(in rt.alloc();
+            "{}",
+            Fault::Element(RefusedElement { offset: 7, reason })
+        )?;
         assert_eq!(rt; told.strip_prefix("error at 7: "), Some(text));
     }
     Ok(())

@@ -1,0 +1,3 @@
+pub mod Reading
+pub mod Taken
+pub mod Taking
