@@ -170,18 +170,8 @@ pub content_memory : (d : ℕ) (i rest w : List ℕ) (c : Class) (p : Bool) (t :
     → BeginsWithElement i framing_budget c p t w rest
     → (2 ≤ d) × (c ≡ Universal) × (p ≡ true) × IsTrue (is_list t) × (w ≢ []) → NeedsMemory d i
 content_memory d i rest w c p t b (deep, u, q, k, some) =
-    inl (
-      deep,
-      (
-        t,
-        w,
-        rest,
-        k,
-        some,
-        subst (λ k. BeginsWithElement i framing_budget Universal k t w rest) q
-            (subst (λ k. BeginsWithElement i framing_budget k p t w rest) u b),
-      ),
-    )
+    let framed = subst (λ k. BeginsWithElement i framing_budget k p t w rest) u b in
+    inl (deep, (t, (w, rest, k, some, subst (λ k. BeginsWithElement i framing_budget Universal k t w rest) q framed)))
 
 -- refusals and cuts behind a header, at a depth of at least 1
 
