@@ -74,9 +74,9 @@ pub fn parse_ber_any<'a>(i: &'a [u8]) -> IResult<&'a [u8], Any<'a>, BerError>
     Any::from_ber(i)
 }
 
-/// Reads as `parse_ber_recursive`, and counts the headers that are read, end markers too: at least
-/// one for each object that was read, and at most one for each two octets that were, and one more
-/// where the answer is no object.
+/// Reads as `parse_ber_recursive`, and counts the headers that are read, end markers too, until the
+/// count is at its greatest. It counts at least one for each object that was read, and at most one
+/// for each two octets that were read, and one more where the answer is no object.
 pub fn parse_ber_counted<'a>(
     alloc: Global,
     i: &'a [u8],
