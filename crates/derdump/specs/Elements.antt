@@ -20,7 +20,8 @@ BeginsWith Der i o rest = BeginsWithDer 50 i o rest
 -- i begins with the spellings of the objects, one after another, and rest follows
 pub data Elements (rules : Rules) : List ℕ → List Node → List ℕ → Type 0 where
   none : {i : List ℕ} → Elements rules i [] i
-  one_more : {i after rest : List ℕ} {o : Node} {os : List Node} → BeginsWith rules i o after → Elements rules after os rest → Elements rules i (o ∷ os) rest
+  one_more : {i after rest : List ℕ} {o : Node} {os : List Node}
+      → BeginsWith rules i o after → Elements rules after os rest → Elements rules i (o ∷ os) rest
 
 -- the whole input is elements
 abbrev pub AreElements : Rules → List ℕ → Type 0
@@ -43,4 +44,6 @@ NeedsMemory Der i = DerNeedsMemory 50 i
 
 -- the reader of an element answers exactly what i shows
 abbrev pub AnswersElement : Rules → List ℕ → Answer → Type 0
-AnswersElement rules i result = AnswersExactly result value_of (λ x. BeginsWith rules i (tree x.1) x.0.now) (λ v. BeginsWith rules i v.0 v.1) (Refuses rules i) (IsCutShort rules i) (NeedsMemory rules i)
+AnswersElement rules i result = AnswersExactly result value_of
+    (λ x. BeginsWith rules i (tree x.1) x.0.now) (λ v. BeginsWith rules i v.0 v.1)
+    (Refuses rules i) (IsCutShort rules i) (NeedsMemory rules i)

@@ -1,5 +1,5 @@
 -- How the program ends.
-use Rattle.std.specs.Prelude.{◌≡◌, ℕ, ◌≤◌, Bool, true, false, List, [], length, Option, None, Some, Result, Ok, Err, IfSome}
+use Rattle.std.specs.Prelude.{◌≡◌, ℕ, ◌≤◌, true, false, List, [], length, Option, None, Some, Result, Ok, Err, IfSome}
 use Rattle.std.specs.Io.KnownBytes.{IsAtEnd}
 use Rattle.der_parser.specs.Tree.{Node}
 use Rattle.derdump.specs.declared.fault.Fault.{Fault}
@@ -28,10 +28,14 @@ EndsAt rules i os (Some r) = IsRefused rules i os r
 abbrev pub Printed : Rules → List ℕ → Option (List ℕ) → Option (List ℕ) → Option RefusedElement → Type 0
 Printed rules i old new r = (os : List Node) × EndsAt rules i os r × TookLines old new os
 
--- How printing ends: all is printed and handed on, or an element is refused, and no write failed; or a write failed; or there was no memory.
-abbrev pub PrintEnds : {W : Type 0} → (W → Option (List ℕ)) → Rules → List ℕ → Sink W → Sink W → Result (Unit {0}) Fault → Type 0
-PrintEnds contents rules i out out' (Ok _) = IsHandedOn out' × Printed rules i (octets_of contents out) (octets_of contents out') None
-PrintEnds contents rules i out out' (Err (Element r)) = IsHandedOn out' × Printed rules i (octets_of contents out) (octets_of contents out') (Some r)
+-- How printing ends: all is printed and handed on; or an element is refused, and what stands before it is printed and
+-- handed on; or a write failed; or there was no memory.
+abbrev pub PrintEnds : {W : Type 0} → (W → Option (List ℕ)) → Rules → List ℕ → Sink W → Sink W
+    → Result (Unit {0}) Fault → Type 0
+PrintEnds contents rules i out out' (Ok _) = IsHandedOn out'
+    × Printed rules i (octets_of contents out) (octets_of contents out') None
+PrintEnds contents rules i out out' (Err (Element r)) = IsHandedOn out'
+    × Printed rules i (octets_of contents out) (octets_of contents out') (Some r)
 PrintEnds contents rules i out out' (Err Write) = has_failed out' ≡ true
 PrintEnds contents rules i out out' (Err OutOfMemory) = has_failed out' ≡ false
 PrintEnds contents rules i out out' (Err (Input f)) = ⊥
@@ -45,16 +49,23 @@ pub record WasRead {R : Type 0} (remaining : R → Option (List ℕ)) (old new :
   pub small : IfSome (octets_left remaining old) (λ xs. length xs ≤ limit)
 
 -- the whole input was read, it is elements, a line of each was written, and handed on with no fault
-pub record EndsWell {R W : Type 0} (remaining : R → Option (List ℕ)) (contents : W → Option (List ℕ)) (rules : Rules) (reader reader' : Source R) (out out' : Sink W) : Type 0 where
+pub record EndsWell {R W : Type 0} (remaining : R → Option (List ℕ)) (contents : W → Option (List ℕ)) (rules : Rules)
+    (reader reader' : Source R) (out out' : Sink W) : Type 0 where
   pub read : WasRead remaining reader reader'
-  pub printed : IfSome (octets_left remaining reader) (λ xs. Printed rules xs (octets_of contents out) (octets_of contents out') None)
+  pub printed : IfSome (octets_left remaining reader)
+      (λ xs. Printed rules xs (octets_of contents out) (octets_of contents out') None)
   pub handed_on : IsHandedOn out'
 
 -- each fault has its cause
-abbrev pub IsCause : {R W : Type 0} → (R → Option (List ℕ)) → (W → Option (List ℕ)) → Rules → Source R → Source R → Sink W → Sink W → Fault → Type 0
+abbrev pub IsCause : {R W : Type 0} → (R → Option (List ℕ)) → (W → Option (List ℕ)) → Rules
+    → Source R → Source R → Sink W → Sink W → Fault → Type 0
 IsCause remaining contents rules reader reader' out out' Usage = ⊥
-IsCause remaining contents rules reader reader' out out' (Input f) = IsInputFault reader' f × (out' ≡ out)
-IsCause remaining contents rules reader reader' out out' (Element r) = WasRead remaining reader reader' × IsHandedOn out'
+IsCause remaining contents rules reader reader' out out' (Input f) =
+    IsInputFault reader' f × (out' ≡ out)
+IsCause remaining contents rules reader reader' out out' (Element r) =
+    WasRead remaining reader reader' × IsHandedOn out'
     × IfSome (octets_left remaining reader) (λ xs. Printed rules xs (octets_of contents out) (octets_of contents out') (Some r))
-IsCause remaining contents rules reader reader' out out' Write = WasRead remaining reader reader' × (has_failed out' ≡ true)
-IsCause remaining contents rules reader reader' out out' OutOfMemory = WasRead remaining reader reader' × (has_failed out' ≡ false)
+IsCause remaining contents rules reader reader' out out' Write =
+    WasRead remaining reader reader' × (has_failed out' ≡ true)
+IsCause remaining contents rules reader reader' out out' OutOfMemory =
+    WasRead remaining reader reader' × (has_failed out' ≡ false)

@@ -16,7 +16,8 @@ pub record AddsLine (old new : List ℕ) (o : Node) : Type 0 where
 -- w is a line for each of the objects
 pub data AreLines : List Node → List ℕ → Type 0 where
   no_lines : AreLines [] []
-  one_more_line : {o : Node} {os : List Node} {w rest : List ℕ} → IsLine o w → AreLines os rest → AreLines (o ∷ os) (w ++ rest)
+  one_more_line : {o : Node} {os : List Node} {w rest : List ℕ}
+      → IsLine o w → AreLines os rest → AreLines (o ∷ os) (w ++ rest)
 
 -- a writer took a line for each of the objects behind what it had
 pub record TookLines (old new : Option (List ℕ)) (os : List Node) : Type 0 where

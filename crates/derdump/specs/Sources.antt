@@ -30,7 +30,8 @@ limit = 67108864
 abbrev pub one_read : ℕ
 one_read = 16384
 
--- Why there is no input. No cause holds beside another: each says what the last read answered, and how many octets there were until then.
+-- Why there is no input. No cause holds beside another: each says what the last read answered, and how many octets
+-- there were by then.
 abbrev pub IsInputFault : {R : Type 0} → Source R → InputFault → Type 0
 IsInputFault s TooLarge = (standing_of s ≡ Open) × (limit < octets_taken s) × (octets_taken s ≤ limit + one_read)
 IsInputFault s ReadFailed = (standing_of s ≡ Failed) × (octets_taken s ≤ limit)

@@ -1,7 +1,8 @@
 //! The input, read whole.
 ghost use Rattle.std.specs.Prelude.{◌≡◌, ◌≤◌, ◌<◌, length, vec_len, IfOk, OnOk, IfErr, IfSome};
 ghost use Rattle.std.specs.Io.KnownBytes.{IsAtEnd};
-ghost use Rattle.derdump.specs.Sources.{GaveOctets, IsFresh, IsInputFault, limit, octets_left, octets_taken, standing_of};
+ghost use Rattle.derdump.specs.Sources.{GaveOctets, IsFresh, IsInputFault, limit, octets_left, octets_taken};
+ghost use Rattle.derdump.specs.Sources.{standing_of};
 
 use crate::fault::InputFault;
 use crate::source::{Source, Standing};
@@ -21,7 +22,8 @@ pub fn read_input<R: Read>(alloc: Global, reader: &mut Source<R>) -> Result<Vec<
     ensures bound { IfOk result (λ v. vec_len v ≤ limit) }
     ensures counted { IfOk result (λ v. vec_len v ≡ octets_taken reader.new) }
     ensures fault { IfErr result (IsInputFault reader.new) }
-    ensures taken { GaveOctets (octets_left R.remaining reader.old) (octets_left R.remaining reader.new) (octets_taken reader.new) }
+    ensures taken { GaveOctets (octets_left R.remaining reader.old) (octets_left R.remaining reader.new)
+        (octets_taken reader.new) }
 {
     let mut input = Vec::new(alloc);
     let mut chunk = [0; 16384];

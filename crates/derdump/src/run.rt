@@ -43,10 +43,13 @@ pub fn run<R: Read, W: Write, X: Write>(
 
     // No fault: the reader was read to its end, the input is no larger than the limit and elements by
     // these rules throughout, each has its line, no write failed, and nothing was told.
-    ensures done { (rules : Rules) → Names word.now rules → result ≡ 0 → EndsWell R.remaining W.contents rules reader.old reader.new out.old out.new }
+    ensures done { (rules : Rules) → Names word.now rules → result ≡ 0
+        → EndsWell R.remaining W.contents rules reader.old reader.new out.old out.new }
     // A fault: it has its cause.
-    ensures fault { (rules : Rules) → Names word.now rules → result ≡ 1 → (f : Fault) × IsCause R.remaining W.contents rules reader.old reader.new out.old out.new f }
-    ensures taken { GaveOctets (octets_left R.remaining reader.old) (octets_left R.remaining reader.new) (octets_taken reader.new) }
+    ensures fault { (rules : Rules) → Names word.now rules → result ≡ 1
+        → (f : Fault) × IsCause R.remaining W.contents rules reader.old reader.new out.old out.new f }
+    ensures taken { GaveOctets (octets_left R.remaining reader.old) (octets_left R.remaining reader.new)
+        (octets_taken reader.new) }
     ensures quiet { result ≡ 0 → err.new ≡ err.old }
 {
     let Some(rules) = named_rules(word) else {
@@ -72,7 +75,8 @@ fn dump<R: Read, W: Write>(
     requires fresh { IsFresh reader.old }
     requires clean { has_failed out.old ≡ false }
     ensures done { OnOk result (EndsWell R.remaining W.contents rules reader.old reader.new out.old out.new) }
-    ensures taken { GaveOctets (octets_left R.remaining reader.old) (octets_left R.remaining reader.new) (octets_taken reader.new) }
+    ensures taken { GaveOctets (octets_left R.remaining reader.old) (octets_left R.remaining reader.new)
+        (octets_taken reader.new) }
     ensures fault { IfErr result (IsCause R.remaining W.contents rules reader.old reader.new out.old out.new) }
 {
     let input = match read_input(alloc, reader) {
@@ -110,7 +114,8 @@ fn print_elements<W: Write>(
     input: &[u8],
     out: &mut Sink<W>,
 ) -> io::Result<Option<RefusedElement>>
-    ensures printed { IfOk result (Printed rules input.now (octets_of W.contents out.old) (octets_of W.contents out.new)) }
+    ensures printed { IfOk result
+        (Printed rules input.now (octets_of W.contents out.old) (octets_of W.contents out.new)) }
     ensures flushed { OnOk result (is_flushed out.new ≡ true) }
 {
     let mut pending = Vec::new(alloc);

@@ -43,7 +43,8 @@ impl<W: Write> Write for Sink<W> {
     fn write(&mut self, octets: &[u8]) -> io::Result<usize>
         ensures bound { WritesAtMost result octets.now }
         ensures bytes { WriteAppends (octets_of W.contents self.old) (octets_of W.contents self.new) result octets.now }
-        ensures failed { IsTrue (has_failed self.new) ↔ (IsTrue (has_failed self.old) ⊎ IsFailedWrite (λ e. error_kind e ≢ ErrorKind.Interrupted) result octets.now) }
+        ensures failed { IsTrue (has_failed self.new) ↔ (IsTrue (has_failed self.old)
+            ⊎ IsFailedWrite (λ e. error_kind e ≢ ErrorKind.Interrupted) result octets.now) }
         ensures unflushed { is_flushed self.new ≡ false }
     {
         let taken = self.inner.write(octets);
