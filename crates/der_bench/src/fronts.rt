@@ -9,11 +9,9 @@ use crate::{
     list_rows, name_rows,
 };
 use der_parser::error::{BerResult, Err as Refused};
+use std::alloc::{AllocError, Global};
 use std::process::Abort;
 use std::test::Fail;
-
-/// What is put behind a front.
-const TAILS: &[&[u8]] = &[b"\x00\x00", b"\xff", b"\x30\x80"];
 
 /// The depths to which fronts are read.
 const DEPTHS: &[usize] = &[0, 1, 2, 50];
@@ -33,10 +31,36 @@ fn expect_stable_to(rt: &(impl Abort + AllocGlobal), depth: usize, text: &str) -
     expect_stable(rt, ParseDerRecursive(depth), &input)
 }
 
-/// Both readers answer so on the fronts of a list of a thousand items.
-fn expect_stable_lists(rt: &(impl Abort + AllocGlobal), depth: usize) -> Result<(), Fail> {
+/// Both readers, to this depth, answer so on the fronts of lists of a thousand items whose length
+/// leaves this remainder by four. The shorter fronts are cut short where the whole is read.
+fn expect_stable_lists(
+    rt: &(impl Abort + AllocGlobal),
+    depth: usize,
+    remainder: usize,
+) -> Result<(), Fail> {
     for (_, text, _) in count_rows::LONG_COUNTS {
-        expect_stable_to(rt, depth, text)?;
+        let input = octets(rt.alloc(), text)?;
+        expect_stable_part(rt, ParseBerRecursive(depth), &input, remainder)?;
+        expect_stable_part(rt, ParseDerRecursive(depth), &input, remainder)?;
+    }
+    Ok(())
+}
+
+fn expect_stable_part(
+    rt: &(impl Abort + AllocGlobal),
+    reader: Reader,
+    input: &[u8],
+    remainder: usize,
+) -> Result<(), Fail> {
+    let whole = reader.read(rt.alloc(), input).is_ok();
+    for length in 0..=input.len() {
+        if length % 4 == remainder {
+            let cut = is_cut(rt, reader, &input[..length], length)?;
+            assert!(rt;
+                cut || !whole || length == input.len(),
+                "{reader:?}: {length}"
+            );
+        }
     }
     Ok(())
 }
@@ -50,48 +74,86 @@ fn expect_stable(
 ) -> Result<(), Fail> {
     let mut cut: usize = 0;
     for length in 0..=input.len() {
-        let front = &input[..length];
-        let given = reader.read(rt.alloc(), front);
-        if let Ok((rest, _)) = &given {
-            assert_eq!(rt;
-                cut.checked_add(rest.len()),
-                Some(length),
-                "{reader:?} of {front:?}: {given:?}"
-            );
-        }
-        if let Err(Refused::Incomplete(_)) = &given {
+        if is_cut(rt, reader, &input[..length], cut)? {
             cut = cut.saturating_add(1);
         }
-        expect_stands(rt, reader, front, &given)?;
     }
     Ok(())
 }
 
-/// What the reader answers on a front stands with octets behind it.
-fn expect_stands(
+/// Whether a front is cut short. The reader answers on it as the module says, where so many shorter
+/// ones are cut short.
+fn is_cut(
     rt: &(impl Abort + AllocGlobal),
     reader: Reader,
     front: &[u8],
-    given: &BerResult<'_>,
-) -> Result<(), Fail> {
-    for tail in TAILS {
-        let mut longer = Vec::new(rt.alloc());
-        longer.extend_from_slice(front)?;
-        longer.extend_from_slice(tail)?;
-        let again = reader.read(rt.alloc(), &longer);
-        assert!(rt;
-            stands(given, &again, tail),
-            "{reader:?} of {front:?}, {tail:?}: {given:?}, {again:?}"
+    cut: usize,
+) -> Result<bool, Fail> {
+    let ended = followed(rt.alloc(), front, b"\x00\x00")?;
+    let refused = followed(rt.alloc(), front, b"\xff")?;
+    let opened = followed(rt.alloc(), front, b"\x30\x80")?;
+    let given = expect_stands(rt, reader, front, &ended, &refused, &opened);
+    if let Ok((rest, _)) = &given {
+        assert_eq!(rt;
+            cut.checked_add(rest.len()),
+            Some(front.len()),
+            "{reader:?} of {front:?}: {given:?}"
         );
     }
-    Ok(())
+    Ok(matches!(&given, Err(Refused::Incomplete(_))))
 }
 
-/// Whether an answer stands with these octets behind the input. One of an input that is cut short
-/// may become any but a failure.
-fn stands(given: &BerResult<'_>, again: &BerResult<'_>, tail: &[u8]) -> bool {
+/// A front and octets behind it.
+fn followed(alloc: Global, front: &[u8], tail: &[u8]) -> Result<Vec<u8>, AllocError> {
+    let mut octets = Vec::new(alloc);
+    octets.extend_from_slice(front)?;
+    octets.extend_from_slice(tail)?;
+    Ok(octets)
+}
+
+/// What the reader answers on a front. It stands with octets behind the front.
+fn expect_stands<'a>(
+    rt: &(impl Abort + AllocGlobal),
+    reader: Reader,
+    front: &'a [u8],
+    ended: &'a [u8],
+    refused: &'a [u8],
+    opened: &'a [u8],
+) -> BerResult<'a> {
+    let given = reader.read(rt.alloc(), front);
+    expect_same(rt, reader, &given, front, ended);
+    expect_same(rt, reader, &given, front, refused);
+    expect_same(rt, reader, &given, front, opened);
+    given
+}
+
+/// What the reader answers on a front stands for an input that begins with it.
+fn expect_same<'a>(
+    rt: &(impl Abort + AllocGlobal),
+    reader: Reader,
+    given: &BerResult<'a>,
+    front: &'a [u8],
+    input: &'a [u8],
+) {
+    let again = reader.read(rt.alloc(), input);
+    assert!(rt;
+        stands(given, &again, front, input),
+        "{reader:?} of {front:?}, {input:?}: {given:?}, {again:?}"
+    );
+}
+
+/// Whether the answer on a front stands for an input that begins with it. One of a front that is cut
+/// short may become any but a failure.
+fn stands<'a>(
+    given: &BerResult<'a>,
+    again: &BerResult<'a>,
+    front: &'a [u8],
+    input: &'a [u8],
+) -> bool {
     match (given, again) {
-        (Ok((rest, object)), Ok((left, same))) => { object == same && lengthened(rest, left, tail) }
+        (Ok((rest, object)), Ok((left, same))) => {
+            object == same && is_behind_both(front, input, rest, left)
+        }
         (Err(Refused::Error(e)), Err(Refused::Error(f))) => e == f,
         (Err(Refused::Incomplete(_)), Ok(_)) => true,
         (Err(Refused::Incomplete(_)), Err(Refused::Incomplete(_) | Refused::Error(_))) => true,
@@ -99,11 +161,11 @@ fn stands(given: &BerResult<'_>, again: &BerResult<'_>, tail: &[u8]) -> bool {
     }
 }
 
-/// Whether what is left is a rest with these octets behind it.
-fn lengthened(rest: &[u8], left: &[u8], tail: &[u8]) -> bool {
-    match left.strip_prefix(rest) {
-        Some(behind) => behind == tail,
-        None => false,
+/// Whether the same stands behind a front in an input as behind a rest in what is left.
+fn is_behind_both(front: &[u8], input: &[u8], rest: &[u8], left: &[u8]) -> bool {
+    match (input.strip_prefix(front), left.strip_prefix(rest)) {
+        (Some(tail), Some(behind)) => tail == behind,
+        _ => false,
     }
 }
 
@@ -159,21 +221,81 @@ fn fronts_of_name_rows(rt: HostRuntime) -> Result<(), Fail> {
 }
 
 #[test]
-fn fronts_of_long_lists_to_depth_0(rt: HostRuntime) -> Result<(), Fail> {
-    expect_stable_lists(&rt, 0)
+fn fronts_of_long_lists_to_depth_0_by_4_0(rt: HostRuntime) -> Result<(), Fail> {
+    expect_stable_lists(&rt, 0, 0)
 }
 
 #[test]
-fn fronts_of_long_lists_to_depth_1(rt: HostRuntime) -> Result<(), Fail> {
-    expect_stable_lists(&rt, 1)
+fn fronts_of_long_lists_to_depth_0_by_4_1(rt: HostRuntime) -> Result<(), Fail> {
+    expect_stable_lists(&rt, 0, 1)
 }
 
 #[test]
-fn fronts_of_long_lists_to_depth_2(rt: HostRuntime) -> Result<(), Fail> {
-    expect_stable_lists(&rt, 2)
+fn fronts_of_long_lists_to_depth_0_by_4_2(rt: HostRuntime) -> Result<(), Fail> {
+    expect_stable_lists(&rt, 0, 2)
 }
 
 #[test]
-fn fronts_of_long_lists_to_depth_50(rt: HostRuntime) -> Result<(), Fail> {
-    expect_stable_lists(&rt, 50)
+fn fronts_of_long_lists_to_depth_0_by_4_3(rt: HostRuntime) -> Result<(), Fail> {
+    expect_stable_lists(&rt, 0, 3)
+}
+
+#[test]
+fn fronts_of_long_lists_to_depth_1_by_4_0(rt: HostRuntime) -> Result<(), Fail> {
+    expect_stable_lists(&rt, 1, 0)
+}
+
+#[test]
+fn fronts_of_long_lists_to_depth_1_by_4_1(rt: HostRuntime) -> Result<(), Fail> {
+    expect_stable_lists(&rt, 1, 1)
+}
+
+#[test]
+fn fronts_of_long_lists_to_depth_1_by_4_2(rt: HostRuntime) -> Result<(), Fail> {
+    expect_stable_lists(&rt, 1, 2)
+}
+
+#[test]
+fn fronts_of_long_lists_to_depth_1_by_4_3(rt: HostRuntime) -> Result<(), Fail> {
+    expect_stable_lists(&rt, 1, 3)
+}
+
+#[test]
+fn fronts_of_long_lists_to_depth_2_by_4_0(rt: HostRuntime) -> Result<(), Fail> {
+    expect_stable_lists(&rt, 2, 0)
+}
+
+#[test]
+fn fronts_of_long_lists_to_depth_2_by_4_1(rt: HostRuntime) -> Result<(), Fail> {
+    expect_stable_lists(&rt, 2, 1)
+}
+
+#[test]
+fn fronts_of_long_lists_to_depth_2_by_4_2(rt: HostRuntime) -> Result<(), Fail> {
+    expect_stable_lists(&rt, 2, 2)
+}
+
+#[test]
+fn fronts_of_long_lists_to_depth_2_by_4_3(rt: HostRuntime) -> Result<(), Fail> {
+    expect_stable_lists(&rt, 2, 3)
+}
+
+#[test]
+fn fronts_of_long_lists_to_depth_50_by_4_0(rt: HostRuntime) -> Result<(), Fail> {
+    expect_stable_lists(&rt, 50, 0)
+}
+
+#[test]
+fn fronts_of_long_lists_to_depth_50_by_4_1(rt: HostRuntime) -> Result<(), Fail> {
+    expect_stable_lists(&rt, 50, 1)
+}
+
+#[test]
+fn fronts_of_long_lists_to_depth_50_by_4_2(rt: HostRuntime) -> Result<(), Fail> {
+    expect_stable_lists(&rt, 50, 2)
+}
+
+#[test]
+fn fronts_of_long_lists_to_depth_50_by_4_3(rt: HostRuntime) -> Result<(), Fail> {
+    expect_stable_lists(&rt, 50, 3)
 }

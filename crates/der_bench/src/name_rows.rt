@@ -9,10 +9,8 @@ use crate::rows;
 use crate::rows::{HasInput, Trial};
 use der_parser::ber::compat::{BerClass, BerObjectHeader, BerSize, BerTag, Tag as CompatTag};
 use der_parser::ber::{
-    ASN1TimeZone, BerContainer, BerContent, BerContent2, BerObject, BerObjectContent,
-    BerSequenceDefinedG, BerSetDefinedG, BitStringObject, Class, Header, Length, MAX_OBJECT_SIZE,
-    MAX_RECURSION, Tag, parse_ber_container, parse_ber_content, parse_ber_content2,
-    parse_ber_sequence_defined_g, parse_ber_set_defined_g,
+    ASN1TimeZone, BerContent, BerContent2, BerObject, BerObjectContent, BitStringObject, Class,
+    Header, Length, MAX_OBJECT_SIZE, MAX_RECURSION, Tag, parse_ber_content, parse_ber_content2,
 };
 use der_parser::der::{
     self, DerClass, DerContent, DerContent2, DerObject, DerObjectContent, DerObjectHeader, DerTag,

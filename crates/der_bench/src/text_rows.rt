@@ -1,5 +1,5 @@
 //! The texts of errors, tags and classes.
-use der_parser::ber::{Class, Tag};
+use der_parser::ber::{ASN1DateTime, ASN1TimeZone, Class, Tag, TimeText};
 use der_parser::error::{BerError, DerConstraint, ErrorKind, GenError, Needed};
 use der_parser::oid::OidParseError;
 use std::process::Abort;
@@ -111,6 +111,36 @@ const TAGS: &[(Tag, &str)] = &[
     (Tag(30), "BmpString"),
     (Tag(4294967295), "Tag(4294967295)"),
 ];
+
+/// A year, the nanosecond and the zone of a time that begins with the year, its text as a
+/// GeneralizedTime, and as a UTCTime.
+#[rattlefmt::skip]
+const TIMES: &[(u32, Option<u32>, ASN1TimeZone, &str, &str)] = &[
+    (2020, None, ASN1TimeZone::Z, "20200101000000Z", "20200101000000Z"),
+    (20, None, ASN1TimeZone::Z, "00200101000000Z", "200101000000Z"),
+    (7, None, ASN1TimeZone::Undefined, "00070101000000", "070101000000"),
+    (2020, Some(100000000), ASN1TimeZone::Z, "20200101000000.1Z", "20200101000000.1Z"),
+    (2020, Some(5), ASN1TimeZone::Z, "20200101000000.000000005Z", "20200101000000.000000005Z"),
+    (2020, Some(0), ASN1TimeZone::Z, "20200101000000.0Z", "20200101000000.0Z"),
+    (20, None, ASN1TimeZone::Offset(0, 0), "00200101000000+0000", "200101000000+0000"),
+    (20, None, ASN1TimeZone::Offset(5, 30), "00200101000000+0530", "200101000000+0530"),
+    (20, None, ASN1TimeZone::Offset(-5, -30), "00200101000000-0530", "200101000000-0530"),
+    (20, None, ASN1TimeZone::Offset(0, -30), "00200101000000-0030", "200101000000-0030"),
+];
+
+#[test]
+fn times_have_texts(rt: HostRuntime) -> Result<(), Fail> {
+    for (year, nanosecond, tz, generalized, utc) in TIMES {
+        let time = ASN1DateTime::new(*year, 1, 1, 0, 0, 0, *nanosecond, *tz);
+        let written = format!(in rt.alloc(); "{time}")?;
+        assert_eq!(rt; written.as_str(), *generalized);
+        let tag = Tag::UtcTime;
+        let text = TimeText { tag, time };
+        let written = format!(in rt.alloc(); "{text}")?;
+        assert_eq!(rt; written.as_str(), *utc);
+    }
+    Ok(())
+}
 
 fn expect_texts<T: fmt::Display>(
     rt: &(impl Abort + AllocGlobal),
