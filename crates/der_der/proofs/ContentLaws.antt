@@ -11,14 +11,12 @@ use Rattle.der_base.specs.Header.{class_of, is_constructed, number_of, length_of
 use Rattle.der_base.specs.Headers.{BeginsWithDerHeader}
 use Rattle.der_base.specs.Refusal.{Refusal}
 use Rattle.der_base.specs.Spelling.{DerSpells}
-use Rattle.der_base.specs.Tree.{Node, node, Content}
+use Rattle.der_base.specs.Tree.{node, Content}
 use Rattle.der_base.proofs.Spellings.DerFaults.{spelled_shows_nothing, shows_one}
 use Rattle.der_base.proofs.Spellings.DerWithinBer.{valid_element, der_spelling_same, element_header}
 use Rattle.der_base.proofs.Octets.Identifiers.{fronts_same}
 use Rattle.der_base.proofs.Answers.Exactness.{ShowsOne}
-use Rattle.der_object.specs.declared.object.BerObject.{BerObject}
 use Rattle.der_object.specs.Readings.{content_value_of}
-use Rattle.der_object.specs.View.{tree, content_tree}
 use Rattle.der_object.proofs.TypedLaws.{shows_read}
 use Rattle.der_der.specs.DerReading.{IsDerContentOf, ContentRefuses}
 use Rattle.der_der.specs.DerContents.{FramesContent, FrameRefuses, FrameLacks, ReadingRefuses, ReadingNeedsMemory, ReadsContentAs, ReadsContentOf, SpellsContent, inner_value_of}

@@ -1,5 +1,5 @@
 -- An object that begins the input, and an input that is cut short: one of them holds at most, and each in one way.
-use Rattle.std.proofs.Common.{◌≡◌, ℕ, ◌^◌, ◌<◌, ◌≤◌, Bool, true, List, ◌++◌, length, sym, ap, ◌∙◌, arith, append_assoc, inl}
+use Rattle.std.proofs.Common.{◌≡◌, ℕ, ◌≤◌, Bool, true, List, ◌++◌, length, sym, ap, ◌∙◌, arith, append_assoc, inl}
 use Rattle.der_base.specs.declared.header.Class.{Class}
 use Rattle.der_base.specs.declared.header.Class.TheVariants.{Universal}
 use Rattle.der_base.specs.Cut.{IsCut}

@@ -1,5 +1,5 @@
 -- An object of one tag number, a refusal of the reader that wants it, and its end within the octets: one of them holds at most, and each in one way.
-use Rattle.std.proofs.Common.{ℕ, ◌^◌, ◌<◌, Bool, true, false, MatchBool, List, sym, ap, subst, ◌∙◌}
+use Rattle.std.proofs.Common.{ℕ, ◌^◌, ◌<◌, Bool, true, false, MatchBool, List, sym, subst}
 use Rattle.der_base.specs.declared.header.Class.TheVariants.{Universal}
 use Rattle.der_base.specs.declared.header.Header.{Header}
 use Rattle.der_base.specs.declared.header.Length.TheVariants.{Definite}
@@ -7,7 +7,7 @@ use Rattle.der_base.specs.Fault.{DerHeaderRefuses}
 use Rattle.der_base.specs.Header.{class_of, is_constructed, length_of}
 use Rattle.der_base.specs.Headers.{BeginsWithDerHeader, DerHeaderLacks}
 use Rattle.der_base.specs.Leaf.{is_list}
-use Rattle.der_base.specs.Tree.{Node, node, Content}
+use Rattle.der_base.specs.Tree.{Node, node}
 use Rattle.der_base.proofs.Answers.Exactness.{ShowsOne}
 use Rattle.der_base.proofs.Headers.DerHeaders.{der_header_same, der_header_not_refused, der_header_not_lacking, der_header_refusal_same}
 use Rattle.der_base.proofs.Headers.HeaderLaws.{header_lacks_same}
@@ -17,7 +17,7 @@ use Rattle.der_object.specs.Readings.{value_of}
 use Rattle.der_object.specs.View.{tree}
 use Rattle.der_object.proofs.TypedLaws.{OneHeader, shows_read}
 use Rattle.der_object.proofs.TypedLaws as typed
-use Rattle.der_der.specs.DerContents.{FramesContent, FrameLacks, ReadsContentAs, ReadingRefuses, ReadingNeedsMemory, ReadsHeaderOf, ReadsTyped, SpellsTyped, TypedRefuses, TypedLacks, TypedNeedsMemory}
+use Rattle.der_der.specs.DerContents.{FramesContent, FrameLacks, ReadsContentAs, ReadingNeedsMemory, ReadsHeaderOf, ReadsTyped, SpellsTyped, TypedRefuses, TypedLacks, TypedNeedsMemory}
 use Rattle.der_der.proofs.ContentLaws.{content_one, cut_content_needs_none}
 
 headers : OneHeader BeginsWithDerHeader DerHeaderRefuses DerHeaderLacks

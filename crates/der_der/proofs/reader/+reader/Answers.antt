@@ -1,4 +1,4 @@
-use Rattle.std.proofs.Common.{◌≡◌, ◌^◌, ◌<◌, ◌≤◌, ◌++◌, true, false, IsTrue, length, take, sym, ap, ◌∙◌, arith, rules, inl, refl}
+use Rattle.std.proofs.Common.{◌≡◌, ◌<◌, ◌≤◌, ◌++◌, true, false, IsTrue, length, take, sym, ap, ◌∙◌, arith, rules, inl, refl}
 use Rattle.std.proofs.lemmas.Bool.Decides.{nat_tests}
 use Rattle.std.proofs.lemmas.List.{take-append-drop}
 use Rattle.std.proofs.lemmas.Result.{err_from_is_err_and}
@@ -11,7 +11,7 @@ use Rattle.der_base.specs.Encoding.{content_octets}
 use Rattle.der_base.specs.Leaf.{is_mapped, IsDerLeaf}
 use Rattle.der_base.specs.LeafRefusal.{DerLeafRefuses}
 use Rattle.der_base.specs.Refusal.{refusal}
-use Rattle.der_base.proofs.Answers.Answering.{passed_on, answered, ok_weaker, ok_with}
+use Rattle.der_base.proofs.Answers.Answering.{passed_on, answered, ok_weaker}
 use Rattle.der_base.proofs.Spellings.DerWithinBer.{content_tall}
 use Rattle.der_base.proofs.Answers.ItemAnswers.{item_answer, some_content}
 use Rattle.der_base.specs.Count.{some_more}
