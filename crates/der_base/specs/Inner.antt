@@ -1,4 +1,5 @@
--- What private functions promise, and what the crates above build on: no contract of a call that users import cites these.
+-- What private functions promise, and what the crates above build on: no contract of a call that users import cites
+-- these.
 pub mod Framed
 pub mod Identifier
 pub mod Spans

@@ -3,11 +3,13 @@
 //!
 //! They are written from the last to the first: a length is written when its content stands
 //! already, so that no content is measured again for each list around it.
-ghost use Rattle.std.specs.Prelude.{◌≡◌, ◌≢◌, ℕ, ◌+◌, ◌-◌, ◌*◌, ◌<◌, ◌≤◌, ◌^◌, ◌↔◌, ◌⊎◌, [], ◌∷◌, ◌++◌, length, IfOk, IfErr};
+ghost use Rattle.std.specs.Prelude.{◌≡◌, ◌≢◌, ℕ, ◌+◌, ◌-◌, ◌*◌, ◌<◌, ◌≤◌, ◌^◌, ◌↔◌, ◌⊎◌, [], ◌∷◌, ◌++◌, length};
+ghost use Rattle.std.specs.Prelude.{IfOk, IfErr};
 ghost use Rattle.std.specs.Result.{IsErrOf};
 ghost use Rattle.der_base.specs.Encoding.{encoding, encodings, content_octets};
 ghost use Rattle.der_base.specs.Header.{class_of, is_constructed, number_of};
-ghost use Rattle.der_base.specs.Octets.{identifier, shortest_length, shortest_integer, octets, groups, leading_bits, class_number};
+ghost use Rattle.der_base.specs.Octets.{identifier, shortest_length, shortest_integer, octets, groups};
+ghost use Rattle.der_base.specs.Octets.{leading_bits, class_number};
 ghost use Rattle.der_object.specs.Room.{PutsBefore};
 ghost use Rattle.der_object.specs.View.{tree, content_tree, trees};
 
@@ -94,7 +96,8 @@ fn write_header(out: &mut [u8], end: usize, header: &Header<'_>, n: usize) -> us
         length (identifier (class_of h) (is_constructed h) (number_of h) ++ shortest_length n) ≤ end }
     requires within { end ≤ length out.old }
     ensures { let h = header.now in
-        PutsBefore out.old out.new end (identifier (class_of h) (is_constructed h) (number_of h) ++ shortest_length n) result }
+        let octets = identifier (class_of h) (is_constructed h) (number_of h) in
+        PutsBefore out.old out.new end (octets ++ shortest_length n) result }
 {
     let begin = write_length(out, end, n);
     write_identifier(

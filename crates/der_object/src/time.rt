@@ -1,7 +1,8 @@
 //! The texts of UTCTime and GeneralizedTime, written from the last digit to the first (X.690 11.7
 //! and 11.8).
 ghost use Rattle.std.specs.Prelude.{◌≡◌, ◌+◌, ◌≤◌, ◌||◌, [], ◌∷◌, if◌then◌else◌, codes, int_lt, length, pos};
-ghost use Rattle.der_base.specs.Time.{at_least_digits, or_zero, without_last_zeros, fraction_text, zone_text, text_from_year};
+ghost use Rattle.der_base.specs.Time.{at_least_digits, or_zero, without_last_zeros, fraction_text, zone_text};
+ghost use Rattle.der_base.specs.Time.{text_from_year};
 ghost use Rattle.der_object.specs.Room.{PutsBefore};
 
 use crate::decimal::{digits_length, write_digits};
