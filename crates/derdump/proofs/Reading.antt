@@ -1,14 +1,12 @@
 -- What the readers of both rules say of an element, and what follows of the whole input.
-use Rattle.std.proofs.Common.{◌≡◌, ℕ, ◌+◌, ◌<◌, List, [], ◌∷◌, ◌++◌, Ok, Err, refl, sym, subst, ap, length, arith}
+use Rattle.std.proofs.Common.{◌≡◌, ℕ, ◌+◌, ◌<◌, List, [], ◌∷◌, ◌++◌, Ok, Err, sym, subst, ap, length, arith}
 use Rattle.std.specs.Borrow.{Bor}
 use Rattle.der_parser.proofs.Answering.{answered, passed_on}
-use Rattle.der_parser.specs.Answer.{MatchAnswer}
 use Rattle.der_parser.specs.BerReading.{AnswersBer}
 use Rattle.der_parser.specs.DerReading.{AnswersDer}
 use Rattle.der_parser.specs.HeaderFacts.{form_of}
 use Rattle.der_parser.specs.Readings.{Answer}
 use Rattle.der_parser.specs.Tree.{Node}
-use Rattle.der_parser.specs.View.{tree}
 use Rattle.der_parser.specs.declared.ber.BerObject.{BerObject}
 use Rattle.derdump.specs.declared.fault.RefusedElement.{RefusedElement}
 use Rattle.derdump.specs.declared.rules.Rules.{Rules}

@@ -65,7 +65,7 @@ IsCause remaining contents rules reader reader' out out' (Input f) =
 IsCause remaining contents rules reader reader' out out' (Element r) =
     WasRead remaining reader reader' × IsHandedOn out'
     × IfSome (octets_left remaining reader)
-        (λ xs. Printed rules xs (octets_of contents out) (octets_of contents out') (Some r))
+    (λ xs. Printed rules xs (octets_of contents out) (octets_of contents out') (Some r))
 IsCause remaining contents rules reader reader' out out' Write =
     WasRead remaining reader reader' × (has_failed out' ≡ true)
 IsCause remaining contents rules reader reader' out out' OutOfMemory =

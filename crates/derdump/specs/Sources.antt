@@ -5,7 +5,7 @@ use Rattle.derdump.specs.declared.fault.InputFault.{InputFault}
 use Rattle.derdump.specs.declared.fault.InputFault.TheVariants.{TooLarge, ReadFailed, OutOfMemory}
 use Rattle.derdump.specs.declared.source.Source.{Source}
 use Rattle.derdump.specs.declared.source.Standing.{Standing}
-use Rattle.derdump.specs.declared.source.Standing.TheVariants.{Open, Ended, Failed}
+use Rattle.derdump.specs.declared.source.Standing.TheVariants.{Open, Failed}
 
 -- what it answered last
 abbrev pub standing_of : {R : Type 0} → Source R → Standing

@@ -1,5 +1,5 @@
 //! The input, read whole.
-ghost use Rattle.std.specs.Prelude.{◌≡◌, ◌≤◌, ◌<◌, length, vec_len, IfOk, OnOk, IfErr, IfSome};
+ghost use Rattle.std.specs.Prelude.{◌≡◌, ◌≤◌, ◌<◌, vec_len, IfOk, OnOk, IfErr, IfSome};
 ghost use Rattle.std.specs.Io.KnownBytes.{IsAtEnd};
 ghost use Rattle.derdump.specs.Sources.{GaveOctets, IsFresh, IsInputFault, limit, octets_left, octets_taken};
 ghost use Rattle.derdump.specs.Sources.{standing_of};
