@@ -13,7 +13,7 @@ pub use content::{
     BerContent, BerContent2, ber_read_element_content_as, parse_ber_content, parse_ber_content2,
 };
 pub use multi::{
-    BerContainer, BerDefinedG, BerSequenceDefinedG, BerSetDefinedG, parse_ber_container,
+    BerContainer, BerSequenceDefinedG, BerSetDefinedG, parse_ber_container,
     parse_ber_sequence_defined_g, parse_ber_set_defined_g, parse_ber_slice,
 };
 pub use parser::{

@@ -137,44 +137,30 @@ impl<F> BerContainer<F> {
     }
 }
 
-/// A parser of an element of the tag number `NUMBER`, which keeps the parser of its content.
+/// A parser of a SEQUENCE, which keeps the parser of its content.
 #[derive(Drop)]
-pub struct BerDefinedG<F, const NUMBER: u32> {
+pub struct BerSequenceDefinedG<F> {
     f: F,
 }
 
-impl<F, const NUMBER: u32> Model for BerDefinedG<F, NUMBER> {
+impl<F> Model for BerSequenceDefinedG<F> {
     ghost Value = { F };
 
     ghost view = { λ c. c.f };
 }
 
-/// A parser of a SEQUENCE, whose tag number is 16.
-pub type BerSequenceDefinedG<F> = BerDefinedG<F, 16>;
-
-/// A parser of a SET, whose tag number is 17.
-pub type BerSetDefinedG<F> = BerDefinedG<F, 17>;
-
-/// A parser of a SEQUENCE that hands its content and its header to `f`.
+/// A parser of an element of the tag number 16, SEQUENCE, that hands its content and its header to
+/// `f`.
 pub fn parse_ber_sequence_defined_g<'a, F, O, E>(f: F) -> BerSequenceDefinedG<F>
 where
     F: FnMut(&'a [u8], Header<'a>) -> IResult<&'a [u8], O, E>,
     ensures { result ≡ f }
 {
-    BerDefinedG { f }
+    BerSequenceDefinedG { f }
 }
 
-/// A parser of a SET that hands its content and its header to `f`.
-pub fn parse_ber_set_defined_g<'a, F, O, E>(f: F) -> BerSetDefinedG<F>
-where
-    F: FnMut(&'a [u8], Header<'a>) -> IResult<&'a [u8], O, E>,
-    ensures { result ≡ f }
-{
-    BerDefinedG { f }
-}
-
-impl<F, const NUMBER: u32> BerDefinedG<F, NUMBER> {
-    /// Reads as `BerContainer::parse` an element of this tag number, of any class. Another number
+impl<F> BerSequenceDefinedG<F> {
+    /// Reads as `BerContainer::parse` an element of the tag number 16, of any class. Another number
     /// is UnexpectedTag, told behind the refusals of `BerContainer::parse`, without a call of the
     /// parser.
     pub fn parse<'a, O, E>(&mut self, i: &'a [u8]) -> IResult<&'a [u8], O, E>
@@ -183,15 +169,59 @@ impl<F, const NUMBER: u32> BerDefinedG<F, NUMBER> {
         E: ParseError<&'a [u8]> + From<BerError>,
         requires { F.IsAlwaysCallable self.old }
         ensures callable { F.IsAlwaysCallable self.new }
-        ensures run { ContainerRun (OpensBerNumber NUMBER i.now)
-            (RefusesBerNumber E.from_error_kind_gives E.from_gives NUMBER i.now) F.step self.old result self.new }
+        ensures run { ContainerRun (OpensBerNumber 16 i.now)
+            (RefusesBerNumber E.from_error_kind_gives E.from_gives 16 i.now) F.step self.old result self.new }
         ensures called { (c : Class) (p : Bool) (w rest : List ℕ)
-            → BeginsWithElement i.now framing_budget c p NUMBER w rest
-            → OneCall (OpensBerNumber NUMBER i.now) F.step self.old result self.new }
-        ensures refuses { (e : Err E) → RefusesBerNumber E.from_error_kind_gives E.from_gives NUMBER i.now e
-            → NoCall (RefusesBerNumber E.from_error_kind_gives E.from_gives NUMBER i.now) self.old result self.new }
+            → BeginsWithElement i.now framing_budget c p 16 w rest
+            → OneCall (OpensBerNumber 16 i.now) F.step self.old result self.new }
+        ensures refuses { (e : Err E) → RefusesBerNumber E.from_error_kind_gives E.from_gives 16 i.now e
+            → NoCall (RefusesBerNumber E.from_error_kind_gives E.from_gives 16 i.now) self.old result self.new }
     {
-        parse_content(&mut self.f, open_number(i, Tag(NUMBER)))
+        parse_content(&mut self.f, open_number(i, Tag::Sequence))
+    }
+}
+
+/// A parser of a SET, which keeps the parser of its content.
+#[derive(Drop)]
+pub struct BerSetDefinedG<F> {
+    f: F,
+}
+
+impl<F> Model for BerSetDefinedG<F> {
+    ghost Value = { F };
+
+    ghost view = { λ c. c.f };
+}
+
+/// A parser of an element of the tag number 17, SET, that hands its content and its header to
+/// `f`.
+pub fn parse_ber_set_defined_g<'a, F, O, E>(f: F) -> BerSetDefinedG<F>
+where
+    F: FnMut(&'a [u8], Header<'a>) -> IResult<&'a [u8], O, E>,
+    ensures { result ≡ f }
+{
+    BerSetDefinedG { f }
+}
+
+impl<F> BerSetDefinedG<F> {
+    /// Reads as `BerContainer::parse` an element of the tag number 17, of any class. Another number
+    /// is UnexpectedTag, told behind the refusals of `BerContainer::parse`, without a call of the
+    /// parser.
+    pub fn parse<'a, O, E>(&mut self, i: &'a [u8]) -> IResult<&'a [u8], O, E>
+    where
+        F: FnMut(&'a [u8], Header<'a>) -> IResult<&'a [u8], O, E>,
+        E: ParseError<&'a [u8]> + From<BerError>,
+        requires { F.IsAlwaysCallable self.old }
+        ensures callable { F.IsAlwaysCallable self.new }
+        ensures run { ContainerRun (OpensBerNumber 17 i.now)
+            (RefusesBerNumber E.from_error_kind_gives E.from_gives 17 i.now) F.step self.old result self.new }
+        ensures called { (c : Class) (p : Bool) (w rest : List ℕ)
+            → BeginsWithElement i.now framing_budget c p 17 w rest
+            → OneCall (OpensBerNumber 17 i.now) F.step self.old result self.new }
+        ensures refuses { (e : Err E) → RefusesBerNumber E.from_error_kind_gives E.from_gives 17 i.now e
+            → NoCall (RefusesBerNumber E.from_error_kind_gives E.from_gives 17 i.now) self.old result self.new }
+    {
+        parse_content(&mut self.f, open_number(i, Tag::Set))
     }
 }
 

@@ -1,12 +1,13 @@
 -- Inputs that are elements, one after another.
 use Rattle.std.specs.Prelude.{ℕ, List, [], ◌∷◌}
-use Rattle.der_parser.specs.BerReading.{BerIsCut, NeedsMemory as BerNeedsMemory}
-use Rattle.der_parser.specs.DerReading.{DerIsCut, NeedsMemory as DerNeedsMemory}
+use Rattle.der_parser.specs.BerReading.{FramingNeedsMemory, NeedsMemory as BerNeedsMemory}
+use Rattle.der_parser.specs.DerReading.{NeedsMemory as DerNeedsMemory}
 use Rattle.der_parser.specs.Exactly.{AnswersExactly}
 use Rattle.der_parser.specs.Fault.{ShowsFault, DerShowsFault}
 use Rattle.der_parser.specs.Readings.{Answer, value_of}
 use Rattle.der_parser.specs.Refusal.{Refusal}
 use Rattle.der_parser.specs.Spelling.{BeginsWithBer, BeginsWithDer}
+use Rattle.der_parser.specs.Stable.{BerIsCut, DerIsCut}
 use Rattle.der_parser.specs.Tree.{Node}
 use Rattle.der_parser.specs.View.{tree}
 use Rattle.derdump.specs.declared.rules.Rules.{Rules}
@@ -42,8 +43,13 @@ abbrev pub NeedsMemory : Rules → List ℕ → Type 0
 NeedsMemory Ber i = BerNeedsMemory 50 i
 NeedsMemory Der i = DerNeedsMemory 50 i
 
+-- and of one that is cut short
+abbrev pub CutNeedsMemory : Rules → List ℕ → Type 0
+CutNeedsMemory Ber i = FramingNeedsMemory 50 i
+CutNeedsMemory Der i = ⊥
+
 -- the reader of an element answers exactly what i shows
 abbrev pub AnswersElement : Rules → List ℕ → Answer → Type 0
 AnswersElement rules i result = AnswersExactly result value_of
     (λ x. BeginsWith rules i (tree x.1) x.0.now) (λ v. BeginsWith rules i v.0 v.1)
-    (Refuses rules i) (IsCutShort rules i) (NeedsMemory rules i)
+    (Refuses rules i) (IsCutShort rules i) (NeedsMemory rules i) (CutNeedsMemory rules i)

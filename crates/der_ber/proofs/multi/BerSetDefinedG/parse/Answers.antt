@@ -1,6 +1,6 @@
 use Rattle.std.proofs.Common.{refl}
 use Rattle.der_base.proofs.Containers.ContainerLaws.{opened_run, one_call, no_call, number_begins_not_refused, number_opens_not_refused}
-use Rattle.der_ber.proofs.multi.BerDefinedG.parse.Goals as goal
+use Rattle.der_ber.proofs.multi.BerSetDefinedG.parse.Goals as goal
 
 pub parse_content-requires : goal.parse_content-requires
 parse_content-requires g c κs = ((refl, tt), rw c.self.view_is c.requires)
