@@ -1,6 +1,28 @@
 -- What a front of the input shows to be wrong, by its one name.
-use Rattle.std.specs.Prelude.{◌≡◌, ◌≢◌, ℕ, zero, suc, ◌+◌, ◌-◌, ◌%◌, ◌^◌, ◌<◌, ◌≤◌, ◌⊎◌, Bool, true, false, IsTrue,
-    List, [], ◌∷◌, ◌++◌, length, All}
+use Rattle.std.specs.Prelude.{
+  ◌≡◌,
+  ◌≢◌,
+  ℕ,
+  zero,
+  suc,
+  ◌+◌,
+  ◌-◌,
+  ◌%◌,
+  ◌^◌,
+  ◌<◌,
+  ◌≤◌,
+  ◌⊎◌,
+  Bool,
+  true,
+  false,
+  IsTrue,
+  List,
+  [],
+  ◌∷◌,
+  ◌++◌,
+  length,
+  All,
+}
 use Rattle.der_base.specs.declared.header.Class.{Class}
 use Rattle.der_base.specs.declared.header.Class.TheVariants.{Universal}
 use Rattle.der_base.specs.declared.error.DerConstraint.TheVariants.{IndefiniteLength, LengthNotMinimal}
@@ -9,10 +31,24 @@ use Rattle.der_base.specs.Octets.{identifier, number, groups_value, SpellsLength
 use Rattle.der_base.specs.Tree.{Nodes}
 use Rattle.der_base.specs.Leaf.{is_list, is_mapped}
 use Rattle.der_base.specs.LeafRefusal.{BerLeafRefuses, DerLeafRefuses}
-use Rattle.der_base.specs.Refusal.{Refusal, max_depth, invalid_length, invalid_tag, construct_expected, der_constraint,
-    incomplete}
-use Rattle.der_base.specs.Spelling.{IsRawList, BeginsWithElement, Forms, Joins, DerSpells, framing_budget,
-    max_object_size}
+use Rattle.der_base.specs.Refusal.{
+  Refusal,
+  max_depth,
+  invalid_length,
+  invalid_tag,
+  construct_expected,
+  der_constraint,
+  incomplete,
+}
+use Rattle.der_base.specs.Spelling.{
+  IsRawList,
+  BeginsWithElement,
+  Forms,
+  Joins,
+  DerSpells,
+  framing_budget,
+  max_object_size,
+}
 use Rattle.der_base.specs.Encoding.{element}
 use Rattle.der_base.specs.Tree.{no_nodes, nodes}
 use Rattle.der_base.specs.Cut.{IsCut, Lacks, DerLacks}
@@ -44,7 +80,7 @@ DerLengthRefuses s e = (((r : List ℕ) × (s ≡ 255 ∷ r)) × (e ≡ invalid_
     ⊎ (HasLargeLength s × (e ≡ invalid_length))
     ⊎ (((r : List ℕ) × (s ≡ 128 ∷ r)) × (e ≡ der_constraint IndefiniteLength))
     ⊎ (((l r : List ℕ) × (n : ℕ) × (s ≡ l ++ r) × SpellsLength l n × (l ≢ shortest_length n))
-        × (e ≡ der_constraint LengthNotMinimal))
+    × (e ≡ der_constraint LengthNotMinimal))
 
 -- the refusals of a header
 abbrev pub BerHeaderRefuses : List ℕ → Refusal → Type 0
@@ -80,7 +116,7 @@ ItemRefuses faults lacks r e = (r ≢ [])
 abbrev pub ShowsWithin : (List ℕ → Refusal → Type 0) → ℕ → Bool → ℕ → List ℕ → Refusal → Type 0
 ShowsWithin faults d p t w e = BerLeafRefuses p t w e
     ⊎ (IsTrue (is_list t) × (p ≡ true) × (l : Nodes) × (fs : Forms) × (u r : List ℕ) × (w ≡ u ++ r)
-        × Joins u l fs d framing_budget × ItemRefuses faults Lacks r e)
+    × Joins u l fs d framing_budget × ItemRefuses faults Lacks r e)
 
 -- A front of i shows the refusal, to depth d (the depth comes first: the definition recurses on it).
 abbrev pub ShowsFault : ℕ → List ℕ → Refusal → Type 0
@@ -90,10 +126,10 @@ ShowsFault (suc d) i e =
     BerHeaderRefuses i e
     -- in the framing of an indefinite length
     ⊎ ((c : Class) × (t : ℕ) × (v : List ℕ) × (t < 2 ^ 32) × (i ≡ identifier c true t ++ 128 ∷ v)
-        × InsideRefuses v framing_budget e)
+    × InsideRefuses v framing_budget e)
     -- in the content
     ⊎ ((p : Bool) × (t : ℕ) × (w rest : List ℕ) × BeginsWithElement i framing_budget Universal p t w rest
-        × IsTrue (is_mapped t) × ShowsWithin (ShowsFault d) d p t w e)
+    × IsTrue (is_mapped t) × ShowsWithin (ShowsFault d) d p t w e)
 
 abbrev pub ShowsInside : ℕ → Bool → ℕ → List ℕ → Refusal → Type 0
 ShowsInside d p t w e = ShowsWithin (ShowsFault d) d p t w e
@@ -107,7 +143,7 @@ DerJoins u (nodes o l) d = (b rest : List ℕ) × (u ≡ b ++ rest) × DerSpells
 abbrev pub DerShowsWithin : (List ℕ → Refusal → Type 0) → ℕ → Bool → ℕ → List ℕ → Refusal → Type 0
 DerShowsWithin faults d p t w e = DerLeafRefuses p t w e
     ⊎ (IsTrue (is_list t) × (p ≡ true) × (l : Nodes) × (u r : List ℕ) × (w ≡ u ++ r) × DerJoins u l d
-        × ItemRefuses faults DerLacks r e)
+    × ItemRefuses faults DerLacks r e)
 
 abbrev pub DerShowsFault : ℕ → List ℕ → Refusal → Type 0
 DerShowsFault zero i e = e ≡ max_depth
@@ -115,10 +151,10 @@ DerShowsFault (suc d) i e =
     DerHeaderRefuses i e
     -- in the size
     ⊎ ((c : Class) × (p : Bool) × (t n : ℕ) × (r : List ℕ) × (t < 2 ^ 32)
-        × (i ≡ identifier c p t ++ shortest_length n ++ r) × (n < 2 ^ 64) × (max_object_size < n)
-        × (e ≡ invalid_length))
+    × (i ≡ identifier c p t ++ shortest_length n ++ r) × (n < 2 ^ 64) × (max_object_size < n)
+    × (e ≡ invalid_length))
     ⊎ ((p : Bool) × (t : ℕ) × (w rest : List ℕ) × (t < 2 ^ 32) × (i ≡ element Universal p t w ++ rest)
-        × (length w ≤ max_object_size) × IsTrue (is_mapped t) × DerShowsWithin (DerShowsFault d) d p t w e)
+    × (length w ≤ max_object_size) × IsTrue (is_mapped t) × DerShowsWithin (DerShowsFault d) d p t w e)
 
 abbrev pub DerShowsInside : ℕ → Bool → ℕ → List ℕ → Refusal → Type 0
 DerShowsInside d p t w e = DerShowsWithin (DerShowsFault d) d p t w e

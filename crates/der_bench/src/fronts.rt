@@ -81,6 +81,17 @@ fn expect_stable(
     Ok(())
 }
 
+/// What a reader answers on a front, as far as fronts are compared.
+#[derive(Clone, Copy)]
+enum Shown {
+    /// It is cut short.
+    Cut,
+    /// It begins with an object, and so many octets are left.
+    Read(usize),
+    /// It is refused.
+    Refused,
+}
+
 /// Whether a front is cut short. The reader answers on it as the module says, where so many shorter
 /// ones are cut short.
 fn is_cut(
@@ -92,15 +103,15 @@ fn is_cut(
     let ended = followed(rt.alloc(), front, b"\x00\x00")?;
     let refused = followed(rt.alloc(), front, b"\xff")?;
     let opened = followed(rt.alloc(), front, b"\x30\x80")?;
-    let given = expect_stands(rt, reader, front, &ended, &refused, &opened);
-    if let Ok((rest, _)) = &given {
-        assert_eq!(rt;
-            cut.checked_add(rest.len()),
-            Some(front.len()),
-            "{reader:?} of {front:?}: {given:?}"
-        );
+    match expect_stands(rt, reader, front, &ended, &refused, &opened) {
+        Shown::Cut => Ok(true),
+        Shown::Refused => Ok(false),
+        Shown::Read(left) => {
+            let read = cut.checked_add(left);
+            assert_eq!(rt; read, Some(front.len()), "{reader:?} of {front:?}");
+            Ok(false)
+        }
     }
-    Ok(matches!(&given, Err(Refused::Incomplete(_))))
 }
 
 /// A front and octets behind it.
@@ -119,12 +130,16 @@ fn expect_stands<'a>(
     ended: &'a [u8],
     refused: &'a [u8],
     opened: &'a [u8],
-) -> BerResult<'a> {
+) -> Shown {
     let given = reader.read(rt.alloc(), front);
     expect_same(rt, reader, &given, front, ended);
     expect_same(rt, reader, &given, front, refused);
     expect_same(rt, reader, &given, front, opened);
-    given
+    match &given {
+        Ok((rest, _)) => Shown::Read(rest.len()),
+        Err(Refused::Incomplete(_)) => Shown::Cut,
+        Err(_) => Shown::Refused,
+    }
 }
 
 /// What the reader answers on a front stands for an input that begins with it.
