@@ -1,28 +1,6 @@
 -- What a front of the input shows to be wrong, by its one name.
-use Rattle.std.specs.Prelude.{
-  ◌≡◌,
-  ◌≢◌,
-  ℕ,
-  zero,
-  suc,
-  ◌+◌,
-  ◌-◌,
-  ◌%◌,
-  ◌^◌,
-  ◌<◌,
-  ◌≤◌,
-  ◌⊎◌,
-  Bool,
-  true,
-  false,
-  IsTrue,
-  List,
-  [],
-  ◌∷◌,
-  ◌++◌,
-  length,
-  All,
-}
+use Rattle.std.specs.Prelude.{◌≡◌, ◌≢◌, ℕ, zero, suc, ◌+◌, ◌-◌, ◌%◌, ◌^◌, ◌<◌, ◌≤◌, ◌⊎◌, Bool, true, false, IsTrue}
+use Rattle.std.specs.Prelude.{List, [], ◌∷◌, ◌++◌, length, All}
 use Rattle.der_base.specs.declared.header.Class.{Class}
 use Rattle.der_base.specs.declared.header.Class.TheVariants.{Universal}
 use Rattle.der_base.specs.declared.error.DerConstraint.TheVariants.{IndefiniteLength, LengthNotMinimal}
@@ -31,24 +9,10 @@ use Rattle.der_base.specs.Octets.{identifier, number, groups_value, SpellsLength
 use Rattle.der_base.specs.Tree.{Nodes}
 use Rattle.der_base.specs.Leaf.{is_list, is_mapped}
 use Rattle.der_base.specs.LeafRefusal.{BerLeafRefuses, DerLeafRefuses}
-use Rattle.der_base.specs.Refusal.{
-  Refusal,
-  max_depth,
-  invalid_length,
-  invalid_tag,
-  construct_expected,
-  der_constraint,
-  incomplete,
-}
-use Rattle.der_base.specs.Spelling.{
-  IsRawList,
-  BeginsWithElement,
-  Forms,
-  Joins,
-  DerSpells,
-  framing_budget,
-  max_object_size,
-}
+use Rattle.der_base.specs.Refusal.{Refusal, max_depth, invalid_length, invalid_tag, construct_expected, der_constraint}
+use Rattle.der_base.specs.Refusal.{incomplete}
+use Rattle.der_base.specs.Spelling.{IsRawList, BeginsWithElement, Forms, Joins, DerSpells, framing_budget}
+use Rattle.der_base.specs.Spelling.{max_object_size}
 use Rattle.der_base.specs.Encoding.{element}
 use Rattle.der_base.specs.Tree.{no_nodes, nodes}
 use Rattle.der_base.specs.Cut.{IsCut, Lacks, DerLacks}

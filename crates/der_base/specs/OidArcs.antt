@@ -1,32 +1,6 @@
 -- The arcs of object identifiers (X.690 8.19 and 8.20): read from octets, written as octets, and in a dotted text.
-use Rattle.std.specs.Prelude.{
-  ◌≡◌,
-  ℕ,
-  ◌+◌,
-  ◌*◌,
-  ◌^◌,
-  ◌<◌,
-  Bool,
-  true,
-  false,
-  ◌&&◌,
-  ◌||◌,
-  ◌==◌,
-  nat_lt,
-  if◌then◌else◌,
-  List,
-  [],
-  ◌∷◌,
-  length,
-  map,
-  Option,
-  Some,
-  None,
-  Result,
-  Ok,
-  Err,
-  All,
-}
+use Rattle.std.specs.Prelude.{◌≡◌, ℕ, ◌+◌, ◌*◌, ◌^◌, ◌<◌, Bool, true, false, ◌&&◌, ◌||◌, ◌==◌, nat_lt, if◌then◌else◌}
+use Rattle.std.specs.Prelude.{List, [], ◌∷◌, length, map, Option, Some, None, Result, Ok, Err, All}
 use Rattle.std.specs.List.{list_all, flat_map, slice_split}
 use Rattle.std.specs.Str.{all_ascii_digits}
 use Rattle.std.specs.Str.Parse.{digits_value}

@@ -10,30 +10,9 @@ use Rattle.der_base.specs.declared.time.ASN1DateTime.{ASN1DateTime}
 use Rattle.der_base.specs.declared.time.ASN1TimeZone.{ASN1TimeZone}
 use Rattle.der_base.specs.declared.time.ASN1TimeZone.TheVariants.{Undefined, Z, Offset}
 use Rattle.der_base.specs.contracts.header.Class as Class_type
-use Rattle.der_base.specs.Tree.{
-  Node,
-  node,
-  Content,
-  end_of_content,
-  boolean,
-  integer,
-  bit_string,
-  string,
-  null,
-  enumerated,
-  object_identifier,
-  relative_oid,
-  time,
-  sequence,
-  set,
-  absent,
-  present,
-  tagged,
-  unknown,
-  Nodes,
-  no_nodes,
-  nodes,
-}
+use Rattle.der_base.specs.Tree.{Node, node, Content, end_of_content, boolean, integer, bit_string, string, null}
+use Rattle.der_base.specs.Tree.{enumerated, object_identifier, relative_oid, time, sequence, set, absent, present}
+use Rattle.der_base.specs.Tree.{tagged, unknown, Nodes, no_nodes, nodes}
 
 abbrev pub same_class : Class → Class → Bool
 same_class = sameb Class_type.the_type

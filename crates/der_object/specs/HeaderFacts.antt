@@ -7,12 +7,8 @@ use Rattle.der_base.specs.Header.{class_of, is_constructed, number_of, length_of
 use Rattle.der_base.specs.Octets.{identifier}
 use Rattle.der_base.specs.Spelling.{Form, form, Forms, no_forms, forms}
 use Rattle.der_object.specs.declared.object.BerObject.{BerObject}
-use Rattle.der_object.specs.declared.object.BerObjectContent.{
-  BerObjectContent,
-  Row_of-BerObject,
-  end_of-BerObject,
-  more_of-BerObject,
-}
+use Rattle.der_object.specs.declared.object.BerObjectContent.{BerObjectContent, Row_of-BerObject, end_of-BerObject}
+use Rattle.der_object.specs.declared.object.BerObjectContent.{more_of-BerObject}
 use Rattle.der_object.specs.declared.object.BerObjectContent.TheVariants.{Sequence', Set', Unknown}
 use Rattle.der_object.specs.View.{content_tree}
 

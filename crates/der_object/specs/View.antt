@@ -3,63 +3,20 @@ use Rattle.std.specs.Prelude.{List, map}
 use Rattle.der_base.specs.declared.header.Header.{Header}
 use Rattle.der_base.specs.Header.{class_of, is_constructed, number_of}
 use Rattle.der_base.specs.Oids.{octets_of, is_relative_of}
-use Rattle.der_base.specs.Tree.{
-  Node,
-  node,
-  Content,
-  end_of_content,
-  boolean,
-  integer,
-  bit_string,
-  string,
-  null,
-  enumerated,
-  object_identifier,
-  relative_oid,
-  time,
-  sequence,
-  set,
-  unknown,
-  Nodes,
-  no_nodes,
-  nodes,
-  nodes_of,
-}
+use Rattle.der_base.specs.Tree.{Node, node, Content, end_of_content, boolean, integer, bit_string, string, null}
+use Rattle.der_base.specs.Tree.{enumerated, object_identifier, relative_oid, time, sequence, set, unknown, Nodes}
+use Rattle.der_base.specs.Tree.{no_nodes, nodes, nodes_of}
 use Rattle.der_object.specs.declared.object.BerObject.{BerObject}
-use Rattle.der_object.specs.declared.object.BerObjectContent.{
-  BerObjectContent,
-  Row_of-BerObject,
-  end_of-BerObject,
-  more_of-BerObject,
-}
-use Rattle.der_object.specs.declared.object.BerObjectContent.TheVariants.{
-  EndOfContent,
-  Boolean,
-  Integer,
-  BitString,
-  OctetString,
-  Null,
-  Enum,
-  OID,
-  RelativeOID,
-  NumericString,
-  VisibleString,
-  PrintableString,
-  IA5String,
-  UTF8String,
-  T61String,
-  VideotexString,
-  ObjectDescriptor,
-  GraphicString,
-  GeneralString,
-  BmpString,
-  UniversalString,
-  Sequence',
-  Set',
-  UTCTime,
-  GeneralizedTime,
-  Unknown,
-}
+use Rattle.der_object.specs.declared.object.BerObjectContent.{BerObjectContent, Row_of-BerObject, end_of-BerObject}
+use Rattle.der_object.specs.declared.object.BerObjectContent.{more_of-BerObject}
+use Rattle.der_object.specs.declared.object.BerObjectContent.TheVariants.{EndOfContent, Boolean, Integer, BitString}
+use Rattle.der_object.specs.declared.object.BerObjectContent.TheVariants.{OctetString, Null, Enum, OID, RelativeOID}
+use Rattle.der_object.specs.declared.object.BerObjectContent.TheVariants.{NumericString, VisibleString, PrintableString}
+use Rattle.der_object.specs.declared.object.BerObjectContent.TheVariants.{IA5String, UTF8String, T61String}
+use Rattle.der_object.specs.declared.object.BerObjectContent.TheVariants.{VideotexString, ObjectDescriptor}
+use Rattle.der_object.specs.declared.object.BerObjectContent.TheVariants.{GraphicString, GeneralString, BmpString}
+use Rattle.der_object.specs.declared.object.BerObjectContent.TheVariants.{UniversalString, Sequence', Set', UTCTime}
+use Rattle.der_object.specs.declared.object.BerObjectContent.TheVariants.{GeneralizedTime, Unknown}
 
 -- The node of a header and a content. The length and the raw tag of the header are no part of it.
 abbrev pub node_of : Header → Content → Node

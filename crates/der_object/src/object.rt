@@ -144,7 +144,8 @@ impl<'a> BerObject<'a> {
     /// stay.
     pub fn set_raw_tag(self, raw_tag: Option<&'a [u8]>) -> BerObject<'a>
         ensures header { let h = self.entry.header in
-            IsHeader result.header (class_of h) (is_constructed h) (number_of h) (length_of h) (option_copied raw_tag.entry) }
+            IsHeader result.header (class_of h) (is_constructed h) (number_of h) (length_of h)
+            (option_copied raw_tag.entry) }
         ensures content { result.content ≡ self.entry.content }
         ensures tree { tree result ≡ tree self.entry }
     {
