@@ -1,5 +1,5 @@
 -- Lines of objects, some of them written and some pending.
-use Rattle.std.proofs.Common.{◌≡◌, ℕ, List, [], ◌∷◌, ◌++◌, None, Some, refl, sym, ap, subst, append_assoc, append-nil, ◌∙◌}
+use Rattle.std.proofs.Common.{◌≡◌, ℕ, List, [], ◌∷◌, ◌++◌, None, Some, sym, ap, subst, append_assoc, append-nil, ◌∙◌}
 use Rattle.std.proofs.KnownBytes.{Appends-trans, Appends-kept, Keeps-refl, append_known-grown}
 use Rattle.std.specs.Prelude.{Option}
 use Rattle.std.specs.Io.KnownBytes.{Appends, Keeps, append_known}

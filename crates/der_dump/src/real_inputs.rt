@@ -1,18 +1,19 @@
 //! Inputs of the kind that users have, an element a row: its octets, up to its content where it is
 //! a list, and the text that is printed of it.
-use crate::tests::run;
-use std::str;
+use crate::tests::expect_run;
 use std::test::Fail;
 
 /// The octets of an element, and its text; no octets at the end of a list.
 type Row = (&'static [u8], &'static str);
 
-/// A certificate (X.509), made by
+/// A certificate (X.509) in parts, made by
 /// `openssl req -x509 -key KEY -subj /C=FR/O=Example/CN=example.org -days 30 -set_serial 4660`
 /// with an Ed25519 key.
+const CERTIFICATE: &[&[Row]] = &[SIGNED, NAME, VALIDITY, NAME, KEY_AND_SIGNATURE];
+
+/// The certificate, and what is signed of it, up to the issuer.
 #[rattlefmt::skip]
-const CERTIFICATE: &[Row] = &[
-    // the certificate, and what is signed of it
+const SIGNED: &[Row] = &[
     (b"\x30\x82\x01\x6d", "Sequence[\n"),
     (b"\x30\x82\x01\x1f", "  Sequence[\n"),
     // version 3, serial number 1234
@@ -22,7 +23,11 @@ const CERTIFICATE: &[Row] = &[
     (b"\x30\x05", "    Sequence[\n"),
     (b"\x06\x03\x2b\x65\x70", "      OID(1.3.101.112)"),
     (b"", "    ]"),
-    // the issuer: a country, an organization, a common name
+];
+
+/// The issuer, and the subject, which is the same: a country, an organization, a common name.
+#[rattlefmt::skip]
+const NAME: &[Row] = &[
     (b"\x30\x35", "    Sequence[\n"),
     (b"\x31\x0b", "      Set[\n"),
     (b"\x30\x09", "        Sequence[\n"),
@@ -43,33 +48,20 @@ const CERTIFICATE: &[Row] = &[
     (b"", "        ]"),
     (b"", "      ]"),
     (b"", "    ]"),
-    // not before, not after
+];
+
+/// Not before, not after.
+#[rattlefmt::skip]
+const VALIDITY: &[Row] = &[
     (b"\x30\x1e", "    Sequence[\n"),
     (b"\x17\x0d\x32\x36\x31\x31\x32\x32\x31\x33\x34\x30\x32\x36\x5a", "      UTCTime(\"261122134026Z\")"),
     (b"\x17\x0d\x32\x36\x31\x32\x32\x32\x31\x33\x34\x30\x32\x36\x5a", "      UTCTime(\"261222134026Z\")"),
     (b"", "    ]"),
-    // the subject, the same
-    (b"\x30\x35", "    Sequence[\n"),
-    (b"\x31\x0b", "      Set[\n"),
-    (b"\x30\x09", "        Sequence[\n"),
-    (b"\x06\x03\x55\x04\x06", "          OID(2.5.4.6)"),
-    (b"\x13\x02\x46\x52", "          PrintableString(\"FR\")"),
-    (b"", "        ]"),
-    (b"", "      ]"),
-    (b"\x31\x10", "      Set[\n"),
-    (b"\x30\x0e", "        Sequence[\n"),
-    (b"\x06\x03\x55\x04\x0a", "          OID(2.5.4.10)"),
-    (b"\x0c\x07\x45\x78\x61\x6d\x70\x6c\x65", "          UTF8String(\"Example\")"),
-    (b"", "        ]"),
-    (b"", "      ]"),
-    (b"\x31\x14", "      Set[\n"),
-    (b"\x30\x12", "        Sequence[\n"),
-    (b"\x06\x03\x55\x04\x03", "          OID(2.5.4.3)"),
-    (b"\x0c\x0b\x65\x78\x61\x6d\x70\x6c\x65\x2e\x6f\x72\x67", "          UTF8String(\"example.org\")"),
-    (b"", "        ]"),
-    (b"", "      ]"),
-    (b"", "    ]"),
-    // the public key
+];
+
+/// The public key, the extensions and the signature.
+#[rattlefmt::skip]
+const KEY_AND_SIGNATURE: &[Row] = &[
     (b"\x30\x2a", "    Sequence[\n"),
     (b"\x30\x05", "      Sequence[\n"),
     (b"\x06\x03\x2b\x65\x70", "        OID(1.3.101.112)"),
@@ -86,7 +78,6 @@ const CERTIFICATE: &[Row] = &[
     (b"\x03\x41\x00\x28\x3d\x06\x6f\x18\xcb\x45\x37\xd4\x76\xff\x30\xe8\x85\xc4\xd7\x00\x7d\xa5\xf6\x73\x8a\x6b\x1b\x9d\xd9\x71\xd4\x17\x3d\x4d\x2e\x51\x3c\x5c\x0c\x09\xc3\x89\x63\x50\x64\x4d\x6e\x5f\xfe\x20\x73\xb2\x2b\x18\x4b\x52\x01\xcf\x15\x11\x30\xf0\xfd\x8f\xb2\x27\x00", "  BitString(0,[28 3d 06 6f 18 cb 45 37 d4 76 ff 30 e8 85 c4 d7 00 7d a5 f6 73 8a 6b 1b 9d d9 71 d4 17 3d 4d 2e 51 3c 5c 0c 09 c3 89 63 50 64 4d 6e 5f fe 20 73 b2 2b 18 4b 52 01 cf 15 11 30 f0 fd 8f b2 27 00])"),
     (b"", "]"),
 ];
-
 /// A request for `sysDescr.0` (SNMP version 1, RFC 1157), by its fields.
 #[rattlefmt::skip]
 const SNMP_REQUEST: &[Row] = &[
@@ -132,31 +123,29 @@ const CMS_DATA: &[Row] = &[
     (b"\x00\x00", "]"),
 ];
 
+/// The word of each run, and its elements in parts.
+const RUNS: &[(&str, &[&[Row]])] = &[
+    ("der", CERTIFICATE),
+    ("ber", CERTIFICATE),
+    ("der", &[SNMP_REQUEST]),
+    ("der", &[SNMP_BINDINGS]),
+    ("der", &[LDAP_BIND]),
+    ("ber", &[CMS_DATA]),
+];
+
 #[test]
 fn real_inputs_are_printed(rt: HostRuntime) -> Result<(), Fail> {
-    let runs = [
-        ("der", CERTIFICATE),
-        ("ber", CERTIFICATE),
-        ("der", SNMP_REQUEST),
-        ("der", SNMP_BINDINGS),
-        ("der", LDAP_BIND),
-        ("ber", CMS_DATA),
-    ];
-    for (word, rows) in runs {
+    for (word, parts) in RUNS {
         let mut input = Vec::new(rt.alloc());
-        let mut printed = Vec::new(rt.alloc());
-        for (octets, text) in rows {
-            input.extend_from_slice(octets)?;
-            printed.extend_from_slice(text.as_bytes())?;
+        let mut printed = String::new(rt.alloc());
+        for rows in *parts {
+            for (octets, text) in *rows {
+                input.extend_from_slice(octets)?;
+                printed.push_str(text)?;
+            }
         }
-        printed.push(b'\n')?;
-        let mut reader = input.as_slice();
-        let mut out = Vec::new(rt.alloc());
-        let mut err = Vec::new(rt.alloc());
-        let status = run(rt.alloc(), word, &mut reader, &mut out, &mut err);
-        assert_eq!(rt; str::from_utf8(&err), Ok(""));
-        assert_eq!(rt; str::from_utf8(&out), str::from_utf8(&printed));
-        assert_eq!(rt; status, 0);
+        printed.push('\n')?;
+        expect_run(&rt, word, &mut input.as_slice(), (&printed, "", 0));
     }
     Ok(())
 }

@@ -1,9 +1,9 @@
 //! What the program does, over any reader and writers.
-ghost use Rattle.std.specs.Prelude.{◌≡◌, ◌≤◌, ◌↔◌, IfOk, IfErr, OnOk, true, false};
+ghost use Rattle.std.specs.Prelude.{◌≡◌, ◌≤◌, ◌↔◌, IfOk, IfErr, OnOk, true};
 ghost use Rattle.std.specs.Io.KnownBytes.{Appends, Keeps, append_known};
 ghost use Rattle.der_dump.specs.Ends.{EndsWell, IsCause, Printed, PrintEnds};
 ghost use Rattle.der_dump.specs.Lines.{AddsLine};
-ghost use Rattle.der_dump.specs.Sinks.{has_failed, is_flushed, octets_of};
+ghost use Rattle.der_dump.specs.Sinks.{is_flushed, octets_of};
 ghost use Rattle.der_dump.specs.Sources.{GaveOctets, IsFresh, octets_left, octets_taken};
 ghost use Rattle.der_dump.specs.Words.{Names};
 ghost use Rattle.der_parser.specs.View.{tree};
@@ -33,7 +33,6 @@ pub fn run<R: Read, W: Write, X: Write>(
     err: &mut X,
 ) -> u8
     requires fresh { IsFresh reader.old }
-    requires clean { has_failed out.old ≡ false }
     ensures status { result ≤ 2 }
 
     // A word that names no rules: nothing is read, and nothing printed.
@@ -73,7 +72,6 @@ fn dump<R: Read, W: Write>(
     out: &mut Sink<W>,
 ) -> Result<(), Fault>
     requires fresh { IsFresh reader.old }
-    requires clean { has_failed out.old ≡ false }
     ensures done { OnOk result (EndsWell R.remaining W.contents rules reader.old reader.new out.old out.new) }
     ensures taken { GaveOctets (octets_left R.remaining reader.old) (octets_left R.remaining reader.new)
         (octets_taken reader.new) }

@@ -148,214 +148,92 @@ const TYPE_RUNS: &[Run] = &[
     (b"\x13\x03A'z", "PrintableString(\"A'z\")\n", "", 0),
     (b"\x16\x02a@", "IA5String(\"a@\")\n", "", 0),
     (b"\x1a\x01~", "VisibleString(\"~\")\n", "", 0),
-    (b"\x0c\x01a", "UTF8String(\"a\")\n", "", 0),
+    (b"\x0c\x03a\xc3\xa9", "UTF8String(\"a\u{e9}\")\n", "", 0),
     (b"\x07\x01a", "ObjectDescriptor(\"a\")\n", "", 0),
-    (b"\x14\x01a", "T61String(a)\n", "", 0),
+    (b"\x14\x03a\"b", "T61String(a\"b)\n", "", 0),
     (b"\x15\x01a", "VideotexString(a)\n", "", 0),
     (b"\x19\x01a", "GraphicString(\"a\")\n", "", 0),
     (b"\x1b\x00", "GeneralString(\"\")\n", "", 0),
-    (b"\x1e\x04\x00L\x00e", "BmpString(\"Le\")\n\n", "", 0),
-    (b"\x1c\x04\x00\x00\x00A", "UniversalString(\"A\")\n\n", "", 0),
+    (b"\x1e\x04\x00L\x00\xe9", "BmpString(\"L\u{e9}\")\n\n", "", 0),
+    (b"\x1e\x04\xd8\x3d\xde\x00", "BmpString(\"\u{1f600}\")\n\n", "", 0),
+    (b"\x1c\x00", "UniversalString(\"\")\n\n", "", 0),
+    (b"\x1c\x05\x00\x01\xf6\x00\x09", "UniversalString(\"\u{1f600}\")\n\n", "", 0),
+    (b"\x1c\x04\x00\x00\xd8\x00", "UniversalString([00 00 d8 00]) <error decoding utf32 string>\n\n", "", 0),
     (b"\x17\x0d200101000000Z", "UTCTime(\"200101000000Z\")\n", "", 0),
     (b"\x18\x1120200101000000.1Z", "GeneralizedTime(\"20200101000000.1Z\")\n", "", 0),
 ];
 
 /// What `derdump der` does.
+#[rattlefmt::skip]
 const DER_RUNS: &[Run] = &[
     (b"", "", "", 0),
-    (
-        b"\x01\x01\xff\x02\x01\x05\x04\x02ab",
-        "Boolean(true)\nInteger([05])\nOctetString([61 62])\n",
-        "",
-        0,
-    ),
-    (
-        b"\x01\x01\x00\x01\x01\xff",
-        "Boolean(false)\nBoolean(true)\n",
-        "",
-        0,
-    ),
-    (
-        b"\x02\x02\x01\x0f\x02\x01\xa5",
-        "Integer([01 0f])\nInteger([a5])\n",
-        "",
-        0,
-    ),
-    (
-        b"\x04\x00\x04\x03abc",
-        "OctetString([])\nOctetString([61 62 63])\n",
-        "",
-        0,
-    ),
-    (
-        b"\x30\x0a\x02\x03\x01\x00\x01\x02\x03\x01\x00\x00",
-        "Sequence[\n  Integer([01 00 01])  Integer([01 00 00])]\n",
-        "",
-        0,
-    ),
-    (
-        b"\x31\x04\x30\x02\x05\x00\x30\x00",
-        "Set[\n  Sequence[\n    Null  ]]\nSequence[\n]\n",
-        "",
-        0,
-    ),
+    (b"\x01\x01\xff\x02\x01\x05\x04\x02ab", "Boolean(true)\nInteger([05])\nOctetString([61 62])\n", "", 0),
+    (b"\x01\x01\x00\x01\x01\xff", "Boolean(false)\nBoolean(true)\n", "", 0),
+    (b"\x02\x02\x01\x0f\x02\x01\xa5", "Integer([01 0f])\nInteger([a5])\n", "", 0),
+    (b"\x04\x00\x04\x03abc", "OctetString([])\nOctetString([61 62 63])\n", "", 0),
+    (b"\x30\x0a\x02\x03\x01\x00\x01\x02\x03\x01\x00\x00",
+        "Sequence[\n  Integer([01 00 01])  Integer([01 00 00])]\n", "", 0),
+    (b"\x31\x04\x30\x02\x05\x00\x30\x00", "Set[\n  Sequence[\n    Null  ]]\nSequence[\n]\n", "", 0),
     (b"\x80\x01a\x00\x00", "Unknown [61]\nEndOfContent\n", "", 0),
-    (
-        b"\x05\x00\x30\x03\x02\x02\x01",
-        "Null\n",
-        "error at 2: incomplete, needs 2\n",
-        1,
-    ),
-    (
-        b"\x2c\x01a",
-        "",
-        "error at 0: DER constraint failed: constructed\n",
-        1,
-    ),
-    (
-        b"\x01\x01\xff\x02\x81\x01\x05",
-        "Boolean(true)\n",
-        "error at 3: DER constraint failed: length not minimal\n",
-        1,
-    ),
+    (b"\x05\x00\x30\x03\x02\x02\x01", "Null\n", "error at 2: incomplete, needs 2\n", 1),
+    (b"\x2c\x01a", "", "error at 0: DER constraint failed: constructed\n", 1),
+    (b"\x01\x01\xff\x02\x81\x01\x05",
+        "Boolean(true)\n", "error at 3: DER constraint failed: length not minimal\n", 1),
     (b"\x02\x02\x00", "", "error at 0: incomplete, needs 2\n", 1),
-    (
-        b"\x04\x01a\x04\x01b\x01\x01\x02",
-        "OctetString([61])\nOctetString([62])\n",
-        "error at 6: DER constraint failed: invalid boolean\n",
-        1,
-    ),
-    (
-        b"\x30\x03\x01\x01\x7f",
-        "",
-        "error at 0: DER constraint failed: invalid boolean\n",
-        1,
-    ),
-    (
-        b"\x05\x00\x30\x80\x05\x00\x00\x00",
-        "Null\n",
-        "error at 2: DER constraint failed: indefinite length\n",
-        1,
-    ),
+    (b"\x04\x01a\x04\x01b\x01\x01\x02",
+        "OctetString([61])\nOctetString([62])\n", "error at 6: DER constraint failed: invalid boolean\n", 1),
+    (b"\x30\x03\x01\x01\x7f", "", "error at 0: DER constraint failed: invalid boolean\n", 1),
+    (b"\x05\x00\x30\x80\x05\x00\x00\x00",
+        "Null\n", "error at 2: DER constraint failed: indefinite length\n", 1),
 ];
 
 /// What `derdump ber` does.
+#[rattlefmt::skip]
 const BER_RUNS: &[Run] = &[
     (b"", "", "", 0),
-    (
-        b"\x01\x01\xff\x02\x01\x05\x04\x02ab",
-        "Boolean(true)\nInteger([05])\nOctetString([61 62])\n",
-        "",
-        0,
-    ),
-    (
-        b"\x01\x01\xff\x02\x81\x01\x05",
-        "Boolean(true)\nInteger([05])\n",
-        "",
-        0,
-    ),
-    (
-        b"\x30\x03\x01\x01\x7f",
-        "Sequence[\n  Boolean(true)]\n",
-        "",
-        0,
-    ),
-    (
-        b"\x30\x80\x04\x03\x56\x78\x90\x00\x00\x02\x01\x01",
-        "Sequence[\n  OctetString([56 78 90])]\nInteger([01])\n",
-        "",
-        0,
-    ),
-    (
-        b"\x31\x80\x30\x80\x05\x00\x00\x00\x30\x00\x00\x00",
-        "Set[\n  Sequence[\n    Null  ]  Sequence[\n  ]]\n",
-        "",
-        0,
-    ),
-    (
-        b"\xa0\x80\x02\x01\x05\x00\x00\x24\x80\x04\x01a\x00\x00",
-        "Unknown [02 01 05]\nOctetString([04 01 61])\n",
-        "",
-        0,
-    ),
-    (
-        b"\x25\x01\x00\x02\x00\x00\x00",
-        "Null\nInteger([])\nEndOfContent\n",
-        "",
-        0,
-    ),
-    (
-        b"\x30\x80\x30\x81\x02\x00\x00\x00\x00",
-        "Sequence[\n  Sequence[\n    EndOfContent  ]]\n",
-        "",
-        0,
-    ),
-    (
-        b"\x05\x00\x02\x02\x00",
-        "Null\n",
-        "error at 2: incomplete, needs 1\n",
-        1,
-    ),
-    (
-        b"\x05\x00\x30\x04\x02\x03\x01\x00",
-        "Null\n",
-        "error at 2: incomplete, needs 1\n",
-        1,
-    ),
-    (
-        b"\x30\x80\x00\x00\x30\x80\x05\x00",
-        "Sequence[\n]\n",
-        "error at 4: incomplete, needs 1\n",
-        1,
-    ),
-    (
-        b"\x02\x82\x00\x01\x05\x02\x80",
-        "Integer([05])\n",
-        "error at 5: constructed encoding expected\n",
-        1,
-    ),
-    (
-        b"\x30\x80\x05\x00\x02\xff",
-        "",
-        "error at 0: invalid length\n",
-        1,
-    ),
-    (
-        b"\x00\x00\x30\x80\x05\x00\x21\x01\xff\x00\x00",
-        "EndOfContent\n",
-        "error at 2: primitive encoding expected\n",
-        1,
-    ),
-    (
-        b"\x05\x00\x2c\x01a",
-        "Null\n",
-        "error at 2: unsupported\n",
-        1,
-    ),
-    (
-        b"\x18\x0d202001010000Z\x17\x11200101000000-0000",
-        "GeneralizedTime(\"20200101000000Z\")\nUTCTime(\"200101000000+0000\")\n",
-        "",
-        0,
-    ),
+    (b"\x01\x01\xff\x02\x01\x05\x04\x02ab", "Boolean(true)\nInteger([05])\nOctetString([61 62])\n", "", 0),
+    (b"\x01\x01\xff\x02\x81\x01\x05", "Boolean(true)\nInteger([05])\n", "", 0),
+    (b"\x30\x03\x01\x01\x7f", "Sequence[\n  Boolean(true)]\n", "", 0),
+    (b"\x30\x80\x04\x03\x56\x78\x90\x00\x00\x02\x01\x01",
+        "Sequence[\n  OctetString([56 78 90])]\nInteger([01])\n", "", 0),
+    (b"\x31\x80\x30\x80\x05\x00\x00\x00\x30\x00\x00\x00",
+        "Set[\n  Sequence[\n    Null  ]  Sequence[\n  ]]\n", "", 0),
+    (b"\xa0\x80\x02\x01\x05\x00\x00\x24\x80\x04\x01a\x00\x00",
+        "Unknown [02 01 05]\nOctetString([04 01 61])\n", "", 0),
+    (b"\x25\x01\x00\x02\x00\x00\x00", "Null\nInteger([])\nEndOfContent\n", "", 0),
+    (b"\x30\x80\x30\x81\x02\x00\x00\x00\x00", "Sequence[\n  Sequence[\n    EndOfContent  ]]\n", "", 0),
+    (b"\x05\x00\x02\x02\x00", "Null\n", "error at 2: incomplete, needs 1\n", 1),
+    (b"\x05\x00\x30\x04\x02\x03\x01\x00", "Null\n", "error at 2: incomplete, needs 1\n", 1),
+    (b"\x30\x80\x00\x00\x30\x80\x05\x00", "Sequence[\n]\n", "error at 4: incomplete, needs 1\n", 1),
+    (b"\x02\x82\x00\x01\x05\x02\x80", "Integer([05])\n", "error at 5: constructed encoding expected\n", 1),
+    (b"\x30\x80\x05\x00\x02\xff", "", "error at 0: invalid length\n", 1),
+    (b"\x00\x00\x30\x80\x05\x00\x21\x01\xff\x00\x00",
+        "EndOfContent\n", "error at 2: primitive encoding expected\n", 1),
+    (b"\x05\x00\x2c\x01a", "Null\n", "error at 2: unsupported\n", 1),
+    (b"\x18\x0d202001010000Z\x17\x11200101000000-0000",
+        "GeneralizedTime(\"20200101000000Z\")\nUTCTime(\"200101000000+0000\")\n", "", 0),
 ];
+
+/// Under this word, what the reader gives is printed and told of so.
+pub fn expect_run<R: Read>(
+    rt: &(impl Abort + AllocGlobal),
+    word: &str,
+    reader: &mut R,
+    (printed, told, status): (&str, &str, u8),
+) {
+    let mut out = Vec::new(rt.alloc());
+    let mut err = Vec::new(rt.alloc());
+    let ended = run(rt.alloc(), word, reader, &mut out, &mut err);
+    assert_eq!(rt; str::from_utf8(&out), Ok(printed), "under {word}");
+    assert_eq!(rt; str::from_utf8(&err), Ok(told), "under {word}");
+    assert_eq!(rt; ended, status, "under {word}");
+}
 
 /// Under this word, each input is printed and told of so.
 fn expect_runs(rt: &(impl Abort + AllocGlobal), word: &str, runs: &[Run]) {
-    for (input, printed, told, status) in runs {
-        let mut reader = ShortReads {
-            left: input,
-            fault: None,
-        };
-        let mut out = Vec::new(rt.alloc());
-        let mut err = Vec::new(rt.alloc());
-        assert_eq!(rt;
-            run(rt.alloc(), word, &mut reader, &mut out, &mut err),
-            *status,
-            "{word} of {input:?}"
-        );
-        assert_eq!(rt; str::from_utf8(&out), Ok(*printed), "{word} of {input:?}");
-        assert_eq!(rt; str::from_utf8(&err), Ok(*told), "{word} of {input:?}");
+    for (left, printed, told, status) in runs {
+        let mut reader = ShortReads { left, fault: None };
+        expect_run(rt, word, &mut reader, (printed, told, *status));
     }
 }
 
@@ -363,15 +241,11 @@ fn expect_runs(rt: &(impl Abort + AllocGlobal), word: &str, runs: &[Run]) {
 fn prints_elements_up_to_a_fault(rt: HostRuntime) {
     expect_runs(&rt, "der", DER_RUNS);
     expect_runs(&rt, "ber", BER_RUNS);
-}
-
-/// An element that is refused for its depth stands behind one that is printed.
-#[test]
-fn types_are_printed(rt: HostRuntime) {
     expect_runs(&rt, "der", TYPE_RUNS);
     expect_runs(&rt, "ber", TYPE_RUNS);
 }
 
+/// An element that is refused for its depth stands behind one that is printed.
 #[test]
 fn fifty_indefinite_lengths_are_refused(rt: HostRuntime) -> Result<(), Fail> {
     let mut input = Vec::new(rt.alloc());
@@ -382,39 +256,22 @@ fn fifty_indefinite_lengths_are_refused(rt: HostRuntime) -> Result<(), Fail> {
     for _ in 0..50 {
         input.extend_from_slice(b"\x00\x00")?;
     }
-    let mut out = Vec::new(rt.alloc());
-    let mut err = Vec::new(rt.alloc());
-    assert_eq!(rt;
-        run(rt.alloc(), "ber", &mut input.as_slice(), &mut out, &mut err),
-        1
-    );
-    assert_eq!(rt; str::from_utf8(&out), Ok("Null\n"));
-    assert_eq!(rt;
-        str::from_utf8(&err),
-        Ok("error at 2: maximum depth reached\n")
-    );
+    let told = "error at 2: maximum depth reached\n";
+    expect_run(&rt, "ber", &mut input.as_slice(), ("Null\n", told, 1));
     Ok(())
 }
 
+/// Words that name no rules.
+const OTHER_WORDS: &[&str] = &[
+    "", "canon", "x", "BER", "DER", "ber ", "der ", "be", "de", "bers", "berder", "derdump",
+];
+
 #[test]
 fn other_words_are_usage_faults(rt: HostRuntime) {
-    for word in [
-        "", "canon", "x", "BER", "DER", "ber ", "der ", "be", "de", "bers", "berder", "derdump",
-    ] {
-        let mut reader = ShortReads {
-            left: b"\x01\x01\xff",
-            fault: None,
-        };
-        let mut out = Vec::new(rt.alloc());
-        let mut err = Vec::new(rt.alloc());
-        assert_eq!(rt;
-            run(rt.alloc(), word, &mut reader, &mut out, &mut err),
-            2,
-            "{word}"
-        );
-        assert_eq!(rt; reader.left.len(), 3, "{word}");
-        assert!(rt; out.is_empty(), "{word}");
-        assert_eq!(rt; str::from_utf8(&err), Ok(USAGE), "{word}");
+    for word in OTHER_WORDS {
+        let mut reader: &[u8] = b"\x01\x01\xff";
+        expect_run(&rt, word, &mut reader, ("", USAGE, 2));
+        assert_eq!(rt; reader.len(), 3, "{word}");
     }
 }
 
@@ -422,23 +279,17 @@ fn other_words_are_usage_faults(rt: HostRuntime) {
 fn a_failed_read_ends_it(rt: HostRuntime) {
     for left in [
         b"".as_slice(),
-        b"\x01\x01\xff",
-        b"\x01\x01\xff\x01\x01\xff\x01",
+        b"\x05\x00\x05",
+        b"\x05\x00\x05\x00\x05\x00\x05",
     ] {
         for kind in [
             ErrorKind::Other,
             ErrorKind::Interrupted,
             ErrorKind::UnexpectedEof,
         ] {
-            let mut reader = ShortReads {
-                left,
-                fault: Some(kind),
-            };
-            let mut out = Vec::new(rt.alloc());
-            let mut err = Vec::new(rt.alloc());
-            assert_eq!(rt; run(rt.alloc(), "der", &mut reader, &mut out, &mut err), 1);
-            assert!(rt; out.is_empty());
-            assert_eq!(rt; str::from_utf8(&err), Ok("error: read failed\n"));
+            let fault = Some(kind);
+            let mut reader = ShortReads { left, fault };
+            expect_run(&rt, "der", &mut reader, ("", "error: read failed\n", 1));
         }
     }
 }
@@ -453,34 +304,40 @@ fn a_failed_read_is_the_last(rt: HostRuntime) {
             failed: false,
             reads: 0,
         };
-        let mut out = Vec::new(rt.alloc());
-        let mut err = Vec::new(rt.alloc());
-        assert_eq!(rt; run(rt.alloc(), "der", &mut reader, &mut out, &mut err), 1);
-        assert!(rt; out.is_empty());
-        assert_eq!(rt; str::from_utf8(&err), Ok("error: read failed\n"));
+        expect_run(&rt, "der", &mut reader, ("", "error: read failed\n", 1));
         assert_eq!(rt; reader.reads, reads);
         assert_eq!(rt; reader.left.len(), fails_at);
     }
 }
 
-/// The run would end well, and the writer has no room for all of it.
+/// The writer has no room for all that is printed, of a run that would end well and of one that
+/// would not.
 #[test]
-fn a_failed_write_of_good_elements_ends_it(rt: HostRuntime) {
-    let text = b"Boolean(true)\nBoolean(false)\n";
+fn a_failed_write_ends_it(rt: HostRuntime) {
+    let text = b"Boolean(true)\nNull\n";
     for fault in [None, Some(ErrorKind::Other), Some(ErrorKind::StorageFull)] {
-        for room in 0..text.len() + 1 {
-            let mut input: &[u8] = b"\x01\x01\xff\x01\x01\x00";
-            let mut out = SmallRoom::new(rt.alloc(), room, fault);
-            let mut err = Vec::new(rt.alloc());
-            let status = run(rt.alloc(), "der", &mut input, &mut out, &mut err);
-            assert_eq!(rt; out.taken.as_slice(), &text[..room]);
-            let (told, expected) = if room < text.len() {
-                ("error: write failed\n", 1)
-            } else {
-                ("", 0)
-            };
-            assert_eq!(rt; status, expected);
-            assert_eq!(rt; str::from_utf8(&err), Ok(told));
+        for (input, told, status) in [
+            (b"\x01\x01\xff\x05\x00".as_slice(), "", 0),
+            (
+                b"\x01\x01\xff\x05\x00\x01\x01\x02",
+                "error at 5: DER constraint failed: invalid boolean\n",
+                1,
+            ),
+        ] {
+            for room in 0..text.len() + 1 {
+                let mut reader = input;
+                let mut out = SmallRoom::new(rt.alloc(), room, fault);
+                let mut err = Vec::new(rt.alloc());
+                let ended = run(rt.alloc(), "der", &mut reader, &mut out, &mut err);
+                let (told, status) = if room < text.len() {
+                    ("error: write failed\n", 1)
+                } else {
+                    (told, status)
+                };
+                assert_eq!(rt; out.taken.as_slice(), &text[..room]);
+                assert_eq!(rt; str::from_utf8(&err), Ok(told));
+                assert_eq!(rt; ended, status);
+            }
         }
     }
 }
@@ -518,42 +375,18 @@ fn a_failed_flush_ends_it(rt: HostRuntime) {
 fn long_inputs_end_well(rt: HostRuntime) -> Result<(), Fail> {
     for count in [86, 100, 257, 1000] {
         let mut input = Vec::new(rt.alloc());
-        let mut text = Vec::new(rt.alloc());
+        let mut text = String::new(rt.alloc());
         for _ in 0..count {
             input.extend_from_slice(b"\x02\x01\x05")?;
-            text.extend_from_slice(b"Integer([05])\n")?;
+            text.push_str("Integer([05])\n")?;
         }
         let mut reader = ShortReads {
             left: &input,
             fault: None,
         };
-        let mut out = Vec::new(rt.alloc());
-        let mut err = Vec::new(rt.alloc());
-        assert_eq!(rt; run(rt.alloc(), "der", &mut reader, &mut out, &mut err), 0);
-        assert!(rt; out == text);
-        assert!(rt; err.is_empty());
+        expect_run(&rt, "der", &mut reader, (&text, "", 0));
     }
     Ok(())
-}
-
-#[test]
-fn a_failed_write_ends_it(rt: HostRuntime) {
-    let text = b"Boolean(true)\nBoolean(false)\n";
-    for fault in [None, Some(ErrorKind::Other), Some(ErrorKind::BrokenPipe)] {
-        for room in 0..text.len() + 1 {
-            let mut input: &[u8] = b"\x01\x01\xff\x01\x01\x00\x01\x01\x02";
-            let mut out = SmallRoom::new(rt.alloc(), room, fault);
-            let mut err = Vec::new(rt.alloc());
-            assert_eq!(rt; run(rt.alloc(), "der", &mut input, &mut out, &mut err), 1);
-            assert_eq!(rt; out.taken.as_slice(), &text[..room]);
-            let told = if room < text.len() {
-                "error: write failed\n"
-            } else {
-                "error at 6: DER constraint failed: invalid boolean\n"
-            };
-            assert_eq!(rt; str::from_utf8(&err), Ok(told));
-        }
-    }
 }
 
 #[test]
@@ -563,10 +396,8 @@ fn a_fault_of_err_changes_nothing(rt: HostRuntime) {
             let mut input: &[u8] = b"\x01\x01\xff\x01\x01\x02";
             let mut out = Vec::new(rt.alloc());
             let mut err = SmallRoom::new(rt.alloc(), 4, fault);
-            assert_eq!(rt;
-                run(rt.alloc(), word, &mut input, &mut out, &mut err),
-                status
-            );
+            let ended = run(rt.alloc(), word, &mut input, &mut out, &mut err);
+            assert_eq!(rt; ended, status);
             assert_eq!(rt; err.taken.len(), 4);
         }
     }
