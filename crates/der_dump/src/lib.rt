@@ -1,0 +1,21 @@
+//! What the program `derdump` does: it prints the elements of its input, one a line. `program` is
+//! a whole run between standard streams, on the word that `only_argument` finds.
+#![tactic(auto)]
+
+mod arguments;
+mod fault;
+mod hex;
+mod input;
+#[cfg(test)]
+mod real_inputs;
+mod rules;
+mod run;
+mod sink;
+mod source;
+mod streams;
+#[cfg(test)]
+mod tests;
+mod text;
+
+pub use arguments::only_argument;
+pub use streams::program;

@@ -1,0 +1,176 @@
+//! What the program does, over any reader and writers.
+ghost use Rattle.std.specs.Prelude.{◌≡◌, ◌≤◌, ◌↔◌, IfOk, IfErr, OnOk, true};
+ghost use Rattle.std.specs.Io.KnownBytes.{Appends, Keeps, append_known};
+ghost use Rattle.der_dump.specs.Ends.{EndsWell, IsCause, Printed, PrintEnds};
+ghost use Rattle.der_dump.specs.Lines.{AddsLine};
+ghost use Rattle.der_dump.specs.Sinks.{is_flushed, octets_of};
+ghost use Rattle.der_dump.specs.Sources.{GaveOctets, IsFresh, octets_left, octets_taken};
+ghost use Rattle.der_dump.specs.Words.{Names};
+ghost use Rattle.der_parser.specs.View.{tree};
+
+use crate::fault::{Fault, RefusedElement};
+use crate::input::read_input;
+use crate::rules::{Rules, named_rules, read_object};
+use crate::sink::Sink;
+use crate::source::Source;
+use crate::text::write_text;
+use der_parser::ber::BerObject;
+use std::alloc::Global;
+use std::io;
+use std::io::{Read, Write};
+
+/// So many octets are much to be pending.
+const MUCH: usize = 8192;
+
+/// Prints the elements that the reader gives, each one's text on a line of its own, and answers
+/// the exit status: 0, or 1 where a fault ends it, or 2 where the word names no command. The
+/// fault is told on `err`; where that fails too, nothing changes.
+pub fn run<R: Read, W: Write, X: Write>(
+    alloc: Global,
+    word: &str,
+    reader: &mut Source<R>,
+    out: &mut Sink<W>,
+    err: &mut X,
+) -> u8
+    requires fresh { IsFresh reader.old }
+    ensures status { result ≤ 2 }
+
+    // A word that names no rules: nothing is read, and nothing printed.
+    ensures usage { (result ≡ 2) ↔ ((rules : Rules) → ¬ Names word.now rules) }
+    ensures unread { result ≡ 2 → reader.new ≡ reader.old }
+    ensures unwritten { result ≡ 2 → out.new ≡ out.old }
+
+    // No fault: the reader was read to its end, the input is no larger than the limit and elements by
+    // these rules throughout, each has its line, no write failed, and nothing was told.
+    ensures done { (rules : Rules) → Names word.now rules → result ≡ 0
+        → EndsWell R.remaining W.contents rules reader.old reader.new out.old out.new }
+    // A fault: it has its cause.
+    ensures fault { (rules : Rules) → Names word.now rules → result ≡ 1
+        → (f : Fault) × IsCause R.remaining W.contents rules reader.old reader.new out.old out.new f }
+    ensures taken { GaveOctets (octets_left R.remaining reader.old) (octets_left R.remaining reader.new)
+        (octets_taken reader.new) }
+    ensures quiet { result ≡ 0 → err.new ≡ err.old }
+{
+    let Some(rules) = named_rules(word) else {
+        tell(err, Fault::Usage);
+        return 2;
+    };
+    match dump(alloc, rules, reader, out) {
+        Ok(()) => 0,
+        Err(fault) => {
+            tell(err, fault);
+            1
+        }
+    }
+}
+
+/// Reads everything, and then prints the elements.
+fn dump<R: Read, W: Write>(
+    alloc: Global,
+    rules: Rules,
+    reader: &mut Source<R>,
+    out: &mut Sink<W>,
+) -> Result<(), Fault>
+    requires fresh { IsFresh reader.old }
+    ensures done { OnOk result (EndsWell R.remaining W.contents rules reader.old reader.new out.old out.new) }
+    ensures taken { GaveOctets (octets_left R.remaining reader.old) (octets_left R.remaining reader.new)
+        (octets_taken reader.new) }
+    ensures fault { IfErr result (IsCause R.remaining W.contents rules reader.old reader.new out.old out.new) }
+{
+    let input = match read_input(alloc, reader) {
+        Ok(input) => input,
+        Err(fault) => return Err(Fault::Input(fault)),
+    };
+    print(alloc, rules, &input, out)
+}
+
+/// Prints the elements of the input, and tells a failed write from want of memory.
+fn print<W: Write>(
+    alloc: Global,
+    rules: Rules,
+    input: &[u8],
+    out: &mut Sink<W>,
+) -> Result<(), Fault>
+    ensures { PrintEnds W.contents rules input.now out.old out.new result }
+{
+    let printed = print_elements(alloc, rules, input, out);
+    if out.has_failed() {
+        return Err(Fault::Write);
+    }
+    match printed {
+        Ok(None) => Ok(()),
+        Ok(Some(refused)) => Err(Fault::Element(refused)),
+        Err(_) => Err(Fault::OutOfMemory),
+    }
+}
+
+/// Prints each element of the input, up to one that is refused. Where no error is answered, all
+/// that was printed has been handed on.
+fn print_elements<W: Write>(
+    alloc: Global,
+    rules: Rules,
+    input: &[u8],
+    out: &mut Sink<W>,
+) -> io::Result<Option<RefusedElement>>
+    ensures printed { IfOk result
+        (Printed rules input.now (octets_of W.contents out.old) (octets_of W.contents out.new)) }
+    ensures flushed { OnOk result (is_flushed out.new ≡ true) }
+{
+    let mut pending = Vec::new(alloc);
+    let mut rest = input;
+    while !rest.is_empty() {
+        match read_object(alloc, rules, rest) {
+            Ok((after, object)) => {
+                push_line(alloc, &mut pending, object)?;
+                hand_on_much(out, &mut pending)?;
+                rest = after;
+            }
+            Err(reason) => {
+                hand_on(out, &pending)?;
+                let offset = input.len() - rest.len();
+                return Ok(Some(RefusedElement { offset, reason }));
+            }
+        }
+    }
+    hand_on(out, &pending)?;
+    Ok(None)
+}
+
+/// Adds the text of an object on a line of its own, and lets go of the object.
+fn push_line(alloc: Global, pending: &mut Vec<u8>, object: BerObject<'_>) -> io::Result<()>
+    ensures { OnOk result (AddsLine pending.old.items pending.new.items (tree object.entry)) }
+{
+    let mut line = Vec::new(alloc);
+    write_text(&mut line, &object, 0)?;
+    line.extend_from_slice(b"\n")?;
+    pending.extend_from_slice(&line)?;
+    Ok(())
+}
+
+/// Writes what is pending, where that is much.
+fn hand_on_much<W: Write>(out: &mut Sink<W>, pending: &mut Vec<u8>) -> io::Result<()>
+    ensures { OnOk result (Keeps
+        (append_known (octets_of W.contents out.old) pending.old.items)
+        (append_known (octets_of W.contents out.new) pending.new.items)) }
+{
+    if pending.len() < MUCH {
+        return Ok(());
+    }
+    out.write_all(pending)?;
+    pending.clear();
+    Ok(())
+}
+
+/// Writes what is left, and flushes.
+fn hand_on<W: Write>(out: &mut Sink<W>, left: &[u8]) -> io::Result<()>
+    ensures written { OnOk result (Appends (octets_of W.contents out.old) (octets_of W.contents out.new) left.now) }
+    ensures flushed { OnOk result (is_flushed out.new ≡ true) }
+{
+    out.write_all(left)?;
+    out.flush()
+}
+
+/// Writes a line about a fault, and lets go of a fault of that.
+fn tell<X: Write>(err: &mut X, fault: Fault) {
+    let _ = writeln!(err, "{fault}");
+}
