@@ -1,5 +1,5 @@
 -- A header in front of the input, a refusal that it shows, and the end of the input within a header: one of them holds at most, and each in one way. All of it stands on the same laws of length octets, those of BER or those of DER.
-use Rattle.std.proofs.Common.{◌≡◌, ◌≢◌, ℕ, ◌^◌, ◌<◌, Bool, Some, List, [], ◌∷◌, ◌++◌, length, refl, sym, ap, ◌∙◌, arith, append_assoc, inl, inr, ⊎_elim, ◌⊎◌, append-nil, Err}
+use Rattle.std.proofs.Common.{◌≡◌, ◌≢◌, ℕ, ◌^◌, ◌<◌, Bool, Some, List, [], ◌∷◌, ◌++◌, length, refl, sym, ap, subst, ◌∙◌, arith, append_assoc, inl, inr, ⊎_elim, ◌⊎◌, append-nil, Err}
 use Rattle.der_base.specs.declared.error.Err.{Err as Refused}
 use Rattle.der_base.specs.declared.error.Error.{Error as BerError}
 use Rattle.der_base.specs.declared.header.Class.{Class}
@@ -10,7 +10,7 @@ use Rattle.der_base.specs.Answer.{MatchAnswer}
 use Rattle.der_base.specs.Cut.{Lacks, in_identifier as lacks_in_identifier, in_length as lacks_in_length}
 use Rattle.der_base.specs.Fault.{HasBadTag, HasIdentifier}
 use Rattle.der_base.specs.Header.{IsHeader, class_of, is_constructed, number_of, length_of, raw_tag_of}
-use Rattle.der_base.specs.Headers.{HeaderLacks, in_identifier, in_length, IsHeaderCut}
+use Rattle.der_base.specs.Headers.{HeaderLacks, in_identifier, in_length, IsHeaderShape, IsHeaderCut}
 use Rattle.der_base.specs.Inner.Identifier.{ReadsIdentifier, IsCutIdentifier}
 use Rattle.der_base.specs.LengthOctets.{LengthLacks, before_length, in_length as in_length_octets}
 use Rattle.der_base.specs.Octets.{identifier}
@@ -58,13 +58,20 @@ lacks_is_cut (in_length {i = i} {n = n} c p t b bs h h1 hb d) =
     let q = lacks_then_length (b ∷ bs) n (in_length_octets b bs h h1 hb refl) in
     (q.0, (λ e. omega (arith, h1, q.1, ap (λ l. length l) e)), (c, p, t, (b ∷ bs) ++ q.0, ap (λ l. l ++ q.0) d ∙ append_assoc (identifier c p t) (b ∷ bs) q.0, q.2))
 
--- one of two fronts of a list begins the other
-fronts : (a b x y : List ℕ) → a ++ x ≡ b ++ y → ((r : List ℕ) × (a ++ r ≡ b)) ⊎ ((r : List ℕ) × (a ≡ b ++ r) × (r ++ x ≡ y))
-fronts [] b x y e = inl (b, refl)
+-- of two fronts of a list the first ends within the second, or goes on behind it
+abbrev pub Fronts : List ℕ → List ℕ → List ℕ → List ℕ → Type 0
+Fronts a b x y = ((r : List ℕ) × (r ≢ []) × (a ++ r ≡ b)) ⊎ ((r : List ℕ) × (a ≡ b ++ r) × (r ++ x ≡ y))
+
+pub fronts : (a b x y : List ℕ) → a ++ x ≡ b ++ y → Fronts a b x y
+fronts [] [] x y e = inr ([], refl, e)
+fronts [] (m ∷ b) x y e = inl (m ∷ b, (λ z. cc), refl)
 fronts (k ∷ a) [] x y e = inr (k ∷ a, refl, e)
 fronts (k ∷ a) (m ∷ b) x y e =
     let q = head_same e in
-    ⊎_elim (λ z. inl (z.0, ap (λ l. k ∷ l) z.1 ∙ ap (λ h. h ∷ b) q.0)) (λ z. inr (z.0, ap (λ l. k ∷ l) z.1 ∙ ap (λ h. h ∷ (b ++ z.0)) q.0, z.2)) (fronts a b x y q.1)
+    elim (fronts a b x y q.1) [
+      | inl (r, n, z) ↦ inl (r, n, ap (λ l. k ∷ l) z ∙ ap (λ h. h ∷ b) q.0)
+      | inr (r, z, w) ↦ inr (r, ap (λ l. k ∷ l) z ∙ ap (λ h. h ∷ (b ++ r)) q.0, w)
+    ]
 
 lacks_behind : (i x : List ℕ) (c : Class) (p : Bool) (t n : ℕ) → i ≡ identifier c p t ++ x → LengthLacks x n → HeaderLacks i n
 lacks_behind i x c p t n e (before_length z o) = rw o (in_identifier c p t [] (append-nil i ∙ e ∙ ap (λ l. identifier c p t ++ l) z ∙ append-nil (identifier c p t)))
@@ -73,12 +80,19 @@ lacks_behind i x c p t n e (in_length_octets b bs h h1 hb z) = in_length c p t b
 pub cut_lacks : (i : List ℕ) → IsHeaderCut i → (n : ℕ) × HeaderLacks i n
 cut_lacks i (r, some, (c, p, t, s, d, l)) =
     ⊎_elim
-    (λ z. (1, in_identifier c p t z.0 z.1))
+    (λ z. (1, in_identifier c p t z.0 z.2))
     (λ z. behind_identifier z.0 z.1 z.2)
     (fronts i (identifier c p t) r s d)
   where
     behind_identifier : (x : List ℕ) → i ≡ identifier c p t ++ x → x ++ r ≡ s → (n : ℕ) × HeaderLacks i n
     behind_identifier x e f = let q = length_front_lacks x r some (rw f l) in (q.0, lacks_behind i x c p t q.0 e q.1)
+
+-- a front of a header and of what follows it ends within the header, or behind it
+pub header_or_behind : (i r a v : List ℕ) → r ≢ [] → IsHeaderShape a → i ++ r ≡ a ++ v → ((n : ℕ) × HeaderLacks i n) ⊎ ((y : List ℕ) × (i ≡ a ++ y) × (y ++ r ≡ v))
+header_or_behind i r a v some h e = elim (fronts i a r v e) [
+  | inl (m, n, z) ↦ inl (cut_lacks i (m, n, subst IsHeaderShape (sym z) h))
+  | inr w ↦ inr w
+]
 
 -- the laws of length octets behind an identifier that is constructed or not
 pub record LengthLaws {L : Type 0} (Begins : Bool → List ℕ → L → List ℕ → Type 0) (Refuses : Bool → List ℕ → Refusal → Type 0) : Type 0 where
