@@ -46,16 +46,12 @@ zone-Decides Z Z = always refl
 zone-Decides (Offset h m) (Offset h' m') = two (int_eq h h') (int_eq m m') (signed_Decides h h') (signed_Decides m m') (λ h. cc) (λ e. (cc, cc))
 zone-Decides _ _ = never (λ e. cc)
 
-time-Decides : (t t' : ASN1DateTime) → Decides (same_time t t') (t ≡ t')
-time-Decides t t' =
-    one (same_time t t')
-    (Decides-and (t.year == t'.year) _ (unsigned_Decides t.year t'.year)
-    (Decides-and (t.month == t'.month) _ (unsigned_Decides t.month t'.month)
-    (Decides-and (t.day == t'.day) _ (unsigned_Decides t.day t'.day)
-    (Decides-and (t.hour == t'.hour) _ (unsigned_Decides t.hour t'.hour)
-    (Decides-and (t.minute == t'.minute) _ (unsigned_Decides t.minute t'.minute)
-    (Decides-and (t.second == t'.second) _ (unsigned_Decides t.second t'.second)
-    (Decides-and _ _ (option-Decides t.nanosecond t'.nanosecond) (zone-Decides t.tz t'.tz))))))))
+-- of times, by a test of the zones
+pub time-Decides : (t t' : ASN1DateTime) (zones : Bool) → Decides zones (t.tz ≡ t'.tz)
+    → Decides ((t.year == t'.year) && ((t.month == t'.month) && ((t.day == t'.day) && ((t.hour == t'.hour) && ((t.minute == t'.minute)
+    && ((t.second == t'.second) && (option_eq ◌==◌ t.nanosecond t'.nanosecond && zones))))))) (t ≡ t')
+time-Decides t t' zones d =
+    Decides-like _
     (λ h i. record {
       year = h.0 i;
       month = h.1.0 i;
@@ -70,6 +66,16 @@ time-Decides t t' =
       ap (λ x. x.year) e,
       (ap (λ x. x.month) e, (ap (λ x. x.day) e, (ap (λ x. x.hour) e, (ap (λ x. x.minute) e, (ap (λ x. x.second) e, (ap (λ x. x.nanosecond) e, ap (λ x. x.tz) e)))))),
     ))
+    (Decides-and (t.year == t'.year) _ (unsigned_Decides t.year t'.year)
+    (Decides-and (t.month == t'.month) _ (unsigned_Decides t.month t'.month)
+    (Decides-and (t.day == t'.day) _ (unsigned_Decides t.day t'.day)
+    (Decides-and (t.hour == t'.hour) _ (unsigned_Decides t.hour t'.hour)
+    (Decides-and (t.minute == t'.minute) _ (unsigned_Decides t.minute t'.minute)
+    (Decides-and (t.second == t'.second) _ (unsigned_Decides t.second t'.second)
+    (Decides-and _ zones (option-Decides t.nanosecond t'.nanosecond) d)))))))
+
+same_time-Decides : (t t' : ASN1DateTime) → Decides (same_time t t') (t ≡ t')
+same_time-Decides t t' = time-Decides t t' (same_zone t.tz t'.tz) (zone-Decides t.tz t'.tz)
 
 -- a class, a constructed bit and a number
 kind-Decides : (c c' : Class) (p p' : Bool) (t t' : ℕ) → Decides (same_class c c' && (beq p p' && (t == t'))) ((c ≡ c') × ((p ≡ p') × (t ≡ t')))
@@ -92,7 +98,7 @@ mutual
   same_content-Decides (enumerated n) (enumerated n') = one (n == n') (unsigned_Decides n n') (λ h. cc) (λ e. cc)
   same_content-Decides (object_identifier r w) (object_identifier r' w') = two (beq r r') (same_octets w w') (booleans_Decides r r') (octets-Decides w w') (λ h. cc) (λ e. (cc, cc))
   same_content-Decides (relative_oid r w) (relative_oid r' w') = two (beq r r') (same_octets w w') (booleans_Decides r r') (octets-Decides w w') (λ h. cc) (λ e. (cc, cc))
-  same_content-Decides (time k t) (time k' t') = two (k == k') (same_time t t') (unsigned_Decides k k') (time-Decides t t') (λ h. cc) (λ e. (cc, cc))
+  same_content-Decides (time k t) (time k' t') = two (k == k') (same_time t t') (unsigned_Decides k k') (same_time-Decides t t') (λ h. cc) (λ e. (cc, cc))
   same_content-Decides (sequence l) (sequence l') = one (same_nodes l l') (same_nodes-Decides l l') (λ h. cc) (λ e. cc)
   same_content-Decides (set l) (set l') = one (same_nodes l l') (same_nodes-Decides l l') (λ h. cc) (λ e. cc)
   same_content-Decides absent absent = always refl

@@ -18,6 +18,8 @@ mod der_rows;
 #[cfg(test)]
 mod error_rows;
 #[cfg(test)]
+mod from_any_rows;
+#[cfg(test)]
 mod fronts;
 #[cfg(test)]
 mod header_rows;

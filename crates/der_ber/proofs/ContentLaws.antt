@@ -1,14 +1,16 @@
 -- A content behind a header that the caller gives, a refusal, and its end within the octets: one of them holds at most, and each in one way.
 use Rattle.std.proofs.Common.{◌≡◌, ℕ, ◌-◌, ◌^◌, ◌<◌, Bool, List, [], ◌∷◌, ◌++◌, length, min, refl, sym, ap, subst, ◌∙◌, arith, length-append, inl, inr}
+use Rattle.der_base.specs.declared.any.Any.{Any}
 use Rattle.der_base.specs.declared.header.Class.TheVariants.{Universal}
 use Rattle.der_base.specs.declared.header.Length.{Length}
 use Rattle.der_base.specs.declared.header.Length.TheVariants.{Definite, Indefinite}
 use Rattle.der_base.specs.Fault.{ShowsFault}
+use Rattle.der_base.specs.Header.{class_of, is_constructed, number_of}
 use Rattle.der_base.specs.Inner.Framed.{IsElement, definite, indefinite, HasContent}
 use Rattle.der_base.specs.Octets.{identifier, shortest_length}
 use Rattle.der_base.specs.Refusal.{Refusal}
 use Rattle.der_base.specs.Spelling.{end_marker, Forms, form, BerSpells, framing_budget}
-use Rattle.der_base.specs.Tree.{Content, node}
+use Rattle.der_base.specs.Tree.{Node, Content, node}
 use Rattle.der_base.proofs.Spellings.BerFaults.{spelled_shows_nothing, shows_one}
 use Rattle.der_base.proofs.Framing.ContentLaws as framing
 use Rattle.der_base.proofs.Spellings.Contents as contents
@@ -18,11 +20,14 @@ use Rattle.der_base.proofs.Framing.FramingLaws.{framed_begins}
 use Rattle.der_base.proofs.Framing.FramedIsSpelling.{raws_are, content_now, open_now, content_then, open_then, restated_back}
 use Rattle.der_base.proofs.Octets.ShortestLengths.{shortest_spells}
 use Rattle.der_base.proofs.Times.OneReading.{times_same}
+use Rattle.der_object.specs.declared.object.BerObject.{BerObject}
 use Rattle.der_object.specs.HeaderFacts.{inner_forms}
 use Rattle.der_object.specs.Readings.{content_value_of}
+use Rattle.der_object.specs.View.{tree}
 use Rattle.der_object.proofs.TypedLaws.{shows_read}
 use Rattle.der_ber.specs.BerReading.{ContentRefuses}
 use Rattle.der_ber.specs.BerContents.{FramesContent, FrameRefuses, FrameLacks, IsContentAs, ReadsContentAs, SpellsContentAs, ContentAsRefuses, ContentAsNeedsMemory, FramingAsNeedsMemory}
+use Rattle.der_ber.specs.BerContents.{length_of_octets, ReadsObjectOf, SpellsObjectOf, ObjectOfRefuses}
 use Rattle.der_ber.proofs.Items.{content_refused}
 
 -- framing
@@ -147,3 +152,32 @@ content_one t l p d i fits = record {
 
 pub content_shows_one : (t : ℕ) (l : Length) (p : Bool) (d : ℕ) (i : List ℕ) → t < 2 ^ 32 → ShowsOne content_value_of (λ x. ReadsContentAs t l p d i x.1 x.0.now) (SpellsContentAs t l p d i) (ContentAsRefuses t l p d i) (FrameLacks l p d i)
 content_shows_one t l p d i fits = shows_read (content_one t l p d i fits) (λ v s. s) (λ x r. (r.octets, inner_forms x.1, r.framed, r.content))
+
+-- an element that was read apart
+
+module _ (a : Any) (fits : number_of a.header < 2 ^ 32) where
+  octets : ShowsOne (λ v. v) (SpellsContentAs (number_of a.header) (length_of_octets a) (is_constructed a.header) 50 a.bytes.now) (SpellsContentAs (number_of a.header) (length_of_octets a) (is_constructed a.header) 50 a.bytes.now) (ObjectOfRefuses a) (FrameLacks (length_of_octets a) (is_constructed a.header) 50 a.bytes.now)
+  octets = content_one (number_of a.header) (length_of_octets a) (is_constructed a.header) 50 a.bytes.now fits
+
+  object_spelled : (o : BerObject) → ReadsObjectOf a o → SpellsObjectOf a (tree o)
+  object_spelled o r = let k = r.content in (ap class_of r.header, ap is_constructed r.header, ap number_of r.header, (k.octets, inner_forms o.content, k.framed, k.content))
+
+  object_same : (v v' : Node) → SpellsObjectOf a v → SpellsObjectOf a v' → v ≡ v'
+  object_same (node c p t x) (node c' p' t' x') (ec, ep, et, s) (ec', ep', et', s') =
+      ap (λ z. node z p t x) (ec ∙ sym ec') ∙ ap (λ z. node c' z t x) (ep ∙ sym ep') ∙ ap (λ z. node c' p' z x) (et ∙ sym et')
+      ∙ ap (λ z. node c' p' t' z.0) (octets.one_value (x, []) (x', []) s s')
+
+  object_not_refused : (v : Node) (e : Refusal) → SpellsObjectOf a v → ObjectOfRefuses a e → ⊥
+  object_not_refused (node c p t x) e (ec, ep, et, s) r = octets.not_refused (x, []) e s r
+
+  -- of an object and a refusal, the octets show one at most
+  pub object_shows_one : ShowsOne tree (ReadsObjectOf a) (SpellsObjectOf a) (ObjectOfRefuses a) (λ _. ⊥)
+  object_shows_one = record {
+    spelled = object_spelled;
+    one_value = λ o v r s. object_same (tree o) v (object_spelled o r) s;
+    one_refusal = octets.one_refusal;
+    one_lack = λ n n' h h'. absurd h;
+    not_refused = object_not_refused;
+    not_lacking = λ v n s h. h;
+    not_both = λ e n r h. h;
+  }

@@ -1,7 +1,10 @@
--- What the readers of a content answer that are given its tag number, its length and its constructed bit, and what the
--- readers of one tag number answer.
+-- What the readers of a content answer that are given its tag number, its length and its constructed bit, what the
+-- reader of an element that was read apart answers, and what the readers of one tag number do.
 use Rattle.std.specs.Prelude.{◌≡◌, ◌≢◌, ℕ, ◌-◌, ◌<◌, ◌≤◌, ◌⊎◌, Bool, true, false, None, Some, IsTrue}
-use Rattle.std.specs.Prelude.{List, [], length, min}
+use Rattle.std.specs.Prelude.{List, [], length, min, Result}
+use Rattle.der_base.specs.declared.any.Any.{Any}
+use Rattle.der_base.specs.declared.error.Err.{Err as Refused}
+use Rattle.der_base.specs.declared.error.Error.{Error as BerError}
 use Rattle.der_base.specs.declared.header.Class.{Class}
 use Rattle.der_base.specs.declared.header.Class.TheVariants.{Universal}
 use Rattle.der_base.specs.declared.header.Header.{Header}
@@ -10,7 +13,7 @@ use Rattle.der_base.specs.declared.header.Length.TheVariants.{Definite, Indefini
 use Rattle.der_base.specs.Content.{BeginsWithContent, InsideLacks}
 use Rattle.der_base.specs.Exactly.{AnswersExactly}
 use Rattle.der_base.specs.Fault.{BerHeaderRefuses, InsideRefuses}
-use Rattle.der_base.specs.Header.{is_constructed, number_of, length_of, IsHeader}
+use Rattle.der_base.specs.Header.{class_of, is_constructed, number_of, length_of, IsHeader}
 use Rattle.der_base.specs.Headers.{BehindHeader, BeginsWithHeader, ReadsHeader, BerHeaderLacks}
 use Rattle.der_base.specs.Leaf.{is_list}
 use Rattle.der_base.specs.Refusal.{Refusal, construct_expected, invalid_length, max_depth, unexpected_tag}
@@ -21,7 +24,7 @@ use Rattle.der_object.specs.declared.object.BerObjectContent.{BerObjectContent}
 use Rattle.der_object.specs.declared.object.BerObjectContent.TheVariants.{Unknown}
 use Rattle.der_object.specs.HeaderFacts.{inner_forms, EachInside, HasRawTagAndHeader}
 use Rattle.der_object.specs.Readings.{Answer, value_of, ContentAnswer, content_value_of}
-use Rattle.der_object.specs.View.{content_tree}
+use Rattle.der_object.specs.View.{tree, content_tree}
 use Rattle.der_ber.specs.BerReading.{ContentRefuses}
 
 -- content octets
@@ -103,6 +106,36 @@ AnswersContentAs t l p d i result = AnswersExactly result content_value_of (λ x
 -- the same behind a header, of which the class and the number aren't looked at
 abbrev pub AnswersContentBehind : ℕ → Header → ℕ → List ℕ → ContentAnswer → Type 0
 AnswersContentBehind t h = AnswersContentAs t (length_of h) (is_constructed h)
+
+-- elements that were read apart, whose octets are a content as a whole
+
+-- the length that the octets of the element have, whatever its header says
+abbrev pub length_of_octets : Any → Length
+length_of_octets a = Definite (length a.bytes.now)
+
+-- the octets of the element are the content of the object, as that of the universal type of its number, and its header
+-- is the object's
+pub record ReadsObjectOf (a : Any) (o : BerObject) : Type 0 where
+  pub header : o.header ≡ a.header
+  pub content : ReadsContentAs (number_of a.header) (length_of_octets a) (is_constructed a.header) 50
+      a.bytes.now o.content []
+
+-- the octets of the element spell this content
+abbrev pub SpellsObjectOf : Any → Node → Type 0
+SpellsObjectOf a (node c p t x) = (c ≡ class_of a.header) × (p ≡ is_constructed a.header) × (t ≡ number_of a.header)
+    × SpellsContentAs (number_of a.header) (length_of_octets a) (is_constructed a.header) 50 a.bytes.now (x, [])
+
+abbrev pub ObjectOfRefuses : Any → Refusal → Type 0
+ObjectOfRefuses a = ContentAsRefuses (number_of a.header) (length_of_octets a) (is_constructed a.header) 50 a.bytes.now
+
+abbrev pub ObjectOfNeedsMemory : Any → Type 0
+ObjectOfNeedsMemory a =
+    ContentAsNeedsMemory (number_of a.header) (length_of_octets a) (is_constructed a.header) 50 a.bytes.now
+
+-- the reader of such an element answers exactly what its octets show, which lack none
+abbrev pub AnswersObjectOf : Any → Result BerObject (Refused BerError) → Type 0
+AnswersObjectOf a result = AnswersExactly result tree (ReadsObjectOf a) (SpellsObjectOf a) (ObjectOfRefuses a) (λ _. ⊥)
+    (ObjectOfNeedsMemory a) ⊥
 
 -- objects of one number, of any class
 

@@ -1,18 +1,19 @@
 //! Contents of universal types, read without their header: the caller says the tag number, the
-//! length and the constructed bit.
+//! length and the constructed bit, or gives an element that was read apart.
 ghost use Rattle.std.specs.Prelude.{◌≡◌};
 ghost use Rattle.der_base.specs.Answer.{MatchAnswer};
-ghost use Rattle.der_ber.specs.BerContents.{AnswersContentAs, AnswersContentBehind};
+ghost use Rattle.der_ber.specs.BerContents.{AnswersContentAs, AnswersContentBehind, AnswersObjectOf};
 ghost use Rattle.der_ber.specs.BerContents.{FramesContent, FrameRefuses, FrameLacks};
 ghost use Rattle.der_ber.specs.BerContents.{ReadsContentAs, ContentAsRefuses, ContentAsNeedsMemory};
+ghost use Rattle.der_ber.specs.BerContents.{ReadsObjectOf, ObjectOfRefuses, ObjectOfNeedsMemory};
 ghost use Rattle.der_ber.specs.Inner.ElementParts.{MayFollow};
 
 use crate::reader::read_behind;
-use der_base::any::ber_read_content;
+use der_base::any::{Any, ber_read_content};
 use der_base::error::{BerError, Err, IResult, Needed};
 use der_base::header::{Class, Header, HeaderCount, Length, Tag};
 use der_base::{MAX_OBJECT_SIZE, MAX_RECURSION};
-use der_object::{BerObjectContent, BerResult};
+use der_object::{BerObject, BerObjectContent, BerResult};
 use std::alloc::Global;
 
 /// Whether a header may have this length and this constructed bit, and the depth lets its content be
@@ -103,6 +104,35 @@ pub fn ber_read_element_content_as<'a>(
     ensures { AnswersContentAs tag.0 length constructed max_depth i.now result }
 {
     read_content_as(alloc, i, tag, length, constructed, max_depth)
+}
+
+/// The object of an element that was read apart.
+fn object_from_any<'a>(alloc: Global, any: Any<'a>) -> Result<BerObject<'a>, Err<BerError>>
+    ensures { MatchAnswer result
+        (λ o. ReadsObjectOf any.entry o)
+        (ObjectOfRefuses any.entry)
+        (λ _. ⊥)
+        (ObjectOfNeedsMemory any.entry) }
+{
+    let header = any.header;
+    let (tag, constructed) = (header.tag(), header.constructed());
+    let length = Length::Definite(any.bytes.len());
+    let (_, content) = read_content_as(alloc, any.bytes, tag, length, constructed, MAX_RECURSION)?;
+    Ok(BerObject::from_header_and_content(header, content))
+}
+
+/// Reads the octets of an element, all of them, as the content of the universal type of its tag
+/// number, and answers the object with the element's header. They are read by
+/// `ber_read_element_content_as`, as behind a definite length that is theirs, at the depth
+/// `MAX_RECURSION`. The header gives the tag number and the constructed bit; its class and its
+/// length aren't looked at.
+///
+/// Refusals are those of `ber_read_element_content_as`. Never Incomplete. OutOfMemory only for a
+/// list that has items.
+pub fn ber_object_from_any<'a>(alloc: Global, any: Any<'a>) -> Result<BerObject<'a>, Err<BerError>>
+    ensures { AnswersObjectOf any.entry result }
+{
+    object_from_any(alloc, any)
 }
 
 /// A reader of contents of one universal type, which `parse_ber_content` makes.

@@ -10,7 +10,8 @@ mod reader;
 pub mod typed;
 
 pub use content::{
-    BerContent, BerContent2, ber_read_element_content_as, parse_ber_content, parse_ber_content2,
+    BerContent, BerContent2, ber_object_from_any, ber_read_element_content_as, parse_ber_content,
+    parse_ber_content2,
 };
 pub use multi::{
     BerContainer, BerSequenceDefinedG, BerSetDefinedG, parse_ber_container,

@@ -25,16 +25,17 @@ pub mod ber {
     pub use der_base::{MAX_OBJECT_SIZE, MAX_RECURSION};
     pub use der_ber::{
         BerContainer, BerContent, BerContent2, BerSequenceDefinedG, BerSetDefinedG,
-        ber_read_element_content_as, parse_ber, parse_ber_any, parse_ber_any_r,
-        parse_ber_any_with_tag_r, parse_ber_bitstring, parse_ber_bmpstring, parse_ber_bool,
-        parse_ber_container, parse_ber_content, parse_ber_content2, parse_ber_counted,
-        parse_ber_endofcontent, parse_ber_enum, parse_ber_generalizedtime, parse_ber_generalstring,
-        parse_ber_graphicstring, parse_ber_ia5string, parse_ber_integer, parse_ber_null,
-        parse_ber_numericstring, parse_ber_objectdescriptor, parse_ber_octetstring, parse_ber_oid,
-        parse_ber_printablestring, parse_ber_recursive, parse_ber_relative_oid, parse_ber_sequence,
-        parse_ber_sequence_defined_g, parse_ber_set, parse_ber_set_defined_g, parse_ber_slice,
-        parse_ber_t61string, parse_ber_universalstring, parse_ber_utctime, parse_ber_utf8string,
-        parse_ber_videotexstring, parse_ber_visiblestring, parse_ber_with_tag,
+        ber_object_from_any, ber_read_element_content_as, parse_ber, parse_ber_any,
+        parse_ber_any_r, parse_ber_any_with_tag_r, parse_ber_bitstring, parse_ber_bmpstring,
+        parse_ber_bool, parse_ber_container, parse_ber_content, parse_ber_content2,
+        parse_ber_counted, parse_ber_endofcontent, parse_ber_enum, parse_ber_generalizedtime,
+        parse_ber_generalstring, parse_ber_graphicstring, parse_ber_ia5string, parse_ber_integer,
+        parse_ber_null, parse_ber_numericstring, parse_ber_objectdescriptor, parse_ber_octetstring,
+        parse_ber_oid, parse_ber_printablestring, parse_ber_recursive, parse_ber_relative_oid,
+        parse_ber_sequence, parse_ber_sequence_defined_g, parse_ber_set, parse_ber_set_defined_g,
+        parse_ber_slice, parse_ber_t61string, parse_ber_universalstring, parse_ber_utctime,
+        parse_ber_utf8string, parse_ber_videotexstring, parse_ber_visiblestring,
+        parse_ber_with_tag,
     };
     pub use der_object::{BerObject, BerObjectContent, BitStringObject};
 

@@ -43,10 +43,11 @@ one_span s inside b k Indefinite e is z r = open_span s inside [] b [] is e z r 
     (sym (append-nil (s ∷ inside))) (sym (append-nil b))
 
 -- one more element behind those that were recorded
-pub one_more_span : (i rest behind after u : List ℕ) (ss added : List Span) (k : ℕ) (h : Header) → 1 ≤ k
+pub one_more_span : (i rest behind after u : List ℕ) (ss added old items new : List Span) (k : ℕ) (h : Header) → 1 ≤ k
     → AreSpans ss u k → i ≡ u ++ rest → ReadsHeader rest h behind → RecordsElement h behind k added after
-    → ((x : List ℕ) → ¬ (rest ≡ end_marker ++ x)) → (u' : List ℕ) × AreSpans (ss ++ added) u' k × (i ≡ u' ++ after)
-one_more_span i rest behind after u ss added k h h1 hu e g r n =
+    → ((x : List ℕ) → ¬ (rest ≡ end_marker ++ x)) → items ≡ old ++ ss → new ≡ items ++ added
+    → (u' : List ℕ) × (ss' : List Span) × AreSpans ss' u' k × (i ≡ u' ++ after) × (new ≡ old ++ ss')
+one_more_span i rest behind after u ss added old items new k h h1 hu e g r n so_far pushed =
     let s = r.span in
     let x = s.element.header in
     let w = s.element.bytes.now in
@@ -63,8 +64,10 @@ one_more_span i rest behind after u ss added k h h1 hu e g r n =
     } in
     let one = one_span s r.inside b.0 k (length_of x) refl is r.number recorded in (
       u ++ b.0,
+      ss ++ added,
       subst (λ v. AreSpans (ss ++ v) (u ++ b.0) k) (sym r.spans) (spans_append hu one),
       e ∙ ap (λ v. u ++ v) b.2 ∙ sym (append_assoc u b.0 after),
+      pushed ∙ ap (λ v. v ++ added) so_far ∙ append_assoc old ss added,
     )
 
 -- octets

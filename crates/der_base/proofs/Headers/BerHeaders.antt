@@ -1,5 +1,5 @@
 -- The laws of headers, for headers as BER allows them.
-use Rattle.std.proofs.Common.{◌≡◌, ℕ, ◌^◌, ◌<◌, Bool, Some, List, ◌++◌, Err, refl}
+use Rattle.std.proofs.Common.{◌≡◌, ℕ, Bool, Some, List, Err, refl}
 use Rattle.der_base.specs.declared.error.Err.{Err as Refused}
 use Rattle.der_base.specs.declared.error.Err.TheVariants.{Incomplete, Error, Failure, OutOfMemory}
 use Rattle.der_base.specs.declared.error.Error.{Error as BerError}
@@ -10,18 +10,17 @@ use Rattle.der_base.specs.declared.header.Length.{Length}
 use Rattle.der_base.specs.Fault.{BerLengthRefuses, BerHeaderRefuses}
 use Rattle.der_base.specs.Header.{IsHeader, class_of, is_constructed, number_of, length_of}
 use Rattle.der_base.specs.Headers.{BeginsWithHeader, ReadsHeader, HeaderLacks, BerHeaderLacks, AnswersBerHeader, SpellsHeader, LeadingHeader, leading_header}
-use Rattle.der_base.specs.Inner.Identifier.{IsCutIdentifier}
-use Rattle.der_base.specs.LengthOctets.{BeginsWithLength, LengthLacks}
+use Rattle.der_base.specs.LengthOctets.{BeginsWithLength}
 use Rattle.der_base.specs.Octets.{identifier}
 use Rattle.der_base.specs.Refusal.{Refusal}
 use Rattle.der_base.proofs.Answers.Exactness.{ShowsOne}
-use Rattle.der_base.proofs.Headers.HeaderLaws.{LengthLaws, SameHeader, Reads, read_header, header_same, header_not_refused, header_not_lacking, header_lacks_same, refusal_same, lacks_is_cut, cut_identifier, cut_length}
+use Rattle.der_base.proofs.Headers.HeaderLaws.{LengthLaws, SameHeader, Reads, read_header, header_same, header_not_refused, header_not_lacking, header_lacks_same, refusal_same}
 use Rattle.der_base.proofs.Octets.LengthOctets.{ber_length_same, ber_length_not_refused, ber_length_not_lacking, ber_refused_not_lacking, ber_refusal_same}
 
 abbrev Begins : Bool → List ℕ → Length → List ℕ → Type 0
 Begins p s l rest = BeginsWithLength s p l rest
 
-laws : LengthLaws Begins BerLengthRefuses
+pub laws : LengthLaws Begins BerLengthRefuses
 laws = record {
   same = λ p s l l' r r' h h'. ber_length_same s p l l' r r' h h';
   not_refused = λ p s l r e h q. ber_length_not_refused s p l r e h q;
@@ -44,12 +43,6 @@ ber_header_not_lacking i rest c p t l m h k = header_not_lacking laws i rest c p
 
 pub ber_header_refusal_same : (i : List ℕ) (e e' : Refusal) → BerHeaderRefuses i e → BerHeaderRefuses i e' → e ≡ e'
 ber_header_refusal_same i e e' h h' = refusal_same laws i e e' h h'
-
-pub ber_cut_identifier : (i : List ℕ) → IsCutIdentifier i → BerHeaderLacks i 1
-ber_cut_identifier i h = let q = cut_identifier laws i h in (lacks_is_cut q.0, q.0, q.1)
-
-pub ber_cut_length : (i s : List ℕ) (c : Class) (p : Bool) (t m : ℕ) → t < 2 ^ 32 → i ≡ identifier c p t ++ s → LengthLacks s m → BerHeaderLacks i m
-ber_cut_length i s c p t m ht d l = let q = cut_length laws i s c p t m ht d l in (lacks_is_cut q.0, q.0, q.1)
 
 -- the header that is read is the one that begins the input
 pub ber_header_only : (i rest rest' : List ℕ) (c : Class) (p : Bool) (t : ℕ) (l : Length) (h : Header) → BeginsWithHeader i c p t l rest → ReadsHeader i h rest' → IsHeader h c p t l (Some (identifier c p t)) × (rest' ≡ rest)

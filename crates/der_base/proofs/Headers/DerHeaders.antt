@@ -1,17 +1,16 @@
 -- The laws of headers, for headers as DER writes them.
-use Rattle.std.proofs.Common.{◌≡◌, ℕ, ◌^◌, ◌<◌, Bool, Some, List, ◌++◌, refl, sym, ap, ◌∙◌, append_assoc}
+use Rattle.std.proofs.Common.{◌≡◌, ℕ, Bool, Some, List, ◌++◌, refl, sym, ap, ◌∙◌, append_assoc}
 use Rattle.der_base.specs.declared.header.Class.{Class}
 use Rattle.der_base.specs.declared.header.Header.{Header}
 use Rattle.der_base.specs.declared.header.Length.TheVariants.{Definite}
 use Rattle.der_base.specs.Fault.{DerLengthRefuses, DerHeaderRefuses}
 use Rattle.der_base.specs.Header.{IsHeader, class_of, is_constructed, number_of, length_of}
 use Rattle.der_base.specs.Headers.{BeginsWithDerHeader, ReadsDerHeader, HeaderLacks, DerHeaderLacks, SpellsDerHeader, leading_header}
-use Rattle.der_base.specs.Inner.Identifier.{IsCutIdentifier}
-use Rattle.der_base.specs.LengthOctets.{BeginsWithDerLength, LengthLacks}
+use Rattle.der_base.specs.LengthOctets.{BeginsWithDerLength}
 use Rattle.der_base.specs.Octets.{identifier, shortest_length}
 use Rattle.der_base.specs.Refusal.{Refusal}
 use Rattle.der_base.proofs.Answers.Exactness.{ShowsOne}
-use Rattle.der_base.proofs.Headers.HeaderLaws.{LengthLaws, SameHeader, Reads, read_header, header_same, header_not_refused, header_not_lacking, header_lacks_same, refusal_same, lacks_is_cut, cut_identifier, cut_length}
+use Rattle.der_base.proofs.Headers.HeaderLaws.{LengthLaws, SameHeader, Reads, read_header, header_same, header_not_refused, header_not_lacking, header_lacks_same, refusal_same}
 use Rattle.der_base.proofs.Octets.LengthOctets.{der_length_same, der_length_not_refused, der_length_not_lacking, der_refused_not_lacking, der_refusal_same}
 
 abbrev Begins : Bool → List ℕ → ℕ → List ℕ → Type 0
@@ -20,7 +19,7 @@ Begins p s n rest = BeginsWithDerLength s n rest
 abbrev Refuses : Bool → List ℕ → Refusal → Type 0
 Refuses p s e = DerLengthRefuses s e
 
-laws : LengthLaws Begins Refuses
+pub laws : LengthLaws Begins Refuses
 laws = record {
   same = λ p s n n' r r' h h'. der_length_same s n n' r r' h h';
   not_refused = λ p s n r e h q. der_length_not_refused s n r e h q;
@@ -48,12 +47,6 @@ der_header_not_lacking i rest c p t n m h k = header_not_lacking laws i rest c p
 
 pub der_header_refusal_same : (i : List ℕ) (e e' : Refusal) → DerHeaderRefuses i e → DerHeaderRefuses i e' → e ≡ e'
 der_header_refusal_same i e e' h h' = refusal_same laws i e e' h h'
-
-pub der_cut_identifier : (i : List ℕ) → IsCutIdentifier i → DerHeaderLacks i 1
-der_cut_identifier i h = let q = cut_identifier laws i h in (lacks_is_cut q.0, q.0, q.1)
-
-pub der_cut_length : (i s : List ℕ) (c : Class) (p : Bool) (t m : ℕ) → t < 2 ^ 32 → i ≡ identifier c p t ++ s → LengthLacks s m → DerHeaderLacks i m
-der_cut_length i s c p t m ht d l = let q = cut_length laws i s c p t m ht d l in (lacks_is_cut q.0, q.0, q.1)
 
 -- the header that is read is the one that begins the input
 pub der_header_only : (i rest rest' : List ℕ) (c : Class) (p : Bool) (t n : ℕ) (h : Header) → BeginsWithDerHeader i c p t n rest → ReadsDerHeader i h rest' → IsHeader h c p t (Definite n) (Some (identifier c p t)) × (rest' ≡ rest)

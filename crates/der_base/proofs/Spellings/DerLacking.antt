@@ -78,12 +78,12 @@ ends_in_content i c p t m s v h =
     (z.0, (λ e. omega (arith, z.1, h.short, ap length e)), (c, p, t, v ++ z.0, inl (s, rw l at h.spelled, o)))
 
 -- one that ends in a header too
-header_ends : {i : List ℕ} {n : ℕ} → HeaderLacks i n → IsCut i × DerLacks i n
-header_ends (in_identifier c p t r e) = ((header_cut (in_identifier c p t r e)).0, der_in_identifier c p t r e)
-header_ends (in_length c p t b bs h h1 hb e) = ((header_cut (in_length c p t b bs h h1 hb e)).0, der_in_length c p t b bs h h1 hb e)
+pub der_header_lacks : {i : List ℕ} {n : ℕ} → HeaderLacks i n → DerLacks i n
+der_header_lacks (in_identifier c p t r e) = der_in_identifier c p t r e
+der_header_lacks (in_length c p t b bs h h1 hb e) = der_in_length c p t b bs h h1 hb e
 
 pub der_header_cut : (i : List ℕ) (n : ℕ) → DerHeaderLacks i n → IsCut i × DerLacks i n
-der_header_cut i n h = header_ends h.1
+der_header_cut i n h = ((header_cut h.1).0, der_header_lacks h.1)
 
 -- A content of which too little is there lacks its whole length where its class is Universal, and what is missing otherwise.
 pub der_content_cut : (i rest : List ℕ) (c : Class) (p : Bool) (t m : ℕ) → BeginsWithDerHeader i c p t m rest → length rest < m

@@ -2,44 +2,27 @@
 use Rattle.std.proofs.Common.{◌≡◌, ◌≢◌, ℕ, ◌+◌, ◌≤◌, ◌⊎◌, Bool, true, false, List, [], ◌∷◌, ◌++◌, length, refl, sym, ap, subst, ◌∙◌, arith, append_assoc, length-append, append-nil, inl, inr}
 use Rattle.der_base.specs.declared.header.Class.{Class}
 use Rattle.der_base.specs.declared.header.Class.TheVariants.{Universal, Application, ContextSpecific, Private}
-use Rattle.der_base.specs.Cut.{AreShapes, no_shapes, definite_shape, indefinite_shape, IsShape, IsCut, Lacks, in_identifier, in_length, in_content, in_elements, DerLacks, der_in_identifier, der_in_length, der_in_universal, der_in_content}
+use Rattle.der_base.specs.Cut.{AreShapes, no_shapes, definite_shape, indefinite_shape, IsShape, IsCut, Lacks, in_content, in_elements, DerLacks, der_in_universal, der_in_content}
 use Rattle.der_base.specs.Encoding.{content_octets}
 use Rattle.der_base.specs.Fault.{ShowsFault, DerShowsFault}
-use Rattle.der_base.specs.LengthOctets.{LengthLacks, before_length, in_length as in_length_octets}
+use Rattle.der_base.specs.Headers.{HeaderLacks}
 use Rattle.der_base.specs.Octets.{identifier, shortest_length, SpellsAnyLength}
 use Rattle.der_base.specs.Spelling.{BerSpells, DerSpells, end_marker, framing_budget}
 use Rattle.der_base.specs.Stable.{BerIsCut, DerIsCut, FrontsAreCut}
 use Rattle.der_base.specs.Tree.{Node, node}
 use Rattle.der_base.proofs.Framing.Elements.{begins_element}
+use Rattle.der_base.proofs.Framing.FramingCuts.{header_cut}
 use Rattle.der_base.proofs.Framing.RawLists.{marker_is}
 use Rattle.der_base.proofs.Framing.Shapes.{element_shape}
-use Rattle.der_base.proofs.Octets.Identifiers.{head_same}
-use Rattle.der_base.proofs.Octets.LengthOctets.{length_front_lacks}
+use Rattle.der_base.proofs.Headers.HeaderLaws.{fronts, header_or_behind}
 use Rattle.der_base.proofs.Octets.ShortestLengths.{shortest_spells}
 use Rattle.der_base.proofs.Spellings.AppendedBer.{shown_appended}
 use Rattle.der_base.proofs.Spellings.AppendedDer.{der_shown_appended}
 use Rattle.der_base.proofs.Spellings.BerFaults.{spelled_begins}
 use Rattle.der_base.proofs.Spellings.BerFaults as ber
 use Rattle.der_base.proofs.Spellings.DerFaults as der
+use Rattle.der_base.proofs.Spellings.DerLacking.{der_header_lacks}
 use Rattle.der_base.proofs.Spellings.DerWithinBer.{der_element, der_shape}
-
--- two fronts of a list
-
--- the first ends within the second, or goes on behind it
-Fronts : List ℕ → List ℕ → List ℕ → List ℕ → Type 0
-Fronts a b x y = ((r : List ℕ) × (r ≢ []) × (a ++ r ≡ b)) ⊎ ((r : List ℕ) × (a ≡ b ++ r) × (r ++ x ≡ y))
-
-fronts : (a b x y : List ℕ) → a ++ x ≡ b ++ y → Fronts a b x y
-unfolding Fronts
-fronts [] [] x y e = inr ([], refl, e)
-fronts [] (m ∷ b) x y e = inl (m ∷ b, (λ z. cc), refl)
-fronts (k ∷ a) [] x y e = inr (k ∷ a, refl, e)
-fronts (k ∷ a) (m ∷ b) x y e =
-    let q = head_same e in
-    elim (fronts a b x y q.1) [
-      | inl (r, n, z) ↦ inl (r, n, ap (λ l. k ∷ l) z ∙ ap (λ h. h ∷ b) q.0)
-      | inr (r, z, w) ↦ inr (r, ap (λ l. k ∷ l) z ∙ ap (λ h. h ∷ (b ++ r)) q.0, w)
-    ]
 
 some_octets : (r : List ℕ) → r ≢ [] → 1 ≤ length r
 some_octets [] n = absurd (n refl)
@@ -47,25 +30,19 @@ some_octets (b ∷ r) n = omega arith
 
 -- what a front of an element lacks
 
--- behind an identifier, before the end of a length
-before_content : (i x : List ℕ) (c : Class) (p : Bool) (t n : ℕ) → i ≡ identifier c p t ++ x → LengthLacks x n → Lacks i n
-before_content i x c p t n e (before_length z o) =
-    subst (Lacks i) (sym o) (in_identifier c p t [] (append-nil i ∙ e ∙ ap (λ l. identifier c p t ++ l) z ∙ append-nil (identifier c p t)))
-before_content i x c p t n e (in_length_octets b bs h h1 hb z) = in_length c p t b bs h h1 hb (e ∙ ap (λ l. identifier c p t ++ l) z)
-
--- of a definite length
-definite_front : (i r : List ℕ) (c : Class) (p : Bool) (t : ℕ) (s v : List ℕ) → r ≢ [] → SpellsAnyLength s (length v) → i ++ r ≡ identifier c p t ++ (s ++ v) → (n : ℕ) × Lacks i n
-unfolding Fronts
-definite_front i r c p t s v some hs e = elim (fronts i (identifier c p t) r (s ++ v) e) [
-  | inl (m, k, z) ↦ (1, in_identifier c p t m z)
-  | inr (x, z, w) ↦ behind x z (fronts x s r v w)
+-- of a definite length it ends within the header, or within the content
+definite_ends : (i r : List ℕ) (c : Class) (p : Bool) (t : ℕ) (s v : List ℕ) → r ≢ [] → SpellsAnyLength s (length v) → i ++ r ≡ identifier c p t ++ s ++ v
+    → ((n : ℕ) × HeaderLacks i n) ⊎ ((y : List ℕ) × (1 ≤ length r) × SpellsAnyLength s (length y + length r) × (i ≡ identifier c p t ++ s ++ y))
+definite_ends i r c p t s v some hs e = elim (header_or_behind i r (identifier c p t ++ s) v some (c, p, t, s, refl, inl (length v, hs)) e) [
+  | inl h ↦ inl h
+  | inr (y, z, w) ↦ inr (y, some_octets r some, subst (SpellsAnyLength s) (ap length (sym w) ∙ length-append y r) hs, z)
 ]
-  where
-    behind : (x : List ℕ) → i ≡ identifier c p t ++ x → Fronts x s r v → (n : ℕ) × Lacks i n
-    behind x z (inl (m, k, w)) = let q = length_front_lacks x m k (inl (length v, subst (λ l. SpellsAnyLength l (length v)) (sym w) hs)) in (q.0, before_content i x c p t q.0 z q.1)
-    behind x z (inr (y, w, o)) =
-        let l : length v ≡ length y + length r = ap length (sym o) ∙ length-append y r in
-        (length r, in_content c p t s y (some_octets r some) (subst (SpellsAnyLength s) l hs) (z ∙ ap (λ l. identifier c p t ++ l) w ∙ sym (append_assoc (identifier c p t) s y)))
+
+definite_front : (i r : List ℕ) (c : Class) (p : Bool) (t : ℕ) (s v : List ℕ) → r ≢ [] → SpellsAnyLength s (length v) → i ++ r ≡ identifier c p t ++ s ++ v → (n : ℕ) × Lacks i n
+definite_front i r c p t s v some hs e = elim (definite_ends i r c p t s v some hs e) [
+  | inl (n, h) ↦ (n, (header_cut h).1)
+  | inr (y, m, l, z) ↦ (length r, in_content c p t s y m l z)
+]
 
 -- of elements in front of an end marker: some are whole, and then one is cut short, or the end marker
 record EndsInside (y : List ℕ) : Type 0 where
@@ -77,35 +54,28 @@ record EndsInside (y : List ℕ) : Type 0 where
   octets : y ≡ whole ++ cut
 
 -- of an indefinite length
-open_front : (i r : List ℕ) (c : Class) (p : Bool) (t : ℕ) (v : List ℕ) → r ≢ [] → p ≡ true → ((y : List ℕ) → y ++ r ≡ v ++ end_marker → EndsInside y)
-    → i ++ r ≡ identifier c p t ++ 128 ∷ (v ++ end_marker) → (n : ℕ) × Lacks i n
-unfolding Fronts
-open_front i r c p t v some ep inside e = elim (fronts i (identifier c p t) r (128 ∷ (v ++ end_marker)) e) [
-  | inl (m, k, z) ↦ (1, in_identifier c p t m z)
-  | inr (x, z, w) ↦ behind x z w
-]
-  where
-    behind : (x : List ℕ) → i ≡ identifier c p t ++ x → x ++ r ≡ 128 ∷ (v ++ end_marker) → (n : ℕ) × Lacks i n
-    behind [] z w = (1, in_identifier c p t [] (append-nil i ∙ z ∙ append-nil (identifier c p t)))
-    behind (b ∷ y) z w =
-        let q = head_same w in
-        let g = inside y q.1 in
-        let a = identifier c true t in
-        let o : i ≡ a ++ 128 ∷ y = z ∙ ap (λ l. identifier c p t ++ l ∷ y) q.0 ∙ ap (λ k. identifier c k t ++ 128 ∷ y) ep in
-        (g.count, in_elements c t g.whole g.cut g.elements g.lacks (o ∙ ap (λ l. a ++ 128 ∷ l) g.octets ∙ sym (append_assoc a (128 ∷ g.whole) g.cut)))
+open_front : (i r : List ℕ) (c : Class) (t : ℕ) (v : List ℕ) → r ≢ [] → ((y : List ℕ) → y ++ r ≡ v ++ end_marker → EndsInside y)
+    → i ++ r ≡ identifier c true t ++ 128 ∷ v ++ end_marker → (n : ℕ) × Lacks i n
+open_front i r c t v some inside e =
+    let a = identifier c true t in
+    elim (header_or_behind i r (a ++ 128 ∷ []) (v ++ end_marker) some (c, true, t, 128 ∷ [], refl, inr refl) (e ∙ append_assoc a (128 ∷ v) end_marker ∙ sym (append_assoc a (128 ∷ []) (v ++ end_marker)))) [
+      | inl (n, h) ↦ (n, (header_cut h).1)
+      | inr (y, z, w) ↦
+          let g = inside y w in
+          (g.count, in_elements c t g.whole g.cut g.elements g.lacks (z ∙ append_assoc a (128 ∷ []) y ∙ ap (λ l. a ++ 128 ∷ l) g.octets ∙ sym (append_assoc a (128 ∷ g.whole) g.cut)))
+    ]
 
 first_cut : (y : List ℕ) (n : ℕ) → Lacks y n → EndsInside y
 first_cut y n h = record { whole = []; cut = y; count = n; elements = no_shapes; lacks = h; octets = refl }
 
 ends_inside : {v : List ℕ} → AreShapes v → (y r : List ℕ) → r ≢ [] → y ++ r ≡ v ++ end_marker → EndsInside y
-unfolding Fronts
 ends_inside no_shapes y r some e =
-    let q = definite_front y r Universal false 0 (0 ∷ []) [] some (inl (omega arith, refl, refl)) (e ∙ sym (marker_is [])) in
+    let q = definite_front y r Universal false 0 (0 ∷ []) [] some (inl (omega arith, refl, refl)) (e ∙ sym (append-nil (identifier Universal false 0 ++ 0 ∷ []) ∙ marker_is [])) in
     first_cut y q.0 q.1
 ends_inside (definite_shape {w = w} c p t s v rest hs hn d h) y r some e =
     let b = identifier c p t ++ s ++ v in
     elim (fronts y b r (rest ++ end_marker) (e ∙ ap (λ l. l ++ end_marker) d ∙ append_assoc b rest end_marker)) [
-      | inl (m, k, z) ↦ let q = definite_front y m c p t s v k hs (z ∙ append_assoc (identifier c p t) s v) in first_cut y q.0 q.1
+      | inl (m, k, z) ↦ let q = definite_front y m c p t s v k hs z in first_cut y q.0 q.1
       | inr (x, z, o) ↦
           let g = ends_inside h x r some o in
           record {
@@ -121,7 +91,7 @@ ends_inside (indefinite_shape {w = w} c t v rest hv d h) y r some e =
     let b = identifier c true t ++ 128 ∷ v ++ end_marker in
     elim (fronts y b r (rest ++ end_marker) (e ∙ ap (λ l. l ++ end_marker) d ∙ append_assoc b rest end_marker)) [
       | inl (m, k, z) ↦
-          let q = open_front y m c true t v k refl (λ x o. ends_inside hv x m k o) (z ∙ append_assoc (identifier c true t) (128 ∷ v) end_marker) in
+          let q = open_front y m c t v k (λ x o. ends_inside hv x m k o) z in
           first_cut y q.0 q.1
       | inr (x, z, o) ↦
           let g = ends_inside h x r some o in
@@ -137,8 +107,8 @@ ends_inside (indefinite_shape {w = w} c t v rest hv d h) y r some e =
 
 -- What is cut short lacks some number of octets.
 pub cut_lacks : (i : List ℕ) → IsCut i → (n : ℕ) × Lacks i n
-cut_lacks i (r, some, (c, p, t, v, inl (s, hs, e))) = definite_front i r c p t s v some hs (e ∙ append_assoc (identifier c p t) s v)
-cut_lacks i (r, some, (c, p, t, v, inr (ep, hv, e))) = open_front i r c p t v some ep (λ y o. ends_inside hv y r some o) (e ∙ append_assoc (identifier c p t) (128 ∷ v) end_marker)
+cut_lacks i (r, some, (c, p, t, v, inl (s, hs, e))) = definite_front i r c p t s v some hs e
+cut_lacks i (r, some, (c, p, t, v, inr (ep, hv, e))) = open_front i r c t v some (λ y o. ends_inside hv y r some o) (e ∙ ap (λ q. identifier c q t ++ 128 ∷ v ++ end_marker) ep)
 
 -- by BER
 
@@ -156,35 +126,20 @@ ber_fronts_are_cut d b o h u v some e =
 
 -- by DER
 
-der_before_content : (i x : List ℕ) (c : Class) (p : Bool) (t n : ℕ) → i ≡ identifier c p t ++ x → LengthLacks x n → DerLacks i n
-der_before_content i x c p t n e (before_length z o) =
-    subst (DerLacks i) (sym o) (der_in_identifier c p t [] (append-nil i ∙ e ∙ ap (λ l. identifier c p t ++ l) z ∙ append-nil (identifier c p t)))
-der_before_content i x c p t n e (in_length_octets b bs h h1 hb z) = der_in_length c p t b bs h h1 hb (e ∙ ap (λ l. identifier c p t ++ l) z)
-
 der_content_front : (i : List ℕ) (c : Class) (p : Bool) (t : ℕ) (s y : List ℕ) (m : ℕ) → 1 ≤ m → SpellsAnyLength s (length y + m) → i ≡ identifier c p t ++ s ++ y → (n : ℕ) × DerLacks i n
 der_content_front i Universal p t s y m h hs e = (length y + m, der_in_universal p t s y (omega (arith, h)) hs e)
 der_content_front i Application p t s y m h hs e = (m, der_in_content Application p t s y (λ z. cc) h hs e)
 der_content_front i ContextSpecific p t s y m h hs e = (m, der_in_content ContextSpecific p t s y (λ z. cc) h hs e)
 der_content_front i Private p t s y m h hs e = (m, der_in_content Private p t s y (λ z. cc) h hs e)
 
-der_definite_front : (i r : List ℕ) (c : Class) (p : Bool) (t : ℕ) (s v : List ℕ) → r ≢ [] → SpellsAnyLength s (length v) → i ++ r ≡ identifier c p t ++ (s ++ v) → (n : ℕ) × DerLacks i n
-unfolding Fronts
-der_definite_front i r c p t s v some hs e = elim (fronts i (identifier c p t) r (s ++ v) e) [
-  | inl (m, k, z) ↦ (1, der_in_identifier c p t m z)
-  | inr (x, z, w) ↦ behind x z (fronts x s r v w)
-]
-  where
-    behind : (x : List ℕ) → i ≡ identifier c p t ++ x → Fronts x s r v → (n : ℕ) × DerLacks i n
-    behind x z (inl (m, k, w)) = let q = length_front_lacks x m k (inl (length v, subst (λ l. SpellsAnyLength l (length v)) (sym w) hs)) in (q.0, der_before_content i x c p t q.0 z q.1)
-    behind x z (inr (y, w, o)) =
-        let l : length v ≡ length y + length r = ap length (sym o) ∙ length-append y r in
-        der_content_front i c p t s y (length r) (some_octets r some) (subst (SpellsAnyLength s) l hs) (z ∙ ap (λ l. identifier c p t ++ l) w ∙ sym (append_assoc (identifier c p t) s y))
-
 der_front_lacks : (b u v : List ℕ) (o : Node) (d : ℕ) → DerSpells b o d → v ≢ [] → b ≡ u ++ v → (n : ℕ) × DerLacks u n
 der_front_lacks b u v (node c p t x) d h some e =
     let w = content_octets x in
     let s = shortest_length (length w) in
-    der_definite_front u v c p t s w some (shortest_spells (length w) (omega (arith, h.size))).1 (sym e ∙ der_element b c p t x d h ∙ append_assoc (identifier c p t) s w)
+    elim (definite_ends u v c p t s w some (shortest_spells (length w) (omega (arith, h.size))).1 (sym e ∙ der_element b c p t x d h)) [
+      | inl (n, k) ↦ (n, der_header_lacks k)
+      | inr (y, m, l, z) ↦ der_content_front u c p t s y (length v) m l z
+    ]
 
 pub der_fronts_are_cut : (d : ℕ) (b : List ℕ) (o : Node) → DerSpells b o d → FrontsAreCut DerIsCut d b
 der_fronts_are_cut d b o h u v some e =
