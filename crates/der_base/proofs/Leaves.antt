@@ -5,6 +5,7 @@ pub mod Decided
 pub mod FirstLeaves
 pub mod NeverBoth
 pub mod NormalLeaves
+pub mod NumberLaws
 pub mod OneContent
 pub mod Refusals
 pub mod Texts

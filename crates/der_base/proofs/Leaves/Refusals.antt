@@ -1,6 +1,7 @@
 -- Lists of tests: the refusal of the first test that holds.
 use Rattle.std.proofs.Common.{◌≡◌, ◌⊎◌, Bool, true, false, List, [], ◌∷◌, ◌++◌, refl, sym, ◌∙◌, inl, inr}
 use Rattle.der_base.specs.LeafRefusal.{Test, IsFirstRefusal, choose}
+pub use Rattle.der_base.specs.LeafRefusal.{NoneHolds}
 use Rattle.der_base.specs.Refusal.{Refusal}
 use Rattle.der_base.proofs.Leaves.Decided.{Decided}
 
@@ -11,11 +12,6 @@ first_refusal_once (t ∷ ts) e e' (inl h) (inl g) = h.1 ∙ sym g.1
 first_refusal_once (t ∷ ts) e e' (inl h) (inr g) = absurd (g.0 h.0)
 first_refusal_once (t ∷ ts) e e' (inr h) (inl g) = absurd (h.0 g.0)
 first_refusal_once (t ∷ ts) e e' (inr h) (inr g) = first_refusal_once ts e e' h.1 g.1
-
--- none of the tests holds
-abbrev pub NoneHolds : List Test → Type 0
-NoneHolds [] = Unit {0}
-NoneHolds (t ∷ ts) = ¬ t.holds × NoneHolds ts
 
 pub none_refuses : (ts : List Test) (e : Refusal) → NoneHolds ts → ¬ IsFirstRefusal ts e
 none_refuses [] e n h = h
