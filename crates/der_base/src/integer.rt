@@ -1,10 +1,12 @@
 //! Numbers that octets spell, and those of content octets in two's complement (X.690 8.3).
-ghost use Rattle.std.specs.Prelude.{◌≡◌, ◌<◌, ◌<ℤ◌, ◌^◌, MatchResult, false, pos, true};
+ghost use Rattle.std.specs.Prelude.{◌≡◌, ◌<◌, ◌<ℤ◌, ◌≤ℤ◌, ◌^◌, MatchResult, false, neg_ℤ, pos, true};
 ghost use Rattle.std.specs.Option.{SomeIff};
 ghost use Rattle.der_base.specs.Leaf.{IsMinimalInteger};
 ghost use Rattle.der_base.specs.LeafRefusal.{IsFirstRefusal, integer_tests, range_tests};
+ghost use Rattle.der_base.specs.Numbers.{AnswersSigned, AnswersUnsigned};
 ghost use Rattle.der_base.specs.Octets.{integer_value, number};
 ghost use Rattle.der_base.specs.Refusal.{refusal};
+ghost use Rattle.der_base.specs.Tree.{bit_string, integer};
 
 use crate::error::{BerError, DerConstraint};
 
@@ -21,6 +23,35 @@ pub fn read_unsigned(octets: &[u8]) -> Result<u64, BerError>
     match number_that_fits(octets) {
         Some(n) => Ok(n as u64),
         None => Err(BerError::IntegerTooLarge),
+    }
+}
+
+/// The number of content octets, where it is from -2^63 to 2^63-1; no octets are 0. IntegerTooLarge
+/// where it isn't.
+pub fn read_signed(octets: &[u8]) -> Result<i64, BerError>
+    ensures { AnswersSigned 64 (integer octets.now) result }
+{
+    let fits = if is_negative(octets) {
+        negative_that_fits(octets)
+    } else {
+        natural_that_fits(octets)
+    };
+    fits.ok_or(BerError::IntegerTooLarge)
+}
+
+/// The number that the used bits of a BIT STRING spell, the highest first (8.6), of which so many
+/// are unused. InvalidLength where more are unused than there are, IntegerTooLarge where more than
+/// 64 are used.
+pub fn read_used_bits(unused: u8, octets: &[u8]) -> Result<u64, BerError>
+    ensures { AnswersUnsigned 64 (bit_string unused octets.now) result }
+{
+    if octets.len() < usize::from(unused.div_ceil(8)) {
+        return Err(BerError::InvalidLength);
+    }
+    let used = &octets[..octets.len() - usize::from(unused / 8)];
+    match number_that_fits(used) {
+        Some(n) if used.len() <= 8 => Ok(n as u64 >> (unused % 8)),
+        _ => Err(BerError::IntegerTooLarge),
     }
 }
 
@@ -69,4 +100,28 @@ pub(crate) fn number_that_fits(octets: &[u8]) -> Option<usize>
         n = n * 256 + *b as usize;
     }
     Some(n)
+}
+
+/// The number of content octets that is not negative, where it is below 2^63.
+fn natural_that_fits(octets: &[u8]) -> Option<i64>
+    requires { integer_value octets.now ≡ pos (number octets.now) }
+    ensures { SomeIff result (integer_value octets.now <ℤ pos (2 ^ 63)) (integer_value octets.now) }
+{
+    i64::try_from(number_that_fits(octets)?).ok()
+}
+
+/// The negative number of content octets, where it is at least -2^63. It is one less than the
+/// negative of the number that the complements of the octets spell.
+fn negative_that_fits(octets: &[u8]) -> Option<i64>
+    requires { integer_value octets.now <ℤ pos 0 }
+    ensures { SomeIff result (neg_ℤ (pos (2 ^ 63)) ≤ℤ integer_value octets.now) (integer_value octets.now) }
+{
+    let mut n: usize = 0;
+    for b in octets {
+        if n >= 1 << 55 {
+            return None;
+        }
+        n = n * 256 + usize::from(255 - *b);
+    }
+    Some(-1 - n as i64)
 }
