@@ -6,6 +6,7 @@ pub mod FirstLeaves
 pub mod NeverBoth
 pub mod NormalLeaves
 pub mod NumberLaws
+pub mod NumberReaders
 pub mod OneContent
 pub mod Refusals
 pub mod Texts

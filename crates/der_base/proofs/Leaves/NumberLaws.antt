@@ -1,14 +1,14 @@
 -- Laws of the tests of numbers: each content has one answer, and a number that is answered fits its type.
-use Rattle.std.proofs.Common.{ℕ, Bool, List, [], ◌∷◌, ◌++◌, inl, inr}
+use Rattle.std.proofs.Common.{ℕ, Bool, List, ◌++◌, inl, inr}
 use Rattle.std.specs.Prelude.{ℤ}
 use Rattle.der_base.specs.Laws.{NumberOrRefused, NumbersPass, HaveOneNumberRefusal, NumbersFit}
 use Rattle.der_base.specs.Octets.{integer_value}
-use Rattle.der_base.specs.LeafRefusal.{Test, NoneHolds, integer_tests}
+use Rattle.der_base.specs.LeafRefusal.{integer_tests}
 use Rattle.der_base.specs.Numbers.{NumberType, signed, unsigned, least, greatest, fits_tests, sign_tests, number_tests, ber_reader_tests, der_reader_tests}
 use Rattle.der_base.specs.Tree.{Content, integer, enumerated, bit_string}
 use Rattle.der_base.proofs.Leaves.AlwaysDer.{integer_decided}
 use Rattle.der_base.proofs.Leaves.Decided.{decided_or, decided_not, decided_less, decided_below, decided_equal, decided_true}
-use Rattle.der_base.proofs.Leaves.Refusals.{AllDecided, first_or_none, none_refuses, first_refusal_once, decided_append}
+use Rattle.der_base.proofs.Leaves.Refusals.{AllDecided, first_or_none, none_refuses, first_refusal_once, decided_append, none_of_back}
 
 fits_decided : (k : NumberType) (v : ℤ) → AllDecided (fits_tests k v)
 fits_decided k v = (decided_or _ _ (decided_less v (least k)) (decided_less (greatest k) v), tt)
@@ -35,10 +35,6 @@ numbers_pass k x e n = none_refuses (number_tests k x) e n
 -- and no two refusals
 pub one_number_refusal : HaveOneNumberRefusal
 one_number_refusal k x e e' = first_refusal_once (number_tests k x) e e'
-
-none_of_back : (ts us : List Test) → NoneHolds (ts ++ us) → NoneHolds us
-none_of_back [] us n = n
-none_of_back (t ∷ ts) us n = none_of_back ts us n.1
 
 -- a number that is answered fits
 pub numbers_fit : NumbersFit
