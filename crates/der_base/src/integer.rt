@@ -10,12 +10,34 @@ ghost use Rattle.der_base.specs.Tree.{bit_string, integer};
 
 use crate::error::{BerError, DerConstraint};
 
+/// The number of content octets, where it is from -2^63 to 2^63-1; no octets are 0. IntegerTooLarge
+/// where it isn't.
+pub fn read_i64(octets: &[u8]) -> Result<i64, BerError>
+    ensures { AnswersSigned 64 (integer octets.now) result }
+{
+    let negative = is_negative(octets);
+    let fits = if negative {
+        negative_that_fits(octets)
+    } else {
+        natural_that_fits(octets)
+    };
+    fits.ok_or(BerError::IntegerTooLarge)
+}
+
+/// The same from -2^31 to 2^31-1.
+pub fn read_i32(octets: &[u8]) -> Result<i32, BerError>
+    ensures { AnswersSigned 32 (integer octets.now) result }
+{
+    i32::try_from(read_i64(octets)?).map_err(|_| BerError::IntegerTooLarge)
+}
+
 /// The number of content octets, where it is from 0 to 2^64-1; no octets are 0. IntegerNegative
 /// below, IntegerTooLarge above.
-pub fn read_unsigned(octets: &[u8]) -> Result<u64, BerError>
-    ensures { MatchResult result
+pub fn read_u64(octets: &[u8]) -> Result<u64, BerError>
+    ensures range { MatchResult result
         (λ n. (n < 2 ^ 64) × (integer_value octets.now ≡ pos n))
         (λ e. IsFirstRefusal (range_tests octets.now) (refusal e)) }
+    ensures number { AnswersUnsigned 64 (integer octets.now) result }
 {
     if is_negative(octets) {
         return Err(BerError::IntegerNegative);
@@ -26,17 +48,11 @@ pub fn read_unsigned(octets: &[u8]) -> Result<u64, BerError>
     }
 }
 
-/// The number of content octets, where it is from -2^63 to 2^63-1; no octets are 0. IntegerTooLarge
-/// where it isn't.
-pub fn read_signed(octets: &[u8]) -> Result<i64, BerError>
-    ensures { AnswersSigned 64 (integer octets.now) result }
+/// The same from 0 to 2^32-1.
+pub fn read_u32(octets: &[u8]) -> Result<u32, BerError>
+    ensures { AnswersUnsigned 32 (integer octets.now) result }
 {
-    let fits = if is_negative(octets) {
-        negative_that_fits(octets)
-    } else {
-        natural_that_fits(octets)
-    };
-    fits.ok_or(BerError::IntegerTooLarge)
+    u32::try_from(read_u64(octets)?).map_err(|_| BerError::IntegerTooLarge)
 }
 
 /// The number that the used bits of a BIT STRING spell, the highest first (8.6), of which so many

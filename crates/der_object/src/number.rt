@@ -4,7 +4,7 @@ ghost use Rattle.der_object.specs.View.{content_tree};
 
 use crate::object::{BerObject, BerObjectContent};
 use der_base::error::BerError;
-use der_base::integer::{read_signed, read_unsigned, read_used_bits};
+use der_base::integer::{read_i32, read_i64, read_u64, read_used_bits};
 
 impl BerObjectContent<'_> {
     /// The number of an INTEGER, in two's complement; that of no octets is 0. IntegerTooLarge where
@@ -13,7 +13,7 @@ impl BerObjectContent<'_> {
         ensures { AnswersSigned 64 (content_tree self.now) result }
     {
         match self {
-            BerObjectContent::Integer(octets) => read_signed(octets),
+            BerObjectContent::Integer(octets) => read_i64(octets),
             _ => Err(BerError::BerValueError),
         }
     }
@@ -22,7 +22,10 @@ impl BerObjectContent<'_> {
     pub fn as_i32(&self) -> Result<i32, BerError>
         ensures { AnswersSigned 32 (content_tree self.now) result }
     {
-        i32::try_from(self.as_i64()?).map_err(|_| BerError::IntegerTooLarge)
+        match self {
+            BerObjectContent::Integer(octets) => read_i32(octets),
+            _ => Err(BerError::BerValueError),
+        }
     }
 
     /// The number of an INTEGER or ENUMERATED, or the one that the used bits of a BIT STRING spell,
@@ -33,7 +36,7 @@ impl BerObjectContent<'_> {
         ensures { AnswersUnsigned 64 (content_tree self.now) result }
     {
         match self {
-            BerObjectContent::Integer(octets) => read_unsigned(octets),
+            BerObjectContent::Integer(octets) => read_u64(octets),
             BerObjectContent::Enum(n) => Ok(*n),
             BerObjectContent::BitString(unused, bits) => read_used_bits(*unused, bits.bytes),
             _ => Err(BerError::BerTypeError),

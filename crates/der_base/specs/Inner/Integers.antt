@@ -17,12 +17,16 @@ ber_form_tests p t w =
     ∷ refuse (p ≡ true) construct_unexpected
     ∷ []
 
--- but for those of its size
-abbrev pub der_form_tests : NumberType → Bool → ℕ → List ℕ → List Test
-der_form_tests k p t w =
+-- by DER, those of the header
+abbrev pub der_header_tests : Bool → ℕ → List Test
+der_header_tests p t =
     refuse (t ≢ 2) (unexpected_tag (Some 2) t)
     ∷ refuse (p ≡ true) (der_constraint Constructed)
-    ∷ sign_tests k w ++ integer_tests w
+    ∷ []
+
+-- and all but for those of the size
+abbrev pub der_form_tests : NumberType → Bool → ℕ → List ℕ → List Test
+der_form_tests k p t w = der_header_tests p t ++ (sign_tests k w ++ integer_tests w)
 
 -- i begins with an INTEGER of these content octets, which passes the tests, and rest follows
 abbrev pub ReadsBerInteger : List ℕ → List ℕ → List ℕ → Type 0
