@@ -5,6 +5,8 @@ pub mod Decided
 pub mod FirstLeaves
 pub mod NeverBoth
 pub mod NormalLeaves
+pub mod NumberLaws
+pub mod NumberReaders
 pub mod OneContent
 pub mod Refusals
 pub mod Texts

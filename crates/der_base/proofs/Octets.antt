@@ -10,3 +10,4 @@ pub mod Shortest
 pub mod ShortestLengths
 pub mod SignBit
 pub mod TagNumbers
+pub mod UsedBits

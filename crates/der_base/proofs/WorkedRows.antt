@@ -4,6 +4,7 @@ mod Identifiers
 mod Nested
 mod NoDerFault
 mod NoFault
+mod Numbers
 mod OneFault
 mod Shown
 mod ShownMore

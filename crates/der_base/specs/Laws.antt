@@ -1,13 +1,14 @@
 -- Laws of the definitions.
 use Rattle.std.specs.Prelude.{◌≡◌, ◌≢◌, ℕ, ◌-◌, ◌%◌, ◌^◌, ◌<◌, ◌≤◌, ◌⊎◌, ◌↔◌, Bool, false, IsTrue, pos}
-use Rattle.std.specs.Prelude.{List, [], ◌∷◌, ◌++◌, length, slice_index, All}
+use Rattle.std.specs.Prelude.{◌<ℤ◌, List, [], ◌∷◌, ◌++◌, length, slice_index, All}
 use Rattle.der_base.specs.declared.header.Class.{Class}
 use Rattle.der_base.specs.declared.header.Length.{Length}
 use Rattle.der_base.specs.Encoding.{encoding, content_octets}
 use Rattle.der_base.specs.Fault.{BerHeaderRefuses, DerHeaderRefuses, ShowsFault, DerShowsFault}
 use Rattle.der_base.specs.Headers.{BeginsWithHeader, BeginsWithDerHeader, BerHeaderLacks, DerHeaderLacks}
 use Rattle.der_base.specs.Leaf.{is_list, is_mapped, IsLeafContent, IsDerLeaf, IsMinimalInteger, HasZeroUnusedBits}
-use Rattle.der_base.specs.LeafRefusal.{BerLeafRefuses, DerLeafRefuses}
+use Rattle.der_base.specs.LeafRefusal.{BerLeafRefuses, DerLeafRefuses, NoneHolds}
+use Rattle.der_base.specs.Numbers.{NumberType, least, greatest, number_of_content, number_tests, NumberRefuses}
 use Rattle.der_base.specs.Octets.{number, octets, groups, groups_value, integer_value}
 use Rattle.der_base.specs.Octets.{shortest_integer, shortest_length, SpellsAnyLength}
 use Rattle.der_base.specs.Refusal.{Refusal}
@@ -173,3 +174,21 @@ DerFrontsAreCut = (d : ℕ) (b : List ℕ) (o : Node) → DerSpells b o d → Fr
 abbrev pub EncodingIsNormalForm : Type 0
 EncodingIsNormalForm = (b : List ℕ) (o : Node) (d k : ℕ)
     → BerSpells b o d k → length (encoding o) < 2 ^ 64 → BerSpells (encoding o) o d framing_budget
+
+-- a content has a number of a type or is refused
+abbrev pub NumberOrRefused : Type 0
+NumberOrRefused = (k : NumberType) (x : Content) → NoneHolds (number_tests k x) ⊎ ((e : Refusal) × NumberRefuses k x e)
+
+-- never both
+abbrev pub NumbersPass : Type 0
+NumbersPass = (k : NumberType) (x : Content) (e : Refusal) → NoneHolds (number_tests k x) → ¬ NumberRefuses k x e
+
+-- and by one refusal
+abbrev pub HaveOneNumberRefusal : Type 0
+HaveOneNumberRefusal = (k : NumberType) (x : Content) (e e' : Refusal)
+    → NumberRefuses k x e → NumberRefuses k x e' → e ≡ e'
+
+-- a number that a content has fits the type
+abbrev pub NumbersFit : Type 0
+NumbersFit = (k : NumberType) (x : Content) → NoneHolds (number_tests k x)
+    → ¬ (number_of_content x <ℤ least k) × ¬ (greatest k <ℤ number_of_content x)

@@ -18,6 +18,7 @@ pub mod Leaf
 pub mod LeafRefusal
 pub mod LengthOctets
 pub mod Listing
+pub mod Numbers
 pub mod Octets
 pub mod OidArcs
 pub mod Oids

@@ -1,19 +1,43 @@
 //! Numbers that octets spell, and those of content octets in two's complement (X.690 8.3).
-ghost use Rattle.std.specs.Prelude.{◌≡◌, ◌<◌, ◌<ℤ◌, ◌^◌, MatchResult, false, pos, true};
+ghost use Rattle.std.specs.Prelude.{◌≡◌, ◌<◌, ◌<ℤ◌, ◌≤ℤ◌, ◌^◌, MatchResult, false, neg_ℤ, pos, true};
 ghost use Rattle.std.specs.Option.{SomeIff};
 ghost use Rattle.der_base.specs.Leaf.{IsMinimalInteger};
 ghost use Rattle.der_base.specs.LeafRefusal.{IsFirstRefusal, integer_tests, range_tests};
+ghost use Rattle.der_base.specs.Numbers.{AnswersSigned, AnswersUnsigned};
 ghost use Rattle.der_base.specs.Octets.{integer_value, number};
 ghost use Rattle.der_base.specs.Refusal.{refusal};
+ghost use Rattle.der_base.specs.Tree.{bit_string, integer};
 
 use crate::error::{BerError, DerConstraint};
 
+/// The number of content octets, where it is from -2^63 to 2^63-1; no octets are 0. IntegerTooLarge
+/// where it isn't.
+pub fn read_i64(octets: &[u8]) -> Result<i64, BerError>
+    ensures { AnswersSigned 64 (integer octets.now) result }
+{
+    let negative = is_negative(octets);
+    let fits = if negative {
+        negative_that_fits(octets)
+    } else {
+        natural_that_fits(octets)
+    };
+    fits.ok_or(BerError::IntegerTooLarge)
+}
+
+/// The same from -2^31 to 2^31-1.
+pub fn read_i32(octets: &[u8]) -> Result<i32, BerError>
+    ensures { AnswersSigned 32 (integer octets.now) result }
+{
+    i32::try_from(read_i64(octets)?).map_err(|_| BerError::IntegerTooLarge)
+}
+
 /// The number of content octets, where it is from 0 to 2^64-1; no octets are 0. IntegerNegative
 /// below, IntegerTooLarge above.
-pub fn read_unsigned(octets: &[u8]) -> Result<u64, BerError>
-    ensures { MatchResult result
+pub fn read_u64(octets: &[u8]) -> Result<u64, BerError>
+    ensures range { MatchResult result
         (λ n. (n < 2 ^ 64) × (integer_value octets.now ≡ pos n))
         (λ e. IsFirstRefusal (range_tests octets.now) (refusal e)) }
+    ensures number { AnswersUnsigned 64 (integer octets.now) result }
 {
     if is_negative(octets) {
         return Err(BerError::IntegerNegative);
@@ -21,6 +45,29 @@ pub fn read_unsigned(octets: &[u8]) -> Result<u64, BerError>
     match number_that_fits(octets) {
         Some(n) => Ok(n as u64),
         None => Err(BerError::IntegerTooLarge),
+    }
+}
+
+/// The same from 0 to 2^32-1.
+pub fn read_u32(octets: &[u8]) -> Result<u32, BerError>
+    ensures { AnswersUnsigned 32 (integer octets.now) result }
+{
+    u32::try_from(read_u64(octets)?).map_err(|_| BerError::IntegerTooLarge)
+}
+
+/// The number that the used bits of a BIT STRING spell, the highest first (8.6), of which so many
+/// are unused. InvalidLength where more are unused than there are, IntegerTooLarge where more than
+/// 64 are used.
+pub fn read_used_bits(unused: u8, octets: &[u8]) -> Result<u64, BerError>
+    ensures { AnswersUnsigned 64 (bit_string unused octets.now) result }
+{
+    if octets.len() < usize::from(unused.div_ceil(8)) {
+        return Err(BerError::InvalidLength);
+    }
+    let used = &octets[..octets.len() - usize::from(unused / 8)];
+    match number_that_fits(used) {
+        Some(n) if used.len() <= 8 => Ok(n as u64 >> (unused % 8)),
+        _ => Err(BerError::IntegerTooLarge),
     }
 }
 
@@ -69,4 +116,28 @@ pub(crate) fn number_that_fits(octets: &[u8]) -> Option<usize>
         n = n * 256 + *b as usize;
     }
     Some(n)
+}
+
+/// The number of content octets that is not negative, where it is below 2^63.
+fn natural_that_fits(octets: &[u8]) -> Option<i64>
+    requires { integer_value octets.now ≡ pos (number octets.now) }
+    ensures { SomeIff result (integer_value octets.now <ℤ pos (2 ^ 63)) (integer_value octets.now) }
+{
+    i64::try_from(number_that_fits(octets)?).ok()
+}
+
+/// The negative number of content octets, where it is at least -2^63. It is one less than the
+/// negative of the number that the complements of the octets spell.
+fn negative_that_fits(octets: &[u8]) -> Option<i64>
+    requires { integer_value octets.now <ℤ pos 0 }
+    ensures { SomeIff result (neg_ℤ (pos (2 ^ 63)) ≤ℤ integer_value octets.now) (integer_value octets.now) }
+{
+    let mut n: usize = 0;
+    for b in octets {
+        if n >= 1 << 55 {
+            return None;
+        }
+        n = n * 256 + usize::from(255 - *b);
+    }
+    Some(-1 - n as i64)
 }

@@ -33,6 +33,7 @@ ghost use Rattle.der_base.specs.Laws.{
   DerFrontsAreCut,
   EncodingIsNormalForm,
 };
+ghost use Rattle.der_base.specs.Laws.{NumberOrRefused, NumbersPass, HaveOneNumberRefusal, NumbersFit};
 ghost use Rattle.std.specs.Prelude.{◌≡◌};
 ghost use Rattle.std.specs.Cmp.{IsEquivalence};
 ghost use Rattle.der_base.specs.Copies.{
@@ -137,6 +138,14 @@ pub fn always_one()
     ensures ber { ReadOrRefusedByBer }
     ensures der { WrittenOrRefusedByDer }
     ensures written { AcceptedAreWritten }
+{}
+
+/// A content has a number of a type of the code, which fits the type, or is refused, by one refusal.
+pub fn numbers_fit_or_are_refused()
+    ensures always { NumberOrRefused }
+    ensures never_both { NumbersPass }
+    ensures once { HaveOneNumberRefusal }
+    ensures fits { NumbersFit }
 {}
 
 /// The octets of a number and of a length are the fewest (X.690 10.1).

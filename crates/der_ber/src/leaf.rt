@@ -9,7 +9,7 @@ ghost use Rattle.der_ber.specs.Inner.BerLeaves.{ReadsLeaf};
 
 use der_base::error::BerError;
 use der_base::header::Tag;
-use der_base::integer::read_unsigned;
+use der_base::integer::read_u64;
 use der_base::oid::Oid;
 use der_base::text::{is_utf16, read_text};
 use der_base::time::{ASN1DateTime, read_time};
@@ -109,7 +109,7 @@ fn read_enumerated(constructed: bool, content: &[u8]) -> Result<BerObjectContent
     if constructed {
         return Err(BerError::ConstructUnexpected);
     }
-    Ok(BerObjectContent::Enum(read_unsigned(content)?))
+    Ok(BerObjectContent::Enum(read_u64(content)?))
 }
 
 /// A UTCTime or a GeneralizedTime (8.25). One that is constructed isn't joined.

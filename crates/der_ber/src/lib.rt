@@ -5,6 +5,7 @@ pub mod content;
 pub mod laws;
 pub mod leaf;
 pub mod multi;
+pub mod number;
 pub mod parser;
 mod reader;
 pub mod typed;
@@ -17,6 +18,7 @@ pub use multi::{
     BerContainer, BerSequenceDefinedG, BerSetDefinedG, parse_ber_container,
     parse_ber_sequence_defined_g, parse_ber_set_defined_g, parse_ber_slice,
 };
+pub use number::{parse_ber_i32, parse_ber_i64, parse_ber_u32, parse_ber_u64};
 pub use parser::{
     parse_ber, parse_ber_any, parse_ber_any_r, parse_ber_any_with_tag_r, parse_ber_counted,
     parse_ber_recursive,

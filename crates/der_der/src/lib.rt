@@ -4,6 +4,7 @@
 pub mod content;
 pub mod laws;
 mod leaf;
+pub mod number;
 pub mod parser;
 mod reader;
 pub mod typed;
@@ -12,6 +13,7 @@ pub use content::{
     DerContent, DerContent2, der_read_element_content, der_read_element_content_as,
     parse_der_content, parse_der_content2,
 };
+pub use number::{parse_der_i32, parse_der_i64, parse_der_u32, parse_der_u64};
 pub use parser::{parse_der, parse_der_counted, parse_der_recursive};
 pub use typed::{
     parse_der_bitstring, parse_der_bmpstring, parse_der_bool, parse_der_endofcontent,

@@ -7,6 +7,7 @@ mod equality;
 pub mod error;
 pub mod growth;
 mod length;
+pub mod number;
 pub mod object;
 mod octets;
 mod serialize;

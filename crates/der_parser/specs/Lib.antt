@@ -17,6 +17,7 @@ pub use Rattle.der_base.specs.Leaf
 pub use Rattle.der_base.specs.LeafRefusal
 pub use Rattle.der_base.specs.LengthOctets
 pub use Rattle.der_base.specs.Listing
+pub use Rattle.der_base.specs.Numbers
 pub use Rattle.der_base.specs.Octets
 pub use Rattle.der_base.specs.OidArcs
 pub use Rattle.der_base.specs.Oids

@@ -29,12 +29,13 @@ pub mod ber {
         parse_ber_any_r, parse_ber_any_with_tag_r, parse_ber_bitstring, parse_ber_bmpstring,
         parse_ber_bool, parse_ber_container, parse_ber_content, parse_ber_content2,
         parse_ber_counted, parse_ber_endofcontent, parse_ber_enum, parse_ber_generalizedtime,
-        parse_ber_generalstring, parse_ber_graphicstring, parse_ber_ia5string, parse_ber_integer,
-        parse_ber_null, parse_ber_numericstring, parse_ber_objectdescriptor, parse_ber_octetstring,
-        parse_ber_oid, parse_ber_printablestring, parse_ber_recursive, parse_ber_relative_oid,
-        parse_ber_sequence, parse_ber_sequence_defined_g, parse_ber_set, parse_ber_set_defined_g,
-        parse_ber_slice, parse_ber_t61string, parse_ber_universalstring, parse_ber_utctime,
-        parse_ber_utf8string, parse_ber_videotexstring, parse_ber_visiblestring,
+        parse_ber_generalstring, parse_ber_graphicstring, parse_ber_i32, parse_ber_i64,
+        parse_ber_ia5string, parse_ber_integer, parse_ber_null, parse_ber_numericstring,
+        parse_ber_objectdescriptor, parse_ber_octetstring, parse_ber_oid,
+        parse_ber_printablestring, parse_ber_recursive, parse_ber_relative_oid, parse_ber_sequence,
+        parse_ber_sequence_defined_g, parse_ber_set, parse_ber_set_defined_g, parse_ber_slice,
+        parse_ber_t61string, parse_ber_u32, parse_ber_u64, parse_ber_universalstring,
+        parse_ber_utctime, parse_ber_utf8string, parse_ber_videotexstring, parse_ber_visiblestring,
         parse_ber_with_tag,
     };
     pub use der_object::{BerObject, BerObjectContent, BitStringObject};
@@ -57,13 +58,13 @@ pub mod der {
         DerContent, DerContent2, der_read_element_content, der_read_element_content_as, parse_der,
         parse_der_bitstring, parse_der_bmpstring, parse_der_bool, parse_der_content,
         parse_der_content2, parse_der_counted, parse_der_endofcontent, parse_der_enum,
-        parse_der_generalizedtime, parse_der_generalstring, parse_der_graphicstring,
-        parse_der_ia5string, parse_der_integer, parse_der_null, parse_der_numericstring,
-        parse_der_objectdescriptor, parse_der_octetstring, parse_der_oid,
+        parse_der_generalizedtime, parse_der_generalstring, parse_der_graphicstring, parse_der_i32,
+        parse_der_i64, parse_der_ia5string, parse_der_integer, parse_der_null,
+        parse_der_numericstring, parse_der_objectdescriptor, parse_der_octetstring, parse_der_oid,
         parse_der_printablestring, parse_der_recursive, parse_der_relative_oid, parse_der_sequence,
-        parse_der_set, parse_der_t61string, parse_der_universalstring, parse_der_utctime,
-        parse_der_utf8string, parse_der_videotexstring, parse_der_visiblestring,
-        parse_der_with_tag, visiblestring,
+        parse_der_set, parse_der_t61string, parse_der_u32, parse_der_u64,
+        parse_der_universalstring, parse_der_utctime, parse_der_utf8string,
+        parse_der_videotexstring, parse_der_visiblestring, parse_der_with_tag, visiblestring,
     };
     pub use der_object::{DerObject, DerObjectContent};
 }
@@ -81,9 +82,9 @@ pub mod laws {
         always_one, appended_lengthen_headers, appended_only_lengthen, clones_are_the_value,
         clones_want_no_memory, der_is_within_ber, encoding_is_normal_form, equals_are_alike,
         equals_are_the_same, faults_are_one, fronts_are_cut, header_fronts_are_cut,
-        integers_are_shortest, lengths_are_shortest, never_both, one_content, one_refusal,
-        refused_headers_stay_refused, spellings_are_one, tag_numbers_are_shortest,
-        unused_bits_are_last,
+        integers_are_shortest, lengths_are_shortest, never_both, numbers_fit_or_are_refused,
+        one_content, one_refusal, refused_headers_stay_refused, spellings_are_one,
+        tag_numbers_are_shortest, unused_bits_are_last,
     };
     pub use der_ber::laws::written_is_read_back;
     pub use der_der::laws::written_is_what_was_read;

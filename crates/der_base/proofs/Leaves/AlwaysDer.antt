@@ -27,7 +27,7 @@ decided_two a P [] d = inr (λ q. let e = q.2 in cc)
 decided_two a P (c ∷ []) d = inr (λ q. let e = q.2 in cc)
 decided_two a P (c ∷ b ∷ w) d = decided_like ((c ≡ a) × P b) _ (λ h. (b, w, ap (λ x. x ∷ b ∷ w) h.0, h.1)) (λ (x, v, e, h). let k : x ≡ b = cc in ((cc), subst P k h)) (decided_and _ _ (decided_equal c a) (d b))
 
-integer_decided : (w : List ℕ) → AllDecided (integer_tests w)
+pub integer_decided : (w : List ℕ) → AllDecided (integer_tests w)
 integer_decided w = (decided_empty w, (decided_two 0 (λ a. a < 128) w (λ b. decided_below b 128), (decided_two 255 (λ a. 128 ≤ a) w (λ b. decided_at_most 128 b), tt)))
 
 decided_unused : (u : ℕ) (w : List ℕ) → Decided (HasZeroUnusedBits u w)

@@ -1,6 +1,7 @@
 -- Lists of tests: the refusal of the first test that holds.
 use Rattle.std.proofs.Common.{◌≡◌, ◌⊎◌, Bool, true, false, List, [], ◌∷◌, ◌++◌, refl, sym, ◌∙◌, inl, inr}
 use Rattle.der_base.specs.LeafRefusal.{Test, IsFirstRefusal, choose}
+pub use Rattle.der_base.specs.LeafRefusal.{NoneHolds}
 use Rattle.der_base.specs.Refusal.{Refusal}
 use Rattle.der_base.proofs.Leaves.Decided.{Decided}
 
@@ -11,11 +12,6 @@ first_refusal_once (t ∷ ts) e e' (inl h) (inl g) = h.1 ∙ sym g.1
 first_refusal_once (t ∷ ts) e e' (inl h) (inr g) = absurd (g.0 h.0)
 first_refusal_once (t ∷ ts) e e' (inr h) (inl g) = absurd (h.0 g.0)
 first_refusal_once (t ∷ ts) e e' (inr h) (inr g) = first_refusal_once ts e e' h.1 g.1
-
--- none of the tests holds
-abbrev pub NoneHolds : List Test → Type 0
-NoneHolds [] = Unit {0}
-NoneHolds (t ∷ ts) = ¬ t.holds × NoneHolds ts
 
 pub none_refuses : (ts : List Test) (e : Refusal) → NoneHolds ts → ¬ IsFirstRefusal ts e
 none_refuses [] e n h = h
@@ -47,3 +43,26 @@ decided_append (t ∷ ts) us d e = (d.0, decided_append ts us d.1 e)
 pub none_of_front : (ts us : List Test) → NoneHolds (ts ++ us) → NoneHolds ts
 none_of_front [] us n = tt
 none_of_front (t ∷ ts) us n = (n.0, none_of_front ts us n.1)
+
+pub none_of_back : (ts us : List Test) → NoneHolds (ts ++ us) → NoneHolds us
+none_of_back [] us n = n
+none_of_back (t ∷ ts) us n = none_of_back ts us n.1
+
+pub none_of_both : (ts us : List Test) → NoneHolds ts → NoneHolds us → NoneHolds (ts ++ us)
+none_of_both [] us n m = m
+none_of_both (t ∷ ts) us n m = (n.0, none_of_both ts us n.1 m)
+
+-- a refusal in front of further tests, and one behind tests that pass
+pub refused_in_front : (ts us : List Test) (e : Refusal) → IsFirstRefusal ts e → IsFirstRefusal (ts ++ us) e
+refused_in_front [] us e h = absurd h
+refused_in_front (t ∷ ts) us e (inl h) = inl h
+refused_in_front (t ∷ ts) us e (inr h) = inr (h.0, refused_in_front ts us e h.1)
+
+pub refused_behind : (ts us : List Test) (e : Refusal) → NoneHolds ts → IsFirstRefusal us e → IsFirstRefusal (ts ++ us) e
+refused_behind [] us e n h = h
+refused_behind (t ∷ ts) us e n h = inr (n.0, refused_behind ts us e n.1 h)
+
+pub refused_of_back : (ts us : List Test) (e : Refusal) → NoneHolds ts → IsFirstRefusal (ts ++ us) e → IsFirstRefusal us e
+refused_of_back [] us e n h = h
+refused_of_back (t ∷ ts) us e n (inl h) = absurd (n.0 h.0)
+refused_of_back (t ∷ ts) us e n (inr h) = refused_of_back ts us e n.1 h.1

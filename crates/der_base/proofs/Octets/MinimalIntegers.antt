@@ -11,7 +11,7 @@ use Rattle.der_base.proofs.AllByRecursion.{Each}
 use Rattle.der_base.proofs.Octets.Shortest.{IsOctet, shortest_of_value, shortest_integer_fewest, shortest_integer_one}
 
 -- each bit turned
-abbrev turned : List ℕ → List ℕ
+abbrev pub turned : List ℕ → List ℕ
 turned [] = []
 turned (b ∷ w) = (255 - b) ∷ turned w
 
