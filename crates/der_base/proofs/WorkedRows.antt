@@ -5,5 +5,6 @@ mod Nested
 mod NoDerFault
 mod NoFault
 mod OneFault
+mod PartRows
 mod Shown
 mod ShownMore

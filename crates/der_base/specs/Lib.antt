@@ -21,6 +21,7 @@ pub mod Listing
 pub mod Octets
 pub mod OidArcs
 pub mod Oids
+pub mod Parts
 pub mod Refusal
 pub mod Spelling
 pub mod Stable
