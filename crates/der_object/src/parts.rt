@@ -25,7 +25,8 @@ impl<'a> BerObjectContent<'a> {
 
     /// An OBJECT IDENTIFIER or a RELATIVE-OID (8.19, 8.20).
     pub fn as_oid(&self) -> Result<&Oid<'a>, BerError>
-        ensures { AnswersPart (λ x. (is_relative_of x.now, octets_of x.now)) (identifier_part (content_tree self.now)) result }
+        ensures { AnswersPart (λ x. (is_relative_of x.now, octets_of x.now))
+            (identifier_part (content_tree self.now)) result }
     {
         match self {
             BerObjectContent::OID(oid) | BerObjectContent::RelativeOID(oid) => Ok(oid),
