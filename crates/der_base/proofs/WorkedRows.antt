@@ -6,5 +6,6 @@ mod NoDerFault
 mod NoFault
 mod Numbers
 mod OneFault
+mod PartRows
 mod Shown
 mod ShownMore

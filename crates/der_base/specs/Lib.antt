@@ -22,6 +22,7 @@ pub mod Numbers
 pub mod Octets
 pub mod OidArcs
 pub mod Oids
+pub mod Parts
 pub mod Refusal
 pub mod Spelling
 pub mod Stable

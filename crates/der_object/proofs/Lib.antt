@@ -2,7 +2,10 @@ pub mod Counting
 pub mod Digits
 pub mod HeaderFacts
 pub mod Integers
+pub mod ItemLists
 pub mod Joins
+pub mod ListCopies
 pub mod Room
 pub mod Trees
 pub mod TypedLaws
+mod WorkedRows

@@ -1,6 +1,8 @@
 pub mod Bits
+pub mod Clones
 pub mod Counting
 pub mod HeaderFacts
+pub mod Items
 pub mod Objects
 pub mod Readings
 pub mod Room

@@ -1,5 +1,5 @@
 -- The tree of an object.
-use Rattle.std.specs.Prelude.{List, map}
+use Rattle.std.specs.Prelude.{◌≡◌, List, map}
 use Rattle.der_base.specs.declared.header.Header.{Header}
 use Rattle.der_base.specs.Header.{class_of, is_constructed, number_of}
 use Rattle.der_base.specs.Oids.{octets_of, is_relative_of}
@@ -62,3 +62,10 @@ tree o = node_of o.header (content_tree o.content)
 -- one after another
 abbrev pub trees : List BerObject → Nodes
 trees os = nodes_of (map tree os)
+
+-- what equality of objects, and of contents, compares
+abbrev pub HaveOneTree : BerObject → BerObject → Type 0
+HaveOneTree a b = tree a ≡ tree b
+
+abbrev pub HaveOneContentTree : BerObjectContent → BerObjectContent → Type 0
+HaveOneContentTree x y = content_tree x ≡ content_tree y

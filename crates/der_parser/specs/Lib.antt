@@ -21,6 +21,7 @@ pub use Rattle.der_base.specs.Numbers
 pub use Rattle.der_base.specs.Octets
 pub use Rattle.der_base.specs.OidArcs
 pub use Rattle.der_base.specs.Oids
+pub use Rattle.der_base.specs.Parts
 pub use Rattle.der_base.specs.Refusal
 pub use Rattle.der_base.specs.Spelling
 pub use Rattle.der_base.specs.Stable
@@ -30,8 +31,10 @@ pub use Rattle.der_base.specs.Tree
 pub use Rattle.der_base.specs.TreeEquality
 pub use Rattle.der_base.specs.Laws
 pub use Rattle.der_object.specs.Bits
+pub use Rattle.der_object.specs.Clones
 pub use Rattle.der_object.specs.Counting
 pub use Rattle.der_object.specs.HeaderFacts
+pub use Rattle.der_object.specs.Items
 pub use Rattle.der_object.specs.Objects
 pub use Rattle.der_object.specs.Readings
 pub use Rattle.der_object.specs.Room

@@ -38,7 +38,9 @@ pub mod ber {
         parse_ber_utctime, parse_ber_utf8string, parse_ber_videotexstring, parse_ber_visiblestring,
         parse_ber_with_tag,
     };
-    pub use der_object::{BerObject, BerObjectContent, BitStringObject};
+    pub use der_object::{
+        BerObject, BerObjectContent, BerObjectIntoIterator, BerObjectRefIterator, BitStringObject,
+    };
 
     /// Names that earlier versions of the crate had.
     pub mod compat {
@@ -88,4 +90,5 @@ pub mod laws {
     };
     pub use der_ber::laws::written_is_read_back;
     pub use der_der::laws::written_is_what_was_read;
+    pub use der_object::laws::equals_have_one_tree;
 }

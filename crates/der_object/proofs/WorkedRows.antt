@@ -1,0 +1,2 @@
+-- The definitions on worked inputs, proved or refuted.
+mod CopyRows

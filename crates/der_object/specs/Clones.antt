@@ -1,0 +1,47 @@
+-- Copies of objects.
+use Rattle.std.specs.Prelude.{◌≡◌, ◌≢◌, ◌⊎◌, List, [], ◌∷◌, ◌++◌}
+use Rattle.der_base.specs.declared.header.Header.{Header}
+use Rattle.der_object.specs.declared.object.BerObject.{BerObject}
+use Rattle.der_object.specs.declared.object.BerObjectContent.{BerObjectContent, Row_of-BerObject, end_of-BerObject}
+use Rattle.der_object.specs.declared.object.BerObjectContent.{more_of-BerObject}
+use Rattle.der_object.specs.declared.object.BerObjectContent.TheVariants.{Sequence', Set', Unknown}
+use Rattle.der_object.specs.Items.{items_of, OwnsIdentifier}
+use Rattle.der_object.specs.View.{tree, content_tree, trees}
+
+abbrev mutual
+  -- the headers of the items at any depth, in the order in which they stand, and those that unknown contents keep
+  pub inner_headers : BerObjectContent → List Header
+  inner_headers (Sequence' shape row) = row_headers row
+  inner_headers (Set' shape row) = row_headers row
+  inner_headers (Unknown a) = a.header ∷ []
+  inner_headers _ = []
+
+  pub row_headers : {m : _} → Row_of-BerObject m → List Header
+  row_headers end_of-BerObject = []
+  row_headers (more_of-BerObject h x rest) = (h ∷ inner_headers x) ++ row_headers rest
+
+-- and the object's own
+abbrev pub headers_of : BerObject → List Header
+headers_of o = o.header ∷ inner_headers o.content
+
+abbrev pub all_headers : List BerObject → List Header
+all_headers [] = []
+all_headers (o ∷ os) = headers_of o ++ all_headers os
+
+-- an equal object, with the same headers: their lengths and raw tags too
+pub record IsCopyOf (o copy : BerObject) : Type 0 where
+  pub tree : tree copy ≡ tree o
+  pub headers : headers_of copy ≡ headers_of o
+
+pub record IsContentCopyOf (x copy : BerObjectContent) : Type 0 where
+  pub content : content_tree copy ≡ content_tree x
+  pub headers : inner_headers copy ≡ inner_headers x
+
+-- one after another
+pub record AreCopiesOf (os copies : List BerObject) : Type 0 where
+  pub list : trees copies ≡ trees os
+  pub headers : all_headers copies ≡ all_headers os
+
+-- a copy of the content takes memory: a list has items, or an identifier owns its octets
+abbrev pub CopyTakesMemory : BerObjectContent → Type 0
+CopyTakesMemory x = (items_of x ≢ []) ⊎ OwnsIdentifier x

@@ -1,0 +1,67 @@
+-- The items of an object.
+use Rattle.std.specs.Prelude.{◌≡◌, ℕ, ◌<◌, Option, Some, List, [], ◌∷◌, length, slice_get, Result, IfOk}
+use Rattle.std.specs.Borrow.{Bor}
+use Rattle.std.specs.Slice.Iter.{iter_rest}
+use Rattle.std.specs.Vec.Iter.{into_iter_items}
+use Rattle.std.specs.declared.vec.Vec.{Vec}
+use Rattle.std.specs.declared.alloc.Global.{Global}
+use Rattle.der_base.specs.declared.error.Error.{Error as BerError}
+use Rattle.der_base.specs.Oids.{IsBorrowed}
+use Rattle.der_base.specs.Parts.{AnswersPart}
+use Rattle.der_base.specs.Tree.{Content, Nodes}
+use Rattle.der_object.specs.declared.object.BerObject.{BerObject}
+use Rattle.der_object.specs.declared.object.BerObjectContent.{BerObjectContent, items-the_row-BerObject}
+use Rattle.der_object.specs.declared.object.BerObjectContent.TheVariants.{OID, RelativeOID, Sequence', Set'}
+use Rattle.der_object.specs.declared.iterators.BerObjectRefIterator.{BerObjectRefIterator}
+use Rattle.der_object.specs.declared.iterators.BerObjectIntoIterator.{BerObjectIntoIterator}
+use Rattle.der_object.specs.declared.iterators.Left.{Left}
+use Rattle.der_object.specs.declared.iterators.Left.TheVariants.{Items, Itself, Nothing}
+use Rattle.der_object.specs.View.{content_tree, trees}
+
+-- the items of a SEQUENCE or SET, in their order; another content has none
+abbrev pub items_of : BerObjectContent → List BerObject
+items_of (Sequence' shape row) = items-the_row-BerObject _ row
+items_of (Set' shape row) = items-the_row-BerObject _ row
+items_of _ = []
+
+-- The answer of `as_sequence` and `as_set`: the items, with the lengths and raw tags of their headers, or the refusal
+-- where the content is no such list.
+pub record AnswersItems (list_of : Content → Option Nodes) (x : BerObjectContent)
+    (result : Result (Bor (Vec BerObject Global)) BerError) : Type 0 where
+  pub part : AnswersPart (λ v. trees v.now.items) (list_of (content_tree x)) result
+  pub items : IfOk result (λ v. v.now.items ≡ items_of x)
+
+-- an identifier that owns its octets, which a copy takes memory for
+abbrev pub OwnsIdentifier : BerObjectContent → Type 0
+OwnsIdentifier (OID x) = ¬ IsBorrowed x
+OwnsIdentifier (RelativeOID x) = ¬ IsBorrowed x
+OwnsIdentifier _ = ⊥
+
+-- what `into_iter` gives, one after another: the items, or the object itself, once
+abbrev pub moved_items : BerObject → List BerObject
+moved_items o = by_content o o.content
+  where
+    by_content : BerObject → BerObjectContent → List BerObject
+    by_content o (Sequence' shape row) = items-the_row-BerObject _ row
+    by_content o (Set' shape row) = items-the_row-BerObject _ row
+    by_content o _ = o ∷ []
+
+-- what the iterators have not yet given
+abbrev pub items_left : BerObjectRefIterator → List BerObject
+items_left it = iter_rest it.items
+
+abbrev pub items_to_move : BerObjectIntoIterator → List BerObject
+items_to_move it = of_left it.left
+  where
+    of_left : Left → List BerObject
+    of_left (Items v) = into_iter_items v
+    of_left (Itself o) = o ∷ []
+    of_left Nothing = []
+
+-- there is an item at the place i
+abbrev pub HasItem : BerObject → ℕ → Type 0
+HasItem o i = i < length (items_of o.content)
+
+-- it is this one
+abbrev pub IsItem : BerObject → ℕ → BerObject → Type 0
+IsItem o i item = slice_get (items_of o.content) i ≡ Some item

@@ -1,0 +1,69 @@
+//! Copies of objects. Texts and octets of a copy stay slices of the input.
+ghost use Rattle.std.specs.Prelude.{◌≢◌, [], MatchResult};
+ghost use Rattle.der_object.specs.Clones.{IsCopyOf, IsContentCopyOf, AreCopiesOf, CopyTakesMemory};
+
+use crate::object::{BerObject, BerObjectContent};
+use std::alloc::{AllocError, Global};
+
+impl<'a> BerObject<'a> {
+    /// A copy: an equal object, whose headers have the same lengths and raw tags. Memory is taken
+    /// for the items of lists, and for identifiers that own their octets.
+    #[cycle(copy)]
+    pub fn try_clone(&self, alloc: Global) -> Result<BerObject<'a>, AllocError>
+        ensures { MatchResult result (IsCopyOf self.now) (λ _. CopyTakesMemory self.now.content) }
+    {
+        Ok(BerObject {
+            header: self.header,
+            content: self.content.try_clone(alloc)?,
+        })
+    }
+}
+
+impl<'a> BerObjectContent<'a> {
+    /// A copy: an equal content, whose headers have the same lengths and raw tags.
+    #[cycle(copy)]
+    pub fn try_clone(&self, alloc: Global) -> Result<BerObjectContent<'a>, AllocError>
+        ensures { MatchResult result (IsContentCopyOf self.now) (λ _. CopyTakesMemory self.now) }
+    {
+        match self {
+            Self::EndOfContent => Ok(Self::EndOfContent),
+            Self::Boolean(b) => Ok(Self::Boolean(*b)),
+            Self::Integer(octets) => Ok(Self::Integer(*octets)),
+            Self::BitString(unused, bits) => Ok(Self::BitString(*unused, *bits)),
+            Self::OctetString(octets) => Ok(Self::OctetString(*octets)),
+            Self::Null => Ok(Self::Null),
+            Self::Enum(number) => Ok(Self::Enum(*number)),
+            Self::OID(oid) => Ok(Self::OID(oid.try_clone(alloc)?)),
+            Self::RelativeOID(oid) => Ok(Self::RelativeOID(oid.try_clone(alloc)?)),
+            Self::NumericString(text) => Ok(Self::NumericString(*text)),
+            Self::VisibleString(text) => Ok(Self::VisibleString(*text)),
+            Self::PrintableString(text) => Ok(Self::PrintableString(*text)),
+            Self::IA5String(text) => Ok(Self::IA5String(*text)),
+            Self::UTF8String(text) => Ok(Self::UTF8String(*text)),
+            Self::T61String(text) => Ok(Self::T61String(*text)),
+            Self::VideotexString(text) => Ok(Self::VideotexString(*text)),
+            Self::ObjectDescriptor(text) => Ok(Self::ObjectDescriptor(*text)),
+            Self::GraphicString(text) => Ok(Self::GraphicString(*text)),
+            Self::GeneralString(text) => Ok(Self::GeneralString(*text)),
+            Self::BmpString(octets) => Ok(Self::BmpString(*octets)),
+            Self::UniversalString(octets) => Ok(Self::UniversalString(*octets)),
+            Self::Sequence(items) => Ok(Self::Sequence(copy_items(alloc, items)?)),
+            Self::Set(items) => Ok(Self::Set(copy_items(alloc, items)?)),
+            Self::UTCTime(time) => Ok(Self::UTCTime(*time)),
+            Self::GeneralizedTime(time) => Ok(Self::GeneralizedTime(*time)),
+            Self::Unknown(any) => Ok(Self::Unknown(*any)),
+        }
+    }
+}
+
+/// Copies of the items, in their order.
+#[cycle(copy)]
+fn copy_items<'a>(alloc: Global, items: &[BerObject<'a>]) -> Result<Vec<BerObject<'a>>, AllocError>
+    ensures { MatchResult result (λ v. AreCopiesOf items.now v.items) (λ _. items.now ≢ []) }
+{
+    let mut copies = Vec::with_capacity(alloc, items.len())?;
+    for item in items {
+        copies.push(item.try_clone(alloc)?)?;
+    }
+    Ok(copies)
+}

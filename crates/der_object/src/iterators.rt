@@ -1,0 +1,119 @@
+//! The items of an object: one by one, by reference or by value, and by their index. None of these
+//! calls takes memory.
+ghost use Rattle.std.specs.Prelude.{◌≡◌};
+ghost use Rattle.std.specs.Iterator.{YieldsFirst, YieldsFirstRef, item_count};
+ghost use Rattle.der_object.specs.Items.{items_of, moved_items, items_left, items_to_move};
+
+use crate::object::{BerObject, BerObjectContent};
+use std::ops::Index;
+use std::{mem, slice, vec};
+
+/// The items of an object by reference, in their order.
+#[derive(Debug, Drop)]
+pub struct BerObjectRefIterator<'a> {
+    items: slice::Iter<'a, BerObject<'a>>,
+}
+
+impl<'a> BerObject<'a> {
+    /// The items of a SEQUENCE or SET in their order, by reference. An object of another type has
+    /// none.
+    pub fn ref_iter(&'a self) -> BerObjectRefIterator<'a>
+        ensures { items_left result ≡ items_of self.now.content }
+    {
+        BerObjectRefIterator {
+            items: self.content.items().iter(),
+        }
+    }
+}
+
+impl<'a> BerObjectContent<'a> {
+    /// The items of a SEQUENCE or SET, and none of another content.
+    #[tactic(auto, using(crate::proofs::ItemLists::of_sequence, crate::proofs::ItemLists::of_set))]
+    fn items(&self) -> &[BerObject<'a>]
+        ensures { result.now ≡ items_of self.now }
+    {
+        match self {
+            BerObjectContent::Sequence(items) | BerObjectContent::Set(items) => items.as_slice(),
+            _ => &[],
+        }
+    }
+}
+
+impl<'a> Iterator for BerObjectRefIterator<'a> {
+    type Item = &'a BerObject<'a>;
+
+    ghost next_gives = { YieldsFirstRef items_left };
+
+    ghost remaining = { item_count items_left };
+
+    fn next(&mut self) -> Option<&'a BerObject<'a>> {
+        self.items.next()
+    }
+}
+
+/// The objects that an object is moved into.
+#[derive(Debug, Drop)]
+pub struct BerObjectIntoIterator<'a> {
+    left: Left<'a>,
+}
+
+#[derive(Debug, Drop)]
+enum Left<'a> {
+    Items(vec::IntoIter<BerObject<'a>>),
+    Itself(BerObject<'a>),
+    Nothing,
+}
+
+/// The items of a SEQUENCE or SET in their order, by value. An object of another type gives itself,
+/// once.
+impl<'a> IntoIterator for BerObject<'a> {
+    type Item = BerObject<'a>;
+
+    type IntoIter = BerObjectIntoIterator<'a>;
+
+    ghost into_iter_gives = { λ o it. items_to_move it ≡ moved_items o };
+
+    fn into_iter(self) -> BerObjectIntoIterator<'a> {
+        let BerObject { header, content } = self;
+        let left = match content {
+            BerObjectContent::Sequence(items) | BerObjectContent::Set(items) => {
+                Left::Items(items.into_iter())
+            }
+            content => Left::Itself(BerObject { header, content }),
+        };
+        BerObjectIntoIterator { left }
+    }
+}
+
+impl<'a> Iterator for BerObjectIntoIterator<'a> {
+    type Item = BerObject<'a>;
+
+    ghost next_gives = { YieldsFirst items_to_move };
+
+    ghost remaining = { item_count items_to_move };
+
+    fn next(&mut self) -> Option<BerObject<'a>> {
+        if let Left::Items(items) = &mut self.left {
+            return items.next();
+        }
+        match mem::replace(&mut self.left, Left::Nothing) {
+            Left::Itself(object) => Some(object),
+            _ => None,
+        }
+    }
+}
+
+/// An item of a SEQUENCE or SET, by its place. The caller sees to it that there is one.
+impl<'a> Index<usize> for BerObject<'a> {
+    ghost use Rattle.der_object.specs.Items.{HasItem, IsItem};
+
+    type Output = BerObject<'a>;
+
+    ghost can_index = { HasItem };
+
+    ghost index_gives = { IsItem };
+
+    fn index(&self, index: usize) -> &BerObject<'a> {
+        &self.content.items()[index]
+    }
+}
