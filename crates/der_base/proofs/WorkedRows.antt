@@ -1,9 +1,12 @@
 -- The definitions on worked inputs, computed, proved or refuted.
 mod Computed
 mod Identifiers
+mod Lists
 mod Nested
 mod NoDerFault
 mod NoFault
 mod OneFault
 mod Shown
 mod ShownMore
+mod Tags
+mod Wrapped
