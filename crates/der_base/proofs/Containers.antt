@@ -1,3 +1,4 @@
 -- Combinators that keep a parser.
 pub mod ContainerLaws
 pub mod DerContainers
+pub mod ListStepsLaws

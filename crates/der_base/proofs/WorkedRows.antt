@@ -1,6 +1,7 @@
 -- The definitions on worked inputs, computed, proved or refuted.
 mod Computed
 mod Identifiers
+mod Lists
 mod Nested
 mod NoDerFault
 mod NoFault
@@ -9,3 +10,5 @@ mod OneFault
 mod PartRows
 mod Shown
 mod ShownMore
+mod Tags
+mod Wrapped

@@ -1,7 +1,8 @@
 -- Combinators that keep a caller's parser: what they answer, in terms of its answers. By BER and by DER the relations
 -- are the same: `opens` says which element the input begins with, `refuses` what is answered where it begins with none,
 -- `step` what the parser promises of a call.
-use Rattle.std.specs.Prelude.{◌≡◌, ◌≢◌, ℕ, ◌<◌, ◌⊎◌, Bool, Some, List, ◌++◌, length, Result, Ok, Err}
+use Rattle.std.specs.Prelude.{◌≡◌, ◌≢◌, ℕ, ◌<◌, ◌⊎◌, Bool, true, false, Some, None, List, ◌++◌, length}
+use Rattle.std.specs.Prelude.{Result, Ok, Err}
 use Rattle.std.specs.Borrow.{Bor}
 use Rattle.der_base.specs.declared.error.Err.{Err as Refused}
 use Rattle.der_base.specs.declared.error.Err.TheVariants.{Incomplete, Error}
@@ -10,13 +11,14 @@ use Rattle.der_base.specs.declared.error.ErrorKind.{ErrorKind}
 use Rattle.der_base.specs.declared.error.ErrorKind.TheVariants.{Eof}
 use Rattle.der_base.specs.declared.error.Needed.TheVariants.{Size}
 use Rattle.der_base.specs.declared.header.Class.{Class}
+use Rattle.der_base.specs.declared.header.Class.TheVariants.{Universal}
 use Rattle.der_base.specs.declared.header.Header.{Header}
 use Rattle.der_base.specs.declared.header.Length.TheVariants.{Definite}
 use Rattle.der_base.specs.Any.{AnyRefuses, AnyLacks}
 use Rattle.der_base.specs.Fault.{DerHeaderRefuses}
-use Rattle.der_base.specs.Header.{class_of, is_constructed, number_of, length_of}
+use Rattle.der_base.specs.Header.{class_of, is_constructed, number_of, length_of, raw_tag_of, IsHeader}
 use Rattle.der_base.specs.Headers.{BeginsWithHeader, ReadsHeader, BeginsWithDerHeader, ReadsDerHeader, DerHeaderLacks}
-use Rattle.der_base.specs.Refusal.{Refusal, refusal, unexpected_tag}
+use Rattle.der_base.specs.Refusal.{Refusal, refusal, unexpected_tag, unexpected_class, construct_expected}
 use Rattle.der_base.specs.Spelling.{BeginsWithElement, framing_budget}
 
 -- what a parser answers
@@ -122,3 +124,72 @@ abbrev pub RefusesDerNumber : {E : Type 0} → (Bor (List ℕ) → ErrorKind →
     → List ℕ → Refused E → Type 0
 RefusesDerNumber from_error_kind_gives from_gives n i r =
     RefusesNumber (OpensDer i) (RefusesDer from_error_kind_gives from_gives i) from_gives n r
+
+-- Explicit tags (X.690 8.14.2): of the elements that are opened, those of the tag number n that are constructed and not of
+-- class Universal.
+module _ (opens : Header → List ℕ → List ℕ → Type 0) where
+  abbrev pub OpensExplicit : ℕ → Header → List ℕ → List ℕ → Type 0
+  OpensExplicit n h w after = opens h w after × (class_of h ≢ Universal) × (number_of h ≡ n)
+      × (is_constructed h ≡ true)
+
+  module _ {E : Type 0} (refuses : Refused E → Type 0) (from_gives : BerError → E → Type 0) where
+    -- behind the refusals of the container, the first of the three tests that fails
+    pub data RefusesExplicit (n : ℕ) : Refused E → Type 0 where
+      unopened : {r : Refused E} → refuses r → RefusesExplicit n r
+      universal : {h : Header} {w after : List ℕ} {e : BerError} {x : E} → opens h w after → class_of h ≡ Universal
+          → refusal e ≡ unexpected_class None Universal → from_gives e x → RefusesExplicit n (Error x)
+      other_number : {h : Header} {w after : List ℕ} {e : BerError} {x : E} → opens h w after → class_of h ≢ Universal
+          → number_of h ≢ n → refusal e ≡ unexpected_tag (Some n) (number_of h) → from_gives e x
+          → RefusesExplicit n (Error x)
+      primitive : {h : Header} {w after : List ℕ} {e : BerError} {x : E} → opens h w after → class_of h ≢ Universal
+          → number_of h ≡ n → is_constructed h ≡ false → refusal e ≡ construct_expected → from_gives e x
+          → RefusesExplicit n (Error x)
+
+-- A container, one of a tag number, and one of an explicit tag, by BER and by DER. What the container calls is `step`: the
+-- kept parser's own promise, or one of the forms below.
+module _ {F O E : Type 0} (from_error_kind_gives : Bor (List ℕ) → ErrorKind → E → Type 0)
+    (from_gives : BerError → E → Type 0) (i : List ℕ) (step : F → Bor (List ℕ) → Header → Answered O E → F → Type 0) where
+  abbrev pub DerRun : F → Answered O E → F → Type 0
+  DerRun = ContainerRun (OpensDer i) (RefusesDer from_error_kind_gives from_gives i) step
+
+module _ {F O E : Type 0} (n : ℕ) (from_error_kind_gives : Bor (List ℕ) → ErrorKind → E → Type 0)
+    (from_gives : BerError → E → Type 0) (i : List ℕ) (step : F → Bor (List ℕ) → Header → Answered O E → F → Type 0) where
+  abbrev pub BerNumberRun : F → Answered O E → F → Type 0
+  BerNumberRun = ContainerRun (OpensBerNumber n i) (RefusesBerNumber from_error_kind_gives from_gives n i) step
+
+  abbrev pub DerNumberRun : F → Answered O E → F → Type 0
+  DerNumberRun = ContainerRun (OpensDerNumber n i) (RefusesDerNumber from_error_kind_gives from_gives n i) step
+
+  abbrev pub BerExplicitRun : F → Answered O E → F → Type 0
+  BerExplicitRun = ContainerRun (OpensExplicit (OpensBer i) n)
+      (RefusesExplicit (OpensBer i) (RefusesBer from_error_kind_gives from_gives i) from_gives n) step
+
+  abbrev pub DerExplicitRun : F → Answered O E → F → Type 0
+  DerExplicitRun = ContainerRun (OpensExplicit (OpensDer i) n)
+      (RefusesExplicit (OpensDer i) (RefusesDer from_error_kind_gives from_gives i) from_gives n) step
+
+-- What a container calls in the place of a parser of content and header.
+
+-- a parser of the content alone
+abbrev pub OnContent : {F O E : Type 0} → (F → Bor (List ℕ) → Answered O E → F → Type 0) → F → Bor (List ℕ) → Header
+    → Answered O E → F → Type 0
+OnContent step f content h r g = step f content r g
+
+-- an implicit tag (X.690 8.14.3) hands on its header with the definite length of the content, and the depth 50
+abbrev pub OnImplicit : {F O E : Type 0} → (F → Bor (List ℕ) → Header → ℕ → Answered O E → F → Type 0) → F
+    → Bor (List ℕ) → Header → Answered O E → F → Type 0
+OnImplicit step f content h r g = (h' : Header)
+    × IsHeader h' (class_of h) (is_constructed h) (number_of h) (Definite (length content.now)) (raw_tag_of h)
+    × step f content h' 50 r g
+
+-- a parser whose value is made into another, as `makes` says of the header and the two
+module _ {F V O E : Type 0} (makes : Header → V → O → Type 0)
+    (step : F → Bor (List ℕ) → Header → Answered V E → F → Type 0) where
+  pub data Made (f : F) (content : Bor (List ℕ)) (h : Header) : Answered O E → F → Type 0 where
+    not_made : {g : F} {e : Refused E} → step f content h (Err e) g → Made f content h (Err e) g
+    made : {g : F} {left : Bor (List ℕ)} {v : V} {o : O} → step f content h (Ok (left, v)) g → makes h v o
+        → Made f content h (Ok (left, o)) g
+
+-- a parser that is kept beside a tag, which stays
+abbrev pub KeepsTag : {T F A : Type 0} → (T → F → A → F → Type 0) → T × F → A → T × F → Type 0
+KeepsTag run old r new = (new.0 ≡ old.0) × run old.0 old.1 r new.1

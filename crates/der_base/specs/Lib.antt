@@ -17,6 +17,7 @@ pub mod Laws
 pub mod Leaf
 pub mod LeafRefusal
 pub mod LengthOctets
+pub mod ListSteps
 pub mod Listing
 pub mod Numbers
 pub mod Octets

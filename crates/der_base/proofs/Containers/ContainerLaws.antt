@@ -16,7 +16,7 @@ use Rattle.der_base.specs.Errors.{MapsError}
 use Rattle.der_base.specs.Headers.{ReadsHeader}
 use Rattle.der_base.specs.Header.{IsHeader, class_of, is_constructed, number_of, length_of, raw_tag_of}
 use Rattle.der_base.specs.Refusal.{Refusal, refusal, unexpected_tag}
-use Rattle.der_base.specs.Containers.{Answered, OpensBer, HasShortContent, OpeningLacks, faulty, cut, too_short, RefusesBer, RefusesBerNumber, OpensBerNumber, unopened, other_number, OneCall, stopped, accepted, NoCall, refused, ContainerRun}
+use Rattle.der_base.specs.Containers.{Answered, OpensBer, HasShortContent, OpeningLacks, faulty, cut, too_short, RefusesBer, RefusesBerNumber, OpensBerNumber, OpensExplicit, RefusesExplicit, unopened, universal, other_number, primitive, OneCall, stopped, accepted, NoCall, refused, ContainerRun}
 use Rattle.der_base.specs.Spelling.{BeginsWithElement, framing_budget}
 use Rattle.der_base.proofs.Headers.BerHeaders.{ber_header_same, ber_header_only}
 use Rattle.der_base.proofs.Framing.Cuts.{lacks_same}
@@ -106,6 +106,14 @@ module _ {E : Type 0} {from_error_kind_gives : Bor (List ℕ) → ErrorKind → 
   number_told {i = i} n t c p w rest o b (other_number {e = y} {x = x} (o', h, w', after, q, z) e g) =
       let s = (begins_same i framing_budget framing_budget (class_of h) c (is_constructed h) p (number_of h) t w' w after rest q.element b).2 in
       (y, x, e ∙ ap (unexpected_tag (Some n)) (sym z ∙ s), g, refl)
+
+  -- an explicit tag of the number is not refused
+  pub explicit_opens_not_refused : {n : ℕ} {i : List ℕ} {r : Refused E} (h : Header) (w after : List ℕ) → OpensExplicit (OpensBer i) n h w after → RefusesExplicit (OpensBer i) (RefusesBer from_error_kind_gives from_gives i) from_gives n r → ⊥
+  explicit_opens_not_refused h w after o (unopened u) = ber_opens_not_refused h w after o.0 u
+  explicit_opens_not_refused {i = i} h w after o (universal {h = h'} {w = w'} {after = a'} q c e g) = o.1 ((ber_opens_same i w w' after a' h h' o.0 q).0.class ∙ c)
+  explicit_opens_not_refused {i = i} h w after o (other_number {h = h'} {w = w'} {after = a'} q c z e g) = z (sym (ber_opens_same i w w' after a' h h' o.0 q).0.number ∙ o.2)
+  explicit_opens_not_refused {i = i} h w after o (primitive {h = h'} {w = w'} {after = a'} q c z b e g) =
+      let s = sym o.3 ∙ (ber_opens_same i w w' after a' h h' o.0 q).0.constructed ∙ b in cc
 
 module _ {F O E : Type 0} (opens : Header → List ℕ → List ℕ → Type 0) (refuses : Refused E → Type 0) (step : F → Bor (List ℕ) → Header → Answered O E → F → Type 0) where
   -- of the two ends of a run, the one that is not excluded

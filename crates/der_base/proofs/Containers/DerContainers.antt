@@ -7,7 +7,7 @@ use Rattle.der_base.specs.declared.header.Header.{Header}
 use Rattle.der_base.specs.declared.header.Length.TheVariants.{Definite}
 use Rattle.der_base.specs.Header.{IsHeader, class_of, is_constructed, number_of, length_of, raw_tag_of}
 use Rattle.der_base.specs.Refusal.{refusal}
-use Rattle.der_base.specs.Containers.{OpensDer, HasShortDerContent, RefusesDer, RefusesDerNumber, OpensDerNumber, faulty, cut, too_short, unopened, other_number}
+use Rattle.der_base.specs.Containers.{OpensDer, HasShortDerContent, RefusesDer, RefusesDerNumber, OpensDerNumber, OpensExplicit, RefusesExplicit, faulty, cut, too_short, unopened, universal, other_number, primitive}
 use Rattle.der_base.proofs.Headers.DerHeaders.{der_header_same, der_header_only, der_header_not_refused, der_header_not_lacking}
 use Rattle.der_base.proofs.Octets.Identifiers.{fronts_same}
 
@@ -41,3 +41,11 @@ module _ {E : Type 0} {from_error_kind_gives : Bor (List ℕ) → ErrorKind → 
   pub der_number_opens_not_refused : {n : ℕ} {i : List ℕ} {r : Refused E} (h : Header) (w after : List ℕ) → OpensDerNumber n i h w after → RefusesDerNumber from_error_kind_gives from_gives n i r → ⊥
   der_number_opens_not_refused h w after (o, z) (unopened u) = der_opens_not_refused h w after o u
   der_number_opens_not_refused {i = i} h w after (o, z) (other_number (n, h', w', after', q, z') e g) = n (sym z' ∙ sym (der_opens_same i w w' after after' h h' o q).0.number ∙ z)
+
+  -- nor an explicit tag of the number
+  pub der_explicit_opens_not_refused : {n : ℕ} {i : List ℕ} {r : Refused E} (h : Header) (w after : List ℕ) → OpensExplicit (OpensDer i) n h w after → RefusesExplicit (OpensDer i) (RefusesDer from_error_kind_gives from_gives i) from_gives n r → ⊥
+  der_explicit_opens_not_refused h w after o (unopened u) = der_opens_not_refused h w after o.0 u
+  der_explicit_opens_not_refused {i = i} h w after o (universal {h = h'} {w = w'} {after = a'} q c e g) = o.1 ((der_opens_same i w w' after a' h h' o.0 q).0.class ∙ c)
+  der_explicit_opens_not_refused {i = i} h w after o (other_number {h = h'} {w = w'} {after = a'} q c z e g) = z (sym (der_opens_same i w w' after a' h h' o.0 q).0.number ∙ o.2)
+  der_explicit_opens_not_refused {i = i} h w after o (primitive {h = h'} {w = w'} {after = a'} q c z b e g) =
+      let s = sym o.3 ∙ (der_opens_same i w w' after a' h h' o.0 q).0.constructed ∙ b in cc
