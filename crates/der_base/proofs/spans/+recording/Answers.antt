@@ -152,8 +152,8 @@ record_to_end_marker-returns-in_err-after-clause-found t c =
     let u = c.elements.invariant.found in
     let l : length_of c.in_ok-behind.header ≡ Definite c.in-Definite.size = sym c.length.ensures ∙ c.in-Definite.is in
     let p = err_from_is_err_and c.from_residual-in_err-after.result c.from_residual-in_err-after.ensures.1 in
-    rw (p.1, p.2) (content_answered _ (spans_are_elements u.2) u.3 (rw l at c.in_ok-behind.ensures.exactly.found.begins) _ _ _ _
-    c.in_err-after.field-0.0 (omega arith) (λ m. absurd m) c.in_err-after.ensures)
+    rw (p.1, p.2) (content_answered _ (spans_are_elements u.2) u.3
+    (rw l at c.in_ok-behind.ensures.exactly.found.begins) _ _ _ _ c.in_err-after.field-0.0 (omega arith) (λ m. absurd m) c.in_err-after.ensures)
 
 pub record_to_end_marker-elements-preserved-in-Definite : goal.record_to_end_marker-elements-preserved-in-Definite
 record_to_end_marker-elements-preserved-in-Definite t c =
