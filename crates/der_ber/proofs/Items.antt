@@ -30,7 +30,8 @@ use Rattle.der_base.proofs.Framing.FramedIsSpelling.{joins_now, spells_then}
 use Rattle.der_object.specs.declared.object.BerObject.{BerObject}
 use Rattle.der_object.specs.declared.object.BerObjectContent.{BerObjectContent}
 use Rattle.der_object.specs.declared.object.BerObjectContent.TheVariants.{Sequence, Set, Unknown}
-use Rattle.der_object.specs.HeaderFacts.{forms_of, inner_forms, HasRawTagAndHeader, EachHasRawTagAndHeader}
+use Rattle.der_object.specs.HeaderFacts.{forms_of, inner_forms, EachInside, KeepsHeader}
+use Rattle.der_object.specs.HeaderFacts.{HasRawTagAndHeader, EachHasRawTagAndHeader}
 use Rattle.der_object.specs.View.{node_of, content_tree, trees}
 use Rattle.der_object.proofs.Joins.{joins_push}
 use Rattle.der_object.proofs.HeaderFacts.{sequence_each, set_each, sequence_forms, set_forms, leaf_forms, leaf_each}
@@ -69,29 +70,25 @@ read_all w (b ∷ rest) os d h z = absurd (omega arith)
 
 -- contents
 
+-- that of a list, by its tree and the lengths in the headers of its items
+list_content : (w : List ℕ) (h : Header) (x : BerObjectContent) (y : Content) (fs : Forms) (d : ℕ) → content_tree x ≡ y
+    → inner_forms x ≡ fs → HasContent w (class_of h) (is_constructed h) (number_of h) y fs d
+    → KeepsHeader h x → EachInside HasRawTagAndHeader x → IsContentOf w h x d
+list_content w h x y fs d e f k kept each = record { content = rw (e, f) k; kept = kept; headers = each }
+
 pub sequence_content : (w : List ℕ) (h : Header) (v : Vec BerObject Global) (d : ℕ) → class_of h ≡ Universal
     → is_constructed h ≡ true → number_of h ≡ 16 → AreItems w v.items (d - 1) → IsContentOf w h (Sequence v) d
 sequence_content w h v d ec ep et j =
-    let q = joins_now (trees v.items) w (forms_of v.items) (d - 1) framing_budget (omega arith) j.joins in record {
-      content = subst (λ x. HasContent w (class_of h) (is_constructed h) (number_of h) x (inner_forms (Sequence v)) d)
-          (sym (sequence_tree v))
-          (subst (λ fs. HasContent w (class_of h) (is_constructed h) (number_of h) (sequence (trees v.items)) fs d)
-          (sym (sequence_forms v)) (ec, et, ep, q));
-      kept = tt;
-      headers = sequence_each HasRawTagAndHeader v j.headers;
-    }
+    let q = joins_now (trees v.items) w (forms_of v.items) (d - 1) framing_budget (omega arith) j.joins in
+    list_content w h (Sequence v) (sequence (trees v.items)) (forms_of v.items) d (sequence_tree v) (sequence_forms v)
+    (ec, et, ep, q) tt (sequence_each HasRawTagAndHeader v j.headers)
 
 pub set_content : (w : List ℕ) (h : Header) (v : Vec BerObject Global) (d : ℕ) → class_of h ≡ Universal
     → is_constructed h ≡ true → number_of h ≡ 17 → AreItems w v.items (d - 1) → IsContentOf w h (Set v) d
 set_content w h v d ec ep et j =
-    let q = joins_now (trees v.items) w (forms_of v.items) (d - 1) framing_budget (omega arith) j.joins in record {
-      content = subst (λ x. HasContent w (class_of h) (is_constructed h) (number_of h) x (inner_forms (Set v)) d)
-          (sym (set_tree v))
-          (subst (λ fs. HasContent w (class_of h) (is_constructed h) (number_of h) (set (trees v.items)) fs d)
-          (sym (set_forms v)) (ec, et, ep, q));
-      kept = tt;
-      headers = set_each HasRawTagAndHeader v j.headers;
-    }
+    let q = joins_now (trees v.items) w (forms_of v.items) (d - 1) framing_budget (omega arith) j.joins in
+    list_content w h (Set v) (set (trees v.items)) (forms_of v.items) d (set_tree v) (set_forms v)
+    (ec, et, ep, q) tt (set_each HasRawTagAndHeader v j.headers)
 
 pub raw_content : (w : List ℕ) (h : Header) (a : Any) (d : ℕ) → a.header ≡ h → a.bytes.now ≡ w
     → (class_of h ≡ Universal → is_mapped (number_of h) ≡ false) → IsContentOf w h (Unknown a) d

@@ -1,6 +1,6 @@
 -- Spans that are recorded of elements.
 use Rattle.std.proofs.Common.{◌≡◌, ℕ, ◌+◌, ◌-◌, ◌≤◌, List, [], ◌∷◌, ◌++◌, length, refl, sym, ap, subst, ◌∙◌, arith}
-use Rattle.std.proofs.Common.{append_assoc, append-nil}
+use Rattle.std.proofs.Common.{append_assoc, append-nil, length-append}
 use Rattle.der_base.specs.declared.header.Header.{Header}
 use Rattle.der_base.specs.declared.header.Length.{Length}
 use Rattle.der_base.specs.declared.header.Length.TheVariants.{Definite, Indefinite}
@@ -10,10 +10,10 @@ use Rattle.der_base.specs.Inner.Framed.{AreElements, no_elements, elements}
 use Rattle.der_base.specs.Header.{class_of, is_constructed, number_of, length_of}
 use Rattle.der_base.specs.Headers.{ReadsHeader}
 use Rattle.der_base.specs.Inner.Spans.{IsSpan, AreSpans, no_spans, closed_span, open_span, AreInside, RecordsElement}
-use Rattle.der_base.specs.Inner.Spans.{span_octets}
+use Rattle.der_base.specs.Inner.Spans.{open_octets, span_octets}
 use Rattle.der_base.specs.Spelling.{end_marker}
 use Rattle.der_base.proofs.Framing.Framed.{element_more}
-use Rattle.der_base.proofs.Framing.FramingLists.{element_from}
+use Rattle.der_base.proofs.Framing.FramingLists.{element_from, header_takes_two}
 use Rattle.der_base.proofs.Framing.RawLists.{tail_more}
 
 -- the octets that spans are of are elements
@@ -75,6 +75,14 @@ one_more_span i rest behind after u ss added old items new k h h1 hu e g r n so_
 pub span_octets_append : (ss ts : List Span) → span_octets (ss ++ ts) ≡ span_octets ss + span_octets ts
 span_octets_append [] ts = omega arith
 span_octets_append (s ∷ ss) ts = omega (arith, span_octets_append ss ts)
+
+-- an element of definite length takes the octets of its header, those of its content, and what follows
+pub definite_octets : (i behind w rest : List ℕ) (h : Header) (n : ℕ) → ReadsHeader i h behind → length_of h ≡ Definite n
+    → BeginsWithContent behind (Definite n) 0 w rest → open_octets (length_of h) w + length rest + 2 ≤ length i
+definite_octets i behind w rest h n r l f =
+    let two = header_takes_two i behind _ _ _ _ r.begins in
+    let unread : open_octets (length_of h) w ≡ length w = ap (λ v. open_octets v w) l in
+    omega (arith, two, unread, ap length f.1, length-append w rest)
 
 -- a greater budget
 

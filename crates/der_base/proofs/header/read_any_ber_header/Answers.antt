@@ -12,4 +12,5 @@ pub returns-in_err-rest-2 : goal.returns-in_err-rest-2
 returns-in_err-rest-2 c =
     let x = c.in_ok-rest in
     let p = err_from_is_err_and c.from_residual-in_err-rest-2.result c.from_residual-in_err-rest-2.ensures.1 in
-    rw (p.1, p.2) (length_answered laws _ _ c.args.i.now x.rest.now x.identifier c.in_err-rest-2.field-0.0 x.ensures c.in_err-rest-2.ensures)
+    rw (p.1, p.2) (length_answered laws _ _ c.args.i.now x.rest.now x.identifier c.in_err-rest-2.field-0.0
+    x.ensures c.in_err-rest-2.ensures)

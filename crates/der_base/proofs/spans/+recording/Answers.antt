@@ -10,7 +10,7 @@ use Rattle.der_base.specs.Content.{BeginsWithContent}
 use lib.ListN.{set}
 use Rattle.der_base.proofs.Framing.EndMarkerLoop.{header_answered, no_budget, ends_here, content_answered}
 use Rattle.der_base.proofs.Framing.FramingLists.{header_takes_two}
-use Rattle.der_base.proofs.Framing.Recording.{spans_are_elements, one_more_span, span_octets_append}
+use Rattle.der_base.proofs.Framing.Recording.{spans_are_elements, one_more_span, span_octets_append, definite_octets}
 use Rattle.der_base.proofs.spans.+recording.Goals as goal
 
 pub record_to_end_marker-elements-init : goal.record_to_end_marker-elements-init
@@ -152,8 +152,8 @@ record_to_end_marker-returns-in_err-after-clause-found t c =
     let u = c.elements.invariant.found in
     let l : length_of c.in_ok-behind.header ≡ Definite c.in-Definite.size = sym c.length.ensures ∙ c.in-Definite.is in
     let p = err_from_is_err_and c.from_residual-in_err-after.result c.from_residual-in_err-after.ensures.1 in
-    rw (p.1, p.2) (content_answered _ (spans_are_elements u.2) u.3 (rw l at c.in_ok-behind.ensures.exactly.found.begins) _ _ _ _
-    c.in_err-after.field-0.0 (omega arith) (λ m. absurd m) c.in_err-after.ensures)
+    rw (p.1, p.2) (content_answered _ (spans_are_elements u.2) u.3
+    (rw l at c.in_ok-behind.ensures.exactly.found.begins) _ _ _ _ c.in_err-after.field-0.0 (omega arith) (λ m. absurd m) c.in_err-after.ensures)
 
 pub record_to_end_marker-elements-preserved-in-Definite : goal.record_to_end_marker-elements-preserved-in-Definite
 record_to_end_marker-elements-preserved-in-Definite t c =
@@ -178,19 +178,16 @@ record_to_end_marker-elements-preserved-in-Definite t c =
       content = subst (λ x. BeginsWithContent behind x (c.args.budget - 1) w.now after) (sym l) f;
       recorded = subst (λ x. AreInside x [] w.now (c.args.budget - 1 - 1)) (sym l) refl;
     } in
-    let two = header_takes_two _ _ _ _ _ _ g.begins in record {
+    let octets = definite_octets _ _ _ _ _ _ g l f in record {
       found = one_more_span c.args.i.now c.elements.rest.now behind after u.0 u.1 (s ∷ []) _ _ _ (c.args.budget - 1) h
           (omega arith) u.2 u.3 g r c.if-begins_with_end_marker.ensures u.4 pushed;
       counted = omega (arith, ap length pushed, length-append c.elements.spans.items (s ∷ []), v.counted, counted);
-      bounded = omega (arith, two, ap length f.1, length-append w.now after, v.bounded, counted);
+      bounded = omega (arith, octets, v.bounded, counted);
       bounded_ok = omega (
         arith,
-        two,
+        octets,
         ap span_octets pushed,
         span_octets_append c.elements.spans.items (s ∷ []),
-        ap (λ x. open_octets x w.now) l,
-        ap length f.1,
-        length-append w.now after,
         v.bounded_ok,
         counted,
       );

@@ -1,4 +1,4 @@
-use Rattle.std.proofs.Common.{◌≡◌, ◌<◌, ◌≤◌, ◌++◌, true, false, IsTrue, [], length, length-append, ap, drop, arith}
+use Rattle.std.proofs.Common.{◌≡◌, ◌<◌, ◌≤◌, ◌++◌, true, false, IsTrue, [], length, ap, drop, arith}
 use Rattle.std.proofs.Common.{rules, inl, inr, refl, sym, subst, ◌∙◌}
 use Rattle.std.proofs.lemmas.Bool.Decides.{nat_tests}
 use Rattle.std.proofs.lemmas.Result.{err_from_is_err_and}
@@ -20,12 +20,11 @@ use Rattle.der_ber.proofs.Items.{any_cut, framing_cut, behind_refused, behind_me
 use Rattle.der_base.specs.declared.header.Length.TheVariants.{Definite}
 use Rattle.der_base.specs.Content.{BeginsWithContent, ContentLacks}
 use Rattle.der_base.specs.Spelling.{framing_budget}
-use Rattle.der_base.specs.Inner.Spans.{open_octets}
 use Rattle.der_base.proofs.Framing.FramingAny.{any_lacks_header}
 use Rattle.der_base.proofs.Framing.FramingLists.{header_takes_two}
 use Rattle.std.proofs.lemmas.List.{length-drop}
 use Rattle.der_base.specs.declared.spans.Span.{Span}
-use Rattle.der_base.proofs.Framing.Recording.{inside_more, none_left}
+use Rattle.der_base.proofs.Framing.Recording.{definite_octets, inside_more, none_left}
 use Rattle.der_ber.proofs.SpanItems.{span_end, span_inside, length_inside, octets_split, span_refused, depth_refused}
 use Rattle.der_ber.proofs.SpanItems.{some_items, one_more_item, no_length}
 use Rattle.der_ber.proofs.reader.+reader.Goals as goal
@@ -172,27 +171,17 @@ read_element-returns-in-Indefinite-clause-found t c =
 pub read_element-returns-in_ok-rest-in-Definite-clause-bounded :
     goal.read_element-returns-in_ok-rest-in-Definite-clause-bounded
 read_element-returns-in_ok-rest-in-Definite-clause-bounded t c =
-    let w = c.in_ok-rest-in-Definite.bytes.now in
-    let rest = c.in_ok-rest-in-Definite.rest.now in
-    let h = c.in_ok-behind.header in
-    let l : length_of h ≡ Definite c.in-Definite.size = sym c.length.ensures ∙ c.in-Definite.is in
-    let z : open_octets (length_of h) w ≡ length w = ap (λ v. open_octets v w) l in
-    let parts = ap length c.in_ok-rest-in-Definite.ensures.1 ∙ length-append w rest in
-    let two = header_takes_two _ _ _ _ _ _ c.in_ok-behind.ensures.exactly.found.begins in
-    omega (arith, z, parts, two, c.in_ok-behind.ensures.counted, c.read_object.ensures.bounded)
+    let octets = definite_octets _ _ _ _ _ _ c.in_ok-behind.ensures.exactly.found (sym c.length.ensures ∙ c.in-Definite.is)
+    c.in_ok-rest-in-Definite.ensures in
+    omega (arith, octets, c.in_ok-behind.ensures.counted, c.read_object.ensures.bounded)
 
 pub read_element-returns-in_ok-rest-in-Definite-clause-bounded_ok :
     goal.read_element-returns-in_ok-rest-in-Definite-clause-bounded_ok
 read_element-returns-in_ok-rest-in-Definite-clause-bounded_ok t c =
-    let w = c.in_ok-rest-in-Definite.bytes.now in
-    let rest = c.in_ok-rest-in-Definite.rest.now in
-    let h = c.in_ok-behind.header in
-    let l : length_of h ≡ Definite c.in-Definite.size = sym c.length.ensures ∙ c.in-Definite.is in
-    let z : open_octets (length_of h) w ≡ length w = ap (λ v. open_octets v w) l in
-    let parts = ap length c.in_ok-rest-in-Definite.ensures.1 ∙ length-append w rest in
-    let two = header_takes_two _ _ _ _ _ _ c.in_ok-behind.ensures.exactly.found.begins in
+    let octets = definite_octets _ _ _ _ _ _ c.in_ok-behind.ensures.exactly.found (sym c.length.ensures ∙ c.in-Definite.is)
+    c.in_ok-rest-in-Definite.ensures in
     ok_with _ _ _ c.read_object.result _ _ c.read_object.ensures.found c.read_object.ensures.bounded_ok
-    (λ x y k. omega (arith, z, parts, two, ap length y.0, c.in_ok-behind.ensures.counted, k))
+    (λ x y k. omega (arith, octets, ap length y.0, c.in_ok-behind.ensures.counted, k))
 
 pub read_element-returns-in-Indefinite-clause-bounded : goal.read_element-returns-in-Indefinite-clause-bounded
 read_element-returns-in-Indefinite-clause-bounded t c =
