@@ -34,6 +34,8 @@ mod name_rows;
 #[cfg(test)]
 mod no_memory;
 #[cfg(test)]
+mod number_rows;
+#[cfg(test)]
 mod octets;
 #[cfg(test)]
 mod oid_rows;
