@@ -10,14 +10,14 @@ use std::{mem, slice, vec};
 
 /// The items of an object by reference, in their order.
 #[derive(Debug, Drop)]
-pub struct BerObjectRefIterator<'a> {
-    items: slice::Iter<'a, BerObject<'a>>,
+pub struct BerObjectRefIterator<'r, 'a> {
+    items: slice::Iter<'r, BerObject<'a>>,
 }
 
 impl<'a> BerObject<'a> {
     /// The items of a SEQUENCE or SET in their order, by reference. An object of another type has
     /// none.
-    pub fn ref_iter(&'a self) -> BerObjectRefIterator<'a>
+    pub fn ref_iter<'r>(&'r self) -> BerObjectRefIterator<'r, 'a>
         ensures { items_left result ≡ items_of self.now.content }
     {
         BerObjectRefIterator {
@@ -39,14 +39,14 @@ impl<'a> BerObjectContent<'a> {
     }
 }
 
-impl<'a> Iterator for BerObjectRefIterator<'a> {
-    type Item = &'a BerObject<'a>;
+impl<'r, 'a> Iterator for BerObjectRefIterator<'r, 'a> {
+    type Item = &'r BerObject<'a>;
 
     ghost next_gives = { YieldsFirstRef items_left };
 
     ghost remaining = { item_count items_left };
 
-    fn next(&mut self) -> Option<&'a BerObject<'a>> {
+    fn next(&mut self) -> Option<&'r BerObject<'a>> {
         self.items.next()
     }
 }
