@@ -2,5 +2,6 @@
 -- these.
 pub mod Framed
 pub mod Identifier
+pub mod Opened
 pub mod Spans
 pub mod TimeParts

@@ -5,6 +5,7 @@ pub mod content;
 pub mod laws;
 pub mod leaf;
 pub mod multi;
+pub mod opened;
 pub mod parser;
 mod reader;
 pub mod typed;
@@ -13,8 +14,9 @@ pub use content::{
     BerContent, BerContent2, ber_read_element_content_as, parse_ber_content, parse_ber_content2,
 };
 pub use multi::{
-    BerContainer, BerSequenceDefinedG, BerSetDefinedG, parse_ber_container,
-    parse_ber_sequence_defined_g, parse_ber_set_defined_g, parse_ber_slice,
+    BerContainer, BerSequenceDefinedG, BerSequenceOfV, BerSetDefinedG, BerSetOfV,
+    parse_ber_container, parse_ber_sequence_defined_g, parse_ber_sequence_of_v,
+    parse_ber_set_defined_g, parse_ber_set_of_v, parse_ber_slice,
 };
 pub use parser::{
     parse_ber, parse_ber_any, parse_ber_any_r, parse_ber_any_with_tag_r, parse_ber_counted,
