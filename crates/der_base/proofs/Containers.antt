@@ -2,3 +2,4 @@
 pub mod ContainerLaws
 pub mod DerContainers
 pub mod ListStepsLaws
+pub mod OpenedLaws

@@ -2,6 +2,10 @@
 -- these.
 pub mod Framed
 pub mod Identifier
+<<<<<<< HEAD
 pub mod Integers
+=======
+pub mod Opened
+>>>>>>> lists
 pub mod Spans
 pub mod TimeParts

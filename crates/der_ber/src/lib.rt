@@ -6,6 +6,7 @@ pub mod laws;
 pub mod leaf;
 pub mod multi;
 pub mod number;
+pub mod opened;
 pub mod parser;
 mod reader;
 pub mod typed;
@@ -15,8 +16,9 @@ pub use content::{
     parse_ber_content2,
 };
 pub use multi::{
-    BerContainer, BerSequenceDefinedG, BerSetDefinedG, parse_ber_container,
-    parse_ber_sequence_defined_g, parse_ber_set_defined_g, parse_ber_slice,
+    BerContainer, BerSequenceDefinedG, BerSequenceOfV, BerSetDefinedG, BerSetOfV,
+    parse_ber_container, parse_ber_sequence_defined_g, parse_ber_sequence_of_v,
+    parse_ber_set_defined_g, parse_ber_set_of_v, parse_ber_slice,
 };
 pub use number::{parse_ber_i32, parse_ber_i64, parse_ber_u32, parse_ber_u64};
 pub use parser::{

@@ -1,23 +1,23 @@
 //! Combinators that keep the caller's parser of a content, and the reader of a content as it stands.
-ghost use Rattle.std.specs.Prelude.{◌≡◌, ℕ, Bool, List, IfErr, IfOk, MatchOption, MatchResult};
+ghost use Rattle.std.specs.Prelude.{◌≡◌, ℕ, Bool, List, IfErr, IfOk, MatchOption};
 ghost use Rattle.der_base.specs.declared.header.Class.{Class};
 ghost use Rattle.der_base.specs.declared.error.Err.{Err};
 ghost use Rattle.der_base.specs.Answer.{MatchAnswer};
-ghost use Rattle.der_base.specs.Containers.{ContainerRun, HasShortContent, NoCall, OneCall, OpeningLacks};
+ghost use Rattle.der_base.specs.Containers.{BerNumberRun, ContainerRun, HasShortContent, NoCall, OneCall, OpeningLacks};
 ghost use Rattle.der_base.specs.Containers.{OpensBer, OpensBerNumber, RefusesBer, RefusesBerNumber};
+ghost use Rattle.der_base.specs.ListSteps.{OnItems};
 ghost use Rattle.der_base.specs.Spelling.{BeginsWithElement, framing_budget};
 ghost use Rattle.der_ber.specs.BerSlices.{AnswersSlice, ReadsSlice, SliceRefuses};
 
+use crate::opened::{Opened, parse_content, parse_items, with_number};
 use der_base::any::Any;
 use der_base::error::{BerError, Err, ErrorKind, IResult, ParseError};
 use der_base::header::{Header, Length, Tag, ber_read_element_header};
+use std::alloc::Global;
 use std::marker::Model;
 
-/// An element that was opened: its header, its content octets, and what follows it.
-type Opened<'a> = (Header<'a>, &'a [u8], &'a [u8]);
-
 /// The element that `i` begins with, where its content is whole.
-fn open_element<'a, E>(i: &'a [u8]) -> Result<Opened<'a>, Err<E>>
+pub(crate) fn open_element<'a, E>(i: &'a [u8]) -> Result<Opened<'a>, Err<E>>
 where
     E: ParseError<&'a [u8]> + From<BerError>,
     ensures ok { IfOk result (λ x. OpensBer i.now x.0 x.1.now x.2.now) }
@@ -39,14 +39,7 @@ where
     ensures ok { IfOk result (λ x. OpensBerNumber tag.0 i.now x.0 x.1.now x.2.now) }
     ensures err { IfErr result (RefusesBerNumber E.from_error_kind_gives E.from_gives tag.0 i.now) }
 {
-    let (header, content, after) = match open_element(i) {
-        Ok(parts) => parts,
-        Err(e) => return Err(e),
-    };
-    match header.assert_tag(tag) {
-        Ok(()) => return Ok((header, content, after)),
-        Err(e) => return Err(Err::Error(E::from(e))),
-    }
+    with_number(open_element(i), tag)
 }
 
 /// What stands behind a header, where its definite length is more octets than that.
@@ -61,30 +54,6 @@ fn short_content(i: &[u8]) -> Option<&[u8]>
     match header.length() {
         Length::Definite(n) if content.len() < n => Some(content),
         _ => None,
-    }
-}
-
-/// Calls `f` once on the content and the header of an element that was opened, or passes on why
-/// none was.
-fn parse_content<'a, F, O, E>(
-    f: &mut F,
-    opened: Result<Opened<'a>, Err<E>>,
-) -> IResult<&'a [u8], O, E>
-where
-    F: FnMut(&'a [u8], Header<'a>) -> IResult<&'a [u8], O, E>,
-    requires { F.IsAlwaysCallable f.old }
-    ensures callable { F.IsAlwaysCallable f.new }
-    ensures run { MatchResult opened.entry
-        (λ x. OneCall (λ h w after. (h ≡ x.0) × (w ≡ x.1.now) × (after ≡ x.2.now)) F.step f.old result f.new)
-        (λ e. NoCall (λ r. r ≡ e) f.old result f.new) }
-{
-    let (header, content, after) = match opened {
-        Ok(parts) => parts,
-        Err(e) => return Err(e),
-    };
-    match f(content, header) {
-        Ok((_, value)) => return Ok((after, value)),
-        Err(e) => return Err(e),
     }
 }
 
@@ -222,6 +191,92 @@ impl<F> BerSetDefinedG<F> {
             → NoCall (RefusesBerNumber E.from_error_kind_gives E.from_gives 17 i.now) self.old result self.new }
     {
         parse_content(&mut self.f, open_number(i, Tag::Set))
+    }
+}
+
+/// A parser of SEQUENCE OF, which keeps the parser of its items.
+#[derive(Drop)]
+pub struct BerSequenceOfV<F> {
+    f: F,
+    alloc: Global,
+}
+
+impl<F> Model for BerSequenceOfV<F> {
+    ghost Value = { F };
+
+    ghost view = { λ c. c.f };
+}
+
+/// A parser of an element of the tag number 16, SEQUENCE, that reads its content by `f`, value
+/// after value (X.690 8.10).
+pub fn parse_ber_sequence_of_v<'a, F, O, E>(f: F, alloc: Global) -> BerSequenceOfV<F>
+where
+    F: FnMut(&'a [u8]) -> IResult<&'a [u8], O, E>,
+    ensures { result ≡ f }
+{
+    BerSequenceOfV { f, alloc }
+}
+
+impl<F> BerSequenceOfV<F> {
+    /// Reads as `BerSequenceDefinedG::parse` an element of the tag number 16, of any class. The kept
+    /// parser is called on its content octets, and then on what each call leaves, also where nothing
+    /// is left: its Incomplete there ends the list. The values are answered in their order.
+    ///
+    /// Refusals, without a call of the parser: those of `BerSequenceDefinedG::parse`. Behind them,
+    /// at the call that shows it: where the parser answers Incomplete and octets are left, the Error
+    /// of Eof at them; where it leaves no less than it was given, the Error of Many0 at what it was
+    /// given; an Error of the parser is a Failure, and its Failure and OutOfMemory pass. The list may
+    /// want memory for each value.
+    pub fn parse<'a, O, E>(&mut self, i: &'a [u8]) -> IResult<&'a [u8], Vec<O>, E>
+    where
+        F: FnMut(&'a [u8]) -> IResult<&'a [u8], O, E>,
+        O: Drop,
+        E: ParseError<&'a [u8]> + From<BerError>,
+        requires { F.IsAlwaysCallable self.old }
+        ensures callable { F.IsAlwaysCallable self.new }
+        ensures run { BerNumberRun 16 E.from_error_kind_gives E.from_gives i.now
+            (OnItems E.from_error_kind_gives F.step) self.old result self.new }
+    {
+        parse_items(&mut self.f, open_number(i, Tag::Sequence), self.alloc)
+    }
+}
+
+/// A parser of SET OF, which keeps the parser of its items.
+#[derive(Drop)]
+pub struct BerSetOfV<F> {
+    f: F,
+    alloc: Global,
+}
+
+impl<F> Model for BerSetOfV<F> {
+    ghost Value = { F };
+
+    ghost view = { λ c. c.f };
+}
+
+/// A parser of an element of the tag number 17, SET, that reads its content by `f`, value
+/// after value (X.690 8.12).
+pub fn parse_ber_set_of_v<'a, F, O, E>(f: F, alloc: Global) -> BerSetOfV<F>
+where
+    F: FnMut(&'a [u8]) -> IResult<&'a [u8], O, E>,
+    ensures { result ≡ f }
+{
+    BerSetOfV { f, alloc }
+}
+
+impl<F> BerSetOfV<F> {
+    /// Reads as `BerSequenceOfV::parse` an element of the tag number 17, in the order of the input.
+    pub fn parse<'a, O, E>(&mut self, i: &'a [u8]) -> IResult<&'a [u8], Vec<O>, E>
+    where
+        F: FnMut(&'a [u8]) -> IResult<&'a [u8], O, E>,
+        O: Drop,
+        E: ParseError<&'a [u8]> + From<BerError>,
+        requires { F.IsAlwaysCallable self.old }
+        ensures callable { F.IsAlwaysCallable self.new }
+        ensures run { BerNumberRun 17 E.from_error_kind_gives E.from_gives i.now
+            (OnItems E.from_error_kind_gives F.step) self.old result self.new }
+    {
+        parse_items(&mut self.f, open_number(i, Tag::Set), self.alloc)
     }
 }
 

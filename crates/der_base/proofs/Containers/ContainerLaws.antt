@@ -1,5 +1,5 @@
 -- The element that begins the input, what a container refuses, and which of the two a run shows: one of them holds at most, and each in one way.
-use Rattle.std.proofs.Common.{◌≡◌, ◌≢◌, ℕ, ◌-◌, ◌<◌, Bool, Some, List, length, Result, Ok, Err, MatchResult, IfOk, IfErr, IsOkAnd, Bor, refl, sym, ap, subst, ◌∙◌, arith, inl, inr}
+use Rattle.std.proofs.Common.{◌≡◌, ◌≢◌, ℕ, ◌-◌, ◌<◌, Bool, Some, List, length, Ok, Err, IfOk, IsOkAnd, Bor, refl, sym, ap, subst, ◌∙◌, arith, inl, inr}
 use Rattle.der_base.specs.declared.any.Any.{Any}
 use Rattle.der_base.specs.declared.error.Err.{Err as Refused}
 use Rattle.der_base.specs.declared.error.Err.TheVariants.{Incomplete, Error, Failure, OutOfMemory}
@@ -125,14 +125,6 @@ module _ {F O E : Type 0} (opens : Header → List ℕ → List ℕ → Type 0) 
   no_call (inl h) n = h
   no_call (inr (stopped {h = h} {w = w} {after = after} o s e)) n = absurd (n h w after o)
   no_call (inr (accepted {h = h} {w = w} {after = after} o s e)) n = absurd (n h w after.now o)
-
-  -- a run over an element that was opened, or over a refusal
-  pub opened_run : (opened : Result (Header × Bor (List ℕ) × Bor (List ℕ)) (Refused E)) {f g : F} {r : Answered O E}
-      → MatchResult opened (λ x. OneCall (λ h w after. (h ≡ x.0) × (w ≡ x.1.now) × (after ≡ x.2.now)) step f r g) (λ e. NoCall (λ y. y ≡ e) f r g)
-      → IfOk opened (λ x. opens x.0 x.1.now x.2.now) → IfErr opened refuses → ContainerRun opens refuses step f r g
-  opened_run (Ok x) (stopped {h = h} {w = w} {after = after} (p, q, a) s c) o n = let y : opens h w after = rw (p, q, a) o in inr (stopped y s c)
-  opened_run (Ok x) (accepted {h = h} {w = w} {after = after} (p, q, a) s c) o n = let y : opens h w after.now = rw (p, q, a) o in inr (accepted y s c)
-  opened_run (Err e) (refused {e = r} q) o n = let y : refuses r = rw q n in inl (refused y)
 
 -- what a container says, where its parser says P of a content and a value
 module _ {F O E : Type 0} (opens : Header → List ℕ → List ℕ → Type 0) (refuses : Refused E → Type 0) (step : F → Bor (List ℕ) → Header → Answered O E → F → Type 0) (P : List ℕ → O → Type 0) where

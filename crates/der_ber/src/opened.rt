@@ -1,0 +1,199 @@
+//! What combinators do with an element that was opened, by BER and by DER alike.
+ghost use Rattle.std.specs.Prelude.{IfErr, IfOk, Result};
+ghost use Rattle.der_base.specs.Containers.{ContainerRun, OnContent, OnImplicit, OpensExplicit, OpensNumber};
+ghost use Rattle.der_base.specs.Containers.{RefusesExplicit, RefusesNumber};
+ghost use Rattle.der_base.specs.Inner.Opened.{IsOpened, IsUnopened};
+ghost use Rattle.der_base.specs.ListSteps.{ListSteps, OnItems};
+
+use der_base::MAX_RECURSION;
+use der_base::error::{BerError, Err, ErrorKind, IResult, ParseError};
+use der_base::header::{Class, Header, Length, Tag};
+use std::alloc::Global;
+
+/// An element that was opened: its header, its content octets, and what follows it.
+pub type Opened<'a> = (Header<'a>, &'a [u8], &'a [u8]);
+
+/// The element where it has this tag number, in any class. Another number is UnexpectedTag.
+pub fn with_number<'a, E>(
+    opened: Result<Opened<'a>, Err<E>>,
+    tag: Tag,
+) -> Result<Opened<'a>, Err<E>>
+where
+    E: From<BerError>,
+    ensures ok { IfOk result (λ x. OpensNumber (IsOpened opened.entry) tag.0 x.0 x.1.now x.2.now) }
+    ensures err { IfErr result
+        (RefusesNumber (IsOpened opened.entry) (IsUnopened opened.entry) E.from_gives tag.0) }
+{
+    let (header, content, after) = match opened {
+        Ok(parts) => parts,
+        Err(e) => return Err(e),
+    };
+    match header.assert_tag(tag) {
+        Ok(()) => return Ok((header, content, after)),
+        Err(e) => return Err(Err::Error(E::from(e))),
+    }
+}
+
+/// The element where it is an explicit tag of this number (X.690 8.14.2). Class Universal is
+/// UnexpectedClass, then another number is UnexpectedTag, then a primitive encoding is
+/// ConstructExpected.
+pub fn with_explicit_tag<'a, E>(
+    opened: Result<Opened<'a>, Err<E>>,
+    tag: Tag,
+) -> Result<Opened<'a>, Err<E>>
+where
+    E: From<BerError>,
+    ensures ok { IfOk result (λ x. OpensExplicit (IsOpened opened.entry) tag.0 x.0 x.1.now x.2.now) }
+    ensures err { IfErr result
+        (RefusesExplicit (IsOpened opened.entry) (IsUnopened opened.entry) E.from_gives tag.0) }
+{
+    let (header, content, after) = match opened {
+        Ok(parts) => parts,
+        Err(e) => return Err(e),
+    };
+    if let Class::Universal = header.class() {
+        return Err(Err::Error(E::from(BerError::unexpected_class(None, Class::Universal))));
+    }
+    match header.assert_tag(tag) {
+        Ok(()) => (),
+        Err(e) => return Err(Err::Error(E::from(e))),
+    }
+    match header.assert_constructed() {
+        Ok(()) => (),
+        Err(e) => return Err(Err::Error(E::from(e))),
+    }
+    Ok((header, content, after))
+}
+
+/// Calls `f` once on the content and the header of an element that was opened, or passes on why
+/// none was.
+pub fn parse_content<'a, F, O, E>(
+    f: &mut F,
+    opened: Result<Opened<'a>, Err<E>>,
+) -> IResult<&'a [u8], O, E>
+where
+    F: FnMut(&'a [u8], Header<'a>) -> IResult<&'a [u8], O, E>,
+    requires { F.IsAlwaysCallable f.old }
+    ensures callable { F.IsAlwaysCallable f.new }
+    ensures run { ContainerRun (IsOpened opened.entry) (IsUnopened opened.entry) F.step f.old result f.new }
+{
+    let (header, content, after) = match opened {
+        Ok(parts) => parts,
+        Err(e) => return Err(e),
+    };
+    match f(content, header) {
+        Ok((_, value)) => return Ok((after, value)),
+        Err(e) => return Err(e),
+    }
+}
+
+/// The same on the content alone.
+pub fn parse_content_alone<'a, F, O, E>(
+    f: &mut F,
+    opened: Result<Opened<'a>, Err<E>>,
+) -> IResult<&'a [u8], O, E>
+where
+    F: FnMut(&'a [u8]) -> IResult<&'a [u8], O, E>,
+    requires { F.IsAlwaysCallable f.old }
+    ensures callable { F.IsAlwaysCallable f.new }
+    ensures run { ContainerRun (IsOpened opened.entry) (IsUnopened opened.entry) (OnContent F.step)
+        f.old result f.new }
+{
+    let (_, content, after) = match opened {
+        Ok(parts) => parts,
+        Err(e) => return Err(e),
+    };
+    match f(content) {
+        Ok((_, value)) => return Ok((after, value)),
+        Err(e) => return Err(e),
+    }
+}
+
+/// The same on the content, on the header with the definite length of the content, and on the depth
+/// `MAX_RECURSION`.
+pub fn parse_implicit_content<'a, F, O, E>(
+    f: &mut F,
+    opened: Result<Opened<'a>, Err<E>>,
+) -> IResult<&'a [u8], O, E>
+where
+    F: FnMut(&'a [u8], Header<'a>, usize) -> IResult<&'a [u8], O, E>,
+    requires { F.IsAlwaysCallable f.old }
+    ensures callable { F.IsAlwaysCallable f.new }
+    ensures run { ContainerRun (IsOpened opened.entry) (IsUnopened opened.entry) (OnImplicit F.step)
+        f.old result f.new }
+{
+    let (header, content, after) = match opened {
+        Ok(parts) => parts,
+        Err(e) => return Err(e),
+    };
+    let length = Length::Definite(content.len());
+    match f(content, header.with_length(length), MAX_RECURSION) {
+        Ok((_, value)) => return Ok((after, value)),
+        Err(e) => return Err(e),
+    }
+}
+
+/// Calls `f` on the content of an element that was opened, and again on what each call leaves, or
+/// passes on why none was. The values are answered in their order.
+pub fn parse_items<'a, F, O, E>(
+    f: &mut F,
+    opened: Result<Opened<'a>, Err<E>>,
+    alloc: Global,
+) -> IResult<&'a [u8], Vec<O>, E>
+where
+    F: FnMut(&'a [u8]) -> IResult<&'a [u8], O, E>,
+    O: Drop,
+    E: ParseError<&'a [u8]>,
+    requires { F.IsAlwaysCallable f.old }
+    ensures callable { F.IsAlwaysCallable f.new }
+    ensures run { ContainerRun (IsOpened opened.entry) (IsUnopened opened.entry)
+        (OnItems E.from_error_kind_gives F.step) f.old result f.new }
+{
+    let (_, content, after) = match opened {
+        Ok(parts) => parts,
+        Err(e) => return Err(e),
+    };
+    match read_items(f, content, alloc) {
+        Ok(values) => return Ok((after, values)),
+        Err(e) => return Err(e),
+    }
+}
+
+/// Calls `f` on `content`, and again on what each call leaves, until it answers Incomplete. Octets
+/// that are left then are Eof. An Error of `f` is a Failure; its Failure and OutOfMemory pass. A
+/// rest that isn't shorter is Many0.
+fn read_items<'a, F, O, E>(f: &mut F, content: &'a [u8], alloc: Global) -> Result<Vec<O>, Err<E>>
+where
+    F: FnMut(&'a [u8]) -> IResult<&'a [u8], O, E>,
+    O: Drop,
+    E: ParseError<&'a [u8]>,
+    requires { F.IsAlwaysCallable f.old }
+    ensures callable { F.IsAlwaysCallable f.new }
+    ensures ok { IfOk result (λ v.
+        ListSteps F.step E.from_error_kind_gives content.now f.old (Ok v.items) f.new) }
+    ensures err { IfErr result (λ e.
+        ListSteps F.step E.from_error_kind_gives content.now f.old (Result.Err e) f.new) }
+{
+    let mut values = Vec::new(alloc);
+    let mut input = content;
+    loop {
+        match f(input) {
+            Ok((rest, value)) => {
+                if rest.len() >= input.len() {
+                    return Err(Err::Error(E::from_error_kind(input, ErrorKind::Many0)));
+                }
+                values.push(value)?;
+                input = rest;
+            }
+            Err(Err::Incomplete(_)) => {
+                if !input.is_empty() {
+                    return Err(Err::Error(E::from_error_kind(input, ErrorKind::Eof)));
+                }
+                return Ok(values);
+            }
+            Err(Err::Error(e)) => return Err(Err::Failure(e)),
+            Err(Err::Failure(e)) => return Err(Err::Failure(e)),
+            Err(Err::OutOfMemory) => return Err(Err::OutOfMemory),
+        }
+    }
+}
