@@ -2,10 +2,7 @@
 -- these.
 pub mod Framed
 pub mod Identifier
-<<<<<<< HEAD
 pub mod Integers
-=======
 pub mod Opened
->>>>>>> lists
 pub mod Spans
 pub mod TimeParts
