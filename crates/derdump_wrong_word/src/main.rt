@@ -1,4 +1,4 @@
-//! `derdump ber` and `derdump der` print the elements of their standard input, one a line.
+//! `derdump`, with a stored run on a word that names no rules.
 #![tactic(auto)]
 
 use der_dump::{only_argument, program};
