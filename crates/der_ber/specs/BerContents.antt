@@ -120,7 +120,7 @@ pub record ReadsObjectOf (a : Any) (o : BerObject) : Type 0 where
   pub content : ReadsContentAs (number_of a.header) (length_of_octets a) (is_constructed a.header) 50
       a.bytes.now o.content []
 
--- the octets of the element spell this content
+-- the tree has the header's class, bit and number, and the octets of the element spell its content
 abbrev pub SpellsObjectOf : Any → Node → Type 0
 SpellsObjectOf a (node c p t x) = (c ≡ class_of a.header) × (p ≡ is_constructed a.header) × (t ≡ number_of a.header)
     × SpellsContentAs (number_of a.header) (length_of_octets a) (is_constructed a.header) 50 a.bytes.now (x, [])
@@ -132,7 +132,7 @@ abbrev pub ObjectOfNeedsMemory : Any → Type 0
 ObjectOfNeedsMemory a =
     ContentAsNeedsMemory (number_of a.header) (length_of_octets a) (is_constructed a.header) 50 a.bytes.now
 
--- the reader of such an element answers exactly what its octets show, which lack none
+-- the reader of such an element answers exactly what its octets show; they never lack any
 abbrev pub AnswersObjectOf : Any → Result BerObject (Refused BerError) → Type 0
 AnswersObjectOf a result = AnswersExactly result tree (ReadsObjectOf a) (SpellsObjectOf a) (ObjectOfRefuses a) (λ _. ⊥)
     (ObjectOfNeedsMemory a) ⊥
