@@ -67,17 +67,17 @@ abbrev pub NumberRefuses : NumberType → Content → Refusal → Type 0
 NumberRefuses k x e = IsFirstRefusal (number_tests k x) e
 
 -- an accessor's answer: the number, where no test holds, or the refusal of the first that does
-abbrev pub AnswersNumber : {T : Type 0} → (T → ℤ) → NumberType → Content → Result T BerError → Type 0
-AnswersNumber value k x (Ok v) = NoneHolds (number_tests k x) × (value v ≡ number_of_content x)
-AnswersNumber value k x (Err e) = NumberRefuses k x (refusal e)
+abbrev pub AnswersNumberOf : {T : Type 0} → (T → ℤ) → NumberType → Content → Result T BerError → Type 0
+AnswersNumberOf value k x (Ok v) = NoneHolds (number_tests k x) × (value v ≡ number_of_content x)
+AnswersNumberOf value k x (Err e) = NumberRefuses k x (refusal e)
 
 -- of `as_i64` and `as_i32`, by the bits of the type
 abbrev pub AnswersSigned : ℕ → Content → Result ℤ BerError → Type 0
-AnswersSigned bits x result = AnswersNumber (λ v. v) (signed bits) x result
+AnswersSigned bits x result = AnswersNumberOf (λ v. v) (signed bits) x result
 
 -- of `as_u64` and `as_u32`
 abbrev pub AnswersUnsigned : ℕ → Content → Result ℕ BerError → Type 0
-AnswersUnsigned bits x result = AnswersNumber pos (unsigned bits) x result
+AnswersUnsigned bits x result = AnswersNumberOf pos (unsigned bits) x result
 
 -- Readers of a number: the tests of the element in front, of tag number t, constructed or not, with content octets w.
 -- The class is not compared.
