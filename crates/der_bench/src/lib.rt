@@ -2,6 +2,8 @@
 #![tactic(auto)]
 
 #[cfg(test)]
+mod accessor_rows;
+#[cfg(test)]
 mod answer;
 #[cfg(test)]
 mod any_rows;
