@@ -1,4 +1,5 @@
 pub mod Bits
+pub mod Combined
 pub mod Counting
 pub mod HeaderFacts
 pub mod Objects
