@@ -125,8 +125,8 @@ abbrev pub RefusesDerNumber : {E : Type 0} → (Bor (List ℕ) → ErrorKind →
 RefusesDerNumber from_error_kind_gives from_gives n i r =
     RefusesNumber (OpensDer i) (RefusesDer from_error_kind_gives from_gives i) from_gives n r
 
--- Explicit tags (X.690 8.14.2): of the elements that are opened, those of the tag number n that are constructed and not of
--- class Universal.
+-- Explicit tags (X.690 8.14.2): of the elements that are opened, those of the tag number n that are constructed and not
+-- of class Universal.
 module _ (opens : Header → List ℕ → List ℕ → Type 0) where
   abbrev pub OpensExplicit : ℕ → Header → List ℕ → List ℕ → Type 0
   OpensExplicit n h w after = opens h w after × (class_of h ≢ Universal) × (number_of h ≡ n)
@@ -145,15 +145,17 @@ module _ (opens : Header → List ℕ → List ℕ → Type 0) where
           → number_of h ≡ n → is_constructed h ≡ false → refusal e ≡ construct_expected → from_gives e x
           → RefusesExplicit n (Error x)
 
--- A container, one of a tag number, and one of an explicit tag, by BER and by DER. What the container calls is `step`: the
--- kept parser's own promise, or one of the forms below.
+-- A container, one of a tag number, and one of an explicit tag, by BER and by DER. What the container calls is `step`:
+-- the kept parser's own promise, or one of the forms below.
 module _ {F O E : Type 0} (from_error_kind_gives : Bor (List ℕ) → ErrorKind → E → Type 0)
-    (from_gives : BerError → E → Type 0) (i : List ℕ) (step : F → Bor (List ℕ) → Header → Answered O E → F → Type 0) where
+    (from_gives : BerError → E → Type 0) (i : List ℕ)
+    (step : F → Bor (List ℕ) → Header → Answered O E → F → Type 0) where
   abbrev pub DerRun : F → Answered O E → F → Type 0
   DerRun = ContainerRun (OpensDer i) (RefusesDer from_error_kind_gives from_gives i) step
 
 module _ {F O E : Type 0} (n : ℕ) (from_error_kind_gives : Bor (List ℕ) → ErrorKind → E → Type 0)
-    (from_gives : BerError → E → Type 0) (i : List ℕ) (step : F → Bor (List ℕ) → Header → Answered O E → F → Type 0) where
+    (from_gives : BerError → E → Type 0) (i : List ℕ)
+    (step : F → Bor (List ℕ) → Header → Answered O E → F → Type 0) where
   abbrev pub BerNumberRun : F → Answered O E → F → Type 0
   BerNumberRun = ContainerRun (OpensBerNumber n i) (RefusesBerNumber from_error_kind_gives from_gives n i) step
 

@@ -1,5 +1,5 @@
--- The calls that a list parser makes of the parser of its items, and how they end. Of their lists BER and DER say the same
--- (X.690 8.10, 8.12).
+-- The calls that a list parser makes of the parser of its items, and how they end. Of their lists BER and DER say the
+-- same (X.690 8.10, 8.12).
 use Rattle.std.specs.Prelude.{◌≡◌, ℕ, ◌-◌, ◌<◌, ◌≤◌, List, [], ◌∷◌, ◌++◌, length, take, Result, Ok, Err}
 use Rattle.std.specs.Borrow.{Bor}
 use Rattle.std.specs.Global.{Vec}

@@ -3,16 +3,21 @@ ghost use Rattle.std.specs.Prelude.{◌≡◌, ℕ, Bool, List, IfErr, IfOk, Mat
 ghost use Rattle.der_base.specs.declared.header.Class.{Class};
 ghost use Rattle.der_base.specs.declared.error.Err.{Err};
 ghost use Rattle.der_base.specs.Answer.{MatchAnswer};
-ghost use Rattle.der_base.specs.Containers.{BerNumberRun, ContainerRun, HasShortContent, NoCall, OneCall, OpeningLacks};
+ghost use Rattle.der_base.specs.Containers.{BerNumberRun, ContainerRun, Made, NoCall, OnContent, OneCall};
+ghost use Rattle.der_base.specs.Containers.{HasShortContent, OpeningLacks};
 ghost use Rattle.der_base.specs.Containers.{OpensBer, OpensBerNumber, RefusesBer, RefusesBerNumber};
 ghost use Rattle.der_base.specs.ListSteps.{OnItems};
 ghost use Rattle.der_base.specs.Spelling.{BeginsWithElement, framing_budget};
+ghost use Rattle.der_object.specs.Combined.{IsSequenceOf, IsSetOf};
 ghost use Rattle.der_ber.specs.BerSlices.{AnswersSlice, ReadsSlice, SliceRefuses};
 
-use crate::opened::{Opened, parse_content, parse_items, with_number};
+use crate::opened::{
+    Opened, parse_content, parse_items, parse_list_content, with_number, with_sequence, with_set,
+};
 use der_base::any::Any;
 use der_base::error::{BerError, Err, ErrorKind, IResult, ParseError};
 use der_base::header::{Header, Length, Tag, ber_read_element_header};
+use der_object::BerObject;
 use std::alloc::Global;
 use std::marker::Model;
 
@@ -33,7 +38,7 @@ where
 }
 
 /// The same of an element of this tag number, of any class.
-fn open_number<'a, E>(i: &'a [u8], tag: Tag) -> Result<Opened<'a>, Err<E>>
+pub(crate) fn open_number<'a, E>(i: &'a [u8], tag: Tag) -> Result<Opened<'a>, Err<E>>
 where
     E: ParseError<&'a [u8]> + From<BerError>,
     ensures ok { IfOk result (λ x. OpensBerNumber tag.0 i.now x.0 x.1.now x.2.now) }
@@ -277,6 +282,82 @@ impl<F> BerSetOfV<F> {
             (OnItems E.from_error_kind_gives F.step) self.old result self.new }
     {
         parse_items(&mut self.f, open_number(i, Tag::Set), self.alloc)
+    }
+}
+
+/// A parser of a SEQUENCE object, which keeps the parser of its items.
+#[derive(Drop)]
+pub struct BerSequenceDefined<F> {
+    f: F,
+}
+
+impl<F> Model for BerSequenceDefined<F> {
+    ghost Value = { F };
+
+    ghost view = { λ c. c.f };
+}
+
+/// A parser of an element of the tag number 16, SEQUENCE, whose items `f` reads from its content
+/// (X.690 8.9).
+pub fn parse_ber_sequence_defined<'a, F, E>(f: F) -> BerSequenceDefined<F>
+where
+    F: FnMut(&'a [u8]) -> IResult<&'a [u8], Vec<BerObject<'a>>, E>,
+    ensures { result ≡ f }
+{
+    BerSequenceDefined { f }
+}
+
+impl<F> BerSequenceDefined<F> {
+    /// Reads as `BerSequenceDefinedG::parse`, and calls the kept parser on the content octets
+    /// alone. The answer is the SEQUENCE of its items, as `BerObject::from_seq` makes it.
+    pub fn parse<'a, E>(&mut self, i: &'a [u8]) -> IResult<&'a [u8], BerObject<'a>, E>
+    where
+        F: FnMut(&'a [u8]) -> IResult<&'a [u8], Vec<BerObject<'a>>, E>,
+        E: ParseError<&'a [u8]> + From<BerError>,
+        requires { F.IsAlwaysCallable self.old }
+        ensures callable { F.IsAlwaysCallable self.new }
+        ensures run { BerNumberRun 16 E.from_error_kind_gives E.from_gives i.now
+            (Made IsSequenceOf (OnContent F.step)) self.old result self.new }
+    {
+        with_sequence(parse_list_content(&mut self.f, open_number(i, Tag::Sequence)))
+    }
+}
+
+/// A parser of a SET object, which keeps the parser of its items.
+#[derive(Drop)]
+pub struct BerSetDefined<F> {
+    f: F,
+}
+
+impl<F> Model for BerSetDefined<F> {
+    ghost Value = { F };
+
+    ghost view = { λ c. c.f };
+}
+
+/// A parser of an element of the tag number 17, SET, whose items `f` reads from its content (X.690
+/// 8.11).
+pub fn parse_ber_set_defined<'a, F, E>(f: F) -> BerSetDefined<F>
+where
+    F: FnMut(&'a [u8]) -> IResult<&'a [u8], Vec<BerObject<'a>>, E>,
+    ensures { result ≡ f }
+{
+    BerSetDefined { f }
+}
+
+impl<F> BerSetDefined<F> {
+    /// Reads as `BerSetDefinedG::parse`, and calls the kept parser on the content octets alone. The
+    /// answer is the SET of its items, as `BerObject::from_set` makes it.
+    pub fn parse<'a, E>(&mut self, i: &'a [u8]) -> IResult<&'a [u8], BerObject<'a>, E>
+    where
+        F: FnMut(&'a [u8]) -> IResult<&'a [u8], Vec<BerObject<'a>>, E>,
+        E: ParseError<&'a [u8]> + From<BerError>,
+        requires { F.IsAlwaysCallable self.old }
+        ensures callable { F.IsAlwaysCallable self.new }
+        ensures run { BerNumberRun 17 E.from_error_kind_gives E.from_gives i.now
+            (Made IsSetOf (OnContent F.step)) self.old result self.new }
+    {
+        with_set(parse_list_content(&mut self.f, open_number(i, Tag::Set)))
     }
 }
 

@@ -2,12 +2,15 @@
 ghost use Rattle.std.specs.Prelude.{IfErr, IfOk, Result};
 ghost use Rattle.der_base.specs.Containers.{ContainerRun, OnContent, OnImplicit, OpensExplicit, OpensNumber};
 ghost use Rattle.der_base.specs.Containers.{RefusesExplicit, RefusesNumber};
-ghost use Rattle.der_base.specs.Inner.Opened.{IsOpened, IsUnopened};
+ghost use Rattle.der_base.specs.Inner.Opened.{IsOpened, IsUnopened, Remakes};
 ghost use Rattle.der_base.specs.ListSteps.{ListSteps, OnItems};
+ghost use Rattle.der_object.specs.declared.object.BerObjectContent.TheVariants.{Sequence, Set};
+ghost use Rattle.der_object.specs.Objects.{IsMadeOf};
 
 use der_base::MAX_RECURSION;
 use der_base::error::{BerError, Err, ErrorKind, IResult, ParseError};
 use der_base::header::{Class, Header, Length, Tag};
+use der_object::{BerObject, BerObjectContent};
 use std::alloc::Global;
 
 /// An element that was opened: its header, its content octets, and what follows it.
@@ -87,13 +90,13 @@ where
     }
 }
 
-/// The same on the content alone.
-pub fn parse_content_alone<'a, F, O, E>(
+/// The same on the content alone, where `f` answers a list of objects.
+pub fn parse_list_content<'a, F, E>(
     f: &mut F,
     opened: Result<Opened<'a>, Err<E>>,
-) -> IResult<&'a [u8], O, E>
+) -> IResult<&'a [u8], Vec<BerObject<'a>>, E>
 where
-    F: FnMut(&'a [u8]) -> IResult<&'a [u8], O, E>,
+    F: FnMut(&'a [u8]) -> IResult<&'a [u8], Vec<BerObject<'a>>, E>,
     requires { F.IsAlwaysCallable f.old }
     ensures callable { F.IsAlwaysCallable f.new }
     ensures run { ContainerRun (IsOpened opened.entry) (IsUnopened opened.entry) (OnContent F.step)
@@ -104,7 +107,7 @@ where
         Err(e) => return Err(e),
     };
     match f(content) {
-        Ok((_, value)) => return Ok((after, value)),
+        Ok((_, items)) => return Ok((after, items)),
         Err(e) => return Err(e),
     }
 }
@@ -195,5 +198,32 @@ where
             Err(Err::Failure(e)) => return Err(Err::Failure(e)),
             Err(Err::OutOfMemory) => return Err(Err::OutOfMemory),
         }
+    }
+}
+
+/// The answer with the SEQUENCE of its items in place of them.
+pub fn with_sequence<'a, E>(
+    answer: IResult<&'a [u8], Vec<BerObject<'a>>, E>,
+) -> IResult<&'a [u8], BerObject<'a>, E>
+    ensures { Remakes (λ v o. IsMadeOf (Sequence v) o) answer.entry result }
+{
+    match answer {
+        Ok((after, items)) => return Ok((
+            after,
+            BerObject::from_obj(BerObjectContent::Sequence(items)),
+        )),
+        Err(e) => return Err(e),
+    }
+}
+
+/// The answer with the SET of its items in place of them.
+pub fn with_set<'a, E>(
+    answer: IResult<&'a [u8], Vec<BerObject<'a>>, E>,
+) -> IResult<&'a [u8], BerObject<'a>, E>
+    ensures { Remakes (λ v o. IsMadeOf (Set v) o) answer.entry result }
+{
+    match answer {
+        Ok((after, items)) => return Ok((after, BerObject::from_obj(BerObjectContent::Set(items)))),
+        Err(e) => return Err(e),
     }
 }

@@ -1,5 +1,6 @@
 pub mod Bits
 pub mod Clones
+pub mod Combined
 pub mod Counting
 pub mod HeaderFacts
 pub mod Items
