@@ -6,10 +6,12 @@ use crate::rows;
 use crate::rows::{HasInput, Trial};
 use NumberType::{I32, I64, U32, U64};
 use der_parser::ber::{
-    BerObject, BerObjectContent, BitStringObject, Tag, parse_ber, parse_ber_i32, parse_ber_i64,
-    parse_ber_u32, parse_ber_u64,
+    Any, BerObject, BerObjectContent, BitStringObject, Tag, parse_ber, parse_ber_i32,
+    parse_ber_i64, parse_ber_u32, parse_ber_u64,
 };
-use der_parser::der::{parse_der_i32, parse_der_i64, parse_der_u32, parse_der_u64};
+use der_parser::der::{
+    parse_der_i32, parse_der_i64, parse_der_integer, parse_der_u32, parse_der_u64,
+};
 use der_parser::error::DerConstraint::{
     Constructed, IntegerEmpty, IntegerLeadingFF, IntegerLeadingZeroes,
 };
@@ -236,6 +238,16 @@ fn numbers_by_der(rt: HostRuntime) -> Result<(), Fail> {
             "{number_type:?} {text}"
         );
     }
+    Ok(())
+}
+
+/// The serial number behind the version of a certificate.
+#[test]
+fn serial_number_of_a_certificate(rt: HostRuntime) -> Result<(), Fail> {
+    let fields = octets(rt.alloc(), "a0 03 02 01 02 02 02 12 34")?;
+    let (behind, _version) = Any::from_der(&fields)?;
+    let (_, serial) = parse_der_integer(behind)?;
+    assert_eq!(rt; serial.as_u64()?, 4660);
     Ok(())
 }
 
