@@ -24,17 +24,21 @@ pub mod ber {
     pub use der_base::time::{ASN1DateTime, ASN1TimeZone, TimeText};
     pub use der_base::{MAX_OBJECT_SIZE, MAX_RECURSION};
     pub use der_ber::{
-        BerContainer, BerContent, BerContent2, BerSequenceDefinedG, BerSetDefinedG,
-        ber_read_element_content_as, parse_ber, parse_ber_any, parse_ber_any_r,
+        BerContainer, BerContent, BerContent2, BerSequenceDefined, BerSequenceDefinedG,
+        BerSequenceOfV, BerSetDefined, BerSetDefinedG, BerSetOfV, BerTaggedExplicitG,
+        BerTaggedImplicitG, ber_read_element_content_as, parse_ber, parse_ber_any, parse_ber_any_r,
         parse_ber_any_with_tag_r, parse_ber_bitstring, parse_ber_bmpstring, parse_ber_bool,
         parse_ber_container, parse_ber_content, parse_ber_content2, parse_ber_counted,
         parse_ber_endofcontent, parse_ber_enum, parse_ber_generalizedtime, parse_ber_generalstring,
         parse_ber_graphicstring, parse_ber_ia5string, parse_ber_integer, parse_ber_null,
         parse_ber_numericstring, parse_ber_objectdescriptor, parse_ber_octetstring, parse_ber_oid,
         parse_ber_printablestring, parse_ber_recursive, parse_ber_relative_oid, parse_ber_sequence,
-        parse_ber_sequence_defined_g, parse_ber_set, parse_ber_set_defined_g, parse_ber_slice,
-        parse_ber_t61string, parse_ber_universalstring, parse_ber_utctime, parse_ber_utf8string,
-        parse_ber_videotexstring, parse_ber_visiblestring, parse_ber_with_tag,
+        parse_ber_sequence_defined, parse_ber_sequence_defined_g, parse_ber_sequence_of_v,
+        parse_ber_set, parse_ber_set_defined, parse_ber_set_defined_g, parse_ber_set_of_v,
+        parse_ber_slice, parse_ber_t61string, parse_ber_tagged_explicit_g,
+        parse_ber_tagged_implicit_g, parse_ber_universalstring, parse_ber_utctime,
+        parse_ber_utf8string, parse_ber_videotexstring, parse_ber_visiblestring,
+        parse_ber_with_tag,
     };
     pub use der_object::{BerObject, BerObjectContent, BitStringObject};
 
@@ -53,16 +57,20 @@ pub mod der {
         der_header_counted, der_read_element_header,
     };
     pub use der_der::{
-        DerContent, DerContent2, der_read_element_content, der_read_element_content_as, parse_der,
-        parse_der_bitstring, parse_der_bmpstring, parse_der_bool, parse_der_content,
-        parse_der_content2, parse_der_counted, parse_der_endofcontent, parse_der_enum,
-        parse_der_generalizedtime, parse_der_generalstring, parse_der_graphicstring,
-        parse_der_ia5string, parse_der_integer, parse_der_null, parse_der_numericstring,
-        parse_der_objectdescriptor, parse_der_octetstring, parse_der_oid,
+        DerContainer, DerContent, DerContent2, DerSequenceDefined, DerSequenceDefinedG,
+        DerSequenceOfV, DerSetDefined, DerSetDefinedG, DerSetOfV, DerTaggedExplicitG,
+        DerTaggedImplicitG, der_read_element_content, der_read_element_content_as, parse_der,
+        parse_der_bitstring, parse_der_bmpstring, parse_der_bool, parse_der_container,
+        parse_der_content, parse_der_content2, parse_der_counted, parse_der_endofcontent,
+        parse_der_enum, parse_der_generalizedtime, parse_der_generalstring,
+        parse_der_graphicstring, parse_der_ia5string, parse_der_integer, parse_der_null,
+        parse_der_numericstring, parse_der_objectdescriptor, parse_der_octetstring, parse_der_oid,
         parse_der_printablestring, parse_der_recursive, parse_der_relative_oid, parse_der_sequence,
-        parse_der_set, parse_der_t61string, parse_der_universalstring, parse_der_utctime,
-        parse_der_utf8string, parse_der_videotexstring, parse_der_visiblestring,
-        parse_der_with_tag, visiblestring,
+        parse_der_sequence_defined, parse_der_sequence_defined_g, parse_der_sequence_of_v,
+        parse_der_set, parse_der_set_defined, parse_der_set_defined_g, parse_der_set_of_v,
+        parse_der_t61string, parse_der_tagged_explicit_g, parse_der_tagged_implicit_g,
+        parse_der_universalstring, parse_der_utctime, parse_der_utf8string,
+        parse_der_videotexstring, parse_der_visiblestring, parse_der_with_tag, visiblestring,
     };
     pub use der_object::{DerObject, DerObjectContent};
 }
