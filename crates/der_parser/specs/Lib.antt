@@ -16,6 +16,7 @@ pub use Rattle.der_base.specs.Headers
 pub use Rattle.der_base.specs.Leaf
 pub use Rattle.der_base.specs.LeafRefusal
 pub use Rattle.der_base.specs.LengthOctets
+pub use Rattle.der_base.specs.ListSteps
 pub use Rattle.der_base.specs.Listing
 pub use Rattle.der_base.specs.Numbers
 pub use Rattle.der_base.specs.Octets
@@ -32,6 +33,7 @@ pub use Rattle.der_base.specs.TreeEquality
 pub use Rattle.der_base.specs.Laws
 pub use Rattle.der_object.specs.Bits
 pub use Rattle.der_object.specs.Clones
+pub use Rattle.der_object.specs.Combined
 pub use Rattle.der_object.specs.Counting
 pub use Rattle.der_object.specs.HeaderFacts
 pub use Rattle.der_object.specs.Items

@@ -1,10 +1,16 @@
 -- By DER: the element that begins the input, and what a container refuses.
-use Rattle.std.proofs.Common.{◌≡◌, ℕ, List, ◌++◌, length, Bor, sym, ap, ◌∙◌, arith, length-append}
+use Rattle.std.proofs.Common.{◌≡◌, ℕ, ◌<◌, List, ◌++◌, length, Err, Bor, sym, ap, ◌∙◌, arith, length-append}
 use Rattle.der_base.specs.declared.error.Err.{Err as Refused}
+use Rattle.der_base.specs.declared.error.Err.TheVariants.{Incomplete, Error, Failure, OutOfMemory}
 use Rattle.der_base.specs.declared.error.Error.{Error as BerError}
 use Rattle.der_base.specs.declared.error.ErrorKind.{ErrorKind}
+use Rattle.der_base.specs.declared.error.Needed.TheVariants.{Unknown, Size}
 use Rattle.der_base.specs.declared.header.Header.{Header}
 use Rattle.der_base.specs.declared.header.Length.TheVariants.{Definite}
+use Rattle.der_base.specs.Answer.{MatchAnswer}
+use Rattle.der_base.specs.Errors.{MapsError}
+use Rattle.der_base.specs.Fault.{DerHeaderRefuses}
+use Rattle.der_base.specs.Headers.{ReadsDerHeader, DerHeaderLacks}
 use Rattle.der_base.specs.Header.{IsHeader, class_of, is_constructed, number_of, length_of, raw_tag_of}
 use Rattle.der_base.specs.Refusal.{refusal}
 use Rattle.der_base.specs.Containers.{OpensDer, HasShortDerContent, RefusesDer, RefusesDerNumber, OpensDerNumber, OpensExplicit, RefusesExplicit, faulty, cut, too_short, unopened, universal, other_number, primitive}
@@ -27,6 +33,22 @@ der_opens_same i w w' after after' h h' o o' =
 
 pub short_der_same : (i v v' : List ℕ) → HasShortDerContent i v → HasShortDerContent i v' → v ≡ v'
 short_der_same i v v' (c, p, t, n, h, l) (c', p', t', n', h', l') = (der_header_same i v v' c c' p p' t t' n n' h h').rest
+
+-- a content is short by the header that is read
+pub short_der_behind : (i v : List ℕ) (h : Header) (n : ℕ) → ReadsDerHeader i h v → length_of h ≡ Definite n → length v < n → HasShortDerContent i v
+short_der_behind i v h n r l s =
+    let e : Definite r.size ≡ Definite n = sym r.length ∙ l in
+    let q : r.size ≡ n = cc in
+    (class_of h, is_constructed h, number_of h, r.size, r.begins, omega (arith, q, s))
+
+-- a refusal of the definition, as it is told in place of another error
+pub converted_der : {E T : Type 0} (P : T → Type 0) (from_error_kind_gives : Bor (List ℕ) → ErrorKind → E → Type 0) (from_gives : BerError → E → Type 0) (i : List ℕ) (e : Refused BerError) (r : Refused E)
+    → MatchAnswer (Err e) P (DerHeaderRefuses i) (DerHeaderLacks i) ⊥ → MapsError from_gives e r → RefusesDer from_error_kind_gives from_gives i r
+converted_der P k g i (Error e) r h (x, q, m) = rw m (faulty h q)
+converted_der P k g i (Incomplete (Size n)) r h m = rw m (cut h)
+converted_der P k g i (Incomplete Unknown) r h m = absurd h
+converted_der P k g i (Failure e) r h m = absurd h
+converted_der P k g i OutOfMemory r h m = absurd h
 
 module _ {E : Type 0} {from_error_kind_gives : Bor (List ℕ) → ErrorKind → E → Type 0} {from_gives : BerError → E → Type 0} where
   -- an element in front is not refused
