@@ -214,7 +214,7 @@ impl<F> Model for BerSequenceOfV<F> {
 
 /// A parser of an element of the tag number 16, SEQUENCE, that reads its content by `f`, value
 /// after value (X.690 8.10).
-pub fn parse_ber_sequence_of_v<'a, F, O, E>(f: F, alloc: Global) -> BerSequenceOfV<F>
+pub fn parse_ber_sequence_of_v<'a, F, O, E>(alloc: Global, f: F) -> BerSequenceOfV<F>
 where
     F: FnMut(&'a [u8]) -> IResult<&'a [u8], O, E>,
     ensures { result ≡ f }
@@ -242,7 +242,7 @@ impl<F> BerSequenceOfV<F> {
         ensures run { BerNumberRun 16 E.from_error_kind_gives E.from_gives i.now
             (OnItems E.from_error_kind_gives F.step) self.old result self.new }
     {
-        parse_items(&mut self.f, open_number(i, Tag::Sequence), self.alloc)
+        parse_items(self.alloc, &mut self.f, open_number(i, Tag::Sequence))
     }
 }
 
@@ -261,7 +261,7 @@ impl<F> Model for BerSetOfV<F> {
 
 /// A parser of an element of the tag number 17, SET, that reads its content by `f`, value
 /// after value (X.690 8.12).
-pub fn parse_ber_set_of_v<'a, F, O, E>(f: F, alloc: Global) -> BerSetOfV<F>
+pub fn parse_ber_set_of_v<'a, F, O, E>(alloc: Global, f: F) -> BerSetOfV<F>
 where
     F: FnMut(&'a [u8]) -> IResult<&'a [u8], O, E>,
     ensures { result ≡ f }
@@ -281,7 +281,7 @@ impl<F> BerSetOfV<F> {
         ensures run { BerNumberRun 17 E.from_error_kind_gives E.from_gives i.now
             (OnItems E.from_error_kind_gives F.step) self.old result self.new }
     {
-        parse_items(&mut self.f, open_number(i, Tag::Set), self.alloc)
+        parse_items(self.alloc, &mut self.f, open_number(i, Tag::Set))
     }
 }
 

@@ -139,9 +139,9 @@ where
 /// Calls `f` on the content of an element that was opened, and again on what each call leaves, or
 /// passes on why none was. The values are answered in their order.
 pub fn parse_items<'a, F, O, E>(
+    alloc: Global,
     f: &mut F,
     opened: Result<Opened<'a>, Err<E>>,
-    alloc: Global,
 ) -> IResult<&'a [u8], Vec<O>, E>
 where
     F: FnMut(&'a [u8]) -> IResult<&'a [u8], O, E>,
@@ -156,7 +156,7 @@ where
         Ok(parts) => parts,
         Err(e) => return Err(e),
     };
-    match read_items(f, content, alloc) {
+    match read_items(alloc, f, content) {
         Ok(values) => return Ok((after, values)),
         Err(e) => return Err(e),
     }
@@ -165,7 +165,7 @@ where
 /// Calls `f` on `content`, and again on what each call leaves, until it answers Incomplete. Octets
 /// that are left then are Eof. An Error of `f` is a Failure; its Failure and OutOfMemory pass. A
 /// rest that isn't shorter is Many0.
-fn read_items<'a, F, O, E>(f: &mut F, content: &'a [u8], alloc: Global) -> Result<Vec<O>, Err<E>>
+fn read_items<'a, F, O, E>(alloc: Global, f: &mut F, content: &'a [u8]) -> Result<Vec<O>, Err<E>>
 where
     F: FnMut(&'a [u8]) -> IResult<&'a [u8], O, E>,
     O: Drop,

@@ -178,7 +178,7 @@ impl<F> Model for DerSequenceOfV<F> {
 
 /// A parser of an element of the tag number 16, SEQUENCE, that reads its content by `f`, value
 /// after value (X.690 8.10).
-pub fn parse_der_sequence_of_v<'a, F, O, E>(f: F, alloc: Global) -> DerSequenceOfV<F>
+pub fn parse_der_sequence_of_v<'a, F, O, E>(alloc: Global, f: F) -> DerSequenceOfV<F>
 where
     F: FnMut(&'a [u8]) -> IResult<&'a [u8], O, E>,
     ensures { result ≡ f }
@@ -198,7 +198,7 @@ impl<F> DerSequenceOfV<F> {
         ensures run { DerNumberRun 16 E.from_error_kind_gives E.from_gives i.now
             (OnItems E.from_error_kind_gives F.step) self.old result self.new }
     {
-        parse_items(&mut self.f, open_number(i, Tag::Sequence), self.alloc)
+        parse_items(self.alloc, &mut self.f, open_number(i, Tag::Sequence))
     }
 }
 
@@ -217,7 +217,7 @@ impl<F> Model for DerSetOfV<F> {
 
 /// A parser of an element of the tag number 17, SET, that reads its content by `f`, value after
 /// value (X.690 8.12).
-pub fn parse_der_set_of_v<'a, F, O, E>(f: F, alloc: Global) -> DerSetOfV<F>
+pub fn parse_der_set_of_v<'a, F, O, E>(alloc: Global, f: F) -> DerSetOfV<F>
 where
     F: FnMut(&'a [u8]) -> IResult<&'a [u8], O, E>,
     ensures { result ≡ f }
@@ -238,7 +238,7 @@ impl<F> DerSetOfV<F> {
         ensures run { DerNumberRun 17 E.from_error_kind_gives E.from_gives i.now
             (OnItems E.from_error_kind_gives F.step) self.old result self.new }
     {
-        parse_items(&mut self.f, open_number(i, Tag::Set), self.alloc)
+        parse_items(self.alloc, &mut self.f, open_number(i, Tag::Set))
     }
 }
 
