@@ -3,5 +3,6 @@ pub mod Counts
 pub mod Forms
 pub mod Items
 pub mod ReadingLaws
+pub mod Slices
 pub mod TypedLaws
 pub mod TypedRead

@@ -4,6 +4,9 @@ ghost use Rattle.std.specs.Prelude.{◌≡◌, IfErr, IfOk};
 ghost use Rattle.der_base.specs.Containers.{DerNumberRun, DerRun, Made, OnContent};
 ghost use Rattle.der_base.specs.Containers.{OpensDer, OpensDerNumber, RefusesDer, RefusesDerNumber};
 ghost use Rattle.der_base.specs.ListSteps.{OnItems};
+ghost use Rattle.der_base.specs.Answer.{MatchAnswer};
+ghost use Rattle.der_base.specs.Headers.{DerHeaderLacks};
+ghost use Rattle.der_der.specs.DerSlices.{AnswersDerSlice, DerSliceRefuses, ReadsDerSlice};
 ghost use Rattle.der_object.specs.Combined.{IsSequenceOf, IsSetOf};
 
 use der_base::error::{BerError, Err, ErrorKind, IResult, ParseError};
@@ -314,4 +317,27 @@ impl<F> DerSetDefined<F> {
     {
         with_set(parse_list_content(&mut self.f, open_number(i, Tag::Set)))
     }
+}
+
+/// Reads the content octets of an element of this tag number, of any class, as they stand, and
+/// answers what follows the element.
+///
+/// Refusals, in this order: those of `DerContainer::parse`; UnexpectedTag where the number is
+/// another one. Incomplete where the input ends within the header. It takes no memory.
+pub fn parse_der_slice<'a>(i: &'a [u8], tag: Tag) -> IResult<&'a [u8], &'a [u8], BerError>
+    ensures { AnswersDerSlice tag.0 i.now result }
+{
+    read_slice(i, tag)
+}
+
+fn read_slice<'a>(i: &'a [u8], tag: Tag) -> IResult<&'a [u8], &'a [u8], BerError>
+    ensures { MatchAnswer result
+        (λ x. ReadsDerSlice tag.0 i.now x.1.now x.0.now)
+        (DerSliceRefuses tag.0 i.now)
+        (DerHeaderLacks i.now)
+        ⊥ }
+{
+    let (header, content, after) = open_element(i)?;
+    header.assert_tag(tag)?;
+    Ok((after, content))
 }

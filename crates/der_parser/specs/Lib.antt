@@ -47,4 +47,5 @@ pub use Rattle.der_ber.specs.BerSlices
 pub use Rattle.der_ber.specs.Laws as BerLaws
 pub use Rattle.der_der.specs.DerContents
 pub use Rattle.der_der.specs.DerReading
+pub use Rattle.der_der.specs.DerSlices
 pub use Rattle.der_der.specs.Laws as DerLaws

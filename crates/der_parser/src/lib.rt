@@ -71,10 +71,11 @@ pub mod der {
         parse_der_octetstring, parse_der_oid, parse_der_printablestring, parse_der_recursive,
         parse_der_relative_oid, parse_der_sequence, parse_der_sequence_defined,
         parse_der_sequence_defined_g, parse_der_sequence_of_v, parse_der_set,
-        parse_der_set_defined, parse_der_set_defined_g, parse_der_set_of_v, parse_der_t61string,
-        parse_der_tagged_explicit_g, parse_der_tagged_implicit_g, parse_der_u32, parse_der_u64,
-        parse_der_universalstring, parse_der_utctime, parse_der_utf8string,
-        parse_der_videotexstring, parse_der_visiblestring, parse_der_with_tag, visiblestring,
+        parse_der_set_defined, parse_der_set_defined_g, parse_der_set_of_v, parse_der_slice,
+        parse_der_t61string, parse_der_tagged_explicit_g, parse_der_tagged_implicit_g,
+        parse_der_u32, parse_der_u64, parse_der_universalstring, parse_der_utctime,
+        parse_der_utf8string, parse_der_videotexstring, parse_der_visiblestring,
+        parse_der_with_tag, visiblestring,
     };
     pub use der_object::{DerObject, DerObjectContent};
 }
