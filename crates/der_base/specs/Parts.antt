@@ -2,11 +2,12 @@
 use Rattle.std.specs.Prelude.{◌≡◌, ℕ, Bool, List, Option, Some, None, Result, Ok, Err, if◌then◌else◌}
 use Rattle.der_base.specs.declared.error.Err.{Err as Refused}
 use Rattle.der_base.specs.declared.error.Error.{Error as BerError}
+use Rattle.der_base.specs.declared.header.Class.{Class}
 use Rattle.der_base.specs.Answer.{AnswersOkOr, AnswersError}
 use Rattle.der_base.specs.Refusal.{refusal, wrong_type}
 use Rattle.der_base.specs.Text.{is_text_type}
-use Rattle.der_base.specs.Tree.{Content, boolean, integer, bit_string, string, object_identifier, relative_oid}
-use Rattle.der_base.specs.Tree.{sequence, set, unknown, Nodes}
+use Rattle.der_base.specs.Tree.{Node, Content, boolean, integer, bit_string, string, object_identifier, relative_oid}
+use Rattle.der_base.specs.Tree.{sequence, set, absent, present, tagged, unknown, Nodes}
 
 -- the value of a BOOLEAN (X.690 8.2)
 abbrev pub boolean_part : Content → Option Bool
@@ -47,6 +48,17 @@ sequence_part _ = None
 abbrev pub set_part : Content → Option Nodes
 set_part (set l) = Some l
 set_part _ = None
+
+-- of an object that may be absent, the object where it is there
+abbrev pub optional_part : Content → Option (Option Node)
+optional_part absent = Some None
+optional_part (present o) = Some (Some o)
+optional_part _ = None
+
+-- of a tagged object, the class and the number of the tag, and the object inside (8.14)
+abbrev pub tagged_part : Content → Option (Class × ℕ × Node)
+tagged_part (tagged c t o) = Some (c, t, o)
+tagged_part _ = None
 
 -- the answer of an accessor, seen by `view`: Ok of the part, or the refusal where there is none
 abbrev pub AnswersPart : {T V : Type 0} → (T → V) → Option V → Result T BerError → Type 0

@@ -11,8 +11,8 @@ use Rattle.der_base.specs.Header.{length_of}
 use Rattle.der_base.specs.Leaf.{IsLeafContent}
 use Rattle.der_base.specs.Spelling.{no_forms, forms}
 use Rattle.der_object.specs.declared.object.BerObject.{BerObject}
-use Rattle.der_object.specs.declared.object.BerObjectContent.{BerObjectContent, Row_of-BerObject, end_of-BerObject, more_of-BerObject, items-the_row-BerObject}
-use Rattle.der_object.specs.declared.object.BerObjectContent.TheVariants.{Sequence, Set, Sequence', Set', Unknown}
+use Rattle.der_object.specs.declared.object.BerObjectContent.{BerObjectContent, Row_of-BerObject, end_of-BerObject, more_of-BerObject, items-the_row-BerObject, None', Some'}
+use Rattle.der_object.specs.declared.object.BerObjectContent.TheVariants.{Sequence, Set, Sequence', Set', Optional', Tagged', Unknown}
 use Rattle.der_object.specs.declared.object.BerObjectContent.TheBlock.{hidden-the_row-BerObject-0, items_hidden-the_row-BerObject-0}
 use Rattle.der_object.specs.HeaderFacts.{inner_forms, row_forms, form_of, forms_of, EachInside, EachInRow, EachHeader, HasRawTag, KeepsHeader, HasRawTagAndHeader, HasDerHeader, EachHasRawTagAndHeader, EachHasDerHeader}
 use Rattle.der_object.specs.View.{content_tree, trees}
@@ -65,6 +65,9 @@ module _ (P : Header → BerObjectContent → Type 0) where
   pub leaf_each : (p : Bool) (t : ℕ) (w : List ℕ) (x : BerObjectContent) → IsLeafContent p t w (content_tree x) → EachInside P x
   leaf_each p t w (Sequence' shape row) h = absurd h
   leaf_each p t w (Set' shape row) h = absurd h
+  leaf_each p t w (Optional' None') h = tt
+  leaf_each p t w (Optional' (Some' b i x)) h = absurd h
+  leaf_each p t w (Tagged' c n b i x) h = absurd h
   leaf_each p t w _ h = tt
 
   -- one more item

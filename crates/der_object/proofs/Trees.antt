@@ -1,22 +1,22 @@
 -- The trees of lists of objects.
-use Rattle.std.proofs.Common.{◌≡◌, ◌≢◌, ℕ, zero, suc, ◌+◌, ◌-◌, ◌<◌, ◌≤◌, Bool, true, false, ◌&&◌, List, [], ◌∷◌, ◌++◌, length, drop, get_or, refl, sym, ap, ◌∙◌, arith, append_assoc, length-append}
+use Rattle.std.proofs.Common.{Some, None, Option, ◌≡◌, ◌≢◌, ℕ, zero, suc, ◌+◌, ◌-◌, ◌<◌, ◌≤◌, Bool, true, false, ◌&&◌, List, [], ◌∷◌, ◌++◌, length, drop, get_or, refl, sym, ap, ◌∙◌, arith, append_assoc, length-append}
 use Rattle.std.proofs.Math.ListN.{drop_of_length-le}
 use Rattle.std.proofs.lemmas.List.{append-nil, drop_more}
 use Rattle.std.specs.declared.vec.Vec.{Vec}
 use Rattle.std.specs.declared.alloc.Global.{Global}
+use Rattle.std.specs.Global.{Box}
+use Rattle.der_base.specs.declared.header.Class.{Class}
 use Rattle.der_base.specs.declared.header.Header.{Header}
+use Rattle.der_base.specs.declared.header.Tag.{Tag}
 use Rattle.der_base.specs.Encoding.{encoding, encodings, content_octets, element}
 use Rattle.der_base.specs.Header.{class_of, is_constructed, number_of}
 use Rattle.der_base.specs.Octets.{identifier, shortest_length}
 use Rattle.der_base.specs.TreeEquality.{same_node, same_content, same_nodes}
 use Rattle.der_base.specs.Tree.{sequence, set, Nodes, no_nodes, nodes}
 use Rattle.der_object.specs.declared.object.BerObject.{BerObject}
-use Rattle.der_object.specs.declared.object.BerObjectContent.{BerObjectContent, roll-BerObjectContent, roll-out-BerObjectContent, Row_of-BerObject, end_of-BerObject, more_of-BerObject, items-the_row-BerObject}
-use Rattle.der_object.specs.declared.object.BerObjectContent.TheVariants.{Null, Boolean, BitString, Enum, UTCTime, GeneralizedTime, Sequence, Set, Sequence', Set', outs-Sequence', outs-Set', rolls-Sequence, rolls-Set}
+use Rattle.der_object.specs.declared.object.BerObjectContent.{BerObjectContent, roll-BerObjectContent, roll-out-BerObjectContent, Row_of-BerObject, end_of-BerObject, more_of-BerObject, items-the_row-BerObject, Held-BerObjectContent-Optional-0, None', Some'}
+use Rattle.der_object.specs.declared.object.BerObjectContent.TheVariants.{Null, Optional, Tagged, Sequence, Set, Optional', Tagged', Sequence', Set', outs-Sequence', outs-Set', rolls-Sequence, rolls-Set}
 use Rattle.der_object.specs.declared.object.BerObjectContent.TheBlock.{hidden-the_row-BerObject-0, items_hidden-the_row-BerObject-0, shown-the_row-BerObject-0}
-use Rattle.der_object.specs.declared.bit_string.BitStringObject.{BitStringObject}
-use Rattle.der_base.specs.declared.time.ASN1DateTime.{ASN1DateTime}
-use Rattle.der_object.specs.Objects.{kept_octets}
 use Rattle.der_object.specs.View.{node_of, tree, content_tree, row_tree, trees}
 
 row_trees : {m : _} (k : Row_of-BerObject m) → row_tree k ≡ trees (items-the_row-BerObject m k)
@@ -58,17 +58,30 @@ other_length (x ∷ xs) [] h = refl
 other_length (x ∷ xs) (y ∷ ys) h =
     sym (ap (λ r. same_node (tree x) (tree y) && r) (sym (other_length xs ys (λ e. h (ap suc e)))) ∙ and_false (same_node (tree x) (tree y)))
 
--- an object is written as an element (two cases, so that all are told apart)
-pub plain_encoding : (h : Header) (x : BerObjectContent) → encoding (node_of h (content_tree x)) ≡ element (class_of h) (is_constructed h) (number_of h) (content_octets (content_tree x))
-plain_encoding h Null = refl
-plain_encoding h _ = refl
+abbrev pub NotOptional : BerObjectContent → Type 0
+NotOptional x = (held : Option (Box BerObject)) → x ≡ Optional held → ⊥
 
-pub encoding_length : (h : Header) (x : BerObjectContent) → let n = length (content_octets (content_tree x)) in
+abbrev pub NotTagged : BerObjectContent → Type 0
+NotTagged x = (c : Class) (t : Tag) (b : Box BerObject) → x ≡ Tagged c t b → ⊥
+
+not_held : (held : Held-BerObjectContent-Optional-0) → NotOptional (Optional' held) → ⊥
+not_held None' f = f None refl
+not_held (Some' b h x) f = f (Some _) refl
+
+-- an object that is no optional or tagged one is written as an element (two cases, so that all are told apart)
+pub plain_encoding : (h : Header) (x : BerObjectContent) → NotOptional x → NotTagged x
+    → encoding (node_of h (content_tree x)) ≡ element (class_of h) (is_constructed h) (number_of h) (content_octets (content_tree x))
+plain_encoding h (Optional' held) f g = absurd (not_held held f)
+plain_encoding h (Tagged' c t b i x) f g = absurd (g c t _ refl)
+plain_encoding h Null f g = refl
+plain_encoding h _ f g = refl
+
+pub encoding_length : (h : Header) (x : BerObjectContent) → NotOptional x → NotTagged x → let n = length (content_octets (content_tree x)) in
     length (encoding (node_of h (content_tree x))) ≡ length (identifier (class_of h) (is_constructed h) (number_of h)) + length (shortest_length n) + n
-encoding_length h x =
+encoding_length h x f g =
     let w = content_octets (content_tree x) in
     let front = identifier (class_of h) (is_constructed h) (number_of h) in
-    ap length (plain_encoding h x) ∙ length-append (front ++ shortest_length (length w)) w ∙ ap (λ m. m + length w) (length-append front (shortest_length (length w)))
+    ap length (plain_encoding h x f g) ∙ length-append (front ++ shortest_length (length w)) w ∙ ap (λ m. m + length w) (length-append front (shortest_length (length w)))
 
 -- the item in front of the place i
 pub item_before : (os : List BerObject) (i : ℕ) (o : BerObject) → 0 < i → i ≤ length os → o ≡ get_or os (i - 1) o → trees (drop (i - 1) os) ≡ nodes (tree o) (trees (drop i os))
@@ -102,10 +115,14 @@ every_set shape row =
 -- what is no SEQUENCE has another tree than one
 pub not_sequence : (x : BerObjectContent) (l : Nodes) → ((v : Vec BerObject Global) → x ≡ Sequence v → ⊥) → false ≡ same_content (sequence l) (content_tree x)
 not_sequence (Sequence' shape row) l h = absurd (h (shown-the_row-BerObject-0 shape row) (every_sequence shape row))
+not_sequence (Optional' None') l h = refl
+not_sequence (Optional' (Some' b i x)) l h = refl
 not_sequence _ l h = refl
 
 pub not_set : (x : BerObjectContent) (l : Nodes) → ((v : Vec BerObject Global) → x ≡ Set v → ⊥) → false ≡ same_content (set l) (content_tree x)
 not_set (Set' shape row) l h = absurd (h (shown-the_row-BerObject-0 shape row) (every_set shape row))
+not_set (Optional' None') l h = refl
+not_set (Optional' (Some' b i x)) l h = refl
 not_set _ l h = refl
 
 -- lists have the same tree where their items have
@@ -116,16 +133,3 @@ same_sequences x y v w xs ys e f g h = rw (e, f, g, h, sequence_tree v, sequence
 pub same_sets : (x y : BerObjectContent) (v w : Vec BerObject Global) (xs ys : List BerObject) → x ≡ Set v → y ≡ Set w → xs ≡ v.items → ys ≡ w.items
     → same_nodes (trees xs) (trees ys) ≡ same_content (content_tree x) (content_tree y)
 same_sets x y v w xs ys e f g h = rw (e, f, g, h, set_tree v, set_tree w) refl
-
--- all other contents keep their octets
-pub kept_all : (x : BerObjectContent) → ((b : Bool) → x ≡ Boolean b → ⊥) → ((u : ℕ) (w : BitStringObject) → x ≡ BitString u w → ⊥) → ((n : ℕ) → x ≡ Enum n → ⊥)
-    → ((v : Vec BerObject Global) → x ≡ Sequence v → ⊥) → ((v : Vec BerObject Global) → x ≡ Set v → ⊥) → ((t : ASN1DateTime) → x ≡ UTCTime t → ⊥) → ((t : ASN1DateTime) → x ≡ GeneralizedTime t → ⊥)
-    → kept_octets (content_tree x) ≡ content_octets (content_tree x)
-kept_all (Boolean b) f g h i j k l = absurd (f b refl)
-kept_all (BitString u w) f g h i j k l = absurd (g u w refl)
-kept_all (Enum n) f g h i j k l = absurd (h n refl)
-kept_all (Sequence' shape row) f g h i j k l = absurd (i (shown-the_row-BerObject-0 shape row) (every_sequence shape row))
-kept_all (Set' shape row) f g h i j k l = absurd (j (shown-the_row-BerObject-0 shape row) (every_set shape row))
-kept_all (UTCTime t) f g h i j k l = absurd (k t refl)
-kept_all (GeneralizedTime t) f g h i j k l = absurd (l t refl)
-kept_all _ f g h i j k l = refl

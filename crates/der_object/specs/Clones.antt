@@ -1,20 +1,28 @@
 -- Copies of objects.
-use Rattle.std.specs.Prelude.{◌≡◌, ◌≢◌, ◌⊎◌, List, [], ◌∷◌, ◌++◌}
+use Rattle.std.specs.Prelude.{◌≡◌, ◌≢◌, ◌⊎◌, None, List, [], ◌∷◌, ◌++◌}
 use Rattle.der_base.specs.declared.header.Header.{Header}
 use Rattle.der_object.specs.declared.object.BerObject.{BerObject}
 use Rattle.der_object.specs.declared.object.BerObjectContent.{BerObjectContent, Row_of-BerObject, end_of-BerObject}
-use Rattle.der_object.specs.declared.object.BerObjectContent.{more_of-BerObject}
-use Rattle.der_object.specs.declared.object.BerObjectContent.TheVariants.{Sequence', Set', Unknown}
-use Rattle.der_object.specs.Items.{items_of, OwnsIdentifier}
+use Rattle.der_object.specs.declared.object.BerObjectContent.{more_of-BerObject, None', Some'}
+use Rattle.der_object.specs.declared.object.BerObjectContent.{Held-BerObjectContent-Optional-0}
+use Rattle.der_object.specs.declared.object.BerObjectContent.TheVariants.{Sequence', Set', Optional', Tagged', Unknown}
+use Rattle.der_object.specs.Items.{items_of, inner_object, OwnsIdentifier}
 use Rattle.der_object.specs.View.{tree, content_tree, trees}
 
 abbrev mutual
-  -- the headers of the items at any depth, in the order in which they stand, and those that unknown contents keep
+  -- The headers of the items and of objects inside tagged and optional ones, at any depth, in the order in which they
+  -- stand, and those that unknown contents keep.
   pub inner_headers : BerObjectContent → List Header
   inner_headers (Sequence' shape row) = row_headers row
   inner_headers (Set' shape row) = row_headers row
+  inner_headers (Optional' held) = held_headers held
+  inner_headers (Tagged' c t b h x) = h ∷ inner_headers x
   inner_headers (Unknown a) = a.header ∷ []
   inner_headers _ = []
+
+  pub held_headers : Held-BerObjectContent-Optional-0 → List Header
+  held_headers None' = []
+  held_headers (Some' b h x) = h ∷ inner_headers x
 
   pub row_headers : {m : _} → Row_of-BerObject m → List Header
   row_headers end_of-BerObject = []
@@ -42,6 +50,6 @@ pub record AreCopiesOf (os copies : List BerObject) : Type 0 where
   pub list : trees copies ≡ trees os
   pub headers : all_headers copies ≡ all_headers os
 
--- a copy of the content takes memory: a list has items, or an identifier owns its octets
+-- a copy of the content takes memory: a list has items, an object is inside, or an identifier owns its octets
 abbrev pub CopyTakesMemory : BerObjectContent → Type 0
-CopyTakesMemory x = (items_of x ≢ []) ⊎ OwnsIdentifier x
+CopyTakesMemory x = (items_of x ≢ []) ⊎ (inner_object x ≢ None) ⊎ OwnsIdentifier x

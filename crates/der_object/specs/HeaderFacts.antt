@@ -8,8 +8,9 @@ use Rattle.der_base.specs.Octets.{identifier}
 use Rattle.der_base.specs.Spelling.{Form, form, Forms, no_forms, forms}
 use Rattle.der_object.specs.declared.object.BerObject.{BerObject}
 use Rattle.der_object.specs.declared.object.BerObjectContent.{BerObjectContent, Row_of-BerObject, end_of-BerObject}
-use Rattle.der_object.specs.declared.object.BerObjectContent.{more_of-BerObject}
-use Rattle.der_object.specs.declared.object.BerObjectContent.TheVariants.{Sequence', Set', Unknown}
+use Rattle.der_object.specs.declared.object.BerObjectContent.{more_of-BerObject, None', Some'}
+use Rattle.der_object.specs.declared.object.BerObjectContent.{Held-BerObjectContent-Optional-0}
+use Rattle.der_object.specs.declared.object.BerObjectContent.TheVariants.{Sequence', Set', Optional', Tagged', Unknown}
 use Rattle.der_object.specs.View.{content_tree}
 
 abbrev mutual
@@ -32,11 +33,18 @@ forms_of [] = no_forms
 forms_of (o ∷ os) = forms (form_of o) (forms_of os)
 
 abbrev mutual
-  -- the fact holds of each item's header and content, at any depth
+  -- The fact holds of the header and content of each item, and of an object inside a tagged or optional one, at any
+  -- depth.
   pub EachInside : (Header → BerObjectContent → Type 0) → BerObjectContent → Type 0
   EachInside P (Sequence' shape row) = EachInRow P row
   EachInside P (Set' shape row) = EachInRow P row
+  EachInside P (Optional' held) = EachHeld P held
+  EachInside P (Tagged' c t b h x) = P h x × EachInside P x
   EachInside P _ = Unit {0}
+
+  pub EachHeld : (Header → BerObjectContent → Type 0) → Held-BerObjectContent-Optional-0 → Type 0
+  EachHeld P None' = Unit {0}
+  EachHeld P (Some' b h x) = P h x × EachInside P x
 
   pub EachInRow : {m : _} → (Header → BerObjectContent → Type 0) → Row_of-BerObject m → Type 0
   EachInRow P end_of-BerObject = Unit {0}

@@ -1,22 +1,27 @@
 -- The items of an object.
-use Rattle.std.specs.Prelude.{◌≡◌, ℕ, ◌<◌, Option, Some, List, [], ◌∷◌, length, slice_get, Result, IfOk}
+use Rattle.std.specs.Prelude.{◌≡◌, ℕ, ◌<◌, Option, Some, None, List, [], ◌∷◌, length, slice_get, Result, IfOk}
 use Rattle.std.specs.Borrow.{Bor}
+use Rattle.std.specs.Option.{option_copied}
 use Rattle.std.specs.Slice.Iter.{iter_rest}
 use Rattle.std.specs.Vec.Iter.{into_iter_items}
 use Rattle.std.specs.declared.vec.Vec.{Vec}
 use Rattle.std.specs.declared.alloc.Global.{Global}
 use Rattle.der_base.specs.declared.error.Error.{Error as BerError}
+use Rattle.der_base.specs.declared.header.Class.{Class}
+use Rattle.der_base.specs.declared.header.Tag.{Tag}
 use Rattle.der_base.specs.Oids.{IsBorrowed}
-use Rattle.der_base.specs.Parts.{AnswersPart}
-use Rattle.der_base.specs.Tree.{Content, Nodes}
+use Rattle.der_base.specs.Parts.{AnswersPart, optional_part, tagged_part}
+use Rattle.der_base.specs.Tree.{Node, Content, Nodes}
 use Rattle.der_object.specs.declared.object.BerObject.{BerObject}
 use Rattle.der_object.specs.declared.object.BerObjectContent.{BerObjectContent, items-the_row-BerObject}
+use Rattle.der_object.specs.declared.object.BerObjectContent.{Held-BerObjectContent-Optional-0, None', Some'}
 use Rattle.der_object.specs.declared.object.BerObjectContent.TheVariants.{OID, RelativeOID, Sequence', Set'}
+use Rattle.der_object.specs.declared.object.BerObjectContent.TheVariants.{Optional', Tagged'}
 use Rattle.der_object.specs.declared.iterators.BerObjectRefIterator.{BerObjectRefIterator}
 use Rattle.der_object.specs.declared.iterators.BerObjectIntoIterator.{BerObjectIntoIterator}
 use Rattle.der_object.specs.declared.iterators.Left.{Left}
 use Rattle.der_object.specs.declared.iterators.Left.TheVariants.{Items, Itself, Nothing}
-use Rattle.der_object.specs.View.{content_tree, trees}
+use Rattle.der_object.specs.View.{content_tree, tree, trees}
 
 -- the items of a SEQUENCE or SET, in their order; another content has none
 abbrev pub items_of : BerObjectContent → List BerObject
@@ -30,6 +35,34 @@ pub record AnswersItems (list_of : Content → Option Nodes) (x : BerObjectConte
     (result : Result (Bor (Vec BerObject Global)) BerError) : Type 0 where
   pub part : AnswersPart (λ v. trees v.now.items) (list_of (content_tree x)) result
   pub items : IfOk result (λ v. v.now.items ≡ items_of x)
+
+-- the object inside an optional content, where it is there
+abbrev pub held_object : Held-BerObjectContent-Optional-0 → Option BerObject
+held_object None' = None
+held_object (Some' b h x) = Some (record { header = h; content = x })
+
+-- and inside a tagged one
+abbrev pub inner_object : BerObjectContent → Option BerObject
+inner_object (Optional' held) = held_object held
+inner_object (Tagged' c t b h x) = Some (record { header = h; content = x })
+inner_object _ = None
+
+-- the tree of an object that may be absent
+abbrev pub optional_tree : Option (Bor BerObject) → Option Node
+optional_tree None = None
+optional_tree (Some r) = Some (tree r.now)
+
+-- The answer of `as_optional`: the object where it is there, with the lengths and raw tags of its headers, or the
+-- refusal where the content is not optional.
+pub record AnswersOptional (x : BerObjectContent) (result : Result (Option (Bor BerObject)) BerError) : Type 0 where
+  pub part : AnswersPart optional_tree (optional_part (content_tree x)) result
+  pub object : IfOk result (λ r. option_copied r ≡ inner_object x)
+
+-- The answer of `as_tagged`: the class and the number of the tag, and the object inside, or the refusal where the
+-- content is not tagged.
+pub record AnswersTagged (x : BerObjectContent) (result : Result (Class × Tag × Bor BerObject) BerError) : Type 0 where
+  pub part : AnswersPart (λ r. (r.0, r.1.0, tree r.2.now)) (tagged_part (content_tree x)) result
+  pub object : IfOk result (λ r. Some r.2.now ≡ inner_object x)
 
 -- an identifier that owns its octets, which a copy takes memory for
 abbrev pub OwnsIdentifier : BerObjectContent → Type 0

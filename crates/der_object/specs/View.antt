@@ -4,11 +4,12 @@ use Rattle.der_base.specs.declared.header.Header.{Header}
 use Rattle.der_base.specs.Header.{class_of, is_constructed, number_of}
 use Rattle.der_base.specs.Oids.{octets_of, is_relative_of}
 use Rattle.der_base.specs.Tree.{Node, node, Content, end_of_content, boolean, integer, bit_string, string, null}
-use Rattle.der_base.specs.Tree.{enumerated, object_identifier, relative_oid, time, sequence, set, unknown, Nodes}
-use Rattle.der_base.specs.Tree.{no_nodes, nodes, nodes_of}
+use Rattle.der_base.specs.Tree.{enumerated, object_identifier, relative_oid, time, sequence, set, absent, present}
+use Rattle.der_base.specs.Tree.{tagged, unknown, Nodes, no_nodes, nodes, nodes_of}
 use Rattle.der_object.specs.declared.object.BerObject.{BerObject}
 use Rattle.der_object.specs.declared.object.BerObjectContent.{BerObjectContent, Row_of-BerObject, end_of-BerObject}
-use Rattle.der_object.specs.declared.object.BerObjectContent.{more_of-BerObject}
+use Rattle.der_object.specs.declared.object.BerObjectContent.{more_of-BerObject, None', Some'}
+use Rattle.der_object.specs.declared.object.BerObjectContent.{Held-BerObjectContent-Optional-0}
 use Rattle.der_object.specs.declared.object.BerObjectContent.TheVariants.{EndOfContent, Boolean, Integer, BitString}
 use Rattle.der_object.specs.declared.object.BerObjectContent.TheVariants.{OctetString, Null, Enum, OID, RelativeOID}
 use Rattle.der_object.specs.declared.object.BerObjectContent.TheVariants.{NumericString, VisibleString, PrintableString}
@@ -16,7 +17,7 @@ use Rattle.der_object.specs.declared.object.BerObjectContent.TheVariants.{IA5Str
 use Rattle.der_object.specs.declared.object.BerObjectContent.TheVariants.{VideotexString, ObjectDescriptor}
 use Rattle.der_object.specs.declared.object.BerObjectContent.TheVariants.{GraphicString, GeneralString, BmpString}
 use Rattle.der_object.specs.declared.object.BerObjectContent.TheVariants.{UniversalString, Sequence', Set', UTCTime}
-use Rattle.der_object.specs.declared.object.BerObjectContent.TheVariants.{GeneralizedTime, Unknown}
+use Rattle.der_object.specs.declared.object.BerObjectContent.TheVariants.{GeneralizedTime, Optional', Tagged', Unknown}
 
 -- The node of a header and a content. The length and the raw tag of the header are no part of it.
 abbrev pub node_of : Header → Content → Node
@@ -49,7 +50,14 @@ abbrev mutual
   content_tree (Set' shape row) = set (row_tree row)
   content_tree (UTCTime t) = time 23 t
   content_tree (GeneralizedTime t) = time 24 t
+  content_tree (Optional' held) = held_tree held
+  content_tree (Tagged' c t b h x) = tagged c t.0 (node_of h (content_tree x))
   content_tree (Unknown a) = unknown (class_of a.header) (is_constructed a.header) (number_of a.header) a.bytes.now
+
+  -- an object that may be absent
+  pub held_tree : Held-BerObjectContent-Optional-0 → Content
+  held_tree None' = absent
+  held_tree (Some' b h x) = present (node_of h (content_tree x))
 
   -- the items of a list
   pub row_tree : {m : _} → Row_of-BerObject m → Nodes

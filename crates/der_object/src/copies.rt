@@ -1,5 +1,5 @@
 //! Copies of objects. Texts and octets of a copy stay slices of the input.
-ghost use Rattle.std.specs.Prelude.{◌≢◌, [], MatchResult};
+ghost use Rattle.std.specs.Prelude.{◌≢◌, [], IfOk, MatchResult};
 ghost use Rattle.der_object.specs.Clones.{IsCopyOf, IsContentCopyOf, AreCopiesOf, CopyTakesMemory};
 
 use crate::object::{BerObject, BerObjectContent};
@@ -7,7 +7,8 @@ use std::alloc::{AllocError, Global};
 
 impl<'a> BerObject<'a> {
     /// A copy: an equal object, whose headers have the same lengths and raw tags. Memory is taken
-    /// for the items of lists, and for identifiers that own their octets.
+    /// for the items of lists, for the objects inside tagged and optional contents, and for
+    /// identifiers that own their octets.
     #[cycle(copy)]
     pub fn try_clone(&self, alloc: Global) -> Result<BerObject<'a>, AllocError>
         ensures { MatchResult result (IsCopyOf self.now) (λ _. CopyTakesMemory self.now.content) }
@@ -51,9 +52,22 @@ impl<'a> BerObjectContent<'a> {
             Self::Set(items) => Ok(Self::Set(copy_items(alloc, items)?)),
             Self::UTCTime(time) => Ok(Self::UTCTime(*time)),
             Self::GeneralizedTime(time) => Ok(Self::GeneralizedTime(*time)),
+            Self::Optional(None) => Ok(Self::Optional(None)),
+            Self::Optional(Some(object)) => Ok(Self::Optional(Some(copy_boxed(alloc, object)?))),
+            Self::Tagged(class, tag, object) => {
+                Ok(Self::Tagged(*class, *tag, copy_boxed(alloc, object)?))
+            }
             Self::Unknown(any) => Ok(Self::Unknown(*any)),
         }
     }
+}
+
+/// A copy of the object, in a box of its own.
+#[cycle(copy)]
+fn copy_boxed<'a>(alloc: Global, object: &BerObject<'a>) -> Result<Box<BerObject<'a>>, AllocError>
+    ensures { IfOk result (λ b. IsCopyOf object.now b.value) }
+{
+    Ok(Box::new(alloc, object.try_clone(alloc)?)?)
 }
 
 /// Copies of the items, in their order.

@@ -2,6 +2,7 @@
 //! count.
 ghost use Rattle.std.specs.Prelude.{◌≡◌, ◌↔◌, IsTrue};
 ghost use Rattle.der_base.specs.TreeEquality.{same_node, same_content, same_nodes};
+ghost use Rattle.der_object.specs.declared.object.BerObjectContent.TheVariants.{Optional};
 ghost use Rattle.der_object.specs.View.{tree, content_tree, trees};
 
 use crate::object::{BerObject, BerObjectContent};
@@ -84,7 +85,23 @@ fn same_content<'a>(a: &BerObjectContent<'a>, b: &BerObjectContent<'a>) -> bool
         },
         (BerObjectContent::UTCTime(x), BerObjectContent::UTCTime(y)) => x == y,
         (BerObjectContent::GeneralizedTime(x), BerObjectContent::GeneralizedTime(y)) => x == y,
+        (BerObjectContent::Optional(x), BerObjectContent::Optional(y)) => same_optional(x, y),
+        (BerObjectContent::Tagged(c, t, x), BerObjectContent::Tagged(d, u, y)) => {
+            c == d && t == u && same_object(x, y)
+        }
         (BerObjectContent::Unknown(x), BerObjectContent::Unknown(y)) => x == y,
+        _ => false,
+    }
+}
+
+/// Whether two objects that may be absent both are, or have the same tree.
+#[cycle(equality)]
+fn same_optional<'a>(a: &Option<Box<BerObject<'a>>>, b: &Option<Box<BerObject<'a>>>) -> bool
+    ensures { result ≡ same_content (content_tree (Optional a.now)) (content_tree (Optional b.now)) }
+{
+    match (a, b) {
+        (Some(x), Some(y)) => same_object(x, y),
+        (None, None) => true,
         _ => false,
     }
 }

@@ -12,11 +12,17 @@ use der_base::header::Tag;
 
 /// How many octets an object has, if at most 2^64-1.
 #[cycle(length)]
-#[tactic(auto, using(crate::proofs::Trees::encoding_length))]
 pub fn object_length(o: &BerObject<'_>) -> Option<usize>
     ensures { SomeIff result (length (encoding (tree o.now)) < 2 ^ 64) (length (encoding (tree o.now))) }
 {
-    element_length(o.header.tag(), content_length(&o.content)?)
+    match &o.content {
+        BerObjectContent::Optional(held) => match held {
+            Some(inner) => object_length(inner),
+            None => Some(0),
+        },
+        BerObjectContent::Tagged(_, tag, inner) => element_length(*tag, object_length(inner)?),
+        content => element_length(o.header.tag(), content_length(content)?),
+    }
 }
 
 /// How many content octets there are, if at most 2^64-1.
@@ -34,6 +40,11 @@ fn content_length(content: &BerObjectContent<'_>) -> Option<usize>
         BerObjectContent::Set(items) => items_length(items),
         BerObjectContent::UTCTime(time) => Some(time_length(UTC_YEAR, *time)),
         BerObjectContent::GeneralizedTime(time) => Some(time_length(GENERALIZED_YEAR, *time)),
+        BerObjectContent::Optional(held) => match held {
+            Some(inner) => content_length(&inner.content),
+            None => Some(0),
+        },
+        BerObjectContent::Tagged(_, _, inner) => object_length(inner),
         _ => Some(content.kept_octets().len()),
     }
 }

@@ -72,6 +72,10 @@ pub enum BerObjectContent<'a> {
     UTCTime(ASN1DateTime),
     /// GeneralizedTime, by its fields (X.680 46).
     GeneralizedTime(ASN1DateTime),
+    /// An object that may be absent, and then has no octets.
+    Optional(Option<Box<BerObject<'a>>>),
+    /// An object inside an explicit tag, with the tag's class and number (X.690 8.14).
+    Tagged(Class, Tag, Box<BerObject<'a>>),
     /// An element of another class or type, with its content octets as they stand.
     Unknown(Any<'a>),
 }
@@ -99,7 +103,8 @@ impl<'a> BerObject<'a> {
     }
 
     /// An object of the universal type of its content, constructed if that is SEQUENCE or SET, with
-    /// a length of 0 and no raw tag. An unknown content keeps its tag number, and not its class.
+    /// a length of 0 and no raw tag. A tagged or unknown content keeps its tag number, and not its
+    /// class; an optional one has the number of the content inside it, or 0.
     pub fn from_obj(content: BerObjectContent<'a>) -> BerObject<'a>
         ensures header { let n = content_number (content_tree content.entry) in
             IsHeader result.header Class.Universal (is_list n) n (Length.Definite 0) None }
@@ -181,7 +186,8 @@ impl BerObjectContent<'_> {
     ghost use Rattle.der_object.specs.View.{content_tree};
     ghost use Rattle.der_object.specs.Objects.{content_number, kept_octets};
 
-    /// The number of the universal type, or of the tag of an unknown one.
+    /// The number of the universal type, or of the tag of a tagged or unknown content; that of an
+    /// optional one is the number of the content inside it, or 0.
     fn tag(&self) -> Tag
         ensures { result.0 ≡ content_number (content_tree self.now) }
     {
@@ -211,6 +217,9 @@ impl BerObjectContent<'_> {
             BerObjectContent::Set(_) => Tag::Set,
             BerObjectContent::UTCTime(_) => Tag::UtcTime,
             BerObjectContent::GeneralizedTime(_) => Tag::GeneralizedTime,
+            BerObjectContent::Optional(None) => Tag::EndOfContent,
+            BerObjectContent::Optional(Some(object)) => object.content.tag(),
+            BerObjectContent::Tagged(_, tag, _) => *tag,
             BerObjectContent::Unknown(any) => any.tag(),
         }
     }
@@ -247,7 +256,9 @@ impl BerObjectContent<'_> {
             | BerObjectContent::Sequence(_)
             | BerObjectContent::Set(_)
             | BerObjectContent::UTCTime(_)
-            | BerObjectContent::GeneralizedTime(_) => &[],
+            | BerObjectContent::GeneralizedTime(_)
+            | BerObjectContent::Optional(_)
+            | BerObjectContent::Tagged(..) => &[],
         }
     }
 }

@@ -3,12 +3,13 @@
 ghost use Rattle.der_base.specs.Oids.{octets_of, is_relative_of};
 ghost use Rattle.der_base.specs.Parts.{AnswersPart, AnswersPartOr, boolean_part, identifier_part};
 ghost use Rattle.der_base.specs.Parts.{bits_part, text_part, octets_part, sequence_part, set_part};
-ghost use Rattle.der_object.specs.Items.{AnswersItems, OwnsIdentifier};
+ghost use Rattle.der_object.specs.Items.{AnswersItems, AnswersOptional, AnswersTagged, OwnsIdentifier};
 ghost use Rattle.der_object.specs.View.{content_tree};
 
 use crate::bit_string::BitStringObject;
 use crate::object::{BerObject, BerObjectContent};
 use der_base::error::{BerError, Err};
+use der_base::header::{Class, Tag};
 use der_base::oid::Oid;
 use std::alloc::Global;
 
@@ -99,6 +100,27 @@ impl<'a> BerObjectContent<'a> {
         }
     }
 
+    /// An object that may be absent, where it is there.
+    pub fn as_optional(&self) -> Result<Option<&BerObject<'a>>, BerError>
+        ensures { AnswersOptional self.now result }
+    {
+        match self {
+            BerObjectContent::Optional(Some(object)) => Ok(Some(object)),
+            BerObjectContent::Optional(None) => Ok(None),
+            _ => Err(BerError::BerTypeError),
+        }
+    }
+
+    /// The class and the number of an explicit tag, and the object inside it (8.14).
+    pub fn as_tagged(&self) -> Result<(Class, Tag, &BerObject<'a>), BerError>
+        ensures { AnswersTagged self.now result }
+    {
+        match self {
+            BerObjectContent::Tagged(class, tag, object) => Ok((*class, *tag, object)),
+            _ => Err(BerError::BerTypeError),
+        }
+    }
+
     /// The octets of a BIT STRING, as `as_bitstring_ref`.
     pub fn as_bitstring(&self) -> Result<BitStringObject<'a>, BerError>
         ensures { AnswersPart (λ w. w.bytes.now) (bits_part (content_tree self.now)) result }
@@ -172,6 +194,20 @@ impl<'a> BerObject<'a> {
         ensures { AnswersItems set_part self.now.content result }
     {
         self.content.as_set()
+    }
+
+    /// An object that may be absent, where it is there.
+    pub fn as_optional(&self) -> Result<Option<&BerObject<'a>>, BerError>
+        ensures { AnswersOptional self.now.content result }
+    {
+        self.content.as_optional()
+    }
+
+    /// The class and the number of an explicit tag, and the object inside it (8.14).
+    pub fn as_tagged(&self) -> Result<(Class, Tag, &BerObject<'a>), BerError>
+        ensures { AnswersTagged self.now.content result }
+    {
+        self.content.as_tagged()
     }
 
     /// The text of a character string that is kept as one (8.23, 8.25): not of a BMPString or a

@@ -18,7 +18,7 @@ use crate::object::{BerObject, BerObjectContent};
 use crate::octets::{write_octet, write_octets};
 use crate::time::{GENERALIZED_YEAR, UTC_YEAR, write_time};
 use der_base::error::GenError;
-use der_base::header::{Class, Header, Tag};
+use der_base::header::{Class, Header, Length, Tag};
 use std::alloc::Global;
 
 impl BerObject<'_> {
@@ -49,8 +49,21 @@ fn write_object(out: &mut [u8], end: usize, o: &BerObject<'_>) -> usize
     requires within { end ≤ length out.old }
     ensures { PutsBefore out.old out.new end (encoding (tree o.now)) result }
 {
-    let content = write_content(out, end, &o.content);
-    write_header(out, content, &o.header, end - content)
+    match &o.content {
+        BerObjectContent::Optional(held) => match held {
+            Some(inner) => write_object(out, end, inner),
+            None => end,
+        },
+        BerObjectContent::Tagged(class, tag, inner) => {
+            let begin = write_object(out, end, inner);
+            let header = Header::new(*class, true, *tag, Length::Definite(0));
+            write_header(out, begin, &header, end - begin)
+        }
+        content => {
+            let begin = write_content(out, end, content);
+            write_header(out, begin, &o.header, end - begin)
+        }
+    }
 }
 
 /// Writes content octets in front of a place.
@@ -72,6 +85,11 @@ fn write_content(out: &mut [u8], end: usize, content: &BerObjectContent<'_>) -> 
         BerObjectContent::Set(items) => write_items(out, end, items),
         BerObjectContent::UTCTime(time) => write_time(out, end, UTC_YEAR, *time),
         BerObjectContent::GeneralizedTime(time) => write_time(out, end, GENERALIZED_YEAR, *time),
+        BerObjectContent::Optional(held) => match held {
+            Some(inner) => write_content(out, end, &inner.content),
+            None => end,
+        },
+        BerObjectContent::Tagged(_, _, inner) => write_object(out, end, inner),
         _ => write_octets(out, end, content.kept_octets()),
     }
 }

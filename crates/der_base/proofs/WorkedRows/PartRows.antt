@@ -1,8 +1,8 @@
 -- Worked rows of the parts that accessors return, computed.
 use Rattle.std.proofs.Common.{◌≡◌, true, false, List, [], ◌∷◌, Some, None, refl}
 use Rattle.der_base.specs.declared.header.Class.TheVariants.{ContextSpecific}
-use Rattle.der_base.specs.Parts.{boolean_part, identifier_part, bits_part, text_part, octets_part, sequence_part, set_part}
-use Rattle.der_base.specs.Tree.{boolean, integer, bit_string, string, null, enumerated, object_identifier, relative_oid, sequence, set, unknown, no_nodes}
+use Rattle.der_base.specs.Parts.{boolean_part, identifier_part, bits_part, text_part, octets_part, sequence_part, set_part, optional_part, tagged_part}
+use Rattle.der_base.specs.Tree.{Node, boolean, integer, bit_string, string, null, enumerated, object_identifier, relative_oid, sequence, set, absent, present, tagged, unknown, no_nodes}
 
 a_boolean : boolean_part (boolean true) ≡ Some true
 a_boolean = refl
@@ -62,3 +62,20 @@ no_sequence = refl
 
 no_set : set_part null ≡ None
 no_set = refl
+
+-- an absent object has the part, with nothing in it
+of_absent : optional_part absent ≡ Some None
+of_absent = refl
+
+of_present : (o : Node) → optional_part (present o) ≡ Some (Some o)
+of_present o = refl
+
+-- a tagged object is no optional one, nor is an absent one tagged
+no_optional : (o : Node) → optional_part (tagged ContextSpecific 0 o) ≡ None
+no_optional o = refl
+
+of_tagged : (o : Node) → tagged_part (tagged ContextSpecific 31 o) ≡ Some (ContextSpecific, 31, o)
+of_tagged o = refl
+
+no_tagged : tagged_part absent ≡ None
+no_tagged = refl

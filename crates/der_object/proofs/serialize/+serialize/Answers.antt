@@ -1,12 +1,11 @@
-use Rattle.std.proofs.Common.{rules, ◌≡◌, ◌≤◌, ◌-◌, length, ap, subst, ◌∙◌, arith, length-append}
+use Rattle.std.proofs.Common.{rules, ◌≡◌, ◌≤◌, ◌-◌, ◌++◌, length, ap, ◌∙◌, arith, length-append}
 use Rattle.der_base.specs.Encoding.{encoding, encodings, content_octets}
 use Rattle.der_base.specs.Header.{class_of, is_constructed, number_of}
 use Rattle.der_base.specs.Octets.{identifier, shortest_length}
 use Rattle.der_object.specs.declared.object.BerObjectContent.{the_lemmas}
-use Rattle.der_object.specs.Room.{PutsBefore}
 use Rattle.der_object.specs.View.{tree, trees, content_tree}
 use Rattle.der_object.proofs.Room.{puts_both}
-use Rattle.der_object.proofs.Trees.{sequence_tree, set_tree, plain_encoding, encoding_length, item_room, kept_all}
+use Rattle.der_object.proofs.Trees.{sequence_tree, set_tree, plain_encoding, encoding_length, item_room}
 use Rattle.der_object.proofs.serialize.+serialize.Goals as goal
 
 pub write_content-write_items-requires : goal.write_content-write_items-requires
@@ -28,28 +27,21 @@ write_items-write_object-begin-requires t c =
     let room : length (encoding (tree o)) ≤ c.loop-i.begin = omega (arith, within, c.loop-i.invariant.begins) in
     search (rules, the_lemmas)
 
-pub write_object-write_content-content-requires : goal.write_object-write_content-content-requires
-write_object-write_content-content-requires t c =
-    let o = c.args.o.now in
-    let room : length (content_octets (content_tree o.content)) ≤ c.args.end = omega (arith, encoding_length o.header o.content) in
-    search (rules, the_lemmas)
-
-pub write_object-write_header-requires-clause-room : goal.write_object-write_header-requires-clause-room
-write_object-write_header-requires-clause-room t c =
+pub write_object-write_header-requires-in_default : goal.write_object-write_header-requires-in_default
+write_object-write_header-requires-in_default t c =
     let o = c.args.o.now in
     let w = content_octets (content_tree o.content) in
-    let begins = c.write_content-content.ensures.begins in
-    let n : c.args.end - c.write_content-content.result ≡ length w = omega (arith, begins) in
-    rw n (omega (arith, begins, encoding_length o.header o.content, length-append (identifier (class_of o.header) (is_constructed o.header) (number_of o.header)) (shortest_length (length w))))
+    let begins = c.write_content-begin.ensures.begins in
+    let n : c.args.end - c.write_content-begin.result ≡ length w = omega (arith, begins) in
+    let front = identifier (class_of o.header) (is_constructed o.header) (number_of o.header) in
+    let fits = encoding_length o.header o.content c.in_default.not-Optional c.in_default.not-Tagged in
+    let room : length (front ++ shortest_length (length w)) ≤ c.write_content-begin.result =
+    omega (arith, begins, fits, c.requires.room, length-append front (shortest_length (length w))) in
+    record { room = rw n room; within = omega (arith, begins, c.requires.within, ap length c.write_content-begin.ensures.octets) }
 
-pub write_object-returns : goal.write_object-returns
-write_object-returns t c =
+pub write_object-returns-in_default : goal.write_object-returns-in_default
+write_object-returns-in_default t c =
     let o = c.args.o.now in
-    let n : c.args.end - c.write_content-content.result ≡ length (content_octets (content_tree o.content)) = omega (arith, c.write_content-content.ensures.begins) in
-    rw (plain_encoding o.header o.content) (puts_both c.write_content-content.ensures (rw n at c.write_header.ensures))
-
-pub write_content-returns-in_default : goal.write_content-returns-in_default
-write_content-returns-in_default t c =
-    let d = c.in_default in
-    let e = kept_all c.args.content.now d.not-Boolean d.not-BitString d.not-Enum d.not-Sequence d.not-Set d.not-UTCTime d.not-GeneralizedTime in
-    subst (λ w. PutsBefore c.args.out.now c.write_octets.new.out c.args.end w c.write_octets.result) (c.kept_octets.ensures ∙ e) c.write_octets.ensures
+    let n : c.args.end - c.write_content-begin.result ≡ length (content_octets (content_tree o.content)) = omega (arith, c.write_content-begin.ensures.begins) in
+    let plain = plain_encoding o.header o.content c.in_default.not-Optional c.in_default.not-Tagged in
+    rw plain (puts_both c.write_content-begin.ensures (rw n at c.write_header-in_default.ensures))
