@@ -10,6 +10,8 @@ mod any_rows;
 #[cfg(test)]
 mod ber_rows;
 #[cfg(test)]
+mod combinator_rows;
+#[cfg(test)]
 mod container_rows;
 #[cfg(test)]
 mod content_rows;
