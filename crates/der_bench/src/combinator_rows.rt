@@ -1,9 +1,7 @@
 //! Combinators over a parser with an error type of the caller's.
 ghost use Rattle.std.specs.Prelude.{◌≡◌};
-ghost use Rattle.der_bench.specs.declared.combinator_rows.MyError.TheVariants.{
-  BerError as BerErrorOf,
-  NomError as NomErrorOf,
-};
+ghost use Rattle.der_bench.specs.declared.combinator_rows.MyError.TheVariants.{BerError as BerErrorOf};
+ghost use Rattle.der_bench.specs.declared.combinator_rows.MyError.TheVariants.{NomError as NomErrorOf};
 
 use crate::octets::octets;
 use der_parser::IResult;
@@ -83,11 +81,11 @@ fn listed(alloc: Global, i: &[u8], tag: Tag) -> [(u64, Listed<'_>); 2] {
         integer(input)
     };
     let (by_ber, by_der) = if tag == Tag::Sequence {
-        let by_ber = parse_ber_sequence_of_v(ber, alloc).parse(i);
-        (by_ber, parse_der_sequence_of_v(der, alloc).parse(i))
+        let by_ber = parse_ber_sequence_of_v(alloc, ber).parse(i);
+        (by_ber, parse_der_sequence_of_v(alloc, der).parse(i))
     } else {
-        let by_ber = parse_ber_set_of_v(ber, alloc).parse(i);
-        (by_ber, parse_der_set_of_v(der, alloc).parse(i))
+        let by_ber = parse_ber_set_of_v(alloc, ber).parse(i);
+        (by_ber, parse_der_set_of_v(alloc, der).parse(i))
     };
     [(calls, by_ber), (der_calls, by_der)]
 }
@@ -167,13 +165,10 @@ fn a_rest_that_grows(rt: HostRuntime) -> Result<(), Fail> {
     let input = octets(rt.alloc(), "30 02 05 00")?;
     let whole = input.as_slice();
     let mut calls: u64 = 0;
-    let answer: IResult<&[u8], Vec<u8>, MyError<'_>> = parse_ber_sequence_of_v(
-        |_| {
-            calls = calls.saturating_add(1);
-            Ok((whole, 0))
-        },
-        rt.alloc(),
-    )
+    let answer: IResult<&[u8], Vec<u8>, MyError<'_>> = parse_ber_sequence_of_v(rt.alloc(), |_| {
+        calls = calls.saturating_add(1);
+        Ok((whole, 0))
+    })
     .parse(whole);
     assert_eq!(rt; calls, 1);
     assert!(rt;

@@ -62,6 +62,24 @@ fn leaves_are_made(rt: HostRuntime) -> Result<(), Fail> {
     expect_made(&rt, &bits, Tag::BitString, false, "03 02 06 c0")
 }
 
+/// A tag is written around its object, an object that may be absent as itself or not at all.
+#[test]
+fn boxes_are_made(rt: HostRuntime) -> Result<(), Fail> {
+    let two = Box::new(rt.alloc(), BerObject::from_int_slice(b"\x02"))?;
+    let tagged = BerObject::from_obj(BerObjectContent::Tagged(ContextSpecific, Tag(0), two));
+    expect_made(&rt, &tagged, Tag(0), false, "a0 03 02 01 02")?;
+    let sixteen = BerObjectContent::Tagged(ContextSpecific, Tag(16), Box::new(rt.alloc(), tagged)?);
+    let outer = BerObject::from_obj(sixteen);
+    expect_made(&rt, &outer, Tag(16), true, "b0 05 a0 03 02 01 02")?;
+    let present = BerObjectContent::Optional(Some(Box::new(rt.alloc(), outer)?));
+    let present = BerObject::from_obj(present);
+    expect_made(&rt, &present, Tag(16), true, "b0 05 a0 03 02 01 02")?;
+    let copy = present.try_clone(rt.alloc())?;
+    assert_eq!(rt; copy, present);
+    let absent = BerObject::from_obj(BerObjectContent::Optional(None));
+    expect_made(&rt, &absent, Tag(0), false, "")
+}
+
 /// A header that is given is kept; `set_raw_tag` changes the identifier octets that it tells alone.
 #[test]
 fn headers_are_given(rt: HostRuntime) -> Result<(), Fail> {

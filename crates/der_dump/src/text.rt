@@ -1,25 +1,34 @@
 //! The texts of objects, an arm for each content.
 use crate::hex::write_hex;
-use der_parser::ber::{ASN1DateTime, BerObject, BerObjectContent, Tag, TimeText};
+use der_parser::ber::{ASN1DateTime, BerObject, BerObjectContent, Class, Tag, TimeText};
 use std::io;
 use std::io::Write;
 
-/// How much deeper the items of a list stand than the list.
+/// How much deeper the items of a list stand than the list, and an object than the tag around it.
 const INCREMENT: usize = 2;
 
 /// Writes the text of an object: spaces, as many as `indent` says, and the text of its content.
-/// The items of a list follow one another with nothing between them.
+/// The items of a list follow one another with nothing between them. An object that may be absent
+/// is `NONE`, or `OPTION` and its text with no spaces in front.
 #[cycle(text)]
 pub fn write_text<W: Write>(out: &mut W, object: &BerObject<'_>, indent: usize) -> io::Result<()> {
     write_spaces(out, indent)?;
     match &object.content {
         BerObjectContent::Sequence(items) => write_list(out, object.header.tag(), items, indent),
         BerObjectContent::Set(items) => write_list(out, object.header.tag(), items, indent),
+        BerObjectContent::Optional(None) => out.write_all(b"NONE"),
+        BerObjectContent::Optional(Some(inner)) => {
+            out.write_all(b"OPTION ")?;
+            write_text(out, inner, 0)
+        }
+        BerObjectContent::Tagged(class, tag, inner) => {
+            write_tagged(out, *class, *tag, inner, indent)
+        }
         leaf => write_leaf(out, leaf),
     }
 }
 
-/// Writes the text of a content that has no items; of a list, nothing.
+/// Writes the text of a content that holds no objects; of another, nothing.
 fn write_leaf<W: Write>(out: &mut W, content: &BerObjectContent<'_>) -> io::Result<()> {
     match content {
         BerObjectContent::EndOfContent => out.write_all(b"EndOfContent"),
@@ -43,7 +52,10 @@ fn write_leaf<W: Write>(out: &mut W, content: &BerObjectContent<'_>) -> io::Resu
         BerObjectContent::GeneralString(text) => write_quoted(out, "GeneralString", text),
         BerObjectContent::BmpString(octets) => write_bmp(out, octets),
         BerObjectContent::UniversalString(octets) => write_universal(out, octets),
-        BerObjectContent::Sequence(_) | BerObjectContent::Set(_) => Ok(()),
+        BerObjectContent::Sequence(_)
+        | BerObjectContent::Set(_)
+        | BerObjectContent::Optional(_)
+        | BerObjectContent::Tagged(..) => Ok(()),
         BerObjectContent::UTCTime(time) => write_time(out, "UTCTime", Tag::UtcTime, *time),
         BerObjectContent::GeneralizedTime(time) => {
             write_time(out, "GeneralizedTime", Tag::GeneralizedTime, *time)
@@ -75,6 +87,22 @@ fn write_list<W: Write>(
     }
     write_spaces(out, indent)?;
     out.write_all(b"]")
+}
+
+/// Writes the class and the number of a tag, and on the next line the object inside it.
+#[cycle(text)]
+fn write_tagged<W: Write>(
+    out: &mut W,
+    class: Class,
+    tag: Tag,
+    object: &BerObject<'_>,
+    indent: usize,
+) -> io::Result<()> {
+    let number = tag.0;
+    write!(out, "ContextSpecific [{class} {number}] {{\n")?;
+    write_text(out, object, indent.saturating_add(INCREMENT))?;
+    write_spaces(out, indent)?;
+    out.write_all(b"}")
 }
 
 fn write_spaces<W: Write>(out: &mut W, count: usize) -> io::Result<()> {
@@ -207,6 +235,25 @@ mod tests {
             write_text(&mut out, &object, 0)?;
             assert_eq!(rt; out.as_slice(), text.as_bytes());
         }
+        Ok(())
+    }
+
+    /// Contents that only combinators make: a tagged object, one that may be absent and is there,
+    /// and one that is absent.
+    #[test]
+    fn texts_of_objects_in_boxes(rt: HostRuntime) -> Result<(), Fail> {
+        let two = Box::new(rt.alloc(), BerObject::from_int_slice(b"\x02"))?;
+        let content = BerObjectContent::Tagged(Class::ContextSpecific, Tag(0), two);
+        let tagged = Box::new(rt.alloc(), BerObject::from_obj(content))?;
+        let present = BerObject::from_obj(BerObjectContent::Optional(Some(tagged)));
+        let mut out = Vec::new(rt.alloc());
+        write_text(&mut out, &present, 2)?;
+        let text = "  OPTION ContextSpecific [CONTEXT-SPECIFIC 0] {\n  Integer([02])}";
+        assert_eq!(rt; out.as_slice(), text.as_bytes());
+        let absent = BerObject::from_obj(BerObjectContent::Optional(None));
+        let mut out = Vec::new(rt.alloc());
+        write_text(&mut out, &absent, 0)?;
+        assert_eq!(rt; out.as_slice(), "NONE".as_bytes());
         Ok(())
     }
 }
