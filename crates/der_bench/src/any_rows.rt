@@ -1,9 +1,9 @@
 //! Elements whose content isn't read.
-use crate::answer::Answer::{self, Broken, Incomplete, Read, Refused};
-use crate::answer::{Element, Parts};
-use crate::octets::octets;
 use crate::rows;
 use crate::rows::Trial;
+use der_bench_rows::answer::Answer::{self, Broken, Incomplete, Read, Refused};
+use der_bench_rows::answer::{Element, Parts};
+use der_bench_rows::octets::octets;
 use der_parser::ber::Class::{Application, ContextSpecific, Universal};
 use der_parser::ber::Length::{Definite, Indefinite};
 use der_parser::ber::{Any, Tag, parse_ber_any};

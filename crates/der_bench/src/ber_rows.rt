@@ -1,14 +1,13 @@
 //! What is read by BER, and written again by DER.
-use crate::answer::Answer::{Incomplete, Read, Refused};
-use crate::answer::Content::{
-    Boolean, EndOfContent, Integer, Nested, Null, OctetString, Sequence, Set, Unknown,
-};
-use crate::answer::Parts;
-use crate::reading::{
-    DepthRow, Reader, Row, expect_answer, expect_answers, expect_header, expect_written,
-};
+use crate::reading::{DepthRow, Row, expect_answer, expect_answers, expect_header, expect_written};
 use crate::rows;
 use crate::rows::Trial;
+use der_bench_rows::answer::Answer::{Incomplete, Read, Refused};
+use der_bench_rows::answer::Content::{
+    Boolean, EndOfContent, Integer, Nested, Null, OctetString, Sequence, Set, Unknown,
+};
+use der_bench_rows::answer::Parts;
+use der_bench_rows::reader::Reader;
 use der_parser::ber::Class::{Application, ContextSpecific, Private, Universal};
 use der_parser::ber::Length::{Definite, Indefinite};
 use der_parser::ber::{MAX_RECURSION, Tag};

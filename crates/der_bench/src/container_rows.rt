@@ -2,9 +2,9 @@
 ghost use Rattle.std.specs.Prelude.{◌≡◌};
 ghost use Rattle.der_bench.specs.declared.container_rows.Met.TheVariants.{At};
 
-use crate::octets::octets;
 use crate::rows;
 use crate::rows::Trial;
+use der_bench_rows::octets::octets;
 use der_parser::IResult;
 use der_parser::ber::Length::{Definite, Indefinite};
 use der_parser::ber::{

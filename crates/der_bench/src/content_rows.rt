@@ -1,11 +1,11 @@
 //! Contents of universal types, read without their header or behind one of the caller's.
-use crate::answer::Answer::{self, Broken, Incomplete, Read, Refused};
-use crate::answer::Content::{
-    BmpString, EndOfContent, Integer, Null, OctetString, Sequence, Set, Unknown,
-};
-use crate::octets::octets;
 use crate::rows;
 use crate::rows::{HasInput, Trial};
+use der_bench_rows::answer::Answer::{self, Broken, Incomplete, Read, Refused};
+use der_bench_rows::answer::Content::{
+    BmpString, EndOfContent, Integer, Null, OctetString, Sequence, Set, Unknown,
+};
+use der_bench_rows::octets::octets;
 use der_parser::ber::Class::{Application, ContextSpecific, Universal};
 use der_parser::ber::Length::{Definite, Indefinite};
 use der_parser::ber::{

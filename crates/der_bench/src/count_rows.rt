@@ -1,9 +1,9 @@
 //! How many headers the full readers read.
-use crate::octets::octets;
-use crate::reading::Reader;
-use crate::reading::Reader::{ParseBerCounted, ParseDerCounted};
 use crate::rows;
 use crate::rows::Trial;
+use der_bench_rows::octets::octets;
+use der_bench_rows::reader::Reader;
+use der_bench_rows::reader::Reader::{ParseBerCounted, ParseDerCounted};
 use der_parser::ber::HeaderCount;
 use std::process::Abort;
 use std::test::Fail;

@@ -1,13 +1,14 @@
 //! What is read by DER, and written again.
-use crate::answer::Answer::{Broken, Incomplete, Read, Refused};
-use crate::answer::Content::{
-    Boolean, EndOfContent, Integer, Null, OctetString, Sequence, Set, Unknown,
-};
-use crate::answer::Parts;
-use crate::octets::octets;
-use crate::reading::{DepthRow, Reader, Row, expect_answer, expect_answers, expect_header};
+use crate::reading::{DepthRow, Row, expect_answer, expect_answers, expect_header};
 use crate::rows;
 use crate::rows::Trial;
+use der_bench_rows::answer::Answer::{Broken, Incomplete, Read, Refused};
+use der_bench_rows::answer::Content::{
+    Boolean, EndOfContent, Integer, Null, OctetString, Sequence, Set, Unknown,
+};
+use der_bench_rows::answer::Parts;
+use der_bench_rows::octets::octets;
+use der_bench_rows::reader::Reader;
 use der_parser::ber::{Class, Length, Tag};
 use der_parser::error::DerConstraint::{
     Constructed, IndefiniteLength, IntegerEmpty, IntegerLeadingFF, IntegerLeadingZeroes,

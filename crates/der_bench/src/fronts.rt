@@ -1,13 +1,13 @@
 //! What holds of the fronts of any octets, read by BER and by DER: a refusal stands whatever follows,
 //! what follows an object is left behind it, and each shorter front of an object is cut short.
-use crate::octets::octets;
-use crate::reading::Reader;
-use crate::reading::Reader::{ParseBerRecursive, ParseDerRecursive};
 use crate::rows::Trial::Fronts;
 use crate::{
     any_rows, ber_rows, container_rows, content_rows, count_rows, der_rows, header_rows, leaf_rows,
     list_rows, name_rows,
 };
+use der_bench_rows::octets::octets;
+use der_bench_rows::reader::Reader;
+use der_bench_rows::reader::Reader::{ParseBerRecursive, ParseDerRecursive};
 use der_parser::error::{BerResult, Err as Refused};
 use std::alloc::{AllocError, Global};
 use std::process::Abort;

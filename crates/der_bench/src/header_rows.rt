@@ -1,9 +1,9 @@
 //! Headers: how they are read, which are equal, what they tell and change.
-use crate::answer::Answer::{self, Broken, Incomplete, Read, Refused};
-use crate::answer::Parts as Told;
-use crate::octets::octets;
 use crate::rows;
 use crate::rows::Trial;
+use der_bench_rows::answer::Answer::{self, Broken, Incomplete, Read, Refused};
+use der_bench_rows::answer::Parts as Told;
+use der_bench_rows::octets::octets;
 use der_parser::ber::Class::{Application, ContextSpecific, Private, Universal};
 use der_parser::ber::Length::{Definite, Indefinite};
 use der_parser::ber::{

@@ -1,13 +1,14 @@
 //! The universal types that are no list, read by BER and by DER, and their typed readers.
-use crate::answer::Answer::{Broken, Incomplete, Read, Refused};
-use crate::answer::Content::{
-    BitString, BmpString, Boolean, Enum, Integer, NewYear, Oid, RelativeOid, Text, UniversalString,
-};
-use crate::answer::Parts;
-use crate::octets::octets;
-use crate::reading::{Reader, Row, expect_answers, expect_header, expect_written};
+use crate::reading::{Row, expect_answers, expect_header, expect_written};
 use crate::rows;
 use crate::rows::Trial;
+use der_bench_rows::answer::Answer::{Broken, Incomplete, Read, Refused};
+use der_bench_rows::answer::Content::{
+    BitString, BmpString, Boolean, Enum, Integer, NewYear, Oid, RelativeOid, Text, UniversalString,
+};
+use der_bench_rows::answer::Parts;
+use der_bench_rows::octets::octets;
+use der_bench_rows::reader::Reader;
 use der_parser::ber::Class::ContextSpecific;
 use der_parser::ber::Length::Definite;
 use der_parser::ber::{

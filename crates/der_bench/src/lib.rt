@@ -1,16 +1,10 @@
-//! The rows that the library is tested on: tables of inputs and answers, a row a line.
+//! The rows that readers are tested on: tables of inputs and answers, a row a line.
 #![tactic(auto)]
 
-#[cfg(test)]
-mod accessor_rows;
-#[cfg(test)]
-mod answer;
 #[cfg(test)]
 mod any_rows;
 #[cfg(test)]
 mod ber_rows;
-#[cfg(test)]
-mod combinator_rows;
 #[cfg(test)]
 mod container_rows;
 #[cfg(test)]
@@ -20,10 +14,6 @@ mod count_rows;
 #[cfg(test)]
 mod der_rows;
 #[cfg(test)]
-mod error_rows;
-#[cfg(test)]
-mod from_any_rows;
-#[cfg(test)]
 mod fronts;
 #[cfg(test)]
 mod header_rows;
@@ -32,26 +22,14 @@ mod leaf_rows;
 #[cfg(test)]
 mod list_rows;
 #[cfg(test)]
-mod made_rows;
-#[cfg(test)]
 mod name_rows;
-#[cfg(test)]
-mod no_memory;
 #[cfg(test)]
 mod number_rows;
 #[cfg(test)]
-mod octets;
-#[cfg(test)]
-mod oid_rows;
+mod octets_of_texts;
 #[cfg(test)]
 mod reading;
-#[cfg(test)]
-mod refused_growths;
 #[cfg(test)]
 mod round_trips;
 #[cfg(test)]
 mod rows;
-#[cfg(test)]
-mod text_rows;
-#[cfg(test)]
-mod typed;

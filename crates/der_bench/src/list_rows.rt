@@ -1,10 +1,11 @@
 //! Lists by the readers of one type, and elements of a tag that the caller names.
-use crate::answer::Answer::{self, Broken, Incomplete, Read, Refused};
-use crate::answer::Content::{Integer, Nested, Null, Sequence, Set, Unknown};
-use crate::answer::Parts;
-use crate::reading::{Reader, Row, expect_answer, expect_answer_on, expect_answers, expect_header};
+use crate::reading::{Row, expect_answer, expect_answer_on, expect_answers, expect_header};
 use crate::rows;
 use crate::rows::Trial;
+use der_bench_rows::answer::Answer::{self, Broken, Incomplete, Read, Refused};
+use der_bench_rows::answer::Content::{Integer, Nested, Null, Sequence, Set, Unknown};
+use der_bench_rows::answer::Parts;
+use der_bench_rows::reader::Reader;
 use der_parser::ber::Class::{ContextSpecific, Universal};
 use der_parser::ber::Length::{Definite, Indefinite};
 use der_parser::ber::Tag;

@@ -1,12 +1,13 @@
 //! Names: what each public name of `der_parser` is, where another could stand in its place.
-use crate::answer::Answer::{self, Broken, Incomplete, Read, Refused};
-use crate::answer::Content::{
+use crate::reading::{Row, expect_answer, expect_answers};
+use crate::rows;
+use crate::rows::{HasInput, Trial};
+use der_bench_rows::answer::Answer::{self, Broken, Incomplete, Read, Refused};
+use der_bench_rows::answer::Content::{
     BitString, BmpString, Boolean, EndOfContent, Enum, Integer, NewYear, Null, OctetString, Oid,
     RelativeOid, Sequence, Set, Text, UniversalString,
 };
-use crate::reading::{Reader, Row, expect_answer, expect_answers};
-use crate::rows;
-use crate::rows::{HasInput, Trial};
+use der_bench_rows::reader::Reader;
 use der_parser::ber::compat::{BerClass, BerObjectHeader, BerSize, BerTag, Tag as CompatTag};
 use der_parser::ber::{
     ASN1TimeZone, BerContent, BerContent2, BerObject, BerObjectContent, BitStringObject, Class,

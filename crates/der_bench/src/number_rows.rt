@@ -1,10 +1,9 @@
 //! Numbers of objects, and the readers of numbers.
-use crate::answer::Answer::{Broken, Incomplete, Read, Refused};
-use crate::answer::{Answer, Describes};
-use crate::octets::{TextFault, octets};
 use crate::rows;
 use crate::rows::{HasInput, Trial};
 use NumberType::{I32, I64, U32, U64};
+use der_bench_rows::answer::Answer::{self, Broken, Incomplete, Read, Refused};
+use der_bench_rows::octets::octets;
 use der_parser::ber::{
     Any, BerObject, BerObjectContent, BitStringObject, Tag, parse_ber, parse_ber_i32,
     parse_ber_i64, parse_ber_u32, parse_ber_u64,
@@ -20,7 +19,6 @@ use der_parser::error::Error::{
     InvalidLength, UnexpectedTag,
 };
 use der_parser::error::{BerError, BerResult};
-use std::alloc::Global;
 use std::process::Abort;
 use std::test::Fail;
 
@@ -131,12 +129,6 @@ impl HasInput for NumberRow {
 fn try_rows(rt: &(impl Abort + AllocGlobal), trial: Trial) -> Result<(), Fail> {
     rows::try_rows(rt, trial, BY_BER)?;
     rows::try_rows(rt, trial, BY_DER)
-}
-
-impl Describes<i128> for i128 {
-    fn describes(&self, _alloc: Global, value: &i128) -> Result<bool, TextFault> {
-        Ok(self == value)
-    }
 }
 
 impl NumberType {

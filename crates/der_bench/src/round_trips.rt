@@ -1,11 +1,11 @@
 //! What holds between reading and writing, and between BER and DER, on the inputs of all rows.
-use crate::octets::octets;
-use crate::reading::Reader::{ParseBerRecursive, ParseDerRecursive};
 use crate::rows::Trial::RoundTrip;
 use crate::{
     any_rows, ber_rows, container_rows, content_rows, count_rows, der_rows, header_rows, leaf_rows,
     list_rows, name_rows,
 };
+use der_bench_rows::octets::octets;
+use der_bench_rows::reader::Reader::{ParseBerRecursive, ParseDerRecursive};
 use der_parser::error::GenError;
 use std::alloc::Global;
 use std::process::Abort;

@@ -1,8 +1,9 @@
 //! What rows of all tables have in common: octets, and what holds of any octets is tried on them.
-use crate::answer::{Answer, Parts};
 use crate::fronts::expect_stable_fronts;
-use crate::reading::{DepthRow, Reader};
+use crate::reading::DepthRow;
 use crate::round_trips::expect_round_trip;
+use der_bench_rows::answer::{Answer, Parts};
+use der_bench_rows::reader::Reader;
 use der_parser::ber::{Length, MAX_RECURSION, Tag};
 use der_parser::error::{BerError, Err as Refused};
 use std::process::Abort;

@@ -1,8 +1,8 @@
 //! Objects of elements that were read apart: the octets of an element are a content as a whole.
-use crate::answer::Answer::{self, Read, Refused};
-use crate::answer::Content::{Integer, Null, Sequence, Unknown};
-use crate::answer::{Describes, Parts};
-use crate::octets::octets;
+use der_bench_rows::answer::Answer::{self, Read, Refused};
+use der_bench_rows::answer::Content::{Integer, Null, Sequence, Unknown};
+use der_bench_rows::answer::{Describes, Parts};
+use der_bench_rows::octets::octets;
 use der_parser::ber::Class::{Application, ContextSpecific, Universal};
 use der_parser::ber::Length::{Definite, Indefinite};
 use der_parser::ber::{Any, Tag, ber_object_from_any};

@@ -1,6 +1,6 @@
 //! Calls that take no memory. These tests take none themselves, so they pass where each growth is
 //! refused: `tools/refused-growths` runs them so.
-use crate::typed::{read_type_by_ber, read_type_by_der};
+use der_bench_rows::typed::{read_type_by_ber, read_type_by_der};
 use der_parser::ber::Class::ContextSpecific;
 use der_parser::ber::Length::Definite;
 use der_parser::ber::{

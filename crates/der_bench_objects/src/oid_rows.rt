@@ -1,5 +1,5 @@
 //! Object identifiers: their octets, their arcs and their dotted texts.
-use crate::octets::octets;
+use der_bench_rows::octets::octets;
 use der_parser::oid::{Oid, OidParseError};
 use std::borrow::CowSlice;
 use std::test::Fail;

@@ -2,7 +2,6 @@
 ghost use Rattle.std.specs.Prelude.{◌<◌, IfOk};
 
 use std::alloc::{AllocFailed, Global};
-use std::test::Fail;
 
 /// Why a text gives no octets.
 #[derive(Debug, Drop)]
@@ -55,20 +54,4 @@ fn digit(code: u8) -> Result<u8, TextFault>
         b'a'..=b'f' => Ok(code - b'a' + 10),
         _ => Err(TextFault::NoOctet),
     }
-}
-
-#[test]
-fn octets_of_texts(rt: HostRuntime) -> Result<(), Fail> {
-    assert!(rt; octets(rt.alloc(), "")?.is_empty());
-    let four = octets(rt.alloc(), "00 1f a0 ff")?;
-    assert_eq!(rt; four.as_slice(), b"\x00\x1f\xa0\xff".as_slice());
-    let repeated = octets(rt.alloc(), "01.02*2 03*3 04")?;
-    assert_eq!(rt;
-        repeated.as_slice(),
-        b"\x01\x02\x01\x02\x03\x03\x03\x04".as_slice()
-    );
-    for wrong in ["0", "000", "0g", "1 2", "0A", "00.", "00*", "*2", "00*x"] {
-        assert!(rt; octets(rt.alloc(), wrong).is_err(), "{wrong}");
-    }
-    Ok(())
 }

@@ -1,8 +1,8 @@
 //! Want of memory: a growth that is refused is the answer OutOfMemory, and no other. The tests take
 //! no memory but that of the calls. `tools/refused-growths` runs them with a growth refused: those
 //! that begin with `wants_memory` then end in OutOfMemory where it is the first, the others pass.
-use crate::reading::Reader;
-use crate::reading::Reader::{
+use der_bench_rows::reader::Reader;
+use der_bench_rows::reader::Reader::{
     ParseBer, ParseBerAnyWithTagR, ParseBerSequence, ParseBerSet, ParseDer, ParseDerSequence,
     ParseDerSet,
 };

@@ -1,5 +1,5 @@
 //! Objects and elements that are made and not read.
-use crate::octets::octets;
+use der_bench_rows::octets::octets;
 use der_parser::ber::Class::{ContextSpecific, Universal};
 use der_parser::ber::Length::Definite;
 use der_parser::ber::{Any, BerObject, BerObjectContent, BitStringObject, Header, Tag};

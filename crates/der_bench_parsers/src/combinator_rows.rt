@@ -3,7 +3,7 @@ ghost use Rattle.std.specs.Prelude.{◌≡◌};
 ghost use Rattle.der_bench.specs.declared.combinator_rows.MyError.TheVariants.{BerError as BerErrorOf};
 ghost use Rattle.der_bench.specs.declared.combinator_rows.MyError.TheVariants.{NomError as NomErrorOf};
 
-use crate::octets::octets;
+use der_bench_rows::octets::octets;
 use der_parser::IResult;
 use der_parser::ber::{
     Any, Class, Length, Tag, parse_ber_sequence_of_v, parse_ber_set_of_v,

@@ -95,6 +95,13 @@ impl Describes<BerObjectContent<'_>> for Content {
     }
 }
 
+/// A number is the value.
+impl Describes<i128> for i128 {
+    fn describes(&self, _alloc: Global, value: &i128) -> Result<bool, TextFault> {
+        Ok(self == value)
+    }
+}
+
 impl Content {
     /// Whether the content is this one.
     #[cycle(contents)]

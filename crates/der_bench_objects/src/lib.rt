@@ -1,0 +1,15 @@
+//! The rows that objects, identifiers, times and errors are tested on.
+#![tactic(auto)]
+
+#[cfg(test)]
+mod accessor_rows;
+#[cfg(test)]
+mod error_rows;
+#[cfg(test)]
+mod from_any_rows;
+#[cfg(test)]
+mod made_rows;
+#[cfg(test)]
+mod oid_rows;
+#[cfg(test)]
+mod text_rows;

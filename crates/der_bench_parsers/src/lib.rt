@@ -1,0 +1,9 @@
+//! The rows that combinators are tested on, and the tests of memory that is taken or not.
+#![tactic(auto)]
+
+#[cfg(test)]
+mod combinator_rows;
+#[cfg(test)]
+mod no_memory;
+#[cfg(test)]
+mod refused_growths;
