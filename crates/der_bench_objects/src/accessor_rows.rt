@@ -299,16 +299,19 @@ fn equal_objects_have_one_tree(rt: HostRuntime) -> Result<(), Fail> {
 /// The questions on an object are those on its header.
 fn is_asked_as_header(o: &BerObject<'_>) -> bool {
     let header = o.header;
-    o.class() == header.class()
-        && o.tag() == header.tag()
-        && o.length() == header.length()
-        && o.is_universal() == o.assert_class(Class::Universal).is_ok()
-        && o.is_application() == header.is_application()
-        && o.is_contextspecific() == header.is_contextspecific()
-        && o.is_private() == header.is_private()
-        && o.is_primitive() == o.assert_primitive().is_ok()
-        && o.is_constructed() == o.assert_constructed().is_ok()
-        && o.assert_tag(Tag::Set).is_ok() == (o.tag() == Tag::Set)
+    let asked = [
+        o.class() == header.class(),
+        o.tag() == header.tag(),
+        o.length() == header.length(),
+        o.is_universal() == o.assert_class(Class::Universal).is_ok(),
+        o.is_application() == header.is_application(),
+        o.is_contextspecific() == header.is_contextspecific(),
+        o.is_private() == header.is_private(),
+        o.is_primitive() == o.assert_primitive().is_ok(),
+        o.is_constructed() == o.assert_constructed().is_ok(),
+        o.assert_tag(Tag::Set).is_ok() == (o.tag() == Tag::Set),
+    ];
+    asked.iter().all(|is_so| *is_so)
 }
 
 #[test]
