@@ -3,3 +3,4 @@ pub mod ContainerLaws
 pub mod DerContainers
 pub mod ListStepsLaws
 pub mod OpenedLaws
+pub mod TakenLaws

@@ -5,4 +5,5 @@ pub mod Identifier
 pub mod Integers
 pub mod Opened
 pub mod Spans
+pub mod Taken
 pub mod TimeParts

@@ -1,10 +1,13 @@
 -- Laws of the definitions.
 use Rattle.std.specs.Prelude.{◌≡◌, ◌≢◌, ℕ, ◌-◌, ◌%◌, ◌^◌, ◌<◌, ◌≤◌, ◌⊎◌, ◌↔◌, Bool, false, IsTrue, pos}
 use Rattle.std.specs.Prelude.{◌<ℤ◌, List, [], ◌∷◌, ◌++◌, length, slice_index, All}
+use Rattle.der_base.specs.declared.error.Err.{Err as Refused}
 use Rattle.der_base.specs.declared.header.Class.{Class}
+use Rattle.der_base.specs.declared.header.Header.{Header}
 use Rattle.der_base.specs.declared.header.Length.{Length}
 use Rattle.der_base.specs.Encoding.{encoding, content_octets}
 use Rattle.der_base.specs.Fault.{BerHeaderRefuses, DerHeaderRefuses, ShowsFault, DerShowsFault}
+use Rattle.der_base.specs.Header.{IsHeader, class_of, is_constructed, number_of, length_of, raw_tag_of}
 use Rattle.der_base.specs.Headers.{BeginsWithHeader, BeginsWithDerHeader, BerHeaderLacks, DerHeaderLacks}
 use Rattle.der_base.specs.Leaf.{is_list, is_mapped, IsLeafContent, IsDerLeaf, IsMinimalInteger, HasZeroUnusedBits}
 use Rattle.der_base.specs.LeafRefusal.{BerLeafRefuses, DerLeafRefuses, NoneHolds}
@@ -192,3 +195,15 @@ HaveOneNumberRefusal = (k : NumberType) (x : Content) (e e' : Refusal)
 abbrev pub NumbersFit : Type 0
 NumbersFit = (k : NumberType) (x : Content) → NoneHolds (number_tests k x)
     → ¬ (number_of_content x <ℤ least k) × ¬ (greatest k <ℤ number_of_content x)
+
+-- an input opens in one way
+abbrev pub OpensInOneWay : (List ℕ → Header → List ℕ → List ℕ → Type 0) → Type 0
+OpensInOneWay opens = (i w w' after after' : List ℕ) (h h' : Header) → opens i h w after → opens i h' w' after'
+    → IsHeader h (class_of h') (is_constructed h') (number_of h') (length_of h') (raw_tag_of h')
+    × (w ≡ w') × (after ≡ after')
+
+-- an input that opens is not refused
+abbrev pub OpenedPass : {E : Type 0} → (List ℕ → Header → List ℕ → List ℕ → Type 0)
+    → (List ℕ → Refused E → Type 0) → Type 0
+OpenedPass opens refuses = (i : List ℕ) (h : Header) (w after : List ℕ) → opens i h w after
+    → (r : Refused _) → ¬ refuses i r

@@ -32,10 +32,15 @@ ghost use Rattle.der_base.specs.Laws.{
   BerFrontsAreCut,
   DerFrontsAreCut,
   EncodingIsNormalForm,
+  OpensInOneWay,
+  OpenedPass,
 };
 ghost use Rattle.der_base.specs.Laws.{NumberOrRefused, NumbersPass, HaveOneNumberRefusal, NumbersFit};
-ghost use Rattle.std.specs.Prelude.{◌≡◌};
+ghost use Rattle.std.specs.Prelude.{◌≡◌, ℕ};
 ghost use Rattle.std.specs.Cmp.{IsEquivalence};
+ghost use Rattle.der_base.specs.Containers.{OpensBer, OpensBerNumber, OpensDer, OpensDerNumber};
+ghost use Rattle.der_base.specs.Containers.{RefusesBer, RefusesBerNumber, RefusesDer, RefusesDerNumber};
+ghost use Rattle.der_base.specs.Containers.{OpensExplicit, RefusesExplicit};
 ghost use Rattle.der_base.specs.Copies.{
   AreTheValue,
   AlwaysSo,
@@ -51,7 +56,9 @@ ghost use Rattle.der_base.specs.Fault.{ShowsFault, DerShowsFault};
 ghost use Rattle.der_base.specs.Spelling.{BeginsWithBer, BeginsWithDer};
 
 use crate::any::Any;
-use crate::error::{DerConstraint, Err, Error, ErrorKind, Needed, OidParseError};
+use crate::error::{
+    BerError, DerConstraint, Err, Error, ErrorKind, Needed, OidParseError, ParseError,
+};
 use crate::header::{Class, Header, Length, Tag};
 use crate::oid::Oid;
 use crate::time::{ASN1DateTime, ASN1TimeZone, TimeText};
@@ -226,4 +233,29 @@ pub fn fronts_are_cut()
 /// What is written for a tree that BER spells spells it too: it is a normal form (X.690 8.1).
 pub fn encoding_is_normal_form()
     ensures { EncodingIsNormalForm }
+{}
+
+/// An input begins with an element in one way: its header, its content and what follows it are
+/// determined.
+pub fn opened_in_one_way()
+    ensures ber { OpensInOneWay OpensBer }
+    ensures der { OpensInOneWay OpensDer }
+{}
+
+/// What a combinator opens it doesn't refuse, whether it takes any element, one of a tag number, or
+/// an explicit tag. So it calls the parser that it keeps exactly where it opens the input, once, and
+/// exactly where the input is refused not at all.
+pub fn opened_never_refused<'a, E>()
+where
+    E: ParseError<&'a [u8]> + From<BerError>,
+    ensures ber { OpenedPass OpensBer (RefusesBer E.from_error_kind_gives E.from_gives) }
+    ensures der { OpenedPass OpensDer (RefusesDer E.from_error_kind_gives E.from_gives) }
+    ensures ber_number { (n : ℕ) → OpenedPass (OpensBerNumber n)
+        (RefusesBerNumber E.from_error_kind_gives E.from_gives n) }
+    ensures der_number { (n : ℕ) → OpenedPass (OpensDerNumber n)
+        (RefusesDerNumber E.from_error_kind_gives E.from_gives n) }
+    ensures ber_explicit { (n : ℕ) → OpenedPass (λ i. OpensExplicit (OpensBer i) n)
+        (λ i. RefusesExplicit (OpensBer i) (RefusesBer E.from_error_kind_gives E.from_gives i) E.from_gives n) }
+    ensures der_explicit { (n : ℕ) → OpenedPass (λ i. OpensExplicit (OpensDer i) n)
+        (λ i. RefusesExplicit (OpensDer i) (RefusesDer E.from_error_kind_gives E.from_gives i) E.from_gives n) }
 {}

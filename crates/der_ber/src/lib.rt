@@ -4,6 +4,7 @@
 pub mod content;
 pub mod laws;
 pub mod leaf;
+pub mod lists;
 pub mod multi;
 pub mod number;
 pub mod opened;
@@ -17,10 +18,11 @@ pub use content::{
     parse_ber_content2,
 };
 pub use multi::{
-    BerContainer, BerSequenceDefined, BerSequenceDefinedG, BerSequenceOfV, BerSetDefined,
-    BerSetDefinedG, BerSetOfV, parse_ber_container, parse_ber_sequence_defined,
-    parse_ber_sequence_defined_g, parse_ber_sequence_of_v, parse_ber_set_defined,
-    parse_ber_set_defined_g, parse_ber_set_of_v, parse_ber_slice,
+    BerContainer, BerSequenceDefined, BerSequenceDefinedG, BerSequenceOf, BerSequenceOfV,
+    BerSetDefined, BerSetDefinedG, BerSetOf, BerSetOfV, parse_ber_container,
+    parse_ber_sequence_defined, parse_ber_sequence_defined_g, parse_ber_sequence_of,
+    parse_ber_sequence_of_v, parse_ber_set_defined, parse_ber_set_defined_g, parse_ber_set_of,
+    parse_ber_set_of_v, parse_ber_slice,
 };
 pub use number::{parse_ber_i32, parse_ber_i64, parse_ber_u32, parse_ber_u64};
 pub use parser::{

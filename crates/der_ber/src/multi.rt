@@ -11,8 +11,9 @@ ghost use Rattle.der_base.specs.Spelling.{BeginsWithElement, framing_budget};
 ghost use Rattle.der_object.specs.Combined.{IsSequenceOf, IsSetOf};
 ghost use Rattle.der_ber.specs.BerSlices.{AnswersSlice, ReadsSlice, SliceRefuses};
 
+use crate::lists::{parse_items, parse_objects};
 use crate::opened::{
-    Opened, parse_content, parse_items, parse_list_content, with_number, with_sequence, with_set,
+    Opened, parse_content, parse_list_content, with_number, with_sequence, with_set,
 };
 use der_base::any::Any;
 use der_base::error::{BerError, Err, ErrorKind, IResult, ParseError};
@@ -282,6 +283,84 @@ impl<F> BerSetOfV<F> {
             (OnItems E.from_error_kind_gives F.step) self.old result self.new }
     {
         parse_items(self.alloc, &mut self.f, open_number(i, Tag::Set))
+    }
+}
+
+/// A parser of a SEQUENCE OF object, which keeps the parser of its items.
+#[derive(Drop)]
+pub struct BerSequenceOf<F> {
+    f: F,
+    alloc: Global,
+}
+
+impl<F> Model for BerSequenceOf<F> {
+    ghost Value = { F };
+
+    ghost view = { λ c. c.f };
+}
+
+/// A parser of an element of the tag number 16, SEQUENCE, that reads its content by `f`, object after
+/// object (X.690 8.10).
+pub fn parse_ber_sequence_of<'a, F, E>(alloc: Global, f: F) -> BerSequenceOf<F>
+where
+    F: FnMut(&'a [u8]) -> IResult<&'a [u8], BerObject<'a>, E>,
+    ensures { result ≡ f }
+{
+    BerSequenceOf { f, alloc }
+}
+
+impl<F> BerSequenceOf<F> {
+    /// Reads as `BerSequenceOfV::parse`, and refuses and wants memory as it does. The answer is the
+    /// SEQUENCE of its items, as `BerObject::from_seq` makes it.
+    pub fn parse<'a, E>(&mut self, i: &'a [u8]) -> IResult<&'a [u8], BerObject<'a>, E>
+    where
+        F: FnMut(&'a [u8]) -> IResult<&'a [u8], BerObject<'a>, E>,
+        E: ParseError<&'a [u8]> + From<BerError>,
+        requires { F.IsAlwaysCallable self.old }
+        ensures callable { F.IsAlwaysCallable self.new }
+        ensures run { BerNumberRun 16 E.from_error_kind_gives E.from_gives i.now
+            (Made IsSequenceOf (OnItems E.from_error_kind_gives F.step)) self.old result self.new }
+    {
+        with_sequence(parse_objects(self.alloc, &mut self.f, open_number(i, Tag::Sequence)))
+    }
+}
+
+/// A parser of a SET OF object, which keeps the parser of its items.
+#[derive(Drop)]
+pub struct BerSetOf<F> {
+    f: F,
+    alloc: Global,
+}
+
+impl<F> Model for BerSetOf<F> {
+    ghost Value = { F };
+
+    ghost view = { λ c. c.f };
+}
+
+/// A parser of an element of the tag number 17, SET, that reads its content by `f`, object after
+/// object (X.690 8.12).
+pub fn parse_ber_set_of<'a, F, E>(alloc: Global, f: F) -> BerSetOf<F>
+where
+    F: FnMut(&'a [u8]) -> IResult<&'a [u8], BerObject<'a>, E>,
+    ensures { result ≡ f }
+{
+    BerSetOf { f, alloc }
+}
+
+impl<F> BerSetOf<F> {
+    /// Reads as `BerSetOfV::parse`, and refuses and wants memory as it does. The answer is the SET of
+    /// its items, as `BerObject::from_set` makes it.
+    pub fn parse<'a, E>(&mut self, i: &'a [u8]) -> IResult<&'a [u8], BerObject<'a>, E>
+    where
+        F: FnMut(&'a [u8]) -> IResult<&'a [u8], BerObject<'a>, E>,
+        E: ParseError<&'a [u8]> + From<BerError>,
+        requires { F.IsAlwaysCallable self.old }
+        ensures callable { F.IsAlwaysCallable self.new }
+        ensures run { BerNumberRun 17 E.from_error_kind_gives E.from_gives i.now
+            (Made IsSetOf (OnItems E.from_error_kind_gives F.step)) self.old result self.new }
+    {
+        with_set(parse_objects(self.alloc, &mut self.f, open_number(i, Tag::Set)))
     }
 }
 

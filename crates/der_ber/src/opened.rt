@@ -1,17 +1,15 @@
 //! What combinators do with an element that was opened, by BER and by DER alike.
-ghost use Rattle.std.specs.Prelude.{IfErr, IfOk, Result};
+ghost use Rattle.std.specs.Prelude.{IfErr, IfOk};
 ghost use Rattle.der_base.specs.Containers.{ContainerRun, OnContent, OnImplicit, OpensExplicit, OpensNumber};
 ghost use Rattle.der_base.specs.Containers.{RefusesExplicit, RefusesNumber};
 ghost use Rattle.der_base.specs.Inner.Opened.{IsOpened, IsUnopened, Remakes};
-ghost use Rattle.der_base.specs.ListSteps.{ListSteps, OnItems};
 ghost use Rattle.der_object.specs.declared.object.BerObjectContent.TheVariants.{Sequence, Set};
 ghost use Rattle.der_object.specs.Objects.{IsMadeOf};
 
 use der_base::MAX_RECURSION;
-use der_base::error::{BerError, Err, ErrorKind, IResult, ParseError};
+use der_base::error::{BerError, Err, IResult};
 use der_base::header::{Class, Header, Length, Tag};
 use der_object::{BerObject, BerObjectContent};
-use std::alloc::Global;
 
 /// An element that was opened: its header, its content octets, and what follows it.
 pub type Opened<'a> = (Header<'a>, &'a [u8], &'a [u8]);
@@ -133,71 +131,6 @@ where
     match f(content, header.with_length(length), MAX_RECURSION) {
         Ok((_, value)) => return Ok((after, value)),
         Err(e) => return Err(e),
-    }
-}
-
-/// Calls `f` on the content of an element that was opened, and again on what each call leaves, or
-/// passes on why none was. The values are answered in their order.
-pub fn parse_items<'a, F, O, E>(
-    alloc: Global,
-    f: &mut F,
-    opened: Result<Opened<'a>, Err<E>>,
-) -> IResult<&'a [u8], Vec<O>, E>
-where
-    F: FnMut(&'a [u8]) -> IResult<&'a [u8], O, E>,
-    O: Drop,
-    E: ParseError<&'a [u8]>,
-    requires { F.IsAlwaysCallable f.old }
-    ensures callable { F.IsAlwaysCallable f.new }
-    ensures run { ContainerRun (IsOpened opened.entry) (IsUnopened opened.entry)
-        (OnItems E.from_error_kind_gives F.step) f.old result f.new }
-{
-    let (_, content, after) = match opened {
-        Ok(parts) => parts,
-        Err(e) => return Err(e),
-    };
-    match read_items(alloc, f, content) {
-        Ok(values) => return Ok((after, values)),
-        Err(e) => return Err(e),
-    }
-}
-
-/// Calls `f` on `content`, and again on what each call leaves, until it answers Incomplete. Octets
-/// that are left then are Eof. An Error of `f` is a Failure; its Failure and OutOfMemory pass. A
-/// rest that isn't shorter is Many0.
-fn read_items<'a, F, O, E>(alloc: Global, f: &mut F, content: &'a [u8]) -> Result<Vec<O>, Err<E>>
-where
-    F: FnMut(&'a [u8]) -> IResult<&'a [u8], O, E>,
-    O: Drop,
-    E: ParseError<&'a [u8]>,
-    requires { F.IsAlwaysCallable f.old }
-    ensures callable { F.IsAlwaysCallable f.new }
-    ensures ok { IfOk result (λ v.
-        ListSteps F.step E.from_error_kind_gives content.now f.old (Ok v.items) f.new) }
-    ensures err { IfErr result (λ e.
-        ListSteps F.step E.from_error_kind_gives content.now f.old (Result.Err e) f.new) }
-{
-    let mut values = Vec::new(alloc);
-    let mut input = content;
-    loop {
-        match f(input) {
-            Ok((rest, value)) => {
-                if rest.len() >= input.len() {
-                    return Err(Err::Error(E::from_error_kind(input, ErrorKind::Many0)));
-                }
-                values.push(value)?;
-                input = rest;
-            }
-            Err(Err::Incomplete(_)) => {
-                if !input.is_empty() {
-                    return Err(Err::Error(E::from_error_kind(input, ErrorKind::Eof)));
-                }
-                return Ok(values);
-            }
-            Err(Err::Error(e)) => return Err(Err::Failure(e)),
-            Err(Err::Failure(e)) => return Err(Err::Failure(e)),
-            Err(Err::OutOfMemory) => return Err(Err::OutOfMemory),
-        }
     }
 }
 

@@ -16,10 +16,11 @@ pub use content::{
     parse_der_content, parse_der_content2,
 };
 pub use multi::{
-    DerContainer, DerSequenceDefined, DerSequenceDefinedG, DerSequenceOfV, DerSetDefined,
-    DerSetDefinedG, DerSetOfV, parse_der_container, parse_der_sequence_defined,
-    parse_der_sequence_defined_g, parse_der_sequence_of_v, parse_der_set_defined,
-    parse_der_set_defined_g, parse_der_set_of_v, parse_der_slice,
+    DerContainer, DerSequenceDefined, DerSequenceDefinedG, DerSequenceOf, DerSequenceOfV,
+    DerSetDefined, DerSetDefinedG, DerSetOf, DerSetOfV, parse_der_container,
+    parse_der_sequence_defined, parse_der_sequence_defined_g, parse_der_sequence_of,
+    parse_der_sequence_of_v, parse_der_set_defined, parse_der_set_defined_g, parse_der_set_of,
+    parse_der_set_of_v, parse_der_slice,
 };
 pub use number::{parse_der_i32, parse_der_i64, parse_der_u32, parse_der_u64};
 pub use parser::{parse_der, parse_der_counted, parse_der_recursive};

@@ -11,8 +11,9 @@ ghost use Rattle.der_object.specs.Combined.{IsSequenceOf, IsSetOf};
 
 use der_base::error::{BerError, Err, ErrorKind, IResult, ParseError};
 use der_base::header::{Header, Length, Tag, der_read_element_header};
+use der_ber::lists::{parse_items, parse_objects};
 use der_ber::opened::{
-    Opened, parse_content, parse_items, parse_list_content, with_number, with_sequence, with_set,
+    Opened, parse_content, parse_list_content, with_number, with_sequence, with_set,
 };
 use der_object::BerObject;
 use std::alloc::Global;
@@ -242,6 +243,83 @@ impl<F> DerSetOfV<F> {
             (OnItems E.from_error_kind_gives F.step) self.old result self.new }
     {
         parse_items(self.alloc, &mut self.f, open_number(i, Tag::Set))
+    }
+}
+
+/// A parser of a SEQUENCE OF object, which keeps the parser of its items.
+#[derive(Drop)]
+pub struct DerSequenceOf<F> {
+    f: F,
+    alloc: Global,
+}
+
+impl<F> Model for DerSequenceOf<F> {
+    ghost Value = { F };
+
+    ghost view = { λ c. c.f };
+}
+
+/// A parser of an element of the tag number 16, SEQUENCE, that reads its content by `f`, object after
+/// object (X.690 8.10).
+pub fn parse_der_sequence_of<'a, F, E>(alloc: Global, f: F) -> DerSequenceOf<F>
+where
+    F: FnMut(&'a [u8]) -> IResult<&'a [u8], BerObject<'a>, E>,
+    ensures { result ≡ f }
+{
+    DerSequenceOf { f, alloc }
+}
+
+impl<F> DerSequenceOf<F> {
+    /// Reads as `BerSequenceOf::parse`, but opens the element as `DerContainer::parse` does.
+    pub fn parse<'a, E>(&mut self, i: &'a [u8]) -> IResult<&'a [u8], BerObject<'a>, E>
+    where
+        F: FnMut(&'a [u8]) -> IResult<&'a [u8], BerObject<'a>, E>,
+        E: ParseError<&'a [u8]> + From<BerError>,
+        requires { F.IsAlwaysCallable self.old }
+        ensures callable { F.IsAlwaysCallable self.new }
+        ensures run { DerNumberRun 16 E.from_error_kind_gives E.from_gives i.now
+            (Made IsSequenceOf (OnItems E.from_error_kind_gives F.step)) self.old result self.new }
+    {
+        with_sequence(parse_objects(self.alloc, &mut self.f, open_number(i, Tag::Sequence)))
+    }
+}
+
+/// A parser of a SET OF object, which keeps the parser of its items.
+#[derive(Drop)]
+pub struct DerSetOf<F> {
+    f: F,
+    alloc: Global,
+}
+
+impl<F> Model for DerSetOf<F> {
+    ghost Value = { F };
+
+    ghost view = { λ c. c.f };
+}
+
+/// A parser of an element of the tag number 17, SET, that reads its content by `f`, object after
+/// object (X.690 8.12).
+pub fn parse_der_set_of<'a, F, E>(alloc: Global, f: F) -> DerSetOf<F>
+where
+    F: FnMut(&'a [u8]) -> IResult<&'a [u8], BerObject<'a>, E>,
+    ensures { result ≡ f }
+{
+    DerSetOf { f, alloc }
+}
+
+impl<F> DerSetOf<F> {
+    /// Reads as `BerSetOf::parse`, but opens the element as `DerContainer::parse` does. The items
+    /// may stand in any order.
+    pub fn parse<'a, E>(&mut self, i: &'a [u8]) -> IResult<&'a [u8], BerObject<'a>, E>
+    where
+        F: FnMut(&'a [u8]) -> IResult<&'a [u8], BerObject<'a>, E>,
+        E: ParseError<&'a [u8]> + From<BerError>,
+        requires { F.IsAlwaysCallable self.old }
+        ensures callable { F.IsAlwaysCallable self.new }
+        ensures run { DerNumberRun 17 E.from_error_kind_gives E.from_gives i.now
+            (Made IsSetOf (OnItems E.from_error_kind_gives F.step)) self.old result self.new }
+    {
+        with_set(parse_objects(self.alloc, &mut self.f, open_number(i, Tag::Set)))
     }
 }
 

@@ -1,6 +1,6 @@
 use Rattle.std.proofs.Common.{refl, inl, inr}
 use Rattle.der_base.specs.Containers.{refused, stopped, accepted}
-use Rattle.der_ber.proofs.opened.parse_items.Goals as goal
+use Rattle.der_ber.proofs.lists.parse_items.Goals as goal
 
 pub returns-in-Err-clause-run : goal.returns-in-Err-clause-run
 returns-in-Err-clause-run g c = rw c.in-Err.is (inl (refused refl))
