@@ -5,7 +5,7 @@ use Rattle.std.specs.Prelude.{◌≡◌, ◌≢◌, ℕ, ◌<◌, ◌⊎◌, Boo
 use Rattle.std.specs.Prelude.{Result, Ok, Err}
 use Rattle.std.specs.Borrow.{Bor}
 use Rattle.der_base.specs.declared.error.Err.{Err as Refused}
-use Rattle.der_base.specs.declared.error.Err.TheVariants.{Incomplete, Error}
+use Rattle.der_base.specs.declared.error.Err.TheVariants.{Incomplete, Error, OutOfMemory}
 use Rattle.der_base.specs.declared.error.Error.{Error as BerError}
 use Rattle.der_base.specs.declared.error.ErrorKind.{ErrorKind}
 use Rattle.der_base.specs.declared.error.ErrorKind.TheVariants.{Eof}
@@ -192,6 +192,16 @@ module _ {F V O E : Type 0} (makes : Header → V → O → Type 0)
     made : {g : F} {left : Bor (List ℕ)} {v : V} {o : O} → step f content h (Ok (left, v)) g → makes h v o
         → Made f content h (Ok (left, o)) g
 
+  -- the same of a value that takes memory, of which there may be none
+  pub data MadeInMemory (f : F) (content : Bor (List ℕ)) (h : Header) : Answered O E → F → Type 0 where
+    enough : {g : F} {r : Answered O E} → Made f content h r g → MadeInMemory f content h r g
+    no_room : {g : F} {left : Bor (List ℕ)} {v : V} → step f content h (Ok (left, v)) g
+        → MadeInMemory f content h (Err OutOfMemory) g
+
 -- a parser that is kept beside a tag, which stays
 abbrev pub KeepsTag : {T F A : Type 0} → (T → F → A → F → Type 0) → T × F → A → T × F → Type 0
 KeepsTag run old r new = (new.0 ≡ old.0) × run old.0 old.1 r new.1
+
+-- a parser that is let go after its run
+abbrev pub LetsGo : {F A : Type 0} → (F → A → F → Type 0) → F → A → Type 0
+LetsGo {F} run f r = (g : F) × run f r g

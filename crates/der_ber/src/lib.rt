@@ -5,6 +5,7 @@ pub mod content;
 pub mod laws;
 pub mod leaf;
 pub mod lists;
+pub mod made;
 pub mod multi;
 pub mod number;
 pub mod opened;
@@ -30,8 +31,9 @@ pub use parser::{
     parse_ber_recursive,
 };
 pub use tagged::{
-    BerTaggedExplicitG, BerTaggedImplicitG, parse_ber_tagged_explicit_g,
-    parse_ber_tagged_implicit_g,
+    BerOptional, BerTaggedExplicit, BerTaggedExplicitG, BerTaggedImplicit, BerTaggedImplicitG,
+    parse_ber_explicit_optional, parse_ber_implicit, parse_ber_optional, parse_ber_tagged_explicit,
+    parse_ber_tagged_explicit_g, parse_ber_tagged_implicit, parse_ber_tagged_implicit_g,
 };
 pub use typed::{
     parse_ber_bitstring, parse_ber_bmpstring, parse_ber_bool, parse_ber_endofcontent,

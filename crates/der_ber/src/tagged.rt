@@ -1,13 +1,18 @@
 //! Combinators for explicit and implicit tags (X.690 8.14), which keep the tag number and the
-//! caller's parser.
+//! caller's parser, and for objects that may be absent.
 ghost use Rattle.std.specs.Prelude.{◌≡◌, IfErr, IfOk};
-ghost use Rattle.der_base.specs.Containers.{BerExplicitRun, BerNumberRun, KeepsTag, OnImplicit};
+ghost use Rattle.der_base.specs.Containers.{BerExplicitRun, BerNumberRun, KeepsTag, LetsGo};
+ghost use Rattle.der_base.specs.Containers.{MadeInMemory, OnContent, OnImplicit};
 ghost use Rattle.der_base.specs.Containers.{OpensBer, OpensExplicit, RefusesBer, RefusesExplicit};
+ghost use Rattle.der_object.specs.Combined.{IsTagged, MakesObject, OptionalRun};
 
+use crate::made::{may_be_absent, parse_object_content, parse_tagged_content};
 use crate::multi::{open_element, open_number};
 use crate::opened::{Opened, parse_content, parse_implicit_content, with_explicit_tag};
 use der_base::error::{BerError, Err, IResult, ParseError};
 use der_base::header::{Header, Tag};
+use der_object::{BerObject, BerObjectContent};
+use std::alloc::Global;
 use std::marker::Model;
 
 /// The element that `i` begins with, where it is an explicit tag of this number.
@@ -110,4 +115,167 @@ impl<F> BerTaggedImplicitG<F> {
     {
         parse_implicit_content(&mut self.f, open_number(i, self.tag))
     }
+}
+
+/// A parser of an object inside an explicit tag, which keeps the tag number and the parser of the
+/// object.
+#[derive(Drop)]
+pub struct BerTaggedExplicit<F> {
+    tag: Tag,
+    f: F,
+    alloc: Global,
+}
+
+impl<F> Model for BerTaggedExplicit<F> {
+    ghost use Rattle.der_base.specs.declared.header.Tag.{Tag};
+
+    ghost Value = { Tag × F };
+
+    ghost view = { λ c. (c.tag, c.f) };
+}
+
+/// A parser of an object inside an explicit tag of this number (X.690 8.14.2), which `f` reads.
+pub fn parse_ber_tagged_explicit<'a, F, E>(alloc: Global, tag: Tag, f: F) -> BerTaggedExplicit<F>
+where
+    F: FnMut(&'a [u8]) -> IResult<&'a [u8], BerObject<'a>, E>,
+    ensures { result ≡ (tag, f) }
+{
+    BerTaggedExplicit { tag, f, alloc }
+}
+
+impl<F> BerTaggedExplicit<F> {
+    /// Reads as `BerTaggedExplicitG::parse`, and calls the kept parser on the content octets alone.
+    /// The answer is the content `Tagged` with the class and the number of the tag and the object
+    /// in a box, under the header of the tag. The box may want memory, behind the call of the
+    /// parser.
+    pub fn parse<'a, E>(&mut self, i: &'a [u8]) -> IResult<&'a [u8], BerObject<'a>, E>
+    where
+        F: FnMut(&'a [u8]) -> IResult<&'a [u8], BerObject<'a>, E>,
+        E: ParseError<&'a [u8]> + From<BerError>,
+        requires { F.IsAlwaysCallable self.old.1 }
+        ensures callable { F.IsAlwaysCallable self.new.1 }
+        ensures run { KeepsTag (λ t. BerExplicitRun t.0 E.from_error_kind_gives E.from_gives i.now
+            (MadeInMemory IsTagged (OnContent F.step))) self.old result self.new }
+    {
+        parse_tagged_content(self.alloc, &mut self.f, open_explicit(i, self.tag))
+    }
+}
+
+/// A parser of an object under an implicit tag, which keeps the tag number and the parser of its
+/// content.
+#[derive(Drop)]
+pub struct BerTaggedImplicit<F> {
+    tag: Tag,
+    f: F,
+}
+
+impl<F> Model for BerTaggedImplicit<F> {
+    ghost use Rattle.der_base.specs.declared.header.Tag.{Tag};
+
+    ghost Value = { Tag × F };
+
+    ghost view = { λ c. (c.tag, c.f) };
+}
+
+/// A parser of an object under an implicit tag of this number (X.690 8.14.3), whose content `f`
+/// reads from the content octets, the header and the depth `MAX_RECURSION`.
+pub fn parse_ber_tagged_implicit<'a, F, E>(tag: Tag, f: F) -> BerTaggedImplicit<F>
+where
+    F: FnMut(&'a [u8], &Header<'a>, usize) -> IResult<&'a [u8], BerObjectContent<'a>, E>,
+    ensures { result ≡ (tag, f) }
+{
+    BerTaggedImplicit { tag, f }
+}
+
+impl<F> BerTaggedImplicit<F> {
+    /// Reads as `BerTaggedImplicitG::parse`. The answer is the object of the content that the kept
+    /// parser answers, under the header that the parser gets.
+    pub fn parse<'a, E>(&mut self, i: &'a [u8]) -> IResult<&'a [u8], BerObject<'a>, E>
+    where
+        F: FnMut(&'a [u8], &Header<'a>, usize) -> IResult<&'a [u8], BerObjectContent<'a>, E>,
+        E: ParseError<&'a [u8]> + From<BerError>,
+        requires { F.IsAlwaysCallable self.old.1 }
+        ensures callable { F.IsAlwaysCallable self.new.1 }
+        ensures run { KeepsTag (λ t. BerNumberRun t.0 E.from_error_kind_gives E.from_gives i.now
+            (OnImplicit (MakesObject F.step))) self.old result self.new }
+    {
+        parse_object_content(&mut self.f, open_number(i, self.tag))
+    }
+}
+
+/// Reads `i` by `parse_ber_tagged_implicit(tag, f)`.
+pub fn parse_ber_implicit<'a, F, E>(
+    i: &'a [u8],
+    tag: Tag,
+    mut f: F,
+) -> IResult<&'a [u8], BerObject<'a>, E>
+where
+    F: FnMut(&'a [u8], &Header<'a>, usize) -> IResult<&'a [u8], BerObjectContent<'a>, E> + Drop,
+    E: ParseError<&'a [u8]> + From<BerError>,
+    requires { F.IsAlwaysCallable f }
+    ensures { LetsGo (BerNumberRun tag.0 E.from_error_kind_gives E.from_gives i.now
+        (OnImplicit (MakesObject F.step))) f result }
+{
+    parse_object_content(&mut f, open_number(i, tag))
+}
+
+/// A parser of an object that may be absent, which keeps the parser of the object.
+#[derive(Drop)]
+pub struct BerOptional<F> {
+    f: F,
+    alloc: Global,
+}
+
+impl<F> Model for BerOptional<F> {
+    ghost Value = { F };
+
+    ghost view = { λ c. c.f };
+}
+
+/// A parser of an object that may be absent, which `f` reads where it is there.
+pub fn parse_ber_optional<'a, F, E>(alloc: Global, f: F) -> BerOptional<F>
+where
+    F: FnMut(&'a [u8]) -> IResult<&'a [u8], BerObject<'a>, E>,
+    ensures { result ≡ f }
+{
+    BerOptional { f, alloc }
+}
+
+impl<F> BerOptional<F> {
+    /// Calls the kept parser once, on `i`. An object that it reads is the content `Optional` with
+    /// the object in a box, under the object's own header; the box may want memory. OutOfMemory of
+    /// the parser passes. Its Incomplete, its Error and its Failure say that the object is absent:
+    /// the content is `Optional` with none, as `BerObject::from_obj` makes it, and all of `i` is
+    /// left.
+    pub fn parse<'a, E>(&mut self, i: &'a [u8]) -> IResult<&'a [u8], BerObject<'a>, E>
+    where
+        F: FnMut(&'a [u8]) -> IResult<&'a [u8], BerObject<'a>, E>,
+        E: Drop,
+        requires { F.IsAlwaysCallable self.old }
+        ensures callable { F.IsAlwaysCallable self.new }
+        ensures run { OptionalRun F.step i.now self.old result self.new }
+    {
+        may_be_absent(self.alloc, i, (self.f)(i))
+    }
+}
+
+/// Reads `i` by `parse_ber_tagged_explicit(alloc, tag, f)`, as an object that may be absent.
+pub fn parse_ber_explicit_optional<'a, F, E>(
+    alloc: Global,
+    i: &'a [u8],
+    tag: Tag,
+    mut f: F,
+) -> IResult<&'a [u8], BerObject<'a>, E>
+where
+    F: FnMut(&'a [u8]) -> IResult<&'a [u8], BerObject<'a>, E> + Drop,
+    E: ParseError<&'a [u8]> + From<BerError> + Drop,
+    requires { F.IsAlwaysCallable f }
+    ensures { LetsGo (OptionalRun (λ f p. BerExplicitRun tag.0 E.from_error_kind_gives E.from_gives p.now
+        (MadeInMemory IsTagged (OnContent F.step)) f) i.now) f result }
+{
+    may_be_absent(
+        alloc,
+        i,
+        parse_tagged_content(alloc, &mut f, open_explicit(i, tag)),
+    )
 }

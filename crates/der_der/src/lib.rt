@@ -15,6 +15,8 @@ pub use content::{
     DerContent, DerContent2, der_read_element_content, der_read_element_content_as,
     parse_der_content, parse_der_content2,
 };
+/// An object that may be absent is read the same by BER: the rule set is that of the kept parser.
+pub use der_ber::{BerOptional as DerOptional, parse_ber_optional as parse_der_optional};
 pub use multi::{
     DerContainer, DerSequenceDefined, DerSequenceDefinedG, DerSequenceOf, DerSequenceOfV,
     DerSetDefined, DerSetDefinedG, DerSetOf, DerSetOfV, parse_der_container,
@@ -25,8 +27,9 @@ pub use multi::{
 pub use number::{parse_der_i32, parse_der_i64, parse_der_u32, parse_der_u64};
 pub use parser::{parse_der, parse_der_counted, parse_der_recursive};
 pub use tagged::{
-    DerTaggedExplicitG, DerTaggedImplicitG, parse_der_tagged_explicit_g,
-    parse_der_tagged_implicit_g,
+    DerTaggedExplicit, DerTaggedExplicitG, DerTaggedImplicit, DerTaggedImplicitG,
+    parse_der_explicit_optional, parse_der_implicit, parse_der_tagged_explicit,
+    parse_der_tagged_explicit_g, parse_der_tagged_implicit, parse_der_tagged_implicit_g,
 };
 pub use typed::{
     parse_der_bitstring, parse_der_bmpstring, parse_der_bool, parse_der_endofcontent,

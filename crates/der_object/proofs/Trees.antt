@@ -1,4 +1,4 @@
--- The trees of lists of objects.
+-- The trees of lists of objects, of tagged objects, and of those that may be absent.
 use Rattle.std.proofs.Common.{Some, None, Option, ◌≡◌, ◌≢◌, ℕ, zero, suc, ◌+◌, ◌-◌, ◌<◌, ◌≤◌, Bool, true, false, ◌&&◌, List, [], ◌∷◌, ◌++◌, length, drop, get_or, refl, sym, ap, ◌∙◌, arith, append_assoc, length-append}
 use Rattle.std.proofs.Math.ListN.{drop_of_length-le}
 use Rattle.std.proofs.lemmas.List.{append-nil, drop_more}
@@ -12,7 +12,7 @@ use Rattle.der_base.specs.Encoding.{encoding, encodings, content_octets, element
 use Rattle.der_base.specs.Header.{class_of, is_constructed, number_of}
 use Rattle.der_base.specs.Octets.{identifier, shortest_length}
 use Rattle.der_base.specs.TreeEquality.{same_node, same_content, same_nodes}
-use Rattle.der_base.specs.Tree.{sequence, set, Nodes, no_nodes, nodes}
+use Rattle.der_base.specs.Tree.{sequence, set, present, tagged, Nodes, no_nodes, nodes}
 use Rattle.der_object.specs.declared.object.BerObject.{BerObject}
 use Rattle.der_object.specs.declared.object.BerObjectContent.{BerObjectContent, roll-BerObjectContent, roll-out-BerObjectContent, Row_of-BerObject, end_of-BerObject, more_of-BerObject, items-the_row-BerObject, Held-BerObjectContent-Optional-0, None', Some'}
 use Rattle.der_object.specs.declared.object.BerObjectContent.TheVariants.{Null, Optional, Tagged, Sequence, Set, Optional', Tagged', Sequence', Set', outs-Sequence', outs-Set', rolls-Sequence, rolls-Set}
@@ -133,3 +133,11 @@ same_sequences x y v w xs ys e f g h = rw (e, f, g, h, sequence_tree v, sequence
 pub same_sets : (x y : BerObjectContent) (v w : Vec BerObject Global) (xs ys : List BerObject) → x ≡ Set v → y ≡ Set w → xs ≡ v.items → ys ≡ w.items
     → same_nodes (trees xs) (trees ys) ≡ same_content (content_tree x) (content_tree y)
 same_sets x y v w xs ys e f g h = rw (e, f, g, h, set_tree v, set_tree w) refl
+
+-- an object inside a tag, and one that is there
+pub tagged_object_tree : (h : Header) (o x : BerObject) (t : Tag) (b : Box BerObject) → x.header ≡ h → x.content ≡ Tagged (class_of h) t b → t.0 ≡ number_of h → b.value ≡ o
+    → tree x ≡ node_of h (tagged (class_of h) (number_of h) (tree o))
+tagged_object_tree h o x t b p q n e = ap (λ h. node_of h (content_tree x.content)) p ∙ ap (λ c. node_of h (content_tree c)) q ∙ rw (n, e) refl
+
+pub present_object_tree : (o x : BerObject) (b : Box BerObject) → x.header ≡ o.header → x.content ≡ Optional (Some b) → b.value ≡ o → tree x ≡ node_of o.header (present (tree o))
+present_object_tree o x b p q e = ap (λ h. node_of h (content_tree x.content)) p ∙ ap (λ c. node_of o.header (content_tree c)) q ∙ rw e refl
