@@ -6,6 +6,7 @@ pub mod ItemLists
 pub mod Joins
 pub mod ListCopies
 pub mod Room
+pub mod Sending
 pub mod Trees
 pub mod TypedLaws
 mod WorkedRows

@@ -1,5 +1,6 @@
 -- Octets that were written in front of others.
-use Rattle.std.proofs.Common.{◌≡◌, ℕ, ◌≤◌, List, [], ◌++◌, length, drop, refl, ap, ◌∙◌, sym, arith, append_assoc, length-append}
+use Rattle.std.proofs.Common.{◌≡◌, ℕ, ◌≤◌, List, [], ◌++◌, length, drop, take, refl, ap, ◌∙◌, sym, arith, append_assoc, length-append}
+use Rattle.std.proofs.Math.Seq.{take-append_seam}
 use Rattle.std.proofs.lemmas.List.{append-nil, drop_all}
 use Rattle.der_object.specs.Room.{PutsBefore}
 
@@ -21,3 +22,10 @@ pub puts_all : {old new w : List ℕ} {end begin : ℕ} → PutsBefore old new e
 puts_all {old = old} {new = new} {w = w} {end = end} {begin = begin} h fills most =
     let b : begin ≡ 0 = omega (arith, h.begins) in
     sym (ap (λ n. drop n new) b) ∙ h.octets ∙ ap (λ l. w ++ l) (drop_all end old most) ∙ append-nil w
+
+-- octets that end at a place and are as many as it leaves room for stand at the front
+pub puts_front : {old new w : List ℕ} {end begin : ℕ} → PutsBefore old new end w begin → length w ≡ end → take end new ≡ w
+puts_front {old = old} {new = new} {w = w} {end = end} {begin = begin} h fills =
+    let b : begin ≡ 0 = omega (arith, h.begins) in
+    let e : new ≡ w ++ drop end old = sym (ap (λ n. drop n new) b) ∙ h.octets in
+    rw e (ap (λ n. take n (w ++ drop end old)) (sym fills) ∙ take-append_seam w (drop end old))

@@ -1,2 +1,3 @@
 -- The definitions on worked inputs, proved or refuted.
 mod CopyRows
+mod Writes

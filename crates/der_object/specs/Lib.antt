@@ -2,9 +2,11 @@ pub mod Bits
 pub mod Clones
 pub mod Combined
 pub mod Counting
+pub mod Encoders
 pub mod HeaderFacts
 pub mod Items
 pub mod Objects
 pub mod Readings
 pub mod Room
 pub mod View
+pub mod Writing

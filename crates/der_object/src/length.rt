@@ -1,14 +1,16 @@
 //! How many octets an object has, counted before any is written.
-ghost use Rattle.std.specs.Prelude.{◌≡◌, ℕ, ◌+◌, ◌<◌, ◌≤◌, ◌^◌, Bool, List, length};
+ghost use Rattle.std.specs.Prelude.{◌≡◌, ℕ, ◌+◌, ◌<◌, ◌≤◌, ◌^◌, ◌++◌, Bool, List, length};
 ghost use Rattle.std.specs.Option.{SomeIff};
 ghost use Rattle.der_base.specs.declared.header.Class.{Class};
 ghost use Rattle.der_base.specs.Encoding.{encoding, encodings, content_octets, element};
+ghost use Rattle.der_base.specs.Header.{class_of, is_constructed, number_of};
 ghost use Rattle.der_base.specs.Octets.{identifier, shortest_length, shortest_integer, octets, groups, needs_zero};
+ghost use Rattle.der_object.specs.Encoders.{length_octets, header_octets, explicit_octets, implicit_octets};
 ghost use Rattle.der_object.specs.View.{tree, content_tree, trees};
 
 use crate::object::{BerObject, BerObjectContent};
 use crate::time::{GENERALIZED_YEAR, UTC_YEAR, time_length};
-use der_base::header::Tag;
+use der_base::header::{Header, Length, Tag};
 
 /// How many octets an object has, if at most 2^64-1.
 #[cycle(length)]
@@ -28,7 +30,7 @@ pub fn object_length(o: &BerObject<'_>) -> Option<usize>
 /// How many content octets there are, if at most 2^64-1.
 #[cycle(length)]
 #[tactic(auto, using(crate::proofs::Trees::sequence_tree, crate::proofs::Trees::set_tree))]
-fn content_length(content: &BerObjectContent<'_>) -> Option<usize>
+pub fn content_length(content: &BerObjectContent<'_>) -> Option<usize>
     ensures { let n = length (content_octets (content_tree content.now)) in
         SomeIff result (n < 2 ^ 64) n }
 {
@@ -63,6 +65,31 @@ fn items_length(items: &[BerObject<'_>]) -> Option<usize>
     Some(total)
 }
 
+/// How many octets an object has under an explicit tag, if at most 2^64-1 (8.14.2).
+pub fn explicit_length(tag: Tag, o: &BerObject<'_>) -> Option<usize>
+    ensures { (c : Class) → let n = length (explicit_octets c tag.0 (tree o.now)) in
+        SomeIff result (n < 2 ^ 64) n }
+{
+    element_length(tag, object_length(o)?)
+}
+
+/// How many octets an object has under an implicit tag, if at most 2^64-1 (8.14.3).
+pub fn implicit_length(tag: Tag, o: &BerObject<'_>) -> Option<usize>
+    ensures { (c : Class) → let n = length (implicit_octets c tag.0 (tree o.now)) in
+        SomeIff result (n < 2 ^ 64) n }
+{
+    element_length(tag, content_length(&o.content)?)
+}
+
+/// How many octets a header has with its own length and content octets have behind it, if at most
+/// 2^64-1.
+pub fn raw_length(header: &Header<'_>, content: &BerObjectContent<'_>) -> Option<usize>
+    ensures { let n = length (header_octets header.now ++ content_octets (content_tree content.now)) in
+        SomeIff result (n < 2 ^ 64) n }
+{
+    header_length(header, header.length()).checked_add(content_length(content)?)
+}
+
 /// How many octets an element of this tag with n content octets has, if at most 2^64-1.
 fn element_length(tag: Tag, n: usize) -> Option<usize>
     ensures { (c : Class) (p : Bool) →
@@ -70,6 +97,20 @@ fn element_length(tag: Tag, n: usize) -> Option<usize>
         SomeIff result (total < 2 ^ 64) total }
 {
     (identifier_octet_count(tag) + length_octet_count(n)).checked_add(n)
+}
+
+/// How many octets a header has with this length, an indefinite one too (8.1.3.6).
+pub fn header_length(header: &Header<'_>, stated: Length) -> usize
+    ensures count { let h = header.now in
+        let octets = identifier (class_of h) (is_constructed h) (number_of h) in
+        result ≡ length (octets ++ length_octets stated) }
+    ensures few { result ≤ 15 }
+{
+    let length_octets = match stated {
+        Length::Definite(n) => length_octet_count(n),
+        Length::Indefinite => 1,
+    };
+    identifier_octet_count(header.tag()) + length_octets
 }
 
 /// How many identifier octets a tag number has (8.1.2).
@@ -105,8 +146,9 @@ fn octet_count(n: usize) -> usize
 
 /// How many octets a number has in two's complement, the fewest (8.3.2).
 #[tactic(auto, unfolding(der_base::specs::Octets::shortest_integer))]
-fn integer_octet_count(n: u64) -> usize
-    ensures { result ≡ length (shortest_integer n) }
+pub fn integer_octet_count(n: u64) -> usize
+    ensures count { result ≡ length (shortest_integer n) }
+    ensures few { result ≤ 9 }
 {
     octet_count(n as usize) + usize::from(needs_zero(n))
 }

@@ -1,9 +1,11 @@
-//! Objects: the values that are read and written, their trees, their equality and their encoding.
+//! Objects: the values that are read and written, their trees, their equality and their encoding,
+//! in memory and over any writer.
 #![tactic(auto)]
 
 pub mod bit_string;
 mod copies;
 mod decimal;
+mod encode;
 mod equality;
 pub mod error;
 pub mod growth;
@@ -17,8 +19,14 @@ mod parts;
 mod questions;
 mod serialize;
 mod time;
+mod writer;
 
 pub use bit_string::BitStringObject;
+pub use encode::{
+    ber_encode_header, ber_encode_object, ber_encode_object_raw, ber_encode_tagged_explicit,
+    ber_encode_tagged_implicit,
+};
 pub use error::{BerResult, DerResult};
 pub use iterators::{BerObjectIntoIterator, BerObjectRefIterator};
 pub use object::{BerObject, BerObjectContent, DerObject, DerObjectContent};
+pub use writer::FaultWriter;

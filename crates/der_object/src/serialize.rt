@@ -129,7 +129,13 @@ fn write_header(out: &mut [u8], end: usize, header: &Header<'_>, n: usize) -> us
 
 /// Writes identifier octets in front of a place (8.1.2).
 #[tactic(auto, using(der_base::proofs::Octets::Identifiers::identifier_short, der_base::proofs::Octets::Identifiers::identifier_long, der_base::proofs::Octets::Numbers::identifier_short_length, der_base::proofs::Octets::Numbers::identifier_long_length))]
-fn write_identifier(out: &mut [u8], end: usize, class: Class, constructed: bool, tag: Tag) -> usize
+pub fn write_identifier(
+    out: &mut [u8],
+    end: usize,
+    class: Class,
+    constructed: bool,
+    tag: Tag,
+) -> usize
     requires room { length (identifier class constructed tag.0) ≤ end }
     requires within { end ≤ length out.old }
     ensures { PutsBefore out.old out.new end (identifier class constructed tag.0) result }
@@ -176,7 +182,7 @@ fn write_groups(out: &mut [u8], end: usize, n: u32) -> usize
 
 /// Writes length octets in front of a place, the fewest (8.1.3, 10.1).
 #[tactic(auto, using(der_base::proofs::Octets::Numbers::octets_leading), unfolding(der_base::specs::Octets::shortest_length))]
-fn write_length(out: &mut [u8], end: usize, n: usize) -> usize
+pub fn write_length(out: &mut [u8], end: usize, n: usize) -> usize
     requires room { length (shortest_length n) ≤ end }
     requires within { end ≤ length out.old }
     ensures { PutsBefore out.old out.new end (shortest_length n) result }
@@ -202,7 +208,7 @@ fn write_number(out: &mut [u8], end: usize, n: usize) -> usize
 
 /// Writes a number in two's complement in front of a place, in the fewest octets (8.3.2).
 #[tactic(auto, using(crate::proofs::Room::puts_both), unfolding(der_base::specs::Octets::shortest_integer))]
-fn write_integer(out: &mut [u8], end: usize, n: u64) -> usize
+pub fn write_integer(out: &mut [u8], end: usize, n: u64) -> usize
     requires room { length (shortest_integer n) ≤ end }
     requires within { end ≤ length out.old }
     ensures { PutsBefore out.old out.new end (shortest_integer n) result }

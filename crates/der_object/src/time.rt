@@ -19,7 +19,8 @@ pub const GENERALIZED_YEAR: usize = 4;
 #[tactic(auto, using(crate::proofs::Digits::text_length))]
 pub fn time_length(year_digits: usize, time: ASN1DateTime) -> usize
     requires { year_digits ≤ 4 }
-    ensures { result ≡ length (text_from_year year_digits time) }
+    ensures count { result ≡ length (text_from_year year_digits time) }
+    ensures few { result ≤ 119 }
 {
     digits_length(year_digits, time.year)
         + digits_length(2, u32::from(time.month))

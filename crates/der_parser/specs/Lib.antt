@@ -35,12 +35,14 @@ pub use Rattle.der_object.specs.Bits
 pub use Rattle.der_object.specs.Clones
 pub use Rattle.der_object.specs.Combined
 pub use Rattle.der_object.specs.Counting
+pub use Rattle.der_object.specs.Encoders
 pub use Rattle.der_object.specs.HeaderFacts
 pub use Rattle.der_object.specs.Items
 pub use Rattle.der_object.specs.Objects
 pub use Rattle.der_object.specs.Readings
 pub use Rattle.der_object.specs.Room
 pub use Rattle.der_object.specs.View
+pub use Rattle.der_object.specs.Writing
 pub use Rattle.der_ber.specs.BerContents
 pub use Rattle.der_ber.specs.BerReading
 pub use Rattle.der_ber.specs.BerSlices

@@ -46,6 +46,8 @@ pub mod ber {
     };
     pub use der_object::{
         BerObject, BerObjectContent, BerObjectIntoIterator, BerObjectRefIterator, BitStringObject,
+        FaultWriter, ber_encode_header, ber_encode_object, ber_encode_object_raw,
+        ber_encode_tagged_explicit, ber_encode_tagged_implicit,
     };
 
     /// Names that earlier versions of the crate had.

@@ -1,0 +1,77 @@
+//! A writer that counts its faults, and the sending of octets through it.
+ghost use Rattle.std.specs.Prelude.{◌≡◌};
+ghost use Rattle.std.specs.Io.{WritesAtMost};
+ghost use Rattle.std.specs.Io.KnownBytes.{WriteAppends};
+ghost use Rattle.der_object.specs.Writing.{inner_of, faults_of, faults_behind, written, Wrote};
+
+use der_base::error::GenError;
+use std::io;
+use std::io::{ErrorKind, Write};
+
+/// Hands octets on to a writer, and counts the writes that fail.
+#[derive(Drop)]
+pub struct FaultWriter<W> {
+    inner: W,
+    faults: u128,
+}
+
+impl<W> FaultWriter<W> {
+    /// A writer over this one, with no fault.
+    pub fn new(inner: W) -> FaultWriter<W>
+        ensures inner { inner_of result ≡ inner }
+        ensures none { faults_of result ≡ 0 }
+    {
+        FaultWriter { inner, faults: 0 }
+    }
+
+    /// The writer underneath.
+    pub fn into_inner(self) -> W
+        ensures { result ≡ inner_of self }
+    {
+        let FaultWriter { inner, faults: _ } = self;
+        inner
+    }
+
+    /// How many writes failed. It stays at its greatest value.
+    pub fn faults(&self) -> u128
+        ensures { result ≡ faults_of self.now }
+    {
+        self.faults
+    }
+}
+
+impl<W: Write> FaultWriter<W> {
+    /// Hands octets on, and answers how many were taken. A write fails where it answers an error, or
+    /// takes none of some octets.
+    pub fn write(&mut self, octets: &[u8]) -> io::Result<usize>
+        ensures bound { WritesAtMost result octets.now }
+        ensures octets { WriteAppends (written W.contents self.old) (written W.contents self.new) result octets.now }
+        ensures faults { faults_of self.new ≡ faults_behind (faults_of self.old) result octets.now }
+    {
+        let taken = self.inner.write(octets);
+        let failed = match &taken {
+            Ok(n) => *n == 0 && !octets.is_empty(),
+            Err(_) => true,
+        };
+        if failed {
+            self.faults = self.faults.saturating_add(1);
+        }
+        taken
+    }
+}
+
+/// Sends octets: what a write leaves goes into the next. The first write that fails ends it, one that
+/// was interrupted too.
+pub fn send<W: Write>(w: &mut FaultWriter<W>, octets: &[u8]) -> Result<(), GenError>
+    ensures { Wrote W.contents w.old w.new result octets.now }
+{
+    let mut at = 0;
+    'writes: while at < octets.len() {
+        match w.write(&octets[at..]) {
+            Ok(0) => return Err(GenError::Io(ErrorKind::WriteZero)),
+            Ok(n) => at += n,
+            Err(e) => return Err(GenError::Io(e.kind())),
+        }
+    }
+    Ok(())
+}
