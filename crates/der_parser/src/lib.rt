@@ -44,6 +44,7 @@ pub mod ber {
     pub use der_object::{
         BerObject, BerObjectContent, BerObjectIntoIterator, BerObjectRefIterator, BitStringObject,
     };
+    pub use der_visit::{Visit, VisitMut};
 
     /// Names that earlier versions of the crate had.
     pub mod compat {

@@ -12,7 +12,7 @@ use Rattle.der_object.specs.declared.object.BerObjectContent.{None', Some'}
 use Rattle.der_object.specs.declared.object.BerObjectContent.TheBlock.{shown-the_row-BerObject-0}
 use Rattle.der_object.specs.View.{tree, content_tree, trees}
 use Rattle.der_object.proofs.Trees.{sequence_tree, set_tree, every_sequence, every_set}
-use Rattle.der_visit.specs.Visiting.{MeetsAll, met_all, met}
+use Rattle.der_visit.specs.Visiting.{Quietly, MeetsAll, met_all, met}
 
 -- what a list's items are entered for
 pub sequence_listing : (x : BerObjectContent) (v : Vec BerObject Global) (os : List BerObject) (n m : ℕ) → x ≡ Sequence v → os ≡ v.items → m ≡ deeper n
@@ -55,6 +55,6 @@ module _ {S : Type 0} {O : S → Node → ℕ → S → Type 0} {C : S → Conte
   meets_more os i o within e h k = rw (listing_more os i o _ within e) (meets_both h k)
 
   -- an object's two functions, and then the items
-  pub meets_object : (o : BerObject) (m : S) {es : List (Node × ℕ)} {n : ℕ} {s k t : S} → O s (tree o) n m → C m (content_tree o.content) n k
+  pub meets_object : (o : BerObject) (m : S) {es : List (Node × ℕ)} {n : ℕ} {s k t : S} → Quietly O s (tree o) n m → Quietly C m (content_tree o.content) n k
       → content_listing (content_tree o.content) n ≡ es → MeetsAll O C es k t → MeetsAll O C (listing (tree o) n) s t
   meets_object o m a b e h = met (record { between = m; object = a; content = b }) (rw e h)

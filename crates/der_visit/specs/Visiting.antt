@@ -1,6 +1,7 @@
 -- What a visitor does, by two relations of its own: `object_step` of the function that is called at each object, and
 -- `content_step` of the function of the content's type.
 use Rattle.std.specs.Prelude.{◌≡◌, ℕ, Option, Some, None, List, [], ◌∷◌}
+use Rattle.std.specs.Global.{Box}
 use Rattle.der_base.specs.declared.any.Any.{Any}
 use Rattle.der_base.specs.declared.oid.Oid.{Oid}
 use Rattle.der_base.specs.Header.{class_of, is_constructed, number_of}
@@ -22,8 +23,8 @@ module _ {S : Type 0} (object_step : S → Node → ℕ → S → Type 0) (conte
   -- the two functions at one object, the general one first
   pub record MeetsObject (s : S) (o : Node) (n : ℕ) (t : S) : Type 0 where
     pub between : S
-    pub object : object_step s o n between
-    pub content : content_step between (content_of o) n t
+    pub object : Quietly object_step s o n between
+    pub content : Quietly content_step between (content_of o) n t
 
   -- one object after another
   pub data MeetsAll : List (Node × ℕ) → S → S → Type 0 where
@@ -42,6 +43,10 @@ relative_oid_content x = relative_oid (is_relative_of x) (octets_of x)
 abbrev pub optional_content : Option BerObject → Content
 optional_content None = absent
 optional_content (Some o) = present (tree o)
+
+abbrev pub boxed_content : Option (Box BerObject) → Content
+boxed_content None = absent
+boxed_content (Some b) = present (tree b.value)
 
 -- the content of an element of another class or type
 abbrev pub unknown_content : Any → Content

@@ -2,5 +2,7 @@
 #![tactic(auto)]
 
 mod visit;
+mod visit_mut;
 
 pub use visit::Visit;
+pub use visit_mut::VisitMut;

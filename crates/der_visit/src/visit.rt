@@ -174,7 +174,7 @@ pub trait Visit {
     final fn run<'t>(&mut self, object: &BerObject<'t>)
     where
         Self: Sized,
-        ensures { MeetsAll (Quietly object_step) (Quietly content_step) (listing (tree object.now) 0) self.old self.new }
+        ensures { MeetsAll object_step content_step (listing (tree object.now) 0) self.old self.new }
     {
         walk_object(self, object, 0);
     }
@@ -183,7 +183,7 @@ pub trait Visit {
     final fn run_at<'t>(&mut self, object: &BerObject<'t>, depth: usize)
     where
         Self: Sized,
-        ensures { MeetsAll (Quietly object_step) (Quietly content_step) (listing (tree object.now) depth) self.old self.new }
+        ensures { MeetsAll object_step content_step (listing (tree object.now) depth) self.old self.new }
     {
         walk_object(self, object, depth);
     }
@@ -237,7 +237,7 @@ fn visit_content<V: Visit>(visitor: &mut V, content: &BerObjectContent<'_>, dept
 /// Visits an object at this depth, and the items inside it.
 #[cycle(walk)]
 fn walk_object<V: Visit>(visitor: &mut V, object: &BerObject<'_>, depth: usize)
-    ensures { MeetsAll (Quietly V.object_step) (Quietly V.content_step) (listing (tree object.now) depth)
+    ensures { MeetsAll V.object_step V.content_step (listing (tree object.now) depth)
         visitor.old visitor.new }
 {
     visitor.visit_ber(object, depth);
@@ -254,7 +254,7 @@ fn walk_object<V: Visit>(visitor: &mut V, object: &BerObject<'_>, depth: usize)
 /// Visits the items at this depth, in their order, and what stands inside them.
 #[cycle(walk)]
 fn walk_items<V: Visit>(visitor: &mut V, items: &[BerObject<'_>], depth: usize)
-    ensures { MeetsAll (Quietly V.object_step) (Quietly V.content_step) (list_listing (trees items.now) depth)
+    ensures { MeetsAll V.object_step V.content_step (list_listing (trees items.now) depth)
         visitor.old visitor.new }
 {
     for item in items {
