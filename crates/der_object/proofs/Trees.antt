@@ -104,11 +104,11 @@ item_room os i o some within e =
     let w = ap length (ap encodings (item_before os i o some within e)) in
     omega (arith, w, left_within os (i - 1), length-append (encoding (tree o)) (encodings (trees (drop i os))))
 
-every_sequence : (shape : _) (row : _) → Sequence' shape row ≡ Sequence (shown-the_row-BerObject-0 shape row)
+pub every_sequence : (shape : _) (row : _) → Sequence' shape row ≡ Sequence (shown-the_row-BerObject-0 shape row)
 every_sequence shape row =
     sym (roll-out-BerObjectContent (Sequence' shape row)) ∙ ap roll-BerObjectContent (outs-Sequence' shape row) ∙ rolls-Sequence (shown-the_row-BerObject-0 shape row)
 
-every_set : (shape : _) (row : _) → Set' shape row ≡ Set (shown-the_row-BerObject-0 shape row)
+pub every_set : (shape : _) (row : _) → Set' shape row ≡ Set (shown-the_row-BerObject-0 shape row)
 every_set shape row =
     sym (roll-out-BerObjectContent (Set' shape row)) ∙ ap roll-BerObjectContent (outs-Set' shape row) ∙ rolls-Set (shown-the_row-BerObject-0 shape row)
 
