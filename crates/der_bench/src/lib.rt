@@ -55,3 +55,5 @@ mod rows;
 mod text_rows;
 #[cfg(test)]
 mod typed;
+#[cfg(test)]
+mod writer_rows;
