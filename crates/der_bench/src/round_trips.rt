@@ -6,6 +6,7 @@ use crate::{
 };
 use der_bench_rows::octets::octets;
 use der_bench_rows::reader::Reader::{ParseBerRecursive, ParseDerRecursive};
+use der_parser::ber::{BerObject, FaultWriter, ber_encode_object};
 use der_parser::error::GenError;
 use std::alloc::Global;
 use std::process::Abort;
@@ -44,6 +45,18 @@ fn expect_read_alike<'a>(
     let (rest, again) = ParseBerRecursive(depth).read(rt.alloc(), encoding)?;
     assert!(rt; rest.is_empty(), "{input:?} to {depth}: {encoding:?}");
     assert!(rt; again == object, "{input:?} to {depth}: {again:?}");
+    expect_written(rt, &object, encoding)
+}
+
+/// The encoding is what is written over a writer.
+fn expect_written(
+    rt: &(impl Abort + AllocGlobal),
+    object: &BerObject<'_>,
+    encoding: &[u8],
+) -> Result<(), Fail> {
+    let mut w = FaultWriter::new(Vec::new(rt.alloc()));
+    ber_encode_object(&mut w, object)?;
+    assert!(rt; w.into_inner().as_slice() == encoding, "{object:?}");
     Ok(())
 }
 

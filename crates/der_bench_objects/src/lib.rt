@@ -13,3 +13,5 @@ mod made_rows;
 mod oid_rows;
 #[cfg(test)]
 mod text_rows;
+#[cfg(test)]
+mod writer_rows;

@@ -1,3 +1,4 @@
+pub mod Encoded
 pub mod Reading
 pub mod Taken
 pub mod Taking

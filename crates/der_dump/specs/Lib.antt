@@ -1,6 +1,6 @@
 pub mod Elements
 pub mod Ends
-pub mod Lines
+pub mod Outputs
 pub mod Refused
 pub mod Sinks
 pub mod Sources

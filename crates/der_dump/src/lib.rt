@@ -1,8 +1,9 @@
-//! What the program `derdump` does: it prints the elements of its input, one a line. `program` is
-//! a whole run between standard streams, on the word that `only_argument` finds.
+//! What the program `derdump` does: it prints the elements of its input, one a line, or writes their
+//! encodings. `program` is a whole run between standard streams, on the word that `only_argument` finds.
 #![tactic(auto)]
 
 mod arguments;
+mod command;
 mod fault;
 mod hex;
 mod input;

@@ -1,7 +1,6 @@
 //! The rules by which the input is read.
-ghost use Rattle.std.specs.Prelude.{◌≡◌, ◌<◌, IfOk, IfSome, None, length};
+ghost use Rattle.std.specs.Prelude.{◌<◌, IfOk, length};
 ghost use Rattle.der_dump.specs.Elements.{AnswersElement};
-ghost use Rattle.der_dump.specs.Words.{Names};
 
 use der_parser::error::BerResult;
 use der_parser::{parse_ber, parse_der};
@@ -12,18 +11,6 @@ use std::alloc::Global;
 pub enum Rules {
     Ber,
     Der,
-}
-
-/// The rules that a word names.
-pub fn named_rules(word: &str) -> Option<Rules>
-    ensures some { IfSome result (λ rules. Names word.now rules) }
-    ensures none { result ≡ None → (rules : Rules) → ¬ Names word.now rules }
-{
-    match word {
-        "ber" => Some(Rules::Ber),
-        "der" => Some(Rules::Der),
-        _ => None,
-    }
 }
 
 /// Reads one object by these rules, and answers what is left of the input.

@@ -1,30 +1,33 @@
 //! What the program does, over any reader and writers.
-ghost use Rattle.std.specs.Prelude.{◌≡◌, ◌≤◌, ◌↔◌, IfOk, IfErr, OnOk, true};
+ghost use Rattle.std.specs.Prelude.{◌≡◌, ◌≤◌, ◌↔◌, ◌++◌, List, ℕ, IfOk, IfErr, OnOk, true};
 ghost use Rattle.std.specs.Io.KnownBytes.{Appends, Keeps, append_known};
 ghost use Rattle.der_dump.specs.Ends.{EndsWell, IsCause, Printed, PrintEnds};
-ghost use Rattle.der_dump.specs.Lines.{AddsLine};
+ghost use Rattle.der_dump.specs.Outputs.{AddsOutput, IsLine};
 ghost use Rattle.der_dump.specs.Sinks.{is_flushed, octets_of};
 ghost use Rattle.der_dump.specs.Sources.{GaveOctets, IsFresh, octets_left, octets_taken};
 ghost use Rattle.der_dump.specs.Words.{Names};
+ghost use Rattle.der_parser.specs.Encoding.{encoding};
 ghost use Rattle.der_parser.specs.View.{tree};
 
+use crate::command::{Command, named_command};
 use crate::fault::{Fault, RefusedElement};
 use crate::input::read_input;
-use crate::rules::{Rules, named_rules, read_object};
+use crate::rules::read_object;
 use crate::sink::Sink;
 use crate::source::Source;
 use crate::text::write_text;
-use der_parser::ber::BerObject;
+use der_parser::ber::{BerObject, FaultWriter, ber_encode_object};
 use std::alloc::Global;
-use std::io;
-use std::io::{Read, Write};
+use std::io::{ErrorKind, Read, Write};
+use std::{io, mem};
 
 /// So many octets are much to be pending.
 const MUCH: usize = 8192;
 
-/// Prints the elements that the reader gives, each one's text on a line of its own, and answers
-/// the exit status: 0, or 1 where a fault ends it, or 2 where the word names no command. The
-/// fault is told on `err`; where that fails too, nothing changes.
+/// Prints the elements that the reader gives, each one's text on a line of its own, or writes their
+/// encodings, as the word says (X.690 8, and 10 for what is written), and answers the exit status:
+/// 0, or 1 where a fault ends it, or 2 where the word names no command. The fault is told on `err`;
+/// where that fails too, nothing changes.
 pub fn run<R: Read, W: Write, X: Write>(
     alloc: Global,
     word: &str,
@@ -35,27 +38,27 @@ pub fn run<R: Read, W: Write, X: Write>(
     requires fresh { IsFresh reader.old }
     ensures status { result ≤ 2 }
 
-    // A word that names no rules: nothing is read, and nothing printed.
-    ensures usage { (result ≡ 2) ↔ ((rules : Rules) → ¬ Names word.now rules) }
+    // A word that names no command: nothing is read, and nothing printed.
+    ensures usage { (result ≡ 2) ↔ ((command : Command) → ¬ Names word.now command) }
     ensures unread { result ≡ 2 → reader.new ≡ reader.old }
     ensures unwritten { result ≡ 2 → out.new ≡ out.old }
 
     // No fault: the reader was read to its end, the input is no larger than the limit and elements by
-    // these rules throughout, each has its line, no write failed, and nothing was told.
-    ensures done { (rules : Rules) → Names word.now rules → result ≡ 0
-        → EndsWell R.remaining W.contents rules reader.old reader.new out.old out.new }
+    // the command's rules throughout, each has its line or its encoding, no write failed, and nothing was told.
+    ensures done { (command : Command) → Names word.now command → result ≡ 0
+        → EndsWell R.remaining W.contents command reader.old reader.new out.old out.new }
     // A fault: it has its cause.
-    ensures fault { (rules : Rules) → Names word.now rules → result ≡ 1
-        → (f : Fault) × IsCause R.remaining W.contents rules reader.old reader.new out.old out.new f }
+    ensures fault { (command : Command) → Names word.now command → result ≡ 1
+        → (f : Fault) × IsCause R.remaining W.contents command reader.old reader.new out.old out.new f }
     ensures taken { GaveOctets (octets_left R.remaining reader.old) (octets_left R.remaining reader.new)
         (octets_taken reader.new) }
     ensures quiet { result ≡ 0 → err.new ≡ err.old }
 {
-    let Some(rules) = named_rules(word) else {
+    let Some(command) = named_command(word) else {
         tell(err, Fault::Usage);
         return 2;
     };
-    match dump(alloc, rules, reader, out) {
+    match dump(alloc, command, reader, out) {
         Ok(()) => 0,
         Err(fault) => {
             tell(err, fault);
@@ -64,36 +67,36 @@ pub fn run<R: Read, W: Write, X: Write>(
     }
 }
 
-/// Reads everything, and then prints the elements.
+/// Reads everything, and then writes the elements.
 fn dump<R: Read, W: Write>(
     alloc: Global,
-    rules: Rules,
+    command: Command,
     reader: &mut Source<R>,
     out: &mut Sink<W>,
 ) -> Result<(), Fault>
     requires fresh { IsFresh reader.old }
-    ensures done { OnOk result (EndsWell R.remaining W.contents rules reader.old reader.new out.old out.new) }
+    ensures done { OnOk result (EndsWell R.remaining W.contents command reader.old reader.new out.old out.new) }
     ensures taken { GaveOctets (octets_left R.remaining reader.old) (octets_left R.remaining reader.new)
         (octets_taken reader.new) }
-    ensures fault { IfErr result (IsCause R.remaining W.contents rules reader.old reader.new out.old out.new) }
+    ensures fault { IfErr result (IsCause R.remaining W.contents command reader.old reader.new out.old out.new) }
 {
     let input = match read_input(alloc, reader) {
         Ok(input) => input,
         Err(fault) => return Err(Fault::Input(fault)),
     };
-    print(alloc, rules, &input, out)
+    print(alloc, command, &input, out)
 }
 
-/// Prints the elements of the input, and tells a failed write from want of memory.
+/// Writes the elements of the input, and tells a failed write from want of memory.
 fn print<W: Write>(
     alloc: Global,
-    rules: Rules,
+    command: Command,
     input: &[u8],
     out: &mut Sink<W>,
 ) -> Result<(), Fault>
-    ensures { PrintEnds W.contents rules input.now out.old out.new result }
+    ensures { PrintEnds W.contents command input.now out.old out.new result }
 {
-    let printed = print_elements(alloc, rules, input, out);
+    let printed = print_elements(alloc, command, input, out);
     if out.has_failed() {
         return Err(Fault::Write);
     }
@@ -104,24 +107,24 @@ fn print<W: Write>(
     }
 }
 
-/// Prints each element of the input, up to one that is refused. Where no error is answered, all
+/// Writes each element of the input, up to one that is refused. Where no error is answered, all
 /// that was printed has been handed on.
 fn print_elements<W: Write>(
     alloc: Global,
-    rules: Rules,
+    command: Command,
     input: &[u8],
     out: &mut Sink<W>,
 ) -> io::Result<Option<RefusedElement>>
     ensures printed { IfOk result
-        (Printed rules input.now (octets_of W.contents out.old) (octets_of W.contents out.new)) }
+        (Printed command input.now (octets_of W.contents out.old) (octets_of W.contents out.new)) }
     ensures flushed { OnOk result (is_flushed out.new ≡ true) }
 {
     let mut pending = Vec::new(alloc);
     let mut rest = input;
     while !rest.is_empty() {
-        match read_object(alloc, rules, rest) {
+        match read_object(alloc, command.rules(), rest) {
             Ok((after, object)) => {
-                push_line(alloc, &mut pending, object)?;
+                push_output(alloc, command, &mut pending, object)?;
                 hand_on_much(out, &mut pending)?;
                 rest = after;
             }
@@ -136,12 +139,41 @@ fn print_elements<W: Write>(
     Ok(None)
 }
 
-/// Adds the text of an object on a line of its own, and lets go of the object.
-fn push_line(alloc: Global, pending: &mut Vec<u8>, object: BerObject<'_>) -> io::Result<()>
-    ensures { OnOk result (AddsLine pending.old.items pending.new.items (tree object.entry)) }
+/// Adds what the command writes of an object, and lets go of the object.
+fn push_output(
+    alloc: Global,
+    command: Command,
+    pending: &mut Vec<u8>,
+    object: BerObject<'_>,
+) -> io::Result<()>
+    ensures { OnOk result (AddsOutput command pending.old.items pending.new.items (tree object.entry)) }
+{
+    match command {
+        Command::Ber | Command::Der => push_line(alloc, pending, &object),
+        Command::Canon => push_encoding(alloc, pending, &object),
+    }
+}
+
+/// Adds the encoding of an object. There is no memory for one of more than 2^64-1 octets.
+fn push_encoding(alloc: Global, pending: &mut Vec<u8>, object: &BerObject<'_>) -> io::Result<()>
+    ensures { OnOk result (pending.new.items ≡ pending.old.items ++ encoding (tree object.now)) }
+{
+    let mut w = FaultWriter::new(mem::replace(pending, Vec::new(alloc)));
+    let encoded = ber_encode_object(&mut w, object);
+    *pending = w.into_inner();
+    match encoded {
+        Ok(()) => Ok(()),
+        Err(_) => Err(io::Error::from(ErrorKind::OutOfMemory)),
+    }
+}
+
+/// Adds the text of an object on a line of its own.
+fn push_line(alloc: Global, pending: &mut Vec<u8>, object: &BerObject<'_>) -> io::Result<()>
+    ensures { OnOk result ((line : List ℕ) × IsLine (tree object.now) line
+        × (pending.new.items ≡ pending.old.items ++ line)) }
 {
     let mut line = Vec::new(alloc);
-    write_text(&mut line, &object, 0)?;
+    write_text(&mut line, object, 0)?;
     line.extend_from_slice(b"\n")?;
     pending.extend_from_slice(&line)?;
     Ok(())

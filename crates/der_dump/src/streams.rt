@@ -3,9 +3,9 @@ ghost use Rattle.std.specs.Prelude.{◌≡◌, ◌≤◌, ◌↔◌, length, IfS
 ghost use Rattle.std.specs.Process.{exit_status};
 ghost use Rattle.der_dump.specs.Elements.{AreElements};
 ghost use Rattle.der_dump.specs.Sources.{limit};
-ghost use Rattle.der_dump.specs.Words.{Names, word_of};
+ghost use Rattle.der_dump.specs.Words.{Names, rules_of, word_of};
 
-use crate::rules::Rules;
+use crate::command::Command;
 use crate::run::run;
 use crate::sink::Sink;
 use crate::source::Source;
@@ -22,9 +22,9 @@ pub fn program<R: Read + Drop, W: Write + Drop, X: Write + Drop>(
     mut err: X,
 ) -> ExitCode
     ensures status { exit_status result ≤ 2 }
-    ensures usage { (exit_status result ≡ 2) ↔ ((rules : Rules) → ¬ Names (word_of argument) rules) }
-    ensures elements { (rules : Rules) → Names (word_of argument) rules → exit_status result ≡ 0
-        → IfSome (R.remaining reader) (λ xs. AreElements rules xs × (length xs ≤ limit)) }
+    ensures usage { (exit_status result ≡ 2) ↔ ((command : Command) → ¬ Names (word_of argument) command) }
+    ensures elements { (command : Command) → Names (word_of argument) command → exit_status result ≡ 0
+        → IfSome (R.remaining reader) (λ xs. AreElements (rules_of command) xs × (length xs ≤ limit)) }
 {
     let word = match &argument {
         Some(word) => word.as_str(),

@@ -221,10 +221,20 @@ pub fn expect_run<R: Read>(
     reader: &mut R,
     (printed, told, status): (&str, &str, u8),
 ) {
+    expect_output(rt, word, reader, (printed.as_bytes(), told, status));
+}
+
+/// Under this word, of what the reader gives these octets are written, and it is told of so.
+fn expect_output<R: Read>(
+    rt: &(impl Abort + AllocGlobal),
+    word: &str,
+    reader: &mut R,
+    (written, told, status): (&[u8], &str, u8),
+) {
     let mut out = Vec::new(rt.alloc());
     let mut err = Vec::new(rt.alloc());
     let ended = run(rt.alloc(), word, reader, &mut out, &mut err);
-    assert_eq!(rt; str::from_utf8(&out), Ok(printed), "under {word}");
+    assert_eq!(rt; out.as_slice(), written, "under {word}");
     assert_eq!(rt; str::from_utf8(&err), Ok(told), "under {word}");
     assert_eq!(rt; ended, status, "under {word}");
 }
@@ -245,6 +255,56 @@ fn prints_elements_up_to_a_fault(rt: HostRuntime) {
     expect_runs(&rt, "ber", TYPE_RUNS);
 }
 
+/// An input, what is written, what is told of a fault, and the status.
+type Written = (&'static [u8], &'static [u8], &'static str, u8);
+
+/// What `derdump canon` does.
+#[rattlefmt::skip]
+const CANON_RUNS: &[Written] = &[
+    (b"", b"", "", 0),
+    (b"\x30\x03\x01\x01\x7f\x02\x81\x01\x05", b"\x30\x03\x01\x01\xff\x02\x01\x05", "", 0),
+    (b"\x30\x80\x05\x00\x00\x00", b"\x30\x02\x05\x00", "", 0),
+    (b"\x31\x80\x30\x80\x05\x00\x00\x00\x30\x00\x00\x00", b"\x31\x06\x30\x02\x05\x00\x30\x00", "", 0),
+    (b"\xa0\x80\x02\x01\x05\x00\x00\x24\x80\x04\x01a\x00\x00", b"\xa0\x03\x02\x01\x05\x24\x03\x04\x01a", "", 0),
+    (b"\x25\x01\x00\x0a\x00\x00\x00", b"\x25\x00\x0a\x01\x00\x00\x00", "", 0),
+    (b"\x17\x0b2001010000Z", b"\x17\x0d200101000000Z", "", 0),
+    (b"\x05\x00\x30\x04\x02\x03\x01\x00", b"\x05\x00", "error at 2: incomplete, needs 1\n", 1),
+    (b"\x02\x81\x01\x05\x30\x80\x21\x01\xff\x00\x00",
+        b"\x02\x01\x05", "error at 4: primitive encoding expected\n", 1),
+];
+
+#[test]
+fn writes_encodings_up_to_a_fault(rt: HostRuntime) {
+    for (left, written, told, status) in CANON_RUNS {
+        let mut reader = ShortReads { left, fault: None };
+        expect_output(&rt, "canon", &mut reader, (written, told, *status));
+        let mut again = *written;
+        expect_output(&rt, "canon", &mut again, (written, "", 0));
+    }
+}
+
+/// The writer has no room for all that is to be written.
+#[test]
+fn a_failed_write_of_encodings_ends_it(rt: HostRuntime) {
+    for fault in [
+        None,
+        Some(ErrorKind::Interrupted),
+        Some(ErrorKind::BrokenPipe),
+    ] {
+        for room in 0..5 {
+            let mut reader: &[u8] = b"\x01\x81\x01\x7f\x05\x81\x00";
+            let mut out = SmallRoom::new(rt.alloc(), room, fault);
+            let mut err = Vec::new(rt.alloc());
+            assert_eq!(rt;
+                run(rt.alloc(), "canon", &mut reader, &mut out, &mut err),
+                1
+            );
+            assert_eq!(rt; out.taken.as_slice(), &b"\x01\x01\xff\x05\x00"[..room]);
+            assert_eq!(rt; str::from_utf8(&err), Ok("error: write failed\n"));
+        }
+    }
+}
+
 /// An element that is refused for its depth stands behind one that is printed.
 #[test]
 fn fifty_indefinite_lengths_are_refused(rt: HostRuntime) -> Result<(), Fail> {
@@ -261,9 +321,22 @@ fn fifty_indefinite_lengths_are_refused(rt: HostRuntime) -> Result<(), Fail> {
     Ok(())
 }
 
-/// Words that name no rules.
+/// Words that name no command.
 const OTHER_WORDS: &[&str] = &[
-    "", "canon", "x", "BER", "DER", "ber ", "der ", "be", "de", "bers", "berder", "derdump",
+    "",
+    "canonical",
+    "can",
+    "CANON",
+    "x",
+    "BER",
+    "DER",
+    "ber ",
+    "der ",
+    "be",
+    "de",
+    "bers",
+    "berder",
+    "derdump",
 ];
 
 #[test]
@@ -480,6 +553,7 @@ const ARGUMENTS: &[(&[&[u8]], Option<&str>)] = &[
     (&[b"derdump", b""], Some("")),
     (&[b"derdump", b"der"], Some("der")),
     (&[b"derdump", b"ber"], Some("ber")),
+    (&[b"derdump", b"canon"], Some("canon")),
     (&[b"derdump", b"ber", b"der"], None),
     (&[b"derdump", b"der", b"der"], None),
     (&[b"derdump", b"\xff"], None),

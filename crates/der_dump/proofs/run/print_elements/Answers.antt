@@ -4,29 +4,30 @@ use Rattle.std.specs.Io.KnownBytes.{append_known}
 use Rattle.der_parser.specs.View.{tree}
 use Rattle.der_dump.specs.Elements.{Elements, none}
 use Rattle.der_dump.specs.Sinks.{octets_of}
+use Rattle.der_dump.specs.Words.{rules_of}
 use Rattle.der_dump.proofs.Reading.{element_behind, elements_left, refused_here}
-use Rattle.der_dump.proofs.Taking.{took_no_lines, line_pending, lines_kept, lines_handed_on}
+use Rattle.der_dump.proofs.Taking.{took_none, output_pending, outputs_kept, outputs_handed_on}
 use Rattle.der_dump.proofs.run.print_elements.Goals as goal
 
 pub loop-rest-init : goal.loop-rest-init
-loop-rest-init g c = record { in_range = omega arith; printed = ([], none, took_no_lines _ _ c.new-pending.ensures.items); whole = λ all. all }
+loop-rest-init g c = record { in_range = omega arith; printed = ([], none, took_none _ _ c.new-pending.ensures.items); whole = λ all. all }
 
 pub loop-rest-preserved : goal.loop-rest-preserved
 loop-rest-preserved g c =
     let (os, front, lines) = c.loop-rest.invariant.printed in
-    let answer = c.in-Ok.ensures.exactly in
+    let answer = rw (c.rules.ensures) at c.in-Ok.ensures.exactly in
     let o = tree c.in-Ok.object in
     let first = octets_of g.W.Write.contents c.args.out.now in
     let before = octets_of g.W.Write.contents c.loop-rest.out in
     let after = octets_of g.W.Write.contents c.hand_on_much.new.out in
-    let added = c.push_line.new.pending.items in
+    let added = c.push_output.new.pending.items in
     record {
       in_range = omega (arith, c.loop-rest.invariant.in_range, c.in-Ok.ensures.shorter);
       printed = (
         os ++ o ∷ [],
         element_behind o front answer.found,
-        lines_kept first (append_known before added) (append_known after c.hand_on_much.new.pending.items)
-            (line_pending first before c.loop-rest.pending.items added o lines c.in_ok-push_line-in-Ok.ensures) c.in_ok-hand_on_much-in-Ok.ensures,
+        outputs_kept first (append_known before added) (append_known after c.hand_on_much.new.pending.items)
+            (output_pending first before c.loop-rest.pending.items added o lines c.in_ok-push_output-in-Ok.ensures) c.in_ok-hand_on_much-in-Ok.ensures,
       );
       whole = λ all. elements_left (c.in-Ok.after, c.in-Ok.object) answer c.in-Ok.ensures.shorter (c.loop-rest.invariant.whole all);
     }
@@ -40,8 +41,8 @@ returns-in-Err-clause-printed g c =
     let same : c.deref.result.now ≡ c.loop-rest.pending.items = search rules in
     let place : offset + length rest ≡ length c.args.input.now = omega (arith, c.loop-rest.invariant.in_range) in (
       os,
-      refused_here (record { offset = offset; reason = c.in-Err.reason }) front place some c.loop-rest.invariant.whole c.in-Err.ensures.exactly,
-      lines_handed_on _ _ _ c.loop-rest.pending.items lines (rw same at c.in_ok-hand_on-in-Err.ensures.written),
+      refused_here (record { offset = offset; reason = c.in-Err.reason }) front place some c.loop-rest.invariant.whole (rw (c.rules.ensures) at c.in-Err.ensures.exactly),
+      outputs_handed_on _ _ _ c.loop-rest.pending.items lines (rw same at c.in_ok-hand_on-in-Err.ensures.written),
     )
 
 -- nothing is left
@@ -50,4 +51,4 @@ returns-clause-printed g c =
     let (os, front, lines) = c.loop-rest.invariant.printed in
     let end : length c.loop-rest.rest.now ≡ 0 = search rules in
     let same : c.deref-2.result.now ≡ c.loop-rest.pending.items = search rules in
-    (os, subst (Elements c.args.rules c.args.input.now os) (nil_from_length _ end) front, lines_handed_on _ _ _ c.loop-rest.pending.items lines (rw same at c.in_ok-hand_on.ensures.written))
+    (os, subst (Elements (rules_of c.args.command) c.args.input.now os) (nil_from_length _ end) front, outputs_handed_on _ _ _ c.loop-rest.pending.items lines (rw same at c.in_ok-hand_on.ensures.written))

@@ -2,17 +2,18 @@ use Rattle.std.proofs.Common.{length, ◌≤◌, List}
 use Rattle.std.specs.Io.KnownBytes.{append_known}
 use Rattle.der_parser.specs.Tree.{Node}
 use Rattle.der_dump.specs.Elements.{AreElements, Elements}
-use Rattle.der_dump.specs.Lines.{TookLines}
+use Rattle.der_dump.specs.Outputs.{TookOutputs}
 use Rattle.der_dump.specs.Sinks.{octets_of}
+use Rattle.der_dump.specs.Words.{rules_of}
 use Rattle.der_dump.proofs.run.print_elements.Given as goal
 
 -- what was read so far is elements, each has its line, written or pending, and if the input is elements throughout, what is left of it is
 abbrev pub invariant-loop-rest : goal.invariant-loop-rest
 invariant-loop-rest g l = record {
   in_range : length l.rest ≤ length l.input;
-  printed : (os : List Node) × Elements l.rules l.input os l.rest
-      × TookLines (octets_of g.W.Write.contents l.fn.out) (append_known (octets_of g.W.Write.contents l.out) l.pending.items) os;
-  whole : AreElements l.rules l.input → AreElements l.rules l.rest;
+  printed : (os : List Node) × Elements (rules_of l.command) l.input os l.rest
+      × TookOutputs l.command (octets_of g.W.Write.contents l.fn.out) (append_known (octets_of g.W.Write.contents l.out) l.pending.items) os;
+  whole : AreElements (rules_of l.command) l.input → AreElements (rules_of l.command) l.rest;
 }
 
 abbrev pub decreases-loop-rest : goal.decreases-loop-rest

@@ -1,6 +1,6 @@
 use Rattle.std.proofs.Common.{◌≡◌, ◌↔◌, rules, sym, subst}
 use Rattle.std.specs.Process.{exit_status}
-use Rattle.der_dump.specs.declared.rules.Rules.{Rules}
+use Rattle.der_dump.specs.declared.command.Command.{Command}
 use Rattle.der_dump.specs.Words.{Names, word_of}
 use Rattle.der_dump.proofs.streams.program.Goals as goal
 use Rattle.der_dump.proofs.streams.program.Goals.{in-Some, in-None}
@@ -9,5 +9,5 @@ pub returns-clause-usage : goal.returns-clause-usage
 returns-clause-usage g c =
     let same : c.match-argument.word.now ≡ word_of c.args.argument = elim c.match-argument.branch [ in-Some w ↦ search rules | in-None w ↦ search rules ] in
     let status : exit_status c.from.result ≡ c.run.result = search rules in
-    subst (λ word. (exit_status c.from.result ≡ 2) ↔ ((rules : Rules) → ¬ Names word rules)) same
-    (subst (λ s. (s ≡ 2) ↔ ((rules : Rules) → ¬ Names c.match-argument.word.now rules)) (sym status) c.run.ensures.usage)
+    subst (λ word. (exit_status c.from.result ≡ 2) ↔ ((command : Command) → ¬ Names word command)) same
+    (subst (λ s. (s ≡ 2) ↔ ((command : Command) → ¬ Names c.match-argument.word.now command)) (sym status) c.run.ensures.usage)

@@ -1,0 +1,35 @@
+-- What is written of objects.
+use Rattle.std.specs.Prelude.{◌≡◌, ℕ, List, [], ◌∷◌, ◌++◌, codes, Option}
+use Rattle.std.specs.Io.KnownBytes.{Appends}
+use Rattle.der_parser.specs.Encoding.{encoding}
+use Rattle.der_parser.specs.Tree.{Node}
+use Rattle.der_dump.specs.declared.command.Command.{Command}
+use Rattle.der_dump.specs.declared.command.Command.TheVariants.{Ber, Der, Canon}
+
+-- w is a text of the object and a newline; which text is no part of this
+abbrev pub IsLine : Node → List ℕ → Type 0
+IsLine o w = (text : List ℕ) × (w ≡ text ++ codes "\n")
+
+-- w is what the command writes of the object: a line, or its encoding
+abbrev pub IsOutput : Command → Node → List ℕ → Type 0
+IsOutput Ber o w = IsLine o w
+IsOutput Der o w = IsLine o w
+IsOutput Canon o w = w ≡ encoding o
+
+-- new is old and then the output of the object
+pub record AddsOutput (command : Command) (old new : List ℕ) (o : Node) : Type 0 where
+  pub output : List ℕ
+  pub is_output : IsOutput command o output
+  pub adds : new ≡ old ++ output
+
+-- w is the outputs of the objects, one after another
+pub data AreOutputs (command : Command) : List Node → List ℕ → Type 0 where
+  no_outputs : AreOutputs command [] []
+  one_more_output : {o : Node} {os : List Node} (w : List ℕ) {rest : List ℕ}
+      → IsOutput command o w → AreOutputs command os rest → AreOutputs command (o ∷ os) (w ++ rest)
+
+-- a writer took the outputs of the objects behind what it had
+pub record TookOutputs (command : Command) (old new : Option (List ℕ)) (os : List Node) : Type 0 where
+  pub outputs : List ℕ
+  pub are_outputs : AreOutputs command os outputs
+  pub appends : Appends old new outputs
