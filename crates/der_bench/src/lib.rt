@@ -52,6 +52,8 @@ mod round_trips;
 #[cfg(test)]
 mod rows;
 #[cfg(test)]
+mod tagged_rows;
+#[cfg(test)]
 mod text_rows;
 #[cfg(test)]
 mod typed;
