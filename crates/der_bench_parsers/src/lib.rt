@@ -7,3 +7,5 @@ mod combinator_rows;
 mod no_memory;
 #[cfg(test)]
 mod refused_growths;
+#[cfg(test)]
+mod tagged_rows;

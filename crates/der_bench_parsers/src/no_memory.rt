@@ -6,8 +6,9 @@ use der_parser::ber::Length::Definite;
 use der_parser::ber::{
     Any, BerObject, BerObjectContent, BitStringObject, Header, HeaderCount, Tag,
     ber_read_element_header, parse_ber_any, parse_ber_any_r, parse_ber_any_with_tag_r,
-    parse_ber_container, parse_ber_content, parse_ber_counted, parse_ber_octetstring,
-    parse_ber_recursive, parse_ber_sequence_defined_g, parse_ber_set_defined_g, parse_ber_slice,
+    parse_ber_container, parse_ber_content, parse_ber_counted, parse_ber_implicit,
+    parse_ber_integer, parse_ber_octetstring, parse_ber_optional, parse_ber_recursive,
+    parse_ber_sequence_defined_g, parse_ber_set_defined_g, parse_ber_slice,
 };
 use der_parser::der::{
     der_read_element_content, der_read_element_header, parse_der_content, parse_der_counted,
@@ -187,6 +188,20 @@ fn no_memory_for_containers(rt: HostRuntime) {
     assert!(rt; matches!(&of_set, Ok((b"", Tag::Set))), "{of_set:?}");
     let slice = parse_ber_slice(b"\x22\x80\x02\x01\x01\x00\x00", Tag(2));
     assert!(rt; matches!(&slice, Ok((b"", b"\x02\x01\x01"))), "{slice:?}");
+}
+
+#[test]
+fn no_memory_for_implicit_tags(rt: HostRuntime) {
+    let given = parse_ber_implicit(b"\x82\x01\x05", Tag(2), |input, header, depth| {
+        parse_ber_content(rt.alloc(), Tag::Integer).parse(input, header, depth)
+    });
+    assert!(rt; given.is_ok(), "{given:?}");
+}
+
+#[test]
+fn no_memory_for_an_object_that_is_absent(rt: HostRuntime) {
+    let given = parse_ber_optional(rt.alloc(), |i| parse_ber_integer(i)).parse(b"\x05\x00");
+    assert!(rt; matches!(&given, Ok((b"\x05\x00", _))), "{given:?}");
 }
 
 #[test]

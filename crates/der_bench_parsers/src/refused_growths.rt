@@ -6,7 +6,10 @@ use der_bench_rows::reader::Reader::{
     ParseBer, ParseBerAnyWithTagR, ParseBerSequence, ParseBerSet, ParseDer, ParseDerSequence,
     ParseDerSet,
 };
-use der_parser::ber::{BerObject, Tag, parse_ber_any_with_tag_r};
+use der_parser::ber::{
+    BerObject, Tag, parse_ber_any_with_tag_r, parse_ber_integer, parse_ber_optional,
+    parse_ber_tagged_explicit,
+};
 use der_parser::error::{Err as Refused, GenError};
 use der_parser::oid::{Oid, OidParseError};
 use der_parser::parse_ber;
@@ -25,6 +28,22 @@ fn wants_memory_for_an_indefinite_length(rt: HostRuntime) -> Result<(), Fail> {
 fn wants_memory_for_an_indefinite_length_of_a_tag(rt: HostRuntime) -> Result<(), Fail> {
     let input = b"\x24\x80\x04\x01\x61\x00\x00";
     let (rest, _) = parse_ber_any_with_tag_r(rt.alloc(), input, Tag::OctetString, 1)?;
+    assert!(rt; rest.is_empty());
+    Ok(())
+}
+
+#[test]
+fn wants_memory_for_a_tagged_object(rt: HostRuntime) -> Result<(), Fail> {
+    let mut tagged = parse_ber_tagged_explicit(rt.alloc(), Tag(0), |i| parse_ber_integer(i));
+    let (rest, _) = tagged.parse(b"\xa0\x03\x02\x01\x05")?;
+    assert!(rt; rest.is_empty());
+    Ok(())
+}
+
+#[test]
+fn wants_memory_for_an_object_that_may_be_absent(rt: HostRuntime) -> Result<(), Fail> {
+    let mut optional = parse_ber_optional(rt.alloc(), |i| parse_ber_integer(i));
+    let (rest, _) = optional.parse(b"\x02\x01\x05")?;
     assert!(rt; rest.is_empty());
     Ok(())
 }

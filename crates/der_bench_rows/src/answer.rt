@@ -40,6 +40,12 @@ pub enum Content {
     Nested(usize),
     /// The class and the number of the tag, and the octets.
     Unknown(Class, u32, &'static str),
+    /// An object that may be absent, and is.
+    Absent,
+    /// The content of an object that may be absent, and isn't.
+    Present(&'static Content),
+    /// The class and the number of an explicit tag, and the content of the object inside.
+    Tagged(Class, u32, &'static Content),
     /// The number of unused bits, and the octets.
     BitString(u8, &'static str),
     Enum(u64),
@@ -120,6 +126,13 @@ impl Content {
             (Content::Unknown(class, number, text), BerObjectContent::Unknown(any)) => {
                 let header_is = any.class() == *class && any.tag() == Tag(*number);
                 Ok(header_is && octets(alloc, text)?.as_slice() == any.bytes)
+            }
+            (Content::Absent, BerObjectContent::Optional(None)) => Ok(true),
+            (Content::Present(inner), BerObjectContent::Optional(Some(object))) => {
+                inner.is(alloc, &object.content)
+            }
+            (Content::Tagged(class, number, inner), BerObjectContent::Tagged(c, tag, object)) => {
+                Ok(c == class && *tag == Tag(*number) && inner.is(alloc, &object.content)?)
             }
             (leaf, content) => leaf.is_leaf(alloc, content),
         }
