@@ -55,3 +55,7 @@ mod rows;
 mod text_rows;
 #[cfg(test)]
 mod typed;
+#[cfg(test)]
+mod visit_rows;
+#[cfg(test)]
+mod watcher;
