@@ -2,7 +2,7 @@
 //! length.
 #![tactic(auto)]
 
-use der_parser::ber::{Any, BerObject, BerObjectContent, parse_ber};
+use der_parser::ber::{Any, BerObject, BerObjectContent, Visit, parse_ber};
 use der_parser::der::parse_der;
 use std::alloc::Global;
 
@@ -81,6 +81,32 @@ fn count_elements(s: &[u8]) -> u64 {
     count
 }
 
+/// Counts the objects that it visits.
+#[derive(Clone, Copy)]
+struct Counter {
+    objects: u64,
+}
+
+impl Visit for Counter {
+    ghost object_step = { λ s _ _ t. t.objects ≡ (s.objects + 1) % 2 ^ 64 };
+
+    fn visit_ber<'t>(&mut self, _object: &BerObject<'t>, _depth: usize) {
+        self.objects = self.objects.wrapping_add(1);
+    }
+}
+
+/// How many objects a visitor meets in a slice, read by BER; 0 where one is refused.
+fn count_visited(alloc: Global, s: &[u8]) -> u64 {
+    let Some(objects) = read_objects(alloc, s, Mode::Ber) else {
+        return 0;
+    };
+    let mut counter = Counter { objects: 0 };
+    for object in &objects {
+        counter.run(object);
+    }
+    counter.objects
+}
+
 /// How many objects a slice has; 0 where one is refused.
 fn count_read(alloc: Global, s: &[u8], mode: Mode) -> u64 {
     match read_objects(alloc, s, mode) {
@@ -90,9 +116,9 @@ fn count_read(alloc: Global, s: &[u8], mode: Mode) -> u64 {
 }
 
 /// One pass over the elements of a slice: 0 reads them by DER, 1 by BER, 2 by BER and writes each
-/// as DER does, 4 reads the outermost elements alone. It keeps the objects until its end, and
-/// answers how many it read, those inside lists among them; 0 where an element is refused, and for
-/// another mode.
+/// as DER does, 4 reads the outermost elements alone, 6 reads them by BER and counts them by a
+/// visitor. It keeps the objects until its end, and answers how many it read, those inside lists
+/// among them; 0 where an element is refused, and for another mode.
 #[unsafe(no_mangle)]
 pub extern "C" fn der_bench_pass(alloc: Global, s: &[u8], mode: u64) -> u64 {
     match mode {
@@ -100,6 +126,7 @@ pub extern "C" fn der_bench_pass(alloc: Global, s: &[u8], mode: u64) -> u64 {
         1 => count_read(alloc, s, Mode::Ber),
         2 => count_read(alloc, s, Mode::Canonical),
         4 => count_elements(s),
+        6 => count_visited(alloc, s),
         _ => 0,
     }
 }

@@ -14,4 +14,8 @@ mod oid_rows;
 #[cfg(test)]
 mod text_rows;
 #[cfg(test)]
+mod visit_rows;
+#[cfg(test)]
+mod watcher;
+#[cfg(test)]
 mod writer_rows;

@@ -8,7 +8,8 @@ use Rattle.der_base.specs.Tree.{enumerated, object_identifier, relative_oid, tim
 use Rattle.der_base.specs.Tree.{tagged, unknown, Nodes, no_nodes, nodes}
 
 -- A function that may change what it is handed takes the visitor from s to t, and x to y; or it does neither.
-pub data QuietlyChanges {S X : Type 0} (R : S → X → ℕ → S → X → Type 0) (s : S) (x : X) (n : ℕ) (t : S) (y : X) : Type 0 where
+pub data QuietlyChanges {S X : Type 0} (R : S → X → ℕ → S → X → Type 0)
+    (s : S) (x : X) (n : ℕ) (t : S) (y : X) : Type 0 where
   quiet_change : t ≡ s → y ≡ x → QuietlyChanges R s x n t y
   stepped_change : R s x n t y → QuietlyChanges R s x n t y
 
@@ -40,7 +41,8 @@ HaveOneType (tagged c t o) (tagged d u q) = ⊤
 HaveOneType (unknown c p t v) (unknown d q u w) = ⊤
 HaveOneType _ _ = ⊥
 
-module _ {S : Type 0} (object_step : S → Node → ℕ → S → Node → Type 0) (content_step : S → Content → ℕ → S → Content → Type 0) where
+module _ {S : Type 0} (object_step : S → Node → ℕ → S → Node → Type 0)
+    (content_step : S → Content → ℕ → S → Content → Type 0) where
   mutual
     -- the general function, and then that of the content that is there now
     pub data ChangesObject : S → Node → ℕ → S → Node → Type 0 where

@@ -19,7 +19,8 @@ use der_object::{BerObject, BerObjectContent, BitStringObject};
 /// deeper. Each function begins with an empty body.
 ///
 /// A visitor states what it does by two relations, of the visitor before, what is visited, its
-/// depth and the visitor after. A function that it leaves empty changes nothing.
+/// depth and the visitor after. A function takes the visitor by its relation or changes nothing,
+/// and one that is left empty changes nothing.
 pub trait Visit {
     ghost object_step: { Self → Node → ℕ → Self → Type 0 } = { λ _ _ _ _. ⊥ };
 

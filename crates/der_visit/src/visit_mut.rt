@@ -19,9 +19,9 @@ use std::mem;
 /// function begins with an empty body.
 ///
 /// A visitor states what it does by two relations, of the visitor before, what is visited, its
-/// depth, the visitor after, and what is visited after. A function that it leaves empty changes
-/// nothing. `visit_ber_mut` may make no object higher, nor the functions of SEQUENCE and SET a list:
-/// so each visit ends.
+/// depth, the visitor after, and what is visited after. A function does what its relation says or
+/// changes nothing, and one that is left empty changes nothing. `visit_ber_mut` may make no object
+/// higher, nor the functions of SEQUENCE and SET a list: so each visit ends.
 pub trait VisitMut {
     ghost object_step: { Self → Node → ℕ → Self → Node → Type 0 } = { λ _ _ _ _ _. ⊥ };
 
