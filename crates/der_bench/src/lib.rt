@@ -20,8 +20,6 @@ mod header_rows;
 #[cfg(test)]
 mod leaf_rows;
 #[cfg(test)]
-mod list_form_rows;
-#[cfg(test)]
 mod list_rows;
 #[cfg(test)]
 mod name_rows;

@@ -4,6 +4,8 @@
 #[cfg(test)]
 mod combinator_rows;
 #[cfg(test)]
+mod list_form_rows;
+#[cfg(test)]
 mod no_memory;
 #[cfg(test)]
 mod refused_growths;

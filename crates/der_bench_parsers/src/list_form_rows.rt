@@ -1,9 +1,9 @@
 //! Lists by combinators that make an object of them: items of one type, and a content that is
 //! defined.
-use crate::answer::Answer;
-use crate::answer::Answer::Read;
-use crate::answer::Content::{Integer, Sequence, Set};
-use crate::octets::octets;
+use der_bench_rows::answer::Answer;
+use der_bench_rows::answer::Answer::Read;
+use der_bench_rows::answer::Content::{Integer, Sequence, Set};
+use der_bench_rows::octets::octets;
 use der_parser::IResult;
 use der_parser::ber::{
     BerObject, BerObjectContent, Length, Tag, parse_ber_integer, parse_ber_sequence_defined,
