@@ -145,8 +145,8 @@ where
 
 impl<F> BerTaggedExplicit<F> {
     /// Reads as `BerTaggedExplicitG::parse`, and calls the kept parser on the content octets alone.
-    /// The answer is the content `Tagged` with the class and the number of the tag and the object
-    /// in a box, under the header of the tag. The box may want memory, behind the call of the
+    /// The answer is the content `Tagged`, with the class and the number of the tag and the object
+    /// in a box, under the header of the tag. The box may want memory, after the call of the
     /// parser.
     pub fn parse<'a, E>(&mut self, i: &'a [u8]) -> IResult<&'a [u8], BerObject<'a>, E>
     where
@@ -203,7 +203,8 @@ impl<F> BerTaggedImplicit<F> {
     }
 }
 
-/// Reads `i` by `parse_ber_tagged_implicit(tag, f)`.
+/// Reads an object under an implicit tag of this number (X.690 8.14.3) as
+/// `BerTaggedImplicit::parse` does, where `f` is the kept parser.
 pub fn parse_ber_implicit<'a, F, E>(
     i: &'a [u8],
     tag: Tag,
@@ -259,7 +260,9 @@ impl<F> BerOptional<F> {
     }
 }
 
-/// Reads `i` by `parse_ber_tagged_explicit(alloc, tag, f)`, as an object that may be absent.
+/// Reads an object inside an explicit tag of this number (X.690 8.14.2) that may be absent, as
+/// `BerOptional::parse` does, where the kept parser is that of `BerTaggedExplicit::parse` over `f`.
+/// So the object is absent too where its tag is another one or is refused, and `f` isn't called.
 pub fn parse_ber_explicit_optional<'a, F, E>(
     alloc: Global,
     i: &'a [u8],

@@ -191,7 +191,8 @@ impl<F> DerTaggedImplicit<F> {
     }
 }
 
-/// Reads `i` by `parse_der_tagged_implicit(tag, f)`.
+/// Reads an object under an implicit tag of this number (X.690 8.14.3) as
+/// `DerTaggedImplicit::parse` does, where `f` is the kept parser.
 pub fn parse_der_implicit<'a, F, E>(
     i: &'a [u8],
     tag: Tag,
@@ -207,7 +208,9 @@ where
     parse_object_content(&mut f, open_number(i, tag))
 }
 
-/// Reads `i` by `parse_der_tagged_explicit(alloc, tag, f)`, as an object that may be absent.
+/// Reads an object inside an explicit tag of this number (X.690 8.14.2) that may be absent, as
+/// `DerOptional::parse` does, where the kept parser is that of `DerTaggedExplicit::parse` over `f`.
+/// So the object is absent too where its tag is another one or is refused, and `f` isn't called.
 pub fn parse_der_explicit_optional<'a, F, E>(
     alloc: Global,
     i: &'a [u8],
