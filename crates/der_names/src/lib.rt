@@ -7,4 +7,4 @@ mod name;
 mod text;
 
 pub use certificate::{Names, parse_names};
-pub use name::{Attribute, Coding, Name, Text, parse_name};
+pub use name::{Attribute, Name, parse_name};

@@ -2,48 +2,49 @@
 ghost use Rattle.std.specs.Prelude.{◌≡◌};
 
 use der_parser::IResult;
+use der_parser::ber::Any;
 use der_parser::der::{
-    Class, DerObjectContent, Header, Tag, der_read_element_header, parse_der_bitstring,
-    parse_der_bmpstring, parse_der_ia5string, parse_der_numericstring, parse_der_oid,
+    Tag, parse_der_bitstring, parse_der_bmpstring, parse_der_ia5string, parse_der_numericstring,
     parse_der_printablestring, parse_der_sequence_defined_g, parse_der_sequence_of_v,
     parse_der_set_of_v, parse_der_slice, parse_der_universalstring, parse_der_utf8string,
 };
 use der_parser::error::{BerError, Err as Refused, ErrorKind};
 use der_parser::oid::Oid;
 use std::alloc::Global;
+use std::borrow::CowSlice;
 
 /// The relative names of a name, each with its attributes, in the order of the input.
 #[derive(Debug, Drop)]
 pub struct Name<'a>(pub Vec<Vec<Attribute<'a>>>);
 
-/// A type, and a value of it.
-#[derive(Debug, Drop)]
+/// A type and a value of it, by the octets in which they were read.
+#[derive(Clone, Copy, Debug, PartialEq)]
 pub struct Attribute<'a> {
+    content: &'a [u8],
+}
+
+/// The parts of an attribute.
+#[derive(Debug, Drop)]
+pub(crate) struct Parts<'a> {
     pub oid: Oid<'a>,
     /// The value with its header.
     pub value: &'a [u8],
-    /// The characters of the value, where it is a string.
-    pub text: Option<Text<'a>>,
-}
-
-/// The characters of a string, and how they are written.
-#[derive(Clone, Copy, Debug, PartialEq)]
-pub struct Text<'a> {
     pub coding: Coding,
-    pub octets: &'a [u8],
 }
 
-/// How the characters of a string are written.
+/// How the characters of a value are written.
 #[derive(Clone, Copy, Debug, PartialEq)]
-pub enum Coding {
-    /// UTF-8: a UTF8String.
+pub(crate) enum Coding {
+    /// UTF-8: a UTF8String, NumericString, PrintableString or IA5String.
     Utf8,
-    /// An octet each, Latin 1: a NumericString, PrintableString, IA5String or T61String.
+    /// An octet each, Latin 1: a T61String, which those who write names take for that.
     Latin1,
     /// Two octets each, the high one first: a BMPString.
     Bmp,
     /// Four octets each, the highest first: a UniversalString.
     Universal,
+    /// There are none: a BIT STRING.
+    NoText,
 }
 
 /// Reads a name: a SEQUENCE OF relative names, each a SET OF attributes in any order.
@@ -62,77 +63,69 @@ where
     f
 }
 
-/// Reads an attribute: a SEQUENCE of its type and its value.
+/// Reads an attribute: a SEQUENCE of a type and a value, and nothing behind them.
 fn parse_attribute<'a>(i: &'a [u8]) -> IResult<&'a [u8], Attribute<'a>, BerError> {
-    parse_der_sequence_defined_g(parse_type_and_value).parse(i)
+    parse_der_sequence_defined_g(|content, _| {
+        let (rest, _) = parse_parts(content)?;
+        Ok((rest, Attribute { content }))
+    })
+    .parse(i)
 }
 
-fn parse_type_and_value<'a>(
-    i: &'a [u8],
-    _header: Header<'a>,
-) -> IResult<&'a [u8], Attribute<'a>, BerError> {
-    let (value, object) = parse_der_oid(i)?;
-    let DerObjectContent::OID(oid) = object.content else {
-        return Err(Refused::Error(BerError::BerTypeError));
-    };
-    if oid.iter().is_none() {
-        return Err(Refused::Error(BerError::BerValueError));
+impl<'a> Attribute<'a> {
+    /// The parts, which were there when the attribute was read.
+    pub(crate) fn parts(self) -> IResult<&'a [u8], Parts<'a>, BerError> {
+        parse_parts(self.content)
     }
-    let (rest, text) = parse_value(value)?;
+}
+
+fn parse_parts<'a>(i: &'a [u8]) -> IResult<&'a [u8], Parts<'a>, BerError> {
+    let (value, oid) = parse_type(i)?;
+    let (rest, coding) = parse_value(value)?;
     if !rest.is_empty() {
         return Err(Refused::Error(BerError::NomError(ErrorKind::Eof)));
     }
-    Ok((rest, Attribute { oid, value, text }))
+    Ok((rest, Parts { oid, value, coding }))
 }
 
-/// Reads a value of the types that names have: a string or a BIT STRING.
-fn parse_value<'a>(i: &'a [u8]) -> IResult<&'a [u8], Option<Text<'a>>, BerError> {
-    let (_, header) = der_read_element_header(i)?;
-    header.assert_class(Class::Universal)?;
-    let (coding, answer) = match header.tag() {
-        Tag::Utf8String => (Coding::Utf8, parse_der_utf8string(i)),
-        Tag::NumericString => (Coding::Latin1, parse_der_numericstring(i)),
-        Tag::PrintableString => (Coding::Latin1, parse_der_printablestring(i)),
-        Tag::Ia5String => (Coding::Latin1, parse_der_ia5string(i)),
-        Tag::UniversalString => (Coding::Universal, parse_der_universalstring(i)),
-        Tag::T61String => return parse_t61string(i, header),
-        Tag::BmpString => return parse_bmpstring(i),
-        Tag::BitString => return parse_bitstring(i),
+/// Reads an OBJECT IDENTIFIER that has arcs.
+fn parse_type<'a>(i: &'a [u8]) -> IResult<&'a [u8], Oid<'a>, BerError> {
+    let (rest, any) = Any::from_der(i)?;
+    any.header.assert_tag(Tag::Oid)?;
+    any.header.assert_primitive()?;
+    let oid = Oid::new(CowSlice::Borrowed(any.bytes));
+    if oid.iter().is_none() {
+        return Err(Refused::Error(BerError::BerValueError));
+    }
+    Ok((rest, oid))
+}
+
+/// Reads a value of the types that names have. Each is told by its identifier octet, which is the
+/// number of the type, since they are primitive and universal (X.690 8.1.2).
+fn parse_value<'a>(i: &'a [u8]) -> IResult<&'a [u8], Coding, BerError> {
+    Ok(match i.first() {
+        Some(12) => (parse_der_utf8string(i)?.0, Coding::Utf8),
+        Some(18) => (parse_der_numericstring(i)?.0, Coding::Utf8),
+        Some(19) => (parse_der_printablestring(i)?.0, Coding::Utf8),
+        Some(20) => (parse_der_slice(i, Tag::T61String)?.0, Coding::Latin1),
+        Some(22) => (parse_der_ia5string(i)?.0, Coding::Utf8),
+        Some(28) => (parse_der_universalstring(i)?.0, Coding::Universal),
+        Some(30) => (parse_bmpstring(i)?, Coding::Bmp),
+        Some(3) => (parse_der_bitstring(i)?.0, Coding::NoText),
         _ => return Err(Refused::Error(BerError::BerTypeError)),
-    };
-    let (rest, object) = answer?;
-    let octets = object.content.as_slice()?;
-    Ok((rest, Some(Text { coding, octets })))
+    })
 }
 
-/// Reads a BMPString. A half of a character of UTF-16 is none of it.
-fn parse_bmpstring<'a>(i: &'a [u8]) -> IResult<&'a [u8], Option<Text<'a>>, BerError> {
+/// Reads a BMPString without halves of characters, and answers what follows it.
+fn parse_bmpstring<'a>(i: &'a [u8]) -> Result<&'a [u8], Refused<BerError>> {
     let (rest, object) = parse_der_bmpstring(i)?;
-    let octets = object.content.as_slice()?;
-    if octets.chunks_exact(2).any(is_half) {
+    if object.content.as_slice()?.chunks_exact(2).any(is_half) {
         return Err(Refused::Error(BerError::StringInvalidCharset));
     }
-    let coding = Coding::Bmp;
-    Ok((rest, Some(Text { coding, octets })))
+    Ok(rest)
 }
 
+/// Whether two octets are half of a character of UTF-16.
 fn is_half(unit: &[u8]) -> bool {
     matches!(unit, [0xd8..=0xdf, _])
-}
-
-/// Reads a BIT STRING, which is no text.
-fn parse_bitstring<'a>(i: &'a [u8]) -> IResult<&'a [u8], Option<Text<'a>>, BerError> {
-    let (rest, _) = parse_der_bitstring(i)?;
-    Ok((rest, None))
-}
-
-/// Reads a T61String by its octets. Those who write names take it for Latin 1.
-fn parse_t61string<'a>(
-    i: &'a [u8],
-    header: Header<'a>,
-) -> IResult<&'a [u8], Option<Text<'a>>, BerError> {
-    header.assert_primitive()?;
-    let (rest, octets) = parse_der_slice(i, Tag::T61String)?;
-    let coding = Coding::Latin1;
-    Ok((rest, Some(Text { coding, octets })))
 }

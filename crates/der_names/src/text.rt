@@ -1,6 +1,7 @@
 //! The text of a name by RFC 2253, as openssl writes it: all of it is printable ASCII.
 use crate::attribute_types::short_name;
-use crate::name::{Attribute, Coding, Name, Text};
+use crate::name::{Attribute, Coding, Name};
+use der_parser::ber::Any;
 use der_parser::oid::Oid;
 use std::fmt;
 
@@ -32,18 +33,25 @@ fn write_relative_name<W: fmt::Write>(
     Ok(())
 }
 
-/// The type and the value. A value whose type has no short name, or that is no string, is written
-/// in hexadecimal.
+/// The type and the value. A value whose type has no short name, or that has no characters, is
+/// written in hexadecimal.
 impl fmt::Display for Attribute<'_> {
     fn fmt<W: fmt::Write>(&self, f: &mut fmt::Formatter<W>) -> fmt::Result {
-        let Some(name) = short_name(&self.oid) else {
-            write_dotted(f, &self.oid)?;
-            return write_hex(f, self.value);
+        let Ok((_, parts)) = self.parts() else {
+            return Err(fmt::Error);
+        };
+        let Some(name) = short_name(&parts.oid) else {
+            write_dotted(f, &parts.oid)?;
+            return write_hex(f, parts.value);
         };
         f.write_str(name)?;
-        match self.text {
-            Some(text) => write_text(f, text),
-            None => write_hex(f, self.value),
+        match Any::from_der(parts.value) {
+            Ok((_, any)) if parts.coding != Coding::NoText => write_text(
+                f,
+                parts.coding,
+                any.bytes,
+            ),
+            _ => write_hex(f, parts.value),
         }
     }
 }
@@ -74,17 +82,21 @@ fn write_hex<W: fmt::Write>(f: &mut fmt::Formatter<W>, octets: &[u8]) -> fmt::Re
 }
 
 /// Writes characters, each as the octets that it has in UTF-8.
-fn write_text<W: fmt::Write>(f: &mut fmt::Formatter<W>, text: Text<'_>) -> fmt::Result {
+fn write_text<W: fmt::Write>(
+    f: &mut fmt::Formatter<W>,
+    coding: Coding,
+    octets: &[u8],
+) -> fmt::Result {
     f.write_str("=")?;
-    let width = match text.coding {
-        Coding::Utf8 | Coding::Latin1 => 1,
+    let width = match coding {
+        Coding::Utf8 | Coding::Latin1 | Coding::NoText => 1,
         Coding::Bmp => 2,
         Coding::Universal => 4,
     };
-    let count = text.octets.len() / width;
-    for (i, unit) in text.octets.chunks_exact(width).enumerate() {
+    let count = octets.len() / width;
+    for (i, unit) in octets.chunks_exact(width).enumerate() {
         let (first, last) = (i == 0, i + 1 == count);
-        if text.coding == Coding::Utf8 {
+        if coding == Coding::Utf8 {
             write_octets(f, unit, first, last)?;
         } else if let Some(c) = char::from_u32(number(unit)) {
             let mut octets = [0; 4];
