@@ -8,7 +8,7 @@ use der_parser::der::{
     parse_der_printablestring, parse_der_sequence_defined_g, parse_der_sequence_of_v,
     parse_der_set_of_v, parse_der_slice, parse_der_universalstring, parse_der_utf8string,
 };
-use der_parser::error::{BerError, Err as Refused, ErrorKind};
+use der_parser::error::{BerError, Err as Refused, ErrorKind, Needed};
 use der_parser::oid::Oid;
 use std::alloc::Global;
 use std::borrow::CowSlice;
@@ -47,11 +47,36 @@ pub(crate) enum Coding {
     NoText,
 }
 
+impl<'a> Name<'a> {
+    /// Whether each attribute type has arcs, so that it can be written with points between them.
+    pub(crate) fn has_arcs(&self) -> bool {
+        self.0
+            .iter()
+            .all(|attributes| attributes.iter().all(has_arcs))
+    }
+}
+
+fn has_arcs(attribute: &Attribute<'_>) -> bool {
+    matches!(attribute.parts(), Ok((_, parts)) if parts.oid.iter().is_some())
+}
+
 /// Reads a name: a SEQUENCE OF relative names, each a SET OF attributes in any order.
 pub fn parse_name<'a>(alloc: Global, i: &'a [u8]) -> IResult<&'a [u8], Name<'a>, BerError> {
-    let relative_name = of_attributes(|i| parse_der_set_of_v(alloc, parse_attribute).parse(i));
+    let relative_name = of_attributes(|i| {
+        check_more(i)?;
+        parse_der_set_of_v(alloc, parse_attribute).parse(i)
+    });
     let (rest, names) = parse_der_sequence_of_v(alloc, relative_name).parse(i)?;
     Ok((rest, Name(names)))
+}
+
+/// Ok where octets are left. A list asks its parser also behind its last item, and this is the
+/// short way to answer.
+fn check_more<E>(i: &[u8]) -> Result<(), Refused<E>> {
+    if i.is_empty() {
+        return Err(Refused::Incomplete(Needed::Size(1)));
+    }
+    Ok(())
 }
 
 /// The same parser: a bound that says whose slices the attributes have.
@@ -65,6 +90,7 @@ where
 
 /// Reads an attribute: a SEQUENCE of a type and a value, and nothing behind them.
 fn parse_attribute<'a>(i: &'a [u8]) -> IResult<&'a [u8], Attribute<'a>, BerError> {
+    check_more(i)?;
     parse_der_sequence_defined_g(|content, _| {
         let (rest, _) = parse_parts(content)?;
         Ok((rest, Attribute { content }))
@@ -88,30 +114,36 @@ fn parse_parts<'a>(i: &'a [u8]) -> IResult<&'a [u8], Parts<'a>, BerError> {
     Ok((rest, Parts { oid, value, coding }))
 }
 
-/// Reads an OBJECT IDENTIFIER that has arcs.
+/// Reads an OBJECT IDENTIFIER.
 fn parse_type<'a>(i: &'a [u8]) -> IResult<&'a [u8], Oid<'a>, BerError> {
     let (rest, any) = Any::from_der(i)?;
     any.header.assert_tag(Tag::Oid)?;
     any.header.assert_primitive()?;
-    let oid = Oid::new(CowSlice::Borrowed(any.bytes));
-    if oid.iter().is_none() {
-        return Err(Refused::Error(BerError::BerValueError));
-    }
-    Ok((rest, oid))
+    Ok((rest, Oid::new(CowSlice::Borrowed(any.bytes))))
 }
 
 /// Reads a value of the types that names have. Each is told by its identifier octet, which is the
 /// number of the type, since they are primitive and universal (X.690 8.1.2).
 fn parse_value<'a>(i: &'a [u8]) -> IResult<&'a [u8], Coding, BerError> {
+    let answer = match i.first() {
+        Some(12) => parse_der_utf8string(i),
+        Some(18) => parse_der_numericstring(i),
+        Some(19) => parse_der_printablestring(i),
+        Some(22) => parse_der_ia5string(i),
+        _ => return parse_rarer_value(i),
+    };
+    let (rest, _) = answer?;
+    Ok((rest, Coding::Utf8))
+}
+
+/// The same of the types that are rare.
+#[inline(never)]
+fn parse_rarer_value<'a>(i: &'a [u8]) -> IResult<&'a [u8], Coding, BerError> {
     Ok(match i.first() {
-        Some(12) => (parse_der_utf8string(i)?.0, Coding::Utf8),
-        Some(18) => (parse_der_numericstring(i)?.0, Coding::Utf8),
-        Some(19) => (parse_der_printablestring(i)?.0, Coding::Utf8),
+        Some(3) => (parse_der_bitstring(i)?.0, Coding::NoText),
         Some(20) => (parse_der_slice(i, Tag::T61String)?.0, Coding::Latin1),
-        Some(22) => (parse_der_ia5string(i)?.0, Coding::Utf8),
         Some(28) => (parse_der_universalstring(i)?.0, Coding::Universal),
         Some(30) => (parse_bmpstring(i)?, Coding::Bmp),
-        Some(3) => (parse_der_bitstring(i)?.0, Coding::NoText),
         _ => return Err(Refused::Error(BerError::BerTypeError)),
     })
 }
