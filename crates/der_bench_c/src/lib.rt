@@ -2,6 +2,7 @@
 //! length.
 #![tactic(auto)]
 
+use der_names::{Name, parse_name};
 use der_parser::ber::{Any, BerObject, BerObjectContent, Visit, parse_ber};
 use der_parser::der::parse_der;
 use std::alloc::Global;
@@ -115,10 +116,51 @@ fn count_read(alloc: Global, s: &[u8], mode: Mode) -> u64 {
     }
 }
 
+/// The names of a slice, one behind the other, or none of them where one is refused.
+fn read_names<'a>(alloc: Global, s: &'a [u8]) -> Option<Vec<Name<'a>>> {
+    let mut names = Vec::new(alloc);
+    let mut left = s;
+    for _ in 0..u64::MAX {
+        if left.is_empty() {
+            break;
+        }
+        let Ok((rest, name)) = parse_name(alloc, left) else {
+            return None;
+        };
+        if names.push(name).is_err() {
+            return None;
+        }
+        left = rest;
+    }
+    Some(names)
+}
+
+/// How many attributes a name has.
+fn count_attributes(name: &Name<'_>) -> u64 {
+    let mut count: u64 = 0;
+    for attributes in &name.0 {
+        count = count.wrapping_add(attributes.len() as u64);
+    }
+    count
+}
+
+/// How many attributes the names of a slice have; 0 where one is refused.
+fn count_read_attributes(alloc: Global, s: &[u8]) -> u64 {
+    let Some(names) = read_names(alloc, s) else {
+        return 0;
+    };
+    let mut count: u64 = 0;
+    for name in &names {
+        count = count.wrapping_add(count_attributes(name));
+    }
+    count
+}
+
 /// One pass over the elements of a slice: 0 reads them by DER, 1 by BER, 2 by BER and writes each
-/// as DER does, 4 reads the outermost elements alone, 6 reads them by BER and counts them by a
-/// visitor. It keeps the objects until its end, and answers how many it read, those inside lists
-/// among them; 0 where an element is refused, and for another mode.
+/// as DER does, 4 reads the outermost elements alone, 5 reads names (X.501 9.2), 6 reads elements by
+/// BER and counts them by a visitor. It keeps the objects and the names until its end, and answers
+/// how many it read, those inside lists among them, or how many attributes; 0 where an element is
+/// refused, and for another mode.
 #[unsafe(no_mangle)]
 pub extern "C" fn der_bench_pass(alloc: Global, s: &[u8], mode: u64) -> u64 {
     match mode {
@@ -126,6 +168,7 @@ pub extern "C" fn der_bench_pass(alloc: Global, s: &[u8], mode: u64) -> u64 {
         1 => count_read(alloc, s, Mode::Ber),
         2 => count_read(alloc, s, Mode::Canonical),
         4 => count_elements(s),
+        5 => count_read_attributes(alloc, s),
         6 => count_visited(alloc, s),
         _ => 0,
     }

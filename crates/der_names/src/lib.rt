@@ -1,0 +1,12 @@
+//! The names of a certificate (X.501 9.2, RFC 5280 4.1.2), and the text that RFC 2253 gives them.
+#![tactic(auto)]
+
+mod attribute_types;
+mod certificate;
+mod name;
+#[cfg(test)]
+mod tests;
+mod text;
+
+pub use certificate::{Names, parse_names};
+pub use name::{Attribute, Name, parse_name};

@@ -1,0 +1,138 @@
+//! The text of a name by RFC 2253, as openssl writes it: all of it is printable ASCII.
+use crate::attribute_types::short_name;
+use crate::name::{Attribute, Coding, Name};
+use der_parser::ber::Any;
+use der_parser::oid::Oid;
+use std::fmt;
+
+/// The relative names, the last one first, with a comma between them.
+impl fmt::Display for Name<'_> {
+    fn fmt<W: fmt::Write>(&self, f: &mut fmt::Formatter<W>) -> fmt::Result {
+        let relative_names = self.0.iter().rev().filter(|r| !r.is_empty());
+        for (i, attributes) in relative_names.enumerate() {
+            if i > 0 {
+                f.write_str(",")?;
+            }
+            write_relative_name(f, attributes)?;
+        }
+        Ok(())
+    }
+}
+
+/// Writes the attributes, the last one first, with a plus sign between them.
+fn write_relative_name<W: fmt::Write>(
+    f: &mut fmt::Formatter<W>,
+    attributes: &[Attribute<'_>],
+) -> fmt::Result {
+    for (i, attribute) in attributes.iter().rev().enumerate() {
+        if i > 0 {
+            f.write_str("+")?;
+        }
+        write!(f, "{attribute}")?;
+    }
+    Ok(())
+}
+
+/// The type and the value. A value whose type has no short name, or that has no characters, is
+/// written in hexadecimal.
+impl fmt::Display for Attribute<'_> {
+    fn fmt<W: fmt::Write>(&self, f: &mut fmt::Formatter<W>) -> fmt::Result {
+        let Ok((_, parts)) = self.parts() else {
+            return Err(fmt::Error);
+        };
+        let Some(name) = short_name(&parts.oid) else {
+            write_dotted(f, &parts.oid)?;
+            return write_hex(f, parts.value);
+        };
+        f.write_str(name)?;
+        match Any::from_der(parts.value) {
+            Ok((_, any)) if parts.coding != Coding::NoText => write_text(
+                f,
+                parts.coding,
+                any.bytes,
+            ),
+            _ => write_hex(f, parts.value),
+        }
+    }
+}
+
+/// Writes the arcs, with a point between them.
+fn write_dotted<W: fmt::Write>(f: &mut fmt::Formatter<W>, oid: &Oid<'_>) -> fmt::Result {
+    let Some(arcs) = oid.iter() else {
+        return Ok(());
+    };
+    let mut behind_another = false;
+    for arc in arcs {
+        if behind_another {
+            f.write_str(".")?;
+        }
+        write!(f, "{arc}")?;
+        behind_another = true;
+    }
+    Ok(())
+}
+
+/// Writes octets as hexadecimal numbers of two digits.
+fn write_hex<W: fmt::Write>(f: &mut fmt::Formatter<W>, octets: &[u8]) -> fmt::Result {
+    f.write_str("=#")?;
+    for octet in octets {
+        write!(f, "{octet:02X}")?;
+    }
+    Ok(())
+}
+
+/// Writes characters, each as the octets that it has in UTF-8.
+fn write_text<W: fmt::Write>(
+    f: &mut fmt::Formatter<W>,
+    coding: Coding,
+    octets: &[u8],
+) -> fmt::Result {
+    f.write_str("=")?;
+    let width = match coding {
+        Coding::Utf8 | Coding::Latin1 | Coding::NoText => 1,
+        Coding::Bmp => 2,
+        Coding::Universal => 4,
+    };
+    let count = octets.len() / width;
+    for (i, unit) in octets.chunks_exact(width).enumerate() {
+        let (first, last) = (i == 0, i + 1 == count);
+        if coding == Coding::Utf8 {
+            write_octets(f, unit, first, last)?;
+        } else if let Some(c) = char::from_u32(number(unit)) {
+            let mut octets = [0; 4];
+            write_octets(f, c.encode_utf8(&mut octets).as_bytes(), first, last)?;
+        }
+    }
+    Ok(())
+}
+
+/// The number of octets, the highest first.
+fn number(octets: &[u8]) -> u32 {
+    match octets {
+        [a] => u32::from(*a),
+        [a, b] => u32::from(u16::from_be_bytes([*a, *b])),
+        [a, b, c, d] => u32::from_be_bytes([*a, *b, *c, *d]),
+        _ => 0,
+    }
+}
+
+/// Writes the octets of a character, which may be the first one of a text, or the last one.
+fn write_octets<W: fmt::Write>(
+    f: &mut fmt::Formatter<W>,
+    octets: &[u8],
+    first: bool,
+    last: bool,
+) -> fmt::Result {
+    for octet in octets {
+        match octet {
+            b'"' | b'+' | b',' | b';' | b'<' | b'>' | b'\\' => {
+                write!(f, "\\{}", char::from(*octet))?;
+            }
+            b'#' if first && !last => f.write_str("\\#")?,
+            b' ' if first || last => f.write_str("\\ ")?,
+            b' '..=b'~' => f.write_char(char::from(*octet))?,
+            _ => write!(f, "\\{octet:02X}")?,
+        }
+    }
+    Ok(())
+}
