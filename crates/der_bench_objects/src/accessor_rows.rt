@@ -198,8 +198,8 @@ fn items_have_places(rt: HostRuntime) -> Result<(), Fail> {
     let input = b"\x30\x0a\x02\x03\x01\x00\x01\x02\x03\x01\x00\x00";
     let (_, object) = parse_ber(rt.alloc(), input)?;
     if object.as_sequence()?.len() == 2 {
-        assert_eq!(rt; object[0].as_slice(), Ok(b"\x01\x00\x01".as_slice()));
-        assert_eq!(rt; object[1].as_slice(), Ok(b"\x01\x00\x00".as_slice()));
+        assert_eq!(rt; object[0].as_u64(), Ok(65537));
+        assert_eq!(rt; object[1].as_u64(), Ok(65536));
         return Ok(());
     }
     assert!(rt; false);

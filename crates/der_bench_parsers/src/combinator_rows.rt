@@ -6,8 +6,8 @@ ghost use Rattle.der_bench.specs.declared.combinator_rows.MyError.TheVariants.{N
 use der_bench_rows::octets::octets;
 use der_parser::IResult;
 use der_parser::ber::{
-    Any, Class, Length, Tag, parse_ber_sequence_of_v, parse_ber_set_of_v,
-    parse_ber_tagged_explicit_g, parse_ber_tagged_implicit_g,
+    Class, Length, Tag, parse_ber_sequence_of_v, parse_ber_set_of_v, parse_ber_tagged_explicit_g,
+    parse_ber_tagged_implicit_g, parse_ber_u32,
 };
 use der_parser::der::{
     parse_der_sequence_of_v, parse_der_set_of_v, parse_der_slice, parse_der_tagged_explicit_g,
@@ -50,23 +50,17 @@ impl<'a> ParseError<&'a [u8]> for MyError<'a> {
     }
 }
 
-/// The content octets of an INTEGER. Incomplete passes, and every other refusal is Variant1.
-fn integer<'a>(i: &'a [u8]) -> IResult<&'a [u8], &'a [u8], MyError<'a>> {
-    match Any::from_ber(i) {
-        Ok((rest, any)) => {
-            if any.tag() == Tag::Integer {
-                Ok((rest, any.bytes))
-            } else {
-                Err(Err::Error(MyError::Variant1))
-            }
-        }
+/// The number of an INTEGER. Incomplete passes, and every other refusal is Variant1.
+fn number<'a>(i: &'a [u8]) -> IResult<&'a [u8], u32, MyError<'a>> {
+    match parse_ber_u32(i) {
+        Ok(read) => Ok(read),
         Err(Err::Incomplete(n)) => Err(Err::Incomplete(n)),
         Err(_) => Err(Err::Error(MyError::Variant1)),
     }
 }
 
 /// What a list form answers.
-type Listed<'a> = IResult<&'a [u8], Vec<&'a [u8]>, MyError<'a>>;
+type Listed<'a> = IResult<&'a [u8], Vec<u32>, MyError<'a>>;
 
 /// How often each list form calls its parser, and what it answers: by BER, and by DER.
 fn listed(alloc: Global, i: &[u8], tag: Tag) -> [(u64, Listed<'_>); 2] {
@@ -74,11 +68,11 @@ fn listed(alloc: Global, i: &[u8], tag: Tag) -> [(u64, Listed<'_>); 2] {
     let mut der_calls: u64 = 0;
     let ber = |input| {
         calls = calls.saturating_add(1);
-        integer(input)
+        number(input)
     };
     let der = |input| {
         der_calls = der_calls.saturating_add(1);
-        integer(input)
+        number(input)
     };
     let (by_ber, by_der) = if tag == Tag::Sequence {
         let by_ber = parse_ber_sequence_of_v(alloc, ber).parse(i);
@@ -90,32 +84,18 @@ fn listed(alloc: Global, i: &[u8], tag: Tag) -> [(u64, Listed<'_>); 2] {
     [(calls, by_ber), (der_calls, by_der)]
 }
 
-/// The number that octets stand for, the highest first.
-fn number(octets: &[u8]) -> u64 {
-    let mut value: u64 = 0;
-    for octet in octets.iter() {
-        value = value.wrapping_mul(256).wrapping_add(*octet as u64);
-    }
-    value
-}
-
 /// Whether the answer is these numbers, with so many octets left.
-fn is_list(answer: &Listed<'_>, values: &[u64], left: usize) -> bool {
-    let Ok((rest, items)) = answer else {
-        return false;
-    };
-    for (item, value) in items.iter().zip(values.iter()) {
-        if number(item) != *value {
-            return false;
-        }
+fn is_list(answer: &Listed<'_>, values: &[u32], left: usize) -> bool {
+    match answer {
+        Ok((rest, numbers)) => numbers.as_slice() == values && rest.len() == left,
+        Err(_) => false,
     }
-    items.len() == values.len() && rest.len() == left
 }
 
 /// Octets, the tag of the list, its values, how many octets follow it, and how often the parser is
 /// called.
 #[rattlefmt::skip]
-const LISTS: &[(&str, Tag, &[u64], usize, u64)] = &[
+const LISTS: &[(&str, Tag, &[u32], usize, u64)] = &[
     ("30 06 02 01 01 02 01 02", Tag(16), &[1, 2], 0, 3),
     ("30 0a 02 03 01 00 01 02 03 01 00 00", Tag(16), &[65537, 65536], 0, 3),
     ("31 03 02 01 05 ff", Tag(17), &[5], 1, 2),
@@ -123,7 +103,7 @@ const LISTS: &[(&str, Tag, &[u64], usize, u64)] = &[
 ];
 
 #[test]
-fn lists_of_integers(rt: HostRuntime) -> Result<(), Fail> {
+fn lists_of_numbers(rt: HostRuntime) -> Result<(), Fail> {
     for (text, tag, values, left, count) in LISTS {
         let input = octets(rt.alloc(), text)?;
         for (calls, answer) in listed(rt.alloc(), &input, *tag) {
@@ -182,9 +162,9 @@ fn a_rest_that_grows(rt: HostRuntime) -> Result<(), Fail> {
 
 /// Octets where an explicit tag of the number 2 is wanted, and what is answered.
 #[rattlefmt::skip]
-const EXPLICIT: &[(&str, Result<&[u8], Err<MyError<'static>>>)] = &[
-    ("a2 05 02 03 01 00 01", Ok(&[1, 0, 1])),
-    ("62 03 02 01 05", Ok(&[5])),
+const EXPLICIT: &[(&str, Result<u32, Err<MyError<'static>>>)] = &[
+    ("a2 05 02 03 01 00 01", Ok(65537)),
+    ("62 03 02 01 05", Ok(5)),
     ("a2 03 01 01 ff", Err(Err::Error(MyError::Variant1))),
     ("a3 05 02 03 01 00 01", Err(Err::Error(MyError::BerError(UnexpectedTag { expected: Some(Tag(2)), actual: Tag(3) })))),
     ("23 05 02 03 01 00 01", Err(Err::Error(MyError::BerError(UnexpectedClass { expected: None, actual: Class::Universal })))),
@@ -195,10 +175,10 @@ const EXPLICIT: &[(&str, Result<&[u8], Err<MyError<'static>>>)] = &[
 fn explicit_tags(rt: HostRuntime) -> Result<(), Fail> {
     for (text, expected) in EXPLICIT {
         let input = octets(rt.alloc(), text)?;
-        let by_ber = parse_ber_tagged_explicit_g(Tag(2), |content, _| integer(content)).parse(
+        let by_ber = parse_ber_tagged_explicit_g(Tag(2), |content, _| number(content)).parse(
             &input,
         );
-        let by_der = parse_der_tagged_explicit_g(Tag(2), |content, _| integer(content)).parse(
+        let by_der = parse_der_tagged_explicit_g(Tag(2), |content, _| number(content)).parse(
             &input,
         );
         for answer in [by_ber, by_der] {
@@ -209,26 +189,49 @@ fn explicit_tags(rt: HostRuntime) -> Result<(), Fail> {
     Ok(())
 }
 
-/// Octets of an implicit tag of the number 2, and the content with the length that its header says.
+/// What the parser under an implicit tag is handed: the content, the length that its header says, and
+/// the depth.
+type Handed<'a> = IResult<&'a [u8], (&'a [u8], Length, usize), MyError<'a>>;
+
+/// Octets where an implicit tag of the number 2 is wanted, and what is handed on by BER.
 #[rattlefmt::skip]
-const IMPLICIT: &[(&str, &[u8], usize)] = &[
-    ("82 03 01 00 01", &[1, 0, 1], 3),
-    ("a2 80 02 01 05 00 00", &[2, 1, 5], 3),
+const IMPLICIT: &[(&str, Handed<'static>)] = &[
+    ("82 03 01 00 01", Ok((&[], (&[1, 0, 1], Length::Definite(3), 50)))),
+    ("a2 80 02 01 05 00 00", Ok((&[], (&[2, 1, 5], Length::Definite(3), 50)))),
+];
+
+/// The same by DER.
+#[rattlefmt::skip]
+const IMPLICIT_BY_DER: &[(&str, Handed<'static>)] = &[
+    ("82 03 01 00 01", Ok((&[], (&[1, 0, 1], Length::Definite(3), 50)))),
+    ("a2 03 02 01 05 ff", Ok((&[255], (&[2, 1, 5], Length::Definite(3), 50)))),
+    ("83 00", Err(Err::Error(MyError::BerError(UnexpectedTag { expected: Some(Tag(2)), actual: Tag(3) })))),
+    ("a2 80 02 01 05 00 00", Err(Err::Error(MyError::BerError(BerError::DerConstraintFailed(DerConstraint::IndefiniteLength))))),
+    ("82 02 00", Err(Err::Error(MyError::NomError(&[0], ErrorKind::Eof)))),
 ];
 
 #[test]
 fn implicit_tags(rt: HostRuntime) -> Result<(), Fail> {
-    for (text, content, length) in IMPLICIT {
+    for (text, expected) in IMPLICIT {
         let input = octets(rt.alloc(), text)?;
-        let answer: IResult<&[u8], _, MyError<'_>> = parse_ber_tagged_implicit_g(
-            Tag(2),
-            |content, header, depth| { Ok((content, (content, header.length(), depth))) },
-        )
+        let answer: Handed<'_> = parse_ber_tagged_implicit_g(Tag(2), |content, header, depth| {
+            Ok((content, (content, header.length(), depth)))
+        })
         .parse(&input);
-        assert!(rt;
-            answer == Ok((b"", (*content, Length::Definite(*length), 50))),
-            "{text}"
-        );
+        assert!(rt; answer == *expected, "{text}: {answer:?}");
+    }
+    Ok(())
+}
+
+#[test]
+fn implicit_tags_by_der(rt: HostRuntime) -> Result<(), Fail> {
+    for (text, expected) in IMPLICIT_BY_DER {
+        let input = octets(rt.alloc(), text)?;
+        let answer: Handed<'_> = parse_der_tagged_implicit_g(Tag(2), |content, header, depth| {
+            Ok((content, (content, header.length(), depth)))
+        })
+        .parse(&input);
+        assert!(rt; answer == *expected, "{text}: {answer:?}");
     }
     Ok(())
 }
