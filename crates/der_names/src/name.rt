@@ -1,5 +1,5 @@
 //! Names: lists of sets of attributes (X.501 9.2).
-ghost use Rattle.std.specs.Prelude.{◌≡◌};
+ghost use Rattle.std.specs.Prelude.{◌≡◌, ◌<◌, length, OnErr, OnOk};
 
 use der_parser::IResult;
 use der_parser::ber::Any;
@@ -17,7 +17,7 @@ use std::borrow::CowSlice;
 #[derive(Debug, Drop)]
 pub struct Name<'a>(pub Vec<Vec<Attribute<'a>>>);
 
-/// A type and a value of it, by the octets in which they were read.
+/// A type and a value of it, which were read, and are kept as the octets in which they stand.
 #[derive(Clone, Copy, Debug, PartialEq)]
 pub struct Attribute<'a> {
     content: &'a [u8],
@@ -72,7 +72,10 @@ pub fn parse_name<'a>(alloc: Global, i: &'a [u8]) -> IResult<&'a [u8], Name<'a>,
 
 /// Ok where octets are left. A list asks its parser also behind its last item, and this is the
 /// short way to answer.
-fn check_more<E>(i: &[u8]) -> Result<(), Refused<E>> {
+fn check_more<E>(i: &[u8]) -> Result<(), Refused<E>>
+    ensures more { OnOk result (0 < length i.now) }
+    ensures none { OnErr result (length i.now ≡ 0) }
+{
     if i.is_empty() {
         return Err(Refused::Incomplete(Needed::Size(1)));
     }
@@ -99,7 +102,7 @@ fn parse_attribute<'a>(i: &'a [u8]) -> IResult<&'a [u8], Attribute<'a>, BerError
 }
 
 impl<'a> Attribute<'a> {
-    /// The parts, which were there when the attribute was read.
+    /// Reads the parts again.
     pub(crate) fn parts(self) -> IResult<&'a [u8], Parts<'a>, BerError> {
         parse_parts(self.content)
     }
