@@ -89,6 +89,8 @@ struct Counter {
 }
 
 impl Visit for Counter {
+    ghost use Rattle.std.specs.Prelude.{◌≡◌, ◌+◌, ◌%◌, ◌^◌};
+
     ghost object_step = { λ s _ _ t. t.objects ≡ (s.objects + 1) % 2 ^ 64 };
 
     fn visit_ber<'t>(&mut self, _object: &BerObject<'t>, _depth: usize) {
