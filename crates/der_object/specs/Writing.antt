@@ -59,4 +59,5 @@ pub record Encodes {W : Type 0} (contents : W → Option (List ℕ)) (old new : 
 
 -- below the greatest count, Io is the answer exactly where a fault was counted
 abbrev pub IoWhereFaultsRose : {W : Type 0} → FaultWriter W → FaultWriter W → Result (Unit {0}) GenError → Type 0
-IoWhereFaultsRose old new result = faults_of old < 2 ^ 128 - 1 → (IsErrAnd result IsIo ↔ (faults_of old < faults_of new))
+IoWhereFaultsRose old new result = faults_of old < 2 ^ 128 - 1
+    → (IsErrAnd result IsIo ↔ (faults_of old < faults_of new))
