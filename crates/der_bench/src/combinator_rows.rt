@@ -6,12 +6,13 @@ ghost use Rattle.der_bench.specs.declared.combinator_rows.MyError.TheVariants.{N
 use crate::octets::octets;
 use der_parser::IResult;
 use der_parser::ber::{
-    Any, Class, Length, Tag, parse_ber_sequence_of_v, parse_ber_set_of_v,
-    parse_ber_tagged_explicit_g, parse_ber_tagged_implicit_g,
+    Any, BerObject, Class, Length, Tag, parse_ber_integer, parse_ber_sequence_of_v,
+    parse_ber_set_of_v, parse_ber_tagged_explicit, parse_ber_tagged_explicit_g,
+    parse_ber_tagged_implicit_g,
 };
 use der_parser::der::{
-    parse_der_sequence_of_v, parse_der_set_of_v, parse_der_slice, parse_der_tagged_explicit_g,
-    parse_der_tagged_implicit_g,
+    parse_der_sequence_of_v, parse_der_set_of_v, parse_der_slice, parse_der_tagged_explicit,
+    parse_der_tagged_explicit_g, parse_der_tagged_implicit_g,
 };
 use der_parser::error::Error::{ConstructExpected, UnexpectedClass, UnexpectedTag};
 use der_parser::error::{BerError, DerConstraint, Err, ErrorKind, Needed, ParseError};
@@ -205,8 +206,36 @@ fn explicit_tags(rt: HostRuntime) -> Result<(), Fail> {
             let value = answer.map(|(_, value)| value);
             assert!(rt; value == *expected, "{text}: {value:?}");
         }
+        let by_ber = parse_ber_tagged_explicit(rt.alloc(), Tag(2), object).parse(&input);
+        let by_der = parse_der_tagged_explicit(rt.alloc(), Tag(2), object).parse(&input);
+        for answer in [by_ber, by_der] {
+            assert!(rt; is_inside(&answer, expected), "{text}: {answer:?}");
+        }
     }
     Ok(())
+}
+
+/// An INTEGER. Every refusal is Variant1.
+fn object<'a>(i: &'a [u8]) -> IResult<&'a [u8], BerObject<'a>, MyError<'a>> {
+    match parse_ber_integer(i) {
+        Ok(read) => Ok(read),
+        Err(_) => Err(Err::Error(MyError::Variant1)),
+    }
+}
+
+/// Whether the answer is a tagged object with these octets inside, or this refusal.
+fn is_inside(
+    answer: &IResult<&[u8], BerObject<'_>, MyError<'_>>,
+    expected: &Result<&[u8], Err<MyError<'static>>>,
+) -> bool {
+    match (answer, expected) {
+        (Ok((_, object)), Ok(octets)) => match object.as_tagged() {
+            Ok((_, _, inner)) => inner.as_slice() == Ok(*octets),
+            Err(_) => false,
+        },
+        (Err(e), Err(refusal)) => e == refusal,
+        _ => false,
+    }
 }
 
 /// Octets of an implicit tag of the number 2, and the content with the length that its header says.
