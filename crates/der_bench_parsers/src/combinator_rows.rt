@@ -1,17 +1,18 @@
 //! Combinators over a parser with an error type of the caller's.
 ghost use Rattle.std.specs.Prelude.{◌≡◌};
-ghost use Rattle.der_bench.specs.declared.combinator_rows.MyError.TheVariants.{BerError as BerErrorOf};
-ghost use Rattle.der_bench.specs.declared.combinator_rows.MyError.TheVariants.{NomError as NomErrorOf};
+ghost use Rattle.der_bench_parsers.specs.declared.combinator_rows.MyError.TheVariants.{BerError as BerErrorOf};
+ghost use Rattle.der_bench_parsers.specs.declared.combinator_rows.MyError.TheVariants.{NomError as NomErrorOf};
 
 use der_bench_rows::octets::octets;
 use der_parser::IResult;
 use der_parser::ber::{
-    Class, Length, Tag, parse_ber_sequence_of_v, parse_ber_set_of_v, parse_ber_tagged_explicit_g,
-    parse_ber_tagged_implicit_g, parse_ber_u32,
+    BerObject, Class, Length, Tag, parse_ber_integer, parse_ber_sequence_of_v, parse_ber_set_of_v,
+    parse_ber_tagged_explicit, parse_ber_tagged_explicit_g, parse_ber_tagged_implicit_g,
+    parse_ber_u32,
 };
 use der_parser::der::{
-    parse_der_sequence_of_v, parse_der_set_of_v, parse_der_slice, parse_der_tagged_explicit_g,
-    parse_der_tagged_implicit_g,
+    parse_der_sequence_of_v, parse_der_set_of_v, parse_der_slice, parse_der_tagged_explicit,
+    parse_der_tagged_explicit_g, parse_der_tagged_implicit_g,
 };
 use der_parser::error::Error::{ConstructExpected, UnexpectedClass, UnexpectedTag};
 use der_parser::error::{BerError, DerConstraint, Err, ErrorKind, Needed, ParseError};
@@ -185,8 +186,36 @@ fn explicit_tags(rt: HostRuntime) -> Result<(), Fail> {
             let value = answer.map(|(_, value)| value);
             assert!(rt; value == *expected, "{text}: {value:?}");
         }
+        let by_ber = parse_ber_tagged_explicit(rt.alloc(), Tag(2), object).parse(&input);
+        let by_der = parse_der_tagged_explicit(rt.alloc(), Tag(2), object).parse(&input);
+        for answer in [by_ber, by_der] {
+            assert!(rt; is_inside(&answer, expected), "{text}: {answer:?}");
+        }
     }
     Ok(())
+}
+
+/// An INTEGER. Every refusal is Variant1.
+fn object<'a>(i: &'a [u8]) -> IResult<&'a [u8], BerObject<'a>, MyError<'a>> {
+    match parse_ber_integer(i) {
+        Ok(read) => Ok(read),
+        Err(_) => Err(Err::Error(MyError::Variant1)),
+    }
+}
+
+/// Whether the answer is a tagged object with this number inside, or this refusal.
+fn is_inside(
+    answer: &IResult<&[u8], BerObject<'_>, MyError<'_>>,
+    expected: &Result<u32, Err<MyError<'static>>>,
+) -> bool {
+    match (answer, expected) {
+        (Ok((_, object)), Ok(number)) => match object.as_tagged() {
+            Ok((_, _, inner)) => inner.as_u32() == Ok(*number),
+            Err(_) => false,
+        },
+        (Err(e), Err(refusal)) => e == refusal,
+        _ => false,
+    }
 }
 
 /// What the parser under an implicit tag is handed: the content, the length that its header says, and
