@@ -2,6 +2,8 @@
 #![tactic(auto)]
 
 #[cfg(test)]
+mod certificate_walk;
+#[cfg(test)]
 mod combinator_rows;
 #[cfg(test)]
 mod list_form_rows;
