@@ -51,8 +51,8 @@ pub record WasRead {R : Type 0} (remaining : R → Option (List ℕ)) (old new :
   pub small : IfSome (octets_left remaining old) (λ xs. length xs ≤ limit)
 
 -- the whole input was read, it is elements, the output of each was written, and handed on with no fault
-pub record EndsWell {R W : Type 0} (remaining : R → Option (List ℕ)) (contents : W → Option (List ℕ)) (command : Command)
-    (reader reader' : Source R) (out out' : Sink W) : Type 0 where
+pub record EndsWell {R W : Type 0} (remaining : R → Option (List ℕ)) (contents : W → Option (List ℕ))
+    (command : Command) (reader reader' : Source R) (out out' : Sink W) : Type 0 where
   pub read : WasRead remaining reader reader'
   pub printed : IfSome (octets_left remaining reader)
       (λ xs. Printed command xs (octets_of contents out) (octets_of contents out') None)
