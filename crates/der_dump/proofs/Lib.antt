@@ -1,4 +1,3 @@
-pub mod Encoded
 pub mod Reading
 pub mod Taken
 pub mod Taking

@@ -16,10 +16,10 @@ use crate::rules::read_object;
 use crate::sink::Sink;
 use crate::source::Source;
 use crate::text::write_text;
-use der_parser::ber::{BerObject, FaultWriter, ber_encode_object};
+use der_parser::ber::BerObject;
 use std::alloc::Global;
+use std::io;
 use std::io::{ErrorKind, Read, Write};
-use std::{io, mem};
 
 /// So many octets are much to be pending.
 const MUCH: usize = 8192;
@@ -158,13 +158,11 @@ fn push_output(
 fn push_encoding(alloc: Global, pending: &mut Vec<u8>, object: &BerObject<'_>) -> io::Result<()>
     ensures { OnOk result (pending.new.items ≡ pending.old.items ++ encoding (tree object.now)) }
 {
-    let mut w = FaultWriter::new(mem::replace(pending, Vec::new(alloc)));
-    let encoded = ber_encode_object(&mut w, object);
-    *pending = w.into_inner();
-    match encoded {
-        Ok(()) => Ok(()),
-        Err(_) => Err(io::Error::from(ErrorKind::OutOfMemory)),
-    }
+    let Ok(encoding) = object.to_vec(alloc) else {
+        return Err(io::Error::from(ErrorKind::OutOfMemory));
+    };
+    pending.extend_from_slice(&encoding)?;
+    Ok(())
 }
 
 /// Adds the text of an object on a line of its own.
