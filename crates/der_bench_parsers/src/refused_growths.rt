@@ -1,47 +1,279 @@
-//! Want of memory: a growth that is refused is the answer OutOfMemory, and no other. The tests take
-//! no memory but that of the calls. `tools/refused-growths` runs them with a growth refused: those
-//! that begin with `wants_memory` then end in OutOfMemory where it is the first, the others pass.
+//! Want of memory, a test a call: the call that the test's name ends in takes all the memory that is taken
+//! after a test's first lines, which end the test where there is none. With ample memory it returns
+//! Ok. `tools/refused-growths` runs the tests with the first growth refused, then with the second, and
+//! so on: then the call returns OutOfMemory, and nothing else.
 use der_bench_rows::reader::Reader;
 use der_bench_rows::reader::Reader::{
-    ParseBer, ParseBerAnyWithTagR, ParseBerSequence, ParseBerSet, ParseDer, ParseDerSequence,
-    ParseDerSet,
+    ParseBer, ParseBerAnyR, ParseBerAnyWithTagR, ParseBerCounted, ParseBerRecursive,
+    ParseBerSequence, ParseBerSet, ParseBerWithTag, ParseDer, ParseDerCounted, ParseDerRecursive,
+    ParseDerSequence, ParseDerSet, ParseDerWithTag,
 };
 use der_parser::ber::{
-    BerObject, Tag, parse_ber_any_with_tag_r, parse_ber_integer, parse_ber_optional,
-    parse_ber_tagged_explicit,
+    Any, BerObject, BerObjectContent, Class, Header, Length, Tag, ber_object_from_any,
+    ber_read_element_content_as, parse_ber_content, parse_ber_content2,
+    parse_ber_explicit_optional, parse_ber_integer, parse_ber_optional, parse_ber_sequence_of,
+    parse_ber_sequence_of_v, parse_ber_set_of, parse_ber_set_of_v, parse_ber_tagged_explicit,
 };
-use der_parser::error::{Err as Refused, GenError};
-use der_parser::oid::{Oid, OidParseError};
-use der_parser::parse_ber;
+use der_parser::der::{
+    der_read_element_content, der_read_element_content_as, parse_der_content, parse_der_content2,
+    parse_der_explicit_optional, parse_der_integer, parse_der_optional, parse_der_sequence_of,
+    parse_der_sequence_of_v, parse_der_set_of, parse_der_set_of_v, parse_der_tagged_explicit,
+};
+use der_parser::error::BerResult;
+use der_parser::oid::Oid;
+use der_parser::parse_der;
 use std::process::Abort;
 use std::test::Fail;
 
+const SEQUENCE: &[u8] = b"\x30\x02\x05\x00";
+
+const SET: &[u8] = b"\x31\x02\x05\x00";
+
+const INTEGERS: &[u8] = b"\x30\x03\x02\x01\x05";
+
+const INTEGER_SET: &[u8] = b"\x31\x03\x02\x01\x05";
+
+const EXPLICIT: &[u8] = b"\xa0\x03\x02\x01\x05";
+
+/// The reader reads the whole input.
+fn read_all(rt: &(impl Abort + AllocGlobal), reader: Reader, input: &[u8]) -> Result<(), Fail> {
+    let (rest, _) = reader.read(rt.alloc(), input)?;
+    assert!(rt; rest.is_empty());
+    Ok(())
+}
+
+/// A SEQUENCE's header, in front of two octets of content.
+fn sequence_header() -> Header<'static> {
+    Header::new(Class::Universal, true, Tag::Sequence, Length::Definite(2))
+}
+
+/// What was read is one SEQUENCE, and the whole input.
+fn expect_list(rt: &impl Abort, answer: BerResult<'_, BerObjectContent<'_>>) -> Result<(), Fail> {
+    let (rest, content) = answer?;
+    assert!(rt; rest.is_empty());
+    assert!(rt; matches!(content, BerObjectContent::Sequence(_)));
+    Ok(())
+}
+
+#[test]
+fn wants_memory_parse_ber(rt: HostRuntime) -> Result<(), Fail> {
+    read_all(&rt, ParseBer, b"\x30\x03\x01\x01\x7f")
+}
+
+#[test]
+fn wants_memory_parse_ber_of_indefinite_length(rt: HostRuntime) -> Result<(), Fail> {
+    read_all(&rt, ParseBer, b"\x30\x80\x04\x03\x56\x78\x90\x00\x00")
+}
+
+#[test]
+fn wants_memory_parse_ber_of_lists_inside(rt: HostRuntime) -> Result<(), Fail> {
+    read_all(
+        &rt,
+        ParseBer,
+        b"\x30\x80\x31\x80\x30\x80\x00\x00\x00\x00\x00\x00",
+    )
+}
+
 /// A framed element is recorded, whatever its type.
 #[test]
-fn wants_memory_for_an_indefinite_length(rt: HostRuntime) -> Result<(), Fail> {
-    let (rest, _) = parse_ber(rt.alloc(), b"\x24\x80\x04\x01\x61\x00\x00")?;
+fn wants_memory_parse_ber_of_an_octet_string(rt: HostRuntime) -> Result<(), Fail> {
+    read_all(&rt, ParseBer, b"\x24\x80\x04\x01\x61\x00\x00")
+}
+
+#[test]
+fn wants_memory_parse_ber_recursive(rt: HostRuntime) -> Result<(), Fail> {
+    read_all(&rt, ParseBerRecursive(2), SEQUENCE)
+}
+
+#[test]
+fn wants_memory_parse_ber_any_r(rt: HostRuntime) -> Result<(), Fail> {
+    read_all(&rt, ParseBerAnyR(2), SEQUENCE)
+}
+
+#[test]
+fn wants_memory_parse_ber_any_with_tag_r(rt: HostRuntime) -> Result<(), Fail> {
+    read_all(&rt, ParseBerAnyWithTagR(Tag::Sequence, 2), SEQUENCE)
+}
+
+#[test]
+fn wants_memory_parse_ber_any_with_tag_r_of_an_octet_string(rt: HostRuntime) -> Result<(), Fail> {
+    read_all(
+        &rt,
+        ParseBerAnyWithTagR(Tag::OctetString, 1),
+        b"\x24\x80\x04\x01\x61\x00\x00",
+    )
+}
+
+#[test]
+fn wants_memory_parse_ber_counted(rt: HostRuntime) -> Result<(), Fail> {
+    read_all(&rt, ParseBerCounted(2), SEQUENCE)
+}
+
+#[test]
+fn wants_memory_parse_ber_with_tag(rt: HostRuntime) -> Result<(), Fail> {
+    read_all(&rt, ParseBerWithTag(Tag::Set), SET)
+}
+
+#[test]
+fn wants_memory_parse_ber_sequence(rt: HostRuntime) -> Result<(), Fail> {
+    read_all(&rt, ParseBerSequence, SEQUENCE)
+}
+
+#[test]
+fn wants_memory_parse_ber_set(rt: HostRuntime) -> Result<(), Fail> {
+    read_all(&rt, ParseBerSet, b"\x31\x80\x05\x00\x00\x00")
+}
+
+#[test]
+fn wants_memory_parse_der(rt: HostRuntime) -> Result<(), Fail> {
+    read_all(&rt, ParseDer, b"\x30\x03\x01\x01\xff")
+}
+
+#[test]
+fn wants_memory_parse_der_of_lists_inside(rt: HostRuntime) -> Result<(), Fail> {
+    read_all(&rt, ParseDer, b"\x31\x05\x30\x03\x01\x01\x00")
+}
+
+#[test]
+fn wants_memory_parse_der_recursive(rt: HostRuntime) -> Result<(), Fail> {
+    read_all(&rt, ParseDerRecursive(2), SEQUENCE)
+}
+
+#[test]
+fn wants_memory_parse_der_counted(rt: HostRuntime) -> Result<(), Fail> {
+    read_all(&rt, ParseDerCounted(2), SEQUENCE)
+}
+
+#[test]
+fn wants_memory_parse_der_with_tag(rt: HostRuntime) -> Result<(), Fail> {
+    read_all(&rt, ParseDerWithTag(Tag::Set), SET)
+}
+
+#[test]
+fn wants_memory_parse_der_sequence(rt: HostRuntime) -> Result<(), Fail> {
+    read_all(&rt, ParseDerSequence, SEQUENCE)
+}
+
+#[test]
+fn wants_memory_parse_der_set(rt: HostRuntime) -> Result<(), Fail> {
+    read_all(&rt, ParseDerSet, SET)
+}
+
+#[test]
+fn wants_memory_ber_read_element_content_as(rt: HostRuntime) -> Result<(), Fail> {
+    let answer = ber_read_element_content_as(
+        rt.alloc(),
+        b"\x05\x00",
+        Tag::Sequence,
+        Length::Definite(2),
+        true,
+        2,
+    );
+    expect_list(&rt, answer)
+}
+
+#[test]
+fn wants_memory_ber_content(rt: HostRuntime) -> Result<(), Fail> {
+    let answer = parse_ber_content(rt.alloc(), Tag::Sequence).parse(
+        b"\x05\x00",
+        &sequence_header(),
+        2,
+    );
+    expect_list(&rt, answer)
+}
+
+#[test]
+fn wants_memory_ber_content2(rt: HostRuntime) -> Result<(), Fail> {
+    let answer = parse_ber_content2(rt.alloc(), Tag::Sequence).parse(
+        b"\x05\x00",
+        sequence_header(),
+        2,
+    );
+    expect_list(&rt, answer)
+}
+
+#[test]
+fn wants_memory_der_read_element_content_as(rt: HostRuntime) -> Result<(), Fail> {
+    let answer = der_read_element_content_as(
+        rt.alloc(),
+        b"\x05\x00",
+        Tag::Sequence,
+        Length::Definite(2),
+        true,
+        2,
+    );
+    expect_list(&rt, answer)
+}
+
+#[test]
+fn wants_memory_der_content(rt: HostRuntime) -> Result<(), Fail> {
+    let answer = parse_der_content(rt.alloc(), Tag::Sequence).parse(
+        b"\x05\x00",
+        &sequence_header(),
+        2,
+    );
+    expect_list(&rt, answer)
+}
+
+#[test]
+fn wants_memory_der_content2(rt: HostRuntime) -> Result<(), Fail> {
+    let answer = parse_der_content2(rt.alloc(), Tag::Sequence).parse(
+        b"\x05\x00",
+        sequence_header(),
+        2,
+    );
+    expect_list(&rt, answer)
+}
+
+#[test]
+fn wants_memory_der_read_element_content(rt: HostRuntime) -> Result<(), Fail> {
+    let (rest, _) = der_read_element_content(rt.alloc(), b"\x05\x00", sequence_header())?;
     assert!(rt; rest.is_empty());
     Ok(())
 }
 
 #[test]
-fn wants_memory_for_an_indefinite_length_of_a_tag(rt: HostRuntime) -> Result<(), Fail> {
-    let input = b"\x24\x80\x04\x01\x61\x00\x00";
-    let (rest, _) = parse_ber_any_with_tag_r(rt.alloc(), input, Tag::OctetString, 1)?;
+fn wants_memory_parse_ber_sequence_of(rt: HostRuntime) -> Result<(), Fail> {
+    let mut list = parse_ber_sequence_of(rt.alloc(), |i| parse_ber_integer(i));
+    let (rest, _) = list.parse(INTEGERS)?;
     assert!(rt; rest.is_empty());
     Ok(())
 }
 
 #[test]
-fn wants_memory_for_a_tagged_object(rt: HostRuntime) -> Result<(), Fail> {
+fn wants_memory_parse_ber_sequence_of_v(rt: HostRuntime) -> Result<(), Fail> {
+    let mut list = parse_ber_sequence_of_v(rt.alloc(), |i| parse_ber_integer(i));
+    let (rest, _) = list.parse(INTEGERS)?;
+    assert!(rt; rest.is_empty());
+    Ok(())
+}
+
+#[test]
+fn wants_memory_parse_ber_set_of(rt: HostRuntime) -> Result<(), Fail> {
+    let mut list = parse_ber_set_of(rt.alloc(), |i| parse_ber_integer(i));
+    let (rest, _) = list.parse(INTEGER_SET)?;
+    assert!(rt; rest.is_empty());
+    Ok(())
+}
+
+#[test]
+fn wants_memory_parse_ber_set_of_v(rt: HostRuntime) -> Result<(), Fail> {
+    let mut list = parse_ber_set_of_v(rt.alloc(), |i| parse_ber_integer(i));
+    let (rest, _) = list.parse(INTEGER_SET)?;
+    assert!(rt; rest.is_empty());
+    Ok(())
+}
+
+#[test]
+fn wants_memory_parse_ber_tagged_explicit(rt: HostRuntime) -> Result<(), Fail> {
     let mut tagged = parse_ber_tagged_explicit(rt.alloc(), Tag(0), |i| parse_ber_integer(i));
-    let (rest, _) = tagged.parse(b"\xa0\x03\x02\x01\x05")?;
+    let (rest, _) = tagged.parse(EXPLICIT)?;
     assert!(rt; rest.is_empty());
     Ok(())
 }
 
 #[test]
-fn wants_memory_for_an_object_that_may_be_absent(rt: HostRuntime) -> Result<(), Fail> {
+fn wants_memory_parse_ber_optional(rt: HostRuntime) -> Result<(), Fail> {
     let mut optional = parse_ber_optional(rt.alloc(), |i| parse_ber_integer(i));
     let (rest, _) = optional.parse(b"\x02\x01\x05")?;
     assert!(rt; rest.is_empty());
@@ -49,82 +281,132 @@ fn wants_memory_for_an_object_that_may_be_absent(rt: HostRuntime) -> Result<(), 
 }
 
 #[test]
-fn wants_memory_for_an_encoding(rt: HostRuntime) -> Result<(), Fail> {
-    let written = BerObject::from_int_slice(b"\x05").to_vec(rt.alloc())?;
-    assert_eq!(rt; written.len(), 3);
+fn wants_memory_parse_ber_explicit_optional(rt: HostRuntime) -> Result<(), Fail> {
+    let alloc = rt.alloc();
+    let (rest, _) = parse_ber_explicit_optional(alloc, EXPLICIT, Tag(0), |i| parse_ber_integer(i))?;
+    assert!(rt; rest.is_empty());
     Ok(())
 }
 
 #[test]
-fn wants_memory_for_arcs(rt: HostRuntime) -> Result<(), Fail> {
+fn wants_memory_parse_der_sequence_of(rt: HostRuntime) -> Result<(), Fail> {
+    let mut list = parse_der_sequence_of(rt.alloc(), |i| parse_der_integer(i));
+    let (rest, _) = list.parse(INTEGERS)?;
+    assert!(rt; rest.is_empty());
+    Ok(())
+}
+
+#[test]
+fn wants_memory_parse_der_sequence_of_v(rt: HostRuntime) -> Result<(), Fail> {
+    let mut list = parse_der_sequence_of_v(rt.alloc(), |i| parse_der_integer(i));
+    let (rest, _) = list.parse(INTEGERS)?;
+    assert!(rt; rest.is_empty());
+    Ok(())
+}
+
+#[test]
+fn wants_memory_parse_der_set_of(rt: HostRuntime) -> Result<(), Fail> {
+    let mut list = parse_der_set_of(rt.alloc(), |i| parse_der_integer(i));
+    let (rest, _) = list.parse(INTEGER_SET)?;
+    assert!(rt; rest.is_empty());
+    Ok(())
+}
+
+#[test]
+fn wants_memory_parse_der_set_of_v(rt: HostRuntime) -> Result<(), Fail> {
+    let mut list = parse_der_set_of_v(rt.alloc(), |i| parse_der_integer(i));
+    let (rest, _) = list.parse(INTEGER_SET)?;
+    assert!(rt; rest.is_empty());
+    Ok(())
+}
+
+#[test]
+fn wants_memory_parse_der_tagged_explicit(rt: HostRuntime) -> Result<(), Fail> {
+    let mut tagged = parse_der_tagged_explicit(rt.alloc(), Tag(0), |i| parse_der_integer(i));
+    let (rest, _) = tagged.parse(EXPLICIT)?;
+    assert!(rt; rest.is_empty());
+    Ok(())
+}
+
+#[test]
+fn wants_memory_parse_der_optional(rt: HostRuntime) -> Result<(), Fail> {
+    let mut optional = parse_der_optional(rt.alloc(), |i| parse_der_integer(i));
+    let (rest, _) = optional.parse(b"\x02\x01\x05")?;
+    assert!(rt; rest.is_empty());
+    Ok(())
+}
+
+#[test]
+fn wants_memory_parse_der_explicit_optional(rt: HostRuntime) -> Result<(), Fail> {
+    let alloc = rt.alloc();
+    let (rest, _) = parse_der_explicit_optional(alloc, EXPLICIT, Tag(0), |i| parse_der_integer(i))?;
+    assert!(rt; rest.is_empty());
+    Ok(())
+}
+
+#[test]
+fn wants_memory_ber_object_from_any(rt: HostRuntime) -> Result<(), Fail> {
+    let (_, any) = Any::from_ber(SEQUENCE)?;
+    let object = ber_object_from_any(rt.alloc(), any)?;
+    assert!(rt; object.as_sequence().is_ok());
+    Ok(())
+}
+
+#[test]
+fn wants_memory_try_clone(rt: HostRuntime) -> Result<(), Fail> {
+    let Ok((_, object)) = parse_der(rt.alloc(), SEQUENCE) else {
+        return Ok(());
+    };
+    let copy = object.try_clone(rt.alloc())?;
+    assert!(rt; copy == object);
+    Ok(())
+}
+
+#[test]
+fn wants_memory_as_oid_val(rt: HostRuntime) -> Result<(), Fail> {
+    let Ok(oid) = Oid::from(rt.alloc(), &[2, 999]) else {
+        return Ok(());
+    };
+    let object = BerObject::from_obj(BerObjectContent::OID(oid));
+    let copy = object.as_oid_val(rt.alloc())?;
+    assert!(rt; copy.as_bytes() == b"\x88\x37".as_slice());
+    Ok(())
+}
+
+#[test]
+fn wants_memory_to_vec(rt: HostRuntime) -> Result<(), Fail> {
+    let written = BerObject::from_int_slice(b"\x05").to_vec(rt.alloc())?;
+    assert!(rt; written.as_slice() == b"\x02\x01\x05".as_slice());
+    Ok(())
+}
+
+#[test]
+fn wants_memory_oid_from(rt: HostRuntime) -> Result<(), Fail> {
     let oid = Oid::from(rt.alloc(), &[2, 999])?;
     assert!(rt; oid.as_bytes() == b"\x88\x37".as_slice());
     Ok(())
 }
 
 #[test]
-fn wants_memory_for_relative_arcs(rt: HostRuntime) -> Result<(), Fail> {
+fn wants_memory_oid_from_relative(rt: HostRuntime) -> Result<(), Fail> {
     let oid = Oid::from_relative(rt.alloc(), &[1079])?;
     assert!(rt; oid.as_bytes() == b"\x88\x37".as_slice());
     Ok(())
 }
 
 #[test]
-fn wants_memory_for_a_dotted_text(rt: HostRuntime) -> Result<(), Fail> {
+fn wants_memory_oid_from_dotted(rt: HostRuntime) -> Result<(), Fail> {
     let oid = Oid::from_dotted(rt.alloc(), "2.999")?;
     assert!(rt; oid.as_bytes() == b"\x88\x37".as_slice());
     Ok(())
 }
 
-/// A reader, and octets that it reads where there is memory.
-const READ: &[(Reader, &[u8])] = &[
-    (ParseBer, b"\x30\x80\x04\x03\x56\x78\x90\x00\x00"),
-    (ParseBer, b"\x30\x03\x01\x01\x7f"),
-    (ParseBer, b"\x30\x80\x31\x80\x05\x00\x00\x00\x00\x00"),
-    (ParseBerSequence, b"\x30\x02\x05\x00"),
-    (ParseBerSet, b"\x31\x80\x05\x00\x00\x00"),
-    (ParseBerAnyWithTagR(Tag(16), 2), b"\x30\x02\x05\x00"),
-    (ParseDer, b"\x30\x03\x01\x01\xff"),
-    (ParseDer, b"\x31\x05\x30\x03\x01\x01\x00"),
-    (ParseDerSequence, b"\x30\x02\x05\x00"),
-    (ParseDerSet, b"\x31\x02\x05\x00"),
-];
-
 #[test]
-fn refused_growths_of_readers(rt: HostRuntime) {
-    for (reader, input) in READ {
-        match reader.read(rt.alloc(), input) {
-            Ok((rest, _)) => assert!(rt; rest.is_empty(), "{reader:?} of {input:?}"),
-            Err(e) => assert_eq!(rt; e, Refused::OutOfMemory, "{reader:?} of {input:?}"),
-        }
-    }
-}
-
-#[test]
-fn refused_growths_of_a_writer(rt: HostRuntime) {
-    let object = BerObject::from_int_slice(b"\x05");
-    match object.to_vec(rt.alloc()) {
-        Ok(written) => assert!(rt; written.as_slice() == b"\x02\x01\x05".as_slice()),
-        Err(e) => assert_eq!(rt; e, GenError::OutOfMemory),
-    }
-}
-
-/// What is made of arcs is these octets, or there is no memory.
-fn expect_octets(rt: &impl Abort, made: Result<Oid<'_>, OidParseError>) {
-    match made {
-        Ok(oid) => assert!(rt; oid.as_bytes() == b"\x88\x37".as_slice()),
-        Err(e) => assert_eq!(rt; e, OidParseError::OutOfMemory),
-    }
-}
-
-#[test]
-fn refused_growths_of_identifiers(rt: HostRuntime) {
-    expect_octets(&rt, Oid::from(rt.alloc(), &[2, 999]));
-    expect_octets(&rt, Oid::from_relative(rt.alloc(), &[1079]));
-    expect_octets(&rt, Oid::from_dotted(rt.alloc(), "2.999"));
-    if let Ok(oid) = Oid::from(rt.alloc(), &[2, 999]) {
-        if let Ok(copy) = oid.try_clone(rt.alloc()) {
-            assert!(rt; copy == oid);
-        }
-    }
+fn wants_memory_oid_try_clone(rt: HostRuntime) -> Result<(), Fail> {
+    let Ok(oid) = Oid::from(rt.alloc(), &[2, 999]) else {
+        return Ok(());
+    };
+    let copy = oid.try_clone(rt.alloc())?;
+    assert!(rt; copy == oid);
+    Ok(())
 }

@@ -10,6 +10,7 @@ ghost use Rattle.der_base.specs.ListSteps.{ListSteps, OnItems};
 use crate::opened::Opened;
 use der_base::error::{Err, ErrorKind, IResult, ParseError};
 use der_object::BerObject;
+use der_object::growth::push_item;
 use std::alloc::Global;
 
 /// Calls `f` on the content of an element that was opened, and again on what each call leaves, or
@@ -125,7 +126,7 @@ where
             if rest.len() >= input.len() {
                 return Err(Err::Error(E::from_error_kind(input, ErrorKind::Many0)));
             }
-            values.push(value)?;
+            push_item(values, value, rest)?;
             return Ok(Some(rest));
         }
         Err(Err::Incomplete(_)) => {

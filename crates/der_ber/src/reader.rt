@@ -22,7 +22,7 @@ use der_base::any::Any;
 use der_base::error::{BerError, Err, refuse_cut_item};
 use der_base::header::{Header, HeaderCount, Length, Tag, ber_header_counted};
 use der_base::spans::{Span, ber_read_definite, ber_record_content};
-use der_object::growth::make_room;
+use der_object::growth::push_item;
 use der_object::{BerObject, BerObjectContent, BerResult};
 use std::alloc::Global;
 
@@ -224,8 +224,7 @@ fn read_items<'a>(
     while !rest.is_empty() {
         match read_element(alloc, rest, max_depth, count) {
             Ok((after, item)) => {
-                make_room(&mut items, after);
-                items.push(item)?;
+                push_item(&mut items, item, after)?;
                 rest = after;
             }
             Err(e) => return Err(refuse_cut_item(e)),
@@ -254,7 +253,7 @@ fn read_spans<'a>(
     ensures bounded_ok { IfOk result (λ _. 2 * count.new ≤ 2 * count.old + span_octets spans.now) }
 {
     let mut items = Vec::new(alloc);
-    let _ = items.reserve_exact(outermost(spans));
+    items.reserve_exact(item_number(spans, max_depth))?;
     let mut at = 0;
     while at < spans.len() {
         if max_depth == 0 {
@@ -275,8 +274,20 @@ fn read_spans<'a>(
     Ok(items)
 }
 
-/// How many of the spans lie inside no other: as many items are read of them.
-fn outermost(spans: &[Span<'_>]) -> usize {
+/// How many items are read of the spans.
+fn item_number(spans: &[Span<'_>], max_depth: usize) -> usize
+    ensures { 1 ≤ result → (1 ≤ max_depth) × (1 ≤ length spans.now) }
+{
+    if max_depth == 0 {
+        return 0;
+    }
+    outermost(spans)
+}
+
+/// How many of the spans lie inside no other.
+fn outermost(spans: &[Span<'_>]) -> usize
+    ensures { 1 ≤ result → 1 ≤ length spans.now }
+{
     let mut number = 0usize;
     let mut at = 0usize;
     while at < spans.len() {

@@ -19,7 +19,7 @@ use der_base::MAX_OBJECT_SIZE;
 use der_base::any::Any;
 use der_base::error::{BerError, Err, Needed, refuse_cut_item};
 use der_base::header::{Header, HeaderCount, Tag, der_header_counted};
-use der_object::growth::make_room;
+use der_object::growth::push_item;
 use der_object::{BerObject, BerObjectContent, BerResult};
 use std::alloc::Global;
 
@@ -136,8 +136,7 @@ fn read_items<'a>(
     while !rest.is_empty() {
         match read_element(alloc, rest, max_depth, count) {
             Ok((after, item)) => {
-                make_room(&mut items, after);
-                items.push(item)?;
+                push_item(&mut items, item, after)?;
                 rest = after;
             }
             Err(e) => return Err(refuse_cut_item(e)),

@@ -1,27 +1,32 @@
 //! Room for the items of a list.
-ghost use Rattle.std.specs.Prelude.{◌≡◌};
+ghost use Rattle.std.specs.Prelude.{◌≡◌, ◌++◌, ◌∷◌, [], if◌then◌else◌, is_ok};
 
-use crate::object::BerObject;
+use std::alloc::AllocError;
 
-/// Makes room for one more item of a list that has none left: for this one alone where no octet of
-/// the list follows it, and for two more where it is the first. Where there is no memory, nothing
-/// changes.
+/// Adds an item to the end of a list. One that has no room makes it for this item alone where no
+/// octet of the list follows it, and for three where it is the first. Where there is no memory,
+/// the items stay.
 #[inline(always)]
-pub fn make_room(items: &mut Vec<BerObject<'_>>, following: &[u8])
-    ensures { items.new.items ≡ items.old.items }
+pub fn push_item<T: Drop>(items: &mut Vec<T>, item: T, following: &[u8]) -> Result<(), AllocError>
+    ensures items { items.new.items ≡ (if is_ok result then items.old.items ++ item ∷ [] else items.old.items) }
 {
     if items.len() == items.capacity() {
-        grow(items, following);
+        make_room(items, following)?;
     }
+    items.push(item)?;
+    Ok(())
 }
 
+/// Makes room for one more item at least.
 #[inline(never)]
-fn grow(items: &mut Vec<BerObject<'_>>, following: &[u8])
+fn make_room<T>(items: &mut Vec<T>, following: &[u8]) -> Result<(), AllocError>
     ensures { items.new.items ≡ items.old.items }
 {
     if following.is_empty() {
-        let _ = items.reserve_exact(1);
-    } else if items.is_empty() {
-        let _ = items.reserve_exact(3);
+        return items.reserve_exact(1);
     }
+    if items.is_empty() {
+        return items.reserve_exact(3);
+    }
+    items.reserve(1)
 }

@@ -10,15 +10,15 @@ returns-then-rest-input g c =
     rw c.in-Ok.is (no_item (stuck {v = c.in-Ok.value} (refl, refl) refl c.if-rest-input.true c.from_error_kind.ensures))
 
 pub returns-in-Ok : goal.returns-in-Ok
-returns-in-Ok g c = rw c.in-Ok.is (rw c.in_ok-push-in-Ok.ensures.items (one_more refl c.if-rest-input.false))
+returns-in-Ok g c = rw c.in-Ok.is (rw c.in_ok-push_item-in-Ok.ensures.items (one_more refl c.if-rest-input.false))
 
 -- a value that finds no room
 no_place : {O E : Type 0} (from_error_kind_gives : Bor (List ℕ) → ErrorKind → E → Type 0) (p r : Bor (List ℕ)) (v : O) (vs us : List O) → length r.now < length p.now
     → Takes from_error_kind_gives p (Ok (r, v)) vs (Err OutOfMemory) us
 no_place k p r v vs us l = no_item (no_room {r = r} {v = v} (refl, refl) refl l)
 
-pub returns-in_err-push-in-Ok : goal.returns-in_err-push-in-Ok
-returns-in_err-push-in-Ok g c = rw c.in-Ok.is (search (rules, no_place g.E.ParseError.from_error_kind_gives c.args.input c.in-Ok.rest c.in-Ok.value c.args.values.now.items c.args.values.now.items c.if-rest-input.false))
+pub returns-in_err-push_item-in-Ok : goal.returns-in_err-push_item-in-Ok
+returns-in_err-push_item-in-Ok g c = rw c.in-Ok.is (search (rules, no_place g.E.ParseError.from_error_kind_gives c.args.input c.in-Ok.rest c.in-Ok.value c.args.values.now.items c.args.values.now.items c.if-rest-input.false))
 
 pub returns-then-not-is_empty : goal.returns-then-not-is_empty
 returns-then-not-is_empty g c = rw (c.in-Err-Incomplete.is, c.in-Err-Incomplete.field-0-is)

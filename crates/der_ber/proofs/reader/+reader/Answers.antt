@@ -10,7 +10,7 @@ use Rattle.der_base.specs.Leaf.{is_mapped, IsLeafContent}
 use Rattle.der_base.specs.LeafRefusal.{BerLeafRefuses}
 use Rattle.der_base.specs.Refusal.{refusal}
 use Rattle.der_base.proofs.Answers.Answering.{passed_on, answered, ok_with}
-use Rattle.der_base.proofs.Answers.ItemAnswers.{item_answer, some_content}
+use Rattle.der_base.proofs.Answers.ItemAnswers.{item_answer, some_content, some_octets}
 use Rattle.der_object.specs.View.{content_tree, trees}
 use Rattle.der_object.specs.HeaderFacts.{forms_of}
 use Rattle.der_object.proofs.Counting.{sequence_content_count, set_content_count, item_count_push}
@@ -26,15 +26,15 @@ use Rattle.std.proofs.lemmas.List.{length-drop}
 use Rattle.der_base.specs.declared.spans.Span.{Span}
 use Rattle.der_base.proofs.Framing.Recording.{definite_octets, inside_more, none_left}
 use Rattle.der_ber.proofs.SpanItems.{span_end, span_inside, length_inside, octets_split, span_refused, depth_refused}
-use Rattle.der_ber.proofs.SpanItems.{some_items, one_more_item, no_length}
+use Rattle.der_ber.proofs.SpanItems.{some_items, some_left, one_more_item, no_length}
 use Rattle.der_ber.proofs.reader.+reader.Goals as goal
 
 pub read_items-loop-rest-preserved : goal.read_items-loop-rest-preserved
 read_items-loop-rest-preserved t c = (
-  rw (c.in_ok-push-in-Ok.ensures.items, c.make_room.ensures)
+  rw c.in_ok-push_item-in-Ok.ensures.items
       (read_more c.args.content.now c.loop-rest.rest.now c.in-Ok.after.now c.loop-rest.items.items c.in-Ok.item
       c.args.max_depth c.loop-rest.invariant.0 c.in-Ok.ensures.found),
-  rw (c.in_ok-push-in-Ok.ensures.items, c.make_room.ensures)
+  rw c.in_ok-push_item-in-Ok.ensures.items
       (omega (
         arith,
         item_count_push c.loop-rest.items.items c.in-Ok.item,
@@ -314,12 +314,18 @@ read_spans-returns-in-Err-clause-bounded t c =
       c.in-Err.ensures.bounded,
     )
 
+pub read_spans-returns-in_err-reserve_exact-clause-found : goal.read_spans-returns-in_err-reserve_exact-clause-found
+read_spans-returns-in_err-reserve_exact-clause-found t c = λ w h.
+    let p = err_from_is_err_and c.from_residual.result c.from_residual.ensures.1 in
+    let n = c.item_number.ensures (omega (arith, c.in_err-reserve_exact.ensures.full)) in
+    rw (p.1, p.2) (n.0, some_octets w (some_left c.args.spans.now 0 none w (omega (arith, n.1)) h))
+
 pub read_spans-returns-in_err-push-in-Ok-clause-found : goal.read_spans-returns-in_err-push-in-Ok-clause-found
 read_spans-returns-in_err-push-in-Ok-clause-found t c = λ w h.
     let i = c.loop-at.invariant.0 w h in
     let d = c.args.max_depth in
     let deep : 1 ≤ d = omega arith in
-    let p = err_from_is_err_and c.from_residual.result c.from_residual.ensures.1 in
+    let p = err_from_is_err_and c.from_residual-in_err-push-in-Ok.result c.from_residual-in_err-push-in-Ok.ensures.1 in
     rw (p.1, p.2) (
       deep,
       some_items c.args.spans.now c.loop-at.at none w i.0 c.loop-at.items.items d

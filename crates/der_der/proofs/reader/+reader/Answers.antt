@@ -46,8 +46,8 @@ read_element-returns-then-rest-length-clause-found t c =
     content_cut c.args.max_depth c.args.i.now c.in_ok-rest.rest.now (class_of h) (is_constructed h) (number_of h) found.size c.lacking.result (omega arith) found.begins (omega arith) (omega arith)
     (λ u. c.lacking.ensures.universal u ∙ size) (λ u. c.lacking.ensures.other u ∙ size)
 
-pub read_items-returns-in_err-push-in-Ok-clause-found : goal.read_items-returns-in_err-push-in-Ok-clause-found
-read_items-returns-in_err-push-in-Ok-clause-found t c =
+pub read_items-returns-in_err-push_item-in-Ok-clause-found : goal.read_items-returns-in_err-push_item-in-Ok-clause-found
+read_items-returns-in_err-push_item-in-Ok-clause-found t c =
     let r = c.loop-rest.invariant.0 in
     let k = c.in-Ok.ensures.found in
     let some : 0 < length c.loop-rest.rest.now = grind (arith, nat_tests) in
@@ -67,8 +67,8 @@ read_items-returns-in-Err-clause-found t c =
 
 pub read_items-loop-rest-preserved : goal.read_items-loop-rest-preserved
 read_items-loop-rest-preserved t c = (
-  rw (c.in_ok-push-in-Ok.ensures.items, c.make_room.ensures) (read_more c.args.content.now c.loop-rest.rest.now c.in-Ok.after.now c.loop-rest.items.items c.in-Ok.item c.args.max_depth c.loop-rest.invariant.0 c.in-Ok.ensures.found),
-  rw (c.in_ok-push-in-Ok.ensures.items, c.make_room.ensures) (c.in-Ok.ensures.counted ∙ ap (some_more (object_count (tree c.in-Ok.item))) c.loop-rest.invariant.1 ∙ counted_more c.loop-rest.items.items c.in-Ok.item c.args.count.now),
+  rw c.in_ok-push_item-in-Ok.ensures.items (read_more c.args.content.now c.loop-rest.rest.now c.in-Ok.after.now c.loop-rest.items.items c.in-Ok.item c.args.max_depth c.loop-rest.invariant.0 c.in-Ok.ensures.found),
+  rw c.in_ok-push_item-in-Ok.ensures.items (c.in-Ok.ensures.counted ∙ ap (some_more (object_count (tree c.in-Ok.item))) c.loop-rest.invariant.1 ∙ counted_more c.loop-rest.items.items c.in-Ok.item c.args.count.now),
 )
 
 pub read_items-returns-clause-found : goal.read_items-returns-clause-found
@@ -148,8 +148,8 @@ read_items-loop-rest-init t c =
     let n = c.args.count.now in
     rw c.new-items.ensures.items (read_none c.args.content.now c.args.max_depth, none_counted 0 n refl c.requires)
 
-pub read_items-returns-in_err-push-in-Ok-clause-bounded : goal.read_items-returns-in_err-push-in-Ok-clause-bounded
-read_items-returns-in_err-push-in-Ok-clause-bounded t c =
+pub read_items-returns-in_err-push_item-in-Ok-clause-bounded : goal.read_items-returns-in_err-push_item-in-Ok-clause-bounded
+read_items-returns-in_err-push_item-in-Ok-clause-bounded t c =
     bounded_behind c.args.content.now c.loop-rest.rest.now c.loop-rest.items.items c.args.max_depth c.args.count.now c.loop-rest.count _ c.loop-rest.invariant.0 c.loop-rest.invariant.1 c.in-Ok.ensures.bounded
 
 pub read_items-returns-in-Err-clause-bounded : goal.read_items-returns-in-Err-clause-bounded
