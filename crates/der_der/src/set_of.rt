@@ -130,10 +130,13 @@ where
     ensures { TakesInOrder E.from_error_kind_gives E.from_gives before.now input.entry answer.entry
         values.old.items result values.new.items }
 {
-    if let Ok((rest, _)) = &answer {
-        check_order(before, input, rest)?;
+    match answer {
+        Ok((rest, value)) => {
+            check_order(before, input, rest)?;
+            return take_item(input, Ok((rest, value)), values);
+        }
+        Err(e) => return take_item(input, Err(e), values),
     }
-    take_item(input, answer, values)
 }
 
 /// Refuses an item of `input` that leaves `rest`, where the octets of the item before it are greater.
@@ -147,9 +150,7 @@ where
         × Descends before.now (taken input.now rest.now) × ToldOutOfOrder E.from_gives e) }
 {
     if rest.len() < input.len() && descends(before, &input[..input.len() - rest.len()]) {
-        return Err(Err::Error(E::from(BerError::DerConstraintFailed(
-            DerConstraint::SetOfOrder,
-        ))));
+        return Err(Err::Error(E::from(BerError::DerConstraintFailed(DerConstraint::SetOfOrder))));
     }
     Ok(())
 }
