@@ -3,4 +3,6 @@ pub mod ContainerLaws
 pub mod DerContainers
 pub mod ListStepsLaws
 pub mod OpenedLaws
+pub mod SetOfOneOrder
+pub mod SetOfOrders
 pub mod TakenLaws

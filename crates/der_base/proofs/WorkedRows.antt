@@ -8,6 +8,7 @@ mod NoFault
 mod Numbers
 mod OneFault
 mod PartRows
+mod SetOfOrders
 mod Shown
 mod ShownMore
 mod Tags

@@ -1,6 +1,7 @@
 -- Laws of the definitions.
 use Rattle.std.specs.Prelude.{◌≡◌, ◌≢◌, ℕ, ◌-◌, ◌%◌, ◌^◌, ◌<◌, ◌≤◌, ◌⊎◌, ◌↔◌, Bool, false, IsTrue, pos}
 use Rattle.std.specs.Prelude.{◌<ℤ◌, List, [], ◌∷◌, ◌++◌, length, slice_index, All}
+use Rattle.std.specs.List.Sorted.{IsPermutation}
 use Rattle.der_base.specs.declared.error.Err.{Err as Refused}
 use Rattle.der_base.specs.declared.header.Class.{Class}
 use Rattle.der_base.specs.declared.header.Header.{Header}
@@ -15,6 +16,7 @@ use Rattle.der_base.specs.Numbers.{NumberType, least, greatest, number_of_conten
 use Rattle.der_base.specs.Octets.{number, octets, groups, groups_value, integer_value}
 use Rattle.der_base.specs.Octets.{shortest_integer, shortest_length, SpellsAnyLength}
 use Rattle.der_base.specs.Refusal.{Refusal}
+use Rattle.der_base.specs.SetOfOrder.{Descends, IsAscending}
 use Rattle.der_base.specs.Spelling.{BerSpells, DerSpells, framing_budget}
 use Rattle.der_base.specs.Stable.{BerIsCut, DerIsCut, BeginsNoHeader, BeginsNoDerHeader, FrontsAreCut}
 use Rattle.der_base.specs.Tree.{Node, Content}
@@ -207,3 +209,16 @@ abbrev pub OpenedPass : {E : Type 0} → (List ℕ → Header → List ℕ → L
     → (List ℕ → Refused E → Type 0) → Type 0
 OpenedPass opens refuses = (i : List ℕ) (h : Header) (w after : List ℕ) → opens i h w after
     → (r : Refused _) → ¬ refuses i r
+
+-- octets that are a DER encoding
+abbrev pub IsDerEncoding : List ℕ → Type 0
+IsDerEncoding b = (o : Node) × (d : ℕ) × DerSpells b o d
+
+-- two of them of which neither is the greater are the same: a tie of two would make one a front of the other (11.6)
+abbrev pub EncodingsDoNotTie : Type 0
+EncodingsDoNotTie = (a b : List ℕ) → IsDerEncoding a → IsDerEncoding b → ¬ Descends a b → ¬ Descends b a → a ≡ b
+
+-- so the values of a SET OF, counted with repeats, have one order that does not descend, and one content
+abbrev pub SetOfHasOneOrder : Type 0
+SetOfHasOneOrder = (ss ts : List (List ℕ))
+    → All IsDerEncoding ss → IsPermutation ss ts → IsAscending ss → IsAscending ts → ss ≡ ts

@@ -25,6 +25,7 @@ pub mod OidArcs
 pub mod Oids
 pub mod Parts
 pub mod Refusal
+pub mod SetOfOrder
 pub mod Spelling
 pub mod Stable
 pub mod Text

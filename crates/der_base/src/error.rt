@@ -149,6 +149,9 @@ pub enum DerConstraint {
     /// An unused bit of a BIT STRING is 1 (11.2.1).
     #[error("unused bits not zero")]
     UnusedBitsNotZero,
+    /// The values of a SET OF don't stand in ascending order (11.6).
+    #[error("set out of order")]
+    SetOfOrder,
 }
 
 /// Why an input is refused.

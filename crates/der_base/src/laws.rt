@@ -36,6 +36,7 @@ ghost use Rattle.der_base.specs.Laws.{
   OpenedPass,
 };
 ghost use Rattle.der_base.specs.Laws.{NumberOrRefused, NumbersPass, HaveOneNumberRefusal, NumbersFit};
+ghost use Rattle.der_base.specs.Laws.{EncodingsDoNotTie, SetOfHasOneOrder};
 ghost use Rattle.std.specs.Prelude.{◌≡◌, ℕ};
 ghost use Rattle.std.specs.Cmp.{IsEquivalence};
 ghost use Rattle.der_base.specs.Containers.{OpensBer, OpensBerNumber, OpensDer, OpensDerNumber};
@@ -258,4 +259,11 @@ where
         (λ i. RefusesExplicit (OpensBer i) (RefusesBer E.from_error_kind_gives E.from_gives i) E.from_gives n) }
     ensures der_explicit { (n : ℕ) → OpenedPass (λ i. OpensExplicit (OpensDer i) n)
         (λ i. RefusesExplicit (OpensDer i) (RefusesDer E.from_error_kind_gives E.from_gives i) E.from_gives n) }
+{}
+
+/// Two DER encodings of which neither is greater than the other are the same. So the encodings in a
+/// SET OF, counted with repeats, have one order that doesn't descend (X.690 11.6).
+pub fn set_of_has_one_order()
+    ensures no_tie { EncodingsDoNotTie }
+    ensures one_order { SetOfHasOneOrder }
 {}

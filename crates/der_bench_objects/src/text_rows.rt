@@ -51,6 +51,7 @@ const DER_CONSTRAINTS: &[(DerConstraint, &str)] = &[
     (DerConstraint::MissingSeconds, "missing seconds"),
     (DerConstraint::FractionNotMinimal, "fraction not minimal"),
     (DerConstraint::UnusedBitsNotZero, "unused bits not zero"),
+    (DerConstraint::SetOfOrder, "set out of order"),
 ];
 
 #[rattlefmt::skip]

@@ -12,4 +12,6 @@ mod no_memory;
 #[cfg(test)]
 mod refused_growths;
 #[cfg(test)]
+mod set_of_order_rows;
+#[cfg(test)]
 mod tagged_rows;

@@ -111,7 +111,7 @@ where
 /// Takes the item that was answered on `input` into `values`, and answers the octets behind it, or
 /// None where the list ends. It ends where the answer is Incomplete; octets that are left then are
 /// Eof. An Error is a Failure; a Failure and OutOfMemory pass. A rest that isn't shorter is Many0.
-fn take_item<'a, O, E>(
+pub fn take_item<'a, O, E>(
     input: &'a [u8],
     answer: IResult<&'a [u8], O, E>,
     values: &mut Vec<O>,

@@ -8,6 +8,7 @@ pub mod multi;
 pub mod number;
 pub mod parser;
 mod reader;
+mod set_of;
 pub mod tagged;
 pub mod typed;
 

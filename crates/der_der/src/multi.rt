@@ -4,11 +4,13 @@ ghost use Rattle.std.specs.Prelude.{◌≡◌, IfErr, IfOk};
 ghost use Rattle.der_base.specs.Containers.{DerNumberRun, DerRun, Made, OnContent};
 ghost use Rattle.der_base.specs.Containers.{OpensDer, OpensDerNumber, RefusesDer, RefusesDerNumber};
 ghost use Rattle.der_base.specs.ListSteps.{OnItems};
+ghost use Rattle.der_base.specs.SetOfOrder.{OnSetOf};
 ghost use Rattle.der_base.specs.Answer.{MatchAnswer};
 ghost use Rattle.der_base.specs.Headers.{DerHeaderLacks};
 ghost use Rattle.der_der.specs.DerSlices.{AnswersDerSlice, DerSliceRefuses, ReadsDerSlice};
 ghost use Rattle.der_object.specs.Combined.{IsSequenceOf, IsSetOf};
 
+use crate::set_of::{parse_set_items, parse_set_objects};
 use der_base::error::{BerError, Err, ErrorKind, IResult, ParseError};
 use der_base::header::{Header, Length, Tag, der_read_element_header};
 use der_ber::lists::{parse_items, parse_objects};
@@ -220,7 +222,7 @@ impl<F> Model for DerSetOfV<F> {
 }
 
 /// A parser of an element of the tag number 17, SET, that reads its content by `f`, value after
-/// value (X.690 8.12).
+/// value (X.690 8.12), where the octets of the values ascend (11.6).
 pub fn parse_der_set_of_v<'a, F, O, E>(alloc: Global, f: F) -> DerSetOfV<F>
 where
     F: FnMut(&'a [u8]) -> IResult<&'a [u8], O, E>,
@@ -230,8 +232,10 @@ where
 }
 
 impl<F> DerSetOfV<F> {
-    /// Reads as `BerSetOfV::parse`, but opens the element as `DerContainer::parse` does. The values
-    /// may stand in any order.
+    /// Reads as `BerSetOfV::parse`, but opens the element as `DerContainer::parse` does, and wants the
+    /// values in their order. The octets that a call takes are compared with those of the call before,
+    /// octet by octet, the shorter padded with octets of 0 at its end. Where those before are greater,
+    /// the answer is the Error SetOfOrder, and `f` isn't called again.
     pub fn parse<'a, O, E>(&mut self, i: &'a [u8]) -> IResult<&'a [u8], Vec<O>, E>
     where
         F: FnMut(&'a [u8]) -> IResult<&'a [u8], O, E>,
@@ -240,9 +244,9 @@ impl<F> DerSetOfV<F> {
         requires { F.IsAlwaysCallable self.old }
         ensures callable { F.IsAlwaysCallable self.new }
         ensures run { DerNumberRun 17 E.from_error_kind_gives E.from_gives i.now
-            (OnItems E.from_error_kind_gives F.step) self.old result self.new }
+            (OnSetOf E.from_error_kind_gives E.from_gives F.step) self.old result self.new }
     {
-        parse_items(self.alloc, &mut self.f, open_number(i, Tag::Set))
+        parse_set_items(self.alloc, &mut self.f, open_number(i, Tag::Set))
     }
 }
 
@@ -298,7 +302,7 @@ impl<F> Model for DerSetOf<F> {
 }
 
 /// A parser of an element of the tag number 17, SET, that reads its content by `f`, object after
-/// object (X.690 8.12).
+/// object (X.690 8.12), where the octets of the objects ascend (11.6).
 pub fn parse_der_set_of<'a, F, E>(alloc: Global, f: F) -> DerSetOf<F>
 where
     F: FnMut(&'a [u8]) -> IResult<&'a [u8], BerObject<'a>, E>,
@@ -308,8 +312,8 @@ where
 }
 
 impl<F> DerSetOf<F> {
-    /// Reads as `BerSetOf::parse`, but opens the element as `DerContainer::parse` does. The items
-    /// may stand in any order.
+    /// Reads as `BerSetOf::parse`, but opens the element as `DerContainer::parse` does, and wants the
+    /// items in their order, as `DerSetOfV::parse` does.
     pub fn parse<'a, E>(&mut self, i: &'a [u8]) -> IResult<&'a [u8], BerObject<'a>, E>
     where
         F: FnMut(&'a [u8]) -> IResult<&'a [u8], BerObject<'a>, E>,
@@ -317,9 +321,9 @@ impl<F> DerSetOf<F> {
         requires { F.IsAlwaysCallable self.old }
         ensures callable { F.IsAlwaysCallable self.new }
         ensures run { DerNumberRun 17 E.from_error_kind_gives E.from_gives i.now
-            (Made IsSetOf (OnItems E.from_error_kind_gives F.step)) self.old result self.new }
+            (Made IsSetOf (OnSetOf E.from_error_kind_gives E.from_gives F.step)) self.old result self.new }
     {
-        with_set(parse_objects(self.alloc, &mut self.f, open_number(i, Tag::Set)))
+        with_set(parse_set_objects(self.alloc, &mut self.f, open_number(i, Tag::Set)))
     }
 }
 

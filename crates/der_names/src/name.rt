@@ -60,7 +60,8 @@ fn has_arcs(attribute: &Attribute<'_>) -> bool {
     matches!(attribute.parts(), Ok((_, parts)) if parts.oid.iter().is_some())
 }
 
-/// Reads a name: a SEQUENCE OF relative names, each a SET OF attributes in any order.
+/// Reads a name: a SEQUENCE OF relative names, each a SET OF attributes in ascending order (X.690
+/// 11.6).
 pub fn parse_name<'a>(alloc: Global, i: &'a [u8]) -> IResult<&'a [u8], Name<'a>, BerError> {
     let relative_name = of_attributes(|i| {
         check_more(i)?;

@@ -6,3 +6,7 @@ pub use Rattle.der_base.proofs.Spellings.DerWithinBer
 pub use Rattle.der_base.proofs.Answers.Exactness
 pub use Rattle.der_base.proofs.Framing.UniqueSpelling
 pub use Rattle.der_base.proofs.Containers.ContainerLaws
+pub use Rattle.der_base.proofs.Containers.DerContainers
+pub use Rattle.der_base.proofs.Headers.DerHeaders
+pub use Rattle.der_base.proofs.Headers.StableHeaders
+pub use Rattle.der_base.proofs.Octets.Identifiers

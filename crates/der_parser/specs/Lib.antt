@@ -24,6 +24,7 @@ pub use Rattle.der_base.specs.OidArcs
 pub use Rattle.der_base.specs.Oids
 pub use Rattle.der_base.specs.Parts
 pub use Rattle.der_base.specs.Refusal
+pub use Rattle.der_base.specs.SetOfOrder
 pub use Rattle.der_base.specs.Spelling
 pub use Rattle.der_base.specs.Stable
 pub use Rattle.der_base.specs.Text

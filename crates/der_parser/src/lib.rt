@@ -103,8 +103,8 @@ pub mod laws {
         equals_are_the_same, faults_are_one, fronts_are_cut, header_fronts_are_cut,
         integers_are_shortest, lengths_are_shortest, never_both, numbers_fit_or_are_refused,
         one_content, one_refusal, opened_in_one_way, opened_never_refused,
-        refused_headers_stay_refused, spellings_are_one, tag_numbers_are_shortest,
-        unused_bits_are_last,
+        refused_headers_stay_refused, set_of_has_one_order, spellings_are_one,
+        tag_numbers_are_shortest, unused_bits_are_last,
     };
     pub use der_ber::laws::written_is_read_back;
     pub use der_der::laws::written_is_what_was_read;

@@ -13,7 +13,7 @@ module _ {F O E : Type 0} (step : F → Bor (List ℕ) → Answered O E → F �
   call (e, e') = rw (e, e') s
 
   module _ {from_error_kind_gives : Bor (List ℕ) → ErrorKind → E → Type 0} {j : List ℕ} {vs : List O} where
-    last_of : {x : Result (List O) (Refused E)} → LastCall (Gave p a) from_error_kind_gives tt j vs x tt → LastCall step from_error_kind_gives m j vs x g
+    pub last_of : {x : Result (List O) (Refused E)} → LastCall (Gave p a) from_error_kind_gives tt j vs x tt → LastCall step from_error_kind_gives m j vs x g
     last_of (at_end c q l) = at_end (call c) q l
     last_of (left_over c q l k) = left_over (call c) q l k
     last_of (refused c q) = refused (call c) q
