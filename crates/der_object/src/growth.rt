@@ -17,7 +17,7 @@ pub fn push_item<T: Drop>(items: &mut Vec<T>, item: T, following: &[u8]) -> Resu
     Ok(())
 }
 
-/// Makes room for one more item at least.
+/// Makes room for this item alone where it is the last, and for three where it is the first of more.
 #[inline(never)]
 fn make_room<T>(items: &mut Vec<T>, following: &[u8]) -> Result<(), AllocError>
     ensures { items.new.items ≡ items.old.items }
@@ -28,5 +28,5 @@ fn make_room<T>(items: &mut Vec<T>, following: &[u8]) -> Result<(), AllocError>
     if items.is_empty() {
         return items.reserve_exact(3);
     }
-    items.reserve(1)
+    Ok(())
 }
