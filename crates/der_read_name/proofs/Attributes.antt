@@ -1,5 +1,5 @@
 -- The content of an attribute: its type, and then its value.
-use Rattle.std.proofs.Common.{◌≡◌, ◌≢◌, List, [], ℕ, ◌++◌, length, Ok, Err, Bor, refl, sym, ap, subst, ◌∙◌, arith, append-nil}
+use Rattle.std.proofs.Common.{◌≡◌, ◌≢◌, List, [], ℕ, ◌++◌, length, Ok, Err, Bor, refl, sym, ap, ◌∙◌, append-nil}
 use Rattle.der_parser.specs.declared.error.Err.{Err as Refused}
 use Rattle.der_parser.specs.declared.error.Error.{Error as BerError}
 use Rattle.der_parser.specs.declared.ber.BerObject.{BerObject}

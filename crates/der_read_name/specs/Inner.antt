@@ -1,7 +1,5 @@
 -- What private functions promise: no public contract cites these.
-use Rattle.std.specs.Prelude.{◌≡◌, ℕ, List, [], Result, Ok, Err, IfOk, MatchResult}
-use Rattle.std.specs.Borrow.{Bor}
-use Rattle.der_parser.specs.declared.error.Err.{Err as Refused}
+use Rattle.std.specs.Prelude.{◌≡◌, ℕ, List, [], Err, IfOk, MatchResult}
 use Rattle.der_parser.specs.declared.error.Err.TheVariants.{Incomplete, OutOfMemory}
 use Rattle.der_parser.specs.declared.error.Error.{Error as BerError}
 use Rattle.der_parser.specs.Containers.{Answered}
