@@ -1,0 +1,8 @@
+//! A reader of distinguished names (X.501 9.2), over the public calls of `der_parser` alone.
+#![tactic(auto)]
+
+mod name;
+#[cfg(test)]
+mod name_rows;
+
+pub use name::{Attr, Name, read_name};
