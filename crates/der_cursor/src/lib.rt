@@ -1,0 +1,11 @@
+//! Reading field after field: a cursor over the elements of a content, which knows where in the input
+//! they stand, so that a refusal is told with its offset; and readers of values.
+#![tactic(auto)]
+
+mod cursor;
+mod refusal;
+mod values;
+
+pub use cursor::Cursor;
+pub use refusal::Refusal;
+pub use values::{Dotted, identifier_of, parse_bits, parse_bool, parse_identifier, time_of};

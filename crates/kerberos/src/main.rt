@@ -1,0 +1,18 @@
+//! `kerberos` prints the request of a ticket on its standard input, an AS-REQ (RFC 4120 5.4.1), or
+//! tells where it is refused.
+#![tactic(auto)]
+
+mod text;
+
+use anyhow::Result;
+use kerberos_reader::read_request;
+use std::io::Read;
+use text::Requested;
+
+fn main(rt: HostRuntime) -> Result<()> {
+    let mut input = Vec::new(rt.alloc());
+    rt.stdin().read_to_end(&mut input)?;
+    let request = read_request(rt.alloc(), &input)?;
+    print!(rt; "{}", Requested(&request))?;
+    Ok(())
+}

@@ -1,0 +1,137 @@
+//! Certificates (RFC 5280 4.1).
+use crate::extension::{Extension, read_extension};
+use der_cursor::{Cursor, Refusal, parse_bits, parse_identifier, time_of};
+use der_names::{Name, parse_name};
+use der_parser::IResult;
+use der_parser::ber::{ASN1DateTime, Any, BitStringObject};
+use der_parser::der::{
+    parse_der_generalizedtime, parse_der_integer, parse_der_u32, parse_der_utctime,
+};
+use der_parser::error::{BerError, Err as Refused};
+use der_parser::oid::Oid;
+use std::alloc::Global;
+
+/// What a certificate says. Texts and octets are slices of the input.
+#[derive(Debug, Drop)]
+pub struct Certificate<'a> {
+    /// 1, 2 or 3.
+    pub version: u32,
+    /// A number that isn't negative, the highest octet first.
+    pub serial_number: &'a [u8],
+    pub signature_algorithm: Oid<'a>,
+    pub issuer: Name<'a>,
+    pub not_before: ASN1DateTime,
+    pub not_after: ASN1DateTime,
+    pub subject: Name<'a>,
+    pub key_algorithm: Oid<'a>,
+    pub key: BitStringObject<'a>,
+    pub extensions: Vec<Extension<'a>>,
+}
+
+/// Reads a certificate, behind which nothing may stand. Its signature isn't verified.
+pub fn read_certificate<'a>(
+    alloc: Global,
+    octets: &'a [u8],
+) -> Result<Certificate<'a>, Refusal<BerError>> {
+    let mut input = Cursor::new(octets);
+    let mut parts = input.open_sequence()?;
+    input.end()?;
+    let fields = parts.open_sequence()?;
+    // The signature and its algorithm, which the fields name too.
+    read_algorithm(&mut parts)?;
+    parts.read(parse_bits)?;
+    parts.end()?;
+    read_fields(alloc, fields)
+}
+
+fn read_fields<'a>(
+    alloc: Global,
+    mut fields: Cursor<'a>,
+) -> Result<Certificate<'a>, Refusal<BerError>> {
+    let version = match fields.open_tagged(0)? {
+        Some(mut version) => version.read(parse_version)?,
+        None => 1,
+    };
+    let serial_number = fields.read(parse_serial_number)?;
+    let signature_algorithm = read_algorithm(&mut fields)?;
+    let issuer = fields.read_in(alloc, parse_name)?;
+    let mut validity = fields.open_sequence()?;
+    let not_before = validity.read(parse_time)?;
+    let not_after = validity.read(parse_time)?;
+    validity.end()?;
+    let subject = fields.read_in(alloc, parse_name)?;
+    let mut key_info = fields.open_sequence()?;
+    let key_algorithm = read_algorithm(&mut key_info)?;
+    let key = key_info.read(parse_bits)?;
+    key_info.end()?;
+    let extensions = read_extensions(alloc, fields)?;
+    Ok(Certificate {
+        version,
+        serial_number,
+        signature_algorithm,
+        issuer,
+        not_before,
+        not_after,
+        subject,
+        key_algorithm,
+        key,
+        extensions,
+    })
+}
+
+/// Reads what follows the key: two identifiers that nobody writes any more, and the extensions.
+fn read_extensions<'a>(
+    alloc: Global,
+    mut fields: Cursor<'a>,
+) -> Result<Vec<Extension<'a>>, Refusal<BerError>> {
+    for identifier in [0x81, 0x82] {
+        if fields.identifier() == Some(identifier) {
+            fields.read(Any::from_der)?;
+        }
+    }
+    let Some(mut inside) = fields.open_tagged(3)? else {
+        fields.end()?;
+        return Ok(Vec::new(alloc));
+    };
+    fields.end()?;
+    let list = inside.open_sequence()?;
+    inside.end()?;
+    list.read_all(alloc, read_extension)
+}
+
+/// Reads a version. The first one is written as 0 (4.1.2.1).
+fn parse_version(i: &[u8]) -> IResult<&[u8], u32, BerError> {
+    match parse_der_u32(i)? {
+        (rest, number @ 0..=2) => Ok((rest, number + 1)),
+        _ => Err(Refused::Error(BerError::BerValueError)),
+    }
+}
+
+/// Reads a number that isn't negative (4.1.2.2), without the octet that says so.
+fn parse_serial_number(i: &[u8]) -> IResult<&[u8], &[u8], BerError> {
+    let (rest, number) = parse_der_integer(i)?;
+    match number.as_slice()? {
+        [0x80..=0xff, ..] => Err(Refused::Error(BerError::IntegerNegative)),
+        [0, octets @ ..] if !octets.is_empty() => Ok((rest, octets)),
+        octets => Ok((rest, octets)),
+    }
+}
+
+/// Reads the identifier of an algorithm. Its parameters aren't looked at.
+fn read_algorithm<'a>(fields: &mut Cursor<'a>) -> Result<Oid<'a>, Refusal<BerError>> {
+    let mut algorithm = fields.open_sequence()?;
+    algorithm.read(parse_identifier)
+}
+
+/// Reads a time, by its identifier octet. The years of UTCTime are those from 1950 (4.1.2.5).
+fn parse_time(i: &[u8]) -> IResult<&[u8], ASN1DateTime, BerError> {
+    if let Some(24) = i.first() {
+        let (rest, object) = parse_der_generalizedtime(i)?;
+        return Ok((rest, time_of(&object.content)?));
+    }
+    let (rest, object) = parse_der_utctime(i)?;
+    let mut time = time_of(&object.content)?;
+    let century = if time.year < 50 { 2000 } else { 1900 };
+    time.year = time.year.saturating_add(century);
+    Ok((rest, time))
+}
