@@ -11,4 +11,5 @@ mod PartRows
 mod Shown
 mod ShownMore
 mod Tags
+mod Texts
 mod Wrapped

@@ -14,8 +14,9 @@ use Rattle.der_base.specs.LeafRefusal.{BerLeafRefuses, DerLeafRefuses, NoneHolds
 use Rattle.der_base.specs.Numbers.{NumberType, least, greatest, number_of_content, number_tests, NumberRefuses}
 use Rattle.der_base.specs.Octets.{number, octets, groups, groups_value, integer_value}
 use Rattle.der_base.specs.Octets.{shortest_integer, shortest_length, SpellsAnyLength}
+use Rattle.der_base.specs.Pretty.{Style, pretty}
 use Rattle.der_base.specs.Refusal.{Refusal}
-use Rattle.der_base.specs.Spelling.{BerSpells, DerSpells, framing_budget}
+use Rattle.der_base.specs.Spelling.{Form, BerSpells, DerSpells, framing_budget}
 use Rattle.der_base.specs.Stable.{BerIsCut, DerIsCut, BeginsNoHeader, BeginsNoDerHeader, FrontsAreCut}
 use Rattle.der_base.specs.Tree.{Node, Content}
 
@@ -207,3 +208,8 @@ abbrev pub OpenedPass : {E : Type 0} → (List ℕ → Header → List ℕ → L
     → (List ℕ → Refused E → Type 0) → Type 0
 OpenedPass opens refuses = (i : List ℕ) (h : Header) (w after : List ℕ) → opens i h w after
     → (r : Refused _) → ¬ refuses i r
+
+-- where headers are not printed, no length shows
+abbrev pub LengthsShowInHeaders : Type 0
+LengthsShowInHeaders = (s : Style) (n : ℕ) (o : Node) (f g : Form)
+    → s.headers ≡ false → pretty s n o f ≡ pretty s n o g

@@ -34,6 +34,7 @@ ghost use Rattle.der_base.specs.Laws.{
   EncodingIsNormalForm,
   OpensInOneWay,
   OpenedPass,
+  LengthsShowInHeaders,
 };
 ghost use Rattle.der_base.specs.Laws.{NumberOrRefused, NumbersPass, HaveOneNumberRefusal, NumbersFit};
 ghost use Rattle.std.specs.Prelude.{◌≡◌, ℕ};
@@ -258,4 +259,10 @@ where
         (λ i. RefusesExplicit (OpensBer i) (RefusesBer E.from_error_kind_gives E.from_gives i) E.from_gives n) }
     ensures der_explicit { (n : ℕ) → OpenedPass (λ i. OpensExplicit (OpensDer i) n)
         (λ i. RefusesExplicit (OpensDer i) (RefusesDer E.from_error_kind_gives E.from_gives i) E.from_gives n) }
+{}
+
+/// The text of an object shows the lengths in its headers only where it shows the headers. So a
+/// text without them is that of the tree alone.
+pub fn lengths_show_in_headers()
+    ensures { LengthsShowInHeaders }
 {}
