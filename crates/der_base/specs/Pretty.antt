@@ -63,15 +63,15 @@ abbrev pub arcs_text : Option (List ℕ) → List ℕ → List ℕ
 arcs_text (Some numbers) w = dotted numbers
 arcs_text None w = hex w
 
--- The text of characters, of which each may be none.
+abbrev pub put_before : ℕ → Option (List ℕ) → Option (List ℕ)
+put_before c None = None
+put_before c (Some w) = Some (encode_utf8 c ++ w)
+
+-- the text of characters, of which each may be none
 abbrev pub characters_text : List (Option ℕ) → Option (List ℕ)
 characters_text [] = Some []
 characters_text (None ∷ cs) = None
 characters_text (Some c ∷ cs) = put_before c (characters_text cs)
-  where
-    put_before : ℕ → Option (List ℕ) → Option (List ℕ)
-    put_before c None = None
-    put_before c (Some w) = Some (encode_utf8 c ++ w)
 
 -- a character by its number, which is none from D800 to DFFF and above 10FFFF
 abbrev pub character : ℕ → Option ℕ
@@ -154,14 +154,19 @@ other_forms (forms f fs) = fs
 abbrev pub list_name : ℕ → List ℕ
 list_name t = if t == 16 then codes "Sequence" else codes "Set"
 
--- and, where they are printed, its items
+-- its items, from the next line on
+abbrev pub bracketed : ℕ → List ℕ → List ℕ
+bracketed n items = codes "[\n" ++ items ++ spaces n ++ codes "]"
+
+-- the name, and the items where they are printed
 abbrev pub list_text : Style → ℕ → ℕ → List ℕ → List ℕ
-list_text s n t items = list_name t ++ (if s.recursive then codes "[\n" ++ items ++ spaces n ++ codes "]" else [])
+list_text s n t items = list_name t ++ (if s.recursive then bracketed n items else [])
 
 -- an object behind a tag
 abbrev pub tagged_text : ℕ → Class → ℕ → List ℕ → List ℕ
 tagged_text n c k inner =
-    codes "ContextSpecific [" ++ class_name c ++ codes " " ++ decimal k ++ codes "] {\n" ++ inner ++ spaces n ++ codes "}"
+    codes "ContextSpecific [" ++ class_name c ++ codes " " ++ decimal k ++ codes "] {\n"
+    ++ inner ++ spaces n ++ codes "}"
 
 -- a content that holds no object; only a string whose characters are decoded ends its line
 abbrev pub leaf_text : Content → List ℕ
