@@ -12,4 +12,5 @@ mod SetOfOrders
 mod Shown
 mod ShownMore
 mod Tags
+mod Texts
 mod Wrapped

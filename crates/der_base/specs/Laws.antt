@@ -15,9 +15,10 @@ use Rattle.der_base.specs.LeafRefusal.{BerLeafRefuses, DerLeafRefuses, NoneHolds
 use Rattle.der_base.specs.Numbers.{NumberType, least, greatest, number_of_content, number_tests, NumberRefuses}
 use Rattle.der_base.specs.Octets.{number, octets, groups, groups_value, integer_value}
 use Rattle.der_base.specs.Octets.{shortest_integer, shortest_length, SpellsAnyLength}
+use Rattle.der_base.specs.Pretty.{Style, pretty}
 use Rattle.der_base.specs.Refusal.{Refusal}
 use Rattle.der_base.specs.SetOfOrder.{Descends, IsAscending}
-use Rattle.der_base.specs.Spelling.{BerSpells, DerSpells, framing_budget}
+use Rattle.der_base.specs.Spelling.{Form, BerSpells, DerSpells, framing_budget}
 use Rattle.der_base.specs.Stable.{BerIsCut, DerIsCut, BeginsNoHeader, BeginsNoDerHeader, FrontsAreCut}
 use Rattle.der_base.specs.Tree.{Node, Content}
 
@@ -222,3 +223,8 @@ EncodingsDoNotTie = (a b : List ℕ) → IsDerEncoding a → IsDerEncoding b →
 abbrev pub SetOfHasOneOrder : Type 0
 SetOfHasOneOrder = (ss ts : List (List ℕ))
     → All IsDerEncoding ss → IsPermutation ss ts → IsAscending ss → IsAscending ts → ss ≡ ts
+
+-- where headers are not printed, no length shows
+abbrev pub LengthsShowInHeaders : Type 0
+LengthsShowInHeaders = (s : Style) (n : ℕ) (o : Node) (f g : Form)
+    → s.headers ≡ false → pretty s n o f ≡ pretty s n o g

@@ -19,11 +19,13 @@ pub mod LeafRefusal
 pub mod LengthOctets
 pub mod ListSteps
 pub mod Listing
+pub mod Names
 pub mod Numbers
 pub mod Octets
 pub mod OidArcs
 pub mod Oids
 pub mod Parts
+pub mod Pretty
 pub mod Refusal
 pub mod SetOfOrder
 pub mod Spelling

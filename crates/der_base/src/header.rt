@@ -11,6 +11,7 @@ ghost use Rattle.der_base.specs.Header.{IsHeader};
 ghost use Rattle.der_base.specs.Headers.{AnswersBerHeader, ReadsHeader, BerHeaderLacks};
 ghost use Rattle.der_base.specs.Headers.{AnswersDerHeader, ReadsDerHeader, DerHeaderLacks};
 ghost use Rattle.der_base.specs.Leaf.{is_mapped};
+ghost use Rattle.der_base.specs.Names.{name_at, class_name, type_names};
 ghost use Rattle.der_base.specs.Refusal.{refusal, construct_expected, construct_unexpected};
 ghost use Rattle.der_base.specs.Refusal.{unexpected_class, unexpected_tag};
 
@@ -29,15 +30,27 @@ pub enum Class {
     Private,
 }
 
-impl fmt::Display for Class {
-    fn fmt<W: fmt::Write>(&self, f: &mut fmt::Formatter<W>) -> fmt::Result {
-        let name = match self {
+impl Class {
+    /// The name of the class.
+    pub fn name(self) -> &'static str
+        ensures { result.now ≡ class_name self }
+    {
+        match self {
             Class::Universal => "UNIVERSAL",
             Class::Application => "APPLICATION",
             Class::ContextSpecific => "CONTEXT-SPECIFIC",
             Class::Private => "PRIVATE",
-        };
-        write!(f, "{name}")
+        }
+    }
+}
+
+impl fmt::Display for Class {
+    ghost use Rattle.der_base.specs.Names.{class_name};
+
+    ghost output = { λ c. Some (class_name c) };
+
+    fn fmt<W: fmt::Write>(&self, f: &mut fmt::Formatter<W>) -> fmt::Result {
+        write!(f, "{}", self.name())
     }
 }
 
@@ -113,19 +126,11 @@ impl Tag {
     {
         matches!(self.0, 0..=7 | 10 | 12 | 13 | 16..=28 | 30)
     }
-}
 
-impl From<u32> for Tag {
-    ghost from_gives = { λ n t. t.0 ≡ n };
-
-    fn from(n: u32) -> Tag {
-        Tag(n)
-    }
-}
-
-/// The name of the universal type, or `Tag(n)`.
-impl fmt::Display for Tag {
-    fn fmt<W: fmt::Write>(&self, f: &mut fmt::Formatter<W>) -> fmt::Result {
+    /// The name of the universal type of this number, where it has one.
+    pub fn name(self) -> Option<&'static str>
+        ensures { option_copied result ≡ name_at type_names self.0 }
+    {
         let name = match self.0 {
             0 => "EndOfContent",
             1 => "Boolean",
@@ -155,9 +160,31 @@ impl fmt::Display for Tag {
             27 => "GeneralString",
             28 => "UniversalString",
             30 => "BmpString",
-            n => return write!(f, "Tag({n})"),
+            _ => return None,
         };
-        write!(f, "{name}")
+        Some(name)
+    }
+}
+
+impl From<u32> for Tag {
+    ghost from_gives = { λ n t. t.0 ≡ n };
+
+    fn from(n: u32) -> Tag {
+        Tag(n)
+    }
+}
+
+/// The name of the universal type, or `Tag(n)`.
+impl fmt::Display for Tag {
+    ghost use Rattle.der_base.specs.Names.{type_name};
+
+    ghost output = { λ t. Some (type_name t.0) };
+
+    fn fmt<W: fmt::Write>(&self, f: &mut fmt::Formatter<W>) -> fmt::Result {
+        match self.name() {
+            Some(name) => write!(f, "{name}"),
+            None => write!(f, "Tag({})", self.0),
+        }
     }
 }
 

@@ -34,6 +34,7 @@ ghost use Rattle.der_base.specs.Laws.{
   EncodingIsNormalForm,
   OpensInOneWay,
   OpenedPass,
+  LengthsShowInHeaders,
 };
 ghost use Rattle.der_base.specs.Laws.{NumberOrRefused, NumbersPass, HaveOneNumberRefusal, NumbersFit};
 ghost use Rattle.der_base.specs.Laws.{EncodingsDoNotTie, SetOfHasOneOrder};
@@ -266,4 +267,10 @@ where
 pub fn set_of_has_one_order()
     ensures no_tie { EncodingsDoNotTie }
     ensures one_order { SetOfHasOneOrder }
+{}
+
+/// The text of an object shows the lengths in its headers only where it shows the headers. So a
+/// text without them is that of the tree alone.
+pub fn lengths_show_in_headers()
+    ensures { LengthsShowInHeaders }
 {}

@@ -32,6 +32,9 @@ set_forms v = row_forms_of (hidden-the_row-BerObject-0 v) ∙ ap forms_of (items
 pub leaf_forms : (p : Bool) (t : ℕ) (w : List ℕ) (x : BerObjectContent) → IsLeafContent p t w (content_tree x) → inner_forms x ≡ no_forms
 leaf_forms p t w (Sequence' shape row) h = absurd h
 leaf_forms p t w (Set' shape row) h = absurd h
+leaf_forms p t w (Optional' None') h = absurd h
+leaf_forms p t w (Optional' (Some' b i x)) h = absurd h
+leaf_forms p t w (Tagged' c k b i x) h = absurd h
 leaf_forms p t w _ h = refl
 
 module _ (P : Header → BerObjectContent → Type 0) where

@@ -1,5 +1,5 @@
 -- Octets that were written in front of others.
-use Rattle.std.proofs.Common.{◌≡◌, ℕ, ◌≤◌, List, [], ◌++◌, length, drop, take, refl, ap, ◌∙◌, sym, arith, append_assoc, length-append}
+use Rattle.std.proofs.Common.{◌≡◌, ℕ, ◌-◌, ◌≤◌, List, [], ◌++◌, length, drop, take, refl, ap, ◌∙◌, sym, arith, append_assoc, length-append}
 use Rattle.std.proofs.Math.Seq.{take-append_seam}
 use Rattle.std.proofs.lemmas.List.{append-nil, drop_all}
 use Rattle.der_object.specs.Room.{PutsBefore}
@@ -29,3 +29,14 @@ puts_front {old = old} {new = new} {w = w} {end = end} {begin = begin} h fills =
     let b : begin ≡ 0 = omega (arith, h.begins) in
     let e : new ≡ w ++ drop end old = sym (ap (λ n. drop n new) b) ∙ h.octets in
     rw e (ap (λ n. take n (w ++ drop end old)) (sym fills) ∙ take-append_seam w (drop end old))
+
+-- octets that end where the room does are all that is there from their begin on
+pub puts_end : {old new w : List ℕ} {end begin : ℕ} → PutsBefore old new end w begin → length old ≤ end → drop begin new ≡ w
+puts_end {old = old} {w = w} {end = end} h most = h.octets ∙ ap (λ l. w ++ l) (drop_all end old most) ∙ append-nil w
+
+-- as the slice of all from there on
+pub puts_tail : {old new w : List ℕ} {end begin : ℕ} → PutsBefore old new end w begin → length old ≤ end → take (end - begin) (drop begin new) ≡ w
+puts_tail {new = new} {w = w} {end = end} {begin = begin} h most =
+    let n : length w ≡ end - begin = omega (arith, h.begins) in
+    let e : drop begin new ≡ w ++ [] = puts_end h most ∙ sym (append-nil w) in
+    rw (e, ← n) (take-append_seam w [])

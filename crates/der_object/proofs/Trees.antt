@@ -64,7 +64,7 @@ NotOptional x = (held : Option (Box BerObject)) → x ≡ Optional held → ⊥
 abbrev pub NotTagged : BerObjectContent → Type 0
 NotTagged x = (c : Class) (t : Tag) (b : Box BerObject) → x ≡ Tagged c t b → ⊥
 
-not_held : (held : Held-BerObjectContent-Optional-0) → NotOptional (Optional' held) → ⊥
+pub not_held : (held : Held-BerObjectContent-Optional-0) → NotOptional (Optional' held) → ⊥
 not_held None' f = f None refl
 not_held (Some' b h x) f = f (Some _) refl
 

@@ -14,17 +14,23 @@ use Rattle.der_object.specs.declared.object.BerObjectContent.TheVariants.{Sequen
 use Rattle.der_object.specs.View.{content_tree}
 
 abbrev mutual
-  -- the lengths in the headers of the items
+  -- the lengths in the headers of the items, or of the object inside a tagged or optional content
   pub inner_forms : BerObjectContent → Forms
   inner_forms (Sequence' shape row) = row_forms row
   inner_forms (Set' shape row) = row_forms row
+  inner_forms (Optional' held) = held_forms held
+  inner_forms (Tagged' c t b h x) = forms (form (length_of h) (inner_forms x)) no_forms
   inner_forms _ = no_forms
+
+  pub held_forms : Held-BerObjectContent-Optional-0 → Forms
+  held_forms None' = no_forms
+  held_forms (Some' b h x) = forms (form (length_of h) (inner_forms x)) no_forms
 
   pub row_forms : {m : _} → Row_of-BerObject m → Forms
   row_forms end_of-BerObject = no_forms
   row_forms (more_of-BerObject h x rest) = forms (form (length_of h) (inner_forms x)) (row_forms rest)
 
--- the length in the header of an object, and those of its items
+-- the length in the header of an object, and those inside
 abbrev pub form_of : BerObject → Form
 form_of o = form (length_of o.header) (inner_forms o.content)
 

@@ -1,11 +1,14 @@
 pub mod Bits
+pub mod Characters
 pub mod Clones
 pub mod Combined
 pub mod Counting
 pub mod Encoders
 pub mod HeaderFacts
 pub mod Items
+pub mod Layouts
 pub mod Objects
+pub mod Printer
 pub mod Readings
 pub mod Room
 pub mod View

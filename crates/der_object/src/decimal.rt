@@ -35,7 +35,7 @@ pub fn write_digits(out: &mut [u8], end: usize, digits: usize, n: u32) -> usize
     requires within { end ≤ length out.old }
     ensures { PutsBefore out.old out.new end (at_least_digits digits n) result }
 {
-    let begin = write_decimal(out, end, n);
+    let begin = write_decimal(out, end, u64::from(n));
     write_zeros(out, begin, digits.saturating_sub(end - begin))
 }
 
@@ -51,7 +51,7 @@ fn write_zeros(out: &mut [u8], end: usize, count: usize) -> usize
 }
 
 /// Writes a number in decimal in front of a place.
-fn write_decimal(out: &mut [u8], end: usize, n: u32) -> usize
+pub fn write_decimal(out: &mut [u8], end: usize, n: u64) -> usize
     requires room { length (decimal n) ≤ end }
     requires within { end ≤ length out.old }
     ensures { PutsBefore out.old out.new end (decimal n) result }
@@ -66,7 +66,7 @@ fn write_decimal(out: &mut [u8], end: usize, n: u32) -> usize
 }
 
 /// The last digit of a number.
-fn digit(n: u32) -> u8
+fn digit(n: u64) -> u8
     ensures { result ≡ digit n }
 {
     b'0' + (n % 10) as u8

@@ -272,7 +272,7 @@ fn send_integer<W: Write>(w: &mut FaultWriter<W>, n: u64) -> Result<(), GenError
 }
 
 /// Sends the text of a time, with a year of at least so many digits (11.7, 11.8).
-fn send_time<W: Write>(
+pub fn send_time<W: Write>(
     w: &mut FaultWriter<W>,
     year_digits: usize,
     time: ASN1DateTime,

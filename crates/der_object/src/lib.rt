@@ -1,14 +1,16 @@
-//! Objects: the values that are read and written, their trees, their equality and their encoding,
-//! in memory and over any writer.
+//! Objects: the values that are read and written, their trees, their equality, their encoding, in
+//! memory and over any writer, and their text.
 #![tactic(auto)]
 
 pub mod bit_string;
+mod characters;
 mod copies;
 mod decimal;
 mod encode;
 mod equality;
 pub mod error;
 pub mod growth;
+mod hex;
 mod iterators;
 pub mod laws;
 mod length;
@@ -16,8 +18,10 @@ pub mod number;
 pub mod object;
 mod octets;
 mod parts;
+pub mod print;
 mod questions;
 mod serialize;
+mod text;
 mod time;
 mod writer;
 
@@ -29,4 +33,5 @@ pub use encode::{
 pub use error::{BerResult, DerResult};
 pub use iterators::{BerObjectIntoIterator, BerObjectRefIterator};
 pub use object::{BerObject, BerObjectContent, DerObject, DerObjectContent};
+pub use print::{PrettyBer, PrettyPrinterFlag};
 pub use writer::FaultWriter;

@@ -18,11 +18,13 @@ pub use Rattle.der_base.specs.LeafRefusal
 pub use Rattle.der_base.specs.LengthOctets
 pub use Rattle.der_base.specs.ListSteps
 pub use Rattle.der_base.specs.Listing
+pub use Rattle.der_base.specs.Names
 pub use Rattle.der_base.specs.Numbers
 pub use Rattle.der_base.specs.Octets
 pub use Rattle.der_base.specs.OidArcs
 pub use Rattle.der_base.specs.Oids
 pub use Rattle.der_base.specs.Parts
+pub use Rattle.der_base.specs.Pretty
 pub use Rattle.der_base.specs.Refusal
 pub use Rattle.der_base.specs.SetOfOrder
 pub use Rattle.der_base.specs.Spelling
@@ -40,6 +42,7 @@ pub use Rattle.der_object.specs.Encoders
 pub use Rattle.der_object.specs.HeaderFacts
 pub use Rattle.der_object.specs.Items
 pub use Rattle.der_object.specs.Objects
+pub use Rattle.der_object.specs.Printer
 pub use Rattle.der_object.specs.Readings
 pub use Rattle.der_object.specs.Room
 pub use Rattle.der_object.specs.View

@@ -1,0 +1,8 @@
+use Rattle.der_object.proofs.Sending.{wrote_then, wrote_stop, wrote_exit}
+use Rattle.der_object.proofs.text.send_unknown.Goals as goal
+
+pub returns-in_err-send_str : goal.returns-in_err-send_str
+returns-in_err-send_str g c = wrote_exit _ c.from_residual.ensures.1 (wrote_stop _ c.in_err-send_str.ensures)
+
+pub returns : goal.returns
+returns g c = wrote_then c.in_ok-send_str.ensures c.send_hex.ensures

@@ -1,0 +1,158 @@
+//! The printer of objects.
+ghost use Rattle.std.specs.Prelude.{◌≡◌, IfOk, OnErr, OnOk, true, false, [], ◌∷◌};
+ghost use Rattle.der_object.specs.Printer.{IsPrinter, IsPrinterWith, flags_of, has_flag, with_flag, without_flag};
+ghost use Rattle.der_object.specs.Printer.{increment_of, indent_of, next_indent, printed};
+ghost use Rattle.der_object.specs.Writing.{IoWhereFaultsRose, Wrote};
+
+use crate::object::BerObject;
+use crate::text::{Layout, send_text};
+use crate::writer::FaultWriter;
+use der_base::error::GenError;
+use std::alloc::{AllocError, Global};
+use std::io::{ErrorKind, Write};
+use std::{fmt, io, str};
+
+/// What is printed beside the contents.
+#[derive(Clone, Copy, Debug, PartialEq)]
+pub enum PrettyPrinterFlag {
+    /// The items of lists.
+    Recursive,
+    /// The headers.
+    ShowHeader,
+}
+
+/// An object, and how its text is written.
+#[derive(Drop)]
+pub struct PrettyBer<'o, 'a> {
+    obj: &'o BerObject<'a>,
+    flags: Vec<PrettyPrinterFlag>,
+    indent: usize,
+    increment: usize,
+}
+
+impl<'a> BerObject<'a> {
+    /// A printer of the object with the items of lists and without headers, whose text stands
+    /// `indent` spaces in, and the items of each list `increment` spaces further. Refusals:
+    /// `AllocError` where there is no memory for the flag.
+    pub fn as_pretty<'o>(
+        &'o self,
+        alloc: Global,
+        indent: usize,
+        increment: usize,
+    ) -> Result<PrettyBer<'o, 'a>, AllocError>
+        ensures { IfOk result (λ p. IsPrinter p self.now (PrettyPrinterFlag.Recursive ∷ []) indent increment) }
+    {
+        let mut flags = Vec::new(alloc);
+        flags.push(PrettyPrinterFlag::Recursive)?;
+        Ok(PrettyBer::new(self, flags, indent, increment))
+    }
+}
+
+impl<'o, 'a> PrettyBer<'o, 'a> {
+    /// A printer of these parts.
+    pub fn new(
+        obj: &'o BerObject<'a>,
+        flags: Vec<PrettyPrinterFlag>,
+        indent: usize,
+        increment: usize,
+    ) -> PrettyBer<'o, 'a>
+        ensures { IsPrinter result obj.now flags.items indent increment }
+    {
+        PrettyBer {
+            obj,
+            flags,
+            indent,
+            increment,
+        }
+    }
+
+    /// A printer of an object within this one, with the same flags, whose text stands further in.
+    /// The indent stops at the greatest number. Refusals: `AllocError` where there is no memory for
+    /// the flags.
+    pub fn next_indent<'p>(
+        &self,
+        alloc: Global,
+        obj: &'p BerObject<'a>,
+    ) -> Result<PrettyBer<'p, 'a>, AllocError>
+        ensures { IfOk result
+            (λ p. IsPrinter p obj.now (flags_of self.now) (next_indent self.now) (increment_of self.now)) }
+    {
+        let mut flags = Vec::new(alloc);
+        flags.extend_from_slice(&self.flags)?;
+        let indent = self.indent.saturating_add(self.increment);
+        Ok(PrettyBer::new(obj, flags, indent, self.increment))
+    }
+
+    /// Whether the flag is there.
+    pub fn is_flag_set(&self, flag: PrettyPrinterFlag) -> bool
+        ensures { result ≡ has_flag (flags_of self.now) flag }
+    {
+        self.flags.iter().any(|f| *f == flag)
+    }
+
+    /// Adds the flag, where it isn't there. Refusals: `AllocError` where there is no memory for it;
+    /// then nothing changes.
+    pub fn set_flag(&mut self, flag: PrettyPrinterFlag) -> Result<(), AllocError>
+        ensures ok { OnOk result (IsPrinterWith (with_flag (flags_of self.old) flag) self.old self.new) }
+        ensures err { OnErr result (IsPrinterWith (flags_of self.old) self.old self.new) }
+    {
+        if !self.is_flag_set(flag) {
+            self.flags.push(flag)?;
+        }
+        Ok(())
+    }
+
+    /// Takes every such flag out.
+    pub fn unset_flag(&mut self, flag: PrettyPrinterFlag)
+        ensures { IsPrinterWith (without_flag (flags_of self.old) flag) self.old self.new }
+    {
+        self.flags.retain(|f| *f != flag);
+    }
+
+    /// Writes the text. Refusals: `Io` where a write failed. It takes no memory.
+    pub fn write_text<W: Write>(&self, w: &mut FaultWriter<W>) -> Result<(), GenError>
+        ensures text { Wrote W.contents w.old w.new result (printed self.now) }
+        ensures io { IoWhereFaultsRose w.old w.new result }
+    {
+        let layout = Layout {
+            recursive: self.is_flag_set(PrettyPrinterFlag::Recursive),
+            headers: self.is_flag_set(PrettyPrinterFlag::ShowHeader),
+            increment: self.increment,
+        };
+        send_text(w, self.obj, layout, self.indent)
+    }
+}
+
+/// What `Debug` writes to, as a writer of octets.
+#[derive(Drop)]
+struct TextWriter<'f, F> {
+    to: &'f mut F,
+}
+
+impl<'f, F: fmt::Write> Write for TextWriter<'f, F> {
+    fn write(&mut self, octets: &[u8]) -> io::Result<usize> {
+        let Ok(text) = str::from_utf8(octets) else {
+            return Err(io::Error::from(ErrorKind::InvalidData));
+        };
+        match self.to.write_str(text) {
+            Ok(()) => Ok(octets.len()),
+            Err(_) => Err(io::Error::from(ErrorKind::Other)),
+        }
+    }
+
+    fn flush(&mut self) -> io::Result<()> {
+        Ok(())
+    }
+}
+
+/// The same text as `write_text` writes.
+impl fmt::Debug for PrettyBer<'_, '_> {
+    fn fmt<W: fmt::Write>(&self, f: &mut fmt::Formatter<W>) -> fmt::Result {
+        let mut w = FaultWriter::new(TextWriter { to: f });
+        let written = self.write_text(&mut w);
+        match written {
+            Ok(()) => Ok(()),
+            Err(_) => Err(fmt::Error),
+        }
+    }
+}
