@@ -1,5 +1,5 @@
 -- What an answer makes of a SET OF, it makes of the calls so far where it is that of one call more.
-use Rattle.std.proofs.Common.{◌≡◌, ℕ, ◌<◌, ◌⊎◌, Some, None, List, [], ◌∷◌, ◌++◌, length, Result, Ok, Err, Bor, refl, subst, inl, inr}
+use Rattle.std.proofs.Common.{◌≡◌, ℕ, ◌<◌, ◌⊎◌, Some, None, List, [], ◌∷◌, ◌++◌, length, Ok, Err, Bor, refl, subst, inl, inr}
 use Rattle.der_base.specs.declared.error.Err.{Err as Refused}
 use Rattle.der_base.specs.declared.error.Error.{Error as BerError}
 use Rattle.der_base.specs.declared.error.ErrorKind.{ErrorKind}
