@@ -6,9 +6,10 @@ mod pem;
 mod text;
 
 use anyhow::{Result, anyhow, ensure};
-use pem::decode_certificates;
+use pem::{BEGIN, decode_block};
 use std::alloc::Global;
 use std::io::Read;
+use std::str;
 use text::Certified;
 use x509_reader::read_certificate;
 
@@ -21,15 +22,19 @@ fn main(rt: HostRuntime) -> Result<()> {
     if input.first() == Some(&SEQUENCE) {
         return print_certificate(&rt, rt.alloc(), &input);
     }
-    let certificates = decode_certificates(rt.alloc(), &input)?;
-    ensure!(!certificates.is_empty(), "no certificate");
-    for (i, octets) in certificates.iter().enumerate() {
-        print_certificate(&rt, rt.alloc(), octets).map_err(|e| anyhow!(
-            "certificate {}: {e}",
-            i + 1
-        ))?;
+    let mut number: u64 = 0;
+    for block in str::from_utf8(&input)?.split(BEGIN).skip(1) {
+        number = number.saturating_add(1);
+        print_block(&rt, rt.alloc(), block).map_err(|e| anyhow!("certificate {number}: {e}"))?;
     }
+    ensure!(number > 0, "no certificate");
     Ok(())
+}
+
+/// Prints the certificate that a block of PEM holds.
+fn print_block(rt: &impl Print, alloc: Global, block: &str) -> Result<()> {
+    let octets = decode_block(alloc, block)?;
+    print_certificate(rt, alloc, &octets)
 }
 
 /// Prints a certificate and an empty line.
