@@ -13,18 +13,9 @@ pub struct SnmpError {
     reason: BerError,
 }
 
-impl SnmpError {
-    pub fn unknown_request(number: u32) -> SnmpError {
-        SnmpError {
-            field: "request",
-            reason: BerError::UnknownTag(number),
-        }
-    }
-}
-
 impl From<BerError> for SnmpError {
     fn from(reason: BerError) -> SnmpError {
-        let field = "list";
+        let field = "message";
         SnmpError { field, reason }
     }
 }

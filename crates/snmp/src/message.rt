@@ -8,7 +8,7 @@ use der_parser::ber::{
     Any, Tag, parse_ber_any, parse_ber_i32, parse_ber_sequence_defined_g, parse_ber_sequence_of_v,
     parse_ber_slice, parse_ber_u32,
 };
-use der_parser::error::Err as Refused;
+use der_parser::error::{BerError, Err as Refused};
 use std::alloc::Global;
 use std::fmt;
 
@@ -69,7 +69,7 @@ fn parse_request<'a>(alloc: Global, pdu: Any<'a>) -> IResult<&'a [u8], Request<'
         6 => "InformRequest",
         7 => "SNMPv2-Trap",
         8 => "Report",
-        n => return Err(Refused::Error(SnmpError::unknown_request(n))),
+        n => return Err(Refused::Error(SnmpError::from(BerError::UnknownTag(n)))),
     };
     let (i, id) = field("request-id", parse_ber_i32(pdu.bytes))?;
     let (i, status) = field("error-status", parse_ber_u32(i))?;
