@@ -2,9 +2,10 @@
 //! length.
 #![tactic(auto)]
 
-use der_names::{Name, parse_name};
-use der_parser::ber::{Any, BerObject, BerObjectContent, Visit, parse_ber};
+use der_names::parse_name;
+use der_parser::ber::{Any, BerObject, BerObjectContent, FaultWriter, Visit, parse_ber};
 use der_parser::der::parse_der;
+use der_read_name::read_name;
 use std::alloc::Global;
 
 /// What one pass does with each element.
@@ -16,6 +17,8 @@ enum Mode {
     Ber,
     /// Reads it by BER, and writes it as DER does.
     Canonical,
+    /// Reads it by BER, and writes its text.
+    Printed,
 }
 
 /// How many objects stand in an object, itself among them.
@@ -38,6 +41,15 @@ fn count_objects(objects: &[BerObject<'_>]) -> u64 {
     count
 }
 
+/// Writes the text of an object, and answers whether it was written.
+fn is_printed(alloc: Global, object: &BerObject<'_>) -> bool {
+    let mut out = FaultWriter::new(Vec::<u8>::new(alloc));
+    match object.as_pretty(alloc, 0, 2) {
+        Ok(printer) => printer.write_text(&mut out).is_ok(),
+        Err(_) => false,
+    }
+}
+
 /// The elements of a slice, one behind the other, or none of them where one is refused.
 fn read_objects<'a>(alloc: Global, s: &'a [u8], mode: Mode) -> Option<Vec<BerObject<'a>>> {
     let mut objects = Vec::new(alloc);
@@ -48,12 +60,15 @@ fn read_objects<'a>(alloc: Global, s: &'a [u8], mode: Mode) -> Option<Vec<BerObj
         }
         let answer = match mode {
             Mode::Der => parse_der(alloc, left),
-            Mode::Ber | Mode::Canonical => parse_ber(alloc, left),
+            Mode::Ber | Mode::Canonical | Mode::Printed => parse_ber(alloc, left),
         };
         let Ok((rest, object)) = answer else {
             return None;
         };
         if mode == Mode::Canonical && object.to_vec(alloc).is_err() {
+            return None;
+        }
+        if mode == Mode::Printed && !is_printed(alloc, &object) {
             return None;
         }
         if objects.push(object).is_err() {
@@ -118,8 +133,33 @@ fn count_read(alloc: Global, s: &[u8], mode: Mode) -> u64 {
     }
 }
 
-/// The names of a slice, one behind the other, or none of them where one is refused.
-fn read_names<'a>(alloc: Global, s: &'a [u8]) -> Option<Vec<Name<'a>>> {
+/// How many attributes the names of a slice have, one name behind the other; 0 where one is refused.
+fn count_attributes(alloc: Global, s: &[u8]) -> u64 {
+    let mut names = Vec::new(alloc);
+    let mut left = s;
+    for _ in 0..u64::MAX {
+        if left.is_empty() {
+            break;
+        }
+        let Ok((rest, name)) = read_name(alloc, left) else {
+            return 0;
+        };
+        if names.push(name).is_err() {
+            return 0;
+        }
+        left = rest;
+    }
+    let mut count: u64 = 0;
+    for name in &names {
+        for attributes in &name.rdns {
+            count = count.wrapping_add(attributes.len() as u64);
+        }
+    }
+    count
+}
+
+/// The same of names whose attributes are kept as octets.
+fn count_octet_attributes(alloc: Global, s: &[u8]) -> u64 {
     let mut names = Vec::new(alloc);
     let mut left = s;
     for _ in 0..u64::MAX {
@@ -127,51 +167,39 @@ fn read_names<'a>(alloc: Global, s: &'a [u8]) -> Option<Vec<Name<'a>>> {
             break;
         }
         let Ok((rest, name)) = parse_name(alloc, left) else {
-            return None;
+            return 0;
         };
         if names.push(name).is_err() {
-            return None;
+            return 0;
         }
         left = rest;
     }
-    Some(names)
-}
-
-/// How many attributes a name has.
-fn count_attributes(name: &Name<'_>) -> u64 {
-    let mut count: u64 = 0;
-    for attributes in &name.0 {
-        count = count.wrapping_add(attributes.len() as u64);
-    }
-    count
-}
-
-/// How many attributes the names of a slice have; 0 where one is refused.
-fn count_read_attributes(alloc: Global, s: &[u8]) -> u64 {
-    let Some(names) = read_names(alloc, s) else {
-        return 0;
-    };
     let mut count: u64 = 0;
     for name in &names {
-        count = count.wrapping_add(count_attributes(name));
+        for attributes in &name.0 {
+            count = count.wrapping_add(attributes.len() as u64);
+        }
     }
     count
 }
 
 /// One pass over the elements of a slice: 0 reads them by DER, 1 by BER, 2 by BER and writes each
-/// as DER does, 4 reads the outermost elements alone, 5 reads names (X.501 9.2), 6 reads elements by
-/// BER and counts them by a visitor. It keeps the objects and the names until its end, and answers
-/// how many it read, those inside lists among them, or how many attributes; 0 where an element is
-/// refused, and for another mode.
+/// as DER does, 3 by BER and writes the text of each, 4 reads the outermost elements alone, 5 reads
+/// names (X.501 9.2), 6 reads elements by BER and counts them by a visitor, 7 reads names and keeps
+/// their attributes as octets. It keeps the objects and the names until its end, and answers how many
+/// it read, those inside lists among them, or how many attributes; 0 where an element is refused, and
+/// for another mode.
 #[unsafe(no_mangle)]
 pub extern "C" fn der_bench_pass(alloc: Global, s: &[u8], mode: u64) -> u64 {
     match mode {
         0 => count_read(alloc, s, Mode::Der),
         1 => count_read(alloc, s, Mode::Ber),
         2 => count_read(alloc, s, Mode::Canonical),
+        3 => count_read(alloc, s, Mode::Printed),
         4 => count_elements(s),
-        5 => count_read_attributes(alloc, s),
+        5 => count_attributes(alloc, s),
         6 => count_visited(alloc, s),
+        7 => count_octet_attributes(alloc, s),
         _ => 0,
     }
 }
