@@ -13,6 +13,9 @@ use der_parser::error::{BerError, Err as Refused, Needed};
 use std::alloc::Global;
 use std::io::{Read, Write};
 
+/// The most octets that a message may have.
+const MAX_MESSAGE: usize = 65536;
+
 fn main(rt: HostRuntime) -> Result<()> {
     let mut stream = Stream::new(rt.alloc(), rt.stdin());
     print_messages(rt.alloc(), &mut stream, &mut rt.stdout())
@@ -26,18 +29,18 @@ fn print_messages<R: Read, W: Write>(
     out: &mut W,
 ) -> Result<()> {
     for _ in 0..u64::MAX {
-        let offset = stream.offset();
-        match read_line(alloc, stream.octets()) {
+        let offset = stream.offset;
+        match read_line(alloc, &stream.octets) {
             Ok((left, line)) => {
                 writeln!(out, "{line}")?;
                 stream.keep_last(left);
             }
             Err(Refused::Incomplete(Needed::Size(n))) => {
-                if !stream.has_room(n) {
+                if stream.octets.len().saturating_add(n) > MAX_MESSAGE {
                     bail!("message at {offset}: too large");
                 }
                 if !stream.read_more(n)? {
-                    if stream.octets().is_empty() {
+                    if stream.octets.is_empty() {
                         return Ok(());
                     }
                     bail!("message at {offset}: cut short");

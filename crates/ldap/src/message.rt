@@ -82,22 +82,12 @@ fn is_a(object: &BerObject<'_>, tag: Tag) -> bool {
 /// object that is no list is its own only item here.
 fn names_of<'a>(alloc: Global, content: BerObject<'a>) -> Result<Vec<&'a [u8]>, Refused<BerError>> {
     let mut names = Vec::new(alloc);
-    for field in content {
-        push_names(&mut names, field)?;
-    }
-    Ok(names)
-}
-
-fn push_names<'a>(
-    names: &mut Vec<&'a [u8]>,
-    field: BerObject<'a>,
-) -> Result<(), Refused<BerError>> {
-    for item in field {
+    for item in content.into_iter().flatten() {
         if let Some(name) = leading_name(item) {
             names.push(name)?;
         }
     }
-    Ok(())
+    Ok(names)
 }
 
 /// The text that an item is or begins with: an attribute its type, a change its attribute. Others,

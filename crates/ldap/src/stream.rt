@@ -3,15 +3,12 @@ use std::alloc::Global;
 use std::io;
 use std::io::Read;
 
-/// The most octets that a message may have.
-const MAX_MESSAGE: usize = 65536;
-
-/// A reader, and what it gave and no message has taken.
+/// A reader, the octets that it gave and no message has taken, and how many were taken.
 #[derive(Drop)]
 pub struct Stream<R> {
     reader: R,
-    octets: Vec<u8>,
-    offset: u64,
+    pub octets: Vec<u8>,
+    pub offset: u64,
 }
 
 impl<R: Read> Stream<R> {
@@ -21,21 +18,6 @@ impl<R: Read> Stream<R> {
             octets: Vec::new(alloc),
             offset: 0,
         }
-    }
-
-    /// What was read and not taken.
-    pub fn octets(&self) -> &[u8] {
-        &self.octets
-    }
-
-    /// How many octets were taken.
-    pub fn offset(&self) -> u64 {
-        self.offset
-    }
-
-    /// Whether a message may have so many octets beside those that were read.
-    pub fn has_room(&self, count: usize) -> bool {
-        self.octets.len().saturating_add(count) <= MAX_MESSAGE
     }
 
     /// Reads until there are so many octets more. False where the stream ends before.
