@@ -6,3 +6,4 @@ pub use Rattle.der_base.proofs.Spellings.DerWithinBer
 pub use Rattle.der_base.proofs.Answers.Exactness
 pub use Rattle.der_base.proofs.Framing.UniqueSpelling
 pub use Rattle.der_base.proofs.Containers.ContainerLaws
+pub use Rattle.der_base.proofs.PrettyLaws
