@@ -12,6 +12,8 @@ mod made_rows;
 #[cfg(test)]
 mod oid_rows;
 #[cfg(test)]
+mod print_rows;
+#[cfg(test)]
 mod text_rows;
 #[cfg(test)]
 mod visit_rows;

@@ -10,3 +10,4 @@ pub use Rattle.der_base.proofs.Containers.DerContainers
 pub use Rattle.der_base.proofs.Headers.DerHeaders
 pub use Rattle.der_base.proofs.Headers.StableHeaders
 pub use Rattle.der_base.proofs.Octets.Identifiers
+pub use Rattle.der_base.proofs.PrettyLaws

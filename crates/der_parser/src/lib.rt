@@ -44,6 +44,7 @@ pub mod ber {
         parse_ber_utctime, parse_ber_utf8string, parse_ber_videotexstring, parse_ber_visiblestring,
         parse_ber_with_tag,
     };
+    pub use der_object::print::*;
     pub use der_object::{
         BerObject, BerObjectContent, BerObjectIntoIterator, BerObjectRefIterator, BitStringObject,
         FaultWriter, ber_encode_header, ber_encode_object, ber_encode_object_raw,
@@ -101,10 +102,10 @@ pub mod laws {
         always_one, appended_lengthen_headers, appended_only_lengthen, clones_are_the_value,
         clones_want_no_memory, der_is_within_ber, encoding_is_normal_form, equals_are_alike,
         equals_are_the_same, faults_are_one, fronts_are_cut, header_fronts_are_cut,
-        integers_are_shortest, lengths_are_shortest, never_both, numbers_fit_or_are_refused,
-        one_content, one_refusal, opened_in_one_way, opened_never_refused,
-        refused_headers_stay_refused, set_of_has_one_order, spellings_are_one,
-        tag_numbers_are_shortest, unused_bits_are_last,
+        integers_are_shortest, lengths_are_shortest, lengths_show_in_headers, never_both,
+        numbers_fit_or_are_refused, one_content, one_refusal, opened_in_one_way,
+        opened_never_refused, refused_headers_stay_refused, set_of_has_one_order,
+        spellings_are_one, tag_numbers_are_shortest, unused_bits_are_last,
     };
     pub use der_ber::laws::written_is_read_back;
     pub use der_der::laws::written_is_what_was_read;
