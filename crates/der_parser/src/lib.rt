@@ -44,7 +44,6 @@ pub mod ber {
         parse_ber_utctime, parse_ber_utf8string, parse_ber_videotexstring, parse_ber_visiblestring,
         parse_ber_with_tag,
     };
-    pub use der_object::print::*;
     pub use der_object::{
         BerObject, BerObjectContent, BerObjectIntoIterator, BerObjectRefIterator, BitStringObject,
         FaultWriter, ber_encode_header, ber_encode_object, ber_encode_object_raw,
@@ -58,6 +57,8 @@ pub mod ber {
             Class as BerClass, Header as BerObjectHeader, Length as BerSize, Tag, Tag as BerTag,
         };
     }
+
+    pub use der_object::{PrettyBer, PrettyPrinterFlag};
 }
 
 /// Reading by DER.
