@@ -1,19 +1,20 @@
 -- What is written of objects.
-use Rattle.std.specs.Prelude.{◌≡◌, ℕ, List, [], ◌∷◌, ◌++◌, codes, Option}
+use Rattle.std.specs.Prelude.{◌≡◌, ℕ, List, [], ◌∷◌, ◌++◌, codes, true, false, Option}
 use Rattle.std.specs.Io.KnownBytes.{Appends}
 use Rattle.der_parser.specs.Encoding.{encoding}
+use Rattle.der_parser.specs.Pretty.{pretty, plain_form}
 use Rattle.der_parser.specs.Tree.{Node}
 use Rattle.der_dump.specs.declared.command.Command.{Command}
 use Rattle.der_dump.specs.declared.command.Command.TheVariants.{Ber, Der, Canon}
 
--- w is a text of the object and a newline; which text is no part of this
-abbrev pub IsLine : Node → List ℕ → Type 0
-IsLine o w = (text : List ℕ) × (w ≡ text ++ codes "\n")
+-- the text of the object and its items, and a newline; no header is printed, so no length shows
+abbrev pub line_of : Node → List ℕ
+line_of o = pretty (record { recursive = true; headers = false; increment = 2 }) 0 o plain_form ++ codes "\n"
 
--- w is what the command writes of the object: a line, or its encoding
+-- w is what the command writes of the object: its line, or its encoding
 abbrev pub IsOutput : Command → Node → List ℕ → Type 0
-IsOutput Ber o w = IsLine o w
-IsOutput Der o w = IsLine o w
+IsOutput Ber o w = w ≡ line_of o
+IsOutput Der o w = w ≡ line_of o
 IsOutput Canon o w = w ≡ encoding o
 
 -- new is old and then the output of the object

@@ -5,7 +5,6 @@
 mod arguments;
 mod command;
 mod fault;
-mod hex;
 mod input;
 #[cfg(test)]
 mod real_inputs;
@@ -16,7 +15,6 @@ mod source;
 mod streams;
 #[cfg(test)]
 mod tests;
-mod text;
 
 pub use arguments::only_argument;
 pub use streams::program;

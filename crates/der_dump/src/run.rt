@@ -1,12 +1,13 @@
 //! What the program does, over any reader and writers.
-ghost use Rattle.std.specs.Prelude.{◌≡◌, ◌≤◌, ◌↔◌, ◌++◌, List, ℕ, IfOk, IfErr, OnOk, true};
+ghost use Rattle.std.specs.Prelude.{◌≡◌, ◌≤◌, ◌↔◌, ◌++◌, IfOk, IfErr, OnOk, true};
 ghost use Rattle.std.specs.Io.KnownBytes.{Appends, Keeps, append_known};
 ghost use Rattle.der_dump.specs.Ends.{EndsWell, IsCause, Printed, PrintEnds};
-ghost use Rattle.der_dump.specs.Outputs.{AddsOutput, IsLine};
+ghost use Rattle.der_dump.specs.Outputs.{AddsOutput, line_of};
 ghost use Rattle.der_dump.specs.Sinks.{is_flushed, octets_of};
 ghost use Rattle.der_dump.specs.Sources.{GaveOctets, IsFresh, octets_left, octets_taken};
 ghost use Rattle.der_dump.specs.Words.{Names};
 ghost use Rattle.der_parser.specs.Encoding.{encoding};
+ghost use Rattle.der_parser.specs.Printer.{printed};
 ghost use Rattle.der_parser.specs.View.{tree};
 
 use crate::command::{Command, named_command};
@@ -15,14 +16,16 @@ use crate::input::read_input;
 use crate::rules::read_object;
 use crate::sink::Sink;
 use crate::source::Source;
-use crate::text::write_text;
-use der_parser::ber::BerObject;
+use der_parser::ber::{BerObject, FaultWriter, PrettyBer};
 use std::alloc::Global;
 use std::io;
 use std::io::{ErrorKind, Read, Write};
 
 /// So many octets are much to be pending.
 const MUCH: usize = 8192;
+
+/// How much further in the items of a list stand than the list, and an object than its tag.
+const INCREMENT: usize = 2;
 
 /// Prints the elements that the reader gives, each one's text on a line of its own, or writes their
 /// encodings, as the word says (X.690 8, and 10 for what is written), and answers the exit status:
@@ -167,14 +170,23 @@ fn push_encoding(alloc: Global, pending: &mut Vec<u8>, object: &BerObject<'_>) -
 
 /// Adds the text of an object on a line of its own.
 fn push_line(alloc: Global, pending: &mut Vec<u8>, object: &BerObject<'_>) -> io::Result<()>
-    ensures { OnOk result ((line : List ℕ) × IsLine (tree object.now) line
-        × (pending.new.items ≡ pending.old.items ++ line)) }
+    ensures { OnOk result (pending.new.items ≡ pending.old.items ++ line_of (tree object.now)) }
 {
-    let mut line = Vec::new(alloc);
-    write_text(&mut line, object, 0)?;
-    line.extend_from_slice(b"\n")?;
-    pending.extend_from_slice(&line)?;
+    let printer = object.as_pretty(alloc, 0, INCREMENT)?;
+    push_text(pending, &printer)?;
+    pending.extend_from_slice(b"\n")?;
     Ok(())
+}
+
+/// Adds the text that a printer writes.
+fn push_text(pending: &mut Vec<u8>, printer: &PrettyBer<'_, '_>) -> io::Result<()>
+    ensures { OnOk result (pending.new.items ≡ pending.old.items ++ printed printer.now) }
+{
+    let mut w = FaultWriter::new(pending);
+    match printer.write_text(&mut w) {
+        Ok(()) => Ok(()),
+        Err(_) => Err(io::Error::from(ErrorKind::OutOfMemory)),
+    }
 }
 
 /// Writes what is pending, where that is much.
