@@ -18,8 +18,8 @@ use crate::sink::Sink;
 use crate::source::Source;
 use der_parser::ber::{BerObject, FaultWriter, PrettyBer};
 use std::alloc::Global;
-use std::io;
 use std::io::{ErrorKind, Read, Write};
+use std::{io, mem};
 
 /// So many octets are much to be pending.
 const MUCH: usize = 8192;
@@ -173,17 +173,19 @@ fn push_line(alloc: Global, pending: &mut Vec<u8>, object: &BerObject<'_>) -> io
     ensures { OnOk result (pending.new.items ≡ pending.old.items ++ line_of (tree object.now)) }
 {
     let printer = object.as_pretty(alloc, 0, INCREMENT)?;
-    push_text(pending, &printer)?;
+    push_text(alloc, pending, &printer)?;
     pending.extend_from_slice(b"\n")?;
     Ok(())
 }
 
 /// Adds the text that a printer writes.
-fn push_text(pending: &mut Vec<u8>, printer: &PrettyBer<'_, '_>) -> io::Result<()>
+fn push_text(alloc: Global, pending: &mut Vec<u8>, printer: &PrettyBer<'_, '_>) -> io::Result<()>
     ensures { OnOk result (pending.new.items ≡ pending.old.items ++ printed printer.now) }
 {
-    let mut w = FaultWriter::new(pending);
-    match printer.write_text(&mut w) {
+    let mut w = FaultWriter::new(mem::replace(pending, Vec::new(alloc)));
+    let written = printer.write_text(&mut w);
+    *pending = w.into_inner();
+    match written {
         Ok(()) => Ok(()),
         Err(_) => Err(io::Error::from(ErrorKind::OutOfMemory)),
     }
