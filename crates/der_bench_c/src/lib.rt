@@ -7,6 +7,7 @@ use der_parser::ber::{Any, BerObject, BerObjectContent, FaultWriter, Visit, pars
 use der_parser::der::parse_der;
 use der_read_name::read_name;
 use std::alloc::Global;
+use x509_reader::read_certificate;
 
 /// What one pass does with each element.
 #[derive(Clone, Copy, PartialEq)]
@@ -183,12 +184,36 @@ fn count_octet_attributes(alloc: Global, s: &[u8]) -> u64 {
     count
 }
 
+/// How many certificates stand in a slice, one behind the other, read by `x509_reader`; 0 where one is
+/// refused.
+fn count_certificates(alloc: Global, s: &[u8]) -> u64 {
+    let mut certificates = Vec::new(alloc);
+    let mut left = s;
+    for _ in 0..u64::MAX {
+        if left.is_empty() {
+            break;
+        }
+        let Ok((rest, _)) = Any::from_der(left) else {
+            return 0;
+        };
+        let (octets, _) = left.split_at(left.len() - rest.len());
+        let Ok(certificate) = read_certificate(alloc, octets) else {
+            return 0;
+        };
+        if certificates.push(certificate).is_err() {
+            return 0;
+        }
+        left = rest;
+    }
+    certificates.len() as u64
+}
+
 /// One pass over the elements of a slice: 0 reads them by DER, 1 by BER, 2 by BER and writes each
 /// as DER does, 3 by BER and writes the text of each, 4 reads the outermost elements alone, 5 reads
 /// names (X.501 9.2), 6 reads elements by BER and counts them by a visitor, 7 reads names and keeps
-/// their attributes as octets. It keeps the objects and the names until its end, and answers how many
-/// it read, those inside lists among them, or how many attributes; 0 where an element is refused, and
-/// for another mode.
+/// their attributes as octets, 8 reads certificates (RFC 5280). It keeps what it reads until its end,
+/// and answers how many objects it read, those inside lists among them, or how many attributes or
+/// certificates; 0 where an element is refused, and for another mode.
 #[unsafe(no_mangle)]
 pub extern "C" fn der_bench_pass(alloc: Global, s: &[u8], mode: u64) -> u64 {
     match mode {
@@ -200,6 +225,7 @@ pub extern "C" fn der_bench_pass(alloc: Global, s: &[u8], mode: u64) -> u64 {
         5 => count_attributes(alloc, s),
         6 => count_visited(alloc, s),
         7 => count_octet_attributes(alloc, s),
+        8 => count_certificates(alloc, s),
         _ => 0,
     }
 }

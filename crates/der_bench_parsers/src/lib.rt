@@ -14,4 +14,6 @@ mod refused_growths;
 #[cfg(test)]
 mod set_of_order_rows;
 #[cfg(test)]
+mod stuck_parser_rows;
+#[cfg(test)]
 mod tagged_rows;
