@@ -9,8 +9,8 @@ use der_bench_rows::reader::Reader::{
     ParseDerSequence, ParseDerSet, ParseDerWithTag,
 };
 use der_parser::ber::{
-    Any, BerObject, BerObjectContent, Class, Header, Length, Tag, ber_object_from_any,
-    ber_read_element_content_as, parse_ber_content, parse_ber_content2,
+    Any, BerObject, BerObjectContent, Class, Header, Length, PrettyBer, PrettyPrinterFlag, Tag,
+    ber_object_from_any, ber_read_element_content_as, parse_ber_content, parse_ber_content2,
     parse_ber_explicit_optional, parse_ber_integer, parse_ber_optional, parse_ber_sequence_of,
     parse_ber_sequence_of_v, parse_ber_set_of, parse_ber_set_of_v, parse_ber_tagged_explicit,
 };
@@ -408,5 +408,39 @@ fn wants_memory_oid_try_clone(rt: HostRuntime) -> Result<(), Fail> {
     };
     let copy = oid.try_clone(rt.alloc())?;
     assert!(rt; copy == oid);
+    Ok(())
+}
+
+#[test]
+fn wants_memory_as_pretty(rt: HostRuntime) -> Result<(), Fail> {
+    let object = BerObject::from_int_slice(b"\x05");
+    let printer = object.as_pretty(rt.alloc(), 0, 2)?;
+    assert!(rt; printer.is_flag_set(PrettyPrinterFlag::Recursive));
+    Ok(())
+}
+
+/// Where there is no memory for a flag, the flags stay.
+#[test]
+fn wants_memory_set_flag(rt: HostRuntime) -> Result<(), Fail> {
+    let object = BerObject::from_int_slice(b"\x05");
+    let mut printer = PrettyBer::new(&object, Vec::new(rt.alloc()), 0, 2);
+    let set = printer.set_flag(PrettyPrinterFlag::ShowHeader);
+    assert_eq!(rt;
+        printer.is_flag_set(PrettyPrinterFlag::ShowHeader),
+        set.is_ok()
+    );
+    assert!(rt; !printer.is_flag_set(PrettyPrinterFlag::Recursive));
+    set?;
+    Ok(())
+}
+
+#[test]
+fn wants_memory_next_indent(rt: HostRuntime) -> Result<(), Fail> {
+    let object = BerObject::from_int_slice(b"\x05");
+    let Ok(printer) = object.as_pretty(rt.alloc(), 0, 2) else {
+        return Ok(());
+    };
+    let next = printer.next_indent(rt.alloc(), &object)?;
+    assert!(rt; next.is_flag_set(PrettyPrinterFlag::Recursive));
     Ok(())
 }

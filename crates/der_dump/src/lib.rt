@@ -8,6 +8,8 @@ mod fault;
 mod input;
 #[cfg(test)]
 mod real_inputs;
+#[cfg(test)]
+mod refused_growths;
 mod rules;
 mod run;
 mod sink;
