@@ -8,6 +8,7 @@ use Rattle.der_parser.specs.HeaderFacts.{form_of}
 use Rattle.der_parser.specs.Readings.{Answer}
 use Rattle.der_parser.specs.Tree.{Node}
 use Rattle.der_parser.specs.declared.ber.BerObject.{BerObject}
+use Rattle.der_parser.specs.declared.error.Err.TheVariants.{OutOfMemory}
 use Rattle.der_dump.specs.declared.fault.RefusedElement.{RefusedElement}
 use Rattle.der_dump.specs.declared.rules.Rules.{Rules}
 use Rattle.der_dump.specs.declared.rules.Rules.TheVariants.{Ber, Der}
@@ -55,7 +56,19 @@ refused_here {rules} {i} {rest} {os} r front place some whole a =
       rest = rest;
       front = front;
       place = place;
-      explains = passed_on _ _ r.reason a.found (λ e q. q) (λ n q. q) (λ m. m);
+      explains = passed_on _ _ r.reason a.found (λ e q. q) (λ n q. q) (λ _. tt);
       begins = begins;
       whole = λ all. at_first begins some (whole all);
     }
+
+-- an element for which there was no memory
+pub wanting_here : {rules : Rules} {i rest : List ℕ} {os : List Node} (n : ℕ) → Elements rules i os rest → n + length rest ≡ length i
+    → IsRefused rules i os (record { offset = n; reason = OutOfMemory })
+wanting_here {rest = rest} n front place = record {
+  rest = rest;
+  front = front;
+  place = place;
+  explains = tt;
+  begins = λ _ _ _. tt;
+  whole = λ _. tt;
+}

@@ -23,6 +23,10 @@ pub record AddsOutput (command : Command) (old new : List ℕ) (o : Node) : Type
   pub is_output : IsOutput command o output
   pub adds : new ≡ old ++ output
 
+-- new is old and something behind it
+abbrev pub AddsSome : List ℕ → List ℕ → Type 0
+AddsSome old new = (more : List ℕ) × (new ≡ old ++ more)
+
 -- w is the outputs of the objects, one after another
 pub data AreOutputs (command : Command) : List Node → List ℕ → Type 0 where
   no_outputs : AreOutputs command [] []

@@ -4,12 +4,13 @@ use Rattle.der_parser.specs.Answer.{MatchAnswer}
 use Rattle.der_parser.specs.Tree.{Node}
 use Rattle.der_dump.specs.declared.fault.RefusedElement.{RefusedElement}
 use Rattle.der_dump.specs.declared.rules.Rules.{Rules}
-use Rattle.der_dump.specs.Elements.{AreElements, BeginsWith, Elements, Refuses, IsCutShort, NeedsMemory}
+use Rattle.der_dump.specs.Elements.{AreElements, BeginsWith, Elements, Refuses, IsCutShort}
 
--- why no element was read at the front of i: i shows this refusal, or lacks so many octets, or there was no memory
+-- why the element at the front of i was not read and written: i shows this refusal, or lacks so many octets, or there
+-- was no memory
 abbrev pub Explains : Rules → List ℕ → RefusedElement → Type 0
 Explains rules i r = MatchAnswer {T = ⊤} (Err r.reason)
-    (λ _. ⊥) (Refuses rules i) (IsCutShort rules i) (NeedsMemory rules i)
+    (λ _. ⊥) (Refuses rules i) (IsCutShort rules i) ⊤
 
 -- there was no memory for it
 abbrev pub WantsMemory : RefusedElement → Type 0

@@ -1,8 +1,8 @@
 //! What the program does, over any reader and writers.
-ghost use Rattle.std.specs.Prelude.{◌≡◌, ◌≤◌, ◌↔◌, ◌++◌, IfOk, IfErr, OnOk, true};
+ghost use Rattle.std.specs.Prelude.{◌≡◌, ◌≤◌, ◌↔◌, ◌++◌, IfOk, IfErr, OnErr, OnOk, true};
 ghost use Rattle.std.specs.Io.KnownBytes.{Appends, Keeps, append_known};
 ghost use Rattle.der_dump.specs.Ends.{EndsWell, IsCause, Printed, PrintEnds};
-ghost use Rattle.der_dump.specs.Outputs.{AddsOutput, line_of};
+ghost use Rattle.der_dump.specs.Outputs.{AddsOutput, AddsSome, line_of};
 ghost use Rattle.der_dump.specs.Sinks.{is_flushed, octets_of};
 ghost use Rattle.der_dump.specs.Sources.{GaveOctets, IsFresh, octets_left, octets_taken};
 ghost use Rattle.der_dump.specs.Words.{Names};
@@ -17,8 +17,9 @@ use crate::rules::read_object;
 use crate::sink::Sink;
 use crate::source::Source;
 use der_parser::ber::{BerObject, FaultWriter, PrettyBer};
-use std::alloc::Global;
-use std::io::{ErrorKind, Read, Write};
+use der_parser::error::Err as Refused;
+use std::alloc::{AllocError, Global};
+use std::io::{Read, Write};
 use std::{io, mem};
 
 /// So many octets are much to be pending.
@@ -127,9 +128,18 @@ fn print_elements<W: Write>(
     while !rest.is_empty() {
         match read_object(alloc, command.rules(), rest) {
             Ok((after, object)) => {
-                push_output(alloc, command, &mut pending, object)?;
-                hand_on_much(out, &mut pending)?;
-                rest = after;
+                match push_output(alloc, command, &mut pending, object) {
+                    Ok(()) => {
+                        hand_on_much(out, &mut pending)?;
+                        rest = after;
+                    }
+                    Err(AllocError) => {
+                        hand_on(out, &pending)?;
+                        let offset = input.len() - rest.len();
+                        let reason = Refused::OutOfMemory;
+                        return Ok(Some(RefusedElement { offset, reason }));
+                    }
+                }
             }
             Err(reason) => {
                 hand_on(out, &pending)?;
@@ -142,35 +152,62 @@ fn print_elements<W: Write>(
     Ok(None)
 }
 
-/// Adds what the command writes of an object, and lets go of the object.
+/// Adds what the command writes of an object, and lets go of the object. Where there is no memory
+/// for it, nothing is added.
 fn push_output(
     alloc: Global,
     command: Command,
     pending: &mut Vec<u8>,
     object: BerObject<'_>,
-) -> io::Result<()>
-    ensures { OnOk result (AddsOutput command pending.old.items pending.new.items (tree object.entry)) }
+) -> Result<(), AllocError>
+    ensures ok { OnOk result (AddsOutput command pending.old.items pending.new.items (tree object.entry)) }
+    ensures err { OnErr result (pending.new.items ≡ pending.old.items) }
+{
+    let before = pending.len();
+    match push(alloc, command, pending, &object) {
+        Ok(()) => Ok(()),
+        Err(e) => {
+            pending.truncate(before);
+            Err(e)
+        }
+    }
+}
+
+/// Adds what the command writes of an object, or a front of it.
+fn push(
+    alloc: Global,
+    command: Command,
+    pending: &mut Vec<u8>,
+    object: &BerObject<'_>,
+) -> Result<(), AllocError>
+    ensures ok { OnOk result (AddsOutput command pending.old.items pending.new.items (tree object.now)) }
+    ensures err { OnErr result (AddsSome pending.old.items pending.new.items) }
 {
     match command {
-        Command::Ber | Command::Der => push_line(alloc, pending, &object),
-        Command::Canon => push_encoding(alloc, pending, &object),
+        Command::Ber | Command::Der => push_line(alloc, pending, object),
+        Command::Canon => push_encoding(alloc, pending, object),
     }
 }
 
 /// Adds the encoding of an object. There is no memory for one of more than 2^64-1 octets.
-fn push_encoding(alloc: Global, pending: &mut Vec<u8>, object: &BerObject<'_>) -> io::Result<()>
-    ensures { OnOk result (pending.new.items ≡ pending.old.items ++ encoding (tree object.now)) }
+fn push_encoding(
+    alloc: Global,
+    pending: &mut Vec<u8>,
+    object: &BerObject<'_>,
+) -> Result<(), AllocError>
+    ensures ok { OnOk result (pending.new.items ≡ pending.old.items ++ encoding (tree object.now)) }
+    ensures err { OnErr result (AddsSome pending.old.items pending.new.items) }
 {
     let Ok(encoding) = object.to_vec(alloc) else {
-        return Err(io::Error::from(ErrorKind::OutOfMemory));
+        return Err(AllocError);
     };
-    pending.extend_from_slice(&encoding)?;
-    Ok(())
+    pending.extend_from_slice(&encoding)
 }
 
-/// Adds the text of an object on a line of its own.
-fn push_line(alloc: Global, pending: &mut Vec<u8>, object: &BerObject<'_>) -> io::Result<()>
-    ensures { OnOk result (pending.new.items ≡ pending.old.items ++ line_of (tree object.now)) }
+/// Adds the text of an object on a line of its own, or a front of it.
+fn push_line(alloc: Global, pending: &mut Vec<u8>, object: &BerObject<'_>) -> Result<(), AllocError>
+    ensures ok { OnOk result (pending.new.items ≡ pending.old.items ++ line_of (tree object.now)) }
+    ensures err { OnErr result (AddsSome pending.old.items pending.new.items) }
 {
     let printer = object.as_pretty(alloc, 0, INCREMENT)?;
     push_text(alloc, pending, &printer)?;
@@ -178,16 +215,21 @@ fn push_line(alloc: Global, pending: &mut Vec<u8>, object: &BerObject<'_>) -> io
     Ok(())
 }
 
-/// Adds the text that a printer writes.
-fn push_text(alloc: Global, pending: &mut Vec<u8>, printer: &PrettyBer<'_, '_>) -> io::Result<()>
-    ensures { OnOk result (pending.new.items ≡ pending.old.items ++ printed printer.now) }
+/// Adds the text that a printer writes, or a front of it.
+fn push_text(
+    alloc: Global,
+    pending: &mut Vec<u8>,
+    printer: &PrettyBer<'_, '_>,
+) -> Result<(), AllocError>
+    ensures ok { OnOk result (pending.new.items ≡ pending.old.items ++ printed printer.now) }
+    ensures err { OnErr result (AddsSome pending.old.items pending.new.items) }
 {
     let mut w = FaultWriter::new(mem::replace(pending, Vec::new(alloc)));
     let written = printer.write_text(&mut w);
     *pending = w.into_inner();
     match written {
         Ok(()) => Ok(()),
-        Err(_) => Err(io::Error::from(ErrorKind::OutOfMemory)),
+        Err(_) => Err(AllocError),
     }
 }
 

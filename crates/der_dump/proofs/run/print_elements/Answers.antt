@@ -5,7 +5,7 @@ use Rattle.der_parser.specs.View.{tree}
 use Rattle.der_dump.specs.Elements.{Elements, none}
 use Rattle.der_dump.specs.Sinks.{octets_of}
 use Rattle.der_dump.specs.Words.{rules_of}
-use Rattle.der_dump.proofs.Reading.{element_behind, elements_left, refused_here}
+use Rattle.der_dump.proofs.Reading.{element_behind, elements_left, refused_here, wanting_here}
 use Rattle.der_dump.proofs.Taking.{took_none, output_pending, outputs_kept, outputs_handed_on}
 use Rattle.der_dump.proofs.run.print_elements.Goals as goal
 
@@ -27,10 +27,20 @@ loop-rest-preserved g c =
         os ++ o ∷ [],
         element_behind o front answer.found,
         outputs_kept first (append_known before added) (append_known after c.hand_on_much.new.pending.items)
-            (output_pending first before c.loop-rest.pending.items added o lines c.in_ok-push_output-in-Ok.ensures) c.in_ok-hand_on_much-in-Ok.ensures,
+            (output_pending first before c.loop-rest.pending.items added o lines c.in-Ok-push_output.ensures.ok) c.in_ok-hand_on_much-in-Ok-push_output.ensures,
       );
       whole = λ all. elements_left (c.in-Ok.after, c.in-Ok.object) answer c.in-Ok.ensures.shorter (c.loop-rest.invariant.whole all);
     }
+
+-- there is no memory for what is written of an object
+pub returns-in-Err-push_output-clause-printed : goal.returns-in-Err-push_output-clause-printed
+returns-in-Err-push_output-clause-printed g c =
+    let (os, front, lines) = c.loop-rest.invariant.printed in
+    let rest = c.loop-rest.rest.now in
+    let offset = length c.args.input.now - length rest in
+    let same : c.deref.result.now ≡ c.loop-rest.pending.items = search (rules, c.in-Err-push_output.ensures.err) in
+    let place : offset + length rest ≡ length c.args.input.now = omega (arith, c.loop-rest.invariant.in_range) in
+    (os, wanting_here offset front place, outputs_handed_on _ _ _ c.loop-rest.pending.items lines (rw same at c.in_ok-hand_on-in-Err-push_output.ensures.written))
 
 pub returns-in-Err-clause-printed : goal.returns-in-Err-clause-printed
 returns-in-Err-clause-printed g c =
@@ -38,7 +48,7 @@ returns-in-Err-clause-printed g c =
     let rest = c.loop-rest.rest.now in
     let offset = length c.args.input.now - length rest in
     let some : 0 < length rest = search rules in
-    let same : c.deref.result.now ≡ c.loop-rest.pending.items = search rules in
+    let same : c.deref-in-Err.result.now ≡ c.loop-rest.pending.items = search rules in
     let place : offset + length rest ≡ length c.args.input.now = omega (arith, c.loop-rest.invariant.in_range) in (
       os,
       refused_here (record { offset = offset; reason = c.in-Err.reason }) front place some c.loop-rest.invariant.whole (rw (c.rules.ensures) at c.in-Err.ensures.exactly),
