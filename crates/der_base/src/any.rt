@@ -101,13 +101,14 @@ impl<'a> Any<'a> {
     /// answers what is left of the input. Refusals are those of `der_read_element_header`;
     /// Incomplete with the number of octets that the header or the content lacks. It takes no
     /// memory.
+    #[inline(always)]
     pub fn from_der(i: &'a [u8]) -> IResult<&'a [u8], Any<'a>, BerError>
         ensures { AnswersDerAny i.now result }
     {
         Any::read_der(i)
     }
 
-    #[inline]
+    #[inline(always)]
     fn read_der(i: &'a [u8]) -> IResult<&'a [u8], Any<'a>, BerError>
         ensures { MatchAnswer result
             (λ x. ReadsDerAny i.now x.1 x.0.now)

@@ -44,6 +44,7 @@ where
 }
 
 /// The same of an element of this tag number, of any class.
+#[inline(always)]
 pub(crate) fn open_number<'a, E>(i: &'a [u8], tag: Tag) -> Result<Opened<'a>, Err<E>>
 where
     E: ParseError<&'a [u8]> + From<BerError>,
