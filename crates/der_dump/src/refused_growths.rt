@@ -30,10 +30,9 @@ impl Page {
 
 impl Write for Page {
     fn write(&mut self, buf: &[u8]) -> io::Result<usize> {
-        let mut n = 0usize;
+        let n = buf.len().min(self.octets.len().saturating_sub(self.len));
         for (place, octet) in self.octets.iter_mut().skip(self.len).zip(buf) {
             *place = *octet;
-            n = n.saturating_add(1);
         }
         self.len = self.len.saturating_add(n);
         Ok(n)
