@@ -13,11 +13,13 @@ use der_parser::ber::{
     ber_object_from_any, ber_read_element_content_as, parse_ber_content, parse_ber_content2,
     parse_ber_explicit_optional, parse_ber_integer, parse_ber_optional, parse_ber_sequence_of,
     parse_ber_sequence_of_v, parse_ber_set_of, parse_ber_set_of_v, parse_ber_tagged_explicit,
+    parse_ber_u32,
 };
 use der_parser::der::{
     der_read_element_content, der_read_element_content_as, parse_der_content, parse_der_content2,
     parse_der_explicit_optional, parse_der_integer, parse_der_optional, parse_der_sequence_of,
     parse_der_sequence_of_v, parse_der_set_of, parse_der_set_of_v, parse_der_tagged_explicit,
+    parse_der_u32,
 };
 use der_parser::error::BerResult;
 use der_parser::oid::Oid;
@@ -242,7 +244,7 @@ fn wants_memory_parse_ber_sequence_of(rt: HostRuntime) -> Result<(), Fail> {
 
 #[test]
 fn wants_memory_parse_ber_sequence_of_v(rt: HostRuntime) -> Result<(), Fail> {
-    let mut list = parse_ber_sequence_of_v(rt.alloc(), |i| parse_ber_integer(i));
+    let mut list = parse_ber_sequence_of_v(rt.alloc(), |i| parse_ber_u32(i));
     let (rest, _) = list.parse(INTEGERS)?;
     assert!(rt; rest.is_empty());
     Ok(())
@@ -258,7 +260,7 @@ fn wants_memory_parse_ber_set_of(rt: HostRuntime) -> Result<(), Fail> {
 
 #[test]
 fn wants_memory_parse_ber_set_of_v(rt: HostRuntime) -> Result<(), Fail> {
-    let mut list = parse_ber_set_of_v(rt.alloc(), |i| parse_ber_integer(i));
+    let mut list = parse_ber_set_of_v(rt.alloc(), |i| parse_ber_u32(i));
     let (rest, _) = list.parse(INTEGER_SET)?;
     assert!(rt; rest.is_empty());
     Ok(())
@@ -298,7 +300,7 @@ fn wants_memory_parse_der_sequence_of(rt: HostRuntime) -> Result<(), Fail> {
 
 #[test]
 fn wants_memory_parse_der_sequence_of_v(rt: HostRuntime) -> Result<(), Fail> {
-    let mut list = parse_der_sequence_of_v(rt.alloc(), |i| parse_der_integer(i));
+    let mut list = parse_der_sequence_of_v(rt.alloc(), |i| parse_der_u32(i));
     let (rest, _) = list.parse(INTEGERS)?;
     assert!(rt; rest.is_empty());
     Ok(())
@@ -314,7 +316,7 @@ fn wants_memory_parse_der_set_of(rt: HostRuntime) -> Result<(), Fail> {
 
 #[test]
 fn wants_memory_parse_der_set_of_v(rt: HostRuntime) -> Result<(), Fail> {
-    let mut list = parse_der_set_of_v(rt.alloc(), |i| parse_der_integer(i));
+    let mut list = parse_der_set_of_v(rt.alloc(), |i| parse_der_u32(i));
     let (rest, _) = list.parse(INTEGER_SET)?;
     assert!(rt; rest.is_empty());
     Ok(())
