@@ -60,7 +60,8 @@ fn by_ber(alloc: Global, item: Item, i: &[u8]) -> (u64, BerResult<'_>) {
 const IN_ORDER: &[(&str, Item, Answer, u64)] = &[
     ("31 00", Item::Number, Read(Set(&[]), ""), 1),
     ("31 03 02 01 05 ff", Item::Number, Read(Set(&[Integer("05")]), "ff"), 2),
-    ("31 09 02 01 01 02 01 01 02 01 02", Item::Number, Read(Set(&[Integer("01"), Integer("01"), Integer("02")]), ""), 4),
+    ("31 09 02 01 01 02 01 01 02 01 02", Item::Number,
+        Read(Set(&[Integer("01"), Integer("01"), Integer("02")]), ""), 4),
     ("31 07 02 01 80 02 02 00 80", Item::Number, Read(Set(&[Integer("80"), Integer("00 80")]), ""), 3),
     ("31 06 04 02 00 00 05 00", Item::Object, Read(Set(&[OctetString("00 00"), Null]), ""), 3),
 ];
@@ -69,8 +70,10 @@ const IN_ORDER: &[(&str, Item, Answer, u64)] = &[
 /// item is called by DER.
 #[rattlefmt::skip]
 const OUT_OF_ORDER: &[(&str, Item, Answer, u64)] = &[
-    ("31 0a 02 03 01 00 01 02 03 01 00 00", Item::Number, Read(Set(&[Integer("01 00 01"), Integer("01 00 00")]), ""), 2),
-    ("31 09 02 01 01 02 01 03 02 01 02", Item::Number, Read(Set(&[Integer("01"), Integer("03"), Integer("02")]), ""), 3),
+    ("31 0a 02 03 01 00 01 02 03 01 00 00", Item::Number,
+        Read(Set(&[Integer("01 00 01"), Integer("01 00 00")]), ""), 2),
+    ("31 09 02 01 01 02 01 03 02 01 02", Item::Number,
+        Read(Set(&[Integer("01"), Integer("03"), Integer("02")]), ""), 3),
     ("31 06 05 00 04 02 00 00", Item::Object, Read(Set(&[Null, OctetString("00 00")]), ""), 2),
 ];
 
