@@ -1,12 +1,12 @@
 //! Refusals, and what a parser answers in place of a value.
-ghost use Rattle.std.specs.Prelude.{◌≡◌, ◌≢◌, None};
+ghost use Rattle.std.specs.Prelude.{◌≡◌, ◌≢◌, None, Some};
 ghost use Rattle.der_base.specs.Errors.{RefusesCutItem, MapsError};
 ghost use Rattle.der_base.specs.declared.error.Err.TheVariants.{Error as an_error, OutOfMemory as out_of_memory};
 ghost use Rattle.der_base.specs.declared.error.Error.TheVariants.{NomError};
 
 use crate::header::{Class, Tag};
 use std::alloc::{AllocError, AllocFailed};
-use std::{fmt, io};
+use std::{error, fmt, io};
 
 /// What a parser answers in place of a value.
 #[derive(Debug, PartialEq, Drop)]
@@ -82,6 +82,24 @@ impl<T: Drop, E> From<AllocFailed<T>> for Err<E> {
         Err::OutOfMemory
     }
 }
+
+/// The error, or what there was not enough of.
+impl<E: fmt::Display> fmt::Display for Err<E> {
+    ghost use Rattle.der_base.specs.Errors.{err_text};
+
+    ghost output = { err_text E.Display.output };
+
+    fn fmt<W: fmt::Write>(&self, f: &mut fmt::Formatter<W>) -> fmt::Result {
+        match self {
+            Err::Incomplete(needed) => write!(f, "incomplete{}", Needs(*needed)),
+            Err::Error(e) => write!(f, "{e}"),
+            Err::Failure(e) => write!(f, "{e}"),
+            Err::OutOfMemory => write!(f, "out of memory"),
+        }
+    }
+}
+
+impl<E: fmt::Debug + fmt::Display + Drop> error::Error for Err<E> {}
 
 /// How many octets an input that is cut short lacks, as far as it shows.
 #[derive(Clone, Copy, Debug, PartialEq)]
@@ -270,6 +288,10 @@ impl<T: fmt::Display> fmt::Display for OrAny<T> {
 struct Needs(Needed);
 
 impl fmt::Display for Needs {
+    ghost use Rattle.der_base.specs.Errors.{needs_text};
+
+    ghost output = { λ x. Some (needs_text x.0) };
+
     fn fmt<W: fmt::Write>(&self, f: &mut fmt::Formatter<W>) -> fmt::Result {
         match self.0 {
             Needed::Unknown => Ok(()),

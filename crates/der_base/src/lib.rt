@@ -11,6 +11,7 @@ pub mod integer;
 pub mod laws;
 mod length;
 pub mod oid;
+mod oid_text;
 pub mod spans;
 pub mod text;
 pub mod time;

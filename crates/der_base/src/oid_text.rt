@@ -1,0 +1,62 @@
+//! The text of object identifiers.
+ghost use Rattle.std.specs.Prelude.{◌≡◌, ◌<◌, ◌++◌, codes, decimal, Some};
+ghost use Rattle.std.specs.Fmt.{DisplaysOnOk};
+ghost use Rattle.der_base.specs.Arcs.{arcs};
+ghost use Rattle.der_base.specs.Oids.{arcs_left, is_relative_of, octets_of};
+ghost use Rattle.der_base.specs.Pretty.{arcs_text, dotted, hex, hex_digit, hex_pair, pointed, spaced_hex};
+
+use crate::oid::{Oid, OidIter};
+use std::fmt;
+
+/// The arcs with points between them, as in `1.2.840.113549`; of an identifier that has none (X.690
+/// 8.19.2), its octets in hexadecimal, as in `[2a 86]`.
+impl fmt::Display for Oid<'_> {
+    ghost output = { λ o. Some (arcs_text (arcs (is_relative_of o) (octets_of o)) (octets_of o)) };
+
+    fn fmt<W: fmt::Write>(&self, f: &mut fmt::Formatter<W>) -> fmt::Result {
+        match self.iter() {
+            Some(arcs) => write_arcs(f, arcs),
+            None => write_hex(f, self.as_bytes()),
+        }
+    }
+}
+
+/// Writes arcs with points between them.
+fn write_arcs<W: fmt::Write>(f: &mut fmt::Formatter<W>, mut arcs: OidIter<'_>) -> fmt::Result
+    ensures { DisplaysOnOk W.Write.write_str_gives f.old result (Some (dotted (arcs_left arcs.entry))) f.new }
+{
+    let Some(first) = arcs.next() else {
+        return Ok(());
+    };
+    write!(f, "{first}")?;
+    for arc in arcs {
+        write!(f, ".{arc}")?;
+    }
+    Ok(())
+}
+
+/// Writes octets in hexadecimal.
+fn write_hex<W: fmt::Write>(f: &mut fmt::Formatter<W>, octets: &[u8]) -> fmt::Result
+    ensures { DisplaysOnOk W.Write.write_str_gives f.old result (Some (hex octets.now)) f.new }
+{
+    let [first, others @ ..] = octets else {
+        return f.write_str("[]");
+    };
+    write!(f, "[{}", HexPair(*first))?;
+    for octet in others {
+        write!(f, " {}", HexPair(*octet))?;
+    }
+    f.write_str("]")
+}
+
+/// An octet as two hexadecimal digits.
+#[derive(Clone, Copy)]
+struct HexPair(u8);
+
+impl fmt::Display for HexPair {
+    ghost output = { λ x. Some (hex_pair x.0) };
+
+    fn fmt<W: fmt::Write>(&self, f: &mut fmt::Formatter<W>) -> fmt::Result {
+        write!(f, "{:02x}", self.0)
+    }
+}
