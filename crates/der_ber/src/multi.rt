@@ -441,7 +441,8 @@ impl<F> BerSetDefined<F> {
 }
 
 /// Reads the content octets of an element of this tag number, of any class, constructed or not, as
-/// they stand, and answers what follows the element. An end marker is no part of a content of indefinite length.
+/// they stand, and answers what follows the element. An end marker is no part of a content of
+/// indefinite length.
 ///
 /// Refusals, in this order: those of `BerContainer::parse`; UnexpectedTag where the number is
 /// another one. Incomplete where the input ends within the header, or within the content of an
