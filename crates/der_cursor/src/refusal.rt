@@ -1,5 +1,5 @@
 //! Refusals with the place where they stand.
-use der_parser::error::{Err as Refused, Needed};
+use der_base::error::{Err as Refused, Needed};
 use std::error::Error;
 use std::fmt;
 
