@@ -34,7 +34,7 @@ part_stands i a b c d s q e = record {
   octets = s.octets ∙ ap (λ x. s.front ++ x ++ s.behind) q ∙ regroup s.front a (octets_left d) b s.behind;
   place =
       let n : length (octets_left c) ≡ length a + (length (octets_left d) + length b) =
-          ap length q ∙ length-append a (octets_left d ++ b) ∙ ap (λ x. length a + x) (length-append (octets_left d) b) in
+      ap length q ∙ length-append a (octets_left d ++ b) ∙ ap (λ x. length a + x) (length-append (octets_left d) b) in
       let m = length-append s.front a in
       omega (arith, s.place, e, n, m);
 }
@@ -50,7 +50,8 @@ opened_stand i class p t old new (Ok inner) s o =
     let head = identifier class p t ++ shortest_length (length (octets_left inner)) in
     let q : octets_left old ≡ head ++ (octets_left inner ++ octets_left new) = o.element.found.octets in
     let q' : octets_left old ≡ head ++ octets_left inner ++ (octets_left new ++ []) =
-        q ∙ sym (append_assoc head (octets_left inner) (octets_left new)) ∙ ap (λ x. head ++ octets_left inner ++ x) (sym (append-nil (octets_left new))) in
-    (part_stands i (head ++ octets_left inner) [] old new s q' (o.places.0 ∙ nothing_less (end_of old)),
-    part_stands i head (octets_left new) old inner s q (o.places.1 ∙ ap (λ x. x - length (octets_left new)) o.places.0))
+    q ∙ sym (append_assoc head (octets_left inner) (octets_left new)) ∙ ap (λ x. head ++ octets_left inner ++ x) (sym (append-nil (octets_left new))) in (
+      part_stands i (head ++ octets_left inner) [] old new s q' (o.places.0 ∙ nothing_less (end_of old)),
+      part_stands i head (octets_left new) old inner s q (o.places.1 ∙ ap (λ x. x - length (octets_left new)) o.places.0),
+    )
 opened_stand i class p t old new (Err e) s o = (subst (λ c. StandsIn i c) (sym o.places.1) s, tt)

@@ -1,6 +1,8 @@
 -- Cursors: the octets of a content that aren't read yet, and where in the input they stand.
 use Rattle.std.specs.Borrow.{Bor}
-use Rattle.std.specs.Prelude.{◌≡◌, ◌≢◌, ℕ, ◌+◌, ◌-◌, Bool, true, Option, Some, None, List, [], ◌++◌, length, Result, Ok, Err}
+use Rattle.std.specs.Prelude.{◌≡◌, ◌≢◌, ℕ, ◌+◌, ◌-◌, Bool, true, Option, Some, None, List, [], ◌++◌, length}
+use Rattle.std.specs.Prelude.{Result, Ok, Err, codes, decimal}
+use Rattle.std.specs.Option.{option_map}
 use Rattle.der_base.specs.declared.error.Err.{Err as Refused}
 use Rattle.der_base.specs.declared.error.Err.TheVariants.{Error}
 use Rattle.der_base.specs.declared.error.Error.{Error as BerError}
@@ -10,6 +12,7 @@ use Rattle.der_base.specs.declared.header.Class.{Class}
 use Rattle.der_base.specs.declared.header.Class.TheVariants.{ContextSpecific}
 use Rattle.der_base.specs.Any.{DerAnyLacks}
 use Rattle.der_base.specs.Containers.{Answered}
+use Rattle.der_base.specs.Errors.{err_text}
 use Rattle.der_base.specs.Exactly.{AnswersExactly}
 use Rattle.der_cursor.specs.declared.cursor.Cursor.{Cursor}
 use Rattle.der_cursor.specs.declared.refusal.Refusal.{Refusal}
@@ -38,9 +41,10 @@ pub record StandsIn (i : List ℕ) (c : Cursor) : Type 0 where
   pub octets : i ≡ front ++ octets_left c ++ behind
   pub place : end_of c ≡ length front + length (octets_left c)
 
--- What a parser answers on the octets left: its value, and then they are what it left, or its refusal at the place where
--- it was called, and then the cursor stays. `gives` says what it may answer.
-abbrev pub Reads : {O E : Type 0} → (Bor (List ℕ) → Answered O E → Type 0) → Cursor → Result O (Refusal E) → Cursor → Type 0
+-- What a parser answers on the octets left: its value, and then they are what it left, or its refusal at the place
+-- where it was called, and then the cursor stays. `gives` says what it may answer.
+abbrev pub Reads : {O E : Type 0} → (Bor (List ℕ) → Answered O E → Type 0) → Cursor → Result O (Refusal E) → Cursor
+    → Type 0
 Reads gives old (Ok v) new = (rest : Bor (List ℕ)) × gives old.left (Ok (rest, v)) × (new ≡ record old { left = rest })
 Reads gives old (Err e) new = gives old.left (Err e.reason) × (e.offset ≡ place_of old) × (new ≡ old)
 
@@ -78,3 +82,8 @@ OpensTagged n old (Err e) new = BeginsWithTag n (octets_left old) × OpensAt Con
 abbrev pub EndsAt : Cursor → Result (Unit {0}) (Refusal BerError) → Type 0
 EndsAt c (Ok u) = octets_left c ≡ []
 EndsAt c (Err e) = (octets_left c ≢ []) × (e ≡ record { offset = place_of c; reason = Error (NomError Eof) })
+
+-- the text of a refusal, where its reason has one
+abbrev pub refusal_text : {E : Type 0} → (E → Option (List ℕ)) → Refusal E → Option (List ℕ)
+refusal_text shown e =
+    option_map (λ reason. codes "at " ++ decimal e.offset ++ codes ": " ++ reason) (err_text shown e.reason)

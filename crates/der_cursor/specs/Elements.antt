@@ -35,7 +35,8 @@ ElementRefuses c p t i e = DerHeaderRefuses i e
     ⊎ ((k : Class) × (q : Bool) × (n : ℕ) × (v : List ℕ × List ℕ) × SpellsElement k q n i v × IsOther c p t k q n e)
 
 -- a reader of content octets answers exactly those of such an element, and takes no memory
-abbrev pub AnswersElement : Class → Bool → ℕ → List ℕ → Result (Bor (List ℕ) × Bor (List ℕ)) (Refused BerError) → Type 0
+abbrev pub AnswersElement : Class → Bool → ℕ → List ℕ → Result (Bor (List ℕ) × Bor (List ℕ)) (Refused BerError)
+    → Type 0
 AnswersElement c p t i result = AnswersExactly result leading_content (λ x. SpellsElement c p t i (leading_content x))
     (SpellsElement c p t i) (ElementRefuses c p t i) (DerAnyLacks i) ⊥ ⊥
 

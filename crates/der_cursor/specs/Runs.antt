@@ -14,8 +14,8 @@ abbrev pub values_of : {O E : Type 0} → Result (Vec O) (Refusal E) → Result 
 values_of (Ok v) = Ok v.items
 values_of (Err e) = Err e
 
--- `step` is what the reader promises of a call: its state and the cursor, its answer, and the cursor and the state behind
--- the call.
+-- `step` is what the reader promises of a call: its state and the cursor, its answer, and the cursor and the state
+-- behind the call.
 module _ {F O E : Type 0} (step : F → MutBor Cursor → Result O (Refusal E) → MutBor Cursor → F → Type 0) where
   -- one call, at the cursor b, which goes on as d
   abbrev pub CallsAt : F → Cursor → Result O (Refusal E) → Cursor → F → Type 0
