@@ -1,5 +1,5 @@
 //! What is asked of an object: its parts, its header, its items, and copies of it.
-use crate::accessor_rows::Part::{BitString, Bool, Identifier, Octets, Sequence, Set, Text};
+use crate::accessor_rows::Part::{BitString, Bool, Identifier, Octets, Sequence, Set, Text, Time};
 use der_parser::ber::{BerObject, BerObjectContent, Class, Tag};
 use der_parser::error::Err as Refused;
 use der_parser::error::Error::BerTypeError;
@@ -25,6 +25,8 @@ enum Part<'a> {
     Sequence(usize),
     /// `as_set`: how many items.
     Set(usize),
+    /// `as_datetime`: the year.
+    Time(u32),
 }
 
 /// An element, and the parts that its object has.
@@ -46,8 +48,8 @@ const PARTS: &[(&[u8], &[Part])] = &[
     (b"\x14\x01\x61", &[Text("a"), Octets(b"a")]),
     (b"\x15\x01\x61", &[Text("a"), Octets(b"a")]),
     (b"\x16\x01\x40", &[Text("@"), Octets(b"@")]),
-    (b"\x17\x0d200101000000Z", &[]),
-    (b"\x18\x0f20200101000000Z", &[]),
+    (b"\x17\x0d200101000000Z", &[Time(20)]),
+    (b"\x18\x0f20200101000000Z", &[Time(2020)]),
     (b"\x19\x01\x61", &[Text("a"), Octets(b"a")]),
     (b"\x1a\x01\x61", &[Text("a"), Octets(b"a")]),
     (b"\x1b\x01\x61", &[Text("a"), Octets(b"a")]),
@@ -92,6 +94,7 @@ fn expect_part(rt: &impl Abort, object: &BerObject<'_>, part: &Part<'_>) {
             );
         }
         Set(count) => assert!(rt; object.as_set().is_ok_and(|items| items.len() == *count)),
+        Time(year) => assert!(rt; object.as_datetime().is_ok_and(|time| time.year == *year)),
     }
 }
 
@@ -105,6 +108,7 @@ fn part_count(object: &BerObject<'_>) -> usize {
         object.as_slice().is_ok(),
         object.as_sequence().is_ok(),
         object.as_set().is_ok(),
+        object.as_datetime().is_ok(),
     ];
     given.iter().filter(|is_given| **is_given).count()
 }
@@ -137,6 +141,7 @@ fn no_memory_for_a_part_of_null(rt: HostRuntime) {
     assert_eq!(rt; object.as_slice().err(), Some(BerTypeError));
     assert_eq!(rt; object.as_sequence().err(), Some(BerTypeError));
     assert_eq!(rt; object.as_set().err(), Some(BerTypeError));
+    assert_eq!(rt; object.as_datetime().err(), Some(BerTypeError));
 }
 
 /// The octets that stand in an object's items, one after another, by each way to go over them.

@@ -1,9 +1,17 @@
 //! The cursor.
+ghost use Rattle.std.specs.Prelude.{◌≡◌, ◌↔◌, true, false, IsTrue, length, slice_get};
+ghost use Rattle.der_base.specs.Answer.{MatchAnswer};
+ghost use Rattle.der_base.specs.Any.{DerAnyLacks, leading_content};
+ghost use Rattle.der_base.specs.declared.header.Class.{Class};
+ghost use Rattle.der_cursor.specs.Cursors.{octets_left, place_of, IsCursor};
+ghost use Rattle.der_cursor.specs.Cursors.{Reads, OpensAt, OpensTagged, EndsAt};
+ghost use Rattle.der_cursor.specs.Runs.{ReadsAll, values_of};
+ghost use Rattle.der_cursor.specs.Elements.{AnswersElement, BeginsWithTag, ElementRefuses, SpellsElement};
+
 use crate::refusal::Refusal;
-use der_parser::IResult;
-use der_parser::ber::Any;
-use der_parser::der::{Class, Tag};
-use der_parser::error::{BerError, Err as Refused, ErrorKind, ParseError};
+use der_base::any::Any;
+use der_base::error::{BerError, Err as Refused, ErrorKind, IResult, ParseError};
+use der_base::header::{Class, Tag};
 use std::alloc::Global;
 
 /// The octets of a content that aren't read yet, and where the content ends in the input.
@@ -15,39 +23,45 @@ pub struct Cursor<'a> {
 
 impl<'a> Cursor<'a> {
     /// A cursor in front of an input.
-    pub fn new(input: &'a [u8]) -> Cursor<'a> {
+    pub fn new(input: &'a [u8]) -> Cursor<'a>
+        ensures { IsCursor result input.now (length input.now) }
+    {
         Cursor {
             left: input,
             end: input.len(),
         }
     }
 
-    /// How many octets of the input stand in front.
-    pub fn offset(&self) -> usize {
+    /// How many octets of the input stand in front, where each parser that was called left an end
+    /// of its input.
+    pub fn offset(&self) -> usize
+        ensures { result ≡ place_of self.now }
+    {
         self.end.saturating_sub(self.left.len())
     }
 
     /// The octet that the next element begins with: its identifier octet where its tag number is
     /// below 31 (X.690 8.1.2). So an element is told that may be absent.
-    pub fn identifier(&self) -> Option<u8> {
+    pub fn identifier(&self) -> Option<u8>
+        ensures { result ≡ slice_get (octets_left self.now) 0 }
+    {
         self.left.first().copied()
     }
 
-    /// Reads what the parser reads.
+    /// Reads what the parser reads. A refusal has the place where the parser was called, and then
+    /// the cursor stays there.
     pub fn read<O, F, E>(&mut self, parser: F) -> Result<O, Refusal<E>>
     where
         F: FnOnce(&'a [u8]) -> IResult<&'a [u8], O, E>,
         requires { F.IsAlwaysCallable parser }
+        ensures { Reads (F.post parser) self.old result self.new }
     {
         match parser(self.left) {
             Ok((rest, value)) => {
                 self.left = rest;
                 Ok(value)
             }
-            Err(reason) => Err(Refusal {
-                offset: self.offset(),
-                reason,
-            }),
+            Err(reason) => Err(self.refused(reason)),
         }
     }
 
@@ -56,16 +70,14 @@ impl<'a> Cursor<'a> {
     where
         F: FnOnce(Global, &'a [u8]) -> IResult<&'a [u8], O, E>,
         requires { F.IsAlwaysCallable parser }
+        ensures { Reads (F.post parser alloc) self.old result self.new }
     {
         match parser(alloc, self.left) {
             Ok((rest, value)) => {
                 self.left = rest;
                 Ok(value)
             }
-            Err(reason) => Err(Refusal {
-                offset: self.offset(),
-                reason,
-            }),
+            Err(reason) => Err(self.refused(reason)),
         }
     }
 
@@ -77,62 +89,82 @@ impl<'a> Cursor<'a> {
         O: Drop,
         E: ParseError<&'a [u8]>,
         requires { F.IsAlwaysCallable read }
+        ensures { ReadsAll (λ f c r d g. F.step f alloc c r d g) E.from_error_kind_gives read self.entry
+            (values_of result) }
     {
         let mut values = Vec::new(alloc);
         let mut cursor = self;
         while !cursor.left.is_empty() {
-            let count = cursor.left.len();
+            let before = cursor;
             let value = match read(alloc, &mut cursor) {
                 Ok(value) => value,
                 Err(e) => return Err(e),
             };
-            if cursor.left.len() >= count {
-                let e = E::from_error_kind(cursor.left, ErrorKind::Many0);
-                return Err(cursor.refused(Refused::Error(e)));
+            if cursor.left.len() >= before.left.len() {
+                let e = E::from_error_kind(before.left, ErrorKind::Many0);
+                return Err(before.refused(Refused::Error(e)));
             }
             if values.push(value).is_err() {
-                return Err(cursor.refused(Refused::OutOfMemory));
+                return Err(before.refused(Refused::OutOfMemory));
             }
         }
         Ok(values)
     }
 
     /// A cursor over the items of the next element, which has to be a SEQUENCE (8.9).
-    pub fn open_sequence(&mut self) -> Result<Cursor<'a>, Refusal<BerError>> {
+    pub fn open_sequence(&mut self) -> Result<Cursor<'a>, Refusal<BerError>>
+        ensures { OpensAt Class.Universal true 16 self.old result self.new }
+    {
         self.open(Class::Universal, true, Tag::Sequence)
     }
 
     /// A cursor over what the next element holds, which has to be an OCTET STRING (8.7).
-    pub fn open_octet_string(&mut self) -> Result<Cursor<'a>, Refusal<BerError>> {
+    pub fn open_octet_string(&mut self) -> Result<Cursor<'a>, Refusal<BerError>>
+        ensures { OpensAt Class.Universal false 4 self.old result self.new }
+    {
         self.open(Class::Universal, false, Tag::OctetString)
     }
 
     /// A cursor over what stands inside the next element, where that is an explicit tag of this
-    /// number below 31 (8.14.2), and None where it is another, or there is none.
-    pub fn open_tagged(&mut self, number: u8) -> Result<Option<Cursor<'a>>, Refusal<BerError>> {
-        if self.identifier() != Some(0xa0 | number) {
+    /// number (8.14.2), and None where it is another, or there is none.
+    pub fn open_tagged(&mut self, number: u8) -> Result<Option<Cursor<'a>>, Refusal<BerError>>
+        ensures { OpensTagged number self.old result self.new }
+    {
+        if !begins_with_tag(self.left, number) {
             return Ok(None);
         }
-        let tag = Tag(u32::from(number));
-        Ok(Some(self.open(Class::ContextSpecific, true, tag)?))
+        match self.open(Class::ContextSpecific, true, Tag(u32::from(number))) {
+            Ok(inner) => Ok(Some(inner)),
+            Err(e) => Err(e),
+        }
     }
 
     /// A cursor over the content of the next element, which has to have this class, constructed bit
-    /// and tag number.
+    /// and tag number. Refusals are those of `Any::from_der`, then UnexpectedClass, UnexpectedTag,
+    /// and ConstructExpected or ConstructUnexpected.
     pub fn open(
         &mut self,
         class: Class,
         constructed: bool,
         tag: Tag,
-    ) -> Result<Cursor<'a>, Refusal<BerError>> {
-        let left = self.read(|i| parse_content(i, class, constructed, tag))?;
-        // The content ends where the next element begins.
-        let end = self.offset();
-        Ok(Cursor { left, end })
+    ) -> Result<Cursor<'a>, Refusal<BerError>>
+        ensures { OpensAt class constructed tag.0 self.old result self.new }
+    {
+        match parse_content(self.left, class, constructed, tag) {
+            Ok((rest, left)) => {
+                self.left = rest;
+                // The content ends where the next element begins.
+                let end = self.offset();
+                Ok(Cursor { left, end })
+            }
+            Err(reason) => Err(self.refused(reason)),
+        }
     }
 
     /// Ends a list: no element may be left.
-    pub fn end(self) -> Result<(), Refusal<BerError>> {
+    pub fn end(self) -> Result<(), Refusal<BerError>>
+        ensures { EndsAt self.entry result }
+    {
         if !self.left.is_empty() {
             return Err(self.refused(Refused::Error(BerError::NomError(ErrorKind::Eof))));
         }
@@ -140,7 +172,9 @@ impl<'a> Cursor<'a> {
     }
 
     /// The refusal of the next element.
-    fn refused<E>(&self, reason: Refused<E>) -> Refusal<E> {
+    fn refused<E>(&self, reason: Refused<E>) -> Refusal<E>
+        ensures { result ≡ record { offset = place_of self.now; reason = reason } }
+    {
         Refusal {
             offset: self.offset(),
             reason,
@@ -149,12 +183,29 @@ impl<'a> Cursor<'a> {
 }
 
 /// Reads the content octets of an element of this class, constructed bit and tag number.
-fn parse_content<'a>(
+pub(crate) fn parse_content<'a>(
     i: &'a [u8],
     class: Class,
     constructed: bool,
     tag: Tag,
-) -> IResult<&'a [u8], &'a [u8], BerError> {
+) -> IResult<&'a [u8], &'a [u8], BerError>
+    ensures { AnswersElement class constructed tag.0 i.now result }
+{
+    read_content(i, class, constructed, tag)
+}
+
+fn read_content<'a>(
+    i: &'a [u8],
+    class: Class,
+    constructed: bool,
+    tag: Tag,
+) -> IResult<&'a [u8], &'a [u8], BerError>
+    ensures { MatchAnswer result
+        (λ x. SpellsElement class constructed tag.0 i.now (leading_content x))
+        (ElementRefuses class constructed tag.0 i.now)
+        (DerAnyLacks i.now)
+        ⊥ }
+{
     let (rest, any) = Any::from_der(i)?;
     any.header.assert_class(class)?;
     any.header.assert_tag(tag)?;
@@ -164,4 +215,15 @@ fn parse_content<'a>(
         any.header.assert_primitive()?;
     }
     Ok((rest, any.bytes))
+}
+
+/// Whether the identifier octets of an explicit tag of this number are next (8.1.2).
+fn begins_with_tag(left: &[u8], number: u8) -> bool
+    ensures { IsTrue result ↔ BeginsWithTag number left.now }
+{
+    match number {
+        0..31 => left.starts_with(&[0xa0 + number]),
+        31..128 => left.starts_with(&[0xbf, number]),
+        _ => left.starts_with(&[0xbf, 0x81, number - 128]),
+    }
 }

@@ -3,9 +3,10 @@
 #![tactic(auto)]
 
 mod cursor;
+pub mod laws;
 mod refusal;
 mod values;
 
 pub use cursor::Cursor;
 pub use refusal::Refusal;
-pub use values::{Dotted, identifier_of, parse_bits, parse_bool, parse_identifier, time_of};
+pub use values::{identifier_of, parse_bits, parse_identifier};

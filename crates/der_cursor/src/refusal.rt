@@ -1,5 +1,5 @@
 //! Refusals with the place where they stand.
-use der_parser::error::{Err as Refused, Needed};
+use der_base::error::Err as Refused;
 use std::error::Error;
 use std::fmt;
 
@@ -11,15 +11,14 @@ pub struct Refusal<E> {
     pub reason: Refused<E>,
 }
 
+/// The place, and the reason.
 impl<E: fmt::Display> fmt::Display for Refusal<E> {
+    ghost use Rattle.der_cursor.specs.Cursors.{refusal_text};
+
+    ghost output = { refusal_text E.Display.output };
+
     fn fmt<W: fmt::Write>(&self, f: &mut fmt::Formatter<W>) -> fmt::Result {
-        write!(f, "at {}: ", self.offset)?;
-        match &self.reason {
-            Refused::Error(e) | Refused::Failure(e) => write!(f, "{e}"),
-            Refused::Incomplete(Needed::Size(n)) => write!(f, "incomplete, needs {n}"),
-            Refused::Incomplete(Needed::Unknown) => write!(f, "incomplete"),
-            Refused::OutOfMemory => write!(f, "out of memory"),
-        }
+        write!(f, "at {}: {}", self.offset, self.reason)
     }
 }
 

@@ -1,67 +1,50 @@
 //! Values of single types, where the readers of the library answer objects. None of these calls takes
 //! memory.
-use der_parser::IResult;
-use der_parser::ber::{ASN1DateTime, Any, BerObjectContent, BitStringObject};
-use der_parser::der::{Tag, parse_der_bitstring, parse_der_bool};
-use der_parser::error::BerError;
-use der_parser::oid::Oid;
+ghost use Rattle.der_cursor.specs.Values.{AnswersBits, AnswersIdentifier, MakesIdentifier};
+
+use crate::cursor::parse_content;
+use der_base::error::{BerError, Err as Refused, IResult};
+use der_base::header::{Class, Tag};
+use der_base::oid::Oid;
+use der_der::parse_der_bitstring;
+use der_object::BitStringObject;
 use std::borrow::CowSlice;
-use std::fmt;
 
-/// Reads the value of a BOOLEAN (X.690 8.2).
-pub fn parse_bool(i: &[u8]) -> IResult<&[u8], bool, BerError> {
-    let (rest, object) = parse_der_bool(i)?;
-    Ok((rest, object.as_bool()?))
-}
-
-/// Reads the octets of a BIT STRING (8.6).
-pub fn parse_bits<'a>(i: &'a [u8]) -> IResult<&'a [u8], BitStringObject<'a>, BerError> {
-    let (rest, object) = parse_der_bitstring(i)?;
-    Ok((rest, object.as_bitstring()?))
+/// Reads the octets of a BIT STRING (X.690 8.6, 11.2.1), as `parse_der_bitstring`.
+pub fn parse_bits<'a>(i: &'a [u8]) -> IResult<&'a [u8], BitStringObject<'a>, BerError>
+    ensures { AnswersBits i.now result }
+{
+    let (rest, object) = match parse_der_bitstring(i) {
+        Ok(read) => read,
+        Err(e) => return Err(e),
+    };
+    match object.as_bitstring() {
+        Ok(bits) => return Ok((rest, bits)),
+        Err(e) => return Err(Refused::Error(e)),
+    }
 }
 
 /// Reads an OBJECT IDENTIFIER that has arcs (8.19). BerValueError where it has none.
-pub fn parse_identifier<'a>(i: &'a [u8]) -> IResult<&'a [u8], Oid<'a>, BerError> {
-    let (rest, any) = Any::from_der(i)?;
-    any.header.assert_tag(Tag::Oid)?;
-    any.header.assert_primitive()?;
-    Ok((rest, identifier_of(any.bytes)?))
+pub fn parse_identifier<'a>(i: &'a [u8]) -> IResult<&'a [u8], Oid<'a>, BerError>
+    ensures { AnswersIdentifier i.now result }
+{
+    let (rest, octets) = match parse_content(i, Class::Universal, false, Tag::Oid) {
+        Ok(read) => read,
+        Err(e) => return Err(e),
+    };
+    match identifier_of(octets) {
+        Ok(oid) => return Ok((rest, oid)),
+        Err(e) => return Err(Refused::Error(e)),
+    }
 }
 
 /// The identifier that has these content octets, where it has arcs. BerValueError otherwise.
-pub fn identifier_of(octets: &[u8]) -> Result<Oid<'_>, BerError> {
+pub fn identifier_of(octets: &[u8]) -> Result<Oid<'_>, BerError>
+    ensures { MakesIdentifier octets.now result }
+{
     let oid = Oid::new(CowSlice::Borrowed(octets));
     if oid.iter().is_none() {
         return Err(BerError::BerValueError);
     }
     Ok(oid)
-}
-
-/// The fields of a UTCTime or a GeneralizedTime (8.25, 8.26).
-pub fn time_of(content: &BerObjectContent<'_>) -> Result<ASN1DateTime, BerError> {
-    match content {
-        BerObjectContent::UTCTime(time) | BerObjectContent::GeneralizedTime(time) => Ok(*time),
-        _ => Err(BerError::BerTypeError),
-    }
-}
-
-/// The arcs of an identifier, with a point between them.
-#[derive(Clone, Copy)]
-pub struct Dotted<'r, 'a>(pub &'r Oid<'a>);
-
-impl fmt::Display for Dotted<'_, '_> {
-    fn fmt<W: fmt::Write>(&self, f: &mut fmt::Formatter<W>) -> fmt::Result {
-        let Some(arcs) = self.0.iter() else {
-            return Ok(());
-        };
-        let mut behind_another = false;
-        for arc in arcs {
-            if behind_another {
-                f.write_str(".")?;
-            }
-            write!(f, "{arc}")?;
-            behind_another = true;
-        }
-        Ok(())
-    }
 }

@@ -9,9 +9,10 @@ use Rattle.std.specs.declared.alloc.Global.{Global}
 use Rattle.der_base.specs.declared.error.Error.{Error as BerError}
 use Rattle.der_base.specs.declared.header.Class.{Class}
 use Rattle.der_base.specs.declared.header.Tag.{Tag}
+use Rattle.der_base.specs.declared.time.ASN1DateTime.{ASN1DateTime}
 use Rattle.der_base.specs.Oids.{IsBorrowed}
 use Rattle.der_base.specs.Parts.{AnswersPart, optional_part, tagged_part}
-use Rattle.der_base.specs.Tree.{Node, Content, Nodes}
+use Rattle.der_base.specs.Tree.{Node, Content, Nodes, time}
 use Rattle.der_object.specs.declared.object.BerObject.{BerObject}
 use Rattle.der_object.specs.declared.object.BerObjectContent.{BerObjectContent, items-the_row-BerObject}
 use Rattle.der_object.specs.declared.object.BerObjectContent.{Held-BerObjectContent-Optional-0, None', Some'}
@@ -63,6 +64,11 @@ pub record AnswersOptional (x : BerObjectContent) (result : Result (Option (Bor 
 pub record AnswersTagged (x : BerObjectContent) (result : Result (Class × Tag × Bor BerObject) BerError) : Type 0 where
   pub part : AnswersPart (λ r. (r.0, r.1.0, tree r.2.now)) (tagged_part (content_tree x)) result
   pub object : IfOk result (λ r. Some r.2.now ≡ inner_object x)
+
+-- the fields of a UTCTime or a GeneralizedTime (X.690 8.25)
+abbrev pub time_part : Content → Option ASN1DateTime
+time_part (time k t) = Some t
+time_part _ = None
 
 -- an identifier that owns its octets, which a copy takes memory for
 abbrev pub OwnsIdentifier : BerObjectContent → Type 0

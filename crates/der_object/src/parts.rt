@@ -3,7 +3,7 @@
 ghost use Rattle.der_base.specs.Oids.{octets_of, is_relative_of};
 ghost use Rattle.der_base.specs.Parts.{AnswersPart, AnswersPartOr, boolean_part, identifier_part};
 ghost use Rattle.der_base.specs.Parts.{bits_part, text_part, octets_part, sequence_part, set_part};
-ghost use Rattle.der_object.specs.Items.{AnswersItems, AnswersOptional, AnswersTagged, OwnsIdentifier};
+ghost use Rattle.der_object.specs.Items.{AnswersItems, AnswersOptional, AnswersTagged, OwnsIdentifier, time_part};
 ghost use Rattle.der_object.specs.View.{content_tree};
 
 use crate::bit_string::BitStringObject;
@@ -11,6 +11,7 @@ use crate::object::{BerObject, BerObjectContent};
 use der_base::error::{BerError, Err};
 use der_base::header::{Class, Tag};
 use der_base::oid::Oid;
+use der_base::time::ASN1DateTime;
 use std::alloc::Global;
 
 impl<'a> BerObjectContent<'a> {
@@ -41,6 +42,16 @@ impl<'a> BerObjectContent<'a> {
     {
         match self {
             BerObjectContent::BitString(_, bits) => Ok(bits),
+            _ => Err(BerError::BerTypeError),
+        }
+    }
+
+    /// The fields of a UTCTime or a GeneralizedTime (8.25).
+    pub fn as_datetime(&self) -> Result<ASN1DateTime, BerError>
+        ensures { AnswersPart (λ t. t) (time_part (content_tree self.now)) result }
+    {
+        match self {
+            BerObjectContent::UTCTime(time) | BerObjectContent::GeneralizedTime(time) => Ok(*time),
             _ => Err(BerError::BerTypeError),
         }
     }
@@ -208,6 +219,13 @@ impl<'a> BerObject<'a> {
         ensures { AnswersTagged self.now.content result }
     {
         self.content.as_tagged()
+    }
+
+    /// The fields of a UTCTime or a GeneralizedTime (8.25).
+    pub fn as_datetime(&self) -> Result<ASN1DateTime, BerError>
+        ensures { AnswersPart (λ t. t) (time_part (content_tree self.now.content)) result }
+    {
+        self.content.as_datetime()
     }
 
     /// The text of a character string that is kept as one (8.23, 8.25): not of a BMPString or a

@@ -55,3 +55,8 @@ pub use Rattle.der_der.specs.DerContents
 pub use Rattle.der_der.specs.DerReading
 pub use Rattle.der_der.specs.DerSlices
 pub use Rattle.der_der.specs.Laws as DerLaws
+pub use Rattle.der_cursor.specs.Cursors
+pub use Rattle.der_cursor.specs.Elements
+pub use Rattle.der_cursor.specs.Laws as CursorLaws
+pub use Rattle.der_cursor.specs.Runs
+pub use Rattle.der_cursor.specs.Values

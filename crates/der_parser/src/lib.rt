@@ -90,6 +90,11 @@ pub mod der {
     pub use der_object::{DerObject, DerObjectContent};
 }
 
+/// Reading field after field by DER, with the place of a refusal.
+pub mod cursor {
+    pub use der_cursor::{Cursor, Refusal, identifier_of, parse_bits, parse_identifier};
+}
+
 /// Object identifiers.
 pub mod oid {
     pub use der_base::error::OidParseError;
@@ -109,6 +114,7 @@ pub mod laws {
         spellings_are_one, tag_numbers_are_shortest, unused_bits_are_last,
     };
     pub use der_ber::laws::written_is_read_back;
+    pub use der_cursor::laws::places_are_exact;
     pub use der_der::laws::written_is_what_was_read;
     pub use der_object::laws::equals_have_one_tree;
 }

@@ -1,5 +1,5 @@
 //! Why a request is refused.
-use der_cursor::Refusal;
+use der_parser::cursor::Refusal;
 use der_parser::error::{BerError, ErrorKind, ParseError};
 
 /// A refusal, and where it stands.

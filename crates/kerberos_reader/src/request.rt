@@ -1,8 +1,8 @@
 //! Requests of tickets (RFC 4120 5.4.1). Each field stands inside an explicit tag.
 use crate::fault::{Fault, RequestError};
-use der_cursor::{Cursor, parse_bits, time_of};
 use der_parser::IResult;
 use der_parser::ber::ASN1DateTime;
+use der_parser::cursor::{Cursor, parse_bits};
 use der_parser::der::{
     Class, Tag, parse_der_generalizedtime, parse_der_generalstring, parse_der_i32,
     parse_der_sequence_of_v, parse_der_tagged_explicit_g, parse_der_u32,
@@ -125,7 +125,7 @@ fn read_time(body: &mut Cursor<'_>, number: u8) -> Result<Option<ASN1DateTime>, 
 /// Reads a GeneralizedTime.
 fn parse_time(i: &[u8]) -> IResult<&[u8], ASN1DateTime, BerError> {
     let (rest, object) = parse_der_generalizedtime(i)?;
-    Ok((rest, time_of(&object.content)?))
+    Ok((rest, object.as_datetime()?))
 }
 
 /// Reads a GeneralString.

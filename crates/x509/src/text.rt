@@ -1,5 +1,4 @@
 //! The text of a certificate, with what openssl says of it in lines of our own.
-use der_cursor::Dotted;
 use der_parser::ber::{ASN1DateTime, BitStringObject};
 use std::fmt;
 use std::net::IpAddr;
@@ -29,13 +28,13 @@ impl fmt::Display for Certified<'_, '_> {
         for octet in certificate.serial_number {
             write!(f, "{octet:02X}")?;
         }
-        let algorithm = Dotted(&certificate.signature_algorithm);
-        writeln!(f, "\nsignatureAlgorithm={algorithm}")?;
+        writeln!(f)?;
+        writeln!(f, "signatureAlgorithm={}", certificate.signature_algorithm)?;
         writeln!(f, "issuer={}", certificate.issuer)?;
         writeln!(f, "notBefore={}", Moment(certificate.not_before))?;
         writeln!(f, "notAfter={}", Moment(certificate.not_after))?;
         writeln!(f, "subject={}", certificate.subject)?;
-        writeln!(f, "keyAlgorithm={}", Dotted(&certificate.key_algorithm))?;
+        writeln!(f, "keyAlgorithm={}", certificate.key_algorithm)?;
         writeln!(f, "keyOctets={}", certificate.key.bytes.len())?;
         for extension in &certificate.extensions {
             write_extension(f, extension)?;
@@ -62,7 +61,7 @@ fn write_extension<W: fmt::Write>(
     extension: &Extension<'_>,
 ) -> fmt::Result {
     let critical = if extension.critical { " critical" } else { "" };
-    writeln!(f, "extension={}{critical}", Dotted(&extension.identifier))?;
+    writeln!(f, "extension={}{critical}", extension.identifier)?;
     match &extension.value {
         Value::BasicConstraints(true, Some(length)) => {
             writeln!(f, "    CA:TRUE, pathlen:{length}")
@@ -110,7 +109,7 @@ fn write_name<W: fmt::Write>(f: &mut fmt::Formatter<W>, name: &GeneralName<'_>) 
         GeneralName::Dns(text) => write!(f, "DNS:{}", text.as_bytes().escape_ascii()),
         GeneralName::Uri(text) => write!(f, "URI:{}", text.as_bytes().escape_ascii()),
         GeneralName::Address(octets) => write_address(f, octets),
-        GeneralName::Identifier(oid) => write!(f, "Registered ID:{}", Dotted(oid)),
+        GeneralName::Identifier(oid) => write!(f, "Registered ID:{}", oid),
         GeneralName::Other(tag) => write!(f, "[{}]", tag.0),
     }
 }

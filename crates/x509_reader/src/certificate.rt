@@ -1,9 +1,9 @@
 //! Certificates (RFC 5280 4.1).
 use crate::extension::{Extension, read_extension};
-use der_cursor::{Cursor, Refusal, parse_bits, parse_identifier, time_of};
 use der_names::{Name, parse_name};
 use der_parser::IResult;
 use der_parser::ber::{ASN1DateTime, Any, BitStringObject};
+use der_parser::cursor::{Cursor, Refusal, parse_bits, parse_identifier};
 use der_parser::der::{
     parse_der_generalizedtime, parse_der_integer, parse_der_u32, parse_der_utctime,
 };
@@ -127,10 +127,10 @@ fn read_algorithm<'a>(fields: &mut Cursor<'a>) -> Result<Oid<'a>, Refusal<BerErr
 fn parse_time(i: &[u8]) -> IResult<&[u8], ASN1DateTime, BerError> {
     if let Some(24) = i.first() {
         let (rest, object) = parse_der_generalizedtime(i)?;
-        return Ok((rest, time_of(&object.content)?));
+        return Ok((rest, object.as_datetime()?));
     }
     let (rest, object) = parse_der_utctime(i)?;
-    let mut time = time_of(&object.content)?;
+    let mut time = object.as_datetime()?;
     let century = if time.year < 50 { 2000 } else { 1900 };
     time.year = time.year.saturating_add(century);
     Ok((rest, time))

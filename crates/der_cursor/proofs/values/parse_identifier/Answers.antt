@@ -1,0 +1,18 @@
+use Rattle.std.proofs.Common.{inl, inr, refl}
+use Rattle.der_base.proofs.Answers.Answering.{passed_on}
+use Rattle.der_base.proofs.Answers.Exactness.{exactly}
+use Rattle.der_cursor.proofs.IdentifierLaws.{identifier_shows_one}
+use Rattle.der_cursor.proofs.values.parse_identifier.Goals as goal
+
+pub returns-in-Err : goal.returns-in-Err
+returns-in-Err c = exactly _ (identifier_shows_one c.args.i.now) (λ n l m. m) (passed_on _ _ c.in-Err.e c.in-Err.ensures.found (λ x h. inl h) (λ n h. h) (λ m. m))
+
+pub returns-in-Err-identifier_of : goal.returns-in-Err-identifier_of
+returns-in-Err-identifier_of c =
+    let e = c.in-Err-identifier_of.ensures in
+    exactly _ (identifier_shows_one c.args.i.now) (λ n l m. m) (inr ((c.in-Ok.read.1.now, c.in-Ok.read.0.now), c.in-Ok.ensures.found, e.0, e.1))
+
+pub returns-in-Ok-identifier_of : goal.returns-in-Ok-identifier_of
+returns-in-Ok-identifier_of c =
+    let e = c.in-Ok-identifier_of.ensures in
+    exactly _ (identifier_shows_one c.args.i.now) (λ n l m. m) (rw (e.0, e.1) (c.in-Ok.ensures.found, e.2, refl))

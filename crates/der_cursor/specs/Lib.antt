@@ -1,0 +1,5 @@
+pub mod Cursors
+pub mod Elements
+pub mod Laws
+pub mod Runs
+pub mod Values

@@ -1,0 +1,11 @@
+//! Laws of cursors. Each function's contract is a law, and its body is empty.
+ghost use Rattle.der_cursor.specs.Laws.{PlacesCount, NewStand, EndsStand, OpenedStand};
+
+/// The place of a cursor is the number of octets of the input in front of those that are left, as
+/// far as each parser that was called left an end of its octets.
+pub fn places_are_exact()
+    ensures places { PlacesCount }
+    ensures new { NewStand }
+    ensures read { EndsStand }
+    ensures opened { OpenedStand }
+{}
