@@ -1,12 +1,13 @@
 -- Cursors: the octets of a content that aren't read yet, and where in the input they stand.
 use Rattle.std.specs.Borrow.{Bor}
 use Rattle.std.specs.Prelude.{◌≡◌, ◌≢◌, ℕ, ◌+◌, ◌-◌, Bool, true, Option, Some, None, List, [], ◌++◌, length}
-use Rattle.std.specs.Prelude.{Result, Ok, Err, codes, decimal}
-use Rattle.std.specs.Option.{option_map}
+use Rattle.std.specs.Prelude.{Result, Ok, Err, ◌⊎◌, slice_get, codes, decimal}
+use Rattle.std.specs.Option.{option_map, IfSome, IsSomeAnd}
 use Rattle.der_base.specs.declared.error.Err.{Err as Refused}
 use Rattle.der_base.specs.declared.error.Err.TheVariants.{Error}
 use Rattle.der_base.specs.declared.error.Error.{Error as BerError}
-use Rattle.der_base.specs.declared.error.Error.TheVariants.{NomError}
+use Rattle.der_base.specs.declared.error.Error.TheVariants.{BerTypeError, NomError}
+use Rattle.der_base.specs.declared.error.ErrorKind.{ErrorKind}
 use Rattle.der_base.specs.declared.error.ErrorKind.TheVariants.{Eof}
 use Rattle.der_base.specs.declared.header.Class.{Class}
 use Rattle.der_base.specs.declared.header.Class.TheVariants.{ContextSpecific}
@@ -16,7 +17,7 @@ use Rattle.der_base.specs.Errors.{err_text}
 use Rattle.der_base.specs.Exactly.{AnswersExactly}
 use Rattle.der_cursor.specs.declared.cursor.Cursor.{Cursor}
 use Rattle.der_cursor.specs.declared.refusal.Refusal.{Refusal}
-use Rattle.der_cursor.specs.Elements.{SpellsElement, ElementRefuses, BeginsWithTag}
+use Rattle.der_cursor.specs.Elements.{SpellsElement, ElementRefuses, BeginsWithTag, first_octet}
 
 -- the octets that aren't read yet
 abbrev pub octets_left : Cursor → List ℕ
@@ -48,6 +49,19 @@ abbrev pub Reads : {O E : Type 0} → (Bor (List ℕ) → Answered O E → Type 
 Reads gives old (Ok v) new = (rest : Bor (List ℕ)) × gives old.left (Ok (rest, v)) × (new ≡ record old { left = rest })
 Reads gives old (Err e) new = gives old.left (Err e.reason) × (e.offset ≡ place_of old) × (new ≡ old)
 
+-- The value is the last one of a content, or Eof is told at the place of what is left. `made` says which errors are
+-- made of Eof.
+abbrev pub IsLast : {O E : Type 0} → (Bor (List ℕ) → ErrorKind → E → Type 0) → O → Cursor → Result O (Refusal E) → Type 0
+IsLast made v c (Ok x) = (octets_left c ≡ []) × (x ≡ v)
+IsLast {O} {E} made v c (Err e) = (octets_left c ≢ [])
+    × (x : E) × made c.left Eof x × (e ≡ record { offset = place_of c; reason = Error x })
+
+-- what a parser answers on the octets left, where its value is the last one; else its refusal, or that of what is left
+abbrev pub ReadsLast : {O E : Type 0} → (Bor (List ℕ) → Answered O E → Type 0) → (Bor (List ℕ) → ErrorKind → E → Type 0)
+    → Cursor → Result O (Refusal E) → Type 0
+ReadsLast {O} gives made c result = ((e : _) × (result ≡ Err e) × Reads gives c result c)
+    ⊎ ((v : O) × (d : Cursor) × Reads gives c (Ok v) d × IsLast made v d result)
+
 -- the cursor over a content with the one behind its element, or the reason for a refusal
 abbrev pub opened : Result Cursor (Refusal BerError) → Cursor → Result (Cursor × Cursor) (Refused BerError)
 opened (Ok inner) new = Ok (inner, new)
@@ -77,6 +91,12 @@ OpensTagged n old (Ok None) new = (¬ BeginsWithTag n (octets_left old)) × (new
 OpensTagged n old (Ok (Some inner)) new = BeginsWithTag n (octets_left old)
     × OpensAt ContextSpecific true n old (Ok inner) new
 OpensTagged n old (Err e) new = BeginsWithTag n (octets_left old) × OpensAt ContextSpecific true n old (Err e) new
+
+-- the next element, if there is any, begins as one of this universal type, or BerTypeError is told at its place
+abbrev pub ExpectsAt : ℕ → Cursor → Result (Unit {0}) (Refusal BerError) → Type 0
+ExpectsAt t c (Ok u) = IfSome (slice_get (octets_left c) 0) (λ b. b ≡ first_octet t)
+ExpectsAt t c (Err e) = IsSomeAnd (slice_get (octets_left c) 0) (λ b. b ≢ first_octet t)
+    × (e ≡ record { offset = place_of c; reason = Error BerTypeError })
 
 -- nothing is left, or Eof is told at the place of what is
 abbrev pub EndsAt : Cursor → Result (Unit {0}) (Refusal BerError) → Type 0

@@ -4,9 +4,9 @@ ghost use Rattle.der_base.specs.Answer.{MatchAnswer};
 ghost use Rattle.der_base.specs.Any.{DerAnyLacks, leading_content};
 ghost use Rattle.der_base.specs.declared.header.Class.{Class};
 ghost use Rattle.der_cursor.specs.Cursors.{octets_left, place_of, IsCursor};
-ghost use Rattle.der_cursor.specs.Cursors.{Reads, OpensAt, OpensTagged, EndsAt};
+ghost use Rattle.der_cursor.specs.Cursors.{Reads, ReadsLast, IsLast, OpensAt, OpensTagged, ExpectsAt, EndsAt};
 ghost use Rattle.der_cursor.specs.Runs.{ReadsAll, values_of};
-ghost use Rattle.der_cursor.specs.Elements.{AnswersElement, BeginsWithTag, ElementRefuses, SpellsElement};
+ghost use Rattle.der_cursor.specs.Elements.{AnswersElement, BeginsWithTag, ElementRefuses, SpellsElement, first_octet};
 
 use crate::refusal::Refusal;
 use der_base::any::Any;
@@ -79,6 +79,50 @@ impl<'a> Cursor<'a> {
             }
             Err(reason) => Err(self.refused(reason)),
         }
+    }
+
+    /// Reads what the parser reads, behind which nothing may be left. Eof where something is.
+    pub fn read_last<O, F, E>(mut self, parser: F) -> Result<O, Refusal<E>>
+    where
+        F: FnOnce(&'a [u8]) -> IResult<&'a [u8], O, E>,
+        O: Drop,
+        E: ParseError<&'a [u8]>,
+        requires { F.IsAlwaysCallable parser }
+        ensures { ReadsLast (F.post parser) E.from_error_kind_gives self.entry result }
+    {
+        match self.read(parser) {
+            Ok(value) => self.last(value),
+            Err(e) => Err(e),
+        }
+    }
+
+    /// The same by a parser that takes memory.
+    pub fn read_last_in<O, F, E>(mut self, alloc: Global, parser: F) -> Result<O, Refusal<E>>
+    where
+        F: FnOnce(Global, &'a [u8]) -> IResult<&'a [u8], O, E>,
+        O: Drop,
+        E: ParseError<&'a [u8]>,
+        requires { F.IsAlwaysCallable parser }
+        ensures { ReadsLast (F.post parser alloc) E.from_error_kind_gives self.entry result }
+    {
+        match self.read_in(alloc, parser) {
+            Ok(value) => self.last(value),
+            Err(e) => Err(e),
+        }
+    }
+
+    /// A value behind which nothing may be left.
+    fn last<O, E>(self, value: O) -> Result<O, Refusal<E>>
+    where
+        O: Drop,
+        E: ParseError<&'a [u8]>,
+        ensures { IsLast E.from_error_kind_gives value.entry self.entry result }
+    {
+        if self.left.is_empty() {
+            return Ok(value);
+        }
+        let e = E::from_error_kind(self.left, ErrorKind::Eof);
+        Err(self.refused(Refused::Error(e)))
     }
 
     /// The values that `read` reads, which is called until nothing is left. Many0 where it takes
@@ -161,6 +205,20 @@ impl<'a> Cursor<'a> {
         }
     }
 
+    /// Asks that the next element is one of this universal type by the first octet of its identifier
+    /// (8.1.2), where any octet is left. The readers of one type look at the number of the tag alone.
+    /// BerTypeError where it is another.
+    pub fn expect(&self, tag: Tag) -> Result<(), Refusal<BerError>>
+        ensures { ExpectsAt tag.0 self.now result }
+    {
+        match self.identifier() {
+            Some(octet) if octet != first_octet(tag) => {
+                Err(self.refused(Refused::Error(BerError::BerTypeError)))
+            }
+            _ => Ok(()),
+        }
+    }
+
     /// Ends a list: no element may be left.
     pub fn end(self) -> Result<(), Refusal<BerError>>
         ensures { EndsAt self.entry result }
@@ -215,6 +273,19 @@ fn read_content<'a>(
         any.header.assert_primitive()?;
     }
     Ok((rest, any.bytes))
+}
+
+/// The first identifier octet of a universal type by DER: SEQUENCE and SET are constructed (8.9.1, 8.11.1,
+/// 10.2).
+fn first_octet(tag: Tag) -> u8
+    ensures { result ≡ first_octet tag.0 }
+{
+    match tag.0 {
+        16 => 0x30,
+        17 => 0x31,
+        number @ 0..31 => number as u8,
+        _ => 0x1f,
+    }
 }
 
 /// Whether the identifier octets of an explicit tag of this number are next (8.1.2).

@@ -60,3 +60,5 @@ pub use Rattle.der_cursor.specs.Elements
 pub use Rattle.der_cursor.specs.Laws as CursorLaws
 pub use Rattle.der_cursor.specs.Runs
 pub use Rattle.der_cursor.specs.Values
+pub use Rattle.der_visit.specs.Changing
+pub use Rattle.der_visit.specs.Visiting

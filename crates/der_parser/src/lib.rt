@@ -113,8 +113,9 @@ pub mod laws {
         opened_never_refused, refused_headers_stay_refused, set_of_has_one_order,
         spellings_are_one, tag_numbers_are_shortest, unused_bits_are_last,
     };
+    pub use der_base::oid::arcs_come_back;
     pub use der_ber::laws::written_is_read_back;
     pub use der_cursor::laws::places_are_exact;
     pub use der_der::laws::written_is_what_was_read;
-    pub use der_object::laws::equals_have_one_tree;
+    pub use der_object::laws::{equals_have_one_tree, small_clones_are_the_value};
 }

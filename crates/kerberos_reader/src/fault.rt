@@ -22,7 +22,7 @@ pub enum Fault {
     Kind(u32),
 }
 
-/// A combinator answers its own refusals so.
+/// The refusals of the library's readers are answered so.
 impl From<BerError> for Fault {
     fn from(e: BerError) -> Fault {
         Fault::Encoding(e)

@@ -5,7 +5,7 @@ use der_parser::ber::ASN1DateTime;
 use der_parser::cursor::{Cursor, parse_bits};
 use der_parser::der::{
     Class, Tag, parse_der_generalizedtime, parse_der_generalstring, parse_der_i32,
-    parse_der_sequence_of_v, parse_der_tagged_explicit_g, parse_der_u32,
+    parse_der_sequence_of_v, parse_der_u32,
 };
 use der_parser::error::{BerError, Err as Refused};
 use std::alloc::Global;
@@ -34,11 +34,11 @@ pub fn read_request<'a>(alloc: Global, octets: &'a [u8]) -> Result<Request<'a>, 
     input.end()?;
     let mut fields = message.open_sequence()?;
     message.end()?;
-    fields.read(parse_version)?;
-    fields.read(parse_kind)?;
+    open_field(&mut fields, 1, Tag::Integer)?.read_last(parse_version)?;
+    open_field(&mut fields, 2, Tag::Integer)?.read_last(parse_kind)?;
     // What authenticates the client beforehand isn't looked at.
     fields.open_tagged(3)?;
-    let mut inside = open_field(&mut fields, 4)?;
+    let mut inside = open_field(&mut fields, 4, Tag::Sequence)?;
     fields.end()?;
     let body = inside.open_sequence()?;
     inside.end()?;
@@ -46,15 +46,16 @@ pub fn read_request<'a>(alloc: Global, octets: &'a [u8]) -> Result<Request<'a>, 
 }
 
 fn read_body<'a>(alloc: Global, mut body: Cursor<'a>) -> Result<Request<'a>, RequestError> {
-    open_field(&mut body, 0)?.read(parse_bits)?;
+    open_field(&mut body, 0, Tag::BitString)?.read_last(parse_bits)?;
     let client = read_principal(alloc, &mut body, 1)?;
-    let realm = open_field(&mut body, 2)?.read(parse_text)?;
+    let realm = open_field(&mut body, 2, Tag::GeneralString)?.read_last(parse_text)?;
     let server = read_principal(alloc, &mut body, 3)?;
     let from = read_time(&mut body, 4)?;
-    let till = open_field(&mut body, 5)?.read(parse_time)?;
+    let till = open_field(&mut body, 5, Tag::GeneralizedTime)?.read_last(parse_time)?;
     let renewable_till = read_time(&mut body, 6)?;
-    let _nonce = open_field(&mut body, 7)?.read(parse_der_u32)?;
-    let encryption_kinds = open_field(&mut body, 8)?.read_in(alloc, parse_numbers)?;
+    let _nonce = open_field(&mut body, 7, Tag::Integer)?.read_last(parse_der_u32)?;
+    let kinds = open_field(&mut body, 8, Tag::Sequence)?;
+    let encryption_kinds = kinds.read_last_in(alloc, parse_numbers)?;
     // Addresses, data for the server and further tickets aren't looked at.
     for number in 9..=11 {
         body.open_tagged(number)?;
@@ -71,27 +72,31 @@ fn read_body<'a>(alloc: Global, mut body: Cursor<'a>) -> Result<Request<'a>, Req
     })
 }
 
-/// Opens a field that has to be there.
-fn open_field<'a>(fields: &mut Cursor<'a>, number: u32) -> Result<Cursor<'a>, RequestError> {
-    Ok(fields.open(Class::ContextSpecific, true, Tag(number))?)
+/// Opens a field that has to be there, and to hold a value of this type.
+fn open_field<'a>(
+    fields: &mut Cursor<'a>,
+    number: u32,
+    tag: Tag,
+) -> Result<Cursor<'a>, RequestError> {
+    let inside = fields.open(Class::ContextSpecific, true, Tag(number))?;
+    inside.expect(tag)?;
+    Ok(inside)
 }
 
-/// Reads the version, which is 5. The combinator calls a parser with our error type.
-fn parse_version<'a>(i: &'a [u8]) -> IResult<&'a [u8], (), Fault> {
-    parse_der_tagged_explicit_g(Tag(1), |i, _| match parse_number(i)? {
+/// Reads the version, which is 5.
+fn parse_version(i: &[u8]) -> IResult<&[u8], (), Fault> {
+    match parse_number(i)? {
         (rest, 5) => Ok((rest, ())),
         (_, other) => Err(Refused::Error(Fault::Version(other))),
-    })
-    .parse(i)
+    }
 }
 
 /// Reads the kind of the message, which is 10.
-fn parse_kind<'a>(i: &'a [u8]) -> IResult<&'a [u8], (), Fault> {
-    parse_der_tagged_explicit_g(Tag(2), |i, _| match parse_number(i)? {
+fn parse_kind(i: &[u8]) -> IResult<&[u8], (), Fault> {
+    match parse_number(i)? {
         (rest, 10) => Ok((rest, ())),
         (_, other) => Err(Refused::Error(Fault::Kind(other))),
-    })
-    .parse(i)
+    }
 }
 
 fn parse_number(i: &[u8]) -> IResult<&[u8], u32, Fault> {
@@ -108,8 +113,10 @@ fn read_principal<'a>(
         return Ok(None);
     };
     let mut fields = inside.open_sequence()?;
-    let _kind = open_field(&mut fields, 0)?.read(parse_der_i32)?;
-    let components = open_field(&mut fields, 1)?.read_in(alloc, parse_texts)?;
+    inside.end()?;
+    let _kind = open_field(&mut fields, 0, Tag::Integer)?.read_last(parse_der_i32)?;
+    let texts = open_field(&mut fields, 1, Tag::Sequence)?;
+    let components = texts.read_last_in(alloc, parse_texts)?;
     fields.end()?;
     Ok(Some(Principal(components)))
 }
@@ -117,7 +124,10 @@ fn read_principal<'a>(
 /// Reads a time under this tag, where it is there.
 fn read_time(body: &mut Cursor<'_>, number: u8) -> Result<Option<ASN1DateTime>, RequestError> {
     match body.open_tagged(number)? {
-        Some(mut inside) => Ok(Some(inside.read(parse_time)?)),
+        Some(inside) => {
+            inside.expect(Tag::GeneralizedTime)?;
+            Ok(Some(inside.read_last(parse_time)?))
+        }
         None => Ok(None),
     }
 }

@@ -5,7 +5,7 @@ use der_parser::IResult;
 use der_parser::ber::{ASN1DateTime, Any, BitStringObject};
 use der_parser::cursor::{Cursor, Refusal, parse_bits, parse_identifier};
 use der_parser::der::{
-    parse_der_generalizedtime, parse_der_integer, parse_der_u32, parse_der_utctime,
+    Tag, parse_der_generalizedtime, parse_der_integer, parse_der_u32, parse_der_utctime,
 };
 use der_parser::error::{BerError, Err as Refused};
 use der_parser::oid::Oid;
@@ -39,8 +39,8 @@ pub fn read_certificate<'a>(
     let fields = parts.open_sequence()?;
     // The signature and its algorithm, which the fields name too.
     read_algorithm(&mut parts)?;
-    parts.read(parse_bits)?;
-    parts.end()?;
+    parts.expect(Tag::BitString)?;
+    parts.read_last(parse_bits)?;
     read_fields(alloc, fields)
 }
 
@@ -49,21 +49,26 @@ fn read_fields<'a>(
     mut fields: Cursor<'a>,
 ) -> Result<Certificate<'a>, Refusal<BerError>> {
     let version = match fields.open_tagged(0)? {
-        Some(mut version) => version.read(parse_version)?,
+        Some(inside) => {
+            inside.expect(Tag::Integer)?;
+            inside.read_last(parse_version)?
+        }
         None => 1,
     };
+    fields.expect(Tag::Integer)?;
     let serial_number = fields.read(parse_serial_number)?;
     let signature_algorithm = read_algorithm(&mut fields)?;
+    fields.expect(Tag::Sequence)?;
     let issuer = fields.read_in(alloc, parse_name)?;
     let mut validity = fields.open_sequence()?;
     let not_before = validity.read(parse_time)?;
-    let not_after = validity.read(parse_time)?;
-    validity.end()?;
+    let not_after = validity.read_last(parse_time)?;
+    fields.expect(Tag::Sequence)?;
     let subject = fields.read_in(alloc, parse_name)?;
     let mut key_info = fields.open_sequence()?;
     let key_algorithm = read_algorithm(&mut key_info)?;
-    let key = key_info.read(parse_bits)?;
-    key_info.end()?;
+    key_info.expect(Tag::BitString)?;
+    let key = key_info.read_last(parse_bits)?;
     let extensions = read_extensions(alloc, fields)?;
     Ok(Certificate {
         version,
@@ -123,12 +128,20 @@ fn read_algorithm<'a>(fields: &mut Cursor<'a>) -> Result<Oid<'a>, Refusal<BerErr
     algorithm.read(parse_identifier)
 }
 
-/// Reads a time, by its identifier octet. The years of UTCTime are those from 1950 (4.1.2.5).
+/// Reads a time, by its identifier octet (4.1.2.5).
 fn parse_time(i: &[u8]) -> IResult<&[u8], ASN1DateTime, BerError> {
-    if let Some(24) = i.first() {
-        let (rest, object) = parse_der_generalizedtime(i)?;
-        return Ok((rest, object.as_datetime()?));
+    match i.first() {
+        Some(23) | None => parse_utc_time(i),
+        Some(24) => {
+            let (rest, object) = parse_der_generalizedtime(i)?;
+            Ok((rest, object.as_datetime()?))
+        }
+        Some(_) => Err(Refused::Error(BerError::BerTypeError)),
     }
+}
+
+/// Reads a UTCTime. Its years are those from 1950.
+fn parse_utc_time(i: &[u8]) -> IResult<&[u8], ASN1DateTime, BerError> {
     let (rest, object) = parse_der_utctime(i)?;
     let mut time = object.as_datetime()?;
     let century = if time.year < 50 { 2000 } else { 1900 };

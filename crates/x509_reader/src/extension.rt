@@ -51,12 +51,18 @@ pub fn read_extension<'a>(
     let mut fields = list.open_sequence()?;
     let identifier = fields.read(parse_identifier)?;
     let critical = read_flag(&mut fields)?;
-    let mut inside = fields.open_octet_string()?;
+    let inside = fields.open_octet_string()?;
     fields.end()?;
     let value = match identifier.as_bytes() {
-        b"\x55\x1d\x0f" => Value::KeyUsage(inside.read(parse_bits)?),
-        b"\x55\x1d\x11" => Value::SubjectAltName(inside.read_in(alloc, parse_names)?),
-        b"\x55\x1d\x13" => read_basic_constraints(&mut inside)?,
+        b"\x55\x1d\x0f" => {
+            inside.expect(Tag::BitString)?;
+            Value::KeyUsage(inside.read_last(parse_bits)?)
+        }
+        b"\x55\x1d\x11" => {
+            inside.expect(Tag::Sequence)?;
+            Value::SubjectAltName(inside.read_last_in(alloc, parse_names)?)
+        }
+        b"\x55\x1d\x13" => read_basic_constraints(inside)?,
         _ => Value::Other,
     };
     Ok(Extension {
@@ -79,8 +85,9 @@ fn parse_bool(i: &[u8]) -> IResult<&[u8], bool, BerError> {
     Ok((rest, object.as_bool()?))
 }
 
-fn read_basic_constraints<'a>(inside: &mut Cursor<'a>) -> Result<Value<'a>, Refusal<BerError>> {
+fn read_basic_constraints(mut inside: Cursor<'_>) -> Result<Value<'_>, Refusal<BerError>> {
     let mut fields = inside.open_sequence()?;
+    inside.end()?;
     let authority = read_flag(&mut fields)?;
     let mut path_length = None;
     if fields.identifier() == Some(0x02) {
