@@ -46,9 +46,7 @@ fn print_messages<R: Read, W: Write>(
                     bail!("message at {offset}: cut short");
                 }
             }
-            Err(Refused::Incomplete(Needed::Unknown)) => bail!("message at {offset}: incomplete"),
-            Err(Refused::Error(e) | Refused::Failure(e)) => bail!("message at {offset}: {e}"),
-            Err(Refused::OutOfMemory) => bail!("message at {offset}: out of memory"),
+            Err(e) => bail!("message at {offset}: {e}"),
         }
     }
     Ok(())
