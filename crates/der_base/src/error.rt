@@ -104,7 +104,9 @@ impl<E: fmt::Debug + fmt::Display + Drop> error::Error for Err<E> {}
 /// How many octets an input that is cut short lacks, as far as it shows.
 #[derive(Clone, Copy, Debug, PartialEq)]
 pub enum Needed {
+    /// The number isn't known. No reader answers it.
     Unknown,
+    /// So many octets.
     Size(usize),
 }
 
@@ -178,7 +180,7 @@ pub enum Error {
     /// An object is of another type than the one asked for.
     #[error("wrong type")]
     BerTypeError,
-    /// The content octets are no value of their type.
+    /// The content octets are no value of their type, or an object has no signed number.
     #[error("wrong value")]
     BerValueError,
     /// Objects are nested deeper than was asked for.
@@ -200,7 +202,8 @@ pub enum Error {
         expected: Option<Tag>,
         actual: Tag,
     },
-    /// The class is another one than the one asked for.
+    /// The class is another one than the one asked for. Of an explicit tag none is expected, for it
+    /// may be any but Universal (8.14.2).
     #[error("unexpected class (expected {}, actual {actual})", OrAny(*expected))]
     UnexpectedClass {
         expected: Option<Class>,
@@ -227,10 +230,11 @@ pub enum Error {
     /// An octet is outside the character set of a string type (8.23).
     #[error("invalid character in string")]
     StringInvalidCharset,
-    /// The text of a time is none (8.25, 8.26).
+    /// The text of a time is none (8.25).
     #[error("invalid date or time")]
     InvalidDateTime,
-    /// A form of encoding that isn't read.
+    /// A form of encoding that isn't read: a BIT STRING, a character string or a time that is
+    /// constructed, or a BMPString of an odd number of octets.
     #[error("unsupported")]
     Unsupported,
     /// A rule of DER is broken.

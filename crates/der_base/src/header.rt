@@ -24,14 +24,18 @@ use std::marker::Model;
 /// The class of a tag (X.690 8.1.2.2).
 #[derive(Clone, Copy, Debug, PartialEq)]
 pub enum Class {
+    /// The types of X.680, as `Tag` names them.
     Universal,
+    /// Tags that mean one thing throughout an application.
     Application,
+    /// Tags that mean one thing within a type around them, as [0] in a certificate.
     ContextSpecific,
+    /// Tags of an enterprise.
     Private,
 }
 
 impl Class {
-    /// The name of the class.
+    /// The name of the class, as ASN.1 writes it, and `CONTEXT-SPECIFIC`.
     pub fn name(self) -> &'static str
         ensures { result.now ≡ class_name self }
     {
@@ -54,72 +58,102 @@ impl fmt::Display for Class {
     }
 }
 
-/// A tag number.
+/// A tag number, from 0 to 2^32-1 (X.690 8.1.2).
 #[derive(Clone, Copy, Debug, PartialEq)]
 pub struct Tag(pub u32);
 
 /// The universal types (X.680 8.4, table 1).
 #[allow(non_upper_case_globals)]
 impl Tag {
+    /// The type of which an element ends an indefinite length (X.690 8.1.5).
     pub const EndOfContent: Tag = Tag(0);
 
+    /// BOOLEAN.
     pub const Boolean: Tag = Tag(1);
 
+    /// INTEGER.
     pub const Integer: Tag = Tag(2);
 
+    /// BIT STRING.
     pub const BitString: Tag = Tag(3);
 
+    /// OCTET STRING.
     pub const OctetString: Tag = Tag(4);
 
+    /// NULL.
     pub const Null: Tag = Tag(5);
 
+    /// OBJECT IDENTIFIER.
     pub const Oid: Tag = Tag(6);
 
+    /// ObjectDescriptor.
     pub const ObjectDescriptor: Tag = Tag(7);
 
+    /// EXTERNAL, whose content is kept as it stands.
     pub const External: Tag = Tag(8);
 
+    /// REAL, whose content is kept as it stands.
     pub const RealType: Tag = Tag(9);
 
+    /// ENUMERATED.
     pub const Enumerated: Tag = Tag(10);
 
+    /// EMBEDDED PDV, whose content is kept as it stands.
     pub const EmbeddedPdv: Tag = Tag(11);
 
+    /// UTF8String.
     pub const Utf8String: Tag = Tag(12);
 
+    /// RELATIVE-OID.
     pub const RelativeOid: Tag = Tag(13);
 
+    /// SEQUENCE and SEQUENCE OF.
     pub const Sequence: Tag = Tag(16);
 
+    /// SET and SET OF.
     pub const Set: Tag = Tag(17);
 
+    /// NumericString.
     pub const NumericString: Tag = Tag(18);
 
+    /// PrintableString.
     pub const PrintableString: Tag = Tag(19);
 
+    /// T61String.
     pub const T61String: Tag = Tag(20);
 
+    /// TeletexString, another name of T61String.
     pub const TeletexString: Tag = Tag(20);
 
+    /// VideotexString.
     pub const VideotexString: Tag = Tag(21);
 
+    /// IA5String.
     pub const Ia5String: Tag = Tag(22);
 
+    /// UTCTime.
     pub const UtcTime: Tag = Tag(23);
 
+    /// GeneralizedTime.
     pub const GeneralizedTime: Tag = Tag(24);
 
+    /// GraphicString.
     pub const GraphicString: Tag = Tag(25);
 
+    /// VisibleString.
     pub const VisibleString: Tag = Tag(26);
 
+    /// GeneralString.
     pub const GeneralString: Tag = Tag(27);
 
+    /// UniversalString.
     pub const UniversalString: Tag = Tag(28);
 
+    /// BMPString.
     pub const BmpString: Tag = Tag(30);
 
-    /// Whether the universal type of this number has a content of its own.
+    /// Whether the universal type of this number has a content of its own. Contents of others are
+    /// kept as they stand.
     #[inline]
     pub fn is_mapped(self) -> bool
         ensures { result ≡ is_mapped self.0 }
@@ -198,7 +232,8 @@ pub enum Length {
 }
 
 impl Length {
-    /// The number of content octets; an indefinite length is refused as DER does (X.690 10.1).
+    /// The number of content octets. An indefinite length is the constraint IndefiniteLength, as by
+    /// DER (X.690 10.1).
     pub fn definite(&self) -> Result<usize, BerError>
         ensures { MatchResult result
             (λ n. self.now ≡ Length.Definite n)
@@ -311,7 +346,7 @@ impl<'a> Header<'a> {
         self.tag
     }
 
-    /// The length.
+    /// The length (X.690 8.1.3). It needn't be that of a content.
     pub fn length(&self) -> Length
         ensures { result ≡ length_of self.now }
     {

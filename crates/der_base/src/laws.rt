@@ -59,7 +59,7 @@ ghost use Rattle.der_base.specs.Spelling.{BeginsWithBer, BeginsWithDer};
 
 use crate::any::Any;
 use crate::error::{
-    BerError, DerConstraint, Err, Error, ErrorKind, Needed, OidParseError, ParseError,
+    BerError, DerConstraint, Err, Error, ErrorKind, GenError, Needed, OidParseError, ParseError,
 };
 use crate::header::{Class, Header, Length, Tag};
 use crate::oid::Oid;
@@ -106,12 +106,13 @@ pub fn equals_are_the_same()
     ensures kind { EqualsAre ◌≡◌ ⟦<ErrorKind as PartialEq>⟧.eq }
     ensures constraint { EqualsAre ◌≡◌ ⟦<DerConstraint as PartialEq>⟧.eq }
     ensures oid_error { EqualsAre ◌≡◌ ⟦<OidParseError as PartialEq>⟧.eq }
+    ensures write_error { EqualsAre ◌≡◌ ⟦<GenError as PartialEq>⟧.eq }
     ensures time { EqualsAre ◌≡◌ ⟦<ASN1DateTime as PartialEq>⟧.eq }
     ensures zone { EqualsAre ◌≡◌ ⟦<ASN1TimeZone as PartialEq>⟧.eq }
 {}
 
 /// Headers, elements, identifiers and errors are equal exactly where they are alike in the parts
-/// that are named. So equality of them is an equivalence.
+/// that are named. So equality of them is an equivalence, and that of trees is one.
 pub fn equals_are_alike()
     ensures header { EqualsAre AreAlikeHeaders ⟦<Header<'static> as PartialEq>⟧.eq }
     ensures any { EqualsAre AreAlikeElements ⟦<Any<'static> as PartialEq>⟧.eq }
@@ -120,6 +121,8 @@ pub fn equals_are_alike()
     ensures answer { EqualsAre AreAlikeAnswers ⟦<Err<Error> as PartialEq>⟧.eq }
     ensures headers { IsEquivalence ⟦<Header<'static> as PartialEq>⟧.eq }
     ensures elements { IsEquivalence ⟦<Any<'static> as PartialEq>⟧.eq }
+    ensures identifiers { IsEquivalence ⟦<Oid<'static> as PartialEq>⟧.eq }
+    ensures errors { IsEquivalence ⟦<Error as PartialEq>⟧.eq }
     ensures trees { IsEquivalence same_node }
 {}
 

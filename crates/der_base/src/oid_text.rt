@@ -3,7 +3,7 @@ ghost use Rattle.std.specs.Prelude.{◌≡◌, ◌<◌, ◌++◌, codes, decimal
 ghost use Rattle.std.specs.Fmt.{DisplaysOnOk};
 ghost use Rattle.der_base.specs.Arcs.{arcs};
 ghost use Rattle.der_base.specs.Oids.{arcs_left, is_relative_of, octets_of};
-ghost use Rattle.der_base.specs.Pretty.{arcs_text, dotted, hex, hex_digit, hex_pair, pointed, spaced_hex};
+ghost use Rattle.der_base.specs.Pretty.{arcs_text, dotted, hex, hex_pair, pointed, spaced_hex};
 
 use crate::oid::{Oid, OidIter};
 use std::fmt;
@@ -29,6 +29,13 @@ fn write_arcs<W: fmt::Write>(f: &mut fmt::Formatter<W>, mut arcs: OidIter<'_>) -
         return Ok(());
     };
     write!(f, "{first}")?;
+    write_further_arcs(f, arcs)
+}
+
+/// Writes arcs, each with a point in front.
+fn write_further_arcs<W: fmt::Write>(f: &mut fmt::Formatter<W>, arcs: OidIter<'_>) -> fmt::Result
+    ensures { DisplaysOnOk W.Write.write_str_gives f.old result (Some (pointed (arcs_left arcs.entry))) f.new }
+{
     for arc in arcs {
         write!(f, ".{arc}")?;
     }
@@ -40,23 +47,28 @@ fn write_hex<W: fmt::Write>(f: &mut fmt::Formatter<W>, octets: &[u8]) -> fmt::Re
     ensures { DisplaysOnOk W.Write.write_str_gives f.old result (Some (hex octets.now)) f.new }
 {
     let [first, others @ ..] = octets else {
-        return f.write_str("[]");
+        return write!(f, "[]");
     };
-    write!(f, "[{}", HexPair(*first))?;
-    for octet in others {
-        write!(f, " {}", HexPair(*octet))?;
-    }
-    f.write_str("]")
+    write!(f, "[")?;
+    write_octet(f, *first)?;
+    write_further_octets(f, others)?;
+    write!(f, "]")
 }
 
-/// An octet as two hexadecimal digits.
-#[derive(Clone, Copy)]
-struct HexPair(u8);
-
-impl fmt::Display for HexPair {
-    ghost output = { λ x. Some (hex_pair x.0) };
-
-    fn fmt<W: fmt::Write>(&self, f: &mut fmt::Formatter<W>) -> fmt::Result {
-        write!(f, "{:02x}", self.0)
+/// Writes octets in hexadecimal, each with a space in front.
+fn write_further_octets<W: fmt::Write>(f: &mut fmt::Formatter<W>, octets: &[u8]) -> fmt::Result
+    ensures { DisplaysOnOk W.Write.write_str_gives f.old result (Some (spaced_hex octets.now)) f.new }
+{
+    for octet in octets {
+        write!(f, " ")?;
+        write_octet(f, *octet)?;
     }
+    Ok(())
+}
+
+/// Writes an octet as two hexadecimal digits.
+fn write_octet<W: fmt::Write>(f: &mut fmt::Formatter<W>, octet: u8) -> fmt::Result
+    ensures { DisplaysOnOk W.Write.write_str_gives f.old result (Some (hex_pair octet)) f.new }
+{
+    write!(f, "{octet:02x}")
 }

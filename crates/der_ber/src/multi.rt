@@ -135,9 +135,9 @@ where
 }
 
 impl<F> BerSequenceDefinedG<F> {
-    /// Reads as `BerContainer::parse` an element of the tag number 16, of any class. Another number
-    /// is UnexpectedTag, told behind the refusals of `BerContainer::parse`, without a call of the
-    /// parser.
+    /// Reads as `BerContainer::parse` an element of the tag number 16, of any class, constructed or
+    /// not. Another number is UnexpectedTag, told behind the refusals of `BerContainer::parse`,
+    /// without a call of the parser.
     pub fn parse<'a, O, E>(&mut self, i: &'a [u8]) -> IResult<&'a [u8], O, E>
     where
         F: FnMut(&'a [u8], Header<'a>) -> IResult<&'a [u8], O, E>,
@@ -179,9 +179,9 @@ where
 }
 
 impl<F> BerSetDefinedG<F> {
-    /// Reads as `BerContainer::parse` an element of the tag number 17, of any class. Another number
-    /// is UnexpectedTag, told behind the refusals of `BerContainer::parse`, without a call of the
-    /// parser.
+    /// Reads as `BerContainer::parse` an element of the tag number 17, of any class, constructed or
+    /// not. Another number is UnexpectedTag, told behind the refusals of `BerContainer::parse`,
+    /// without a call of the parser.
     pub fn parse<'a, O, E>(&mut self, i: &'a [u8]) -> IResult<&'a [u8], O, E>
     where
         F: FnMut(&'a [u8], Header<'a>) -> IResult<&'a [u8], O, E>,
@@ -440,8 +440,9 @@ impl<F> BerSetDefined<F> {
     }
 }
 
-/// Reads the content octets of an element of this tag number, of any class, as they stand, and
-/// answers what follows the element. An end marker is no part of a content of indefinite length.
+/// Reads the content octets of an element of this tag number, of any class, constructed or not, as
+/// they stand, and answers what follows the element. An end marker is no part of a content of
+/// indefinite length.
 ///
 /// Refusals, in this order: those of `BerContainer::parse`; UnexpectedTag where the number is
 /// another one. Incomplete where the input ends within the header, or within the content of an

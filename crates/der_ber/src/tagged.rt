@@ -98,9 +98,9 @@ where
 }
 
 impl<F> BerTaggedImplicitG<F> {
-    /// Reads as `BerContainer::parse` an element of the number, of any class. The parser gets the
-    /// header with the definite length of the content octets, so it may read them as those of the
-    /// type under the tag.
+    /// Reads as `BerContainer::parse` an element of the number, of any class, constructed or not. The
+    /// parser gets the header with the definite length of the content octets, so it may read them as
+    /// those of the type under the tag.
     ///
     /// Another number is UnexpectedTag, told behind the refusals of `BerContainer::parse`, without
     /// a call of the parser.

@@ -118,9 +118,9 @@ where
 }
 
 impl<F> DerSequenceDefinedG<F> {
-    /// Reads as `DerContainer::parse` an element of the tag number 16, of any class. Another number
-    /// is UnexpectedTag, told behind the refusals of `DerContainer::parse`, without a call of the
-    /// parser.
+    /// Reads as `DerContainer::parse` an element of the tag number 16, of any class, constructed or
+    /// not. Another number is UnexpectedTag, told behind the refusals of `DerContainer::parse`,
+    /// without a call of the parser.
     pub fn parse<'a, O, E>(&mut self, i: &'a [u8]) -> IResult<&'a [u8], O, E>
     where
         F: FnMut(&'a [u8], Header<'a>) -> IResult<&'a [u8], O, E>,
@@ -155,9 +155,9 @@ where
 }
 
 impl<F> DerSetDefinedG<F> {
-    /// Reads as `DerContainer::parse` an element of the tag number 17, of any class. Another number
-    /// is UnexpectedTag, told behind the refusals of `DerContainer::parse`, without a call of the
-    /// parser.
+    /// Reads as `DerContainer::parse` an element of the tag number 17, of any class, constructed or
+    /// not. Another number is UnexpectedTag, told behind the refusals of `DerContainer::parse`,
+    /// without a call of the parser.
     pub fn parse<'a, O, E>(&mut self, i: &'a [u8]) -> IResult<&'a [u8], O, E>
     where
         F: FnMut(&'a [u8], Header<'a>) -> IResult<&'a [u8], O, E>,
@@ -402,8 +402,8 @@ impl<F> DerSetDefined<F> {
     }
 }
 
-/// Reads the content octets of an element of this tag number, of any class, as they stand, and
-/// answers what follows the element.
+/// Reads the content octets of an element of this tag number, of any class, constructed or not, as
+/// they stand, and answers what follows the element.
 ///
 /// Refusals, in this order: those of `DerContainer::parse`; UnexpectedTag where the number is
 /// another one. Incomplete where the input ends within the header. It takes no memory.

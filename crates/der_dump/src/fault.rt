@@ -5,14 +5,19 @@ use std::fmt;
 /// Why the program ends before its input does.
 #[derive(Debug, Drop, thiserror::Error)]
 pub enum Fault {
+    /// The argument names no command.
     #[error("usage: derdump ber|der|canon")]
     Usage,
+    /// The input wasn't read to its end.
     #[error("error: {0}")]
     Input(InputFault),
+    /// An element is refused, or there was no memory for it.
     #[error("error at {0}")]
     Element(RefusedElement),
+    /// A write or a flush failed.
     #[error("error: write failed")]
     Write,
+    /// There was no memory.
     #[error("error: out of memory")]
     OutOfMemory,
 }
@@ -20,7 +25,9 @@ pub enum Fault {
 /// What a parser answers in place of the element at an offset.
 #[derive(Debug, Drop)]
 pub struct RefusedElement {
+    /// How many octets of the input stand in front.
     pub offset: usize,
+    /// What the parser answered.
     pub reason: Refused<BerError>,
 }
 
@@ -33,6 +40,7 @@ pub enum InputFault {
     /// A read answered an error.
     #[error("read failed")]
     ReadFailed,
+    /// There was no memory for the octets.
     #[error("out of memory")]
     OutOfMemory,
 }

@@ -9,7 +9,9 @@ use std::alloc::Global;
 /// The basic or the distinguished encoding rules (X.690 8 and 10).
 #[derive(Clone, Copy)]
 pub enum Rules {
+    /// The basic ones.
     Ber,
+    /// The distinguished ones.
     Der,
 }
 

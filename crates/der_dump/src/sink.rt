@@ -19,6 +19,7 @@ pub struct Sink<W> {
 }
 
 impl<W: Write> Sink<W> {
+    /// A writer over this one, of which nothing failed and nothing is left to flush.
     pub fn new(inner: W) -> Sink<W>
         ensures clean { has_failed result ≡ false }
         ensures octets { octets_of W.contents result ≡ W.contents inner }
@@ -30,6 +31,7 @@ impl<W: Write> Sink<W> {
         }
     }
 
+    /// Whether a write or a flush failed.
     pub fn has_failed(&self) -> bool
         ensures { result ≡ has_failed self.now }
     {

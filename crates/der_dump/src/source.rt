@@ -25,6 +25,7 @@ pub struct Source<R> {
 }
 
 impl<R: Read> Source<R> {
+    /// A reader over this one, which wasn't read yet.
     pub fn new(inner: R) -> Source<R>
         ensures fresh { IsFresh result }
         ensures octets { octets_left R.remaining result ≡ R.remaining inner }

@@ -2,7 +2,6 @@
 use crate::attribute_types::short_name;
 use crate::name::{Attribute, Coding, Name};
 use der_parser::ber::Any;
-use der_parser::oid::Oid;
 use std::fmt;
 
 /// The relative names, the last one first, with a comma between them.
@@ -41,7 +40,7 @@ impl fmt::Display for Attribute<'_> {
             return Err(fmt::Error);
         };
         let Some(name) = short_name(&parts.oid) else {
-            write_dotted(f, &parts.oid)?;
+            write!(f, "{}", parts.oid)?;
             return write_hex(f, parts.value);
         };
         f.write_str(name)?;
@@ -54,22 +53,6 @@ impl fmt::Display for Attribute<'_> {
             _ => write_hex(f, parts.value),
         }
     }
-}
-
-/// Writes the arcs, with a point between them.
-fn write_dotted<W: fmt::Write>(f: &mut fmt::Formatter<W>, oid: &Oid<'_>) -> fmt::Result {
-    let Some(arcs) = oid.iter() else {
-        return Ok(());
-    };
-    let mut behind_another = false;
-    for arc in arcs {
-        if behind_another {
-            f.write_str(".")?;
-        }
-        write!(f, "{arc}")?;
-        behind_another = true;
-    }
-    Ok(())
 }
 
 /// Writes octets as hexadecimal numbers of two digits.

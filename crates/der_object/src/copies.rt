@@ -8,7 +8,7 @@ use std::alloc::{AllocError, Global};
 impl<'a> BerObject<'a> {
     /// A copy: an equal object, whose headers have the same lengths and raw tags. Memory is taken
     /// for the items of lists, for the objects inside tagged and optional contents, and for
-    /// identifiers that own their octets.
+    /// identifiers that own their octets. AllocError where there is none.
     #[cycle(copy)]
     pub fn try_clone(&self, alloc: Global) -> Result<BerObject<'a>, AllocError>
         ensures { MatchResult result (IsCopyOf self.now) (λ _. CopyTakesMemory self.now.content) }
@@ -21,7 +21,8 @@ impl<'a> BerObject<'a> {
 }
 
 impl<'a> BerObjectContent<'a> {
-    /// A copy: an equal content, whose headers have the same lengths and raw tags.
+    /// A copy: an equal content, whose headers have the same lengths and raw tags. It takes memory as
+    /// that of an object does.
     #[cycle(copy)]
     pub fn try_clone(&self, alloc: Global) -> Result<BerObjectContent<'a>, AllocError>
         ensures { MatchResult result (IsContentCopyOf self.now) (λ _. CopyTakesMemory self.now) }

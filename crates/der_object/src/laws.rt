@@ -1,9 +1,13 @@
 //! Laws of the equality of objects. Each function's contract is a law, and its body is empty.
 ghost use Rattle.std.specs.Cmp.{IsEquivalence};
-ghost use Rattle.der_base.specs.Copies.{EqualsAre};
+ghost use Rattle.std.specs.Prelude.{◌≡◌};
+ghost use Rattle.der_base.specs.Copies.{AlwaysSo, AreTheValue, EqualsAre};
+ghost use Rattle.der_object.specs.Bits.{AreAlikeBits};
 ghost use Rattle.der_object.specs.View.{HaveOneTree, HaveOneContentTree};
 
+use crate::bit_string::BitStringObject;
 use crate::object::{BerObject, BerObjectContent};
+use crate::print::PrettyPrinterFlag;
 
 /// Objects are equal exactly where their trees are the same, and so are contents. So equality of
 /// them is an equivalence.
@@ -12,4 +16,15 @@ pub fn equals_have_one_tree()
     ensures content { EqualsAre HaveOneContentTree ⟦<BerObjectContent<'static> as PartialEq>⟧.eq }
     ensures objects { IsEquivalence ⟦<BerObject<'static> as PartialEq>⟧.eq }
     ensures contents { IsEquivalence ⟦<BerObjectContent<'static> as PartialEq>⟧.eq }
+{}
+
+/// A clone of a bit string's octets or of a printer's flag is the value itself and wants no memory.
+/// Such octets are equal exactly where they are alike, and flags where they are the same.
+pub fn small_clones_are_the_value()
+    ensures bits { AreTheValue ⟦<BitStringObject<'static> as Clone>⟧.is_clone }
+    ensures bits_memory { AlwaysSo ⟦<BitStringObject<'static> as Clone>⟧.is_infallible }
+    ensures flag { AreTheValue ⟦<PrettyPrinterFlag as Clone>⟧.is_clone }
+    ensures flag_memory { AlwaysSo ⟦<PrettyPrinterFlag as Clone>⟧.is_infallible }
+    ensures equal_bits { EqualsAre AreAlikeBits ⟦<BitStringObject<'static> as PartialEq>⟧.eq }
+    ensures equal_flags { EqualsAre ◌≡◌ ⟦<PrettyPrinterFlag as PartialEq>⟧.eq }
 {}

@@ -18,7 +18,7 @@ impl BerObjectContent<'_> {
         }
     }
 
-    /// The same, where the number is from -2^31 to 2^31-1.
+    /// As `as_i64`, where the number is from -2^31 to 2^31-1; IntegerTooLarge where it isn't.
     pub fn as_i32(&self) -> Result<i32, BerError>
         ensures { AnswersSigned 32 (content_tree self.now) result }
     {
@@ -43,7 +43,7 @@ impl BerObjectContent<'_> {
         }
     }
 
-    /// The same, where the number is at most 2^32-1.
+    /// As `as_u64`, where the number is at most 2^32-1; IntegerTooLarge above.
     pub fn as_u32(&self) -> Result<u32, BerError>
         ensures { AnswersUnsigned 32 (content_tree self.now) result }
     {
@@ -52,28 +52,28 @@ impl BerObjectContent<'_> {
 }
 
 impl BerObject<'_> {
-    /// As of the content.
+    /// As `BerObjectContent::as_i64`.
     pub fn as_i64(&self) -> Result<i64, BerError>
         ensures { AnswersSigned 64 (content_tree self.now.content) result }
     {
         self.content.as_i64()
     }
 
-    /// As of the content.
+    /// As `BerObjectContent::as_i32`.
     pub fn as_i32(&self) -> Result<i32, BerError>
         ensures { AnswersSigned 32 (content_tree self.now.content) result }
     {
         self.content.as_i32()
     }
 
-    /// As of the content.
+    /// As `BerObjectContent::as_u64`.
     pub fn as_u64(&self) -> Result<u64, BerError>
         ensures { AnswersUnsigned 64 (content_tree self.now.content) result }
     {
         self.content.as_u64()
     }
 
-    /// As of the content.
+    /// As `BerObjectContent::as_u32`.
     pub fn as_u32(&self) -> Result<u32, BerError>
         ensures { AnswersUnsigned 32 (content_tree self.now.content) result }
     {

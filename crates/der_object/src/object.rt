@@ -14,7 +14,9 @@ use der_base::time::ASN1DateTime;
 #[cycle(ast)]
 #[derive(Debug, Drop)]
 pub struct BerObject<'a> {
+    /// What stands in front of the content. The encoder doesn't use its length and its raw tag.
     pub header: Header<'a>,
+    /// The value.
     pub content: BerObjectContent<'a>,
 }
 
@@ -42,41 +44,42 @@ pub enum BerObjectContent<'a> {
     RelativeOID(Oid<'a>),
     /// NumericString, as its text (8.23).
     NumericString(&'a str),
-    /// VisibleString.
+    /// VisibleString (8.23).
     VisibleString(&'a str),
-    /// PrintableString.
+    /// PrintableString (8.23).
     PrintableString(&'a str),
-    /// IA5String.
+    /// IA5String (8.23).
     IA5String(&'a str),
-    /// UTF8String.
+    /// UTF8String (8.23).
     UTF8String(&'a str),
-    /// T61String, also named TeletexString.
+    /// T61String, also named TeletexString (8.23), of which UTF-8 alone is read.
     T61String(&'a str),
-    /// VideotexString.
+    /// VideotexString (8.23), of which UTF-8 alone is read.
     VideotexString(&'a str),
-    /// ObjectDescriptor (8.25).
+    /// ObjectDescriptor (8.25), of which UTF-8 alone is read.
     ObjectDescriptor(&'a str),
-    /// GraphicString.
+    /// GraphicString (8.23), of which UTF-8 alone is read.
     GraphicString(&'a str),
-    /// GeneralString.
+    /// GeneralString (8.23), of which UTF-8 alone is read.
     GeneralString(&'a str),
-    /// BMPString, by its octets: characters of two octets, the high one first.
+    /// BMPString, by its octets: characters of two octets, the high one first (8.23).
     BmpString(&'a [u8]),
-    /// UniversalString, by its octets: characters of four octets, the highest first.
+    /// UniversalString, by its octets: characters of four octets, the highest first (8.23).
     UniversalString(&'a [u8]),
     /// SEQUENCE and SEQUENCE OF, by the items in their order (8.9, 8.10).
     Sequence(Vec<BerObject<'a>>),
     /// SET and SET OF, by the items in the order in which they stand (8.11, 8.12).
     Set(Vec<BerObject<'a>>),
-    /// UTCTime, by its fields, with the last two digits of the year (X.680 47).
+    /// UTCTime, by its fields, with the last two digits of the year (8.25, X.680 47).
     UTCTime(ASN1DateTime),
-    /// GeneralizedTime, by its fields (X.680 46).
+    /// GeneralizedTime, by its fields (8.25, X.680 46).
     GeneralizedTime(ASN1DateTime),
     /// An object that may be absent, and then has no octets.
     Optional(Option<Box<BerObject<'a>>>),
     /// An object inside an explicit tag, with the tag's class and number (X.690 8.14).
     Tagged(Class, Tag, Box<BerObject<'a>>),
-    /// An element of another class or type, with its content octets as they stand.
+    /// An element of another class or type, with its content octets as they stand. Nothing looks
+    /// inside, by DER neither.
     Unknown(Any<'a>),
 }
 

@@ -22,7 +22,9 @@ use der_base::header::{Class, Header, Length, Tag};
 use std::alloc::Global;
 
 impl BerObject<'_> {
-    /// The octets of the object. Refusals: `TooLarge` where they are more than 2^64-1, and
+    /// The octets of the object: identifier octets, a length in the fewest octets, and content
+    /// octets (8.1, 10.1). Of an object that is valid by DER they are the DER encoding, and of one
+    /// that BER read a spelling. Refusals: `TooLarge` where they are more than 2^64-1, and
     /// `OutOfMemory`. Room for all of them is made at once.
     pub fn to_vec(&self, alloc: Global) -> Result<Vec<u8>, GenError>
         ensures ok { IfOk result (λ v. v.items ≡ encoding (tree self.now)) }

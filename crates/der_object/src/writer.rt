@@ -24,7 +24,7 @@ impl<W> FaultWriter<W> {
         FaultWriter { inner, faults: 0 }
     }
 
-    /// The writer underneath.
+    /// The writer underneath, by value.
     pub fn into_inner(self) -> W
         ensures { result ≡ inner_of self }
     {

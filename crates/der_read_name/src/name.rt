@@ -22,13 +22,16 @@ use std::alloc::Global;
 /// A distinguished name: its relative names, each with its attributes, in the order of the input.
 #[derive(Debug, Drop)]
 pub struct Name<'a> {
+    /// The relative names. One may have no attribute.
     pub rdns: Vec<Vec<Attr<'a>>>,
 }
 
 /// An attribute: its type, and the string that is its value.
 #[derive(Debug, Drop)]
 pub struct Attr<'a> {
+    /// The type.
     pub oid: Oid<'a>,
+    /// The string, with its header.
     pub value: BerObject<'a>,
 }
 
