@@ -35,8 +35,8 @@ enum Request<'a> {
 enum Value<'a> {
     Number(&'static str, i128),
     Octets(&'static str, &'a [u8]),
-    ObjectIdentifier(Oid<'a>),
-    IpAddress(Ipv4Addr),
+    Identifier(Oid<'a>),
+    Address(Ipv4Addr),
     Empty(&'static str),
 }
 
@@ -121,8 +121,8 @@ fn parse_value(i: &[u8]) -> IResult<&[u8], Value<'_>, BerError> {
         (Class::Universal, Tag::Integer, _) => Value::Number("Integer", number.as_i32()?.into()),
         (Class::Universal, Tag::OctetString, octets) => Value::Octets("OctetString", octets),
         (Class::Universal, Tag::Null, []) => Value::Empty("Null"),
-        (Class::Universal, Tag::Oid, _) if oid.iter().is_some() => Value::ObjectIdentifier(oid),
-        (Class::Application, Tag(0), &[a, b, c, d]) => Value::IpAddress(Ipv4Addr::new(a, b, c, d)),
+        (Class::Universal, Tag::Oid, [_, ..]) if oid.iter().is_some() => Value::Identifier(oid),
+        (Class::Application, Tag(0), &[a, b, c, d]) => Value::Address(Ipv4Addr::new(a, b, c, d)),
         (Class::Application, Tag(1), _) => Value::Number("Counter32", number.as_u32()?.into()),
         (Class::Application, Tag(2), _) => Value::Number("Gauge32", number.as_u32()?.into()),
         (Class::Application, Tag(3), _) => Value::Number("TimeTicks", number.as_u32()?.into()),
@@ -138,7 +138,7 @@ fn parse_value(i: &[u8]) -> IResult<&[u8], Value<'_>, BerError> {
 
 fn parse_oid(i: &[u8]) -> IResult<&[u8], Oid<'_>, BerError> {
     match parse_value(i)? {
-        (rest, Value::ObjectIdentifier(oid)) => Ok((rest, oid)),
+        (rest, Value::Identifier(oid)) => Ok((rest, oid)),
         _ => Err(BerError::BerTypeError.into()),
     }
 }
@@ -148,8 +148,8 @@ impl fmt::Display for Value<'_> {
         match self {
             Value::Number(name, n) => write!(f, "{name}({n})"),
             Value::Octets(name, octets) => write!(f, "{name}(\"{}\")", octets.escape_ascii()),
-            Value::ObjectIdentifier(oid) => write!(f, "ObjectIdentifier({oid})"),
-            Value::IpAddress(address) => write!(f, "IpAddress({address})"),
+            Value::Identifier(oid) => write!(f, "ObjectIdentifier({oid})"),
+            Value::Address(address) => write!(f, "IpAddress({address})"),
             Value::Empty(name) => f.write_str(name),
         }
     }
