@@ -1,5 +1,5 @@
 //! Messages (RFC 1157 4, RFC 1901 3, RFC 3416 3), and values (RFC 1155 3.2.3, RFC 2578 2).
-ghost use Rattle.std.specs.Prelude.{◌<◌, length, IfOk};
+ghost use Rattle.std.specs.Prelude.{◌≡◌, ◌<◌, length, IfOk, Ok};
 
 use der_parser::ber::{
     Any, BerObjectContent, Class, Tag, parse_ber_any, parse_ber_i32, parse_ber_sequence_of_v,
@@ -21,12 +21,11 @@ pub struct SnmpError(&'static str, Refused<BerError>);
 #[derive(Drop)]
 pub struct Message<'a>(u32, &'a [u8], Request<'a>, Vec<(Oid<'a>, Value<'a>)>);
 
-/// What stands in front of the bindings.
+/// What stands in front of the bindings: of a trap of version 1 enterprise, agent, the generic and
+/// specific trap and the time; else a name, a number and two fields, which are mostly on errors.
 #[derive(Drop)]
 enum Request<'a> {
-    /// Its name, its number, and two fields on errors; of a GetBulkRequest, other ones.
     Pdu(&'static str, i32, u32, u32),
-    /// A trap of version 1: enterprise, agent, generic and specific trap, and time.
     Trap(Oid<'a>, Value<'a>, u32, i32, Value<'a>),
 }
 
@@ -57,14 +56,15 @@ pub fn parse_message<'a>(alloc: Global, i: &'a [u8]) -> Result<(&'a [u8], Messag
     Ok((rest, Message(version, community.bytes, request, bindings)))
 }
 
-/// What a reader answers for the field of this name. It looks at the number of the tag alone, so
-/// the identifier octet is compared, which says class and form too (X.690 8.1.2).
+/// The answer for a field of this name and identifier octet: class, form and tag (X.690 8.1.2).
 fn field<'a, T: Drop>(
     name: &'static str,
     identifier: u8,
     i: &[u8],
     answer: IResult<&'a [u8], T, BerError>,
-) -> Result<(&'a [u8], T), SnmpError> {
+) -> Result<(&'a [u8], T), SnmpError>
+    ensures same { IfOk result (λ x. answer ≡ Ok x) }
+{
     if i.first() != Some(&identifier) {
         return Err(SnmpError(name, BerError::BerTypeError.into()));
     }
