@@ -2,6 +2,8 @@
 #![tactic(auto)]
 
 mod fault;
+#[cfg(test)]
+mod refusals;
 mod request;
 
 pub use fault::{Fault, RequestError};

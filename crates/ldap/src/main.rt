@@ -3,10 +3,8 @@
 #![tactic(auto)]
 
 mod message;
-mod stream;
 
 use crate::message::parse_message;
-use crate::stream::Stream;
 use anyhow::{Result, bail};
 use der_parser::IResult;
 use der_parser::error::{BerError, Err as Refused, Needed};
@@ -17,38 +15,35 @@ use std::io::{Read, Write};
 const MAX_MESSAGE: usize = 65536;
 
 fn main(rt: HostRuntime) -> Result<()> {
-    let mut stream = Stream::new(rt.alloc(), rt.stdin());
-    print_messages(rt.alloc(), &mut stream, &mut rt.stdout())
+    print_messages(rt.alloc(), &mut rt.stdin(), &mut rt.stdout())
 }
 
 /// Prints each message up to the end of the stream, or up to one that is refused. Where the octets
 /// are no whole message, the answer says how many more it takes: they are read, and it is asked again.
-fn print_messages<R: Read, W: Write>(
-    alloc: Global,
-    stream: &mut Stream<R>,
-    out: &mut W,
-) -> Result<()> {
+fn print_messages<R: Read, W: Write>(alloc: Global, stream: &mut R, out: &mut W) -> Result<()> {
+    let mut octets = Vec::new(alloc);
+    let mut offset: u64 = 0;
     for _ in 0..u64::MAX {
-        let offset = stream.offset;
-        match read_line(alloc, &stream.octets) {
+        match read_line(alloc, &octets) {
             Ok((left, line)) => {
                 writeln!(out, "{line}")?;
-                stream.keep_last(left);
+                let taken = octets.len().saturating_sub(left);
+                octets.drain(..taken);
+                offset = offset.saturating_add(taken as u64);
             }
             Err(Refused::Incomplete(Needed::Size(n))) => {
-                if stream.octets.len().saturating_add(n) > MAX_MESSAGE {
+                if octets.len().saturating_add(n) > MAX_MESSAGE {
                     bail!("message at {offset}: too large");
                 }
-                if !stream.read_more(n)? {
-                    if stream.octets.is_empty() {
-                        return Ok(());
-                    }
+                let count = stream.take(n as u64).read_to_end(&mut octets)?;
+                if octets.is_empty() {
+                    return Ok(());
+                }
+                if count < n {
                     bail!("message at {offset}: cut short");
                 }
             }
-            Err(Refused::Incomplete(Needed::Unknown)) => bail!("message at {offset}: incomplete"),
-            Err(Refused::Error(e) | Refused::Failure(e)) => bail!("message at {offset}: {e}"),
-            Err(Refused::OutOfMemory) => bail!("message at {offset}: out of memory"),
+            Err(e) => bail!("message at {offset}: {e}"),
         }
     }
     Ok(())

@@ -1,111 +1,173 @@
-//! Messages (RFC 1157 4, RFC 1901 3, RFC 3416 3).
-ghost use Rattle.std.specs.Prelude.{◌<◌, length, IfOk};
+//! Messages (RFC 1157 4, RFC 1901 3, RFC 3416 3), and values (RFC 1155 3.2.3, RFC 2578 2).
+ghost use Rattle.std.specs.Prelude.{◌≡◌, ◌<◌, length, IfOk, Ok};
 
-use crate::error::{SnmpError, field};
-use crate::value::{Dotted, Octets, Value, parse_octets, parse_oid, parse_value};
-use der_parser::IResult;
 use der_parser::ber::{
-    Any, Tag, parse_ber_any, parse_ber_i32, parse_ber_sequence_defined_g, parse_ber_sequence_of_v,
-    parse_ber_slice, parse_ber_u32,
+    Any, BerObjectContent, Class, Tag, parse_ber_any, parse_ber_i32, parse_ber_sequence_of_v,
+    parse_ber_u32,
 };
-use der_parser::error::{BerError, Err as Refused};
+use der_parser::error::{BerError, Err as Refused, ErrorKind, IResult};
+use der_parser::oid::Oid;
 use std::alloc::Global;
+use std::borrow::CowSlice;
 use std::fmt;
+use std::net::Ipv4Addr;
 
-/// A message. Nothing of the input is copied.
-#[derive(Debug, Drop)]
-pub struct Message<'a> {
-    version: u32,
-    community: Octets<'a>,
-    request: Request<'a>,
-    bindings: Vec<Binding<'a>>,
-}
+/// Why a message is refused, and at which field.
+#[derive(Debug, Drop, thiserror::Error)]
+#[error("{0}: {1}")]
+pub struct SnmpError(&'static str, Refused<BerError>);
 
-/// What stands in front of the bindings.
-#[derive(Debug, Drop)]
+/// A version, a community, a request and bindings. Texts are slices of the input.
+#[derive(Drop)]
+pub struct Message<'a>(u32, &'a [u8], Request<'a>, Vec<(Oid<'a>, Value<'a>)>);
+
+/// What stands in front of the bindings: of a trap of version 1 enterprise, agent, the generic and
+/// specific trap and the time; else a name, a number and two fields, which are mostly on errors.
+#[derive(Drop)]
 enum Request<'a> {
-    /// The name, the number of the request, and two fields on errors; of a GetBulkRequest, other ones.
     Pdu(&'static str, i32, u32, u32),
-    /// A trap of version 1: enterprise, agent, generic and specific trap, and time.
-    Trap(Dotted<'a>, Value<'a>, u32, i32, Value<'a>),
+    Trap(Oid<'a>, Value<'a>, u32, i32, Value<'a>),
 }
 
-/// An identifier, and the value that it has.
-#[derive(Debug, Drop)]
-struct Binding<'a>(Dotted<'a>, Value<'a>);
+/// A value, or what a response has in the place of one. Types of like values share a variant.
+#[derive(Drop)]
+enum Value<'a> {
+    Number(&'static str, i128),
+    Octets(&'static str, &'a [u8]),
+    Identifier(Oid<'a>),
+    Address(Ipv4Addr),
+    Empty(&'static str),
+}
 
 /// Reads a message, and answers what follows it.
-pub fn parse_message<'a>(alloc: Global, i: &'a [u8]) -> IResult<&'a [u8], Message<'a>, SnmpError>
+pub fn parse_message<'a>(alloc: Global, i: &'a [u8]) -> Result<(&'a [u8], Message<'a>), SnmpError>
     ensures shorter { IfOk result (λ x. length x.0.now < length i.now) }
 {
-    let (rest, fields) = match parse_ber_slice(i, Tag::Sequence) {
-        Ok(framed) => framed,
-        Err(e) => return Err(Refused::convert(e)),
-    };
-    let (i, version) = field("version", parse_ber_u32(fields))?;
-    let (i, community) = field("community", parse_octets(i))?;
-    let (_, pdu) = field("request", parse_ber_any(i))?;
-    let (i, request) = parse_request(alloc, pdu)?;
-    let binding = |i| parse_binding(alloc, i);
-    let (_, bindings) = parse_ber_sequence_of_v(alloc, binding).parse(i)?;
-    let message = Message {
-        version,
-        community,
-        request,
-        bindings,
-    };
-    Ok((rest, message))
+    let (rest, fields) = field("message", 0x30, i, parse_ber_any(i))?;
+    let (i, version) = field("version", 0x02, fields.bytes, parse_ber_u32(fields.bytes))?;
+    let (i, community) = field("community", 0x04, i, parse_ber_any(i))?;
+    let (behind, request) = parse_ber_any(i).map_err(|e| SnmpError("request", e))?;
+    let (i, request) = parse_request(version, request)?;
+    let list = parse_ber_sequence_of_v(alloc, parse_binding).parse(i);
+    let (last, bindings) = field("bindings", 0x30, i, list)?;
+    if !last.is_empty() || !behind.is_empty() {
+        return Err(SnmpError("message", BerError::NomError(ErrorKind::Eof).into()));
+    }
+    Ok((rest, Message(version, community.bytes, request, bindings)))
 }
 
-/// Reads the content of a SEQUENCE, up to the bindings. The number of its tag says which it is.
-fn parse_request<'a>(alloc: Global, pdu: Any<'a>) -> IResult<&'a [u8], Request<'a>, SnmpError> {
-    let name = match pdu.tag().0 {
-        0 => "GetRequest",
-        1 => "GetNextRequest",
-        2 => "Response",
-        3 => "SetRequest",
-        4 => return parse_trap(alloc, pdu.bytes),
-        5 => "GetBulkRequest",
-        6 => "InformRequest",
-        7 => "SNMPv2-Trap",
-        8 => "Report",
-        n => return Err(Refused::Error(SnmpError::from(BerError::UnknownTag(n)))),
+/// The answer for a field of this name and identifier octet: class, form and tag (X.690 8.1.2).
+fn field<'a, T: Drop>(
+    name: &'static str,
+    identifier: u8,
+    i: &[u8],
+    answer: IResult<&'a [u8], T, BerError>,
+) -> Result<(&'a [u8], T), SnmpError>
+    ensures same { IfOk result (λ x. answer ≡ Ok x) }
+{
+    if i.first() != Some(&identifier) {
+        return Err(SnmpError(name, BerError::BerTypeError.into()));
+    }
+    answer.map_err(|e| SnmpError(name, e))
+}
+
+/// Reads a request up to its bindings. Its identifier octet says which it is.
+fn parse_request<'a>(version: u32, pdu: Any<'a>) -> Result<(&'a [u8], Request<'a>), SnmpError> {
+    let name = match (version, pdu.header.raw_tag()) {
+        (0 | 1, Some([0xa0])) => "GetRequest",
+        (0 | 1, Some([0xa1])) => "GetNextRequest",
+        (0 | 1, Some([0xa2])) => "Response",
+        (0 | 1, Some([0xa3])) => "SetRequest",
+        (0, Some([0xa4])) => return parse_trap(pdu.bytes),
+        (1, Some([0xa5])) => "GetBulkRequest",
+        (1, Some([0xa6])) => "InformRequest",
+        (1, Some([0xa7])) => "SNMPv2-Trap",
+        (1, Some([0xa8])) => "Report",
+        (0 | 1, _) => return Err(SnmpError("request", BerError::BerTypeError.into())),
+        _ => return Err(SnmpError("version", BerError::BerValueError.into())),
     };
-    let (i, id) = field("request-id", parse_ber_i32(pdu.bytes))?;
-    let (i, status) = field("error-status", parse_ber_u32(i))?;
-    let (i, index) = field("error-index", parse_ber_u32(i))?;
+    let (i, id) = field("request-id", 0x02, pdu.bytes, parse_ber_i32(pdu.bytes))?;
+    let (i, status) = field("error-status", 0x02, i, parse_ber_u32(i))?;
+    let (i, index) = field("error-index", 0x02, i, parse_ber_u32(i))?;
     Ok((i, Request::Pdu(name, id, status, index)))
 }
 
-fn parse_trap<'a>(alloc: Global, i: &'a [u8]) -> IResult<&'a [u8], Request<'a>, SnmpError> {
-    let (i, enterprise) = field("enterprise", parse_oid(alloc, i))?;
-    let (i, agent) = field("agent-addr", parse_value(i))?;
-    let (i, generic) = field("generic-trap", parse_ber_u32(i))?;
-    let (i, specific) = field("specific-trap", parse_ber_i32(i))?;
-    let (i, time) = field("time-stamp", parse_value(i))?;
+fn parse_trap(i: &[u8]) -> Result<(&[u8], Request<'_>), SnmpError> {
+    let (i, enterprise) = field("enterprise", 0x06, i, parse_oid(i))?;
+    let (i, agent) = field("agent-addr", 0x40, i, parse_value(i))?;
+    let (i, generic) = field("generic-trap", 0x02, i, parse_ber_u32(i))?;
+    let (i, specific) = field("specific-trap", 0x02, i, parse_ber_i32(i))?;
+    let (i, time) = field("time-stamp", 0x43, i, parse_value(i))?;
     Ok((i, Request::Trap(enterprise, agent, generic, specific, time)))
 }
 
 /// Reads a binding. Behind the last one it is Incomplete, which ends the list.
-fn parse_binding<'a>(alloc: Global, i: &'a [u8]) -> IResult<&'a [u8], Binding<'a>, SnmpError> {
-    parse_ber_sequence_defined_g(|i, _| {
-        let (i, name) = field("name", parse_oid(alloc, i))?;
-        let (i, value) = field("value", parse_value(i))?;
-        Ok((i, Binding(name, value)))
-    })
-    .parse(i)
+fn parse_binding(i: &[u8]) -> IResult<&[u8], (Oid<'_>, Value<'_>), BerError> {
+    let (rest, binding) = parse_ber_any(i)?;
+    let (i, name) = parse_oid(binding.bytes)?;
+    match (binding.header.raw_tag(), parse_value(i)?) {
+        (Some([0x30]), ([], value)) => Ok((rest, (name, value))),
+        _ => Err(BerError::BerValueError.into()),
+    }
+}
+
+/// Reads an element of any tag, and then its octets by the tag. Each value is primitive.
+fn parse_value(i: &[u8]) -> IResult<&[u8], Value<'_>, BerError> {
+    let (rest, any) = parse_ber_any(i)?;
+    any.header.assert_primitive()?;
+    let number = BerObjectContent::Integer(any.bytes);
+    let oid = Oid::new(CowSlice::Borrowed(any.bytes));
+    let value = match (any.class(), any.tag(), any.bytes) {
+        (Class::Universal, Tag::Integer, _) => Value::Number("Integer", number.as_i32()?.into()),
+        (Class::Universal, Tag::OctetString, octets) => Value::Octets("OctetString", octets),
+        (Class::Universal, Tag::Null, []) => Value::Empty("Null"),
+        (Class::Universal, Tag::Oid, [_, ..]) if oid.iter().is_some() => Value::Identifier(oid),
+        (Class::Application, Tag(0), &[a, b, c, d]) => Value::Address(Ipv4Addr::new(a, b, c, d)),
+        (Class::Application, Tag(1), _) => Value::Number("Counter32", number.as_u32()?.into()),
+        (Class::Application, Tag(2), _) => Value::Number("Gauge32", number.as_u32()?.into()),
+        (Class::Application, Tag(3), _) => Value::Number("TimeTicks", number.as_u32()?.into()),
+        (Class::Application, Tag(4), octets) => Value::Octets("Opaque", octets),
+        (Class::Application, Tag(6), _) => Value::Number("Counter64", number.as_u64()?.into()),
+        (Class::ContextSpecific, Tag(0), []) => Value::Empty("NoSuchObject"),
+        (Class::ContextSpecific, Tag(1), []) => Value::Empty("NoSuchInstance"),
+        (Class::ContextSpecific, Tag(2), []) => Value::Empty("EndOfMibView"),
+        _ => return Err(BerError::BerValueError.into()),
+    };
+    Ok((rest, value))
+}
+
+fn parse_oid(i: &[u8]) -> IResult<&[u8], Oid<'_>, BerError> {
+    match parse_value(i)? {
+        (rest, Value::Identifier(oid)) => Ok((rest, oid)),
+        _ => Err(BerError::BerTypeError.into()),
+    }
+}
+
+impl fmt::Display for Value<'_> {
+    fn fmt<W: fmt::Write>(&self, f: &mut fmt::Formatter<W>) -> fmt::Result {
+        match self {
+            Value::Number(name, n) => write!(f, "{name}({n})"),
+            Value::Octets(name, octets) => write!(f, "{name}(\"{}\")", octets.escape_ascii()),
+            Value::Identifier(oid) => write!(f, "ObjectIdentifier({oid})"),
+            Value::Address(address) => write!(f, "IpAddress({address})"),
+            Value::Empty(name) => f.write_str(name),
+        }
+    }
 }
 
 /// A line for the message, and one for each binding.
 impl fmt::Display for Message<'_> {
     fn fmt<W: fmt::Write>(&self, f: &mut fmt::Formatter<W>) -> fmt::Result {
-        write!(
-            f,
-            "version {} {:?} {:?}",
-            self.version, self.community, self.request
-        )?;
-        for Binding(name, value) in &self.bindings {
-            write!(f, "\n  {name:?} = {value:?}")?;
+        let Message(version, community, request, bindings) = self;
+        write!(f, "version {version} \"{}\" ", community.escape_ascii())?;
+        match request {
+            Request::Pdu(name, id, error, at) => write!(f, "Pdu({name:?}, {id}, {error}, {at})")?,
+            Request::Trap(oid, agent, generic, specific, time) => {
+                write!(f, "Trap({oid}, {agent}, {generic}, {specific}, {time})")?
+            }
+        }
+        for (name, value) in bindings {
+            write!(f, "\n  {name} = {value}")?;
         }
         Ok(())
     }

@@ -3,6 +3,8 @@
 
 mod certificate;
 mod extension;
+#[cfg(test)]
+mod refusals;
 
 pub use certificate::{Certificate, read_certificate};
 pub use extension::{Extension, GeneralName, Value};

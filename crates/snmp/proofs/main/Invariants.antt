@@ -1,5 +1,5 @@
 use Rattle.std.proofs.Common.{◌≤◌, length}
-use Rattle.snmp.proofs.print_messages.Given as goal
+use Rattle.snmp.proofs.main.Given as goal
 
 -- what is left is no longer than the input, and each message leaves less
 abbrev pub invariant-loop-rest : goal.invariant-loop-rest

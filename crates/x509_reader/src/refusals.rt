@@ -1,0 +1,57 @@
+//! Certificates that are refused, and where: a certificate that is read, with one octet changed.
+use crate::certificate::read_certificate;
+use der_parser::der::Tag;
+use der_parser::error::Err::{Error, Failure, Incomplete};
+use der_parser::error::{BerError, DerConstraint, Err as Refused, ErrorKind, Needed};
+use std::test::Fail;
+
+/// A certificate (RFC 5280 4.1) of 95 octets, and one octet behind it.
+#[rattlefmt::skip]
+const CERTIFICATE: [u8; 96] = *b"\
+    \x30\x5d\
+    \x30\x52\
+    \xa0\x03\x02\x01\x02\
+    \x02\x01\x05\
+    \x30\x03\x06\x01\x2a\
+    \x30\x16\x31\x14\x30\x08\x06\x03\x55\x04\x03\x0c\x01a\x30\x08\x06\x03\x55\x04\x0a\x0c\x01b\
+    \x30\x1e\x17\x0d260101000000Z\x17\x0d270101000000Z\
+    \x30\x00\
+    \x30\x09\x30\x03\x06\x01\x2a\x03\x02\x00\x01\
+    \x30\x03\x06\x01\x2a\
+    \x03\x02\x00\x01\
+    \x00";
+
+/// What is wrong, how many of the octets are read, which one is changed and to what, where the
+/// refused element begins, and the refusal.
+#[rattlefmt::skip]
+const REFUSED: &[(&str, usize, usize, u8, usize, Refused<BerError>)] = &[
+    ("the last octet is missing", 94, 0, 0x30, 0, Incomplete(Needed::Size(1))),
+    ("an octet stands behind", 96, 95, 0x00, 95, Error(BerError::NomError(ErrorKind::Eof))),
+    ("version 4", 95, 8, 0x03, 6, Error(BerError::BerValueError)),
+    ("serial number -128", 95, 11, 0x80, 9, Error(BerError::IntegerNegative)),
+    ("an attribute in front of a lesser one", 95, 27, 0x0b, 17,
+        Failure(BerError::DerConstraintFailed(DerConstraint::SetOfOrder))),
+    ("a text as the first time", 95, 43, 0x16, 43,
+        Error(BerError::UnexpectedTag { expected: Some(Tag::UtcTime), actual: Tag::Ia5String })),
+    ("a signature in an OCTET STRING", 95, 91, 0x04, 91,
+        Error(BerError::UnexpectedTag { expected: Some(Tag::BitString), actual: Tag::OctetString })),
+];
+
+#[test]
+fn certificates_are_refused(rt: HostRuntime) -> Result<(), Fail> {
+    let read = read_certificate(rt.alloc(), &CERTIFICATE[..95]);
+    assert!(rt; read.is_ok(), "{read:?}");
+    for (what, count, at, octet, offset, reason) in REFUSED {
+        let mut octets = CERTIFICATE;
+        if let Some(changed) = octets.get_mut(*at) {
+            *changed = *octet;
+        }
+        let input = octets.get(..*count).unwrap_or(&[]);
+        let answer = read_certificate(rt.alloc(), input);
+        assert!(rt;
+            matches!(&answer, Err(e) if e.offset == *offset && e.reason == *reason),
+            "{what}: {answer:?}"
+        );
+    }
+    Ok(())
+}
