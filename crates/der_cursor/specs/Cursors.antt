@@ -1,23 +1,24 @@
 -- Cursors: the octets of a content that aren't read yet, and where in the input they stand.
 use Rattle.std.specs.Borrow.{Bor}
-use Rattle.std.specs.Prelude.{◌≡◌, ◌≢◌, ℕ, ◌+◌, ◌-◌, Bool, true, Option, Some, None, List, [], ◌++◌, length}
+use Rattle.std.specs.Prelude.{◌≡◌, ◌≢◌, ℕ, ◌+◌, ◌-◌, ◌/◌, Bool, true, Option, Some, None, List, [], ◌++◌, length}
 use Rattle.std.specs.Prelude.{Result, Ok, Err, ◌⊎◌, slice_get, codes, decimal}
 use Rattle.std.specs.Option.{option_map, IfSome, IsSomeAnd}
 use Rattle.der_base.specs.declared.error.Err.{Err as Refused}
 use Rattle.der_base.specs.declared.error.Err.TheVariants.{Error}
 use Rattle.der_base.specs.declared.error.Error.{Error as BerError}
-use Rattle.der_base.specs.declared.error.Error.TheVariants.{BerTypeError, NomError}
+use Rattle.der_base.specs.declared.error.Error.TheVariants.{NomError, UnexpectedClass}
 use Rattle.der_base.specs.declared.error.ErrorKind.{ErrorKind}
 use Rattle.der_base.specs.declared.error.ErrorKind.TheVariants.{Eof}
 use Rattle.der_base.specs.declared.header.Class.{Class}
-use Rattle.der_base.specs.declared.header.Class.TheVariants.{ContextSpecific}
+use Rattle.der_base.specs.declared.header.Class.TheVariants.{ContextSpecific, Universal}
 use Rattle.der_base.specs.Any.{DerAnyLacks}
 use Rattle.der_base.specs.Containers.{Answered}
 use Rattle.der_base.specs.Errors.{err_text}
 use Rattle.der_base.specs.Exactly.{AnswersExactly}
+use Rattle.der_base.specs.Octets.{class_number}
 use Rattle.der_cursor.specs.declared.cursor.Cursor.{Cursor}
 use Rattle.der_cursor.specs.declared.refusal.Refusal.{Refusal}
-use Rattle.der_cursor.specs.Elements.{SpellsElement, ElementRefuses, BeginsWithTag, first_octet}
+use Rattle.der_cursor.specs.Elements.{SpellsElement, ElementRefuses, BeginsWithTag}
 
 -- the octets that aren't read yet
 abbrev pub octets_left : Cursor → List ℕ
@@ -92,11 +93,12 @@ OpensTagged n old (Ok (Some inner)) new = BeginsWithTag n (octets_left old)
     × OpensAt ContextSpecific true n old (Ok inner) new
 OpensTagged n old (Err e) new = BeginsWithTag n (octets_left old) × OpensAt ContextSpecific true n old (Err e) new
 
--- the next element, if there is any, begins as one of this universal type, or BerTypeError is told at its place
-abbrev pub ExpectsAt : ℕ → Cursor → Result (Unit {0}) (Refusal BerError) → Type 0
-ExpectsAt t c (Ok u) = IfSome (slice_get (octets_left c) 0) (λ b. b ≡ first_octet t)
-ExpectsAt t c (Err e) = IsSomeAnd (slice_get (octets_left c) 0) (λ b. b ≢ first_octet t)
-    × (e ≡ record { offset = place_of c; reason = Error BerTypeError })
+-- the next element, if there is any, is of the class Universal by its first identifier octet (8.1.2.2), or its class is
+-- told at its place
+abbrev pub AssertsUniversal : Cursor → Result (Unit {0}) (Refusal BerError) → Type 0
+AssertsUniversal c (Ok u) = IfSome (slice_get (octets_left c) 0) (λ b. b / 64 ≡ class_number Universal)
+AssertsUniversal c (Err e) = IsSomeAnd (slice_get (octets_left c) 0) (λ b. (k : Class) × (b / 64 ≡ class_number k)
+    × (k ≢ Universal) × (e ≡ record { offset = place_of c; reason = Error (UnexpectedClass (Some Universal) k) }))
 
 -- nothing is left, or Eof is told at the place of what is
 abbrev pub EndsAt : Cursor → Result (Unit {0}) (Refusal BerError) → Type 0

@@ -1,6 +1,6 @@
 -- Elements that are opened: of one class, constructed bit and number, by DER.
 use Rattle.std.specs.Borrow.{Bor}
-use Rattle.std.specs.Prelude.{◌≡◌, ◌≢◌, ℕ, ◌+◌, ◌⊎◌, ◌==◌, ◌||◌, if◌then◌else◌, min, Bool, true, false, Some, List, ◌++◌, length, Result}
+use Rattle.std.specs.Prelude.{◌≡◌, ◌≢◌, ℕ, ◌⊎◌, Bool, true, false, Some, List, ◌++◌, length, Result}
 use Rattle.der_base.specs.declared.error.Err.{Err as Refused}
 use Rattle.der_base.specs.declared.error.Error.{Error as BerError}
 use Rattle.der_base.specs.declared.header.Class.{Class}
@@ -43,8 +43,3 @@ AnswersElement c p t i result = AnswersExactly result leading_content (λ x. Spe
 -- i begins with the identifier octets of an explicit tag of this number, of class context-specific (8.1.2, 8.14.2)
 abbrev pub BeginsWithTag : ℕ → List ℕ → Type 0
 BeginsWithTag n i = (rest : List ℕ) × (i ≡ identifier ContextSpecific true n ++ rest)
-
--- the first identifier octet of a universal type by DER (8.1.2.2, 8.1.2.4.1): SEQUENCE and SET are constructed (8.9.1,
--- 8.11.1), and no other type is (10.2)
-abbrev pub first_octet : ℕ → ℕ
-first_octet t = if t == 16 || t == 17 then 32 + t else min t 31

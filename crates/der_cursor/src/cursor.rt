@@ -1,12 +1,13 @@
 //! The cursor.
-ghost use Rattle.std.specs.Prelude.{◌≡◌, ◌↔◌, true, false, IsTrue, length, slice_get};
+ghost use Rattle.std.specs.Prelude.{◌≡◌, ◌/◌, ◌↔◌, true, false, IsTrue, length, slice_get};
 ghost use Rattle.der_base.specs.Answer.{MatchAnswer};
 ghost use Rattle.der_base.specs.Any.{DerAnyLacks, leading_content};
 ghost use Rattle.der_base.specs.declared.header.Class.{Class};
+ghost use Rattle.der_base.specs.Octets.{class_number};
 ghost use Rattle.der_cursor.specs.Cursors.{octets_left, place_of, IsCursor};
-ghost use Rattle.der_cursor.specs.Cursors.{Reads, ReadsLast, IsLast, OpensAt, OpensTagged, ExpectsAt, EndsAt};
+ghost use Rattle.der_cursor.specs.Cursors.{Reads, ReadsLast, IsLast, OpensAt, OpensTagged, AssertsUniversal, EndsAt};
 ghost use Rattle.der_cursor.specs.Runs.{ReadsAll, values_of};
-ghost use Rattle.der_cursor.specs.Elements.{AnswersElement, BeginsWithTag, ElementRefuses, SpellsElement, first_octet};
+ghost use Rattle.der_cursor.specs.Elements.{AnswersElement, BeginsWithTag, ElementRefuses, SpellsElement};
 
 use crate::refusal::Refusal;
 use der_base::any::Any;
@@ -205,18 +206,20 @@ impl<'a> Cursor<'a> {
         }
     }
 
-    /// Asks that the next element is one of this universal type by the first octet of its identifier
-    /// (8.1.2), where any octet is left. The readers of one type look at the number of the tag alone.
-    /// BerTypeError where it is another.
-    pub fn expect(&self, tag: Tag) -> Result<(), Refusal<BerError>>
-        ensures { ExpectsAt tag.0 self.now result }
+    /// Asks that the next element is of the class Universal (8.1.2.2), where any octet is left: the
+    /// readers of one type look at the number of the tag alone. UnexpectedClass where it isn't.
+    pub fn assert_universal(&self) -> Result<(), Refusal<BerError>>
+        ensures { AssertsUniversal self.now result }
     {
-        match self.identifier() {
-            Some(octet) if octet != first_octet(tag) => {
-                Err(self.refused(Refused::Error(BerError::BerTypeError)))
-            }
-            _ => Ok(()),
+        let Some(octet) = self.identifier() else {
+            return Ok(());
+        };
+        let class = class_of(octet);
+        if class == Class::Universal {
+            return Ok(());
         }
+        let e = BerError::unexpected_class(Some(Class::Universal), class);
+        Err(self.refused(Refused::Error(e)))
     }
 
     /// Ends a list: no element may be left.
@@ -275,16 +278,15 @@ fn read_content<'a>(
     Ok((rest, any.bytes))
 }
 
-/// The first identifier octet of a universal type by DER: SEQUENCE and SET are constructed (8.9.1, 8.11.1,
-/// 10.2).
-fn first_octet(tag: Tag) -> u8
-    ensures { result ≡ first_octet tag.0 }
+/// The class that the first identifier octet says (8.1.2.2).
+fn class_of(octet: u8) -> Class
+    ensures { class_number result ≡ octet / 64 }
 {
-    match tag.0 {
-        16 => 0x30,
-        17 => 0x31,
-        number @ 0..31 => number as u8,
-        _ => 0x1f,
+    match octet {
+        0..0x40 => Class::Universal,
+        0x40..0x80 => Class::Application,
+        0x80..0xc0 => Class::ContextSpecific,
+        _ => Class::Private,
     }
 }
 

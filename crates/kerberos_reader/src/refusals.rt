@@ -26,12 +26,15 @@ const REFUSED: &[(&str, usize, usize, u8, usize, &str)] = &[
     ("the last octet is missing", 66, 0, 0x6a, 0, "incomplete, needs 1"),
     ("an octet stands behind", 68, 67, 0x00, 67, "parser fault: Eof"),
     ("a TGS-REQ, tag 12", 67, 0, 0x6c, 0, "unexpected tag (expected Enumerated, actual Utf8String)"),
-    ("version 4", 67, 8, 0x04, 4, "version 4"),
-    ("a message of another kind, 12", 67, 13, 0x0c, 9, "message of kind 12"),
+    ("version 4", 67, 8, 0x04, 6, "version 4"),
+    ("a message of another kind, 12", 67, 13, 0x0c, 11, "message of kind 12"),
     ("rtime, 6, in the place of till, 5", 67, 32, 0xa6, 32,
         "unexpected tag (expected Null, actual Oid)"),
     ("a time of another type", 67, 34, 0x17, 34,
         "unexpected tag (expected GeneralizedTime, actual UtcTime)"),
+    ("a version of the class Application", 67, 6, 0x42, 6,
+        "unexpected class (expected UNIVERSAL, actual APPLICATION)"),
+    ("an octet behind the version", 67, 5, 0x04, 9, "parser fault: Eof"),
     ("a field 12, which there isn't", 67, 63, 0xac, 63, "parser fault: Eof"),
 ];
 

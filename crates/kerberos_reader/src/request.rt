@@ -34,11 +34,11 @@ pub fn read_request<'a>(alloc: Global, octets: &'a [u8]) -> Result<Request<'a>, 
     input.end()?;
     let mut fields = message.open_sequence()?;
     message.end()?;
-    open_field(&mut fields, 1, Tag::Integer)?.read_last(parse_version)?;
-    open_field(&mut fields, 2, Tag::Integer)?.read_last(parse_kind)?;
+    open_field(&mut fields, 1)?.read_last(parse_version)?;
+    open_field(&mut fields, 2)?.read_last(parse_kind)?;
     // What authenticates the client beforehand isn't looked at.
     fields.open_tagged(3)?;
-    let mut inside = open_field(&mut fields, 4, Tag::Sequence)?;
+    let mut inside = open_field(&mut fields, 4)?;
     fields.end()?;
     let body = inside.open_sequence()?;
     inside.end()?;
@@ -46,15 +46,15 @@ pub fn read_request<'a>(alloc: Global, octets: &'a [u8]) -> Result<Request<'a>, 
 }
 
 fn read_body<'a>(alloc: Global, mut body: Cursor<'a>) -> Result<Request<'a>, RequestError> {
-    open_field(&mut body, 0, Tag::BitString)?.read_last(parse_bits)?;
+    open_field(&mut body, 0)?.read_last(parse_bits)?;
     let client = read_principal(alloc, &mut body, 1)?;
-    let realm = open_field(&mut body, 2, Tag::GeneralString)?.read_last(parse_text)?;
+    let realm = open_field(&mut body, 2)?.read_last(parse_text)?;
     let server = read_principal(alloc, &mut body, 3)?;
     let from = read_time(&mut body, 4)?;
-    let till = open_field(&mut body, 5, Tag::GeneralizedTime)?.read_last(parse_time)?;
+    let till = open_field(&mut body, 5)?.read_last(parse_time)?;
     let renewable_till = read_time(&mut body, 6)?;
-    let _nonce = open_field(&mut body, 7, Tag::Integer)?.read_last(parse_der_u32)?;
-    let kinds = open_field(&mut body, 8, Tag::Sequence)?;
+    let _nonce = open_field(&mut body, 7)?.read_last(parse_der_u32)?;
+    let kinds = open_field(&mut body, 8)?;
     let encryption_kinds = kinds.read_last_in(alloc, parse_numbers)?;
     // Addresses, data for the server and further tickets aren't looked at.
     for number in 9..=11 {
@@ -72,14 +72,10 @@ fn read_body<'a>(alloc: Global, mut body: Cursor<'a>) -> Result<Request<'a>, Req
     })
 }
 
-/// Opens a field that has to be there, and to hold a value of this type.
-fn open_field<'a>(
-    fields: &mut Cursor<'a>,
-    number: u32,
-    tag: Tag,
-) -> Result<Cursor<'a>, RequestError> {
+/// Opens a field that has to be there, and to hold a value of a universal type.
+fn open_field<'a>(fields: &mut Cursor<'a>, number: u32) -> Result<Cursor<'a>, RequestError> {
     let inside = fields.open(Class::ContextSpecific, true, Tag(number))?;
-    inside.expect(tag)?;
+    inside.assert_universal()?;
     Ok(inside)
 }
 
@@ -114,8 +110,8 @@ fn read_principal<'a>(
     };
     let mut fields = inside.open_sequence()?;
     inside.end()?;
-    let _kind = open_field(&mut fields, 0, Tag::Integer)?.read_last(parse_der_i32)?;
-    let texts = open_field(&mut fields, 1, Tag::Sequence)?;
+    let _kind = open_field(&mut fields, 0)?.read_last(parse_der_i32)?;
+    let texts = open_field(&mut fields, 1)?;
     let components = texts.read_last_in(alloc, parse_texts)?;
     fields.end()?;
     Ok(Some(Principal(components)))
@@ -125,7 +121,7 @@ fn read_principal<'a>(
 fn read_time(body: &mut Cursor<'_>, number: u8) -> Result<Option<ASN1DateTime>, RequestError> {
     match body.open_tagged(number)? {
         Some(inside) => {
-            inside.expect(Tag::GeneralizedTime)?;
+            inside.assert_universal()?;
             Ok(Some(inside.read_last(parse_time)?))
         }
         None => Ok(None),

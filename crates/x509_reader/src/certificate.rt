@@ -5,7 +5,7 @@ use der_parser::IResult;
 use der_parser::ber::{ASN1DateTime, Any, BitStringObject};
 use der_parser::cursor::{Cursor, Refusal, parse_bits, parse_identifier};
 use der_parser::der::{
-    Tag, parse_der_generalizedtime, parse_der_integer, parse_der_u32, parse_der_utctime,
+    parse_der_generalizedtime, parse_der_integer, parse_der_u32, parse_der_utctime,
 };
 use der_parser::error::{BerError, Err as Refused};
 use der_parser::oid::Oid;
@@ -39,7 +39,7 @@ pub fn read_certificate<'a>(
     let fields = parts.open_sequence()?;
     // The signature and its algorithm, which the fields name too.
     read_algorithm(&mut parts)?;
-    parts.expect(Tag::BitString)?;
+    parts.assert_universal()?;
     parts.read_last(parse_bits)?;
     read_fields(alloc, fields)
 }
@@ -50,24 +50,26 @@ fn read_fields<'a>(
 ) -> Result<Certificate<'a>, Refusal<BerError>> {
     let version = match fields.open_tagged(0)? {
         Some(inside) => {
-            inside.expect(Tag::Integer)?;
+            inside.assert_universal()?;
             inside.read_last(parse_version)?
         }
         None => 1,
     };
-    fields.expect(Tag::Integer)?;
+    fields.assert_universal()?;
     let serial_number = fields.read(parse_serial_number)?;
     let signature_algorithm = read_algorithm(&mut fields)?;
-    fields.expect(Tag::Sequence)?;
+    fields.assert_universal()?;
     let issuer = fields.read_in(alloc, parse_name)?;
     let mut validity = fields.open_sequence()?;
+    validity.assert_universal()?;
     let not_before = validity.read(parse_time)?;
+    validity.assert_universal()?;
     let not_after = validity.read_last(parse_time)?;
-    fields.expect(Tag::Sequence)?;
+    fields.assert_universal()?;
     let subject = fields.read_in(alloc, parse_name)?;
     let mut key_info = fields.open_sequence()?;
     let key_algorithm = read_algorithm(&mut key_info)?;
-    key_info.expect(Tag::BitString)?;
+    key_info.assert_universal()?;
     let key = key_info.read_last(parse_bits)?;
     let extensions = read_extensions(alloc, fields)?;
     Ok(Certificate {
@@ -131,12 +133,11 @@ fn read_algorithm<'a>(fields: &mut Cursor<'a>) -> Result<Oid<'a>, Refusal<BerErr
 /// Reads a time, by its identifier octet (4.1.2.5).
 fn parse_time(i: &[u8]) -> IResult<&[u8], ASN1DateTime, BerError> {
     match i.first() {
-        Some(23) | None => parse_utc_time(i),
         Some(24) => {
             let (rest, object) = parse_der_generalizedtime(i)?;
             Ok((rest, object.as_datetime()?))
         }
-        Some(_) => Err(Refused::Error(BerError::BerTypeError)),
+        _ => parse_utc_time(i),
     }
 }
 

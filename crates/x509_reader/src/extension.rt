@@ -55,11 +55,11 @@ pub fn read_extension<'a>(
     fields.end()?;
     let value = match identifier.as_bytes() {
         b"\x55\x1d\x0f" => {
-            inside.expect(Tag::BitString)?;
+            inside.assert_universal()?;
             Value::KeyUsage(inside.read_last(parse_bits)?)
         }
         b"\x55\x1d\x11" => {
-            inside.expect(Tag::Sequence)?;
+            inside.assert_universal()?;
             Value::SubjectAltName(inside.read_last_in(alloc, parse_names)?)
         }
         b"\x55\x1d\x13" => read_basic_constraints(inside)?,

@@ -1,6 +1,6 @@
 //! Certificates that are refused, and where: a certificate that is read, with one octet changed.
 use crate::certificate::read_certificate;
-use der_parser::der::Tag;
+use der_parser::der::{Class, Tag};
 use der_parser::error::Err::{Error, Failure, Incomplete};
 use der_parser::error::{BerError, DerConstraint, Err as Refused, ErrorKind, Needed};
 use std::test::Fail;
@@ -33,6 +33,9 @@ const REFUSED: &[(&str, usize, usize, u8, usize, Refused<BerError>)] = &[
         Failure(BerError::DerConstraintFailed(DerConstraint::SetOfOrder))),
     ("a text as the first time", 95, 43, 0x16, 43,
         Error(BerError::UnexpectedTag { expected: Some(Tag::UtcTime), actual: Tag::Ia5String })),
+    ("a serial number under the tag [2]", 95, 9, 0x82, 9,
+        Error(BerError::UnexpectedClass { expected: Some(Class::Universal), actual: Class::ContextSpecific })),
+    ("an octet behind the version", 95, 5, 0x04, 9, Error(BerError::NomError(ErrorKind::Eof))),
     ("a signature in an OCTET STRING", 95, 91, 0x04, 91,
         Error(BerError::UnexpectedTag { expected: Some(Tag::BitString), actual: Tag::OctetString })),
 ];
