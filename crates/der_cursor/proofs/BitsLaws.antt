@@ -5,6 +5,7 @@ use Rattle.der_base.specs.declared.error.Err.TheVariants.{Incomplete, Error, Fai
 use Rattle.der_base.specs.declared.error.Error.{Error as BerError}
 use Rattle.der_base.specs.declared.error.Needed.TheVariants.{Unknown, Size}
 use Rattle.der_base.specs.declared.header.Class.{Class}
+use Rattle.der_base.specs.declared.time.ASN1DateTime.{ASN1DateTime}
 use Rattle.der_base.specs.declared.header.Class.TheVariants.{Universal}
 use Rattle.der_base.specs.Header.{class_of, is_constructed, number_of}
 use Rattle.der_base.specs.Answer.{MatchAnswer}
@@ -13,6 +14,7 @@ use Rattle.der_base.specs.Parts.{AnswersPart, bits_part}
 use Rattle.der_base.specs.Refusal.{Refusal, refusal}
 use Rattle.der_base.specs.Spelling.{IsDerContent}
 use Rattle.der_base.specs.Text.{is_text_type}
+use Rattle.der_base.specs.Time.{IsTimeText}
 use Rattle.der_base.specs.Tree.{Node, node, Content, end_of_content, boolean, integer, bit_string, string, null, enumerated, object_identifier, relative_oid, time, sequence, set, absent, present, tagged, unknown}
 use Rattle.der_base.proofs.Answers.Answering.{passed_on}
 use Rattle.der_object.specs.declared.object.BerObject.{BerObject}
@@ -30,6 +32,11 @@ no_string k w e (inr (inl a)) = omega (arith, e, a.0)
 no_string k w e (inr (inr (inl a))) = omega (arith, e, a.0)
 no_string k w e (inr (inr (inr a))) = let f : IsTrue (is_text_type 3) = subst (λ n. IsTrue (is_text_type n)) (sym e) a.0 in apart f
 
+-- nor a time
+no_time : (k : ℕ) (w : List ℕ) (t : ASN1DateTime) → 3 ≡ k → IsTimeText k w t → ⊥
+no_time k w t e (inl a) = omega (arith, e, a.0)
+no_time k w t e (inr a) = omega (arith, e, a.0)
+
 -- the content of number 3 is a BIT STRING
 bits_content : (p : Bool) (x : Content) → IsDerContent Universal p 3 x → (u : ℕ) × (w : List ℕ) × (x ≡ bit_string u w)
 bits_content p (bit_string u w) h = (u, w, refl)
@@ -41,11 +48,7 @@ bits_content p null (inl h) = absurd (omega (arith, h.2.0))
 bits_content p (enumerated n) (inl h) = absurd (omega (arith, h.2.0.0))
 bits_content p (object_identifier r w) (inl h) = absurd (omega (arith, h.2.0.0))
 bits_content p (relative_oid r w) (inl h) = absurd (omega (arith, h.2.0.0))
-bits_content p (time k t) (inl h) = absurd (no_time k h.2.0.0 h.2.0.2)
-  where
-    no_time : (k : ℕ) {A B : Type 0} → 3 ≡ k → ((k ≡ 23) × A) ⊎ ((k ≡ 24) × B) → ⊥
-    no_time k e (inl a) = omega (arith, e, a.0)
-    no_time k e (inr a) = omega (arith, e, a.0)
+bits_content p (time k t) (inl h) = absurd (no_time k _ t h.2.0.0 h.2.0.2)
 bits_content p (sequence l) h = absurd (omega (arith, h.1))
 bits_content p (set l) h = absurd (omega (arith, h.1))
 bits_content p absent (inl h) = absurd h.2.0
@@ -88,7 +91,12 @@ module _ (i : List ℕ) (left : Bor (List ℕ)) (o : BerObject) (a : AnswersType
       let same : w ≡ x.bytes.now = some_same w x.bytes.now (sym (ap bits_part q) ∙ told) in
       let spelled : SpellsTyped 3 i (tree o, left.now) = (typed_shows_one 3 i (omega arith)).spelled (left, o) a.found in
       record {
-        found = (class_of o.header, is_constructed o.header, u, rw (sym a.found.header.number, sym same, sym q) spelled);
+        found = (
+            let c = class_of o.header in
+            let p = is_constructed o.header in
+            let numbered = subst (λ n. SpellsTyped 3 i (node c p n (content_tree o.content), left.now)) a.found.header.number spelled in
+            let as_bits = subst (λ y. SpellsTyped 3 i (node c p 3 y, left.now)) q numbered in
+            (c, p, u, subst (λ y. SpellsTyped 3 i (node c p 3 (bit_string u y), left.now)) same as_bits));
         only = λ v s. (
             let z : (tree o, left.now) ≡ (node s.0 s.1 3 (bit_string s.2 v.0), v.1) = a.only (node s.0 s.1 3 (bit_string s.2 v.0), v.1) s.3 in
             let y : x.bytes.now ≡ v.0 = some_same x.bytes.now v.0 (sym told ∙ ap (λ k. bits_part (content_at k.0)) z) in

@@ -1,12 +1,13 @@
 -- An OBJECT IDENTIFIER that has arcs, a refusal, and an input that is cut short: one of them holds at most, and each in one way.
-use Rattle.std.proofs.Common.{◌≡◌, ◌≢◌, ℕ, Bool, false, List, Option, Some, None, refl, sym, ap, ◌∙◌, inl, inr}
+use Rattle.std.proofs.Common.{◌≡◌, ◌≢◌, ℕ, Bool, false, List, Option, Some, None, Ok, Bor, refl, sym, ap, subst, ◌∙◌, inl, inr}
 use Rattle.der_base.specs.declared.header.Class.TheVariants.{Universal}
+use Rattle.der_base.specs.declared.oid.Oid.{Oid}
 use Rattle.der_base.specs.Any.{DerAnyLacks}
 use Rattle.der_base.specs.Arcs.{arcs}
 use Rattle.der_base.specs.Refusal.{Refusal}
 use Rattle.der_base.proofs.Answers.Exactness.{ShowsOne}
 use Rattle.der_cursor.specs.Elements.{SpellsElement, ElementRefuses}
-use Rattle.der_cursor.specs.Values.{HasArcs, leading_identifier, SpellsIdentifier, IdentifierRefuses}
+use Rattle.der_cursor.specs.Values.{HasArcs, leading_identifier, MakesIdentifier, SpellsIdentifier, IdentifierRefuses}
 use Rattle.der_cursor.proofs.ElementLaws.{element_same, element_shows_one}
 
 element : (i : List ℕ) → ShowsOne (λ v. v) (λ v. SpellsElement Universal false 6 i v) (SpellsElement Universal false 6 i) (ElementRefuses Universal false 6 i) (DerAnyLacks i)
@@ -53,3 +54,7 @@ identifier_shows_one i = record {
   not_lacking = λ v n s l. (element i).not_lacking (v.0, v.2) n s.0 l;
   not_both = λ e n r l. not_both i e n r l;
 }
+
+pub identifier_read : (i : List ℕ) (rest octets : Bor (List ℕ)) (x : Oid) → SpellsElement Universal false 6 i (octets.now, rest.now) → MakesIdentifier octets.now (Ok x)
+    → SpellsIdentifier i (leading_identifier (rest, x))
+identifier_read i rest octets x s m = (subst (λ w. SpellsElement Universal false 6 i (w, rest.now)) (sym m.0) s, subst (λ w. HasArcs w) (sym m.0) m.2, m.1)
