@@ -106,14 +106,14 @@ module _ (i : List ℕ) (left : Bor (List ℕ)) (o : BerObject) (a : AnswersType
       }
 
 -- the reader refused
-refusal_kept : {T U : Type 0} (P : T → Type 0) (P' : U → Type 0) {Q : Refusal → Type 0} {R : ℕ → Type 0} (e : Refused BerError)
+refusal_kept : {T U : Type 0} (P : T → Type 0) (P' : U → Type 0) (Q : Refusal → Type 0) (R : ℕ → Type 0) (e : Refused BerError)
     → MatchAnswer {T = T} (Err e) P Q R ⊥ → MatchAnswer {T = U} (Err e) P' Q R ⊥
-refusal_kept P P' e h = passed_on P P' e h (λ x k. k) (λ n k. k) (λ m. m)
+refusal_kept P P' Q R e h = passed_on P P' e h (λ x k. k) (λ n k. k) (λ m. m)
 
 pub bits_refused : (i : List ℕ) (e : Refused BerError) → AnswersTyped 3 i (Err e) → AnswersBits i (Err e)
 bits_refused i e a = record {
-  found = refusal_kept _ _ e a.found;
-  only = λ v s. refusal_kept _ _ e (a.only (node s.0 s.1 3 (bit_string s.2 v.0), v.1) s.3);
-  refuses = λ x r. refusal_kept _ _ e (a.refuses x r);
-  lacks = λ n l. refusal_kept _ _ e (a.lacks n l);
+  found = refusal_kept _ _ _ _ e a.found;
+  only = λ v s. refusal_kept _ _ _ _ e (a.only (node s.0 s.1 3 (bit_string s.2 v.0), v.1) s.3);
+  refuses = λ x r. refusal_kept _ _ _ _ e (a.refuses x r);
+  lacks = λ n l. refusal_kept _ _ _ _ e (a.lacks n l);
 }

@@ -117,7 +117,7 @@ impl<'a> Cursor<'a> {
     where
         O: Drop,
         E: ParseError<&'a [u8]>,
-        ensures { IsLast E.from_error_kind_gives value.entry self.entry result }
+        ensures { IsLast E.from_error_kind_gives value self.entry result }
     {
         if self.left.is_empty() {
             return Ok(value);

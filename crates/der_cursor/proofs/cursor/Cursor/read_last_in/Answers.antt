@@ -1,0 +1,5 @@
+use Rattle.std.proofs.Common.{inr}
+use Rattle.der_cursor.proofs.cursor.Cursor.read_last_in.Goals as goal
+
+pub returns-in-Ok : goal.returns-in-Ok
+returns-in-Ok g c = inr (c.in-Ok.value, c.read_in.new.self, c.in-Ok.ensures, c.last.ensures)
