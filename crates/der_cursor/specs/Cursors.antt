@@ -52,7 +52,8 @@ Reads gives old (Err e) new = gives old.left (Err e.reason) × (e.offset ≡ pla
 
 -- The value is the last one of a content, or Eof is told at the place of what is left. `made` says which errors are
 -- made of Eof.
-abbrev pub IsLast : {O E : Type 0} → (Bor (List ℕ) → ErrorKind → E → Type 0) → O → Cursor → Result O (Refusal E) → Type 0
+abbrev pub IsLast : {O E : Type 0} → (Bor (List ℕ) → ErrorKind → E → Type 0) → O → Cursor → Result O (Refusal E)
+    → Type 0
 IsLast made v c (Ok x) = (octets_left c ≡ []) × (x ≡ v)
 IsLast {O} {E} made v c (Err e) = (octets_left c ≢ [])
     × (x : E) × made c.left Eof x × (e ≡ record { offset = place_of c; reason = Error x })
@@ -60,7 +61,7 @@ IsLast {O} {E} made v c (Err e) = (octets_left c ≢ [])
 -- what a parser answers on the octets left, where its value is the last one; else its refusal, or that of what is left
 abbrev pub ReadsLast : {O E : Type 0} → (Bor (List ℕ) → Answered O E → Type 0) → (Bor (List ℕ) → ErrorKind → E → Type 0)
     → Cursor → Result O (Refusal E) → Type 0
-ReadsLast {O} gives made c result = ((e : _) × (result ≡ Err e) × Reads gives c result c)
+ReadsLast {O} {E} gives made c result = ((e : Refusal E) × (result ≡ Err e) × Reads gives c result c)
     ⊎ ((v : O) × (d : Cursor) × Reads gives c (Ok v) d × IsLast made v d result)
 
 -- the cursor over a content with the one behind its element, or the reason for a refusal
