@@ -1,13 +1,13 @@
 //! Requests of tickets (RFC 4120 5.4.1). Each field stands inside an explicit tag.
 use crate::fault::{Fault, RequestError};
-use der_parser::IResult;
-use der_parser::ber::ASN1DateTime;
-use der_parser::cursor::{Cursor, parse_bits};
+use der_parser::ber::{ASN1DateTime, BitStringObject};
+use der_parser::cursor::Cursor;
 use der_parser::der::{
     Class, Tag, parse_der_generalizedtime, parse_der_generalstring, parse_der_i32,
     parse_der_sequence_of_v, parse_der_u32,
 };
 use der_parser::error::{BerError, Err as Refused};
+use der_parser::{IResult, cursor};
 use std::alloc::Global;
 
 /// What a request says. Texts are slices of the input.
@@ -126,6 +126,11 @@ fn read_time(body: &mut Cursor<'_>, number: u8) -> Result<Option<ASN1DateTime>, 
         }
         None => Ok(None),
     }
+}
+
+/// Reads the octets of a BIT STRING.
+fn parse_bits<'a>(i: &'a [u8]) -> IResult<&'a [u8], BitStringObject<'a>, BerError> {
+    cursor::parse_bits(i)
 }
 
 /// Reads a GeneralizedTime.

@@ -4,7 +4,6 @@
 
 mod message;
 
-use crate::message::parse_message;
 use anyhow::{Result, anyhow};
 use std::io::Read;
 
@@ -13,9 +12,13 @@ fn main(rt: HostRuntime) -> Result<()> {
     let mut input = Vec::new(rt.alloc());
     rt.stdin().read_to_end(&mut input)?;
     let mut rest = &input[..];
-    while !rest.is_empty() {
-        let offset = input.len() - rest.len();
-        let answer = parse_message(rt.alloc(), rest);
+    // Each message takes an octet or more, so that many are enough.
+    for _ in 0..input.len() {
+        if rest.is_empty() {
+            break;
+        }
+        let offset = input.len().saturating_sub(rest.len());
+        let answer = message::parse_message(rt.alloc(), rest);
         let (after, message) = answer.map_err(|e| anyhow!("message at {offset}: {e}"))?;
         println!(rt; "{message}")?;
         rest = after;

@@ -1,6 +1,4 @@
 //! Messages (RFC 1157 4, RFC 1901 3, RFC 3416 3), and values (RFC 1155 3.2.3, RFC 2578 2).
-ghost use Rattle.std.specs.Prelude.{◌≡◌, ◌<◌, length, IfOk, Ok};
-
 use der_parser::ber::{
     Any, BerObjectContent, Class, Tag, parse_ber_any, parse_ber_i32, parse_ber_sequence_of_v,
     parse_ber_u32,
@@ -19,7 +17,7 @@ pub struct SnmpError(&'static str, Refused<BerError>);
 
 /// A version, a community, a request and bindings. Texts are slices of the input.
 #[derive(Drop)]
-pub struct Message<'a>(u32, &'a [u8], Request<'a>, Vec<(Oid<'a>, Value<'a>)>);
+pub struct Message<'a>(u32, &'a [u8], Request<'a>, Vec<Binding<'a>>);
 
 /// What stands in front of the bindings: of a trap of version 1 enterprise, agent, the generic and
 /// specific trap and the time; else a name, a number and two fields, which are mostly on errors.
@@ -28,6 +26,10 @@ enum Request<'a> {
     Pdu(&'static str, i32, u32, u32),
     Trap(Oid<'a>, Value<'a>, u32, i32, Value<'a>),
 }
+
+/// An identifier, and the value that it has.
+#[derive(Drop)]
+struct Binding<'a>(Oid<'a>, Value<'a>);
 
 /// A value, or what a response has in the place of one. Types of like values share a variant.
 #[derive(Drop)]
@@ -40,9 +42,7 @@ enum Value<'a> {
 }
 
 /// Reads a message, and answers what follows it.
-pub fn parse_message<'a>(alloc: Global, i: &'a [u8]) -> Result<(&'a [u8], Message<'a>), SnmpError>
-    ensures shorter { IfOk result (λ x. length x.0.now < length i.now) }
-{
+pub fn parse_message<'a>(alloc: Global, i: &'a [u8]) -> Result<(&'a [u8], Message<'a>), SnmpError> {
     let (rest, fields) = field("message", 0x30, i, parse_ber_any(i))?;
     let (i, version) = field("version", 0x02, fields.bytes, parse_ber_u32(fields.bytes))?;
     let (i, community) = field("community", 0x04, i, parse_ber_any(i))?;
@@ -62,9 +62,7 @@ fn field<'a, T: Drop>(
     identifier: u8,
     i: &[u8],
     answer: IResult<&'a [u8], T, BerError>,
-) -> Result<(&'a [u8], T), SnmpError>
-    ensures same { IfOk result (λ x. answer ≡ Ok x) }
-{
+) -> Result<(&'a [u8], T), SnmpError> {
     if i.first() != Some(&identifier) {
         return Err(SnmpError(name, BerError::BerTypeError.into()));
     }
@@ -102,11 +100,11 @@ fn parse_trap(i: &[u8]) -> Result<(&[u8], Request<'_>), SnmpError> {
 }
 
 /// Reads a binding. Behind the last one it is Incomplete, which ends the list.
-fn parse_binding(i: &[u8]) -> IResult<&[u8], (Oid<'_>, Value<'_>), BerError> {
+fn parse_binding(i: &[u8]) -> IResult<&[u8], Binding<'_>, BerError> {
     let (rest, binding) = parse_ber_any(i)?;
     let (i, name) = parse_oid(binding.bytes)?;
     match (binding.header.raw_tag(), parse_value(i)?) {
-        (Some([0x30]), ([], value)) => Ok((rest, (name, value))),
+        (Some([0x30]), ([], value)) => Ok((rest, Binding(name, value))),
         _ => Err(BerError::BerValueError.into()),
     }
 }
@@ -166,7 +164,7 @@ impl fmt::Display for Message<'_> {
                 write!(f, "Trap({oid}, {agent}, {generic}, {specific}, {time})")?
             }
         }
-        for (name, value) in bindings {
+        for Binding(name, value) in bindings {
             write!(f, "\n  {name} = {value}")?;
         }
         Ok(())

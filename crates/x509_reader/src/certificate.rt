@@ -1,9 +1,10 @@
 //! Certificates (RFC 5280 4.1).
 use crate::extension::{Extension, read_extension};
+use crate::values::{parse_bits, parse_identifier};
 use der_names::{Name, parse_name};
 use der_parser::IResult;
 use der_parser::ber::{ASN1DateTime, Any, BitStringObject};
-use der_parser::cursor::{Cursor, Refusal, parse_bits, parse_identifier};
+use der_parser::cursor::{Cursor, Refusal};
 use der_parser::der::{
     parse_der_generalizedtime, parse_der_integer, parse_der_u32, parse_der_utctime,
 };

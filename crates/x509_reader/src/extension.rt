@@ -1,9 +1,10 @@
 //! Extensions, and what three of them say (RFC 5280 4.2.1).
+use crate::values::{parse_bits, parse_bool, parse_identifier};
 use der_parser::IResult;
 use der_parser::ber::{Any, BitStringObject};
-use der_parser::cursor::{Cursor, Refusal, identifier_of, parse_bits, parse_identifier};
+use der_parser::cursor::{Cursor, Refusal, identifier_of};
 use der_parser::der::{
-    Class, Tag, der_read_element_content_as, parse_der_bool, parse_der_sequence_of_v, parse_der_u32,
+    Class, Tag, der_read_element_content_as, parse_der_sequence_of_v, parse_der_u32,
 };
 use der_parser::error::{BerError, Err as Refused};
 use der_parser::oid::Oid;
@@ -78,11 +79,6 @@ fn read_flag(fields: &mut Cursor<'_>) -> Result<bool, Refusal<BerError>> {
         return fields.read(parse_bool);
     }
     Ok(false)
-}
-
-fn parse_bool(i: &[u8]) -> IResult<&[u8], bool, BerError> {
-    let (rest, object) = parse_der_bool(i)?;
-    Ok((rest, object.as_bool()?))
 }
 
 fn read_basic_constraints(mut inside: Cursor<'_>) -> Result<Value<'_>, Refusal<BerError>> {

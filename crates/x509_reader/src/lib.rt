@@ -5,6 +5,7 @@ mod certificate;
 mod extension;
 #[cfg(test)]
 mod refusals;
+mod values;
 
 pub use certificate::{Certificate, read_certificate};
 pub use extension::{Extension, GeneralName, Value};
