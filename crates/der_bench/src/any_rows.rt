@@ -1,9 +1,9 @@
 //! Elements whose content isn't read.
-use crate::rows;
-use crate::rows::Trial;
 use der_bench_rows::answer::Answer::{self, Broken, Incomplete, Read, Refused};
 use der_bench_rows::answer::{Element, Parts};
 use der_bench_rows::octets::octets;
+use der_bench_rows::rows;
+use der_bench_rows::rows::Trial;
 use der_parser::ber::Class::{Application, ContextSpecific, Universal};
 use der_parser::ber::Length::{Definite, Indefinite};
 use der_parser::ber::{Any, Tag, parse_ber_any};
@@ -93,8 +93,9 @@ const FROM_DER: &[(&str, &str, Answer<Element>)] = &[
 
 /// What is tried holds of each row's octets.
 pub fn try_rows(rt: &(impl Abort + AllocGlobal), trial: Trial) -> Result<(), Fail> {
-    rows::try_rows(rt, trial, FROM_BER)?;
-    rows::try_rows(rt, trial, FROM_DER)
+    rows::try_rows(rt.alloc(), trial, FROM_BER)?;
+    rows::try_rows(rt.alloc(), trial, FROM_DER)?;
+    Ok(())
 }
 
 #[test]

@@ -1,13 +1,15 @@
 //! What is read by BER, and written again by DER.
-use crate::reading::{DepthRow, Row, expect_answer, expect_answers, expect_header, expect_written};
-use crate::rows;
-use crate::rows::Trial;
 use der_bench_rows::answer::Answer::{Incomplete, Read, Refused};
 use der_bench_rows::answer::Content::{
     Boolean, EndOfContent, Integer, Nested, Null, OctetString, Sequence, Set, Unknown,
 };
 use der_bench_rows::answer::Parts;
 use der_bench_rows::reader::Reader;
+use der_bench_rows::reading::{
+    DepthRow, Row, expect_answer, expect_answers, expect_header, expect_written,
+};
+use der_bench_rows::rows;
+use der_bench_rows::rows::Trial;
 use der_parser::ber::Class::{Application, ContextSpecific, Private, Universal};
 use der_parser::ber::Length::{Definite, Indefinite};
 use der_parser::ber::{MAX_RECURSION, Tag};
@@ -263,38 +265,46 @@ const HEADERS: &[(&str, &[usize], Parts)] = &[
 
 /// What is tried holds of each row's octets.
 pub fn try_rows(rt: &(impl Abort + AllocGlobal), trial: Trial) -> Result<(), Fail> {
-    rows::try_rows(rt, trial, READ)?;
-    rows::try_rows(rt, trial, INDEFINITE)?;
-    rows::try_rows(rt, trial, CUT)?;
-    rows::try_rows(rt, trial, REFUSED_HEADERS)?;
-    rows::try_rows(rt, trial, REFUSED_CONTENTS)?;
-    rows::try_rows(rt, trial, AT_DEPTH)?;
-    rows::try_rows(rt, trial, WRITTEN)?;
-    rows::try_rows(rt, trial, HEADERS)
+    rows::try_rows(rt.alloc(), trial, READ)?;
+    rows::try_rows(rt.alloc(), trial, INDEFINITE)?;
+    rows::try_rows(rt.alloc(), trial, CUT)?;
+    rows::try_rows(rt.alloc(), trial, REFUSED_HEADERS)?;
+    rows::try_rows(rt.alloc(), trial, REFUSED_CONTENTS)?;
+    rows::try_rows(rt.alloc(), trial, AT_DEPTH)?;
+    rows::try_rows(rt.alloc(), trial, WRITTEN)?;
+    rows::try_rows(rt.alloc(), trial, HEADERS)?;
+    Ok(())
 }
 
 /// What is tried holds of the octets that are written.
 pub fn try_written(rt: &(impl Abort + AllocGlobal), trial: Trial) -> Result<(), Fail> {
     for (_, written) in WRITTEN {
-        trial.try_on(rt, MAX_RECURSION, written)?;
+        trial.try_on(rt.alloc(), MAX_RECURSION, written)?;
     }
     Ok(())
 }
 
 #[test]
 fn parse_ber_answers(rt: HostRuntime) -> Result<(), Fail> {
-    expect_answers(&rt, Reader::ParseBer, READ)?;
-    expect_answers(&rt, Reader::ParseBer, INDEFINITE)?;
-    expect_answers(&rt, Reader::ParseBer, CUT)?;
-    expect_answers(&rt, Reader::ParseBer, REFUSED_HEADERS)?;
-    expect_answers(&rt, Reader::ParseBer, REFUSED_CONTENTS)
+    expect_answers(rt.alloc(), Reader::ParseBer, READ)?;
+    expect_answers(rt.alloc(), Reader::ParseBer, INDEFINITE)?;
+    expect_answers(rt.alloc(), Reader::ParseBer, CUT)?;
+    expect_answers(rt.alloc(), Reader::ParseBer, REFUSED_HEADERS)?;
+    expect_answers(rt.alloc(), Reader::ParseBer, REFUSED_CONTENTS)?;
+    Ok(())
 }
 
 #[test]
 fn parse_ber_recursive_answers(rt: HostRuntime) -> Result<(), Fail> {
     for (name, depth, text, answer) in AT_DEPTH {
-        expect_answer(&rt, Reader::ParseBerRecursive(*depth), name, text, answer)?;
-        expect_answer(&rt, Reader::ParseBerAnyR(*depth), name, text, answer)?;
+        expect_answer(
+            rt.alloc(),
+            Reader::ParseBerRecursive(*depth),
+            name,
+            text,
+            answer,
+        )?;
+        expect_answer(rt.alloc(), Reader::ParseBerAnyR(*depth), name, text, answer)?;
     }
     Ok(())
 }
@@ -302,7 +312,7 @@ fn parse_ber_recursive_answers(rt: HostRuntime) -> Result<(), Fail> {
 #[test]
 fn to_vec_writes_the_shortest_form(rt: HostRuntime) -> Result<(), Fail> {
     for (text, written) in WRITTEN {
-        expect_written(&rt, Reader::ParseBer, text, written)?;
+        expect_written(rt.alloc(), Reader::ParseBer, text, written)?;
     }
     Ok(())
 }
@@ -310,7 +320,7 @@ fn to_vec_writes_the_shortest_form(rt: HostRuntime) -> Result<(), Fail> {
 #[test]
 fn parse_ber_keeps_headers(rt: HostRuntime) -> Result<(), Fail> {
     for (text, path, parts) in HEADERS {
-        expect_header(&rt, Reader::ParseBer, text, path, parts)?;
+        expect_header(rt.alloc(), Reader::ParseBer, text, path, parts)?;
     }
     Ok(())
 }

@@ -2,9 +2,9 @@
 ghost use Rattle.std.specs.Prelude.{◌≡◌};
 ghost use Rattle.der_bench.specs.declared.container_rows.Met.TheVariants.{At};
 
-use crate::rows;
-use crate::rows::Trial;
 use der_bench_rows::octets::octets;
+use der_bench_rows::rows;
+use der_bench_rows::rows::Trial;
 use der_parser::IResult;
 use der_parser::ber::Length::{Definite, Indefinite};
 use der_parser::ber::{
@@ -88,10 +88,11 @@ fn container(i: &[u8]) -> (u64, Given<'_>) {
 
 /// What is tried holds of each row's octets.
 pub fn try_rows(rt: &(impl Abort + AllocGlobal), trial: Trial) -> Result<(), Fail> {
-    rows::try_rows(rt, trial, OPENED)?;
-    rows::try_rows(rt, trial, UNOPENED)?;
-    rows::try_rows(rt, trial, SLICES)?;
-    rows::try_rows(rt, trial, UNWANTED)
+    rows::try_rows(rt.alloc(), trial, OPENED)?;
+    rows::try_rows(rt.alloc(), trial, UNOPENED)?;
+    rows::try_rows(rt.alloc(), trial, SLICES)?;
+    rows::try_rows(rt.alloc(), trial, UNWANTED)?;
+    Ok(())
 }
 
 #[test]

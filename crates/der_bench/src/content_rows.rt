@@ -1,11 +1,11 @@
 //! Contents of universal types, read without their header or behind one of the caller's.
-use crate::rows;
-use crate::rows::{HasInput, Trial};
 use der_bench_rows::answer::Answer::{self, Broken, Incomplete, Read, Refused};
 use der_bench_rows::answer::Content::{
     BmpString, EndOfContent, Integer, Null, OctetString, Sequence, Set, Unknown,
 };
 use der_bench_rows::octets::octets;
+use der_bench_rows::rows;
+use der_bench_rows::rows::{HasInput, Trial};
 use der_parser::ber::Class::{Application, ContextSpecific, Universal};
 use der_parser::ber::Length::{Definite, Indefinite};
 use der_parser::ber::{
@@ -244,7 +244,8 @@ fn contents_behind_headers(rt: HostRuntime) -> Result<(), Fail> {
 
 /// What is tried holds of each row's octets, be they no element.
 pub fn try_rows(rt: &(impl Abort + AllocGlobal), trial: Trial) -> Result<(), Fail> {
-    rows::try_rows(rt, trial, BY_BER)?;
-    rows::try_rows(rt, trial, BY_DER)?;
-    rows::try_rows(rt, trial, BEHIND_HEADERS)
+    rows::try_rows(rt.alloc(), trial, BY_BER)?;
+    rows::try_rows(rt.alloc(), trial, BY_DER)?;
+    rows::try_rows(rt.alloc(), trial, BEHIND_HEADERS)?;
+    Ok(())
 }

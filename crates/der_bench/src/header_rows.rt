@@ -1,9 +1,9 @@
 //! Headers: how they are read, which are equal, what they tell and change.
-use crate::rows;
-use crate::rows::Trial;
 use der_bench_rows::answer::Answer::{self, Broken, Incomplete, Read, Refused};
 use der_bench_rows::answer::Parts as Told;
 use der_bench_rows::octets::octets;
+use der_bench_rows::rows;
+use der_bench_rows::rows::Trial;
 use der_parser::ber::Class::{Application, ContextSpecific, Private, Universal};
 use der_parser::ber::Length::{Definite, Indefinite};
 use der_parser::ber::{
@@ -146,9 +146,10 @@ fn headers_by_der(rt: HostRuntime) -> Result<(), Fail> {
 
 /// What is tried holds of each row's octets.
 pub fn try_rows(rt: &(impl Abort + AllocGlobal), trial: Trial) -> Result<(), Fail> {
-    rows::try_rows(rt, trial, ALIKE)?;
-    rows::try_rows(rt, trial, BY_BER)?;
-    rows::try_rows(rt, trial, BY_DER)
+    rows::try_rows(rt.alloc(), trial, ALIKE)?;
+    rows::try_rows(rt.alloc(), trial, BY_BER)?;
+    rows::try_rows(rt.alloc(), trial, BY_DER)?;
+    Ok(())
 }
 
 /// A class, whether it is constructed, a tag number and a length.

@@ -1,7 +1,4 @@
 //! The universal types that are no list, read by BER and by DER, and their typed readers.
-use crate::reading::{Row, expect_answers, expect_header, expect_written};
-use crate::rows;
-use crate::rows::Trial;
 use der_bench_rows::answer::Answer::{Broken, Incomplete, Read, Refused};
 use der_bench_rows::answer::Content::{
     BitString, BmpString, Boolean, Enum, Integer, NewYear, Oid, RelativeOid, Text, UniversalString,
@@ -9,6 +6,9 @@ use der_bench_rows::answer::Content::{
 use der_bench_rows::answer::Parts;
 use der_bench_rows::octets::octets;
 use der_bench_rows::reader::Reader;
+use der_bench_rows::reading::{Row, expect_answers, expect_header, expect_written};
+use der_bench_rows::rows;
+use der_bench_rows::rows::Trial;
 use der_parser::ber::Class::ContextSpecific;
 use der_parser::ber::Length::Definite;
 use der_parser::ber::{
@@ -163,56 +163,71 @@ const INTEGER_BY_DER: &[Row] = &[
 
 /// What is tried holds of each row's octets.
 pub fn try_rows(rt: &(impl Abort + AllocGlobal), trial: Trial) -> Result<(), Fail> {
-    rows::try_rows(rt, trial, ALIKE)?;
-    rows::try_rows(rt, trial, BY_BER)?;
-    rows::try_rows(rt, trial, BY_DER)?;
-    rows::try_rows(rt, trial, WRITTEN)?;
-    rows::try_rows(rt, trial, INTEGER_BY_BER)?;
-    rows::try_rows(rt, trial, INTEGER_BY_DER)
+    rows::try_rows(rt.alloc(), trial, ALIKE)?;
+    rows::try_rows(rt.alloc(), trial, BY_BER)?;
+    rows::try_rows(rt.alloc(), trial, BY_DER)?;
+    rows::try_rows(rt.alloc(), trial, WRITTEN)?;
+    rows::try_rows(rt.alloc(), trial, INTEGER_BY_BER)?;
+    rows::try_rows(rt.alloc(), trial, INTEGER_BY_DER)?;
+    Ok(())
 }
 
 #[test]
 fn both_rule_sets_read_leaves(rt: HostRuntime) -> Result<(), Fail> {
-    expect_answers(&rt, Reader::ParseBer, ALIKE)?;
-    expect_answers(&rt, Reader::ParseDer, ALIKE)
+    expect_answers(rt.alloc(), Reader::ParseBer, ALIKE)?;
+    expect_answers(rt.alloc(), Reader::ParseDer, ALIKE)?;
+    Ok(())
 }
 
 #[test]
 fn typed_readers_read_leaves(rt: HostRuntime) -> Result<(), Fail> {
-    expect_answers(&rt, Reader::TypedByBer, ALIKE)?;
-    expect_answers(&rt, Reader::TypedByDer, ALIKE)
+    expect_answers(rt.alloc(), Reader::TypedByBer, ALIKE)?;
+    expect_answers(rt.alloc(), Reader::TypedByDer, ALIKE)?;
+    Ok(())
 }
 
 #[test]
 fn typed_readers_refuse_leaves(rt: HostRuntime) -> Result<(), Fail> {
-    expect_answers(&rt, Reader::TypedByBer, BY_BER)?;
-    expect_answers(&rt, Reader::TypedByDer, BY_DER)
+    expect_answers(rt.alloc(), Reader::TypedByBer, BY_BER)?;
+    expect_answers(rt.alloc(), Reader::TypedByDer, BY_DER)?;
+    Ok(())
 }
 
 #[test]
 fn leaves_by_ber(rt: HostRuntime) -> Result<(), Fail> {
-    expect_answers(&rt, Reader::ParseBer, BY_BER)
+    expect_answers(rt.alloc(), Reader::ParseBer, BY_BER)?;
+    Ok(())
 }
 
 #[test]
 fn leaves_by_der(rt: HostRuntime) -> Result<(), Fail> {
-    expect_answers(&rt, Reader::ParseDer, BY_DER)
+    expect_answers(rt.alloc(), Reader::ParseDer, BY_DER)?;
+    Ok(())
 }
 
 #[test]
 fn leaves_are_written(rt: HostRuntime) -> Result<(), Fail> {
     for (read, written) in WRITTEN {
-        expect_written(&rt, Reader::ParseBer, read, written)?;
+        expect_written(rt.alloc(), Reader::ParseBer, read, written)?;
     }
     Ok(())
 }
 
 #[test]
 fn integers_by_typed_readers(rt: HostRuntime) -> Result<(), Fail> {
-    expect_answers(&rt, Reader::ParseBerInteger, INTEGER_BY_BER)?;
-    expect_answers(&rt, Reader::ParseBerWithTag(Tag::Integer), INTEGER_BY_BER)?;
-    expect_answers(&rt, Reader::ParseDerInteger, INTEGER_BY_DER)?;
-    expect_answers(&rt, Reader::ParseDerWithTag(Tag::Integer), INTEGER_BY_DER)
+    expect_answers(rt.alloc(), Reader::ParseBerInteger, INTEGER_BY_BER)?;
+    expect_answers(
+        rt.alloc(),
+        Reader::ParseBerWithTag(Tag::Integer),
+        INTEGER_BY_BER,
+    )?;
+    expect_answers(rt.alloc(), Reader::ParseDerInteger, INTEGER_BY_DER)?;
+    expect_answers(
+        rt.alloc(),
+        Reader::ParseDerWithTag(Tag::Integer),
+        INTEGER_BY_DER,
+    )?;
+    Ok(())
 }
 
 /// The header is the one that is there, of another class too.
@@ -225,7 +240,7 @@ fn typed_readers_keep_other_classes(rt: HostRuntime) -> Result<(), Fail> {
         Reader::ParseDerInteger,
         Reader::ParseDerWithTag(Tag::Integer),
     ] {
-        expect_header(&rt, reader, "82 03 01 00 01", &[], &parts)?;
+        expect_header(rt.alloc(), reader, "82 03 01 00 01", &[], &parts)?;
     }
     Ok(())
 }
@@ -242,8 +257,9 @@ fn booleans_by_typed_readers(rt: HostRuntime) -> Result<(), Fail> {
         ("no 0 or 255", "01 01 7f", Broken(InvalidBoolean)),
         ("constructed", "21 01 ff", Broken(Constructed)),
     ];
-    expect_answers(&rt, Reader::ParseBerBool, by_ber)?;
-    expect_answers(&rt, Reader::ParseDerBool, by_der)
+    expect_answers(rt.alloc(), Reader::ParseBerBool, by_ber)?;
+    expect_answers(rt.alloc(), Reader::ParseDerBool, by_der)?;
+    Ok(())
 }
 
 /// A content is read behind a header of another class and number, as a type that the caller names.

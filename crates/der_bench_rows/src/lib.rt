@@ -1,7 +1,13 @@
-//! What the rows of all test crates are made of: octets as texts, what a reader answers, and the readers as values.
+//! What the rows of all test crates are made of: octets as texts, what a reader
+//! answers, the readers as values, and what is tried on the octets of each row.
 #![tactic(auto)]
 
 pub mod answer;
+pub mod fronts;
 pub mod octets;
 pub mod reader;
+pub mod reading;
+pub mod round_trips;
+pub mod rows;
 pub mod typed;
+pub mod wrong;

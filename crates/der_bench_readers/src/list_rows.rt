@@ -1,11 +1,13 @@
 //! Lists by the readers of one type, and elements of a tag that the caller names.
-use crate::reading::{Row, expect_answer, expect_answer_on, expect_answers, expect_header};
-use crate::rows;
-use crate::rows::Trial;
 use der_bench_rows::answer::Answer::{self, Broken, Incomplete, Read, Refused};
 use der_bench_rows::answer::Content::{Integer, Nested, Null, Sequence, Set, Unknown};
 use der_bench_rows::answer::Parts;
 use der_bench_rows::reader::Reader;
+use der_bench_rows::reading::{
+    Row, expect_answer, expect_answer_on, expect_answers, expect_header,
+};
+use der_bench_rows::rows;
+use der_bench_rows::rows::Trial;
 use der_parser::ber::Class::{ContextSpecific, Universal};
 use der_parser::ber::Length::{Definite, Indefinite};
 use der_parser::ber::Tag;
@@ -137,42 +139,45 @@ const OF_TAG: &[TagRow] = &[
 
 /// What is tried holds of each row's octets.
 pub fn try_rows(rt: &(impl Abort + AllocGlobal), trial: Trial) -> Result<(), Fail> {
-    rows::try_rows(rt, trial, SEQUENCES_BY_BER)?;
-    rows::try_rows(rt, trial, SEQUENCES_BY_DER)?;
-    rows::try_rows(rt, trial, SETS_BY_BER)?;
-    rows::try_rows(rt, trial, SETS_BY_DER)?;
-    rows::try_rows(rt, trial, OF_TAG)
+    rows::try_rows(rt.alloc(), trial, SEQUENCES_BY_BER)?;
+    rows::try_rows(rt.alloc(), trial, SEQUENCES_BY_DER)?;
+    rows::try_rows(rt.alloc(), trial, SETS_BY_BER)?;
+    rows::try_rows(rt.alloc(), trial, SETS_BY_DER)?;
+    rows::try_rows(rt.alloc(), trial, OF_TAG)?;
+    Ok(())
 }
 
 #[test]
 fn sequences_by_their_readers(rt: HostRuntime) -> Result<(), Fail> {
-    expect_answers(&rt, Reader::ParseBerSequence, SEQUENCES_BY_BER)?;
+    expect_answers(rt.alloc(), Reader::ParseBerSequence, SEQUENCES_BY_BER)?;
     expect_answers(
-        &rt,
+        rt.alloc(),
         Reader::ParseBerWithTag(Tag::Sequence),
         SEQUENCES_BY_BER,
     )?;
-    expect_answers(&rt, Reader::ParseDerSequence, SEQUENCES_BY_DER)?;
+    expect_answers(rt.alloc(), Reader::ParseDerSequence, SEQUENCES_BY_DER)?;
     expect_answers(
-        &rt,
+        rt.alloc(),
         Reader::ParseDerWithTag(Tag::Sequence),
         SEQUENCES_BY_DER,
-    )
+    )?;
+    Ok(())
 }
 
 #[test]
 fn sets_by_their_readers(rt: HostRuntime) -> Result<(), Fail> {
-    expect_answers(&rt, Reader::ParseBerSet, SETS_BY_BER)?;
-    expect_answers(&rt, Reader::ParseBerWithTag(Tag::Set), SETS_BY_BER)?;
-    expect_answers(&rt, Reader::ParseDerSet, SETS_BY_DER)?;
-    expect_answers(&rt, Reader::ParseDerWithTag(Tag::Set), SETS_BY_DER)
+    expect_answers(rt.alloc(), Reader::ParseBerSet, SETS_BY_BER)?;
+    expect_answers(rt.alloc(), Reader::ParseBerWithTag(Tag::Set), SETS_BY_BER)?;
+    expect_answers(rt.alloc(), Reader::ParseDerSet, SETS_BY_DER)?;
+    expect_answers(rt.alloc(), Reader::ParseDerWithTag(Tag::Set), SETS_BY_DER)?;
+    Ok(())
 }
 
 #[test]
 fn elements_of_a_tag(rt: HostRuntime) -> Result<(), Fail> {
     for (name, tag, depth, text, answer) in OF_TAG {
         let reader = Reader::ParseBerAnyWithTagR(*tag, *depth);
-        expect_answer(&rt, reader, name, text, answer)?;
+        expect_answer(rt.alloc(), reader, name, text, answer)?;
     }
     Ok(())
 }
@@ -180,21 +185,46 @@ fn elements_of_a_tag(rt: HostRuntime) -> Result<(), Fail> {
 #[test]
 fn typed_readers_keep_headers(rt: HostRuntime) -> Result<(), Fail> {
     let of_list = Parts(ContextSpecific, true, Tag(16), Definite(2), "b0");
-    expect_header(&rt, Reader::ParseBerSequence, "b0 02 05 00", &[], &of_list)?;
-    expect_header(&rt, Reader::ParseDerSequence, "b0 02 05 00", &[], &of_list)?;
+    expect_header(
+        rt.alloc(),
+        Reader::ParseBerSequence,
+        "b0 02 05 00",
+        &[],
+        &of_list,
+    )?;
+    expect_header(
+        rt.alloc(),
+        Reader::ParseDerSequence,
+        "b0 02 05 00",
+        &[],
+        &of_list,
+    )?;
     let of_item = Parts(Universal, false, Tag::Null, Definite(0), "05");
-    expect_header(&rt, Reader::ParseBerSequence, "b0 02 05 00", &[0], &of_item)?;
-    expect_header(&rt, Reader::ParseDerSequence, "b0 02 05 00", &[0], &of_item)?;
+    expect_header(
+        rt.alloc(),
+        Reader::ParseBerSequence,
+        "b0 02 05 00",
+        &[0],
+        &of_item,
+    )?;
+    expect_header(
+        rt.alloc(),
+        Reader::ParseDerSequence,
+        "b0 02 05 00",
+        &[0],
+        &of_item,
+    )?;
     let without_end = Parts(Universal, true, Tag::Set, Indefinite, "31");
     expect_header(
-        &rt,
+        rt.alloc(),
         Reader::ParseBerSet,
         "31 80 05 00 00 00",
         &[],
         &without_end,
     )?;
     let of_tag = Reader::ParseBerAnyWithTagR(Tag::Set, 2);
-    expect_header(&rt, of_tag, "31 80 05 00 00 00", &[], &without_end)
+    expect_header(rt.alloc(), of_tag, "31 80 05 00 00 00", &[], &without_end)?;
+    Ok(())
 }
 
 /// Octets of so many SEQUENCEs of definite lengths, one in the other.
@@ -224,8 +254,8 @@ fn lists_are_read_to_depth_50(rt: HostRuntime) -> Result<(), Fail> {
         Reader::ParseDerSequence,
         Reader::ParseDerWithTag(Tag::Sequence),
     ] {
-        expect_answer_on(&rt, reader, &deep, &Read(Nested(50), ""))?;
-        expect_answer_on(&rt, reader, &deeper, &Refused(BerMaxDepth))?;
+        expect_answer_on(rt.alloc(), reader, &deep, &Read(Nested(50), ""))?;
+        expect_answer_on(rt.alloc(), reader, &deeper, &Refused(BerMaxDepth))?;
     }
     Ok(())
 }

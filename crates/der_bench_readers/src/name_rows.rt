@@ -1,13 +1,13 @@
 //! Names: what each public name of `der_parser` is, where another could stand in its place.
-use crate::reading::{Row, expect_answer, expect_answers};
-use crate::rows;
-use crate::rows::{HasInput, Trial};
 use der_bench_rows::answer::Answer::{self, Broken, Incomplete, Read, Refused};
 use der_bench_rows::answer::Content::{
     BitString, BmpString, Boolean, EndOfContent, Enum, Integer, NewYear, Null, OctetString, Oid,
     RelativeOid, Sequence, Set, Text, UniversalString,
 };
 use der_bench_rows::reader::Reader;
+use der_bench_rows::reading::{Row, expect_answer, expect_answers};
+use der_bench_rows::rows;
+use der_bench_rows::rows::{HasInput, Trial};
 use der_parser::ber::compat::{BerClass, BerObjectHeader, BerSize, BerTag, Tag as CompatTag};
 use der_parser::ber::{
     ASN1TimeZone, BerContent, BerContent2, BerObject, BerObjectContent, BitStringObject, Class,
@@ -119,8 +119,9 @@ const BY_DER: &[Row] = &[
 
 /// What is tried holds of each row's octets.
 pub fn try_rows(rt: &(impl Abort + AllocGlobal), trial: Trial) -> Result<(), Fail> {
-    rows::try_rows(rt, trial, TYPES)?;
-    rows::try_rows(rt, trial, BY_BER)
+    rows::try_rows(rt.alloc(), trial, TYPES)?;
+    rows::try_rows(rt.alloc(), trial, BY_BER)?;
+    Ok(())
 }
 
 #[test]
@@ -135,20 +136,20 @@ fn constants_have_numbers(rt: HostRuntime) {
 #[test]
 fn each_reader_reads_its_type(rt: HostRuntime) -> Result<(), Fail> {
     for TypeRow(tag, short, long, answer) in TYPES {
-        expect_answer(&rt, Reader::TypeByBer(*tag), "", short, answer)?;
-        expect_answer(&rt, Reader::TypeByBer(*tag), "", long, answer)?;
-        expect_answer(&rt, Reader::ParseBerWithTag(*tag), "", long, answer)?;
-        expect_answer(&rt, Reader::TypeByDer(*tag), "", short, answer)?;
+        expect_answer(rt.alloc(), Reader::TypeByBer(*tag), "", short, answer)?;
+        expect_answer(rt.alloc(), Reader::TypeByBer(*tag), "", long, answer)?;
+        expect_answer(rt.alloc(), Reader::ParseBerWithTag(*tag), "", long, answer)?;
+        expect_answer(rt.alloc(), Reader::TypeByDer(*tag), "", short, answer)?;
         expect_answer(
-            &rt,
+            rt.alloc(),
             Reader::TypeByDer(*tag),
             "",
             long,
             &Broken(LengthNotMinimal),
         )?;
-        expect_answer(&rt, Reader::ParseDerWithTag(*tag), "", short, answer)?;
+        expect_answer(rt.alloc(), Reader::ParseDerWithTag(*tag), "", short, answer)?;
         expect_answer(
-            &rt,
+            rt.alloc(),
             Reader::ParseDerWithTag(*tag),
             "",
             long,
@@ -166,7 +167,7 @@ fn expect_refusals(rt: &(impl Abort + AllocGlobal), reader: Reader, tag: Tag) ->
                 expected: Some(tag),
                 actual: *actual,
             };
-            expect_answer(rt, reader, "", short, &Refused(refusal))?;
+            expect_answer(rt.alloc(), reader, "", short, &Refused(refusal))?;
         }
     }
     Ok(())
@@ -192,9 +193,16 @@ fn each_reader_refuses_other_types(rt: HostRuntime) -> Result<(), Fail> {
 #[test]
 fn visiblestring_is_a_visible_string_by_der(rt: HostRuntime) -> Result<(), Fail> {
     let read = Read(Text(Tag(26), "1"), "ff");
-    expect_answer(&rt, Reader::Visiblestring, "", "1a 01 31 ff", &read)?;
+    expect_answer(rt.alloc(), Reader::Visiblestring, "", "1a 01 31 ff", &read)?;
     let refused = Broken(LengthNotMinimal);
-    expect_answer(&rt, Reader::Visiblestring, "", "1a 81 01 31", &refused)
+    expect_answer(
+        rt.alloc(),
+        Reader::Visiblestring,
+        "",
+        "1a 81 01 31",
+        &refused,
+    )?;
+    Ok(())
 }
 
 /// The names at the root and in the modules are the readers of their rules.
@@ -207,7 +215,7 @@ fn full_readers_have_their_rules(rt: HostRuntime) -> Result<(), Fail> {
         Reader::ParseBerAnyR(2),
         Reader::ParseBerCounted(2),
     ] {
-        expect_answers(&rt, reader, BY_BER)?;
+        expect_answers(rt.alloc(), reader, BY_BER)?;
     }
     for reader in [
         Reader::ParseDer,
@@ -215,7 +223,7 @@ fn full_readers_have_their_rules(rt: HostRuntime) -> Result<(), Fail> {
         Reader::ParseDerRecursive(2),
         Reader::ParseDerCounted(2),
     ] {
-        expect_answers(&rt, reader, BY_DER)?;
+        expect_answers(rt.alloc(), reader, BY_DER)?;
     }
     for reader in [
         Reader::ParseBerRecursive(1),
@@ -224,7 +232,7 @@ fn full_readers_have_their_rules(rt: HostRuntime) -> Result<(), Fail> {
         Reader::ParseDerRecursive(1),
         Reader::ParseDerCounted(1),
     ] {
-        expect_answer(&rt, reader, "", "30 02 05 00", &Refused(BerMaxDepth))?;
+        expect_answer(rt.alloc(), reader, "", "30 02 05 00", &Refused(BerMaxDepth))?;
     }
     Ok(())
 }

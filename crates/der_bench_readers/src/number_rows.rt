@@ -1,9 +1,9 @@
 //! Numbers of objects, and the readers of numbers.
-use crate::rows;
-use crate::rows::{HasInput, Trial};
 use NumberType::{I32, I64, U32, U64};
 use der_bench_rows::answer::Answer::{self, Broken, Incomplete, Read, Refused};
 use der_bench_rows::octets::octets;
+use der_bench_rows::rows;
+use der_bench_rows::rows::{HasInput, Trial};
 use der_parser::ber::{
     Any, BerObject, BerObjectContent, BitStringObject, Tag, parse_ber, parse_ber_i32,
     parse_ber_i64, parse_ber_u32, parse_ber_u64,
@@ -85,38 +85,38 @@ const OBJECTS: &[(NumberType, &str, Result<i128, BerError>)] = &[
 ];
 
 /// A row: the type that a reader answers, octets, and its answer.
-type NumberRow = (NumberType, &'static str, Answer<i128>);
+struct NumberRow(NumberType, &'static str, Answer<i128>);
 
 /// Octets, and what the readers of BER answer.
 #[rattlefmt::skip]
 const BY_BER: &[NumberRow] = &[
-    (U32, "02 06 00 00 01 23 45 67", Read(19088743, "")),
-    (U32, "02 04 ff ff ff ff", Refused(IntegerNegative)),
-    (U32, "03 03 01 00 01", Refused(UnexpectedTag { expected: Some(Tag::Integer), actual: Tag::BitString })),
-    (U32, "02 00", Read(0, "")),
-    (U32, "02 02 00", Incomplete(1)),
-    (I32, "02 02 ff 7f ff", Read(-129, "ff")),
-    (I64, "82 01 05", Read(5, "")),
-    (I64, "22 01 01", Refused(ConstructUnexpected)),
-    (U64, "02 09 01 00*8", Refused(IntegerTooLarge)),
-    (U64, "02 81 01 05 05 00", Read(5, "05 00")),
+    NumberRow(U32, "02 06 00 00 01 23 45 67", Read(19088743, "")),
+    NumberRow(U32, "02 04 ff ff ff ff", Refused(IntegerNegative)),
+    NumberRow(U32, "03 03 01 00 01", Refused(UnexpectedTag { expected: Some(Tag::Integer), actual: Tag::BitString })),
+    NumberRow(U32, "02 00", Read(0, "")),
+    NumberRow(U32, "02 02 00", Incomplete(1)),
+    NumberRow(I32, "02 02 ff 7f ff", Read(-129, "ff")),
+    NumberRow(I64, "82 01 05", Read(5, "")),
+    NumberRow(I64, "22 01 01", Refused(ConstructUnexpected)),
+    NumberRow(U64, "02 09 01 00*8", Refused(IntegerTooLarge)),
+    NumberRow(U64, "02 81 01 05 05 00", Read(5, "05 00")),
 ];
 
 /// Octets, and what the readers of DER answer.
 #[rattlefmt::skip]
 const BY_DER: &[NumberRow] = &[
-    (U32, "02 06 00 00 01 23 45 67", Broken(IntegerLeadingZeroes)),
-    (U32, "02 02 ff 80", Refused(IntegerNegative)),
-    (I32, "02 02 ff 80", Broken(IntegerLeadingFF)),
-    (U32, "02 02 00", Incomplete(1)),
-    (U32, "02 00", Broken(IntegerEmpty)),
-    (U32, "02 05 00 ff ff ff ff", Read(4294967295, "")),
-    (U64, "02 0b 00*10 7f", Broken(IntegerLeadingZeroes)),
-    (U64, "02 09 01 00*8", Refused(IntegerTooLarge)),
-    (I32, "22 01 01", Broken(Constructed)),
-    (I32, "02 05 ff 7f ff ff ff", Refused(IntegerTooLarge)),
-    (I64, "0a 01 01", Refused(UnexpectedTag { expected: Some(Tag::Integer), actual: Tag::Enumerated })),
-    (I64, "82 01 05 00", Read(5, "00")),
+    NumberRow(U32, "02 06 00 00 01 23 45 67", Broken(IntegerLeadingZeroes)),
+    NumberRow(U32, "02 02 ff 80", Refused(IntegerNegative)),
+    NumberRow(I32, "02 02 ff 80", Broken(IntegerLeadingFF)),
+    NumberRow(U32, "02 02 00", Incomplete(1)),
+    NumberRow(U32, "02 00", Broken(IntegerEmpty)),
+    NumberRow(U32, "02 05 00 ff ff ff ff", Read(4294967295, "")),
+    NumberRow(U64, "02 0b 00*10 7f", Broken(IntegerLeadingZeroes)),
+    NumberRow(U64, "02 09 01 00*8", Refused(IntegerTooLarge)),
+    NumberRow(I32, "22 01 01", Broken(Constructed)),
+    NumberRow(I32, "02 05 ff 7f ff ff ff", Refused(IntegerTooLarge)),
+    NumberRow(I64, "0a 01 01", Refused(UnexpectedTag { expected: Some(Tag::Integer), actual: Tag::Enumerated })),
+    NumberRow(I64, "82 01 05 00", Read(5, "00")),
 ];
 
 impl HasInput for NumberRow {
@@ -127,8 +127,9 @@ impl HasInput for NumberRow {
 
 /// What is tried holds of each row's octets.
 fn try_rows(rt: &(impl Abort + AllocGlobal), trial: Trial) -> Result<(), Fail> {
-    rows::try_rows(rt, trial, BY_BER)?;
-    rows::try_rows(rt, trial, BY_DER)
+    rows::try_rows(rt.alloc(), trial, BY_BER)?;
+    rows::try_rows(rt.alloc(), trial, BY_DER)?;
+    Ok(())
 }
 
 impl NumberType {
@@ -209,7 +210,7 @@ fn objects_have_numbers(rt: HostRuntime) -> Result<(), Fail> {
 
 #[test]
 fn numbers_by_ber(rt: HostRuntime) -> Result<(), Fail> {
-    for (number_type, text, answer) in BY_BER {
+    for NumberRow(number_type, text, answer) in BY_BER {
         let input = octets(rt.alloc(), text)?;
         let given = number_type.read_by_ber(&input);
         assert!(rt;
@@ -222,7 +223,7 @@ fn numbers_by_ber(rt: HostRuntime) -> Result<(), Fail> {
 
 #[test]
 fn numbers_by_der(rt: HostRuntime) -> Result<(), Fail> {
-    for (number_type, text, answer) in BY_DER {
+    for NumberRow(number_type, text, answer) in BY_DER {
         let input = octets(rt.alloc(), text)?;
         let given = number_type.read_by_der(&input);
         assert!(rt;

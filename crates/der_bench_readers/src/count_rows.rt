@@ -1,9 +1,9 @@
 //! How many headers the full readers read.
-use crate::rows;
-use crate::rows::Trial;
 use der_bench_rows::octets::octets;
 use der_bench_rows::reader::Reader;
 use der_bench_rows::reader::Reader::{ParseBerCounted, ParseDerCounted};
+use der_bench_rows::rows;
+use der_bench_rows::rows::Trial;
 use der_parser::ber::HeaderCount;
 use std::process::Abort;
 use std::test::Fail;
@@ -73,12 +73,14 @@ fn headers_read(rt: &(impl Abort + AllocGlobal), reader: Reader, text: &str) -> 
 
 /// What is tried holds of each row's octets.
 pub fn try_rows(rt: &(impl Abort + AllocGlobal), trial: Trial) -> Result<(), Fail> {
-    rows::try_rows(rt, trial, COUNTS)
+    rows::try_rows(rt.alloc(), trial, COUNTS)?;
+    Ok(())
 }
 
 /// What is tried holds of the octets of the long rows.
 pub fn try_long_rows(rt: &(impl Abort + AllocGlobal), trial: Trial) -> Result<(), Fail> {
-    rows::try_rows(rt, trial, LONG_COUNTS)
+    rows::try_rows(rt.alloc(), trial, LONG_COUNTS)?;
+    Ok(())
 }
 
 fn expect_counts(

@@ -1,13 +1,13 @@
 //! What rows of all tables have in common: octets, and what holds of any octets is tried on them.
+use crate::answer::{Answer, Parts};
 use crate::fronts::expect_stable_fronts;
+use crate::reader::Reader;
 use crate::reading::DepthRow;
 use crate::round_trips::expect_round_trip;
-use der_bench_rows::answer::{Answer, Parts};
-use der_bench_rows::reader::Reader;
+use crate::wrong::Wrong;
 use der_parser::ber::{Length, MAX_RECURSION, Tag};
 use der_parser::error::{BerError, Err as Refused};
-use std::process::Abort;
-use std::test::Fail;
+use std::alloc::Global;
 
 /// What is tried on the octets of a row, whatever is answered on them.
 #[derive(Clone, Copy)]
@@ -20,15 +20,10 @@ pub enum Trial {
 
 impl Trial {
     /// What is tried holds of these octets, read to this depth.
-    pub fn try_on(
-        self,
-        rt: &(impl Abort + AllocGlobal),
-        depth: usize,
-        text: &str,
-    ) -> Result<(), Fail> {
+    pub fn try_on(self, alloc: Global, depth: usize, text: &str) -> Result<(), Wrong> {
         match self {
-            Trial::RoundTrip => expect_round_trip(rt, depth, text),
-            Trial::Fronts => expect_stable_fronts(rt, text),
+            Trial::RoundTrip => expect_round_trip(alloc, depth, text),
+            Trial::Fronts => expect_stable_fronts(alloc, text),
         }
     }
 }
@@ -117,13 +112,9 @@ impl HasInput for (&'static str, Tag, Refused<BerError>) {
 }
 
 /// What is tried holds of each row's octets.
-pub fn try_rows<R: HasInput>(
-    rt: &(impl Abort + AllocGlobal),
-    trial: Trial,
-    rows: &[R],
-) -> Result<(), Fail> {
+pub fn try_rows<R: HasInput>(alloc: Global, trial: Trial, rows: &[R]) -> Result<(), Wrong> {
     for row in rows {
-        trial.try_on(rt, row.depth(), row.input())?;
+        trial.try_on(alloc, row.depth(), row.input())?;
     }
     Ok(())
 }

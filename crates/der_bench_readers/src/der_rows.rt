@@ -1,7 +1,4 @@
 //! What is read by DER, and written again.
-use crate::reading::{DepthRow, Row, expect_answer, expect_answers, expect_header};
-use crate::rows;
-use crate::rows::Trial;
 use der_bench_rows::answer::Answer::{Broken, Incomplete, Read, Refused};
 use der_bench_rows::answer::Content::{
     Boolean, EndOfContent, Integer, Null, OctetString, Sequence, Set, Unknown,
@@ -9,6 +6,9 @@ use der_bench_rows::answer::Content::{
 use der_bench_rows::answer::Parts;
 use der_bench_rows::octets::octets;
 use der_bench_rows::reader::Reader;
+use der_bench_rows::reading::{DepthRow, Row, expect_answer, expect_answers, expect_header};
+use der_bench_rows::rows;
+use der_bench_rows::rows::Trial;
 use der_parser::ber::{Class, Length, Tag};
 use der_parser::error::DerConstraint::{
     Constructed, IndefiniteLength, IntegerEmpty, IntegerLeadingFF, IntegerLeadingZeroes,
@@ -135,20 +135,28 @@ const HEADERS: &[(&str, &[usize], Parts)] = &[
 
 /// What is tried holds of each row's octets.
 pub fn try_rows(rt: &(impl Abort + AllocGlobal), trial: Trial) -> Result<(), Fail> {
-    rows::try_rows(rt, trial, PARSE_DER)?;
-    rows::try_rows(rt, trial, AT_DEPTH)?;
-    rows::try_rows(rt, trial, HEADERS)
+    rows::try_rows(rt.alloc(), trial, PARSE_DER)?;
+    rows::try_rows(rt.alloc(), trial, AT_DEPTH)?;
+    rows::try_rows(rt.alloc(), trial, HEADERS)?;
+    Ok(())
 }
 
 #[test]
 fn parse_der_answers(rt: HostRuntime) -> Result<(), Fail> {
-    expect_answers(&rt, Reader::ParseDer, PARSE_DER)
+    expect_answers(rt.alloc(), Reader::ParseDer, PARSE_DER)?;
+    Ok(())
 }
 
 #[test]
 fn parse_der_recursive_answers(rt: HostRuntime) -> Result<(), Fail> {
     for (name, depth, text, answer) in AT_DEPTH {
-        expect_answer(&rt, Reader::ParseDerRecursive(*depth), name, text, answer)?;
+        expect_answer(
+            rt.alloc(),
+            Reader::ParseDerRecursive(*depth),
+            name,
+            text,
+            answer,
+        )?;
     }
     Ok(())
 }
@@ -156,7 +164,7 @@ fn parse_der_recursive_answers(rt: HostRuntime) -> Result<(), Fail> {
 #[test]
 fn parse_der_keeps_headers(rt: HostRuntime) -> Result<(), Fail> {
     for (text, path, parts) in HEADERS {
-        expect_header(&rt, Reader::ParseDer, text, path, parts)?;
+        expect_header(rt.alloc(), Reader::ParseDer, text, path, parts)?;
     }
     Ok(())
 }
