@@ -2,3 +2,4 @@ pub mod Attributes
 pub mod Elements
 pub mod Leaves
 pub mod Lists
+mod WorkedRows
