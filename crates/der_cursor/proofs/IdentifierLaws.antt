@@ -7,20 +7,21 @@ use Rattle.der_base.specs.Arcs.{arcs}
 use Rattle.der_base.specs.Refusal.{Refusal}
 use Rattle.der_base.proofs.Answers.Exactness.{ShowsOne}
 use Rattle.der_cursor.specs.Elements.{SpellsElement, ElementRefuses}
-use Rattle.der_cursor.specs.Values.{HasArcs, leading_identifier, MakesIdentifier, SpellsIdentifier, IdentifierRefuses}
+use Rattle.der_cursor.specs.Values.{HasArcs, HasNoArcs, leading_identifier, MakesIdentifier, SpellsIdentifier, IdentifierRefuses}
 use Rattle.der_cursor.proofs.ElementLaws.{element_same, element_shows_one}
 
 element : (i : List ℕ) → ShowsOne (λ v. v) (λ v. SpellsElement Universal false 6 i v) (SpellsElement Universal false 6 i) (ElementRefuses Universal false 6 i) (DerAnyLacks i)
 element i = element_shows_one Universal false 6 i (λ v. v)
 
 -- octets have arcs, or none
-no_arcs : (w : List ℕ) → HasArcs w → arcs false w ≡ None → ⊥
-no_arcs w (l, h) e = let f : Some l ≡ None = sym h ∙ e in cc
+no_arcs : (w : List ℕ) → HasArcs w → HasNoArcs w → ⊥
+no_arcs w (some, l, h) (inl e) = some e
+no_arcs w (some, l, h) (inr e) = let f : Some l ≡ None = sym h ∙ e in cc
 
-none_spelled : (i : List ℕ) (v u : List ℕ × List ℕ) → SpellsElement Universal false 6 i v → HasArcs v.0 → SpellsElement Universal false 6 i u → arcs false u.0 ≡ None → ⊥
+none_spelled : (i : List ℕ) (v u : List ℕ × List ℕ) → SpellsElement Universal false 6 i v → HasArcs v.0 → SpellsElement Universal false 6 i u → HasNoArcs u.0 → ⊥
 none_spelled i v u s h s' n =
     let z = element_same i Universal Universal false false 6 6 v u s s' in
-    no_arcs v.0 h (ap (λ x. arcs false x.0) z.3 ∙ n)
+    no_arcs v.0 h (subst (λ x. HasNoArcs x.0) (sym z.3) n)
 
 refusal_same : (i : List ℕ) (e e' : Refusal) → IdentifierRefuses i e → IdentifierRefuses i e' → e ≡ e'
 refusal_same i e e' (inl a) (inl b) = (element i).one_refusal e e' a b

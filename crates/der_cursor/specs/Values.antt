@@ -1,6 +1,6 @@
 -- What the readers of single values answer.
 use Rattle.std.specs.Borrow.{Bor}
-use Rattle.std.specs.Prelude.{◌≡◌, ◌≢◌, ℕ, ◌⊎◌, Bool, false, Option, Some, None, List, Result, Ok, Err}
+use Rattle.std.specs.Prelude.{◌≡◌, ◌≢◌, ℕ, ◌⊎◌, Bool, false, Option, Some, None, List, [], Result, Ok, Err}
 use Rattle.der_base.specs.declared.error.Err.{Err as Refused}
 use Rattle.der_base.specs.declared.error.Error.{Error as BerError}
 use Rattle.der_base.specs.declared.header.Class.{Class}
@@ -29,14 +29,17 @@ abbrev pub AnswersBits : List ℕ → Result (Bor (List ℕ) × BitStringObject)
 AnswersBits i result = AnswersExactly result leading_bits_of (λ x. SpellsBits i (leading_bits_of x)) (SpellsBits i)
     (TypedRefuses 3 i) (TypedLacks 3 i) ⊥ ⊥
 
--- the octets are those of an identifier that has arcs (8.19)
+-- the octets are those of an identifier that has arcs: one subidentifier at least (8.19.2)
 abbrev pub HasArcs : List ℕ → Type 0
-HasArcs w = (l : List ℕ) × (arcs false w ≡ Some l)
+HasArcs w = (w ≢ []) × (l : List ℕ) × (arcs false w ≡ Some l)
+
+abbrev pub HasNoArcs : List ℕ → Type 0
+HasNoArcs w = (w ≡ []) ⊎ (arcs false w ≡ None)
 
 -- the identifier of these octets, where it has arcs
 abbrev pub MakesIdentifier : List ℕ → Result Oid BerError → Type 0
 MakesIdentifier w (Ok x) = (octets_of x ≡ w) × (is_relative_of x ≡ false) × HasArcs w
-MakesIdentifier w (Err e) = (arcs false w ≡ None) × (refusal e ≡ wrong_value)
+MakesIdentifier w (Err e) = HasNoArcs w × (refusal e ≡ wrong_value)
 
 -- the octets of an identifier, whether it is relative, and what is left of the input
 abbrev pub leading_identifier : Bor (List ℕ) × Oid → List ℕ × Bool × List ℕ
@@ -49,7 +52,7 @@ SpellsIdentifier i v = SpellsElement Universal false 6 i (v.0, v.2) × HasArcs v
 -- the element is refused, or its identifier has no arcs
 abbrev pub IdentifierRefuses : List ℕ → Refusal → Type 0
 IdentifierRefuses i e = ElementRefuses Universal false 6 i e
-    ⊎ ((v : List ℕ × List ℕ) × SpellsElement Universal false 6 i v × (arcs false v.0 ≡ None) × (e ≡ wrong_value))
+    ⊎ ((v : List ℕ × List ℕ) × SpellsElement Universal false 6 i v × HasNoArcs v.0 × (e ≡ wrong_value))
 
 -- the reader of one answers exactly what i shows
 abbrev pub AnswersIdentifier : List ℕ → Result (Bor (List ℕ) × Oid) (Refused BerError) → Type 0

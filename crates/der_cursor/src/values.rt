@@ -38,10 +38,14 @@ pub fn parse_identifier<'a>(i: &'a [u8]) -> IResult<&'a [u8], Oid<'a>, BerError>
     }
 }
 
-/// The identifier that has these content octets, where it has arcs. BerValueError otherwise.
+/// The identifier that has these content octets, where there are any, and they are arcs. BerValueError
+/// otherwise.
 pub fn identifier_of(octets: &[u8]) -> Result<Oid<'_>, BerError>
     ensures { MakesIdentifier octets.now result }
 {
+    if octets.is_empty() {
+        return Err(BerError::BerValueError);
+    }
     let oid = Oid::new(CowSlice::Borrowed(octets));
     if oid.iter().is_none() {
         return Err(BerError::BerValueError);

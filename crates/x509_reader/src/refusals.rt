@@ -29,6 +29,7 @@ const REFUSED: &[(&str, usize, usize, u8, usize, Refused<BerError>)] = &[
     ("an octet stands behind", 96, 95, 0x00, 95, Error(BerError::NomError(ErrorKind::Eof))),
     ("version 4", 95, 8, 0x03, 6, Error(BerError::BerValueError)),
     ("serial number -128", 95, 11, 0x80, 9, Error(BerError::IntegerNegative)),
+    ("an identifier without arcs", 95, 15, 0x00, 14, Error(BerError::BerValueError)),
     ("an attribute in front of a lesser one", 95, 27, 0x0b, 17,
         Failure(BerError::DerConstraintFailed(DerConstraint::SetOfOrder))),
     ("a text as the first time", 95, 43, 0x16, 43,

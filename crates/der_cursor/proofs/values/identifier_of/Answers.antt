@@ -1,4 +1,4 @@
-use Rattle.std.proofs.Common.{◌≡◌, ◌≢◌, ℕ, false, List, Option, Some, None, rules, refl, sym}
+use Rattle.std.proofs.Common.{◌≡◌, ◌≢◌, ℕ, false, List, [], Option, Some, None, rules, refl, sym}
 use Rattle.std.specs.Option.{option_map}
 use Rattle.der_base.specs.declared.oid.OidIter.{OidIter}
 use Rattle.der_base.specs.Arcs.{arcs}
@@ -12,4 +12,6 @@ some_arcs None m e n = absurd (n refl)
 pub returns : goal.returns
 returns c =
     let iterated : option_map arcs_left c.iter.result ≡ arcs false c.args.octets.now = search rules in
-    (c.new-oid.ensures.octets, c.new-oid.ensures.absolute, some_arcs c.iter.result (arcs false c.args.octets.now) iterated (search rules))
+    let some : c.args.octets.now ≢ [] = search rules in
+    let found = some_arcs c.iter.result (arcs false c.args.octets.now) iterated (search rules) in
+    (c.new-oid.ensures.octets, c.new-oid.ensures.absolute, (some, found.0, found.1))
