@@ -1,5 +1,5 @@
 //! The text of object identifiers.
-ghost use Rattle.std.specs.Prelude.{◌≡◌, ◌<◌, ◌++◌, codes, decimal, Some};
+ghost use Rattle.std.specs.Prelude.{Some};
 ghost use Rattle.std.specs.Fmt.{DisplaysOnOk};
 ghost use Rattle.der_base.specs.Arcs.{arcs};
 ghost use Rattle.der_base.specs.Oids.{arcs_left, is_relative_of, octets_of};

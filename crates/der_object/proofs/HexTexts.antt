@@ -2,14 +2,11 @@
 use Rattle.std.proofs.Common.{◌≡◌, ℕ, zero, suc, ◌+◌, ◌-◌, ◌*◌, ◌<◌, ◌≤◌, List, [], ◌∷◌, ◌++◌, length, drop, take, get_or, refl, sym, ap, ◌∙◌, arith}
 use Rattle.std.proofs.lemmas.List.{drop_more, take-append-drop}
 use Rattle.der_base.specs.Pretty.{hex_pair, spaced_hex}
+use Rattle.der_base.proofs.HexTexts.{spaced_append}
 
 pub spaced_length : (w : List ℕ) → length (spaced_hex w) ≡ 3 * length w
 spaced_length [] = refl
 spaced_length (b ∷ w) = omega (arith, spaced_length w)
-
-pub spaced_append : (v w : List ℕ) → spaced_hex (v ++ w) ≡ spaced_hex v ++ spaced_hex w
-spaced_append [] w = refl
-spaced_append (b ∷ v) w = ap (λ t. 0x20 ∷ hex_pair b ++ t) (spaced_append v w)
 
 -- the octet in front of the place i
 pub octet_before : (w : List ℕ) (i b : ℕ) → 0 < i → i ≤ length w → b ≡ get_or w (i - 1) b → spaced_hex (drop (i - 1) w) ≡ (0x20 ∷ hex_pair b) ++ spaced_hex (drop i w)

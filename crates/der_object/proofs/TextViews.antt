@@ -1,19 +1,19 @@
 -- Texts of contents, and of characters and numbers in parts.
-use Rattle.std.proofs.Common.{◌≡◌, ℕ, ◌+◌, ◌-◌, ◌<◌, ◌≤◌, ◌^◌, Bool, true, false, ◌&&◌, ◌||◌, not, Option, Some, None, is_some, is_none, List, [], ◌∷◌, ◌++◌, length, replicate, take, refl, sym, ap, ◌∙◌, arith, append_assoc, if◌then◌else◌}
+use Rattle.std.proofs.Common.{◌≡◌, ℕ, ◌+◌, ◌-◌, ◌<◌, ◌≤◌, Bool, true, false, ◌&&◌, not, Option, Some, None, is_some, List, [], ◌∷◌, ◌++◌, take, refl, sym, ap, ◌∙◌, arith, if◌then◌else◌}
 use Rattle.std.proofs.lemmas.List.{append-nil, replicate-append-replicate, take-replicate}
 use Rattle.std.specs.Char.{encode_utf8}
 use Rattle.std.specs.Char.Utf16.{utf16_chars, is_high_surrogate, is_low_surrogate, lone_unit_char, surrogate_pair_char}
 use Rattle.std.specs.declared.vec.Vec.{Vec}
 use Rattle.std.specs.declared.alloc.Global.{Global}
-use Rattle.der_base.specs.Pretty.{Style, spaces, further, pretty, content_text, items_text, list_text, leaf_text, characters_text, put_before}
+use Rattle.der_base.specs.Pretty.{Style, spaces, further, content_text, items_text, list_text, leaf_text, characters_text, put_before}
 use Rattle.der_base.specs.Spelling.{Forms}
 use Rattle.der_object.specs.declared.object.BerObject.{BerObject}
-use Rattle.der_object.specs.declared.object.BerObjectContent.{BerObjectContent, None', Some'}
+use Rattle.der_object.specs.declared.object.BerObjectContent.{BerObjectContent}
 use Rattle.der_object.specs.declared.object.BerObjectContent.TheVariants.{Null, Sequence, Set, Sequence', Set', Optional', Tagged'}
 use Rattle.der_object.specs.declared.object.BerObjectContent.TheBlock.{shown-the_row-BerObject-0}
 use Rattle.der_object.specs.Characters.{text_of_chars}
-use Rattle.der_object.specs.HeaderFacts.{inner_forms, form_of, forms_of}
-use Rattle.der_object.specs.View.{content_tree, tree, trees}
+use Rattle.der_object.specs.HeaderFacts.{inner_forms, forms_of}
+use Rattle.der_object.specs.View.{content_tree, trees}
 use Rattle.der_object.proofs.HeaderFacts.{sequence_forms, set_forms}
 use Rattle.der_object.proofs.Trees.{NotOptional, NotTagged, not_held, every_sequence, every_set, sequence_tree, set_tree}
 

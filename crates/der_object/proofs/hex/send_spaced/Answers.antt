@@ -1,7 +1,7 @@
 use Rattle.std.proofs.Common.{◌≡◌, ◌++◌, refl, ap, sym, ◌∙◌, append_assoc}
 use Rattle.std.proofs.lemmas.List.{take-append-drop}
 use Rattle.der_base.specs.Pretty.{spaced_hex}
-use Rattle.der_object.proofs.HexTexts.{spaced_append}
+use Rattle.der_base.proofs.HexTexts.{spaced_append}
 use Rattle.der_object.proofs.Sending.{wrote_then, wrote_stop, wrote_exit}
 use Rattle.der_object.proofs.hex.send_spaced.Goals as goal
 

@@ -1,4 +1,4 @@
-use Rattle.std.proofs.Common.{◌≡◌, ◌++◌, ap, sym, ◌∙◌, append_assoc, codes, decimal}
+use Rattle.std.proofs.Common.{◌++◌, ap, sym, ◌∙◌, append_assoc, codes, decimal}
 use Rattle.der_base.specs.Oids.{arcs_left}
 use Rattle.der_base.specs.Pretty.{pointed}
 use Rattle.der_object.proofs.Sending.{wrote_then, wrote_stop, wrote_exit}
