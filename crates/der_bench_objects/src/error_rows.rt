@@ -16,6 +16,10 @@ fn errors_are_made(rt: HostRuntime) {
         actual: Class::Universal,
     };
     assert_eq!(rt; class, expected);
+}
+
+#[test]
+fn errors_of_values_are_made(rt: HostRuntime) {
     let value = BerError::invalid_value(Tag(3), "more");
     let expected = BerError::InvalidValue {
         tag: Tag(3),
@@ -42,20 +46,37 @@ fn parsers_make_errors(rt: HostRuntime) {
     assert_eq!(rt; other, BerError::InvalidTag);
 }
 
+/// Whether the error is changed.
+fn are_errors_mapped() -> bool {
+    let facts = [
+        Refused::Error(5u8).map(|e| e == 5) == Refused::Error(true),
+        Refused::Failure(5u8).map(|e| e == 5) == Refused::Failure(true),
+    ];
+    facts.iter().all(|is_so| *is_so)
+}
+
+/// Whether what has no error stays as it is.
+fn are_others_kept() -> bool {
+    let cut: Refused<u8> = Refused::Incomplete(Needed::Size(3));
+    let wanting: Refused<u8> = Refused::OutOfMemory;
+    let facts = [
+        cut.map(|e| e == 5) == Refused::Incomplete(Needed::Size(3)),
+        wanting.map(|e| e == 5) == Refused::OutOfMemory,
+    ];
+    facts.iter().all(|is_so| *is_so)
+}
+
 /// Nothing but the error is changed.
 #[test]
 fn answers_are_mapped(rt: HostRuntime) {
+    assert!(rt; are_errors_mapped());
+    assert!(rt; are_others_kept());
+}
+
+#[test]
+fn answers_are_converted(rt: HostRuntime) {
     let refused: Refused<BerError> = Refused::from(BerError::InvalidTag);
     assert_eq!(rt; refused, Refused::Error(BerError::InvalidTag));
-    assert_eq!(rt; Refused::Error(5u8).map(|e| e == 5), Refused::Error(true));
-    assert_eq!(rt;
-        Refused::Failure(5u8).map(|e| e == 5),
-        Refused::Failure(true)
-    );
-    let cut: Refused<u8> = Refused::Incomplete(Needed::Size(3));
-    assert_eq!(rt; cut.map(|e| e == 5), Refused::Incomplete(Needed::Size(3)));
-    let wanting: Refused<u8> = Refused::OutOfMemory;
-    assert_eq!(rt; wanting.map(|e| e == 5), Refused::OutOfMemory);
     let wide: Refused<u32> = Refused::convert(Refused::Failure(5u8));
     assert_eq!(rt; wide, Refused::Failure(5u32));
 }

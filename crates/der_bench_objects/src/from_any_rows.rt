@@ -5,11 +5,12 @@ use der_bench_rows::answer::{Describes, Parts};
 use der_bench_rows::octets::octets;
 use der_parser::ber::Class::{Application, ContextSpecific, Universal};
 use der_parser::ber::Length::{Definite, Indefinite};
-use der_parser::ber::{Any, Tag, ber_object_from_any};
+use der_parser::ber::{Any, Header, Tag, ber_object_from_any};
 use der_parser::error::BerResult;
 use der_parser::error::Err::OutOfMemory;
 use der_parser::error::Error::{ConstructExpected, ConstructUnexpected, InvalidLength};
 use std::alloc::Global;
+use std::process::Abort;
 use std::test::Fail;
 
 /// A name, the octets of an element, the parts of its header, and what `ber_object_from_any` answers
@@ -37,26 +38,53 @@ fn read_any<'a>(alloc: Global, any: Any<'a>) -> BerResult<'a> {
     Ok((&[], object))
 }
 
+/// The header is of these parts.
+fn expect_header(
+    rt: &(impl Abort + AllocGlobal),
+    name: &str,
+    header: &Header<'_>,
+    parts: &Parts,
+) -> Result<(), Fail> {
+    let is_so = parts.describes(rt.alloc(), header)?;
+    assert!(rt; is_so, "{name}: {header:?}");
+    Ok(())
+}
+
+/// The answer is so, and an object that is read has a header of these parts.
+fn expect_answer(
+    rt: &(impl Abort + AllocGlobal),
+    name: &str,
+    given: &BerResult<'_>,
+    parts: &Parts,
+    answer: &Answer,
+) -> Result<(), Fail> {
+    let is_so = answer.is_given_by(rt.alloc(), given)?;
+    assert!(rt; is_so, "{name}: {given:?}");
+    match given {
+        Ok((_, object)) => expect_header(rt, name, &object.header, parts),
+        Err(_) => Ok(()),
+    }
+}
+
+/// The element has a header of these parts, and gives this answer.
+fn expect_object(
+    rt: &(impl Abort + AllocGlobal),
+    name: &str,
+    any: Any<'_>,
+    parts: &Parts,
+    answer: &Answer,
+) -> Result<(), Fail> {
+    expect_header(rt, name, &any.header, parts)?;
+    let given = read_any(rt.alloc(), any);
+    expect_answer(rt, name, &given, parts, answer)
+}
+
 #[test]
 fn objects_from_any(rt: HostRuntime) -> Result<(), Fail> {
     for (name, text, parts, answer) in FROM_ANY {
         let input = octets(rt.alloc(), text)?;
         let (_, any) = Any::from_ber(&input)?;
-        assert!(rt;
-            parts.describes(rt.alloc(), &any.header)?,
-            "{name}: {any:?}"
-        );
-        let given = read_any(rt.alloc(), any);
-        assert!(rt;
-            answer.is_given_by(rt.alloc(), &given)?,
-            "{name}: {given:?}"
-        );
-        if let Ok((_, object)) = &given {
-            assert!(rt;
-                parts.describes(rt.alloc(), &object.header)?,
-                "{name}: {object:?}"
-            );
-        }
+        expect_object(&rt, name, any, parts, answer)?;
     }
     Ok(())
 }

@@ -3,6 +3,8 @@ use der_bench_rows::octets::octets;
 use der_parser::ber::{
     BerObject, BerObjectContent, Class, FaultWriter, PrettyBer, PrettyPrinterFlag, Tag, parse_ber,
 };
+use der_parser::error::GenError;
+use std::alloc::{AllocError, Global};
 use std::process::Abort;
 use std::test::Fail;
 
@@ -70,6 +72,52 @@ const ROWS: &[(Print, &str, &str)] = &[
     (BOTH, "30 80 02 81 01 05 00 00", "[Sequence]+ Indefinite Sequence[\n  [Integer] 1 Integer([05])]"),
 ];
 
+/// A printer of the object.
+fn printer_of<'o, 'a>(
+    alloc: Global,
+    print: Print,
+    object: &'o BerObject<'a>,
+) -> Result<PrettyBer<'o, 'a>, AllocError> {
+    let (recursive, headers, indent, increment) = print;
+    let mut printer = PrettyBer::new(object, Vec::new(alloc), indent, increment);
+    if recursive {
+        printer.set_flag(PrettyPrinterFlag::Recursive)?;
+    }
+    if headers {
+        printer.set_flag(PrettyPrinterFlag::ShowHeader)?;
+    }
+    Ok(printer)
+}
+
+/// What the printer writes.
+fn sent_by(alloc: Global, printer: &PrettyBer<'_, '_>) -> Result<Vec<u8>, GenError> {
+    let mut w = FaultWriter::new(Vec::new(alloc));
+    printer.write_text(&mut w)?;
+    Ok(w.into_inner())
+}
+
+/// The printer writes the text.
+fn expect_sent(
+    rt: &(impl Abort + AllocGlobal),
+    printer: &PrettyBer<'_, '_>,
+    text: &str,
+) -> Result<(), Fail> {
+    let sent = sent_by(rt.alloc(), printer)?;
+    assert_eq!(rt; sent.as_slice(), text.as_bytes(), "{text}");
+    Ok(())
+}
+
+/// `Debug` writes the text.
+fn expect_shown(
+    rt: &(impl Abort + AllocGlobal),
+    printer: &PrettyBer<'_, '_>,
+    text: &str,
+) -> Result<(), Fail> {
+    let shown = format!(in rt.alloc(); "{printer:?}")?;
+    assert_eq!(rt; shown.as_str(), text);
+    Ok(())
+}
+
 /// The text is written, and `Debug` writes the same.
 fn expect_text(
     rt: &(impl Abort + AllocGlobal),
@@ -77,95 +125,175 @@ fn expect_text(
     object: &BerObject<'_>,
     text: &str,
 ) -> Result<(), Fail> {
-    let (recursive, headers, indent, increment) = print;
-    let mut printer = PrettyBer::new(object, Vec::new(rt.alloc()), indent, increment);
-    if recursive {
-        printer.set_flag(PrettyPrinterFlag::Recursive)?;
-    }
-    if headers {
-        printer.set_flag(PrettyPrinterFlag::ShowHeader)?;
-    }
-    let mut w = FaultWriter::new(Vec::new(rt.alloc()));
-    assert_eq!(rt; printer.write_text(&mut w), Ok(()), "{text}");
-    assert_eq!(rt; w.into_inner().as_slice(), text.as_bytes(), "{text}");
-    let shown = format!(in rt.alloc(); "{printer:?}")?;
-    assert_eq!(rt; shown.as_str(), text);
-    Ok(())
+    let printer = printer_of(rt.alloc(), print, object)?;
+    expect_sent(rt, &printer, text)?;
+    expect_shown(rt, &printer, text)
+}
+
+/// The octets are those of an object of that text.
+fn expect_text_of(
+    rt: &(impl Abort + AllocGlobal),
+    print: Print,
+    input: &[u8],
+    text: &str,
+) -> Result<(), Fail> {
+    let (_, object) = parse_ber(rt.alloc(), input)?;
+    expect_text(rt, print, &object, text)
 }
 
 #[test]
 fn objects_are_printed(rt: HostRuntime) -> Result<(), Fail> {
     for (print, input, text) in ROWS {
         let input = octets(rt.alloc(), input)?;
-        let (_, object) = parse_ber(rt.alloc(), &input)?;
-        expect_text(&rt, *print, &object, text)?;
+        expect_text_of(&rt, *print, &input, text)?;
     }
     Ok(())
+}
+
+/// The object of that content is printed so.
+fn expect_made(
+    rt: &(impl Abort + AllocGlobal),
+    print: Print,
+    content: BerObjectContent<'_>,
+    text: &str,
+) -> Result<(), Fail> {
+    expect_text(rt, print, &BerObject::from_obj(content), text)
+}
+
+/// An INTEGER in an explicit tag.
+fn tagged(alloc: Global) -> Result<BerObjectContent<'static>, AllocError> {
+    let two = Box::new(alloc, BerObject::from_int_slice(b"\x02"))?;
+    Ok(BerObjectContent::Tagged(Class::ContextSpecific, Tag(0), two))
+}
+
+/// That as an object that may be absent.
+fn present(alloc: Global) -> Result<BerObjectContent<'static>, AllocError> {
+    let inner = BerObject::from_obj(tagged(alloc)?);
+    Ok(BerObjectContent::Optional(Some(Box::new(alloc, inner)?)))
 }
 
 /// Contents that only callers make: a tagged object, one that may be absent and is there, and one
 /// that is absent.
 #[test]
 fn made_objects_are_printed(rt: HostRuntime) -> Result<(), Fail> {
-    let two = Box::new(rt.alloc(), BerObject::from_int_slice(b"\x02"))?;
-    let content = BerObjectContent::Tagged(Class::ContextSpecific, Tag(0), two);
-    let tagged = Box::new(rt.alloc(), BerObject::from_obj(content))?;
     let text = "ContextSpecific [CONTEXT-SPECIFIC 0] {\n  Integer([02])}";
-    expect_text(&rt, ITEMS, &tagged, text)?;
-    let present = BerObject::from_obj(BerObjectContent::Optional(Some(tagged)));
+    expect_made(&rt, ITEMS, tagged(rt.alloc())?, text)?;
     let text = "  OPTION ContextSpecific [CONTEXT-SPECIFIC 0] {\n  Integer([02])}";
-    expect_text(&rt, (true, false, 2, 2), &present, text)?;
-    let absent = BerObject::from_obj(BerObjectContent::Optional(None));
-    expect_text(&rt, ITEMS, &absent, "NONE")?;
-    let undecoded = BerObject::from_obj(BerObjectContent::BmpString(b"\xd8\x3d"));
+    expect_made(&rt, (true, false, 2, 2), present(rt.alloc())?, text)?;
+    expect_made(&rt, ITEMS, BerObjectContent::Optional(None), "NONE")
+}
+
+/// Octets that are no characters of two octets.
+#[test]
+fn undecoded_texts_are_printed(rt: HostRuntime) -> Result<(), Fail> {
+    let undecoded = BerObjectContent::BmpString(b"\xd8\x3d");
     let text = "BmpString([d8 3d]) <error decoding utf32 string>\n";
-    expect_text(&rt, ITEMS, &undecoded, text)?;
-    let odd = BerObject::from_obj(BerObjectContent::BmpString(b"\x00A\x07"));
-    expect_text(&rt, ITEMS, &odd, "BmpString(\"A\")\n")
+    expect_made(&rt, ITEMS, undecoded, text)?;
+    let odd = BerObjectContent::BmpString(b"\x00A\x07");
+    expect_made(&rt, ITEMS, odd, "BmpString(\"A\")\n")
+}
+
+/// So many times the text, with the separator between.
+fn push_run(
+    text: &mut String,
+    count: usize,
+    word: &str,
+    separator: &str,
+) -> Result<(), AllocError> {
+    for i in 0..count {
+        text.push_str(if i == 0 { "" } else { separator })?;
+        text.push_str(word)?;
+    }
+    Ok(())
+}
+
+/// The text of an OCTET STRING of so many octets a7, as many spaces in.
+fn long_text(alloc: Global, count: usize) -> Result<String, AllocError> {
+    let mut text = String::new(alloc);
+    push_run(&mut text, count, " ", "")?;
+    text.push_str("OctetString([")?;
+    push_run(&mut text, count, "a7", " ")?;
+    text.push_str("])")?;
+    Ok(text)
 }
 
 /// Long runs of spaces and octets, which are sent in parts.
 #[test]
 fn long_runs_are_printed(rt: HostRuntime) -> Result<(), Fail> {
     for count in [0, 1, 63, 64, 65, 127, 128, 129, 200] {
-        let mut data = Vec::new(rt.alloc());
-        let mut text = String::new(rt.alloc());
-        for _ in 0..count {
-            text.push_str(" ")?;
-        }
-        text.push_str("OctetString([")?;
-        for i in 0..count {
-            data.push(0xa7)?;
-            text.push_str(if i == 0 { "a7" } else { " a7" })?;
-        }
-        text.push_str("])")?;
-        let object = BerObject::from_obj(BerObjectContent::OctetString(&data));
-        expect_text(&rt, (true, false, count, 2), &object, &text)?;
+        let data = vec![in rt.alloc(); 0xa7; count]?;
+        let text = long_text(rt.alloc(), count)?;
+        let content = BerObjectContent::OctetString(&data);
+        expect_made(&rt, (true, false, count, 2), content, &text)?;
     }
     Ok(())
+}
+
+/// Whether the flags are set: that of the items of lists, and that of the headers.
+fn flags_of(printer: &PrettyBer<'_, '_>) -> (bool, bool) {
+    (
+        printer.is_flag_set(PrettyPrinterFlag::Recursive),
+        printer.is_flag_set(PrettyPrinterFlag::ShowHeader),
+    )
+}
+
+/// Adds the flag of the headers twice.
+fn set_twice(printer: &mut PrettyBer<'_, '_>) -> Result<(), AllocError> {
+    printer.set_flag(PrettyPrinterFlag::ShowHeader)?;
+    printer.set_flag(PrettyPrinterFlag::ShowHeader)
+}
+
+/// The flags of a printer: at first, with a flag added twice, and with it taken out.
+fn flags_in_turn(alloc: Global, object: &BerObject<'_>) -> Result<[(bool, bool); 3], AllocError> {
+    let mut printer = object.as_pretty(alloc, 1, usize::MAX)?;
+    let first = flags_of(&printer);
+    set_twice(&mut printer)?;
+    let added = flags_of(&printer);
+    printer.unset_flag(PrettyPrinterFlag::ShowHeader);
+    Ok([first, added, flags_of(&printer)])
+}
+
+/// The flags of a printer of an object within, and those of the one around it where a flag is taken
+/// out of the first.
+fn flags_handed_on(alloc: Global, object: &BerObject<'_>) -> Result<[(bool, bool); 2], AllocError> {
+    let printer = object.as_pretty(alloc, 1, usize::MAX)?;
+    let mut further = printer.next_indent(alloc, object)?;
+    let first = flags_of(&further);
+    further.unset_flag(PrettyPrinterFlag::Recursive);
+    Ok([first, flags_of(&printer)])
+}
+
+/// A printer of an object within stands further in.
+fn expect_further_text<'a>(
+    rt: &(impl Abort + AllocGlobal),
+    object: &BerObject<'a>,
+    inner: &BerObject<'a>,
+) -> Result<(), Fail> {
+    let printer = object.as_pretty(rt.alloc(), 1, 2)?;
+    let further = printer.next_indent(rt.alloc(), inner)?;
+    expect_shown(rt, &further, "   Integer([02])")
 }
 
 /// A flag is added once, and taken out wherever it is.
 #[test]
 fn flags_are_set(rt: HostRuntime) -> Result<(), Fail> {
     let null = BerObject::from_obj(BerObjectContent::Null);
-    let mut printer = null.as_pretty(rt.alloc(), 1, usize::MAX)?;
-    assert!(rt; printer.is_flag_set(PrettyPrinterFlag::Recursive));
-    assert!(rt; !printer.is_flag_set(PrettyPrinterFlag::ShowHeader));
-    printer.set_flag(PrettyPrinterFlag::ShowHeader)?;
-    printer.set_flag(PrettyPrinterFlag::ShowHeader)?;
-    assert!(rt; printer.is_flag_set(PrettyPrinterFlag::ShowHeader));
-    printer.unset_flag(PrettyPrinterFlag::ShowHeader);
-    assert!(rt; !printer.is_flag_set(PrettyPrinterFlag::ShowHeader));
-    assert!(rt; printer.is_flag_set(PrettyPrinterFlag::Recursive));
-    let inner = BerObject::from_int_slice(b"\x02");
-    let mut further = printer.next_indent(rt.alloc(), &inner)?;
-    assert!(rt; further.is_flag_set(PrettyPrinterFlag::Recursive));
-    further.unset_flag(PrettyPrinterFlag::Recursive);
-    assert!(rt; printer.is_flag_set(PrettyPrinterFlag::Recursive));
-    let printer = null.as_pretty(rt.alloc(), 1, 2)?;
-    let further = printer.next_indent(rt.alloc(), &inner)?;
-    let shown = format!(in rt.alloc(); "{further:?}")?;
-    assert_eq!(rt; shown.as_str(), "   Integer([02])");
+    let given = flags_in_turn(rt.alloc(), &null)?;
+    assert!(rt; given == [(true, false), (true, true), (true, false)]);
     Ok(())
+}
+
+#[test]
+fn flags_are_handed_on(rt: HostRuntime) -> Result<(), Fail> {
+    let null = BerObject::from_obj(BerObjectContent::Null);
+    let given = flags_handed_on(rt.alloc(), &null)?;
+    assert!(rt; given == [(true, false), (true, false)]);
+    Ok(())
+}
+
+#[test]
+fn indents_are_handed_on(rt: HostRuntime) -> Result<(), Fail> {
+    let null = BerObject::from_obj(BerObjectContent::Null);
+    let inner = BerObject::from_int_slice(b"\x02");
+    expect_further_text(&rt, &null, &inner)
 }

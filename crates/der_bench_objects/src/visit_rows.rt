@@ -8,6 +8,7 @@ use der_parser::ber::Class::ContextSpecific;
 use der_parser::ber::{BerObject, BerObjectContent, Tag, Visit, VisitMut, parse_ber};
 use der_parser::parse_der;
 use std::alloc::Global;
+use std::process::Abort;
 use std::test::Fail;
 
 /// Octets, a depth, and the calls that the object is visited by from there.
@@ -31,18 +32,49 @@ const ORDERS: &[OrderRow] = &[
     ("05 00", 7, &[(Any, 7), (Null, 7)]),
 ];
 
+/// Whether the object is visited by these calls, from this depth.
+fn is_visited(object: &BerObject<'_>, depth: usize, calls: &[Call]) -> bool {
+    let mut watcher = Watcher::new(calls);
+    Visit::run_at(&mut watcher, object, depth);
+    watcher.has_met_all()
+}
+
+/// Whether the object is visited by these calls where it may be changed, from this depth.
+fn is_visited_mut(object: &mut BerObject<'_>, depth: usize, calls: &[Call]) -> bool {
+    let mut watcher = Watcher::new(calls);
+    VisitMut::run_at(&mut watcher, object, depth);
+    watcher.has_met_all()
+}
+
+/// Whether the octets are those of the object.
+fn is_read<'a>(alloc: Global, input: &'a [u8], object: &BerObject<'a>) -> Result<bool, Fail> {
+    let (_, again) = parse_ber(alloc, input)?;
+    Ok(again == *object)
+}
+
+/// Whether the object is visited by these calls, and also where it may be changed.
+fn is_visited_twice(object: &mut BerObject<'_>, depth: usize, calls: &[Call]) -> bool {
+    is_visited(object, depth, calls) && is_visited_mut(object, depth, calls)
+}
+
+/// Whether the object of the octets is visited so, and is the same then.
+fn are_visits(
+    alloc: Global,
+    input: &[u8],
+    depth: usize,
+    calls: &[Call],
+) -> Result<(bool, bool), Fail> {
+    let (_, mut object) = parse_ber(alloc, input)?;
+    let is_visited = is_visited_twice(&mut object, depth, calls);
+    Ok((is_visited, is_read(alloc, input, &object)?))
+}
+
 #[test]
 fn order_and_depths(rt: HostRuntime) -> Result<(), Fail> {
     for (text, depth, calls) in ORDERS {
         let input = octets(rt.alloc(), text)?;
-        let (_, mut object) = parse_ber(rt.alloc(), &input)?;
-        let mut watcher = Watcher::new(calls);
-        Visit::run_at(&mut watcher, &object, *depth);
-        assert!(rt; watcher.has_met_all(), "{text}");
-        let mut watcher = Watcher::new(calls);
-        VisitMut::run_at(&mut watcher, &mut object, *depth);
-        assert!(rt; watcher.has_met_all(), "{text}");
-        assert_eq!(rt; parse_ber(rt.alloc(), &input)?.1, object);
+        let given = are_visits(rt.alloc(), &input, *depth, calls)?;
+        assert_eq!(rt; given, (true, true), "{text}");
     }
     Ok(())
 }
@@ -78,53 +110,83 @@ const KINDS: &[(&[u8], Kind)] = &[
     (b"\x82\x01\x05", Kind::Unknown),
 ];
 
-/// A SEQUENCE with an item of each content that is read, one that is absent, one that is present,
-/// and one in a tag; inside the last two stands a SEQUENCE with an item.
-fn object_of_all_kinds(alloc: Global) -> Result<BerObject<'static>, Fail> {
-    let mut items = Vec::new(alloc);
+/// A box of a SEQUENCE with an item.
+fn boxed_list(alloc: Global) -> Result<Box<BerObject<'static>>, Fail> {
+    let (_, list) = parse_der(alloc, b"\x30\x02\x05\x00")?;
+    Ok(Box::new(alloc, list)?)
+}
+
+/// Adds an item of each content that is read.
+fn push_read(items: &mut Vec<BerObject<'static>>, alloc: Global) -> Result<(), Fail> {
     for (input, _) in KINDS {
         let (_, item) = parse_der(alloc, input)?;
         items.push(item)?;
     }
+    Ok(())
+}
+
+/// Adds an item that is absent, one that is present, and one in a tag.
+fn push_made(items: &mut Vec<BerObject<'static>>, alloc: Global) -> Result<(), Fail> {
     items.push(BerObject::from_obj(BerObjectContent::Optional(None)))?;
-    let (_, inner) = parse_der(alloc, b"\x30\x02\x05\x00")?;
-    let present = BerObjectContent::Optional(Some(Box::new(alloc, inner)?));
+    let present = BerObjectContent::Optional(Some(boxed_list(alloc)?));
     items.push(BerObject::from_obj(present))?;
-    let (_, inner) = parse_der(alloc, b"\x30\x02\x05\x00")?;
-    let tagged = BerObjectContent::Tagged(ContextSpecific, Tag(0), Box::new(alloc, inner)?);
+    let tagged = BerObjectContent::Tagged(ContextSpecific, Tag(0), boxed_list(alloc)?);
     items.push(BerObject::from_obj(tagged))?;
+    Ok(())
+}
+
+/// Adds all those items.
+fn push_all(items: &mut Vec<BerObject<'static>>, alloc: Global) -> Result<(), Fail> {
+    push_read(items, alloc)?;
+    push_made(items, alloc)
+}
+
+/// A SEQUENCE with an item of each content that is read, one that is absent, one that is present,
+/// and one in a tag; inside the last two stands a SEQUENCE with an item.
+fn object_of_all_kinds(alloc: Global) -> Result<BerObject<'static>, Fail> {
+    let mut items = Vec::new(alloc);
+    push_all(&mut items, alloc)?;
     Ok(BerObject::from_seq(items))
+}
+
+/// Adds the calls at an item.
+fn push_calls(calls: &mut Vec<Call>, kind: Kind) -> Result<(), Fail> {
+    calls.push((Any, 1))?;
+    calls.push((kind, 1))?;
+    Ok(())
 }
 
 /// The calls that such an object is visited by.
 fn calls_of_all_kinds(alloc: Global) -> Result<Vec<Call>, Fail> {
-    let mut calls = Vec::new(alloc);
-    calls.push((Any, 0))?;
-    calls.push((Sequence, 0))?;
+    let mut calls = vec![in alloc; (Any, 0), (Sequence, 0)]?;
     for (_, kind) in KINDS {
-        calls.push((Any, 1))?;
-        calls.push((*kind, 1))?;
+        push_calls(&mut calls, *kind)?;
     }
     for kind in [Optional, Optional, Tagged] {
-        calls.push((Any, 1))?;
-        calls.push((kind, 1))?;
+        push_calls(&mut calls, kind)?;
     }
     Ok(calls)
+}
+
+/// Whether a new object of all contents is equal.
+fn is_of_all_kinds(alloc: Global, object: &BerObject<'static>) -> Result<bool, Fail> {
+    let again = object_of_all_kinds(alloc)?;
+    Ok(again == *object)
+}
+
+/// Whether an object of all contents is visited by these calls, and is the same then.
+fn are_visits_of_all_kinds(alloc: Global, calls: &[Call]) -> Result<(bool, bool), Fail> {
+    let mut object = object_of_all_kinds(alloc)?;
+    let is_visited = is_visited_twice(&mut object, 0, calls);
+    Ok((is_visited, is_of_all_kinds(alloc, &object)?))
 }
 
 /// Each type's function is called at its contents alone; what stands in a tag or is optional isn't
 /// visited.
 #[test]
 fn all_kinds(rt: HostRuntime) -> Result<(), Fail> {
-    let mut object = object_of_all_kinds(rt.alloc())?;
     let calls = calls_of_all_kinds(rt.alloc())?;
-    let mut watcher = Watcher::new(&calls);
-    Visit::run(&mut watcher, &object);
-    assert!(rt; watcher.has_met_all());
-    let mut watcher = Watcher::new(&calls);
-    VisitMut::run(&mut watcher, &mut object);
-    assert!(rt; watcher.has_met_all());
-    assert_eq!(rt; object, object_of_all_kinds(rt.alloc())?);
+    assert_eq!(rt; are_visits_of_all_kinds(rt.alloc(), &calls)?, (true, true));
     Ok(())
 }
 
@@ -181,25 +243,55 @@ impl VisitMut for Clear {
     }
 }
 
+/// The object is written so.
+fn expect_written(
+    rt: &(impl Abort + AllocGlobal),
+    object: &BerObject<'_>,
+    written: &[u8],
+) -> Result<(), Fail> {
+    let given = object.to_vec(rt.alloc())?;
+    assert_eq!(rt; given.as_slice(), written);
+    Ok(())
+}
+
 #[test]
 fn values_are_changed_in_place(rt: HostRuntime) -> Result<(), Fail> {
     let (_, mut object) = parse_ber(rt.alloc(), b"\x30\x03\x01\x01\x00")?;
     Negate.run(&mut object);
-    assert!(rt; object.to_vec(rt.alloc())?.as_slice() == b"\x30\x03\x01\x01\xff".as_slice());
-    let (_, mut object) = parse_ber(rt.alloc(), b"\x30\x03\x02\x01\x05")?;
+    expect_written(&rt, &object, b"\x30\x03\x01\x01\xff")
+}
+
+/// NULL is put in the place of an INTEGER's content, and visited.
+fn expect_nullified(
+    rt: &(impl Abort + AllocGlobal),
+    object: &mut BerObject<'_>,
+) -> Result<(), Fail> {
     let mut nullify = Nullify { nulls: 0 };
-    nullify.run(&mut object);
-    assert!(rt; object.to_vec(rt.alloc())?.as_slice() == b"\x30\x02\x02\x00".as_slice());
+    nullify.run(object);
     assert_eq!(rt; nullify.nulls, 1);
-    let (_, mut object) = parse_ber(rt.alloc(), b"\x31\x08\x30\x03\x01\x01\x00\x01\x01\x00")?;
+    expect_written(rt, object, b"\x30\x02\x02\x00")
+}
+
+#[test]
+fn contents_are_changed_in_place(rt: HostRuntime) -> Result<(), Fail> {
+    let (_, mut object) = parse_ber(rt.alloc(), b"\x30\x03\x02\x01\x05")?;
+    expect_nullified(&rt, &mut object)
+}
+
+/// The items of a SEQUENCE are taken out, and only what stands behind it is visited.
+fn expect_cleared(rt: &(impl Abort + AllocGlobal), object: &mut BerObject<'_>) -> Result<(), Fail> {
     let mut clear = Clear {
         alloc: rt.alloc(),
         booleans: 0,
     };
-    clear.run(&mut object);
-    assert!(rt;
-        object.to_vec(rt.alloc())?.as_slice() == b"\x31\x05\x30\x00\x01\x01\x00".as_slice()
-    );
+    clear.run(object);
     assert_eq!(rt; clear.booleans, 1);
-    Ok(())
+    expect_written(rt, object, b"\x31\x05\x30\x00\x01\x01\x00")
+}
+
+#[test]
+fn items_are_taken_out(rt: HostRuntime) -> Result<(), Fail> {
+    let input = b"\x31\x08\x30\x03\x01\x01\x00\x01\x01\x00";
+    let (_, mut object) = parse_ber(rt.alloc(), input)?;
+    expect_cleared(&rt, &mut object)
 }

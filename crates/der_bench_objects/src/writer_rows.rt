@@ -123,8 +123,30 @@ impl Write for Narrow {
     }
 }
 
-/// Octets that were written into so much room, and what was answered, agree with the octets to be
+/// Whether what was written into so much room, and what was answered, agree with the octets to be
 /// written: a front of them stands there, and no write was tried behind one that failed.
+fn is_front(
+    narrow: &Narrow,
+    faults: u128,
+    room: usize,
+    answer: &Result<(), GenError>,
+    written: &[u8],
+) -> bool {
+    let kind = narrow.fault.unwrap_or(ErrorKind::WriteZero);
+    let (expected, front, failures) = if room < written.len() {
+        (Err(GenError::Io(kind)), &written[..room], (1, 1))
+    } else {
+        (Ok(()), written, (0, 0))
+    };
+    let facts = [
+        *answer == expected,
+        narrow.taken.as_slice() == front,
+        (faults, narrow.failed) == failures,
+    ];
+    facts.iter().all(|is_so| *is_so)
+}
+
+/// Octets that were written into so much room, and what was answered, agree so.
 fn expect_front(
     rt: &impl Abort,
     w: FaultWriter<Narrow>,
@@ -134,17 +156,8 @@ fn expect_front(
 ) {
     let faults = w.faults();
     let narrow = w.into_inner();
-    let taken = narrow.taken.as_slice();
-    if room < written.len() {
-        let kind = narrow.fault.unwrap_or(ErrorKind::WriteZero);
-        assert_eq!(rt; *answer, Err(GenError::Io(kind)), "{written:?}, {room}");
-        assert_eq!(rt; taken, &written[..room]);
-        assert_eq!(rt; (faults, narrow.failed), (1, 1), "{written:?}, {room}");
-    } else {
-        assert_eq!(rt; *answer, Ok(()), "{written:?}, {room}");
-        assert_eq!(rt; taken, written);
-        assert_eq!(rt; (faults, narrow.failed), (0, 0), "{written:?}, {room}");
-    }
+    let is_so = is_front(&narrow, faults, room, answer, written);
+    assert!(rt; is_so, "{written:?}, {room}: {answer:?}");
 }
 
 /// How many octets a write takes at most, and what is answered where no room is left.
@@ -197,28 +210,52 @@ fn headers_are_written(rt: HostRuntime) -> Result<(), Fail> {
 }
 
 /// The object is written into any room, also into less than it takes.
+fn expect_in_any_room(
+    rt: &(impl Abort + AllocGlobal),
+    call: Call,
+    object: &BerObject<'_>,
+    written: &[u8],
+) {
+    for room in 0..20 {
+        expect_object(rt, call, object, written, room);
+    }
+    expect_object(rt, call, object, written, written.len());
+}
+
+/// The object of the octets is written so.
+fn expect_object_of(
+    rt: &(impl Abort + AllocGlobal),
+    call: Call,
+    input: &[u8],
+    written: &[u8],
+) -> Result<(), Fail> {
+    let (_, object) = parse_ber(rt.alloc(), input)?;
+    expect_in_any_room(rt, call, &object, written);
+    Ok(())
+}
+
 #[test]
 fn objects_are_written(rt: HostRuntime) -> Result<(), Fail> {
     for (call, input, text) in OBJECTS {
         let input = octets(rt.alloc(), input)?;
-        let (_, object) = parse_ber(rt.alloc(), &input)?;
         let written = octets(rt.alloc(), text)?;
-        for room in 0..20 {
-            expect_object(&rt, *call, &object, &written, room);
-        }
-        expect_object(&rt, *call, &object, &written, written.len());
+        expect_object_of(&rt, *call, &input, &written)?;
     }
     Ok(())
 }
 
 /// An absent optional object has no octets, and under an implicit tag it has no content octets.
 #[test]
-fn boxes_are_written(rt: HostRuntime) -> Result<(), Fail> {
+fn absent_objects_are_written(rt: HostRuntime) {
     let absent = BerObject::from_obj(BerObjectContent::Optional(None));
     expect_object(&rt, Call::Object, &absent, b"", 0);
     let tag = Call::Implicit(Tag(3), ContextSpecific);
     expect_object(&rt, tag, &absent, b"\x83\x00", 1);
     expect_object(&rt, tag, &absent, b"\x83\x00", 2);
+}
+
+#[test]
+fn boxes_are_written(rt: HostRuntime) -> Result<(), Fail> {
     let two = Box::new(rt.alloc(), BerObject::from_int_slice(b"\x02"))?;
     let tagged = BerObject::from_obj(BerObjectContent::Tagged(ContextSpecific, Tag(0), two));
     expect_object(&rt, Call::Object, &tagged, b"\xa0\x03\x02\x01\x02", 4);
@@ -226,20 +263,42 @@ fn boxes_are_written(rt: HostRuntime) -> Result<(), Fail> {
     Ok(())
 }
 
-/// A fault is an error, also of a write of no octets, or a write that takes none of some octets.
+/// How many octets are written of these, and how many faults there were then.
+fn written_of(w: &mut FaultWriter<Narrow>, octets: &[u8]) -> io::Result<(usize, u128)> {
+    let count = w.write(octets)?;
+    Ok((count, w.faults()))
+}
+
+/// A write that takes none of some octets is a fault.
+fn expect_counts(rt: &impl Abort, w: &mut FaultWriter<Narrow>) -> Result<(), Fail> {
+    assert_eq!(rt; written_of(w, b"")?, (0, 0));
+    assert_eq!(rt; written_of(w, b"abc")?, (2, 0));
+    assert_eq!(rt; written_of(w, b"cde")?, (1, 0));
+    assert_eq!(rt; written_of(w, b"de")?, (0, 1));
+    assert_eq!(rt; written_of(w, b"")?, (0, 1));
+    Ok(())
+}
+
 #[test]
 fn faults_are_counted(rt: HostRuntime) -> Result<(), Fail> {
     let mut w = FaultWriter::new(Narrow::new(rt.alloc(), 2, 3, None));
-    assert_eq!(rt; (w.write(b"")?, w.faults()), (0, 0));
-    assert_eq!(rt; (w.write(b"abc")?, w.faults()), (2, 0));
-    assert_eq!(rt; (w.write(b"cde")?, w.faults()), (1, 0));
-    assert_eq!(rt; (w.write(b"de")?, w.faults()), (0, 1));
-    assert_eq!(rt; (w.write(b"")?, w.faults()), (0, 1));
-    assert_eq!(rt; w.into_inner().taken.as_slice(), b"abc".as_slice());
+    expect_counts(&rt, &mut w)?;
+    let narrow = w.into_inner();
+    assert_eq!(rt; narrow.taken.as_slice(), b"abc".as_slice());
+    Ok(())
+}
+
+/// Whether no octets and an octet are refused, and how many faults there were then.
+fn refusals_of(w: &mut FaultWriter<Narrow>) -> (bool, bool, u128) {
+    let of_none = w.write(b"").is_err();
+    let of_one = w.write(b"a").is_err();
+    (of_none, of_one, w.faults())
+}
+
+/// An error is a fault, also of a write of no octets.
+#[test]
+fn errors_are_counted(rt: HostRuntime) {
     let broken = Narrow::new(rt.alloc(), 2, 0, Some(ErrorKind::BrokenPipe));
     let mut w = FaultWriter::new(broken);
-    assert!(rt; w.write(b"").is_err());
-    assert!(rt; w.write(b"a").is_err());
-    assert_eq!(rt; w.faults(), 2);
-    Ok(())
+    assert!(rt; refusals_of(&mut w) == (true, true, 2));
 }

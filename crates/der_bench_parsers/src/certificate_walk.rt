@@ -5,7 +5,7 @@ use der_parser::der::{
     parse_der_oid, parse_der_sequence_defined_g, parse_der_set_defined_g,
     parse_der_tagged_explicit_g, parse_der_u32, parse_der_utctime, parse_der_utf8string,
 };
-use der_parser::error::BerError;
+use der_parser::error::{BerError, BerResult};
 
 /// A certificate made by openssl: version 3, a name of one attribute twice, three extensions.
 #[rattlefmt::skip]
@@ -34,6 +34,12 @@ const CERTIFICATE: &[u8] = &[
 /// What follows a part that was walked.
 type Walked<'a> = IResult<&'a [u8], (), BerError>;
 
+/// What follows an object that was read.
+fn walked(answer: BerResult<'_>) -> Walked<'_> {
+    let (behind, _) = answer?;
+    Ok((behind, ()))
+}
+
 /// Walks a certificate: what is signed, the algorithm, and the signature.
 fn walk_certificate(i: &[u8]) -> Walked<'_> {
     parse_der_sequence_defined_g(|content, _| {
@@ -47,19 +53,33 @@ fn walk_certificate(i: &[u8]) -> Walked<'_> {
 /// Walks what is signed, up to the extensions.
 fn walk_signed(i: &[u8]) -> Walked<'_> {
     parse_der_sequence_defined_g(|content, _| {
-        let version = parse_der_tagged_explicit_g(Tag(0), |inner, _| parse_der_u32(inner)).parse(
-            content,
-        );
-        let (behind, _version) = version?;
-        let (behind, _serial) = parse_der_integer(behind)?;
+        let (behind, _) = walk_version_and_serial(content)?;
         let (behind, _) = walk_algorithm(behind)?;
-        let (behind, _) = walk_name(behind)?;
-        let (behind, _) = walk_validity(behind)?;
-        let (behind, _) = walk_name(behind)?;
+        let (behind, _) = walk_names(behind)?;
         let (behind, _) = walk_key(behind)?;
         walk_extensions(behind)
     })
     .parse(i)
+}
+
+/// Walks a version, and a serial number.
+fn walk_version_and_serial(i: &[u8]) -> Walked<'_> {
+    let (behind, _) = walk_version(i)?;
+    walked(parse_der_integer(behind))
+}
+
+/// Walks a version under the tag [0].
+fn walk_version(i: &[u8]) -> Walked<'_> {
+    let version = parse_der_tagged_explicit_g(Tag(0), |inner, _| parse_der_u32(inner)).parse(i);
+    let (behind, _) = version?;
+    Ok((behind, ()))
+}
+
+/// Walks the issuer's name, the validity and the subject's name.
+fn walk_names(i: &[u8]) -> Walked<'_> {
+    let (behind, _) = walk_name(i)?;
+    let (behind, _) = walk_validity(behind)?;
+    walk_name(behind)
 }
 
 /// Walks an algorithm without parameters.
@@ -69,14 +89,12 @@ fn walk_algorithm(i: &[u8]) -> Walked<'_> {
 
 /// Walks an OBJECT IDENTIFIER.
 fn walk_identifier(i: &[u8]) -> Walked<'_> {
-    let (behind, _) = parse_der_oid(i)?;
-    Ok((behind, ()))
+    walked(parse_der_oid(i))
 }
 
 /// Walks a BIT STRING.
 fn walk_bits(i: &[u8]) -> Walked<'_> {
-    let (behind, _) = parse_der_bitstring(i)?;
-    Ok((behind, ()))
+    walked(parse_der_bitstring(i))
 }
 
 /// Walks a name of one relative name with one attribute.
@@ -90,8 +108,7 @@ fn walk_name(i: &[u8]) -> Walked<'_> {
 fn walk_attribute(i: &[u8]) -> Walked<'_> {
     parse_der_sequence_defined_g(|content, _| {
         let (behind, _) = walk_identifier(content)?;
-        let (behind, _) = parse_der_utf8string(behind)?;
-        Ok((behind, ()))
+        walked(parse_der_utf8string(behind))
     })
     .parse(i)
 }
@@ -99,11 +116,15 @@ fn walk_attribute(i: &[u8]) -> Walked<'_> {
 /// Walks two times.
 fn walk_validity(i: &[u8]) -> Walked<'_> {
     parse_der_sequence_defined_g(|content, _| {
-        let (behind, _) = parse_der_utctime(content)?;
-        let (behind, _) = parse_der_utctime(behind)?;
-        Ok((behind, ()))
+        let (behind, _) = walk_time(content)?;
+        walk_time(behind)
     })
     .parse(i)
+}
+
+/// Walks a time.
+fn walk_time(i: &[u8]) -> Walked<'_> {
+    walked(parse_der_utctime(i))
 }
 
 /// Walks a key.
@@ -132,14 +153,17 @@ fn walk_extensions(i: &[u8]) -> Walked<'_> {
 fn walk_extension(i: &[u8]) -> Walked<'_> {
     parse_der_sequence_defined_g(|content, _| {
         let (behind, _) = walk_identifier(content)?;
-        let octets = match parse_der_bool(behind) {
-            Ok((octets, _critical)) => octets,
-            Err(_) => behind,
-        };
-        let (behind, _) = parse_der_octetstring(octets)?;
-        Ok((behind, ()))
+        walked(parse_der_octetstring(behind_critical(behind)))
     })
     .parse(i)
+}
+
+/// What follows a BOOLEAN, or the whole where there is none.
+fn behind_critical(i: &[u8]) -> &[u8] {
+    match walked(parse_der_bool(i)) {
+        Ok((behind, ())) => behind,
+        Err(_) => i,
+    }
 }
 
 #[test]

@@ -60,34 +60,69 @@ fn number<'a>(i: &'a [u8]) -> IResult<&'a [u8], u32, MyError<'a>> {
     }
 }
 
-/// What a list form answers.
-type Listed<'a> = IResult<&'a [u8], Vec<u32>, MyError<'a>>;
+/// How often a list form calls its parser, and what it answers.
+type Listed<'a> = (u64, IResult<&'a [u8], Vec<u32>, MyError<'a>>);
 
-/// How often each list form calls its parser, and what it answers: by BER, and by DER.
-fn listed(alloc: Global, i: &[u8], tag: Tag) -> [(u64, Listed<'_>); 2] {
+/// The rules that a list is read by.
+#[derive(Clone, Copy, Debug)]
+enum Rules {
+    Ber,
+    Der,
+}
+
+/// What is answered where a list of numbers is wanted.
+fn listed(alloc: Global, rules: Rules, tag: Tag, i: &[u8]) -> Listed<'_> {
+    match (rules, tag) {
+        (Rules::Ber, Tag::Sequence) => sequence_by_ber(alloc, i),
+        (Rules::Ber, _) => set_by_ber(alloc, i),
+        (Rules::Der, Tag::Sequence) => sequence_by_der(alloc, i),
+        (Rules::Der, _) => set_by_der(alloc, i),
+    }
+}
+
+fn sequence_by_ber(alloc: Global, i: &[u8]) -> Listed<'_> {
     let mut calls: u64 = 0;
-    let mut der_calls: u64 = 0;
-    let ber = |input| {
+    let answer = parse_ber_sequence_of_v(alloc, |input| {
         calls = calls.saturating_add(1);
         number(input)
-    };
-    let der = |input| {
-        der_calls = der_calls.saturating_add(1);
+    })
+    .parse(i);
+    (calls, answer)
+}
+
+fn set_by_ber(alloc: Global, i: &[u8]) -> Listed<'_> {
+    let mut calls: u64 = 0;
+    let answer = parse_ber_set_of_v(alloc, |input| {
+        calls = calls.saturating_add(1);
         number(input)
-    };
-    let (by_ber, by_der) = if tag == Tag::Sequence {
-        let by_ber = parse_ber_sequence_of_v(alloc, ber).parse(i);
-        (by_ber, parse_der_sequence_of_v(alloc, der).parse(i))
-    } else {
-        let by_ber = parse_ber_set_of_v(alloc, ber).parse(i);
-        (by_ber, parse_der_set_of_v(alloc, der).parse(i))
-    };
-    [(calls, by_ber), (der_calls, by_der)]
+    })
+    .parse(i);
+    (calls, answer)
+}
+
+fn sequence_by_der(alloc: Global, i: &[u8]) -> Listed<'_> {
+    let mut calls: u64 = 0;
+    let answer = parse_der_sequence_of_v(alloc, |input| {
+        calls = calls.saturating_add(1);
+        number(input)
+    })
+    .parse(i);
+    (calls, answer)
+}
+
+fn set_by_der(alloc: Global, i: &[u8]) -> Listed<'_> {
+    let mut calls: u64 = 0;
+    let answer = parse_der_set_of_v(alloc, |input| {
+        calls = calls.saturating_add(1);
+        number(input)
+    })
+    .parse(i);
+    (calls, answer)
 }
 
 /// Whether the answer is these numbers, with so many octets left.
-fn is_list(answer: &Listed<'_>, values: &[u32], left: usize) -> bool {
-    match answer {
+fn is_list(given: &Listed<'_>, values: &[u32], left: usize) -> bool {
+    match &given.1 {
         Ok((rest, numbers)) => numbers.as_slice() == values && rest.len() == left,
         Err(_) => false,
     }
@@ -95,47 +130,77 @@ fn is_list(answer: &Listed<'_>, values: &[u32], left: usize) -> bool {
 
 /// Octets, the tag of the list, its values, how many octets follow it, and how often the parser is
 /// called.
+type List = (&'static str, Tag, &'static [u32], usize, u64);
+
 #[rattlefmt::skip]
-const LISTS: &[(&str, Tag, &[u32], usize, u64)] = &[
+const LISTS: &[List] = &[
     ("30 06 02 01 01 02 01 02", Tag(16), &[1, 2], 0, 3),
     ("30 0a 02 03 01 00 01 02 03 01 00 00", Tag(16), &[65537, 65536], 0, 3),
     ("31 03 02 01 05 ff", Tag(17), &[5], 1, 2),
     ("31 00", Tag(17), &[], 0, 1),
 ];
 
+/// The row's list is answered so.
+fn expect_list(rt: &impl Abort, row: &List, given: &Listed<'_>) {
+    let (text, _, values, left, count) = row;
+    assert_eq!(rt; given.0, *count, "{text}");
+    assert!(rt; is_list(given, values, *left), "{text}: {given:?}");
+}
+
+/// By the rules, the row's list is read so.
+fn expect_read(rt: &(impl Abort + AllocGlobal), rules: Rules, row: &List) -> Result<(), Fail> {
+    let input = octets(rt.alloc(), row.0)?;
+    expect_list(rt, row, &listed(rt.alloc(), rules, row.1, &input));
+    Ok(())
+}
+
 #[test]
 fn lists_of_numbers(rt: HostRuntime) -> Result<(), Fail> {
-    for (text, tag, values, left, count) in LISTS {
-        let input = octets(rt.alloc(), text)?;
-        for (calls, answer) in listed(rt.alloc(), &input, *tag) {
-            assert_eq!(rt; calls, *count, "{text}");
-            assert!(rt; is_list(&answer, values, *left), "{text}: {answer:?}");
-        }
+    for row in LISTS {
+        expect_read(&rt, Rules::Ber, row)?;
+        expect_read(&rt, Rules::Der, row)?;
     }
     Ok(())
 }
 
 /// Octets, and what both rule sets answer where a SEQUENCE OF is wanted, with the calls of the
 /// parser.
+type Refused = (&'static str, Err<MyError<'static>>, u64);
+
 #[rattlefmt::skip]
-const REFUSED: &[(&str, Err<MyError<'static>>, u64)] = &[
+const REFUSED: &[Refused] = &[
     ("31 00", Err::Error(MyError::BerError(UnexpectedTag { expected: Some(Tag(16)), actual: Tag(17) })), 0),
     ("30 03 01 01 ff", Err::Failure(MyError::Variant1), 1),
     ("30 06 02 01 01 02 03 01", Err::Error(MyError::NomError(&[2, 3, 1], ErrorKind::Eof)), 2),
     ("30 05 02 01", Err::Error(MyError::NomError(&[2, 1], ErrorKind::Eof)), 0),
 ];
 
+/// The row's refusal is answered.
+fn expect_refusal(rt: &impl Abort, row: &Refused, given: &Listed<'_>) {
+    let (text, refusal, count) = row;
+    assert_eq!(rt; given.0, *count, "{text}");
+    assert!(rt;
+        matches!(&given.1, Err(e) if e == refusal),
+        "{text}: {given:?}"
+    );
+}
+
+/// By the rules, the row's list is refused so.
+fn expect_refused(
+    rt: &(impl Abort + AllocGlobal),
+    rules: Rules,
+    row: &Refused,
+) -> Result<(), Fail> {
+    let input = octets(rt.alloc(), row.0)?;
+    expect_refusal(rt, row, &listed(rt.alloc(), rules, Tag::Sequence, &input));
+    Ok(())
+}
+
 #[test]
 fn lists_that_are_refused(rt: HostRuntime) -> Result<(), Fail> {
-    for (text, refusal, count) in REFUSED {
-        let input = octets(rt.alloc(), text)?;
-        for (calls, answer) in listed(rt.alloc(), &input, Tag::Sequence) {
-            assert_eq!(rt; calls, *count, "{text}");
-            assert!(rt;
-                matches!(&answer, Err(e) if e == refusal),
-                "{text}: {answer:?}"
-            );
-        }
+    for row in REFUSED {
+        expect_refused(&rt, Rules::Ber, row)?;
+        expect_refused(&rt, Rules::Der, row)?;
     }
     Ok(())
 }
@@ -162,8 +227,10 @@ fn a_rest_that_grows(rt: HostRuntime) -> Result<(), Fail> {
 }
 
 /// Octets where an explicit tag of the number 2 is wanted, and what is answered.
+type Explicit = (&'static str, Result<u32, Err<MyError<'static>>>);
+
 #[rattlefmt::skip]
-const EXPLICIT: &[(&str, Result<u32, Err<MyError<'static>>>)] = &[
+const EXPLICIT: &[Explicit] = &[
     ("a2 05 02 03 01 00 01", Ok(65537)),
     ("62 03 02 01 05", Ok(5)),
     ("a2 03 01 01 ff", Err(Err::Error(MyError::Variant1))),
@@ -172,42 +239,55 @@ const EXPLICIT: &[(&str, Result<u32, Err<MyError<'static>>>)] = &[
     ("82 05 02 03 01 00 01", Err(Err::Error(MyError::BerError(ConstructExpected)))),
 ];
 
+/// What is answered where a number is wanted inside an explicit tag.
+type GivenNumber<'a> = IResult<&'a [u8], u32, MyError<'a>>;
+
+fn number_by_ber(i: &[u8]) -> GivenNumber<'_> {
+    parse_ber_tagged_explicit_g(Tag(2), |content, _| number(content)).parse(i)
+}
+
+fn number_by_der(i: &[u8]) -> GivenNumber<'_> {
+    parse_der_tagged_explicit_g(Tag(2), |content, _| number(content)).parse(i)
+}
+
+/// The row's number is answered, or its refusal.
+fn expect_number(rt: &impl Abort, row: &Explicit, given: GivenNumber<'_>) {
+    let (text, expected) = row;
+    let value = given.map(|(_, value)| value);
+    assert!(rt; value == *expected, "{text}: {value:?}");
+}
+
 #[test]
-fn explicit_tags(rt: HostRuntime) -> Result<(), Fail> {
-    for (text, expected) in EXPLICIT {
-        let input = octets(rt.alloc(), text)?;
-        let by_ber = parse_ber_tagged_explicit_g(Tag(2), |content, _| number(content)).parse(
-            &input,
-        );
-        let by_der = parse_der_tagged_explicit_g(Tag(2), |content, _| number(content)).parse(
-            &input,
-        );
-        for answer in [by_ber, by_der] {
-            let value = answer.map(|(_, value)| value);
-            assert!(rt; value == *expected, "{text}: {value:?}");
-        }
-        let by_ber = parse_ber_tagged_explicit(rt.alloc(), Tag(2), object).parse(&input);
-        let by_der = parse_der_tagged_explicit(rt.alloc(), Tag(2), object).parse(&input);
-        for answer in [by_ber, by_der] {
-            assert!(rt; is_inside(&answer, expected), "{text}: {answer:?}");
-        }
+fn explicit_tags_of_numbers(rt: HostRuntime) -> Result<(), Fail> {
+    for row in EXPLICIT {
+        let input = octets(rt.alloc(), row.0)?;
+        expect_number(&rt, row, number_by_ber(&input));
+        expect_number(&rt, row, number_by_der(&input));
     }
     Ok(())
 }
 
+/// What is answered where an object is wanted inside an explicit tag.
+type GivenObject<'a> = IResult<&'a [u8], BerObject<'a>, MyError<'a>>;
+
 /// An INTEGER. Every refusal is Variant1.
-fn object<'a>(i: &'a [u8]) -> IResult<&'a [u8], BerObject<'a>, MyError<'a>> {
+fn object(i: &[u8]) -> GivenObject<'_> {
     match parse_ber_integer(i) {
         Ok(read) => Ok(read),
         Err(_) => Err(Err::Error(MyError::Variant1)),
     }
 }
 
+fn object_by_ber(alloc: Global, i: &[u8]) -> GivenObject<'_> {
+    parse_ber_tagged_explicit(alloc, Tag(2), object).parse(i)
+}
+
+fn object_by_der(alloc: Global, i: &[u8]) -> GivenObject<'_> {
+    parse_der_tagged_explicit(alloc, Tag(2), object).parse(i)
+}
+
 /// Whether the answer is a tagged object with this number inside, or this refusal.
-fn is_inside(
-    answer: &IResult<&[u8], BerObject<'_>, MyError<'_>>,
-    expected: &Result<u32, Err<MyError<'static>>>,
-) -> bool {
+fn is_inside(answer: &GivenObject<'_>, expected: &Result<u32, Err<MyError<'static>>>) -> bool {
     match (answer, expected) {
         (Ok((_, object)), Ok(number)) => match object.as_tagged() {
             Ok((_, _, inner)) => inner.as_u32() == Ok(*number),
@@ -216,6 +296,36 @@ fn is_inside(
         (Err(e), Err(refusal)) => e == refusal,
         _ => false,
     }
+}
+
+/// A tagged object with the row's number inside is answered, or the row's refusal.
+fn expect_inside(rt: &impl Abort, row: &Explicit, given: &GivenObject<'_>) {
+    let (text, expected) = row;
+    assert!(rt; is_inside(given, expected), "{text}: {given:?}");
+}
+
+/// By the rules, the row's object is answered, or its refusal.
+fn expect_object(
+    rt: &(impl Abort + AllocGlobal),
+    rules: Rules,
+    row: &Explicit,
+) -> Result<(), Fail> {
+    let input = octets(rt.alloc(), row.0)?;
+    let given = match rules {
+        Rules::Ber => object_by_ber(rt.alloc(), &input),
+        Rules::Der => object_by_der(rt.alloc(), &input),
+    };
+    expect_inside(rt, row, &given);
+    Ok(())
+}
+
+#[test]
+fn explicit_tags_of_objects(rt: HostRuntime) -> Result<(), Fail> {
+    for row in EXPLICIT {
+        expect_object(&rt, Rules::Ber, row)?;
+        expect_object(&rt, Rules::Der, row)?;
+    }
+    Ok(())
 }
 
 /// What the parser under an implicit tag is handed: the content, the length that its header says, and

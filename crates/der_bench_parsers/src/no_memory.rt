@@ -1,14 +1,14 @@
 //! Calls that take no memory. These tests take none themselves, so they pass where each growth is
 //! refused: `tools/refused-growths` runs them so.
+use crate::tagged_rows::{implicit_at_once_by_ber, optional_by_ber};
 use der_bench_rows::typed::{read_type_by_ber, read_type_by_der};
 use der_parser::ber::Class::ContextSpecific;
 use der_parser::ber::Length::Definite;
 use der_parser::ber::{
     Any, BerObject, BerObjectContent, BitStringObject, Header, HeaderCount, Tag,
     ber_read_element_header, parse_ber_any, parse_ber_any_r, parse_ber_any_with_tag_r,
-    parse_ber_container, parse_ber_content, parse_ber_counted, parse_ber_implicit,
-    parse_ber_integer, parse_ber_octetstring, parse_ber_optional, parse_ber_recursive,
-    parse_ber_sequence_defined_g, parse_ber_set_defined_g, parse_ber_slice,
+    parse_ber_container, parse_ber_content, parse_ber_counted, parse_ber_octetstring,
+    parse_ber_recursive, parse_ber_sequence_defined_g, parse_ber_set_defined_g, parse_ber_slice,
 };
 use der_parser::der::{
     der_read_element_content, der_read_element_header, parse_der_content, parse_der_counted,
@@ -59,20 +59,34 @@ const NO_LISTS: &[&[u8]] = &[
     b"\x9f\xa2\x22\x01\x00",
 ];
 
+/// What is answered is no refusal.
+fn expect_ok(rt: &impl Abort, input: &[u8], given: &BerResult<'_>) {
+    assert!(rt; given.is_ok(), "{input:?}: {given:?}");
+}
+
+/// The element is read.
+fn expect_element(rt: &impl Abort, input: &[u8], given: BerResult<'_>) {
+    expect_ok(rt, input, &given);
+}
+
 /// Both full readers read the element, to any depth.
 fn expect_read(rt: &(impl Abort + AllocGlobal), input: &[u8]) {
     let mut count = HeaderCount::new();
-    for given in [
-        parse_ber(rt.alloc(), input),
-        parse_ber_recursive(rt.alloc(), input, 1),
-        parse_ber_any_r(rt.alloc(), input, 50),
+    expect_element(rt, input, parse_ber(rt.alloc(), input));
+    expect_element(rt, input, parse_ber_recursive(rt.alloc(), input, 1));
+    expect_element(rt, input, parse_ber_any_r(rt.alloc(), input, 50));
+    expect_element(
+        rt,
+        input,
         parse_ber_counted(rt.alloc(), input, 50, &mut count),
-        parse_der(rt.alloc(), input),
-        parse_der_recursive(rt.alloc(), input, 1),
+    );
+    expect_element(rt, input, parse_der(rt.alloc(), input));
+    expect_element(rt, input, parse_der_recursive(rt.alloc(), input, 1));
+    expect_element(
+        rt,
+        input,
         parse_der_counted(rt.alloc(), input, 50, &mut count),
-    ] {
-        assert!(rt; given.is_ok(), "{input:?}: {given:?}");
-    }
+    );
 }
 
 #[test]
@@ -88,20 +102,23 @@ fn no_memory_for_leaves(rt: HostRuntime) {
 #[test]
 fn no_memory_for_typed_readers(rt: HostRuntime) {
     for (number, input) in LEAVES {
-        let by_ber = read_type_by_ber(rt.alloc(), *number, input);
-        assert!(rt; by_ber.is_ok(), "{input:?}: {by_ber:?}");
-        let by_der = read_type_by_der(rt.alloc(), *number, input);
-        assert!(rt; by_der.is_ok(), "{input:?}: {by_der:?}");
+        expect_element(&rt, input, read_type_by_ber(rt.alloc(), *number, input));
+        expect_element(&rt, input, read_type_by_der(rt.alloc(), *number, input));
     }
+}
+
+/// What is answered is a string of these octets, with nothing behind it.
+fn expect_octets(rt: &impl Abort, given: &BerResult<'_>, octets: &[u8]) {
+    assert!(rt;
+        matches!(given, Ok((b"", object)) if is_octets(object, octets)),
+        "{given:?}"
+    );
 }
 
 #[test]
 fn no_memory_for_a_typed_reader_of_an_indefinite_length(rt: HostRuntime) {
     let given = parse_ber_octetstring(b"\x24\x80\x04\x01\x61\x00\x00");
-    assert!(rt;
-        matches!(&given, Ok((b"", object)) if is_octets(object, b"\x04\x01\x61")),
-        "{given:?}"
-    );
+    expect_octets(&rt, &given, b"\x04\x01\x61");
 }
 
 /// Whether the object is a string of these octets.
@@ -114,36 +131,75 @@ fn refuses(given: &BerResult<'_>, refusal: BerError) -> bool {
     matches!(given, Err(Error(e)) if *e == refusal)
 }
 
-#[test]
-fn no_memory_for_refusals(rt: HostRuntime) {
-    for given in [
-        parse_ber_recursive(rt.alloc(), b"\x30\x02\x05\x00", 1),
-        parse_der_recursive(rt.alloc(), b"\x30\x02\x05\x00", 1),
-        parse_ber_recursive(rt.alloc(), b"\x30\x80\x05\x00\x00\x00", 0),
-        parse_der_recursive(rt.alloc(), b"\x30\x02\x05\x00", 0),
-    ] {
-        assert!(rt; refuses(&given, BerMaxDepth), "{given:?}");
-    }
-    for given in [
-        parse_ber(rt.alloc(), b"\x10\x02\x05\x00"),
-        parse_der(rt.alloc(), b"\x10\x02\x05\x00"),
-        parse_ber_any_with_tag_r(rt.alloc(), b"\x10\x00", Tag::Sequence, 1),
-    ] {
-        assert!(rt; refuses(&given, ConstructExpected), "{given:?}");
-    }
-    assert!(rt; parse_ber(rt.alloc(), b"\x30\x03\x05\x00").is_err());
-    assert!(rt; parse_der(rt.alloc(), b"\x30\x80\x05\x00\x00\x00").is_err());
+/// What is answered is that the depth is too small.
+fn expect_max_depth(rt: &impl Abort, given: BerResult<'_>) {
+    let is_so = refuses(&given, BerMaxDepth);
+    expect_so(rt, is_so, &given);
+}
+
+/// What is answered is that the element isn't constructed.
+fn expect_primitive(rt: &impl Abort, given: BerResult<'_>) {
+    let is_so = refuses(&given, ConstructExpected);
+    expect_so(rt, is_so, &given);
+}
+
+/// What is answered is so.
+fn expect_so(rt: &impl Abort, is_so: bool, given: &BerResult<'_>) {
+    assert!(rt; is_so, "{given:?}");
+}
+
+/// What is answered is a refusal.
+fn expect_refusal(rt: &impl Abort, given: BerResult<'_>) {
+    assert!(rt; given.is_err());
 }
 
 #[test]
-fn no_memory_for_contents(rt: HostRuntime) {
-    let header = Header::new(ContextSpecific, false, Tag(0), Definite(1));
-    let by_ber = parse_ber_content(rt.alloc(), Tag::Integer).parse(b"\x05", &header, 1);
-    assert!(rt; by_ber.is_ok(), "{by_ber:?}");
-    let by_der = parse_der_content(rt.alloc(), Tag::Integer).parse(b"\x05", &header, 1);
-    assert!(rt; by_der.is_ok(), "{by_der:?}");
-    let behind = der_read_element_content(rt.alloc(), b"\x05", header);
-    assert!(rt; behind.is_ok(), "{behind:?}");
+fn no_memory_for_refusals_of_a_depth(rt: HostRuntime) {
+    let list = b"\x30\x02\x05\x00";
+    let indefinite = b"\x30\x80\x05\x00\x00\x00";
+    expect_max_depth(&rt, parse_ber_recursive(rt.alloc(), list, 1));
+    expect_max_depth(&rt, parse_der_recursive(rt.alloc(), list, 1));
+    expect_max_depth(&rt, parse_ber_recursive(rt.alloc(), indefinite, 0));
+    expect_max_depth(&rt, parse_der_recursive(rt.alloc(), list, 0));
+}
+
+#[test]
+fn no_memory_for_refusals(rt: HostRuntime) {
+    let primitive = b"\x10\x02\x05\x00";
+    expect_primitive(&rt, parse_ber(rt.alloc(), primitive));
+    expect_primitive(&rt, parse_der(rt.alloc(), primitive));
+    let with_tag = parse_ber_any_with_tag_r(rt.alloc(), b"\x10\x00", Tag::Sequence, 1);
+    expect_primitive(&rt, with_tag);
+    expect_refusal(&rt, parse_ber(rt.alloc(), b"\x30\x03\x05\x00"));
+    expect_refusal(&rt, parse_der(rt.alloc(), b"\x30\x80\x05\x00\x00\x00"));
+}
+
+/// The header of a content of one octet.
+fn content_header() -> Header<'static> {
+    Header::new(ContextSpecific, false, Tag(0), Definite(1))
+}
+
+/// A content is read.
+fn expect_content(rt: &impl Abort, given: &BerResult<'_, BerObjectContent<'_>>) {
+    assert!(rt; given.is_ok(), "{given:?}");
+}
+
+#[test]
+fn no_memory_for_a_content_by_ber(rt: HostRuntime) {
+    let given = parse_ber_content(rt.alloc(), Tag::Integer).parse(b"\x05", &content_header(), 1);
+    expect_content(&rt, &given);
+}
+
+#[test]
+fn no_memory_for_a_content_by_der(rt: HostRuntime) {
+    let given = parse_der_content(rt.alloc(), Tag::Integer).parse(b"\x05", &content_header(), 1);
+    expect_content(&rt, &given);
+}
+
+#[test]
+fn no_memory_for_a_content_behind_a_header(rt: HostRuntime) {
+    let given = der_read_element_content(rt.alloc(), b"\x05", content_header());
+    expect_ok(&rt, b"\x05", &given);
 }
 
 #[test]
@@ -171,37 +227,60 @@ fn whole<'a>(content: &'a [u8], header: Header<'a>) -> IResult<&'a [u8], Tag, Be
     Ok((content, header.tag()))
 }
 
+/// What a container's parser answers, which answers the tag.
+type Container<'a> = IResult<&'a [u8], Tag, BerError>;
+
+/// The container has this tag, and nothing follows it.
+fn expect_container(rt: &impl Abort, tag: Tag, given: &Container<'_>) {
+    assert!(rt; matches!(given, Ok((b"", it)) if *it == tag), "{given:?}");
+}
+
 #[test]
-fn no_memory_for_containers(rt: HostRuntime) {
-    let sequence = b"\x30\x80\x31\x80\x00\x00\x00\x00";
-    let set = b"\x31\x80\x30\x80\x00\x00\x00\x00";
-    let of_any = parse_ber_container(|content, header| whole(content, header)).parse(sequence);
-    assert!(rt; matches!(&of_any, Ok((b"", Tag::Sequence))), "{of_any:?}");
-    let of_sequence = parse_ber_sequence_defined_g(|content, header| whole(content, header)).parse(
-        sequence,
-    );
-    assert!(rt;
-        matches!(&of_sequence, Ok((b"", Tag::Sequence))),
-        "{of_sequence:?}"
-    );
-    let of_set = parse_ber_set_defined_g(|content, header| whole(content, header)).parse(set);
-    assert!(rt; matches!(&of_set, Ok((b"", Tag::Set))), "{of_set:?}");
+fn no_memory_for_a_container(rt: HostRuntime) {
+    let list = b"\x30\x80\x31\x80\x00\x00\x00\x00";
+    let given = parse_ber_container(|content, header| whole(content, header)).parse(list);
+    expect_container(&rt, Tag::Sequence, &given);
+}
+
+#[test]
+fn no_memory_for_a_sequence(rt: HostRuntime) {
+    let list = b"\x30\x80\x31\x80\x00\x00\x00\x00";
+    let given = parse_ber_sequence_defined_g(|content, header| whole(content, header)).parse(list);
+    expect_container(&rt, Tag::Sequence, &given);
+}
+
+#[test]
+fn no_memory_for_a_set(rt: HostRuntime) {
+    let list = b"\x31\x80\x30\x80\x00\x00\x00\x00";
+    let given = parse_ber_set_defined_g(|content, header| whole(content, header)).parse(list);
+    expect_container(&rt, Tag::Set, &given);
+}
+
+#[test]
+fn no_memory_for_a_slice(rt: HostRuntime) {
     let slice = parse_ber_slice(b"\x22\x80\x02\x01\x01\x00\x00", Tag(2));
     assert!(rt; matches!(&slice, Ok((b"", b"\x02\x01\x01"))), "{slice:?}");
 }
 
 #[test]
 fn no_memory_for_implicit_tags(rt: HostRuntime) {
-    let given = parse_ber_implicit(b"\x82\x01\x05", Tag(2), |input, header, depth| {
-        parse_ber_content(rt.alloc(), Tag::Integer).parse(input, header, depth)
-    });
-    assert!(rt; given.is_ok(), "{given:?}");
+    let element = b"\x82\x01\x05";
+    let (_, given) = implicit_at_once_by_ber(rt.alloc(), Tag(2), Tag::Integer, element);
+    expect_ok(&rt, element, &given);
+}
+
+/// Nothing of the element is read.
+fn expect_unread(rt: &impl Abort, given: &BerResult<'_>, input: &[u8]) {
+    assert!(rt;
+        matches!(given, Ok((rest, _)) if *rest == input),
+        "{given:?}"
+    );
 }
 
 #[test]
 fn no_memory_for_an_object_that_is_absent(rt: HostRuntime) {
-    let given = parse_ber_optional(rt.alloc(), |i| parse_ber_integer(i)).parse(b"\x05\x00");
-    assert!(rt; matches!(&given, Ok((b"\x05\x00", _))), "{given:?}");
+    let (_, given) = optional_by_ber(rt.alloc(), 2, b"\x05\x00");
+    expect_unread(&rt, &given, b"\x05\x00");
 }
 
 #[test]
@@ -215,17 +294,42 @@ fn no_memory_for_a_copy_of_a_borrowed_identifier(rt: HostRuntime) {
     assert!(rt; oid.iter().is_some());
 }
 
+/// The object has this tag.
+fn expect_tag(rt: &impl Abort, tag: Tag, object: BerObject<'_>) {
+    assert!(rt; object.header.tag() == tag);
+}
+
+/// The object keeps these octets as its identifier.
+fn expect_raw_tag(rt: &impl Abort, raw_tag: &[u8], object: BerObject<'_>) {
+    assert!(rt; object.header.raw_tag() == Some(raw_tag));
+}
+
 #[test]
 fn no_memory_for_made_objects(rt: HostRuntime) {
     let integer = BerObject::from_int_slice(b"\x05").set_raw_tag(Some(b"\x02"));
-    assert!(rt; integer.header.raw_tag() == Some(b"\x02".as_slice()));
-    let nothing = BerObject::from_seq(Vec::new(rt.alloc()));
-    assert!(rt; nothing.header.tag() == Tag::Sequence);
-    let nothing = BerObject::from_set(Vec::new(rt.alloc()));
-    assert!(rt; nothing.header.tag() == Tag::Set);
-    let oid = BerObject::from(Oid::new(CowSlice::Borrowed(b"\x2a")));
-    assert!(rt;
-        oid == BerObject::from_obj(BerObjectContent::OID(Oid::new(CowSlice::Borrowed(b"\x2a"))))
+    expect_raw_tag(&rt, b"\x02", integer);
+    expect_tag(
+        &rt,
+        Tag::Sequence,
+        BerObject::from_seq(Vec::new(rt.alloc())),
     );
+    expect_tag(&rt, Tag::Set, BerObject::from_set(Vec::new(rt.alloc())));
     assert!(rt; BitStringObject { bytes: b"\x0f" }.is_set(7));
+}
+
+/// Both objects are the same.
+fn expect_same<'a>(rt: &impl Abort, object: &BerObject<'a>, other: &BerObject<'a>) {
+    assert!(rt; object == other);
+}
+
+/// The identifier 1.2.
+fn identifier() -> Oid<'static> {
+    Oid::new(CowSlice::Borrowed(b"\x2a"))
+}
+
+#[test]
+fn no_memory_for_an_object_of_an_identifier(rt: HostRuntime) {
+    let oid = BerObject::from(identifier());
+    let object = BerObject::from_obj(BerObjectContent::OID(identifier()));
+    expect_same(&rt, &oid, &object);
 }

@@ -2,6 +2,14 @@
 //! after a test's first lines, which end the test where there is none. With ample memory it returns
 //! Ok. `tools/refused-growths` runs the tests with the first growth refused, then with the second, and
 //! so on: then the call returns OutOfMemory, and nothing else.
+use crate::list_form_rows::{
+    sequence_of_integers_by_ber, sequence_of_integers_by_der, set_of_integers_by_ber,
+    set_of_integers_by_der,
+};
+use crate::tagged_rows::{
+    explicit_by_ber, explicit_by_der, explicit_optional_by_ber, explicit_optional_by_der,
+    optional_by_ber, optional_by_der,
+};
 use der_bench_rows::reader::Reader;
 use der_bench_rows::reader::Reader::{
     ParseBer, ParseBerAnyR, ParseBerAnyWithTagR, ParseBerCounted, ParseBerRecursive,
@@ -11,15 +19,11 @@ use der_bench_rows::reader::Reader::{
 use der_parser::ber::{
     Any, BerObject, BerObjectContent, Class, Header, Length, PrettyBer, PrettyPrinterFlag, Tag,
     ber_object_from_any, ber_read_element_content_as, parse_ber_content, parse_ber_content2,
-    parse_ber_explicit_optional, parse_ber_integer, parse_ber_optional, parse_ber_sequence_of,
-    parse_ber_sequence_of_v, parse_ber_set_of, parse_ber_set_of_v, parse_ber_tagged_explicit,
-    parse_ber_u32,
+    parse_ber_sequence_of_v, parse_ber_set_of_v, parse_ber_u32,
 };
 use der_parser::der::{
     der_read_element_content, der_read_element_content_as, parse_der_content, parse_der_content2,
-    parse_der_explicit_optional, parse_der_integer, parse_der_optional, parse_der_sequence_of,
-    parse_der_sequence_of_v, parse_der_set_of, parse_der_set_of_v, parse_der_tagged_explicit,
-    parse_der_u32,
+    parse_der_sequence_of_v, parse_der_set_of_v, parse_der_u32,
 };
 use der_parser::error::BerResult;
 use der_parser::oid::Oid;
@@ -39,7 +43,19 @@ const EXPLICIT: &[u8] = b"\xa0\x03\x02\x01\x05";
 
 /// The reader reads the whole input.
 fn read_all(rt: &(impl Abort + AllocGlobal), reader: Reader, input: &[u8]) -> Result<(), Fail> {
-    let (rest, _) = reader.read(rt.alloc(), input)?;
+    expect_whole(rt, reader.read(rt.alloc(), input))
+}
+
+/// What was read is the whole input.
+fn expect_whole(rt: &impl Abort, answer: BerResult<'_>) -> Result<(), Fail> {
+    let (rest, _) = answer?;
+    assert!(rt; rest.is_empty());
+    Ok(())
+}
+
+/// What was read is a list of numbers, and the whole input.
+fn expect_numbers(rt: &impl Abort, answer: BerResult<'_, Vec<u32>>) -> Result<(), Fail> {
+    let (rest, _) = answer?;
     assert!(rt; rest.is_empty());
     Ok(())
 }
@@ -52,9 +68,14 @@ fn sequence_header() -> Header<'static> {
 /// What was read is one SEQUENCE, and the whole input.
 fn expect_list(rt: &impl Abort, answer: BerResult<'_, BerObjectContent<'_>>) -> Result<(), Fail> {
     let (rest, content) = answer?;
+    expect_sequence(rt, rest, &content);
+    Ok(())
+}
+
+/// The content is a SEQUENCE, with nothing behind it.
+fn expect_sequence(rt: &impl Abort, rest: &[u8], content: &BerObjectContent<'_>) {
     assert!(rt; rest.is_empty());
     assert!(rt; matches!(content, BerObjectContent::Sequence(_)));
-    Ok(())
 }
 
 #[test]
@@ -229,138 +250,127 @@ fn wants_memory_der_content2(rt: HostRuntime) -> Result<(), Fail> {
 
 #[test]
 fn wants_memory_der_read_element_content(rt: HostRuntime) -> Result<(), Fail> {
-    let (rest, _) = der_read_element_content(rt.alloc(), b"\x05\x00", sequence_header())?;
-    assert!(rt; rest.is_empty());
-    Ok(())
+    let answer = der_read_element_content(rt.alloc(), b"\x05\x00", sequence_header());
+    expect_whole(&rt, answer)
 }
 
 #[test]
 fn wants_memory_parse_ber_sequence_of(rt: HostRuntime) -> Result<(), Fail> {
-    let mut list = parse_ber_sequence_of(rt.alloc(), |i| parse_ber_integer(i));
-    let (rest, _) = list.parse(INTEGERS)?;
-    assert!(rt; rest.is_empty());
-    Ok(())
+    expect_whole(&rt, sequence_of_integers_by_ber(rt.alloc(), INTEGERS).1)
 }
 
 #[test]
 fn wants_memory_parse_ber_sequence_of_v(rt: HostRuntime) -> Result<(), Fail> {
-    let mut list = parse_ber_sequence_of_v(rt.alloc(), |i| parse_ber_u32(i));
-    let (rest, _) = list.parse(INTEGERS)?;
-    assert!(rt; rest.is_empty());
-    Ok(())
+    let answer = parse_ber_sequence_of_v(rt.alloc(), |i| parse_ber_u32(i)).parse(INTEGERS);
+    expect_numbers(&rt, answer)
 }
 
 #[test]
 fn wants_memory_parse_ber_set_of(rt: HostRuntime) -> Result<(), Fail> {
-    let mut list = parse_ber_set_of(rt.alloc(), |i| parse_ber_integer(i));
-    let (rest, _) = list.parse(INTEGER_SET)?;
-    assert!(rt; rest.is_empty());
-    Ok(())
+    expect_whole(&rt, set_of_integers_by_ber(rt.alloc(), INTEGER_SET).1)
 }
 
 #[test]
 fn wants_memory_parse_ber_set_of_v(rt: HostRuntime) -> Result<(), Fail> {
-    let mut list = parse_ber_set_of_v(rt.alloc(), |i| parse_ber_u32(i));
-    let (rest, _) = list.parse(INTEGER_SET)?;
-    assert!(rt; rest.is_empty());
-    Ok(())
+    let answer = parse_ber_set_of_v(rt.alloc(), |i| parse_ber_u32(i)).parse(INTEGER_SET);
+    expect_numbers(&rt, answer)
 }
 
 #[test]
 fn wants_memory_parse_ber_tagged_explicit(rt: HostRuntime) -> Result<(), Fail> {
-    let mut tagged = parse_ber_tagged_explicit(rt.alloc(), Tag(0), |i| parse_ber_integer(i));
-    let (rest, _) = tagged.parse(EXPLICIT)?;
-    assert!(rt; rest.is_empty());
-    Ok(())
+    expect_whole(&rt, explicit_by_ber(rt.alloc(), Tag(0), 2, EXPLICIT).1)
 }
 
 #[test]
 fn wants_memory_parse_ber_optional(rt: HostRuntime) -> Result<(), Fail> {
-    let mut optional = parse_ber_optional(rt.alloc(), |i| parse_ber_integer(i));
-    let (rest, _) = optional.parse(b"\x02\x01\x05")?;
-    assert!(rt; rest.is_empty());
-    Ok(())
+    expect_whole(&rt, optional_by_ber(rt.alloc(), 2, b"\x02\x01\x05").1)
 }
 
 #[test]
 fn wants_memory_parse_ber_explicit_optional(rt: HostRuntime) -> Result<(), Fail> {
-    let alloc = rt.alloc();
-    let (rest, _) = parse_ber_explicit_optional(alloc, EXPLICIT, Tag(0), |i| parse_ber_integer(i))?;
-    assert!(rt; rest.is_empty());
-    Ok(())
+    expect_whole(
+        &rt,
+        explicit_optional_by_ber(rt.alloc(), Tag(0), 2, EXPLICIT).1,
+    )
 }
 
 #[test]
 fn wants_memory_parse_der_sequence_of(rt: HostRuntime) -> Result<(), Fail> {
-    let mut list = parse_der_sequence_of(rt.alloc(), |i| parse_der_integer(i));
-    let (rest, _) = list.parse(INTEGERS)?;
-    assert!(rt; rest.is_empty());
-    Ok(())
+    expect_whole(&rt, sequence_of_integers_by_der(rt.alloc(), INTEGERS).1)
 }
 
 #[test]
 fn wants_memory_parse_der_sequence_of_v(rt: HostRuntime) -> Result<(), Fail> {
-    let mut list = parse_der_sequence_of_v(rt.alloc(), |i| parse_der_u32(i));
-    let (rest, _) = list.parse(INTEGERS)?;
-    assert!(rt; rest.is_empty());
-    Ok(())
+    let answer = parse_der_sequence_of_v(rt.alloc(), |i| parse_der_u32(i)).parse(INTEGERS);
+    expect_numbers(&rt, answer)
 }
 
 #[test]
 fn wants_memory_parse_der_set_of(rt: HostRuntime) -> Result<(), Fail> {
-    let mut list = parse_der_set_of(rt.alloc(), |i| parse_der_integer(i));
-    let (rest, _) = list.parse(INTEGER_SET)?;
-    assert!(rt; rest.is_empty());
-    Ok(())
+    expect_whole(&rt, set_of_integers_by_der(rt.alloc(), INTEGER_SET).1)
 }
 
 #[test]
 fn wants_memory_parse_der_set_of_v(rt: HostRuntime) -> Result<(), Fail> {
-    let mut list = parse_der_set_of_v(rt.alloc(), |i| parse_der_u32(i));
-    let (rest, _) = list.parse(INTEGER_SET)?;
-    assert!(rt; rest.is_empty());
-    Ok(())
+    let answer = parse_der_set_of_v(rt.alloc(), |i| parse_der_u32(i)).parse(INTEGER_SET);
+    expect_numbers(&rt, answer)
 }
 
 #[test]
 fn wants_memory_parse_der_tagged_explicit(rt: HostRuntime) -> Result<(), Fail> {
-    let mut tagged = parse_der_tagged_explicit(rt.alloc(), Tag(0), |i| parse_der_integer(i));
-    let (rest, _) = tagged.parse(EXPLICIT)?;
-    assert!(rt; rest.is_empty());
-    Ok(())
+    expect_whole(&rt, explicit_by_der(rt.alloc(), Tag(0), 2, EXPLICIT).1)
 }
 
 #[test]
 fn wants_memory_parse_der_optional(rt: HostRuntime) -> Result<(), Fail> {
-    let mut optional = parse_der_optional(rt.alloc(), |i| parse_der_integer(i));
-    let (rest, _) = optional.parse(b"\x02\x01\x05")?;
-    assert!(rt; rest.is_empty());
-    Ok(())
+    expect_whole(&rt, optional_by_der(rt.alloc(), 2, b"\x02\x01\x05").1)
 }
 
 #[test]
 fn wants_memory_parse_der_explicit_optional(rt: HostRuntime) -> Result<(), Fail> {
-    let alloc = rt.alloc();
-    let (rest, _) = parse_der_explicit_optional(alloc, EXPLICIT, Tag(0), |i| parse_der_integer(i))?;
-    assert!(rt; rest.is_empty());
-    Ok(())
+    expect_whole(
+        &rt,
+        explicit_optional_by_der(rt.alloc(), Tag(0), 2, EXPLICIT).1,
+    )
+}
+
+/// The object is a SEQUENCE.
+fn expect_list_object(rt: &impl Abort, object: &BerObject<'_>) {
+    assert!(rt; object.as_sequence().is_ok());
 }
 
 #[test]
 fn wants_memory_ber_object_from_any(rt: HostRuntime) -> Result<(), Fail> {
     let (_, any) = Any::from_ber(SEQUENCE)?;
     let object = ber_object_from_any(rt.alloc(), any)?;
-    assert!(rt; object.as_sequence().is_ok());
+    expect_list_object(&rt, &object);
+    Ok(())
+}
+
+/// Both objects are the same.
+fn expect_same<'a>(rt: &impl Abort, object: &BerObject<'a>, other: &BerObject<'a>) {
+    assert!(rt; object == other);
+}
+
+/// The copy of the object is the same.
+fn expect_copy(rt: &(impl Abort + AllocGlobal), object: &BerObject<'_>) -> Result<(), Fail> {
+    let copy = object.try_clone(rt.alloc())?;
+    expect_same(rt, &copy, object);
     Ok(())
 }
 
 #[test]
 fn wants_memory_try_clone(rt: HostRuntime) -> Result<(), Fail> {
-    let Ok((_, object)) = parse_der(rt.alloc(), SEQUENCE) else {
-        return Ok(());
-    };
-    let copy = object.try_clone(rt.alloc())?;
-    assert!(rt; copy == object);
+    match parse_der(rt.alloc(), SEQUENCE) {
+        Ok((_, object)) => expect_copy(&rt, &object),
+        Err(_) => Ok(()),
+    }
+}
+
+/// The object's value is the identifier 2.999.
+fn expect_oid(rt: &(impl Abort + AllocGlobal), object: &BerObject<'_>) -> Result<(), Fail> {
+    let copy = object.as_oid_val(rt.alloc())?;
+    assert!(rt; copy.as_bytes() == b"\x88\x37".as_slice());
     Ok(())
 }
 
@@ -370,9 +380,7 @@ fn wants_memory_as_oid_val(rt: HostRuntime) -> Result<(), Fail> {
         return Ok(());
     };
     let object = BerObject::from_obj(BerObjectContent::OID(oid));
-    let copy = object.as_oid_val(rt.alloc())?;
-    assert!(rt; copy.as_bytes() == b"\x88\x37".as_slice());
-    Ok(())
+    expect_oid(&rt, &object)
 }
 
 #[test]
@@ -413,19 +421,22 @@ fn wants_memory_oid_try_clone(rt: HostRuntime) -> Result<(), Fail> {
     Ok(())
 }
 
-#[test]
-fn wants_memory_as_pretty(rt: HostRuntime) -> Result<(), Fail> {
-    let object = BerObject::from_int_slice(b"\x05");
+/// A printer of the object prints what is inside it.
+fn expect_printer(rt: &(impl Abort + AllocGlobal), object: &BerObject<'_>) -> Result<(), Fail> {
     let printer = object.as_pretty(rt.alloc(), 0, 2)?;
     assert!(rt; printer.is_flag_set(PrettyPrinterFlag::Recursive));
     Ok(())
 }
 
-/// Where there is no memory for a flag, the flags stay.
 #[test]
-fn wants_memory_set_flag(rt: HostRuntime) -> Result<(), Fail> {
+fn wants_memory_as_pretty(rt: HostRuntime) -> Result<(), Fail> {
     let object = BerObject::from_int_slice(b"\x05");
-    let mut printer = PrettyBer::new(&object, Vec::new(rt.alloc()), 0, 2);
+    expect_printer(&rt, &object)
+}
+
+/// Where there is no memory for a flag, the flags stay.
+fn expect_flag(rt: &(impl Abort + AllocGlobal), object: &BerObject<'_>) -> Result<(), Fail> {
+    let mut printer = PrettyBer::new(object, Vec::new(rt.alloc()), 0, 2);
     let set = printer.set_flag(PrettyPrinterFlag::ShowHeader);
     assert_eq!(rt;
         printer.is_flag_set(PrettyPrinterFlag::ShowHeader),
@@ -437,12 +448,32 @@ fn wants_memory_set_flag(rt: HostRuntime) -> Result<(), Fail> {
 }
 
 #[test]
-fn wants_memory_next_indent(rt: HostRuntime) -> Result<(), Fail> {
+fn wants_memory_set_flag(rt: HostRuntime) -> Result<(), Fail> {
     let object = BerObject::from_int_slice(b"\x05");
-    let Ok(printer) = object.as_pretty(rt.alloc(), 0, 2) else {
-        return Ok(());
-    };
-    let next = printer.next_indent(rt.alloc(), &object)?;
+    expect_flag(&rt, &object)
+}
+
+/// The printer of an object inside prints what is inside it.
+fn expect_next<'o, 'a>(
+    rt: &(impl Abort + AllocGlobal),
+    printer: &PrettyBer<'o, 'a>,
+    object: &'o BerObject<'a>,
+) -> Result<(), Fail> {
+    let next = printer.next_indent(rt.alloc(), object)?;
     assert!(rt; next.is_flag_set(PrettyPrinterFlag::Recursive));
     Ok(())
+}
+
+/// The object's printer makes one of an object inside.
+fn expect_next_of(rt: &(impl Abort + AllocGlobal), object: &BerObject<'_>) -> Result<(), Fail> {
+    match object.as_pretty(rt.alloc(), 0, 2) {
+        Ok(printer) => expect_next(rt, &printer, object),
+        Err(_) => Ok(()),
+    }
+}
+
+#[test]
+fn wants_memory_next_indent(rt: HostRuntime) -> Result<(), Fail> {
+    let object = BerObject::from_int_slice(b"\x05");
+    expect_next_of(&rt, &object)
 }

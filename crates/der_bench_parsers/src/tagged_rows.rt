@@ -7,7 +7,7 @@ use der_bench_rows::typed::{read_type_by_ber, read_type_by_der};
 use der_parser::ber::Class::{Application, ContextSpecific, Universal};
 use der_parser::ber::Length::{Definite, Indefinite};
 use der_parser::ber::{
-    BerOptional, BerTaggedExplicit, Tag, parse_ber_content, parse_ber_explicit_optional,
+    BerObject, BerOptional, BerTaggedExplicit, Tag, parse_ber_content, parse_ber_explicit_optional,
     parse_ber_implicit, parse_ber_optional, parse_ber_tagged_explicit, parse_ber_tagged_implicit,
 };
 use der_parser::der::{
@@ -108,77 +108,123 @@ const BY_DER: &[FormRow] = &[
 ];
 
 /// What a form answers, and how often it calls the parser that it keeps.
-type Given<'a> = (u64, BerResult<'a>);
+pub type Given<'a> = (u64, BerResult<'a>);
 
 /// What a form answers by BER.
 fn by_ber(alloc: Global, form: Form, i: &[u8]) -> Given<'_> {
+    match form {
+        Form::Explicit(tag, number) => explicit_by_ber(alloc, tag, number, i),
+        Form::Implicit(tag, content) => implicit_by_ber(alloc, tag, content, i),
+        Form::ImplicitAtOnce(tag, content) => implicit_at_once_by_ber(alloc, tag, content, i),
+        Form::Optional(number) => optional_by_ber(alloc, number, i),
+        Form::ExplicitOptional(tag, number) => explicit_optional_by_ber(alloc, tag, number, i),
+    }
+}
+
+pub fn explicit_by_ber(alloc: Global, tag: Tag, number: u32, i: &[u8]) -> Given<'_> {
     let mut calls: u64 = 0;
-    let answer = match form {
-        Form::Explicit(tag, number) => parse_ber_tagged_explicit(alloc, tag, |input| {
-            calls = calls.saturating_add(1);
-            read_type_by_ber(alloc, number, input)
-        })
-        .parse(i),
-        Form::Implicit(tag, content) => parse_ber_tagged_implicit(tag, |input, header, depth| {
-            calls = calls.saturating_add(1);
-            parse_ber_content(alloc, content).parse(input, header, depth)
-        })
-        .parse(i),
-        Form::ImplicitAtOnce(tag, content) => parse_ber_implicit(i, tag, |input, header, depth| {
-            calls = calls.saturating_add(1);
-            parse_ber_content(alloc, content).parse(input, header, depth)
-        }),
-        Form::Optional(number) => parse_ber_optional(alloc, |input| {
-            calls = calls.saturating_add(1);
-            read_type_by_ber(alloc, number, input)
-        })
-        .parse(i),
-        Form::ExplicitOptional(tag, number) => parse_ber_explicit_optional(
-            alloc,
-            i,
-            tag,
-            |input| {
-                calls = calls.saturating_add(1);
-                read_type_by_ber(alloc, number, input)
-            },
-        ),
-    };
+    let answer = parse_ber_tagged_explicit(alloc, tag, |input| {
+        calls = calls.saturating_add(1);
+        read_type_by_ber(alloc, number, input)
+    })
+    .parse(i);
+    (calls, answer)
+}
+
+fn implicit_by_ber(alloc: Global, tag: Tag, content: Tag, i: &[u8]) -> Given<'_> {
+    let mut calls: u64 = 0;
+    let answer = parse_ber_tagged_implicit(tag, |input, header, depth| {
+        calls = calls.saturating_add(1);
+        parse_ber_content(alloc, content).parse(input, header, depth)
+    })
+    .parse(i);
+    (calls, answer)
+}
+
+pub fn implicit_at_once_by_ber(alloc: Global, tag: Tag, content: Tag, i: &[u8]) -> Given<'_> {
+    let mut calls: u64 = 0;
+    let answer = parse_ber_implicit(i, tag, |input, header, depth| {
+        calls = calls.saturating_add(1);
+        parse_ber_content(alloc, content).parse(input, header, depth)
+    });
+    (calls, answer)
+}
+
+pub fn optional_by_ber(alloc: Global, number: u32, i: &[u8]) -> Given<'_> {
+    let mut calls: u64 = 0;
+    let answer = parse_ber_optional(alloc, |input| {
+        calls = calls.saturating_add(1);
+        read_type_by_ber(alloc, number, input)
+    })
+    .parse(i);
+    (calls, answer)
+}
+
+pub fn explicit_optional_by_ber(alloc: Global, tag: Tag, number: u32, i: &[u8]) -> Given<'_> {
+    let mut calls: u64 = 0;
+    let answer = parse_ber_explicit_optional(alloc, i, tag, |input| {
+        calls = calls.saturating_add(1);
+        read_type_by_ber(alloc, number, input)
+    });
     (calls, answer)
 }
 
 /// What a form answers by DER.
 fn by_der(alloc: Global, form: Form, i: &[u8]) -> Given<'_> {
+    match form {
+        Form::Explicit(tag, number) => explicit_by_der(alloc, tag, number, i),
+        Form::Implicit(tag, content) => implicit_by_der(alloc, tag, content, i),
+        Form::ImplicitAtOnce(tag, content) => implicit_at_once_by_der(alloc, tag, content, i),
+        Form::Optional(number) => optional_by_der(alloc, number, i),
+        Form::ExplicitOptional(tag, number) => explicit_optional_by_der(alloc, tag, number, i),
+    }
+}
+
+pub fn explicit_by_der(alloc: Global, tag: Tag, number: u32, i: &[u8]) -> Given<'_> {
     let mut calls: u64 = 0;
-    let answer = match form {
-        Form::Explicit(tag, number) => parse_der_tagged_explicit(alloc, tag, |input| {
-            calls = calls.saturating_add(1);
-            read_type_by_der(alloc, number, input)
-        })
-        .parse(i),
-        Form::Implicit(tag, content) => parse_der_tagged_implicit(tag, |input, header, depth| {
-            calls = calls.saturating_add(1);
-            parse_der_content(alloc, content).parse(input, header, depth)
-        })
-        .parse(i),
-        Form::ImplicitAtOnce(tag, content) => parse_der_implicit(i, tag, |input, header, depth| {
-            calls = calls.saturating_add(1);
-            parse_der_content(alloc, content).parse(input, header, depth)
-        }),
-        Form::Optional(number) => parse_der_optional(alloc, |input| {
-            calls = calls.saturating_add(1);
-            read_type_by_der(alloc, number, input)
-        })
-        .parse(i),
-        Form::ExplicitOptional(tag, number) => parse_der_explicit_optional(
-            alloc,
-            i,
-            tag,
-            |input| {
-                calls = calls.saturating_add(1);
-                read_type_by_der(alloc, number, input)
-            },
-        ),
-    };
+    let answer = parse_der_tagged_explicit(alloc, tag, |input| {
+        calls = calls.saturating_add(1);
+        read_type_by_der(alloc, number, input)
+    })
+    .parse(i);
+    (calls, answer)
+}
+
+fn implicit_by_der(alloc: Global, tag: Tag, content: Tag, i: &[u8]) -> Given<'_> {
+    let mut calls: u64 = 0;
+    let answer = parse_der_tagged_implicit(tag, |input, header, depth| {
+        calls = calls.saturating_add(1);
+        parse_der_content(alloc, content).parse(input, header, depth)
+    })
+    .parse(i);
+    (calls, answer)
+}
+
+fn implicit_at_once_by_der(alloc: Global, tag: Tag, content: Tag, i: &[u8]) -> Given<'_> {
+    let mut calls: u64 = 0;
+    let answer = parse_der_implicit(i, tag, |input, header, depth| {
+        calls = calls.saturating_add(1);
+        parse_der_content(alloc, content).parse(input, header, depth)
+    });
+    (calls, answer)
+}
+
+pub fn optional_by_der(alloc: Global, number: u32, i: &[u8]) -> Given<'_> {
+    let mut calls: u64 = 0;
+    let answer = parse_der_optional(alloc, |input| {
+        calls = calls.saturating_add(1);
+        read_type_by_der(alloc, number, input)
+    })
+    .parse(i);
+    (calls, answer)
+}
+
+pub fn explicit_optional_by_der(alloc: Global, tag: Tag, number: u32, i: &[u8]) -> Given<'_> {
+    let mut calls: u64 = 0;
+    let answer = parse_der_explicit_optional(alloc, i, tag, |input| {
+        calls = calls.saturating_add(1);
+        read_type_by_der(alloc, number, input)
+    });
     (calls, answer)
 }
 
@@ -198,12 +244,25 @@ fn expect_form(
     Ok(())
 }
 
+/// By BER the row's form answers so on its octets.
+fn expect_by_ber(rt: &(impl Abort + AllocGlobal), row: &FormRow) -> Result<(), Fail> {
+    let input = octets(rt.alloc(), row.1)?;
+    let given = by_ber(rt.alloc(), row.0, &input);
+    expect_form(rt, row, &given)
+}
+
+/// By DER the row's form answers so on its octets.
+fn expect_by_der(rt: &(impl Abort + AllocGlobal), row: &FormRow) -> Result<(), Fail> {
+    let input = octets(rt.alloc(), row.1)?;
+    let given = by_der(rt.alloc(), row.0, &input);
+    expect_form(rt, row, &given)
+}
+
 #[test]
 fn forms_by_both(rt: HostRuntime) -> Result<(), Fail> {
     for row in BY_BOTH {
-        let input = octets(rt.alloc(), row.1)?;
-        expect_form(&rt, row, &by_ber(rt.alloc(), row.0, &input))?;
-        expect_form(&rt, row, &by_der(rt.alloc(), row.0, &input))?;
+        expect_by_ber(&rt, row)?;
+        expect_by_der(&rt, row)?;
     }
     Ok(())
 }
@@ -211,8 +270,7 @@ fn forms_by_both(rt: HostRuntime) -> Result<(), Fail> {
 #[test]
 fn forms_by_ber(rt: HostRuntime) -> Result<(), Fail> {
     for row in BY_BER {
-        let input = octets(rt.alloc(), row.1)?;
-        expect_form(&rt, row, &by_ber(rt.alloc(), row.0, &input))?;
+        expect_by_ber(&rt, row)?;
     }
     Ok(())
 }
@@ -220,15 +278,16 @@ fn forms_by_ber(rt: HostRuntime) -> Result<(), Fail> {
 #[test]
 fn forms_by_der(rt: HostRuntime) -> Result<(), Fail> {
     for row in BY_DER {
-        let input = octets(rt.alloc(), row.1)?;
-        expect_form(&rt, row, &by_der(rt.alloc(), row.0, &input))?;
+        expect_by_der(&rt, row)?;
     }
     Ok(())
 }
 
 /// A form, octets, and the header of the object that is read by BER.
+type HeaderRow = (Form, &'static str, Parts);
+
 #[rattlefmt::skip]
-const HEADERS: &[(Form, &str, Parts)] = &[
+const HEADERS: &[HeaderRow] = &[
     (Form::Explicit(Tag(2), 2), "a2 80 02 01 05 00 00", Parts(ContextSpecific, true, Tag(2), Indefinite, "a2")),
     (Form::Implicit(Tag(2), Tag::Sequence), "a2 80 02 01 05 00 00",
         Parts(ContextSpecific, true, Tag(2), Definite(3), "a2")),
@@ -236,60 +295,120 @@ const HEADERS: &[(Form, &str, Parts)] = &[
     (Form::ExplicitOptional(Tag(0), 2), "a0 03 02 01 02", Parts(ContextSpecific, true, Tag(0), Definite(3), "a0")),
 ];
 
+/// The object that was read has the row's header.
+fn expect_header(
+    rt: &(impl Abort + AllocGlobal),
+    row: &HeaderRow,
+    object: &BerObject<'_>,
+) -> Result<(), Fail> {
+    let (form, text, parts) = row;
+    assert!(rt;
+        parts.describes(rt.alloc(), &object.header)?,
+        "{form:?} of {text}: {object:?}"
+    );
+    Ok(())
+}
+
+/// By BER the row's form reads an object of the row's header.
+fn expect_header_by_ber(rt: &(impl Abort + AllocGlobal), row: &HeaderRow) -> Result<(), Fail> {
+    let input = octets(rt.alloc(), row.1)?;
+    let (_, object) = by_ber(rt.alloc(), row.0, &input).1?;
+    expect_header(rt, row, &object)
+}
+
 #[test]
 fn forms_have_headers(rt: HostRuntime) -> Result<(), Fail> {
-    for (form, text, parts) in HEADERS {
-        let input = octets(rt.alloc(), text)?;
-        let (_, given) = by_ber(rt.alloc(), *form, &input);
-        let (_, object) = given?;
-        assert!(rt;
-            parts.describes(rt.alloc(), &object.header)?,
-            "{form:?} of {text}: {object:?}"
-        );
+    for row in HEADERS {
+        expect_header_by_ber(&rt, row)?;
     }
     Ok(())
 }
 
-/// A Failure says that an object is absent, as an Error and an Incomplete do; OutOfMemory doesn't.
-#[test]
-fn optional_of_each_refusal(rt: HostRuntime) -> Result<(), Fail> {
-    let input = b"\x02\x01\x05".as_slice();
-    let answer: Answer = Read(Absent, "02 01 05");
-    let absent = parse_ber_optional(rt.alloc(), |_| Err(Refusal::Failure(BerTypeError))).parse(
-        input,
-    );
-    assert!(rt; answer.is_given_by(rt.alloc(), &absent)?, "{absent:?}");
-    let wanting: BerResult<'_> = parse_ber_optional(
-        rt.alloc(),
-        |_| Err(Refusal::OutOfMemory),
-    ).parse(input);
-    assert!(rt; matches!(wanting, Err(Refusal::OutOfMemory)), "{wanting:?}");
+/// What is answered where the parser of an object that may be absent answers a Failure.
+fn optional_over_failure(alloc: Global) -> BerResult<'static> {
+    parse_ber_optional(alloc, |_| Err(Refusal::Failure(BerTypeError))).parse(b"\x02\x01\x05")
+}
+
+/// The same where it answers OutOfMemory.
+fn optional_over_want(alloc: Global) -> BerResult<'static> {
+    parse_ber_optional(alloc, |_| Err(Refusal::OutOfMemory)).parse(b"\x02\x01\x05")
+}
+
+/// The object is absent in front of these octets.
+fn expect_absent(
+    rt: &(impl Abort + AllocGlobal),
+    given: &BerResult<'_>,
+    text: &'static str,
+) -> Result<(), Fail> {
+    let answer: Answer = Read(Absent, text);
+    assert!(rt; answer.is_given_by(rt.alloc(), given)?, "{given:?}");
     Ok(())
+}
+
+/// What is answered is OutOfMemory.
+fn expect_want(rt: &impl Abort, given: &BerResult<'_>) {
+    assert!(rt; matches!(given, Err(Refusal::OutOfMemory)), "{given:?}");
+}
+
+/// A Failure says that an object is absent, as an Error and an Incomplete do.
+#[test]
+fn optional_of_a_failure(rt: HostRuntime) -> Result<(), Fail> {
+    let given = optional_over_failure(rt.alloc());
+    expect_absent(&rt, &given, "02 01 05")
+}
+
+/// OutOfMemory doesn't say that an object is absent.
+#[test]
+fn optional_of_want_of_memory(rt: HostRuntime) {
+    expect_want(&rt, &optional_over_want(rt.alloc()));
+}
+
+/// What is answered where an object that may be absent is wanted, over a form that is kept.
+fn optional_over_kept(alloc: Global, i: &[u8]) -> BerResult<'_> {
+    let mut explicit: BerTaggedExplicit<_> = parse_ber_tagged_explicit(
+        alloc,
+        Tag(0),
+        |input| read_type_by_ber(alloc, 2, input),
+    );
+    let mut optional: BerOptional<_> = parse_ber_optional(alloc, |input| explicit.parse(input));
+    optional.parse(i)
+}
+
+/// The object is there, under the tag [0], and has the number 2 inside.
+fn expect_two(rt: &impl Abort, object: &BerObject<'_>) -> Result<(), Fail> {
+    let tagged = object.as_optional()?.ok_or("absent")?;
+    let (class, tag, inner) = tagged.as_tagged()?;
+    assert_eq!(rt; class, ContextSpecific);
+    assert_eq!(rt; tag, Tag(0));
+    assert_eq!(rt; inner.as_u64()?, 2);
+    Ok(())
+}
+
+/// The object is written so.
+fn expect_written(
+    rt: &(impl Abort + AllocGlobal),
+    object: &BerObject<'_>,
+    written: &[u8],
+) -> Result<(), Fail> {
+    assert_eq!(rt; object.to_vec(rt.alloc())?.as_slice(), written);
+    Ok(())
+}
+
+/// The object is the number 2, an octet follows it, and it is written as it was read.
+fn expect_two_in_front(
+    rt: &(impl Abort + AllocGlobal),
+    rest: &[u8],
+    object: &BerObject<'_>,
+) -> Result<(), Fail> {
+    assert!(rt; rest == b"\xff".as_slice());
+    expect_two(rt, object)?;
+    expect_written(rt, object, b"\xa0\x03\x02\x01\x02")
 }
 
 /// An object that may be absent, over a form that is kept: `parse_ber_explicit_optional` reads so.
 #[test]
 fn optional_over_explicit(rt: HostRuntime) -> Result<(), Fail> {
     let input = octets(rt.alloc(), "a0 03 02 01 02 ff")?;
-    let mut explicit: BerTaggedExplicit<_> = parse_ber_tagged_explicit(
-        rt.alloc(),
-        Tag(0),
-        |input| read_type_by_ber(rt.alloc(), 2, input),
-    );
-    let mut optional: BerOptional<_> = parse_ber_optional(
-        rt.alloc(),
-        |input| explicit.parse(input),
-    );
-    let (rest, object) = optional.parse(&input)?;
-    assert!(rt; rest == b"\xff".as_slice());
-    let tagged = object.as_optional()?.ok_or("absent")?;
-    let (class, tag, inner) = tagged.as_tagged()?;
-    assert_eq!(rt; class, ContextSpecific);
-    assert_eq!(rt; tag, Tag(0));
-    assert_eq!(rt; inner.as_u64()?, 2);
-    assert_eq!(rt;
-        object.to_vec(rt.alloc())?.as_slice(),
-        b"\xa0\x03\x02\x01\x02".as_slice()
-    );
-    Ok(())
+    let (rest, object) = optional_over_kept(rt.alloc(), &input)?;
+    expect_two_in_front(&rt, rest, &object)
 }

@@ -6,7 +6,9 @@ use der_bench_rows::answer::Content::{
 use der_bench_rows::answer::Parts;
 use der_bench_rows::octets::octets;
 use der_bench_rows::reader::Reader;
-use der_bench_rows::reading::{DepthRow, Row, expect_answer, expect_answers, expect_header};
+use der_bench_rows::reading::{
+    DepthRow, Row, expect_answer, expect_answers, expect_header, written_again,
+};
 use der_bench_rows::rows;
 use der_bench_rows::rows::Trial;
 use der_parser::ber::{Class, Length, Tag};
@@ -175,8 +177,7 @@ fn to_vec_writes_what_was_read(rt: HostRuntime) -> Result<(), Fail> {
     for (name, text, answer) in PARSE_DER {
         if let Read(_, behind) = answer {
             let input = octets(rt.alloc(), text)?;
-            let (_, object) = Reader::ParseDer.read(rt.alloc(), &input)?;
-            let mut written = object.to_vec(rt.alloc())?;
+            let mut written = written_again(rt.alloc(), Reader::ParseDer, &input)?;
             written.extend_from_slice(&octets(rt.alloc(), behind)?)?;
             assert_eq!(rt; written.as_slice(), input.as_slice(), "{name}");
         }

@@ -299,19 +299,19 @@ fn other_names_of_identifiers_are_the_same_types(rt: HostRuntime) {
 }
 
 #[test]
-fn combinators_are_named_structs(rt: HostRuntime) -> Result<(), Fail> {
+fn combinators_are_named_structs(rt: HostRuntime) {
     let content: BerContent = parse_ber_content(rt.alloc(), Tag(5));
     let content2: BerContent2 = parse_ber_content2(rt.alloc(), Tag(5));
     let by_der: DerContent = parse_der_content(rt.alloc(), Tag(5));
     let by_der2: DerContent2 = parse_der_content2(rt.alloc(), Tag(5));
     let header = Header::new(Class::Universal, false, Tag(5), Length::Definite(0));
-    for (_, given) in [
-        content.parse(b"", &header, 1)?,
-        content2.parse(b"", header, 1)?,
-        by_der.parse(b"", &header, 1)?,
-        by_der2.parse(b"", header, 1)?,
-    ] {
-        assert_eq!(rt; given, BerObjectContent::Null);
-    }
-    Ok(())
+    assert!(rt; is_null(content.parse(b"", &header, 1)));
+    assert!(rt; is_null(content2.parse(b"", header, 1)));
+    assert!(rt; is_null(by_der.parse(b"", &header, 1)));
+    assert!(rt; is_null(by_der2.parse(b"", header, 1)));
+}
+
+/// Whether a content is read, and is that of a NULL.
+fn is_null(given: BerResult<'_, BerObjectContent<'_>>) -> bool {
+    matches!(&given, Ok((_, BerObjectContent::Null)))
 }

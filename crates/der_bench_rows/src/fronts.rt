@@ -120,10 +120,14 @@ fn expect_stands<'a>(
     expect_same(alloc, reader, &given, front, ended)?;
     expect_same(alloc, reader, &given, front, refused)?;
     expect_same(alloc, reader, &given, front, opened)?;
-    match &given {
-        Ok((rest, _)) => Ok(Shown::Read(rest.len())),
-        Err(Refused::Incomplete(_)) => Ok(Shown::Cut),
-        Err(_) => Ok(Shown::Refused),
+    Ok(shown_by(&given))
+}
+
+fn shown_by(given: &BerResult<'_>) -> Shown {
+    match given {
+        Ok((rest, _)) => Shown::Read(rest.len()),
+        Err(Refused::Incomplete(_)) => Shown::Cut,
+        Err(_) => Shown::Refused,
     }
 }
 

@@ -4,6 +4,7 @@ use crate::octets::octets;
 use crate::reader::Reader;
 use crate::wrong::Wrong;
 use der_parser::ber::{BerObject, BerObjectContent};
+use der_parser::error::BerResult;
 use std::alloc::Global;
 
 /// A name, octets, and what a reader answers on them.
@@ -21,11 +22,10 @@ pub fn expect_answer(
     answer: &Answer,
 ) -> Result<(), Wrong> {
     let input = octets(alloc, text)?;
-    let given = reader.read(alloc, &input);
-    if answer.is_given_by(alloc, &given)? {
+    let Some(given) = other_answer(alloc, reader, &input, answer)? else {
         return Ok(());
-    }
-    let wrong = format!(in alloc; "{name}: {reader:?} of {text}: {given:?}")?;
+    };
+    let wrong = format!(in alloc; "{name}: {reader:?} of {text}: {given}")?;
     Err(Wrong::Answer(wrong))
 }
 
@@ -36,12 +36,34 @@ pub fn expect_answer_on(
     input: &[u8],
     answer: &Answer,
 ) -> Result<(), Wrong> {
-    let given = reader.read(alloc, input);
-    if answer.is_given_by(alloc, &given)? {
+    let Some(given) = other_answer(alloc, reader, input, answer)? else {
         return Ok(());
-    }
-    let wrong = format!(in alloc; "{reader:?} of {input:?}: {given:?}")?;
+    };
+    let wrong = format!(in alloc; "{reader:?} of {input:?}: {given}")?;
     Err(Wrong::Answer(wrong))
+}
+
+/// The text of what the reader answers on these octets, where it isn't this answer.
+fn other_answer(
+    alloc: Global,
+    reader: Reader,
+    input: &[u8],
+    answer: &Answer,
+) -> Result<Option<String>, Wrong> {
+    let given = reader.read(alloc, input);
+    text_of_other(alloc, &given, answer)
+}
+
+fn text_of_other(
+    alloc: Global,
+    given: &BerResult<'_>,
+    answer: &Answer,
+) -> Result<Option<String>, Wrong> {
+    if answer.is_given_by(alloc, given)? {
+        return Ok(None);
+    }
+    let text = format!(in alloc; "{given:?}")?;
+    Ok(Some(text))
 }
 
 /// The reader answers so on each row's octets.
@@ -60,13 +82,19 @@ pub fn expect_written(
     written: &str,
 ) -> Result<(), Wrong> {
     let input = octets(alloc, text)?;
-    let (_, object) = reader.read(alloc, &input)?;
-    let given = object.to_vec(alloc)?;
+    let given = written_again(alloc, reader, &input)?;
     if given.as_slice() == octets(alloc, written)?.as_slice() {
         return Ok(());
     }
     let wrong = format!(in alloc; "{text} is written as {given:?}")?;
     Err(Wrong::Answer(wrong))
+}
+
+/// What `to_vec` writes of the object that the reader reads.
+pub fn written_again(alloc: Global, reader: Reader, input: &[u8]) -> Result<Vec<u8>, Wrong> {
+    let (_, object) = reader.read(alloc, input)?;
+    let written = object.to_vec(alloc)?;
+    Ok(written)
 }
 
 /// The header of the object that the reader reads has these parts, or that of the item to which the
@@ -81,7 +109,17 @@ pub fn expect_header(
 ) -> Result<(), Wrong> {
     let input = octets(alloc, text)?;
     let (_, object) = reader.read(alloc, &input)?;
-    let item = item_at(&object, path).ok_or(Wrong::NoItem)?;
+    expect_header_at(alloc, &object, text, path, parts)
+}
+
+fn expect_header_at(
+    alloc: Global,
+    object: &BerObject<'_>,
+    text: &str,
+    path: &[usize],
+    parts: &Parts,
+) -> Result<(), Wrong> {
+    let item = item_at(object, path).ok_or(Wrong::NoItem)?;
     let kept = match &item.content {
         BerObjectContent::Unknown(any) => any.header,
         _ => item.header,

@@ -32,11 +32,23 @@ fn expect_read_alike<'a>(
     encoding: &'a [u8],
 ) -> Result<(), Wrong> {
     let (_, object) = ParseBerRecursive(depth).read(alloc, input)?;
-    let (rest, again) = ParseBerRecursive(depth).read(alloc, encoding)?;
-    if rest.is_empty() && again == object {
-        return expect_written(alloc, &object, encoding);
+    expect_object(alloc, depth, encoding, b"", &object)?;
+    expect_written(alloc, &object, encoding)
+}
+
+/// BER reads this object of the input, and leaves this rest.
+fn expect_object<'a>(
+    alloc: Global,
+    depth: usize,
+    input: &'a [u8],
+    rest: &[u8],
+    object: &BerObject<'a>,
+) -> Result<(), Wrong> {
+    let (left, again) = ParseBerRecursive(depth).read(alloc, input)?;
+    if left == rest && again == *object {
+        return Ok(());
     }
-    let wrong = format!(in alloc; "{input:?} to {depth}: {encoding:?} is {again:?}")?;
+    let wrong = format!(in alloc; "{input:?} to {depth}: {again:?}, and not {object:?}")?;
     Err(Wrong::Answer(wrong))
 }
 
@@ -56,10 +68,5 @@ fn expect_read_by_both(alloc: Global, depth: usize, input: &[u8]) -> Result<(), 
     let Ok((rest, object)) = ParseDerRecursive(depth).read(alloc, input) else {
         return Ok(());
     };
-    let (left, by_ber) = ParseBerRecursive(depth).read(alloc, input)?;
-    if left == rest && by_ber == object {
-        return Ok(());
-    }
-    let wrong = format!(in alloc; "{input:?} to {depth}: {by_ber:?}")?;
-    Err(Wrong::Answer(wrong))
+    expect_object(alloc, depth, input, rest, &object)
 }

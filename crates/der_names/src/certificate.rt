@@ -20,13 +20,23 @@ pub struct Names<'a> {
 pub fn parse_names<'a>(alloc: Global, i: &'a [u8]) -> IResult<&'a [u8], Names<'a>, BerError> {
     let (rest, certificate) = parse_der_slice(i, Tag::Sequence)?;
     let (_, fields) = parse_der_slice(certificate, Tag::Sequence)?;
-    let (behind, _version) = parse_version(fields)?;
-    let (behind, _serial_number) = parse_der_integer(behind)?;
-    let (behind, _algorithm) = parse_der_slice(behind, Tag::Sequence)?;
-    let (behind, issuer) = parse_name_with_arcs(alloc, behind)?;
+    let (behind, issuer) = parse_name_with_arcs(alloc, skip_to_issuer(fields)?)?;
     let (behind, _validity) = parse_der_slice(behind, Tag::Sequence)?;
     let (_, subject) = parse_name_with_arcs(alloc, behind)?;
     Ok((rest, Names { issuer, subject }))
+}
+
+/// Skips the version, the serial number and the algorithm.
+fn skip_to_issuer<'a>(i: &'a [u8]) -> Result<&'a [u8], Refused<BerError>> {
+    let (behind, _version) = parse_version(i)?;
+    let behind = skip_serial_number(behind)?;
+    let (behind, _algorithm) = parse_der_slice(behind, Tag::Sequence)?;
+    Ok(behind)
+}
+
+fn skip_serial_number<'a>(i: &'a [u8]) -> Result<&'a [u8], Refused<BerError>> {
+    let (behind, _) = parse_der_integer(i)?;
+    Ok(behind)
 }
 
 /// Reads the version, which is 0 where none is written: versions are counted from 0.

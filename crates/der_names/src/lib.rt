@@ -4,8 +4,6 @@
 mod attribute_types;
 mod certificate;
 mod name;
-#[cfg(test)]
-mod tests;
 mod text;
 
 pub use certificate::{Names, parse_names};

@@ -2,13 +2,13 @@
 ghost use Rattle.std.specs.Prelude.{◌≡◌, ◌<◌, length, OnErr, OnOk};
 
 use der_parser::IResult;
-use der_parser::ber::Any;
+use der_parser::ber::{Any, BerObject};
 use der_parser::der::{
     Tag, parse_der_bitstring, parse_der_bmpstring, parse_der_ia5string, parse_der_numericstring,
     parse_der_printablestring, parse_der_sequence_defined_g, parse_der_sequence_of_v,
     parse_der_set_of_v, parse_der_slice, parse_der_universalstring, parse_der_utf8string,
 };
-use der_parser::error::{BerError, Err as Refused, ErrorKind, Needed};
+use der_parser::error::{BerError, BerResult, Err as Refused, ErrorKind, Needed};
 use der_parser::oid::Oid;
 use std::alloc::Global;
 use std::borrow::CowSlice;
@@ -129,24 +129,30 @@ fn parse_type<'a>(i: &'a [u8]) -> IResult<&'a [u8], Oid<'a>, BerError> {
 /// Reads a value of the types that names have. Each is told by its identifier octet, which is the
 /// number of the type, since they are primitive and universal (X.690 8.1.2).
 fn parse_value<'a>(i: &'a [u8]) -> IResult<&'a [u8], Coding, BerError> {
-    let answer = match i.first() {
-        Some(12) => parse_der_utf8string(i),
-        Some(18) => parse_der_numericstring(i),
-        Some(19) => parse_der_printablestring(i),
-        Some(22) => parse_der_ia5string(i),
+    let rest = match i.first() {
+        Some(12) => behind(parse_der_utf8string(i)),
+        Some(18) => behind(parse_der_numericstring(i)),
+        Some(19) => behind(parse_der_printablestring(i)),
+        Some(22) => behind(parse_der_ia5string(i)),
         _ => return parse_rarer_value(i),
     };
+    Ok((rest?, Coding::Utf8))
+}
+
+/// What follows the object that was read.
+#[inline]
+fn behind<'a>(answer: BerResult<'a>) -> Result<&'a [u8], Refused<BerError>> {
     let (rest, _) = answer?;
-    Ok((rest, Coding::Utf8))
+    Ok(rest)
 }
 
 /// The same of the types that are rare.
 #[inline(never)]
 fn parse_rarer_value<'a>(i: &'a [u8]) -> IResult<&'a [u8], Coding, BerError> {
     Ok(match i.first() {
-        Some(3) => (parse_der_bitstring(i)?.0, Coding::NoText),
+        Some(3) => (behind(parse_der_bitstring(i))?, Coding::NoText),
         Some(20) => (parse_der_slice(i, Tag::T61String)?.0, Coding::Latin1),
-        Some(28) => (parse_der_universalstring(i)?.0, Coding::Universal),
+        Some(28) => (behind(parse_der_universalstring(i))?, Coding::Universal),
         Some(30) => (parse_bmpstring(i)?, Coding::Bmp),
         _ => return Err(Refused::Error(BerError::BerTypeError)),
     })
@@ -155,10 +161,17 @@ fn parse_rarer_value<'a>(i: &'a [u8]) -> IResult<&'a [u8], Coding, BerError> {
 /// Reads a BMPString without halves of characters, and answers what follows it.
 fn parse_bmpstring<'a>(i: &'a [u8]) -> Result<&'a [u8], Refused<BerError>> {
     let (rest, object) = parse_der_bmpstring(i)?;
-    if object.content.as_slice()?.chunks_exact(2).any(is_half) {
+    if has_half(&object) {
         return Err(Refused::Error(BerError::StringInvalidCharset));
     }
     Ok(rest)
+}
+
+/// Whether a half of a character stands in a BMPString.
+fn has_half(object: &BerObject<'_>) -> bool {
+    object
+        .as_slice()
+        .is_ok_and(|octets| octets.chunks_exact(2).any(is_half))
 }
 
 /// Whether two octets are half of a character of UTF-16.

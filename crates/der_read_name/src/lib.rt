@@ -2,7 +2,5 @@
 #![tactic(auto)]
 
 mod name;
-#[cfg(test)]
-mod name_rows;
 
 pub use name::{Attr, Name, read_name};

@@ -2,8 +2,6 @@
 #![tactic(auto)]
 
 mod fault;
-#[cfg(test)]
-mod refusals;
 mod request;
 
 pub use fault::{Fault, RequestError};

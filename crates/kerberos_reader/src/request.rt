@@ -50,17 +50,9 @@ fn read_body<'a>(alloc: Global, mut body: Cursor<'a>) -> Result<Request<'a>, Req
     let client = read_principal(alloc, &mut body, 1)?;
     let realm = open_field(&mut body, 2)?.read_last(parse_text)?;
     let server = read_principal(alloc, &mut body, 3)?;
-    let from = read_time(&mut body, 4)?;
-    let till = open_field(&mut body, 5)?.read_last(parse_time)?;
-    let renewable_till = read_time(&mut body, 6)?;
-    let _nonce = open_field(&mut body, 7)?.read_last(parse_der_u32)?;
-    let kinds = open_field(&mut body, 8)?;
-    let encryption_kinds = kinds.read_last_in(alloc, parse_numbers)?;
-    // Addresses, data for the server and further tickets aren't looked at.
-    for number in 9..=11 {
-        body.open_tagged(number)?;
-    }
-    body.end()?;
+    let (from, till, renewable_till) = read_times(&mut body)?;
+    let encryption_kinds = read_kinds(alloc, &mut body)?;
+    end_body(body)?;
     Ok(Request {
         client,
         realm,
@@ -70,6 +62,33 @@ fn read_body<'a>(alloc: Global, mut body: Cursor<'a>) -> Result<Request<'a>, Req
         renewable_till,
         encryption_kinds,
     })
+}
+
+/// A time that may be absent, one that is there, and another that may be absent.
+type Times = (Option<ASN1DateTime>, ASN1DateTime, Option<ASN1DateTime>);
+
+/// Reads the times between which the ticket is wanted, and until which it may be renewed.
+fn read_times(body: &mut Cursor<'_>) -> Result<Times, RequestError> {
+    let from = read_time(body, 4)?;
+    let till = open_field(body, 5)?.read_last(parse_time)?;
+    let renewable_till = read_time(body, 6)?;
+    Ok((from, till, renewable_till))
+}
+
+/// Reads the nonce, and the kinds of encryption.
+fn read_kinds(alloc: Global, body: &mut Cursor<'_>) -> Result<Vec<i32>, RequestError> {
+    open_field(body, 7)?.read_last(parse_der_u32)?;
+    let kinds = open_field(body, 8)?.read_last_in(alloc, parse_numbers)?;
+    Ok(kinds)
+}
+
+/// Reads to the end. Addresses, data for the server and further tickets aren't looked at.
+fn end_body(mut body: Cursor<'_>) -> Result<(), RequestError> {
+    for number in 9..=11 {
+        body.open_tagged(number)?;
+    }
+    body.end()?;
+    Ok(())
 }
 
 /// Opens a field that has to be there, and to hold a value of a universal type.

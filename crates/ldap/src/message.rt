@@ -93,10 +93,12 @@ fn names_of<'a>(alloc: Global, content: BerObject<'a>) -> Result<Vec<&'a [u8]>, 
 /// The text that an item is or begins with: an attribute its type, a change its attribute. Others,
 /// a password among them, have tags of their own. A text is its own only part here too.
 fn leading_name<'a>(item: BerObject<'a>) -> Option<&'a [u8]> {
-    let part = item.into_iter().find(is_text_or_list)?;
-    let part = part.into_iter().find(is_text_or_list)?;
-    let name = part.into_iter().find(is_text_or_list)?;
-    name.as_slice().ok()
+    let part = leading_part(leading_part(item)?)?;
+    leading_part(part)?.as_slice().ok()
+}
+
+fn leading_part<'a>(item: BerObject<'a>) -> Option<BerObject<'a>> {
+    item.into_iter().find(is_text_or_list)
 }
 
 fn is_text_or_list(object: &BerObject<'_>) -> bool {

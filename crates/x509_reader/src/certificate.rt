@@ -3,12 +3,12 @@ use crate::extension::{Extension, read_extension};
 use crate::values::{parse_bits, parse_identifier};
 use der_names::{Name, parse_name};
 use der_parser::IResult;
-use der_parser::ber::{ASN1DateTime, Any, BitStringObject};
+use der_parser::ber::{ASN1DateTime, Any, BerObject, BitStringObject};
 use der_parser::cursor::{Cursor, Refusal};
 use der_parser::der::{
     parse_der_generalizedtime, parse_der_integer, parse_der_u32, parse_der_utctime,
 };
-use der_parser::error::{BerError, Err as Refused};
+use der_parser::error::{BerError, BerResult, Err as Refused};
 use der_parser::oid::Oid;
 use std::alloc::Global;
 
@@ -49,29 +49,16 @@ fn read_fields<'a>(
     alloc: Global,
     mut fields: Cursor<'a>,
 ) -> Result<Certificate<'a>, Refusal<BerError>> {
-    let version = match fields.open_tagged(0)? {
-        Some(inside) => {
-            inside.assert_universal()?;
-            inside.read_last(parse_version)?
-        }
-        None => 1,
-    };
+    let version = read_version(&mut fields)?;
     fields.assert_universal()?;
     let serial_number = fields.read(parse_serial_number)?;
     let signature_algorithm = read_algorithm(&mut fields)?;
     fields.assert_universal()?;
     let issuer = fields.read_in(alloc, parse_name)?;
-    let mut validity = fields.open_sequence()?;
-    validity.assert_universal()?;
-    let not_before = validity.read(parse_time)?;
-    validity.assert_universal()?;
-    let not_after = validity.read_last(parse_time)?;
+    let (not_before, not_after) = read_validity(&mut fields)?;
     fields.assert_universal()?;
     let subject = fields.read_in(alloc, parse_name)?;
-    let mut key_info = fields.open_sequence()?;
-    let key_algorithm = read_algorithm(&mut key_info)?;
-    key_info.assert_universal()?;
-    let key = key_info.read_last(parse_bits)?;
+    let (key_algorithm, key) = read_key(&mut fields)?;
     let extensions = read_extensions(alloc, fields)?;
     Ok(Certificate {
         version,
@@ -85,6 +72,40 @@ fn read_fields<'a>(
         key,
         extensions,
     })
+}
+
+/// Reads a version that isn't there where it is the first.
+fn read_version(fields: &mut Cursor<'_>) -> Result<u32, Refusal<BerError>> {
+    match fields.open_tagged(0)? {
+        Some(inside) => {
+            inside.assert_universal()?;
+            inside.read_last(parse_version)
+        }
+        None => Ok(1),
+    }
+}
+
+/// Reads the times from which and until which the certificate is valid (4.1.2.5).
+fn read_validity(
+    fields: &mut Cursor<'_>,
+) -> Result<(ASN1DateTime, ASN1DateTime), Refusal<BerError>> {
+    let mut validity = fields.open_sequence()?;
+    validity.assert_universal()?;
+    let not_before = validity.read(parse_time)?;
+    validity.assert_universal()?;
+    let not_after = validity.read_last(parse_time)?;
+    Ok((not_before, not_after))
+}
+
+/// Reads a key, behind its algorithm (4.1.2.7).
+fn read_key<'a>(
+    fields: &mut Cursor<'a>,
+) -> Result<(Oid<'a>, BitStringObject<'a>), Refusal<BerError>> {
+    let mut key_info = fields.open_sequence()?;
+    let algorithm = read_algorithm(&mut key_info)?;
+    key_info.assert_universal()?;
+    let key = key_info.read_last(parse_bits)?;
+    Ok((algorithm, key))
 }
 
 /// Reads what follows the key: two identifiers that nobody writes any more, and the extensions.
@@ -118,10 +139,14 @@ fn parse_version(i: &[u8]) -> IResult<&[u8], u32, BerError> {
 /// Reads a number that isn't negative (4.1.2.2), without the octet that says so.
 fn parse_serial_number(i: &[u8]) -> IResult<&[u8], &[u8], BerError> {
     let (rest, number) = parse_der_integer(i)?;
+    Ok((rest, unsigned(&number)?))
+}
+
+fn unsigned<'a>(number: &BerObject<'a>) -> Result<&'a [u8], Refused<BerError>> {
     match number.as_slice()? {
         [0x80..=0xff, ..] => Err(Refused::Error(BerError::IntegerNegative)),
-        [0, octets @ ..] if !octets.is_empty() => Ok((rest, octets)),
-        octets => Ok((rest, octets)),
+        [0, octets @ ..] if !octets.is_empty() => Ok(octets),
+        octets => Ok(octets),
     }
 }
 
@@ -134,18 +159,20 @@ fn read_algorithm<'a>(fields: &mut Cursor<'a>) -> Result<Oid<'a>, Refusal<BerErr
 /// Reads a time, by its identifier octet (4.1.2.5).
 fn parse_time(i: &[u8]) -> IResult<&[u8], ASN1DateTime, BerError> {
     match i.first() {
-        Some(24) => {
-            let (rest, object) = parse_der_generalizedtime(i)?;
-            Ok((rest, object.as_datetime()?))
-        }
+        Some(24) => time_of(parse_der_generalizedtime(i)),
         _ => parse_utc_time(i),
     }
 }
 
+/// The time in an object that was read.
+fn time_of<'a>(answer: BerResult<'a>) -> IResult<&'a [u8], ASN1DateTime, BerError> {
+    let (rest, object) = answer?;
+    Ok((rest, object.as_datetime()?))
+}
+
 /// Reads a UTCTime. Its years are those from 1950.
 fn parse_utc_time(i: &[u8]) -> IResult<&[u8], ASN1DateTime, BerError> {
-    let (rest, object) = parse_der_utctime(i)?;
-    let mut time = object.as_datetime()?;
+    let (rest, mut time) = time_of(parse_der_utctime(i))?;
     let century = if time.year < 50 { 2000 } else { 1900 };
     time.year = time.year.saturating_add(century);
     Ok((rest, time))

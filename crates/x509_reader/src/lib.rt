@@ -3,8 +3,6 @@
 
 mod certificate;
 mod extension;
-#[cfg(test)]
-mod refusals;
 mod values;
 
 pub use certificate::{Certificate, read_certificate};

@@ -1,9 +1,9 @@
 //! Certificates that are refused, and where: a certificate that is read, with one octet changed.
-use crate::certificate::read_certificate;
 use der_parser::der::{Class, Tag};
 use der_parser::error::Err::{Error, Failure, Incomplete};
 use der_parser::error::{BerError, DerConstraint, Err as Refused, ErrorKind, Needed};
 use std::test::Fail;
+use x509_reader::read_certificate;
 
 /// A certificate (RFC 5280 4.1) of 95 octets, and one octet behind it.
 #[rattlefmt::skip]
@@ -43,18 +43,18 @@ const REFUSED: &[(&str, usize, usize, u8, usize, Refused<BerError>)] = &[
 
 #[test]
 fn certificates_are_refused(rt: HostRuntime) -> Result<(), Fail> {
-    let read = read_certificate(rt.alloc(), &CERTIFICATE[..95]);
-    assert!(rt; read.is_ok(), "{read:?}");
+    let refused = read_certificate(rt.alloc(), &CERTIFICATE[..95]).err();
+    assert!(rt; refused.is_none(), "{refused:?}");
     for (what, count, at, octet, offset, reason) in REFUSED {
         let mut octets = CERTIFICATE;
         if let Some(changed) = octets.get_mut(*at) {
             *changed = *octet;
         }
         let input = octets.get(..*count).unwrap_or(&[]);
-        let answer = read_certificate(rt.alloc(), input);
+        let refused = read_certificate(rt.alloc(), input).err();
         assert!(rt;
-            matches!(&answer, Err(e) if e.offset == *offset && e.reason == *reason),
-            "{what}: {answer:?}"
+            matches!(&refused, Some(e) if e.offset == *offset && e.reason == *reason),
+            "{what}: {refused:?}"
         );
     }
     Ok(())

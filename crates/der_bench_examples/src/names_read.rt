@@ -1,8 +1,9 @@
 //! Names as octets, and what is read of them.
-use crate::name::{Attr, Name, read_name};
 use der_parser::ber::Tag;
 use der_parser::error::Err::{Failure, Incomplete};
 use der_parser::error::{BerError, DerConstraint, Err as Refused, ErrorKind, Needed};
+use der_read_name::{Attr, Name, read_name};
+use std::process::Abort;
 use std::test::Fail;
 
 /// An attribute: the octets of its type, the tag number and the text of its value.
@@ -63,12 +64,20 @@ fn is_name(name: &Name<'_>, rows: &[&[Row]]) -> bool {
         })
 }
 
+/// The input is a name with these attributes, and nothing behind it.
+fn expect_name(rt: &(impl Abort + AllocGlobal), input: &[u8], rows: &[&[Row]]) -> Result<(), Fail> {
+    let (rest, name) = read_name(rt.alloc(), input)?;
+    assert!(rt;
+        rest.is_empty() && is_name(&name, rows),
+        "{rest:?} behind {name:?}"
+    );
+    Ok(())
+}
+
 #[test]
 fn names_are_read(rt: HostRuntime) -> Result<(), Fail> {
     for (input, rows) in NAMES {
-        let (rest, name) = read_name(rt.alloc(), input)?;
-        assert!(rt; rest.is_empty(), "{input:?}");
-        assert!(rt; is_name(&name, rows), "{input:?}: {name:?}");
+        expect_name(&rt, input, rows)?;
     }
     Ok(())
 }
@@ -76,11 +85,8 @@ fn names_are_read(rt: HostRuntime) -> Result<(), Fail> {
 #[test]
 fn names_are_refused(rt: HostRuntime) -> Result<(), Fail> {
     for (what, input, refusal) in REFUSED {
-        let answer = read_name(rt.alloc(), input);
-        assert!(rt;
-            matches!(&answer, Err(e) if e == refusal),
-            "{what}: {answer:?}"
-        );
+        let refused = read_name(rt.alloc(), input).err();
+        assert_eq!(rt; refused.as_ref(), Some(refusal), "{what}");
     }
     Ok(())
 }

@@ -1,5 +1,6 @@
 //! Requests that are refused, and where: a request that is read, with one octet changed.
-use crate::request::read_request;
+use kerberos_reader::read_request;
+use std::alloc::Global;
 use std::test::Fail;
 
 /// An AS-REQ (RFC 4120 5.4.1) of 67 octets, and one octet behind it.
@@ -38,20 +39,26 @@ const REFUSED: &[(&str, usize, usize, u8, usize, &str)] = &[
     ("a field 12, which there isn't", 67, 63, 0xac, 63, "parser fault: Eof"),
 ];
 
+/// The text of a refusal, or that there is none.
+fn refusal_of(alloc: Global, input: &[u8]) -> Result<String, Fail> {
+    let text = match read_request(alloc, input).err() {
+        Some(refused) => format!(in alloc; "{refused}")?,
+        None => format!(in alloc; "read")?,
+    };
+    Ok(text)
+}
+
 #[test]
 fn requests_are_refused(rt: HostRuntime) -> Result<(), Fail> {
-    let read = read_request(rt.alloc(), &REQUEST[..67]);
-    assert!(rt; read.is_ok(), "{read:?}");
+    let refused = read_request(rt.alloc(), &REQUEST[..67]).err();
+    assert!(rt; refused.is_none(), "{refused:?}");
     for (what, count, at, octet, offset, text) in REFUSED {
         let mut octets = REQUEST;
         if let Some(changed) = octets.get_mut(*at) {
             *changed = *octet;
         }
         let input = octets.get(..*count).unwrap_or(&[]);
-        let told = match read_request(rt.alloc(), input) {
-            Ok(_) => format!(in rt.alloc(); "read")?,
-            Err(e) => format!(in rt.alloc(); "{e}")?,
-        };
+        let told = refusal_of(rt.alloc(), input)?;
         let wanted = format!(in rt.alloc(); "at {offset}: {text}")?;
         assert_eq!(rt; told.as_str(), wanted.as_str(), "{what}");
     }

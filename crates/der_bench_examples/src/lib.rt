@@ -1,0 +1,11 @@
+//! The rows that the readers of the examples are tested on.
+#![tactic(auto)]
+
+#[cfg(test)]
+mod certificates_refused;
+#[cfg(test)]
+mod names_read;
+#[cfg(test)]
+mod names_written;
+#[cfg(test)]
+mod requests_refused;
