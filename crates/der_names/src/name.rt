@@ -129,18 +129,18 @@ fn parse_type<'a>(i: &'a [u8]) -> IResult<&'a [u8], Oid<'a>, BerError> {
 /// Reads a value of the types that names have. Each is told by its identifier octet, which is the
 /// number of the type, since they are primitive and universal (X.690 8.1.2).
 fn parse_value<'a>(i: &'a [u8]) -> IResult<&'a [u8], Coding, BerError> {
-    let rest = match i.first() {
-        Some(12) => behind(parse_der_utf8string(i)),
-        Some(18) => behind(parse_der_numericstring(i)),
-        Some(19) => behind(parse_der_printablestring(i)),
-        Some(22) => behind(parse_der_ia5string(i)),
+    let answer = match i.first() {
+        Some(12) => parse_der_utf8string(i),
+        Some(18) => parse_der_numericstring(i),
+        Some(19) => parse_der_printablestring(i),
+        Some(22) => parse_der_ia5string(i),
         _ => return parse_rarer_value(i),
     };
-    Ok((rest?, Coding::Utf8))
+    Ok((behind(answer)?, Coding::Utf8))
 }
 
 /// What follows the object that was read.
-#[inline]
+#[inline(always)]
 fn behind<'a>(answer: BerResult<'a>) -> Result<&'a [u8], Refused<BerError>> {
     let (rest, _) = answer?;
     Ok(rest)
