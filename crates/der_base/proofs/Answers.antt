@@ -1,4 +1,3 @@
 -- What a reader answers.
 pub mod Answering
 pub mod Exactness
-pub mod ItemAnswers

@@ -1,8 +1,1 @@
 -- Combinators that keep a parser.
-pub mod ContainerLaws
-pub mod DerContainers
-pub mod ListStepsLaws
-pub mod OpenedLaws
-pub mod SetOfOneOrder
-pub mod SetOfOrders
-pub mod TakenLaws

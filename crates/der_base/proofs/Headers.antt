@@ -2,4 +2,3 @@
 pub mod BerHeaders
 pub mod DerHeaders
 pub mod HeaderLaws
-pub mod StableHeaders

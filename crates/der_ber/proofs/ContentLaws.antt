@@ -11,7 +11,7 @@ use Rattle.der_base.specs.Octets.{identifier, shortest_length}
 use Rattle.der_base.specs.Refusal.{Refusal}
 use Rattle.der_base.specs.Spelling.{end_marker, Forms, form, BerSpells, framing_budget}
 use Rattle.der_base.specs.Tree.{Node, Content, node}
-use Rattle.der_base.proofs.Spellings.BerFaults.{spelled_shows_nothing, shows_one}
+use Rattle.der_laws.proofs.Spellings.BerFaults.{spelled_shows_nothing, shows_one}
 use Rattle.der_base.proofs.Framing.ContentLaws as framing
 use Rattle.der_base.proofs.Spellings.Contents as contents
 use Rattle.der_base.proofs.Framing.Framed.{elements_more}

@@ -24,7 +24,7 @@ use Rattle.der_base.specs.Leaf.{is_list, is_mapped, IsLeafContent}
 use Rattle.der_base.specs.Refusal.{Refusal}
 use Rattle.der_base.specs.Spelling.{BeginsWithElement, form, Forms, no_forms, Joins, framing_budget}
 use Rattle.der_base.specs.Tree.{Content, sequence, set}
-use Rattle.der_base.proofs.Spellings.BerFaults.{any_shows, content_shows, cut_shows_nothing}
+use Rattle.der_laws.proofs.Spellings.BerFaults.{any_shows, content_shows, cut_shows_nothing}
 use Rattle.der_base.proofs.Framing.FramingLaws.{framed_begins}
 use Rattle.der_base.proofs.Framing.FramedIsSpelling.{joins_now, spells_then}
 use Rattle.der_object.specs.declared.object.BerObject.{BerObject}

@@ -3,7 +3,7 @@ use Rattle.std.proofs.Common.{◌≡◌, ℕ, true, List, ◌++◌, refl, sym, a
 use Rattle.der_base.specs.declared.header.Class.TheVariants.{Universal}
 use Rattle.der_base.specs.Spelling.{BeginsWithBer, BerSpells, framing_budget}
 use Rattle.der_base.specs.Tree.{Node}
-use Rattle.der_base.proofs.Spellings.BerFaults as faults
+use Rattle.der_laws.proofs.Spellings.BerFaults as faults
 use Rattle.der_base.proofs.Framing.Cuts.{lacks_same}
 use Rattle.der_base.proofs.Framing.FramingLaws.{begins_not_cut}
 use Rattle.der_base.proofs.Answers.Exactness.{ShowsOne}

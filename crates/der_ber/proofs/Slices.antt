@@ -11,7 +11,7 @@ use Rattle.der_base.proofs.Answers.Exactness.{ShowsOne}
 use Rattle.der_base.proofs.Framing.Cuts.{lacks_same}
 use Rattle.der_base.proofs.Framing.UniqueSpelling.{begins_same}
 use Rattle.der_base.proofs.Framing.FramingLaws.{begins_not_refused, begins_not_cut, any_refusal_same}
-use Rattle.der_base.proofs.Containers.ContainerLaws.{short_lacks, begins_not_short}
+use Rattle.der_laws.proofs.Containers.ContainerLaws.{short_lacks, begins_not_short}
 use Rattle.der_ber.specs.BerSlices.{ReadsSlice, SliceRefuses, slice_value_of}
 
 -- what a container refuses, told by the errors of the crate

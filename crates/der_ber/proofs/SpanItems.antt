@@ -11,7 +11,7 @@ use Rattle.der_base.specs.Refusal.{Refusal, max_depth}
 use Rattle.der_base.specs.Inner.Spans.{IsSpan, AreSpans, AreInside, open_octets, span_octets}
 use Rattle.der_base.specs.Spelling.{BeginsWithElement, form, framing_budget}
 use Rattle.der_base.proofs.Framing.FramingLaws.{framed_begins, element_shorter}
-use Rattle.der_base.proofs.Answers.ItemAnswers.{some_octets, some_content}
+use Rattle.der_laws.proofs.Answers.ItemAnswers.{some_octets, some_content}
 use Rattle.der_base.proofs.Framing.Recording.{FirstSpan, first_span, span_octets_append}
 use Rattle.der_base.proofs.Framing.FramedIsSpelling.{spells_then}
 use Rattle.der_object.specs.declared.object.BerObject.{BerObject}

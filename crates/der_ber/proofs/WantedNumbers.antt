@@ -13,7 +13,7 @@ use Rattle.der_base.specs.Header.{class_of, is_constructed, number_of, length_of
 use Rattle.der_base.specs.Headers.{BeginsWithHeader, ReadsHeader}
 use Rattle.der_base.specs.Leaf.{is_list}
 use Rattle.der_base.specs.Tree.{Node, node, Content}
-use Rattle.der_base.proofs.Spellings.BerFaults.{spelled_begins, spelled_shows_nothing, shows_one}
+use Rattle.der_laws.proofs.Spellings.BerFaults.{spelled_begins, spelled_shows_nothing, shows_one}
 use Rattle.der_base.proofs.Framing.UniqueSpelling.{begins_same}
 use Rattle.der_base.proofs.Framing.FramingLaws.{begins_not_cut, begins_not_refused}
 use Rattle.der_base.proofs.Answers.Exactness.{ShowsOne}

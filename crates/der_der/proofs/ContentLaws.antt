@@ -12,8 +12,8 @@ use Rattle.der_base.specs.Headers.{BeginsWithDerHeader}
 use Rattle.der_base.specs.Refusal.{Refusal}
 use Rattle.der_base.specs.Spelling.{DerSpells}
 use Rattle.der_base.specs.Tree.{node, Content}
-use Rattle.der_base.proofs.Spellings.DerFaults.{spelled_shows_nothing, shows_one}
-use Rattle.der_base.proofs.Spellings.DerWithinBer.{valid_element, der_spelling_same, element_header}
+use Rattle.der_laws.proofs.Spellings.DerFaults.{spelled_shows_nothing, shows_one}
+use Rattle.der_laws.proofs.Spellings.DerWithinBer.{valid_element, der_spelling_same, element_header}
 use Rattle.der_base.proofs.Octets.Identifiers.{fronts_same}
 use Rattle.der_base.proofs.Answers.Exactness.{ShowsOne}
 use Rattle.der_object.specs.Readings.{content_value_of}

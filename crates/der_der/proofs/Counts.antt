@@ -12,7 +12,7 @@ use Rattle.der_base.specs.Spelling.{IsDerValid, IsDerContent, AreDerValid}
 use Rattle.der_base.specs.Tree.{Node, node, Content, sequence, set, Nodes, no_nodes, nodes}
 use Rattle.der_base.proofs.Octets.Identifiers.{identifier_octets}
 use Rattle.der_base.proofs.Spellings.Counted.{object_counted, sequence_counted, set_counted, items_counted, one_then_some, some_then_some}
-use Rattle.der_base.proofs.Spellings.DerWithinBer.{valid_element}
+use Rattle.der_laws.proofs.Spellings.DerWithinBer.{valid_element}
 use Rattle.der_object.specs.declared.object.BerObject.{BerObject}
 use Rattle.der_object.specs.Counting.{CountsJustObjects}
 use Rattle.der_object.specs.Readings.{Answer}

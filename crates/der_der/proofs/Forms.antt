@@ -6,9 +6,9 @@ use Rattle.der_base.specs.Leaf.{is_list, is_mapped, IsLeafContent, IsDerLeaf}
 use Rattle.der_base.specs.LeafRefusal.{Test, IsFirstRefusal, choose, BerLeafRefuses, DerLeafRefuses, ber_tests, der_primitive_tests}
 use Rattle.der_base.specs.Refusal.{Refusal}
 use Rattle.der_base.specs.Tree.{Content}
-use Rattle.der_base.proofs.Leaves.AlwaysDer.{always_der}
-use Rattle.der_base.proofs.Leaves.NeverBoth.{never_both_ber}
-use Rattle.der_base.proofs.Leaves.OneContent.{one_content}
+use Rattle.der_laws.proofs.Leaves.AlwaysDer.{always_der}
+use Rattle.der_laws.proofs.Leaves.NeverBoth.{never_both_ber}
+use Rattle.der_laws.proofs.Leaves.OneContent.{one_content}
 use Rattle.der_base.proofs.Leaves.Refusals.{first_refusal_once}
 use Rattle.der_base.proofs.Octets.Shortest.{IsOctet}
 use Rattle.der_der.specs.Inner.DerForms.{IsInForm}

@@ -20,9 +20,9 @@ use Rattle.der_base.specs.Refusal.{Refusal, invalid_length}
 use Rattle.der_base.specs.Spelling.{IsDerContent, AreDerValid, max_object_size}
 use Rattle.der_base.specs.Tree.{Content, end_of_content, boolean, integer, bit_string, string, null, enumerated, object_identifier, relative_oid, time, sequence, set, absent, present, tagged, unknown, Nodes, no_nodes, nodes, content_height, list_height}
 use Rattle.der_base.specs.Stable.{DerIsCut}
-use Rattle.der_base.proofs.Spellings.DerFaults.{header_shows, size_shows, behind_shows, header_cut_shows_nothing, content_cut_shows_nothing}
-use Rattle.der_base.proofs.Spellings.DerLacking.{der_header_cut, der_content_cut}
-use Rattle.der_base.proofs.Spellings.DerWithinBer.{valid_element}
+use Rattle.der_laws.proofs.Spellings.DerFaults.{header_shows, size_shows, behind_shows, header_cut_shows_nothing, content_cut_shows_nothing}
+use Rattle.der_laws.proofs.Spellings.DerLacking.{der_header_cut, der_content_cut}
+use Rattle.der_laws.proofs.Spellings.DerWithinBer.{valid_element}
 use Rattle.der_base.proofs.Octets.Identifiers.{identifier_octets}
 use Rattle.der_object.specs.declared.object.BerObject.{BerObject}
 use Rattle.der_object.specs.declared.object.BerObjectContent.{BerObjectContent}

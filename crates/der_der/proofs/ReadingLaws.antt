@@ -10,9 +10,9 @@ use Rattle.der_base.specs.Stable.{DerIsCut}
 use Rattle.der_base.specs.Tree.{Node}
 use Rattle.der_base.proofs.Framing.Shapes.{cut_is_none}
 use Rattle.der_base.proofs.Octets.ShortestLengths.{shortest_spells}
-use Rattle.der_base.proofs.Spellings.DerLacking.{der_lacks_same}
-use Rattle.der_base.proofs.Spellings.DerWithinBer.{der_spelling_same, der_spelled_not_cut}
-use Rattle.der_base.proofs.Spellings.DerFaults.{spelled_shows_nothing, shows_one}
+use Rattle.der_laws.proofs.Spellings.DerLacking.{der_lacks_same}
+use Rattle.der_laws.proofs.Spellings.DerWithinBer.{der_spelling_same, der_spelled_not_cut}
+use Rattle.der_laws.proofs.Spellings.DerFaults.{spelled_shows_nothing, shows_one}
 use Rattle.der_base.proofs.Answers.Exactness.{ShowsOne}
 use Rattle.der_base.specs.Fault.{DerShowsFault}
 use Rattle.der_object.specs.Readings.{value_of}

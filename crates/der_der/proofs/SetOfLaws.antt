@@ -7,8 +7,8 @@ use Rattle.der_base.specs.Containers.{Answered}
 use Rattle.der_base.specs.Inner.Taken.{one_more, ended, refused}
 use Rattle.der_base.specs.ListSteps.{Calls, one_more as one_call_more, taken}
 use Rattle.der_base.specs.SetOfOrder.{Descends, DescendsAtEnd, IsAscending, OrderedSteps, in_order as steps_in_order, out_of_order as steps_out_of_order}
-use Rattle.der_base.proofs.Containers.SetOfOrders.{descends_greater}
-use Rattle.der_base.proofs.Containers.TakenLaws.{last_of}
+use Rattle.der_laws.proofs.Containers.SetOfOrders.{descends_greater}
+use Rattle.der_laws.proofs.Containers.TakenLaws.{last_of}
 use Rattle.der_der.specs.Inner.InOrder.{StandsBehind, TakesInOrder, in_order, out_of_order, told}
 
 -- s is the last of the lists ss, or empty where there is none

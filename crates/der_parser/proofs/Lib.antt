@@ -1,13 +1,13 @@
 -- The laws of the definitions and of answers, under this name.
 pub use Rattle.der_base.proofs.Answers.Answering
-pub use Rattle.der_base.proofs.Spellings.BerFaults
-pub use Rattle.der_base.proofs.Spellings.DerFaults
-pub use Rattle.der_base.proofs.Spellings.DerWithinBer
+pub use Rattle.der_laws.proofs.Spellings.BerFaults
+pub use Rattle.der_laws.proofs.Spellings.DerFaults
+pub use Rattle.der_laws.proofs.Spellings.DerWithinBer
 pub use Rattle.der_base.proofs.Answers.Exactness
 pub use Rattle.der_base.proofs.Framing.UniqueSpelling
-pub use Rattle.der_base.proofs.Containers.ContainerLaws
-pub use Rattle.der_base.proofs.Containers.DerContainers
+pub use Rattle.der_laws.proofs.Containers.ContainerLaws
+pub use Rattle.der_laws.proofs.Containers.DerContainers
 pub use Rattle.der_base.proofs.Headers.DerHeaders
-pub use Rattle.der_base.proofs.Headers.StableHeaders
+pub use Rattle.der_laws.proofs.Headers.StableHeaders
 pub use Rattle.der_base.proofs.Octets.Identifiers
-pub use Rattle.der_base.proofs.PrettyLaws
+pub use Rattle.der_laws.proofs.PrettyLaws

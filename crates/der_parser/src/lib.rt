@@ -105,17 +105,19 @@ pub mod oid {
 /// whose contract is the law.
 pub mod laws {
     pub use der_base::laws::{
-        always_one, appended_lengthen_headers, appended_only_lengthen, clones_are_the_value,
-        clones_want_no_memory, der_is_within_ber, encoding_is_normal_form, equals_are_alike,
-        equals_are_the_same, faults_are_one, fronts_are_cut, header_fronts_are_cut,
-        integers_are_shortest, lengths_are_shortest, lengths_show_in_headers, never_both,
-        numbers_fit_or_are_refused, one_content, one_refusal, opened_in_one_way,
-        opened_never_refused, refused_headers_stay_refused, set_of_has_one_order,
-        spellings_are_one, tag_numbers_are_shortest, unused_bits_are_last,
+        clones_are_the_value, clones_want_no_memory, equals_are_alike, equals_are_the_same,
     };
     pub use der_base::oid::arcs_come_back;
     pub use der_ber::laws::written_is_read_back;
     pub use der_cursor::laws::places_are_exact;
     pub use der_der::laws::written_is_what_was_read;
+    pub use der_laws::{
+        always_one, appended_lengthen_headers, appended_only_lengthen, der_is_within_ber,
+        encoding_is_normal_form, faults_are_one, fronts_are_cut, header_fronts_are_cut,
+        integers_are_shortest, lengths_are_shortest, lengths_show_in_headers, never_both,
+        numbers_fit_or_are_refused, one_content, one_refusal, opened_in_one_way,
+        opened_never_refused, refused_headers_stay_refused, set_of_has_one_order,
+        spellings_are_one, tag_numbers_are_shortest, unused_bits_are_last,
+    };
     pub use der_object::laws::{equals_have_one_tree, small_clones_are_the_value};
 }

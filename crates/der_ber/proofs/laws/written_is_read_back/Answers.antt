@@ -1,7 +1,7 @@
 use Rattle.std.proofs.Common.{[], sym, ◌∙◌}
 use Rattle.std.proofs.lemmas.List.{append-nil}
-use Rattle.der_base.proofs.Spellings.BerFaults.{spelling_same}
-use Rattle.der_base.proofs.Spellings.NormalForm.{encoding_normal_form}
+use Rattle.der_laws.proofs.Spellings.BerFaults.{spelling_same}
+use Rattle.der_laws.proofs.Spellings.NormalForm.{encoding_normal_form}
 use Rattle.der_base.specs.Encoding.{encoding}
 use Rattle.der_base.specs.Spelling.{framing_budget}
 use Rattle.der_object.specs.HeaderFacts.{form_of}

@@ -1,7 +1,7 @@
 use Rattle.std.proofs.Common.{rules, of_calls, refl, []}
 use Rattle.std.proofs.lemmas.Result.{err_from_is_err_and}
 use Rattle.der_base.specs.ListSteps.{no_call}
-use Rattle.der_base.proofs.Containers.TakenLaws.{taken_on, taken_end, taken_refused}
+use Rattle.der_laws.proofs.Containers.TakenLaws.{taken_on, taken_end, taken_refused}
 use Rattle.der_ber.proofs.lists.read_objects.Goals as goal
 
 pub loop-objects-init : goal.loop-objects-init

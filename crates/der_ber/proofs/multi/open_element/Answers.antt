@@ -1,5 +1,5 @@
 use Rattle.der_base.specs.Containers.{too_short}
-use Rattle.der_base.proofs.Containers.ContainerLaws.{converted}
+use Rattle.der_laws.proofs.Containers.ContainerLaws.{converted}
 use Rattle.der_ber.proofs.multi.open_element.Goals as goal
 
 pub returns-in-Some-clause-err : goal.returns-in-Some-clause-err

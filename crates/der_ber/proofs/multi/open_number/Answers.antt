@@ -1,4 +1,4 @@
-use Rattle.der_base.proofs.Containers.OpenedLaws.{number_opened, number_refused}
+use Rattle.der_laws.proofs.Containers.OpenedLaws.{number_opened, number_refused}
 use Rattle.der_ber.proofs.multi.open_number.Goals as goal
 
 pub returns-clause-ok : goal.returns-clause-ok

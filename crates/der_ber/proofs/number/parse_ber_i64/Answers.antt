@@ -2,7 +2,7 @@ use Rattle.std.proofs.Common.{rules, ◌∙◌, SFits, w64}
 use Rattle.std.proofs.lemmas.Int.{to_z-of_z}
 use Rattle.std.proofs.lemmas.Result.{err_from_is_err_and}
 use Rattle.der_base.specs.Numbers.{signed}
-use Rattle.der_base.proofs.Leaves.NumberReaders.{ber_number_read, ber_number_refused, ber_number_unread}
+use Rattle.der_laws.proofs.Leaves.NumberReaders.{ber_number_read, ber_number_refused, ber_number_unread}
 use Rattle.der_ber.proofs.number.parse_ber_i64.Goals as goal
 
 pub returns-in_err-rest : goal.returns-in_err-rest

@@ -1,5 +1,5 @@
 use Rattle.der_base.proofs.Answers.Exactness.{exactly}
-use Rattle.der_base.proofs.Spellings.StableAnswers.{ber_answer_stays}
+use Rattle.der_laws.proofs.Spellings.StableAnswers.{ber_answer_stays}
 use Rattle.der_ber.proofs.ReadingLaws.{ber_shows_one, cut_needs}
 use Rattle.der_ber.proofs.parser.parse_ber_counted.Goals as goal
 

@@ -10,7 +10,7 @@ use Rattle.der_base.specs.Leaf.{is_mapped, IsLeafContent}
 use Rattle.der_base.specs.LeafRefusal.{BerLeafRefuses}
 use Rattle.der_base.specs.Refusal.{refusal}
 use Rattle.der_base.proofs.Answers.Answering.{passed_on, answered, ok_with}
-use Rattle.der_base.proofs.Answers.ItemAnswers.{item_answer, some_content, some_octets}
+use Rattle.der_laws.proofs.Answers.ItemAnswers.{item_answer, some_content, some_octets}
 use Rattle.der_object.specs.View.{content_tree, trees}
 use Rattle.der_object.specs.HeaderFacts.{forms_of}
 use Rattle.der_object.proofs.Counting.{sequence_content_count, set_content_count, item_count_push}

@@ -1,4 +1,4 @@
-use Rattle.der_base.proofs.Containers.OpenedLaws.{explicit_opened, explicit_refused}
+use Rattle.der_laws.proofs.Containers.OpenedLaws.{explicit_opened, explicit_refused}
 use Rattle.der_ber.proofs.tagged.open_explicit.Goals as goal
 
 pub returns-clause-ok : goal.returns-clause-ok

@@ -1,7 +1,7 @@
 use Rattle.std.proofs.Common.{◌++◌, [], sym, subst, ap, ◌∙◌}
 use Rattle.std.proofs.lemmas.List.{append-nil}
-use Rattle.der_base.proofs.Spellings.BerFaults.{spelling_same}
-use Rattle.der_base.proofs.Spellings.DerWithinBer.{der_within_ber}
+use Rattle.der_laws.proofs.Spellings.BerFaults.{spelling_same}
+use Rattle.der_laws.proofs.Spellings.DerWithinBer.{der_within_ber}
 use Rattle.der_base.specs.Encoding.{encoding}
 use Rattle.der_base.specs.Spelling.{DerSpells}
 use Rattle.der_object.specs.View.{tree}

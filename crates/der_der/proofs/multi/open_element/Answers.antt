@@ -1,6 +1,6 @@
 use Rattle.std.proofs.Common.{sym, ◌∙◌}
 use Rattle.der_base.specs.Containers.{too_short}
-use Rattle.der_base.proofs.Containers.DerContainers.{short_der_behind, converted_der}
+use Rattle.der_laws.proofs.Containers.DerContainers.{short_der_behind, converted_der}
 use Rattle.der_der.proofs.multi.open_element.Goals as goal
 
 pub returns-in-Err-clause-err : goal.returns-in-Err-clause-err

@@ -1,6 +1,6 @@
 use Rattle.der_base.proofs.Answers.Answering.{ok_with}
 use Rattle.der_base.proofs.Answers.Exactness.{exactly}
-use Rattle.der_base.proofs.Spellings.StableAnswers.{der_answer_stays}
+use Rattle.der_laws.proofs.Spellings.StableAnswers.{der_answer_stays}
 use Rattle.der_der.proofs.Counts.{bounded_read}
 use Rattle.der_der.proofs.ReadingLaws.{der_shows_one, cut_needs_none}
 use Rattle.der_der.proofs.parser.parse_der_counted.Goals as goal

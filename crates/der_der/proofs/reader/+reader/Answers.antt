@@ -12,8 +12,8 @@ use Rattle.der_base.specs.Leaf.{is_mapped, IsDerLeaf}
 use Rattle.der_base.specs.LeafRefusal.{DerLeafRefuses}
 use Rattle.der_base.specs.Refusal.{refusal}
 use Rattle.der_base.proofs.Answers.Answering.{passed_on, answered, ok_weaker}
-use Rattle.der_base.proofs.Spellings.DerWithinBer.{content_tall}
-use Rattle.der_base.proofs.Answers.ItemAnswers.{item_answer, some_content}
+use Rattle.der_laws.proofs.Spellings.DerWithinBer.{content_tall}
+use Rattle.der_laws.proofs.Answers.ItemAnswers.{item_answer, some_content}
 use Rattle.der_base.specs.Count.{some_more}
 use Rattle.der_base.specs.Listing.{object_count, content_count}
 use Rattle.der_base.proofs.Spellings.Counted.{leaf_counted}

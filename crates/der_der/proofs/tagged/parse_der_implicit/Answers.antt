@@ -1,4 +1,4 @@
-use Rattle.der_base.proofs.Containers.OpenedLaws.{opened_run}
+use Rattle.der_laws.proofs.Containers.OpenedLaws.{opened_run}
 use Rattle.der_der.proofs.tagged.parse_der_implicit.Goals as goal
 
 pub returns : goal.returns

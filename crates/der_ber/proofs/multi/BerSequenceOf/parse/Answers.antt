@@ -1,5 +1,5 @@
 use Rattle.std.proofs.Common.{refl}
-use Rattle.der_base.proofs.Containers.OpenedLaws.{opened_run, remade_run}
+use Rattle.der_laws.proofs.Containers.OpenedLaws.{opened_run, remade_run}
 use Rattle.der_ber.proofs.multi.BerSequenceOf.parse.Goals as goal
 
 pub parse_objects-requires : goal.parse_objects-requires

@@ -1,6 +1,6 @@
 use Rattle.std.proofs.Common.{refl}
-use Rattle.der_base.proofs.Containers.ContainerLaws.{one_call, no_call, number_begins_not_refused, number_opens_not_refused}
-use Rattle.der_base.proofs.Containers.OpenedLaws.{opened_run}
+use Rattle.der_laws.proofs.Containers.ContainerLaws.{one_call, no_call, number_begins_not_refused, number_opens_not_refused}
+use Rattle.der_laws.proofs.Containers.OpenedLaws.{opened_run}
 use Rattle.der_ber.proofs.multi.BerSetDefinedG.parse.Goals as goal
 
 pub parse_content-requires : goal.parse_content-requires

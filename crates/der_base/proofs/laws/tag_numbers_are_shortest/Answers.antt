@@ -1,5 +1,0 @@
-use Rattle.der_base.proofs.StatedLaws.{groups_shortest}
-use Rattle.der_base.proofs.laws.tag_numbers_are_shortest.Goals as goal
-
-pub returns : goal.returns
-returns c = groups_shortest
