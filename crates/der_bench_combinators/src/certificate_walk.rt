@@ -1,7 +1,7 @@
 //! A certificate (RFC 5280 4.1), walked by parsers of contents, which keep nothing and take no memory.
 use der_parser::IResult;
 use der_parser::der::{
-    Tag, parse_der_bitstring, parse_der_bool, parse_der_integer, parse_der_octetstring,
+    Header, Tag, parse_der_bitstring, parse_der_bool, parse_der_integer, parse_der_octetstring,
     parse_der_oid, parse_der_sequence_defined_g, parse_der_set_defined_g,
     parse_der_tagged_explicit_g, parse_der_u32, parse_der_utctime, parse_der_utf8string,
 };
@@ -40,26 +40,25 @@ fn walked(answer: BerResult<'_>) -> Walked<'_> {
     Ok((behind, ()))
 }
 
-/// Walks a certificate: what is signed, the algorithm, and the signature.
+/// Walks a certificate.
 fn walk_certificate(i: &[u8]) -> Walked<'_> {
-    parse_der_sequence_defined_g(|content, _| {
-        let (behind, _) = walk_signed(content)?;
-        let (behind, _) = walk_algorithm(behind)?;
-        walk_bits(behind)
-    })
-    .parse(i)
+    parse_der_sequence_defined_g(walk_parts).parse(i)
 }
 
-/// Walks what is signed, up to the extensions.
-fn walk_signed(i: &[u8]) -> Walked<'_> {
-    parse_der_sequence_defined_g(|content, _| {
-        let (behind, _) = walk_version_and_serial(content)?;
-        let (behind, _) = walk_algorithm(behind)?;
-        let (behind, _) = walk_names(behind)?;
-        let (behind, _) = walk_key(behind)?;
-        walk_extensions(behind)
-    })
-    .parse(i)
+/// Walks what is signed, the algorithm, and the signature.
+fn walk_parts<'a>(i: &'a [u8], _: Header<'a>) -> Walked<'a> {
+    let (behind, _) = parse_der_sequence_defined_g(walk_fields).parse(i)?;
+    let (behind, _) = walk_algorithm(behind)?;
+    walk_bits(behind)
+}
+
+/// Walks the fields of what is signed, up to the extensions.
+fn walk_fields<'a>(i: &'a [u8], _: Header<'a>) -> Walked<'a> {
+    let (behind, _) = walk_version_and_serial(i)?;
+    let (behind, _) = walk_algorithm(behind)?;
+    let (behind, _) = walk_names(behind)?;
+    let (behind, _) = parse_der_sequence_defined_g(walk_key).parse(behind)?;
+    walk_extensions(behind)
 }
 
 /// Walks a version, and a serial number.
@@ -77,14 +76,19 @@ fn walk_version(i: &[u8]) -> Walked<'_> {
 
 /// Walks the issuer's name, the validity and the subject's name.
 fn walk_names(i: &[u8]) -> Walked<'_> {
-    let (behind, _) = walk_name(i)?;
-    let (behind, _) = walk_validity(behind)?;
-    walk_name(behind)
+    let (behind, _) = parse_der_sequence_defined_g(walk_relative_name).parse(i)?;
+    let (behind, _) = parse_der_sequence_defined_g(walk_times).parse(behind)?;
+    parse_der_sequence_defined_g(walk_relative_name).parse(behind)
 }
 
 /// Walks an algorithm without parameters.
 fn walk_algorithm(i: &[u8]) -> Walked<'_> {
-    parse_der_sequence_defined_g(|content, _| walk_identifier(content)).parse(i)
+    parse_der_sequence_defined_g(walk_type).parse(i)
+}
+
+/// Walks the content of an algorithm.
+fn walk_type<'a>(i: &'a [u8], _: Header<'a>) -> Walked<'a> {
+    walk_identifier(i)
 }
 
 /// Walks an OBJECT IDENTIFIER.
@@ -97,29 +101,26 @@ fn walk_bits(i: &[u8]) -> Walked<'_> {
     walked(parse_der_bitstring(i))
 }
 
-/// Walks a name of one relative name with one attribute.
-fn walk_name(i: &[u8]) -> Walked<'_> {
-    parse_der_sequence_defined_g(|content, _| {
-        parse_der_set_defined_g(|attributes, _| walk_attribute(attributes)).parse(content)
-    }).parse(i)
+/// Walks a relative name of one attribute.
+fn walk_relative_name<'a>(i: &'a [u8], _: Header<'a>) -> Walked<'a> {
+    parse_der_set_defined_g(walk_attributes).parse(i)
 }
 
-/// Walks an attribute whose value is a UTF8String.
-fn walk_attribute(i: &[u8]) -> Walked<'_> {
-    parse_der_sequence_defined_g(|content, _| {
-        let (behind, _) = walk_identifier(content)?;
-        walked(parse_der_utf8string(behind))
-    })
-    .parse(i)
+/// Walks the content of a relative name.
+fn walk_attributes<'a>(i: &'a [u8], _: Header<'a>) -> Walked<'a> {
+    parse_der_sequence_defined_g(walk_attribute).parse(i)
+}
+
+/// Walks an attribute's type, and its value, a UTF8String.
+fn walk_attribute<'a>(i: &'a [u8], _: Header<'a>) -> Walked<'a> {
+    let (behind, _) = walk_identifier(i)?;
+    walked(parse_der_utf8string(behind))
 }
 
 /// Walks two times.
-fn walk_validity(i: &[u8]) -> Walked<'_> {
-    parse_der_sequence_defined_g(|content, _| {
-        let (behind, _) = walk_time(content)?;
-        walk_time(behind)
-    })
-    .parse(i)
+fn walk_times<'a>(i: &'a [u8], _: Header<'a>) -> Walked<'a> {
+    let (behind, _) = walk_time(i)?;
+    walk_time(behind)
 }
 
 /// Walks a time.
@@ -127,35 +128,33 @@ fn walk_time(i: &[u8]) -> Walked<'_> {
     walked(parse_der_utctime(i))
 }
 
-/// Walks a key.
-fn walk_key(i: &[u8]) -> Walked<'_> {
-    parse_der_sequence_defined_g(|content, _| {
-        let (behind, _) = walk_algorithm(content)?;
-        walk_bits(behind)
-    })
-    .parse(i)
+/// Walks a key's algorithm, and its bits.
+fn walk_key<'a>(i: &'a [u8], _: Header<'a>) -> Walked<'a> {
+    let (behind, _) = walk_algorithm(i)?;
+    walk_bits(behind)
 }
 
-/// Walks three extensions under the tag [3].
+/// Walks the extensions under the tag [3].
 fn walk_extensions(i: &[u8]) -> Walked<'_> {
-    parse_der_tagged_explicit_g(Tag(3), |content, _| {
-        parse_der_sequence_defined_g(|extensions, _| {
-            let (behind, _) = walk_extension(extensions)?;
-            let (behind, _) = walk_extension(behind)?;
-            walk_extension(behind)
-        })
-        .parse(content)
-    })
-    .parse(i)
+    parse_der_tagged_explicit_g(Tag(3), walk_list_of_extensions).parse(i)
 }
 
-/// Walks an extension: an identifier, whether it is critical, and its octets.
-fn walk_extension(i: &[u8]) -> Walked<'_> {
-    parse_der_sequence_defined_g(|content, _| {
-        let (behind, _) = walk_identifier(content)?;
-        walked(parse_der_octetstring(behind_critical(behind)))
-    })
-    .parse(i)
+/// Walks a list of extensions.
+fn walk_list_of_extensions<'a>(i: &'a [u8], _: Header<'a>) -> Walked<'a> {
+    parse_der_sequence_defined_g(walk_three_extensions).parse(i)
+}
+
+/// Walks three extensions.
+fn walk_three_extensions<'a>(i: &'a [u8], _: Header<'a>) -> Walked<'a> {
+    let (behind, _) = parse_der_sequence_defined_g(walk_extension).parse(i)?;
+    let (behind, _) = parse_der_sequence_defined_g(walk_extension).parse(behind)?;
+    parse_der_sequence_defined_g(walk_extension).parse(behind)
+}
+
+/// Walks an extension's identifier, whether it is critical, and its octets.
+fn walk_extension<'a>(i: &'a [u8], _: Header<'a>) -> Walked<'a> {
+    let (behind, _) = walk_identifier(i)?;
+    walked(parse_der_octetstring(behind_critical(behind)))
 }
 
 /// What follows a BOOLEAN, or the whole where there is none.

@@ -324,14 +324,24 @@ fn forms_have_headers(rt: HostRuntime) -> Result<(), Fail> {
     Ok(())
 }
 
+/// A parser that always answers a Failure.
+fn fails(_: &[u8]) -> BerResult<'_> {
+    Err(Refusal::Failure(BerTypeError))
+}
+
+/// A parser that always wants memory.
+fn wants_memory(_: &[u8]) -> BerResult<'_> {
+    Err(Refusal::OutOfMemory)
+}
+
 /// What is answered where the parser of an object that may be absent answers a Failure.
 fn optional_over_failure(alloc: Global) -> BerResult<'static> {
-    parse_ber_optional(alloc, |_| Err(Refusal::Failure(BerTypeError))).parse(b"\x02\x01\x05")
+    parse_ber_optional(alloc, fails).parse(b"\x02\x01\x05")
 }
 
 /// The same where it answers OutOfMemory.
 fn optional_over_want(alloc: Global) -> BerResult<'static> {
-    parse_ber_optional(alloc, |_| Err(Refusal::OutOfMemory)).parse(b"\x02\x01\x05")
+    parse_ber_optional(alloc, wants_memory).parse(b"\x02\x01\x05")
 }
 
 /// The object is absent in front of these octets.

@@ -1,9 +1,8 @@
 //! What no clause of `run` says: the texts, and what faults leave.
-use crate::arguments::only_argument;
-use crate::fault::{Fault, RefusedElement};
-use crate::run;
-use crate::sink::Sink;
-use crate::source::Source;
+use der_dump::fault::{Fault, RefusedElement};
+use der_dump::sink::Sink;
+use der_dump::source::Source;
+use der_dump::{only_argument, run};
 use der_parser::error::{BerError, Err as Refused, Needed};
 use std::alloc::Global;
 use std::env::{Env, FillError};

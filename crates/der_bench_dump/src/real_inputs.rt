@@ -1,6 +1,6 @@
 //! Inputs of the kind that users have, an element a row: its octets, up to its content where it is
 //! a list, and the text that is printed of it.
-use crate::tests::expect_run;
+use crate::runs::expect_run;
 use std::test::Fail;
 
 /// The octets of an element, and its text; no octets at the end of a list.

@@ -1,8 +1,8 @@
 //! Want of memory in `derdump`. `tools/refused-growths` runs the test with an allocation refused,
 //! each in its turn.
-use crate::run;
-use crate::sink::Sink;
-use crate::source::Source;
+use der_dump::run;
+use der_dump::sink::Sink;
+use der_dump::source::Source;
 use der_parser::error::{BerError, Err as Refused};
 use std::io;
 use std::io::Write;
