@@ -2,10 +2,10 @@
 //! length.
 #![tactic(auto)]
 
-use der_names::parse_name;
+use der_distinguished_name::read_name;
 use der_parser::ber::{Any, BerObject, BerObjectContent, FaultWriter, Visit, parse_ber};
 use der_parser::der::parse_der;
-use der_read_name::read_name;
+use names_reader::parse_name;
 use std::alloc::Global;
 use x509_reader::read_certificate;
 

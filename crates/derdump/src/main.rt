@@ -1,7 +1,7 @@
 //! `derdump ber` and `derdump der` print the elements of their standard input, one a line.
 #![tactic(auto)]
 
-use der_dump::{only_argument, program};
+use derdump_core::{only_argument, program};
 use std::process::ExitCode;
 
 fn main(rt: HostRuntime) -> ExitCode {

@@ -2,7 +2,7 @@
 //! SignedData inside it.
 #![tactic(auto)]
 
-use der_dump::{only_argument, program};
+use derdump_core::{only_argument, program};
 use std::process::ExitCode;
 
 fn main(rt: HostRuntime) -> ExitCode {

@@ -1,7 +1,7 @@
 //! `derdump`, with a stored run on an element that is refused behind one that is printed.
 #![tactic(auto)]
 
-use der_dump::{only_argument, program};
+use derdump_core::{only_argument, program};
 use std::process::ExitCode;
 
 fn main(rt: HostRuntime) -> ExitCode {

@@ -3,8 +3,8 @@
 #![tactic(auto)]
 
 use anyhow::{Error, Result, anyhow};
-use der_names::parse_names;
 use der_parser::error::{BerError, Err as Refused};
+use names_reader::parse_names;
 use std::io::Read;
 
 fn main(rt: HostRuntime) -> Result<()> {

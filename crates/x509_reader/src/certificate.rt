@@ -1,7 +1,6 @@
 //! Certificates (RFC 5280 4.1).
 use crate::extension::{Extension, read_extension};
 use crate::values::{parse_bits, parse_identifier};
-use der_names::{Name, parse_name};
 use der_parser::IResult;
 use der_parser::ber::{ASN1DateTime, Any, BerObject, BitStringObject};
 use der_parser::cursor::{Cursor, Refusal};
@@ -10,6 +9,7 @@ use der_parser::der::{
 };
 use der_parser::error::{BerError, BerResult, Err as Refused};
 use der_parser::oid::Oid;
+use names_reader::{Name, parse_name};
 use std::alloc::Global;
 
 /// What a certificate says. Texts and octets are slices of the input.

@@ -1,0 +1,16 @@
+use Rattle.std.proofs.Common.{rules, map}
+use Rattle.der_distinguished_name.specs.Views.{attributes_of}
+use Rattle.der_distinguished_name.proofs.Attributes.{set_some}
+use Rattle.der_distinguished_name.proofs.Elements.{container}
+use Rattle.der_distinguished_name.proofs.Lists.{list_whole}
+use Rattle.der_distinguished_name.proofs.name.read_name.Goals as goal
+
+pub returns-in-Ok : goal.returns-in-Ok
+returns-in-Ok c =
+    let n = container {view = λ v. map attributes_of v.items} c.in-Ok.ensures.run (λ f g content h r s. list_whole content.now r s (λ f g p r s. search rules) set_some) in
+    record { found = n.spelled.found; only = n.spelled.only }
+
+pub returns-in-Err : goal.returns-in-Err
+returns-in-Err c =
+    let n = container {view = λ v. map attributes_of v.items} c.in-Err.ensures.run (λ f g content h r s. list_whole content.now r s (λ f g p r s. search rules) set_some) in
+    record { found = tt; only = n.spelled.only }
