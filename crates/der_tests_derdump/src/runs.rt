@@ -1,6 +1,7 @@
 //! What no clause of `run` says: the texts, and what faults leave.
+use der_parser::cursor::Refusal;
 use der_parser::error::{BerError, Err as Refused, Needed};
-use derdump_core::fault::{Fault, RefusedElement};
+use derdump_core::fault::Fault;
 use derdump_core::sink::Sink;
 use derdump_core::source::Source;
 use derdump_core::{only_argument, run};
@@ -574,7 +575,7 @@ fn a_refusal_has_a_text(rt: HostRuntime) -> Result<(), Fail> {
     ] {
         let told = format!(in rt.alloc();
             "{}",
-            Fault::Element(RefusedElement { offset: 7, reason })
+            Fault::Element(Refusal { offset: 7, reason })
         )?;
         assert_eq!(rt; told.strip_prefix("error at 7: "), Some(text));
     }

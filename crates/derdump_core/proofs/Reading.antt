@@ -9,7 +9,8 @@ use Rattle.der_parser.specs.Readings.{Answer}
 use Rattle.der_parser.specs.Tree.{Node}
 use Rattle.der_parser.specs.declared.ber.BerObject.{BerObject}
 use Rattle.der_parser.specs.declared.error.Err.TheVariants.{OutOfMemory}
-use Rattle.derdump_core.specs.declared.fault.RefusedElement.{RefusedElement}
+use Rattle.der_parser.specs.declared.cursor.Refusal.{Refusal}
+use Rattle.der_parser.specs.declared.error.Error.{Error as BerError}
 use Rattle.derdump_core.specs.declared.rules.Rules.{Rules}
 use Rattle.derdump_core.specs.declared.rules.Rules.TheVariants.{Ber, Der}
 use Rattle.derdump_core.specs.Elements.{AnswersElement, AreElements, BeginsWith, Elements, none, one_more}
@@ -47,7 +48,7 @@ at_first f some (os, none) = absurd (omega (arith, some))
 at_first f some (os, one_more {after = after} {o = o} b bs) = f o after b
 
 -- a reader that answers no object refuses the element that begins there, or finds no memory for it
-pub refused_here : {rules : Rules} {i rest : List ℕ} {os : List Node} (r : RefusedElement) → Elements rules i os rest → r.offset + length rest ≡ length i
+pub refused_here : {rules : Rules} {i rest : List ℕ} {os : List Node} (r : Refusal BerError) → Elements rules i os rest → r.offset + length rest ≡ length i
     → 0 < length rest → (AreElements rules i → AreElements rules rest) → AnswersElement rules rest (Err r.reason) → IsRefused rules i os r
 refused_here {rules} {i} {rest} {os} r front place some whole a =
     let begins : (o : Node) (after : List ℕ) → BeginsWith rules rest o after → WantsMemory r =

@@ -11,19 +11,20 @@ ghost use Rattle.der_parser.specs.Printer.{printed};
 ghost use Rattle.der_parser.specs.View.{tree};
 
 use crate::command::{Command, named_command};
-use crate::fault::{Fault, RefusedElement};
+use crate::fault::Fault;
 use crate::input::read_input;
 use crate::rules::read_object;
 use crate::sink::Sink;
 use crate::source::Source;
 use der_parser::ber::{BerObject, FaultWriter, PrettyBer};
-use der_parser::error::Err as Refused;
+use der_parser::cursor::Refusal;
+use der_parser::error::{BerError, Err as Refused};
 use std::alloc::{AllocError, Global};
 use std::io::{Read, Write};
 use std::{io, mem};
 
-/// So many octets are much to be pending.
-const MUCH: usize = 8192;
+/// Pending octets are written from this number on.
+const FLUSH_AT: usize = 8192;
 
 /// How much further in the items of a list stand than the list, and an object than its tag.
 const INCREMENT: usize = 2;
@@ -118,7 +119,7 @@ fn print_elements<W: Write>(
     command: Command,
     input: &[u8],
     out: &mut Sink<W>,
-) -> io::Result<Option<RefusedElement>>
+) -> io::Result<Option<Refusal<BerError>>>
     ensures printed { IfOk result
         (Printed command input.now (octets_of W.contents out.old) (octets_of W.contents out.new)) }
     ensures flushed { OnOk result (is_flushed out.new ≡ true) }
@@ -130,21 +131,21 @@ fn print_elements<W: Write>(
             Ok((after, object)) => {
                 match push_output(alloc, command, &mut pending, object) {
                     Ok(()) => {
-                        hand_on_much(out, &mut pending)?;
+                        hand_on_if_many(out, &mut pending)?;
                         rest = after;
                     }
                     Err(AllocError) => {
                         hand_on(out, &pending)?;
                         let offset = input.len() - rest.len();
                         let reason = Refused::OutOfMemory;
-                        return Ok(Some(RefusedElement { offset, reason }));
+                        return Ok(Some(Refusal { offset, reason }));
                     }
                 }
             }
             Err(reason) => {
                 hand_on(out, &pending)?;
                 let offset = input.len() - rest.len();
-                return Ok(Some(RefusedElement { offset, reason }));
+                return Ok(Some(Refusal { offset, reason }));
             }
         }
     }
@@ -233,13 +234,13 @@ fn push_text(
     }
 }
 
-/// Writes what is pending, where that is much.
-fn hand_on_much<W: Write>(out: &mut Sink<W>, pending: &mut Vec<u8>) -> io::Result<()>
+/// Writes what is pending, if that is many octets.
+fn hand_on_if_many<W: Write>(out: &mut Sink<W>, pending: &mut Vec<u8>) -> io::Result<()>
     ensures { OnOk result (Keeps
         (append_known (octets_of W.contents out.old) pending.old.items)
         (append_known (octets_of W.contents out.new) pending.new.items)) }
 {
-    if pending.len() < MUCH {
+    if pending.len() < FLUSH_AT {
         return Ok(());
     }
     out.write_all(pending)?;

@@ -19,15 +19,15 @@ loop-rest-preserved g c =
     let o = tree c.in-Ok.object in
     let first = octets_of g.W.Write.contents c.args.out.now in
     let before = octets_of g.W.Write.contents c.loop-rest.out in
-    let after = octets_of g.W.Write.contents c.hand_on_much.new.out in
+    let after = octets_of g.W.Write.contents c.hand_on_if_many.new.out in
     let added = c.push_output.new.pending.items in
     record {
       in_range = omega (arith, c.loop-rest.invariant.in_range, c.in-Ok.ensures.shorter);
       printed = (
         os ++ o ∷ [],
         element_behind o front answer.found,
-        outputs_kept first (append_known before added) (append_known after c.hand_on_much.new.pending.items)
-            (output_pending first before c.loop-rest.pending.items added o lines c.in-Ok-push_output.ensures.ok) c.in_ok-hand_on_much-in-Ok-push_output.ensures,
+        outputs_kept first (append_known before added) (append_known after c.hand_on_if_many.new.pending.items)
+            (output_pending first before c.loop-rest.pending.items added o lines c.in-Ok-push_output.ensures.ok) c.in_ok-hand_on_if_many-in-Ok-push_output.ensures,
       );
       whole = λ all. elements_left (c.in-Ok.after, c.in-Ok.object) answer c.in-Ok.ensures.shorter (c.loop-rest.invariant.whole all);
     }

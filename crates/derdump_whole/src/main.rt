@@ -1,4 +1,4 @@
-//! `derdump`, with a stored run on an element that is refused behind one that is printed.
+//! `derdump`, with a stored run that reads three elements to the end of the input.
 #![tactic(auto)]
 
 use derdump_core::{only_argument, program};

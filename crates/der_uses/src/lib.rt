@@ -1,0 +1,12 @@
+//! Uses of `der_parser`, one a function, from a crate that names `der_parser` alone. The doc comments of the
+//! library's calls show these bodies, and `handed` hands the library's functions on by their own names.
+#![tactic(auto)]
+
+mod handed;
+mod shown;
+
+pub use handed::{Ticket, read_identifiers, read_numbers, read_objects, read_ticket};
+pub use shown::{
+    Depths, Found, first_object, is_common_name, item_numbers, make_request, missing_octets,
+    object_count, print_object, read_serial_number, rewrite_by_der, tagged_number, write_object,
+};

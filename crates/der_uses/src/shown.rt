@@ -1,0 +1,137 @@
+//! The examples of the doc comments.
+use der_parser::ber::{
+    BerObject, BerObjectContent, FaultWriter, Visit, ber_encode_object, parse_ber,
+};
+use der_parser::cursor::{Cursor, Refusal};
+use der_parser::der::{
+    Header, Tag, parse_der_i32, parse_der_integer, parse_der_sequence_of_v,
+    parse_der_tagged_explicit_g, parse_der_u32,
+};
+use der_parser::error::{BerError, Err, GenError, IResult, Needed};
+use der_parser::oid::{Oid, OidParseError};
+use der_parser::parse_der;
+use std::alloc::{AllocError, Global};
+
+/// What an input begins with.
+#[derive(Drop)]
+pub enum Found {
+    /// A SEQUENCE of so many items.
+    List(usize),
+    /// An INTEGER.
+    Number(i64),
+    /// Something else, with this tag number.
+    Other(Tag),
+}
+
+/// `parse_der`: the first object of an input.
+pub fn first_object(alloc: Global, input: &[u8]) -> Result<Found, Err<BerError>> {
+    let (_rest, object) = parse_der(alloc, input)?;
+    kind_of(&object)
+}
+
+fn kind_of(object: &BerObject<'_>) -> Result<Found, Err<BerError>> {
+    match &object.content {
+        BerObjectContent::Sequence(items) => Ok(Found::List(items.len())),
+        BerObjectContent::Integer(_) => Ok(Found::Number(object.as_i64()?)),
+        _ => Ok(Found::Other(object.tag())),
+    }
+}
+
+/// `Err::Incomplete`: how many octets a client still has to wait for.
+pub fn missing_octets(alloc: Global, input: &[u8]) -> Option<usize> {
+    match parse_ber(alloc, input) {
+        Err(Err::Incomplete(Needed::Size(n))) => Some(n),
+        _ => None,
+    }
+}
+
+/// `to_vec`: what BER reads, written with DER's lengths.
+pub fn rewrite_by_der(alloc: Global, input: &[u8]) -> Result<Vec<u8>, GenError> {
+    match parse_ber(alloc, input) {
+        Ok((_rest, object)) => object.to_vec(alloc),
+        Err(_) => Ok(Vec::new(alloc)),
+    }
+}
+
+/// `parse_der_sequence_of_v`: a SEQUENCE OF numbers.
+pub fn item_numbers(alloc: Global, input: &[u8]) -> IResult<&[u8], Vec<i32>, BerError> {
+    parse_der_sequence_of_v(alloc, parse_der_i32).parse(input)
+}
+
+/// `parse_der_tagged_explicit_g`: a number inside the explicit tag [0].
+pub fn tagged_number(input: &[u8]) -> IResult<&[u8], u32, BerError> {
+    parse_der_tagged_explicit_g(Tag(0), number_inside).parse(input)
+}
+
+fn number_inside<'a>(content: &'a [u8], _header: Header<'a>) -> IResult<&'a [u8], u32, BerError> {
+    parse_der_u32(content)
+}
+
+/// `Cursor`: the serial number of a certificate. A refusal has its place.
+pub fn read_serial_number(certificate: &[u8]) -> Result<u64, Refusal<BerError>> {
+    let mut fields = Cursor::new(certificate).open_sequence()?.open_sequence()?;
+    fields.open_tagged(0)?;
+    fields.assert_universal()?;
+    fields.read(parse_number)
+}
+
+fn parse_number(i: &[u8]) -> IResult<&[u8], u64, BerError> {
+    let (rest, number) = parse_der_integer(i)?;
+    Ok((rest, number.as_u64()?))
+}
+
+/// `BerObject::from_seq`: a SEQUENCE of a number and a text.
+pub fn make_request<'a>(
+    alloc: Global,
+    number: &'a [u8],
+    text: &'a str,
+) -> Result<BerObject<'a>, AllocError> {
+    let mut items = Vec::new(alloc);
+    items.push(BerObject::from_int_slice(number))?;
+    items.push(BerObject::from_obj(BerObjectContent::UTF8String(text)))?;
+    Ok(BerObject::from_seq(items))
+}
+
+/// `ber_encode_object`: an object written to a writer, without memory.
+pub fn write_object(
+    out: &mut FaultWriter<Vec<u8>>,
+    object: &BerObject<'_>,
+) -> Result<(), GenError> {
+    ber_encode_object(out, object)
+}
+
+/// `as_pretty`: the text of an object.
+pub fn print_object(alloc: Global, object: &BerObject<'_>) -> Result<String, AllocError> {
+    let printer = object.as_pretty(alloc, 0, 2)?;
+    format!(in alloc; "{printer:?}")
+}
+
+/// `Oid::from_dotted`: whether an identifier is that of commonName.
+pub fn is_common_name(alloc: Global, oid: &Oid<'_>) -> Result<bool, OidParseError> {
+    let common_name = Oid::from_dotted(alloc, "2.5.4.3")?;
+    Ok(oid.as_bytes() == common_name.as_bytes())
+}
+
+/// A visitor that counts objects.
+#[derive(Clone, Copy)]
+pub struct Depths {
+    /// How many objects there are.
+    pub objects: u64,
+}
+
+impl Visit for Depths {
+    ghost use Rattle.std.specs.Prelude.{◌≡◌, ◌+◌, ◌%◌, ◌^◌};
+
+    ghost object_step = { λ s _ _ t. t.objects ≡ (s.objects + 1) % 2 ^ 64 };
+
+    fn visit_ber<'t>(&mut self, _object: &BerObject<'t>, _depth: usize) {
+        self.objects = self.objects.wrapping_add(1);
+    }
+}
+
+/// `Visit`: how many objects are in an object, itself among them.
+pub fn object_count(object: &BerObject<'_>) -> u64 {
+    let mut counter = Depths { objects: 0 };
+    counter.run(object);
+    counter.objects
+}
