@@ -4,7 +4,7 @@ use Rattle.std.proofs.lemmas.List.{append-nil, take_more}
 use Rattle.std.specs.declared.vec.Vec.{Vec}
 use Rattle.std.specs.declared.alloc.Global.{Global}
 use Rattle.der_base.specs.Listing.{deeper, listing, content_listing, list_listing}
-use Rattle.der_base.specs.Tree.{Node, Content}
+use Rattle.der_base.specs.Tree.{Node}
 use Rattle.der_object.specs.declared.object.BerObject.{BerObject}
 use Rattle.der_object.specs.declared.object.BerObjectContent.{BerObjectContent}
 use Rattle.der_object.specs.declared.object.BerObjectContent.TheVariants.{Sequence, Set, Sequence', Set', Optional'}
@@ -12,7 +12,7 @@ use Rattle.der_object.specs.declared.object.BerObjectContent.{None', Some'}
 use Rattle.der_object.specs.declared.object.BerObjectContent.TheBlock.{shown-the_row-BerObject-0}
 use Rattle.der_object.specs.View.{tree, content_tree, trees}
 use Rattle.der_object.proofs.Trees.{sequence_tree, set_tree, every_sequence, every_set}
-use Rattle.der_visit.specs.Visiting.{Quietly, MeetsAll, met_all, met}
+use Rattle.der_visit.specs.Visiting.{TakenThrough, at_end, at_entry}
 
 -- what a list's items are entered for
 pub sequence_listing : (x : BerObjectContent) (v : Vec BerObject Global) (os : List BerObject) (n m : ℕ) → x ≡ Sequence v → os ≡ v.items → m ≡ deeper n
@@ -43,18 +43,20 @@ pub listing_more : (os : List BerObject) (i : ℕ) (o : BerObject) (n : ℕ) →
 listing_more os i o n within e =
     ap (λ ys. list_listing (trees ys) n) (take_more os i o within ∙ ap (λ y. take i os ++ y ∷ []) (sym e)) ∙ listing_push (take i os) o n
 
-module _ {S : Type 0} {O : S → Node → ℕ → S → Type 0} {C : S → Content → ℕ → S → Type 0} where
-  -- one run behind another
-  pub meets_both : {es fs : List (Node × ℕ)} {s m t : S} → MeetsAll O C es s m → MeetsAll O C fs m t → MeetsAll O C (es ++ fs) s t
-  meets_both met_all k = k
-  meets_both (met r h) k = met r (meets_both h k)
+module _ {S : Type 0} {R : S → Node → ℕ → S → Type 0} where
+  -- one run after another
+  through_both : {es fs : List (Node × ℕ)} {s m t : S} → TakenThrough R es s m → TakenThrough R fs m t
+      → TakenThrough R (es ++ fs) s t
+  through_both at_end k = k
+  through_both (at_entry r h) k = at_entry r (through_both h k)
 
   -- one item more
-  pub meets_more : (os : List BerObject) (i : ℕ) (o : BerObject) {n : ℕ} {s m t : S} → i < length os → o ≡ get_or os i o
-      → MeetsAll O C (list_listing (trees (take i os)) n) s m → MeetsAll O C (listing (tree o) n) m t → MeetsAll O C (list_listing (trees (take (i + 1) os)) n) s t
-  meets_more os i o within e h k = rw (listing_more os i o _ within e) (meets_both h k)
+  pub through_more : (os : List BerObject) (i : ℕ) (o : BerObject) {n : ℕ} {s m t : S} → i < length os → o ≡ get_or os i o
+      → TakenThrough R (list_listing (trees (take i os)) n) s m → TakenThrough R (listing (tree o) n) m t
+      → TakenThrough R (list_listing (trees (take (i + 1) os)) n) s t
+  through_more os i o within e h k = rw (listing_more os i o _ within e) (through_both h k)
 
-  -- an object's two functions, and then the items
-  pub meets_object : (o : BerObject) (m : S) {es : List (Node × ℕ)} {n : ℕ} {s k t : S} → Quietly O s (tree o) n m → Quietly C m (content_tree o.content) n k
-      → content_listing (content_tree o.content) n ≡ es → MeetsAll O C es k t → MeetsAll O C (listing (tree o) n) s t
-  meets_object o m a b e h = met (record { between = m; object = a; content = b }) (rw e h)
+  -- an object's step, and then those of its items
+  pub through_object : (o : BerObject) {es : List (Node × ℕ)} {n : ℕ} {s m t : S} → R s (tree o) n m
+      → content_listing (content_tree o.content) n ≡ es → TakenThrough R es m t → TakenThrough R (listing (tree o) n) s t
+  through_object o a e h = at_entry a (rw e h)

@@ -1,5 +1,5 @@
--- What a visitor does, by two relations of its own: `object_step` of the function that is called at each object, and
--- `content_step` of the function of the content's type.
+-- What a visitor does, by relations of its own: `step` of a `Walk`, and of a `Visit` `object_step` of the function that
+-- is called at each object and `content_step` of the function of the content's type.
 use Rattle.std.specs.Prelude.{◌≡◌, ℕ, Option, Some, None, List, [], ◌∷◌}
 use Rattle.std.specs.Global.{Box}
 use Rattle.der_base.specs.declared.any.Any.{Any}
@@ -10,8 +10,15 @@ use Rattle.der_base.specs.Tree.{Node, node, Content, object_identifier, relative
 use Rattle.der_object.specs.declared.object.BerObject.{BerObject}
 use Rattle.der_object.specs.View.{tree}
 
--- A function takes a visitor from s to t at x, at depth n: by the visitor's relation, or not at all, as the empty body
--- that it begins with.
+-- Takes a visitor through a listing, whose entries are an object and its depth: at each entry, in their order, by one
+-- step of R, and by nothing else.
+pub data TakenThrough {S : Type 0} (R : S → Node → ℕ → S → Type 0) : List (Node × ℕ) → S → S → Type 0 where
+  at_end : {s : S} → TakenThrough R [] s s
+  at_entry : {o : Node} {n : ℕ} {rest : List (Node × ℕ)} {s m t : S} → R s o n m → TakenThrough R rest m t
+      → TakenThrough R ((o, n) ∷ rest) s t
+
+-- A function with an empty default body takes a visitor from s to t at x, at depth n: by the visitor's relation, or
+-- not at all.
 pub data Quietly {S X : Type 0} (R : S → X → ℕ → S → Type 0) (s : S) (x : X) (n : ℕ) (t : S) : Type 0 where
   quiet : t ≡ s → Quietly R s x n t
   stepped : R s x n t → Quietly R s x n t
@@ -19,18 +26,12 @@ pub data Quietly {S X : Type 0} (R : S → X → ℕ → S → Type 0) (s : S) (
 abbrev pub content_of : Node → Content
 content_of (node c p t x) = x
 
-module _ {S : Type 0} (object_step : S → Node → ℕ → S → Type 0) (content_step : S → Content → ℕ → S → Type 0) where
-  -- the two functions at one object, the general one first
-  pub record MeetsObject (s : S) (o : Node) (n : ℕ) (t : S) : Type 0 where
-    pub between : S
-    pub object : Quietly object_step s o n between
-    pub content : Quietly content_step between (content_of o) n t
-
-  -- one object after another
-  pub data MeetsAll : List (Node × ℕ) → S → S → Type 0 where
-    met_all : {s : S} → MeetsAll [] s s
-    met : {o : Node} {n : ℕ} {rest : List (Node × ℕ)} {s m t : S} → MeetsObject s o n m → MeetsAll rest m t
-        → MeetsAll ((o, n) ∷ rest) s t
+-- The step of a `Visit` at one object: that of the object, and then that of its content.
+pub record MeetsObject {S : Type 0} (object_step : S → Node → ℕ → S → Type 0)
+    (content_step : S → Content → ℕ → S → Type 0) (s : S) (o : Node) (n : ℕ) (t : S) : Type 0 where
+  pub between : S
+  pub object : Quietly object_step s o n between
+  pub content : Quietly content_step between (content_of o) n t
 
 -- the contents of an OBJECT IDENTIFIER and of a RELATIVE-OID
 abbrev pub oid_content : Oid → Content

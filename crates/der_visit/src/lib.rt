@@ -1,8 +1,10 @@
-//! Visitors: one call goes through an object and the items inside it, in their order.
+//! Visitors: one call visits an object and the items inside it, in their order.
 #![tactic(auto)]
 
 mod visit;
 mod visit_mut;
+mod walk;
 
 pub use visit::Visit;
 pub use visit_mut::VisitMut;
+pub use walk::Walk;

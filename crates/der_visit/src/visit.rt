@@ -1,26 +1,31 @@
 //! Visitors that read objects.
 ghost use Rattle.std.specs.Prelude.{ℕ};
 ghost use Rattle.std.specs.Option.{option_copied};
-ghost use Rattle.der_base.specs.Listing.{listing, list_listing};
+ghost use Rattle.der_base.specs.Listing.{listing};
 ghost use Rattle.der_base.specs.Tree.{Node, Content, end_of_content, boolean, integer, bit_string, string, null};
 ghost use Rattle.der_base.specs.Tree.{enumerated, sequence, set, tagged, time};
 ghost use Rattle.der_object.specs.View.{tree, content_tree, trees};
-ghost use Rattle.der_visit.specs.Visiting.{Quietly, MeetsAll, oid_content, relative_oid_content};
-ghost use Rattle.der_visit.specs.Visiting.{optional_content, unknown_content};
+ghost use Rattle.der_visit.specs.Visiting.{Quietly, MeetsObject, TakenThrough};
+ghost use Rattle.der_visit.specs.Visiting.{oid_content, relative_oid_content, optional_content, unknown_content};
 
+use crate::walk::{Walk, walk_object};
 use der_base::any::Any;
 use der_base::header::{Class, Tag};
 use der_base::oid::Oid;
 use der_base::time::ASN1DateTime;
 use der_object::{BerObject, BerObjectContent, BitStringObject};
 
-/// Functions that `run` calls at an object and at the items inside it: at each `visit_ber`, then
-/// the function of its content's type, and then those of the items of a SEQUENCE or SET, one level
-/// deeper. Each function begins with an empty body.
+/// A visitor with a function for any object and one for each type of content. `run` calls, at an
+/// object and then at each item inside a SEQUENCE or SET, one level deeper, `visit_ber` and after
+/// it the function of the content's type. Each function has an empty default body.
 ///
-/// A visitor states what it does by two relations, of the visitor before, what is visited, its
-/// depth and the visitor after. A function takes the visitor by its relation or changes nothing,
-/// and one that is left empty changes nothing.
+/// `object_step` is what `visit_ber` does and `content_step` what the other functions do, each as
+/// a relation of the visitor before, what is visited, its depth and the visitor after. A function
+/// takes the visitor by its relation or leaves it unchanged, as an empty body does.
+///
+/// So the contract of `run` says where and in which order the visitor may change, and by what. It
+/// allows that a function changes nothing at an object. The contract of [`Walk`], which has one
+/// function and no default body, excludes that. Each `Visit` is a `Walk`, and `run` is its walk.
 pub trait Visit {
     ghost object_step: { Self → Node → ℕ → Self → Type 0 } = { λ _ _ _ _. ⊥ };
 
@@ -175,7 +180,7 @@ pub trait Visit {
     final fn run<'t>(&mut self, object: &BerObject<'t>)
     where
         Self: Sized,
-        ensures { MeetsAll object_step content_step (listing (tree object.now) 0) self.old self.new }
+        ensures { TakenThrough (MeetsObject object_step content_step) (listing (tree object.now) 0) self.old self.new }
     {
         walk_object(self, object, 0);
     }
@@ -184,9 +189,20 @@ pub trait Visit {
     final fn run_at<'t>(&mut self, object: &BerObject<'t>, depth: usize)
     where
         Self: Sized,
-        ensures { MeetsAll object_step content_step (listing (tree object.now) depth) self.old self.new }
+        ensures { TakenThrough (MeetsObject object_step content_step) (listing (tree object.now) depth) self.old self.new }
     {
         walk_object(self, object, depth);
+    }
+}
+
+/// Each step of the walk is `visit_ber`, and then the function of the content's type.
+impl<V: Visit> Walk for V {
+    ghost step = { MeetsObject V.object_step V.content_step };
+
+    #[inline]
+    fn visit_object<'t>(&mut self, object: &BerObject<'t>, depth: usize) {
+        self.visit_ber(object, depth);
+        visit_content(self, &object.content, depth);
     }
 }
 
@@ -232,33 +248,5 @@ fn visit_content<V: Visit>(visitor: &mut V, content: &BerObjectContent<'_>, dept
             visitor.visit_ber_tagged(*class, *tag, inner, depth)
         }
         BerObjectContent::Unknown(any) => visitor.visit_ber_unknown(any, depth),
-    }
-}
-
-/// Visits an object at this depth, and the items inside it.
-#[cycle(walk)]
-fn walk_object<V: Visit>(visitor: &mut V, object: &BerObject<'_>, depth: usize)
-    ensures { MeetsAll V.object_step V.content_step (listing (tree object.now) depth)
-        visitor.old visitor.new }
-{
-    visitor.visit_ber(object, depth);
-    visit_content(visitor, &object.content, depth);
-    match &object.content {
-        BerObjectContent::Sequence(items) => {
-            walk_items(visitor, items, depth.saturating_add(1));
-        }
-        BerObjectContent::Set(items) => walk_items(visitor, items, depth.saturating_add(1)),
-        _ => {}
-    }
-}
-
-/// Visits the items at this depth, in their order, and what stands inside them.
-#[cycle(walk)]
-fn walk_items<V: Visit>(visitor: &mut V, items: &[BerObject<'_>], depth: usize)
-    ensures { MeetsAll V.object_step V.content_step (list_listing (trees items.now) depth)
-        visitor.old visitor.new }
-{
-    for item in items {
-        walk_object(visitor, item, depth);
     }
 }

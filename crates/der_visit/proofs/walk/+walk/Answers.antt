@@ -1,28 +1,30 @@
 use Rattle.std.proofs.Common.{◌≡◌, arith, rules}
 use Rattle.der_base.specs.Listing.{deeper}
-use Rattle.der_visit.specs.Visiting.{met_all}
-use Rattle.der_visit.proofs.Visits.{sequence_listing, set_listing, no_listing, meets_object, meets_more}
-use Rattle.der_visit.proofs.visit.+walk.Goals as goal
+use Rattle.der_visit.specs.Visiting.{at_end}
+use Rattle.der_visit.proofs.Visits.{sequence_listing, set_listing, no_listing, through_object, through_more}
+use Rattle.der_visit.proofs.walk.+walk.Goals as goal
 
 pub walk_object-returns-in-Sequence : goal.walk_object-returns-in-Sequence
 walk_object-returns-in-Sequence g t c =
     let deep : c.saturating_add.result ≡ deeper c.args.depth = search rules in
     let entered = sequence_listing _ c.in-Sequence.items _ _ _ c.in-Sequence.is c.deref.ensures.value deep in
-    meets_object c.args.object.now _ c.visit_ber.ensures c.visit_content.ensures entered c.walk_items.ensures
+    through_object {R = g.W.Walk.step} c.args.object.now c.visit_object.ensures entered c.walk_items.ensures
 
 pub walk_object-returns-in-Set : goal.walk_object-returns-in-Set
 walk_object-returns-in-Set g t c =
     let deep : c.saturating_add-in-Set.result ≡ deeper c.args.depth = search rules in
     let entered = set_listing _ c.in-Set.items _ _ _ c.in-Set.is c.deref-in-Set.ensures.value deep in
-    meets_object c.args.object.now _ c.visit_ber.ensures c.visit_content.ensures entered c.walk_items-in-Set.ensures
+    through_object {R = g.W.Walk.step} c.args.object.now c.visit_object.ensures entered c.walk_items-in-Set.ensures
 
 pub walk_object-returns-in_default : goal.walk_object-returns-in_default
 walk_object-returns-in_default g t c =
-    meets_object c.args.object.now _ c.visit_ber.ensures c.visit_content.ensures (no_listing _ _ c.in_default.not-Sequence c.in_default.not-Set) met_all
+    let none = no_listing _ _ c.in_default.not-Sequence c.in_default.not-Set in
+    through_object {R = g.W.Walk.step} c.args.object.now c.visit_object.ensures none at_end
 
 pub walk_items-loop-item-preserved : goal.walk_items-loop-item-preserved
 walk_items-loop-item-preserved g t c =
-    meets_more c.args.items.now c.loop-item.item-index c.item-item.result (omega (arith, c.loop-item-test.true)) c.item-item.is c.loop-item.invariant c.walk_object.ensures
+    through_more c.args.items.now c.loop-item.item-index c.item-item.result (omega (arith, c.loop-item-test.true))
+    c.item-item.is c.loop-item.invariant c.walk_object.ensures
 
 pub walk_items-loop-item-init : goal.walk_items-loop-item-init
-walk_items-loop-item-init g t c = met_all
+walk_items-loop-item-init g t c = at_end
