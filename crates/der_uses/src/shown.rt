@@ -92,12 +92,11 @@ pub fn make_request<'a>(
     Ok(BerObject::from_seq(items))
 }
 
-/// `ber_encode_object`: an object written to a writer, without memory.
-pub fn write_object(
-    out: &mut FaultWriter<Vec<u8>>,
-    object: &BerObject<'_>,
-) -> Result<(), GenError> {
-    ber_encode_object(out, object)
+/// `ber_encode_object`: an object written to a writer. The encoder takes no memory.
+pub fn write_object(alloc: Global, object: &BerObject<'_>) -> Result<Vec<u8>, GenError> {
+    let mut out = FaultWriter::new(Vec::<u8>::new(alloc));
+    ber_encode_object(&mut out, object)?;
+    Ok(out.into_inner())
 }
 
 /// `as_pretty`: the text of an object.
