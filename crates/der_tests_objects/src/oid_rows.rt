@@ -225,11 +225,7 @@ fn octets_have_arcs(rt: HostRuntime) -> Result<(), Fail> {
 }
 
 /// The identifier has this text.
-fn expect_text(
-    rt: &(impl Abort + AllocGlobal),
-    oid: &Oid<'_>,
-    text: &str,
-) -> Result<(), Fail> {
+fn expect_text(rt: &(impl Abort + AllocGlobal), oid: &Oid<'_>, text: &str) -> Result<(), Fail> {
     let written = format!(in rt.alloc(); "{oid}")?;
     assert_eq!(rt; written.as_str(), text);
     Ok(())
