@@ -12,6 +12,7 @@ use Rattle.der_base.specs.declared.header.Class.{Class}
 use Rattle.der_base.specs.declared.time.ASN1DateTime.{ASN1DateTime}
 use Rattle.der_base.specs.declared.time.ASN1TimeZone.{ASN1TimeZone}
 use Rattle.der_base.specs.declared.time.ASN1TimeZone.TheVariants.{Undefined, Z, Offset}
+use Rattle.der_base.specs.declared.time.TimeText.{TimeText}
 use Rattle.der_base.specs.contracts.header.Class as Class_type
 use Rattle.der_base.specs.Tree.{Node, node, Content, end_of_content, boolean, integer, bit_string, string, null, enumerated, object_identifier, relative_oid, time, sequence, set, absent, present, tagged, unknown, Nodes, no_nodes, nodes}
 use Rattle.der_base.specs.TreeEquality.{same_class, same_octets, same_zone, same_time, same_node, same_content, same_nodes}
@@ -73,6 +74,17 @@ time-Decides t t' zones d =
     (Decides-and (t.minute == t'.minute) _ (unsigned_Decides t.minute t'.minute)
     (Decides-and (t.second == t'.second) _ (unsigned_Decides t.second t'.second)
     (Decides-and _ zones (option-Decides t.nanosecond t'.nanosecond) d)))))))
+
+-- of texts of times, by a test of the times
+pub time_text-Decides : (x x' : TimeText) (times : Bool) → Decides times (x.time ≡ x'.time) → Decides ((x.tag.0 == x'.tag.0) && times) (x ≡ x')
+time_text-Decides x x' times d =
+    Decides-like _
+    (λ h i. record {
+      tag = record { 0 = h.0 i };
+      time = h.1 i;
+    })
+    (λ e. (ap (λ y. y.tag.0) e, ap (λ y. y.time) e))
+    (Decides-and (x.tag.0 == x'.tag.0) times (unsigned_Decides x.tag.0 x'.tag.0) d)
 
 same_time-Decides : (t t' : ASN1DateTime) → Decides (same_time t t') (t ≡ t')
 same_time-Decides t t' = time-Decides t t' (same_zone t.tz t'.tz) (zone-Decides t.tz t'.tz)

@@ -1,4 +1,4 @@
-//! Elements whose content isn't read: a header, and the octets behind it.
+//! Elements whose content isn't read: a header and the content octets.
 ghost use Rattle.std.specs.Prelude.{◌≡◌, ◌≤◌, None, length};
 ghost use Rattle.der_base.specs.declared.header.Class.{Class};
 ghost use Rattle.der_base.specs.Answer.{MatchAnswer, AnswersError, AnswersIncomplete};
@@ -18,7 +18,7 @@ use crate::header::{Class, Header, Length, Tag, ber_read_element_header, der_rea
 /// An element whose content isn't read.
 #[derive(Clone, Copy, Debug, PartialEq)]
 pub struct Any<'a> {
-    /// What stands in front of the content.
+    /// The header in front of the content.
     pub header: Header<'a>,
     /// The content octets.
     pub bytes: &'a [u8],
@@ -72,16 +72,16 @@ impl<'a> Any<'a> {
         self.header.tag()
     }
 
-    /// Reads an element by BER: a header, and the content behind it, of which only the framing is
-    /// read. A definite length has that many content octets; the content of an indefinite one is
-    /// the elements in front of its end marker, the two octets `00 00` (X.690 8.1.3.6, 8.1.5), and
-    /// what follows the end marker is left of the input. An end marker in front is an element too,
-    /// without content.
+    /// Reads an element by BER: its header and its content, and of the content only the framing. A
+    /// definite length gives the number of content octets. An indefinite length has as content the
+    /// elements before its end marker, the two octets `00 00` (X.690 8.1.3.6, 8.1.5). Returns what
+    /// follows the content or the end marker, and the element. An end marker at the start of the
+    /// input is an element without content.
     ///
-    /// Refusals: those of `ber_read_element_header`, also for the headers inside an indefinite
-    /// length, and BerMaxDepth where indefinite lengths are nested `MAX_RECURSION` deep, once the
-    /// header is read that stands in the last of them. Incomplete with the number of octets that a
-    /// header or a definite content lacks. It takes no memory.
+    /// Errors: those of `ber_read_element_header`, also for the headers inside an indefinite length;
+    /// BerMaxDepth if indefinite lengths are nested `MAX_RECURSION` deep, after the first header in
+    /// the innermost of them is read. Incomplete with the number of octets that a header or a
+    /// definite content lacks. It doesn't allocate.
     pub fn from_ber(i: &'a [u8]) -> IResult<&'a [u8], Any<'a>, BerError>
         ensures { AnswersAny i.now result }
     {
@@ -97,10 +97,11 @@ impl<'a> Any<'a> {
         Ok((rest, Any { header, bytes }))
     }
 
-    /// Reads an element as DER writes its header, with as many content octets as that says, and
-    /// answers what is left of the input. Refusals are those of `der_read_element_header`;
-    /// Incomplete with the number of octets that the header or the content lacks. It takes no
-    /// memory.
+    /// Reads an element whose header is as DER writes it, with as many content octets as the header
+    /// says. Returns the rest of the input and the element.
+    ///
+    /// Errors: those of `der_read_element_header`; Incomplete with the number of octets that the
+    /// header or the content lacks. It doesn't allocate.
     #[inline(always)]
     pub fn from_der(i: &'a [u8]) -> IResult<&'a [u8], Any<'a>, BerError>
         ensures { AnswersDerAny i.now result }
@@ -126,16 +127,15 @@ impl<'a> Any<'a> {
     }
 }
 
-/// Reads the content that stands behind a header of this length by BER, and answers what follows
-/// the element, and the content octets. A definite length has that many of them, and nothing looks
-/// into them; the content of an indefinite one is the elements in front of its end marker, the two
-/// octets `00 00` (X.690 8.1.3.6, 8.1.5), with indefinite lengths, this one among them, nested
-/// below the budget.
+/// Reads the content after a header of this length by BER. Returns what follows the element, and the
+/// content octets. A definite length has that many octets, which aren't looked into. An indefinite
+/// length has the elements before its end marker, the two octets `00 00` (X.690 8.1.3.6, 8.1.5).
+/// Indefinite lengths, this one included, may be nested less deep than the budget.
 ///
-/// Refusals, of an indefinite length alone: those of `ber_read_element_header` for the headers
-/// inside, and BerMaxDepth where the budget is used up, once the header is read that stands in the
-/// last of them. Incomplete with the number of octets that a header or a definite content lacks.
-/// It takes no memory.
+/// Errors, of an indefinite length alone: those of `ber_read_element_header` for the headers inside,
+/// and BerMaxDepth if the budget is used up, after the first header in the innermost length is read.
+/// Incomplete with the number of octets that a header or a definite content lacks. It doesn't
+/// allocate.
 pub fn ber_read_content<'a>(
     i: &'a [u8],
     length: Length,

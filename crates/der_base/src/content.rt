@@ -1,5 +1,5 @@
-//! Framing: where the content of an element ends, by BER (X.690 8.1.3). What stands inside a
-//! definite length isn't looked into.
+//! Framing: where the content of an element ends, by BER (X.690 8.1.3). The octets inside a definite
+//! length aren't looked into.
 ghost use Rattle.std.specs.Prelude.{◌≡◌, ◌≤◌, ◌++◌, List, ℕ, MatchBool};
 ghost use Rattle.der_base.specs.declared.header.Length.{Length};
 ghost use Rattle.der_base.specs.Answer.{MatchAnswer};
@@ -9,9 +9,9 @@ ghost use Rattle.der_base.specs.Spelling.{end_marker};
 use crate::error::{BerError, Err, IResult, Needed};
 use crate::header::{Length, ber_read_element_header};
 
-/// The content behind a header that states this length: what follows the element, and the content
-/// octets, without the end marker. Indefinite lengths, this one among them, are nested below the
-/// budget.
+/// Reads the content after a header of this length. Returns what follows the element, and the content
+/// octets without the end marker. Indefinite lengths, this one included, may be nested less deep than
+/// the budget.
 #[cycle(framing)]
 #[inline(always)]
 pub fn read_content(i: &[u8], stated: Length, budget: usize) -> IResult<&[u8], &[u8], BerError>
@@ -28,7 +28,7 @@ pub fn read_content(i: &[u8], stated: Length, budget: usize) -> IResult<&[u8], &
     }
 }
 
-/// Reads a content of so many octets, and answers what follows the element, and the content octets.
+/// Reads a content of this many octets. Returns what follows the element, and the content octets.
 #[inline(always)]
 pub fn ber_read_definite(i: &[u8], size: usize) -> IResult<&[u8], &[u8], BerError>
     ensures { MatchAnswer result
@@ -44,8 +44,8 @@ pub fn ber_read_definite(i: &[u8], size: usize) -> IResult<&[u8], &[u8], BerErro
     Ok((rest, content))
 }
 
-/// The elements in front of the end marker of an indefinite length. The header of each comes before
-/// the budget, which the end marker needs too.
+/// Reads the elements before the end marker of an indefinite length. The header of each is read before
+/// the budget is looked at. The end marker needs budget too.
 #[cycle(framing)]
 #[inline(never)]
 fn read_to_end_marker(i: &[u8], budget: usize) -> IResult<&[u8], &[u8], BerError>
@@ -70,7 +70,7 @@ fn read_to_end_marker(i: &[u8], budget: usize) -> IResult<&[u8], &[u8], BerError
     }
 }
 
-/// Whether the two octets of an end marker stand in front (X.690 8.1.5).
+/// Whether the input begins with the two octets of an end marker (X.690 8.1.5).
 #[inline]
 pub fn begins_with_end_marker(i: &[u8]) -> bool
     ensures { MatchBool result

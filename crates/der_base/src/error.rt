@@ -1,4 +1,4 @@
-//! Refusals, and what a parser answers in place of a value.
+//! Errors, and what a parser returns in place of a value.
 ghost use Rattle.std.specs.Prelude.{◌≡◌, ◌≢◌, None, Some};
 ghost use Rattle.der_base.specs.Errors.{RefusesCutItem, MapsError};
 ghost use Rattle.der_base.specs.declared.error.Err.TheVariants.{Error as an_error, OutOfMemory as out_of_memory};
@@ -8,24 +8,24 @@ use crate::header::{Class, Tag};
 use std::alloc::{AllocError, AllocFailed};
 use std::{error, fmt, io};
 
-/// What a parser answers in place of a value.
+/// What a parser returns in place of a value.
 #[derive(Debug, PartialEq, Drop)]
 pub enum Err<E> {
-    /// The input is cut short: more octets may change the answer.
+    /// The input is cut short: more octets may change the result.
     Incomplete(Needed),
-    /// The input is refused here; another parser may still read it.
+    /// The input is refused here. Another parser may still read it.
     Error(E),
-    /// The input is refused, and no other parser is to be tried.
+    /// The input is refused, and no other parser should be tried.
     Failure(E),
-    /// There was no memory for the answer.
+    /// The allocator had no memory for the result.
     OutOfMemory,
 }
 
-/// The answer of a parser: what is left of the input, and a value.
+/// The result of a parser: the rest of the input and a value, or an `Err`.
 pub type IResult<I, O, E> = Result<(I, O), Err<E>>;
 
 impl<E> Err<E> {
-    /// The same answer, with another error in the place of its own.
+    /// The same case, with the error mapped by `f`.
     pub fn map<X, F: FnOnce(E) -> X>(self, f: F) -> Err<X>
     where
         F: Drop,
@@ -40,7 +40,7 @@ impl<E> Err<E> {
         }
     }
 
-    /// The same answer, with its error converted.
+    /// The same case, with the error converted.
     pub fn convert<X: From<E>>(e: Err<E>) -> Err<X>
         ensures { MapsError X.from_gives e result }
     {
@@ -48,8 +48,8 @@ impl<E> Err<E> {
     }
 }
 
-/// The answer for an item of a list: one that the end of its list cuts short is refused, since
-/// more octets behind the list don't help.
+/// The result for an item of a list. An item that runs past the end of its list is an error and not
+/// incomplete, since more octets after the list don't help.
 pub fn refuse_cut_item(e: Err<BerError>) -> Err<BerError>
     ensures { RefusesCutItem e result }
 {
@@ -83,7 +83,7 @@ impl<T: Drop, E> From<AllocFailed<T>> for Err<E> {
     }
 }
 
-/// The error, or what there was not enough of.
+/// The text of the error, `incomplete, needs n`, or `out of memory`.
 impl<E: fmt::Display> fmt::Display for Err<E> {
     ghost use Rattle.der_base.specs.Errors.{err_text};
 
@@ -101,17 +101,17 @@ impl<E: fmt::Display> fmt::Display for Err<E> {
 
 impl<E: fmt::Debug + fmt::Display + Drop> error::Error for Err<E> {}
 
-/// How many octets an input that is cut short lacks, as far as it shows.
+/// How many octets are missing at least from an input that is cut short.
 #[derive(Clone, Copy, Debug, PartialEq)]
 pub enum Needed {
-    /// The number isn't known. No reader answers it.
+    /// The number isn't known. No reader returns it.
     Unknown,
-    /// So many octets.
+    /// This many octets.
     Size(usize),
 }
 
 impl Needed {
-    /// A number of octets; 0 stands for one that isn't known.
+    /// A number of octets, or `Unknown` for 0.
     pub fn new(n: usize) -> Needed
         ensures unknown { n ≡ 0 → result ≡ Needed.Unknown }
         ensures size { n ≢ 0 → result ≡ Needed.Size n }
@@ -124,12 +124,12 @@ impl Needed {
     }
 }
 
-/// A fault of a parser over its input as a whole.
+/// An error about the input as a whole.
 #[derive(Clone, Copy, Debug, PartialEq)]
 pub enum ErrorKind {
-    /// The input ends too early, or octets are left where none may be.
+    /// The input ends too early, or octets are left over.
     Eof,
-    /// A parser that is called again and again takes nothing.
+    /// A parser that is called repeatedly takes no octets.
     Many0,
 }
 
@@ -142,7 +142,7 @@ pub enum DerConstraint {
     /// A length isn't in the fewest octets (10.1).
     #[error("length not minimal")]
     LengthNotMinimal,
-    /// A type that is no SEQUENCE or SET is constructed (10.2).
+    /// A type other than SEQUENCE and SET is constructed (10.2).
     #[error("constructed")]
     Constructed,
     /// A BOOLEAN is neither 00 nor ff (11.1).
@@ -169,7 +169,7 @@ pub enum DerConstraint {
     /// An unused bit of a BIT STRING is 1 (11.2.1).
     #[error("unused bits not zero")]
     UnusedBitsNotZero,
-    /// The values of a SET OF don't stand in ascending order (11.6).
+    /// The values of a SET OF aren't in ascending order (11.6).
     #[error("set out of order")]
     SetOfOrder,
 }
@@ -177,13 +177,13 @@ pub enum DerConstraint {
 /// Why an input is refused.
 #[derive(Clone, Copy, Debug, PartialEq, thiserror::Error)]
 pub enum Error {
-    /// An object is of another type than the one asked for.
+    /// An object has another type than the one asked for.
     #[error("wrong type")]
     BerTypeError,
     /// The content octets are no value of their type, or an object has no signed number.
     #[error("wrong value")]
     BerValueError,
-    /// Objects are nested deeper than was asked for.
+    /// Objects are nested deeper than the limit.
     #[error("maximum depth reached")]
     BerMaxDepth,
     /// Length octets are reserved or too large (8.1.3.5), or their number fits no value of the
@@ -193,35 +193,35 @@ pub enum Error {
     /// Identifier octets are no tag number, or one above 2^32-1 (8.1.2.4).
     #[error("invalid tag")]
     InvalidTag,
-    /// A tag number that isn't known. No reader answers it.
+    /// A tag number that isn't known. No reader returns it.
     #[error("unknown tag {0}")]
     UnknownTag(u32),
-    /// The tag number is another one than the one asked for.
+    /// The tag number isn't the expected one.
     #[error("unexpected tag (expected {}, actual {actual})", OrAny(*expected))]
     UnexpectedTag {
         expected: Option<Tag>,
         actual: Tag,
     },
-    /// The class is another one than the one asked for. Of an explicit tag none is expected, for it
-    /// may be any but Universal (8.14.2).
+    /// The class isn't the expected one. For an explicit tag `expected` is None, since its class may be
+    /// any but Universal (8.14.2).
     #[error("unexpected class (expected {}, actual {actual})", OrAny(*expected))]
     UnexpectedClass {
         expected: Option<Class>,
         actual: Class,
     },
-    /// An element is primitive that has to be constructed.
+    /// An element that must be constructed is primitive.
     #[error("constructed encoding expected")]
     ConstructExpected,
-    /// An element is constructed that has to be primitive.
+    /// An element that must be primitive is constructed.
     #[error("primitive encoding expected")]
     ConstructUnexpected,
-    /// A number is above what its type holds.
+    /// A number is out of the range of its type.
     #[error("integer too large")]
     IntegerTooLarge,
-    /// A number is negative where none may be.
+    /// A number is negative and its type is unsigned.
     #[error("integer negative")]
     IntegerNegative,
-    /// The content octets are no value of the type, for a reason in words.
+    /// The content octets are no value of the type, for the reason in `msg`.
     #[error("invalid value for {tag}: {msg}")]
     InvalidValue {
         tag: Tag,
@@ -230,20 +230,20 @@ pub enum Error {
     /// An octet is outside the character set of a string type (8.23).
     #[error("invalid character in string")]
     StringInvalidCharset,
-    /// The text of a time is none (8.25).
+    /// The octets are no text of the time type (8.25).
     #[error("invalid date or time")]
     InvalidDateTime,
-    /// A form of encoding that isn't read: a BIT STRING, a character string or a time that is
+    /// A form of encoding that isn't supported: a BIT STRING, a character string or a time that is
     /// constructed, or a BMPString of an odd number of octets.
     #[error("unsupported")]
     Unsupported,
     /// A rule of DER is broken.
     #[error("DER constraint failed: {0}")]
     DerConstraintFailed(DerConstraint),
-    /// An item is cut by the end of its container: more octets don't help.
+    /// An item runs past the end of its container. More octets don't help.
     #[error("incomplete{}", Needs(*.0))]
     Incomplete(Needed),
-    /// A fault of a parser over its input as a whole.
+    /// An error about the input as a whole.
     #[error("parser fault: {0:?}")]
     NomError(ErrorKind),
 }
@@ -266,7 +266,7 @@ impl Error {
         BerError::UnexpectedClass { expected, actual }
     }
 
-    /// No value of the type, for a reason in words.
+    /// The content octets are no value of the type, for the reason in `msg`.
     pub fn invalid_value(tag: Tag, msg: &'static str) -> BerError
         ensures { result ≡ Error.InvalidValue tag msg.entry }
     {
@@ -304,21 +304,21 @@ impl fmt::Display for Needs {
     }
 }
 
-/// An error type that parsers can answer in place of `BerError`.
+/// An error type that parsers can return in place of `BerError`.
 pub trait ParseError<I>: Sized {
     ghost use Rattle.der_base.specs.declared.error.ErrorKind.{ErrorKind};
 
-    // Holds of an input, a kind and each value that `from_error_kind` may answer.
+    // Holds of an input, a kind and each value that `from_error_kind` may return.
     ghost from_error_kind_gives: { I → ErrorKind → Self → Type 0 };
 
-    // Holds of an input, a kind, the value before and each value that `append` may answer.
+    // Holds of an input, a kind, the earlier error and each value that `append` may return.
     ghost append_gives: { I → ErrorKind → Self → Self → Type 0 };
 
-    /// The error for a fault of this kind at this input.
+    /// The error of this kind at this input.
     fn from_error_kind(input: I, kind: ErrorKind) -> Self
         ensures { from_error_kind_gives input kind result };
 
-    /// The error for a fault of this kind at this input, behind another one.
+    /// The error of this kind at this input, after another error.
     fn append(input: I, kind: ErrorKind, other: Self) -> Self
         ensures { append_gives input kind other result };
 }
@@ -337,16 +337,16 @@ impl<I: Drop> ParseError<I> for BerError {
     }
 }
 
-/// Why an object isn't written.
+/// Why an object can't be written.
 #[derive(Debug, PartialEq, Drop, thiserror::Error)]
 pub enum GenError {
-    /// The writer failed, or took nothing.
+    /// The writer failed, or took no octets.
     #[error("write failed")]
     Io(io::ErrorKind),
     /// The octets to write are more than 2^64-1.
     #[error("object too large")]
     TooLarge,
-    /// There was no memory for the octets.
+    /// The allocator had no memory for the octets.
     #[error("out of memory")]
     OutOfMemory,
 }
@@ -371,10 +371,10 @@ impl<T: Drop> From<AllocFailed<T>> for GenError {
     }
 }
 
-/// Why arcs are no object identifier.
+/// Why arcs or a text are no object identifier.
 #[derive(Debug, PartialEq, Drop, thiserror::Error)]
 pub enum OidParseError {
-    /// Fewer arcs than two, or none of a relative one.
+    /// Fewer than two arcs, or none for a relative identifier.
     #[error("too few components")]
     TooShort,
     /// The first two arcs have no subidentifier (X.690 8.19.4).
@@ -383,7 +383,7 @@ pub enum OidParseError {
     /// An arc isn't a decimal number of at most 2^64-1.
     #[error("not a number")]
     ParseInt,
-    /// There was no memory for the octets.
+    /// The allocator had no memory for the octets.
     #[error("out of memory")]
     OutOfMemory,
 }

@@ -1,4 +1,4 @@
-//! Tags, lengths and headers: the octets in front of a content (X.690 8.1.2 and 8.1.3).
+//! Tags, lengths and headers: the octets before the content (X.690 8.1.2 and 8.1.3).
 ghost use Rattle.std.specs.Prelude.{◌≡◌, ◌≢◌, ◌&&◌, ◌==◌, ◌↔◌, ℕ, false, true, if◌then◌else◌};
 ghost use Rattle.std.specs.Prelude.{IsTrue, IfSome, None, Some, MatchResult};
 ghost use Rattle.std.specs.Option.{option_copied};
@@ -65,7 +65,7 @@ pub struct Tag(pub u32);
 /// The universal types (X.680 8.4, table 1).
 #[allow(non_upper_case_globals)]
 impl Tag {
-    /// The type of which an element ends an indefinite length (X.690 8.1.5).
+    /// The type of the element that ends an indefinite length (X.690 8.1.5).
     pub const EndOfContent: Tag = Tag(0);
 
     /// BOOLEAN.
@@ -89,16 +89,16 @@ impl Tag {
     /// ObjectDescriptor.
     pub const ObjectDescriptor: Tag = Tag(7);
 
-    /// EXTERNAL, whose content is kept as it stands.
+    /// EXTERNAL. Its content is kept as octets.
     pub const External: Tag = Tag(8);
 
-    /// REAL, whose content is kept as it stands.
+    /// REAL. Its content is kept as octets.
     pub const RealType: Tag = Tag(9);
 
     /// ENUMERATED.
     pub const Enumerated: Tag = Tag(10);
 
-    /// EMBEDDED PDV, whose content is kept as it stands.
+    /// EMBEDDED PDV. Its content is kept as octets.
     pub const EmbeddedPdv: Tag = Tag(11);
 
     /// UTF8String.
@@ -152,8 +152,8 @@ impl Tag {
     /// BMPString.
     pub const BmpString: Tag = Tag(30);
 
-    /// Whether the universal type of this number has a content of its own. Contents of others are
-    /// kept as they stand.
+    /// Whether the universal type of this number has a content of its own. The content of any other
+    /// type is kept as octets.
     #[inline]
     pub fn is_mapped(self) -> bool
         ensures { result ≡ is_mapped self.0 }
@@ -161,7 +161,7 @@ impl Tag {
         matches!(self.0, 0..=7 | 10 | 12 | 13 | 16..=28 | 30)
     }
 
-    /// The name of the universal type of this number, where it has one.
+    /// The name of the universal type of this number, if it has one.
     pub fn name(self) -> Option<&'static str>
         ensures { option_copied result ≡ name_at type_names self.0 }
     {
@@ -225,15 +225,15 @@ impl fmt::Display for Tag {
 /// The length that a header states (X.690 8.1.3).
 #[derive(Clone, Copy, Debug, PartialEq)]
 pub enum Length {
-    /// So many content octets.
+    /// This many content octets.
     Definite(usize),
-    /// The content goes on to its end marker.
+    /// The content ends at its end marker.
     Indefinite,
 }
 
 impl Length {
-    /// The number of content octets. An indefinite length is the constraint IndefiniteLength, as by
-    /// DER (X.690 10.1).
+    /// The number of content octets. For an indefinite length the error is the DER constraint
+    /// IndefiniteLength (X.690 10.1).
     pub fn definite(&self) -> Result<usize, BerError>
         ensures { MatchResult result
             (λ n. self.now ≡ Length.Definite n)
@@ -258,8 +258,8 @@ impl From<usize> for Length {
     }
 }
 
-/// What stands in front of a content: its class, whether it is constructed, its tag number and
-/// its length (X.690 8.1.1). One that was read has its identifier octets too.
+/// The header of an element: its class, whether it is constructed, its tag number and its length
+/// (X.690 8.1.1). A header that was read has its identifier octets too.
 #[derive(Clone, Copy, Debug)]
 pub struct Header<'a> {
     class: Class,
@@ -267,9 +267,9 @@ pub struct Header<'a> {
     definite: bool,
     has_raw_tag: bool,
     tag: Tag,
-    // How many content octets, 0 where the length is indefinite.
+    // The number of content octets, or 0 if the length is indefinite.
     size: usize,
-    // The identifier octets, none where there is no raw tag.
+    // The identifier octets, or none if there is no raw tag.
     raw_tag: &'a [u8],
 }
 
@@ -346,7 +346,7 @@ impl<'a> Header<'a> {
         self.tag
     }
 
-    /// The length (X.690 8.1.3). It needn't be that of a content.
+    /// The length (X.690 8.1.3). It may differ from that of the content.
     pub fn length(&self) -> Length
         ensures { result ≡ length_of self.now }
     {
@@ -364,7 +364,7 @@ impl<'a> Header<'a> {
         self.constructed
     }
 
-    /// The identifier octets as they were read, where the header has them.
+    /// The identifier octets as they were read, if the header has them.
     pub fn raw_tag(&self) -> Option<&'a [u8]>
         ensures { option_copied result ≡ raw_tag_of self.now }
     {
@@ -403,7 +403,7 @@ impl<'a> Header<'a> {
         self.class == Class::Private
     }
 
-    /// Whether the content is a value, and not made of elements.
+    /// Whether the content is a value and isn't made of elements.
     pub fn is_primitive(&self) -> bool
         ensures { IsTrue result ↔ (is_constructed self.now ≡ false) }
     {
@@ -417,7 +417,7 @@ impl<'a> Header<'a> {
         self.constructed
     }
 
-    /// Ok where the class is this one, UnexpectedClass otherwise.
+    /// Ok if the class is this one, else UnexpectedClass.
     pub fn assert_class(&self, class: Class) -> Result<(), BerError>
         ensures { MatchResult result
             (λ _. class_of self.now ≡ class)
@@ -430,7 +430,7 @@ impl<'a> Header<'a> {
         }
     }
 
-    /// Ok where the tag number is this one, UnexpectedTag otherwise.
+    /// Ok if the tag number is this one, else UnexpectedTag.
     pub fn assert_tag(&self, tag: Tag) -> Result<(), BerError>
         ensures { MatchResult result
             (λ _. number_of self.now ≡ tag.0)
@@ -443,7 +443,7 @@ impl<'a> Header<'a> {
         }
     }
 
-    /// Ok where the content is made of elements, ConstructExpected otherwise.
+    /// Ok if the content is made of elements, else ConstructExpected.
     pub fn assert_constructed(&self) -> Result<(), BerError>
         ensures { MatchResult result
             (λ _. is_constructed self.now ≡ true)
@@ -456,7 +456,7 @@ impl<'a> Header<'a> {
         }
     }
 
-    /// Ok where the content is a value, ConstructUnexpected otherwise.
+    /// Ok if the content is a value, else ConstructUnexpected.
     pub fn assert_primitive(&self) -> Result<(), BerError>
         ensures { MatchResult result
             (λ _. is_constructed self.now ≡ false)
@@ -470,7 +470,8 @@ impl<'a> Header<'a> {
     }
 }
 
-/// Headers are equal where their class, constructed bit and tag number are.
+/// Two headers are equal iff their class, constructed bit and tag number are. Their lengths and raw
+/// tags aren't compared.
 impl PartialEq for Header<'_> {
     ghost use Rattle.std.specs.Ordering.{eq_of_both, on};
     ghost use Rattle.std.specs.Cmp.Rules.{comparing};
@@ -490,7 +491,7 @@ impl PartialEq for Header<'_> {
     }
 }
 
-/// Whether a length is definite, and how many octets it says.
+/// Whether a length is definite, and its number of octets.
 fn parts_of(length: Length) -> (bool, usize)
     ensures { length ≡ (if result.0 then Length.Definite result.1 else Length.Indefinite) }
 {
@@ -500,13 +501,13 @@ fn parts_of(length: Length) -> (bool, usize)
     }
 }
 
-/// Reads the header in front of an element as BER allows it: identifier octets (X.690 8.1.2), and a
-/// length in any octets, definite or, where constructed, indefinite (8.1.3). The header has its
+/// Reads the header at the start of an element as BER allows it: identifier octets (X.690 8.1.2) and a
+/// length in any number of octets, definite or, if constructed, indefinite (8.1.3). The header has its
 /// identifier octets as raw tag.
 ///
-/// Refusals: InvalidTag, InvalidLength, and ConstructExpected for an indefinite length behind a
-/// primitive identifier, each at the octet that shows it; Incomplete with the number of octets that
-/// a header lacks which is cut short. It takes no memory.
+/// Errors: InvalidTag, InvalidLength, and ConstructExpected for an indefinite length after a primitive
+/// identifier, each at the octet that shows it; Incomplete with the number of octets that a header
+/// lacks. It doesn't allocate.
 #[inline(always)]
 pub fn ber_read_element_header(i: &[u8]) -> IResult<&[u8], Header<'_>, BerError>
     ensures { AnswersBerHeader i.now result }
@@ -541,12 +542,12 @@ fn read_any_ber_header(i: &[u8]) -> IResult<&[u8], Header<'_>, BerError>
     Ok((rest, header_of(identifier, length)))
 }
 
-/// Reads the header in front of an element, as DER writes it: identifier octets (X.690 8.1.2), and
-/// a definite length in the fewest octets (10.1). The header has its identifier octets as raw tag.
+/// Reads the header at the start of an element as DER writes it: identifier octets (X.690 8.1.2) and a
+/// definite length in the fewest octets (10.1). The header has its identifier octets as raw tag.
 ///
-/// Refusals: InvalidTag, InvalidLength, and of DerConstraintFailed IndefiniteLength and
-/// LengthNotMinimal, each at the octet that shows it; Incomplete with the number of octets that a
-/// header lacks which is cut short. It takes no memory.
+/// Errors: InvalidTag, InvalidLength, and the DER constraints IndefiniteLength and LengthNotMinimal,
+/// each at the octet that shows it; Incomplete with the number of octets that a header lacks. It
+/// doesn't allocate.
 #[inline(always)]
 pub fn der_read_element_header(i: &[u8]) -> IResult<&[u8], Header<'_>, BerError>
     ensures { AnswersDerHeader i.now result }
@@ -581,8 +582,8 @@ fn read_any_der_header(i: &[u8]) -> IResult<&[u8], Header<'_>, BerError>
     Ok((rest, header_of(identifier, Length::Definite(length))))
 }
 
-/// Reads a header of two octets, as most are: a tag number below 31, and a length below 128
-/// (X.690 8.1.2.2, 8.1.3.4).
+/// Reads a header of two octets, as most are: a tag number below 31 and a length below 128 (X.690
+/// 8.1.2.2, 8.1.3.4).
 #[inline(always)]
 fn read_short_header(i: &[u8]) -> Option<(&[u8], Header<'_>)>
     ensures ber { IfSome result (λ x. ReadsHeader i.now x.1 x.0.now) }
@@ -621,8 +622,8 @@ fn header_of(identifier: Identifier<'_>, length: Length) -> Header<'_>
     }
 }
 
-/// How many headers were read: one for each call of a counted reader. It stays at its greatest
-/// value.
+/// The number of calls of counted readers that were given this `HeaderCount`, one a header. Readers
+/// that aren't given it don't raise it. It stays at its greatest value.
 #[derive(Debug, Drop)]
 pub struct HeaderCount(u128);
 
@@ -633,14 +634,14 @@ impl Model for HeaderCount {
 }
 
 impl HeaderCount {
-    /// No header yet.
+    /// A count of 0.
     pub fn new() -> HeaderCount
         ensures { result ≡ 0 }
     {
         HeaderCount(0)
     }
 
-    /// The number of headers.
+    /// The number of calls that were given this count.
     pub fn count(&self) -> u128
         ensures { result ≡ self.now }
     {
@@ -655,7 +656,7 @@ impl HeaderCount {
     }
 }
 
-/// Reads a header as `ber_read_element_header`, and counts it.
+/// Reads a header like `ber_read_element_header`, and raises the given count by one, also on an error.
 #[inline(always)]
 pub fn ber_header_counted<'a>(
     i: &'a [u8],
@@ -668,7 +669,7 @@ pub fn ber_header_counted<'a>(
     ber_read_element_header(i)
 }
 
-/// Reads a header as `der_read_element_header`, and counts it.
+/// Reads a header like `der_read_element_header`, and raises the given count by one, also on an error.
 #[inline(always)]
 pub fn der_header_counted<'a>(
     i: &'a [u8],

@@ -19,8 +19,9 @@ pub struct Identifier<'a> {
     pub octets: &'a [u8],
 }
 
-/// Reads the identifier octets in front. `InvalidTag` as soon as it shows that there are none, or
-/// that their tag number is above 2^32-1; `Incomplete` of one octet where the input ends before.
+/// Reads the identifier octets at the start of the input. `InvalidTag` as soon as the octets show that
+/// they are none, or that their tag number is above 2^32-1; `Incomplete` of one octet if the input ends
+/// before.
 #[inline]
 pub fn read_identifier(i: &[u8]) -> IResult<&[u8], Identifier<'_>, BerError>
     ensures { MatchAnswer result
@@ -75,8 +76,8 @@ pub fn first_octet(first: u8) -> (Class, bool, u8)
     (class, first / 32 % 2 == 1, first % 32)
 }
 
-/// The tag number that stands behind the first octet of the long form (8.1.2.4.2). Which one it
-/// is makes no difference: the contract puts 1f there.
+/// Reads the tag number after the first octet of the long form (8.1.2.4.2). The contract takes that
+/// octet as 1f. Any other first octet of the long form gives the same result.
 #[inline(never)]
 fn read_long_form(i: &[u8]) -> IResult<&[u8], Tag, BerError>
     ensures { MatchAnswer result
@@ -88,7 +89,7 @@ fn read_long_form(i: &[u8]) -> IResult<&[u8], Tag, BerError>
     let Some((first, _)) = i.split_first() else {
         return Err(Err::Incomplete(Needed::Size(1)));
     };
-    // A number below 31, or a group of zeros in front.
+    // A number below 31, or a leading group of zeros.
     if *first < 31 || *first == 128 {
         return Err(Err::Error(BerError::InvalidTag));
     }

@@ -1,4 +1,4 @@
-//! Numbers that octets spell, and those of content octets in two's complement (X.690 8.3).
+//! Unsigned numbers in octets, and two's complement numbers in content octets (X.690 8.3).
 ghost use Rattle.std.specs.Prelude.{◌≡◌, ◌<◌, ◌<ℤ◌, ◌≤ℤ◌, ◌^◌, MatchResult, false, neg_ℤ, pos, true};
 ghost use Rattle.std.specs.Option.{SomeIff};
 ghost use Rattle.der_base.specs.Leaf.{IsMinimalInteger};
@@ -10,8 +10,8 @@ ghost use Rattle.der_base.specs.Tree.{bit_string, integer};
 
 use crate::error::{BerError, DerConstraint};
 
-/// The number of content octets, where it is from -2^63 to 2^63-1; no octets are 0. IntegerTooLarge
-/// where it isn't.
+/// Returns the number that content octets spell in two's complement, from -2^63 to 2^63-1. No octets
+/// spell 0. IntegerTooLarge for any other number.
 pub fn read_i64(octets: &[u8]) -> Result<i64, BerError>
     ensures { AnswersSigned 64 (integer octets.now) result }
 {
@@ -24,15 +24,15 @@ pub fn read_i64(octets: &[u8]) -> Result<i64, BerError>
     fits.ok_or(BerError::IntegerTooLarge)
 }
 
-/// The same from -2^31 to 2^31-1.
+/// The same as `read_i64`, from -2^31 to 2^31-1.
 pub fn read_i32(octets: &[u8]) -> Result<i32, BerError>
     ensures { AnswersSigned 32 (integer octets.now) result }
 {
     i32::try_from(read_i64(octets)?).map_err(|_| BerError::IntegerTooLarge)
 }
 
-/// The number of content octets, where it is from 0 to 2^64-1; no octets are 0. IntegerNegative
-/// below, IntegerTooLarge above.
+/// Returns the number that content octets spell in two's complement, from 0 to 2^64-1. No octets spell
+/// 0. IntegerNegative for a number below, IntegerTooLarge for one above.
 pub fn read_u64(octets: &[u8]) -> Result<u64, BerError>
     ensures range { MatchResult result
         (λ n. (n < 2 ^ 64) × (integer_value octets.now ≡ pos n))
@@ -48,16 +48,16 @@ pub fn read_u64(octets: &[u8]) -> Result<u64, BerError>
     }
 }
 
-/// The same from 0 to 2^32-1.
+/// The same as `read_u64`, from 0 to 2^32-1.
 pub fn read_u32(octets: &[u8]) -> Result<u32, BerError>
     ensures { AnswersUnsigned 32 (integer octets.now) result }
 {
     u32::try_from(read_u64(octets)?).map_err(|_| BerError::IntegerTooLarge)
 }
 
-/// The number that the used bits of a BIT STRING spell, the highest first (8.6), of which so many
-/// are unused. InvalidLength where more are unused than there are, IntegerTooLarge where more than
-/// 64 are used.
+/// Returns the number that the used bits of a BIT STRING spell, the highest first (8.6). The last
+/// `unused` bits aren't used. InvalidLength if there are fewer bits than that, IntegerTooLarge if the
+/// used octets are more than 8.
 pub fn read_used_bits(unused: u8, octets: &[u8]) -> Result<u64, BerError>
     ensures { AnswersUnsigned 64 (bit_string unused octets.now) result }
 {
@@ -71,7 +71,7 @@ pub fn read_used_bits(unused: u8, octets: &[u8]) -> Result<u64, BerError>
     }
 }
 
-/// Whether the number of content octets is below 0.
+/// Whether the number that content octets spell is below 0.
 #[inline]
 pub fn is_negative(octets: &[u8]) -> bool
     ensures negative { result ≡ true → integer_value octets.now <ℤ pos 0 }
@@ -83,8 +83,8 @@ pub fn is_negative(octets: &[u8]) -> bool
     }
 }
 
-/// Ok where content octets are the fewest of their number (8.3.2): IntegerEmpty where there are
-/// none, IntegerLeadingZeroes and IntegerLeadingFF where the first nine bits are all alike.
+/// Ok if content octets are the fewest for their number (8.3.2). IntegerEmpty if there are none,
+/// IntegerLeadingZeroes if the first nine bits are 0, IntegerLeadingFF if they are 1.
 #[inline(always)]
 pub fn check_fewest_octets(octets: &[u8]) -> Result<(), BerError>
     ensures { MatchResult result
@@ -103,7 +103,7 @@ pub fn check_fewest_octets(octets: &[u8]) -> Result<(), BerError>
     }
 }
 
-/// The number that octets spell, where it is below 2^64. They may begin with any number of zeros.
+/// The unsigned number that octets spell, if it is below 2^64. Any number of leading zeros is allowed.
 #[inline]
 pub(crate) fn number_that_fits(octets: &[u8]) -> Option<usize>
     ensures { SomeIff result (number octets.now < 2 ^ 64) (number octets.now) }
@@ -118,7 +118,7 @@ pub(crate) fn number_that_fits(octets: &[u8]) -> Option<usize>
     Some(n)
 }
 
-/// The number of content octets that is not negative, where it is below 2^63.
+/// The number that content octets spell, which isn't negative, if it is below 2^63.
 fn natural_that_fits(octets: &[u8]) -> Option<i64>
     requires { integer_value octets.now ≡ pos (number octets.now) }
     ensures { SomeIff result (integer_value octets.now <ℤ pos (2 ^ 63)) (integer_value octets.now) }
@@ -126,8 +126,8 @@ fn natural_that_fits(octets: &[u8]) -> Option<i64>
     i64::try_from(number_that_fits(octets)?).ok()
 }
 
-/// The negative number of content octets, where it is at least -2^63. It is one less than the
-/// negative of the number that the complements of the octets spell.
+/// The negative number that content octets spell, if it is at least -2^63. The complements of the octets
+/// spell an unsigned number n, and the result is -1 - n.
 fn negative_that_fits(octets: &[u8]) -> Option<i64>
     requires { integer_value octets.now <ℤ pos 0 }
     ensures { SomeIff result (neg_ℤ (pos (2 ^ 63)) ≤ℤ integer_value octets.now) (integer_value octets.now) }

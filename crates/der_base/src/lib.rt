@@ -1,5 +1,5 @@
-//! What BER and DER stand on: errors, tags, lengths and headers (X.690 8.1), and the definitions
-//! that every contract of the project cites, in `specs/`.
+//! The base of BER and DER: errors, tags, lengths and headers (X.690 8.1), and in `specs/` the
+//! definitions that every contract of the project cites.
 #![tactic(auto)]
 
 pub mod any;
@@ -16,8 +16,10 @@ pub mod spans;
 pub mod text;
 pub mod time;
 
-/// How deep the readers go that are given no depth, and how deep indefinite lengths may nest.
+/// The depth of readers that are given none, and the framing budget of indefinite lengths. Contracts
+/// write it as the number 50, and `framing_budget` where it is the budget.
 pub const MAX_RECURSION: usize = 50;
 
-/// The most content octets of an object that a DER reader takes.
+/// The greatest number of content octets of an object that a DER reader takes, 2^32-1. Contracts write
+/// it as `max_object_size`.
 pub const MAX_OBJECT_SIZE: usize = 4294967295;

@@ -15,7 +15,7 @@ use crate::error::OidParseError;
 use std::alloc::{AllocError, Global};
 use std::borrow::CowSlice;
 
-/// An object identifier, as the content octets that it has.
+/// An object identifier, kept as its content octets.
 #[derive(Debug, Drop)]
 pub struct Oid<'a> {
     octets: CowSlice<'a, u8>,
@@ -26,7 +26,7 @@ impl<'a> Oid<'a> {
     ghost use Rattle.der_base.specs.Arcs.{arcs};
     ghost use Rattle.der_base.specs.Oids.{octets_of, is_relative_of, arcs_left, Makes, IsBorrowed};
 
-    /// The OBJECT IDENTIFIER with these content octets (8.19), whatever they are.
+    /// The OBJECT IDENTIFIER with these content octets (8.19). They aren't checked.
     pub fn new(octets: CowSlice<'a, u8>) -> Oid<'a>
         ensures octets { octets_of result ≡ cow_slice_items octets.entry }
         ensures absolute { is_relative_of result ≡ false }
@@ -38,7 +38,7 @@ impl<'a> Oid<'a> {
         }
     }
 
-    /// The RELATIVE-OID with these content octets (8.20), whatever they are.
+    /// The RELATIVE-OID with these content octets (8.20). They aren't checked.
     pub fn new_relative(octets: CowSlice<'a, u8>) -> Oid<'a>
         ensures octets { octets_of result ≡ cow_slice_items octets.entry }
         ensures relative { is_relative_of result ≡ true }
@@ -52,8 +52,8 @@ impl<'a> Oid<'a> {
 
     /// The OBJECT IDENTIFIER with these arcs (8.19).
     ///
-    /// Refusals: TooShort for fewer than two arcs; FirstComponentsTooLarge where the first is above
-    /// 2, the second above 39 under 0 or 1, or the number of both above 2^64-1; OutOfMemory.
+    /// Errors: TooShort for fewer than two arcs; FirstComponentsTooLarge if the first is above 2, the
+    /// second above 39 after 0 or 1, or their subidentifier above 2^64-1; OutOfMemory.
     pub fn from(alloc: Global, arcs: &[u64]) -> Result<Oid<'a>, OidParseError>
         ensures { Makes false (octets_of_arcs false arcs.now) result }
     {
@@ -71,7 +71,7 @@ impl<'a> Oid<'a> {
 
     /// The RELATIVE-OID with these arcs (8.20).
     ///
-    /// Refusals: TooShort for no arcs; OutOfMemory.
+    /// Errors: TooShort for no arcs; OutOfMemory.
     pub fn from_relative(alloc: Global, arcs: &[u64]) -> Result<Oid<'a>, OidParseError>
         ensures { Makes true (octets_of_arcs true arcs.now) result }
     {
@@ -83,11 +83,11 @@ impl<'a> Oid<'a> {
         Ok(Oid::new_relative(CowSlice::Owned(octets)))
     }
 
-    /// The OBJECT IDENTIFIER with the arcs that a text writes in decimal digits, with a point
-    /// between them.
+    /// The OBJECT IDENTIFIER of a dotted text: arcs in decimal digits with a point between them.
+    /// Leading zeros are allowed.
     ///
-    /// Refusals: ParseInt where a component isn't made of digits, has none, or is above 2^64-1; then
-    /// those of `from`.
+    /// Errors: ParseInt if a component is empty, isn't made of digits, or is above 2^64-1; then those
+    /// of `from`.
     pub fn from_dotted(alloc: Global, text: &str) -> Result<Oid<'a>, OidParseError>
         ensures { (result ≡ Err OutOfMemory) ⊎ Makes false (octets_if_arcs (dotted_arcs text.now)) result }
     {
@@ -95,7 +95,8 @@ impl<'a> Oid<'a> {
         Oid::from(alloc, &arcs)
     }
 
-    /// A copy. One that is borrowed takes no memory, and is borrowed from the same place.
+    /// A copy. A borrowed identifier is copied without allocation, and the copy is borrowed from the
+    /// same place.
     pub fn try_clone(&self, alloc: Global) -> Result<Oid<'a>, AllocError>
         ensures same { IfOk result
             (λ x. (octets_of x ≡ octets_of self.now) × (is_relative_of x ≡ is_relative_of self.now)) }
@@ -125,8 +126,8 @@ impl<'a> Oid<'a> {
         self.relative
     }
 
-    /// The arcs, in order. None where a subidentifier has no last octet, or ten octets or more
-    /// (8.19.2).
+    /// The arcs, in order. None if a subidentifier lacks its last octet, or has ten octets or more
+    /// (8.19.2). An identifier without octets has no arcs.
     pub fn iter(&self) -> Option<OidIter<'_>>
         ensures { option_map arcs_left result ≡ arcs (is_relative_of self.now) (octets_of self.now) }
     {
@@ -143,7 +144,7 @@ impl<'a> Oid<'a> {
     }
 }
 
-/// Identifiers are equal where their octets are, and both or neither are relative.
+/// Two identifiers are equal iff their octets are, and both or neither are relative.
 impl PartialEq for Oid<'_> {
     ghost use Rattle.std.specs.Ordering.{eq_of_both, on};
     ghost use Rattle.std.specs.Cmp.Rules.{comparing};
@@ -165,7 +166,7 @@ impl PartialEq for Oid<'_> {
     }
 }
 
-/// The arc that an iterator answers next.
+/// The arc that an iterator returns next.
 #[derive(Clone, Copy, Debug)]
 enum NextArc {
     /// The first of the two arcs that the first subidentifier of an absolute identifier holds
@@ -173,7 +174,7 @@ enum NextArc {
     First,
     /// The second of them.
     Second(u64),
-    /// The one that the next subidentifier is.
+    /// The one in the next subidentifier.
     Further,
 }
 
@@ -211,7 +212,7 @@ impl Iterator for OidIter<'_> {
     }
 }
 
-/// The arcs that a text writes, with a point between them.
+/// The arcs of a dotted text.
 fn parse_arcs(alloc: Global, text: &str) -> Result<Vec<u64>, OidParseError>
     ensures { MatchResult result
         (λ v. dotted_arcs text.now ≡ Some v.items)
@@ -231,7 +232,7 @@ fn parse_arcs(alloc: Global, text: &str) -> Result<Vec<u64>, OidParseError>
 fn parse_arc(digits: &str) -> Option<u64>
     ensures { SomeIff result (IsTrue (is_arc digits.now)) (digits_value 10 digits.now) }
 {
-    // A sign is no digit, though `parse` takes one.
+    // `parse` accepts a sign, which is no digit.
     if digits.starts_with('+') {
         return None;
     }
@@ -249,14 +250,14 @@ fn first_arcs(value: u64) -> (u64, u64)
     }
 }
 
-/// How many octets a subidentifier of fewer than ten has at most in front of its last one.
+/// The greatest number of octets before the last one in a subidentifier of fewer than ten octets.
 const MOST_BEFORE_LAST: usize = 8;
 
 /// Whether each subidentifier has a last octet, and fewer than ten octets.
 fn are_whole(octets: &[u8]) -> bool
     ensures { result ≡ list_all is_whole (subidentifiers octets.now) }
 {
-    // How many octets there are behind the last subidentifier that has its last one.
+    // The number of octets after the last complete subidentifier.
     let mut open: usize = 0;
     for octet in octets {
         if *octet < 128 {
@@ -270,7 +271,7 @@ fn are_whole(octets: &[u8]) -> bool
     open == 0
 }
 
-/// The number that the first subidentifier is, and the octets behind it; None where there is none.
+/// The number in the first subidentifier, and the octets after it. None if there are no octets.
 fn split_subidentifier(octets: &[u8]) -> Option<(u64, &[u8])>
     requires { AreWhole octets.now }
     ensures { MatchOption result (octets.now ≡ [])
@@ -286,7 +287,7 @@ fn split_subidentifier(octets: &[u8]) -> Option<(u64, &[u8])>
     None
 }
 
-/// The number of the first two arcs of an absolute identifier (8.19.4), where they have one.
+/// The first subidentifier for the first two arcs of an absolute identifier (8.19.4), if there is one.
 fn first_value(first: u64, second: u64) -> Option<u64>
     ensures { SomeIff result (IsTrue (have_subidentifier first second)) (40 * first + second) }
 {
@@ -297,7 +298,7 @@ fn first_value(first: u64, second: u64) -> Option<u64>
     }
 }
 
-/// Writes numbers at the end, each as a subidentifier.
+/// Appends numbers, each as a subidentifier.
 fn push_subidentifiers(octets: &mut Vec<u8>, values: &[u64]) -> Result<(), AllocError>
     ensures { OnOk result (octets.new.items ≡ octets.old.items ++ flat_map groups values.now) }
 {
@@ -307,7 +308,7 @@ fn push_subidentifiers(octets: &mut Vec<u8>, values: &[u64]) -> Result<(), Alloc
     Ok(())
 }
 
-/// Writes a number at the end as a subidentifier, in the fewest groups of seven bits (8.19.2).
+/// Appends a number as a subidentifier, in the fewest groups of seven bits (8.19.2).
 fn push_subidentifier(octets: &mut Vec<u8>, value: u64) -> Result<(), AllocError>
     ensures { OnOk result (octets.new.items ≡ octets.old.items ++ groups value) }
 {
@@ -323,8 +324,8 @@ fn push_subidentifier(octets: &mut Vec<u8>, value: u64) -> Result<(), AllocError
     octets.extend_from_slice(&last_groups[begin..])
 }
 
-/// The arcs that an identifier is made of come back from it, where each of its subidentifiers is
-/// below 2^63.
+/// `iter` of an identifier that was made from arcs returns these arcs, if each of its subidentifiers
+/// is below 2^63.
 pub fn arcs_come_back()
     ensures { ArcsComeBack }
 {}

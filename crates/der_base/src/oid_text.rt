@@ -8,8 +8,8 @@ ghost use Rattle.der_base.specs.Pretty.{arcs_text, dotted, hex, hex_pair, pointe
 use crate::oid::{Oid, OidIter};
 use std::fmt;
 
-/// The arcs with points between them, as in `1.2.840.113549`; of an identifier that has none (X.690
-/// 8.19.2), its octets in hexadecimal, as in `[2a 86]`.
+/// The arcs with points between them, as in `1.2.840.113549`. If `iter` returns None, the octets in
+/// hexadecimal, as in `[2a 86]`. The text of an identifier without octets is empty.
 impl fmt::Display for Oid<'_> {
     ghost output = { λ o. Some (arcs_text (arcs (is_relative_of o) (octets_of o)) (octets_of o)) };
 
@@ -32,7 +32,7 @@ fn write_arcs<W: fmt::Write>(f: &mut fmt::Formatter<W>, mut arcs: OidIter<'_>) -
     write_further_arcs(f, arcs)
 }
 
-/// Writes arcs, each with a point in front.
+/// Writes arcs, each after a point.
 fn write_further_arcs<W: fmt::Write>(f: &mut fmt::Formatter<W>, arcs: OidIter<'_>) -> fmt::Result
     ensures { DisplaysOnOk W.Write.write_str_gives f.old result (Some (pointed (arcs_left arcs.entry))) f.new }
 {
@@ -55,7 +55,7 @@ fn write_hex<W: fmt::Write>(f: &mut fmt::Formatter<W>, octets: &[u8]) -> fmt::Re
     write!(f, "]")
 }
 
-/// Writes octets in hexadecimal, each with a space in front.
+/// Writes octets in hexadecimal, each after a space.
 fn write_further_octets<W: fmt::Write>(f: &mut fmt::Formatter<W>, octets: &[u8]) -> fmt::Result
     ensures { DisplaysOnOk W.Write.write_str_gives f.old result (Some (spaced_hex octets.now)) f.new }
 {

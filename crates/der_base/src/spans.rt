@@ -1,6 +1,5 @@
-//! Framing that records: the content of an indefinite length is read once to its end marker, and
-//! each element inside it is kept (X.690 8.1.3.6). What stands inside a definite length isn't looked
-//! into.
+//! Framing that records: the content of an indefinite length is read once to its end marker, and each
+//! element inside it is kept (X.690 8.1.3.6). The octets inside a definite length aren't looked into.
 ghost use Rattle.std.specs.Prelude.{◌≡◌, ◌≤◌, ◌+◌, ◌*◌, ◌-◌, ◌++◌, IfOk, List, ℕ, length};
 ghost use Rattle.der_base.specs.declared.header.Length.{Length};
 ghost use Rattle.der_base.specs.declared.spans.Span.{Span};
@@ -21,13 +20,14 @@ use crate::header::{Header, HeaderCount, Length, ber_header_counted};
 pub struct Span<'a> {
     /// The element.
     pub element: Any<'a>,
-    /// How many of the spans behind this one are of elements inside it: of a definite length none.
+    /// How many of the following spans are of elements inside this one. 0 for a definite length.
     pub inside: usize,
 }
 
-/// Reads the content behind a header that states this length, as `ber_read_content`, and records
-/// behind the spans that are there the elements inside an indefinite length, in the order of their
-/// headers. Of each of them a header is counted, and each that is counted takes two octets at least.
+/// Reads the content after a header of this length like `ber_read_content`. Appends to `spans` the
+/// elements inside an indefinite length, in the order of their headers. The given count is raised by
+/// one for each header that is read, so by at least the number of new spans. Each header takes at least
+/// two octets.
 #[inline(always)]
 pub fn ber_record_content<'a>(
     i: &'a [u8],
@@ -55,8 +55,8 @@ pub fn ber_record_content<'a>(
     }
 }
 
-/// The elements in front of the end marker of an indefinite length. The header of each comes before
-/// the budget, which the end marker needs too.
+/// Reads the elements before the end marker of an indefinite length. The header of each is read before
+/// the budget is looked at. The end marker needs budget too.
 #[cycle(recording)]
 #[inline(never)]
 fn record_to_end_marker<'a>(
@@ -98,8 +98,8 @@ fn record_to_end_marker<'a>(
     }
 }
 
-/// The element of this header, which has an indefinite length, and those inside it; it answers what
-/// follows them.
+/// Records the element of this header, which has an indefinite length, and those inside it. Returns
+/// what follows them.
 #[cycle(recording)]
 #[inline(never)]
 fn record_open<'a>(

@@ -1,16 +1,16 @@
-//! The content octets of the string types (X.690 8.23), as this project keeps them: the octets of
-//! a character set, or UTF-8, are a `&str`.
+//! The content octets of the string types (X.690 8.23), as this project keeps them: octets of a
+//! character set, or UTF-8, are a `&str`.
 ghost use Rattle.std.specs.Prelude.{◌≡◌, ◌↔◌, ◌<◌, IsTrue, All, MatchOption, false};
 ghost use Rattle.der_base.specs.Text.{is_ia5, is_numeric, is_printable, is_text_type, is_within, IsTextOf, IsUtf16};
 
 use crate::header::Tag;
 use std::str;
 
-/// Reads the content octets of a string type that is kept as a text: NumericString,
-/// PrintableString, IA5String and VisibleString of their character sets, ObjectDescriptor,
-/// UTF8String, T61String, VideotexString, GraphicString and GeneralString of UTF-8.
+/// Reads the content octets of a string type that is kept as a text: NumericString, PrintableString,
+/// IA5String and VisibleString in their character sets; ObjectDescriptor, UTF8String, T61String,
+/// VideotexString, GraphicString and GeneralString as UTF-8.
 ///
-/// None where an octet isn't in the set, where the octets aren't UTF-8, and for another type.
+/// None if an octet isn't in the set, if the octets aren't UTF-8, and for any other type.
 pub fn read_text(tag: Tag, content: &[u8]) -> Option<&str>
     ensures { MatchOption result
         (IsTrue (is_text_type tag.0) → ¬ IsTextOf tag.0 content.now)
@@ -51,7 +51,7 @@ fn is_ia5(content: &[u8]) -> bool
     content.is_ascii()
 }
 
-// Each character of a PrintableString stands at its own place, and a low line at every other place.
+// Each character of a PrintableString is at its own index, and an underscore is at every other index.
 static PRINTABLE: [u8; 256] = *b"\
     ________________________________\
     \x20______'()_+,-./0123456789:__=_?\
@@ -70,18 +70,18 @@ fn is_printable(b: u8) -> bool
     PRINTABLE[b as usize] != b'_'
 }
 
-/// The text of octets below 80.
+/// The text of octets below 0x80.
 #[inline]
 fn ascii_text(content: &[u8]) -> &str
     requires { All (λ b. b < 128) content.now }
     ensures { result.now ≡ content.now }
 {
-    // Octets below 80 are UTF-8.
+    // Octets below 0x80 are UTF-8.
     unsafe { str::from_utf8_unchecked(content) }
 }
 
-/// Whether the octets are UTF-16, the high octet of each pair first: no surrogate is without its
-/// partner. An octet that is left behind the pairs isn't looked at.
+/// Whether the octets are UTF-16, big endian: no surrogate is without its partner. An odd last octet
+/// isn't looked at.
 pub fn is_utf16(content: &[u8]) -> bool
     ensures { IsTrue result ↔ IsUtf16 content.now }
 {

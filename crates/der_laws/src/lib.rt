@@ -1,5 +1,5 @@
-//! Laws of the definitions in `der_base/specs`: a function a law, whose contract is the law and whose
-//! body is empty. `proofs/` has what the readers of BER and DER share, and the worked rows.
+//! Laws of the definitions in `der_base/specs`. Each function has a law as its contract and an empty
+//! body. `proofs/` has the lemmas that the readers of BER and DER share, and the worked rows.
 #![tactic(auto)]
 
 ghost use Rattle.der_base.specs.Laws.{
@@ -49,13 +49,13 @@ ghost use Rattle.der_base.specs.Spelling.{BeginsWithBer, BeginsWithDer};
 
 use der_base::error::{BerError, ParseError};
 
-/// Content octets of a universal type have one content by BER, and are written for one by DER.
+/// Content octets of a universal type have at most one content by BER, and by DER.
 pub fn one_content()
     ensures ber { HaveOneContent }
     ensures der { AreWrittenForOne }
 {}
 
-/// Refused content octets have one refusal.
+/// Refused content octets have one error.
 pub fn one_refusal()
     ensures ber { HaveOneBerRefusal }
     ensures der { HaveOneDerRefusal }
@@ -67,15 +67,16 @@ pub fn never_both()
     ensures der { WrittenPassDer }
 {}
 
-/// Content octets of a universal type that has contents of its own, and is no list, have a content
-/// or are refused.
+/// Content octets of a universal type that has contents of its own, and isn't SEQUENCE or SET, have a
+/// content or are refused.
 pub fn always_one()
     ensures ber { ReadOrRefusedByBer }
     ensures der { WrittenOrRefusedByDer }
     ensures written { AcceptedAreWritten }
 {}
 
-/// A content has a number of a type of the code, which fits the type, or is refused, by one refusal.
+/// A content either has a number of the Rust type, which is in the type's range, or is refused with one
+/// error.
 pub fn numbers_fit_or_are_refused()
     ensures always { NumberOrRefused }
     ensures never_both { NumbersPass }
@@ -95,7 +96,7 @@ pub fn integers_are_shortest()
     ensures minimal { MinimalIsShortest }
 {}
 
-/// The octets of a tag number from 31 on are the fewest (X.690 8.1.2.4).
+/// The octets of a tag number of at least 31 are the fewest (X.690 8.1.2.4).
 pub fn tag_numbers_are_shortest()
     ensures { GroupsAreShortest }
 {}
@@ -105,17 +106,18 @@ pub fn unused_bits_are_last()
     ensures { UnusedBitsAreLast }
 {}
 
-/// What DER spells, BER spells alike (X.690 10).
+/// A DER encoding of a tree is a BER encoding of the same tree (X.690 10).
 pub fn der_is_within_ber()
     ensures { DerIsWithinBer }
 {}
 
-/// No two fronts of an input are spellings, and no octets spell two trees (X.690 8.1).
+/// At most one prefix of an input is a BER encoding, and octets are the encoding of at most one tree
+/// (X.690 8.1).
 pub fn spellings_are_one()
     ensures { SpellingsAreOne }
 {}
 
-/// An input shows one refusal at most, and none where it begins with a spelling.
+/// An input has at most one error, and none if it begins with an encoding.
 pub fn faults_are_one()
     ensures ber { FaultsAreOne ShowsFault }
     ensures der { FaultsAreOne DerShowsFault }
@@ -123,8 +125,8 @@ pub fn faults_are_one()
     ensures der_spelled { DerSpellingsShowNoFault }
 {}
 
-/// Octets appended to an input leave the refusal that it shows, and where it begins with a spelling
-/// they only lengthen the rest.
+/// Appending octets to an input doesn't change its error. If the input begins with an encoding, it only
+/// lengthens the rest.
 pub fn appended_only_lengthen()
     ensures ber { AppendedLeaveFaults ShowsFault }
     ensures der { AppendedLeaveFaults DerShowsFault }
@@ -132,33 +134,32 @@ pub fn appended_only_lengthen()
     ensures der_spelled { AppendedLengthenRests BeginsWithDer }
 {}
 
-/// Where a header is refused, no header begins the input, whatever octets follow.
+/// If the header is refused, the input doesn't begin with a header, whatever octets are appended.
 pub fn refused_headers_stay_refused()
     ensures ber { BerRefusedBeginsNone }
     ensures der { DerRefusedBeginsNone }
 {}
 
-/// Octets appended to an input that begins with a header lengthen the rest.
+/// Appending octets to an input that begins with a header only lengthens the rest.
 pub fn appended_lengthen_headers()
     ensures ber { AppendedLengthenBerHeaders }
     ensures der { AppendedLengthenDerHeaders }
 {}
 
-/// Each proper front of a header is cut short: it lacks some number of octets, and shows no
-/// refusal.
+/// Each proper prefix of a header is incomplete: it lacks some number of octets, and has no error.
 pub fn header_fronts_are_cut()
     ensures ber { BerHeaderFrontsAreCut }
     ensures der { DerHeaderFrontsAreCut }
 {}
 
-/// Each proper front of a spelling is cut short: it lacks some number of octets, and shows no
-/// refusal.
+/// Each proper prefix of an encoding is incomplete: it lacks some number of octets, and has no error.
 pub fn fronts_are_cut()
     ensures ber { BerFrontsAreCut }
     ensures der { DerFrontsAreCut }
 {}
 
-/// What is written for a tree that BER spells spells it too: it is a normal form (X.690 8.1).
+/// What is written for a tree that has a BER encoding is an encoding of it, and the same for each of
+/// its encodings: a normal form (X.690 8.1).
 pub fn encoding_is_normal_form()
     ensures { EncodingIsNormalForm }
 {}
@@ -170,9 +171,9 @@ pub fn opened_in_one_way()
     ensures der { OpensInOneWay OpensDer }
 {}
 
-/// What a combinator opens it doesn't refuse, whether it takes any element, one of a tag number, or
-/// an explicit tag. So it calls the parser that it keeps exactly where it opens the input, once, and
-/// exactly where the input is refused not at all.
+/// A combinator doesn't refuse an input that it opens, whether it takes any element, one of a tag
+/// number, or an explicit tag. So it calls the caller's parser once iff it opens the input, and doesn't
+/// call it iff it refuses the input.
 pub fn opened_never_refused<'a, E>()
 where
     E: ParseError<&'a [u8]> + From<BerError>,
@@ -188,15 +189,15 @@ where
         (λ i. RefusesExplicit (OpensDer i) (RefusesDer E.from_error_kind_gives E.from_gives i) E.from_gives n) }
 {}
 
-/// Two DER encodings of which neither is greater than the other are the same. So the encodings in a
-/// SET OF, counted with repeats, have one order that doesn't descend (X.690 11.6).
+/// Two DER encodings are the same if neither is greater than the other. So the encodings in a SET OF,
+/// counted with repeats, have exactly one ascending order (X.690 11.6).
 pub fn set_of_has_one_order()
     ensures no_tie { EncodingsDoNotTie }
     ensures one_order { SetOfHasOneOrder }
 {}
 
-/// The text of an object shows the lengths in its headers only where it shows the headers. So a
-/// text without them is that of the tree alone.
+/// The text of an object shows the lengths of its headers only if it shows the headers. So a text
+/// without headers depends on the tree alone.
 pub fn lengths_show_in_headers()
     ensures { LengthsShowInHeaders }
 {}

@@ -30,7 +30,7 @@ fn errors_of_values_are_made(rt: HostRuntime) {
     assert_eq!(rt; Needed::new(3), Needed::Size(3));
 }
 
-/// The error of a parser is the first refusal that is told.
+/// The error of a parser is the first one that it reports.
 #[test]
 fn parsers_make_errors(rt: HostRuntime) {
     let input: &[u8] = b"\x05";
@@ -55,7 +55,7 @@ fn are_errors_mapped() -> bool {
     facts.iter().all(|is_so| *is_so)
 }
 
-/// Whether what has no error stays as it is.
+/// Whether what has no error is unchanged.
 fn are_others_kept() -> bool {
     let cut: Refused<u8> = Refused::Incomplete(Needed::Size(3));
     let wanting: Refused<u8> = Refused::OutOfMemory;

@@ -56,8 +56,21 @@ const ARCS: &[(&str, bool, Option<&[u64]>)] = &[
     ("2a 81*9 00", false, None),
 ];
 
-/// The answer is an identifier of these octets, relative or not, or this refusal; the name stands for
-/// what was asked.
+/// Octets, whether they are those of a relative identifier, and its text (X.690 8.19.5, 8.20.5). One
+/// without octets has no arcs and an empty text.
+#[rattlefmt::skip]
+const TEXTS: &[(&str, bool, &str)] = &[
+    ("", false, ""),
+    ("", true, ""),
+    ("81 34 03", false, "2.100.3"),
+    ("2a", false, "1.2"),
+    ("c2 7b 03 02", true, "8571.3.2"),
+    ("2a 86", false, "[2a 86]"),
+    ("80", true, "[80]"),
+];
+
+/// The result is an identifier of these octets, relative or not, or this refusal. The name says what
+/// was asked.
 fn expect_identifier<T: fmt::Debug>(
     rt: &(impl Abort + AllocGlobal),
     name: &T,
@@ -207,6 +220,22 @@ fn octets_have_arcs(rt: HostRuntime) -> Result<(), Fail> {
     for (text, relative, arcs) in ARCS {
         let input = octets(rt.alloc(), text)?;
         expect_arcs(&rt, &identifier_of(&input, *relative), arcs);
+    }
+    Ok(())
+}
+
+/// The identifier has this text.
+fn expect_text(rt: &(impl Abort + AllocGlobal), oid: &Oid<'_>, text: &str) -> Result<(), Fail> {
+    let written = format!(in rt.alloc(); "{oid}")?;
+    assert_eq!(rt; written.as_str(), text);
+    Ok(())
+}
+
+#[test]
+fn octets_have_texts(rt: HostRuntime) -> Result<(), Fail> {
+    for (content, relative, text) in TEXTS {
+        let input = octets(rt.alloc(), content)?;
+        expect_text(&rt, &identifier_of(&input, *relative), text)?;
     }
     Ok(())
 }

@@ -129,6 +129,26 @@ const TIMES: &[(u32, Option<u32>, ASN1TimeZone, &str, &str)] = &[
     (20, None, ASN1TimeZone::Offset(0, -30), "00200101000000-0030", "200101000000-0030"),
 ];
 
+/// The year of a time, and its year by RFC 5280 (4.1.2.5.1).
+#[rattlefmt::skip]
+const RFC_5280_YEARS: &[(u32, u32)] = &[
+    (0, 2000),
+    (26, 2026),
+    (49, 2049),
+    (50, 1950),
+    (99, 1999),
+    (100, 100),
+    (2050, 2050),
+];
+
+#[test]
+fn times_have_years_of_rfc_5280(rt: HostRuntime) {
+    for (year, full_year) in RFC_5280_YEARS {
+        let time = ASN1DateTime::new(*year, 1, 1, 0, 0, 0, None, ASN1TimeZone::Z);
+        assert_eq!(rt; time.rfc5280_year(), *full_year);
+    }
+}
+
 #[test]
 fn times_have_texts(rt: HostRuntime) -> Result<(), Fail> {
     for (year, nanosecond, tz, generalized, utc) in TIMES {

@@ -1,6 +1,7 @@
-use Rattle.std.proofs.Common.{rules, Bool, refl, sym, ◌∙◌}
+use Rattle.std.proofs.Common.{rules, Bool, ◌==◌, refl, sym, ◌∙◌}
 use Rattle.std.specs.Bool.{one_answer}
-use Rattle.std.specs.Cmp.{IsEquivalence, decided}
+use Rattle.std.proofs.lemmas.Bool.Decides.{Decides-and}
+use Rattle.std.specs.Cmp.{IsEquivalence, decided, unsigned_Decides}
 use Rattle.der_base.specs.declared.error.Err.TheVariants.{Incomplete, Error, Failure, OutOfMemory}
 use Rattle.der_base.specs.Copies.{EqualsAre, AreAlikeElements, AreAlikeErrors}
 use Rattle.der_base.specs.TreeEquality.{same_node}
@@ -12,6 +13,9 @@ returns-clause-trees c = decided same_node same_node-Decides
 
 pub returns-clause-any : goal.returns-clause-any
 returns-clause-any c = search rules
+
+pub returns-clause-span : goal.returns-clause-span
+returns-clause-span c x y = Decides-and _ (x.inside == y.inside) (returns-clause-any c x.element y.element) (unsigned_Decides x.inside y.inside)
 
 equivalence : {X : Type 0} (Alike : X → X → Type 0) (eq : X → X → Bool) → EqualsAre Alike eq
     → ((a : X) → Alike a a) → ((a b : X) → Alike a b → Alike b a)
