@@ -5,6 +5,8 @@ use der_parser::ber::{
 use der_parser::error::GenError;
 use der_tests_rows::octets::octets;
 use std::alloc::{AllocError, Global};
+use std::fmt;
+use std::fmt::Write;
 use std::process::Abort;
 use std::test::Fail;
 
@@ -226,6 +228,45 @@ fn long_runs_are_printed(rt: HostRuntime) -> Result<(), Fail> {
         let content = BerObjectContent::OctetString(&data);
         expect_made(&rt, (true, false, count, 2), content, &text)?;
     }
+    Ok(())
+}
+
+/// A writer of text that has room for a number of octets, and fails after them.
+#[derive(Drop)]
+struct Short {
+    room: usize,
+}
+
+impl fmt::Write for Short {
+    fn write_str(&mut self, text: &str) -> fmt::Result {
+        if text.len() > self.room {
+            self.room = 0;
+            return Err(fmt::Error);
+        }
+        self.room -= text.len();
+        Ok(())
+    }
+}
+
+/// Whether `Debug` writes the printer's text into a room of so many octets.
+fn is_shown_in(printer: &PrettyBer<'_, '_>, room: usize) -> bool {
+    let mut short = Short { room };
+    write!(short, "{printer:?}").is_ok()
+}
+
+/// `Debug` reports the fault of a formatter that has no room for the whole text.
+fn expect_faults(rt: &impl Abort, printer: &PrettyBer<'_, '_>, text: &str) {
+    for room in 0..text.len() {
+        assert!(rt; !is_shown_in(printer, room), "{room}");
+    }
+    assert!(rt; is_shown_in(printer, text.len()));
+}
+
+#[test]
+fn faults_of_a_formatter_are_reported(rt: HostRuntime) -> Result<(), Fail> {
+    let object = BerObject::from_int_slice(b"\x01\x00\x01");
+    let printer = printer_of(rt.alloc(), BOTH, &object)?;
+    expect_faults(&rt, &printer, "[Integer] 0 Integer([01 00 01])");
     Ok(())
 }
 
