@@ -49,7 +49,7 @@ pub mod ber {
         FaultWriter, ber_encode_header, ber_encode_object, ber_encode_object_raw,
         ber_encode_tagged_explicit, ber_encode_tagged_implicit,
     };
-    pub use der_visit::{Visit, VisitMut};
+    pub use der_visit::{Visit, VisitMut, Walk};
 
     /// Names that earlier versions of the crate had.
     pub mod compat {
