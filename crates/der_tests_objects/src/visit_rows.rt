@@ -4,7 +4,9 @@ ghost use Rattle.std.specs.Prelude.{⊤, ◌≡◌, ◌+◌, ◌*◌, ◌-◌, �
 use crate::watcher::Kind::{self, Any, Integer, Null, Optional, Sequence, Set, Tagged, Unknown};
 use crate::watcher::{Call, Watcher};
 use der_parser::ber::Class::ContextSpecific;
-use der_parser::ber::{BerObject, BerObjectContent, Tag, Visit, VisitMut, Walk, parse_ber};
+use der_parser::ber::{
+    BerObject, BerObjectContent, Tag, Visit, VisitMut, Walk, WalkMut, parse_ber,
+};
 use der_parser::parse_der;
 use der_tests_rows::octets::octets;
 use std::alloc::Global;
@@ -352,4 +354,38 @@ fn items_are_taken_out(rt: HostRuntime) -> Result<(), Fail> {
     let input = b"\x31\x08\x30\x03\x01\x01\x00\x01\x01\x00";
     let (_, mut object) = parse_ber(rt.alloc(), input)?;
     expect_cleared(&rt, &mut object)
+}
+
+/// Puts NULL in the place of each INTEGER's content by one function, and counts the objects.
+#[derive(Clone, Copy)]
+struct NullifyEach {
+    objects: u64,
+}
+
+impl WalkMut for NullifyEach {
+    ghost step = { λ s _ _ t _. t.objects ≡ min (s.objects + 1) (2 ^ 64 - 1) };
+
+    fn visit_object_mut<'t>(&mut self, object: &mut BerObject<'t>, _depth: usize) {
+        if let BerObjectContent::Integer(_) = object.content {
+            object.content = BerObjectContent::Null;
+        }
+        self.objects = self.objects.saturating_add(1);
+    }
+}
+
+/// NULL is put in the place of both INTEGERs' contents, and four objects are visited.
+fn expect_each_nullified(
+    rt: &(impl Abort + AllocGlobal),
+    object: &mut BerObject<'_>,
+) -> Result<(), Fail> {
+    let mut nullify = NullifyEach { objects: 0 };
+    nullify.walk_mut(object);
+    assert_eq!(rt; nullify.objects, 4);
+    expect_written(rt, object, b"\x30\x06\x02\x00\x31\x02\x02\x00")
+}
+
+#[test]
+fn each_object_is_changed_in_place(rt: HostRuntime) -> Result<(), Fail> {
+    let (_, mut object) = parse_ber(rt.alloc(), b"\x30\x08\x02\x01\x05\x31\x03\x02\x01\x06")?;
+    expect_each_nullified(&rt, &mut object)
 }
