@@ -12,7 +12,7 @@ use Rattle.der_object.specs.declared.object.BerObjectContent.{None', Some'}
 use Rattle.der_object.specs.declared.object.BerObjectContent.TheBlock.{shown-the_row-BerObject-0}
 use Rattle.der_object.specs.View.{tree, content_tree, trees}
 use Rattle.der_object.proofs.Trees.{sequence_tree, set_tree, every_sequence, every_set}
-use Rattle.der_visit.specs.Visiting.{TakenThrough, at_end, at_entry}
+use Rattle.der_visit.specs.Visiting.{TakenThrough, through_none, through_entry}
 
 -- what a list's items are entered for
 pub sequence_listing : (x : BerObjectContent) (v : Vec BerObject Global) (os : List BerObject) (n m : ℕ) → x ≡ Sequence v → os ≡ v.items → m ≡ deeper n
@@ -47,8 +47,8 @@ module _ {S : Type 0} {R : S → Node → ℕ → S → Type 0} where
   -- one run after another
   through_both : {es fs : List (Node × ℕ)} {s m t : S} → TakenThrough R es s m → TakenThrough R fs m t
       → TakenThrough R (es ++ fs) s t
-  through_both at_end k = k
-  through_both (at_entry r h) k = at_entry r (through_both h k)
+  through_both through_none k = k
+  through_both (through_entry r h) k = through_entry r (through_both h k)
 
   -- one item more
   pub through_more : (os : List BerObject) (i : ℕ) (o : BerObject) {n : ℕ} {s m t : S} → i < length os → o ≡ get_or os i o
@@ -59,4 +59,4 @@ module _ {S : Type 0} {R : S → Node → ℕ → S → Type 0} where
   -- an object's step, and then those of its items
   pub through_object : (o : BerObject) {es : List (Node × ℕ)} {n : ℕ} {s m t : S} → R s (tree o) n m
       → content_listing (content_tree o.content) n ≡ es → TakenThrough R es m t → TakenThrough R (listing (tree o) n) s t
-  through_object o a e h = at_entry a (rw e h)
+  through_object o a e h = through_entry a (rw e h)

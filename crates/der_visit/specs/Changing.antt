@@ -1,5 +1,5 @@
--- What a visitor does that may change what it visits, by two relations of its own, as in Visiting, which speak of what
--- is visited before and after.
+-- What a visitor does that may change what it visits, by relations of its own, as in Visiting, which speak of what is
+-- visited before and after.
 use Rattle.std.specs.Prelude.{◌≡◌, ℕ, Bool, true, false, ⊤}
 use Rattle.der_base.specs.declared.header.Class.{Class}
 use Rattle.der_base.specs.Listing.{deeper}
@@ -7,7 +7,8 @@ use Rattle.der_base.specs.Tree.{Node, node, Content, end_of_content, boolean, in
 use Rattle.der_base.specs.Tree.{enumerated, object_identifier, relative_oid, time, sequence, set, absent, present}
 use Rattle.der_base.specs.Tree.{tagged, unknown, Nodes, no_nodes, nodes}
 
--- A function that may change what it is handed takes the visitor from s to t, and x to y; or it does neither.
+-- A function with an empty default body takes the visitor from s to t and x to y by the visitor's relation, or it
+-- changes neither.
 pub data QuietlyChanges {S X : Type 0} (R : S → X → ℕ → S → X → Type 0)
     (s : S) (x : X) (n : ℕ) (t : S) (y : X) : Type 0 where
   quiet_change : t ≡ s → y ≡ x → QuietlyChanges R s x n t y
@@ -41,23 +42,27 @@ HaveOneType (tagged c t o) (tagged d u q) = ⊤
 HaveOneType (unknown c p t v) (unknown d q u w) = ⊤
 HaveOneType _ _ = ⊥
 
-module _ {S : Type 0} (object_step : S → Node → ℕ → S → Node → Type 0)
-    (content_step : S → Content → ℕ → S → Content → Type 0) where
+-- The step of a `VisitMut` at one object: that of the object, and then that of the content that is there now, which
+-- keeps its type.
+pub data ChangesNode {S : Type 0} (object_step : S → Node → ℕ → S → Node → Type 0)
+    (content_step : S → Content → ℕ → S → Content → Type 0) : S → Node → ℕ → S → Node → Type 0 where
+  at_node : {s m t : S} {o : Node} {n : ℕ} {c : Class} {p : Bool} {k : ℕ} {x y : Content}
+      → QuietlyChanges object_step s o n m (node c p k x) → HaveOneType x y → QuietlyChanges content_step m x n t y
+      → ChangesNode object_step content_step s o n t (node c p k y)
+
+module _ {S : Type 0} (R : S → Node → ℕ → S → Node → Type 0) where
   mutual
-    -- the general function, and then that of the content that is there now
+    -- Takes a visitor and an object through a walk by R: a step at the object, and then the items that are there now.
     pub data ChangesObject : S → Node → ℕ → S → Node → Type 0 where
       at_object : {s m t : S} {o : Node} {n : ℕ} {c : Class} {p : Bool} {k : ℕ} {x y : Content}
-          → QuietlyChanges object_step s o n m (node c p k x) → ChangesContent m x n t y
-          → ChangesObject s o n t (node c p k y)
+          → R s o n m (node c p k x) → ChangesInside m x n t y → ChangesObject s o n t (node c p k y)
 
-    -- the function of the content's type, and then the items that are there now
-    pub data ChangesContent : S → Content → ℕ → S → Content → Type 0 where
-      at_leaf : {s t : S} {n : ℕ} {x y : Content} → has_items x ≡ false → HaveOneType x y
-          → QuietlyChanges content_step s x n t y → ChangesContent s x n t y
-      at_sequence : {s m t : S} {n : ℕ} {l k i : Nodes} → QuietlyChanges content_step s (sequence l) n m (sequence k)
-          → ChangesItems m k (deeper n) t i → ChangesContent s (sequence l) n t (sequence i)
-      at_set : {s m t : S} {n : ℕ} {l k i : Nodes} → QuietlyChanges content_step s (set l) n m (set k)
-          → ChangesItems m k (deeper n) t i → ChangesContent s (set l) n t (set i)
+    -- only SEQUENCE and SET have items
+    pub data ChangesInside : S → Content → ℕ → S → Content → Type 0 where
+      at_leaf : {s : S} {n : ℕ} {x : Content} → has_items x ≡ false → ChangesInside s x n s x
+      at_sequence : {s t : S} {n : ℕ} {l i : Nodes} → ChangesItems s l (deeper n) t i
+          → ChangesInside s (sequence l) n t (sequence i)
+      at_set : {s t : S} {n : ℕ} {l i : Nodes} → ChangesItems s l (deeper n) t i → ChangesInside s (set l) n t (set i)
 
     -- one item after another, each in its place
     pub data ChangesItems : S → Nodes → ℕ → S → Nodes → Type 0 where

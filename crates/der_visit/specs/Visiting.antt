@@ -13,8 +13,8 @@ use Rattle.der_object.specs.View.{tree}
 -- Takes a visitor through a listing, whose entries are an object and its depth: at each entry, in their order, by one
 -- step of R, and by nothing else.
 pub data TakenThrough {S : Type 0} (R : S → Node → ℕ → S → Type 0) : List (Node × ℕ) → S → S → Type 0 where
-  at_end : {s : S} → TakenThrough R [] s s
-  at_entry : {o : Node} {n : ℕ} {rest : List (Node × ℕ)} {s m t : S} → R s o n m → TakenThrough R rest m t
+  through_none : {s : S} → TakenThrough R [] s s
+  through_entry : {o : Node} {n : ℕ} {rest : List (Node × ℕ)} {s m t : S} → R s o n m → TakenThrough R rest m t
       → TakenThrough R ((o, n) ∷ rest) s t
 
 -- A function with an empty default body takes a visitor from s to t at x, at depth n: by the visitor's relation, or

@@ -4,7 +4,9 @@
 mod visit;
 mod visit_mut;
 mod walk;
+mod walk_mut;
 
 pub use visit::Visit;
 pub use visit_mut::VisitMut;
 pub use walk::Walk;
+pub use walk_mut::WalkMut;

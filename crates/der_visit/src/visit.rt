@@ -31,7 +31,7 @@ pub trait Visit {
 
     ghost content_step: { Self → Content → ℕ → Self → Type 0 } = { λ _ _ _ _. ⊥ };
 
-    /// Any object, in front of the function of its content's type.
+    /// Any object, before the function of its content's type.
     fn visit_ber<'t>(&mut self, object: &BerObject<'t>, depth: usize)
         ensures { Quietly object_step self.old (tree object.now) depth self.new }
     {}
@@ -141,12 +141,12 @@ pub trait Visit {
         ensures { Quietly content_step self.old (string 28 octets.now) depth self.new }
     {}
 
-    /// SEQUENCE and SEQUENCE OF (8.9, 8.10), in front of the items.
+    /// SEQUENCE and SEQUENCE OF (8.9, 8.10), before the items.
     fn visit_ber_sequence<'t>(&mut self, items: &[BerObject<'t>], depth: usize)
         ensures { Quietly content_step self.old (sequence (trees items.now)) depth self.new }
     {}
 
-    /// SET and SET OF (8.11, 8.12), in front of the items.
+    /// SET and SET OF (8.11, 8.12), before the items.
     fn visit_ber_set<'t>(&mut self, items: &[BerObject<'t>], depth: usize)
         ensures { Quietly content_step self.old (set (trees items.now)) depth self.new }
     {}
@@ -161,12 +161,12 @@ pub trait Visit {
         ensures { Quietly content_step self.old (time 24 datetime.now) depth self.new }
     {}
 
-    /// An object that may be absent. What stands in it isn't visited.
+    /// An object that may be absent. The object in it isn't visited.
     fn visit_ber_optional<'t>(&mut self, object: Option<&BerObject<'t>>, depth: usize)
         ensures { Quietly content_step self.old (optional_content (option_copied object.entry)) depth self.new }
     {}
 
-    /// An object inside an explicit tag (X.690 8.14). What stands in it isn't visited.
+    /// An object inside an explicit tag (X.690 8.14). It isn't visited.
     fn visit_ber_tagged<'t>(&mut self, class: Class, tag: Tag, object: &BerObject<'t>, depth: usize)
         ensures { Quietly content_step self.old (tagged class tag.0 (tree object.now)) depth self.new }
     {}
@@ -185,7 +185,8 @@ pub trait Visit {
         walk_object(self, object, 0);
     }
 
-    /// Visits an object at this depth, and the items inside it. Depths stop at the greatest.
+    /// Visits an object at this depth, and the items inside it. Depths stop at
+    /// `usize::MAX`.
     final fn run_at<'t>(&mut self, object: &BerObject<'t>, depth: usize)
     where
         Self: Sized,

@@ -1,11 +1,13 @@
 //! Visitors that may change objects.
 ghost use Rattle.std.specs.Prelude.{ℕ, ◌≤◌};
 ghost use Rattle.der_base.specs.Tree.{Node, Content, end_of_content, boolean, integer, bit_string, string, null};
-ghost use Rattle.der_base.specs.Tree.{enumerated, sequence, set, tagged, time, height, list_height};
+ghost use Rattle.der_base.specs.Tree.{enumerated, sequence, set, tagged, time};
+ghost use Rattle.der_base.specs.Tree.{height, content_height, list_height};
 ghost use Rattle.der_object.specs.View.{tree, content_tree, trees};
-ghost use Rattle.der_visit.specs.Changing.{QuietlyChanges, HaveOneType, ChangesObject, ChangesContent, ChangesItems};
+ghost use Rattle.der_visit.specs.Changing.{QuietlyChanges, HaveOneType, ChangesNode, ChangesObject};
 ghost use Rattle.der_visit.specs.Visiting.{oid_content, relative_oid_content, boxed_content, unknown_content};
 
+use crate::walk_mut::{WalkMut, walk_object};
 use der_base::any::Any;
 use der_base::header::{Class, Tag};
 use der_base::oid::Oid;
@@ -13,21 +15,25 @@ use der_base::time::ASN1DateTime;
 use der_object::{BerObject, BerObjectContent, BitStringObject};
 use std::mem;
 
-/// Functions that `run` calls at an object and at the items inside it, and that may change what
-/// they are handed: at each `visit_ber_mut`, then the function of the type that its content has
-/// now, and then those of the items that a SEQUENCE or SET has now, one level deeper. Each
-/// function begins with an empty body.
+/// A visitor that may change what it visits, with a function for any object and one for each type
+/// of content. `run` calls `visit_ber_mut` at an object, then the function of the type that its
+/// content has now, and then does the same at each item that a SEQUENCE or SET has now, one level
+/// deeper. Each function has an empty default body.
 ///
-/// A visitor states what it does by two relations, of the visitor before, what is visited, its
-/// depth, the visitor after, and what is visited after. A function does what its relation says or
-/// changes nothing, and one that is left empty changes nothing. `visit_ber_mut` may make no object
-/// higher, nor the functions of SEQUENCE and SET a list: so each visit ends.
+/// `object_step` is what `visit_ber_mut` does and `content_step` what the other functions do, each
+/// as a relation of the visitor before, what is visited, its depth, the visitor after, and what is
+/// visited after. A function does what its relation says or changes nothing, as an empty body does.
+///
+/// `visit_ber_mut` may make no object higher, and the functions of SEQUENCE and SET no list, so
+/// each visit ends. The contract of `run` allows that a function changes nothing at an object. The
+/// contract of [`WalkMut`], which has one function and no default body, excludes that. Each
+/// `VisitMut` is a `WalkMut`, and `run` is its walk.
 pub trait VisitMut {
     ghost object_step: { Self → Node → ℕ → Self → Node → Type 0 } = { λ _ _ _ _ _. ⊥ };
 
     ghost content_step: { Self → Content → ℕ → Self → Content → Type 0 } = { λ _ _ _ _ _. ⊥ };
 
-    /// Any object, in front of the function of its content's type. It may become no higher.
+    /// Any object, before the function of its content's type. It may become no higher.
     fn visit_ber_mut<'t>(&mut self, object: &mut BerObject<'t>, depth: usize)
         ensures step { QuietlyChanges object_step self.old (tree object.old) depth self.new (tree object.new) }
         ensures no_higher { height (tree object.new) ≤ height (tree object.old) }
@@ -162,7 +168,7 @@ pub trait VisitMut {
             self.new (string 28 octets.new.now) }
     {}
 
-    /// SEQUENCE and SEQUENCE OF (8.9, 8.10), in front of the items.
+    /// SEQUENCE and SEQUENCE OF (8.9, 8.10), before the items.
     /// The list may become no higher.
     fn visit_ber_sequence_mut<'t>(&mut self, items: &mut Vec<BerObject<'t>>, depth: usize)
         ensures step { QuietlyChanges content_step self.old (sequence (trees items.old.items)) depth
@@ -170,7 +176,7 @@ pub trait VisitMut {
         ensures no_higher { list_height (trees items.new.items) ≤ list_height (trees items.old.items) }
     {}
 
-    /// SET and SET OF (8.11, 8.12), in front of the items.
+    /// SET and SET OF (8.11, 8.12), before the items.
     /// The list may become no higher.
     fn visit_ber_set_mut<'t>(&mut self, items: &mut Vec<BerObject<'t>>, depth: usize)
         ensures step { QuietlyChanges content_step self.old (set (trees items.old.items)) depth
@@ -190,13 +196,13 @@ pub trait VisitMut {
             self.new (time 24 datetime.now) }
     {}
 
-    /// An object that may be absent. What stands in it isn't visited.
+    /// An object that may be absent. The object in it isn't visited.
     fn visit_ber_optional_mut<'t>(&mut self, object: &mut Option<Box<BerObject<'t>>>, depth: usize)
         ensures { QuietlyChanges content_step self.old (boxed_content object.old) depth
             self.new (boxed_content object.new) }
     {}
 
-    /// An object inside an explicit tag (X.690 8.14). What stands in it isn't visited.
+    /// An object inside an explicit tag (X.690 8.14). It isn't visited.
     fn visit_ber_tagged_mut<'t>(
         &mut self,
         class: &mut Class,
@@ -218,16 +224,19 @@ pub trait VisitMut {
     final fn run<'t>(&mut self, object: &mut BerObject<'t>)
     where
         Self: Sized,
-        ensures { ChangesObject object_step content_step self.old (tree object.old) 0 self.new (tree object.new) }
+        ensures { ChangesObject (ChangesNode object_step content_step) self.old (tree object.old) 0
+            self.new (tree object.new) }
     {
         walk_object(self, object, 0);
     }
 
-    /// Visits an object at this depth, and the items inside it. Depths stop at the greatest.
+    /// Visits an object at this depth, and the items inside it. Depths stop at
+    /// `usize::MAX`.
     final fn run_at<'t>(&mut self, object: &mut BerObject<'t>, depth: usize)
     where
         Self: Sized,
-        ensures { ChangesObject object_step content_step self.old (tree object.old) depth self.new (tree object.new) }
+        ensures { ChangesObject (ChangesNode object_step content_step) self.old (tree object.old) depth
+            self.new (tree object.new) }
     {
         walk_object(self, object, depth);
     }
@@ -308,42 +317,29 @@ fn visit_leaf<V: VisitMut>(visitor: &mut V, content: &mut BerObjectContent<'_>, 
     }
 }
 
-/// Visits an object at this depth, and the items inside it.
-#[cycle(walk)]
-fn walk_object<V: VisitMut>(visitor: &mut V, object: &mut BerObject<'_>, depth: usize)
-    ensures { ChangesObject V.object_step V.content_step visitor.old (tree object.old) depth
-        visitor.new (tree object.new) }
-{
-    visitor.visit_ber_mut(object, depth);
-    walk_content(visitor, &mut object.content, depth);
-}
-
-/// Calls the function of the content's type, and visits the items inside.
-#[cycle(walk)]
-fn walk_content<V: VisitMut>(visitor: &mut V, content: &mut BerObjectContent<'_>, depth: usize)
-    ensures { ChangesContent V.object_step V.content_step visitor.old (content_tree content.old) depth
+/// Calls the function of the content's type.
+#[inline]
+fn visit_content<V: VisitMut>(visitor: &mut V, content: &mut BerObjectContent<'_>, depth: usize)
+    ensures step { QuietlyChanges V.content_step visitor.old (content_tree content.old) depth
         visitor.new (content_tree content.new) }
+    ensures one_type { HaveOneType (content_tree content.old) (content_tree content.new) }
+    ensures no_higher { content_height (content_tree content.new) ≤ content_height (content_tree content.old) }
 {
     match content {
-        BerObjectContent::Sequence(items) => {
-            visitor.visit_ber_sequence_mut(items, depth);
-            walk_items(visitor, items, depth.saturating_add(1));
-        }
-        BerObjectContent::Set(items) => {
-            visitor.visit_ber_set_mut(items, depth);
-            walk_items(visitor, items, depth.saturating_add(1));
-        }
+        BerObjectContent::Sequence(items) => visitor.visit_ber_sequence_mut(items, depth),
+        BerObjectContent::Set(items) => visitor.visit_ber_set_mut(items, depth),
         leaf => visit_leaf(visitor, leaf, depth),
     }
 }
 
-/// Visits the items at this depth, in their order and each in its place.
-#[cycle(walk)]
-fn walk_items<V: VisitMut>(visitor: &mut V, items: &mut Vec<BerObject<'_>>, depth: usize)
-    ensures { ChangesItems V.object_step V.content_step visitor.old (trees items.old.items) depth
-        visitor.new (trees items.new.items) }
-{
-    for i in 0..items.len() {
-        walk_object(visitor, &mut items[i], depth);
+/// Each step of the walk is `visit_ber_mut`, and then the function of the type that the content
+/// has now.
+impl<V: VisitMut> WalkMut for V {
+    ghost step = { ChangesNode V.object_step V.content_step };
+
+    #[inline]
+    fn visit_object_mut<'t>(&mut self, object: &mut BerObject<'t>, depth: usize) {
+        self.visit_ber_mut(object, depth);
+        visit_content(self, &mut object.content, depth);
     }
 }

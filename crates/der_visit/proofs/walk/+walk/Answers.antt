@@ -1,6 +1,6 @@
 use Rattle.std.proofs.Common.{◌≡◌, arith, rules}
 use Rattle.der_base.specs.Listing.{deeper}
-use Rattle.der_visit.specs.Visiting.{at_end}
+use Rattle.der_visit.specs.Visiting.{through_none}
 use Rattle.der_visit.proofs.Visits.{sequence_listing, set_listing, no_listing, through_object, through_more}
 use Rattle.der_visit.proofs.walk.+walk.Goals as goal
 
@@ -19,7 +19,7 @@ walk_object-returns-in-Set g t c =
 pub walk_object-returns-in_default : goal.walk_object-returns-in_default
 walk_object-returns-in_default g t c =
     let none = no_listing _ _ c.in_default.not-Sequence c.in_default.not-Set in
-    through_object {R = g.W.Walk.step} c.args.object.now c.visit_object.ensures none at_end
+    through_object {R = g.W.Walk.step} c.args.object.now c.visit_object.ensures none through_none
 
 pub walk_items-loop-item-preserved : goal.walk_items-loop-item-preserved
 walk_items-loop-item-preserved g t c =
@@ -27,4 +27,4 @@ walk_items-loop-item-preserved g t c =
     c.item-item.is c.loop-item.invariant c.walk_object.ensures
 
 pub walk_items-loop-item-init : goal.walk_items-loop-item-init
-walk_items-loop-item-init g t c = at_end
+walk_items-loop-item-init g t c = through_none
