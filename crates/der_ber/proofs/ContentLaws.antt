@@ -95,7 +95,8 @@ pub content_as : (l : Length) (p : Bool) (d t : ℕ) (i w rest : List ℕ) (x : 
 content_as (Definite n) p d t i w rest x fs f k = content_then x w Universal p t fs d k
 content_as Indefinite p d t i w rest x fs f k = open_then x w Universal p t fs d (min d framing_budget - 1) f.passes k (raws_are f.begins.1)
 
-spells : (l : Length) (p : Bool) (d t : ℕ) (i w rest : List ℕ) (x : Content) (fs : Forms) (g : Fronted l p t w) → FramesContent l p d i w rest → IsContentAs t l p d w x fs → BerSpells g.0 (node Universal p t x) d framing_budget
+spells : (l : Length) (p : Bool) (d t : ℕ) (i w rest : List ℕ) (x : Content) (fs : Forms) (g : Fronted l p t w)
+    → FramesContent l p d i w rest → IsContentAs t l p d w x fs → BerSpells g.0 (node Universal p t x) d framing_budget
 spells l p d t i w rest x fs g f k = restated_back g.0 (node Universal p t x) d (form l fs, (f.deep, w, g.1, has_content l p d t i w rest x fs f k))
 
 shows : (l : Length) (p : Bool) (d t : ℕ) (i w rest : List ℕ) (e : Refusal) (g : Fronted l p t w) → FramesContent l p d i w rest → ContentRefuses Universal p t w d e → ShowsFault d (g.0 ++ []) e
@@ -139,7 +140,8 @@ cut_content_needs t l p d i n k (inl (two, list, q, w, rest, some, f)) = absurd 
 cut_content_needs t l p d i n k (inr m) = m
 
 -- of a content, a refusal and a lack, an input shows one at most
-pub content_one : (t : ℕ) (l : Length) (p : Bool) (d : ℕ) (i : List ℕ) → t < 2 ^ 32 → ShowsOne (λ v. v) (SpellsContentAs t l p d i) (SpellsContentAs t l p d i) (ContentAsRefuses t l p d i) (FrameLacks l p d i)
+pub content_one : (t : ℕ) (l : Length) (p : Bool) (d : ℕ) (i : List ℕ) → t < 2 ^ 32
+    → ShowsOne (λ v. v) (SpellsContentAs t l p d i) (SpellsContentAs t l p d i) (ContentAsRefuses t l p d i) (FrameLacks l p d i)
 content_one t l p d i fits = record {
   spelled = λ v s. s;
   one_value = λ v v' s s'. (let z = content_as_same l p d t i s.0 s'.0 v.1 v'.1 v.0 v'.0 s.1 s'.1 s.2 s.3 s'.2 s'.3 in ap (λ y. (y, v.1)) z.0 ∙ ap (λ w. (v'.0, w)) z.1);
@@ -150,13 +152,16 @@ content_one t l p d i fits = record {
   not_both = λ e n r h. content_as_refused_not_lacking l p d t i e n r h;
 }
 
-pub content_shows_one : (t : ℕ) (l : Length) (p : Bool) (d : ℕ) (i : List ℕ) → t < 2 ^ 32 → ShowsOne content_value_of (λ x. ReadsContentAs t l p d i x.1 x.0.now) (SpellsContentAs t l p d i) (ContentAsRefuses t l p d i) (FrameLacks l p d i)
+pub content_shows_one : (t : ℕ) (l : Length) (p : Bool) (d : ℕ) (i : List ℕ) → t < 2 ^ 32
+    → ShowsOne content_value_of (λ x. ReadsContentAs t l p d i x.1 x.0.now) (SpellsContentAs t l p d i) (ContentAsRefuses t l p d i) (FrameLacks l p d i)
 content_shows_one t l p d i fits = shows_read (content_one t l p d i fits) (λ v s. s) (λ x r. (r.octets, inner_forms x.1, r.framed, r.content))
 
 -- an element that was read apart
 
 module _ (a : Any) (fits : number_of a.header < 2 ^ 32) where
-  octets : ShowsOne (λ v. v) (SpellsContentAs (number_of a.header) (length_of_octets a) (is_constructed a.header) 50 a.bytes.now) (SpellsContentAs (number_of a.header) (length_of_octets a) (is_constructed a.header) 50 a.bytes.now) (ObjectOfRefuses a) (FrameLacks (length_of_octets a) (is_constructed a.header) 50 a.bytes.now)
+  octets : ShowsOne (λ v. v) (SpellsContentAs (number_of a.header) (length_of_octets a) (is_constructed a.header) 50 a.bytes.now)
+      (SpellsContentAs (number_of a.header) (length_of_octets a) (is_constructed a.header) 50 a.bytes.now) (ObjectOfRefuses a)
+      (FrameLacks (length_of_octets a) (is_constructed a.header) 50 a.bytes.now)
   octets = content_one (number_of a.header) (length_of_octets a) (is_constructed a.header) 50 a.bytes.now fits
 
   object_spelled : (o : BerObject) → ReadsObjectOf a o → SpellsObjectOf a (tree o)

@@ -8,7 +8,6 @@ use Rattle.der_base.specs.declared.header.Class.TheVariants.{Universal}
 use Rattle.der_base.specs.declared.header.Header.{Header}
 use Rattle.std.specs.declared.vec.Vec.{Vec}
 use Rattle.std.specs.declared.alloc.Global.{Global}
-use Rattle.der_base.specs.declared.any.Any.{Any}
 use Rattle.der_base.specs.declared.header.Length.{Length}
 use Rattle.der_base.specs.declared.header.Length.TheVariants.{Definite, Indefinite}
 use Rattle.der_base.specs.Content.{BeginsWithContent, ContentRefuses as FramingRefuses, ContentLacks}
@@ -20,7 +19,7 @@ use Rattle.der_base.specs.Any.{AnyRefuses, AnyLacks}
 use Rattle.der_base.specs.Fault.{ShowsFault}
 use Rattle.der_base.specs.Inner.Framed.{HasContent}
 use Rattle.der_base.specs.Header.{class_of, is_constructed, number_of, length_of}
-use Rattle.der_base.specs.Leaf.{is_list, is_mapped, IsLeafContent}
+use Rattle.der_base.specs.Leaf.{is_list, IsLeafContent}
 use Rattle.der_base.specs.Refusal.{Refusal}
 use Rattle.der_base.specs.Spelling.{BeginsWithElement, form, Forms, no_forms, Joins, framing_budget}
 use Rattle.der_base.specs.Tree.{Content, sequence, set}
@@ -29,7 +28,7 @@ use Rattle.der_base.proofs.Framing.FramingLaws.{framed_begins}
 use Rattle.der_base.proofs.Framing.FramedIsSpelling.{joins_now, spells_then}
 use Rattle.der_object.specs.declared.object.BerObject.{BerObject}
 use Rattle.der_object.specs.declared.object.BerObjectContent.{BerObjectContent}
-use Rattle.der_object.specs.declared.object.BerObjectContent.TheVariants.{Sequence, Set, Unknown}
+use Rattle.der_object.specs.declared.object.BerObjectContent.TheVariants.{Sequence, Set}
 use Rattle.der_object.specs.HeaderFacts.{forms_of, inner_forms, EachInside, KeepsHeader}
 use Rattle.der_object.specs.HeaderFacts.{HasRawTagAndHeader, EachHasRawTagAndHeader}
 use Rattle.der_object.specs.View.{node_of, content_tree, trees}
@@ -89,14 +88,6 @@ set_content w h v d ec ep et j =
     let q = joins_now (trees v.items) w (forms_of v.items) (d - 1) framing_budget (omega arith) j.joins in
     list_content w h (Set v) (set (trees v.items)) (forms_of v.items) d (set_tree v) (set_forms v)
     (ec, et, ep, q) tt (set_each HasRawTagAndHeader v j.headers)
-
-pub raw_content : (w : List ℕ) (h : Header) (a : Any) (d : ℕ) → a.header ≡ h → a.bytes.now ≡ w
-    → (class_of h ≡ Universal → is_mapped (number_of h) ≡ false) → IsContentOf w h (Unknown a) d
-raw_content w h a d q e k = record {
-  content = (refl, inr (ap class_of q, ap is_constructed q, ap number_of q, e, k));
-  kept = q;
-  headers = tt;
-}
 
 pub leaf_has : (w : List ℕ) (c : Class) (p : Bool) (t : ℕ) (x : Content) (fs : Forms) (d : ℕ) → c ≡ Universal
     → fs ≡ no_forms → IsLeafContent p t w x → HasContent w c p t x fs d

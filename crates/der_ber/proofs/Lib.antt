@@ -6,4 +6,4 @@ pub mod ReadingLaws
 pub mod Slices
 pub mod SpanItems
 pub mod TypedLaws
-pub mod WantedNumbers
+pub mod WantedTagNumbers

@@ -15,7 +15,9 @@ use Rattle.der_laws.proofs.Containers.ContainerLaws.{short_lacks, begins_not_sho
 use Rattle.der_ber.specs.BerSlices.{ReadsSlice, SliceRefuses, slice_value_of}
 
 -- what a container refuses, told by the errors of the crate
-pub unopened : {T : Type 0} (P : T → Type 0) (n : ℕ) {i : List ℕ} {r : Refused BerError} → RefusesBer (λ v k e. e ≡ NomError k) (λ y x. x ≡ y) i r → MatchAnswer (Err r) P (SliceRefuses n i) (OpeningLacks i) ⊥
+pub unopened : {T : Type 0} (P : T → Type 0) (n : ℕ) {i : List ℕ} {r : Refused BerError}
+    → RefusesBer (λ v k e. e ≡ NomError k) (λ y x. x ≡ y) i r
+    → MatchAnswer (Err r) P (SliceRefuses n i) (OpeningLacks i) ⊥
 unopened P n {i = i} (faulty h g) = inl (rw g h)
 unopened P n (cut l) = l
 unopened P n (too_short {behind = v} s k) = rw k (inr (inl (v.now, s, refl)))

@@ -33,8 +33,8 @@ IsOther n i t = (t ≢ n) × (c : Class) × (p : Bool) × (w rest : List ℕ)
 
 -- The refusals of a reader that wants the number n: another number is told behind header and framing, and before the
 -- content.
-abbrev pub NumberRefuses : ℕ → ℕ → List ℕ → Refusal → Type 0
-NumberRefuses n d i e = ((1 ≤ d) × (t : ℕ) × IsOther n i t × (e ≡ unexpected_tag (Some n) t))
+abbrev pub TagNumberRefuses : ℕ → ℕ → List ℕ → Refusal → Type 0
+TagNumberRefuses n d i e = ((1 ≤ d) × (t : ℕ) × IsOther n i t × (e ≡ unexpected_tag (Some n) t))
     ⊎ (((d ≡ 0) ⊎ ((t : ℕ) → ¬ IsOther n i t)) × ShowsFault d i e)
 
 -- i begins with a whole list of the number t that has items
@@ -59,8 +59,8 @@ abbrev pub NeedsMemory : ℕ → List ℕ → Type 0
 NeedsMemory d i = ((2 ≤ d) × BeginsWithItems i) ⊎ FramingNeedsMemory d i
 
 -- the same of a reader that wants the number n: framing comes before the comparison, and the content behind it
-abbrev pub NumberNeedsMemory : ℕ → ℕ → List ℕ → Type 0
-NumberNeedsMemory n d i = ((2 ≤ d) × BeginsWithItemsOf n i) ⊎ FramingNeedsMemory d i
+abbrev pub TagNumberNeedsMemory : ℕ → ℕ → List ℕ → Type 0
+TagNumberNeedsMemory n d i = ((2 ≤ d) × BeginsWithItemsOf n i) ⊎ FramingNeedsMemory d i
 
 -- content octets behind a header of this class, bit and number show the refusal, to a depth of at least 1
 abbrev pub ContentRefuses : Class → Bool → ℕ → List ℕ → ℕ → Refusal → Type 0
@@ -81,7 +81,7 @@ abbrev pub number : Node → ℕ
 number (node c p t x) = t
 
 -- the reader that wants the number n answers exactly what i shows to depth d
-abbrev pub AnswersNumber : ℕ → ℕ → List ℕ → Answer → Type 0
-AnswersNumber n d i result = AnswersExactly result value_of
+abbrev pub AnswersTagNumber : ℕ → ℕ → List ℕ → Answer → Type 0
+AnswersTagNumber n d i result = AnswersExactly result value_of
     (λ x. ReadsBer d i x.1 x.0.now × (number_of x.1.header ≡ n)) (λ v. BeginsWithBer d i v.0 v.1 × (number v.0 ≡ n))
-    (NumberRefuses n d i) (BerIsCut d i) (NumberNeedsMemory n d i) (FramingNeedsMemory d i)
+    (TagNumberRefuses n d i) (BerIsCut d i) (TagNumberNeedsMemory n d i) (FramingNeedsMemory d i)

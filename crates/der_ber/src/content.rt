@@ -1,5 +1,5 @@
-//! Contents of universal types, read without their header: the caller says the tag number, the
-//! length and the constructed bit, or gives an element that was read apart.
+//! Contents of universal types, read without their header. The caller gives the tag number, the
+//! length and the constructed bit, or an element that was read before.
 ghost use Rattle.std.specs.Prelude.{◌≡◌};
 ghost use Rattle.der_base.specs.Answer.{MatchAnswer};
 ghost use Rattle.der_ber.specs.BerContents.{AnswersContentAs, AnswersContentBehind, AnswersObjectOf};
@@ -16,8 +16,8 @@ use der_base::{MAX_OBJECT_SIZE, MAX_RECURSION};
 use der_object::{BerObject, BerObjectContent, BerResult};
 use std::alloc::Global;
 
-/// Whether a header may have this length and this constructed bit, and the depth lets its content be
-/// read; a definite content is there.
+/// Checks that a header may have this length and this constructed bit, that the depth lets its
+/// content be read, and that a definite content is whole.
 fn check_length(
     i: &[u8],
     length: Length,
@@ -39,7 +39,7 @@ fn check_length(
     }
 }
 
-/// The content octets behind a header of this length and constructed bit, and what follows the
+/// The content octets after a header of this length and constructed bit, and what follows the
 /// element.
 pub(crate) fn frame_content(
     i: &[u8],
@@ -80,19 +80,23 @@ fn read_content_as<'a>(
     Ok((rest, object.content))
 }
 
-/// Reads the content of a universal type behind its header, of which the caller gives the tag
-/// number, the length and the constructed bit, and answers what follows the element. The content
-/// octets are those of `ber_read_content`, with indefinite lengths nested below the depth, and below
-/// `MAX_RECURSION`; they are read as `parse_ber_recursive` reads those of an object of class
-/// Universal at this depth, so the items of a list at one less. A number that has no content of its
-/// own gives Unknown, with a header of class Universal that has no raw tag.
+/// Reads the content of a universal type after its header, and returns it with what follows the
+/// element. The caller gives the header's tag number, length and constructed bit. The content octets
+/// are those of `ber_read_content`. Indefinite lengths nest less deep than `max_depth`, and less deep
+/// than `MAX_RECURSION`. The octets are read as `parse_ber_recursive` reads those of an object of
+/// class Universal at this depth, so the items of a list at one less. A tag number that has no type
+/// gives `Unknown`, with a header of class Universal that has no raw tag.
 ///
-/// Refusals, in this order: InvalidLength for a definite length above `MAX_OBJECT_SIZE`;
-/// BerMaxDepth at depth 0; ConstructExpected for an indefinite length without the constructed bit;
-/// those of the framing; those of the type, and of the first item that is refused. Incomplete, with
-/// the whole of a definite length, where fewer octets are there, told before the depth; and where
-/// the elements of an indefinite length are cut short, with the number of octets that they lack.
-/// OutOfMemory only of an indefinite length, or at depth 2 and more of a list that has items.
+/// Refusals, in this order:
+/// - InvalidLength for a definite length above `MAX_OBJECT_SIZE`;
+/// - Incomplete for a definite length with fewer octets after it, with the whole length as its size;
+/// - BerMaxDepth at depth 0;
+/// - ConstructExpected for an indefinite length without the constructed bit;
+/// - the refusals of framing, or Incomplete with the number of octets that the elements of an
+///   indefinite length lack;
+/// - those of the type, and of the first item that is refused.
+///
+/// OutOfMemory only for an indefinite length, or at depth 2 and more for a list that has items.
 pub fn ber_read_element_content_as<'a>(
     alloc: Global,
     i: &'a [u8],
@@ -106,7 +110,7 @@ pub fn ber_read_element_content_as<'a>(
     read_content_as(alloc, i, tag, length, constructed, max_depth)
 }
 
-/// The object of an element that was read apart.
+/// The object of an element that was read before.
 fn object_from_any<'a>(alloc: Global, any: Any<'a>) -> Result<BerObject<'a>, Err<BerError>>
     ensures { MatchAnswer result
         (λ o. ReadsObjectOf any.entry o)
@@ -121,11 +125,10 @@ fn object_from_any<'a>(alloc: Global, any: Any<'a>) -> Result<BerObject<'a>, Err
     Ok(BerObject::from_header_and_content(header, content))
 }
 
-/// Reads the octets of an element, all of them, as the content of the universal type of its tag
-/// number, and answers the object with the element's header. They are read by
-/// `ber_read_element_content_as`, as behind a definite length that is theirs, at the depth
-/// `MAX_RECURSION`. The header gives the tag number and the constructed bit; its class and its
-/// length aren't looked at.
+/// Reads all octets of an element as the content of the universal type of its tag number, and
+/// returns the object with the element's header. `ber_read_element_content_as` reads them, with
+/// their number as the definite length, at the depth `MAX_RECURSION`. The header gives the tag number
+/// and the constructed bit. Its class and its length are ignored.
 ///
 /// Refusals are those of `ber_read_element_content_as`. Never Incomplete. OutOfMemory only for a
 /// list that has items.
@@ -143,7 +146,7 @@ pub struct BerContent {
     alloc: Global,
 }
 
-/// The reader of contents of this universal type, behind headers that are borrowed.
+/// The reader of contents of this universal type, after headers that are borrowed.
 pub fn parse_ber_content(alloc: Global, tag: Tag) -> BerContent
     ensures { result.tag ≡ tag }
 {
@@ -151,8 +154,8 @@ pub fn parse_ber_content(alloc: Global, tag: Tag) -> BerContent
 }
 
 impl BerContent {
-    /// Reads as `ber_read_element_content_as` the content that stands behind a header of this
-    /// length and constructed bit. Its class and tag number aren't looked at.
+    /// Reads the content after a header as `ber_read_element_content_as`, with the header's length
+    /// and constructed bit. The header's class and tag number are ignored.
     pub fn parse<'a>(
         &self,
         i: &'a [u8],
@@ -180,7 +183,7 @@ pub struct BerContent2 {
     alloc: Global,
 }
 
-/// The reader of contents of this universal type, behind headers by value.
+/// The reader of contents of this universal type, after headers by value.
 pub fn parse_ber_content2(alloc: Global, tag: Tag) -> BerContent2
     ensures { result.tag ≡ tag }
 {

@@ -1,6 +1,6 @@
 //! Lists: the parser of one item is called again and again, by BER and by DER alike (X.690 8.10,
-//! 8.12). The two loops over it differ in what it answers: a parser whose answer names a lifetime can't
-//! stand for one of any answer.
+//! 8.12). There are two loops, one for values of any type and one for objects: a parser whose result
+//! names a lifetime doesn't fit a bound on parsers of any result.
 ghost use Rattle.std.specs.Prelude.{IfErr, IfOk, Result};
 ghost use Rattle.der_base.specs.Containers.{ContainerRun};
 ghost use Rattle.der_base.specs.Inner.Opened.{IsOpened, IsUnopened};
@@ -13,8 +13,8 @@ use der_object::BerObject;
 use der_object::growth::push_item;
 use std::alloc::Global;
 
-/// Calls `f` on the content of an element that was opened, and again on what each call leaves, or
-/// passes on why none was. The values are answered in their order.
+/// Calls `f` on the content of an element that was opened, and again on what each call leaves.
+/// Returns the values in their order. Where no element was opened, it returns that error.
 pub fn parse_items<'a, F, O, E>(
     alloc: Global,
     f: &mut F,
@@ -39,7 +39,7 @@ where
     }
 }
 
-/// The same where `f` answers objects.
+/// The same where `f` returns objects.
 pub fn parse_objects<'a, F, E>(
     alloc: Global,
     f: &mut F,
@@ -84,7 +84,7 @@ where
     Ok(values)
 }
 
-/// The same where `f` answers objects.
+/// The same where `f` returns objects.
 fn read_objects<'a, F, E>(
     alloc: Global,
     f: &mut F,
@@ -108,9 +108,10 @@ where
     Ok(objects)
 }
 
-/// Takes the item that was answered on `input` into `values`, and answers the octets behind it, or
-/// None where the list ends. It ends where the answer is Incomplete; octets that are left then are
-/// Eof. An Error is a Failure; a Failure and OutOfMemory pass. A rest that isn't shorter is Many0.
+/// Pushes the item that the parser returned on `input`, and returns the octets after it, or None
+/// where the list ends. The list ends where the parser returned Incomplete: octets that are left then
+/// are the Error of Eof. An Error becomes a Failure. A Failure and OutOfMemory pass. A rest that isn't
+/// shorter than the input is the Error of Many0.
 pub fn take_item<'a, O, E>(
     input: &'a [u8],
     answer: IResult<&'a [u8], O, E>,

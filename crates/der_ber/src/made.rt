@@ -1,4 +1,4 @@
-//! Objects that combinators make of what their parsers answer, by BER and by DER alike: tagged
+//! Objects that combinators make of what their parsers return, by BER and by DER alike: tagged
 //! objects, and objects that may be absent.
 ghost use Rattle.std.specs.Prelude.{IfSome};
 ghost use Rattle.der_base.specs.Containers.{ContainerRun, MadeInMemory, OnContent, OnImplicit};
@@ -12,8 +12,8 @@ use der_base::header::{Header, Length};
 use der_object::{BerObject, BerObjectContent};
 use std::alloc::Global;
 
-/// Calls `f` once on the content of an element that was opened, and answers the object that it
-/// reads inside the tag of the element, in a box. Why none was opened is passed on.
+/// Calls `f` once on the content of an element that was opened, and returns the object that it
+/// reads, in a box inside the element's tag. Where no element was opened, it returns that error.
 pub fn parse_tagged_content<'a, F, E>(
     alloc: Global,
     f: &mut F,
@@ -58,8 +58,8 @@ fn tagged_object<'a>(
 }
 
 /// Calls `f` once on the content of an element that was opened, on its header with the definite
-/// length of the content, and on the depth `MAX_RECURSION`, and answers the object of that header
-/// and of the content that it reads. Why none was opened is passed on.
+/// length of the content, and on the depth `MAX_RECURSION`. Returns the object of that header and of
+/// the content that `f` reads. Where no element was opened, it returns that error.
 pub fn parse_object_content<'a, F, E>(
     f: &mut F,
     opened: Result<Opened<'a>, Err<E>>,
@@ -82,8 +82,8 @@ where
     }
 }
 
-/// What is answered on `i` of an object that may be absent, where its own parser answers `answer`:
-/// the object, in a box and under its own header, or that it is absent, and `i`. Want of memory
+/// The result for an object that may be absent, where its own parser returned `answer` on `i`: the
+/// object, in a box and under its own header, or an absent object with all of `i` left. OutOfMemory
 /// passes.
 pub fn may_be_absent<'a, E>(
     alloc: Global,

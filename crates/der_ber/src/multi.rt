@@ -1,13 +1,10 @@
-//! Combinators that keep the caller's parser of a content, and the reader of a content as it stands.
-ghost use Rattle.std.specs.Prelude.{◌≡◌, ℕ, Bool, List, IfErr, IfOk, MatchOption};
-ghost use Rattle.der_base.specs.declared.header.Class.{Class};
-ghost use Rattle.der_base.specs.declared.error.Err.{Err};
+//! Combinators that keep the caller's parser of a content, and the reader of a content unchanged.
+ghost use Rattle.std.specs.Prelude.{◌≡◌, ℕ, List, IfErr, IfOk, MatchOption};
 ghost use Rattle.der_base.specs.Answer.{MatchAnswer};
-ghost use Rattle.der_base.specs.Containers.{BerNumberRun, ContainerRun, Made, NoCall, OnContent, OneCall};
+ghost use Rattle.der_base.specs.Containers.{BerNumberRun, ContainerRun, Made, OnContent};
 ghost use Rattle.der_base.specs.Containers.{HasShortContent, OpeningLacks};
 ghost use Rattle.der_base.specs.Containers.{OpensBer, OpensBerNumber, RefusesBer, RefusesBerNumber};
 ghost use Rattle.der_base.specs.ListSteps.{OnItems};
-ghost use Rattle.der_base.specs.Spelling.{BeginsWithElement, framing_budget};
 ghost use Rattle.der_object.specs.Combined.{IsSequenceOf, IsSetOf};
 ghost use Rattle.der_ber.specs.BerSlices.{AnswersSlice, ReadsSlice, SliceRefuses};
 
@@ -48,7 +45,7 @@ where
     with_number(open_element(i), tag)
 }
 
-/// What stands behind a header, where its definite length is more octets than that.
+/// What follows a header, where its definite length is more octets than that.
 fn short_content(i: &[u8]) -> Option<&[u8]>
     ensures { MatchOption result
         ((content : List ℕ) → ¬ HasShortContent i.now content)
@@ -86,14 +83,14 @@ where
 
 impl<F> BerContainer<F> {
     /// Reads an element by BER, calls the kept parser once, on exactly the content octets and the
-    /// header, and answers what it answers. What the parser leaves of the content is dropped: an Ok
-    /// leaves what follows the element. A length may be definite or indefinite (X.690 8.1.3), and
-    /// the header says which; an end marker is no part of the content.
+    /// header, and returns what the parser returns. What the parser leaves of the content is dropped:
+    /// the rest of an Ok is what follows the element. The length may be definite or indefinite (X.690
+    /// 8.1.3), as the header says. An end marker is no part of the content.
     ///
-    /// Refusals, without a call of the parser: those of `Any::from_ber`, but for a definite content
-    /// that is short. That one is the Error of Eof at the octets behind the header, since the length
-    /// is there and the octets aren't. Incomplete where the input ends within a header, or within
-    /// the content of an indefinite length. It takes no memory.
+    /// Refusals, without a call of the parser: those of `Any::from_ber`, except for a definite content
+    /// that is cut short. That is the Error of Eof at the octets after the header. Incomplete where
+    /// the input ends within a header, or within the content of an indefinite length. It allocates
+    /// nothing.
     pub fn parse<'a, O, E>(&mut self, i: &'a [u8]) -> IResult<&'a [u8], O, E>
     where
         F: FnMut(&'a [u8], Header<'a>) -> IResult<&'a [u8], O, E>,
@@ -102,11 +99,6 @@ impl<F> BerContainer<F> {
         ensures callable { F.IsAlwaysCallable self.new }
         ensures run { ContainerRun (OpensBer i.now)
             (RefusesBer E.from_error_kind_gives E.from_gives i.now) F.step self.old result self.new }
-        ensures called { (c : Class) (p : Bool) (t : ℕ) (w rest : List ℕ)
-            → BeginsWithElement i.now framing_budget c p t w rest
-            → OneCall (OpensBer i.now) F.step self.old result self.new }
-        ensures refuses { (e : Err E) → RefusesBer E.from_error_kind_gives E.from_gives i.now e
-            → NoCall (RefusesBer E.from_error_kind_gives E.from_gives i.now) self.old result self.new }
     {
         parse_content(&mut self.f, open_element(i))
     }
@@ -136,21 +128,15 @@ where
 
 impl<F> BerSequenceDefinedG<F> {
     /// Reads as `BerContainer::parse` an element of the tag number 16, of any class, constructed or
-    /// not. Another number is UnexpectedTag, told behind the refusals of `BerContainer::parse`,
-    /// without a call of the parser.
+    /// not. Another number is UnexpectedTag, after the refusals of `BerContainer::parse`, without a
+    /// call of the parser.
     pub fn parse<'a, O, E>(&mut self, i: &'a [u8]) -> IResult<&'a [u8], O, E>
     where
         F: FnMut(&'a [u8], Header<'a>) -> IResult<&'a [u8], O, E>,
         E: ParseError<&'a [u8]> + From<BerError>,
         requires { F.IsAlwaysCallable self.old }
         ensures callable { F.IsAlwaysCallable self.new }
-        ensures run { ContainerRun (OpensBerNumber 16 i.now)
-            (RefusesBerNumber E.from_error_kind_gives E.from_gives 16 i.now) F.step self.old result self.new }
-        ensures called { (c : Class) (p : Bool) (w rest : List ℕ)
-            → BeginsWithElement i.now framing_budget c p 16 w rest
-            → OneCall (OpensBerNumber 16 i.now) F.step self.old result self.new }
-        ensures refuses { (e : Err E) → RefusesBerNumber E.from_error_kind_gives E.from_gives 16 i.now e
-            → NoCall (RefusesBerNumber E.from_error_kind_gives E.from_gives 16 i.now) self.old result self.new }
+        ensures run { BerNumberRun 16 E.from_error_kind_gives E.from_gives i.now F.step self.old result self.new }
     {
         parse_content(&mut self.f, open_number(i, Tag::Sequence))
     }
@@ -180,21 +166,15 @@ where
 
 impl<F> BerSetDefinedG<F> {
     /// Reads as `BerContainer::parse` an element of the tag number 17, of any class, constructed or
-    /// not. Another number is UnexpectedTag, told behind the refusals of `BerContainer::parse`,
-    /// without a call of the parser.
+    /// not. Another number is UnexpectedTag, after the refusals of `BerContainer::parse`, without a
+    /// call of the parser.
     pub fn parse<'a, O, E>(&mut self, i: &'a [u8]) -> IResult<&'a [u8], O, E>
     where
         F: FnMut(&'a [u8], Header<'a>) -> IResult<&'a [u8], O, E>,
         E: ParseError<&'a [u8]> + From<BerError>,
         requires { F.IsAlwaysCallable self.old }
         ensures callable { F.IsAlwaysCallable self.new }
-        ensures run { ContainerRun (OpensBerNumber 17 i.now)
-            (RefusesBerNumber E.from_error_kind_gives E.from_gives 17 i.now) F.step self.old result self.new }
-        ensures called { (c : Class) (p : Bool) (w rest : List ℕ)
-            → BeginsWithElement i.now framing_budget c p 17 w rest
-            → OneCall (OpensBerNumber 17 i.now) F.step self.old result self.new }
-        ensures refuses { (e : Err E) → RefusesBerNumber E.from_error_kind_gives E.from_gives 17 i.now e
-            → NoCall (RefusesBerNumber E.from_error_kind_gives E.from_gives 17 i.now) self.old result self.new }
+        ensures run { BerNumberRun 17 E.from_error_kind_gives E.from_gives i.now F.step self.old result self.new }
     {
         parse_content(&mut self.f, open_number(i, Tag::Set))
     }
@@ -226,13 +206,13 @@ where
 impl<F> BerSequenceOfV<F> {
     /// Reads as `BerSequenceDefinedG::parse` an element of the tag number 16, of any class. The kept
     /// parser is called on its content octets, and then on what each call leaves, also where nothing
-    /// is left: its Incomplete there ends the list. The values are answered in their order.
+    /// is left: its Incomplete there ends the list. Returns the values in their order.
     ///
-    /// Refusals, without a call of the parser: those of `BerSequenceDefinedG::parse`. Behind them,
-    /// at the call that shows it: where the parser answers Incomplete and octets are left, the Error
-    /// of Eof at them; where it leaves no less than it was given, the Error of Many0 at what it was
-    /// given; an Error of the parser is a Failure, and its Failure and OutOfMemory pass. The list may
-    /// want memory for each value.
+    /// Refusals, without a call of the parser: those of `BerSequenceDefinedG::parse`. After them, at
+    /// the call that shows it: where the parser returns Incomplete and octets are left, the Error of
+    /// Eof at them; where it leaves no less than it was given, the Error of Many0 at what it was
+    /// given. An Error of the parser becomes a Failure. Its Failure and OutOfMemory pass. The list may
+    /// run out of memory at each value.
     pub fn parse<'a, O, E>(&mut self, i: &'a [u8]) -> IResult<&'a [u8], Vec<O>, E>
     where
         F: FnMut(&'a [u8]) -> IResult<&'a [u8], O, E>,
@@ -310,8 +290,8 @@ where
 }
 
 impl<F> BerSequenceOf<F> {
-    /// Reads as `BerSequenceOfV::parse`, and refuses and wants memory as it does. The answer is the
-    /// SEQUENCE of its items, as `BerObject::from_seq` makes it.
+    /// Reads as `BerSequenceOfV::parse`, with its refusals and its OutOfMemory. Returns the SEQUENCE of
+    /// the items, as `BerObject::from_seq` makes it.
     pub fn parse<'a, E>(&mut self, i: &'a [u8]) -> IResult<&'a [u8], BerObject<'a>, E>
     where
         F: FnMut(&'a [u8]) -> IResult<&'a [u8], BerObject<'a>, E>,
@@ -349,8 +329,8 @@ where
 }
 
 impl<F> BerSetOf<F> {
-    /// Reads as `BerSetOfV::parse`, and refuses and wants memory as it does. The answer is the SET of
-    /// its items, as `BerObject::from_set` makes it.
+    /// Reads as `BerSetOfV::parse`, with its refusals and its OutOfMemory. Returns the SET of the items,
+    /// as `BerObject::from_set` makes it.
     pub fn parse<'a, E>(&mut self, i: &'a [u8]) -> IResult<&'a [u8], BerObject<'a>, E>
     where
         F: FnMut(&'a [u8]) -> IResult<&'a [u8], BerObject<'a>, E>,
@@ -388,7 +368,7 @@ where
 
 impl<F> BerSequenceDefined<F> {
     /// Reads as `BerSequenceDefinedG::parse`, and calls the kept parser on the content octets
-    /// alone. The answer is the SEQUENCE of its items, as `BerObject::from_seq` makes it.
+    /// alone. Returns the SEQUENCE of the items, as `BerObject::from_seq` makes it.
     pub fn parse<'a, E>(&mut self, i: &'a [u8]) -> IResult<&'a [u8], BerObject<'a>, E>
     where
         F: FnMut(&'a [u8]) -> IResult<&'a [u8], Vec<BerObject<'a>>, E>,
@@ -425,8 +405,8 @@ where
 }
 
 impl<F> BerSetDefined<F> {
-    /// Reads as `BerSetDefinedG::parse`, and calls the kept parser on the content octets alone. The
-    /// answer is the SET of its items, as `BerObject::from_set` makes it.
+    /// Reads as `BerSetDefinedG::parse`, and calls the kept parser on the content octets alone. Returns
+    /// the SET of the items, as `BerObject::from_set` makes it.
     pub fn parse<'a, E>(&mut self, i: &'a [u8]) -> IResult<&'a [u8], BerObject<'a>, E>
     where
         F: FnMut(&'a [u8]) -> IResult<&'a [u8], Vec<BerObject<'a>>, E>,
@@ -440,13 +420,12 @@ impl<F> BerSetDefined<F> {
     }
 }
 
-/// Reads the content octets of an element of this tag number, of any class, constructed or not, as
-/// they stand, and answers what follows the element. An end marker is no part of a content of
-/// indefinite length.
+/// Returns the content octets of an element of this tag number, of any class, constructed or not,
+/// with what follows the element. An end marker is no part of a content of indefinite length.
 ///
 /// Refusals, in this order: those of `BerContainer::parse`; UnexpectedTag where the number is
 /// another one. Incomplete where the input ends within the header, or within the content of an
-/// indefinite length. It takes no memory.
+/// indefinite length. It allocates nothing.
 pub fn parse_ber_slice<'a>(i: &'a [u8], tag: Tag) -> IResult<&'a [u8], &'a [u8], BerError>
     ensures { AnswersSlice tag.0 i.now result }
 {

@@ -24,11 +24,11 @@ fn read_integer(i: &[u8]) -> IResult<&[u8], &[u8], BerError>
     Ok((rest, any.bytes))
 }
 
-/// Reads an INTEGER from -2^63 to 2^63-1, and answers what is left of the input. Its octets may be
-/// more than its number needs, and none are 0.
+/// Reads an INTEGER from -2^63 to 2^63-1, and returns it with what is left of the input. It may have
+/// more octets than its number needs. No octets are 0.
 ///
 /// Refusals, in this order: those of `Any::from_ber`; UnexpectedTag for another tag number;
-/// ConstructUnexpected; IntegerTooLarge. Incomplete as of `Any::from_ber`.
+/// ConstructUnexpected; IntegerTooLarge. Incomplete as for `Any::from_ber`.
 pub fn parse_ber_i64(i: &[u8]) -> IResult<&[u8], i64, BerError>
     ensures { AnswersBerNumber (λ v. v) (signed 64) i.now result }
 {
@@ -46,8 +46,8 @@ pub fn parse_ber_i32(i: &[u8]) -> IResult<&[u8], i32, BerError>
     Ok((rest, n))
 }
 
-/// Reads an INTEGER from 0 to 2^64-1: as `parse_ber_i64`, and IntegerNegative below, told in front
-/// of IntegerTooLarge.
+/// Reads an INTEGER from 0 to 2^64-1: as `parse_ber_i64`, with IntegerNegative for a negative number,
+/// before IntegerTooLarge.
 pub fn parse_ber_u64(i: &[u8]) -> IResult<&[u8], u64, BerError>
     ensures { AnswersBerNumber pos (unsigned 64) i.now result }
 {

@@ -66,8 +66,8 @@ where
     Ok((header, content, after))
 }
 
-/// Calls `f` once on the content and the header of an element that was opened, or passes on why
-/// none was.
+/// Calls `f` once on the content and the header of an element that was opened. Where no element was
+/// opened, it returns that error.
 pub fn parse_content<'a, F, O, E>(
     f: &mut F,
     opened: Result<Opened<'a>, Err<E>>,
@@ -88,7 +88,7 @@ where
     }
 }
 
-/// The same on the content alone, where `f` answers a list of objects.
+/// The same on the content alone, where `f` returns a list of objects.
 pub fn parse_list_content<'a, F, E>(
     f: &mut F,
     opened: Result<Opened<'a>, Err<E>>,
@@ -134,7 +134,7 @@ where
     }
 }
 
-/// The answer with the SEQUENCE of its items in place of them.
+/// The result with the SEQUENCE of its items in place of them.
 pub fn with_sequence<'a, E>(
     answer: IResult<&'a [u8], Vec<BerObject<'a>>, E>,
 ) -> IResult<&'a [u8], BerObject<'a>, E>
@@ -149,7 +149,7 @@ pub fn with_sequence<'a, E>(
     }
 }
 
-/// The answer with the SET of its items in place of them.
+/// The result with the SET of its items in place of them.
 pub fn with_set<'a, E>(
     answer: IResult<&'a [u8], Vec<BerObject<'a>>, E>,
 ) -> IResult<&'a [u8], BerObject<'a>, E>

@@ -11,7 +11,8 @@ ghost use Rattle.der_base.specs.Leaf.{is_list};
 ghost use Rattle.der_base.specs.Inner.Spans.{AreInside, AreSpans, content_octets_left, span_octets};
 ghost use Rattle.der_base.specs.Spelling.{framing_budget};
 ghost use Rattle.der_base.specs.Stable.{BerIsCut};
-ghost use Rattle.der_ber.specs.BerReading.{ReadsBer, NumberRefuses, NeedsMemory, NumberNeedsMemory, ContentRefuses};
+ghost use Rattle.der_ber.specs.BerReading.{ReadsBer, NeedsMemory, ContentRefuses};
+ghost use Rattle.der_ber.specs.BerReading.{TagNumberRefuses, TagNumberNeedsMemory};
 ghost use Rattle.der_ber.specs.Inner.ElementParts.{ReadsBehind, BehindRefuses, BehindNeedsMemory};
 ghost use Rattle.der_ber.specs.Inner.ElementParts.{AreItems, IsContentOf, ItemsRefuse};
 ghost use Rattle.der_object.specs.Counting.{CountsObjects, CountsInside, CountsItems};
@@ -26,7 +27,7 @@ use der_object::growth::push_item;
 use der_object::{BerObject, BerObjectContent, BerResult};
 use std::alloc::Global;
 
-/// One element in front.
+/// The element that the input begins with.
 #[cycle(reader)]
 #[inline(always)]
 pub fn read_element<'a>(
@@ -60,7 +61,7 @@ pub fn read_element<'a>(
     }
 }
 
-/// One element in front, of this tag number.
+/// The element that the input begins with, of this tag number.
 pub fn read_element_with_tag<'a>(
     alloc: Global,
     i: &'a [u8],
@@ -70,9 +71,9 @@ pub fn read_element_with_tag<'a>(
 ) -> BerResult<'a>
     ensures found { MatchAnswer result
         (λ x. ReadsBer max_depth i.now x.1 x.0.now × (number_of x.1.header ≡ tag.0))
-        (NumberRefuses tag.0 max_depth i.now)
+        (TagNumberRefuses tag.0 max_depth i.now)
         (BerIsCut max_depth i.now)
-        (NumberNeedsMemory tag.0 max_depth i.now) }
+        (TagNumberNeedsMemory tag.0 max_depth i.now) }
     ensures shorter { IfOk result (λ x. length x.0.now < length i.now) }
 {
     if max_depth == 0 {
@@ -91,7 +92,7 @@ pub fn read_element_with_tag<'a>(
     read_object(alloc, Any { header, bytes }, &spans, rest, max_depth, count)
 }
 
-/// The object of a header and of the content behind it; the elements inside an indefinite length are
+/// The object of a header and of the content after it. The elements inside an indefinite length are
 /// recorded first.
 #[cycle(reader)]
 #[inline(never)]
@@ -120,8 +121,8 @@ pub(crate) fn read_behind<'a>(
     read_object(alloc, Any { header, bytes }, &spans, rest, max_depth, count)
 }
 
-/// The object of an element whose header and content octets are told apart, and what follows it.
-/// Where its length is indefinite, the spans are of the elements inside it.
+/// The object of an element whose header and content octets are known, and what follows it. Where its
+/// length is indefinite, the spans are of the elements inside it.
 #[cycle(reader)]
 #[inline(always)]
 fn read_object<'a>(

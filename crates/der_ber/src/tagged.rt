@@ -41,8 +41,8 @@ impl<F> Model for BerTaggedExplicitG<F> {
     ghost view = { λ c. (c.tag, c.f) };
 }
 
-/// A parser of an explicit tag of this number (X.690 8.14.2), which hands what stands inside and
-/// its own header to `f`.
+/// A parser of an explicit tag of this number (X.690 8.14.2), which hands its content and its header
+/// to `f`.
 pub fn parse_ber_tagged_explicit_g<'a, F, O, E>(tag: Tag, f: F) -> BerTaggedExplicitG<F>
 where
     F: FnMut(&'a [u8], Header<'a>) -> IResult<&'a [u8], O, E>,
@@ -55,9 +55,9 @@ impl<F> BerTaggedExplicitG<F> {
     /// Reads as `BerContainer::parse` an element that is an explicit tag of the number:
     /// constructed, and of any class but Universal.
     ///
-    /// Refusals, without a call of the parser, behind those of `BerContainer::parse` and in this
-    /// order: UnexpectedClass for class Universal; UnexpectedTag for another number;
-    /// ConstructExpected for a primitive encoding.
+    /// Refusals, without a call of the parser, after those of `BerContainer::parse` and in this order:
+    /// UnexpectedClass for class Universal; UnexpectedTag for another number; ConstructExpected for a
+    /// primitive encoding.
     pub fn parse<'a, O, E>(&mut self, i: &'a [u8]) -> IResult<&'a [u8], O, E>
     where
         F: FnMut(&'a [u8], Header<'a>) -> IResult<&'a [u8], O, E>,
@@ -102,8 +102,8 @@ impl<F> BerTaggedImplicitG<F> {
     /// parser gets the header with the definite length of the content octets, so it may read them as
     /// those of the type under the tag.
     ///
-    /// Another number is UnexpectedTag, told behind the refusals of `BerContainer::parse`, without
-    /// a call of the parser.
+    /// Another number is UnexpectedTag, after the refusals of `BerContainer::parse`, without a call of
+    /// the parser.
     pub fn parse<'a, O, E>(&mut self, i: &'a [u8]) -> IResult<&'a [u8], O, E>
     where
         F: FnMut(&'a [u8], Header<'a>, usize) -> IResult<&'a [u8], O, E>,
@@ -145,9 +145,8 @@ where
 
 impl<F> BerTaggedExplicit<F> {
     /// Reads as `BerTaggedExplicitG::parse`, and calls the kept parser on the content octets alone.
-    /// The answer is the content `Tagged`, with the class and the number of the tag and the object
-    /// in a box, under the header of the tag. The box may want memory, after the call of the
-    /// parser.
+    /// Returns the content `Tagged`, with the class and the number of the tag and the object in a box,
+    /// under the header of the tag. The box may run out of memory, after the call of the parser.
     pub fn parse<'a, E>(&mut self, i: &'a [u8]) -> IResult<&'a [u8], BerObject<'a>, E>
     where
         F: FnMut(&'a [u8]) -> IResult<&'a [u8], BerObject<'a>, E>,
@@ -188,8 +187,8 @@ where
 }
 
 impl<F> BerTaggedImplicit<F> {
-    /// Reads as `BerTaggedImplicitG::parse`. The answer is the object of the content that the kept
-    /// parser answers, under the header that the parser gets.
+    /// Reads as `BerTaggedImplicitG::parse`. Returns the object of the content that the kept parser
+    /// returns, under the header that the parser gets.
     pub fn parse<'a, E>(&mut self, i: &'a [u8]) -> IResult<&'a [u8], BerObject<'a>, E>
     where
         F: FnMut(&'a [u8], &Header<'a>, usize) -> IResult<&'a [u8], BerObjectContent<'a>, E>,
@@ -244,10 +243,9 @@ where
 
 impl<F> BerOptional<F> {
     /// Calls the kept parser once, on `i`. An object that it reads is the content `Optional` with
-    /// the object in a box, under the object's own header; the box may want memory. OutOfMemory of
-    /// the parser passes. Its Incomplete, its Error and its Failure say that the object is absent:
-    /// the content is `Optional` with none, as `BerObject::from_obj` makes it, and all of `i` is
-    /// left.
+    /// the object in a box, under the object's own header. The box may run out of memory. OutOfMemory
+    /// of the parser passes. Its Incomplete, its Error and its Failure mean that the object is absent:
+    /// the content is `Optional(None)`, as `BerObject::from_obj` makes it, and all of `i` is left.
     pub fn parse<'a, E>(&mut self, i: &'a [u8]) -> IResult<&'a [u8], BerObject<'a>, E>
     where
         F: FnMut(&'a [u8]) -> IResult<&'a [u8], BerObject<'a>, E>,

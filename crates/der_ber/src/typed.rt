@@ -71,7 +71,7 @@ fn read_typed_leaf<'a>(i: &'a [u8], tag: Tag) -> BerResult<'a>
     Ok((rest, BerObject::from_header_and_content(header, content)))
 }
 
-/// The same, with all that its answer says.
+/// The same, with the whole contract.
 fn parse_typed_leaf<'a>(i: &'a [u8], tag: Tag) -> BerResult<'a>
     requires mapped { IsTrue (is_mapped tag.0) }
     requires no_list { is_list tag.0 ≡ false }
@@ -80,9 +80,9 @@ fn parse_typed_leaf<'a>(i: &'a [u8], tag: Tag) -> BerResult<'a>
     read_typed_leaf(i, tag)
 }
 
-/// Reads an element of this tag number and of any class, and answers what is left of the input. Its
-/// content is read as that of the universal type of the number, by `ber_read_element_content_as` at
-/// the depth `MAX_RECURSION`; the object has the header that is there.
+/// Reads an element of this tag number and of any class, and returns it with what is left of the
+/// input. `ber_read_element_content_as` reads its content as that of the universal type of the
+/// number, at the depth `MAX_RECURSION`. The object has the header as read.
 ///
 /// Refusals, in this order: those of `ber_read_element_header`; UnexpectedTag for another number;
 /// those of `ber_read_element_content_as`. Incomplete with the number of octets that the header
@@ -125,7 +125,7 @@ pub fn parse_ber_bool(i: &[u8]) -> BerResult<'_>
     parse_typed_leaf(i, Tag::Boolean)
 }
 
-/// Reads an INTEGER, whose octets are kept as they stand (8.3).
+/// Reads an INTEGER, whose octets are kept unchanged (8.3).
 pub fn parse_ber_integer(i: &[u8]) -> BerResult<'_>
     ensures { AnswersLeaf 2 i.now result }
 {
@@ -140,8 +140,8 @@ pub fn parse_ber_bitstring(i: &[u8]) -> BerResult<'_>
     parse_typed_leaf(i, Tag::BitString)
 }
 
-/// Reads an OCTET STRING, whose octets are kept as they stand, those of elements too where it is
-/// constructed (8.7).
+/// Reads an OCTET STRING, whose octets are kept unchanged (8.7). Those of a constructed one are kept
+/// with the headers of the elements inside.
 pub fn parse_ber_octetstring(i: &[u8]) -> BerResult<'_>
     ensures { AnswersLeaf 4 i.now result }
 {

@@ -1,5 +1,5 @@
 //! Explicit and implicit tags, and objects that may be absent.
-use der_parser::ber::Class::{Application, ContextSpecific, Universal};
+use der_parser::ber::Class::{Application, ContextSpecific, Private, Universal};
 use der_parser::ber::Length::{Definite, Indefinite};
 use der_parser::ber::{
     BerObject, BerOptional, BerTaggedExplicit, Tag, parse_ber_content, parse_ber_explicit_optional,
@@ -44,14 +44,17 @@ type FormRow = (Form, &'static str, Answer, u64);
 
 #[rattlefmt::skip]
 const BY_BOTH: &[FormRow] = &[
-    (Form::Explicit(Tag(2), 2), "a2 05 02 03 01 00 01 ff", Read(Tagged(ContextSpecific, 2, &Integer("01 00 01")), "ff"), 1),
+    (Form::Explicit(Tag(2), 2), "a2 05 02 03 01 00 01 ff",
+        Read(Tagged(ContextSpecific, 2, &Integer("01 00 01")), "ff"), 1),
     (Form::Explicit(Tag(2), 2), "62 03 02 01 05", Read(Tagged(Application, 2, &Integer("05")), ""), 1),
     (Form::Explicit(Tag(2), 2), "a2 05 02 01 05 05 00 ff", Read(Tagged(ContextSpecific, 2, &Integer("05")), "ff"), 1),
     (Form::Explicit(Tag(2), 1), "a2 05 02 03 01 00 01",
         Refused(UnexpectedTag { expected: Some(Tag::Boolean), actual: Tag::Integer }), 1),
     (Form::Explicit(Tag(2), 2), "a2 00", Incomplete(1), 1),
-    (Form::Explicit(Tag(2), 2), "a3 05 02 03 01 00 01", Refused(UnexpectedTag { expected: Some(Tag(2)), actual: Tag(3) }), 0),
-    (Form::Explicit(Tag(2), 2), "22 05 02 03 01 00 01", Refused(UnexpectedClass { expected: None, actual: Universal }), 0),
+    (Form::Explicit(Tag(2), 2), "a3 05 02 03 01 00 01",
+        Refused(UnexpectedTag { expected: Some(Tag(2)), actual: Tag(3) }), 0),
+    (Form::Explicit(Tag(2), 2), "22 05 02 03 01 00 01",
+        Refused(UnexpectedClass { expected: None, actual: Universal }), 0),
     (Form::Explicit(Tag(2), 2), "82 05 02 03 01 00 01", Refused(ConstructExpected), 0),
     (Form::Explicit(Tag(2), 2), "a2 05 02 03", Refused(NomError(Eof)), 0),
     (Form::Explicit(Tag(2), 2), "a2", Incomplete(1), 0),
@@ -60,12 +63,14 @@ const BY_BOTH: &[FormRow] = &[
     (Form::Implicit(Tag(2), Tag::Integer), "02 01 05", Read(Integer("05"), ""), 1),
     (Form::Implicit(Tag(0), Tag::Sequence), "a0 03 02 01 05", Read(Sequence(&[Integer("05")]), ""), 1),
     (Form::Implicit(Tag(0), Tag::Sequence), "80 00", Refused(ConstructExpected), 1),
-    (Form::Implicit(Tag(2), Tag::Integer), "83 01 05", Refused(UnexpectedTag { expected: Some(Tag(2)), actual: Tag(3) }), 0),
+    (Form::Implicit(Tag(2), Tag::Integer), "83 01 05",
+        Refused(UnexpectedTag { expected: Some(Tag(2)), actual: Tag(3) }), 0),
     (Form::Implicit(Tag(2), Tag::Integer), "82 02 01", Refused(NomError(Eof)), 0),
     (Form::Implicit(Tag(2), Tag::Integer), "", Incomplete(1), 0),
 
     (Form::ImplicitAtOnce(Tag(2), Tag::Integer), "82 03 01 00 01 ff", Read(Integer("01 00 01"), "ff"), 1),
-    (Form::ImplicitAtOnce(Tag(2), Tag::Integer), "83 01 05", Refused(UnexpectedTag { expected: Some(Tag(2)), actual: Tag(3) }), 0),
+    (Form::ImplicitAtOnce(Tag(2), Tag::Integer), "83 01 05",
+        Refused(UnexpectedTag { expected: Some(Tag(2)), actual: Tag(3) }), 0),
     (Form::ImplicitAtOnce(Tag(0), Tag::Sequence), "80 00", Refused(ConstructExpected), 1),
 
     (Form::Optional(2), "02 01 05 ff", Read(Present(&Integer("05")), "ff"), 1),
@@ -83,9 +88,33 @@ const BY_BOTH: &[FormRow] = &[
     (Form::ExplicitOptional(Tag(0), 2), "", Read(Absent, ""), 0),
 ];
 
+/// Tags of each class (X.690 8.1.2.2) that an explicit and an implicit tag may have.
+#[rattlefmt::skip]
+const CLASSES: &[FormRow] = &[
+    (Form::Explicit(Tag(2), 2), "62 03 02 01 05", Read(Tagged(Application, 2, &Integer("05")), ""), 1),
+    (Form::Explicit(Tag(2), 2), "a2 03 02 01 05", Read(Tagged(ContextSpecific, 2, &Integer("05")), ""), 1),
+    (Form::Explicit(Tag(2), 2), "e2 03 02 01 05", Read(Tagged(Private, 2, &Integer("05")), ""), 1),
+
+    (Form::Implicit(Tag(2), Tag::Integer), "02 01 05", Read(Integer("05"), ""), 1),
+    (Form::Implicit(Tag(2), Tag::Integer), "42 01 05", Read(Integer("05"), ""), 1),
+    (Form::Implicit(Tag(2), Tag::Integer), "82 01 05", Read(Integer("05"), ""), 1),
+    (Form::Implicit(Tag(2), Tag::Integer), "c2 01 05", Read(Integer("05"), ""), 1),
+
+    (Form::ImplicitAtOnce(Tag(2), Tag::Integer), "42 01 05", Read(Integer("05"), ""), 1),
+    (Form::ImplicitAtOnce(Tag(2), Tag::Integer), "82 01 05", Read(Integer("05"), ""), 1),
+    (Form::ImplicitAtOnce(Tag(2), Tag::Integer), "c2 01 05", Read(Integer("05"), ""), 1),
+
+    (Form::ExplicitOptional(Tag(0), 2), "60 03 02 01 02",
+        Read(Present(&Tagged(Application, 0, &Integer("02"))), ""), 1),
+    (Form::ExplicitOptional(Tag(0), 2), "a0 03 02 01 02",
+        Read(Present(&Tagged(ContextSpecific, 0, &Integer("02"))), ""), 1),
+    (Form::ExplicitOptional(Tag(0), 2), "e0 03 02 01 02", Read(Present(&Tagged(Private, 0, &Integer("02"))), ""), 1),
+];
+
 #[rattlefmt::skip]
 const BY_BER: &[FormRow] = &[
-    (Form::Explicit(Tag(2), 2), "a2 80 02 03 01 00 01 00 00 ff", Read(Tagged(ContextSpecific, 2, &Integer("01 00 01")), "ff"), 1),
+    (Form::Explicit(Tag(2), 2), "a2 80 02 03 01 00 01 00 00 ff",
+        Read(Tagged(ContextSpecific, 2, &Integer("01 00 01")), "ff"), 1),
     (Form::Explicit(Tag(2), 2), "a2 81 04 02 81 01 05", Read(Tagged(ContextSpecific, 2, &Integer("05")), ""), 1),
     (Form::Implicit(Tag(2), Tag::Sequence), "a2 80 02 01 05 00 00", Read(Sequence(&[Integer("05")]), ""), 1),
     (Form::ImplicitAtOnce(Tag(2), Tag::Sequence), "a2 80 02 01 05 00 00", Read(Sequence(&[Integer("05")]), ""), 1),
@@ -268,6 +297,15 @@ fn forms_by_both(rt: HostRuntime) -> Result<(), Fail> {
 }
 
 #[test]
+fn forms_of_each_class(rt: HostRuntime) -> Result<(), Fail> {
+    for row in CLASSES {
+        expect_by_ber(&rt, row)?;
+        expect_by_der(&rt, row)?;
+    }
+    Ok(())
+}
+
+#[test]
 fn forms_by_ber(rt: HostRuntime) -> Result<(), Fail> {
     for row in BY_BER {
         expect_by_ber(&rt, row)?;
@@ -289,8 +327,12 @@ type HeaderRow = (Form, &'static str, Parts);
 #[rattlefmt::skip]
 const HEADERS: &[HeaderRow] = &[
     (Form::Explicit(Tag(2), 2), "a2 80 02 01 05 00 00", Parts(ContextSpecific, true, Tag(2), Indefinite, "a2")),
+    (Form::Explicit(Tag(2), 2), "62 03 02 01 05", Parts(Application, true, Tag(2), Definite(3), "62")),
+    (Form::Explicit(Tag(2), 2), "e2 03 02 01 05", Parts(Private, true, Tag(2), Definite(3), "e2")),
     (Form::Implicit(Tag(2), Tag::Sequence), "a2 80 02 01 05 00 00",
         Parts(ContextSpecific, true, Tag(2), Definite(3), "a2")),
+    (Form::Implicit(Tag(2), Tag::Integer), "42 01 05", Parts(Application, false, Tag(2), Definite(1), "42")),
+    (Form::Implicit(Tag(2), Tag::Integer), "c2 01 05", Parts(Private, false, Tag(2), Definite(1), "c2")),
     (Form::Optional(2), "02 01 05", Parts(Universal, false, Tag(2), Definite(1), "02")),
     (Form::ExplicitOptional(Tag(0), 2), "a0 03 02 01 02", Parts(ContextSpecific, true, Tag(0), Definite(3), "a0")),
 ];

@@ -14,7 +14,8 @@ spells d i rest o r small = encoding_normal_form r.spelling (tree o) d framing_b
 
 back : WrittenIsReadBack
 back d d' i rest rest' o o' r small r' =
-    let (e, same, left) = spelling_same r'.spelling (encoding (tree o)) rest' [] (tree o') (tree o) d' d (form_of o', r'.spells) (spells d i rest o r small) (sym r'.octets ∙ sym (append-nil (encoding (tree o)))) in
+    let (e, same, left) =
+    spelling_same r'.spelling (encoding (tree o)) rest' [] (tree o') (tree o) d' d (form_of o', r'.spells) (spells d i rest o r small) (sym r'.octets ∙ sym (append-nil (encoding (tree o)))) in
     (same, left)
 
 pub returns-clause-spells : goal.returns-clause-spells

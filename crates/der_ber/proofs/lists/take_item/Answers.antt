@@ -18,7 +18,8 @@ no_place : {O E : Type 0} (from_error_kind_gives : Bor (List ℕ) → ErrorKind 
 no_place k p r v vs us l = no_item (no_room {r = r} {v = v} (refl, refl) refl l)
 
 pub returns-in_err-push_item-in-Ok : goal.returns-in_err-push_item-in-Ok
-returns-in_err-push_item-in-Ok g c = rw c.in-Ok.is (search (rules, no_place g.E.ParseError.from_error_kind_gives c.args.input c.in-Ok.rest c.in-Ok.value c.args.values.now.items c.args.values.now.items c.if-rest-input.false))
+returns-in_err-push_item-in-Ok g c =
+    rw c.in-Ok.is (search (rules, no_place g.E.ParseError.from_error_kind_gives c.args.input c.in-Ok.rest c.in-Ok.value c.args.values.now.items c.args.values.now.items c.if-rest-input.false))
 
 pub returns-then-not-is_empty : goal.returns-then-not-is_empty
 returns-then-not-is_empty g c = rw (c.in-Err-Incomplete.is, c.in-Err-Incomplete.field-0-is)

@@ -12,4 +12,5 @@ returns-in-Err-f-clause-run g c =
 pub returns-in-Ok-f-clause-run : goal.returns-in-Ok-f-clause-run
 returns-in-Ok-f-clause-run g c =
     let x = c.from_header_and_content.ensures in
-    rw c.in-Ok.is (inr (accepted {content = c.in-Ok.parts.1} (refl, refl, refl) (c.with_length-header.result, c.with_length-header.ensures, made (_, refl, c.in-Ok-f.ensures) (x.header, x.content)) refl))
+    rw c.in-Ok.is
+    (inr (accepted {content = c.in-Ok.parts.1} (refl, refl, refl) (c.with_length-header.result, c.with_length-header.ensures, made (_, refl, c.in-Ok-f.ensures) (x.header, x.content)) refl))

@@ -15,10 +15,24 @@ pub returns-in-Err-assert_tag : goal.returns-in-Err-assert_tag
 returns-in-Err-assert_tag g c =
     let x = c.in-Ok.parts in
     let e = c.in-Err-assert_tag.ensures in
-    record { ok = tt; err = other_number {h = x.0} {w = x.1.now} {after = x.2.now} (rw c.in-Ok.is (refl, refl, refl)) (λ q. c.in_default.not-Universal (c.class.ensures ∙ q)) e.0 e.1 c.from-in-Err-assert_tag.ensures }
+    record {
+      ok = tt;
+      err = other_number {h = x.0} {w = x.1.now} {after = x.2.now} (rw c.in-Ok.is (
+        refl,
+        refl,
+        refl,
+      )) (λ q. c.in_default.not-Universal (c.class.ensures ∙ q)) e.0 e.1 c.from-in-Err-assert_tag.ensures;
+    }
 
 pub returns-in-Err-assert_constructed : goal.returns-in-Err-assert_constructed
 returns-in-Err-assert_constructed g c =
     let x = c.in-Ok.parts in
     let e = c.in-Err-assert_constructed.ensures in
-    record { ok = tt; err = primitive {h = x.0} {w = x.1.now} {after = x.2.now} (rw c.in-Ok.is (refl, refl, refl)) (λ q. c.in_default.not-Universal (c.class.ensures ∙ q)) c.in-Ok-assert_tag.ensures e.0 e.1 c.from-in-Err-assert_constructed.ensures }
+    record {
+      ok = tt;
+      err = primitive {h = x.0} {w = x.1.now} {after = x.2.now} (rw c.in-Ok.is (
+        refl,
+        refl,
+        refl,
+      )) (λ q. c.in_default.not-Universal (c.class.ensures ∙ q)) c.in-Ok-assert_tag.ensures e.0 e.1 c.from-in-Err-assert_constructed.ensures;
+    }

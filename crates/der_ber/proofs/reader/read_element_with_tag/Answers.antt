@@ -9,7 +9,7 @@ use Rattle.der_base.proofs.Framing.FramingAny as framing
 use Rattle.der_base.proofs.Framing.FramingLaws.{element_shorter}
 use Rattle.der_base.proofs.Framing.Recording.{inside_more}
 use Rattle.der_ber.proofs.Items.{any_refused, any_cut, framing_cut, begins_behind, content_refused, object_read}
-use Rattle.der_ber.proofs.WantedNumbers.{not_other, refused_not_other, framing_needs, content_needs}
+use Rattle.der_ber.proofs.WantedTagNumbers.{not_other, refused_not_other, framing_needs, content_needs}
 use Rattle.der_ber.proofs.reader.read_element_with_tag.Goals as goal
 
 pub returns-in_err-behind-clause-found : goal.returns-in_err-behind-clause-found
