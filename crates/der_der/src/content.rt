@@ -1,5 +1,5 @@
-//! Contents read without their header: the caller gives it, or the tag number, the length and the
-//! constructed bit of a universal type.
+//! Contents read without their header: the caller gives the header, or the tag number, the length
+//! and the constructed bit of a universal type.
 ghost use Rattle.std.specs.Prelude.{◌≡◌};
 ghost use Rattle.der_base.specs.declared.header.Class.{Class};
 ghost use Rattle.der_base.specs.Answer.{MatchAnswer};
@@ -15,7 +15,7 @@ use der_base::{MAX_OBJECT_SIZE, MAX_RECURSION};
 use der_object::{BerObject, BerObjectContent, BerResult};
 use std::alloc::Global;
 
-/// The content octets behind a header, and what follows the element.
+/// Returns the content octets after a header, and the rest after the element.
 pub(crate) fn frame_content<'a>(
     i: &'a [u8],
     header: &Header<'_>,
@@ -41,7 +41,7 @@ pub(crate) fn frame_content<'a>(
     Ok((rest, content))
 }
 
-/// The object of a header and the content behind it, and what follows the element.
+/// Returns the object of a header and the content after it, and the rest after the element.
 fn read_content_of<'a>(
     alloc: Global,
     i: &'a [u8],
@@ -59,7 +59,7 @@ fn read_content_of<'a>(
     read_object(alloc, header, octets, rest, max_depth, &mut count)
 }
 
-/// The content of the universal type of this number, and what follows the element.
+/// Returns the content of the universal type of this number, and the rest after the element.
 fn read_content_as<'a>(
     alloc: Global,
     i: &'a [u8],
@@ -79,17 +79,18 @@ fn read_content_as<'a>(
     Ok((rest, object.content))
 }
 
-/// Reads the content of a universal type behind its header, of which the caller gives the tag
-/// number, the length and the constructed bit, and answers what follows the element. The content
-/// octets are as many as the length says; they are read as `parse_der_recursive` reads those of an
-/// object of class Universal at this depth, so the items of a list at one less. A number that has
-/// no content of its own gives Unknown, with a header of class Universal that has no raw tag.
+/// Reads the content of a universal type, and returns the rest after the element with it. The
+/// caller gives the tag number, the length and the constructed bit of the header. The content has
+/// as many octets as the length says. It is read as `parse_der_recursive` reads the content of an
+/// object of class Universal at this depth, so the items of a list are read at one less. A number
+/// that has no content of its own gives Unknown, with a header of class Universal that has no raw
+/// tag.
 ///
 /// Refusals, in this order: the constraint IndefiniteLength; InvalidLength for a length above
-/// `MAX_OBJECT_SIZE`; BerMaxDepth at depth 0; ConstructExpected for a primitive SEQUENCE or SET, and
-/// the constraint Constructed for another type that is constructed; those of the type, and of the
-/// first item that is refused. Incomplete, with the whole length, where fewer octets are there, told
-/// before the depth. OutOfMemory only at depth 2 and more, of a list that has items.
+/// `MAX_OBJECT_SIZE`; BerMaxDepth at depth 0; ConstructExpected for a primitive SEQUENCE or SET,
+/// and the constraint Constructed for another type that is constructed; those of the type, and of
+/// the first item that is refused. Incomplete with the whole length where fewer octets are left;
+/// this comes before the depth. OutOfMemory only at depth 2 and more, for a list that has items.
 pub fn der_read_element_content_as<'a>(
     alloc: Global,
     i: &'a [u8],
@@ -103,24 +104,24 @@ pub fn der_read_element_content_as<'a>(
     read_content_as(alloc, i, tag, length, constructed, max_depth)
 }
 
-/// Reads the content of an object behind its header, which the caller gives and the object keeps,
-/// and answers what follows the element. The content octets are as many as the length says; they
-/// are read as `parse_der` reads those of an object with this header, to the depth
-/// `MAX_RECURSION`: those of a class other than Universal, and of a number that has no content of
-/// its own, give Unknown.
+/// Reads the content of an object whose header the caller gives, and returns the rest after the
+/// element with the object, which keeps the header. The content has as many octets as the length
+/// says. It is read as `parse_der` reads the content of an object with this header, to the depth
+/// `MAX_RECURSION`. A class other than Universal, and a number that has no content of its own, give
+/// Unknown.
 ///
 /// Refusals, in this order: the constraint IndefiniteLength; InvalidLength for a length above
 /// `MAX_OBJECT_SIZE`; ConstructExpected for a primitive SEQUENCE or SET, and the constraint
 /// Constructed for another type that is constructed; those of the type, and of the first item that
-/// is refused. Incomplete where fewer octets are there, with the whole length for class Universal
-/// and with what is missing for others. OutOfMemory only of a list that has items.
+/// is refused. Incomplete where fewer octets are left: with the whole length for class Universal,
+/// and with the number of missing octets for others. OutOfMemory only for a list that has items.
 pub fn der_read_element_content<'a>(alloc: Global, i: &'a [u8], hdr: Header<'a>) -> BerResult<'a>
     ensures { AnswersContentOf hdr.entry 50 i.now result }
 {
     read_content_of(alloc, i, hdr, MAX_RECURSION)
 }
 
-/// A reader of contents of one universal type, which `parse_der_content` makes.
+/// A reader of contents of one universal type, made by `parse_der_content`.
 #[derive(Clone, Copy)]
 pub struct DerContent {
     /// The tag number of the type.
@@ -128,7 +129,7 @@ pub struct DerContent {
     alloc: Global,
 }
 
-/// The reader of contents of this universal type, behind headers that are borrowed.
+/// Makes the reader of contents of this universal type that borrows headers.
 pub fn parse_der_content(alloc: Global, tag: Tag) -> DerContent
     ensures { result.tag ≡ tag }
 {
@@ -136,8 +137,8 @@ pub fn parse_der_content(alloc: Global, tag: Tag) -> DerContent
 }
 
 impl DerContent {
-    /// Reads as `der_read_element_content_as` the content that stands behind a header of this
-    /// length and constructed bit. Its class and tag number aren't looked at.
+    /// Reads the content after a header, as `der_read_element_content_as` with the header's length
+    /// and constructed bit. The header's class and tag number are ignored.
     pub fn parse<'a>(
         &self,
         i: &'a [u8],
@@ -157,7 +158,7 @@ impl DerContent {
     }
 }
 
-/// A reader of contents of one universal type, which `parse_der_content2` makes.
+/// A reader of contents of one universal type, made by `parse_der_content2`.
 #[derive(Clone, Copy)]
 pub struct DerContent2 {
     /// The tag number of the type.
@@ -165,7 +166,7 @@ pub struct DerContent2 {
     alloc: Global,
 }
 
-/// The reader of contents of this universal type, behind headers by value.
+/// Makes the reader of contents of this universal type that takes headers by value.
 pub fn parse_der_content2(alloc: Global, tag: Tag) -> DerContent2
     ensures { result.tag ≡ tag }
 {

@@ -1,5 +1,5 @@
-//! The content octets of the universal types that are no list, by DER (X.690 8.2 to 8.25, and 11):
-//! what DER asks beside the rules of BER.
+//! The content octets of the universal types other than SEQUENCE and SET, by DER (X.690 8.2 to
+//! 8.25, and 11): what DER asks in addition to the rules of BER.
 ghost use Rattle.std.specs.Prelude.{◌≡◌, ◌≢◌, ◌≤◌, ◌⊎◌, ◌↔◌, false, IsTrue, MatchResult, [], ◌∷◌};
 ghost use Rattle.der_base.specs.Encoding.{content_octets};
 ghost use Rattle.der_base.specs.Leaf.{is_list, is_mapped, is_time, IsDerLeaf, HasZeroUnusedBits};
@@ -15,7 +15,8 @@ use der_base::time::read_der_time;
 use der_ber::leaf::{read_leaf as read_ber_leaf, time_content};
 use der_object::BerObjectContent;
 
-/// Reads the content octets of a universal type that is no list, which DER wants primitive.
+/// Reads the content octets of a universal type other than SEQUENCE and SET, which is primitive by
+/// DER.
 #[inline(always)]
 pub fn read_leaf<'a>(
     constructed: bool,
@@ -32,7 +33,7 @@ pub fn read_leaf<'a>(
     if constructed {
         return Err(BerError::DerConstraintFailed(DerConstraint::Constructed));
     }
-    // The answer of a call is copied, by `Ok(..?)`; BER's reader is compiled in.
+    // `Ok(..?)` copies the result of a call. The reader of BER is inlined.
     match tag {
         Tag::UtcTime | Tag::GeneralizedTime => Ok(read_time_content(tag, content)?),
         _ => {
@@ -42,7 +43,7 @@ pub fn read_leaf<'a>(
     }
 }
 
-/// A UTCTime or a GeneralizedTime, as DER writes it (11.7, 11.8).
+/// Reads a UTCTime or a GeneralizedTime in the form of DER (11.7, 11.8).
 #[inline(never)]
 fn read_time_content(tag: Tag, content: &[u8]) -> Result<BerObjectContent<'_>, BerError>
     requires { IsTrue (is_time tag.0) }
@@ -53,7 +54,7 @@ fn read_time_content(tag: Tag, content: &[u8]) -> Result<BerObjectContent<'_>, B
     Ok(time_content(tag, read_der_time(tag, content)?))
 }
 
-/// The tests that DER puts in front of those of BER, of a type that is no time.
+/// Makes the tests of DER that come before those of BER, for a type that is no time.
 #[inline(always)]
 fn check_form(tag: Tag, content: &[u8]) -> Result<(), BerError>
     requires mapped { IsTrue (is_mapped tag.0) }
@@ -72,7 +73,7 @@ fn check_form(tag: Tag, content: &[u8]) -> Result<(), BerError>
     }
 }
 
-/// An end of content or a NULL has no octets (8.1.5, 8.8.2).
+/// Checks that an end of content or a NULL has no octets (8.1.5, 8.8.2).
 fn check_empty(content: &[u8]) -> Result<(), BerError>
     ensures { MatchResult result (λ _. content.now ≡ []) (λ e. (content.now ≢ []) × (refusal e ≡ invalid_length)) }
 {
@@ -83,7 +84,7 @@ fn check_empty(content: &[u8]) -> Result<(), BerError>
     }
 }
 
-/// A BOOLEAN is one octet, 00 or ff (8.2, 11.1).
+/// Checks that a BOOLEAN is one octet, 0x00 or 0xff (8.2, 11.1).
 fn check_boolean(content: &[u8]) -> Result<(), BerError>
     ensures { MatchResult result
         (λ _. (content.now ≡ 0 ∷ []) ⊎ (content.now ≡ 255 ∷ []))
@@ -96,8 +97,8 @@ fn check_boolean(content: &[u8]) -> Result<(), BerError>
     }
 }
 
-/// The unused bits of a BIT STRING are 0, at most seven, and none where there is no octet (8.6.2,
-/// 11.2.1).
+/// Checks that the unused bits of a BIT STRING are 0, at most seven, and none where there is no
+/// octet (8.6.2, 11.2.1).
 fn check_bit_string(content: &[u8]) -> Result<(), BerError>
     ensures { MatchResult result
         (λ _. HasUnusedZeros content.now)
@@ -115,8 +116,8 @@ fn check_bit_string(content: &[u8]) -> Result<(), BerError>
     Ok(())
 }
 
-/// Whether so many last bits of the last octet are 0; where there is no octet, whether there are
-/// none.
+/// Returns whether this many last bits of the last octet are 0, and without octets whether the
+/// number is 0.
 fn are_last_bits_zero(count: u8, octets: &[u8]) -> bool
     requires { count ≤ 7 }
     ensures { IsTrue result ↔ HasZeroUnusedBits count octets.now }

@@ -16,7 +16,7 @@ pub use content::{
     DerContent, DerContent2, der_read_element_content, der_read_element_content_as,
     parse_der_content, parse_der_content2,
 };
-/// An object that may be absent is read the same by BER: the rule set is that of the kept parser.
+/// An object that may be absent is read as by BER: the parser that is kept decides the rules.
 pub use der_ber::{BerOptional as DerOptional, parse_ber_optional as parse_der_optional};
 pub use multi::{
     DerContainer, DerSequenceDefined, DerSequenceDefinedG, DerSequenceOf, DerSequenceOfV,

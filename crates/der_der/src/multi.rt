@@ -1,5 +1,5 @@
-//! Combinators that keep the caller's parser of a content. Each is its twin of `der_ber::multi`, and
-//! opens an element by DER.
+//! Combinators that keep the caller's parser of a content. Each is the twin of one in
+//! `der_ber::multi`, and opens an element by DER.
 ghost use Rattle.std.specs.Prelude.{◌≡◌, IfErr, IfOk};
 ghost use Rattle.der_base.specs.Containers.{DerNumberRun, DerRun, Made, OnContent};
 ghost use Rattle.der_base.specs.Containers.{OpensDer, OpensDerNumber, RefusesDer, RefusesDerNumber};
@@ -21,7 +21,7 @@ use der_object::BerObject;
 use std::alloc::Global;
 use std::marker::Model;
 
-/// The element that `i` begins with, where its content is whole.
+/// Opens the element at the start of `i`, where its content is whole.
 pub(crate) fn open_element<'a, E>(i: &'a [u8]) -> Result<Opened<'a>, Err<E>>
 where
     E: ParseError<&'a [u8]> + From<BerError>,
@@ -43,7 +43,7 @@ where
     Ok((header, content, after))
 }
 
-/// The same of an element of this tag number, of any class.
+/// Opens the element at the start of `i`, where its tag number is this one, of any class.
 #[inline(always)]
 pub(crate) fn open_number<'a, E>(i: &'a [u8], tag: Tag) -> Result<Opened<'a>, Err<E>>
 where
@@ -54,7 +54,7 @@ where
     with_number(open_element(i), tag)
 }
 
-/// A parser of an element, which keeps the parser of its content.
+/// A parser of an element that keeps the parser of its content.
 #[derive(Drop)]
 pub struct DerContainer<F> {
     f: F,
@@ -66,7 +66,7 @@ impl<F> Model for DerContainer<F> {
     ghost view = { λ c. c.f };
 }
 
-/// A parser of an element of any tag that hands its content and its header to `f`.
+/// Makes a parser of an element of any tag that hands the content and the header to `f`.
 pub fn parse_der_container<'a, F, O, E>(f: F) -> DerContainer<F>
 where
     F: FnMut(&'a [u8], Header<'a>) -> IResult<&'a [u8], O, E>,
@@ -77,12 +77,12 @@ where
 
 impl<F> DerContainer<F> {
     /// Reads an element by DER, calls the kept parser once, on exactly the content octets and the
-    /// header, and answers what it answers. What the parser leaves of the content is dropped: an Ok
-    /// leaves what follows the element. How the content is written isn't looked at.
+    /// header, and returns its result. What the parser leaves of the content is dropped: the rest
+    /// of an Ok is what follows the element. The form of the content is not checked.
     ///
     /// Refusals, without a call of the parser: those of `der_read_element_header`, and the Error of
-    /// Eof at the octets behind the header where they are fewer than its length. Incomplete where
-    /// the input ends within the header. It takes no memory.
+    /// Eof at the octets after the header where they are fewer than the length. Incomplete where
+    /// the input ends within the header. It does not allocate.
     pub fn parse<'a, O, E>(&mut self, i: &'a [u8]) -> IResult<&'a [u8], O, E>
     where
         F: FnMut(&'a [u8], Header<'a>) -> IResult<&'a [u8], O, E>,
@@ -95,7 +95,7 @@ impl<F> DerContainer<F> {
     }
 }
 
-/// A parser of a SEQUENCE, which keeps the parser of its content.
+/// A parser of a SEQUENCE that keeps the parser of its content.
 #[derive(Drop)]
 pub struct DerSequenceDefinedG<F> {
     f: F,
@@ -107,8 +107,8 @@ impl<F> Model for DerSequenceDefinedG<F> {
     ghost view = { λ c. c.f };
 }
 
-/// A parser of an element of the tag number 16, SEQUENCE, that hands its content and its header to
-/// `f`.
+/// Makes a parser of an element of the tag number 16, SEQUENCE, that hands the content and the
+/// header to `f`.
 pub fn parse_der_sequence_defined_g<'a, F, O, E>(f: F) -> DerSequenceDefinedG<F>
 where
     F: FnMut(&'a [u8], Header<'a>) -> IResult<&'a [u8], O, E>,
@@ -119,8 +119,8 @@ where
 
 impl<F> DerSequenceDefinedG<F> {
     /// Reads as `DerContainer::parse` an element of the tag number 16, of any class, constructed or
-    /// not. Another number is UnexpectedTag, told behind the refusals of `DerContainer::parse`,
-    /// without a call of the parser.
+    /// not. Another number is UnexpectedTag, without a call of the parser. It comes after the
+    /// refusals of `DerContainer::parse`.
     pub fn parse<'a, O, E>(&mut self, i: &'a [u8]) -> IResult<&'a [u8], O, E>
     where
         F: FnMut(&'a [u8], Header<'a>) -> IResult<&'a [u8], O, E>,
@@ -133,7 +133,7 @@ impl<F> DerSequenceDefinedG<F> {
     }
 }
 
-/// A parser of a SET, which keeps the parser of its content.
+/// A parser of a SET that keeps the parser of its content.
 #[derive(Drop)]
 pub struct DerSetDefinedG<F> {
     f: F,
@@ -145,7 +145,8 @@ impl<F> Model for DerSetDefinedG<F> {
     ghost view = { λ c. c.f };
 }
 
-/// A parser of an element of the tag number 17, SET, that hands its content and its header to `f`.
+/// Makes a parser of an element of the tag number 17, SET, that hands the content and the header to
+/// `f`.
 pub fn parse_der_set_defined_g<'a, F, O, E>(f: F) -> DerSetDefinedG<F>
 where
     F: FnMut(&'a [u8], Header<'a>) -> IResult<&'a [u8], O, E>,
@@ -156,8 +157,8 @@ where
 
 impl<F> DerSetDefinedG<F> {
     /// Reads as `DerContainer::parse` an element of the tag number 17, of any class, constructed or
-    /// not. Another number is UnexpectedTag, told behind the refusals of `DerContainer::parse`,
-    /// without a call of the parser.
+    /// not. Another number is UnexpectedTag, without a call of the parser. It comes after the
+    /// refusals of `DerContainer::parse`.
     pub fn parse<'a, O, E>(&mut self, i: &'a [u8]) -> IResult<&'a [u8], O, E>
     where
         F: FnMut(&'a [u8], Header<'a>) -> IResult<&'a [u8], O, E>,
@@ -170,7 +171,7 @@ impl<F> DerSetDefinedG<F> {
     }
 }
 
-/// A parser of SEQUENCE OF, which keeps the parser of its items.
+/// A parser of a SEQUENCE OF that keeps the parser of its items.
 #[derive(Drop)]
 pub struct DerSequenceOfV<F> {
     f: F,
@@ -183,8 +184,8 @@ impl<F> Model for DerSequenceOfV<F> {
     ghost view = { λ c. c.f };
 }
 
-/// A parser of an element of the tag number 16, SEQUENCE, that reads its content by `f`, value
-/// after value (X.690 8.10).
+/// Makes a parser of an element of the tag number 16, SEQUENCE, that reads the content by `f`, one
+/// value after another (X.690 8.10).
 pub fn parse_der_sequence_of_v<'a, F, O, E>(alloc: Global, f: F) -> DerSequenceOfV<F>
 where
     F: FnMut(&'a [u8]) -> IResult<&'a [u8], O, E>,
@@ -194,7 +195,7 @@ where
 }
 
 impl<F> DerSequenceOfV<F> {
-    /// Reads as `BerSequenceOfV::parse`, but opens the element as `DerContainer::parse` does.
+    /// Reads as `BerSequenceOfV::parse`, but opens the element as `DerContainer::parse`.
     pub fn parse<'a, O, E>(&mut self, i: &'a [u8]) -> IResult<&'a [u8], Vec<O>, E>
     where
         F: FnMut(&'a [u8]) -> IResult<&'a [u8], O, E>,
@@ -209,7 +210,7 @@ impl<F> DerSequenceOfV<F> {
     }
 }
 
-/// A parser of SET OF, which keeps the parser of its items.
+/// A parser of a SET OF that keeps the parser of its items.
 #[derive(Drop)]
 pub struct DerSetOfV<F> {
     f: F,
@@ -222,8 +223,8 @@ impl<F> Model for DerSetOfV<F> {
     ghost view = { λ c. c.f };
 }
 
-/// A parser of an element of the tag number 17, SET, that reads its content by `f`, value after
-/// value (X.690 8.12), where the octets of the values ascend (11.6).
+/// Makes a parser of an element of the tag number 17, SET, that reads the content by `f`, one value
+/// after another (X.690 8.12), and checks that the octets of the values ascend (11.6).
 pub fn parse_der_set_of_v<'a, F, O, E>(alloc: Global, f: F) -> DerSetOfV<F>
 where
     F: FnMut(&'a [u8]) -> IResult<&'a [u8], O, E>,
@@ -233,10 +234,11 @@ where
 }
 
 impl<F> DerSetOfV<F> {
-    /// Reads as `BerSetOfV::parse`, but opens the element as `DerContainer::parse` does, and wants the
-    /// values in their order. The octets that a call takes are compared with those of the call before,
-    /// octet by octet, the shorter padded with octets of 0 at its end. Where those before are greater,
-    /// the answer is the Error SetOfOrder, and `f` isn't called again.
+    /// Reads as `BerSetOfV::parse`, but opens the element as `DerContainer::parse`, and checks the
+    /// order of the values. The octets of each value are compared with those of the value before,
+    /// octet by octet. The shorter is padded at its end with octets of 0. Where a value is less
+    /// than the one before, the result is the Error SetOfOrder, `f` is not called again, and no
+    /// memory is allocated for the value.
     pub fn parse<'a, O, E>(&mut self, i: &'a [u8]) -> IResult<&'a [u8], Vec<O>, E>
     where
         F: FnMut(&'a [u8]) -> IResult<&'a [u8], O, E>,
@@ -251,7 +253,7 @@ impl<F> DerSetOfV<F> {
     }
 }
 
-/// A parser of a SEQUENCE OF object, which keeps the parser of its items.
+/// A parser of a SEQUENCE OF object that keeps the parser of its items.
 #[derive(Drop)]
 pub struct DerSequenceOf<F> {
     f: F,
@@ -264,8 +266,8 @@ impl<F> Model for DerSequenceOf<F> {
     ghost view = { λ c. c.f };
 }
 
-/// A parser of an element of the tag number 16, SEQUENCE, that reads its content by `f`, object after
-/// object (X.690 8.10).
+/// Makes a parser of an element of the tag number 16, SEQUENCE, that reads the content by `f`, one
+/// object after another (X.690 8.10).
 pub fn parse_der_sequence_of<'a, F, E>(alloc: Global, f: F) -> DerSequenceOf<F>
 where
     F: FnMut(&'a [u8]) -> IResult<&'a [u8], BerObject<'a>, E>,
@@ -275,7 +277,7 @@ where
 }
 
 impl<F> DerSequenceOf<F> {
-    /// Reads as `BerSequenceOf::parse`, but opens the element as `DerContainer::parse` does.
+    /// Reads as `BerSequenceOf::parse`, but opens the element as `DerContainer::parse`.
     pub fn parse<'a, E>(&mut self, i: &'a [u8]) -> IResult<&'a [u8], BerObject<'a>, E>
     where
         F: FnMut(&'a [u8]) -> IResult<&'a [u8], BerObject<'a>, E>,
@@ -289,7 +291,7 @@ impl<F> DerSequenceOf<F> {
     }
 }
 
-/// A parser of a SET OF object, which keeps the parser of its items.
+/// A parser of a SET OF object that keeps the parser of its items.
 #[derive(Drop)]
 pub struct DerSetOf<F> {
     f: F,
@@ -302,8 +304,8 @@ impl<F> Model for DerSetOf<F> {
     ghost view = { λ c. c.f };
 }
 
-/// A parser of an element of the tag number 17, SET, that reads its content by `f`, object after
-/// object (X.690 8.12), where the octets of the objects ascend (11.6).
+/// Makes a parser of an element of the tag number 17, SET, that reads the content by `f`, one
+/// object after another (X.690 8.12), and checks that the octets of the objects ascend (11.6).
 pub fn parse_der_set_of<'a, F, E>(alloc: Global, f: F) -> DerSetOf<F>
 where
     F: FnMut(&'a [u8]) -> IResult<&'a [u8], BerObject<'a>, E>,
@@ -313,8 +315,8 @@ where
 }
 
 impl<F> DerSetOf<F> {
-    /// Reads as `BerSetOf::parse`, but opens the element as `DerContainer::parse` does, and wants the
-    /// items in their order, as `DerSetOfV::parse` does.
+    /// Reads as `BerSetOf::parse`, but opens the element as `DerContainer::parse`, and checks the
+    /// order of the items as `DerSetOfV::parse`.
     pub fn parse<'a, E>(&mut self, i: &'a [u8]) -> IResult<&'a [u8], BerObject<'a>, E>
     where
         F: FnMut(&'a [u8]) -> IResult<&'a [u8], BerObject<'a>, E>,
@@ -328,7 +330,7 @@ impl<F> DerSetOf<F> {
     }
 }
 
-/// A parser of a SEQUENCE object, which keeps the parser of its items.
+/// A parser of a SEQUENCE object that keeps the parser of its items.
 #[derive(Drop)]
 pub struct DerSequenceDefined<F> {
     f: F,
@@ -340,8 +342,8 @@ impl<F> Model for DerSequenceDefined<F> {
     ghost view = { λ c. c.f };
 }
 
-/// A parser of an element of the tag number 16, SEQUENCE, whose items `f` reads from its content
-/// (X.690 8.9).
+/// Makes a parser of an element of the tag number 16, SEQUENCE, whose items `f` reads from the
+/// content (X.690 8.9).
 pub fn parse_der_sequence_defined<'a, F, E>(f: F) -> DerSequenceDefined<F>
 where
     F: FnMut(&'a [u8]) -> IResult<&'a [u8], Vec<BerObject<'a>>, E>,
@@ -351,7 +353,7 @@ where
 }
 
 impl<F> DerSequenceDefined<F> {
-    /// Reads as `BerSequenceDefined::parse`, but opens the element as `DerContainer::parse` does.
+    /// Reads as `BerSequenceDefined::parse`, but opens the element as `DerContainer::parse`.
     pub fn parse<'a, E>(&mut self, i: &'a [u8]) -> IResult<&'a [u8], BerObject<'a>, E>
     where
         F: FnMut(&'a [u8]) -> IResult<&'a [u8], Vec<BerObject<'a>>, E>,
@@ -365,7 +367,7 @@ impl<F> DerSequenceDefined<F> {
     }
 }
 
-/// A parser of a SET object, which keeps the parser of its items.
+/// A parser of a SET object that keeps the parser of its items.
 #[derive(Drop)]
 pub struct DerSetDefined<F> {
     f: F,
@@ -377,8 +379,8 @@ impl<F> Model for DerSetDefined<F> {
     ghost view = { λ c. c.f };
 }
 
-/// A parser of an element of the tag number 17, SET, whose items `f` reads from its content (X.690
-/// 8.11).
+/// Makes a parser of an element of the tag number 17, SET, whose items `f` reads from the content
+/// (X.690 8.11).
 pub fn parse_der_set_defined<'a, F, E>(f: F) -> DerSetDefined<F>
 where
     F: FnMut(&'a [u8]) -> IResult<&'a [u8], Vec<BerObject<'a>>, E>,
@@ -388,7 +390,7 @@ where
 }
 
 impl<F> DerSetDefined<F> {
-    /// Reads as `BerSetDefined::parse`, but opens the element as `DerContainer::parse` does.
+    /// Reads as `BerSetDefined::parse`, but opens the element as `DerContainer::parse`.
     pub fn parse<'a, E>(&mut self, i: &'a [u8]) -> IResult<&'a [u8], BerObject<'a>, E>
     where
         F: FnMut(&'a [u8]) -> IResult<&'a [u8], Vec<BerObject<'a>>, E>,
@@ -402,11 +404,11 @@ impl<F> DerSetDefined<F> {
     }
 }
 
-/// Reads the content octets of an element of this tag number, of any class, constructed or not, as
-/// they stand, and answers what follows the element.
+/// Returns the content octets of an element of this tag number, of any class, constructed or not,
+/// and the rest after the element. The octets are not checked.
 ///
-/// Refusals, in this order: those of `DerContainer::parse`; UnexpectedTag where the number is
-/// another one. Incomplete where the input ends within the header. It takes no memory.
+/// Refusals, in this order: those of `DerContainer::parse`; UnexpectedTag for another number.
+/// Incomplete where the input ends within the header. It does not allocate.
 pub fn parse_der_slice<'a>(i: &'a [u8], tag: Tag) -> IResult<&'a [u8], &'a [u8], BerError>
     ensures { AnswersDerSlice tag.0 i.now result }
 {

@@ -1,4 +1,4 @@
-//! Readers of the number of an INTEGER by DER (X.690 8.3), of any class. They take no memory.
+//! Readers of the number of an INTEGER by DER (X.690 8.3), of any class. They do not allocate.
 ghost use Rattle.std.specs.Prelude.{◌≡◌, MatchResult, false, pos};
 ghost use Rattle.der_base.specs.Answer.{MatchAnswer};
 ghost use Rattle.der_base.specs.Any.{DerAnyLacks};
@@ -13,7 +13,7 @@ use der_base::error::{BerError, DerConstraint, Err, IResult};
 use der_base::header::{Header, Tag};
 use der_base::integer::{check_fewest_octets, is_negative, read_i32, read_i64, read_u32, read_u64};
 
-/// Ok for the header of a primitive INTEGER.
+/// Checks that a header is that of a primitive INTEGER.
 fn check_header(header: &Header<'_>) -> Result<(), BerError>
     ensures { MatchResult result
         (λ _. (number_of header.now ≡ 2) × (is_constructed header.now ≡ false))
@@ -26,7 +26,7 @@ fn check_header(header: &Header<'_>) -> Result<(), BerError>
     Ok(())
 }
 
-/// The content octets of an INTEGER in its fewest octets.
+/// Returns the content octets of an INTEGER in its fewest octets.
 fn read_integer(i: &[u8]) -> IResult<&[u8], &[u8], BerError>
     ensures { MatchAnswer result
         (λ x. ReadsDerInteger (signed 64) i.now x.1.now x.0.now)
@@ -40,7 +40,7 @@ fn read_integer(i: &[u8]) -> IResult<&[u8], &[u8], BerError>
     Ok((rest, any.bytes))
 }
 
-/// The same of one that isn't negative.
+/// Returns the content octets of an INTEGER in its fewest octets that is not negative.
 fn read_natural(i: &[u8]) -> IResult<&[u8], &[u8], BerError>
     ensures { MatchAnswer result
         (λ x. ReadsDerInteger (unsigned 64) i.now x.1.now x.0.now)
@@ -57,7 +57,7 @@ fn read_natural(i: &[u8]) -> IResult<&[u8], &[u8], BerError>
     Ok((rest, any.bytes))
 }
 
-/// Reads an INTEGER from -2^63 to 2^63-1, and answers what is left of the input.
+/// Reads an INTEGER from -2^63 to 2^63-1, and returns the rest of the input with it.
 ///
 /// Refusals, in this order: those of `Any::from_der`; UnexpectedTag for another tag number; the
 /// constraints Constructed, IntegerEmpty, IntegerLeadingZeroes, IntegerLeadingFF; IntegerTooLarge.
@@ -70,7 +70,7 @@ pub fn parse_der_i64(i: &[u8]) -> IResult<&[u8], i64, BerError>
     Ok((rest, n))
 }
 
-/// Reads an INTEGER from -2^31 to 2^31-1: as `parse_der_i64`.
+/// Reads an INTEGER from -2^31 to 2^31-1, as `parse_der_i64`.
 pub fn parse_der_i32(i: &[u8]) -> IResult<&[u8], i32, BerError>
     ensures { AnswersDerNumber (λ v. v) (signed 32) i.now result }
 {
@@ -79,8 +79,8 @@ pub fn parse_der_i32(i: &[u8]) -> IResult<&[u8], i32, BerError>
     Ok((rest, n))
 }
 
-/// Reads an INTEGER from 0 to 2^64-1: as `parse_der_i64`, and IntegerNegative below, told behind
-/// Constructed and in front of the other constraints.
+/// Reads an INTEGER from 0 to 2^64-1, as `parse_der_i64`. A negative one is IntegerNegative, after
+/// Constructed and before the other constraints.
 pub fn parse_der_u64(i: &[u8]) -> IResult<&[u8], u64, BerError>
     ensures { AnswersDerNumber pos (unsigned 64) i.now result }
 {
@@ -89,7 +89,7 @@ pub fn parse_der_u64(i: &[u8]) -> IResult<&[u8], u64, BerError>
     Ok((rest, n))
 }
 
-/// Reads an INTEGER from 0 to 2^32-1: as `parse_der_u64`.
+/// Reads an INTEGER from 0 to 2^32-1, as `parse_der_u64`.
 pub fn parse_der_u32(i: &[u8]) -> IResult<&[u8], u32, BerError>
     ensures { AnswersDerNumber pos (unsigned 32) i.now result }
 {

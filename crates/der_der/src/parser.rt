@@ -9,7 +9,7 @@ use der_base::header::HeaderCount;
 use der_object::BerResult;
 use std::alloc::Global;
 
-/// Reads one object in DER, to the depth `MAX_RECURSION`: as `parse_der_recursive`.
+/// Reads one object in DER, to the depth `MAX_RECURSION`, as `parse_der_recursive`.
 pub fn parse_der<'a>(alloc: Global, i: &'a [u8]) -> BerResult<'a>
     ensures exactly { AnswersDer 50 i.now result }
     ensures stable { IsStableDer 50 i.now result }
@@ -18,18 +18,18 @@ pub fn parse_der<'a>(alloc: Global, i: &'a [u8]) -> BerResult<'a>
     parse_der_recursive(alloc, i, MAX_RECURSION)
 }
 
-/// Reads one object in DER, and answers what is left of the input: Ok exactly where the input
-/// begins with the one DER spelling of an object, nested no deeper than `max_depth` and with
+/// Reads one object in DER, and returns the rest of the input with it. The result is Ok iff the
+/// input begins with the one DER spelling of an object, nested no deeper than `max_depth`, with
 /// content octets of at most `MAX_OBJECT_SIZE`. Each header has the length and the identifier
 /// octets as read.
 ///
 /// Refusals, in this order: BerMaxDepth at depth 0; those of `der_read_element_header`;
 /// InvalidLength above `MAX_OBJECT_SIZE`; Incomplete where the content is cut short, with the whole
-/// length for class Universal and with what is missing for others; ConstructExpected for a
-/// primitive SEQUENCE or SET, and the constraint Constructed for another type that is constructed;
-/// those of the type; those of the first item that is refused, at a depth less, where an item that
-/// its list cuts short is the refusal Incomplete. OutOfMemory only at depth 2 and more, where the
-/// input begins with a whole list that has items.
+/// length for class Universal and with the number of missing octets for others; ConstructExpected
+/// for a primitive SEQUENCE or SET, and the constraint Constructed for another type that is
+/// constructed; those of the type; those of the first item that is refused, at a depth less. An
+/// item that its list cuts short is the Error Incomplete. OutOfMemory only at depth 2 and more,
+/// where the input begins with a whole list that has items.
 pub fn parse_der_recursive<'a>(alloc: Global, i: &'a [u8], max_depth: usize) -> BerResult<'a>
     ensures exactly { AnswersDer max_depth i.now result }
     ensures stable { IsStableDer max_depth i.now result }
@@ -39,9 +39,9 @@ pub fn parse_der_recursive<'a>(alloc: Global, i: &'a [u8], max_depth: usize) -> 
     parse_der_counted(alloc, i, max_depth, &mut count)
 }
 
-/// Reads as `parse_der_recursive`, and counts the headers that are read. An Ok has one for the
-/// object and for each item at any depth; whatever is answered, at most one is counted for each two
-/// octets of the input, and one more. The count stays at its greatest value.
+/// Reads as `parse_der_recursive`, and counts the headers that are read. An Ok counts one for the
+/// object and one for each item at any depth. Any result counts at most one for each two octets of
+/// the input, and one more. The count stays at its greatest value.
 pub fn parse_der_counted<'a>(
     alloc: Global,
     i: &'a [u8],

@@ -1,5 +1,5 @@
-//! One element of DER and what is inside it: element, content and items call each other, a depth
-//! less at each list.
+//! One element of DER and what is inside it. Element, content and items call each other, at one
+//! depth less for each list.
 ghost use Rattle.std.specs.Prelude.{◌≡◌, ◌≢◌, ◌+◌, ◌*◌, ◌^◌, ◌<◌, ◌≤◌, [], IfOk, IsTrue, length, true};
 ghost use Rattle.der_base.specs.declared.header.Class.{Class};
 ghost use Rattle.der_base.specs.Answer.{MatchAnswer};
@@ -23,7 +23,7 @@ use der_object::growth::push_item;
 use der_object::{BerObject, BerObjectContent, BerResult};
 use std::alloc::Global;
 
-/// One element in front.
+/// Reads the element at the start of `i`.
 #[cycle(reader)]
 #[inline(always)]
 pub fn read_element<'a>(
@@ -56,7 +56,8 @@ pub fn read_element<'a>(
     read_object(alloc, header, content, rest, max_depth, count)
 }
 
-/// How many octets a content lacks that is cut short: by DER the whole length for class Universal.
+/// Returns how many octets a content lacks that is cut short: by DER the whole length for class
+/// Universal.
 pub(crate) fn lacking(header: &Header<'_>, size: usize, rest: &[u8]) -> usize
     requires { length rest.now < size }
     ensures universal { class_of header.now ≡ Class.Universal → result ≡ size }
@@ -69,7 +70,8 @@ pub(crate) fn lacking(header: &Header<'_>, size: usize, rest: &[u8]) -> usize
     }
 }
 
-/// The object of an element whose header and content octets are told apart, and what follows it.
+/// Returns the object of an element whose header and content octets are given, and the rest after
+/// it.
 #[cycle(reader)]
 #[inline(always)]
 pub(crate) fn read_object<'a>(
@@ -114,7 +116,7 @@ pub(crate) fn read_object<'a>(
     Ok((rest, BerObject::from_header_and_content(header, content)))
 }
 
-/// The elements that content octets join.
+/// Reads the elements that content octets join.
 #[cycle(reader)]
 fn read_items<'a>(
     alloc: Global,

@@ -1,5 +1,5 @@
-//! The items of a SET OF by DER: a list whose items stand in ascending order (X.690 11.6). As in
-//! `der_ber::lists`, the two loops differ in what the parser of one item answers.
+//! The items of a SET OF by DER: a list in ascending order (X.690 11.6). As in `der_ber::lists`,
+//! the two loops differ in what the parser of one item returns.
 ghost use Rattle.std.specs.Prelude.{◌≡◌, ◌<◌, ◌↔◌, length, IfErr, IfOk, IsTrue, Result};
 ghost use Rattle.der_base.specs.Containers.{ContainerRun};
 ghost use Rattle.der_base.specs.Inner.Opened.{IsOpened, IsUnopened};
@@ -13,8 +13,8 @@ use der_ber::opened::Opened;
 use der_object::BerObject;
 use std::alloc::Global;
 
-/// Calls `f` on the content of an element that was opened, and again on what each call leaves, or
-/// passes on why none was. The values are answered in their order, which their octets give.
+/// Calls `f` on the content of an element that was opened, and again on what each call leaves.
+/// Where no element was opened, passes on the refusal. The values are in the order of their octets.
 pub(crate) fn parse_set_items<'a, F, O, E>(
     alloc: Global,
     f: &mut F,
@@ -39,7 +39,7 @@ where
     }
 }
 
-/// The same where `f` answers objects.
+/// Does as `parse_set_items` where `f` returns objects.
 pub(crate) fn parse_set_objects<'a, F, E>(
     alloc: Global,
     f: &mut F,
@@ -90,7 +90,7 @@ where
     Ok(values)
 }
 
-/// The same where `f` answers objects.
+/// Does as `read_set_items` where `f` returns objects.
 fn read_set_objects<'a, F, E>(
     alloc: Global,
     f: &mut F,
@@ -116,8 +116,9 @@ where
     Ok(objects)
 }
 
-/// Takes the item that was answered on `input` as `take_item` does, where its octets stand behind
-/// those of the item `before`. Before the first item there are none.
+/// Takes the item that was read from `input`, as `take_item`, where its octets do not descend after
+/// those of the item `before`. For the first item `before` is empty. The order is checked first, so
+/// an item that descends never allocates.
 fn take_in_order<'a, O, E>(
     before: &[u8],
     input: &'a [u8],
@@ -139,8 +140,8 @@ where
     }
 }
 
-/// Refuses an item of `input` that leaves `rest`, where the octets of the item before it are greater.
-/// An item that leaves all of `input` has none.
+/// Refuses an item of `input` that leaves `rest`, where the octets of the item before it are
+/// greater. An item that leaves all of `input` has no octets, and passes.
 fn check_order<E>(before: &[u8], input: &[u8], rest: &[u8]) -> Result<(), Err<E>>
 where
     E: From<BerError>,
@@ -155,8 +156,8 @@ where
     Ok(())
 }
 
-/// Whether `first` is greater than `second`, octet by octet. Behind the end of the shorter one stand
-/// octets of 0.
+/// Returns whether `first` is greater than `second`, octet by octet. The shorter is padded at its
+/// end with octets of 0.
 fn descends(first: &[u8], second: &[u8]) -> bool
     ensures { IsTrue result ↔ Descends first.now second.now }
 {

@@ -1,6 +1,6 @@
 //! Combinators for explicit and implicit tags (X.690 8.14), which keep the tag number and the
-//! caller's parser, and for objects that may be absent. Each is its twin of `der_ber::tagged`, and
-//! opens an element by DER.
+//! caller's parser, and for objects that may be absent. Each is the twin of one in
+//! `der_ber::tagged`, and opens an element by DER.
 ghost use Rattle.std.specs.Prelude.{◌≡◌, IfErr, IfOk};
 ghost use Rattle.der_base.specs.Containers.{DerExplicitRun, DerNumberRun, KeepsTag, LetsGo};
 ghost use Rattle.der_base.specs.Containers.{MadeInMemory, OnContent, OnImplicit};
@@ -16,7 +16,7 @@ use der_object::{BerObject, BerObjectContent};
 use std::alloc::Global;
 use std::marker::Model;
 
-/// The element that `i` begins with, where it is an explicit tag of this number.
+/// Opens the element at the start of `i`, where it is an explicit tag of this number.
 fn open_explicit<'a, E>(i: &'a [u8], tag: Tag) -> Result<Opened<'a>, Err<E>>
 where
     E: ParseError<&'a [u8]> + From<BerError>,
@@ -27,7 +27,7 @@ where
     with_explicit_tag(open_element(i), tag)
 }
 
-/// A parser of an element inside an explicit tag, which keeps the tag number and the parser of its
+/// A parser of an element inside an explicit tag that keeps the tag number and the parser of its
 /// content.
 #[derive(Drop)]
 pub struct DerTaggedExplicitG<F> {
@@ -43,8 +43,8 @@ impl<F> Model for DerTaggedExplicitG<F> {
     ghost view = { λ c. (c.tag, c.f) };
 }
 
-/// A parser of an explicit tag of this number (X.690 8.14.2), which hands what stands inside and
-/// its own header to `f`.
+/// Makes a parser of an explicit tag of this number (X.690 8.14.2) that hands what is inside, and
+/// the header of the tag, to `f`.
 pub fn parse_der_tagged_explicit_g<'a, F, O, E>(tag: Tag, f: F) -> DerTaggedExplicitG<F>
 where
     F: FnMut(&'a [u8], Header<'a>) -> IResult<&'a [u8], O, E>,
@@ -54,7 +54,7 @@ where
 }
 
 impl<F> DerTaggedExplicitG<F> {
-    /// Reads as `BerTaggedExplicitG::parse`, but opens the element as `DerContainer::parse` does.
+    /// Reads as `BerTaggedExplicitG::parse`, but opens the element as `DerContainer::parse`.
     pub fn parse<'a, O, E>(&mut self, i: &'a [u8]) -> IResult<&'a [u8], O, E>
     where
         F: FnMut(&'a [u8], Header<'a>) -> IResult<&'a [u8], O, E>,
@@ -68,7 +68,7 @@ impl<F> DerTaggedExplicitG<F> {
     }
 }
 
-/// A parser of an element under an implicit tag, which keeps the tag number and the parser of its
+/// A parser of an element under an implicit tag that keeps the tag number and the parser of its
 /// content.
 #[derive(Drop)]
 pub struct DerTaggedImplicitG<F> {
@@ -84,8 +84,8 @@ impl<F> Model for DerTaggedImplicitG<F> {
     ghost view = { λ c. (c.tag, c.f) };
 }
 
-/// A parser of an element under an implicit tag of this number (X.690 8.14.3), which hands its
-/// content, its header and the depth `MAX_RECURSION` to `f`.
+/// Makes a parser of an implicit tag of this number (X.690 8.14.3) that hands the content, the
+/// header and the depth `MAX_RECURSION` to `f`.
 pub fn parse_der_tagged_implicit_g<'a, F, O, E>(tag: Tag, f: F) -> DerTaggedImplicitG<F>
 where
     F: FnMut(&'a [u8], Header<'a>, usize) -> IResult<&'a [u8], O, E>,
@@ -95,7 +95,7 @@ where
 }
 
 impl<F> DerTaggedImplicitG<F> {
-    /// Reads as `BerTaggedImplicitG::parse`, but opens the element as `DerContainer::parse` does.
+    /// Reads as `BerTaggedImplicitG::parse`, but opens the element as `DerContainer::parse`.
     pub fn parse<'a, O, E>(&mut self, i: &'a [u8]) -> IResult<&'a [u8], O, E>
     where
         F: FnMut(&'a [u8], Header<'a>, usize) -> IResult<&'a [u8], O, E>,
@@ -109,7 +109,7 @@ impl<F> DerTaggedImplicitG<F> {
     }
 }
 
-/// A parser of an object inside an explicit tag, which keeps the tag number and the parser of the
+/// A parser of an object inside an explicit tag that keeps the tag number and the parser of the
 /// object.
 #[derive(Drop)]
 pub struct DerTaggedExplicit<F> {
@@ -126,7 +126,8 @@ impl<F> Model for DerTaggedExplicit<F> {
     ghost view = { λ c. (c.tag, c.f) };
 }
 
-/// A parser of an object inside an explicit tag of this number (X.690 8.14.2), which `f` reads.
+/// Makes a parser of an object inside an explicit tag of this number (X.690 8.14.2), which `f`
+/// reads.
 pub fn parse_der_tagged_explicit<'a, F, E>(alloc: Global, tag: Tag, f: F) -> DerTaggedExplicit<F>
 where
     F: FnMut(&'a [u8]) -> IResult<&'a [u8], BerObject<'a>, E>,
@@ -136,7 +137,7 @@ where
 }
 
 impl<F> DerTaggedExplicit<F> {
-    /// Reads as `BerTaggedExplicit::parse`, but opens the element as `DerContainer::parse` does.
+    /// Reads as `BerTaggedExplicit::parse`, but opens the element as `DerContainer::parse`.
     pub fn parse<'a, E>(&mut self, i: &'a [u8]) -> IResult<&'a [u8], BerObject<'a>, E>
     where
         F: FnMut(&'a [u8]) -> IResult<&'a [u8], BerObject<'a>, E>,
@@ -150,7 +151,7 @@ impl<F> DerTaggedExplicit<F> {
     }
 }
 
-/// A parser of an object under an implicit tag, which keeps the tag number and the parser of its
+/// A parser of an object under an implicit tag that keeps the tag number and the parser of its
 /// content.
 #[derive(Drop)]
 pub struct DerTaggedImplicit<F> {
@@ -166,8 +167,8 @@ impl<F> Model for DerTaggedImplicit<F> {
     ghost view = { λ c. (c.tag, c.f) };
 }
 
-/// A parser of an object under an implicit tag of this number (X.690 8.14.3), whose content `f`
-/// reads from the content octets, the header and the depth `MAX_RECURSION`.
+/// Makes a parser of an object under an implicit tag of this number (X.690 8.14.3), whose content
+/// `f` reads from the content octets, the header and the depth `MAX_RECURSION`.
 pub fn parse_der_tagged_implicit<'a, F, E>(tag: Tag, f: F) -> DerTaggedImplicit<F>
 where
     F: FnMut(&'a [u8], &Header<'a>, usize) -> IResult<&'a [u8], BerObjectContent<'a>, E>,
@@ -177,7 +178,7 @@ where
 }
 
 impl<F> DerTaggedImplicit<F> {
-    /// Reads as `BerTaggedImplicit::parse`, but opens the element as `DerContainer::parse` does.
+    /// Reads as `BerTaggedImplicit::parse`, but opens the element as `DerContainer::parse`.
     pub fn parse<'a, E>(&mut self, i: &'a [u8]) -> IResult<&'a [u8], BerObject<'a>, E>
     where
         F: FnMut(&'a [u8], &Header<'a>, usize) -> IResult<&'a [u8], BerObjectContent<'a>, E>,
@@ -191,8 +192,8 @@ impl<F> DerTaggedImplicit<F> {
     }
 }
 
-/// Reads an object under an implicit tag of this number (X.690 8.14.3) as
-/// `DerTaggedImplicit::parse` does, where `f` is the kept parser.
+/// Reads an object under an implicit tag of this number (X.690 8.14.3), as
+/// `DerTaggedImplicit::parse` with the kept parser `f`.
 pub fn parse_der_implicit<'a, F, E>(
     i: &'a [u8],
     tag: Tag,
@@ -209,8 +210,8 @@ where
 }
 
 /// Reads an object inside an explicit tag of this number (X.690 8.14.2) that may be absent, as
-/// `DerOptional::parse` does, where the kept parser is that of `DerTaggedExplicit::parse` over `f`.
-/// So the object is absent too where its tag is another one or is refused, and `f` isn't called.
+/// `DerOptional::parse` with the kept parser `DerTaggedExplicit::parse` over `f`. So the object is
+/// also absent where its tag is another one or is refused, and then `f` is not called.
 pub fn parse_der_explicit_optional<'a, F, E>(
     alloc: Global,
     i: &'a [u8],

@@ -1,4 +1,4 @@
-//! SET OF by combinators: by DER its items stand in ascending order, octet by octet (X.690 11.6).
+//! SET OF by combinators: by DER its items are in ascending order, octet by octet (X.690 11.6).
 use der_parser::IResult;
 use der_parser::ber::parse_ber_set_of;
 use der_parser::der::{
@@ -32,10 +32,10 @@ fn read_item<'a>(alloc: Global, item: Item, i: &'a [u8]) -> BerResult<'a> {
     }
 }
 
-/// How often the parser of an item is called, and what is answered.
+/// How often the parser of an item is called, and the result.
 type Given<'a> = (u64, BerResult<'a>);
 
-/// What is answered where a SET OF items is wanted by DER.
+/// Reads a SET OF items by DER.
 fn by_der(alloc: Global, item: Item, i: &[u8]) -> Given<'_> {
     let mut calls: u64 = 0;
     let items = |input| {
@@ -46,7 +46,7 @@ fn by_der(alloc: Global, item: Item, i: &[u8]) -> Given<'_> {
     (calls, answer)
 }
 
-/// The same by BER.
+/// Reads a SET OF items by BER.
 fn by_ber(alloc: Global, item: Item, i: &[u8]) -> Given<'_> {
     let mut calls: u64 = 0;
     let items = |input| {
@@ -57,8 +57,8 @@ fn by_ber(alloc: Global, item: Item, i: &[u8]) -> Given<'_> {
     (calls, answer)
 }
 
-/// A set: octets, the parser of an item, the content with what follows it, and how
-/// often the parser is called.
+/// A set: the input, the parser of an item, the content with the rest, and how often the parser is
+/// called.
 type Row = (&'static str, Item, Answer, u64);
 
 /// Sets in their order.
@@ -83,7 +83,7 @@ const OUT_OF_ORDER: &[Row] = &[
     ("31 06 05 00 04 02 00 00", Item::Object, Read(Set(&[Null, OctetString("00 00")]), ""), 2),
 ];
 
-/// The row's set is answered.
+/// The result is the row's set.
 fn expect_set(
     rt: &(impl Abort + AllocGlobal),
     row: &Row,
@@ -94,7 +94,7 @@ fn expect_set(
     Ok(())
 }
 
-/// The row's set is answered, with the row's calls.
+/// The result is the row's set, after the row's calls.
 fn expect_in_order(
     rt: &(impl Abort + AllocGlobal),
     row: &Row,
@@ -157,7 +157,7 @@ fn sets_out_of_order_are_refused(rt: HostRuntime) -> Result<(), Fail> {
     Ok(())
 }
 
-/// A reader of a set that doesn't want its order.
+/// A reader of a set that doesn't check the order.
 #[derive(Clone, Copy, Debug)]
 enum Unordered {
     SetOfByBer,
@@ -165,7 +165,7 @@ enum Unordered {
     DerSet,
 }
 
-/// What the reader answers.
+/// Reads a set by this reader.
 fn read_unordered(alloc: Global, reader: Unordered, item: Item, i: &[u8]) -> BerResult<'_> {
     match reader {
         Unordered::SetOfByBer => by_ber(alloc, item, i).1,
@@ -197,11 +197,11 @@ fn sets_out_of_order_are_read_without_order(rt: HostRuntime) -> Result<(), Fail>
 
 /// The parser isn't called again on what follows an item that is out of order.
 #[test]
-fn nothing_is_read_behind_an_item_out_of_order(rt: HostRuntime) -> Result<(), Fail> {
+fn nothing_is_read_after_an_item_out_of_order(rt: HostRuntime) -> Result<(), Fail> {
     expect_no_order(&rt, "31 08 02 01 02 02 01 01 01 00", Item::Number, 2)
 }
 
-/// What is answered where a SEQUENCE OF sets of INTEGERs is wanted by DER.
+/// Reads a SEQUENCE OF sets of INTEGERs by DER.
 fn sets_in_a_list(alloc: Global, i: &[u8]) -> BerResult<'_> {
     parse_der_sequence_of(alloc, |i| set_of_numbers(alloc, i)).parse(i)
 }
@@ -233,8 +233,8 @@ fn take<'a>(count: Option<&usize>, i: &'a [u8]) -> IResult<&'a [u8], usize, BerE
     }
 }
 
-/// What a parser that takes so many octets at its first call, so many at its second, and none at its
-/// third, makes of a SET OF by DER.
+/// Reads a SET OF by DER, whose parser takes this many octets at its first call, this many at its
+/// second, and none at its third.
 fn taken(alloc: Global, counts: [usize; 2], i: &[u8]) -> IResult<&[u8], Vec<usize>, BerError> {
     let mut calls: usize = 0;
     let item = |input| {

@@ -7,6 +7,7 @@ mod count_rows;
 mod der_rows;
 #[cfg(test)]
 mod fronts;
+mod law_names;
 #[cfg(test)]
 mod list_rows;
 #[cfg(test)]
@@ -17,3 +18,4 @@ mod number_rows;
 mod octets_of_texts;
 #[cfg(test)]
 mod round_trips;
+mod type_names;

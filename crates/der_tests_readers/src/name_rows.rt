@@ -1,21 +1,24 @@
-//! Names: what each public name of `der_parser` is, where another could stand in its place.
+//! Names: what each public name of `der_parser` is, where another could be in its place.
+use der_parser::IResult;
 use der_parser::ber::compat::{BerClass, BerObjectHeader, BerSize, BerTag, Tag as CompatTag};
 use der_parser::ber::{
     ASN1TimeZone, BerContent, BerContent2, BerObject, BerObjectContent, BitStringObject, Class,
-    Header, Length, MAX_OBJECT_SIZE, MAX_RECURSION, Tag, parse_ber_content, parse_ber_content2,
+    Header, Length, MAX_OBJECT_SIZE, MAX_RECURSION, Tag, parse_ber_container, parse_ber_content,
+    parse_ber_content2,
 };
+use der_parser::cursor::{parse_bits, parse_identifier};
 use der_parser::der::{
     self, DerClass, DerContent, DerContent2, DerObject, DerObjectContent, DerObjectHeader, DerTag,
-    parse_der_content, parse_der_content2,
+    parse_der_container, parse_der_content, parse_der_content2,
 };
 use der_parser::error::DerConstraint::{IndefiniteLength, LengthNotMinimal};
-use der_parser::error::Error::{BerMaxDepth, UnexpectedTag};
-use der_parser::error::{BerError, BerResult, DerResult, Error};
-use der_parser::oid::OidIter;
+use der_parser::error::Error::{BerMaxDepth, DerConstraintFailed, UnexpectedTag};
+use der_parser::error::{BerError, BerResult, DerResult, Err, Error};
+use der_parser::oid::{Oid, OidIter};
 use der_tests_rows::answer::Answer::{self, Broken, Incomplete, Read, Refused};
 use der_tests_rows::answer::Content::{
-    BitString, BmpString, Boolean, EndOfContent, Enum, Integer, NewYear, Null, OctetString, Oid,
-    RelativeOid, Sequence, Set, Text, UniversalString,
+    BitString, BmpString, Boolean, EndOfContent, Enum, Integer, NewYear, Null, OctetString,
+    Oid as Identifier, RelativeOid, Sequence, Set, Text, UniversalString,
 };
 use der_tests_rows::reader::Reader;
 use der_tests_rows::reading::{Row, expect_answer, expect_answers};
@@ -77,7 +80,7 @@ const TYPES: &[TypeRow] = &[
     TypeRow(Tag(3), "03 02 00 31", "03 81 02 00 31", Read(BitString(0, "31"), "")),
     TypeRow(Tag(4), "04 01 31", "04 81 01 31", Read(OctetString("31"), "")),
     TypeRow(Tag(5), "05 00", "05 81 00", Read(Null, "")),
-    TypeRow(Tag(6), "06 01 31", "06 81 01 31", Read(Oid("31"), "")),
+    TypeRow(Tag(6), "06 01 31", "06 81 01 31", Read(Identifier("31"), "")),
     TypeRow(Tag(7), "07 01 31", "07 81 01 31", Read(Text(Tag(7), "1"), "")),
     TypeRow(Tag(10), "0a 01 31", "0a 81 01 31", Read(Enum(49), "")),
     TypeRow(Tag(12), "0c 01 31", "0c 81 01 31", Read(Text(Tag(12), "1"), "")),
@@ -101,8 +104,8 @@ const TYPES: &[TypeRow] = &[
     TypeRow(Tag(30), "1e 02 00 31", "1e 81 02 00 31", Read(BmpString("00 31"), "")),
 ];
 
-/// A name of a reader, octets, and what it answers on them, where a reader of another name answers
-/// otherwise.
+/// A name of a row, an input, and what a reader of these rules returns on it, where a reader of other
+/// rules returns something else.
 #[rattlefmt::skip]
 const BY_BER: &[Row] = &[
     ("an indefinite length", "30 80 05 00 00 00", Read(Sequence(&[Null]), "")),
@@ -117,7 +120,7 @@ const BY_DER: &[Row] = &[
     ("short content", "02 02 00", Incomplete(2)),
 ];
 
-/// What is tried holds of each row's octets.
+/// Tries each row's octets.
 pub fn try_rows(rt: &(impl Abort + AllocGlobal), trial: Trial) -> Result<(), Fail> {
     rows::try_rows(rt.alloc(), trial, TYPES)?;
     rows::try_rows(rt.alloc(), trial, BY_BER)?;
@@ -263,12 +266,12 @@ fn under_der_names(object: BerObject<'_>) -> DerObject<'_> {
     BerObject::from_header_and_content(object.header, content)
 }
 
-/// An answer of BER under the name of DER.
+/// A result of BER under the name of DER.
 fn under_der_result<'a>(answer: BerResult<'a>) -> DerResult<'a> {
     answer
 }
 
-/// An answer under the names of its parts, at the root and in `error`.
+/// A result under the names of its parts, at the root and in `error`.
 fn under_longer_names<'a>(
     answer: BerResult<'a>,
 ) -> der_parser::IResult<&'a [u8], BerObject<'a>, BerError> {
@@ -314,4 +317,34 @@ fn combinators_are_named_structs(rt: HostRuntime) {
 /// Whether a content is read, and is that of a NULL.
 fn is_null(given: BerResult<'_, BerObjectContent<'_>>) -> bool {
     matches!(&given, Ok((_, BerObjectContent::Null)))
+}
+
+/// How many octets a content has.
+fn size_of_content<'a>(content: &'a [u8], _: Header<'a>) -> IResult<&'a [u8], usize, BerError> {
+    Ok((content, content.len()))
+}
+
+/// A length in the long form is read by BER alone.
+#[test]
+fn containers_have_their_rules(rt: HostRuntime) {
+    let by_ber = parse_ber_container(size_of_content).parse(b"\x02\x81\x01\x05");
+    assert!(rt; matches!(by_ber, Ok((&[], 1))));
+    let by_der = parse_der_container(size_of_content).parse(b"\x02\x81\x01\x05");
+    assert!(rt; by_der == Err(Err::Error(DerConstraintFailed(LengthNotMinimal))));
+}
+
+#[test]
+fn an_identifier_is_parsed_as_one(rt: HostRuntime) -> Result<(), Fail> {
+    let (rest, oid) = parse_identifier(b"\x06\x01\x2a\xff")?;
+    assert!(rt; rest == b"\xff".as_slice());
+    assert!(rt; oid == Oid::new(CowSlice::Borrowed(b"\x2a")));
+    Ok(())
+}
+
+#[test]
+fn bits_are_parsed_as_such(rt: HostRuntime) -> Result<(), Fail> {
+    let (rest, bits) = parse_bits(b"\x03\x02\x01\x30\xff")?;
+    assert!(rt; rest == b"\xff".as_slice());
+    assert!(rt; bits.bytes == b"\x30".as_slice());
+    Ok(())
 }
