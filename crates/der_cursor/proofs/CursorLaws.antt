@@ -7,13 +7,13 @@ use Rattle.der_base.proofs.Answers.Answering.{passed_on}
 use Rattle.der_base.proofs.Answers.Exactness.{exactly}
 use Rattle.der_cursor.specs.declared.cursor.Cursor.{Cursor}
 use Rattle.der_cursor.specs.declared.refusal.Refusal.{Refusal}
-use Rattle.der_cursor.specs.Cursors.{octets_left, place_of, opened, contents, OpensAt}
+use Rattle.der_cursor.specs.Cursors.{octets_left, refusal_at, opened, contents, OpensAt}
 use Rattle.der_cursor.specs.Elements.{AnswersElement}
 use Rattle.der_cursor.proofs.ElementLaws.{element_shows_one}
 
 -- a refusal, told at the place of the element
 pub not_opened : (c : Class) (p : Bool) (t : ℕ) (old : Cursor) (reason : Refused BerError) (e : Refusal BerError) → AnswersElement c p t (octets_left old) (Err reason)
-    → e ≡ record { offset = place_of old; reason = reason } → OpensAt c p t old (Err e) old
+    → e ≡ refusal_at old reason → OpensAt c p t old (Err e) old
 not_opened c p t old reason e a q = rw q (record {
   element = exactly (Err reason) (element_shows_one c p t (octets_left old) contents) (λ n l m. m) (passed_on _ _ reason a.found (λ x h. h) (λ n h. h) (λ m. m));
   places = (refl, refl);

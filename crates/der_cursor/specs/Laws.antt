@@ -1,6 +1,6 @@
 -- Statements of the laws in `src/laws.rt`.
 use Rattle.std.specs.Borrow.{Bor}
-use Rattle.std.specs.Prelude.{◌≡◌, ℕ, Bool, List, ◌++◌, length, Result, IfOk}
+use Rattle.std.specs.Prelude.{◌≡◌, ℕ, Bool, false, List, ◌++◌, length, Result, IfOk}
 use Rattle.der_base.specs.declared.error.Error.{Error as BerError}
 use Rattle.der_base.specs.declared.header.Class.{Class}
 use Rattle.der_cursor.specs.declared.cursor.Cursor.{Cursor}
@@ -13,7 +13,7 @@ PlacesCount = (i : List ℕ) (c : Cursor) (s : StandsIn i c) → place_of c ≡ 
 
 -- a cursor over the whole input stands in it
 abbrev pub NewStand : Type 0
-NewStand = (i : List ℕ) (c : Cursor) → IsCursor c i (length i) → StandsIn i c
+NewStand = (i : List ℕ) (c : Cursor) → IsCursor c i (length i) false → StandsIn i c
 
 -- one that stands in it still does where a parser left an end of its octets
 abbrev pub EndsStand : Type 0

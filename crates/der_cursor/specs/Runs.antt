@@ -7,7 +7,7 @@ use Rattle.der_base.specs.declared.error.ErrorKind.{ErrorKind}
 use Rattle.der_base.specs.declared.error.ErrorKind.TheVariants.{Many0}
 use Rattle.der_cursor.specs.declared.cursor.Cursor.{Cursor}
 use Rattle.der_cursor.specs.declared.refusal.Refusal.{Refusal}
-use Rattle.der_cursor.specs.Cursors.{octets_left, place_of}
+use Rattle.der_cursor.specs.Cursors.{octets_left, refusal_at}
 
 -- the values, or the refusal
 abbrev pub values_of : {O E : Type 0} → Result (Vec O) (Refusal E) → Result (List O) (Refusal E)
@@ -36,10 +36,10 @@ module _ {F O E : Type 0} (step : F → MutBor Cursor → Result O (Refusal E) �
       -- no fewer octets are left, which is Many0 at the place of the call
       stuck : {g : F} {d : Cursor} {v : O} {x : E} → CallsAt f b (Ok v) d g
           → length (octets_left b) ≤ length (octets_left d) → from_error_kind_gives b.left Many0 x
-          → StopsAt f b (record { offset = place_of b; reason = Error x })
+          → StopsAt f b (refusal_at b (Error x))
       -- there is no memory for the value
       no_room : {g : F} {d : Cursor} {v : O} → CallsAt f b (Ok v) d g
-          → StopsAt f b (record { offset = place_of b; reason = OutOfMemory })
+          → StopsAt f b (refusal_at b OutOfMemory)
 
     -- the values of all calls, where the last one left nothing, or the refusal of one more
     abbrev pub ReadsAll : F → Cursor → Result (List O) (Refusal E) → Type 0

@@ -4,7 +4,7 @@ ghost use Rattle.der_base.specs.Answer.{MatchAnswer};
 ghost use Rattle.der_base.specs.Any.{DerAnyLacks, leading_content};
 ghost use Rattle.der_base.specs.declared.header.Class.{Class};
 ghost use Rattle.der_base.specs.Octets.{class_number};
-ghost use Rattle.der_cursor.specs.Cursors.{octets_left, place_of, IsCursor};
+ghost use Rattle.der_cursor.specs.Cursors.{octets_left, place_of, list_end_of, refusal_at, IsCursor};
 ghost use Rattle.der_cursor.specs.Cursors.{Reads, ReadsLast, IsLast, OpensAt, OpensTagged, AssertsUniversal, EndsAt};
 ghost use Rattle.der_cursor.specs.Runs.{ReadsAll, values_of};
 ghost use Rattle.der_cursor.specs.Elements.{AnswersElement, BeginsWithTag, ElementRefuses, SpellsElement};
@@ -20,16 +20,19 @@ use std::alloc::Global;
 pub struct Cursor<'a> {
     left: &'a [u8],
     end: usize,
+    // Whether the octets are the content of an element, and not the input itself.
+    inside: bool,
 }
 
 impl<'a> Cursor<'a> {
     /// A cursor in front of an input.
     pub fn new(input: &'a [u8]) -> Cursor<'a>
-        ensures { IsCursor result input.now (length input.now) }
+        ensures { IsCursor result input.now (length input.now) false }
     {
         Cursor {
             left: input,
             end: input.len(),
+            inside: false,
         }
     }
 
@@ -200,7 +203,11 @@ impl<'a> Cursor<'a> {
                 self.left = rest;
                 // The content ends where the next element begins.
                 let end = self.offset();
-                Ok(Cursor { left, end })
+                Ok(Cursor {
+                    left,
+                    end,
+                    inside: true,
+                })
             }
             Err(reason) => Err(self.refused(reason)),
         }
@@ -234,12 +241,21 @@ impl<'a> Cursor<'a> {
 
     /// The refusal of the next element.
     fn refused<E>(&self, reason: Refused<E>) -> Refusal<E>
-        ensures { result ≡ record { offset = place_of self.now; reason = reason } }
+        ensures { result ≡ refusal_at self.now reason }
     {
         Refusal {
             offset: self.offset(),
+            list_end: self.list_end(),
             reason,
         }
+    }
+
+    /// The number of octets of the input before the end of the list that the cursor reads, if that
+    /// is the content of an element.
+    fn list_end(&self) -> Option<usize>
+        ensures { result ≡ list_end_of self.now }
+    {
+        if self.inside { Some(self.end) } else { None }
     }
 }
 

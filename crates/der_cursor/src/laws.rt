@@ -1,5 +1,8 @@
 //! Laws of cursors. Each function's contract is a law, and its body is empty.
+ghost use Rattle.der_base.specs.Copies.{AlwaysSo, AreTheValue};
 ghost use Rattle.der_cursor.specs.Laws.{PlacesCount, NewStand, EndsStand, OpenedStand};
+
+use crate::cursor::Cursor;
 
 /// The place of a cursor is the number of octets of the input in front of those that are left, as
 /// far as each parser that was called left an end of its octets.
@@ -8,4 +11,10 @@ pub fn places_are_exact()
     ensures new { NewStand }
     ensures read { EndsStand }
     ensures opened { OpenedStand }
+{}
+
+/// A clone of a cursor is the cursor itself and takes no memory.
+pub fn cursor_clones_are_the_value()
+    ensures cursor { AreTheValue ⟦<Cursor<'static> as Clone>⟧.is_clone }
+    ensures cursor_memory { AlwaysSo ⟦<Cursor<'static> as Clone>⟧.is_infallible }
 {}

@@ -8,5 +8,5 @@ mod refusal;
 mod values;
 
 pub use cursor::Cursor;
-pub use refusal::Refusal;
+pub use refusal::{AsBerError, Refusal};
 pub use values::{identifier_of, parse_bits, parse_identifier};

@@ -160,7 +160,9 @@ pub mod der {
 
 /// Reading field after field by DER, with the place of a refusal.
 pub mod cursor {
-    pub use der_cursor::{Cursor, Refusal, identifier_of, parse_bits, parse_identifier};
+    pub use der_cursor::{
+        AsBerError, Cursor, Refusal, identifier_of, parse_bits, parse_identifier,
+    };
 }
 
 /// Object identifiers.
@@ -177,7 +179,7 @@ pub mod laws {
     };
     pub use der_base::oid::arcs_come_back;
     pub use der_ber::laws::written_is_read_back;
-    pub use der_cursor::laws::places_are_exact;
+    pub use der_cursor::laws::{cursor_clones_are_the_value, places_are_exact};
     pub use der_der::laws::written_is_what_was_read;
     pub use der_laws::{
         always_one, appended_lengthen_headers, appended_only_lengthen, der_is_within_ber,

@@ -1,11 +1,13 @@
 //! Certificates that are refused, and where: a certificate that is read, with one octet changed.
+//! Offsets are counted in the table of octets below.
 use der_parser::der::{Class, Tag};
 use der_parser::error::Err::{Error, Failure, Incomplete};
 use der_parser::error::{BerError, DerConstraint, Err as Refused, ErrorKind, Needed};
+use std::alloc::Global;
 use std::test::Fail;
 use x509_reader::read_certificate;
 
-/// A certificate (RFC 5280 4.1) of 95 octets, and one octet behind it.
+/// A certificate (RFC 5280 4.1) of 95 octets, and one octet after it.
 #[rattlefmt::skip]
 const CERTIFICATE: [u8; 96] = *b"\
     \x30\x5d\
@@ -26,17 +28,16 @@ const CERTIFICATE: [u8; 96] = *b"\
 #[rattlefmt::skip]
 const REFUSED: &[(&str, usize, usize, u8, usize, Refused<BerError>)] = &[
     ("the last octet is missing", 94, 0, 0x30, 0, Incomplete(Needed::Size(1))),
-    ("an octet stands behind", 96, 95, 0x00, 95, Error(BerError::NomError(ErrorKind::Eof))),
+    ("an octet left over", 96, 95, 0x00, 95, Error(BerError::NomError(ErrorKind::Eof))),
     ("version 4", 95, 8, 0x03, 6, Error(BerError::BerValueError)),
-    ("serial number -128", 95, 11, 0x80, 9, Error(BerError::IntegerNegative)),
     ("an identifier without arcs", 95, 15, 0x00, 14, Error(BerError::BerValueError)),
-    ("an attribute in front of a lesser one", 95, 27, 0x0b, 17,
+    ("an attribute before a lesser one", 95, 27, 0x0b, 17,
         Failure(BerError::DerConstraintFailed(DerConstraint::SetOfOrder))),
     ("a text as the first time", 95, 43, 0x16, 43,
         Error(BerError::UnexpectedTag { expected: Some(Tag::UtcTime), actual: Tag::Ia5String })),
     ("a serial number under the tag [2]", 95, 9, 0x82, 9,
         Error(BerError::UnexpectedClass { expected: Some(Class::Universal), actual: Class::ContextSpecific })),
-    ("an octet behind the version", 95, 5, 0x04, 9, Error(BerError::NomError(ErrorKind::Eof))),
+    ("octets after the version", 95, 5, 0x04, 9, Error(BerError::NomError(ErrorKind::Eof))),
     ("a signature in an OCTET STRING", 95, 91, 0x04, 91,
         Error(BerError::UnexpectedTag { expected: Some(Tag::BitString), actual: Tag::OctetString })),
 ];
@@ -53,9 +54,65 @@ fn certificates_are_refused(rt: HostRuntime) -> Result<(), Fail> {
         let input = octets.get(..*count).unwrap_or(&[]);
         let refused = read_certificate(rt.alloc(), input).err();
         assert!(rt;
-            matches!(&refused, Some(e) if e.offset == *offset && e.reason == *reason),
+            matches!(&refused, Some(e) if e.refusal.offset == *offset && e.refusal.reason == *reason),
             "{what}: {refused:?}"
         );
     }
+    Ok(())
+}
+
+/// What is wrong, how many of the octets are read, which one is changed and to what, and the text of
+/// the refusal.
+#[rattlefmt::skip]
+const TEXTS: &[(&str, usize, usize, u8, &str)] = &[
+    ("the last octet is missing", 94, 0, 0x30, "Certificate at 0: the input is cut short, needs 1"),
+    ("no octet", 0, 0, 0x30, "Certificate at 0: the input is cut short, needs 1"),
+    ("an octet left over", 96, 95, 0x00, "Certificate at 95: octets left over"),
+    ("signed fields longer than the certificate", 95, 3, 0x5c,
+        "Certificate at 2: an element runs past the end of its list, needs 1"),
+    ("a serial number longer than the signed fields", 95, 10, 0x50,
+        "tbsCertificate.serialNumber at 9: an element runs past the end of its list, needs 80"),
+    ("a version longer than its tag", 95, 7, 0x02,
+        "tbsCertificate.version at 6: an element runs past the end of its list, needs 2"),
+    ("a tag without a version", 95, 5, 0x00,
+        "tbsCertificate.version at 6: an element is missing at the end of its list"),
+    ("octets after the version", 95, 5, 0x04, "tbsCertificate.version at 9: octets left over"),
+    ("version 4", 95, 8, 0x03, "tbsCertificate.version at 6: wrong value"),
+    ("an issuer longer than the signed fields", 95, 18, 0x45,
+        "tbsCertificate.issuer at 17: an element runs past the end of its list, needs 2"),
+    ("a subject of another type", 95, 73, 0x31,
+        "tbsCertificate.subject at 73: unexpected tag (expected Sequence, actual Set)"),
+];
+
+/// The text of a refusal, or `read`.
+fn refusal_of(alloc: Global, input: &[u8]) -> Result<String, Fail> {
+    let text = match read_certificate(alloc, input).err() {
+        Some(refused) => format!(in alloc; "{refused}")?,
+        None => format!(in alloc; "read")?,
+    };
+    Ok(text)
+}
+
+#[test]
+fn refusals_are_printed(rt: HostRuntime) -> Result<(), Fail> {
+    for (what, count, at, octet, expected) in TEXTS {
+        let mut octets = CERTIFICATE;
+        if let Some(changed) = octets.get_mut(*at) {
+            *changed = *octet;
+        }
+        let input = octets.get(..*count).unwrap_or(&[]);
+        let text = refusal_of(rt.alloc(), input)?;
+        assert_eq!(rt; text.as_str(), *expected, "{what}");
+    }
+    Ok(())
+}
+
+/// RFC 5280 4.1.2.2 asks readers to handle a negative serial number.
+#[test]
+fn a_negative_serial_number_is_read(rt: HostRuntime) -> Result<(), Fail> {
+    let mut octets = CERTIFICATE;
+    octets[11] = 0x80;
+    let certificate = read_certificate(rt.alloc(), &octets[..95]).ok();
+    assert!(rt; certificate.is_some_and(|c| c.serial_number == [0x80].as_slice()));
     Ok(())
 }

@@ -1,5 +1,5 @@
-//! `kerberos` prints the request of a ticket on its standard input, an AS-REQ (RFC 4120 5.4.1), or
-//! tells where it is refused.
+//! `kerberos` prints the request for a ticket on its standard input, an AS-REQ (RFC 4120 5.4.1), or
+//! reports why it is refused and where.
 #![tactic(auto)]
 
 mod text;

@@ -1,4 +1,4 @@
-//! The text of a request.
+//! The lines that describe a request.
 use der_parser::ber::ASN1DateTime;
 use kerberos_reader::{Principal, Request};
 use std::fmt;
@@ -24,8 +24,8 @@ impl fmt::Display for Requested<'_, '_> {
     }
 }
 
-/// Writes the components of a name that is there, with a slash between them. What isn't printable
-/// ASCII in them is escaped.
+/// Writes the components of a name, if there is one, with a slash between them. Octets that aren't
+/// printable ASCII are escaped.
 fn write_principal<W: fmt::Write>(
     f: &mut fmt::Formatter<W>,
     field: &str,
@@ -44,7 +44,7 @@ fn write_principal<W: fmt::Write>(
     writeln!(f)
 }
 
-/// Writes a time that is there.
+/// Writes a time, if there is one.
 fn write_time<W: fmt::Write>(
     f: &mut fmt::Formatter<W>,
     field: &str,

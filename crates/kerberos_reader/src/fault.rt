@@ -1,17 +1,17 @@
 //! Why a request is refused.
-use der_parser::cursor::Refusal;
-use der_parser::error::{BerError, ErrorKind, ParseError};
+use der_parser::cursor::{AsBerError, Refusal};
+use der_parser::error::{BerError, Err as Refused, ErrorKind, ParseError};
 
-/// A refusal, and where it stands.
+/// Why a request is refused: the field, the offset of the refused element and the reason.
 #[derive(Debug, Drop, thiserror::Error)]
-pub enum RequestError {
-    #[error(transparent)]
-    Encoding(#[from] Refusal<BerError>),
-    #[error(transparent)]
-    Field(#[from] Refusal<Fault>),
+#[error("{field} {refusal}")]
+pub struct RequestError {
+    /// The name of the field in RFC 4120 5.4.1, after the names of those that it is in.
+    pub field: &'static str,
+    pub refusal: Refusal<Fault>,
 }
 
-/// Why a field is refused: by the library, or since the message is another one.
+/// Why a field is refused: the library refuses it, or it is of another message.
 #[derive(Debug, Drop, thiserror::Error)]
 pub enum Fault {
     #[error("{0}")]
@@ -22,14 +22,26 @@ pub enum Fault {
     Kind(u32),
 }
 
-/// The refusals of the library's readers are answered so.
 impl From<BerError> for Fault {
     fn from(e: BerError) -> Fault {
         Fault::Encoding(e)
     }
 }
 
-/// And so faults of the input as a whole.
+impl AsBerError for Fault {
+    ghost use Rattle.kerberos_reader.specs.Faults.{library_error};
+
+    ghost ber_error_of = { library_error };
+
+    fn as_ber_error(&self) -> Option<BerError> {
+        match self {
+            Fault::Encoding(e) => Some(*e),
+            Fault::Version(_) => None,
+            Fault::Kind(_) => None,
+        }
+    }
+}
+
 impl<I: Drop> ParseError<I> for Fault {
     ghost from_error_kind_gives = { λ _ _ _. Unit {0} };
 
@@ -41,5 +53,35 @@ impl<I: Drop> ParseError<I> for Fault {
 
     fn append(_input: I, _kind: ErrorKind, other: Fault) -> Fault {
         other
+    }
+}
+
+/// Adds the name of the field to a refusal.
+pub(crate) trait InField<T> {
+    fn in_field(self, field: &'static str) -> Result<T, RequestError>;
+}
+
+impl<T> InField<T> for Result<T, Refusal<BerError>> {
+    fn in_field(self, field: &'static str) -> Result<T, RequestError> {
+        match self {
+            Ok(value) => Ok(value),
+            Err(e) => {
+                let refusal = Refusal {
+                    offset: e.offset,
+                    list_end: e.list_end,
+                    reason: Refused::convert(e.reason),
+                };
+                Err(RequestError { field, refusal })
+            }
+        }
+    }
+}
+
+impl<T> InField<T> for Result<T, Refusal<Fault>> {
+    fn in_field(self, field: &'static str) -> Result<T, RequestError> {
+        match self {
+            Ok(value) => Ok(value),
+            Err(refusal) => Err(RequestError { field, refusal }),
+        }
     }
 }

@@ -1,4 +1,4 @@
-//! What a request of a ticket says, an AS-REQ (RFC 4120 5.4.1), read field after field.
+//! Reads the request for a ticket, an AS-REQ (RFC 4120 5.4.1), field by field.
 #![tactic(auto)]
 
 mod fault;

@@ -1,7 +1,7 @@
-//! Requests of tickets (RFC 4120 5.4.1). Each field stands inside an explicit tag.
-use crate::fault::{Fault, RequestError};
+//! Requests for tickets (RFC 4120 5.4.1). Each field is inside an explicit tag.
+use crate::fault::{Fault, InField, RequestError};
 use der_parser::ber::{ASN1DateTime, BitStringObject};
-use der_parser::cursor::Cursor;
+use der_parser::cursor::{Cursor, Refusal};
 use der_parser::der::{
     Class, Tag, parse_der_generalizedtime, parse_der_generalstring, parse_der_i32,
     parse_der_sequence_of_v, parse_der_u32,
@@ -10,7 +10,7 @@ use der_parser::error::{BerError, Err as Refused};
 use der_parser::{IResult, cursor};
 use std::alloc::Global;
 
-/// What a request says. Texts are slices of the input.
+/// The fields of a request. Texts are slices of the input.
 #[derive(Debug, Drop)]
 pub struct Request<'a> {
     pub client: Option<Principal<'a>>,
@@ -19,7 +19,7 @@ pub struct Request<'a> {
     pub from: Option<ASN1DateTime>,
     pub till: ASN1DateTime,
     pub renewable_till: Option<ASN1DateTime>,
-    /// Kinds of encryption, the one that is wanted most first.
+    /// Kinds of encryption, the preferred one first.
     pub encryption_kinds: Vec<i32>,
 }
 
@@ -27,32 +27,46 @@ pub struct Request<'a> {
 #[derive(Debug, Drop)]
 pub struct Principal<'a>(pub Vec<&'a str>);
 
-/// Reads an AS-REQ, behind which nothing may stand.
+/// Reads an AS-REQ. Octets left over are refused.
 pub fn read_request<'a>(alloc: Global, octets: &'a [u8]) -> Result<Request<'a>, RequestError> {
+    let mut fields = open_message(octets).in_field("AS-REQ")?;
+    let version = open_field(&mut fields, 1).in_field("pvno")?;
+    version.read_last(parse_version).in_field("pvno")?;
+    let kind = open_field(&mut fields, 2).in_field("msg-type")?;
+    kind.read_last(parse_kind).in_field("msg-type")?;
+    // What authenticates the client beforehand isn't read.
+    fields.open_tagged(3).in_field("padata")?;
+    read_body(alloc, open_body(fields).in_field("req-body")?)
+}
+
+/// Opens the fields of the message.
+fn open_message(octets: &[u8]) -> Result<Cursor<'_>, Refusal<BerError>> {
     let mut input = Cursor::new(octets);
     let mut message = input.open(Class::Application, true, Tag(10))?;
     input.end()?;
-    let mut fields = message.open_sequence()?;
+    let fields = message.open_sequence()?;
     message.end()?;
-    open_field(&mut fields, 1)?.read_last(parse_version)?;
-    open_field(&mut fields, 2)?.read_last(parse_kind)?;
-    // What authenticates the client beforehand isn't looked at.
-    fields.open_tagged(3)?;
+    Ok(fields)
+}
+
+/// Opens the fields of the body, which is the last field of the message.
+fn open_body(mut fields: Cursor<'_>) -> Result<Cursor<'_>, Refusal<BerError>> {
     let mut inside = open_field(&mut fields, 4)?;
     fields.end()?;
     let body = inside.open_sequence()?;
     inside.end()?;
-    read_body(alloc, body)
+    Ok(body)
 }
 
 fn read_body<'a>(alloc: Global, mut body: Cursor<'a>) -> Result<Request<'a>, RequestError> {
-    open_field(&mut body, 0)?.read_last(parse_bits)?;
-    let client = read_principal(alloc, &mut body, 1)?;
-    let realm = open_field(&mut body, 2)?.read_last(parse_text)?;
-    let server = read_principal(alloc, &mut body, 3)?;
+    read_options(&mut body).in_field("req-body.kdc-options")?;
+    let client = read_principal(alloc, &mut body, 1).in_field("req-body.cname")?;
+    let realm = read_realm(&mut body).in_field("req-body.realm")?;
+    let server = read_principal(alloc, &mut body, 3).in_field("req-body.sname")?;
     let (from, till, renewable_till) = read_times(&mut body)?;
-    let encryption_kinds = read_kinds(alloc, &mut body)?;
-    end_body(body)?;
+    read_nonce(&mut body).in_field("req-body.nonce")?;
+    let encryption_kinds = read_kinds(alloc, &mut body).in_field("req-body.etype")?;
+    end_body(body).in_field("req-body")?;
     Ok(Request {
         client,
         realm,
@@ -64,35 +78,47 @@ fn read_body<'a>(alloc: Global, mut body: Cursor<'a>) -> Result<Request<'a>, Req
     })
 }
 
+fn read_options<'a>(body: &mut Cursor<'a>) -> Result<BitStringObject<'a>, Refusal<BerError>> {
+    open_field(body, 0)?.read_last(parse_bits)
+}
+
+fn read_realm<'a>(body: &mut Cursor<'a>) -> Result<&'a str, Refusal<BerError>> {
+    open_field(body, 2)?.read_last(parse_text)
+}
+
 /// A time that may be absent, one that is there, and another that may be absent.
 type Times = (Option<ASN1DateTime>, ASN1DateTime, Option<ASN1DateTime>);
 
-/// Reads the times between which the ticket is wanted, and until which it may be renewed.
+/// Reads the times of the ticket: from, till, and until when it may be renewed.
 fn read_times(body: &mut Cursor<'_>) -> Result<Times, RequestError> {
-    let from = read_time(body, 4)?;
-    let till = open_field(body, 5)?.read_last(parse_time)?;
-    let renewable_till = read_time(body, 6)?;
+    let from = read_time(body, 4).in_field("req-body.from")?;
+    let till = read_till(body).in_field("req-body.till")?;
+    let renewable_till = read_time(body, 6).in_field("req-body.rtime")?;
     Ok((from, till, renewable_till))
 }
 
-/// Reads the nonce, and the kinds of encryption.
-fn read_kinds(alloc: Global, body: &mut Cursor<'_>) -> Result<Vec<i32>, RequestError> {
-    open_field(body, 7)?.read_last(parse_der_u32)?;
-    let kinds = open_field(body, 8)?.read_last_in(alloc, parse_numbers)?;
-    Ok(kinds)
+fn read_till(body: &mut Cursor<'_>) -> Result<ASN1DateTime, Refusal<BerError>> {
+    open_field(body, 5)?.read_last(parse_time)
 }
 
-/// Reads to the end. Addresses, data for the server and further tickets aren't looked at.
-fn end_body(mut body: Cursor<'_>) -> Result<(), RequestError> {
+fn read_nonce(body: &mut Cursor<'_>) -> Result<u32, Refusal<BerError>> {
+    open_field(body, 7)?.read_last(parse_der_u32)
+}
+
+fn read_kinds(alloc: Global, body: &mut Cursor<'_>) -> Result<Vec<i32>, Refusal<BerError>> {
+    open_field(body, 8)?.read_last_in(alloc, parse_numbers)
+}
+
+/// Reads to the end. Addresses, data for the server and further tickets are passed over.
+fn end_body(mut body: Cursor<'_>) -> Result<(), Refusal<BerError>> {
     for number in 9..=11 {
         body.open_tagged(number)?;
     }
-    body.end()?;
-    Ok(())
+    body.end()
 }
 
-/// Opens a field that has to be there, and to hold a value of a universal type.
-fn open_field<'a>(fields: &mut Cursor<'a>, number: u32) -> Result<Cursor<'a>, RequestError> {
+/// Opens a field that has to be there and to hold a value of a universal type.
+fn open_field<'a>(fields: &mut Cursor<'a>, number: u32) -> Result<Cursor<'a>, Refusal<BerError>> {
     let inside = fields.open(Class::ContextSpecific, true, Tag(number))?;
     inside.assert_universal()?;
     Ok(inside)
@@ -118,12 +144,12 @@ fn parse_number(i: &[u8]) -> IResult<&[u8], u32, Fault> {
     parse_der_u32(i).map_err(Refused::convert)
 }
 
-/// Reads a name (5.2.2) under this tag, where it is there.
+/// Reads a name (5.2.2) under this tag, if it is there.
 fn read_principal<'a>(
     alloc: Global,
     body: &mut Cursor<'a>,
     number: u8,
-) -> Result<Option<Principal<'a>>, RequestError> {
+) -> Result<Option<Principal<'a>>, Refusal<BerError>> {
     let Some(mut inside) = body.open_tagged(number)? else {
         return Ok(None);
     };
@@ -136,8 +162,8 @@ fn read_principal<'a>(
     Ok(Some(Principal(components)))
 }
 
-/// Reads a time under this tag, where it is there.
-fn read_time(body: &mut Cursor<'_>, number: u8) -> Result<Option<ASN1DateTime>, RequestError> {
+/// Reads a time under this tag, if it is there.
+fn read_time(body: &mut Cursor<'_>, number: u8) -> Result<Option<ASN1DateTime>, Refusal<BerError>> {
     match body.open_tagged(number)? {
         Some(inside) => {
             inside.assert_universal()?;

@@ -1,19 +1,19 @@
-//! `x509` prints what the certificates on its standard input say, one in DER or any number in PEM (RFC
-//! 7468), and tells where one is refused.
+//! `x509` prints the certificates on its standard input: one in DER, or any number in PEM (RFC 7468).
+//! It reports each one that it refuses, and where, on its standard error, and goes on with the next.
 #![tactic(auto)]
 
 mod pem;
 mod text;
 
-use anyhow::{Result, anyhow, ensure};
-use pem::{BEGIN, decode_block};
+use anyhow::{Result, ensure};
+use bstr::ByteSlice;
+use pem::{BEGIN, decode_block, is_certificate, label_of};
 use std::alloc::Global;
 use std::io::Read;
-use std::str;
 use text::Certified;
 use x509_reader::read_certificate;
 
-/// The identifier octet of a SEQUENCE, with which a certificate begins, and no text does.
+/// The identifier octet of a SEQUENCE, with which a certificate begins, and the dashes of PEM don't.
 const SEQUENCE: u8 = 0x30;
 
 fn main(rt: HostRuntime) -> Result<()> {
@@ -22,17 +22,32 @@ fn main(rt: HostRuntime) -> Result<()> {
     if input.first() == Some(&SEQUENCE) {
         return print_certificate(&rt, rt.alloc(), &input);
     }
+    print_blocks(&rt, rt.alloc(), &input)
+}
+
+/// Prints the certificates of a text in PEM.
+fn print_blocks(rt: &(impl Print + Eprint), alloc: Global, input: &[u8]) -> Result<()> {
     let mut number: u64 = 0;
-    for block in str::from_utf8(&input)?.split(BEGIN).skip(1) {
+    let mut refused: u64 = 0;
+    for block in input.split_str(BEGIN).skip(1) {
+        let label = label_of(block);
+        if !is_certificate(label) {
+            eprintln!(rt; "found {}, not a certificate", label.escape_ascii())?;
+            continue;
+        }
         number = number.saturating_add(1);
-        print_block(&rt, rt.alloc(), block).map_err(|e| anyhow!("certificate {number}: {e}"))?;
+        if let Err(e) = print_block(rt, alloc, block) {
+            eprintln!(rt; "certificate {number}: {e}")?;
+            refused = refused.saturating_add(1);
+        }
     }
     ensure!(number > 0, "no certificate");
+    ensure!(refused == 0, "{refused} of {number} certificates refused");
     Ok(())
 }
 
-/// Prints the certificate that a block of PEM holds.
-fn print_block(rt: &impl Print, alloc: Global, block: &str) -> Result<()> {
+/// Prints the certificate of a block.
+fn print_block(rt: &impl Print, alloc: Global, block: &[u8]) -> Result<()> {
     let octets = decode_block(alloc, block)?;
     print_certificate(rt, alloc, &octets)
 }

@@ -1,10 +1,10 @@
-//! The text of a certificate, with what openssl says of it in lines of our own.
+//! The lines that describe a certificate.
 use der_parser::ber::{ASN1DateTime, BitStringObject};
 use std::fmt;
 use std::net::IpAddr;
 use x509_reader::{Certificate, Extension, GeneralName, Value};
 
-/// The uses of a key, by the bit that stands for each (RFC 5280 4.2.1.3).
+/// The uses of a key, by the number of the bit (RFC 5280 4.2.1.3).
 const KEY_USES: [&str; 9] = [
     "Digital Signature",
     "Non Repudiation",
@@ -24,11 +24,8 @@ pub struct Certified<'r, 'a>(pub &'r Certificate<'a>);
 impl fmt::Display for Certified<'_, '_> {
     fn fmt<W: fmt::Write>(&self, f: &mut fmt::Formatter<W>) -> fmt::Result {
         let certificate = self.0;
-        write!(f, "version={}\nserial=", certificate.version)?;
-        for octet in certificate.serial_number {
-            write!(f, "{octet:02X}")?;
-        }
-        writeln!(f)?;
+        writeln!(f, "version={}", certificate.version)?;
+        writeln!(f, "serial={}", Serial(certificate.serial_number))?;
         writeln!(f, "signatureAlgorithm={}", certificate.signature_algorithm)?;
         writeln!(f, "issuer={}", certificate.issuer)?;
         writeln!(f, "notBefore={}", Moment(certificate.not_before))?;
@@ -43,6 +40,55 @@ impl fmt::Display for Certified<'_, '_> {
     }
 }
 
+/// A number in two's complement, printed in hexadecimal digits as openssl does: -5 as `-05`.
+#[derive(Clone, Copy)]
+struct Serial<'a>(&'a [u8]);
+
+impl fmt::Display for Serial<'_> {
+    fn fmt<W: fmt::Write>(&self, f: &mut fmt::Formatter<W>) -> fmt::Result {
+        match self.0 {
+            [0x80..=0xff, ..] => write_negative(f, self.0),
+            [0, octets @ ..] if !octets.is_empty() => write_octets(f, octets),
+            octets => write_octets(f, octets),
+        }
+    }
+}
+
+fn write_octets<W: fmt::Write>(f: &mut fmt::Formatter<W>, octets: &[u8]) -> fmt::Result {
+    for octet in octets {
+        write!(f, "{octet:02X}")?;
+    }
+    Ok(())
+}
+
+/// Writes a minus sign and the octets of the opposite number: each bit is inverted, and 1 is added.
+fn write_negative<W: fmt::Write>(f: &mut fmt::Formatter<W>, octets: &[u8]) -> fmt::Result {
+    f.write_str("-")?;
+    let last = last_that_is_not_zero(octets);
+    for (i, octet) in octets.iter().enumerate() {
+        let opposite = if i < last {
+            !*octet
+        } else {
+            octet.wrapping_neg()
+        };
+        if i > 0 || opposite > 0 {
+            write!(f, "{opposite:02X}")?;
+        }
+    }
+    Ok(())
+}
+
+/// The index of the last octet that isn't 0, up to which adding 1 to the inverted octets carries.
+fn last_that_is_not_zero(octets: &[u8]) -> usize {
+    let mut last = 0;
+    for (i, octet) in octets.iter().enumerate() {
+        if *octet != 0 {
+            last = i;
+        }
+    }
+    last
+}
+
 /// A moment in universal time.
 #[derive(Clone, Copy)]
 struct Moment(ASN1DateTime);
@@ -55,7 +101,7 @@ impl fmt::Display for Moment {
     }
 }
 
-/// Writes the identifier of an extension, and below it what it says.
+/// Writes the identifier of an extension, and its value on the next line.
 fn write_extension<W: fmt::Write>(
     f: &mut fmt::Formatter<W>,
     extension: &Extension<'_>,
@@ -78,12 +124,12 @@ fn write_key_uses<W: fmt::Write>(
     f: &mut fmt::Formatter<W>,
     bits: &BitStringObject<'_>,
 ) -> fmt::Result {
-    let mut behind_another = false;
+    let mut follows_another = false;
     for (bit, name) in KEY_USES.iter().enumerate() {
         if bits.is_set(bit) {
-            write_separator(f, behind_another)?;
+            write_separator(f, follows_another)?;
             f.write_str(name)?;
-            behind_another = true;
+            follows_another = true;
         }
     }
     writeln!(f)
@@ -97,12 +143,12 @@ fn write_names<W: fmt::Write>(f: &mut fmt::Formatter<W>, names: &[GeneralName<'_
     writeln!(f)
 }
 
-/// Writes what stands in front of a word of a line.
-fn write_separator<W: fmt::Write>(f: &mut fmt::Formatter<W>, behind_another: bool) -> fmt::Result {
-    f.write_str(if behind_another { ", " } else { "    " })
+/// Writes the separator before a word: a comma, or the indentation before the first.
+fn write_separator<W: fmt::Write>(f: &mut fmt::Formatter<W>, follows_another: bool) -> fmt::Result {
+    f.write_str(if follows_another { ", " } else { "    " })
 }
 
-/// Writes a name. What isn't printable ASCII in a text is escaped.
+/// Writes a name. Octets that aren't printable ASCII are escaped.
 fn write_name<W: fmt::Write>(f: &mut fmt::Formatter<W>, name: &GeneralName<'_>) -> fmt::Result {
     match name {
         GeneralName::Email(text) => write!(f, "email:{}", text.as_bytes().escape_ascii()),
@@ -114,7 +160,7 @@ fn write_name<W: fmt::Write>(f: &mut fmt::Formatter<W>, name: &GeneralName<'_>) 
     }
 }
 
-/// Writes an address of 4 or 16 octets, or that it is none.
+/// Writes an address of 4 or 16 octets, and any other as invalid.
 fn write_address<W: fmt::Write>(f: &mut fmt::Formatter<W>, octets: &[u8]) -> fmt::Result {
     if let Ok(octets) = <[u8; 4]>::try_from(octets) {
         return write!(f, "IP Address:{}", IpAddr::from(octets));

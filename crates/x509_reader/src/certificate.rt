@@ -1,8 +1,9 @@
 //! Certificates (RFC 5280 4.1).
 use crate::extension::{Extension, read_extension};
+use crate::fault::{CertificateError, InField};
 use crate::values::{parse_bits, parse_identifier};
 use der_parser::IResult;
-use der_parser::ber::{ASN1DateTime, Any, BerObject, BitStringObject};
+use der_parser::ber::{ASN1DateTime, Any, BitStringObject};
 use der_parser::cursor::{Cursor, Refusal};
 use der_parser::der::{
     parse_der_generalizedtime, parse_der_integer, parse_der_u32, parse_der_utctime,
@@ -12,12 +13,13 @@ use der_parser::oid::Oid;
 use names_reader::{Name, parse_name};
 use std::alloc::Global;
 
-/// What a certificate says. Texts and octets are slices of the input.
+/// The fields of a certificate. Texts and octets are slices of the input.
 #[derive(Debug, Drop)]
 pub struct Certificate<'a> {
     /// 1, 2 or 3.
     pub version: u32,
-    /// A number that isn't negative, the highest octet first.
+    /// The content octets of the INTEGER, in two's complement (X.690 8.3.3). The number may be
+    /// negative or zero, as RFC 5280 4.1.2.2 asks of readers.
     pub serial_number: &'a [u8],
     pub signature_algorithm: Oid<'a>,
     pub issuer: Name<'a>,
@@ -29,37 +31,40 @@ pub struct Certificate<'a> {
     pub extensions: Vec<Extension<'a>>,
 }
 
-/// Reads a certificate, behind which nothing may stand. Its signature isn't verified.
+/// Reads a certificate. Octets left over are refused. The signature isn't verified.
 pub fn read_certificate<'a>(
     alloc: Global,
     octets: &'a [u8],
-) -> Result<Certificate<'a>, Refusal<BerError>> {
+) -> Result<Certificate<'a>, CertificateError> {
+    read_fields(alloc, open_fields(octets).in_field("Certificate")?)
+}
+
+/// Opens the signed fields, and checks that a signature follows and nothing else.
+fn open_fields(octets: &[u8]) -> Result<Cursor<'_>, Refusal<BerError>> {
     let mut input = Cursor::new(octets);
     let mut parts = input.open_sequence()?;
     input.end()?;
     let fields = parts.open_sequence()?;
-    // The signature and its algorithm, which the fields name too.
     read_algorithm(&mut parts)?;
     parts.assert_universal()?;
     parts.read_last(parse_bits)?;
-    read_fields(alloc, fields)
+    Ok(fields)
 }
 
 fn read_fields<'a>(
     alloc: Global,
     mut fields: Cursor<'a>,
-) -> Result<Certificate<'a>, Refusal<BerError>> {
-    let version = read_version(&mut fields)?;
-    fields.assert_universal()?;
-    let serial_number = fields.read(parse_serial_number)?;
-    let signature_algorithm = read_algorithm(&mut fields)?;
-    fields.assert_universal()?;
-    let issuer = fields.read_in(alloc, parse_name)?;
-    let (not_before, not_after) = read_validity(&mut fields)?;
-    fields.assert_universal()?;
-    let subject = fields.read_in(alloc, parse_name)?;
-    let (key_algorithm, key) = read_key(&mut fields)?;
-    let extensions = read_extensions(alloc, fields)?;
+) -> Result<Certificate<'a>, CertificateError> {
+    let version = read_version(&mut fields).in_field("tbsCertificate.version")?;
+    let serial_number = read_serial_number(&mut fields).in_field("tbsCertificate.serialNumber")?;
+    let signature_algorithm = read_algorithm(&mut fields).in_field("tbsCertificate.signature")?;
+    let issuer = read_name(alloc, &mut fields).in_field("tbsCertificate.issuer")?;
+    let (not_before, not_after) = read_validity(&mut fields).in_field("tbsCertificate.validity")?;
+    let subject = read_name(alloc, &mut fields).in_field("tbsCertificate.subject")?;
+    let (key_algorithm, key) = read_key(&mut fields).in_field(
+        "tbsCertificate.subjectPublicKeyInfo",
+    )?;
+    let extensions = read_extensions(alloc, fields).in_field("tbsCertificate.extensions")?;
     Ok(Certificate {
         version,
         serial_number,
@@ -74,7 +79,7 @@ fn read_fields<'a>(
     })
 }
 
-/// Reads a version that isn't there where it is the first.
+/// Reads a version, which is absent iff it is the first.
 fn read_version(fields: &mut Cursor<'_>) -> Result<u32, Refusal<BerError>> {
     match fields.open_tagged(0)? {
         Some(inside) => {
@@ -83,6 +88,16 @@ fn read_version(fields: &mut Cursor<'_>) -> Result<u32, Refusal<BerError>> {
         }
         None => Ok(1),
     }
+}
+
+fn read_serial_number<'a>(fields: &mut Cursor<'a>) -> Result<&'a [u8], Refusal<BerError>> {
+    fields.assert_universal()?;
+    fields.read(parse_serial_number)
+}
+
+fn read_name<'a>(alloc: Global, fields: &mut Cursor<'a>) -> Result<Name<'a>, Refusal<BerError>> {
+    fields.assert_universal()?;
+    fields.read_in(alloc, parse_name)
 }
 
 /// Reads the times from which and until which the certificate is valid (4.1.2.5).
@@ -97,7 +112,7 @@ fn read_validity(
     Ok((not_before, not_after))
 }
 
-/// Reads a key, behind its algorithm (4.1.2.7).
+/// Reads the algorithm of a key, and the key (4.1.2.7).
 fn read_key<'a>(
     fields: &mut Cursor<'a>,
 ) -> Result<(Oid<'a>, BitStringObject<'a>), Refusal<BerError>> {
@@ -108,7 +123,8 @@ fn read_key<'a>(
     Ok((algorithm, key))
 }
 
-/// Reads what follows the key: two identifiers that nobody writes any more, and the extensions.
+/// Reads what follows the key: two unique identifiers, which are passed over (4.1.2.8), and the
+/// extensions.
 fn read_extensions<'a>(
     alloc: Global,
     mut fields: Cursor<'a>,
@@ -128,7 +144,7 @@ fn read_extensions<'a>(
     list.read_all(alloc, read_extension)
 }
 
-/// Reads a version. The first one is written as 0 (4.1.2.1).
+/// Reads the number of a version. The first version is encoded as 0 (4.1.2.1).
 fn parse_version(i: &[u8]) -> IResult<&[u8], u32, BerError> {
     match parse_der_u32(i)? {
         (rest, number @ 0..=2) => Ok((rest, number + 1)),
@@ -136,27 +152,19 @@ fn parse_version(i: &[u8]) -> IResult<&[u8], u32, BerError> {
     }
 }
 
-/// Reads a number that isn't negative (4.1.2.2), without the octet that says so.
+/// Reads the content octets of an INTEGER, of either sign (4.1.2.2).
 fn parse_serial_number(i: &[u8]) -> IResult<&[u8], &[u8], BerError> {
     let (rest, number) = parse_der_integer(i)?;
-    Ok((rest, unsigned(&number)?))
+    Ok((rest, number.as_slice()?))
 }
 
-fn unsigned<'a>(number: &BerObject<'a>) -> Result<&'a [u8], Refused<BerError>> {
-    match number.as_slice()? {
-        [0x80..=0xff, ..] => Err(Refused::Error(BerError::IntegerNegative)),
-        [0, octets @ ..] if !octets.is_empty() => Ok(octets),
-        octets => Ok(octets),
-    }
-}
-
-/// Reads the identifier of an algorithm. Its parameters aren't looked at.
+/// Reads the identifier of an algorithm. Its parameters aren't read.
 fn read_algorithm<'a>(fields: &mut Cursor<'a>) -> Result<Oid<'a>, Refusal<BerError>> {
     let mut algorithm = fields.open_sequence()?;
     algorithm.read(parse_identifier)
 }
 
-/// Reads a time, by its identifier octet (4.1.2.5).
+/// Reads a GeneralizedTime or a UTCTime (4.1.2.5).
 fn parse_time(i: &[u8]) -> IResult<&[u8], ASN1DateTime, BerError> {
     match i.first() {
         Some(24) => time_of(parse_der_generalizedtime(i)),
@@ -164,13 +172,13 @@ fn parse_time(i: &[u8]) -> IResult<&[u8], ASN1DateTime, BerError> {
     }
 }
 
-/// The time in an object that was read.
+/// The time of an object that was read.
 fn time_of<'a>(answer: BerResult<'a>) -> IResult<&'a [u8], ASN1DateTime, BerError> {
     let (rest, object) = answer?;
     Ok((rest, object.as_datetime()?))
 }
 
-/// Reads a UTCTime. Its years are those from 1950.
+/// Reads a UTCTime. Its years are 1950 to 2049 (4.1.2.5.1).
 fn parse_utc_time(i: &[u8]) -> IResult<&[u8], ASN1DateTime, BerError> {
     let (rest, mut time) = time_of(parse_der_utctime(i))?;
     let century = if time.year < 50 { 2000 } else { 1900 };
