@@ -4,9 +4,10 @@ ghost use Rattle.std.specs.Prelude.{◌≡◌, ◌<◌, length, OnOk};
 use der_parser::IResult;
 use der_parser::ber::{Any, BerObject};
 use der_parser::der::{
-    Class, Tag, der_read_element_header, parse_der_bitstring, parse_der_bmpstring, parse_der_ia5string, parse_der_numericstring,
-    parse_der_printablestring, parse_der_sequence_defined_g, parse_der_sequence_of_v,
-    parse_der_set_of_v, parse_der_slice, parse_der_universalstring, parse_der_utf8string,
+    Class, Tag, der_read_element_header, parse_der_bitstring, parse_der_bmpstring,
+    parse_der_ia5string, parse_der_numericstring, parse_der_printablestring,
+    parse_der_sequence_defined_g, parse_der_sequence_of_v, parse_der_set_of_v, parse_der_slice,
+    parse_der_universalstring, parse_der_utf8string,
 };
 use der_parser::error::{BerError, BerResult, Err as Refused, ErrorKind, Needed};
 use der_parser::oid::Oid;
