@@ -38,7 +38,14 @@ const WITH_IDENTIFIERS: &[u8] = b"\
 
 /// What a certificate shows, its octets, those that are changed and to what, the serial number, and
 /// the years from which and until which it is valid.
-type Row = (&'static str, &'static [u8], &'static [(usize, u8)], &'static [u8], u32, u32);
+type Row = (
+    &'static str,
+    &'static [u8],
+    &'static [(usize, u8)],
+    &'static [u8],
+    u32,
+    u32,
+);
 
 /// A UTCTime of year 50 or more is of the twentieth century (4.1.2.5.1).
 #[rattlefmt::skip]

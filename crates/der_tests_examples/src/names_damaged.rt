@@ -68,7 +68,6 @@ const PASSES: &[Pass] = &[
     (4, This(Class), "the promise of `read_name` looks at the tag number alone"),
     (6, This(Class), "the promise of `read_name` looks at the tag number alone"),
     (15, This(Class), "the promise of `read_name` looks at the tag number alone"),
-    (17, This(Class), "the promise of `read_name` looks at the tag number alone"),
     (19, This(Class), "the promise of `read_name` looks at the tag number alone"),
     (28, This(Class), "the promise of `read_name` looks at the tag number alone"),
     (30, This(Class), "the promise of `read_name` looks at the tag number alone"),
@@ -77,7 +76,6 @@ const PASSES: &[Pass] = &[
     (4, This(Constructed), "the promise of `read_name` looks at the tag number alone"),
     (15, This(Constructed), "the promise of `read_name` looks at the tag number alone"),
     (17, This(Constructed), "the promise of `read_name` looks at the tag number alone"),
-    (28, This(Constructed), "the promise of `read_name` looks at the tag number alone"),
 ];
 
 const PLAIN_CASE: Case<'static> = Case {
