@@ -37,7 +37,7 @@ pub struct Attr<'a> {
 
 /// Reads a name by DER: a SEQUENCE OF relative names, each a SET OF attributes in ascending order
 /// (X.690 11.6). An attribute is a SEQUENCE of an OBJECT IDENTIFIER and a UTF8String, PrintableString
-/// or IA5String, and nothing behind them. Nothing of the input is copied.
+/// or IA5String, and nothing after them. Nothing of the input is copied.
 ///
 /// A name that isn't one is refused: where the outermost SEQUENCE is, with Error or Incomplete, and
 /// inside it with Failure, but for octets that are left in it, which are the Error Eof.

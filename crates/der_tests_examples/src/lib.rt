@@ -2,10 +2,18 @@
 #![tactic(auto)]
 
 #[cfg(test)]
+mod certificate_fields;
+#[cfg(test)]
+mod certificates_damaged;
+#[cfg(test)]
 mod certificates_refused;
+#[cfg(test)]
+mod names_damaged;
 #[cfg(test)]
 mod names_read;
 #[cfg(test)]
 mod names_written;
+#[cfg(test)]
+mod requests_damaged;
 #[cfg(test)]
 mod requests_refused;

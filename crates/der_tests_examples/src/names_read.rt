@@ -36,7 +36,7 @@ const REFUSED: &[(&str, &[u8], Refused<BerError>)] = &[
     ("an OCTET STRING",
         b"\x30\x0d\x31\x0b\x30\x09\x06\x03\x55\x04\x06\x04\x02FR",
         Failure(BerError::BerTypeError)),
-    ("octets behind a value",
+    ("octets after a value",
         b"\x30\x0f\x31\x0d\x30\x0b\x06\x03\x55\x04\x06\x13\x02FR\x05\x00",
         Failure(BerError::NomError(ErrorKind::Eof))),
     ("the end of the input",
@@ -64,12 +64,12 @@ fn is_name(name: &Name<'_>, rows: &[&[Row]]) -> bool {
         })
 }
 
-/// The input is a name with these attributes, and nothing behind it.
+/// The input is a name with these attributes, and nothing follows it.
 fn expect_name(rt: &(impl Abort + AllocGlobal), input: &[u8], rows: &[&[Row]]) -> Result<(), Fail> {
     let (rest, name) = read_name(rt.alloc(), input)?;
     assert!(rt;
         rest.is_empty() && is_name(&name, rows),
-        "{rest:?} behind {name:?}"
+        "{rest:?} after {name:?}"
     );
     Ok(())
 }

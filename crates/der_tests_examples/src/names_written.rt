@@ -69,25 +69,28 @@ const REFUSED: &[(&str, &[u8], Refused<BerError>)] = &[
     ("half of a character",
         b"\x30\x0f\x31\x0d\x30\x0b\x06\x03\x55\x04\x03\x1e\x04\xd8\x3d\xde\x00",
         Failure(BerError::StringInvalidCharset)),
+    ("the second half of a character, the last one that there is",
+        b"\x30\x0d\x31\x0b\x30\x09\x06\x03\x55\x04\x03\x1e\x02\xdf\x00",
+        Failure(BerError::StringInvalidCharset)),
     ("no UTF-8",
         b"\x30\x0c\x31\x0a\x30\x08\x06\x03\x55\x04\x03\x0c\x01\xc3",
         Failure(BerError::StringInvalidCharset)),
     ("a VisibleString",
         b"\x30\x0c\x31\x0a\x30\x08\x06\x03\x55\x04\x03\x1a\x01\x78",
         Failure(BerError::BerTypeError)),
-    ("octets behind the value",
+    ("octets after the value",
         b"\x30\x0e\x31\x0c\x30\x0a\x06\x03\x55\x04\x03\x0c\x01\x78\x05\x00",
         Failure(BerError::NomError(ErrorKind::Eof))),
-    ("octets behind the attribute",
+    ("octets after the attribute",
         b"\x30\x0d\x31\x0b\x30\x08\x06\x03\x55\x04\x03\x0c\x01\x78\x30",
         Failure(BerError::NomError(ErrorKind::Eof))),
 ];
 
-/// The text of a name, and whether octets stand behind it.
+/// The text of a name, and whether octets follow it.
 fn text_of(alloc: Global, octets: &[u8]) -> Result<String, Fail> {
     let (rest, name) = parse_name(alloc, octets)?;
-    let behind = if rest.is_empty() { "" } else { ", and more" };
-    let text = format!(in alloc; "{name}{behind}")?;
+    let more = if rest.is_empty() { "" } else { ", and more" };
+    let text = format!(in alloc; "{name}{more}")?;
     Ok(text)
 }
 

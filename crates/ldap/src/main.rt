@@ -1,13 +1,17 @@
-//! `ldap` prints the messages of LDAP (RFC 4511) that its standard input brings: number, operation,
-//! result and names. One that is refused is told with its offset.
+//! `ldap` prints the messages of LDAP (RFC 4511) on its standard input: number, operation, result and
+//! names. It reports a refused one with its offset.
 #![tactic(auto)]
 
+#[cfg(test)]
+mod damaged;
 mod message;
+#[cfg(test)]
+mod streams;
 
 use crate::message::parse_message;
-use anyhow::{Result, bail};
+use anyhow::{Error, Result, anyhow, bail};
 use der_parser::IResult;
-use der_parser::error::{BerError, Err as Refused, Needed};
+use der_parser::error::{BerError, Err as Refused, ErrorKind, Needed};
 use std::alloc::Global;
 use std::io::{Read, Write};
 
@@ -18,8 +22,8 @@ fn main(rt: HostRuntime) -> Result<()> {
     print_messages(rt.alloc(), &mut rt.stdin(), &mut rt.stdout())
 }
 
-/// Prints each message up to the end of the stream, or up to one that is refused. Where the octets
-/// are no whole message, the answer says how many more it takes: they are read, and it is asked again.
+/// Prints each message up to the end of the stream, or up to one that is refused. Where the octets are
+/// no whole message, the reader says how many more it needs: they are read, and it is called again.
 fn print_messages<R: Read, W: Write>(alloc: Global, stream: &mut R, out: &mut W) -> Result<()> {
     let mut octets = Vec::new(alloc);
     let mut offset: u64 = 0;
@@ -43,13 +47,26 @@ fn print_messages<R: Read, W: Write>(alloc: Global, stream: &mut R, out: &mut W)
                     bail!("message at {offset}: cut short");
                 }
             }
-            Err(e) => bail!("message at {offset}: {e}"),
+            Err(e) => return Err(refusal(offset, e)),
         }
     }
     Ok(())
 }
 
-/// How many octets are left behind the message in front, and the line that is printed of it.
+/// The text of a refusal. Two of the library's errors are put into the words of this program.
+fn refusal(offset: u64, refused: Refused<BerError>) -> Error {
+    match refused {
+        Refused::Error(BerError::Incomplete(Needed::Size(n))) => {
+            anyhow!("message at {offset}: an element runs {n} octets past the end of its list")
+        }
+        Refused::Error(BerError::NomError(ErrorKind::Eof)) => {
+            anyhow!("message at {offset}: octets left over")
+        }
+        e => anyhow!("message at {offset}: {e}"),
+    }
+}
+
+/// How many octets follow the first message, and the line that is printed for it.
 fn read_line(alloc: Global, octets: &[u8]) -> IResult<usize, String, BerError> {
     let (rest, message) = parse_message(alloc, octets)?;
     let line = format!(in alloc; "{message}")?;

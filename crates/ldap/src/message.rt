@@ -9,23 +9,79 @@ use std::fmt;
 #[derive(Debug, Drop)]
 pub struct Message<'a> {
     id: u32,
-    operation: &'static str,
+    operation: Operation,
     result_code: Option<u64>,
     names: Vec<&'a [u8]>,
 }
 
-/// Operations by the number of their tag (RFC 4511 appendix B).
-#[rattlefmt::skip]
-const OPERATIONS: [&str; 26] = [
-    "BindRequest", "BindResponse", "UnbindRequest", "SearchRequest", "SearchResultEntry",
-    "SearchResultDone", "ModifyRequest", "ModifyResponse", "AddRequest", "AddResponse",
-    "DelRequest", "DelResponse", "ModifyDNRequest", "ModifyDNResponse", "CompareRequest",
-    "CompareResponse", "AbandonRequest", "17", "18", "SearchResultReference", "20", "21", "22",
-    "ExtendedRequest", "ExtendedResponse", "IntermediateResponse",
-];
+/// The operations (RFC 4511 appendix B). `Debug` writes the name that the RFC gives each.
+#[derive(Clone, Copy, Debug, PartialEq)]
+enum Operation {
+    BindRequest,
+    BindResponse,
+    UnbindRequest,
+    SearchRequest,
+    SearchResultEntry,
+    SearchResultDone,
+    ModifyRequest,
+    ModifyResponse,
+    AddRequest,
+    AddResponse,
+    DelRequest,
+    DelResponse,
+    ModifyDNRequest,
+    ModifyDNResponse,
+    CompareRequest,
+    CompareResponse,
+    AbandonRequest,
+    SearchResultReference,
+    ExtendedRequest,
+    ExtendedResponse,
+    IntermediateResponse,
+}
 
-/// Reads a message, and answers what follows it. It is Incomplete only where the input ends within
-/// the message: a field that the end of its list cuts short is refused.
+impl Operation {
+    /// The operation of this tag number. UnknownTag where there is none.
+    fn of_number(number: u32) -> Result<Operation, BerError> {
+        Ok(match number {
+            0 => Operation::BindRequest,
+            1 => Operation::BindResponse,
+            2 => Operation::UnbindRequest,
+            3 => Operation::SearchRequest,
+            4 => Operation::SearchResultEntry,
+            5 => Operation::SearchResultDone,
+            6 => Operation::ModifyRequest,
+            7 => Operation::ModifyResponse,
+            8 => Operation::AddRequest,
+            9 => Operation::AddResponse,
+            10 => Operation::DelRequest,
+            11 => Operation::DelResponse,
+            12 => Operation::ModifyDNRequest,
+            13 => Operation::ModifyDNResponse,
+            14 => Operation::CompareRequest,
+            15 => Operation::CompareResponse,
+            16 => Operation::AbandonRequest,
+            19 => Operation::SearchResultReference,
+            23 => Operation::ExtendedRequest,
+            24 => Operation::ExtendedResponse,
+            25 => Operation::IntermediateResponse,
+            _ => return Err(BerError::UnknownTag(number)),
+        })
+    }
+
+    /// The type that the operation is. Its tag is implicit, so the type says whether it is constructed.
+    fn tag(self) -> Tag {
+        match self {
+            Operation::UnbindRequest => Tag::Null,
+            Operation::DelRequest => Tag::OctetString,
+            Operation::AbandonRequest => Tag::Integer,
+            _ => Tag::Sequence,
+        }
+    }
+}
+
+/// Reads a message, and returns what follows it. Incomplete only where the input ends within the message:
+/// a field that the end of its list cuts short is refused.
 pub fn parse_message<'a>(alloc: Global, i: &'a [u8]) -> IResult<&'a [u8], Message<'a>, BerError> {
     let (rest, message) = parse_ber(alloc, i)?;
     message.assert_tag(Tag::Sequence)?;
@@ -33,28 +89,26 @@ pub fn parse_message<'a>(alloc: Global, i: &'a [u8]) -> IResult<&'a [u8], Messag
     let (Some(id), Some(operation)) = (fields.next(), fields.next()) else {
         return Err(Refused::Error(BerError::BerValueError));
     };
+    id.assert_primitive()?;
     let message = read_operation(alloc, id.as_u32()?, operation)?;
     Ok((rest, message))
 }
 
-/// Reads an operation. It stands under an implicit tag, so its octets are read as those of an
-/// element with the tag of its type: mostly a SEQUENCE.
+/// Reads an operation. Its tag is implicit, so its octets are read as those of an element with the tag of
+/// its type: mostly a SEQUENCE.
 fn read_operation<'a>(
     alloc: Global,
     id: u32,
     object: &BerObject<'a>,
 ) -> Result<Message<'a>, Refused<BerError>> {
     object.assert_class(Class::Application)?;
-    let number = object.tag().0;
-    let Some(operation) = OPERATIONS.get(number as usize) else {
-        return Err(Refused::Error(BerError::UnknownTag(number)));
-    };
-    let tag = match *operation {
-        "UnbindRequest" => Tag::Null,
-        "DelRequest" => Tag::OctetString,
-        "AbandonRequest" => Tag::Integer,
-        _ => Tag::Sequence,
-    };
+    let operation = Operation::of_number(object.tag().0)?;
+    let tag = operation.tag();
+    if tag == Tag::Sequence {
+        object.assert_constructed()?;
+    } else {
+        object.assert_primitive()?;
+    }
     let content = ber_object_from_any(alloc, Any::from_tag_and_data(tag, object.as_slice()?))?;
     Ok(Message {
         id,
@@ -107,7 +161,7 @@ fn is_text_or_list(object: &BerObject<'_>) -> bool {
 
 impl fmt::Display for Message<'_> {
     fn fmt<W: fmt::Write>(&self, f: &mut fmt::Formatter<W>) -> fmt::Result {
-        write!(f, "{} {}", self.id, self.operation)?;
+        write!(f, "{} {:?}", self.id, self.operation)?;
         if let Some(code) = self.result_code {
             write!(f, " {code}")?;
         }

@@ -1,12 +1,13 @@
 //! Names: lists of sets of attributes (X.501 9.2).
-ghost use Rattle.std.specs.Prelude.{◌≡◌, ◌<◌, length, OnErr, OnOk};
+ghost use Rattle.std.specs.Prelude.{◌≡◌, ◌<◌, length, OnOk};
 
 use der_parser::IResult;
 use der_parser::ber::{Any, BerObject};
 use der_parser::der::{
-    Tag, parse_der_bitstring, parse_der_bmpstring, parse_der_ia5string, parse_der_numericstring,
-    parse_der_printablestring, parse_der_sequence_defined_g, parse_der_sequence_of_v,
-    parse_der_set_of_v, parse_der_slice, parse_der_universalstring, parse_der_utf8string,
+    Class, Tag, der_read_element_header, parse_der_bitstring, parse_der_bmpstring,
+    parse_der_ia5string, parse_der_numericstring, parse_der_printablestring,
+    parse_der_sequence_defined_g, parse_der_sequence_of_v, parse_der_set_of_v, parse_der_slice,
+    parse_der_universalstring, parse_der_utf8string,
 };
 use der_parser::error::{BerError, BerResult, Err as Refused, ErrorKind, Needed};
 use der_parser::oid::Oid;
@@ -17,7 +18,7 @@ use std::borrow::CowSlice;
 #[derive(Debug, Drop)]
 pub struct Name<'a>(pub Vec<Vec<Attribute<'a>>>);
 
-/// A type and a value of it, which were read, and are kept as the octets in which they stand.
+/// A type and a value, kept as the octets that were read.
 #[derive(Clone, Copy, Debug, PartialEq)]
 pub struct Attribute<'a> {
     content: &'a [u8],
@@ -64,22 +65,33 @@ fn has_arcs(attribute: &Attribute<'_>) -> bool {
 /// 11.6).
 pub fn parse_name<'a>(alloc: Global, i: &'a [u8]) -> IResult<&'a [u8], Name<'a>, BerError> {
     let relative_name = of_attributes(|i| {
-        check_more(i)?;
+        check_list(i, 0x31)?;
         parse_der_set_of_v(alloc, parse_attribute).parse(i)
     });
+    check_list(i, 0x30)?;
     let (rest, names) = parse_der_sequence_of_v(alloc, relative_name).parse(i)?;
     Ok((rest, Name(names)))
 }
 
-/// Ok where octets are left. A list asks its parser also behind its last item, and this is the
-/// short way to answer.
-fn check_more<E>(i: &[u8]) -> Result<(), Refused<E>>
+/// Asks that an element of this identifier octet is next: the readers of lists look at its tag number
+/// alone. Incomplete at the end of a list, where the list parser calls its parser once more.
+fn check_list(i: &[u8], identifier: u8) -> Result<(), Refused<BerError>>
     ensures more { OnOk result (0 < length i.now) }
-    ensures none { OnErr result (length i.now ≡ 0) }
 {
-    if i.is_empty() {
+    let Some(first) = i.first() else {
         return Err(Refused::Incomplete(Needed::Size(1)));
+    };
+    if *first != identifier {
+        check_class_and_form(i)?;
     }
+    Ok(())
+}
+
+/// Asks that the next element is universal and constructed.
+fn check_class_and_form(i: &[u8]) -> Result<(), Refused<BerError>> {
+    let (_, header) = der_read_element_header(i)?;
+    header.assert_class(Class::Universal)?;
+    header.assert_constructed()?;
     Ok(())
 }
 
@@ -94,7 +106,7 @@ where
 
 /// Reads an attribute: a SEQUENCE of a type and a value, and nothing behind them.
 fn parse_attribute<'a>(i: &'a [u8]) -> IResult<&'a [u8], Attribute<'a>, BerError> {
-    check_more(i)?;
+    check_list(i, 0x30)?;
     parse_der_sequence_defined_g(|content, _| {
         let (rest, _) = parse_parts(content)?;
         Ok((rest, Attribute { content }))
@@ -121,6 +133,7 @@ fn parse_parts<'a>(i: &'a [u8]) -> IResult<&'a [u8], Parts<'a>, BerError> {
 /// Reads an OBJECT IDENTIFIER.
 fn parse_type<'a>(i: &'a [u8]) -> IResult<&'a [u8], Oid<'a>, BerError> {
     let (rest, any) = Any::from_der(i)?;
+    any.header.assert_class(Class::Universal)?;
     any.header.assert_tag(Tag::Oid)?;
     any.header.assert_primitive()?;
     Ok((rest, Oid::new(CowSlice::Borrowed(any.bytes))))

@@ -1,7 +1,9 @@
-//! `snmp` prints the messages of SNMP that stand behind one another on its standard input, of
-//! version 1 (RFC 1157) and 2c (RFC 1901, RFC 3416). One that is refused is told with its offset.
+//! `snmp` prints the messages of SNMP on its standard input, one after another, of version 1 (RFC 1157)
+//! and 2c (RFC 1901, RFC 3416). It reports a refused one with its offset.
 #![tactic(auto)]
 
+#[cfg(test)]
+mod damaged;
 mod message;
 
 use anyhow::{Result, anyhow};
@@ -12,14 +14,14 @@ fn main(rt: HostRuntime) -> Result<()> {
     let mut input = Vec::new(rt.alloc());
     rt.stdin().read_to_end(&mut input)?;
     let mut rest = &input[..];
-    // Each message takes an octet or more, so that many are enough.
+    // Each message has an octet or more, so the loop ends at the end of the input.
     for _ in 0..input.len() {
         if rest.is_empty() {
             break;
         }
         let offset = input.len().saturating_sub(rest.len());
-        let answer = message::parse_message(rt.alloc(), rest);
-        let (after, message) = answer.map_err(|e| anyhow!("message at {offset}: {e}"))?;
+        let read = message::parse_message(rt.alloc(), rest);
+        let (after, message) = read.map_err(|e| anyhow!("message at {offset}: {e}"))?;
         println!(rt; "{message}")?;
         rest = after;
     }

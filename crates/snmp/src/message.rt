@@ -3,24 +3,52 @@ use der_parser::ber::{
     Any, BerObjectContent, Class, Tag, parse_ber_any, parse_ber_i32, parse_ber_sequence_of_v,
     parse_ber_u32,
 };
-use der_parser::error::{BerError, Err as Refused, ErrorKind, IResult};
+use der_parser::error::{BerError, Err as Refused, ErrorKind, IResult, Needed};
 use der_parser::oid::Oid;
 use std::alloc::Global;
 use std::borrow::CowSlice;
+use std::error::Error;
 use std::fmt;
 use std::net::Ipv4Addr;
 
-/// Why a message is refused, and at which field.
-#[derive(Debug, Drop, thiserror::Error)]
-#[error("{0}: {1}")]
-pub struct SnmpError(&'static str, Refused<BerError>);
+/// The field at which a message is refused, and why.
+#[derive(Debug, Drop)]
+pub struct SnmpError(pub &'static str, pub Refused<BerError>);
+
+impl fmt::Display for SnmpError {
+    fn fmt<W: fmt::Write>(&self, f: &mut fmt::Formatter<W>) -> fmt::Result {
+        let SnmpError(field, refused) = self;
+        write!(f, "{field}: ")?;
+        match refused {
+            Refused::Incomplete(Needed::Size(n)) => {
+                write!(f, "the input is cut short, {n} octets missing")
+            }
+            Refused::Incomplete(Needed::Unknown) => f.write_str("the input is cut short"),
+            Refused::Error(e) | Refused::Failure(e) => write_error(f, e),
+            Refused::OutOfMemory => f.write_str("out of memory"),
+        }
+    }
+}
+
+/// Writes an error. Two of the library's are put into the words of this program.
+fn write_error<W: fmt::Write>(f: &mut fmt::Formatter<W>, e: &BerError) -> fmt::Result {
+    match e {
+        BerError::Incomplete(Needed::Size(n)) => {
+            write!(f, "an element runs {n} octets past the end of its list")
+        }
+        BerError::NomError(ErrorKind::Eof) => f.write_str("octets left over"),
+        e => write!(f, "{e}"),
+    }
+}
+
+impl Error for SnmpError {}
 
 /// A version, a community, a request and bindings. Texts are slices of the input.
 #[derive(Drop)]
 pub struct Message<'a>(u32, &'a [u8], Request<'a>, Vec<Binding<'a>>);
 
-/// What stands in front of the bindings: of a trap of version 1 enterprise, agent, the generic and
-/// specific trap and the time; else a name, a number and two fields, which are mostly on errors.
+/// What precedes the bindings: in a trap of version 1 the enterprise, the agent, the generic and the
+/// specific trap and the time, and otherwise a name, a number and two fields, mostly on errors.
 #[derive(Drop)]
 enum Request<'a> {
     Pdu(&'static str, i32, u32, u32),
@@ -31,7 +59,7 @@ enum Request<'a> {
 #[derive(Drop)]
 struct Binding<'a>(Oid<'a>, Value<'a>);
 
-/// A value, or what a response has in the place of one. Types of like values share a variant.
+/// A value, or what a response has in place of one. Types of like values share a variant.
 #[derive(Drop)]
 enum Value<'a> {
     Number(&'static str, i128),
@@ -41,23 +69,42 @@ enum Value<'a> {
     Empty(&'static str),
 }
 
-/// Reads a message, and answers what follows it.
+/// Reads a message, and returns what follows it. Incomplete only where the message itself is cut short.
 pub fn parse_message<'a>(alloc: Global, i: &'a [u8]) -> Result<(&'a [u8], Message<'a>), SnmpError> {
-    let (rest, fields) = field("message", 0x30, i, parse_ber_any(i))?;
+    let (rest, fields) = element("message", 0x30, i, parse_ber_any(i))?;
     let (i, version) = field("version", 0x02, fields.bytes, parse_ber_u32(fields.bytes))?;
     let (i, community) = field("community", 0x04, i, parse_ber_any(i))?;
-    let (behind, request) = parse_ber_any(i).map_err(|e| SnmpError("request", e))?;
+    let (after, request) = parse_ber_any(i).map_err(|e| SnmpError("request", inside(e)))?;
     let (i, request) = parse_request(version, request)?;
     let list = parse_ber_sequence_of_v(alloc, parse_binding).parse(i);
     let (last, bindings) = field("bindings", 0x30, i, list)?;
-    if !last.is_empty() || !behind.is_empty() {
+    if !last.is_empty() || !after.is_empty() {
         return Err(SnmpError("message", BerError::NomError(ErrorKind::Eof).into()));
     }
     Ok((rest, Message(version, community.bytes, request, bindings)))
 }
 
-/// The answer for a field of this name and identifier octet: class, form and tag (X.690 8.1.2).
+/// What was read as a field of this name and identifier octet. The field is inside the message, so more
+/// input doesn't mend one that is cut short.
 fn field<'a, T: Drop>(
+    name: &'static str,
+    identifier: u8,
+    i: &[u8],
+    answer: IResult<&'a [u8], T, BerError>,
+) -> Result<(&'a [u8], T), SnmpError> {
+    element(name, identifier, i, answer.map_err(inside))
+}
+
+/// The refusal of an element inside a list.
+fn inside(refused: Refused<BerError>) -> Refused<BerError> {
+    match refused {
+        Refused::Incomplete(needed) => Refused::Error(BerError::Incomplete(needed)),
+        other => other,
+    }
+}
+
+/// What was read as an element of this name and identifier octet: class, form and tag (X.690 8.1.2).
+fn element<'a, T: Drop>(
     name: &'static str,
     identifier: u8,
     i: &[u8],
@@ -99,14 +146,21 @@ fn parse_trap(i: &[u8]) -> Result<(&[u8], Request<'_>), SnmpError> {
     Ok((i, Request::Trap(enterprise, agent, generic, specific, time)))
 }
 
-/// Reads a binding. Behind the last one it is Incomplete, which ends the list.
+/// Reads a binding. Incomplete after the last one, which ends the list.
 fn parse_binding(i: &[u8]) -> IResult<&[u8], Binding<'_>, BerError> {
-    let (rest, binding) = parse_ber_any(i)?;
-    let (i, name) = parse_oid(binding.bytes)?;
-    match (binding.header.raw_tag(), parse_value(i)?) {
-        (Some([0x30]), ([], value)) => Ok((rest, Binding(name, value))),
-        _ => Err(BerError::BerValueError.into()),
+    if i.is_empty() {
+        return Err(Refused::Incomplete(Needed::Size(1)));
     }
+    let (rest, binding) = parse_ber_any(i).map_err(inside)?;
+    let (i, name) = parse_oid(binding.bytes).map_err(inside)?;
+    let (left, value) = parse_value(i).map_err(inside)?;
+    if binding.header.raw_tag() != Some(&[0x30]) {
+        return Err(BerError::BerTypeError.into());
+    }
+    if !left.is_empty() {
+        return Err(BerError::NomError(ErrorKind::Eof).into());
+    }
+    Ok((rest, Binding(name, value)))
 }
 
 /// Reads an element of any tag, and then its octets by the tag. Each value is primitive.
