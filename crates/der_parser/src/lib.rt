@@ -17,107 +17,38 @@ pub mod error {
 
 /// Objects, what BER and DER share, and reading by BER.
 pub mod ber {
-    pub use der_base::MAX_OBJECT_SIZE;
-    pub use der_base::MAX_RECURSION;
     pub use der_base::any::Any;
-    pub use der_base::header::Class;
-    pub use der_base::header::Header;
-    pub use der_base::header::HeaderCount;
-    pub use der_base::header::Length;
-    pub use der_base::header::Tag;
-    pub use der_base::header::ber_header_counted;
-    pub use der_base::header::ber_read_element_header;
-    pub use der_base::time::ASN1DateTime;
-    pub use der_base::time::ASN1TimeZone;
-    pub use der_base::time::TimeText;
-    pub use der_ber::BerContainer;
-    pub use der_ber::BerContent;
-    pub use der_ber::BerContent2;
-    pub use der_ber::BerOptional;
-    pub use der_ber::BerSequenceDefined;
-    pub use der_ber::BerSequenceDefinedG;
-    pub use der_ber::BerSequenceOf;
-    pub use der_ber::BerSequenceOfV;
-    pub use der_ber::BerSetDefined;
-    pub use der_ber::BerSetDefinedG;
-    pub use der_ber::BerSetOf;
-    pub use der_ber::BerSetOfV;
-    pub use der_ber::BerTaggedExplicit;
-    pub use der_ber::BerTaggedExplicitG;
-    pub use der_ber::BerTaggedImplicit;
-    pub use der_ber::BerTaggedImplicitG;
-    pub use der_ber::ber_object_from_any;
-    pub use der_ber::ber_read_element_content_as;
-    pub use der_ber::parse_ber;
-    pub use der_ber::parse_ber_any;
-    pub use der_ber::parse_ber_any_r;
-    pub use der_ber::parse_ber_any_with_tag_r;
-    pub use der_ber::parse_ber_bitstring;
-    pub use der_ber::parse_ber_bmpstring;
-    pub use der_ber::parse_ber_bool;
-    pub use der_ber::parse_ber_container;
-    pub use der_ber::parse_ber_content;
-    pub use der_ber::parse_ber_content2;
-    pub use der_ber::parse_ber_counted;
-    pub use der_ber::parse_ber_endofcontent;
-    pub use der_ber::parse_ber_enum;
-    pub use der_ber::parse_ber_explicit_optional;
-    pub use der_ber::parse_ber_generalizedtime;
-    pub use der_ber::parse_ber_generalstring;
-    pub use der_ber::parse_ber_graphicstring;
-    pub use der_ber::parse_ber_i32;
-    pub use der_ber::parse_ber_i64;
-    pub use der_ber::parse_ber_ia5string;
-    pub use der_ber::parse_ber_implicit;
-    pub use der_ber::parse_ber_integer;
-    pub use der_ber::parse_ber_null;
-    pub use der_ber::parse_ber_numericstring;
-    pub use der_ber::parse_ber_objectdescriptor;
-    pub use der_ber::parse_ber_octetstring;
-    pub use der_ber::parse_ber_oid;
-    pub use der_ber::parse_ber_optional;
-    pub use der_ber::parse_ber_printablestring;
-    pub use der_ber::parse_ber_recursive;
-    pub use der_ber::parse_ber_relative_oid;
-    pub use der_ber::parse_ber_sequence;
-    pub use der_ber::parse_ber_sequence_defined;
-    pub use der_ber::parse_ber_sequence_defined_g;
-    pub use der_ber::parse_ber_sequence_of;
-    pub use der_ber::parse_ber_sequence_of_v;
-    pub use der_ber::parse_ber_set;
-    pub use der_ber::parse_ber_set_defined;
-    pub use der_ber::parse_ber_set_defined_g;
-    pub use der_ber::parse_ber_set_of;
-    pub use der_ber::parse_ber_set_of_v;
-    pub use der_ber::parse_ber_slice;
-    pub use der_ber::parse_ber_t61string;
-    pub use der_ber::parse_ber_tagged_explicit;
-    pub use der_ber::parse_ber_tagged_explicit_g;
-    pub use der_ber::parse_ber_tagged_implicit;
-    pub use der_ber::parse_ber_tagged_implicit_g;
-    pub use der_ber::parse_ber_u32;
-    pub use der_ber::parse_ber_u64;
-    pub use der_ber::parse_ber_universalstring;
-    pub use der_ber::parse_ber_utctime;
-    pub use der_ber::parse_ber_utf8string;
-    pub use der_ber::parse_ber_videotexstring;
-    pub use der_ber::parse_ber_visiblestring;
-    pub use der_ber::parse_ber_with_tag;
-    pub use der_object::BerObject;
-    pub use der_object::BerObjectContent;
-    pub use der_object::BerObjectIntoIterator;
-    pub use der_object::BerObjectRefIterator;
-    pub use der_object::BitStringObject;
-    pub use der_object::FaultWriter;
-    pub use der_object::ber_encode_header;
-    pub use der_object::ber_encode_object;
-    pub use der_object::ber_encode_object_raw;
-    pub use der_object::ber_encode_tagged_explicit;
-    pub use der_object::ber_encode_tagged_implicit;
-    pub use der_visit::Visit;
-    pub use der_visit::VisitMut;
-    pub use der_visit::Walk;
-    pub use der_visit::WalkMut;
+    pub use der_base::header::{
+        Class, Header, HeaderCount, Length, Tag, ber_header_counted, ber_read_element_header,
+    };
+    pub use der_base::time::{ASN1DateTime, ASN1TimeZone, TimeText};
+    pub use der_base::{MAX_OBJECT_SIZE, MAX_RECURSION};
+    pub use der_ber::{
+        BerContainer, BerContent, BerContent2, BerOptional, BerSequenceDefined,
+        BerSequenceDefinedG, BerSequenceOf, BerSequenceOfV, BerSetDefined, BerSetDefinedG,
+        BerSetOf, BerSetOfV, BerTaggedExplicit, BerTaggedExplicitG, BerTaggedImplicit,
+        BerTaggedImplicitG, ber_object_from_any, ber_read_element_content_as, parse_ber,
+        parse_ber_any, parse_ber_any_r, parse_ber_any_with_tag_r, parse_ber_bitstring,
+        parse_ber_bmpstring, parse_ber_bool, parse_ber_container, parse_ber_content,
+        parse_ber_content2, parse_ber_counted, parse_ber_endofcontent, parse_ber_enum,
+        parse_ber_explicit_optional, parse_ber_generalizedtime, parse_ber_generalstring,
+        parse_ber_graphicstring, parse_ber_i32, parse_ber_i64, parse_ber_ia5string,
+        parse_ber_implicit, parse_ber_integer, parse_ber_null, parse_ber_numericstring,
+        parse_ber_objectdescriptor, parse_ber_octetstring, parse_ber_oid, parse_ber_optional,
+        parse_ber_printablestring, parse_ber_recursive, parse_ber_relative_oid, parse_ber_sequence,
+        parse_ber_sequence_defined, parse_ber_sequence_defined_g, parse_ber_sequence_of,
+        parse_ber_sequence_of_v, parse_ber_set, parse_ber_set_defined, parse_ber_set_defined_g,
+        parse_ber_set_of, parse_ber_set_of_v, parse_ber_slice, parse_ber_t61string,
+        parse_ber_tagged_explicit, parse_ber_tagged_explicit_g, parse_ber_tagged_implicit,
+        parse_ber_tagged_implicit_g, parse_ber_u32, parse_ber_u64, parse_ber_universalstring,
+        parse_ber_utctime, parse_ber_utf8string, parse_ber_videotexstring, parse_ber_visiblestring,
+        parse_ber_with_tag,
+    };
+    pub use der_object::{
+        BerObject, BerObjectContent, BerObjectIntoIterator, BerObjectRefIterator, BitStringObject,
+        FaultWriter, ber_encode_header, ber_encode_object, ber_encode_object_raw,
+        ber_encode_tagged_explicit, ber_encode_tagged_implicit,
+    };
 
     /// Names that earlier versions of the crate had.
     pub mod compat {
@@ -127,6 +58,7 @@ pub mod ber {
     }
 
     pub use der_object::{PrettyBer, PrettyPrinterFlag};
+    pub use der_visit::{Visit, VisitMut, Walk, WalkMut};
 }
 
 /// Reading by DER.
@@ -178,7 +110,7 @@ pub mod laws {
         clones_are_the_value, clones_want_no_memory, equals_are_alike, equals_are_the_same,
     };
     pub use der_base::oid::arcs_come_back;
-    pub use der_ber::laws::written_is_read_back;
+    pub use der_ber::laws::{elements_are_never_refused, written_is_read_back};
     pub use der_cursor::laws::{cursor_clones_are_the_value, places_are_exact};
     pub use der_der::laws::written_is_what_was_read;
     pub use der_laws::{

@@ -575,7 +575,11 @@ fn a_refusal_has_a_text(rt: HostRuntime) -> Result<(), Fail> {
     ] {
         let told = format!(in rt.alloc();
             "{}",
-            Fault::Element(Refusal { offset: 7, reason })
+            Fault::Element(Refusal {
+                offset: 7,
+                list_end: None,
+                reason
+            })
         )?;
         assert_eq!(rt; told.strip_prefix("error at 7: "), Some(text));
     }

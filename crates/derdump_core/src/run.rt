@@ -138,14 +138,22 @@ fn print_elements<W: Write>(
                         hand_on(out, &pending)?;
                         let offset = input.len() - rest.len();
                         let reason = Refused::OutOfMemory;
-                        return Ok(Some(Refusal { offset, reason }));
+                        return Ok(Some(Refusal {
+                            offset,
+                            list_end: None,
+                            reason,
+                        }));
                     }
                 }
             }
             Err(reason) => {
                 hand_on(out, &pending)?;
                 let offset = input.len() - rest.len();
-                return Ok(Some(Refusal { offset, reason }));
+                return Ok(Some(Refusal {
+                    offset,
+                    list_end: None,
+                    reason,
+                }));
             }
         }
     }
