@@ -41,7 +41,8 @@ mutual
       ((b, rest, e, n, r.0, q.0), subst (λ u. IsRawList u k) (sym e) (raws_cons_of o b rest k r.1 n q.1))
 
 -- an indefinite length as an element
-pub open_element : (x : Content) (b : List ℕ) (c : Class) (p : Bool) (t : ℕ) (w : List ℕ) (fs : Forms) (d m : ℕ) → t < 2 ^ 32 → 2 ≤ m → p ≡ true → b ≡ identifier c p t ++ 128 ∷ w ++ end_marker → IsOpenContent w c t x fs d (m - 1) → IsElement b m c p t w
+pub open_element : (x : Content) (b : List ℕ) (c : Class) (p : Bool) (t : ℕ) (w : List ℕ) (fs : Forms) (d m : ℕ) → t < 2 ^ 32 → 2 ≤ m → p ≡ true → b ≡ identifier c p t ++ 128 ∷ w ++ end_marker
+    → IsOpenContent w c t x fs d (m - 1) → IsElement b m c p t w
 open_element x b c p t w fs d m ht h2 ep e ho = (ht, omega (arith, h2), inr (ep, h2, (open_spelled x w c t fs d (m - 1) (m - 1) (omega arith) ho).1, e))
 
 mutual

@@ -126,7 +126,8 @@ abbrev pub Cut : (Bool → List ℕ → Refusal → Type 0) → List ℕ → ℕ
 Cut Refuses i n = IsHeaderCut i × HeaderLacks i n × ((e : Refusal) → ¬ Shows Refuses i e)
 
 module _ {L : Type 0} {Begins : Bool → List ℕ → L → List ℕ → Type 0} {Refuses : Bool → List ℕ → Refusal → Type 0} (laws : LengthLaws Begins Refuses) where
-  pub header_same : (i rest rest' : List ℕ) (c c' : Class) (p p' : Bool) (t t' : ℕ) (l l' : L) → Reads Begins i c p t l rest → Reads Begins i c' p' t' l' rest' → SameHeader c c' p p' t t' l l' rest rest'
+  pub header_same : (i rest rest' : List ℕ) (c c' : Class) (p p' : Bool) (t t' : ℕ) (l l' : L) → Reads Begins i c p t l rest → Reads Begins i c' p' t' l' rest'
+      → SameHeader c c' p p' t t' l l' rest rest'
   header_same i rest rest' c c' p p' t t' l l' h k =
       let q = identifier_same c c' p p' t t' h.following k.following (sym h.octets ∙ k.octets) in
       let b : Begins p h.following l' rest' = rw (q.1, q.3) k.length in

@@ -31,9 +31,6 @@ der_opens_same i w w' after after' h h' o o' =
     let f = fronts_same w w' after after' l q.1 in
     (record { class = q.0.class; constructed = q.0.constructed; number = q.0.number; length = q.0.length ∙ sym o'.0.length; raw_tag = q.0.raw_tag ∙ sym o'.0.raw_tag }, f.0, f.1)
 
-pub short_der_same : (i v v' : List ℕ) → HasShortDerContent i v → HasShortDerContent i v' → v ≡ v'
-short_der_same i v v' (c, p, t, n, h, l) (c', p', t', n', h', l') = (der_header_same i v v' c c' p p' t t' n n' h h').rest
-
 -- a content is short by the header that is read
 pub short_der_behind : (i v : List ℕ) (h : Header) (n : ℕ) → ReadsDerHeader i h v → length_of h ≡ Definite n → length v < n → HasShortDerContent i v
 short_der_behind i v h n r l s =

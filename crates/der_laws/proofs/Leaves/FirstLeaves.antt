@@ -9,10 +9,6 @@ use Rattle.der_laws.proofs.Leaves.NeverBoth.{never_both_der}
 use Rattle.der_laws.proofs.Leaves.OneContent.{one_der_leaf}
 use Rattle.der_base.proofs.Leaves.Refusals.{first_refusal_once}
 
--- octets are written for one content
-pub der_leaf_same : (t : ℕ) (x y : Content) → IsDerLeaf t x → IsDerLeaf t y → content_octets x ≡ content_octets y → x ≡ y
-der_leaf_same = one_der_leaf
-
 -- what is written for a content, in an element that is primitive, is not refused
 pub der_leaf_accepted : (p : Bool) (t : ℕ) (x : Content) (e : Refusal) → IsDerLeaf t x → p ≡ false → DerLeafRefuses p t (content_octets x) e → ⊥
 der_leaf_accepted p t x e h q r = never_both_der t x e h (subst (λ b. DerLeafRefuses b t (content_octets x) e) q r)

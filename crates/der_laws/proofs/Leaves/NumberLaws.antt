@@ -43,9 +43,3 @@ numbers_fit (unsigned bits) (enumerated m) n = ((λ l. n.0 (inl l)), (λ l. n.0 
 numbers_fit (unsigned bits) (bit_string u w) n = ((λ l. n.1.1.0 (inl l)), (λ l. n.1.1.0 (inr l)))
 numbers_fit (unsigned bits) _ n = absurd (n.0 tt)
 numbers_fit (signed bits) _ n = absurd (n.0 tt)
-
-pub ber_reader_decided : (k : NumberType) (p : Bool) (t : ℕ) (w : List ℕ) → AllDecided (ber_reader_tests k p t w)
-ber_reader_decided k p t w = (decided_not _ (decided_equal t 2), (decided_true p, number_decided k (integer w)))
-
-pub der_reader_decided : (k : NumberType) (p : Bool) (t : ℕ) (w : List ℕ) → AllDecided (der_reader_tests k p t w)
-der_reader_decided k p t w = (decided_not _ (decided_equal t 2), (decided_true p, decided_append (sign_tests k w) (integer_tests w ++ fits_tests k (integer_value w)) (sign_decided k w) (decided_append (integer_tests w) (fits_tests k (integer_value w)) (integer_decided w) (fits_decided k (integer_value w)))))

@@ -62,10 +62,6 @@ or_last false b e = e
 pub list_mapped : (t : ℕ) → IsTrue (is_list t) → IsTrue (is_mapped t)
 list_mapped t h = or_last _ (is_list t) h
 
-pub is_false : (b : Bool) → (IsTrue b → ⊥) → b ≡ false
-is_false true n = absurd (n refl)
-is_false false n = refl
-
 -- where refusals show
 
 -- behind a header of length n
@@ -93,11 +89,6 @@ size_shows d i rest c p t n b h = behind_shows d i rest c p t n invalid_length b
 pub content_shows : (d : ℕ) (i rest w r : List ℕ) (p : Bool) (t n : ℕ) (e : Refusal) → BeginsWithDerHeader i Universal p t n rest → n ≤ max_object_size → IsTrue (is_mapped t)
     → rest ≡ w ++ r → length w ≡ n → DerLeafRefuses p t w e → DerShowsFault (suc d) i e
 content_shows d i rest w r p t n e b s m o l h = behind_shows d i rest Universal p t n e b (inr (s, refl, m, w, r, o, l, inl h))
-
--- in an item
-pub item_shows : (d : ℕ) (i rest w r u v : List ℕ) (l : Nodes) (t n : ℕ) (e : Refusal) → BeginsWithDerHeader i Universal true t n rest → n ≤ max_object_size → IsTrue (is_list t)
-    → rest ≡ w ++ r → length w ≡ n → w ≡ u ++ v → DerJoins u l d → ItemRefuses (DerShowsFault d) DerLacks v e → DerShowsFault (suc d) i e
-item_shows d i rest w r u v l t n e b s k o z x j y = behind_shows d i rest Universal true t n e b (inr (s, refl, list_mapped t k, w, r, o, z, inr (k, refl, l, u, v, x, j, y)))
 
 -- Where there is a header, a refusal shows behind it.
 pub shows_behind : (d : ℕ) (i rest : List ℕ) (c : Class) (p : Bool) (t n : ℕ) (e : Refusal) → BeginsWithDerHeader i c p t n rest → DerShowsFault (suc d) i e → DerShowsBehind d c p t n rest e

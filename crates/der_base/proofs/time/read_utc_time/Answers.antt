@@ -11,4 +11,5 @@ returns-in_err-second c =
 pub returns : goal.returns
 returns c =
     utc_found c.args.content.now c.in_ok-year.rest.now c.in_ok-time.rest.now c.in_ok-second.rest.now c.in_ok-year.year c.unwrap_or.result c.in_ok-time.time c.in_ok-second.second c.in_ok-tz.tz
-    c.in_ok-year.ensures.1 (omega (arith, c.in_ok-time.ensures.1, c.from.ensures)) c.in_ok-year.ensures.2 c.in_ok-time.ensures.0 c.in_ok-time.ensures.2 c.unwrap_or.ensures c.in_ok-second.ensures c.in_ok-tz.ensures
+    c.in_ok-year.ensures.1
+        (omega (arith, c.in_ok-time.ensures.1, c.from.ensures)) c.in_ok-year.ensures.2 c.in_ok-time.ensures.0 c.in_ok-time.ensures.2 c.unwrap_or.ensures c.in_ok-second.ensures c.in_ok-tz.ensures
