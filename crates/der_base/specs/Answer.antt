@@ -20,10 +20,6 @@ MatchAnswer (Err OutOfMemory) P Q R M = M
 abbrev pub AnswersError : {T : Type 0} → Result T (Refused BerError) → Refusal → Type 0
 AnswersError r e = MatchAnswer r (λ _. ⊥) (λ x. x ≡ e) (λ _. ⊥) ⊥
 
--- the result is Incomplete of this number
-abbrev pub AnswersIncomplete : {T : Type 0} → Result T (Refused BerError) → ℕ → Type 0
-AnswersIncomplete r n = MatchAnswer r (λ _. ⊥) (λ _. ⊥) (λ m. m ≡ n) ⊥
-
 -- the same of a call that may find no memory where M holds
 abbrev pub AnswersOkOr : {T : Type 0} → Type 0 → Result T (Refused BerError) → (T → Type 0) → Type 0
 AnswersOkOr M r P = MatchAnswer r P (λ _. ⊥) (λ _. ⊥) M

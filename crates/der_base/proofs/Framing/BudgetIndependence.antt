@@ -71,6 +71,3 @@ mutual
 -- the hinge: a spelling within a budget, and one within the whole budget that is an element within this one
 pub hinge : (b : List ℕ) (o : Node) (d k : ℕ) → k ≤ framing_budget → BerSpells b o d k → BerSpells b o d framing_budget × IsElementOf b o k
 hinge b o d k le (f, h) = let r = spelled o b f d k framing_budget le h in ((f, r.0), r.1)
-
-pub hinge_back : (b : List ℕ) (o : Node) (d k : ℕ) → BerSpells b o d framing_budget → IsElementOf b o k → BerSpells b o d k
-hinge_back b o d k (f, h) g = (f, within o b f d k framing_budget h g)

@@ -114,14 +114,14 @@ lacks_same (in_content {n = n} c p t s v h1 hs e) (in_content {n = n'} c' p' t' 
     omega (arith, l.1, ap length l.2)
 lacks_same (in_content {n = n} c p t s v h1 hs e) (in_elements c' t' v' rest' hv' h' e') f =
     absurd (any_length_not_open s (length v + n) v (v' ++ rest') hs (identifier_same c c' p true t t' (s ++ v) (128 ∷ (v' ++ rest'))
-        (sym (append_assoc (identifier c p t) s v) ∙ sym e ∙ f ∙ e' ∙ append_assoc (identifier c' true t') (128 ∷ v') rest')).3)
+    (sym (append_assoc (identifier c p t) s v) ∙ sym e ∙ f ∙ e' ∙ append_assoc (identifier c' true t') (128 ∷ v') rest')).3)
 lacks_same (in_elements c t v rest hv h e) (in_length c' p' t' a' bs' h' h1' ha' e') f =
     absurd (omega (arith, h1', ha', (head_same (identifier_same c' c p' true t' t (a' ∷ bs') (128 ∷ (v ++ rest)) (sym e' ∙ sym f ∙ e ∙ append_assoc (identifier c true t) (128 ∷ v) rest)).3).0))
 lacks_same (in_elements c t v rest hv h e) (in_content {n = n'} c' p' t' s' v' h1' hs' e') f =
     absurd (any_length_not_open s' (length v' + n') v' (v ++ rest) hs' (identifier_same c' c p' true t' t (s' ++ v') (128 ∷ (v ++ rest))
-        (sym (append_assoc (identifier c' p' t') s' v') ∙ sym e' ∙ sym f ∙ e ∙ append_assoc (identifier c true t) (128 ∷ v) rest)).3)
+    (sym (append_assoc (identifier c' p' t') s' v') ∙ sym e' ∙ sym f ∙ e ∙ append_assoc (identifier c true t) (128 ∷ v) rest)).3)
 lacks_same (in_elements c t v rest hv h e) (in_elements c' t' v' rest' hv' h' e') f =
     let q = identifier_same c c' true true t t' (128 ∷ (v ++ rest)) (128 ∷ (v' ++ rest')) (sym (append_assoc (identifier c true t) (128 ∷ v) rest) ∙ sym e ∙ f ∙ e'
-        ∙ append_assoc (identifier c' true t') (128 ∷ v') rest') in
+    ∙ append_assoc (identifier c' true t') (128 ∷ v') rest') in
     let z = chains_same rest rest' (chain hv) (chain hv') (stuck rest (lacks_stuck h)) (stuck rest' (lacks_stuck h')) (head_same q.3).1 in
     lacks_same h h' z.1

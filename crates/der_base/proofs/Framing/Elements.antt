@@ -62,7 +62,7 @@ identifier_some c p t x e =
 moved : {b b' : List ℕ} {c c' : Class} {p p' : Bool} {t t' : ℕ} {w w' : List ℕ} (k : ℕ) → b ≡ b' → c ≡ c' → p ≡ p' → t ≡ t' → w ≡ w' → IsElement b k c p t w → IsElement b' k c' p' t' w'
 moved {b = b} {b' = b'} {c = c} {c' = c'} {p = p} {p' = p'} {t = t} {t' = t'} {w = w} k eb ec ep et ew h =
     subst (λ l. IsElement b' k c' p' t' l) ew (subst (λ l. IsElement b' k c' p' l w) et (subst (λ l. IsElement b' k c' l t w) ep
-        (subst (λ l. IsElement b' k l p t w) ec (subst (λ l. IsElement l k c p t w) eb h))))
+    (subst (λ l. IsElement b' k l p t w) ec (subst (λ l. IsElement l k c p t w) eb h))))
 
 -- an element has an octet
 pub element_some : (b : List ℕ) (k : ℕ) (c : Class) (p : Bool) (t : ℕ) (w x : List ℕ) → IsElement b k c p t w → [] ≡ b ++ x → ⊥

@@ -40,10 +40,10 @@ mutual
       absurd (definite_not_open c c' p p' t t' (length w) s (w ++ x) (w' ++ (end_marker ++ y)) hs (sym (definite_part (identifier c p t) s w b x d) ∙ e ∙ open_part (identifier c' p' t') w' b' y d'))
   element_same x y (indefinite {b = b} {c = c} {p = p} {t = t} {w = w} eh ep ht hk hw d) (definite {b = b'} {c = c'} {p = p'} {t = t'} {w = w'} s' eh' ht' hk' hs' d') e =
       absurd (definite_not_open c' c p' p t' t (length w') s' (w' ++ y) (w ++ (end_marker ++ x)) hs'
-          (sym (definite_part (identifier c' p' t') s' w' b' y d') ∙ sym e ∙ open_part (identifier c p t) w b x d))
+      (sym (definite_part (identifier c' p' t') s' w' b' y d') ∙ sym e ∙ open_part (identifier c p t) w b x d))
   element_same x y (indefinite {b = b} {c = c} {p = p} {t = t} {w = w} eh ep ht hk hw d) (indefinite {b = b'} {c = c'} {p = p'} {t = t'} {w = w'} eh' ep' ht' hk' hw' d') e =
       let i = identifier_same c c' p p' t t' (128 ∷ (w ++ (end_marker ++ x))) (128 ∷ (w' ++ (end_marker ++ y)))
-          (sym (open_part (identifier c p t) w b x d) ∙ e ∙ open_part (identifier c' p' t') w' b' y d') in
+      (sym (open_part (identifier c p t) w b x d) ∙ e ∙ open_part (identifier c' p' t') w' b' y d') in
       let q = elements_same x y hw hw' (head_same i.3).1 in
       record { length = eh ∙ sym eh'; class = i.0; constructed = i.1; number = i.2; content = q.0; octets = cc; rest = q.1 }
 

@@ -94,7 +94,7 @@ open_is_cut i u r c t e hu (x, some, g) =
     (λ n.
     let hv = shapes_append (r ++ x) hu (last_shape g n) in
     let o = joined (x ++ end_marker) ∙ ap (λ l. a ++ 128 ∷ u ++ l) (sym (append_assoc r x end_marker)) ∙ sym (append_assoc (a ++ 128 ∷ u) (r ++ x) end_marker)
-        ∙ ap (λ l. l ++ end_marker) (append_assoc a (128 ∷ u) (r ++ x)) in
+    ∙ ap (λ l. l ++ end_marker) (append_assoc a (128 ∷ u) (r ++ x)) in
     (x ++ end_marker, some_first x end_marker some, (c, true, t, u ++ (r ++ x), inr (refl, hv, o))))
     (marker_or_not (r ++ x))
 

@@ -136,10 +136,10 @@ inside_not_refused w x h a q (at_header {e = e} u rest hk d hu r) = elim (compar
 inside_not_refused w x h a q (too_deep hk z) = omega (arith, h, hk)
 inside_not_refused w x h a q (further_in u c t rest hk ht d hu r) =
     elim (compare (identifier c true t ++ 128 ∷ rest) (end_marker ++ x) (raws_are hu) a (sym (append_assoc u (identifier c true t) (128 ∷ rest)) ∙ sym d ∙ q)) [
-  | inl (f, z) ↦ open_not_end c true t rest x z
-  | inr (inl s) ↦ marker_starts_not x _ s
-  | inr (inr s) ↦ (let o = starts_opens rest c t _ s in inside_not_refused o.0 o.1 o.2 o.3 o.4 r)
-]
+      | inl (f, z) ↦ open_not_end c true t rest x z
+      | inr (inl s) ↦ marker_starts_not x _ s
+      | inr (inr s) ↦ (let o = starts_opens rest c t _ s in inside_not_refused o.0 o.1 o.2 o.3 o.4 r)
+    ]
 
 -- behind elements, a refused header is met once
 header_met : (u u' r r' : List ℕ) (k k' : ℕ) (e : Refusal) → AreElements u k → AreElements u' k' → u ++ r ≡ u' ++ r' → BerHeaderRefuses r e → (Starts r' k → ⊥) → (u ≡ u') × (r ≡ r')

@@ -1,4 +1,5 @@
--- A header in front of the input, a refusal that it shows, and the end of the input within a header: one of them holds at most, and each in one way. All of it stands on the same laws of length octets, those of BER or those of DER.
+-- A header at the start of the input, a refusal that the input shows, and the end of the input within a header: at most
+-- one of them holds, and each in one way. All of it follows from the same laws of length octets, those of BER or of DER.
 use Rattle.std.proofs.Common.{◌≡◌, ◌≢◌, ℕ, ◌^◌, ◌<◌, Bool, Some, List, [], ◌∷◌, ◌++◌, length, refl, sym, ap, subst, ◌∙◌, arith, append_assoc, inl, inr, ⊎_elim, ◌⊎◌, append-nil, Err}
 use Rattle.der_base.specs.declared.error.Err.{Err as Refused}
 use Rattle.der_base.specs.declared.error.Error.{Error as BerError}

@@ -213,9 +213,15 @@ zeros (suc n) = let z = zeros n in (0 ∷ z.0, omega (arith, z.1))
 pub lacks_then_length : (s : List ℕ) (n : ℕ) → LengthLacks s n → (r : List ℕ) × (length r ≡ n) × AreLengthOctets (s ++ r)
 lacks_then_length s n (before_length e m) = (0 ∷ [], sym m, inl (0, subst (λ l. SpellsAnyLength (l ++ 0 ∷ []) 0) (sym e) (inl (omega arith, refl, refl))))
 lacks_then_length s n (in_length b bs h p c e) =
-    let z = zeros n in
-    (z.0, z.1, inl (number (bs ++ z.0), subst (λ l. SpellsAnyLength (l ++ z.0) (number (bs ++ z.0))) (sym e)
-    (inr (h, omega (arith, z.1, length-append bs z.0), omega (arith, z.1, length-append bs z.0), refl))))
+    let z = zeros n in (
+      z.0,
+      z.1,
+      inl (
+        number (bs ++ z.0),
+        subst (λ l. SpellsAnyLength (l ++ z.0) (number (bs ++ z.0))) (sym e)
+            (inr (h, omega (arith, z.1, length-append bs z.0), omega (arith, z.1, length-append bs z.0), refl)),
+      ),
+    )
 
 pub no_more : (xs ys : List ℕ) → xs ++ ys ≡ [] → ys ≡ []
 no_more [] ys e = e

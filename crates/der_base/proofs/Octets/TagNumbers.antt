@@ -159,7 +159,7 @@ bad_tag_no_identifier i c p t rest h e b = omega (arith, h, bad_tag_is_large i c
 pub cut_no_identifier : (i : List ℕ) (c : Class) (p : Bool) (t : ℕ) (rest : List ℕ) → i ≡ identifier c p t ++ rest → IsCutIdentifier i → ⊥
 cut_no_identifier i c p t rest e x =
     let q = identifier_same c x.class p x.constructed t x.number (rest ++ x.missing) [] (sym (append_assoc (identifier c p t) rest x.missing) ∙ ap (λ l. l ++ x.missing) (sym e) ∙ x.octets
-        ∙ sym (append-nil (identifier x.class x.constructed x.number))) in
+    ∙ sym (append-nil (identifier x.class x.constructed x.number))) in
     x.some (nil_tail rest x.missing q.3)
   where
     nil_tail : (xs ys : List ℕ) → xs ++ ys ≡ [] → ys ≡ []

@@ -22,14 +22,29 @@ few_seconds s n (inr h) = h.0
 pub utc_written : (t : ASN1DateTime) → t.year < 100 → IsMoment t → t.second < 60 → t.nanosecond ≡ None → t.tz ≡ Z
     → time_text 23 t ≡ two_digits t.year ++ (month_to_minute t ++ (two_digits t.second ++ codes "Z"))
 utc_written t y m s n z =
-    rw (n, z, two_written t.year y, two_written t.month (omega (arith, m.month)), two_written t.day (omega (arith, m.day)), two_written t.hour (omega (arith, m.hour)),
-    two_written t.minute (omega (arith, m.minute)), two_written t.second (omega (arith, s))) refl
+    rw (
+      n,
+      z,
+      two_written t.year y,
+      two_written t.month (omega (arith, m.month)),
+      two_written t.day (omega (arith, m.day)),
+      two_written t.hour (omega (arith, m.hour)),
+      two_written t.minute (omega (arith, m.minute)),
+      two_written t.second (omega (arith, s)),
+    ) refl
 
 pub generalized_written : (t : ASN1DateTime) → t.year < 10000 → IsMoment t → t.second < 60 → t.tz ≡ Z
     → time_text 24 t ≡ four_digits t.year ++ (month_to_minute t ++ (two_digits t.second ++ (fraction_text t.nanosecond ++ codes "Z")))
 generalized_written t y m s z =
-    rw (z, four_written t.year y, two_written t.month (omega (arith, m.month)), two_written t.day (omega (arith, m.day)), two_written t.hour (omega (arith, m.hour)),
-    two_written t.minute (omega (arith, m.minute)), two_written t.second (omega (arith, s))) refl
+    rw (
+      z,
+      four_written t.year y,
+      two_written t.month (omega (arith, m.month)),
+      two_written t.day (omega (arith, m.day)),
+      two_written t.hour (omega (arith, m.hour)),
+      two_written t.minute (omega (arith, m.minute)),
+      two_written t.second (omega (arith, s)),
+    ) refl
 
 pub two_are : (n : ℕ) → Each IsDigit (two_digits n)
 two_are n = (digit_is (n / 10), (digit_is n, tt))
@@ -65,10 +80,10 @@ utc_passes t h z =
         (λ n. n t (inl (refl, h))),
         (
           (λ q. let k : two_digits t.year ++ (month_to_minute t ++ (two_digits t.second ++ codes "Z")) ≡ two_digits q.0.year ++ (month_to_minute q.0 ++ codes "Z") = sym e ∙ q.1 in
-          omega (arith, ap length k)),
+              omega (arith, ap length k)),
           (
             (λ q. whole_is_strict (two_digits t.year ++ (month_to_minute t ++ two_digits t.second))
-            (each_append IsDigit (two_digits t.year) (month_to_minute t ++ two_digits t.second) (two_are t.year) (front_are t)) (subst HasLooseFraction e q)),
+                (each_append IsDigit (two_digits t.year) (month_to_minute t ++ two_digits t.second) (two_are t.year) (front_are t)) (subst HasLooseFraction e q)),
             tt,
           ),
         ),
@@ -92,7 +107,7 @@ strict_fraction v ds h g n (a, f, inl e) = each_at (λ b. b ≢ 0x2C) a 0x2C f (
     ((λ e. omega arith), each_append (λ b. b ≢ 0x2C) ds (codes "Z") (each_map IsDigit (λ b. b ≢ 0x2C) ds (λ b d. (digit_no_mark b d).0) g) ((λ e. omega arith), tt))) e refl
 strict_fraction v ds h g n (a, f, inr e) =
     let k : ds ++ codes "Z" ≡ f ++ codes "0Z" = marks_same v a (ds ++ codes "Z") (f ++ codes "0Z") h
-        (each_append IsNoMark ds (codes "Z") (each_map IsDigit IsNoMark ds digit_no_mark g) (((λ e. omega arith), (λ e. omega arith)), tt)) e in
+    (each_append IsNoMark ds (codes "Z") (each_map IsDigit IsNoMark ds digit_no_mark g) (((λ e. omega arith), (λ e. omega arith)), tt)) e in
     n f (last_same ds (f ++ 0x30 ∷ []) 0x5A (k ∙ sym (append_assoc f (0x30 ∷ []) (0x5A ∷ []))))
 
 pub or_some : (w : List ℕ) → w ≢ [] → or_zero w ≡ w
@@ -120,13 +135,13 @@ generalized_front t =
 generalized_passes : (t : ASN1DateTime) → IsGeneralizedTime (time_text 24 t) t → t.tz ≡ Z → t.nanosecond ≢ Some 0 → NoneHolds (time_tests 24 (time_text 24 t))
 generalized_passes t h z nano =
     let e : time_text 24 t ≡ four_digits t.year ++ (month_to_minute t ++ (two_digits t.second ++ (fraction_text t.nanosecond ++ codes "Z"))) =
-        generalized_written t h.0 h.1 (few_seconds h.2 t.second h.5) z in (
+    generalized_written t h.0 h.1 (few_seconds h.2 t.second h.5) z in (
       (λ n. n (four_digits t.year ++ (month_to_minute t ++ (two_digits t.second ++ fraction_text t.nanosecond))) e),
       (
         (λ n. n t (inr (refl, h))),
         (
           (λ q. let k : four_digits t.year ++ (month_to_minute t ++ (two_digits t.second ++ (fraction_text t.nanosecond ++ codes "Z"))) ≡ four_digits q.0.year
-          ++ (month_to_minute q.0 ++ codes "Z") = sym e ∙ q.1 in omega (arith, ap length k)),
+              ++ (month_to_minute q.0 ++ codes "Z") = sym e ∙ q.1 in omega (arith, ap length k)),
           (
             (λ q. strict h.6 (subst HasLooseFraction e q)),
             tt,

@@ -138,7 +138,7 @@ pub record SameMoment (t t' : ASN1DateTime) (x y : List ℕ) : Type 0 where
 pub moment_same : (t t' : ASN1DateTime) (x y : List ℕ) → IsMoment t → IsMoment t' → month_to_minute t ++ x ≡ month_to_minute t' ++ y → SameMoment t t' x y
 moment_same t t' x y m m' e =
     let a = two_same t.month t'.month (two_digits t.day ++ (two_digits t.hour ++ (two_digits t.minute ++ x))) (two_digits t'.day ++ (two_digits t'.hour ++ (two_digits t'.minute ++ y)))
-        (omega (arith, m.month)) (omega (arith, m'.month)) e in
+    (omega (arith, m.month)) (omega (arith, m'.month)) e in
     let b = two_same t.day t'.day (two_digits t.hour ++ (two_digits t.minute ++ x)) (two_digits t'.hour ++ (two_digits t'.minute ++ y)) (omega (arith, m.day)) (omega (arith, m'.day)) a.1 in
     let c = two_same t.hour t'.hour (two_digits t.minute ++ x) (two_digits t'.minute ++ y) (omega (arith, m.hour)) (omega (arith, m'.hour)) b.1 in
     let d = two_same t.minute t'.minute x y (omega (arith, m.minute)) (omega (arith, m'.minute)) c.1 in

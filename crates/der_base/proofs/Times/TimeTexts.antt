@@ -98,7 +98,7 @@ pub nine_written : (ds : List ℕ) → Each IsDigit ds → length ds ≤ 9 → a
 nine_written ds are few =
     let size : length (ds ++ replicate (9 - length ds) 0x30) ≡ 9 = omega (arith, length-append ds (replicate (9 - length ds) 0x30), length-replicate {A = ℕ} (9 - length ds) 0x30) in
     let value : decimal_from 0 (ds ++ replicate (9 - length ds) 0x30) ≡ decimal_from 0 ds * 10 ^ (9 - length ds) = decimal_from_append 0 ds (replicate (9 - length ds) 0x30)
-        ∙ decimal_from_zeros (decimal_from 0 ds) (9 - length ds) in
+    ∙ decimal_from_zeros (decimal_from 0 ds) (9 - length ds) in
     ap (λ n. at_least_digits 9 n) (sym value) ∙ nine_back (ds ++ replicate (9 - length ds) 0x30) (each_append IsDigit ds (replicate (9 - length ds) 0x30) are (zeros_are (9 - length ds))) size
 
 is_none : (w : List ℕ) → (length w == 0) ≡ true → w ≡ []

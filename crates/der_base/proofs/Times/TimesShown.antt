@@ -38,8 +38,11 @@ last_digit : (w d : ℕ) → d < 2 ^ 64 → (front : List ℕ) × (at_least_digi
 last_digit w d small = elim (cases_lt d 10) [
   | inl few ↦ (let e : 0x30 + d ≡ digit d = omega arith in
       (replicate (w - length (decimal d)) 0x30, ap (λ l. replicate (w - length (decimal d)) 0x30 ++ l) (decimal_digit d few ∙ ap (λ b. b ∷ []) e)))
-  | inr some ↦ (replicate (w - length (decimal d)) 0x30 ++ decimal (d / 10), ap (λ l. replicate (w - length (decimal d)) 0x30 ++ l) (decimal_step d some small)
-      ∙ sym (append_assoc (replicate (w - length (decimal d)) 0x30) (decimal (d / 10)) (digit d ∷ [])))
+  | inr some ↦ (
+    replicate (w - length (decimal d)) 0x30 ++ decimal (d / 10),
+    ap (λ l. replicate (w - length (decimal d)) 0x30 ++ l) (decimal_step d some small)
+        ∙ sym (append_assoc (replicate (w - length (decimal d)) 0x30) (decimal (d / 10)) (digit d ∷ [])),
+  )
 ]
 
 -- digits whose last is no 0 stay

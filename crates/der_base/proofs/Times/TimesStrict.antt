@@ -68,7 +68,7 @@ generalized_universal w v t (year, moment, s, f, z, hs, hf, hz, e) ends =
       | inr h ↦ zone_is_z (four_digits t.year ++ month_to_minute t ++ s ++ f) v z t.tz h (sym e ∙ ends)
     ] in
     let whole : w ≡ four_digits t.year ++ (month_to_minute t ++ (s ++ (f ++ codes "Z"))) = e ∙ ap (λ l. four_digits t.year ++ (month_to_minute t ++ l)) (append_assoc s f z)
-        ∙ ap (λ l. four_digits t.year ++ (month_to_minute t ++ (s ++ (f ++ l)))) zone.1 in
+    ∙ ap (λ l. four_digits t.year ++ (month_to_minute t ++ (s ++ (f ++ l)))) zone.1 in
     record {
       front = four_digits t.year ++ month_to_minute t;
       size = refl;
@@ -93,8 +93,12 @@ no_seconds_of_short k w v t h ends short = go (universal k w v t h ends)
     go : IsUniversal k w t → HasNoSeconds k w
     go u = elim u.are [
       | inl s ↦ elim u.last [ inl f ↦ u.no_seconds s.0 f.0 | inr f ↦ absurd (f.0 s.0) ]
-      | inr s ↦ absurd (omega (arith, u.size, ap length (u.whole ∙ ap (λ l. u.front ++ (l ++ (u.fraction ++ codes "Z"))) s.1),
-          length-append u.front (two_digits t.second ++ (u.fraction ++ codes "Z"))))
+      | inr s ↦ absurd (omega (
+        arith,
+        u.size,
+        ap length (u.whole ∙ ap (λ l. u.front ++ (l ++ (u.fraction ++ codes "Z"))) s.1),
+        length-append u.front (two_digits t.second ++ (u.fraction ++ codes "Z")),
+      ))
     ]
 
 -- a text without seconds is too short
@@ -139,9 +143,9 @@ end_of_loose k w v t h ends long loose = go (universal k w v t h ends)
       | inr s ↦ (let e : w ≡ (u.front ++ two_digits t.second) ++ (u.fraction ++ codes "Z") = u.whole ∙ ap (λ l. u.front ++ (l ++ (u.fraction ++ codes "Z"))) s.1
           ∙ sym (append_assoc u.front (two_digits t.second) (u.fraction ++ codes "Z")) in
           let d : drop (seconds_end k) w ≡ u.fraction ++ codes "Z" = ap (drop (seconds_end k)) e
-              ∙ drop_at (u.front ++ two_digits t.second) (u.fraction ++ codes "Z") (seconds_end k) (omega (arith, u.size, length-append u.front (two_digits t.second))) in
+          ∙ drop_at (u.front ++ two_digits t.second) (u.fraction ++ codes "Z") (seconds_end k) (omega (arith, u.size, length-append u.front (two_digits t.second))) in
           subst IsLooseEnd (sym d) (loose_behind (u.front ++ two_digits t.second) u.seconds u.fraction t.nanosecond
-              (each_append IsDigit u.front (two_digits t.second) u.digits (two_are t.second)) u.last (subst HasLooseFraction e loose)))
+          (each_append IsDigit u.front (two_digits t.second) u.digits (two_are t.second)) u.last (subst HasLooseFraction e loose)))
     ]
 
 -- a text that passes each test is written so

@@ -80,7 +80,7 @@ no_zone p s f v m n x (inr h) (inl g) e =
     ∙ ap (λ l. p ++ (two_digits m ++ l)) (sym (ap (λ l. l ++ f) h.1 ∙ ap (λ l. two_digits n ++ l) g.0)) ∙ e)
 no_zone p s f v m n x h (inr (some, k, (mark, ds, mk, is, are, one, few, value), q)) e =
     no_z (p ++ (two_digits m ++ (s ++ mark ∷ []))) ds v (each_from_all IsDigit ds are) one
-        (append_assoc p (two_digits m ++ (s ++ mark ∷ [])) ds ∙ ap (λ l. p ++ (two_digits m ++ l)) (append_assoc s (mark ∷ []) ds ∙ ap (λ l. s ++ l) (sym is)) ∙ e)
+    (append_assoc p (two_digits m ++ (s ++ mark ∷ [])) ds ∙ ap (λ l. p ++ (two_digits m ++ l)) (append_assoc s (mark ∷ []) ds ∙ ap (λ l. s ++ l) (sym is)) ∙ e)
 
 -- what stands behind the minutes
 record IsWrittenTail (s f z : List ℕ) (t : ASN1DateTime) : Type 0 where
@@ -121,8 +121,11 @@ generalized_is_written w v t (year, moment, s, f, z, hs, hf, hz, e) n ends =
     ] in
     let cut : w ≡ (four_digits t.year ++ month_to_minute t) ++ (s ++ (f ++ z)) = e ∙ ap (λ l. (four_digits t.year ++ month_to_minute t) ++ l) (append_assoc s f z) in
     let tail = tail_is_written (four_digits t.year ++ month_to_minute t) s f z t hs hf zone.1
-    (λ q. n.1.1.0 (t, cut ∙ ap (λ l. (four_digits t.year ++ month_to_minute t) ++ (l ++ (f ++ z))) q.0 ∙ ap (λ l. (four_digits t.year ++ month_to_minute t) ++ (l ++ z)) q.1
-    ∙ ap (λ l. (four_digits t.year ++ month_to_minute t) ++ l) zone.1))
+    (λ q. n.1.1.0 (
+      t,
+      cut ∙ ap (λ l. (four_digits t.year ++ month_to_minute t) ++ (l ++ (f ++ z))) q.0 ∙ ap (λ l. (four_digits t.year ++ month_to_minute t) ++ (l ++ z)) q.1
+          ∙ ap (λ l. (four_digits t.year ++ month_to_minute t) ++ l) zone.1,
+    ))
     (λ q. n.1.1.1.0 (subst HasLooseFraction (sym cut) q)) in
     record {
       written =

@@ -6,7 +6,6 @@ use Rattle.der_base.specs.LeafRefusal.{Test, IsFirstRefusal, DerLeafRefuses}
 use Rattle.der_base.specs.Refusal.{Refusal}
 use Rattle.der_base.specs.Tree.{Content}
 use Rattle.der_laws.proofs.Leaves.NeverBoth.{never_both_der}
-use Rattle.der_laws.proofs.Leaves.OneContent.{one_der_leaf}
 use Rattle.der_base.proofs.Leaves.Refusals.{first_refusal_once}
 
 -- what is written for a content, in an element that is primitive, is not refused

@@ -1,13 +1,11 @@
 -- Laws of the tests of numbers: each content has one answer, and a number that is answered fits its type.
-use Rattle.std.proofs.Common.{ℕ, Bool, List, ◌++◌, inl, inr}
+use Rattle.std.proofs.Common.{ℕ, List, inl, inr}
 use Rattle.std.specs.Prelude.{ℤ}
 use Rattle.der_base.specs.Laws.{NumberOrRefused, NumbersPass, HaveOneNumberRefusal, NumbersFit}
 use Rattle.der_base.specs.Octets.{integer_value}
-use Rattle.der_base.specs.LeafRefusal.{integer_tests}
-use Rattle.der_base.specs.Numbers.{NumberType, signed, unsigned, least, greatest, fits_tests, sign_tests, number_tests, ber_reader_tests, der_reader_tests}
+use Rattle.der_base.specs.Numbers.{NumberType, signed, unsigned, least, greatest, fits_tests, sign_tests, number_tests}
 use Rattle.der_base.specs.Tree.{Content, integer, enumerated, bit_string}
-use Rattle.der_laws.proofs.Leaves.AlwaysDer.{integer_decided}
-use Rattle.der_base.proofs.Leaves.Decided.{decided_or, decided_not, decided_less, decided_below, decided_equal, decided_true}
+use Rattle.der_base.proofs.Leaves.Decided.{decided_or, decided_less, decided_below}
 use Rattle.der_base.proofs.Leaves.Refusals.{AllDecided, first_or_none, none_refuses, first_refusal_once, decided_append, none_of_back}
 
 fits_decided : (k : NumberType) (v : ℤ) → AllDecided (fits_tests k v)

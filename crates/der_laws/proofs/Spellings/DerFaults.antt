@@ -1,5 +1,6 @@
 -- A DER spelling in front of the input, a refusal that it shows, and its end within an element: one of them holds at most, and each in one way.
-use Rattle.std.proofs.Common.{◌≡◌, ℕ, zero, suc, ◌<◌, ◌≤◌, Bool, true, false, IsTrue, List, [], ◌++◌, length, refl, sym, ap, subst, ◌∙◌, arith, append_assoc, length-append, ◌||◌, ◌⊎◌, inl, inr, append-nil}
+use Rattle.std.proofs.Common.{◌≡◌, ℕ, zero, suc, ◌<◌, ◌≤◌, Bool, true, false, IsTrue, List, [], ◌++◌, length, refl, sym}
+use Rattle.std.proofs.Common.{ap, subst, ◌∙◌, arith, append_assoc, length-append, ◌⊎◌, inl, inr, append-nil}
 use Rattle.der_base.specs.declared.header.Class.{Class}
 use Rattle.der_base.specs.declared.header.Class.TheVariants.{Universal}
 use Rattle.der_base.specs.declared.error.Needed.TheVariants.{Size}
@@ -54,14 +55,6 @@ chosen_refuses false ts us e q h = cc
 leaf_no_list : (t : ℕ) (x : Content) → IsDerLeaf t x → IsTrue (is_list t) → ⊥
 leaf_no_list t x h l = never_both_der t x construct_expected h (leaf_mapped false t (content_octets x) x h.0, chosen_refuses (is_list t) _ _ construct_expected l (inl (refl, refl)))
 
-or_last : (a b : Bool) → b ≡ true → a || b ≡ true
-or_last true b e = refl
-or_last false b e = e
-
--- a list has a content of its own
-pub list_mapped : (t : ℕ) → IsTrue (is_list t) → IsTrue (is_mapped t)
-list_mapped t h = or_last _ (is_list t) h
-
 -- where refusals show
 
 -- behind a header of length n
@@ -113,7 +106,8 @@ pub header_cut_shows_nothing : (d : ℕ) (i : List ℕ) (n : ℕ) (e : Refusal) 
 header_cut_shows_nothing d i n e h s = elim (shown_where d i e s) [ inl k ↦ h.2 e k | inr (c, p, t, m, rest, b, k) ↦ der_header_not_lacking i rest c p t m n b h.1 ]
 
 -- nor does what ends within a content that is not too large
-pub content_cut_shows_nothing : (d : ℕ) (i rest : List ℕ) (c : Class) (p : Bool) (t m : ℕ) (e : Refusal) → BeginsWithDerHeader i c p t m rest → length rest < m → m ≤ max_object_size → DerShowsFault (suc d) i e → ⊥
+pub content_cut_shows_nothing : (d : ℕ) (i rest : List ℕ) (c : Class) (p : Bool) (t m : ℕ) (e : Refusal) → BeginsWithDerHeader i c p t m rest → length rest < m → m ≤ max_object_size
+    → DerShowsFault (suc d) i e → ⊥
 content_cut_shows_nothing d i rest c p t m e b l s h = elim (shows_behind d i rest c p t m e b h) [
   | inl k ↦ omega (arith, s, k.0)
   | inr (z, u, k, w, r, o, n, q) ↦ omega (arith, l, n, ap length o, length-append w r)

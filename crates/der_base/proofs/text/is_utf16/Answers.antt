@@ -8,8 +8,8 @@ pub returns-then-begins_low_surrogate-expects_low : goal.returns-then-begins_low
 returns-then-begins_low_surrogate-expects_low c = (
   (λ k. absurd (never k)),
   (λ h. sym
-  (c.loop-rest.invariant
-  ∙ pairs_match_not c.loop-rest.expects_low c.begins_low_surrogate.result c.loop-rest.rest.now c.in-len2-up.len_at_least c.begins_low_surrogate.ensures c.if-begins_low_surrogate-expects_low.true)
+      (c.loop-rest.invariant
+      ∙ pairs_match_not c.loop-rest.expects_low c.begins_low_surrogate.result c.loop-rest.rest.now c.in-len2-up.len_at_least c.begins_low_surrogate.ensures c.if-begins_low_surrogate-expects_low.true)
       ∙ pairs_of_utf16 c.args.content.now (λ k. omega (arith, c.type_inv.content k)) h),
 )
 
