@@ -14,7 +14,9 @@ use Rattle.der_base.specs.declared.time.ASN1TimeZone.{ASN1TimeZone}
 use Rattle.der_base.specs.declared.time.ASN1TimeZone.TheVariants.{Undefined, Z, Offset}
 use Rattle.der_base.specs.declared.time.TimeText.{TimeText}
 use Rattle.der_base.specs.contracts.header.Class as Class_type
-use Rattle.der_base.specs.Tree.{Node, node, Content, end_of_content, boolean, integer, bit_string, string, null, enumerated, object_identifier, relative_oid, time, sequence, set, absent, present, tagged, unknown, Nodes, no_nodes, nodes}
+use Rattle.der_base.specs.Tree.{Node, node, Content, end_of_content, boolean, integer, bit_string, string, null}
+use Rattle.der_base.specs.Tree.{enumerated, object_identifier, relative_oid, time, sequence, set, absent, present}
+use Rattle.der_base.specs.Tree.{tagged, unknown, Nodes, no_nodes, nodes}
 use Rattle.der_base.specs.TreeEquality.{same_class, same_octets, same_zone, same_time, same_node, same_content, same_nodes}
 
 -- a test of one part, or of two, is one of the whole

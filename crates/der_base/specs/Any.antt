@@ -1,4 +1,4 @@
--- Elements whose content is not read, and contents behind a header.
+-- Elements whose content is not read, and contents after a header.
 use Rattle.std.specs.Borrow.{Bor}
 use Rattle.std.specs.Prelude.{◌≡◌, ℕ, ◌+◌, ◌^◌, ◌<◌, ◌≤◌, ◌⊎◌, Bool, true, Some, List, ◌∷◌, ◌++◌, length, Result}
 use Rattle.der_base.specs.declared.any.Any.{Any}
@@ -25,7 +25,7 @@ pub record ReadsDerAny (i : List ℕ) (a : Any) (rest : List ℕ) : Type 0 where
   pub raw_tag : raw_tag_of a.header
       ≡ Some (identifier (class_of a.header) (is_constructed a.header) (number_of a.header))
 
--- i ends within a header that shows no refusal, or within the content behind one, and lacks n octets
+-- i ends within a header that shows no refusal, or within the content after one, and lacks n octets
 abbrev pub DerAnyLacks : List ℕ → ℕ → Type 0
 DerAnyLacks i n = DerHeaderLacks i n
     ⊎ ((c : Class) × (p : Bool) × (t m : ℕ) × (rest : List ℕ) × BeginsWithDerHeader i c p t m rest
@@ -64,7 +64,7 @@ SpellsAny i v = BeginsWithElement i framing_budget v.class v.constructed v.numbe
 abbrev pub SpellsDerAny : List ℕ → LeadingElement → Type 0
 SpellsDerAny i v = BeginsWithDerHeader i v.class v.constructed v.number (length v.content) (v.content ++ v.rest)
 
--- the answer of a reader of elements
+-- the result of a reader of elements
 abbrev pub AnyAnswer : Type 0
 AnyAnswer = Result (Bor (List ℕ) × Any) (Refused BerError)
 
@@ -78,7 +78,7 @@ leading_element x = record {
   rest = x.0.now;
 }
 
--- the reader of elements answers exactly what i shows by BER, and takes no memory
+-- the reader of elements returns exactly what i shows by BER, and does not allocate
 abbrev pub AnswersAny : List ℕ → AnyAnswer → Type 0
 AnswersAny i result = AnswersExactly result leading_element (λ x. ReadsAny i x.1 x.0.now) (SpellsAny i)
     (AnyRefuses i) (AnyLacks i) ⊥ ⊥
@@ -92,7 +92,7 @@ AnswersDerAny i result = AnswersExactly result leading_element (λ x. ReadsDerAn
 abbrev pub leading_content : Bor (List ℕ) × Bor (List ℕ) → List ℕ × List ℕ
 leading_content x = (x.1.now, x.0.now)
 
--- The reader of contents answers exactly what i shows behind a header of this length, where indefinite lengths are
+-- The reader of contents returns exactly what i shows after a header of this length, where indefinite lengths are
 -- nested below the budget k. It takes no memory.
 abbrev pub AnswersContent : Length → ℕ → List ℕ → Result (Bor (List ℕ) × Bor (List ℕ)) (Refused BerError) → Type 0
 AnswersContent l k i result = AnswersExactly result leading_content (λ x. BeginsWithContent i l k x.1.now x.0.now)

@@ -1,5 +1,5 @@
--- Combinators that keep a caller's parser: what they answer, in terms of its answers. By BER and by DER the relations
--- are the same: `opens` says which element the input begins with, `refuses` what is answered where it begins with none,
+-- Combinators that keep a caller's parser: what they return, in terms of its results. By BER and by DER the relations
+-- are the same: `opens` says which element the input begins with, `refuses` what is returned where it begins with none,
 -- `step` what the parser promises of a call.
 use Rattle.std.specs.Prelude.{◌≡◌, ◌≢◌, ℕ, ◌<◌, ◌⊎◌, Bool, true, false, Some, None, List, ◌++◌, length}
 use Rattle.std.specs.Prelude.{Result, Ok, Err}
@@ -21,7 +21,7 @@ use Rattle.der_base.specs.Headers.{BeginsWithHeader, ReadsHeader, BeginsWithDerH
 use Rattle.der_base.specs.Refusal.{Refusal, refusal, unexpected_tag, unexpected_class, construct_expected}
 use Rattle.der_base.specs.Spelling.{BeginsWithElement, framing_budget}
 
--- what a parser answers
+-- what a parser returns
 abbrev pub Answered : Type 0 → Type 0 → Type 0
 Answered O E = Result (Bor (List ℕ) × O) (Refused E)
 
@@ -31,7 +31,7 @@ pub record OpensBer (i : List ℕ) (h : Header) (w after : List ℕ) : Type 0 wh
   pub behind : List ℕ
   pub header : ReadsHeader i h behind
 
--- a definite length in front of i is more than the octets behind it
+-- a definite length in front of i is more than the octets after it
 abbrev pub HasShortContent : List ℕ → List ℕ → Type 0
 HasShortContent i behind = (c : Class) × (p : Bool) × (t n : ℕ) × BeginsWithHeader i c p t (Definite n) behind
     × (length behind < n)
@@ -49,7 +49,7 @@ HasShortDerContent i behind = (c : Class) × (p : Bool) × (t n : ℕ) × Begins
     × (length behind < n)
 
 -- Where no element with its whole content begins i: a fault of header or framing, the end of the input in them, or a
--- definite content that is short, which is Eof at the octets behind the header.
+-- definite content that is short, which is Eof at the octets after the header.
 module _ {E : Type 0} (from_error_kind_gives : Bor (List ℕ) → ErrorKind → E → Type 0)
     (from_gives : BerError → E → Type 0)
     (faults : List ℕ → Refusal → Type 0) (lacks : List ℕ → ℕ → Type 0) (short : List ℕ → List ℕ → Type 0) where
@@ -72,7 +72,7 @@ RefusesDer from_error_kind_gives from_gives i r =
     NotOpened from_error_kind_gives from_gives DerHeaderRefuses DerHeaderLacks HasShortDerContent i r
 
 -- One call of the parser takes it from f to g. It has exactly the content and the header of an element that is opened,
--- and its answer is the answer, an Ok with what follows the element.
+-- and its result is the result, an Ok with what follows the element.
 module _ {F O E : Type 0} (opens : Header → List ℕ → List ℕ → Type 0)
     (step : F → Bor (List ℕ) → Header → Answered O E → F → Type 0) where
   pub data OneCall (f : F) : Answered O E → F → Type 0 where
@@ -81,17 +81,17 @@ module _ {F O E : Type 0} (opens : Header → List ℕ → List ℕ → Type 0)
     accepted : {g : F} {h : Header} {w : List ℕ} {content left after : Bor (List ℕ)} {v : O} → opens h w after.now
         → step f content h (Ok (left, v)) g → content.now ≡ w → OneCall f (Ok (after, v)) g
 
--- the answer is a refusal, and no call leaves the parser as it is
+-- the result is a refusal, and no call leaves the parser as it is
 module _ {F O E : Type 0} (refuses : Refused E → Type 0) where
   pub data NoCall (f : F) : Answered O E → F → Type 0 where
     refused : {e : Refused E} → refuses e → NoCall f (Err e) f
 
--- a container's answer: a refusal without a call, or that of one call
+-- a container's result: a refusal without a call, or that of one call
 abbrev pub ContainerRun : {F O E : Type 0} → (Header → List ℕ → List ℕ → Type 0) → (Refused E → Type 0)
     → (F → Bor (List ℕ) → Header → Answered O E → F → Type 0) → F → Answered O E → F → Type 0
 ContainerRun opens refuses step f r g = NoCall refuses f r g ⊎ OneCall opens step f r g
 
--- Of the elements that are opened, those of the tag number n. Another number is told behind the refusals of the
+-- Of the elements that are opened, those of the tag number n. Another number is reported after the refusals of the
 -- container.
 module _ (opens : Header → List ℕ → List ℕ → Type 0) where
   abbrev pub OpensNumber : ℕ → Header → List ℕ → List ℕ → Type 0
@@ -133,7 +133,7 @@ module _ (opens : Header → List ℕ → List ℕ → Type 0) where
       × (is_constructed h ≡ true)
 
   module _ {E : Type 0} (refuses : Refused E → Type 0) (from_gives : BerError → E → Type 0) where
-    -- behind the refusals of the container, the first of the three tests that fails
+    -- after the refusals of the container, the first of the three tests that fails
     pub data RefusesExplicit (n : ℕ) : Refused E → Type 0 where
       unopened : {r : Refused E} → refuses r → RefusesExplicit n r
       universal : {h : Header} {w after : List ℕ} {e : BerError} {x : E} → opens h w after → class_of h ≡ Universal

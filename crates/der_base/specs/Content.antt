@@ -1,4 +1,4 @@
--- Contents behind a header: where a content of definite or indefinite length ends (X.690 8.1.3), what it shows to be
+-- Contents after a header: where a content of definite or indefinite length ends (X.690 8.1.3), what it shows to be
 -- wrong, and how many octets it lacks.
 use Rattle.std.specs.Prelude.{◌≡◌, ℕ, ◌+◌, ◌-◌, ◌≤◌, List, ◌++◌, length}
 use Rattle.der_base.specs.declared.header.Length.{Length}

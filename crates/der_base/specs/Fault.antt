@@ -17,13 +17,13 @@ use Rattle.der_base.specs.Encoding.{element}
 use Rattle.der_base.specs.Tree.{no_nodes, nodes}
 use Rattle.der_base.specs.Cut.{IsCut, Lacks, DerLacks}
 
--- The octet b shows that no identifier stands here: the long form begins with a group of zeros, spells a number below
+-- The octet b shows that there is no identifier: the long form begins with a group of zeros, spells a number below
 -- 31, or passes 2^32-1 (8.1.2.4).
 abbrev pub HasBadTag : List ℕ → Type 0
 HasBadTag i = (a b : ℕ) × (bs r : List ℕ) × (i ≡ a ∷ bs ++ b ∷ r) × (a % 32 ≡ 31) × All (λ g. 128 ≤ g) bs
     × (((bs ≡ []) × (b ≡ 128)) ⊎ ((bs ≡ []) × (b < 31)) ⊎ (2 ^ 32 ≤ groups_value 0 (bs ++ b ∷ [])))
 
--- an identifier with a number that fits, and what stands behind it
+-- an identifier with a number that fits, and what follows it
 abbrev pub HasIdentifier : List ℕ → Bool → List ℕ → Type 0
 HasIdentifier i p rest = (c : Class) × (t : ℕ) × (t < 2 ^ 32) × (i ≡ identifier c p t ++ rest)
 
@@ -32,7 +32,7 @@ abbrev pub HasLargeLength : List ℕ → Type 0
 HasLargeLength s = (b : ℕ) × (bs r : List ℕ) × (s ≡ b ∷ bs ++ r) × (128 < b) × (b < 255) × (128 + length bs ≡ b)
     × (2 ^ 64 ≤ number bs)
 
--- the refusals of length octets by BER, behind an identifier that is constructed or not (8.1.3)
+-- the refusals of length octets by BER, after an identifier that is constructed or not (8.1.3)
 abbrev pub BerLengthRefuses : Bool → List ℕ → Refusal → Type 0
 BerLengthRefuses p s e = (((r : List ℕ) × (s ≡ 255 ∷ r)) × (e ≡ invalid_length))
     ⊎ (HasLargeLength s × (e ≡ invalid_length))

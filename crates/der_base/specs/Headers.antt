@@ -27,7 +27,7 @@ pub record BeginsWithHeader (i : List ℕ) (c : Class) (p : Bool) (t : ℕ) (l :
   pub number : t < 2 ^ 32
   pub length : BeginsWithLength following p l rest
 
--- i begins with a header of the number t, and what stands behind it is so, by the length and the constructed bit
+-- i begins with a header of the number t, and what follows it is so, by the length and the constructed bit
 abbrev pub BehindHeader : ℕ → List ℕ → (Length → Bool → List ℕ → Type 0) → Type 0
 BehindHeader t i P = (c : Class) × (p : Bool) × (l : Length) × (behind : List ℕ)
     × BeginsWithHeader i c p t l behind × P l p behind
@@ -90,7 +90,7 @@ SpellsHeader i v = BeginsWithHeader i v.class v.constructed v.number v.length v.
 abbrev pub SpellsDerHeader : List ℕ → LeadingHeader → Type 0
 SpellsDerHeader i v = (n : ℕ) × (v.length ≡ Definite n) × BeginsWithDerHeader i v.class v.constructed v.number n v.rest
 
--- the answer of a reader of headers
+-- the result of a reader of headers
 abbrev pub HeaderAnswer : Type 0
 HeaderAnswer = Result (Bor (List ℕ) × Header) (Refused BerError)
 
@@ -104,7 +104,7 @@ leading_header x = record {
   rest = x.0.now;
 }
 
--- the reader of headers answers exactly what i shows by BER, and takes no memory
+-- the reader of headers returns exactly what i shows by BER, and does not allocate
 abbrev pub AnswersBerHeader : List ℕ → HeaderAnswer → Type 0
 AnswersBerHeader i result = AnswersExactly result leading_header (λ x. ReadsHeader i x.1 x.0.now) (SpellsHeader i)
     (BerHeaderRefuses i) (BerHeaderLacks i) ⊥ ⊥

@@ -143,7 +143,7 @@ AppendedLengthenRests begins = (d : ℕ) (i z rest : List ℕ) (o : Node) → be
     → begins d (i ++ z) o (rest ++ z)
     × ((d' : ℕ) (rest' : List ℕ) (o' : Node) → begins d' (i ++ z) o' rest' → (o' ≡ o) × (rest' ≡ rest ++ z))
 
--- behind a header that is refused no octets make one
+-- after a header that is refused no octets make one
 abbrev pub BerRefusedBeginsNone : Type 0
 BerRefusedBeginsNone = (i : List ℕ) (e : Refusal) → BerHeaderRefuses i e → BeginsNoHeader i
 

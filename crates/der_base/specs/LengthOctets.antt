@@ -9,7 +9,7 @@ pub record BeginsWithDerLength (s : List ℕ) (n : ℕ) (rest : List ℕ) : Type
   pub octets : s ≡ shortest_length n ++ rest
   pub length : n < 2 ^ 64
 
--- s begins with a length behind an identifier that is constructed or not, and rest follows: a definite one in any
+-- s begins with a length after an identifier that is constructed or not, and rest follows: a definite one in any
 -- octets that spell it, or the octet of the indefinite form, where constructed (8.1.3.2)
 abbrev pub BeginsWithLength : List ℕ → Bool → Length → List ℕ → Type 0
 BeginsWithLength s p (Definite n) rest = (w : List ℕ) × SpellsLength w n × (s ≡ w ++ rest)

@@ -15,9 +15,9 @@ use Rattle.der_base.specs.Containers.{Answered}
 abbrev pub taken : List ℕ → List ℕ → List ℕ
 taken i rest = take (length i - length rest) i
 
--- `step` is what the parser promises of a call: its state and its input, the answer, and the state that it is left in.
+-- `step` is what the parser promises of a call: its state and its input, the result, and the state that it is left in.
 module _ {F O E : Type 0} (step : F → Bor (List ℕ) → Answered O E → F → Type 0) where
-  -- The parser was called on i, and then on what each call left. Each call answered a value and left less than it was
+  -- The parser was called on i, and then on what each call left. Each call returned a value and left less than it was
   -- given. The parser went from f to g, and j is left. vs are the values, and ss what each call took.
   pub data Calls (f : F) (i : List ℕ) : List O → List (List ℕ) → F → List ℕ → Type 0 where
     no_call : Calls f i [] [] f i
@@ -26,7 +26,7 @@ module _ {F O E : Type 0} (step : F → Bor (List ℕ) → Answered O E → F �
         → Calls f i (vs ++ v ∷ []) (ss ++ taken j r.now ∷ []) g r.now
 
   module _ (from_error_kind_gives : Bor (List ℕ) → ErrorKind → E → Type 0) where
-    -- One call more, on j, ends the list behind the values vs.
+    -- One call more, on j, ends the list after the values vs.
     pub data LastCall (f : F) (j : List ℕ) (vs : List O) : Result (List O) (Refused E) → F → Type 0 where
       -- Incomplete where nothing is left is the end of the list
       at_end : {g : F} {p : Bor (List ℕ)} {n : Needed} → step f p (Err (Incomplete n)) g → p.now ≡ j → length j ≡ 0
@@ -48,7 +48,7 @@ module _ {F O E : Type 0} (step : F → Bor (List ℕ) → Answered O E → F �
       no_room : {g : F} {p r : Bor (List ℕ)} {v : O} → step f p (Ok (r, v)) g → p.now ≡ j
           → length r.now < length j → LastCall f j vs (Err OutOfMemory) g
 
-    -- the calls on the content octets w take the parser from f to g, and the last one decides the answer
+    -- the calls on the content octets w take the parser from f to g, and the last one decides the result
     pub record ListSteps (w : List ℕ) (f : F) (answer : Result (List O) (Refused E)) (g : F) : Type 0 where
       pub values : List O
       pub spellings : List (List ℕ)
@@ -57,7 +57,7 @@ module _ {F O E : Type 0} (step : F → Bor (List ℕ) → Answered O E → F �
       pub calls : Calls f w values spellings between left
       pub last : LastCall between left values answer g
 
--- the values that a list parser answers, or why there are none; what a container leaves of its content is dropped
+-- the values that a list parser returns, or why there are none; what a container leaves of its content is dropped
 abbrev pub items_of : {O E : Type 0} → Answered (Vec O) E → Result (List O) (Refused E)
 items_of (Ok x) = Ok x.1.items
 items_of (Err e) = Err e

@@ -1,4 +1,4 @@
--- The numbers of contents (X.690 8.3, 8.4, 8.6): what the accessors of objects and the readers of numbers answer. Each
+-- The numbers of contents (X.690 8.3, 8.4, 8.6): what the accessors of objects and the readers of numbers return. Each
 -- refusal is the first test of a table that holds.
 use Rattle.std.specs.Prelude.{◌≡◌, ◌≢◌, ℕ, ◌-◌, ◌*◌, ◌^◌, ◌<◌, ◌⊎◌, Bool, true, false, ℤ, pos, neg_ℤ, ◌<ℤ◌, Some}
 use Rattle.std.specs.Prelude.{List, [], ◌∷◌, ◌++◌, length, Result, Ok, Err}
@@ -66,7 +66,7 @@ number_tests (signed bits) _ = refuse (Unit {0}) wrong_value ∷ []
 abbrev pub NumberRefuses : NumberType → Content → Refusal → Type 0
 NumberRefuses k x e = IsFirstRefusal (number_tests k x) e
 
--- an accessor's answer: the number, where no test holds, or the refusal of the first that does
+-- an accessor's result: the number, if no test holds, or the refusal of the first that does
 abbrev pub AnswersNumberOf : {T : Type 0} → (T → ℤ) → NumberType → Content → Result T BerError → Type 0
 AnswersNumberOf value k x (Ok v) = NoneHolds (number_tests k x) × (value v ≡ number_of_content x)
 AnswersNumberOf value k x (Err e) = NumberRefuses k x (refusal e)
@@ -121,7 +121,7 @@ DerNumberRefuses k i e = DerHeaderRefuses i e
     ⊎ ((c : Class) × (p : Bool) × (t : ℕ) × (w rest : List ℕ) × BeginsWithDerHeader i c p t (length w) (w ++ rest)
     × IsFirstRefusal (der_reader_tests k p t w) e)
 
--- the answer of a reader of a number, which is one of a type of the code
+-- the result of a reader of a number, which is one of a type of the code
 abbrev pub NumberAnswer : Type 0 → Type 0
 NumberAnswer T = Result (Bor (List ℕ) × T) (Refused BerError)
 
@@ -129,7 +129,7 @@ NumberAnswer T = Result (Bor (List ℕ) × T) (Refused BerError)
 abbrev pub leading_number : {T : Type 0} → (T → ℤ) → Bor (List ℕ) × T → ℤ × List ℕ
 leading_number value x = (value x.1, x.0.now)
 
--- the reader answers exactly what i shows by BER, and takes no memory
+-- the reader returns exactly what i shows by BER, and does not allocate
 abbrev pub AnswersBerNumber : {T : Type 0} → (T → ℤ) → NumberType → List ℕ → NumberAnswer T → Type 0
 AnswersBerNumber value k i result = AnswersExactly result (leading_number value)
     (λ x. BeginsWithBerNumber k i (value x.1) x.0.now) (λ v. BeginsWithBerNumber k i v.0 v.1)

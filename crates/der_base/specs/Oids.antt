@@ -21,17 +21,17 @@ is_relative_of x = x.relative
 abbrev pub IsBorrowed : Oid → Type 0
 IsBorrowed x = IsBorrowedSlice x.octets
 
--- the arcs that are left where octets stand behind those that were read
+-- the arcs that are left if these octets follow those that were read
 abbrev pub arcs_from : NextArc → List ℕ → List ℕ
 arcs_from First w = arcs_of_values false (subidentifier_values w)
 arcs_from (Second y) w = y ∷ subidentifier_values w
 arcs_from Further w = subidentifier_values w
 
--- the arcs that an iterator has not yet answered
+-- the arcs that an iterator has not yet returned
 abbrev pub arcs_left : OidIter → List ℕ
 arcs_left i = arcs_from i.next i.octets.now
 
--- The answer is the identifier with these octets, or want of memory for them; or it is this refusal.
+-- The result is the identifier with these octets or out of memory for them, or it is this refusal.
 abbrev pub Makes : Bool → Result (List ℕ) OidParseError → Result Oid OidParseError → Type 0
 Makes relative (Ok w) (Ok x) = (octets_of x ≡ w) × (is_relative_of x ≡ relative)
 Makes relative (Ok w) (Err e) = e ≡ OutOfMemory

@@ -60,7 +60,7 @@ abbrev pub tagged_part : Content → Option (Class × ℕ × Node)
 tagged_part (tagged c t o) = Some (c, t, o)
 tagged_part _ = None
 
--- the answer of an accessor, seen by `view`: Ok of the part, or the refusal where there is none
+-- the result of an accessor, seen by `view`: Ok of the part, or the refusal where there is none
 abbrev pub AnswersPart : {T V : Type 0} → (T → V) → Option V → Result T BerError → Type 0
 AnswersPart view (Some v) (Ok x) = view x ≡ v
 AnswersPart view (Some v) (Err e) = ⊥

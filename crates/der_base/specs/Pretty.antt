@@ -5,7 +5,7 @@ use Rattle.std.specs.Char.{encode_utf8}
 use Rattle.std.specs.Char.Utf16.{utf16_chars}
 use Rattle.std.specs.Option.{unwrap_or}
 use Rattle.der_base.specs.declared.header.Class.{Class}
-use Rattle.der_base.specs.declared.header.Class.TheVariants.{Universal, Application, ContextSpecific, Private}
+use Rattle.der_base.specs.declared.header.Class.TheVariants.{Universal, ContextSpecific}
 use Rattle.der_base.specs.declared.header.Length.{Length}
 use Rattle.der_base.specs.declared.header.Length.TheVariants.{Definite, Indefinite}
 use Rattle.der_base.specs.Arcs.{arcs}
@@ -17,7 +17,7 @@ use Rattle.der_base.specs.Tree.{Node, node, Content, end_of_content, boolean, in
 use Rattle.der_base.specs.Tree.{enumerated, object_identifier, relative_oid, time, sequence, set, absent, present}
 use Rattle.der_base.specs.Tree.{tagged, unknown, Nodes, no_nodes, nodes}
 
--- What is printed: the items of lists, the headers, and how much further in an item stands than its list.
+-- What is printed: the items of lists, the headers, and how much further an item is indented than its list.
 pub record Style : Type 0 where
   pub recursive : Bool
   pub headers : Bool
@@ -26,7 +26,7 @@ pub record Style : Type 0 where
 abbrev pub spaces : ℕ → List ℕ
 spaces n = replicate n 0x20
 
--- how far in the items stand; it stops at the greatest
+-- how far the items are indented; it stops at the greatest number
 abbrev pub further : Style → ℕ → ℕ
 further s n = min (n + s.increment) (2 ^ 64 - 1)
 
@@ -100,7 +100,7 @@ abbrev pub boolean_text : Bool → List ℕ
 boolean_text true = codes "true"
 boolean_text false = codes "false"
 
--- the string types whose text stands in quotes
+-- the string types whose text is written in quotes
 abbrev pub quoted_names : List (ℕ × List ℕ)
 quoted_names =
     (7, codes "ObjectDescriptor")
@@ -162,7 +162,7 @@ bracketed n items = codes "[\n" ++ items ++ spaces n ++ codes "]"
 abbrev pub list_text : Style → ℕ → ℕ → List ℕ → List ℕ
 list_text s n t items = list_name t ++ (if s.recursive then bracketed n items else [])
 
--- an object behind a tag
+-- an object after a tag
 abbrev pub tagged_text : ℕ → Class → ℕ → List ℕ → List ℕ
 tagged_text n c k inner =
     codes "ContextSpecific [" ++ class_name c ++ codes " " ++ decimal k ++ codes "] {\n"
@@ -188,11 +188,11 @@ abbrev pub front_text : Style → ℕ → Class → Bool → ℕ → Length → 
 front_text s n c p t l = spaces n ++ (if s.headers then header_text c p t l ++ codes " " else [])
 
 abbrev mutual
-  -- An object that stands n spaces in. Its form has the lengths in its header and in those inside.
+  -- An object that is indented by n spaces. Its form has the lengths in its header and in those inside.
   pub pretty : Style → ℕ → Node → Form → List ℕ
   pretty s n (node c p t x) (form l fs) = front_text s n c p t l ++ content_text s n t x fs
 
-  -- a content behind a header of tag number t
+  -- a content after a header of tag number t
   pub content_text : Style → ℕ → ℕ → Content → Forms → List ℕ
   content_text s n t (sequence l) fs = list_text s n t (items_text s (further s n) l fs)
   content_text s n t (set l) fs = list_text s n t (items_text s (further s n) l fs)

@@ -48,7 +48,7 @@ pub record SpellingStays (begins : ℕ → List ℕ → Node → List ℕ → Ty
   pub longer : RestLengthens begins d i o rest
   pub fronts : (b : List ℕ) → i ≡ b ++ rest → FrontsAreCut cut d b
 
--- The answer stays whatever octets follow: an Ok but for the rest, and an Error. Of an Ok, each proper front of what
+-- The result stays whatever octets follow: an Ok but for the rest, and an Error. Of an Ok, each proper front of what
 -- was read is cut short.
 abbrev pub AnswerStays : {T : Type 0} → Result T (Refused BerError) → (T → Node × List ℕ)
     → (ℕ → List ℕ → Node → List ℕ → Type 0) → (ℕ → List ℕ → Refusal → Type 0) → (ℕ → List ℕ → ℕ → Type 0)

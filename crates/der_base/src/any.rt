@@ -1,7 +1,7 @@
 //! Elements whose content isn't read: a header and the content octets.
 ghost use Rattle.std.specs.Prelude.{◌≡◌, ◌≤◌, None, length};
 ghost use Rattle.der_base.specs.declared.header.Class.{Class};
-ghost use Rattle.der_base.specs.Answer.{MatchAnswer, AnswersError, AnswersIncomplete};
+ghost use Rattle.der_base.specs.Answer.{MatchAnswer};
 ghost use Rattle.der_base.specs.Any.{AnswersAny, AnswersDerAny, AnswersContent};
 ghost use Rattle.der_base.specs.Any.{ReadsAny, AnyRefuses, AnyLacks, ReadsDerAny, DerAnyLacks};
 ghost use Rattle.der_base.specs.Fault.{DerHeaderRefuses};

@@ -1,5 +1,5 @@
 -- Laws of printed texts.
-use Rattle.std.proofs.Common.{◌≡◌, ◌∙◌, ℕ, Bool, true, false, List, [], ◌++◌, length, refl, sym, ap, if◌then◌else◌, length-append, suc, codes}
+use Rattle.std.proofs.Common.{◌≡◌, ℕ, Bool, true, false, List, [], ◌++◌, refl, ap, if◌then◌else◌, codes}
 use Rattle.der_base.specs.Laws.{LengthsShowInHeaders}
 use Rattle.der_base.specs.Pretty.{Style, spaces, further, pretty, content_text, items_text, first_form, other_forms, list_text, tagged_text}
 use Rattle.der_base.specs.Spelling.{Form, form, Forms}

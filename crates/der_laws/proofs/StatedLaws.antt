@@ -7,7 +7,11 @@ use Rattle.der_base.proofs.AllByRecursion.{each_from_all, all_from_each}
 use Rattle.der_base.proofs.Octets.Identifiers.{number_octets}
 use Rattle.der_base.proofs.Leaves.Refusals.{first_refusal_once}
 use Rattle.der_base.proofs.Octets.MinimalIntegers.{minimal_fewest, minimal_one, fewest_minimal, some_of_minimal}
-use Rattle.der_base.proofs.Octets.Shortest.{IsOctet, octets_are, octets_fewest, number_same, shortest_length_are, shortest_length_spells, shortest_length_fewest, shortest_length_one, shortest_integer_are, shortest_integer_some, integer_shortest, shortest_integer_fewest, shortest_integer_one, groups_are, groups_spell, groups_fewest, groups_one}
+use Rattle.der_base.proofs.Octets.Shortest.{IsOctet, octets_are, octets_fewest, number_same, shortest_length_are}
+use Rattle.der_base.proofs.Octets.Shortest.{shortest_length_spells, shortest_length_fewest, shortest_length_one}
+use Rattle.der_base.proofs.Octets.Shortest.{shortest_integer_are, shortest_integer_some, integer_shortest}
+use Rattle.der_base.proofs.Octets.Shortest.{shortest_integer_fewest, shortest_integer_one, groups_are, groups_spell}
+use Rattle.der_base.proofs.Octets.Shortest.{groups_fewest, groups_one}
 
 pub one_ber_refusal : HaveOneBerRefusal
 one_ber_refusal p t w e e' h g = first_refusal_once (ber_tests p t w) e e' h g

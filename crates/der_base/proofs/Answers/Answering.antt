@@ -1,39 +1,14 @@
 -- From what each answer says, and from what excludes what, the only answer.
 use Rattle.std.proofs.Common.{◌≡◌, ℕ, Result, Ok, Err}
-use Rattle.std.specs.Prelude.{IfOk, IsOkAnd}
+use Rattle.std.specs.Prelude.{IfOk}
 use Rattle.der_base.specs.declared.error.Err.{Err as Refused}
 use Rattle.der_base.specs.declared.error.Err.TheVariants.{Incomplete, Error, Failure, OutOfMemory}
 use Rattle.der_base.specs.declared.error.Error.{Error as BerError}
 use Rattle.der_base.specs.declared.error.Needed.TheVariants.{Unknown, Size}
-use Rattle.der_base.specs.Answer.{MatchAnswer, AnswersError, AnswersIncomplete, AnswersOkOr, AnswersErrorOr, AnswersIncompleteOr}
+use Rattle.der_base.specs.Answer.{MatchAnswer, AnswersOkOr, AnswersErrorOr, AnswersIncompleteOr}
 use Rattle.der_base.specs.Refusal.{Refusal, refusal}
 
-module _ {T : Type 0} {P : T → Type 0} {Q : Refusal → Type 0} {R : ℕ → Type 0} where
-  pub only_ok : (r : Result T (Refused BerError)) (G : T → Type 0) → MatchAnswer r P Q R ⊥ → ((x : T) → P x → G x) → ((e : Refusal) → ¬ Q e) → ((n : ℕ) → ¬ R n) → IsOkAnd r G
-  only_ok (Ok x) G h p q n = p x h
-  only_ok (Err (Error e)) G h p q n = absurd (q (refusal e) h)
-  only_ok (Err (Incomplete (Size m))) G h p q n = absurd (n m h)
-  only_ok (Err (Incomplete Unknown)) G h p q n = absurd h
-  only_ok (Err (Failure e)) G h p q n = absurd h
-  only_ok (Err OutOfMemory) G h p q n = absurd h
-
-  pub only_error : (r : Result T (Refused BerError)) (e : Refusal) → MatchAnswer r P Q R ⊥ → ((x : T) → ¬ P x) → ((e' : Refusal) → Q e' → e' ≡ e) → ((n : ℕ) → ¬ R n) → AnswersError r e
-  only_error (Ok x) e h p q n = absurd (p x h)
-  only_error (Err (Error e')) e h p q n = q (refusal e') h
-  only_error (Err (Incomplete (Size m))) e h p q n = absurd (n m h)
-  only_error (Err (Incomplete Unknown)) e h p q n = absurd h
-  only_error (Err (Failure e')) e h p q n = absurd h
-  only_error (Err OutOfMemory) e h p q n = absurd h
-
-  pub only_incomplete : (r : Result T (Refused BerError)) (m : ℕ) → MatchAnswer r P Q R ⊥ → ((x : T) → ¬ P x) → ((e : Refusal) → ¬ Q e) → ((n : ℕ) → R n → n ≡ m) → AnswersIncomplete r m
-  only_incomplete (Ok x) m h p q n = absurd (p x h)
-  only_incomplete (Err (Error e)) m h p q n = absurd (q (refusal e) h)
-  only_incomplete (Err (Incomplete (Size k))) m h p q n = n k h
-  only_incomplete (Err (Incomplete Unknown)) m h p q n = absurd h
-  only_incomplete (Err (Failure e)) m h p q n = absurd h
-  only_incomplete (Err OutOfMemory) m h p q n = absurd h
-
--- the same of a call that may find no memory
+-- M holds where the call may run out of memory
 module _ {T : Type 0} {P : T → Type 0} {Q : Refusal → Type 0} {R : ℕ → Type 0} where
   pub only_ok_or : (M : Type 0) (r : Result T (Refused BerError)) (G : T → Type 0) → MatchAnswer r P Q R M → ((x : T) → P x → G x) → ((e : Refusal) → ¬ Q e) → ((n : ℕ) → ¬ R n) → AnswersOkOr M r G
   only_ok_or M (Ok x) G h p q n = p x h
@@ -43,7 +18,8 @@ module _ {T : Type 0} {P : T → Type 0} {Q : Refusal → Type 0} {R : ℕ → T
   only_ok_or M (Err (Failure e)) G h p q n = h
   only_ok_or M (Err OutOfMemory) G h p q n = h
 
-  pub only_error_or : (M : Type 0) (r : Result T (Refused BerError)) (e : Refusal) → MatchAnswer r P Q R M → ((x : T) → ¬ P x) → ((e' : Refusal) → Q e' → e' ≡ e) → ((n : ℕ) → ¬ R n) → AnswersErrorOr M r e
+  pub only_error_or : (M : Type 0) (r : Result T (Refused BerError)) (e : Refusal) → MatchAnswer r P Q R M → ((x : T) → ¬ P x) → ((e' : Refusal) → Q e' → e' ≡ e) → ((n : ℕ) → ¬ R n)
+      → AnswersErrorOr M r e
   only_error_or M (Ok x) e h p q n = p x h
   only_error_or M (Err (Error e')) e h p q n = q (refusal e') h
   only_error_or M (Err (Incomplete (Size m))) e h p q n = n m h
@@ -51,7 +27,8 @@ module _ {T : Type 0} {P : T → Type 0} {Q : Refusal → Type 0} {R : ℕ → T
   only_error_or M (Err (Failure e')) e h p q n = h
   only_error_or M (Err OutOfMemory) e h p q n = h
 
-  pub only_incomplete_or : (M : Type 0) (r : Result T (Refused BerError)) (m : ℕ) → MatchAnswer r P Q R M → ((x : T) → ¬ P x) → ((e : Refusal) → ¬ Q e) → ((n : ℕ) → R n → n ≡ m) → AnswersIncompleteOr M r m
+  pub only_incomplete_or : (M : Type 0) (r : Result T (Refused BerError)) (m : ℕ) → MatchAnswer r P Q R M → ((x : T) → ¬ P x) → ((e : Refusal) → ¬ Q e) → ((n : ℕ) → R n → n ≡ m)
+      → AnswersIncompleteOr M r m
   only_incomplete_or M (Ok x) m h p q n = p x h
   only_incomplete_or M (Err (Error e)) m h p q n = q (refusal e) h
   only_incomplete_or M (Err (Incomplete (Size k))) m h p q n = n k h
@@ -60,12 +37,14 @@ module _ {T : Type 0} {P : T → Type 0} {Q : Refusal → Type 0} {R : ℕ → T
   only_incomplete_or M (Err OutOfMemory) m h p q n = h
 
 -- what follows from an Ok
-pub ok_weaker : {T : Type 0} {P : T → Type 0} (Q : Refusal → Type 0) (R : ℕ → Type 0) (M : Type 0) (r : Result T (Refused BerError)) (G : T → Type 0) → MatchAnswer r P Q R M → ((x : T) → P x → G x) → IfOk r G
+pub ok_weaker : {T : Type 0} {P : T → Type 0} (Q : Refusal → Type 0) (R : ℕ → Type 0) (M : Type 0) (r : Result T (Refused BerError)) (G : T → Type 0) → MatchAnswer r P Q R M → ((x : T) → P x → G x)
+    → IfOk r G
 ok_weaker Q R M (Ok x) G h f = f x h
 ok_weaker Q R M (Err e) G h f = tt
 
 -- and from a clause of the Ok besides
-pub ok_with : {T : Type 0} {P : T → Type 0} (Q : Refusal → Type 0) (R : ℕ → Type 0) (M : Type 0) (r : Result T (Refused BerError)) (H G : T → Type 0) → MatchAnswer r P Q R M → IfOk r H → ((x : T) → P x → H x → G x) → IfOk r G
+pub ok_with : {T : Type 0} {P : T → Type 0} (Q : Refusal → Type 0) (R : ℕ → Type 0) (M : Type 0) (r : Result T (Refused BerError)) (H G : T → Type 0) → MatchAnswer r P Q R M → IfOk r H
+    → ((x : T) → P x → H x → G x) → IfOk r G
 ok_with Q R M (Ok x) H G h k f = f x h k
 ok_with Q R M (Err e) H G h k f = tt
 

@@ -40,7 +40,9 @@ der_any_lacks_same i n n' (inr (c, p, t, m, rest, b, some, q)) (inr (c', p', t',
 pub der_any_shows_one : (i : List ℕ) → ShowsOne leading_element (λ x. ReadsDerAny i x.1 x.0.now) (SpellsDerAny i) (DerHeaderRefuses i) (DerAnyLacks i)
 der_any_shows_one i = record {
   spelled = λ x r. r.begins;
-  one_value = λ x v r s. (let h = x.1.header in let w = x.1.bytes.now in let z = der_header_same i (w ++ x.0.now) (v.content ++ v.rest) (class_of h) v.class (is_constructed h) v.constructed (number_of h) v.number (length w) (length v.content) r.begins s in let y = fronts_same w v.content x.0.now v.rest z.length z.rest in rw (z.class, z.constructed, z.number, y.0, y.1) refl);
+  one_value =
+      λ x v r s. (let h = x.1.header in let w = x.1.bytes.now in let z = der_header_same i (w ++ x.0.now) (v.content ++ v.rest) (class_of h) v.class (is_constructed h) v.constructed
+      (number_of h) v.number (length w) (length v.content) r.begins s in let y = fronts_same w v.content x.0.now v.rest z.length z.rest in rw (z.class, z.constructed, z.number, y.0, y.1) refl);
   one_refusal = λ e e' r r'. der_header_refusal_same i e e' r r';
   one_lack = λ n n' l l'. der_any_lacks_same i n n' l l';
   not_refused = λ v e s r. der_header_not_refused i (v.content ++ v.rest) v.class v.constructed v.number (length v.content) e s r;
@@ -52,7 +54,9 @@ der_any_shows_one i = record {
 pub any_shows_one : (i : List ℕ) → ShowsOne leading_element (λ x. ReadsAny i x.1 x.0.now) (SpellsAny i) (AnyRefuses i) (AnyLacks i)
 any_shows_one i = record {
   spelled = λ x r. r.element;
-  one_value = λ x v r s. (let h = x.1.header in let z = begins_same i framing_budget framing_budget (class_of h) v.class (is_constructed h) v.constructed (number_of h) v.number x.1.bytes.now v.content x.0.now v.rest r.element s in rw (z.0, z.1, z.2, z.3, z.4) refl);
+  one_value =
+      λ x v r s. (let h = x.1.header in let z = begins_same i framing_budget framing_budget (class_of h) v.class (is_constructed h) v.constructed
+      (number_of h) v.number x.1.bytes.now v.content x.0.now v.rest r.element s in rw (z.0, z.1, z.2, z.3, z.4) refl);
   one_refusal = λ e e' r r'. any_refusal_same i e e' r r';
   one_lack = λ n n' l l'. lacks_same l.1 l'.1 refl;
   not_refused = λ v e s r. begins_not_refused i v.class v.constructed v.number v.content v.rest e s r;
@@ -61,7 +65,8 @@ any_shows_one i = record {
 }
 
 -- a content behind a header of this length
-pub content_shows_one : (l : Length) (k : ℕ) (i : List ℕ) → ShowsOne leading_content (λ x. BeginsWithContent i l k x.1.now x.0.now) (λ v. BeginsWithContent i l k v.0 v.1) (ContentRefuses i l k) (ContentLacks i l k)
+pub content_shows_one : (l : Length) (k : ℕ) (i : List ℕ) → ShowsOne leading_content (λ x. BeginsWithContent i l k x.1.now x.0.now) (λ v. BeginsWithContent i l k v.0 v.1) (ContentRefuses i l k)
+    (ContentLacks i l k)
 content_shows_one l k i = record {
   spelled = λ x r. r;
   one_value = λ x v r s. (let z = content_same i x.1.now v.0 x.0.now v.1 l k r s in rw (z.0, z.1) refl);

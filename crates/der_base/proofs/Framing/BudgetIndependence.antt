@@ -41,7 +41,8 @@ mutual
       ((b, rest, e, n, r.0, q.0), subst (λ u. IsRawList u k) (sym e) (raws_cons_of o b rest k r.1 n q.1))
 
 -- an indefinite length as an element
-pub open_element : (x : Content) (b : List ℕ) (c : Class) (p : Bool) (t : ℕ) (w : List ℕ) (fs : Forms) (d m : ℕ) → t < 2 ^ 32 → 2 ≤ m → p ≡ true → b ≡ identifier c p t ++ 128 ∷ w ++ end_marker → IsOpenContent w c t x fs d (m - 1) → IsElement b m c p t w
+pub open_element : (x : Content) (b : List ℕ) (c : Class) (p : Bool) (t : ℕ) (w : List ℕ) (fs : Forms) (d m : ℕ) → t < 2 ^ 32 → 2 ≤ m → p ≡ true → b ≡ identifier c p t ++ 128 ∷ w ++ end_marker
+    → IsOpenContent w c t x fs d (m - 1) → IsElement b m c p t w
 open_element x b c p t w fs d m ht h2 ep e ho = (ht, omega (arith, h2), inr (ep, h2, (open_spelled x w c t fs d (m - 1) (m - 1) (omega arith) ho).1, e))
 
 mutual
@@ -70,6 +71,3 @@ mutual
 -- the hinge: a spelling within a budget, and one within the whole budget that is an element within this one
 pub hinge : (b : List ℕ) (o : Node) (d k : ℕ) → k ≤ framing_budget → BerSpells b o d k → BerSpells b o d framing_budget × IsElementOf b o k
 hinge b o d k le (f, h) = let r = spelled o b f d k framing_budget le h in ((f, r.0), r.1)
-
-pub hinge_back : (b : List ℕ) (o : Node) (d k : ℕ) → BerSpells b o d framing_budget → IsElementOf b o k → BerSpells b o d k
-hinge_back b o d k (f, h) g = (f, within o b f d k framing_budget h g)

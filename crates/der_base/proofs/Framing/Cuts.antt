@@ -90,11 +90,15 @@ lacks_stuck (in_elements {n = n} c t v rest hv h e) b x (c', p', t', w, inr (ep,
 pub lacks_same : {i i' : List ℕ} {n n' : ℕ} → Lacks i n → Lacks i' n' → i ≡ i' → n ≡ n'
 lacks_same (in_identifier c p t r e) (in_identifier c' p' t' r' e') f = refl
 lacks_same (in_identifier {i = i} c p t r e) (in_length c' p' t' a' bs' h' h1' ha' e') f = absurd (no_tail c c' p p' t t' a' bs' i r e (f ∙ e'))
-lacks_same (in_identifier {i = i} c p t r e) (in_content {n = n'} c' p' t' s' v' h1' hs' e') f = absurd (no_spelled_tail c c' p p' t t' (length v' + n') s' v' i r hs' e (f ∙ e' ∙ append_assoc (identifier c' p' t') s' v'))
-lacks_same (in_identifier {i = i} c p t r e) (in_elements c' t' v' rest' hv' h' e') f = absurd (no_tail c c' p true t t' 128 (v' ++ rest') i r e (f ∙ e' ∙ append_assoc (identifier c' true t') (128 ∷ v') rest'))
+lacks_same (in_identifier {i = i} c p t r e) (in_content {n = n'} c' p' t' s' v' h1' hs' e') f =
+    absurd (no_spelled_tail c c' p p' t t' (length v' + n') s' v' i r hs' e (f ∙ e' ∙ append_assoc (identifier c' p' t') s' v'))
+lacks_same (in_identifier {i = i} c p t r e) (in_elements c' t' v' rest' hv' h' e') f =
+    absurd (no_tail c c' p true t t' 128 (v' ++ rest') i r e (f ∙ e' ∙ append_assoc (identifier c' true t') (128 ∷ v') rest'))
 lacks_same (in_length c' p' t' a' bs' h' h1' ha' e') (in_identifier {i = i} c p t r e) f = absurd (no_tail c c' p p' t t' a' bs' i r e (sym f ∙ e'))
-lacks_same (in_content {n = n'} c' p' t' s' v' h1' hs' e') (in_identifier {i = i} c p t r e) f = absurd (no_spelled_tail c c' p p' t t' (length v' + n') s' v' i r hs' e (sym f ∙ e' ∙ append_assoc (identifier c' p' t') s' v'))
-lacks_same (in_elements c' t' v' rest' hv' h' e') (in_identifier {i = i} c p t r e) f = absurd (no_tail c c' p true t t' 128 (v' ++ rest') i r e (sym f ∙ e' ∙ append_assoc (identifier c' true t') (128 ∷ v') rest'))
+lacks_same (in_content {n = n'} c' p' t' s' v' h1' hs' e') (in_identifier {i = i} c p t r e) f =
+    absurd (no_spelled_tail c c' p p' t t' (length v' + n') s' v' i r hs' e (sym f ∙ e' ∙ append_assoc (identifier c' p' t') s' v'))
+lacks_same (in_elements c' t' v' rest' hv' h' e') (in_identifier {i = i} c p t r e) f =
+    absurd (no_tail c c' p true t t' 128 (v' ++ rest') i r e (sym f ∙ e' ∙ append_assoc (identifier c' true t') (128 ∷ v') rest'))
 lacks_same (in_length c p t a bs h h1 ha e) (in_length c' p' t' a' bs' h' h1' ha' e') f =
     let q = head_same (identifier_same c c' p p' t t' (a ∷ bs) (a' ∷ bs') (sym e ∙ f ∙ e')).3 in
     omega (arith, ha, ha', q.0, ap length q.1)
@@ -109,12 +113,15 @@ lacks_same (in_content {n = n} c p t s v h1 hs e) (in_content {n = n'} c' p' t' 
     let l = any_length_same s s' (length v + n) (length v' + n') v v' hs hs' q.3 in
     omega (arith, l.1, ap length l.2)
 lacks_same (in_content {n = n} c p t s v h1 hs e) (in_elements c' t' v' rest' hv' h' e') f =
-    absurd (any_length_not_open s (length v + n) v (v' ++ rest') hs (identifier_same c c' p true t t' (s ++ v) (128 ∷ (v' ++ rest')) (sym (append_assoc (identifier c p t) s v) ∙ sym e ∙ f ∙ e' ∙ append_assoc (identifier c' true t') (128 ∷ v') rest')).3)
+    absurd (any_length_not_open s (length v + n) v (v' ++ rest') hs (identifier_same c c' p true t t' (s ++ v) (128 ∷ (v' ++ rest'))
+    (sym (append_assoc (identifier c p t) s v) ∙ sym e ∙ f ∙ e' ∙ append_assoc (identifier c' true t') (128 ∷ v') rest')).3)
 lacks_same (in_elements c t v rest hv h e) (in_length c' p' t' a' bs' h' h1' ha' e') f =
     absurd (omega (arith, h1', ha', (head_same (identifier_same c' c p' true t' t (a' ∷ bs') (128 ∷ (v ++ rest)) (sym e' ∙ sym f ∙ e ∙ append_assoc (identifier c true t) (128 ∷ v) rest)).3).0))
 lacks_same (in_elements c t v rest hv h e) (in_content {n = n'} c' p' t' s' v' h1' hs' e') f =
-    absurd (any_length_not_open s' (length v' + n') v' (v ++ rest) hs' (identifier_same c' c p' true t' t (s' ++ v') (128 ∷ (v ++ rest)) (sym (append_assoc (identifier c' p' t') s' v') ∙ sym e' ∙ sym f ∙ e ∙ append_assoc (identifier c true t) (128 ∷ v) rest)).3)
+    absurd (any_length_not_open s' (length v' + n') v' (v ++ rest) hs' (identifier_same c' c p' true t' t (s' ++ v') (128 ∷ (v ++ rest))
+    (sym (append_assoc (identifier c' p' t') s' v') ∙ sym e' ∙ sym f ∙ e ∙ append_assoc (identifier c true t) (128 ∷ v) rest)).3)
 lacks_same (in_elements c t v rest hv h e) (in_elements c' t' v' rest' hv' h' e') f =
-    let q = identifier_same c c' true true t t' (128 ∷ (v ++ rest)) (128 ∷ (v' ++ rest')) (sym (append_assoc (identifier c true t) (128 ∷ v) rest) ∙ sym e ∙ f ∙ e' ∙ append_assoc (identifier c' true t') (128 ∷ v') rest') in
+    let q = identifier_same c c' true true t t' (128 ∷ (v ++ rest)) (128 ∷ (v' ++ rest')) (sym (append_assoc (identifier c true t) (128 ∷ v) rest) ∙ sym e ∙ f ∙ e'
+    ∙ append_assoc (identifier c' true t') (128 ∷ v') rest') in
     let z = chains_same rest rest' (chain hv) (chain hv') (stuck rest (lacks_stuck h)) (stuck rest' (lacks_stuck h')) (head_same q.3).1 in
     lacks_same h h' z.1

@@ -38,7 +38,8 @@ pub open_part : (c : Class) (p : Bool) (t : ℕ) (w b x : List ℕ) → b ≡ id
 open_part c p t w b x d = ap (λ l. l ++ x) d ∙ append_assoc (identifier c p t ++ 128 ∷ w) end_marker x ∙ append_assoc (identifier c p t) (128 ∷ w) (end_marker ++ x)
 
 -- one element at the front of a list is all that there is
-pub element_same : (b b' : List ℕ) (k k' : ℕ) (c c' : Class) (p p' : Bool) (t t' : ℕ) (w w' x y : List ℕ) → IsElement b k c p t w → IsElement b' k' c' p' t' w' → b ++ x ≡ b' ++ y → SameElement b b' c c' p p' t t' w w' x y
+pub element_same : (b b' : List ℕ) (k k' : ℕ) (c c' : Class) (p p' : Bool) (t t' : ℕ) (w w' x y : List ℕ) → IsElement b k c p t w → IsElement b' k' c' p' t' w' → b ++ x ≡ b' ++ y
+    → SameElement b b' c c' p p' t t' w w' x y
 element_same b b' k k' c c' p p' t t' w w' x y (ht, hk, inl (s, hs, d)) (ht', hk', inl (s', hs', d')) e =
     let q = definite_same c c' p p' t t' s s' w w' x y hs hs' (sym (definite_part c p t s w b x d) ∙ e ∙ definite_part c' p' t' s' w' b' y d') in
     record { class = q.0; constructed = q.1; number = q.2; content = q.4; octets = cc; rest = q.5 }
@@ -60,7 +61,8 @@ identifier_some c p t x e =
 
 moved : {b b' : List ℕ} {c c' : Class} {p p' : Bool} {t t' : ℕ} {w w' : List ℕ} (k : ℕ) → b ≡ b' → c ≡ c' → p ≡ p' → t ≡ t' → w ≡ w' → IsElement b k c p t w → IsElement b' k c' p' t' w'
 moved {b = b} {b' = b'} {c = c} {c' = c'} {p = p} {p' = p'} {t = t} {t' = t'} {w = w} k eb ec ep et ew h =
-    subst (λ l. IsElement b' k c' p' t' l) ew (subst (λ l. IsElement b' k c' p' l w) et (subst (λ l. IsElement b' k c' l t w) ep (subst (λ l. IsElement b' k l p t w) ec (subst (λ l. IsElement l k c p t w) eb h))))
+    subst (λ l. IsElement b' k c' p' t' l) ew (subst (λ l. IsElement b' k c' p' l w) et (subst (λ l. IsElement b' k c' l t w) ep
+    (subst (λ l. IsElement b' k l p t w) ec (subst (λ l. IsElement l k c p t w) eb h))))
 
 -- an element has an octet
 pub element_some : (b : List ℕ) (k : ℕ) (c : Class) (p : Bool) (t : ℕ) (w x : List ℕ) → IsElement b k c p t w → [] ≡ b ++ x → ⊥
@@ -76,7 +78,8 @@ open_is_marker : (c : Class) (p : Bool) (t : ℕ) (w : List ℕ) → identifier 
 open_is_marker c p t w e = open_not_end c p t (w ++ (end_marker ++ [])) [] (sym (open_part c p t w end_marker [] (sym e)))
 
 -- a list that begins with an element goes on behind it, and the element keeps to the list's budget
-pub raws_next : {i : List ℕ} {k : ℕ} (b rest : List ℕ) (m : ℕ) (c : Class) (p : Bool) (t : ℕ) (w : List ℕ) → IsRawList i k → IsElement b m c p t w → i ≡ b ++ rest → IsElement b k c p t w × (b ≢ end_marker) × IsRawList rest k
+pub raws_next : {i : List ℕ} {k : ℕ} (b rest : List ℕ) (m : ℕ) (c : Class) (p : Bool) (t : ℕ) (w : List ℕ) → IsRawList i k → IsElement b m c p t w → i ≡ b ++ rest
+    → IsElement b k c p t w × (b ≢ end_marker) × IsRawList rest k
 raws_next b rest m c p t w empty h e = absurd (element_some b m c p t w rest h e)
 raws_next b rest m c p t w (definite {k = k} c' p' t' s' v' rest' ht' hk' hl' hn' d' r') h e =
     let g : IsElement (identifier c' p' t' ++ s' ++ v') k c' p' t' v' = (ht', hk', inl (s', hl', refl)) in

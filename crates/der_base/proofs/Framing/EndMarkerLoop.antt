@@ -41,6 +41,7 @@ module _ (rest : List ℕ) {i u : List ℕ} {k : ℕ} (us : AreElements u (k - 1
 
     -- the content behind the header is refused or cut
     pub content_answered : {T T' : Type 0} (P : T → Type 0) (P' : T' → Type 0) (N M : Type 0) (e : Refused BerError) → 2 ≤ k → (N → M)
-        → MatchAnswer {T = T} (Err e) P (ContentRefuses behind l (k - 1)) (ContentLacks behind l (k - 1)) N → MatchAnswer {T = T'} (Err e) P' (ContentRefuses i Indefinite k) (ContentLacks i Indefinite k) M
+        → MatchAnswer {T = T} (Err e) P (ContentRefuses behind l (k - 1)) (ContentLacks behind l (k - 1)) N
+        → MatchAnswer {T = T'} (Err e) P' (ContentRefuses i Indefinite k) (ContentLacks i Indefinite k) M
     content_answered P P' N M e two memory h =
         passed_on P P' e h (λ x r. refuses_content i u rest behind k x c p t l two us parts begins r) (λ n r. lacks_content i u rest behind k n c p t l two us parts begins r) memory

@@ -26,27 +26,32 @@ pub record SameElement (b b' : List ℕ) (h h' : Length) (c c' : Class) (p p' : 
 
 -- an element that stands where an end marker stands is one
 pub at_marker : {b : List ℕ} {h : Length} {c : Class} {p : Bool} {t : ℕ} {w : List ℕ} {k : ℕ} (x y : List ℕ) → IsElement b h c p t w k → b ++ x ≡ end_marker ++ y → b ≢ end_marker → ⊥
-at_marker x y (definite {b = b} {c = c} {p = p} {t = t} {w = w} s eh ht hk hs d) e n = definite_not_end c p t s w x y hs (λ z. n (d ∙ sym (append_assoc (identifier c p t) s w) ∙ z)) (sym (definite_part (identifier c p t) s w b x d) ∙ e)
+at_marker x y (definite {b = b} {c = c} {p = p} {t = t} {w = w} s eh ht hk hs d) e n =
+    definite_not_end c p t s w x y hs (λ z. n (d ∙ sym (append_assoc (identifier c p t) s w) ∙ z)) (sym (definite_part (identifier c p t) s w b x d) ∙ e)
 at_marker x y (indefinite {b = b} {c = c} {p = p} {t = t} {w = w} eh ep ht hk hw d) e n = open_not_end c p t (w ++ (end_marker ++ x)) y (sym (open_part (identifier c p t) w b x d) ∙ e)
 
 mutual
-  pub element_same : {b b' : List ℕ} {h h' : Length} {c c' : Class} {p p' : Bool} {t t' : ℕ} {w w' : List ℕ} {k k' : ℕ} (x y : List ℕ) → IsElement b h c p t w k → IsElement b' h' c' p' t' w' k' → b ++ x ≡ b' ++ y → SameElement b b' h h' c c' p p' t t' w w' x y
+  pub element_same : {b b' : List ℕ} {h h' : Length} {c c' : Class} {p p' : Bool} {t t' : ℕ} {w w' : List ℕ} {k k' : ℕ} (x y : List ℕ) → IsElement b h c p t w k → IsElement b' h' c' p' t' w' k'
+      → b ++ x ≡ b' ++ y → SameElement b b' h h' c c' p p' t t' w w' x y
   element_same x y (definite {b = b} {c = c} {p = p} {t = t} {w = w} s eh ht hk hs d) (definite {b = b'} {c = c'} {p = p'} {t = t'} {w = w'} s' eh' ht' hk' hs' d') e =
       let q = definite_same c c' p p' t t' s s' w w' x y hs hs' (sym (definite_part (identifier c p t) s w b x d) ∙ e ∙ definite_part (identifier c' p' t') s' w' b' y d') in
       record { length = cc; class = q.0; constructed = q.1; number = q.2; content = q.4; octets = cc; rest = q.5 }
   element_same x y (definite {b = b} {c = c} {p = p} {t = t} {w = w} s eh ht hk hs d) (indefinite {b = b'} {c = c'} {p = p'} {t = t'} {w = w'} eh' ep' ht' hk' hw' d') e =
       absurd (definite_not_open c c' p p' t t' (length w) s (w ++ x) (w' ++ (end_marker ++ y)) hs (sym (definite_part (identifier c p t) s w b x d) ∙ e ∙ open_part (identifier c' p' t') w' b' y d'))
   element_same x y (indefinite {b = b} {c = c} {p = p} {t = t} {w = w} eh ep ht hk hw d) (definite {b = b'} {c = c'} {p = p'} {t = t'} {w = w'} s' eh' ht' hk' hs' d') e =
-      absurd (definite_not_open c' c p' p t' t (length w') s' (w' ++ y) (w ++ (end_marker ++ x)) hs' (sym (definite_part (identifier c' p' t') s' w' b' y d') ∙ sym e ∙ open_part (identifier c p t) w b x d))
+      absurd (definite_not_open c' c p' p t' t (length w') s' (w' ++ y) (w ++ (end_marker ++ x)) hs'
+      (sym (definite_part (identifier c' p' t') s' w' b' y d') ∙ sym e ∙ open_part (identifier c p t) w b x d))
   element_same x y (indefinite {b = b} {c = c} {p = p} {t = t} {w = w} eh ep ht hk hw d) (indefinite {b = b'} {c = c'} {p = p'} {t = t'} {w = w'} eh' ep' ht' hk' hw' d') e =
-      let i = identifier_same c c' p p' t t' (128 ∷ (w ++ (end_marker ++ x))) (128 ∷ (w' ++ (end_marker ++ y))) (sym (open_part (identifier c p t) w b x d) ∙ e ∙ open_part (identifier c' p' t') w' b' y d') in
+      let i = identifier_same c c' p p' t t' (128 ∷ (w ++ (end_marker ++ x))) (128 ∷ (w' ++ (end_marker ++ y)))
+      (sym (open_part (identifier c p t) w b x d) ∙ e ∙ open_part (identifier c' p' t') w' b' y d') in
       let q = elements_same x y hw hw' (head_same i.3).1 in
       record { length = eh ∙ sym eh'; class = i.0; constructed = i.1; number = i.2; content = q.0; octets = cc; rest = q.1 }
 
   -- the end marker behind elements is found at one place
   pub elements_same : {u u' : List ℕ} {k k' : ℕ} (x y : List ℕ) → AreElements u k → AreElements u' k' → u ++ (end_marker ++ x) ≡ u' ++ (end_marker ++ y) → (u ≡ u') × (x ≡ y)
   elements_same x y no_elements no_elements e = (refl, (head_same (head_same e).1).1)
-  elements_same x y no_elements (elements {w = u'} {b = b'} {rest = rest'} g' n' r' d') e = absurd (at_marker (rest' ++ (end_marker ++ y)) x g' (sym (tail_more b' rest' u' (end_marker ++ y) d') ∙ sym e) n')
+  elements_same x y no_elements (elements {w = u'} {b = b'} {rest = rest'} g' n' r' d') e =
+      absurd (at_marker (rest' ++ (end_marker ++ y)) x g' (sym (tail_more b' rest' u' (end_marker ++ y) d') ∙ sym e) n')
   elements_same x y (elements {w = u} {b = b} {rest = rest} g n r d) no_elements e = absurd (at_marker (rest ++ (end_marker ++ x)) y g (sym (tail_more b rest u (end_marker ++ x) d) ∙ e) n)
   elements_same x y (elements {w = u} {b = b} {rest = rest} g n r d) (elements {w = u'} {b = b'} {rest = rest'} g' n' r' d') e =
       let q = element_same (rest ++ (end_marker ++ x)) (rest' ++ (end_marker ++ y)) g g' (sym (tail_more b rest u (end_marker ++ x) d) ∙ e ∙ tail_more b' rest' u' (end_marker ++ y) d') in

@@ -14,9 +14,6 @@ use Rattle.der_base.proofs.Framing.Framed.{elements_more, element_same}
 right : (i s w : List ℕ) → i ++ s ++ w ≡ i ++ (s ++ w)
 right i s w = append_assoc i s w
 
-right4 : (i s w rest : List ℕ) → i ++ s ++ w ++ rest ≡ i ++ (s ++ w) ++ rest
-right4 i s w rest = ap (λ l. l ++ rest) (append_assoc i s w)
-
 -- the lists of elements
 pub raws_are : {w : List ℕ} {k : ℕ} → IsRawList w k → AreElements w k
 raws_are old.empty = no_elements
@@ -33,7 +30,8 @@ are_raws no_elements = old.empty
 are_raws (elements {b = b} {rest = rest} (definite {c = c} {p = p} {t = t} {w = v} s eh ht hk hs e) n r d) =
     old.definite c p t s v rest ht hk hs (λ z. n (e ∙ sym (right (identifier c p t) s v) ∙ z)) (d ∙ ap (λ l. l ++ rest) (e ∙ sym (right (identifier c p t) s v))) (are_raws r)
 are_raws (elements {b = b} {rest = rest} (indefinite {c = c} {p = p} {t = t} {w = v} eh ep ht hk hw e) n r d) =
-    old.indefinite c t v rest ht hk (are_raws hw) (d ∙ ap (λ l. l ++ rest) (e ∙ sym (right (identifier c p t) (128 ∷ v) end_marker)) ∙ ap (λ q. identifier c q t ++ 128 ∷ v ++ end_marker ++ rest) ep) (are_raws r)
+    old.indefinite c t v rest ht hk (are_raws hw) (d ∙ ap (λ l. l ++ rest) (e ∙ sym (right (identifier c p t) (128 ∷ v) end_marker)) ∙ ap (λ q. identifier c q t ++ 128 ∷ v ++ end_marker ++ rest) ep)
+    (are_raws r)
 
 -- an element with the header of the object
 abbrev IsElementFor : List ℕ → Node → Form → ℕ → Type 0
@@ -42,15 +40,19 @@ IsElementFor b (node c p t x) (form h fs) k = (w : List ℕ) × IsElement b h c 
 cons_for : (o : Node) (b rest w : List ℕ) (f : Form) (k : ℕ) → IsElementFor b o f k → b ≢ end_marker → AreElements rest k → w ≡ b ++ rest → AreElements w k
 cons_for (node c p t x) b rest w (form h fs) k (v, g) n r e = elements g n r e
 
-moved : {b b' : List ℕ} {h h' : Length} {c c' : Class} {p p' : Bool} {t t' : ℕ} {w w' : List ℕ} (k : ℕ) → b ≡ b' → h ≡ h' → c ≡ c' → p ≡ p' → t ≡ t' → w ≡ w' → IsElement b h c p t w k → IsElement b' h' c' p' t' w' k
+moved : {b b' : List ℕ} {h h' : Length} {c c' : Class} {p p' : Bool} {t t' : ℕ} {w w' : List ℕ} (k : ℕ) → b ≡ b' → h ≡ h' → c ≡ c' → p ≡ p' → t ≡ t' → w ≡ w' → IsElement b h c p t w k
+    → IsElement b' h' c' p' t' w' k
 moved {b = b} {b' = b'} {h = h} {h' = h'} {c = c} {c' = c'} {p = p} {p' = p'} {t = t} {t' = t'} {w = w} k eb eh ec ep et ew g =
-    subst (λ l. IsElement b' h' c' p' t' l k) ew (subst (λ l. IsElement b' h' c' p' l w k) et (subst (λ l. IsElement b' h' c' l t w k) ep (subst (λ l. IsElement b' h' l p t w k) ec (subst (λ l. IsElement b' l c p t w k) eh (subst (λ l. IsElement l h c p t w k) eb g)))))
+    subst (λ l. IsElement b' h' c' p' t' l k) ew (subst (λ l. IsElement b' h' c' p' l w k) et
+    (subst (λ l. IsElement b' h' c' l t w k) ep (subst (λ l. IsElement b' h' l p t w k) ec (subst (λ l. IsElement b' l c p t w k) eh (subst (λ l. IsElement l h c p t w k) eb g)))))
 
 some : {b : List ℕ} {h : Length} {c : Class} {p : Bool} {t : ℕ} {w : List ℕ} {k : ℕ} (x : List ℕ) → IsElement b h c p t w k → [] ≡ b ++ x → ⊥
 some x (definite {b = b} {c = c} {p = p} {t = t} {w = w} s eh ht hk hs d) e = identifier_some c p t ((s ++ w) ++ x) (e ∙ ap (λ l. l ++ x) d ∙ append_assoc (identifier c p t) (s ++ w) x)
-some x (indefinite {b = b} {c = c} {p = p} {t = t} {w = w} eh ep ht hk hw d) e = identifier_some c p t ((128 ∷ w ++ end_marker) ++ x) (e ∙ ap (λ l. l ++ x) d ∙ append_assoc (identifier c p t) (128 ∷ w ++ end_marker) x)
+some x (indefinite {b = b} {c = c} {p = p} {t = t} {w = w} eh ep ht hk hw d) e =
+    identifier_some c p t ((128 ∷ w ++ end_marker) ++ x) (e ∙ ap (λ l. l ++ x) d ∙ append_assoc (identifier c p t) (128 ∷ w ++ end_marker) x)
 
-split_as : {i : List ℕ} {k : ℕ} (b rest : List ℕ) (h : Length) (c : Class) (p : Bool) (t : ℕ) (w : List ℕ) (m : ℕ) → AreElements i k → IsElement b h c p t w m → i ≡ b ++ rest → IsElement b h c p t w k × (b ≢ end_marker) × AreElements rest k
+split_as : {i : List ℕ} {k : ℕ} (b rest : List ℕ) (h : Length) (c : Class) (p : Bool) (t : ℕ) (w : List ℕ) (m : ℕ) → AreElements i k → IsElement b h c p t w m → i ≡ b ++ rest
+    → IsElement b h c p t w k × (b ≢ end_marker) × AreElements rest k
 split_as b rest h c p t w m no_elements g e = absurd (some rest g e)
 split_as b rest h c p t w m (elements {k = k} {b = b'} {rest = rest'} {h = h'} {c = c'} {p = p'} {t = t'} {v = v'} g' n' r' d') g e =
     let q = element_same rest' rest g' g (sym d' ∙ e) in
@@ -105,8 +107,19 @@ mutual
       let q = element_same [] [] (definite s eh ht hk hs a) g refl in
       (ht, hd, hk, inl (s, v, eh, hs, a ∙ sym (right (identifier c p t) s v), content_then x v c p t fs d (subst (λ l. HasContent l c p t x fs d) (sym q.content) hc)))
   spells_then (node c p t x) b (form h fs) d k (hd, w, g, hc) (v, indefinite eh ep ht hk hw a) =
-      let q = element_same [] [] (indefinite eh ep ht hk hw a) g refl in
-      (ht, hd, omega (arith, hk), inr (v, eh, ep, hk, a ∙ sym (right (identifier c p t) (128 ∷ v) end_marker), open_then x v c p t fs d (k - 1) ep (subst (λ l. HasContent l c p t x fs d) (sym q.content) hc) hw))
+      let q = element_same [] [] (indefinite eh ep ht hk hw a) g refl in (
+        ht,
+        hd,
+        omega (arith, hk),
+        inr (
+          v,
+          eh,
+          ep,
+          hk,
+          a ∙ sym (right (identifier c p t) (128 ∷ v) end_marker),
+          open_then x v c p t fs d (k - 1) ep (subst (λ l. HasContent l c p t x fs d) (sym q.content) hc) hw,
+        ),
+      )
 
   pub content_then : (x : Content) (w : List ℕ) (c : Class) (p : Bool) (t : ℕ) (fs : Forms) (d : ℕ) → HasContent w c p t x fs d → IsContent w c p t x fs d framing_budget
   content_then (sequence l) w c p t fs d (ec, et, ep, j) = (ec, et, ep, joins_then l w fs (d - 1) j)

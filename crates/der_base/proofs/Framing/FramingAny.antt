@@ -40,7 +40,8 @@ any_lacks_header i n h = let q = header_cut h.1 in (q.0, q.1, (λ e r. refused e
     refused e (inr (c, t, v, ht, d, r)) = ber_header_not_lacking i v c true t Indefinite n (open_header i v c t ht d) h.1
 
 -- a refusal of an element of indefinite length shows behind its header
-behind_open : (i behind : List ℕ) (c : Class) (p : Bool) (t : ℕ) (l : Length) (e : Refusal) → BeginsWithHeader i c p t l behind → AnyRefuses i e → (l ≡ Indefinite) × InsideRefuses behind framing_budget e
+behind_open : (i behind : List ℕ) (c : Class) (p : Bool) (t : ℕ) (l : Length) (e : Refusal) → BeginsWithHeader i c p t l behind → AnyRefuses i e
+    → (l ≡ Indefinite) × InsideRefuses behind framing_budget e
 behind_open i behind c p t l e h (inl r) = absurd (ber_header_not_refused i behind c p t l e h r)
 behind_open i behind c p t l e h (inr (c', t', v, ht, d, r)) =
     let s = ber_header_same i behind v c c' p true t t' l Indefinite h (open_header i v c' t' ht d) in

@@ -1,10 +1,13 @@
 -- Inputs that end in an element: they are proper fronts of one, lack one number of octets, and show no refusal.
-use Rattle.std.proofs.Common.{◌≡◌, ◌≢◌, ℕ, zero, suc, ◌+◌, ◌-◌, ◌≤◌, Bool, true, List, [], ◌∷◌, ◌++◌, length, refl, sym, ap, subst, ◌∙◌, arith, append_assoc, length-append, ◌⊎◌, inl, inr, ⊎_elim, append-nil}
+use Rattle.std.proofs.Common.{◌≡◌, ◌≢◌, ℕ, zero, suc, ◌+◌, ◌-◌, ◌≤◌, Bool, true, List, [], ◌∷◌, ◌++◌, length, refl, sym}
+use Rattle.std.proofs.Common.{ap, subst, ◌∙◌, arith, append_assoc, length-append, ◌⊎◌, inl, inr, ⊎_elim, append-nil}
 use Rattle.der_base.specs.declared.header.Class.{Class}
 use Rattle.der_base.specs.declared.header.Length.{Length}
 use Rattle.der_base.specs.declared.header.Length.TheVariants.{Definite, Indefinite}
 use Rattle.der_base.specs.Content.{ContentRefuses, ContentLacks, InsideLacks}
-use Rattle.der_base.specs.Cut.{AreShapes, no_shapes, definite_shape, indefinite_shape, IsShape, IsCut, Lacks, in_identifier as lacks_in_identifier, in_length as lacks_in_length, in_content, in_elements}
+use Rattle.der_base.specs.Cut.{AreShapes, no_shapes, definite_shape, indefinite_shape, IsShape, IsCut, Lacks}
+use Rattle.der_base.specs.Cut.{in_identifier as lacks_in_identifier, in_length as lacks_in_length, in_content}
+use Rattle.der_base.specs.Cut.{in_elements}
 use Rattle.der_base.specs.Fault.{BerHeaderRefuses, InsideRefuses, at_header, too_deep, further_in}
 use Rattle.der_base.specs.Inner.Framed.{IsElement, definite, indefinite, AreElements, no_elements, elements}
 use Rattle.der_base.specs.Headers.{BeginsWithHeader, HeaderLacks, in_identifier, in_length, BerHeaderLacks}
@@ -73,7 +76,8 @@ marker_or_not (zero ∷ zero ∷ a ∷ r) = inr (λ e. cc)
 
 last_shape : {b : List ℕ} → IsShape b → b ≢ end_marker → AreShapes b
 last_shape {b = b} (c, p, t, v, inl (s, hs, e)) n = definite_shape c p t s v [] hs (λ z. n (e ∙ z)) (e ∙ sym (append-nil (identifier c p t ++ s ++ v))) no_shapes
-last_shape {b = b} (c, p, t, v, inr (ep, hv, e)) n = indefinite_shape c t v [] hv (e ∙ ap (λ q. identifier c q t ++ 128 ∷ v ++ end_marker) ep ∙ sym (append-nil (identifier c true t ++ 128 ∷ v ++ end_marker))) no_shapes
+last_shape {b = b} (c, p, t, v, inr (ep, hv, e)) n =
+    indefinite_shape c t v [] hv (e ∙ ap (λ q. identifier c q t ++ 128 ∷ v ++ end_marker) ep ∙ sym (append-nil (identifier c true t ++ 128 ∷ v ++ end_marker))) no_shapes
 
 shapes_append : {u : List ℕ} (x : List ℕ) → AreShapes u → AreShapes x → AreShapes (u ++ x)
 shapes_append x no_shapes h = h
@@ -89,7 +93,8 @@ open_is_cut i u r c t e hu (x, some, g) =
     (λ z. (x, some, (c, true, t, u, inr (refl, hu, joined x ∙ ap (λ l. a ++ 128 ∷ u ++ l) z))))
     (λ n.
     let hv = shapes_append (r ++ x) hu (last_shape g n) in
-    let o = joined (x ++ end_marker) ∙ ap (λ l. a ++ 128 ∷ u ++ l) (sym (append_assoc r x end_marker)) ∙ sym (append_assoc (a ++ 128 ∷ u) (r ++ x) end_marker) ∙ ap (λ l. l ++ end_marker) (append_assoc a (128 ∷ u) (r ++ x)) in
+    let o = joined (x ++ end_marker) ∙ ap (λ l. a ++ 128 ∷ u ++ l) (sym (append_assoc r x end_marker)) ∙ sym (append_assoc (a ++ 128 ∷ u) (r ++ x) end_marker)
+    ∙ ap (λ l. l ++ end_marker) (append_assoc a (128 ∷ u) (r ++ x)) in
     (x ++ end_marker, some_first x end_marker some, (c, true, t, u ++ (r ++ x), inr (refl, hv, o))))
     (marker_or_not (r ++ x))
 
@@ -145,7 +150,8 @@ lacks_header v u rest k n h1 hu d h =
     refused e (inr (inl (hk, (c, p, t, l, behind, g)))) = ber_header_not_lacking rest behind c p t l n g h.1
     refused e (inr (inr (c, t, r, g, hi))) = ber_header_not_lacking rest r c true t Indefinite n g h.1
 
-pub lacks_content : (v u rest behind : List ℕ) (k n : ℕ) (c : Class) (p : Bool) (t : ℕ) (l : Length) → 2 ≤ k → AreElements u (k - 1) → v ≡ u ++ rest → BeginsWithHeader rest c p t l behind → ContentLacks behind l (k - 1) n → InsideLacks v k n
+pub lacks_content : (v u rest behind : List ℕ) (k n : ℕ) (c : Class) (p : Bool) (t : ℕ) (l : Length) → 2 ≤ k → AreElements u (k - 1) → v ≡ u ++ rest → BeginsWithHeader rest c p t l behind
+    → ContentLacks behind l (k - 1) n → InsideLacks v k n
 unfolding ShowsFirst
 lacks_content v u rest behind k n c p t (Definite m) h2 hu d h (h1, z) =
     let q = content_cut rest behind c p t m n h h1 z in
@@ -165,7 +171,8 @@ lacks_content v u rest behind k n c p t Indefinite h2 hu d h inside =
     refused e (inr (inr (c', t', r, g, hi))) = inside.not_refused e (subst (λ i. InsideRefuses i (k - 1) e) (sym (ber_header_same rest behind r c c' p true t t' Indefinite Indefinite h g).rest) hi)
 
 -- a refusal behind the elements that were read
-pub refuses_content : (v u rest behind : List ℕ) (k : ℕ) (e : Refusal) (c : Class) (p : Bool) (t : ℕ) (l : Length) → 2 ≤ k → AreElements u (k - 1) → v ≡ u ++ rest → BeginsWithHeader rest c p t l behind → ContentRefuses behind l (k - 1) e → InsideRefuses v k e
+pub refuses_content : (v u rest behind : List ℕ) (k : ℕ) (e : Refusal) (c : Class) (p : Bool) (t : ℕ) (l : Length) → 2 ≤ k → AreElements u (k - 1) → v ≡ u ++ rest
+    → BeginsWithHeader rest c p t l behind → ContentRefuses behind l (k - 1) e → InsideRefuses v k e
 refuses_content v u rest behind k e c p t (Definite m) h2 hu d h r = absurd r
 refuses_content v u rest behind k e c p t Indefinite h2 hu d h r =
     further_in u c t behind h2 h.number (d ∙ ap (λ l. u ++ l) (indefinite_header rest behind c p t h) ∙ sym (append_assoc u (identifier c true t) (128 ∷ behind))) (are_raws hu) r

@@ -34,7 +34,8 @@ pub open_header : (i v : List ℕ) (c : Class) (t : ℕ) → t < 2 ^ 32 → i �
 open_header i v c t h e = record { following = 128 ∷ v; octets = e; number = h; length = (refl, refl) }
 
 -- an element begins with its header
-pub element_has_header : {b : List ℕ} {h : Length} {c : Class} {p : Bool} {t : ℕ} {w : List ℕ} {k : ℕ} (i x : List ℕ) → IsElement b h c p t w k → i ≡ b ++ x → (r : List ℕ) × BeginsWithHeader i c p t h r
+pub element_has_header : {b : List ℕ} {h : Length} {c : Class} {p : Bool} {t : ℕ} {w : List ℕ} {k : ℕ} (i x : List ℕ) → IsElement b h c p t w k → i ≡ b ++ x
+    → (r : List ℕ) × BeginsWithHeader i c p t h r
 element_has_header i x (definite {b = b} {h = h} {c = c} {p = p} {t = t} {w = w} s eh ht hk hs d) e =
     let o = e ∙ ap (λ l. l ++ x) d ∙ append_assoc (identifier c p t) (s ++ w) x ∙ ap (λ l. identifier c p t ++ l) (append_assoc s w x) in
     (w ++ x, rw eh (record { following = s ++ (w ++ x); octets = o; number = ht; length = (s, hs, refl) }))
@@ -94,7 +95,8 @@ marker_starts_not x k (b, y, h, c, p, t, w, g, n, e) = at_marker y x g (sym e) n
 abbrev Opens : List ℕ → ℕ → Type 0
 Opens v k = (w x : List ℕ) × (2 ≤ k) × AreElements w (k - 1) × (v ≡ w ++ (end_marker ++ x))
 
-element_opens : {b : List ℕ} {h : Length} {c' : Class} {p' : Bool} {t' : ℕ} {w : List ℕ} {k : ℕ} (x v : List ℕ) (c : Class) (t : ℕ) → IsElement b h c' p' t' w k → identifier c true t ++ 128 ∷ v ≡ b ++ x → Opens v k
+element_opens : {b : List ℕ} {h : Length} {c' : Class} {p' : Bool} {t' : ℕ} {w : List ℕ} {k : ℕ} (x v : List ℕ) (c : Class) (t : ℕ) → IsElement b h c' p' t' w k
+    → identifier c true t ++ 128 ∷ v ≡ b ++ x → Opens v k
 element_opens x v c t (definite {b = b} {c = c'} {p = p'} {t = t'} {w = w} s eh ht hk hs d) e =
     let o = e ∙ ap (λ l. l ++ x) d ∙ append_assoc (identifier c' p' t') (s ++ w) x ∙ ap (λ l. identifier c' p' t' ++ l) (append_assoc s w x) in
     absurd (definite_not_open c' c p' true t' t (length w) s (w ++ x) v hs (sym o))
@@ -132,11 +134,12 @@ inside_not_refused w x h a q (at_header {e = e} u rest hk d hu r) = elim (compar
   | inr (inr s) ↦ some_not_refused rest e (starts_header rest _ s) r
 ]
 inside_not_refused w x h a q (too_deep hk z) = omega (arith, h, hk)
-inside_not_refused w x h a q (further_in u c t rest hk ht d hu r) = elim (compare (identifier c true t ++ 128 ∷ rest) (end_marker ++ x) (raws_are hu) a (sym (append_assoc u (identifier c true t) (128 ∷ rest)) ∙ sym d ∙ q)) [
-  | inl (f, z) ↦ open_not_end c true t rest x z
-  | inr (inl s) ↦ marker_starts_not x _ s
-  | inr (inr s) ↦ (let o = starts_opens rest c t _ s in inside_not_refused o.0 o.1 o.2 o.3 o.4 r)
-]
+inside_not_refused w x h a q (further_in u c t rest hk ht d hu r) =
+    elim (compare (identifier c true t ++ 128 ∷ rest) (end_marker ++ x) (raws_are hu) a (sym (append_assoc u (identifier c true t) (128 ∷ rest)) ∙ sym d ∙ q)) [
+      | inl (f, z) ↦ open_not_end c true t rest x z
+      | inr (inl s) ↦ marker_starts_not x _ s
+      | inr (inr s) ↦ (let o = starts_opens rest c t _ s in inside_not_refused o.0 o.1 o.2 o.3 o.4 r)
+    ]
 
 -- behind elements, a refused header is met once
 header_met : (u u' r r' : List ℕ) (k k' : ℕ) (e : Refusal) → AreElements u k → AreElements u' k' → u ++ r ≡ u' ++ r' → BerHeaderRefuses r e → (Starts r' k → ⊥) → (u ≡ u') × (r ≡ r')

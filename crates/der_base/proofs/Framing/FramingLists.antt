@@ -53,7 +53,8 @@ behind_marker i x behind c p t l e h = (ber_header_same i behind x c _ p _ t _ l
 -- elements
 
 -- a header and its content are one
-pub element_from : (i behind w rest : List ℕ) (k : ℕ) (c : Class) (p : Bool) (t : ℕ) (l : Length) → 1 ≤ k → BeginsWithHeader i c p t l behind → BeginsWithContent behind l k w rest → (b : List ℕ) × IsElement b l c p t w k × (i ≡ b ++ rest)
+pub element_from : (i behind w rest : List ℕ) (k : ℕ) (c : Class) (p : Bool) (t : ℕ) (l : Length) → 1 ≤ k → BeginsWithHeader i c p t l behind → BeginsWithContent behind l k w rest
+    → (b : List ℕ) × IsElement b l c p t w k × (i ≡ b ++ rest)
 element_from i behind w rest k c p t (Definite n) h1 h (z, d) =
     let g = definite_header i behind c p t n h in
     let a = identifier c p t in (
@@ -69,7 +70,8 @@ element_from i behind w rest k c p t Indefinite h1 h (h2, hw, d) =
     )
 
 -- one more of them behind those that were read
-pub one_more_element : (i rest behind after w u : List ℕ) (k : ℕ) (c : Class) (p : Bool) (t : ℕ) (l : Length) → 1 ≤ k → AreElements u k → i ≡ u ++ rest → BeginsWithHeader rest c p t l behind → BeginsWithContent behind l k w after
+pub one_more_element : (i rest behind after w u : List ℕ) (k : ℕ) (c : Class) (p : Bool) (t : ℕ) (l : Length) → 1 ≤ k → AreElements u k → i ≡ u ++ rest → BeginsWithHeader rest c p t l behind
+    → BeginsWithContent behind l k w after
     → ((x : List ℕ) → ¬ (rest ≡ end_marker ++ x)) → (u' : List ℕ) × AreElements u' k × (i ≡ u' ++ after)
 one_more_element i rest behind after w u k c p t l h1 hu e h g n =
     let b = element_from rest behind w after k c p t l h1 h g in
@@ -97,7 +99,8 @@ inside_element k e x r c' t' (indefinite {b = b} {c = c} {p = p} {t = t} {w = w}
     inside_not_refused w x (omega (arith, lt, hm)) (elements_more (k - 1 - 1) (omega (arith, lt)) hw) ((head_same q.3).1 ∙ append_assoc w end_marker x) hi
 
 -- a refusal behind one element
-behind_one : {b : List ℕ} {h : Length} {c : Class} {p : Bool} {t : ℕ} {w : List ℕ} {m : ℕ} (v x : List ℕ) (k : ℕ) (e : Refusal) → IsElement b h c p t w m → 1 ≤ m → m < k → InsideRefuses v k e → v ≡ b ++ x → InsideRefuses x k e
+behind_one : {b : List ℕ} {h : Length} {c : Class} {p : Bool} {t : ℕ} {w : List ℕ} {m : ℕ} (v x : List ℕ) (k : ℕ) (e : Refusal) → IsElement b h c p t w m → 1 ≤ m → m < k → InsideRefuses v k e
+    → v ≡ b ++ x → InsideRefuses x k e
 behind_one v x k e g h1 lt (at_header u r hk d hu hr) z =
     ⊎_elim
     (λ o. let a = element_has_header v x g z in absurd (ber_header_not_refused v a.0 _ _ _ _ e a.1 (subst (λ i. BerHeaderRefuses i e) (ap (λ i. i ++ r) (sym o) ∙ sym d) hr)))

@@ -7,7 +7,8 @@ use Rattle.der_base.specs.Spelling.{IsRawList, empty, definite, indefinite, end_
 use Rattle.der_base.proofs.Octets.Identifiers.{head_same, fronts_same, identifier_short, identifier_same, length_same, length_not_open}
 
 -- a definite element ends where it ends
-pub definite_same : (c c' : Class) (p p' : Bool) (t t' : ℕ) (s s' v v' x y : List ℕ) → SpellsLength s (length v) → SpellsLength s' (length v') → identifier c p t ++ (s ++ (v ++ x)) ≡ identifier c' p' t' ++ (s' ++ (v' ++ y))
+pub definite_same : (c c' : Class) (p p' : Bool) (t t' : ℕ) (s s' v v' x y : List ℕ) → SpellsLength s (length v) → SpellsLength s' (length v')
+    → identifier c p t ++ (s ++ (v ++ x)) ≡ identifier c' p' t' ++ (s' ++ (v' ++ y))
     → (c ≡ c') × (p ≡ p') × (t ≡ t') × (s ≡ s') × (v ≡ v') × (x ≡ y)
 definite_same c c' p p' t t' s s' v v' x y h h' e =
     let i = identifier_same c c' p p' t t' (s ++ (v ++ x)) (s' ++ (v' ++ y)) e in
@@ -28,7 +29,8 @@ zero_length = (omega arith, inl (omega arith, refl, refl))
 pub marker_is : (x : List ℕ) → identifier Universal false 0 ++ 0 ∷ x ≡ end_marker ++ x
 marker_is x = ap (λ l. l ++ 0 ∷ x) (identifier_short Universal false 0 (omega arith))
 
-pub definite_not_end : (c : Class) (p : Bool) (t : ℕ) (s v x y : List ℕ) → SpellsLength s (length v) → identifier c p t ++ s ++ v ≢ end_marker → identifier c p t ++ (s ++ (v ++ x)) ≡ end_marker ++ y → ⊥
+pub definite_not_end : (c : Class) (p : Bool) (t : ℕ) (s v x y : List ℕ) → SpellsLength s (length v) → identifier c p t ++ s ++ v ≢ end_marker → identifier c p t ++ (s ++ (v ++ x)) ≡ end_marker ++ y
+    → ⊥
 definite_not_end c p t s v x y h n e =
     let q = definite_same c Universal p false t 0 s (0 ∷ []) v [] x y h zero_length (e ∙ sym (marker_is y)) in
     let r : identifier c p t ++ s ++ v ≡ identifier Universal false 0 ++ (0 ∷ []) ++ [] = cc in
@@ -84,11 +86,3 @@ raws_more k' m empty = empty
 raws_more k' m (definite c p t s v rest ht hk hl hn d h) = definite c p t s v rest ht (omega (arith, m, hk)) hl hn d (raws_more k' m h)
 raws_more k' m (indefinite {k = k} c t v rest ht hk hv d h) =
     indefinite c t v rest ht (omega (arith, m, hk)) (raws_more (k' - 1) (omega (arith, m, hk)) hv) d (raws_more k' m h)
-
--- one list behind another
-pub raws_append : {u : List ℕ} {k : ℕ} (x : List ℕ) → IsRawList u k → IsRawList x k → IsRawList (u ++ x) k
-raws_append x empty r = r
-raws_append x (definite {w = w} c p t s v rest ht hk hl hn e h) r =
-    definite c p t s v (rest ++ x) ht hk hl hn (tail_more (identifier c p t ++ s ++ v) rest w x e) (raws_append x h r)
-raws_append x (indefinite {w = w} c t v rest ht hk hv e h) r =
-    indefinite c t v (rest ++ x) ht hk hv (tail_more (identifier c true t ++ 128 ∷ v ++ end_marker) rest w x e) (raws_append x h r)

@@ -37,7 +37,8 @@ any_length_not_open (b ∷ bs) n x y h e =
     ⊎_elim (λ a. omega (arith, p.0, a.0)) (λ a. omega (arith, p.0, a.1, a.2)) h
 
 -- a definite element ends where it ends
-definite_same : (c c' : Class) (p p' : Bool) (t t' : ℕ) (s s' v v' x y : List ℕ) → SpellsAnyLength s (length v) → SpellsAnyLength s' (length v') → identifier c p t ++ (s ++ (v ++ x)) ≡ identifier c' p' t' ++ (s' ++ (v' ++ y))
+definite_same : (c c' : Class) (p p' : Bool) (t t' : ℕ) (s s' v v' x y : List ℕ) → SpellsAnyLength s (length v) → SpellsAnyLength s' (length v')
+    → identifier c p t ++ (s ++ (v ++ x)) ≡ identifier c' p' t' ++ (s' ++ (v' ++ y))
     → (c ≡ c') × (p ≡ p') × (t ≡ t') × (s ≡ s') × (v ≡ v') × (x ≡ y)
 definite_same c c' p p' t t' s s' v v' x y h h' e =
     let i = identifier_same c c' p p' t t' (s ++ (v ++ x)) (s' ++ (v' ++ y)) e in
@@ -54,7 +55,8 @@ definite_not_open c c' p p' t t' n s x y h e =
 zero_length : SpellsAnyLength (0 ∷ []) 0
 zero_length = inl (omega arith, refl, refl)
 
-definite_not_end : (c : Class) (p : Bool) (t : ℕ) (s v x y : List ℕ) → SpellsAnyLength s (length v) → identifier c p t ++ s ++ v ≢ end_marker → identifier c p t ++ (s ++ (v ++ x)) ≡ end_marker ++ y → ⊥
+definite_not_end : (c : Class) (p : Bool) (t : ℕ) (s v x y : List ℕ) → SpellsAnyLength s (length v) → identifier c p t ++ s ++ v ≢ end_marker → identifier c p t ++ (s ++ (v ++ x)) ≡ end_marker ++ y
+    → ⊥
 definite_not_end c p t s v x y h n e =
     let q = definite_same c Universal p false t 0 s (0 ∷ []) v [] x y h zero_length (e ∙ sym (marker_is y)) in
     let r : identifier c p t ++ s ++ v ≡ identifier Universal false 0 ++ (0 ∷ []) ++ [] = cc in

@@ -4,12 +4,13 @@ use Rattle.der_base.specs.declared.header.Class.{Class}
 use Rattle.der_base.specs.Tree.{Node, node}
 use Rattle.der_base.specs.Spelling.{BeginsWithElement, BerSpells, framing_budget}
 use Rattle.der_base.proofs.Framing.Elements.{IsElement, element_same, begins_element, element_begins}
-use Rattle.der_base.proofs.Framing.BudgetIndependence.{IsElementOf, hinge, hinge_back}
+use Rattle.der_base.proofs.Framing.BudgetIndependence.{IsElementOf, hinge}
 use Rattle.der_base.proofs.Spellings.Contents.{spelling_same}
 use Rattle.der_base.proofs.Times.OneReading.{times_same}
 
 -- a list begins with one element only, whatever the budgets
-pub begins_same : (i : List ℕ) (k k' : ℕ) (c c' : Class) (p p' : Bool) (t t' : ℕ) (w w' rest rest' : List ℕ) → BeginsWithElement i k c p t w rest → BeginsWithElement i k' c' p' t' w' rest' → (c ≡ c') × (p ≡ p') × (t ≡ t') × (w ≡ w') × (rest ≡ rest')
+pub begins_same : (i : List ℕ) (k k' : ℕ) (c c' : Class) (p p' : Bool) (t t' : ℕ) (w w' rest rest' : List ℕ) → BeginsWithElement i k c p t w rest → BeginsWithElement i k' c' p' t' w' rest'
+    → (c ≡ c') × (p ≡ p') × (t ≡ t') × (w ≡ w') × (rest ≡ rest')
 begins_same i k k' c c' p p' t t' w w' rest rest' h h' =
     let g = begins_element i k c p t w rest h in
     let g' = begins_element i k' c' p' t' w' rest' h' in
@@ -32,6 +33,3 @@ element_of b (node c p t x) k (w, h) = let g = begins_element b k c p t w [] h i
 
 pub narrow : (b : List ℕ) (o : Node) (d k : ℕ) → BerSpells b o d k → k ≤ framing_budget → BerSpells b o d framing_budget × IsOneElement b o k
 narrow b o d k h le = let q = hinge b o d k le h in (q.0, one_element b o k q.1)
-
-pub narrow_back : (b : List ℕ) (o : Node) (d k : ℕ) → BerSpells b o d framing_budget → IsOneElement b o k → BerSpells b o d k
-narrow_back b o d k h g = hinge_back b o d k h (element_of b o k g)

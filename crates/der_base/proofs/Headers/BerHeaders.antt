@@ -32,7 +32,8 @@ laws = record {
 reads : (i rest : List ℕ) (c : Class) (p : Bool) (t : ℕ) (l : Length) → BeginsWithHeader i c p t l rest → Reads Begins i c p t l rest
 reads i rest c p t l h = record { number = h.number; following = h.following; octets = h.octets; length = h.length }
 
-pub ber_header_same : (i rest rest' : List ℕ) (c c' : Class) (p p' : Bool) (t t' : ℕ) (l l' : Length) → BeginsWithHeader i c p t l rest → BeginsWithHeader i c' p' t' l' rest' → SameHeader c c' p p' t t' l l' rest rest'
+pub ber_header_same : (i rest rest' : List ℕ) (c c' : Class) (p p' : Bool) (t t' : ℕ) (l l' : Length) → BeginsWithHeader i c p t l rest → BeginsWithHeader i c' p' t' l' rest'
+    → SameHeader c c' p p' t t' l l' rest rest'
 ber_header_same i rest rest' c c' p p' t t' l l' h k = header_same laws i rest rest' c c' p p' t t' l l' (reads i rest c p t l h) (reads i rest' c' p' t' l' k)
 
 pub ber_header_not_refused : (i rest : List ℕ) (c : Class) (p : Bool) (t : ℕ) (l : Length) (e : Refusal) → BeginsWithHeader i c p t l rest → BerHeaderRefuses i e → ⊥
@@ -45,7 +46,8 @@ pub ber_header_refusal_same : (i : List ℕ) (e e' : Refusal) → BerHeaderRefus
 ber_header_refusal_same i e e' h h' = refusal_same laws i e e' h h'
 
 -- the header that is read is the one that begins the input
-pub ber_header_only : (i rest rest' : List ℕ) (c : Class) (p : Bool) (t : ℕ) (l : Length) (h : Header) → BeginsWithHeader i c p t l rest → ReadsHeader i h rest' → IsHeader h c p t l (Some (identifier c p t)) × (rest' ≡ rest)
+pub ber_header_only : (i rest rest' : List ℕ) (c : Class) (p : Bool) (t : ℕ) (l : Length) (h : Header) → BeginsWithHeader i c p t l rest → ReadsHeader i h rest'
+    → IsHeader h c p t l (Some (identifier c p t)) × (rest' ≡ rest)
 ber_header_only i rest rest' c p t l h b r =
     let s = ber_header_same i rest' rest (class_of h) c (is_constructed h) p (number_of h) t (length_of h) l r.begins b in
     (read_header h (class_of h) c (is_constructed h) p (number_of h) t (length_of h) l s.class s.constructed s.number s.length refl refl refl refl r.raw_tag, s.rest)
@@ -54,7 +56,9 @@ ber_header_only i rest rest' c p t l h b r =
 pub ber_header_shows_one : (i : List ℕ) → ShowsOne leading_header (λ x. ReadsHeader i x.1 x.0.now) (SpellsHeader i) (BerHeaderRefuses i) (BerHeaderLacks i)
 ber_header_shows_one i = record {
   spelled = λ x r. r.begins;
-  one_value = λ x v r s. (let h = x.1 in let z = ber_header_same i x.0.now v.rest (class_of h) v.class (is_constructed h) v.constructed (number_of h) v.number (length_of h) v.length r.begins s in rw (z.class, z.constructed, z.number, z.length, z.rest) refl);
+  one_value =
+      λ x v r s. (let h = x.1 in let z = ber_header_same i x.0.now v.rest (class_of h) v.class (is_constructed h) v.constructed (number_of h) v.number (length_of h) v.length r.begins s in
+      rw (z.class, z.constructed, z.number, z.length, z.rest) refl);
   one_refusal = λ e e' r r'. ber_header_refusal_same i e e' r r';
   one_lack = λ n n' l l'. header_lacks_same i n n' l.1 l'.1;
   not_refused = λ v e s r. ber_header_not_refused i v.rest v.class v.constructed v.number v.length e s r;

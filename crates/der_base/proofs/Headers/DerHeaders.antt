@@ -36,7 +36,8 @@ reads i rest c p t n h = record {
   length = record { octets = refl; length = h.length };
 }
 
-pub der_header_same : (i rest rest' : List ℕ) (c c' : Class) (p p' : Bool) (t t' n n' : ℕ) → BeginsWithDerHeader i c p t n rest → BeginsWithDerHeader i c' p' t' n' rest' → SameHeader c c' p p' t t' n n' rest rest'
+pub der_header_same : (i rest rest' : List ℕ) (c c' : Class) (p p' : Bool) (t t' n n' : ℕ) → BeginsWithDerHeader i c p t n rest → BeginsWithDerHeader i c' p' t' n' rest'
+    → SameHeader c c' p p' t t' n n' rest rest'
 der_header_same i rest rest' c c' p p' t t' n n' h k = header_same laws i rest rest' c c' p p' t t' n n' (reads i rest c p t n h) (reads i rest' c' p' t' n' k)
 
 pub der_header_not_refused : (i rest : List ℕ) (c : Class) (p : Bool) (t n : ℕ) (e : Refusal) → BeginsWithDerHeader i c p t n rest → DerHeaderRefuses i e → ⊥
@@ -49,7 +50,8 @@ pub der_header_refusal_same : (i : List ℕ) (e e' : Refusal) → DerHeaderRefus
 der_header_refusal_same i e e' h h' = refusal_same laws i e e' h h'
 
 -- the header that is read is the one that begins the input
-pub der_header_only : (i rest rest' : List ℕ) (c : Class) (p : Bool) (t n : ℕ) (h : Header) → BeginsWithDerHeader i c p t n rest → ReadsDerHeader i h rest' → IsHeader h c p t (Definite n) (Some (identifier c p t)) × (rest' ≡ rest)
+pub der_header_only : (i rest rest' : List ℕ) (c : Class) (p : Bool) (t n : ℕ) (h : Header) → BeginsWithDerHeader i c p t n rest → ReadsDerHeader i h rest'
+    → IsHeader h c p t (Definite n) (Some (identifier c p t)) × (rest' ≡ rest)
 der_header_only i rest rest' c p t n h b r =
     let s = der_header_same i rest' rest (class_of h) c (is_constructed h) p (number_of h) t r.size n r.begins b in
     (read_header h (class_of h) c (is_constructed h) p (number_of h) t (Definite r.size) (Definite n) s.class s.constructed s.number (ap Definite s.length) refl refl refl r.length r.raw_tag, s.rest)
@@ -58,7 +60,9 @@ der_header_only i rest rest' c p t n h b r =
 pub der_header_shows_one : (i : List ℕ) → ShowsOne leading_header (λ x. ReadsDerHeader i x.1 x.0.now) (SpellsDerHeader i) (DerHeaderRefuses i) (DerHeaderLacks i)
 der_header_shows_one i = record {
   spelled = λ x r. (r.size, r.length, r.begins);
-  one_value = λ x v r s. (let h = x.1 in let z = der_header_same i x.0.now v.rest (class_of h) v.class (is_constructed h) v.constructed (number_of h) v.number r.size s.0 r.begins s.2 in let l : length_of h ≡ v.length = r.length ∙ ap Definite z.length ∙ sym s.1 in rw (z.class, z.constructed, z.number, l, z.rest) refl);
+  one_value =
+      λ x v r s. (let h = x.1 in let z = der_header_same i x.0.now v.rest (class_of h) v.class (is_constructed h) v.constructed (number_of h) v.number r.size s.0 r.begins s.2 in
+      let l : length_of h ≡ v.length = r.length ∙ ap Definite z.length ∙ sym s.1 in rw (z.class, z.constructed, z.number, l, z.rest) refl);
   one_refusal = λ e e' r r'. der_header_refusal_same i e e' r r';
   one_lack = λ n n' l l'. header_lacks_same i n n' l.1 l'.1;
   not_refused = λ v e s r. der_header_not_refused i v.rest v.class v.constructed v.number s.0 e s.2 r;

@@ -1,4 +1,5 @@
--- A header in front of the input, a refusal that it shows, and the end of the input within a header: one of them holds at most, and each in one way. All of it stands on the same laws of length octets, those of BER or those of DER.
+-- A header at the start of the input, a refusal that the input shows, and the end of the input within a header: at most
+-- one of them holds, and each in one way. All of it follows from the same laws of length octets, those of BER or of DER.
 use Rattle.std.proofs.Common.{◌≡◌, ◌≢◌, ℕ, ◌^◌, ◌<◌, Bool, Some, List, [], ◌∷◌, ◌++◌, length, refl, sym, ap, subst, ◌∙◌, arith, append_assoc, inl, inr, ⊎_elim, ◌⊎◌, append-nil, Err}
 use Rattle.der_base.specs.declared.error.Err.{Err as Refused}
 use Rattle.der_base.specs.declared.error.Error.{Error as BerError}
@@ -126,7 +127,8 @@ abbrev pub Cut : (Bool → List ℕ → Refusal → Type 0) → List ℕ → ℕ
 Cut Refuses i n = IsHeaderCut i × HeaderLacks i n × ((e : Refusal) → ¬ Shows Refuses i e)
 
 module _ {L : Type 0} {Begins : Bool → List ℕ → L → List ℕ → Type 0} {Refuses : Bool → List ℕ → Refusal → Type 0} (laws : LengthLaws Begins Refuses) where
-  pub header_same : (i rest rest' : List ℕ) (c c' : Class) (p p' : Bool) (t t' : ℕ) (l l' : L) → Reads Begins i c p t l rest → Reads Begins i c' p' t' l' rest' → SameHeader c c' p p' t t' l l' rest rest'
+  pub header_same : (i rest rest' : List ℕ) (c c' : Class) (p p' : Bool) (t t' : ℕ) (l l' : L) → Reads Begins i c p t l rest → Reads Begins i c' p' t' l' rest'
+      → SameHeader c c' p p' t t' l l' rest rest'
   header_same i rest rest' c c' p p' t t' l l' h k =
       let q = identifier_same c c' p p' t t' h.following k.following (sym h.octets ∙ k.octets) in
       let b : Begins p h.following l' rest' = rw (q.1, q.3) k.length in

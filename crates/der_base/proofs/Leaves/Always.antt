@@ -11,7 +11,9 @@ use Rattle.der_base.specs.Tree.{Content, end_of_content, boolean, integer, bit_s
 use Rattle.der_base.specs.Leaf.{is_list, is_time, is_mapped, IsStringOf, IsLeafContent}
 use Rattle.der_base.specs.LeafRefusal.{ber_tests, range_tests, BerLeafRefuses, IsNotTime}
 use Rattle.der_base.specs.Refusal.{Refusal}
-use Rattle.der_base.proofs.Leaves.Decided.{Decided, never, sure, decided_like, decided_and, decided_not, decided_when, decided_true, decided_false, decided_equal, decided_less, decided_empty, decided_all, decided_utf8}
+use Rattle.der_base.proofs.Leaves.Decided.{Decided, never, sure, decided_like, decided_and, decided_not, decided_when}
+use Rattle.der_base.proofs.Leaves.Decided.{decided_true, decided_false, decided_equal, decided_less, decided_empty}
+use Rattle.der_base.proofs.Leaves.Decided.{decided_all, decided_utf8}
 use Rattle.der_base.proofs.Leaves.Refusals.{AllDecided, NoneHolds, first_or_none, row_decided}
 use Rattle.der_base.proofs.Times.TimesDecided.{decided_time}
 

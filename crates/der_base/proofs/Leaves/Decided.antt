@@ -72,7 +72,8 @@ pub decided_list : (v w : List ℕ) → Decided (v ≡ w)
 decided_list [] [] = inl refl
 decided_list [] (b ∷ w) = inr (λ e. cc)
 decided_list (a ∷ v) [] = inr (λ e. cc)
-decided_list (a ∷ v) (b ∷ w) = decided_like ((a ≡ b) × (v ≡ w)) (a ∷ v ≡ b ∷ w) (λ h. (let e : a ≡ b = h.0 in let f : v ≡ w = h.1 in cc)) (λ h. (cc, cc)) (decided_and _ _ (decided_equal a b) (decided_list v w))
+decided_list (a ∷ v) (b ∷ w) =
+    decided_like ((a ≡ b) × (v ≡ w)) (a ∷ v ≡ b ∷ w) (λ h. (let e : a ≡ b = h.0 in let f : v ≡ w = h.1 in cc)) (λ h. (cc, cc)) (decided_and _ _ (decided_equal a b) (decided_list v w))
 
 pub decided_each : (P : ℕ → Type 0) (w : List ℕ) → ((b : ℕ) → Decided (P b)) → Decided (All P w)
 decided_each P [] d = inl (All-nil P)
@@ -101,7 +102,9 @@ decided_cut [] P d = decided_like (P [] []) ((u v : List ℕ) × ([] ≡ u ++ v)
     only ([], [], e, h) = h
     only ([], (b ∷ v), e, h) = absurd (cc)
     only ((b ∷ u), v, e, h) = absurd (cc)
-decided_cut (b ∷ w) P d = decided_like (P [] (b ∷ w) ⊎ ((u v : List ℕ) × (w ≡ u ++ v) × P (b ∷ u) v)) ((u v : List ℕ) × (b ∷ w ≡ u ++ v) × P u v) there back (decided_or _ _ (d [] (b ∷ w)) (decided_cut w (λ u v. P (b ∷ u) v) (λ u v. d (b ∷ u) v)))
+decided_cut (b ∷ w) P d =
+    decided_like (P [] (b ∷ w) ⊎ ((u v : List ℕ) × (w ≡ u ++ v) × P (b ∷ u) v)) ((u v : List ℕ) × (b ∷ w ≡ u ++ v) × P u v) there back
+    (decided_or _ _ (d [] (b ∷ w)) (decided_cut w (λ u v. P (b ∷ u) v) (λ u v. d (b ∷ u) v)))
   where
     there : (P [] (b ∷ w) ⊎ ((u v : List ℕ) × (w ≡ u ++ v) × P (b ∷ u) v)) → (u v : List ℕ) × (b ∷ w ≡ u ++ v) × P u v
     there (inl h) = ([], b ∷ w, refl, h)

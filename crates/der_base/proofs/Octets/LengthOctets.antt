@@ -1,5 +1,7 @@
 -- Length octets at the front of a list: one reading, one refusal or one number of octets that are lacking, and no two of these.
-use Rattle.std.proofs.Common.{◌≡◌, ◌≢◌, ℕ, zero, suc, ◌-◌, ◌^◌, ◌<◌, ◌≤◌, ◌==◌, Bool, true, false, nat_lt, if◌then◌else◌, List, [], ◌∷◌, ◌++◌, length, take, drop, refl, sym, ap, ◌∙◌, subst, arith, length-append, inl, inr, ⊎_elim, ◌⊎◌}
+use Rattle.std.proofs.Common.{◌≡◌, ◌≢◌, ℕ, zero, suc, ◌-◌, ◌^◌, ◌<◌, ◌≤◌, ◌==◌, Bool, true, false, nat_lt}
+use Rattle.std.proofs.Common.{if◌then◌else◌, List, [], ◌∷◌, ◌++◌, length, take, drop, refl, sym, ap, ◌∙◌, subst, arith}
+use Rattle.std.proofs.Common.{length-append, inl, inr, ⊎_elim, ◌⊎◌}
 use Rattle.std.proofs.Math.Seq.{take-append_seam, drop-append_seam}
 use Rattle.std.proofs.lemmas.Bool.Decides.{nat_tests}
 use Rattle.der_base.specs.declared.header.Length.{Length}
@@ -211,8 +213,15 @@ zeros (suc n) = let z = zeros n in (0 ∷ z.0, omega (arith, z.1))
 pub lacks_then_length : (s : List ℕ) (n : ℕ) → LengthLacks s n → (r : List ℕ) × (length r ≡ n) × AreLengthOctets (s ++ r)
 lacks_then_length s n (before_length e m) = (0 ∷ [], sym m, inl (0, subst (λ l. SpellsAnyLength (l ++ 0 ∷ []) 0) (sym e) (inl (omega arith, refl, refl))))
 lacks_then_length s n (in_length b bs h p c e) =
-    let z = zeros n in
-    (z.0, z.1, inl (number (bs ++ z.0), subst (λ l. SpellsAnyLength (l ++ z.0) (number (bs ++ z.0))) (sym e) (inr (h, omega (arith, z.1, length-append bs z.0), omega (arith, z.1, length-append bs z.0), refl))))
+    let z = zeros n in (
+      z.0,
+      z.1,
+      inl (
+        number (bs ++ z.0),
+        subst (λ l. SpellsAnyLength (l ++ z.0) (number (bs ++ z.0))) (sym e)
+            (inr (h, omega (arith, z.1, length-append bs z.0), omega (arith, z.1, length-append bs z.0), refl)),
+      ),
+    )
 
 pub no_more : (xs ys : List ℕ) → xs ++ ys ≡ [] → ys ≡ []
 no_more [] ys e = e

@@ -25,7 +25,8 @@ announced_begins {b} {behind} {w} {rest} p n a h l e =
     (b ∷ w, subst (λ m. SpellsLength (b ∷ w) m) (sym e) (announced_spells a h l), ap (λ v. b ∷ v) a.octets)
 
 -- where they begin with no 0, and the number does not fit one octet, they are the fewest
-pub announced_fewest : {b : ℕ} {behind w rest : List ℕ} (n : ℕ) → Announces b behind w rest → IsBytes behind → get_or w 0 0 ≢ 0 → 128 ≤ n → n < 2 ^ 64 → n ≡ number w → BeginsWithDerLength (b ∷ behind) n rest
+pub announced_fewest : {b : ℕ} {behind w rest : List ℕ} (n : ℕ) → Announces b behind w rest → IsBytes behind → get_or w 0 0 ≢ 0 → 128 ≤ n → n < 2 ^ 64 → n ≡ number w
+    → BeginsWithDerLength (b ∷ behind) n rest
 announced_fewest {b} {behind} {w} {rest} n a k z m l e = record {
   octets = ap (λ v. b ∷ v) a.octets ∙ ap (λ v. v ++ rest) (fewest w (bytes_front w rest (subst IsBytes a.octets k)) z (sym e) a.count);
   length = l;
@@ -46,6 +47,7 @@ announced_zero {b} {behind} {w} a h z = λ e.
     let o = (head_same (e ∙ shortest_long (number w) h)).1 in
     octets_head (number w) (omega arith) (sym (ap (λ v. get_or v 0 0) o) ∙ z)
 
-pub announced_refused : {b : ℕ} {behind w rest : List ℕ} → Announces b behind w rest → 128 < b → number w < 2 ^ 64 → b ∷ w ≢ shortest_length (number w) → DerLengthRefuses (b ∷ behind) (der_constraint LengthNotMinimal)
+pub announced_refused : {b : ℕ} {behind w rest : List ℕ} → Announces b behind w rest → 128 < b → number w < 2 ^ 64 → b ∷ w ≢ shortest_length (number w)
+    → DerLengthRefuses (b ∷ behind) (der_constraint LengthNotMinimal)
 announced_refused {b} {behind} {w} {rest} a h l z =
     inr (inr (inr ((b ∷ w, rest, number w, ap (λ v. b ∷ v) a.octets, announced_spells a h l, z), refl)))

@@ -27,7 +27,8 @@ turned_length (b ∷ w) = ap suc (turned_length w)
 turned_number : (m n : ℕ) (w : List ℕ) → Each IsOctet w → number_from m w + number_from n (turned w) + 1 ≡ (m + n + 1) * 256 ^ length w
 turned_number m n [] h = omega arith
 turned_number m n (b ∷ w) h =
-    let i : number_from (m * 256 + b) w + number_from (n * 256 + (255 - b)) (turned w) + 1 ≡ (m * 256 + b + (n * 256 + (255 - b)) + 1) * 256 ^ length w = turned_number (m * 256 + b) (n * 256 + (255 - b)) w h.1 in
+    let i : number_from (m * 256 + b) w + number_from (n * 256 + (255 - b)) (turned w) + 1 ≡ (m * 256 + b + (n * 256 + (255 - b)) + 1) * 256 ^ length w =
+    turned_number (m * 256 + b) (n * 256 + (255 - b)) w h.1 in
     let e : m * 256 + b + (n * 256 + (255 - b)) + 1 ≡ (m + n + 1) * 256 = omega (arith, h.0) in
     i ∙ ap (λ k. k * 256 ^ length w) e ∙ mul_assoc (m + n + 1) 256 (256 ^ length w) ∙ ap (λ k. (m + n + 1) * k) (mul_comm 256 (256 ^ length w) ∙ sym (pow-suc 256 (length w)))
 
@@ -75,7 +76,13 @@ minimal_fewest w v are also m some e = elim (sign w are (some_of_minimal w m)) [
   | inr (n, q, k, _) ↦ elim (sign v also some) [
     | inl (j, r) ↦ absurd (let z : pos j ≡ negsuc n = sym r ∙ e ∙ q in cc)
     | inr (j, r, l, s) ↦ (let same : n ≡ j = (let z : negsuc n ≡ negsuc j = sym q ∙ sym e ∙ r in cc) in
-        omega (arith, turned_length w, turned_length v, ap length (shortest_of_value (turned w) n (turned_are w) (turned_minimal w are m) k), shortest_integer_fewest (turned v) n (turned_are v) s (l ∙ ap pos (sym same))))
+        omega (
+          arith,
+          turned_length w,
+          turned_length v,
+          ap length (shortest_of_value (turned w) n (turned_are w) (turned_minimal w are m) k),
+          shortest_integer_fewest (turned v) n (turned_are v) s (l ∙ ap pos (sym same)),
+        ))
   ]
 ]
 

@@ -1,11 +1,13 @@
 -- The fewest octets of a number, of a length and of an integer, and the fewest groups of a tag number.
-use Rattle.std.proofs.Common.{◌≡◌, ◌≢◌, ℕ, zero, suc, Bool, true, false, List, [], ◌∷◌, ◌+◌, ◌*◌, ◌/◌, ◌^◌, ◌%◌, ◌<◌, ◌≤◌, refl, sym, ap, subst, ◌∙◌, arith, inl, inr, pos, if◌then◌else◌, length, ⊎_elim}
+use Rattle.std.proofs.Common.{◌≡◌, ◌≢◌, ℕ, zero, suc, Bool, true, false, List, [], ◌∷◌, ◌+◌, ◌*◌, ◌/◌, ◌^◌, ◌%◌, ◌<◌}
+use Rattle.std.proofs.Common.{◌≤◌, refl, sym, ap, subst, ◌∙◌, arith, inl, inr, pos, if◌then◌else◌, length, ⊎_elim}
 use Rattle.std.specs.Prelude.{◌-ℤ◌, nat_lt}
 use Rattle.std.proofs.lemmas.Int.{ints}
 use Rattle.std.proofs.Math.Nat.{pow-suc, mul-le-mul_right, mul_assoc, mul_comm}
 use Rattle.std.proofs.lemmas.Bool.{cases_lt}
 use Rattle.std.proofs.lemmas.Bool.Decides.{nat_tests}
-use Rattle.der_base.specs.Octets.{number, number_from, octets, octets_before, groups, groups_before, groups_value, integer_value, shortest_integer, shortest_length, needs_zero, SpellsAnyLength, SpellsLength}
+use Rattle.der_base.specs.Octets.{number, number_from, octets, octets_before, groups, groups_before, groups_value}
+use Rattle.der_base.specs.Octets.{integer_value, shortest_integer, shortest_length, needs_zero, SpellsAnyLength}
 use Rattle.der_base.specs.Laws.{AreGroups}
 use Rattle.der_base.specs.Leaf.{IsMinimalInteger}
 use Rattle.der_base.proofs.AllByRecursion.{Each}
@@ -72,10 +74,14 @@ octets_of_number b bs some small are = octets_back (0 * 256 + b) _ bs are (omega
 
 pub number_below : (m : ℕ) (bs : List ℕ) → Each IsOctet bs → number_from m bs < suc m * 256 ^ length bs
 number_below m [] are = omega arith
-number_below m (b ∷ bs) are = let i : number_from (m * 256 + b) bs < suc (m * 256 + b) * 256 ^ length bs = number_below (m * 256 + b) bs are.1 in rw (pow-suc 256 (length bs)) (scaled m b (256 ^ length bs) (number_from (m * 256 + b) bs) are.0 i)
+number_below m (b ∷ bs) are =
+    let i : number_from (m * 256 + b) bs < suc (m * 256 + b) * 256 ^ length bs = number_below (m * 256 + b) bs are.1 in
+    rw (pow-suc 256 (length bs)) (scaled m b (256 ^ length bs) (number_from (m * 256 + b) bs) are.0 i)
   where
     scaled : (m b p x : ℕ) → b < 256 → x < suc (m * 256 + b) * p → x < suc m * (p * 256)
-    scaled m b p x h k = let f : suc (m * 256 + b) * p ≤ suc m * 256 * p = mul-le-mul_right p (omega arith) in let e : suc m * 256 * p ≡ suc m * (p * 256) = rw (mul_assoc (suc m) 256 p, mul_comm 256 p) refl in omega arith
+    scaled m b p x h k =
+        let f : suc (m * 256 + b) * p ≤ suc m * 256 * p = mul-le-mul_right p (omega arith) in let e : suc m * 256 * p ≡ suc m * (p * 256) = rw (mul_assoc (suc m) 256 p, mul_comm 256 p) refl in
+        omega arith
 
 too_low : (x y n : ℕ) → x < y → pos x -ℤ pos y ≡ pos n → ⊥
 too_low x y n l k = omega (arith, ints)
@@ -166,9 +172,6 @@ shortest_length_spells n h =
     (λ a. subst (λ s. SpellsAnyLength s n) (sym (length_long n a)) (inr (omega (arith, octets_few 126 n h), refl, octets_some n (omega arith), sym (number_octets n))))
     (cases_lt n 128)
 
-pub shortest_length_fits : (n : ℕ) → n < 2 ^ 64 → SpellsLength (shortest_length n) n
-shortest_length_fits n h = (h, shortest_length_spells n (omega arith))
-
 pub shortest_length_are : (n : ℕ) → n < 256 ^ 126 → Each IsOctet (shortest_length n)
 shortest_length_are n h =
     ⊎_elim
@@ -245,7 +248,8 @@ shortest_integer_fewest (suc b ∷ c ∷ bs) n are some e =
 
 -- and none as few are others
 pub shortest_integer_one : (w : List ℕ) (n : ℕ) → Each IsOctet w → integer_value w ≡ pos n → length w ≡ length (shortest_integer n) → w ≡ shortest_integer n
-shortest_integer_one w n are e l = number_same w (shortest_integer n) l are (shortest_integer_are n) (value_number w n are e ∙ sym (value_number (shortest_integer n) n (shortest_integer_are n) (integer_shortest n)))
+shortest_integer_one w n are e l =
+    number_same w (shortest_integer n) l are (shortest_integer_are n) (value_number w n are e ∙ sym (value_number (shortest_integer n) n (shortest_integer_are n) (integer_shortest n)))
   where
     value_number : (w : List ℕ) (n : ℕ) → Each IsOctet w → integer_value w ≡ pos n → number w ≡ n
     value_number [] n are e = cc
@@ -278,7 +282,9 @@ groups_below m (b ∷ bs) =
     rw (pow-suc 128 (length bs)) (scaled m (b % 128) (128 ^ length bs) (groups_value (m * 128 + b % 128) bs) (omega arith) i)
   where
     scaled : (m b p x : ℕ) → b < 128 → x < suc (m * 128 + b) * p → x < suc m * (p * 128)
-    scaled m b p x h k = let f : suc (m * 128 + b) * p ≤ suc m * 128 * p = mul-le-mul_right p (omega arith) in let e : suc m * 128 * p ≡ suc m * (p * 128) = rw (mul_assoc (suc m) 128 p, mul_comm 128 p) refl in omega arith
+    scaled m b p x h k =
+        let f : suc (m * 128 + b) * p ≤ suc m * 128 * p = mul-le-mul_right p (omega arith) in let e : suc m * 128 * p ≡ suc m * (p * 128) = rw (mul_assoc (suc m) 128 p, mul_comm 128 p) refl in
+        omega arith
 
 pub groups_before_few : (k most n : ℕ) (after : List ℕ) → n ≤ most → n < 128 ^ k → length (groups_before most n after) ≤ k + length after
 groups_before_few k zero zero after h g = omega arith

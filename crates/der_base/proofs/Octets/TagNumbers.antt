@@ -155,24 +155,11 @@ bad_tag_is_large i c p t rest e (a, b, bs, r, f, m, h, k) =
 pub bad_tag_no_identifier : (i : List ℕ) (c : Class) (p : Bool) (t : ℕ) (rest : List ℕ) → t < 2 ^ 32 → i ≡ identifier c p t ++ rest → HasBadTag i → ⊥
 bad_tag_no_identifier i c p t rest h e b = omega (arith, h, bad_tag_is_large i c p t rest e b)
 
--- and there they do.
-pub identifier_of_long : (i : List ℕ) (c : Class) (p : Bool) (t : ℕ) (rest : List ℕ) → 2 ^ 32 ≤ t → i ≡ identifier c p t ++ rest → HasBadTag i
-identifier_of_long i c p t rest h e =
-    let o = open_groups (t / 128) in (
-      leading_bits c p + 31,
-      t % 128,
-      o,
-      rest,
-      e ∙ ap (λ l. l ++ rest) (identifier_long c p t (omega (arith, h)) ∙ ap (λ l. (leading_bits c p + 31) ∷ l) (groups_split t)) ∙ ap (λ l. (leading_bits c p + 31) ∷ l) (append_assoc o ((t % 128) ∷ []) rest),
-      omega arith,
-      open_high (t / 128),
-      inr (inr (omega (arith, h, ap (groups_value 0) (groups_split t), value_groups t))),
-    )
-
 -- identifier octets that are cut are no whole ones
 pub cut_no_identifier : (i : List ℕ) (c : Class) (p : Bool) (t : ℕ) (rest : List ℕ) → i ≡ identifier c p t ++ rest → IsCutIdentifier i → ⊥
 cut_no_identifier i c p t rest e x =
-    let q = identifier_same c x.class p x.constructed t x.number (rest ++ x.missing) [] (sym (append_assoc (identifier c p t) rest x.missing) ∙ ap (λ l. l ++ x.missing) (sym e) ∙ x.octets ∙ sym (append-nil (identifier x.class x.constructed x.number))) in
+    let q = identifier_same c x.class p x.constructed t x.number (rest ++ x.missing) [] (sym (append_assoc (identifier c p t) rest x.missing) ∙ ap (λ l. l ++ x.missing) (sym e) ∙ x.octets
+    ∙ sym (append-nil (identifier x.class x.constructed x.number))) in
     x.some (nil_tail rest x.missing q.3)
   where
     nil_tail : (xs ys : List ℕ) → xs ++ ys ≡ [] → ys ≡ []

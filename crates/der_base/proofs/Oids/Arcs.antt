@@ -147,7 +147,3 @@ read_more all b w k n h high = record {
 
     larger : n * 128 + b % 128 < 128 ^ (k + 1)
     larger = omega (arith, h.small, ap (λ m. 128 ^ m) (add-one k), pow-suc 128 k)
-
--- none is left open at the end
-pub read_end : (all : List ℕ) (k n : ℕ) → ReadSoFar all [] k n → k ≡ 0
-read_end all k n h = let e : (k == 0) ≡ true = h.whole in grind (arith, nat_tests)

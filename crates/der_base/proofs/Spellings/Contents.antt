@@ -5,7 +5,9 @@ use Rattle.der_base.specs.declared.header.Class.TheVariants.{Universal, Applicat
 use Rattle.der_base.specs.declared.time.ASN1DateTime.{ASN1DateTime}
 use Rattle.der_base.specs.Text.{is_one_of, is_text_type}
 use Rattle.der_base.specs.Time.{IsTimeText}
-use Rattle.der_base.specs.Tree.{Node, node, Content, end_of_content, boolean, integer, bit_string, string, null, enumerated, object_identifier, relative_oid, time, sequence, set, absent, present, tagged, unknown, Nodes, no_nodes, nodes}
+use Rattle.der_base.specs.Tree.{Node, node, Content, end_of_content, boolean, integer, bit_string, string, null}
+use Rattle.der_base.specs.Tree.{enumerated, object_identifier, relative_oid, time, sequence, set, absent, present}
+use Rattle.der_base.specs.Tree.{tagged, unknown, Nodes, no_nodes, nodes}
 use Rattle.der_base.specs.Leaf.{is_mapped, is_time, IsLeafContent}
 use Rattle.der_base.specs.Spelling.{IsKept, framing_budget, Form, form, Forms, no_forms, forms, BerSpellsAs, BerSpells, IsContent, IsOpenContent, Joins, OpenJoins}
 use Rattle.der_base.proofs.Leaves.Always.{each_string}
@@ -120,7 +122,8 @@ framed b c p t x (form h fs) d k (ht, hd, hk, inl (s, w, eh, hs, e, hc)) = (fs, 
 framed b c p t x (form h fs) d k (ht, hd, hk, inr (w, eh, ep, h2, e, ho)) =
     (fs, (w, k - 1, open_element x b c p t w fs d k ht h2 ep e ho, subst (λ q. IsContent w c q t x fs d (k - 1)) (sym ep) (closed x w c t fs d (k - 1) ho)))
 
-content_moved : {w w' : List ℕ} {c c' : Class} {p p' : Bool} {t t' : ℕ} (x : Content) (fs : Forms) (d k : ℕ) → w ≡ w' → c ≡ c' → p ≡ p' → t ≡ t' → IsContent w c p t x fs d k → IsContent w' c' p' t' x fs d k
+content_moved : {w w' : List ℕ} {c c' : Class} {p p' : Bool} {t t' : ℕ} (x : Content) (fs : Forms) (d k : ℕ) → w ≡ w' → c ≡ c' → p ≡ p' → t ≡ t' → IsContent w c p t x fs d k
+    → IsContent w' c' p' t' x fs d k
 content_moved {w = w} {w' = w'} {c = c} {c' = c'} {p = p} {p' = p'} {t = t} x fs d k ew ec ep et h =
     subst (λ l. IsContent w' c' p' l x fs d k) et (subst (λ l. IsContent w' c' l t x fs d k) ep (subst (λ l. IsContent w' l p t x fs d k) ec (subst (λ l. IsContent l c p t x fs d k) ew h)))
 

@@ -1,9 +1,12 @@
 -- What is written for a time in UTC passes the tests of DER.
-use Rattle.std.proofs.Common.{◌≡◌, ◌≢◌, ℕ, ◌-◌, ◌/◌, ◌*◌, ◌^◌, ◌<◌, ◌⊎◌, Some, None, List, [], ◌∷◌, ◌++◌, length, replicate, refl, sym, ap, subst, ◌∙◌, arith, inl, inr, append_assoc, codes, length-append}
+use Rattle.std.proofs.Common.{◌≡◌, ◌≢◌, ℕ, ◌-◌, ◌/◌, ◌*◌, ◌^◌, ◌<◌, ◌⊎◌, Some, None, List, [], ◌∷◌, ◌++◌, length}
+use Rattle.std.proofs.Common.{replicate, refl, sym, ap, subst, ◌∙◌, arith, inl, inr, append_assoc, codes, length-append}
 use Rattle.der_base.specs.declared.time.ASN1DateTime.{ASN1DateTime}
 use Rattle.der_base.specs.declared.time.ASN1TimeZone.TheVariants.{Z}
 use Rattle.der_base.specs.LeafRefusal.{time_tests, HasLooseFraction}
-use Rattle.der_base.specs.Time.{two_digits, four_digits, IsDigit, AreSeconds, IsFraction, IsMoment, month_to_minute, IsUtcTime, IsGeneralizedTime, IsTimeText, at_least_digits, without_last_zeros, or_zero, fraction_text, time_text}
+use Rattle.der_base.specs.Time.{two_digits, four_digits, IsDigit, AreSeconds, IsFraction, IsMoment, month_to_minute}
+use Rattle.der_base.specs.Time.{IsUtcTime, IsGeneralizedTime, IsTimeText, at_least_digits, without_last_zeros, or_zero}
+use Rattle.der_base.specs.Time.{fraction_text, time_text}
 use Rattle.der_base.proofs.Octets.Identifiers.{fronts_same}
 use Rattle.der_base.proofs.Leaves.Refusals.{NoneHolds}
 use Rattle.der_base.proofs.AllByRecursion.{Each, each_append, each_at, each_from_all, each_map}
@@ -18,18 +21,40 @@ few_seconds s n (inr h) = h.0
 -- the text behind the year
 pub utc_written : (t : ASN1DateTime) → t.year < 100 → IsMoment t → t.second < 60 → t.nanosecond ≡ None → t.tz ≡ Z
     → time_text 23 t ≡ two_digits t.year ++ (month_to_minute t ++ (two_digits t.second ++ codes "Z"))
-utc_written t y m s n z = rw (n, z, two_written t.year y, two_written t.month (omega (arith, m.month)), two_written t.day (omega (arith, m.day)), two_written t.hour (omega (arith, m.hour)), two_written t.minute (omega (arith, m.minute)), two_written t.second (omega (arith, s))) refl
+utc_written t y m s n z =
+    rw (
+      n,
+      z,
+      two_written t.year y,
+      two_written t.month (omega (arith, m.month)),
+      two_written t.day (omega (arith, m.day)),
+      two_written t.hour (omega (arith, m.hour)),
+      two_written t.minute (omega (arith, m.minute)),
+      two_written t.second (omega (arith, s)),
+    ) refl
 
 pub generalized_written : (t : ASN1DateTime) → t.year < 10000 → IsMoment t → t.second < 60 → t.tz ≡ Z
     → time_text 24 t ≡ four_digits t.year ++ (month_to_minute t ++ (two_digits t.second ++ (fraction_text t.nanosecond ++ codes "Z")))
-generalized_written t y m s z = rw (z, four_written t.year y, two_written t.month (omega (arith, m.month)), two_written t.day (omega (arith, m.day)), two_written t.hour (omega (arith, m.hour)), two_written t.minute (omega (arith, m.minute)), two_written t.second (omega (arith, s))) refl
+generalized_written t y m s z =
+    rw (
+      z,
+      four_written t.year y,
+      two_written t.month (omega (arith, m.month)),
+      two_written t.day (omega (arith, m.day)),
+      two_written t.hour (omega (arith, m.hour)),
+      two_written t.minute (omega (arith, m.minute)),
+      two_written t.second (omega (arith, s)),
+    ) refl
 
 pub two_are : (n : ℕ) → Each IsDigit (two_digits n)
 two_are n = (digit_is (n / 10), (digit_is n, tt))
 
 -- the digits in front of a fraction
 pub front_are : (t : ASN1DateTime) → Each IsDigit (month_to_minute t ++ two_digits t.second)
-front_are t = each_append IsDigit (month_to_minute t) (two_digits t.second) (each_append IsDigit (two_digits t.month ++ two_digits t.day ++ two_digits t.hour) (two_digits t.minute) (each_append IsDigit (two_digits t.month ++ two_digits t.day) (two_digits t.hour) (each_append IsDigit (two_digits t.month) (two_digits t.day) (two_are t.month) (two_are t.day)) (two_are t.hour)) (two_are t.minute)) (two_are t.second)
+front_are t =
+    each_append IsDigit (month_to_minute t) (two_digits t.second) (each_append IsDigit (two_digits t.month ++ two_digits t.day ++ two_digits t.hour) (two_digits t.minute)
+    (each_append IsDigit (two_digits t.month ++ two_digits t.day) (two_digits t.hour) (each_append IsDigit (two_digits t.month) (two_digits t.day) (two_are t.month) (two_are t.day)) (two_are t.hour))
+    (two_are t.minute)) (two_are t.second)
 
 -- neither a comma nor a point
 abbrev pub IsNoMark : ℕ → Type 0
@@ -39,8 +64,11 @@ pub digit_no_mark : (b : ℕ) → IsDigit b → IsNoMark b
 digit_no_mark b h = ((λ e. omega arith), (λ e. omega arith))
 
 pub whole_is_strict : (v : List ℕ) → Each IsDigit v → ¬ HasLooseFraction (v ++ codes "Z")
-whole_is_strict v h (a, f, inl e) = (each_at IsNoMark a 0x2C f (v ++ codes "Z") (each_append IsNoMark v (codes "Z") (each_map IsDigit IsNoMark v digit_no_mark h) (((λ e. omega arith), (λ e. omega arith)), tt)) e).0 refl
-whole_is_strict v h (a, f, inr e) = (each_at IsNoMark a 0x2E (f ++ codes "0Z") (v ++ codes "Z") (each_append IsNoMark v (codes "Z") (each_map IsDigit IsNoMark v digit_no_mark h) (((λ e. omega arith), (λ e. omega arith)), tt)) e).1 refl
+whole_is_strict v h (a, f, inl e) =
+    (each_at IsNoMark a 0x2C f (v ++ codes "Z") (each_append IsNoMark v (codes "Z") (each_map IsDigit IsNoMark v digit_no_mark h) (((λ e. omega arith), (λ e. omega arith)), tt)) e).0 refl
+whole_is_strict v h (a, f, inr e) =
+    (each_at IsNoMark a 0x2E (f ++ codes "0Z") (v ++ codes "Z") (each_append IsNoMark v (codes "Z") (each_map IsDigit IsNoMark v digit_no_mark h)
+    (((λ e. omega arith), (λ e. omega arith)), tt)) e).1 refl
 
 -- the tests of DER on the text of a UTCTime
 utc_passes : (t : ASN1DateTime) → IsUtcTime (time_text 23 t) t → t.tz ≡ Z → NoneHolds (time_tests 23 (time_text 23 t))
@@ -51,9 +79,11 @@ utc_passes t h z =
       (
         (λ n. n t (inl (refl, h))),
         (
-          (λ q. let k : two_digits t.year ++ (month_to_minute t ++ (two_digits t.second ++ codes "Z")) ≡ two_digits q.0.year ++ (month_to_minute q.0 ++ codes "Z") = sym e ∙ q.1 in omega (arith, ap length k)),
+          (λ q. let k : two_digits t.year ++ (month_to_minute t ++ (two_digits t.second ++ codes "Z")) ≡ two_digits q.0.year ++ (month_to_minute q.0 ++ codes "Z") = sym e ∙ q.1 in
+              omega (arith, ap length k)),
           (
-            (λ q. whole_is_strict (two_digits t.year ++ (month_to_minute t ++ two_digits t.second)) (each_append IsDigit (two_digits t.year) (month_to_minute t ++ two_digits t.second) (two_are t.year) (front_are t)) (subst HasLooseFraction e q)),
+            (λ q. whole_is_strict (two_digits t.year ++ (month_to_minute t ++ two_digits t.second))
+                (each_append IsDigit (two_digits t.year) (month_to_minute t ++ two_digits t.second) (two_are t.year) (front_are t)) (subst HasLooseFraction e q)),
             tt,
           ),
         ),
@@ -76,7 +106,8 @@ strict_fraction v ds h g n (a, f, inl e) = each_at (λ b. b ≢ 0x2C) a 0x2C f (
     (each_append (λ b. b ≢ 0x2C) v (0x2E ∷ (ds ++ codes "Z")) (each_map IsDigit (λ b. b ≢ 0x2C) v (λ b d. (digit_no_mark b d).0) h)
     ((λ e. omega arith), each_append (λ b. b ≢ 0x2C) ds (codes "Z") (each_map IsDigit (λ b. b ≢ 0x2C) ds (λ b d. (digit_no_mark b d).0) g) ((λ e. omega arith), tt))) e refl
 strict_fraction v ds h g n (a, f, inr e) =
-    let k : ds ++ codes "Z" ≡ f ++ codes "0Z" = marks_same v a (ds ++ codes "Z") (f ++ codes "0Z") h (each_append IsNoMark ds (codes "Z") (each_map IsDigit IsNoMark ds digit_no_mark g) (((λ e. omega arith), (λ e. omega arith)), tt)) e in
+    let k : ds ++ codes "Z" ≡ f ++ codes "0Z" = marks_same v a (ds ++ codes "Z") (f ++ codes "0Z") h
+    (each_append IsNoMark ds (codes "Z") (each_map IsDigit IsNoMark ds digit_no_mark g) (((λ e. omega arith), (λ e. omega arith)), tt)) e in
     n f (last_same ds (f ++ 0x30 ∷ []) 0x5A (k ∙ sym (append_assoc f (0x30 ∷ []) (0x5A ∷ []))))
 
 pub or_some : (w : List ℕ) → w ≢ [] → or_zero w ≡ w
@@ -96,17 +127,21 @@ fraction_written s n (mark, ds, m, e, are, some, few, value) no_zero =
     zero_times k = omega arith
 
 generalized_front : (t : ASN1DateTime) → Each IsDigit (four_digits t.year ++ (month_to_minute t ++ two_digits t.second))
-generalized_front t = each_append IsDigit (four_digits t.year) (month_to_minute t ++ two_digits t.second) (each_append IsDigit (two_digits (t.year / 100)) (two_digits t.year) (two_are (t.year / 100)) (two_are t.year)) (front_are t)
+generalized_front t =
+    each_append IsDigit (four_digits t.year) (month_to_minute t ++ two_digits t.second) (each_append IsDigit (two_digits (t.year / 100)) (two_digits t.year) (two_are (t.year / 100)) (two_are t.year))
+    (front_are t)
 
 -- the tests of DER on the text of a GeneralizedTime
 generalized_passes : (t : ASN1DateTime) → IsGeneralizedTime (time_text 24 t) t → t.tz ≡ Z → t.nanosecond ≢ Some 0 → NoneHolds (time_tests 24 (time_text 24 t))
 generalized_passes t h z nano =
-    let e : time_text 24 t ≡ four_digits t.year ++ (month_to_minute t ++ (two_digits t.second ++ (fraction_text t.nanosecond ++ codes "Z"))) = generalized_written t h.0 h.1 (few_seconds h.2 t.second h.5) z in (
+    let e : time_text 24 t ≡ four_digits t.year ++ (month_to_minute t ++ (two_digits t.second ++ (fraction_text t.nanosecond ++ codes "Z"))) =
+    generalized_written t h.0 h.1 (few_seconds h.2 t.second h.5) z in (
       (λ n. n (four_digits t.year ++ (month_to_minute t ++ (two_digits t.second ++ fraction_text t.nanosecond))) e),
       (
         (λ n. n t (inr (refl, h))),
         (
-          (λ q. let k : four_digits t.year ++ (month_to_minute t ++ (two_digits t.second ++ (fraction_text t.nanosecond ++ codes "Z"))) ≡ four_digits q.0.year ++ (month_to_minute q.0 ++ codes "Z") = sym e ∙ q.1 in omega (arith, ap length k)),
+          (λ q. let k : four_digits t.year ++ (month_to_minute t ++ (two_digits t.second ++ (fraction_text t.nanosecond ++ codes "Z"))) ≡ four_digits q.0.year
+              ++ (month_to_minute q.0 ++ codes "Z") = sym e ∙ q.1 in omega (arith, ap length k)),
           (
             (λ q. strict h.6 (subst HasLooseFraction e q)),
             tt,
@@ -115,7 +150,8 @@ generalized_passes t h z nano =
       ),
     )
   where
-    strict : ((h.3 ≡ []) × (t.nanosecond ≡ None)) ⊎ ((h.2 ≢ []) × (n : ℕ) × IsFraction h.3 n × (t.nanosecond ≡ Some n)) → ¬ HasLooseFraction (four_digits t.year ++ (month_to_minute t ++ (two_digits t.second ++ (fraction_text t.nanosecond ++ codes "Z"))))
+    strict : ((h.3 ≡ []) × (t.nanosecond ≡ None)) ⊎ ((h.2 ≢ []) × (n : ℕ) × IsFraction h.3 n × (t.nanosecond ≡ Some n))
+        → ¬ HasLooseFraction (four_digits t.year ++ (month_to_minute t ++ (two_digits t.second ++ (fraction_text t.nanosecond ++ codes "Z"))))
     strict (inl f) = rw f.1 (whole_is_strict (four_digits t.year ++ (month_to_minute t ++ two_digits t.second)) (generalized_front t))
     strict (inr f) = let w = fraction_written h.3 f.1 f.2 (λ k. nano (f.3 ∙ ap Some k)) in
         subst (λ x. ¬ HasLooseFraction (four_digits t.year ++ (month_to_minute t ++ (two_digits t.second ++ (x ++ codes "Z"))))) (sym (ap fraction_text f.3 ∙ w.1))

@@ -60,7 +60,8 @@ zone_some Z h = omega (arith, ap length h)
 zone_some (Offset h m) (a, b, la, lb, inl (ea, eb, e)) = omega (arith, ap length e)
 zone_some (Offset h m) (a, b, la, lb, inr (ea, eb, e)) = omega (arith, ap length e)
 
-offsets : (f : ℕ → ℤ) (h m h' m' : ℤ) (a b a' b' : ℕ) → a < 24 → b < 60 → a' < 24 → b' < 60 → h ≡ f a → m ≡ f b → h' ≡ f a' → m' ≡ f b' → two_digits a ++ two_digits b ≡ two_digits a' ++ two_digits b' → Offset h m ≡ Offset h' m'
+offsets : (f : ℕ → ℤ) (h m h' m' : ℤ) (a b a' b' : ℕ) → a < 24 → b < 60 → a' < 24 → b' < 60 → h ≡ f a → m ≡ f b → h' ≡ f a' → m' ≡ f b' → two_digits a ++ two_digits b ≡ two_digits a' ++ two_digits b'
+    → Offset h m ≡ Offset h' m'
 offsets f h m h' m' a b a' b' la lb la' lb' ea eb ea' eb' e =
     let p = two_same a a' (two_digits b) (two_digits b') (omega (arith, la)) (omega (arith, la')) e in
     let q = two_same b b' [] [] (omega (arith, lb)) (omega (arith, lb')) p.1 in
@@ -76,7 +77,8 @@ zone_same z Z (Offset h' m') g (a', b', la', lb', inr (ea', eb', e')) = absurd (
 zone_same z (Offset h m) Z (a, b, la, lb, inl (ea, eb, e)) g' = absurd (omega (arith, (head_same (sym g' ∙ e)).0))
 zone_same z (Offset h m) Z (a, b, la, lb, inr (ea, eb, e)) g' = absurd (omega (arith, (head_same (sym g' ∙ e)).0))
 zone_same z (Offset h m) (Offset h' m') (a, b, la, lb, inl (ea, eb, e)) (a', b', la', lb', inl (ea', eb', e')) = offsets pos h m h' m' a b a' b' la lb la' lb' ea eb ea' eb' (head_same (sym e ∙ e')).1
-zone_same z (Offset h m) (Offset h' m') (a, b, la, lb, inr (ea, eb, e)) (a', b', la', lb', inr (ea', eb', e')) = offsets (λ n. neg_ℤ (pos n)) h m h' m' a b a' b' la lb la' lb' ea eb ea' eb' (head_same (sym e ∙ e')).1
+zone_same z (Offset h m) (Offset h' m') (a, b, la, lb, inr (ea, eb, e)) (a', b', la', lb', inr (ea', eb', e')) =
+    offsets (λ n. neg_ℤ (pos n)) h m h' m' a b a' b' la lb la' lb' ea eb ea' eb' (head_same (sym e ∙ e')).1
 zone_same z (Offset h m) (Offset h' m') (a, b, la, lb, inl (ea, eb, e)) (a', b', la', lb', inr (ea', eb', e')) = absurd (omega (arith, (head_same (sym e ∙ e')).0))
 zone_same z (Offset h m) (Offset h' m') (a, b, la, lb, inr (ea, eb, e)) (a', b', la', lb', inl (ea', eb', e')) = absurd (omega (arith, (head_same (sym e ∙ e')).0))
 
@@ -135,7 +137,8 @@ pub record SameMoment (t t' : ASN1DateTime) (x y : List ℕ) : Type 0 where
 
 pub moment_same : (t t' : ASN1DateTime) (x y : List ℕ) → IsMoment t → IsMoment t' → month_to_minute t ++ x ≡ month_to_minute t' ++ y → SameMoment t t' x y
 moment_same t t' x y m m' e =
-    let a = two_same t.month t'.month (two_digits t.day ++ (two_digits t.hour ++ (two_digits t.minute ++ x))) (two_digits t'.day ++ (two_digits t'.hour ++ (two_digits t'.minute ++ y))) (omega (arith, m.month)) (omega (arith, m'.month)) e in
+    let a = two_same t.month t'.month (two_digits t.day ++ (two_digits t.hour ++ (two_digits t.minute ++ x))) (two_digits t'.day ++ (two_digits t'.hour ++ (two_digits t'.minute ++ y)))
+    (omega (arith, m.month)) (omega (arith, m'.month)) e in
     let b = two_same t.day t'.day (two_digits t.hour ++ (two_digits t.minute ++ x)) (two_digits t'.hour ++ (two_digits t'.minute ++ y)) (omega (arith, m.day)) (omega (arith, m'.day)) a.1 in
     let c = two_same t.hour t'.hour (two_digits t.minute ++ x) (two_digits t'.minute ++ y) (omega (arith, m.hour)) (omega (arith, m'.hour)) b.1 in
     let d = two_same t.minute t'.minute x y (omega (arith, m.minute)) (omega (arith, m'.minute)) c.1 in
@@ -144,7 +147,8 @@ moment_same t t' x y m m' e =
 made : (year month day hour minute second : ℕ) → Option ℕ → ASN1TimeZone → ASN1DateTime
 made a b c d e f n z = record { year = a; month = b; day = c; hour = d; minute = e; second = f; nanosecond = n; tz = z }
 
-pub date_same : (t t' : ASN1DateTime) → t.year ≡ t'.year → t.month ≡ t'.month → t.day ≡ t'.day → t.hour ≡ t'.hour → t.minute ≡ t'.minute → t.second ≡ t'.second → t.nanosecond ≡ t'.nanosecond → t.tz ≡ t'.tz → t ≡ t'
+pub date_same : (t t' : ASN1DateTime) → t.year ≡ t'.year → t.month ≡ t'.month → t.day ≡ t'.day → t.hour ≡ t'.hour → t.minute ≡ t'.minute → t.second ≡ t'.second → t.nanosecond ≡ t'.nanosecond
+    → t.tz ≡ t'.tz → t ≡ t'
 unfolding made
 date_same t t' a b c d e f n z =
     let g : made t.year t.month t.day t.hour t.minute t.second t.nanosecond t.tz ≡ made t'.year t'.month t'.day t'.hour t'.minute t'.second t'.nanosecond t'.tz = cc in g

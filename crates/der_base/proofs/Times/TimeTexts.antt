@@ -1,5 +1,7 @@
 -- The texts that are written for times: digits, and fractions without zeros at the end.
-use Rattle.std.proofs.Common.{◌≡◌, ◌≢◌, ℕ, zero, suc, ◌+◌, ◌-◌, ◌*◌, ◌/◌, ◌%◌, ◌^◌, ◌<◌, ◌≤◌, ◌⊎◌, ◌==◌, Bool, true, false, List, [], ◌∷◌, ◌++◌, length, replicate, refl, sym, ap, subst, ◌∙◌, arith, inl, inr, append_assoc, decimal, length-append, ⊎_elim, append-nil}
+use Rattle.std.proofs.Common.{◌≡◌, ◌≢◌, ℕ, zero, suc, ◌+◌, ◌-◌, ◌*◌, ◌/◌, ◌%◌, ◌^◌, ◌<◌, ◌≤◌, ◌⊎◌, ◌==◌, Bool, true}
+use Rattle.std.proofs.Common.{false, List, [], ◌∷◌, ◌++◌, length, replicate, refl, sym, ap, subst, ◌∙◌, arith, inl, inr}
+use Rattle.std.proofs.Common.{append_assoc, decimal, length-append, ⊎_elim, append-nil}
 use Rattle.std.proofs.lemmas.List.{length-replicate}
 use Rattle.std.proofs.Math.Nat.{pow-suc, mul-le-mul_right, mul_assoc, mul_comm}
 use Rattle.std.proofs.lemmas.Bool.{cases_lt}
@@ -67,7 +69,8 @@ decimal_from_append m (b ∷ v) w = decimal_from_append (m * 10 + (b - 0x30)) v 
 
 pub decimal_from_zeros : (m j : ℕ) → decimal_from m (replicate j 0x30) ≡ m * 10 ^ j
 decimal_from_zeros m zero = omega arith
-decimal_from_zeros m (suc j) = decimal_from_zeros (m * 10 + 0) j ∙ (rw (pow-suc 10 j) (let e : m * 10 + 0 ≡ m * 10 = omega arith in ap (λ x. x * 10 ^ j) e ∙ mul_assoc m 10 (10 ^ j) ∙ ap (λ x. m * x) (mul_comm 10 (10 ^ j))))
+decimal_from_zeros m (suc j) =
+    decimal_from_zeros (m * 10 + 0) j ∙ (rw (pow-suc 10 j) (let e : m * 10 + 0 ≡ m * 10 = omega arith in ap (λ x. x * 10 ^ j) e ∙ mul_assoc m 10 (10 ^ j) ∙ ap (λ x. m * x) (mul_comm 10 (10 ^ j))))
 
 pub decimal_below : (m : ℕ) (bs : List ℕ) → Each IsDigit bs → decimal_from m bs < suc m * 10 ^ length bs
 decimal_below m [] are = omega arith
@@ -76,7 +79,8 @@ decimal_below m (b ∷ bs) are =
     rw (pow-suc 10 (length bs)) (scaled m (b - 0x30) (10 ^ length bs) (decimal_from (m * 10 + (b - 0x30)) bs) (omega (arith, are.0.1)) i)
   where
     scaled : (m b p x : ℕ) → b < 10 → x < suc (m * 10 + b) * p → x < suc m * (p * 10)
-    scaled m b p x h k = let f : suc (m * 10 + b) * p ≤ suc m * 10 * p = mul-le-mul_right p (omega arith) in let e : suc m * 10 * p ≡ suc m * (p * 10) = rw (mul_assoc (suc m) 10 p, mul_comm 10 p) refl in omega arith
+    scaled m b p x h k =
+        let f : suc (m * 10 + b) * p ≤ suc m * 10 * p = mul-le-mul_right p (omega arith) in let e : suc m * 10 * p ≡ suc m * (p * 10) = rw (mul_assoc (suc m) 10 p, mul_comm 10 p) refl in omega arith
 
 pub zeros_are : (j : ℕ) → Each IsDigit (replicate j 0x30)
 zeros_are zero = tt
@@ -93,7 +97,8 @@ nine_back ds are e =
 pub nine_written : (ds : List ℕ) → Each IsDigit ds → length ds ≤ 9 → at_least_digits 9 (decimal_from 0 ds * 10 ^ (9 - length ds)) ≡ ds ++ replicate (9 - length ds) 0x30
 nine_written ds are few =
     let size : length (ds ++ replicate (9 - length ds) 0x30) ≡ 9 = omega (arith, length-append ds (replicate (9 - length ds) 0x30), length-replicate {A = ℕ} (9 - length ds) 0x30) in
-    let value : decimal_from 0 (ds ++ replicate (9 - length ds) 0x30) ≡ decimal_from 0 ds * 10 ^ (9 - length ds) = decimal_from_append 0 ds (replicate (9 - length ds) 0x30) ∙ decimal_from_zeros (decimal_from 0 ds) (9 - length ds) in
+    let value : decimal_from 0 (ds ++ replicate (9 - length ds) 0x30) ≡ decimal_from 0 ds * 10 ^ (9 - length ds) = decimal_from_append 0 ds (replicate (9 - length ds) 0x30)
+    ∙ decimal_from_zeros (decimal_from 0 ds) (9 - length ds) in
     ap (λ n. at_least_digits 9 n) (sym value) ∙ nine_back (ds ++ replicate (9 - length ds) 0x30) (each_append IsDigit ds (replicate (9 - length ds) 0x30) are (zeros_are (9 - length ds))) size
 
 is_none : (w : List ℕ) → (length w == 0) ≡ true → w ≡ []

@@ -1,12 +1,16 @@
 -- Whether octets are the text of a time can be told.
-use Rattle.std.proofs.Common.{◌≡◌, ◌≢◌, ℕ, ◌-◌, ◌*◌, ◌/◌, ◌%◌, ◌^◌, ◌<◌, ◌≤◌, ◌⊎◌, ◌==◌, Bool, true, false, if◌then◌else◌, Option, Some, None, pos, neg_ℤ, List, [], ◌∷◌, ◌++◌, length, refl, sym, ap, subst, ◌∙◌, arith, inl, inr, append_assoc, codes, All}
+use Rattle.std.proofs.Common.{◌≡◌, ◌≢◌, ℕ, ◌-◌, ◌*◌, ◌/◌, ◌%◌, ◌^◌, ◌<◌, ◌≤◌, ◌⊎◌, ◌==◌, Bool, true, false}
+use Rattle.std.proofs.Common.{if◌then◌else◌, Option, Some, None, pos, neg_ℤ, List, [], ◌∷◌, ◌++◌, length, refl, sym, ap}
+use Rattle.std.proofs.Common.{subst, ◌∙◌, arith, inl, inr, append_assoc, codes, All}
 use Rattle.der_base.specs.declared.time.ASN1DateTime.{ASN1DateTime}
 use Rattle.der_base.specs.declared.time.ASN1TimeZone.{ASN1TimeZone}
 use Rattle.der_base.specs.declared.time.ASN1TimeZone.TheVariants.{Undefined, Z, Offset}
 use Rattle.der_base.specs.Time.{two_digits, four_digits, decimal_from, IsDigit, AreSeconds, IsZone, IsFraction, month_to_minute, IsUtcTime, IsGeneralizedTime, IsTimeText, digit}
 use Rattle.der_base.specs.LeafRefusal.{HasLooseFraction, HasNoSeconds, IsNotTime, time_tests}
 use Rattle.der_base.proofs.Leaves.Refusals.{AllDecided}
-use Rattle.der_base.proofs.Leaves.Decided.{Decided, decided_like, decided_and, decided_or, decided_not, decided_equal, decided_at_most, decided_list, decided_empty, decided_each, decided_some, decided_cut}
+use Rattle.der_base.proofs.Leaves.Decided.{Decided, decided_like, decided_and, decided_or, decided_not, decided_equal}
+use Rattle.der_base.proofs.Leaves.Decided.{decided_at_most, decided_list, decided_empty, decided_each, decided_some}
+use Rattle.der_base.proofs.Leaves.Decided.{decided_cut}
 
 decided_digit : (b : ℕ) → Decided (IsDigit b)
 decided_digit b = decided_and _ _ (decided_at_most 0x30 b) (decided_at_most b 0x39)
@@ -29,7 +33,9 @@ abbrev IsOffset : List ℕ → List ℕ → Type 0
 IsOffset sign z = (h : ℕ) × (h < 24) × ((m : ℕ) × (m < 60) × (z ≡ sign ++ two_digits h ++ two_digits m))
 
 decided_offset : (sign z : List ℕ) → Decided (IsOffset sign z)
-decided_offset sign z = decided_some 24 (λ h. (m : ℕ) × (m < 60) × (z ≡ sign ++ two_digits h ++ two_digits m)) (λ h. decided_some 60 (λ m. z ≡ sign ++ two_digits h ++ two_digits m) (λ m. decided_list z (sign ++ two_digits h ++ two_digits m)))
+decided_offset sign z =
+    decided_some 24 (λ h. (m : ℕ) × (m < 60) × (z ≡ sign ++ two_digits h ++ two_digits m))
+    (λ h. decided_some 60 (λ m. z ≡ sign ++ two_digits h ++ two_digits m) (λ m. decided_list z (sign ++ two_digits h ++ two_digits m)))
 
 decided_zone : (z : List ℕ) → Decided ((x : ASN1TimeZone) × IsZone z x)
 decided_zone z = decided_like ((z ≡ codes "Z") ⊎ (IsOffset (codes "+") z ⊎ IsOffset (codes "-") z)) ((x : ASN1TimeZone) × IsZone z x) there back
@@ -81,8 +87,10 @@ decided_fraction s f = decided_like ((f ≡ []) ⊎ ((s ≢ []) × (((ds : List 
   where
     there : (f ≡ []) ⊎ ((s ≢ []) × (((ds : List ℕ) × IsMarked 0x2E f ds) ⊎ ((ds : List ℕ) × IsMarked 0x2C f ds))) → (x : Option ℕ) × IsLastFraction s f x
     there (inl e) = (None, inl (e, refl))
-    there (inr (ne, inl (ds, (e, all, some, few)))) = (Some (decimal_from 0 ds * 10 ^ (9 - length ds)), inr (ne, decimal_from 0 ds * 10 ^ (9 - length ds), (0x2E, ds, inl refl, e, all, some, few, refl), refl))
-    there (inr (ne, inr (ds, (e, all, some, few)))) = (Some (decimal_from 0 ds * 10 ^ (9 - length ds)), inr (ne, decimal_from 0 ds * 10 ^ (9 - length ds), (0x2C, ds, inr refl, e, all, some, few, refl), refl))
+    there (inr (ne, inl (ds, (e, all, some, few)))) =
+        (Some (decimal_from 0 ds * 10 ^ (9 - length ds)), inr (ne, decimal_from 0 ds * 10 ^ (9 - length ds), (0x2E, ds, inl refl, e, all, some, few, refl), refl))
+    there (inr (ne, inr (ds, (e, all, some, few)))) =
+        (Some (decimal_from 0 ds * 10 ^ (9 - length ds)), inr (ne, decimal_from 0 ds * 10 ^ (9 - length ds), (0x2C, ds, inr refl, e, all, some, few, refl), refl))
 
     back : ((x : Option ℕ) × IsLastFraction s f x) → (f ≡ []) ⊎ ((s ≢ []) × (((ds : List ℕ) × IsMarked 0x2E f ds) ⊎ ((ds : List ℕ) × IsMarked 0x2C f ds)))
     back (x, inl h) = inl h.0
@@ -91,7 +99,9 @@ decided_fraction s f = decided_like ((f ≡ []) ⊎ ((s ≢ []) × (((ds : List 
 
 -- a year below k in the digits g, a month, a day, an hour and a minute
 abbrev IsFront : (ℕ → List ℕ) → ℕ → List ℕ → Type 0
-IsFront g k a = (y : ℕ) × (y < k) × ((mo : ℕ) × (mo < 13) × ((d : ℕ) × (d < 32) × ((h : ℕ) × (h < 24) × ((mi : ℕ) × (mi < 60) × ((1 ≤ mo) × (1 ≤ d) × (a ≡ g y ++ (two_digits mo ++ two_digits d ++ two_digits h ++ two_digits mi)))))))
+IsFront g k a =
+    (y : ℕ) × (y < k) × ((mo : ℕ) × (mo < 13) × ((d : ℕ) × (d < 32) × ((h : ℕ) × (h < 24) ×
+    ((mi : ℕ) × (mi < 60) × ((1 ≤ mo) × (1 ≤ d) × (a ≡ g y ++ (two_digits mo ++ two_digits d ++ two_digits h ++ two_digits mi)))))))
 
 decided_front : (g : ℕ → List ℕ) (k : ℕ) (a : List ℕ) → Decided (IsFront g k a)
 decided_front g k a =
@@ -188,21 +198,28 @@ decided_time k w = decided_like (((k ≡ 23) × ((t : ASN1DateTime) × IsUtcTime
     back (t, inr (e, h)) = inr (e, (t, h))
 
 pub decided_ends : (w e : List ℕ) → Decided ((v : List ℕ) × (w ≡ v ++ e))
-decided_ends w e = decided_like ((u v : List ℕ) × (w ≡ u ++ v) × (v ≡ e)) ((v : List ℕ) × (w ≡ v ++ e)) (λ (u, v, k, q). (u, k ∙ ap (λ l. u ++ l) q)) (λ (u, k). (u, e, k, refl)) (decided_cut w _ (λ u v. decided_list v e))
+decided_ends w e =
+    decided_like ((u v : List ℕ) × (w ≡ u ++ v) × (v ≡ e)) ((v : List ℕ) × (w ≡ v ++ e)) (λ (u, v, k, q). (u, k ∙ ap (λ l. u ++ l) q)) (λ (u, k). (u, e, k, refl))
+    (decided_cut w _ (λ u v. decided_list v e))
 
 decided_holds : (w e : List ℕ) → Decided ((v f : List ℕ) × (w ≡ v ++ (e ++ f)))
 decided_holds w e = decided_like ((u r : List ℕ) × (w ≡ u ++ r) × ((a f : List ℕ) × (r ≡ a ++ f) × (a ≡ e))) ((v f : List ℕ) × (w ≡ v ++ (e ++ f)))
-    (λ (u, r, k, (a, f, q, h)). (u, f, k ∙ ap (λ l. u ++ l) (q ∙ ap (λ l. l ++ f) h))) (λ (u, f, k). (u, e ++ f, k, (e, f, refl, refl))) (decided_cut w _ (λ u r. decided_cut r _ (λ a f. decided_list a e)))
+    (λ (u, r, k, (a, f, q, h)). (u, f, k ∙ ap (λ l. u ++ l) (q ∙ ap (λ l. l ++ f) h))) (λ (u, f, k). (u, e ++ f, k, (e, f, refl, refl)))
+    (decided_cut w _ (λ u r. decided_cut r _ (λ a f. decided_list a e)))
 
 decided_loose : (w : List ℕ) → Decided (HasLooseFraction w)
-decided_loose w = decided_like (((v f : List ℕ) × (w ≡ v ++ (codes "," ++ f))) ⊎ ((v r : List ℕ) × (w ≡ v ++ r) × ((a q : List ℕ) × (r ≡ a ++ q) × ((a ≡ codes ".") × ((f : List ℕ) × (q ≡ f ++ codes "0Z")))))) (HasLooseFraction w) there back
+decided_loose w =
+    decided_like (((v f : List ℕ) × (w ≡ v ++ (codes "," ++ f))) ⊎ ((v r : List ℕ) × (w ≡ v ++ r) × ((a q : List ℕ) × (r ≡ a ++ q) × ((a ≡ codes ".") × ((f : List ℕ) × (q ≡ f ++ codes "0Z"))))))
+    (HasLooseFraction w) there back
     (decided_or _ _ (decided_holds w (codes ",")) (decided_cut w _ (λ v r. decided_cut r _ (λ a q. decided_and _ _ (decided_list a (codes ".")) (decided_ends q (codes "0Z"))))))
   where
-    there : ((v f : List ℕ) × (w ≡ v ++ (codes "," ++ f))) ⊎ ((v r : List ℕ) × (w ≡ v ++ r) × ((a q : List ℕ) × (r ≡ a ++ q) × ((a ≡ codes ".") × ((f : List ℕ) × (q ≡ f ++ codes "0Z"))))) → HasLooseFraction w
+    there : ((v f : List ℕ) × (w ≡ v ++ (codes "," ++ f))) ⊎ ((v r : List ℕ) × (w ≡ v ++ r) × ((a q : List ℕ) × (r ≡ a ++ q) × ((a ≡ codes ".") × ((f : List ℕ) × (q ≡ f ++ codes "0Z")))))
+        → HasLooseFraction w
     there (inl (v, f, e)) = (v, f, inl e)
     there (inr (v, r, e, (a, q, k, (h, (f, g))))) = (v, f, inr (e ∙ ap (λ l. v ++ l) (k ∙ ap (λ l. l ++ q) h ∙ ap (λ l. codes "." ++ l) g)))
 
-    back : HasLooseFraction w → ((v f : List ℕ) × (w ≡ v ++ (codes "," ++ f))) ⊎ ((v r : List ℕ) × (w ≡ v ++ r) × ((a q : List ℕ) × (r ≡ a ++ q) × ((a ≡ codes ".") × ((f : List ℕ) × (q ≡ f ++ codes "0Z")))))
+    back : HasLooseFraction w → ((v f : List ℕ) × (w ≡ v ++ (codes "," ++ f))) ⊎ ((v r : List ℕ) × (w ≡ v ++ r)
+        × ((a q : List ℕ) × (r ≡ a ++ q) × ((a ≡ codes ".") × ((f : List ℕ) × (q ≡ f ++ codes "0Z")))))
     back (v, f, inl e) = inl (v, f, e)
     back (v, f, inr e) = inr (v, codes "." ++ (f ++ codes "0Z"), e, (codes ".", f ++ codes "0Z", refl, (refl, (f, refl))))
 
@@ -210,7 +227,9 @@ pub two_last : (n : ℕ) → two_digits n ≡ two_digits (n % 100)
 two_last n = let a : digit (n / 10) ≡ digit (n % 100 / 10) = omega arith in let b : digit n ≡ digit (n % 100) = omega arith in cc
 
 pub four_last : (n : ℕ) → four_digits n ≡ four_digits (n % 10000)
-four_last n = let a : digit (n / 100 / 10) ≡ digit (n % 10000 / 100 / 10) = omega arith in let b : digit (n / 100) ≡ digit (n % 10000 / 100) = omega arith in let c : digit (n / 10) ≡ digit (n % 10000 / 10) = omega arith in let d : digit n ≡ digit (n % 10000) = omega arith in cc
+four_last n =
+    let a : digit (n / 100 / 10) ≡ digit (n % 10000 / 100 / 10) = omega arith in let b : digit (n / 100) ≡ digit (n % 10000 / 100) = omega arith in
+    let c : digit (n / 10) ≡ digit (n % 10000 / 10) = omega arith in let d : digit n ≡ digit (n % 10000) = omega arith in cc
 
 parts_same : (z : List ℕ) {a b c d e a' b' c' d' e' : List ℕ} → a ≡ a' → b ≡ b' → c ≡ c' → d ≡ d' → e ≡ e' → a ++ (b ++ c ++ d ++ e ++ z) ≡ a' ++ (b' ++ c' ++ d' ++ e' ++ z)
 parts_same z ha hb hc hd he = cc

@@ -1,5 +1,7 @@
 -- Readings of the parts of a time, and what they say together.
-use Rattle.std.proofs.Common.{◌≡◌, ◌≢◌, ℕ, suc, ◌+◌, ◌-◌, ◌*◌, ◌/◌, ◌%◌, ◌^◌, ◌<◌, ◌≤◌, ◌⊎◌, Option, Some, None, List, [], ◌∷◌, ◌++◌, length, pow-add, take, drop, get_or, add-one, All, refl, sym, ap, subst, ◌∙◌, arith, inl, inr, append_assoc}
+use Rattle.std.proofs.Common.{◌≡◌, ◌≢◌, ℕ, suc, ◌+◌, ◌-◌, ◌*◌, ◌/◌, ◌%◌, ◌^◌, ◌<◌, ◌≤◌, ◌⊎◌, Option, Some, None, List}
+use Rattle.std.proofs.Common.{[], ◌∷◌, ◌++◌, length, pow-add, take, drop, get_or, add-one, All, refl, sym, ap, subst}
+use Rattle.std.proofs.Common.{◌∙◌, arith, inl, inr, append_assoc}
 use Rattle.std.specs.Option.{unwrap_or, MatchOption}
 use Rattle.std.proofs.Math.Nat.{pow-le-pow_right, one-le-pow, mul-le-mul_right}
 use Rattle.std.proofs.Math.Seq.{take-suc}
@@ -167,7 +169,8 @@ last_zone_tail : (z : List ℕ) (x : ASN1TimeZone) → IsLastZone z x → IsTail
 last_zone_tail z x (inl h) = subst IsTail (sym h.0) tt
 last_zone_tail z x (inr h) = zone_tail z x h
 
-pub generalized_behind : (w q : List ℕ) (y : ℕ) (t : ASN1DateTime) → y < 10000 → w ≡ four_digits y ++ q → IsGeneralizedTime w t → (r : List ℕ) × (q ≡ month_to_minute t ++ r) × IsMoment t × IsGeneralizedEnd r t
+pub generalized_behind : (w q : List ℕ) (y : ℕ) (t : ASN1DateTime) → y < 10000 → w ≡ four_digits y ++ q → IsGeneralizedTime w t
+    → (r : List ℕ) × (q ≡ month_to_minute t ++ r) × IsMoment t × IsGeneralizedEnd r t
 generalized_behind w q y t ly e (hy, hm, s, f, z, hs, hf, hz, e') =
     let k = last_zone_tail z t.tz hz in
     let a = four_same y t.year q (month_to_minute t ++ (s ++ (f ++ z))) ly hy (sym e ∙ e' ∙ ap (λ l. four_digits t.year ++ (month_to_minute t ++ l)) (append_assoc s f z)) in
@@ -180,7 +183,8 @@ generalized_end w q r y m t ly e hm f h =
     subst (λ l. IsGeneralizedEnd l t) (sym c.rest) b.3
 
 -- the parts that were read are a GeneralizedTime
-pub generalized_found : (w q r z : List ℕ) (y second : ℕ) (m : ASN1DateTime) (x : Option ℕ) (tz : ASN1TimeZone) → y < 10000 → m.year ≡ y → w ≡ four_digits y ++ q → IsMoment m → q ≡ month_to_minute m ++ r
+pub generalized_found : (w q r z : List ℕ) (y second : ℕ) (m : ASN1DateTime) (x : Option ℕ) (tz : ASN1TimeZone) → y < 10000 → m.year ≡ y → w ≡ four_digits y ++ q → IsMoment m
+    → q ≡ month_to_minute m ++ r
     → BeginsWithFineSeconds r second x z → IsLastZone z tz
     → IsGeneralizedTime w (record { year = m.year; month = m.month; day = m.day; hour = m.hour; minute = m.minute; second = second; nanosecond = x; tz = tz })
 generalized_found w q r z y second m x tz ly ey e hm f hs hz =

@@ -1,13 +1,13 @@
 -- What is written for a time, piece by piece.
-use Rattle.std.proofs.Common.{◌≡◌, ◌≢◌, ◌==◌, ℕ, zero, suc, ◌+◌, ◌-◌, ◌/◌, ◌%◌, ◌^◌, ◌<◌, ◌≤◌, List, [], ◌∷◌, ◌++◌, length, length-append, replicate, decimal, refl, sym, ap, ◌∙◌, arith, append_assoc, false, ◌||◌, if◌then◌else◌, ℤ, pos, codes, nat_abs, int_lt, inl, inr, ◌*◌, append-nil}
+use Rattle.std.proofs.Common.{◌≡◌, ◌≢◌, ◌==◌, ℕ, zero, suc, ◌+◌, ◌-◌, ◌/◌, ◌%◌, ◌^◌, ◌<◌, ◌≤◌, List, [], ◌∷◌, ◌++◌}
+use Rattle.std.proofs.Common.{length, length-append, replicate, decimal, refl, sym, ap, ◌∙◌, arith, append_assoc, false}
+use Rattle.std.proofs.Common.{if◌then◌else◌, inl, inr, ◌*◌, append-nil}
 use Rattle.std.specs.Fmt.{format_spec, styled_decimal, padded_integral, char_count}
 use Rattle.std.proofs.Math.Nat.{pow-suc}
 use Rattle.std.proofs.lemmas.Bool.{cases_lt}
 use Rattle.std.proofs.lemmas.Bool.Decides.{nat_tests}
 use Rattle.std.proofs.lemmas.Fmt.{decimal_digit, decimal_step}
 use Rattle.der_base.specs.declared.time.ASN1DateTime.{ASN1DateTime}
-use Rattle.der_base.specs.declared.time.ASN1TimeZone.{ASN1TimeZone}
-use Rattle.der_base.specs.declared.time.ASN1TimeZone.TheVariants.{Offset}
 use Rattle.der_base.specs.Time.{digit, time_text, fraction_text, zone_text, at_least_digits, without_last_zeros, or_zero}
 use Rattle.der_base.proofs.Times.DerTimes.{or_some}
 use Rattle.der_base.proofs.Octets.Identifiers.{fronts_same}
@@ -38,7 +38,11 @@ last_digit : (w d : ℕ) → d < 2 ^ 64 → (front : List ℕ) × (at_least_digi
 last_digit w d small = elim (cases_lt d 10) [
   | inl few ↦ (let e : 0x30 + d ≡ digit d = omega arith in
       (replicate (w - length (decimal d)) 0x30, ap (λ l. replicate (w - length (decimal d)) 0x30 ++ l) (decimal_digit d few ∙ ap (λ b. b ∷ []) e)))
-  | inr some ↦ (replicate (w - length (decimal d)) 0x30 ++ decimal (d / 10), ap (λ l. replicate (w - length (decimal d)) 0x30 ++ l) (decimal_step d some small) ∙ sym (append_assoc (replicate (w - length (decimal d)) 0x30) (decimal (d / 10)) (digit d ∷ [])))
+  | inr some ↦ (
+    replicate (w - length (decimal d)) 0x30 ++ decimal (d / 10),
+    ap (λ l. replicate (w - length (decimal d)) 0x30 ++ l) (decimal_step d some small)
+        ∙ sym (append_assoc (replicate (w - length (decimal d)) 0x30) (decimal (d / 10)) (digit d ∷ [])),
+  )
 ]
 
 -- digits whose last is no 0 stay
@@ -64,11 +68,6 @@ padded_at_least k n =
 pub styled_at_least : (k n : ℕ) → styled_decimal (format_spec 32 0 4 k (2 ^ 64 - 1)) n ≡ at_least_digits k n
 styled_at_least zero n = let e : 0 - length (decimal n) ≡ 0 = omega arith in rw e refl
 styled_at_least (suc k) n = let e : (suc k == 0) ≡ false = grind (arith, nat_tests) in rw e (padded_at_least (suc k) n)
-
--- a sign, hours and minutes are the text of an offset
-pub zone_shown : (zone : ASN1TimeZone) (hours minutes : ℤ) (sign a b : List ℕ) → zone ≡ Offset hours minutes → sign ≡ (if int_lt hours (pos 0) || int_lt minutes (pos 0) then codes "-" else codes "+")
-    → a ≡ at_least_digits 2 (nat_abs hours) → b ≡ at_least_digits 2 (nat_abs minutes) → sign ++ (a ++ b) ≡ zone_text zone
-zone_shown zone hours minutes sign a b e s h m = rw (e, s, h, m) (sym (append_assoc (if int_lt hours (pos 0) || int_lt minutes (pos 0) then codes "-" else codes "+") (at_least_digits 2 (nat_abs hours)) (at_least_digits 2 (nat_abs minutes))))
 
 -- the pieces of a text, one after another
 pub text_shown : (k least : ℕ) (t : ASN1DateTime) (month day hour minute second : List ℕ) → least ≡ (if k == 23 then 2 else 4) → month ≡ at_least_digits 2 t.month → day ≡ at_least_digits 2 t.day

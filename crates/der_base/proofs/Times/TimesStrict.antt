@@ -1,5 +1,8 @@
 -- What DER wants of a text in universal time, as its octets show it.
-use Rattle.std.proofs.Common.{◌≡◌, ◌≢◌, ℕ, ◌+◌, ◌<◌, ◌≤◌, ◌/◌, ◌==◌, Bool, true, false, IsTrue, if◌then◌else◌, Option, Result, Ok, Err, MatchResult, IsOkAnd, IsErrAnd, List, [], ◌∷◌, ◌++◌, length, length-append, take, drop, codes, refl, sym, ap, subst, ◌∙◌, arith, inl, inr, append_assoc, append-nil}
+use Rattle.std.proofs.Common.{◌≡◌, ◌≢◌, ℕ, ◌+◌, ◌<◌, ◌≤◌, ◌/◌, ◌==◌, Bool, true, false, IsTrue, if◌then◌else◌, Option}
+use Rattle.std.proofs.Common.{Result, Ok, Err, MatchResult, IsOkAnd, IsErrAnd, List, [], ◌∷◌, ◌++◌, length}
+use Rattle.std.proofs.Common.{length-append, take, drop, codes, refl, sym, ap, subst, ◌∙◌, arith, inl, inr}
+use Rattle.std.proofs.Common.{append_assoc, append-nil}
 use Rattle.std.proofs.lemmas.List.{take-append-drop, drop_at}
 use Rattle.der_base.specs.declared.time.ASN1DateTime.{ASN1DateTime}
 use Rattle.der_base.specs.declared.time.ASN1TimeZone.TheVariants.{Z}
@@ -36,7 +39,10 @@ record IsUniversal (k : ℕ) (w : List ℕ) (t : ASN1DateTime) : Type 0 where
   no_seconds : seconds ≡ [] → fraction ≡ [] → HasNoSeconds k w
 
 minutes_are : (t : ASN1DateTime) → Each IsDigit (month_to_minute t)
-minutes_are t = each_append IsDigit (two_digits t.month ++ two_digits t.day ++ two_digits t.hour) (two_digits t.minute) (each_append IsDigit (two_digits t.month ++ two_digits t.day) (two_digits t.hour) (each_append IsDigit (two_digits t.month) (two_digits t.day) (two_are t.month) (two_are t.day)) (two_are t.hour)) (two_are t.minute)
+minutes_are t =
+    each_append IsDigit (two_digits t.month ++ two_digits t.day ++ two_digits t.hour) (two_digits t.minute)
+    (each_append IsDigit (two_digits t.month ++ two_digits t.day) (two_digits t.hour) (each_append IsDigit (two_digits t.month) (two_digits t.day) (two_are t.month) (two_are t.day)) (two_are t.hour))
+    (two_are t.minute)
 
 utc_universal : (w v : List ℕ) (t : ASN1DateTime) → IsUtcTime w t → w ≡ v ++ codes "Z" → IsUniversal 23 w t
 utc_universal w v t (year, moment, none, s, zone, hs, hz, e) ends =
@@ -61,11 +67,13 @@ generalized_universal w v t (year, moment, s, f, z, hs, hf, hz, e) ends =
           (sym (append-nil (four_digits t.year ++ (month_to_minute t ++ (s ++ f)))) ∙ ap (λ l. four_digits t.year ++ month_to_minute t ++ s ++ f ++ l) (sym h.0) ∙ sym e ∙ ends))
       | inr h ↦ zone_is_z (four_digits t.year ++ month_to_minute t ++ s ++ f) v z t.tz h (sym e ∙ ends)
     ] in
-    let whole : w ≡ four_digits t.year ++ (month_to_minute t ++ (s ++ (f ++ codes "Z"))) = e ∙ ap (λ l. four_digits t.year ++ (month_to_minute t ++ l)) (append_assoc s f z) ∙ ap (λ l. four_digits t.year ++ (month_to_minute t ++ (s ++ (f ++ l)))) zone.1 in
+    let whole : w ≡ four_digits t.year ++ (month_to_minute t ++ (s ++ (f ++ codes "Z"))) = e ∙ ap (λ l. four_digits t.year ++ (month_to_minute t ++ l)) (append_assoc s f z)
+    ∙ ap (λ l. four_digits t.year ++ (month_to_minute t ++ (s ++ (f ++ l)))) zone.1 in
     record {
       front = four_digits t.year ++ month_to_minute t;
       size = refl;
-      digits = each_append IsDigit (four_digits t.year) (month_to_minute t) (each_append IsDigit (two_digits (t.year / 100)) (two_digits t.year) (two_are (t.year / 100)) (two_are t.year)) (minutes_are t);
+      digits = each_append IsDigit (four_digits t.year) (month_to_minute t) (each_append IsDigit (two_digits (t.year / 100)) (two_digits t.year) (two_are (t.year / 100)) (two_are t.year))
+          (minutes_are t);
       seconds = s;
       fraction = f;
       are = hs;
@@ -85,7 +93,12 @@ no_seconds_of_short k w v t h ends short = go (universal k w v t h ends)
     go : IsUniversal k w t → HasNoSeconds k w
     go u = elim u.are [
       | inl s ↦ elim u.last [ inl f ↦ u.no_seconds s.0 f.0 | inr f ↦ absurd (f.0 s.0) ]
-      | inr s ↦ absurd (omega (arith, u.size, ap length (u.whole ∙ ap (λ l. u.front ++ (l ++ (u.fraction ++ codes "Z"))) s.1), length-append u.front (two_digits t.second ++ (u.fraction ++ codes "Z"))))
+      | inr s ↦ absurd (omega (
+        arith,
+        u.size,
+        ap length (u.whole ∙ ap (λ l. u.front ++ (l ++ (u.fraction ++ codes "Z"))) s.1),
+        length-append u.front (two_digits t.second ++ (u.fraction ++ codes "Z")),
+      ))
     ]
 
 -- a text without seconds is too short
@@ -127,9 +140,12 @@ end_of_loose k w v t h ends long loose = go (universal k w v t h ends)
     go : IsUniversal k w t → IsLooseEnd (drop (seconds_end k) w)
     go u = elim u.are [
       | inl s ↦ elim u.last [ inl f ↦ absurd (omega (arith, long, short_of_no_seconds k w (u.no_seconds s.0 f.0))) | inr f ↦ absurd (f.0 s.0) ]
-      | inr s ↦ (let e : w ≡ (u.front ++ two_digits t.second) ++ (u.fraction ++ codes "Z") = u.whole ∙ ap (λ l. u.front ++ (l ++ (u.fraction ++ codes "Z"))) s.1 ∙ sym (append_assoc u.front (two_digits t.second) (u.fraction ++ codes "Z")) in
-          let d : drop (seconds_end k) w ≡ u.fraction ++ codes "Z" = ap (drop (seconds_end k)) e ∙ drop_at (u.front ++ two_digits t.second) (u.fraction ++ codes "Z") (seconds_end k) (omega (arith, u.size, length-append u.front (two_digits t.second))) in
-          subst IsLooseEnd (sym d) (loose_behind (u.front ++ two_digits t.second) u.seconds u.fraction t.nanosecond (each_append IsDigit u.front (two_digits t.second) u.digits (two_are t.second)) u.last (subst HasLooseFraction e loose)))
+      | inr s ↦ (let e : w ≡ (u.front ++ two_digits t.second) ++ (u.fraction ++ codes "Z") = u.whole ∙ ap (λ l. u.front ++ (l ++ (u.fraction ++ codes "Z"))) s.1
+          ∙ sym (append_assoc u.front (two_digits t.second) (u.fraction ++ codes "Z")) in
+          let d : drop (seconds_end k) w ≡ u.fraction ++ codes "Z" = ap (drop (seconds_end k)) e
+          ∙ drop_at (u.front ++ two_digits t.second) (u.fraction ++ codes "Z") (seconds_end k) (omega (arith, u.size, length-append u.front (two_digits t.second))) in
+          subst IsLooseEnd (sym d) (loose_behind (u.front ++ two_digits t.second) u.seconds u.fraction t.nanosecond
+          (each_append IsDigit u.front (two_digits t.second) u.digits (two_are t.second)) u.last (subst HasLooseFraction e loose)))
     ]
 
 -- a text that passes each test is written so
@@ -152,7 +168,8 @@ strict_time k w v t h ends long strict =
     (((refl, refl, subst (λ w. IsTimeText k w t) m.written h), (m.zone, m.fraction)), m.written)
 
 -- behind a point, what the last two octets tell
-pub loose_end_by : (w behind front : List ℕ) (r : Bool) → ((rest : List ℕ) → w ≢ codes "," ++ rest) → w ≡ codes "." ++ behind → (r ≡ true → w ≡ front ++ codes "0Z") → ((f : List ℕ) → w ≡ f ++ codes "0Z" → r ≡ true)
+pub loose_end_by : (w behind front : List ℕ) (r : Bool) → ((rest : List ℕ) → w ≢ codes "," ++ rest) → w ≡ codes "." ++ behind → (r ≡ true → w ≡ front ++ codes "0Z")
+    → ((f : List ℕ) → w ≡ f ++ codes "0Z" → r ≡ true)
     → (IsTrue r → IsLooseEnd w) × (IsLooseEnd w → IsTrue r)
 loose_end_by w behind front r comma point there back = ((λ h. pointed front (there h)), again)
   where
@@ -168,7 +185,8 @@ loose_end_by w behind front r comma point there back = ((λ h. pointed front (th
 pub seconds_refused : (k : ℕ) (w v : List ℕ) (t : ASN1DateTime) → IsTimeText k w t → w ≡ v ++ codes "Z" → length w < seconds_end k → IsFirstRefusal (time_tests k w) (der_constraint MissingSeconds)
 seconds_refused k w v t h ends short = inr ((λ n. n v ends), inr ((λ n. n t h), inl (no_seconds_of_short k w v t h ends short, refl)))
 
-pub fraction_refused : (k : ℕ) (w v : List ℕ) (t : ASN1DateTime) → IsTimeText k w t → w ≡ v ++ codes "Z" → seconds_end k ≤ length w → IsLooseEnd (drop (seconds_end k) w) → IsFirstRefusal (time_tests k w) (der_constraint FractionNotMinimal)
+pub fraction_refused : (k : ℕ) (w v : List ℕ) (t : ASN1DateTime) → IsTimeText k w t → w ≡ v ++ codes "Z" → seconds_end k ≤ length w → IsLooseEnd (drop (seconds_end k) w)
+    → IsFirstRefusal (time_tests k w) (der_constraint FractionNotMinimal)
 fraction_refused k w v t h ends long loose =
     inr ((λ n. n v ends), inr ((λ n. n t h), inr ((λ q. omega (arith, long, short_of_no_seconds k w q)), inl (loose_of_end w (seconds_end k) loose, refl))))
 

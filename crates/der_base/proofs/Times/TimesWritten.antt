@@ -1,11 +1,14 @@
 -- A text of a time that passes the tests of DER is what is written for the time.
-use Rattle.std.proofs.Common.{◌≡◌, ◌≢◌, ℕ, ◌-◌, ◌*◌, ◌^◌, ◌≤◌, Option, Some, None, List, [], ◌∷◌, ◌++◌, length, refl, sym, ap, subst, ◌∙◌, arith, inl, inr, append_assoc, codes, length-append, append-nil}
+use Rattle.std.proofs.Common.{◌≡◌, ◌≢◌, ℕ, ◌-◌, ◌*◌, ◌^◌, ◌≤◌, Option, Some, None, List, [], ◌∷◌, ◌++◌, length, refl}
+use Rattle.std.proofs.Common.{sym, ap, subst, ◌∙◌, arith, inl, inr, append_assoc, codes, length-append, append-nil}
 use Rattle.std.proofs.lemmas.Fmt.{decimal_digit}
 use Rattle.der_base.specs.declared.time.ASN1DateTime.{ASN1DateTime}
 use Rattle.der_base.specs.declared.time.ASN1TimeZone.{ASN1TimeZone}
 use Rattle.der_base.specs.declared.time.ASN1TimeZone.TheVariants.{Undefined, Z, Offset}
 use Rattle.der_base.specs.LeafRefusal.{time_tests, HasLooseFraction}
-use Rattle.der_base.specs.Time.{two_digits, four_digits, decimal_from, IsDigit, AreSeconds, IsZone, month_to_minute, IsUtcTime, IsGeneralizedTime, IsTimeText, at_least_digits, without_last_zeros, or_zero, fraction_text, time_text}
+use Rattle.der_base.specs.Time.{two_digits, four_digits, decimal_from, IsDigit, AreSeconds, IsZone, month_to_minute}
+use Rattle.der_base.specs.Time.{IsUtcTime, IsGeneralizedTime, IsTimeText, at_least_digits, without_last_zeros, or_zero}
+use Rattle.der_base.specs.Time.{fraction_text, time_text}
 use Rattle.der_base.proofs.Octets.Identifiers.{fronts_same}
 use Rattle.der_base.proofs.Leaves.Decided.{sure}
 use Rattle.der_base.proofs.Leaves.Refusals.{NoneHolds}
@@ -30,8 +33,12 @@ no_z u ds v h l e = let d : IsDigit 0x5A = ends_in_digit u ds v 0x5A h l e in om
 pub zone_is_z : (u v z : List ℕ) (x : ASN1TimeZone) → IsZone z x → u ++ z ≡ v ++ codes "Z" → (x ≡ Z) × (z ≡ codes "Z")
 zone_is_z u v z Undefined h e = absurd h
 zone_is_z u v z Z h e = (refl, h)
-zone_is_z u v z (Offset a b) (hours, minutes, lh, lm, inl h) e = absurd (no_z (u ++ (codes "+" ++ two_digits hours)) (two_digits minutes) v (two_are minutes) (omega arith) (append_assoc u (codes "+" ++ two_digits hours) (two_digits minutes) ∙ ap (λ l. u ++ l) (sym h.2) ∙ e))
-zone_is_z u v z (Offset a b) (hours, minutes, lh, lm, inr h) e = absurd (no_z (u ++ (codes "-" ++ two_digits hours)) (two_digits minutes) v (two_are minutes) (omega arith) (append_assoc u (codes "-" ++ two_digits hours) (two_digits minutes) ∙ ap (λ l. u ++ l) (sym h.2) ∙ e))
+zone_is_z u v z (Offset a b) (hours, minutes, lh, lm, inl h) e =
+    absurd (no_z (u ++ (codes "+" ++ two_digits hours)) (two_digits minutes) v (two_are minutes) (omega arith)
+    (append_assoc u (codes "+" ++ two_digits hours) (two_digits minutes) ∙ ap (λ l. u ++ l) (sym h.2) ∙ e))
+zone_is_z u v z (Offset a b) (hours, minutes, lh, lm, inr h) e =
+    absurd (no_z (u ++ (codes "-" ++ two_digits hours)) (two_digits minutes) v (two_are minutes) (omega arith)
+    (append_assoc u (codes "-" ++ two_digits hours) (two_digits minutes) ∙ ap (λ l. u ++ l) (sym h.2) ∙ e))
 
 pub none_of_zero : without_last_zeros (at_least_digits 9 0) ≡ []
 none_of_zero = rw (decimal_digit 0 (omega arith)) refl
@@ -68,9 +75,12 @@ utc_is_written w v t (year, moment, none, seconds, zone, hs, hz, e) n ends =
 -- a text with no zone ends in a digit
 pub no_zone : (p s f v : List ℕ) (m n : ℕ) (x : Option ℕ) → AreSeconds s n → IsLastFraction s f x → p ++ (two_digits m ++ (s ++ f)) ≢ v ++ codes "Z"
 no_zone p s f v m n x (inl h) (inl g) e = no_z p (two_digits m) v (two_are m) (omega arith) (ap (λ l. p ++ (two_digits m ++ l)) (sym (ap (λ l. l ++ f) h.0 ∙ g.0)) ∙ e)
-no_zone p s f v m n x (inr h) (inl g) e = no_z (p ++ two_digits m) (two_digits n) v (two_are n) (omega arith) (append_assoc p (two_digits m) (two_digits n) ∙ ap (λ l. p ++ (two_digits m ++ l)) (sym (ap (λ l. l ++ f) h.1 ∙ ap (λ l. two_digits n ++ l) g.0)) ∙ e)
+no_zone p s f v m n x (inr h) (inl g) e =
+    no_z (p ++ two_digits m) (two_digits n) v (two_are n) (omega arith) (append_assoc p (two_digits m) (two_digits n)
+    ∙ ap (λ l. p ++ (two_digits m ++ l)) (sym (ap (λ l. l ++ f) h.1 ∙ ap (λ l. two_digits n ++ l) g.0)) ∙ e)
 no_zone p s f v m n x h (inr (some, k, (mark, ds, mk, is, are, one, few, value), q)) e =
-    no_z (p ++ (two_digits m ++ (s ++ mark ∷ []))) ds v (each_from_all IsDigit ds are) one (append_assoc p (two_digits m ++ (s ++ mark ∷ [])) ds ∙ ap (λ l. p ++ (two_digits m ++ l)) (append_assoc s (mark ∷ []) ds ∙ ap (λ l. s ++ l) (sym is)) ∙ e)
+    no_z (p ++ (two_digits m ++ (s ++ mark ∷ []))) ds v (each_from_all IsDigit ds are) one
+    (append_assoc p (two_digits m ++ (s ++ mark ∷ [])) ds ∙ ap (λ l. p ++ (two_digits m ++ l)) (append_assoc s (mark ∷ []) ds ∙ ap (λ l. s ++ l) (sym is)) ∙ e)
 
 -- what stands behind the minutes
 record IsWrittenTail (s f z : List ℕ) (t : ASN1DateTime) : Type 0 where
@@ -79,7 +89,8 @@ record IsWrittenTail (s f z : List ℕ) (t : ASN1DateTime) : Type 0 where
   nonzero : t.nanosecond ≢ Some 0
 
 -- where seconds are there and the fraction is strict
-tail_is_written : (u s f z : List ℕ) (t : ASN1DateTime) → AreSeconds s t.second → IsLastFraction s f t.nanosecond → z ≡ codes "Z" → ¬ ((s ≡ []) × (f ≡ [])) → ¬ HasLooseFraction (u ++ (s ++ (f ++ z))) → IsWrittenTail s f z t
+tail_is_written : (u s f z : List ℕ) (t : ASN1DateTime) → AreSeconds s t.second → IsLastFraction s f t.nanosecond → z ≡ codes "Z" → ¬ ((s ≡ []) × (f ≡ [])) → ¬ HasLooseFraction (u ++ (s ++ (f ++ z)))
+    → IsWrittenTail s f z t
 tail_is_written u s f z t (inl h) (inl g) ez n loose = absurd (n (h.0, g.0))
 tail_is_written u s f z t (inl h) (inr g) ez n loose = absurd (g.0 h.0)
 tail_is_written u s f z t (inr h) (inl g) ez n loose = record { seconds = h.1; fraction = g.0 ∙ ap fraction_text (sym g.1); nonzero = λ k. let q : None ≡ Some 0 = sym g.1 ∙ k in cc }
@@ -110,11 +121,18 @@ generalized_is_written w v t (year, moment, s, f, z, hs, hf, hz, e) n ends =
     ] in
     let cut : w ≡ (four_digits t.year ++ month_to_minute t) ++ (s ++ (f ++ z)) = e ∙ ap (λ l. (four_digits t.year ++ month_to_minute t) ++ l) (append_assoc s f z) in
     let tail = tail_is_written (four_digits t.year ++ month_to_minute t) s f z t hs hf zone.1
-    (λ q. n.1.1.0 (t, cut ∙ ap (λ l. (four_digits t.year ++ month_to_minute t) ++ (l ++ (f ++ z))) q.0 ∙ ap (λ l. (four_digits t.year ++ month_to_minute t) ++ (l ++ z)) q.1 ∙ ap (λ l. (four_digits t.year ++ month_to_minute t) ++ l) zone.1))
+    (λ q. n.1.1.0 (
+      t,
+      cut ∙ ap (λ l. (four_digits t.year ++ month_to_minute t) ++ (l ++ (f ++ z))) q.0 ∙ ap (λ l. (four_digits t.year ++ month_to_minute t) ++ (l ++ z)) q.1
+          ∙ ap (λ l. (four_digits t.year ++ month_to_minute t) ++ l) zone.1,
+    ))
     (λ q. n.1.1.1.0 (subst HasLooseFraction (sym cut) q)) in
     record {
-      written = cut ∙ ap (λ l. (four_digits t.year ++ month_to_minute t) ++ (l ++ (f ++ z))) tail.seconds ∙ ap (λ l. (four_digits t.year ++ month_to_minute t) ++ (two_digits t.second ++ (l ++ z))) tail.fraction
-          ∙ ap (λ l. (four_digits t.year ++ month_to_minute t) ++ (two_digits t.second ++ (fraction_text t.nanosecond ++ l))) zone.1 ∙ sym (generalized_written t year moment (few_seconds s t.second hs) zone.0);
+      written =
+          cut ∙ ap (λ l. (four_digits t.year ++ month_to_minute t) ++ (l ++ (f ++ z))) tail.seconds
+          ∙ ap (λ l. (four_digits t.year ++ month_to_minute t) ++ (two_digits t.second ++ (l ++ z))) tail.fraction
+          ∙ ap (λ l. (four_digits t.year ++ month_to_minute t) ++ (two_digits t.second ++ (fraction_text t.nanosecond ++ l))) zone.1
+          ∙ sym (generalized_written t year moment (few_seconds s t.second hs) zone.0);
       zone = zone.0;
       fraction = tail.nonzero;
     }
@@ -122,4 +140,5 @@ generalized_is_written w v t (year, moment, s, f, z, hs, hf, hz, e) n ends =
 -- a text of a time that passes the tests of DER
 pub time_is_written : (k : ℕ) (w : List ℕ) (t : ASN1DateTime) → IsTimeText k w t → NoneHolds (time_tests k w) → IsWrittenTime k w t
 time_is_written k w t (inl h) n = let q = sure ((v : List ℕ) × (w ≡ v ++ codes "Z")) (decided_ends w (codes "Z")) (λ m. n.0 (λ v e. m (v, e))) in rw h.0 (utc_is_written w q.0 t h.1 (rw h.0 at n) q.1)
-time_is_written k w t (inr h) n = let q = sure ((v : List ℕ) × (w ≡ v ++ codes "Z")) (decided_ends w (codes "Z")) (λ m. n.0 (λ v e. m (v, e))) in rw h.0 (generalized_is_written w q.0 t h.1 (rw h.0 at n) q.1)
+time_is_written k w t (inr h) n =
+    let q = sure ((v : List ℕ) × (w ≡ v ++ codes "Z")) (decided_ends w (codes "Z")) (λ m. n.0 (λ v e. m (v, e))) in rw h.0 (generalized_is_written w q.0 t h.1 (rw h.0 at n) q.1)

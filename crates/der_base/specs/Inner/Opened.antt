@@ -1,4 +1,4 @@
--- What stands for an input once it is known which element a combinator opened, or why it opened none.
+-- What holds of an input once it is known which element a combinator opened, or why it opened none.
 use Rattle.std.specs.Prelude.{◌≡◌, List, ℕ, Result, Ok, Err}
 use Rattle.std.specs.Borrow.{Bor}
 use Rattle.der_base.specs.declared.error.Err.{Err as Refused}
@@ -17,7 +17,7 @@ abbrev pub IsUnopened : {E : Type 0} → Opening E → Refused E → Type 0
 IsUnopened (Ok x) r = ⊥
 IsUnopened (Err e) r = r ≡ e
 
--- the second answer has in place of the first one's value another, as `makes` says, and the same rest
+-- the second result has in place of the first one's value another, as `makes` says, and the same rest
 abbrev pub Remakes : {V O E : Type 0} → (V → O → Type 0) → Answered V E → Answered O E → Type 0
 Remakes makes (Ok x) (Ok y) = (y.0 ≡ x.0) × makes x.1 y.1
 Remakes makes (Err e) (Err e') = e' ≡ e

@@ -1,5 +1,5 @@
 -- The elements inside an indefinite length as they are recorded: in the order of their headers, each with how many of
--- those behind it lie inside it (X.690 8.1.3.6).
+-- those after it lie inside it (X.690 8.1.3.6).
 use Rattle.std.specs.Prelude.{◌≡◌, ◌≢◌, ℕ, ◌+◌, ◌-◌, Some, List, [], ◌∷◌, ◌++◌, length}
 use Rattle.der_base.specs.declared.header.Header.{Header}
 use Rattle.der_base.specs.declared.header.Length.{Length}
@@ -19,8 +19,8 @@ pub record IsSpan (s : Span) (b : List ℕ) (k : ℕ) : Type 0 where
       raw_tag_of h ≡ Some (identifier (class_of h) (is_constructed h) (number_of h))
   pub other : b ≢ end_marker
 
--- The octets w are the elements that the spans are of, one behind the other. Behind the span of an indefinite length
--- come those inside it; behind that of a definite one none, for nothing looks into it.
+-- The octets w are the elements that the spans are of, one after the other. After the span of an indefinite length
+-- come those inside it; after that of a definite one none, since it is not looked into.
 pub data AreSpans : (ss : List Span) (w : List ℕ) (k : ℕ) → Type 0 where
   no_spans : {k : ℕ} → AreSpans [] [] k
   closed_span : {ss : List Span} {w : List ℕ} {k : ℕ} (s : Span) (n : ℕ) (after : List Span) (b rest : List ℕ)
@@ -36,12 +36,12 @@ abbrev pub AreInside : Length → List Span → List ℕ → ℕ → Type 0
 AreInside (Definite n) ss w k = ss ≡ []
 AreInside Indefinite ss w k = AreSpans ss w k
 
--- v begins with the content w of this length, and rest follows; behind the old spans come those inside it
+-- v begins with the content w of this length, and rest follows; after the old spans come those inside it
 abbrev pub RecordsContent : (v : List ℕ) → Length → (k : ℕ) (w rest : List ℕ) (old new : List Span) → Type 0
 RecordsContent v l k w rest old new =
     BeginsWithContent v l k w rest × (ss : List Span) × (new ≡ old ++ ss) × AreInside l ss w (k - 1)
 
--- behind the header stands its content, and rest follows; the spans are that of the element and those inside it
+-- the content follows the header, and then rest; the spans are that of the element and those inside it
 pub record RecordsElement (h : Header) (behind : List ℕ) (k : ℕ) (ss : List Span) (rest : List ℕ) : Type 0 where
   pub span : Span
   pub inside : List Span

@@ -18,7 +18,8 @@ pub some_content : (w u r : List ℕ) → w ≡ u ++ r → 0 < length r → w �
 some_content w u r e h z = omega (arith, h, ap (λ l. length l) z, ap (λ l. length l) e, length-append u r)
 
 -- the refusal of an item is that of its list
-pub item_answer : {T T' : Type 0} (P : T → Type 0) (P' : T' → Type 0) (M M' : Type 0) (Q : Refusal → Type 0) (faults : List ℕ → Refusal → Type 0) (lacks : List ℕ → ℕ → Type 0) (r : List ℕ) (e e' : Refused BerError)
+pub item_answer : {T T' : Type 0} (P : T → Type 0) (P' : T' → Type 0) (M M' : Type 0) (Q : Refusal → Type 0) (faults : List ℕ → Refusal → Type 0) (lacks : List ℕ → ℕ → Type 0) (r : List ℕ)
+    (e e' : Refused BerError)
     → RefusesCutItem e e' → 0 < length r → MatchAnswer {T = T} (Err e) P (faults r) (λ n. IsCut r × lacks r n × ((x : Refusal) → ¬ faults r x)) M
     → ((x : Refusal) → ItemRefuses faults lacks r x → Q x) → (M → M') → MatchAnswer {T = T'} (Err e') P' Q (λ _. ⊥) M'
 item_answer P P' M M' Q faults lacks r (Error x) e' k some h f g = rw k (f (refusal x) (some_octets r some, inl h))

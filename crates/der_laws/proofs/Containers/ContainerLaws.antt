@@ -1,32 +1,28 @@
 -- The element that begins the input, what a container refuses, and which of the two a run shows: one of them holds at most, and each in one way.
-use Rattle.std.proofs.Common.{◌≡◌, ◌≢◌, ℕ, ◌-◌, ◌<◌, Bool, Some, List, length, Ok, Err, IfOk, IsOkAnd, Bor, refl, sym, ap, subst, ◌∙◌, arith, inl, inr}
-use Rattle.der_base.specs.declared.any.Any.{Any}
+use Rattle.std.proofs.Common.{◌≡◌, ℕ, ◌-◌, ◌<◌, Bool, List, length, Err, Bor, sym, subst, ◌∙◌, arith, inl, inr}
 use Rattle.der_base.specs.declared.error.Err.{Err as Refused}
 use Rattle.der_base.specs.declared.error.Err.TheVariants.{Incomplete, Error, Failure, OutOfMemory}
 use Rattle.der_base.specs.declared.error.Error.{Error as BerError}
 use Rattle.der_base.specs.declared.error.ErrorKind.{ErrorKind}
-use Rattle.der_base.specs.declared.error.ErrorKind.TheVariants.{Eof}
 use Rattle.der_base.specs.declared.error.Needed.TheVariants.{Unknown, Size}
 use Rattle.der_base.specs.declared.header.Class.{Class}
 use Rattle.der_base.specs.declared.header.Header.{Header}
 use Rattle.der_base.specs.declared.header.Length.TheVariants.{Definite}
 use Rattle.der_base.specs.Answer.{MatchAnswer}
-use Rattle.der_base.specs.Any.{ReadsAny, AnyRefuses, AnyLacks}
+use Rattle.der_base.specs.Any.{AnyRefuses, AnyLacks}
 use Rattle.der_base.specs.Errors.{MapsError}
 use Rattle.der_base.specs.Headers.{ReadsHeader}
 use Rattle.der_base.specs.Header.{IsHeader, class_of, is_constructed, number_of, length_of, raw_tag_of}
-use Rattle.der_base.specs.Refusal.{Refusal, refusal, unexpected_tag}
-use Rattle.der_base.specs.Containers.{Answered, OpensBer, HasShortContent, OpeningLacks, faulty, cut, too_short, RefusesBer, RefusesBerNumber, OpensBerNumber, OpensExplicit, RefusesExplicit, unopened, universal, other_number, primitive, OneCall, stopped, accepted, NoCall, refused, ContainerRun}
+use Rattle.der_base.specs.Refusal.{refusal}
+use Rattle.der_base.specs.Containers.{Answered, OpensBer, HasShortContent, faulty, cut, too_short}
+use Rattle.der_base.specs.Containers.{RefusesBer, RefusesBerNumber, OpensBerNumber, OpensExplicit, RefusesExplicit}
+use Rattle.der_base.specs.Containers.{unopened, universal, other_number, primitive, OneCall, stopped, accepted, NoCall}
+use Rattle.der_base.specs.Containers.{refused, ContainerRun}
 use Rattle.der_base.specs.Spelling.{BeginsWithElement, framing_budget}
-use Rattle.der_base.proofs.Headers.BerHeaders.{ber_header_same, ber_header_only}
-use Rattle.der_base.proofs.Framing.Cuts.{lacks_same}
+use Rattle.der_base.proofs.Headers.BerHeaders.{ber_header_only}
 use Rattle.der_base.proofs.Framing.UniqueSpelling.{begins_same}
 use Rattle.der_base.proofs.Framing.FramingAny.{any_lacks_content}
-use Rattle.der_base.proofs.Framing.FramingLaws.{begins_not_refused, begins_not_cut, any_refusal_same}
-
--- an element that is read is opened
-pub any_opens : (i rest : List ℕ) (a : Any) → ReadsAny i a rest → OpensBer i a.header a.bytes.now rest
-any_opens i rest a r = record { element = r.element; behind = r.behind; header = r.header }
+use Rattle.der_base.proofs.Framing.FramingLaws.{begins_not_refused, begins_not_cut}
 
 -- the input opens in one way
 pub ber_opens_same : (i w w' after after' : List ℕ) (h h' : Header) → OpensBer i h w after → OpensBer i h' w' after'
@@ -39,9 +35,6 @@ ber_opens_same i w w' after after' h h' o o' =
 -- an input whose content is short is cut, and shows no fault
 pub short_lacks : (i behind : List ℕ) → HasShortContent i behind → (n : ℕ) × AnyLacks i n
 short_lacks i behind (c, p, t, m, h, l) = let n = m - length behind in (n, any_lacks_content i behind c p t (Definite m) n h (omega (arith, l), omega (arith, l)))
-
-short_same : (i v v' : List ℕ) → HasShortContent i v → HasShortContent i v' → v ≡ v'
-short_same i v v' (c, p, t, n, h, l) (c', p', t', n', h', l') = (ber_header_same i v v' c c' p p' t t' (Definite n) (Definite n') h h').rest
 
 -- a content is short by the header that is read
 pub short_behind : (i v v' : List ℕ) (h : Header) → ReadsHeader i h v → HasShortContent i v' → (n : ℕ) × (length_of h ≡ Definite n) × (v ≡ v') × (length v < n)
@@ -64,7 +57,8 @@ converted P k g i OutOfMemory r h s m = absurd h
 
 module _ {E : Type 0} {from_error_kind_gives : Bor (List ℕ) → ErrorKind → E → Type 0} {from_gives : BerError → E → Type 0} where
   -- an element in front is not refused
-  pub ber_begins_not_refused : {i : List ℕ} {r : Refused E} (c : Class) (p : Bool) (t : ℕ) (w rest : List ℕ) → BeginsWithElement i framing_budget c p t w rest → RefusesBer from_error_kind_gives from_gives i r → ⊥
+  pub ber_begins_not_refused : {i : List ℕ} {r : Refused E} (c : Class) (p : Bool) (t : ℕ) (w rest : List ℕ) → BeginsWithElement i framing_budget c p t w rest
+      → RefusesBer from_error_kind_gives from_gives i r → ⊥
   ber_begins_not_refused {i = i} c p t w rest b (faulty {e = e} h g) = begins_not_refused i c p t w rest (refusal e) b h
   ber_begins_not_refused {i = i} c p t w rest b (cut (l, s)) = begins_not_cut i framing_budget c p t w rest b l.0
   ber_begins_not_refused {i = i} c p t w rest b (too_short {behind = v} s k) = begins_not_short i c p t w rest v.now b s
@@ -72,43 +66,20 @@ module _ {E : Type 0} {from_error_kind_gives : Bor (List ℕ) → ErrorKind → 
   pub ber_opens_not_refused : {i : List ℕ} {r : Refused E} (h : Header) (w after : List ℕ) → OpensBer i h w after → RefusesBer from_error_kind_gives from_gives i r → ⊥
   ber_opens_not_refused h w after o r = ber_begins_not_refused (class_of h) (is_constructed h) (number_of h) w after o.element r
 
-  -- a fault is told by its name
-  pub fault_told : {i : List ℕ} {r : Refused E} (e : Refusal) → AnyRefuses i e → RefusesBer from_error_kind_gives from_gives i r → (y : BerError) × (x : E) × (refusal y ≡ e) × from_gives y x × (r ≡ Error x)
-  fault_told {i = i} e h (faulty {e = y} {x = x} h' g) = (y, x, any_refusal_same i (refusal y) e h' h, g, refl)
-  fault_told e h (cut (l, s)) = absurd (l.2 e h)
-  fault_told {i = i} e h (too_short {behind = v} s k) = absurd ((short_lacks i v.now s).1.2 e h)
-
-  -- the octets that are lacking by their number
-  pub lack_told : {i : List ℕ} {r : Refused E} (n : ℕ) → OpeningLacks i n → RefusesBer from_error_kind_gives from_gives i r → r ≡ Incomplete (Size n)
-  lack_told n (l, s) (faulty {e = y} h g) = absurd (l.2 (refusal y) h)
-  lack_told n (l, s) (cut {n = m} (l', s')) = ap (λ k. Incomplete (Size k)) (lacks_same l'.1 l.1 refl)
-  lack_told n (l, s) (too_short {behind = v} s' k) = absurd (s v.now s')
-
-  -- and a short content at the octets behind the header
-  pub short_told : {i : List ℕ} {r : Refused E} (behind : List ℕ) → HasShortContent i behind → RefusesBer from_error_kind_gives from_gives i r → (v : Bor (List ℕ)) × (x : E) × (v.now ≡ behind) × from_error_kind_gives v Eof x × (r ≡ Error x)
-  short_told {i = i} behind s (faulty {e = y} h g) = absurd ((short_lacks i behind s).1.2 (refusal y) h)
-  short_told behind s (cut (l, s')) = absurd (s' behind s)
-  short_told {i = i} behind s (too_short {behind = v} {x = x} s' k) = (v, x, short_same i v.now behind s' s, k, refl)
-
   -- an element of the number is not refused for its number
-  pub number_begins_not_refused : {n : ℕ} {i : List ℕ} {r : Refused E} (c : Class) (p : Bool) (w rest : List ℕ) → BeginsWithElement i framing_budget c p n w rest → RefusesBerNumber from_error_kind_gives from_gives n i r → ⊥
+  pub number_begins_not_refused : {n : ℕ} {i : List ℕ} {r : Refused E} (c : Class) (p : Bool) (w rest : List ℕ) → BeginsWithElement i framing_budget c p n w rest
+      → RefusesBerNumber from_error_kind_gives from_gives n i r → ⊥
   number_begins_not_refused {n = n} c p w rest b (unopened h) = ber_begins_not_refused c p n w rest b h
-  number_begins_not_refused {n = n} {i = i} c p w rest b (other_number (o, h, w', after, q, z) e g) = o (sym ((begins_same i framing_budget framing_budget c (class_of h) p (is_constructed h) n (number_of h) w w' rest after b q.element).2 ∙ z))
+  number_begins_not_refused {n = n} {i = i} c p w rest b (other_number (o, h, w', after, q, z) e g) =
+      o (sym ((begins_same i framing_budget framing_budget c (class_of h) p (is_constructed h) n (number_of h) w w' rest after b q.element).2 ∙ z))
 
   pub number_opens_not_refused : {n : ℕ} {i : List ℕ} {r : Refused E} (h : Header) (w after : List ℕ) → OpensBerNumber n i h w after → RefusesBerNumber from_error_kind_gives from_gives n i r → ⊥
   number_opens_not_refused {n = n} {i = i} h w after (o, z) r =
       number_begins_not_refused (class_of h) (is_constructed h) w after (subst (λ t. BeginsWithElement i framing_budget (class_of h) (is_constructed h) t w after) z o.element) r
 
-  -- another number is told by its name
-  pub number_told : {i : List ℕ} {r : Refused E} (n t : ℕ) (c : Class) (p : Bool) (w rest : List ℕ) → t ≢ n → BeginsWithElement i framing_budget c p t w rest → RefusesBerNumber from_error_kind_gives from_gives n i r
-      → (y : BerError) × (x : E) × (refusal y ≡ unexpected_tag (Some n) t) × from_gives y x × (r ≡ Error x)
-  number_told n t c p w rest o b (unopened h) = absurd (ber_begins_not_refused c p t w rest b h)
-  number_told {i = i} n t c p w rest o b (other_number {e = y} {x = x} (o', h, w', after, q, z) e g) =
-      let s = (begins_same i framing_budget framing_budget (class_of h) c (is_constructed h) p (number_of h) t w' w after rest q.element b).2 in
-      (y, x, e ∙ ap (unexpected_tag (Some n)) (sym z ∙ s), g, refl)
-
   -- an explicit tag of the number is not refused
-  pub explicit_opens_not_refused : {n : ℕ} {i : List ℕ} {r : Refused E} (h : Header) (w after : List ℕ) → OpensExplicit (OpensBer i) n h w after → RefusesExplicit (OpensBer i) (RefusesBer from_error_kind_gives from_gives i) from_gives n r → ⊥
+  pub explicit_opens_not_refused : {n : ℕ} {i : List ℕ} {r : Refused E} (h : Header) (w after : List ℕ) → OpensExplicit (OpensBer i) n h w after
+      → RefusesExplicit (OpensBer i) (RefusesBer from_error_kind_gives from_gives i) from_gives n r → ⊥
   explicit_opens_not_refused h w after o (unopened u) = ber_opens_not_refused h w after o.0 u
   explicit_opens_not_refused {i = i} h w after o (universal {h = h'} {w = w'} {after = a'} q c e g) = o.1 ((ber_opens_same i w w' after a' h h' o.0 q).0.class ∙ c)
   explicit_opens_not_refused {i = i} h w after o (other_number {h = h'} {w = w'} {after = a'} q c z e g) = z (sym (ber_opens_same i w w' after a' h h' o.0 q).0.number ∙ o.2)
@@ -125,19 +96,3 @@ module _ {F O E : Type 0} (opens : Header → List ℕ → List ℕ → Type 0) 
   no_call (inl h) n = h
   no_call (inr (stopped {h = h} {w = w} {after = after} o s e)) n = absurd (n h w after o)
   no_call (inr (accepted {h = h} {w = w} {after = after} o s e)) n = absurd (n h w after.now o)
-
--- what a container says, where its parser says P of a content and a value
-module _ {F O E : Type 0} (opens : Header → List ℕ → List ℕ → Type 0) (refuses : Refused E → Type 0) (step : F → Bor (List ℕ) → Header → Answered O E → F → Type 0) (P : List ℕ → O → Type 0) where
-  -- an Ok is an element whose content P holds of
-  pub container_ok : ((f g : F) (content left : Bor (List ℕ)) (h : Header) (v : O) → step f content h (Ok (left, v)) g → P content.now v)
-      → {f g : F} {r : Answered O E} → ContainerRun opens refuses step f r g → IfOk r (λ x. (h : Header) × (w : List ℕ) × opens h w x.0.now × P w x.1)
-  container_ok says (inl (refused e)) = tt
-  container_ok says (inr (stopped o s e)) = tt
-  container_ok says {f = f} (inr (accepted {g = g} {h = h} {w = w} {content = content} {left = left} {v = v} o s e)) = (h, w, o, subst (λ x. P x v) e (says f g content left h v s))
-
-  -- and an element is an Ok where the parser answers one on its content
-  pub container_reads : {f g : F} {r : Answered O E} → OneCall opens step f r g
-      → ((h : Header) (w after : List ℕ) (content : Bor (List ℕ)) (a : Answered O E) → opens h w after → content.now ≡ w → step f content h a g → IsOkAnd a (λ x. P w x.1))
-      → IsOkAnd r (λ x. (h : Header) × (w : List ℕ) × opens h w x.0.now × P w x.1)
-  container_reads (stopped {h = h} {w = w} {after = after} {content = content} {e = e} o s q) reads = absurd (reads h w after content (Err e) o q s)
-  container_reads (accepted {h = h} {w = w} {content = content} {left = left} {after = after} {v = v} o s q) reads = (h, w, o, reads h w after.now content (Ok (left, v)) o q s)

@@ -13,7 +13,9 @@ use Rattle.der_base.specs.Fault.{DerHeaderRefuses}
 use Rattle.der_base.specs.Headers.{ReadsDerHeader, DerHeaderLacks}
 use Rattle.der_base.specs.Header.{IsHeader, class_of, is_constructed, number_of, length_of, raw_tag_of}
 use Rattle.der_base.specs.Refusal.{refusal}
-use Rattle.der_base.specs.Containers.{OpensDer, HasShortDerContent, RefusesDer, RefusesDerNumber, OpensDerNumber, OpensExplicit, RefusesExplicit, faulty, cut, too_short, unopened, universal, other_number, primitive}
+use Rattle.der_base.specs.Containers.{OpensDer, HasShortDerContent, RefusesDer, RefusesDerNumber, OpensDerNumber}
+use Rattle.der_base.specs.Containers.{OpensExplicit, RefusesExplicit, faulty, cut, too_short, unopened, universal}
+use Rattle.der_base.specs.Containers.{other_number, primitive}
 use Rattle.der_base.proofs.Headers.DerHeaders.{der_header_same, der_header_only, der_header_not_refused, der_header_not_lacking}
 use Rattle.der_base.proofs.Octets.Identifiers.{fronts_same}
 
@@ -31,9 +33,6 @@ der_opens_same i w w' after after' h h' o o' =
     let f = fronts_same w w' after after' l q.1 in
     (record { class = q.0.class; constructed = q.0.constructed; number = q.0.number; length = q.0.length ∙ sym o'.0.length; raw_tag = q.0.raw_tag ∙ sym o'.0.raw_tag }, f.0, f.1)
 
-pub short_der_same : (i v v' : List ℕ) → HasShortDerContent i v → HasShortDerContent i v' → v ≡ v'
-short_der_same i v v' (c, p, t, n, h, l) (c', p', t', n', h', l') = (der_header_same i v v' c c' p p' t t' n n' h h').rest
-
 -- a content is short by the header that is read
 pub short_der_behind : (i v : List ℕ) (h : Header) (n : ℕ) → ReadsDerHeader i h v → length_of h ≡ Definite n → length v < n → HasShortDerContent i v
 short_der_behind i v h n r l s =
@@ -42,7 +41,8 @@ short_der_behind i v h n r l s =
     (class_of h, is_constructed h, number_of h, r.size, r.begins, omega (arith, q, s))
 
 -- a refusal of the definition, as it is told in place of another error
-pub converted_der : {E T : Type 0} (P : T → Type 0) (from_error_kind_gives : Bor (List ℕ) → ErrorKind → E → Type 0) (from_gives : BerError → E → Type 0) (i : List ℕ) (e : Refused BerError) (r : Refused E)
+pub converted_der : {E T : Type 0} (P : T → Type 0) (from_error_kind_gives : Bor (List ℕ) → ErrorKind → E → Type 0) (from_gives : BerError → E → Type 0) (i : List ℕ) (e : Refused BerError)
+    (r : Refused E)
     → MatchAnswer (Err e) P (DerHeaderRefuses i) (DerHeaderLacks i) ⊥ → MapsError from_gives e r → RefusesDer from_error_kind_gives from_gives i r
 converted_der P k g i (Error e) r h (x, q, m) = rw m (faulty h q)
 converted_der P k g i (Incomplete (Size n)) r h m = rw m (cut h)
@@ -65,7 +65,8 @@ module _ {E : Type 0} {from_error_kind_gives : Bor (List ℕ) → ErrorKind → 
   der_number_opens_not_refused {i = i} h w after (o, z) (other_number (n, h', w', after', q, z') e g) = n (sym z' ∙ sym (der_opens_same i w w' after after' h h' o q).0.number ∙ z)
 
   -- nor an explicit tag of the number
-  pub der_explicit_opens_not_refused : {n : ℕ} {i : List ℕ} {r : Refused E} (h : Header) (w after : List ℕ) → OpensExplicit (OpensDer i) n h w after → RefusesExplicit (OpensDer i) (RefusesDer from_error_kind_gives from_gives i) from_gives n r → ⊥
+  pub der_explicit_opens_not_refused : {n : ℕ} {i : List ℕ} {r : Refused E} (h : Header) (w after : List ℕ) → OpensExplicit (OpensDer i) n h w after
+      → RefusesExplicit (OpensDer i) (RefusesDer from_error_kind_gives from_gives i) from_gives n r → ⊥
   der_explicit_opens_not_refused h w after o (unopened u) = der_opens_not_refused h w after o.0 u
   der_explicit_opens_not_refused {i = i} h w after o (universal {h = h'} {w = w'} {after = a'} q c e g) = o.1 ((der_opens_same i w w' after a' h h' o.0 q).0.class ∙ c)
   der_explicit_opens_not_refused {i = i} h w after o (other_number {h = h'} {w = w'} {after = a'} q c z e g) = z (sym (der_opens_same i w w' after a' h h' o.0 q).0.number ∙ o.2)

@@ -1,6 +1,5 @@
 -- What the calls of a list parser say of its content and its values.
-use Rattle.std.proofs.Common.{◌≡◌, ℕ, List, [], ◌∷◌, ◌++◌, ◌<◌, length, Result, Bor, Ok, refl, sym, ap, subst, ◌∙◌, append_assoc, append-nil}
-use Rattle.std.specs.List.{concat}
+use Rattle.std.proofs.Common.{◌≡◌, ℕ, List, [], ◌∷◌, ◌++◌, ◌<◌, length, Result, Bor, Ok, refl}
 use Rattle.der_base.specs.declared.error.Err.{Err as Refused}
 use Rattle.der_base.specs.declared.error.ErrorKind.{ErrorKind}
 use Rattle.der_base.specs.ListSteps.{Calls, no_call, one_more, LastCall, ListSteps, taken}
@@ -15,19 +14,6 @@ module _ {F O E : Type 0} (step : F → Bor (List ℕ) → Answered O E → F �
   pub nothing_taken : {f : F} {i : List ℕ} {g : F} {j : List ℕ} {vs : List O} {ss : List (List ℕ)} → Calls step f i vs ss g j → vs ≡ [] → (i ≡ j) × (ss ≡ []) × (f ≡ g)
   nothing_taken no_call e = (refl, refl, refl)
   nothing_taken (one_more {vs = vs} {v = v} c s q l) e = absurd (no_snoc vs v e)
-
-  concat_snoc : (ss : List (List ℕ)) (t : List ℕ) → concat (ss ++ t ∷ []) ≡ concat ss ++ t
-  concat_snoc [] t = append-nil t
-  concat_snoc (s ∷ ss) t = ap (λ w. s ++ w) (concat_snoc ss t) ∙ sym (append_assoc s (concat ss) t)
-
-  module _ (says : (f g : F) (p r : Bor (List ℕ)) (v : O) → step f p (Ok (r, v)) g → p.now ≡ taken p.now r.now ++ r.now) where
-    -- where a rest is what its input ends in, the octets are those that the calls took, and what is left
-    pub taken_join : {f : F} {i : List ℕ} {g : F} {j : List ℕ} {vs : List O} {ss : List (List ℕ)} → Calls step f i vs ss g j → i ≡ concat ss ++ j
-    taken_join no_call = refl
-    taken_join (one_more {m = m} {g = g} {ss = ss} {j = j} {p = p} {r = r} {v = v} c s q l) =
-        let t = taken j r.now in
-        let e : j ≡ t ++ r.now = subst (λ x. x ≡ taken x r.now ++ r.now) q (says m g p r v s) in
-        taken_join c ∙ ap (λ x. concat ss ++ x) e ∙ sym (append_assoc (concat ss) t r.now) ∙ ap (λ x. x ++ r.now) (sym (concat_snoc ss t))
 
 module _ {F O E : Type 0} {step : F → Bor (List ℕ) → Answered O E → F → Type 0} where
   -- one call more goes on

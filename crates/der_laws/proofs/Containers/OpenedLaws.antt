@@ -3,7 +3,9 @@ use Rattle.std.proofs.Common.{ℕ, List, Ok, Err, IfOk, IfErr, Bor, inl, inr}
 use Rattle.der_base.specs.declared.error.Err.{Err as Refused}
 use Rattle.der_base.specs.declared.error.Error.{Error as BerError}
 use Rattle.der_base.specs.declared.header.Header.{Header}
-use Rattle.der_base.specs.Containers.{Answered, OpensNumber, RefusesNumber, OpensExplicit, RefusesExplicit, unopened, universal, other_number, primitive, stopped, accepted, refused, ContainerRun, Made, not_made, made}
+use Rattle.der_base.specs.Containers.{Answered, OpensNumber, RefusesNumber, OpensExplicit, RefusesExplicit, unopened}
+use Rattle.der_base.specs.Containers.{universal, other_number, primitive, stopped, accepted, refused, ContainerRun}
+use Rattle.der_base.specs.Containers.{Made, not_made, made}
 use Rattle.der_base.specs.Inner.Opened.{Opening, IsOpened, IsUnopened, Remakes}
 
 module _ {E : Type 0} (opens : Header → List ℕ → List ℕ → Type 0) (refuses : Refused E → Type 0) where
@@ -34,7 +36,8 @@ module _ {E : Type 0} (opens : Header → List ℕ → List ℕ → Type 0) (ref
     number_of_refused (other_number (k, h, w, after, p, z) e g) = other_number (k, h, w, after, opened_of opened o p, z) e g
 
     -- what was not, or has another one
-    pub number_refused : (from_gives : BerError → E → Type 0) (tested : Opening E) → IfErr tested (RefusesNumber (IsOpened opened) (IsUnopened opened) from_gives n) → IfErr tested (RefusesNumber opens refuses from_gives n)
+    pub number_refused : (from_gives : BerError → E → Type 0) (tested : Opening E) → IfErr tested (RefusesNumber (IsOpened opened) (IsUnopened opened) from_gives n)
+        → IfErr tested (RefusesNumber opens refuses from_gives n)
     number_refused from_gives (Ok x) p = tt
     number_refused from_gives (Err e) p = number_of_refused p
 
@@ -49,7 +52,8 @@ module _ {E : Type 0} (opens : Header → List ℕ → List ℕ → Type 0) (ref
     explicit_of_refused (other_number p c z e g) = other_number (opened_of opened o p) c z e g
     explicit_of_refused (primitive p c z b e g) = primitive (opened_of opened o p) c z b e g
 
-    pub explicit_refused : (from_gives : BerError → E → Type 0) (tested : Opening E) → IfErr tested (RefusesExplicit (IsOpened opened) (IsUnopened opened) from_gives n) → IfErr tested (RefusesExplicit opens refuses from_gives n)
+    pub explicit_refused : (from_gives : BerError → E → Type 0) (tested : Opening E) → IfErr tested (RefusesExplicit (IsOpened opened) (IsUnopened opened) from_gives n)
+        → IfErr tested (RefusesExplicit opens refuses from_gives n)
     explicit_refused from_gives (Ok x) p = tt
     explicit_refused from_gives (Err e) p = explicit_of_refused p
 

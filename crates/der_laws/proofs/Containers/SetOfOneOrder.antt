@@ -95,7 +95,8 @@ one_order [] [] e e' a a' same = refl
 one_order [] (t ∷ ts) e e' a a' same = absurd (omega (arith, same (λ x. 1), sum_by-cons (λ (x : List ℕ). 1) t ts))
 one_order (s ∷ ss) [] e e' a a' same = absurd (omega (arith, same (λ x. 1), sum_by-cons (λ (x : List ℕ). 1) s ss))
 one_order (s ∷ ss) (t ∷ ts) e e' a a' same =
-    let q : s ≡ t = encodings_do_not_tie s t e.0 e'.0 (λ d. first_not_greater s t ss ts a same (descends_greater s t d)) (λ d. first_not_greater t s ts ss a' (λ f. sym (same f)) (descends_greater t s d)) in
+    let q : s ≡ t = encodings_do_not_tie s t e.0 e'.0 (λ d. first_not_greater s t ss ts a same (descends_greater s t d))
+    (λ d. first_not_greater t s ts ss a' (λ f. sym (same f)) (descends_greater t s d)) in
     let rest : ss ≡ ts = one_order ss ts e.1 e'.1 (rest_ascends s ss a) (rest_ascends t ts a') (λ f. omega (arith, same f, sum_by-cons f s ss, sum_by-cons f t ts, ap f q)) in
     ap (λ x. x ∷ ss) q ∙ ap (λ l. t ∷ l) rest
 

@@ -10,7 +10,9 @@ use Rattle.der_base.specs.Tree.{Content, end_of_content, boolean, integer, bit_s
 use Rattle.der_base.specs.Leaf.{is_list, is_time, is_mapped, IsLeafContent, IsStrict, IsDerLeaf, HasZeroUnusedBits, IsMinimalInteger}
 use Rattle.der_base.specs.LeafRefusal.{Test, choose, ber_tests, integer_tests, bit_string_tests, range_tests, der_primitive_tests, der_tests, DerLeafRefuses}
 use Rattle.der_base.specs.Refusal.{Refusal, der_constraint}
-use Rattle.der_base.proofs.Leaves.Decided.{Decided, never, sure, decided_like, decided_and, decided_not, decided_true, decided_false, decided_equal, decided_below, decided_at_most, decided_empty, decided_list}
+use Rattle.der_base.proofs.Leaves.Decided.{Decided, never, sure, decided_like, decided_and, decided_not, decided_true}
+use Rattle.der_base.proofs.Leaves.Decided.{decided_false, decided_equal, decided_below, decided_at_most, decided_empty}
+use Rattle.der_base.proofs.Leaves.Decided.{decided_list}
 use Rattle.der_base.proofs.AllByRecursion.{Each, each_from_all}
 use Rattle.der_base.proofs.Leaves.Refusals.{AllDecided, NoneHolds, first_or_none, none_refused, row_decided, decided_append, none_of_front}
 use Rattle.der_base.proofs.Octets.Shortest.{IsOctet, shortest_of_value}
@@ -25,7 +27,8 @@ decided_front P (b ∷ v) d = decided_like (P b v) _ (λ h. (b, v, refl, h)) (λ
 decided_two : (a : ℕ) (P : ℕ → Type 0) (w : List ℕ) → ((b : ℕ) → Decided (P b)) → Decided ((b : ℕ) × (v : List ℕ) × (w ≡ a ∷ b ∷ v) × P b)
 decided_two a P [] d = inr (λ q. let e = q.2 in cc)
 decided_two a P (c ∷ []) d = inr (λ q. let e = q.2 in cc)
-decided_two a P (c ∷ b ∷ w) d = decided_like ((c ≡ a) × P b) _ (λ h. (b, w, ap (λ x. x ∷ b ∷ w) h.0, h.1)) (λ (x, v, e, h). let k : x ≡ b = cc in ((cc), subst P k h)) (decided_and _ _ (decided_equal c a) (d b))
+decided_two a P (c ∷ b ∷ w) d =
+    decided_like ((c ≡ a) × P b) _ (λ h. (b, w, ap (λ x. x ∷ b ∷ w) h.0, h.1)) (λ (x, v, e, h). let k : x ≡ b = cc in ((cc), subst P k h)) (decided_and _ _ (decided_equal c a) (d b))
 
 pub integer_decided : (w : List ℕ) → AllDecided (integer_tests w)
 integer_decided w = (decided_empty w, (decided_two 0 (λ a. a < 128) w (λ b. decided_below b 128), (decided_two 255 (λ a. 128 ≤ a) w (λ b. decided_at_most 128 b), tt)))

@@ -6,12 +6,7 @@ use Rattle.der_base.specs.LeafRefusal.{Test, IsFirstRefusal, DerLeafRefuses}
 use Rattle.der_base.specs.Refusal.{Refusal}
 use Rattle.der_base.specs.Tree.{Content}
 use Rattle.der_laws.proofs.Leaves.NeverBoth.{never_both_der}
-use Rattle.der_laws.proofs.Leaves.OneContent.{one_der_leaf}
 use Rattle.der_base.proofs.Leaves.Refusals.{first_refusal_once}
-
--- octets are written for one content
-pub der_leaf_same : (t : ℕ) (x y : Content) → IsDerLeaf t x → IsDerLeaf t y → content_octets x ≡ content_octets y → x ≡ y
-der_leaf_same = one_der_leaf
 
 -- what is written for a content, in an element that is primitive, is not refused
 pub der_leaf_accepted : (p : Bool) (t : ℕ) (x : Content) (e : Refusal) → IsDerLeaf t x → p ≡ false → DerLeafRefuses p t (content_octets x) e → ⊥

@@ -66,7 +66,13 @@ minimal_passes (a ∷ b ∷ w) m = (
 )
 
 bit_string_passes : (u : ℕ) (w : List ℕ) → HasZeroUnusedBits u w → NoneHolds (bit_string_tests (u ∷ w))
-bit_string_passes u w h = ((λ q. cc), ((λ q. let eu : u ≡ q.0 = cc (q.2) in let few : u ≤ 7 = few_bits u w h in omega arith), ((λ q. let eu : u ≡ q.0 = cc (q.2) in let ew : w ≡ q.1 = cc (q.2) in q.3 (rw (← eu, ← ew) h)), tt)))
+bit_string_passes u w h = (
+  (λ q. cc),
+  (
+    (λ q. let eu : u ≡ q.0 = cc (q.2) in let few : u ≤ 7 = few_bits u w h in omega arith),
+    ((λ q. let eu : u ≡ q.0 = cc (q.2) in let ew : w ≡ q.1 = cc (q.2) in q.3 (rw (← eu, ← ew) h)), tt),
+  ),
+)
   where
     few_bits : (u : ℕ) (w : List ℕ) → HasZeroUnusedBits u w → u ≤ 7
     few_bits u [] h = omega arith

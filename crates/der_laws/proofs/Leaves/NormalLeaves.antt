@@ -1,5 +1,7 @@
 -- What is written for content octets that were read is read as the same content.
-use Rattle.std.proofs.Common.{◌≡◌, ℕ, zero, suc, ◌+◌, ◌-◌, ◌*◌, ◌^◌, ◌<◌, ◌≤◌, ◌==◌, Bool, true, false, Some, pos, neg_ℤ, int_lt, List, [], ◌∷◌, ◌++◌, length, length-append, pow-add, replicate, refl, sym, ap, subst, ◌∙◌, arith, inl, inr}
+use Rattle.std.proofs.Common.{◌≡◌, ℕ, zero, suc, ◌+◌, ◌-◌, ◌*◌, ◌^◌, ◌<◌, ◌≤◌, ◌==◌, Bool, true, false, Some, pos}
+use Rattle.std.proofs.Common.{neg_ℤ, int_lt, List, [], ◌∷◌, ◌++◌, length, length-append, pow-add, replicate, refl, sym}
+use Rattle.std.proofs.Common.{ap, subst, ◌∙◌, arith, inl, inr}
 use Rattle.std.proofs.Math.Nat.{mul_assoc}
 use Rattle.std.proofs.lemmas.Bool.Decides.{Decides-eqb, nat_tests}
 use Rattle.std.proofs.lemmas.List.{length-replicate}
@@ -8,7 +10,9 @@ use Rattle.der_base.specs.declared.time.ASN1TimeZone.{ASN1TimeZone}
 use Rattle.der_base.specs.declared.time.ASN1TimeZone.TheVariants.{Undefined, Z, Offset}
 use Rattle.der_base.specs.Encoding.{content_octets}
 use Rattle.der_base.specs.Leaf.{IsLeafContent}
-use Rattle.der_base.specs.Time.{two_digits, decimal_from, IsDigit, IsZone, IsFraction, IsUtcTime, IsGeneralizedTime, IsTimeText, at_least_digits, without_last_zeros, or_zero, fraction_text, zone_text, time_text}
+use Rattle.der_base.specs.Time.{two_digits, decimal_from, IsDigit, IsZone, IsFraction, IsUtcTime, IsGeneralizedTime}
+use Rattle.der_base.specs.Time.{IsTimeText, at_least_digits, without_last_zeros, or_zero, fraction_text, zone_text}
+use Rattle.der_base.specs.Time.{time_text}
 use Rattle.der_base.specs.Tree.{Content, end_of_content, boolean, integer, bit_string, string, null, enumerated, object_identifier, relative_oid, time, sequence, set, absent, present, tagged, unknown}
 use Rattle.der_base.proofs.Times.DerTimes.{few_seconds}
 use Rattle.der_base.proofs.AllByRecursion.{Each, each_from_all, all_from_each}
@@ -43,7 +47,8 @@ zeros_behind : (ds : List ℕ) → (j : ℕ) × (ds ≡ without_last_zeros ds ++
 zeros_behind [] = (zero, refl)
 zeros_behind (d ∷ ds) = let q = zeros_behind ds in at q.0 q.1 (d == 0x30) refl (without_last_zeros ds) refl
   where
-    at : (j : ℕ) → ds ≡ without_last_zeros ds ++ replicate j 0x30 → (b : Bool) → (d == 0x30) ≡ b → (left : List ℕ) → without_last_zeros ds ≡ left → (j : ℕ) × (d ∷ ds ≡ without_last_zeros (d ∷ ds) ++ replicate j 0x30)
+    at : (j : ℕ) → ds ≡ without_last_zeros ds ++ replicate j 0x30 → (b : Bool) → (d == 0x30) ≡ b → (left : List ℕ) → without_last_zeros ds ≡ left
+        → (j : ℕ) × (d ∷ ds ≡ without_last_zeros (d ∷ ds) ++ replicate j 0x30)
     at j e false p left l = (j, rw p (ap (λ w. d ∷ w) e))
     at j e true p [] l = (suc j, rw (p, l) (let k : d ≡ 0x30 = (Decides-eqb d 0x30).0 p in let g : ds ≡ replicate j 0x30 = e ∙ ap (λ w. w ++ replicate j 0x30) l in rw k (ap (λ w. 0x30 ∷ w) g)))
     at j e true p (c ∷ left) l = let some : (length (c ∷ left) == 0) ≡ false = grind (arith, nat_tests) in (j, rw (p, l, some) (ap (λ w. d ∷ w) (e ∙ ap (λ w. w ++ replicate j 0x30) l)))
@@ -59,7 +64,8 @@ left_are ds [] j n are e few v =
     zero_times k = omega arith
 left_are ds (c ∷ left) j n are e few v =
     let size : length ds ≡ length (c ∷ left) + j = ap length e ∙ length-append (c ∷ left) (replicate j 0x30) ∙ ap (λ k. length (c ∷ left) + k) (length-replicate {A = ℕ} j 0x30) in
-    let same : decimal_from 0 ds ≡ decimal_from 0 (c ∷ left) * 10 ^ j = ap (decimal_from 0) e ∙ decimal_from_append 0 (c ∷ left) (replicate j 0x30) ∙ decimal_from_zeros (decimal_from 0 (c ∷ left)) j in
+    let same : decimal_from 0 ds ≡ decimal_from 0 (c ∷ left) * 10 ^ j = ap (decimal_from 0) e ∙ decimal_from_append 0 (c ∷ left) (replicate j 0x30)
+    ∙ decimal_from_zeros (decimal_from 0 (c ∷ left)) j in
     let places : j + (9 - length ds) ≡ 9 - length (c ∷ left) = omega (arith, size, few) in (
       0x2E,
       c ∷ left,
@@ -76,7 +82,8 @@ left_are ds (c ∷ left) j n are e few v =
 fraction_written : (s : List ℕ) (n : ℕ) → IsFraction s n → IsFraction (fraction_text (Some n)) n
 fraction_written s n (mark, ds, m, e, are, some, few, v) =
     let digits : Each IsDigit ds = each_from_all IsDigit ds are in
-    let left : without_last_zeros (at_least_digits 9 n) ≡ without_last_zeros ds = ap (λ k. without_last_zeros (at_least_digits 9 k)) v ∙ ap without_last_zeros (nine_written ds digits few) ∙ zeros_go ds (9 - length ds) in
+    let left : without_last_zeros (at_least_digits 9 n) ≡ without_last_zeros ds = ap (λ k. without_last_zeros (at_least_digits 9 k)) v ∙ ap without_last_zeros (nine_written ds digits few)
+    ∙ zeros_go ds (9 - length ds) in
     let q = zeros_behind ds in
     subst (λ l. IsFraction (0x2E ∷ or_zero l) n) (sym left) (left_are ds (without_last_zeros ds) q.0 n (left_digits ds digits) q.1 few v)
 
@@ -93,7 +100,15 @@ utc_written w t (year, moment, none, s, z, hs, hz, e) =
       zone_text t.tz,
       inr (second, refl),
       zone_written z t.tz hz,
-      rw (none, two_written t.year year, two_written t.month (omega (arith, moment.month)), two_written t.day (omega (arith, moment.day)), two_written t.hour (omega (arith, moment.hour)), two_written t.minute (omega (arith, moment.minute)), two_written t.second (omega (arith, second))) refl,
+      rw (
+        none,
+        two_written t.year year,
+        two_written t.month (omega (arith, moment.month)),
+        two_written t.day (omega (arith, moment.day)),
+        two_written t.hour (omega (arith, moment.hour)),
+        two_written t.minute (omega (arith, moment.minute)),
+        two_written t.second (omega (arith, second)),
+      ) refl,
     )
 
 generalized_written : (w : List ℕ) (t : ASN1DateTime) → IsGeneralizedTime w t → IsGeneralizedTime (time_text 24 t) t
@@ -113,7 +128,14 @@ generalized_written w t (year, moment, s, f, z, hs, hf, hz, e) =
         | inl h ↦ inl (ap zone_text h.1, h.1)
         | inr h ↦ inr (zone_written z t.tz h)
       ],
-      rw (four_written t.year year, two_written t.month (omega (arith, moment.month)), two_written t.day (omega (arith, moment.day)), two_written t.hour (omega (arith, moment.hour)), two_written t.minute (omega (arith, moment.minute)), two_written t.second (omega (arith, second))) refl,
+      rw (
+        four_written t.year year,
+        two_written t.month (omega (arith, moment.month)),
+        two_written t.day (omega (arith, moment.day)),
+        two_written t.hour (omega (arith, moment.hour)),
+        two_written t.minute (omega (arith, moment.minute)),
+        two_written t.second (omega (arith, second)),
+      ) refl,
     )
 
 time_written : (k : ℕ) (w : List ℕ) (t : ASN1DateTime) → IsTimeText k w t → IsTimeText k (time_text k t) t

@@ -1,13 +1,11 @@
 -- Laws of the tests of numbers: each content has one answer, and a number that is answered fits its type.
-use Rattle.std.proofs.Common.{ℕ, Bool, List, ◌++◌, inl, inr}
+use Rattle.std.proofs.Common.{ℕ, List, inl, inr}
 use Rattle.std.specs.Prelude.{ℤ}
 use Rattle.der_base.specs.Laws.{NumberOrRefused, NumbersPass, HaveOneNumberRefusal, NumbersFit}
 use Rattle.der_base.specs.Octets.{integer_value}
-use Rattle.der_base.specs.LeafRefusal.{integer_tests}
-use Rattle.der_base.specs.Numbers.{NumberType, signed, unsigned, least, greatest, fits_tests, sign_tests, number_tests, ber_reader_tests, der_reader_tests}
+use Rattle.der_base.specs.Numbers.{NumberType, signed, unsigned, least, greatest, fits_tests, sign_tests, number_tests}
 use Rattle.der_base.specs.Tree.{Content, integer, enumerated, bit_string}
-use Rattle.der_laws.proofs.Leaves.AlwaysDer.{integer_decided}
-use Rattle.der_base.proofs.Leaves.Decided.{decided_or, decided_not, decided_less, decided_below, decided_equal, decided_true}
+use Rattle.der_base.proofs.Leaves.Decided.{decided_or, decided_less, decided_below}
 use Rattle.der_base.proofs.Leaves.Refusals.{AllDecided, first_or_none, none_refuses, first_refusal_once, decided_append, none_of_back}
 
 fits_decided : (k : NumberType) (v : ℤ) → AllDecided (fits_tests k v)
@@ -43,9 +41,3 @@ numbers_fit (unsigned bits) (enumerated m) n = ((λ l. n.0 (inl l)), (λ l. n.0 
 numbers_fit (unsigned bits) (bit_string u w) n = ((λ l. n.1.1.0 (inl l)), (λ l. n.1.1.0 (inr l)))
 numbers_fit (unsigned bits) _ n = absurd (n.0 tt)
 numbers_fit (signed bits) _ n = absurd (n.0 tt)
-
-pub ber_reader_decided : (k : NumberType) (p : Bool) (t : ℕ) (w : List ℕ) → AllDecided (ber_reader_tests k p t w)
-ber_reader_decided k p t w = (decided_not _ (decided_equal t 2), (decided_true p, number_decided k (integer w)))
-
-pub der_reader_decided : (k : NumberType) (p : Bool) (t : ℕ) (w : List ℕ) → AllDecided (der_reader_tests k p t w)
-der_reader_decided k p t w = (decided_not _ (decided_equal t 2), (decided_true p, decided_append (sign_tests k w) (integer_tests w ++ fits_tests k (integer_value w)) (sign_decided k w) (decided_append (integer_tests w) (fits_tests k (integer_value w)) (integer_decided w) (fits_decided k (integer_value w)))))

@@ -10,7 +10,10 @@ use Rattle.der_base.specs.Any.{LeadingElement, AnyRefuses, AnyLacks, SpellsAny, 
 use Rattle.der_base.specs.Fault.{DerHeaderRefuses}
 use Rattle.der_base.specs.Inner.Integers.{ber_form_tests, der_form_tests, ReadsBerInteger, ReadsDerInteger, BerIntegerRefuses, DerIntegerRefuses}
 use Rattle.der_base.specs.LeafRefusal.{Test, IsFirstRefusal, NoneHolds}
-use Rattle.der_base.specs.Numbers.{NumberType, signed, unsigned, number_tests, sign_tests, fits_tests, ber_reader_tests, der_reader_tests, NumberRefuses, BeginsWithBerNumber, BeginsWithDerNumber, BerNumberRefuses, DerNumberRefuses, leading_number, AnswersBerNumber, AnswersDerNumber}
+use Rattle.der_base.specs.Numbers.{NumberType, signed, unsigned, number_tests, sign_tests, fits_tests, ber_reader_tests}
+use Rattle.der_base.specs.Numbers.{der_reader_tests, NumberRefuses, BeginsWithBerNumber, BeginsWithDerNumber}
+use Rattle.der_base.specs.Numbers.{BerNumberRefuses, DerNumberRefuses, leading_number, AnswersBerNumber}
+use Rattle.der_base.specs.Numbers.{AnswersDerNumber}
 use Rattle.der_base.specs.Octets.{integer_value}
 use Rattle.der_base.specs.Refusal.{Refusal, refusal}
 use Rattle.der_base.specs.Spelling.{framing_budget}
@@ -61,7 +64,8 @@ module _ {Begins : LeadingElement → Type 0} {ElementRefuses : Refusal → Type
   not_both e n (inl r) h = one.not_both e n r h
   not_both e n (inr (c, p, t, w, rest, b, q)) h = one.not_lacking (element c p t w rest) n b h
 
-  pub numbers_one : {T : Type 0} (value : T → ℤ × List ℕ) (Spelled : ℤ × List ℕ → Type 0) → ((v : ℤ × List ℕ) → Spelled v → SpellsNumber v) → ShowsOne value (λ x. Spelled (value x)) Spelled Refuses Lacks
+  pub numbers_one : {T : Type 0} (value : T → ℤ × List ℕ) (Spelled : ℤ × List ℕ → Type 0) → ((v : ℤ × List ℕ) → Spelled v → SpellsNumber v)
+      → ShowsOne value (λ x. Spelled (value x)) Spelled Refuses Lacks
   numbers_one value Spelled spelled = record {
     spelled = λ x s. s;
     one_value = λ x v r s. value_same (value x) v (spelled (value x) r) (spelled v s);
@@ -76,7 +80,9 @@ module _ {Begins : LeadingElement → Type 0} {ElementRefuses : Refusal → Type
 ber_elements : (i : List ℕ) → ShowsOne (λ v. v) (SpellsAny i) (SpellsAny i) (AnyRefuses i) (AnyLacks i)
 ber_elements i = record {
   spelled = λ x s. s;
-  one_value = λ x v r s. (let z = begins_same i framing_budget framing_budget x.class v.class x.constructed v.constructed x.number v.number x.content v.content x.rest v.rest r s in rw (z.0, z.1, z.2, z.3, z.4) refl);
+  one_value =
+      λ x v r s. (let z = begins_same i framing_budget framing_budget x.class v.class x.constructed v.constructed x.number v.number x.content v.content x.rest v.rest r s in
+      rw (z.0, z.1, z.2, z.3, z.4) refl);
   one_refusal = (any_shows_one i).one_refusal;
   one_lack = (any_shows_one i).one_lack;
   not_refused = (any_shows_one i).not_refused;
@@ -87,7 +93,9 @@ ber_elements i = record {
 der_elements : (i : List ℕ) → ShowsOne (λ v. v) (SpellsDerAny i) (SpellsDerAny i) (DerHeaderRefuses i) (DerAnyLacks i)
 der_elements i = record {
   spelled = λ x s. s;
-  one_value = λ x v r s. (let z = der_header_same i (x.content ++ x.rest) (v.content ++ v.rest) x.class v.class x.constructed v.constructed x.number v.number (length x.content) (length v.content) r s in let y = fronts_same x.content v.content x.rest v.rest z.length z.rest in rw (z.class, z.constructed, z.number, y.0, y.1) refl);
+  one_value =
+      λ x v r s. (let z = der_header_same i (x.content ++ x.rest) (v.content ++ v.rest) x.class v.class x.constructed v.constructed x.number v.number (length x.content) (length v.content) r s in
+      let y = fronts_same x.content v.content x.rest v.rest z.length z.rest in rw (z.class, z.constructed, z.number, y.0, y.1) refl);
   one_refusal = (der_any_shows_one i).one_refusal;
   one_lack = (der_any_shows_one i).one_lack;
   not_refused = (der_any_shows_one i).not_refused;
@@ -143,4 +151,5 @@ module _ {T : Type 0} (value : T → ℤ) (k : NumberType) (i : List ℕ) where
     where
       shown : (r : Refusal) → DerIntegerRefuses k i r → DerNumberRefuses k i r
       shown r (inl q) = inl q
-      shown r (inr (c, p, t, w, rest, b, q)) = inr (c, p, t, w, rest, b, subst (λ ts. IsFirstRefusal ts r) (form_then_fits k p t w) (refused_in_front (der_form_tests k p t w) (fits_tests k (integer_value w)) r q))
+      shown r (inr (c, p, t, w, rest, b, q)) =
+          inr (c, p, t, w, rest, b, subst (λ ts. IsFirstRefusal ts r) (form_then_fits k p t w) (refused_in_front (der_form_tests k p t w) (fits_tests k (integer_value w)) r q))

@@ -12,7 +12,9 @@ use Rattle.der_base.specs.Leaf.{is_list, is_mapped, IsLeafContent}
 use Rattle.der_base.specs.LeafRefusal.{BerLeafRefuses, ber_tests}
 use Rattle.der_base.specs.Refusal.{Refusal, incomplete}
 use Rattle.der_base.specs.Spelling.{BeginsWithElement, BerSpells, Form, form, Forms, no_forms, forms, IsKept, Joins, framing_budget}
-use Rattle.der_base.specs.Tree.{Node, node, Content, end_of_content, boolean, integer, bit_string, string, null, enumerated, object_identifier, relative_oid, time, sequence, set, Nodes, no_nodes, nodes}
+use Rattle.der_base.specs.Tree.{Node, node, Content, end_of_content, boolean, integer, bit_string, string, null}
+use Rattle.der_base.specs.Tree.{enumerated, object_identifier, relative_oid, time, sequence, set, Nodes, no_nodes}
+use Rattle.der_base.specs.Tree.{nodes}
 use Rattle.der_base.proofs.Leaves.Always.{or_cases}
 use Rattle.der_base.proofs.Framing.Cuts.{lacks_same}
 use Rattle.der_laws.proofs.Spellings.DerFaults.{kept_unmapped}
@@ -81,7 +83,8 @@ element_in_front i b rest c p t x (form h fs) d e (hd, w, g, k) =
 spelled_element : (i b rest : List ℕ) (c : Class) (p : Bool) (t : ℕ) (x : Content) (d : ℕ) → i ≡ b ++ rest → BerSpells b (node c p t x) d framing_budget → SpelledElement i rest c p t x d
 spelled_element i b rest c p t x d e h = let q = restated b (node c p t x) d h in element_in_front i b rest c p t x q.0 d e q.1
 
-pub spelled_begins : (i b rest : List ℕ) (c : Class) (p : Bool) (t : ℕ) (x : Content) (d : ℕ) → i ≡ b ++ rest → BerSpells b (node c p t x) d framing_budget → (w : List ℕ) × BeginsWithElement i framing_budget c p t w rest
+pub spelled_begins : (i b rest : List ℕ) (c : Class) (p : Bool) (t : ℕ) (x : Content) (d : ℕ) → i ≡ b ++ rest → BerSpells b (node c p t x) d framing_budget
+    → (w : List ℕ) × BeginsWithElement i framing_budget c p t w rest
 spelled_begins i b rest c p t x d e h = let q = spelled_element i b rest c p t x d e h in (q.content, q.begins)
 
 -- so an input that begins with one is not cut short
@@ -119,7 +122,8 @@ pub shows_in_content : (d : ℕ) (i rest w : List ℕ) (c : Class) (p : Bool) (t
     → (c ≡ Universal) × IsTrue (is_mapped t) × ShowsInside d p t w e
 shows_in_content d i rest w c p t e g h = at (shown_where d i e h)
   where
-    at : AnyRefuses i e ⊎ ((p : Bool) × (t : ℕ) × (w rest : List ℕ) × BeginsWithElement i framing_budget Universal p t w rest × IsTrue (is_mapped t) × ShowsInside d p t w e) → (c ≡ Universal) × IsTrue (is_mapped t) × ShowsInside d p t w e
+    at : AnyRefuses i e ⊎ ((p : Bool) × (t : ℕ) × (w rest : List ℕ) × BeginsWithElement i framing_budget Universal p t w rest × IsTrue (is_mapped t) × ShowsInside d p t w e)
+        → (c ≡ Universal) × IsTrue (is_mapped t) × ShowsInside d p t w e
     at (inl r) = absurd (begins_not_refused i c p t w rest e g r)
     at (inr (p', t', w', rest', g', m, h)) =
         let a = begins_same i framing_budget framing_budget c Universal p p' t t' w w' rest rest' g g' in

@@ -1,5 +1,6 @@
 -- A DER spelling in front of the input, a refusal that it shows, and its end within an element: one of them holds at most, and each in one way.
-use Rattle.std.proofs.Common.{◌≡◌, ℕ, zero, suc, ◌<◌, ◌≤◌, Bool, true, false, IsTrue, List, [], ◌++◌, length, refl, sym, ap, subst, ◌∙◌, arith, append_assoc, length-append, ◌||◌, ◌⊎◌, inl, inr, append-nil}
+use Rattle.std.proofs.Common.{◌≡◌, ℕ, zero, suc, ◌<◌, ◌≤◌, Bool, true, false, IsTrue, List, [], ◌++◌, length, refl, sym}
+use Rattle.std.proofs.Common.{ap, subst, ◌∙◌, arith, append_assoc, length-append, ◌⊎◌, inl, inr, append-nil}
 use Rattle.der_base.specs.declared.header.Class.{Class}
 use Rattle.der_base.specs.declared.header.Class.TheVariants.{Universal}
 use Rattle.der_base.specs.declared.error.Needed.TheVariants.{Size}
@@ -54,18 +55,6 @@ chosen_refuses false ts us e q h = cc
 leaf_no_list : (t : ℕ) (x : Content) → IsDerLeaf t x → IsTrue (is_list t) → ⊥
 leaf_no_list t x h l = never_both_der t x construct_expected h (leaf_mapped false t (content_octets x) x h.0, chosen_refuses (is_list t) _ _ construct_expected l (inl (refl, refl)))
 
-or_last : (a b : Bool) → b ≡ true → a || b ≡ true
-or_last true b e = refl
-or_last false b e = e
-
--- a list has a content of its own
-pub list_mapped : (t : ℕ) → IsTrue (is_list t) → IsTrue (is_mapped t)
-list_mapped t h = or_last _ (is_list t) h
-
-pub is_false : (b : Bool) → (IsTrue b → ⊥) → b ≡ false
-is_false true n = absurd (n refl)
-is_false false n = refl
-
 -- where refusals show
 
 -- behind a header of length n
@@ -94,11 +83,6 @@ pub content_shows : (d : ℕ) (i rest w r : List ℕ) (p : Bool) (t n : ℕ) (e 
     → rest ≡ w ++ r → length w ≡ n → DerLeafRefuses p t w e → DerShowsFault (suc d) i e
 content_shows d i rest w r p t n e b s m o l h = behind_shows d i rest Universal p t n e b (inr (s, refl, m, w, r, o, l, inl h))
 
--- in an item
-pub item_shows : (d : ℕ) (i rest w r u v : List ℕ) (l : Nodes) (t n : ℕ) (e : Refusal) → BeginsWithDerHeader i Universal true t n rest → n ≤ max_object_size → IsTrue (is_list t)
-    → rest ≡ w ++ r → length w ≡ n → w ≡ u ++ v → DerJoins u l d → ItemRefuses (DerShowsFault d) DerLacks v e → DerShowsFault (suc d) i e
-item_shows d i rest w r u v l t n e b s k o z x j y = behind_shows d i rest Universal true t n e b (inr (s, refl, list_mapped t k, w, r, o, z, inr (k, refl, l, u, v, x, j, y)))
-
 -- Where there is a header, a refusal shows behind it.
 pub shows_behind : (d : ℕ) (i rest : List ℕ) (c : Class) (p : Bool) (t n : ℕ) (e : Refusal) → BeginsWithDerHeader i c p t n rest → DerShowsFault (suc d) i e → DerShowsBehind d c p t n rest e
 shows_behind d i rest c p t n e b (inl h) = absurd (der_header_not_refused i rest c p t n e b h)
@@ -122,7 +106,8 @@ pub header_cut_shows_nothing : (d : ℕ) (i : List ℕ) (n : ℕ) (e : Refusal) 
 header_cut_shows_nothing d i n e h s = elim (shown_where d i e s) [ inl k ↦ h.2 e k | inr (c, p, t, m, rest, b, k) ↦ der_header_not_lacking i rest c p t m n b h.1 ]
 
 -- nor does what ends within a content that is not too large
-pub content_cut_shows_nothing : (d : ℕ) (i rest : List ℕ) (c : Class) (p : Bool) (t m : ℕ) (e : Refusal) → BeginsWithDerHeader i c p t m rest → length rest < m → m ≤ max_object_size → DerShowsFault (suc d) i e → ⊥
+pub content_cut_shows_nothing : (d : ℕ) (i rest : List ℕ) (c : Class) (p : Bool) (t m : ℕ) (e : Refusal) → BeginsWithDerHeader i c p t m rest → length rest < m → m ≤ max_object_size
+    → DerShowsFault (suc d) i e → ⊥
 content_cut_shows_nothing d i rest c p t m e b l s h = elim (shows_behind d i rest c p t m e b h) [
   | inl k ↦ omega (arith, s, k.0)
   | inr (z, u, k, w, r, o, n, q) ↦ omega (arith, l, n, ap length o, length-append w r)

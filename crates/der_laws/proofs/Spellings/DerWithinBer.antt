@@ -53,7 +53,8 @@ mutual
       let q = content_within x c p t d v.1 h s in
       (form (Definite (length w)) q.0, (v.0, omega (arith, h, content_tall x), omega arith, inl (shortest_length (length w), w, refl, shortest_spells (length w) s, valid_element c p t x v.1, q.1)))
 
-  content_within : (x : Content) (c : Class) (p : Bool) (t d : ℕ) → IsDerContent c p t x → content_height x ≤ d → length (content_octets x) < 2 ^ 64 → (fs : Forms) × IsContent (content_octets x) c p t x fs d framing_budget
+  content_within : (x : Content) (c : Class) (p : Bool) (t d : ℕ) → IsDerContent c p t x → content_height x ≤ d → length (content_octets x) < 2 ^ 64
+      → (fs : Forms) × IsContent (content_octets x) c p t x fs d framing_budget
   content_within (sequence l) c p t d v h s = let q = list_within l (d - 1) v.3 (omega (arith, h)) s in (q.0, (v.0, v.1, v.2, q.1))
   content_within (set l) c p t d v h s = let q = list_within l (d - 1) v.3 (omega (arith, h)) s in (q.0, (v.0, v.1, v.2, q.1))
   content_within x c p t d v h s = (no_forms, (refl, flat_within t (content_octets x) x v))

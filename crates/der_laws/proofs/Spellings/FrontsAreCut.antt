@@ -58,7 +58,8 @@ open_front : (i r : List ℕ) (c : Class) (t : ℕ) (v : List ℕ) → r ≢ [] 
     → i ++ r ≡ identifier c true t ++ 128 ∷ v ++ end_marker → (n : ℕ) × Lacks i n
 open_front i r c t v some inside e =
     let a = identifier c true t in
-    elim (header_or_behind i r (a ++ 128 ∷ []) (v ++ end_marker) some (c, true, t, 128 ∷ [], refl, inr refl) (e ∙ append_assoc a (128 ∷ v) end_marker ∙ sym (append_assoc a (128 ∷ []) (v ++ end_marker)))) [
+    elim (header_or_behind i r (a ++ 128 ∷ []) (v ++ end_marker) some (c, true, t, 128 ∷ [], refl, inr refl)
+    (e ∙ append_assoc a (128 ∷ v) end_marker ∙ sym (append_assoc a (128 ∷ []) (v ++ end_marker)))) [
       | inl (n, h) ↦ (n, (header_cut h).1)
       | inr (y, z, w) ↦
           let g = inside y w in

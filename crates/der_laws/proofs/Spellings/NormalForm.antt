@@ -29,13 +29,15 @@ kept_written : (c : Class) (p : Bool) (t : ℕ) (w : List ℕ) (x : Content) →
 kept_written c p t w (unknown c' p' t' v) h = (h.0, h.1, h.2, refl, h.4)
 kept_written c p t w _ h = absurd h
 
-flat_written : (c : Class) (p : Bool) (t : ℕ) (w : List ℕ) (x : Content) → ((c ≡ Universal) × IsLeafContent p t w x) ⊎ IsKept c p t w x → ((c ≡ Universal) × IsLeafContent p t (content_octets x) x) ⊎ IsKept c p t (content_octets x) x
+flat_written : (c : Class) (p : Bool) (t : ℕ) (w : List ℕ) (x : Content) → ((c ≡ Universal) × IsLeafContent p t w x) ⊎ IsKept c p t w x
+    → ((c ≡ Universal) × IsLeafContent p t (content_octets x) x) ⊎ IsKept c p t (content_octets x) x
 flat_written c p t w x (inl h) = inl (h.0, leaf_written p t w x h.1)
 flat_written c p t w x (inr h) = inr (kept_written c p t w x h)
 
 -- an element with that content
 element_written : (c : Class) (p : Bool) (t : ℕ) (x : Content) (w : List ℕ) (gs fs : Forms) (d k : ℕ) → t < 2 ^ 32 → 1 ≤ d → IsContent w c p t x gs d k
-    → (length (content_octets x) < 2 ^ 64 → (fs : Forms) × IsContent (content_octets x) c p t x fs d framing_budget) → length (encoding (node c p t x)) < 2 ^ 64 → BerSpells (encoding (node c p t x)) (node c p t x) d framing_budget
+    → (length (content_octets x) < 2 ^ 64 → (fs : Forms) × IsContent (content_octets x) c p t x fs d framing_budget) → length (encoding (node c p t x)) < 2 ^ 64
+    → BerSpells (encoding (node c p t x)) (node c p t x) d framing_budget
 element_written c p t x w gs fs d k ht hd hc inside small =
     let v = content_octets x in
     let e : encoding (node c p t x) ≡ element c p t v = content_element w c p t x gs d k hc in
@@ -51,7 +53,8 @@ mutual
       let hc : IsContent w c p t x fs d (k - 1) = subst (λ q. IsContent w c q t x fs d (k - 1)) (sym ep) (closed x w c t fs d (k - 1) ho) in
       element_written c p t x w fs fs d (k - 1) ht hd hc (λ few. content_written x w c p t fs d (k - 1) hc few) small
 
-  content_written : (x : Content) (w : List ℕ) (c : Class) (p : Bool) (t : ℕ) (fs : Forms) (d k : ℕ) → IsContent w c p t x fs d k → length (content_octets x) < 2 ^ 64 → (gs : Forms) × IsContent (content_octets x) c p t x gs d framing_budget
+  content_written : (x : Content) (w : List ℕ) (c : Class) (p : Bool) (t : ℕ) (fs : Forms) (d k : ℕ) → IsContent w c p t x fs d k → length (content_octets x) < 2 ^ 64
+      → (gs : Forms) × IsContent (content_octets x) c p t x gs d framing_budget
   content_written (sequence l) w c p t fs d k (ec, et, ep, j) small = let q = list_written l w fs (d - 1) k j small in (q.0, (ec, et, ep, q.1))
   content_written (set l) w c p t fs d k (ec, et, ep, j) small = let q = list_written l w fs (d - 1) k j small in (q.0, (ec, et, ep, q.1))
   content_written x w c p t fs d k h small = (no_forms, (refl, flat_written c p t w x h.1))

@@ -48,10 +48,12 @@ pub ber_answer_stays : {T : Type 0} {value : T → Node × List ℕ} {Reads : T 
     → ((x : T) → Reads x → BeginsWithBer d i (value x).0 (value x).1) → AnswersExactly r value Reads (λ v. BeginsWithBer d i v.0 v.1) (ShowsFault d i) Lacks M C
     → AnswerStays r value BeginsWithBer ShowsFault BerIsCut d i
 ber_answer_stays {value = value} {Reads = Reads} d i r read h =
-    answered Reads (λ x. SpellingStays BeginsWithBer BerIsCut d i (value x).0 (value x).1) r h.found (λ x p. ber_spelling_stays d i (value x).0 (value x).1 (read x p)) (ber_fault_stays d i) (λ n l. tt) (λ m. tt)
+    answered Reads (λ x. SpellingStays BeginsWithBer BerIsCut d i (value x).0 (value x).1) r h.found (λ x p. ber_spelling_stays d i (value x).0 (value x).1 (read x p)) (ber_fault_stays d i)
+    (λ n l. tt) (λ m. tt)
 
 pub der_answer_stays : {T : Type 0} {value : T → Node × List ℕ} {Reads : T → Type 0} {Lacks : ℕ → Type 0} {M C : Type 0} (d : ℕ) (i : List ℕ) (r : Result T (Refused BerError))
     → ((x : T) → Reads x → BeginsWithDer d i (value x).0 (value x).1) → AnswersExactly r value Reads (λ v. BeginsWithDer d i v.0 v.1) (DerShowsFault d i) Lacks M C
     → AnswerStays r value BeginsWithDer DerShowsFault DerIsCut d i
 der_answer_stays {value = value} {Reads = Reads} d i r read h =
-    answered Reads (λ x. SpellingStays BeginsWithDer DerIsCut d i (value x).0 (value x).1) r h.found (λ x p. der_spelling_stays d i (value x).0 (value x).1 (read x p)) (der_fault_stays d i) (λ n l. tt) (λ m. tt)
+    answered Reads (λ x. SpellingStays BeginsWithDer DerIsCut d i (value x).0 (value x).1) r h.found (λ x p. der_spelling_stays d i (value x).0 (value x).1 (read x p)) (der_fault_stays d i)
+    (λ n l. tt) (λ m. tt)

@@ -35,7 +35,8 @@ two_integers = record {
   spellings = (2 ∷ 1 ∷ 1 ∷ []) ∷ (2 ∷ 1 ∷ 2 ∷ []) ∷ [];
   between = 2;
   left = [];
-  calls = one_more {p = at (2 ∷ 1 ∷ 2 ∷ [])} {r = at []} (one_more {p = at (2 ∷ 1 ∷ 1 ∷ 2 ∷ 1 ∷ 2 ∷ [])} {r = at (2 ∷ 1 ∷ 2 ∷ [])} no_call (whole (1 ∷ []) refl) refl (lit< tt)) (whole (2 ∷ []) refl) refl (lit< tt);
+  calls = one_more {p = at (2 ∷ 1 ∷ 2 ∷ [])} {r = at []} (one_more {p = at (2 ∷ 1 ∷ 1 ∷ 2 ∷ 1 ∷ 2 ∷ [])} {r = at (2 ∷ 1 ∷ 2 ∷ [])} no_call (whole (1 ∷ []) refl) refl (lit< tt))
+      (whole (2 ∷ []) refl) refl (lit< tt);
   last = at_end {p = at []} (empty refl) refl refl;
 }
 

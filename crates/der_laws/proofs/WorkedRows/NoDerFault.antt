@@ -1,4 +1,6 @@
-use Rattle.std.proofs.Common.{◌≡◌, ◌∙◌, ℕ, ◌+◌, ◌<◌, ◌≤◌, Bool, true, false, List, [], ◌∷◌, ◌++◌, length, refl, sym, ap, subst, lit<, inl, inr, nat_lt, if◌then◌else◌, length-append, append_assoc, arith, ltb→lt, T, ltb-false}
+use Rattle.std.proofs.Common.{◌≡◌, ◌∙◌, ℕ, ◌+◌, ◌<◌, ◌≤◌, Bool, true, false, List, [], ◌∷◌, ◌++◌, length, refl, sym, ap}
+use Rattle.std.proofs.Common.{subst, lit<, inl, inr, nat_lt, if◌then◌else◌, length-append, append_assoc, arith, ltb→lt}
+use Rattle.std.proofs.Common.{T, ltb-false}
 use Rattle.der_base.specs.declared.header.Class.TheVariants.{Universal}
 use Rattle.der_base.specs.declared.error.DerConstraint.TheVariants.{InvalidBoolean}
 use Rattle.der_base.specs.Octets.{identifier, shortest_length, octets}
@@ -34,7 +36,8 @@ no_invalid_boolean (inl (inr (p, s, i, inr (inr (inl (_, e)))))) = cc
 no_invalid_boolean (inl (inr (p, s, i, inr (inr (inr (_, e)))))) = cc
 no_invalid_boolean (inr (inl (c, p, t, n, r, _, _, _, _, e))) = cc
 no_invalid_boolean (inr (inr (p, t, w, rest, _, e, _, _, _))) =
-    let f = short_identifier Universal p t ((shortest_length (length w) ++ w) ++ rest) 0x30 (0x81 ∷ 3 ∷ 1 ∷ 1 ∷ 0x7f ∷ []) (sym (e ∙ nest (identifier Universal p t) (shortest_length (length w)) w rest)) (lit< tt) in
+    let f = short_identifier Universal p t ((shortest_length (length w) ++ w) ++ rest) 0x30 (0x81 ∷ 3 ∷ 1 ∷ 1 ∷ 0x7f ∷ [])
+    (sym (e ∙ nest (identifier Universal p t) (shortest_length (length w)) w rest)) (lit< tt) in
     no_long w rest f.2
   where
     nest : (x a b c : List ℕ) → (x ++ a ++ b) ++ c ≡ x ++ ((a ++ b) ++ c)

@@ -82,7 +82,16 @@ lacks_one = in_content Universal false 2 (3 ∷ []) (1 ∷ 0 ∷ []) (lit≤ tt)
 -- 30 04 02 03 01 00 shows incomplete(1)
 refuse_cut_item : ShowsFault 2 (0x30 ∷ 4 ∷ 2 ∷ 3 ∷ 1 ∷ 0 ∷ []) (incomplete (Size 1))
 unfolding identifier
-refuse_cut_item = inr (inr (true, 16, 2 ∷ 3 ∷ 1 ∷ 0 ∷ [], [], (lit< tt, lit≤ tt, inl (4 ∷ [], (lit< tt, inl (lit< tt, refl, refl)), refl)), refl, inr (refl, refl, no_nodes, no_forms, [], 2 ∷ 3 ∷ 1 ∷ 0 ∷ [], refl, refl, ((λ e. cc), inr (1, is_cut, lacks_one, cut_integer_fine, refl)))))
+refuse_cut_item =
+    inr (inr (
+      true,
+      16,
+      2 ∷ 3 ∷ 1 ∷ 0 ∷ [],
+      [],
+      (lit< tt, lit≤ tt, inl (4 ∷ [], (lit< tt, inl (lit< tt, refl, refl)), refl)),
+      refl,
+      inr (refl, refl, no_nodes, no_forms, [], 2 ∷ 3 ∷ 1 ∷ 0 ∷ [], refl, refl, ((λ e. cc), inr (1, is_cut, lacks_one, cut_integer_fine, refl))),
+    ))
 
 precedence_power : 2 % 2 ^ 2 ≡ 2
 precedence_power = refl

@@ -1,10 +1,14 @@
 -- Worked rows of numbers. Each is computed by tests that answer true or false, which are shown to agree with the tables.
-use Rattle.std.proofs.Common.{◌≡◌, ◌⊎◌, ℕ, ◌+◌, ◌-◌, ◌*◌, ◌<◌, ◌≤◌, Bool, true, false, ◌==◌, ◌||◌, List, [], ◌∷◌, ◌++◌, length, refl, sym, subst, lit<, lit≤, pos, negsuc, inl, inr, Result, Ok, Err, ℤ, T, arith, ltb→lt, ltb-false, nat_lt, not, Some, if◌then◌else◌}
+use Rattle.std.proofs.Common.{◌≡◌, ◌⊎◌, ℕ, ◌+◌, ◌-◌, ◌*◌, ◌<◌, ◌≤◌, Bool, true, false, ◌==◌, ◌||◌, List, [], ◌∷◌, ◌++◌}
+use Rattle.std.proofs.Common.{length, refl, sym, subst, lit<, lit≤, pos, negsuc, inl, inr, Result, Ok, Err, ℤ, T, arith}
+use Rattle.std.proofs.Common.{ltb→lt, ltb-false, nat_lt, not, Some, if◌then◌else◌}
 use Rattle.std.specs.Prelude.{◌<ℤ◌, int_lt}
 use Rattle.std.proofs.lemmas.Bool.Decides.{Decides-eqb}
 use Rattle.der_base.specs.declared.error.DerConstraint.TheVariants.{Constructed, IntegerEmpty, IntegerLeadingZeroes, IntegerLeadingFF}
 use Rattle.der_base.specs.LeafRefusal.{Test, IsFirstRefusal, NoneHolds, integer_tests}
-use Rattle.der_base.specs.Numbers.{NumberType, signed, unsigned, least, greatest, number_of_content, number_tests, sign_tests, fits_tests, ber_reader_tests, der_reader_tests, NumberRefuses, BeginsWithBerNumber, BeginsWithDerNumber, BerNumberRefuses, DerNumberRefuses}
+use Rattle.der_base.specs.Numbers.{NumberType, signed, unsigned, least, greatest, number_of_content, number_tests}
+use Rattle.der_base.specs.Numbers.{sign_tests, fits_tests, ber_reader_tests, der_reader_tests, NumberRefuses}
+use Rattle.der_base.specs.Numbers.{BeginsWithBerNumber, BeginsWithDerNumber, BerNumberRefuses, DerNumberRefuses}
 use Rattle.der_base.specs.declared.header.Class.{Class}
 use Rattle.der_base.specs.declared.header.Class.TheVariants.{Universal, ContextSpecific}
 use Rattle.der_base.specs.Octets.{integer_value, bits_value, identifier, shortest_length, leading_bits, class_number}
@@ -124,7 +128,9 @@ is_empty [] = true
 is_empty (b ∷ w) = false
 
 form_cases : List ℕ → Cases
-form_cases w = (is_empty w, der_constraint IntegerEmpty) ∷ (two_octets 0 (λ b. nat_lt b 128) w, der_constraint IntegerLeadingZeroes) ∷ (two_octets 255 (λ b. not (nat_lt b 128)) w, der_constraint IntegerLeadingFF) ∷ []
+form_cases w =
+    (is_empty w, der_constraint IntegerEmpty) ∷ (two_octets 0 (λ b. nat_lt b 128) w, der_constraint IntegerLeadingZeroes)
+    ∷ (two_octets 255 (λ b. not (nat_lt b 128)) w, der_constraint IntegerLeadingFF) ∷ []
 
 not_true : (b : Bool) → not b ≡ true → b ≡ false
 not_true true q = cc
@@ -150,7 +156,8 @@ form_agree w = case (empty_true w) (empty_false w)
     (case (λ q. let (b, v, e, h) = two_true 0 _ w q in (b, v, e, below_true b 128 h))
     (λ q (b, v, e, h). below_false b 128 (two_false 0 (λ b. nat_lt b 128) b v (subst (λ z. two_octets 0 (λ b. nat_lt b 128) z ≡ false) e q)) h)
     (case (λ q. let (b, v, e, h) = two_true 255 _ w q in (b, v, e, ltb-false b 128 (not_true _ h)))
-    (λ q (b, v, e, h). let z : b < 128 = below_true b 128 (not_false _ (two_false 255 (λ b. not (nat_lt b 128)) b v (subst (λ z. two_octets 255 (λ b. not (nat_lt b 128)) z ≡ false) e q))) in omega arith)
+    (λ q (b, v, e, h). let z : b < 128 = below_true b 128 (not_false _ (two_false 255 (λ b. not (nat_lt b 128)) b v (subst (λ z. two_octets 255 (λ b. not (nat_lt b 128)) z ≡ false) e q))) in
+    omega arith)
     no_cases))
 
 other_cases : Refusal → Bool → ℕ → Cases → Cases
@@ -298,11 +305,13 @@ used_bits : number_answer (unsigned 64) (bit_string 8 (0x0d ∷ 0x71 ∷ 0x82 �
 unfolding number_answer number_cases fits_cases sign_cases answer
 used_bits = refl
 
-used_bits_of_long : number_answer (unsigned 64) (bit_string 130 (0x0d ∷ 0x71 ∷ 0x82 ∷ 0x0e ∷ 0x73 ∷ 0x72 ∷ 0x76 ∷ 0x6e ∷ 0x67 ∷ 0x6e ∷ 0x62 ∷ 0x6c ∷ 0x6e ∷ 0x2d ∷ 0x65 ∷ 0x78 ∷ 0x30 ∷ 0x31 ∷ [])) ≡ Ok (pos 860)
+used_bits_of_long : number_answer (unsigned 64) (bit_string 130 (0x0d ∷ 0x71 ∷ 0x82 ∷ 0x0e ∷ 0x73 ∷ 0x72 ∷ 0x76 ∷ 0x6e ∷ 0x67 ∷ 0x6e ∷ 0x62 ∷ 0x6c ∷ 0x6e ∷ 0x2d ∷ 0x65 ∷ 0x78 ∷ 0x30 ∷ 0x31 ∷ [])) ≡ Ok
+    (pos 860)
 unfolding number_answer number_cases fits_cases sign_cases answer
 used_bits_of_long = refl
 
-too_many_used : number_answer (unsigned 64) (bit_string 0 (0x0d ∷ 0x71 ∷ 0x82 ∷ 0x0e ∷ 0x73 ∷ 0x72 ∷ 0x76 ∷ 0x6e ∷ 0x67 ∷ 0x6e ∷ 0x62 ∷ 0x6c ∷ 0x6e ∷ 0x2d ∷ 0x65 ∷ 0x78 ∷ 0x30 ∷ 0x31 ∷ [])) ≡ Err integer_too_large
+too_many_used : number_answer (unsigned 64) (bit_string 0 (0x0d ∷ 0x71 ∷ 0x82 ∷ 0x0e ∷ 0x73 ∷ 0x72 ∷ 0x76 ∷ 0x6e ∷ 0x67 ∷ 0x6e ∷ 0x62 ∷ 0x6c ∷ 0x6e ∷ 0x2d ∷ 0x65 ∷ 0x78 ∷ 0x30 ∷ 0x31
+    ∷ [])) ≡ Err integer_too_large
 unfolding number_answer number_cases fits_cases sign_cases answer
 too_many_used = refl
 
@@ -437,7 +446,8 @@ ber_reads = record {
 
 der_refuses : DerNumberRefuses (unsigned 32) (2 ∷ 6 ∷ padded ++ 5 ∷ []) (der_constraint IntegerLeadingZeroes)
 unfolding identifier shortest_length answer der_answer
-der_refuses = inr (Universal, false, 2, padded, 5 ∷ [], record { octets = refl; number = lit< tt; length = lit< tt }, refused (integer_value padded) _ (der_agree (unsigned 32) false 2 padded) der_padded)
+der_refuses =
+    inr (Universal, false, 2, padded, 5 ∷ [], record { octets = refl; number = lit< tt; length = lit< tt }, refused (integer_value padded) _ (der_agree (unsigned 32) false 2 padded) der_padded)
 
 -- the class is not compared: 82 01 05 is a number
 other_class : BeginsWithDerNumber (signed 64) (0x82 ∷ 1 ∷ 5 ∷ []) (pos 5) []

@@ -1,4 +1,6 @@
-use Rattle.std.proofs.Common.{◌≡◌, ◌⊎◌, ◌∙◌, ℕ, ◌+◌, ◌%◌, ◌<◌, ◌≤◌, Bool, true, false, List, [], ◌∷◌, ◌++◌, length, refl, sym, ap, subst, lit<, lit≤, inl, inr, nat_lt, if◌then◌else◌, length-append, append_assoc, arith, IsTrue, ltb-false}
+use Rattle.std.proofs.Common.{◌≡◌, ◌⊎◌, ◌∙◌, ℕ, ◌+◌, ◌%◌, ◌<◌, ◌≤◌, Bool, true, false, List, [], ◌∷◌, ◌++◌, length}
+use Rattle.std.proofs.Common.{refl, sym, ap, subst, lit<, lit≤, inl, inr, nat_lt, if◌then◌else◌, length-append}
+use Rattle.std.proofs.Common.{append_assoc, arith, IsTrue, ltb-false}
 use Rattle.der_base.specs.declared.header.Class.TheVariants.{Universal}
 use Rattle.der_base.specs.declared.error.Needed.TheVariants.{Size}
 use Rattle.der_base.specs.Octets.{identifier, shortest_length, octets}
@@ -16,7 +18,8 @@ lead : (m n : ℕ) (v w : List ℕ) → n < 128 → shortest_length m ++ v ≡ n
 unfolding shortest_length
 lead m n v w l e = go (nat_lt m 128) refl e
   where
-    go : (x : Bool) → nat_lt m 128 ≡ x → (if x then m ∷ [] else (128 + length (octets m)) ∷ octets m) ++ v ≡ n ∷ w → (m ≡ n) × (v ≡ w) × ((if nat_lt m 128 then m ∷ [] else (128 + length (octets m)) ∷ octets m) ≡ m ∷ [])
+    go : (x : Bool) → nat_lt m 128 ≡ x → (if x then m ∷ [] else (128 + length (octets m)) ∷ octets m) ++ v ≡ n ∷ w
+        → (m ≡ n) × (v ≡ w) × ((if nat_lt m 128 then m ∷ [] else (128 + length (octets m)) ∷ octets m) ≡ m ∷ [])
     go true q f = (cc, cc, ap (λ (y : Bool). if y then m ∷ [] else (128 + length (octets m)) ∷ octets m) q)
     go false q f =
         let h : 128 + length (octets m) ≡ n = cc in
@@ -83,7 +86,28 @@ der_lacks_three = der_in_universal false 2 (3 ∷ []) (1 ∷ 0 ∷ []) (lit< tt)
 -- 30 04 02 03 01 00 by DER shows incomplete(3)
 der_cut_item : DerShowsFault 2 (0x30 ∷ 4 ∷ 2 ∷ 3 ∷ 1 ∷ 0 ∷ []) (incomplete (Size 3))
 unfolding identifier shortest_length
-der_cut_item = inr (inr (true, 16, 2 ∷ 3 ∷ 1 ∷ 0 ∷ [], [], lit< tt, refl, lit≤ tt, refl, inr (refl, refl, no_nodes, [], 2 ∷ 3 ∷ 1 ∷ 0 ∷ [], refl, refl, ((λ e. cc), inr (3, is_cut, der_lacks_three, der_cut_integer_fine, refl)))))
+der_cut_item =
+    inr (inr (
+      true,
+      16,
+      2 ∷ 3 ∷ 1 ∷ 0 ∷ [],
+      [],
+      lit< tt,
+      refl,
+      lit≤ tt,
+      refl,
+      inr (
+        refl,
+        refl,
+        no_nodes,
+        [],
+        2 ∷ 3 ∷ 1 ∷ 0
+            ∷ [],
+        refl,
+        refl,
+        ((λ e. cc), inr (3, is_cut, der_lacks_three, der_cut_integer_fine, refl)),
+      ),
+    ))
 
 no_der_leaf : (e : Refusal) → DerLeafRefuses true 16 [] e → ⊥
 no_der_leaf e (_, inl (q, _)) = cc
@@ -104,7 +128,8 @@ der_empty_list_fine x (inr (inr (p, t, w, rest, _, e, _, _, y))) =
     let k = is_16 p t f.0 f.1 in
     go none k y
   where
-    go : w ≡ [] → (p ≡ true) × (t ≡ 16) → DerLeafRefuses p t w x ⊎ (IsTrue (is_list t) × (p ≡ true) × (l : Nodes) × (u r : List ℕ) × (w ≡ u ++ r) × DerJoins u l 0 × ItemRefuses (DerShowsFault 0) DerLacks r x) → ⊥
+    go : w ≡ [] → (p ≡ true) × (t ≡ 16) → DerLeafRefuses p t w x ⊎ (IsTrue (is_list t) × (p ≡ true) × (l : Nodes) × (u r : List ℕ) × (w ≡ u ++ r) × DerJoins u l 0
+        × ItemRefuses (DerShowsFault 0) DerLacks r x) → ⊥
     go none k (inl y1) =
         let y2 : DerLeafRefuses true t w x = subst (λ z. DerLeafRefuses z t w x) k.0 y1 in
         let y3 : DerLeafRefuses true 16 w x = subst (λ z. DerLeafRefuses true z w x) k.1 y2 in

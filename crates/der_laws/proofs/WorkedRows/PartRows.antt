@@ -1,5 +1,5 @@
 -- Worked rows of the parts that accessors return, computed.
-use Rattle.std.proofs.Common.{◌≡◌, true, false, List, [], ◌∷◌, Some, None, refl}
+use Rattle.std.proofs.Common.{◌≡◌, true, false, [], ◌∷◌, Some, None, refl}
 use Rattle.der_base.specs.declared.header.Class.TheVariants.{ContextSpecific}
 use Rattle.der_base.specs.Parts.{boolean_part, identifier_part, bits_part, text_part, octets_part, sequence_part, set_part, optional_part, tagged_part}
 use Rattle.der_base.specs.Tree.{Node, boolean, integer, bit_string, string, null, enumerated, object_identifier, relative_oid, sequence, set, absent, present, tagged, unknown, no_nodes}

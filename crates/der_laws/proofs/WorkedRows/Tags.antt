@@ -55,7 +55,14 @@ is_primitive = primitive {h = header ContextSpecific false 2 5 (0x82 ∷ [])} {w
 -- a2 80: the header is refused first
 indefinite : Refuses (0xa2 ∷ 0x80 ∷ 2 ∷ 3 ∷ 1 ∷ 0 ∷ 1 ∷ 0 ∷ 0 ∷ []) (DerConstraintFailed IndefiniteLength)
 unfolding identifier
-indefinite = unopened (faulty {e = DerConstraintFailed IndefiniteLength} (inr (true, 0x80 ∷ 2 ∷ 3 ∷ 1 ∷ 0 ∷ 1 ∷ 0 ∷ 0 ∷ [], (ContextSpecific, 2, lit< tt, refl), inr (inr (inl ((2 ∷ 3 ∷ 1 ∷ 0 ∷ 1 ∷ 0 ∷ 0 ∷ [], refl), refl))))) refl)
+indefinite =
+    unopened (faulty {e = DerConstraintFailed IndefiniteLength} (inr (
+      true,
+      0x80 ∷ 2 ∷ 3 ∷ 1 ∷ 0 ∷ 1 ∷ 0 ∷ 0
+          ∷ [],
+      (ContextSpecific, 2, lit< tt, refl),
+      inr (inr (inl ((2 ∷ 3 ∷ 1 ∷ 0 ∷ 1 ∷ 0 ∷ 0 ∷ [], refl), refl))),
+    )) refl)
 
 -- 30 05 02 01: a container tells a short content as Eof at the octets behind the header
 short : RefusesBer kind from (0x30 ∷ 5 ∷ 2 ∷ 1 ∷ []) (Error (NomError Eof))

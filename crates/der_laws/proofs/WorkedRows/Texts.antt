@@ -8,7 +8,9 @@ use Rattle.der_base.specs.declared.header.Length.TheVariants.{Definite, Indefini
 use Rattle.der_base.specs.declared.time.ASN1TimeZone.TheVariants.{Z, Offset}
 use Rattle.der_base.specs.Pretty.{Style, pretty, further, spaces}
 use Rattle.der_base.specs.Spelling.{form, forms, no_forms}
-use Rattle.der_base.specs.Tree.{node, end_of_content, boolean, integer, bit_string, string, null, enumerated, object_identifier, relative_oid, time, sequence, set, absent, present, tagged, unknown, no_nodes, nodes}
+use Rattle.der_base.specs.Tree.{node, end_of_content, boolean, integer, bit_string, string, null, enumerated}
+use Rattle.der_base.specs.Tree.{object_identifier, relative_oid, time, sequence, set, absent, present, tagged, unknown}
+use Rattle.der_base.specs.Tree.{no_nodes, nodes}
 
 abbrev style : Bool → Bool → ℕ → Style
 style recursive headers increment = record { recursive = recursive; headers = headers; increment = increment }
@@ -75,11 +77,22 @@ empty_oid : pretty (style true false 2) 0 (node Universal false 6 (object_identi
 unfolding digits encode_utf8 utf16_chars
 empty_oid = refl
 
-utc : pretty (style true false 2) 0 (node Universal false 23 (time 23 (record { year = 20; month = 1; day = 1; hour = 0; minute = 0; second = 0; nanosecond = None; tz = Z }))) (form (Definite 0) no_forms) ≡ codes "UTCTime(\"200101000000Z\")"
+utc : pretty (style true false 2) 0 (node Universal false 23 (time 23 (record { year = 20; month = 1; day = 1; hour = 0; minute = 0; second = 0; nanosecond = None; tz = Z })))
+    (form (Definite 0) no_forms) ≡ codes "UTCTime(\"200101000000Z\")"
 unfolding digits encode_utf8 utf16_chars
 utc = refl
 
-generalized : pretty (style true false 2) 0 (node Universal false 24 (time 24 (record { year = 2020; month = 1; day = 1; hour = 0; minute = 0; second = 0; nanosecond = Some 100000000; tz = (Offset (negsuc 4) (negsuc 29)) }))) (form (Definite 0) no_forms) ≡ codes "GeneralizedTime(\"20200101000000.1-0530\")"
+generalized : pretty (style true false 2) 0 (node Universal false 24 (time 24 (record {
+  year = 2020;
+  month = 1;
+  day = 1;
+  hour = 0;
+  minute = 0;
+  second = 0;
+  nanosecond = Some 100000000;
+  tz =
+      (Offset (negsuc 4) (negsuc 29));
+}))) (form (Definite 0) no_forms) ≡ codes "GeneralizedTime(\"20200101000000.1-0530\")"
 unfolding digits encode_utf8 utf16_chars
 generalized = refl
 
@@ -120,16 +133,19 @@ ia5 : pretty (style true false 2) 0 (node Universal false 22 (string 22 (120 ∷
 unfolding digits encode_utf8 utf16_chars
 ia5 = refl
 
-descriptor : pretty (style true false 2) 0 (node Universal false 7 (string 7 (195 ∷ 169 ∷ []))) (form (Definite 0) no_forms) ≡ (79 ∷ 98 ∷ 106 ∷ 101 ∷ 99 ∷ 116 ∷ 68 ∷ 101 ∷ 115 ∷ 99 ∷ 114 ∷ 105 ∷ 112 ∷ 116 ∷ 111 ∷ 114 ∷ 40 ∷ 34 ∷ 195 ∷ 169 ∷ 34 ∷ 41 ∷ [])
+descriptor : pretty (style true false 2) 0 (node Universal false 7 (string 7 (195 ∷ 169 ∷ []))) (form (Definite 0) no_forms) ≡
+    (79 ∷ 98 ∷ 106 ∷ 101 ∷ 99 ∷ 116 ∷ 68 ∷ 101 ∷ 115 ∷ 99 ∷ 114 ∷ 105 ∷ 112 ∷ 116 ∷ 111 ∷ 114 ∷ 40 ∷ 34 ∷ 195 ∷ 169 ∷ 34 ∷ 41 ∷ [])
 unfolding digits encode_utf8 utf16_chars
 descriptor = refl
 
 -- whole pairs as UTF-16, on a line of their own
-bmp : pretty (style true false 2) 0 (node Universal false 30 (string 30 (0 ∷ 65 ∷ 0 ∷ 233 ∷ 7 ∷ []))) (form (Definite 0) no_forms) ≡ (66 ∷ 109 ∷ 112 ∷ 83 ∷ 116 ∷ 114 ∷ 105 ∷ 110 ∷ 103 ∷ 40 ∷ 34 ∷ 65 ∷ 195 ∷ 169 ∷ 34 ∷ 41 ∷ 10 ∷ [])
+bmp : pretty (style true false 2) 0 (node Universal false 30 (string 30 (0 ∷ 65 ∷ 0 ∷ 233 ∷ 7 ∷ []))) (form (Definite 0) no_forms) ≡
+    (66 ∷ 109 ∷ 112 ∷ 83 ∷ 116 ∷ 114 ∷ 105 ∷ 110 ∷ 103 ∷ 40 ∷ 34 ∷ 65 ∷ 195 ∷ 169 ∷ 34 ∷ 41 ∷ 10 ∷ [])
 unfolding digits encode_utf8 utf16_chars
 bmp = refl
 
-bmp_pair : pretty (style true false 2) 0 (node Universal false 30 (string 30 (216 ∷ 61 ∷ 222 ∷ 0 ∷ []))) (form (Definite 0) no_forms) ≡ (66 ∷ 109 ∷ 112 ∷ 83 ∷ 116 ∷ 114 ∷ 105 ∷ 110 ∷ 103 ∷ 40 ∷ 34 ∷ 240 ∷ 159 ∷ 152 ∷ 128 ∷ 34 ∷ 41 ∷ 10 ∷ [])
+bmp_pair : pretty (style true false 2) 0 (node Universal false 30 (string 30 (216 ∷ 61 ∷ 222 ∷ 0 ∷ []))) (form (Definite 0) no_forms) ≡
+    (66 ∷ 109 ∷ 112 ∷ 83 ∷ 116 ∷ 114 ∷ 105 ∷ 110 ∷ 103 ∷ 40 ∷ 34 ∷ 240 ∷ 159 ∷ 152 ∷ 128 ∷ 34 ∷ 41 ∷ 10 ∷ [])
 unfolding digits encode_utf8 utf16_chars
 bmp_pair = refl
 
@@ -137,7 +153,8 @@ bmp_lone : pretty (style true false 2) 0 (node Universal false 30 (string 30 (21
 unfolding digits encode_utf8 utf16_chars
 bmp_lone = refl
 
-bmp_swapped : pretty (style true false 2) 0 (node Universal false 30 (string 30 (222 ∷ 0 ∷ 216 ∷ 61 ∷ []))) (form (Definite 0) no_forms) ≡ codes "BmpString([de 00 d8 3d]) <error decoding utf32 string>\n"
+bmp_swapped : pretty (style true false 2) 0 (node Universal false 30 (string 30 (222 ∷ 0 ∷ 216 ∷ 61 ∷ [])))
+    (form (Definite 0) no_forms) ≡ codes "BmpString([de 00 d8 3d]) <error decoding utf32 string>\n"
 unfolding digits encode_utf8 utf16_chars
 bmp_swapped = refl
 
@@ -146,19 +163,23 @@ unfolding digits encode_utf8 utf16_chars
 bmp_none = refl
 
 -- whole groups of four as characters
-universal : pretty (style true false 2) 0 (node Universal false 28 (string 28 (0 ∷ 1 ∷ 246 ∷ 0 ∷ 9 ∷ []))) (form (Definite 0) no_forms) ≡ (85 ∷ 110 ∷ 105 ∷ 118 ∷ 101 ∷ 114 ∷ 115 ∷ 97 ∷ 108 ∷ 83 ∷ 116 ∷ 114 ∷ 105 ∷ 110 ∷ 103 ∷ 40 ∷ 34 ∷ 240 ∷ 159 ∷ 152 ∷ 128 ∷ 34 ∷ 41 ∷ 10 ∷ [])
+universal : pretty (style true false 2) 0 (node Universal false 28 (string 28 (0 ∷ 1 ∷ 246 ∷ 0 ∷ 9 ∷ []))) (form (Definite 0) no_forms) ≡
+    (85 ∷ 110 ∷ 105 ∷ 118 ∷ 101 ∷ 114 ∷ 115 ∷ 97 ∷ 108 ∷ 83 ∷ 116 ∷ 114 ∷ 105 ∷ 110 ∷ 103 ∷ 40 ∷ 34 ∷ 240 ∷ 159 ∷ 152 ∷ 128 ∷ 34 ∷ 41 ∷ 10 ∷ [])
 unfolding digits encode_utf8 utf16_chars
 universal = refl
 
-universal_surrogate : pretty (style true false 2) 0 (node Universal false 28 (string 28 (0 ∷ 0 ∷ 216 ∷ 0 ∷ []))) (form (Definite 0) no_forms) ≡ codes "UniversalString([00 00 d8 00]) <error decoding utf32 string>\n"
+universal_surrogate : pretty (style true false 2) 0 (node Universal false 28 (string 28 (0 ∷ 0 ∷ 216 ∷ 0 ∷ [])))
+    (form (Definite 0) no_forms) ≡ codes "UniversalString([00 00 d8 00]) <error decoding utf32 string>\n"
 unfolding digits encode_utf8 utf16_chars
 universal_surrogate = refl
 
-universal_above : pretty (style true false 2) 0 (node Universal false 28 (string 28 (0 ∷ 17 ∷ 0 ∷ 0 ∷ []))) (form (Definite 0) no_forms) ≡ codes "UniversalString([00 11 00 00]) <error decoding utf32 string>\n"
+universal_above : pretty (style true false 2) 0 (node Universal false 28 (string 28 (0 ∷ 17 ∷ 0 ∷ 0 ∷ [])))
+    (form (Definite 0) no_forms) ≡ codes "UniversalString([00 11 00 00]) <error decoding utf32 string>\n"
 unfolding digits encode_utf8 utf16_chars
 universal_above = refl
 
-universal_last : pretty (style true false 2) 0 (node Universal false 28 (string 28 (0 ∷ 16 ∷ 255 ∷ 255 ∷ []))) (form (Definite 0) no_forms) ≡ (85 ∷ 110 ∷ 105 ∷ 118 ∷ 101 ∷ 114 ∷ 115 ∷ 97 ∷ 108 ∷ 83 ∷ 116 ∷ 114 ∷ 105 ∷ 110 ∷ 103 ∷ 40 ∷ 34 ∷ 244 ∷ 143 ∷ 191 ∷ 191 ∷ 34 ∷ 41 ∷ 10 ∷ [])
+universal_last : pretty (style true false 2) 0 (node Universal false 28 (string 28 (0 ∷ 16 ∷ 255 ∷ 255 ∷ []))) (form (Definite 0) no_forms) ≡
+    (85 ∷ 110 ∷ 105 ∷ 118 ∷ 101 ∷ 114 ∷ 115 ∷ 97 ∷ 108 ∷ 83 ∷ 116 ∷ 114 ∷ 105 ∷ 110 ∷ 103 ∷ 40 ∷ 34 ∷ 244 ∷ 143 ∷ 191 ∷ 191 ∷ 34 ∷ 41 ∷ 10 ∷ [])
 unfolding digits encode_utf8 utf16_chars
 universal_last = refl
 
@@ -171,33 +192,41 @@ none : pretty (style true false 2) 0 (node Universal false 0 absent) (form (Defi
 unfolding digits encode_utf8 utf16_chars
 none = refl
 
-option : pretty (style true false 2) 4 (node Universal false 2 (present (node Universal false 2 (integer (5 ∷ []))))) (form (Definite 0) (forms (form (Definite 1) no_forms) no_forms)) ≡ codes "    OPTION Integer([05])"
+option : pretty (style true false 2) 4 (node Universal false 2 (present (node Universal false 2 (integer (5 ∷ [])))))
+    (form (Definite 0) (forms (form (Definite 1) no_forms) no_forms)) ≡ codes "    OPTION Integer([05])"
 unfolding digits encode_utf8 utf16_chars
 option = refl
 
-option_shown : pretty (style true true 2) 4 (node Universal false 2 (present (node Universal false 2 (integer (5 ∷ []))))) (form (Definite 0) (forms (form (Definite 1) no_forms) no_forms)) ≡ codes "    [Integer] 0 OPTION [Integer] 1 Integer([05])"
+option_shown : pretty (style true true 2) 4 (node Universal false 2 (present (node Universal false 2 (integer (5 ∷ [])))))
+    (form (Definite 0) (forms (form (Definite 1) no_forms) no_forms)) ≡ codes "    [Integer] 0 OPTION [Integer] 1 Integer([05])"
 unfolding digits encode_utf8 utf16_chars
 option_shown = refl
 
-option_of_list : pretty (style true false 2) 4 (node Universal true 16 (present (node Universal true 16 (sequence (nodes (node Universal false 2 (integer (5 ∷ []))) no_nodes))))) (form (Definite 0) (forms (form (Definite 0) (forms (form (Definite 1) no_forms) no_forms)) no_forms)) ≡ codes "    OPTION Sequence[\n  Integer([05])]"
+option_of_list : pretty (style true false 2) 4 (node Universal true 16 (present (node Universal true 16 (sequence (nodes (node Universal false 2 (integer (5 ∷ []))) no_nodes)))))
+    (form (Definite 0) (forms (form (Definite 0) (forms (form (Definite 1) no_forms) no_forms)) no_forms)) ≡ codes "    OPTION Sequence[\n  Integer([05])]"
 unfolding digits encode_utf8 utf16_chars
 option_of_list = refl
 
 -- a0 03 02 01 02, read behind its explicit tag
-tagged_text : pretty (style true false 2) 0 (node ContextSpecific true 0 (tagged ContextSpecific 0 (node Universal false 2 (integer (2 ∷ []))))) (form (Definite 3) (forms (form (Definite 1) no_forms) no_forms)) ≡ codes "ContextSpecific [CONTEXT-SPECIFIC 0] {\n  Integer([02])}"
+tagged_text : pretty (style true false 2) 0 (node ContextSpecific true 0 (tagged ContextSpecific 0 (node Universal false 2 (integer (2 ∷ [])))))
+    (form (Definite 3) (forms (form (Definite 1) no_forms) no_forms)) ≡ codes "ContextSpecific [CONTEXT-SPECIFIC 0] {\n  Integer([02])}"
 unfolding digits encode_utf8 utf16_chars
 tagged_text = refl
 
-tagged_shown : pretty (style true true 2) 0 (node ContextSpecific true 0 (tagged ContextSpecific 0 (node Universal false 2 (integer (2 ∷ []))))) (form (Definite 3) (forms (form (Definite 1) no_forms) no_forms)) ≡ codes "[0]+ 3 ContextSpecific [CONTEXT-SPECIFIC 0] {\n  [Integer] 1 Integer([02])}"
+tagged_shown : pretty (style true true 2) 0 (node ContextSpecific true 0 (tagged ContextSpecific 0 (node Universal false 2 (integer (2 ∷ [])))))
+    (form (Definite 3) (forms (form (Definite 1) no_forms) no_forms)) ≡ codes "[0]+ 3 ContextSpecific [CONTEXT-SPECIFIC 0] {\n  [Integer] 1 Integer([02])}"
 unfolding digits encode_utf8 utf16_chars
 tagged_shown = refl
 
-tagged_application : pretty (style true false 3) 1 (node Universal false 4294967295 (tagged Application 4294967295 (node Universal true 16 (sequence (nodes (node Universal false 5 null) no_nodes))))) (form (Definite 0) (forms (form (Definite 0) (forms (form (Definite 0) no_forms) no_forms)) no_forms)) ≡ codes " ContextSpecific [APPLICATION 4294967295] {\n    Sequence[\n       Null    ] }"
+tagged_application : pretty (style true false 3) 1 (node Universal false 4294967295 (tagged Application 4294967295 (node Universal true 16 (sequence (nodes (node Universal false 5 null) no_nodes)))))
+    (form (Definite 0) (forms (form (Definite 0) (forms (form (Definite 0) no_forms) no_forms)) no_forms)) ≡ codes " ContextSpecific [APPLICATION 4294967295] {\n    Sequence[\n       Null    ] }"
 unfolding digits encode_utf8 utf16_chars
 tagged_application = refl
 
 -- items have nothing between them
-two_integers : pretty (style true false 2) 0 (node Universal true 16 (sequence (nodes (node Universal false 2 (integer (1 ∷ 0 ∷ 1 ∷ []))) (nodes (node Universal false 2 (integer (1 ∷ 0 ∷ 0 ∷ []))) no_nodes)))) (form (Definite 10) (forms (form (Definite 3) no_forms) (forms (form (Definite 3) no_forms) no_forms))) ≡ codes "Sequence[\n  Integer([01 00 01])  Integer([01 00 00])]"
+two_integers : pretty (style true false 2) 0 (node Universal true 16 (sequence (nodes (node Universal false 2 (integer (1 ∷ 0 ∷ 1 ∷ [])))
+    (nodes (node Universal false 2 (integer (1 ∷ 0 ∷ 0 ∷ []))) no_nodes)))) (form (Definite 10)
+    (forms (form (Definite 3) no_forms) (forms (form (Definite 3) no_forms) no_forms))) ≡ codes "Sequence[\n  Integer([01 00 01])  Integer([01 00 00])]"
 unfolding digits encode_utf8 utf16_chars
 two_integers = refl
 
@@ -205,11 +234,16 @@ indented_list : pretty (style true false 2) 2 (node Universal true 16 (sequence 
 unfolding digits encode_utf8 utf16_chars
 indented_list = refl
 
-list_alone : pretty (style false false 2) 0 (node Universal true 16 (sequence (nodes (node Universal false 2 (integer (1 ∷ 0 ∷ 1 ∷ []))) (nodes (node Universal false 2 (integer (1 ∷ 0 ∷ 0 ∷ []))) no_nodes)))) (form (Definite 10) (forms (form (Definite 3) no_forms) (forms (form (Definite 3) no_forms) no_forms))) ≡ codes "Sequence"
+list_alone : pretty (style false false 2) 0 (node Universal true 16 (sequence (nodes (node Universal false 2 (integer (1 ∷ 0 ∷ 1 ∷ [])))
+    (nodes (node Universal false 2 (integer (1 ∷ 0 ∷ 0 ∷ []))) no_nodes)))) (form (Definite 10) (forms (form (Definite 3) no_forms) (forms (form (Definite 3) no_forms) no_forms))) ≡ codes "Sequence"
 unfolding digits encode_utf8 utf16_chars
 list_alone = refl
 
-set_in_sequence : pretty (style true false 3) 1 (node Universal true 16 (sequence (nodes (node Universal true 17 (set (nodes (node Universal false 2 (integer (5 ∷ []))) (nodes (node Universal false 12 (string 12 (97 ∷ []))) (nodes (node ContextSpecific true 3 (unknown ContextSpecific true 3 (4 ∷ 4 ∷ 222 ∷ 173 ∷ 190 ∷ 239 ∷ []))) no_nodes))))) no_nodes))) (form Indefinite (forms (form (Definite 14) (forms (form (Definite 1) no_forms) (forms (form (Definite 1) no_forms) (forms (form (Definite 6) no_forms) no_forms)))) no_forms)) ≡ codes " Sequence[\n    Set[\n       Integer([05])       UTF8String(\"a\")       Unknown [04 04 de ad be ef]    ] ]"
+set_in_sequence : pretty (style true false 3) 1 (node Universal true 16 (sequence (nodes (node Universal true 17
+    (set (nodes (node Universal false 2 (integer (5 ∷ []))) (nodes (node Universal false 12 (string 12 (97 ∷ [])))
+    (nodes (node ContextSpecific true 3 (unknown ContextSpecific true 3 (4 ∷ 4 ∷ 222 ∷ 173 ∷ 190 ∷ 239 ∷ []))) no_nodes))))) no_nodes)))
+    (form Indefinite (forms (form (Definite 14) (forms (form (Definite 1) no_forms) (forms (form (Definite 1) no_forms)
+    (forms (form (Definite 6) no_forms) no_forms)))) no_forms)) ≡ codes " Sequence[\n    Set[\n       Integer([05])       UTF8String(\"a\")       Unknown [04 04 de ad be ef]    ] ]"
 unfolding digits encode_utf8 utf16_chars
 set_in_sequence = refl
 
@@ -218,11 +252,13 @@ named_by_header : pretty (style true false 2) 0 (node Universal true 17 (sequenc
 unfolding digits encode_utf8 utf16_chars
 named_by_header = refl
 
-named_by_other_header : pretty (style true false 2) 0 (node ContextSpecific true 0 (sequence (nodes (node Universal false 5 null) no_nodes))) (form (Definite 3) (forms (form (Definite 0) no_forms) no_forms)) ≡ codes "Set[\n  Null]"
+named_by_other_header : pretty (style true false 2) 0 (node ContextSpecific true 0 (sequence (nodes (node Universal false 5 null) no_nodes)))
+    (form (Definite 3) (forms (form (Definite 0) no_forms) no_forms)) ≡ codes "Set[\n  Null]"
 unfolding digits encode_utf8 utf16_chars
 named_by_other_header = refl
 
-bmp_in_list : pretty (style true false 2) 0 (node Universal true 17 (set (nodes (node Universal false 30 (string 30 (0 ∷ 65 ∷ []))) (nodes (node Universal false 5 null) no_nodes)))) (form (Definite 0) (forms (form (Definite 0) no_forms) (forms (form (Definite 0) no_forms) no_forms))) ≡ codes "Set[\n  BmpString(\"A\")\n  Null]"
+bmp_in_list : pretty (style true false 2) 0 (node Universal true 17 (set (nodes (node Universal false 30 (string 30 (0 ∷ 65 ∷ []))) (nodes (node Universal false 5 null) no_nodes))))
+    (form (Definite 0) (forms (form (Definite 0) no_forms) (forms (form (Definite 0) no_forms) no_forms))) ≡ codes "Set[\n  BmpString(\"A\")\n  Null]"
 unfolding digits encode_utf8 utf16_chars
 bmp_in_list = refl
 
@@ -263,7 +299,8 @@ teletex : pretty (style true true 2) 0 (node Universal false 20 (string 20 (97 �
 unfolding digits encode_utf8 utf16_chars
 teletex = refl
 
-largest_tag : pretty (style true true 2) 0 (node Universal true 4294967295 (unknown Universal true 4294967295 [])) (form (Definite 18446744073709551615) no_forms) ≡ codes "[Tag(4294967295)]+ 18446744073709551615 Unknown []"
+largest_tag : pretty (style true true 2) 0 (node Universal true 4294967295 (unknown Universal true 4294967295 []))
+    (form (Definite 18446744073709551615) no_forms) ≡ codes "[Tag(4294967295)]+ 18446744073709551615 Unknown []"
 unfolding digits encode_utf8 utf16_chars
 largest_tag = refl
 
@@ -275,7 +312,8 @@ other_length : (n : ℕ) → n ≡ 19 → ¬ (n ≡ 20)
 other_length n h e = omega (arith, h, e)
 
 -- not so: a comma between items, an inner indent behind OPTION, quotes round a T61String
-no_comma : ¬ (pretty (style true false 0) 0 (node Universal true 16 (sequence (nodes (node Universal false 5 null) (nodes (node Universal false 5 null) no_nodes)))) (form (Definite 4) no_forms) ≡ codes "Sequence[\nNull,Null]")
+no_comma : ¬ (pretty (style true false 0) 0 (node Universal true 16 (sequence (nodes (node Universal false 5 null) (nodes (node Universal false 5 null) no_nodes))))
+    (form (Definite 4) no_forms) ≡ codes "Sequence[\nNull,Null]")
 unfolding digits encode_utf8 utf16_chars
 no_comma e = other_length 19 refl (ap length e)
 

@@ -23,7 +23,8 @@ tag i r c p t n s = ap (λ l. take 1 l) s.octets ∙ ap (λ x. x ∷ []) s.leadi
 begins : (i r : List ℕ) (c : Class) (p : Bool) (t n : ℕ) → IsShort i r c p t n → i ≡ identifier c p t ++ n ∷ r
 begins i r c p t n s = s.octets ∙ ap (λ x. x ∷ n ∷ r) s.leading ∙ ap (λ l. l ++ n ∷ r) (sym (identifier_short c p t s.number))
 
-named : (i : List ℕ) (h : Header) (c : Class) (p : Bool) (t n : ℕ) → IsHeader h c p t (Definite n) (Some (take 1 i)) → take 1 i ≡ identifier c p t → raw_tag_of h ≡ Some (identifier (class_of h) (is_constructed h) (number_of h))
+named : (i : List ℕ) (h : Header) (c : Class) (p : Bool) (t n : ℕ) → IsHeader h c p t (Definite n) (Some (take 1 i)) → take 1 i ≡ identifier c p t
+    → raw_tag_of h ≡ Some (identifier (class_of h) (is_constructed h) (number_of h))
 named i h c p t n k e = rw (k.class, k.constructed, k.number) (k.raw_tag ∙ ap Some e)
 
 by_ber : (i r : List ℕ) (h : Header) (c : Class) (p : Bool) (t n : ℕ) → IsShort i r c p t n → IsHeader h c p t (Definite n) (Some (take 1 i)) → ReadsHeader i h r

@@ -24,7 +24,8 @@ returns-in_default c = (refl, subst IsCutIdentifier (sym (nil_from_length c.args
 pub returns-then-low_bits-lt31 : goal.returns-then-low_bits-lt31
 returns-then-low_bits-lt31 c =
     let k = c.first_octet-class.result in
-    let e = short c.args.i.now c.in-Some.following.now c.in-Some.first.now c.from.result k.0 k.1 c.in-Some.ensures.cases.0 (omega (arith, c.first_octet-class.ensures.octet, c.from.ensures)) (omega arith) in
+    let e = short c.args.i.now c.in-Some.following.now c.in-Some.first.now c.from.result k.0 k.1 c.in-Some.ensures.cases.0 (omega (arith, c.first_octet-class.ensures.octet, c.from.ensures))
+    (omega arith) in
     record {
       octets = e;
       number = omega arith;
@@ -37,7 +38,8 @@ returns-in_err-rest c =
     let s = c.in-Some.following.now in
     let e : c.args.i.now ≡ (leading_bits k.0 k.1 + 31) ∷ s = c.in-Some.ensures.cases.0 ∙ ap (λ x. x ∷ s) (omega arith) in
     let q = err_from_is_err_and c.from_residual.result c.from_residual.ensures.1 in
-    rw (q.1, q.2, e) (passed_on _ _ c.in_err-rest.field-0.0 c.in_err-rest.ensures (λ x h. (bad_tag_behind 31 (leading_bits k.0 k.1 + 31) s (omega arith) h.0, h.1)) (λ n h. (h.0, cut_behind k.0 k.1 s h.1)) (λ m. m))
+    rw (q.1, q.2, e) (passed_on _ _ c.in_err-rest.field-0.0 c.in_err-rest.ensures (λ x h. (bad_tag_behind 31 (leading_bits k.0 k.1 + 31) s (omega arith) h.0, h.1))
+    (λ n h. (h.0, cut_behind k.0 k.1 s h.1)) (λ m. m))
 
 pub returns : goal.returns
 returns c =

@@ -1,4 +1,4 @@
-use Rattle.std.proofs.Common.{◌≡◌, ◌++◌, ap, refl, sym, ◌∙◌, append_assoc, codes, decimal}
+use Rattle.std.proofs.Common.{◌++◌, ap, refl, sym, ◌∙◌, append_assoc, codes, decimal}
 use Rattle.der_base.specs.Oids.{arcs_left}
 use Rattle.der_base.specs.Pretty.{pointed}
 use Rattle.std.proofs.lemmas.Grind.{put_two}

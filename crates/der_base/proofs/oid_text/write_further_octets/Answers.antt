@@ -1,4 +1,4 @@
-use Rattle.std.proofs.Common.{◌≡◌, ◌∙◌, ◌++◌, sym, ap, refl, codes, take, get_or}
+use Rattle.std.proofs.Common.{sym, refl, codes, take, get_or}
 use Rattle.std.proofs.lemmas.Grind.{put_three}
 use Rattle.der_base.specs.Pretty.{hex_pair, spaced_hex}
 use Rattle.der_base.proofs.HexTexts.{spaced_more}

@@ -14,4 +14,5 @@ pub returns : goal.returns
 returns c =
     let d = c.count_digits-count.ensures in
     fraction_found c.args.content.now c.in-Some.behind.now c.split_at.result.0.now c.split_at.result.1.now c.in-Some.mark.now c.count_digits-count.result c.nanoseconds.result
-    c.in-Some.ensures.cases.0 (c.if-not-is_mark.ensures.0 refl) d.within d.digits d.behind c.if-count-eq0.false c.if-count-gt9.false c.split_at.ensures.front c.split_at.ensures.back c.nanoseconds.ensures
+    c.in-Some.ensures.cases.0
+    (c.if-not-is_mark.ensures.0 refl) d.within d.digits d.behind c.if-count-eq0.false c.if-count-gt9.false c.split_at.ensures.front c.split_at.ensures.back c.nanoseconds.ensures
