@@ -180,17 +180,18 @@ pub trait Visit {
     final fn run<'t>(&mut self, object: &BerObject<'t>)
     where
         Self: Sized,
-        ensures { TakenThrough (MeetsObject object_step content_step) (listing (tree object.now) 0) self.old self.new }
+        ensures { TakenThrough (MeetsObject object_step content_step) (listing (tree object.now) 0)
+            self.old self.new }
     {
         walk_object(self, object, 0);
     }
 
-    /// Visits an object at this depth, and the items inside it. Depths stop at
-    /// `usize::MAX`.
+    /// Visits an object at this depth, and the items inside it. Depths stop at `usize::MAX`.
     final fn run_at<'t>(&mut self, object: &BerObject<'t>, depth: usize)
     where
         Self: Sized,
-        ensures { TakenThrough (MeetsObject object_step content_step) (listing (tree object.now) depth) self.old self.new }
+        ensures { TakenThrough (MeetsObject object_step content_step) (listing (tree object.now) depth)
+            self.old self.new }
     {
         walk_object(self, object, depth);
     }

@@ -230,8 +230,7 @@ pub trait VisitMut {
         walk_object(self, object, 0);
     }
 
-    /// Visits an object at this depth, and the items inside it. Depths stop at
-    /// `usize::MAX`.
+    /// Visits an object at this depth, and the items inside it. Depths stop at `usize::MAX`.
     final fn run_at<'t>(&mut self, object: &mut BerObject<'t>, depth: usize)
     where
         Self: Sized,
