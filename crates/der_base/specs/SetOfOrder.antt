@@ -10,10 +10,10 @@ use Rattle.der_base.specs.declared.error.Error.{Error as BerError}
 use Rattle.der_base.specs.declared.error.ErrorKind.{ErrorKind}
 use Rattle.der_base.specs.declared.header.Header.{Header}
 use Rattle.der_base.specs.Containers.{Answered}
-use Rattle.der_base.specs.ListSteps.{Calls, LastCall, items_of, taken}
+use Rattle.der_base.specs.ListSteps.{Calls, LastCall, no_room, items_of, taken}
 use Rattle.der_base.specs.Refusal.{refusal, der_constraint}
 
--- an octet by its place; behind the last one there are octets of 0
+-- an octet by its place; after the last one there are octets of 0
 abbrev pub padded : List ℕ → ℕ → ℕ
 padded w k = get_or w k 0
 
@@ -33,14 +33,21 @@ IsAscending (s ∷ t ∷ ss) = (¬ Descends s t) × IsAscending (t ∷ ss)
 abbrev pub DescendsAtEnd : List (List ℕ) → List ℕ → Type 0
 DescendsAtEnd ss t = (front : List (List ℕ)) × (s : List ℕ) × (ss ≡ front ++ s ∷ []) × Descends s t
 
+-- what the last call took, where it read a value
+abbrev pub last_taken : {F O E : Type 0} {step : F → Bor (List ℕ) → Answered O E → F → Type 0}
+    {from_error_kind_gives : Bor (List ℕ) → ErrorKind → E → Type 0} {f g : F} {j : List ℕ} {vs : List O}
+    {answer : Result (List O) (Refused E)} → LastCall step from_error_kind_gives f j vs answer g → List (List ℕ)
+last_taken {j = j} (no_room {r = r} _ _ _) = taken j r.now ∷ []
+last_taken _ = []
+
 module _ {F O E : Type 0} (from_error_kind_gives : Bor (List ℕ) → ErrorKind → E → Type 0)
     (from_gives : BerError → E → Type 0) (step : F → Bor (List ℕ) → Answered O E → F → Type 0) where
-  -- The calls of a parser of a SET OF: those of any list, where what they take ascends. The call that takes what
-  -- descends is the last, and its value is refused.
+  -- The calls of a parser of a SET OF: those of any list, where all that they take ascends. The call that takes what
+  -- descends is the last, and its value is refused, whether or not there is memory for it.
   pub data OrderedSteps (w : List ℕ) (f : F) : Result (List O) (Refused E) → F → Type 0 where
     in_order : {vs : List O} {ss : List (List ℕ)} {m g : F} {j : List ℕ} {answer : Result (List O) (Refused E)}
-        → Calls step f w vs ss m j → IsAscending ss → LastCall step from_error_kind_gives m j vs answer g
-        → OrderedSteps w f answer g
+        → Calls step f w vs ss m j → (last : LastCall step from_error_kind_gives m j vs answer g)
+        → IsAscending (ss ++ last_taken last) → OrderedSteps w f answer g
     out_of_order : {vs : List O} {ss : List (List ℕ)} {m g : F} {j : List ℕ} {p r : Bor (List ℕ)} {v : O} {e : BerError}
         {x : E} → Calls step f w vs ss m j → IsAscending ss → step m p (Ok (r, v)) g → p.now ≡ j
         → length r.now < length j → DescendsAtEnd ss (taken j r.now) → refusal e ≡ der_constraint SetOfOrder

@@ -65,7 +65,8 @@ frame_lacks_same c (Definite m) i n n' (h, s, u, o) (h', s', u', o') = elim (uni
 begins : (c : Class) (p : Bool) (t : ℕ) (l : Length) (d : ℕ) (i w rest : List ℕ) → t < 2 ^ 32 → FramesContent l d i w rest → BeginsWithDerHeader (element c p t w ++ rest) c p t (length w) (w ++ rest)
 begins c p t l d i w rest h f = element_header (element c p t w ++ rest) w rest c p t h refl f.size
 
-spells : (c : Class) (p : Bool) (t : ℕ) (l : Length) (d : ℕ) (i w rest : List ℕ) (x : Content) → t < 2 ^ 32 → FramesContent l d i w rest → IsDerContentOf w c p t x d → DerSpells (element c p t w) (node c p t x) d
+spells : (c : Class) (p : Bool) (t : ℕ) (l : Length) (d : ℕ) (i w rest : List ℕ) (x : Content) → t < 2 ^ 32 → FramesContent l d i w rest → IsDerContentOf w c p t x d
+    → DerSpells (element c p t w) (node c p t x) d
 spells c p t l d i w rest x h f k = record {
   encoded = ap (element c p t) k.octets ∙ sym (valid_element c p t x k.valid);
   valid = (h, k.valid);
@@ -73,7 +74,8 @@ spells c p t l d i w rest x h f k = record {
   size = omega (arith, f.size, ap length k.octets);
 }
 
-shows : (c : Class) (p : Bool) (t : ℕ) (l : Length) (d : ℕ) (i w rest : List ℕ) (e : Refusal) → t < 2 ^ 32 → FramesContent l d i w rest → ContentRefuses c p t w d e → DerShowsFault d (element c p t w ++ rest) e
+shows : (c : Class) (p : Bool) (t : ℕ) (l : Length) (d : ℕ) (i w rest : List ℕ) (e : Refusal) → t < 2 ^ 32 → FramesContent l d i w rest → ContentRefuses c p t w d e
+    → DerShowsFault d (element c p t w ++ rest) e
 shows c p t l d i w rest e h f r = content_refused d (element c p t w ++ rest) (w ++ rest) w rest c p t (length w) e f.deep (begins c p t l d i w rest h f) f.size refl refl r
 
 -- the laws

@@ -59,7 +59,8 @@ pub bounded_read : (d : ℕ) (i rest : List ℕ) (o : BerObject) (old new : ℕ)
 bounded_read d i rest o old new r e = omega (arith, e, read_octets d i rest o r)
 
 -- what is counted of what is left is within the bound of the whole
-pub bounded_behind : (w rest : List ℕ) (os : List BerObject) (d old now new : ℕ) → Read w rest os d → now ≡ some_more (item_count (trees os)) old → 2 * new ≤ 2 * now + length rest + 2 → 2 * new ≤ 2 * old + length w + 2
+pub bounded_behind : (w rest : List ℕ) (os : List BerObject) (d old now new : ℕ) → Read w rest os d → now ≡ some_more (item_count (trees os)) old → 2 * new ≤ 2 * now + length rest + 2
+    → 2 * new ≤ 2 * old + length w + 2
 bounded_behind w rest os d old now new r e h = omega (arith, e, h, joined_octets r.read (trees os) d r.joins, ap length r.parts, length-append r.read rest)
 
 -- one more object behind others

@@ -36,7 +36,8 @@ refused_primitive t w e q r = primitive_refusal (is_list t) _ (der_primitive_tes
 -- a content by BER of octets in that form is written so
 pub form_read : (t : ℕ) (w : List ℕ) (x : Content) → All IsOctet w → is_mapped t ≡ true → is_list t ≡ false → IsInForm t w → IsLeafContent false t w x → IsDerLeaf t x × (w ≡ content_octets x)
 form_read t w x are mapped no_list form h = elim (always_der false t w are mapped no_list) [
-  | inl (y, p, k, e) ↦ (let q = one_content false t w y x (subst (λ v. IsLeafContent false t v y) (sym e) k.0) h in (subst (IsDerLeaf t) q k, e ∙ (let s : content_octets y ≡ content_octets x = cc in s)))
+  | inl (y, p, k, e) ↦ (let q = one_content false t w y x (subst (λ v. IsLeafContent false t v y) (sym e) k.0) h in
+      (subst (IsDerLeaf t) q k, e ∙ (let s : content_octets y ≡ content_octets x = cc in s)))
   | inr (e, r) ↦ absurd (never_both_ber false t w x e h (form e (refused_primitive t w e no_list r)))
 ]
 

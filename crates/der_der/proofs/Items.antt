@@ -1,12 +1,12 @@
 -- Items that are read one after another, and the elements around them.
-use Rattle.std.proofs.Common.{◌≡◌, ◌≢◌, ℕ, zero, suc, ◌+◌, ◌-◌, ◌<◌, ◌≤◌, Bool, true, false, nat_lt, if◌then◌else◌, IsTrue, List, [], ◌∷◌, ◌++◌, length, refl, sym, ap, subst, ◌∙◌, arith, append_assoc, length-append, inl, inr, ◌⊎◌, All}
+use Rattle.std.proofs.Common.{◌≡◌, ◌≢◌, ℕ, zero, suc, ◌+◌, ◌-◌, ◌<◌, ◌≤◌, Bool, true, false, nat_lt, if◌then◌else◌, IsTrue, List}
+use Rattle.std.proofs.Common.{[], ◌∷◌, ◌++◌, length, refl, sym, ap, subst, ◌∙◌, arith, append_assoc, length-append, inl, inr, ◌⊎◌, All}
 use Rattle.std.proofs.lemmas.List.Elements.{All-nil}
 use Rattle.std.proofs.lemmas.List.{append-nil}
 use Rattle.der_base.specs.declared.header.Class.{Class}
 use Rattle.der_base.specs.declared.header.Class.TheVariants.{Universal, Application, ContextSpecific, Private}
 use Rattle.std.specs.declared.vec.Vec.{Vec}
 use Rattle.std.specs.declared.alloc.Global.{Global}
-use Rattle.der_base.specs.declared.any.Any.{Any}
 use Rattle.der_base.specs.declared.header.Header.{Header}
 use Rattle.der_base.specs.declared.header.Length.TheVariants.{Definite}
 use Rattle.der_base.specs.Cut.{DerLacks}
@@ -14,11 +14,12 @@ use Rattle.der_base.specs.Encoding.{encoding, encodings, element, content_octets
 use Rattle.der_base.specs.Fault.{DerHeaderRefuses, DerJoins, DerShowsFault}
 use Rattle.der_base.specs.Headers.{BeginsWithDerHeader, DerHeaderLacks}
 use Rattle.der_base.specs.Header.{class_of, is_constructed, number_of, length_of}
-use Rattle.der_base.specs.Leaf.{is_list, is_mapped, IsDerLeaf}
+use Rattle.der_base.specs.Leaf.{is_list, IsDerLeaf}
 use Rattle.der_base.specs.Octets.{identifier, shortest_length, octets}
 use Rattle.der_base.specs.Refusal.{Refusal, invalid_length}
 use Rattle.der_base.specs.Spelling.{IsDerContent, AreDerValid, max_object_size}
-use Rattle.der_base.specs.Tree.{Content, end_of_content, boolean, integer, bit_string, string, null, enumerated, object_identifier, relative_oid, time, sequence, set, absent, present, tagged, unknown, Nodes, no_nodes, nodes, content_height, list_height}
+use Rattle.der_base.specs.Tree.{Content, end_of_content, boolean, integer, bit_string, string, null, enumerated, object_identifier, relative_oid, time}
+use Rattle.der_base.specs.Tree.{sequence, set, absent, present, tagged, unknown, Nodes, no_nodes, nodes, content_height, list_height}
 use Rattle.der_base.specs.Stable.{DerIsCut}
 use Rattle.der_laws.proofs.Spellings.DerFaults.{header_shows, size_shows, behind_shows, header_cut_shows_nothing, content_cut_shows_nothing}
 use Rattle.der_laws.proofs.Spellings.DerLacking.{der_header_cut, der_content_cut}
@@ -26,7 +27,7 @@ use Rattle.der_laws.proofs.Spellings.DerWithinBer.{valid_element}
 use Rattle.der_base.proofs.Octets.Identifiers.{identifier_octets}
 use Rattle.der_object.specs.declared.object.BerObject.{BerObject}
 use Rattle.der_object.specs.declared.object.BerObjectContent.{BerObjectContent}
-use Rattle.der_object.specs.declared.object.BerObjectContent.TheVariants.{Sequence, Set, Unknown}
+use Rattle.der_object.specs.declared.object.BerObjectContent.TheVariants.{Sequence, Set}
 use Rattle.der_object.specs.HeaderFacts.{HasRawTag, HasDerHeader, EachHasDerHeader}
 use Rattle.der_object.specs.View.{content_tree, trees}
 use Rattle.der_object.proofs.Joins.{der_joins_push}
@@ -96,30 +97,22 @@ joins_encoded (nodes o l) w d (b, rest, e, h, j) =
       depth = omega (arith, h.depth, k.depth);
     }
 
-pub sequence_content : (w : List ℕ) (h : Header) (v : Vec BerObject Global) (d : ℕ) → class_of h ≡ Universal → is_constructed h ≡ true → number_of h ≡ 16 → 1 ≤ d → AreItems w v.items (d - 1) → IsContentOf w h (Sequence v) d
+pub sequence_content : (w : List ℕ) (h : Header) (v : Vec BerObject Global) (d : ℕ) → class_of h ≡ Universal → is_constructed h ≡ true → number_of h ≡ 16 → 1 ≤ d
+    → AreItems w v.items (d - 1) → IsContentOf w h (Sequence v) d
 sequence_content w h v d ec ep et le j =
     let q = joins_encoded (trees v.items) w (d - 1) j.joins in
     let k : IsDerContentOf w (class_of h) (is_constructed h) (number_of h) (sequence (trees v.items)) d = record { octets = q.octets; valid = (ec, et, ep, q.valid); depth = omega (arith, q.depth) } in
     record { content = subst (λ x. IsDerContentOf w (class_of h) (is_constructed h) (number_of h) x d) (sym (sequence_tree v)) k; kept = tt; headers = sequence_each HasDerHeader v j.headers }
 
-pub set_content : (w : List ℕ) (h : Header) (v : Vec BerObject Global) (d : ℕ) → class_of h ≡ Universal → is_constructed h ≡ true → number_of h ≡ 17 → 1 ≤ d → AreItems w v.items (d - 1) → IsContentOf w h (Set v) d
+pub set_content : (w : List ℕ) (h : Header) (v : Vec BerObject Global) (d : ℕ) → class_of h ≡ Universal → is_constructed h ≡ true → number_of h ≡ 17 → 1 ≤ d
+    → AreItems w v.items (d - 1) → IsContentOf w h (Set v) d
 set_content w h v d ec ep et le j =
     let q = joins_encoded (trees v.items) w (d - 1) j.joins in
     let k : IsDerContentOf w (class_of h) (is_constructed h) (number_of h) (set (trees v.items)) d = record { octets = q.octets; valid = (ec, et, ep, q.valid); depth = omega (arith, q.depth) } in
     record { content = subst (λ x. IsDerContentOf w (class_of h) (is_constructed h) (number_of h) x d) (sym (set_tree v)) k; kept = tt; headers = set_each HasDerHeader v j.headers }
 
-pub raw_content : (w : List ℕ) (h : Header) (a : Any) (d : ℕ) → 1 ≤ d → a.header ≡ h → a.bytes.now ≡ w → (class_of h ≡ Universal → is_mapped (number_of h) ≡ false) → IsContentOf w h (Unknown a) d
-raw_content w h a d le q e k = record {
-  content = record {
-    octets = sym e;
-    valid = inr (ap class_of q, ap is_constructed q, ap number_of q, refl, k);
-    depth = le;
-  };
-  kept = q;
-  headers = tt;
-}
-
-pub leaf_content : (w : List ℕ) (h : Header) (x : BerObjectContent) (d : ℕ) → class_of h ≡ Universal → 1 ≤ d → is_constructed h ≡ false → IsDerLeaf (number_of h) (content_tree x) → w ≡ content_octets (content_tree x) → IsContentOf w h x d
+pub leaf_content : (w : List ℕ) (h : Header) (x : BerObjectContent) (d : ℕ) → class_of h ≡ Universal → 1 ≤ d → is_constructed h ≡ false → IsDerLeaf (number_of h) (content_tree x)
+    → w ≡ content_octets (content_tree x) → IsContentOf w h x d
 leaf_content w h x d u le p r e = record {
   content = record {
     octets = e;
@@ -131,7 +124,8 @@ leaf_content w h x d u le p r e = record {
 }
 
 -- an element of a header and a content
-pub element_read : (i rest w r : List ℕ) (o : BerObject) (n d : ℕ) → BeginsWithDerHeader i (class_of o.header) (is_constructed o.header) (number_of o.header) n rest → length_of o.header ≡ Definite n → HasRawTag o.header
+pub element_read : (i rest w r : List ℕ) (o : BerObject) (n d : ℕ) → BeginsWithDerHeader i (class_of o.header) (is_constructed o.header) (number_of o.header) n rest
+    → length_of o.header ≡ Definite n → HasRawTag o.header
     → n ≤ max_object_size → rest ≡ w ++ r → length w ≡ n → IsContentOf w o.header o.content d → ReadsDer d i o r
 element_read i rest w r o n d b l raw s e z k =
     let c = class_of o.header in
@@ -153,7 +147,8 @@ element_read i rest w r o n d b l raw s e z k =
 pub object_read : (i rest w r r' : List ℕ) (h : Header) (o : BerObject) (n d : ℕ) → BeginsWithDerHeader i (class_of h) (is_constructed h) (number_of h) n rest → length_of h ≡ Definite n → HasRawTag h
     → n ≤ max_object_size → rest ≡ w ++ r → length w ≡ n → (r' ≡ r) × (o.header ≡ h) × IsContentOf w h o.content d → ReadsDer d i o r'
 object_read i rest w r r' h o n d b l raw s e z (er, eh, k) =
-    subst (ReadsDer d i o) (sym er) (subst (λ h. ReadsDer d i (record { header = h; content = o.content }) r) (sym eh) (element_read i rest w r (record { header = h; content = o.content }) n d b l raw s e z k))
+    subst (ReadsDer d i o) (sym er) (subst (λ h. ReadsDer d i (record { header = h; content = o.content }) r) (sym eh)
+        (element_read i rest w r (record { header = h; content = o.content }) n d b l raw s e z k))
 
 -- a refusal of the content, at the depth of the element
 pub content_refused : (d : ℕ) (i rest w r : List ℕ) (c : Class) (p : Bool) (t n : ℕ) (e : Refusal) → 1 ≤ d → BeginsWithDerHeader i c p t n rest → n ≤ max_object_size → rest ≡ w ++ r → length w ≡ n

@@ -15,7 +15,8 @@ use Rattle.der_ber.specs.BerSlices.{slice_value_of}
 use Rattle.der_der.specs.DerSlices.{ReadsDerSlice, DerSliceRefuses}
 
 -- what a container refuses, told by the errors of the crate
-pub unopened : {T : Type 0} (P : T → Type 0) (n : ℕ) {i : List ℕ} {r : Refused BerError} → RefusesDer (λ v k e. e ≡ NomError k) (λ y x. x ≡ y) i r → MatchAnswer (Err r) P (DerSliceRefuses n i) (DerHeaderLacks i) ⊥
+pub unopened : {T : Type 0} (P : T → Type 0) (n : ℕ) {i : List ℕ} {r : Refused BerError} → RefusesDer (λ v k e. e ≡ NomError k) (λ y x. x ≡ y) i r
+    → MatchAnswer (Err r) P (DerSliceRefuses n i) (DerHeaderLacks i) ⊥
 unopened P n {i = i} (faulty h g) = inl (rw g h)
 unopened P n (cut l) = l
 unopened P n (too_short {behind = v} s k) = rw k (inr (inl (v.now, s, refl)))

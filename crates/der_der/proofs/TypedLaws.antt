@@ -35,7 +35,8 @@ headers = record {
 pub header_of_begins : (t : ℕ) (i v : List ℕ) (h : Header) (r : ReadsHeaderOf t i h v) → BeginsWithDerHeader i (class_of h) (is_constructed h) t r.header.size v
 header_of_begins t i v h r = subst (λ n. BeginsWithDerHeader i (class_of h) (is_constructed h) n r.header.size v) r.number r.header.begins
 
-pub typed_read : (t : ℕ) (i v rest : List ℕ) (h : Header) (x : BerObjectContent) → ReadsHeaderOf t i h v → ReadsContentAs t (length_of h) (is_constructed h) 50 v x rest → ReadsTyped t i (record { header = h; content = x }) rest
+pub typed_read : (t : ℕ) (i v rest : List ℕ) (h : Header) (x : BerObjectContent) → ReadsHeaderOf t i h v → ReadsContentAs t (length_of h) (is_constructed h) 50 v x rest
+    → ReadsTyped t i (record { header = h; content = x }) rest
 typed_read t i v rest h x r k = record { behind = v; header = r; content = k }
 
 typed_spelled : (t : ℕ) (i : List ℕ) (o : BerObject) (rest : List ℕ) → ReadsTyped t i o rest → SpellsTyped t i (tree o, rest)

@@ -116,7 +116,7 @@ pub fn der_read_element_content_as<'a>(
 /// is refused. Incomplete where fewer octets are left: with the whole length for class Universal,
 /// and with the number of missing octets for others. OutOfMemory only for a list that has items.
 pub fn der_read_element_content<'a>(alloc: Global, i: &'a [u8], hdr: Header<'a>) -> BerResult<'a>
-    ensures { AnswersContentOf hdr.entry 50 i.now result }
+    ensures { AnswersContentOf hdr.entry MAX_RECURSION i.now result }
 {
     read_content_of(alloc, i, hdr, MAX_RECURSION)
 }

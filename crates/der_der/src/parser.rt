@@ -11,8 +11,8 @@ use std::alloc::Global;
 
 /// Reads one object in DER, to the depth `MAX_RECURSION`, as `parse_der_recursive`.
 pub fn parse_der<'a>(alloc: Global, i: &'a [u8]) -> BerResult<'a>
-    ensures exactly { AnswersDer 50 i.now result }
-    ensures stable { IsStableDer 50 i.now result }
+    ensures exactly { AnswersDer MAX_RECURSION i.now result }
+    ensures stable { IsStableDer MAX_RECURSION i.now result }
     ensures shorter { IfOk result (λ x. length x.0.now < length i.now) }
 {
     parse_der_recursive(alloc, i, MAX_RECURSION)

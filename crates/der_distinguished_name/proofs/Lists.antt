@@ -147,13 +147,13 @@ module _ {F T V : Type 0} {step : F → Bor (List ℕ) → Answered T BerError �
     module _ {from_gives : BerError → BerError → Type 0} where
       set_found : {f g : F} (w : List ℕ) (r : Answered (Vec T) BerError) → OrderedSteps from_error_kind_gives from_gives step w f (items_of r) g
           → IfOk r (λ x. JoinsInOrder Spells w (map view x.1.items))
-      set_found w (Ok x) (in_order {ss = ss} c a l) = let (e, each) = ended c l in (ss, e, each, a)
+      set_found w (Ok x) (in_order {ss = ss} c (at_end s q l) a) = let (e, each) = ended c (at_end s q l) in (ss, e, each, subst IsAscending (append-nil ss) a)
       set_found w (Err e) s = tt
 
       set_only : {f g : F} (w : List ℕ) (r : Answered (Vec T) BerError) → OrderedSteps from_error_kind_gives from_gives step w f (items_of r) g
           → (us : List V) → JoinsInOrder Spells w us → MatchResult r (λ x. map view x.1.items ≡ us) (λ e. e ≡ OutOfMemory)
-      set_only w (Ok x) (in_order c a l) us (ts, e, each, b) = only_ended ts us e each c l
-      set_only w (Err x) (in_order c a l) us (ts, e, each, b) = only_ended ts us e each c l
+      set_only w (Ok x) (in_order c l a) us (ts, e, each, b) = only_ended ts us e each c l
+      set_only w (Err x) (in_order c l a) us (ts, e, each, b) = only_ended ts us e each c l
       set_only w (Err x) (out_of_order {vs = vs} {ss = ss} {j = j} {r = r} c a s q l d k h) us (ts, e, each, b) =
           let n = reached ts us c e each in
           let more = reached_more ss vs n.back n.others n.spellings n.values n.left n.each s q in

@@ -20,7 +20,8 @@ use Rattle.der_base.proofs.Spellings.Counted.{leaf_counted}
 use Rattle.der_object.proofs.Counting.{sequence_content_count, set_content_count}
 use Rattle.der_object.specs.View.{tree, content_tree, trees}
 use Rattle.der_der.proofs.Counts.{none_counted, bounded_behind, counted_more, counted_around}
-use Rattle.der_der.proofs.Items.{sequence_content, set_content, header_refused, header_cut, size_refused, content_cut, content_refused, content_memory, object_read, leaf_content, header_shorter, read_none, read_more, read_all}
+use Rattle.der_der.proofs.Items.{sequence_content, set_content, header_refused, header_cut, size_refused, content_cut, content_refused}
+use Rattle.der_der.proofs.Items.{content_memory, object_read, leaf_content, header_shorter, read_none, read_more, read_all}
 use Rattle.der_der.proofs.reader.+reader.Goals as goal
 
 pub read_element-returns-in_err-rest-clause-found : goal.read_element-returns-in_err-rest-clause-found
@@ -67,8 +68,10 @@ read_items-returns-in-Err-clause-found t c =
 
 pub read_items-loop-rest-preserved : goal.read_items-loop-rest-preserved
 read_items-loop-rest-preserved t c = (
-  rw c.in_ok-push_item-in-Ok.ensures.items (read_more c.args.content.now c.loop-rest.rest.now c.in-Ok.after.now c.loop-rest.items.items c.in-Ok.item c.args.max_depth c.loop-rest.invariant.0 c.in-Ok.ensures.found),
-  rw c.in_ok-push_item-in-Ok.ensures.items (c.in-Ok.ensures.counted ∙ ap (some_more (object_count (tree c.in-Ok.item))) c.loop-rest.invariant.1 ∙ counted_more c.loop-rest.items.items c.in-Ok.item c.args.count.now),
+  rw c.in_ok-push_item-in-Ok.ensures.items (read_more c.args.content.now c.loop-rest.rest.now c.in-Ok.after.now c.loop-rest.items.items c.in-Ok.item c.args.max_depth
+      c.loop-rest.invariant.0 c.in-Ok.ensures.found),
+  rw c.in_ok-push_item-in-Ok.ensures.items (c.in-Ok.ensures.counted ∙ ap (some_more (object_count (tree c.in-Ok.item))) c.loop-rest.invariant.1
+      ∙ counted_more c.loop-rest.items.items c.in-Ok.item c.args.count.now),
 )
 
 pub read_items-returns-clause-found : goal.read_items-returns-clause-found
@@ -137,7 +140,8 @@ read_object-returns-then-is_mapped-clause-found t c =
     let w = c.args.octets.now in
     let x = c.in_ok-content.content in
     let universal : class_of h ≡ Universal = search rules in
-    let read : (is_constructed h ≡ false) × IsDerLeaf (number_of h) (content_tree x) × (w ≡ content_octets (content_tree x)) = rw (← c.constructed.ensures, ← c.tag-tag.ensures) c.in_ok-content.ensures in
+    let read : (is_constructed h ≡ false) × IsDerLeaf (number_of h) (content_tree x) × (w ≡ content_octets (content_tree x)) =
+        rw (← c.constructed.ensures, ← c.tag-tag.ensures) c.in_ok-content.ensures in
     let e = c.from_header_and_content-then-is_mapped.ensures in
     (refl, e.header, rw e.content (leaf_content w h x c.args.max_depth universal c.requires.deep read.0 read.1 read.2))
 
@@ -150,11 +154,13 @@ read_items-loop-rest-init t c =
 
 pub read_items-returns-in_err-push_item-in-Ok-clause-bounded : goal.read_items-returns-in_err-push_item-in-Ok-clause-bounded
 read_items-returns-in_err-push_item-in-Ok-clause-bounded t c =
-    bounded_behind c.args.content.now c.loop-rest.rest.now c.loop-rest.items.items c.args.max_depth c.args.count.now c.loop-rest.count _ c.loop-rest.invariant.0 c.loop-rest.invariant.1 c.in-Ok.ensures.bounded
+    bounded_behind c.args.content.now c.loop-rest.rest.now c.loop-rest.items.items c.args.max_depth c.args.count.now c.loop-rest.count _ c.loop-rest.invariant.0 c.loop-rest.invariant.1
+        c.in-Ok.ensures.bounded
 
 pub read_items-returns-in-Err-clause-bounded : goal.read_items-returns-in-Err-clause-bounded
 read_items-returns-in-Err-clause-bounded t c =
-    bounded_behind c.args.content.now c.loop-rest.rest.now c.loop-rest.items.items c.args.max_depth c.args.count.now c.loop-rest.count _ c.loop-rest.invariant.0 c.loop-rest.invariant.1 c.in-Err.ensures.bounded
+    bounded_behind c.args.content.now c.loop-rest.rest.now c.loop-rest.items.items c.args.max_depth c.args.count.now c.loop-rest.count _ c.loop-rest.invariant.0 c.loop-rest.invariant.1
+        c.in-Err.ensures.bounded
 
 pub read_items-returns-clause-bounded : goal.read_items-returns-clause-bounded
 read_items-returns-clause-bounded t c =

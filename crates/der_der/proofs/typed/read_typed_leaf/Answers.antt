@@ -22,4 +22,5 @@ returns c =
     let k : (is_constructed h ≡ false) × IsDerLeaf t (content_tree x) × (w ≡ content_octets (content_tree x)) = rw (← c.constructed.ensures) c.in_ok-content.ensures in
     let same : number_of u ≡ t = c.with_class-universal.ensures.number ∙ c.in_ok-behind.ensures.number in
     rw (c.from_header_and_content.ensures.header, c.from_header_and_content.ensures.content)
-    (typed_read t i v rest h x c.in_ok-behind.ensures (leaf_as_read (length_of h) (is_constructed h) t v w rest u x c.with_class-universal.ensures.class c.with_class-universal.ensures.constructed same f k))
+    (typed_read t i v rest h x c.in_ok-behind.ensures
+        (leaf_as_read (length_of h) (is_constructed h) t v w rest u x c.with_class-universal.ensures.class c.with_class-universal.ensures.constructed same f k))

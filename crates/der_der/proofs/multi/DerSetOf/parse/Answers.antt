@@ -6,4 +6,5 @@ pub parse_set_objects-requires : goal.parse_set_objects-requires
 parse_set_objects-requires g c κs = ((refl, tt), rw c.self.view_is c.requires)
 
 pub returns-clause-run : goal.returns-clause-run
-returns-clause-run g c = rw (← c.self.view_is) (remade_run _ _ _ _ c.with_set.result (opened_run _ _ _ c.open_number.result c.parse_set_objects.ensures.run c.open_number.ensures.ok c.open_number.ensures.err) c.with_set.ensures)
+returns-clause-run g c = rw (← c.self.view_is) (remade_run _ _ _ _ c.with_set.result
+    (opened_run _ _ _ c.open_number.result c.parse_set_objects.ensures.run c.open_number.ensures.ok c.open_number.ensures.err) c.with_set.ensures)
