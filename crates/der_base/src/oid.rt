@@ -88,6 +88,11 @@ impl<'a> Oid<'a> {
     ///
     /// Errors: ParseInt if a component is empty, isn't made of digits, or is above 2^64-1; then those
     /// of `from`.
+    ///
+    /// ```
+    /// let common_name = Oid::from_dotted(alloc, "2.5.4.3")?;
+    /// assert_eq!(common_name.as_bytes(), [0x55, 0x04, 0x03]);
+    /// ```
     pub fn from_dotted(alloc: Global, text: &str) -> Result<Oid<'a>, OidParseError>
         ensures { (result ≡ Err OutOfMemory) ⊎ Makes false (octets_if_arcs (dotted_arcs text.now)) result }
     {

@@ -14,6 +14,13 @@ use der_object::BerResult;
 use std::alloc::Global;
 
 /// Reads one object in BER, to the depth `MAX_RECURSION`: as `parse_ber_recursive`.
+///
+/// ```
+/// match parse_ber(alloc, input) {
+///     Err(Err::Incomplete(Needed::Size(n))) => Some(n), // wait for n more octets
+///     _ => None,
+/// }
+/// ```
 pub fn parse_ber<'a>(alloc: Global, i: &'a [u8]) -> BerResult<'a>
     ensures exactly { AnswersBer MAX_RECURSION i.now result }
     ensures stable { IsStableBer MAX_RECURSION i.now result }
