@@ -104,7 +104,7 @@ where
     f
 }
 
-/// Reads an attribute: a SEQUENCE of a type and a value, and nothing behind them.
+/// Reads an attribute: a SEQUENCE of a type and a value, and nothing after them.
 fn parse_attribute<'a>(i: &'a [u8]) -> IResult<&'a [u8], Attribute<'a>, BerError> {
     check_list(i, 0x30)?;
     parse_der_sequence_defined_g(|content, _| {
@@ -139,8 +139,8 @@ fn parse_type<'a>(i: &'a [u8]) -> IResult<&'a [u8], Oid<'a>, BerError> {
     Ok((rest, Oid::new(CowSlice::Borrowed(any.bytes))))
 }
 
-/// Reads a value of the types that names have. Each is told by its identifier octet, which is the
-/// number of the type, since they are primitive and universal (X.690 8.1.2).
+/// Reads a value of the types that names have. Its identifier octet is the number of the type, since
+/// these types are primitive and universal (X.690 8.1.2).
 fn parse_value<'a>(i: &'a [u8]) -> IResult<&'a [u8], Coding, BerError> {
     let answer = match i.first() {
         Some(12) => parse_der_utf8string(i),
@@ -171,7 +171,7 @@ fn parse_rarer_value<'a>(i: &'a [u8]) -> IResult<&'a [u8], Coding, BerError> {
     })
 }
 
-/// Reads a BMPString without halves of characters, and answers what follows it.
+/// Reads a BMPString without halves of characters, and returns what follows it.
 fn parse_bmpstring<'a>(i: &'a [u8]) -> Result<&'a [u8], Refused<BerError>> {
     let (rest, object) = parse_der_bmpstring(i)?;
     if has_half(&object) {
@@ -180,7 +180,7 @@ fn parse_bmpstring<'a>(i: &'a [u8]) -> Result<&'a [u8], Refused<BerError>> {
     Ok(rest)
 }
 
-/// Whether a half of a character stands in a BMPString.
+/// Whether a BMPString has half of a character.
 fn has_half(object: &BerObject<'_>) -> bool {
     object
         .as_slice()
