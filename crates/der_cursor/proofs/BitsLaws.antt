@@ -1,28 +1,27 @@
 -- The octets of a BIT STRING, from the object that is read.
-use Rattle.std.proofs.Common.{◌≡◌, ◌≢◌, ℕ, ◌^◌, ◌<◌, Bool, true, false, IsTrue, List, ◌∷◌, ◌++◌, Option, Some, None, Ok, Err, Bor, refl, sym, ap, subst, ◌∙◌, arith, inl, inr}
+use Rattle.std.proofs.Common.{◌≡◌, ℕ, Bool, false, IsTrue, List}
+use Rattle.std.proofs.Common.{Option, Some, None, Ok, Err, Bor, refl, sym, ap, subst, ◌∙◌, arith, inl, inr}
 use Rattle.der_base.specs.declared.error.Err.{Err as Refused}
-use Rattle.der_base.specs.declared.error.Err.TheVariants.{Incomplete, Error, Failure, OutOfMemory}
 use Rattle.der_base.specs.declared.error.Error.{Error as BerError}
-use Rattle.der_base.specs.declared.error.Needed.TheVariants.{Unknown, Size}
-use Rattle.der_base.specs.declared.header.Class.{Class}
 use Rattle.der_base.specs.declared.time.ASN1DateTime.{ASN1DateTime}
 use Rattle.der_base.specs.declared.header.Class.TheVariants.{Universal}
-use Rattle.der_base.specs.Header.{class_of, is_constructed, number_of}
+use Rattle.der_base.specs.Header.{class_of, is_constructed}
 use Rattle.der_base.specs.Answer.{MatchAnswer}
-use Rattle.der_base.specs.Leaf.{is_mapped, IsStringOf}
+use Rattle.der_base.specs.Leaf.{IsStringOf}
 use Rattle.der_base.specs.Parts.{AnswersPart, bits_part}
-use Rattle.der_base.specs.Refusal.{Refusal, refusal}
+use Rattle.der_base.specs.Refusal.{Refusal}
 use Rattle.der_base.specs.Spelling.{IsDerContent}
 use Rattle.der_base.specs.Text.{is_text_type}
 use Rattle.der_base.specs.Time.{IsTimeText}
-use Rattle.der_base.specs.Tree.{Node, node, Content, end_of_content, boolean, integer, bit_string, string, null, enumerated, object_identifier, relative_oid, time, sequence, set, absent, present, tagged, unknown}
+use Rattle.der_base.specs.Tree.{Node, node, Content, end_of_content, boolean, integer, bit_string, string, null}
+use Rattle.der_base.specs.Tree.{enumerated, object_identifier, relative_oid, time, sequence, set, absent, present, tagged, unknown}
 use Rattle.der_base.proofs.Answers.Answering.{passed_on}
 use Rattle.der_object.specs.declared.object.BerObject.{BerObject}
 use Rattle.der_object.specs.declared.bit_string.BitStringObject.{BitStringObject}
 use Rattle.der_object.specs.View.{content_tree, tree}
-use Rattle.der_der.specs.DerContents.{AnswersTyped, ReadsTyped, SpellsTyped, TypedRefuses, TypedLacks}
+use Rattle.der_der.specs.DerContents.{AnswersTyped, SpellsTyped}
 use Rattle.der_der.proofs.TypedLaws.{typed_shows_one}
-use Rattle.der_cursor.specs.Values.{AnswersBits, SpellsBits, leading_bits_of}
+use Rattle.der_cursor.specs.Values.{AnswersBits}
 use Rattle.der_cursor.proofs.ElementLaws.{apart}
 
 -- a string type is none of number 3

@@ -7,7 +7,7 @@ use Rattle.der_base.proofs.Answers.Answering.{passed_on}
 use Rattle.der_base.proofs.Answers.Exactness.{exactly}
 use Rattle.der_cursor.specs.declared.cursor.Cursor.{Cursor}
 use Rattle.der_cursor.specs.declared.refusal.Refusal.{Refusal}
-use Rattle.der_cursor.specs.Cursors.{octets_left, refusal_at, opened, contents, OpensAt}
+use Rattle.der_cursor.specs.Cursors.{octets_left, refusal_at, contents, OpensAt}
 use Rattle.der_cursor.specs.Elements.{AnswersElement}
 use Rattle.der_cursor.proofs.ElementLaws.{element_shows_one}
 

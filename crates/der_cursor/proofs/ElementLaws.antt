@@ -1,9 +1,8 @@
 -- An element of one class, constructed bit and number, a refusal, and an input that is cut short: one of them holds at most, and each in one way.
-use Rattle.std.proofs.Common.{◌≡◌, ◌≢◌, ℕ, Bool, true, false, List, ◌++◌, length, refl, sym, ap, ◌∙◌, inl, inr}
+use Rattle.std.proofs.Common.{◌≡◌, ℕ, Bool, true, false, List, ◌++◌, length, refl, sym, ap, ◌∙◌, inl, inr}
 use Rattle.der_base.specs.declared.header.Class.{Class}
 use Rattle.der_base.specs.declared.any.Any.{Any}
 use Rattle.der_base.specs.Any.{DerAnyLacks, LeadingElement, ReadsDerAny}
-use Rattle.der_base.specs.Fault.{DerHeaderRefuses}
 use Rattle.der_base.specs.Header.{class_of, is_constructed, number_of}
 use Rattle.der_base.specs.Refusal.{Refusal}
 use Rattle.der_base.proofs.Answers.Exactness.{ShowsOne}

@@ -1,9 +1,8 @@
 -- An OBJECT IDENTIFIER that has arcs, a refusal, and an input that is cut short: one of them holds at most, and each in one way.
-use Rattle.std.proofs.Common.{◌≡◌, ◌≢◌, ℕ, Bool, false, List, Option, Some, None, Ok, Bor, refl, sym, ap, subst, ◌∙◌, inl, inr}
+use Rattle.std.proofs.Common.{◌≡◌, ℕ, Bool, false, List, Some, None, Ok, Bor, sym, ap, subst, ◌∙◌, inl, inr}
 use Rattle.der_base.specs.declared.header.Class.TheVariants.{Universal}
 use Rattle.der_base.specs.declared.oid.Oid.{Oid}
 use Rattle.der_base.specs.Any.{DerAnyLacks}
-use Rattle.der_base.specs.Arcs.{arcs}
 use Rattle.der_base.specs.Refusal.{Refusal}
 use Rattle.der_base.proofs.Answers.Exactness.{ShowsOne}
 use Rattle.der_cursor.specs.Elements.{SpellsElement, ElementRefuses}

@@ -1,12 +1,8 @@
 -- Where the octets of a cursor stand in the input.
-use Rattle.std.proofs.Common.{◌≡◌, ℕ, ◌+◌, ◌-◌, Bool, List, [], ◌++◌, length, Ok, Err, Bor, refl, sym, ap, subst, ◌∙◌, arith, append_assoc, append-nil, length-append}
-use Rattle.std.specs.Prelude.{Result, IfOk}
-use Rattle.der_base.specs.declared.error.Error.{Error as BerError}
-use Rattle.der_base.specs.declared.header.Class.{Class}
+use Rattle.std.proofs.Common.{◌≡◌, ℕ, ◌+◌, ◌-◌, List, [], ◌++◌, length, Ok, Err, sym, ap, subst, ◌∙◌, arith, append_assoc, append-nil, length-append}
 use Rattle.der_base.specs.Octets.{identifier, shortest_length}
 use Rattle.der_cursor.specs.declared.cursor.Cursor.{Cursor}
-use Rattle.der_cursor.specs.declared.refusal.Refusal.{Refusal}
-use Rattle.der_cursor.specs.Cursors.{octets_left, end_of, place_of, StandsIn, OpensAt}
+use Rattle.der_cursor.specs.Cursors.{octets_left, end_of, StandsIn}
 use Rattle.der_cursor.specs.Laws.{PlacesCount, NewStand, EndsStand, OpenedStand}
 
 pub places_count : PlacesCount

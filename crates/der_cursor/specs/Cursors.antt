@@ -1,4 +1,4 @@
--- Cursors: the octets of a content that aren't read yet, and where in the input they stand.
+-- Cursors: the octets of a content that aren't read yet, and their place in the input.
 use Rattle.std.specs.Borrow.{Bor}
 use Rattle.std.specs.Prelude.{◌≡◌, ◌≢◌, ℕ, ◌+◌, ◌-◌, ◌/◌, Bool, true, false, nat_eq, Option, Some, None, List, [], ◌++◌, length}
 use Rattle.std.specs.Prelude.{Result, Ok, Err, ◌⊎◌, slice_get, codes, decimal}
@@ -29,7 +29,7 @@ octets_left c = c.left.now
 abbrev pub end_of : Cursor → ℕ
 end_of c = c.end
 
--- the place of the next of them: how many octets of the input stand in front
+-- the place of the next of them: the number of octets of the input before it
 abbrev pub place_of : Cursor → ℕ
 place_of c = end_of c - length (octets_left c)
 
@@ -53,21 +53,21 @@ list_end_of c = list_end (is_inside c) (end_of c)
 abbrev pub refusal_at : {E : Type 0} → Cursor → Refused E → Refusal E
 refusal_at c reason = record { offset = place_of c; list_end = list_end_of c; reason = reason }
 
--- the octets that are left stand in the input i, and as many stand in front of them as the place says
+-- the octets that are left are in the input i, and the place is the number of those before them
 pub record StandsIn (i : List ℕ) (c : Cursor) : Type 0 where
   pub front : List ℕ
   pub behind : List ℕ
   pub octets : i ≡ front ++ octets_left c ++ behind
   pub place : end_of c ≡ length front + length (octets_left c)
 
--- What a parser answers on the octets left: its value, and then they are what it left, or its refusal at the place
--- where it was called, and then the cursor stays. `gives` says what it may answer.
+-- What a parser returns on the octets left: its value, and then they are what it left, or its refusal at the place
+-- where it was called, and then the cursor stays. `gives` says what it may return.
 abbrev pub Reads : {O E : Type 0} → (Bor (List ℕ) → Answered O E → Type 0) → Cursor → Result O (Refusal E) → Cursor
     → Type 0
 Reads gives old (Ok v) new = (rest : Bor (List ℕ)) × gives old.left (Ok (rest, v)) × (new ≡ record old { left = rest })
 Reads gives old (Err e) new = gives old.left (Err e.reason) × (e ≡ refusal_at old e.reason) × (new ≡ old)
 
--- The value is the last one of a content, or Eof is told at the place of what is left. `made` says which errors are
+-- The value is the last one of a content, or Eof is reported at the place of what is left. `made` says which errors are
 -- made of Eof.
 abbrev pub IsLast : {O E : Type 0} → (Bor (List ℕ) → ErrorKind → E → Type 0) → O → Cursor → Result O (Refusal E)
     → Type 0
@@ -75,13 +75,13 @@ IsLast made v c (Ok x) = (octets_left c ≡ []) × (x ≡ v)
 IsLast {O} {E} made v c (Err e) = (octets_left c ≢ [])
     × (x : E) × made c.left Eof x × (e ≡ refusal_at c (Error x))
 
--- what a parser answers on the octets left, where its value is the last one; else its refusal, or that of what is left
+-- what a parser returns on the octets left, if its value is the last one; else its refusal, or that of what is left
 abbrev pub ReadsLast : {O E : Type 0} → (Bor (List ℕ) → Answered O E → Type 0) → (Bor (List ℕ) → ErrorKind → E → Type 0)
     → Cursor → Result O (Refusal E) → Type 0
 ReadsLast {O} {E} gives made c result = ((e : Refusal E) × (result ≡ Err e) × Reads gives c result c)
     ⊎ ((v : O) × (d : Cursor) × Reads gives c (Ok v) d × IsLast made v d result)
 
--- the cursor over a content with the one behind its element, or the reason for a refusal
+-- the cursor over a content with the one after its element, or the reason for a refusal
 abbrev pub opened : Result Cursor (Refusal BerError) → Cursor → Result (Cursor × Cursor) (Refused BerError)
 opened (Ok inner) new = Ok (inner, new)
 opened (Err e) new = Err e.reason
@@ -113,13 +113,13 @@ OpensTagged n old (Ok (Some inner)) new = BeginsWithTag n (octets_left old)
 OpensTagged n old (Err e) new = BeginsWithTag n (octets_left old) × OpensAt ContextSpecific true n old (Err e) new
 
 -- the next element, if there is any, is of the class Universal by its first identifier octet (8.1.2.2), or its class is
--- told at its place
+-- reported at its place
 abbrev pub AssertsUniversal : Cursor → Result (Unit {0}) (Refusal BerError) → Type 0
 AssertsUniversal c (Ok u) = IfSome (slice_get (octets_left c) 0) (λ b. b / 64 ≡ class_number Universal)
 AssertsUniversal c (Err e) = IsSomeAnd (slice_get (octets_left c) 0) (λ b. (k : Class) × (b / 64 ≡ class_number k)
     × (k ≢ Universal) × (e ≡ refusal_at c (Error (UnexpectedClass (Some Universal) k))))
 
--- nothing is left, or Eof is told at the place of what is
+-- nothing is left, or Eof is reported at the place of what is
 abbrev pub EndsAt : Cursor → Result (Unit {0}) (Refusal BerError) → Type 0
 EndsAt c (Ok u) = octets_left c ≡ []
 EndsAt c (Err e) = (octets_left c ≢ []) × (e ≡ refusal_at c (Error (NomError Eof)))

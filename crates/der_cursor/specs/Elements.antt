@@ -22,7 +22,7 @@ abbrev pub wrong_form : Bool → Refusal
 wrong_form true = construct_expected
 wrong_form false = construct_unexpected
 
--- What is told of an element of the class k, the bit q and the number n, where another is asked for: the first of the
+-- What is reported of an element of the class k, the bit q and the number n, where another is asked for: the first of the
 -- three that differs.
 pub data IsOther (c : Class) (p : Bool) (t : ℕ) (k : Class) (q : Bool) (n : ℕ) : Refusal → Type 0 where
   other_class : k ≢ c → IsOther c p t k q n (unexpected_class (Some c) k)
@@ -34,7 +34,7 @@ abbrev pub ElementRefuses : Class → Bool → ℕ → List ℕ → Refusal → 
 ElementRefuses c p t i e = DerHeaderRefuses i e
     ⊎ ((k : Class) × (q : Bool) × (n : ℕ) × (v : List ℕ × List ℕ) × SpellsElement k q n i v × IsOther c p t k q n e)
 
--- a reader of content octets answers exactly those of such an element, and takes no memory
+-- a reader of content octets returns exactly those of such an element, and takes no memory
 abbrev pub AnswersElement : Class → Bool → ℕ → List ℕ → Result (Bor (List ℕ) × Bor (List ℕ)) (Refused BerError)
     → Type 0
 AnswersElement c p t i result = AnswersExactly result leading_content (λ x. SpellsElement c p t i (leading_content x))

@@ -7,15 +7,15 @@ use Rattle.der_cursor.specs.declared.cursor.Cursor.{Cursor}
 use Rattle.der_cursor.specs.declared.refusal.Refusal.{Refusal}
 use Rattle.der_cursor.specs.Cursors.{octets_left, place_of, IsCursor, StandsIn, OpensAt}
 
--- the place of a cursor is the number of octets in front of those that are left
+-- the place of a cursor is the number of octets before those that are left
 abbrev pub PlacesCount : Type 0
 PlacesCount = (i : List ℕ) (c : Cursor) (s : StandsIn i c) → place_of c ≡ length s.front
 
--- a cursor over the whole input stands in it
+-- a cursor over the whole input is in it
 abbrev pub NewStand : Type 0
 NewStand = (i : List ℕ) (c : Cursor) → IsCursor c i (length i) false → StandsIn i c
 
--- one that stands in it still does where a parser left an end of its octets
+-- one that is in it still is after a parser left an end of its octets
 abbrev pub EndsStand : Type 0
 EndsStand = (i : List ℕ) (c : Cursor) (taken : List ℕ) (rest : Bor (List ℕ)) → StandsIn i c
     → octets_left c ≡ taken ++ rest.now → StandsIn i (record c { left = rest })

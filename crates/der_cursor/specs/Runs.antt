@@ -14,14 +14,14 @@ abbrev pub values_of : {O E : Type 0} → Result (Vec O) (Refusal E) → Result 
 values_of (Ok v) = Ok v.items
 values_of (Err e) = Err e
 
--- `step` is what the reader promises of a call: its state and the cursor, its answer, and the cursor and the state
--- behind the call.
+-- `step` is what the reader promises of a call: its state and the cursor, its result, and the cursor and the state
+-- after the call.
 module _ {F O E : Type 0} (step : F → MutBor Cursor → Result O (Refusal E) → MutBor Cursor → F → Type 0) where
   -- one call, at the cursor b, which goes on as d
   abbrev pub CallsAt : F → Cursor → Result O (Refusal E) → Cursor → F → Type 0
   CallsAt f b r d g = (before behind : MutBor Cursor) × step f before r behind g × (before.now ≡ b) × (behind.now ≡ d)
 
-  -- The reader was called at the cursor c, and then where each call left it. Each call found octets, answered a value
+  -- The reader was called at the cursor c, and then where each call left it. Each call found octets, returned a value
   -- and left fewer octets. It went from f to g, the cursor to d, and vs are the values.
   pub data Calls (f : F) (c : Cursor) : List O → F → Cursor → Type 0 where
     no_call : Calls f c [] f c

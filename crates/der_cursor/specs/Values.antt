@@ -1,6 +1,6 @@
--- What the readers of single values answer.
+-- What the readers of single values return.
 use Rattle.std.specs.Borrow.{Bor}
-use Rattle.std.specs.Prelude.{◌≡◌, ◌≢◌, ℕ, ◌⊎◌, Bool, false, Option, Some, None, List, [], Result, Ok, Err}
+use Rattle.std.specs.Prelude.{◌≡◌, ◌≢◌, ℕ, ◌⊎◌, Bool, false, Some, None, List, [], Result, Ok, Err}
 use Rattle.der_base.specs.declared.error.Err.{Err as Refused}
 use Rattle.der_base.specs.declared.error.Error.{Error as BerError}
 use Rattle.der_base.specs.declared.header.Class.{Class}
@@ -24,7 +24,7 @@ leading_bits_of x = (x.1.bytes.now, x.0.now)
 abbrev pub SpellsBits : List ℕ → List ℕ × List ℕ → Type 0
 SpellsBits i v = (c : Class) × (p : Bool) × (u : ℕ) × SpellsTyped 3 i (node c p 3 (bit_string u v.0), v.1)
 
--- the reader of them answers exactly what i shows
+-- the reader of them returns exactly what i shows
 abbrev pub AnswersBits : List ℕ → Result (Bor (List ℕ) × BitStringObject) (Refused BerError) → Type 0
 AnswersBits i result = AnswersExactly result leading_bits_of (λ x. SpellsBits i (leading_bits_of x)) (SpellsBits i)
     (TypedRefuses 3 i) (TypedLacks 3 i) ⊥ ⊥
@@ -54,7 +54,7 @@ abbrev pub IdentifierRefuses : List ℕ → Refusal → Type 0
 IdentifierRefuses i e = ElementRefuses Universal false 6 i e
     ⊎ ((v : List ℕ × List ℕ) × SpellsElement Universal false 6 i v × HasNoArcs v.0 × (e ≡ wrong_value))
 
--- the reader of one answers exactly what i shows
+-- the reader of one returns exactly what i shows
 abbrev pub AnswersIdentifier : List ℕ → Result (Bor (List ℕ) × Oid) (Refused BerError) → Type 0
 AnswersIdentifier i result = AnswersExactly result leading_identifier (λ x. SpellsIdentifier i (leading_identifier x))
     (SpellsIdentifier i) (IdentifierRefuses i) (DerAnyLacks i) ⊥ ⊥

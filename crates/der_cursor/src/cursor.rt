@@ -15,7 +15,8 @@ use der_base::error::{BerError, Err as Refused, ErrorKind, IResult, ParseError};
 use der_base::header::{Class, Tag};
 use std::alloc::Global;
 
-/// The octets of a content that aren't read yet, and where the content ends in the input.
+/// The octets of an input, or of the content of an element, that aren't read yet. A cursor knows its
+/// offset in the input, which each refusal has.
 #[derive(Clone, Copy, Debug)]
 pub struct Cursor<'a> {
     left: &'a [u8],
@@ -25,7 +26,7 @@ pub struct Cursor<'a> {
 }
 
 impl<'a> Cursor<'a> {
-    /// A cursor in front of an input.
+    /// A cursor at the start of an input.
     pub fn new(input: &'a [u8]) -> Cursor<'a>
         ensures { IsCursor result input.now (length input.now) false }
     {
@@ -36,24 +37,24 @@ impl<'a> Cursor<'a> {
         }
     }
 
-    /// How many octets of the input stand in front, where each parser that was called left an end
-    /// of its input.
+    /// The number of octets of the input before the cursor, if each parser that was called left an
+    /// end of its input.
     pub fn offset(&self) -> usize
         ensures { result ≡ place_of self.now }
     {
         self.end.saturating_sub(self.left.len())
     }
 
-    /// The octet that the next element begins with: its identifier octet where its tag number is
-    /// below 31 (X.690 8.1.2). So an element is told that may be absent.
+    /// The first octet of the next element: its identifier octet if its tag number is below 31 (X.690
+    /// 8.1.2). It shows whether an optional element is there.
     pub fn identifier(&self) -> Option<u8>
         ensures { result ≡ slice_get (octets_left self.now) 0 }
     {
         self.left.first().copied()
     }
 
-    /// Reads what the parser reads. A refusal has the place where the parser was called, and then
-    /// the cursor stays there.
+    /// Reads the value that the parser reads. A refusal has the offset where the parser was called,
+    /// and the cursor stays there.
     pub fn read<O, F, E>(&mut self, parser: F) -> Result<O, Refusal<E>>
     where
         F: FnOnce(&'a [u8]) -> IResult<&'a [u8], O, E>,
@@ -69,7 +70,7 @@ impl<'a> Cursor<'a> {
         }
     }
 
-    /// The same by a parser that takes memory.
+    /// The same with a parser that allocates.
     pub fn read_in<O, F, E>(&mut self, alloc: Global, parser: F) -> Result<O, Refusal<E>>
     where
         F: FnOnce(Global, &'a [u8]) -> IResult<&'a [u8], O, E>,
@@ -85,7 +86,8 @@ impl<'a> Cursor<'a> {
         }
     }
 
-    /// Reads what the parser reads, behind which nothing may be left. Eof where something is.
+    /// Reads the value that the parser reads, which has to be the last one. Eof if octets are left
+    /// over after it.
     pub fn read_last<O, F, E>(mut self, parser: F) -> Result<O, Refusal<E>>
     where
         F: FnOnce(&'a [u8]) -> IResult<&'a [u8], O, E>,
@@ -100,7 +102,7 @@ impl<'a> Cursor<'a> {
         }
     }
 
-    /// The same by a parser that takes memory.
+    /// The same with a parser that allocates.
     pub fn read_last_in<O, F, E>(mut self, alloc: Global, parser: F) -> Result<O, Refusal<E>>
     where
         F: FnOnce(Global, &'a [u8]) -> IResult<&'a [u8], O, E>,
@@ -115,7 +117,7 @@ impl<'a> Cursor<'a> {
         }
     }
 
-    /// A value behind which nothing may be left.
+    /// Returns a value if no octets are left over after it.
     fn last<O, E>(self, value: O) -> Result<O, Refusal<E>>
     where
         O: Drop,
@@ -129,8 +131,8 @@ impl<'a> Cursor<'a> {
         Err(self.refused(Refused::Error(e)))
     }
 
-    /// The values that `read` reads, which is called until nothing is left. Many0 where it takes
-    /// nothing.
+    /// The values that `read` reads, which is called until no octets are left. Many0 if a call reads
+    /// no octets.
     pub fn read_all<O, F, E>(self, alloc: Global, mut read: F) -> Result<Vec<O>, Refusal<E>>
     where
         F: FnMut(Global, &mut Cursor<'a>) -> Result<O, Refusal<E>> + Drop,
@@ -166,15 +168,15 @@ impl<'a> Cursor<'a> {
         self.open(Class::Universal, true, Tag::Sequence)
     }
 
-    /// A cursor over what the next element holds, which has to be an OCTET STRING (8.7).
+    /// A cursor over the octets of the next element, which has to be an OCTET STRING (8.7).
     pub fn open_octet_string(&mut self) -> Result<Cursor<'a>, Refusal<BerError>>
         ensures { OpensAt Class.Universal false 4 self.old result self.new }
     {
         self.open(Class::Universal, false, Tag::OctetString)
     }
 
-    /// A cursor over what stands inside the next element, where that is an explicit tag of this
-    /// number (8.14.2), and None where it is another, or there is none.
+    /// A cursor over the content of the next element, if that is an explicit tag of this number
+    /// (8.14.2). None if it is another element, or there is none.
     pub fn open_tagged(&mut self, number: u8) -> Result<Option<Cursor<'a>>, Refusal<BerError>>
         ensures { OpensTagged number self.old result self.new }
     {
@@ -213,8 +215,8 @@ impl<'a> Cursor<'a> {
         }
     }
 
-    /// Asks that the next element is of the class Universal (8.1.2.2), where any octet is left: the
-    /// readers of one type look at the number of the tag alone. UnexpectedClass where it isn't.
+    /// Checks that the next element, if there is one, is of the class Universal (8.1.2.2). The
+    /// readers of one type compare the tag number alone. UnexpectedClass if it is of another class.
     pub fn assert_universal(&self) -> Result<(), Refusal<BerError>>
         ensures { AssertsUniversal self.now result }
     {
@@ -229,7 +231,7 @@ impl<'a> Cursor<'a> {
         Err(self.refused(Refused::Error(e)))
     }
 
-    /// Ends a list: no element may be left.
+    /// Ends a list. Eof if octets are left over.
     pub fn end(self) -> Result<(), Refusal<BerError>>
         ensures { EndsAt self.entry result }
     {
@@ -294,7 +296,7 @@ fn read_content<'a>(
     Ok((rest, any.bytes))
 }
 
-/// The class that the first identifier octet says (8.1.2.2).
+/// The class of a first identifier octet (8.1.2.2).
 fn class_of(octet: u8) -> Class
     ensures { class_number result ≡ octet / 64 }
 {

@@ -1,5 +1,5 @@
-//! Reading field after field: a cursor over the elements of a content, which knows where in the input
-//! they stand, so that a refusal is told with its offset; and readers of values.
+//! Reading field by field by DER: a cursor over the elements of a content, which knows their offsets in
+//! the input, so that a refusal has one; and readers of single values.
 #![tactic(auto)]
 
 mod cursor;

@@ -1,5 +1,4 @@
-//! Values of single types, where the readers of the library answer objects. None of these calls takes
-//! memory.
+//! Readers that return values of single types in place of objects. None of these calls allocates.
 ghost use Rattle.der_cursor.specs.Values.{AnswersBits, AnswersIdentifier, MakesIdentifier};
 
 use crate::cursor::parse_content;
@@ -10,7 +9,7 @@ use der_der::parse_der_bitstring;
 use der_object::BitStringObject;
 use std::borrow::CowSlice;
 
-/// Reads the octets of a BIT STRING (X.690 8.6, 11.2.1), as `parse_der_bitstring`.
+/// Reads the octets of a BIT STRING (X.690 8.6, 11.2.1), with the refusals of `parse_der_bitstring`.
 pub fn parse_bits<'a>(i: &'a [u8]) -> IResult<&'a [u8], BitStringObject<'a>, BerError>
     ensures { AnswersBits i.now result }
 {
@@ -24,7 +23,7 @@ pub fn parse_bits<'a>(i: &'a [u8]) -> IResult<&'a [u8], BitStringObject<'a>, Ber
     }
 }
 
-/// Reads an OBJECT IDENTIFIER that has arcs (8.19). BerValueError where it has none.
+/// Reads an OBJECT IDENTIFIER that has arcs (X.690 8.19). BerValueError if it has none.
 pub fn parse_identifier<'a>(i: &'a [u8]) -> IResult<&'a [u8], Oid<'a>, BerError>
     ensures { AnswersIdentifier i.now result }
 {
@@ -38,8 +37,8 @@ pub fn parse_identifier<'a>(i: &'a [u8]) -> IResult<&'a [u8], Oid<'a>, BerError>
     }
 }
 
-/// The identifier that has these content octets, where there are any, and they are arcs. BerValueError
-/// otherwise.
+/// The identifier with these content octets (8.19.2). BerValueError if there are none, or they are no
+/// arcs.
 pub fn identifier_of(octets: &[u8]) -> Result<Oid<'_>, BerError>
     ensures { MakesIdentifier octets.now result }
 {

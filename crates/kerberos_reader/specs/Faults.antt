@@ -1,6 +1,6 @@
 -- Why a field is refused.
 use Rattle.std.specs.Prelude.{Option, Some, None}
-use Rattle.der_base.specs.declared.error.Error.{Error as BerError}
+use Rattle.der_parser.specs.declared.error.Error.{Error as BerError}
 use Rattle.kerberos_reader.specs.declared.fault.Fault.{Fault}
 use Rattle.kerberos_reader.specs.declared.fault.Fault.TheVariants.{Encoding, Version, Kind}
 

@@ -1,4 +1,4 @@
-use Rattle.std.proofs.Common.{◌≡◌, true, false, sym, ◌∙◌}
+use Rattle.std.proofs.Common.{true, false, sym, ◌∙◌}
 use Rattle.std.proofs.lemmas.Result.{err_from_is_err_and}
 use Rattle.der_cursor.specs.Elements.{other_class, other_number, other_form}
 use Rattle.der_cursor.proofs.ElementLaws.{refused_as, apart}

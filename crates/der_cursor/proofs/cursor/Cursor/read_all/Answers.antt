@@ -9,16 +9,34 @@ pub loop-cursor-init : goal.loop-cursor-init
 loop-cursor-init g c = (search rules, rw c.new-values.ensures.items no_call)
 
 pub returns-in-Err : goal.returns-in-Err
-returns-in-Err g c =
-    (c.loop-cursor.values.items, c.loop-cursor.read, c.loop-cursor.cursor, c.loop-cursor.invariant.1, some_octets c.loop-cursor.cursor.left.now (search rules), refused (_, _, c.in-Err.ensures, refl, refl))
+returns-in-Err g c = (
+  c.loop-cursor.values.items,
+  c.loop-cursor.read,
+  c.loop-cursor.cursor,
+  c.loop-cursor.invariant.1,
+  some_octets c.loop-cursor.cursor.left.now (search rules),
+  refused (_, _, c.in-Err.ensures, refl, refl),
+)
 
 pub returns-then-cursor-before : goal.returns-then-cursor-before
-returns-then-cursor-before g c = rw c.refused.ensures
-    (c.loop-cursor.values.items, c.loop-cursor.read, c.loop-cursor.cursor, c.loop-cursor.invariant.1, some_octets c.loop-cursor.cursor.left.now (search rules), stuck (_, _, c.in-Ok.ensures, refl, refl) c.if-cursor-before.true c.from_error_kind-e.ensures)
+returns-then-cursor-before g c = rw c.refused.ensures (
+  c.loop-cursor.values.items,
+  c.loop-cursor.read,
+  c.loop-cursor.cursor,
+  c.loop-cursor.invariant.1,
+  some_octets c.loop-cursor.cursor.left.now (search rules),
+  stuck (_, _, c.in-Ok.ensures, refl, refl) c.if-cursor-before.true c.from_error_kind-e.ensures,
+)
 
 pub returns-then-is_err : goal.returns-then-is_err
-returns-then-is_err g c = rw c.refused-then-is_err.ensures
-    (c.loop-cursor.values.items, c.loop-cursor.read, c.loop-cursor.cursor, c.loop-cursor.invariant.1, some_octets c.loop-cursor.cursor.left.now (search rules), no_room (_, _, c.in-Ok.ensures, refl, refl))
+returns-then-is_err g c = rw c.refused-then-is_err.ensures (
+  c.loop-cursor.values.items,
+  c.loop-cursor.read,
+  c.loop-cursor.cursor,
+  c.loop-cursor.invariant.1,
+  some_octets c.loop-cursor.cursor.left.now (search rules),
+  no_room (_, _, c.in-Ok.ensures, refl, refl),
+)
 
 pub loop-cursor-preserved : goal.loop-cursor-preserved
 loop-cursor-preserved g c =
