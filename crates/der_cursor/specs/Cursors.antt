@@ -1,6 +1,7 @@
 -- Cursors: the octets of a content that aren't read yet, and their place in the input.
 use Rattle.std.specs.Borrow.{Bor}
-use Rattle.std.specs.Prelude.{◌≡◌, ◌≢◌, ℕ, ◌+◌, ◌-◌, ◌/◌, Bool, true, false, nat_eq, Option, Some, None, List, [], ◌++◌, length}
+use Rattle.std.specs.Prelude.{◌≡◌, ◌≢◌, ℕ, ◌+◌, ◌-◌, ◌/◌, Bool, true, false, nat_eq, Option, Some, None}
+use Rattle.std.specs.Prelude.{List, [], ◌++◌, length}
 use Rattle.std.specs.Prelude.{Result, Ok, Err, ◌⊎◌, slice_get, codes, decimal}
 use Rattle.std.specs.Option.{option_map, IfSome, IsSomeAnd}
 use Rattle.der_base.specs.declared.error.Err.{Err as Refused}

@@ -22,8 +22,8 @@ abbrev pub wrong_form : Bool → Refusal
 wrong_form true = construct_expected
 wrong_form false = construct_unexpected
 
--- What is reported of an element of the class k, the bit q and the number n, where another is asked for: the first of the
--- three that differs.
+-- What is reported of an element of the class k, the bit q and the number n, where another is asked for: the first of
+-- the three that differs.
 pub data IsOther (c : Class) (p : Bool) (t : ℕ) (k : Class) (q : Bool) (n : ℕ) : Refusal → Type 0 where
   other_class : k ≢ c → IsOther c p t k q n (unexpected_class (Some c) k)
   other_number : k ≡ c → n ≢ t → IsOther c p t k q n (unexpected_tag (Some t) n)

@@ -73,7 +73,7 @@ const TEXTS: &[(&str, usize, usize, u8, &str)] = &[
     ("a serial number longer than the signed fields", 95, 10, 0x50,
         "tbsCertificate.serialNumber at 9: an element runs past the end of its list, needs 80"),
     ("a version longer than its tag", 95, 7, 0x02,
-        "tbsCertificate.version at 6: an element runs past the end of its list, needs 2"),
+        "tbsCertificate.version at 6: an element runs past the end of its list, needs 1"),
     ("a tag without a version", 95, 5, 0x00,
         "tbsCertificate.version at 6: an element is missing at the end of its list"),
     ("octets after the version", 95, 5, 0x04, "tbsCertificate.version at 9: octets left over"),

@@ -30,7 +30,7 @@ const REFUSED: &[(&str, usize, usize, u8, usize, &str, &str)] = &[
         "unexpected tag (expected Enumerated, actual Utf8String)"),
     ("version 4", 67, 8, 0x04, 6, "pvno", "version 4"),
     ("a version longer than its tag", 67, 7, 0x03, 6, "pvno",
-        "an element runs past the end of its list, needs 3"),
+        "an element runs past the end of its list, needs 2"),
     ("a message of another kind, 12", 67, 13, 0x0c, 11, "msg-type", "message of kind 12"),
     ("a body longer than the message", 67, 15, 0x35, 14, "req-body",
         "an element runs past the end of its list, needs 2"),
