@@ -148,7 +148,7 @@ pub object_read : (i rest w r r' : List ℕ) (h : Header) (o : BerObject) (n d :
     → n ≤ max_object_size → rest ≡ w ++ r → length w ≡ n → (r' ≡ r) × (o.header ≡ h) × IsContentOf w h o.content d → ReadsDer d i o r'
 object_read i rest w r r' h o n d b l raw s e z (er, eh, k) =
     subst (ReadsDer d i o) (sym er) (subst (λ h. ReadsDer d i (record { header = h; content = o.content }) r) (sym eh)
-        (element_read i rest w r (record { header = h; content = o.content }) n d b l raw s e z k))
+    (element_read i rest w r (record { header = h; content = o.content }) n d b l raw s e z k))
 
 -- a refusal of the content, at the depth of the element
 pub content_refused : (d : ℕ) (i rest w r : List ℕ) (c : Class) (p : Bool) (t n : ℕ) (e : Refusal) → 1 ≤ d → BeginsWithDerHeader i c p t n rest → n ≤ max_object_size → rest ≡ w ++ r → length w ≡ n

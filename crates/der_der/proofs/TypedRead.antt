@@ -26,5 +26,5 @@ leaf_as_read l p t i w rest u x ec ep et f (q, k, o) =
     let y = content_tree x in
     let z : IsContentOf w u x 50 = leaf_content w u x 50 ec (omega arith) (let a : is_constructed u ≡ false = cc in a) (subst (λ n. IsDerLeaf n y) (sym et) k) o in
     let has : IsDerContentOf w Universal p t y 50 = subst (λ c. IsDerContentOf w c p t y 50) ec
-        (subst (λ b. IsDerContentOf w (class_of u) b t y 50) ep (subst (λ n. IsDerContentOf w (class_of u) (is_constructed u) n y 50) et z.content)) in
+    (subst (λ b. IsDerContentOf w (class_of u) b t y 50) ep (subst (λ n. IsDerContentOf w (class_of u) (is_constructed u) n y 50) et z.content)) in
     record { read = record { octets = w; framed = f; content = has; headers = z.headers }; own = own_leaf t l p x k }

@@ -20,7 +20,7 @@ back : WrittenIsReadBack
 back d d' i rest rest' o o' r r' =
     let s = (spells d i rest o r).1 in
     let (e, same, left) = spelling_same r'.spelling (encoding (tree o)) rest' [] (tree o') (tree o) d' d (der_within_ber r'.spelling (tree o') d' r'.spells) s
-        (sym r'.octets ∙ sym (append-nil (encoding (tree o)))) in
+    (sym r'.octets ∙ sym (append-nil (encoding (tree o)))) in
     (same, left)
 
 pub returns-clause-front : goal.returns-clause-front

@@ -14,6 +14,6 @@ returns-in_err-check_fewest_octets c =
     let w = c.in_ok-rest.any.bytes.now in
     let is = c.in_ok-check_header.ensures in
     let r = refused_behind (der_header_tests (is_constructed h) (number_of h)) (integer_tests w) (refusal c.in_err-check_fewest_octets.field-0.0)
-        ((λ n. n is.0), ((λ p. never (sym is.1 ∙ p)), tt)) c.in_err-check_fewest_octets.ensures in
+    ((λ n. n is.0), ((λ p. never (sym is.1 ∙ p)), tt)) c.in_err-check_fewest_octets.ensures in
     let q = err_from_is_err_and c.from_residual-in_err-check_fewest_octets.result c.from_residual-in_err-check_fewest_octets.ensures.1 in
     rw (q.1, q.2) (inr (class_of h, is_constructed h, number_of h, w, c.in_ok-rest.rest.now, c.in_ok-rest.ensures.found.begins, r))

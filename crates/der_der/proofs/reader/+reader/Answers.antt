@@ -141,7 +141,7 @@ read_object-returns-then-is_mapped-clause-found t c =
     let x = c.in_ok-content.content in
     let universal : class_of h ≡ Universal = search rules in
     let read : (is_constructed h ≡ false) × IsDerLeaf (number_of h) (content_tree x) × (w ≡ content_octets (content_tree x)) =
-        rw (← c.constructed.ensures, ← c.tag-tag.ensures) c.in_ok-content.ensures in
+    rw (← c.constructed.ensures, ← c.tag-tag.ensures) c.in_ok-content.ensures in
     let e = c.from_header_and_content-then-is_mapped.ensures in
     (refl, e.header, rw e.content (leaf_content w h x c.args.max_depth universal c.requires.deep read.0 read.1 read.2))
 
@@ -155,12 +155,12 @@ read_items-loop-rest-init t c =
 pub read_items-returns-in_err-push_item-in-Ok-clause-bounded : goal.read_items-returns-in_err-push_item-in-Ok-clause-bounded
 read_items-returns-in_err-push_item-in-Ok-clause-bounded t c =
     bounded_behind c.args.content.now c.loop-rest.rest.now c.loop-rest.items.items c.args.max_depth c.args.count.now c.loop-rest.count _ c.loop-rest.invariant.0 c.loop-rest.invariant.1
-        c.in-Ok.ensures.bounded
+    c.in-Ok.ensures.bounded
 
 pub read_items-returns-in-Err-clause-bounded : goal.read_items-returns-in-Err-clause-bounded
 read_items-returns-in-Err-clause-bounded t c =
     bounded_behind c.args.content.now c.loop-rest.rest.now c.loop-rest.items.items c.args.max_depth c.args.count.now c.loop-rest.count _ c.loop-rest.invariant.0 c.loop-rest.invariant.1
-        c.in-Err.ensures.bounded
+    c.in-Err.ensures.bounded
 
 pub read_items-returns-clause-bounded : goal.read_items-returns-clause-bounded
 read_items-returns-clause-bounded t c =

@@ -23,4 +23,4 @@ returns c =
     let same : number_of u ≡ t = c.with_class-universal.ensures.number ∙ c.in_ok-behind.ensures.number in
     rw (c.from_header_and_content.ensures.header, c.from_header_and_content.ensures.content)
     (typed_read t i v rest h x c.in_ok-behind.ensures
-        (leaf_as_read (length_of h) (is_constructed h) t v w rest u x c.with_class-universal.ensures.class c.with_class-universal.ensures.constructed same f k))
+    (leaf_as_read (length_of h) (is_constructed h) t v w rest u x c.with_class-universal.ensures.class c.with_class-universal.ensures.constructed same f k))
