@@ -142,7 +142,7 @@ cut_text (Some n) place needed = cut_item_text (nat_eq n place) needed
 -- an error that holds one of the library's, and its own text
 abbrev pub error_text : Option BerError → Option (List ℕ) → Option (List ℕ)
 error_text (Some (CutShort needed)) own = Some (overrun_text needed)
-error_text (Some (NomError Eof)) own = Some (codes "octets left over")
+error_text (Some (NomError Eof)) own = Some (codes "octets left over or missing")
 error_text (Some (NomError Many0)) own = Some (codes "the reader of one item of a list read no octets")
 error_text _ own = own
 

@@ -44,7 +44,7 @@ impl AsBerError for BerError {
 }
 
 /// The place and the reason: "at 13: an element runs past the end of its list, needs 9". An error has
-/// its own text, except for a cut item, `Eof` ("octets left over") and `Many0`.
+/// its own text, except for a cut item, `Eof` ("octets left over or missing") and `Many0`.
 impl<E: fmt::Display + AsBerError> fmt::Display for Refusal<E> {
     ghost use Rattle.der_cursor.specs.Cursors.{refusal_text};
 
@@ -148,7 +148,7 @@ impl<E: fmt::Display + AsBerError> fmt::Display for Fault<'_, E> {
         let error = self.0;
         match error.as_ber_error() {
             Some(BerError::Incomplete(needed)) => write!(f, "{}", CutItem(false, needed)),
-            Some(BerError::NomError(ErrorKind::Eof)) => write!(f, "octets left over"),
+            Some(BerError::NomError(ErrorKind::Eof)) => write!(f, "octets left over or missing"),
             Some(BerError::NomError(ErrorKind::Many0)) => {
                 write!(f, "the reader of one item of a list read no octets")
             }

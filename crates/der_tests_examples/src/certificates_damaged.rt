@@ -114,7 +114,7 @@ impl Reader for Certificates {
     fn outcome(&self, alloc: Global, octets: &[u8]) -> Outcome {
         match read_certificate(alloc, octets).err() {
             None => Outcome::Read,
-            Some(refused) => Outcome::RefusedAt(refused.offset),
+            Some(refused) => Outcome::RefusedAt(refused.refusal.offset),
         }
     }
 }

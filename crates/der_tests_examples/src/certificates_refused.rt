@@ -67,7 +67,7 @@ fn certificates_are_refused(rt: HostRuntime) -> Result<(), Fail> {
 const TEXTS: &[(&str, usize, usize, u8, &str)] = &[
     ("the last octet is missing", 94, 0, 0x30, "Certificate at 0: the input is cut short, needs 1"),
     ("no octet", 0, 0, 0x30, "Certificate at 0: the input is cut short, needs 1"),
-    ("an octet left over", 96, 95, 0x00, "Certificate at 95: octets left over"),
+    ("an octet left over", 96, 95, 0x00, "Certificate at 95: octets left over or missing"),
     ("signed fields longer than the certificate", 95, 3, 0x5c,
         "Certificate at 2: an element runs past the end of its list, needs 1"),
     ("a serial number longer than the signed fields", 95, 10, 0x50,
@@ -76,10 +76,10 @@ const TEXTS: &[(&str, usize, usize, u8, &str)] = &[
         "tbsCertificate.version at 6: an element runs past the end of its list, needs 1"),
     ("a tag without a version", 95, 5, 0x00,
         "tbsCertificate.version at 6: an element is missing at the end of its list"),
-    ("octets after the version", 95, 5, 0x04, "tbsCertificate.version at 9: octets left over"),
+    ("octets after the version", 95, 5, 0x04, "tbsCertificate.version at 9: octets left over or missing"),
     ("version 4", 95, 8, 0x03, "tbsCertificate.version at 6: wrong value"),
     ("an issuer longer than the signed fields", 95, 18, 0x45,
-        "tbsCertificate.issuer at 17: an element runs past the end of its list, needs 2"),
+        "tbsCertificate.issuer at 17: octets left over or missing"),
     ("a subject of another type", 95, 73, 0x31,
         "tbsCertificate.subject at 73: unexpected tag (expected Sequence, actual Set)"),
 ];

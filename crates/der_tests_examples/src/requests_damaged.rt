@@ -3,7 +3,7 @@
 use der_tests_damage::Damage::{Class, Constructed};
 use der_tests_damage::Part::{Inside, This};
 use der_tests_damage::{Case, Outcome, Pass, Reader};
-use kerberos_reader::{RequestError, read_request};
+use kerberos_reader::read_request;
 use std::alloc::Global;
 use std::test::Fail;
 
@@ -113,16 +113,8 @@ impl Reader for Requests {
     fn outcome(&self, alloc: Global, octets: &[u8]) -> Outcome {
         match read_request(alloc, octets).err() {
             None => Outcome::Read,
-            Some(refused) => Outcome::RefusedAt(place_of(&refused)),
+            Some(refused) => Outcome::RefusedAt(refused.refusal.offset),
         }
-    }
-}
-
-/// Where a request is refused.
-fn place_of(refused: &RequestError) -> usize {
-    match refused {
-        RequestError::Encoding(refused) => refused.offset,
-        RequestError::Field(refused) => refused.offset,
     }
 }
 

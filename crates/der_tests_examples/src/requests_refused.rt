@@ -25,7 +25,7 @@ const REQUEST: [u8; 68] = *b"\
 #[rattlefmt::skip]
 const REFUSED: &[(&str, usize, usize, u8, usize, &str, &str)] = &[
     ("the last octet is missing", 66, 0, 0x6a, 0, "AS-REQ", "the input is cut short, needs 1"),
-    ("an octet left over", 68, 67, 0x00, 67, "AS-REQ", "octets left over"),
+    ("an octet left over", 68, 67, 0x00, 67, "AS-REQ", "octets left over or missing"),
     ("a TGS-REQ, tag 12", 67, 0, 0x6c, 0, "AS-REQ",
         "unexpected tag (expected Enumerated, actual Utf8String)"),
     ("version 4", 67, 8, 0x04, 6, "pvno", "version 4"),
@@ -40,8 +40,8 @@ const REFUSED: &[(&str, usize, usize, u8, usize, &str, &str)] = &[
         "unexpected tag (expected GeneralizedTime, actual UtcTime)"),
     ("a version of the class Application", 67, 6, 0x42, 6, "pvno",
         "unexpected class (expected UNIVERSAL, actual APPLICATION)"),
-    ("octets after the version", 67, 5, 0x04, 9, "pvno", "octets left over"),
-    ("a field 12, which isn't defined", 67, 63, 0xac, 63, "req-body", "octets left over"),
+    ("octets after the version", 67, 5, 0x04, 9, "pvno", "octets left over or missing"),
+    ("a field 12, which isn't defined", 67, 63, 0xac, 63, "req-body", "octets left over or missing"),
 ];
 
 /// The text of a refusal, or `read`.

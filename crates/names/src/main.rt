@@ -32,7 +32,7 @@ fn fault(e: BerError) -> Error {
         BerError::Incomplete(Needed::Size(n)) => {
             anyhow!("an element runs {n} octets past the end of its list")
         }
-        BerError::NomError(ErrorKind::Eof) => anyhow!("octets left over"),
+        BerError::NomError(ErrorKind::Eof) => anyhow!("octets left over or missing"),
         e => anyhow!("{e}"),
     }
 }
