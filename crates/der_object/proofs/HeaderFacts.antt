@@ -1,22 +1,19 @@
--- The marks of lists of objects.
-use Rattle.std.proofs.Common.{◌≡◌, ℕ, Bool, List, [], ◌∷◌, ◌++◌, length, refl, sym, ap, subst, ◌∙◌, All}
-use Rattle.std.proofs.lemmas.List.Elements.{All-from_recursion, recursion_from_All, All-append, All-cons, All-nil}
+-- What holds of the header of each object inside another.
+use Rattle.std.proofs.Common.{◌≡◌, ℕ, Bool, List, [], ◌∷◌, ◌++◌, refl, sym, ap, subst, ◌∙◌, All}
+use Rattle.std.proofs.lemmas.List.Elements.{recursion_from_All, All-append, All-cons, All-nil}
 use Rattle.std.specs.List.{AllByRecursion}
 use Rattle.std.specs.declared.vec.Vec.{Vec}
 use Rattle.std.specs.declared.alloc.Global.{Global}
 use Rattle.der_base.specs.declared.header.Header.{Header}
-use Rattle.der_base.specs.declared.header.Length.TheVariants.{Definite}
-use Rattle.der_base.specs.Encoding.{content_octets, encodings}
-use Rattle.der_base.specs.Header.{length_of}
 use Rattle.der_base.specs.Leaf.{IsLeafContent}
 use Rattle.der_base.specs.Spelling.{no_forms, forms}
 use Rattle.der_object.specs.declared.object.BerObject.{BerObject}
-use Rattle.der_object.specs.declared.object.BerObjectContent.{BerObjectContent, Row_of-BerObject, end_of-BerObject, more_of-BerObject, items-the_row-BerObject, None', Some'}
+use Rattle.der_object.specs.declared.object.BerObjectContent.{BerObjectContent, Row_of-BerObject, end_of-BerObject}
+use Rattle.der_object.specs.declared.object.BerObjectContent.{more_of-BerObject, items-the_row-BerObject, None', Some'}
 use Rattle.der_object.specs.declared.object.BerObjectContent.TheVariants.{Sequence, Set, Sequence', Set', Optional', Tagged', Unknown}
 use Rattle.der_object.specs.declared.object.BerObjectContent.TheBlock.{hidden-the_row-BerObject-0, items_hidden-the_row-BerObject-0}
-use Rattle.der_object.specs.HeaderFacts.{inner_forms, row_forms, form_of, forms_of, EachInside, EachInRow, EachHeader, HasRawTag, KeepsHeader, HasRawTagAndHeader, HasDerHeader, EachHasRawTagAndHeader, EachHasDerHeader}
-use Rattle.der_object.specs.View.{content_tree, trees}
-use Rattle.der_object.proofs.Trees.{sequence_tree, set_tree}
+use Rattle.der_object.specs.HeaderFacts.{inner_forms, row_forms, form_of, forms_of, EachInside, EachInRow, EachHeader, KeepsHeader}
+use Rattle.der_object.specs.View.{content_tree}
 
 row_forms_of : {m : _} (k : Row_of-BerObject m) → row_forms k ≡ forms_of (items-the_row-BerObject m k)
 row_forms_of end_of-BerObject = refl
@@ -42,27 +39,14 @@ module _ (P : Header → BerObjectContent → Type 0) where
   row_each end_of-BerObject a = tt
   row_each (more_of-BerObject h x rest) a = (a.0.0, a.0.1, row_each rest a.1)
 
-  each_row : {m : _} (k : Row_of-BerObject m) → EachInRow P k → AllByRecursion (EachHeader P) (items-the_row-BerObject m k)
-  each_row end_of-BerObject a = tt
-  each_row (more_of-BerObject h x rest) a = ((a.0, a.1), each_row rest a.2)
-
-  all_of : (xs ys : List BerObject) → xs ≡ ys → AllByRecursion (EachHeader P) xs → All (EachHeader P) ys
-  all_of xs ys e a = All-from_recursion (EachHeader P) ys (subst (AllByRecursion (EachHeader P)) e a)
-
   row_of : (xs ys : List BerObject) → xs ≡ ys → All (EachHeader P) ys → AllByRecursion (EachHeader P) xs
   row_of xs ys e a = subst (AllByRecursion (EachHeader P)) (sym e) (recursion_from_All (EachHeader P) ys a)
 
   pub sequence_each : (v : Vec BerObject Global) → All (EachHeader P) v.items → EachInside P (Sequence v)
   sequence_each v a = row_each (hidden-the_row-BerObject-0 v) (row_of _ v.items (items_hidden-the_row-BerObject-0 v) a)
 
-  pub each_sequence : (v : Vec BerObject Global) → EachInside P (Sequence v) → All (EachHeader P) v.items
-  each_sequence v a = all_of _ v.items (items_hidden-the_row-BerObject-0 v) (each_row (hidden-the_row-BerObject-0 v) a)
-
   pub set_each : (v : Vec BerObject Global) → All (EachHeader P) v.items → EachInside P (Set v)
   set_each v a = row_each (hidden-the_row-BerObject-0 v) (row_of _ v.items (items_hidden-the_row-BerObject-0 v) a)
-
-  pub each_set : (v : Vec BerObject Global) → EachInside P (Set v) → All (EachHeader P) v.items
-  each_set v a = all_of _ v.items (items_hidden-the_row-BerObject-0 v) (each_row (hidden-the_row-BerObject-0 v) a)
 
   -- a content of no items has no header inside
   pub leaf_each : (p : Bool) (t : ℕ) (w : List ℕ) (x : BerObjectContent) → IsLeafContent p t w (content_tree x) → EachInside P x
@@ -76,26 +60,6 @@ module _ (P : Header → BerObjectContent → Type 0) where
   -- one more item
   pub each_push : (os : List BerObject) (o : BerObject) → All (EachHeader P) os → EachHeader P o → All (EachHeader P) (os ++ o ∷ [])
   each_push os o a h = All-append (EachHeader P) os (o ∷ []) a (All-cons (EachHeader P) o [] h (All-nil (EachHeader P)))
-
--- a list has marks where its header has one and its items have theirs
-pub sequence_marks : (o : BerObject) (v : Vec BerObject Global) → o.content ≡ Sequence v → HasRawTag o.header → All EachHasRawTagAndHeader v.items → EachHasRawTagAndHeader o
-sequence_marks o v e h a = (record { raw_tag = h; kept = subst (KeepsHeader o.header) (sym e) tt }, subst (EachInside HasRawTagAndHeader) (sym e) (sequence_each HasRawTagAndHeader v a))
-
-pub set_marks : (o : BerObject) (v : Vec BerObject Global) → o.content ≡ Set v → HasRawTag o.header → All EachHasRawTagAndHeader v.items → EachHasRawTagAndHeader o
-set_marks o v e h a = (record { raw_tag = h; kept = subst (KeepsHeader o.header) (sym e) tt }, subst (EachInside HasRawTagAndHeader) (sym e) (set_each HasRawTagAndHeader v a))
-
--- the same of lengths in the DER form, where the list's is that of its items together
-pub sequence_shortest_marks : (o : BerObject) (v : Vec BerObject Global) → o.content ≡ Sequence v → HasRawTag o.header
-    → length_of o.header ≡ Definite (length (encodings (trees v.items))) → All EachHasDerHeader v.items → EachHasDerHeader o
-sequence_shortest_marks o v e h n a =
-    let l = ap (λ x. length (content_octets x)) (ap content_tree e ∙ sequence_tree v) in
-    (record { raw_tag = h; length = n ∙ ap Definite (sym l); kept = subst (KeepsHeader o.header) (sym e) tt }, subst (EachInside HasDerHeader) (sym e) (sequence_each HasDerHeader v a))
-
-pub set_shortest_marks : (o : BerObject) (v : Vec BerObject Global) → o.content ≡ Set v → HasRawTag o.header
-    → length_of o.header ≡ Definite (length (encodings (trees v.items))) → All EachHasDerHeader v.items → EachHasDerHeader o
-set_shortest_marks o v e h n a =
-    let l = ap (λ x. length (content_octets x)) (ap content_tree e ∙ set_tree v) in
-    (record { raw_tag = h; length = n ∙ ap Definite (sym l); kept = subst (KeepsHeader o.header) (sym e) tt }, subst (EachInside HasDerHeader) (sym e) (set_each HasDerHeader v a))
 
 -- the content of a leaf has no header to keep
 pub leaf_keeps : (h : Header) (p : Bool) (t : ℕ) (w : List ℕ) (x : BerObjectContent) → IsLeafContent p t w (content_tree x) → KeepsHeader h x

@@ -1,8 +1,7 @@
 -- Octets in hex, each with a space in front.
-use Rattle.std.proofs.Common.{◌≡◌, ℕ, zero, suc, ◌+◌, ◌-◌, ◌*◌, ◌<◌, ◌≤◌, List, [], ◌∷◌, ◌++◌, length, drop, take, get_or, refl, sym, ap, ◌∙◌, arith}
-use Rattle.std.proofs.lemmas.List.{drop_more, take-append-drop}
+use Rattle.std.proofs.Common.{◌≡◌, ℕ, zero, suc, ◌+◌, ◌-◌, ◌*◌, ◌<◌, ◌≤◌, List, [], ◌∷◌, ◌++◌, length, drop, get_or, refl, sym, ap, ◌∙◌, arith}
+use Rattle.std.proofs.lemmas.List.{drop_more}
 use Rattle.der_base.specs.Pretty.{hex_pair, spaced_hex}
-use Rattle.der_base.proofs.HexTexts.{spaced_append}
 
 pub spaced_length : (w : List ℕ) → length (spaced_hex w) ≡ 3 * length w
 spaced_length [] = refl
@@ -15,6 +14,3 @@ octet_before w (suc j) b some within e =
     let f : suc j - 1 + 1 ≡ suc j = omega arith in
     ap spaced_hex (drop_more w (suc j - 1) b (omega arith) ∙ ap (λ n. get_or w (suc j - 1) b ∷ drop n w) f)
     ∙ ap (λ x. (0x20 ∷ hex_pair x) ++ spaced_hex (drop (suc j) w)) (sym e)
-
-pub spaced_cut : (n : ℕ) (w : List ℕ) → spaced_hex w ≡ spaced_hex (take n w) ++ spaced_hex (drop n w)
-spaced_cut n w = ap spaced_hex (sym (take-append-drop n w)) ∙ spaced_append (take n w) (drop n w)

@@ -1,11 +1,8 @@
 -- Octets that were written in front of others.
-use Rattle.std.proofs.Common.{◌≡◌, ℕ, ◌-◌, ◌≤◌, List, [], ◌++◌, length, drop, take, refl, ap, ◌∙◌, sym, arith, append_assoc, length-append}
+use Rattle.std.proofs.Common.{◌≡◌, ℕ, ◌-◌, ◌≤◌, List, [], ◌++◌, length, drop, take, ap, ◌∙◌, sym, arith, append_assoc, length-append}
 use Rattle.std.proofs.Math.Seq.{take-append_seam}
 use Rattle.std.proofs.lemmas.List.{append-nil, drop_all}
 use Rattle.der_object.specs.Room.{PutsBefore}
-
-pub puts_none : (old : List ℕ) (end : ℕ) → PutsBefore old old end [] end
-puts_none old end = record { begins = omega arith; octets = refl }
 
 -- first y, and then x in front of it
 pub puts_both : {a b c x y : List ℕ} {end mid begin : ℕ} → PutsBefore a b end y mid → PutsBefore b c mid x begin → PutsBefore a c end (x ++ y) begin
@@ -16,19 +13,6 @@ puts_both {a = a} {x = x} {y = y} {end = end} h k = record {
 
 pub puts_three : {a b c d x y z : List ℕ} {end mid mid' begin : ℕ} → PutsBefore a b end z mid → PutsBefore b c mid y mid' → PutsBefore c d mid' x begin → PutsBefore a d end (x ++ y ++ z) begin
 puts_three {x = x} {y = y} {z = z} h k l = rw (append_assoc x y z) (puts_both (puts_both h k) l)
-
--- octets that fill the room are all that is there
-pub puts_all : {old new w : List ℕ} {end begin : ℕ} → PutsBefore old new end w begin → length w ≡ end → length old ≤ end → new ≡ w
-puts_all {old = old} {new = new} {w = w} {end = end} {begin = begin} h fills most =
-    let b : begin ≡ 0 = omega (arith, h.begins) in
-    sym (ap (λ n. drop n new) b) ∙ h.octets ∙ ap (λ l. w ++ l) (drop_all end old most) ∙ append-nil w
-
--- octets that end at a place and are as many as it leaves room for stand at the front
-pub puts_front : {old new w : List ℕ} {end begin : ℕ} → PutsBefore old new end w begin → length w ≡ end → take end new ≡ w
-puts_front {old = old} {new = new} {w = w} {end = end} {begin = begin} h fills =
-    let b : begin ≡ 0 = omega (arith, h.begins) in
-    let e : new ≡ w ++ drop end old = sym (ap (λ n. drop n new) b) ∙ h.octets in
-    rw e (ap (λ n. take n (w ++ drop end old)) (sym fills) ∙ take-append_seam w (drop end old))
 
 -- octets that end where the room does are all that is there from their begin on
 pub puts_end : {old new w : List ℕ} {end begin : ℕ} → PutsBefore old new end w begin → length old ≤ end → drop begin new ≡ w

@@ -1,5 +1,6 @@
 -- The trees of lists of objects, of tagged objects, and of those that may be absent.
-use Rattle.std.proofs.Common.{Some, None, Option, ◌≡◌, ◌≢◌, ℕ, zero, suc, ◌+◌, ◌-◌, ◌<◌, ◌≤◌, Bool, true, false, ◌&&◌, List, [], ◌∷◌, ◌++◌, length, drop, get_or, refl, sym, ap, ◌∙◌, arith, append_assoc, length-append}
+use Rattle.std.proofs.Common.{Some, None, Option, ◌≡◌, ◌≢◌, ℕ, zero, suc, ◌+◌, ◌-◌, ◌<◌, ◌≤◌, Bool, true, false}
+use Rattle.std.proofs.Common.{◌&&◌, List, [], ◌∷◌, ◌++◌, length, drop, get_or, refl, sym, ap, ◌∙◌, arith, append_assoc, length-append}
 use Rattle.std.proofs.Math.ListN.{drop_of_length-le}
 use Rattle.std.proofs.lemmas.List.{append-nil, drop_more}
 use Rattle.std.specs.declared.vec.Vec.{Vec}
@@ -14,8 +15,10 @@ use Rattle.der_base.specs.Octets.{identifier, shortest_length}
 use Rattle.der_base.specs.TreeEquality.{same_node, same_content, same_nodes}
 use Rattle.der_base.specs.Tree.{sequence, set, present, tagged, Nodes, no_nodes, nodes}
 use Rattle.der_object.specs.declared.object.BerObject.{BerObject}
-use Rattle.der_object.specs.declared.object.BerObjectContent.{BerObjectContent, roll-BerObjectContent, roll-out-BerObjectContent, Row_of-BerObject, end_of-BerObject, more_of-BerObject, items-the_row-BerObject, Held-BerObjectContent-Optional-0, None', Some'}
-use Rattle.der_object.specs.declared.object.BerObjectContent.TheVariants.{Null, Optional, Tagged, Sequence, Set, Optional', Tagged', Sequence', Set', outs-Sequence', outs-Set', rolls-Sequence, rolls-Set}
+use Rattle.der_object.specs.declared.object.BerObjectContent.{BerObjectContent, roll-BerObjectContent, roll-out-BerObjectContent, Row_of-BerObject, end_of-BerObject}
+use Rattle.der_object.specs.declared.object.BerObjectContent.{more_of-BerObject, items-the_row-BerObject, Held-BerObjectContent-Optional-0, None', Some'}
+use Rattle.der_object.specs.declared.object.BerObjectContent.TheVariants.{Null, Optional, Tagged, Sequence, Set, Optional'}
+use Rattle.der_object.specs.declared.object.BerObjectContent.TheVariants.{Tagged', Sequence', Set', outs-Sequence', outs-Set', rolls-Sequence, rolls-Set}
 use Rattle.der_object.specs.declared.object.BerObjectContent.TheBlock.{hidden-the_row-BerObject-0, items_hidden-the_row-BerObject-0, shown-the_row-BerObject-0}
 use Rattle.der_object.specs.View.{node_of, tree, content_tree, row_tree, trees}
 

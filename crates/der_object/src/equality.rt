@@ -39,9 +39,29 @@ impl PartialEq for BerObjectContent<'_> {
     }
 }
 
+impl BerObject<'_> {
+    /// Whether the other object is equal, as `==` says for two objects of one lifetime. The other may borrow from
+    /// another input.
+    pub fn is_equal(&self, other: &BerObject<'_>) -> bool
+        ensures { IsTrue result ↔ (tree self.now ≡ tree other.now) }
+    {
+        same_object(self, other)
+    }
+}
+
+impl BerObjectContent<'_> {
+    /// Whether the other content is equal, as `==` says for two contents of one lifetime. The other may borrow from
+    /// another input.
+    pub fn is_equal(&self, other: &BerObjectContent<'_>) -> bool
+        ensures { IsTrue result ↔ (content_tree self.now ≡ content_tree other.now) }
+    {
+        same_content(self, other)
+    }
+}
+
 /// Whether two objects have the same tree.
 #[cycle(equality)]
-fn same_object<'a>(a: &BerObject<'a>, b: &BerObject<'a>) -> bool
+fn same_object(a: &BerObject<'_>, b: &BerObject<'_>) -> bool
     ensures { result ≡ same_node (tree a.now) (tree b.now) }
 {
     a.header == b.header && same_content(&a.content, &b.content)
@@ -50,7 +70,7 @@ fn same_object<'a>(a: &BerObject<'a>, b: &BerObject<'a>) -> bool
 /// Whether two contents have the same tree.
 #[cycle(equality)]
 #[tactic(auto, using(crate::proofs::Trees::sequence_tree, crate::proofs::Trees::set_tree, crate::proofs::Trees::not_sequence, crate::proofs::Trees::not_set))]
-fn same_content<'a>(a: &BerObjectContent<'a>, b: &BerObjectContent<'a>) -> bool
+fn same_content(a: &BerObjectContent<'_>, b: &BerObjectContent<'_>) -> bool
     ensures { result ≡ same_content (content_tree a.now) (content_tree b.now) }
 {
     match (a, b) {
@@ -96,7 +116,7 @@ fn same_content<'a>(a: &BerObjectContent<'a>, b: &BerObjectContent<'a>) -> bool
 
 /// Whether two objects that may be absent both are, or have the same tree.
 #[cycle(equality)]
-fn same_optional<'a>(a: &Option<Box<BerObject<'a>>>, b: &Option<Box<BerObject<'a>>>) -> bool
+fn same_optional(a: &Option<Box<BerObject<'_>>>, b: &Option<Box<BerObject<'_>>>) -> bool
     ensures { result ≡ same_content (content_tree (Optional a.now)) (content_tree (Optional b.now)) }
 {
     match (a, b) {
@@ -109,7 +129,7 @@ fn same_optional<'a>(a: &Option<Box<BerObject<'a>>>, b: &Option<Box<BerObject<'a
 /// Whether two lists have the same trees, one after another.
 #[cycle(equality)]
 #[tactic(auto, using(crate::proofs::Trees::trees_end, crate::proofs::Trees::other_length))]
-fn same_items<'a>(a: &[BerObject<'a>], b: &[BerObject<'a>]) -> bool
+fn same_items(a: &[BerObject<'_>], b: &[BerObject<'_>]) -> bool
     ensures { result ≡ same_nodes (trees a.now) (trees b.now) }
 {
     if a.len() != b.len() {

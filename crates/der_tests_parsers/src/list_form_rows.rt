@@ -1,6 +1,5 @@
 //! Lists by combinators that make an object of them: items of one type, and a content that is
-//! defined.
-use der_parser::IResult;
+//! defined. The room that lists have for their items.
 use der_parser::ber::{
     BerObject, BerObjectContent, Length, Tag, parse_ber_integer, parse_ber_sequence_defined,
     parse_ber_sequence_of, parse_ber_set_defined, parse_ber_set_of,
@@ -13,6 +12,7 @@ use der_parser::error::Err::{Error, Failure, Incomplete};
 use der_parser::error::Error::{DerConstraintFailed, NomError, UnexpectedTag};
 use der_parser::error::ErrorKind::{Eof, Many0};
 use der_parser::error::{BerError, BerResult, DerConstraint, Err as Refused, Needed};
+use der_parser::{IResult, parse_ber, parse_der};
 use der_tests_rows::answer::Answer;
 use der_tests_rows::answer::Answer::Read;
 use der_tests_rows::answer::Content::{Integer, Sequence, Set};
@@ -416,6 +416,61 @@ fn defined_lists_that_are_refused(rt: HostRuntime) -> Result<(), Fail> {
     for row in NOT_DEFINED {
         expect_undefined(&rt, Rules::Ber, row)?;
         expect_undefined(&rt, Rules::Der, row)?;
+    }
+    Ok(())
+}
+
+/// A list of INTEGERs, its tag, and how many items it has room for: a list of one item for that item alone, a longer
+/// one for three at first, and for a fourth alone where it is the last.
+#[rattlefmt::skip]
+const ROOMS: &[(&str, Tag, usize)] = &[
+    ("30 00", Tag(16), 0),
+    ("30 03 02 01 01", Tag(16), 1),
+    ("31 03 02 01 01", Tag(17), 1),
+    ("30 06 02 01 01 02 01 02", Tag(16), 3),
+    ("31 06 02 01 01 02 01 02", Tag(17), 3),
+    ("30 09 02 01 01 02 01 02 02 01 03", Tag(16), 3),
+    ("30 0c 02 01 01 02 01 02 02 01 03 02 01 04", Tag(16), 4),
+];
+
+/// How many items the object has room for.
+fn room_of(object: &BerObject<'_>) -> usize {
+    match &object.content {
+        BerObjectContent::Sequence(items) => items.capacity(),
+        BerObjectContent::Set(items) => items.capacity(),
+        _ => 0,
+    }
+}
+
+/// The list that was read has room for so many items.
+fn expect_room(rt: &impl Abort, text: &str, room: usize, given: &BerResult<'_>) {
+    assert!(rt;
+        matches!(given, Ok((_, object)) if room_of(object) == room),
+        "{text}: {given:?}"
+    );
+}
+
+/// The list of one type that was read has room for so many items.
+fn expect_room_by_form(rt: &impl Abort, text: &str, room: usize, given: &Given<'_>) {
+    expect_room(rt, text, room, &given.1);
+}
+
+/// By both rules, the readers of objects and the list forms make so much room.
+fn expect_rooms(rt: &(impl Abort + AllocGlobal), row: &(&str, Tag, usize)) -> Result<(), Fail> {
+    let (text, tag, room) = row;
+    let input = octets(rt.alloc(), text)?;
+    expect_room(rt, text, *room, &parse_ber(rt.alloc(), &input));
+    expect_room(rt, text, *room, &parse_der(rt.alloc(), &input));
+    for rules in [Rules::Ber, Rules::Der] {
+        expect_room_by_form(rt, text, *room, &integers(rt.alloc(), rules, *tag, &input));
+    }
+    Ok(())
+}
+
+#[test]
+fn lists_have_room(rt: HostRuntime) -> Result<(), Fail> {
+    for row in ROOMS {
+        expect_rooms(&rt, row)?;
     }
     Ok(())
 }

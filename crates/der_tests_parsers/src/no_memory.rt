@@ -19,8 +19,10 @@ use der_parser::error::{BerError, BerResult, IResult};
 use der_parser::oid::Oid;
 use der_parser::{parse_ber, parse_der};
 use der_tests_rows::typed::{read_type_by_ber, read_type_by_der};
+use std::alloc::Global;
 use std::borrow::CowSlice;
 use std::process::Abort;
+use std::test::Fail;
 
 /// A type's number, and an element of it by BER and by DER.
 const LEAVES: &[(u32, &[u8])] = &[
@@ -332,4 +334,33 @@ fn no_memory_for_an_object_of_an_identifier(rt: HostRuntime) {
     let oid = BerObject::from(identifier());
     let object = BerObject::from_obj(BerObjectContent::OID(identifier()));
     expect_same(&rt, &oid, &object);
+}
+
+/// How many copies are made before memory is taken: more than the growths that `tools/refused-growths` refuses in turn.
+const COPIES: usize = 100;
+
+/// Whether the copies of the object's identifier, by the object and by its content, are 1.2.
+fn gives_identifier(alloc: Global, object: &BerObject<'_>) -> bool {
+    match (object.as_oid_val(alloc), object.content.as_oid_val(alloc)) {
+        (Ok(oid), Ok(same)) => (oid.as_bytes(), same.as_bytes()) == (b"\x2a", b"\x2a"),
+        _ => false,
+    }
+}
+
+/// Makes the copies, and then takes memory.
+fn grow_after_copies(rt: &(impl Abort + AllocGlobal), object: &BerObject<'_>) -> Result<(), Fail> {
+    for _ in 0..COPIES {
+        assert!(rt; gives_identifier(rt.alloc(), object));
+    }
+    let grown: Vec<u8> = Vec::with_capacity(rt.alloc(), 1)?;
+    assert!(rt; grown.is_empty());
+    Ok(())
+}
+
+/// The first growth is that of the test itself, since a copy of a borrowed identifier takes no memory. Copies that take
+/// memory and drop it, whether there is any or not, leave no refused growth for the test.
+#[test]
+fn wants_memory_after_as_oid_val(rt: HostRuntime) -> Result<(), Fail> {
+    let object = BerObject::from(identifier());
+    grow_after_copies(&rt, &object)
 }

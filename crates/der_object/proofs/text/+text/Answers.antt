@@ -43,25 +43,34 @@ pub send_tagged-returns-in_err-send_str : goal.send_tagged-returns-in_err-send_s
 send_tagged-returns-in_err-send_str g t c = wrote_exit _ c.from_residual.ensures.1 (wrote_stop _ c.in_err-send_str.ensures)
 
 pub send_tagged-returns-in_err-send_class_and_number : goal.send_tagged-returns-in_err-send_class_and_number
-send_tagged-returns-in_err-send_class_and_number g t c = wrote_exit _ c.from_residual-in_err-send_class_and_number.ensures.1 (wrote_stop _ (wrote_stop _ (wrote_stop _ (wrote_stop _ (wrote_then c.in_ok-send_str.ensures c.in_err-send_class_and_number.ensures)))))
+send_tagged-returns-in_err-send_class_and_number g t c =
+    wrote_exit _ c.from_residual-in_err-send_class_and_number.ensures.1
+    (wrote_stop _ (wrote_stop _ (wrote_stop _ (wrote_stop _ (wrote_then c.in_ok-send_str.ensures c.in_err-send_class_and_number.ensures)))))
 
 pub send_tagged-returns-in_err-send_str-2 : goal.send_tagged-returns-in_err-send_str-2
-send_tagged-returns-in_err-send_str-2 g t c = wrote_exit _ c.from_residual-in_err-send_str-2.ensures.1 (wrote_stop _ (wrote_stop _ (wrote_stop _ (wrote_then (wrote_then c.in_ok-send_str.ensures c.in_ok-send_class_and_number.ensures) c.in_err-send_str-2.ensures))))
+send_tagged-returns-in_err-send_str-2 g t c =
+    wrote_exit _ c.from_residual-in_err-send_str-2.ensures.1
+    (wrote_stop _ (wrote_stop _ (wrote_stop _ (wrote_then (wrote_then c.in_ok-send_str.ensures c.in_ok-send_class_and_number.ensures) c.in_err-send_str-2.ensures))))
 
 pub send_tagged-returns-in_err-send_text : goal.send_tagged-returns-in_err-send_text
 send_tagged-returns-in_err-send_text g t c =
     let deep : c.saturating_add.result ≡ further (style c.args.layout) c.args.indent = search rules in
-    wrote_exit _ c.from_residual-in_err-send_text.ensures.1 (wrote_stop _ (wrote_stop _ (wrote_then (wrote_then (wrote_then c.in_ok-send_str.ensures c.in_ok-send_class_and_number.ensures) c.in_ok-send_str-2.ensures) (rw (deep) at c.in_err-send_text.ensures))))
+    wrote_exit _ c.from_residual-in_err-send_text.ensures.1
+    (wrote_stop _ (wrote_stop _ (wrote_then (wrote_then (wrote_then c.in_ok-send_str.ensures c.in_ok-send_class_and_number.ensures) c.in_ok-send_str-2.ensures)
+    (rw (deep) at c.in_err-send_text.ensures))))
 
 pub send_tagged-returns-in_err-send_spaces : goal.send_tagged-returns-in_err-send_spaces
 send_tagged-returns-in_err-send_spaces g t c =
     let deep : c.saturating_add.result ≡ further (style c.args.layout) c.args.indent = search rules in
-    wrote_exit _ c.from_residual-in_err-send_spaces.ensures.1 (wrote_stop _ (wrote_then (wrote_then (wrote_then (wrote_then c.in_ok-send_str.ensures c.in_ok-send_class_and_number.ensures) c.in_ok-send_str-2.ensures) (rw (deep) at c.in_ok-send_text.ensures)) c.in_err-send_spaces.ensures))
+    wrote_exit _ c.from_residual-in_err-send_spaces.ensures.1
+    (wrote_stop _ (wrote_then (wrote_then (wrote_then (wrote_then c.in_ok-send_str.ensures c.in_ok-send_class_and_number.ensures) c.in_ok-send_str-2.ensures)
+    (rw (deep) at c.in_ok-send_text.ensures)) c.in_err-send_spaces.ensures))
 
 pub send_tagged-returns : goal.send_tagged-returns
 send_tagged-returns g t c =
     let deep : c.saturating_add.result ≡ further (style c.args.layout) c.args.indent = search rules in
-    wrote_then (wrote_then (wrote_then (wrote_then (wrote_then c.in_ok-send_str.ensures c.in_ok-send_class_and_number.ensures) c.in_ok-send_str-2.ensures) (rw (deep) at c.in_ok-send_text.ensures)) c.in_ok-send_spaces.ensures) c.send_str-3.ensures
+    wrote_then (wrote_then (wrote_then (wrote_then (wrote_then c.in_ok-send_str.ensures c.in_ok-send_class_and_number.ensures) c.in_ok-send_str-2.ensures)
+    (rw (deep) at c.in_ok-send_text.ensures)) c.in_ok-send_spaces.ensures) c.send_str-3.ensures
 
 pub send_list-returns-then-not-layout : goal.send_list-returns-then-not-layout
 send_list-returns-then-not-layout g t c =
@@ -115,7 +124,8 @@ send_items-loop-o-preserved g t c =
 pub send_content-returns-in_default : goal.send_content-returns-in_default
 send_content-returns-in_default g t c =
     let x = c.args.content.now in
-    rw (leaf_content (style c.args.layout) c.args.indent c.args.tag.0 x (inner_forms x) c.in_default.not-Sequence c.in_default.not-Set c.in_default.not-Optional c.in_default.not-Tagged) c.send_leaf.ensures
+    rw (leaf_content (style c.args.layout) c.args.indent c.args.tag.0 x (inner_forms x) c.in_default.not-Sequence c.in_default.not-Set c.in_default.not-Optional
+    c.in_default.not-Tagged) c.send_leaf.ensures
 
 pub send_content-returns-in-Sequence : goal.send_content-returns-in-Sequence
 send_content-returns-in-Sequence g t c =

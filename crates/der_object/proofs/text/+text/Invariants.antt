@@ -9,6 +9,7 @@ use Rattle.der_object.proofs.text.+text.Given as goal
 -- the texts of the items in front of one were sent
 abbrev pub invariant-send_items-loop-o : goal.invariant-send_items-loop-o
 invariant-send_items-loop-o g l = record {
-  done : (sent : List ℕ) × (items_text (style l.layout) l.indent (trees l.items) (forms_of l.items) ≡ sent ++ items_text (style l.layout) l.indent (trees (drop l.o-index l.items)) (forms_of (drop l.o-index l.items)))
+  done : (sent : List ℕ) × (items_text (style l.layout) l.indent (trees l.items) (forms_of l.items) ≡ sent ++ items_text (style l.layout) l.indent
+      (trees (drop l.o-index l.items)) (forms_of (drop l.o-index l.items)))
       × Wrote g.W.Write.contents l.initial.w l.w (Ok tt) sent;
 }

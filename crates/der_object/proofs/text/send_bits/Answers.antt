@@ -5,13 +5,17 @@ pub returns-in_err-send_str : goal.returns-in_err-send_str
 returns-in_err-send_str g c = wrote_exit _ c.from_residual.ensures.1 (wrote_stop _ c.in_err-send_str.ensures)
 
 pub returns-in_err-send_number : goal.returns-in_err-send_number
-returns-in_err-send_number g c = wrote_exit _ c.from_residual-in_err-send_number.ensures.1 (wrote_stop _ (wrote_stop _ (wrote_stop _ (wrote_then c.in_ok-send_str.ensures (rw (c.from.ensures) at c.in_err-send_number.ensures)))))
+returns-in_err-send_number g c = wrote_exit _ c.from_residual-in_err-send_number.ensures.1
+    (wrote_stop _ (wrote_stop _ (wrote_stop _ (wrote_then c.in_ok-send_str.ensures (rw (c.from.ensures) at c.in_err-send_number.ensures)))))
 
 pub returns-in_err-send_str-2 : goal.returns-in_err-send_str-2
-returns-in_err-send_str-2 g c = wrote_exit _ c.from_residual-in_err-send_str-2.ensures.1 (wrote_stop _ (wrote_stop _ (wrote_then (wrote_then c.in_ok-send_str.ensures (rw (c.from.ensures) at c.in_ok-send_number.ensures)) c.in_err-send_str-2.ensures)))
+returns-in_err-send_str-2 g c = wrote_exit _ c.from_residual-in_err-send_str-2.ensures.1
+    (wrote_stop _ (wrote_stop _ (wrote_then (wrote_then c.in_ok-send_str.ensures (rw (c.from.ensures) at c.in_ok-send_number.ensures)) c.in_err-send_str-2.ensures)))
 
 pub returns-in_err-send_hex : goal.returns-in_err-send_hex
-returns-in_err-send_hex g c = wrote_exit _ c.from_residual-in_err-send_hex.ensures.1 (wrote_stop _ (wrote_then (wrote_then (wrote_then c.in_ok-send_str.ensures (rw (c.from.ensures) at c.in_ok-send_number.ensures)) c.in_ok-send_str-2.ensures) c.in_err-send_hex.ensures))
+returns-in_err-send_hex g c = wrote_exit _ c.from_residual-in_err-send_hex.ensures.1
+    (wrote_stop _ (wrote_then (wrote_then (wrote_then c.in_ok-send_str.ensures (rw (c.from.ensures) at c.in_ok-send_number.ensures)) c.in_ok-send_str-2.ensures) c.in_err-send_hex.ensures))
 
 pub returns : goal.returns
-returns g c = wrote_then (wrote_then (wrote_then (wrote_then c.in_ok-send_str.ensures (rw (c.from.ensures) at c.in_ok-send_number.ensures)) c.in_ok-send_str-2.ensures) c.in_ok-send_hex.ensures) c.send_str-3.ensures
+returns g c = wrote_then (wrote_then (wrote_then (wrote_then c.in_ok-send_str.ensures (rw (c.from.ensures) at c.in_ok-send_number.ensures)) c.in_ok-send_str-2.ensures)
+    c.in_ok-send_hex.ensures) c.send_str-3.ensures

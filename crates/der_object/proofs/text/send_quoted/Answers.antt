@@ -8,7 +8,8 @@ pub returns-in_err-send_str-2 : goal.returns-in_err-send_str-2
 returns-in_err-send_str-2 g c = wrote_exit _ c.from_residual-in_err-send_str-2.ensures.1 (wrote_stop _ (wrote_stop _ (wrote_then c.in_ok-send_str.ensures c.in_err-send_str-2.ensures)))
 
 pub returns-in_err-send_str-3 : goal.returns-in_err-send_str-3
-returns-in_err-send_str-3 g c = wrote_exit _ c.from_residual-in_err-send_str-3.ensures.1 (wrote_stop _ (wrote_then (wrote_then c.in_ok-send_str.ensures c.in_ok-send_str-2.ensures) c.in_err-send_str-3.ensures))
+returns-in_err-send_str-3 g c = wrote_exit _ c.from_residual-in_err-send_str-3.ensures.1
+    (wrote_stop _ (wrote_then (wrote_then c.in_ok-send_str.ensures c.in_ok-send_str-2.ensures) c.in_err-send_str-3.ensures))
 
 pub returns : goal.returns
 returns g c = wrote_then (wrote_then (wrote_then c.in_ok-send_str.ensures c.in_ok-send_str-2.ensures) c.in_ok-send_str-3.ensures) c.send_str-4.ensures

@@ -6,7 +6,8 @@ use Rattle.der_object.proofs.time.write_time.Goals as goal
 
 -- the text from its end
 from_end : (k : ℕ) (t : ASN1DateTime) → text_from_year k t
-    ≡ at_least_digits k t.year ++ (at_least_digits 2 t.month ++ (at_least_digits 2 t.day ++ (at_least_digits 2 t.hour ++ (at_least_digits 2 t.minute ++ (at_least_digits 2 t.second ++ (fraction_text t.nanosecond ++ zone_text t.tz))))))
+    ≡ at_least_digits k t.year ++ (at_least_digits 2 t.month ++
+    (at_least_digits 2 t.day ++ (at_least_digits 2 t.hour ++ (at_least_digits 2 t.minute ++ (at_least_digits 2 t.second ++ (fraction_text t.nanosecond ++ zone_text t.tz))))))
 from_end k t = simp append_assoc
 
 pub returns : goal.returns
