@@ -17,6 +17,13 @@ use std::alloc::Global;
 
 /// The octets of an input, or of the content of an element, that aren't read yet. A cursor knows its
 /// offset in the input, which each refusal has.
+///
+/// ```
+/// let mut fields = Cursor::new(certificate).open_sequence()?.open_sequence()?;
+/// fields.open_tagged(0)?; // the version
+/// fields.assert_universal()?;
+/// let serial_number = fields.read(parse_number)?;
+/// ```
 #[derive(Clone, Copy, Debug)]
 pub struct Cursor<'a> {
     left: &'a [u8],

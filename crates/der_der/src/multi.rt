@@ -186,6 +186,10 @@ impl<F> Model for DerSequenceOfV<F> {
 
 /// Makes a parser of an element of the tag number 16, SEQUENCE, that reads the content by `f`, one
 /// value after another (X.690 8.10).
+///
+/// ```
+/// let (rest, numbers) = parse_der_sequence_of_v(alloc, parse_der_i32).parse(input)?;
+/// ```
 pub fn parse_der_sequence_of_v<'a, F, O, E>(alloc: Global, f: F) -> DerSequenceOfV<F>
 where
     F: FnMut(&'a [u8]) -> IResult<&'a [u8], O, E>,

@@ -10,6 +10,15 @@ use der_object::BerResult;
 use std::alloc::Global;
 
 /// Reads one object in DER, to the depth `MAX_RECURSION`, as `parse_der_recursive`.
+///
+/// ```
+/// let (_rest, object) = parse_der(alloc, input)?;
+/// match &object.content {
+///     BerObjectContent::Sequence(items) => Ok(Found::List(items.len())),
+///     BerObjectContent::Integer(_) => Ok(Found::Number(object.as_i64()?)),
+///     _ => Ok(Found::Other(object.tag())),
+/// }
+/// ```
 pub fn parse_der<'a>(alloc: Global, i: &'a [u8]) -> BerResult<'a>
     ensures exactly { AnswersDer MAX_RECURSION i.now result }
     ensures stable { IsStableDer MAX_RECURSION i.now result }

@@ -45,6 +45,14 @@ impl<F> Model for DerTaggedExplicitG<F> {
 
 /// Makes a parser of an explicit tag of this number (X.690 8.14.2) that hands what is inside, and
 /// the header of the tag, to `f`.
+///
+/// ```
+/// let (rest, number) = parse_der_tagged_explicit_g(Tag(0), number_inside).parse(input)?;
+///
+/// fn number_inside<'a>(content: &'a [u8], _header: Header<'a>) -> IResult<&'a [u8], u32, BerError> {
+///     parse_der_u32(content)
+/// }
+/// ```
 pub fn parse_der_tagged_explicit_g<'a, F, O, E>(tag: Tag, f: F) -> DerTaggedExplicitG<F>
 where
     F: FnMut(&'a [u8], Header<'a>) -> IResult<&'a [u8], O, E>,

@@ -48,6 +48,12 @@ pub fn ber_encode_header<W: Write>(
 /// Writes an object: its header as DER writes it (8.1.2, 10.1), and its content octets. An absent
 /// optional one has none, and a tagged one stands in an element of the tag. Refusals: `TooLarge` for
 /// more than 2^64-1 octets, told before any is written, and `Io` where a write failed.
+///
+/// ```
+/// let mut out = FaultWriter::new(Vec::<u8>::new(alloc));
+/// ber_encode_object(&mut out, &object)?;
+/// let octets = out.into_inner();
+/// ```
 pub fn ber_encode_object<W: Write>(
     w: &mut FaultWriter<W>,
     o: &BerObject<'_>,

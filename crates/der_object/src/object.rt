@@ -129,6 +129,13 @@ impl<'a> BerObject<'a> {
     }
 
     /// A SEQUENCE of these items, as `from_obj` makes it.
+    ///
+    /// ```
+    /// let mut items = Vec::new(alloc);
+    /// items.push(BerObject::from_int_slice(number))?;
+    /// items.push(BerObject::from_obj(BerObjectContent::UTF8String(text)))?;
+    /// let request = BerObject::from_seq(items);
+    /// ```
     #[tactic(auto, using(crate::proofs::Trees::sequence_tree))]
     pub fn from_seq(l: Vec<BerObject<'a>>) -> BerObject<'a>
         ensures header { IsHeader result.header Class.Universal true 16 (Length.Definite 0) None }

@@ -34,6 +34,11 @@ impl<'a> BerObject<'a> {
     /// A printer of the object with the items of lists and without headers, whose text stands
     /// `indent` spaces in, and the items of each list `increment` spaces further. Refusals:
     /// `AllocError` where there is no memory for the flag.
+    ///
+    /// ```
+    /// let printer = object.as_pretty(alloc, 0, 2)?;
+    /// let text = format!(in alloc; "{printer:?}")?;
+    /// ```
     pub fn as_pretty<'o>(
         &'o self,
         alloc: Global,

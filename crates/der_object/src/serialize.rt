@@ -26,6 +26,13 @@ impl BerObject<'_> {
     /// octets (8.1, 10.1). Of an object that is valid by DER they are the DER encoding, and of one
     /// that BER read a spelling. Refusals: `TooLarge` where they are more than 2^64-1, and
     /// `OutOfMemory`. Room for all of them is made at once.
+    ///
+    /// ```
+    /// match parse_ber(alloc, input) {
+    ///     Ok((_rest, object)) => object.to_vec(alloc), // DER's lengths
+    ///     Err(_) => Ok(Vec::new(alloc)),
+    /// }
+    /// ```
     pub fn to_vec(&self, alloc: Global) -> Result<Vec<u8>, GenError>
         ensures ok { IfOk result (λ v. v.items ≡ encoding (tree self.now)) }
         ensures too_large { IsErrOf result GenError.TooLarge ↔ (2 ^ 64 ≤ length (encoding (tree self.now))) }

@@ -2,6 +2,7 @@
 //! it. Under another law's name a function isn't proved.
 ghost use Rattle.std.specs.Cmp.{IsEquivalence};
 ghost use Rattle.std.specs.Prelude.{◌≡◌};
+ghost use Rattle.der_parser.specs.BerLaws.{BeginsWithBerElement, BeginsWithDerElement, ElementsPass};
 ghost use Rattle.der_parser.specs.BerLaws.{WrittenSpells as BerWrittenSpells, WrittenIsReadBack as BerIsReadBack};
 ghost use Rattle.der_parser.specs.Bits.{AreAlikeBits};
 ghost use Rattle.der_parser.specs.Containers.{OpensBer, OpensDer, RefusesBer, RefusesDer};
@@ -27,6 +28,7 @@ ghost use Rattle.der_parser.specs.TreeEquality.{same_node};
 ghost use Rattle.der_parser.specs.View.{HaveOneTree};
 
 use der_parser::ber::{BerObject, BitStringObject, Class, Header};
+use der_parser::cursor::Cursor;
 use der_parser::error::{BerError, ParseError};
 use der_parser::laws;
 
@@ -240,6 +242,21 @@ where
     ensures der { OpenedPass OpensDer (RefusesDer E.from_error_kind_gives E.from_gives) }
 {
     laws::opened_never_refused::<E>()
+}
+
+fn elements_are_never_refused<'a, E>()
+where
+    E: ParseError<&'a [u8]> + From<BerError>,
+    ensures ber { ElementsPass BeginsWithBerElement (λ n. RefusesBer E.from_error_kind_gives E.from_gives) }
+    ensures der { ElementsPass BeginsWithDerElement (λ n. RefusesDer E.from_error_kind_gives E.from_gives) }
+{
+    laws::elements_are_never_refused::<E>()
+}
+
+fn cursor_clones_are_the_value()
+    ensures cursor { AreTheValue ⟦<Cursor<'static> as Clone>⟧.is_clone }
+{
+    laws::cursor_clones_are_the_value()
 }
 
 fn set_of_has_one_order()
