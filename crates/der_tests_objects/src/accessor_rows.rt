@@ -479,6 +479,56 @@ fn equal_objects_have_one_tree(rt: HostRuntime) -> Result<(), Fail> {
     Ok(())
 }
 
+/// Whether the object is equal to that of an element of another input, by itself and by its content.
+fn is_equal_to_another(
+    alloc: Global,
+    object: &BerObject<'_>,
+    element: &[u8],
+) -> Result<(bool, bool), Fail> {
+    let (_, other) = parse_ber(alloc, element)?;
+    let is_content_equal = object.content.is_equal(&other.content);
+    Ok((
+        object.is_equal(&other) && is_content_equal,
+        other.is_equal(object),
+    ))
+}
+
+/// Whether the objects of elements of two inputs are equal, from the left and from the right.
+fn are_equal_of_two_inputs(alloc: Global, left: &[u8], right: &[u8]) -> Result<(bool, bool), Fail> {
+    let (_, object) = parse_ber(alloc, left)?;
+    is_equal_to_another(alloc, &object, right)
+}
+
+#[test]
+fn equal_objects_of_two_inputs_have_one_tree(rt: HostRuntime) -> Result<(), Fail> {
+    for (left, right, equal) in EQUAL {
+        let given = are_equal_of_two_inputs(rt.alloc(), left, right)?;
+        assert_eq!(rt; given, (*equal, *equal), "{left:?} {right:?}");
+    }
+    Ok(())
+}
+
+/// Whether the object is equal to the one that its own octets are read as.
+fn is_read_back(alloc: Global, object: &BerObject<'_>) -> Result<(bool, bool), Fail> {
+    let written = object.to_vec(alloc)?;
+    is_equal_to_another(alloc, object, &written)
+}
+
+/// Whether the element's object is equal to the one that its own octets are read as.
+fn is_read_back_of(alloc: Global, input: &[u8]) -> Result<(bool, bool), Fail> {
+    let (_, object) = parse_ber(alloc, input)?;
+    is_read_back(alloc, &object)
+}
+
+#[test]
+fn what_is_written_is_read_back(rt: HostRuntime) -> Result<(), Fail> {
+    for input in COPIED {
+        let given = is_read_back_of(rt.alloc(), input)?;
+        assert_eq!(rt; given, (true, true), "{input:?}");
+    }
+    Ok(())
+}
+
 /// The questions on an object are those on its header.
 fn is_asked_as_header(o: &BerObject<'_>) -> bool {
     let header = o.header;
