@@ -5,7 +5,7 @@ ghost use Rattle.der_object.specs.Bits.{is_bit_set};
 /// The octets of a BIT STRING (X.690 8.6.2), those with unused bits too.
 #[derive(Clone, Copy, Debug, PartialEq)]
 pub struct BitStringObject<'a> {
-    /// The octets behind the first content octet, which says how many bits of the last are unused.
+    /// The octets after the first content octet, which says how many bits of the last are unused.
     pub bytes: &'a [u8],
 }
 

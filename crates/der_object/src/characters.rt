@@ -20,7 +20,7 @@ pub enum Coding {
     Utf32,
 }
 
-/// Whether the octets are characters throughout. Octets that are left behind them aren't looked at.
+/// Whether the octets are characters throughout. Octets that are left after them aren't looked at.
 pub fn are_characters(coding: Coding, octets: &[u8]) -> bool
     ensures { result ≡ is_some (characters_text (chars_of coding octets.now)) }
 {
@@ -61,7 +61,7 @@ fn send_character<W: Write>(w: &mut FaultWriter<W>, character: Option<char>) -> 
     send(w, character.encode_utf8(&mut room).as_bytes())
 }
 
-/// The first character, which may be none, and the octets behind it.
+/// The first character, which may be none, and the octets after it.
 fn split_character(coding: Coding, octets: &[u8]) -> Option<(Option<char>, &[u8])>
     ensures { MatchOption result (chars_of coding octets.now ≡ [])
         (λ x. (chars_of coding octets.now ≡ x.0 ∷ chars_of coding x.1.now) × (length x.1.now < length octets.now)) }
@@ -87,8 +87,8 @@ fn split_utf16(octets: &[u8]) -> Option<(Option<char>, &[u8])>
     Some((character, behind))
 }
 
-/// The character of a pair of surrogates, of which the first unit stands in front, and the octets
-/// behind it; None where that unit is alone.
+/// The character of a pair of surrogates, of which the first unit comes first, and the octets
+/// after it. None if that unit is alone.
 fn split_low(high: u16, octets: &[u8]) -> Option<(Option<char>, &[u8])>
     ensures { MatchOption result
         (utf16_chars (high ∷ units octets.now) ≡ lone_unit_char high ∷ utf16_chars (units octets.now))

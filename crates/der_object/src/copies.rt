@@ -8,7 +8,7 @@ use std::alloc::{AllocError, Global};
 impl<'a> BerObject<'a> {
     /// A copy: an equal object, whose headers have the same lengths and raw tags. Memory is taken
     /// for the items of lists, for the objects inside tagged and optional contents, and for
-    /// identifiers that own their octets. AllocError where there is none.
+    /// identifiers that own their octets. Errors: AllocError if there is none.
     #[cycle(copy)]
     pub fn try_clone(&self, alloc: Global) -> Result<BerObject<'a>, AllocError>
         ensures { MatchResult result (IsCopyOf self.now) (λ _. CopyTakesMemory self.now.content) }

@@ -1,6 +1,5 @@
-//! The encoder over any writer (X.690 8, in the form of 10). It takes no memory: what an element's
-//! length octets say is counted first, and small runs of octets stand in an array until they are
-//! sent.
+//! The encoder over any writer (X.690 8, in the form of 10). It allocates nothing: the length of an
+//! element is counted first, and small runs of octets are in an array until they are sent.
 ghost use Rattle.std.specs.Prelude.{◌<◌, ◌≤◌, ◌^◌, ◌∷◌, ◌++◌, length};
 ghost use Rattle.der_base.specs.Encoding.{encoding, encodings, content_octets, element};
 ghost use Rattle.der_base.specs.Header.{class_of, is_constructed, number_of};
@@ -34,7 +33,7 @@ const INTEGER_ROOM: usize = 9;
 /// The octets that the text of a time has at most.
 const TIME_ROOM: usize = 119;
 
-/// Writes a header with the length that it says (8.1.2, 8.1.3). Refusals: `Io` where a write failed.
+/// Writes a header with the length that it says (8.1.2, 8.1.3). Errors: `Io` if a write failed.
 pub fn ber_encode_header<W: Write>(
     w: &mut FaultWriter<W>,
     header: &Header<'_>,
@@ -46,8 +45,9 @@ pub fn ber_encode_header<W: Write>(
 }
 
 /// Writes an object: its header as DER writes it (8.1.2, 10.1), and its content octets. An absent
-/// optional one has none, and a tagged one stands in an element of the tag. Refusals: `TooLarge` for
-/// more than 2^64-1 octets, told before any is written, and `Io` where a write failed.
+/// optional one has none, and a tagged one is inside an element of the tag. Errors: `TooLarge` for
+/// more than 2^64-1 octets, before any is written; `Io` if a write failed, which is so iff the count of
+/// `faults` of the writer rose, below its greatest value of 2^128-1.
 ///
 /// ```
 /// let mut out = FaultWriter::new(Vec::<u8>::new(alloc));
@@ -67,8 +67,7 @@ pub fn ber_encode_object<W: Write>(
     send_object(w, o)
 }
 
-/// Writes this header with the length that it says, and behind it the content octets, as many as
-/// they are. Refusals: as `ber_encode_object`.
+/// Writes this header with the length that it has, and then all content octets. Errors: as `ber_encode_object`.
 pub fn ber_encode_object_raw<W: Write>(
     w: &mut FaultWriter<W>,
     header: &Header<'_>,
@@ -84,7 +83,7 @@ pub fn ber_encode_object_raw<W: Write>(
     send_raw(w, header, content)
 }
 
-/// Writes an object under an explicit tag: an element around it (8.14.2). Refusals: as
+/// Writes an object under an explicit tag: an element around it (8.14.2). Errors: as
 /// `ber_encode_object`.
 pub fn ber_encode_tagged_explicit<W: Write>(
     w: &mut FaultWriter<W>,
@@ -102,7 +101,7 @@ pub fn ber_encode_tagged_explicit<W: Write>(
 }
 
 /// Writes an object under an implicit tag: an element with the object's constructed bit and content
-/// octets (8.14.3). Refusals: as `ber_encode_object`.
+/// octets (8.14.3). Errors: as `ber_encode_object`.
 pub fn ber_encode_tagged_implicit<W: Write>(
     w: &mut FaultWriter<W>,
     tag: Tag,
@@ -255,7 +254,7 @@ fn send_header<W: Write>(
     send(w, &room[..end])
 }
 
-/// Writes the octets of a length in front of a place, of an indefinite one too (8.1.3.6).
+/// Writes the octets of a length before a place, of an indefinite one too (8.1.3.6).
 fn write_any_length(out: &mut [u8], end: usize, stated: Length) -> usize
     requires room { length (length_octets stated) ≤ end }
     requires within { end ≤ length out.old }

@@ -4,8 +4,8 @@ ghost use Rattle.std.specs.Prelude.{◌≡◌, ◌++◌, ◌∷◌, [], if◌the
 use std::alloc::AllocError;
 
 /// Adds an item to the end of a list. One that has no room makes it for this item alone where no
-/// octet of the list follows it, and for three where it is the first. Where there is no memory,
-/// the items stay.
+/// octet of the list follows it, and for three where it is the first. If that fails, the items
+/// stay as they are.
 #[inline(always)]
 pub fn push_item<T: Drop>(items: &mut Vec<T>, item: T, following: &[u8]) -> Result<(), AllocError>
     ensures items { items.new.items ≡ (if is_ok result then items.old.items ++ item ∷ [] else items.old.items) }

@@ -12,7 +12,7 @@ use std::io::Write;
 /// So many octets are sent at once.
 const MANY: usize = 64;
 
-/// The room that the text of so many takes, with a space in front of each.
+/// The room that the text of so many takes, with a space before each.
 const ROOM: usize = 192;
 
 /// Sends octets as hexadecimal numbers of two digits, in brackets, with a space between them.
@@ -49,7 +49,7 @@ fn send_some<W: Write>(w: &mut FaultWriter<W>, octets: &[u8]) -> Result<(), GenE
     send(w, &room[begin..])
 }
 
-/// Writes octets in front of a place, each with a space in front.
+/// Writes octets before a place, each after a space.
 fn write_spaced(out: &mut [u8], end: usize, octets: &[u8]) -> usize
     requires room { 3 * length octets.now ≤ end }
     requires within { end ≤ length out.old }
@@ -62,7 +62,7 @@ fn write_spaced(out: &mut [u8], end: usize, octets: &[u8]) -> usize
     begin
 }
 
-/// Writes the two digits of an octet in front of a place, and a space in front of them.
+/// Writes the two digits of an octet before a place, and a space before them.
 #[inline]
 fn write_pair(out: &mut [u8], end: usize, octet: u8) -> usize
     requires room { 3 ≤ end }

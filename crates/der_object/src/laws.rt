@@ -18,7 +18,7 @@ pub fn equals_have_one_tree()
     ensures contents { IsEquivalence ⟦<BerObjectContent<'static> as PartialEq>⟧.eq }
 {}
 
-/// A clone of a bit string's octets or of a printer's flag is the value itself and wants no memory.
+/// A clone of a bit string's octets or of a printer's flag is the value itself and never runs out of memory.
 /// Such octets are equal exactly where they are alike, and flags where they are the same.
 pub fn small_clones_are_the_value()
     ensures bits { AreTheValue ⟦<BitStringObject<'static> as Clone>⟧.is_clone }

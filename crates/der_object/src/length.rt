@@ -81,7 +81,7 @@ pub fn implicit_length(tag: Tag, o: &BerObject<'_>) -> Option<usize>
     element_length(tag, content_length(&o.content)?)
 }
 
-/// How many octets a header has with its own length and content octets have behind it, if at most
+/// How many octets a header has with its own length and the content octets after it have, if at most
 /// 2^64-1.
 pub fn raw_length(header: &Header<'_>, content: &BerObjectContent<'_>) -> Option<usize>
     ensures { let n = length (header_octets header.now ++ content_octets (content_tree content.now)) in
@@ -153,7 +153,7 @@ pub fn integer_octet_count(n: u64) -> usize
     octet_count(n as usize) + usize::from(needs_zero(n))
 }
 
-/// Whether the octets of a number want one of 0 in front of them, since there are none or their first
+/// Whether a leading 00 octet is needed, since there are no octets or their first
 /// bit says that the number is negative (8.3.3).
 #[tactic(auto, using(crate::proofs::Integers::needs_zero_leading))]
 pub fn needs_zero(n: u64) -> bool

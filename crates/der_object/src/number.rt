@@ -7,7 +7,7 @@ use der_base::error::BerError;
 use der_base::integer::{read_i32, read_i64, read_u64, read_used_bits};
 
 impl BerObjectContent<'_> {
-    /// The number of an INTEGER, in two's complement; that of no octets is 0. IntegerTooLarge where
+    /// The number of an INTEGER, in two's complement; that of no octets is 0. Errors: IntegerTooLarge if
     /// it isn't from -2^63 to 2^63-1, BerValueError for another content.
     pub fn as_i64(&self) -> Result<i64, BerError>
         ensures { AnswersSigned 64 (content_tree self.now) result }
@@ -29,7 +29,7 @@ impl BerObjectContent<'_> {
     }
 
     /// The number of an INTEGER or ENUMERATED, or the one that the used bits of a BIT STRING spell,
-    /// the highest first. IntegerNegative for an INTEGER below 0; InvalidLength for a BIT STRING of
+    /// the highest first. Errors: IntegerNegative for an INTEGER below 0; InvalidLength for a BIT STRING of
     /// which more bits are unused than there are; IntegerTooLarge for a number above 2^64-1 and for
     /// more than 64 used bits; BerTypeError for another content.
     pub fn as_u64(&self) -> Result<u64, BerError>

@@ -10,11 +10,11 @@ use der_base::header::{Class, Header, Length, Tag};
 use der_base::oid::Oid;
 use der_base::time::ASN1DateTime;
 
-/// A header and the content behind it (X.690 8.1.1).
+/// A header and its content (X.690 8.1.1).
 #[cycle(ast)]
 #[derive(Debug, Drop)]
 pub struct BerObject<'a> {
-    /// What stands in front of the content. The encoder doesn't use its length and its raw tag.
+    /// The identifier and length. The encoder doesn't use the length and the raw tag.
     pub header: Header<'a>,
     /// The value.
     pub content: BerObjectContent<'a>,
@@ -68,7 +68,7 @@ pub enum BerObjectContent<'a> {
     UniversalString(&'a [u8]),
     /// SEQUENCE and SEQUENCE OF, by the items in their order (8.9, 8.10).
     Sequence(Vec<BerObject<'a>>),
-    /// SET and SET OF, by the items in the order in which they stand (8.11, 8.12).
+    /// SET and SET OF, by the items in the order of the encoding (8.11, 8.12).
     Set(Vec<BerObject<'a>>),
     /// UTCTime, by its fields, with the last two digits of the year (8.25, X.680 47).
     UTCTime(ASN1DateTime),
@@ -78,7 +78,7 @@ pub enum BerObjectContent<'a> {
     Optional(Option<Box<BerObject<'a>>>),
     /// An object inside an explicit tag, with the tag's class and number (X.690 8.14).
     Tagged(Class, Tag, Box<BerObject<'a>>),
-    /// An element of another class or type, with its content octets as they stand. Nothing looks
+    /// An element of another class or type, with its content octets as they are. No reader looks
     /// inside, by DER neither.
     Unknown(Any<'a>),
 }

@@ -1,8 +1,8 @@
-//! Octets that are written in front of others.
+//! Octets that are written before others.
 ghost use Rattle.std.specs.Prelude.{◌≤◌, [], ◌∷◌, length};
 ghost use Rattle.der_object.specs.Room.{PutsBefore};
 
-/// Writes octets in front of a place.
+/// Writes octets before a place.
 pub fn write_octets(out: &mut [u8], end: usize, octets: &[u8]) -> usize
     requires room { length octets.now ≤ end }
     requires within { end ≤ length out.old }
@@ -13,7 +13,7 @@ pub fn write_octets(out: &mut [u8], end: usize, octets: &[u8]) -> usize
     begin
 }
 
-/// Writes an octet in front of a place.
+/// Writes an octet before a place.
 pub fn write_octet(out: &mut [u8], end: usize, octet: u8) -> usize
     requires room { length (octet ∷ []) ≤ end }
     requires within { end ≤ length out.old }

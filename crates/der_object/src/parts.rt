@@ -1,5 +1,5 @@
-//! The parts of an object's content, each by a call that answers BerTypeError for a content of
-//! another type. None but `as_oid_val` takes memory.
+//! The parts of an object's content, each by a call that returns BerTypeError for a content of
+//! another type. Only `as_oid_val` allocates.
 ghost use Rattle.der_base.specs.Oids.{octets_of, is_relative_of};
 ghost use Rattle.der_base.specs.Parts.{AnswersPart, AnswersPartOr, boolean_part, identifier_part};
 ghost use Rattle.der_base.specs.Parts.{bits_part, text_part, octets_part, sequence_part, set_part};
@@ -139,7 +139,7 @@ impl<'a> BerObjectContent<'a> {
         Ok(*self.as_bitstring_ref()?)
     }
 
-    /// A copy of an OBJECT IDENTIFIER or a RELATIVE-OID. It takes memory only where the identifier
+    /// A copy of an OBJECT IDENTIFIER or a RELATIVE-OID. It allocates only if the identifier
     /// owns its octets, as one that was made of arcs does.
     pub fn as_oid_val(&self, alloc: Global) -> Result<Oid<'a>, Err<BerError>>
         ensures { AnswersPartOr (OwnsIdentifier self.now) (λ x. (is_relative_of x, octets_of x))
@@ -170,7 +170,7 @@ impl<'a> BerObject<'a> {
         self.content.as_oid()
     }
 
-    /// A copy of an OBJECT IDENTIFIER or a RELATIVE-OID. It takes memory only where the identifier
+    /// A copy of an OBJECT IDENTIFIER or a RELATIVE-OID. It allocates only if the identifier
     /// owns its octets, as one that was made of arcs does.
     pub fn as_oid_val(&self, alloc: Global) -> Result<Oid<'a>, Err<BerError>>
         ensures { AnswersPartOr (OwnsIdentifier self.now.content) (λ x. (is_relative_of x, octets_of x))

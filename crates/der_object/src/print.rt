@@ -31,9 +31,9 @@ pub struct PrettyBer<'o, 'a> {
 }
 
 impl<'a> BerObject<'a> {
-    /// A printer of the object with the items of lists and without headers, whose text stands
-    /// `indent` spaces in, and the items of each list `increment` spaces further. Refusals:
-    /// `AllocError` where there is no memory for the flag.
+    /// A printer of the object with the items of lists and without headers, whose text is indented
+    /// by `indent` spaces, and the items of each list by `increment` more. Errors: `AllocError` if
+    /// there is no memory for the flag.
     ///
     /// ```
     /// let printer = object.as_pretty(alloc, 0, 2)?;
@@ -71,9 +71,8 @@ impl<'o, 'a> PrettyBer<'o, 'a> {
         }
     }
 
-    /// A printer of an object within this one, with the same flags, whose text stands further in.
-    /// The indent stops at the greatest number. Refusals: `AllocError` where there is no memory for
-    /// the flags.
+    /// A printer of an object within this one, with the same flags and a deeper indent, which
+    /// stops at the greatest number. Errors: `AllocError` if there is no memory for the flags.
     pub fn next_indent<'p>(
         &self,
         alloc: Global,
@@ -95,8 +94,8 @@ impl<'o, 'a> PrettyBer<'o, 'a> {
         self.flags.iter().any(|f| *f == flag)
     }
 
-    /// Adds the flag, where it isn't there. Refusals: `AllocError` where there is no memory for it;
-    /// then nothing changes.
+    /// Adds the flag, where it isn't there. It grows the printer's own
+    /// vector. Errors: `AllocError` if there is no memory for it, and then nothing changes.
     pub fn set_flag(&mut self, flag: PrettyPrinterFlag) -> Result<(), AllocError>
         ensures ok { OnOk result (IsPrinterWith (with_flag (flags_of self.old) flag) self.old self.new) }
         ensures err { OnErr result (IsPrinterWith (flags_of self.old) self.old self.new) }
@@ -114,7 +113,7 @@ impl<'o, 'a> PrettyBer<'o, 'a> {
         self.flags.retain(|f| *f != flag);
     }
 
-    /// Writes the text. Refusals: `Io` where a write failed. It takes no memory.
+    /// Writes the text. Errors: `Io` if a write failed. It allocates nothing.
     pub fn write_text<W: Write>(&self, w: &mut FaultWriter<W>) -> Result<(), GenError>
         ensures text { Wrote W.contents w.old w.new result (printed self.now) }
         ensures io { IoWhereFaultsRose w.old w.new result }

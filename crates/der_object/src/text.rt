@@ -1,5 +1,5 @@
 //! The text of an object, sent through a writer. It takes no memory: numbers and small runs of
-//! octets stand in an array until they are sent.
+//! octets are in an array until they are sent.
 ghost use Rattle.std.specs.Prelude.{◌≡◌, ◌≤◌, ◌++◌, [], Option, Some, None, codes, decimal, if◌then◌else◌};
 ghost use Rattle.der_base.specs.Arcs.{arcs};
 ghost use Rattle.der_base.specs.Header.{class_of, is_constructed, number_of, length_of};
@@ -37,7 +37,7 @@ pub struct Layout {
     pub recursive: bool,
     /// The headers are printed.
     pub headers: bool,
-    /// How much further in an item stands than its list.
+    /// How much deeper an item is indented than its list.
     pub increment: usize,
 }
 
@@ -47,7 +47,7 @@ const SPACES: [u8; 64] = [b' '; 64];
 /// The digits that a number of 64 bits has at most.
 const DIGITS: usize = 20;
 
-/// Sends the text of an object that stands so many spaces in.
+/// Sends the text of an object that is indented by so many spaces.
 #[cycle(text)]
 pub fn send_text<W: Write>(
     w: &mut FaultWriter<W>,
@@ -61,7 +61,7 @@ pub fn send_text<W: Write>(
     send_content(w, &o.content, o.header.tag(), layout, indent)
 }
 
-/// Sends the text of a content behind a header of a tag number.
+/// Sends the text of a content after a header of a tag number.
 #[cycle(text)]
 fn send_content<W: Write>(
     w: &mut FaultWriter<W>,
@@ -87,7 +87,7 @@ fn send_content<W: Write>(
     }
 }
 
-/// Sends the text of a list behind a header of a tag number.
+/// Sends the text of a list after a header of a tag number.
 #[cycle(text)]
 fn send_list<W: Write>(
     w: &mut FaultWriter<W>,
@@ -221,7 +221,7 @@ fn send_leaf<W: Write>(
     }
 }
 
-/// Sends what stands in front of a content: spaces, and the header where it is printed.
+/// Sends what precedes a content: spaces, and the header where it is printed.
 fn send_front<W: Write>(
     w: &mut FaultWriter<W>,
     header: &Header<'_>,
@@ -328,7 +328,7 @@ fn send_length<W: Write>(w: &mut FaultWriter<W>, length: Length) -> Result<(), G
     }
 }
 
-/// The name of a list behind a header of a tag number.
+/// The name of a list after a header of a tag number.
 fn list_name(tag: Tag) -> &'static str
     ensures { result.now ≡ list_name tag.0 }
 {

@@ -41,8 +41,8 @@ impl<W> FaultWriter<W> {
 }
 
 impl<W: Write> FaultWriter<W> {
-    /// Hands octets on, and answers how many were taken. A write fails where it answers an error, or
-    /// takes none of some octets.
+    /// Hands octets on, and returns how many were taken. A write fails if it returns an error, or takes
+    /// none of some octets.
     pub fn write(&mut self, octets: &[u8]) -> io::Result<usize>
         ensures bound { WritesAtMost result octets.now }
         ensures octets { WriteAppends (written W.contents self.old) (written W.contents self.new) result octets.now }
