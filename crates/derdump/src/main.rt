@@ -1,5 +1,7 @@
 //! `derdump ber` and `derdump der` print the elements of their standard input, one a line. `derdump canon`
-//! writes the elements that BER reads with DER's lengths. The stored run ends at an element that is refused, with status 1.
+//! writes the elements that BER reads with DER's lengths.
+//!
+//! The stored run ends at an element that is refused, with status 1.
 #![tactic(auto)]
 
 use derdump_core::{only_argument, program};
