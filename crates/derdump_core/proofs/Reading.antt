@@ -1,5 +1,5 @@
 -- What the readers of both rules say of an element, and what follows of the whole input.
-use Rattle.std.proofs.Common.{◌≡◌, ℕ, ◌+◌, ◌<◌, List, [], ◌∷◌, ◌++◌, Ok, Err, sym, subst, ap, length, arith}
+use Rattle.std.proofs.Common.{◌≡◌, ℕ, ◌+◌, ◌<◌, List, [], ◌∷◌, ◌++◌, Ok, Err, sym, subst, ap, length, None, arith}
 use Rattle.std.specs.Borrow.{Bor}
 use Rattle.der_parser.proofs.Answering.{answered, passed_on}
 use Rattle.der_parser.specs.BerReading.{AnswersBer}
@@ -64,7 +64,7 @@ refused_here {rules} {i} {rest} {os} r front place some whole a =
 
 -- an element for which there was no memory
 pub wanting_here : {rules : Rules} {i rest : List ℕ} {os : List Node} (n : ℕ) → Elements rules i os rest → n + length rest ≡ length i
-    → IsRefused rules i os (record { offset = n; reason = OutOfMemory })
+    → IsRefused rules i os (record { offset = n; list_end = None; reason = OutOfMemory })
 wanting_here {rest = rest} n front place = record {
   rest = rest;
   front = front;

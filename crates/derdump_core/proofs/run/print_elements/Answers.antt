@@ -1,4 +1,4 @@
-use Rattle.std.proofs.Common.{◌≡◌, ◌+◌, ◌-◌, ◌<◌, [], ◌∷◌, ◌++◌, length, rules, arith, subst}
+use Rattle.std.proofs.Common.{◌≡◌, ◌+◌, ◌-◌, ◌<◌, [], ◌∷◌, ◌++◌, length, None, rules, arith, subst}
 use Rattle.std.proofs.lemmas.List.{nil_from_length}
 use Rattle.std.specs.Io.KnownBytes.{append_known}
 use Rattle.der_parser.specs.View.{tree}
@@ -51,7 +51,7 @@ returns-in-Err-clause-printed g c =
     let same : c.deref-in-Err.result.now ≡ c.loop-rest.pending.items = search rules in
     let place : offset + length rest ≡ length c.args.input.now = omega (arith, c.loop-rest.invariant.in_range) in (
       os,
-      refused_here (record { offset = offset; reason = c.in-Err.reason }) front place some c.loop-rest.invariant.whole (rw (c.rules.ensures) at c.in-Err.ensures.exactly),
+      refused_here (record { offset = offset; list_end = None; reason = c.in-Err.reason }) front place some c.loop-rest.invariant.whole (rw (c.rules.ensures) at c.in-Err.ensures.exactly),
       outputs_handed_on _ _ _ c.loop-rest.pending.items lines (rw same at c.in_ok-hand_on-in-Err.ensures.written),
     )
 
