@@ -1,6 +1,6 @@
 //! Certificates (RFC 5280 4.1).
 use crate::extension::{Extension, read_extension};
-use crate::fault::{CertificateError, InField};
+use crate::fault::{CertificateError, in_field};
 use crate::values::{parse_bits, parse_identifier};
 use der_parser::IResult;
 use der_parser::ber::{ASN1DateTime, Any, BitStringObject};
@@ -36,7 +36,10 @@ pub fn read_certificate<'a>(
     alloc: Global,
     octets: &'a [u8],
 ) -> Result<Certificate<'a>, CertificateError> {
-    read_fields(alloc, open_fields(octets).in_field("Certificate")?)
+    read_fields(
+        alloc,
+        open_fields(octets).map_err(|e| in_field("Certificate", e))?,
+    )
 }
 
 /// Opens the signed fields, and checks that a signature follows and nothing else.
@@ -55,16 +58,29 @@ fn read_fields<'a>(
     alloc: Global,
     mut fields: Cursor<'a>,
 ) -> Result<Certificate<'a>, CertificateError> {
-    let version = read_version(&mut fields).in_field("tbsCertificate.version")?;
-    let serial_number = read_serial_number(&mut fields).in_field("tbsCertificate.serialNumber")?;
-    let signature_algorithm = read_algorithm(&mut fields).in_field("tbsCertificate.signature")?;
-    let issuer = read_name(alloc, &mut fields).in_field("tbsCertificate.issuer")?;
-    let (not_before, not_after) = read_validity(&mut fields).in_field("tbsCertificate.validity")?;
-    let subject = read_name(alloc, &mut fields).in_field("tbsCertificate.subject")?;
-    let (key_algorithm, key) = read_key(&mut fields).in_field(
+    let version = read_version(&mut fields).map_err(|e| in_field("tbsCertificate.version", e))?;
+    let serial_number = read_serial_number(&mut fields).map_err(|e| in_field(
+        "tbsCertificate.serialNumber",
+        e,
+    ))?;
+    let signature_algorithm = read_algorithm(&mut fields).map_err(|e| in_field(
+        "tbsCertificate.signature",
+        e,
+    ))?;
+    let issuer = read_name(alloc, &mut fields).map_err(|e| in_field("tbsCertificate.issuer", e))?;
+    let (not_before, not_after) = read_validity(&mut fields).map_err(|e| in_field(
+        "tbsCertificate.validity",
+        e,
+    ))?;
+    let subject = read_name(alloc, &mut fields).map_err(|e| in_field("tbsCertificate.subject", e))?;
+    let (key_algorithm, key) = read_key(&mut fields).map_err(|e| in_field(
         "tbsCertificate.subjectPublicKeyInfo",
-    )?;
-    let extensions = read_extensions(alloc, fields).in_field("tbsCertificate.extensions")?;
+        e,
+    ))?;
+    let extensions = read_extensions(alloc, fields).map_err(|e| in_field(
+        "tbsCertificate.extensions",
+        e,
+    ))?;
     Ok(Certificate {
         version,
         serial_number,

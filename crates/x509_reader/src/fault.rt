@@ -11,16 +11,7 @@ pub struct CertificateError {
     pub refusal: Refusal<BerError>,
 }
 
-/// Adds the name of the field to a refusal.
-pub(crate) trait InField<T> {
-    fn in_field(self, field: &'static str) -> Result<T, CertificateError>;
-}
-
-impl<T> InField<T> for Result<T, Refusal<BerError>> {
-    fn in_field(self, field: &'static str) -> Result<T, CertificateError> {
-        match self {
-            Ok(value) => Ok(value),
-            Err(refusal) => Err(CertificateError { field, refusal }),
-        }
-    }
+/// The refusal of the field of this name.
+pub(crate) fn in_field(field: &'static str, refusal: Refusal<BerError>) -> CertificateError {
+    CertificateError { field, refusal }
 }
