@@ -36,7 +36,7 @@ use Rattle.der_object.proofs.Trees.{sequence_tree, set_tree}
 use Rattle.der_der.specs.DerReading.{ReadsDer, IsDerContentOf, BeginsWithItems, ContentRefuses}
 use Rattle.der_der.specs.Inner.DerItems.{AreItems, IsContentOf}
 
-leaf_valid : (c : Class) (p : Bool) (t : ℕ) (x : Content) → c ≡ Universal → p ≡ false → IsDerLeaf t x → IsDerContent c p t x
+pub leaf_valid : (c : Class) (p : Bool) (t : ℕ) (x : Content) → c ≡ Universal → p ≡ false → IsDerLeaf t x → IsDerContent c p t x
 leaf_valid c p t end_of_content u h k = inl (u, h, k)
 leaf_valid c p t (boolean v) u h k = inl (u, h, k)
 leaf_valid c p t (integer v) u h k = inl (u, h, k)
@@ -54,7 +54,7 @@ leaf_valid c p t (present o) u h k = absurd k.0
 leaf_valid c p t (tagged q m o) u h k = absurd k.0
 leaf_valid c p t (unknown q m n v) u h k = absurd k.0
 
-leaf_height : (t : ℕ) (x : Content) → IsDerLeaf t x → content_height x ≡ 1
+pub leaf_height : (t : ℕ) (x : Content) → IsDerLeaf t x → content_height x ≡ 1
 leaf_height t (sequence l) k = absurd k.0
 leaf_height t (set l) k = absurd k.0
 leaf_height t _ k = refl

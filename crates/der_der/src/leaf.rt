@@ -56,7 +56,7 @@ fn read_time_content(tag: Tag, content: &[u8]) -> Result<BerObjectContent<'_>, B
 
 /// Makes the tests of DER that come before those of BER, for a type that is no time.
 #[inline(always)]
-fn check_form(tag: Tag, content: &[u8]) -> Result<(), BerError>
+pub fn check_form(tag: Tag, content: &[u8]) -> Result<(), BerError>
     requires mapped { IsTrue (is_mapped tag.0) }
     requires no_list { is_list tag.0 ≡ false }
     requires no_time { is_time tag.0 ≡ false }

@@ -3,7 +3,7 @@
 
 pub mod content;
 pub mod laws;
-mod leaf;
+pub mod leaf;
 pub mod multi;
 pub mod number;
 pub mod parser;

@@ -144,7 +144,7 @@ cut_shows_nothing d i n e l h = elim (shown_where d i e h) [
 -- one of them, in one way
 
 -- a list that is constructed is not refused as such
-list_passes : (t : ℕ) (w : List ℕ) (e : Refusal) → IsTrue (is_list t) → BerLeafRefuses true t w e → ⊥
+pub list_passes : (t : ℕ) (w : List ℕ) (e : Refusal) → IsTrue (is_list t) → BerLeafRefuses true t w e → ⊥
 list_passes t w e h = at_list (λ t. BerLeafRefuses true t w e → ⊥) t h not_primitive not_primitive
   where
     at_list : (P : ℕ → Type 0) (t : ℕ) → IsTrue (is_list t) → P 16 → P 17 → P t
@@ -155,7 +155,7 @@ abbrev Stops : ℕ → List ℕ → Type 0
 Stops d r = (b rest : List ℕ) (o : Node) → r ≡ b ++ rest → BerSpells b o d framing_budget → ⊥
 
 -- items in front of a list that none follows are one list of items
-joins_same : (d : ℕ) (l l' : Nodes) (fs fs' : Forms) (u u' r r' : List ℕ) → Stops d r → Stops d r' → Joins u l fs d framing_budget → Joins u' l' fs' d framing_budget
+pub joins_same : (d : ℕ) (l l' : Nodes) (fs fs' : Forms) (u u' r r' : List ℕ) → Stops d r → Stops d r' → Joins u l fs d framing_budget → Joins u' l' fs' d framing_budget
     → u ++ r ≡ u' ++ r' → (l ≡ l') × (r ≡ r')
 joins_same d no_nodes l' (forms f fs) fs' u u' r r' s s' j j' e = absurd j
 joins_same d (nodes o l) l' no_forms fs' u u' r r' s s' j j' e = absurd j

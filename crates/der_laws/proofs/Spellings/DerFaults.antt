@@ -115,7 +115,7 @@ content_cut_shows_nothing d i rest c p t m e b l s h = elim (shows_behind d i re
 
 -- one of them, in one way
 
-chosen : (b : Bool) (ts us : List Test) (e : Refusal) → b ≡ true → IsFirstRefusal (choose b ts us) e → IsFirstRefusal ts e
+pub chosen : (b : Bool) (ts us : List Test) (e : Refusal) → b ≡ true → IsFirstRefusal (choose b ts us) e → IsFirstRefusal ts e
 chosen true ts us e q h = h
 chosen false ts us e q h = cc
 
@@ -124,7 +124,7 @@ not_primitive (inl h) = let q = h.0 in cc
 not_primitive (inr h) = h.1
 
 -- a list that is constructed is not refused as such
-list_passes : (t : ℕ) (w : List ℕ) (e : Refusal) → IsTrue (is_list t) → DerLeafRefuses true t w e → ⊥
+pub list_passes : (t : ℕ) (w : List ℕ) (e : Refusal) → IsTrue (is_list t) → DerLeafRefuses true t w e → ⊥
 list_passes t w e l r = not_primitive (chosen (is_list t) _ _ e l r.1)
 
 -- no item begins here
@@ -132,7 +132,7 @@ abbrev Stops : ℕ → List ℕ → Type 0
 Stops d r = (b rest : List ℕ) (o : Node) → r ≡ b ++ rest → DerSpells b o d → ⊥
 
 -- items in front of a list that none follows are one list of items
-joins_same : (d : ℕ) (l l' : Nodes) (u u' r r' : List ℕ) → Stops d r → Stops d r' → DerJoins u l d → DerJoins u' l' d
+pub joins_same : (d : ℕ) (l l' : Nodes) (u u' r r' : List ℕ) → Stops d r → Stops d r' → DerJoins u l d → DerJoins u' l' d
     → u ++ r ≡ u' ++ r' → (u ≡ u') × (l ≡ l') × (r ≡ r')
 joins_same d no_nodes no_nodes u u' r r' s s' j j' e = (j ∙ sym j', refl, ap (λ x. x ++ r) (sym j) ∙ e ∙ ap (λ x. x ++ r') j')
 joins_same d no_nodes (nodes o' l') u u' r r' s s' j (b', rest', q', h', j') e =
