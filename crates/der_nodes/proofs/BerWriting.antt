@@ -1,0 +1,199 @@
+-- Elements that are written one after the other, of a spelling by BER.
+use Rattle.std.proofs.Common.{◌≡◌, ℕ, zero, suc, ◌+◌, ◌-◌, ◌≤◌, Bool, true, false, IsTrue, List, [], ◌∷◌, ◌++◌, length}
+use Rattle.std.proofs.Common.{refl, sym, ap, subst, ◌∙◌, arith, append_assoc, length-append, inl, inr}
+use Rattle.std.proofs.lemmas.List.{append-nil}
+use Rattle.der_base.specs.declared.header.Class.{Class}
+use Rattle.der_base.specs.declared.header.Class.TheVariants.{Universal}
+use Rattle.der_base.specs.declared.header.Header.{Header}
+use Rattle.der_base.specs.declared.header.Length.{Length}
+use Rattle.der_base.specs.Header.{class_of, is_constructed, number_of, length_of}
+use Rattle.der_base.specs.Inner.Framed.{Spells, HasContent, JoinSpellings}
+use Rattle.der_base.specs.Leaf.{is_list, is_mapped, IsLeafContent}
+use Rattle.der_base.specs.Listing.{object_count, content_count, item_count}
+use Rattle.der_base.specs.Spelling.{Form, form, Forms, no_forms, forms, IsKept, framing_budget}
+use Rattle.der_base.specs.Tree.{Node, node, Content, sequence, set, unknown, Nodes, no_nodes, nodes}
+use Rattle.der_base.proofs.Framing.Framed.{element_more}
+use Rattle.std.proofs.lemmas.Bool.Decides.{Decides-eqb}
+use Rattle.std.proofs.Common.{◌==◌}
+use Rattle.der_base.proofs.Leaves.Always.{or_cases}
+use Rattle.der_laws.proofs.Spellings.DerFaults.{kept_unmapped}
+use Rattle.der_base.proofs.Spellings.Counted.{object_counted, sequence_counted, set_counted, items_counted}
+use Rattle.der_nodes.specs.declared.element.Element.{Element}
+use Rattle.der_nodes.specs.BerInner.{WritesSpelling, WritesElement, WritesContent, WritesItems, WritesWhole, IsLeafOrKept, is_definite}
+use Rattle.der_nodes.specs.Places.{IsElementAt, AreElementsOf, AreInContent, AreInItems, overlay}
+use Rattle.der_nodes.proofs.BerElements.{ElementAt, is_element, placed_at}
+use Rattle.der_nodes.proofs.Overlays.{overlay_none, overlay_more, overlay_front}
+
+-- how many elements there are
+mutual
+  pub elements_counted : (o : Node) (b : List ℕ) (n : ℕ) (es : List Element) → AreElementsOf b n o es → length es ≡ object_count o
+  elements_counted (node c p t x) b n es (w, e, inner, eq, at, h) =
+      omega (arith, ap length eq, content_elements x w e.content inner h, object_counted c p t x)
+
+  pub content_elements : (x : Content) (w : List ℕ) (n : ℕ) (es : List Element) → AreInContent w n x es → length es ≡ content_count x
+  content_elements (sequence l) w n es h = items_elements l w n es h ∙ sym (sequence_counted l)
+  content_elements (set l) w n es h = items_elements l w n es h ∙ sym (set_counted l)
+  content_elements _ w n es h = ap length h
+
+  pub items_elements : (l : Nodes) (w : List ℕ) (n : ℕ) (es : List Element) → AreInItems w n l es → length es ≡ item_count l
+  items_elements no_nodes w n es h = ap length h.1
+  items_elements (nodes o l) w n es (b, rest, fs, ls, ew, ee, h, k) =
+      omega (arith, ap length ee, length-append fs ls, elements_counted o b n fs h, items_elements l rest (n + length b) ls k, items_counted o l)
+
+-- one more item
+
+pub nodes_push : Nodes → Node → Nodes
+nodes_push no_nodes o = nodes o no_nodes
+nodes_push (nodes x l) o = nodes x (nodes_push l o)
+
+pub forms_push : Forms → Form → Forms
+forms_push no_forms f = forms f no_forms
+forms_push (forms x l) f = forms x (forms_push l f)
+
+joins_push : (l : Nodes) (fs : Forms) (w b : List ℕ) (o : Node) (f : Form) (d : ℕ) → JoinSpellings w l fs d → Spells b o f d
+    → JoinSpellings (w ++ b) (nodes_push l o) (forms_push fs f) d
+unfolding nodes_push forms_push
+joins_push no_nodes no_forms w b o f d e s = (b, [], ap (λ v. v ++ b) e ∙ sym (append-nil b), s, refl)
+joins_push no_nodes (forms g gs) w b o f d e s = absurd e
+joins_push (nodes x l) no_forms w b o f d e s = absurd e
+joins_push (nodes x l) (forms g gs) w b o f d (c, rest, e, r, j) s = (c, rest ++ b, ap (λ v. v ++ b) e ∙ append_assoc c rest b, r, joins_push l gs rest b o f d j s)
+
+count_push : (l : Nodes) (o : Node) → item_count (nodes_push l o) ≡ item_count l + object_count o
+unfolding nodes_push
+count_push no_nodes o = omega (arith, items_counted o no_nodes)
+count_push (nodes x l) o = omega (arith, items_counted x (nodes_push l o), items_counted x l, count_push l o)
+
+places_push : (l : Nodes) (w b : List ℕ) (o : Node) (n : ℕ) (es fs : List Element) → AreInItems w n l es → AreElementsOf b (n + length w) o fs
+    → AreInItems (w ++ b) n (nodes_push l o) (es ++ fs)
+unfolding nodes_push
+places_push no_nodes w b o n es fs (ew, ee) h =
+    let at : n + length w ≡ n = omega (arith, ap length ew) in
+    (b, [], fs, [], ap (λ v. v ++ b) ew ∙ sym (append-nil b), ap (λ v. v ++ fs) ee ∙ sym (append-nil fs), subst (λ k. AreElementsOf b k o fs) at h, (refl, refl))
+places_push (nodes x l) w b o n es fs (c, rest, xs, ls, ew, ee, hx, hl) h =
+    let at : n + length w ≡ n + length c + length rest = omega (arith, ap length ew, length-append c rest) in
+    (c, rest ++ b, xs, ls ++ fs, ap (λ v. v ++ b) ew ∙ append_assoc c rest b, ap (λ v. v ++ fs) ee ∙ append_assoc xs ls fs, hx,
+    places_push l rest b o (n + length c) ls fs hl (subst (λ k. AreElementsOf b k o fs) at h))
+
+pub no_items_written : (d a : ℕ) (old : List Element) (n : ℕ) → WritesItems d [] a old n n old
+no_items_written d a old n = record {
+  items = no_nodes; forms = no_forms; joins = refl; elements = []; places = (refl, refl); count = omega arith; written = overlay_none old n;
+}
+
+pub one_more_written : (d : ℕ) (u b : List ℕ) (a at : ℕ) (old mid new : List Element) (n m m' : ℕ) → at ≡ a + length u
+    → WritesItems d u a old n m mid → WritesSpelling b at d mid m m' new → WritesItems d (u ++ b) a old n m' new
+one_more_written d u b a at old mid new n m m' e h k =
+    let next : m ≡ n + length h.elements = omega (arith, h.count, items_elements h.items u a h.elements h.places) in
+    record {
+      items = nodes_push h.items k.object;
+      forms = forms_push h.forms k.form;
+      joins = joins_push h.items h.forms u b k.object k.form d h.joins k.spells;
+      elements = h.elements ++ k.elements;
+      places = places_push h.items u b k.object a h.elements k.elements h.places (subst (λ q. AreElementsOf b q k.object k.elements) e k.places);
+      count = omega (arith, h.count, k.count, count_push h.items k.object);
+      written = k.written ∙ ap (λ q. overlay q m k.elements) h.written ∙ ap (λ q. overlay (overlay old n h.elements) q k.elements) next
+          ∙ overlay_more old n h.elements k.elements;
+    }
+
+-- contents
+
+pub sequence_written : (c : Class) (p : Bool) (t d : ℕ) (w : List ℕ) (a : ℕ) (old : List Element) (n m : ℕ) (new : List Element) → c ≡ Universal → p ≡ true → t ≡ 16
+    → WritesItems (d - 1) w a old n m new → WritesContent c p t d w a old n m new
+sequence_written c p t d w a old n m new ec ep et h = record {
+  value = sequence h.items; forms = h.forms; content = (ec, et, ep, h.joins); elements = h.elements; places = h.places;
+  count = h.count ∙ ap (λ k. n + k) (sym (sequence_counted h.items)); written = h.written;
+}
+
+pub set_written : (c : Class) (p : Bool) (t d : ℕ) (w : List ℕ) (a : ℕ) (old : List Element) (n m : ℕ) (new : List Element) → c ≡ Universal → p ≡ true → t ≡ 17
+    → WritesItems (d - 1) w a old n m new → WritesContent c p t d w a old n m new
+set_written c p t d w a old n m new ec ep et h = record {
+  value = set h.items; forms = h.forms; content = (ec, et, ep, h.joins); elements = h.elements; places = h.places;
+  count = h.count ∙ ap (λ k. n + k) (sym (set_counted h.items)); written = h.written;
+}
+
+pub list_written : (c : Class) (p : Bool) (t d : ℕ) (w : List ℕ) (a : ℕ) (old : List Element) (n m : ℕ) (new : List Element) → c ≡ Universal → p ≡ true → IsTrue (is_list t)
+    → WritesItems (d - 1) w a old n m new → WritesContent c p t d w a old n m new
+list_written c p t d w a old n m new ec ep l h = or_cases (t == 16) (t == 17) (WritesContent c p t d w a old n m new) l
+    (λ e. sequence_written c p t d w a old n m new ec ep ((Decides-eqb t 16).0 e) h)
+    (λ e. set_written c p t d w a old n m new ec ep ((Decides-eqb t 17).0 e) h)
+
+pub list_mapped : (t : ℕ) → IsTrue (is_list t) → IsTrue (is_mapped t)
+list_mapped t l = or_cases (t == 16) (t == 17) (IsTrue (is_mapped t)) l
+    (λ e. rw ((Decides-eqb t 16).0 e) refl) (λ e. rw ((Decides-eqb t 17).0 e) refl)
+
+leaf_has : (w : List ℕ) (c : Class) (p : Bool) (t : ℕ) (x : Content) (d : ℕ) → c ≡ Universal → IsLeafContent p t w x → HasContent w c p t x no_forms d
+leaf_has w c p t (sequence l) d u k = absurd k
+leaf_has w c p t (set l) d u k = absurd k
+leaf_has w c p t _ d u k = (refl, inl (u, k))
+
+leaf_places : (p : Bool) (t : ℕ) (w v : List ℕ) (x : Content) (n : ℕ) → IsLeafContent p t w x → AreInContent v n x []
+leaf_places p t w v (sequence l) n k = absurd k
+leaf_places p t w v (set l) n k = absurd k
+leaf_places p t w v _ n k = refl
+
+pub leaf_written : (c : Class) (p : Bool) (t d : ℕ) (w : List ℕ) (a : ℕ) (old : List Element) (n : ℕ) → c ≡ Universal → (x : Content) × IsLeafContent p t w x
+    → WritesContent c p t d w a old n n old
+leaf_written c p t d w a old n u (x, k) = record {
+  value = x; forms = no_forms; content = leaf_has w c p t x d u k; elements = []; places = leaf_places p t w w x a k;
+  count = omega (arith, content_elements x w a [] (leaf_places p t w w x a k)); written = overlay_none old n;
+}
+
+pub raw_written : (c : Class) (p : Bool) (t d : ℕ) (w : List ℕ) (a : ℕ) (old : List Element) (n : ℕ) → (c ≡ Universal → is_mapped t ≡ false)
+    → WritesContent c p t d w a old n n old
+raw_written c p t d w a old n k = record {
+  value = unknown c p t w; forms = no_forms; content = (refl, inr (refl, refl, refl, refl, k)); elements = []; places = refl;
+  count = omega arith; written = overlay_none old n;
+}
+
+pub content_written : (c : Class) (p : Bool) (t d : ℕ) (w : List ℕ) (a : ℕ) (old : List Element) (n m : ℕ) → m ≡ n → IsLeafOrKept c p t w
+    → WritesContent c p t d w a old n m old
+content_written c p t d w a old n m e (x, inl (u, k)) = subst (λ y. WritesContent c p t d w a old n y old) (sym e) (leaf_written c p t d w a old n u (x, k))
+content_written c p t d w a old n m e (x, inr k) = subst (λ y. WritesContent c p t d w a old n y old) (sym e) (raw_written c p t d w a old n (λ u. kept_unmapped c p t w x k u))
+
+-- an element of a header and a content
+
+pub whole_written : (b w : List ℕ) (h : Header) (l : Length) (k d start a : ℕ) (old : List Element) (n m : ℕ) (new : List Element) → k ≤ framing_budget → 1 ≤ d
+    → ElementAt b start l (class_of h) (is_constructed h) (number_of h) w k a → WritesWhole h l d w start a old n m new
+    → WritesSpelling b start d old n m new
+whole_written b w h l k d start a old n m new le deep e (mid, q, put) =
+    let c = class_of h in
+    let p = is_constructed h in
+    let t = number_of h in
+    let j = m - n - 1 in
+    let number = content_elements q.value w a q.elements q.places in
+    let inside : length q.elements ≡ j = omega (arith, q.count, number) in
+    let one : n + 1 ≡ suc n = omega arith in
+    let element : Element = record { class = c; constructed = p; definite = is_definite l; number = t; header = start; content = a; end = a + length w; inside = j } in
+    record {
+      object = node c p t q.value;
+      form = form l q.forms;
+      spells = (deep, w, element_more framing_budget le (is_element e), q.content);
+      elements = element ∷ q.elements;
+      places = (w, element, q.elements, refl, subst (λ y. IsElementAt b start c p t w y element) (sym inside) (placed_at j e), q.places);
+      count = omega (arith, q.count, object_counted c p t q.value);
+      written = put ∙ ap (λ y. overlay y n (element ∷ [])) (q.written ∙ ap (λ y. overlay old y q.elements) one) ∙ overlay_front old n element q.elements;
+    }
+
+-- the parts of the element that is written
+pub record HasParts (e : Element) (c : Class) (p f : Bool) (t a b z k : ℕ) : Type 0 where
+  pub class : e.class ≡ c
+  pub constructed : e.constructed ≡ p
+  pub definite : e.definite ≡ f
+  pub number : e.number ≡ t
+  pub header : e.header ≡ a
+  pub content : e.content ≡ b
+  pub end : e.end ≡ z
+  pub inside : e.inside ≡ k
+
+same_parts : (e : Element) (c : Class) (p f : Bool) (t a b z k : ℕ) → HasParts e c p f t a b z k
+    → e ≡ record { class = c; constructed = p; definite = f; number = t; header = a; content = b; end = z; inside = k }
+same_parts e c p f t a b z k h =
+    let e1 = h.class in let e2 = h.constructed in let e3 = h.definite in let e4 = h.number in let e5 = h.header in let e6 = h.content in let e7 = h.end in let e8 = h.inside in
+    let s : record { class = e.class; constructed = e.constructed; definite = e.definite; number = e.number; header = e.header; content = e.content; end = e.end; inside = e.inside }
+    ≡ record { class = c; constructed = p; definite = f; number = t; header = a; content = b; end = z; inside = k } = cc in s
+
+pub whole_put : (h : Header) (l : Length) (d : ℕ) (w : List ℕ) (start a : ℕ) (old mid new : List Element) (n m : ℕ) (e : Element)
+    → WritesContent (class_of h) (is_constructed h) (number_of h) d w a old (n + 1) m mid
+    → HasParts e (class_of h) (is_constructed h) (is_definite l) (number_of h) start a (a + length w) (m - n - 1)
+    → new ≡ overlay mid n (e ∷ []) → WritesWhole h l d w start a old n m new
+whole_put h l d w start a old mid new n m e content parts put =
+    (mid, content, put ∙ ap (λ x. overlay mid n (x ∷ [])) (same_parts e (class_of h) (is_constructed h) (is_definite l) (number_of h) start a (a + length w) (m - n - 1) parts))

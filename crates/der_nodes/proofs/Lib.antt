@@ -1,0 +1,12 @@
+pub mod Overlays
+pub mod DerWriting
+pub mod NodesLaws
+pub mod DerPlaces
+pub mod LeafChecks
+pub mod DerFaultPlaces
+pub mod BerElements
+pub mod BerWriting
+pub mod BerFaultPlaces
+pub mod BerNodesLaws
+pub mod BerOnePlace
+pub mod BerPlaces

@@ -1,0 +1,49 @@
+-- What the functions of the readers of DER write and return.
+use Rattle.std.specs.Prelude.{◌≡◌, ℕ, ◌+◌, ◌-◌, Bool, false, List, ◌++◌, length, Result, MatchResult}
+use Rattle.der_base.specs.declared.header.Class.{Class}
+use Rattle.der_base.specs.Encoding.{content_octets}
+use Rattle.der_base.specs.Fault.{DerJoins}
+use Rattle.der_base.specs.declared.error.Error.{Error as BerError}
+use Rattle.der_base.specs.Leaf.{IsLeafContent, IsDerLeaf}
+use Rattle.der_base.specs.LeafRefusal.{BerLeafRefuses}
+use Rattle.der_base.specs.Refusal.{refusal}
+use Rattle.der_base.specs.Listing.{object_count, content_count, item_count}
+use Rattle.der_base.specs.Spelling.{DerSpells}
+use Rattle.der_base.specs.Tree.{Node, Content, Nodes}
+use Rattle.der_der.specs.DerReading.{IsDerContentOf}
+use Rattle.der_nodes.specs.declared.element.Element.{Element}
+use Rattle.der_nodes.specs.Places.{placed, placed_content, placed_items, overlay}
+
+-- the octets w are the content of a type
+abbrev pub IsDerLeafOf : Bool → ℕ → List ℕ → Type 0
+IsDerLeafOf p t w = (x : Content) × (p ≡ false) × IsDerLeaf t x × (w ≡ content_octets x)
+
+-- whether BER has a content of type t in the octets w, primitive or constructed
+abbrev pub ChecksLeaf : Bool → ℕ → List ℕ → Result (Unit {0}) BerError → Type 0
+ChecksLeaf p t w result =
+    MatchResult result (λ _. (x : Content) × IsLeafContent p t w x) (λ e. BerLeafRefuses p t w (refusal e))
+
+-- i, which ends at the place end, begins with the spelling of a tree, whose elements are written from the number n on
+pub record WritesDerElement (d : ℕ) (i : List ℕ) (end : ℕ) (old : List Element) (n : ℕ) (rest : List ℕ) (m : ℕ)
+    (new : List Element) : Type 0 where
+  pub object : Node
+  pub spelling : List ℕ
+  pub octets : i ≡ spelling ++ rest
+  pub spells : DerSpells spelling object d
+  pub count : m ≡ n + object_count object
+  pub written : new ≡ overlay old n (placed object (end - length i))
+
+-- the same of a content
+pub record WritesDerContent (c : Class) (p : Bool) (t d : ℕ) (w : List ℕ) (end : ℕ) (old : List Element) (n m : ℕ)
+    (new : List Element) : Type 0 where
+  pub value : Content
+  pub content : IsDerContentOf w c p t value d
+  pub count : m ≡ n + content_count value
+  pub written : new ≡ overlay old n (placed_content value (end - length w))
+
+-- and of items
+pub record WritesDerItems (d : ℕ) (w : List ℕ) (end : ℕ) (old : List Element) (n m : ℕ) (new : List Element) : Type 0 where
+  pub items : Nodes
+  pub joins : DerJoins w items d
+  pub count : m ≡ n + item_count items
+  pub written : new ≡ overlay old n (placed_items items (end - length w))

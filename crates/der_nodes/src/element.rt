@@ -1,0 +1,35 @@
+//! Elements by their places.
+ghost use Rattle.std.specs.Prelude.{◌≡◌, [], ◌∷◌};
+ghost use Rattle.der_nodes.specs.Places.{overlay};
+
+use der_base::header::Class;
+
+/// An element of an input: its identifier octets (X.690 8.1.2), where it is, and how many elements
+/// are inside it. Places are numbers of octets from the start of the input.
+#[derive(Clone, Copy, Debug, PartialEq)]
+pub struct Element {
+    pub class: Class,
+    pub constructed: bool,
+    /// Whether the length is definite (8.1.3). By DER it always is.
+    pub definite: bool,
+    /// The tag number.
+    pub number: u32,
+    /// Where the header begins.
+    pub header: usize,
+    /// Where the content octets begin.
+    pub content: usize,
+    /// Where the content octets end. After an indefinite length the end marker follows.
+    pub end: usize,
+    /// How many elements are inside, at any depth. They are the next ones in preorder.
+    pub inside: usize,
+}
+
+/// Writes an element to the buffer, if there is room.
+#[inline(always)]
+pub(crate) fn put(nodes: &mut [Element], at: usize, element: Element)
+    ensures { nodes.new ≡ overlay nodes.old at (element ∷ []) }
+{
+    if at < nodes.len() {
+        nodes[at] = element;
+    }
+}

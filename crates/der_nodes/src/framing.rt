@@ -1,0 +1,88 @@
+//! Framing that keeps the place of an error: where the content of an element ends, by BER (X.690
+//! 8.1.3). The octets inside a definite length aren't looked into.
+ghost use Rattle.std.specs.Prelude.{◌≡◌, ◌+◌, ◌-◌, ◌*◌, ◌≤◌, ◌++◌, List, ℕ, IfOk, MatchBool, length};
+ghost use Rattle.der_base.specs.declared.header.Length.{Length};
+ghost use Rattle.der_base.specs.Answer.{MatchAnswer};
+ghost use Rattle.der_base.specs.Content.{BeginsWithContent, ContentLacks};
+ghost use Rattle.der_base.specs.Spelling.{end_marker};
+ghost use Rattle.der_nodes.specs.BerInner.{FramingRefusesAt};
+ghost use Rattle.der_nodes.specs.FaultPlaces.{InsideRefusesAt};
+
+use der_base::error::{BerError, Err, IResult};
+use der_base::header::{HeaderCount, Length, ber_header_counted};
+use der_base::spans::ber_read_definite;
+
+/// Reads the content after a header of this length, before octets that end at a place of the input.
+/// Returns what follows the element, and the content octets without the end marker. Indefinite
+/// lengths, this one included, may be nested less deep than the budget.
+#[cycle(framing)]
+pub(crate) fn frame_content<'a>(
+    i: &'a [u8],
+    stated: Length,
+    end: usize,
+    budget: usize,
+    headers: &mut HeaderCount,
+    place: &mut usize,
+) -> IResult<&'a [u8], &'a [u8], BerError>
+    requires some { 1 ≤ budget }
+    requires within { length i.now ≤ end }
+    ensures found { let a = end - length i.now in MatchAnswer result
+        (λ x. BeginsWithContent i.now stated budget x.1.now x.0.now)
+        (λ e. FramingRefusesAt i.now stated a budget e place.new)
+        (ContentLacks i.now stated budget)
+        ⊥ }
+    ensures bounded { 2 * headers.new ≤ 2 * headers.old + length i.now + 2 }
+    ensures bounded_ok { IfOk result (λ x. 2 * headers.new + length x.0.now ≤ 2 * headers.old + length i.now) }
+{
+    match stated {
+        Length::Definite(size) => ber_read_definite(i, size),
+        Length::Indefinite => frame_to_end_marker(i, end, budget, headers, place),
+    }
+}
+
+/// Reads the elements before the end marker of an indefinite length. The header of each is read before
+/// the budget is looked at. The end marker needs budget too. The place is that of the element that
+/// was begun last.
+#[cycle(framing)]
+#[inline(never)]
+pub(crate) fn frame_to_end_marker<'a>(
+    i: &'a [u8],
+    end: usize,
+    budget: usize,
+    headers: &mut HeaderCount,
+    place: &mut usize,
+) -> IResult<&'a [u8], &'a [u8], BerError>
+    requires some { 1 ≤ budget }
+    requires within { length i.now ≤ end }
+    ensures found { let a = end - length i.now in MatchAnswer result
+        (λ x. BeginsWithContent i.now Length.Indefinite budget x.1.now x.0.now)
+        (λ e. InsideRefusesAt i.now a budget e place.new)
+        (ContentLacks i.now Length.Indefinite budget)
+        ⊥ }
+    ensures bounded { 2 * headers.new ≤ 2 * headers.old + length i.now + 2 }
+    ensures bounded_ok { IfOk result (λ x. 2 * headers.new + length x.0.now ≤ 2 * headers.old + length i.now) }
+{
+    let mut rest = i;
+    'elements: loop {
+        *place = end - rest.len();
+        let (behind, header) = ber_header_counted(rest, headers)?;
+        if budget == 1 {
+            return Err(Err::Error(BerError::BerMaxDepth));
+        }
+        if begins_with_end_marker(rest) {
+            return Ok((behind, &i[..i.len() - rest.len()]));
+        }
+        let (after, _) = frame_content(behind, header.length(), end, budget - 1, headers, place)?;
+        rest = after;
+    }
+}
+
+/// Whether the input begins with the two octets of an end marker (X.690 8.1.5).
+#[inline]
+pub(crate) fn begins_with_end_marker(i: &[u8]) -> bool
+    ensures { MatchBool result
+        ((rest : List ℕ) × (i.now ≡ end_marker ++ rest))
+        ((rest : List ℕ) → ¬ (i.now ≡ end_marker ++ rest)) }
+{
+    matches!(i, [0, 0, ..])
+}

@@ -1,0 +1,17 @@
+//! Reading without memory: the elements of an input by BER or DER, in preorder, each with its places,
+//! written to a buffer of the caller's.
+#![tactic(auto)]
+
+mod ber_reader;
+mod der_reader;
+mod element;
+mod framing;
+pub mod laws;
+mod leaf;
+pub mod parser;
+#[cfg(test)]
+mod tests;
+
+pub use element::Element;
+pub use parser::{check_ber, parse_ber_nodes, parse_ber_nodes_counted, parse_ber_nodes_placed};
+pub use parser::{check_der, parse_der_nodes, parse_der_nodes_placed};

@@ -1,0 +1,121 @@
+//! The public calls.
+ghost use Rattle.std.specs.Prelude.{◌≡◌, ◌+◌, ◌*◌, ◌<◌, ◌≤◌, IfOk, length};
+ghost use Rattle.der_nodes.specs.FaultPlaces.{IsBerPlace, IsDerPlace};
+ghost use Rattle.der_nodes.specs.NodesReading.{AnswersBerNodes, AnswersDerNodes, ListsBerNodes, ListsDerNodes};
+
+use crate::element::Element;
+use crate::{ber_reader, der_reader};
+use der_base::error::{BerError, IResult};
+use der_base::header::HeaderCount;
+
+/// Checks one object in DER. Returns what follows it, and how many objects it has, itself and those
+/// inside it. It is Ok, Error and Incomplete exactly as `parse_der_recursive`, and it doesn't allocate.
+///
+/// ```
+/// matches!(check_der(&[0x30, 0x03, 0x02, 0x01, 0x05], 50), Ok((&[], 2)))
+/// ```
+pub fn check_der<'a>(i: &'a [u8], max_depth: usize) -> IResult<&'a [u8], usize, BerError>
+    ensures exactly { AnswersDerNodes max_depth i.now result }
+    ensures shorter { IfOk result (λ x. length x.0.now < length i.now) }
+{
+    parse_der_nodes(i, max_depth, &mut [])
+}
+
+/// Reads one object in DER. Writes the object and those inside it to the buffer in preorder, as far
+/// as there is room. Returns what follows it, and how many objects there are, room or not: if there
+/// are more than the buffer has elements, all of these are written. It is Ok, Error and Incomplete
+/// exactly as `parse_der_recursive`, and it doesn't allocate.
+///
+/// ```
+/// let (rest, count) = parse_der_nodes(input, 50, &mut nodes)?;
+/// let whole = nodes.get(..count); // None: the buffer is too short
+/// ```
+pub fn parse_der_nodes<'a>(
+    i: &'a [u8],
+    max_depth: usize,
+    nodes: &mut [Element],
+) -> IResult<&'a [u8], usize, BerError>
+    ensures exactly { AnswersDerNodes max_depth i.now result }
+    ensures nodes { IfOk result (λ x. ListsDerNodes max_depth i.now x.0.now x.1 nodes.old nodes.new) }
+    ensures shorter { IfOk result (λ x. length x.0.now < length i.now) }
+{
+    let mut place = 0;
+    parse_der_nodes_placed(i, max_depth, nodes, &mut place)
+}
+
+/// Reads as `parse_der_nodes`, and gives the place of an Error: where the innermost element begins
+/// that shows it. The place of Incomplete is 0.
+pub fn parse_der_nodes_placed<'a>(
+    i: &'a [u8],
+    max_depth: usize,
+    nodes: &mut [Element],
+    place: &mut usize,
+) -> IResult<&'a [u8], usize, BerError>
+    ensures exactly { AnswersDerNodes max_depth i.now result }
+    ensures nodes { IfOk result (λ x. ListsDerNodes max_depth i.now x.0.now x.1 nodes.old nodes.new) }
+    ensures placed { IsDerPlace max_depth i.now result place.new }
+    ensures shorter { IfOk result (λ x. length x.0.now < length i.now) }
+{
+    der_reader::read_element(i, i.len(), max_depth, nodes, 0, place)
+}
+
+/// Checks one object in BER. Returns what follows it, and how many objects it has, itself and those
+/// inside it. It is Ok, Error and Incomplete exactly as `parse_ber_recursive`, and it doesn't allocate.
+pub fn check_ber<'a>(i: &'a [u8], max_depth: usize) -> IResult<&'a [u8], usize, BerError>
+    ensures exactly { AnswersBerNodes max_depth i.now result }
+    ensures shorter { IfOk result (λ x. length x.0.now < length i.now) }
+{
+    parse_ber_nodes(i, max_depth, &mut [])
+}
+
+/// Reads one object in BER, with lengths that are definite or indefinite (X.690 8.1.3). Writes and
+/// returns as `parse_der_nodes`. It is Ok, Error and Incomplete exactly as `parse_ber_recursive`, and
+/// it doesn't allocate.
+pub fn parse_ber_nodes<'a>(
+    i: &'a [u8],
+    max_depth: usize,
+    nodes: &mut [Element],
+) -> IResult<&'a [u8], usize, BerError>
+    ensures exactly { AnswersBerNodes max_depth i.now result }
+    ensures nodes { IfOk result (λ x. ListsBerNodes max_depth i.now x.0.now x.1 nodes.old nodes.new) }
+    ensures shorter { IfOk result (λ x. length x.0.now < length i.now) }
+{
+    let mut place = 0;
+    parse_ber_nodes_placed(i, max_depth, nodes, &mut place)
+}
+
+/// Reads as `parse_ber_nodes`, and gives the place of an Error: where the innermost element begins
+/// that shows it. The place of Incomplete is 0.
+pub fn parse_ber_nodes_placed<'a>(
+    i: &'a [u8],
+    max_depth: usize,
+    nodes: &mut [Element],
+    place: &mut usize,
+) -> IResult<&'a [u8], usize, BerError>
+    ensures exactly { AnswersBerNodes max_depth i.now result }
+    ensures nodes { IfOk result (λ x. ListsBerNodes max_depth i.now x.0.now x.1 nodes.old nodes.new) }
+    ensures placed { IsBerPlace max_depth i.now result place.new }
+    ensures shorter { IfOk result (λ x. length x.0.now < length i.now) }
+{
+    parse_ber_nodes_counted(i, max_depth, nodes, place, &mut HeaderCount::new())
+}
+
+/// Reads as `parse_ber_nodes_placed`, and raises the given count by one for each header that is read,
+/// end markers too. Where it returns an object, that is at most one for each two octets that were
+/// read; else at most one for each octet, and one more. No depth of lengths reads a header twice.
+pub fn parse_ber_nodes_counted<'a>(
+    i: &'a [u8],
+    max_depth: usize,
+    nodes: &mut [Element],
+    place: &mut usize,
+    headers: &mut HeaderCount,
+) -> IResult<&'a [u8], usize, BerError>
+    ensures exactly { AnswersBerNodes max_depth i.now result }
+    ensures nodes { IfOk result (λ x. ListsBerNodes max_depth i.now x.0.now x.1 nodes.old nodes.new) }
+    ensures placed { IsBerPlace max_depth i.now result place.new }
+    ensures shorter { IfOk result (λ x. length x.0.now < length i.now) }
+    ensures bounded { headers.new ≤ headers.old + length i.now + 1 }
+    ensures bounded_ok { IfOk result (λ x. 2 * headers.new + length x.0.now ≤ 2 * headers.old + length i.now) }
+{
+    ber_reader::read_element(i, i.len(), max_depth, nodes, 0, headers, place)
+}
