@@ -180,6 +180,10 @@ ok_values r P Q m e h = subst (λ x. MatchValues x P Q) e h
 pub refused_values : (r : Result ℕ Refused) (P : ℕ → Type 0) (Q : Refusal → ℕ → Type 0) (x : Refused) → r ≡ Err x → MatchValues r P Q → IsRefusal x.reason (λ e. Q e x.place)
 refused_values r P Q x e h = subst (λ y. MatchValues y P Q) e h
 
+pub values_if_ok : (r : Result ℕ Refused) (P H : ℕ → Type 0) (Q : Refusal → ℕ → Type 0) → MatchValues r P Q → ((m : ℕ) → P m → H m) → IfOk r H
+values_if_ok (Ok m) P H Q h f = f m h
+values_if_ok (Err x) P H Q h f = tt
+
 pub if_ok : (r : Result ℕ Refused) (P : ℕ → Type 0) (m : ℕ) → r ≡ Ok m → IfOk r P → P m
 if_ok r P m e h = subst (λ x. IfOk x P) e h
 

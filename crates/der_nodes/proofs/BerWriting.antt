@@ -151,13 +151,11 @@ content_written c p t d w a old n m e (x, inr k) = subst (λ y. WritesContent c 
 
 -- an element of a header and a content
 
-pub whole_written : (b w : List ℕ) (h : Header) (l : Length) (k d start a : ℕ) (old : List Element) (n m : ℕ) (new : List Element) → k ≤ framing_budget → 1 ≤ d
-    → ElementAt b start l (class_of h) (is_constructed h) (number_of h) w k a → WritesWhole h l d w start a old n m new
+pub spelling_written : (b w : List ℕ) (c : Class) (p : Bool) (t : ℕ) (l : Length) (k d start a : ℕ) (old mid : List Element) (n m : ℕ) (new : List Element) → k ≤ framing_budget → 1 ≤ d
+    → ElementAt b start l c p t w k a → WritesContent c p t d w a old (n + 1) m mid
+    → new ≡ overlay mid n (record { class = c; constructed = p; definite = is_definite l; number = t; header = start; content = a; end = a + length w; inside = m - n - 1 } ∷ [])
     → WritesSpelling b start d old n m new
-whole_written b w h l k d start a old n m new le deep e (mid, q, put) =
-    let c = class_of h in
-    let p = is_constructed h in
-    let t = number_of h in
+spelling_written b w c p t l k d start a old mid n m new le deep e q put =
     let j = m - n - 1 in
     let number = content_elements q.value w a q.elements q.places in
     let inside : length q.elements ≡ j = omega (arith, q.count, number) in
@@ -172,6 +170,12 @@ whole_written b w h l k d start a old n m new le deep e (mid, q, put) =
       count = omega (arith, q.count, object_counted c p t q.value);
       written = put ∙ ap (λ y. overlay y n (element ∷ [])) (q.written ∙ ap (λ y. overlay old y q.elements) one) ∙ overlay_front old n element q.elements;
     }
+
+pub whole_written : (b w : List ℕ) (h : Header) (l : Length) (k d start a : ℕ) (old : List Element) (n m : ℕ) (new : List Element) → k ≤ framing_budget → 1 ≤ d
+    → ElementAt b start l (class_of h) (is_constructed h) (number_of h) w k a → WritesWhole h l d w start a old n m new
+    → WritesSpelling b start d old n m new
+whole_written b w h l k d start a old n m new le deep e (mid, q, put) =
+    spelling_written b w (class_of h) (is_constructed h) (number_of h) l k d start a old mid n m new le deep e q put
 
 -- the parts of the element that is written
 pub record HasParts (e : Element) (c : Class) (p f : Bool) (t a b z k : ℕ) : Type 0 where

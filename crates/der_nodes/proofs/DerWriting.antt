@@ -6,7 +6,10 @@ use Rattle.der_base.specs.declared.header.Class.TheVariants.{Universal}
 use Rattle.der_base.specs.Encoding.{encoding, encodings, element, content_octets}
 use Rattle.der_base.specs.Fault.{DerJoins}
 use Rattle.der_base.specs.Headers.{BeginsWithDerHeader}
-use Rattle.der_base.specs.Leaf.{IsDerLeaf, is_mapped}
+use Rattle.der_base.specs.Leaf.{IsDerLeaf, is_list, is_mapped}
+use Rattle.std.proofs.Common.{◌==◌, IsTrue}
+use Rattle.std.proofs.lemmas.Bool.Decides.{Decides-eqb}
+use Rattle.der_base.proofs.Leaves.Always.{or_cases}
 use Rattle.der_base.specs.Listing.{object_count, content_count, item_count}
 use Rattle.der_base.specs.Octets.{identifier, shortest_length}
 use Rattle.der_base.specs.Spelling.{DerSpells, max_object_size}
@@ -83,6 +86,12 @@ set_written c p t d w end old n m new le ec ep et h =
       count = h.count ∙ ap (λ k. n + k) (sym (set_counted h.items));
       written = h.written;
     }
+
+pub list_written : (c : Class) (p : Bool) (t d : ℕ) (w : List ℕ) (end : ℕ) (old : List Element) (n m : ℕ) (new : List Element) → 1 ≤ d → c ≡ Universal → p ≡ true → IsTrue (is_list t)
+    → WritesDerItems (d - 1) w end old n m new → WritesDerContent c p t d w end old n m new
+list_written c p t d w end old n m new le ec ep l h = or_cases (t == 16) (t == 17) (WritesDerContent c p t d w end old n m new) l
+    (λ e. sequence_written c p t d w end old n m new le ec ep ((Decides-eqb t 16).0 e) h)
+    (λ e. set_written c p t d w end old n m new le ec ep ((Decides-eqb t 17).0 e) h)
 
 -- an element of a header and a content
 

@@ -1,9 +1,10 @@
 -- Contents that octets are, by BER and by DER.
-use Rattle.std.proofs.Common.{◌≡◌, ℕ, ◌<◌, ◌≤◌, Bool, true, false, not, List, [], ◌∷◌, length, Result, Ok, Err, MatchResult, refl, arith, All, inl, inr}
+use Rattle.std.proofs.Common.{◌≡◌, ℕ, ◌<◌, ◌≤◌, Bool, true, false, IsTrue, not, List, [], ◌∷◌, length, Result, Ok, Err, MatchResult, refl, arith, All, inl, inr}
 use Rattle.std.specs.Prelude.{◌==◌}
 use Rattle.der_base.specs.declared.error.Error.{Error as BerError}
 use Rattle.der_base.specs.Leaf.{is_list, is_mapped, IsLeafContent}
 use Rattle.der_base.specs.LeafRefusal.{DerLeafRefuses}
+use Rattle.der_base.specs.Text.{is_text_type, IsTextOf}
 use Rattle.der_base.specs.Refusal.{refusal}
 use Rattle.der_base.specs.Tree.{Content, end_of_content, boolean, integer, bit_string, string, null, object_identifier, relative_oid}
 use Rattle.der_base.proofs.Octets.Shortest.{IsOctet}
@@ -51,3 +52,7 @@ pub by_ber : (t : ℕ) (w : List ℕ) (r : Result (Unit {0}) BerError) → All I
     → MatchResult r (λ _. IsDerLeafOf false t w) (λ e. DerLeafRefuses false t w (refusal e))
 by_ber t w (Ok u) are mapped no_list form (x, h) = let k = form_read t w x are mapped no_list form h in (x, refl, k.0, k.1)
 by_ber t w (Err e) are mapped no_list form h = form_refused t w (refusal e) are mapped no_list form h
+
+-- a text is a content by DER
+pub text_leaf : (t : ℕ) (w : List ℕ) → IsTrue (is_text_type t) → IsTextOf t w → IsDerLeafOf false t w
+text_leaf t w h k = (string t w, refl, ((refl, inr (inr (inr (h, refl, k))), refl), tt), refl)

@@ -10,3 +10,4 @@ pub mod BerFaultPlaces
 pub mod BerNodesLaws
 pub mod BerOnePlace
 pub mod BerPlaces
+pub mod ShortLaws

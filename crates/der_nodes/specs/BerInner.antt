@@ -13,7 +13,7 @@ use Rattle.der_base.specs.declared.header.Length.TheVariants.{Definite, Indefini
 use Rattle.der_base.specs.Answer.{MatchAnswer}
 use Rattle.der_base.specs.Content.{BeginsWithContent, ContentLacks}
 use Rattle.der_base.specs.Header.{class_of, is_constructed, number_of, length_of}
-use Rattle.der_base.specs.Inner.Framed.{Spells, HasContent, JoinSpellings}
+use Rattle.der_base.specs.Inner.Framed.{AreElements, Spells, HasContent, JoinSpellings}
 use Rattle.der_base.specs.Listing.{object_count, content_count, item_count}
 use Rattle.der_base.specs.Refusal.{Refusal, refusal, max_depth}
 use Rattle.der_base.specs.Spelling.{Form, Forms}
@@ -38,6 +38,11 @@ pub record WritesSpelling (b : List ℕ) (at d : ℕ) (old : List Element) (n m 
 -- i, which ends at the place end, begins with such a spelling
 abbrev pub WritesElement : ℕ → List ℕ → ℕ → List Element → ℕ → List ℕ → ℕ → List Element → Type 0
 WritesElement d i end old n rest m new = (b : List ℕ) × (i ≡ b ++ rest)
+    × WritesSpelling b (end - length i) d old n m new
+
+-- the same of an element that is no end marker, with indefinite lengths nested below the budget k
+abbrev pub WritesFramed : ℕ → ℕ → List ℕ → ℕ → List Element → ℕ → List ℕ → ℕ → List Element → Type 0
+WritesFramed k d i end old n rest m new = (b : List ℕ) × (i ≡ b ++ rest) × AreElements b k
     × WritesSpelling b (end - length i) d old n m new
 
 -- the same of content octets

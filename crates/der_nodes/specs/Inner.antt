@@ -1,6 +1,7 @@
 -- What the functions of the readers of DER write and return.
-use Rattle.std.specs.Prelude.{◌≡◌, ℕ, ◌+◌, ◌-◌, Bool, false, List, ◌++◌, length, Result, MatchResult}
+use Rattle.std.specs.Prelude.{◌≡◌, ℕ, ◌+◌, ◌-◌, ◌<◌, ◌≤◌, Bool, true, false, List, [], ◌∷◌, ◌++◌, length, Result, MatchResult}
 use Rattle.der_base.specs.declared.header.Class.{Class}
+use Rattle.der_base.specs.declared.header.Class.TheVariants.{Universal}
 use Rattle.der_base.specs.Encoding.{content_octets}
 use Rattle.der_base.specs.Fault.{DerJoins}
 use Rattle.der_base.specs.declared.error.Error.{Error as BerError}
@@ -17,6 +18,27 @@ use Rattle.der_nodes.specs.Places.{placed, placed_content, placed_items, overlay
 -- the octets w are the content of a type
 abbrev pub IsDerLeafOf : Bool → ℕ → List ℕ → Type 0
 IsDerLeafOf p t w = (x : Content) × (p ≡ false) × IsDerLeaf t x × (w ≡ content_octets x)
+
+-- the same of a type whose number is its identifier octet
+abbrev pub IsPlainLeaf : ℕ → List ℕ → Type 0
+IsPlainLeaf t w = (1 ≤ t) × (t < 31) × IsDerLeafOf false t w
+
+-- i begins with an identifier octet and a length of one octet, the content w follows, and then rest
+abbrev pub IsShort : List ℕ → ℕ → List ℕ → List ℕ → Type 0
+IsShort i first w rest = (length w < 128) × (i ≡ first ∷ length w ∷ w ++ rest)
+
+-- the element of a universal type with a header of two octets
+abbrev pub universal_element : Bool → ℕ → ℕ → ℕ → ℕ → Element
+universal_element p t size end inside = record {
+  class = Universal;
+  constructed = p;
+  definite = true;
+  number = t;
+  header = end - size - 2;
+  content = end - size;
+  end = end;
+  inside = inside;
+}
 
 -- whether BER has a content of type t in the octets w, primitive or constructed
 abbrev pub ChecksLeaf : Bool → ℕ → List ℕ → Result (Unit {0}) BerError → Type 0

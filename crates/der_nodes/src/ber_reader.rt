@@ -1,7 +1,8 @@
 //! One element of BER and what is inside it: element, content and items call each other, a depth less
 //! at each list. The inside of an indefinite length is read once: its elements are framed and read on
 //! the way. Errors of framing come first, so the first error of a value waits until framing ends.
-ghost use Rattle.std.specs.Prelude.{◌≡◌, ◌⊎◌, ◌+◌, ◌-◌, ◌*◌, ◌<◌, ◌≤◌, ◌↔◌, ℕ, List, true, IfOk, IsTrue, length};
+ghost use Rattle.std.specs.Prelude.{◌≡◌, ◌⊎◌, ◌+◌, ◌-◌, ◌*◌, ◌^◌, ◌<◌, ◌≤◌, ◌↔◌, ℕ, List, true, IfOk, IfSome, IsTrue, length};
+ghost use Rattle.std.specs.Prelude.{MatchOption};
 ghost use Rattle.der_base.specs.declared.header.Class.{Class};
 ghost use Rattle.der_base.specs.declared.header.Length.{Length};
 ghost use Rattle.der_base.specs.Answer.{MatchAnswer};
@@ -12,15 +13,16 @@ ghost use Rattle.der_base.specs.LeafRefusal.{BerLeafRefuses};
 ghost use Rattle.der_base.specs.Spelling.{framing_budget};
 ghost use Rattle.der_base.specs.Stable.{BerIsCut};
 ghost use Rattle.der_nodes.specs.BerInner.{WritesElement, WritesContent, WritesItems, WritesWhole, MatchValues};
-ghost use Rattle.der_nodes.specs.BerInner.{FramingRefusesAt, InsideContentRefusesAt, IsLeafOrKept};
+ghost use Rattle.der_nodes.specs.BerInner.{FramingRefusesAt, InsideContentRefusesAt, IsLeafOrKept, WritesFramed};
 ghost use Rattle.der_nodes.specs.FaultPlaces.{ShowsFaultAt, ContentRefusesAt, ItemsRefuseAt, InsideRefusesAt};
 
 use crate::element::{Element, put};
 use crate::framing::{begins_with_end_marker, frame_content, frame_to_end_marker};
 use crate::leaf::check_ber_leaf;
+use crate::short::{is_list_octet, is_plain_leaf, read_short, universal_element};
 use der_base::MAX_RECURSION;
 use der_base::error::{BerError, Err, IResult, refuse_cut_item};
-use der_base::header::{Header, HeaderCount, Length, Tag, ber_header_counted};
+use der_base::header::{Header, Length, Tag, ber_read_element_header};
 use der_base::spans::ber_read_definite;
 
 /// Why a value is refused, and where.
@@ -44,10 +46,11 @@ pub(crate) fn read_element<'a>(
     max_depth: usize,
     nodes: &mut [Element],
     count: usize,
-    headers: &mut HeaderCount,
+    headers: &mut usize,
     place: &mut usize,
 ) -> IResult<&'a [u8], usize, BerError>
-    requires { count + length i.now ≤ end }
+    requires room { count + length i.now ≤ end }
+    requires fits { headers.old + length i.now < 2 ^ 64 - 1 }
     ensures found { let n = end - length i.now in MatchAnswer result
         (λ x. WritesElement max_depth i.now end nodes.old count x.0.now x.1 nodes.new)
         (λ e. ShowsFaultAt max_depth i.now n e place.new)
@@ -55,14 +58,97 @@ pub(crate) fn read_element<'a>(
         ⊥ }
     ensures shorter { IfOk result (λ x. length x.0.now < length i.now) }
     ensures within { IfOk result (λ x. x.1 + length x.0.now ≤ end) }
+    ensures counted { IfOk result (λ x. headers.old + x.1 ≤ headers.new + count) }
+    ensures bounded { headers.new ≤ headers.old + length i.now + 1 }
+    ensures bounded_ok { IfOk result (λ x. 2 * headers.new + length x.0.now ≤ 2 * headers.old + length i.now) }
+{
+    if max_depth == 0 {
+        *place = end - i.len();
+        return Err(Err::Error(BerError::BerMaxDepth));
+    }
+    if let Some(short) = read_short(i) {
+        let behind = end - short.rest.len();
+        let size = short.content.len();
+        if is_list_octet(short.first) {
+            *headers += 1;
+            let next = read_items(
+                short.content,
+                behind,
+                max_depth - 1,
+                nodes,
+                count + 1,
+                headers,
+                place,
+            )?;
+            let inside = next - count - 1;
+            put(nodes, count, universal_element(true, short.first - 32, size, behind, inside));
+            return Ok((short.rest, next));
+        }
+        if is_plain_leaf(short.first, short.content) {
+            *headers += 1;
+            put(nodes, count, universal_element(false, short.first, size, behind, 0));
+            return Ok((short.rest, count + 1));
+        }
+    }
+    read_any(i, end, max_depth, nodes, count, headers, place)
+}
+
+/// A primitive element of a header of two octets and of a content that is quick to check, where depth
+/// and budget are left. It is written to the buffer. Returns what follows it.
+#[inline(always)]
+fn read_plain<'a>(
+    i: &'a [u8],
+    end: usize,
+    budget: usize,
+    max_depth: usize,
+    nodes: &mut [Element],
+    count: usize,
+) -> Option<&'a [u8]>
+    requires bounded { budget ≤ framing_budget }
+    requires room { count + length i.now ≤ end }
+    ensures found { MatchOption result
+        (nodes.new ≡ nodes.old)
+        (λ x. (2 ≤ budget) × WritesFramed (budget - 1) max_depth i.now end nodes.old count x.now (count + 1) nodes.new) }
+    ensures shorter { IfSome result (λ x. length x.now + 2 ≤ length i.now) }
+{
+    let short = read_short(i)?;
+    if budget < 2 || max_depth == 0 || !is_plain_leaf(short.first, short.content) {
+        return None;
+    }
+    let behind = end - short.rest.len();
+    put(nodes, count, universal_element(false, short.first, short.content.len(), behind, 0));
+    Some(short.rest)
+}
+
+/// Any element at a depth of at least 1.
+#[cycle(ber_reader)]
+#[inline(never)]
+fn read_any<'a>(
+    i: &'a [u8],
+    end: usize,
+    max_depth: usize,
+    nodes: &mut [Element],
+    count: usize,
+    headers: &mut usize,
+    place: &mut usize,
+) -> IResult<&'a [u8], usize, BerError>
+    requires deep { 1 ≤ max_depth }
+    requires room { count + length i.now ≤ end }
+    requires fits { headers.old + length i.now < 2 ^ 64 - 1 }
+    ensures found { let n = end - length i.now in MatchAnswer result
+        (λ x. WritesElement max_depth i.now end nodes.old count x.0.now x.1 nodes.new)
+        (λ e. ShowsFaultAt max_depth i.now n e place.new)
+        (λ m. BerIsCut max_depth i.now m × (place.new ≡ n))
+        ⊥ }
+    ensures shorter { IfOk result (λ x. length x.0.now < length i.now) }
+    ensures within { IfOk result (λ x. x.1 + length x.0.now ≤ end) }
+    ensures counted { IfOk result (λ x. headers.old + x.1 ≤ headers.new + count) }
     ensures bounded { headers.new ≤ headers.old + length i.now + 1 }
     ensures bounded_ok { IfOk result (λ x. 2 * headers.new + length x.0.now ≤ 2 * headers.old + length i.now) }
 {
     *place = end - i.len();
-    if max_depth == 0 {
-        return Err(Err::Error(BerError::BerMaxDepth));
-    }
-    let (behind, header) = ber_header_counted(i, headers)?;
+    *headers += 1;
+    let (behind, header) = ber_read_element_header(i)?;
     match header.length() {
         Length::Definite(size) => {
             let (rest, content) = ber_read_definite(behind, size)?;
@@ -114,13 +200,14 @@ fn read_outermost<'a>(
     max_depth: usize,
     nodes: &mut [Element],
     count: usize,
-    headers: &mut HeaderCount,
+    headers: &mut usize,
     place: &mut usize,
 ) -> IResult<&'a [u8], usize, BerError>
     requires open { length_of header.now ≡ Length.Indefinite }
     requires constructed { is_constructed header.now ≡ true }
     requires deep { 1 ≤ max_depth }
     requires room { count + length behind.now + 2 ≤ end }
+    requires fits { headers.old + length behind.now < 2 ^ 64 - 1 }
     ensures found { let a = end - length behind.now in let h = header.now in MatchAnswer result
         (λ x. (w : List ℕ) × BeginsWithContent behind.now Length.Indefinite framing_budget w x.0.now
         × WritesWhole h Length.Indefinite max_depth w place.old a nodes.old count x.1 nodes.new)
@@ -130,6 +217,7 @@ fn read_outermost<'a>(
         (λ m. ContentLacks behind.now Length.Indefinite framing_budget m × (place.new ≡ place.old))
         ⊥ }
     ensures within { IfOk result (λ x. x.1 + length x.0.now ≤ end) }
+    ensures counted { IfOk result (λ x. headers.old + x.1 ≤ headers.new + count + 1) }
     ensures bounded { headers.new ≤ headers.old + length behind.now + 1 }
     ensures bounded_ok { IfOk result (λ x. 2 * headers.new + length x.0.now ≤ 2 * headers.old + length behind.now) }
 {
@@ -168,7 +256,7 @@ fn read_open<'a>(
     max_depth: usize,
     nodes: &mut [Element],
     count: usize,
-    headers: &mut HeaderCount,
+    headers: &mut usize,
     place: &mut usize,
 ) -> IResult<&'a [u8], Values, BerError>
     requires open { length_of header.now ≡ Length.Indefinite }
@@ -177,6 +265,7 @@ fn read_open<'a>(
     requires bounded { budget ≤ framing_budget }
     requires deep { 1 ≤ max_depth }
     requires room { count + length behind.now + 2 ≤ end }
+    requires fits { headers.old + length behind.now < 2 ^ 64 - 1 }
     ensures found { let a = end - length behind.now in let h = header.now in MatchAnswer result
         (λ x. (w : List ℕ) × BeginsWithContent behind.now Length.Indefinite budget w x.0.now × MatchValues x.1
         (λ m. WritesWhole h Length.Indefinite max_depth w place.old a nodes.old count m nodes.new)
@@ -185,6 +274,7 @@ fn read_open<'a>(
         (ContentLacks behind.now Length.Indefinite budget)
         ⊥ }
     ensures within { IfOk result (λ x. IfOk x.1 (λ m. m + length x.0.now ≤ end)) }
+    ensures counted { IfOk result (λ x. IfOk x.1 (λ m. headers.old + m ≤ headers.new + count + 1)) }
     ensures bounded { headers.new ≤ headers.old + length behind.now + 1 }
     ensures bounded_framed { IfOk result (λ x. headers.new + length x.0.now ≤ headers.old + length behind.now) }
     ensures bounded_ok { IfOk result (λ x. IfOk x.1 (λ _.
@@ -233,7 +323,7 @@ fn read_open_content<'a>(
     max_depth: usize,
     nodes: &mut [Element],
     count: usize,
-    headers: &mut HeaderCount,
+    headers: &mut usize,
     place: &mut usize,
 ) -> IResult<&'a [u8], Values, BerError>
     requires constructed { is_constructed header.now ≡ true }
@@ -241,6 +331,7 @@ fn read_open_content<'a>(
     requires bounded { budget ≤ framing_budget }
     requires deep { 1 ≤ max_depth }
     requires room { count + length behind.now ≤ end }
+    requires fits { headers.old + length behind.now < 2 ^ 64 - 1 }
     ensures found { let a = end - length behind.now in let h = header.now in MatchAnswer result
         (λ x. (w : List ℕ) × BeginsWithContent behind.now Length.Indefinite budget w x.0.now × MatchValues x.1
         (λ m. WritesContent (class_of h) (is_constructed h) (number_of h) max_depth w a nodes.old count m nodes.new)
@@ -249,6 +340,7 @@ fn read_open_content<'a>(
         (ContentLacks behind.now Length.Indefinite budget)
         ⊥ }
     ensures within { IfOk result (λ x. IfOk x.1 (λ m. (count ≤ m) × (m + length x.0.now + 2 ≤ end))) }
+    ensures counted { IfOk result (λ x. IfOk x.1 (λ m. headers.old + m ≤ headers.new + count)) }
     ensures bounded { headers.new ≤ headers.old + length behind.now + 1 }
     ensures bounded_framed { IfOk result (λ x. headers.new + length x.0.now ≤ headers.old + length behind.now) }
     ensures bounded_ok { IfOk result (λ x. IfOk x.1 (λ _.
@@ -315,12 +407,13 @@ fn read_to_end_marker<'a>(
     max_depth: usize,
     nodes: &mut [Element],
     count: usize,
-    headers: &mut HeaderCount,
+    headers: &mut usize,
     place: &mut usize,
 ) -> IResult<&'a [u8], Values, BerError>
     requires some { 1 ≤ budget }
     requires bounded { budget ≤ framing_budget }
     requires room { count + length i.now ≤ end }
+    requires fits { headers.old + length i.now < 2 ^ 64 - 1 }
     ensures found { let a = end - length i.now in MatchAnswer result
         (λ x. (w : List ℕ) × BeginsWithContent i.now Length.Indefinite budget w x.0.now × MatchValues x.1
         (λ m. WritesItems max_depth w a nodes.old count m nodes.new)
@@ -329,6 +422,7 @@ fn read_to_end_marker<'a>(
         (ContentLacks i.now Length.Indefinite budget)
         ⊥ }
     ensures within { IfOk result (λ x. IfOk x.1 (λ m. (count ≤ m) × (m + length x.0.now + 2 ≤ end))) }
+    ensures counted { IfOk result (λ x. IfOk x.1 (λ m. headers.old + m ≤ headers.new + count)) }
     ensures bounded { headers.new ≤ headers.old + length i.now + 1 }
     ensures bounded_framed { IfOk result (λ x. headers.new + length x.0.now ≤ headers.old + length i.now) }
     ensures bounded_ok { IfOk result (λ x. IfOk x.1 (λ _.
@@ -337,8 +431,15 @@ fn read_to_end_marker<'a>(
     let mut next = count;
     let mut rest = i;
     'elements: loop {
+        if let Some(after) = read_plain(rest, end, budget, max_depth, nodes, next) {
+            *headers += 1;
+            next += 1;
+            rest = after;
+            continue;
+        }
         *place = end - rest.len();
-        let (behind, header) = ber_header_counted(rest, headers)?;
+        *headers += 1;
+        let (behind, header) = ber_read_element_header(rest)?;
         if budget == 1 {
             return Err(Err::Error(BerError::BerMaxDepth));
         }
@@ -380,13 +481,14 @@ fn read_inside<'a>(
     max_depth: usize,
     nodes: &mut [Element],
     count: usize,
-    headers: &mut HeaderCount,
+    headers: &mut usize,
     place: &mut usize,
 ) -> IResult<&'a [u8], Values, BerError>
     requires constructed { length_of header.now ≡ Length.Indefinite → is_constructed header.now ≡ true }
     requires some { 1 ≤ budget }
     requires bounded { budget ≤ framing_budget }
     requires room { count + length behind.now + 2 ≤ end }
+    requires fits { headers.old + length behind.now < 2 ^ 64 - 1 }
     ensures found { let a = end - length behind.now in let h = header.now in let l = length_of h in MatchAnswer result
         (λ x. (w : List ℕ) × BeginsWithContent behind.now l budget w x.0.now × MatchValues x.1
         (λ m. (1 ≤ max_depth) × WritesWhole h l max_depth w place.old a nodes.old count m nodes.new)
@@ -395,6 +497,7 @@ fn read_inside<'a>(
         (ContentLacks behind.now l budget)
         ⊥ }
     ensures within { IfOk result (λ x. IfOk x.1 (λ m. (count < m) × (m + length x.0.now ≤ end))) }
+    ensures counted { IfOk result (λ x. IfOk x.1 (λ m. headers.old + m ≤ headers.new + count + 1)) }
     ensures bounded { headers.new ≤ headers.old + length behind.now + 1 }
     ensures bounded_framed { IfOk result (λ x. headers.new + length x.0.now ≤ headers.old + length behind.now + 1) }
     ensures bounded_ok { IfOk result (λ x. IfOk x.1 (λ _.
@@ -449,16 +552,18 @@ fn read_value(
     max_depth: usize,
     nodes: &mut [Element],
     count: usize,
-    headers: &mut HeaderCount,
+    headers: &mut usize,
     place: &mut usize,
 ) -> Values
     requires deep { 1 ≤ max_depth }
     requires room { count + length content.now + 2 ≤ end }
+    requires fits { headers.old + length content.now < 2 ^ 64 - 1 }
     ensures found { let a = end - length content.now in let h = header.now in MatchValues result
         (λ m. WritesWhole h (Length.Definite (length content.now)) max_depth content.now place.old a nodes.old count m
         nodes.new)
         (λ e q. ContentRefusesAt (class_of h) (is_constructed h) (number_of h) content.now max_depth place.old a e q) }
     ensures within { IfOk result (λ m. (count < m) × (m ≤ end)) }
+    ensures counted { IfOk result (λ m. headers.old + m ≤ headers.new + count + 1) }
     ensures bounded { headers.new ≤ headers.old + length content.now + 1 }
     ensures bounded_ok { IfOk result (λ _. 2 * headers.new ≤ 2 * headers.old + length content.now) }
 {
@@ -504,11 +609,12 @@ fn read_content(
     max_depth: usize,
     nodes: &mut [Element],
     count: usize,
-    headers: &mut HeaderCount,
+    headers: &mut usize,
     place: &mut usize,
 ) -> Result<usize, Err<BerError>>
     requires deep { 1 ≤ max_depth }
     requires room { count + length octets.now ≤ end }
+    requires fits { headers.old + length octets.now < 2 ^ 64 - 1 }
     ensures found { let a = end - length octets.now in let h = header.now in MatchAnswer result
         (λ m. WritesContent (class_of h) (is_constructed h) (number_of h) max_depth octets.now a nodes.old count m
         nodes.new)
@@ -516,6 +622,7 @@ fn read_content(
         (λ _. ⊥)
         ⊥ }
     ensures within { IfOk result (λ m. (count ≤ m) × (m ≤ end)) }
+    ensures counted { IfOk result (λ m. headers.old + m ≤ headers.new + count) }
     ensures bounded { headers.new ≤ headers.old + length octets.now + 1 }
     ensures bounded_ok { IfOk result (λ _. 2 * headers.new ≤ 2 * headers.old + length octets.now) }
 {
@@ -546,16 +653,18 @@ fn read_items(
     max_depth: usize,
     nodes: &mut [Element],
     count: usize,
-    headers: &mut HeaderCount,
+    headers: &mut usize,
     place: &mut usize,
 ) -> Result<usize, Err<BerError>>
-    requires { count + length content.now ≤ end }
+    requires room { count + length content.now ≤ end }
+    requires fits { headers.old + length content.now < 2 ^ 64 - 1 }
     ensures found { let a = end - length content.now in MatchAnswer result
         (λ m. WritesItems max_depth content.now a nodes.old count m nodes.new)
         (λ e. ItemsRefuseAt content.now max_depth a e place.new)
         (λ _. ⊥)
         ⊥ }
     ensures within { IfOk result (λ m. (count ≤ m) × (m ≤ end)) }
+    ensures counted { IfOk result (λ m. headers.old + m ≤ headers.new + count) }
     ensures bounded { headers.new ≤ headers.old + length content.now + 1 }
     ensures bounded_ok { IfOk result (λ _. 2 * headers.new ≤ 2 * headers.old + length content.now) }
 {

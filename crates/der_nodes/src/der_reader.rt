@@ -1,6 +1,6 @@
 //! One element of DER and what is inside it: element, content and items call each other, a depth
 //! less at each list.
-ghost use Rattle.std.specs.Prelude.{◌≡◌, ◌≢◌, ◌+◌, ◌-◌, ◌<◌, ◌≤◌, [], ◌∷◌, IfOk, length};
+ghost use Rattle.std.specs.Prelude.{◌≡◌, ◌≢◌, ◌+◌, ◌-◌, ◌<◌, ◌≤◌, IfOk, length};
 ghost use Rattle.der_base.specs.declared.header.Class.{Class};
 ghost use Rattle.der_base.specs.Answer.{MatchAnswer};
 ghost use Rattle.der_base.specs.Header.{class_of, is_constructed, number_of};
@@ -10,6 +10,7 @@ ghost use Rattle.der_nodes.specs.Inner.{WritesDerElement, WritesDerContent, Writ
 
 use crate::element::{Element, put};
 use crate::leaf::check_der_leaf;
+use crate::short::{is_list_octet, is_plain_leaf, read_short, universal_element};
 use der_base::MAX_OBJECT_SIZE;
 use der_base::error::{BerError, Err, IResult, Needed, refuse_cut_item};
 use der_base::header::{Header, Tag, der_read_element_header};
@@ -19,7 +20,7 @@ use der_base::header::{Header, Tag, der_read_element_header};
 /// number behind them. The place is that of the element that was begun last.
 #[cycle(der_reader)]
 #[inline(always)]
-pub fn read_element<'a>(
+pub(crate) fn read_element<'a>(
     i: &'a [u8],
     end: usize,
     max_depth: usize,
@@ -36,10 +37,49 @@ pub fn read_element<'a>(
     ensures shorter { IfOk result (λ x. length x.0.now < length i.now) }
     ensures within { IfOk result (λ x. x.1 + length x.0.now ≤ end) }
 {
-    *place = end - i.len();
     if max_depth == 0 {
+        *place = end - i.len();
         return Err(Err::Error(BerError::BerMaxDepth));
     }
+    if let Some(short) = read_short(i) {
+        let behind = end - short.rest.len();
+        let size = short.content.len();
+        if is_list_octet(short.first) {
+            let next = read_items(short.content, behind, max_depth - 1, nodes, count + 1, place)?;
+            let inside = next - count - 1;
+            put(nodes, count, universal_element(true, short.first - 32, size, behind, inside));
+            return Ok((short.rest, next));
+        }
+        if is_plain_leaf(short.first, short.content) {
+            put(nodes, count, universal_element(false, short.first, size, behind, 0));
+            return Ok((short.rest, count + 1));
+        }
+    }
+    read_any(i, end, max_depth, nodes, count, place)
+}
+
+/// Any element at a depth of at least 1.
+#[cycle(der_reader)]
+#[inline(never)]
+fn read_any<'a>(
+    i: &'a [u8],
+    end: usize,
+    max_depth: usize,
+    nodes: &mut [Element],
+    count: usize,
+    place: &mut usize,
+) -> IResult<&'a [u8], usize, BerError>
+    requires deep { 1 ≤ max_depth }
+    requires room { count + length i.now ≤ end }
+    ensures found { let n = end - length i.now in MatchAnswer result
+        (λ x. WritesDerElement max_depth i.now end nodes.old count x.0.now x.1 nodes.new)
+        (λ e. DerShowsFaultAt max_depth i.now n e place.new)
+        (λ m. DerIsCut max_depth i.now m × (place.new ≡ n))
+        ⊥ }
+    ensures shorter { IfOk result (λ x. length x.0.now < length i.now) }
+    ensures within { IfOk result (λ x. x.1 + length x.0.now ≤ end) }
+{
+    *place = end - i.len();
     let (rest, header) = der_read_element_header(i)?;
     let length = header.length().definite()?;
     if length > MAX_OBJECT_SIZE {

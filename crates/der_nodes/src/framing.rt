@@ -1,6 +1,6 @@
 //! Framing that keeps the place of an error: where the content of an element ends, by BER (X.690
 //! 8.1.3). The octets inside a definite length aren't looked into.
-ghost use Rattle.std.specs.Prelude.{◌≡◌, ◌+◌, ◌-◌, ◌*◌, ◌≤◌, ◌++◌, List, ℕ, IfOk, MatchBool, length};
+ghost use Rattle.std.specs.Prelude.{◌≡◌, ◌+◌, ◌-◌, ◌*◌, ◌^◌, ◌<◌, ◌≤◌, ◌++◌, List, ℕ, IfOk, MatchBool, length};
 ghost use Rattle.der_base.specs.declared.header.Length.{Length};
 ghost use Rattle.der_base.specs.Answer.{MatchAnswer};
 ghost use Rattle.der_base.specs.Content.{BeginsWithContent, ContentLacks};
@@ -9,7 +9,7 @@ ghost use Rattle.der_nodes.specs.BerInner.{FramingRefusesAt};
 ghost use Rattle.der_nodes.specs.FaultPlaces.{InsideRefusesAt};
 
 use der_base::error::{BerError, Err, IResult};
-use der_base::header::{HeaderCount, Length, ber_header_counted};
+use der_base::header::{Length, ber_read_element_header};
 use der_base::spans::ber_read_definite;
 
 /// Reads the content after a header of this length, before octets that end at a place of the input.
@@ -21,16 +21,18 @@ pub(crate) fn frame_content<'a>(
     stated: Length,
     end: usize,
     budget: usize,
-    headers: &mut HeaderCount,
+    headers: &mut usize,
     place: &mut usize,
 ) -> IResult<&'a [u8], &'a [u8], BerError>
     requires some { 1 ≤ budget }
     requires within { length i.now ≤ end }
+    requires fits { headers.old + length i.now < 2 ^ 64 - 1 }
     ensures found { let a = end - length i.now in MatchAnswer result
         (λ x. BeginsWithContent i.now stated budget x.1.now x.0.now)
         (λ e. FramingRefusesAt i.now stated a budget e place.new)
         (ContentLacks i.now stated budget)
         ⊥ }
+    ensures counted { headers.old ≤ headers.new }
     ensures bounded { 2 * headers.new ≤ 2 * headers.old + length i.now + 2 }
     ensures bounded_ok { IfOk result (λ x. 2 * headers.new + length x.0.now ≤ 2 * headers.old + length i.now) }
 {
@@ -49,23 +51,26 @@ pub(crate) fn frame_to_end_marker<'a>(
     i: &'a [u8],
     end: usize,
     budget: usize,
-    headers: &mut HeaderCount,
+    headers: &mut usize,
     place: &mut usize,
 ) -> IResult<&'a [u8], &'a [u8], BerError>
     requires some { 1 ≤ budget }
     requires within { length i.now ≤ end }
+    requires fits { headers.old + length i.now < 2 ^ 64 - 1 }
     ensures found { let a = end - length i.now in MatchAnswer result
         (λ x. BeginsWithContent i.now Length.Indefinite budget x.1.now x.0.now)
         (λ e. InsideRefusesAt i.now a budget e place.new)
         (ContentLacks i.now Length.Indefinite budget)
         ⊥ }
+    ensures counted { headers.old ≤ headers.new }
     ensures bounded { 2 * headers.new ≤ 2 * headers.old + length i.now + 2 }
     ensures bounded_ok { IfOk result (λ x. 2 * headers.new + length x.0.now ≤ 2 * headers.old + length i.now) }
 {
     let mut rest = i;
     'elements: loop {
         *place = end - rest.len();
-        let (behind, header) = ber_header_counted(rest, headers)?;
+        *headers += 1;
+        let (behind, header) = ber_read_element_header(rest)?;
         if budget == 1 {
             return Err(Err::Error(BerError::BerMaxDepth));
         }

@@ -37,7 +37,7 @@ pub(crate) fn check_der_leaf(constructed: bool, tag: Tag, content: &[u8]) -> Res
 
 /// A UTCTime or a GeneralizedTime, as DER writes it (11.7, 11.8).
 #[inline(never)]
-fn check_time(tag: Tag, content: &[u8]) -> Result<(), BerError>
+pub(crate) fn check_time(tag: Tag, content: &[u8]) -> Result<(), BerError>
     requires { IsTrue (is_time tag.0) }
     ensures { MatchResult result
         (λ _. IsDerLeafOf false tag.0 content.now)

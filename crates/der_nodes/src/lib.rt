@@ -9,6 +9,7 @@ mod framing;
 pub mod laws;
 mod leaf;
 pub mod parser;
+mod short;
 #[cfg(test)]
 mod tests;
 

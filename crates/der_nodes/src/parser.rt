@@ -6,7 +6,6 @@ ghost use Rattle.der_nodes.specs.NodesReading.{AnswersBerNodes, AnswersDerNodes,
 use crate::element::Element;
 use crate::{ber_reader, der_reader};
 use der_base::error::{BerError, IResult};
-use der_base::header::HeaderCount;
 
 /// Checks one object in DER. Returns what follows it, and how many objects it has, itself and those
 /// inside it. It is Ok, Error and Incomplete exactly as `parse_der_recursive`, and it doesn't allocate.
@@ -97,25 +96,27 @@ pub fn parse_ber_nodes_placed<'a>(
     ensures placed { IsBerPlace max_depth i.now result place.new }
     ensures shorter { IfOk result (λ x. length x.0.now < length i.now) }
 {
-    parse_ber_nodes_counted(i, max_depth, nodes, place, &mut HeaderCount::new())
+    parse_ber_nodes_counted(i, max_depth, nodes, place, &mut 0)
 }
 
-/// Reads as `parse_ber_nodes_placed`, and raises the given count by one for each header that is read,
-/// end markers too. Where it returns an object, that is at most one for each two octets that were
-/// read; else at most one for each octet, and one more. No depth of lengths reads a header twice.
+/// Reads as `parse_ber_nodes_placed`, and counts the headers that it reads, end markers too. Where it
+/// returns an object, there is one for each element at least, and one for each two octets that were
+/// read at most, however lengths are nested; else one for each octet at most, and one more.
 pub fn parse_ber_nodes_counted<'a>(
     i: &'a [u8],
     max_depth: usize,
     nodes: &mut [Element],
     place: &mut usize,
-    headers: &mut HeaderCount,
+    headers: &mut usize,
 ) -> IResult<&'a [u8], usize, BerError>
     ensures exactly { AnswersBerNodes max_depth i.now result }
     ensures nodes { IfOk result (λ x. ListsBerNodes max_depth i.now x.0.now x.1 nodes.old nodes.new) }
     ensures placed { IsBerPlace max_depth i.now result place.new }
     ensures shorter { IfOk result (λ x. length x.0.now < length i.now) }
-    ensures bounded { headers.new ≤ headers.old + length i.now + 1 }
-    ensures bounded_ok { IfOk result (λ x. 2 * headers.new + length x.0.now ≤ 2 * headers.old + length i.now) }
+    ensures counted { IfOk result (λ x. x.1 ≤ headers.new) }
+    ensures bounded { headers.new ≤ length i.now + 1 }
+    ensures bounded_ok { IfOk result (λ x. 2 * headers.new + length x.0.now ≤ length i.now) }
 {
+    *headers = 0;
     ber_reader::read_element(i, i.len(), max_depth, nodes, 0, headers, place)
 }

@@ -18,11 +18,12 @@ use Rattle.der_base.proofs.Framing.EndMarkerLoop.{ends_here}
 use Rattle.der_base.proofs.Framing.FramingAny.{any_lacks_header, any_lacks_content}
 use Rattle.der_base.proofs.Framing.FramingLists.{header_takes_two}
 use Rattle.der_ber.proofs.Items.{any_cut}
-use Rattle.der_nodes.specs.BerInner.{WritesContent, WritesWhole, is_definite}
+use Rattle.der_nodes.specs.BerInner.{WritesContent, WritesItems, WritesWhole, is_definite}
+use Rattle.der_nodes.proofs.ShortLaws.{IsListOctet, framed_element, ber_plain_written, ber_list_written, ber_list_refused}
 use Rattle.der_nodes.specs.FaultPlaces.{ContentRefusesAt}
 use Rattle.der_nodes.proofs.BerElements.{element_at, begins_at, open_constructed}
 use Rattle.der_nodes.proofs.BerFaultPlaces.{header_refused_at, framing_refused_at, content_refused_at, item_refused_at, items_refuse_at, values_answered}
-use Rattle.der_nodes.proofs.BerFaultPlaces.{ok_values, refused_values, if_ok, refusal_answered}
+use Rattle.der_nodes.proofs.BerFaultPlaces.{ok_values, refused_values, if_ok, values_if_ok, refusal_answered}
 use Rattle.der_nodes.proofs.BerFaultPlaces.{header_answered_at, no_budget_at, content_answered_at, framing_behind, framed_refused}
 use Rattle.der_nodes.proofs.BerElements.{is_element, one_more_element, no_marker, regroup, element_some}
 use Rattle.der_base.specs.Inner.Framed.{elements}
@@ -33,25 +34,51 @@ use Rattle.der_nodes.proofs.BerWriting.{no_items_written, one_more_written, sequ
 use Rattle.der_nodes.proofs.BerWriting.{list_written, list_mapped, content_written}
 use Rattle.der_nodes.proofs.ber_reader.+ber_reader.Goals as goal
 
+-- a short element
+
+pub read_element-returns-in_err-next-clause-found : goal.read_element-returns-in_err-next-clause-found
+read_element-returns-in_err-next-clause-found t c =
+    let short = c.in-Some.short in
+    let is : IsListOctet short.first = search rules in
+    let p = err_from_is_err_and c.from_residual.result c.from_residual.ensures.1 in
+    rw (p.1, p.2) (passed_on _ _ c.in_err-next.field-0.0 c.in_err-next.ensures.found
+    (λ e q. ber_list_refused c.args.max_depth c.args.i.now short.content.now short.rest.now short.first c.args.end e _ (omega arith) (omega (arith, c.requires.room)) c.in-Some.ensures is q)
+    (λ m q. absurd q) (λ m. m))
+
+pub read_element-returns-then-is_list_octet-clause-found : goal.read_element-returns-then-is_list_octet-clause-found
+read_element-returns-then-is_list_octet-clause-found t c =
+    let short = c.in-Some.short in
+    let is : IsListOctet short.first = search rules in
+    ber_list_written c.args.max_depth c.args.i.now short.content.now short.rest.now short.first c.args.end c.args.count c.in_ok-next.next c.args.nodes.now c.read_items.new.nodes c.put.new.nodes
+    (omega arith) c.requires.room c.in-Some.ensures is c.in_ok-next.ensures.found (rw (← c.universal_element.ensures) c.put.ensures)
+
+pub read_element-returns-then-is_plain_leaf-clause-found : goal.read_element-returns-then-is_plain_leaf-clause-found
+read_element-returns-then-is_plain_leaf-clause-found t c =
+    let short = c.in-Some.short in
+    let is : IsTrue c.is_plain_leaf.result = search rules in
+    framed_element framing_budget c.args.max_depth c.args.i.now c.args.end c.args.nodes.now c.args.count short.rest.now (c.args.count + 1) c.put-then-is_plain_leaf.new.nodes
+    (ber_plain_written framing_budget c.args.max_depth c.args.i.now short.content.now short.rest.now short.first c.args.end c.args.count c.args.nodes.now c.put-then-is_plain_leaf.new.nodes
+    (omega arith) (omega arith) (omega arith) c.requires.room c.in-Some.ensures (c.is_plain_leaf.ensures is) (rw (← c.universal_element-then-is_plain_leaf.ensures) c.put-then-is_plain_leaf.ensures))
+
 -- an element
 
-pub read_element-returns-in_err-behind-clause-found : goal.read_element-returns-in_err-behind-clause-found
-read_element-returns-in_err-behind-clause-found t c =
+pub read_any-returns-in_err-behind-clause-found : goal.read_any-returns-in_err-behind-clause-found
+read_any-returns-in_err-behind-clause-found t c =
     let i = c.args.i.now in
     let d = c.args.max_depth in
     let deep : 1 ≤ d = omega arith in
     let p = err_from_is_err_and c.from_residual.result c.from_residual.ensures.1 in
-    rw (p.1, p.2) (passed_on _ _ c.in_err-behind.field-0.0 c.in_err-behind.ensures.exactly.found
+    rw (p.1, p.2) (passed_on _ _ c.in_err-behind.field-0.0 c.in_err-behind.ensures.found
     (λ e h. header_refused_at d i (c.args.end - length i) e deep h)
     (λ n h. (any_cut d i n deep (any_lacks_header i n h), refl)) (λ m. absurd m))
 
-pub read_element-returns-in_err-rest-in-Definite-clause-found : goal.read_element-returns-in_err-rest-in-Definite-clause-found
-read_element-returns-in_err-rest-in-Definite-clause-found t c =
+pub read_any-returns-in_err-rest-in-Definite-clause-found : goal.read_any-returns-in_err-rest-in-Definite-clause-found
+read_any-returns-in_err-rest-in-Definite-clause-found t c =
     let i = c.args.i.now in
     let d = c.args.max_depth in
     let behind = c.in_ok-behind.behind.now in
     let h = c.in_ok-behind.header in
-    let q = c.in_ok-behind.ensures.exactly.found in
+    let q = c.in_ok-behind.ensures.found in
     let deep : 1 ≤ d = omega arith in
     let l : length_of h ≡ Definite c.in-Definite.size = sym c.length.ensures ∙ c.in-Definite.is in
     let p = err_from_is_err_and c.from_residual-in_err-rest-in-Definite.result
@@ -62,14 +89,14 @@ read_element-returns-in_err-rest-in-Definite-clause-found t c =
     (subst (λ v. ContentLacks behind v framing_budget n) (sym l) r)), refl))
     (λ m. absurd m))
 
-pub read_element-returns-in_err-next-in-Definite-clause-found : goal.read_element-returns-in_err-next-in-Definite-clause-found
-read_element-returns-in_err-next-in-Definite-clause-found t c =
+pub read_any-returns-in_err-next-in-Definite-clause-found : goal.read_any-returns-in_err-next-in-Definite-clause-found
+read_any-returns-in_err-next-in-Definite-clause-found t c =
     let i = c.args.i.now in
     let d = c.args.max_depth in
     let end = c.args.end in
     let behind = c.in_ok-behind.behind.now in
     let h = c.in_ok-behind.header in
-    let q = c.in_ok-behind.ensures.exactly.found in
+    let q = c.in_ok-behind.ensures.found in
     let w = c.in_ok-rest-in-Definite.content.now in
     let rest = c.in_ok-rest-in-Definite.rest.now in
     let deep : 1 ≤ d = omega arith in
@@ -77,10 +104,10 @@ read_element-returns-in_err-next-in-Definite-clause-found t c =
     let f : BeginsWithContent behind (length_of h) framing_budget w rest =
     subst (λ v. BeginsWithContent behind v framing_budget w rest) (sym l) c.in_ok-rest-in-Definite.ensures in
     let e = element_at i behind w rest (class_of h) (is_constructed h) (number_of h) (length_of h) framing_budget end (omega arith)
-    (omega (arith, c.requires)) q.begins f in
+    (omega (arith, c.requires.room)) q.begins f in
     let two = header_takes_two _ _ _ _ _ _ q.begins in
     let at : end - length rest - length w ≡ end - length behind =
-    omega (arith, c.requires, two, ap length c.in_ok-rest-in-Definite.ensures.1, length-append w rest) in
+    omega (arith, c.requires.room, two, ap length c.in_ok-rest-in-Definite.ensures.1, length-append w rest) in
     let p = err_from_is_err_and c.from_residual-in_err-next-in-Definite.result
     c.from_residual-in_err-next-in-Definite.ensures.1 in
     rw (p.1, p.2) (passed_on _ _ c.in_err-next-in-Definite.field-0.0 c.in_err-next-in-Definite.ensures.found
@@ -88,23 +115,23 @@ read_element-returns-in_err-next-in-Definite-clause-found t c =
     (begins_at i rest e.2 e.1) at r)
     (λ m r. absurd r) (λ m. m))
 
-pub read_element-read_outermost-requires : goal.read_element-read_outermost-requires
-read_element-read_outermost-requires t c =
+pub read_any-read_outermost-requires : goal.read_any-read_outermost-requires
+read_any-read_outermost-requires t c =
     let h = c.in_ok-behind.header in
-    let q = c.in_ok-behind.ensures.exactly.found in
+    let q = c.in_ok-behind.ensures.found in
     let l : length_of h ≡ Indefinite = sym c.length.ensures ∙ c.in-Indefinite.is in
     let two = header_takes_two _ _ _ _ _ _ q.begins in
-    (omega arith, (l, (open_constructed _ _ _ _ _ _ l q.begins, (omega arith, omega (arith, c.requires, two)))))
+    (omega arith, (l, (open_constructed _ _ _ _ _ _ l q.begins, (omega arith, omega (arith, c.requires.room, two)))))
 
-pub read_element-returns-in_ok-next-in-Definite-clause-found : goal.read_element-returns-in_ok-next-in-Definite-clause-found
-read_element-returns-in_ok-next-in-Definite-clause-found t c =
+pub read_any-returns-in_ok-next-in-Definite-clause-found : goal.read_any-returns-in_ok-next-in-Definite-clause-found
+read_any-returns-in_ok-next-in-Definite-clause-found t c =
     let i = c.args.i.now in
     let d = c.args.max_depth in
     let end = c.args.end in
     let n = c.args.count in
     let behind = c.in_ok-behind.behind.now in
     let h = c.in_ok-behind.header in
-    let q = c.in_ok-behind.ensures.exactly.found in
+    let q = c.in_ok-behind.ensures.found in
     let w = c.in_ok-rest-in-Definite.content.now in
     let rest = c.in_ok-rest-in-Definite.rest.now in
     let m = c.in_ok-next-in-Definite.next in
@@ -113,11 +140,11 @@ read_element-returns-in_ok-next-in-Definite-clause-found t c =
     let f : BeginsWithContent behind (length_of h) framing_budget w rest =
     subst (λ v. BeginsWithContent behind v framing_budget w rest) (sym l) c.in_ok-rest-in-Definite.ensures in
     let e = element_at i behind w rest (class_of h) (is_constructed h) (number_of h) (length_of h) framing_budget end (omega arith)
-    (omega (arith, c.requires)) q.begins f in
+    (omega (arith, c.requires.room)) q.begins f in
     let two = header_takes_two _ _ _ _ _ _ q.begins in
     let whole = ap length c.in_ok-rest-in-Definite.ensures.1 in
-    let at : end - length rest - length w ≡ end - length behind = omega (arith, c.requires, two, whole, length-append w rest) in
-    let ends : end - length rest ≡ (end - length behind) + length w = omega (arith, c.requires, two, whole, length-append w rest) in
+    let at : end - length rest - length w ≡ end - length behind = omega (arith, c.requires.room, two, whole, length-append w rest) in
+    let ends : end - length rest ≡ (end - length behind) + length w = omega (arith, c.requires.room, two, whole, length-append w rest) in
     let content = subst (λ z. WritesContent (class_of h) (is_constructed h) (number_of h) d w z c.args.nodes.now (n + 1) m c.read_content.new.nodes) at
     c.in_ok-next-in-Definite.ensures.found in
     (e.0, e.2, whole_written e.0 w h (length_of h) framing_budget d (end - length i) (end - length behind) c.args.nodes.now n m _ (omega arith) deep e.1
@@ -133,21 +160,21 @@ read_element-returns-in_ok-next-in-Definite-clause-found t c =
       inside = refl;
     }) c.put.ensures))
 
-pub read_element-returns-in_ok-next-in-Definite-clause-bounded_ok : goal.read_element-returns-in_ok-next-in-Definite-clause-bounded_ok
-read_element-returns-in_ok-next-in-Definite-clause-bounded_ok t c =
+pub read_any-returns-in_ok-next-in-Definite-clause-bounded_ok : goal.read_any-returns-in_ok-next-in-Definite-clause-bounded_ok
+read_any-returns-in_ok-next-in-Definite-clause-bounded_ok t c =
     let w = c.in_ok-rest-in-Definite.content.now in
     let rest = c.in_ok-rest-in-Definite.rest.now in
-    let two = header_takes_two _ _ _ _ _ _ c.in_ok-behind.ensures.exactly.found.begins in
-    omega (arith, two, ap length c.in_ok-rest-in-Definite.ensures.1, length-append w rest, c.in_ok-behind.ensures.counted, c.in_ok-next-in-Definite.ensures.bounded_ok)
+    let two = header_takes_two _ _ _ _ _ _ c.in_ok-behind.ensures.found.begins in
+    omega (arith, two, ap length c.in_ok-rest-in-Definite.ensures.1, length-append w rest, c.in_ok-next-in-Definite.ensures.bounded_ok)
 
-pub read_element-returns-in-Indefinite-clause-found : goal.read_element-returns-in-Indefinite-clause-found
-read_element-returns-in-Indefinite-clause-found t c =
+pub read_any-returns-in-Indefinite-clause-found : goal.read_any-returns-in-Indefinite-clause-found
+read_any-returns-in-Indefinite-clause-found t c =
     let i = c.args.i.now in
     let d = c.args.max_depth in
     let end = c.args.end in
     let behind = c.in_ok-behind.behind.now in
     let h = c.in_ok-behind.header in
-    let q = c.in_ok-behind.ensures.exactly.found in
+    let q = c.in_ok-behind.ensures.found in
     let deep : 1 ≤ d = omega arith in
     let l : length_of h ≡ Indefinite = sym c.length.ensures ∙ c.in-Indefinite.is in
     let b : BeginsWithHeader i (class_of h) (is_constructed h) (number_of h) Indefinite behind =
@@ -155,25 +182,25 @@ read_element-returns-in-Indefinite-clause-found t c =
     let two = header_takes_two _ _ _ _ _ _ q.begins in
     let n = end - length i in
     let a = end - length behind in
-    let at : a ≡ n + length i - length behind = omega (arith, c.requires, two) in
+    let at : a ≡ n + length i - length behind = omega (arith, c.requires.room, two) in
     answered _ _ c.read_outermost.result c.read_outermost.ensures.found
     (λ x y. let e = element_at i behind y.0 x.0.now (class_of h) (is_constructed h) (number_of h) Indefinite framing_budget end (omega arith)
-    (omega (arith, c.requires)) b y.1 in
+    (omega (arith, c.requires.room)) b y.1 in
     (e.0, e.2, whole_written e.0 y.0 h Indefinite framing_budget d n a c.args.nodes.now c.args.count x.1 _ (omega arith) deep e.1 y.2))
     (λ x y. elim y [
       | inl r ↦ framing_refused_at d i behind (class_of h) (is_constructed h) (number_of h) n a x _ deep b at r
       | inr (w, rest, f, r) ↦ (let e = element_at i behind w rest (class_of h) (is_constructed h) (number_of h) Indefinite framing_budget end (omega arith)
-      (omega (arith, c.requires)) b f in
+      (omega (arith, c.requires.room)) b f in
       content_refused_at d i w rest (class_of h) (is_constructed h) (number_of h) n a a x _ deep (begins_at i rest e.2 e.1) refl r)
     ])
     (λ m y. (any_cut d i m deep (any_lacks_content i behind (class_of h) (is_constructed h) (number_of h) Indefinite m b y.0), y.1))
     (λ m. m)
 
-pub read_element-returns-in-Indefinite-clause-bounded_ok : goal.read_element-returns-in-Indefinite-clause-bounded_ok
-read_element-returns-in-Indefinite-clause-bounded_ok t c =
-    let two = header_takes_two _ _ _ _ _ _ c.in_ok-behind.ensures.exactly.found.begins in
+pub read_any-returns-in-Indefinite-clause-bounded_ok : goal.read_any-returns-in-Indefinite-clause-bounded_ok
+read_any-returns-in-Indefinite-clause-bounded_ok t c =
+    let two = header_takes_two _ _ _ _ _ _ c.in_ok-behind.ensures.found.begins in
     ok_with _ _ _ c.read_outermost.result _ _ c.read_outermost.ensures.found c.read_outermost.ensures.bounded_ok
-    (λ x y k. omega (arith, two, c.in_ok-behind.ensures.counted, k))
+    (λ x y k. omega (arith, two, k))
 
 -- contents
 
@@ -234,7 +261,7 @@ read_content-returns-clause-found t c =
 -- items
 
 pub read_items-loop-rest-init : goal.read_items-loop-rest-init
-read_items-loop-rest-init t c = ([], refl, no_items_written c.args.max_depth _ c.args.nodes.now c.args.count, omega arith, c.requires, omega arith)
+read_items-loop-rest-init t c = ([], refl, no_items_written c.args.max_depth _ c.args.nodes.now c.args.count, omega arith, c.requires.room, omega arith, omega arith)
 
 pub read_items-loop-rest-preserved : goal.read_items-loop-rest-preserved
 read_items-loop-rest-preserved t c =
@@ -244,13 +271,14 @@ read_items-loop-rest-preserved t c =
     let after = c.in-Ok.after.now in
     let one = c.in-Ok.ensures.found in
     let at : c.args.end - length rest ≡ (c.args.end - length c.args.content.now) + length u =
-    omega (arith, c.requires, ap length k.1, length-append u rest) in (
+    omega (arith, c.requires.room, ap length k.1, length-append u rest) in (
       u ++ one.0,
       k.1 ∙ ap (λ v. u ++ v) one.1 ∙ sym (append_assoc u one.0 after),
       one_more_written c.args.max_depth u one.0 (c.args.end - length c.args.content.now) _ c.args.nodes.now c.loop-rest.nodes _ c.args.count c.loop-rest.next c.in-Ok.number at k.2 one.2,
       omega (arith, k.3, one.2.count),
       c.in-Ok.ensures.within,
       omega (arith, k.5, c.in-Ok.ensures.bounded_ok),
+      omega (arith, k.6, c.in-Ok.ensures.counted),
     )
 
 pub read_items-returns-in-Err-clause-found : goal.read_items-returns-in-Err-clause-found
@@ -259,7 +287,7 @@ read_items-returns-in-Err-clause-found t c =
     let u = k.0 in
     let rest = c.loop-rest.rest.now in
     let a = c.args.end - length c.args.content.now in
-    let at : c.args.end - length rest ≡ a + length u = omega (arith, c.requires, ap length k.1, length-append u rest) in
+    let at : c.args.end - length rest ≡ a + length u = omega (arith, c.requires.room, ap length k.1, length-append u rest) in
     let some : 0 < length rest = grind (arith, nat_tests) in
     item_refused_at _ _ _ c.args.max_depth rest (c.args.end - length rest) _ c.in-Err.e c.refuse_cut_item.result c.refuse_cut_item.ensures some c.in-Err.ensures.found
     (λ x n h. items_refuse_at c.args.content.now u rest k.2.items k.2.forms c.args.max_depth a (c.args.end - length rest) x _ at k.1 k.2.joins n h)
@@ -320,10 +348,14 @@ read_open_content-returns-clause-found t c =
     (λ m y. content_written (class_of h) (is_constructed h) (number_of h) c.args.max_depth w _ c.args.nodes.now c.args.count m y.0 y.1)
     (λ e q y. (y.0, y.1, inl (y.2, y.3))))
 
+pub read_open_content-returns-clause-counted : goal.read_open_content-returns-clause-counted
+read_open_content-returns-clause-counted t c =
+    values_if_ok c.check_framed.result _ _ _ c.check_framed.ensures (λ m y. omega (arith, y.0, c.in_ok-rest.ensures.counted))
+
 -- the elements inside it
 
 pub read_to_end_marker-elements-init : goal.read_to_end_marker-elements-init
-read_to_end_marker-elements-init t c = ([], refl, no_elements, no_items_written c.args.max_depth _ c.args.nodes.now c.args.count, omega arith, c.requires.room, omega arith)
+read_to_end_marker-elements-init t c = ([], refl, no_elements, no_items_written c.args.max_depth _ c.args.nodes.now c.args.count, omega arith, c.requires.room, omega arith, omega arith)
 
 pub read_to_end_marker-returns-in_err-behind-clause-found : goal.read_to_end_marker-returns-in_err-behind-clause-found
 read_to_end_marker-returns-in_err-behind-clause-found t c =
@@ -333,7 +365,7 @@ read_to_end_marker-returns-in_err-behind-clause-found t c =
     let p = err_from_is_err_and c.from_residual.result c.from_residual.ensures.1 in
     rw (p.1, p.2) (header_answered_at rest k.2 k.1 (c.args.end - length i) _
     (omega (arith, c.requires.room, ap length k.1, length-append k.0 rest)) _ _ _ c.in_err-behind.field-0.0 (omega arith)
-    c.in_err-behind.ensures.exactly.found)
+    c.in_err-behind.ensures.found)
 
 pub read_to_end_marker-returns-then-budget-eq1-clause-found : goal.read_to_end_marker-returns-then-budget-eq1-clause-found
 read_to_end_marker-returns-then-budget-eq1-clause-found t c =
@@ -341,32 +373,33 @@ read_to_end_marker-returns-then-budget-eq1-clause-found t c =
     let i = c.args.i.now in
     let rest = c.elements.rest.now in
     no_budget_at rest k.2 k.1 (c.args.end - length i) _ (omega (arith, c.requires.room, ap length k.1, length-append k.0 rest))
-    c.in_ok-behind.ensures.exactly.found.begins (omega arith)
+    c.in_ok-behind.ensures.found.begins (omega arith)
 
 pub read_to_end_marker-returns-then-begins_with_end_marker-clause-found : goal.read_to_end_marker-returns-then-begins_with_end_marker-clause-found
 read_to_end_marker-returns-then-begins_with_end_marker-clause-found t c =
     let k = c.elements.invariant in
-    let e = ends_here _ k.2 k.1 c.in_ok-behind.ensures.exactly.found.begins (omega arith) c.if-begins_with_end_marker.ensures in
-    (k.0, e.1, k.3)
+    let e = ends_here _ k.2 k.1 c.in_ok-behind.ensures.found.begins (omega arith) c.if-begins_with_end_marker.ensures in
+    (k.0, e.1, subst (λ y. WritesItems c.args.max_depth k.0 (c.args.end - length c.args.i.now) c.args.nodes.now c.args.count c.elements.next y)
+    (sym c.in_default.ensures.found) k.3)
 
 pub read_to_end_marker-returns-then-begins_with_end_marker-clause-within : goal.read_to_end_marker-returns-then-begins_with_end_marker-clause-within
 read_to_end_marker-returns-then-begins_with_end_marker-clause-within t c =
     let k = c.elements.invariant in
-    let two = header_takes_two _ _ _ _ _ _ c.in_ok-behind.ensures.exactly.found.begins in
+    let two = header_takes_two _ _ _ _ _ _ c.in_ok-behind.ensures.found.begins in
     (k.4, omega (arith, k.5, two))
 
 pub read_to_end_marker-returns-then-begins_with_end_marker-clause-bounded_ok : goal.read_to_end_marker-returns-then-begins_with_end_marker-clause-bounded_ok
 read_to_end_marker-returns-then-begins_with_end_marker-clause-bounded_ok t c =
     let k = c.elements.invariant in
-    let two = header_takes_two _ _ _ _ _ _ c.in_ok-behind.ensures.exactly.found.begins in
-    omega (arith, k.6, two, c.in_ok-behind.ensures.counted)
+    let two = header_takes_two _ _ _ _ _ _ c.in_ok-behind.ensures.found.begins in
+    omega (arith, k.6, two)
 
 pub read_to_end_marker-read_inside-requires : goal.read_to_end_marker-read_inside-requires
 read_to_end_marker-read_inside-requires t c =
     let k = c.elements.invariant in
-    let begins = c.in_ok-behind.ensures.exactly.found.begins in
+    let begins = c.in_ok-behind.ensures.found.begins in
     let two = header_takes_two _ _ _ _ _ _ begins in
-    (omega arith, ((λ l. open_constructed _ _ _ _ _ _ l begins), (omega arith, (omega (arith, c.requires.bounded), omega (arith, k.5, two)))))
+    (omega arith, ((λ l. open_constructed _ _ _ _ _ _ l begins), (omega arith, (omega (arith, c.requires.bounded), (omega (arith, k.5, two), omega (arith, k.6, two, c.requires.fits, ap length k.1, length-append k.0 c.elements.rest.now))))))
 
 pub read_to_end_marker-returns-in_err-after-clause-found : goal.read_to_end_marker-returns-in_err-after-clause-found
 read_to_end_marker-returns-in_err-after-clause-found t c =
@@ -374,7 +407,7 @@ read_to_end_marker-returns-in_err-after-clause-found t c =
     let i = c.args.i.now in
     let rest = c.elements.rest.now in
     let behind = c.in_ok-behind.behind.now in
-    let begins = c.in_ok-behind.ensures.exactly.found.begins in
+    let begins = c.in_ok-behind.ensures.found.begins in
     let two = header_takes_two _ _ _ _ _ _ begins in
     let parts = ap length k.1 in
     let whole = length-append k.0 rest in
@@ -394,7 +427,7 @@ read_to_end_marker-elements-preserved t c =
     let behind = c.in_ok-behind.behind.now in
     let after = c.in_ok-after.after.now in
     let h = c.in_ok-behind.header in
-    let begins = c.in_ok-behind.ensures.exactly.found.begins in
+    let begins = c.in_ok-behind.ensures.found.begins in
     let two = header_takes_two _ _ _ _ _ _ begins in
     let parts = ap length k.1 in
     let whole = length-append u rest in
@@ -407,18 +440,47 @@ read_to_end_marker-elements-preserved t c =
     (omega arith) (omega (arith, k.5)) begins found.1 in
     let other = no_marker rest e.0 after e.2 c.if-begins_with_end_marker.ensures in
     let spelled = whole_written e.0 found.0 h (length_of h) (c.args.budget - 1) d (end - length rest) (end - length behind)
-    c.elements.nodes c.elements.next m c.read_inside.new.nodes (omega (arith, c.requires.bounded)) values.0 e.1 values.1 in
+    c.read_plain.new.nodes c.elements.next m c.read_inside.new.nodes (omega (arith, c.requires.bounded)) values.0 e.1 values.1 in
     let at : end - length rest ≡ (end - length i) + length u = omega (arith, c.requires.room, parts, whole) in (
       u ++ e.0,
       k.1 ∙ ap (λ v. u ++ v) e.2 ∙ sym (append_assoc u e.0 after),
       one_more_element k.2 e.1 other,
-      one_more_written d u e.0 (end - length i) (end - length rest) c.args.nodes.now c.elements.nodes c.read_inside.new.nodes c.args.count c.elements.next m at k.3 spelled,
+      one_more_written d u e.0 (end - length i) (end - length rest) c.args.nodes.now c.read_plain.new.nodes c.read_inside.new.nodes c.args.count c.elements.next m at
+          (subst (λ y. WritesItems d u (end - length i) c.args.nodes.now c.args.count c.elements.next y) (sym c.in_default.ensures.found) k.3) spelled,
       omega (arith, k.4, within.0),
       within.1,
-      omega (arith, k.6, two, c.in_ok-behind.ensures.counted, bounded),
+      omega (arith, k.6, two, bounded),
+      omega (arith, k.7, if_ok c.in_ok-after.values _ m c.in-Ok.is c.in_ok-after.ensures.counted),
+    )
+
+pub read_to_end_marker-elements-preserved-in-Some : goal.read_to_end_marker-elements-preserved-in-Some
+read_to_end_marker-elements-preserved-in-Some t c =
+    let k = c.elements.invariant in
+    let u = k.0 in
+    let d = c.args.max_depth in
+    let a = c.args.end - length c.args.i.now in
+    let rest = c.elements.rest.now in
+    let after = c.in-Some.after.now in
+    let one = c.in-Some.ensures.found.1 in
+    let shorter = c.in-Some.ensures.shorter in
+    let at : c.args.end - length rest ≡ a + length u = omega (arith, c.requires.room, ap length k.1, length-append u rest) in (
+      u ++ one.0,
+      k.1 ∙ ap (λ v. u ++ v) one.1 ∙ sym (append_assoc u one.0 after),
+      elements_append one.0 k.2 one.2,
+      one_more_written d u one.0 a (c.args.end - length rest) c.args.nodes.now c.elements.nodes c.read_plain.new.nodes c.args.count c.elements.next (c.elements.next + 1) at k.3 one.3,
+      omega (arith, k.4),
+      omega (arith, k.5, shorter),
+      omega (arith, k.6, shorter),
+      omega (arith, k.7),
     )
 
 -- a value is refused, and the other elements are framed
+
+pub read_to_end_marker-frame_to_end_marker-requires-clause-fits : goal.read_to_end_marker-frame_to_end_marker-requires-clause-fits
+read_to_end_marker-frame_to_end_marker-requires-clause-fits t c =
+    let k = c.elements.invariant in
+    let two = header_takes_two _ _ _ _ _ _ c.in_ok-behind.ensures.found.begins in
+    omega (arith, k.6, two, ap length k.1, length-append k.0 c.elements.rest.now, c.in_ok-after.ensures.bounded_framed, c.requires.fits)
 
 pub read_to_end_marker-returns-in_err-behind-in-Err-clause-found : goal.read_to_end_marker-returns-in_err-behind-in-Err-clause-found
 read_to_end_marker-returns-in_err-behind-in-Err-clause-found t c =
@@ -430,7 +492,7 @@ read_to_end_marker-returns-in_err-behind-in-Err-clause-found t c =
     let behind = c.in_ok-behind.behind.now in
     let after = c.in_ok-after.after.now in
     let h = c.in_ok-behind.header in
-    let begins = c.in_ok-behind.ensures.exactly.found.begins in
+    let begins = c.in_ok-behind.ensures.found.begins in
     let found = c.in_ok-after.ensures.found in
     let e = element_at rest behind found.0 after (class_of h) (is_constructed h) (number_of h) (length_of h) (c.args.budget - 1) end
     (omega arith) (omega (arith, k.5)) begins found.1 in
@@ -444,8 +506,8 @@ read_to_end_marker-returns-in_err-behind-in-Err-clause-found t c =
 pub read_to_end_marker-returns-in_err-behind-in-Err-clause-bounded : goal.read_to_end_marker-returns-in_err-behind-in-Err-clause-bounded
 read_to_end_marker-returns-in_err-behind-in-Err-clause-bounded t c =
     let k = c.elements.invariant in
-    let two = header_takes_two _ _ _ _ _ _ c.in_ok-behind.ensures.exactly.found.begins in
-    omega (arith, k.6, two, ap length k.1, length-append k.0 c.elements.rest.now, c.in_ok-behind.ensures.counted, c.in_ok-after.ensures.bounded_framed,
+    let two = header_takes_two _ _ _ _ _ _ c.in_ok-behind.ensures.found.begins in
+    omega (arith, k.6, two, ap length k.1, length-append k.0 c.elements.rest.now, c.in_ok-after.ensures.bounded_framed,
     c.in_err-behind-in-Err.ensures.bounded)
 
 pub read_to_end_marker-returns-in-Err-clause-found : goal.read_to_end_marker-returns-in-Err-clause-found
@@ -459,7 +521,7 @@ read_to_end_marker-returns-in-Err-clause-found t c =
     let behind = c.in_ok-behind.behind.now in
     let after = c.in_ok-after.after.now in
     let h = c.in_ok-behind.header in
-    let begins = c.in_ok-behind.ensures.exactly.found.begins in
+    let begins = c.in_ok-behind.ensures.found.begins in
     let found = c.in_ok-after.ensures.found in
     let f = c.in_ok-behind-in-Err.ensures.found in
     let w = c.in_ok-behind-in-Err.field-0-1.now in

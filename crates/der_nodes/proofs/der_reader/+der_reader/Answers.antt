@@ -12,51 +12,78 @@ use Rattle.der_base.specs.Tree.{nodes_of}
 use Rattle.der_base.proofs.Answers.Answering.{passed_on, answered}
 use Rattle.der_der.proofs.Items.{header_cut, content_cut, header_shorter}
 use Rattle.der_nodes.proofs.DerFaultPlaces.{header_refused_at, size_refused_at, content_refused_at, item_refused_at, items_refuse_at}
-use Rattle.der_nodes.specs.Inner.{IsDerLeafOf}
+use Rattle.der_nodes.specs.Inner.{IsDerLeafOf, WritesDerItems}
+use Rattle.std.proofs.Common.{subst}
+use Rattle.der_nodes.proofs.ShortLaws.{IsListOctet, der_plain_written, der_list_written, der_list_refused}
 use Rattle.der_nodes.proofs.DerWriting.{raw_written, leaf_written, sequence_written, set_written, element_written, none_so_far, one_more_written, all_written}
 use Rattle.der_nodes.proofs.der_reader.+der_reader.Goals as goal
 
+-- a short element
+
+pub read_element-returns-in_err-next-clause-found : goal.read_element-returns-in_err-next-clause-found
+read_element-returns-in_err-next-clause-found t c =
+    let short = c.in-Some.short in
+    let is : IsListOctet short.first = search rules in
+    let p = err_from_is_err_and c.from_residual.result c.from_residual.ensures.1 in
+    rw (p.1, p.2) (passed_on _ _ c.in_err-next.field-0.0 c.in_err-next.ensures.found
+    (λ e q. der_list_refused c.args.max_depth c.args.i.now short.content.now short.rest.now short.first c.args.end e _ (omega arith) (omega (arith, c.requires)) c.in-Some.ensures is q)
+    (λ m q. absurd q) (λ m. m))
+
+pub read_element-returns-then-is_list_octet-clause-found : goal.read_element-returns-then-is_list_octet-clause-found
+read_element-returns-then-is_list_octet-clause-found t c =
+    let short = c.in-Some.short in
+    let is : IsListOctet short.first = search rules in
+    der_list_written c.args.max_depth c.args.i.now short.content.now short.rest.now short.first c.args.end c.args.count c.in_ok-next.next c.args.nodes.now c.read_items.new.nodes c.put.new.nodes
+    (omega arith) c.requires c.in-Some.ensures is c.in_ok-next.ensures.found (rw (← c.universal_element.ensures) c.put.ensures)
+
+pub read_element-returns-then-is_plain_leaf-clause-found : goal.read_element-returns-then-is_plain_leaf-clause-found
+read_element-returns-then-is_plain_leaf-clause-found t c =
+    let short = c.in-Some.short in
+    let is : IsTrue c.is_plain_leaf.result = search rules in
+    der_plain_written c.args.max_depth c.args.i.now short.content.now short.rest.now short.first c.args.end c.args.count c.args.nodes.now c.put-then-is_plain_leaf.new.nodes
+    (omega arith) c.requires c.in-Some.ensures (c.is_plain_leaf.ensures is) (rw (← c.universal_element-then-is_plain_leaf.ensures) c.put-then-is_plain_leaf.ensures)
+
 -- an element
 
-pub read_element-returns-in_err-rest-clause-found : goal.read_element-returns-in_err-rest-clause-found
-read_element-returns-in_err-rest-clause-found t c =
+pub read_any-returns-in_err-rest-clause-found : goal.read_any-returns-in_err-rest-clause-found
+read_any-returns-in_err-rest-clause-found t c =
     let i = c.args.i.now in
     let d = c.args.max_depth in
     let deep : 1 ≤ d = omega arith in
     let p = err_from_is_err_and c.from_residual.result c.from_residual.ensures.1 in
     rw (p.1, p.2) (passed_on _ _ c.in_err-rest.field-0.0 c.in_err-rest.ensures.found (λ e h. header_refused_at d i (c.args.end - length i) e deep h) (λ n h. (header_cut d i n deep h, refl)) (λ m. absurd m))
 
-pub read_element-returns-then-length-gt-MAX_OBJECT_SIZE-clause-found : goal.read_element-returns-then-length-gt-MAX_OBJECT_SIZE-clause-found
-read_element-returns-then-length-gt-MAX_OBJECT_SIZE-clause-found t c =
+pub read_any-returns-then-length-gt-MAX_OBJECT_SIZE-clause-found : goal.read_any-returns-then-length-gt-MAX_OBJECT_SIZE-clause-found
+read_any-returns-then-length-gt-MAX_OBJECT_SIZE-clause-found t c =
     let h = c.in_ok-rest.header in
     let found = c.in_ok-rest.ensures.found in
     let size : c.in_ok-length.length ≡ found.size = (let stated = found.length in let taken = c.length.ensures in let is = c.in_ok-length.ensures in cc) in
     size_refused_at c.args.max_depth c.args.i.now c.in_ok-rest.rest.now (class_of h) (is_constructed h) (number_of h) found.size (c.args.end - length c.args.i.now) (omega arith) found.begins (omega arith)
 
-pub read_element-returns-then-rest-length-clause-found : goal.read_element-returns-then-rest-length-clause-found
-read_element-returns-then-rest-length-clause-found t c =
+pub read_any-returns-then-rest-length-clause-found : goal.read_any-returns-then-rest-length-clause-found
+read_any-returns-then-rest-length-clause-found t c =
     let h = c.in_ok-rest.header in
     let found = c.in_ok-rest.ensures.found in
     let size : c.in_ok-length.length ≡ found.size = (let stated = found.length in let taken = c.length.ensures in let is = c.in_ok-length.ensures in cc) in
     (content_cut c.args.max_depth c.args.i.now c.in_ok-rest.rest.now (class_of h) (is_constructed h) (number_of h) found.size c.lacking.result (omega arith) found.begins (omega arith) (omega arith)
     (λ u. c.lacking.ensures.universal u ∙ size) (λ u. c.lacking.ensures.other u ∙ size), refl)
 
-pub read_element-overflow_add-count : goal.read_element-overflow_add-count
-read_element-overflow_add-count t c =
+pub read_any-overflow_add-count : goal.read_any-overflow_add-count
+read_any-overflow_add-count t c =
     let h = c.in_ok-rest.header in
     let found = c.in_ok-rest.ensures.found in
     let s = header_shorter c.args.i.now c.in_ok-rest.rest.now (class_of h) (is_constructed h) (number_of h) found.size found.begins in
     omega (arith, s)
 
-pub read_element-read_content-requires : goal.read_element-read_content-requires
-read_element-read_content-requires t c =
+pub read_any-read_content-requires : goal.read_any-read_content-requires
+read_any-read_content-requires t c =
     let h = c.in_ok-rest.header in
     let found = c.in_ok-rest.ensures.found in
     let s = header_shorter c.args.i.now c.in_ok-rest.rest.now (class_of h) (is_constructed h) (number_of h) found.size found.begins in
     (omega arith, (omega arith, omega (arith, s, c.split_at.ensures.front_len, c.split_at.ensures.back_len)))
 
-pub read_element-returns-in_err-next-clause-found : goal.read_element-returns-in_err-next-clause-found
-read_element-returns-in_err-next-clause-found t c =
+pub read_any-returns-in_err-next-clause-found : goal.read_any-returns-in_err-next-clause-found
+read_any-returns-in_err-next-clause-found t c =
     let h = c.in_ok-rest.header in
     let found = c.in_ok-rest.ensures.found in
     let n = c.in_ok-length.length in
@@ -71,13 +98,13 @@ read_element-returns-in_err-next-clause-found t c =
     let parts : rest ≡ w ++ r = sym (ap (λ v. v ++ r) c.split_at.ensures.front ∙ ap (λ v. take n rest ++ v) c.split_at.ensures.back ∙ take-append-drop n rest) in
     let whole : length w ≡ found.size = omega arith in
     let s = header_shorter i rest (class_of h) (is_constructed h) (number_of h) found.size found.begins in
-    let begins : c.args.end - length r - length w ≡ (c.args.end - length i) + (length i - length r - length w) = omega (arith, s, c.requires, ap length parts, length-append w r) in
+    let begins : c.args.end - length r - length w ≡ (c.args.end - length i) + (length i - length r - length w) = omega (arith, s, c.requires.room, ap length parts, length-append w r) in
     let p = err_from_is_err_and c.from_residual-in_err-next.result c.from_residual-in_err-next.ensures.1 in
     rw (p.1, p.2) (passed_on _ _ c.in_err-next.field-0.0 c.in_err-next.ensures.found
     (λ e q. content_refused_at d i rest w r (class_of h) (is_constructed h) (number_of h) found.size (c.args.end - length i) _ e _ deep found.begins small parts whole begins q) (λ m q. absurd q) (λ m. m))
 
-pub read_element-returns-clause-found : goal.read_element-returns-clause-found
-read_element-returns-clause-found t c =
+pub read_any-returns-clause-found : goal.read_any-returns-clause-found
+read_any-returns-clause-found t c =
     let h = c.in_ok-rest.header in
     let found = c.in_ok-rest.ensures.found in
     let n = c.in_ok-length.length in
@@ -91,7 +118,7 @@ read_element-returns-clause-found t c =
     let parts : rest ≡ w ++ r = sym (ap (λ v. v ++ r) c.split_at.ensures.front ∙ ap (λ v. take n rest ++ v) c.split_at.ensures.back ∙ take-append-drop n rest) in
     let whole : length w ≡ found.size = omega arith in
     element_written d i rest w r (class_of h) (is_constructed h) (number_of h) found.size c.args.end c.args.nodes.now c.read_content.new.nodes _ c.args.count c.in_ok-next.next _
-    c.requires found.begins small parts whole c.in_ok-next.ensures.found
+    c.requires.room found.begins small parts whole c.in_ok-next.ensures.found
     (record {
       class = c.class.ensures;
       constructed = c.constructed.ensures;
@@ -104,8 +131,8 @@ read_element-returns-clause-found t c =
     })
     c.put.ensures
 
-pub read_element-returns-clause-shorter : goal.read_element-returns-clause-shorter
-read_element-returns-clause-shorter t c =
+pub read_any-returns-clause-shorter : goal.read_any-returns-clause-shorter
+read_any-returns-clause-shorter t c =
     let h = c.in_ok-rest.header in
     let found = c.in_ok-rest.ensures.found in
     let s = header_shorter c.args.i.now c.in_ok-rest.rest.now (class_of h) (is_constructed h) (number_of h) found.size found.begins in

@@ -1,0 +1,124 @@
+//! Elements as most are: a header of two octets, and in a primitive element of class Universal a content
+//! that DER allows. They are read by these few tests; any other element is read whole.
+ghost use Rattle.std.specs.Prelude.{◌≡◌, ◌⊎◌, ◌↔◌, ◌+◌, ◌≤◌, false, IfSome, IsTrue, length};
+ghost use Rattle.der_base.specs.Leaf.{is_list, is_mapped, is_time};
+ghost use Rattle.der_base.specs.Text.{is_text_type};
+ghost use Rattle.der_nodes.specs.Inner.{IsDerLeafOf, IsPlainLeaf, IsShort, universal_element};
+
+use crate::element::Element;
+use crate::leaf::{check_der_leaf, check_time};
+use der_base::header::{Class, Tag};
+use der_base::text::read_text;
+
+/// The parts of an element with a header of two octets.
+#[derive(Clone, Copy)]
+pub(crate) struct Short<'a> {
+    /// The identifier octet, if the tag number is below 31.
+    pub first: u8,
+    pub content: &'a [u8],
+    /// What follows the element.
+    pub rest: &'a [u8],
+}
+
+/// Splits an element whose length is one octet (8.1.3.4), if its content is whole.
+#[inline(always)]
+pub(crate) fn read_short(i: &[u8]) -> Option<Short<'_>>
+    ensures { IfSome result (λ x. IsShort i.now x.first x.content.now x.rest.now) }
+{
+    let [first, size, behind @ ..] = i else {
+        return None;
+    };
+    let size = usize::from(*size);
+    if size >= 128 || size > behind.len() {
+        return None;
+    }
+    let (content, rest) = behind.split_at(size);
+    Some(Short {
+        first: *first,
+        content,
+        rest,
+    })
+}
+
+/// Whether it is the identifier octet of a SEQUENCE or a SET (8.9.1, 8.11.1).
+#[inline(always)]
+pub(crate) fn is_list_octet(first: u8) -> bool
+    ensures { IsTrue result ↔ ((first ≡ 48) ⊎ (first ≡ 49)) }
+{
+    first == 0x30 || first == 0x31
+}
+
+/// Whether the identifier octet is that of a primitive universal type, and the content one that DER
+/// allows it. False for types that are rare.
+#[inline(always)]
+pub(crate) fn is_plain_leaf(first: u8, content: &[u8]) -> bool
+    ensures { IsTrue result → IsPlainLeaf first content.now }
+{
+    match first {
+        1 => is_leaf(Tag::Boolean, content),
+        2 => is_leaf(Tag::Integer, content),
+        3 => is_leaf(Tag::BitString, content),
+        4 => is_leaf(Tag::OctetString, content),
+        5 => is_leaf(Tag::Null, content),
+        6 => is_leaf(Tag::Oid, content),
+        12 | 18 | 19 | 20 | 22 | 26 => is_text(first, content),
+        23 | 24 => is_time(first, content),
+        _ => false,
+    }
+}
+
+/// Whether it is a content of this type.
+#[inline(always)]
+fn is_leaf(tag: Tag, content: &[u8]) -> bool
+    requires mapped { IsTrue (is_mapped tag.0) }
+    requires no_list { is_list tag.0 ≡ false }
+    ensures { IsTrue result → IsDerLeafOf false tag.0 content.now }
+{
+    check_der_leaf(false, tag, content).is_ok()
+}
+
+/// The same of a string type that is kept as a text (8.23).
+#[inline(never)]
+fn is_text(first: u8, content: &[u8]) -> bool
+    requires { IsTrue (is_text_type first) }
+    ensures { IsTrue result → IsDerLeafOf false first content.now }
+{
+    match read_text(Tag(u32::from(first)), content) {
+        Some(_) => true,
+        None => false,
+    }
+}
+
+/// The same of a UTCTime or a GeneralizedTime (11.7, 11.8).
+#[inline(never)]
+fn is_time(first: u8, content: &[u8]) -> bool
+    requires { IsTrue (is_time first) }
+    ensures { IsTrue result → IsDerLeafOf false first content.now }
+{
+    check_time(Tag(u32::from(first)), content).is_ok()
+}
+
+/// The element of a universal type with a header of two octets, whose content of this size ends at a
+/// place.
+#[inline(always)]
+pub(crate) fn universal_element(
+    constructed: bool,
+    number: u8,
+    size: usize,
+    end: usize,
+    inside: usize,
+) -> Element
+    requires { size + 2 ≤ end }
+    ensures { result ≡ universal_element constructed number size end inside }
+{
+    Element {
+        class: Class::Universal,
+        constructed,
+        definite: true,
+        number: u32::from(number),
+        header: end - size - 2,
+        content: end - size,
+        end,
+        inside,
+    }
+}
