@@ -107,12 +107,20 @@ fn refusals_are_printed(rt: HostRuntime) -> Result<(), Fail> {
     Ok(())
 }
 
+/// The serial number of a certificate that is read.
+fn serial_number<'a>(alloc: Global, input: &'a [u8]) -> Option<&'a [u8]> {
+    match read_certificate(alloc, input) {
+        Ok(certificate) => Some(certificate.serial_number),
+        Err(_) => None,
+    }
+}
+
 /// RFC 5280 4.1.2.2 asks readers to handle a negative serial number.
 #[test]
 fn a_negative_serial_number_is_read(rt: HostRuntime) -> Result<(), Fail> {
     let mut octets = CERTIFICATE;
     octets[11] = 0x80;
-    let certificate = read_certificate(rt.alloc(), &octets[..95]).ok();
-    assert!(rt; certificate.is_some_and(|c| c.serial_number == [0x80].as_slice()));
+    let number = serial_number(rt.alloc(), &octets[..95]);
+    assert!(rt; matches!(number, Some([0x80])));
     Ok(())
 }
