@@ -1,5 +1,5 @@
 -- An element with its place: from a header and its content, as the definitions say it.
-use Rattle.std.proofs.Common.{◌≡◌, ◌≢◌, ℕ, ◌+◌, ◌-◌, ◌^◌, ◌<◌, ◌≤◌, Bool, true, List, [], ◌∷◌, ◌++◌, length}
+use Rattle.std.proofs.Common.{◌≡◌, ◌≢◌, ℕ, ◌+◌, ◌-◌, ◌^◌, ◌<◌, ◌≤◌, Bool, true, List, ◌∷◌, ◌++◌, length}
 use Rattle.std.proofs.Common.{refl, sym, ap, subst, ◌∙◌, arith, append_assoc, length-append, append-nil, inl, inr}
 use Rattle.der_base.specs.declared.header.Class.{Class}
 use Rattle.der_base.specs.declared.header.Length.{Length}
@@ -13,7 +13,6 @@ use Rattle.der_base.proofs.Framing.Framed.{elements_more, elements_append}
 use Rattle.der_base.proofs.Framing.FramedIsSpelling.{raws_are, are_raws}
 use Rattle.der_base.proofs.Octets.Identifiers.{identifier_octets}
 use Rattle.der_base.proofs.Framing.FramingLists.{definite_header}
-use Rattle.der_nodes.specs.declared.element.Element.{Element}
 use Rattle.der_nodes.specs.BerInner.{is_definite}
 use Rattle.der_nodes.specs.FaultPlaces.{BeginsWithElementAt}
 use Rattle.der_nodes.specs.Places.{IsElementAt}
@@ -35,7 +34,7 @@ element_at i behind w rest c p t (Definite m) k end some room h (z, d) =
     let s = g.0 in (
       a ++ (s ++ w),
       closed s (ap Definite (sym z)) h.number some (subst (λ q. SpellsLength s q) (sym z) g.1) refl
-      (omega (arith, room, ap length g.2, length-append a (s ++ behind), length-append s behind, length-append a s)),
+          (omega (arith, room, ap length g.2, length-append a (s ++ behind), length-append s behind, length-append a s)),
       g.2 ∙ ap (λ v. a ++ (s ++ v)) d ∙ ap (λ v. a ++ v) (sym (append_assoc s w rest)) ∙ sym (append_assoc a (s ++ w) rest),
     )
 element_at i behind w rest c p t Indefinite k end some room h (two, hw, d) =
@@ -43,7 +42,7 @@ element_at i behind w rest c p t Indefinite k end some room h (two, hw, d) =
     let whole : i ≡ a ++ 128 ∷ behind = h.octets ∙ ap (λ v. a ++ v) h.length.1 in (
       a ++ (128 ∷ w ++ end_marker),
       opened refl h.length.0 h.number two (raws_are hw) refl
-      (omega (arith, room, ap length whole, length-append a (128 ∷ behind))),
+          (omega (arith, room, ap length whole, length-append a (128 ∷ behind))),
       whole ∙ ap (λ v. a ++ 128 ∷ v) d ∙ sym (append_assoc a (128 ∷ w ++ end_marker) rest),
     )
 
@@ -71,11 +70,21 @@ pub placed_at : {b : List ℕ} {n : ℕ} {l : Length} {c : Class} {p : Bool} {t 
     → ElementAt b n l c p t w k a
     → IsElementAt b n c p t w j (record { class = c; constructed = p; definite = is_definite l; number = t; header = n; content = a; end = a + length w; inside = j })
 placed_at {c = c} {p = p} {t = t} {w = w} j (closed s el ht hk hs eb ea) = record {
-  class = refl; constructed = refl; number = refl; header = refl; end = refl; inside = refl;
+  class = refl;
+  constructed = refl;
+  number = refl;
+  header = refl;
+  end = refl;
+  inside = refl;
   octets = inl (s, ap is_definite el, hs, eb ∙ sym (append_assoc (identifier c p t) s w), ea);
 }
 placed_at {c = c} {p = p} {t = t} {w = w} j (opened el ep ht hk hw eb ea) = record {
-  class = refl; constructed = refl; number = refl; header = refl; end = refl; inside = refl;
+  class = refl;
+  constructed = refl;
+  number = refl;
+  header = refl;
+  end = refl;
+  inside = refl;
   octets = inr (ap is_definite el, ep, eb ∙ sym (append_assoc (identifier c p t) (128 ∷ w) end_marker), ea);
 }
 

@@ -1,5 +1,5 @@
 -- Where refusals are, by BER.
-use Rattle.std.proofs.Common.{◌≡◌, ◌≢◌, ℕ, zero, suc, ◌+◌, ◌-◌, ◌<◌, ◌≤◌, ◌⊎◌, Bool, true, IsTrue, List, [], ◌∷◌, ◌++◌, length, Result, Ok, Err}
+use Rattle.std.proofs.Common.{◌≡◌, ◌≢◌, ℕ, zero, suc, ◌+◌, ◌-◌, ◌<◌, ◌≤◌, ◌⊎◌, Bool, true, List, [], ◌∷◌, ◌++◌, length, Result, Ok, Err}
 use Rattle.std.specs.Prelude.{IfOk}
 use Rattle.std.proofs.Common.{refl, sym, ap, subst, ◌∙◌, arith, append_assoc, length-append, inl, inr}
 use Rattle.der_base.specs.declared.error.Err.{Err as Refusing}
@@ -11,7 +11,7 @@ use Rattle.der_base.specs.declared.header.Class.TheVariants.{Universal}
 use Rattle.der_base.specs.declared.header.Length.{Length}
 use Rattle.der_base.specs.declared.header.Length.TheVariants.{Definite, Indefinite}
 use Rattle.der_base.specs.Answer.{MatchAnswer}
-use Rattle.der_base.specs.Content.{BeginsWithContent, ContentLacks, InsideLacks}
+use Rattle.der_base.specs.Content.{ContentLacks, InsideLacks}
 use Rattle.der_base.specs.Cut.{AreShapes, no_shapes, definite_shape, indefinite_shape}
 use Rattle.der_base.specs.Errors.{RefusesCutItem}
 use Rattle.der_base.specs.Fault.{BerHeaderRefuses, HasHeader, InsideRefuses, at_header, too_deep, further_in, ShowsFault}
@@ -140,9 +140,16 @@ pub framed_refused : (d : ℕ) (u b x w : List ℕ) (l : Length) (c : Class) (p 
     → k ≤ framing_budget → n ≡ a + length u → 0 < length b → JoinSpellings u items fs d → ElementAt b n l c p t w k m
     → InsideContentRefusesAt c p t w d n m e q → ItemsRefuseAt (u ++ (b ++ x)) d a e q
 framed_refused d u b x w l c p t items fs k a n m e q le at some j h r =
-    let z = begins_at (b ++ x) x refl (at_more framing_budget le h) in
-    (items, fs, u, b ++ x, refl, joins_then items u fs d j, some_octets (b ++ x) (omega (arith, some, length-append b x)),
-    inl (subst (λ y. ShowsFaultAt d (b ++ x) y e q) at (inside_content_refused d (b ++ x) w x c p t n m e q z r)))
+    let z = begins_at (b ++ x) x refl (at_more framing_budget le h) in (
+      items,
+      fs,
+      u,
+      b ++ x,
+      refl,
+      joins_then items u fs d j,
+      some_octets (b ++ x) (omega (arith, some, length-append b x)),
+      inl (subst (λ y. ShowsFaultAt d (b ++ x) y e q) at (inside_content_refused d (b ++ x) w x c p t n m e q z r)),
+    )
 
 -- of an item
 
@@ -201,8 +208,22 @@ fault_shows (suc d) i n e q (inr (inl (c, t, v, ht, eq, r))) = inr (inl (c, t, v
 fault_shows (suc d) i n e q (inr (inr (p, t, w, rest, a, b, m, inl h))) =
     inr (inr (p, t, w, rest, element_begins i n framing_budget Universal p t w rest a b, m, inl h.0))
 fault_shows (suc d) i n e q (inr (inr (p, t, w, rest, a, b, m, inr (list, ep, (l, fs, u, r, parts, j, some, inl h))))) =
-    inr (inr (p, t, w, rest, element_begins i n framing_budget Universal p t w rest a b, m,
-    inr (list, ep, l, fs, u, r, parts, j, (some, inl (fault_shows d r _ e q h)))))
+    inr (inr (
+      p,
+      t,
+      w,
+      rest,
+      element_begins i n framing_budget Universal p t w rest a b,
+      m,
+      inr (list, ep, l, fs, u, r, parts, j, (some, inl (fault_shows d r _ e q h))),
+    ))
 fault_shows (suc d) i n e q (inr (inr (p, t, w, rest, a, b, m, inr (list, ep, (l, fs, u, r, parts, j, some, inr (y, cut, ee, eq)))))) =
-    inr (inr (p, t, w, rest, element_begins i n framing_budget Universal p t w rest a b, m,
-    inr (list, ep, l, fs, u, r, parts, j, (some, inr (y, cut.0, cut.1, cut.2, ee)))))
+    inr (inr (
+      p,
+      t,
+      w,
+      rest,
+      element_begins i n framing_budget Universal p t w rest a b,
+      m,
+      inr (list, ep, l, fs, u, r, parts, j, (some, inr (y, cut.0, cut.1, cut.2, ee))),
+    ))

@@ -1,5 +1,5 @@
 -- By BER, a refusal has one place.
-use Rattle.std.proofs.Common.{◌≡◌, ◌≢◌, ℕ, zero, suc, ◌+◌, ◌-◌, ◌^◌, ◌<◌, ◌≤◌, ◌⊎◌, Bool, true, IsTrue, List, [], ◌∷◌, ◌++◌, length}
+use Rattle.std.proofs.Common.{◌≡◌, ℕ, zero, suc, ◌+◌, ◌-◌, ◌^◌, ◌<◌, ◌≤◌, ◌⊎◌, Bool, true, IsTrue, List, [], ◌∷◌, ◌++◌, length}
 use Rattle.std.proofs.Common.{refl, sym, ap, subst, ◌∙◌, arith, append_assoc, length-append, inl, inr, ⊎_elim}
 use Rattle.der_base.specs.declared.error.Needed.TheVariants.{Size}
 use Rattle.der_base.specs.declared.header.Class.{Class}
@@ -9,7 +9,7 @@ use Rattle.der_base.specs.declared.header.Length.TheVariants.{Definite, Indefini
 use Rattle.der_base.specs.Fault.{BerHeaderRefuses, HasHeader}
 use Rattle.der_base.specs.Headers.{BeginsWithHeader}
 use Rattle.der_base.specs.Inner.Framed.{IsElement, definite, indefinite, AreElements, no_elements, elements}
-use Rattle.der_base.specs.Leaf.{is_list, is_mapped}
+use Rattle.der_base.specs.Leaf.{is_list}
 use Rattle.der_base.specs.LeafRefusal.{BerLeafRefuses}
 use Rattle.der_base.specs.Octets.{identifier}
 use Rattle.der_base.specs.Refusal.{Refusal, incomplete}
@@ -24,7 +24,7 @@ use Rattle.der_base.specs.Any.{AnyRefuses}
 use Rattle.der_base.proofs.Framing.RawLists.{definite_not_open, tail_more}
 use Rattle.der_base.proofs.Framing.UniqueSpelling.{begins_same}
 use Rattle.der_base.proofs.Headers.BerHeaders.{ber_header_same, ber_header_not_refused}
-use Rattle.der_base.proofs.Octets.Identifiers.{head_same, identifier_same, fronts_same}
+use Rattle.der_base.proofs.Octets.Identifiers.{head_same, identifier_same}
 use Rattle.der_laws.proofs.Spellings.BerFaults.{joins_same, list_passes, spelled_shows_nothing, spelled_not_cut}
 use Rattle.der_nodes.specs.FaultPlaces.{InsideRefusesAt, refused_header, refused_depth, further_inside, BeginsWithElementAt, ShowsFaultAt}
 use Rattle.der_nodes.proofs.BerFaultPlaces.{inside_shows, element_begins, fault_shows}
@@ -203,9 +203,19 @@ where_at d i n e q (inl h) = inl (in_header h.0, h.1)
 where_at d i n e q (inr (inl (c, t, v, ht, o, r))) = inr (inl (record { c = c; t = t; v = v; number = ht; octets = o; refused = r }))
 where_at d i n e q (inr (inr (p, t, w, rest, a, b, m, inl h))) = inl (in_leaf p t w rest (element_begins i n framing_budget Universal p t w rest a b) h.0, h.1)
 where_at d i n e q (inr (inr (p, t, w, rest, a, b, m, inr (list, ep, (l, fs, u, r, parts, j, some, h))))) = inr (inr (record {
-  t = t; w = w; rest = rest; a = a; l = l; fs = fs; u = u; r = r;
+  t = t;
+  w = w;
+  rest = rest;
+  a = a;
+  l = l;
+  fs = fs;
+  u = u;
+  r = r;
   begins = subst (λ p. BeginsWithElementAt i n framing_budget Universal p t w rest a) ep b;
-  list = list; parts = parts; joins = j; item = h;
+  list = list;
+  parts = parts;
+  joins = j;
+  item = h;
 }))
 
 any_of : (i : List ℕ) (n : ℕ) (e : Refusal) (q : ℕ) → Framing i n e q → AnyRefuses i e

@@ -29,14 +29,20 @@ closed_located i f z b s c p t w n k e q d at def hs eb ec =
     let m : e.content ≡ length (f ++ (a ++ s)) = omega (arith, ec, q, length-append f (a ++ s)) in
     record {
       is = record {
-        front = f; length_octets = s; content = w; behind = z;
+        front = f;
+        length_octets = s;
+        content = w;
+        behind = z;
         octets = subst (λ v. i ≡ f ++ (v ++ s) ++ w ++ z) same o;
         header = at.header ∙ q;
         begins = subst (λ v. e.content ≡ length (f ++ (v ++ s))) same m;
         ends = at.end;
         form = inl (def, hs);
       };
-      front = f ++ (a ++ s); behind = z; octets = o; place = m;
+      front = f ++ (a ++ s);
+      behind = z;
+      octets = o;
+      place = m;
     }
 
 opened_located : (i f z b : List ℕ) (c : Class) (p : Bool) (t : ℕ) (w : List ℕ) (n k : ℕ) (e : Element) → n ≡ length f → i ≡ f ++ b ++ z → IsElementAt b n c p t w k e
@@ -51,14 +57,20 @@ opened_located i f z b c p t w n k e q d at def eb ec =
     let m : e.content ≡ length (f ++ (a ++ s)) = omega (arith, ec, q, length-append f (a ++ s), length-append a s) in
     record {
       is = record {
-        front = f; length_octets = s; content = w; behind = end_marker ++ z;
+        front = f;
+        length_octets = s;
+        content = w;
+        behind = end_marker ++ z;
         octets = subst (λ v. i ≡ f ++ (v ++ s) ++ w ++ (end_marker ++ z)) same o;
         header = at.header ∙ q;
         begins = subst (λ v. e.content ≡ length (f ++ (v ++ s))) same m;
         ends = at.end;
         form = inr (def, refl, z, refl);
       };
-      front = f ++ (a ++ s); behind = end_marker ++ z; octets = o; place = m;
+      front = f ++ (a ++ s);
+      behind = end_marker ++ z;
+      octets = o;
+      place = m;
     }
 
 located : (i f z b : List ℕ) (c : Class) (p : Bool) (t : ℕ) (w : List ℕ) (n k : ℕ) (e : Element) → n ≡ length f → i ≡ f ++ b ++ z → IsElementAt b n c p t w k e → Located i w e

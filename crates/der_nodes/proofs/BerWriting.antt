@@ -1,16 +1,16 @@
 -- Elements that are written one after the other, of a spelling by BER.
-use Rattle.std.proofs.Common.{◌≡◌, ℕ, zero, suc, ◌+◌, ◌-◌, ◌≤◌, Bool, true, false, IsTrue, List, [], ◌∷◌, ◌++◌, length}
+use Rattle.std.proofs.Common.{◌≡◌, ℕ, suc, ◌+◌, ◌-◌, ◌≤◌, Bool, true, false, IsTrue, List, [], ◌∷◌, ◌++◌, length}
 use Rattle.std.proofs.Common.{refl, sym, ap, subst, ◌∙◌, arith, append_assoc, length-append, inl, inr}
 use Rattle.std.proofs.lemmas.List.{append-nil}
 use Rattle.der_base.specs.declared.header.Class.{Class}
 use Rattle.der_base.specs.declared.header.Class.TheVariants.{Universal}
 use Rattle.der_base.specs.declared.header.Header.{Header}
 use Rattle.der_base.specs.declared.header.Length.{Length}
-use Rattle.der_base.specs.Header.{class_of, is_constructed, number_of, length_of}
+use Rattle.der_base.specs.Header.{class_of, is_constructed, number_of}
 use Rattle.der_base.specs.Inner.Framed.{Spells, HasContent, JoinSpellings}
 use Rattle.der_base.specs.Leaf.{is_list, is_mapped, IsLeafContent}
 use Rattle.der_base.specs.Listing.{object_count, content_count, item_count}
-use Rattle.der_base.specs.Spelling.{Form, form, Forms, no_forms, forms, IsKept, framing_budget}
+use Rattle.der_base.specs.Spelling.{Form, form, Forms, no_forms, forms, framing_budget}
 use Rattle.der_base.specs.Tree.{Node, node, Content, sequence, set, unknown, Nodes, no_nodes, nodes}
 use Rattle.der_base.proofs.Framing.Framed.{element_more}
 use Rattle.std.proofs.lemmas.Bool.Decides.{Decides-eqb}
@@ -19,7 +19,7 @@ use Rattle.der_base.proofs.Leaves.Always.{or_cases}
 use Rattle.der_laws.proofs.Spellings.DerFaults.{kept_unmapped}
 use Rattle.der_base.proofs.Spellings.Counted.{object_counted, sequence_counted, set_counted, items_counted}
 use Rattle.der_nodes.specs.declared.element.Element.{Element}
-use Rattle.der_nodes.specs.BerInner.{WritesSpelling, WritesElement, WritesContent, WritesItems, WritesWhole, IsLeafOrKept, is_definite}
+use Rattle.der_nodes.specs.BerInner.{WritesSpelling, WritesContent, WritesItems, WritesWhole, IsLeafOrKept, is_definite}
 use Rattle.der_nodes.specs.Places.{IsElementAt, AreElementsOf, AreInContent, AreInItems, overlay}
 use Rattle.der_nodes.proofs.BerElements.{ElementAt, is_element, placed_at}
 use Rattle.der_nodes.proofs.Overlays.{overlay_none, overlay_more, overlay_front}
@@ -70,13 +70,26 @@ places_push no_nodes w b o n es fs (ew, ee) h =
     let at : n + length w ≡ n = omega (arith, ap length ew) in
     (b, [], fs, [], ap (λ v. v ++ b) ew ∙ sym (append-nil b), ap (λ v. v ++ fs) ee ∙ sym (append-nil fs), subst (λ k. AreElementsOf b k o fs) at h, (refl, refl))
 places_push (nodes x l) w b o n es fs (c, rest, xs, ls, ew, ee, hx, hl) h =
-    let at : n + length w ≡ n + length c + length rest = omega (arith, ap length ew, length-append c rest) in
-    (c, rest ++ b, xs, ls ++ fs, ap (λ v. v ++ b) ew ∙ append_assoc c rest b, ap (λ v. v ++ fs) ee ∙ append_assoc xs ls fs, hx,
-    places_push l rest b o (n + length c) ls fs hl (subst (λ k. AreElementsOf b k o fs) at h))
+    let at : n + length w ≡ n + length c + length rest = omega (arith, ap length ew, length-append c rest) in (
+      c,
+      rest ++ b,
+      xs,
+      ls ++ fs,
+      ap (λ v. v ++ b) ew ∙ append_assoc c rest b,
+      ap (λ v. v ++ fs) ee ∙ append_assoc xs ls fs,
+      hx,
+      places_push l rest b o (n + length c) ls fs hl (subst (λ k. AreElementsOf b k o fs) at h),
+    )
 
 pub no_items_written : (d a : ℕ) (old : List Element) (n : ℕ) → WritesItems d [] a old n n old
 no_items_written d a old n = record {
-  items = no_nodes; forms = no_forms; joins = refl; elements = []; places = (refl, refl); count = omega arith; written = overlay_none old n;
+  items = no_nodes;
+  forms = no_forms;
+  joins = refl;
+  elements = [];
+  places = (refl, refl);
+  count = omega arith;
+  written = overlay_none old n;
 }
 
 pub one_more_written : (d : ℕ) (u b : List ℕ) (a at : ℕ) (old mid new : List Element) (n m m' : ℕ) → at ≡ a + length u
@@ -99,15 +112,25 @@ one_more_written d u b a at old mid new n m m' e h k =
 pub sequence_written : (c : Class) (p : Bool) (t d : ℕ) (w : List ℕ) (a : ℕ) (old : List Element) (n m : ℕ) (new : List Element) → c ≡ Universal → p ≡ true → t ≡ 16
     → WritesItems (d - 1) w a old n m new → WritesContent c p t d w a old n m new
 sequence_written c p t d w a old n m new ec ep et h = record {
-  value = sequence h.items; forms = h.forms; content = (ec, et, ep, h.joins); elements = h.elements; places = h.places;
-  count = h.count ∙ ap (λ k. n + k) (sym (sequence_counted h.items)); written = h.written;
+  value = sequence h.items;
+  forms = h.forms;
+  content = (ec, et, ep, h.joins);
+  elements = h.elements;
+  places = h.places;
+  count = h.count ∙ ap (λ k. n + k) (sym (sequence_counted h.items));
+  written = h.written;
 }
 
 pub set_written : (c : Class) (p : Bool) (t d : ℕ) (w : List ℕ) (a : ℕ) (old : List Element) (n m : ℕ) (new : List Element) → c ≡ Universal → p ≡ true → t ≡ 17
     → WritesItems (d - 1) w a old n m new → WritesContent c p t d w a old n m new
 set_written c p t d w a old n m new ec ep et h = record {
-  value = set h.items; forms = h.forms; content = (ec, et, ep, h.joins); elements = h.elements; places = h.places;
-  count = h.count ∙ ap (λ k. n + k) (sym (set_counted h.items)); written = h.written;
+  value = set h.items;
+  forms = h.forms;
+  content = (ec, et, ep, h.joins);
+  elements = h.elements;
+  places = h.places;
+  count = h.count ∙ ap (λ k. n + k) (sym (set_counted h.items));
+  written = h.written;
 }
 
 pub list_written : (c : Class) (p : Bool) (t d : ℕ) (w : List ℕ) (a : ℕ) (old : List Element) (n m : ℕ) (new : List Element) → c ≡ Universal → p ≡ true → IsTrue (is_list t)
@@ -133,15 +156,25 @@ leaf_places p t w v _ n k = refl
 pub leaf_written : (c : Class) (p : Bool) (t d : ℕ) (w : List ℕ) (a : ℕ) (old : List Element) (n : ℕ) → c ≡ Universal → (x : Content) × IsLeafContent p t w x
     → WritesContent c p t d w a old n n old
 leaf_written c p t d w a old n u (x, k) = record {
-  value = x; forms = no_forms; content = leaf_has w c p t x d u k; elements = []; places = leaf_places p t w w x a k;
-  count = omega (arith, content_elements x w a [] (leaf_places p t w w x a k)); written = overlay_none old n;
+  value = x;
+  forms = no_forms;
+  content = leaf_has w c p t x d u k;
+  elements = [];
+  places = leaf_places p t w w x a k;
+  count = omega (arith, content_elements x w a [] (leaf_places p t w w x a k));
+  written = overlay_none old n;
 }
 
 pub raw_written : (c : Class) (p : Bool) (t d : ℕ) (w : List ℕ) (a : ℕ) (old : List Element) (n : ℕ) → (c ≡ Universal → is_mapped t ≡ false)
     → WritesContent c p t d w a old n n old
 raw_written c p t d w a old n k = record {
-  value = unknown c p t w; forms = no_forms; content = (refl, inr (refl, refl, refl, refl, k)); elements = []; places = refl;
-  count = omega arith; written = overlay_none old n;
+  value = unknown c p t w;
+  forms = no_forms;
+  content = (refl, inr (refl, refl, refl, refl, k));
+  elements = [];
+  places = refl;
+  count = omega arith;
+  written = overlay_none old n;
 }
 
 pub content_written : (c : Class) (p : Bool) (t d : ℕ) (w : List ℕ) (a : ℕ) (old : List Element) (n m : ℕ) → m ≡ n → IsLeafOrKept c p t w

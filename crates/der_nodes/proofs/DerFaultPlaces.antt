@@ -1,5 +1,5 @@
 -- Where refusals stand.
-use Rattle.std.proofs.Common.{◌≡◌, ◌≢◌, ℕ, zero, suc, ◌+◌, ◌-◌, ◌<◌, ◌≤◌, ◌⊎◌, Bool, true, false, IsTrue, List, [], ◌++◌, length, refl, sym, ap, subst, ◌∙◌, arith, inl, inr, Err, length-append}
+use Rattle.std.proofs.Common.{◌≡◌, ◌≢◌, ℕ, zero, suc, ◌+◌, ◌-◌, ◌<◌, ◌≤◌, ◌⊎◌, Bool, true, IsTrue, List, [], ◌++◌, length, refl, sym, ap, subst, ◌∙◌, arith, inl, inr, Err, length-append}
 use Rattle.der_base.specs.declared.error.Err.{Err as Refused}
 use Rattle.der_base.specs.declared.error.Err.TheVariants.{Incomplete, Error, Failure, OutOfMemory}
 use Rattle.der_base.specs.declared.error.Error.{Error as BerError}
@@ -14,14 +14,13 @@ use Rattle.der_base.specs.Headers.{BeginsWithDerHeader}
 use Rattle.der_base.specs.Refusal.{Refusal, refusal, incomplete, invalid_length}
 use Rattle.der_base.specs.Spelling.{max_object_size}
 use Rattle.der_base.specs.Leaf.{is_list}
-use Rattle.der_base.specs.LeafRefusal.{Test, IsFirstRefusal, choose, DerLeafRefuses}
+use Rattle.der_base.specs.LeafRefusal.{DerLeafRefuses}
 use Rattle.der_base.specs.Spelling.{DerSpells}
 use Rattle.der_base.specs.Stable.{DerIsCut}
-use Rattle.der_base.specs.Tree.{Node, Nodes, no_nodes, nodes}
-use Rattle.der_base.proofs.Framing.RawLists.{tail_more}
+use Rattle.der_base.specs.Tree.{Node, Nodes}
 use Rattle.der_base.proofs.Headers.DerHeaders.{der_header_same, der_header_not_refused}
 use Rattle.der_base.proofs.Octets.Identifiers.{fronts_same}
-use Rattle.der_laws.proofs.Spellings.DerWithinBer.{der_spelling_same, der_spelled_not_cut}
+use Rattle.der_laws.proofs.Spellings.DerWithinBer.{der_spelled_not_cut}
 use Rattle.der_laws.proofs.Answers.ItemAnswers.{some_octets}
 use Rattle.der_laws.proofs.Spellings.DerFaults.{header_shows, size_shows, content_shows, behind_shows, list_passes, joins_same, spelled_shows_nothing}
 use Rattle.der_nodes.proofs.BerWriting.{list_mapped}
@@ -114,9 +113,18 @@ where_at d i n e k (inl h) = inl (in_header h.0, h.1)
 where_at d i n e k (inr (inl (c, p, t, m, r, b, s, q, z))) = inl (in_size c p t m r b s, z)
 where_at d i n e k (inr (inr (p, t, w, rest, b, s, m, inl h))) = inl (in_leaf p t w rest b h.0, h.1)
 where_at d i n e k (inr (inr (p, t, w, rest, b, s, m, inr (list, q, (l, u, r, parts, j, some, h))))) = inr (record {
-  t = t; w = w; rest = rest; l = l; u = u; r = r;
+  t = t;
+  w = w;
+  rest = rest;
+  l = l;
+  u = u;
+  r = r;
   begins = subst (λ p. BeginsWithDerHeader i Universal p t (length w) (w ++ rest)) q b;
-  small = s; list = list; parts = parts; joins = j; item = h;
+  small = s;
+  list = list;
+  parts = parts;
+  joins = j;
+  item = h;
 })
 
 here_or_inside : (d : ℕ) (i : List ℕ) (n : ℕ) (e e' : Refusal) (k : ℕ) → Here d i e → Inside d i n e' k → ⊥
@@ -153,8 +161,8 @@ inside_once d i n e e' k k' f y y' =
     let m' = n + (length i - length y'.rest - length y'.w) + length y'.u in
     let at : m' ≡ m = omega (arith, ap length same.0, ap length same.1, ap length z.0) in
     let back : DerShowsFaultAt d y.r m e' k' ⊎ ((x : ℕ) × DerIsCut d y.r x × (e' ≡ incomplete (Size x)) × (k' ≡ m)) =
-      subst (λ v. DerShowsFaultAt d v m e' k' ⊎ ((x : ℕ) × DerIsCut d v x × (e' ≡ incomplete (Size x)) × (k' ≡ m))) (sym z.2)
-        (subst (λ v. DerShowsFaultAt d y'.r v e' k' ⊎ ((x : ℕ) × DerIsCut d y'.r x × (e' ≡ incomplete (Size x)) × (k' ≡ v))) at y'.item) in
+    subst (λ v. DerShowsFaultAt d v m e' k' ⊎ ((x : ℕ) × DerIsCut d v x × (e' ≡ incomplete (Size x)) × (k' ≡ m))) (sym z.2)
+    (subst (λ v. DerShowsFaultAt d y'.r v e' k' ⊎ ((x : ℕ) × DerIsCut d y'.r x × (e' ≡ incomplete (Size x)) × (k' ≡ v))) at y'.item) in
     item_once d y.r m e e' k k' f y.item back
 
 pub place_once : (d : ℕ) (i : List ℕ) (n : ℕ) (e e' : Refusal) (k k' : ℕ) → DerShowsFaultAt d i n e k → DerShowsFaultAt d i n e' k' → k ≡ k'

@@ -5,12 +5,11 @@ use Rattle.der_base.specs.declared.header.Class.{Class}
 use Rattle.der_base.specs.declared.header.Class.TheVariants.{Universal}
 use Rattle.der_base.specs.declared.header.Length.TheVariants.{Definite}
 use Rattle.der_base.specs.Headers.{BeginsWithHeader, BeginsWithDerHeader}
-use Rattle.der_base.specs.Inner.Framed.{AreElements, no_elements, elements}
-use Rattle.der_base.specs.Leaf.{is_list, is_mapped, IsLeafContent}
+use Rattle.der_base.specs.Inner.Framed.{no_elements, elements}
+use Rattle.der_base.specs.Leaf.{is_list, IsLeafContent}
 use Rattle.der_base.specs.Octets.{identifier, leading_bits}
 use Rattle.der_base.specs.Refusal.{Refusal}
-use Rattle.der_base.specs.Spelling.{end_marker, framing_budget, max_object_size}
-use Rattle.der_base.specs.Tree.{Content}
+use Rattle.der_base.specs.Spelling.{end_marker, framing_budget}
 use Rattle.der_base.proofs.Octets.Identifiers.{head_same, identifier_short}
 use Rattle.der_base.proofs.Octets.ShortestLengths.{shortest_short}
 use Rattle.der_nodes.specs.declared.element.Element.{Element}
@@ -68,8 +67,14 @@ der_plain_written d i w r t end n old new deep room s (some, lt, leaf) put =
     der_writing.element_written d i (w ++ r) w r Universal false t (length w) end old old new n (n + 1) _ room begins (omega (arith, s.0)) refl refl
     (der_writing.leaf_written Universal false t d w (end - length r) old (n + 1) deep refl leaf)
     (record {
-      class = refl; constructed = refl; definite = refl; number = refl;
-      header = omega (arith, size, room); content = refl; end = refl; inside = omega arith;
+      class = refl;
+      constructed = refl;
+      definite = refl;
+      number = refl;
+      header = omega (arith, size, room);
+      content = refl;
+      end = refl;
+      inside = omega arith;
     }) put
 
 pub der_list_written : (d : ℕ) (i w r : List ℕ) (first end n m : ℕ) (old mid new : List Element) → 1 ≤ d → n + length i ≤ end → IsShort i first w r → IsListOctet first
@@ -83,8 +88,14 @@ der_list_written d i w r first end n m old mid new deep room s is items put =
     der_writing.element_written d i (w ++ r) w r Universal true t (length w) end old mid new n m _ room begins (omega (arith, s.0)) refl refl
     (der_writing.list_written Universal true t d w (end - length r) old (n + 1) m mid deep refl refl q.0 items)
     (record {
-      class = refl; constructed = refl; definite = refl; number = refl;
-      header = omega (arith, size, room); content = refl; end = refl; inside = refl;
+      class = refl;
+      constructed = refl;
+      definite = refl;
+      number = refl;
+      header = omega (arith, size, room);
+      content = refl;
+      end = refl;
+      inside = refl;
     }) put
 
 pub der_list_refused : (d : ℕ) (i w r : List ℕ) (first end : ℕ) (e : Refusal) (q : ℕ) → 1 ≤ d → length i ≤ end → IsShort i first w r → IsListOctet first
@@ -113,11 +124,14 @@ ber_plain_written k d i w r t end n old new budget le deep room s (some, lt, (x,
     let ends : end - length r ≡ a + length w = omega (arith, length-append w r, size, room) in
     let none : 0 ≡ (n + 1) - n - 1 = omega arith in
     let same : universal_element false t (length w) (end - length r) 0
-    ≡ record { class = Universal; constructed = false; definite = true; number = t; header = end - length i; content = a; end = a + length w; inside = (n + 1) - n - 1 } = cc in
-    (e.0, e.2, elements (is_element e.1) other no_elements (sym (append-nil e.0)),
-    ber_writing.spelling_written e.0 w Universal false t (Definite (length w)) k d (end - length i) a old old n (n + 1) new le deep e.1
-    (ber_writing.leaf_written Universal false t d w a old (n + 1) refl (x, is))
-    (put ∙ ap (λ v. overlay old n (v ∷ [])) same))
+    ≡ record { class = Universal; constructed = false; definite = true; number = t; header = end - length i; content = a; end = a + length w; inside = (n + 1) - n - 1 } = cc in (
+      e.0,
+      e.2,
+      elements (is_element e.1) other no_elements (sym (append-nil e.0)),
+      ber_writing.spelling_written e.0 w Universal false t (Definite (length w)) k d (end - length i) a old old n (n + 1) new le deep e.1
+          (ber_writing.leaf_written Universal false t d w a old (n + 1) refl (x, is))
+          (put ∙ ap (λ v. overlay old n (v ∷ [])) same),
+    )
 
 pub framed_element : (k d : ℕ) (i : List ℕ) (end : ℕ) (old : List Element) (n : ℕ) (rest : List ℕ) (m : ℕ) (new : List Element)
     → WritesFramed k d i end old n rest m new → WritesElement d i end old n rest m new
@@ -137,10 +151,13 @@ ber_list_written d i w r first end n m old mid new deep room s is items put =
     let start : end - length r - length w - 2 ≡ end - length i = omega (arith, size, room) in
     let ends : end - length r ≡ a + length w = omega (arith, length-append w r, size, room) in
     let same : universal_element true t (length w) (end - length r) (m - n - 1)
-    ≡ record { class = Universal; constructed = true; definite = true; number = t; header = end - length i; content = a; end = a + length w; inside = m - n - 1 } = cc in
-    (e.0, e.2, ber_writing.spelling_written e.0 w Universal true t (Definite (length w)) framing_budget d (end - length i) a old mid n m new (omega arith) deep e.1
-    (ber_writing.list_written Universal true t d w a old (n + 1) m mid refl refl q.0 (subst (λ z. WritesItems (d - 1) w z old (n + 1) m mid) at items))
-    (put ∙ ap (λ v. overlay mid n (v ∷ [])) same))
+    ≡ record { class = Universal; constructed = true; definite = true; number = t; header = end - length i; content = a; end = a + length w; inside = m - n - 1 } = cc in (
+      e.0,
+      e.2,
+      ber_writing.spelling_written e.0 w Universal true t (Definite (length w)) framing_budget d (end - length i) a old mid n m new (omega arith) deep e.1
+          (ber_writing.list_written Universal true t d w a old (n + 1) m mid refl refl q.0 (subst (λ z. WritesItems (d - 1) w z old (n + 1) m mid) at items))
+          (put ∙ ap (λ v. overlay mid n (v ∷ [])) same),
+    )
 
 pub ber_list_refused : (d : ℕ) (i w r : List ℕ) (first end : ℕ) (e : Refusal) (q : ℕ) → 1 ≤ d → length i ≤ end → IsShort i first w r → IsListOctet first
     → ItemsRefuseAt w (d - 1) (end - length r - length w) e q → ShowsFaultAt d i (end - length i) e q

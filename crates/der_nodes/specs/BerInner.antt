@@ -1,18 +1,15 @@
 -- What the functions of the reader of BER write and return.
 use Rattle.std.specs.Prelude.{◌≡◌, ℕ, ◌+◌, ◌-◌, ◌≤◌, ◌⊎◌, Bool, true, false, List, [], ◌∷◌, ◌++◌, length}
 use Rattle.std.specs.Prelude.{Result, Ok, Err}
-use Rattle.std.specs.Borrow.{Bor}
 use Rattle.der_base.specs.declared.error.Err.{Err as Refusing}
-use Rattle.der_base.specs.declared.error.Err.TheVariants.{Incomplete, Error, Failure, OutOfMemory}
+use Rattle.der_base.specs.declared.error.Err.TheVariants.{Error}
 use Rattle.der_base.specs.declared.error.Error.{Error as BerError}
 use Rattle.der_base.specs.declared.header.Class.{Class}
 use Rattle.der_base.specs.declared.header.Class.TheVariants.{Universal}
 use Rattle.der_base.specs.declared.header.Header.{Header}
 use Rattle.der_base.specs.declared.header.Length.{Length}
 use Rattle.der_base.specs.declared.header.Length.TheVariants.{Definite, Indefinite}
-use Rattle.der_base.specs.Answer.{MatchAnswer}
-use Rattle.der_base.specs.Content.{BeginsWithContent, ContentLacks}
-use Rattle.der_base.specs.Header.{class_of, is_constructed, number_of, length_of}
+use Rattle.der_base.specs.Header.{class_of, is_constructed, number_of}
 use Rattle.der_base.specs.Inner.Framed.{AreElements, Spells, HasContent, JoinSpellings}
 use Rattle.der_base.specs.Listing.{object_count, content_count, item_count}
 use Rattle.der_base.specs.Refusal.{Refusal, refusal, max_depth}
@@ -20,7 +17,7 @@ use Rattle.der_base.specs.Spelling.{Form, Forms}
 use Rattle.der_base.specs.Tree.{Node, Content, Nodes}
 use Rattle.der_nodes.specs.declared.element.Element.{Element}
 use Rattle.der_nodes.specs.declared.ber_reader.Refused.{Refused}
-use Rattle.der_base.specs.Leaf.{is_mapped, IsLeafContent}
+use Rattle.der_base.specs.Leaf.{IsLeafContent}
 use Rattle.der_base.specs.Spelling.{IsKept}
 use Rattle.der_nodes.specs.FaultPlaces.{InsideRefusesAt, ContentRefusesAt}
 use Rattle.der_nodes.specs.Places.{AreElementsOf, AreInContent, AreInItems, overlay}

@@ -1,5 +1,6 @@
 -- What the functions of the readers of DER write and return.
-use Rattle.std.specs.Prelude.{◌≡◌, ℕ, ◌+◌, ◌-◌, ◌<◌, ◌≤◌, Bool, true, false, List, [], ◌∷◌, ◌++◌, length, Result, MatchResult}
+use Rattle.std.specs.Prelude.{◌≡◌, ℕ, ◌+◌, ◌-◌, ◌<◌, ◌≤◌, Bool, true, false, List, ◌∷◌, ◌++◌, length}
+use Rattle.std.specs.Prelude.{Result, MatchResult}
 use Rattle.der_base.specs.declared.header.Class.{Class}
 use Rattle.der_base.specs.declared.header.Class.TheVariants.{Universal}
 use Rattle.der_base.specs.Encoding.{content_octets}
@@ -64,7 +65,8 @@ pub record WritesDerContent (c : Class) (p : Bool) (t d : ℕ) (w : List ℕ) (e
   pub written : new ≡ overlay old n (placed_content value (end - length w))
 
 -- and of items
-pub record WritesDerItems (d : ℕ) (w : List ℕ) (end : ℕ) (old : List Element) (n m : ℕ) (new : List Element) : Type 0 where
+pub record WritesDerItems (d : ℕ) (w : List ℕ) (end : ℕ) (old : List Element) (n m : ℕ) (new : List Element)
+    : Type 0 where
   pub items : Nodes
   pub joins : DerJoins w items d
   pub count : m ≡ n + item_count items

@@ -1,8 +1,8 @@
 //! One element of BER and what is inside it: element, content and items call each other, a depth less
 //! at each list. The inside of an indefinite length is read once: its elements are framed and read on
 //! the way. Errors of framing come first, so the first error of a value waits until framing ends.
-ghost use Rattle.std.specs.Prelude.{◌≡◌, ◌⊎◌, ◌+◌, ◌-◌, ◌*◌, ◌^◌, ◌<◌, ◌≤◌, ◌↔◌, ℕ, List, true, IfOk, IfSome, IsTrue, length};
-ghost use Rattle.std.specs.Prelude.{MatchOption};
+ghost use Rattle.std.specs.Prelude.{◌≡◌, ◌⊎◌, ◌+◌, ◌-◌, ◌*◌, ◌^◌, ◌<◌, ◌≤◌, ◌↔◌, ℕ, List, true};
+ghost use Rattle.std.specs.Prelude.{IfOk, IfSome, IsTrue, MatchOption, length};
 ghost use Rattle.der_base.specs.declared.header.Class.{Class};
 ghost use Rattle.der_base.specs.declared.header.Length.{Length};
 ghost use Rattle.der_base.specs.Answer.{MatchAnswer};
@@ -81,12 +81,20 @@ pub(crate) fn read_element<'a>(
                 place,
             )?;
             let inside = next - count - 1;
-            put(nodes, count, universal_element(true, short.first - 32, size, behind, inside));
+            put(
+                nodes,
+                count,
+                universal_element(true, short.first - 32, size, behind, inside),
+            );
             return Ok((short.rest, next));
         }
         if is_plain_leaf(short.first, short.content) {
             *headers += 1;
-            put(nodes, count, universal_element(false, short.first, size, behind, 0));
+            put(
+                nodes,
+                count,
+                universal_element(false, short.first, size, behind, 0),
+            );
             return Ok((short.rest, count + 1));
         }
     }
@@ -108,7 +116,8 @@ fn read_plain<'a>(
     requires room { count + length i.now ≤ end }
     ensures found { MatchOption result
         (nodes.new ≡ nodes.old)
-        (λ x. (2 ≤ budget) × WritesFramed (budget - 1) max_depth i.now end nodes.old count x.now (count + 1) nodes.new) }
+        (λ x. (2 ≤ budget)
+        × WritesFramed (budget - 1) max_depth i.now end nodes.old count x.now (count + 1) nodes.new) }
     ensures shorter { IfSome result (λ x. length x.now + 2 ≤ length i.now) }
 {
     let short = read_short(i)?;
@@ -116,7 +125,11 @@ fn read_plain<'a>(
         return None;
     }
     let behind = end - short.rest.len();
-    put(nodes, count, universal_element(false, short.first, short.content.len(), behind, 0));
+    put(
+        nodes,
+        count,
+        universal_element(false, short.first, short.content.len(), behind, 0),
+    );
     Some(short.rest)
 }
 
@@ -177,14 +190,7 @@ fn read_any<'a>(
             Ok((rest, next))
         }
         Length::Indefinite => read_outermost(
-            &header,
-            behind,
-            end,
-            max_depth,
-            nodes,
-            count,
-            headers,
-            place,
+            &header, behind, end, max_depth, nodes, count, headers, place,
         ),
     }
 }
@@ -528,15 +534,7 @@ fn read_inside<'a>(
             Ok((rest, values))
         }
         Length::Indefinite => read_open(
-            header,
-            behind,
-            end,
-            budget,
-            max_depth,
-            nodes,
-            count,
-            headers,
-            place,
+            header, behind, end, budget, max_depth, nodes, count, headers, place,
         ),
     }
 }
@@ -618,7 +616,8 @@ fn read_content(
     ensures found { let a = end - length octets.now in let h = header.now in MatchAnswer result
         (λ m. WritesContent (class_of h) (is_constructed h) (number_of h) max_depth octets.now a nodes.old count m
         nodes.new)
-        (λ e. ContentRefusesAt (class_of h) (is_constructed h) (number_of h) octets.now max_depth place.old a e place.new)
+        (λ e. ContentRefusesAt (class_of h) (is_constructed h) (number_of h) octets.now max_depth place.old a e
+        place.new)
         (λ _. ⊥)
         ⊥ }
     ensures within { IfOk result (λ m. (count ≤ m) × (m ≤ end)) }

@@ -45,13 +45,28 @@ pub(crate) fn read_element<'a>(
         let behind = end - short.rest.len();
         let size = short.content.len();
         if is_list_octet(short.first) {
-            let next = read_items(short.content, behind, max_depth - 1, nodes, count + 1, place)?;
+            let next = read_items(
+                short.content,
+                behind,
+                max_depth - 1,
+                nodes,
+                count + 1,
+                place,
+            )?;
             let inside = next - count - 1;
-            put(nodes, count, universal_element(true, short.first - 32, size, behind, inside));
+            put(
+                nodes,
+                count,
+                universal_element(true, short.first - 32, size, behind, inside),
+            );
             return Ok((short.rest, next));
         }
         if is_plain_leaf(short.first, short.content) {
-            put(nodes, count, universal_element(false, short.first, size, behind, 0));
+            put(
+                nodes,
+                count,
+                universal_element(false, short.first, size, behind, 0),
+            );
             return Ok((short.rest, count + 1));
         }
     }
@@ -133,8 +148,10 @@ fn read_content(
     requires deep { 1 ≤ max_depth }
     requires room { count + length octets.now ≤ end }
     ensures found { let h = header.now in MatchAnswer result
-        (λ m. WritesDerContent (class_of h) (is_constructed h) (number_of h) max_depth octets.now end nodes.old count m nodes.new)
-        (λ e. DerContentRefusesAt (class_of h) (is_constructed h) (number_of h) octets.now max_depth place.old (end - length octets.now) e place.new)
+        (λ m. WritesDerContent (class_of h) (is_constructed h) (number_of h) max_depth octets.now end nodes.old count m
+        nodes.new)
+        (λ e. DerContentRefusesAt (class_of h) (is_constructed h) (number_of h) octets.now max_depth place.old
+        (end - length octets.now) e place.new)
         (λ _. ⊥)
         ⊥ }
     ensures within { IfOk result (λ m. (count ≤ m) × (m ≤ end)) }

@@ -135,11 +135,7 @@ fn check_string(tag: Tag, content: &[u8]) -> Result<(), BerError>
 /// Checks the content octets of a universal type other than SEQUENCE and SET, in an element that is
 /// constructed or not.
 #[inline(always)]
-pub(crate) fn check_ber_leaf(
-    constructed: bool,
-    tag: Tag,
-    content: &[u8],
-) -> Result<(), BerError>
+pub(crate) fn check_ber_leaf(constructed: bool, tag: Tag, content: &[u8]) -> Result<(), BerError>
     requires mapped { IsTrue (is_mapped tag.0) }
     requires no_list { is_list tag.0 ≡ false }
     ensures { ChecksLeaf constructed tag.0 content.now result }

@@ -14,5 +14,7 @@ mod short;
 mod tests;
 
 pub use element::Element;
-pub use parser::{check_ber, parse_ber_nodes, parse_ber_nodes_counted, parse_ber_nodes_placed};
-pub use parser::{check_der, parse_der_nodes, parse_der_nodes_placed};
+pub use parser::{
+    check_ber, check_der, parse_ber_nodes, parse_ber_nodes_counted, parse_ber_nodes_placed,
+    parse_der_nodes, parse_der_nodes_placed,
+};

@@ -85,8 +85,11 @@ read_any-returns-in_err-rest-in-Definite-clause-found t c =
     c.from_residual-in_err-rest-in-Definite.ensures.1 in
     rw (p.1, p.2) (passed_on _ _ c.in_err-rest-in-Definite.field-0.0 c.in_err-rest-in-Definite.ensures
     (λ e r. absurd r)
-    (λ n r. (any_cut d i n deep (any_lacks_content i behind (class_of h) (is_constructed h) (number_of h) (length_of h) n q.begins
-    (subst (λ v. ContentLacks behind v framing_budget n) (sym l) r)), refl))
+    (λ n r. (
+      any_cut d i n deep (any_lacks_content i behind (class_of h) (is_constructed h) (number_of h) (length_of h) n q.begins
+          (subst (λ v. ContentLacks behind v framing_budget n) (sym l) r)),
+      refl,
+    ))
     (λ m. absurd m))
 
 pub read_any-returns-in_err-next-in-Definite-clause-found : goal.read_any-returns-in_err-next-in-Definite-clause-found
@@ -146,19 +149,22 @@ read_any-returns-in_ok-next-in-Definite-clause-found t c =
     let at : end - length rest - length w ≡ end - length behind = omega (arith, c.requires.room, two, whole, length-append w rest) in
     let ends : end - length rest ≡ (end - length behind) + length w = omega (arith, c.requires.room, two, whole, length-append w rest) in
     let content = subst (λ z. WritesContent (class_of h) (is_constructed h) (number_of h) d w z c.args.nodes.now (n + 1) m c.read_content.new.nodes) at
-    c.in_ok-next-in-Definite.ensures.found in
-    (e.0, e.2, whole_written e.0 w h (length_of h) framing_budget d (end - length i) (end - length behind) c.args.nodes.now n m _ (omega arith) deep e.1
-    (whole_put h (length_of h) d w (end - length i) (end - length behind) c.args.nodes.now c.read_content.new.nodes _ n m _ content
-    (record {
-      class = c.class.ensures;
-      constructed = c.constructed.ensures;
-      definite = sym (ap is_definite l);
-      number = c.tag.ensures;
-      header = refl;
-      content = refl;
-      end = ends;
-      inside = refl;
-    }) c.put.ensures))
+    c.in_ok-next-in-Definite.ensures.found in (
+      e.0,
+      e.2,
+      whole_written e.0 w h (length_of h) framing_budget d (end - length i) (end - length behind) c.args.nodes.now n m _ (omega arith) deep e.1
+          (whole_put h (length_of h) d w (end - length i) (end - length behind) c.args.nodes.now c.read_content.new.nodes _ n m _ content
+          (record {
+            class = c.class.ensures;
+            constructed = c.constructed.ensures;
+            definite = sym (ap is_definite l);
+            number = c.tag.ensures;
+            header = refl;
+            content = refl;
+            end = ends;
+            inside = refl;
+          }) c.put.ensures),
+    )
 
 pub read_any-returns-in_ok-next-in-Definite-clause-bounded_ok : goal.read_any-returns-in_ok-next-in-Definite-clause-bounded_ok
 read_any-returns-in_ok-next-in-Definite-clause-bounded_ok t c =
@@ -190,8 +196,8 @@ read_any-returns-in-Indefinite-clause-found t c =
     (λ x y. elim y [
       | inl r ↦ framing_refused_at d i behind (class_of h) (is_constructed h) (number_of h) n a x _ deep b at r
       | inr (w, rest, f, r) ↦ (let e = element_at i behind w rest (class_of h) (is_constructed h) (number_of h) Indefinite framing_budget end (omega arith)
-      (omega (arith, c.requires.room)) b f in
-      content_refused_at d i w rest (class_of h) (is_constructed h) (number_of h) n a a x _ deep (begins_at i rest e.2 e.1) refl r)
+          (omega (arith, c.requires.room)) b f in
+          content_refused_at d i w rest (class_of h) (is_constructed h) (number_of h) n a a x _ deep (begins_at i rest e.2 e.1) refl r)
     ])
     (λ m y. (any_cut d i m deep (any_lacks_content i behind (class_of h) (is_constructed h) (number_of h) Indefinite m b y.0), y.1))
     (λ m. m)
@@ -309,11 +315,17 @@ read_inside-returns-in_ok-rest-in-Definite-clause-found t c =
     subst (λ v. BeginsWithContent behind v c.args.budget w rest) (sym l) c.in_ok-rest-in-Definite.ensures in
     let at : end - length rest - length w ≡ end - length behind =
     omega (arith, c.requires.room, ap length c.in_ok-rest-in-Definite.ensures.1, length-append w rest) in
-    let same : Definite (length w) ≡ length_of h = ap Definite c.in_ok-rest-in-Definite.ensures.0 ∙ sym l in
-    (w, f, values_answered c.read_value-values.result _ _ _ _ c.read_value-values.ensures.found
-    (λ m y. (deep, subst (λ z. WritesWhole h z d w start (end - length behind) c.args.nodes.now c.args.count m c.read_value-values.new.nodes) same
-    (subst (λ z. WritesWhole h (Definite (length w)) d w start z c.args.nodes.now c.args.count m c.read_value-values.new.nodes) at y)))
-    (λ e q y. inr (deep, subst (λ z. ContentRefusesAt (class_of h) (is_constructed h) (number_of h) w d start z e q) at y)))
+    let same : Definite (length w) ≡ length_of h = ap Definite c.in_ok-rest-in-Definite.ensures.0 ∙ sym l in (
+      w,
+      f,
+      values_answered c.read_value-values.result _ _ _ _ c.read_value-values.ensures.found
+          (λ m y. (
+            deep,
+            subst (λ z. WritesWhole h z d w start (end - length behind) c.args.nodes.now c.args.count m c.read_value-values.new.nodes) same
+                (subst (λ z. WritesWhole h (Definite (length w)) d w start z c.args.nodes.now c.args.count m c.read_value-values.new.nodes) at y),
+          ))
+          (λ e q y. inr (deep, subst (λ z. ContentRefusesAt (class_of h) (is_constructed h) (number_of h) w d start z e q) at y)),
+    )
 
 pub read_inside-returns-in-Indefinite-clause-found : goal.read_inside-returns-in-Indefinite-clause-found
 read_inside-returns-in-Indefinite-clause-found t c =
@@ -323,9 +335,13 @@ read_inside-returns-in-Indefinite-clause-found t c =
     let deep : 1 ≤ d = omega arith in
     let l : length_of h ≡ Indefinite = sym c.length-2.ensures ∙ c.in-Indefinite.is in
     answered _ _ c.read_open.result c.read_open.ensures.found
-    (λ x y. (y.0, rw l y.1, values_answered x.1 _ _ _ _ y.2
-    (λ m z. (deep, subst (λ v. WritesWhole h v d y.0 c.args.place.now a c.args.nodes.now c.args.count m c.read_open.new.nodes) (sym l) z))
-    (λ e q z. inr (deep, z))))
+    (λ x y. (
+      y.0,
+      rw l y.1,
+      values_answered x.1 _ _ _ _ y.2
+          (λ m z. (deep, subst (λ v. WritesWhole h v d y.0 c.args.place.now a c.args.nodes.now c.args.count m c.read_open.new.nodes) (sym l) z))
+          (λ e q z. inr (deep, z)),
+    ))
     (λ e y. rw l y) (λ n y. rw l y) (λ m. m)
 
 -- the content of an indefinite length
@@ -335,18 +351,25 @@ read_open_content-returns-then-is_list-clause-found t c =
     let h = c.args.header.now in
     let is : (class_of h ≡ Universal) × IsTrue (is_list (number_of h)) = c.is_list.ensures.0 c.if-is_list.true in
     answered _ _ c.read_to_end_marker.result c.read_to_end_marker.ensures.found
-    (λ x y. (y.0, y.1, values_answered x.1 _ _ _ _ y.2
-    (λ m z. list_written (class_of h) (is_constructed h) (number_of h) c.args.max_depth y.0 _ c.args.nodes.now c.args.count m c.read_to_end_marker.new.nodes is.0 c.requires.constructed is.1 z)
-    (λ e q z. (is.0, list_mapped (number_of h) is.1, inr (is.1, c.requires.constructed, z)))))
+    (λ x y. (
+      y.0,
+      y.1,
+      values_answered x.1 _ _ _ _ y.2
+          (λ m z. list_written (class_of h) (is_constructed h) (number_of h) c.args.max_depth y.0 _ c.args.nodes.now c.args.count m c.read_to_end_marker.new.nodes is.0 c.requires.constructed is.1 z)
+          (λ e q z. (is.0, list_mapped (number_of h) is.1, inr (is.1, c.requires.constructed, z))),
+    ))
     (λ e y. y) (λ n y. y) (λ m. m)
 
 pub read_open_content-returns-clause-found : goal.read_open_content-returns-clause-found
 read_open_content-returns-clause-found t c =
     let h = c.args.header.now in
-    let w = c.in_ok-rest.content.now in
-    (w, c.in_ok-rest.ensures.found, values_answered c.check_framed.result _ _ _ _ c.check_framed.ensures
-    (λ m y. content_written (class_of h) (is_constructed h) (number_of h) c.args.max_depth w _ c.args.nodes.now c.args.count m y.0 y.1)
-    (λ e q y. (y.0, y.1, inl (y.2, y.3))))
+    let w = c.in_ok-rest.content.now in (
+      w,
+      c.in_ok-rest.ensures.found,
+      values_answered c.check_framed.result _ _ _ _ c.check_framed.ensures
+          (λ m y. content_written (class_of h) (is_constructed h) (number_of h) c.args.max_depth w _ c.args.nodes.now c.args.count m y.0 y.1)
+          (λ e q y. (y.0, y.1, inl (y.2, y.3))),
+    )
 
 pub read_open_content-returns-clause-counted : goal.read_open_content-returns-clause-counted
 read_open_content-returns-clause-counted t c =
@@ -378,9 +401,12 @@ read_to_end_marker-returns-then-budget-eq1-clause-found t c =
 pub read_to_end_marker-returns-then-begins_with_end_marker-clause-found : goal.read_to_end_marker-returns-then-begins_with_end_marker-clause-found
 read_to_end_marker-returns-then-begins_with_end_marker-clause-found t c =
     let k = c.elements.invariant in
-    let e = ends_here _ k.2 k.1 c.in_ok-behind.ensures.found.begins (omega arith) c.if-begins_with_end_marker.ensures in
-    (k.0, e.1, subst (λ y. WritesItems c.args.max_depth k.0 (c.args.end - length c.args.i.now) c.args.nodes.now c.args.count c.elements.next y)
-    (sym c.in_default.ensures.found) k.3)
+    let e = ends_here _ k.2 k.1 c.in_ok-behind.ensures.found.begins (omega arith) c.if-begins_with_end_marker.ensures in (
+      k.0,
+      e.1,
+      subst (λ y. WritesItems c.args.max_depth k.0 (c.args.end - length c.args.i.now) c.args.nodes.now c.args.count c.elements.next y)
+          (sym c.in_default.ensures.found) k.3,
+    )
 
 pub read_to_end_marker-returns-then-begins_with_end_marker-clause-within : goal.read_to_end_marker-returns-then-begins_with_end_marker-clause-within
 read_to_end_marker-returns-then-begins_with_end_marker-clause-within t c =
@@ -507,8 +533,15 @@ pub read_to_end_marker-returns-in_err-behind-in-Err-clause-bounded : goal.read_t
 read_to_end_marker-returns-in_err-behind-in-Err-clause-bounded t c =
     let k = c.elements.invariant in
     let two = header_takes_two _ _ _ _ _ _ c.in_ok-behind.ensures.found.begins in
-    omega (arith, k.6, two, ap length k.1, length-append k.0 c.elements.rest.now, c.in_ok-after.ensures.bounded_framed,
-    c.in_err-behind-in-Err.ensures.bounded)
+    omega (
+      arith,
+      k.6,
+      two,
+      ap length k.1,
+      length-append k.0 c.elements.rest.now,
+      c.in_ok-after.ensures.bounded_framed,
+      c.in_err-behind-in-Err.ensures.bounded,
+    )
 
 pub read_to_end_marker-returns-in-Err-clause-found : goal.read_to_end_marker-returns-in-Err-clause-found
 read_to_end_marker-returns-in-Err-clause-found t c =

@@ -1,10 +1,10 @@
-use Rattle.std.proofs.Common.{◌≡◌, false, IsTrue, rules, refl, inl, inr}
+use Rattle.std.proofs.Common.{◌≡◌, false, IsTrue, rules, refl, inr}
 use Rattle.der_base.specs.declared.header.Class.TheVariants.{Universal}
 use Rattle.der_base.specs.Header.{class_of, is_constructed, number_of}
-use Rattle.der_base.specs.Leaf.{is_mapped, IsLeafContent}
+use Rattle.der_base.specs.Leaf.{is_mapped}
 use Rattle.der_base.specs.LeafRefusal.{BerLeafRefuses}
 use Rattle.der_base.specs.Refusal.{refusal}
-use Rattle.der_base.specs.Tree.{Content, unknown}
+use Rattle.der_base.specs.Tree.{unknown}
 use Rattle.der_nodes.proofs.ber_reader.check_framed.Goals as goal
 
 pub returns-then-not-is_universal : goal.returns-then-not-is_universal

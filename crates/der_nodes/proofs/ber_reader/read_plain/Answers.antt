@@ -1,4 +1,4 @@
-use Rattle.std.proofs.Common.{◌≡◌, ◌-◌, ◌≤◌, true, IsTrue, rules, arith}
+use Rattle.std.proofs.Common.{◌-◌, ◌≤◌, IsTrue, rules, arith}
 use Rattle.std.proofs.lemmas.Bool.Decides.{nat_tests}
 use Rattle.der_nodes.specs.Inner.{IsPlainLeaf}
 use Rattle.der_nodes.proofs.ShortLaws.{ber_plain_written}
@@ -10,6 +10,8 @@ returns-clause-found c =
     let is : IsTrue c.is_plain_leaf.result = search rules in
     let leaf : IsPlainLeaf short.first short.content.now = c.is_plain_leaf.ensures is in
     let two : 2 ≤ c.args.budget = grind (arith, nat_tests) in
-    let deep : 1 ≤ c.args.max_depth = grind (arith, nat_tests) in
-    (two, ber_plain_written (c.args.budget - 1) c.args.max_depth c.args.i.now short.content.now short.rest.now short.first c.args.end c.args.count c.args.nodes.now c.put.new.nodes
-    (omega (arith, two)) (omega (arith, c.requires.bounded)) deep c.requires.room c.in_ok-short.ensures leaf (rw (← c.universal_element.ensures) c.put.ensures))
+    let deep : 1 ≤ c.args.max_depth = grind (arith, nat_tests) in (
+      two,
+      ber_plain_written (c.args.budget - 1) c.args.max_depth c.args.i.now short.content.now short.rest.now short.first c.args.end c.args.count c.args.nodes.now c.put.new.nodes
+          (omega (arith, two)) (omega (arith, c.requires.bounded)) deep c.requires.room c.in_ok-short.ensures leaf (rw (← c.universal_element.ensures) c.put.ensures),
+    )

@@ -12,8 +12,7 @@ use Rattle.der_base.specs.Tree.{nodes_of}
 use Rattle.der_base.proofs.Answers.Answering.{passed_on, answered}
 use Rattle.der_der.proofs.Items.{header_cut, content_cut, header_shorter}
 use Rattle.der_nodes.proofs.DerFaultPlaces.{header_refused_at, size_refused_at, content_refused_at, item_refused_at, items_refuse_at}
-use Rattle.der_nodes.specs.Inner.{IsDerLeafOf, WritesDerItems}
-use Rattle.std.proofs.Common.{subst}
+use Rattle.der_nodes.specs.Inner.{IsDerLeafOf}
 use Rattle.der_nodes.proofs.ShortLaws.{IsListOctet, der_plain_written, der_list_written, der_list_refused}
 use Rattle.der_nodes.proofs.DerWriting.{raw_written, leaf_written, sequence_written, set_written, element_written, none_so_far, one_more_written, all_written}
 use Rattle.der_nodes.proofs.der_reader.+der_reader.Goals as goal
@@ -64,9 +63,11 @@ pub read_any-returns-then-rest-length-clause-found : goal.read_any-returns-then-
 read_any-returns-then-rest-length-clause-found t c =
     let h = c.in_ok-rest.header in
     let found = c.in_ok-rest.ensures.found in
-    let size : c.in_ok-length.length ≡ found.size = (let stated = found.length in let taken = c.length.ensures in let is = c.in_ok-length.ensures in cc) in
-    (content_cut c.args.max_depth c.args.i.now c.in_ok-rest.rest.now (class_of h) (is_constructed h) (number_of h) found.size c.lacking.result (omega arith) found.begins (omega arith) (omega arith)
-    (λ u. c.lacking.ensures.universal u ∙ size) (λ u. c.lacking.ensures.other u ∙ size), refl)
+    let size : c.in_ok-length.length ≡ found.size = (let stated = found.length in let taken = c.length.ensures in let is = c.in_ok-length.ensures in cc) in (
+      content_cut c.args.max_depth c.args.i.now c.in_ok-rest.rest.now (class_of h) (is_constructed h) (number_of h) found.size c.lacking.result (omega arith) found.begins (omega arith) (omega arith)
+          (λ u. c.lacking.ensures.universal u ∙ size) (λ u. c.lacking.ensures.other u ∙ size),
+      refl,
+    )
 
 pub read_any-overflow_add-count : goal.read_any-overflow_add-count
 read_any-overflow_add-count t c =

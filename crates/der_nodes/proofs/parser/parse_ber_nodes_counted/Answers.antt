@@ -1,4 +1,4 @@
-use Rattle.std.proofs.Common.{◌≡◌, ◌-◌, zero, List, length, ◌∙◌, zero-add, subst, arith}
+use Rattle.std.proofs.Common.{◌≡◌, ◌-◌, zero, length, ◌∙◌, zero-add, subst, arith}
 use Rattle.der_base.specs.Listing.{object_count}
 use Rattle.der_base.proofs.Answers.Answering.{answered, ok_weaker}
 use Rattle.der_base.proofs.Answers.Exactness.{exactly}
@@ -23,5 +23,13 @@ returns-clause-nodes c =
     let i = c.args.i.now in
     let start : length i - length i ≡ zero = omega arith in
     ok_weaker _ _ _ c.read_element.result _ c.read_element.ensures.found
-    (λ x k. (k.2.object, k.0, k.1, restated_back k.0 k.2.object d (k.2.form, k.2.spells), k.2.count ∙ zero-add (object_count k.2.object),
-    k.2.elements, subst (λ n. AreElementsOf k.0 n k.2.object k.2.elements) start k.2.places, k.2.written))
+    (λ x k. (
+      k.2.object,
+      k.0,
+      k.1,
+      restated_back k.0 k.2.object d (k.2.form, k.2.spells),
+      k.2.count ∙ zero-add (object_count k.2.object),
+      k.2.elements,
+      subst (λ n. AreElementsOf k.0 n k.2.object k.2.elements) start k.2.places,
+      k.2.written,
+    ))

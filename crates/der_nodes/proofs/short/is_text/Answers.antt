@@ -1,4 +1,3 @@
-use Rattle.std.proofs.Common.{◌≡◌}
 use Rattle.der_base.specs.Text.{IsTextOf}
 use Rattle.der_nodes.proofs.LeafChecks.{text_leaf}
 use Rattle.der_nodes.proofs.short.is_text.Goals as goal
