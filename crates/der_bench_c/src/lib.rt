@@ -3,8 +3,11 @@
 #![tactic(auto)]
 
 use der_distinguished_name::read_name;
-use der_parser::ber::{Any, BerObject, BerObjectContent, FaultWriter, Visit, parse_ber};
-use der_parser::der::parse_der;
+use der_nodes::{Element, parse_ber_nodes, parse_der_nodes};
+use der_parser::ber::{
+    Any, BerObject, BerObjectContent, FaultWriter, MAX_RECURSION, Visit, parse_ber,
+};
+use der_parser::der::{Class, parse_der};
 use names_reader::parse_name;
 use std::alloc::Global;
 use x509_reader::read_certificate;
@@ -22,7 +25,7 @@ enum Mode {
     Printed,
 }
 
-/// How many objects stand in an object, itself among them.
+/// How many objects are in an object, itself among them.
 #[cycle(counting)]
 fn count_object(object: &BerObject<'_>) -> u64 {
     match &object.content {
@@ -32,7 +35,7 @@ fn count_object(object: &BerObject<'_>) -> u64 {
     }
 }
 
-/// How many objects stand in objects, themselves among them.
+/// How many objects are in objects, themselves among them.
 #[cycle(counting)]
 fn count_objects(objects: &[BerObject<'_>]) -> u64 {
     let mut count: u64 = 0;
@@ -208,12 +211,59 @@ fn count_certificates(alloc: Global, s: &[u8]) -> u64 {
     certificates.len() as u64
 }
 
+/// How many elements one call of a reader of elements finds at the start of a slice, and what follows.
+fn read_nodes<'a>(s: &'a [u8], nodes: &mut [Element], is_der: bool) -> Option<(&'a [u8], usize)> {
+    let read = if is_der {
+        parse_der_nodes(s, MAX_RECURSION, nodes)
+    } else {
+        parse_ber_nodes(s, MAX_RECURSION, nodes)
+    };
+    read.ok()
+}
+
+/// How many elements a slice has, each written to the buffer as far as there is room; 0 where one is
+/// refused.
+fn count_nodes(s: &[u8], nodes: &mut [Element], is_der: bool) -> u64 {
+    let mut count: u64 = 0;
+    let mut left = s;
+    for _ in 0..u64::MAX {
+        if left.is_empty() {
+            break;
+        }
+        let Some((rest, number)) = read_nodes(left, nodes, is_der) else {
+            return 0;
+        };
+        count = count.wrapping_add(number as u64);
+        left = rest;
+    }
+    count
+}
+
+/// The same with a buffer of 65,536 elements.
+fn count_in_buffer(alloc: Global, s: &[u8], is_der: bool) -> u64 {
+    let none = Element {
+        class: Class::Universal,
+        constructed: false,
+        definite: false,
+        number: 0,
+        header: 0,
+        content: 0,
+        end: 0,
+        inside: 0,
+    };
+    match vec![in alloc; none; 65536] {
+        Ok(mut nodes) => count_nodes(s, &mut nodes, is_der),
+        Err(_) => 0,
+    }
+}
+
 /// One pass over the elements of a slice: 0 reads them by DER, 1 by BER, 2 by BER and writes each
 /// as DER does, 3 by BER and writes the text of each, 4 reads the outermost elements alone, 5 reads
 /// names (X.501 9.2), 6 reads elements by BER and counts them by a visitor, 7 reads names and keeps
-/// their attributes as octets, 8 reads certificates (RFC 5280). It keeps what it reads until its end,
-/// and answers how many objects it read, those inside lists among them, or how many attributes or
-/// certificates; 0 where an element is refused, and for another mode.
+/// their attributes as octets, 8 reads certificates (RFC 5280), 9 writes the elements of each to a
+/// buffer by DER, 10 does so without a buffer, 11 and 12 do these by BER. It keeps the objects that it
+/// reads until its end, and returns how many objects or elements it read, those inside lists among
+/// them, or how many attributes or certificates; 0 where an element is refused, and for another mode.
 #[unsafe(no_mangle)]
 pub extern "C" fn der_bench_pass(alloc: Global, s: &[u8], mode: u64) -> u64 {
     match mode {
@@ -226,6 +276,10 @@ pub extern "C" fn der_bench_pass(alloc: Global, s: &[u8], mode: u64) -> u64 {
         6 => count_visited(alloc, s),
         7 => count_octet_attributes(alloc, s),
         8 => count_certificates(alloc, s),
+        9 => count_in_buffer(alloc, s, true),
+        10 => count_nodes(s, &mut [], true),
+        11 => count_in_buffer(alloc, s, false),
+        12 => count_nodes(s, &mut [], false),
         _ => 0,
     }
 }
