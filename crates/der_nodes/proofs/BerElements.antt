@@ -78,14 +78,14 @@ placed_at {c = c} {p = p} {t = t} {w = w} j (closed s el ht hk hs eb ea) = recor
   inside = refl;
   octets = inl (s, ap is_definite el, hs, eb ∙ sym (append_assoc (identifier c p t) s w), ea);
 }
-placed_at {c = c} {p = p} {t = t} {w = w} j (opened el ep ht hk hw eb ea) = record {
+placed_at {c = c} {p = p} {t = t} {w = w} {k = k} j (opened el ep ht hk hw eb ea) = record {
   class = refl;
   constructed = refl;
   number = refl;
   header = refl;
   end = refl;
   inside = refl;
-  octets = inr (ap is_definite el, ep, eb ∙ sym (append_assoc (identifier c p t) (128 ∷ w) end_marker), ea);
+  octets = inr (ap is_definite el, ep, (k - 1, are_raws hw), eb ∙ sym (append_assoc (identifier c p t) (128 ∷ w) end_marker), ea);
 }
 
 -- one more of a list of elements

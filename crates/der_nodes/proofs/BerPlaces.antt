@@ -76,19 +76,20 @@ opened_located i f z b c p t w n k e q d at def eb ec =
 located : (i f z b : List ℕ) (c : Class) (p : Bool) (t : ℕ) (w : List ℕ) (n k : ℕ) (e : Element) → n ≡ length f → i ≡ f ++ b ++ z → IsElementAt b n c p t w k e → Located i w e
 located i f z b c p t w n k e q d at = elim at.octets [
   | inl (s, def, hs, eb, ec) ↦ closed_located i f z b s c p t w n k e q d at def hs eb ec
-  | inr (def, ep, eb, ec) ↦ opened_located i f z b c p t w n k e q d at def eb ec
+  | inr (def, ep, raw, eb, ec) ↦ opened_located i f z b c p t w n k e q d at def eb ec
 ]
 
 mutual
   object_in : (i f z b : List ℕ) (o : Node) (n : ℕ) (es : List Element) → n ≡ length f → i ≡ f ++ b ++ z → AreElementsOf b n o es → All (IsIn i) es
   object_in i f z b (node c p t x) n es q d (w, e, inner, eq, at, h) =
       let y = located i f z b c p t w n (length inner) e q d at in
-      subst (All (IsIn i)) (sym eq) (All-cons (IsIn i) e inner y.is (content_in i y.front y.behind w x e.content inner y.place y.octets h))
+      subst (All (IsIn i)) (sym eq) (All-cons (IsIn i) e inner y.is (content_in i y.front y.behind w c p t x e.content inner y.place y.octets h))
 
-  content_in : (i f z w : List ℕ) (x : Content) (n : ℕ) (es : List Element) → n ≡ length f → i ≡ f ++ w ++ z → AreInContent w n x es → All (IsIn i) es
-  content_in i f z w (sequence l) n es q d h = items_in i f z w l n es q d h
-  content_in i f z w (set l) n es q d h = items_in i f z w l n es q d h
-  content_in i f z w _ n es q d h = subst (All (IsIn i)) (sym h) (All-nil (IsIn i))
+  content_in : (i f z w : List ℕ) (c : Class) (p : Bool) (t : ℕ) (x : Content) (n : ℕ) (es : List Element) → n ≡ length f → i ≡ f ++ w ++ z
+      → AreInContent c p t w n x es → All (IsIn i) es
+  content_in i f z w c p t (sequence l) n es q d (ec, et, ep, h) = items_in i f z w l n es q d h
+  content_in i f z w c p t (set l) n es q d (ec, et, ep, h) = items_in i f z w l n es q d h
+  content_in i f z w c p t _ n es q d h = subst (All (IsIn i)) (sym h.0) (All-nil (IsIn i))
 
   items_in : (i f z w : List ℕ) (l : Nodes) (n : ℕ) (es : List Element) → n ≡ length f → i ≡ f ++ w ++ z → AreInItems w n l es → All (IsIn i) es
   items_in i f z w no_nodes n es q d h = subst (All (IsIn i)) (sym h.1) (All-nil (IsIn i))
@@ -107,12 +108,13 @@ same_kind e b n c p t w k at = let e1 = at.class in let e2 = at.constructed in l
 mutual
   object_order : (b : List ℕ) (n : ℕ) (o : Node) (es : List Element) (m : ℕ) → AreElementsOf b n o es → map element_kind es ≡ map (λ x. node_kind x.0) (listing o m)
   object_order b n (node c p t x) es m (w, e, inner, eq, at, h) =
-      ap (map element_kind) eq ∙ ap (λ v. v ∷ map element_kind inner) (same_kind e b n c p t w (length inner) at) ∙ ap (λ v. (c, p, t) ∷ v) (content_order w e.content x inner m h)
+      ap (map element_kind) eq ∙ ap (λ v. v ∷ map element_kind inner) (same_kind e b n c p t w (length inner) at) ∙ ap (λ v. (c, p, t) ∷ v) (content_order w c p t e.content x inner m h)
 
-  content_order : (w : List ℕ) (n : ℕ) (x : Content) (es : List Element) (m : ℕ) → AreInContent w n x es → map element_kind es ≡ map (λ x. node_kind x.0) (content_listing x m)
-  content_order w n (sequence l) es m h = items_order w n l es (deeper m) h
-  content_order w n (set l) es m h = items_order w n l es (deeper m) h
-  content_order w n _ es m h = ap (map element_kind) h
+  content_order : (w : List ℕ) (c : Class) (p : Bool) (t : ℕ) (n : ℕ) (x : Content) (es : List Element) (m : ℕ) → AreInContent c p t w n x es
+      → map element_kind es ≡ map (λ x. node_kind x.0) (content_listing x m)
+  content_order w c p t n (sequence l) es m (ec, et, ep, h) = items_order w n l es (deeper m) h
+  content_order w c p t n (set l) es m (ec, et, ep, h) = items_order w n l es (deeper m) h
+  content_order w c p t n _ es m h = ap (map element_kind) h.0
 
   items_order : (w : List ℕ) (n : ℕ) (l : Nodes) (es : List Element) (m : ℕ) → AreInItems w n l es → map element_kind es ≡ map (λ x. node_kind x.0) (list_listing l m)
   items_order w n no_nodes es m h = ap (map element_kind) h.1

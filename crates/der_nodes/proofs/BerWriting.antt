@@ -28,12 +28,13 @@ use Rattle.der_nodes.proofs.Overlays.{overlay_none, overlay_more, overlay_front}
 mutual
   pub elements_counted : (o : Node) (b : List ℕ) (n : ℕ) (es : List Element) → AreElementsOf b n o es → length es ≡ object_count o
   elements_counted (node c p t x) b n es (w, e, inner, eq, at, h) =
-      omega (arith, ap length eq, content_elements x w e.content inner h, object_counted c p t x)
+      omega (arith, ap length eq, content_elements c p t x w e.content inner h, object_counted c p t x)
 
-  pub content_elements : (x : Content) (w : List ℕ) (n : ℕ) (es : List Element) → AreInContent w n x es → length es ≡ content_count x
-  content_elements (sequence l) w n es h = items_elements l w n es h ∙ sym (sequence_counted l)
-  content_elements (set l) w n es h = items_elements l w n es h ∙ sym (set_counted l)
-  content_elements _ w n es h = ap length h
+  pub content_elements : (c : Class) (p : Bool) (t : ℕ) (x : Content) (w : List ℕ) (n : ℕ) (es : List Element) → AreInContent c p t w n x es
+      → length es ≡ content_count x
+  content_elements c p t (sequence l) w n es (ec, et, ep, h) = items_elements l w n es h ∙ sym (sequence_counted l)
+  content_elements c p t (set l) w n es (ec, et, ep, h) = items_elements l w n es h ∙ sym (set_counted l)
+  content_elements c p t _ w n es h = ap length h.0
 
   pub items_elements : (l : Nodes) (w : List ℕ) (n : ℕ) (es : List Element) → AreInItems w n l es → length es ≡ item_count l
   items_elements no_nodes w n es h = ap length h.1
@@ -116,7 +117,7 @@ sequence_written c p t d w a old n m new ec ep et h = record {
   forms = h.forms;
   content = (ec, et, ep, h.joins);
   elements = h.elements;
-  places = h.places;
+  places = (ec, et, ep, h.places);
   count = h.count ∙ ap (λ k. n + k) (sym (sequence_counted h.items));
   written = h.written;
 }
@@ -128,7 +129,7 @@ set_written c p t d w a old n m new ec ep et h = record {
   forms = h.forms;
   content = (ec, et, ep, h.joins);
   elements = h.elements;
-  places = h.places;
+  places = (ec, et, ep, h.places);
   count = h.count ∙ ap (λ k. n + k) (sym (set_counted h.items));
   written = h.written;
 }
@@ -148,10 +149,10 @@ leaf_has w c p t (sequence l) d u k = absurd k
 leaf_has w c p t (set l) d u k = absurd k
 leaf_has w c p t _ d u k = (refl, inl (u, k))
 
-leaf_places : (p : Bool) (t : ℕ) (w v : List ℕ) (x : Content) (n : ℕ) → IsLeafContent p t w x → AreInContent v n x []
-leaf_places p t w v (sequence l) n k = absurd k
-leaf_places p t w v (set l) n k = absurd k
-leaf_places p t w v _ n k = refl
+leaf_places : (c : Class) (p : Bool) (t : ℕ) (w : List ℕ) (x : Content) (n : ℕ) → c ≡ Universal → IsLeafContent p t w x → AreInContent c p t w n x []
+leaf_places c p t w (sequence l) n u k = absurd k
+leaf_places c p t w (set l) n u k = absurd k
+leaf_places c p t w _ n u k = (refl, inl (u, k))
 
 pub leaf_written : (c : Class) (p : Bool) (t d : ℕ) (w : List ℕ) (a : ℕ) (old : List Element) (n : ℕ) → c ≡ Universal → (x : Content) × IsLeafContent p t w x
     → WritesContent c p t d w a old n n old
@@ -160,8 +161,8 @@ leaf_written c p t d w a old n u (x, k) = record {
   forms = no_forms;
   content = leaf_has w c p t x d u k;
   elements = [];
-  places = leaf_places p t w w x a k;
-  count = omega (arith, content_elements x w a [] (leaf_places p t w w x a k));
+  places = leaf_places c p t w x a u k;
+  count = omega (arith, content_elements c p t x w a [] (leaf_places c p t w x a u k));
   written = overlay_none old n;
 }
 
@@ -172,7 +173,7 @@ raw_written c p t d w a old n k = record {
   forms = no_forms;
   content = (refl, inr (refl, refl, refl, refl, k));
   elements = [];
-  places = refl;
+  places = (refl, inr (refl, refl, refl, refl, k));
   count = omega arith;
   written = overlay_none old n;
 }
@@ -190,7 +191,7 @@ pub spelling_written : (b w : List ℕ) (c : Class) (p : Bool) (t : ℕ) (l : Le
     → WritesSpelling b start d old n m new
 spelling_written b w c p t l k d start a old mid n m new le deep e q put =
     let j = m - n - 1 in
-    let number = content_elements q.value w a q.elements q.places in
+    let number = content_elements c p t q.value w a q.elements q.places in
     let inside : length q.elements ≡ j = omega (arith, q.count, number) in
     let one : n + 1 ≡ suc n = omega arith in
     let element : Element = record { class = c; constructed = p; definite = is_definite l; number = t; header = start; content = a; end = a + length w; inside = j } in

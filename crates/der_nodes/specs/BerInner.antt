@@ -49,7 +49,7 @@ pub record WritesContent (c : Class) (p : Bool) (t d : ℕ) (w : List ℕ) (at :
   pub forms : Forms
   pub content : HasContent w c p t value forms d
   pub elements : List Element
-  pub places : AreInContent w at value elements
+  pub places : AreInContent c p t w at value elements
   pub count : m ≡ n + content_count value
   pub written : new ≡ overlay old n elements
 

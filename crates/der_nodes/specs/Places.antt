@@ -1,10 +1,12 @@
 -- The elements of a tree in preorder, with the places where they are in an input.
 use Rattle.std.specs.Prelude.{◌≡◌, ℕ, zero, suc, ◌+◌, ◌⊎◌, Bool, true, false, List, [], ◌∷◌, ◌++◌, length}
 use Rattle.der_base.specs.declared.header.Class.{Class}
+use Rattle.der_base.specs.declared.header.Class.TheVariants.{Universal}
 use Rattle.der_base.specs.Encoding.{encoding, content_octets}
+use Rattle.der_base.specs.Leaf.{IsLeafContent}
 use Rattle.der_base.specs.Listing.{content_count}
 use Rattle.der_base.specs.Octets.{identifier, shortest_length, SpellsLength}
-use Rattle.der_base.specs.Spelling.{end_marker}
+use Rattle.der_base.specs.Spelling.{IsKept, IsRawList, end_marker}
 use Rattle.der_base.specs.Tree.{Node, node, Content, sequence, set, Nodes, no_nodes, nodes}
 use Rattle.der_nodes.specs.declared.element.Element.{Element}
 
@@ -45,23 +47,23 @@ pub record IsElementAt (b : List ℕ) (n : ℕ) (c : Class) (p : Bool) (t : ℕ)
   pub header : e.header ≡ n
   pub end : e.end ≡ e.content + length w
   pub inside : e.inside ≡ k
-  -- the length is definite (8.1.3.3), or indefinite, and an end marker follows the content (8.1.3.6)
+  -- the length is definite (8.1.3.3), or indefinite: then the content is elements, and an end marker follows (8.1.3.6)
   pub octets : ((s : List ℕ) × (e.definite ≡ true) × SpellsLength s (length w) × (b ≡ identifier c p t ++ s ++ w)
       × (e.content ≡ n + length (identifier c p t ++ s)))
-      ⊎ ((e.definite ≡ false) × (p ≡ true) × (b ≡ identifier c p t ++ 128 ∷ w ++ end_marker)
-      × (e.content ≡ n + length (identifier c p t) + 1))
+      ⊎ ((e.definite ≡ false) × (p ≡ true) × ((j : ℕ) × IsRawList w j)
+      × (b ≡ identifier c p t ++ 128 ∷ w ++ end_marker) × (e.content ≡ n + length (identifier c p t) + 1))
 
 abbrev mutual
   -- the elements of the tree that b spells from the place n on
   pub AreElementsOf : List ℕ → ℕ → Node → List Element → Type 0
   AreElementsOf b n (node c p t x) es = (w : List ℕ) × (e : Element) × (inner : List Element) × (es ≡ e ∷ inner)
-      × IsElementAt b n c p t w (length inner) e × AreInContent w e.content x inner
+      × IsElementAt b n c p t w (length inner) e × AreInContent c p t w e.content x inner
 
-  -- those inside the content octets w, which begin at the place n
-  pub AreInContent : List ℕ → ℕ → Content → List Element → Type 0
-  AreInContent w n (sequence l) es = AreInItems w n l es
-  AreInContent w n (set l) es = AreInItems w n l es
-  AreInContent w n _ es = es ≡ []
+  -- those inside the content octets w, which begin at the place n: of items, and none in octets of another content
+  pub AreInContent : Class → Bool → ℕ → List ℕ → ℕ → Content → List Element → Type 0
+  AreInContent c p t w n (sequence l) es = (c ≡ Universal) × (t ≡ 16) × (p ≡ true) × AreInItems w n l es
+  AreInContent c p t w n (set l) es = (c ≡ Universal) × (t ≡ 17) × (p ≡ true) × AreInItems w n l es
+  AreInContent c p t w n x es = (es ≡ []) × (((c ≡ Universal) × IsLeafContent p t w x) ⊎ IsKept c p t w x)
 
   -- the first item begins where the content does, and each other one where the one before it ends
   pub AreInItems : List ℕ → ℕ → Nodes → List Element → Type 0
