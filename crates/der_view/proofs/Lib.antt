@@ -1,2 +1,6 @@
 pub mod Lists
 pub mod ReadValues
+pub mod VectorLaws
+pub mod OneTrees
+pub mod Middles
+pub mod DerViews
