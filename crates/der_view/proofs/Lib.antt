@@ -4,3 +4,5 @@ pub mod VectorLaws
 pub mod OneTrees
 pub mod Middles
 pub mod DerViews
+pub mod BerViews
+pub mod SameContents

@@ -126,7 +126,7 @@ mutual
   content_once v _ y h e (sequence_of l' q k) = absurd (false≢true (ap is_listed (e ∙ ap without_items q)))
   content_once v _ y h e (set_of l' q k) = absurd (false≢true (ap is_listed (e ∙ ap without_items q)))
 
-  items_once : (vs : List View) (l l' : Nodes) → ShowItems vs l → ShowItems vs l' → l ≡ l'
+  pub items_once : (vs : List View) (l l' : Nodes) → ShowItems vs l → ShowItems vs l' → l ≡ l'
   items_once [] no_nodes no_nodes h h' = refl
   items_once [] no_nodes (nodes o l) h h' = absurd h'
   items_once [] (nodes o l) l' h h' = absurd h

@@ -9,12 +9,12 @@ use Rattle.der_base.specs.Spelling.{IsKept}
 use Rattle.der_base.specs.Tree.{Content, end_of_content, boolean, integer, bit_string, string, null, enumerated}
 use Rattle.der_base.specs.Tree.{object_identifier, relative_oid, time, sequence, set, unknown, no_nodes}
 use Rattle.der_view.specs.declared.value.Value.{Value}
-use Rattle.der_view.specs.declared.value.Value.TheVariants.{EndOfContent, Boolean, Integer, BitString, OctetString, Null}
-use Rattle.der_view.specs.declared.value.Value.TheVariants.{Identifier, RelativeIdentifier, Enumerated, NumericString}
-use Rattle.der_view.specs.declared.value.Value.TheVariants.{VisibleString, PrintableString, IA5String, UTF8String}
-use Rattle.der_view.specs.declared.value.Value.TheVariants.{T61String, VideotexString, ObjectDescriptor, GraphicString}
-use Rattle.der_view.specs.declared.value.Value.TheVariants.{GeneralString, BmpString, UniversalString, UTCTime}
-use Rattle.der_view.specs.declared.value.Value.TheVariants.{GeneralizedTime, Sequence, Set, Unknown}
+use Rattle.der_view.specs.declared.value.Value.TheVariants.{EndOfContent, Boolean, Integer, BitString, OctetString}
+use Rattle.der_view.specs.declared.value.Value.TheVariants.{Null, Identifier, RelativeIdentifier, Enumerated}
+use Rattle.der_view.specs.declared.value.Value.TheVariants.{NumericString, VisibleString, PrintableString, IA5String}
+use Rattle.der_view.specs.declared.value.Value.TheVariants.{UTF8String, T61String, VideotexString, ObjectDescriptor}
+use Rattle.der_view.specs.declared.value.Value.TheVariants.{GraphicString, GeneralString, BmpString, UniversalString}
+use Rattle.der_view.specs.declared.value.Value.TheVariants.{UTCTime, GeneralizedTime, Sequence, Set, Unknown}
 use Rattle.der_view.specs.Views.{View, content_of}
 
 -- the content of a tree that a value is; the items of a list are apart

@@ -1,5 +1,6 @@
 -- Nodes of an input: elements by what is inside them.
 use Rattle.std.specs.Prelude.{ℕ, zero, suc, ◌+◌, ◌-◌, ◌&&◌, nat_le, List, [], ◌∷◌, length, take, drop, if◌then◌else◌}
+use Rattle.der_base.specs.Spelling.{end_marker}
 use Rattle.der_nodes.specs.declared.element.Element.{Element}
 use Rattle.der_view.specs.declared.node.Node.{Node}
 use Rattle.der_view.specs.declared.nodes.Nodes.{Nodes}
@@ -58,6 +59,10 @@ content_of v = octets_between v.input v.element.content v.element.end
 abbrev pub header_of : View → List ℕ
 header_of v = octets_between v.input v.element.header v.element.content
 
--- the whole element, with the end marker of an indefinite length (8.1.5)
+-- what follows the content: the end marker of an indefinite length (8.1.5)
+abbrev pub marker_of : View → List ℕ
+marker_of v = if v.element.definite then [] else end_marker
+
+-- the whole element
 abbrev pub octets_of : View → List ℕ
 octets_of v = octets_between v.input v.element.header (v.element.end + (if v.element.definite then 0 else 2))

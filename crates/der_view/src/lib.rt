@@ -7,6 +7,8 @@ pub mod laws;
 pub mod node;
 pub mod node_values;
 pub mod nodes;
+#[cfg(test)]
+mod tests;
 pub mod value;
 pub mod vectors;
 

@@ -50,7 +50,8 @@ impl<'a> Node<'_, 'a> {
 
     /// An OBJECT IDENTIFIER or a RELATIVE-OID (8.19, 8.20). It doesn't allocate.
     pub fn as_oid(&self) -> Result<Oid<'a>, BerError>
-        ensures { AnswersValue (λ x r. AnswersPart (λ y. (is_relative_of y, octets_of y)) (identifier_part x) r) (view self.now) result }
+        ensures { AnswersValue (λ x r. AnswersPart (λ y. (is_relative_of y, octets_of y)) (identifier_part x) r)
+            (view self.now) result }
     {
         self.value()?.as_oid()
     }

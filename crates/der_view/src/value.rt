@@ -74,7 +74,8 @@ impl<'a> Value<'a> {
 
     /// An OBJECT IDENTIFIER or a RELATIVE-OID (8.19, 8.20). It doesn't allocate.
     pub fn as_oid(self) -> Result<Oid<'a>, BerError>
-        ensures { AnswersPart (λ x. (is_relative_of x, octets_of x)) (identifier_part (value_content self.entry)) result }
+        ensures { AnswersPart (λ x. (is_relative_of x, octets_of x))
+            (identifier_part (value_content self.entry)) result }
     {
         match self {
             Value::Identifier(octets) => Ok(Oid::new(CowSlice::Borrowed(octets))),
