@@ -1,5 +1,5 @@
 -- The lists of nodes.
-use Rattle.std.proofs.Common.{◌≡◌, ℕ, zero, suc, List, [], ◌∷◌, Some, None, refl, ap, subst, drop, slice_get}
+use Rattle.std.proofs.Common.{◌≡◌, ℕ, zero, suc, List, [], ◌∷◌, Some, None, refl, ap, subst, drop, slice_get, ◌≤◌, length, arith}
 use Rattle.der_nodes.specs.declared.element.Element.{Element}
 use Rattle.der_view.specs.Views.{View, first_view, preorder, trees_after, trees}
 
@@ -26,3 +26,13 @@ first_tree i [] v h = absurd cc
 first_tree i (e ∷ es) v h =
     let q : first_view i e es ≡ v = cc in
     subst (λ u. trees i (e ∷ es) ≡ u ∷ trees i (drop u.element.inside es)) q (ap (λ r. first_view i e es ∷ r) (trees_drop e.inside i es))
+
+-- there are no more nodes than elements
+pub preorder_few : (i : List ℕ) (es : List Element) → length (preorder i es) ≡ length es
+preorder_few i [] = refl
+preorder_few i (e ∷ es) = ap suc (preorder_few i es)
+
+pub trees_few : (k : ℕ) (i : List ℕ) (es : List Element) → length (trees_after k i es) ≤ length es
+trees_few k i [] = omega arith
+trees_few (suc k) i (e ∷ es) = let h = trees_few k i es in omega (arith, h)
+trees_few zero i (e ∷ es) = let h = trees_few e.inside i es in omega (arith, h)

@@ -1,5 +1,5 @@
 //! One element of an input: its octets, and the nodes inside it.
-ghost use Rattle.std.specs.Prelude.{◌≡◌, ◌↔◌, true, IsTrue, MatchResult, length};
+ghost use Rattle.std.specs.Prelude.{◌≡◌, ◌↔◌, true, IsTrue, MatchResult, length, ◌<◌, ◌^◌};
 ghost use Rattle.der_base.specs.declared.header.Class.{Class};
 ghost use Rattle.der_view.specs.Views.{input_of, elements_of, view, preorder, trees, preorder_left, trees_left};
 ghost use Rattle.der_view.specs.Views.{octets_between, content_of, header_of, octets_of};
@@ -93,14 +93,16 @@ impl<'b, 'a> Node<'b, 'a> {
     /// The items in their order. The first element inside is an item. Each other one follows the
     /// elements inside the item before.
     pub fn items(&self) -> Trees<'b, 'a>
-        ensures { trees_left result ≡ trees (view self.now).input (view self.now).inside }
+        ensures nodes { trees_left result ≡ trees (view self.now).input (view self.now).inside }
+        ensures few { length (trees_left result) < 2 ^ 64 }
     {
         self.inside().trees()
     }
 
     /// The nodes inside it at any depth, in preorder.
     pub fn descendants(&self) -> Preorder<'b, 'a>
-        ensures { preorder_left result ≡ preorder (view self.now).input (view self.now).inside }
+        ensures nodes { preorder_left result ≡ preorder (view self.now).input (view self.now).inside }
+        ensures few { length (preorder_left result) < 2 ^ 64 }
     {
         self.inside().iter()
     }

@@ -1,5 +1,5 @@
 //! The elements of an input in preorder, and iterators over them.
-ghost use Rattle.std.specs.Prelude.{◌≡◌, ◌↔◌, IsTrue, [], drop, length, slice_get};
+ghost use Rattle.std.specs.Prelude.{◌≡◌, ◌↔◌, ◌<◌, ◌^◌, IsTrue, [], drop, length, slice_get};
 ghost use Rattle.std.specs.Iterator.{YieldsFirstBy, item_count};
 ghost use Rattle.std.specs.Option.{option_map};
 ghost use Rattle.der_view.specs.Views.{input_of, elements_of, view, preorder, trees};
@@ -83,16 +83,22 @@ impl<'b, 'a> Nodes<'b, 'a> {
 
     /// The nodes of all elements in preorder.
     pub fn iter(&self) -> Preorder<'b, 'a>
-        ensures { preorder_left result ≡ preorder (input_of self.now) (elements_of self.now) }
+        ensures nodes { preorder_left result ≡ preorder (input_of self.now) (elements_of self.now) }
+        ensures few { length (preorder_left result) < 2 ^ 64 }
     {
+        // Callers that count need to know that there are fewer than 2^64.
+        let _count = self.len();
         Preorder { left: *self }
     }
 
     /// The nodes that are inside no other, in their order: the first element, and each one that follows
     /// the elements inside the one before.
     pub fn trees(&self) -> Trees<'b, 'a>
-        ensures { trees_left result ≡ trees (input_of self.now) (elements_of self.now) }
+        ensures nodes { trees_left result ≡ trees (input_of self.now) (elements_of self.now) }
+        ensures few { length (trees_left result) < 2 ^ 64 }
     {
+        // Callers that count need to know that there are fewer than 2^64.
+        let _count = self.len();
         Trees { left: *self }
     }
 }

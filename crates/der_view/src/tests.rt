@@ -19,6 +19,7 @@ fn items_of_an_indefinite_length(rt: HostRuntime) -> Result<(), Fail> {
     let root = nodes.root().ok_or("no root")?;
     assert_eq!(rt; root.octets().len(), 14);
     assert_eq!(rt; root.content().len(), 10);
+    assert_eq!(rt; root.items().count(), 2);
     let name = nodes.get(1).ok_or("no name")?;
     assert!(rt; matches!(name.as_str(), Ok("Smith")));
     assert!(rt; matches!(name.as_bool(), Err(BerError::BerTypeError)));
