@@ -49,8 +49,8 @@ DerElementsShow = (d : ℕ) (i rest : List ℕ) (o : Node) → BeginsWithDer d i
 abbrev pub OneTree : Type 0
 OneTree = (v : View) (o o' : Node) → ShowsTree v o → ShowsTree v o' → o ≡ o'
 
--- The elements and their content octets determine the trees: nodes over two inputs that have the same elements, with the
--- same content octets, show the same trees.
+-- The elements and their content octets determine the trees: nodes over two inputs that have the same elements, with
+-- the same content octets, show the same trees.
 abbrev pub OneTreeOfContents : Type 0
 OneTreeOfContents = (i j : List ℕ) (es : List Element) (l l' : Nodes)
     → map content_of (preorder i es) ≡ map content_of (preorder j es)
@@ -58,8 +58,8 @@ OneTreeOfContents = (i j : List ℕ) (es : List Element) (l l' : Nodes)
 
 -- By BER a node shows where an element of the tree is.
 abbrev mutual
-  -- The octets b are the element of the node: its header, its content octets and the end marker of an indefinite length.
-  -- Its class, bit and number are those of the tree, and so are its items.
+  -- The octets b are the element of the node: its header, its content octets and the end marker of an indefinite
+  -- length. Its class, bit and number are those of the tree, and so are its items.
   pub IsShownBy : List ℕ → View → Node → Type 0
   IsShownBy b v (node c p t x) = (v.element.class ≡ c) × (v.element.constructed ≡ p) × (v.element.number ≡ t)
       × (octets_of v ≡ b) × (b ≡ header_of v ++ (content_of v ++ marker_of v)) × IsInsideShown v x
