@@ -27,7 +27,7 @@ leaf_part v c p t x ec ep et ew (inl (eu, ef, h)) = inl (ec ∙ eu, rw (ep ∙ e
 leaf_part v c p t x ec ep et ew (inr k) = inr (rw (ec, ep, et, ew) k)
 
 -- one more tree in front of others
-front_shows : (i : List ℕ) (e : Element) (inner more : List Element) (c : Class) (p : Bool) (t : ℕ) (x : Content) (l : Nodes) → e.inside ≡ length inner
+pub front_shows : (i : List ℕ) (e : Element) (inner more : List Element) (c : Class) (p : Bool) (t : ℕ) (x : Content) (l : Nodes) → e.inside ≡ length inner
     → ShowsTree (record { input = i; element = e; inside = inner }) (node c p t x) → ShowItems (trees i more) l → ShowItems (trees i (e ∷ (inner ++ more))) (nodes (node c p t x) l)
 front_shows i e inner more c p t x l q h k = subst (λ vs. ShowItems vs (nodes (node c p t x) l)) (sym (trees_first i e inner more q)) (h, k)
 

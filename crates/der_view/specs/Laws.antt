@@ -75,7 +75,8 @@ abbrev mutual
   AreShownBy w (v ∷ vs) (nodes o l) = (b rest : List ℕ) × (w ≡ b ++ rest) × IsShownBy b v o × AreShownBy rest vs l
   AreShownBy _ _ _ = ⊥
 
--- the nodes over the elements of a BER encoding show where its tree is
+-- the nodes over the elements of a BER encoding show where its tree is, and the tree
 abbrev pub BerElementsShow : Type 0
 BerElementsShow = (i front b behind : List ℕ) (o : Node) (es : List Element) → i ≡ front ++ b ++ behind
-    → AreElementsOf b (length front) o es → AreShownBy b (trees i es) (nodes o no_nodes)
+    → AreElementsOf b (length front) o es
+    → AreShownBy b (trees i es) (nodes o no_nodes) × ShowItems (trees i es) (nodes o no_nodes)

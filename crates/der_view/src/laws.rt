@@ -14,9 +14,8 @@ pub fn der_elements_show()
     ensures { DerElementsShow }
 {}
 
-/// By BER, the nodes over the elements that were read show where the tree is: the root is the object, the
-/// items of a node are those of the tree in order, and its octets are the header, the content octets and
-/// the end marker of an indefinite length.
+/// By BER, the nodes over the elements that were read show the tree, as by DER, and where it is: the
+/// octets of a node are the header, the content octets and the end marker of an indefinite length.
 pub fn ber_elements_show()
     ensures { BerElementsShow }
 {}
