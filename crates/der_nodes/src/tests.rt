@@ -102,6 +102,13 @@ fn errors_of_framing_come_first(rt: HostRuntime) -> io::Result<()> {
     let refused = parse_ber_nodes_placed(&input, 50, &mut [], &mut place);
     assert!(rt; refused == Err(Err::Error(BerError::InvalidTag)));
     assert!(rt; place == 4);
+    Ok(())
+}
+
+/// The same BOOLEAN, where the framing has no error.
+#[test]
+fn errors_of_values_come_after_framing(rt: HostRuntime) -> io::Result<()> {
+    let mut place = 0;
     let input = [0x30, 0x80, 0x01, 0, 0x05, 0, 0, 0];
     let refused = parse_ber_nodes_placed(&input, 50, &mut [], &mut place);
     assert!(rt; refused == Err(Err::Error(BerError::InvalidLength)));
