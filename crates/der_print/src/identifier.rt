@@ -30,11 +30,13 @@ fn write_arcs<W: fmt::Write>(f: &mut fmt::Formatter<W>, oid: &Oid<'_>) -> fmt::R
         };
         return write!(f, "octets {hex}");
     };
-    for (place, arc) in arcs.enumerate() {
-        if place > 0 || oid.is_relative() {
+    let mut needs_point = oid.is_relative();
+    for arc in arcs {
+        if needs_point {
             f.write_str(".")?;
         }
         write!(f, "{arc}")?;
+        needs_point = true;
     }
     Ok(())
 }
