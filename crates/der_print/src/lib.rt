@@ -13,7 +13,7 @@ mod value;
 
 pub use identifier::Arcs;
 pub use line::Line;
-pub use number::{Number, small_number};
+pub use number::Number;
 pub use octets::Hex;
 pub use style::Style;
 pub use text::{Quoted, is_printable_ascii};

@@ -34,11 +34,8 @@ impl fmt::Display for Line<'_> {
 fn write_place<W: fmt::Write>(f: &mut fmt::Formatter<W>, element: &Element<'_>) -> fmt::Result {
     let offset = element.offset;
     let header = element.header;
-    match element.content {
-        Some(content) => {
-            let length = content.len();
-            write!(f, "{offset:>7} {header:>2}+{length:<7} ")
-        }
+    match element.length {
+        Some(length) => write!(f, "{offset:>7} {header:>2}+{length:<7} "),
         None => write!(f, "{offset:>7} {header:>2}+inf     "),
     }
 }

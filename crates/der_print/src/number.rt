@@ -12,17 +12,6 @@ pub struct Number<'a> {
     pub full: bool,
 }
 
-/// The number from -2^63 to 2^64-1 that octets spell in two's complement.
-pub fn small_number(octets: &[u8]) -> Option<i128> {
-    if let Ok(number) = read_i64(octets) {
-        return Some(i128::from(number));
-    }
-    match read_u64(octets) {
-        Ok(number) => Some(i128::from(number)),
-        Err(_) => None,
-    }
-}
-
 impl fmt::Display for Number<'_> {
     fn fmt<W: fmt::Write>(&self, f: &mut fmt::Formatter<W>) -> fmt::Result {
         let octets = self.octets;

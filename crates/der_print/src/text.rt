@@ -1,4 +1,6 @@
 //! The texts of the string types (X.690 8.23).
+ghost use Rattle.std.specs.Prelude.{◌↔◌, ◌<◌, ◌≤◌, All, IsTrue, length};
+
 use crate::characters::write_character;
 use std::{fmt, str};
 
@@ -38,7 +40,9 @@ impl fmt::Display for Quoted<'_> {
 }
 
 /// Whether octets are at least two characters of ASCII that can be printed.
-pub fn is_printable_ascii(octets: &[u8]) -> bool {
+pub fn is_printable_ascii(octets: &[u8]) -> bool
+    ensures { IsTrue result ↔ ((1 < length octets.now) × All (λ octet. (32 ≤ octet) × (octet ≤ 126)) octets.now) }
+{
     octets.len() > 1 && octets.iter().all(|octet| matches!(*octet, b' '..=b'~'))
 }
 

@@ -110,6 +110,14 @@ pub(crate) fn options_of(action: Action, matches: &ArgMatches<'_>, colours: bool
             full: action == Action::Tree && matches.get_flag("full"),
             colours: colours && action == Action::Tree,
         },
+        has_headings: action == Action::Tree && has_several_files(matches),
+    }
+}
+
+fn has_several_files(matches: &ArgMatches<'_>) -> bool {
+    match matches.get_strs("file") {
+        Some(files) => files.len() > 1,
+        None => false,
     }
 }
 

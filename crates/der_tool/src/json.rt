@@ -12,19 +12,19 @@ use std::{io, str};
 
 /// An element as an object of JSON.
 #[derive(Drop, Serialize)]
-struct Object<'a> {
+struct Object {
     offset: usize,
     depth: usize,
     header: usize,
     length: Option<usize>,
-    class: &'a str,
+    class: &'static str,
     tag: u32,
     constructed: bool,
     #[serde(rename = "type")]
-    kind: &'a str,
-    value: &'a Value,
+    kind: String,
+    value: Value,
     #[serde(skip_serializing_if = "Option::is_none")]
-    name: Option<&'a str>,
+    name: Option<&'static str>,
 }
 
 /// Writes an element as a line of JSON.
@@ -44,12 +44,12 @@ fn json_of(alloc: Global, element: &Element<'_>) -> io::Result<String> {
         offset: element.offset,
         depth: element.depth,
         header: element.header,
-        length: element.content.map(|content| content.len()),
+        length: element.length,
         class: class_name(element.class),
         tag: element.number,
         constructed: element.constructed,
-        kind: &kind,
-        value: &value,
+        kind,
+        value,
         name: name_in(element),
     };
     serde_json::to_string(alloc, &object).map_err(|_| io::Error::from(ErrorKind::OutOfMemory))

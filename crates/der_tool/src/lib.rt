@@ -4,7 +4,7 @@
 mod arguments;
 mod json;
 pub mod options;
-mod program;
 pub mod run;
+mod streams;
 
-pub use program::program;
+pub use streams::program;

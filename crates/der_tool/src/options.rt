@@ -25,4 +25,6 @@ pub struct Options {
     /// How the inputs are written. None if each is looked at.
     pub form: Option<Form>,
     pub style: Style,
+    /// Whether there are several files, and the tree of each begins with its name.
+    pub has_headings: bool,
 }

@@ -24,16 +24,31 @@ pub fn run<W: Write, X: Write>(
         None => form_of(input),
     };
     let octets = match form {
-        Ok(Form::Der) => return print_elements(alloc, options, name, input, out, err),
+        Ok(Form::Der) => return print_input(alloc, options, name, input, out, err),
         Ok(Form::Pem) => return print_blocks(alloc, options, name, input, out, err),
         Ok(Form::Hex) => decode_hex(alloc, input),
         Ok(Form::Base64) => decode_base64(alloc, input),
         Err(e) => Err(e),
     };
     match octets {
-        Ok(octets) => print_elements(alloc, options, name, &octets, out, err),
+        Ok(octets) => print_input(alloc, options, name, &octets, out, err),
         Err(e) => refuse_form(name, e, out, err),
     }
+}
+
+/// Prints the elements of an input that has no blocks, after its name if there are several inputs.
+fn print_input<W: Write, X: Write>(
+    alloc: Global,
+    options: &Options,
+    name: &str,
+    octets: &[u8],
+    out: &mut W,
+    err: &mut X,
+) -> io::Result<bool> {
+    if options.has_headings {
+        writeln!(out, "{name}:")?;
+    }
+    print_elements(alloc, options, name, octets, out, err)
 }
 
 /// Reports an input or a block whose octets aren't found.

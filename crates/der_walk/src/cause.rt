@@ -57,14 +57,14 @@ impl fmt::Display for Cause {
                 let noun = octets_are(*missing);
                 write!(
                     f,
-                    "the input is cut, {missing} {noun} missing at least (X.690 8.1.1)"
+                    "the input is cut, at least {missing} {noun} missing (X.690 8.1.1)"
                 )
             }
             Cause::PastEnd(missing) => {
                 let noun = octets_are(*missing);
                 write!(
                     f,
-                    "the element around it ends too early, {missing} {noun} missing (X.690 8.1.3)"
+                    "it ends {missing} {noun} after the element around it (X.690 8.1.3)"
                 )
             }
             other => write!(f, "{}", other.rule()),

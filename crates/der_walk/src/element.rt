@@ -1,4 +1,6 @@
 //! An element that a walk visits.
+ghost use Rattle.std.specs.Prelude.{◌≡◌, ◌↔◌, IsTrue};
+
 use crate::name::TypeName;
 use crate::path::Step;
 use der_base::header::Class;
@@ -14,7 +16,9 @@ pub struct Element<'a> {
     pub offset: usize,
     /// The number of octets of the header.
     pub header: usize,
-    /// The content octets. None if the length is indefinite (X.690 8.1.3.6).
+    /// The number of content octets that the header gives. None if it is indefinite (X.690 8.1.3.6).
+    pub length: Option<usize>,
+    /// The content octets. None if the length is indefinite, and for a constructed element that is cut.
     pub content: Option<&'a [u8]>,
     /// How many elements are around it.
     pub depth: usize,
@@ -26,7 +30,10 @@ pub struct Element<'a> {
 
 impl<'a> Element<'a> {
     /// The name of its type or tag.
-    pub fn name(&self) -> TypeName {
+    pub fn name(&self) -> TypeName
+        ensures class { result.class ≡ self.now.class }
+        ensures number { result.number ≡ self.now.number }
+    {
         TypeName {
             class: self.class,
             number: self.number,
@@ -34,7 +41,11 @@ impl<'a> Element<'a> {
     }
 
     /// The last step of the path to it.
-    pub fn step(&self) -> Step {
+    pub fn step(&self) -> Step
+        ensures class { result.name.class ≡ self.now.class }
+        ensures number { result.name.number ≡ self.now.number }
+        ensures index { result.index ≡ self.now.index }
+    {
         Step {
             name: self.name(),
             index: self.index,
@@ -42,7 +53,9 @@ impl<'a> Element<'a> {
     }
 
     /// Whether it is of the universal type with this number.
-    pub fn is_universal(&self, number: u32) -> bool {
+    pub fn is_universal(&self, number: u32) -> bool
+        ensures { IsTrue result ↔ ((self.now.class ≡ Class.Universal) × (self.now.number ≡ number)) }
+    {
         self.class == Class::Universal && self.number == number
     }
 

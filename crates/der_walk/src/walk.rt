@@ -11,6 +11,9 @@ use std::alloc::{AllocError, Global};
 /// How many elements may be around an element.
 pub const MAX_DEPTH: usize = 100;
 
+/// Where a content ends that no length limits.
+const NO_LIMIT: usize = usize::MAX;
+
 /// The octets of an end marker (X.690 8.1.5).
 const END_MARKER: &[u8] = &[0, 0];
 
@@ -28,7 +31,8 @@ pub struct Refusal {
 #[derive(Clone, Copy, Debug)]
 struct Open {
     step: Step,
-    /// Where the content ends at the latest.
+    /// Where the content ends at the latest. An element that is cut ends after the input, and only indefinite
+    /// lengths around nothing else have no limit.
     end: usize,
     /// Whether the content ends at an end marker.
     has_marker: bool,
@@ -150,17 +154,32 @@ impl<'a> Walk<'a> {
 
     /// The octets from here to the end of the content, or further if it ends at an end marker.
     fn octets_here(&self) -> &'a [u8] {
-        match self.input.get(self.at..self.limit()) {
+        match self.input.get(self.at..self.limit().min(self.input.len())) {
             Some(octets) => octets,
             None => &[],
         }
     }
 
-    /// Where the content ends at the latest.
+    /// Where the content here ends at the latest.
     fn limit(&self) -> usize {
         match self.open.last() {
             Some(last) => last.end,
-            None => self.input.len(),
+            None => NO_LIMIT,
+        }
+    }
+
+    /// Whether the input ends before the content here.
+    fn is_cut(&self) -> bool {
+        self.limit() > self.input.len()
+    }
+
+    /// The cause for an input that is cut: the outermost element lacks octets up to its end, or at least these.
+    fn cut(&self, least: usize) -> Cause {
+        match self.open.first() {
+            Some(outermost) if outermost.end < NO_LIMIT => {
+                Cause::Cut(outermost.end.saturating_sub(self.input.len()))
+            }
+            _ => Cause::Cut(least),
         }
     }
 
@@ -172,8 +191,8 @@ impl<'a> Walk<'a> {
         Err(Refusal {
             offset: self.at,
             step: None,
-            cause: if self.limit() == self.input.len() {
-                Cause::Cut(END_MARKER.len())
+            cause: if self.is_cut() {
+                self.cut(END_MARKER.len())
             } else {
                 Cause::NoEndMarker
             },
@@ -217,6 +236,7 @@ impl<'a> Walk<'a> {
             number: header.tag().0,
             offset: self.at,
             header: here.len().saturating_sub(rest.len()),
+            length: length_of(&header),
             content: self.content_of(&header, rest)?,
             depth: self.open.len(),
             index: self.visited_here(),
@@ -226,15 +246,23 @@ impl<'a> Walk<'a> {
         Ok(element)
     }
 
-    /// The content octets after a header, if its length is definite.
+    /// The content octets after a header. None if the length is indefinite, and for a constructed element
+    /// that is cut.
     fn content_of(&self, header: &Header<'_>, rest: &'a [u8]) -> Result<Option<&'a [u8]>, Refusal> {
-        let Length::Definite(length) = header.length() else {
+        let Some(length) = length_of(header) else {
             return Ok(None);
         };
-        match rest.get(..length) {
-            Some(content) => Ok(Some(content)),
-            None => Err(self.refuse(header, self.lacks(length.saturating_sub(rest.len())))),
+        if let Some(content) = rest.get(..length) {
+            return Ok(Some(content));
         }
+        let room = self.room_for(rest);
+        if !self.is_cut() || length > room {
+            return Err(self.refuse(header, Cause::PastEnd(length.saturating_sub(room))));
+        }
+        if header.constructed() {
+            return Ok(None);
+        }
+        Err(self.refuse(header, self.cut(length.saturating_sub(rest.len()))))
     }
 
     /// Checks whether an element may be constructed, or what a primitive one contains.
@@ -260,10 +288,17 @@ impl<'a> Walk<'a> {
         }
     }
 
-    /// The cause for an element that lacks octets here.
+    /// How many octets the content of an element may have, of which these are in the input.
+    fn room_for(&self, rest: &[u8]) -> usize {
+        let end = self.limit().min(self.input.len());
+        let begin = end.saturating_sub(rest.len());
+        self.limit().saturating_sub(begin)
+    }
+
+    /// The cause for a header that lacks octets here.
     fn lacks(&self, missing: usize) -> Cause {
-        if self.limit() == self.input.len() {
-            Cause::Cut(missing)
+        if self.is_cut() {
+            self.cut(missing)
         } else {
             Cause::PastEnd(missing)
         }
@@ -303,11 +338,11 @@ impl<'a> Walk<'a> {
 
     /// Where the content of an element ends at the latest.
     fn end_of(&self, element: &Element<'a>) -> usize {
-        match element.content {
-            Some(content) => element
+        match element.length {
+            Some(length) => element
                 .offset
                 .saturating_add(element.header)
-                .saturating_add(content.len()),
+                .saturating_add(length),
             None => self.limit(),
         }
     }
@@ -333,7 +368,7 @@ impl<'a> Walk<'a> {
         let open = Open {
             step: element.step(),
             end,
-            has_marker: element.content.is_none(),
+            has_marker: element.length.is_none(),
             rules,
             visited: 0,
         };
@@ -377,6 +412,14 @@ impl<'a> Walk<'a> {
             }
         }
         Ok(false)
+    }
+}
+
+/// The number of content octets that a header gives, if it is definite.
+fn length_of(header: &Header<'_>) -> Option<usize> {
+    match header.length() {
+        Length::Definite(length) => Some(length),
+        Length::Indefinite => None,
     }
 }
 

@@ -82,8 +82,8 @@ fn run_subcommand<R: Files + AllocGlobal, I: Read + Drop, W: Write + Drop, X: Wr
     let options = options_of(action_named(name), matches, colours);
     let mut out = BufWriter::new(rt.alloc(), out)?;
     let are_read = match matches.get_strs("file") {
-        Some(files) if !files.is_empty() => run_files(rt, &options, files, &mut out, err)?,
-        _ => run_reader(rt.alloc(), &options, input, &mut out, err)?,
+        Some(files) => run_files(rt, &options, files, &mut out, err)?,
+        None => run_reader(rt.alloc(), &options, input, &mut out, err)?,
     };
     out.flush()?;
     Ok(if are_read { 0 } else { REFUSED })
