@@ -32,7 +32,7 @@ pub fn run<W: Write, X: Write>(
     };
     match octets {
         Ok(octets) => print_input(alloc, options, name, &octets, out, err),
-        Err(e) => refuse_form(name, e, out, err),
+        Err(e) => refuse_form(options, name, e, out, err),
     }
 }
 
@@ -53,13 +53,18 @@ fn print_input<W: Write, X: Write>(
 
 /// Reports an input or a block whose octets aren't found.
 fn refuse_form<W: Write, X: Write>(
+    options: &Options,
     name: &str,
     e: FormError,
     out: &mut W,
     err: &mut X,
 ) -> io::Result<bool> {
-    out.flush()?;
-    writeln!(err, "der: {name}: {e}")?;
+    if options.action == Action::Check {
+        writeln!(out, "der: {name}: {e}")?;
+    } else {
+        out.flush()?;
+        writeln!(err, "der: {name}: {e}")?;
+    }
     Ok(false)
 }
 
@@ -84,13 +89,13 @@ fn print_blocks<W: Write, X: Write>(
                 }
                 let is_read = match block.decode(alloc) {
                     Ok(octets) => print_elements(alloc, options, name, &octets, out, err)?,
-                    Err(e) => refuse_form(name, e, out, err)?,
+                    Err(e) => refuse_form(options, name, e, out, err)?,
                 };
                 are_read = are_read && is_read;
             }
             Ok(None) if number > 0 => return Ok(are_read),
-            Ok(None) => return refuse_form(name, FormError::NoBlock, out, err),
-            Err(e) => return refuse_form(name, e, out, err),
+            Ok(None) => return refuse_form(options, name, FormError::NoBlock, out, err),
+            Err(e) => return refuse_form(options, name, e, out, err),
         }
     }
     Ok(are_read)
