@@ -1,7 +1,7 @@
 -- What a reader of an element says of the whole input.
-use Rattle.std.proofs.Common.{◌≡◌, ℕ, ◌<◌, List, [], ◌∷◌, ◌++◌, Ok, Err, Result, refl, sym, subst, ap, length, arith}
+use Rattle.std.proofs.Common.{ℕ, ◌<◌, List, [], ◌∷◌, ◌++◌, Ok, Err, refl, sym, subst, ap, length, arith}
 use Rattle.std.specs.Borrow.{Bor}
-use Rattle.der_base.specs.Answer.{MatchAnswer, AnswersOkOr}
+use Rattle.der_base.specs.Answer.{AnswersOkOr}
 use Rattle.der_base.specs.Listing.{object_count}
 use Rattle.der_base.specs.Spelling.{BeginsWithDer}
 use Rattle.der_base.specs.Tree.{Node}
