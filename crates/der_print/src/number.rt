@@ -1,0 +1,42 @@
+//! INTEGER and ENUMERATED (X.690 8.3 and 8.4).
+use crate::octets::Hex;
+use der_base::integer::{is_negative, read_i64, read_u64};
+use std::fmt;
+
+/// A number in two's complement: in decimal from -2^63 to 2^64-1, else in hexadecimal digits.
+#[derive(Clone, Copy)]
+pub struct Number<'a> {
+    /// The content octets.
+    pub octets: &'a [u8],
+    /// Whether all digits are printed.
+    pub full: bool,
+}
+
+impl fmt::Display for Number<'_> {
+    fn fmt<W: fmt::Write>(&self, f: &mut fmt::Formatter<W>) -> fmt::Result {
+        let octets = self.octets;
+        if let Ok(number) = read_i64(octets) {
+            return write!(f, "{number}");
+        }
+        if let Ok(number) = read_u64(octets) {
+            return write!(f, "{number}");
+        }
+        let hex = Hex {
+            octets: without_leading_zero(octets),
+            full: self.full,
+        };
+        if is_negative(octets) {
+            write!(f, "0x{hex} (negative, in two's complement)")
+        } else {
+            write!(f, "0x{hex}")
+        }
+    }
+}
+
+/// The octets without one that is 0 before others.
+fn without_leading_zero(octets: &[u8]) -> &[u8] {
+    match octets {
+        [0, others @ ..] if !others.is_empty() => others,
+        _ => octets,
+    }
+}

@@ -1,0 +1,120 @@
+//! The texts of the string types (X.690 8.23).
+ghost use Rattle.std.specs.Prelude.{◌↔◌, ◌<◌, ◌≤◌, All, IsTrue, length};
+
+use crate::characters::write_character;
+use std::{fmt, str};
+
+/// The most characters that are printed where long values are cut.
+const MOST: usize = 120;
+
+/// A string in quotes. Of a long one only the first characters are printed, unless all are wanted.
+#[derive(Clone, Copy)]
+pub struct Quoted<'a> {
+    /// The content octets.
+    pub octets: &'a [u8],
+    /// The tag number of the type: a BMPString has two octets a character, and a UniversalString four.
+    pub number: u32,
+    /// Whether all characters are printed.
+    pub full: bool,
+}
+
+impl fmt::Display for Quoted<'_> {
+    fn fmt<W: fmt::Write>(&self, f: &mut fmt::Formatter<W>) -> fmt::Result {
+        let most = if self.full { usize::MAX } else { MOST };
+        f.write_str("\"")?;
+        match self.number {
+            30 => write_units(f, self.octets, most)?,
+            28 => write_codes(f, self.octets, most)?,
+            _ => match str::from_utf8(self.octets) {
+                Ok(text) => write_text(f, text, most)?,
+                Err(_) => write_octets(f, self.octets, most)?,
+            },
+        }
+        f.write_str("\"")?;
+        if self.octets.len() > most && !self.full {
+            let number = self.octets.len();
+            write!(f, " ({number} octets)")?;
+        }
+        Ok(())
+    }
+}
+
+/// Whether octets are at least two characters of ASCII that can be printed.
+pub fn is_printable_ascii(octets: &[u8]) -> bool
+    ensures { IsTrue result ↔ ((1 < length octets.now) × All (λ octet. (32 ≤ octet) × (octet ≤ 126)) octets.now) }
+{
+    octets.len() > 1 && octets.iter().all(|octet| matches!(*octet, b' '..=b'~'))
+}
+
+fn write_text<W: fmt::Write>(f: &mut fmt::Formatter<W>, text: &str, most: usize) -> fmt::Result {
+    for (place, character) in text.chars().enumerate() {
+        if place == most {
+            return f.write_str("...");
+        }
+        write_character(f, character)?;
+    }
+    Ok(())
+}
+
+/// Writes ASCII, and other octets by their numbers.
+fn write_octets<W: fmt::Write>(
+    f: &mut fmt::Formatter<W>,
+    octets: &[u8],
+    most: usize,
+) -> fmt::Result {
+    for (place, octet) in octets.iter().enumerate() {
+        if place == most {
+            return f.write_str("...");
+        }
+        if octet.is_ascii() {
+            write_character(f, char::from(*octet))?;
+        } else {
+            write!(f, "\\x{octet:02x}")?;
+        }
+    }
+    Ok(())
+}
+
+/// Writes the characters of UTF-16, big endian.
+fn write_units<W: fmt::Write>(
+    f: &mut fmt::Formatter<W>,
+    octets: &[u8],
+    most: usize,
+) -> fmt::Result {
+    let units = octets.chunks_exact(2).map(|pair| match pair {
+        [high, low] => u16::from_be_bytes([*high, *low]),
+        _ => 0,
+    });
+    for (place, character) in char::decode_utf16(units).enumerate() {
+        if place == most {
+            return f.write_str("...");
+        }
+        write_character(f, character.unwrap_or(char::REPLACEMENT_CHARACTER))?;
+    }
+    Ok(())
+}
+
+/// Writes the characters of UTF-32, big endian.
+fn write_codes<W: fmt::Write>(
+    f: &mut fmt::Formatter<W>,
+    octets: &[u8],
+    most: usize,
+) -> fmt::Result {
+    for (place, octets) in octets.chunks_exact(4).enumerate() {
+        if place == most {
+            return f.write_str("...");
+        }
+        write_character(f, character_of(octets))?;
+    }
+    Ok(())
+}
+
+/// The character with this code, in four octets.
+fn character_of(octets: &[u8]) -> char {
+    match octets {
+        [a, b, c, d] => char::from_u32(u32::from_be_bytes([*a, *b, *c, *d])).unwrap_or(
+            char::REPLACEMENT_CHARACTER,
+        ),
+        _ => char::REPLACEMENT_CHARACTER,
+    }
+}

@@ -1,0 +1,141 @@
+//! The arguments.
+use crate::options::{Action, Options};
+use clap::{Arg, ArgAction, ArgMatches, Command, Error};
+use der_input::Form;
+use der_print::Style;
+use der_walk::Rules;
+use std::alloc::{AllocError, Global};
+
+const EXAMPLES: &str = "\
+Examples:
+  der tree certificate.pem
+  der tree --der --full key.der
+  openssl s_client -connect example.org:443 -showcerts </dev/null | der tree
+  der check *.cer
+  der json message.ber | jq 'select(.type == \"INTEGER\") | .value'";
+
+const TREE_HELP: &str =
+    "Print a line for each element: where it begins, the octets of its header and of its content, \
+its type, its value";
+
+const FORMS: [&str; 4] = ["der", "pem", "hex", "base64"];
+
+/// The command line of the program.
+pub(crate) fn command<'a>(alloc: Global) -> Result<Command<'a>, AllocError> {
+    Command::new(alloc, "der")
+        .version("0.1.0")
+        .about("Shows what is in files of ASN.1 in BER or DER")
+        .after_help(EXAMPLES)
+        .subcommand_required(true)
+        .arg_required_else_help(true)
+        .subcommand(tree(alloc)?)?
+        .subcommand(check(alloc)?)?
+        .subcommand(json(alloc)?)
+}
+
+fn tree<'a>(alloc: Global) -> Result<Command<'a>, AllocError> {
+    Command::new(alloc, "tree")
+        .about(TREE_HELP)
+        .arg(flag(alloc, "der", "Read by DER, not by BER"))?
+        .arg(flag(alloc, "full", "Print long values whole"))?
+        .arg(no_inside(alloc))?
+        .arg(from(alloc))?
+        .arg(files(alloc))
+}
+
+fn check<'a>(alloc: Global) -> Result<Command<'a>, AllocError> {
+    Command::new(alloc, "check")
+        .about("Print a line for each file that isn't DER, and nothing else")
+        .arg(flag(alloc, "ber", "Read by BER, not by DER"))?
+        .arg(from(alloc))?
+        .arg(files(alloc))
+}
+
+fn json<'a>(alloc: Global) -> Result<Command<'a>, AllocError> {
+    Command::new(alloc, "json")
+        .about("Print a line of JSON for each element")
+        .arg(flag(alloc, "der", "Read by DER, not by BER"))?
+        .arg(no_inside(alloc))?
+        .arg(from(alloc))?
+        .arg(files(alloc))
+}
+
+fn flag<'a>(alloc: Global, name: &'a str, help: &'a str) -> Arg<'a> {
+    Arg::new(alloc, name)
+        .long(name)
+        .help(help)
+        .action(ArgAction::SetTrue)
+}
+
+fn no_inside<'a>(alloc: Global) -> Arg<'a> {
+    flag(
+        alloc,
+        "no-inside",
+        "Print an OCTET STRING or BIT STRING as octets, even if it holds an element of DER",
+    )
+}
+
+fn from<'a>(alloc: Global) -> Arg<'a> {
+    Arg::new(alloc, "from")
+        .long("from")
+        .value_name("FORM")
+        .help("How the files are written, in place of a look at each")
+        .value_parser(FORMS.as_slice())
+}
+
+fn files<'a>(alloc: Global) -> Arg<'a> {
+    Arg::new(alloc, "file")
+        .value_name("FILE")
+        .help(
+            "The files, of DER, PEM, hexadecimal digits or base64. Standard input if there are none",
+        )
+        .num_args(0..)
+        .action(ArgAction::Append)
+}
+
+/// What the arguments after a subcommand ask for.
+pub(crate) fn options_of(action: Action, matches: &ArgMatches<'_>, colours: bool) -> Options {
+    let rules = match action {
+        Action::Check if !matches.get_flag("ber") => Rules::Der,
+        Action::Check => Rules::Ber,
+        _ if matches.get_flag("der") => Rules::Der,
+        _ => Rules::Ber,
+    };
+    Options {
+        action,
+        rules,
+        enters_strings: action != Action::Check && !matches.get_flag("no-inside"),
+        form: matches.get_str("from").and_then(form_named),
+        style: Style {
+            full: action == Action::Tree && matches.get_flag("full"),
+            colours: colours && action == Action::Tree,
+        },
+        has_headings: action == Action::Tree && has_several_files(matches),
+    }
+}
+
+fn has_several_files(matches: &ArgMatches<'_>) -> bool {
+    match matches.get_strs("file") {
+        Some(files) => files.len() > 1,
+        None => false,
+    }
+}
+
+/// The action of a subcommand.
+pub(crate) fn action_named(word: &str) -> Action {
+    match word {
+        "check" => Action::Check,
+        "json" => Action::Json,
+        _ => Action::Tree,
+    }
+}
+
+fn form_named(word: &str) -> Option<Form> {
+    match word {
+        "der" => Some(Form::Der),
+        "pem" => Some(Form::Pem),
+        "hex" => Some(Form::Hex),
+        "base64" => Some(Form::Base64),
+        _ => None,
+    }
+}

@@ -1,0 +1,155 @@
+//! Elements as JSON.
+use der_base::header::Class;
+use der_base::integer::{read_i64, read_u64};
+use der_names::name_of;
+use der_print::{Arcs, Hex, Value as Printed};
+use der_walk::Element;
+use serde::Serialize;
+use serde_json::Value;
+use std::alloc::{AllocError, Global};
+use std::io::{ErrorKind, Write};
+use std::{io, str};
+
+/// An element as an object of JSON.
+#[derive(Drop, Serialize)]
+struct Object {
+    offset: usize,
+    depth: usize,
+    header: usize,
+    length: Option<usize>,
+    class: &'static str,
+    tag: u32,
+    constructed: bool,
+    #[serde(rename = "type")]
+    kind: String,
+    value: Value,
+    #[serde(skip_serializing_if = "Option::is_none")]
+    name: Option<&'static str>,
+}
+
+/// Writes an element as a line of JSON.
+pub(crate) fn write_json<W: Write>(
+    alloc: Global,
+    element: &Element<'_>,
+    out: &mut W,
+) -> io::Result<()> {
+    let text = json_of(alloc, element)?;
+    writeln!(out, "{text}")
+}
+
+fn json_of(alloc: Global, element: &Element<'_>) -> io::Result<String> {
+    let kind = format!(in alloc; "{}", element.name())?;
+    let value = value_of(alloc, element)?;
+    let object = Object {
+        offset: element.offset,
+        depth: element.depth,
+        header: element.header,
+        length: element.length,
+        class: class_name(element.class),
+        tag: element.number,
+        constructed: element.constructed,
+        kind,
+        value,
+        name: name_in(element),
+    };
+    serde_json::to_string(alloc, &object).map_err(|_| io::Error::from(ErrorKind::OutOfMemory))
+}
+
+fn class_name(class: Class) -> &'static str {
+    match class {
+        Class::Universal => "universal",
+        Class::Application => "application",
+        Class::ContextSpecific => "context-specific",
+        Class::Private => "private",
+    }
+}
+
+/// The name of an object identifier.
+fn name_in(element: &Element<'_>) -> Option<&'static str> {
+    if element.constructed || !element.is_universal(6) {
+        return None;
+    }
+    name_of(element.content?)
+}
+
+/// The value of a primitive element.
+fn value_of(alloc: Global, element: &Element<'_>) -> Result<Value, AllocError> {
+    let Some(octets) = element.content else {
+        return Ok(Value::Null);
+    };
+    if element.constructed || element.holds_der {
+        return Ok(Value::Null);
+    }
+    if element.class != Class::Universal {
+        return hex(alloc, octets);
+    }
+    universal_value(alloc, element, octets)
+}
+
+fn universal_value(
+    alloc: Global,
+    element: &Element<'_>,
+    octets: &[u8],
+) -> Result<Value, AllocError> {
+    match element.number {
+        0 | 5 => Ok(Value::Null),
+        1 => Ok(Value::Bool(!matches!(octets, [0]))),
+        2 | 10 => number(alloc, octets),
+        6 => string(format!(in alloc;
+            "{}",
+            Arcs {
+                octets,
+                relative: false
+            }
+        )?),
+        13 => string(format!(in alloc;
+            "{}",
+            Arcs {
+                octets,
+                relative: true
+            }
+        )?),
+        7 | 12 | 18..=22 | 25..=27 => text(alloc, octets),
+        3 | 23 | 24 | 28 | 30 => printed(alloc, element),
+        _ => hex(alloc, octets),
+    }
+}
+
+fn string(text: String) -> Result<Value, AllocError> {
+    Ok(Value::String(text))
+}
+
+/// A number of 64 bits, or the digits of a larger one.
+fn number(alloc: Global, octets: &[u8]) -> Result<Value, AllocError> {
+    if let Ok(number) = read_i64(octets) {
+        return Ok(Value::from(number));
+    }
+    if let Ok(number) = read_u64(octets) {
+        return Ok(Value::from(number));
+    }
+    hex(alloc, octets)
+}
+
+fn text(alloc: Global, octets: &[u8]) -> Result<Value, AllocError> {
+    match str::from_utf8(octets) {
+        Ok(text) => Value::try_from_str(alloc, text),
+        Err(_) => hex(alloc, octets),
+    }
+}
+
+fn hex(alloc: Global, octets: &[u8]) -> Result<Value, AllocError> {
+    string(format!(in alloc; "{}", Hex { octets, full: true })?)
+}
+
+/// The value as it is printed for people.
+fn printed(alloc: Global, element: &Element<'_>) -> Result<Value, AllocError> {
+    let element = *element;
+    let text = format!(in alloc;
+        "{}",
+        Printed {
+            element,
+            full: true
+        }
+    )?;
+    Value::try_from_str(alloc, text.trim().trim_matches('"'))
+}

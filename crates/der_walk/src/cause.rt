@@ -1,0 +1,195 @@
+//! Why an input is refused, and which rule says so.
+use der_base::error::{BerError, DerConstraint};
+use std::fmt;
+
+/// Why a walk ends before its input does.
+#[derive(Clone, Copy, Debug, PartialEq)]
+pub enum Cause {
+    /// The input ends inside an element, which lacks at least this many octets.
+    Cut(usize),
+    /// An element is longer than the element around it, by at least this many octets.
+    PastEnd(usize),
+    /// The content of an indefinite length has no end marker.
+    NoEndMarker,
+    /// A header is refused.
+    Header(BerError),
+    /// The content of a primitive element is refused.
+    Value(BerError),
+    /// A constructed element is of a type that is primitive by BER.
+    Constructed,
+    /// A constructed string, by DER.
+    ConstructedString,
+    /// Elements are nested deeper than the limit.
+    TooDeep,
+    /// There was no memory.
+    OutOfMemory,
+}
+
+/// A rule that an input breaks.
+#[derive(Clone, Copy, Debug, PartialEq)]
+pub struct Rule {
+    /// What was found.
+    pub found: &'static str,
+    /// The clause of X.690, or nothing for a limit of this program.
+    pub clause: &'static str,
+}
+
+impl Rule {
+    fn new(found: &'static str, clause: &'static str) -> Rule {
+        Rule { found, clause }
+    }
+}
+
+impl fmt::Display for Rule {
+    fn fmt<W: fmt::Write>(&self, f: &mut fmt::Formatter<W>) -> fmt::Result {
+        f.write_str(self.found)?;
+        if self.clause.is_empty() {
+            return Ok(());
+        }
+        write!(f, " (X.690 {})", self.clause)
+    }
+}
+
+impl fmt::Display for Cause {
+    fn fmt<W: fmt::Write>(&self, f: &mut fmt::Formatter<W>) -> fmt::Result {
+        match self {
+            Cause::Cut(missing) => {
+                let noun = octets_are(*missing);
+                write!(
+                    f,
+                    "the input is cut, at least {missing} {noun} missing (X.690 8.1.1)"
+                )
+            }
+            Cause::PastEnd(missing) => {
+                let noun = octets_are(*missing);
+                write!(
+                    f,
+                    "it ends {missing} {noun} after the element around it (X.690 8.1.3)"
+                )
+            }
+            other => write!(f, "{}", other.rule()),
+        }
+    }
+}
+
+/// The noun and the verb after a number of octets.
+fn octets_are(number: usize) -> &'static str {
+    if number == 1 {
+        "octet is"
+    } else {
+        "octets are"
+    }
+}
+
+impl Cause {
+    /// The rule that is broken.
+    fn rule(self) -> Rule {
+        match self {
+            Cause::Cut(_) => Rule::new("the input is cut", "8.1.1"),
+            Cause::PastEnd(_) => Rule::new("the element around it ends too early", "8.1.3"),
+            Cause::NoEndMarker => Rule::new(
+                "an indefinite length has no end-of-contents octets",
+                "8.1.3.6",
+            ),
+            Cause::Header(e) => header_rule(e),
+            Cause::Value(e) => value_rule(e),
+            Cause::Constructed => Rule::new("the encoding of this type must be primitive", "8.1.4"),
+            Cause::ConstructedString => Rule::new(
+                "a string is constructed, which DER forbids",
+                "10.2",
+            ),
+            Cause::TooDeep => Rule::new(
+                "elements are nested more than 100 deep, the limit here",
+                "",
+            ),
+            Cause::OutOfMemory => Rule::new("out of memory", ""),
+        }
+    }
+}
+
+/// The rule that a header breaks.
+fn header_rule(e: BerError) -> Rule {
+    match e {
+        BerError::InvalidTag => Rule::new(
+            "the tag number isn't in the fewest octets, or is above 4294967295",
+            "8.1.2.4",
+        ),
+        BerError::InvalidLength => Rule::new(
+            "the first length octet is ff, which is reserved, or the length is above 18446744073709551615",
+            "8.1.3.5",
+        ),
+        BerError::ConstructExpected => Rule::new(
+            "a primitive element has an indefinite length",
+            "8.1.3.2",
+        ),
+        BerError::DerConstraintFailed(rule) => der_rule(rule),
+        _ => Rule::new("the header is invalid", "8.1.2"),
+    }
+}
+
+/// The rule that the content of a primitive element breaks.
+fn value_rule(e: BerError) -> Rule {
+    match e {
+        BerError::InvalidLength => Rule::new("a BOOLEAN isn't one octet", "8.2.1"),
+        BerError::BerValueError => Rule::new(
+            "a BIT STRING has no octet for its unused bits",
+            "8.6.2",
+        ),
+        BerError::ConstructExpected => Rule::new("a SEQUENCE or SET is primitive", "8.9.1"),
+        BerError::IntegerTooLarge | BerError::IntegerNegative => {
+            Rule::new(
+                "an ENUMERATED is below 0 or above 18446744073709551615, the limits here",
+                "",
+            )
+        }
+        BerError::StringInvalidCharset => {
+            Rule::new("an octet isn't in the character set of the type", "8.23")
+        }
+        BerError::InvalidDateTime => Rule::new("the octets aren't a time of the type", "8.25"),
+        BerError::Unsupported => Rule::new("a BMPString has an odd number of octets", "8.23"),
+        BerError::DerConstraintFailed(rule) => der_rule(rule),
+        _ => Rule::new("the content is no value of the type", "8"),
+    }
+}
+
+/// The rule of DER that is broken.
+fn der_rule(rule: DerConstraint) -> Rule {
+    match rule {
+        DerConstraint::IndefiniteLength => Rule::new(
+            "a length is indefinite, which DER forbids",
+            "10.1",
+        ),
+        DerConstraint::LengthNotMinimal => Rule::new("a length isn't in the fewest octets", "10.1"),
+        DerConstraint::Constructed => Rule::new(
+            "a string is constructed, which DER forbids",
+            "10.2",
+        ),
+        DerConstraint::InvalidBoolean => Rule::new("a BOOLEAN is neither 00 nor ff", "11.1"),
+        DerConstraint::IntegerEmpty => Rule::new("a number has no octet", "8.3.1"),
+        DerConstraint::IntegerLeadingZeroes => {
+            Rule::new(
+                "a number isn't in the fewest octets, its first nine bits are 0",
+                "8.3.2",
+            )
+        }
+        DerConstraint::IntegerLeadingFF => {
+            Rule::new(
+                "a number isn't in the fewest octets, its first nine bits are 1",
+                "8.3.2",
+            )
+        }
+        DerConstraint::MissingTimeZone => Rule::new("a time doesn't end in Z", "11.7.1 and 11.8.1"),
+        DerConstraint::MissingSeconds => Rule::new("a time has no seconds", "11.7.2 and 11.8.2"),
+        DerConstraint::FractionNotMinimal => {
+            Rule::new(
+                "a fraction of a second ends in 0 or has a comma",
+                "11.7.3 and 11.7.4",
+            )
+        }
+        DerConstraint::UnusedBitsNotZero => Rule::new(
+            "an unused bit of a BIT STRING is 1",
+            "11.2.1",
+        ),
+        DerConstraint::SetOfOrder => Rule::new("the elements of a SET OF aren't in order", "11.6"),
+    }
+}

@@ -1,0 +1,17 @@
+//! Walking through the elements of an input in preorder, by BER or DER, without a tree: the content of a
+//! constructed element of any class is elements (X.690 8.1.4), and so is that of a string that holds DER.
+#![tactic(auto)]
+
+mod cause;
+mod element;
+mod name;
+mod path;
+mod rules;
+mod walk;
+
+pub use cause::{Cause, Rule};
+pub use element::Element;
+pub use name::TypeName;
+pub use path::{Path, Step};
+pub use rules::Rules;
+pub use walk::{MAX_DEPTH, Refusal, Walk};

@@ -1,0 +1,79 @@
+//! The names of types and tags, as ASN.1 writes them.
+use der_base::header::Class;
+use std::fmt;
+
+/// The name of a universal type, as `OCTET STRING`, or a tag of another class, as `[3]` or
+/// `[APPLICATION 1]`.
+#[derive(Clone, Copy, Debug, PartialEq)]
+pub struct TypeName {
+    pub class: Class,
+    /// The tag number.
+    pub number: u32,
+}
+
+impl fmt::Display for TypeName {
+    fn fmt<W: fmt::Write>(&self, f: &mut fmt::Formatter<W>) -> fmt::Result {
+        let number = self.number;
+        match self.class {
+            Class::Universal => match universal_name(number) {
+                Some(name) => f.write_str(name),
+                None => write!(f, "[UNIVERSAL {number}]"),
+            },
+            Class::Application => write!(f, "[APPLICATION {number}]"),
+            Class::ContextSpecific => write!(f, "[{number}]"),
+            Class::Private => write!(f, "[PRIVATE {number}]"),
+        }
+    }
+}
+
+/// The name of the universal type with this number (X.680 8.4, table 1).
+fn universal_name(number: u32) -> Option<&'static str> {
+    let name = match number {
+        0 => "end-of-contents",
+        1 => "BOOLEAN",
+        2 => "INTEGER",
+        3 => "BIT STRING",
+        4 => "OCTET STRING",
+        5 => "NULL",
+        6 => "OBJECT IDENTIFIER",
+        7 => "ObjectDescriptor",
+        8 => "EXTERNAL",
+        9 => "REAL",
+        10 => "ENUMERATED",
+        11 => "EMBEDDED PDV",
+        12 => "UTF8String",
+        13 => "RELATIVE-OID",
+        14 => "TIME",
+        16 => "SEQUENCE",
+        17 => "SET",
+        _ => return string_name(number),
+    };
+    Some(name)
+}
+
+/// The name of a type from NumericString on.
+fn string_name(number: u32) -> Option<&'static str> {
+    let name = match number {
+        18 => "NumericString",
+        19 => "PrintableString",
+        20 => "T61String",
+        21 => "VideotexString",
+        22 => "IA5String",
+        23 => "UTCTime",
+        24 => "GeneralizedTime",
+        25 => "GraphicString",
+        26 => "VisibleString",
+        27 => "GeneralString",
+        28 => "UniversalString",
+        29 => "CHARACTER STRING",
+        30 => "BMPString",
+        31 => "DATE",
+        32 => "TIME-OF-DAY",
+        33 => "DATE-TIME",
+        34 => "DURATION",
+        35 => "OID-IRI",
+        36 => "RELATIVE-OID-IRI",
+        _ => return None,
+    };
+    Some(name)
+}
