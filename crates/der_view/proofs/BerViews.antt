@@ -111,9 +111,12 @@ mutual
       let s = element_parts i f z b w n (length inner) c p t e inner q d at in
       let v : View = record { input = i; element = e; inside = inner } in
       subst (λ fs. ShowItems (trees i (fs ++ more)) (nodes (node c p t x) l)) (sym eq)
-      (front_shows i e inner more c p t x l at.inside
-          (at.class, at.constructed, at.number,
-          content_trees i s.front s.behind w c p t x e.content v inner refl refl at.class at.constructed at.number s.content s.place s.around h) k)
+      (front_shows i e inner more c p t x l at.inside (
+        at.class,
+        at.constructed,
+        at.number,
+        content_trees i s.front s.behind w c p t x e.content v inner refl refl at.class at.constructed at.number s.content s.place s.around h,
+      ) k)
 
   content_trees : (i f z w : List ℕ) (c : Class) (p : Bool) (t : ℕ) (x : Content) (n : ℕ) (v : View) (inner : List Element) → v.input ≡ i → v.inside ≡ inner
       → v.element.class ≡ c → v.element.constructed ≡ p → v.element.number ≡ t → content_of v ≡ w → n ≡ length f → i ≡ f ++ (w ++ z)
