@@ -1,12 +1,18 @@
--- By BER, an input shows one result at most.
-use Rattle.std.proofs.Common.{ℕ, List, ap, sym, ◌∙◌}
+-- By BER, an input shows one result at most, and it stays whatever octets follow.
+use Rattle.std.specs.Borrow.{Bor}
+use Rattle.std.proofs.Common.{ℕ, List, Result, ap, sym, ◌∙◌}
+use Rattle.der_base.specs.declared.error.Err.{Err as Refused}
+use Rattle.der_base.specs.declared.error.Error.{Error as BerError}
+use Rattle.der_base.specs.Answer.{MatchAnswer}
+use Rattle.der_base.proofs.Answers.Answering.{answered}
 use Rattle.der_base.proofs.Answers.Exactness.{ShowsOne}
 use Rattle.der_base.specs.Fault.{ShowsFault}
 use Rattle.der_base.specs.Listing.{object_count}
 use Rattle.der_base.specs.Stable.{BerIsCut}
 use Rattle.der_laws.proofs.Spellings.BerFaults as faults
+use Rattle.der_laws.proofs.Spellings.StableAnswers.{ber_fault_stays, ber_spelling_stays}
 use Rattle.der_ber.proofs.ReadingLaws.{spelled_same, spelled_not_cut, cut_same}
-use Rattle.der_nodes.specs.NodesReading.{BeginsWithBerObjects, counted_value}
+use Rattle.der_nodes.specs.NodesReading.{BeginsWithBerObjects, IsStableBerNodes, counted_value}
 
 pub ber_nodes_show_one : (d : ℕ) (i : List ℕ) → ShowsOne counted_value (λ x. BeginsWithBerObjects d i (counted_value x)) (BeginsWithBerObjects d i) (ShowsFault d i) (BerIsCut d i)
 ber_nodes_show_one d i = record {
@@ -18,3 +24,7 @@ ber_nodes_show_one d i = record {
   not_lacking = λ v n s h. spelled_not_cut d i s.1.0 v.0 s.0 n s.1.1 s.1.2 h;
   not_both = λ e n r h. h.2 e r;
 }
+
+pub ber_nodes_stay : (d : ℕ) (i : List ℕ) (r : Result (Bor (List ℕ) × ℕ) (Refused BerError))
+    → MatchAnswer r (λ x. BeginsWithBerObjects d i (counted_value x)) (ShowsFault d i) (BerIsCut d i) ⊥ → IsStableBerNodes d i r
+ber_nodes_stay d i r h = answered _ _ r h (λ x k. (k.0, k.2, ber_spelling_stays d i k.0 x.0.now k.1)) (ber_fault_stays d i) (λ n c. tt) (λ m. m)

@@ -1,12 +1,18 @@
--- An input shows one answer at most.
-use Rattle.std.proofs.Common.{ℕ, List, ap, sym, ◌∙◌}
+-- An input shows one answer at most, and it stays whatever octets follow.
+use Rattle.std.specs.Borrow.{Bor}
+use Rattle.std.proofs.Common.{ℕ, List, Result, ap, sym, ◌∙◌}
+use Rattle.der_base.specs.declared.error.Err.{Err as Refused}
+use Rattle.der_base.specs.declared.error.Error.{Error as BerError}
+use Rattle.der_base.specs.Answer.{MatchAnswer}
+use Rattle.der_base.proofs.Answers.Answering.{answered}
 use Rattle.der_base.proofs.Answers.Exactness.{ShowsOne}
 use Rattle.der_base.specs.Fault.{DerShowsFault}
 use Rattle.der_base.specs.Listing.{object_count}
 use Rattle.der_base.specs.Stable.{DerIsCut}
 use Rattle.der_laws.proofs.Spellings.DerFaults.{spelled_shows_nothing, shows_one}
+use Rattle.der_laws.proofs.Spellings.StableAnswers.{der_fault_stays, der_spelling_stays}
 use Rattle.der_der.proofs.ReadingLaws.{spelled_same, spelled_not_cut, cut_same}
-use Rattle.der_nodes.specs.NodesReading.{BeginsWithDerObjects, counted_value}
+use Rattle.der_nodes.specs.NodesReading.{BeginsWithDerObjects, IsStableDerNodes, counted_value}
 
 pub der_nodes_show_one : (d : ℕ) (i : List ℕ) → ShowsOne counted_value (λ x. BeginsWithDerObjects d i (counted_value x)) (BeginsWithDerObjects d i) (DerShowsFault d i) (DerIsCut d i)
 der_nodes_show_one d i = record {
@@ -18,3 +24,7 @@ der_nodes_show_one d i = record {
   not_lacking = λ v n s h. spelled_not_cut d i s.1.0 v.0 s.0 n s.1.1 s.1.2 h;
   not_both = λ e n r h. h.2 e r;
 }
+
+pub der_nodes_stay : (d : ℕ) (i : List ℕ) (r : Result (Bor (List ℕ) × ℕ) (Refused BerError))
+    → MatchAnswer r (λ x. BeginsWithDerObjects d i (counted_value x)) (DerShowsFault d i) (DerIsCut d i) ⊥ → IsStableDerNodes d i r
+der_nodes_stay d i r h = answered _ _ r h (λ x k. (k.0, k.2, der_spelling_stays d i k.0 x.0.now k.1)) (der_fault_stays d i) (λ n c. tt) (λ m. m)

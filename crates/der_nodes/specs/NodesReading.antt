@@ -3,11 +3,12 @@ use Rattle.std.specs.Borrow.{Bor}
 use Rattle.std.specs.Prelude.{◌≡◌, ℕ, List, ◌++◌, Result}
 use Rattle.der_base.specs.declared.error.Err.{Err as Refused}
 use Rattle.der_base.specs.declared.error.Error.{Error as BerError}
+use Rattle.der_base.specs.Answer.{MatchAnswer}
 use Rattle.der_base.specs.Exactly.{AnswersExactly}
 use Rattle.der_base.specs.Fault.{ShowsFault, DerShowsFault}
 use Rattle.der_base.specs.Listing.{object_count}
 use Rattle.der_base.specs.Spelling.{BeginsWithBer, BeginsWithDer, BerSpells, framing_budget}
-use Rattle.der_base.specs.Stable.{BerIsCut, DerIsCut}
+use Rattle.der_base.specs.Stable.{BerIsCut, DerIsCut, FaultStays, SpellingStays}
 use Rattle.der_base.specs.Tree.{Node}
 use Rattle.der_nodes.specs.declared.element.Element.{Element}
 use Rattle.der_nodes.specs.Places.{placed, AreElementsOf, overlay}
@@ -42,3 +43,19 @@ AnswersBerNodes d i result = AnswersExactly result counted_value (λ x. BeginsWi
 abbrev pub ListsBerNodes : ℕ → List ℕ → List ℕ → ℕ → List Element → List Element → Type 0
 ListsBerNodes d i rest n old new = (o : Node) × (b : List ℕ) × (i ≡ b ++ rest) × BerSpells b o d framing_budget
     × (n ≡ object_count o) × (es : List Element) × AreElementsOf b 0 o es × (new ≡ overlay old 0 es)
+
+-- i begins with the spelling of a tree of so many objects, and so it does whatever octets follow, which only lengthen
+-- the rest; each proper front of that spelling is cut short
+abbrev pub ObjectsStay : (ℕ → List ℕ → Node → List ℕ → Type 0) → (ℕ → List ℕ → ℕ → Type 0) → ℕ → List ℕ
+    → List ℕ × ℕ → Type 0
+ObjectsStay begins cut d i v = (o : Node) × (v.1 ≡ object_count o) × SpellingStays begins cut d i o v.0
+
+-- The result stays whatever octets follow: an Ok but for the rest, and an Error. Of an Ok, each proper front of what
+-- was read is cut short.
+abbrev pub IsStableDerNodes : ℕ → List ℕ → Result (Bor (List ℕ) × ℕ) (Refused BerError) → Type 0
+IsStableDerNodes d i result = MatchAnswer result (λ x. ObjectsStay BeginsWithDer DerIsCut d i (counted_value x))
+    (FaultStays DerShowsFault d i) (λ _. Unit {0}) ⊥
+
+abbrev pub IsStableBerNodes : ℕ → List ℕ → Result (Bor (List ℕ) × ℕ) (Refused BerError) → Type 0
+IsStableBerNodes d i result = MatchAnswer result (λ x. ObjectsStay BeginsWithBer BerIsCut d i (counted_value x))
+    (FaultStays ShowsFault d i) (λ _. Unit {0}) ⊥

@@ -2,6 +2,7 @@
 ghost use Rattle.std.specs.Prelude.{◌≡◌, ◌+◌, ◌*◌, ◌<◌, ◌≤◌, IfOk, length};
 ghost use Rattle.der_nodes.specs.FaultPlaces.{IsBerPlace, IsDerPlace};
 ghost use Rattle.der_nodes.specs.NodesReading.{AnswersBerNodes, AnswersDerNodes, ListsBerNodes, ListsDerNodes};
+ghost use Rattle.der_nodes.specs.NodesReading.{IsStableBerNodes, IsStableDerNodes};
 
 use crate::element::Element;
 use crate::{ber_reader, der_reader};
@@ -15,6 +16,7 @@ use der_base::error::{BerError, IResult};
 /// ```
 pub fn check_der<'a>(i: &'a [u8], max_depth: usize) -> IResult<&'a [u8], usize, BerError>
     ensures exactly { AnswersDerNodes max_depth i.now result }
+    ensures stable { IsStableDerNodes max_depth i.now result }
     ensures shorter { IfOk result (λ x. length x.0.now < length i.now) }
 {
     parse_der_nodes(i, max_depth, &mut [])
@@ -35,6 +37,7 @@ pub fn parse_der_nodes<'a>(
     nodes: &mut [Element],
 ) -> IResult<&'a [u8], usize, BerError>
     ensures exactly { AnswersDerNodes max_depth i.now result }
+    ensures stable { IsStableDerNodes max_depth i.now result }
     ensures nodes { IfOk result (λ x. ListsDerNodes max_depth i.now x.0.now x.1 nodes.old nodes.new) }
     ensures shorter { IfOk result (λ x. length x.0.now < length i.now) }
 {
@@ -51,6 +54,7 @@ pub fn parse_der_nodes_placed<'a>(
     place: &mut usize,
 ) -> IResult<&'a [u8], usize, BerError>
     ensures exactly { AnswersDerNodes max_depth i.now result }
+    ensures stable { IsStableDerNodes max_depth i.now result }
     ensures nodes { IfOk result (λ x. ListsDerNodes max_depth i.now x.0.now x.1 nodes.old nodes.new) }
     ensures placed { IsDerPlace max_depth i.now result place.new }
     ensures shorter { IfOk result (λ x. length x.0.now < length i.now) }
@@ -62,6 +66,7 @@ pub fn parse_der_nodes_placed<'a>(
 /// inside it. It is Ok, Error and Incomplete exactly as `parse_ber_recursive`, and it doesn't allocate.
 pub fn check_ber<'a>(i: &'a [u8], max_depth: usize) -> IResult<&'a [u8], usize, BerError>
     ensures exactly { AnswersBerNodes max_depth i.now result }
+    ensures stable { IsStableBerNodes max_depth i.now result }
     ensures shorter { IfOk result (λ x. length x.0.now < length i.now) }
 {
     parse_ber_nodes(i, max_depth, &mut [])
@@ -76,6 +81,7 @@ pub fn parse_ber_nodes<'a>(
     nodes: &mut [Element],
 ) -> IResult<&'a [u8], usize, BerError>
     ensures exactly { AnswersBerNodes max_depth i.now result }
+    ensures stable { IsStableBerNodes max_depth i.now result }
     ensures nodes { IfOk result (λ x. ListsBerNodes max_depth i.now x.0.now x.1 nodes.old nodes.new) }
     ensures shorter { IfOk result (λ x. length x.0.now < length i.now) }
 {
@@ -92,6 +98,7 @@ pub fn parse_ber_nodes_placed<'a>(
     place: &mut usize,
 ) -> IResult<&'a [u8], usize, BerError>
     ensures exactly { AnswersBerNodes max_depth i.now result }
+    ensures stable { IsStableBerNodes max_depth i.now result }
     ensures nodes { IfOk result (λ x. ListsBerNodes max_depth i.now x.0.now x.1 nodes.old nodes.new) }
     ensures placed { IsBerPlace max_depth i.now result place.new }
     ensures shorter { IfOk result (λ x. length x.0.now < length i.now) }
@@ -110,6 +117,7 @@ pub fn parse_ber_nodes_counted<'a>(
     headers: &mut usize,
 ) -> IResult<&'a [u8], usize, BerError>
     ensures exactly { AnswersBerNodes max_depth i.now result }
+    ensures stable { IsStableBerNodes max_depth i.now result }
     ensures nodes { IfOk result (λ x. ListsBerNodes max_depth i.now x.0.now x.1 nodes.old nodes.new) }
     ensures placed { IsBerPlace max_depth i.now result place.new }
     ensures shorter { IfOk result (λ x. length x.0.now < length i.now) }

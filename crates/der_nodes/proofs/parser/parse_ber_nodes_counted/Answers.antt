@@ -5,7 +5,7 @@ use Rattle.der_base.proofs.Answers.Exactness.{exactly}
 use Rattle.der_base.proofs.Framing.FramedIsSpelling.{restated_back}
 use Rattle.der_nodes.specs.Places.{AreElementsOf}
 use Rattle.der_nodes.proofs.BerFaultPlaces.{fault_shows}
-use Rattle.der_nodes.proofs.BerNodesLaws.{ber_nodes_show_one}
+use Rattle.der_nodes.proofs.BerNodesLaws.{ber_nodes_show_one, ber_nodes_stay}
 use Rattle.der_nodes.proofs.parser.parse_ber_nodes_counted.Goals as goal
 
 pub returns-clause-exactly : goal.returns-clause-exactly
@@ -16,6 +16,9 @@ returns-clause-exactly c =
     (answered _ _ c.read_element.result c.read_element.ensures.found
     (λ x k. (k.2.object, (k.0, k.1, restated_back k.0 k.2.object d (k.2.form, k.2.spells)), k.2.count ∙ zero-add (object_count k.2.object)))
     (λ e q. fault_shows d i (length i - length i) e _ q) (λ n q. q.0) (λ m. m))
+
+pub returns-clause-stable : goal.returns-clause-stable
+returns-clause-stable c = ber_nodes_stay c.args.max_depth c.args.i.now c.read_element.result (returns-clause-exactly c).found
 
 pub returns-clause-nodes : goal.returns-clause-nodes
 returns-clause-nodes c =
