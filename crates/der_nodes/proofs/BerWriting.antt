@@ -222,7 +222,7 @@ pub record HasParts (e : Element) (c : Class) (p f : Bool) (t a b z k : ℕ) : T
   pub end : e.end ≡ z
   pub inside : e.inside ≡ k
 
-same_parts : (e : Element) (c : Class) (p f : Bool) (t a b z k : ℕ) → HasParts e c p f t a b z k
+pub same_parts : (e : Element) (c : Class) (p f : Bool) (t a b z k : ℕ) → HasParts e c p f t a b z k
     → e ≡ record { class = c; constructed = p; definite = f; number = t; header = a; content = b; end = z; inside = k }
 same_parts e c p f t a b z k h =
     let e1 = h.class in let e2 = h.constructed in let e3 = h.definite in let e4 = h.number in let e5 = h.header in let e6 = h.content in let e7 = h.end in let e8 = h.inside in

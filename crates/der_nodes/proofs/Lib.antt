@@ -11,3 +11,7 @@ pub mod BerNodesLaws
 pub mod BerOnePlace
 pub mod BerPlaces
 pub mod ShortLaws
+pub mod OneList
+pub mod BerOfDer
+pub mod BufferLaws
+pub mod AppendedPlaces

@@ -1,5 +1,5 @@
 -- Statements of the laws in `src/laws.rt`.
-use Rattle.std.specs.Prelude.{◌≡◌, ℕ, ◌+◌, ◌⊎◌, Bool, true, false, List, [], ◌∷◌, ◌++◌, length, map, All}
+use Rattle.std.specs.Prelude.{◌≡◌, ℕ, ◌+◌, ◌^◌, ◌<◌, ◌⊎◌, Bool, true, false, List, [], ◌∷◌, ◌++◌, length, map, All}
 use Rattle.der_base.specs.declared.header.Class.{Class}
 use Rattle.der_base.specs.Listing.{listing}
 use Rattle.der_base.specs.Encoding.{encoding}
@@ -10,6 +10,7 @@ use Rattle.der_base.specs.Spelling.{IsDerValid, end_marker}
 use Rattle.der_base.specs.Tree.{Node, node}
 use Rattle.der_nodes.specs.declared.element.Element.{Element}
 use Rattle.der_nodes.specs.FaultPlaces.{ShowsFaultAt, DerShowsFaultAt}
+use Rattle.der_nodes.specs.NodesReading.{ListsBerNodes, ListsDerNodes}
 use Rattle.der_nodes.specs.Places.{placed, AreElementsOf}
 
 -- by DER, the header and the content w of the element are in i where its places say
@@ -78,3 +79,33 @@ BerOnePlace = (d : ℕ) (i : List ℕ) (n : ℕ) (e e' : Refusal) (k k' : ℕ) �
 
 abbrev pub BerPlacesShow : Type 0
 BerPlacesShow = (d : ℕ) (i : List ℕ) (n : ℕ) (e : Refusal) (k : ℕ) → ShowsFaultAt d i n e k → ShowsFault d i e
+
+-- octets that begin at a place have one list of elements of a tree
+abbrev pub OneListOfElements : Type 0
+OneListOfElements = (b : List ℕ) (n : ℕ) (o : Node) (es es' : List Element)
+    → AreElementsOf b n o es → AreElementsOf b n o es' → es ≡ es'
+
+-- to whatever depth, an input leaves one rest, one number of objects and one content of the buffer
+abbrev pub OneBuffer : (ℕ → List ℕ → List ℕ → ℕ → List Element → List Element → Type 0) → Type 0
+OneBuffer lists = (d d' : ℕ) (i rest rest' : List ℕ) (n n' : ℕ) (old new new' : List Element)
+    → lists d i rest n old new → lists d' i rest' n' old new' → (rest ≡ rest') × (n ≡ n') × (new ≡ new')
+
+-- octets appended to an input lengthen the rest, and leave the number and the buffer
+abbrev pub AppendedLeaveBuffer : (ℕ → List ℕ → List ℕ → ℕ → List Element → List Element → Type 0) → Type 0
+AppendedLeaveBuffer lists = (d : ℕ) (i z rest : List ℕ) (n : ℕ) (old new : List Element)
+    → lists d i rest n old new → lists d (i ++ z) (rest ++ z) n old new
+
+-- and an error stays at its place
+abbrev pub AppendedLeavePlaces : (ℕ → List ℕ → ℕ → Refusal → ℕ → Type 0) → Type 0
+AppendedLeavePlaces faults = (d : ℕ) (i z : List ℕ) (n : ℕ) (e : Refusal) (k : ℕ)
+    → faults d i n e k → faults d (i ++ z) n e k
+
+-- the placed elements of a tree are those of its encoding by BER, if a length can say how long that is
+abbrev pub PlacedAreElements : Type 0
+PlacedAreElements = (o : Node) (n : ℕ) → IsDerValid o → length (encoding o) < 2 ^ 64
+    → AreElementsOf (encoding o) n o (placed o n)
+
+-- so the buffer that DER lists is one that BER lists
+abbrev pub DerBufferIsBer : Type 0
+DerBufferIsBer = (d : ℕ) (i rest : List ℕ) (n : ℕ) (old new : List Element)
+    → ListsDerNodes d i rest n old new → ListsBerNodes d i rest n old new
