@@ -90,7 +90,8 @@ first_refused r n k e e' q h (refused_header no_u rest some d hu hr pl) = first_
 first_refused r n k e e' q h (refused_depth one hh pl) = pl
 first_refused r n k e e' q h (further_inside u c t rest two ht d hu hi) = absurd (no_open r e u c t rest ht h (d ∙ append_assoc u (identifier c true t) (128 ∷ rest)) (raws_are hu))
   where
-    no_open : (r : List ℕ) (e : Refusal) (u : List ℕ) (c : Class) (t : ℕ) (rest : List ℕ) → t < 2 ^ 32 → BerHeaderRefuses r e → r ≡ u ++ (identifier c true t ++ 128 ∷ rest) → {j : ℕ} → AreElements u j → ⊥
+    no_open : (r : List ℕ) (e : Refusal) (u : List ℕ) (c : Class) (t : ℕ) (rest : List ℕ) → t < 2 ^ 32 → BerHeaderRefuses r e → r ≡ u ++ (identifier c true t ++ 128 ∷ rest)
+        → {j : ℕ} → AreElements u j → ⊥
     no_open r e u c t rest ht h d no_elements = ber_header_not_refused r rest c true t Indefinite e (open_header r rest c t ht d) h
     no_open r e u c t rest ht h d (elements {b = b} {rest = more} g m y z) =
         let a = element_has_header r (more ++ (identifier c true t ++ 128 ∷ rest)) g (d ∙ tail_more b more u (identifier c true t ++ 128 ∷ rest) z) in

@@ -54,8 +54,8 @@ pub size_refused_at : (d : ℕ) (i rest : List ℕ) (c : Class) (p : Bool) (t m 
 size_refused_at zero i rest c p t m n h b s = absurd (omega arith)
 size_refused_at (suc d) i rest c p t m n h b s = inr (inl (c, p, t, m, rest, b, s, refl, refl))
 
-pub content_refused_at : (d : ℕ) (i rest w r : List ℕ) (c : Class) (p : Bool) (t m n a : ℕ) (e : Refusal) (k : ℕ) → 1 ≤ d → BeginsWithDerHeader i c p t m rest → m ≤ max_object_size → rest ≡ w ++ r → length w ≡ m
-    → a ≡ n + (length i - length r - length w) → DerContentRefusesAt c p t w d n a e k → DerShowsFaultAt d i n e k
+pub content_refused_at : (d : ℕ) (i rest w r : List ℕ) (c : Class) (p : Bool) (t m n a : ℕ) (e : Refusal) (k : ℕ) → 1 ≤ d → BeginsWithDerHeader i c p t m rest
+    → m ≤ max_object_size → rest ≡ w ++ r → length w ≡ m → a ≡ n + (length i - length r - length w) → DerContentRefusesAt c p t w d n a e k → DerShowsFaultAt d i n e k
 content_refused_at zero i rest w r c p t m n a e k h b s o z at q = absurd (omega arith)
 content_refused_at (suc d) i rest w r c p t m n a e k h b s o z at (u, mapped, q) =
     let d' : suc d - 1 ≡ d = omega arith in

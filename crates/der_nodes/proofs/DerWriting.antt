@@ -131,6 +131,9 @@ element_written d i rest w r c p t k end old mid new n m e room b small parts wh
     let ends : end - length r ≡ begin + length v = omega (arith, all, same, room) in
     let content : end - length r - k ≡ begin = omega (arith, begins, whole) in
     let inside : m - n - 1 ≡ content_count x = omega (arith, h.count) in
+    let within = placed_content x (end - length r - length w) in
+    let whole_at : ℕ → Element =
+    λ q. record { class = c; constructed = p; definite = true; number = t; header = end - length i; content = q; end = q + length v; inside = content_count x } in
     let is = same_places e c p t (end - length i) begin (begin + length v) (content_count x) (record {
       class = places.class;
       constructed = places.constructed;
@@ -149,9 +152,8 @@ element_written d i rest w r c p t k end old mid new n m e room b small parts wh
       count = omega (arith, h.count, object_counted c p t x);
       written =
           let one : n + 1 ≡ suc n = omega arith in
-          put ∙ ap (λ q. overlay q n (e ∷ [])) (h.written ∙ ap (λ q. overlay old q (placed_content x (end - length r - length w))) one) ∙ overlay_front old n e (placed_content x (end - length r - length w))
-          ∙ ap (λ q. overlay old n (q ∷ placed_content x (end - length r - length w))) is
-          ∙ ap (λ q. overlay old n (record { class = c; constructed = p; definite = true; number = t; header = end - length i; content = begin; end = begin + length v; inside = content_count x } ∷ placed_content x q)) begins;
+          put ∙ ap (λ q. overlay q n (e ∷ [])) (h.written ∙ ap (λ q. overlay old q within) one) ∙ overlay_front old n e within
+          ∙ ap (λ q. overlay old n (q ∷ within)) is ∙ ap (λ q. overlay old n (whole_at begin ∷ placed_content x q)) begins;
     }
 
 -- items
@@ -201,7 +203,8 @@ one_more_written d w end old n rest after m m' new new' room h k =
           ∙ overlay_more old n (placed_items l at) (placed k.object (end - length rest)) ∙ ap (λ q. overlay old n q) (sym (places_push h.items k.object at (end - length rest) place));
     }
 
-pub all_written : (d : ℕ) (w : List ℕ) (end : ℕ) (old : List Element) (n : ℕ) (rest : List ℕ) (m : ℕ) (new : List Element) → SoFar d w end old n rest m new → length rest ≡ 0 → WritesDerItems d w end old n m new
+pub all_written : (d : ℕ) (w : List ℕ) (end : ℕ) (old : List Element) (n : ℕ) (rest : List ℕ) (m : ℕ) (new : List Element) → SoFar d w end old n rest m new
+    → length rest ≡ 0 → WritesDerItems d w end old n m new
 all_written d w end old n [] m new h z = record {
   items = nodes_of h.items;
   joins = subst (λ v. DerJoins v (nodes_of h.items) d) (sym (h.parts ∙ append-nil h.read)) h.joins;

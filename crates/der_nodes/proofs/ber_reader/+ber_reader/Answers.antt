@@ -237,7 +237,8 @@ read_content-returns-then-eq-2-clause-found t c =
     let list : IsTrue (is_list (number_of h)) = search rules in
     let mapped : IsTrue (is_mapped (number_of h)) = search rules in
     answered _ _ c.read_items-then-eq-2.result c.read_items-then-eq-2.ensures.found
-    (λ m q. set_written (class_of h) (is_constructed h) (number_of h) c.args.max_depth c.args.octets.now _ c.args.nodes.now c.args.count m c.read_items-then-eq-2.new.nodes universal constructed number q)
+    (λ m q. set_written (class_of h) (is_constructed h) (number_of h) c.args.max_depth c.args.octets.now _ c.args.nodes.now c.args.count m c.read_items-then-eq-2.new.nodes
+    universal constructed number q)
     (λ e q. (universal, mapped, inr (list, constructed, q))) (λ n q. q) (λ q. q)
 
 pub read_content-returns-then-not-is_mapped-clause-found : goal.read_content-returns-then-not-is_mapped-clause-found
@@ -425,7 +426,8 @@ read_to_end_marker-read_inside-requires t c =
     let k = c.elements.invariant in
     let begins = c.in_ok-behind.ensures.found.begins in
     let two = header_takes_two _ _ _ _ _ _ begins in
-    (omega arith, ((λ l. open_constructed _ _ _ _ _ _ l begins), (omega arith, (omega (arith, c.requires.bounded), (omega (arith, k.5, two), omega (arith, k.6, two, c.requires.fits, ap length k.1, length-append k.0 c.elements.rest.now))))))
+    let octets : length c.args.i.now ≡ length k.0 + length c.elements.rest.now = ap length k.1 ∙ length-append k.0 c.elements.rest.now in
+    (omega arith, ((λ l. open_constructed _ _ _ _ _ _ l begins), (omega arith, (omega (arith, c.requires.bounded), (omega (arith, k.5, two), omega (arith, k.6, two, octets, c.requires.fits))))))
 
 pub read_to_end_marker-returns-in_err-after-clause-found : goal.read_to_end_marker-returns-in_err-after-clause-found
 read_to_end_marker-returns-in_err-after-clause-found t c =

@@ -50,14 +50,16 @@ read_any-returns-in_err-rest-clause-found t c =
     let d = c.args.max_depth in
     let deep : 1 ≤ d = omega arith in
     let p = err_from_is_err_and c.from_residual.result c.from_residual.ensures.1 in
-    rw (p.1, p.2) (passed_on _ _ c.in_err-rest.field-0.0 c.in_err-rest.ensures.found (λ e h. header_refused_at d i (c.args.end - length i) e deep h) (λ n h. (header_cut d i n deep h, refl)) (λ m. absurd m))
+    rw (p.1, p.2) (passed_on _ _ c.in_err-rest.field-0.0 c.in_err-rest.ensures.found (λ e h. header_refused_at d i (c.args.end - length i) e deep h)
+    (λ n h. (header_cut d i n deep h, refl)) (λ m. absurd m))
 
 pub read_any-returns-then-length-gt-MAX_OBJECT_SIZE-clause-found : goal.read_any-returns-then-length-gt-MAX_OBJECT_SIZE-clause-found
 read_any-returns-then-length-gt-MAX_OBJECT_SIZE-clause-found t c =
     let h = c.in_ok-rest.header in
     let found = c.in_ok-rest.ensures.found in
     let size : c.in_ok-length.length ≡ found.size = (let stated = found.length in let taken = c.length.ensures in let is = c.in_ok-length.ensures in cc) in
-    size_refused_at c.args.max_depth c.args.i.now c.in_ok-rest.rest.now (class_of h) (is_constructed h) (number_of h) found.size (c.args.end - length c.args.i.now) (omega arith) found.begins (omega arith)
+    size_refused_at c.args.max_depth c.args.i.now c.in_ok-rest.rest.now (class_of h) (is_constructed h) (number_of h) found.size (c.args.end - length c.args.i.now)
+    (omega arith) found.begins (omega arith)
 
 pub read_any-returns-then-rest-length-clause-found : goal.read_any-returns-then-rest-length-clause-found
 read_any-returns-then-rest-length-clause-found t c =
@@ -102,7 +104,8 @@ read_any-returns-in_err-next-clause-found t c =
     let begins : c.args.end - length r - length w ≡ (c.args.end - length i) + (length i - length r - length w) = omega (arith, s, c.requires.room, ap length parts, length-append w r) in
     let p = err_from_is_err_and c.from_residual-in_err-next.result c.from_residual-in_err-next.ensures.1 in
     rw (p.1, p.2) (passed_on _ _ c.in_err-next.field-0.0 c.in_err-next.ensures.found
-    (λ e q. content_refused_at d i rest w r (class_of h) (is_constructed h) (number_of h) found.size (c.args.end - length i) _ e _ deep found.begins small parts whole begins q) (λ m q. absurd q) (λ m. m))
+    (λ e q. content_refused_at d i rest w r (class_of h) (is_constructed h) (number_of h) found.size (c.args.end - length i) _ e _ deep found.begins small parts whole begins q)
+    (λ m q. absurd q) (λ m. m))
 
 pub read_any-returns-clause-found : goal.read_any-returns-clause-found
 read_any-returns-clause-found t c =
@@ -156,7 +159,8 @@ read_content-returns-then-eq-clause-found t c =
     let list : IsTrue (is_list (number_of h)) = search rules in
     let mapped : IsTrue (is_mapped (number_of h)) = search rules in
     answered _ _ c.read_items.result c.read_items.ensures.found
-    (λ m q. sequence_written (class_of h) (is_constructed h) (number_of h) c.args.max_depth c.args.octets.now c.args.end c.args.nodes.now c.args.count m c.read_items.new.nodes c.requires.deep universal constructed number q)
+    (λ m q. sequence_written (class_of h) (is_constructed h) (number_of h) c.args.max_depth c.args.octets.now c.args.end c.args.nodes.now c.args.count m c.read_items.new.nodes
+    c.requires.deep universal constructed number q)
     (λ e q. (universal, mapped, inr (list, constructed, q))) (λ n q. q) (λ q. q)
 
 pub read_content-returns-then-eq-2-clause-found : goal.read_content-returns-then-eq-2-clause-found
@@ -168,7 +172,8 @@ read_content-returns-then-eq-2-clause-found t c =
     let list : IsTrue (is_list (number_of h)) = search rules in
     let mapped : IsTrue (is_mapped (number_of h)) = search rules in
     answered _ _ c.read_items-then-eq-2.result c.read_items-then-eq-2.ensures.found
-    (λ m q. set_written (class_of h) (is_constructed h) (number_of h) c.args.max_depth c.args.octets.now c.args.end c.args.nodes.now c.args.count m c.read_items-then-eq-2.new.nodes c.requires.deep universal constructed number q)
+    (λ m q. set_written (class_of h) (is_constructed h) (number_of h) c.args.max_depth c.args.octets.now c.args.end c.args.nodes.now c.args.count m c.read_items-then-eq-2.new.nodes
+    c.requires.deep universal constructed number q)
     (λ e q. (universal, mapped, inr (list, constructed, q))) (λ n q. q) (λ q. q)
 
 pub read_content-returns-then-not-is_mapped-clause-found : goal.read_content-returns-then-not-is_mapped-clause-found
@@ -182,7 +187,8 @@ read_content-returns-in_err-check_der_leaf-clause-found t c =
     let h = c.args.header.now in
     let universal : class_of h ≡ Universal = search rules in
     let mapped : IsTrue (is_mapped (number_of h)) = search rules in
-    let refused : DerLeafRefuses (is_constructed h) (number_of h) c.args.octets.now (refusal c.in_err-check_der_leaf.field-0.0) = rw (← c.constructed.ensures, ← c.tag-tag.ensures) c.in_err-check_der_leaf.ensures in
+    let refused : DerLeafRefuses (is_constructed h) (number_of h) c.args.octets.now (refusal c.in_err-check_der_leaf.field-0.0) =
+    rw (← c.constructed.ensures, ← c.tag-tag.ensures) c.in_err-check_der_leaf.ensures in
     let p = err_from_is_err_and c.from_residual-in_err-check_der_leaf.result c.from_residual-in_err-check_der_leaf.ensures.1 in
     rw (p.1, p.2) (universal, mapped, inl (refused, refl))
 
@@ -200,8 +206,12 @@ read_items-loop-rest-init t c = (none_so_far c.args.max_depth c.args.content.now
 
 pub read_items-loop-rest-preserved : goal.read_items-loop-rest-preserved
 read_items-loop-rest-preserved t c =
-    let k = c.loop-rest.invariant in
-    (one_more_written c.args.max_depth c.args.content.now c.args.end c.args.nodes.now c.args.count c.loop-rest.rest.now c.in-Ok.after.now c.loop-rest.next c.in-Ok.behind c.loop-rest.nodes _ (omega arith) k.0 c.in-Ok.ensures.found, omega (arith, k.1, c.in-Ok.ensures.found.count), c.in-Ok.ensures.within)
+    let k = c.loop-rest.invariant in (
+      one_more_written c.args.max_depth c.args.content.now c.args.end c.args.nodes.now c.args.count c.loop-rest.rest.now c.in-Ok.after.now c.loop-rest.next c.in-Ok.behind c.loop-rest.nodes _
+          (omega arith) k.0 c.in-Ok.ensures.found,
+      omega (arith, k.1, c.in-Ok.ensures.found.count),
+      c.in-Ok.ensures.within,
+    )
 
 pub read_items-returns-in-Err-clause-found : goal.read_items-returns-in-Err-clause-found
 read_items-returns-in-Err-clause-found t c =
