@@ -1,7 +1,7 @@
 -- Elements that are written one after the other, of a spelling by BER.
-use Rattle.std.proofs.Common.{◌≡◌, ℕ, suc, ◌+◌, ◌-◌, ◌≤◌, Bool, true, false, IsTrue, List, [], ◌∷◌, ◌++◌, length}
+use Rattle.std.proofs.Common.{◌≡◌, ℕ, suc, ◌+◌, ◌-◌, ◌≤◌, Bool, true, false, IsTrue, List, [], ◌∷◌, ◌++◌, length, map}
 use Rattle.std.proofs.Common.{refl, sym, ap, subst, ◌∙◌, arith, append_assoc, length-append, inl, inr}
-use Rattle.std.proofs.lemmas.List.{append-nil}
+use Rattle.std.proofs.lemmas.List.{append-nil, length-map, map-append}
 use Rattle.der_base.specs.declared.header.Class.{Class}
 use Rattle.der_base.specs.declared.header.Class.TheVariants.{Universal}
 use Rattle.der_base.specs.declared.header.Header.{Header}
@@ -82,8 +82,8 @@ places_push (nodes x l) w b o n es fs (c, rest, xs, ls, ew, ee, hx, hl) h =
       places_push l rest b o (n + length c) ls fs hl (subst (λ k. AreElementsOf b k o fs) at h),
     )
 
-pub no_items_written : (d a : ℕ) (old : List Element) (n : ℕ) → WritesItems d [] a old n n old
-no_items_written d a old n = record {
+pub no_items_written : {N : Type 0} {row : Element → N} (d a : ℕ) (old : List N) (n : ℕ) → WritesItems row d [] a old n n old
+no_items_written {row} d a old n = record {
   items = no_nodes;
   forms = no_forms;
   joins = refl;
@@ -93,10 +93,12 @@ no_items_written d a old n = record {
   written = overlay_none old n;
 }
 
-pub one_more_written : (d : ℕ) (u b : List ℕ) (a at : ℕ) (old mid new : List Element) (n m m' : ℕ) → at ≡ a + length u
-    → WritesItems d u a old n m mid → WritesSpelling b at d mid m m' new → WritesItems d (u ++ b) a old n m' new
-one_more_written d u b a at old mid new n m m' e h k =
-    let next : m ≡ n + length h.elements = omega (arith, h.count, items_elements h.items u a h.elements h.places) in
+pub one_more_written : {N : Type 0} {row : Element → N} (d : ℕ) (u b : List ℕ) (a at : ℕ) (old mid new : List N) (n m m' : ℕ) → at ≡ a + length u
+    → WritesItems row d u a old n m mid → WritesSpelling row b at d mid m m' new → WritesItems row d (u ++ b) a old n m' new
+one_more_written {row} d u b a at old mid new n m m' e h k =
+    let rows = map row h.elements in
+    let more = map row k.elements in
+    let next : m ≡ n + length rows = omega (arith, h.count, items_elements h.items u a h.elements h.places, length-map h.elements row) in
     record {
       items = nodes_push h.items k.object;
       forms = forms_push h.forms k.form;
@@ -104,14 +106,14 @@ one_more_written d u b a at old mid new n m m' e h k =
       elements = h.elements ++ k.elements;
       places = places_push h.items u b k.object a h.elements k.elements h.places (subst (λ q. AreElementsOf b q k.object k.elements) e k.places);
       count = omega (arith, h.count, k.count, count_push h.items k.object);
-      written = k.written ∙ ap (λ q. overlay q m k.elements) h.written ∙ ap (λ q. overlay (overlay old n h.elements) q k.elements) next
-          ∙ overlay_more old n h.elements k.elements;
+      written = k.written ∙ ap (λ q. overlay q m more) h.written ∙ ap (λ q. overlay (overlay old n rows) q more) next
+          ∙ overlay_more old n rows more ∙ ap (λ q. overlay old n q) (sym (map-append row h.elements k.elements));
     }
 
 -- contents
 
-pub sequence_written : (c : Class) (p : Bool) (t d : ℕ) (w : List ℕ) (a : ℕ) (old : List Element) (n m : ℕ) (new : List Element) → c ≡ Universal → p ≡ true → t ≡ 16
-    → WritesItems (d - 1) w a old n m new → WritesContent c p t d w a old n m new
+pub sequence_written : {N : Type 0} {row : Element → N} (c : Class) (p : Bool) (t d : ℕ) (w : List ℕ) (a : ℕ) (old : List N) (n m : ℕ) (new : List N) → c ≡ Universal → p ≡ true → t ≡ 16
+    → WritesItems row (d - 1) w a old n m new → WritesContent row c p t d w a old n m new
 sequence_written c p t d w a old n m new ec ep et h = record {
   value = sequence h.items;
   forms = h.forms;
@@ -122,8 +124,8 @@ sequence_written c p t d w a old n m new ec ep et h = record {
   written = h.written;
 }
 
-pub set_written : (c : Class) (p : Bool) (t d : ℕ) (w : List ℕ) (a : ℕ) (old : List Element) (n m : ℕ) (new : List Element) → c ≡ Universal → p ≡ true → t ≡ 17
-    → WritesItems (d - 1) w a old n m new → WritesContent c p t d w a old n m new
+pub set_written : {N : Type 0} {row : Element → N} (c : Class) (p : Bool) (t d : ℕ) (w : List ℕ) (a : ℕ) (old : List N) (n m : ℕ) (new : List N) → c ≡ Universal → p ≡ true → t ≡ 17
+    → WritesItems row (d - 1) w a old n m new → WritesContent row c p t d w a old n m new
 set_written c p t d w a old n m new ec ep et h = record {
   value = set h.items;
   forms = h.forms;
@@ -134,9 +136,9 @@ set_written c p t d w a old n m new ec ep et h = record {
   written = h.written;
 }
 
-pub list_written : (c : Class) (p : Bool) (t d : ℕ) (w : List ℕ) (a : ℕ) (old : List Element) (n m : ℕ) (new : List Element) → c ≡ Universal → p ≡ true → IsTrue (is_list t)
-    → WritesItems (d - 1) w a old n m new → WritesContent c p t d w a old n m new
-list_written c p t d w a old n m new ec ep l h = or_cases (t == 16) (t == 17) (WritesContent c p t d w a old n m new) l
+pub list_written : {N : Type 0} {row : Element → N} (c : Class) (p : Bool) (t d : ℕ) (w : List ℕ) (a : ℕ) (old : List N) (n m : ℕ) (new : List N) → c ≡ Universal → p ≡ true → IsTrue (is_list t)
+    → WritesItems row (d - 1) w a old n m new → WritesContent row c p t d w a old n m new
+list_written {row} c p t d w a old n m new ec ep l h = or_cases (t == 16) (t == 17) (WritesContent row c p t d w a old n m new) l
     (λ e. sequence_written c p t d w a old n m new ec ep ((Decides-eqb t 16).0 e) h)
     (λ e. set_written c p t d w a old n m new ec ep ((Decides-eqb t 17).0 e) h)
 
@@ -154,9 +156,9 @@ leaf_places c p t w (sequence l) n u k = absurd k
 leaf_places c p t w (set l) n u k = absurd k
 leaf_places c p t w _ n u k = (refl, inl (u, k))
 
-pub leaf_written : (c : Class) (p : Bool) (t d : ℕ) (w : List ℕ) (a : ℕ) (old : List Element) (n : ℕ) → c ≡ Universal → (x : Content) × IsLeafContent p t w x
-    → WritesContent c p t d w a old n n old
-leaf_written c p t d w a old n u (x, k) = record {
+pub leaf_written : {N : Type 0} {row : Element → N} (c : Class) (p : Bool) (t d : ℕ) (w : List ℕ) (a : ℕ) (old : List N) (n : ℕ) → c ≡ Universal → (x : Content) × IsLeafContent p t w x
+    → WritesContent row c p t d w a old n n old
+leaf_written {row} c p t d w a old n u (x, k) = record {
   value = x;
   forms = no_forms;
   content = leaf_has w c p t x d u k;
@@ -166,9 +168,9 @@ leaf_written c p t d w a old n u (x, k) = record {
   written = overlay_none old n;
 }
 
-pub raw_written : (c : Class) (p : Bool) (t d : ℕ) (w : List ℕ) (a : ℕ) (old : List Element) (n : ℕ) → (c ≡ Universal → is_mapped t ≡ false)
-    → WritesContent c p t d w a old n n old
-raw_written c p t d w a old n k = record {
+pub raw_written : {N : Type 0} {row : Element → N} (c : Class) (p : Bool) (t d : ℕ) (w : List ℕ) (a : ℕ) (old : List N) (n : ℕ) → (c ≡ Universal → is_mapped t ≡ false)
+    → WritesContent row c p t d w a old n n old
+raw_written {row} c p t d w a old n k = record {
   value = unknown c p t w;
   forms = no_forms;
   content = (refl, inr (refl, refl, refl, refl, k));
@@ -178,18 +180,18 @@ raw_written c p t d w a old n k = record {
   written = overlay_none old n;
 }
 
-pub content_written : (c : Class) (p : Bool) (t d : ℕ) (w : List ℕ) (a : ℕ) (old : List Element) (n m : ℕ) → m ≡ n → IsLeafOrKept c p t w
-    → WritesContent c p t d w a old n m old
-content_written c p t d w a old n m e (x, inl (u, k)) = subst (λ y. WritesContent c p t d w a old n y old) (sym e) (leaf_written c p t d w a old n u (x, k))
-content_written c p t d w a old n m e (x, inr k) = subst (λ y. WritesContent c p t d w a old n y old) (sym e) (raw_written c p t d w a old n (λ u. kept_unmapped c p t w x k u))
+pub content_written : {N : Type 0} {row : Element → N} (c : Class) (p : Bool) (t d : ℕ) (w : List ℕ) (a : ℕ) (old : List N) (n m : ℕ) → m ≡ n → IsLeafOrKept c p t w
+    → WritesContent row c p t d w a old n m old
+content_written {row} c p t d w a old n m e (x, inl (u, k)) = subst (λ y. WritesContent row c p t d w a old n y old) (sym e) (leaf_written c p t d w a old n u (x, k))
+content_written {row} c p t d w a old n m e (x, inr k) = subst (λ y. WritesContent row c p t d w a old n y old) (sym e) (raw_written c p t d w a old n (λ u. kept_unmapped c p t w x k u))
 
 -- an element of a header and a content
 
-pub spelling_written : (b w : List ℕ) (c : Class) (p : Bool) (t : ℕ) (l : Length) (k d start a : ℕ) (old mid : List Element) (n m : ℕ) (new : List Element) → k ≤ framing_budget → 1 ≤ d
-    → ElementAt b start l c p t w k a → WritesContent c p t d w a old (n + 1) m mid
-    → new ≡ overlay mid n (record { class = c; constructed = p; definite = is_definite l; number = t; header = start; content = a; end = a + length w; inside = m - n - 1 } ∷ [])
-    → WritesSpelling b start d old n m new
-spelling_written b w c p t l k d start a old mid n m new le deep e q put =
+pub spelling_written : {N : Type 0} {row : Element → N} (b w : List ℕ) (c : Class) (p : Bool) (t : ℕ) (l : Length) (k d start a : ℕ) (old mid : List N) (n m : ℕ) (new : List N) → k ≤ framing_budget → 1 ≤ d
+    → ElementAt b start l c p t w k a → WritesContent row c p t d w a old (n + 1) m mid
+    → new ≡ overlay mid n (row (record { class = c; constructed = p; definite = is_definite l; number = t; header = start; content = a; end = a + length w; inside = m - n - 1 }) ∷ [])
+    → WritesSpelling row b start d old n m new
+spelling_written {row} b w c p t l k d start a old mid n m new le deep e q put =
     let j = m - n - 1 in
     let number = content_elements c p t q.value w a q.elements q.places in
     let inside : length q.elements ≡ j = omega (arith, q.count, number) in
@@ -202,12 +204,12 @@ spelling_written b w c p t l k d start a old mid n m new le deep e q put =
       elements = element ∷ q.elements;
       places = (w, element, q.elements, refl, subst (λ y. IsElementAt b start c p t w y element) (sym inside) (placed_at j e), q.places);
       count = omega (arith, q.count, object_counted c p t q.value);
-      written = put ∙ ap (λ y. overlay y n (element ∷ [])) (q.written ∙ ap (λ y. overlay old y q.elements) one) ∙ overlay_front old n element q.elements;
+      written = put ∙ ap (λ y. overlay y n (row element ∷ [])) (q.written ∙ ap (λ y. overlay old y (map row q.elements)) one) ∙ overlay_front old n (row element) (map row q.elements);
     }
 
-pub whole_written : (b w : List ℕ) (h : Header) (l : Length) (k d start a : ℕ) (old : List Element) (n m : ℕ) (new : List Element) → k ≤ framing_budget → 1 ≤ d
-    → ElementAt b start l (class_of h) (is_constructed h) (number_of h) w k a → WritesWhole h l d w start a old n m new
-    → WritesSpelling b start d old n m new
+pub whole_written : {N : Type 0} {row : Element → N} (b w : List ℕ) (h : Header) (l : Length) (k d start a : ℕ) (old : List N) (n m : ℕ) (new : List N) → k ≤ framing_budget → 1 ≤ d
+    → ElementAt b start l (class_of h) (is_constructed h) (number_of h) w k a → WritesWhole row h l d w start a old n m new
+    → WritesSpelling row b start d old n m new
 whole_written b w h l k d start a old n m new le deep e (mid, q, put) =
     spelling_written b w (class_of h) (is_constructed h) (number_of h) l k d start a old mid n m new le deep e q put
 
@@ -229,9 +231,9 @@ same_parts e c p f t a b z k h =
     let s : record { class = e.class; constructed = e.constructed; definite = e.definite; number = e.number; header = e.header; content = e.content; end = e.end; inside = e.inside }
     ≡ record { class = c; constructed = p; definite = f; number = t; header = a; content = b; end = z; inside = k } = cc in s
 
-pub whole_put : (h : Header) (l : Length) (d : ℕ) (w : List ℕ) (start a : ℕ) (old mid new : List Element) (n m : ℕ) (e : Element)
-    → WritesContent (class_of h) (is_constructed h) (number_of h) d w a old (n + 1) m mid
+pub whole_put : {N : Type 0} {row : Element → N} (h : Header) (l : Length) (d : ℕ) (w : List ℕ) (start a : ℕ) (old mid new : List N) (n m : ℕ) (e : Element)
+    → WritesContent row (class_of h) (is_constructed h) (number_of h) d w a old (n + 1) m mid
     → HasParts e (class_of h) (is_constructed h) (is_definite l) (number_of h) start a (a + length w) (m - n - 1)
-    → new ≡ overlay mid n (e ∷ []) → WritesWhole h l d w start a old n m new
-whole_put h l d w start a old mid new n m e content parts put =
-    (mid, content, put ∙ ap (λ x. overlay mid n (x ∷ [])) (same_parts e (class_of h) (is_constructed h) (is_definite l) (number_of h) start a (a + length w) (m - n - 1) parts))
+    → new ≡ overlay mid n (row e ∷ []) → WritesWhole row h l d w start a old n m new
+whole_put {row} h l d w start a old mid new n m e content parts put =
+    (mid, content, put ∙ ap (λ x. overlay mid n (row x ∷ [])) (same_parts e (class_of h) (is_constructed h) (is_definite l) (number_of h) start a (a + length w) (m - n - 1) parts))

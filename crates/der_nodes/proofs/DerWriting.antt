@@ -1,6 +1,6 @@
 -- Elements that are written one behind the other.
-use Rattle.std.proofs.Common.{◌≡◌, ℕ, suc, ◌+◌, ◌-◌, ◌≤◌, Bool, true, false, List, [], ◌∷◌, ◌++◌, length, refl, sym, ap, subst, ◌∙◌, arith, append_assoc, length-append, inr}
-use Rattle.std.proofs.lemmas.List.{append-nil}
+use Rattle.std.proofs.Common.{◌≡◌, ℕ, suc, ◌+◌, ◌-◌, ◌≤◌, Bool, true, false, List, [], ◌∷◌, ◌++◌, length, map, refl, sym, ap, subst, ◌∙◌, arith, append_assoc, length-append, inr}
+use Rattle.std.proofs.lemmas.List.{append-nil, length-map, map-append}
 use Rattle.der_base.specs.declared.header.Class.{Class}
 use Rattle.der_base.specs.declared.header.Class.TheVariants.{Universal}
 use Rattle.der_base.specs.Encoding.{encoding, encodings, element, content_octets}
@@ -43,8 +43,8 @@ mutual
 
 -- contents
 
-pub raw_written : (c : Class) (p : Bool) (t d : ℕ) (w : List ℕ) (end : ℕ) (old : List Element) (n : ℕ) → 1 ≤ d → (c ≡ Universal → is_mapped t ≡ false) → WritesDerContent c p t d w end old n n old
-raw_written c p t d w end old n le k = record {
+pub raw_written : {N : Type 0} {row : Element → N} (c : Class) (p : Bool) (t d : ℕ) (w : List ℕ) (end : ℕ) (old : List N) (n : ℕ) → 1 ≤ d → (c ≡ Universal → is_mapped t ≡ false) → WritesDerContent row c p t d w end old n n old
+raw_written {row} c p t d w end old n le k = record {
   value = unknown c p t w;
   content = record { octets = refl; valid = inr (refl, refl, refl, refl, k); depth = le };
   count = omega arith;
@@ -57,16 +57,16 @@ leaf_places t (sequence l) n k = absurd k.0
 leaf_places t (set l) n k = absurd k.0
 leaf_places t _ n k = refl
 
-pub leaf_written : (c : Class) (p : Bool) (t d : ℕ) (w : List ℕ) (end : ℕ) (old : List Element) (n : ℕ) → 1 ≤ d → c ≡ Universal → IsDerLeafOf p t w → WritesDerContent c p t d w end old n n old
-leaf_written c p t d w end old n le u (x, q, k, e) = record {
+pub leaf_written : {N : Type 0} {row : Element → N} (c : Class) (p : Bool) (t d : ℕ) (w : List ℕ) (end : ℕ) (old : List N) (n : ℕ) → 1 ≤ d → c ≡ Universal → IsDerLeafOf p t w → WritesDerContent row c p t d w end old n n old
+leaf_written {row} c p t d w end old n le u (x, q, k, e) = record {
   value = x;
   content = record { octets = e; valid = leaf_valid c p t x u q k; depth = omega (arith, leaf_height t x k, le) };
   count = omega (arith, placed_content_length x end, ap length (leaf_places t x end k));
-  written = overlay_none old n ∙ ap (λ v. overlay old n v) (sym (leaf_places t x (end - length w) k));
+  written = overlay_none old n ∙ ap (λ v. overlay old n (map row v)) (sym (leaf_places t x (end - length w) k));
 }
 
-pub sequence_written : (c : Class) (p : Bool) (t d : ℕ) (w : List ℕ) (end : ℕ) (old : List Element) (n m : ℕ) (new : List Element) → 1 ≤ d → c ≡ Universal → p ≡ true → t ≡ 16
-    → WritesDerItems (d - 1) w end old n m new → WritesDerContent c p t d w end old n m new
+pub sequence_written : {N : Type 0} {row : Element → N} (c : Class) (p : Bool) (t d : ℕ) (w : List ℕ) (end : ℕ) (old : List N) (n m : ℕ) (new : List N) → 1 ≤ d → c ≡ Universal → p ≡ true → t ≡ 16
+    → WritesDerItems row (d - 1) w end old n m new → WritesDerContent row c p t d w end old n m new
 sequence_written c p t d w end old n m new le ec ep et h =
     let q = joins_encoded h.items w (d - 1) h.joins in
     record {
@@ -76,8 +76,8 @@ sequence_written c p t d w end old n m new le ec ep et h =
       written = h.written;
     }
 
-pub set_written : (c : Class) (p : Bool) (t d : ℕ) (w : List ℕ) (end : ℕ) (old : List Element) (n m : ℕ) (new : List Element) → 1 ≤ d → c ≡ Universal → p ≡ true → t ≡ 17
-    → WritesDerItems (d - 1) w end old n m new → WritesDerContent c p t d w end old n m new
+pub set_written : {N : Type 0} {row : Element → N} (c : Class) (p : Bool) (t d : ℕ) (w : List ℕ) (end : ℕ) (old : List N) (n m : ℕ) (new : List N) → 1 ≤ d → c ≡ Universal → p ≡ true → t ≡ 17
+    → WritesDerItems row (d - 1) w end old n m new → WritesDerContent row c p t d w end old n m new
 set_written c p t d w end old n m new le ec ep et h =
     let q = joins_encoded h.items w (d - 1) h.joins in
     record {
@@ -87,9 +87,9 @@ set_written c p t d w end old n m new le ec ep et h =
       written = h.written;
     }
 
-pub list_written : (c : Class) (p : Bool) (t d : ℕ) (w : List ℕ) (end : ℕ) (old : List Element) (n m : ℕ) (new : List Element) → 1 ≤ d → c ≡ Universal → p ≡ true → IsTrue (is_list t)
-    → WritesDerItems (d - 1) w end old n m new → WritesDerContent c p t d w end old n m new
-list_written c p t d w end old n m new le ec ep l h = or_cases (t == 16) (t == 17) (WritesDerContent c p t d w end old n m new) l
+pub list_written : {N : Type 0} {row : Element → N} (c : Class) (p : Bool) (t d : ℕ) (w : List ℕ) (end : ℕ) (old : List N) (n m : ℕ) (new : List N) → 1 ≤ d → c ≡ Universal → p ≡ true → IsTrue (is_list t)
+    → WritesDerItems row (d - 1) w end old n m new → WritesDerContent row c p t d w end old n m new
+list_written {row} c p t d w end old n m new le ec ep l h = or_cases (t == 16) (t == 17) (WritesDerContent row c p t d w end old n m new) l
     (λ e. sequence_written c p t d w end old n m new le ec ep ((Decides-eqb t 16).0 e) h)
     (λ e. set_written c p t d w end old n m new le ec ep ((Decides-eqb t 17).0 e) h)
 
@@ -113,12 +113,12 @@ same_places e c p t a b z k h =
     let s : record { class = e.class; constructed = e.constructed; definite = e.definite; number = e.number; header = e.header; content = e.content; end = e.end; inside = e.inside }
     ≡ record { class = c; constructed = p; definite = true; number = t; header = a; content = b; end = z; inside = k } = cc in s
 
-pub element_written : (d : ℕ) (i rest w r : List ℕ) (c : Class) (p : Bool) (t k end : ℕ) (old mid new : List Element) (n m : ℕ) (e : Element)
+pub element_written : {N : Type 0} {row : Element → N} (d : ℕ) (i rest w r : List ℕ) (c : Class) (p : Bool) (t k end : ℕ) (old mid new : List N) (n m : ℕ) (e : Element)
     → n + length i ≤ end → BeginsWithDerHeader i c p t k rest → k ≤ max_object_size → rest ≡ w ++ r → length w ≡ k
-    → WritesDerContent c p t d w (end - length r) old (n + 1) m mid
+    → WritesDerContent row c p t d w (end - length r) old (n + 1) m mid
     → HasPlaces e c p t (end - length i) (end - length r - k) (end - length r) (m - n - 1)
-    → new ≡ overlay mid n (e ∷ []) → WritesDerElement d i end old n r m new
-element_written d i rest w r c p t k end old mid new n m e room b small parts whole h places put =
+    → new ≡ overlay mid n (row e ∷ []) → WritesDerElement row d i end old n r m new
+element_written {row} d i rest w r c p t k end old mid new n m e room b small parts whole h places put =
     let x = h.value in
     let v = content_octets x in
     let a = identifier c p t ++ shortest_length (length v) in
@@ -152,23 +152,24 @@ element_written d i rest w r c p t k end old mid new n m e room b small parts wh
       count = omega (arith, h.count, object_counted c p t x);
       written =
           let one : n + 1 ≡ suc n = omega arith in
-          put ∙ ap (λ q. overlay q n (e ∷ [])) (h.written ∙ ap (λ q. overlay old q within) one) ∙ overlay_front old n e within
-          ∙ ap (λ q. overlay old n (q ∷ within)) is ∙ ap (λ q. overlay old n (whole_at begin ∷ placed_content x q)) begins;
+          let rows = map row within in
+          put ∙ ap (λ q. overlay q n (row e ∷ [])) (h.written ∙ ap (λ q. overlay old q rows) one) ∙ overlay_front old n (row e) rows
+          ∙ ap (λ q. overlay old n (row q ∷ rows)) is ∙ ap (λ q. overlay old n (row (whole_at begin) ∷ map row (placed_content x q))) begins;
     }
 
 -- items
 
 -- the items in front of rest are written
-pub record SoFar (d : ℕ) (w : List ℕ) (end : ℕ) (old : List Element) (n : ℕ) (rest : List ℕ) (m : ℕ) (new : List Element) : Type 0 where
+pub record SoFar {N : Type 0} (row : Element → N) (d : ℕ) (w : List ℕ) (end : ℕ) (old : List N) (n : ℕ) (rest : List ℕ) (m : ℕ) (new : List N) : Type 0 where
   pub items : List Node
   pub read : List ℕ
   pub parts : w ≡ read ++ rest
   pub joins : DerJoins read (nodes_of items) d
   pub count : m ≡ n + item_count (nodes_of items)
-  pub written : new ≡ overlay old n (placed_items (nodes_of items) (end - length w))
+  pub written : new ≡ overlay old n (map row (placed_items (nodes_of items) (end - length w)))
 
-pub none_so_far : (d : ℕ) (w : List ℕ) (end : ℕ) (old : List Element) (n : ℕ) → SoFar d w end old n w n old
-none_so_far d w end old n = record { items = []; read = []; parts = refl; joins = refl; count = omega arith; written = overlay_none old n }
+pub none_so_far : {N : Type 0} {row : Element → N} (d : ℕ) (w : List ℕ) (end : ℕ) (old : List N) (n : ℕ) → SoFar row d w end old n w n old
+none_so_far {row} d w end old n = record { items = []; read = []; parts = refl; joins = refl; count = omega arith; written = overlay_none old n }
 
 joins_push : (os : List Node) (w b : List ℕ) (o : Node) (d : ℕ) → DerJoins w (nodes_of os) d → DerSpells b o d → DerJoins (w ++ b) (nodes_of (os ++ o ∷ [])) d
 joins_push [] w b o d e s = (b, [], ap (λ v. v ++ b) e ∙ sym (append-nil b), s, refl)
@@ -185,26 +186,29 @@ places_push (x ∷ os) o n m e =
     let q : m ≡ k + length (encodings (nodes_of os)) = omega (arith, e, length-append (encoding x) (encodings (nodes_of os))) in
     ap (λ v. placed x n ++ v) (places_push os o k m q) ∙ sym (append_assoc (placed x n) (placed_items (nodes_of os) k) (placed o m))
 
-pub one_more_written : (d : ℕ) (w : List ℕ) (end : ℕ) (old : List Element) (n : ℕ) (rest after : List ℕ) (m m' : ℕ) (new new' : List Element) → length w ≤ end
-    → SoFar d w end old n rest m new → WritesDerElement d rest end new m after m' new' → SoFar d w end old n after m' new'
-one_more_written d w end old n rest after m m' new new' room h k =
+pub one_more_written : {N : Type 0} {row : Element → N} (d : ℕ) (w : List ℕ) (end : ℕ) (old : List N) (n : ℕ) (rest after : List ℕ) (m m' : ℕ) (new new' : List N) → length w ≤ end
+    → SoFar row d w end old n rest m new → WritesDerElement row d rest end new m after m' new' → SoFar row d w end old n after m' new'
+one_more_written {row} d w end old n rest after m m' new new' room h k =
     let l = nodes_of h.items in
     let at = end - length w in
     let enc = joins_encoded l h.read d h.joins in
     let place : end - length rest ≡ at + length (encodings l) = omega (arith, ap length h.parts, length-append h.read rest, ap length enc.octets, room) in
-    let behind : m ≡ n + length (placed_items l at) = omega (arith, h.count, placed_items_length l at) in
+    let rows = map row (placed_items l at) in
+    let more = map row (placed k.object (end - length rest)) in
+    let behind : m ≡ n + length rows = omega (arith, h.count, placed_items_length l at, length-map (placed_items l at) row) in
+    let joined : rows ++ more ≡ map row (placed_items (nodes_of (h.items ++ k.object ∷ [])) at) =
+    sym (map-append row (placed_items l at) (placed k.object (end - length rest))) ∙ ap (map row) (sym (places_push h.items k.object at (end - length rest) place)) in
     record {
       items = h.items ++ k.object ∷ [];
       read = h.read ++ k.spelling;
       parts = h.parts ∙ ap (λ v. h.read ++ v) k.octets ∙ sym (append_assoc h.read k.spelling after);
       joins = joins_push h.items h.read k.spelling k.object d h.joins k.spells;
       count = omega (arith, h.count, k.count, count_push h.items k.object);
-      written = k.written ∙ ap (λ q. overlay q m (placed k.object (end - length rest))) h.written ∙ ap (λ q. overlay (overlay old n (placed_items l at)) q (placed k.object (end - length rest))) behind
-          ∙ overlay_more old n (placed_items l at) (placed k.object (end - length rest)) ∙ ap (λ q. overlay old n q) (sym (places_push h.items k.object at (end - length rest) place));
+      written = k.written ∙ ap (λ q. overlay q m more) h.written ∙ ap (λ q. overlay (overlay old n rows) q more) behind ∙ overlay_more old n rows more ∙ ap (λ q. overlay old n q) joined;
     }
 
-pub all_written : (d : ℕ) (w : List ℕ) (end : ℕ) (old : List Element) (n : ℕ) (rest : List ℕ) (m : ℕ) (new : List Element) → SoFar d w end old n rest m new
-    → length rest ≡ 0 → WritesDerItems d w end old n m new
+pub all_written : {N : Type 0} {row : Element → N} (d : ℕ) (w : List ℕ) (end : ℕ) (old : List N) (n : ℕ) (rest : List ℕ) (m : ℕ) (new : List N) → SoFar row d w end old n rest m new
+    → length rest ≡ 0 → WritesDerItems row d w end old n m new
 all_written d w end old n [] m new h z = record {
   items = nodes_of h.items;
   joins = subst (λ v. DerJoins v (nodes_of h.items) d) (sym (h.parts ∙ append-nil h.read)) h.joins;

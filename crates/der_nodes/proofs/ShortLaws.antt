@@ -59,8 +59,8 @@ list_number first (inr e) = let n : first - 32 ≡ 17 = omega (arith, e) in (rw 
 
 -- by DER
 
-pub der_plain_written : (d : ℕ) (i w r : List ℕ) (t end n : ℕ) (old new : List Element) → 1 ≤ d → n + length i ≤ end → IsShort i t w r → IsPlainLeaf t w
-    → new ≡ overlay old n (universal_element false t (length w) (end - length r) 0 ∷ []) → WritesDerElement d i end old n r (n + 1) new
+pub der_plain_written : {N : Type 0} {row : Element → N} (d : ℕ) (i w r : List ℕ) (t end n : ℕ) (old new : List N) → 1 ≤ d → n + length i ≤ end → IsShort i t w r → IsPlainLeaf t w
+    → new ≡ overlay old n (row (universal_element false t (length w) (end - length r) 0) ∷ []) → WritesDerElement row d i end old n r (n + 1) new
 der_plain_written d i w r t end n old new deep room s (some, lt, leaf) put =
     let size = short_octets i t w r s in
     let begins = short_der_header i Universal false t t w r lt (omega arith) s in
@@ -77,9 +77,9 @@ der_plain_written d i w r t end n old new deep room s (some, lt, leaf) put =
       inside = omega arith;
     }) put
 
-pub der_list_written : (d : ℕ) (i w r : List ℕ) (first end n m : ℕ) (old mid new : List Element) → 1 ≤ d → n + length i ≤ end → IsShort i first w r → IsListOctet first
-    → WritesDerItems (d - 1) w (end - length r) old (n + 1) m mid
-    → new ≡ overlay mid n (universal_element true (first - 32) (length w) (end - length r) (m - n - 1) ∷ []) → WritesDerElement d i end old n r m new
+pub der_list_written : {N : Type 0} {row : Element → N} (d : ℕ) (i w r : List ℕ) (first end n m : ℕ) (old mid new : List N) → 1 ≤ d → n + length i ≤ end → IsShort i first w r → IsListOctet first
+    → WritesDerItems row (d - 1) w (end - length r) old (n + 1) m mid
+    → new ≡ overlay mid n (row (universal_element true (first - 32) (length w) (end - length r) (m - n - 1)) ∷ []) → WritesDerElement row d i end old n r m new
 der_list_written d i w r first end n m old mid new deep room s is items put =
     let size = short_octets i first w r s in
     let q = list_number first is in
@@ -110,9 +110,9 @@ der_list_refused d i w r first end e q deep room s is h =
 
 -- by BER
 
-pub ber_plain_written : (k d : ℕ) (i w r : List ℕ) (t end n : ℕ) (old new : List Element) → 1 ≤ k → k ≤ framing_budget → 1 ≤ d → n + length i ≤ end → IsShort i t w r → IsPlainLeaf t w
-    → new ≡ overlay old n (universal_element false t (length w) (end - length r) 0 ∷ []) → WritesFramed k d i end old n r (n + 1) new
-ber_plain_written k d i w r t end n old new budget le deep room s (some, lt, (x, p, leaf, octets)) put =
+pub ber_plain_written : {N : Type 0} {row : Element → N} (k d : ℕ) (i w r : List ℕ) (t end n : ℕ) (old new : List N) → 1 ≤ k → k ≤ framing_budget → 1 ≤ d → n + length i ≤ end → IsShort i t w r → IsPlainLeaf t w
+    → new ≡ overlay old n (row (universal_element false t (length w) (end - length r) 0) ∷ []) → WritesFramed row k d i end old n r (n + 1) new
+ber_plain_written {row} k d i w r t end n old new budget le deep room s (some, lt, (x, p, leaf, octets)) put =
     let size = short_octets i t w r s in
     let e = element_at i (w ++ r) w r Universal false t (Definite (length w)) k end budget (omega (arith, room))
     (short_header i Universal false t t w r lt (omega arith) s) (refl, refl) in
@@ -130,17 +130,17 @@ ber_plain_written k d i w r t end n old new budget le deep room s (some, lt, (x,
       elements (is_element e.1) other no_elements (sym (append-nil e.0)),
       ber_writing.spelling_written e.0 w Universal false t (Definite (length w)) k d (end - length i) a old old n (n + 1) new le deep e.1
           (ber_writing.leaf_written Universal false t d w a old (n + 1) refl (x, is))
-          (put ∙ ap (λ v. overlay old n (v ∷ [])) same),
+          (put ∙ ap (λ v. overlay old n (row v ∷ [])) same),
     )
 
-pub framed_element : (k d : ℕ) (i : List ℕ) (end : ℕ) (old : List Element) (n : ℕ) (rest : List ℕ) (m : ℕ) (new : List Element)
-    → WritesFramed k d i end old n rest m new → WritesElement d i end old n rest m new
+pub framed_element : {N : Type 0} {row : Element → N} (k d : ℕ) (i : List ℕ) (end : ℕ) (old : List N) (n : ℕ) (rest : List ℕ) (m : ℕ) (new : List N)
+    → WritesFramed row k d i end old n rest m new → WritesElement row d i end old n rest m new
 framed_element k d i end old n rest m new h = (h.0, h.1, h.3)
 
-pub ber_list_written : (d : ℕ) (i w r : List ℕ) (first end n m : ℕ) (old mid new : List Element) → 1 ≤ d → n + length i ≤ end → IsShort i first w r → IsListOctet first
-    → WritesItems (d - 1) w (end - length r - length w) old (n + 1) m mid
-    → new ≡ overlay mid n (universal_element true (first - 32) (length w) (end - length r) (m - n - 1) ∷ []) → WritesElement d i end old n r m new
-ber_list_written d i w r first end n m old mid new deep room s is items put =
+pub ber_list_written : {N : Type 0} {row : Element → N} (d : ℕ) (i w r : List ℕ) (first end n m : ℕ) (old mid new : List N) → 1 ≤ d → n + length i ≤ end → IsShort i first w r → IsListOctet first
+    → WritesItems row (d - 1) w (end - length r - length w) old (n + 1) m mid
+    → new ≡ overlay mid n (row (universal_element true (first - 32) (length w) (end - length r) (m - n - 1)) ∷ []) → WritesElement row d i end old n r m new
+ber_list_written {row} d i w r first end n m old mid new deep room s is items put =
     let size = short_octets i first w r s in
     let q = list_number first is in
     let t = first - 32 in
@@ -155,8 +155,8 @@ ber_list_written d i w r first end n m old mid new deep room s is items put =
       e.0,
       e.2,
       ber_writing.spelling_written e.0 w Universal true t (Definite (length w)) framing_budget d (end - length i) a old mid n m new (omega arith) deep e.1
-          (ber_writing.list_written Universal true t d w a old (n + 1) m mid refl refl q.0 (subst (λ z. WritesItems (d - 1) w z old (n + 1) m mid) at items))
-          (put ∙ ap (λ v. overlay mid n (v ∷ [])) same),
+          (ber_writing.list_written Universal true t d w a old (n + 1) m mid refl refl q.0 (subst (λ z. WritesItems row (d - 1) w z old (n + 1) m mid) at items))
+          (put ∙ ap (λ v. overlay mid n (row v ∷ [])) same),
     )
 
 pub ber_list_refused : (d : ℕ) (i w r : List ℕ) (first end : ℕ) (e : Refusal) (q : ℕ) → 1 ≤ d → length i ≤ end → IsShort i first w r → IsListOctet first

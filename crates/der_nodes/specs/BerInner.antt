@@ -1,5 +1,5 @@
 -- What the functions of the reader of BER write and return.
-use Rattle.std.specs.Prelude.{◌≡◌, ℕ, ◌+◌, ◌-◌, ◌≤◌, ◌⊎◌, Bool, true, false, List, [], ◌∷◌, ◌++◌, length}
+use Rattle.std.specs.Prelude.{◌≡◌, ℕ, ◌+◌, ◌-◌, ◌≤◌, ◌⊎◌, Bool, true, false, List, [], ◌∷◌, ◌++◌, length, map}
 use Rattle.std.specs.Prelude.{Result, Ok, Err}
 use Rattle.der_base.specs.declared.error.Err.{Err as Refusing}
 use Rattle.der_base.specs.declared.error.Err.TheVariants.{Error}
@@ -22,57 +22,60 @@ use Rattle.der_base.specs.Spelling.{IsKept}
 use Rattle.der_nodes.specs.FaultPlaces.{InsideRefusesAt, ContentRefusesAt}
 use Rattle.der_nodes.specs.Places.{AreElementsOf, AreInContent, AreInItems, overlay}
 
--- the octets b, which begin at a place, spell a tree, whose elements are written from the number n on
-pub record WritesSpelling (b : List ℕ) (at d : ℕ) (old : List Element) (n m : ℕ) (new : List Element) : Type 0 where
+-- the octets b, which begin at a place, spell a tree; the rows of its elements are written from the number n on
+pub record WritesSpelling {N : Type 0} (row : Element → N) (b : List ℕ) (at d : ℕ) (old : List N) (n m : ℕ)
+    (new : List N) : Type 0 where
   pub object : Node
   pub form : Form
   pub spells : Spells b object form d
   pub elements : List Element
   pub places : AreElementsOf b at object elements
   pub count : m ≡ n + object_count object
-  pub written : new ≡ overlay old n elements
+  pub written : new ≡ overlay old n (map row elements)
 
 -- i, which ends at the place end, begins with such a spelling
-abbrev pub WritesElement : ℕ → List ℕ → ℕ → List Element → ℕ → List ℕ → ℕ → List Element → Type 0
-WritesElement d i end old n rest m new = (b : List ℕ) × (i ≡ b ++ rest)
-    × WritesSpelling b (end - length i) d old n m new
+abbrev pub WritesElement : {N : Type 0} → (Element → N) → ℕ → List ℕ → ℕ → List N → ℕ → List ℕ → ℕ → List N → Type 0
+WritesElement row d i end old n rest m new = (b : List ℕ) × (i ≡ b ++ rest)
+    × WritesSpelling row b (end - length i) d old n m new
 
 -- the same of an element that is no end marker, with indefinite lengths nested below the budget k
-abbrev pub WritesFramed : ℕ → ℕ → List ℕ → ℕ → List Element → ℕ → List ℕ → ℕ → List Element → Type 0
-WritesFramed k d i end old n rest m new = (b : List ℕ) × (i ≡ b ++ rest) × AreElements b k
-    × WritesSpelling b (end - length i) d old n m new
+abbrev pub WritesFramed : {N : Type 0} → (Element → N) → ℕ → ℕ → List ℕ → ℕ → List N → ℕ → List ℕ → ℕ → List N
+    → Type 0
+WritesFramed row k d i end old n rest m new = (b : List ℕ) × (i ≡ b ++ rest) × AreElements b k
+    × WritesSpelling row b (end - length i) d old n m new
 
 -- the same of content octets
-pub record WritesContent (c : Class) (p : Bool) (t d : ℕ) (w : List ℕ) (at : ℕ) (old : List Element) (n m : ℕ)
-    (new : List Element) : Type 0 where
+pub record WritesContent {N : Type 0} (row : Element → N) (c : Class) (p : Bool) (t d : ℕ) (w : List ℕ) (at : ℕ)
+    (old : List N) (n m : ℕ) (new : List N) : Type 0 where
   pub value : Content
   pub forms : Forms
   pub content : HasContent w c p t value forms d
   pub elements : List Element
   pub places : AreInContent c p t w at value elements
   pub count : m ≡ n + content_count value
-  pub written : new ≡ overlay old n elements
+  pub written : new ≡ overlay old n (map row elements)
 
 -- and of items
-pub record WritesItems (d : ℕ) (w : List ℕ) (at : ℕ) (old : List Element) (n m : ℕ) (new : List Element)
-    : Type 0 where
+pub record WritesItems {N : Type 0} (row : Element → N) (d : ℕ) (w : List ℕ) (at : ℕ) (old : List N) (n m : ℕ)
+    (new : List N) : Type 0 where
   pub items : Nodes
   pub forms : Forms
   pub joins : JoinSpellings w items forms d
   pub elements : List Element
   pub places : AreInItems w at items elements
   pub count : m ≡ n + item_count items
-  pub written : new ≡ overlay old n elements
+  pub written : new ≡ overlay old n (map row elements)
 
 abbrev pub is_definite : Length → Bool
 is_definite (Definite n) = true
 is_definite Indefinite = false
 
 -- the element of a header with content octets w of this length, and those inside it, are written
-abbrev pub WritesWhole : Header → Length → ℕ → List ℕ → ℕ → ℕ → List Element → ℕ → ℕ → List Element → Type 0
-WritesWhole h l d w start at old n m new = (mid : List Element)
-    × WritesContent (class_of h) (is_constructed h) (number_of h) d w at old (n + 1) m mid
-    × (new ≡ overlay mid n (element ∷ []))
+abbrev pub WritesWhole : {N : Type 0} → (Element → N) → Header → Length → ℕ → List ℕ → ℕ → ℕ → List N → ℕ → ℕ
+    → List N → Type 0
+WritesWhole {N} row h l d w start at old n m new = (mid : List N)
+    × WritesContent row (class_of h) (is_constructed h) (number_of h) d w at old (n + 1) m mid
+    × (new ≡ overlay mid n (row element ∷ []))
   where
     element : Element
     element = record {

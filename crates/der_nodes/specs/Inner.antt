@@ -1,5 +1,5 @@
 -- What the functions of the readers of DER write and return.
-use Rattle.std.specs.Prelude.{◌≡◌, ℕ, ◌+◌, ◌-◌, ◌<◌, ◌≤◌, Bool, true, false, List, ◌∷◌, ◌++◌, length}
+use Rattle.std.specs.Prelude.{◌≡◌, ℕ, ◌+◌, ◌-◌, ◌<◌, ◌≤◌, Bool, true, false, List, ◌∷◌, ◌++◌, length, map}
 use Rattle.std.specs.Prelude.{Result, MatchResult}
 use Rattle.der_base.specs.declared.header.Class.{Class}
 use Rattle.der_base.specs.declared.header.Class.TheVariants.{Universal}
@@ -46,28 +46,29 @@ abbrev pub ChecksLeaf : Bool → ℕ → List ℕ → Result (Unit {0}) BerError
 ChecksLeaf p t w result =
     MatchResult result (λ _. (x : Content) × IsLeafContent p t w x) (λ e. BerLeafRefuses p t w (refusal e))
 
--- i, which ends at the place end, begins with the spelling of a tree, whose elements are written from the number n on
-pub record WritesDerElement (d : ℕ) (i : List ℕ) (end : ℕ) (old : List Element) (n : ℕ) (rest : List ℕ) (m : ℕ)
-    (new : List Element) : Type 0 where
+-- i, which ends at the place end, begins with the spelling of a tree; the rows of its elements are written from the
+-- number n on
+pub record WritesDerElement {N : Type 0} (row : Element → N) (d : ℕ) (i : List ℕ) (end : ℕ) (old : List N) (n : ℕ)
+    (rest : List ℕ) (m : ℕ) (new : List N) : Type 0 where
   pub object : Node
   pub spelling : List ℕ
   pub octets : i ≡ spelling ++ rest
   pub spells : DerSpells spelling object d
   pub count : m ≡ n + object_count object
-  pub written : new ≡ overlay old n (placed object (end - length i))
+  pub written : new ≡ overlay old n (map row (placed object (end - length i)))
 
 -- the same of a content
-pub record WritesDerContent (c : Class) (p : Bool) (t d : ℕ) (w : List ℕ) (end : ℕ) (old : List Element) (n m : ℕ)
-    (new : List Element) : Type 0 where
+pub record WritesDerContent {N : Type 0} (row : Element → N) (c : Class) (p : Bool) (t d : ℕ) (w : List ℕ) (end : ℕ)
+    (old : List N) (n m : ℕ) (new : List N) : Type 0 where
   pub value : Content
   pub content : IsDerContentOf w c p t value d
   pub count : m ≡ n + content_count value
-  pub written : new ≡ overlay old n (placed_content value (end - length w))
+  pub written : new ≡ overlay old n (map row (placed_content value (end - length w)))
 
 -- and of items
-pub record WritesDerItems (d : ℕ) (w : List ℕ) (end : ℕ) (old : List Element) (n m : ℕ) (new : List Element)
-    : Type 0 where
+pub record WritesDerItems {N : Type 0} (row : Element → N) (d : ℕ) (w : List ℕ) (end : ℕ) (old : List N) (n m : ℕ)
+    (new : List N) : Type 0 where
   pub items : Nodes
   pub joins : DerJoins w items d
   pub count : m ≡ n + item_count items
-  pub written : new ≡ overlay old n (placed_items items (end - length w))
+  pub written : new ≡ overlay old n (map row (placed_items items (end - length w)))

@@ -1,6 +1,6 @@
 -- What the readers of elements return.
 use Rattle.std.specs.Borrow.{Bor}
-use Rattle.std.specs.Prelude.{◌≡◌, ℕ, List, ◌++◌, Result}
+use Rattle.std.specs.Prelude.{◌≡◌, ℕ, List, ◌++◌, map, Result}
 use Rattle.der_base.specs.declared.error.Err.{Err as Refused}
 use Rattle.der_base.specs.declared.error.Error.{Error as BerError}
 use Rattle.der_base.specs.Answer.{MatchAnswer}
@@ -26,8 +26,13 @@ abbrev pub AnswersDerNodes : ℕ → List ℕ → Result (Bor (List ℕ) × ℕ)
 AnswersDerNodes d i result = AnswersExactly result counted_value (λ x. BeginsWithDerObjects d i (counted_value x))
     (BeginsWithDerObjects d i) (DerShowsFault d i) (DerIsCut d i) ⊥ ⊥
 
--- The first n elements of the buffer, as far as there is room, are those of that tree in preorder, each with its places
--- in i. The others stay as they were.
+-- The first n slots of the buffer, as far as there is room, keep the elements of that tree in preorder, each with its
+-- places in i. The others stay as they were.
+abbrev pub KeepsDerNodes : {N : Type 0} → (Element → N) → ℕ → List ℕ → List ℕ → ℕ → List N → List N → Type 0
+KeepsDerNodes slot d i rest n old new = (o : Node) × BeginsWithDer d i o rest × (n ≡ object_count o)
+    × (new ≡ overlay old 0 (map slot (placed o 0)))
+
+-- the same of a buffer of elements
 abbrev pub ListsDerNodes : ℕ → List ℕ → List ℕ → ℕ → List Element → List Element → Type 0
 ListsDerNodes d i rest n old new = (o : Node) × BeginsWithDer d i o rest × (n ≡ object_count o)
     × (new ≡ overlay old 0 (placed o 0))
@@ -39,6 +44,10 @@ BeginsWithBerObjects d i v = (o : Node) × BeginsWithBer d i o v.0 × (v.1 ≡ o
 abbrev pub AnswersBerNodes : ℕ → List ℕ → Result (Bor (List ℕ) × ℕ) (Refused BerError) → Type 0
 AnswersBerNodes d i result = AnswersExactly result counted_value (λ x. BeginsWithBerObjects d i (counted_value x))
     (BeginsWithBerObjects d i) (ShowsFault d i) (BerIsCut d i) ⊥ ⊥
+
+abbrev pub KeepsBerNodes : {N : Type 0} → (Element → N) → ℕ → List ℕ → List ℕ → ℕ → List N → List N → Type 0
+KeepsBerNodes slot d i rest n old new = (o : Node) × (b : List ℕ) × (i ≡ b ++ rest) × BerSpells b o d framing_budget
+    × (n ≡ object_count o) × (es : List Element) × AreElementsOf b 0 o es × (new ≡ overlay old 0 (map slot es))
 
 abbrev pub ListsBerNodes : ℕ → List ℕ → List ℕ → ℕ → List Element → List Element → Type 0
 ListsBerNodes d i rest n old new = (o : Node) × (b : List ℕ) × (i ≡ b ++ rest) × BerSpells b o d framing_budget

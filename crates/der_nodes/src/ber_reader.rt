@@ -16,7 +16,7 @@ ghost use Rattle.der_nodes.specs.BerInner.{WritesElement, WritesContent, WritesI
 ghost use Rattle.der_nodes.specs.BerInner.{FramingRefusesAt, InsideContentRefusesAt, IsLeafOrKept, WritesFramed};
 ghost use Rattle.der_nodes.specs.FaultPlaces.{ShowsFaultAt, ContentRefusesAt, ItemsRefuseAt, InsideRefusesAt};
 
-use crate::element::{Element, put};
+use crate::element::{Element, Slot, put};
 use crate::framing::{begins_with_end_marker, frame_content, frame_to_end_marker};
 use crate::leaf::check_ber_leaf;
 use crate::short::{is_list_octet, is_plain_leaf, read_short, universal_element};
@@ -40,11 +40,11 @@ type Values = Result<usize, Refused>;
 /// after them. The place of an error is that of the innermost element that shows it.
 #[cycle(ber_reader)]
 #[inline(always)]
-pub(crate) fn read_element<'a>(
+pub(crate) fn read_element<'a, N: Slot>(
     i: &'a [u8],
     end: usize,
     max_depth: usize,
-    nodes: &mut [Element],
+    nodes: &mut [N],
     count: usize,
     headers: &mut usize,
     place: &mut usize,
@@ -52,7 +52,7 @@ pub(crate) fn read_element<'a>(
     requires room { count + length i.now ≤ end }
     requires fits { headers.old + length i.now < 2 ^ 64 - 1 }
     ensures found { let n = end - length i.now in MatchAnswer result
-        (λ x. WritesElement max_depth i.now end nodes.old count x.0.now x.1 nodes.new)
+        (λ x. WritesElement N.slot max_depth i.now end nodes.old count x.0.now x.1 nodes.new)
         (λ e. ShowsFaultAt max_depth i.now n e place.new)
         (λ m. BerIsCut max_depth i.now m × (place.new ≡ n))
         ⊥ }
@@ -104,12 +104,12 @@ pub(crate) fn read_element<'a>(
 /// A primitive element of a header of two octets and of a content that is quick to check, where depth
 /// and budget are left. It is written to the buffer. Returns what follows it.
 #[inline(always)]
-fn read_plain<'a>(
+fn read_plain<'a, N: Slot>(
     i: &'a [u8],
     end: usize,
     budget: usize,
     max_depth: usize,
-    nodes: &mut [Element],
+    nodes: &mut [N],
     count: usize,
 ) -> Option<&'a [u8]>
     requires bounded { budget ≤ framing_budget }
@@ -117,7 +117,7 @@ fn read_plain<'a>(
     ensures found { MatchOption result
         (nodes.new ≡ nodes.old)
         (λ x. (2 ≤ budget)
-        × WritesFramed (budget - 1) max_depth i.now end nodes.old count x.now (count + 1) nodes.new) }
+        × WritesFramed N.slot (budget - 1) max_depth i.now end nodes.old count x.now (count + 1) nodes.new) }
     ensures shorter { IfSome result (λ x. length x.now + 2 ≤ length i.now) }
 {
     let short = read_short(i)?;
@@ -136,11 +136,11 @@ fn read_plain<'a>(
 /// Any element at a depth of at least 1.
 #[cycle(ber_reader)]
 #[inline(never)]
-fn read_any<'a>(
+fn read_any<'a, N: Slot>(
     i: &'a [u8],
     end: usize,
     max_depth: usize,
-    nodes: &mut [Element],
+    nodes: &mut [N],
     count: usize,
     headers: &mut usize,
     place: &mut usize,
@@ -149,7 +149,7 @@ fn read_any<'a>(
     requires room { count + length i.now ≤ end }
     requires fits { headers.old + length i.now < 2 ^ 64 - 1 }
     ensures found { let n = end - length i.now in MatchAnswer result
-        (λ x. WritesElement max_depth i.now end nodes.old count x.0.now x.1 nodes.new)
+        (λ x. WritesElement N.slot max_depth i.now end nodes.old count x.0.now x.1 nodes.new)
         (λ e. ShowsFaultAt max_depth i.now n e place.new)
         (λ m. BerIsCut max_depth i.now m × (place.new ≡ n))
         ⊥ }
@@ -199,12 +199,12 @@ fn read_any<'a>(
 /// is that of the element.
 #[cycle(ber_reader)]
 #[inline(never)]
-fn read_outermost<'a>(
+fn read_outermost<'a, N: Slot>(
     header: &Header<'_>,
     behind: &'a [u8],
     end: usize,
     max_depth: usize,
-    nodes: &mut [Element],
+    nodes: &mut [N],
     count: usize,
     headers: &mut usize,
     place: &mut usize,
@@ -216,7 +216,7 @@ fn read_outermost<'a>(
     requires fits { headers.old + length behind.now < 2 ^ 64 - 1 }
     ensures found { let a = end - length behind.now in let h = header.now in MatchAnswer result
         (λ x. (w : List ℕ) × BeginsWithContent behind.now Length.Indefinite framing_budget w x.0.now
-        × WritesWhole h Length.Indefinite max_depth w place.old a nodes.old count x.1 nodes.new)
+        × WritesWhole N.slot h Length.Indefinite max_depth w place.old a nodes.old count x.1 nodes.new)
         (λ e. InsideRefusesAt behind.now a framing_budget e place.new
         ⊎ ((w rest : List ℕ) × BeginsWithContent behind.now Length.Indefinite framing_budget w rest
         × ContentRefusesAt (class_of h) (is_constructed h) (number_of h) w max_depth place.old a e place.new))
@@ -254,13 +254,13 @@ fn read_outermost<'a>(
 
 /// One element of indefinite length, after its header. The place is that of the element.
 #[cycle(ber_reader)]
-fn read_open<'a>(
+fn read_open<'a, N: Slot>(
     header: &Header<'_>,
     behind: &'a [u8],
     end: usize,
     budget: usize,
     max_depth: usize,
-    nodes: &mut [Element],
+    nodes: &mut [N],
     count: usize,
     headers: &mut usize,
     place: &mut usize,
@@ -274,7 +274,7 @@ fn read_open<'a>(
     requires fits { headers.old + length behind.now < 2 ^ 64 - 1 }
     ensures found { let a = end - length behind.now in let h = header.now in MatchAnswer result
         (λ x. (w : List ℕ) × BeginsWithContent behind.now Length.Indefinite budget w x.0.now × MatchValues x.1
-        (λ m. WritesWhole h Length.Indefinite max_depth w place.old a nodes.old count m nodes.new)
+        (λ m. WritesWhole N.slot h Length.Indefinite max_depth w place.old a nodes.old count m nodes.new)
         (λ e q. ContentRefusesAt (class_of h) (is_constructed h) (number_of h) w max_depth place.old a e q))
         (λ e. InsideRefusesAt behind.now a budget e place.new)
         (ContentLacks behind.now Length.Indefinite budget)
@@ -321,13 +321,13 @@ fn read_open<'a>(
 /// element.
 #[cycle(ber_reader)]
 #[inline(always)]
-fn read_open_content<'a>(
+fn read_open_content<'a, N: Slot>(
     header: &Header<'_>,
     behind: &'a [u8],
     end: usize,
     budget: usize,
     max_depth: usize,
-    nodes: &mut [Element],
+    nodes: &mut [N],
     count: usize,
     headers: &mut usize,
     place: &mut usize,
@@ -340,7 +340,8 @@ fn read_open_content<'a>(
     requires fits { headers.old + length behind.now < 2 ^ 64 - 1 }
     ensures found { let a = end - length behind.now in let h = header.now in MatchAnswer result
         (λ x. (w : List ℕ) × BeginsWithContent behind.now Length.Indefinite budget w x.0.now × MatchValues x.1
-        (λ m. WritesContent (class_of h) (is_constructed h) (number_of h) max_depth w a nodes.old count m nodes.new)
+        (λ m. WritesContent N.slot (class_of h) (is_constructed h) (number_of h) max_depth w a nodes.old count m
+        nodes.new)
         (λ e q. ContentRefusesAt (class_of h) (is_constructed h) (number_of h) w max_depth place.old a e q))
         (λ e. InsideRefusesAt behind.now a budget e place.new)
         (ContentLacks behind.now Length.Indefinite budget)
@@ -406,12 +407,12 @@ fn check_framed(header: &Header<'_>, content: &[u8], next: usize, place: usize) 
 /// values. After the first error of a value the other elements are only framed.
 #[cycle(ber_reader)]
 #[inline(never)]
-fn read_to_end_marker<'a>(
+fn read_to_end_marker<'a, N: Slot>(
     i: &'a [u8],
     end: usize,
     budget: usize,
     max_depth: usize,
-    nodes: &mut [Element],
+    nodes: &mut [N],
     count: usize,
     headers: &mut usize,
     place: &mut usize,
@@ -422,7 +423,7 @@ fn read_to_end_marker<'a>(
     requires fits { headers.old + length i.now < 2 ^ 64 - 1 }
     ensures found { let a = end - length i.now in MatchAnswer result
         (λ x. (w : List ℕ) × BeginsWithContent i.now Length.Indefinite budget w x.0.now × MatchValues x.1
-        (λ m. WritesItems max_depth w a nodes.old count m nodes.new)
+        (λ m. WritesItems N.slot max_depth w a nodes.old count m nodes.new)
         (λ e q. ItemsRefuseAt w max_depth a e q))
         (λ e. InsideRefusesAt i.now a budget e place.new)
         (ContentLacks i.now Length.Indefinite budget)
@@ -479,13 +480,13 @@ fn read_to_end_marker<'a>(
 /// One element inside an indefinite length, after its header. The place is that of the element.
 #[cycle(ber_reader)]
 #[inline(always)]
-fn read_inside<'a>(
+fn read_inside<'a, N: Slot>(
     header: &Header<'_>,
     behind: &'a [u8],
     end: usize,
     budget: usize,
     max_depth: usize,
-    nodes: &mut [Element],
+    nodes: &mut [N],
     count: usize,
     headers: &mut usize,
     place: &mut usize,
@@ -497,7 +498,7 @@ fn read_inside<'a>(
     requires fits { headers.old + length behind.now < 2 ^ 64 - 1 }
     ensures found { let a = end - length behind.now in let h = header.now in let l = length_of h in MatchAnswer result
         (λ x. (w : List ℕ) × BeginsWithContent behind.now l budget w x.0.now × MatchValues x.1
-        (λ m. (1 ≤ max_depth) × WritesWhole h l max_depth w place.old a nodes.old count m nodes.new)
+        (λ m. (1 ≤ max_depth) × WritesWhole N.slot h l max_depth w place.old a nodes.old count m nodes.new)
         (λ e q. InsideContentRefusesAt (class_of h) (is_constructed h) (number_of h) w max_depth place.old a e q))
         (λ e. FramingRefusesAt behind.now l a budget e place.new)
         (ContentLacks behind.now l budget)
@@ -543,12 +544,12 @@ fn read_inside<'a>(
 /// place is that of the element.
 #[cycle(ber_reader)]
 #[inline(always)]
-fn read_value(
+fn read_value<N: Slot>(
     header: &Header<'_>,
     content: &[u8],
     end: usize,
     max_depth: usize,
-    nodes: &mut [Element],
+    nodes: &mut [N],
     count: usize,
     headers: &mut usize,
     place: &mut usize,
@@ -557,8 +558,8 @@ fn read_value(
     requires room { count + length content.now + 2 ≤ end }
     requires fits { headers.old + length content.now < 2 ^ 64 - 1 }
     ensures found { let a = end - length content.now in let h = header.now in MatchValues result
-        (λ m. WritesWhole h (Length.Definite (length content.now)) max_depth content.now place.old a nodes.old count m
-        nodes.new)
+        (λ m. WritesWhole N.slot h (Length.Definite (length content.now)) max_depth content.now place.old a nodes.old
+        count m nodes.new)
         (λ e q. ContentRefusesAt (class_of h) (is_constructed h) (number_of h) content.now max_depth place.old a e q) }
     ensures within { IfOk result (λ m. (count < m) × (m ≤ end)) }
     ensures counted { IfOk result (λ m. headers.old + m ≤ headers.new + count + 1) }
@@ -600,12 +601,12 @@ fn read_value(
 /// The content octets of a definite length, which end at a place of the input.
 #[cycle(ber_reader)]
 #[inline(always)]
-fn read_content(
+fn read_content<N: Slot>(
     header: &Header<'_>,
     octets: &[u8],
     end: usize,
     max_depth: usize,
-    nodes: &mut [Element],
+    nodes: &mut [N],
     count: usize,
     headers: &mut usize,
     place: &mut usize,
@@ -614,8 +615,8 @@ fn read_content(
     requires room { count + length octets.now ≤ end }
     requires fits { headers.old + length octets.now < 2 ^ 64 - 1 }
     ensures found { let a = end - length octets.now in let h = header.now in MatchAnswer result
-        (λ m. WritesContent (class_of h) (is_constructed h) (number_of h) max_depth octets.now a nodes.old count m
-        nodes.new)
+        (λ m. WritesContent N.slot (class_of h) (is_constructed h) (number_of h) max_depth octets.now a nodes.old count
+        m nodes.new)
         (λ e. ContentRefusesAt (class_of h) (is_constructed h) (number_of h) octets.now max_depth place.old a e
         place.new)
         (λ _. ⊥)
@@ -646,11 +647,11 @@ fn read_content(
 
 /// The elements that content octets join.
 #[cycle(ber_reader)]
-fn read_items(
+fn read_items<N: Slot>(
     content: &[u8],
     end: usize,
     max_depth: usize,
-    nodes: &mut [Element],
+    nodes: &mut [N],
     count: usize,
     headers: &mut usize,
     place: &mut usize,
@@ -658,7 +659,7 @@ fn read_items(
     requires room { count + length content.now ≤ end }
     requires fits { headers.old + length content.now < 2 ^ 64 - 1 }
     ensures found { let a = end - length content.now in MatchAnswer result
-        (λ m. WritesItems max_depth content.now a nodes.old count m nodes.new)
+        (λ m. WritesItems N.slot max_depth content.now a nodes.old count m nodes.new)
         (λ e. ItemsRefuseAt content.now max_depth a e place.new)
         (λ _. ⊥)
         ⊥ }

@@ -8,7 +8,7 @@ ghost use Rattle.der_base.specs.Stable.{DerIsCut};
 ghost use Rattle.der_nodes.specs.FaultPlaces.{DerShowsFaultAt, DerContentRefusesAt, DerItemsRefuseAt};
 ghost use Rattle.der_nodes.specs.Inner.{WritesDerElement, WritesDerContent, WritesDerItems};
 
-use crate::element::{Element, put};
+use crate::element::{Element, Slot, put};
 use crate::leaf::check_der_leaf;
 use crate::short::{is_list_octet, is_plain_leaf, read_short, universal_element};
 use der_base::MAX_OBJECT_SIZE;
@@ -20,17 +20,17 @@ use der_base::header::{Header, Tag, der_read_element_header};
 /// number behind them. The place is that of the element that was begun last.
 #[cycle(der_reader)]
 #[inline(always)]
-pub(crate) fn read_element<'a>(
+pub(crate) fn read_element<'a, N: Slot>(
     i: &'a [u8],
     end: usize,
     max_depth: usize,
-    nodes: &mut [Element],
+    nodes: &mut [N],
     count: usize,
     place: &mut usize,
 ) -> IResult<&'a [u8], usize, BerError>
     requires { count + length i.now ≤ end }
     ensures found { let n = end - length i.now in MatchAnswer result
-        (λ x. WritesDerElement max_depth i.now end nodes.old count x.0.now x.1 nodes.new)
+        (λ x. WritesDerElement N.slot max_depth i.now end nodes.old count x.0.now x.1 nodes.new)
         (λ e. DerShowsFaultAt max_depth i.now n e place.new)
         (λ m. DerIsCut max_depth i.now m × (place.new ≡ n))
         ⊥ }
@@ -76,18 +76,18 @@ pub(crate) fn read_element<'a>(
 /// Any element at a depth of at least 1.
 #[cycle(der_reader)]
 #[inline(never)]
-fn read_any<'a>(
+fn read_any<'a, N: Slot>(
     i: &'a [u8],
     end: usize,
     max_depth: usize,
-    nodes: &mut [Element],
+    nodes: &mut [N],
     count: usize,
     place: &mut usize,
 ) -> IResult<&'a [u8], usize, BerError>
     requires deep { 1 ≤ max_depth }
     requires room { count + length i.now ≤ end }
     ensures found { let n = end - length i.now in MatchAnswer result
-        (λ x. WritesDerElement max_depth i.now end nodes.old count x.0.now x.1 nodes.new)
+        (λ x. WritesDerElement N.slot max_depth i.now end nodes.old count x.0.now x.1 nodes.new)
         (λ e. DerShowsFaultAt max_depth i.now n e place.new)
         (λ m. DerIsCut max_depth i.now m × (place.new ≡ n))
         ⊥ }
@@ -136,20 +136,20 @@ fn lacking(header: &Header<'_>, size: usize, rest: &[u8]) -> usize
 /// The content octets of an element, which end at a place of the input.
 #[cycle(der_reader)]
 #[inline(always)]
-fn read_content(
+fn read_content<N: Slot>(
     header: &Header<'_>,
     octets: &[u8],
     end: usize,
     max_depth: usize,
-    nodes: &mut [Element],
+    nodes: &mut [N],
     count: usize,
     place: &mut usize,
 ) -> Result<usize, Err<BerError>>
     requires deep { 1 ≤ max_depth }
     requires room { count + length octets.now ≤ end }
     ensures found { let h = header.now in MatchAnswer result
-        (λ m. WritesDerContent (class_of h) (is_constructed h) (number_of h) max_depth octets.now end nodes.old count m
-        nodes.new)
+        (λ m. WritesDerContent N.slot (class_of h) (is_constructed h) (number_of h) max_depth octets.now end nodes.old
+        count m nodes.new)
         (λ e. DerContentRefusesAt (class_of h) (is_constructed h) (number_of h) octets.now max_depth place.old
         (end - length octets.now) e place.new)
         (λ _. ⊥)
@@ -177,17 +177,17 @@ fn read_content(
 
 /// The elements that content octets join.
 #[cycle(der_reader)]
-fn read_items(
+fn read_items<N: Slot>(
     content: &[u8],
     end: usize,
     max_depth: usize,
-    nodes: &mut [Element],
+    nodes: &mut [N],
     count: usize,
     place: &mut usize,
 ) -> Result<usize, Err<BerError>>
     requires { count + length content.now ≤ end }
     ensures found { MatchAnswer result
-        (λ m. WritesDerItems max_depth content.now end nodes.old count m nodes.new)
+        (λ m. WritesDerItems N.slot max_depth content.now end nodes.old count m nodes.new)
         (λ e. DerItemsRefuseAt content.now max_depth (end - length content.now) e place.new)
         (λ _. ⊥)
         ⊥ }

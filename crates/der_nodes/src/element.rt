@@ -24,12 +24,34 @@ pub struct Element {
     pub inside: usize,
 }
 
+/// What the readers write an element to: an `Element`, or a struct of your own that keeps one in another form.
+pub trait Slot: Copy {
+    ghost use Rattle.std.specs.Prelude.{◌≡◌};
+    ghost use Rattle.der_nodes.specs.declared.element.Element.{Element};
+
+    /// The slot that keeps an element.
+    ghost slot: { Element → Self };
+
+    /// Makes the slot that keeps an element.
+    fn keep(element: Element) -> Self
+        ensures { result ≡ slot element };
+}
+
+impl Slot for Element {
+    ghost slot = { λ e. e };
+
+    #[inline(always)]
+    fn keep(element: Element) -> Element {
+        element
+    }
+}
+
 /// Writes an element to the buffer, if there is room.
 #[inline(always)]
-pub(crate) fn put(nodes: &mut [Element], at: usize, element: Element)
-    ensures { nodes.new ≡ overlay nodes.old at (element ∷ []) }
+pub(crate) fn put<N: Slot>(nodes: &mut [N], at: usize, element: Element)
+    ensures { nodes.new ≡ overlay nodes.old at (N.slot element ∷ []) }
 {
     if at < nodes.len() {
-        nodes[at] = element;
+        nodes[at] = N::keep(element);
     }
 }

@@ -13,8 +13,8 @@ mod short;
 #[cfg(test)]
 mod tests;
 
-pub use element::Element;
+pub use element::{Element, Slot};
 pub use parser::{
-    check_ber, check_der, parse_ber_nodes, parse_ber_nodes_counted, parse_ber_nodes_placed,
-    parse_der_nodes, parse_der_nodes_placed,
+    check_ber, check_der, parse_ber_nodes, parse_ber_nodes_counted, parse_ber_nodes_into,
+    parse_ber_nodes_placed, parse_der_nodes, parse_der_nodes_into, parse_der_nodes_placed,
 };

@@ -1,10 +1,10 @@
 //! The public calls.
 ghost use Rattle.std.specs.Prelude.{◌≡◌, ◌+◌, ◌*◌, ◌<◌, ◌≤◌, IfOk, length};
 ghost use Rattle.der_nodes.specs.FaultPlaces.{IsBerPlace, IsDerPlace};
-ghost use Rattle.der_nodes.specs.NodesReading.{AnswersBerNodes, AnswersDerNodes, ListsBerNodes, ListsDerNodes};
-ghost use Rattle.der_nodes.specs.NodesReading.{IsStableBerNodes, IsStableDerNodes};
+ghost use Rattle.der_nodes.specs.NodesReading.{AnswersBerNodes, AnswersDerNodes, KeepsBerNodes, KeepsDerNodes};
+ghost use Rattle.der_nodes.specs.NodesReading.{IsStableBerNodes, IsStableDerNodes, ListsBerNodes, ListsDerNodes};
 
-use crate::element::Element;
+use crate::element::{Element, Slot};
 use crate::{ber_reader, der_reader};
 use der_base::error::{BerError, IResult};
 
@@ -59,6 +59,22 @@ pub fn parse_der_nodes_placed<'a>(
     ensures placed { IsDerPlace max_depth i.now result place.new }
     ensures shorter { IfOk result (λ x. length x.0.now < length i.now) }
 {
+    parse_der_nodes_into(i, max_depth, nodes, place)
+}
+
+/// Reads as `parse_der_nodes_placed`, into slots of a type of your own.
+pub fn parse_der_nodes_into<'a, N: Slot>(
+    i: &'a [u8],
+    max_depth: usize,
+    nodes: &mut [N],
+    place: &mut usize,
+) -> IResult<&'a [u8], usize, BerError>
+    ensures exactly { AnswersDerNodes max_depth i.now result }
+    ensures stable { IsStableDerNodes max_depth i.now result }
+    ensures nodes { IfOk result (λ x. KeepsDerNodes N.slot max_depth i.now x.0.now x.1 nodes.old nodes.new) }
+    ensures placed { IsDerPlace max_depth i.now result place.new }
+    ensures shorter { IfOk result (λ x. length x.0.now < length i.now) }
+{
     der_reader::read_element(i, i.len(), max_depth, nodes, 0, place)
 }
 
@@ -106,6 +122,22 @@ pub fn parse_ber_nodes_placed<'a>(
     parse_ber_nodes_counted(i, max_depth, nodes, place, &mut 0)
 }
 
+/// Reads as `parse_ber_nodes_placed`, into slots of a type of your own.
+pub fn parse_ber_nodes_into<'a, N: Slot>(
+    i: &'a [u8],
+    max_depth: usize,
+    nodes: &mut [N],
+    place: &mut usize,
+) -> IResult<&'a [u8], usize, BerError>
+    ensures exactly { AnswersBerNodes max_depth i.now result }
+    ensures stable { IsStableBerNodes max_depth i.now result }
+    ensures nodes { IfOk result (λ x. KeepsBerNodes N.slot max_depth i.now x.0.now x.1 nodes.old nodes.new) }
+    ensures placed { IsBerPlace max_depth i.now result place.new }
+    ensures shorter { IfOk result (λ x. length x.0.now < length i.now) }
+{
+    read_ber(i, max_depth, nodes, place, &mut 0)
+}
+
 /// Reads as `parse_ber_nodes_placed`, and counts the headers that it reads, end markers too. Where it
 /// returns an object, there is one for each element at least, and one for each two octets that were
 /// read at most, however lengths are nested; else one for each octet at most, and one more.
@@ -119,6 +151,26 @@ pub fn parse_ber_nodes_counted<'a>(
     ensures exactly { AnswersBerNodes max_depth i.now result }
     ensures stable { IsStableBerNodes max_depth i.now result }
     ensures nodes { IfOk result (λ x. ListsBerNodes max_depth i.now x.0.now x.1 nodes.old nodes.new) }
+    ensures placed { IsBerPlace max_depth i.now result place.new }
+    ensures shorter { IfOk result (λ x. length x.0.now < length i.now) }
+    ensures counted { IfOk result (λ x. x.1 ≤ headers.new) }
+    ensures bounded { headers.new ≤ length i.now + 1 }
+    ensures bounded_ok { IfOk result (λ x. 2 * headers.new + length x.0.now ≤ length i.now) }
+{
+    read_ber(i, max_depth, nodes, place, headers)
+}
+
+/// Reads one object in BER into slots, and counts the headers.
+fn read_ber<'a, N: Slot>(
+    i: &'a [u8],
+    max_depth: usize,
+    nodes: &mut [N],
+    place: &mut usize,
+    headers: &mut usize,
+) -> IResult<&'a [u8], usize, BerError>
+    ensures exactly { AnswersBerNodes max_depth i.now result }
+    ensures stable { IsStableBerNodes max_depth i.now result }
+    ensures nodes { IfOk result (λ x. KeepsBerNodes N.slot max_depth i.now x.0.now x.1 nodes.old nodes.new) }
     ensures placed { IsBerPlace max_depth i.now result place.new }
     ensures shorter { IfOk result (λ x. length x.0.now < length i.now) }
     ensures counted { IfOk result (λ x. x.1 ≤ headers.new) }

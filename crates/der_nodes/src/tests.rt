@@ -1,8 +1,8 @@
 //! The readers on rows, and beside the readers of objects.
-use crate::element::Element;
+use crate::element::{Element, Slot};
 use crate::parser::{
-    check_ber, check_der, parse_ber_nodes, parse_ber_nodes_counted, parse_ber_nodes_placed,
-    parse_der_nodes, parse_der_nodes_placed,
+    check_ber, check_der, parse_ber_nodes, parse_ber_nodes_counted, parse_ber_nodes_into,
+    parse_ber_nodes_placed, parse_der_nodes, parse_der_nodes_into, parse_der_nodes_placed,
 };
 use der_base::error::{BerError, DerConstraint, Err, Needed};
 use der_base::header::Class;
@@ -134,5 +134,53 @@ fn each_header_is_read_once(rt: HostRuntime) -> io::Result<()> {
     let read = parse_ber_nodes_counted(&input, 50, &mut [], &mut place, &mut headers);
     assert!(rt; read == Ok((b"".as_slice(), 4)));
     assert!(rt; headers == 6);
+    Ok(())
+}
+
+/// A slot that keeps where an element is.
+#[derive(Clone, Copy, PartialEq)]
+struct Extent {
+    header: usize,
+    end: usize,
+}
+
+impl Slot for Extent {
+    ghost slot = { λ e. record { header = e.header; end = e.end } };
+
+    fn keep(element: Element) -> Extent {
+        Extent {
+            header: element.header,
+            end: element.end,
+        }
+    }
+}
+
+fn span(header: usize, end: usize) -> Extent {
+    Extent { header, end }
+}
+
+/// The input of `der_lists_in_preorder`, with room for three of its elements.
+#[test]
+fn der_writes_to_slots(rt: HostRuntime) -> io::Result<()> {
+    let mut extents = [span(9, 9); 3];
+    let mut place = 7;
+    let input = [0x30, 8, 0x02, 1, 5, 0x31, 3, 0x81, 1, 9, 7];
+    let read = parse_der_nodes_into(&input, 50, &mut extents, &mut place);
+    assert!(rt; matches!(read, Ok((&[7], 4))));
+    assert!(rt; extents == [span(0, 10), span(2, 5), span(5, 10)]);
+    Ok(())
+}
+
+/// The input of `ber_lists_in_preorder`, with room for one element more.
+#[test]
+fn ber_writes_to_slots(rt: HostRuntime) -> io::Result<()> {
+    let mut extents = [span(9, 9); 4];
+    let mut place = 7;
+    let input = [
+        0x30, 0x80, 0x16, 0x81, 0x05, 0x53, 0x6d, 0x69, 0x74, 0x68, 0x01, 0x01, 0xff, 0, 0, 7,
+    ];
+    let read = parse_ber_nodes_into(&input, 50, &mut extents, &mut place);
+    assert!(rt; matches!(read, Ok((&[7], 3))));
+    assert!(rt; extents == [span(0, 13), span(2, 10), span(10, 13), span(9, 9)]);
     Ok(())
 }

@@ -37,7 +37,7 @@ use Rattle.der_nodes.proofs.ber_reader.+ber_reader.Goals as goal
 -- a short element
 
 pub read_element-returns-in_err-next-clause-found : goal.read_element-returns-in_err-next-clause-found
-read_element-returns-in_err-next-clause-found t c =
+read_element-returns-in_err-next-clause-found g t c =
     let short = c.in-Some.short in
     let is : IsListOctet short.first = search rules in
     let p = err_from_is_err_and c.from_residual.result c.from_residual.ensures.1 in
@@ -46,14 +46,14 @@ read_element-returns-in_err-next-clause-found t c =
     (λ m q. absurd q) (λ m. m))
 
 pub read_element-returns-then-is_list_octet-clause-found : goal.read_element-returns-then-is_list_octet-clause-found
-read_element-returns-then-is_list_octet-clause-found t c =
+read_element-returns-then-is_list_octet-clause-found g t c =
     let short = c.in-Some.short in
     let is : IsListOctet short.first = search rules in
     ber_list_written c.args.max_depth c.args.i.now short.content.now short.rest.now short.first c.args.end c.args.count c.in_ok-next.next c.args.nodes.now c.read_items.new.nodes c.put.new.nodes
     (omega arith) c.requires.room c.in-Some.ensures is c.in_ok-next.ensures.found (rw (← c.universal_element.ensures) c.put.ensures)
 
 pub read_element-returns-then-is_plain_leaf-clause-found : goal.read_element-returns-then-is_plain_leaf-clause-found
-read_element-returns-then-is_plain_leaf-clause-found t c =
+read_element-returns-then-is_plain_leaf-clause-found g t c =
     let short = c.in-Some.short in
     let is : IsTrue c.is_plain_leaf.result = search rules in
     framed_element framing_budget c.args.max_depth c.args.i.now c.args.end c.args.nodes.now c.args.count short.rest.now (c.args.count + 1) c.put-then-is_plain_leaf.new.nodes
@@ -63,7 +63,7 @@ read_element-returns-then-is_plain_leaf-clause-found t c =
 -- an element
 
 pub read_any-returns-in_err-behind-clause-found : goal.read_any-returns-in_err-behind-clause-found
-read_any-returns-in_err-behind-clause-found t c =
+read_any-returns-in_err-behind-clause-found g t c =
     let i = c.args.i.now in
     let d = c.args.max_depth in
     let deep : 1 ≤ d = omega arith in
@@ -73,7 +73,7 @@ read_any-returns-in_err-behind-clause-found t c =
     (λ n h. (any_cut d i n deep (any_lacks_header i n h), refl)) (λ m. absurd m))
 
 pub read_any-returns-in_err-rest-in-Definite-clause-found : goal.read_any-returns-in_err-rest-in-Definite-clause-found
-read_any-returns-in_err-rest-in-Definite-clause-found t c =
+read_any-returns-in_err-rest-in-Definite-clause-found g t c =
     let i = c.args.i.now in
     let d = c.args.max_depth in
     let behind = c.in_ok-behind.behind.now in
@@ -93,7 +93,7 @@ read_any-returns-in_err-rest-in-Definite-clause-found t c =
     (λ m. absurd m))
 
 pub read_any-returns-in_err-next-in-Definite-clause-found : goal.read_any-returns-in_err-next-in-Definite-clause-found
-read_any-returns-in_err-next-in-Definite-clause-found t c =
+read_any-returns-in_err-next-in-Definite-clause-found g t c =
     let i = c.args.i.now in
     let d = c.args.max_depth in
     let end = c.args.end in
@@ -119,15 +119,15 @@ read_any-returns-in_err-next-in-Definite-clause-found t c =
     (λ m r. absurd r) (λ m. m))
 
 pub read_any-read_outermost-requires : goal.read_any-read_outermost-requires
-read_any-read_outermost-requires t c =
+read_any-read_outermost-requires g t c =
     let h = c.in_ok-behind.header in
     let q = c.in_ok-behind.ensures.found in
     let l : length_of h ≡ Indefinite = sym c.length.ensures ∙ c.in-Indefinite.is in
     let two = header_takes_two _ _ _ _ _ _ q.begins in
-    (omega arith, (l, (open_constructed _ _ _ _ _ _ l q.begins, (omega arith, omega (arith, c.requires.room, two)))))
+    λ lifetimes lives. (omega arith, (lives, (l, (open_constructed _ _ _ _ _ _ l q.begins, (omega arith, omega (arith, c.requires.room, two))))))
 
 pub read_any-returns-in_ok-next-in-Definite-clause-found : goal.read_any-returns-in_ok-next-in-Definite-clause-found
-read_any-returns-in_ok-next-in-Definite-clause-found t c =
+read_any-returns-in_ok-next-in-Definite-clause-found g t c =
     let i = c.args.i.now in
     let d = c.args.max_depth in
     let end = c.args.end in
@@ -148,7 +148,7 @@ read_any-returns-in_ok-next-in-Definite-clause-found t c =
     let whole = ap length c.in_ok-rest-in-Definite.ensures.1 in
     let at : end - length rest - length w ≡ end - length behind = omega (arith, c.requires.room, two, whole, length-append w rest) in
     let ends : end - length rest ≡ (end - length behind) + length w = omega (arith, c.requires.room, two, whole, length-append w rest) in
-    let content = subst (λ z. WritesContent (class_of h) (is_constructed h) (number_of h) d w z c.args.nodes.now (n + 1) m c.read_content.new.nodes) at
+    let content = subst (λ z. WritesContent g.N.Slot.slot (class_of h) (is_constructed h) (number_of h) d w z c.args.nodes.now (n + 1) m c.read_content.new.nodes) at
     c.in_ok-next-in-Definite.ensures.found in (
       e.0,
       e.2,
@@ -167,14 +167,14 @@ read_any-returns-in_ok-next-in-Definite-clause-found t c =
     )
 
 pub read_any-returns-in_ok-next-in-Definite-clause-bounded_ok : goal.read_any-returns-in_ok-next-in-Definite-clause-bounded_ok
-read_any-returns-in_ok-next-in-Definite-clause-bounded_ok t c =
+read_any-returns-in_ok-next-in-Definite-clause-bounded_ok g t c =
     let w = c.in_ok-rest-in-Definite.content.now in
     let rest = c.in_ok-rest-in-Definite.rest.now in
     let two = header_takes_two _ _ _ _ _ _ c.in_ok-behind.ensures.found.begins in
     omega (arith, two, ap length c.in_ok-rest-in-Definite.ensures.1, length-append w rest, c.in_ok-next-in-Definite.ensures.bounded_ok)
 
 pub read_any-returns-in-Indefinite-clause-found : goal.read_any-returns-in-Indefinite-clause-found
-read_any-returns-in-Indefinite-clause-found t c =
+read_any-returns-in-Indefinite-clause-found g t c =
     let i = c.args.i.now in
     let d = c.args.max_depth in
     let end = c.args.end in
@@ -203,7 +203,7 @@ read_any-returns-in-Indefinite-clause-found t c =
     (λ m. m)
 
 pub read_any-returns-in-Indefinite-clause-bounded_ok : goal.read_any-returns-in-Indefinite-clause-bounded_ok
-read_any-returns-in-Indefinite-clause-bounded_ok t c =
+read_any-returns-in-Indefinite-clause-bounded_ok g t c =
     let two = header_takes_two _ _ _ _ _ _ c.in_ok-behind.ensures.found.begins in
     ok_with _ _ _ c.read_outermost.result _ _ c.read_outermost.ensures.found c.read_outermost.ensures.bounded_ok
     (λ x y k. omega (arith, two, k))
@@ -211,13 +211,13 @@ read_any-returns-in-Indefinite-clause-bounded_ok t c =
 -- contents
 
 pub read_content-returns-then-not-is_universal-clause-found : goal.read_content-returns-then-not-is_universal-clause-found
-read_content-returns-then-not-is_universal-clause-found t c =
+read_content-returns-then-not-is_universal-clause-found g t c =
     let h = c.args.header.now in
     let other : class_of h ≡ Universal → is_mapped (number_of h) ≡ false = λ u. absurd (search rules) in
     raw_written (class_of h) (is_constructed h) (number_of h) c.args.max_depth c.args.octets.now _ c.args.nodes.now c.args.count other
 
 pub read_content-returns-then-eq-clause-found : goal.read_content-returns-then-eq-clause-found
-read_content-returns-then-eq-clause-found t c =
+read_content-returns-then-eq-clause-found g t c =
     let h = c.args.header.now in
     let universal : class_of h ≡ Universal = search rules in
     let constructed : is_constructed h ≡ true = search rules in
@@ -229,7 +229,7 @@ read_content-returns-then-eq-clause-found t c =
     (λ e q. (universal, mapped, inr (list, constructed, q))) (λ n q. q) (λ q. q)
 
 pub read_content-returns-then-eq-2-clause-found : goal.read_content-returns-then-eq-2-clause-found
-read_content-returns-then-eq-2-clause-found t c =
+read_content-returns-then-eq-2-clause-found g t c =
     let h = c.args.header.now in
     let universal : class_of h ≡ Universal = search rules in
     let constructed : is_constructed h ≡ true = search rules in
@@ -242,13 +242,13 @@ read_content-returns-then-eq-2-clause-found t c =
     (λ e q. (universal, mapped, inr (list, constructed, q))) (λ n q. q) (λ q. q)
 
 pub read_content-returns-then-not-is_mapped-clause-found : goal.read_content-returns-then-not-is_mapped-clause-found
-read_content-returns-then-not-is_mapped-clause-found t c =
+read_content-returns-then-not-is_mapped-clause-found g t c =
     let h = c.args.header.now in
     let raw : is_mapped (number_of h) ≡ false = search rules in
     raw_written (class_of h) (is_constructed h) (number_of h) c.args.max_depth c.args.octets.now _ c.args.nodes.now c.args.count (λ u. raw)
 
 pub read_content-returns-in_err-check_ber_leaf-clause-found : goal.read_content-returns-in_err-check_ber_leaf-clause-found
-read_content-returns-in_err-check_ber_leaf-clause-found t c =
+read_content-returns-in_err-check_ber_leaf-clause-found g t c =
     let h = c.args.header.now in
     let universal : class_of h ≡ Universal = search rules in
     let mapped : IsTrue (is_mapped (number_of h)) = search rules in
@@ -258,7 +258,7 @@ read_content-returns-in_err-check_ber_leaf-clause-found t c =
     rw (p.1, p.2) (universal, mapped, inl (refused, refl))
 
 pub read_content-returns-clause-found : goal.read_content-returns-clause-found
-read_content-returns-clause-found t c =
+read_content-returns-clause-found g t c =
     let h = c.args.header.now in
     let universal : class_of h ≡ Universal = search rules in
     let leaf : (x : Content) × IsLeafContent (is_constructed h) (number_of h) c.args.octets.now x =
@@ -268,10 +268,10 @@ read_content-returns-clause-found t c =
 -- items
 
 pub read_items-loop-rest-init : goal.read_items-loop-rest-init
-read_items-loop-rest-init t c = ([], refl, no_items_written c.args.max_depth _ c.args.nodes.now c.args.count, omega arith, c.requires.room, omega arith, omega arith)
+read_items-loop-rest-init g t c = ([], refl, no_items_written c.args.max_depth _ c.args.nodes.now c.args.count, omega arith, c.requires.room, omega arith, omega arith)
 
 pub read_items-loop-rest-preserved : goal.read_items-loop-rest-preserved
-read_items-loop-rest-preserved t c =
+read_items-loop-rest-preserved g t c =
     let k = c.loop-rest.invariant in
     let u = k.0 in
     let rest = c.loop-rest.rest.now in
@@ -289,7 +289,7 @@ read_items-loop-rest-preserved t c =
     )
 
 pub read_items-returns-in-Err-clause-found : goal.read_items-returns-in-Err-clause-found
-read_items-returns-in-Err-clause-found t c =
+read_items-returns-in-Err-clause-found g t c =
     let k = c.loop-rest.invariant in
     let u = k.0 in
     let rest = c.loop-rest.rest.now in
@@ -302,7 +302,7 @@ read_items-returns-in-Err-clause-found t c =
 -- an element inside an indefinite length
 
 pub read_inside-returns-in_ok-rest-in-Definite-clause-found : goal.read_inside-returns-in_ok-rest-in-Definite-clause-found
-read_inside-returns-in_ok-rest-in-Definite-clause-found t c =
+read_inside-returns-in_ok-rest-in-Definite-clause-found g t c =
     let h = c.args.header.now in
     let d = c.args.max_depth in
     let end = c.args.end in
@@ -322,14 +322,14 @@ read_inside-returns-in_ok-rest-in-Definite-clause-found t c =
       values_answered c.read_value-values.result _ _ _ _ c.read_value-values.ensures.found
           (λ m y. (
             deep,
-            subst (λ z. WritesWhole h z d w start (end - length behind) c.args.nodes.now c.args.count m c.read_value-values.new.nodes) same
-                (subst (λ z. WritesWhole h (Definite (length w)) d w start z c.args.nodes.now c.args.count m c.read_value-values.new.nodes) at y),
+            subst (λ z. WritesWhole g.N.Slot.slot h z d w start (end - length behind) c.args.nodes.now c.args.count m c.read_value-values.new.nodes) same
+                (subst (λ z. WritesWhole g.N.Slot.slot h (Definite (length w)) d w start z c.args.nodes.now c.args.count m c.read_value-values.new.nodes) at y),
           ))
           (λ e q y. inr (deep, subst (λ z. ContentRefusesAt (class_of h) (is_constructed h) (number_of h) w d start z e q) at y)),
     )
 
 pub read_inside-returns-in-Indefinite-clause-found : goal.read_inside-returns-in-Indefinite-clause-found
-read_inside-returns-in-Indefinite-clause-found t c =
+read_inside-returns-in-Indefinite-clause-found g t c =
     let h = c.args.header.now in
     let d = c.args.max_depth in
     let a = c.args.end - length c.args.behind.now in
@@ -340,7 +340,7 @@ read_inside-returns-in-Indefinite-clause-found t c =
       y.0,
       rw l y.1,
       values_answered x.1 _ _ _ _ y.2
-          (λ m z. (deep, subst (λ v. WritesWhole h v d y.0 c.args.place.now a c.args.nodes.now c.args.count m c.read_open.new.nodes) (sym l) z))
+          (λ m z. (deep, subst (λ v. WritesWhole g.N.Slot.slot h v d y.0 c.args.place.now a c.args.nodes.now c.args.count m c.read_open.new.nodes) (sym l) z))
           (λ e q z. inr (deep, z)),
     ))
     (λ e y. rw l y) (λ n y. rw l y) (λ m. m)
@@ -348,7 +348,7 @@ read_inside-returns-in-Indefinite-clause-found t c =
 -- the content of an indefinite length
 
 pub read_open_content-returns-then-is_list-clause-found : goal.read_open_content-returns-then-is_list-clause-found
-read_open_content-returns-then-is_list-clause-found t c =
+read_open_content-returns-then-is_list-clause-found g t c =
     let h = c.args.header.now in
     let is : (class_of h ≡ Universal) × IsTrue (is_list (number_of h)) = c.is_list.ensures.0 c.if-is_list.true in
     answered _ _ c.read_to_end_marker.result c.read_to_end_marker.ensures.found
@@ -362,7 +362,7 @@ read_open_content-returns-then-is_list-clause-found t c =
     (λ e y. y) (λ n y. y) (λ m. m)
 
 pub read_open_content-returns-clause-found : goal.read_open_content-returns-clause-found
-read_open_content-returns-clause-found t c =
+read_open_content-returns-clause-found g t c =
     let h = c.args.header.now in
     let w = c.in_ok-rest.content.now in (
       w,
@@ -373,16 +373,16 @@ read_open_content-returns-clause-found t c =
     )
 
 pub read_open_content-returns-clause-counted : goal.read_open_content-returns-clause-counted
-read_open_content-returns-clause-counted t c =
+read_open_content-returns-clause-counted g t c =
     values_if_ok c.check_framed.result _ _ _ c.check_framed.ensures (λ m y. omega (arith, y.0, c.in_ok-rest.ensures.counted))
 
 -- the elements inside it
 
 pub read_to_end_marker-elements-init : goal.read_to_end_marker-elements-init
-read_to_end_marker-elements-init t c = ([], refl, no_elements, no_items_written c.args.max_depth _ c.args.nodes.now c.args.count, omega arith, c.requires.room, omega arith, omega arith)
+read_to_end_marker-elements-init g t c = ([], refl, no_elements, no_items_written c.args.max_depth _ c.args.nodes.now c.args.count, omega arith, c.requires.room, omega arith, omega arith)
 
 pub read_to_end_marker-returns-in_err-behind-clause-found : goal.read_to_end_marker-returns-in_err-behind-clause-found
-read_to_end_marker-returns-in_err-behind-clause-found t c =
+read_to_end_marker-returns-in_err-behind-clause-found g t c =
     let k = c.elements.invariant in
     let i = c.args.i.now in
     let rest = c.elements.rest.now in
@@ -392,7 +392,7 @@ read_to_end_marker-returns-in_err-behind-clause-found t c =
     c.in_err-behind.ensures.found)
 
 pub read_to_end_marker-returns-then-budget-eq1-clause-found : goal.read_to_end_marker-returns-then-budget-eq1-clause-found
-read_to_end_marker-returns-then-budget-eq1-clause-found t c =
+read_to_end_marker-returns-then-budget-eq1-clause-found g t c =
     let k = c.elements.invariant in
     let i = c.args.i.now in
     let rest = c.elements.rest.now in
@@ -400,37 +400,37 @@ read_to_end_marker-returns-then-budget-eq1-clause-found t c =
     c.in_ok-behind.ensures.found.begins (omega arith)
 
 pub read_to_end_marker-returns-then-begins_with_end_marker-clause-found : goal.read_to_end_marker-returns-then-begins_with_end_marker-clause-found
-read_to_end_marker-returns-then-begins_with_end_marker-clause-found t c =
+read_to_end_marker-returns-then-begins_with_end_marker-clause-found g t c =
     let k = c.elements.invariant in
     let e = ends_here _ k.2 k.1 c.in_ok-behind.ensures.found.begins (omega arith) c.if-begins_with_end_marker.ensures in (
       k.0,
       e.1,
-      subst (λ y. WritesItems c.args.max_depth k.0 (c.args.end - length c.args.i.now) c.args.nodes.now c.args.count c.elements.next y)
+      subst (λ y. WritesItems g.N.Slot.slot c.args.max_depth k.0 (c.args.end - length c.args.i.now) c.args.nodes.now c.args.count c.elements.next y)
           (sym c.in_default.ensures.found) k.3,
     )
 
 pub read_to_end_marker-returns-then-begins_with_end_marker-clause-within : goal.read_to_end_marker-returns-then-begins_with_end_marker-clause-within
-read_to_end_marker-returns-then-begins_with_end_marker-clause-within t c =
+read_to_end_marker-returns-then-begins_with_end_marker-clause-within g t c =
     let k = c.elements.invariant in
     let two = header_takes_two _ _ _ _ _ _ c.in_ok-behind.ensures.found.begins in
     (k.4, omega (arith, k.5, two))
 
 pub read_to_end_marker-returns-then-begins_with_end_marker-clause-bounded_ok : goal.read_to_end_marker-returns-then-begins_with_end_marker-clause-bounded_ok
-read_to_end_marker-returns-then-begins_with_end_marker-clause-bounded_ok t c =
+read_to_end_marker-returns-then-begins_with_end_marker-clause-bounded_ok g t c =
     let k = c.elements.invariant in
     let two = header_takes_two _ _ _ _ _ _ c.in_ok-behind.ensures.found.begins in
     omega (arith, k.6, two)
 
 pub read_to_end_marker-read_inside-requires : goal.read_to_end_marker-read_inside-requires
-read_to_end_marker-read_inside-requires t c =
+read_to_end_marker-read_inside-requires g t c =
     let k = c.elements.invariant in
     let begins = c.in_ok-behind.ensures.found.begins in
     let two = header_takes_two _ _ _ _ _ _ begins in
     let octets : length c.args.i.now ≡ length k.0 + length c.elements.rest.now = ap length k.1 ∙ length-append k.0 c.elements.rest.now in
-    (omega arith, ((λ l. open_constructed _ _ _ _ _ _ l begins), (omega arith, (omega (arith, c.requires.bounded), (omega (arith, k.5, two), omega (arith, k.6, two, octets, c.requires.fits))))))
+    λ lifetimes lives. (omega arith, (lives, ((λ l. open_constructed _ _ _ _ _ _ l begins), (omega arith, (omega (arith, c.requires.bounded), (omega (arith, k.5, two), omega (arith, k.6, two, octets, c.requires.fits)))))))
 
 pub read_to_end_marker-returns-in_err-after-clause-found : goal.read_to_end_marker-returns-in_err-after-clause-found
-read_to_end_marker-returns-in_err-after-clause-found t c =
+read_to_end_marker-returns-in_err-after-clause-found g t c =
     let k = c.elements.invariant in
     let i = c.args.i.now in
     let rest = c.elements.rest.now in
@@ -445,7 +445,7 @@ read_to_end_marker-returns-in_err-after-clause-found t c =
     (omega arith) (omega (arith, c.requires.room, parts, whole, two)) (λ m. m) c.in_err-after.ensures.found)
 
 pub read_to_end_marker-elements-preserved : goal.read_to_end_marker-elements-preserved
-read_to_end_marker-elements-preserved t c =
+read_to_end_marker-elements-preserved g t c =
     let k = c.elements.invariant in
     let u = k.0 in
     let i = c.args.i.now in
@@ -474,7 +474,7 @@ read_to_end_marker-elements-preserved t c =
       k.1 ∙ ap (λ v. u ++ v) e.2 ∙ sym (append_assoc u e.0 after),
       one_more_element k.2 e.1 other,
       one_more_written d u e.0 (end - length i) (end - length rest) c.args.nodes.now c.read_plain.new.nodes c.read_inside.new.nodes c.args.count c.elements.next m at
-          (subst (λ y. WritesItems d u (end - length i) c.args.nodes.now c.args.count c.elements.next y) (sym c.in_default.ensures.found) k.3) spelled,
+          (subst (λ y. WritesItems g.N.Slot.slot d u (end - length i) c.args.nodes.now c.args.count c.elements.next y) (sym c.in_default.ensures.found) k.3) spelled,
       omega (arith, k.4, within.0),
       within.1,
       omega (arith, k.6, two, bounded),
@@ -482,7 +482,7 @@ read_to_end_marker-elements-preserved t c =
     )
 
 pub read_to_end_marker-elements-preserved-in-Some : goal.read_to_end_marker-elements-preserved-in-Some
-read_to_end_marker-elements-preserved-in-Some t c =
+read_to_end_marker-elements-preserved-in-Some g t c =
     let k = c.elements.invariant in
     let u = k.0 in
     let d = c.args.max_depth in
@@ -505,13 +505,13 @@ read_to_end_marker-elements-preserved-in-Some t c =
 -- a value is refused, and the other elements are framed
 
 pub read_to_end_marker-frame_to_end_marker-requires-clause-fits : goal.read_to_end_marker-frame_to_end_marker-requires-clause-fits
-read_to_end_marker-frame_to_end_marker-requires-clause-fits t c =
+read_to_end_marker-frame_to_end_marker-requires-clause-fits g t c =
     let k = c.elements.invariant in
     let two = header_takes_two _ _ _ _ _ _ c.in_ok-behind.ensures.found.begins in
     omega (arith, k.6, two, ap length k.1, length-append k.0 c.elements.rest.now, c.in_ok-after.ensures.bounded_framed, c.requires.fits)
 
 pub read_to_end_marker-returns-in_err-behind-in-Err-clause-found : goal.read_to_end_marker-returns-in_err-behind-in-Err-clause-found
-read_to_end_marker-returns-in_err-behind-in-Err-clause-found t c =
+read_to_end_marker-returns-in_err-behind-in-Err-clause-found g t c =
     let k = c.elements.invariant in
     let u = k.0 in
     let i = c.args.i.now in
@@ -532,7 +532,7 @@ read_to_end_marker-returns-in_err-behind-in-Err-clause-found t c =
     (omega arith) (one_more_element k.2 e.1 other) parts at (λ m. m) c.in_err-behind-in-Err.ensures.found)
 
 pub read_to_end_marker-returns-in_err-behind-in-Err-clause-bounded : goal.read_to_end_marker-returns-in_err-behind-in-Err-clause-bounded
-read_to_end_marker-returns-in_err-behind-in-Err-clause-bounded t c =
+read_to_end_marker-returns-in_err-behind-in-Err-clause-bounded g t c =
     let k = c.elements.invariant in
     let two = header_takes_two _ _ _ _ _ _ c.in_ok-behind.ensures.found.begins in
     omega (
@@ -546,7 +546,7 @@ read_to_end_marker-returns-in_err-behind-in-Err-clause-bounded t c =
     )
 
 pub read_to_end_marker-returns-in-Err-clause-found : goal.read_to_end_marker-returns-in-Err-clause-found
-read_to_end_marker-returns-in-Err-clause-found t c =
+read_to_end_marker-returns-in-Err-clause-found g t c =
     let k = c.elements.invariant in
     let u = k.0 in
     let i = c.args.i.now in

@@ -4,53 +4,53 @@ use Rattle.der_nodes.specs.BerInner.{WritesItems}
 use Rattle.der_nodes.proofs.ber_reader.+ber_reader.Given as goal
 
 abbrev pub decreases-read_element : goal.decreases-read_element
-decreases-read_element l = 7 * l.max_depth + 6
+decreases-read_element g l = 7 * l.max_depth + 6
 
 abbrev pub decreases-read_any : goal.decreases-read_any
-decreases-read_any l = 7 * l.max_depth + 5
+decreases-read_any g l = 7 * l.max_depth + 5
 
 abbrev pub decreases-read_outermost : goal.decreases-read_outermost
-decreases-read_outermost l = 7 * l.max_depth + 4
+decreases-read_outermost g l = 7 * l.max_depth + 4
 
 abbrev pub decreases-read_open : goal.decreases-read_open
-decreases-read_open l = 7 * l.max_depth + 3
+decreases-read_open g l = 7 * l.max_depth + 3
 
 abbrev pub decreases-read_open_content : goal.decreases-read_open_content
-decreases-read_open_content l = 7 * l.max_depth + 2
+decreases-read_open_content g l = 7 * l.max_depth + 2
 
 abbrev pub decreases-read_to_end_marker : goal.decreases-read_to_end_marker
-decreases-read_to_end_marker l = 7 * l.max_depth + 7
+decreases-read_to_end_marker g l = 7 * l.max_depth + 7
 
 abbrev pub decreases-read_inside : goal.decreases-read_inside
-decreases-read_inside l = 7 * l.max_depth + 5
+decreases-read_inside g l = 7 * l.max_depth + 5
 
 abbrev pub decreases-read_value : goal.decreases-read_value
-decreases-read_value l = 7 * l.max_depth + 2
+decreases-read_value g l = 7 * l.max_depth + 2
 
 abbrev pub decreases-read_content : goal.decreases-read_content
-decreases-read_content l = 7 * l.max_depth + 1
+decreases-read_content g l = 7 * l.max_depth + 1
 
 abbrev pub decreases-read_items : goal.decreases-read_items
-decreases-read_items l = 7 * l.max_depth + 7
+decreases-read_items g l = 7 * l.max_depth + 7
 
 -- the items in front of the rest are written
 abbrev pub invariant-read_items-loop-rest : goal.invariant-read_items-loop-rest
-invariant-read_items-loop-rest l = (u : List ℕ) × (l.content ≡ u ++ l.rest)
-    × WritesItems l.max_depth u (l.end - length l.content) l.fn.nodes l.fn.count l.next l.nodes
+invariant-read_items-loop-rest g l = (u : List ℕ) × (l.content ≡ u ++ l.rest)
+    × WritesItems g.N.Slot.slot l.max_depth u (l.end - length l.content) l.fn.nodes l.fn.count l.next l.nodes
     × (l.fn.count ≤ l.next) × (l.next + length l.rest ≤ l.end)
     × (2 * l.headers + length l.rest ≤ 2 * l.fn.headers + length l.content)
     × (l.fn.headers + l.next ≤ l.headers + l.fn.count)
 
 abbrev pub decreases-read_items-loop-rest : goal.decreases-read_items-loop-rest
-decreases-read_items-loop-rest l = length l.rest
+decreases-read_items-loop-rest g l = length l.rest
 
 -- and they are elements of a list that is framed
 abbrev pub invariant-read_to_end_marker-elements : goal.invariant-read_to_end_marker-elements
-invariant-read_to_end_marker-elements l = (u : List ℕ) × (l.i ≡ u ++ l.rest) × AreElements u (l.budget - 1)
-    × WritesItems l.max_depth u (l.end - length l.i) l.fn.nodes l.fn.count l.next l.nodes
+invariant-read_to_end_marker-elements g l = (u : List ℕ) × (l.i ≡ u ++ l.rest) × AreElements u (l.budget - 1)
+    × WritesItems g.N.Slot.slot l.max_depth u (l.end - length l.i) l.fn.nodes l.fn.count l.next l.nodes
     × (l.fn.count ≤ l.next) × (l.next + length l.rest ≤ l.end)
     × (2 * l.headers + length l.rest ≤ 2 * l.fn.headers + length l.i)
     × (l.fn.headers + l.next ≤ l.headers + l.fn.count)
 
 abbrev pub decreases-read_to_end_marker-elements : goal.decreases-read_to_end_marker-elements
-decreases-read_to_end_marker-elements l = length l.rest
+decreases-read_to_end_marker-elements g l = length l.rest

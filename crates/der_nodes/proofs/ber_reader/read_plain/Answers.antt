@@ -5,7 +5,7 @@ use Rattle.der_nodes.proofs.ShortLaws.{ber_plain_written}
 use Rattle.der_nodes.proofs.ber_reader.read_plain.Goals as goal
 
 pub returns-clause-found : goal.returns-clause-found
-returns-clause-found c =
+returns-clause-found g c =
     let short = c.in_ok-short.short in
     let is : IsTrue c.is_plain_leaf.result = search rules in
     let leaf : IsPlainLeaf short.first short.content.now = c.is_plain_leaf.ensures is in

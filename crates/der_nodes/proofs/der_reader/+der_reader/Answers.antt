@@ -20,7 +20,7 @@ use Rattle.der_nodes.proofs.der_reader.+der_reader.Goals as goal
 -- a short element
 
 pub read_element-returns-in_err-next-clause-found : goal.read_element-returns-in_err-next-clause-found
-read_element-returns-in_err-next-clause-found t c =
+read_element-returns-in_err-next-clause-found g t c =
     let short = c.in-Some.short in
     let is : IsListOctet short.first = search rules in
     let p = err_from_is_err_and c.from_residual.result c.from_residual.ensures.1 in
@@ -29,14 +29,14 @@ read_element-returns-in_err-next-clause-found t c =
     (λ m q. absurd q) (λ m. m))
 
 pub read_element-returns-then-is_list_octet-clause-found : goal.read_element-returns-then-is_list_octet-clause-found
-read_element-returns-then-is_list_octet-clause-found t c =
+read_element-returns-then-is_list_octet-clause-found g t c =
     let short = c.in-Some.short in
     let is : IsListOctet short.first = search rules in
     der_list_written c.args.max_depth c.args.i.now short.content.now short.rest.now short.first c.args.end c.args.count c.in_ok-next.next c.args.nodes.now c.read_items.new.nodes c.put.new.nodes
     (omega arith) c.requires c.in-Some.ensures is c.in_ok-next.ensures.found (rw (← c.universal_element.ensures) c.put.ensures)
 
 pub read_element-returns-then-is_plain_leaf-clause-found : goal.read_element-returns-then-is_plain_leaf-clause-found
-read_element-returns-then-is_plain_leaf-clause-found t c =
+read_element-returns-then-is_plain_leaf-clause-found g t c =
     let short = c.in-Some.short in
     let is : IsTrue c.is_plain_leaf.result = search rules in
     der_plain_written c.args.max_depth c.args.i.now short.content.now short.rest.now short.first c.args.end c.args.count c.args.nodes.now c.put-then-is_plain_leaf.new.nodes
@@ -45,7 +45,7 @@ read_element-returns-then-is_plain_leaf-clause-found t c =
 -- an element
 
 pub read_any-returns-in_err-rest-clause-found : goal.read_any-returns-in_err-rest-clause-found
-read_any-returns-in_err-rest-clause-found t c =
+read_any-returns-in_err-rest-clause-found g t c =
     let i = c.args.i.now in
     let d = c.args.max_depth in
     let deep : 1 ≤ d = omega arith in
@@ -54,7 +54,7 @@ read_any-returns-in_err-rest-clause-found t c =
     (λ n h. (header_cut d i n deep h, refl)) (λ m. absurd m))
 
 pub read_any-returns-then-length-gt-MAX_OBJECT_SIZE-clause-found : goal.read_any-returns-then-length-gt-MAX_OBJECT_SIZE-clause-found
-read_any-returns-then-length-gt-MAX_OBJECT_SIZE-clause-found t c =
+read_any-returns-then-length-gt-MAX_OBJECT_SIZE-clause-found g t c =
     let h = c.in_ok-rest.header in
     let found = c.in_ok-rest.ensures.found in
     let size : c.in_ok-length.length ≡ found.size = (let stated = found.length in let taken = c.length.ensures in let is = c.in_ok-length.ensures in cc) in
@@ -62,7 +62,7 @@ read_any-returns-then-length-gt-MAX_OBJECT_SIZE-clause-found t c =
     (omega arith) found.begins (omega arith)
 
 pub read_any-returns-then-rest-length-clause-found : goal.read_any-returns-then-rest-length-clause-found
-read_any-returns-then-rest-length-clause-found t c =
+read_any-returns-then-rest-length-clause-found g t c =
     let h = c.in_ok-rest.header in
     let found = c.in_ok-rest.ensures.found in
     let size : c.in_ok-length.length ≡ found.size = (let stated = found.length in let taken = c.length.ensures in let is = c.in_ok-length.ensures in cc) in (
@@ -72,21 +72,21 @@ read_any-returns-then-rest-length-clause-found t c =
     )
 
 pub read_any-overflow_add-count : goal.read_any-overflow_add-count
-read_any-overflow_add-count t c =
+read_any-overflow_add-count g t c =
     let h = c.in_ok-rest.header in
     let found = c.in_ok-rest.ensures.found in
     let s = header_shorter c.args.i.now c.in_ok-rest.rest.now (class_of h) (is_constructed h) (number_of h) found.size found.begins in
     omega (arith, s)
 
 pub read_any-read_content-requires : goal.read_any-read_content-requires
-read_any-read_content-requires t c =
+read_any-read_content-requires g t c =
     let h = c.in_ok-rest.header in
     let found = c.in_ok-rest.ensures.found in
     let s = header_shorter c.args.i.now c.in_ok-rest.rest.now (class_of h) (is_constructed h) (number_of h) found.size found.begins in
-    (omega arith, (omega arith, omega (arith, s, c.split_at.ensures.front_len, c.split_at.ensures.back_len)))
+    λ lifetimes lives. (omega arith, (lives, (omega arith, omega (arith, s, c.split_at.ensures.front_len, c.split_at.ensures.back_len))))
 
 pub read_any-returns-in_err-next-clause-found : goal.read_any-returns-in_err-next-clause-found
-read_any-returns-in_err-next-clause-found t c =
+read_any-returns-in_err-next-clause-found g t c =
     let h = c.in_ok-rest.header in
     let found = c.in_ok-rest.ensures.found in
     let n = c.in_ok-length.length in
@@ -108,7 +108,7 @@ read_any-returns-in_err-next-clause-found t c =
     (λ m q. absurd q) (λ m. m))
 
 pub read_any-returns-clause-found : goal.read_any-returns-clause-found
-read_any-returns-clause-found t c =
+read_any-returns-clause-found g t c =
     let h = c.in_ok-rest.header in
     let found = c.in_ok-rest.ensures.found in
     let n = c.in_ok-length.length in
@@ -136,7 +136,7 @@ read_any-returns-clause-found t c =
     c.put.ensures
 
 pub read_any-returns-clause-shorter : goal.read_any-returns-clause-shorter
-read_any-returns-clause-shorter t c =
+read_any-returns-clause-shorter g t c =
     let h = c.in_ok-rest.header in
     let found = c.in_ok-rest.ensures.found in
     let s = header_shorter c.args.i.now c.in_ok-rest.rest.now (class_of h) (is_constructed h) (number_of h) found.size found.begins in
@@ -145,13 +145,13 @@ read_any-returns-clause-shorter t c =
 -- contents
 
 pub read_content-returns-then-not-is_universal-clause-found : goal.read_content-returns-then-not-is_universal-clause-found
-read_content-returns-then-not-is_universal-clause-found t c =
+read_content-returns-then-not-is_universal-clause-found g t c =
     let h = c.args.header.now in
     let other : class_of h ≡ Universal → is_mapped (number_of h) ≡ false = λ u. absurd (search rules) in
     raw_written (class_of h) (is_constructed h) (number_of h) c.args.max_depth c.args.octets.now c.args.end c.args.nodes.now c.args.count c.requires.deep other
 
 pub read_content-returns-then-eq-clause-found : goal.read_content-returns-then-eq-clause-found
-read_content-returns-then-eq-clause-found t c =
+read_content-returns-then-eq-clause-found g t c =
     let h = c.args.header.now in
     let universal : class_of h ≡ Universal = search rules in
     let constructed : is_constructed h ≡ true = search rules in
@@ -164,7 +164,7 @@ read_content-returns-then-eq-clause-found t c =
     (λ e q. (universal, mapped, inr (list, constructed, q))) (λ n q. q) (λ q. q)
 
 pub read_content-returns-then-eq-2-clause-found : goal.read_content-returns-then-eq-2-clause-found
-read_content-returns-then-eq-2-clause-found t c =
+read_content-returns-then-eq-2-clause-found g t c =
     let h = c.args.header.now in
     let universal : class_of h ≡ Universal = search rules in
     let constructed : is_constructed h ≡ true = search rules in
@@ -177,13 +177,13 @@ read_content-returns-then-eq-2-clause-found t c =
     (λ e q. (universal, mapped, inr (list, constructed, q))) (λ n q. q) (λ q. q)
 
 pub read_content-returns-then-not-is_mapped-clause-found : goal.read_content-returns-then-not-is_mapped-clause-found
-read_content-returns-then-not-is_mapped-clause-found t c =
+read_content-returns-then-not-is_mapped-clause-found g t c =
     let h = c.args.header.now in
     let raw : is_mapped (number_of h) ≡ false = search rules in
     raw_written (class_of h) (is_constructed h) (number_of h) c.args.max_depth c.args.octets.now c.args.end c.args.nodes.now c.args.count c.requires.deep (λ u. raw)
 
 pub read_content-returns-in_err-check_der_leaf-clause-found : goal.read_content-returns-in_err-check_der_leaf-clause-found
-read_content-returns-in_err-check_der_leaf-clause-found t c =
+read_content-returns-in_err-check_der_leaf-clause-found g t c =
     let h = c.args.header.now in
     let universal : class_of h ≡ Universal = search rules in
     let mapped : IsTrue (is_mapped (number_of h)) = search rules in
@@ -193,7 +193,7 @@ read_content-returns-in_err-check_der_leaf-clause-found t c =
     rw (p.1, p.2) (universal, mapped, inl (refused, refl))
 
 pub read_content-returns-clause-found : goal.read_content-returns-clause-found
-read_content-returns-clause-found t c =
+read_content-returns-clause-found g t c =
     let h = c.args.header.now in
     let universal : class_of h ≡ Universal = search rules in
     let leaf : IsDerLeafOf (is_constructed h) (number_of h) c.args.octets.now = rw (← c.constructed.ensures, ← c.tag-tag.ensures) c.in_ok-check_der_leaf.ensures in
@@ -202,10 +202,10 @@ read_content-returns-clause-found t c =
 -- items
 
 pub read_items-loop-rest-init : goal.read_items-loop-rest-init
-read_items-loop-rest-init t c = (none_so_far c.args.max_depth c.args.content.now c.args.end c.args.nodes.now c.args.count, omega arith, c.requires)
+read_items-loop-rest-init g t c = (none_so_far c.args.max_depth c.args.content.now c.args.end c.args.nodes.now c.args.count, omega arith, c.requires)
 
 pub read_items-loop-rest-preserved : goal.read_items-loop-rest-preserved
-read_items-loop-rest-preserved t c =
+read_items-loop-rest-preserved g t c =
     let k = c.loop-rest.invariant in (
       one_more_written c.args.max_depth c.args.content.now c.args.end c.args.nodes.now c.args.count c.loop-rest.rest.now c.in-Ok.after.now c.loop-rest.next c.in-Ok.behind c.loop-rest.nodes _
           (omega arith) k.0 c.in-Ok.ensures.found,
@@ -214,7 +214,7 @@ read_items-loop-rest-preserved t c =
     )
 
 pub read_items-returns-in-Err-clause-found : goal.read_items-returns-in-Err-clause-found
-read_items-returns-in-Err-clause-found t c =
+read_items-returns-in-Err-clause-found g t c =
     let rest = c.loop-rest.rest.now in
     let r = c.loop-rest.invariant.0 in
     let some : 0 < length rest = grind (arith, nat_tests) in
@@ -222,6 +222,6 @@ read_items-returns-in-Err-clause-found t c =
     (λ x n h. items_refuse_at c.args.content.now r.read rest (nodes_of r.items) c.args.max_depth c.args.end x _ (omega (arith, c.requires)) r.parts r.joins n h)
 
 pub read_items-returns-clause-found : goal.read_items-returns-clause-found
-read_items-returns-clause-found t c =
+read_items-returns-clause-found g t c =
     let none : length c.loop-rest.rest.now ≡ 0 = grind (arith, nat_tests) in
     all_written c.args.max_depth c.args.content.now c.args.end c.args.nodes.now c.args.count c.loop-rest.rest.now c.loop-rest.next c.loop-rest.nodes c.loop-rest.invariant.0 none

@@ -1,19 +1,10 @@
-use Rattle.std.proofs.Common.{length, ◌-◌, ◌∙◌, zero-add}
-use Rattle.der_base.specs.Listing.{object_count}
-use Rattle.der_base.proofs.Answers.Answering.{answered}
-use Rattle.der_base.proofs.Answers.Exactness.{exactly}
-use Rattle.der_nodes.proofs.DerFaultPlaces.{fault_shows}
-use Rattle.der_nodes.proofs.NodesLaws.{der_nodes_show_one, der_nodes_stay}
+use Rattle.std.proofs.Common.{ap, ◌∙◌}
+use Rattle.std.proofs.lemmas.Result.{IfOk-weaker}
+use Rattle.der_nodes.specs.Places.{placed, overlay}
+use Rattle.der_nodes.proofs.Overlays.{map_same}
 use Rattle.der_nodes.proofs.parser.parse_der_nodes_placed.Goals as goal
 
-pub returns-clause-exactly : goal.returns-clause-exactly
-returns-clause-exactly c =
-    let d = c.args.max_depth in
-    let i = c.args.i.now in
-    exactly c.read_element.result (der_nodes_show_one d i) (λ n h m. m)
-    (answered _ _ c.read_element.result c.read_element.ensures.found
-    (λ x k. (k.object, (k.spelling, k.octets, k.spells), k.count ∙ zero-add (object_count k.object)))
-    (λ e q. fault_shows d i (length i - length i) e _ q) (λ n q. q.0) (λ m. m))
-
-pub returns-clause-stable : goal.returns-clause-stable
-returns-clause-stable c = der_nodes_stay c.args.max_depth c.args.i.now c.read_element.result (returns-clause-exactly c).found
+pub returns-clause-nodes : goal.returns-clause-nodes
+returns-clause-nodes c =
+    IfOk-weaker c.parse_der_nodes_into.result _ _ (λ x (o, begins, count, written). (o, begins, count, written ∙ ap (overlay c.args.nodes.now 0) (map_same (placed o 0))))
+    c.parse_der_nodes_into.ensures.nodes
