@@ -187,7 +187,8 @@ content_written {row} c p t d w a old n m e (x, inr k) = subst (λ y. WritesCont
 
 -- an element of a header and a content
 
-pub spelling_written : {N : Type 0} {row : Element → N} (b w : List ℕ) (c : Class) (p : Bool) (t : ℕ) (l : Length) (k d start a : ℕ) (old mid : List N) (n m : ℕ) (new : List N) → k ≤ framing_budget → 1 ≤ d
+pub spelling_written : {N : Type 0} {row : Element → N} (b w : List ℕ) (c : Class) (p : Bool) (t : ℕ) (l : Length) (k d start a : ℕ) (old mid : List N) (n m : ℕ) (new : List N)
+    → k ≤ framing_budget → 1 ≤ d
     → ElementAt b start l c p t w k a → WritesContent row c p t d w a old (n + 1) m mid
     → new ≡ overlay mid n (row (record { class = c; constructed = p; definite = is_definite l; number = t; header = start; content = a; end = a + length w; inside = m - n - 1 }) ∷ [])
     → WritesSpelling row b start d old n m new

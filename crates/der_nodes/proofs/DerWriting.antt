@@ -43,7 +43,8 @@ mutual
 
 -- contents
 
-pub raw_written : {N : Type 0} {row : Element → N} (c : Class) (p : Bool) (t d : ℕ) (w : List ℕ) (end : ℕ) (old : List N) (n : ℕ) → 1 ≤ d → (c ≡ Universal → is_mapped t ≡ false) → WritesDerContent row c p t d w end old n n old
+pub raw_written : {N : Type 0} {row : Element → N} (c : Class) (p : Bool) (t d : ℕ) (w : List ℕ) (end : ℕ) (old : List N) (n : ℕ) → 1 ≤ d → (c ≡ Universal → is_mapped t ≡ false)
+    → WritesDerContent row c p t d w end old n n old
 raw_written {row} c p t d w end old n le k = record {
   value = unknown c p t w;
   content = record { octets = refl; valid = inr (refl, refl, refl, refl, k); depth = le };
@@ -57,7 +58,8 @@ leaf_places t (sequence l) n k = absurd k.0
 leaf_places t (set l) n k = absurd k.0
 leaf_places t _ n k = refl
 
-pub leaf_written : {N : Type 0} {row : Element → N} (c : Class) (p : Bool) (t d : ℕ) (w : List ℕ) (end : ℕ) (old : List N) (n : ℕ) → 1 ≤ d → c ≡ Universal → IsDerLeafOf p t w → WritesDerContent row c p t d w end old n n old
+pub leaf_written : {N : Type 0} {row : Element → N} (c : Class) (p : Bool) (t d : ℕ) (w : List ℕ) (end : ℕ) (old : List N) (n : ℕ) → 1 ≤ d → c ≡ Universal → IsDerLeafOf p t w
+    → WritesDerContent row c p t d w end old n n old
 leaf_written {row} c p t d w end old n le u (x, q, k, e) = record {
   value = x;
   content = record { octets = e; valid = leaf_valid c p t x u q k; depth = omega (arith, leaf_height t x k, le) };
@@ -87,7 +89,8 @@ set_written c p t d w end old n m new le ec ep et h =
       written = h.written;
     }
 
-pub list_written : {N : Type 0} {row : Element → N} (c : Class) (p : Bool) (t d : ℕ) (w : List ℕ) (end : ℕ) (old : List N) (n m : ℕ) (new : List N) → 1 ≤ d → c ≡ Universal → p ≡ true → IsTrue (is_list t)
+pub list_written : {N : Type 0} {row : Element → N} (c : Class) (p : Bool) (t d : ℕ) (w : List ℕ) (end : ℕ) (old : List N) (n m : ℕ) (new : List N) → 1 ≤ d → c ≡ Universal → p ≡ true
+    → IsTrue (is_list t)
     → WritesDerItems row (d - 1) w end old n m new → WritesDerContent row c p t d w end old n m new
 list_written {row} c p t d w end old n m new le ec ep l h = or_cases (t == 16) (t == 17) (WritesDerContent row c p t d w end old n m new) l
     (λ e. sequence_written c p t d w end old n m new le ec ep ((Decides-eqb t 16).0 e) h)

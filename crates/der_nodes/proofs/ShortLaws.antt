@@ -110,7 +110,8 @@ der_list_refused d i w r first end e q deep room s is h =
 
 -- by BER
 
-pub ber_plain_written : {N : Type 0} {row : Element → N} (k d : ℕ) (i w r : List ℕ) (t end n : ℕ) (old new : List N) → 1 ≤ k → k ≤ framing_budget → 1 ≤ d → n + length i ≤ end → IsShort i t w r → IsPlainLeaf t w
+pub ber_plain_written : {N : Type 0} {row : Element → N} (k d : ℕ) (i w r : List ℕ) (t end n : ℕ) (old new : List N) → 1 ≤ k → k ≤ framing_budget → 1 ≤ d → n + length i ≤ end
+    → IsShort i t w r → IsPlainLeaf t w
     → new ≡ overlay old n (row (universal_element false t (length w) (end - length r) 0) ∷ []) → WritesFramed row k d i end old n r (n + 1) new
 ber_plain_written {row} k d i w r t end n old new budget le deep room s (some, lt, (x, p, leaf, octets)) put =
     let size = short_octets i t w r s in

@@ -427,7 +427,8 @@ read_to_end_marker-read_inside-requires g t c =
     let begins = c.in_ok-behind.ensures.found.begins in
     let two = header_takes_two _ _ _ _ _ _ begins in
     let octets : length c.args.i.now ≡ length k.0 + length c.elements.rest.now = ap length k.1 ∙ length-append k.0 c.elements.rest.now in
-    λ lifetimes lives. (omega arith, (lives, ((λ l. open_constructed _ _ _ _ _ _ l begins), (omega arith, (omega (arith, c.requires.bounded), (omega (arith, k.5, two), omega (arith, k.6, two, octets, c.requires.fits)))))))
+    λ lifetimes lives.
+    (omega arith, (lives, ((λ l. open_constructed _ _ _ _ _ _ l begins), (omega arith, (omega (arith, c.requires.bounded), (omega (arith, k.5, two), omega (arith, k.6, two, octets, c.requires.fits)))))))
 
 pub read_to_end_marker-returns-in_err-after-clause-found : goal.read_to_end_marker-returns-in_err-after-clause-found
 read_to_end_marker-returns-in_err-after-clause-found g t c =
