@@ -1,0 +1,74 @@
+-- What a reader of elements returns to C.
+use Rattle.std.specs.Borrow.{Bor}
+use Rattle.std.specs.Prelude.{◌≡◌, ℕ, ◌-◌, List, length, Result, Ok, Err, IfOk}
+use Rattle.der_base.specs.declared.error.Err.{Err as Refused}
+use Rattle.der_base.specs.declared.error.Err.TheVariants.{Incomplete, Error, Failure, OutOfMemory}
+use Rattle.der_base.specs.declared.error.Error.{Error as BerError}
+use Rattle.der_base.specs.declared.error.Needed.TheVariants.{Unknown, Size}
+use Rattle.der_base.specs.Any.{AnyAnswer, AnswersAny, AnswersDerAny}
+use Rattle.der_base.specs.Refusal.{refusal}
+use Rattle.der_nodes.specs.FaultPlaces.{IsBerPlace, IsDerPlace}
+use Rattle.der_nodes.specs.NodesReading.{AnswersBerNodes, AnswersDerNodes, KeepsBerNodes, KeepsDerNodes}
+use Rattle.dumarewhi_c.specs.declared.element.DmElement.{DmElement}
+use Rattle.dumarewhi_c.specs.declared.outcome.DmOutcome.{DmOutcome}
+use Rattle.dumarewhi_c.specs.Elements.{slot_of}
+use Rattle.dumarewhi_c.specs.ErrorNumbers.{refusal_number}
+
+-- so many elements are in so many octets
+abbrev pub read_outcome : ℕ → ℕ → DmOutcome
+read_outcome count size = record { elements = count; length = size; place = 0; missing = 0; status = 0; error = 0 }
+
+-- an error of this number, and where
+abbrev pub error_outcome : ℕ → ℕ → DmOutcome
+error_outcome number at = record { elements = 0; length = 0; place = at; missing = 0; status = 1; error = number }
+
+-- so many octets are missing
+abbrev pub incomplete_outcome : ℕ → DmOutcome
+incomplete_outcome n = record { elements = 0; length = 0; place = 0; missing = n; status = 2; error = 0 }
+
+-- an Error or an Incomplete; no reader returns another here
+abbrev pub refused_outcome : Refused BerError → ℕ → DmOutcome
+refused_outcome (Error e) at = error_outcome (refusal_number (refusal e)) at
+refused_outcome (Incomplete (Size n)) at = incomplete_outcome n
+refused_outcome (Incomplete Unknown) at = error_outcome 0 at
+refused_outcome (Failure e) at = error_outcome 0 at
+refused_outcome OutOfMemory at = error_outcome 0 at
+
+-- the result of a reader of elements
+abbrev pub NodesAnswer : Type 0
+NodesAnswer = Result (Bor (List ℕ) × ℕ) (Refused BerError)
+
+-- its outcome, where the input has n octets, and an Error is at a place
+abbrev pub outcome_of : ℕ → NodesAnswer → ℕ → DmOutcome
+outcome_of n (Ok x) at = read_outcome x.1 (n - length x.0.now)
+outcome_of n (Err e) at = refused_outcome e at
+
+-- The outcome is that of a result which is exactly what i shows by DER, to depth d, and an Error has its place.
+abbrev pub ChecksDer : ℕ → List ℕ → DmOutcome → Type 0
+ChecksDer d i o = (found : NodesAnswer) × AnswersDerNodes d i found × (at : ℕ) × IsDerPlace d i found at
+    × (o ≡ outcome_of (length i) found at)
+
+-- And where it is Ok, the buffer keeps the elements, as far as there is room.
+abbrev pub ListsDer : ℕ → List ℕ → List DmElement → List DmElement → DmOutcome → Type 0
+ListsDer d i old new o = (found : NodesAnswer) × AnswersDerNodes d i found × (at : ℕ) × IsDerPlace d i found at
+    × (o ≡ outcome_of (length i) found at) × IfOk found (λ x. KeepsDerNodes slot_of d i x.0.now x.1 old new)
+
+-- The same by BER.
+abbrev pub ChecksBer : ℕ → List ℕ → DmOutcome → Type 0
+ChecksBer d i o = (found : NodesAnswer) × AnswersBerNodes d i found × (at : ℕ) × IsBerPlace d i found at
+    × (o ≡ outcome_of (length i) found at)
+
+abbrev pub ListsBer : ℕ → List ℕ → List DmElement → List DmElement → DmOutcome → Type 0
+ListsBer d i old new o = (found : NodesAnswer) × AnswersBerNodes d i found × (at : ℕ) × IsBerPlace d i found at
+    × (o ≡ outcome_of (length i) found at) × IfOk found (λ x. KeepsBerNodes slot_of d i x.0.now x.1 old new)
+
+-- The outcome is that of the first element, of which only the header is read, and by BER the framing.
+abbrev pub outcome_of_first : ℕ → AnyAnswer → DmOutcome
+outcome_of_first n (Ok x) = read_outcome 1 (n - length x.0.now)
+outcome_of_first n (Err e) = refused_outcome e 0
+
+abbrev pub FindsDer : List ℕ → DmOutcome → Type 0
+FindsDer i o = (found : AnyAnswer) × AnswersDerAny i found × (o ≡ outcome_of_first (length i) found)
+
+abbrev pub FindsBer : List ℕ → DmOutcome → Type 0
+FindsBer i o = (found : AnyAnswer) × AnswersAny i found × (o ≡ outcome_of_first (length i) found)

@@ -1,0 +1,101 @@
+//! Errors by numbers.
+ghost use Rattle.std.specs.Prelude.{◌≡◌};
+ghost use Rattle.der_base.specs.Refusal.{refusal};
+ghost use Rattle.dumarewhi_c.specs.ErrorNumbers.{constraint_number, number_of_result, refusal_number};
+
+use der_base::error::{BerError, DerConstraint};
+
+/// The number of an error.
+pub(crate) fn refusal_number(e: BerError) -> u32
+    ensures { result ≡ refusal_number (refusal e) }
+{
+    match e {
+        BerError::BerTypeError => 1,
+        BerError::BerValueError => 2,
+        BerError::BerMaxDepth => 3,
+        BerError::InvalidLength => 4,
+        BerError::InvalidTag => 5,
+        BerError::UnknownTag(_) => 6,
+        BerError::UnexpectedTag { .. } => 7,
+        BerError::UnexpectedClass { .. } => 8,
+        BerError::ConstructExpected => 9,
+        BerError::ConstructUnexpected => 10,
+        BerError::IntegerTooLarge => 11,
+        BerError::IntegerNegative => 12,
+        BerError::InvalidValue { .. } => 13,
+        BerError::StringInvalidCharset => 14,
+        BerError::InvalidDateTime => 15,
+        BerError::Unsupported => 16,
+        BerError::Incomplete(_) => 17,
+        BerError::NomError(_) => 18,
+        BerError::DerConstraintFailed(constraint) => constraint_number(constraint),
+    }
+}
+
+/// The number of a rule of DER that is broken.
+fn constraint_number(constraint: DerConstraint) -> u32
+    ensures { result ≡ constraint_number constraint }
+{
+    match constraint {
+        DerConstraint::IndefiniteLength => 32,
+        DerConstraint::LengthNotMinimal => 33,
+        DerConstraint::Constructed => 34,
+        DerConstraint::InvalidBoolean => 35,
+        DerConstraint::IntegerEmpty => 36,
+        DerConstraint::IntegerLeadingZeroes => 37,
+        DerConstraint::IntegerLeadingFF => 38,
+        DerConstraint::MissingTimeZone => 39,
+        DerConstraint::MissingSeconds => 40,
+        DerConstraint::FractionNotMinimal => 41,
+        DerConstraint::UnusedBitsNotZero => 42,
+        DerConstraint::SetOfOrder => 43,
+    }
+}
+
+/// 0 for an Ok, and the number of the error for an Err.
+pub(crate) fn number_of_result(found: Result<(), BerError>) -> u32
+    ensures { result ≡ number_of_result found }
+{
+    match found {
+        Ok(()) => 0,
+        Err(e) => refusal_number(e),
+    }
+}
+
+/// The text of an error's number. It is that of the error, without the values that an error keeps.
+pub(crate) fn error_text(number: u32) -> &'static [u8] {
+    match number {
+        0 => b"no error",
+        1 => b"wrong type",
+        2 => b"wrong value",
+        3 => b"maximum depth reached",
+        4 => b"invalid length",
+        5 => b"invalid tag",
+        6 => b"unknown tag",
+        7 => b"unexpected tag",
+        8 => b"unexpected class",
+        9 => b"constructed encoding expected",
+        10 => b"primitive encoding expected",
+        11 => b"integer too large",
+        12 => b"integer negative",
+        13 => b"invalid value",
+        14 => b"invalid character in string",
+        15 => b"invalid date or time",
+        16 => b"unsupported",
+        17 => b"item runs past the end of its container",
+        18 => b"parser fault",
+        32 => b"DER constraint failed: indefinite length",
+        33 => b"DER constraint failed: length not minimal",
+        34 => b"DER constraint failed: constructed",
+        35 => b"DER constraint failed: invalid boolean",
+        36 => b"DER constraint failed: integer empty",
+        37 => b"DER constraint failed: integer with leading zeroes",
+        38 => b"DER constraint failed: integer with leading ff",
+        39 => b"DER constraint failed: missing time zone",
+        40 => b"DER constraint failed: missing seconds",
+        41 => b"DER constraint failed: fraction not minimal",
+        42 => b"DER constraint failed: unused bits not zero",
+        43 => b"DER constraint failed: set out of order",
+        _ => b"unknown error",
+    }
+}
