@@ -1,0 +1,124 @@
+/* Reads BER and DER (ITU-T X.690). The readers are proved: the repository's README says what that means.
+ *
+ * No call allocates, keeps a pointer or has a state, so calls may run in several threads at a time.
+ *
+ * The caller owes this, and nothing checks it: each pointer may be read or written for the length that is
+ * passed beside it, is aligned for its type and is not NULL, not even with length 0; what is written does
+ * not overlap anything else that is passed; and the stack has room for max_depth levels of DM_LEVEL_OCTETS
+ * each, at most DM_MAX_DEPTH of them. Elements and texts that are written to may be uninitialised.
+ *
+ * Places are numbers of octets from the start of the input. */
+#ifndef DUMAREWHI_H
+#define DUMAREWHI_H
+
+#include <stddef.h>
+#include <stdint.h>
+
+#ifdef __cplusplus
+extern "C" {
+#endif
+
+/* One element of the input: its identifier octets (X.690 8.1.2), and where it is. */
+typedef struct dm_element {
+    size_t header;       /* where the identifier octets begin */
+    size_t content;      /* where the content octets begin */
+    size_t end;          /* where the content octets end; an end marker follows an indefinite length */
+    size_t inside;       /* how many of the elements that follow are inside this one, at any depth */
+    uint32_t number;     /* the tag number */
+    uint8_t tag_class;   /* one of enum dm_class */
+    uint8_t constructed; /* 1 if the content octets are elements, else 0 */
+    uint8_t definite;    /* 1 if the length is definite (8.1.3.3), 0 if it is indefinite (8.1.3.6) */
+    uint8_t reserved;    /* 0 */
+} dm_element;
+
+enum dm_class { DM_UNIVERSAL = 0, DM_APPLICATION = 1, DM_CONTEXT_SPECIFIC = 2, DM_PRIVATE = 3 };
+
+/* What a call found. */
+enum dm_status {
+    DM_OK = 0,        /* the input begins with an element */
+    DM_ERROR = 1,     /* a front of the input breaks a rule, whatever follows */
+    DM_INCOMPLETE = 2 /* the input is cut short: more octets may complete it */
+};
+
+/* Fields that the status does not name are 0. */
+typedef struct dm_outcome {
+    size_t elements; /* DM_OK: how many elements there are, even if the buffer has room for fewer */
+    size_t length;   /* DM_OK: how many octets they have; what follows is left */
+    size_t place;    /* DM_ERROR: where the innermost element begins that breaks the rule */
+    size_t missing;  /* DM_INCOMPLETE: how many octets are missing, as far as the input shows. dm_parse_der and
+                      * dm_check_der: if the content of a universal type is cut short, its whole length; then
+                      * dm_first_der finds how many are missing */
+    uint32_t status; /* one of enum dm_status */
+    uint32_t error;  /* DM_ERROR: the number of the error, for dm_error_text */
+} dm_outcome;
+
+/* A deeper max_depth is taken as this one. */
+#define DM_MAX_DEPTH 250
+
+/* How many octets of the stack a level takes at most. This is measured, and no proof says it. */
+#define DM_LEVEL_OCTETS 1024
+
+/* Lists the first element of the input and those inside it in preorder, by DER or by BER. The first `room`
+ * of them are written to the buffer, and the call reads on: with room 0 it counts. An element of another
+ * class than universal is listed, and nothing inside it: call again with its content. With another status
+ * than DM_OK it isn't said what the buffer holds. Returns the status. */
+uint32_t dm_parse_der(const uint8_t *input, size_t length, size_t max_depth, dm_element *elements, size_t room,
+                      dm_outcome *outcome);
+uint32_t dm_parse_ber(const uint8_t *input, size_t length, size_t max_depth, dm_element *elements, size_t room,
+                      dm_outcome *outcome);
+
+/* The same without a buffer. */
+uint32_t dm_check_der(const uint8_t *input, size_t length, size_t max_depth, dm_outcome *outcome);
+uint32_t dm_check_ber(const uint8_t *input, size_t length, size_t max_depth, dm_outcome *outcome);
+
+/* Finds how long the first element is, header and content, by its header (and by BER its framing). Nothing
+ * inside it is checked. With DM_OK `elements` is 1, and with DM_ERROR `place` is 0. Returns the status. */
+uint32_t dm_first_der(const uint8_t *input, size_t length, dm_outcome *outcome);
+uint32_t dm_first_ber(const uint8_t *input, size_t length, dm_outcome *outcome);
+
+/* Writes the first `room` octets of the text of an error, without a 0 after it. Returns the length of the text. */
+size_t dm_error_text(uint32_t error, uint8_t *text, size_t room);
+
+/* Values of content octets. Each returns 0 and writes the value, or returns the number of an error and
+ * writes nothing. */
+
+/* An INTEGER or an ENUMERATED, of any octets that spell it (8.3). No octets spell 0. */
+uint32_t dm_read_i64(const uint8_t *content, size_t length, int64_t *value);
+uint32_t dm_read_u64(const uint8_t *content, size_t length, uint64_t *value);
+
+/* A BOOLEAN (8.2): 0 or 1. */
+uint32_t dm_read_bool(const uint8_t *content, size_t length, uint8_t *value);
+
+/* An OBJECT IDENTIFIER (8.19) as arcs with points, such as 2.5.4.3. Writes the first `room` octets of the text,
+ * without a 0 after it, and its length to `needed`. No octets have no arcs, and an empty text. An error if a
+ * subidentifier has no last octet, or ten octets or more. */
+uint32_t dm_read_oid(const uint8_t *content, size_t length, uint8_t *text, size_t room, size_t *needed);
+
+/* Whether the octets are a text of the string type with this tag number (8.23). In their character sets: 18
+ * NumericString, 19 PrintableString, 22 IA5String, 26 VisibleString. As UTF-8: 7 ObjectDescriptor, 12 UTF8String,
+ * 20 T61String, 21 VideotexString, 25 GraphicString, 27 GeneralString. As UTF-16, high octet first: 30 BMPString.
+ * Another number is an error. */
+uint32_t dm_check_text(uint32_t number, const uint8_t *content, size_t length);
+
+/* The fields of a UTCTime (23) or a GeneralizedTime (24). */
+typedef struct dm_time {
+    uint32_t year;        /* of a UTCTime 1950 to 2049, by RFC 5280 4.1.2.5.1 */
+    uint32_t nanosecond;  /* 0 if there is no fraction */
+    uint8_t month;        /* 1 to 12 */
+    uint8_t day;          /* 1 to 31, whatever the month */
+    uint8_t hour;         /* 0 to 23 */
+    uint8_t minute;       /* 0 to 59 */
+    uint8_t second;       /* 0 to 59 */
+    uint8_t zone;         /* one of enum dm_zone */
+    int8_t zone_hours;    /* DM_OFFSET: hours from UTC, negative to the west */
+    int8_t zone_minutes;  /* DM_OFFSET: minutes, of the same sign */
+} dm_time;
+
+enum dm_zone { DM_LOCAL = 0, DM_UTC = 1, DM_OFFSET = 2 };
+
+uint32_t dm_read_time(uint32_t number, const uint8_t *content, size_t length, dm_time *time);
+
+#ifdef __cplusplus
+}
+#endif
+#endif

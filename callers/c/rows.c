@@ -1,0 +1,370 @@
+/* Inputs with the outcome that X.690 and the rules of this project give, of each call. */
+#include "dumarewhi.h"
+
+#include <stdio.h>
+#include <string.h>
+
+static int passed, failed;
+
+static void expect(int is_so, const char *call, const char *row) {
+    if (is_so) {
+        passed++;
+    } else {
+        failed++;
+        printf("rows: %s of %s\n", call, row);
+    }
+}
+
+static size_t octets_of(const char *hex, uint8_t *octets) {
+    size_t length = 0;
+    unsigned value;
+    for (; *hex != 0; hex++) {
+        if (*hex == ' ') continue;
+        if (sscanf(hex, "%2x", &value) != 1) break;
+        octets[length++] = (uint8_t)value;
+        hex++;
+    }
+    return length;
+}
+
+enum rules { DER, BER };
+
+struct row {
+    const char *hex;
+    enum rules rules;
+    size_t depth;
+    uint32_t status, error;
+    size_t first, second; /* elements and length, place and 0, or missing and 0 */
+};
+
+#define OK(elements, length) DM_OK, 0, elements, length
+#define FAULT(error, place) DM_ERROR, error, place, 0
+#define CUT(missing) DM_INCOMPLETE, 0, missing, 0
+
+static const struct row rows[] = {
+    /* X.690 8.2.2: TRUE. By DER true is ff alone (11.1). */
+    {"01 01 ff", DER, 50, OK(1, 3)},
+    {"01 01 ff", BER, 50, OK(1, 3)},
+    {"01 01 01", BER, 50, OK(1, 3)},
+    {"01 01 01", DER, 50, FAULT(35, 0)},
+    {"01 02 ff ff", BER, 50, FAULT(4, 0)},
+    {"21 01 ff", BER, 50, FAULT(10, 0)},
+    {"21 01 ff", DER, 50, FAULT(34, 0)},
+    /* 8.3.2: the fewest octets, by DER */
+    {"02 02 00 80", DER, 50, OK(1, 4)},
+    {"02 02 00 7f", DER, 50, FAULT(37, 0)},
+    {"02 02 ff 80", DER, 50, FAULT(38, 0)},
+    {"02 00", DER, 50, FAULT(36, 0)},
+    {"02 02 00 7f", BER, 50, OK(1, 4)},
+    /* 8.6.4.2: a BIT STRING of 44 bits; the constructed form isn't joined here */
+    {"03 07 04 0a 3b 5f 29 1c d0", DER, 50, OK(1, 9)},
+    {"03 07 04 0a 3b 5f 29 1c d1", DER, 50, FAULT(42, 0)},
+    {"03 01 08", DER, 50, FAULT(13, 0)},
+    {"23 80 03 03 00 0a 3b 03 05 04 5f 29 1c d0 00 00", BER, 50, FAULT(16, 0)},
+    /* 8.8: NULL */
+    {"05 00", DER, 50, OK(1, 2)},
+    {"05 01 00", DER, 50, FAULT(4, 0)},
+    /* 8.9.3: SEQUENCE {name "Smith", ok TRUE}, in each form of length */
+    {"30 0a 16 05 53 6d 69 74 68 01 01 ff", DER, 50, OK(3, 12)},
+    {"30 80 16 05 53 6d 69 74 68 01 01 ff 00 00", BER, 50, OK(3, 14)},
+    {"30 81 0a 16 05 53 6d 69 74 68 01 01 ff", BER, 50, OK(3, 13)},
+    {"30 81 0a 16 05 53 6d 69 74 68 01 01 ff", DER, 50, FAULT(33, 0)},
+    {"30 80 16 05 53 6d 69 74 68 01 01 ff 00 00", DER, 50, FAULT(32, 0)},
+    {"30 0a 16 05 53 6d 69 74 68 01 01 07", DER, 50, FAULT(35, 9)},
+    {"10 00", DER, 50, FAULT(9, 0)},
+    /* 8.14.3: tagged types; the content of another class is kept */
+    {"43 05 4a 6f 6e 65 73", DER, 50, OK(1, 7)},
+    {"a2 07 43 05 4a 6f 6e 65 73", DER, 50, OK(1, 9)},
+    {"67 07 43 05 4a 6f 6e 65 73", DER, 50, OK(1, 9)},
+    {"82 05 4a 6f 6e 65 73", DER, 50, OK(1, 7)},
+    /* 8.19.5 and 8.20.5: identifiers */
+    {"06 03 88 37 03", DER, 50, OK(1, 5)},
+    {"0d 04 c2 7b 03 02", DER, 50, OK(1, 6)},
+    /* 8.21.5.4: the VisibleString "Jones", and its constructed form, which isn't joined */
+    {"1a 05 4a 6f 6e 65 73", DER, 50, OK(1, 7)},
+    {"3a 09 04 03 4a 6f 6e 04 02 65 73", BER, 50, FAULT(16, 0)},
+    /* 8.25, 11.8: times */
+    {"17 0d 39 31 30 35 30 36 32 33 34 35 34 30 5a", DER, 50, OK(1, 15)},
+    {"17 0b 39 31 30 35 30 36 32 33 34 35 5a", DER, 50, FAULT(40, 0)},
+    {"17 0b 39 31 30 35 30 36 32 33 34 35 5a", BER, 50, OK(1, 13)},
+    {"17 11 39 31 30 35 30 36 31 36 34 35 34 30 2d 30 37 30 30", DER, 50, FAULT(39, 0)},
+    {"18 11 31 39 39 32 30 37 32 32 31 33 32 31 30 30 2e 30 5a", DER, 50, FAULT(41, 0)},
+    {"18 11 31 39 39 32 30 37 32 32 31 33 32 31 30 30 2e 33 5a", DER, 50, OK(1, 19)},
+    {"17 0d 39 31 31 33 30 36 32 33 34 35 34 30 5a", DER, 50, FAULT(15, 0)},
+    /* 8.23: character sets */
+    {"13 01 2a", DER, 50, FAULT(14, 0)},
+    {"0c 02 c3 28", BER, 50, FAULT(14, 0)},
+    {"1e 01 41", BER, 50, FAULT(16, 0)},
+    /* 8.1.2.4: tag numbers from 31 on; a first octet of 80, and numbers above 2^32-1 */
+    {"1f 1f 00", DER, 50, OK(1, 3)},
+    {"9f 8f ff ff ff 7f 00", DER, 50, OK(1, 7)},
+    {"9f 90 80 80 80 00 00", DER, 50, FAULT(5, 0)},
+    /* 8.1.3.5 c: the length octet ff is reserved */
+    {"04 ff", BER, 50, FAULT(4, 0)},
+    /* depth */
+    {"30 04 30 02 05 00", DER, 3, OK(3, 6)},
+    {"30 04 30 02 05 00", DER, 2, FAULT(3, 4)},
+    {"05 00", DER, 0, FAULT(3, 0)},
+    /* an item runs past its list, whatever follows */
+    {"30 03 02 02 01 00 00", DER, 50, FAULT(17, 2)},
+    /* cut short */
+    {"", DER, 50, CUT(1)},
+    {"", BER, 50, CUT(1)},
+    {"30", DER, 50, CUT(1)},
+    {"04 05 61 62", BER, 50, CUT(3)},
+    {"30 80", BER, 50, CUT(1)},
+    {"30 82 01", DER, 50, CUT(1)},
+    /* what follows is left */
+    {"05 00 05 00 ff", DER, 50, OK(1, 2)},
+};
+
+static int is_outcome(const struct row *row, const dm_outcome *o, int is_first) {
+    dm_outcome want;
+    memset(&want, 0, sizeof want);
+    want.status = row->status;
+    want.error = row->error;
+    if (row->status == DM_OK) {
+        want.elements = is_first ? 1 : row->first;
+        want.length = row->second;
+    }
+    if (row->status == DM_ERROR) want.place = row->first;
+    if (row->status == DM_INCOMPLETE) want.missing = row->first;
+    return memcmp(&want, o, sizeof want) == 0;
+}
+
+static void test_rows(void) {
+    for (size_t i = 0; i < sizeof rows / sizeof *rows; i++) {
+        const struct row *row = &rows[i];
+        uint8_t input[64];
+        dm_element elements[8];
+        dm_outcome listed, checked, first;
+        size_t length = octets_of(row->hex, input);
+        uint32_t status = row->rules == DER ? dm_parse_der(input, length, row->depth, elements, 8, &listed)
+                                            : dm_parse_ber(input, length, row->depth, elements, 8, &listed);
+        expect(status == row->status && is_outcome(row, &listed, 0), "dm_parse", row->hex);
+        status = row->rules == DER ? dm_check_der(input, length, row->depth, &checked)
+                                   : dm_check_ber(input, length, row->depth, &checked);
+        expect(status == row->status && is_outcome(row, &checked, 0), "dm_check", row->hex);
+        if (row->status == DM_OK) {
+            status = row->rules == DER ? dm_first_der(input, length, &first) : dm_first_ber(input, length, &first);
+            expect(status == DM_OK && is_outcome(row, &first, 1), "dm_first", row->hex);
+        }
+    }
+}
+
+/* Of the first element alone: its header is wrong, or it is cut short, or its content isn't looked at. */
+static const struct row firsts[] = {
+    {"30 03 ff ff ff 07", DER, 0, OK(1, 5)},
+    {"30 81 03 ff ff ff", DER, 0, FAULT(33, 0)},
+    {"30 81 03 ff ff ff", BER, 0, OK(1, 6)},
+    {"30 80 05 00 00 00 07", BER, 0, OK(1, 6)},
+    {"30 80 05 00 00 00", DER, 0, FAULT(32, 0)},
+    {"04 03 00", DER, 0, CUT(2)},
+    {"24 80 04 03 00", BER, 0, CUT(2)},
+};
+
+static void test_firsts(void) {
+    for (size_t i = 0; i < sizeof firsts / sizeof *firsts; i++) {
+        const struct row *row = &firsts[i];
+        uint8_t input[64];
+        dm_outcome first;
+        size_t length = octets_of(row->hex, input);
+        uint32_t status = row->rules == DER ? dm_first_der(input, length, &first) : dm_first_ber(input, length, &first);
+        expect(status == row->status && is_outcome(row, &first, 1), "dm_first", row->hex);
+    }
+}
+
+/* X.690 8.9.3 in BER, with each place; the buffer has room for two of three. */
+static void test_places(void) {
+    uint8_t input[64];
+    size_t length = octets_of("30 80 16 81 05 53 6d 69 74 68 01 01 ff 00 00", input);
+    dm_element want[3] = {
+        {0, 2, 13, 2, 16, DM_UNIVERSAL, 1, 0, 0},
+        {2, 5, 10, 0, 22, DM_UNIVERSAL, 0, 1, 0},
+        {10, 12, 13, 0, 1, DM_UNIVERSAL, 0, 1, 0},
+    };
+    for (size_t room = 0; room <= 3; room++) {
+        dm_element elements[3];
+        dm_outcome outcome;
+        memset(elements, 0xaa, sizeof elements);
+        expect(dm_parse_ber(input, length, 50, elements, room, &outcome) == DM_OK, "dm_parse_ber", "8.9.3");
+        expect(outcome.elements == 3 && outcome.length == 15, "the count", "8.9.3");
+        expect(memcmp(elements, want, room * sizeof *want) == 0, "the places", "8.9.3");
+        for (size_t i = room; i < 3; i++) expect(elements[i].header == (size_t)-1 / 255 * 0xaa, "no room", "8.9.3");
+    }
+}
+
+/* Integers (8.3): the octets, then the results and the numbers; UINT32_MAX stands for no call. */
+static const struct {
+    const char *hex;
+    uint32_t is_signed, is_unsigned;
+    int64_t value;
+} integers[] = {
+    {"", 0, 0, 0},
+    {"00", 0, 0, 0},
+    {"7f", 0, 0, 127},
+    {"00 80", 0, 0, 128},
+    {"80", 0, 12, -128},
+    {"ff 7f", 0, 12, -129},
+    {"00 00 00 00 00 00 00 00 00 05", 0, 0, 5},
+    {"7f ff ff ff ff ff ff ff", 0, 0, INT64_MAX},
+    {"80 00 00 00 00 00 00 00", 0, 12, INT64_MIN},
+    {"00 ff ff ff ff ff ff ff ff", 11, 0, -1},
+    {"ff 7f ff ff ff ff ff ff ff", 11, 12, 0},
+    {"01 00 00 00 00 00 00 00 00", 11, 11, 0},
+};
+
+static void test_integers(void) {
+    for (size_t i = 0; i < sizeof integers / sizeof *integers; i++) {
+        uint8_t content[16];
+        size_t length = octets_of(integers[i].hex, content);
+        int64_t number = 77;
+        uint64_t natural = 77;
+        uint32_t result = dm_read_i64(content, length, &number);
+        expect(result == integers[i].is_signed && number == (result == 0 ? integers[i].value : 77), "dm_read_i64",
+               integers[i].hex);
+        result = dm_read_u64(content, length, &natural);
+        expect(result == integers[i].is_unsigned && natural == (result == 0 ? (uint64_t)integers[i].value : 77),
+               "dm_read_u64", integers[i].hex);
+    }
+}
+
+/* Booleans (8.2): the octets, the result, the value. */
+static void test_booleans(void) {
+    static const struct {
+        const char *hex;
+        uint32_t result;
+        uint8_t value;
+    } booleans[] = {{"00", 0, 0}, {"ff", 0, 1}, {"01", 0, 1}, {"", 4, 7}, {"00 00", 4, 7}};
+    for (size_t i = 0; i < sizeof booleans / sizeof *booleans; i++) {
+        uint8_t content[4], value = 7;
+        size_t length = octets_of(booleans[i].hex, content);
+        expect(dm_read_bool(content, length, &value) == booleans[i].result && value == booleans[i].value,
+               "dm_read_bool", booleans[i].hex);
+    }
+}
+
+/* Identifiers: 8.19.5, RFC 5280 and RFC 3279; the greatest subidentifier of nine octets; two that are none. */
+static const struct {
+    const char *hex;
+    const char *text;
+} identifiers[] = {
+    {"88 37 03", "2.999.3"},
+    {"55 04 03", "2.5.4.3"},
+    {"2a 86 48 86 f7 0d 01 01 0b", "1.2.840.113549.1.1.11"},
+    {"2b 06 01 02 01 01 01 00", "1.3.6.1.2.1.1.1.0"},
+    {"00", "0.0"},
+    {"27", "0.39"},
+    {"28", "1.0"},
+    {"7f", "2.47"},
+    {"80 01", "0.1"},
+    {"2a ff ff ff ff ff ff ff ff 7f", "1.2.9223372036854775807"},
+    {"", ""},
+    {"2a 86", NULL},
+    {"2a 81 80 80 80 80 80 80 80 80 00", NULL},
+};
+
+static void test_identifiers(void) {
+    for (size_t i = 0; i < sizeof identifiers / sizeof *identifiers; i++) {
+        uint8_t content[16];
+        size_t length = octets_of(identifiers[i].hex, content);
+        for (size_t room = 0; room <= 40; room++) {
+            uint8_t text[41];
+            size_t needed = 77;
+            memset(text, '#', sizeof text);
+            uint32_t result = dm_read_oid(content, length, text, room, &needed);
+            size_t written = 0;
+            if (identifiers[i].text == NULL) {
+                expect(result == 2 && needed == 77, "dm_read_oid", identifiers[i].hex);
+            } else {
+                size_t size = strlen(identifiers[i].text);
+                written = size < room ? size : room;
+                expect(result == 0 && needed == size && memcmp(text, identifiers[i].text, written) == 0, "dm_read_oid",
+                       identifiers[i].hex);
+            }
+            for (size_t j = written; j < sizeof text; j++) {
+                if (text[j] != '#') expect(0, "dm_read_oid past its room", identifiers[i].hex);
+            }
+        }
+    }
+}
+
+/* Texts (8.23): the type, the octets, the result. */
+static void test_texts(void) {
+    static const struct {
+        uint32_t number;
+        const char *hex;
+        uint32_t result;
+    } texts[] = {
+        {12, "c3 a9", 0},  {12, "c3 28", 14}, {18, "31 20", 0}, {18, "41", 14},    {19, "41 2d", 0}, {19, "2a", 14},
+        {22, "7f", 0},     {22, "80", 14},    {26, "7e", 0},    {26, "7f", 14},    {20, "41", 0},    {27, "ff", 14},
+        {30, "00 41", 0},  {30, "41", 16},    {30, "d8 00", 14}, {30, "d8 00 dc 00", 0}, {28, "00", 1}, {2, "00", 1},
+        {7, "", 0},        {0, "", 1},
+    };
+    for (size_t i = 0; i < sizeof texts / sizeof *texts; i++) {
+        uint8_t content[16];
+        size_t length = octets_of(texts[i].hex, content);
+        expect(dm_check_text(texts[i].number, content, length) == texts[i].result, "dm_check_text", texts[i].hex);
+    }
+}
+
+/* Times: the examples of X.690 11.7.5 and 11.8.4, RFC 5280 4.1.2.5.1's years, and zones. */
+static void test_times(void) {
+    static const struct {
+        uint32_t number;
+        const char *text;
+        uint32_t result;
+        dm_time time;
+    } times[] = {
+        {24, "19920521000000Z", 0, {1992, 0, 5, 21, 0, 0, 0, DM_UTC, 0, 0}},
+        {24, "19920722132100.3Z", 0, {1992, 300000000, 7, 22, 13, 21, 0, DM_UTC, 0, 0}},
+        {24, "19920520240000Z", 15, {0, 0, 0, 0, 0, 0, 0, 0, 0, 0}},
+        {24, "198511062106", 0, {1985, 0, 11, 6, 21, 6, 0, DM_LOCAL, 0, 0}},
+        {23, "920521000000Z", 0, {1992, 0, 5, 21, 0, 0, 0, DM_UTC, 0, 0}},
+        {23, "491231235959Z", 0, {2049, 0, 12, 31, 23, 59, 59, DM_UTC, 0, 0}},
+        {23, "500101000000Z", 0, {1950, 0, 1, 1, 0, 0, 0, DM_UTC, 0, 0}},
+        {23, "9105061645-0700", 0, {1991, 0, 5, 6, 16, 45, 0, DM_OFFSET, -7, 0}},
+        {23, "9105061645+0530", 0, {1991, 0, 5, 6, 16, 45, 0, DM_OFFSET, 5, 30}},
+        {23, "9105061645", 15, {0, 0, 0, 0, 0, 0, 0, 0, 0, 0}},
+        {24, "9105061645Z", 15, {0, 0, 0, 0, 0, 0, 0, 0, 0, 0}},
+        {22, "920521000000Z", 15, {0, 0, 0, 0, 0, 0, 0, 0, 0, 0}},
+    };
+    for (size_t i = 0; i < sizeof times / sizeof *times; i++) {
+        dm_time time;
+        memset(&time, 0, sizeof time);
+        expect(dm_read_time(times[i].number, (const uint8_t *)times[i].text, strlen(times[i].text), &time)
+                       == times[i].result
+                   && memcmp(&time, &times[i].time, sizeof time) == 0,
+               "dm_read_time", times[i].text);
+    }
+}
+
+static void test_error_texts(void) {
+    for (size_t i = 0; i < sizeof rows / sizeof *rows; i++) {
+        uint8_t text[80], cut[4];
+        size_t size = dm_error_text(rows[i].error, text, sizeof text);
+        expect(size >= 8 && size < sizeof text && (size != 13 || memcmp(text, "unknown error", 13) != 0),
+               "dm_error_text", rows[i].hex);
+        expect(dm_error_text(rows[i].error, cut, 4) == size && memcmp(text, cut, 4) == 0, "dm_error_text cut",
+               rows[i].hex);
+    }
+    uint8_t text[80];
+    expect(dm_error_text(35, text, 80) == 38 && memcmp(text, "DER constraint failed: invalid boolean", 38) == 0,
+           "dm_error_text", "35");
+    expect(dm_error_text(14, text, 80) == 27 && memcmp(text, "invalid character in string", 27) == 0,
+           "dm_error_text", "14");
+}
+
+int main(void) {
+    test_rows();
+    test_firsts();
+    test_places();
+    test_integers();
+    test_booleans();
+    test_identifiers();
+    test_texts();
+    test_times();
+    test_error_texts();
+    printf("rows: %d passed, %d failed\n", passed, failed);
+    return failed != 0;
+}

@@ -1,0 +1,73 @@
+/* Reads inputs that are nested to the greatest depth in a thread with the stack that the header names. With less
+ * than the readers take the program ends by a signal. */
+#define _POSIX_C_SOURCE 200809L
+#include "dumarewhi.h"
+
+#include <pthread.h>
+#include <stdio.h>
+#include <string.h>
+
+static uint8_t definite[1 << 12], indefinite[1 << 12];
+static size_t definite_length, indefinite_length;
+
+/* Lists in lists, from the inside out, with lengths of DER. */
+static void make_inputs(void) {
+    size_t at = sizeof definite;
+    for (size_t level = 0; level < DM_MAX_DEPTH; level++) {
+        size_t size = sizeof definite - at;
+        if (size < 128) {
+            definite[--at] = (uint8_t)size;
+        } else if (size < 256) {
+            definite[--at] = (uint8_t)size;
+            definite[--at] = 0x81;
+        } else {
+            definite[--at] = (uint8_t)(size & 255);
+            definite[--at] = (uint8_t)(size >> 8);
+            definite[--at] = 0x82;
+        }
+        definite[--at] = 0x30;
+    }
+    definite_length = sizeof definite - at;
+    memmove(definite, definite + at, definite_length);
+    /* Indefinite lengths, as many as may be nested, and lists of definite lengths inside the last. */
+    size_t opened = 49;
+    for (size_t level = 0; level < opened; level++) {
+        indefinite[indefinite_length++] = 0x30;
+        indefinite[indefinite_length++] = 0x80;
+    }
+    uint8_t inner[] = {0x30, 0x06, 0x30, 0x04, 0x30, 0x02, 0x05, 0x00};
+    memcpy(indefinite + indefinite_length, inner, sizeof inner);
+    indefinite_length += sizeof inner + 2 * opened;
+}
+
+static void *read_all(void *failed) {
+    dm_element elements[4];
+    dm_outcome outcome;
+    int *faults = failed;
+    *faults += dm_parse_der(definite, definite_length, DM_MAX_DEPTH, elements, 4, &outcome) != DM_OK;
+    *faults += outcome.elements != DM_MAX_DEPTH;
+    *faults += dm_parse_ber(definite, definite_length, DM_MAX_DEPTH, elements, 4, &outcome) != DM_OK;
+    *faults += dm_check_der(definite, definite_length, (size_t)-1, &outcome) != DM_OK;
+    *faults += dm_check_ber(definite, definite_length, (size_t)-1, &outcome) != DM_OK;
+    *faults += dm_check_der(definite, definite_length, DM_MAX_DEPTH - 1, &outcome) != DM_ERROR || outcome.error != 3;
+    *faults += dm_parse_ber(indefinite, indefinite_length, DM_MAX_DEPTH, elements, 4, &outcome) != DM_OK;
+    *faults += outcome.elements != 53;
+    *faults += dm_first_ber(indefinite, indefinite_length, &outcome) != DM_OK;
+    return NULL;
+}
+
+int main(void) {
+    pthread_attr_t attributes;
+    pthread_t thread;
+    int failed = 0;
+    make_inputs();
+    pthread_attr_init(&attributes);
+    /* What a thread takes for itself, and a system's least, is on top. */
+    if (pthread_attr_setstacksize(&attributes, (size_t)DM_MAX_DEPTH * DM_LEVEL_OCTETS + 32768) != 0
+        || pthread_create(&thread, &attributes, read_all, &failed) != 0 || pthread_join(thread, NULL) != 0) {
+        printf("stack: no thread\n");
+        return 2;
+    }
+    printf("stack: %d failed, %d levels in %d octets\n", failed, DM_MAX_DEPTH, DM_MAX_DEPTH * DM_LEVEL_OCTETS);
+    return failed != 0;
+}

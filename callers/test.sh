@@ -1,0 +1,175 @@
+#!/usr/bin/env bash
+# Tests what C and Rust call, over the libraries that `rt ci` leaves built. What the machine has no tool for is said
+# and left out. DUMAREWHI_LIB=FOLDER takes libdumarewhi_c.a from there, in place of building it.
+set -uo pipefail
+cd "$(dirname "$0")"
+room=$(mktemp -d)
+trap 'rm -rf "$room"' EXIT
+passed=0
+failed=0
+: > "$room/in"
+
+# says NAME COMMAND..: the command succeeds
+says() {
+    local name=$1
+    shift
+    if "$@" > "$room/log" 2>&1; then
+        passed=$((passed + 1))
+        echo "ok: $name${shown:+: $(tail -n 1 "$room/log")}"
+    else
+        failed=$((failed + 1))
+        echo "FAILED: $name"
+        tail -n 20 "$room/log"
+    fi
+}
+
+# prints NAME STATUS TEXT COMMAND..: the command reads $room/in, writes exactly this text, and ends with this status. What
+# it tells of errors is in $room/errors
+prints() {
+    local name=$1 status=$2 text=$3
+    shift 3
+    "$@" < "$room/in" > "$room/out" 2> "$room/errors"
+    local ended=$?
+    if [ "$ended" = "$status" ] && [ "$(cat "$room/out")" = "$text" ]; then
+        passed=$((passed + 1))
+        echo "ok: $name"
+    else
+        failed=$((failed + 1))
+        echo "FAILED: $name: status $ended"
+        diff <(echo "$text") "$room/out" | head -n 20
+        cat "$room/errors"
+    fi
+}
+
+has() { command -v "$1" > /dev/null && return 0; echo "left out: $2 (there is no $1)"; return 1; }
+
+octets() { printf "%b" "$(echo "$1" | tr -d ' \n' | sed 's/../\\x&/g')"; }
+
+if [ -n "${DUMAREWHI_LIB:-}" ]; then
+    archive=$DUMAREWHI_LIB/libdumarewhi_c.a
+else
+    archive=$room/libdumarewhi_c.a
+    says "the archive is built" ./archive.sh "$archive"
+fi
+[ -f "$archive" ] || { echo "callers: $passed passed, $((failed + 1)) failed"; exit 1; }
+
+has nm "undefined symbols" && says "the archive needs no other library" bash -c "! nm -u '$archive' | grep ' U '"
+
+compile() { cc -std=c99 -Wall -Wextra -Werror -O2 "${@:3}" -Ic/include "c/$1.c" "$archive" -o "$room/$2"; }
+
+run_c() {
+    for name in first tree certificate snmp count layout rows; do says "$name.c compiles" compile $name $name; done
+    says "stack.c compiles" compile stack stack -pthread
+    shown=yes
+    for name in layout rows stack; do says "$name" "$room/$name"; done
+    shown=
+
+    prints "first" 0 "$(printf 'type 16, octets 2 to 8\ntype 2, octets 4 to 5\ntype 1, octets 7 to 8')" "$room/first"
+
+    # X.690 8.9.3 in BER, and what follows it
+    octets "30 80 16 05 53 6d 69 74 68 01 01 ff 00 00 07" > "$room/smith"
+    prints "tree by BER" 0 '     0 [universal 16] 10 octets, indefinite
+     2   [universal 22] "Smith"
+     9   [universal 1] true
+3 elements in 14 octets, 1 octets follow' "$room/tree" ber "$room/smith"
+    prints "tree by DER" 1 "" "$room/tree" der "$room/smith"
+    says "tree tells why" grep -q "^at 0: DER constraint failed: indefinite length$" "$room/errors"
+
+    for _ in $(seq 2000); do octets "30 0a 16 05 53 6d 69 74 68 01 01 ff"; done > "$room/many"
+    prints "count" 0 "6000 objects, 2000 of them outermost, in 24000 octets" "$room/count" der "$room/many"
+
+    # Two requests of RFC 1157, the second with a length of indefinite form
+    octets "30 26 02 01 00 04 06 70 75 62 6c 69 63 a0 19 02 01 2a 02 01 00 02 01 00 30 0e 30 0c 06 08 2b 06 01 02 01 01
+        01 00 05 00" > "$room/in"
+    octets "30 80 02 01 01 04 06 70 75 62 6c 69 63 a1 19 02 01 2b 02 01 00 02 01 00 30 0e 30 0c 06 08 2b 06 01 02 01 01
+        03 00 05 00 00 00" >> "$room/in"
+    cp "$room/in" "$room/messages"
+    prints "SNMP" 0 "version 0, community public: get 42 1.3.6.1.2.1.1.1.0
+version 1, community public: get-next 43 1.3.6.1.2.1.1.3.0" "$room/snmp"
+    head -c 81 "$room/messages" > "$room/in"
+    prints "SNMP that is cut short" 1 "version 0, community public: get 42 1.3.6.1.2.1.1.1.0" "$room/snmp"
+    says "SNMP tells what is missing" grep -q "^the stream ends within a message, 1 octets are missing$" "$room/errors"
+    : > "$room/in"
+    prints "SNMP of no octets" 0 "" "$room/snmp"
+    { head -c 3 "$room/messages"; sleep 0.2; tail -c +4 "$room/messages"; } | "$room/snmp" > "$room/out"
+    says "SNMP that comes in pieces" grep -q "get-next 43" "$room/out"
+}
+
+# The serial number, the dates and how many of the machine's certificates were read are compared with openssl's.
+run_certificates() {
+    local read=0 wrong=0 name
+    for name in $(find /etc/ssl/certs /usr/share/ca-certificates -name '*.crt' 2> /dev/null | head -n "$1"); do
+        openssl x509 -in "$name" -outform DER -out "$room/certificate.der" 2> /dev/null || continue
+        local said serial end
+        said=$(openssl x509 -in "$name" -noout -serial -enddate)
+        serial=$(echo "$said" | sed -n 's/serial=//p' | tr A-F a-f)
+        end=$(date -u -d "$(echo "$said" | sed -n 's/notAfter=//p')" "+%Y-%m-%d %H:%M:%S")
+        if "$room/certificate" < "$room/certificate.der" > "$room/fields" \
+            && grep -qE "^serial: (00)?$serial$" "$room/fields" && grep -q "^not after: $end$" "$room/fields"; then
+            read=$((read + 1))
+        else
+            wrong=$((wrong + 1))
+            echo "$name"
+        fi
+    done
+    echo "$read certificates as openssl reads them, $wrong not"
+    [ "$wrong" = 0 ] && [ "$read" -gt 0 ]
+}
+
+run_hostile() {
+    local inputs=$1
+    octets "30 80 30 80 16 05 53 6d 69 74 68 01 01 ff 00 00 04 03 61 62 63 30 03 02 01 05 a0 80 05 00 00 00 31 80 06 03 55
+        04 03 17 0d 39 32 30 35 32 31 30 30 30 30 30 30 5a 03 02 04 f0 0c 02 c3 a9 00 00 1e 02 00 41 00 00" > "$room/ber"
+    "$room/$2" "$room/ber" "$inputs" || return 1
+    if [ -f "$room/certificate.der" ]; then "$room/$2" "$room/certificate.der" "$inputs" || return 1; fi
+}
+
+if has cc "all of C"; then
+    run_c
+    if [ -n "$(find /usr/share/ca-certificates -name '*.crt' 2> /dev/null | head -n 1)" ]; then
+        if has openssl "certificates"; then
+            shown=yes
+            says "certificates" run_certificates 100
+            shown=
+        fi
+    else
+        echo "left out: certificates (there are no ca-certificates)"
+    fi
+    if echo 'int main(void) { return 0; }' | cc -x c -fsanitize=address,undefined - -o "$room/sanitized" 2> /dev/null; then
+        says "hostile.c compiles" compile hostile hostile -g -fsanitize=address,undefined -fno-sanitize-recover=all
+        shown=yes
+        says "damaged inputs" run_hostile 40000 hostile
+        shown=
+    else
+        echo "left out: damaged inputs under sanitizers (cc has no -fsanitize=address,undefined)"
+    fi
+    # The sanitizers see the program, and valgrind each access of the library too.
+    if has valgrind "damaged inputs under valgrind"; then
+        says "hostile.c compiles" compile hostile plain -g
+        shown=yes
+        run_valgrind() { run_hostile 250 "checked"; }
+        printf '#!/bin/sh\nexec valgrind -q --error-exitcode=9 "%s/plain" "$@"\n' "$room" > "$room/checked"
+        chmod +x "$room/checked"
+        says "damaged inputs under valgrind" run_valgrind
+        shown=
+    fi
+    if grep -q '^```c$' ../README.md; then
+        says "README has the lines of first.c" diff <(awk '/^```c$/ {on = 1; next} /^```$/ {on = 0} on' ../README.md) c/first.c
+    else
+        echo "left out: README's lines of C (it has none)"
+    fi
+fi
+
+if [ -d rust ]; then
+    if has cargo "all of Rust"; then
+        shown=yes
+        run_cargo() { DUMAREWHI_LIB=$(dirname "$archive") CARGO_TARGET_DIR=$room/target cargo "$@" 2>&1; }
+        says "cargo test" run_cargo test --offline --quiet --manifest-path rust/Cargo.toml
+        cargo clippy --version > /dev/null 2>&1 \
+            && says "cargo clippy" run_cargo clippy --offline --quiet --manifest-path rust/Cargo.toml -- -D warnings
+        shown=
+    fi
+fi
+
+echo "callers: $passed passed, $failed failed"
+[ "$failed" = 0 ]
