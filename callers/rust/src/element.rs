@@ -1,0 +1,271 @@
+//! Elements in a buffer of the caller's, without memory.
+use crate::error::{ErrorKind, Reason, Result};
+use crate::ffi::{self, Element, Outcome};
+use crate::{Class, Error, Tag};
+use core::ops::Range;
+
+/// How deep SEQUENCE and SET may nest, unless [`Rules::with_max_depth`] changes it.
+pub const DEFAULT_DEPTH: usize = 50;
+
+/// A deeper limit is taken as this one.
+pub const MAX_DEPTH: usize = ffi::MAX_DEPTH;
+
+/// The rules of an encoding, and how deep SEQUENCE and SET may nest.
+///
+/// Its calls read the first element of an input. What follows it is left to the caller.
+///
+/// ```
+/// use dumarewhi::Rules;
+///
+/// // A SEQUENCE of indefinite length (X.690 8.1.3.6) with a NULL, and another NULL.
+/// let input = [0x30, 0x80, 0x05, 0x00, 0x00, 0x00, 0x05, 0x00];
+/// let found = Rules::BER.check(&input)?;
+/// assert_eq!((found.elements, found.length), (2, 6));
+/// assert!(Rules::DER.check(&input).is_err());
+/// assert!(Rules::BER.with_max_depth(1).check(&input).is_err());
+/// # Ok::<(), dumarewhi::Error>(())
+/// ```
+#[derive(Clone, Copy, Debug, PartialEq, Eq, Hash)]
+pub struct Rules {
+    der: bool,
+    max_depth: usize,
+}
+
+/// What the first element of an input has.
+#[derive(Clone, Copy, Debug, PartialEq, Eq, Hash)]
+pub struct Found {
+    /// How many elements there are: itself and those that are inside it.
+    pub elements: usize,
+    /// How many octets it has, its header and an end marker among them.
+    pub length: usize,
+}
+
+impl Rules {
+    /// The Basic Encoding Rules (X.690 clause 8), to [`DEFAULT_DEPTH`].
+    pub const BER: Rules = Rules {
+        der: false,
+        max_depth: DEFAULT_DEPTH,
+    };
+
+    /// The Distinguished Encoding Rules (X.690 clauses 8, 10 and 11), to [`DEFAULT_DEPTH`].
+    pub const DER: Rules = Rules {
+        der: true,
+        max_depth: DEFAULT_DEPTH,
+    };
+
+    /// The same rules with another depth: 1 allows a SEQUENCE without elements. The reader needs stack for
+    /// each level. More than [`MAX_DEPTH`] is taken as that.
+    pub const fn with_max_depth(self, max_depth: usize) -> Rules {
+        Rules {
+            der: self.der,
+            max_depth,
+        }
+    }
+
+    /// How deep SEQUENCE and SET may nest.
+    pub const fn max_depth(self) -> usize {
+        self.max_depth
+    }
+
+    /// Whether the rules are those of DER.
+    pub const fn is_der(self) -> bool {
+        self.der
+    }
+
+    /// Checks the first element, and counts those inside it.
+    pub fn check(self, input: &[u8]) -> Result<Found> {
+        self.found(ffi::check(self.der, input, self.max_depth), input)
+    }
+
+    /// Lists the first element and those inside it in preorder. The first of them are written to the buffer,
+    /// as many as it has room for. [`Found::elements`] is how many there are, room or not.
+    pub fn list(self, input: &[u8], elements: &mut [Element]) -> Result<Found> {
+        self.found(ffi::list(self.der, input, self.max_depth, elements), input)
+    }
+
+    /// Finds how many octets the first element has, by its header alone (and by its framing, if its length is
+    /// indefinite). Nothing inside it is checked.
+    ///
+    /// ```
+    /// use dumarewhi::Rules;
+    ///
+    /// assert_eq!(Rules::DER.first_length(&[0x04, 0x02, 0x61, 0x62, 0x05])?, 4);
+    /// let error = Rules::DER.first_length(&[0x04, 0x02, 0x61]).unwrap_err();
+    /// assert_eq!(error.missing(), Some(1));
+    /// # Ok::<(), dumarewhi::Error>(())
+    /// ```
+    pub fn first_length(self, input: &[u8]) -> Result<usize> {
+        found(ffi::first(self.der, input), input).map(|found| found.length)
+    }
+
+    /// The result that an outcome of reading the whole element stands for. If the input is cut short, the
+    /// outcome may count octets as missing that are there. The framing counts those that are missing.
+    pub(crate) fn found(self, outcome: Outcome, input: &[u8]) -> Result<Found> {
+        match found(outcome, input) {
+            Err(error) if error.is_incomplete() => Err(self.first_length(input).err().unwrap_or(error)),
+            result => result,
+        }
+    }
+
+    /// The same rules for what is inside an element.
+    pub(crate) fn inside(self) -> Rules {
+        self.with_max_depth(self.max_depth.min(MAX_DEPTH).saturating_sub(1))
+    }
+}
+
+/// The result that an outcome stands for.
+fn found(outcome: Outcome, input: &[u8]) -> Result<Found> {
+    match outcome.status {
+        ffi::OK => Ok(Found {
+            elements: outcome.elements,
+            length: outcome.length,
+        }),
+        ffi::INCOMPLETE => Err(Error::new(
+            ErrorKind::Incomplete {
+                missing: outcome.missing,
+            },
+            input.len(),
+        )),
+        _ => Err(Error::new(
+            ErrorKind::Malformed(Reason(outcome.error)),
+            outcome.place,
+        )),
+    }
+}
+
+/// An error if octets follow an element of this length.
+pub(crate) fn whole(length: usize, input: &[u8]) -> Result<()> {
+    if length < input.len() {
+        return Err(Error::new(ErrorKind::TrailingData, length));
+    }
+    Ok(())
+}
+
+fn check(rules: Rules, input: &[u8]) -> Result<usize> {
+    let found = rules.check(input)?;
+    whole(found.length, input)?;
+    Ok(found.elements)
+}
+
+fn list(rules: Rules, input: &[u8], elements: &mut [Element]) -> Result<usize> {
+    let found = rules.list(input, elements)?;
+    whole(found.length, input)?;
+    Ok(found.elements)
+}
+
+/// Checks that the input is one element in DER and nothing else. Returns how many elements there are: itself
+/// and those inside it.
+///
+/// ```
+/// use dumarewhi::check_der;
+///
+/// assert_eq!(check_der(&[0x30, 0x03, 0x02, 0x01, 0x05]), Ok(2));
+/// assert!(check_der(&[0x30, 0x03, 0x02, 0x01, 0x05, 0x00]).is_err());
+/// ```
+pub fn check_der(input: &[u8]) -> Result<usize> {
+    check(Rules::DER, input)
+}
+
+/// Checks as [`check_der`], by BER.
+///
+/// ```
+/// use dumarewhi::check_ber;
+///
+/// assert_eq!(check_ber(&[0x30, 0x80, 0x02, 0x01, 0x05, 0x00, 0x00]), Ok(2));
+/// ```
+pub fn check_ber(input: &[u8]) -> Result<usize> {
+    check(Rules::BER, input)
+}
+
+/// Lists the one element that the input is in DER and those inside it, in preorder. The first of them are
+/// written to the buffer, as many as it has room for. Returns how many there are, room or not.
+///
+/// ```
+/// use dumarewhi::{check_der, list_der, Element};
+///
+/// let input = [0x30, 0x06, 0x02, 0x01, 0x05, 0x02, 0x01, 0x07];
+/// let mut elements = [Element::default(); 2];
+/// let count = list_der(&input, &mut elements)?;
+/// assert_eq!(count, 3); // there was no room for the last
+/// assert_eq!(elements[1].content(&input), Some(&[5][..]));
+/// # Ok::<(), dumarewhi::Error>(())
+/// ```
+pub fn list_der(input: &[u8], elements: &mut [Element]) -> Result<usize> {
+    list(Rules::DER, input, elements)
+}
+
+/// Lists as [`list_der`], by BER.
+///
+/// ```
+/// use dumarewhi::{list_ber, Element};
+///
+/// let input = [0x30, 0x80, 0x05, 0x00, 0x00, 0x00];
+/// let mut elements = [Element::default(); 2];
+/// assert_eq!(list_ber(&input, &mut elements)?, 2);
+/// assert!(!elements[0].is_definite());
+/// assert_eq!((elements[0].content_range(), elements[0].range()), (2..4, 0..6));
+/// # Ok::<(), dumarewhi::Error>(())
+/// ```
+pub fn list_ber(input: &[u8], elements: &mut [Element]) -> Result<usize> {
+    list(Rules::BER, input, elements)
+}
+
+impl Element {
+    /// Its tag.
+    pub fn tag(&self) -> Tag {
+        Tag {
+            class: Class::from_number(self.tag_class),
+            number: self.number,
+        }
+    }
+
+    /// Whether its content octets are elements (X.690 8.1.2.5).
+    pub fn is_constructed(&self) -> bool {
+        self.constructed != 0
+    }
+
+    /// Whether its length is definite (X.690 8.1.3). By DER it always is.
+    pub fn is_definite(&self) -> bool {
+        self.definite != 0
+    }
+
+    /// How many elements are inside it, at any depth: the next ones in the list. Inside an element of another
+    /// class than universal, none are listed.
+    pub fn descendants(&self) -> usize {
+        self.inside
+    }
+
+    /// Where its header begins.
+    pub fn offset(&self) -> usize {
+        self.header
+    }
+
+    /// Where its identifier and length octets are.
+    pub fn header_range(&self) -> Range<usize> {
+        self.header..self.content
+    }
+
+    /// Where its content octets are.
+    pub fn content_range(&self) -> Range<usize> {
+        self.content..self.end
+    }
+
+    /// Where all its octets are, an end marker among them.
+    pub fn range(&self) -> Range<usize> {
+        self.header..self.after()
+    }
+
+    /// Its content octets in the input that it was listed from. `None` if the input is too short for that.
+    pub fn content<'a>(&self, input: &'a [u8]) -> Option<&'a [u8]> {
+        input.get(self.content_range())
+    }
+
+    /// Where the octets begin that follow it: an end marker has two octets.
+    fn after(&self) -> usize {
+        if self.is_definite() {
+            self.end
+        } else {
+            self.end.saturating_add(2)
+        }
+    }
+}

@@ -1,0 +1,213 @@
+//! Why an input isn't read.
+use crate::{ffi, Tag};
+use core::fmt;
+
+/// Why an input isn't read, or has no value of the type that is asked for, and where.
+///
+/// ```
+/// use dumarewhi::{check_der, ErrorKind};
+///
+/// // The BOOLEAN at 2 has the octet 7f (X.690 11.1).
+/// let error = check_der(&[0x30, 0x03, 0x01, 0x01, 0x7f]).unwrap_err();
+/// assert_eq!(error.offset(), 2);
+/// assert!(matches!(error.kind(), ErrorKind::Malformed(_)));
+///
+/// // One more octet may complete this INTEGER.
+/// let error = check_der(&[0x02]).unwrap_err();
+/// assert!(error.is_incomplete());
+/// ```
+#[derive(Clone, Copy, Debug, PartialEq, Eq, Hash)]
+pub struct Error {
+    kind: ErrorKind,
+    offset: usize,
+}
+
+/// What is wrong.
+#[derive(Clone, Copy, Debug, PartialEq, Eq, Hash)]
+#[non_exhaustive]
+pub enum ErrorKind {
+    /// The input breaks a rule of its encoding. No further input mends that.
+    Malformed(Reason),
+    /// The content octets have no value of the type that is asked for. So it is with a number that is too
+    /// large for a `u64`.
+    Value(Reason),
+    /// The input is cut short: more octets may complete it.
+    Incomplete {
+        /// How many octets are missing, as far as the input shows.
+        missing: usize,
+    },
+    /// An element runs past the end of the content that it is in. No further input mends that.
+    Overrun {
+        /// How many octets are missing in the content.
+        missing: usize,
+    },
+    /// Octets follow where the input, or the content of an element, should end.
+    TrailingData,
+    /// The content of an element ends where another element is expected in it.
+    MissingElement,
+    /// An element has another tag than the expected one.
+    UnexpectedTag {
+        /// The expected tag, unless there are several.
+        expected: Option<Tag>,
+        /// The tag of the element.
+        actual: Tag,
+    },
+    /// An element with this tag is primitive, and a constructed one is expected.
+    ConstructedExpected(Tag),
+    /// An element with this tag is constructed, and a primitive one is expected.
+    PrimitiveExpected(Tag),
+    /// The first octet of a BIT STRING isn't a number of unused bits of the others (X.690 8.6.2).
+    UnusedBits,
+    /// An element is longer than the limit of a [`Buffer`](crate::Buffer).
+    TooLong {
+        /// The limit in octets.
+        limit: usize,
+    },
+    /// There is no memory for the elements.
+    OutOfMemory,
+    /// A refusal of the caller's own.
+    Other(&'static str),
+}
+
+/// The number of an error in `dumarewhi.h`. It displays as the error's text.
+///
+/// ```
+/// use dumarewhi::{check_der, ErrorKind};
+///
+/// let error = check_der(&[0x01, 0x01, 0x7f]).unwrap_err();
+/// match error.kind() {
+///     ErrorKind::Malformed(reason) => assert!(reason.to_string().contains("invalid boolean")),
+///     _ => unreachable!(),
+/// }
+/// ```
+#[derive(Clone, Copy, Debug, PartialEq, Eq, Hash, PartialOrd, Ord)]
+pub struct Reason(pub(crate) u32);
+
+/// The result of a call of this crate.
+pub type Result<T, E = Error> = core::result::Result<T, E>;
+
+impl Error {
+    /// An error at this offset. A caller makes its own refusals with [`ErrorKind::Other`].
+    ///
+    /// ```
+    /// use dumarewhi::{Error, ErrorKind};
+    ///
+    /// let error = Error::new(ErrorKind::Other("the version isn't 3"), 4);
+    /// assert_eq!(error.to_string(), "the version isn't 3 at offset 4");
+    /// ```
+    pub const fn new(kind: ErrorKind, offset: usize) -> Error {
+        Error { kind, offset }
+    }
+
+    /// What is wrong.
+    pub const fn kind(&self) -> ErrorKind {
+        self.kind
+    }
+
+    /// Where it is wrong, in octets from the start of the input: where the innermost element begins that
+    /// shows the error. For an input that is cut short, its end.
+    pub const fn offset(&self) -> usize {
+        self.offset
+    }
+
+    /// Whether more input may mend the error.
+    pub const fn is_incomplete(&self) -> bool {
+        matches!(self.kind, ErrorKind::Incomplete { .. })
+    }
+
+    /// How many octets are missing, as far as the input shows, if more input may mend the error.
+    pub const fn missing(&self) -> Option<usize> {
+        match self.kind {
+            ErrorKind::Incomplete { missing } => Some(missing),
+            _ => None,
+        }
+    }
+
+    /// The same error of an input that begins at this offset of another one, and has no octets after it there.
+    pub(crate) fn inside(self, offset: usize) -> Error {
+        let kind = match self.kind {
+            ErrorKind::Incomplete { missing } => ErrorKind::Overrun { missing },
+            kind => kind,
+        };
+        Error::new(kind, self.offset).after(offset)
+    }
+
+    /// The same error of an input that begins at this offset of another one.
+    pub(crate) fn after(self, offset: usize) -> Error {
+        Error::new(self.kind, self.offset.saturating_add(offset))
+    }
+}
+
+impl Reason {
+    /// The number.
+    pub const fn number(self) -> u32 {
+        self.0
+    }
+}
+
+impl fmt::Display for Reason {
+    fn fmt(&self, f: &mut fmt::Formatter<'_>) -> fmt::Result {
+        let mut text = [0; 96];
+        let length = ffi::error_text(self.0, &mut text).min(text.len());
+        match core::str::from_utf8(&text[..length]) {
+            Ok(text) => f.write_str(text),
+            Err(_) => write!(f, "error {}", self.0),
+        }
+    }
+}
+
+impl fmt::Display for ErrorKind {
+    fn fmt(&self, f: &mut fmt::Formatter<'_>) -> fmt::Result {
+        match self {
+            ErrorKind::Malformed(reason) | ErrorKind::Value(reason) => reason.fmt(f),
+            ErrorKind::Incomplete { missing } => write!(f, "incomplete, needs {missing}"),
+            ErrorKind::Overrun { missing } => {
+                write!(
+                    f,
+                    "an element runs {missing} past the end of the content around it"
+                )
+            }
+            ErrorKind::TrailingData => f.write_str("octets are left"),
+            ErrorKind::MissingElement => f.write_str("an element is missing"),
+            ErrorKind::UnexpectedTag {
+                expected: Some(expected),
+                actual,
+            } => {
+                write!(f, "unexpected tag (expected {expected}, actual {actual})")
+            }
+            ErrorKind::UnexpectedTag {
+                expected: None,
+                actual,
+            } => write!(f, "unexpected tag {actual}"),
+            ErrorKind::ConstructedExpected(tag) => write!(f, "constructed encoding expected for {tag}"),
+            ErrorKind::PrimitiveExpected(tag) => write!(f, "primitive encoding expected for {tag}"),
+            ErrorKind::UnusedBits => f.write_str("invalid number of unused bits"),
+            ErrorKind::TooLong { limit } => write!(f, "an element is longer than {limit} octets"),
+            ErrorKind::OutOfMemory => f.write_str("out of memory"),
+            ErrorKind::Other(text) => f.write_str(text),
+        }
+    }
+}
+
+impl fmt::Display for Error {
+    fn fmt(&self, f: &mut fmt::Formatter<'_>) -> fmt::Result {
+        write!(f, "{} at offset {}", self.kind, self.offset)
+    }
+}
+
+#[cfg(feature = "std")]
+impl std::error::Error for Error {}
+
+/// An input that is cut short is `UnexpectedEof`, memory that runs out is `OutOfMemory`, and the others are
+/// `InvalidData`.
+#[cfg(feature = "std")]
+impl From<Error> for std::io::Error {
+    fn from(error: Error) -> std::io::Error {
+        let kind = match error.kind {
+            ErrorKind::Incomplete { .. } => std::io::ErrorKind::UnexpectedEof,
+            ErrorKind::OutOfMemory => std::io::ErrorKind::OutOfMemory,
+            _ => std::io::ErrorKind::InvalidData,
+        };
+        std::io::Error::new(kind, error)
+    }
+}

@@ -1,0 +1,187 @@
+//! The structs and constants beside those of `dumarewhi.h`, as the C compiler sees them.
+use super::*;
+use crate::Class;
+use core::mem::{align_of, size_of};
+use std::path::{Path, PathBuf};
+use std::process::Command;
+use std::string::{String, ToString};
+use std::vec::Vec;
+use std::{env, format, fs, println, vec};
+
+/// A line of this program's output: a name, and the number that C has for it.
+type Row = (String, usize);
+
+/// The offset of each field of a struct.
+macro_rules! layout {
+    ($type:ty, $name:literal, [$($field:ident),*]) => {{
+        let value = <$type>::default();
+        let start = &value as *const $type as usize;
+        vec![
+            (format!("sizeof(struct {})", $name), size_of::<$type>()),
+            (format!("_Alignof(struct {})", $name), align_of::<$type>()),
+            $((
+                format!("offsetof(struct {}, {})", $name, stringify!($field)),
+                &value.$field as *const _ as usize - start,
+            ),
+            (
+                format!("sizeof(((struct {} *)0)->{})", $name, stringify!($field)),
+                core::mem::size_of_val(&value.$field),
+            ),)*
+        ]
+    }};
+}
+
+fn own_rows() -> Vec<Row> {
+    let mut rows = layout!(
+        Element,
+        "dm_element",
+        [
+            header,
+            content,
+            end,
+            inside,
+            number,
+            tag_class,
+            constructed,
+            definite,
+            reserved
+        ]
+    );
+    rows.extend(layout!(
+        Outcome,
+        "dm_outcome",
+        [elements, length, place, missing, status, error]
+    ));
+    rows.extend(layout!(
+        TimeFields,
+        "dm_time",
+        [
+            year,
+            nanosecond,
+            month,
+            day,
+            hour,
+            minute,
+            second,
+            zone,
+            zone_hours,
+            zone_minutes
+        ]
+    ));
+    let constants = [
+        ("DM_OK", OK as usize),
+        ("DM_ERROR", ERROR as usize),
+        ("DM_INCOMPLETE", INCOMPLETE as usize),
+        ("DM_MAX_DEPTH", MAX_DEPTH),
+        ("DM_LOCAL", ZONE_LOCAL.into()),
+        ("DM_UTC", ZONE_UTC.into()),
+        ("DM_OFFSET", ZONE_OFFSET.into()),
+    ];
+    rows.extend(constants.map(|(name, number)| (name.to_string(), number)));
+    rows
+}
+
+/// The number of fields that a struct has in the header: each has a line with a semicolon, and a comment.
+fn fields_in(header: &str, name: &str) -> usize {
+    let start = header
+        .find(&format!("typedef struct {name} {{"))
+        .expect("the struct is in the header");
+    let end = header[start..]
+        .find(&format!("}} {name};"))
+        .expect("the struct ends");
+    let lines = header[start..start + end].lines();
+    lines
+        .filter(|line| line.split("/*").next().unwrap_or(line).contains(';'))
+        .count()
+}
+
+fn include() -> PathBuf {
+    Path::new(env!("CARGO_MANIFEST_DIR")).join("../c/include")
+}
+
+/// A program that prints each name of the rows and its number.
+fn program(rows: &[Row]) -> String {
+    let lines: Vec<_> = rows
+        .iter()
+        .map(|(name, _)| format!("    printf(\"%s=%zu\\n\", \"{name}\", (size_t)({name}));"))
+        .collect();
+    let head = "#include \"dumarewhi.h\"\n#include <stddef.h>\n#include <stdio.h>\n";
+    format!(
+        "{head}int main(void) {{\n{}\n    return 0;\n}}\n",
+        lines.join("\n")
+    )
+}
+
+#[test]
+fn structs_are_as_in_c() {
+    if Command::new("cc").arg("--version").output().is_err() {
+        println!("left out: there is no cc");
+        return;
+    }
+    let rows = own_rows();
+    let folder = env::temp_dir().join(format!("dumarewhi-layout-{}", std::process::id()));
+    fs::create_dir_all(&folder).unwrap();
+    let (source, binary) = (folder.join("layout.c"), folder.join("layout"));
+    fs::write(&source, program(&rows)).unwrap();
+    let mut compiler = Command::new("cc");
+    compiler
+        .arg("-std=c11")
+        .arg("-I")
+        .arg(include())
+        .arg(&source)
+        .arg("-o")
+        .arg(&binary);
+    assert!(compiler.status().unwrap().success());
+    let printed = Command::new(&binary).output().unwrap().stdout;
+    fs::remove_dir_all(&folder).unwrap();
+    let expected: Vec<_> = rows
+        .iter()
+        .map(|(name, number)| format!("{name}={number}"))
+        .collect();
+    let printed = String::from_utf8(printed).unwrap();
+    assert_eq!(printed.lines().collect::<Vec<_>>(), expected);
+}
+
+#[test]
+fn structs_have_no_other_field() {
+    let header = fs::read_to_string(include().join("dumarewhi.h")).unwrap();
+    assert_eq!(fields_in(&header, "dm_element"), 9);
+    assert_eq!(fields_in(&header, "dm_outcome"), 6);
+    assert_eq!(fields_in(&header, "dm_time"), 10);
+}
+
+/// Each call that is declared in the header is declared here, and none other.
+#[test]
+fn calls_are_those_of_the_header() {
+    let header = fs::read_to_string(include().join("dumarewhi.h")).unwrap();
+    let own = include_str!("../ffi.rs");
+    let names = |text: &str, opening: &str| -> Vec<String> {
+        let mut names: Vec<_> = text
+            .lines()
+            .filter_map(|line| line.trim().strip_prefix(opening))
+            .filter_map(|line| line.split_once('(').map(|(name, _)| format!("dm_{name}")))
+            .collect();
+        names.sort();
+        names
+    };
+    let mut declared = names(&header, "uint32_t dm_");
+    declared.extend(names(&header, "size_t dm_"));
+    declared.sort();
+    assert_eq!(declared.len(), 13);
+    assert_eq!(declared, names(own, "fn dm_"));
+}
+
+#[test]
+fn classes_are_as_in_c() {
+    let header = fs::read_to_string(include().join("dumarewhi.h")).unwrap();
+    let line =
+        "enum dm_class { DM_UNIVERSAL = 0, DM_APPLICATION = 1, DM_CONTEXT_SPECIFIC = 2, DM_PRIVATE = 3 };";
+    assert!(header.contains(line));
+    let classes = [
+        Class::Universal,
+        Class::Application,
+        Class::ContextSpecific,
+        Class::Private,
+    ];
+    assert_eq!([0, 1, 2, 3].map(Class::from_number), classes);
+}

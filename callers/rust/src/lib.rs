@@ -1,0 +1,82 @@
+//! Reads BER and DER (ITU-T X.690): certificates, SNMP, LDAP, Kerberos.
+//!
+//! ```
+//! use dumarewhi::{Error, Tag, Tree};
+//!
+//! fn main() -> Result<(), Error> {
+//!     let tree = Tree::parse_der(b"\x30\x0a\x02\x01\x05\x06\x03\x55\x04\x03\x05\x00")?;
+//!     let fields: Vec<_> = tree.root().children().collect();
+//!     assert_eq!(fields[0].as_u64()?, 5);
+//!     assert_eq!(fields[1].as_oid()?.to_string(), "2.5.4.3");
+//!     assert_eq!(fields[2].tag(), Tag::NULL);
+//!     Ok(())
+//! }
+//! ```
+//!
+//! | To | use |
+//! |---|---|
+//! | read a whole input, and look at its elements | [`Tree`], [`Node`] |
+//! | read the fields of a type, one after the other | [`Reader`] |
+//! | take input in pieces, as from a socket | [`Buffer`] |
+//! | check, list or count without memory | [`check_der`], [`list_der`], [`Rules`] |
+//! | read one element | [`Any`] |
+//!
+//! # What is proved
+//!
+//! The work is done by `libdumarewhi_c.a`, which is written in Rattle and proved: which inputs it reads, which
+//! elements it lists and where, which error it reports, and which values it gives. Its header
+//! `dumarewhi.h` has the calls. This crate passes slices to them, and makes safe types of what they return.
+//!
+//! It computes little itself: slices of the input by the places that are listed, the steps from an element to
+//! the next, the split of a BIT STRING's first octet, what is kept of an input that comes in pieces, and the
+//! header of the copy that [`Reader::implicit`] checks. That is tested, and not proved.
+//!
+//! # What you might not expect
+//!
+//! - An element of another class than universal, as `[0]`, is kept as octets: nothing looks inside it until
+//!   [`Node::parse_content`], [`Any::reader`] or [`Reader::tagged`] does.
+//! - Rules that need the ASN.1 type aren't checked: the order of a SET, default values, named bits.
+//! - The parts of a string that is constructed aren't joined.
+//! - SEQUENCE and SET nest to [`DEFAULT_DEPTH`], or to [`MAX_DEPTH`] at most: [`Rules::with_max_depth`].
+//!
+//! # Features
+//!
+//! `std` (by default) implements [`std::error::Error`]. `alloc` has [`Tree`] and [`Buffer`]. Without
+//! them, the crate is `no_std` and never allocates.
+#![no_std]
+#![deny(missing_docs)]
+#![deny(unsafe_code)]
+#![deny(rustdoc::broken_intra_doc_links)]
+
+#[cfg(feature = "alloc")]
+extern crate alloc;
+#[cfg(any(feature = "std", test))]
+extern crate std;
+
+mod any;
+mod element;
+mod error;
+mod ffi;
+mod reader;
+#[cfg(feature = "alloc")]
+mod stream;
+mod tag;
+#[cfg(feature = "alloc")]
+mod tree;
+mod value;
+
+pub use any::Any;
+pub use element::{check_ber, check_der, list_ber, list_der, Found, Rules, DEFAULT_DEPTH, MAX_DEPTH};
+pub use error::{Error, ErrorKind, Reason, Result};
+pub use ffi::Element;
+pub use reader::Reader;
+#[cfg(feature = "alloc")]
+pub use stream::Buffer;
+pub use tag::{Class, Tag};
+#[cfg(feature = "alloc")]
+pub use tree::{Children, Descendants, Node, Tree};
+pub use value::{BitString, Integer, ObjectIdentifier, Time, Zone};
+
+#[cfg(all(doctest, feature = "std"))]
+#[doc = include_str!("../README.md")]
+struct Readme;

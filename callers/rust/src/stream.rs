@@ -1,0 +1,169 @@
+//! Input that comes in pieces.
+use crate::element::Rules;
+use crate::error::{ErrorKind, Result};
+use crate::{Error, Tree};
+use alloc::vec::Vec;
+
+/// Takes input in pieces, as from a socket, and gives each element as soon as it is whole.
+///
+/// [`next_tree`](Buffer::next_tree) and [`next_octets`](Buffer::next_octets) return `Ok(None)` if more input is
+/// needed, and an error only if no more input mends it. Offsets of errors count from the start of their
+/// element.
+///
+/// ```
+/// use dumarewhi::{Buffer, Rules};
+///
+/// let mut buffer = Buffer::new(Rules::DER);
+/// let mut numbers = Vec::new();
+/// for piece in [&[0x02][..], &[0x01, 0x05, 0x02], &[0x01, 0x07]] {
+///     buffer.feed(piece);
+///     while let Some(tree) = buffer.next_tree()? {
+///         numbers.push(tree.root().as_u64()?);
+///     }
+/// }
+/// buffer.finish()?; // an error if an element is cut short
+/// assert_eq!(numbers, [5, 7]);
+/// # Ok::<(), dumarewhi::Error>(())
+/// ```
+#[derive(Clone, Debug)]
+pub struct Buffer {
+    rules: Rules,
+    octets: Vec<u8>,
+    /// Where the next element begins.
+    start: usize,
+    /// How many octets have to be there from `start` on before it is worth to look again.
+    wanted: usize,
+    limit: usize,
+    /// How many octets were dropped before those that are kept.
+    dropped: u64,
+}
+
+impl Buffer {
+    /// How many octets an element may have, unless [`with_limit`](Buffer::with_limit) changes it: 16 MiB.
+    pub const DEFAULT_LIMIT: usize = 1 << 24;
+
+    /// An empty buffer of elements by these rules.
+    pub fn new(rules: Rules) -> Buffer {
+        Buffer {
+            rules,
+            octets: Vec::new(),
+            start: 0,
+            wanted: 1,
+            limit: Buffer::DEFAULT_LIMIT,
+            dropped: 0,
+        }
+    }
+
+    /// The same buffer with another limit of octets for an element. A longer one is an error as soon as its
+    /// header shows it.
+    ///
+    /// ```
+    /// use dumarewhi::{Buffer, ErrorKind, Rules};
+    ///
+    /// let mut buffer = Buffer::new(Rules::DER).with_limit(1500);
+    /// buffer.feed(&[0x30, 0x82, 0x7f, 0xff]);
+    /// let error = buffer.next_tree().unwrap_err();
+    /// assert_eq!(error.kind(), ErrorKind::TooLong { limit: 1500 });
+    /// ```
+    pub fn with_limit(self, limit: usize) -> Buffer {
+        Buffer { limit, ..self }
+    }
+
+    /// Appends a piece of input.
+    pub fn feed(&mut self, piece: &[u8]) {
+        if self.start > 0 {
+            self.octets.drain(..self.start);
+            self.dropped += self.start as u64;
+            self.start = 0;
+        }
+        self.octets.extend_from_slice(piece);
+    }
+
+    /// Reads the next element, if it is whole. An element that breaks a rule inside is an error and is taken
+    /// out too, so the next call goes on after it. A header that breaks a rule stays, as does its error: where
+    /// an element would begin after it can't be known.
+    pub fn next_tree(&mut self) -> Result<Option<Tree<'_>>> {
+        let rules = self.rules;
+        match self.next_octets()? {
+            Some(octets) => rules.parse(octets).map(|(_, tree)| Some(tree)),
+            None => Ok(None),
+        }
+    }
+
+    /// Takes the octets of the next element, if it is whole. What is inside it isn't checked: a
+    /// [`Reader`](crate::Reader) or [`check_der`](crate::check_der) does that.
+    pub fn next_octets(&mut self) -> Result<Option<&[u8]>> {
+        if self.pending().len() < self.wanted {
+            return Ok(None);
+        }
+        match self.first_length() {
+            Ok(length) => {
+                let start = self.start;
+                self.start += length;
+                self.wanted = 1;
+                Ok(Some(&self.octets[start..self.start]))
+            }
+            Err(error) => match error.kind() {
+                ErrorKind::Incomplete { missing } => {
+                    self.wanted = self.pending().len().saturating_add(missing.max(1));
+                    Ok(None)
+                }
+                _ => Err(error),
+            },
+        }
+    }
+
+    /// The length of the next element, within the limit.
+    fn first_length(&self) -> Result<usize> {
+        let pending = self.pending();
+        let found = self.rules.first_length(pending);
+        let least = match &found {
+            Ok(length) => *length,
+            Err(error) => error
+                .missing()
+                .map_or(0, |missing| pending.len().saturating_add(missing)),
+        };
+        if least > self.limit {
+            return Err(Error::new(ErrorKind::TooLong { limit: self.limit }, 0));
+        }
+        found
+    }
+
+    /// The octets that were fed and aren't taken yet.
+    pub fn pending(&self) -> &[u8] {
+        &self.octets[self.start..]
+    }
+
+    /// How many octets were taken so far: where the next element begins in the whole input.
+    pub fn position(&self) -> u64 {
+        self.dropped + self.start as u64
+    }
+
+    /// How many more octets the next element needs at least, as far as the input shows. If an element may be
+    /// whole already, 0.
+    ///
+    /// ```
+    /// use dumarewhi::{Buffer, Rules};
+    ///
+    /// let mut buffer = Buffer::new(Rules::DER);
+    /// buffer.feed(&[0x04, 0x03, b'a']);
+    /// assert!(buffer.next_tree()?.is_none());
+    /// assert_eq!(buffer.missing(), 2);
+    /// # Ok::<(), dumarewhi::Error>(())
+    /// ```
+    pub fn missing(&self) -> usize {
+        self.wanted.saturating_sub(self.pending().len())
+    }
+
+    /// At the end of the input: an error if octets of an element are left.
+    pub fn finish(&self) -> Result<()> {
+        let pending = self.pending();
+        if pending.is_empty() {
+            return Ok(());
+        }
+        match self.first_length() {
+            Ok(_) => Err(Error::new(ErrorKind::TrailingData, 0)),
+            Err(error) => Err(error),
+        }
+    }
+}

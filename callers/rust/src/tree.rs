@@ -1,0 +1,366 @@
+//! Trees of elements.
+use crate::element::{whole, Found, Rules};
+use crate::error::{ErrorKind, Result};
+use crate::ffi;
+use crate::value::{BitString, Integer, ObjectIdentifier, Time};
+use crate::{Any, Class, Element, Error, Reader, Tag};
+use alloc::vec::Vec;
+use core::fmt;
+use core::iter::FusedIterator;
+use core::ops::Range;
+
+/// An element and those inside it, over the input that it was read from.
+///
+/// The tree is a list of places, of 40 octets for each element. An element has two octets at least.
+///
+/// ```
+/// use dumarewhi::{Tag, Tree};
+///
+/// let tree = Tree::parse_der(&[0x30, 0x06, 0x02, 0x01, 0x05, 0x01, 0x01, 0xff])?;
+/// let root = tree.root();
+/// assert_eq!(root.tag(), Tag::SEQUENCE);
+/// let items: Vec<_> = root.children().collect();
+/// assert_eq!(items[0].as_u64()?, 5);
+/// assert!(items[1].as_bool()?);
+/// # Ok::<(), dumarewhi::Error>(())
+/// ```
+#[derive(Clone)]
+pub struct Tree<'a> {
+    input: &'a [u8],
+    elements: Vec<Element>,
+    /// Where the input begins in the outermost one.
+    base: usize,
+    rules: Rules,
+}
+
+impl<'a> Tree<'a> {
+    /// Reads the one element that the input is in DER.
+    pub fn parse_der(input: &'a [u8]) -> Result<Tree<'a>> {
+        Tree::parse_whole(Rules::DER, input)
+    }
+
+    /// Reads the one element that the input is in BER, with lengths that are definite or indefinite.
+    pub fn parse_ber(input: &'a [u8]) -> Result<Tree<'a>> {
+        Tree::parse_whole(Rules::BER, input)
+    }
+
+    fn parse_whole(rules: Rules, input: &'a [u8]) -> Result<Tree<'a>> {
+        let (rest, tree) = rules.parse(input)?;
+        whole(input.len() - rest.len(), input)?;
+        Ok(tree)
+    }
+
+    /// The outermost element.
+    pub fn root(&self) -> Node<'_, 'a> {
+        Node { tree: self, index: 0 }
+    }
+
+    /// All elements in preorder, the outermost one first.
+    pub fn nodes(&self) -> Descendants<'_, 'a> {
+        Descendants {
+            tree: self,
+            range: 0..self.elements.len(),
+        }
+    }
+
+    /// How many elements there are, one at least.
+    #[allow(clippy::len_without_is_empty)]
+    pub fn len(&self) -> usize {
+        self.elements.len()
+    }
+
+    /// The places of all elements in preorder.
+    pub fn elements(&self) -> &[Element] {
+        &self.elements
+    }
+
+    /// The list of places, for [`Rules::parse_with`].
+    pub fn into_elements(self) -> Vec<Element> {
+        self.elements
+    }
+}
+
+impl fmt::Debug for Tree<'_> {
+    fn fmt(&self, f: &mut fmt::Formatter<'_>) -> fmt::Result {
+        f.debug_list().entries(self.nodes()).finish()
+    }
+}
+
+impl Rules {
+    /// Reads the first element. Returns what follows it, and its tree.
+    ///
+    /// ```
+    /// use dumarewhi::Rules;
+    ///
+    /// let (rest, tree) = Rules::DER.parse(&[0x02, 0x01, 0x05, 0x05, 0x00])?;
+    /// assert_eq!((rest, tree.root().as_i64()?), (&[0x05, 0x00][..], 5));
+    /// # Ok::<(), dumarewhi::Error>(())
+    /// ```
+    pub fn parse(self, input: &[u8]) -> Result<(&[u8], Tree<'_>)> {
+        self.parse_with(input, Vec::new())
+    }
+
+    /// Reads as [`parse`](Rules::parse), in the memory of a list that is no longer needed.
+    ///
+    /// ```
+    /// use dumarewhi::Rules;
+    ///
+    /// let mut places = Vec::new();
+    /// for input in [[0x02, 0x01, 0x05], [0x02, 0x01, 0x07]] {
+    ///     let (_, tree) = Rules::DER.parse_with(&input, places)?;
+    ///     places = tree.into_elements();
+    /// }
+    /// # Ok::<(), dumarewhi::Error>(())
+    /// ```
+    pub fn parse_with(self, input: &[u8], mut elements: Vec<Element>) -> Result<(&[u8], Tree<'_>)> {
+        elements.clear();
+        // If there is no memory for the guess, the list is counted first.
+        let _ = elements.try_reserve_exact(likely_elements(input));
+        let mut found = self.list_in_vec(input, &mut elements)?;
+        if found.elements > elements.len() {
+            elements.clear();
+            let reserved = elements.try_reserve_exact(found.elements);
+            reserved.map_err(|_| Error::new(ErrorKind::OutOfMemory, 0))?;
+            found = self.list_in_vec(input, &mut elements)?;
+        }
+        let tree = Tree {
+            input,
+            elements,
+            base: 0,
+            rules: self,
+        };
+        Ok((&input[found.length..], tree))
+    }
+
+    fn list_in_vec(self, input: &[u8], elements: &mut Vec<Element>) -> Result<Found> {
+        let outcome = ffi::list_in_vec(self.is_der(), input, self.max_depth(), elements);
+        self.found(outcome, input)
+    }
+}
+
+/// How many elements an input is likely to have at most. Those of certificates have 12 octets each on
+/// average, those of SNMP messages 5.
+fn likely_elements(input: &[u8]) -> usize {
+    input.len() / 4 + 4
+}
+
+/// An element of a tree.
+///
+/// Its `as_` calls give the value of a type, if the element has the tag of that type.
+///
+/// ```
+/// use dumarewhi::Tree;
+///
+/// // [0] EXPLICIT: nothing inside it is in the tree, and its content is read by itself.
+/// let tree = Tree::parse_der(&[0x30, 0x05, 0xa0, 0x03, 0x02, 0x01, 0x02])?;
+/// let version = tree.root().children().next().unwrap();
+/// assert_eq!(version.children().count(), 0);
+/// let inner = version.parse_content()?;
+/// assert_eq!(inner.root().as_u64()?, 2);
+/// assert_eq!(inner.root().offset(), 4);
+/// # Ok::<(), dumarewhi::Error>(())
+/// ```
+#[derive(Clone, Copy)]
+pub struct Node<'t, 'a> {
+    tree: &'t Tree<'a>,
+    index: usize,
+}
+
+impl<'t, 'a> Node<'t, 'a> {
+    fn element(&self) -> &'t Element {
+        &self.tree.elements[self.index]
+    }
+
+    /// The element by itself, which outlives the tree.
+    pub fn any(&self) -> Any<'a> {
+        Any::new(self.tree.input, self.element(), self.tree.base, self.tree.rules)
+    }
+
+    /// The elements of a SEQUENCE or SET. Of any other element none: see
+    /// [`parse_content`](Node::parse_content).
+    pub fn children(&self) -> Children<'t, 'a> {
+        Children {
+            tree: self.tree,
+            range: self.inside(),
+        }
+    }
+
+    /// The elements inside it at any depth, in preorder.
+    pub fn descendants(&self) -> Descendants<'t, 'a> {
+        Descendants {
+            tree: self.tree,
+            range: self.inside(),
+        }
+    }
+
+    fn inside(&self) -> Range<usize> {
+        self.index + 1..self.index + 1 + self.element().inside
+    }
+
+    /// Reads the one element that the content octets are, by the same rules: that of an explicit tag, or of an
+    /// OCTET STRING that holds an encoding. Offsets are those of the outermost input.
+    pub fn parse_content(&self) -> Result<Tree<'a>> {
+        let any = self.any();
+        let content = any.content();
+        let read = any.rules().inside().parse(content).and_then(|(rest, tree)| {
+            whole(content.len() - rest.len(), content)?;
+            Ok(tree)
+        });
+        match read {
+            Ok(tree) => Ok(Tree {
+                base: any.content_offset(),
+                ..tree
+            }),
+            Err(error) => Err(error.inside(any.content_offset())),
+        }
+    }
+
+    /// A reader of the elements that a constructed element's content octets are, by the same rules.
+    pub fn reader(&self) -> Result<Reader<'a>> {
+        self.any().reader()
+    }
+
+    /// The tag.
+    pub fn tag(&self) -> Tag {
+        self.element().tag()
+    }
+
+    /// The class of the tag.
+    pub fn class(&self) -> Class {
+        self.tag().class
+    }
+
+    /// Whether the content octets are elements (X.690 8.1.2.5).
+    pub fn is_constructed(&self) -> bool {
+        self.element().is_constructed()
+    }
+
+    /// Where the element begins, in octets from the start of the input.
+    pub fn offset(&self) -> usize {
+        self.any().offset()
+    }
+
+    /// The identifier and length octets.
+    pub fn header(&self) -> &'a [u8] {
+        self.any().header()
+    }
+
+    /// The content octets, without an end marker.
+    pub fn content(&self) -> &'a [u8] {
+        self.any().content()
+    }
+
+    /// All octets: the header, the content, and an end marker (X.690 8.1.5) after an indefinite length.
+    pub fn octets(&self) -> &'a [u8] {
+        self.any().octets()
+    }
+
+    /// A BOOLEAN (X.690 8.2).
+    pub fn as_bool(&self) -> Result<bool> {
+        self.any().as_bool()
+    }
+
+    /// An INTEGER or an ENUMERATED from 0 to 2^64-1.
+    pub fn as_u64(&self) -> Result<u64> {
+        self.any().as_u64()
+    }
+
+    /// An INTEGER or an ENUMERATED from -2^63 to 2^63-1.
+    pub fn as_i64(&self) -> Result<i64> {
+        self.any().as_i64()
+    }
+
+    /// An INTEGER or an ENUMERATED of any size.
+    pub fn as_integer(&self) -> Result<Integer<'a>> {
+        self.any().as_integer()
+    }
+
+    /// An OBJECT IDENTIFIER (X.690 8.19).
+    pub fn as_oid(&self) -> Result<ObjectIdentifier<'a>> {
+        self.any().as_oid()
+    }
+
+    /// A character string, as [`Any::as_str`] has them.
+    pub fn as_str(&self) -> Result<&'a str> {
+        self.any().as_str()
+    }
+
+    /// An OCTET STRING (X.690 8.7). The parts of a constructed one aren't joined:
+    /// [`reader`](Node::reader) reads them.
+    pub fn as_bytes(&self) -> Result<&'a [u8]> {
+        self.any().as_bytes()
+    }
+
+    /// A BIT STRING (X.690 8.6).
+    pub fn as_bit_string(&self) -> Result<BitString<'a>> {
+        self.any().as_bit_string()
+    }
+
+    /// A UTCTime or a GeneralizedTime (X.690 11.7 and 11.8).
+    pub fn as_time(&self) -> Result<Time> {
+        self.any().as_time()
+    }
+
+    /// Whether it is a NULL (X.690 8.8).
+    pub fn is_null(&self) -> bool {
+        self.any().is_null()
+    }
+}
+
+impl fmt::Debug for Node<'_, '_> {
+    fn fmt(&self, f: &mut fmt::Formatter<'_>) -> fmt::Result {
+        self.any().fmt(f)
+    }
+}
+
+/// The elements of a SEQUENCE or SET, in order.
+#[derive(Clone, Debug)]
+pub struct Children<'t, 'a> {
+    tree: &'t Tree<'a>,
+    range: Range<usize>,
+}
+
+impl<'t, 'a> Iterator for Children<'t, 'a> {
+    type Item = Node<'t, 'a>;
+
+    fn next(&mut self) -> Option<Node<'t, 'a>> {
+        if self.range.is_empty() {
+            return None;
+        }
+        let node = Node {
+            tree: self.tree,
+            index: self.range.start,
+        };
+        self.range.start = node.inside().end;
+        Some(node)
+    }
+}
+
+impl FusedIterator for Children<'_, '_> {}
+
+/// Elements in preorder.
+#[derive(Clone, Debug)]
+pub struct Descendants<'t, 'a> {
+    tree: &'t Tree<'a>,
+    range: Range<usize>,
+}
+
+impl<'t, 'a> Iterator for Descendants<'t, 'a> {
+    type Item = Node<'t, 'a>;
+
+    fn next(&mut self) -> Option<Node<'t, 'a>> {
+        let index = self.range.next()?;
+        Some(Node {
+            tree: self.tree,
+            index,
+        })
+    }
+
+    fn size_hint(&self) -> (usize, Option<usize>) {
+        self.range.size_hint()
+    }
+}
+
+impl ExactSizeIterator for Descendants<'_, '_> {}
+
+impl FusedIterator for Descendants<'_, '_> {}

@@ -1,0 +1,149 @@
+//! What the examples print. Cargo builds them before the tests run.
+#![cfg(feature = "std")]
+use std::env;
+use std::io::Write;
+use std::path::PathBuf;
+use std::process::{Command, Output, Stdio};
+
+/// The program of an example, beside this test's.
+fn program(name: &str) -> Option<PathBuf> {
+    let test = env::current_exe().ok()?;
+    let program = test.ancestors().nth(2)?.join("examples").join(name);
+    if !program.exists() {
+        println!("left out: {name} isn't built (cargo test without --test builds it)");
+        return None;
+    }
+    Some(program)
+}
+
+fn run(name: &str, input: &[u8]) -> Option<Output> {
+    let mut command = Command::new(program(name)?);
+    command
+        .stdin(Stdio::piped())
+        .stdout(Stdio::piped())
+        .stderr(Stdio::piped());
+    let mut child = command.spawn().unwrap();
+    child.stdin.take().unwrap().write_all(input).unwrap();
+    Some(child.wait_with_output().unwrap())
+}
+
+/// The lines that an example prints, and whether it ends well.
+fn prints(name: &str, input: &[u8], expected: &[&str], well: bool) {
+    if let Some(output) = run(name, input) {
+        let text = String::from_utf8(output.stdout).unwrap();
+        assert_eq!(text.lines().collect::<Vec<_>>(), expected);
+        assert_eq!(
+            output.status.success(),
+            well,
+            "{}",
+            String::from_utf8_lossy(&output.stderr)
+        );
+    }
+}
+
+/// A get request (RFC 3416) for sysDescr.0, with version 2c and the community `public`.
+const REQUEST: &[u8] = &[
+    0x30, 0x29, 0x02, 0x01, 0x01, 0x04, 0x06, b'p', b'u', b'b', b'l', b'i', b'c', 0xa0, 0x1c, 0x02, 0x04,
+    0x71, 0x68, 0x2a, 0x51, 0x02, 0x01, 0x00, 0x02, 0x01, 0x00, 0x30, 0x0e, 0x30, 0x0c, 0x06, 0x08, 0x2b,
+    0x06, 0x01, 0x02, 0x01, 0x01, 0x01, 0x00, 0x05, 0x00,
+];
+
+const PRINTED: [&str; 2] = [
+    "get version 1 community \"public\" id 1902652001 status 0 index 0",
+    "  1.3.6.1.2.1.1.1.0 = null",
+];
+
+#[test]
+fn snmp_prints_requests() {
+    prints("snmp", &REQUEST.repeat(2), &[PRINTED, PRINTED].concat(), true);
+}
+
+/// A message that isn't one is said, and the next one is read.
+#[test]
+fn snmp_goes_on_after_a_refused_message() {
+    let input = [&[0x30, 0x03, 0x02, 0x01, 0x01], REQUEST].concat();
+    let refused = ["refused: an element is missing at offset 5"];
+    prints("snmp", &input, &[&refused[..], &PRINTED].concat(), true);
+}
+
+#[test]
+fn snmp_fails_where_the_stream_is_cut() {
+    prints("snmp", &[REQUEST, &REQUEST[..20]].concat(), &PRINTED, false);
+}
+
+#[test]
+fn tree_prints_elements() {
+    let input = [
+        0x30, 0x0e, 0x02, 0x01, 0x05, 0x06, 0x03, 0x55, 0x04, 0x03, 0xa0, 0x04, 0x0c, 0x02, b'h', b'i', 0x04,
+        0x01, 0xff,
+    ];
+    let expected = [
+        "    0 SEQUENCE",
+        "    2   INTEGER 5",
+        "    5   OBJECT IDENTIFIER 2.5.4.3",
+        "   10   [0]",
+        "   12     UTF8String \"hi\"",
+        "    0 OCTET STRING ff",
+    ];
+    prints("tree", &input, &expected, true);
+}
+
+#[test]
+fn count_counts_elements() {
+    if let Some(program) = program("count") {
+        let file = env::temp_dir().join(format!("dumarewhi-count-{}", std::process::id()));
+        std::fs::write(&file, [0x30, 0x04, 0x05, 0x00, 0x05, 0x00].repeat(30_000)).unwrap();
+        let output = Command::new(program).arg(&file).output().unwrap();
+        std::fs::remove_file(&file).unwrap();
+        let expected = "30000 objects, 90000 elements, 180000 octets\n";
+        assert_eq!(String::from_utf8_lossy(&output.stdout), expected);
+    }
+}
+
+/// A certificate that openssl makes, with these fields.
+#[test]
+fn certificate_prints_fields() {
+    let key = env::temp_dir().join(format!("dumarewhi-key-{}", std::process::id()));
+    let mut openssl = Command::new("openssl");
+    openssl.args([
+        "req",
+        "-x509",
+        "-nodes",
+        "-newkey",
+        "ed25519",
+        "-outform",
+        "DER",
+        "-set_serial",
+        "258",
+    ]);
+    openssl.args([
+        "-subj",
+        "/C=NZ/CN=example.org",
+        "-addext",
+        "subjectAltName=DNS:example.org",
+        "-keyout",
+    ]);
+    let made = openssl.arg(&key).output();
+    let _ = std::fs::remove_file(&key);
+    let made = match made {
+        Ok(made) if made.status.success() => made.stdout,
+        _ => return println!("left out: openssl makes no certificate"),
+    };
+    if let Some(output) = run("certificate", &made) {
+        let text = String::from_utf8(output.stdout).unwrap();
+        let expected = [
+            "version    3",
+            "serial     0102",
+            "issuer     C=NZ, CN=example.org",
+            "subject    C=NZ, CN=example.org",
+            "key        1.3.101.112",
+            "extension  2.5.29.17, 15 octets",
+            "extension  2.5.29.19 critical, 5 octets",
+            "signature  1.3.101.112, 64 octets",
+        ];
+        expected
+            .iter()
+            .for_each(|line| assert!(text.lines().any(|it| it == *line), "{line} in {text}"));
+        assert_eq!(text.matches("Z\n").count(), 2);
+    }
+}

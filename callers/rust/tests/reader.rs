@@ -1,0 +1,229 @@
+//! Fields, one after the other.
+#![cfg(feature = "std")]
+use dumarewhi::{Error, ErrorKind, Reader, Rules, Tag};
+
+#[test]
+fn every_type() {
+    let input: Vec<u8> = [
+        &[1, 1, 255][..],
+        &[2, 1, 0x80],
+        &[2, 2, 0, 200],
+        &[10, 1, 3],
+        &[5, 0],
+        &[6, 3, 0x55, 4, 3],
+        &[4, 2, 1, 2],
+        &[3, 2, 4, 0xf0],
+        &[12, 2, 0xc3, 0xa9],
+        &[19, 1, b'P'],
+        &[22, 1, b'@'],
+        &[26, 1, b'~'],
+        b"\x17\x0d200101000000Z",
+        &[0x85, 1, 9],
+    ]
+    .concat();
+    let mut r = Reader::new(&input);
+    assert_eq!(r.boolean(), Ok(true));
+    assert_eq!(r.integer().unwrap().as_bytes(), [0x80]);
+    assert_eq!(r.u64(), Ok(200));
+    assert_eq!(r.enumerated(), Ok(3));
+    assert_eq!(r.null(), Ok(()));
+    assert!(r.oid().unwrap() == "2.5.4.3");
+    assert_eq!(r.octet_string(), Ok(&[1, 2][..]));
+    assert_eq!(r.bit_string().unwrap().len(), 4);
+    assert_eq!(r.utf8_string(), Ok("é"));
+    assert_eq!(r.printable_string(), Ok("P"));
+    assert_eq!(r.ia5_string(), Ok("@"));
+    assert_eq!(r.string(), Ok("~"));
+    assert_eq!(r.time().unwrap().year, 2020);
+    assert_eq!(r.any().unwrap().tag(), Tag::context(5));
+    r.finish().unwrap();
+}
+
+#[test]
+fn an_error_leaves_the_reader_where_it_was() {
+    let mut r = Reader::new(&[2, 1, 5, 5, 0]);
+    let error = r.boolean().unwrap_err();
+    let kind = ErrorKind::UnexpectedTag {
+        expected: Some(Tag::BOOLEAN),
+        actual: Tag::INTEGER,
+    };
+    assert_eq!(error, Error::new(kind, 0));
+    assert_eq!(r.offset(), 0);
+    assert_eq!(r.u64(), Ok(5));
+    assert_eq!((r.offset(), r.remaining()), (3, &[5, 0][..]));
+    assert_eq!(
+        r.clone().finish().unwrap_err(),
+        Error::new(ErrorKind::TrailingData, 3)
+    );
+}
+
+#[test]
+fn sequences_are_read_to_their_end() {
+    let input = [0x30, 6, 2, 1, 5, 2, 1, 7];
+    assert_eq!(
+        Reader::new(&input).sequence(|r| Ok((r.u64()?, r.u64()?))),
+        Ok((5, 7))
+    );
+    let error = Reader::new(&input).sequence(|r| r.u64()).unwrap_err();
+    assert_eq!(error, Error::new(ErrorKind::TrailingData, 5));
+    let error = Reader::new(&input)
+        .sequence(|r| Ok((r.u64()?, r.u64()?, r.u64()?)))
+        .unwrap_err();
+    assert_eq!(error, Error::new(ErrorKind::MissingElement, 8));
+}
+
+/// The whole element is checked before a field is read.
+#[test]
+fn sequences_are_checked_first() {
+    let input = [0x30, 6, 2, 1, 5, 1, 1, 7];
+    let mut calls = 0;
+    let error = Reader::new(&input).sequence(|_| {
+        calls += 1;
+        Ok(())
+    });
+    assert_eq!((error.unwrap_err().offset(), calls), (5, 0));
+}
+
+#[test]
+fn input_that_is_cut_is_incomplete() {
+    let input = [0x30, 6, 2, 1, 5, 2, 1, 7];
+    for end in 0..input.len() {
+        let error = Reader::new(&input[..end])
+            .sequence(|r| Ok((r.u64()?, r.u64()?)))
+            .unwrap_err();
+        assert!(error.is_incomplete(), "{end}: {error}");
+    }
+}
+
+/// What is in a tag isn't input that could still come.
+#[test]
+fn content_that_is_cut_is_no_incomplete_input() {
+    let error = Reader::new(&[0xa0, 2, 2, 1])
+        .tagged(Tag::context(0), |r| r.u64())
+        .unwrap_err();
+    assert!(matches!(error.kind(), ErrorKind::Overrun { .. }), "{error}");
+    assert_eq!(error.offset(), 4);
+}
+
+#[test]
+fn optional_fields() {
+    let present = [0xa0, 3, 2, 1, 2, 1, 1, 0];
+    let fields = |input: &'static [u8]| {
+        let mut r = Reader::new(input);
+        let version = r.optional_tagged(Tag::context(0), |r| r.u64())?;
+        let flag = r.optional(Tag::BOOLEAN, |r| r.boolean())?;
+        r.finish().map(|()| (version, flag))
+    };
+    assert_eq!(fields(&[0xa0, 3, 2, 1, 2, 1, 1, 0]), Ok((Some(2), Some(false))));
+    assert_eq!(fields(&[0xa0, 3, 2, 1, 2]), Ok((Some(2), None)));
+    assert_eq!(fields(&[1, 1, 0]), Ok((None, Some(false))));
+    assert_eq!(fields(&[]), Ok((None, None)));
+    assert_eq!(fields(&[1, 1]).unwrap_err().offset(), 2);
+    assert!(fields(&[0xa0, 5, 2, 1, 2, 5, 0]).is_err());
+    assert_eq!(Reader::new(&present).peek_tag(), Ok(Some(Tag::context(0))));
+}
+
+#[test]
+fn primitive_elements_have_no_fields() {
+    let error = Reader::new(&[0x80, 1, 5])
+        .tagged(Tag::context(0), |r| r.u64())
+        .unwrap_err();
+    assert_eq!(error.kind(), ErrorKind::ConstructedExpected(Tag::context(0)));
+}
+
+#[test]
+fn implicit_tags_are_checked_as_their_type() {
+    let implicit = |input: &[u8], tag| {
+        Reader::new(input)
+            .implicit(Tag::context(1), tag)
+            .map(|any| any.tag())
+    };
+    assert_eq!(implicit(&[0x81, 1, 5], Tag::INTEGER), Ok(Tag::INTEGER));
+    assert!(implicit(&[0x81, 2, 0, 5], Tag::INTEGER).is_err());
+    assert!(implicit(&[0x81, 0], Tag::INTEGER).is_err());
+    assert!(implicit(&[0x81, 1, 7], Tag::BOOLEAN).is_err());
+    assert!(implicit(&[0xa1, 3, 2, 1, 5], Tag::INTEGER).is_err());
+    assert!(implicit(&[0x81, 1, 255], Tag::UTF8_STRING).is_err());
+    assert!(implicit(&[0x81, 1, 255], Tag::OCTET_STRING).is_ok());
+    assert!(implicit(&[0xa1, 3, 4, 1, 255], Tag::OCTET_STRING).is_err());
+    assert!(implicit(&[0xa1, 3, 2, 1, 5], Tag::SEQUENCE).is_ok());
+    assert!(implicit(&[0xa1, 4, 2, 2, 0, 5], Tag::SEQUENCE).is_err());
+    assert!(implicit(&[0x81, 0], Tag::SEQUENCE).is_err());
+    assert!(implicit(&[0x81, 1, 5], Tag::context(2)).is_err());
+    assert!(implicit(&[0x82, 1, 5], Tag::INTEGER).is_err());
+}
+
+/// The copy that is checked has the length in one octet, in two, and in three.
+#[test]
+fn implicit_tags_of_any_length() {
+    for length in [0, 1, 119, 120, 121, 127, 128, 129, 255, 256, 257, 70_000] {
+        let spelled = (length as u32).to_be_bytes();
+        let mut input = vec![0x81];
+        match length {
+            0..=127 => input.push(length as u8),
+            128..=255 => input.extend([0x81, length as u8]),
+            256..=65_535 => input.extend([0x82, spelled[2], spelled[3]]),
+            _ => input.extend([0x83, spelled[1], spelled[2], spelled[3]]),
+        }
+        input.extend(vec![b'a'; length]);
+        let text = Reader::new(&input)
+            .implicit(Tag::context(1), Tag::IA5_STRING)
+            .unwrap()
+            .as_str()
+            .unwrap();
+        assert_eq!(text.len(), length);
+        if let Some(last) = input.last_mut().filter(|_| length > 0) {
+            *last = 0x80;
+            assert!(Reader::new(&input)
+                .implicit(Tag::context(1), Tag::IA5_STRING)
+                .is_err());
+        }
+    }
+}
+
+#[test]
+fn offsets_are_those_of_the_outermost_input() {
+    let input = [0x30, 8, 0xa0, 6, 0x30, 4, 5, 0, 2, 0];
+    let error = Reader::new(&input)
+        .sequence(|r| r.tagged(Tag::context(0), |r| r.sequence(|r| Ok((r.null()?, r.u64()?)))))
+        .unwrap_err();
+    assert_eq!(error.offset(), 8);
+    assert!(error.to_string().contains("integer empty"), "{error}");
+}
+
+#[test]
+fn indefinite_lengths_by_ber() {
+    let input = [0x30, 0x80, 0xa0, 0x80, 2, 1, 5, 0, 0, 5, 0, 0, 0, 5, 0];
+    let mut r = Reader::with_rules(&input, Rules::BER);
+    let number = r.sequence(|r| {
+        let number = r.tagged(Tag::context(0), |r| r.u64())?;
+        r.null()?;
+        Ok(number)
+    });
+    assert_eq!(number, Ok(5));
+    assert_eq!(r.offset(), 13);
+    r.null().unwrap();
+    r.finish().unwrap();
+    assert!(Reader::new(&input).any().is_err());
+}
+
+#[test]
+fn depth_is_bounded() {
+    let input = [0xa0, 4, 0xa0, 2, 0x30, 0];
+    let read = |depth| {
+        Reader::with_rules(&input, Rules::DER.with_max_depth(depth)).tagged(Tag::context(0), |r| {
+            r.tagged(Tag::context(0), |r| r.sequence(|_| Ok(())))
+        })
+    };
+    assert!(read(2).is_err());
+    assert_eq!(read(3), Ok(()));
+}
+
+#[test]
+fn callers_refuse_by_themselves() {
+    let read = Reader::new(&[0x30, 3, 2, 1, 9]).sequence(|r| match (r.offset(), r.u64()?) {
+        (_, version @ 0..=2) => Ok(version),
+        (offset, _) => Err(Error::new(ErrorKind::Other("unknown version"), offset)),
+    });
+    assert_eq!(read.unwrap_err().to_string(), "unknown version at offset 2");
+}
