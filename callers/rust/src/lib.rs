@@ -46,7 +46,7 @@
 #![no_std]
 #![deny(missing_docs)]
 #![deny(unsafe_code)]
-#![deny(rustdoc::broken_intra_doc_links)]
+#![cfg_attr(feature = "std", deny(rustdoc::broken_intra_doc_links))]
 
 #[cfg(feature = "alloc")]
 extern crate alloc;

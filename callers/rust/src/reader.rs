@@ -7,7 +7,8 @@ use crate::{Any, Class, Element, Error, Tag};
 /// Reads the fields of a type, one after the other.
 ///
 /// Each call reads the next element, checks it with all that is inside it, and compares its tag. After an
-/// error the reader is where it was. A reader doesn't allocate.
+/// error the reader is where it was. A reader doesn't allocate, and keeps no list: what is inside a SEQUENCE
+/// is checked with it, and once more when its fields are read.
 ///
 /// ```
 /// use dumarewhi::{Reader, Tag};

@@ -49,7 +49,7 @@ const REQUEST: &[u8] = &[
 ];
 
 const PRINTED: [&str; 2] = [
-    "get version 1 community \"public\" id 1902652001 status 0 index 0",
+    "get version 1 community \"public\" id 1902651985 status 0 index 0",
     "  1.3.6.1.2.1.1.1.0 = null",
 ];
 

@@ -1,5 +1,4 @@
 //! Inputs whose outcomes X.690 gives, by DER and by BER.
-#![cfg(feature = "std")]
 use dumarewhi::{check_ber, check_der, Error, ErrorKind, Rules};
 
 /// What a row expects.
