@@ -26,6 +26,7 @@ use Rattle.der_parser.specs.DerContents.{AnswersTyped, ReadsTyped, SpellsTyped, 
 use Rattle.der_parser.specs.View.{content_tree, tree}
 use Rattle.der_parser.proofs.DerHeaders.{der_header_same}
 use Rattle.der_distinguished_name.specs.Names.{AnswersSpelled, BeginsWith, SpellsIdentifier, SpellsString}
+use Rattle.der_distinguished_name.proofs.Contents.{IsStringNumber, string_content, which}
 use Rattle.der_distinguished_name.proofs.Elements.{element_of, header_of}
 
 -- a reader that has its value in front of it may only lack memory
@@ -114,47 +115,6 @@ module _ (M : Type 0) where
 
 pub type_refused : (i : List ℕ) (e : Refused BerError) → AnswersTyped 6 i (Err e) → AnswersSpelled {T = Oid} SpellsIdentifier octets_of i (Err e)
 type_refused i e a = record { found = tt; only = λ w rest s. let (c, spelled) = identifier_only i w rest s in no_memory ⊥ (λ x. value_of x ≡ (node c false 6 (object_identifier false w), rest)) e (a.only (node c false 6 (object_identifier false w), rest) spelled) }
-
-abbrev IsStringNumber : ℕ → Type 0
-IsStringNumber k = IsTrue (is_one_of (12 ∷ 19 ∷ 22 ∷ []) k)
-
-other : (k n : ℕ) → IsStringNumber k → k ≡ n → is_one_of (12 ∷ 19 ∷ 22 ∷ []) n ≡ false → ⊥
-other k n h e f = let t : IsStringNumber n = subst (λ x. IsStringNumber x) e h in cc
-
-which : (k : ℕ) → IsStringNumber k → (k ≡ 12) ⊎ (k ≡ 19) ⊎ (k ≡ 22)
-which k h = grind (arith, h)
-
-mapped : (k : ℕ) → IsStringNumber k → is_mapped k ≡ false → ⊥
-mapped k h e = elim (which k h) [
-  | inl q ↦ (let f : is_mapped 12 ≡ false = subst (λ x. is_mapped x ≡ false) q e in cc)
-  | inr (inl q) ↦ (let f : is_mapped 19 ≡ false = subst (λ x. is_mapped x ≡ false) q e in cc)
-  | inr (inr q) ↦ (let f : is_mapped 22 ≡ false = subst (λ x. is_mapped x ≡ false) q e in cc)
-]
-
-not_time : (k t : ℕ) → IsStringNumber k → k ≡ t → (t ≡ 23) ⊎ (t ≡ 24) → ⊥
-not_time k t h e (inl q) = other k 23 h (e ∙ q) refl
-not_time k t h e (inr q) = other k 24 h (e ∙ q) refl
-
--- the content of a string
-string_content : (k : ℕ) (p : Bool) (x : Content) → IsStringNumber k → IsDerContent Universal p k x → (s : List ℕ) × (x ≡ string k s) × (p ≡ false)
-string_content k p (string k' s) h (inl (c, e, l)) = (s, rw l.0.0 refl, e)
-string_content k p (string k' s) h (inr n) = absurd n
-string_content k p end_of_content h (inl (c, e, l)) = absurd (other k 0 h l.0 refl)
-string_content k p (boolean v) h (inl (c, e, l)) = absurd (other k 1 h l.0.0 refl)
-string_content k p (integer v) h (inl (c, e, l)) = absurd (other k 2 h l.0.0 refl)
-string_content k p (bit_string u v) h (inl (c, e, l)) = absurd (other k 3 h l.0.0 refl)
-string_content k p null h (inl (c, e, l)) = absurd (other k 5 h l.0 refl)
-string_content k p (object_identifier r v) h (inl (c, e, l)) = absurd (other k 6 h l.0.0 refl)
-string_content k p (enumerated n) h (inl (c, e, l)) = absurd (other k 10 h l.0.0 refl)
-string_content k p (relative_oid r v) h (inl (c, e, l)) = absurd (other k 13 h l.0.0 refl)
-string_content k p (time t x) h (inl (c, e, ((et, ep, inl (ek, l)), l'))) = absurd (not_time k t h et (inl ek))
-string_content k p (time t x) h (inl (c, e, ((et, ep, inr (ek, l)), l'))) = absurd (not_time k t h et (inr ek))
-string_content k p (sequence l) h n = absurd (other k 16 h n.1 refl)
-string_content k p (set l) h n = absurd (other k 17 h n.1 refl)
-string_content k p (unknown c' p' t' v) h (inr n) = absurd (mapped k h (n.4 refl))
-string_content k p (unknown c' p' t' v) h (inl (c, e, l)) = absurd l.0
-string_content k p _ h (inl (c, e, l)) = absurd l.0
-string_content k p _ h (inr n) = absurd n
 
 node_is : (c : Class) (p : Bool) (t : ℕ) (x : Content) (k : ℕ) (s : List ℕ) → c ≡ Universal → p ≡ false → t ≡ k → x ≡ string k s → node c p t x ≡ node Universal false k (string k s)
 node_is c p t x k s ec ep et ex = rw (ec, ep, et, ex) refl

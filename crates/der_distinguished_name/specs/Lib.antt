@@ -1,3 +1,5 @@
 pub mod Inner
+pub mod InnerNodes
 pub mod Names
+pub mod TreeNames
 pub mod Views
