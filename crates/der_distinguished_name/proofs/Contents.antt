@@ -1,10 +1,9 @@
 -- The contents of the types that a name has.
 use Rattle.std.proofs.Common.{◌≡◌, ℕ, ◌⊎◌, Bool, true, false, IsTrue, List, [], ◌∷◌, refl, sym, ap, subst, ◌∙◌, arith, inl, inr}
-use Rattle.der_base.specs.declared.header.Class.{Class}
 use Rattle.der_base.specs.declared.header.Class.TheVariants.{Universal}
 use Rattle.der_base.specs.Encoding.{content_octets}
 use Rattle.der_base.specs.Leaf.{is_list, is_mapped}
-use Rattle.der_base.specs.Spelling.{IsDerContent, AreDerValid}
+use Rattle.der_base.specs.Spelling.{IsDerContent}
 use Rattle.der_base.specs.Text.{is_one_of, is_text_type}
 use Rattle.der_base.specs.Tree.{Content, end_of_content, boolean, integer, bit_string, string, null, enumerated, object_identifier, relative_oid, time, sequence, set, unknown, Nodes}
 use Rattle.der_laws.proofs.Spellings.BerFaults.{leaf_no_list}

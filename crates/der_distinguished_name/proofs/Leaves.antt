@@ -1,5 +1,5 @@
 -- The type and the value of an attribute: elements whose content is read.
-use Rattle.std.proofs.Common.{◌≡◌, ◌≢◌, ℕ, ◌≤◌, ◌⊎◌, Bool, false, IsTrue, List, [], ◌∷◌, ◌++◌, length, Option, Some, None, Ok, Err, Bor, IfOk, MatchBool, MatchResult, refl, sym, ap, subst, ◌∙◌, arith, lit≤, inl, inr}
+use Rattle.std.proofs.Common.{◌≡◌, ◌≢◌, ℕ, ◌≤◌, Bool, false, List, ◌++◌, length, Option, Some, None, Ok, Err, Bor, IfOk, MatchBool, MatchResult, refl, sym, ap, subst, ◌∙◌, arith, lit≤, inl, inr}
 use Rattle.der_parser.specs.declared.error.Err.{Err as Refused}
 use Rattle.der_parser.specs.declared.error.Err.TheVariants.{Incomplete, Error, Failure, OutOfMemory}
 use Rattle.der_parser.specs.declared.error.Error.{Error as BerError}
@@ -14,13 +14,12 @@ use Rattle.der_parser.specs.Answer.{AnswersOkOr}
 use Rattle.der_parser.specs.Encoding.{content_octets}
 use Rattle.der_parser.specs.Header.{class_of, is_constructed, number_of}
 use Rattle.der_parser.specs.Headers.{AnswersDerHeader, BeginsWithDerHeader, LeadingHeader, leading_header}
-use Rattle.der_parser.specs.Leaf.{is_list, is_mapped}
+use Rattle.der_parser.specs.Leaf.{is_list}
 use Rattle.der_parser.specs.Oids.{is_relative_of, octets_of}
 use Rattle.der_parser.specs.Parts.{AnswersPartOr, identifier_part}
 use Rattle.der_parser.specs.Readings.{Answer, value_of}
 use Rattle.der_parser.specs.Spelling.{DerSpells, IsDerContent, max_object_size}
-use Rattle.der_parser.specs.Text.{is_one_of}
-use Rattle.der_parser.specs.Tree.{Node, node, Content, end_of_content, boolean, integer, bit_string, string, null, enumerated, object_identifier, relative_oid, time, sequence, set, unknown}
+use Rattle.der_parser.specs.Tree.{Node, node, Content, string, object_identifier, relative_oid}
 use Rattle.der_parser.specs.DerReading.{IsDerContentOf}
 use Rattle.der_parser.specs.DerContents.{AnswersTyped, ReadsTyped, SpellsTyped, TypedNeedsMemory}
 use Rattle.der_parser.specs.View.{content_tree, tree}

@@ -1,5 +1,5 @@
 -- The first of the elements of items, and what it shows.
-use Rattle.std.proofs.Common.{◌≡◌, ◌≢◌, ℕ, ◌+◌, ◌<◌, ◌⊎◌, Bool, true, false, List, [], ◌∷◌, ◌++◌, length, refl, sym, ap, subst, ◌∙◌, arith, append_assoc, length-append, inl, inr, Bor}
+use Rattle.std.proofs.Common.{◌≡◌, ◌≢◌, ℕ, ◌+◌, ◌⊎◌, Bool, true, List, [], ◌∷◌, ◌++◌, length, refl, sym, ap, subst, ◌∙◌, arith, append_assoc, length-append, inl, inr}
 use Rattle.der_base.specs.declared.header.Class.{Class}
 use Rattle.der_base.specs.Encoding.{encoding, encodings, content_octets}
 use Rattle.der_base.specs.Listing.{content_count}
@@ -8,11 +8,11 @@ use Rattle.der_base.specs.Spelling.{IsDerContent}
 use Rattle.der_base.specs.Tree.{Node, node, Content, sequence, set, Nodes, no_nodes, nodes}
 use Rattle.der_laws.proofs.Spellings.DerWithinBer.{valid_element}
 use Rattle.der_nodes.specs.declared.element.Element.{Element}
-use Rattle.der_nodes.specs.Places.{placed, placed_content, placed_items}
+use Rattle.der_nodes.specs.Places.{placed_content, placed_items}
 use Rattle.der_nodes.proofs.DerWriting.{placed_content_length}
 use Rattle.der_view.specs.Views.{octets_between}
 use Rattle.der_view.proofs.Middles.{between_middle}
-use Rattle.der_distinguished_name.specs.InnerNodes.{AreElementsIn, HasNoSplit, IsSplit}
+use Rattle.der_distinguished_name.specs.InnerNodes.{AreElementsIn, HasNoSplit}
 
 pub parts_same : {A : Type 0} (xs us ys vs : List A) → xs ++ ys ≡ us ++ vs → length xs ≡ length us → (xs ≡ us) × (ys ≡ vs)
 parts_same [] [] ys vs e n = (refl, e)
@@ -39,8 +39,22 @@ pub record IsFirst (i : List ℕ) (e : Element) (inside after : List Element) (c
 -- the items of a content that begins at m
 items_of : (i g z : List ℕ) (m : ℕ) (c : Class) (p : Bool) (t : ℕ) (x : Content) (l : Nodes) → IsDerContent c p t x → i ≡ g ++ (content_octets x ++ z) → m ≡ length g
     → (x ≡ sequence l) ⊎ (x ≡ set l) → AreElementsIn i (placed_content x m) l
-items_of i g z m c p t (sequence k) l v o q (inl e) = let s : k ≡ l = cc in subst (λ l. AreElementsIn i (placed_items k m) l) s (record { front = g; behind = z; octets = o; places = ap (placed_items k) q; valid = v.3 })
-items_of i g z m c p t (set k) l v o q (inr e) = let s : k ≡ l = cc in subst (λ l. AreElementsIn i (placed_items k m) l) s (record { front = g; behind = z; octets = o; places = ap (placed_items k) q; valid = v.3 })
+items_of i g z m c p t (sequence k) l v o q (inl e) = let s : k ≡ l = cc in subst (λ l. AreElementsIn i (placed_items k m) l) s (record {
+  front = g;
+  behind = z;
+  octets = o;
+  places =
+      ap (placed_items k) q;
+  valid = v.3;
+})
+items_of i g z m c p t (set k) l v o q (inr e) = let s : k ≡ l = cc in subst (λ l. AreElementsIn i (placed_items k m) l) s (record {
+  front = g;
+  behind = z;
+  octets = o;
+  places =
+      ap (placed_items k) q;
+  valid = v.3;
+})
 items_of i g z m c p t _ l v o q (inl e) = cc
 items_of i g z m c p t _ l v o q (inr e) = cc
 
@@ -53,7 +67,8 @@ head_of c p t x n =
 
 pub first_is : (i : List ℕ) (c : Class) (p : Bool) (t : ℕ) (x : Content) (l : Nodes) (front behind : List ℕ) → i ≡ front ++ (encodings (nodes (node c p t x) l) ++ behind)
     → IsDerContent c p t x → ((front : List ℕ) → i ≡ front ++ (encodings l ++ behind) → AreElementsIn i (placed_items l (length front)) l)
-    → IsFirst i (head_of c p t x (length front)) (placed_content x (length front + length (identifier c p t ++ shortest_length (length (content_octets x))))) (placed_items l (length front + length (encoding (node c p t x)))) c p t x l
+    → IsFirst i (head_of c p t x (length front)) (placed_content x (length front + length (identifier c p t ++ shortest_length (length (content_octets x))))) (placed_items l (length front +
+    length (encoding (node c p t x)))) c p t x l
 first_is i c p t x l f behind octets v later =
     let w = content_octets x in
     let a = identifier c p t ++ shortest_length (length w) in

@@ -1,5 +1,5 @@
 -- What the loops over attributes and over relative names know.
-use Rattle.std.proofs.Common.{◌≡◌, ◌≢◌, ℕ, zero, suc, true, ◌+◌, ◌<◌, List, [], ◌∷◌, ◌++◌, length, map, refl, sym, ap, subst, ◌∙◌, arith, append_assoc, append-nil, length-append}
+use Rattle.std.proofs.Common.{◌≡◌, ◌≢◌, ℕ, suc, true, ◌+◌, List, [], ◌∷◌, ◌++◌, length, map, refl, sym, ap, subst, ◌∙◌, arith, append_assoc, append-nil, length-append}
 use Rattle.std.proofs.lemmas.List.{map-append}
 use Rattle.der_base.specs.declared.header.Class.TheVariants.{Universal}
 use Rattle.der_base.specs.Encoding.{encoding}
@@ -33,7 +33,8 @@ pub record AttributesSoFar (i : List ℕ) (left : List Element) (before : List �
   pub seen : List TextAttribute
   pub elements : AreElementsIn i left rest
   pub on : (vs : List TextAttribute) → AreEach IsAttributeOf rest vs → IsAscending (before ∷ each_encoding rest) → AreEach IsAttributeOf l (seen ++ vs) × IsAscending ([] ∷ each_encoding l)
-  pub back : (vs : List TextAttribute) → AreEach IsAttributeOf l vs → IsAscending ([] ∷ each_encoding l) → (us : List TextAttribute) × AreEach IsAttributeOf rest us × IsAscending (before ∷ each_encoding rest)
+  pub back : (vs : List TextAttribute) → AreEach IsAttributeOf l vs → IsAscending ([] ∷ each_encoding l)
+      → (us : List TextAttribute) × AreEach IsAttributeOf rest us × IsAscending (before ∷ each_encoding rest)
   pub added : new ≡ old ++ map (λ a. (number, a)) seen
 
 pub no_attributes_yet : (i : List ℕ) (es : List Element) (number : ℕ) (l : Nodes) (old : List (ℕ × TextAttribute)) → AreElementsIn i es l → AttributesSoFar i es [] number l old old
@@ -55,14 +56,19 @@ one_more_attribute i left after before number l l' o a old new new' s e h d k q 
   elements = k;
   on = λ vs g t. let (x, y) = on (a ∷ vs) (h, g) (d, t) in (subst (λ us. AreEach IsAttributeOf l us) (sym (append_assoc s.seen (a ∷ []) vs)) x, y);
   back = λ vs g t. (let (us, x, y) = back vs g t in let (v, ws, r, b, z) = first_value IsAttributeOf o l' us x in (ws, z, y.1));
-  added = q ∙ ap (λ w. w ++ (number, a) ∷ []) s.added ∙ append_assoc old (map (λ a. (number, a)) s.seen) ((number, a) ∷ []) ∙ ap (λ w. old ++ w) (sym (map-append (λ a. (number, a)) s.seen (a ∷ [])));
+  added = q ∙ ap (λ w. w ++ (number, a) ∷ []) s.added ∙ append_assoc old (map (λ a. (number, a)) s.seen) ((number, a) ∷ [])
+      ∙ ap (λ w. old ++ w) (sym (map-append (λ a. (number, a)) s.seen (a ∷ [])));
 }
   where
-    on : (vs : List TextAttribute) → AreEach IsAttributeOf (nodes o l') vs → IsAscending (before ∷ each_encoding (nodes o l')) → AreEach IsAttributeOf l (s.seen ++ vs) × IsAscending ([] ∷ each_encoding l)
-    on = subst (λ r. (vs : List TextAttribute) → AreEach IsAttributeOf r vs → IsAscending (before ∷ each_encoding r) → AreEach IsAttributeOf l (s.seen ++ vs) × IsAscending ([] ∷ each_encoding l)) e s.on
+    on : (vs : List TextAttribute) → AreEach IsAttributeOf (nodes o l') vs → IsAscending (before ∷ each_encoding (nodes o l'))
+        → AreEach IsAttributeOf l (s.seen ++ vs) × IsAscending ([] ∷ each_encoding l)
+    on = subst (λ r. (vs : List TextAttribute) → AreEach IsAttributeOf r vs → IsAscending (before ∷ each_encoding r)
+        → AreEach IsAttributeOf l (s.seen ++ vs) × IsAscending ([] ∷ each_encoding l)) e s.on
 
-    back : (vs : List TextAttribute) → AreEach IsAttributeOf l vs → IsAscending ([] ∷ each_encoding l) → (us : List TextAttribute) × AreEach IsAttributeOf (nodes o l') us × IsAscending (before ∷ each_encoding (nodes o l'))
-    back = subst (λ r. (vs : List TextAttribute) → AreEach IsAttributeOf l vs → IsAscending ([] ∷ each_encoding l) → (us : List TextAttribute) × AreEach IsAttributeOf r us × IsAscending (before ∷ each_encoding r)) e s.back
+    back : (vs : List TextAttribute) → AreEach IsAttributeOf l vs → IsAscending ([] ∷ each_encoding l)
+        → (us : List TextAttribute) × AreEach IsAttributeOf (nodes o l') us × IsAscending (before ∷ each_encoding (nodes o l'))
+    back = subst (λ r. (vs : List TextAttribute) → AreEach IsAttributeOf l vs → IsAscending ([] ∷ each_encoding l)
+        → (us : List TextAttribute) × AreEach IsAttributeOf r us × IsAscending (before ∷ each_encoding r)) e s.back
 
 -- the first of those that are left is an attribute in order, if all are attributes
 pub next_attribute : (i : List ℕ) (left : List Element) (before : List ℕ) (number : ℕ) (l l' : Nodes) (o : Node) (old new : List (ℕ × TextAttribute)) (vs : List TextAttribute)
@@ -74,10 +80,12 @@ next_attribute i left before number l l' o old new vs s e (h, n, t) =
     let (v, ws, r, b, z) = first_value IsAttributeOf o l' us x' in
     ((v, b), y'.0)
 
-pub all_attributes : (i : List ℕ) (left : List Element) (before : List ℕ) (number : ℕ) (l : Nodes) (old new : List (ℕ × TextAttribute)) → (s : AttributesSoFar i left before number l old new) → s.rest ≡ no_nodes → l ≢ no_nodes
+pub all_attributes : (i : List ℕ) (left : List Element) (before : List ℕ) (number : ℕ) (l : Nodes) (old new : List (ℕ × TextAttribute))
+    → (s : AttributesSoFar i left before number l old new) → s.rest ≡ no_nodes → l ≢ no_nodes
     → AreAttributesOf l s.seen
 all_attributes i left before number l old new s e n =
-    let on = subst (λ r. (vs : List TextAttribute) → AreEach IsAttributeOf r vs → IsAscending (before ∷ each_encoding r) → AreEach IsAttributeOf l (s.seen ++ vs) × IsAscending ([] ∷ each_encoding l)) e s.on in
+    let on = subst (λ r. (vs : List TextAttribute) → AreEach IsAttributeOf r vs → IsAscending (before ∷ each_encoding r)
+    → AreEach IsAttributeOf l (s.seen ++ vs) × IsAscending ([] ∷ each_encoding l)) e s.on in
     let (h, a) = on [] tt tt in
     let h' : AreEach IsAttributeOf l s.seen = subst (λ vs. AreEach IsAttributeOf l vs) (append-nil s.seen) h in
     (h', (λ q. n (no_values l (subst (λ vs. AreEach IsAttributeOf l vs) q h'))), ascending_tail [] (each_encoding l) a)
@@ -89,7 +97,8 @@ all_attributes i left before number l old new s e n =
 numbered_more : (k : ℕ) (n : List (List TextAttribute)) (vs : List TextAttribute) → numbered k (n ++ vs ∷ []) ≡ numbered k n ++ map (λ a. (k + length n, a)) vs
 numbered_more k [] vs = append-nil (map (λ a. (k, a)) vs) ∙ ap (λ j. map (λ a. (j, a)) vs) (search arith)
 numbered_more k (us ∷ n) vs =
-    ap (λ w. map (λ a. (k, a)) us ++ w) (numbered_more (suc k) n vs ∙ ap (λ j. numbered (suc k) n ++ map (λ a. (j, a)) vs) (search arith)) ∙ sym (append_assoc (map (λ a. (k, a)) us) (numbered (suc k) n) (map (λ a. (k + suc (length n), a)) vs))
+    ap (λ w. map (λ a. (k, a)) us ++ w) (numbered_more (suc k) n vs ∙ ap (λ j. numbered (suc k) n ++ map (λ a. (j, a)) vs) (search arith))
+    ∙ sym (append_assoc (map (λ a. (k, a)) us) (numbered (suc k) n) (map (λ a. (k + suc (length n), a)) vs))
 
 -- the same of relative names
 pub record NamesSoFar (i : List ℕ) (left : List Element) (number : ℕ) (l : Nodes) (old new : List (ℕ × TextAttribute)) : Type 0 where
@@ -122,7 +131,8 @@ one_more_name i left after number l l' o vs old new new' s e h k q = record {
   on = λ n g. subst (λ us. AreEach IsRelativeNameOf l us) (sym (append_assoc s.seen (vs ∷ []) n)) (on (vs ∷ n) (h, g));
   back = λ n g. (let (us, x) = back n g in let (v, ws, r, b, z) = first_value IsRelativeNameOf o l' us x in (ws, z));
   count = ap (λ k. k + 1) s.count ∙ sym (length-append s.seen (vs ∷ []));
-  added = q ∙ ap (λ w. w ++ map (λ a. (number, a)) vs) s.added ∙ append_assoc old (numbered 0 s.seen) (map (λ a. (number, a)) vs) ∙ ap (λ k. old ++ (numbered 0 s.seen ++ map (λ a. (k, a)) vs)) (s.count ∙ search arith) ∙ ap (λ w. old ++ w) (sym (numbered_more 0 s.seen vs));
+  added = q ∙ ap (λ w. w ++ map (λ a. (number, a)) vs) s.added ∙ append_assoc old (numbered 0 s.seen) (map (λ a. (number, a)) vs)
+      ∙ ap (λ k. old ++ (numbered 0 s.seen ++ map (λ a. (k, a)) vs)) (s.count ∙ search arith) ∙ ap (λ w. old ++ w) (sym (numbered_more 0 s.seen vs));
 }
   where
     on : (n : List (List TextAttribute)) → AreEach IsRelativeNameOf (nodes o l') n → AreEach IsRelativeNameOf l (s.seen ++ n)
@@ -139,7 +149,8 @@ next_name i left number l l' o old new n s e h =
     let (v, ws, r, b, z) = first_value IsRelativeNameOf o l' m x' in
     (v, b)
 
-pub all_names : (i : List ℕ) (left : List Element) (number : ℕ) (l : Nodes) (old new : List (ℕ × TextAttribute)) → (s : NamesSoFar i left number l old new) → s.rest ≡ no_nodes → AreEach IsRelativeNameOf l s.seen
+pub all_names : (i : List ℕ) (left : List Element) (number : ℕ) (l : Nodes) (old new : List (ℕ × TextAttribute)) → (s : NamesSoFar i left number l old new) → s.rest ≡ no_nodes
+    → AreEach IsRelativeNameOf l s.seen
 all_names i left number l old new s e =
     let on = subst (λ r. (n : List (List TextAttribute)) → AreEach IsRelativeNameOf r n → AreEach IsRelativeNameOf l (s.seen ++ n)) e s.on in
     subst (λ n. AreEach IsRelativeNameOf l n) (append-nil s.seen) (on [] tt)

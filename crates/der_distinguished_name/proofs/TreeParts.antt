@@ -16,12 +16,13 @@ use Rattle.der_nodes.specs.declared.element.Element.{Element}
 use Rattle.der_nodes.specs.Places.{placed_content}
 use Rattle.der_view.specs.Views.{octets_between}
 use Rattle.der_distinguished_name.specs.InnerNodes.{Adds, AreElementsIn}
-use Rattle.der_distinguished_name.specs.TreeNames.{IsAttributeOf, IsRelativeNameOf, IsNameOf, TextAttribute}
+use Rattle.der_distinguished_name.specs.TreeNames.{IsAttributeOf, TextAttribute}
 use Rattle.der_distinguished_name.proofs.Contents.{IsStringNumber, other, which, identifier_content, string_content, sequence_content, set_content}
-use Rattle.der_distinguished_name.proofs.TreeElements.{IsFirst, first_is, first_of, items_there, no_items_there, head_of}
+use Rattle.der_distinguished_name.proofs.TreeElements.{IsFirst, first_is, first_of, no_items_there, head_of}
 
 -- what the class and the number of an element say of its node
-pub universal_at : {i : List ℕ} {e : Element} {inside after : List Element} {c : Class} {p : Bool} {t : ℕ} {x : Content} {l : Nodes} (k : ℕ) → IsFirst i e inside after c p t x l → e.class ≡ Universal → e.number ≡ k
+pub universal_at : {i : List ℕ} {e : Element} {inside after : List Element} {c : Class} {p : Bool} {t : ℕ} {x : Content} {l : Nodes} (k : ℕ) → IsFirst i e inside after c p t x l
+    → e.class ≡ Universal → e.number ≡ k
     → (c ≡ Universal) × (t ≡ k) × IsDerContent Universal p k x
 universal_at {c = c} {p} {t} {x} k f ec en =
     let a : c ≡ Universal = sym f.class ∙ ec in
@@ -85,17 +86,20 @@ string_utf8 k w s (inr n) = absurd n
 
 -- two leaves: the type and the value of an attribute
 pub record AreParts (i : List ℕ) (eo et : Element) (k : ℕ) (l : Nodes) : Type 0 where
-  pub items : l ≡ nodes (node Universal false 6 (object_identifier false (octets_between i eo.content eo.end))) (nodes (node Universal false k (string k (octets_between i et.content et.end))) no_nodes)
+  pub items : l ≡ nodes (node Universal false 6 (object_identifier false (octets_between i eo.content eo.end))) (nodes (node Universal false k (string k (octets_between i et.content
+      et.end))) no_nodes)
   pub text : IsUtf8 (octets_between i et.content et.end)
 
-are_parts : (i : List ℕ) (eo et : Element) (k : ℕ) (l : Nodes) → AreElementsIn i (eo ∷ et ∷ []) l → eo.class ≡ Universal → eo.number ≡ 6 → et.class ≡ Universal → et.number ≡ k → IsStringNumber k → AreParts i eo et k l
+are_parts : (i : List ℕ) (eo et : Element) (k : ℕ) (l : Nodes) → AreElementsIn i (eo ∷ et ∷ []) l → eo.class ≡ Universal → eo.number ≡ 6 → et.class ≡ Universal → et.number ≡ k
+    → IsStringNumber k → AreParts i eo et k l
 are_parts i eo et k l h oc on tc tn s =
     let a = leaf_item i eo (et ∷ []) 6 (λ w. object_identifier false w) l h oc on identifier_content (λ w. refl) in
     let b = leaf_item i et [] k (λ w. string k w) a.later a.after tc tn (λ p x. string_content k p x s) (λ w. refl) in
     let none = no_items_there i b.later b.after in
     let first : nodes (node Universal false 6 (object_identifier false a.octets)) a.later ≡ l = sym a.items in
     record {
-      items = a.items ∙ ap (λ l. nodes (node Universal false 6 (object_identifier false a.octets)) l) b.items ∙ ap (λ l. nodes (node Universal false 6 (object_identifier false a.octets)) (nodes (node Universal false k (string k b.octets)) l)) none
+      items = a.items ∙ ap (λ l. nodes (node Universal false 6 (object_identifier false a.octets)) l) b.items
+          ∙ ap (λ l. nodes (node Universal false 6 (object_identifier false a.octets)) (nodes (node Universal false k (string k b.octets)) l)) none
           ∙ ap (λ w. nodes (node Universal false 6 (object_identifier false w)) (nodes (node Universal false k (string k b.octets)) no_nodes)) (sym a.content)
           ∙ ap (λ w. nodes (node Universal false 6 (object_identifier false (octets_between i eo.content eo.end))) (nodes (node Universal false k (string k w)) no_nodes)) (sym b.content);
       text = subst (λ w. IsUtf8 w) (sym b.content) (string_utf8 k b.octets s b.valid);
@@ -147,14 +151,16 @@ attribute_elements i e inside after c p t x l (w, k, s) f (h, q) =
     }
 
 -- the element of a list with its items
-pub sequence_found : (i : List ℕ) (e : Element) (inside after : List Element) (c : Class) (p : Bool) (t : ℕ) (x : Content) (l : Nodes) → IsFirst i e inside after c p t x l → e.class ≡ Universal → e.number ≡ 16
+pub sequence_found : (i : List ℕ) (e : Element) (inside after : List Element) (c : Class) (p : Bool) (t : ℕ) (x : Content) (l : Nodes) → IsFirst i e inside after c p t x l
+    → e.class ≡ Universal → e.number ≡ 16
     → (l' : Nodes) × (node c p t x ≡ node Universal true 16 (sequence l')) × AreElementsIn i inside l'
 sequence_found i e inside after c p t x l f ec en =
     let (a, b, v) = universal_at 16 f ec en in
     let (l', ex, ep) = sequence_content p x v in
     (l', same_node c Universal p true t 16 x (sequence l') a ep b ex, f.items l' (inl ex))
 
-pub set_found : (i : List ℕ) (e : Element) (inside after : List Element) (c : Class) (p : Bool) (t : ℕ) (x : Content) (l : Nodes) → IsFirst i e inside after c p t x l → e.class ≡ Universal → e.number ≡ 17
+pub set_found : (i : List ℕ) (e : Element) (inside after : List Element) (c : Class) (p : Bool) (t : ℕ) (x : Content) (l : Nodes) → IsFirst i e inside after c p t x l
+    → e.class ≡ Universal → e.number ≡ 17
     → (l' : Nodes) × (node c p t x ≡ node Universal true 17 (set l')) × AreElementsIn i inside l'
 set_found i e inside after c p t x l f ec en =
     let (a, b, v) = universal_at 17 f ec en in
@@ -173,7 +179,8 @@ pub members_same : (l l' : Nodes) (p p' : Bool) → node Universal p 17 (set l) 
 members_same l l' p p' e = cc
 
 -- the attribute that the first elements are
-pub attribute_read : (i : List ℕ) (es : List Element) (e eo et : Element) (inside after : List Element) (k : ℕ) (o : Node) (l : Nodes) → AreElementsIn i es (nodes o l) → es ≡ e ∷ (inside ++ after) → length inside ≡ e.inside
+pub attribute_read : (i : List ℕ) (es : List Element) (e eo et : Element) (inside after : List Element) (k : ℕ) (o : Node) (l : Nodes) → AreElementsIn i es (nodes o l)
+    → es ≡ e ∷ (inside ++ after) → length inside ≡ e.inside
     → inside ≡ eo ∷ et ∷ [] → e.class ≡ Universal → e.number ≡ 16 → eo.class ≡ Universal → eo.number ≡ 6 → et.class ≡ Universal → et.number ≡ k → IsStringNumber k
     → IsAttributeOf o (octets_between i eo.content eo.end, k, octets_between i et.content et.end) × IsUtf8 (octets_between i et.content et.end) × AreElementsIn i after l
 attribute_read i es e eo et inside after k (node c p t x) l h s n two ec en oc on tc tn a =
@@ -181,13 +188,16 @@ attribute_read i es e eo et inside after k (node c p t x) l h s n two ec en oc o
     let (found, text) = attribute_found i e eo et after c p t x l k (subst (λ inside. IsFirst i e inside after c p t x l) two f) ec en oc on tc tn a in
     (found, text, f.following)
 
-pub text_read : (i : List ℕ) (es : List Element) (e eo et : Element) (inside after : List Element) (k : ℕ) (l : Nodes) → AreElementsIn i es l → es ≡ e ∷ (inside ++ after) → length inside ≡ e.inside
-    → inside ≡ eo ∷ et ∷ [] → e.class ≡ Universal → e.number ≡ 16 → eo.class ≡ Universal → eo.number ≡ 6 → et.class ≡ Universal → et.number ≡ k → IsStringNumber k → IsUtf8 (octets_between i et.content et.end)
+pub text_read : (i : List ℕ) (es : List Element) (e eo et : Element) (inside after : List Element) (k : ℕ) (l : Nodes) → AreElementsIn i es l → es ≡ e ∷ (inside ++ after)
+    → length inside ≡ e.inside
+    → inside ≡ eo ∷ et ∷ [] → e.class ≡ Universal → e.number ≡ 16 → eo.class ≡ Universal → eo.number ≡ 6 → et.class ≡ Universal → et.number ≡ k → IsStringNumber k
+    → IsUtf8 (octets_between i et.content et.end)
 text_read i es e eo et inside after k no_nodes h s n two ec en oc on tc tn a = let z : e ∷ (inside ++ after) ≡ [] = sym s ∙ h.places in cc
 text_read i es e eo et inside after k (nodes o l) h s n two ec en oc on tc tn a = (attribute_read i es e eo et inside after k o l h s n two ec en oc on tc tn a).1
 
 -- the elements of an attribute, if the first is one
-pub attribute_there : (i : List ℕ) (es : List Element) (e : Element) (inside after : List Element) (o : Node) (l : Nodes) (a : TextAttribute) → AreElementsIn i es (nodes o l) → es ≡ e ∷ (inside ++ after) → length inside ≡ e.inside
+pub attribute_there : (i : List ℕ) (es : List Element) (e : Element) (inside after : List Element) (o : Node) (l : Nodes) (a : TextAttribute) → AreElementsIn i es (nodes o l)
+    → es ≡ e ∷ (inside ++ after) → length inside ≡ e.inside
     → IsAttributeOf o a → AttributeElements e inside a.1
 attribute_there i es e inside after (node c p t x) l a h s n q = attribute_elements i e inside after c p t x l a (first_of i es e inside after c p t x l h s n) q
 
@@ -201,18 +211,21 @@ pub same_attribute : (n : ℕ) (w w' : List ℕ) (k : ℕ) (s s' : List ℕ) →
 same_attribute n w w' k s s' a b = rw (a, b) refl
 
 -- the items of a name and of a set
-pub name_read : (i : List ℕ) (es : List Element) (e : Element) (inside after : List Element) (o : Node) (l : Nodes) → AreElementsIn i es (nodes o l) → es ≡ e ∷ (inside ++ after) → length inside ≡ e.inside
+pub name_read : (i : List ℕ) (es : List Element) (e : Element) (inside after : List Element) (o : Node) (l : Nodes) → AreElementsIn i es (nodes o l) → es ≡ e ∷ (inside ++ after)
+    → length inside ≡ e.inside
     → e.class ≡ Universal → e.number ≡ 16 → (l' : Nodes) × (o ≡ node Universal true 16 (sequence l')) × AreElementsIn i inside l'
 name_read i es e inside after (node c p t x) l h s n ec en = sequence_found i e inside after c p t x l (first_of i es e inside after c p t x l h s n) ec en
 
-pub set_read : (i : List ℕ) (es : List Element) (e : Element) (inside after : List Element) (o : Node) (l : Nodes) → AreElementsIn i es (nodes o l) → es ≡ e ∷ (inside ++ after) → length inside ≡ e.inside
+pub set_read : (i : List ℕ) (es : List Element) (e : Element) (inside after : List Element) (o : Node) (l : Nodes) → AreElementsIn i es (nodes o l) → es ≡ e ∷ (inside ++ after)
+    → length inside ≡ e.inside
     → e.class ≡ Universal → e.number ≡ 17 → (l' : Nodes) × (o ≡ node Universal true 17 (set l')) × AreElementsIn i inside l' × AreElementsIn i after l
 set_read i es e inside after (node c p t x) l h s n ec en =
     let f = first_of i es e inside after c p t x l h s n in
     let (l', q, k) = set_found i e inside after c p t x l f ec en in
     (l', q, k, f.following)
 
-pub type_read : (i : List ℕ) (es : List Element) (e : Element) (inside after : List Element) (o : Node) (l : Nodes) (k : ℕ) (x : Content) → AreElementsIn i es (nodes o l) → es ≡ e ∷ (inside ++ after) → length inside ≡ e.inside
+pub type_read : (i : List ℕ) (es : List Element) (e : Element) (inside after : List Element) (o : Node) (l : Nodes) (k : ℕ) (x : Content) → AreElementsIn i es (nodes o l)
+    → es ≡ e ∷ (inside ++ after) → length inside ≡ e.inside
     → o ≡ node Universal true k x → (e.class ≡ Universal) × (e.number ≡ k)
 type_read i es e inside after (node c p t y) l k x h s n q = type_of_node i e inside after c p t y l k x (first_of i es e inside after c p t y l h s n) q
 
@@ -221,7 +234,8 @@ node_of_items i es no_nodes h n = absurd (n h.places)
 node_of_items i es (nodes o l) h n = (o, l, refl)
 
 -- the octets of the first item
-pub octets_of_first : (i : List ℕ) (es : List Element) (e : Element) (more : List Element) (o : Node) (l : Nodes) → AreElementsIn i es (nodes o l) → es ≡ e ∷ more → octets_between i e.header e.end ≡ encoding o
+pub octets_of_first : (i : List ℕ) (es : List Element) (e : Element) (more : List Element) (o : Node) (l : Nodes) → AreElementsIn i es (nodes o l) → es ≡ e ∷ more
+    → octets_between i e.header e.end ≡ encoding o
 octets_of_first i es e more (node c p t x) l h s =
     let n = length h.front in
     let q : e ∷ more ≡ head_of c p t x n ∷ _ = sym s ∙ h.places in
@@ -229,7 +243,8 @@ octets_of_first i es e more (node c p t x) l h s =
     rw head (first_is i c p t x l h.front h.behind h.octets h.valid.0.1 (λ f o. record { front = f; behind = h.behind; octets = o; places = refl; valid = h.valid.1 })).whole
 
 -- one list of attributes for two conditions that are the same
-pub adds_same : {V A : Type 0} (P Q : V → Type 0) (added : V → List A) (old new : List A) (r : Result (Unit {0}) (Refused BerError)) → ((v : V) → P v → Q v) → ((v : V) → Q v → P v) → Adds P added old new r → Adds Q added old new r
+pub adds_same : {V A : Type 0} (P Q : V → Type 0) (added : V → List A) (old new : List A) (r : Result (Unit {0}) (Refused BerError)) → ((v : V) → P v → Q v) → ((v : V) → Q v → P v)
+    → Adds P added old new r → Adds Q added old new r
 adds_same P Q added old new r f g h = answered _ _ r h (λ u (v, p, q). (v, f v p, q)) (λ e (q, n). (q, λ v p. n v (g v p))) (λ n b. b) (λ u. u)
 
 -- the first of the items that are left
@@ -237,7 +252,8 @@ pub next_node : (i : List ℕ) (es : List Element) (l : Nodes) → AreElementsIn
 next_node i es no_nodes h n = let z : es ≡ [] = h.places in absurd (omega (arith, n, ap length z))
 next_node i es (nodes o l) h n = (o, l, refl, h)
 
-pub first_octets : (i : List ℕ) (es : List Element) (d : Element) (o : Node) (l : Nodes) → AreElementsIn i es (nodes o l) → 1 ≤ length es → octets_between i (slice_index_or es 0 d).header (slice_index_or es 0 d).end ≡ encoding o
+pub first_octets : (i : List ℕ) (es : List Element) (d : Element) (o : Node) (l : Nodes) → AreElementsIn i es (nodes o l) → 1 ≤ length es
+    → octets_between i (slice_index_or es 0 d).header (slice_index_or es 0 d).end ≡ encoding o
 first_octets i [] d o l h n = absurd (omega (arith, n))
 first_octets i (e ∷ more) d o l h n = octets_of_first i (e ∷ more) e more o l h refl
 

@@ -1,22 +1,21 @@
 -- An input shows one name at most; the elements of a whole object.
-use Rattle.std.proofs.Common.{◌≡◌, ℕ, zero, suc, ◌≤◌, ◌⊎◌, true, List, [], ◌∷◌, ◌++◌, length, map, take, drop, refl, sym, ap, subst, ◌∙◌, arith, append-nil, inl, inr, length-append, length-take}
+use Rattle.std.proofs.Common.{◌≡◌, ℕ, zero, suc, ◌≤◌, List, [], ◌∷◌, ◌++◌, length, take, drop, refl, sym, ap, subst, ◌∙◌, arith, append-nil, inl, inr, length-append, length-take}
 use Rattle.std.proofs.lemmas.List.{take-append-le}
-use Rattle.der_base.specs.declared.header.Class.TheVariants.{Universal}
 use Rattle.der_base.specs.Encoding.{encoding}
-use Rattle.der_base.specs.Refusal.{Refusal, wrong_value}
+use Rattle.der_base.specs.Refusal.{Refusal}
 use Rattle.der_base.specs.Spelling.{BeginsWithDer}
 use Rattle.der_base.specs.Stable.{DerIsCut}
-use Rattle.der_base.specs.Tree.{Node, node, object_identifier, string, sequence, set, Nodes, no_nodes, nodes}
+use Rattle.der_base.specs.Tree.{Node, Nodes, no_nodes, nodes}
 use Rattle.der_base.proofs.Answers.Exactness.{ShowsOne}
 use Rattle.der_laws.proofs.Spellings.DerFaults.{spelled_shows_nothing, shows_one}
 use Rattle.der_der.proofs.ReadingLaws.{spelled_same, spelled_not_cut, cut_same}
 use Rattle.der_nodes.specs.declared.element.Element.{Element}
 use Rattle.der_nodes.specs.NodesReading.{ListsDerNodes}
-use Rattle.der_nodes.specs.Places.{placed, placed_items, overlay}
+use Rattle.der_nodes.specs.Places.{placed, overlay}
 use Rattle.der_nodes.proofs.DerWriting.{placed_length}
 use Rattle.der_view.specs.Vectors.{HasDerElements}
 use Rattle.der_distinguished_name.specs.InnerNodes.{AreElementsIn}
-use Rattle.der_distinguished_name.specs.TreeNames.{AreEach, AreAttributesOf, BeginsWithName, BeginsWithObject, IsAttributeOf, IsNameOf, IsRelativeNameOf, RefusesName, TextAttribute, numbered, read_attributes}
+use Rattle.der_distinguished_name.specs.TreeNames.{AreEach, BeginsWithName, BeginsWithObject, IsAttributeOf, IsNameOf, IsRelativeNameOf, RefusesName, TextAttribute, numbered, read_attributes}
 use Rattle.der_distinguished_name.proofs.TreeLists.{names_of_name, attributes_of_set}
 
 -- a node is of one attribute, of one relative name, and of one name
@@ -122,7 +121,8 @@ take_within (suc n) (suc k) [] m = refl
 take_within (suc n) (suc k) (x ∷ xs) m = ap (λ z. x ∷ z) (take_within n k xs (omega (arith, m)))
 
 -- the elements of an object at the start of a vector
-pub has_elements : (i rest : List ℕ) (n size : ℕ) (items old new : List Element) → ListsDerNodes 50 i rest n old new → n ≤ size → size ≡ length old → HasDerElements 50 i rest (take n (take size (new ++ drop (length new) items)))
+pub has_elements : (i rest : List ℕ) (n size : ℕ) (items old new : List Element) → ListsDerNodes 50 i rest n old new → n ≤ size → size ≡ length old
+    → HasDerElements 50 i rest (take n (take size (new ++ drop (length new) items)))
 has_elements i rest n size items old new (o, b, k, e) m s =
     (o, b, take_within n size (new ++ drop (length new) items) m ∙ front_filled n items old new (placed o 0) (omega (arith, m, s)) (placed_length o 0 ∙ sym k) e)
 

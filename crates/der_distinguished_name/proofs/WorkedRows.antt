@@ -1,5 +1,5 @@
 -- Worked rows of names.
-use Rattle.std.proofs.Common.{◌≡◌, ℕ, true, false, List, [], ◌∷◌, ◌++◌, length, refl, lit<, lit≤, inl, inr, arith, IsTrue, All}
+use Rattle.std.proofs.Common.{ℕ, true, false, List, [], ◌∷◌, refl, lit<, lit≤, inl, inr, arith, IsTrue, All}
 use Rattle.std.proofs.lemmas.List.Elements.{All-from_recursion}
 use Rattle.der_parser.specs.declared.ber.Class.TheVariants.{Universal}
 use Rattle.der_parser.specs.Octets.{identifier, shortest_length}

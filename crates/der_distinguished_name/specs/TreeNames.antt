@@ -24,7 +24,8 @@ TextAttribute = List ℕ × ℕ × List ℕ
 -- a SEQUENCE of an OBJECT IDENTIFIER and a UTF8String, a PrintableString or an IA5String
 abbrev pub IsAttributeOf : Node → TextAttribute → Type 0
 IsAttributeOf o (w, k, s) = IsTrue (is_one_of (12 ∷ 19 ∷ 22 ∷ []) k) × (o ≡ node Universal true 16 (sequence
-    (nodes (node Universal false 6 (object_identifier false w)) (nodes (node Universal false k (string k s)) no_nodes))))
+    (nodes (node Universal false 6 (object_identifier false w))
+    (nodes (node Universal false k (string k s)) no_nodes))))
 
 -- each item is of the value in its place
 abbrev pub AreEach : {V : Type 0} → (Node → V → Type 0) → Nodes → List V → Type 0

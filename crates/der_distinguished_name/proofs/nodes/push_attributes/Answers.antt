@@ -1,7 +1,7 @@
-use Rattle.std.proofs.Common.{◌≡◌, ◌∙◌, ◌≤◌, ◌++◌, ◌∷◌, [], ℕ, Bool, true, false, List, IsTrue, length, map, refl, sym, ap, subst, rules, arith}
+use Rattle.std.proofs.Common.{◌≡◌, ◌∙◌, ◌≤◌, ◌++◌, ◌∷◌, [], IsTrue, length, map, refl, sym, ap, subst, rules, arith}
 use Rattle.std.proofs.lemmas.List.{map-append}
 use Rattle.der_base.specs.SetOfOrder.{Descends}
-use Rattle.der_distinguished_name.specs.TreeNames.{TextAttribute, text_attribute}
+use Rattle.der_distinguished_name.specs.TreeNames.{text_attribute}
 use Rattle.der_distinguished_name.proofs.TreeLists.{AttributesSoFar, all_attributes, next_attribute, no_attributes_yet, one_more_attribute}
 use Rattle.der_distinguished_name.proofs.TreeParts.{first_octets, next_node, none_left, some_left}
 use Rattle.der_distinguished_name.proofs.nodes.push_attributes.Goals as goal
@@ -48,7 +48,8 @@ loop-left-preserved c = λ k h. (
     let octets = c.between-octets.ensures ∙ first_octets i left _ o l w c.in-len1-up.len_at_least in
     let (a, q, t, m) = c.in-Some.ensures.read o l w in
     let pushed : c.push.new.self.items ≡ c.loop-left.attributes.items ++ c.in-Some.attribute ∷ [] = search rules in
-    let added : map text_attribute c.push.new.self.items ≡ new ++ (c.args.number, a) ∷ [] = ap (map text_attribute) pushed ∙ map-append text_attribute c.loop-left.attributes.items (c.in-Some.attribute ∷ []) ∙ ap (λ v. new ++ v ∷ []) t in
+    let added : map text_attribute c.push.new.self.items ≡ new ++ (c.args.number, a) ∷ [] = ap (map text_attribute) pushed
+    ∙ map-append text_attribute c.loop-left.attributes.items (c.in-Some.attribute ∷ []) ∙ ap (λ v. new ++ v ∷ []) t in
     let falls : Descends before c.between-octets.result.now → ⊥ = λ d. (let z : IsTrue c.descends.result = c.descends.ensures.1 d in search rules) in
     subst (λ w. AttributesSoFar i c.in-Some.after.now w c.args.number k (map text_attribute c.args.attributes.now.items) (map text_attribute c.push.new.self.items)) (sym octets)
     (one_more_attribute i left c.in-Some.after.now before c.args.number k l o a _ new _ s e q (λ d. falls (subst (λ w. Descends before w) (sym octets) d)) m added))

@@ -22,5 +22,6 @@ returns c =
     let s = c.in-Some.ensures in
     let a = c.is_type.ensures.0 (search rules) in
     λ o h. (let (l, q, k) = name_read c.args.i.now c.args.elements.now c.in-Some.name.now c.in-Some.inside.now c.in-Some.field-0-2.now o no_nodes h s.0 s.1 a.0 a.1 in
-    adds_same (AreEach IsRelativeNameOf l) (IsNameOf o) (numbered 0) (map text_attribute c.args.attributes.now.items) (map text_attribute c.push_relative_names.new.attributes.items) c.push_relative_names.result
+    adds_same (AreEach IsRelativeNameOf l) (IsNameOf o) (numbered 0) (map text_attribute c.args.attributes.now.items) (map text_attribute c.push_relative_names.new.attributes.items)
+    c.push_relative_names.result
     (λ n r. (l, q, r)) (λ n r. names_of_name o l n q r) (c.push_relative_names.ensures l k))

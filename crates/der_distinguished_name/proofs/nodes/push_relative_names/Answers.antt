@@ -1,10 +1,8 @@
-use Rattle.std.proofs.Common.{◌≡◌, ◌∙◌, ◌+◌, ◌≤◌, ◌<◌, ◌++◌, ◌∷◌, [], ℕ, List, IsTrue, length, map, refl, sym, ap, subst, rules, arith, length-append}
+use Rattle.std.proofs.Common.{◌≡◌, ◌+◌, ◌≤◌, ◌<◌, IsTrue, length, map, refl, ap, rules, arith, length-append}
 use Rattle.der_base.proofs.Answers.Answering.{passed_on}
-use Rattle.der_base.specs.Tree.{Nodes}
-use Rattle.der_distinguished_name.specs.InnerNodes.{AreElementsIn}
 use Rattle.der_distinguished_name.specs.TreeNames.{text_attribute}
 use Rattle.der_distinguished_name.proofs.TreeElements.{has_split}
-use Rattle.der_distinguished_name.proofs.TreeLists.{NamesSoFar, all_names, attributes_of_set, next_name, no_names_yet, one_more_name}
+use Rattle.der_distinguished_name.proofs.TreeLists.{all_names, attributes_of_set, next_name, no_names_yet, one_more_name}
 use Rattle.der_distinguished_name.proofs.TreeParts.{next_node, none_left, set_read, type_read}
 use Rattle.der_distinguished_name.proofs.nodes.push_relative_names.Goals as goal
 
@@ -59,7 +57,11 @@ returns-in-Err c = λ k h. (
     let split = c.in-Some.ensures in
     let t = c.is_type.ensures.0 (search rules) in
     let (m, q, inner, later) = set_read i left c.in-Some.set.now c.in-Some.inside.now c.in-Some.after.now o l w split.0 split.1 t.0 t.1 in
-    passed_on _ _ c.in-Err.e (c.in-Err.ensures m inner) (λ x (r, none). (r, λ n a. (let (vs, v) = next_name i left c.loop-left.number k l o _ _ n s e a in none vs (attributes_of_set o m vs q v)))) (λ n b. b) (λ u. u))
+    passed_on _ _ c.in-Err.e (c.in-Err.ensures m inner) (λ x (r, none). (
+      r,
+      λ n a. (let (vs, v) =
+          next_name i left c.loop-left.number k l o _ _ n s e a in none vs (attributes_of_set o m vs q v)),
+    )) (λ n b. b) (λ u. u))
 
 pub loop-left-preserved : goal.loop-left-preserved
 loop-left-preserved c =
