@@ -62,3 +62,11 @@ pub use Rattle.der_cursor.specs.Runs
 pub use Rattle.der_cursor.specs.Values
 pub use Rattle.der_visit.specs.Changing
 pub use Rattle.der_visit.specs.Visiting
+pub use Rattle.der_nodes.specs.FaultPlaces
+pub use Rattle.der_nodes.specs.Laws as NodesLaws
+pub use Rattle.der_nodes.specs.NodesReading
+pub use Rattle.der_nodes.specs.Places
+pub use Rattle.der_view.specs.Laws as ViewLaws
+pub use Rattle.der_view.specs.Values as NodeValues
+pub use Rattle.der_view.specs.Vectors
+pub use Rattle.der_view.specs.Views

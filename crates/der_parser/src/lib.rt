@@ -97,6 +97,15 @@ pub mod cursor {
     };
 }
 
+/// Elements by their places in the input, read without memory by BER and DER, and a view of them.
+pub mod nodes {
+    pub use der_nodes::{
+        Element, check_ber, check_der, parse_ber_nodes, parse_ber_nodes_counted,
+        parse_ber_nodes_placed, parse_der_nodes, parse_der_nodes_placed,
+    };
+    pub use der_view::{Node, Nodes, Preorder, Trees, Value, read_ber_nodes, read_der_nodes};
+}
+
 /// Object identifiers.
 pub mod oid {
     pub use der_base::error::OidParseError;
@@ -121,5 +130,12 @@ pub mod laws {
         opened_never_refused, refused_headers_stay_refused, set_of_has_one_order,
         spellings_are_one, tag_numbers_are_shortest, unused_bits_are_last,
     };
+    pub use der_nodes::laws::{
+        ber_places_are_exact as ber_element_places_are_exact,
+        places_are_exact as element_places_are_exact, refusals_have_one_place,
+    };
     pub use der_object::laws::{equals_have_one_tree, small_clones_are_the_value};
+    pub use der_view::laws::{
+        ber_elements_show, der_elements_show, nodes_show_one_tree, values_are_one,
+    };
 }
