@@ -8,7 +8,7 @@ use der_parser::error::{BerResult, Err as Refused};
 use std::alloc::{AllocError, Global};
 
 /// The depths to which fronts are read.
-const DEPTHS: &[usize] = &[0, 1, 2, 50];
+pub const DEPTHS: &[usize] = &[0, 1, 2, 50];
 
 /// Both readers, to each depth, answer on the fronts of these octets as the module says.
 pub fn expect_stable_fronts(alloc: Global, text: &str) -> Result<(), Wrong> {

@@ -4,6 +4,7 @@
 
 pub mod answer;
 pub mod fronts;
+pub mod nodes;
 pub mod octets;
 pub mod reader;
 pub mod reading;

@@ -1,6 +1,7 @@
 //! What rows of all tables have in common: octets, and what holds of any octets is tried on them.
 use crate::answer::{Answer, Parts};
 use crate::fronts::expect_stable_fronts;
+use crate::nodes::expect_elements;
 use crate::reader::Reader;
 use crate::reading::DepthRow;
 use crate::round_trips::expect_round_trip;
@@ -16,6 +17,8 @@ pub enum Trial {
     RoundTrip,
     /// Each front is read, and read again with octets behind it.
     Fronts,
+    /// Elements are read to buffers of any size, beside the object.
+    Nodes,
 }
 
 impl Trial {
@@ -24,6 +27,7 @@ impl Trial {
         match self {
             Trial::RoundTrip => expect_round_trip(alloc, depth, text),
             Trial::Fronts => expect_stable_fronts(alloc, text),
+            Trial::Nodes => expect_elements(alloc, depth, text),
         }
     }
 }

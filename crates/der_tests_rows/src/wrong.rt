@@ -1,7 +1,7 @@
 //! What a row finds wrong, as an error: a library may not end the process.
 use crate::octets::TextFault;
 use der_parser::error::{BerError, Err as Refused, GenError};
-use std::alloc::AllocError;
+use std::alloc::{AllocError, AllocFailed};
 
 /// Why a row doesn't hold.
 #[derive(Debug, Drop)]
@@ -39,6 +39,12 @@ impl From<GenError> for Wrong {
 
 impl From<AllocError> for Wrong {
     fn from(_e: AllocError) -> Wrong {
+        Wrong::OutOfMemory
+    }
+}
+
+impl<T: Drop> From<AllocFailed<T>> for Wrong {
+    fn from(_e: AllocFailed<T>) -> Wrong {
         Wrong::OutOfMemory
     }
 }
