@@ -16,4 +16,6 @@ mod header_rows;
 #[cfg(test)]
 mod leaf_rows;
 #[cfg(test)]
+mod nodes;
+#[cfg(test)]
 mod round_trips;
