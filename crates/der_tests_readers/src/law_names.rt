@@ -22,10 +22,14 @@ ghost use Rattle.der_parser.specs.Laws.{MinimalIsShortest, NumberOrRefused, Numb
 ghost use Rattle.der_parser.specs.Laws.{OctetsAreShortest, OpenedPass, OpensInOneWay, ReadOrRefusedByBer};
 ghost use Rattle.der_parser.specs.Laws.{SetOfHasOneOrder, SpellingsAreOne, SpellingsShowNoFault};
 ghost use Rattle.der_parser.specs.Laws.{UnusedBitsAreLast, WrittenOrRefusedByDer, WrittenPassDer};
+ghost use Rattle.der_parser.specs.NodesLaws.{BerOnePlace, BerPlacesInPreorder, BerPlacesShow, BerPlacesStand};
+ghost use Rattle.der_parser.specs.NodesLaws.{OnePlace, PlacesInPreorder, PlacesShow, PlacesStand};
 ghost use Rattle.der_parser.specs.OidArcs.{ArcsComeBack};
 ghost use Rattle.der_parser.specs.Spelling.{BeginsWithBer, BeginsWithDer};
 ghost use Rattle.der_parser.specs.TreeEquality.{same_node};
 ghost use Rattle.der_parser.specs.View.{HaveOneTree};
+ghost use Rattle.der_parser.specs.ViewLaws.{BerElementsShow, DerElementsShow, OneTree, OneTreeOfContents};
+ghost use Rattle.der_parser.specs.ViewLaws.{OneValue, ValueOrFault};
 
 use der_parser::ber::{BerObject, BitStringObject, Class, Header};
 use der_parser::cursor::Cursor;
@@ -270,4 +274,53 @@ fn lengths_show_in_headers()
     ensures { LengthsShowInHeaders }
 {
     laws::lengths_show_in_headers()
+}
+
+fn element_places_are_exact()
+    ensures stand { PlacesStand }
+    ensures preorder { PlacesInPreorder }
+{
+    laws::element_places_are_exact()
+}
+
+fn ber_element_places_are_exact()
+    ensures stand { BerPlacesStand }
+    ensures preorder { BerPlacesInPreorder }
+{
+    laws::ber_element_places_are_exact()
+}
+
+fn refusals_have_one_place()
+    ensures one { OnePlace }
+    ensures shows { PlacesShow }
+    ensures ber_one { BerOnePlace }
+    ensures ber_shows { BerPlacesShow }
+{
+    laws::refusals_have_one_place()
+}
+
+fn values_are_one()
+    ensures value { OneValue }
+    ensures no_fault { ValueOrFault }
+{
+    laws::values_are_one()
+}
+
+fn der_elements_show()
+    ensures { DerElementsShow }
+{
+    laws::der_elements_show()
+}
+
+fn ber_elements_show()
+    ensures { BerElementsShow }
+{
+    laws::ber_elements_show()
+}
+
+fn nodes_show_one_tree()
+    ensures tree { OneTree }
+    ensures of_contents { OneTreeOfContents }
+{
+    laws::nodes_show_one_tree()
 }

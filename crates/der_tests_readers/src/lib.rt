@@ -13,6 +13,8 @@ mod list_rows;
 #[cfg(test)]
 mod name_rows;
 #[cfg(test)]
+mod nodes;
+#[cfg(test)]
 mod number_rows;
 #[cfg(test)]
 mod octets_of_texts;

@@ -14,6 +14,10 @@ use der_parser::der::{
 use der_parser::error::DerConstraint::{IndefiniteLength, LengthNotMinimal};
 use der_parser::error::Error::{BerMaxDepth, DerConstraintFailed, UnexpectedTag};
 use der_parser::error::{BerError, BerResult, DerResult, Err, Error};
+use der_parser::nodes::{
+    check_ber, check_der, parse_ber_nodes, parse_ber_nodes_counted, parse_ber_nodes_placed,
+    parse_der_nodes, parse_der_nodes_placed, read_ber_nodes, read_der_nodes,
+};
 use der_parser::oid::{Oid, OidIter};
 use der_tests_rows::answer::Answer::{self, Broken, Incomplete, Read, Refused};
 use der_tests_rows::answer::Content::{
@@ -238,6 +242,38 @@ fn full_readers_have_their_rules(rt: HostRuntime) -> Result<(), Fail> {
         expect_answer(rt.alloc(), reader, "", "30 02 05 00", &Refused(BerMaxDepth))?;
     }
     Ok(())
+}
+
+/// By BER an indefinite length is read: a SEQUENCE, a NULL and an end marker. By DER it is refused.
+#[test]
+fn elements_are_read_by_their_rules(rt: HostRuntime) {
+    let input = b"\x30\x80\x05\x00\x00\x00".as_slice();
+    let (mut place, mut headers) = (0, 0);
+    let by_ber = [
+        check_ber(input, 2),
+        parse_ber_nodes(input, 2, &mut []),
+        parse_ber_nodes_placed(input, 2, &mut [], &mut place),
+        parse_ber_nodes_counted(input, 2, &mut [], &mut place, &mut headers),
+    ];
+    assert!(rt; by_ber.iter().all(|given| *given == Ok((b"".as_slice(), 2))));
+    assert!(rt; headers == 3);
+    let by_der = [
+        check_der(input, 2),
+        parse_der_nodes(input, 2, &mut []),
+        parse_der_nodes_placed(input, 2, &mut [], &mut place),
+    ];
+    let refused = Err(Err::Error(DerConstraintFailed(IndefiniteLength)));
+    assert!(rt; by_der.iter().all(|given| *given == refused));
+}
+
+/// The same of the readers into a vector.
+#[test]
+fn vectors_are_read_by_their_rules(rt: HostRuntime) {
+    let input = b"\x30\x80\x05\x00\x00\x00".as_slice();
+    let by_ber = read_ber_nodes(rt.alloc(), input, 2).map(|read| read.1.len());
+    assert!(rt; by_ber == Ok(2));
+    let by_der = read_der_nodes(rt.alloc(), input, 2).map(|read| read.1.len());
+    assert!(rt; by_der == Err(Err::Error(DerConstraintFailed(IndefiniteLength))));
 }
 
 #[test]

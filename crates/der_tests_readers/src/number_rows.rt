@@ -253,3 +253,8 @@ fn number_rows_go_round(rt: HostRuntime) -> Result<(), Fail> {
 fn fronts_of_number_rows(rt: HostRuntime) -> Result<(), Fail> {
     try_rows(&rt, Trial::Fronts)
 }
+
+#[test]
+fn nodes_of_number_rows(rt: HostRuntime) -> Result<(), Fail> {
+    try_rows(&rt, Trial::Nodes)
+}

@@ -3,6 +3,7 @@
 use der_parser::ber::{self, BerObject, BerObjectContent, BerObjectRefIterator, Header, Tag};
 use der_parser::cursor::{Cursor, Refusal};
 use der_parser::error::{BerError, BerResult};
+use der_parser::nodes::{Element, Node, Nodes, Preorder, Trees, Value};
 use der_parser::{IResult, der};
 use std::alloc::Global;
 
@@ -208,4 +209,24 @@ fn items<'r, 'a>(object: &'r BerObject<'a>) -> BerObjectRefIterator<'r, 'a> {
 
 fn cursor(input: &[u8]) -> Cursor<'_> {
     Cursor::new(input)
+}
+
+fn elements<'b, 'a>(input: &'a [u8], elements: &'b [Element]) -> Nodes<'b, 'a> {
+    Nodes::new(input, elements)
+}
+
+fn root<'b, 'a>(nodes: &Nodes<'b, 'a>) -> Option<Node<'b, 'a>> {
+    nodes.root()
+}
+
+fn preorder<'b, 'a>(nodes: &Nodes<'b, 'a>) -> Preorder<'b, 'a> {
+    nodes.iter()
+}
+
+fn trees<'b, 'a>(nodes: &Nodes<'b, 'a>) -> Trees<'b, 'a> {
+    nodes.trees()
+}
+
+fn value<'a>(node: &Node<'_, 'a>) -> Result<Value<'a>, BerError> {
+    node.value()
 }
