@@ -160,7 +160,7 @@ impl<'a> Any<'a> {
 
     /// A character string (X.690 8.23): UTF8String, NumericString, PrintableString, IA5String, VisibleString,
     /// TeletexString, VideotexString, GraphicString, GeneralString or ObjectDescriptor. The octets of the
-    /// last five are taken as UTF-8.
+    /// last five are taken as UTF-8. A BMPString or UniversalString is no `&str`: its octets are the content.
     pub fn as_str(&self) -> Result<&'a str> {
         if !self.tag.is_text() {
             return Err(self.error(ErrorKind::UnexpectedTag {

@@ -99,8 +99,8 @@ impl Rules {
         found(ffi::first(self.der, input), input).map(|found| found.length)
     }
 
-    /// The result that an outcome of reading the whole element stands for. If the input is cut short, the
-    /// outcome may count octets as missing that are there. The framing counts those that are missing.
+    /// The result of reading the whole element. If the input is cut short, the outcome may count octets as
+    /// missing that are there. [`first_length`](Rules::first_length) counts those that are missing.
     pub(crate) fn found(self, outcome: Outcome, input: &[u8]) -> Result<Found> {
         match found(outcome, input) {
             Err(error) if error.is_incomplete() => Err(self.first_length(input).err().unwrap_or(error)),
@@ -114,7 +114,7 @@ impl Rules {
     }
 }
 
-/// The result that an outcome stands for.
+/// The outcome as a result.
 fn found(outcome: Outcome, input: &[u8]) -> Result<Found> {
     match outcome.status {
         ffi::OK => Ok(Found {

@@ -222,8 +222,8 @@ impl<'a> Reader<'a> {
         })
     }
 
-    /// Reads an element with this tag as one of a universal type that it stands for: an IMPLICIT tag. The content is
-    /// checked by the rules of that type.
+    /// Reads an element with this tag as one of a universal type, whose tag it replaces: an IMPLICIT tag. The
+    /// content is checked by the rules of that type.
     ///
     /// The check needs a copy of the content, except that of an OCTET STRING. It is allocated if it is longer
     /// than 127 octets. Without the feature `alloc`, that is an error. [`tagged`](Reader::tagged) reads a

@@ -35,7 +35,7 @@ impl<'a> Integer<'a> {
 
 /// An OBJECT IDENTIFIER (X.690 8.19). It displays as its arcs with points, and compares with such a text.
 ///
-/// Two of them are equal if their content octets are.
+/// Two of them are equal if their content octets are. No octets have no arcs, and an empty text.
 ///
 /// ```
 /// use dumarewhi::{Any, ObjectIdentifier};

@@ -81,18 +81,23 @@ fn own_rows() -> Vec<Row> {
     rows
 }
 
-/// The number of fields that a struct has in the header: each has a line with a semicolon, and a comment.
+/// The number of fields that a struct has in the header: each ends with a semicolon.
 fn fields_in(header: &str, name: &str) -> usize {
-    let start = header
+    let code = without_comments(header);
+    let start = code
         .find(&format!("typedef struct {name} {{"))
         .expect("the struct is in the header");
-    let end = header[start..]
+    let end = code[start..]
         .find(&format!("}} {name};"))
         .expect("the struct ends");
-    let lines = header[start..start + end].lines();
-    lines
-        .filter(|line| line.split("/*").next().unwrap_or(line).contains(';'))
-        .count()
+    code[start..start + end].matches(';').count()
+}
+
+fn without_comments(text: &str) -> String {
+    let mut parts = text.split("/*");
+    let first = parts.next().unwrap_or("");
+    let after = parts.map(|part| part.split_once("*/").map_or("", |(_, rest)| rest));
+    core::iter::once(first).chain(after).collect()
 }
 
 fn include() -> PathBuf {
