@@ -153,14 +153,15 @@ if has cc "all of C"; then
         says "damaged inputs under valgrind" run_valgrind
         shown=
     fi
-    if grep -q '^```c$' ../README.md; then
-        says "README has the lines of first.c" diff <(awk '/^```c$/ {on = 1; next} /^```$/ {on = 0} on' ../README.md) c/first.c
-    else
-        echo "left out: README's lines of C (it has none)"
-    fi
+    says "README has the lines of first.c" diff <(awk '/^```c$/ {on = 1; next} /^```$/ {on = 0} on' ../README.md) c/first.c
 fi
 
+# prints the first block of Rust in a page
+rust_lines() { awk '/^```rust$/ && !seen {on = 1; seen = 1; next} /^```$/ {on = 0} on' "$1"; }
+
 if [ -d rust ]; then
+    # The tests of documentation compile and run the lines of rust/README.md.
+    says "README has the lines of rust/README.md" diff <(rust_lines ../README.md) <(rust_lines rust/README.md)
     if has cargo "all of Rust"; then
         shown=yes
         run_cargo() { DUMAREWHI_LIB=$(dirname "$archive") CARGO_TARGET_DIR=$room/target cargo "$@" 2>&1; }
