@@ -23,8 +23,8 @@ says() {
     fi
 }
 
-# prints NAME STATUS TEXT COMMAND..: the command reads $room/in, writes exactly this text, and ends with this status. What
-# it tells of errors is in $room/errors
+# prints NAME STATUS TEXT COMMAND..: the command reads $room/in, writes exactly this text, and ends with this status.
+# What it tells of errors is in $room/errors
 prints() {
     local name=$1 status=$2 text=$3
     shift 3
@@ -118,8 +118,9 @@ run_certificates() {
 
 run_hostile() {
     local inputs=$1
-    octets "30 80 30 80 16 05 53 6d 69 74 68 01 01 ff 00 00 04 03 61 62 63 30 03 02 01 05 a0 80 05 00 00 00 31 80 06 03 55
-        04 03 17 0d 39 32 30 35 32 31 30 30 30 30 30 30 5a 03 02 04 f0 0c 02 c3 a9 00 00 1e 02 00 41 00 00" > "$room/ber"
+    octets "30 80 30 80 16 05 53 6d 69 74 68 01 01 ff 00 00 04 03 61 62 63 30 03 02 01 05 a0 80 05 00 00 00 31 80 06 03
+        55 04 03 17 0d 39 32 30 35 32 31 30 30 30 30 30 30 5a 03 02 04 f0 0c 02 c3 a9 00 00 1e 02 00 41 00 00" \
+        > "$room/ber"
     "$room/$2" "$room/ber" "$inputs" || return 1
     if [ -f "$room/certificate.der" ]; then "$room/$2" "$room/certificate.der" "$inputs" || return 1; fi
 }
@@ -135,7 +136,8 @@ if has cc "all of C"; then
     else
         echo "left out: certificates (there are no ca-certificates)"
     fi
-    if echo 'int main(void) { return 0; }' | cc -x c -fsanitize=address,undefined - -o "$room/sanitized" 2> /dev/null; then
+    echo 'int main(void) { return 0; }' > "$room/empty.c"
+    if cc -fsanitize=address,undefined "$room/empty.c" -o "$room/empty" 2> /dev/null; then
         says "hostile.c compiles" compile hostile hostile -g -fsanitize=address,undefined -fno-sanitize-recover=all
         shown=yes
         says "damaged inputs" run_hostile 40000 hostile
@@ -153,7 +155,8 @@ if has cc "all of C"; then
         says "damaged inputs under valgrind" run_valgrind
         shown=
     fi
-    says "README has the lines of first.c" diff <(awk '/^```c$/ {on = 1; next} /^```$/ {on = 0} on' ../README.md) c/first.c
+    awk '/^```c$/ {on = 1; next} /^```$/ {on = 0} on' ../README.md > "$room/readme.c"
+    says "README has the lines of first.c" diff "$room/readme.c" c/first.c
 fi
 
 # prints the first block of Rust in a page

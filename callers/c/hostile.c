@@ -45,7 +45,7 @@ static void test_elements(const uint8_t *input, size_t length, const dm_element 
         const dm_element *e = &elements[i];
         expect(e->header < e->content && e->content <= e->end && e->end <= length, "a place is outside the input");
         expect(e->inside <= count - i - 1, "more elements are inside than follow");
-        expect(e->tag_class <= 3 && e->constructed <= 1 && e->definite <= 1 && e->reserved == 0, "a field is too large");
+        expect(e->tag_class <= 3 && e->constructed <= 1 && e->definite <= 1 && e->reserved == 0, "a field is wrong");
         if (e->inside > 0) {
             expect(elements[i + 1].header == e->content, "the first item isn't at the content");
             expect(elements[i + e->inside].end <= e->end, "an item ends after its list");
@@ -69,7 +69,7 @@ static void test_input(const uint8_t *input, size_t length, size_t depth, parse 
     }
     if (status == DM_INCOMPLETE) expect(whole.missing > 0, "nothing is missing");
     (void)first(input, length, &element);
-    if (status == DM_OK) expect(element.status == DM_OK && element.length == whole.length, "the first element's length");
+    if (status == DM_OK) expect(element.status == DM_OK && element.length == whole.length, "the first's length");
     size_t count = status == DM_OK ? whole.elements : 2;
     dm_element *list = malloc((count + 1) * sizeof *list);
     if (list == NULL) exit(2);

@@ -88,7 +88,7 @@ static void test_outcomes(void) {
     expect(dm_check_der(wrong, sizeof wrong, 9, &memory.outcome) == 1 && has_outcome(&memory.outcome, want[1]),
            "an error");
     memset(&memory, 0xaa, sizeof memory);
-    expect(dm_check_der(cut, sizeof cut, 9, &memory.outcome) == 2 && has_outcome(&memory.outcome, want[2]), "cut short");
+    expect(dm_check_der(cut, sizeof cut, 9, &memory.outcome) == 2 && has_outcome(&memory.outcome, want[2]), "cut");
     expect(is_untouched(memory.after, 0, sizeof memory.after), "nothing after an outcome is written");
     expect(sizeof(dm_outcome) == 40, "an outcome has 40 octets");
 }

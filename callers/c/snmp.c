@@ -51,7 +51,9 @@ static int print_request(const dm_element *request) {
 /* SEQUENCE { version INTEGER, community OCTET STRING, data } */
 static int print_message(const dm_outcome *outcome) {
     int64_t version;
-    if (outcome->elements != 4 || elements[0].number != 16 || elements[1].number != 2 || elements[2].number != 4) return 1;
+    if (outcome->elements != 4 || elements[0].number != 16 || elements[1].number != 2 || elements[2].number != 4) {
+        return 1;
+    }
     if (dm_read_i64(buffer + elements[1].content, size_of(&elements[1]), &version) != 0) return 1;
     printf("version %lld, community %.*s:", (long long)version, (int)size_of(&elements[2]),
            (const char *)(buffer + elements[2].content));

@@ -1,6 +1,6 @@
 -- Values of content octets as C sees them.
-use Rattle.std.specs.Prelude.{◌≡◌, ℕ, ◌||◌, ◌==◌, if◌then◌else◌, false, List, [], ◌∷◌, ℤ, pos, Result, Ok, Err, MatchResult}
-use Rattle.std.specs.Prelude.{unwrap_or, Bool}
+use Rattle.std.specs.Prelude.{◌≡◌, ℕ, ◌||◌, ◌==◌, if◌then◌else◌, false, List, [], ◌∷◌, ℤ, pos}
+use Rattle.std.specs.Prelude.{Result, Ok, Err, MatchResult, unwrap_or, Bool}
 use Rattle.der_base.specs.declared.error.Error.{Error as BerError}
 use Rattle.der_base.specs.declared.time.ASN1DateTime.{ASN1DateTime}
 use Rattle.der_base.specs.declared.time.ASN1TimeZone.{ASN1TimeZone}
@@ -37,7 +37,8 @@ text_tests t w = choose (is_text_type t || t == 30) (ber_tests false t w) (refus
 
 -- 0 if no test holds, or the number of the refusal of the first that does
 abbrev pub AnswersText : ℕ → List ℕ → Result (Unit {0}) BerError → Type 0
-AnswersText t w found = MatchResult found (λ _. NoneHolds (text_tests t w)) (λ e. IsFirstRefusal (text_tests t w) (refusal e))
+AnswersText t w found = MatchResult found (λ _. NoneHolds (text_tests t w))
+    (λ e. IsFirstRefusal (text_tests t w) (refusal e))
 
 abbrev pub zone_number : ASN1TimeZone → ℕ
 zone_number Undefined = 0

@@ -1,6 +1,7 @@
 //! Outcomes of readers as C sees them.
 ghost use Rattle.std.specs.Prelude.{◌≡◌, ◌≤◌, IfOk, length as length_of};
-ghost use Rattle.dumarewhi_c.specs.Outcomes.{error_outcome, outcome_of, outcome_of_first, read_outcome, refused_outcome};
+ghost use Rattle.dumarewhi_c.specs.Outcomes.{error_outcome, outcome_of, outcome_of_first, read_outcome};
+ghost use Rattle.dumarewhi_c.specs.Outcomes.{refused_outcome};
 
 use crate::errors::refusal_number;
 use der_base::any::Any;

@@ -5,9 +5,7 @@ ghost use Rattle.dumarewhi_c.specs.Outcomes.{ChecksBer, ChecksDer, FindsBer, Fin
 use crate::element::DmElement;
 use crate::outcome::{DmOutcome, outcome_of, outcome_of_first};
 use der_base::any::Any;
-use der_nodes::{
-    parse_ber_nodes_into, parse_ber_nodes_placed, parse_der_nodes_into, parse_der_nodes_placed,
-};
+use der_nodes::{parse_ber_nodes_into, parse_der_nodes_into};
 
 /// Lists are read to this depth at most, since each level takes a frame of the stack.
 const GREATEST_DEPTH: usize = 250;
@@ -54,7 +52,8 @@ pub extern "C" fn dm_check_der(input: &[u8], max_depth: usize, outcome: &mut DmO
     ensures status { result ≡ outcome.new.status }
 {
     let mut place = 0;
-    let found = parse_der_nodes_placed(input, max_depth.min(GREATEST_DEPTH), &mut [], &mut place);
+    let none: &mut [DmElement] = &mut [];
+    let found = parse_der_nodes_into(input, max_depth.min(GREATEST_DEPTH), none, &mut place);
     *outcome = outcome_of(input.len(), found, place);
     outcome.status
 }
@@ -66,7 +65,8 @@ pub extern "C" fn dm_check_ber(input: &[u8], max_depth: usize, outcome: &mut DmO
     ensures status { result ≡ outcome.new.status }
 {
     let mut place = 0;
-    let found = parse_ber_nodes_placed(input, max_depth.min(GREATEST_DEPTH), &mut [], &mut place);
+    let none: &mut [DmElement] = &mut [];
+    let found = parse_ber_nodes_into(input, max_depth.min(GREATEST_DEPTH), none, &mut place);
     *outcome = outcome_of(input.len(), found, place);
     outcome.status
 }

@@ -20,7 +20,8 @@ loop-arc-preserved c =
     let after = c.put_number-end.new.room in
     let short : length room ≤ 2 ^ 64 - 1 = omega arith in
     let short' : length before ≤ 2 ^ 64 - 1 = omega arith in
-    let both = puts_more before c.put_text-end.new.room after (codes ".") number c.loop-arc.end c.put_text-end.result c.put_number-end.result short' c.put_text-end.ensures c.put_number-end.ensures in (
+    let point = c.put_text-end in
+    let both = puts_more before point.new.room after (codes ".") number c.loop-arc.end point.result c.put_number-end.result short' point.ensures c.put_number-end.ensures in (
       done.0 ++ text,
       done.1 ∙ ap (λ l. done.0 ++ pointed l) c.in-Some.ensures.steps ∙ sym (append_assoc done.0 text others),
       puts_more room before after done.0 text c.args.at c.loop-arc.end c.put_number-end.result short done.2 both,

@@ -13,5 +13,7 @@ loop-octet-preserved c =
     let i = c.loop-octet.octet-index in
     let end = c.saturating_add-end.result in
     let short : length room ≤ 2 ^ 64 - 1 = omega arith in
-    let more = puts_more room c.loop-octet.room c.put_octet.new.room (take i text) (get_or text i 0 ∷ []) c.args.at c.loop-octet.end end short c.loop-octet.invariant (c.put_octet.ensures, c.saturating_add-end.ensures) in
+    let loop = c.loop-octet in
+    let put = c.put_octet in
+    let more = puts_more room loop.room put.new.room (take i text) (get_or text i 0 ∷ []) c.args.at loop.end end short loop.invariant (put.ensures, c.saturating_add-end.ensures) in
     rw (take_more text i 0 c.loop-octet-test.true) more
