@@ -1,1 +1,3 @@
-pub mod Reading
+pub mod ElementLaws
+pub mod FirstOctets
+pub mod HeadersBy

@@ -1,14 +1,50 @@
--- Octets that are elements of DER, one after another.
-use Rattle.std.specs.Prelude.{ℕ, List, [], ◌∷◌}
-use Rattle.der_base.specs.Spelling.{BeginsWithDer}
-use Rattle.der_base.specs.Tree.{Node}
+-- Octets that are elements of BER or DER, one after another (X.690 8.1.1).
+use Rattle.std.specs.Prelude.{◌≡◌, ◌≢◌, ℕ, suc, ◌^◌, ◌<◌, Bool, true, false}
+use Rattle.std.specs.Prelude.{List, [], ◌∷◌, ◌++◌, length}
+use Rattle.der_base.specs.declared.header.Class.{Class}
+use Rattle.der_base.specs.declared.header.Class.TheVariants.{Universal}
+use Rattle.der_base.specs.Leaf.{is_list, is_mapped}
+use Rattle.der_base.specs.Octets.{identifier, shortest_length, SpellsLength}
+use Rattle.der_base.specs.Spelling.{BerSpells, DerSpells, end_marker, framing_budget}
+use Rattle.der_base.specs.Text.{is_one_of}
+use Rattle.der_base.specs.Tree.{Node, node, Content}
+use Rattle.der_check.specs.declared.rules.Rules.{Rules}
+use Rattle.der_check.specs.declared.rules.Rules.TheVariants.{Ber, Der}
 
--- i begins with the spellings of the objects, one after another, and rest follows
-pub data Elements (depth : ℕ) : List ℕ → List Node → List ℕ → Type 0 where
-  none : {i : List ℕ} → Elements depth i [] i
-  one_more : {i after rest : List ℕ} {o : Node} {os : List Node}
-      → BeginsWithDer depth i o after → Elements depth after os rest → Elements depth i (o ∷ os) rest
+-- the octets spell an object without others inside
+abbrev pub SpellsOne : Rules → List ℕ → Node → Type 0
+SpellsOne Ber b o = BerSpells b o 1 framing_budget
+SpellsOne Der b o = DerSpells b o 1
 
--- the whole input is elements
-abbrev pub AreElements : ℕ → List ℕ → Type 0
-AreElements depth i = (os : List Node) × Elements depth i os []
+-- the length octets of a definite length: any, or by DER the fewest (8.1.3.3, 10.1)
+abbrev pub SpellsLengthBy : Rules → List ℕ → ℕ → Type 0
+SpellsLengthBy Ber s n = SpellsLength s n
+SpellsLengthBy Der s n = (n < 2 ^ 64) × (s ≡ shortest_length n)
+
+-- the universal numbers that are always primitive: end-of-contents, BOOLEAN, INTEGER, NULL, OBJECT IDENTIFIER, REAL,
+-- ENUMERATED, RELATIVE-OID (8.1.5, 8.2 to 8.5, 8.8, 8.19, 8.20)
+abbrev pub is_always_primitive : ℕ → Bool
+is_always_primitive t = is_one_of (0 ∷ 1 ∷ 2 ∷ 5 ∷ 6 ∷ 9 ∷ 10 ∷ 13 ∷ []) t
+
+-- an element of this class and number may be constructed; by DER no string and no time (10.2)
+abbrev pub MayBeConstructed : Rules → Class → ℕ → Type 0
+MayBeConstructed Ber c t = c ≡ Universal → is_always_primitive t ≡ false
+MayBeConstructed Der c t = c ≡ Universal → (is_always_primitive t ≡ false) × (is_mapped t ≡ true → is_list t ≡ true)
+
+mutual
+  -- elements, one after another, to a depth
+  pub data AreElements (r : Rules) : ℕ → List ℕ → Type 0 where
+    none : {d : ℕ} → AreElements r d []
+    one_more : {d : ℕ} {i : List ℕ} (b rest : List ℕ) → i ≡ b ++ rest → IsElement r d b → AreElements r d rest
+        → AreElements r d i
+
+  -- One element. An end marker is none. The content octets of a constructed one are elements whatever its class
+  -- (8.1.4), and an end marker follows them where the length is indefinite, which DER forbids (8.1.3.6, 10.1).
+  pub data IsElement (r : Rules) : ℕ → List ℕ → Type 0 where
+    primitive : {d : ℕ} {b : List ℕ} (c : Class) (t : ℕ) (x : Content) → SpellsOne r b (node c false t x)
+        → (c ≡ Universal → t ≢ 0) → IsElement r (suc d) b
+    constructed : {d : ℕ} {b : List ℕ} (c : Class) (t : ℕ) (s w : List ℕ) → t < 2 ^ 32 → SpellsLengthBy r s (length w)
+        → b ≡ identifier c true t ++ s ++ w → MayBeConstructed r c t → AreElements r d w → IsElement r (suc d) b
+    indefinite : {d : ℕ} {b : List ℕ} (c : Class) (t : ℕ) (w : List ℕ) → t < 2 ^ 32 → r ≡ Ber
+        → b ≡ identifier c true t ++ 128 ∷ w ++ end_marker → MayBeConstructed r c t → AreElements r d w
+        → IsElement r (suc d) b

@@ -11,6 +11,8 @@ pub enum Cause {
     PastEnd(usize),
     /// The content of an indefinite length has no end marker.
     NoEndMarker,
+    /// End-of-contents octets where no indefinite length ends.
+    EndMarker,
     /// A header is refused.
     Header(BerError),
     /// The content of a primitive element is refused.
@@ -19,6 +21,12 @@ pub enum Cause {
     Constructed,
     /// A constructed string, by DER.
     ConstructedString,
+    /// A part of a constructed string is of another type.
+    OtherPart,
+    /// A part of a constructed BIT STRING has unused bits, and another part follows.
+    UnusedBitsInside,
+    /// The octets aren't elements of DER, and no place of this is known.
+    NotDer,
     /// Elements are nested deeper than the limit.
     TooDeep,
     /// There was no memory.
@@ -91,6 +99,10 @@ impl Cause {
                 "an indefinite length has no end-of-contents octets",
                 "8.1.3.6",
             ),
+            Cause::EndMarker => Rule::new(
+                "end-of-contents octets, and no indefinite length ends here",
+                "8.1.5",
+            ),
             Cause::Header(e) => header_rule(e),
             Cause::Value(e) => value_rule(e),
             Cause::Constructed => Rule::new("the encoding of this type must be primitive", "8.1.4"),
@@ -98,6 +110,15 @@ impl Cause {
                 "a string is constructed, which DER forbids",
                 "10.2",
             ),
+            Cause::OtherPart => Rule::new(
+                "a part of a constructed string isn't an OCTET STRING, or of a BIT STRING no BIT STRING",
+                "8.6.4 and 8.7.3",
+            ),
+            Cause::UnusedBitsInside => Rule::new(
+                "a part of a BIT STRING has unused bits, and another part follows",
+                "8.6.4",
+            ),
+            Cause::NotDer => Rule::new("these are no elements of DER", "10"),
             Cause::TooDeep => Rule::new(
                 "elements are nested more than 100 deep, the limit here",
                 "",

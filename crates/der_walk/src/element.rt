@@ -12,6 +12,8 @@ pub struct Element<'a> {
     pub constructed: bool,
     /// The tag number.
     pub number: u32,
+    /// The identifier octets (X.690 8.1.2).
+    pub identifier: &'a [u8],
     /// Where the header begins, in octets from the start of the input.
     pub offset: usize,
     /// The number of octets of the header.
@@ -26,6 +28,8 @@ pub struct Element<'a> {
     pub index: usize,
     /// Whether it is a string whose content is an element of DER, which is visited next.
     pub holds_der: bool,
+    /// Whether it is a text with a character that its type doesn't have (X.690 8.23).
+    pub has_other_characters: bool,
 }
 
 impl<'a> Element<'a> {

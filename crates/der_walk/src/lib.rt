@@ -6,12 +6,11 @@ mod cause;
 mod element;
 mod name;
 mod path;
-mod rules;
 mod walk;
 
 pub use cause::{Cause, Rule};
+pub use der_check::Rules;
 pub use element::Element;
 pub use name::TypeName;
 pub use path::{Path, Step};
-pub use rules::Rules;
 pub use walk::{MAX_DEPTH, Refusal, Walk};

@@ -3,9 +3,9 @@ use crate::cause::Cause;
 use crate::element::Element;
 use crate::name::TypeName;
 use crate::path::{Path, Step};
-use crate::rules::Rules;
 use der_base::error::{BerError, Err as Refused, Needed};
 use der_base::header::{Header, Length};
+use der_check::Rules;
 use std::alloc::{AllocError, Global};
 
 /// How many elements may be around an element.
@@ -51,6 +51,7 @@ pub struct Walk<'a> {
     at: usize,
     rules: Rules,
     enters_strings: bool,
+    keeps_texts: bool,
     max_depth: usize,
     visited: usize,
     open: Vec<Open>,
@@ -66,9 +67,18 @@ impl<'a> Walk<'a> {
             at: 0,
             rules,
             enters_strings,
+            keeps_texts: false,
             max_depth: MAX_DEPTH,
             visited: 0,
             open: Vec::new(alloc),
+        }
+    }
+
+    /// The same walk, which by BER visits and marks a text with a character that its type doesn't have.
+    pub fn keeping_texts(self) -> Walk<'a> {
+        Walk {
+            keeps_texts: true,
+            ..self
         }
     }
 
@@ -234,6 +244,7 @@ impl<'a> Walk<'a> {
             class: header.class(),
             constructed: header.constructed(),
             number: header.tag().0,
+            identifier: header.raw_tag().unwrap_or(&[]),
             offset: self.at,
             header: here.len().saturating_sub(rest.len()),
             length: length_of(&header),
@@ -241,9 +252,16 @@ impl<'a> Walk<'a> {
             depth: self.open.len(),
             index: self.visited_here(),
             holds_der: false,
+            has_other_characters: false,
         };
-        self.check(&element, &header, here)?;
-        Ok(element)
+        if element.depth > self.max_depth {
+            return Err(self.refuse(&header, Cause::TooDeep));
+        }
+        let has_other_characters = self.check(&element, &header, here)?;
+        Ok(Element {
+            has_other_characters,
+            ..element
+        })
     }
 
     /// The content octets after a header. None if the length is indefinite, and for a constructed element
@@ -265,27 +283,49 @@ impl<'a> Walk<'a> {
         Err(self.refuse(header, self.cut(length.saturating_sub(rest.len()))))
     }
 
-    /// Checks whether an element may be constructed, or what a primitive one contains.
+    /// Checks whether an element may be constructed, or what a primitive one contains. Returns whether it is a text
+    /// with other characters than its type has.
     fn check(
         &self,
         element: &Element<'a>,
         header: &Header<'_>,
         here: &[u8],
-    ) -> Result<(), Refusal> {
+    ) -> Result<bool, Refusal> {
         let rules = self.rules_here();
         if !element.constructed {
-            return match rules.check_primitive(here) {
-                Ok(()) => Ok(()),
-                Err(e) => Err(self.refuse(header, value_cause(e))),
-            };
+            return self.check_primitive(element, header, here);
         }
         if rules.may_be_constructed(header.class(), header.tag()) {
-            Ok(())
+            Ok(false)
         } else if Rules::Ber.may_be_constructed(header.class(), header.tag()) {
             Err(self.refuse(header, Cause::ConstructedString))
         } else {
             Err(self.refuse(header, Cause::Constructed))
         }
+    }
+
+    /// Checks what a primitive element contains. An end marker is no element.
+    fn check_primitive(
+        &self,
+        element: &Element<'a>,
+        header: &Header<'_>,
+        here: &[u8],
+    ) -> Result<bool, Refusal> {
+        if element.is_universal(0) {
+            return Err(self.refuse(header, Cause::EndMarker));
+        }
+        let rules = self.rules_here();
+        let Err(e) = rules.check_one(here) else {
+            return Ok(false);
+        };
+        let cause = value_cause(e);
+        if self.keeps_texts
+            && rules == Rules::Ber
+            && cause == Cause::Value(BerError::StringInvalidCharset)
+        {
+            return Ok(true);
+        }
+        Err(self.refuse(header, cause))
     }
 
     /// How many octets the content of an element may have, of which these are in the input.
@@ -362,9 +402,6 @@ impl<'a> Walk<'a> {
         end: usize,
         rules: Rules,
     ) -> Result<(), Refusal> {
-        if self.open.len() >= self.max_depth {
-            return Err(refuse_element(element, Cause::TooDeep));
-        }
         let open = Open {
             step: element.step(),
             end,

@@ -1,0 +1,149 @@
+//! Elements and what is inside them: they call each other, a depth less at each constructed element.
+ghost use Rattle.std.specs.Prelude.{◌≡◌, ◌↔◌, ◌≤◌, ◌<◌, ◌++◌, ℕ, List, IfSome, IsTrue, MatchOption, false, length};
+ghost use Rattle.der_base.specs.Spelling.{end_marker};
+ghost use Rattle.der_check.specs.Elements.{AreElements};
+ghost use Rattle.der_check.specs.Readers.{BeginsWithConstructed, BeginsWithElement, BeginsWithOpenContent};
+ghost use Rattle.der_check.specs.Readers.{BeginsWithPrimitive, Finds, StartsConstructed, StartsEndMarker};
+
+use crate::rules::Rules;
+use der_base::header::Length;
+
+/// Whether octets are elements, one after another, and nothing else. The content of a constructed element
+/// of any class is such elements again (X.690 8.1.4), down to this depth.
+///
+/// ```
+/// are_elements(&[0xa0, 0x03, 0x02, 0x01, 0x05], Rules::Der, 2)   // true
+/// are_elements(&[0xa0, 0x03, 0x02, 0x02, 0x05], Rules::Der, 2)   // false: [0] holds a part of an INTEGER
+/// ```
+#[cycle(elements)]
+pub fn are_elements(octets: &[u8], rules: Rules, max_depth: usize) -> bool
+    ensures { IsTrue result ↔ AreElements rules max_depth octets.now }
+{
+    let mut rest = octets;
+    while !rest.is_empty() {
+        match after_element(rest, rules, max_depth) {
+            Some(after) => rest = after,
+            None => return false,
+        }
+    }
+    true
+}
+
+/// What follows the element at the start of the input, if there is one.
+#[cycle(elements)]
+#[inline(always)]
+fn after_element(i: &[u8], rules: Rules, max_depth: usize) -> Option<&[u8]>
+    ensures exactly { Finds (BeginsWithElement rules max_depth i.now) result }
+    ensures shorter { IfSome result (λ x. length x.now < length i.now) }
+{
+    if max_depth == 0 {
+        return None;
+    }
+    if starts_constructed(i) {
+        after_constructed(i, rules, max_depth)
+    } else {
+        after_primitive(i, rules)
+    }
+}
+
+/// Whether the first octet is that of a constructed element (8.1.2.5).
+#[inline(always)]
+fn starts_constructed(i: &[u8]) -> bool
+    ensures { StartsConstructed i.now result }
+{
+    match i {
+        [first, ..] => first / 32 % 2 == 1,
+        [] => false,
+    }
+}
+
+/// The same of a primitive element. An end marker is none.
+#[inline(always)]
+fn after_primitive(i: &[u8], rules: Rules) -> Option<&[u8]>
+    requires { StartsConstructed i.now false }
+    ensures exactly { Finds (BeginsWithPrimitive rules i.now) result }
+    ensures shorter { IfSome result (λ x. length x.now < length i.now) }
+{
+    if starts_end_marker(i) {
+        return None;
+    }
+    match rules.check_one(i) {
+        Ok((rest, _)) => Some(rest),
+        Err(_) => None,
+    }
+}
+
+/// Whether the first octet is that of an end marker (8.1.5).
+#[inline(always)]
+fn starts_end_marker(i: &[u8]) -> bool
+    ensures { StartsEndMarker i.now result }
+{
+    match i {
+        [first, ..] => *first == 0,
+        [] => false,
+    }
+}
+
+/// The same of a constructed element, whose content is elements.
+#[cycle(elements)]
+fn after_constructed(i: &[u8], rules: Rules, max_depth: usize) -> Option<&[u8]>
+    requires { 1 ≤ max_depth }
+    ensures exactly { Finds (BeginsWithConstructed rules max_depth i.now) result }
+    ensures shorter { IfSome result (λ x. length x.now < length i.now) }
+{
+    let Ok((behind, header)) = rules.read_header(i) else {
+        return None;
+    };
+    if !header.constructed() || !rules.may_be_constructed(header.class(), header.tag()) {
+        return None;
+    }
+    let Length::Definite(size) = header.length() else {
+        return after_open_content(behind, rules, max_depth - 1);
+    };
+    if size > behind.len() {
+        return None;
+    }
+    let (content, rest) = behind.split_at(size);
+    if are_elements(content, rules, max_depth - 1) {
+        Some(rest)
+    } else {
+        None
+    }
+}
+
+/// What follows the elements at the start of the input and their end marker (8.1.3.6).
+#[cycle(elements)]
+fn after_open_content(i: &[u8], rules: Rules, max_depth: usize) -> Option<&[u8]>
+    ensures exactly { Finds (BeginsWithOpenContent rules max_depth i.now) result }
+    ensures shorter { IfSome result (λ x. length x.now ≤ length i.now) }
+{
+    let mut rest = i;
+    loop {
+        if let Some(after) = after_end_marker(rest) {
+            return Some(after);
+        }
+        match after_element(rest, rules, max_depth) {
+            Some(after) => rest = after,
+            None => return None,
+        }
+    }
+}
+
+/// What follows the end marker at the start of the input, if there is one.
+fn after_end_marker(i: &[u8]) -> Option<&[u8]>
+    ensures { MatchOption result
+        ((rest : List ℕ) → i.now ≡ end_marker ++ rest → ⊥)
+        (λ x. i.now ≡ end_marker ++ x.now) }
+{
+    let Some((first, following)) = i.split_first() else {
+        return None;
+    };
+    let Some((second, after)) = following.split_first() else {
+        return None;
+    };
+    if *first == 0 && *second == 0 {
+        Some(after)
+    } else {
+        None
+    }
+}
