@@ -1,4 +1,5 @@
 //! The line of an element.
+use crate::remark::Remark;
 use crate::style::Style;
 use crate::value::Value;
 use der_walk::Element;
@@ -26,7 +27,11 @@ impl fmt::Display for Line<'_> {
             return f.write_str(" holding DER");
         }
         let full = style.full;
-        write!(f, "{}", Value { element, full })
+        write!(f, "{}", Value { element, full })?;
+        if element.has_other_characters {
+            write!(f, "  {}", Remark { element })?;
+        }
+        Ok(())
     }
 }
 
