@@ -1,5 +1,5 @@
-//! `der` shows what is in files of ASN.1 in BER or DER: `der tree` as lines for people, `der json` as JSON, and
-//! `der check` tells which files aren't DER.
+//! `der` shows what is in files of ASN.1 in BER or DER: `der tree` as lines for people, `der json` as JSON.
+//! `der check` tells which files aren't DER, and `der canon` writes a file as DER.
 #![tactic(auto)]
 
 use der_tool::program;

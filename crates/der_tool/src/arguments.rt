@@ -12,11 +12,17 @@ Examples:
   der tree --der --full key.der
   openssl s_client -connect example.org:443 -showcerts </dev/null | der tree
   der check *.cer
+  der canon message.ber > message.der
   der json message.ber | jq 'select(.type == \"INTEGER\") | .value'";
 
 const TREE_HELP: &str =
     "Print a line for each element: where it begins, the octets of its header and of its content, \
 its type, its value";
+
+const CANON_HELP: &str =
+    "Write a file as DER: definite lengths, strings in one part, TRUE as ff, unused bits as 0. \
+PEM is written as PEM. The order of a SET OF, default values and strings with a tag of their own depend on the \
+types, which aren't known: they stay as they are. What can't be DER is refused";
 
 const FORMS: [&str; 4] = ["der", "pem", "hex", "base64"];
 
@@ -30,6 +36,7 @@ pub(crate) fn command<'a>(alloc: Global) -> Result<Command<'a>, AllocError> {
         .arg_required_else_help(true)
         .subcommand(tree(alloc)?)?
         .subcommand(check(alloc)?)?
+        .subcommand(canon(alloc)?)?
         .subcommand(json(alloc)?)
 }
 
@@ -49,6 +56,17 @@ fn check<'a>(alloc: Global) -> Result<Command<'a>, AllocError> {
         .arg(flag(alloc, "ber", "Read by BER, not by DER"))?
         .arg(from(alloc))?
         .arg(files(alloc))
+}
+
+fn canon<'a>(alloc: Global) -> Result<Command<'a>, AllocError> {
+    Command::new(alloc, "canon")
+        .about(CANON_HELP)
+        .arg(from(alloc))?
+        .arg(
+            Arg::new(alloc, "file").value_name("FILE").help(
+                "The file, of BER, PEM, hexadecimal digits or base64. Standard input if there is none",
+            ),
+        )
 }
 
 fn json<'a>(alloc: Global) -> Result<Command<'a>, AllocError> {
@@ -97,14 +115,17 @@ fn files<'a>(alloc: Global) -> Arg<'a> {
 pub(crate) fn options_of(action: Action, matches: &ArgMatches<'_>, colours: bool) -> Options {
     let rules = match action {
         Action::Check if !matches.get_flag("ber") => Rules::Der,
-        Action::Check => Rules::Ber,
-        _ if matches.get_flag("der") => Rules::Der,
+        Action::Tree | Action::Json if matches.get_flag("der") => Rules::Der,
         _ => Rules::Ber,
+    };
+    let enters_strings = match action {
+        Action::Tree | Action::Json => !matches.get_flag("no-inside"),
+        Action::Check | Action::Canon => false,
     };
     Options {
         action,
         rules,
-        enters_strings: action != Action::Check && !matches.get_flag("no-inside"),
+        enters_strings,
         form: matches.get_str("from").and_then(form_named),
         style: Style {
             full: action == Action::Tree && matches.get_flag("full"),
@@ -125,6 +146,7 @@ fn has_several_files(matches: &ArgMatches<'_>) -> bool {
 pub(crate) fn action_named(word: &str) -> Action {
     match word {
         "check" => Action::Check,
+        "canon" => Action::Canon,
         "json" => Action::Json,
         _ => Action::Tree,
     }

@@ -2,7 +2,7 @@
 use der_base::header::Class;
 use der_base::integer::{read_i64, read_u64};
 use der_names::name_of;
-use der_print::{Arcs, Hex, Value as Printed};
+use der_print::{Arcs, Hex, Remark, Value as Printed};
 use der_walk::Element;
 use serde::Serialize;
 use serde_json::Value;
@@ -25,6 +25,9 @@ struct Object {
     value: Value,
     #[serde(skip_serializing_if = "Option::is_none")]
     name: Option<&'static str>,
+    /// What is wrong with a text.
+    #[serde(skip_serializing_if = "Option::is_none")]
+    fault: Option<String>,
 }
 
 /// Writes an element as a line of JSON.
@@ -51,6 +54,7 @@ fn json_of(alloc: Global, element: &Element<'_>) -> io::Result<String> {
         kind,
         value,
         name: name_in(element),
+        fault: fault_in(alloc, element)?,
     };
     serde_json::to_string(alloc, &object).map_err(|_| io::Error::from(ErrorKind::OutOfMemory))
 }
@@ -70,6 +74,16 @@ fn name_in(element: &Element<'_>) -> Option<&'static str> {
         return None;
     }
     name_of(element.content?)
+}
+
+/// What is said of a text with a character that its type doesn't have.
+fn fault_in(alloc: Global, element: &Element<'_>) -> Result<Option<String>, AllocError> {
+    if !element.has_other_characters {
+        return Ok(None);
+    }
+    let element = *element;
+    let text = format!(in alloc; "{}", Remark { element })?;
+    Ok(Some(text))
 }
 
 /// The value of a primitive element.

@@ -12,6 +12,8 @@ pub enum Action {
     Check,
     /// Prints a line of JSON for each element.
     Json,
+    /// Writes the elements as DER writes them.
+    Canon,
 }
 
 /// What is to be done with each input.
