@@ -7,6 +7,7 @@ mod shown;
 
 pub use handed::{Ticket, read_identifiers, read_numbers, read_objects, read_ticket};
 pub use shown::{
-    Depths, Found, first_object, is_common_name, item_numbers, make_request, missing_octets,
-    object_count, print_object, read_serial_number, rewrite_by_der, tagged_number, write_object,
+    Depths, Found, NoLargest, elements_in, first_object, is_common_name, is_pair, item_count,
+    item_numbers, largest_item, make_request, missing_octets, object_count, print_object,
+    read_serial_number, rewrite_by_der, tagged_number, write_object,
 };

@@ -8,6 +8,7 @@ use der_parser::der::{
     parse_der_tagged_explicit_g, parse_der_u32,
 };
 use der_parser::error::{BerError, Err, GenError, IResult, Needed};
+use der_parser::nodes::{Element, Nodes, check_der, parse_der_nodes, read_der_nodes};
 use der_parser::oid::{Oid, OidParseError};
 use der_parser::parse_der;
 use std::alloc::{AllocError, Global};
@@ -133,4 +134,61 @@ pub fn object_count(object: &BerObject<'_>) -> u64 {
     let mut counter = Depths { objects: 0 };
     counter.run(object);
     counter.objects
+}
+
+/// `check_der`: whether an input is two objects, one inside the other, and nothing more.
+pub fn is_pair(input: &[u8]) -> bool {
+    matches!(check_der(input, 50), Ok((&[], 2)))
+}
+
+/// `parse_der_nodes`: the elements of an object in a buffer, and None if the buffer is too short.
+pub fn elements_in<'b>(
+    input: &[u8],
+    nodes: &'b mut [Element],
+) -> Result<Option<&'b [Element]>, Err<BerError>> {
+    let (_rest, count) = parse_der_nodes(input, 50, nodes)?;
+    Ok(nodes.get(..count))
+}
+
+/// Why the items of a list have no largest number.
+#[derive(Debug, Drop)]
+pub enum NoLargest {
+    /// The list can't be read.
+    Refused(Err<BerError>),
+    /// An item is no such number.
+    Item(BerError),
+    /// The buffer is too short.
+    TooMany,
+    /// There is no element.
+    Nothing,
+}
+
+impl From<Err<BerError>> for NoLargest {
+    fn from(e: Err<BerError>) -> NoLargest {
+        NoLargest::Refused(e)
+    }
+}
+
+impl From<BerError> for NoLargest {
+    fn from(e: BerError) -> NoLargest {
+        NoLargest::Item(e)
+    }
+}
+
+/// `Nodes::new`: the largest number in a list, which is read to a buffer.
+pub fn largest_item(input: &[u8], elements: &mut [Element]) -> Result<u64, NoLargest> {
+    let (_, count) = parse_der_nodes(input, 50, elements)?;
+    let nodes = Nodes::new(input, elements.get(..count).ok_or(NoLargest::TooMany)?);
+    let mut largest = 0;
+    for item in nodes.root().ok_or(NoLargest::Nothing)?.items() {
+        largest = item.as_u64()?.max(largest);
+    }
+    Ok(largest)
+}
+
+/// `read_der_nodes`: how many items a list has.
+pub fn item_count(alloc: Global, input: &[u8]) -> Result<Option<usize>, Err<BerError>> {
+    let (_rest, elements) = read_der_nodes(alloc, input, 50)?;
+    let nodes = Nodes::new(input, &elements);
+    Ok(nodes.root().map(|root| root.items().count()))
 }
