@@ -43,6 +43,11 @@ prints() {
 
 has() { command -v "$1" > /dev/null && return 0; echo "left out: $2 (there is no $1)"; return 1; }
 
+root=$(cd .. && pwd)
+
+# The rows that the tests of the library state for its full readers.
+rows_of_tables() { awk -f tables.awk ../crates/dumarewhi_c/src/errors.rt ../crates/der_tests_*/src/*.rt; }
+
 octets() { printf "%b" "$(echo "$1" | tr -d ' \n' | sed 's/../\\x&/g')"; }
 
 if [ -n "${DUMAREWHI_LIB:-}" ]; then
@@ -58,10 +63,14 @@ has nm "undefined symbols" && says "the archive needs no other library" bash -c 
 compile() { cc -std=c99 -Wall -Wextra -Werror -O2 "${@:3}" -Ic/include "c/$1.c" "$archive" -o "$room/$2"; }
 
 run_c() {
-    for name in first tree certificate snmp count layout rows; do says "$name.c compiles" compile $name $name; done
+    for name in first tree certificate snmp count layout rows errors tables; do says "$name.c compiles" compile $name $name; done
     says "stack.c compiles" compile stack stack -pthread
     shown=yes
-    for name in layout rows stack; do says "$name" "$room/$name"; done
+    for name in layout rows errors stack; do says "$name" "$room/$name"; done
+    run_tables() { rows_of_tables > "$room/tables.txt" && "$room/tables" < "$room/tables.txt"; }
+    has awk "the rows of the library's tests" && says "rows of the library's tests" run_tables
+    run_rows() { "$room/tables" < rows.txt; }
+    says "further rows" run_rows
     shown=
 
     prints "first" 0 "$(printf 'type 16, octets 2 to 8\ntype 2, octets 4 to 5\ntype 1, octets 7 to 8')" "$room/first"
@@ -159,6 +168,12 @@ if has cc "all of C"; then
     says "README has the lines of first.c" diff "$room/readme.c" c/first.c
 fi
 
+# The numbers of errors in the header are those of the specification.
+numbers_of_header() { sed -n 's/^ *DM_ERROR_.* = \([0-9]*\).*/\1/p' c/include/dumarewhi.h; }
+numbers_of_errors() { sed -n 's/^[a-z]*_number [^:]* = \([0-9]*\)$/\1/p' ../crates/dumarewhi_c/specs/ErrorNumbers.antt; }
+run_numbers() { [ -n "$(numbers_of_errors)" ] && diff <(numbers_of_header | sort) <(numbers_of_errors | sort); }
+says "the header has a name for each error" run_numbers
+
 # prints the first block of Rust in a page
 rust_lines() { awk '/^```rust$/ && !seen {on = 1; seen = 1; next} /^```$/ {on = 0} on' "$1"; }
 
@@ -169,8 +184,38 @@ if [ -d rust ]; then
         shown=yes
         run_cargo() { DUMAREWHI_LIB=$(dirname "$archive") CARGO_TARGET_DIR=$room/target cargo "$@" 2>&1; }
         says "cargo test" run_cargo test --offline --quiet --manifest-path rust/Cargo.toml
-        cargo clippy --version > /dev/null 2>&1 \
-            && says "cargo clippy" run_cargo clippy --offline --quiet --manifest-path rust/Cargo.toml -- -D warnings
+        if cargo clippy --version > /dev/null 2>&1; then
+            says "cargo clippy" run_cargo clippy --offline --quiet --all-targets --manifest-path rust/Cargo.toml -- -D warnings
+        else
+            echo "left out: cargo clippy (there is no clippy)"
+        fi
+        # A project of its own, with the command that README gives.
+        if cargo add --help > /dev/null 2>&1; then
+            add=$(sed -n 's|^    \(cargo add .*\)$|\1|p' ../README.md)
+            run_project() {
+                (cd "$room" && cargo new --quiet --vcs none project) || return
+                rust_lines ../README.md > "$room/project/src/main.rs"
+                [ -s "$room/project/src/main.rs" ] && [ -n "$add" ] || return
+                (cd "$room/project" && CARGO_NET_OFFLINE=true sh -ec "${add//DUMAREWHI/$root}" && run_cargo run --offline)
+            }
+            says "a project of its own" run_project
+        else
+            echo "left out: a project of its own (cargo has no add)"
+        fi
+        registry=$(dpkg -L librust-der-parser-dev 2> /dev/null | sed -n 's|/der-parser-[^/]*/Cargo.toml$||p')
+        if [ -n "$registry" ]; then
+            run_peers() {
+                cp -r peers "$room/peers" && mkdir "$room/peers/.cargo" && peers/inputs.sh "$room/inputs" || return
+                sed -i "s|\.\./rust|$root/callers/rust|" "$room/peers/Cargo.toml"
+                printf '[source.crates-io]\nreplace-with = "packages"\n[source.packages]\ndirectory = "%s"\n' "$registry" \
+                    > "$room/peers/.cargo/config.toml"
+                (cd "$room/peers" && run_cargo run --offline --quiet -- "$room/inputs")
+            }
+            says "der-parser beside it" run_peers
+            sed -n '/^ *DER/,$p' "$room/log"
+        else
+            echo "left out: der-parser beside it (there is no package librust-der-parser-dev)"
+        fi
         shown=
     fi
 fi

@@ -49,7 +49,7 @@ typedef struct dm_outcome {
                       * dm_check_der: if the content of a universal type is cut short, its whole length; then
                       * dm_first_der finds how many are missing */
     uint32_t status; /* one of enum dm_status */
-    uint32_t error;  /* DM_ERROR: the number of the error, for dm_error_text */
+    uint32_t error;  /* DM_ERROR: one of enum dm_error */
 } dm_outcome;
 
 /* A deeper max_depth is taken as this one. */
@@ -76,11 +76,46 @@ uint32_t dm_check_ber(const uint8_t *input, size_t length, size_t max_depth, dm_
 uint32_t dm_first_der(const uint8_t *input, size_t length, dm_outcome *outcome);
 uint32_t dm_first_ber(const uint8_t *input, size_t length, dm_outcome *outcome);
 
+/* The numbers of errors. 0 is no error. Not all of them are returned by a call of this header. */
+enum dm_error {
+    DM_ERROR_WRONG_TYPE = 1,
+    DM_ERROR_WRONG_VALUE = 2,
+    DM_ERROR_MAX_DEPTH = 3,
+    DM_ERROR_INVALID_LENGTH = 4,
+    DM_ERROR_INVALID_TAG = 5,
+    DM_ERROR_UNKNOWN_TAG = 6,
+    DM_ERROR_UNEXPECTED_TAG = 7,
+    DM_ERROR_UNEXPECTED_CLASS = 8,
+    DM_ERROR_CONSTRUCTED_EXPECTED = 9,
+    DM_ERROR_PRIMITIVE_EXPECTED = 10,
+    DM_ERROR_INTEGER_TOO_LARGE = 11,
+    DM_ERROR_INTEGER_NEGATIVE = 12,
+    DM_ERROR_INVALID_VALUE = 13,
+    DM_ERROR_INVALID_CHARACTER = 14,
+    DM_ERROR_INVALID_TIME = 15,
+    DM_ERROR_UNSUPPORTED = 16,
+    DM_ERROR_OVERRUN = 17, /* an element runs past the end of the one that it is in: more octets don't help */
+    DM_ERROR_PARSER_FAULT = 18,
+    /* rules of DER beyond those of BER (X.690 10 and 11) */
+    DM_ERROR_INDEFINITE_LENGTH = 32,
+    DM_ERROR_LENGTH_NOT_MINIMAL = 33,
+    DM_ERROR_CONSTRUCTED = 34,
+    DM_ERROR_INVALID_BOOLEAN = 35,
+    DM_ERROR_INTEGER_EMPTY = 36,
+    DM_ERROR_INTEGER_LEADING_ZEROES = 37,
+    DM_ERROR_INTEGER_LEADING_FF = 38,
+    DM_ERROR_MISSING_TIME_ZONE = 39,
+    DM_ERROR_MISSING_SECONDS = 40,
+    DM_ERROR_FRACTION_NOT_MINIMAL = 41,
+    DM_ERROR_UNUSED_BITS_NOT_ZERO = 42,
+    DM_ERROR_SET_OUT_OF_ORDER = 43
+};
+
 /* Writes the first `room` octets of the text of an error, without a 0 after it. Returns the length of the text. */
 size_t dm_error_text(uint32_t error, uint8_t *text, size_t room);
 
-/* Values of content octets. Each returns 0 and writes the value, or returns the number of an error and
- * writes nothing. */
+/* Values of content octets. Each returns 0 and writes the value, or returns the number of an error (one of
+ * enum dm_error) and writes nothing. */
 
 /* An INTEGER or an ENUMERATED, of any octets that spell it (8.3). No octets spell 0. */
 uint32_t dm_read_i64(const uint8_t *content, size_t length, int64_t *value);

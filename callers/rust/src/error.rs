@@ -33,7 +33,8 @@ pub enum ErrorKind {
     Value(Reason),
     /// The input is cut short: more octets may complete it.
     Incomplete {
-        /// How many octets are missing, as far as the input shows.
+        /// How many octets are missing, as far as the input shows. By DER too: der-parser has the whole length
+        /// of a content there.
         missing: usize,
     },
     /// An element runs past the end of the content that it is in. No further input mends that.
@@ -72,13 +73,11 @@ pub enum ErrorKind {
 /// The number of an error in `dumarewhi.h`. It displays as the error's text.
 ///
 /// ```
-/// use dumarewhi::{check_der, ErrorKind};
+/// use dumarewhi::{check_der, ErrorKind, Reason};
 ///
 /// let error = check_der(&[0x01, 0x01, 0x7f]).unwrap_err();
-/// match error.kind() {
-///     ErrorKind::Malformed(reason) => assert!(reason.to_string().contains("invalid boolean")),
-///     _ => unreachable!(),
-/// }
+/// assert_eq!(error.kind(), ErrorKind::Malformed(Reason::INVALID_BOOLEAN));
+/// assert_eq!(Reason::INVALID_BOOLEAN.to_string(), "DER constraint failed: invalid boolean");
 /// ```
 #[derive(Clone, Copy, Debug, PartialEq, Eq, Hash, PartialOrd, Ord)]
 pub struct Reason(pub(crate) u32);
@@ -136,6 +135,52 @@ impl Error {
     pub(crate) fn after(self, offset: usize) -> Error {
         Error::new(self.kind, self.offset.saturating_add(offset))
     }
+}
+
+macro_rules! reasons {
+    ($($name:ident = $number:literal, $text:literal;)*) => {
+        /// Each reason, as `enum dm_error` names it.
+        impl Reason {
+            $(#[doc = concat!("\"", $text, "\", number ", $number, ".")]
+            pub const $name: Reason = Reason($number);)*
+        }
+
+        #[cfg(test)]
+        const NAMED: &[(&str, Reason, &str)] = &[$((stringify!($name), Reason::$name, $text)),*];
+    };
+}
+
+reasons! {
+    WRONG_TYPE = 1, "wrong type";
+    WRONG_VALUE = 2, "wrong value";
+    MAX_DEPTH = 3, "maximum depth reached";
+    INVALID_LENGTH = 4, "invalid length";
+    INVALID_TAG = 5, "invalid tag";
+    UNKNOWN_TAG = 6, "unknown tag";
+    UNEXPECTED_TAG = 7, "unexpected tag";
+    UNEXPECTED_CLASS = 8, "unexpected class";
+    CONSTRUCTED_EXPECTED = 9, "constructed encoding expected";
+    PRIMITIVE_EXPECTED = 10, "primitive encoding expected";
+    INTEGER_TOO_LARGE = 11, "integer too large";
+    INTEGER_NEGATIVE = 12, "integer negative";
+    INVALID_VALUE = 13, "invalid value";
+    INVALID_CHARACTER = 14, "invalid character in string";
+    INVALID_TIME = 15, "invalid date or time";
+    UNSUPPORTED = 16, "unsupported";
+    OVERRUN = 17, "item runs past the end of its container";
+    PARSER_FAULT = 18, "parser fault";
+    INDEFINITE_LENGTH = 32, "DER constraint failed: indefinite length";
+    LENGTH_NOT_MINIMAL = 33, "DER constraint failed: length not minimal";
+    CONSTRUCTED = 34, "DER constraint failed: constructed";
+    INVALID_BOOLEAN = 35, "DER constraint failed: invalid boolean";
+    INTEGER_EMPTY = 36, "DER constraint failed: integer empty";
+    INTEGER_LEADING_ZEROES = 37, "DER constraint failed: integer with leading zeroes";
+    INTEGER_LEADING_FF = 38, "DER constraint failed: integer with leading ff";
+    MISSING_TIME_ZONE = 39, "DER constraint failed: missing time zone";
+    MISSING_SECONDS = 40, "DER constraint failed: missing seconds";
+    FRACTION_NOT_MINIMAL = 41, "DER constraint failed: fraction not minimal";
+    UNUSED_BITS_NOT_ZERO = 42, "DER constraint failed: unused bits not zero";
+    SET_OUT_OF_ORDER = 43, "DER constraint failed: set out of order";
 }
 
 impl Reason {
@@ -211,3 +256,6 @@ impl From<Error> for std::io::Error {
         std::io::Error::new(kind, error)
     }
 }
+
+#[cfg(test)]
+mod tests;

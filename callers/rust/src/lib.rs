@@ -37,6 +37,8 @@
 //!   [`Node::parse_content`], [`Any::reader`] or [`Reader::tagged`] does.
 //! - Rules that need the ASN.1 type aren't checked: the order of a SET, default values, named bits.
 //! - The parts of a string that is constructed aren't joined.
+//! - An error of an input that is cut short counts the octets that are missing, by BER and by DER. In
+//!   `dm_parse_der` and in der-parser, it is the whole length of a content by DER.
 //! - SEQUENCE and SET nest to [`DEFAULT_DEPTH`], or to [`MAX_DEPTH`] at most: [`Rules::with_max_depth`].
 //!
 //! # Features

@@ -1,0 +1,154 @@
+//! An element, and what both readers return on it.
+use crate::header::{Header, Length};
+use crate::readers::{other, own, Outcome};
+use dumarewhi::{Reason, Rules};
+
+/// An element by its octets, with what follows it, and what both readers return.
+pub struct Case<'a> {
+    pub rules: Rules,
+    pub input: &'a [u8],
+    pub depth: usize,
+    pub header: Option<Header>,
+    pub own: Outcome,
+    pub reason: Option<Reason>,
+    /// Where the element begins that shows the reason.
+    place: usize,
+    pub other: Outcome,
+}
+
+impl<'a> Case<'a> {
+    pub fn new(rules: Rules, input: &'a [u8], depth: usize) -> Case<'a> {
+        let (own, refusal) = own(rules, input, depth);
+        Case {
+            rules,
+            input,
+            depth,
+            header: Header::read(input),
+            own,
+            reason: refusal.map(|it| it.0),
+            place: refusal.map_or(0, |it| it.1),
+            other: other(rules, input, depth),
+        }
+    }
+
+    /// Whether it is refused by a rule of DER beyond BER, which the element at the place breaks.
+    pub fn breaks_der(&self) -> bool {
+        let element = self.input.get(self.place..).unwrap_or(&[]);
+        self.rules.is_der() && self.reason.map_or(false, |reason| breaks(reason, element))
+    }
+
+    pub fn content(&self) -> &'a [u8] {
+        self.header
+            .and_then(|header| header.content(self.input))
+            .unwrap_or(&[])
+    }
+
+    pub fn is_universal(&self, numbers: &[u128]) -> bool {
+        self.header
+            .map_or(false, |it| it.is_universal() && numbers.contains(&it.number))
+    }
+
+    pub fn is_list(&self) -> bool {
+        self.header.map_or(false, |it| it.is_list())
+    }
+
+    pub fn is_constructed(&self) -> bool {
+        self.header.map_or(false, |it| it.constructed)
+    }
+
+    pub fn is_indefinite(&self) -> bool {
+        self.header.map_or(false, |it| it.length == Length::Indefinite)
+    }
+
+    pub fn has_content(&self) -> bool {
+        self.header.map_or(false, |it| it.length != Length::Definite(0))
+    }
+
+    pub fn is_read_by_own_alone(&self, numbers: &[u128]) -> bool {
+        self.is_universal(numbers) && self.own.is_read() && self.other == Outcome::Refused
+    }
+
+    pub fn is_read_by_other_alone(&self, numbers: &[u128]) -> bool {
+        self.is_universal(numbers) && self.own == Outcome::Refused && self.other.is_read()
+    }
+}
+
+/// Whether an element breaks the rule of DER beyond BER that a reason names, by its octets.
+fn breaks(reason: Reason, element: &[u8]) -> bool {
+    let header = match Header::read(element) {
+        Some(header) => header,
+        None => return false,
+    };
+    let content = header.content(element).unwrap_or(&[]);
+    let is = |numbers: &[u128]| header.is_universal() && numbers.contains(&header.number);
+    match reason {
+        Reason::INDEFINITE_LENGTH => header.length == Length::Indefinite,
+        Reason::LENGTH_NOT_MINIMAL => header.is_longer_than_needed(),
+        Reason::CONSTRUCTED => header.is_universal() && header.constructed && !header.is_list(),
+        Reason::INVALID_BOOLEAN => is(&[1]) && content != [0] && content != [0xff],
+        Reason::INTEGER_EMPTY => is(&[2, 10]) && content.is_empty(),
+        Reason::INTEGER_LEADING_ZEROES => is(&[2, 10]) && matches!(content, [0, 0..=0x7f, ..]),
+        Reason::INTEGER_LEADING_FF => is(&[2, 10]) && matches!(content, [0xff, 0x80..=0xff, ..]),
+        Reason::MISSING_TIME_ZONE => is(&[23, 24]) && !content.ends_with(b"Z"),
+        Reason::MISSING_SECONDS => (is(&[23]) && content.len() == 11) || (is(&[24]) && content.len() == 13),
+        Reason::FRACTION_NOT_MINIMAL => is(&[24]) && (content.ends_with(b"0Z") || content.contains(&b',')),
+        Reason::UNUSED_BITS_NOT_ZERO => is(&[3]) && has_unused_bits(content),
+        Reason::INVALID_VALUE => is(&[3]) && matches!(content, [8..=0xff, ..]),
+        Reason::INVALID_LENGTH => is(&[0, 5]) && header.length != Length::Definite(0),
+        _ => false,
+    }
+}
+
+/// Whether a bit is set that the first octet says is unused, or there is no octet to have it.
+fn has_unused_bits(content: &[u8]) -> bool {
+    match content {
+        [0] | [] => false,
+        [_] => true,
+        [unused, .., last] => u32::from(*last).trailing_zeros() < u32::from(*unused),
+    }
+}
+
+/// The number after an identifier octet of the long form, as far as it is there, and whether it ends.
+pub fn long_form(input: &[u8]) -> Option<(u128, bool)> {
+    let (first, octets) = input.split_first()?;
+    if first & 0x1f != 0x1f {
+        return None;
+    }
+    let end = octets.iter().position(|octet| *octet < 0x80);
+    let octets = &octets[..end.map_or(octets.len(), |end| end + 1)];
+    let number = octets.iter().fold(0u128, |number, octet| {
+        number.saturating_mul(128) | u128::from(octet & 0x7f)
+    });
+    Some((number, end.is_some()))
+}
+
+/// What der-parser 6 takes as an end marker, and X.690 8.1.5 doesn't.
+pub fn is_other_end(input: &[u8]) -> bool {
+    let header = Header::read(input);
+    !input.starts_with(&[0, 0])
+        && header.map_or(false, |it| it.number == 0 && it.length == Length::Definite(0))
+}
+
+/// The input at each header that is looked at to find the end of an indefinite length.
+pub fn framing(input: &[u8]) -> Vec<&[u8]> {
+    let mut found = vec![input];
+    let (mut rest, mut levels) = (input, 0usize);
+    while let Some(header) = Header::read(rest) {
+        if rest.starts_with(&[0, 0]) {
+            levels = levels.saturating_sub(1);
+        }
+        rest = match (header.length, header.content(rest)) {
+            (Length::Indefinite, _) => {
+                levels += 1;
+                &rest[header.size..]
+            }
+            (_, Some(content)) => &rest[header.size + content.len()..],
+            _ => break,
+        };
+        if levels == 0 {
+            break;
+        }
+        found.push(rest);
+    }
+    found
+}
