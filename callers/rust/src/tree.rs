@@ -114,7 +114,7 @@ impl Rules {
     /// ```
     pub fn parse_with(self, input: &[u8], mut elements: Vec<Element>) -> Result<(&[u8], Tree<'_>)> {
         elements.clear();
-        // If there is no memory for the guess, the list is counted first.
+        // If the guess is too small, or there is no memory for it, the elements are counted first.
         let _ = elements.try_reserve_exact(likely_elements(input));
         let mut found = self.list_in_vec(input, &mut elements)?;
         if found.elements > elements.len() {
@@ -138,10 +138,23 @@ impl Rules {
     }
 }
 
-/// How many elements an input is likely to have at most. Those of certificates have 12 octets each on
-/// average, those of SNMP messages 5.
+/// How many elements there are likely to be at most. An element has two octets at least, and three if it isn't empty.
+/// No more than 65,536, which have 2.5 MiB: an element may be one long string.
 fn likely_elements(input: &[u8]) -> usize {
-    input.len() / 4 + 4
+    let length = likely_length(input);
+    let most = length.min(1 << 10) / 2;
+    most.max(length / 3).min(1 << 16) + 1
+}
+
+/// How many octets the first element is likely to have after its header. What follows it needs no room.
+fn likely_length(input: &[u8]) -> usize {
+    let length = match *input {
+        [_, length @ 0..=0x7f, ..] => usize::from(length),
+        [_, 0x81, length, ..] => usize::from(length),
+        [_, 0x82, high, low, ..] => usize::from(high) << 8 | usize::from(low),
+        _ => input.len(),
+    };
+    length.min(input.len())
 }
 
 /// An element of a tree.

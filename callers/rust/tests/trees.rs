@@ -53,6 +53,33 @@ fn memory_is_used_again() {
     assert_eq!((places.as_ptr(), places.capacity()), (start, capacity));
 }
 
+/// What follows an element takes no memory, and a long string doesn't take much.
+#[test]
+fn memory_is_for_the_elements() {
+    let mut input = vec![0x30, 0x06, 2, 1, 5, 2, 1, 7];
+    input.resize(1 << 20, 0);
+    let (_, tree) = Rules::DER.parse(&input).unwrap();
+    assert_eq!(tree.len(), 3);
+    assert!(tree.into_elements().capacity() < 8);
+    let string = [&[4, 0x83, 0x0f, 0xff, 0xfb][..], &vec![0; 0x0f_fffb]].concat();
+    assert!(Tree::parse_der(&string).unwrap().into_elements().capacity() <= (1 << 16) + 1);
+}
+
+/// A list of more elements than were expected is the same.
+#[test]
+fn lists_of_short_elements() {
+    for count in [1, 40, 200_000usize] {
+        let mut input = vec![0x30, 0x83];
+        input.extend(&(2 * count as u32).to_be_bytes()[1..]);
+        input.extend([5, 0].repeat(count));
+        let tree = Tree::parse_ber(&input).unwrap();
+        assert_eq!(
+            tree.root().children().filter(|node| node.is_null()).count(),
+            count
+        );
+    }
+}
+
 #[test]
 fn content_of_a_tag_has_the_offsets_of_the_input() {
     // [1] { OCTET STRING that holds SEQUENCE { BOOLEAN } }
