@@ -6,7 +6,10 @@
 #     RULES DEPTH ok ELEMENTS LENGTH OCTETS NAME
 #     RULES DEPTH error NUMBER 0 OCTETS NAME
 #     RULES DEPTH incomplete MISSING 0 OCTETS NAME
+#     RULES DEPTH header IDENTIFIER LENGTH OCTETS PATH
 #
+# The last is of an element inside: PATH are the places of an item, of an item of that, and so on, or -. IDENTIFIER are
+# its identifier octets. LENGTH is -1 if it is indefinite.
 # RULES are ber or der, OCTETS are hexadecimal, or - if there are none. The last line is `end` and the number of rows,
 # counted by their first lines. It fails if a row isn't understood, or if a use of a full reader isn't.
 
@@ -39,7 +42,7 @@ FNR == 1 { table = ""; loop = ""; readers = 0; is_library = FILENAME ~ /der_test
 }
 
 # Tables.
-/^const [A-Z_]+: &\[(Row|DepthRow)\] = &\[$/ {
+/^const [A-Z_]+: &\[(Row|DepthRow|\(&str, &\[usize\], Parts\))\] = &\[$/ {
     table = $2
     sub(/:/, "", table)
     table = FILENAME " " table
@@ -66,15 +69,27 @@ table != "" && $0 != "" {
 
 # Uses of the full readers, by one reader or by several.
 is_library { next }
-/expect_answers\(rt\.alloc\(\), Reader::Parse[BD]er, [A-Z_]+\)/ { use_table(word_after("Reader::Parse", 3), 50, table_of($0)); next }
-/for \(name, depth, text, answer\) in [A-Z_]+ \{/ { loop = FILENAME " " $(NF - 1); next }
+/expect_answers\(rt\.alloc\(\), Reader::Parse[BD]er, [A-Z_]+\)/ {
+    use_table(word_after("Reader::Parse", 3), 50, table_of($0))
+    next
+}
+/for \((name, depth, text, answer|text, path, parts)\) in [A-Z_]+ \{/ { loop = FILENAME " " $(NF - 1); next }
+/expect_header\(rt\.alloc\(\), Reader::Parse[BD]er, text, path, parts\)/ {
+    use_table(word_after("Reader::Parse", 3), 50, loop)
+    next
+}
 /Reader::Parse[BD]erRecursive\(\*depth\)/ {
     if (loop == "") fail("a reader outside of a loop")
     use_table(word_after("Reader::Parse", 3), -1, loop)
     next
 }
 /for reader in \[$/ { readers = 0; next }
-/^ *Reader::Parse[BD]er,$/ { readers++; rules_of[readers] = word_after("Reader::Parse", 3); depth_of[readers] = 50; next }
+/^ *Reader::Parse[BD]er,$/ {
+    readers++
+    rules_of[readers] = word_after("Reader::Parse", 3)
+    depth_of[readers] = 50
+    next
+}
 /^ *Reader::Parse[BD]erRecursive\([0-9]+\),$/ {
     readers++
     rules_of[readers] = word_after("Reader::Parse", 3)
@@ -96,9 +111,11 @@ is_library { next }
     }
     next
 }
-# What is written, headers and octets that a function makes state no answer.
-/expect_written\(|expect_header\(|written_again\(|expect_answer_on\(|read_all\(/ { next }
-/Reader::Parse[BD]er(Recursive)?[^A-Za-z]/ && FILENAME !~ /refused_growths/ { fail("a reader that is used in another way") }
+# What is written, and octets that a function makes, state no answer.
+/expect_written\(|written_again\(|expect_answer_on\(|read_all\(/ { next }
+/Reader::Parse[BD]er(Recursive)?[^A-Za-z]/ && FILENAME !~ /refused_growths/ {
+    fail("a reader that is used in another way")
+}
 
 END {
     if (failed) exit 1
@@ -148,6 +165,10 @@ function is_balanced(line) {
 function print_row(rules, depth, line,    plain, parts, answer, octets, name, number) {
     plain = without_texts(line)
     gsub(/  +/, " ", plain)
+    if (plain ~ /^ *\(@, &\[[0-9, ]*\], Parts\(/) {
+        print_header(rules, depth, plain)
+        return
+    }
     name = taken[1]
     if (name == "") name = "without a name"
     octets = octets_of(taken[2])
@@ -176,6 +197,20 @@ function print_row(rules, depth, line,    plain, parts, answer, octets, name, nu
         fail("an answer: " plain)
     }
     printf " %s %s\n", octets == "" ? "-" : octets, name
+    printed++
+}
+
+# A row of headers: its first text has the octets, its second one the identifier.
+function print_header(rules, depth, plain,    path, size) {
+    path = plain
+    sub(/^[^[]*\[/, "", path)
+    sub(/\].*/, "", path)
+    gsub(/, */, ".", path)
+    size = -1
+    if (match(plain, /Definite\([0-9]+\)/)) size = substr(plain, RSTART + 9, RLENGTH - 10)
+    else if (plain !~ /Indefinite/) fail("a length: " plain)
+    printf "%s %s header %s %s", rules, depth, octets_of(taken[2]), size
+    printf " %s %s\n", octets_of(taken[1]), path == "" ? "-" : path
     printed++
 }
 

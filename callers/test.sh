@@ -63,7 +63,9 @@ has nm "undefined symbols" && says "the archive needs no other library" bash -c 
 compile() { cc -std=c99 -Wall -Wextra -Werror -O2 "${@:3}" -Ic/include "c/$1.c" "$archive" -o "$room/$2"; }
 
 run_c() {
-    for name in first tree certificate snmp count layout rows errors tables; do says "$name.c compiles" compile $name $name; done
+    for name in first tree certificate snmp count layout rows errors tables; do
+        says "$name.c compiles" compile $name $name
+    done
     says "stack.c compiles" compile stack stack -pthread
     shown=yes
     for name in layout rows errors stack; do says "$name" "$room/$name"; done
@@ -84,7 +86,7 @@ run_c() {
     prints "tree by DER" 1 "" "$room/tree" der "$room/smith"
     says "tree tells why" grep -q "^at 0: DER constraint failed: indefinite length$" "$room/errors"
 
-    for _ in $(seq 2000); do octets "30 0a 16 05 53 6d 69 74 68 01 01 ff"; done > "$room/many"
+    octets "$(printf '30 0a 16 05 53 6d 69 74 68 01 01 ff%.0s' $(seq 2000))" > "$room/many"
     prints "count" 0 "6000 objects, 2000 of them outermost, in 24000 octets" "$room/count" der "$room/many"
 
     # Two requests of RFC 1157, the second with a length of indefinite form
@@ -108,9 +110,9 @@ version 1, community public: get-next 43 1.3.6.1.2.1.1.3.0" "$room/snmp"
 run_certificates() {
     local read=0 wrong=0 name
     for name in $(find /etc/ssl/certs /usr/share/ca-certificates -name '*.crt' 2> /dev/null | head -n "$1"); do
-        openssl x509 -in "$name" -outform DER -out "$room/certificate.der" 2> /dev/null || continue
         local said serial end
-        said=$(openssl x509 -in "$name" -noout -serial -enddate)
+        said=$(openssl x509 -in "$name" -noout -serial -enddate 2> /dev/null) || continue
+        sed '/-----END/q' "$name" | sed '/-----/d' | base64 -d > "$room/certificate.der"
         serial=$(echo "$said" | sed -n 's/serial=//p' | tr A-F a-f)
         end=$(date -u -d "$(echo "$said" | sed -n 's/notAfter=//p')" "+%Y-%m-%d %H:%M:%S")
         if "$room/certificate" < "$room/certificate.der" > "$room/fields" \
@@ -170,7 +172,8 @@ fi
 
 # The numbers of errors in the header are those of the specification.
 numbers_of_header() { sed -n 's/^ *DM_ERROR_.* = \([0-9]*\).*/\1/p' c/include/dumarewhi.h; }
-numbers_of_errors() { sed -n 's/^[a-z]*_number [^:]* = \([0-9]*\)$/\1/p' ../crates/dumarewhi_c/specs/ErrorNumbers.antt; }
+numbers_of_errors() { sed -n 's/^[a-z]*_number [^:]* = \([0-9]*\)$/\1/p' "$numbers"; }
+numbers=../crates/dumarewhi_c/specs/ErrorNumbers.antt
 run_numbers() { [ -n "$(numbers_of_errors)" ] && diff <(numbers_of_header | sort) <(numbers_of_errors | sort); }
 says "the header has a name for each error" run_numbers
 
@@ -185,19 +188,21 @@ if [ -d rust ]; then
         run_cargo() { DUMAREWHI_LIB=$(dirname "$archive") CARGO_TARGET_DIR=$room/target cargo "$@" 2>&1; }
         says "cargo test" run_cargo test --offline --quiet --manifest-path rust/Cargo.toml
         if cargo clippy --version > /dev/null 2>&1; then
-            says "cargo clippy" run_cargo clippy --offline --quiet --all-targets --manifest-path rust/Cargo.toml -- -D warnings
+            run_clippy() { run_cargo clippy --offline --quiet --all-targets --manifest-path "$1" -- -D warnings; }
+            says "cargo clippy" run_clippy rust/Cargo.toml
         else
             echo "left out: cargo clippy (there is no clippy)"
         fi
         # A project of its own, with the command that README gives.
         if cargo add --help > /dev/null 2>&1; then
             add=$(sed -n 's|^    \(cargo add .*\)$|\1|p' ../README.md)
-            run_project() {
+            run_project() (
                 (cd "$room" && cargo new --quiet --vcs none project) || return
                 rust_lines ../README.md > "$room/project/src/main.rs"
                 [ -s "$room/project/src/main.rs" ] && [ -n "$add" ] || return
-                (cd "$room/project" && CARGO_NET_OFFLINE=true sh -ec "${add//DUMAREWHI/$root}" && run_cargo run --offline)
-            }
+                cd "$room/project" && CARGO_NET_OFFLINE=true sh -ec "${add//DUMAREWHI/$root}" || return
+                run_cargo run --offline
+            )
             says "a project of its own" run_project
         else
             echo "left out: a project of its own (cargo has no add)"
@@ -207,7 +212,7 @@ if [ -d rust ]; then
             run_peers() {
                 cp -r peers "$room/peers" && mkdir "$room/peers/.cargo" && peers/inputs.sh "$room/inputs" || return
                 sed -i "s|\.\./rust|$root/callers/rust|" "$room/peers/Cargo.toml"
-                printf '[source.crates-io]\nreplace-with = "packages"\n[source.packages]\ndirectory = "%s"\n' "$registry" \
+                printf '[source.%s]\n%s = "%s"\n' crates-io replace-with packages packages directory "$registry" \
                     > "$room/peers/.cargo/config.toml"
                 (cd "$room/peers" && run_cargo run --offline --quiet -- "$room/inputs")
             }

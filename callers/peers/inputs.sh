@@ -1,7 +1,7 @@
 #!/bin/sh
 # Collects real inputs, the same at each run:  inputs.sh FOLDER
 # They are the certificates of the machine, and what openssl makes with a key and dates that don't change: a key, a
-# request, a certificate, a list of revoked ones, a question for OCSP, and two messages of CMS (one of indefinite length).
+# request, a certificate, a list of revoked ones, a question for OCSP, and messages of CMS, one of indefinite length.
 set -eu
 mkdir -p "$1"
 cd "$1"

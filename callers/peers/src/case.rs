@@ -37,6 +37,11 @@ impl<'a> Case<'a> {
         self.rules.is_der() && self.reason.map_or(false, |reason| breaks(reason, element))
     }
 
+    /// Why a list is refused that this element is in: it is refused, or it runs past the list's end.
+    pub fn reason_in_list(&self) -> Reason {
+        self.reason.unwrap_or(Reason::OVERRUN)
+    }
+
     pub fn content(&self) -> &'a [u8] {
         self.header
             .and_then(|header| header.content(self.input))
@@ -58,6 +63,14 @@ impl<'a> Case<'a> {
 
     pub fn is_indefinite(&self) -> bool {
         self.header.map_or(false, |it| it.length == Length::Indefinite)
+    }
+
+    /// A length that is definite.
+    pub fn definite(&self) -> Option<u128> {
+        match self.header?.length {
+            Length::Definite(length) => Some(length),
+            _ => None,
+        }
     }
 
     pub fn has_content(&self) -> bool {

@@ -3,7 +3,7 @@
 use crate::case::{framing, is_other_end, Case};
 use crate::readers::Outcome;
 use crate::rules::{rule_named, FRAMING_FIRST, ITEMS_BY_BER, LISTS_END, OTHER_END, RULES};
-use dumarewhi::Rules;
+use dumarewhi::{Reason, Rules};
 
 impl<'a> Case<'a> {
     /// The number of the rule that decides at the element, or at the first one inside it where the readers differ.
@@ -35,9 +35,10 @@ impl<'a> Case<'a> {
             {
                 Step::Over(item.len() - left)
             }
-            (own, other) if !own.is_read() && !other.is_read() => Step::Unread,
-            (own, _) if !own.is_read() && here.breaks_der() && by_ber.own == by_ber.other => {
-                Step::Differ(rule_named(ITEMS_BY_BER))
+            (own, other) if !own.is_read() && !other.is_read() => Step::Unread(here.reason_in_list()),
+            (Outcome::Refused, _) if here.breaks_der() && by_ber.own == by_ber.other => {
+                let is_of_item = self.reason == here.reason;
+                Step::Differ(rule_named(ITEMS_BY_BER).filter(|_| is_of_item))
             }
             _ => Step::Differ(by_ber.decide()),
         }
@@ -51,12 +52,16 @@ impl<'a> Case<'a> {
         }
     }
 
+    /// The rule in a list of definite length, which has the reason of its first element that isn't read.
     fn decide_in_list(&self, content: &'a [u8]) -> Option<usize> {
         let mut rest = content;
         while !rest.is_empty() {
             match self.step(rest) {
                 Step::Over(length) => rest = &rest[length..],
-                Step::Unread => return rule_named(LISTS_END),
+                Step::Unread(reason) => {
+                    let is_of_item = self.reason == Some(reason) && self.other.is_read();
+                    return rule_named(LISTS_END).filter(|_| is_of_item);
+                }
                 Step::Differ(rule) => return rule,
             }
         }
@@ -71,7 +76,7 @@ impl<'a> Case<'a> {
             }
             match self.step(rest) {
                 Step::Over(length) => rest = &rest[length..],
-                Step::Unread => return self.decide_at_unread(rest),
+                Step::Unread(_) => return self.decide_at_unread(rest),
                 Step::Differ(rule) => return rule,
             }
         }
@@ -103,8 +108,8 @@ impl<'a> Case<'a> {
 enum Step {
     /// They read the same, of so many octets.
     Over(usize),
-    /// Neither reads it.
-    Unread,
+    /// Neither reads it, and dumarewhi has this reason for a list around it.
+    Unread(Reason),
     /// They differ, by the rule of this number.
     Differ(Option<usize>),
 }

@@ -1,7 +1,6 @@
 //! The rules by which the readers differ. Numbers are clauses of X.690; "DIFFERENCES" is a line of
 //! docs/DIFFERENCES.md that says the same of der-parser 10; what is neither is a habit of der-parser 6.
 use crate::case::{framing, is_other_end, long_form, Case};
-use crate::header::{Header, Length};
 use crate::readers::{other, Outcome};
 use dumarewhi::{Reason, Rules};
 
@@ -68,7 +67,7 @@ pub const RULES: &[Rule] = &[
         decides: |case| {
             case.reason == Some(Reason::LENGTH_NOT_MINIMAL)
                 && case.breaks_der()
-                && matches!(case.header, Some(Header { length: Length::Definite(length), .. }) if length >= 127)
+                && matches!(case.definite(), Some(127..))
         },
         examples: &[
             (true, "04 81 7f"),
@@ -84,7 +83,7 @@ pub const RULES: &[Rule] = &[
             !case.rules.is_der()
                 && case.own == Outcome::CutShort
                 && case.other == Outcome::Refused
-                && matches!(case.header, Some(Header { length: Length::Definite(length), .. }) if length > u32::MAX.into())
+                && matches!(case.definite(), Some(length) if length > u32::MAX.into())
         },
         examples: &[
             (false, "04 85 01 00 00 00 00"),
@@ -100,7 +99,7 @@ pub const RULES: &[Rule] = &[
     },
     Rule {
         name: "an end of contents with octets, or constructed",
-        source: "8.1.5; DIFFERENCES: InvalidLength by DER, read by BER",
+        source: "8.1.5 forbids it; read by BER as by der-parser 10",
         is_of_header: false,
         decides: |case| match case.rules.is_der() {
             true => case.is_read_by_other_alone(&[0]) && case.is_constructed(),
@@ -109,22 +108,22 @@ pub const RULES: &[Rule] = &[
         examples: &[(true, "20 00"), (false, "00 01 ff"), (false, "20 80 05 00 00 00")],
     },
     Rule {
-        name: "a constructed INTEGER, OCTET STRING or NULL by BER",
-        source: "8.7.3; DIFFERENCES: Constructed by DER alone",
+        name: "a constructed OCTET STRING by BER",
+        source: "8.7.1; DIFFERENCES: Constructed by DER alone",
         is_of_header: false,
-        decides: |case| {
-            !case.rules.is_der() && case.is_read_by_own_alone(&[2, 4, 5]) && case.is_constructed()
-        },
-        examples: &[
-            (false, "24 03 04 01 61"),
-            (false, "24 80 04 01 61 00 00"),
-            (false, "22 01 05"),
-            (false, "25 00"),
-        ],
+        decides: |case| !case.rules.is_der() && case.is_read_by_own_alone(&[4]) && case.is_constructed(),
+        examples: &[(false, "24 03 04 01 61"), (false, "24 80 04 01 61 00 00")],
+    },
+    Rule {
+        name: "a constructed INTEGER or NULL by BER",
+        source: "8.3.1 and 8.8.1 forbid it; read as by der-parser 10",
+        is_of_header: false,
+        decides: |case| !case.rules.is_der() && case.is_read_by_own_alone(&[2, 5]) && case.is_constructed(),
+        examples: &[(false, "22 01 05"), (false, "25 00"), (false, "25 80 00 00")],
     },
     Rule {
         name: "a NULL with octets by BER",
-        source: "8.8.2; DIFFERENCES: InvalidLength by DER alone",
+        source: "8.8.2 forbids it; read by BER as by der-parser 10",
         is_of_header: false,
         decides: |case| !case.rules.is_der() && case.is_read_by_own_alone(&[5]) && case.has_content(),
         examples: &[(false, "05 01 00")],
@@ -244,7 +243,7 @@ pub const RULES: &[Rule] = &[
     },
     Rule {
         name: "a text that is no time",
-        source: "8.25, 8.26, X.680 46 and 47; DIFFERENCES: fields",
+        source: "8.25, X.680 46 and 47; DIFFERENCES: own fields",
         is_of_header: false,
         decides: |case| {
             case.is_read_by_other_alone(&[23, 24])

@@ -1,7 +1,7 @@
 //! The rows that the tests of the library state for its full readers, which `tables.awk` takes from there, and further
 //! ones.
 #![cfg(feature = "std")]
-use dumarewhi::{ErrorKind, Result, Rules};
+use dumarewhi::{Class, ErrorKind, Node, Result, Rules, Tag};
 use std::path::{Path, PathBuf};
 use std::process::Command;
 use std::{fs, io};
@@ -9,9 +9,20 @@ use std::{fs, io};
 /// What a row states.
 #[derive(Debug, PartialEq)]
 enum Stated {
-    Ok { elements: usize, length: usize },
+    Ok {
+        elements: usize,
+        length: usize,
+    },
     Error(u32),
-    Incomplete { missing: usize },
+    Incomplete {
+        missing: usize,
+    },
+    /// The identifier octets of an element that a path leads to, and its length if that is definite.
+    Header {
+        identifier: Vec<u8>,
+        length: Option<usize>,
+        path: Vec<usize>,
+    },
 }
 
 struct Row {
@@ -65,54 +76,98 @@ impl Row {
             "incomplete" => Stated::Incomplete {
                 missing: words[3].parse().unwrap(),
             },
+            "header" => Stated::Header {
+                identifier: octets(words[3]),
+                length: words[4].parse().ok(),
+                path: words[6]
+                    .split('.')
+                    .filter_map(|place| place.parse().ok())
+                    .collect(),
+            },
             _ => panic!("{line}"),
         };
-        let digits = words[5].strip_prefix('-').unwrap_or(words[5]);
         Row {
             rules: rules.with_max_depth(words[1].parse().unwrap()),
             stated,
-            octets: (0..digits.len() / 2)
-                .map(|at| u8::from_str_radix(&digits[2 * at..][..2], 16).unwrap())
-                .collect(),
+            octets: octets(words[5]),
         }
     }
 
-    /// What is stated, where this crate differs: if the content of a universal type is cut short, a row for DER
-    /// states its whole length, and this crate counts what is missing.
-    fn stated_here(&self) -> Stated {
-        match (&self.stated, self.octets.as_slice()) {
-            (Stated::Incomplete { missing }, [identifier @ 0..=0x3f, first, ..]) if self.rules.is_der() => {
+    /// How many octets are missing, where a row states a number. If the content of a universal type is cut short, it
+    /// is the whole length by DER, and this crate counts what is missing.
+    fn missing_here(&self, stated: usize) -> usize {
+        match self.octets.as_slice() {
+            [identifier @ 0..=0x3f, first, ..] if self.rules.is_der() && identifier & 0x1f != 0x1f => {
                 let header = 2 + if *first < 0x80 {
                     0
                 } else {
                     usize::from(first & 0x7f)
                 };
-                let has_number = identifier & 0x1f == 0x1f;
-                let content = self.octets.len().checked_sub(header).filter(|_| !has_number);
-                Stated::Incomplete {
-                    missing: missing - content.unwrap_or(0),
-                }
+                stated - self.octets.len().saturating_sub(header)
             }
-            (Stated::Ok { elements, length }, _) => Stated::Ok {
-                elements: *elements,
-                length: *length,
-            },
-            (Stated::Error(number), _) => Stated::Error(*number),
-            (Stated::Incomplete { missing }, _) => Stated::Incomplete { missing: *missing },
+            _ => stated,
+        }
+    }
+
+    fn expect(&self, result: Result<(usize, usize)>) {
+        match (&self.stated, result.map_err(|error| error.kind())) {
+            (Stated::Ok { elements, length }, Ok(found)) => assert_eq!((*elements, *length), found),
+            (Stated::Header { .. }, Ok(_)) => (),
+            (Stated::Error(number), Err(ErrorKind::Malformed(reason))) => {
+                assert_eq!(*number, reason.number())
+            }
+            (Stated::Incomplete { missing: stated }, Err(ErrorKind::Incomplete { missing })) => {
+                assert_eq!(self.missing_here(*stated), missing);
+            }
+            (stated, result) => panic!("{stated:?}, and not {result:?}"),
+        }
+    }
+
+    fn expect_header(&self, root: Node<'_, '_>) {
+        if let Stated::Header {
+            identifier,
+            length,
+            path,
+        } = &self.stated
+        {
+            let node = path
+                .iter()
+                .fold(root, |node, place| node.children().nth(*place).unwrap());
+            assert_eq!(node.tag(), tag(identifier));
+            assert_eq!(node.is_constructed(), identifier[0] & 0x20 != 0);
+            assert!(node.header().starts_with(identifier));
+            assert_eq!(
+                node.header().get(identifier.len()) != Some(&0x80),
+                length.is_some()
+            );
+            assert_eq!(length.unwrap_or(node.content().len()), node.content().len());
         }
     }
 }
 
-/// What the result has of what a row states.
-fn returned(result: Result<(usize, usize)>) -> Stated {
-    match result {
-        Ok((elements, length)) => Stated::Ok { elements, length },
-        Err(error) => match error.kind() {
-            ErrorKind::Malformed(reason) => Stated::Error(reason.number()),
-            ErrorKind::Incomplete { missing } => Stated::Incomplete { missing },
-            kind => panic!("{kind}"),
-        },
-    }
+/// The tag that identifier octets spell (X.690 8.1.2).
+fn tag(identifier: &[u8]) -> Tag {
+    let class = match identifier[0] >> 6 {
+        0 => Class::Universal,
+        1 => Class::Application,
+        2 => Class::ContextSpecific,
+        _ => Class::Private,
+    };
+    let number = match identifier {
+        [first] => u32::from(first & 0x1f),
+        [_, octets @ ..] => octets
+            .iter()
+            .fold(0, |number, octet| number << 7 | u32::from(octet & 0x7f)),
+        [] => unreachable!(),
+    };
+    Tag { class, number }
+}
+
+fn octets(digits: &str) -> Vec<u8> {
+    let digits = digits.strip_prefix('-').unwrap_or(digits);
+    (0..digits.len() / 2)
+        .map(|at| u8::from_str_radix(&digits[2 * at..][..2], 16).unwrap())
+        .collect()
 }
 
 /// Compares each row with what this crate returns. The last line is the number of rows.
@@ -123,13 +178,15 @@ fn compare(rows: &str) {
             end = Some(number.parse().unwrap());
             continue;
         }
+        println!("{line}");
         let row = Row::new(line);
         let checked = row.rules.check(&row.octets);
-        let counted = checked.map(|found| (found.elements, found.length));
-        assert_eq!(returned(counted), row.stated_here(), "{line}");
+        row.expect(checked.map(|found| (found.elements, found.length)));
         let parsed = row.rules.parse(&row.octets);
-        let measured = parsed.map(|(rest, tree)| (tree.len(), row.octets.len() - rest.len()));
-        assert_eq!(returned(measured), row.stated_here(), "{line}");
+        if let Ok((_, tree)) = &parsed {
+            row.expect_header(tree.root());
+        }
+        row.expect(parsed.map(|(rest, tree)| (tree.len(), row.octets.len() - rest.len())));
         count += 1;
     }
     assert_eq!(end, Some(count));
