@@ -27,16 +27,12 @@ pub fn canonical(alloc: Global, octets: &[u8]) -> Result<Vec<u8>, CanonError>
     if are_elements(written.as_slice(), Rules::Der, MAX_DEPTH + 1) {
         return Ok(written);
     }
-    Err(refuse_written(alloc, &pieces, written.as_slice())?)
+    Err(refuse_written(&pieces, written.as_slice()))
 }
 
 /// Refuses what was written, with the place in the input of the element that isn't DER.
-fn refuse_written(
-    alloc: Global,
-    pieces: &[Piece<'_>],
-    written: &[u8],
-) -> Result<CanonError, CanonError> {
-    let mut walk = Walk::new(alloc, written, Rules::Der, false);
+fn refuse_written(pieces: &[Piece<'_>], written: &[u8]) -> CanonError {
+    let mut walk = Walk::new(written, Rules::Der, false);
     for piece in pieces {
         if piece.has_header() {
             if let Err(refusal) = walk.next_element() {

@@ -48,7 +48,7 @@ pub(crate) fn read_pieces<'a>(
     alloc: Global,
     octets: &'a [u8],
 ) -> Result<Vec<Piece<'a>>, CanonError> {
-    let mut walk = Walk::new(alloc, octets, Rules::Ber, false);
+    let mut walk = Walk::new(octets, Rules::Ber, false);
     let mut pieces = Vec::new(alloc);
     let mut parts = None;
     // An element has an octet at least, so the loop ends at the end of the input.
@@ -59,10 +59,10 @@ pub(crate) fn read_pieces<'a>(
                     parts = next;
                     pieces.push(Piece { element, form })?;
                 }
-                Err(cause) => return Err(refuse_element(&walk, &element, cause)?),
+                Err(cause) => return Err(refuse_element(&walk, &element, cause)),
             },
             Ok(None) => return Ok(pieces),
-            Err(refusal) => return Err(refuse(&walk, &refusal)?),
+            Err(refusal) => return Err(refuse(&walk, &refusal)),
         }
     }
     Ok(pieces)
@@ -110,11 +110,7 @@ fn is_string(element: &Element<'_>) -> bool {
 }
 
 /// Refuses an element that was read.
-fn refuse_element(
-    walk: &Walk<'_>,
-    element: &Element<'_>,
-    cause: Cause,
-) -> Result<CanonError, CanonError> {
+fn refuse_element(walk: &Walk<'_>, element: &Element<'_>, cause: Cause) -> CanonError {
     let step = if element.constructed {
         None
     } else {
@@ -129,11 +125,10 @@ fn refuse_element(
 }
 
 /// Refuses what a walk refuses.
-pub(crate) fn refuse(walk: &Walk<'_>, refusal: &Refusal) -> Result<CanonError, CanonError> {
-    let path = walk.path(refusal)?;
-    Ok(CanonError::NotCanonical(NotCanonical {
+pub(crate) fn refuse(walk: &Walk<'_>, refusal: &Refusal) -> CanonError {
+    CanonError::NotCanonical(NotCanonical {
         offset: refusal.offset,
-        path,
+        path: walk.path(refusal),
         cause: refusal.cause,
-    }))
+    })
 }

@@ -1,6 +1,7 @@
 -- Elements at the start of an input: which kind one is, and what is left after it.
-use Rattle.std.proofs.Common.{◌≡◌, ℕ, zero, suc, ◌-◌, ◌<◌, ◌≤◌, ◌⊎◌, Bool, true, false, List, ◌∷◌, ◌++◌, length, Option, Some, None, Ok, Err, refl, sym, ap, subst, ◌∙◌, arith, append_assoc, length-append, inl, inr, ⊎_elim}
+use Rattle.std.proofs.Common.{◌≡◌, ℕ, zero, suc, ◌-◌, ◌<◌, ◌≤◌, ◌⊎◌, Bool, true, false, List, [], ◌∷◌, ◌++◌, length, Option, Some, None, Ok, Err, refl, sym, ap, subst, ◌∙◌, arith, append_assoc, length-append, inl, inr, ⊎_elim}
 use Rattle.std.specs.Borrow.{Bor}
+use Rattle.std.proofs.lemmas.List.{append-nil, nil_from_length}
 use Rattle.der_base.specs.declared.error.Err.{Err as Refused}
 use Rattle.der_base.specs.declared.error.Error.{Error as BerError}
 use Rattle.der_base.specs.declared.header.Class.{Class}
@@ -220,3 +221,14 @@ pub open_end : (r : Rules) (d : ℕ) (i y rest : List ℕ) → i ≡ end_marker 
 open_end r d i y rest z (w, e, none) = let both = sym z ∙ e in cc
 open_end r d i y rest z (w, e, one_more b after eb is more) =
     absurd (no_zero_first r d b (0 ∷ y) (after ++ (end_marker ++ rest)) is (sym z ∙ e ∙ ap (λ l. l ++ (end_marker ++ rest)) eb ∙ append_assoc b after (end_marker ++ rest)))
+
+-- one element and nothing else
+
+pub whole_element : (r : Rules) (d : ℕ) (i : List ℕ) (x : Bor (List ℕ)) → Finds (BeginsWithElement r d i) (Some x) → length x.now ≡ 0 → IsElement r d i
+whole_element r d i x f e = let (b, eb, is) = f.found in subst (λ l. IsElement r d l) (sym (eb ∙ ap (λ l. b ++ l) (nil_from_length x.now e) ∙ append-nil b)) is
+
+pub nothing_left : (r : Rules) (d : ℕ) (i : List ℕ) (x : Bor (List ℕ)) → Finds (BeginsWithElement r d i) (Some x) → IsElement r d i → length x.now ≡ 0
+nothing_left r d i x f is = ap length (f.only [] (i, sym (append-nil i), is))
+
+pub no_element : (r : Rules) (d : ℕ) (i : List ℕ) → Finds (BeginsWithElement r d i) None → IsElement r d i → ⊥
+no_element r d i f is = f.only [] (i, sym (append-nil i), is)

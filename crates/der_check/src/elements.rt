@@ -1,7 +1,7 @@
 //! Elements and what is inside them: they call each other, a depth less at each constructed element.
 ghost use Rattle.std.specs.Prelude.{◌≡◌, ◌↔◌, ◌≤◌, ◌<◌, ◌++◌, ℕ, List, IfSome, IsTrue, MatchOption, false, length};
 ghost use Rattle.der_base.specs.Spelling.{end_marker};
-ghost use Rattle.der_check.specs.Elements.{AreElements};
+ghost use Rattle.der_check.specs.Elements.{AreElements, IsElement};
 ghost use Rattle.der_check.specs.Readers.{BeginsWithConstructed, BeginsWithElement, BeginsWithOpenContent};
 ghost use Rattle.der_check.specs.Readers.{BeginsWithPrimitive, Finds, StartsConstructed, StartsEndMarker};
 
@@ -27,6 +27,16 @@ pub fn are_elements(octets: &[u8], rules: Rules, max_depth: usize) -> bool
         }
     }
     true
+}
+
+/// Whether octets are one element, and nothing else.
+pub fn is_element(octets: &[u8], rules: Rules, max_depth: usize) -> bool
+    ensures { IsTrue result ↔ IsElement rules max_depth octets.now }
+{
+    match after_element(octets, rules, max_depth) {
+        Some(after) => after.is_empty(),
+        None => false,
+    }
 }
 
 /// What follows the element at the start of the input, if there is one.
@@ -129,8 +139,8 @@ fn after_open_content(i: &[u8], rules: Rules, max_depth: usize) -> Option<&[u8]>
     }
 }
 
-/// What follows the end marker at the start of the input, if there is one.
-fn after_end_marker(i: &[u8]) -> Option<&[u8]>
+/// What follows the end marker at the start of the input, if there is one (8.1.5).
+pub fn after_end_marker(i: &[u8]) -> Option<&[u8]>
     ensures { MatchOption result
         ((rest : List ℕ) → i.now ≡ end_marker ++ rest → ⊥)
         (λ x. i.now ≡ end_marker ++ x.now) }

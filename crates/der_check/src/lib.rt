@@ -4,5 +4,5 @@
 mod elements;
 mod rules;
 
-pub use elements::are_elements;
+pub use elements::{after_end_marker, are_elements, is_element};
 pub use rules::Rules;

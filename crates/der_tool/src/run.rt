@@ -82,38 +82,31 @@ fn act<W: Write, X: Write>(
         → IfOk result (λ ok. IsTrue ok ↔ AreElements options.now.rules 101 octets.now) }
 {
     match options.action {
-        Action::Check => check(alloc, options, name, octets, out),
+        Action::Check => check(options, name, octets, out),
         Action::Canon => write_canonical(alloc, name, label, octets, out, err),
         Action::Tree | Action::Json => print_elements(alloc, options, name, octets, out, err),
     }
 }
 
 /// Checks whether octets are elements and nothing else, and reports where and why they aren't.
-fn check<W: Write>(
-    alloc: Global,
-    options: &Options,
-    name: &str,
-    octets: &[u8],
-    out: &mut W,
-) -> io::Result<bool>
+fn check<W: Write>(options: &Options, name: &str, octets: &[u8], out: &mut W) -> io::Result<bool>
     ensures { IfOk result (λ ok. IsTrue ok ↔ AreElements options.now.rules 101 octets.now) }
 {
     if are_elements(octets, options.rules, MAX_DEPTH + 1) {
         return Ok(true);
     }
-    report_first(alloc, options, name, octets, out)?;
+    report_first(options, name, octets, out)?;
     Ok(false)
 }
 
 /// Reports the first element that is refused.
 fn report_first<W: Write>(
-    alloc: Global,
     options: &Options,
     name: &str,
     octets: &[u8],
     out: &mut W,
 ) -> io::Result<()> {
-    let mut walk = Walk::new(alloc, octets, options.rules, false);
+    let mut walk = Walk::new(octets, options.rules, false);
     // An element has an octet at least, so the loop ends at the end of the octets.
     for _ in 0..=octets.len() {
         match walk.next_element() {
@@ -225,7 +218,7 @@ fn print_elements<W: Write, X: Write>(
     out: &mut W,
     err: &mut X,
 ) -> io::Result<bool> {
-    let mut walk = Walk::new(alloc, octets, options.rules, options.enters_strings).keeping_texts();
+    let mut walk = Walk::new(octets, options.rules, options.enters_strings).keeping_texts();
     // An element has an octet at least, so the loop ends at the end of the octets.
     for _ in 0..=octets.len() {
         match walk.next_element() {
@@ -259,7 +252,7 @@ fn print_element<W: Write>(
 
 /// Writes where and why a walk refuses an input.
 fn report<X: Write>(name: &str, walk: &Walk<'_>, refusal: &Refusal, err: &mut X) -> io::Result<()> {
-    let path = walk.path(refusal)?;
+    let path = walk.path(refusal);
     report_place(name, refusal.offset, &path, refusal.cause, err)
 }
 
@@ -271,7 +264,7 @@ fn report_place<X: Write>(
     cause: Cause,
     err: &mut X,
 ) -> io::Result<()> {
-    if path.steps.is_empty() {
+    if path.is_empty() {
         return writeln!(err, "der: {name}: at {offset}: {cause}");
     }
     writeln!(err, "der: {name}: at {offset}, {path}: {cause}")

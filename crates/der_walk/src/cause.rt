@@ -29,8 +29,6 @@ pub enum Cause {
     NotDer,
     /// Elements are nested deeper than the limit.
     TooDeep,
-    /// There was no memory.
-    OutOfMemory,
 }
 
 /// A rule that an input breaks.
@@ -123,7 +121,6 @@ impl Cause {
                 "elements are nested more than 100 deep, the limit here",
                 "",
             ),
-            Cause::OutOfMemory => Rule::new("out of memory", ""),
         }
     }
 }

@@ -63,6 +63,11 @@ impl<'a> Element<'a> {
         self.class == Class::Universal && self.number == number
     }
 
+    /// Whether it is a text, whose octets spell characters of its type (X.690 8.23).
+    pub(crate) fn is_text(&self) -> bool {
+        self.class == Class::Universal && matches!(self.number, 7 | 12 | 18..=22 | 25..=27 | 30)
+    }
+
     /// The octets of a primitive string that may hold an element: those of an OCTET STRING, and those of a
     /// BIT STRING without unused bits.
     pub(crate) fn string_octets(&self) -> Option<&'a [u8]> {

@@ -3,9 +3,11 @@
 #![tactic(auto)]
 
 mod cause;
+mod content;
 mod element;
 mod name;
 mod path;
+mod refusal;
 mod walk;
 
 pub use cause::{Cause, Rule};
@@ -13,4 +15,5 @@ pub use der_check::Rules;
 pub use element::Element;
 pub use name::TypeName;
 pub use path::{Path, Step};
-pub use walk::{MAX_DEPTH, Refusal, Walk};
+pub use refusal::Refusal;
+pub use walk::{MAX_DEPTH, Walk};

@@ -1,7 +1,11 @@
 //! The path to an element.
 use crate::name::TypeName;
+use arrayvec::ArrayVec;
 use der_base::header::Class;
 use std::fmt;
+
+/// How many steps a path has at most: one for each element that is open, and the element that is refused.
+const MAX_STEPS: usize = 102;
 
 /// An element of a path.
 #[derive(Clone, Copy, Debug, PartialEq)]
@@ -9,6 +13,19 @@ pub struct Step {
     pub name: TypeName,
     /// The index among the elements of the same content, from 0.
     pub index: usize,
+}
+
+/// What the unused places of a path hold.
+impl Default for Step {
+    fn default() -> Step {
+        Step {
+            name: TypeName {
+                class: Class::Universal,
+                number: 0,
+            },
+            index: 0,
+        }
+    }
 }
 
 /// A universal type with its index, as `SEQUENCE[2]`. A tag of another class, as `[3]`.
@@ -27,12 +44,30 @@ impl fmt::Display for Step {
 /// The steps from the top of an input to an element, as `SEQUENCE[0].[3].INTEGER[1]`.
 #[derive(Drop)]
 pub struct Path {
-    pub steps: Vec<Step>,
+    steps: ArrayVec<Step, MAX_STEPS>,
+}
+
+impl Path {
+    pub(crate) fn new() -> Path {
+        Path {
+            steps: ArrayVec::new(),
+        }
+    }
+
+    /// Adds the last step.
+    pub(crate) fn push(&mut self, step: Step) {
+        let _is_added = self.steps.try_push(step);
+    }
+
+    /// Whether it has no step, as that to the end of an input.
+    pub fn is_empty(&self) -> bool {
+        self.steps.is_empty()
+    }
 }
 
 impl fmt::Display for Path {
     fn fmt<W: fmt::Write>(&self, f: &mut fmt::Formatter<W>) -> fmt::Result {
-        for (place, step) in self.steps.iter().enumerate() {
+        for (place, step) in self.steps.as_slice().iter().enumerate() {
             if place > 0 {
                 f.write_str(".")?;
             }

@@ -1,0 +1,25 @@
+//! Where and why a walk ends before its input does.
+use crate::cause::Cause;
+use crate::element::Element;
+use crate::path::Step;
+
+/// Where and why a walk ends before its input does.
+#[derive(Clone, Copy, Debug, PartialEq)]
+pub struct Refusal {
+    /// Where the element begins that is refused.
+    pub offset: usize,
+    /// The element, if its header was read.
+    pub step: Option<Step>,
+    pub cause: Cause,
+}
+
+impl Refusal {
+    /// A refusal of an element that was read.
+    pub(crate) fn of(element: &Element<'_>, cause: Cause) -> Refusal {
+        Refusal {
+            offset: element.offset,
+            step: Some(element.step()),
+            cause,
+        }
+    }
+}
