@@ -8,12 +8,12 @@ made=$(realpath -m "$1")
 cd "$root/crates/dumarewhi_c"
 set -- --crate-name dumarewhi_c src/lib.rt --extern "std=$kit/rlibs/std.rlib" -L "dependency=$kit/rlibs"
 set -- "$@" --extern "itoa=$kit/rlibs/itoa.rlib"
-for library in der_base der_nodes; do
+for library in der_base der_nodes der_check der_walk der_canon; do
     set -- "$@" --extern "$library=$root/crates/$library/out/rlib/$library.rlib"
 done
-for library in der_base der_laws der_object der_ber der_der der_nodes; do
+for library in der_base der_laws der_object der_ber der_der der_nodes der_check der_walk der_canon; do
     if [ ! -e "$root/crates/$library/out/rlib/$library.rlib" ]; then
-        echo "archive.sh: $library isn't built: run 'rt ci', or 'rt lib' in crates/der_nodes" >&2
+        echo "archive.sh: $library isn't built: run 'rt ci', or 'rt lib' in crates/der_canon" >&2
         exit 1
     fi
     set -- "$@" -L "dependency=$root/crates/$library/out/rlib"

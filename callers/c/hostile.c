@@ -19,7 +19,7 @@ static size_t below(size_t bound) {
     return bound == 0 ? 0 : (size_t)(state % bound);
 }
 
-static unsigned long failed, statuses[3], errors[64], rooms;
+static unsigned long failed, statuses[3], writings[4], errors[64], rooms;
 
 static void expect(int is_so, const char *what) {
     if (!is_so && failed++ < 10) printf("hostile: %s\n", what);
@@ -56,7 +56,7 @@ static void test_elements(const uint8_t *input, size_t length, const dm_element 
 
 typedef uint32_t parse(const uint8_t *, size_t, size_t, dm_element *, size_t, dm_outcome *);
 typedef uint32_t check(const uint8_t *, size_t, size_t, dm_outcome *);
-typedef uint32_t first(const uint8_t *, size_t, dm_outcome *);
+typedef uint32_t first(const uint8_t *, size_t, dm_element *, dm_outcome *);
 
 static void test_input(const uint8_t *input, size_t length, size_t depth, parse *parse, check *check, first *first) {
     dm_outcome whole, again, element;
@@ -68,14 +68,23 @@ static void test_input(const uint8_t *input, size_t length, size_t depth, parse 
         expect(whole.error != 0 && whole.place <= length, "an error has a number and a place");
     }
     if (status == DM_INCOMPLETE) expect(whole.missing > 0, "nothing is missing");
-    (void)first(input, length, &element);
+    dm_element front;
+    if (first(input, length, &front, &element) == DM_OK) {
+        expect(front.header == 0 && front.content <= front.end && front.end <= element.length
+                   && element.length <= length && front.inside == 0,
+               "the first's places");
+    }
     if (status == DM_OK) expect(element.status == DM_OK && element.length == whole.length, "the first's length");
     size_t count = status == DM_OK ? whole.elements : 2;
     dm_element *list = malloc((count + 1) * sizeof *list);
     if (list == NULL) exit(2);
     expect(parse(input, length, depth, list, count + 1, &again) == status && memcmp(&whole, &again, sizeof whole) == 0,
            "parse and check differ");
-    if (status == DM_OK) test_elements(input, whole.length, list, count);
+    if (status == DM_OK) {
+        test_elements(input, whole.length, list, count);
+        front.inside = list[0].inside;
+        expect(memcmp(&front, &list[0], sizeof front) == 0, "the first isn't the list's");
+    }
     /* Lists of many elements: some rooms. */
     for (size_t room = 0; room <= count; room += count > 24 ? 1 + below(count / 8) : 1) {
         dm_element *some = malloc(room * sizeof *some + (room == 0));
@@ -88,6 +97,50 @@ static void test_input(const uint8_t *input, size_t length, size_t depth, parse 
         free(some);
     }
     free(list);
+}
+
+/* Writes the input to a buffer of this room, in memory of its own size, which the caller frees. */
+static uint8_t *write_in_room(const uint8_t *input, size_t length, size_t room, dm_outcome *outcome) {
+    uint8_t *out = malloc(room + (room == 0));
+    if (out == NULL) exit(2);
+    expect(dm_write_der(input, length, out, room, outcome) == outcome->status, "the status of writing");
+    rooms++;
+    return out;
+}
+
+/* Whether the octets are elements of DER, as far as dm_check_der looks inside. */
+static int are_der(const uint8_t *octets, size_t length) {
+    dm_outcome outcome;
+    for (size_t at = 0; at < length; at += outcome.length) {
+        if (dm_check_der(octets + at, length - at, DM_MAX_DEPTH, &outcome) != DM_OK) return 0;
+    }
+    return 1;
+}
+
+/* The input as DER writes it: the room that is counted is enough, with less it is counted again, and what is written
+ * is DER that is written as it is. */
+static void test_writing(const uint8_t *input, size_t length) {
+    dm_outcome counted, written, again;
+    free(write_in_room(input, length, 0, &counted));
+    if (counted.status == DM_ERROR) expect(counted.error != 0 && counted.place <= length, "an error of writing");
+    if (counted.status == DM_INCOMPLETE) expect(counted.missing > 0, "nothing is missing to write");
+    if (counted.status == DM_OK) expect(counted.length == 0 && length == 0, "elements in no octets");
+    uint8_t *out = write_in_room(input, length, counted.length, &written);
+    writings[written.status < 4 ? written.status : 3]++;
+    expect(written.status != DM_NO_ROOM, "the room that is counted is too small");
+    if (counted.status != DM_NO_ROOM) expect(memcmp(&counted, &written, sizeof written) == 0, "writing twice");
+    if (written.status == DM_OK) {
+        expect(written.length == counted.length && are_der(out, written.length), "what is written isn't DER");
+        uint8_t *twice = write_in_room(out, written.length, written.length, &again);
+        expect(again.status == DM_OK && again.length == written.length && memcmp(out, twice, written.length) == 0,
+               "DER is changed");
+        free(twice);
+    }
+    free(out);
+    if (counted.status == DM_NO_ROOM) {
+        free(write_in_room(input, length, below(counted.length), &again));
+        expect(memcmp(&counted, &again, sizeof again) == 0, "what is needed depends on the room");
+    }
 }
 
 /* A damaged copy, of which the memory ends where the input does. */
@@ -122,12 +175,15 @@ int main(int count, char **words) {
         size_t depth = below(8) == 0 ? below(6) : below(2) == 0 ? 50 : (size_t)-1;
         test_input(input, length, depth, dm_parse_der, dm_check_der, dm_first_der);
         test_input(input, length, depth, dm_parse_ber, dm_check_ber, dm_first_ber);
+        test_writing(input, length);
         free(input);
     }
     unsigned long kinds = 0;
     for (size_t i = 0; i < 64; i++) kinds += errors[i] > 0;
     expect(statuses[0] > 0 && statuses[1] > 0 && statuses[2] > 0 && kinds > 4, "too few inputs of a kind");
-    printf("hostile: %lu inputs, %lu read, %lu refused by %lu errors, %lu cut short, %lu buffers, %lu failed\n",
-           2 * inputs, statuses[0], statuses[1], kinds, statuses[2], rooms, failed);
+    expect(writings[0] > 0 && writings[1] > 0 && writings[2] > 0, "too few writings of a kind");
+    printf("hostile: %lu inputs, %lu read, %lu refused by %lu errors, %lu cut short, %lu written, %lu buffers,"
+           " %lu failed\n",
+           2 * inputs, statuses[0], statuses[1], kinds, statuses[2], writings[0], rooms, failed);
     return failed != 0;
 }

@@ -62,6 +62,13 @@ static void test_elements(void) {
     expect(is_untouched(&memory, 4 * sizeof(dm_element), sizeof memory), "the fifth is untouched");
     expect(sizeof(dm_element) == 40, "an element has 40 octets");
 
+    memset(&memory, 0xaa, sizeof memory);
+    expect(dm_first_der(input + 4, length - 4, memory.elements, &outcome) == DM_OK, "the second is found");
+    expect(e[0].header == 0 && e[0].content == 9 && e[0].end == 299 && e[0].inside == 0, "its places");
+    expect(e[0].number == 0xfedcba98u && e[0].tag_class == DM_PRIVATE && e[0].constructed == 1, "its identifier");
+    expect(e[0].definite == 1 && e[0].reserved == 0, "its last fields");
+    expect(is_untouched(&memory, sizeof(dm_element), sizeof memory), "nothing after it is written");
+
     static const uint8_t indefinite[] = {0x30, 0x80, 0x00, 0x00};
     memset(&memory, 0xaa, sizeof memory);
     expect(dm_parse_ber(indefinite, 4, 9, memory.elements, 5, &outcome) == DM_OK, "an indefinite length is read");

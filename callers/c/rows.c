@@ -137,6 +137,7 @@ static void test_rows(void) {
         const struct row *row = &rows[i];
         uint8_t input[64];
         dm_element elements[8];
+        dm_element element;
         dm_outcome listed, checked, first;
         size_t length = octets_of(row->hex, input);
         uint32_t status = row->rules == DER ? dm_parse_der(input, length, row->depth, elements, 8, &listed)
@@ -146,31 +147,137 @@ static void test_rows(void) {
                                    : dm_check_ber(input, length, row->depth, &checked);
         expect(status == row->status && is_outcome(row, &checked, 0), "dm_check", row->hex);
         if (row->status == DM_OK) {
-            status = row->rules == DER ? dm_first_der(input, length, &first) : dm_first_ber(input, length, &first);
+            status = row->rules == DER ? dm_first_der(input, length, &element, &first)
+                                       : dm_first_ber(input, length, &element, &first);
             expect(status == DM_OK && is_outcome(row, &first, 1), "dm_first", row->hex);
+            elements[0].inside = 0;
+            expect(memcmp(&element, &elements[0], sizeof element) == 0, "dm_first's element", row->hex);
         }
     }
 }
 
 /* Of the first element alone: its header is wrong, or it is cut short, or its content isn't looked at. */
-static const struct row firsts[] = {
-    {"30 03 ff ff ff 07", DER, 0, OK(1, 5)},
-    {"30 81 03 ff ff ff", DER, 0, FAULT(33, 0)},
-    {"30 81 03 ff ff ff", BER, 0, OK(1, 6)},
-    {"30 80 05 00 00 00 07", BER, 0, OK(1, 6)},
-    {"30 80 05 00 00 00", DER, 0, FAULT(32, 0)},
-    {"04 03 00", DER, 0, CUT(2)},
-    {"24 80 04 03 00", BER, 0, CUT(2)},
+static const struct {
+    struct row row;
+    dm_element element; /* DM_OK */
+} firsts[] = {
+    {{"30 03 ff ff ff 07", DER, 0, OK(1, 5)}, {0, 2, 5, 0, 16, DM_UNIVERSAL, 1, 1, 0}},
+    {{"30 81 03 ff ff ff", DER, 0, FAULT(33, 0)}, {0}},
+    {{"30 81 03 ff ff ff", BER, 0, OK(1, 6)}, {0, 3, 6, 0, 16, DM_UNIVERSAL, 1, 1, 0}},
+    {{"30 80 05 00 00 00 07", BER, 0, OK(1, 6)}, {0, 2, 4, 0, 16, DM_UNIVERSAL, 1, 0, 0}},
+    {{"30 80 05 00 00 00", DER, 0, FAULT(32, 0)}, {0}},
+    {{"bf 8f ff ff ff 7f 80 30 80 00 00 00 00 01", BER, 0, OK(1, 13)},
+     {0, 7, 11, 0, 0xffffffff, DM_CONTEXT_SPECIFIC, 1, 0, 0}},
+    {{"5f 1f 02 61 62 63", DER, 0, OK(1, 5)}, {0, 3, 5, 0, 31, DM_APPLICATION, 0, 1, 0}},
+    {{"c3 00 00", BER, 0, OK(1, 2)}, {0, 2, 2, 0, 3, DM_PRIVATE, 0, 1, 0}},
+    {{"04 03 00", DER, 0, CUT(2)}, {0}},
+    {{"24 80 04 03 00", BER, 0, CUT(2)}, {0}},
 };
 
 static void test_firsts(void) {
     for (size_t i = 0; i < sizeof firsts / sizeof *firsts; i++) {
-        const struct row *row = &firsts[i];
+        const struct row *row = &firsts[i].row;
         uint8_t input[64];
+        dm_element element, before;
         dm_outcome first;
         size_t length = octets_of(row->hex, input);
-        uint32_t status = row->rules == DER ? dm_first_der(input, length, &first) : dm_first_ber(input, length, &first);
+        memset(&element, 0xaa, sizeof element);
+        before = element;
+        uint32_t status = row->rules == DER ? dm_first_der(input, length, &element, &first)
+                                            : dm_first_ber(input, length, &element, &first);
         expect(status == row->status && is_outcome(row, &first, 1), "dm_first", row->hex);
+        expect(memcmp(&element, status == DM_OK ? &firsts[i].element : &before, sizeof element) == 0,
+               "dm_first's element", row->hex);
+    }
+}
+
+/* Elements as DER writes them: the examples of X.690 8.6.4.2, 8.9.3, 8.14.3 and 8.23 in BER and in DER, and the rules
+ * of 8.3.2, 10 and 11. What has no DER is refused with its number and place, and cut input by what is missing. */
+static const struct {
+    const char *hex;
+    const char *der; /* NULL: not written */
+    uint32_t status, error;
+    size_t place; /* or missing */
+} writings[] = {
+    {"", "", DM_OK, 0, 0},
+    {"30 80 16 05 53 6d 69 74 68 01 01 ff 00 00", "30 0a 16 05 53 6d 69 74 68 01 01 ff", DM_OK, 0, 0},
+    {"30 81 0a 16 05 53 6d 69 74 68 01 01 01", "30 0a 16 05 53 6d 69 74 68 01 01 ff", DM_OK, 0, 0},
+    {"30 0a 16 05 53 6d 69 74 68 01 01 ff", "30 0a 16 05 53 6d 69 74 68 01 01 ff", DM_OK, 0, 0},
+    {"a2 80 43 81 05 4a 6f 6e 65 73 00 00", "a2 07 43 05 4a 6f 6e 65 73", DM_OK, 0, 0},
+    {"7f 81 00 84 00 00 00 02 05 00", "7f 81 00 02 05 00", DM_OK, 0, 0},
+    {"23 80 03 03 00 0a 3b 03 05 04 5f 29 1c d0 00 00", "03 07 04 0a 3b 5f 29 1c d0", DM_OK, 0, 0},
+    {"23 00", "03 01 00", DM_OK, 0, 0},
+    {"24 0b 24 80 04 01 61 00 00 04 02 62 63", "04 03 61 62 63", DM_OK, 0, 0},
+    {"3a 09 04 03 4a 6f 6e 04 02 65 73", "1a 05 4a 6f 6e 65 73", DM_OK, 0, 0},
+    {"02 03 00 00 80 0a 02 00 7f", "02 02 00 80 0a 01 7f", DM_OK, 0, 0},
+    {"02 02 ff 80", "02 01 80", DM_OK, 0, 0},
+    {"03 02 04 ff", "03 02 04 f0", DM_OK, 0, 0},
+    {"05 00 05 00", "05 00 05 00", DM_OK, 0, 0},
+    /* 11.8.2: a time without seconds. 11.8.1: without Z */
+    {"30 80 05 00 17 0b 39 39 31 32 33 31 32 33 35 39 5a 00 00", NULL, DM_ERROR, 40, 4},
+    {"a0 13 17 11 39 31 30 35 30 36 31 36 34 35 34 30 2d 30 37 30 30", NULL, DM_ERROR, 39, 2},
+    /* 8.6.4, 8.7.3: parts of another type, and unused bits inside */
+    {"24 80 02 01 05 00 00", NULL, DM_ERROR, 50, 2},
+    {"23 08 03 02 01 80 03 02 00 80", NULL, DM_ERROR, 51, 6},
+    /* 8.1.5: end-of-contents octets */
+    {"30 02 00 00", NULL, DM_ERROR, 49, 2},
+    {"00 00", NULL, DM_ERROR, 49, 0},
+    {"30 06 30 80 02 01 05 07", NULL, DM_ERROR, 17, 7},
+    {"30 05 30 80 02 01 05", NULL, DM_ERROR, 48, 7},
+    /* 8.3.1, 8.1.2.4, 8.1.3.5, 8.23 and 8.1.3 */
+    {"22 03 02 01 05", NULL, DM_ERROR, 10, 0},
+    {"05 00 9f 80 01 00", NULL, DM_ERROR, 5, 2},
+    {"04 ff", NULL, DM_ERROR, 4, 0},
+    {"30 04 0c 02 c3 28", NULL, DM_ERROR, 14, 2},
+    {"30 03 02 02 05", NULL, DM_ERROR, 17, 2},
+    /* cut short */
+    {"30 80 05 00", NULL, DM_INCOMPLETE, 0, 2},
+    {"04 05 61 62", NULL, DM_INCOMPLETE, 0, 3},
+    {"02", NULL, DM_INCOMPLETE, 0, 1},
+};
+
+static void test_writings(void) {
+    for (size_t i = 0; i < sizeof writings / sizeof *writings; i++) {
+        uint8_t input[64], der[64];
+        size_t length = octets_of(writings[i].hex, input);
+        size_t size = writings[i].der == NULL ? 0 : octets_of(writings[i].der, der);
+        for (size_t room = writings[i].der == NULL ? 40 : 0; room <= 42; room++) {
+            uint8_t out[43];
+            dm_outcome outcome, want;
+            memset(out, '#', sizeof out);
+            memset(&want, 0, sizeof want);
+            want.status = writings[i].der != NULL && room < size ? DM_NO_ROOM : writings[i].status;
+            want.error = writings[i].error;
+            if (writings[i].der != NULL) want.length = size;
+            if (want.status == DM_ERROR) want.place = writings[i].place;
+            if (want.status == DM_INCOMPLETE) want.missing = writings[i].place;
+            expect(dm_write_der(input, length, out, room, &outcome) == want.status
+                       && memcmp(&outcome, &want, sizeof want) == 0,
+                   "dm_write_der", writings[i].hex);
+            if (want.status == DM_OK) expect(memcmp(out, der, size) == 0, "dm_write_der's octets", writings[i].hex);
+            for (size_t j = want.status == DM_OK ? size : room; j < sizeof out; j++) {
+                if (out[j] != '#') expect(0, "dm_write_der past its end", writings[i].hex);
+            }
+        }
+    }
+}
+
+/* Elements that are 101 deep are written, and deeper ones are refused at the first that is too deep. */
+static void test_deep_writings(void) {
+    uint8_t input[4 * DM_WRITE_DEPTH + 4], out[2 * sizeof input];
+    dm_outcome outcome;
+    for (size_t depth = DM_WRITE_DEPTH; depth <= DM_WRITE_DEPTH + 1; depth++) {
+        memset(input, 0, sizeof input);
+        for (size_t i = 0; i < depth; i++) memcpy(input + 2 * i, "\x30\x80", 2);
+        uint32_t status = dm_write_der(input, 4 * depth, out, sizeof out, &outcome);
+        if (depth == DM_WRITE_DEPTH) {
+            /* 64 levels have a header of two octets: 30 7e and what it holds have 128. Each other has three. */
+            expect(status == DM_OK && outcome.length == 64 * 2 + 37 * 3, "dm_write_der", "101 deep");
+            expect(memcmp(out, "\x30\x81\xec\x30\x81\xe9", 6) == 0, "dm_write_der's octets", "101 deep");
+        } else {
+            expect(status == DM_ERROR && outcome.error == 3 && outcome.place == 2 * DM_WRITE_DEPTH, "dm_write_der",
+                   "102 deep");
+        }
     }
 }
 
@@ -348,6 +455,12 @@ static void test_error_texts(void) {
         expect(dm_error_text(rows[i].error, cut, 4) == size && memcmp(text, cut, 4) == 0, "dm_error_text cut",
                rows[i].hex);
     }
+    for (size_t i = 0; i < sizeof writings / sizeof *writings; i++) {
+        uint8_t text[80];
+        size_t size = dm_error_text(writings[i].error, text, sizeof text);
+        expect(size >= 8 && size < sizeof text && (size != 13 || memcmp(text, "unknown error", 13) != 0),
+               "dm_error_text", writings[i].hex);
+    }
     uint8_t text[80];
     expect(dm_error_text(35, text, 80) == 38 && memcmp(text, "DER constraint failed: invalid boolean", 38) == 0,
            "dm_error_text", "35");
@@ -358,6 +471,8 @@ static void test_error_texts(void) {
 int main(void) {
     test_rows();
     test_firsts();
+    test_writings();
+    test_deep_writings();
     test_places();
     test_integers();
     test_booleans();

@@ -1,5 +1,5 @@
-/* Reads inputs that are nested to the greatest depth in a thread with the stack that the header names. With less
- * than the readers take the program ends by a signal. */
+/* Reads and writes inputs that are nested to the greatest depth in threads with the stack that the header names. With
+ * less than the calls take the program ends by a signal. */
 #define _POSIX_C_SOURCE 200809L
 #include "dumarewhi.h"
 
@@ -40,6 +40,32 @@ static void make_inputs(void) {
     indefinite_length += sizeof inner + 2 * opened;
 }
 
+static uint8_t unwritten[1 << 10], written[1 << 10];
+static size_t unwritten_length;
+
+/* Indefinite lengths as deep as elements are written, and inside them a time without seconds, which DER doesn't
+ * have. */
+static void make_unwritten(void) {
+    static const uint8_t time[] = {0x17, 0x0b, '9', '9', '1', '2', '3', '1', '2', '3', '5', '9', 'Z'};
+    for (size_t level = 1; level < DM_WRITE_DEPTH; level++) {
+        unwritten[unwritten_length++] = 0x30;
+        unwritten[unwritten_length++] = 0x80;
+    }
+    memcpy(unwritten + unwritten_length, time, sizeof time);
+    unwritten_length += sizeof time + 2 * (DM_WRITE_DEPTH - 1);
+}
+
+static void *write_all(void *failed) {
+    dm_outcome outcome;
+    int *faults = failed;
+    *faults += dm_write_der(unwritten, unwritten_length, written, sizeof written, &outcome) != DM_ERROR;
+    *faults += outcome.error != 40 || outcome.place != 2 * (DM_WRITE_DEPTH - 1);
+    /* As an OCTET STRING it is written. */
+    unwritten[outcome.place] = 0x04;
+    *faults += dm_write_der(unwritten, unwritten_length, written, sizeof written, &outcome) != DM_OK;
+    return NULL;
+}
+
 static void *read_all(void *failed) {
     dm_element elements[4];
     dm_outcome outcome;
@@ -52,19 +78,25 @@ static void *read_all(void *failed) {
     *faults += dm_check_der(definite, definite_length, DM_MAX_DEPTH - 1, &outcome) != DM_ERROR || outcome.error != 3;
     *faults += dm_parse_ber(indefinite, indefinite_length, DM_MAX_DEPTH, elements, 4, &outcome) != DM_OK;
     *faults += outcome.elements != 53;
-    *faults += dm_first_ber(indefinite, indefinite_length, &outcome) != DM_OK;
+    *faults += dm_first_ber(indefinite, indefinite_length, elements, &outcome) != DM_OK;
     return NULL;
 }
 
-int main(void) {
+/* Runs a function in a thread whose stack has room for so many levels. What a thread takes for itself, and a
+ * system's least, is on top. */
+static int run(void *(*function)(void *), size_t levels, int *failed) {
     pthread_attr_t attributes;
     pthread_t thread;
+    pthread_attr_init(&attributes);
+    return pthread_attr_setstacksize(&attributes, levels * DM_LEVEL_OCTETS + 32768) != 0
+           || pthread_create(&thread, &attributes, function, failed) != 0 || pthread_join(thread, NULL) != 0;
+}
+
+int main(void) {
     int failed = 0;
     make_inputs();
-    pthread_attr_init(&attributes);
-    /* What a thread takes for itself, and a system's least, is on top. */
-    if (pthread_attr_setstacksize(&attributes, (size_t)DM_MAX_DEPTH * DM_LEVEL_OCTETS + 32768) != 0
-        || pthread_create(&thread, &attributes, read_all, &failed) != 0 || pthread_join(thread, NULL) != 0) {
+    make_unwritten();
+    if (run(read_all, DM_MAX_DEPTH, &failed) != 0 || run(write_all, DM_WRITE_DEPTH, &failed) != 0) {
         printf("stack: no thread\n");
         return 2;
     }

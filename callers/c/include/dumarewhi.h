@@ -1,11 +1,12 @@
-/* Reads BER and DER (ITU-T X.690). The readers are proved: the repository's README says what that means.
+/* Reads BER and DER (ITU-T X.690), and writes DER. The readers are proved: the repository's README says what that
+ * means.
  *
  * No call allocates, keeps a pointer or has a state, so calls may run in several threads at a time.
  *
  * The caller owes this, and nothing checks it: each pointer may be read or written for the length that is
  * passed beside it, is aligned for its type and is not NULL, not even with length 0; what is written does
  * not overlap anything else that is passed; and the stack has room for max_depth levels of DM_LEVEL_OCTETS
- * each, at most DM_MAX_DEPTH of them. Elements and texts that are written to may be uninitialised.
+ * each, at most DM_MAX_DEPTH of them. What is written to may be uninitialised.
  *
  * Places are numbers of octets from the start of the input. */
 #ifndef DUMAREWHI_H
@@ -35,15 +36,16 @@ enum dm_class { DM_UNIVERSAL = 0, DM_APPLICATION = 1, DM_CONTEXT_SPECIFIC = 2, D
 
 /* What a call found. */
 enum dm_status {
-    DM_OK = 0,        /* the input begins with an element */
-    DM_ERROR = 1,     /* a front of the input breaks a rule, whatever follows */
-    DM_INCOMPLETE = 2 /* the input is cut short: more octets may complete it */
+    DM_OK = 0,         /* the input begins with an element */
+    DM_ERROR = 1,      /* a front of the input breaks a rule, whatever follows */
+    DM_INCOMPLETE = 2, /* the input is cut short: more octets may complete it */
+    DM_NO_ROOM = 3     /* dm_write_der: the buffer is too small */
 };
 
 /* Fields that the status does not name are 0. */
 typedef struct dm_outcome {
     size_t elements; /* DM_OK: how many elements there are, even if the buffer has room for fewer */
-    size_t length;   /* DM_OK: how many octets they have; what follows is left */
+    size_t length;   /* DM_OK: how many octets they have; what follows is left. DM_NO_ROOM: how many are needed */
     size_t place;    /* DM_ERROR: where the innermost element begins that breaks the rule */
     size_t missing;  /* DM_INCOMPLETE: how many octets are missing, as far as the input shows. dm_parse_der and
                       * dm_check_der: if the content of a universal type is cut short, its whole length; then
@@ -71,10 +73,27 @@ uint32_t dm_parse_ber(const uint8_t *input, size_t length, size_t max_depth, dm_
 uint32_t dm_check_der(const uint8_t *input, size_t length, size_t max_depth, dm_outcome *outcome);
 uint32_t dm_check_ber(const uint8_t *input, size_t length, size_t max_depth, dm_outcome *outcome);
 
-/* Finds how long the first element is, header and content, by its header (and by BER its framing). Nothing
- * inside it is checked. With DM_OK `elements` is 1, and with DM_ERROR `place` is 0. Returns the status. */
-uint32_t dm_first_der(const uint8_t *input, size_t length, dm_outcome *outcome);
-uint32_t dm_first_ber(const uint8_t *input, size_t length, dm_outcome *outcome);
+/* Finds the first element by its header (and by BER its framing). Nothing inside it is checked or listed. With
+ * DM_OK the element is written, its `inside` is 0, `elements` is 1, and `length` is that of the header, the content
+ * and an end marker. With another status the element stays as it was, and with DM_ERROR `place` is 0. Returns the
+ * status. */
+uint32_t dm_first_der(const uint8_t *input, size_t length, dm_element *element, dm_outcome *outcome);
+uint32_t dm_first_ber(const uint8_t *input, size_t length, dm_element *element, dm_outcome *outcome);
+
+/* Writes the elements of an input in BER, all of them, as DER writes them: lengths in the fewest octets (10.1),
+ * strings primitive (10.2), BOOLEANs as 00 or ff (11.1), unused bits as 0 (11.2.1), numbers in the fewest octets
+ * (8.3.2). The content of a constructed element of any class is elements (8.1.4), at most DM_WRITE_DEPTH deep. The
+ * order of a SET OF, default values and the types of elements of other classes are not known here, so they stay as
+ * they are. Another value that DER does not have, as a time without seconds, is an error.
+ *
+ * With DM_OK the first `length` octets of the buffer are elements of DER, which is proved, and `elements` is 0. With
+ * DM_NO_ROOM call again with `length` octets of room: until then a value may still be an error. With room 0 the call
+ * counts. With DM_ERROR `place` is in the input. With another status than DM_OK it isn't said what the buffer holds.
+ * Elements that are DER already are copied. The stack has to have room for DM_WRITE_DEPTH levels of DM_LEVEL_OCTETS
+ * each. Returns the status. */
+uint32_t dm_write_der(const uint8_t *input, size_t length, uint8_t *out, size_t room, dm_outcome *outcome);
+
+#define DM_WRITE_DEPTH 101
 
 /* The numbers of errors. 0 is no error. Not all of them are returned by a call of this header. */
 enum dm_error {

@@ -96,7 +96,23 @@ impl Rules {
     /// # Ok::<(), dumarewhi::Error>(())
     /// ```
     pub fn first_length(self, input: &[u8]) -> Result<usize> {
-        found(ffi::first(self.der, input), input).map(|found| found.length)
+        found(ffi::first(self.der, input).0, input).map(|found| found.length)
+    }
+
+    /// Finds the first element, by its header alone (and by its framing, if its length is indefinite). Nothing
+    /// inside it is checked or counted.
+    ///
+    /// ```
+    /// use dumarewhi::{Rules, Tag};
+    ///
+    /// let element = Rules::DER.first(&[0x30, 0x02, 0xff, 0xff, 0x05])?;
+    /// assert_eq!(element.tag(), Tag::SEQUENCE);
+    /// assert_eq!((element.content_range(), element.descendants()), (2..4, 0));
+    /// # Ok::<(), dumarewhi::Error>(())
+    /// ```
+    pub fn first(self, input: &[u8]) -> Result<Element> {
+        let (outcome, element) = ffi::first(self.der, input);
+        found(outcome, input).map(|_| element)
     }
 
     /// The result of reading the whole element. If the input is cut short, the outcome may count octets as
@@ -115,7 +131,7 @@ impl Rules {
 }
 
 /// The outcome as a result.
-fn found(outcome: Outcome, input: &[u8]) -> Result<Found> {
+pub(crate) fn found(outcome: Outcome, input: &[u8]) -> Result<Found> {
     match outcome.status {
         ffi::OK => Ok(Found {
             elements: outcome.elements,

@@ -39,6 +39,7 @@ pub(crate) const OK: u32 = 0;
 #[cfg(test)]
 const ERROR: u32 = 1;
 pub(crate) const INCOMPLETE: u32 = 2;
+pub(crate) const NO_ROOM: u32 = 3;
 
 #[repr(C)]
 #[derive(Clone, Copy, Debug, Default)]
@@ -93,8 +94,10 @@ extern "C" {
     ) -> u32;
     fn dm_check_der(input: *const u8, length: usize, max_depth: usize, outcome: *mut Outcome) -> u32;
     fn dm_check_ber(input: *const u8, length: usize, max_depth: usize, outcome: *mut Outcome) -> u32;
-    fn dm_first_der(input: *const u8, length: usize, outcome: *mut Outcome) -> u32;
-    fn dm_first_ber(input: *const u8, length: usize, outcome: *mut Outcome) -> u32;
+    fn dm_first_der(input: *const u8, length: usize, element: *mut Element, outcome: *mut Outcome) -> u32;
+    fn dm_first_ber(input: *const u8, length: usize, element: *mut Element, outcome: *mut Outcome) -> u32;
+    fn dm_write_der(input: *const u8, length: usize, out: *mut u8, room: usize, outcome: *mut Outcome)
+        -> u32;
     fn dm_error_text(error: u32, text: *mut u8, room: usize) -> usize;
     fn dm_read_i64(content: *const u8, length: usize, value: *mut i64) -> u32;
     fn dm_read_u64(content: *const u8, length: usize, value: *mut u64) -> u32;
@@ -166,12 +169,29 @@ pub(crate) fn check(der: bool, input: &[u8], max_depth: usize) -> Outcome {
     outcome
 }
 
-/// Finds the length of the first element.
-pub(crate) fn first(der: bool, input: &[u8]) -> Outcome {
+/// Finds the first element by its header.
+pub(crate) fn first(der: bool, input: &[u8]) -> (Outcome, Element) {
     let call = if der { dm_first_der } else { dm_first_ber };
     let mut outcome = Outcome::default();
+    let mut element = Element::default();
     // SAFETY: see above.
-    unsafe { call(input.as_ptr(), input.len(), &mut outcome) };
+    unsafe { call(input.as_ptr(), input.len(), &mut element, &mut outcome) };
+    (outcome, element)
+}
+
+/// Writes the elements of the input to a slice as DER writes them.
+pub(crate) fn write_der(input: &[u8], out: &mut [u8]) -> Outcome {
+    let mut outcome = Outcome::default();
+    // SAFETY: see above.
+    unsafe {
+        dm_write_der(
+            input.as_ptr(),
+            input.len(),
+            out.as_mut_ptr(),
+            out.len(),
+            &mut outcome,
+        )
+    };
     outcome
 }
 

@@ -1,4 +1,4 @@
-//! Reads BER and DER (ITU-T X.690): certificates, SNMP, LDAP, Kerberos.
+//! Reads BER and DER (ITU-T X.690): certificates, SNMP, LDAP, Kerberos. Writes BER as DER.
 //!
 //! ```
 //! use dumarewhi::{Error, Tag, Tree};
@@ -20,12 +20,13 @@
 //! | take input in pieces, as from a socket | [`Buffer`] |
 //! | check, list or count without memory | [`check_der`], [`list_der`], [`Rules`] |
 //! | read one element | [`Any`] |
+//! | write BER as DER | [`write_der`], [`to_der`] |
 //!
 //! # What is proved
 //!
 //! The work is done by `libdumarewhi_c.a`, which is written in Rattle and proved: which inputs it reads, which
-//! elements it lists and where, which error it reports, and which values it gives. Its header
-//! `dumarewhi.h` has the calls. This crate passes slices to them, and makes safe types of what they return.
+//! elements it lists and where, which error it reports, and which values it gives, and that what it writes is DER.
+//! Its header `dumarewhi.h` has the calls. This crate passes slices to them, and makes safe types of what they return.
 //!
 //! It computes little itself: slices of the input by the places that are listed, the steps from an element to
 //! the next, the split of a BIT STRING's first octet, what is kept of an input that comes in pieces, and the
@@ -66,6 +67,7 @@ mod tag;
 #[cfg(feature = "alloc")]
 mod tree;
 mod value;
+mod write;
 
 pub use any::Any;
 pub use element::{check_ber, check_der, list_ber, list_der, Found, Rules, DEFAULT_DEPTH, MAX_DEPTH};
@@ -78,6 +80,9 @@ pub use tag::{Class, Tag};
 #[cfg(feature = "alloc")]
 pub use tree::{Children, Descendants, Node, Tree};
 pub use value::{BitString, Integer, ObjectIdentifier, Time, Zone};
+#[cfg(feature = "alloc")]
+pub use write::to_der;
+pub use write::write_der;
 
 #[cfg(all(doctest, feature = "std"))]
 #[doc = include_str!("../README.md")]

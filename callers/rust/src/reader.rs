@@ -7,8 +7,8 @@ use crate::{Any, Class, Element, Error, Tag};
 /// Reads the fields of a type, one after the other.
 ///
 /// Each call reads the next element, checks it with all that is inside it, and compares its tag. After an
-/// error the reader is where it was. A reader doesn't allocate, and keeps no list: what is inside a SEQUENCE
-/// is checked with it, and once more when its fields are read.
+/// error the reader is where it was. A reader doesn't allocate, and keeps no list. What is inside a SEQUENCE or a
+/// SET is checked with it, so when its fields are read, only their headers are read once more.
 ///
 /// ```
 /// use dumarewhi::{Reader, Tag};
@@ -35,8 +35,10 @@ pub struct Reader<'a> {
     /// Whether the input is the content of an element, so that no more of it can come.
     nested: bool,
     rules: Rules,
-    /// The next element, and the length of all its octets, if it has been looked at.
-    next: Option<(Any<'a>, usize)>,
+    /// Whether all its elements were checked with the one around them.
+    is_checked: bool,
+    /// The next element, if it has been looked at.
+    next: Option<Any<'a>>,
 }
 
 impl<'a> Reader<'a> {
@@ -62,11 +64,13 @@ impl<'a> Reader<'a> {
             base: 0,
             nested: false,
             rules,
+            is_checked: false,
             next: None,
         }
     }
 
-    /// A reader of the elements that the content octets of an element are.
+    /// A reader of the elements that the content octets of an element are. The content of a SEQUENCE or a SET was
+    /// checked with it, and that of an element of another class was kept as octets.
     pub(crate) fn inside(any: &Any<'a>) -> Reader<'a> {
         Reader {
             input: any.content(),
@@ -74,6 +78,7 @@ impl<'a> Reader<'a> {
             base: any.content_offset(),
             nested: true,
             rules: any.rules().inside(),
+            is_checked: matches!(any.tag(), Tag::SEQUENCE | Tag::SET),
             next: None,
         }
     }
@@ -116,11 +121,11 @@ impl<'a> Reader<'a> {
         if self.is_finished() {
             return Ok(None);
         }
-        self.peek().map(|(any, _)| Some(any.tag()))
+        self.peek().map(|any| Some(any.tag()))
     }
 
-    /// The next element, which stays the next one, and the length of all its octets.
-    fn peek(&mut self) -> Result<(Any<'a>, usize)> {
+    /// The next element, which stays the next one.
+    fn peek(&mut self) -> Result<Any<'a>> {
         if let Some(next) = self.next {
             return Ok(next);
         }
@@ -129,14 +134,19 @@ impl<'a> Reader<'a> {
         Ok(next)
     }
 
-    fn look(&self) -> Result<(Any<'a>, usize)> {
+    fn look(&self) -> Result<Any<'a>> {
         let (rest, offset) = (self.remaining(), self.offset());
         if rest.is_empty() && self.nested {
             return Err(Error::new(ErrorKind::MissingElement, offset));
         }
-        let mut element = [Element::default()];
-        match self.rules.list(rest, &mut element) {
-            Ok(found) => Ok((Any::new(rest, &element[0], offset, self.rules), found.length)),
+        let found = if self.is_checked {
+            self.rules.first(rest)
+        } else {
+            let mut element = [Element::default()];
+            self.rules.list(rest, &mut element).map(|_| element[0])
+        };
+        match found {
+            Ok(element) => Ok(Any::new(rest, &element, offset, self.rules)),
             Err(error) if self.nested => Err(error.inside(offset)),
             Err(error) => Err(error.after(offset)),
         }
@@ -144,9 +154,9 @@ impl<'a> Reader<'a> {
 
     /// Reads the next element, and takes it if the function returns Ok.
     fn take<T>(&mut self, function: impl FnOnce(Any<'a>) -> Result<T>) -> Result<T> {
-        let (any, length) = self.peek()?;
+        let any = self.peek()?;
         let value = function(any)?;
-        self.position += length;
+        self.position += any.octets().len();
         self.next = None;
         Ok(value)
     }

@@ -1,39 +1,66 @@
-//! The public call.
-ghost use Rattle.std.specs.Prelude.{IfOk};
+//! The public calls.
+ghost use Rattle.std.specs.Prelude.{◌≡◌, ◌≤◌, length, IfOk, IfSome, IsSomeAnd};
 ghost use Rattle.der_check.specs.Elements.{AreElements};
 ghost use Rattle.der_check.specs.declared.rules.Rules.{Rules};
+ghost use Rattle.der_canon.specs.Written.{KeepsDer, WritesDer};
 
-use crate::error::CanonError;
-use crate::piece::{Piece, read_pieces, refuse};
-use crate::writer::Writer;
+use crate::error::{CanonError, NotCanonical};
+use crate::octets::copy;
+use crate::piece::{Pieces, refuse};
+use crate::writer::write_pieces;
 use der_check::{Rules, are_elements};
 use der_walk::{Cause, MAX_DEPTH, Refusal, Walk};
 use std::alloc::Global;
 
-/// Writes elements that are read by BER as DER writes them: lengths in the fewest octets (X.690 10.1), strings
-/// primitive (10.2), BOOLEANs as 00 or ff (11.1), unused bits as 0 (11.2.1), numbers in the fewest octets (8.3.2).
-/// What it returns is elements of DER. The order of a SET OF, default values and the types of elements of other
-/// classes aren't known here, so they stay as they are. Other values that DER doesn't have, as a time without
-/// seconds, are refused.
-pub fn canonical(alloc: Global, octets: &[u8]) -> Result<Vec<u8>, CanonError>
-    ensures { IfOk result (λ v. AreElements Rules.Der 101 v.items) }
+/// Writes elements that are read by BER as DER writes them, to a buffer: lengths in the fewest octets (X.690 10.1),
+/// strings primitive (10.2), BOOLEANs as 00 or ff (11.1), unused bits as 0 (11.2.1), numbers in the fewest octets
+/// (8.3.2). The order of a SET OF, default values and the types of elements of other classes aren't known here, so
+/// they stay as they are. Other values that DER doesn't have, as a time without seconds, are refused.
+///
+/// Returns how many octets there are, room or not. If the buffer has room for them, they are in front of it, and are
+/// elements of DER. If it has less, call again with more: what it holds then isn't said, nor whether a value is
+/// refused. Elements that are DER already are copied. It takes no memory, and the buffer keeps what follows them.
+///
+/// ```
+/// let mut out = [0; 8];
+/// let size = canonical_into(&[0x30, 0x80, 0x01, 0x01, 0x01, 0x00, 0x00], &mut out)?;
+/// // size is 5, and the first 5 octets of out are 30 03 01 01 ff
+/// ```
+pub fn canonical_into(octets: &[u8], out: &mut [u8]) -> Result<usize, NotCanonical>
+    ensures elements { WritesDer out.new result }
+    ensures unchanged { KeepsDer octets.now out.old out.new result }
 {
-    let pieces = read_pieces(alloc, octets)?;
-    let mut writer = Writer::new(alloc);
-    for piece in pieces.iter().rev() {
-        writer.write(piece)?;
+    if are_elements(octets, Rules::Der, MAX_DEPTH + 1) {
+        copy(out, octets);
+        return Ok(octets.len());
     }
-    let written = writer.finish();
-    if are_elements(written.as_slice(), Rules::Der, MAX_DEPTH + 1) {
-        return Ok(written);
+    write_others(octets, out)
+}
+
+/// Writes elements that aren't DER already.
+fn write_others(octets: &[u8], out: &mut [u8]) -> Result<usize, NotCanonical>
+    ensures { WritesDer out.new result }
+{
+    let needed = write_pieces(octets, out)?;
+    if needed > out.len() {
+        return Ok(needed);
     }
-    Err(refuse_written(&pieces, written.as_slice()))
+    let written = &out[..needed];
+    if are_elements(written, Rules::Der, MAX_DEPTH + 1) {
+        return Ok(needed);
+    }
+    Err(refuse_written(octets, written))
 }
 
 /// Refuses what was written, with the place in the input of the element that isn't DER.
-fn refuse_written(pieces: &[Piece<'_>], written: &[u8]) -> CanonError {
+fn refuse_written(octets: &[u8], written: &[u8]) -> NotCanonical {
+    let mut pieces = Pieces::new(octets);
     let mut walk = Walk::new(written, Rules::Der, false);
-    for piece in pieces {
+    // An element has an octet at least, so the loop ends at the end of the input.
+    for _ in 0..=octets.len() {
+        let Ok(Some(piece)) = pieces.next_piece() else {
+            break;
+        };
         if piece.has_header() {
             if let Err(refusal) = walk.next_element() {
                 let offset = piece.element.offset;
@@ -47,4 +74,37 @@ fn refuse_written(pieces: &[Piece<'_>], written: &[u8]) -> CanonError {
         cause: Cause::NotDer,
     };
     refuse(&walk, &refusal)
+}
+
+/// Writes elements as `canonical_into` does, to a vector that has room for them. OutOfMemory if there is none.
+pub fn canonical(alloc: Global, octets: &[u8]) -> Result<Vec<u8>, CanonError>
+    ensures elements { IfOk result (λ v. AreElements Rules.Der 101 v.items) }
+    ensures unchanged { AreElements Rules.Der 101 octets.now → IfOk result (λ v. v.items ≡ octets.now) }
+{
+    // They are seldom more octets than before.
+    if let Some(written) = write_within(alloc, octets, octets.len())? {
+        return Ok(written);
+    }
+    let none: &mut [u8] = &mut [];
+    let needed = canonical_into(octets, none)?;
+    match write_within(alloc, octets, needed)? {
+        Some(written) => Ok(written),
+        // The same octets need the same room.
+        None => Err(CanonError::NotCanonical(refuse_written(octets, &[]))),
+    }
+}
+
+/// Writes elements to a vector of so many octets. None if they need more.
+fn write_within(alloc: Global, octets: &[u8], room: usize) -> Result<Option<Vec<u8>>, CanonError>
+    ensures elements { IfOk result (λ o. IfSome o (λ v. AreElements Rules.Der 101 v.items)) }
+    ensures unchanged { AreElements Rules.Der 101 octets.now → length octets.now ≤ room
+        → IfOk result (λ o. IsSomeAnd o (λ v. v.items ≡ octets.now)) }
+{
+    let mut written = vec![in alloc; 0u8; room]?;
+    let needed = canonical_into(octets, &mut written)?;
+    if needed > written.len() {
+        return Ok(None);
+    }
+    written.truncate(needed);
+    Ok(Some(written))
 }

@@ -2,7 +2,7 @@
 use der_walk::{Cause, Path};
 use std::alloc::{AllocError, AllocFailed};
 
-/// Where and why elements have no encoding by DER.
+/// Where and why elements have no encoding by DER: the input isn't BER, or has a value that DER doesn't have.
 #[derive(Drop)]
 pub struct NotCanonical {
     /// Where the element begins, in octets from the start of the input.
@@ -12,23 +12,23 @@ pub struct NotCanonical {
     pub cause: Cause,
 }
 
-/// Why elements aren't written.
+/// Why elements aren't written to a vector.
 #[derive(Drop)]
 pub enum CanonError {
-    /// The input isn't BER, or has a value that DER doesn't have.
+    /// They have no encoding by DER.
     NotCanonical(NotCanonical),
     /// There was no memory.
     OutOfMemory,
 }
 
-impl From<AllocError> for CanonError {
-    fn from(_: AllocError) -> CanonError {
-        CanonError::OutOfMemory
+impl From<NotCanonical> for CanonError {
+    fn from(refused: NotCanonical) -> CanonError {
+        CanonError::NotCanonical(refused)
     }
 }
 
-impl<T: Drop> From<AllocFailed<T>> for CanonError {
-    fn from(_: AllocFailed<T>) -> CanonError {
+impl From<AllocError> for CanonError {
+    fn from(_: AllocError) -> CanonError {
         CanonError::OutOfMemory
     }
 }

@@ -1,13 +1,15 @@
-//! Elements written as DER writes them (X.690 10 and 11), as far as that doesn't depend on their types.
+//! Elements written as DER writes them (X.690 10 and 11), as far as that doesn't depend on their types. It takes no
+//! memory: what is written goes to a buffer of the caller's.
 #![tactic(auto)]
 
 mod content;
 mod elements;
 mod error;
+mod octets;
 mod piece;
 #[cfg(test)]
 mod tests;
 mod writer;
 
-pub use elements::canonical;
+pub use elements::{canonical, canonical_into};
 pub use error::{CanonError, NotCanonical};

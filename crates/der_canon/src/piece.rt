@@ -1,9 +1,8 @@
 //! The elements of an input, as they are to be written.
-use crate::error::{CanonError, NotCanonical};
+use crate::error::NotCanonical;
 use der_base::header::Class;
 use der_check::Rules;
 use der_walk::{Cause, Element, Refusal, Walk};
-use std::alloc::Global;
 
 /// How an element is written.
 #[derive(Clone, Copy, Debug, PartialEq)]
@@ -44,28 +43,48 @@ struct Parts {
 }
 
 /// The elements of an input by BER in preorder, each with the form that DER gives it.
-pub(crate) fn read_pieces<'a>(
-    alloc: Global,
-    octets: &'a [u8],
-) -> Result<Vec<Piece<'a>>, CanonError> {
-    let mut walk = Walk::new(octets, Rules::Ber, false);
-    let mut pieces = Vec::new(alloc);
-    let mut parts = None;
-    // An element has an octet at least, so the loop ends at the end of the input.
-    for _ in 0..=octets.len() {
-        match walk.next_element() {
-            Ok(Some(element)) => match form_of(&element, parts) {
-                Ok((form, next)) => {
-                    parts = next;
-                    pieces.push(Piece { element, form })?;
-                }
-                Err(cause) => return Err(refuse_element(&walk, &element, cause)),
-            },
-            Ok(None) => return Ok(pieces),
-            Err(refusal) => return Err(refuse(&walk, &refusal)),
+#[derive(Drop)]
+pub(crate) struct Pieces<'a> {
+    walk: Walk<'a>,
+    /// The string whose parts come next, if there is one.
+    parts: Option<Parts>,
+}
+
+impl<'a> Pieces<'a> {
+    pub(crate) fn new(octets: &'a [u8]) -> Pieces<'a> {
+        Pieces {
+            walk: Walk::new(octets, Rules::Ber, false),
+            parts: None,
         }
     }
-    Ok(pieces)
+
+    /// The next element. None at the end of the input.
+    pub(crate) fn next_piece(&mut self) -> Result<Option<Piece<'a>>, Refusal> {
+        let Some(element) = self.walk.next_element()? else {
+            return Ok(None);
+        };
+        match form_of(&element, self.parts) {
+            Ok((form, parts)) => {
+                self.parts = parts;
+                Ok(Some(Piece { element, form }))
+            }
+            Err(cause) => Err(refuse_element(&element, cause)),
+        }
+    }
+
+    /// Where and why the input isn't written.
+    pub(crate) fn refuse(&self, refusal: &Refusal) -> NotCanonical {
+        refuse(&self.walk, refusal)
+    }
+}
+
+/// Where and why a walk ends before its input does.
+pub(crate) fn refuse(walk: &Walk<'_>, refusal: &Refusal) -> NotCanonical {
+    NotCanonical {
+        offset: refusal.offset,
+        path: walk.path(refusal),
+        cause: refusal.cause,
+    }
 }
 
 /// The form of an element after others, and the string whose parts follow it.
@@ -109,26 +128,16 @@ fn is_string(element: &Element<'_>) -> bool {
     element.class == Class::Universal && matches!(element.number, 3 | 4 | 7 | 12 | 18..=28 | 30)
 }
 
-/// Refuses an element that was read.
-fn refuse_element(walk: &Walk<'_>, element: &Element<'_>, cause: Cause) -> CanonError {
+/// Refuses an element that was read. A constructed one is open, so it is in the path already.
+fn refuse_element(element: &Element<'_>, cause: Cause) -> Refusal {
     let step = if element.constructed {
         None
     } else {
         Some(element.step())
     };
-    let refusal = Refusal {
+    Refusal {
         offset: element.offset,
         step,
         cause,
-    };
-    refuse(walk, &refusal)
-}
-
-/// Refuses what a walk refuses.
-pub(crate) fn refuse(walk: &Walk<'_>, refusal: &Refusal) -> CanonError {
-    CanonError::NotCanonical(NotCanonical {
-        offset: refusal.offset,
-        path: walk.path(refusal),
-        cause: refusal.cause,
-    })
+    }
 }

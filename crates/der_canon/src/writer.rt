@@ -1,152 +1,156 @@
-//! Writing from the last octet to the first, so that each length is known before its header is written.
+//! Writing from the first octet to the last. How long a content is shows at its end. Then its length is written in
+//! front of it, and the content moves up if the length has more than one octet.
 use crate::content::{boolean, shortest_number, without_unused};
-use crate::piece::{Form, Piece};
-use der_walk::MAX_DEPTH;
-use std::alloc::{AllocError, Global};
+use crate::error::NotCanonical;
+use crate::octets::{further_octets, move_up, put_length, put_octets};
+use crate::piece::{Form, Piece, Pieces};
+use arrayvec::ArrayVec;
+use der_walk::{Element, MAX_DEPTH};
 
-/// How many depths there are, with one for the content of the deepest element.
-const DEPTHS: usize = MAX_DEPTH + 2;
+/// How many elements are open at most: one at each depth.
+const DEPTHS: usize = MAX_DEPTH + 1;
 
-/// What was written, the last octet first.
+/// Writes the elements of an input as far as there is room. Returns how many octets they have, room or not.
+pub(crate) fn write_pieces(octets: &[u8], out: &mut [u8]) -> Result<usize, NotCanonical> {
+    let mut pieces = Pieces::new(octets);
+    let mut writer = Writer::new();
+    // An element has an octet at least, so the loop ends at the end of the input.
+    for _ in 0..=octets.len() {
+        match pieces.next_piece() {
+            Ok(Some(piece)) => writer.write(out, &piece),
+            Ok(None) => break,
+            Err(refusal) => return Err(pieces.refuse(&refusal)),
+        }
+    }
+    writer.complete(out, 0);
+    Ok(writer.end)
+}
+
+/// How far elements are written.
 #[derive(Drop)]
-pub(crate) struct Writer {
-    octets: Vec<u8>,
-    /// How many octets the elements have that were written at each depth and aren't yet inside another.
-    sizes: [usize; DEPTHS],
-    /// How many bits are unused at the end of the parts of a BIT STRING that were written, if there is one.
-    unused: Option<u8>,
+struct Writer {
+    /// How many octets there are, room or not.
+    end: usize,
+    /// Where each content begins that goes on, from the outermost to the innermost.
+    contents: ArrayVec<usize, DEPTHS>,
 }
 
 impl Writer {
-    pub(crate) fn new(alloc: Global) -> Writer {
+    fn new() -> Writer {
         Writer {
-            octets: Vec::new(alloc),
-            sizes: [0; DEPTHS],
-            unused: None,
+            end: 0,
+            contents: ArrayVec::new(),
         }
     }
 
-    /// The octets from the first to the last.
-    pub(crate) fn finish(self) -> Vec<u8> {
-        let mut octets = self.octets;
-        octets.reverse();
-        octets
-    }
-
-    /// Writes an element in front of those that follow it.
-    pub(crate) fn write(&mut self, piece: &Piece<'_>) -> Result<(), AllocError> {
+    /// Writes an element after those that precede it.
+    fn write(&mut self, out: &mut [u8], piece: &Piece<'_>) {
         let element = &piece.element;
-        let before = self.octets.len();
-        if !element.constructed {
-            let octets = element.content.unwrap_or(&[]);
-            self.write_content(piece, octets)?;
-        }
-        let inside = self.take_size(element.depth.saturating_add(1));
-        if piece.form == Form::Joined && element.is_universal(3) {
-            let unused = self.unused.take().unwrap_or(0);
-            self.octets.push(unused)?;
-        }
-        let written = self.octets.len().saturating_sub(before);
-        let length = inside.saturating_add(written);
-        if piece.has_header() {
-            self.write_length(length)?;
-            self.write_identifier(piece)?;
-        }
-        let header = self
-            .octets
-            .len()
-            .saturating_sub(before)
-            .saturating_sub(written);
-        self.add_size(element.depth, length.saturating_add(header));
-        Ok(())
-    }
-
-    /// The octets at a depth, which are inside an element from now on.
-    fn take_size(&mut self, depth: usize) -> usize {
-        match self.sizes.get_mut(depth) {
-            Some(size) => {
-                let taken = *size;
-                *size = 0;
-                taken
+        self.complete(out, element.depth);
+        match piece.form {
+            Form::Primitive => self.write_primitive(out, element),
+            Form::Constructed => {
+                self.put(out, element.identifier);
+                self.begin_content(out);
             }
-            None => 0,
+            Form::Joined => self.begin_string(out, element),
+            Form::Part => self.write_part(out, element),
         }
     }
 
-    fn add_size(&mut self, depth: usize, more: usize) {
-        if let Some(size) = self.sizes.get_mut(depth) {
-            *size = size.saturating_add(more);
+    /// Completes the elements that have as many others around them, or more.
+    fn complete(&mut self, out: &mut [u8], depth: usize) {
+        for _ in depth..self.contents.len() {
+            if let Some(start) = self.contents.pop() {
+                self.complete_content(out, start);
+            }
         }
     }
 
-    /// Writes the content of a primitive element.
-    fn write_content(&mut self, piece: &Piece<'_>, octets: &[u8]) -> Result<(), AllocError> {
-        let element = &piece.element;
+    /// Writes the length of the content that begins here, and ends where all ends so far.
+    fn complete_content(&mut self, out: &mut [u8], start: usize) {
+        let length = self.end.saturating_sub(start);
+        let further = further_octets(length);
+        move_up(out, start, self.end, further);
+        put_length(out, start.saturating_sub(1), length);
+        self.end = self.end.saturating_add(further);
+    }
+
+    /// Begins a content after the first octet of its length.
+    fn begin_content(&mut self, out: &mut [u8]) {
+        self.put(out, &[0]);
+        // There is room, since the walk visits no element that is deeper.
+        let _is_added = self.contents.try_push(self.end);
+    }
+
+    /// Begins a string of parts as a primitive element. A BIT STRING begins with how many bits are unused.
+    fn begin_string(&mut self, out: &mut [u8], element: &Element<'_>) {
+        match element.identifier {
+            [first] => self.put(out, &[*first & 0xdf]),
+            octets => self.put(out, octets),
+        }
+        self.begin_content(out);
         if element.is_universal(3) {
-            return self.write_bits(piece, octets);
+            self.put(out, &[0]);
         }
-        if element.is_universal(2) || element.is_universal(10) {
-            return self.write_octets(shortest_number(octets));
+    }
+
+    /// Writes the content of a part. The last part of a BIT STRING says how many bits are unused.
+    fn write_part(&mut self, out: &mut [u8], element: &Element<'_>) {
+        match element.content {
+            Some([unused, bits @ ..]) if !element.constructed && element.is_universal(3) => {
+                if let Some(start) = self.contents.as_slice().last() {
+                    put_octets(out, *start, &[*unused]);
+                }
+                self.put_bits(out, bits, *unused);
+            }
+            Some(octets) if !element.constructed => self.put(out, octets),
+            _ => {}
         }
+    }
+
+    /// Writes a primitive element, with the content that DER gives its value.
+    fn write_primitive(&mut self, out: &mut [u8], element: &Element<'_>) {
+        self.put(out, element.identifier);
+        let octets = element.content.unwrap_or(&[]);
         match octets {
-            [octet] if element.is_universal(1) => {
-                self.octets.push(boolean(*octet))?;
-                Ok(())
+            _ if element.is_universal(2) || element.is_universal(10) => {
+                self.put_content(out, shortest_number(octets));
             }
-            _ => self.write_octets(octets),
+            [octet] if element.is_universal(1) => self.put_content(out, &[boolean(*octet)]),
+            [unused, bits @ ..] if element.is_universal(3) => {
+                self.put_length(out, octets.len());
+                self.put(out, &[*unused]);
+                self.put_bits(out, bits, *unused);
+            }
+            _ => self.put_content(out, octets),
         }
     }
 
-    /// Writes the content of a BIT STRING: of a part of another without the number of its unused bits.
-    fn write_bits(&mut self, piece: &Piece<'_>, octets: &[u8]) -> Result<(), AllocError> {
-        let [unused, bits @ ..] = octets else {
-            return Ok(());
-        };
+    /// Writes a content after its length.
+    fn put_content(&mut self, out: &mut [u8], octets: &[u8]) {
+        self.put_length(out, octets.len());
+        self.put(out, octets);
+    }
+
+    fn put_length(&mut self, out: &mut [u8], length: usize) {
+        put_length(out, self.end, length);
+        self.end = self
+            .end
+            .saturating_add(1)
+            .saturating_add(further_octets(length));
+    }
+
+    /// Writes the bits of a BIT STRING, and 0 for those that are unused.
+    fn put_bits(&mut self, out: &mut [u8], bits: &[u8], unused: u8) {
         if let Some((last, others)) = bits.split_last() {
-            self.octets.push(without_unused(*last, *unused))?;
-            self.write_octets(others)?;
+            self.put(out, others);
+            self.put(out, &[without_unused(*last, unused)]);
         }
-        if piece.form == Form::Part {
-            self.unused = Some(self.unused.unwrap_or(*unused));
-        } else {
-            self.octets.push(*unused)?;
-        }
-        Ok(())
     }
 
-    fn write_octets(&mut self, octets: &[u8]) -> Result<(), AllocError> {
-        for octet in octets.iter().rev() {
-            self.octets.push(*octet)?;
-        }
-        Ok(())
-    }
-
-    /// Writes a length in the fewest octets (X.690 10.1).
-    fn write_length(&mut self, length: usize) -> Result<(), AllocError> {
-        if length < 128 {
-            self.octets.push(length as u8)?;
-            return Ok(());
-        }
-        let mut left = length;
-        for number in 1..=8 {
-            self.octets.push((left % 256) as u8)?;
-            left /= 256;
-            if left == 0 {
-                self.octets.push(0x80 + number)?;
-                return Ok(());
-            }
-        }
-        Ok(())
-    }
-
-    /// Writes the identifier octets of an element: of a string in parts that of a primitive one.
-    fn write_identifier(&mut self, piece: &Piece<'_>) -> Result<(), AllocError> {
-        match piece.element.identifier {
-            [first] if piece.form == Form::Joined => {
-                self.octets.push(*first & 0xdf)?;
-                Ok(())
-            }
-            octets => self.write_octets(octets),
-        }
+    fn put(&mut self, out: &mut [u8], octets: &[u8]) {
+        put_octets(out, self.end, octets);
+        self.end = self.end.saturating_add(octets.len());
     }
 }

@@ -1,3 +1,4 @@
+pub mod Firsts
 pub mod Puts
 pub mod TextTests
 pub mod Within

@@ -8,6 +8,8 @@ use Rattle.der_base.specs.Refusal.{unknown_tag, unexpected_tag, unexpected_class
 use Rattle.der_base.specs.Refusal.{construct_unexpected, integer_too_large, integer_negative, invalid_value}
 use Rattle.der_base.specs.Refusal.{invalid_charset, invalid_date_time, unsupported, der_constraint, incomplete}
 use Rattle.der_base.specs.Refusal.{parser_fault}
+use Rattle.der_walk.specs.declared.cause.Cause.{Cause}
+use Rattle.der_walk.specs.declared.cause.Cause.TheVariants as causes
 
 -- of a rule of DER beyond those of BER
 abbrev pub constraint_number : DerConstraint → ℕ
@@ -49,3 +51,18 @@ refusal_number (der_constraint k) = constraint_number k
 abbrev pub number_of_result : {V : Type 0} → Result V BerError → ℕ
 number_of_result (Ok v) = 0
 number_of_result (Err e) = refusal_number (refusal e)
+
+-- Of the cause why elements aren't written. An input that is cut short is no error.
+abbrev pub cause_number : Cause → ℕ
+cause_number (causes.Cut n) = 0
+cause_number (causes.PastEnd n) = 17
+cause_number causes.NoEndMarker = 48
+cause_number causes.EndMarker = 49
+cause_number (causes.Header e) = refusal_number (refusal e)
+cause_number (causes.Value e) = refusal_number (refusal e)
+cause_number causes.Constructed = 10
+cause_number causes.ConstructedString = 34
+cause_number causes.OtherPart = 50
+cause_number causes.UnusedBitsInside = 51
+cause_number causes.NotDer = 52
+cause_number causes.TooDeep = 3

@@ -1,8 +1,10 @@
 -- Statements of the laws in `src/laws.rt`.
-use Rattle.std.specs.Prelude.{ℕ, ◌≤◌, List, length, take, All}
+use Rattle.std.specs.Prelude.{◌≡◌, ℕ, ◌≤◌, List, length, take, All}
 use Rattle.der_nodes.specs.NodesReading.{KeepsBerNodes, KeepsDerNodes}
 use Rattle.dumarewhi_c.specs.declared.element.DmElement.{DmElement}
+use Rattle.dumarewhi_c.specs.declared.outcome.DmOutcome.{DmOutcome}
 use Rattle.dumarewhi_c.specs.Elements.{slot_of}
+use Rattle.dumarewhi_c.specs.Outcomes.{FindsBer, FindsDer}
 
 -- the element is within an input of n octets
 abbrev pub IsWithin : ℕ → DmElement → Type 0
@@ -16,3 +18,14 @@ DerElementsLieWithin = (d : ℕ) (i rest : List ℕ) (n : ℕ) (old new : List D
 abbrev pub BerElementsLieWithin : Type 0
 BerElementsLieWithin = (d : ℕ) (i rest : List ℕ) (n : ℕ) (old new : List DmElement)
     → KeepsBerNodes slot_of d i rest n old new → All (IsWithin (length i)) (take n new)
+
+-- so is the first one
+abbrev pub FirstLiesWithin : (List ℕ → DmElement → DmElement → DmOutcome → Type 0) → Type 0
+FirstLiesWithin Finds = (i : List ℕ) (old new : DmElement) (o : DmOutcome) → Finds i old new o → o.status ≡ 0
+    → IsWithin (length i) new
+
+abbrev pub DerFirstLiesWithin : Type 0
+DerFirstLiesWithin = FirstLiesWithin FindsDer
+
+abbrev pub BerFirstLiesWithin : Type 0
+BerFirstLiesWithin = FirstLiesWithin FindsBer

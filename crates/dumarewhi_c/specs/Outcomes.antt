@@ -1,18 +1,25 @@
 -- What a reader of elements returns to C.
 use Rattle.std.specs.Borrow.{Bor}
-use Rattle.std.specs.Prelude.{◌≡◌, ℕ, ◌-◌, List, length, Result, Ok, Err, IfOk}
+use Rattle.std.specs.Prelude.{◌≡◌, ℕ, ◌-◌, nat_le, if◌then◌else◌, List, length, Result, Ok, Err, IfOk, MatchResult}
+use Rattle.der_base.specs.declared.any.Any.{Any}
 use Rattle.der_base.specs.declared.error.Err.{Err as Refused}
 use Rattle.der_base.specs.declared.error.Err.TheVariants.{Incomplete, Error, Failure, OutOfMemory}
 use Rattle.der_base.specs.declared.error.Error.{Error as BerError}
 use Rattle.der_base.specs.declared.error.Needed.TheVariants.{Unknown, Size}
+use Rattle.der_base.specs.declared.header.Header.{Header}
 use Rattle.der_base.specs.Any.{AnyAnswer, AnswersAny, AnswersDerAny}
+use Rattle.der_base.specs.Headers.{ReadsDerHeader, ReadsHeader}
 use Rattle.der_base.specs.Refusal.{refusal}
+use Rattle.der_canon.specs.declared.error.NotCanonical.{NotCanonical}
+use Rattle.der_canon.specs.Written.{KeepsDer, WritesDer}
 use Rattle.der_nodes.specs.FaultPlaces.{IsBerPlace, IsDerPlace}
 use Rattle.der_nodes.specs.NodesReading.{AnswersBerNodes, AnswersDerNodes, KeepsBerNodes, KeepsDerNodes}
+use Rattle.der_walk.specs.declared.cause.Cause.{Cause}
+use Rattle.der_walk.specs.declared.cause.Cause.TheVariants.{Cut}
 use Rattle.dumarewhi_c.specs.declared.element.DmElement.{DmElement}
 use Rattle.dumarewhi_c.specs.declared.outcome.DmOutcome.{DmOutcome}
-use Rattle.dumarewhi_c.specs.Elements.{slot_of}
-use Rattle.dumarewhi_c.specs.ErrorNumbers.{refusal_number}
+use Rattle.dumarewhi_c.specs.Elements.{first_slot, slot_of}
+use Rattle.dumarewhi_c.specs.ErrorNumbers.{cause_number, refusal_number}
 
 -- so many elements are in so many octets
 abbrev pub read_outcome : ℕ → ℕ → DmOutcome
@@ -67,8 +74,35 @@ abbrev pub outcome_of_first : ℕ → AnyAnswer → DmOutcome
 outcome_of_first n (Ok x) = read_outcome 1 (n - length x.0.now)
 outcome_of_first n (Err e) = refused_outcome e 0
 
-abbrev pub FindsDer : List ℕ → DmOutcome → Type 0
-FindsDer i o = (found : AnyAnswer) × AnswersDerAny i found × (o ≡ outcome_of_first (length i) found)
+-- the slot keeps the element in front of i, which has this header, and its content octets follow that
+abbrev pub KeepsFirst : (List ℕ → Header → List ℕ → Type 0) → List ℕ → Any → DmElement → Type 0
+KeepsFirst Reads i a e = (behind : List ℕ) × Reads i a.header behind
+    × (e ≡ first_slot a.header (length i - length behind) (length a.bytes.now))
 
-abbrev pub FindsBer : List ℕ → DmOutcome → Type 0
-FindsBer i o = (found : AnyAnswer) × AnswersAny i found × (o ≡ outcome_of_first (length i) found)
+-- And the element is written, where its header is read.
+abbrev pub FindsDer : List ℕ → DmElement → DmElement → DmOutcome → Type 0
+FindsDer i old new o = (found : AnyAnswer) × AnswersDerAny i found × (o ≡ outcome_of_first (length i) found)
+    × MatchResult found (λ x. KeepsFirst ReadsDerHeader i x.1 new) (λ e. new ≡ old)
+
+abbrev pub FindsBer : List ℕ → DmElement → DmElement → DmOutcome → Type 0
+FindsBer i old new o = (found : AnyAnswer) × AnswersAny i found × (o ≡ outcome_of_first (length i) found)
+    × MatchResult found (λ x. KeepsFirst ReadsHeader i x.1 new) (λ e. new ≡ old)
+
+-- so many octets are needed, more than the buffer has
+abbrev pub no_room_outcome : ℕ → DmOutcome
+no_room_outcome size = record { elements = 0; length = size; place = 0; missing = 0; status = 3; error = 0 }
+
+-- an input that is cut short, or an error of this cause at a place
+abbrev pub unwritten_outcome : Cause → ℕ → DmOutcome
+unwritten_outcome (Cut n) at = incomplete_outcome n
+unwritten_outcome cause at = error_outcome (cause_number cause) at
+
+-- the outcome of elements that were written to a buffer with room for so many octets
+abbrev pub outcome_of_written : ℕ → Result ℕ NotCanonical → DmOutcome
+outcome_of_written room (Ok n) = if nat_le n room then read_outcome 0 n else no_room_outcome n
+outcome_of_written room (Err e) = unwritten_outcome e.cause e.offset
+
+-- If there is room for what is written, it is elements of DER. What is DER already is written as it is.
+abbrev pub Writes : List ℕ → List ℕ → List ℕ → DmOutcome → Type 0
+Writes i old new o = (found : Result ℕ NotCanonical) × (o ≡ outcome_of_written (length old) found)
+    × WritesDer new found × KeepsDer i old new found

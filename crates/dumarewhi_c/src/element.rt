@@ -1,8 +1,9 @@
 //! Elements as C sees them.
-ghost use Rattle.std.specs.Prelude.{◌≡◌};
-ghost use Rattle.dumarewhi_c.specs.Elements.{bit, class_number};
+ghost use Rattle.std.specs.Prelude.{◌≡◌, ◌-◌};
+ghost use Rattle.der_base.specs.Header.{length_of};
+ghost use Rattle.dumarewhi_c.specs.Elements.{bit, class_number, first_slot, is_definite, marker_size};
 
-use der_base::header::Class;
+use der_base::header::{Class, Header, Length};
 use der_nodes::{Element, Slot};
 
 /// An element of an input: the fields of `der_nodes::Element`, as numbers.
@@ -47,6 +48,44 @@ impl Slot for DmElement {
             definite: bit(element.definite),
             reserved: 0,
         }
+    }
+}
+
+/// The element at the start of an input, with no other inside. It has so many octets, this header, and so many
+/// content octets.
+pub(crate) fn first_element(length: usize, header: &Header<'_>, size: usize) -> DmElement
+    ensures { result ≡ first_slot header.now (length - marker_size header.now - size) size }
+{
+    let begin = length
+        .saturating_sub(marker_size(header))
+        .saturating_sub(size);
+    DmElement {
+        header: 0,
+        content: begin,
+        end: begin + size,
+        inside: 0,
+        number: header.tag().0,
+        tag_class: class_number(header.class()),
+        constructed: bit(header.constructed()),
+        definite: bit(is_definite(header)),
+        reserved: 0,
+    }
+}
+
+/// How many octets follow a content: those of an end marker after an indefinite length.
+fn marker_size(header: &Header<'_>) -> usize
+    ensures { result ≡ marker_size header.now }
+{
+    if is_definite(header) { 0 } else { 2 }
+}
+
+/// Whether a header has a definite length.
+fn is_definite(header: &Header<'_>) -> bool
+    ensures { result ≡ is_definite (length_of header.now) }
+{
+    match header.length() {
+        Length::Definite(_) => true,
+        Length::Indefinite => false,
     }
 }
 

@@ -1,9 +1,10 @@
 //! Errors by numbers.
 ghost use Rattle.std.specs.Prelude.{◌≡◌};
 ghost use Rattle.der_base.specs.Refusal.{refusal};
-ghost use Rattle.dumarewhi_c.specs.ErrorNumbers.{constraint_number, number_of_result, refusal_number};
+ghost use Rattle.dumarewhi_c.specs.ErrorNumbers.{cause_number, constraint_number, number_of_result, refusal_number};
 
 use der_base::error::{BerError, DerConstraint};
+use der_walk::Cause;
 
 /// The number of an error.
 pub(crate) fn refusal_number(e: BerError) -> u32
@@ -52,6 +53,25 @@ fn constraint_number(constraint: DerConstraint) -> u32
     }
 }
 
+/// The number of the cause why elements aren't written. An input that is cut short is no error, and has 0.
+pub(crate) fn cause_number(cause: Cause) -> u32
+    ensures { result ≡ cause_number cause }
+{
+    match cause {
+        Cause::Cut(_) => 0,
+        Cause::PastEnd(_) => 17,
+        Cause::NoEndMarker => 48,
+        Cause::EndMarker => 49,
+        Cause::Header(e) | Cause::Value(e) => refusal_number(e),
+        Cause::Constructed => 10,
+        Cause::ConstructedString => 34,
+        Cause::OtherPart => 50,
+        Cause::UnusedBitsInside => 51,
+        Cause::NotDer => 52,
+        Cause::TooDeep => 3,
+    }
+}
+
 /// 0 for an Ok, and the number of the error for an Err.
 pub(crate) fn number_of_result(found: Result<(), BerError>) -> u32
     ensures { result ≡ number_of_result found }
@@ -96,6 +116,11 @@ pub(crate) fn error_text(number: u32) -> &'static [u8] {
         41 => b"DER constraint failed: fraction not minimal",
         42 => b"DER constraint failed: unused bits not zero",
         43 => b"DER constraint failed: set out of order",
+        48 => b"no end-of-contents octets after an indefinite length",
+        49 => b"end-of-contents octets where no indefinite length ends",
+        50 => b"part of a constructed string has another type",
+        51 => b"unused bits in a part of a BIT STRING that isn't the last",
+        52 => b"no elements of DER",
         _ => b"unknown error",
     }
 }

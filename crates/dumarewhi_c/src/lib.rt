@@ -10,3 +10,4 @@ pub mod readers;
 mod text;
 pub mod time;
 pub mod values;
+pub mod writer;

@@ -72,22 +72,30 @@ pub extern "C" fn dm_check_ber(input: &[u8], max_depth: usize, outcome: &mut DmO
 }
 
 /// Finds the first element by DER: its header, as many content octets as this says, and no look into
-/// them. Returns the outcome's status.
+/// them. Writes the element as one with no other inside, and returns the outcome's status.
 #[unsafe(no_mangle)]
-pub extern "C" fn dm_first_der(input: &[u8], outcome: &mut DmOutcome) -> u32
-    ensures exactly { FindsDer input.now outcome.new }
+pub extern "C" fn dm_first_der(
+    input: &[u8],
+    element: &mut DmElement,
+    outcome: &mut DmOutcome,
+) -> u32
+    ensures exactly { FindsDer input.now element.old element.new outcome.new }
     ensures status { result ≡ outcome.new.status }
 {
-    *outcome = outcome_of_first(input.len(), Any::from_der(input));
+    *outcome = outcome_of_first(input.len(), Any::from_der(input), element);
     outcome.status
 }
 
 /// The same by BER. Inside an indefinite length the headers are read, to find its end.
 #[unsafe(no_mangle)]
-pub extern "C" fn dm_first_ber(input: &[u8], outcome: &mut DmOutcome) -> u32
-    ensures exactly { FindsBer input.now outcome.new }
+pub extern "C" fn dm_first_ber(
+    input: &[u8],
+    element: &mut DmElement,
+    outcome: &mut DmOutcome,
+) -> u32
+    ensures exactly { FindsBer input.now element.old element.new outcome.new }
     ensures status { result ≡ outcome.new.status }
 {
-    *outcome = outcome_of_first(input.len(), Any::from_ber(input));
+    *outcome = outcome_of_first(input.len(), Any::from_ber(input), element);
     outcome.status
 }

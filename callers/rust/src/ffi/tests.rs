@@ -72,6 +72,7 @@ fn own_rows() -> Vec<Row> {
         ("DM_OK", OK as usize),
         ("DM_ERROR", ERROR as usize),
         ("DM_INCOMPLETE", INCOMPLETE as usize),
+        ("DM_NO_ROOM", NO_ROOM as usize),
         ("DM_MAX_DEPTH", MAX_DEPTH),
         ("DM_LOCAL", ZONE_LOCAL.into()),
         ("DM_UTC", ZONE_UTC.into()),
@@ -172,7 +173,7 @@ fn calls_are_those_of_the_header() {
     let mut declared = names(&header, "uint32_t dm_");
     declared.extend(names(&header, "size_t dm_"));
     declared.sort();
-    assert_eq!(declared.len(), 13);
+    assert_eq!(declared.len(), 14);
     assert_eq!(declared, names(own, "fn dm_"));
 }
 
