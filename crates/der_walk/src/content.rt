@@ -1,4 +1,6 @@
 //! The contents that a walk is in.
+ghost use Rattle.std.specs.Prelude.{◌≡◌, false};
+
 use crate::path::Step;
 use der_check::Rules;
 
@@ -21,7 +23,9 @@ pub(crate) struct Content {
 
 impl Content {
     /// The content of an input.
-    pub(crate) fn of_input(rules: Rules) -> Content {
+    pub(crate) fn of_input(rules: Rules) -> Content
+        ensures { result ≡ record { rules = rules; end = NO_LIMIT; has_marker = false; visited = 0 } }
+    {
         Content {
             rules,
             end: NO_LIMIT,

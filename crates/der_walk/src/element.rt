@@ -1,9 +1,12 @@
 //! An element that a walk visits.
-ghost use Rattle.std.specs.Prelude.{◌≡◌, ◌↔◌, IsTrue};
+ghost use Rattle.std.specs.Prelude.{◌≡◌, ◌↔◌, ℕ, IsTrue, List, MatchOption, ◌∷◌};
+ghost use Rattle.der_walk.specs.Visits.{begins_like_element, is_text};
 
 use crate::name::TypeName;
 use crate::path::Step;
+use crate::walk::MAX_DEPTH;
 use der_base::header::Class;
+use der_check::{Rules, is_element};
 
 /// An element of an input.
 #[derive(Clone, Copy, Debug, PartialEq)]
@@ -33,6 +36,8 @@ pub struct Element<'a> {
 }
 
 impl<'a> Element<'a> {
+    ghost use Rattle.der_walk.specs.Reading.{FindsString, Holds, front_of};
+
     /// The name of its type or tag.
     pub fn name(&self) -> TypeName
         ensures class { result.class ≡ self.now.class }
@@ -64,20 +69,75 @@ impl<'a> Element<'a> {
     }
 
     /// Whether it is a text, whose octets spell characters of its type (X.690 8.23).
-    pub(crate) fn is_text(&self) -> bool {
+    pub(crate) fn is_text(&self) -> bool
+        ensures { IsTrue result ↔ ((self.now.class ≡ Class.Universal) × IsTrue (is_text self.now.number)) }
+    {
         self.class == Class::Universal && matches!(self.number, 7 | 12 | 18..=22 | 25..=27 | 30)
+    }
+
+    /// Whether it is a string whose octets are one element of DER. A primitive element of another class than
+    /// Universal doesn't count, since most octets look like one.
+    pub(crate) fn holds_element(&self) -> bool
+        ensures { IsTrue result ↔ Holds self.now }
+    {
+        match self.string_octets() {
+            Some(octets) => {
+                let depth = MAX_DEPTH.saturating_sub(self.depth);
+                begins_like_element(octets) && is_element(octets, Rules::Der, depth)
+            }
+            None => false,
+        }
     }
 
     /// The octets of a primitive string that may hold an element: those of an OCTET STRING, and those of a
     /// BIT STRING without unused bits.
-    pub(crate) fn string_octets(&self) -> Option<&'a [u8]> {
+    fn string_octets(&self) -> Option<&'a [u8]>
+        ensures { FindsString self.now result }
+    {
         if self.constructed || self.class != Class::Universal {
             return None;
         }
-        match (self.number, self.content?) {
-            (4, octets) => Some(octets),
-            (3, [0, octets @ ..]) => Some(octets),
+        let Some(content) = self.content else {
+            return None;
+        };
+        match self.number {
+            4 => Some(content),
+            3 => after_zero(content),
             _ => None,
         }
+    }
+
+    /// How many octets are in front of the element that is visited next inside a string: the one of a BIT STRING
+    /// that says that no bit is unused.
+    pub(crate) fn front(&self) -> usize
+        ensures { result ≡ front_of self.now }
+    {
+        if self.holds_der && self.number == 3 {
+            1
+        } else {
+            0
+        }
+    }
+}
+
+/// What follows a first octet that is 0.
+fn after_zero(octets: &[u8]) -> Option<&[u8]>
+    ensures { MatchOption result
+        ((rest : List ℕ) → octets.now ≡ 0 ∷ rest → ⊥)
+        (λ x. octets.now ≡ 0 ∷ x.now) }
+{
+    let Some((first, rest)) = octets.split_first() else {
+        return None;
+    };
+    if *first == 0 { Some(rest) } else { None }
+}
+
+/// Whether octets begin with an identifier octet that is universal or constructed, and not that of an end marker.
+fn begins_like_element(octets: &[u8]) -> bool
+    ensures { IsTrue result ↔ IsTrue (begins_like_element octets.now) }
+{
+    match octets {
+        [first, ..] => *first != 0 && (*first < 64 || *first / 32 % 2 == 1),
+        [] => false,
     }
 }

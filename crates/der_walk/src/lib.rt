@@ -5,6 +5,7 @@
 mod cause;
 mod content;
 mod element;
+pub mod laws;
 mod name;
 mod path;
 mod refusal;

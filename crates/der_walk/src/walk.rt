@@ -1,4 +1,8 @@
 //! The walk.
+ghost use Rattle.der_base.specs.Header.{length_of as length_in};
+ghost use Rattle.der_walk.specs.Reading.{definite_of};
+ghost use Rattle.std.specs.Prelude.{◌≡◌, ◌+◌, ◌-◌, ◌^◌, ◌<◌, ◌≤◌, ◌++◌, ℕ, List, IfOk, IfSome, min, length, [], false, true};
+
 use crate::cause::Cause;
 use crate::content::{Content, NO_LIMIT, Open};
 use crate::element::Element;
@@ -7,7 +11,7 @@ use crate::refusal::Refusal;
 use arrayvec::ArrayVec;
 use der_base::error::{BerError, Err as Refused, Needed};
 use der_base::header::{Header, Length, Tag};
-use der_check::{Rules, is_element};
+use der_check::{Rules, after_end_marker};
 
 /// How many elements may be around an element.
 pub const MAX_DEPTH: usize = 100;
@@ -15,8 +19,8 @@ pub const MAX_DEPTH: usize = 100;
 /// How many elements are open at most.
 const MAX_OPEN: usize = 101;
 
-/// The octets of an end marker (X.690 8.1.5).
-const END_MARKER: &[u8] = &[0, 0];
+/// How many octets an end marker has (X.690 8.1.5).
+const END_MARKER: usize = 2;
 
 /// A walk through the elements of an input in preorder. It takes no memory.
 #[derive(Drop)]
@@ -33,9 +37,17 @@ pub struct Walk<'a> {
 }
 
 impl<'a> Walk<'a> {
+    ghost use Rattle.der_check.specs.declared.rules.Rules.{Rules};
+    ghost use Rattle.der_walk.specs.Visits.{Extras, Visited};
+    ghost use Rattle.der_walk.specs.Walked.{HasVisited, KeepsVisited, VisitsNext, between};
+    ghost use Rattle.der_walk.specs.Reading.{EndsHere, FindsContent, IsChecked, Passes, ReadsHere, StartsWith};
+    ghost use Rattle.der_walk.specs.Reading.{GoesInto, end_from, ends_at_marker, front_of, rules_inside};
+
     /// A walk from the start of an input. If it enters strings, it visits the element that is the whole
     /// content of an OCTET STRING or a BIT STRING by DER.
-    pub fn new(input: &'a [u8], rules: Rules, enters_strings: bool) -> Walk<'a> {
+    pub fn new(input: &'a [u8], rules: Rules, enters_strings: bool) -> Walk<'a>
+        ensures { HasVisited (record { enters_strings = enters_strings; keeps_texts = false }) rules input.now result [] }
+    {
         Walk {
             input,
             at: 0,
@@ -47,7 +59,10 @@ impl<'a> Walk<'a> {
     }
 
     /// The same walk, which by BER visits and marks a text with a character that its type doesn't have.
-    pub fn keeping_texts(self) -> Walk<'a> {
+    pub fn keeping_texts(self) -> Walk<'a>
+        ensures { (x : Extras) (r : Rules) (i : List ℕ) → HasVisited x r i self.entry []
+            → HasVisited (record { enters_strings = x.enters_strings; keeps_texts = true }) r i result [] }
+    {
         Walk {
             keeps_texts: true,
             ..self
@@ -55,15 +70,25 @@ impl<'a> Walk<'a> {
     }
 
     /// The next element. None at the end of the input.
-    pub fn next_element(&mut self) -> Result<Option<Element<'a>>, Refusal> {
+    pub fn next_element(&mut self) -> Result<Option<Element<'a>>, Refusal>
+        ensures { (x : Extras) (r : Rules) (i : List ℕ) (vs : List Visited) → HasVisited x r i self.old vs
+            → VisitsNext x r i vs self.new result }
+    {
         self.close_ended();
         let here = self.octets_here();
         if here.is_empty() {
-            return self.end();
+            if self.open.is_empty() {
+                return Ok(None);
+            }
+            return Err(self.refuse_end());
         }
-        let element = self.read_element(here)?;
-        self.pass(&element);
-        Ok(Some(element))
+        match self.read_element(here) {
+            Ok(element) => {
+                self.pass(&element);
+                Ok(Some(element))
+            }
+            Err(refusal) => Err(refusal),
+        }
     }
 
     /// The path to an element that is refused.
@@ -79,43 +104,220 @@ impl<'a> Walk<'a> {
     }
 
     /// Closes the elements whose content ends here.
-    fn close_ended(&mut self) {
+    fn close_ended(&mut self)
+        ensures { KeepsVisited self.old self.new }
+    {
         for _ in 0..self.open.len() {
-            if !self.close_last_if_ended() {
+            if !self.close_last() {
                 return;
             }
         }
     }
 
     /// Closes the innermost element if its content ends here. Returns whether it does.
-    fn close_last_if_ended(&mut self) -> bool {
-        if self.open.is_empty() {
+    fn close_last(&mut self) -> bool
+        ensures { KeepsVisited self.old self.new }
+    {
+        let Some(after) = self.after_end() else {
             return false;
-        }
-        if !self.content.has_marker {
-            if self.at < self.content.end {
-                return false;
-            }
-        } else if self.octets_here().starts_with(END_MARKER) {
-            self.at = self.at.saturating_add(END_MARKER.len());
-        } else {
+        };
+        let Some(last) = self.open.pop() else {
             return false;
-        }
-        if let Some(last) = self.open.pop() {
-            self.content = last.around;
-        }
+        };
+        self.content = last.around;
+        self.at = after;
         true
     }
 
-    /// The octets from here to the end of the content, or further if it ends at an end marker.
-    fn octets_here(&self) -> &'a [u8] {
-        match self
-            .input
-            .get(self.at..self.content.end.min(self.input.len()))
-        {
-            Some(octets) => octets,
-            None => &[],
+    /// Where the content around goes on, if the content here ends here.
+    fn after_end(&self) -> Option<usize>
+        ensures { IfSome result (λ after. EndsHere self.now after) }
+    {
+        if !self.content.has_marker {
+            if self.at < self.content.end {
+                return None;
+            }
+            return Some(self.at);
         }
+        match after_end_marker(self.octets_here()) {
+            Some(_) => Some(self.at + END_MARKER),
+            None => None,
+        }
+    }
+
+    /// The octets from here to the end of the content, or further if it ends at an end marker.
+    fn octets_here(&self) -> &'a [u8]
+        ensures here { result.now ≡ between self.now.input.now self.now.at
+            (min self.now.content.end (length self.now.input.now)) }
+        ensures fits { (length self.now.input.now < 2 ^ 64) × (self.now.content.end < 2 ^ 64) }
+    {
+        let end = self.content.end.min(self.input.len());
+        if self.at < end {
+            &self.input[self.at..end]
+        } else {
+            &[]
+        }
+    }
+
+    /// Reads the element at the start of the octets here.
+    fn read_element(&self, here: &'a [u8]) -> Result<Element<'a>, Refusal>
+        requires fits { self.now.at + length here.now ≤ length self.now.input.now }
+        ensures { IfOk result (λ e. ReadsHere self.now here.now e) }
+    {
+        let (rest, header) = match self.content.rules.read_header(here) {
+            Ok(found) => found,
+            Err(e) => return Err(self.refuse_header(e)),
+        };
+        let element = self.element_of(&header, here.len() - rest.len());
+        let content = match self.content_of(&element, rest) {
+            Ok(content) => content,
+            Err(refusal) => return Err(refusal),
+        };
+        let element = Element { content, ..element };
+        if element.depth > MAX_DEPTH {
+            return Err(Refusal::of(&element, Cause::TooDeep));
+        }
+        let has_other_characters = match self.check(&element, here) {
+            Ok(other) => other,
+            Err(refusal) => return Err(refusal),
+        };
+        let holds_der = self.enters_strings && element.holds_element();
+        Ok(Element {
+            holds_der,
+            has_other_characters,
+            ..element
+        })
+    }
+
+    /// The element here, which has this header of so many octets.
+    fn element_of(&self, header: &Header<'a>, octets: usize) -> Element<'a>
+        ensures { StartsWith header.now octets self.now.at (length self.now.open.items) result }
+    {
+        Element {
+            class: header.class(),
+            constructed: header.constructed(),
+            number: header.tag().0,
+            identifier: header.raw_tag().unwrap_or(&[]),
+            offset: self.at,
+            header: octets,
+            length: length_of(header),
+            content: None,
+            depth: self.open.len(),
+            index: self.content.visited,
+            holds_der: false,
+            has_other_characters: false,
+        }
+    }
+
+    /// The content octets of an element, which begin here. None if the length is indefinite, and for a constructed
+    /// element that is cut.
+    fn content_of(&self, element: &Element<'a>, here: &'a [u8]) -> Result<Option<&'a [u8]>, Refusal>
+        requires fits { element.now.offset + element.now.header < 2 ^ 64 }
+        ensures content { IfOk result (FindsContent element.now here.now) }
+        ensures room { IfOk result (λ _. IfSome element.now.length (λ n.
+            n ≤ self.now.content.end - (element.now.offset + element.now.header))) }
+    {
+        let Some(length) = element.length else {
+            return Ok(None);
+        };
+        let begin = element.offset + element.header;
+        let room = self.content.end.saturating_sub(begin);
+        if length > room {
+            return Err(Refusal::of(element, Cause::PastEnd(length - room)));
+        }
+        if length <= here.len() {
+            return Ok(Some(&here[..length]));
+        }
+        if element.constructed {
+            return Ok(None);
+        }
+        Err(Refusal::of(element, self.cut(length - here.len())))
+    }
+
+    /// Checks whether an element may be constructed, or what a primitive one contains, which begins here. Returns
+    /// whether it is a text with other characters than its type has.
+    fn check(&self, element: &Element<'a>, here: &[u8]) -> Result<bool, Refusal>
+        ensures { IfOk result (IsChecked self.now.keeps_texts self.now.content.rules here.now element.now) }
+    {
+        if !element.constructed {
+            return self.check_primitive(element, here);
+        }
+        let tag = Tag(element.number);
+        if self.content.rules.may_be_constructed(element.class, tag) {
+            Ok(false)
+        } else if Rules::Ber.may_be_constructed(element.class, tag) {
+            Err(Refusal::of(element, Cause::ConstructedString))
+        } else {
+            Err(Refusal::of(element, Cause::Constructed))
+        }
+    }
+
+    /// Checks what a primitive element contains, which begins here. An end marker is no element.
+    fn check_primitive(&self, element: &Element<'a>, here: &[u8]) -> Result<bool, Refusal>
+        requires { element.now.constructed ≡ false }
+        ensures { IfOk result (IsChecked self.now.keeps_texts self.now.content.rules here.now element.now) }
+    {
+        if element.is_universal(0) {
+            return Err(Refusal::of(element, Cause::EndMarker));
+        }
+        let rules = self.content.rules;
+        let e = match rules.check_one(here) {
+            Ok(_) => return Ok(false),
+            Err(e) => e,
+        };
+        let cause = value_cause(e);
+        if self.keeps_texts
+            && rules == Rules::Ber
+            && element.is_text()
+            && cause == Cause::Value(BerError::StringInvalidCharset)
+        {
+            return Ok(true);
+        }
+        Err(Refusal::of(element, cause))
+    }
+
+    /// Goes on after an element, or to the elements inside if they are visited next.
+    fn pass(&mut self, element: &Element<'a>)
+        requires room { length self.old.open.items < 101 }
+        requires end { end_from (element.now.offset + element.now.header) self.old.content.end element.now.length < 2 ^ 64 }
+        requires front { element.now.offset + element.now.header + front_of element.now < 2 ^ 64 }
+        ensures { Passes self.old element.now self.new }
+    {
+        let begin = element.offset + element.header;
+        let end = match element.length {
+            Some(length) => begin + length,
+            None => self.content.end,
+        };
+        self.content.visited = self.content.visited.saturating_add(1);
+        if element.constructed || element.holds_der {
+            self.open_content(element, begin + element.front(), end);
+        } else {
+            self.at = end;
+        }
+    }
+
+    /// Opens the content of an element, which begins and ends here.
+    fn open_content(&mut self, element: &Element<'a>, begin: usize, end: usize)
+        requires { length self.old.open.items < 101 }
+        ensures { GoesInto self.old begin (rules_inside self.old.content.rules element.now) end
+            (ends_at_marker element.now.length) self.new }
+    {
+        let around = self.content;
+        self.open.push(Open {
+            step: element.step(),
+            around,
+        });
+        self.content = Content {
+            rules: if element.holds_der {
+                Rules::Der
+            } else {
+                around.rules
+            },
+            end,
+            has_marker: element.length.is_none(),
+            visited: 0,
+        };
+        self.at = begin;
     }
 
     /// Whether the input ends before the content here.
@@ -141,125 +343,26 @@ impl<'a> Walk<'a> {
         }
     }
 
-    /// The result after the last octet: an indefinite length may lack its end marker.
-    fn end(&self) -> Result<Option<Element<'a>>, Refusal> {
-        if self.open.is_empty() {
-            return Ok(None);
-        }
-        Err(Refusal {
-            offset: self.at,
-            step: None,
-            cause: if self.is_cut() {
-                self.cut(END_MARKER.len())
-            } else {
-                Cause::NoEndMarker
-            },
-        })
-    }
-
-    /// Reads the element at the start of these octets.
-    fn read_element(&self, here: &'a [u8]) -> Result<Element<'a>, Refusal> {
-        let (rest, header) = match self.content.rules.read_header(here) {
-            Ok(found) => found,
-            Err(e) => return Err(self.refuse_header(e)),
-        };
-        let element = self.element_of(&header, here.len().saturating_sub(rest.len()));
-        let content = self.content_of(&element, rest)?;
-        let element = Element { content, ..element };
-        if element.depth > MAX_DEPTH {
-            return Err(Refusal::of(&element, Cause::TooDeep));
-        }
-        let has_other_characters = self.check(&element, here)?;
-        let holds_der = self.enters_strings && holds_der(&element);
-        Ok(Element {
-            holds_der,
-            has_other_characters,
-            ..element
-        })
-    }
-
-    /// The element here, which has this header of so many octets.
-    fn element_of(&self, header: &Header<'a>, octets: usize) -> Element<'a> {
-        Element {
-            class: header.class(),
-            constructed: header.constructed(),
-            number: header.tag().0,
-            identifier: header.raw_tag().unwrap_or(&[]),
-            offset: self.at,
-            header: octets,
-            length: length_of(header),
-            content: None,
-            depth: self.open.len(),
-            index: self.content.visited,
-            holds_der: false,
-            has_other_characters: false,
-        }
-    }
-
-    /// The content octets of an element, which begin here. None if the length is indefinite, and for a constructed
-    /// element that is cut.
-    fn content_of(
-        &self,
-        element: &Element<'a>,
-        here: &'a [u8],
-    ) -> Result<Option<&'a [u8]>, Refusal> {
-        let Some(length) = element.length else {
-            return Ok(None);
-        };
-        let begin = element.offset.saturating_add(element.header);
-        let room = self.content.end.saturating_sub(begin);
-        if length > room {
-            return Err(Refusal::of(element, Cause::PastEnd(length.saturating_sub(room))));
-        }
-        match here.get(..length) {
-            Some(content) => Ok(Some(content)),
-            None if element.constructed => Ok(None),
-            None => Err(Refusal::of(element, self.cut(length.saturating_sub(here.len())))),
-        }
-    }
-
-    /// Checks whether an element may be constructed, or what a primitive one contains, which begins here. Returns
-    /// whether it is a text with other characters than its type has.
-    fn check(&self, element: &Element<'a>, here: &[u8]) -> Result<bool, Refusal> {
-        if !element.constructed {
-            return self.check_primitive(element, here);
-        }
-        let tag = Tag(element.number);
-        if self.content.rules.may_be_constructed(element.class, tag) {
-            Ok(false)
-        } else if Rules::Ber.may_be_constructed(element.class, tag) {
-            Err(Refusal::of(element, Cause::ConstructedString))
-        } else {
-            Err(Refusal::of(element, Cause::Constructed))
-        }
-    }
-
-    /// Checks what a primitive element contains, which begins here. An end marker is no element.
-    fn check_primitive(&self, element: &Element<'a>, here: &[u8]) -> Result<bool, Refusal> {
-        if element.is_universal(0) {
-            return Err(Refusal::of(element, Cause::EndMarker));
-        }
-        let rules = self.content.rules;
-        let Err(e) = rules.check_one(here) else {
-            return Ok(false);
-        };
-        let cause = value_cause(e);
-        if self.keeps_texts
-            && rules == Rules::Ber
-            && element.is_text()
-            && cause == Cause::Value(BerError::StringInvalidCharset)
-        {
-            return Ok(true);
-        }
-        Err(Refusal::of(element, cause))
-    }
-
     /// The cause for a header that lacks octets here.
     fn lacks(&self, missing: usize) -> Cause {
         if self.is_cut() {
             self.cut(missing)
         } else {
             Cause::PastEnd(missing)
+        }
+    }
+
+    /// Refuses the end of the input, since an indefinite length lacks its end marker.
+    fn refuse_end(&self) -> Refusal {
+        let cause = if self.is_cut() {
+            self.cut(END_MARKER)
+        } else {
+            Cause::NoEndMarker
+        };
+        Refusal {
+            offset: self.at,
+            step: None,
+            cause,
         }
     }
 
@@ -276,57 +379,12 @@ impl<'a> Walk<'a> {
             cause,
         }
     }
-
-    /// Goes on after the header of an element, if elements inside are visited next, or after the element.
-    fn pass(&mut self, element: &Element<'a>) {
-        let end = self.end_of(element);
-        let rules = self.content.rules;
-        self.content.visited = self.content.visited.saturating_add(1);
-        if element.constructed {
-            let begin = element.offset.saturating_add(element.header);
-            self.open_content(element, begin, end, rules);
-        } else if let Some(octets) = element.string_octets() {
-            if element.holds_der {
-                let begin = end.saturating_sub(octets.len());
-                self.open_content(element, begin, end, Rules::Der);
-            } else {
-                self.at = end;
-            }
-        } else {
-            self.at = end;
-        }
-    }
-
-    /// Where the content of an element ends at the latest.
-    fn end_of(&self, element: &Element<'a>) -> usize {
-        match element.length {
-            Some(length) => element
-                .offset
-                .saturating_add(element.header)
-                .saturating_add(length),
-            None => self.content.end,
-        }
-    }
-
-    /// Opens the content of an element, which begins and ends here.
-    fn open_content(&mut self, element: &Element<'a>, begin: usize, end: usize, rules: Rules) {
-        let open = Open {
-            step: element.step(),
-            around: self.content,
-        };
-        let _is_open = self.open.try_push(open);
-        self.content = Content {
-            rules,
-            end,
-            has_marker: element.length.is_none(),
-            visited: 0,
-        };
-        self.at = begin;
-    }
 }
 
 /// The number of content octets that a header gives, if it is definite.
-fn length_of(header: &Header<'_>) -> Option<usize> {
+fn length_of(header: &Header<'_>) -> Option<usize>
+    ensures { result ≡ definite_of (length_in header.now) }
+{
     match header.length() {
         Length::Definite(length) => Some(length),
         Length::Indefinite => None,
@@ -338,25 +396,5 @@ fn value_cause(e: Refused<BerError>) -> Cause {
     match e {
         Refused::Error(e) | Refused::Failure(e) => Cause::Value(e),
         Refused::Incomplete(_) | Refused::OutOfMemory => Cause::Cut(1),
-    }
-}
-
-/// Whether an element is a string whose octets are one element of DER. A primitive element of another class than
-/// Universal doesn't count, since most octets look like one.
-fn holds_der(element: &Element<'_>) -> bool {
-    match element.string_octets() {
-        Some(octets) => {
-            let depth = MAX_DEPTH.saturating_sub(element.depth);
-            begins_like_element(octets) && is_element(octets, Rules::Der, depth)
-        }
-        None => false,
-    }
-}
-
-/// Whether octets begin with an identifier octet that is universal or constructed, and not the end marker.
-fn begins_like_element(octets: &[u8]) -> bool {
-    match octets {
-        [] | [0, ..] => false,
-        [first, ..] => *first < 0x40 || *first & 0x20 != 0,
     }
 }

@@ -1,0 +1,85 @@
+-- What is visited is of elements.
+use Rattle.std.proofs.Common.{◌≡◌, ℕ, suc, ◌+◌, ◌≤◌, Option, Some, None, true, List, [], ◌∷◌, ◌++◌, length, refl, sym, ap, subst, ◌∙◌, arith, append_assoc, length-append, ⊎_elim}
+use Rattle.std.specs.Prelude.{IfSome}
+use Rattle.std.specs.List.{All}
+use Rattle.std.proofs.lemmas.List.Elements.{All-nil, All-cons, All-same, All-append, All-weaker}
+use Rattle.der_base.specs.declared.header.Class.{Class}
+use Rattle.der_base.specs.declared.header.Class.TheVariants.{Universal}
+use Rattle.der_base.specs.Octets.{identifier}
+use Rattle.der_base.specs.Spelling.{end_marker}
+use Rattle.der_check.specs.declared.rules.Rules.{Rules}
+use Rattle.der_check.specs.declared.rules.Rules.TheVariants.{Ber}
+use Rattle.der_check.specs.Elements.{AreElements, IsElement}
+use Rattle.der_check.specs.Elements.{none as no_elements, one_more as one_element, primitive as primitive_element, constructed as constructed_element, indefinite as indefinite_element}
+use Rattle.der_walk.specs.Laws.{IsWithin}
+use Rattle.der_walk.specs.Visits.{Visited, Extras, Visits, VisitsOne, IsStringFront, none, one_more, primitive, text, string, constructed, indefinite}
+
+string_not_zero : (t : ℕ) (u : List ℕ) → IsStringFront t u → t ≡ 0 → ⊥
+string_not_zero t u f z = ⊎_elim (λ q. let e : t ≡ 4 = q.0 in absurd (omega (arith, z, e))) (λ q. let e : t ≡ 3 = q.0 in absurd (omega (arith, z, e))) f
+
+joined : (c : Class) (t : ℕ) (w : List ℕ) → (identifier c true t ++ 128 ∷ []) ++ w ++ end_marker ≡ identifier c true t ++ 128 ∷ w ++ end_marker
+joined c t w = ap (λ l. l ++ end_marker) (append_assoc (identifier c true t) (128 ∷ []) w)
+
+mutual
+  -- without texts that have other characters
+  pub are_elements : {x : Extras} {r : Rules} {d k a : ℕ} {i : List ℕ} {vs : List Visited} → (x.keeps_texts ≡ true → r ≡ Ber → ⊥) → Visits x r d k a i vs → AreElements r d i
+  are_elements f none = no_elements
+  are_elements f (one_more b rest us ws ei ev is more) = one_element b rest ei (is_element f is) (are_elements f more)
+
+  is_element : {x : Extras} {r : Rules} {d k a : ℕ} {b : List ℕ} {vs : List Visited} → (x.keeps_texts ≡ true → r ≡ Ber → ⊥) → VisitsOne x r d k a b vs → IsElement r d b
+  is_element f (primitive c t h w y is e spells n out ev) = primitive_element c t y spells n
+  is_element f (text t h w is e keeps er it never ev) = absurd (f keeps er)
+  is_element f (string t h w y u v us is e spells en holds vis ev) = primitive_element Universal t y spells (λ q z. string_not_zero t u holds.front z)
+  is_element f (constructed c t h w us is e may vis ev) = constructed_element c t is.1 w is.0 is.2 (e ∙ ap (λ l. l ++ w) is.3) may (are_elements f vis)
+  is_element f (indefinite c t h w us is e may vis ev) = indefinite_element c t w is.0 is.1 (e ∙ ap (λ l. l ++ w ++ end_marker) is.3 ∙ joined c t w) may (are_elements f vis)
+
+-- places
+
+wide_length : (l : Option ℕ) (p z z' : ℕ) → IfSome l (λ n. p + n ≤ z) → z ≤ z' → IfSome l (λ n. p + n ≤ z')
+wide_length None p z z' s h = tt
+wide_length (Some n) p z z' s h = omega (arith, s, h)
+
+wider : (a z k d a' z' k' d' : ℕ) → a' ≤ a → z ≤ z' → k' ≤ k → k + d ≤ k' + d' → (v : Visited) → IsWithin a z k d v → IsWithin a' z' k' d' v
+wider a z k d a' z' k' d' h1 h2 h3 h4 v (p1, p2, p3, p4, p5) = (omega (arith, p1), omega (arith, p2), wide_length v.length (v.offset + v.header) z z' p3 h2, omega (arith, p4), omega (arith, p5))
+
+alone : (a k d : ℕ) (b h w : List ℕ) (vs : List Visited) (v : Visited) → vs ≡ v ∷ [] → v.offset ≡ a → v.header ≡ length h → v.length ≡ Some (length w) → v.depth ≡ k → length b ≡ length h + length w
+    → All (IsWithin a (a + length b) k (suc d)) vs
+alone a k d b h w vs v ev e1 e2 e3 e4 len =
+    let P = IsWithin a (a + length b) k (suc d) in
+    let content : IfSome v.length (λ n. v.offset + v.header + n ≤ a + length b) = subst (λ l. IfSome l (λ n. v.offset + v.header + n ≤ a + length b)) (sym e3) (omega (arith, e1, e2, len)) in
+    All-same P vs (v ∷ []) ev (All-cons P v [] (omega (arith, e1), omega (arith, e1, e2, len), content, omega (arith, e4), omega (arith, e4)) (All-nil P))
+
+around : (a k d : ℕ) (b h : List ℕ) (vs us : List Visited) (v : Visited) → vs ≡ v ∷ us → v.offset ≡ a → v.header ≡ length h → length h ≤ length b → IfSome v.length (λ n. a + length h + n ≤ a + length b) → v.depth ≡ k
+    → (f z : ℕ) → a ≤ f → z ≤ a + length b → All (IsWithin f z (suc k) d) us → All (IsWithin a (a + length b) k (suc d)) vs
+around a k d b h vs us v ev e1 e2 len content e4 f z h1 h2 inner =
+    let P = IsWithin a (a + length b) k (suc d) in
+    let q : a + length h ≡ v.offset + v.header = omega (arith, e1, e2) in
+    let content' : IfSome v.length (λ n. v.offset + v.header + n ≤ a + length b) = subst (λ p. IfSome v.length (λ n. p + n ≤ a + length b)) q content in
+    All-same P vs (v ∷ us) ev
+    (All-cons P v us (omega (arith, e1), omega (arith, e1, e2, len), content', omega (arith, e4), omega (arith, e4))
+    (All-weaker (IsWithin f z (suc k) d) P (wider f z (suc k) d a (a + length b) k (suc d) h1 h2 (omega arith) (omega arith)) us inner))
+
+mutual
+  pub visits_within : {x : Extras} {r : Rules} {d k a : ℕ} {i : List ℕ} {vs : List Visited} → Visits x r d k a i vs → All (IsWithin a (a + length i) k d) vs
+  visits_within {d = d} {k = k} {a = a} none = All-nil (IsWithin a (a + 0) k d)
+  visits_within {d = d} {k = k} {a = a} {i = i} {vs = vs} (one_more b rest us ws ei ev one more) =
+      let P = IsWithin a (a + length i) k d in
+      let len : length i ≡ length b + length rest = ap length ei ∙ length-append b rest in
+      All-same P vs (us ++ ws) ev
+      (All-append P us ws
+      (All-weaker (IsWithin a (a + length b) k d) P (wider a (a + length b) k d a (a + length i) k d (omega arith) (omega (arith, len)) (omega arith) (omega arith)) us (one_within one))
+      (All-weaker (IsWithin (a + length b) (a + length b + length rest) k d) P (wider (a + length b) (a + length b + length rest) k d a (a + length i) k d (omega arith) (omega (arith, len)) (omega arith) (omega arith)) ws (visits_within more)))
+
+  one_within : {x : Extras} {r : Rules} {d k a : ℕ} {b : List ℕ} {vs : List Visited} → VisitsOne x r d k a b vs → All (IsWithin a (a + length b) k d) vs
+  one_within {k = k} {a = a} {b = b} {vs = vs} (primitive {d = d} c t h w y is e spells n out ev) = alone a k d b h w vs _ ev refl refl refl refl (ap length e ∙ length-append h w)
+  one_within {k = k} {a = a} {b = b} {vs = vs} (text {d = d} t h w is e keeps er it never ev) = alone a k d b h w vs _ ev refl refl refl refl (ap length e ∙ length-append h w)
+  one_within {k = k} {a = a} {b = b} {vs = vs} (string {d = d} t h w y u v us is e spells en holds vis ev) =
+      around a k d b h vs us _ ev refl refl (omega (arith, ap length e ∙ length-append h w)) (omega (arith, ap length e ∙ length-append h w)) refl (a + length h + length u) (a + length h + length u + length v) (omega arith)
+      (omega (arith, ap length e ∙ length-append h w, ap length holds.parts ∙ length-append u v)) (visits_within vis)
+  one_within {k = k} {a = a} {b = b} {vs = vs} (constructed {d = d} c t h w us is e may vis ev) =
+      around a k d b h vs us _ ev refl refl (omega (arith, ap length e ∙ length-append h w)) (omega (arith, ap length e ∙ length-append h w)) refl (a + length h) (a + length h + length w) (omega arith)
+      (omega (arith, ap length e ∙ length-append h w)) (visits_within vis)
+  one_within {k = k} {a = a} {b = b} {vs = vs} (indefinite {d = d} c t h w us is e may vis ev) =
+      let len = ap length e ∙ length-append (h ++ w) end_marker in
+      let hw = length-append h w in
+      around a k d b h vs us _ ev refl refl (omega (arith, len, hw)) tt refl (a + length h) (a + length h + length w) (omega arith) (omega (arith, len, hw)) (visits_within vis)

@@ -1,0 +1,123 @@
+-- What a walk visits, in preorder.
+use Rattle.std.specs.Prelude.{◌≡◌, ◌≢◌, ℕ, suc, ◌+◌, ◌/◌, ◌%◌, ◌^◌, ◌<◌, ◌⊎◌, Bool, true, false, not, ◌&&◌, ◌||◌, ◌==◌, nat_lt}
+use Rattle.std.specs.Prelude.{IsTrue, slice_index, Option, Some, None, List, [], ◌∷◌, ◌++◌, length}
+use Rattle.der_base.specs.declared.header.Class.{Class}
+use Rattle.der_base.specs.declared.header.Class.TheVariants.{Universal}
+use Rattle.der_base.specs.Octets.{identifier}
+use Rattle.der_base.specs.Spelling.{end_marker}
+use Rattle.der_base.specs.Text.{is_text_type}
+use Rattle.der_base.specs.Tree.{node, Content}
+use Rattle.der_check.specs.declared.rules.Rules.{Rules}
+use Rattle.der_check.specs.declared.rules.Rules.TheVariants.{Ber, Der}
+use Rattle.der_check.specs.Elements.{SpellsOne, SpellsLengthBy, MayBeConstructed, IsElement}
+
+-- an element that is visited
+pub record Visited : Type 0 where
+  -- where it begins, in octets from the start of the input
+  pub offset : ℕ
+  -- how many octets its header has
+  pub header : ℕ
+  -- how many octets its content has, if its length is definite (8.1.3)
+  pub length : Option ℕ
+  pub class : Class
+  pub constructed : Bool
+  pub number : ℕ
+  -- how many elements are around it
+  pub depth : ℕ
+  -- it is a string, whose content is an element that is visited next
+  pub holds_der : Bool
+  -- it is a text with a character that its type doesn't have (8.23)
+  pub has_other_characters : Bool
+
+-- what a walk visits besides the elements of X.690
+pub record Extras : Type 0 where
+  -- the element of DER that is the whole content of a string
+  pub enters_strings : Bool
+  -- by BER, a text with a character that its type doesn't have
+  pub keeps_texts : Bool
+
+-- nothing
+abbrev pub no_extras : Extras
+no_extras = record { enters_strings = false; keeps_texts = false }
+
+-- h is a header by these rules: identifier octets, and length octets, definite or not (8.1.2, 8.1.3)
+abbrev pub IsHeaderBy : Rules → Class → Bool → ℕ → Option ℕ → List ℕ → Type 0
+IsHeaderBy r c p t (Some n) h = (t < 2 ^ 32) × (s : List ℕ) × SpellsLengthBy r s n × (h ≡ identifier c p t ++ s)
+IsHeaderBy r c p t None h = (t < 2 ^ 32) × (r ≡ Ber) × (p ≡ true) × (h ≡ identifier c p t ++ 128 ∷ [])
+
+-- the element at this offset with so many around it, of this header and length
+abbrev pub visited : ℕ → ℕ → Class → Bool → ℕ → List ℕ → Option ℕ → Visited
+visited at k c p t h n = record {
+  offset = at;
+  header = length h;
+  length = n;
+  class = c;
+  constructed = p;
+  number = t;
+  depth = k;
+  holds_der = false;
+  has_other_characters = false;
+}
+
+-- the universal types whose octets spell characters (8.23)
+abbrev pub is_text : ℕ → Bool
+is_text t = is_text_type t || t == 30
+
+-- what is in front of the octets of a string: nothing in an OCTET STRING, and in a BIT STRING the octet that says that
+-- no bit is unused (8.6.2, 8.7)
+abbrev pub IsStringFront : ℕ → List ℕ → Type 0
+IsStringFront t u = ((t ≡ 4) × (u ≡ [])) ⊎ ((t ≡ 3) × (u ≡ 0 ∷ []))
+
+-- there is a first octet, that of an identifier which is universal or constructed and no end marker's (8.1.2.2, 8.1.2.5)
+abbrev pub begins_like_element : List ℕ → Bool
+begins_like_element v = let b = slice_index v 0 in not (b == 0) && (nat_lt b 64 || b / 32 % 2 == 1)
+
+-- w is the content of a string of this type: some octets, and then v, which is one element of DER to this depth
+pub record HoldsElement (d t : ℕ) (w u v : List ℕ) : Type 0 where
+  pub parts : w ≡ u ++ v
+  pub front : IsStringFront t u
+  pub begins : IsTrue (begins_like_element v)
+  pub element : IsElement Der d v
+
+-- a primitive element of this class, type and content isn't entered
+abbrev pub IsNotEntered : Extras → ℕ → Class → ℕ → List ℕ → Type 0
+IsNotEntered x d c t w = x.enters_strings ≡ true → c ≡ Universal → (u v : List ℕ) → ¬ HoldsElement d t w u v
+
+mutual
+  -- The octets i are elements by these rules to depth d, one after another. They begin at the offset a, with k elements
+  -- around them, and visited are vs.
+  pub data Visits (x : Extras) : Rules → ℕ → ℕ → ℕ → List ℕ → List Visited → Type 0 where
+    none : {r : Rules} {d k a : ℕ} → Visits x r d k a [] []
+    one_more : {r : Rules} {d k a : ℕ} {i : List ℕ} {vs : List Visited} (b rest : List ℕ) (us ws : List Visited)
+        → i ≡ b ++ rest → vs ≡ us ++ ws → VisitsOne x r d k a b us → Visits x r d k (a + length b) rest ws
+        → Visits x r d k a i vs
+
+  -- The octets b are one: it is visited first, and then those that are its content (8.1.4).
+  pub data VisitsOne (x : Extras) : Rules → ℕ → ℕ → ℕ → List ℕ → List Visited → Type 0 where
+    primitive : {r : Rules} {d k a : ℕ} {b : List ℕ} {vs : List Visited} (c : Class) (t : ℕ) (h w : List ℕ) (y : Content)
+        → IsHeaderBy r c false t (Some (length w)) h → b ≡ h ++ w → SpellsOne r b (node c false t y)
+        → (c ≡ Universal → t ≢ 0) → IsNotEntered x d c t w → vs ≡ visited a k c false t h (Some (length w)) ∷ []
+        → VisitsOne x r (suc d) k a b vs
+    text : {r : Rules} {d k a : ℕ} {b : List ℕ} {vs : List Visited} (t : ℕ) (h w : List ℕ)
+        → IsHeaderBy r Universal false t (Some (length w)) h → b ≡ h ++ w → x.keeps_texts ≡ true → r ≡ Ber
+        → IsTrue (is_text t) → ((y : Content) → ¬ SpellsOne r b (node Universal false t y))
+        → vs ≡ record (visited a k Universal false t h (Some (length w))) { has_other_characters = true } ∷ []
+        → VisitsOne x r (suc d) k a b vs
+    string : {r : Rules} {d k a : ℕ} {b : List ℕ} {vs : List Visited} (t : ℕ) (h w : List ℕ) (y : Content)
+        (u v : List ℕ) (us : List Visited)
+        → IsHeaderBy r Universal false t (Some (length w)) h → b ≡ h ++ w → SpellsOne r b (node Universal false t y)
+        → x.enters_strings ≡ true → HoldsElement d t w u v
+        → Visits x Der d (suc k) (a + length h + length u) v us
+        → vs ≡ record (visited a k Universal false t h (Some (length w))) { holds_der = true } ∷ us
+        → VisitsOne x r (suc d) k a b vs
+    constructed : {r : Rules} {d k a : ℕ} {b : List ℕ} {vs : List Visited} (c : Class) (t : ℕ) (h w : List ℕ)
+        (us : List Visited)
+        → IsHeaderBy r c true t (Some (length w)) h → b ≡ h ++ w → MayBeConstructed r c t
+        → Visits x r d (suc k) (a + length h) w us
+        → vs ≡ visited a k c true t h (Some (length w)) ∷ us → VisitsOne x r (suc d) k a b vs
+    -- an end marker follows the content (8.1.3.6)
+    indefinite : {r : Rules} {d k a : ℕ} {b : List ℕ} {vs : List Visited} (c : Class) (t : ℕ) (h w : List ℕ)
+        (us : List Visited)
+        → IsHeaderBy r c true t None h → b ≡ h ++ w ++ end_marker → MayBeConstructed r c t
+        → Visits x r d (suc k) (a + length h) w us
+        → vs ≡ visited a k c true t h None ∷ us → VisitsOne x r (suc d) k a b vs

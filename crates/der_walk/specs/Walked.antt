@@ -1,0 +1,88 @@
+-- How far a walk has come.
+use Rattle.std.specs.Prelude.{◌≡◌, ℕ, suc, ◌+◌, ◌-◌, ◌≤◌, ◌⊎◌, Bool, true, false, Option, Some, None, IfSome, IsSome}
+use Rattle.std.specs.Prelude.{List, [], ◌∷◌, ◌++◌, length, take, drop, Result, Ok, Err}
+use Rattle.der_base.specs.Octets.{identifier}
+use Rattle.der_base.specs.Spelling.{end_marker}
+use Rattle.der_check.specs.declared.rules.Rules.{Rules}
+use Rattle.der_walk.specs.declared.content.Open.{Open}
+use Rattle.der_walk.specs.declared.element.Element.{Element}
+use Rattle.der_walk.specs.declared.refusal.Refusal.{Refusal}
+use Rattle.der_walk.specs.declared.walk.Walk.{Walk}
+use Rattle.der_walk.specs.Visits.{Visited, Extras, Visits, VisitsOne}
+
+-- what is visited of an element
+abbrev pub visited_of : Element → Visited
+visited_of e = record {
+  offset = e.offset;
+  header = e.header;
+  length = e.length;
+  class = e.class;
+  constructed = e.constructed;
+  number = e.number;
+  depth = e.depth;
+  holds_der = e.holds_der;
+  has_other_characters = e.has_other_characters;
+}
+
+-- the octets of i from an offset up to another
+abbrev pub between : List ℕ → ℕ → ℕ → List ℕ
+between i a n = take (n - a) (drop a i)
+
+-- A content with this end ends here, and what is around it goes on there: after an end marker, if it has one (8.1.3.6).
+abbrev pub EndsAt : List ℕ → ℕ → Bool → ℕ → ℕ → Type 0
+EndsAt i e m at after = ((m ≡ false) × (at ≡ e) × (after ≡ at))
+    ⊎ ((m ≡ true) × (after ≡ at + 2) × (between i at after ≡ end_marker))
+
+-- The element v begins at an offset, by the rules r and with k elements around it. Its content begins at `first` and is
+-- read by the rules s. Where that ends, v and what is inside were visited, and are all of the element.
+pub record IsOpen (x : Extras) (i : List ℕ) (r : Rules) (d k start first : ℕ) (s : Rules) (e : ℕ) (m : Bool) (v : Visited)
+    : Type 0 where
+  pub closes : (at after : ℕ) (us : List Visited) → EndsAt i e m at after → first ≤ at → after ≤ length i
+      → Visits x s d (suc k) first (between i first at) us
+      → VisitsOne x r (suc d) k start (between i start after) (v ∷ us)
+  pub begins : start ≤ first
+
+-- What was visited up to an offset, where these elements are open, the outermost first. The content there is read by
+-- the rules s, ends at e at the latest, and has an end marker or none.
+pub data HasWalked (x : Extras) (r : Rules) (i : List ℕ)
+    : ℕ → List Open → Rules → ℕ → Bool → ℕ → List Visited → Type 0 where
+  outermost : {d : ℕ} {opens : List Open} {s : Rules} {e : ℕ} {m : Bool} {at : ℕ} {vs : List Visited}
+      → d ≡ 101 → opens ≡ [] → s ≡ r → length i ≤ e → at ≤ length i
+      → Visits x r d 0 0 (between i 0 at) vs → HasWalked x r i d opens s e m at vs
+  inside : {d : ℕ} {opens : List Open} {s : Rules} {e : ℕ} {m : Bool} {at : ℕ} {vs : List Visited}
+      (outer : List Open) (o : Open) (start first : ℕ) (before us : List Visited) (v : Visited)
+      → opens ≡ outer ++ o ∷ []
+      → HasWalked x r i (suc d) outer o.around.rules o.around.end o.around.has_marker start before
+      → IsOpen x i o.around.rules d (length outer) start first s e m v
+      → e ≤ o.around.end → first ≤ at → at ≤ e → at ≤ length i
+      → Visits x s d (suc (length outer)) first (between i first at) us
+      → vs ≡ before ++ v ∷ us → HasWalked x r i d opens s e m at vs
+
+-- a walk through i by these rules has visited vs so far
+pub record HasVisited (x : Extras) (r : Rules) (i : List ℕ) (w : Walk) (vs : List Visited) : Type 0 where
+  pub input : w.input.now ≡ i
+  pub enters : w.enters_strings ≡ x.enters_strings
+  pub keeps : w.keeps_texts ≡ x.keeps_texts
+  pub depth : ℕ
+  pub walked : HasWalked x r i depth w.open.items w.content.rules w.content.end w.content.has_marker w.at vs
+
+-- the second walk has visited all that the first had
+abbrev pub KeepsVisited : Walk → Walk → Type 0
+KeepsVisited w w' = (x : Extras) (r : Rules) (i : List ℕ) (vs : List Visited) → HasVisited x r i w vs → HasVisited x r i w' vs
+
+-- the octets of an element are those in the input
+pub record HasOctets (i : List ℕ) (e : Element) : Type 0 where
+  -- the identifier octets (8.1.2)
+  pub identifier : e.identifier.now ≡ identifier e.class e.constructed e.number
+  -- the content octets, if there are any
+  pub content : IfSome e.content (λ w. (e.length ≡ Some (length w.now))
+      × (w.now ≡ between i (e.offset + e.header) (e.offset + e.header + length w.now)))
+  -- a primitive element has them
+  pub primitive : e.constructed ≡ false → IsSome e.content
+
+-- After vs the walk visits one more element, or there is none: then the input is elements, and these were all that is
+-- visited of them.
+abbrev pub VisitsNext : Extras → Rules → List ℕ → List Visited → Walk → Result (Option Element) Refusal → Type 0
+VisitsNext x r i vs w (Ok (Some e)) = HasVisited x r i w (vs ++ visited_of e ∷ []) × HasOctets i e
+VisitsNext x r i vs w (Ok None) = Visits x r 101 0 0 i vs
+VisitsNext x r i vs w (Err _) = HasVisited x r i w vs

@@ -1,0 +1,12 @@
+//! Laws of what a walk visits. Each function has a law as its contract and an empty body.
+ghost use Rattle.der_walk.specs.Laws.{VisitsElements, VisitsWithin};
+
+/// What is visited without texts that have other characters is elements.
+pub fn visits_elements()
+    ensures { VisitsElements }
+{}
+
+/// The header and the content of each element that is visited lie within the octets, and not deeper than the depth.
+pub fn visits_within()
+    ensures { VisitsWithin }
+{}
