@@ -60,7 +60,8 @@ table != "" && /^\];/ {
 table != "" && $0 != "" {
     if (/^    \(/) started[table]++
     text = text $0
-    if (/^    .*\),$/ && is_balanced(text)) {
+    if (/^    .*\),$/ && groups_of(text) > 0) {
+        if (groups_of(text) > 1) fail("two rows in a line")
         row[table, ++rows[table]] = text
         text = ""
     }
@@ -157,9 +158,17 @@ function without_texts(line,    rest) {
     return rest line
 }
 
-function is_balanced(line) {
+# How many groups in parentheses follow one another, or 0 if one has no end.
+function groups_of(line,    i, octet, depth, groups) {
     line = without_texts(line)
-    return gsub(/\(/, "", line) == gsub(/\)/, "", line)
+    depth = 0
+    groups = 0
+    for (i = 1; i <= length(line); i++) {
+        octet = substr(line, i, 1)
+        if (octet == "(") depth++
+        if (octet == ")" && --depth == 0) groups++
+    }
+    return depth == 0 ? groups : 0
 }
 
 function print_row(rules, depth, line,    plain, parts, answer, octets, name, number) {
