@@ -9,7 +9,7 @@ use Rattle.der_base.specs.declared.error.Needed.TheVariants.{Unknown, Size}
 use Rattle.der_base.specs.declared.header.Header.{Header}
 use Rattle.der_base.specs.declared.header.Length.TheVariants.{Definite, Indefinite}
 use Rattle.der_base.specs.Any.{AnyAnswer, AnswersAny, AnswersDerAny, ReadsAny, ReadsDerAny}
-use Rattle.der_base.specs.Header.{class_of, is_constructed, length_of, number_of}
+use Rattle.der_base.specs.Header.{class_of, is_constructed, number_of}
 use Rattle.der_base.specs.Headers.{LeadingHeader, ReadsDerHeader, ReadsHeader, SpellsDerHeader, SpellsHeader, leading_header}
 use Rattle.der_base.specs.Octets.{identifier, shortest_length}
 use Rattle.der_base.specs.Spelling.{BeginsWithElement, end_marker, framing_budget}
