@@ -205,7 +205,7 @@ function print_row(rules, depth, line,    plain, parts, answer, octets, name, nu
     } else {
         fail("an answer: " plain)
     }
-    printf " %s %s\n", octets == "" ? "-" : octets, name
+    printf " %s %s\n", (octets == "" ? "-" : octets), name
     printed++
 }
 
@@ -219,7 +219,7 @@ function print_header(rules, depth, plain,    path, size) {
     if (match(plain, /Definite\([0-9]+\)/)) size = substr(plain, RSTART + 9, RLENGTH - 10)
     else if (plain !~ /Indefinite/) fail("a length: " plain)
     printf "%s %s header %s %s", rules, depth, octets_of(taken[2]), size
-    printf " %s %s\n", octets_of(taken[1]), path == "" ? "-" : path
+    printf " %s %s\n", octets_of(taken[1]), (path == "" ? "-" : path)
     printed++
 }
 
