@@ -138,12 +138,10 @@ impl Rules {
     }
 }
 
-/// How many elements there are likely to be at most. An element has two octets at least, and three if it isn't empty.
-/// No more than 65,536, which have 2.5 MiB: an element may be one long string.
+/// How many elements there are likely to be at most: an element that isn't empty has three octets. No more than 65,536,
+/// which have 2.5 MiB: an element may be one long string.
 fn likely_elements(input: &[u8]) -> usize {
-    let length = likely_length(input);
-    let most = length.min(1 << 10) / 2;
-    most.max(length / 3).min(1 << 16) + 1
+    (likely_length(input) / 3 + 2).min(1 << 16)
 }
 
 /// How many octets the first element is likely to have after its header. What follows it needs no room.
