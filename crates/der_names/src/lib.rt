@@ -1,86 +1,85 @@
 //! The names of object identifiers.
 #![tactic(auto)]
 
-ghost use Rattle.std.specs.Prelude.{◌<◌};
+ghost use Rattle.std.specs.Prelude.{◌≡◌, ◌≤◌, ◌++◌, ◌∷◌, IfSome, length, take};
+ghost use Rattle.hex.specs.Hex.{encode_lower};
+ghost use Rattle.der_names.specs.Tables.{EndsLine, HasLine, Splits};
 
 mod table;
+#[cfg(test)]
+mod tests;
 
-use std::cmp::Ordering;
+use memchr::{memchr, memrchr};
 use std::str;
 use table::NAMES;
 
 /// The most halvings of the table.
 const HALVINGS: u32 = 32;
 
+/// The most hexadecimal digits of an identifier that has a name.
+const DIGITS: usize = 128;
+
 /// The name of the object identifier with these content octets (X.690 8.19), if it has one.
-pub fn name_of(octets: &[u8]) -> Option<&'static str> {
-    let mut lines = NAMES.as_bytes();
-    for _ in 0..HALVINGS {
+pub fn name_of(octets: &[u8]) -> Option<&'static str>
+    ensures { IfSome result (λ name. HasLine NAMES.now (encode_lower octets.now ++ 0x20 ∷ name.now)) }
+{
+    let mut room = [0; DIGITS];
+    let digits = room.get_mut(..octets.len().checked_mul(2)?)?;
+    match hex::encode_to_slice(octets, digits) {
+        Ok(()) => find_name(NAMES.as_bytes(), digits),
+        Err(_) => None,
+    }
+}
+
+/// The name on the line of a table that begins with these digits and a space, if there is one. The lines are
+/// in ascending order.
+fn find_name<'a>(table: &'a [u8], digits: &[u8]) -> Option<&'a str>
+    ensures { IfSome result (λ name. HasLine table.now (digits.now ++ 0x20 ∷ name.now)) }
+{
+    let mut lines = table;
+    'halvings: for _ in 0..HALVINGS {
         let (before, line, after) = middle_line(lines)?;
-        let (digits, name) = split_at_space(line)?;
-        match compare(digits, octets) {
-            Ordering::Equal => return str::from_utf8(name).ok(),
-            Ordering::Less => lines = after,
-            Ordering::Greater => lines = before,
+        let (first, name) = split_once(line, b' ')?;
+        if first == digits {
+            return text_of(name);
         }
+        lines = if first < digits { after } else { before };
     }
     None
 }
 
-/// The line in the middle, and the lines before and after it. None if there is no line.
-fn middle_line(lines: &[u8]) -> Option<(&[u8], &[u8], &[u8])> {
-    let (first, second) = lines.split_at_checked(lines.len() / 2)?;
-    let begin = match first.iter().rposition(|octet| *octet == b'\n') {
-        Some(place) => place.saturating_add(1),
-        None => 0,
-    };
-    let end = second.iter().position(|octet| *octet == b'\n')?;
-    let end = end.saturating_add(first.len());
-    let line = lines.get(begin..end)?;
-    let after = lines.get(end.saturating_add(1)..)?;
-    Some((lines.get(..begin)?, line, after))
-}
-
-/// The digits and the name of a line.
-fn split_at_space(line: &[u8]) -> Option<(&[u8], &[u8])> {
-    let place = line.iter().position(|octet| *octet == b' ')?;
-    Some((line.get(..place)?, line.get(place.saturating_add(1)..)?))
-}
-
-/// The order of octets in hexadecimal digits and other octets.
-fn compare(digits: &[u8], octets: &[u8]) -> Ordering {
-    let mut others = octets.iter();
-    for pair in digits.chunks_exact(2) {
-        let Some(octet) = others.next() else {
-            return Ordering::Greater;
-        };
-        match value_of(pair).cmp(octet) {
-            Ordering::Equal => {}
-            order => return order,
-        }
-    }
-    if others.next().is_some() {
-        Ordering::Less
-    } else {
-        Ordering::Equal
-    }
-}
-
-/// The octet that two hexadecimal digits write.
-fn value_of(pair: &[u8]) -> u8 {
-    match pair {
-        [high, low] => digit_value(*high) * 16 + digit_value(*low),
-        _ => 0,
-    }
-}
-
-/// The value of a hexadecimal digit, and 0 for any other octet.
-fn digit_value(digit: u8) -> u8
-    ensures { result < 16 }
+/// The text, if octets are UTF-8.
+fn text_of(octets: &[u8]) -> Option<&str>
+    ensures { IfSome result (λ text. text.now ≡ octets.now) }
 {
-    match digit {
-        b'0'..=b'9' => digit - b'0',
-        b'a'..=b'f' => digit - b'a' + 10,
-        _ => 0,
+    str::from_utf8(octets).ok()
+}
+
+/// The line in the middle, and the lines before and after it. None if there is no line.
+fn middle_line(lines: &[u8]) -> Option<(&[u8], &[u8], &[u8])>
+    ensures { IfSome result (λ x. Splits lines.now x.0.now x.1.now x.2.now) }
+{
+    let begin = last_begin(&lines[..lines.len() / 2]);
+    let (before, rest) = lines.split_at(begin);
+    let (line, after) = split_once(rest, b'\n')?;
+    Some((before, line, after))
+}
+
+/// Where the last line begins.
+fn last_begin(lines: &[u8]) -> usize
+    ensures within { result ≤ length lines.now }
+    ensures begins { EndsLine (take result lines.now) }
+{
+    match memrchr(b'\n', lines) {
+        Some(place) => place + 1,
+        None => 0,
     }
+}
+
+/// What is before and after an octet, where it is first.
+fn split_once(text: &[u8], octet: u8) -> Option<(&[u8], &[u8])>
+    ensures { IfSome result (λ x. text.now ≡ x.0.now ++ octet ∷ x.1.now) }
+{
+    let place = memchr(octet, text)?;
+    Some((&text[..place], &text[place + 1..]))
 }
