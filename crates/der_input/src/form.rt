@@ -1,4 +1,8 @@
 //! How an input is written, found by a look at it.
+ghost use Rattle.std.specs.Prelude.{◌≡◌, ◌↔◌, IfOk, IsTrue};
+ghost use Rattle.std.specs.List.{list_all, list_any};
+ghost use Rattle.der_input.specs.Forms.{FindsForm, IsText, is_base64, is_control, is_hex};
+
 use crate::error::FormError;
 use crate::pem::BEGIN;
 use bstr::ByteSlice;
@@ -31,11 +35,10 @@ const OTHER_KINDS: [(&[u8], &str); 9] = [
 ];
 
 /// How an input is written: as text that is PEM, hexadecimal digits or base64, or as octets.
-pub fn form_of(input: &[u8]) -> Result<Form, FormError> {
-    if let Some((_, kind)) = OTHER_KINDS
-        .iter()
-        .find(|(octets, _)| input.starts_with(octets))
-    {
+pub fn form_of(input: &[u8]) -> Result<Form, FormError>
+    ensures { IfOk result (FindsForm input.now) }
+{
+    if let Some(kind) = other_kind(input) {
         return Err(FormError::LooksLike(kind));
     }
     if input.contains_str(BEGIN) {
@@ -44,27 +47,72 @@ pub fn form_of(input: &[u8]) -> Result<Form, FormError> {
     if !is_text(input) {
         return Ok(Form::Der);
     }
-    if input.iter().all(|octet| is_hex(*octet)) {
+    if are_hex(input) {
         return Ok(Form::Hex);
     }
-    if input.iter().all(|octet| is_base64(*octet)) {
+    if are_base64(input) {
         return Ok(Form::Base64);
     }
     Err(FormError::LooksLike("a text file"))
 }
 
-/// Whether octets are UTF-8 without control characters but those of white space.
-fn is_text(input: &[u8]) -> bool {
-    let has_controls = input.iter().any(|octet| matches!(*octet, 0..=8 | 0x0b..=0x1f | 0x7f)
-        && *octet != b'\r');
-    !input.is_empty() && !has_controls && str::from_utf8(input).is_ok()
+/// The kind of a file of another kind.
+fn other_kind(input: &[u8]) -> Option<&'static str> {
+    let (_, kind) = OTHER_KINDS
+        .iter()
+        .find(|(octets, _)| input.starts_with(octets))?;
+    Some(kind)
 }
 
-fn is_hex(octet: u8) -> bool {
+/// Whether octets are UTF-8 without control characters but those of white space.
+fn is_text(input: &[u8]) -> bool
+    ensures { IsTrue result ↔ IsText input.now }
+{
+    if input.is_empty() {
+        return false;
+    }
+    if has_controls(input) {
+        return false;
+    }
+    str::from_utf8(input).is_ok()
+}
+
+/// Whether there is a control character that isn't white space.
+fn has_controls(input: &[u8]) -> bool
+    ensures { result ≡ list_any is_control input.now }
+{
+    input.iter().any(|octet| is_control(*octet))
+}
+
+/// Whether octets are hexadecimal digits, white space and colons.
+fn are_hex(input: &[u8]) -> bool
+    ensures { result ≡ list_all is_hex input.now }
+{
+    input.iter().all(|octet| is_hex(*octet))
+}
+
+/// Whether octets are characters of base64 and white space.
+fn are_base64(input: &[u8]) -> bool
+    ensures { result ≡ list_all is_base64 input.now }
+{
+    input.iter().all(|octet| is_base64(*octet))
+}
+
+fn is_control(octet: u8) -> bool
+    ensures { result ≡ is_control octet }
+{
+    octet.is_ascii_control() && !matches!(octet, b'\t' | b'\n' | b'\r')
+}
+
+fn is_hex(octet: u8) -> bool
+    ensures { result ≡ is_hex octet }
+{
     octet.is_ascii_hexdigit() || octet.is_ascii_whitespace() || octet == b':'
 }
 
-fn is_base64(octet: u8) -> bool {
+fn is_base64(octet: u8) -> bool
+    ensures { result ≡ is_base64 octet }
+{
     octet.is_ascii_alphanumeric()
         || octet.is_ascii_whitespace()
         || matches!(octet, b'+' | b'/' | b'=')

@@ -1,4 +1,9 @@
 //! Blocks of PEM (RFC 7468), with text around them.
+ghost use Rattle.std.specs.Prelude.{IfOk, MatchOption};
+ghost use Rattle.bstr.specs.Text.{Contains};
+ghost use Rattle.der_input.specs.Blocks.{BeginsWithBlock, SplitsRound, label_of, lines_of};
+ghost use Rattle.der_input.specs.Forms.{HasNoBlock};
+
 use crate::error::FormError;
 use crate::plain::decode_base64;
 use bstr::ByteSlice;
@@ -35,19 +40,33 @@ impl Block<'_> {
 
 /// The first block of a text, and the text after it. None if no block begins. Octets before the block may
 /// be of any encoding.
-pub fn next_block(text: &[u8]) -> Result<Option<(Block<'_>, &[u8])>, FormError> {
-    let Some((_, block)) = text.split_once_str(BEGIN) else {
+pub fn next_block(text: &[u8]) -> Result<Option<(Block<'_>, &[u8])>, FormError>
+    ensures { IfOk result (λ found. MatchOption found
+        (HasNoBlock text.now)
+        (λ x. BeginsWithBlock text.now (label_of x.0) (lines_of x.0) x.1.now)) }
+{
+    let Some((_, block)) = split_round(text, BEGIN) else {
         return Ok(None);
     };
-    let Some((label, rest)) = block.split_once_str(DASHES) else {
+    let Some((label, opened)) = split_round(block, DASHES) else {
         return Err(FormError::NoEnd);
     };
-    let Some((lines, rest)) = rest.split_once_str(END) else {
+    let Some((lines, end)) = split_round(opened, END) else {
         return Err(FormError::NoEnd);
     };
-    match rest.split_once_str(DASHES) {
-        Some((end, rest)) if end == label => Ok(Some((Block { label, lines }, rest))),
+    match split_round(end, DASHES) {
+        Some((last, rest)) if last == label => Ok(Some((Block { label, lines }, rest))),
         Some(_) => Err(FormError::LabelsDiffer),
         None => Err(FormError::NoEnd),
     }
+}
+
+/// What is before and after the first place where a needle occurs.
+fn split_round<'a>(text: &'a [u8], needle: &[u8]) -> Option<(&'a [u8], &'a [u8])>
+    ensures { MatchOption result (¬ Contains text.now needle.now) (λ x. SplitsRound text.now needle.now x.0.now x.1.now) }
+{
+    let place = text.find(needle)?;
+    let (before, rest) = text.split_at(place);
+    let (_, after) = rest.split_at(needle.len());
+    Some((before, after))
 }
