@@ -6,7 +6,7 @@
 
 static int passed, failed;
 
-/* The texts are those of the errors of der_base, without the values that an error keeps. */
+/* The texts are those of the errors of der_base, without the values that an error keeps, and of dm_write_der. */
 static const struct {
     enum dm_error error;
     const char *text;
@@ -41,6 +41,11 @@ static const struct {
     {DM_ERROR_FRACTION_NOT_MINIMAL, "DER constraint failed: fraction not minimal"},
     {DM_ERROR_UNUSED_BITS_NOT_ZERO, "DER constraint failed: unused bits not zero"},
     {DM_ERROR_SET_OUT_OF_ORDER, "DER constraint failed: set out of order"},
+    {DM_ERROR_NO_END_MARKER, "no end-of-contents octets after an indefinite length"},
+    {DM_ERROR_STRAY_END_MARKER, "end-of-contents octets where no indefinite length ends"},
+    {DM_ERROR_PART_OF_ANOTHER_TYPE, "part of a constructed string has another type"},
+    {DM_ERROR_UNUSED_BITS_INSIDE, "unused bits in a part of a BIT STRING that isn't the last"},
+    {DM_ERROR_NOT_DER, "no elements of DER"},
 };
 
 static void expect_text(uint32_t error, const char *text) {

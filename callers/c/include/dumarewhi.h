@@ -127,7 +127,13 @@ enum dm_error {
     DM_ERROR_MISSING_SECONDS = 40,
     DM_ERROR_FRACTION_NOT_MINIMAL = 41,
     DM_ERROR_UNUSED_BITS_NOT_ZERO = 42,
-    DM_ERROR_SET_OUT_OF_ORDER = 43
+    DM_ERROR_SET_OUT_OF_ORDER = 43,
+    /* of dm_write_der alone */
+    DM_ERROR_NO_END_MARKER = 48,
+    DM_ERROR_STRAY_END_MARKER = 49,
+    DM_ERROR_PART_OF_ANOTHER_TYPE = 50,
+    DM_ERROR_UNUSED_BITS_INSIDE = 51,
+    DM_ERROR_NOT_DER = 52
 };
 
 /* Writes the first `room` octets of the text of an error, without a 0 after it. Returns the length of the text. */

@@ -181,6 +181,11 @@ reasons! {
     FRACTION_NOT_MINIMAL = 41, "DER constraint failed: fraction not minimal";
     UNUSED_BITS_NOT_ZERO = 42, "DER constraint failed: unused bits not zero";
     SET_OUT_OF_ORDER = 43, "DER constraint failed: set out of order";
+    NO_END_MARKER = 48, "no end-of-contents octets after an indefinite length";
+    STRAY_END_MARKER = 49, "end-of-contents octets where no indefinite length ends";
+    PART_OF_ANOTHER_TYPE = 50, "part of a constructed string has another type";
+    UNUSED_BITS_INSIDE = 51, "unused bits in a part of a BIT STRING that isn't the last";
+    NOT_DER = 52, "no elements of DER";
 }
 
 impl Reason {
