@@ -105,7 +105,7 @@ text_no_string t d w u v it h =
     (λ z. absurd (let q : false ≡ true = subst (λ n. IsTrue (is_text n)) z.0 it in cc))
     h.front
 
-text_not_zero : (t : ℕ) → IsTrue (is_text t) → t ≢ 0
+pub text_not_zero : (t : ℕ) → IsTrue (is_text t) → t ≢ 0
 text_not_zero t it z = absurd (let q : false ≡ true = subst (λ n. IsTrue (is_text n)) z it in cc)
 
 pub reads : (x : Extras) (r : Rules) (i : List ℕ) (y : Bor (List ℕ) × Header) (at k : ℕ) (e : Element) → AnswersHeader r i (Ok y) → StartsWith y.1 (length i - length y.0.now) at k e
@@ -209,7 +209,7 @@ starts_again h o at k e c holds other s = record {
   identifier = s.identifier;
 }
 
-pub reads_here : (w : Walk) (i : List ℕ) (y : Bor (List ℕ) × Header) (e : Element) → AnswersHeader w.content.rules i (Ok y) → StartsWith y.1 (length i - length y.0.now) w.at (length w.open.items) e
+pub reads_here : (w : Walk) (i : List ℕ) (y : Bor (List ℕ) × Header) (e : Element) → AnswersHeader w.content.rules i (Ok y) → StartsWith y.1 (length i - length y.0.now) w.at (length w.opened.items) e
     → FindsContent e y.0.now e.content → IfSome e.length (λ n. n ≤ w.content.end - (e.offset + e.header)) → IsChecked w.keeps_texts w.content.rules i e e.has_other_characters
     → IsTrue e.holds_der ↔ ((w.enters_strings ≡ true) × Holds e) → e.depth ≤ 100 → ReadsHere w i e
 reads_here w i y e a s f room checks holds shallow = record {
@@ -218,6 +218,6 @@ reads_here w i y e a s f room checks holds shallow = record {
   shallow = shallow;
   fits = omega (arith, s.header);
   room = room;
-  read = reads (extras_of w) w.content.rules i y w.at (length w.open.items) e a s f checks holds;
-  octets = octets_here w.content.rules i y w.at (length w.open.items) e a s f;
+  read = reads (extras_of w) w.content.rules i y w.at (length w.opened.items) e a s f checks holds;
+  octets = octets_here w.content.rules i y w.at (length w.opened.items) e a s f;
 }

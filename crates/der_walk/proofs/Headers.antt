@@ -94,16 +94,9 @@ spelled : (r : Rules) (i : List ℕ) (y : Bor (List ℕ) × ℕ) → AnswersOneE
 spelled Ber i y a = let (o, (b, e, s), n) = a.found in (o, b, e, s)
 spelled Der i y a = let (o, (b, e, s), n) = a.found in (o, b, e, s)
 
-same_header : (r : Rules) (i : List ℕ) (x : Bor (List ℕ) × Header) → AnswersHeader r i (Ok x) → is_constructed x.1 ≡ false
-    → (b rest : List ℕ) (c : Class) (p : Bool) (t : ℕ) (z : Content) → i ≡ b ++ rest → SpellsOne r b (node c p t z) → Checked r i (class_of x.1) (number_of x.1) (length_of x.1) x.0.now
-same_header r i x a ep b rest c p t z e s =
-    let k = spells_identifier r b c p t z s in
-    let d = header_identifier r i (leading_header x) (header_read r i x a) in
-    let q = identifier_same c (class_of x.1) p (is_constructed x.1) t (number_of x.1) (k.0 ++ rest) d.0 (sym (in_front i b k.0 rest c p t e k.1) ∙ d.1) in
-    let s1 = subst (λ v. SpellsOne r b (node c v t z)) (q.1 ∙ ep) s in
-    let s2 = subst (λ v. SpellsOne r b (node v false t z)) q.0 s1 in
-    let s3 : SpellsOne r b (node (class_of x.1) false (number_of x.1) z) = subst (λ v. SpellsOne r b (node (class_of x.1) false v z)) q.2 s2 in
-    let g = one_parts r b (class_of x.1) (number_of x.1) z s3 in
+of_parts : (r : Rules) (i : List ℕ) (x : Bor (List ℕ) × Header) → AnswersHeader r i (Ok x) → (b rest : List ℕ) (z : Content) → i ≡ b ++ rest → OneParts r b (class_of x.1) (number_of x.1) → SpellsOne r b (node (class_of x.1) false (number_of x.1) z)
+    → Checked r i (class_of x.1) (number_of x.1) (length_of x.1) x.0.now
+of_parts r i x a b rest z e g s =
     let split : i ≡ g.octets ++ (g.content ++ rest) = e ∙ ap (λ l. l ++ rest) g.split ∙ append_assoc g.octets g.content rest in
     let same = header_only r i x _ a (spells_parts r i (class_of x.1) false (number_of x.1) (length g.content) g.octets (g.content ++ rest) g.is split) in
     record {
@@ -115,8 +108,19 @@ same_header r i x a ep b rest c p t z e s =
       behind_is = ap (λ v. v.rest) same;
       is = g.is;
       length_is = ap (λ v. v.length) same;
-      spells = subst (λ l. SpellsOne r l (node (class_of x.1) false (number_of x.1) z)) g.split s3;
+      spells = subst (λ l. SpellsOne r l (node (class_of x.1) false (number_of x.1) z)) g.split s;
     }
+
+same_header : (r : Rules) (i : List ℕ) (x : Bor (List ℕ) × Header) → AnswersHeader r i (Ok x) → is_constructed x.1 ≡ false
+    → (b rest : List ℕ) (c : Class) (p : Bool) (t : ℕ) (z : Content) → i ≡ b ++ rest → SpellsOne r b (node c p t z) → Checked r i (class_of x.1) (number_of x.1) (length_of x.1) x.0.now
+same_header r i x a ep b rest c p t z e s =
+    let k = spells_identifier r b c p t z s in
+    let d = header_identifier r i (leading_header x) (header_read r i x a) in
+    let q = identifier_same c (class_of x.1) p (is_constructed x.1) t (number_of x.1) (k.0 ++ rest) d.0 (sym (in_front i b k.0 rest c p t e k.1) ∙ d.1) in
+    let s1 = subst (λ v. SpellsOne r b (node c v t z)) (q.1 ∙ ep) s in
+    let s2 = subst (λ v. SpellsOne r b (node v false t z)) q.0 s1 in
+    let s3 : SpellsOne r b (node (class_of x.1) false (number_of x.1) z) = subst (λ v. SpellsOne r b (node (class_of x.1) false v z)) q.2 s2 in
+    of_parts r i x a b rest z e (one_parts r b (class_of x.1) (number_of x.1) z s3) s3
 
 pub checked : (r : Rules) (i : List ℕ) (x : Bor (List ℕ) × Header) (y : Bor (List ℕ) × ℕ) → AnswersHeader r i (Ok x) → is_constructed x.1 ≡ false → AnswersOneElement r i (Ok y)
     → Checked r i (class_of x.1) (number_of x.1) (length_of x.1) x.0.now

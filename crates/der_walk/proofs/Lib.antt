@@ -2,6 +2,7 @@ pub mod Between
 pub mod ElementReads
 pub mod Headers
 pub mod Next
+pub mod OneVisit
 pub mod Steps
 pub mod Strings
 pub mod VisitedElements

@@ -116,7 +116,7 @@ moved x r i d opens opens' s s' e e' m m' at at' vs p1 p2 p3 p4 p5 w =
 -- what a walk knows of the element that it read
 pub record Reads (x : Extras) (w : Walk) (i : List ℕ) (e : Element) : Type 0 where
   pub offset : e.offset ≡ w.at
-  pub depth : e.depth ≡ length w.open.items
+  pub depth : e.depth ≡ length w.opened.items
   pub shallow : e.depth ≤ 100
   pub bounded : end_from (e.offset + e.header) w.content.end e.length ≤ w.content.end
   pub read : IsRead x w.content.rules (100 - e.depth) (between i w.at (min w.content.end (length i))) e
@@ -127,8 +127,8 @@ passes x r i w w' vs e has reads pass = of reads.read pass
     deep : has.depth ≡ suc (100 - e.depth)
     deep = omega (arith, open_depth has.walked, reads.depth, reads.shallow)
 
-    walked : HasWalked x r i (suc (100 - e.depth)) w.open.items w.content.rules w.content.end w.content.has_marker w.at vs
-    walked = subst (λ d. HasWalked x r i d w.open.items w.content.rules w.content.end w.content.has_marker w.at vs) deep has.walked
+    walked : HasWalked x r i (suc (100 - e.depth)) w.opened.items w.content.rules w.content.end w.content.has_marker w.at vs
+    walked = subst (λ d. HasWalked x r i d w.opened.items w.content.rules w.content.end w.content.has_marker w.at vs) deep has.walked
 
     limit : ℕ
     limit = min w.content.end (length i)
@@ -143,8 +143,8 @@ passes x r i w w' vs e has reads pass = of reads.read pass
         let here : between i w.at n ≡ h ++ b = front_between i w.at limit (h ++ b) rest split in
         let inside : n ≤ limit = front_within i w.at limit (h ++ b) rest there (omega arith) split in
         let one1 = subst (λ k. VisitsOne x w.content.rules (suc (100 - e.depth)) k e.offset (h ++ b) (visited_of e ∷ [])) reads.depth one in
-        let one2 = subst (λ k. VisitsOne x w.content.rules (suc (100 - e.depth)) (length w.open.items) k (h ++ b) (visited_of e ∷ [])) reads.offset one1 in
-        let one3 = subst (λ l. VisitsOne x w.content.rules (suc (100 - e.depth)) (length w.open.items) w.at l (visited_of e ∷ [])) (sym here) one2 in
+        let one2 = subst (λ k. VisitsOne x w.content.rules (suc (100 - e.depth)) (length w.opened.items) k (h ++ b) (visited_of e ∷ [])) reads.offset one1 in
+        let one3 = subst (λ l. VisitsOne x w.content.rules (suc (100 - e.depth)) (length w.opened.items) w.at l (visited_of e ∷ [])) (sym here) one2 in
         let next = advance n (visited_of e ∷ []) walked one3 (omega arith) (omega arith) (omega arith) in
         let end : w'.at ≡ n = g.at ∙ ap (λ l. end_from (e.offset + e.header) w.content.end l) el ∙ (let q = length-append h b in let z = reads.offset in omega (arith, eh, q, z)) in
         record {
@@ -152,24 +152,24 @@ passes x r i w w' vs e has reads pass = of reads.read pass
           enters = g.enters ∙ has.enters;
           keeps = g.keeps ∙ has.keeps;
           depth = suc (100 - e.depth);
-          walked = moved x r i (suc (100 - e.depth)) w.open.items w'.open.items w.content.rules w'.content.rules w.content.end w'.content.end w.content.has_marker w'.content.has_marker n w'.at (vs ++ visited_of e ∷ []) g.opens g.rules g.end g.marker end next;
+          walked = moved x r i (suc (100 - e.depth)) w.opened.items w'.opened.items w.content.rules w'.content.rules w.content.end w'.content.end w.content.has_marker w'.content.has_marker n w'.at (vs ++ visited_of e ∷ []) g.opens g.rules g.end g.marker end next;
         }
 
     into : (first en : ℕ) (s : Rules) (m : Bool) → GoesInto w first s en m w' → IsOpen x i w.content.rules (100 - e.depth) e.depth e.offset first s en m (visited_of e) → en ≤ w.content.end → first ≤ en → first ≤ length i
         → HasVisited x r i w' (vs ++ visited_of e ∷ [])
     into first en s m g is h1 h2 h3 =
         let o = g.opened in
-        let base = moved x r i (suc (100 - e.depth)) w.open.items w.open.items w.content.rules o.around.rules w.content.end o.around.end w.content.has_marker o.around.has_marker w.at w.at vs refl g.around_rules g.around_end g.around_marker refl walked in
+        let base = moved x r i (suc (100 - e.depth)) w.opened.items w.opened.items w.content.rules o.around.rules w.content.end o.around.end w.content.has_marker o.around.has_marker w.at w.at vs refl g.around_rules g.around_end g.around_marker refl walked in
         let is1 = subst (λ k. IsOpen x i w.content.rules (100 - e.depth) k e.offset first s en m (visited_of e)) reads.depth is in
-        let is2 = subst (λ k. IsOpen x i w.content.rules (100 - e.depth) (length w.open.items) k first s en m (visited_of e)) reads.offset is1 in
-        let is3 = subst (λ q. IsOpen x i q (100 - e.depth) (length w.open.items) w.at first s en m (visited_of e)) (sym g.around_rules) is2 in
-        let next = go_into (w.open.items ++ o ∷ []) o first s en m (visited_of e) base refl is3 (omega (arith, g.around_end)) h2 h3 in
+        let is2 = subst (λ k. IsOpen x i w.content.rules (100 - e.depth) (length w.opened.items) k first s en m (visited_of e)) reads.offset is1 in
+        let is3 = subst (λ q. IsOpen x i q (100 - e.depth) (length w.opened.items) w.at first s en m (visited_of e)) (sym g.around_rules) is2 in
+        let next = go_into (w.opened.items ++ o ∷ []) o first s en m (visited_of e) base refl is3 (omega (arith, g.around_end)) h2 h3 in
         record {
           input = g.input ∙ has.input;
           enters = g.enters ∙ has.enters;
           keeps = g.keeps ∙ has.keeps;
           depth = 100 - e.depth;
-          walked = moved x r i (100 - e.depth) (w.open.items ++ o ∷ []) w'.open.items s w'.content.rules en w'.content.end m w'.content.has_marker first w'.at (vs ++ visited_of e ∷ []) g.opens g.rules g.end g.marker g.at next;
+          walked = moved x r i (100 - e.depth) (w.opened.items ++ o ∷ []) w'.opened.items s w'.content.rules en w'.content.end m w'.content.has_marker first w'.at (vs ++ visited_of e ∷ []) g.opens g.rules g.end g.marker g.at next;
         }
 
     of : IsRead x w.content.rules (100 - e.depth) (between i w.at limit) e → Passes w e w' → HasVisited x r i w' (vs ++ visited_of e ∷ [])

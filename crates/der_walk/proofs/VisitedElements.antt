@@ -14,7 +14,7 @@ use Rattle.der_check.specs.Elements.{none as no_elements, one_more as one_elemen
 use Rattle.der_walk.specs.Laws.{IsWithin}
 use Rattle.der_walk.specs.Visits.{Visited, Extras, Visits, VisitsOne, IsStringFront, none, one_more, primitive, text, string, constructed, indefinite}
 
-string_not_zero : (t : ℕ) (u : List ℕ) → IsStringFront t u → t ≡ 0 → ⊥
+pub string_not_zero : (t : ℕ) (u : List ℕ) → IsStringFront t u → t ≡ 0 → ⊥
 string_not_zero t u f z = ⊎_elim (λ q. let e : t ≡ 4 = q.0 in absurd (omega (arith, z, e))) (λ q. let e : t ≡ 3 = q.0 in absurd (omega (arith, z, e))) f
 
 joined : (c : Class) (t : ℕ) (w : List ℕ) → (identifier c true t ++ 128 ∷ []) ++ w ++ end_marker ≡ identifier c true t ++ 128 ∷ w ++ end_marker

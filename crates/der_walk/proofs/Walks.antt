@@ -47,10 +47,10 @@ all_visited {x} {r} {i} {d} {opens} {s} {e} {m} {at} {vs} (outermost ed eo es he
 all_visited (inside outer o start first before us v eo w is he hf ha hl vis ev) q z = absurd (omega (arith, ap length (sym eo ∙ q), length-append outer (o ∷ [])))
 
 pub ended : (x : Extras) (r : Rules) (i : List ℕ) (vs : List Visited) (w : Walk) (here : List ℕ) → HasVisited x r i w vs → here ≡ between w.input.now w.at (min w.content.end (length w.input.now))
-    → length here ≡ 0 → length w.open.items ≡ 0 → Visits x r 101 0 0 i vs
+    → length here ≡ 0 → length w.opened.items ≡ 0 → Visits x r 101 0 0 i vs
 ended x r i vs w here has eh z n =
     let same : here ≡ between i w.at (min w.content.end (length i)) = eh ∙ ap (λ l. between l w.at (min w.content.end (length l))) has.input in
-    all_visited has.walked (nil_from_length w.open.items n) (sym (ap length same) ∙ z)
+    all_visited has.walked (nil_from_length w.opened.items n) (sym (ap length same) ∙ z)
 
 -- what is read lies in the input
 pub here_within : (w : Walk) (here : List ℕ) (e : Element) → here ≡ between w.input.now w.at (min w.content.end (length w.input.now)) → ReadsHere w here e → 0 < length here → e.offset + e.header ≤ length w.input.now
@@ -59,8 +59,8 @@ here_within w here e eh reads some =
     omega (arith, len, some, reads.fits, reads.offset)
 
 -- after the innermost element
-pub closed : (x : Extras) (r : Rules) (i : List ℕ) (vs : List Visited) (w w' : Walk) (outer : List Open) (o : Open) (after : ℕ) → HasVisited x r i w vs → EndsHere w after → w.open.items ≡ outer ++ o ∷ []
-    → w'.input.now ≡ w.input.now → w'.enters_strings ≡ w.enters_strings → w'.keeps_texts ≡ w.keeps_texts → w'.open.items ≡ outer → w'.content ≡ o.around → w'.at ≡ after → HasVisited x r i w' vs
+pub closed : (x : Extras) (r : Rules) (i : List ℕ) (vs : List Visited) (w w' : Walk) (outer : List Open) (o : Open) (after : ℕ) → HasVisited x r i w vs → EndsHere w after → w.opened.items ≡ outer ++ o ∷ []
+    → w'.input.now ≡ w.input.now → w'.enters_strings ≡ w.enters_strings → w'.keeps_texts ≡ w.keeps_texts → w'.opened.items ≡ outer → w'.content ≡ o.around → w'.at ≡ after → HasVisited x r i w' vs
 closed x r i vs w w' outer o after has ends eo e1 e2 e3 e4 e5 e6 = of ends
   where
     at_end : EndsAt i w.content.end w.content.has_marker w.at after → after ≤ length i → after ≤ w.content.end → w.at ≤ after → HasVisited x r i w' vs
@@ -70,7 +70,7 @@ closed x r i vs w w' outer o after has ends eo e1 e2 e3 e4 e5 e6 = of ends
           enters = e2 ∙ has.enters;
           keeps = e3 ∙ has.keeps;
           depth = suc has.depth;
-          walked = moved x r i (suc has.depth) outer w'.open.items o.around.rules w'.content.rules o.around.end w'.content.end o.around.has_marker w'.content.has_marker after w'.at vs e4 (ap (λ c. c.rules) e5) (ap (λ c. c.end) e5)
+          walked = moved x r i (suc has.depth) outer w'.opened.items o.around.rules w'.content.rules o.around.end w'.content.end o.around.has_marker w'.content.has_marker after w'.at vs e4 (ap (λ c. c.rules) e5) (ap (λ c. c.end) e5)
               (ap (λ c. c.has_marker) e5) e6 (close outer o after eo has.walked ends h1 h2 h3);
         }
 

@@ -20,3 +20,8 @@ IsWithin a z k d v = (a ≤ v.offset) × (v.offset + v.header ≤ z)
 abbrev pub VisitsWithin : Type 0
 VisitsWithin = (x : Extras) (r : Rules) (d k a : ℕ) (i : List ℕ) (vs : List Visited) → Visits x r d k a i vs
     → All (IsWithin a (a + length i) k d) vs
+
+-- octets are visited in one way
+abbrev pub VisitsOnce : Type 0
+VisitsOnce = (x : Extras) (r : Rules) (d k a : ℕ) (i : List ℕ) (vs vs' : List Visited) → Visits x r d k a i vs
+    → Visits x r d k a i vs' → vs ≡ vs'

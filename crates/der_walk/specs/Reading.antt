@@ -97,7 +97,7 @@ pub record OctetsHere (here : List ℕ) (e : Element) : Type 0 where
 -- e is the element at the start of the octets here
 pub record ReadsHere (w : Walk) (here : List ℕ) (e : Element) : Type 0 where
   pub offset : e.offset ≡ w.at
-  pub depth : e.depth ≡ length w.open.items
+  pub depth : e.depth ≡ length w.opened.items
   pub shallow : e.depth ≤ 100
   pub fits : e.header ≤ length here
   pub room : IfSome e.length (λ n. n ≤ w.content.end - (e.offset + e.header))
@@ -123,7 +123,7 @@ pub record GoesInto (w : Walk) (place : ℕ) (s : Rules) (e : ℕ) (m : Bool) (w
   pub end : w'.content.end ≡ e
   pub marker : w'.content.has_marker ≡ m
   pub opened : Open
-  pub opens : w'.open.items ≡ w.open.items ++ opened ∷ []
+  pub opens : w'.opened.items ≡ w.opened.items ++ opened ∷ []
   pub around_rules : opened.around.rules ≡ w.content.rules
   pub around_end : opened.around.end ≡ w.content.end
   pub around_marker : opened.around.has_marker ≡ w.content.has_marker
@@ -137,7 +137,7 @@ pub record GoesOn (w : Walk) (place : ℕ) (w' : Walk) : Type 0 where
   pub rules : w'.content.rules ≡ w.content.rules
   pub end : w'.content.end ≡ w.content.end
   pub marker : w'.content.has_marker ≡ w.content.has_marker
-  pub opens : w'.open.items ≡ w.open.items
+  pub opens : w'.opened.items ≡ w.opened.items
 
 -- the rules of what is inside an element
 abbrev pub rules_inside : Rules → Element → Rules

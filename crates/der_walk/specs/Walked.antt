@@ -64,7 +64,7 @@ pub record HasVisited (x : Extras) (r : Rules) (i : List ℕ) (w : Walk) (vs : L
   pub enters : w.enters_strings ≡ x.enters_strings
   pub keeps : w.keeps_texts ≡ x.keeps_texts
   pub depth : ℕ
-  pub walked : HasWalked x r i depth w.open.items w.content.rules w.content.end w.content.has_marker w.at vs
+  pub walked : HasWalked x r i depth w.opened.items w.content.rules w.content.end w.content.has_marker w.at vs
 
 -- the second walk has visited all that the first had
 abbrev pub KeepsVisited : Walk → Walk → Type 0

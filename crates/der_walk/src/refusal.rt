@@ -14,6 +14,15 @@ pub struct Refusal {
 }
 
 impl Refusal {
+    /// A refusal of an element whose header isn't read, or of the end of the input.
+    pub(crate) fn at(offset: usize, cause: Cause) -> Refusal {
+        Refusal {
+            offset,
+            step: None,
+            cause,
+        }
+    }
+
     /// A refusal of an element that was read.
     pub(crate) fn of(element: &Element<'_>, cause: Cause) -> Refusal {
         Refusal {

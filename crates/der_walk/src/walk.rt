@@ -31,7 +31,7 @@ pub struct Walk<'a> {
     /// The content here.
     content: Content,
     /// The elements around it, the outermost first.
-    open: ArrayVec<Open, MAX_OPEN>,
+    opened: ArrayVec<Open, MAX_OPEN>,
     enters_strings: bool,
     keeps_texts: bool,
 }
@@ -52,7 +52,7 @@ impl<'a> Walk<'a> {
             input,
             at: 0,
             content: Content::of_input(rules),
-            open: ArrayVec::new(),
+            opened: ArrayVec::new(),
             enters_strings,
             keeps_texts: false,
         }
@@ -77,7 +77,7 @@ impl<'a> Walk<'a> {
         self.close_ended();
         let here = self.octets_here();
         if here.is_empty() {
-            if self.open.is_empty() {
+            if self.opened.is_empty() {
                 return Ok(None);
             }
             return Err(self.refuse_end());
@@ -94,7 +94,7 @@ impl<'a> Walk<'a> {
     /// The path to an element that is refused.
     pub fn path(&self, refusal: &Refusal) -> Path {
         let mut path = Path::new();
-        for open in self.open.as_slice() {
+        for open in self.opened.as_slice() {
             path.push(open.step);
         }
         if let Some(step) = refusal.step {
@@ -107,7 +107,7 @@ impl<'a> Walk<'a> {
     fn close_ended(&mut self)
         ensures { KeepsVisited self.old self.new }
     {
-        for _ in 0..self.open.len() {
+        for _ in 0..self.opened.len() {
             if !self.close_last() {
                 return;
             }
@@ -121,7 +121,7 @@ impl<'a> Walk<'a> {
         let Some(after) = self.after_end() else {
             return false;
         };
-        let Some(last) = self.open.pop() else {
+        let Some(last) = self.opened.pop() else {
             return false;
         };
         self.content = last.around;
@@ -191,7 +191,7 @@ impl<'a> Walk<'a> {
 
     /// The element here, which has this header of so many octets.
     fn element_of(&self, header: &Header<'a>, octets: usize) -> Element<'a>
-        ensures { StartsWith header.now octets self.now.at (length self.now.open.items) result }
+        ensures { StartsWith header.now octets self.now.at (length self.now.opened.items) result }
     {
         Element {
             class: header.class(),
@@ -202,7 +202,7 @@ impl<'a> Walk<'a> {
             header: octets,
             length: length_of(header),
             content: None,
-            depth: self.open.len(),
+            depth: self.opened.len(),
             index: self.content.visited,
             holds_der: false,
             has_other_characters: false,
@@ -278,7 +278,7 @@ impl<'a> Walk<'a> {
 
     /// Goes on after an element, or to the elements inside if they are visited next.
     fn pass(&mut self, element: &Element<'a>)
-        requires room { length self.old.open.items < 101 }
+        requires room { length self.old.opened.items < 101 }
         requires end { end_from (element.now.offset + element.now.header) self.old.content.end element.now.length < 2 ^ 64 }
         requires front { element.now.offset + element.now.header + front_of element.now < 2 ^ 64 }
         ensures { Passes self.old element.now self.new }
@@ -298,12 +298,12 @@ impl<'a> Walk<'a> {
 
     /// Opens the content of an element, which begins and ends here.
     fn open_content(&mut self, element: &Element<'a>, begin: usize, end: usize)
-        requires { length self.old.open.items < 101 }
+        requires { length self.old.opened.items < 101 }
         ensures { GoesInto self.old begin (rules_inside self.old.content.rules element.now) end
             (ends_at_marker element.now.length) self.new }
     {
         let around = self.content;
-        self.open.push(Open {
+        self.opened.push(Open {
             step: element.step(),
             around,
         });
@@ -327,7 +327,7 @@ impl<'a> Walk<'a> {
 
     /// Where the outermost element ends at the latest.
     fn outermost_end(&self) -> usize {
-        match self.open.as_slice().get(1) {
+        match self.opened.as_slice().get(1) {
             Some(second) => second.around.end,
             None => self.content.end,
         }
@@ -359,11 +359,7 @@ impl<'a> Walk<'a> {
         } else {
             Cause::NoEndMarker
         };
-        Refusal {
-            offset: self.at,
-            step: None,
-            cause,
-        }
+        Refusal::at(self.at, cause)
     }
 
     /// Refuses an element here whose header isn't read.
@@ -373,11 +369,7 @@ impl<'a> Walk<'a> {
             Refused::Error(e) | Refused::Failure(e) => Cause::Header(e),
             Refused::Incomplete(Needed::Unknown) | Refused::OutOfMemory => self.lacks(1),
         };
-        Refusal {
-            offset: self.at,
-            step: None,
-            cause,
-        }
+        Refusal::at(self.at, cause)
     }
 }
 

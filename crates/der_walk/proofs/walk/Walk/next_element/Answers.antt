@@ -5,7 +5,7 @@ use Rattle.der_walk.proofs.walk.Walk.next_element.Goals as goal
 pub returns-then-is_empty-2 : goal.returns-then-is_empty-2
 returns-then-is_empty-2 c =
     let z : length c.octets_here-here.result.now ≡ 0 = search rules in
-    let n : length c.close_ended.new.self.open.items ≡ 0 = search rules in
+    let n : length c.close_ended.new.self.opened.items ≡ 0 = search rules in
     λ x r i vs has. ended x r i vs c.close_ended.new.self c.octets_here-here.result.now (c.close_ended.ensures x r i vs has) c.octets_here-here.ensures.here z n
 
 pub pass-requires-clause-end : goal.pass-requires-clause-end
