@@ -1,0 +1,223 @@
+// Calls the reader, which is compiled to WebAssembly. The build for 64-bit memory and the one for 32 bits take the same
+// numbers: each pointer and each length crosses as a BigInt.
+
+const PAGE = 65536;
+/** The octets of a row and of an outcome, and where their fields are (crates/dumarewhi_page/src). */
+const ROW = 64;
+const OUTCOME = 32;
+export const BER = 0;
+export const DER = 1;
+/** The parts of a refusal. */
+const WHOLE = 0;
+const CAUSE = 1;
+const PATH = 2;
+
+const decoder = new TextDecoder();
+
+export class Reader {
+  constructor(instance, bits) {
+    this.calls = instance.exports;
+    this.memory = instance.exports.memory;
+    this.bits = bits;
+    // The library allocates nothing, so the memory after its own pages is free for what it reads and writes.
+    this.start = this.memory.buffer.byteLength;
+    this.clear();
+  }
+
+  /** The first of these builds that the browser takes. */
+  static async load(builds) {
+    for (const [bits, octets] of builds) {
+      try {
+        const { instance } = await WebAssembly.instantiate(octets, {});
+        return new Reader(instance, bits);
+      } catch (fault) {
+        if (bits === builds[builds.length - 1][0]) throw fault;
+      }
+    }
+  }
+
+  /** Gives up all that was read. */
+  clear() {
+    this.end = this.start;
+    this.room = { at: 0, size: 0 };
+    this.room = { at: this.take(PAGE), size: PAGE };
+    this.outcome = this.take(OUTCOME);
+  }
+
+  /** Takes memory for so many octets, and returns where it begins. */
+  take(octets) {
+    const at = this.end;
+    this.end = Math.ceil((at + octets + 1) / 16) * 16;
+    const pages = Math.ceil((this.end - this.memory.buffer.byteLength) / PAGE);
+    if (pages > 0) {
+      try {
+        this.memory.grow(pages);
+      } catch (fault) {
+        if (!(fault instanceof TypeError)) throw fault;
+        this.memory.grow(BigInt(pages));
+      }
+    }
+    return at;
+  }
+
+  get view() {
+    if (this.lastView?.buffer !== this.memory.buffer) this.lastView = new DataView(this.memory.buffer);
+    return this.lastView;
+  }
+
+  size(at) {
+    return Number(this.view.getBigUint64(at, true));
+  }
+
+  /** Reads the elements of octets. */
+  read(octets) {
+    return new Elements(this, octets);
+  }
+
+  /** The text that a call writes to a buffer, which it gets last. The call returns the text's length. */
+  text(call) {
+    let length = Number(call(BigInt(this.room.at), BigInt(this.room.size)));
+    if (length > this.room.size) {
+      this.room = { at: this.take(2 * length), size: 2 * length };
+      length = Number(call(BigInt(this.room.at), BigInt(this.room.size)));
+    }
+    return decoder.decode(new Uint8Array(this.memory.buffer, this.room.at, length));
+  }
+}
+
+/** The elements of an input, in preorder. */
+export class Elements {
+  constructor(reader, octets) {
+    this.reader = reader;
+    this.octets = octets;
+    this.at = reader.take(octets.length);
+    new Uint8Array(reader.memory.buffer).set(octets, this.at);
+    this.input = [BigInt(this.at), BigInt(octets.length)];
+    this.rows = 0;
+    const counted = this.list(BER, 0);
+    this.rows = reader.take(counted.rows * ROW);
+    this.outcome = this.list(BER, counted.rows);
+    this.count = this.outcome.rows;
+    this.isDer = this.reader.calls.page_is_elements(...this.input, DER) === 1;
+    this.isBer = this.isDer || this.reader.calls.page_is_elements(...this.input, BER) === 1;
+    this.derOutcome = this.isDer ? null : this.list(DER, 0);
+  }
+
+  /** Lists the elements by these rules, to as many rows as there is room for. */
+  list(rules, room) {
+    const { calls, outcome, view } = this.reader;
+    const at = this.rows === 0 ? outcome : this.rows;
+    calls.page_list(...this.input, rules, BigInt(at), BigInt(room), BigInt(outcome));
+    const found = this.reader.view;
+    return {
+      rows: this.reader.size(outcome),
+      place: this.reader.size(outcome + 8),
+      depth: this.reader.size(outcome + 16),
+      isRefused: found.getUint32(outcome + 24, true) !== 0,
+    };
+  }
+
+  /** The fields of a row. */
+  row(number) {
+    const at = this.rows + number * ROW;
+    const view = this.reader.view;
+    return {
+      offset: this.reader.size(at),
+      header: this.reader.size(at + 8),
+      length: this.reader.size(at + 16),
+      depth: this.reader.size(at + 24),
+      index: this.reader.size(at + 32),
+      around: this.reader.size(at + 40),
+      number: view.getUint32(at + 48, true),
+      tagClass: view.getUint8(at + 52),
+      isConstructed: view.getUint8(at + 53) === 1,
+      isDefinite: view.getUint8(at + 54) === 1,
+      holdsDer: view.getUint8(at + 55) === 1,
+      isMarked: view.getUint8(at + 56) === 1,
+    };
+  }
+
+  depthOf(number) {
+    return this.reader.size(this.rows + number * ROW + 24);
+  }
+
+  offsetOf(number) {
+    return this.reader.size(this.rows + number * ROW);
+  }
+
+  nameOf(number) {
+    return this.textOf("page_name", number, []);
+  }
+
+  valueOf(number, full) {
+    return this.textOf("page_value", number, this.input, [full ? 1 : 0]);
+  }
+
+  remarkOf(number) {
+    return this.textOf("page_remark", number, this.input);
+  }
+
+  lineOf(number, full) {
+    return this.textOf("page_line", number, this.input, [full ? 1 : 0]);
+  }
+
+  /** The text that a call writes of a row. */
+  textOf(call, number, before, after = []) {
+    const row = BigInt(this.rows + number * ROW);
+    return this.reader.text((at, room) => this.reader.calls[call](...before, row, ...after, at, room));
+  }
+
+  /** The path from the outermost element to a row's. */
+  pathOf(number) {
+    const rows = [BigInt(this.rows), BigInt(this.count)];
+    return this.reader.text((at, room) => this.reader.calls.page_path(...rows, BigInt(number), at, room));
+  }
+
+  /** Why these rules refuse the input: all that `der` says of it, the cause, or the path. */
+  refusalOf(rules, part) {
+    return this.reader.text((at, room) => this.reader.calls.page_refusal(...this.input, rules, part, at, room));
+  }
+
+  faultOf(rules) {
+    return this.refusalOf(rules, WHOLE);
+  }
+
+  causeOf(rules) {
+    return this.refusalOf(rules, CAUSE);
+  }
+
+  refusedPathOf(rules) {
+    return this.refusalOf(rules, PATH);
+  }
+
+  /** The octets of the same values by DER, or why there are none. */
+  canonical() {
+    const { calls } = this.reader;
+    let room = this.octets.length + 16;
+    for (;;) {
+      const out = this.reader.take(room);
+      const buffer = [BigInt(out), BigInt(room)];
+      if (calls.page_canonical(...this.input, ...buffer, BigInt(this.reader.outcome)) !== 0) {
+        const fault = this.reader.text((at, length) => calls.page_canonical_fault(...this.input, ...buffer, at, length));
+        return { fault };
+      }
+      const needed = this.reader.size(this.reader.outcome);
+      if (needed <= room) return { octets: new Uint8Array(this.reader.memory.buffer, out, needed).slice() };
+      room = needed;
+    }
+  }
+
+  /** The octets that the content of a row has, as far as they are there. */
+  contentOf(row, end) {
+    const begin = row.offset + row.header;
+    return this.octets.subarray(begin, row.isDefinite ? begin + row.length : end);
+  }
+
+  /** The lines of `der tree`, and what it says of a refusal. */
+  treeText(full = false) {
+    const lines = [];
+    for (let k = 0; k < this.count; k++) lines.push(this.lineOf(k, full));
+    if (this.outcome.isRefused) lines.push(this.faultOf(BER));
+    return lines.join("\n") + (lines.length > 0 ? "\n" : "");
+  }
+}
