@@ -36,6 +36,11 @@ export class Reader {
     }
   }
 
+  /** Whether the module has the call that writes DER. */
+  get writesDer() {
+    return "page_canonical" in this.calls;
+  }
+
   /** Gives up all that was read. */
   clear() {
     this.end = this.start;

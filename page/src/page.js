@@ -4,7 +4,7 @@ import { documentsOfFile, documentsOfText, FormError } from "./forms.js";
 import { ELEMENT, Items, REFUSAL } from "./items.js";
 import { BER, DER, Reader } from "./module.js";
 import { base64Of, counted, hexLinesOf, hexOf, linkTextOf, octetsOfBase64, pemOf } from "./octets.js";
-import { Tree } from "./tree.js";
+import { nameOf, Tree } from "./tree.js";
 import { View } from "./view.js";
 
 /** Links with more characters than this are refused by some programs that carry them. */
@@ -76,6 +76,7 @@ class Page {
     this.shown = number;
     const { octets, elements } = this.documents[number];
     this.view.show(octets ?? new Uint8Array());
+    byId("tree-title").textContent = `Elements of ${nameOf(this.documents[number])}`;
     if (elements) this.view.mark(placesOf(elements));
     byId("canon").hidden = true;
     this.sayOutcome(number);
@@ -121,8 +122,9 @@ class Page {
 
   /** Says what a document is. */
   sayOutcome(number) {
-    const { elements, error, label, name, octets } = this.documents[number];
-    const several = this.documents.length > 1 ? `${name}${label ? ` ${label}` : ""} (${number + 1} of ${this.documents.length}): ` : "";
+    const { elements, error, octets } = this.documents[number];
+    const count = this.documents.length;
+    const several = count > 1 ? `${nameOf(this.documents[number])} (${number + 1} of ${count}): ` : "";
     if (!elements) {
       this.say("refused", several + error);
       return;
@@ -146,7 +148,7 @@ class Page {
     const what = !elements.isBer ? "This is neither DER nor BER" : isRuleOfDer ? "This is BER, not DER" : "This isn't DER";
     this.say("ber", `${several}${what}: ${why}. Read by BER: ${sizes}.`);
     if (derOutcome.isRefused) this.addButton("Show the place", () => this.goTo(derOutcome.place, false));
-    this.addButton("What DER it would be", () => this.showCanonical(elements));
+    if (this.reader.writesDer) this.addButton("What DER it would be", () => this.showCanonical(elements));
   }
 
   /** Shows what DER has the same values. */

@@ -166,7 +166,7 @@ function headingParts(document) {
   const about = document.elements ? counted(document.octets.length, "octet") : document.error;
   return {
     kind: document.elements ? "heading" : "refusal",
-    type: document.label ? `${document.name}: ${document.label}` : document.name,
+    type: nameOf(document),
     value: about,
   };
 }
@@ -185,6 +185,11 @@ function elementParts(elements, number, hasInside) {
     remark: row.isMarked ? elements.remarkOf(number) : "",
     at: `at ${row.offset}`,
   };
+}
+
+/** The name and the label of a document. */
+export function nameOf({ name, label }) {
+  return label ? `${name}: ${label}` : name;
 }
 
 /** Shows a value; of an identifier its name first. */

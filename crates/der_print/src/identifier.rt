@@ -2,7 +2,7 @@
 use crate::octets::Hex;
 use der_base::oid::Oid;
 use std::borrow::CowSlice;
-use std::fmt;
+use std::{fmt, mem};
 
 /// An identifier with points between its arcs. One with an arc of 2^63 and above is printed by its octets.
 #[derive(Clone, Copy)]
@@ -15,10 +15,16 @@ pub struct Arcs<'a> {
 
 impl fmt::Display for Arcs<'_> {
     fn fmt<W: fmt::Write>(&self, f: &mut fmt::Formatter<W>) -> fmt::Result {
-        if self.relative {
-            return write_arcs(f, &Oid::new_relative(CowSlice::Borrowed(self.octets)));
-        }
-        write_arcs(f, &Oid::new(CowSlice::Borrowed(self.octets)))
+        let octets = CowSlice::Borrowed(self.octets);
+        let oid = if self.relative {
+            Oid::new_relative(octets)
+        } else {
+            Oid::new(octets)
+        };
+        let written = write_arcs(f, &oid);
+        // It owns no memory. Without its drop no code here reaches an allocator.
+        mem::forget(oid);
+        written
     }
 }
 

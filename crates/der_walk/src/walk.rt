@@ -103,6 +103,11 @@ impl<'a> Walk<'a> {
         path
     }
 
+    /// How many elements are around an element that is refused.
+    pub fn depth(&self) -> usize {
+        self.open.len()
+    }
+
     /// Closes the elements whose content ends here.
     fn close_ended(&mut self)
         ensures { KeepsVisited self.old self.new }

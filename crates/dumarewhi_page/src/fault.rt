@@ -1,0 +1,25 @@
+//! Why elements are refused.
+use der_walk::{Cause, Path};
+use std::fmt;
+
+/// Where and why an element is refused, as `at 13, SEQUENCE[0].INTEGER[1]: a number has no octet (X.690 8.3.1)`.
+#[derive(Clone, Copy)]
+pub(crate) struct Fault<'a> {
+    /// Where the element begins.
+    pub offset: usize,
+    pub path: &'a Path,
+    pub cause: Cause,
+}
+
+impl fmt::Display for Fault<'_> {
+    fn fmt<W: fmt::Write>(&self, f: &mut fmt::Formatter<W>) -> fmt::Result {
+        let offset = self.offset;
+        let path = self.path;
+        let cause = self.cause;
+        write!(f, "at {offset}")?;
+        if !path.is_empty() {
+            write!(f, ", {path}")?;
+        }
+        write!(f, ": {cause}")
+    }
+}

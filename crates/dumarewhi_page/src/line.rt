@@ -1,0 +1,43 @@
+//! The line of a row.
+use der_print::{Remark, Value};
+use der_walk::Element;
+use std::fmt;
+
+/// The line of an element as `der tree` prints it: where it begins, how many octets its header and its content have, its
+/// type, two columns further in for each element around it, and its value.
+#[derive(Clone, Copy)]
+pub(crate) struct Line<'a> {
+    pub element: Element<'a>,
+    /// Whether a long value is printed whole.
+    pub full: bool,
+}
+
+impl fmt::Display for Line<'_> {
+    fn fmt<W: fmt::Write>(&self, f: &mut fmt::Formatter<W>) -> fmt::Result {
+        let element = self.element;
+        let full = self.full;
+        write_front(f, &element)?;
+        if element.holds_der {
+            return f.write_str(" holding DER");
+        }
+        write!(f, "{}", Value { element, full })?;
+        if element.has_other_characters {
+            write!(f, "  {}", Remark { element })?;
+        }
+        Ok(())
+    }
+}
+
+/// Writes what precedes the value.
+fn write_front<W: fmt::Write>(f: &mut fmt::Formatter<W>, element: &Element<'_>) -> fmt::Result {
+    let offset = element.offset;
+    let header = element.header;
+    match element.length {
+        Some(length) => write!(f, "{offset:>7} {header:>2}+{length:<7} ")?,
+        None => write!(f, "{offset:>7} {header:>2}+inf     ")?,
+    }
+    for _ in 0..element.depth {
+        f.write_str("  ")?;
+    }
+    write!(f, "{}", element.name())
+}

@@ -1,0 +1,116 @@
+//! The elements of an input, and whether it is elements and nothing else.
+ghost use Rattle.std.specs.Prelude.{◌≡◌, ◌↔◌};
+ghost use Rattle.der_check.specs.Elements.{AreElements};
+ghost use Rattle.dumarewhi_page.specs.Rules.{rules_numbered};
+
+use crate::row::PageRow;
+use crate::rules::rules_numbered;
+use der_check::are_elements;
+use der_walk::{MAX_DEPTH, Rules, Walk};
+
+/// How many depths there are.
+const DEPTHS: usize = MAX_DEPTH + 1;
+
+/// What a walk found.
+#[repr(C)]
+#[derive(Clone, Copy)]
+pub struct PageOutcome {
+    /// How many elements there are, even if there is room for fewer.
+    pub rows: usize,
+    /// Where the element begins that is refused. 0 if none is.
+    pub place: usize,
+    /// How many elements are around it.
+    pub depth: usize,
+    /// 1 if an element is refused, else 0.
+    pub refused: u32,
+}
+
+/// The last row of each depth.
+#[derive(Drop)]
+struct Last {
+    rows: [usize; DEPTHS],
+}
+
+impl Last {
+    /// The row of the element around those of a depth, or 0.
+    fn around(&self, depth: usize) -> usize {
+        if depth == 0 {
+            return 0;
+        }
+        self.rows.get(depth - 1).copied().unwrap_or(0)
+    }
+
+    fn set(&mut self, depth: usize, row: usize) {
+        if let Some(last) = self.rows.get_mut(depth) {
+            *last = row;
+        }
+    }
+}
+
+/// Lists the elements of an input in preorder, with those inside strings that hold DER, as far as there is room.
+#[unsafe(no_mangle)]
+pub extern "C" fn page_list(
+    input: &[u8],
+    rules: u32,
+    rows: &mut [PageRow],
+    outcome: &mut PageOutcome,
+) {
+    *outcome = list(input, rules_numbered(rules), rows);
+}
+
+/// Whether an input is elements by these rules, one after another, and nothing else: 1 or 0.
+#[unsafe(no_mangle)]
+pub extern "C" fn page_is_elements(input: &[u8], rules: u32) -> u32
+    ensures { (result ≡ 1) ↔ AreElements (rules_numbered rules) 101 input.now }
+{
+    if are_elements(input, rules_numbered(rules), MAX_DEPTH + 1) {
+        1
+    } else {
+        0
+    }
+}
+
+fn list(input: &[u8], rules: Rules, rows: &mut [PageRow]) -> PageOutcome {
+    let mut walk = Walk::new(input, rules, true).keeping_texts();
+    let mut last = Last { rows: [0; DEPTHS] };
+    // An element has an octet at least, so the loop ends at the end of the input.
+    for count in 0..usize::MAX {
+        match walk.next_element() {
+            Ok(Some(element)) => {
+                let row = PageRow::new(&element, last.around(element.depth));
+                put_row(rows, count, row);
+                last.set(element.depth, count + 1);
+            }
+            Ok(None) => return ended(count),
+            Err(refusal) => return refused(count, refusal.offset, walk.depth()),
+        }
+    }
+    refused(usize::MAX, input.len(), 0)
+}
+
+/// The outcome of a walk to the end of an input.
+fn ended(rows: usize) -> PageOutcome {
+    PageOutcome {
+        rows,
+        place: 0,
+        depth: 0,
+        refused: 0,
+    }
+}
+
+/// The outcome of a walk to an element that is refused.
+fn refused(rows: usize, place: usize, depth: usize) -> PageOutcome {
+    PageOutcome {
+        rows,
+        place,
+        depth,
+        refused: 1,
+    }
+}
+
+/// Writes a row, if there is room.
+fn put_row(rows: &mut [PageRow], at: usize, row: PageRow) {
+    if at < rows.len() {
+        rows[at] = row;
+    }
+}

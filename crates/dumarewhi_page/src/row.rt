@@ -1,0 +1,123 @@
+//! Elements as rows of numbers.
+use der_base::header::Class;
+use der_walk::{Element, Step, TypeName};
+
+/// An element of an input.
+#[repr(C)]
+#[derive(Clone, Copy)]
+pub struct PageRow {
+    /// Where the identifier octets begin.
+    pub offset: usize,
+    /// The number of octets of the header.
+    pub header: usize,
+    /// The number of content octets that the header gives. 0 if it is indefinite.
+    pub length: usize,
+    /// How many elements are around it.
+    pub depth: usize,
+    /// Its index among the elements of the same content, from 0.
+    pub index: usize,
+    /// The number of the row of the element around it, from 1. 0 if there is none.
+    pub around: usize,
+    /// The tag number.
+    pub number: u32,
+    /// The class, from 0 to 3.
+    pub tag_class: u8,
+    /// Whether it is constructed, 0 or 1.
+    pub constructed: u8,
+    /// Whether its length is definite, 0 or 1.
+    pub definite: u8,
+    /// Whether it is a string whose content is an element of DER, 0 or 1.
+    pub holds_der: u8,
+    /// Whether it is a text with a character that its type doesn't have, 0 or 1.
+    pub has_other_characters: u8,
+}
+
+impl PageRow {
+    /// The row of an element inside the element with the row `around`.
+    pub(crate) fn new(element: &Element<'_>, around: usize) -> PageRow {
+        PageRow {
+            offset: element.offset,
+            header: element.header,
+            length: element.length.unwrap_or(0),
+            depth: element.depth,
+            index: element.index,
+            around,
+            number: element.number,
+            tag_class: class_number(element.class),
+            constructed: bit(element.constructed),
+            definite: bit(element.length.is_some()),
+            holds_der: bit(element.holds_der),
+            has_other_characters: bit(element.has_other_characters),
+        }
+    }
+
+    /// The element of an input with this row.
+    pub(crate) fn element<'a>(&self, input: &'a [u8]) -> Element<'a> {
+        let begin = self.offset.saturating_add(self.header);
+        let length = if self.definite == 1 {
+            Some(self.length)
+        } else {
+            None
+        };
+        Element {
+            class: class_numbered(self.tag_class),
+            constructed: self.constructed == 1,
+            number: self.number,
+            identifier: &[],
+            offset: self.offset,
+            header: self.header,
+            length,
+            content: content_at(input, begin, length),
+            depth: self.depth,
+            index: self.index,
+            holds_der: self.holds_der == 1,
+            has_other_characters: self.has_other_characters == 1,
+        }
+    }
+
+    /// The name of its type or tag.
+    pub(crate) fn name(&self) -> TypeName {
+        TypeName {
+            class: class_numbered(self.tag_class),
+            number: self.number,
+        }
+    }
+
+    /// The last step of the path to it.
+    pub(crate) fn step(&self) -> Step {
+        Step {
+            name: self.name(),
+            index: self.index,
+        }
+    }
+}
+
+/// The content octets from here on, if all are there.
+fn content_at(input: &[u8], begin: usize, length: Option<usize>) -> Option<&[u8]> {
+    input.get(begin..begin.saturating_add(length?))
+}
+
+/// The number of a class, as in the first two bits of an identifier octet (X.690 8.1.2.2).
+fn class_number(class: Class) -> u8 {
+    match class {
+        Class::Universal => 0,
+        Class::Application => 1,
+        Class::ContextSpecific => 2,
+        Class::Private => 3,
+    }
+}
+
+/// The class with this number.
+fn class_numbered(number: u8) -> Class {
+    match number {
+        0 => Class::Universal,
+        1 => Class::Application,
+        2 => Class::ContextSpecific,
+        _ => Class::Private,
+    }
+}
+
+/// 1 for true, and 0 for false.
+fn bit(b: bool) -> u8 {
+    if b { 1 } else { 0 }
+}
