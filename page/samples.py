@@ -1,4 +1,4 @@
-"""Inputs in the forms that people have. All but the last ones are OCTETS, as xxd, hexdump, od, openssl and Python write them."""
+"""Inputs in the forms that people have: OCTETS, as xxd, hexdump, od, openssl and Python write them."""
 
 OCTETS = bytes.fromhex(
     "30220201050c1420617c6220206364206566203330203832202d2d7806035504030101ff0500"

@@ -32,7 +32,8 @@ export class Details {
     if (row.holdsDer) lines.push(["Content", "an element of DER, which is shown inside"]);
     if (row.isMarked) lines.push(["Remark", elements.remarkOf(number), "fault"]);
     this.fill(lines);
-    if (isCut) this.addButton(`Show all ${counted(content.length, "octet")}`, () => this.show(elements, number, end, true));
+    if (!isCut) return;
+    this.addButton(`Show all ${counted(content.length, "octet")}`, () => this.show(elements, number, end, true));
   }
 
   /** Shows other lines, as those of a refusal. */
@@ -103,9 +104,12 @@ function decimalOf(value) {
   return (found[2] ? number - (1n << BigInt(4 * found[1].length)) : number).toString();
 }
 
+/** A time as the reader prints it: year, month, day, hour, minute, second, and the zone with its parts. */
+const TIME = /^(\d{4})-(\d\d)-(\d\d) (\d\d):(\d\d):(\d\d)(?:\.\d*)? (UTC|local time|([+-])(\d\d):(\d\d))$/;
+
 /** A time as people say it, and how long ago it was. */
 export function timeInWords(value, now = Date.now()) {
-  const found = /^(\d{4})-(\d\d)-(\d\d) (\d\d):(\d\d):(\d\d)(?:\.(\d{3})\d*)? (UTC|local time|([+-])(\d\d):(\d\d))$/.exec(value);
+  const found = TIME.exec(value);
   if (!found) return null;
   const [year, month, day, hour, minute, second] = found.slice(1, 7).map(Number);
   const time = new Date(0);
@@ -114,11 +118,11 @@ export function timeInWords(value, now = Date.now()) {
   const isDate = time.getUTCMonth() === month - 1 && time.getUTCDate() === day;
   if (!isDate) return "no day of the calendar";
   const words = new Intl.DateTimeFormat("en-GB", { dateStyle: "full", timeStyle: "medium", timeZone: "UTC" });
-  const zone = found[9] ? `${found[9]}${found[10]}:${found[11]}` : found[8];
+  const [zone, sign, hours, minutes] = found.slice(7);
   const text = `${words.format(time)} ${zone}`;
-  if (found[8] === "local time") return text;
-  const offset = found[9] ? (found[9] === "-" ? 1 : -1) * (Number(found[10]) * 60 + Number(found[11])) : 0;
-  return `${text}, ${fromNow(time.getTime() + offset * 60000 - now)}`;
+  if (zone === "local time") return text;
+  const east = sign ? Number(`${sign}1`) * (Number(hours) * 60 + Number(minutes)) : 0;
+  return `${text}, ${fromNow(time.getTime() - east * 60000 - now)}`;
 }
 
 function fromNow(milliseconds) {

@@ -189,7 +189,7 @@ export class Items {
 
   lineOf(item) {
     const document = this.documentOf(item);
-    if (this.kind[item] === HEADING) return document.label ? `${document.name}: ${document.label}` : `${document.name}:`;
+    if (this.kind[item] === HEADING) return `${document.name}:${document.label ? ` ${document.label}` : ""}`;
     if (this.kind[item] === REFUSAL) return document.elements.faultOf(BER);
     return document.elements.lineOf(this.row[item], false);
   }

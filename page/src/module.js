@@ -203,8 +203,8 @@ export class Elements {
       const out = this.reader.take(room);
       const buffer = [BigInt(out), BigInt(room)];
       if (calls.page_canonical(...this.input, ...buffer, BigInt(this.reader.outcome)) !== 0) {
-        const fault = this.reader.text((at, length) => calls.page_canonical_fault(...this.input, ...buffer, at, length));
-        return { fault };
+        const write = (at, length) => calls.page_canonical_fault(...this.input, ...buffer, at, length);
+        return { fault: this.reader.text(write) };
       }
       const needed = this.reader.size(this.reader.outcome);
       if (needed <= room) return { octets: new Uint8Array(this.reader.memory.buffer, out, needed).slice() };

@@ -145,7 +145,8 @@ class Page {
     const { derOutcome } = elements;
     const why = derOutcome.isRefused ? elements.faultOf(DER) : "these aren't elements of DER";
     const isRuleOfDer = /\(X\.690 1[01]/.test(why);
-    const what = !elements.isBer ? "This is neither DER nor BER" : isRuleOfDer ? "This is BER, not DER" : "This isn't DER";
+    const byBer = isRuleOfDer ? "This is BER, not DER" : "This isn't DER";
+    const what = elements.isBer ? byBer : "This is neither DER nor BER";
     this.say("ber", `${several}${what}: ${why}. Read by BER: ${sizes}.`);
     if (derOutcome.isRefused) this.addButton("Show the place", () => this.goTo(derOutcome.place, false));
     if (this.reader.writesDer) this.addButton("What DER it would be", () => this.showCanonical(elements));
@@ -239,16 +240,20 @@ class Page {
     this.lastCopied = text;
     try {
       await navigator.clipboard.writeText(text);
-      said.textContent = `Copied ${counted(text.length, "character")}.`;
     } catch {
-      said.textContent = copyBySelection(text) ? `Copied ${counted(text.length, "character")}.` : "The browser doesn't allow it.";
+      if (!copyBySelection(text)) {
+        said.textContent = "The browser doesn't allow it.";
+        return;
+      }
     }
+    said.textContent = `Copied ${counted(text.length, "character")}.`;
   }
 
   copyAs(kind) {
     const text = this.textToCopy(kind, byId("scope").value);
-    if (text === "") byId("copied").textContent = "Select an element first.";
-    else if (kind === "link" && text.length > GREATEST_LINK) byId("copied").textContent = "The input is too long for a link.";
+    const said = byId("copied");
+    if (text === "") said.textContent = "Select an element first.";
+    else if (kind === "link" && text.length > GREATEST_LINK) said.textContent = "The input is too long for a link.";
     else this.copy(text);
   }
 

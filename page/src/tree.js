@@ -147,7 +147,8 @@ export class Tree {
     mark.textContent = parts.mark ?? "";
     fillValue(value, parts.value ?? "", parts.isIdentifier);
     remark.textContent = parts.remark ?? "";
-    row.setAttribute("aria-label", [parts.type, parts.mark, parts.value, parts.remark, parts.at].filter(Boolean).join(", "));
+    const label = [parts.type, parts.mark, parts.value, parts.remark, parts.at];
+    row.setAttribute("aria-label", label.filter(Boolean).join(", "));
   }
 
   partsOf(item) {

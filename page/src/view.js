@@ -97,7 +97,9 @@ export class View {
   make(row) {
     row.className = "octets";
     row.replaceChildren();
-    for (let k = 0; k <= 2 * this.width; k++) row.append(document.createElement(k === 0 ? "b" : k > this.width ? "i" : "u"));
+    for (const [name, count] of [["b", 1], ["u", this.width], ["i", this.width]]) {
+      for (let k = 0; k < count; k++) row.append(document.createElement(name));
+    }
   }
 
   classAt(offset) {

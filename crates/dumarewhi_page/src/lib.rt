@@ -2,6 +2,7 @@
 //! a pointer and a length there. Nothing here allocates.
 #![tactic(auto)]
 
+pub mod canon;
 mod fault;
 mod line;
 pub mod lists;
