@@ -83,14 +83,10 @@ export class View {
     row.children[0].textContent = begin.toString(16).padStart(this.digits, "0");
     for (let k = 0; k < this.width; k++) {
       const offset = begin + k;
-      const name = this.classAt(offset);
-      const digits = row.children[k + 1];
-      const character = row.children[this.width + k + 1];
       const octet = this.octets[offset];
-      digits.textContent = octet === undefined ? "" : DIGITS[octet];
-      character.textContent = octet === undefined ? "" : characterOf(octet);
-      digits.dataset.offset = character.dataset.offset = offset;
-      digits.className = character.className = name;
+      const name = this.classAt(offset);
+      fillCell(row.children[k + 1], offset, octet === undefined ? "" : DIGITS[octet], name);
+      fillCell(row.children[this.width + k + 1], offset, octet === undefined ? "" : characterOf(octet), name);
     }
   }
 
@@ -118,6 +114,13 @@ export class View {
     if (offset === this.cursor) names.push("cursor");
     return names.join(" ");
   }
+}
+
+/** Changes of a cell what is different, since each change costs time. */
+function fillCell(cell, offset, text, name) {
+  if (cell.textContent !== text) cell.textContent = text;
+  if (cell.className !== name) cell.className = name;
+  if (cell.dataset.offset !== String(offset)) cell.dataset.offset = offset;
 }
 
 function offsetOf(target) {

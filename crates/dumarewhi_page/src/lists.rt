@@ -1,6 +1,7 @@
 //! The elements of an input, and whether it is elements and nothing else.
-ghost use Rattle.std.specs.Prelude.{◌≡◌, ◌↔◌};
+ghost use Rattle.std.specs.Prelude.{◌≡◌, ◌↔◌, slice_set};
 ghost use Rattle.der_check.specs.Elements.{AreElements};
+ghost use Rattle.dumarewhi_page.specs.Listed.{Lists};
 ghost use Rattle.dumarewhi_page.specs.Rules.{rules_numbered};
 
 use crate::row::PageRow;
@@ -54,7 +55,9 @@ pub extern "C" fn page_list(
     rules: u32,
     rows: &mut [PageRow],
     outcome: &mut PageOutcome,
-) {
+)
+    ensures { Lists (rules_numbered rules) input.now rows.new outcome.new }
+{
     *outcome = list(input, rules_numbered(rules), rows);
 }
 
@@ -70,7 +73,9 @@ pub extern "C" fn page_is_elements(input: &[u8], rules: u32) -> u32
     }
 }
 
-fn list(input: &[u8], rules: Rules, rows: &mut [PageRow]) -> PageOutcome {
+fn list(input: &[u8], rules: Rules, rows: &mut [PageRow]) -> PageOutcome
+    ensures { Lists rules input.now rows.new result }
+{
     let mut walk = Walk::new(input, rules, true).keeping_texts();
     let mut last = Last { rows: [0; DEPTHS] };
     // An element has an octet at least, so the loop ends at the end of the input.
@@ -89,7 +94,10 @@ fn list(input: &[u8], rules: Rules, rows: &mut [PageRow]) -> PageOutcome {
 }
 
 /// The outcome of a walk to the end of an input.
-fn ended(rows: usize) -> PageOutcome {
+fn ended(rows: usize) -> PageOutcome
+    ensures rows { result.rows ≡ rows }
+    ensures refused { result.refused ≡ 0 }
+{
     PageOutcome {
         rows,
         place: 0,
@@ -99,7 +107,10 @@ fn ended(rows: usize) -> PageOutcome {
 }
 
 /// The outcome of a walk to an element that is refused.
-fn refused(rows: usize, place: usize, depth: usize) -> PageOutcome {
+fn refused(rows: usize, place: usize, depth: usize) -> PageOutcome
+    ensures rows { result.rows ≡ rows }
+    ensures refused { result.refused ≡ 1 }
+{
     PageOutcome {
         rows,
         place,
@@ -109,7 +120,9 @@ fn refused(rows: usize, place: usize, depth: usize) -> PageOutcome {
 }
 
 /// Writes a row, if there is room.
-fn put_row(rows: &mut [PageRow], at: usize, row: PageRow) {
+fn put_row(rows: &mut [PageRow], at: usize, row: PageRow)
+    ensures { rows.new ≡ slice_set rows.old at row }
+{
     if at < rows.len() {
         rows[at] = row;
     }

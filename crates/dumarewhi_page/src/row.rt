@@ -1,4 +1,7 @@
 //! Elements as rows of numbers.
+ghost use Rattle.std.specs.Prelude.{◌≡◌, ◌==◌};
+ghost use Rattle.dumarewhi_page.specs.Rows.{class_numbered};
+
 use der_base::header::Class;
 use der_walk::{Element, Step, TypeName};
 
@@ -33,8 +36,13 @@ pub struct PageRow {
 }
 
 impl PageRow {
+    ghost use Rattle.der_walk.specs.Walked.{visited_of};
+    ghost use Rattle.dumarewhi_page.specs.Rows.{visited_in};
+
     /// The row of an element inside the element with the row `around`.
-    pub(crate) fn new(element: &Element<'_>, around: usize) -> PageRow {
+    pub(crate) fn new(element: &Element<'_>, around: usize) -> PageRow
+        ensures { visited_in result ≡ visited_of element.now }
+    {
         PageRow {
             offset: element.offset,
             header: element.header,
@@ -52,7 +60,9 @@ impl PageRow {
     }
 
     /// The element of an input with this row.
-    pub(crate) fn element<'a>(&self, input: &'a [u8]) -> Element<'a> {
+    pub(crate) fn element<'a>(&self, input: &'a [u8]) -> Element<'a>
+        ensures { visited_of result ≡ visited_in self.now }
+    {
         let begin = self.offset.saturating_add(self.header);
         let length = if self.definite == 1 {
             Some(self.length)
@@ -98,7 +108,9 @@ fn content_at(input: &[u8], begin: usize, length: Option<usize>) -> Option<&[u8]
 }
 
 /// The number of a class, as in the first two bits of an identifier octet (X.690 8.1.2.2).
-fn class_number(class: Class) -> u8 {
+fn class_number(class: Class) -> u8
+    ensures { class_numbered result ≡ class }
+{
     match class {
         Class::Universal => 0,
         Class::Application => 1,
@@ -108,7 +120,9 @@ fn class_number(class: Class) -> u8 {
 }
 
 /// The class with this number.
-fn class_numbered(number: u8) -> Class {
+fn class_numbered(number: u8) -> Class
+    ensures { result ≡ class_numbered number }
+{
     match number {
         0 => Class::Universal,
         1 => Class::Application,
@@ -118,6 +132,8 @@ fn class_numbered(number: u8) -> Class {
 }
 
 /// 1 for true, and 0 for false.
-fn bit(b: bool) -> u8 {
+fn bit(b: bool) -> u8
+    ensures { (result == 1) ≡ b }
+{
     if b { 1 } else { 0 }
 }

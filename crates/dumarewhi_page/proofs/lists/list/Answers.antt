@@ -1,0 +1,35 @@
+use Rattle.std.proofs.Common.{◌≡◌, ℕ, ◌+◌, Option, Some, None, Result, Ok, List, [], ◌∷◌, ◌++◌, set, true, false, sym, ap, ◌∙◌, subst, inl}
+use Rattle.der_walk.specs.declared.element.Element.{Element}
+use Rattle.der_walk.specs.declared.refusal.Refusal.{Refusal}
+use Rattle.der_walk.specs.Visits.{Extras, Visited, Visits}
+use Rattle.der_walk.specs.Walked.{VisitsNext, visited_of}
+use Rattle.dumarewhi_page.specs.declared.row.PageRow.{PageRow}
+use Rattle.dumarewhi_page.specs.Listed.{all_extras}
+use Rattle.dumarewhi_page.specs.Rows.{AreRows}
+use Rattle.dumarewhi_page.proofs.Listing.{rows_none, rows_more}
+use Rattle.dumarewhi_page.proofs.lists.list.Goals as goal
+
+pub loop-count-init : goal.loop-count-init
+loop-count-init c =
+    let x : Extras = record { enters_strings = true; keeps_texts = false } in
+    ([], c.keeping_texts-walk.ensures x c.args.rules c.args.input.now c.new.ensures, rows_none c.args.rows.now)
+
+pub returns-in-Ok-None : goal.returns-in-Ok-None
+returns-in-Ok-None c =
+    let so_far = c.loop-count.invariant in
+    let P : Result (Option Element) Refusal → Type 0 = λ q. VisitsNext all_extras c.args.rules c.args.input.now so_far.0 c.next_element.new.self q in
+    let ends = subst P (c.in-Ok-None.is ∙ ap (λ o. Ok o) c.in-Ok-None.field-0-is) (c.next_element.ensures all_extras c.args.rules c.args.input.now so_far.0 so_far.1) in
+    let Q : ℕ → Type 0 = λ n. AreRows so_far.0 c.loop-count.rows n in
+    (so_far.0, subst Q (sym c.ended.ensures.rows) so_far.2, inl (c.ended.ensures.refused, ends))
+
+pub loop-count-preserved : goal.loop-count-preserved
+loop-count-preserved c =
+    let so_far = c.loop-count.invariant in
+    let n = c.loop-count.count in
+    let row = c.new-row.result in
+    let v = visited_of c.in-Ok-Some.element in
+    let P : Result (Option Element) Refusal → Type 0 = λ q. VisitsNext all_extras c.args.rules c.args.input.now so_far.0 c.next_element.new.self q in
+    let next = subst P (c.in-Ok-Some.is ∙ ap (λ o. Ok o) c.in-Ok-Some.field-0-is) (c.next_element.ensures all_extras c.args.rules c.args.input.now so_far.0 so_far.1) in
+    let Q : Visited → Type 0 = λ w. AreRows (so_far.0 ++ w ∷ []) (set c.loop-count.rows n row) (n + 1) in
+    let S : List PageRow → Type 0 = λ rows. AreRows (so_far.0 ++ v ∷ []) rows (n + 1) in
+    (so_far.0 ++ v ∷ [], next.0, subst S (sym c.put_row.ensures) (subst Q c.new-row.ensures (rows_more so_far.0 c.loop-count.rows n row so_far.2)))

@@ -1,0 +1,22 @@
+-- What is listed of the elements that a walk visits.
+use Rattle.std.specs.Prelude.{◌≡◌, ℕ, ◌⊎◌, true, List}
+use Rattle.der_check.specs.declared.rules.Rules.{Rules}
+use Rattle.der_walk.specs.declared.walk.Walk.{Walk}
+use Rattle.der_walk.specs.Visits.{Extras, Visited, Visits}
+use Rattle.der_walk.specs.Walked.{HasVisited}
+use Rattle.dumarewhi_page.specs.declared.lists.PageOutcome.{PageOutcome}
+use Rattle.dumarewhi_page.specs.declared.row.PageRow.{PageRow}
+use Rattle.dumarewhi_page.specs.Rows.{AreRows}
+
+-- strings that hold DER are entered, and by BER texts with other characters are kept
+abbrev pub all_extras : Extras
+all_extras = record { enters_strings = true; keeps_texts = true }
+
+-- The elements are all that the input has, or one is refused, and a walk visited these before it.
+abbrev pub AreVisited : Rules → List ℕ → List Visited → ℕ → Type 0
+AreVisited r i vs refused = ((refused ≡ 0) × Visits all_extras r 101 0 0 i vs)
+    ⊎ ((refused ≡ 1) × ((w : Walk) × HasVisited all_extras r i w vs))
+
+-- the rows stand for them, as far as there is room
+abbrev pub Lists : Rules → List ℕ → List PageRow → PageOutcome → Type 0
+Lists r i rows found = (vs : List Visited) × AreRows vs rows found.rows × AreVisited r i vs found.refused
