@@ -1,11 +1,12 @@
 -- How far a walk has come.
 use Rattle.std.specs.Prelude.{◌≡◌, ℕ, suc, ◌+◌, ◌-◌, ◌≤◌, ◌⊎◌, Bool, true, false, Option, Some, None, IfSome, IsSome}
-use Rattle.std.specs.Prelude.{List, [], ◌∷◌, ◌++◌, length, take, drop, Result, Ok, Err}
+use Rattle.std.specs.Prelude.{List, [], ◌∷◌, ◌++◌, length, map, take, drop, Result, Ok, Err}
 use Rattle.der_base.specs.Octets.{identifier}
 use Rattle.der_base.specs.Spelling.{end_marker}
 use Rattle.der_check.specs.declared.rules.Rules.{Rules}
 use Rattle.der_walk.specs.declared.content.Open.{Open}
 use Rattle.der_walk.specs.declared.element.Element.{Element}
+use Rattle.der_walk.specs.declared.path.Step.{Step}
 use Rattle.der_walk.specs.declared.refusal.Refusal.{Refusal}
 use Rattle.der_walk.specs.declared.walk.Walk.{Walk}
 use Rattle.der_walk.specs.Visits.{Visited, Extras, Visits, VisitsOne}
@@ -23,6 +24,10 @@ visited_of e = record {
   holds_der = e.holds_der;
   has_other_characters = e.has_other_characters;
 }
+
+-- the steps of elements that are open
+abbrev pub steps_of : List Open → List Step
+steps_of opens = map (λ o. o.step) opens
 
 -- the octets of i from an offset up to another
 abbrev pub between : List ℕ → ℕ → ℕ → List ℕ

@@ -1,4 +1,6 @@
 //! The path to an element.
+ghost use Rattle.std.specs.Prelude.{◌≡◌, ◌<◌, ◌↔◌, IsTrue, [], ◌∷◌, ◌++◌, length};
+
 use crate::name::TypeName;
 use arrayvec::ArrayVec;
 use der_base::header::Class;
@@ -48,19 +50,26 @@ pub struct Path {
 }
 
 impl Path {
-    pub(crate) fn new() -> Path {
+    pub(crate) fn new() -> Path
+        ensures { result.steps.items ≡ [] }
+    {
         Path {
             steps: ArrayVec::new(),
         }
     }
 
     /// Adds the last step.
-    pub(crate) fn push(&mut self, step: Step) {
-        let _is_added = self.steps.try_push(step);
+    pub(crate) fn push(&mut self, step: Step)
+        requires { length self.old.steps.items < 102 }
+        ensures { self.new.steps.items ≡ self.old.steps.items ++ step ∷ [] }
+    {
+        self.steps.push(step);
     }
 
     /// Whether it has no step, as that to the end of an input.
-    pub fn is_empty(&self) -> bool {
+    pub fn is_empty(&self) -> bool
+        ensures { IsTrue result ↔ (length self.now.steps.items ≡ 0) }
+    {
         self.steps.is_empty()
     }
 }

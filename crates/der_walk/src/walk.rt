@@ -39,7 +39,8 @@ pub struct Walk<'a> {
 impl<'a> Walk<'a> {
     ghost use Rattle.der_check.specs.declared.rules.Rules.{Rules};
     ghost use Rattle.der_walk.specs.Visits.{Extras, Visited};
-    ghost use Rattle.der_walk.specs.Walked.{HasVisited, KeepsVisited, VisitsNext, between};
+    ghost use Rattle.std.specs.Option.{option_to_list};
+    ghost use Rattle.der_walk.specs.Walked.{HasVisited, KeepsVisited, VisitsNext, between, steps_of};
     ghost use Rattle.der_walk.specs.Reading.{EndsHere, FindsContent, IsChecked, Passes, ReadsHere, StartsWith};
     ghost use Rattle.der_walk.specs.Reading.{GoesInto, end_from, ends_at_marker, front_of, rules_inside};
 
@@ -91,8 +92,10 @@ impl<'a> Walk<'a> {
         }
     }
 
-    /// The path to an element that is refused.
-    pub fn path(&self, refusal: &Refusal) -> Path {
+    /// The path to an element that is refused: the elements around it, and itself if its header was read.
+    pub fn path(&self, refusal: &Refusal) -> Path
+        ensures { result.steps.items ≡ steps_of self.now.opened.items ++ option_to_list refusal.now.step }
+    {
         let mut path = Path::new();
         for open in self.opened.as_slice() {
             path.push(open.step);
