@@ -67,7 +67,7 @@ impl fmt::Display for Cause {
                 )
             }
             Cause::PastEnd(missing) => {
-                let noun = octets_are(*missing);
+                let noun = octets(*missing);
                 write!(
                     f,
                     "it ends {missing} {noun} after the element around it (X.690 8.1.3)"
@@ -76,6 +76,11 @@ impl fmt::Display for Cause {
             other => write!(f, "{}", other.rule()),
         }
     }
+}
+
+/// The noun after a number of octets.
+fn octets(number: usize) -> &'static str {
+    if number == 1 { "octet" } else { "octets" }
 }
 
 /// The noun and the verb after a number of octets.
