@@ -36,10 +36,6 @@ pub record Extras : Type 0 where
   -- by BER, a text with a character that its type doesn't have
   pub keeps_texts : Bool
 
--- nothing
-abbrev pub no_extras : Extras
-no_extras = record { enters_strings = false; keeps_texts = false }
-
 -- h is a header by these rules: identifier octets, and length octets, definite or not (8.1.2, 8.1.3)
 abbrev pub IsHeaderBy : Rules → Class → Bool → ℕ → Option ℕ → List ℕ → Type 0
 IsHeaderBy r c p t (Some n) h = (t < 2 ^ 32) × (s : List ℕ) × SpellsLengthBy r s n × (h ≡ identifier c p t ++ s)
