@@ -208,14 +208,15 @@ class Page {
     box.append(button);
   }
 
-  /** The text that is copied: of the element that is selected, of its content, or of the whole input. */
+  /** The text that is copied: of the selected element or document, of an element's content, or of the whole input. */
   textToCopy(kind, scope) {
-    const item = this.tree.item;
+    const item = scope === "input" ? -1 : this.tree.item;
+    const isElement = item >= 0 && this.items.kind[item] === ELEMENT;
     if (kind === "link") return this.link();
-    const isElement = scope !== "input" && item >= 0 && this.items.kind[item] === ELEMENT;
-    if (kind === "tree") return this.items.textOf(isElement ? item : -1);
+    if (kind === "tree") return this.items.textOf(item);
     if (kind === "path") return isElement ? this.items.elementsOf(item).pathOf(this.items.row[item]) : "";
-    const parts = isElement ? [this.partOf(item, scope)] : this.documents.filter((document) => document.octets);
+    const documents = item < 0 ? this.documents : [this.items.documentOf(item)];
+    const parts = isElement ? [this.partOf(item, scope)] : documents.filter((document) => document.octets);
     const texts = {
       hex: ({ octets }) => hexOf(octets, " "),
       base64: ({ octets }) => base64Of(octets),
