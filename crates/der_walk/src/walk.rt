@@ -108,7 +108,7 @@ impl<'a> Walk<'a> {
 
     /// How many elements are around an element that is refused.
     pub fn depth(&self) -> usize {
-        self.open.len()
+        self.opened.len()
     }
 
     /// Closes the elements whose content ends here.
