@@ -21,6 +21,11 @@ pub(crate) fn write_character<W: fmt::Write>(
     }
 }
 
+/// Whether an octet is a character of ASCII that is written as it is.
+pub(crate) fn is_plain(octet: u8) -> bool {
+    matches!(octet, b' '..=b'~') && !matches!(octet, b'"' | b'\\')
+}
+
 /// Whether a character is a control character, or a mark that can't be seen.
 fn is_hidden(character: char) -> bool {
     let code = u32::from(character);

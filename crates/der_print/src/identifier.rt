@@ -1,5 +1,6 @@
 //! Object identifiers (X.690 8.19 and 8.20).
 use crate::octets::Hex;
+use crate::style::Limit;
 use der_base::oid::Oid;
 use std::borrow::CowSlice;
 use std::{fmt, mem};
@@ -32,7 +33,7 @@ fn write_arcs<W: fmt::Write>(f: &mut fmt::Formatter<W>, oid: &Oid<'_>) -> fmt::R
     let Some(arcs) = oid.iter() else {
         let hex = Hex {
             octets: oid.as_bytes(),
-            full: true,
+            limit: Limit::Whole,
         };
         return write!(f, "octets {hex}");
     };

@@ -1,53 +1,71 @@
 //! The line of an element.
+ghost use Rattle.std.specs.Prelude.{OnOk};
+ghost use Rattle.der_walk.specs.Walked.{visited_of};
+ghost use Rattle.der_print.specs.Lines.{AddsLine};
+
+use crate::columns::front_columns;
+use crate::place::write_front;
 use crate::remark::Remark;
-use crate::style::Style;
+use crate::shown::ShownText;
+use crate::style::{Limit, Style};
 use crate::value::Value;
 use der_walk::Element;
-use std::fmt;
+use std::io::Write;
+use std::{fmt, io};
 
-/// The line of an element: where it begins, how many octets its header and its content have, its type, two
-/// columns further in for each element around it, and its value.
-#[derive(Clone, Copy)]
-pub struct Line<'a> {
-    pub element: Element<'a>,
-    pub style: Style,
+/// Writes the line of an element: where it begins, how many octets its header and its content have, its type, two
+/// columns further in for each element around it, and its value. The text of the value is made in `room`, which is
+/// returned for the next line.
+pub fn write_line<W: Write>(
+    out: &mut W,
+    room: ShownText,
+    element: &Element<'_>,
+    style: Style,
+) -> io::Result<ShownText>
+    ensures { OnOk result (AddsLine style.colours (visited_of element.now) (W.contents out.old) (W.contents out.new)) }
+{
+    let element = *element;
+    let limit = limit_of(&element, style);
+    let text = room.replaced(Ending { element, limit })?;
+    write_front(out, &element, style.colours)?;
+    out.write_all(text.as_bytes())?;
+    out.write_all(b"\n")?;
+    Ok(text)
 }
 
-impl fmt::Display for Line<'_> {
+/// How much of the value of an element is printed.
+fn limit_of(element: &Element<'_>, style: Style) -> Limit {
+    match style.limit {
+        Limit::Columns(_) => style.limit.without(front_columns(element)),
+        limit => limit,
+    }
+}
+
+/// What follows the type on the line of an element.
+#[derive(Clone, Copy)]
+struct Ending<'a> {
+    element: Element<'a>,
+    limit: Limit,
+}
+
+impl fmt::Display for Ending<'_> {
+    ghost use Rattle.der_print.specs.Lines.{known_text};
+
+    ghost output = { λ x. known_text (visited_of x.element) };
+
     fn fmt<W: fmt::Write>(&self, f: &mut fmt::Formatter<W>) -> fmt::Result {
         let element = self.element;
-        let style = self.style;
-        f.write_str(style.dim())?;
-        write_place(f, &element)?;
-        f.write_str(style.plain())?;
-        write_indentation(f, element.depth)?;
-        let name = element.name();
-        write!(f, "{}{name}{}", style.bold(), style.plain())?;
+        let limit = self.limit;
         if element.holds_der {
-            return f.write_str(" holding DER");
+            return write!(f, " holding DER");
         }
-        let full = style.full;
-        write!(f, "{}", Value { element, full })?;
+        if element.constructed {
+            return Ok(());
+        }
+        write!(f, "{}", Value { element, limit })?;
         if element.has_other_characters {
             write!(f, "  {}", Remark { element })?;
         }
         Ok(())
     }
-}
-
-/// Writes the numbers before the type.
-fn write_place<W: fmt::Write>(f: &mut fmt::Formatter<W>, element: &Element<'_>) -> fmt::Result {
-    let offset = element.offset;
-    let header = element.header;
-    match element.length {
-        Some(length) => write!(f, "{offset:>7} {header:>2}+{length:<7} "),
-        None => write!(f, "{offset:>7} {header:>2}+inf     "),
-    }
-}
-
-fn write_indentation<W: fmt::Write>(f: &mut fmt::Formatter<W>, depth: usize) -> fmt::Result {
-    for _ in 0..depth {
-        f.write_str("  ")?;
-    }
-    Ok(())
 }

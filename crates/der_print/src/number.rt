@@ -1,5 +1,6 @@
 //! INTEGER and ENUMERATED (X.690 8.3 and 8.4).
 use crate::octets::Hex;
+use crate::style::Limit;
 use der_base::integer::{is_negative, read_i64, read_u64};
 use std::fmt;
 
@@ -8,8 +9,7 @@ use std::fmt;
 pub struct Number<'a> {
     /// The content octets.
     pub octets: &'a [u8],
-    /// Whether all digits are printed.
-    pub full: bool,
+    pub limit: Limit,
 }
 
 impl fmt::Display for Number<'_> {
@@ -23,7 +23,7 @@ impl fmt::Display for Number<'_> {
         }
         let hex = Hex {
             octets: without_leading_zero(octets),
-            full: self.full,
+            limit: self.limit,
         };
         if is_negative(octets) {
             write!(f, "0x{hex} (negative, in two's complement)")

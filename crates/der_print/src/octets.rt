@@ -1,35 +1,66 @@
 //! Octets in hexadecimal digits.
-use std::fmt;
+use crate::style::Limit;
+use std::{fmt, str};
 
 /// The most octets that are printed whole where long values are cut.
 const WHOLE: usize = 32;
 
 /// How many octets are printed of more.
-const CUT: usize = 20;
+const FRONT: usize = 20;
 
-/// Octets in hexadecimal digits. Of many only the first are printed, and their number, unless all are wanted.
+/// The least octets that are printed where there are few columns.
+const LEAST: usize = 4;
+
+/// The columns that are kept for what follows the digits, as `... (1234 octets)`.
+const ENDING: usize = 18;
+
+/// So many octets are written at once.
+const MANY: usize = 32;
+
+/// Octets in hexadecimal digits. Where not all of them are printed, their number follows.
 #[derive(Clone, Copy)]
 pub struct Hex<'a> {
     pub octets: &'a [u8],
-    /// Whether all are printed.
-    pub full: bool,
+    pub limit: Limit,
 }
 
 impl fmt::Display for Hex<'_> {
     fn fmt<W: fmt::Write>(&self, f: &mut fmt::Formatter<W>) -> fmt::Result {
-        let octets = self.octets;
-        if self.full || octets.len() <= WHOLE {
-            return write_digits(f, octets);
+        let number = self.octets.len();
+        match self.octets.get(..printed_octets(number, self.limit)) {
+            Some(front) if front.len() < number => {
+                write_digits(f, front)?;
+                write!(f, "... ({number} octets)")
+            }
+            _ => write_digits(f, self.octets),
         }
-        write_digits(f, octets.get(..CUT).unwrap_or(octets))?;
-        let number = octets.len();
-        write!(f, "... ({number} octets)")
+    }
+}
+
+/// How many of so many octets are printed.
+fn printed_octets(number: usize, limit: Limit) -> usize {
+    match limit {
+        Limit::Whole => number,
+        Limit::Front if number <= WHOLE => number,
+        Limit::Front => FRONT,
+        Limit::Columns(columns) if number <= columns / 2 => number,
+        Limit::Columns(columns) => (columns.saturating_sub(ENDING) / 2).max(LEAST).min(number),
     }
 }
 
 fn write_digits<W: fmt::Write>(f: &mut fmt::Formatter<W>, octets: &[u8]) -> fmt::Result {
-    for octet in octets {
-        write!(f, "{octet:02x}")?;
+    let mut room = [0; 2 * MANY];
+    for octets in octets.chunks(MANY) {
+        let Some(digits) = room.get_mut(..octets.len().saturating_mul(2)) else {
+            return Err(fmt::Error);
+        };
+        let Ok(()) = hex::encode_to_slice(octets, digits) else {
+            return Err(fmt::Error);
+        };
+        match str::from_utf8(digits) {
+            Ok(digits) => f.write_str(digits)?,
+            Err(_) => return Err(fmt::Error),
+        }
     }
     Ok(())
 }

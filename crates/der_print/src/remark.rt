@@ -13,7 +13,11 @@ impl fmt::Display for Remark<'_> {
     fn fmt<W: fmt::Write>(&self, f: &mut fmt::Formatter<W>) -> fmt::Result {
         let element = self.element;
         let name = element.name();
-        write!(f, "not a {name}")?;
+        match element.number {
+            22 => f.write_str("not an IA5String")?,
+            7 | 20 | 21 | 25 | 27 => return f.write_str("not UTF-8"),
+            _ => write!(f, "not a {name}")?,
+        }
         let octets = element.content.unwrap_or(&[]);
         if let Some(octet) = octets
             .iter()

@@ -1,27 +1,31 @@
 //! How much is printed of a value, and in which colours.
 
+/// How much is printed of a long value.
+#[derive(Clone, Copy, Debug, PartialEq)]
+pub enum Limit {
+    /// All of it.
+    Whole,
+    /// Its first octets or characters, a fixed number.
+    Front,
+    /// As much as fits in so many columns, or a little.
+    Columns(usize),
+}
+
+impl Limit {
+    /// The limit where so many columns are needed for something else.
+    pub(crate) fn without(self, columns: usize) -> Limit {
+        match self {
+            Limit::Columns(all) => Limit::Columns(all.saturating_sub(columns)),
+            limit => limit,
+        }
+    }
+}
+
 /// How elements are printed.
 #[derive(Clone, Copy, Debug, PartialEq)]
 pub struct Style {
-    /// Whether long values are printed whole.
-    pub full: bool,
+    /// How much is printed of a value. Columns are those of the whole line.
+    pub limit: Limit,
     /// Whether colours are used.
     pub colours: bool,
-}
-
-impl Style {
-    /// Begins dim letters, for places.
-    pub(crate) fn dim(self) -> &'static str {
-        if self.colours { "\x1b[2m" } else { "" }
-    }
-
-    /// Begins bold letters, for types.
-    pub(crate) fn bold(self) -> &'static str {
-        if self.colours { "\x1b[1m" } else { "" }
-    }
-
-    /// Ends special letters.
-    pub(crate) fn plain(self) -> &'static str {
-        if self.colours { "\x1b[0m" } else { "" }
-    }
 }

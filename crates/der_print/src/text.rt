@@ -1,26 +1,32 @@
 //! The texts of the string types (X.690 8.23).
 ghost use Rattle.std.specs.Prelude.{◌↔◌, ◌<◌, ◌≤◌, All, IsTrue, length};
 
-use crate::characters::write_character;
+use crate::characters::{is_plain, write_character};
+use crate::style::Limit;
 use std::{fmt, str};
 
 /// The most characters that are printed where long values are cut.
 const MOST: usize = 120;
 
-/// A string in quotes. Of a long one only the first characters are printed, unless all are wanted.
+/// The least characters that are printed where there are few columns.
+const LEAST: usize = 10;
+
+/// The columns that are kept for what is beside the characters, as in `"..." (1234 octets)`.
+const ENDING: usize = 20;
+
+/// A string in quotes. If only its first characters are printed, the number of its octets follows.
 #[derive(Clone, Copy)]
 pub struct Quoted<'a> {
     /// The content octets.
     pub octets: &'a [u8],
     /// The tag number of the type: a BMPString has two octets a character, and a UniversalString four.
     pub number: u32,
-    /// Whether all characters are printed.
-    pub full: bool,
+    pub limit: Limit,
 }
 
 impl fmt::Display for Quoted<'_> {
     fn fmt<W: fmt::Write>(&self, f: &mut fmt::Formatter<W>) -> fmt::Result {
-        let most = if self.full { usize::MAX } else { MOST };
+        let most = most_characters(self.octets.len(), self.limit);
         f.write_str("\"")?;
         match self.number {
             30 => write_units(f, self.octets, most)?,
@@ -31,11 +37,21 @@ impl fmt::Display for Quoted<'_> {
             },
         }
         f.write_str("\"")?;
-        if self.octets.len() > most && !self.full {
+        if self.octets.len() > most {
             let number = self.octets.len();
             write!(f, " ({number} octets)")?;
         }
         Ok(())
+    }
+}
+
+/// The most characters that are printed of so many octets.
+fn most_characters(number: usize, limit: Limit) -> usize {
+    match limit {
+        Limit::Whole => usize::MAX,
+        Limit::Front => MOST,
+        Limit::Columns(columns) if number.saturating_add(3) <= columns => number,
+        Limit::Columns(columns) => columns.saturating_sub(ENDING).max(LEAST),
     }
 }
 
@@ -47,6 +63,9 @@ pub fn is_printable_ascii(octets: &[u8]) -> bool
 }
 
 fn write_text<W: fmt::Write>(f: &mut fmt::Formatter<W>, text: &str, most: usize) -> fmt::Result {
+    if text.len() <= most && text.as_bytes().iter().all(|octet| is_plain(*octet)) {
+        return f.write_str(text);
+    }
     for (place, character) in text.chars().enumerate() {
         if place == most {
             return f.write_str("...");

@@ -2,6 +2,7 @@
 use crate::identifier::Arcs;
 use crate::number::Number;
 use crate::octets::Hex;
+use crate::style::Limit;
 use crate::text::{Quoted, is_printable_ascii};
 use crate::time::Moment;
 use der_base::header::{Class, Tag};
@@ -10,13 +11,15 @@ use der_names::name_of;
 use der_walk::Element;
 use std::fmt;
 
+/// The columns of the number of unused bits.
+const UNUSED: usize = 16;
+
 /// The value of a primitive element, after a space. Nothing for an element whose content is elements, and
 /// for NULL.
 #[derive(Clone, Copy)]
 pub struct Value<'a> {
     pub element: Element<'a>,
-    /// Whether long values are printed whole.
-    pub full: bool,
+    pub limit: Limit,
 }
 
 impl fmt::Display for Value<'_> {
@@ -27,9 +30,9 @@ impl fmt::Display for Value<'_> {
         }
         let octets = element.content.unwrap_or(&[]);
         if element.class != Class::Universal {
-            return write_octets(f, octets, self.full);
+            return write_octets(f, octets, self.limit);
         }
-        write_universal(f, element.number, octets, self.full)
+        write_universal(f, element.number, octets, self.limit)
     }
 }
 
@@ -38,13 +41,13 @@ fn write_universal<W: fmt::Write>(
     f: &mut fmt::Formatter<W>,
     number: u32,
     octets: &[u8],
-    full: bool,
+    limit: Limit,
 ) -> fmt::Result {
     match number {
         0 | 5 => Ok(()),
         1 => write_boolean(f, octets),
-        2 | 10 => write!(f, " {}", Number { octets, full }),
-        3 => write_bits(f, octets, full),
+        2 | 10 => write!(f, " {}", Number { octets, limit }),
+        3 => write_bits(f, octets, limit),
         6 => write_identifier(f, octets),
         13 => write!(
             f,
@@ -60,11 +63,11 @@ fn write_universal<W: fmt::Write>(
             Quoted {
                 octets,
                 number,
-                full
+                limit
             }
         ),
-        23 | 24 => write_time(f, Tag(number), octets, full),
-        _ => write_octets(f, octets, full),
+        23 | 24 => write_time(f, Tag(number), octets, limit),
+        _ => write_octets(f, octets, limit),
     }
 }
 
@@ -72,7 +75,7 @@ fn write_universal<W: fmt::Write>(
 fn write_octets<W: fmt::Write>(
     f: &mut fmt::Formatter<W>,
     octets: &[u8],
-    full: bool,
+    limit: Limit,
 ) -> fmt::Result {
     if octets.is_empty() {
         return Ok(());
@@ -85,11 +88,11 @@ fn write_octets<W: fmt::Write>(
             Quoted {
                 octets,
                 number,
-                full
+                limit
             }
         );
     }
-    write!(f, " {}", Hex { octets, full })
+    write!(f, " {}", Hex { octets, limit })
 }
 
 fn write_boolean<W: fmt::Write>(f: &mut fmt::Formatter<W>, octets: &[u8]) -> fmt::Result {
@@ -102,11 +105,16 @@ fn write_boolean<W: fmt::Write>(f: &mut fmt::Formatter<W>, octets: &[u8]) -> fmt
 }
 
 /// Writes the octets of a BIT STRING, and how many bits of the last aren't used.
-fn write_bits<W: fmt::Write>(f: &mut fmt::Formatter<W>, octets: &[u8], full: bool) -> fmt::Result {
+fn write_bits<W: fmt::Write>(
+    f: &mut fmt::Formatter<W>,
+    octets: &[u8],
+    limit: Limit,
+) -> fmt::Result {
     let [unused, octets @ ..] = octets else {
         return Ok(());
     };
-    write!(f, " {}", Hex { octets, full })?;
+    let limit = limit.without(UNUSED);
+    write!(f, " {}", Hex { octets, limit })?;
     match *unused {
         0 => Ok(()),
         1 => f.write_str(" (1 bit unused)"),
@@ -134,7 +142,7 @@ fn write_time<W: fmt::Write>(
     f: &mut fmt::Formatter<W>,
     tag: Tag,
     octets: &[u8],
-    full: bool,
+    limit: Limit,
 ) -> fmt::Result {
     match read_time(tag, octets) {
         Some(time) => {
@@ -149,7 +157,7 @@ fn write_time<W: fmt::Write>(
                 Quoted {
                     octets,
                     number,
-                    full
+                    limit
                 }
             )
         }

@@ -2,7 +2,7 @@
 use crate::options::{Action, Options};
 use clap::{Arg, ArgAction, ArgMatches, Command, Error};
 use der_input::Form;
-use der_print::Style;
+use der_print::{Limit, Style};
 use der_walk::Rules;
 use std::alloc::{AllocError, Global};
 
@@ -111,8 +111,8 @@ fn files<'a>(alloc: Global) -> Arg<'a> {
         .action(ArgAction::Append)
 }
 
-/// What the arguments after a subcommand ask for.
-pub(crate) fn options_of(action: Action, matches: &ArgMatches<'_>, colours: bool) -> Options {
+/// What the arguments after a subcommand ask for. The style of lines is that of the terminal.
+pub(crate) fn options_of(action: Action, matches: &ArgMatches<'_>, terminal: Style) -> Options {
     let rules = match action {
         Action::Check if !matches.get_flag("ber") => Rules::Der,
         Action::Tree | Action::Json if matches.get_flag("der") => Rules::Der,
@@ -128,10 +128,14 @@ pub(crate) fn options_of(action: Action, matches: &ArgMatches<'_>, colours: bool
         enters_strings,
         form: matches.get_str("from").and_then(form_named),
         style: Style {
-            full: action == Action::Tree && matches.get_flag("full"),
-            colours: colours && action == Action::Tree,
+            limit: if action == Action::Tree && matches.get_flag("full") {
+                Limit::Whole
+            } else {
+                terminal.limit
+            },
+            colours: terminal.colours && action == Action::Tree,
         },
-        has_headings: action == Action::Tree && has_several_files(matches),
+        has_several_files: has_several_files(matches),
     }
 }
 

@@ -1,9 +1,13 @@
-//! Elements as JSON.
+//! The elements of an input as lines of JSON.
+use crate::options::Options;
+use crate::origin::Origin;
+use crate::report::report;
+use bstr::ByteSlice;
 use der_base::header::Class;
 use der_base::integer::{read_i64, read_u64};
 use der_names::name_of;
-use der_print::{Arcs, Hex, Remark, Value as Printed};
-use der_walk::Element;
+use der_print::{Arcs, Hex, Limit, Remark, Value as Printed};
+use der_walk::{Element, Walk};
 use serde::Serialize;
 use serde_json::Value;
 use std::alloc::{AllocError, Global};
@@ -12,7 +16,15 @@ use std::{io, str};
 
 /// An element as an object of JSON.
 #[derive(Drop, Serialize)]
-struct Object {
+struct Object<'a> {
+    /// The name of the file, if there are several.
+    #[serde(skip_serializing_if = "Option::is_none")]
+    file: Option<&'a str>,
+    /// The number and the label of the block, if the file has blocks.
+    #[serde(skip_serializing_if = "Option::is_none")]
+    block: Option<usize>,
+    #[serde(skip_serializing_if = "Option::is_none")]
+    label: Option<String>,
     offset: usize,
     depth: usize,
     header: usize,
@@ -30,20 +42,63 @@ struct Object {
     fault: Option<String>,
 }
 
-/// Writes an element as a line of JSON.
-pub(crate) fn write_json<W: Write>(
+/// Writes a line of JSON for each element of octets, and reports on `err` why they are refused. Returns whether
+/// they were elements to their end.
+pub(crate) fn print_json<W: Write, X: Write>(
     alloc: Global,
+    options: &Options,
+    origin: Origin<'_>,
+    octets: &[u8],
+    out: &mut W,
+    err: &mut X,
+) -> io::Result<bool> {
+    let mut walk = Walk::new(octets, options.rules, options.enters_strings).keeping_texts();
+    // An element has an octet at least, so the loop ends at the end of the octets.
+    for _ in 0..=octets.len() {
+        match walk.next_element() {
+            Ok(Some(element)) => write_json(alloc, options, origin, &element, out)?,
+            Ok(None) => return Ok(true),
+            Err(refusal) => {
+                out.flush()?;
+                report(origin, &walk, &refusal, err)?;
+                return Ok(false);
+            }
+        }
+    }
+    Ok(false)
+}
+
+/// Writes an element as a line of JSON.
+fn write_json<W: Write>(
+    alloc: Global,
+    options: &Options,
+    origin: Origin<'_>,
     element: &Element<'_>,
     out: &mut W,
 ) -> io::Result<()> {
-    let text = json_of(alloc, element)?;
-    writeln!(out, "{text}")
+    let text = json_of(alloc, options, origin, element)?;
+    out.write_all(text.as_bytes())?;
+    out.write_all(b"\n")
 }
 
-fn json_of(alloc: Global, element: &Element<'_>) -> io::Result<String> {
+fn json_of(
+    alloc: Global,
+    options: &Options,
+    origin: Origin<'_>,
+    element: &Element<'_>,
+) -> io::Result<String> {
     let kind = format!(in alloc; "{}", element.name())?;
     let value = value_of(alloc, element)?;
+    let file = if options.has_several_files {
+        Some(origin.name)
+    } else {
+        None
+    };
+    let (block, label) = block_in(alloc, origin)?;
     let object = Object {
+        file,
+        block,
+        label,
         offset: element.offset,
         depth: element.depth,
         header: element.header,
@@ -57,6 +112,20 @@ fn json_of(alloc: Global, element: &Element<'_>) -> io::Result<String> {
         fault: fault_in(alloc, element)?,
     };
     serde_json::to_string(alloc, &object).map_err(|_| io::Error::from(ErrorKind::OutOfMemory))
+}
+
+/// The number and the label of a block.
+fn block_in(
+    alloc: Global,
+    origin: Origin<'_>,
+) -> Result<(Option<usize>, Option<String>), AllocError> {
+    match origin.block {
+        Some(block) => {
+            let label = format!(in alloc; "{}", block.label.escape_ascii())?;
+            Ok((Some(block.number), Some(label)))
+        }
+        None => Ok((None, None)),
+    }
 }
 
 fn class_name(class: Class) -> &'static str {
@@ -152,7 +221,13 @@ fn text(alloc: Global, octets: &[u8]) -> Result<Value, AllocError> {
 }
 
 fn hex(alloc: Global, octets: &[u8]) -> Result<Value, AllocError> {
-    string(format!(in alloc; "{}", Hex { octets, full: true })?)
+    string(format!(in alloc;
+        "{}",
+        Hex {
+            octets,
+            limit: Limit::Whole
+        }
+    )?)
 }
 
 /// The value as it is printed for people.
@@ -162,7 +237,7 @@ fn printed(alloc: Global, element: &Element<'_>) -> Result<Value, AllocError> {
         "{}",
         Printed {
             element,
-            full: true
+            limit: Limit::Whole
         }
     )?;
     Value::try_from_str(alloc, text.trim().trim_matches('"'))

@@ -2,9 +2,13 @@
 #![tactic(auto)]
 
 mod arguments;
+mod canon;
 mod json;
 pub mod options;
+mod origin;
+mod report;
 pub mod run;
 mod streams;
+mod tree;
 
 pub use streams::program;

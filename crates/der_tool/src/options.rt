@@ -27,6 +27,6 @@ pub struct Options {
     /// How the inputs are written. None if each is looked at.
     pub form: Option<Form>,
     pub style: Style,
-    /// Whether there are several files, and the tree of each begins with its name.
-    pub has_headings: bool,
+    /// Whether there are several files. The tree of each begins with its name, and JSON has it.
+    pub has_several_files: bool,
 }

@@ -3,6 +3,7 @@ use crate::arguments::{action_named, command, options_of};
 use crate::options::Options;
 use crate::run::run;
 use clap::ArgMatches;
+use der_print::{Limit, Style};
 use std::alloc::Global;
 use std::env::Env;
 use std::io::{BufWriter, ErrorKind, Read, Write};
@@ -52,8 +53,8 @@ fn start<R: Env + Files + AllocGlobal, I: Read + Drop, W: Write + Drop, X: Write
     let command = command(alloc)?;
     match command.try_get_matches_from(words.as_slice()) {
         Ok(matches) => {
-            let colours = is_terminal && env::var(rt, "NO_COLOR").is_err();
-            run_subcommand(rt, &matches, colours, input, out, err)
+            let terminal = style_of(rt, is_terminal);
+            run_subcommand(rt, &matches, terminal, input, out, err)
         }
         Err(e) if e.use_stderr() => {
             write!(err, "{e}")?;
@@ -67,11 +68,42 @@ fn start<R: Env + Files + AllocGlobal, I: Read + Drop, W: Write + Drop, X: Write
     }
 }
 
+/// How lines are written: on a terminal in colours, unless `NO_COLOR` is set, and as wide as `COLUMNS` says.
+fn style_of<R: Env + AllocGlobal>(rt: &R, is_terminal: bool) -> Style {
+    if !is_terminal {
+        return Style {
+            limit: Limit::Front,
+            colours: false,
+        };
+    }
+    Style {
+        limit: match columns(rt) {
+            Some(columns) => Limit::Columns(columns),
+            None => Limit::Front,
+        },
+        colours: !has_no_color(rt),
+    }
+}
+
+/// Whether the environment has `NO_COLOR`, and not as an empty text.
+fn has_no_color<R: Env + AllocGlobal>(rt: &R) -> bool {
+    match env::var(rt, "NO_COLOR") {
+        Ok(text) => !text.is_empty(),
+        Err(_) => false,
+    }
+}
+
+/// The width of the terminal, if the environment says it.
+fn columns<R: Env + AllocGlobal>(rt: &R) -> Option<usize> {
+    let text = env::var(rt, "COLUMNS").ok()?;
+    text.as_str().trim().parse::<usize>().ok()
+}
+
 /// Runs the subcommand over its files, or over the standard input.
 fn run_subcommand<R: Files + AllocGlobal, I: Read + Drop, W: Write + Drop, X: Write>(
     rt: &R,
     matches: &ArgMatches<'_>,
-    colours: bool,
+    terminal: Style,
     input: I,
     out: W,
     err: &mut X,
@@ -79,7 +111,7 @@ fn run_subcommand<R: Files + AllocGlobal, I: Read + Drop, W: Write + Drop, X: Wr
     let Some((name, matches)) = matches.subcommand() else {
         return Ok(USAGE);
     };
-    let options = options_of(action_named(name), matches, colours);
+    let options = options_of(action_named(name), matches, terminal);
     let mut out = BufWriter::new(rt.alloc(), out)?;
     let are_read = match matches.get_strs("file") {
         Some(files) => run_files(rt, &options, files, &mut out, err)?,

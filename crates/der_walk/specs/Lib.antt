@@ -1,4 +1,5 @@
 pub mod Laws
 pub mod Reading
+pub mod TypeNames
 pub mod Visits
 pub mod Walked

@@ -1,4 +1,9 @@
 //! The names of types and tags, as ASN.1 writes them.
+ghost use Rattle.std.specs.Prelude.{◌≡◌};
+ghost use Rattle.std.specs.Option.{option_copied};
+ghost use Rattle.der_base.specs.Names.{name_at};
+ghost use Rattle.der_walk.specs.TypeNames.{string_names, universal_names};
+
 use der_base::header::Class;
 use std::fmt;
 
@@ -12,11 +17,16 @@ pub struct TypeName {
 }
 
 impl fmt::Display for TypeName {
+    ghost use Rattle.std.specs.Prelude.{Some};
+    ghost use Rattle.der_walk.specs.TypeNames.{type_text};
+
+    ghost output = { λ x. Some (type_text x.class x.number) };
+
     fn fmt<W: fmt::Write>(&self, f: &mut fmt::Formatter<W>) -> fmt::Result {
         let number = self.number;
         match self.class {
             Class::Universal => match universal_name(number) {
-                Some(name) => f.write_str(name),
+                Some(name) => write!(f, "{name}"),
                 None => write!(f, "[UNIVERSAL {number}]"),
             },
             Class::Application => write!(f, "[APPLICATION {number}]"),
@@ -27,7 +37,9 @@ impl fmt::Display for TypeName {
 }
 
 /// The name of the universal type with this number (X.680 8.4, table 1).
-fn universal_name(number: u32) -> Option<&'static str> {
+fn universal_name(number: u32) -> Option<&'static str>
+    ensures { option_copied result ≡ name_at universal_names number }
+{
     let name = match number {
         0 => "end-of-contents",
         1 => "BOOLEAN",
@@ -52,7 +64,9 @@ fn universal_name(number: u32) -> Option<&'static str> {
 }
 
 /// The name of a type from NumericString on.
-fn string_name(number: u32) -> Option<&'static str> {
+fn string_name(number: u32) -> Option<&'static str>
+    ensures { option_copied result ≡ name_at string_names number }
+{
     let name = match number {
         18 => "NumericString",
         19 => "PrintableString",

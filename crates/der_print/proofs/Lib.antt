@@ -1,0 +1,4 @@
+pub mod Appending
+pub mod LineLaws
+pub mod Spaces
+mod WorkedRows

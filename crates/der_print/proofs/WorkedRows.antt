@@ -1,0 +1,43 @@
+-- What precedes the value, computed on worked elements: those of a certificate, a tag of another class, an element of
+-- indefinite length far from the start, with colours.
+use Rattle.std.proofs.Common.{◌≡◌, ◌∷◌, ◌++◌, List, ℕ, Bool, true, false, refl, codes, Some, None, Option}
+use Rattle.std.specs.Fmt.{digits}
+use Rattle.der_base.specs.declared.header.Class.{Class}
+use Rattle.der_base.specs.declared.header.Class.TheVariants.{Universal, Application, ContextSpecific, Private}
+use Rattle.der_print.specs.Lines.{front_text, known_text}
+use Rattle.der_walk.specs.Visits.{Visited}
+
+abbrev visited : ℕ → ℕ → Option ℕ → Class → Bool → ℕ → ℕ → Visited
+visited offset header l c p t depth =
+    record { offset = offset; header = header; length = l; class = c; constructed = p; number = t; depth = depth; holds_der = false; has_other_characters = false }
+
+certificate : front_text false (visited 0 4 (Some 515) Universal true 16 0) ≡ codes "      0  4+515     SEQUENCE"
+unfolding digits
+certificate = refl
+
+version : front_text false (visited 10 2 (Some 1) Universal false 2 3) ≡ codes "     10  2+1             INTEGER"
+unfolding digits
+version = refl
+
+extensions : front_text false (visited 271 3 (Some 158) ContextSpecific true 3 2) ≡ codes "    271  3+158         [3]"
+unfolding digits
+extensions = refl
+
+indefinite : front_text false (visited 123456789 2 None Application true 1 1) ≡ codes "123456789  2+inf       [APPLICATION 1]"
+unfolding digits
+indefinite = refl
+
+type_without_name : front_text false (visited 7 3 (Some 0) Universal false 99 0) ≡ codes "      7  3+0       [UNIVERSAL 99]"
+unfolding digits
+type_without_name = refl
+
+in_colours : front_text true (visited 2 2 (Some 1) Private false 7 0)
+    ≡ 0x1b ∷ codes "[2m      2  2+1       " ++ 0x1b ∷ codes "[0m" ++ 0x1b ∷ codes "[1m[PRIVATE 7]" ++ 0x1b ∷ codes "[0m"
+unfolding digits
+in_colours = refl
+
+no_value : known_text (visited 0 4 (Some 515) Universal true 16 0) ≡ Some (codes "")
+no_value = refl
+
+any_value : known_text (visited 10 2 (Some 1) Universal false 2 3) ≡ None
+any_value = refl

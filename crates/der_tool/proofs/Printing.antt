@@ -1,0 +1,40 @@
+-- A walk, and the lines of the elements that it has visited.
+use Rattle.std.proofs.Common.{ℕ, Bool, true, Option, List, [], ◌∷◌, ◌++◌}
+use Rattle.std.proofs.KnownBytes.{Appends-nil, Appends-trans}
+use Rattle.std.specs.Io.KnownBytes.{Appends}
+use Rattle.der_print.specs.Lines.{AddsLine, AreLines, no_lines}
+use Rattle.der_print.proofs.LineLaws.{lines_more}
+use Rattle.der_walk.specs.declared.walk.Walk.{Walk}
+use Rattle.der_walk.specs.Visits.{Extras, Visited, Visits}
+use Rattle.der_walk.specs.Walked.{HasVisited}
+use Rattle.der_tool.specs.declared.options.Options.{Options}
+use Rattle.der_tool.specs.Outputs.{WritesTree}
+
+-- with the elements inside strings or without them, and with marked texts
+abbrev pub extras_of : Options → Extras
+extras_of o = record { enters_strings = o.enters_strings; keeps_texts = true }
+
+-- known octets grew by a line for each element that the walk has visited
+pub record HasPrinted (o : Options) (i : List ℕ) (w : Walk) (old new : Option (List ℕ)) : Type 0 where
+  pub elements : List Visited
+  pub visited : HasVisited (extras_of o) o.rules i w elements
+  pub text : List ℕ
+  pub lines : AreLines o.style.colours elements text
+  pub adds : Appends old new text
+
+pub printed_none : {o : Options} {i : List ℕ} {w : Walk} (old : Option (List ℕ)) → HasVisited (extras_of o) o.rules i w [] → HasPrinted o i w old old
+printed_none old v = record { elements = []; visited = v; text = []; lines = no_lines; adds = Appends-nil old }
+
+pub printed_more : {o : Options} {i : List ℕ} {w w' : Walk} {old mid new : Option (List ℕ)} (v : Visited) (p : HasPrinted o i w old mid)
+    → HasVisited (extras_of o) o.rules i w' (p.elements ++ v ∷ []) → AddsLine o.style.colours v mid new → HasPrinted o i w' old new
+printed_more {old = old} {mid = mid} {new = new} v p visited l = record {
+  elements = p.elements ++ v ∷ [];
+  visited = visited;
+  text = p.text ++ l.line;
+  lines = lines_more v l.line p.lines l.is_line;
+  adds = Appends-trans old mid new p.text l.line p.adds l.adds;
+}
+
+pub printed_all : {o : Options} {i : List ℕ} {w : Walk} {old new : Option (List ℕ)} (p : HasPrinted o i w old new)
+    → Visits (extras_of o) o.rules 101 0 0 i p.elements → WritesTree o i old new
+printed_all p v = record { elements = p.elements; visits = v; text = p.text; lines = p.lines; adds = p.adds }

@@ -1,0 +1,17 @@
+use Rattle.der_tool.proofs.Printing.{extras_of, printed_all, printed_more, printed_none}
+use Rattle.der_tool.proofs.tree.print_tree.Goals as goal
+
+pub elements-init : goal.elements-init
+elements-init g c = record { printed = printed_none _ (c.keeping_texts-walk.ensures _ _ _ c.new.ensures) }
+
+pub elements-preserved : goal.elements-preserved
+elements-preserved g c =
+    let p = c.elements.invariant.printed in
+    let next = rw c.in-Ok-Some.field-0-is at (c.in-Ok-Some.ensures (extras_of c.args.options.now) c.args.options.now.rules c.args.octets.now p.elements p.visited) in
+    record { printed = printed_more _ p next.0 c.in_ok-room-in-Ok-Some.ensures }
+
+pub returns-in-Ok-None : goal.returns-in-Ok-None
+returns-in-Ok-None g c =
+    let p = c.elements.invariant.printed in
+    let all = rw c.in-Ok-None.field-0-is at (c.in-Ok-None.ensures (extras_of c.args.options.now) c.args.options.now.rules c.args.octets.now p.elements p.visited) in
+    λ ok. printed_all p all

@@ -1,0 +1,6 @@
+use Rattle.der_tool.proofs.Printing.{HasPrinted}
+use Rattle.der_tool.proofs.tree.print_tree.Given as goal
+
+-- the lines of the elements that were visited are written
+abbrev pub invariant-elements : goal.invariant-elements
+invariant-elements g l = record { printed : HasPrinted l.options l.octets l.walk (g.W.Write.contents l.fn.out) (g.W.Write.contents l.out) }

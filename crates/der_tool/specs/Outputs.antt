@@ -1,0 +1,31 @@
+-- What is written of an input that is read to its end.
+use Rattle.std.specs.Prelude.{ℕ, true, Option, List}
+use Rattle.std.specs.Io.KnownBytes.{Appends, Keeps}
+use Rattle.der_check.specs.declared.rules.Rules.TheVariants.{Der}
+use Rattle.der_check.specs.Elements.{AreElements}
+use Rattle.der_print.specs.Lines.{AreLines}
+use Rattle.der_tool.specs.declared.options.Action.{Action}
+use Rattle.der_tool.specs.declared.options.Action.TheVariants.{Tree, Check, Json, Canon}
+use Rattle.der_tool.specs.declared.options.Options.{Options}
+use Rattle.der_walk.specs.Visits.{Visited, Visits}
+
+-- known octets grew by a line for each of the elements that the input is, in preorder
+pub record WritesTree (o : Options) (i : List ℕ) (old new : Option (List ℕ)) : Type 0 where
+  pub elements : List Visited
+  pub visits : Visits (record { enters_strings = o.enters_strings; keeps_texts = true }) o.rules 101 0 0 i elements
+  pub text : List ℕ
+  pub lines : AreLines o.style.colours elements text
+  pub adds : Appends old new text
+
+-- known octets grew by elements of DER
+pub record WritesDer (old new : Option (List ℕ)) : Type 0 where
+  pub text : List ℕ
+  pub elements : AreElements Der 101 text
+  pub adds : Appends old new text
+
+-- what an action writes of an input that is octets; of JSON no more is said
+abbrev pub Writes : Action → Options → List ℕ → Option (List ℕ) → Option (List ℕ) → Type 0
+Writes Tree o i old new = WritesTree o i old new
+Writes Check o i old new = Keeps old new
+Writes Json o i old new = Unit {0}
+Writes Canon o i old new = WritesDer old new

@@ -1,0 +1,55 @@
+//! The elements of an input as DER writes them.
+ghost use Rattle.std.specs.Prelude.{◌≡◌, IfOk, IsTrue, None};
+ghost use Rattle.der_tool.specs.Outputs.{WritesDer};
+
+use crate::origin::Origin;
+use crate::report::report_place;
+use base64::engine::general_purpose::STANDARD;
+use bstr::ByteSlice;
+use der_canon::{CanonError, canonical};
+use std::alloc::Global;
+use std::io;
+use std::io::{ErrorKind, Write};
+
+/// How many characters a line of base64 has in PEM (RFC 7468 2).
+const LINE: usize = 64;
+
+/// Writes octets as DER writes them: as they are, or in PEM with the label of their block.
+pub(crate) fn write_canonical<W: Write, X: Write>(
+    alloc: Global,
+    origin: Origin<'_>,
+    octets: &[u8],
+    out: &mut W,
+    err: &mut X,
+) -> io::Result<bool>
+    ensures { origin.entry.block ≡ None
+        → IfOk result (λ ok. IsTrue ok → WritesDer (W.contents out.old) (W.contents out.new)) }
+{
+    match canonical(alloc, octets) {
+        Ok(written) => {
+            match origin.block {
+                Some(block) => write_pem(alloc, block.label, &written, out)?,
+                None => out.write_all(&written)?,
+            }
+            Ok(true)
+        }
+        Err(CanonError::NotCanonical(refused)) => {
+            out.flush()?;
+            report_place(origin, refused.offset, &refused.path, refused.cause, err)?;
+            Ok(false)
+        }
+        Err(CanonError::OutOfMemory) => Err(io::Error::from(ErrorKind::OutOfMemory)),
+    }
+}
+
+/// Writes octets as a block of PEM (RFC 7468).
+fn write_pem<W: Write>(alloc: Global, label: &[u8], octets: &[u8], out: &mut W) -> io::Result<()> {
+    let label = label.escape_ascii();
+    let text = STANDARD.encode(alloc, octets)?;
+    writeln!(out, "-----BEGIN {label}-----")?;
+    for line in text.as_bytes().chunks(LINE) {
+        out.write_all(line)?;
+        writeln!(out)?;
+    }
+    writeln!(out, "-----END {label}-----")
+}

@@ -1,0 +1,35 @@
+//! Where octets are from.
+use bstr::ByteSlice;
+use std::fmt;
+
+/// Where octets are from: a file, or a block of PEM in it.
+#[derive(Clone, Copy)]
+pub(crate) struct Origin<'a> {
+    /// The name of the file.
+    pub name: &'a str,
+    /// None if the file has no blocks.
+    pub block: Option<BlockName<'a>>,
+}
+
+/// A block of PEM (RFC 7468).
+#[derive(Clone, Copy)]
+pub(crate) struct BlockName<'a> {
+    /// Its number among the blocks of the file, from 1.
+    pub number: usize,
+    /// Its label, as `CERTIFICATE`.
+    pub label: &'a [u8],
+}
+
+impl fmt::Display for Origin<'_> {
+    fn fmt<W: fmt::Write>(&self, f: &mut fmt::Formatter<W>) -> fmt::Result {
+        let name = self.name;
+        match self.block {
+            Some(block) => {
+                let number = block.number;
+                let label = block.label.escape_ascii();
+                write!(f, "{name}, block {number} ({label})")
+            }
+            None => write!(f, "{name}"),
+        }
+    }
+}
