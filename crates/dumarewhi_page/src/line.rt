@@ -1,5 +1,5 @@
 //! The line of a row.
-use der_print::{Remark, Value};
+use der_print::{Limit, Remark, Value};
 use der_walk::Element;
 use std::fmt;
 
@@ -8,19 +8,19 @@ use std::fmt;
 #[derive(Clone, Copy)]
 pub(crate) struct Line<'a> {
     pub element: Element<'a>,
-    /// Whether a long value is printed whole.
-    pub full: bool,
+    /// How much is printed of a long value.
+    pub limit: Limit,
 }
 
 impl fmt::Display for Line<'_> {
     fn fmt<W: fmt::Write>(&self, f: &mut fmt::Formatter<W>) -> fmt::Result {
         let element = self.element;
-        let full = self.full;
+        let limit = self.limit;
         write_front(f, &element)?;
         if element.holds_der {
             return f.write_str(" holding DER");
         }
-        write!(f, "{}", Value { element, full })?;
+        write!(f, "{}", Value { element, limit })?;
         if element.has_other_characters {
             write!(f, "  {}", Remark { element })?;
         }

@@ -6,7 +6,7 @@ use crate::path::RowPath;
 use crate::room::put;
 use crate::row::PageRow;
 use crate::rules::rules_numbered;
-use der_print::{Remark, Value};
+use der_print::{Limit, Remark, Value};
 use der_walk::{Refusal, Walk};
 
 /// A part of a refusal.
@@ -27,8 +27,8 @@ pub extern "C" fn page_name(row: &PageRow, text: &mut [u8]) -> usize {
 #[unsafe(no_mangle)]
 pub extern "C" fn page_value(input: &[u8], row: &PageRow, full: u32, text: &mut [u8]) -> usize {
     let element = row.element(input);
-    let full = full != 0;
-    put(text, Value { element, full })
+    let limit = limit_numbered(full);
+    put(text, Value { element, limit })
 }
 
 /// Writes what is said of a text with a character that its type doesn't have.
@@ -42,8 +42,15 @@ pub extern "C" fn page_remark(input: &[u8], row: &PageRow, text: &mut [u8]) -> u
 #[unsafe(no_mangle)]
 pub extern "C" fn page_line(input: &[u8], row: &PageRow, full: u32, text: &mut [u8]) -> usize {
     let element = row.element(input);
-    let full = full != 0;
-    put(text, Line { element, full })
+    let limit = limit_numbered(full);
+    put(text, Line { element, limit })
+}
+
+fn limit_numbered(full: u32) -> Limit {
+    match full {
+        0 => Limit::Front,
+        _ => Limit::Whole,
+    }
 }
 
 /// Writes the path to the element of a row.
