@@ -6,16 +6,14 @@ use std::test::Fail;
 
 #[test]
 fn each_line_is_found(rt: HostRuntime) -> Result<(), Fail> {
-    let mut count = 0;
     for line in NAMES.lines() {
         assert!(rt; is_found(rt.alloc(), line));
-        count += 1;
     }
-    assert!(rt; count > 1000);
+    assert!(rt; NAMES.len() > 30_000);
     Ok(())
 }
 
-/// Whether the identifier of a line has its name, and one with an octet more or less has another or none.
+/// Whether the identifier of a line has its name.
 fn is_found(alloc: Global, line: &str) -> bool {
     let Some((digits, name)) = line.split_once(' ') else {
         return false;

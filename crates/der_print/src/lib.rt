@@ -11,8 +11,6 @@ mod place;
 mod remark;
 mod shown;
 mod style;
-#[cfg(test)]
-mod tests;
 mod text;
 mod time;
 mod value;
