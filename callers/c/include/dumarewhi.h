@@ -86,9 +86,11 @@ uint32_t dm_first_ber(const uint8_t *input, size_t length, dm_element *element, 
  * order of a SET OF, default values and the types of elements of other classes are not known here, so they stay as
  * they are. Another value that DER does not have, as a time without seconds, is an error.
  *
- * With DM_OK the first `length` octets of the buffer are elements of DER, which is proved, and `elements` is 0. With
- * DM_NO_ROOM call again with `length` octets of room: until then a value may still be an error. With room 0 the call
- * counts. With DM_ERROR `place` is in the input. With another status than DM_OK it isn't said what the buffer holds.
+ * With DM_OK the first `length` octets of the buffer are elements of DER, and `elements` is 0. Each element but the
+ * parts of a string keeps its class, number, depth and place in the order. This is proved, and the values are tested.
+ * With DM_NO_ROOM call again with `length` octets of room: until then a value may still be an error. With room 0 the
+ * call counts. With DM_ERROR `place` is in the input. With another status than DM_OK it isn't said what the buffer
+ * holds.
  * Elements that are DER already are copied. The stack has to have room for DM_WRITE_DEPTH levels of DM_LEVEL_OCTETS
  * each. Returns the status. */
 uint32_t dm_write_der(const uint8_t *input, size_t length, uint8_t *out, size_t room, dm_outcome *outcome);

@@ -1,15 +1,19 @@
 //! The public calls.
-ghost use Rattle.std.specs.Prelude.{◌≡◌, ◌≤◌, length, IfOk, IfSome, IsSomeAnd};
+ghost use Rattle.std.specs.Prelude.{◌≡◌, ◌≤◌, ℕ, List, length, take, IfOk, IfSome, IsSomeAnd, IsTrue, OnOk};
 ghost use Rattle.der_check.specs.Elements.{AreElements};
 ghost use Rattle.der_check.specs.declared.rules.Rules.{Rules};
-ghost use Rattle.der_canon.specs.Written.{KeepsDer, WritesDer};
+ghost use Rattle.der_walk.specs.Visits.{Visited, Visits, no_extras};
+ghost use Rattle.der_walk.specs.Walked.{HasVisited, visited_of};
+ghost use Rattle.der_canon.specs.Pieces.{HasPiece};
+ghost use Rattle.der_canon.specs.Same.{HasElementsOf, IsWrittenAs};
+ghost use Rattle.der_canon.specs.Written.{KeepsDer, WritesDer, WritesElements};
 
 use crate::error::{CanonError, NotCanonical};
 use crate::octets::copy;
-use crate::piece::{Pieces, refuse};
+use crate::piece::{Piece, Pieces, is_in_parts, refuse};
 use crate::writer::write_pieces;
 use der_check::{Rules, are_elements};
-use der_walk::{Cause, MAX_DEPTH, Refusal, Walk};
+use der_walk::{Cause, Element, MAX_DEPTH, Refusal, Walk};
 use std::alloc::Global;
 
 /// Writes elements that are read by BER as DER writes them, to a buffer: lengths in the fewest octets (X.690 10.1),
@@ -18,8 +22,9 @@ use std::alloc::Global;
 /// they stay as they are. Other values that DER doesn't have, as a time without seconds, are refused.
 ///
 /// Returns how many octets there are, room or not. If the buffer has room for them, they are in front of it, and are
-/// elements of DER. If it has less, call again with more: what it holds then isn't said, nor whether a value is
-/// refused. Elements that are DER already are copied. It takes no memory, and the buffer keeps what follows them.
+/// elements of DER: those of the input but the parts of strings, each with its class, number and depth. If it has
+/// less, call again with more: what it holds then isn't said, nor whether a value is refused. Elements that are DER
+/// already are copied. It takes no memory, and the buffer keeps what follows them.
 ///
 /// ```
 /// let mut out = [0; 8];
@@ -29,6 +34,7 @@ use std::alloc::Global;
 pub fn canonical_into(octets: &[u8], out: &mut [u8]) -> Result<usize, NotCanonical>
     ensures elements { WritesDer out.new result }
     ensures unchanged { KeepsDer octets.now out.old out.new result }
+    ensures same { WritesElements octets.now out.new result }
 {
     if are_elements(octets, Rules::Der, MAX_DEPTH + 1) {
         copy(out, octets);
@@ -39,43 +45,82 @@ pub fn canonical_into(octets: &[u8], out: &mut [u8]) -> Result<usize, NotCanonic
 
 /// Writes elements that aren't DER already.
 fn write_others(octets: &[u8], out: &mut [u8]) -> Result<usize, NotCanonical>
-    ensures { WritesDer out.new result }
+    ensures elements { WritesDer out.new result }
+    ensures same { IfOk result (λ n. n ≤ length out.new → HasElementsOf octets.now (take n out.new)) }
 {
     let needed = write_pieces(octets, out)?;
     if needed > out.len() {
         return Ok(needed);
     }
-    let written = &out[..needed];
-    if are_elements(written, Rules::Der, MAX_DEPTH + 1) {
-        return Ok(needed);
-    }
-    Err(refuse_written(octets, written))
+    check_written(octets, &out[..needed])?;
+    Ok(needed)
 }
 
-/// Refuses what was written, with the place in the input of the element that isn't DER.
-fn refuse_written(octets: &[u8], written: &[u8]) -> NotCanonical {
+/// Checks that what was written is elements of DER, those of the input. A refusal has the place in the input of the
+/// element that isn't DER.
+fn check_written(octets: &[u8], written: &[u8]) -> Result<(), NotCanonical>
+    ensures { OnOk result (HasElementsOf octets.now written.now) }
+{
     let mut pieces = Pieces::new(octets);
     let mut walk = Walk::new(written, Rules::Der, false);
     // An element has an octet at least, so the loop ends at the end of the input.
     for _ in 0..=octets.len() {
-        let Ok(Some(piece)) = pieces.next_piece() else {
-            break;
-        };
-        if piece.has_header() {
-            if let Err(refusal) = walk.next_element() {
-                let offset = piece.element.offset;
-                return refuse(&walk, &Refusal { offset, ..refusal });
-            }
+        match pieces.next_piece() {
+            Ok(Some(piece)) => check_piece(&mut walk, &piece)?,
+            Ok(None) => return check_end(&mut walk),
+            Err(_) => break,
         }
     }
+    Err(refuse_all(&walk))
+}
+
+/// Checks that the next element that was written is this piece.
+fn check_piece(walk: &mut Walk<'_>, piece: &Piece<'_>) -> Result<(), NotCanonical>
+    ensures { OnOk result (HasPiece piece.now walk.old walk.new) }
+{
+    if !piece.has_header() {
+        return Ok(());
+    }
+    match walk.next_element() {
+        Ok(Some(written)) if is_written_as(&piece.element, &written) => Ok(()),
+        Ok(_) => Err(refuse_all(walk)),
+        Err(refusal) => {
+            let offset = piece.element.offset;
+            Err(refuse(walk, &Refusal { offset, ..refusal }))
+        }
+    }
+}
+
+/// Checks that all that was written is checked.
+fn check_end(walk: &mut Walk<'_>) -> Result<(), NotCanonical>
+    ensures { OnOk result ((o : List ℕ) (ws : List Visited) → HasVisited no_extras Rules.Der o walk.old ws
+        → Visits no_extras Rules.Der 101 0 0 o ws) }
+{
+    match walk.next_element() {
+        Ok(None) => Ok(()),
+        _ => Err(refuse_all(walk)),
+    }
+}
+
+/// Whether an element that was written is this one, as DER writes it.
+fn is_written_as(element: &Element<'_>, written: &Element<'_>) -> bool
+    ensures { IsTrue result → IsWrittenAs (visited_of element.now) (visited_of written.now) }
+{
+    written.class == element.class
+        && written.number == element.number
+        && written.depth == element.depth
+        && written.constructed == (element.constructed && !is_in_parts(element))
+}
+
+/// Refuses all that was written, with no place.
+fn refuse_all(walk: &Walk<'_>) -> NotCanonical {
     let refusal = Refusal {
         offset: 0,
         step: None,
         cause: Cause::NotDer,
     };
-    refuse(&walk, &refusal)
+    refuse(walk, &refusal)
 }
-
 /// Writes elements as `canonical_into` does, to a vector that has room for them. OutOfMemory if there is none.
 pub fn canonical(alloc: Global, octets: &[u8]) -> Result<Vec<u8>, CanonError>
     ensures elements { IfOk result (λ v. AreElements Rules.Der 101 v.items) }
@@ -90,7 +135,7 @@ pub fn canonical(alloc: Global, octets: &[u8]) -> Result<Vec<u8>, CanonError>
     match write_within(alloc, octets, needed)? {
         Some(written) => Ok(written),
         // The same octets need the same room.
-        None => Err(CanonError::NotCanonical(refuse_written(octets, &[]))),
+        None => Err(CanonError::NotCanonical(refuse_all(&Walk::new(&[], Rules::Der, false)))),
     }
 }
 

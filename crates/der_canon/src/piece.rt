@@ -1,4 +1,11 @@
 //! The elements of an input, as they are to be written.
+ghost use Rattle.std.specs.Prelude.{◌≡◌, ℕ, Option, None, List, [], false, true, IfOk};
+ghost use Rattle.der_check.specs.declared.rules.Rules.{Rules};
+ghost use Rattle.der_walk.specs.Visits.{Visited, no_extras};
+ghost use Rattle.der_walk.specs.Walked.{HasVisited, visited_of};
+ghost use Rattle.der_canon.specs.Pieces.{IsForm, PieceNext, depth_of, has_header};
+ghost use Rattle.der_canon.specs.Same.{is_in_parts, is_string};
+
 use crate::error::NotCanonical;
 use der_base::header::Class;
 use der_check::Rules;
@@ -26,8 +33,13 @@ pub(crate) struct Piece<'a> {
 
 impl Piece<'_> {
     /// Whether a header of its own is written.
-    pub(crate) fn has_header(&self) -> bool {
-        self.form != Form::Part
+    pub(crate) fn has_header(&self) -> bool
+        ensures { result ≡ has_header self.now.form }
+    {
+        match self.form {
+            Form::Part => false,
+            Form::Primitive | Form::Constructed | Form::Joined => true,
+        }
     }
 }
 
@@ -51,7 +63,10 @@ pub(crate) struct Pieces<'a> {
 }
 
 impl<'a> Pieces<'a> {
-    pub(crate) fn new(octets: &'a [u8]) -> Pieces<'a> {
+    pub(crate) fn new(octets: &'a [u8]) -> Pieces<'a>
+        ensures walk { HasVisited no_extras Rules.Ber octets.now result.walk [] }
+        ensures parts { depth_of result.parts ≡ None }
+    {
         Pieces {
             walk: Walk::new(octets, Rules::Ber, false),
             parts: None,
@@ -59,7 +74,10 @@ impl<'a> Pieces<'a> {
     }
 
     /// The next element. None at the end of the input.
-    pub(crate) fn next_piece(&mut self) -> Result<Option<Piece<'a>>, Refusal> {
+    pub(crate) fn next_piece(&mut self) -> Result<Option<Piece<'a>>, Refusal>
+        ensures { (i : List ℕ) (vs : List Visited) → HasVisited no_extras Rules.Ber i self.old.walk vs
+            → PieceNext i vs self.old.parts self.new result }
+    {
         let Some(element) = self.walk.next_element()? else {
             return Ok(None);
         };
@@ -88,14 +106,16 @@ pub(crate) fn refuse(walk: &Walk<'_>, refusal: &Refusal) -> NotCanonical {
 }
 
 /// The form of an element after others, and the string whose parts follow it.
-fn form_of(element: &Element<'_>, parts: Option<Parts>) -> Result<(Form, Option<Parts>), Cause> {
+fn form_of(element: &Element<'_>, parts: Option<Parts>) -> Result<(Form, Option<Parts>), Cause>
+    ensures { IfOk result (λ x. IsForm parts (visited_of element.now) x.0 x.1) }
+{
     match parts {
         Some(around) if element.depth > around.depth => {
             let next = after_part(element, around)?;
             Ok((Form::Part, Some(next)))
         }
         _ if !element.constructed => Ok((Form::Primitive, None)),
-        _ if is_string(element) => {
+        _ if is_in_parts(element) => {
             let parts = Parts {
                 depth: element.depth,
                 number: if element.number == 3 { 3 } else { 4 },
@@ -108,7 +128,9 @@ fn form_of(element: &Element<'_>, parts: Option<Parts>) -> Result<(Form, Option<
 }
 
 /// The string after one more of its parts.
-fn after_part(element: &Element<'_>, around: Parts) -> Result<Parts, Cause> {
+fn after_part(element: &Element<'_>, around: Parts) -> Result<Parts, Cause>
+    ensures { IfOk result (λ p. p.depth ≡ around.depth) }
+{
     if !element.is_universal(around.number) {
         return Err(Cause::OtherPart);
     }
@@ -122,10 +144,18 @@ fn after_part(element: &Element<'_>, around: Parts) -> Result<Parts, Cause> {
     Ok(Parts { unused, ..around })
 }
 
-/// Whether a constructed element is a string: of the universal types only lists and types that aren't
-/// known here are constructed besides.
-fn is_string(element: &Element<'_>) -> bool {
-    element.class == Class::Universal && matches!(element.number, 3 | 4 | 7 | 12 | 18..=28 | 30)
+/// Whether an element is a string in parts.
+pub(crate) fn is_in_parts(element: &Element<'_>) -> bool
+    ensures { result ≡ is_in_parts (visited_of element.now) }
+{
+    element.constructed && element.class == Class::Universal && is_string(element.number)
+}
+
+/// Whether the universal type with this number is a string or a time.
+fn is_string(number: u32) -> bool
+    ensures { result ≡ is_string number }
+{
+    matches!(number, 3 | 4 | 7 | 12 | 18..=28 | 30)
 }
 
 /// Refuses an element that was read. A constructed one is open, so it is in the path already.
