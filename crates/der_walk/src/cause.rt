@@ -153,7 +153,10 @@ fn header_rule(e: BerError) -> Rule {
 /// The rule that the content of a primitive element breaks.
 fn value_rule(e: BerError) -> Rule {
     match e {
-        BerError::InvalidLength => Rule::new("a BOOLEAN isn't one octet", "8.2.1"),
+        BerError::InvalidLength => Rule::new(
+            "a BOOLEAN isn't one octet, a NULL has some, or a BIT STRING has none",
+            "8.2.1, 8.6.2 and 8.8.2",
+        ),
         BerError::BerValueError => Rule::new(
             "a BIT STRING has no octet for its unused bits",
             "8.6.2",
