@@ -3,14 +3,14 @@ use Rattle.std.proofs.Common.{◌≡◌, ℕ, ◌⊎◌, Bool, true, false, not,
 use Rattle.der_check.specs.declared.rules.Rules.TheVariants.{Ber, Der}
 use Rattle.der_check.specs.Elements.{AreElements}
 use Rattle.der_walk.specs.declared.walk.Walk.{Walk}
-use Rattle.der_walk.specs.Visits.{Visited, no_extras}
+use Rattle.der_walk.specs.Visits.{Visited}
 use Rattle.der_walk.specs.Walked.{HasVisited, visited_of}
 use Rattle.der_walk.proofs.VisitedElements.{are_elements}
 use Rattle.der_canon.specs.declared.piece.Parts.{Parts}
 use Rattle.der_canon.specs.declared.piece.Piece.{Piece}
 use Rattle.der_canon.specs.declared.piece.Pieces.{Pieces}
 use Rattle.der_canon.specs.Pieces.{IsForm, depth_of, has_header}
-use Rattle.der_canon.specs.Same.{AreWrittenAs, HasElementsOf, IsWrittenAs, is_part, part, whole}
+use Rattle.der_canon.specs.Same.{AreWrittenAs, HasElementsOf, IsWrittenAs, is_part, part, whole, no_extras}
 
 not_false : (b : Bool) → not b ≡ false → b ≡ true
 not_false true h = refl

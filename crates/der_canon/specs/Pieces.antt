@@ -3,7 +3,7 @@ use Rattle.std.specs.Prelude.{◌≡◌, Bool, true, false, not, Option, Some, N
 use Rattle.std.specs.Prelude.{List, [], ◌∷◌, ◌++◌, Result, Ok, Err, ℕ, ◌⊎◌}
 use Rattle.der_check.specs.declared.rules.Rules.TheVariants.{Ber, Der}
 use Rattle.der_walk.specs.declared.refusal.Refusal.{Refusal}
-use Rattle.der_walk.specs.Visits.{Visited, Visits, no_extras}
+use Rattle.der_walk.specs.Visits.{Visited, Visits}
 use Rattle.der_walk.specs.Walked.{HasVisited, visited_of}
 use Rattle.der_canon.specs.declared.piece.Form.{Form}
 use Rattle.der_canon.specs.declared.piece.Form.TheVariants.{Part}
@@ -11,7 +11,7 @@ use Rattle.der_canon.specs.declared.piece.Parts.{Parts}
 use Rattle.der_canon.specs.declared.piece.Piece.{Piece}
 use Rattle.der_canon.specs.declared.piece.Pieces.{Pieces}
 use Rattle.der_walk.specs.declared.walk.Walk.{Walk}
-use Rattle.der_canon.specs.Same.{IsWrittenAs, is_part, parts_of}
+use Rattle.der_canon.specs.Same.{IsWrittenAs, is_part, parts_of, no_extras}
 
 abbrev pub has_header : Form → Bool
 has_header Part = false

@@ -5,7 +5,11 @@ use Rattle.der_base.specs.declared.header.Class.{Class}
 use Rattle.der_base.specs.declared.header.Class.TheVariants.{Universal}
 use Rattle.der_base.specs.Text.{is_one_of, is_within}
 use Rattle.der_check.specs.declared.rules.Rules.TheVariants.{Ber, Der}
-use Rattle.der_walk.specs.Visits.{Visited, Visits, no_extras}
+use Rattle.der_walk.specs.Visits.{Extras, Visited, Visits}
+
+-- nothing is visited but elements
+abbrev pub no_extras : Extras
+no_extras = record { enters_strings = false; keeps_texts = false }
 
 -- the universal types whose encoding by BER may be in parts: BIT STRING, OCTET STRING, the types of characters and
 -- times (8.6, 8.7, 8.23, 8.25)

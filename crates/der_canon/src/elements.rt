@@ -2,10 +2,10 @@
 ghost use Rattle.std.specs.Prelude.{◌≡◌, ◌≤◌, ℕ, List, length, take, IfOk, IfSome, IsSomeAnd, IsTrue, OnOk};
 ghost use Rattle.der_check.specs.Elements.{AreElements};
 ghost use Rattle.der_check.specs.declared.rules.Rules.{Rules};
-ghost use Rattle.der_walk.specs.Visits.{Visited, Visits, no_extras};
+ghost use Rattle.der_walk.specs.Visits.{Visited, Visits};
 ghost use Rattle.der_walk.specs.Walked.{HasVisited, visited_of};
 ghost use Rattle.der_canon.specs.Pieces.{HasPiece};
-ghost use Rattle.der_canon.specs.Same.{HasElementsOf, IsWrittenAs};
+ghost use Rattle.der_canon.specs.Same.{HasElementsOf, IsWrittenAs, no_extras};
 ghost use Rattle.der_canon.specs.Written.{KeepsDer, WritesDer, WritesElements};
 
 use crate::error::{CanonError, NotCanonical};

@@ -1,10 +1,10 @@
 //! The elements of an input, as they are to be written.
 ghost use Rattle.std.specs.Prelude.{◌≡◌, ℕ, Option, None, List, [], false, true, IfOk};
 ghost use Rattle.der_check.specs.declared.rules.Rules.{Rules};
-ghost use Rattle.der_walk.specs.Visits.{Visited, no_extras};
+ghost use Rattle.der_walk.specs.Visits.{Visited};
 ghost use Rattle.der_walk.specs.Walked.{HasVisited, visited_of};
 ghost use Rattle.der_canon.specs.Pieces.{IsForm, PieceNext, depth_of, has_header};
-ghost use Rattle.der_canon.specs.Same.{is_in_parts, is_string};
+ghost use Rattle.der_canon.specs.Same.{is_in_parts, is_string, no_extras};
 
 use crate::error::NotCanonical;
 use der_base::header::Class;

@@ -1,9 +1,9 @@
 use Rattle.std.proofs.Common.{List}
 use Rattle.der_check.specs.declared.rules.Rules.TheVariants.{Ber, Der}
-use Rattle.der_walk.specs.Visits.{Visited, no_extras}
+use Rattle.der_walk.specs.Visits.{Visited}
 use Rattle.der_walk.specs.Walked.{HasVisited}
 use Rattle.der_canon.specs.Pieces.{depth_of}
-use Rattle.der_canon.specs.Same.{AreWrittenAs}
+use Rattle.der_canon.specs.Same.{AreWrittenAs, no_extras}
 use Rattle.der_canon.proofs.elements.check_written.Given as goal
 
 -- what was written so far is checked

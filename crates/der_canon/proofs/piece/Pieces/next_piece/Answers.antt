@@ -1,6 +1,6 @@
 use Rattle.der_check.specs.declared.rules.Rules.TheVariants.{Ber}
-use Rattle.der_walk.specs.Visits.{no_extras}
 use Rattle.der_canon.proofs.piece.Pieces.next_piece.Goals as goal
+use Rattle.der_canon.specs.Same.{no_extras}
 
 pub returns-in_default : goal.returns-in_default
 returns-in_default c = λ i vs h. (rw c.in_default.is at c.in_ok-element.ensures) no_extras Ber i vs h
