@@ -27,6 +27,7 @@ pub mod Oids
 pub mod Parts
 pub mod Pretty
 pub mod Refusal
+pub mod Rules
 pub mod SetOfOrder
 pub mod Spelling
 pub mod Stable

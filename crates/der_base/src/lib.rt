@@ -12,6 +12,7 @@ pub mod laws;
 mod length;
 pub mod oid;
 mod oid_text;
+pub mod rules;
 pub mod spans;
 pub mod text;
 pub mod time;

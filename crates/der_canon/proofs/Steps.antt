@@ -1,6 +1,6 @@
 -- One more piece that is checked.
 use Rattle.std.proofs.Common.{◌≡◌, ℕ, ◌⊎◌, Bool, true, false, not, Option, List, [], ◌∷◌, ◌++◌, Result, Ok, Err, OnOk, refl, sym, subst, ◌∙◌, inl, inr}
-use Rattle.der_check.specs.declared.rules.Rules.TheVariants.{Ber, Der}
+use Rattle.der_base.specs.declared.rules.Rules.TheVariants.{Ber, Der}
 use Rattle.der_check.specs.Elements.{AreElements}
 use Rattle.der_walk.specs.declared.walk.Walk.{Walk}
 use Rattle.der_walk.specs.Visits.{Visited}

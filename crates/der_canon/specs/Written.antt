@@ -1,6 +1,6 @@
 -- What is written as DER writes it.
 use Rattle.std.specs.Prelude.{◌≡◌, ℕ, ◌≤◌, List, length, take, Result, Ok, IfOk}
-use Rattle.der_check.specs.declared.rules.Rules.TheVariants.{Der}
+use Rattle.der_base.specs.declared.rules.Rules.TheVariants.{Der}
 use Rattle.der_check.specs.Elements.{AreElements}
 use Rattle.der_nodes.specs.Places.{overlay}
 use Rattle.der_canon.specs.Same.{HasElementsOf}

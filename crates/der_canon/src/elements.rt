@@ -1,7 +1,7 @@
 //! The public calls.
 ghost use Rattle.std.specs.Prelude.{◌≡◌, ◌≤◌, ℕ, List, length, take, IfOk, IfSome, IsSomeAnd, IsTrue, OnOk};
 ghost use Rattle.der_check.specs.Elements.{AreElements};
-ghost use Rattle.der_check.specs.declared.rules.Rules.{Rules};
+ghost use Rattle.der_base.specs.declared.rules.Rules.{Rules};
 ghost use Rattle.der_walk.specs.Visits.{Visited, Visits};
 ghost use Rattle.der_walk.specs.Walked.{HasVisited, visited_of};
 ghost use Rattle.der_canon.specs.Pieces.{HasPiece};
@@ -12,7 +12,8 @@ use crate::error::{CanonError, NotCanonical};
 use crate::octets::copy;
 use crate::piece::{Piece, Pieces, is_in_parts, refuse};
 use crate::writer::write_pieces;
-use der_check::{Rules, are_elements};
+use der_base::rules::Rules;
+use der_check::are_elements;
 use der_walk::{Cause, Element, MAX_DEPTH, Refusal, Walk};
 use std::alloc::Global;
 

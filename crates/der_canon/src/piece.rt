@@ -1,6 +1,6 @@
 //! The elements of an input, as they are to be written.
 ghost use Rattle.std.specs.Prelude.{◌≡◌, ℕ, Option, None, List, [], false, true, IfOk};
-ghost use Rattle.der_check.specs.declared.rules.Rules.{Rules};
+ghost use Rattle.der_base.specs.declared.rules.Rules.{Rules};
 ghost use Rattle.der_walk.specs.Visits.{Visited};
 ghost use Rattle.der_walk.specs.Walked.{HasVisited, visited_of};
 ghost use Rattle.der_canon.specs.Pieces.{IsForm, PieceNext, depth_of, has_header};
@@ -8,7 +8,7 @@ ghost use Rattle.der_canon.specs.Same.{is_in_parts, is_string, no_extras};
 
 use crate::error::NotCanonical;
 use der_base::header::Class;
-use der_check::Rules;
+use der_base::rules::Rules;
 use der_walk::{Cause, Element, Refusal, Walk};
 
 /// How an element is written.

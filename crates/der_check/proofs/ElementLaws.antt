@@ -18,10 +18,11 @@ use Rattle.der_base.specs.Tree.{Node, node, Content}
 use Rattle.der_base.proofs.Framing.Elements.{definite_part, open_part}
 use Rattle.der_base.proofs.Octets.Identifiers.{fronts_same}
 use Rattle.der_laws.proofs.Spellings.DerWithinBer.{der_element}
-use Rattle.der_check.specs.declared.rules.Rules.{Rules}
-use Rattle.der_check.specs.declared.rules.Rules.TheVariants.{Ber, Der}
+use Rattle.der_base.specs.declared.rules.Rules.{Rules}
+use Rattle.der_base.specs.declared.rules.Rules.TheVariants.{Ber, Der}
 use Rattle.der_check.specs.Elements.{AreElements, IsElement, none, one_more, primitive, constructed, indefinite, MayBeConstructed, SpellsLengthBy, SpellsOne}
-use Rattle.der_check.specs.Readers.{Finds, AnswersHeader, AnswersOneElement, BeginsWithElement, BeginsWithPrimitive, BeginsWithConstructed, BeginsWithElements, BeginsWithOpenContent, SpellsHeaderBy, StartsConstructed, StartsEndMarker}
+use Rattle.der_base.specs.Rules.{AnswersHeader, SpellsHeaderBy}
+use Rattle.der_check.specs.Readers.{Finds, AnswersOneElement, BeginsWithElement, BeginsWithPrimitive, BeginsWithConstructed, BeginsWithElements, BeginsWithOpenContent, StartsConstructed, StartsEndMarker}
 use Rattle.der_check.proofs.FirstOctets.{zero_first, constructed_first}
 use Rattle.der_check.proofs.HeadersBy.{no_ok, spells_definite, definite_spelled, spells_open, open_spelled, header_identifier, header_read, header_only, header_refused}
 

@@ -15,10 +15,10 @@ use Rattle.der_base.proofs.Framing.FramingLists.{header_takes_two, definite_head
 use Rattle.der_base.proofs.Octets.Identifiers.{identifier_octets}
 use Rattle.der_base.proofs.Headers.BerHeaders.{ber_header_shows_one}
 use Rattle.der_base.proofs.Headers.DerHeaders.{der_header_shows_one}
-use Rattle.der_check.specs.declared.rules.Rules.{Rules}
-use Rattle.der_check.specs.declared.rules.Rules.TheVariants.{Ber, Der}
+use Rattle.der_base.specs.declared.rules.Rules.{Rules}
+use Rattle.der_base.specs.declared.rules.Rules.TheVariants.{Ber, Der}
 use Rattle.der_check.specs.Elements.{SpellsLengthBy}
-use Rattle.der_check.specs.Readers.{AnswersHeader, SpellsHeaderBy}
+use Rattle.der_base.specs.Rules.{AnswersHeader, SpellsHeaderBy}
 
 -- a reader that returns an Err returns no Ok
 pub no_ok : {T : Type 0} (e : Refused BerError) (P : T → Type 0) → ¬ AnswersOkOr {T = T} ⊥ (Err e) P

@@ -8,8 +8,8 @@ use Rattle.der_base.specs.Octets.{identifier, shortest_length, SpellsLength}
 use Rattle.der_base.specs.Spelling.{BerSpells, DerSpells, end_marker, framing_budget}
 use Rattle.der_base.specs.Text.{is_one_of}
 use Rattle.der_base.specs.Tree.{Node, node, Content}
-use Rattle.der_check.specs.declared.rules.Rules.{Rules}
-use Rattle.der_check.specs.declared.rules.Rules.TheVariants.{Ber, Der}
+use Rattle.der_base.specs.declared.rules.Rules.{Rules}
+use Rattle.der_base.specs.declared.rules.Rules.TheVariants.{Ber, Der}
 
 -- the octets spell an object without others inside
 abbrev pub SpellsOne : Rules → List ℕ → Node → Type 0

@@ -8,19 +8,15 @@ use Rattle.der_base.specs.declared.header.Class.{Class}
 use Rattle.der_base.specs.declared.header.Class.TheVariants.{Universal}
 use Rattle.der_base.specs.declared.header.Length.{Length}
 use Rattle.der_base.specs.declared.header.Length.TheVariants.{Definite, Indefinite}
-use Rattle.der_base.specs.Headers.{HeaderAnswer, AnswersBerHeader, AnswersDerHeader, LeadingHeader, SpellsHeader, SpellsDerHeader}
+use Rattle.der_base.specs.Headers.{LeadingHeader}
 use Rattle.der_base.specs.Octets.{identifier}
+use Rattle.der_base.specs.Rules.{SpellsHeaderBy}
 use Rattle.der_base.specs.Spelling.{end_marker}
 use Rattle.der_base.specs.Tree.{node, Content}
-use Rattle.der_check.specs.declared.rules.Rules.{Rules}
-use Rattle.der_check.specs.declared.rules.Rules.TheVariants.{Ber, Der}
+use Rattle.der_base.specs.declared.rules.Rules.{Rules}
+use Rattle.der_base.specs.declared.rules.Rules.TheVariants.{Ber, Der}
 use Rattle.der_check.specs.Elements.{AreElements, IsElement, MayBeConstructed, SpellsOne}
 use Rattle.der_nodes.specs.NodesReading.{AnswersBerNodes, AnswersDerNodes}
-
--- the result of the reader of headers by these rules
-abbrev pub AnswersHeader : Rules → List ℕ → HeaderAnswer → Type 0
-AnswersHeader Ber i result = AnswersBerHeader i result
-AnswersHeader Der i result = AnswersDerHeader i result
 
 -- that of the check of an element without others inside
 abbrev pub AnswersOneElement : Rules → List ℕ → Result (Bor (List ℕ) × ℕ) (Refused BerError) → Type 0
@@ -44,11 +40,6 @@ BeginsWithPrimitive r i rest = (b : List ℕ) × (c : Class) × (t : ℕ) × (x 
 -- with elements to a depth, and then an end marker
 abbrev pub BeginsWithOpenContent : Rules → ℕ → List ℕ → List ℕ → Type 0
 BeginsWithOpenContent r d i rest = (w : List ℕ) × (i ≡ w ++ (end_marker ++ rest)) × AreElements r d w
-
--- with a header by these rules
-abbrev pub SpellsHeaderBy : Rules → List ℕ → LeadingHeader → Type 0
-SpellsHeaderBy Ber i v = SpellsHeader i v
-SpellsHeaderBy Der i v = SpellsDerHeader i v
 
 -- i begins with a content of this length, which is elements, and with its end marker, and rest follows
 abbrev pub BeginsWithElements : Rules → ℕ → Length → List ℕ → List ℕ → Type 0

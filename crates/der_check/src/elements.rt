@@ -5,8 +5,9 @@ ghost use Rattle.der_check.specs.Elements.{AreElements, IsElement};
 ghost use Rattle.der_check.specs.Readers.{BeginsWithConstructed, BeginsWithElement, BeginsWithOpenContent};
 ghost use Rattle.der_check.specs.Readers.{BeginsWithPrimitive, Finds, StartsConstructed, StartsEndMarker};
 
-use crate::rules::Rules;
+use crate::rules::{check_one, may_be_constructed};
 use der_base::header::Length;
+use der_base::rules::Rules;
 
 /// Whether octets are elements, one after another, and nothing else. The content of a constructed element
 /// of any class is such elements again (X.690 8.1.4), down to this depth.
@@ -77,7 +78,7 @@ fn after_primitive(i: &[u8], rules: Rules) -> Option<&[u8]>
     if starts_end_marker(i) {
         return None;
     }
-    match rules.check_one(i) {
+    match check_one(rules, i) {
         Ok((rest, _)) => Some(rest),
         Err(_) => None,
     }
@@ -104,7 +105,7 @@ fn after_constructed(i: &[u8], rules: Rules, max_depth: usize) -> Option<&[u8]>
     let Ok((behind, header)) = rules.read_header(i) else {
         return None;
     };
-    if !header.constructed() || !rules.may_be_constructed(header.class(), header.tag()) {
+    if !header.constructed() || !may_be_constructed(rules, header.class(), header.tag()) {
         return None;
     }
     let Length::Definite(size) = header.length() else {

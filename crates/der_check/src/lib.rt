@@ -5,4 +5,4 @@ mod elements;
 mod rules;
 
 pub use elements::{after_end_marker, are_elements, is_element};
-pub use rules::Rules;
+pub use rules::{check_one, may_be_constructed};

@@ -1,58 +1,36 @@
-//! The rules by which elements are read.
+//! What an element may be, by the rules.
 ghost use Rattle.std.specs.Prelude.{◌↔◌, ◌<◌, IfOk, IsTrue, length};
 ghost use Rattle.der_check.specs.Elements.{MayBeConstructed};
-ghost use Rattle.der_check.specs.Readers.{AnswersHeader, AnswersOneElement};
+ghost use Rattle.der_check.specs.Readers.{AnswersOneElement};
 
 use der_base::error::{BerError, IResult};
-use der_base::header::{Class, Header, Tag, ber_read_element_header, der_read_element_header};
+use der_base::header::{Class, Tag};
+use der_base::rules::Rules;
 use der_nodes::{check_ber, check_der};
 
-/// The basic or the distinguished encoding rules (X.690 8 and 10).
-#[derive(Clone, Copy, Debug, PartialEq)]
-pub enum Rules {
-    /// The basic ones.
-    Ber,
-    /// The distinguished ones.
-    Der,
+/// Checks the element at the start of the input, which has no others inside, as `check_ber` or
+/// `check_der`.
+#[inline(always)]
+pub fn check_one<'a>(rules: Rules, i: &'a [u8]) -> IResult<&'a [u8], usize, BerError>
+    ensures exactly { AnswersOneElement rules i.now result }
+    ensures shorter { IfOk result (λ x. length x.0.now < length i.now) }
+{
+    match rules {
+        Rules::Ber => check_ber(i, 1),
+        Rules::Der => check_der(i, 1),
+    }
 }
 
-impl Rules {
-    /// Reads the header at the start of an element, as `ber_read_element_header` or
-    /// `der_read_element_header`.
-    #[inline(always)]
-    pub fn read_header<'a>(self, i: &'a [u8]) -> IResult<&'a [u8], Header<'a>, BerError>
-        ensures { AnswersHeader self i.now result }
-    {
-        match self {
-            Rules::Ber => ber_read_element_header(i),
-            Rules::Der => der_read_element_header(i),
-        }
+/// Whether an element of this class and number may be constructed: always by another class than
+/// Universal, by BER a list or a string, by DER a list.
+pub fn may_be_constructed(rules: Rules, class: Class, tag: Tag) -> bool
+    ensures { IsTrue result ↔ MayBeConstructed rules class tag.0 }
+{
+    if class != Class::Universal {
+        return true;
     }
-
-    /// Checks the element at the start of the input, which has no others inside, as `check_ber` or
-    /// `check_der`.
-    #[inline(always)]
-    pub fn check_one<'a>(self, i: &'a [u8]) -> IResult<&'a [u8], usize, BerError>
-        ensures exactly { AnswersOneElement self i.now result }
-        ensures shorter { IfOk result (λ x. length x.0.now < length i.now) }
-    {
-        match self {
-            Rules::Ber => check_ber(i, 1),
-            Rules::Der => check_der(i, 1),
-        }
+    if rules == Rules::Der && tag.is_mapped() {
+        return tag == Tag::Sequence || tag == Tag::Set;
     }
-
-    /// Whether an element of this class and number may be constructed: always by another class than
-    /// Universal, by BER a list or a string, by DER a list.
-    pub fn may_be_constructed(self, class: Class, tag: Tag) -> bool
-        ensures { IsTrue result ↔ MayBeConstructed self class tag.0 }
-    {
-        if class != Class::Universal {
-            return true;
-        }
-        if self == Rules::Der && tag.is_mapped() {
-            return tag == Tag::Sequence || tag == Tag::Set;
-        }
-        !matches!(tag.0, 0..=2 | 5 | 6 | 9 | 10 | 13)
-    }
+    !matches!(tag.0, 0..=2 | 5 | 6 | 9 | 10 | 13)
 }

@@ -26,6 +26,7 @@ pub use Rattle.der_base.specs.Oids
 pub use Rattle.der_base.specs.Parts
 pub use Rattle.der_base.specs.Pretty
 pub use Rattle.der_base.specs.Refusal
+pub use Rattle.der_base.specs.Rules
 pub use Rattle.der_base.specs.SetOfOrder
 pub use Rattle.der_base.specs.Spelling
 pub use Rattle.der_base.specs.Stable

@@ -4,6 +4,7 @@
 
 pub use der_base::error::IResult;
 pub use der_base::oid::Oid;
+pub use der_base::rules::Rules;
 pub use der_ber::parse_ber;
 pub use der_der::parse_der;
 

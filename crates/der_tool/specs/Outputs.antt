@@ -1,7 +1,7 @@
 -- What is written of an input that is read to its end.
 use Rattle.std.specs.Prelude.{ℕ, true, Option, List}
 use Rattle.std.specs.Io.KnownBytes.{Appends, Keeps}
-use Rattle.der_check.specs.declared.rules.Rules.TheVariants.{Der}
+use Rattle.der_base.specs.declared.rules.Rules.TheVariants.{Der}
 use Rattle.der_check.specs.Elements.{AreElements}
 use Rattle.der_print.specs.Lines.{AreLines}
 use Rattle.der_tool.specs.declared.options.Action.{Action}

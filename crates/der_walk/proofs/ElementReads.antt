@@ -10,9 +10,10 @@ use Rattle.der_base.specs.Headers.{leading_header}
 use Rattle.der_base.specs.Octets.{identifier}
 use Rattle.der_base.specs.Tree.{node, Content}
 use Rattle.der_base.proofs.Octets.Identifiers.{fronts_same}
-use Rattle.der_check.specs.declared.rules.Rules.{Rules}
+use Rattle.der_base.specs.declared.rules.Rules.{Rules}
 use Rattle.der_check.specs.Elements.{SpellsOne}
-use Rattle.der_check.specs.Readers.{AnswersHeader, AnswersOneElement}
+use Rattle.der_base.specs.Rules.{AnswersHeader}
+use Rattle.der_check.specs.Readers.{AnswersOneElement}
 use Rattle.der_check.proofs.ElementLaws.{one_refused}
 use Rattle.der_check.proofs.HeadersBy.{header_read}
 use Rattle.der_walk.specs.declared.element.Element.{Element}

@@ -14,10 +14,11 @@ use Rattle.der_base.specs.Tree.{Node, node, Content}
 use Rattle.der_base.proofs.Framing.FramingLists.{definite_header}
 use Rattle.der_base.proofs.Octets.Identifiers.{identifier_same}
 use Rattle.der_laws.proofs.Spellings.DerWithinBer.{der_element}
-use Rattle.der_check.specs.declared.rules.Rules.{Rules}
-use Rattle.der_check.specs.declared.rules.Rules.TheVariants.{Ber, Der}
+use Rattle.der_base.specs.declared.rules.Rules.{Rules}
+use Rattle.der_base.specs.declared.rules.Rules.TheVariants.{Ber, Der}
 use Rattle.der_check.specs.Elements.{SpellsOne}
-use Rattle.der_check.specs.Readers.{AnswersHeader, AnswersOneElement, SpellsHeaderBy}
+use Rattle.der_base.specs.Rules.{AnswersHeader, SpellsHeaderBy}
+use Rattle.der_check.specs.Readers.{AnswersOneElement}
 use Rattle.der_check.proofs.ElementLaws.{spells_identifier}
 use Rattle.der_check.proofs.HeadersBy.{header_identifier, header_only, header_read}
 use Rattle.der_walk.specs.Visits.{IsHeaderBy}

@@ -4,8 +4,8 @@ use Rattle.std.proofs.lemmas.List.{append_cancel_left}
 use Rattle.der_base.specs.declared.header.Class.TheVariants.{Universal}
 use Rattle.der_base.specs.Spelling.{end_marker}
 use Rattle.der_base.specs.Tree.{node, Content}
-use Rattle.der_check.specs.declared.rules.Rules.{Rules}
-use Rattle.der_check.specs.declared.rules.Rules.TheVariants.{Der}
+use Rattle.der_base.specs.declared.rules.Rules.{Rules}
+use Rattle.der_base.specs.declared.rules.Rules.TheVariants.{Der}
 use Rattle.der_check.specs.Elements.{SpellsOne, MayBeConstructed}
 use Rattle.der_walk.specs.declared.content.Open.{Open}
 use Rattle.der_walk.specs.declared.element.Element.{Element}

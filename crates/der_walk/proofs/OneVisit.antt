@@ -13,8 +13,8 @@ use Rattle.der_base.proofs.Framing.Elements.{identifier_some}
 use Rattle.der_base.proofs.Headers.BerHeaders.{ber_header_same}
 use Rattle.der_base.proofs.Octets.Identifiers.{fronts_same}
 use Rattle.der_base.proofs.Octets.ShortestLengths.{shortest_spells}
-use Rattle.der_check.specs.declared.rules.Rules.{Rules}
-use Rattle.der_check.specs.declared.rules.Rules.TheVariants.{Ber, Der}
+use Rattle.der_base.specs.declared.rules.Rules.{Rules}
+use Rattle.der_base.specs.declared.rules.Rules.TheVariants.{Ber, Der}
 use Rattle.der_check.specs.Elements.{SpellsOne}
 use Rattle.der_check.proofs.FirstOctets.{zero_first, constructed_first}
 use Rattle.der_walk.specs.Visits.{Visited, Extras, IsHeaderBy, IsStringFront, HoldsElement, Visits, VisitsOne, none, one_more, primitive, text, string, constructed, indefinite, visited}

@@ -2,7 +2,7 @@
 use Rattle.std.proofs.Common.{◌≡◌, ℕ, suc, ◌+◌, ◌≤◌, Bool, List, [], ◌∷◌, ◌++◌, length, take, drop, refl, sym, ap, subst, ◌∙◌, arith, append_assoc, length-append}
 use Rattle.std.proofs.lemmas.List.{append-nil}
 use Rattle.std.proofs.Math.Seq.{take-append_seam, drop-append_seam}
-use Rattle.der_check.specs.declared.rules.Rules.{Rules}
+use Rattle.der_base.specs.declared.rules.Rules.{Rules}
 use Rattle.der_walk.specs.declared.content.Open.{Open}
 use Rattle.der_walk.specs.Visits.{Visited, Extras, Visits, VisitsOne, none, one_more}
 use Rattle.der_walk.specs.Walked.{between, EndsAt, IsOpen, HasWalked, outermost, inside}

@@ -7,8 +7,8 @@ use Rattle.der_base.specs.declared.header.Class.{Class}
 use Rattle.der_base.specs.declared.header.Class.TheVariants.{Universal}
 use Rattle.der_base.specs.Octets.{identifier}
 use Rattle.der_base.specs.Spelling.{end_marker}
-use Rattle.der_check.specs.declared.rules.Rules.{Rules}
-use Rattle.der_check.specs.declared.rules.Rules.TheVariants.{Ber}
+use Rattle.der_base.specs.declared.rules.Rules.{Rules}
+use Rattle.der_base.specs.declared.rules.Rules.TheVariants.{Ber}
 use Rattle.der_check.specs.Elements.{AreElements, IsElement}
 use Rattle.der_check.specs.Elements.{none as no_elements, one_more as one_element, primitive as primitive_element, constructed as constructed_element, indefinite as indefinite_element}
 use Rattle.der_walk.specs.Laws.{IsWithin}

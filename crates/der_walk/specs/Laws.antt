@@ -1,8 +1,8 @@
 -- Laws of what a walk visits.
 use Rattle.std.specs.Prelude.{◌≡◌, ℕ, ◌+◌, ◌<◌, ◌≤◌, true, List, length, IfSome}
 use Rattle.std.specs.List.{All}
-use Rattle.der_check.specs.declared.rules.Rules.{Rules}
-use Rattle.der_check.specs.declared.rules.Rules.TheVariants.{Ber}
+use Rattle.der_base.specs.declared.rules.Rules.{Rules}
+use Rattle.der_base.specs.declared.rules.Rules.TheVariants.{Ber}
 use Rattle.der_check.specs.Elements.{AreElements}
 use Rattle.der_walk.specs.Visits.{Visited, Extras, Visits}
 

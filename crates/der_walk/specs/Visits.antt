@@ -7,8 +7,8 @@ use Rattle.der_base.specs.Octets.{identifier}
 use Rattle.der_base.specs.Spelling.{end_marker}
 use Rattle.der_base.specs.Text.{is_text_type}
 use Rattle.der_base.specs.Tree.{node, Content}
-use Rattle.der_check.specs.declared.rules.Rules.{Rules}
-use Rattle.der_check.specs.declared.rules.Rules.TheVariants.{Ber, Der}
+use Rattle.der_base.specs.declared.rules.Rules.{Rules}
+use Rattle.der_base.specs.declared.rules.Rules.TheVariants.{Ber, Der}
 use Rattle.der_check.specs.Elements.{SpellsOne, SpellsLengthBy, MayBeConstructed, IsElement}
 
 -- an element that is visited

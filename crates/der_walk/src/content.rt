@@ -2,7 +2,7 @@
 ghost use Rattle.std.specs.Prelude.{◌≡◌, false};
 
 use crate::path::Step;
-use der_check::Rules;
+use der_base::rules::Rules;
 
 /// Where a content ends that no length limits.
 pub(crate) const NO_LIMIT: usize = usize::MAX;

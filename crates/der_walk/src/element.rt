@@ -6,7 +6,8 @@ use crate::name::TypeName;
 use crate::path::Step;
 use crate::walk::MAX_DEPTH;
 use der_base::header::Class;
-use der_check::{Rules, is_element};
+use der_base::rules::Rules;
+use der_check::is_element;
 
 /// An element of an input.
 #[derive(Clone, Copy, Debug, PartialEq)]

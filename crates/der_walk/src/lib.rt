@@ -12,7 +12,7 @@ mod refusal;
 mod walk;
 
 pub use cause::{Cause, Rule};
-pub use der_check::Rules;
+pub use der_base::rules::Rules;
 pub use element::Element;
 pub use name::TypeName;
 pub use path::{Path, Step};

@@ -11,7 +11,8 @@ use crate::refusal::Refusal;
 use arrayvec::ArrayVec;
 use der_base::error::{BerError, Err as Refused, Needed};
 use der_base::header::{Header, Length, Tag};
-use der_check::{Rules, after_end_marker};
+use der_base::rules::Rules;
+use der_check::{after_end_marker, check_one, may_be_constructed};
 
 /// How many elements may be around an element.
 pub const MAX_DEPTH: usize = 100;
@@ -37,7 +38,7 @@ pub struct Walk<'a> {
 }
 
 impl<'a> Walk<'a> {
-    ghost use Rattle.der_check.specs.declared.rules.Rules.{Rules};
+    ghost use Rattle.der_base.specs.declared.rules.Rules.{Rules};
     ghost use Rattle.der_walk.specs.Visits.{Extras, Visited};
     ghost use Rattle.std.specs.Option.{option_to_list};
     ghost use Rattle.der_walk.specs.Walked.{HasVisited, KeepsVisited, VisitsNext, between, steps_of};
@@ -252,9 +253,9 @@ impl<'a> Walk<'a> {
             return self.check_primitive(element, here);
         }
         let tag = Tag(element.number);
-        if self.content.rules.may_be_constructed(element.class, tag) {
+        if may_be_constructed(self.content.rules, element.class, tag) {
             Ok(false)
-        } else if Rules::Ber.may_be_constructed(element.class, tag) {
+        } else if may_be_constructed(Rules::Ber, element.class, tag) {
             Err(Refusal::of(element, Cause::ConstructedString))
         } else {
             Err(Refusal::of(element, Cause::Constructed))
@@ -270,7 +271,7 @@ impl<'a> Walk<'a> {
             return Err(Refusal::of(element, Cause::EndMarker));
         }
         let rules = self.content.rules;
-        let e = match rules.check_one(here) {
+        let e = match check_one(rules, here) {
             Ok(_) => return Ok(false),
             Err(e) => e,
         };

@@ -11,8 +11,8 @@ use Rattle.der_parser.specs.declared.ber.BerObject.{BerObject}
 use Rattle.der_parser.specs.declared.error.Err.TheVariants.{OutOfMemory}
 use Rattle.der_parser.specs.declared.cursor.Refusal.{Refusal}
 use Rattle.der_parser.specs.declared.error.Error.{Error as BerError}
-use Rattle.derdump_core.specs.declared.rules.Rules.{Rules}
-use Rattle.derdump_core.specs.declared.rules.Rules.TheVariants.{Ber, Der}
+use Rattle.der_parser.specs.declared.Rules.{Rules}
+use Rattle.der_parser.specs.declared.Rules.TheVariants.{Ber, Der}
 use Rattle.derdump_core.specs.Elements.{AnswersElement, AreElements, BeginsWith, Elements, none, one_more}
 use Rattle.derdump_core.specs.Refused.{IsRefused, WantsMemory}
 

@@ -10,8 +10,8 @@ use Rattle.der_parser.specs.Spelling.{BeginsWithBer, BeginsWithDer}
 use Rattle.der_parser.specs.Stable.{BerIsCut, DerIsCut}
 use Rattle.der_parser.specs.Tree.{Node}
 use Rattle.der_parser.specs.View.{tree}
-use Rattle.derdump_core.specs.declared.rules.Rules.{Rules}
-use Rattle.derdump_core.specs.declared.rules.Rules.TheVariants.{Ber, Der}
+use Rattle.der_parser.specs.declared.Rules.{Rules}
+use Rattle.der_parser.specs.declared.Rules.TheVariants.{Ber, Der}
 
 -- i begins with the spelling of the object by the rules, to depth 50, and rest follows
 abbrev pub BeginsWith : Rules → List ℕ → Node → List ℕ → Type 0

@@ -7,7 +7,7 @@ use Rattle.derdump_core.specs.declared.fault.Fault.TheVariants.{Usage, Input, El
 use Rattle.der_parser.specs.declared.cursor.Refusal.{Refusal}
 use Rattle.der_parser.specs.declared.error.Error.{Error as BerError}
 use Rattle.derdump_core.specs.declared.command.Command.{Command}
-use Rattle.derdump_core.specs.declared.rules.Rules.{Rules}
+use Rattle.der_parser.specs.declared.Rules.{Rules}
 use Rattle.derdump_core.specs.declared.sink.Sink.{Sink}
 use Rattle.derdump_core.specs.declared.source.Source.{Source}
 use Rattle.derdump_core.specs.declared.source.Standing.TheVariants.{Ended}

@@ -4,7 +4,7 @@ use Rattle.der_parser.specs.Answer.{MatchAnswer}
 use Rattle.der_parser.specs.Tree.{Node}
 use Rattle.der_parser.specs.declared.cursor.Refusal.{Refusal}
 use Rattle.der_parser.specs.declared.error.Error.{Error as BerError}
-use Rattle.derdump_core.specs.declared.rules.Rules.{Rules}
+use Rattle.der_parser.specs.declared.Rules.{Rules}
 use Rattle.derdump_core.specs.Elements.{AreElements, BeginsWith, Elements, Refuses, IsCutShort}
 
 -- why the element at the front of i was not read and written: i shows this refusal, or lacks so many octets, or there

@@ -2,8 +2,8 @@
 use Rattle.std.specs.Prelude.{◌≡◌, ℕ, List, [], codes, Option, None, Some, String, string_bytes}
 use Rattle.derdump_core.specs.declared.command.Command.{Command}
 use Rattle.derdump_core.specs.declared.command.Command.TheVariants.{Ber, Der, Canon}
-use Rattle.derdump_core.specs.declared.rules.Rules.{Rules}
-use Rattle.derdump_core.specs.declared.rules.Rules.TheVariants.{Ber as ByBer, Der as ByDer}
+use Rattle.der_parser.specs.declared.Rules.{Rules}
+use Rattle.der_parser.specs.declared.Rules.TheVariants.{Ber as ByBer, Der as ByDer}
 
 abbrev pub Names : List ℕ → Command → Type 0
 Names word Ber = word ≡ codes "ber"

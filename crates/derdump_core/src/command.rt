@@ -2,7 +2,7 @@
 ghost use Rattle.std.specs.Prelude.{◌≡◌, IfSome, None};
 ghost use Rattle.derdump_core.specs.Words.{Names, rules_of};
 
-use crate::rules::Rules;
+use der_parser::Rules;
 
 /// What is done with the elements of the input.
 #[derive(Clone, Copy)]

@@ -1,6 +1,6 @@
 -- What is listed of the elements that a walk visits.
 use Rattle.std.specs.Prelude.{◌≡◌, ℕ, ◌⊎◌, true, List}
-use Rattle.der_check.specs.declared.rules.Rules.{Rules}
+use Rattle.der_base.specs.declared.rules.Rules.{Rules}
 use Rattle.der_walk.specs.declared.walk.Walk.{Walk}
 use Rattle.der_walk.specs.Visits.{Extras, Visited, Visits}
 use Rattle.der_walk.specs.Walked.{HasVisited}

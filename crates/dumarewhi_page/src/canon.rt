@@ -1,6 +1,6 @@
 //! What DER has the values of an input.
 ghost use Rattle.std.specs.Prelude.{◌≡◌, ◌≤◌, length, take};
-ghost use Rattle.der_check.specs.declared.rules.Rules.TheVariants.{Der};
+ghost use Rattle.der_base.specs.declared.rules.Rules.TheVariants.{Der};
 ghost use Rattle.der_check.specs.Elements.{AreElements};
 
 use crate::fault::Fault;

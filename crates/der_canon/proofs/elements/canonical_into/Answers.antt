@@ -1,5 +1,5 @@
 use Rattle.std.proofs.Common.{◌≡◌, ◌≤◌, length, take, sym, ap, subst, ◌∙◌, arith, rules}
-use Rattle.der_check.specs.declared.rules.Rules.TheVariants.{Der}
+use Rattle.der_base.specs.declared.rules.Rules.TheVariants.{Der}
 use Rattle.der_check.specs.Elements.{AreElements}
 use Rattle.der_canon.proofs.Copies.{take-overlay}
 use Rattle.der_canon.proofs.elements.canonical_into.Goals as goal

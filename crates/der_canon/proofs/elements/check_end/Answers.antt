@@ -1,4 +1,4 @@
-use Rattle.der_check.specs.declared.rules.Rules.TheVariants.{Der}
+use Rattle.der_base.specs.declared.rules.Rules.TheVariants.{Der}
 use Rattle.der_canon.proofs.elements.check_end.Goals as goal
 use Rattle.der_canon.specs.Same.{no_extras}
 

@@ -1,5 +1,5 @@
 use Rattle.std.proofs.Common.{List}
-use Rattle.der_check.specs.declared.rules.Rules.TheVariants.{Ber, Der}
+use Rattle.der_base.specs.declared.rules.Rules.TheVariants.{Ber, Der}
 use Rattle.der_walk.specs.Visits.{Visited}
 use Rattle.der_walk.specs.Walked.{HasVisited}
 use Rattle.der_canon.specs.Pieces.{depth_of}

@@ -1,4 +1,4 @@
-use Rattle.der_check.specs.declared.rules.Rules.TheVariants.{Ber}
+use Rattle.der_base.specs.declared.rules.Rules.TheVariants.{Ber}
 use Rattle.der_canon.proofs.piece.Pieces.next_piece.Goals as goal
 use Rattle.der_canon.specs.Same.{no_extras}
 
