@@ -1,6 +1,9 @@
-pub mod BitsLaws
+pub mod AnyLaws
 pub mod CursorLaws
 pub mod ElementLaws
-pub mod IdentifierLaws
+pub mod KindLaws
+pub mod Markers
+pub mod NextLaws
 pub mod PlaceLaws
 pub mod TagLaws
+pub mod ValueLaws

@@ -2,25 +2,36 @@
 use Rattle.std.specs.Borrow.{Bor}
 use Rattle.std.specs.Prelude.{◌≡◌, ◌≢◌, ℕ, ◌+◌, ◌-◌, ◌/◌, Bool, true, false, nat_eq, Option, Some, None}
 use Rattle.std.specs.Prelude.{List, [], ◌++◌, length}
-use Rattle.std.specs.Prelude.{Result, Ok, Err, ◌⊎◌, slice_get, codes, decimal}
+use Rattle.std.specs.Prelude.{Result, Ok, Err, IfErr, ◌⊎◌, slice_get, codes, decimal}
 use Rattle.std.specs.Option.{option_map, IfSome, IsSomeAnd}
+use Rattle.der_base.specs.declared.any.Any.{Any}
 use Rattle.der_base.specs.declared.error.Err.{Err as Refused}
 use Rattle.der_base.specs.declared.error.Err.TheVariants.{Incomplete, Error, Failure, OutOfMemory}
 use Rattle.der_base.specs.declared.error.Error.{Error as BerError}
-use Rattle.der_base.specs.declared.error.Error.TheVariants.{Incomplete as CutShort, NomError, UnexpectedClass}
+use Rattle.der_base.specs.declared.error.Error.TheVariants.{BerValueError, Incomplete as CutShort, NomError, UnexpectedClass}
 use Rattle.der_base.specs.declared.error.ErrorKind.{ErrorKind}
 use Rattle.der_base.specs.declared.error.ErrorKind.TheVariants.{Eof, Many0}
 use Rattle.der_base.specs.declared.error.Needed.{Needed}
+use Rattle.der_base.specs.declared.error.Needed.TheVariants.{Size}
 use Rattle.der_base.specs.declared.header.Class.{Class}
 use Rattle.der_base.specs.declared.header.Class.TheVariants.{ContextSpecific, Universal}
-use Rattle.der_base.specs.Any.{DerAnyLacks}
+use Rattle.der_base.specs.Answer.{MatchAnswer}
+use Rattle.der_base.specs.Any.{LeadingElement, leading_content}
 use Rattle.der_base.specs.Containers.{Answered}
 use Rattle.der_base.specs.Errors.{needs_text}
+use Rattle.der_base.specs.declared.rules.Rules.{Rules}
+use Rattle.der_base.specs.declared.rules.Rules.TheVariants.{Der}
+use Rattle.der_base.specs.declared.time.ASN1DateTime.{ASN1DateTime}
 use Rattle.der_base.specs.Exactly.{AnswersExactly}
+use Rattle.der_base.specs.Header.{class_of, is_constructed, number_of, length_of}
+use Rattle.der_base.specs.LeafRefusal.{IsFirstRefusal, NoneHolds}
 use Rattle.der_base.specs.Octets.{class_number}
+use Rattle.der_base.specs.Refusal.{Refusal as Name, incomplete}
 use Rattle.der_cursor.specs.declared.cursor.Cursor.{Cursor}
 use Rattle.der_cursor.specs.declared.refusal.Refusal.{Refusal}
-use Rattle.der_cursor.specs.Elements.{SpellsElement, ElementRefuses, BeginsWithTag}
+use Rattle.der_values.specs.Kinds.{Kind, times}
+use Rattle.der_cursor.specs.Elements.{SpellsElement, ElementRefuses, ElementLacks, NoElement, BeginsWithTag, IsNext}
+use Rattle.der_cursor.specs.Elements.{MarkerFollows, SpellsLeading, content_and_rest, leading, marker_size}
 
 -- the octets that aren't read yet
 abbrev pub octets_left : Cursor → List ℕ
@@ -38,9 +49,26 @@ place_of c = end_of c - length (octets_left c)
 abbrev pub is_inside : Cursor → Bool
 is_inside c = c.inside
 
--- a cursor over the octets w, which end at n
-abbrev pub IsCursor : Cursor → List ℕ → ℕ → Bool → Type 0
-IsCursor c w n inside = (octets_left c ≡ w) × (end_of c ≡ n) × (is_inside c ≡ inside)
+-- by which rules they are read
+abbrev pub rules_of : Cursor → Rules
+rules_of c = c.rules
+
+-- a cursor at the start of an input, for a next element that has no implicit tag
+abbrev pub StartsAt : Rules → List ℕ → Cursor → Type 0
+StartsAt r i c = (octets_left c ≡ i) × (end_of c ≡ length i) × (is_inside c ≡ false) × (rules_of c ≡ r) × (c.implicit ≡ None)
+
+-- the cursor after an element, with these octets left
+abbrev pub advanced : Cursor → Bor (List ℕ) → Cursor
+advanced c rest = record c { left = rest; implicit = None }
+
+-- the class and the number that the next element has to have: its type's, or those of an implicit tag (X.690 8.14.3)
+abbrev pub class_wanted : Option ℕ → Class
+class_wanted None = Universal
+class_wanted (Some n) = ContextSpecific
+
+abbrev pub number_wanted : Option ℕ → ℕ → ℕ
+number_wanted None t = t
+number_wanted (Some n) t = n
 
 abbrev pub list_end : Bool → ℕ → Option ℕ
 list_end true n = Some n
@@ -65,7 +93,7 @@ pub record StandsIn (i : List ℕ) (c : Cursor) : Type 0 where
 -- where it was called, and then the cursor stays. `gives` says what it may return.
 abbrev pub Reads : {O E : Type 0} → (Bor (List ℕ) → Answered O E → Type 0) → Cursor → Result O (Refusal E) → Cursor
     → Type 0
-Reads gives old (Ok v) new = (rest : Bor (List ℕ)) × gives old.left (Ok (rest, v)) × (new ≡ record old { left = rest })
+Reads gives old (Ok v) new = (rest : Bor (List ℕ)) × gives old.left (Ok (rest, v)) × (new ≡ advanced old rest)
 Reads gives old (Err e) new = gives old.left (Err e.reason) × (e ≡ refusal_at old e.reason) × (new ≡ old)
 
 -- The value is the last one of a content, or Eof is reported at the place of what is left. `made` says which errors are
@@ -75,6 +103,11 @@ abbrev pub IsLast : {O E : Type 0} → (Bor (List ℕ) → ErrorKind → E → T
 IsLast made v c (Ok x) = (octets_left c ≡ []) × (x ≡ v)
 IsLast {O} {E} made v c (Err e) = (octets_left c ≢ [])
     × (x : E) × made c.left Eof x × (e ≡ refusal_at c (Error x))
+
+-- the cursor goes on after what was read, or a refusal has its place and the cursor stays
+abbrev pub GoesOn : {T : Type 0} → Cursor → Result T (Refusal BerError) → Cursor → Type 0
+GoesOn old (Ok v) new = new ≡ advanced old new.left
+GoesOn old (Err e) new = (e ≡ refusal_at old e.reason) × (new ≡ old)
 
 -- what a parser returns on the octets left, if its value is the last one; else its refusal, or that of what is left
 abbrev pub ReadsLast : {O E : Type 0} → (Bor (List ℕ) → Answered O E → Type 0) → (Bor (List ℕ) → ErrorKind → E → Type 0)
@@ -91,24 +124,128 @@ opened (Err e) new = Err e.reason
 abbrev pub contents : Cursor × Cursor → List ℕ × List ℕ
 contents x = (octets_left x.0, octets_left x.1)
 
--- The content ends where the element ends. A refusal has the place of the element, and then the cursor stays.
+-- the value, or the reason alone
+abbrev pub reason_of : {T E : Type 0} → Result T (Refusal E) → Result T (Refused E)
+reason_of (Ok x) = Ok x
+reason_of (Err e) = Err e.reason
+
+-- The next element is refused at its place, and the cursor stays. It is Incomplete only in no list: inside a list no
+-- further octets mend an element that is cut short.
+module _ (old : Cursor) where
+  abbrev pub RefusesAt : (Name → Type 0) → Name → Type 0
+  RefusesAt refuses e = refuses e
+      ⊎ ((is_inside old ≡ true) × (n : ℕ) × ElementLacks (rules_of old) (octets_left old) n × (e ≡ incomplete (Size n)))
+
+  abbrev pub LacksAt : ℕ → Type 0
+  LacksAt n = (is_inside old ≡ false) × ElementLacks (rules_of old) (octets_left old) n
+
+  -- what was found next, and what follows it
+  abbrev pub Finds : Class → Bool → ℕ → Result (Bor (List ℕ) × Any) (Refusal BerError) → Type 0
+  Finds c p t result = MatchAnswer (reason_of result)
+      (λ x. SpellsElement (rules_of old) c p t (octets_left old) (content_and_rest x)
+      × MarkerFollows (rules_of old) (octets_left old) (marker_size (length_of x.1.header)))
+      (RefusesAt (ElementRefuses (rules_of old) c p t (octets_left old))) LacksAt ⊥
+      × IfErr result (λ e. e ≡ refusal_at old e.reason)
+
+-- The content ends before the end marker, or where the element ends. A refusal has the place of the element, and then
+-- the cursor stays.
 abbrev pub KeepsPlace : Cursor → Result Cursor (Refusal BerError) → Cursor → Type 0
-KeepsPlace old (Ok inner) new = (end_of new ≡ end_of old) × (end_of inner ≡ place_of new)
-    × (is_inside new ≡ is_inside old) × (is_inside inner ≡ true)
+KeepsPlace old (Ok inner) new = (new ≡ advanced old new.left)
+    × ((m : ℕ) × MarkerFollows (rules_of old) (octets_left old) m × (end_of inner ≡ place_of new - m))
+    × (is_inside inner ≡ true) × (rules_of inner ≡ rules_of old) × (inner.implicit ≡ None)
 KeepsPlace old (Err e) new = (e ≡ refusal_at old e.reason) × (new ≡ old)
 
--- opens exactly the element of this class, constructed bit and number, where the octets left begin with it
+-- Opens exactly the element of this class, constructed bit and number, where the octets left begin with it.
 pub record OpensAt (class : Class) (constructed : Bool) (number : ℕ) (old : Cursor)
     (result : Result Cursor (Refusal BerError)) (new : Cursor) : Type 0 where
-  pub element : let i = octets_left old in AnswersExactly (opened result new) contents
-      (λ x. SpellsElement class constructed number i (contents x)) (SpellsElement class constructed number i)
-      (ElementRefuses class constructed number i) (DerAnyLacks i) ⊥ ⊥
+  pub element : let i = octets_left old in let r = rules_of old in AnswersExactly (opened result new) contents
+      (λ x. SpellsElement r class constructed number i (contents x)) (SpellsElement r class constructed number i)
+      (RefusesAt old (ElementRefuses r class constructed number i)) (LacksAt old) ⊥ ⊥
   pub places : KeepsPlace old result new
+
+-- the next element, under an implicit tag where that was said, is opened as one of the universal type t
+abbrev pub OpensType : Bool → ℕ → Cursor → Result Cursor (Refusal BerError) → Cursor → Type 0
+OpensType p t old = OpensAt (class_wanted old.implicit) p (number_wanted old.implicit t) old
+
+-- the content octets of a primitive one, and what follows it
+abbrev pub FindsPrimitive : ℕ → Cursor → Result (Bor (List ℕ) × Bor (List ℕ)) (Refusal BerError) → Type 0
+FindsPrimitive t old result = let r = rules_of old in let c = class_wanted old.implicit in
+    let n = number_wanted old.implicit t in let i = octets_left old in MatchAnswer (reason_of result)
+    (λ x. SpellsElement r c false n i (leading_content x)) (RefusesAt old (ElementRefuses r c false n i)) (LacksAt old) ⊥
+    × IfErr result (λ e. e ≡ refusal_at old e.reason)
+
+-- the value of content octets is taken with what follows, or its refusal is that of the element
+abbrev pub Takes : {T : Type 0} → Cursor → Bor (List ℕ) → Result T BerError → Result T (Refusal BerError) → Cursor
+    → Type 0
+Takes old rest (Ok x) result new = (result ≡ Ok x) × (new ≡ advanced old rest)
+Takes old rest (Err e) result new = (result ≡ Err (refusal_at old (Error e))) × (new ≡ old)
+
+-- the value with the cursor after its element, or the reason for a refusal
+abbrev pub taken : {T : Type 0} → Result T (Refusal BerError) → Cursor → Result (T × Cursor) (Refused BerError)
+taken (Ok x) new = Ok (x, new)
+taken (Err e) new = Err e.reason
+
+-- The next element is primitive, and its content octets are read as the kind says: what is read is its value, and what
+-- is left follows it. A refusal is that of the first test that fails: of the header, the class, the number, the form,
+-- and then of the content octets.
+module _ {T V : Type 0} (value : T → V) (k : Kind V) (t : ℕ) where
+  abbrev pub SpellsValue : Cursor → V × List ℕ → Type 0
+  SpellsValue old v = (w : List ℕ) × NoneHolds (k.tests w) × k.means w v.0 × SpellsElement (rules_of old)
+      (class_wanted old.implicit) false (number_wanted old.implicit t) (octets_left old) (w, v.1)
+
+  abbrev pub ValueRefuses : Cursor → Name → Type 0
+  ValueRefuses old e = let r = rules_of old in let c = class_wanted old.implicit in
+      let n = number_wanted old.implicit t in let i = octets_left old in
+      ElementRefuses r c false n i e
+      ⊎ ((v : List ℕ × List ℕ) × SpellsElement r c false n i v × IsFirstRefusal (k.tests v.0) e)
+
+  abbrev pub value_left : T × Cursor → V × List ℕ
+  value_left x = (value x.0, octets_left x.1)
+
+  pub record ReadsValue (old : Cursor) (result : Result T (Refusal BerError)) (new : Cursor) : Type 0 where
+    pub value_read : AnswersExactly (taken result new) value_left (λ x. SpellsValue old (value_left x)) (SpellsValue old)
+        (RefusesAt old (ValueRefuses old)) (LacksAt old) ⊥ ⊥
+    pub place : GoesOn old result new
+
+-- The next element is one of a type, or under the implicit tag that was said (8.1.2).
+abbrev pub IsNextType : ℕ → Cursor → Type 0
+IsNextType t old = IsNext (class_wanted old.implicit) (number_wanted old.implicit t) (octets_left old)
+
+-- an optional value: it is read exactly where its identifier octets are next; else there is none, and nothing is read
+abbrev pub ReadsOptional : {T V : Type 0} → (T → V) → Kind V → ℕ → Cursor → Result (Option T) (Refusal BerError) → Cursor
+    → Type 0
+ReadsOptional value k t old (Ok None) new = (¬ IsNextType t old) × (new ≡ advanced old old.left)
+ReadsOptional value k t old (Ok (Some x)) new = IsNextType t old × ReadsValue value k t old (Ok x) new
+ReadsOptional value k t old (Err e) new = IsNextType t old × ReadsValue value k t old (Err e) new
+
+-- a value with a default, which stands for one that is absent; by DER one that is encoded is another (11.5)
+abbrev pub ReadsOr : {T V : Type 0} → (T → V) → Kind V → ℕ → T → Cursor → Result T (Refusal BerError) → Cursor → Type 0
+ReadsOr value k t d old (Ok x) new = ((¬ IsNextType t old) × (x ≡ d) × (new ≡ advanced old old.left))
+    ⊎ (IsNextType t old × ReadsValue value k t old (Ok x) new × (rules_of old ≡ Der → x ≢ d))
+ReadsOr value k t d old (Err e) new = IsNextType t old × (ReadsValue value k t old (Err e) new
+    ⊎ ((rules_of old ≡ Der) × (after : Cursor) × ReadsValue value k t old (Ok d) after
+    × (e ≡ refusal_at old (Error BerValueError)) × (new ≡ old)))
+
+-- the time of a choice of UTCTime and GeneralizedTime, as RFC 5280 has it (4.1)
+abbrev pub ReadsTime : Cursor → Result ASN1DateTime (Refusal BerError) → Cursor → Type 0
+ReadsTime old result new = (IsNextType 24 old × ReadsValue (λ v. v) (times (rules_of old) 24) 24 old result new)
+    ⊎ ((¬ IsNextType 24 old) × ReadsValue (λ v. v) (times (rules_of old) 23) 23 old result new)
+
+-- the element that was read with the cursor after it
+abbrev pub element_left : Any × Cursor → LeadingElement
+element_left x = leading (class_of x.0.header) (is_constructed x.0.header) (number_of x.0.header)
+    (x.0.bytes.now, octets_left x.1)
+
+-- any element at all is read
+pub record ReadsAnyAt (old : Cursor) (result : Result Any (Refusal BerError)) (new : Cursor) : Type 0 where
+  pub any_read : let r = rules_of old in let i = octets_left old in AnswersExactly (taken result new) element_left
+      (λ x. SpellsLeading r i (element_left x)) (SpellsLeading r i) (RefusesAt old (NoElement r i)) (LacksAt old) ⊥ ⊥
+  pub place : GoesOn old result new
 
 -- Opens an explicit tag of this number exactly where its identifier octets are next. Else there is none, and nothing is
 -- read.
 abbrev pub OpensTagged : ℕ → Cursor → Result (Option Cursor) (Refusal BerError) → Cursor → Type 0
-OpensTagged n old (Ok None) new = (¬ BeginsWithTag n (octets_left old)) × (new ≡ old)
+OpensTagged n old (Ok None) new = (¬ BeginsWithTag n (octets_left old)) × (new ≡ advanced old old.left)
 OpensTagged n old (Ok (Some inner)) new = BeginsWithTag n (octets_left old)
     × OpensAt ContextSpecific true n old (Ok inner) new
 OpensTagged n old (Err e) new = BeginsWithTag n (octets_left old) × OpensAt ContextSpecific true n old (Err e) new
@@ -139,19 +276,24 @@ abbrev pub cut_text : Option ℕ → ℕ → Needed → List ℕ
 cut_text None place needed = codes "the input is cut short" ++ needs_text needed
 cut_text (Some n) place needed = cut_item_text (nat_eq n place) needed
 
--- an error that holds one of the library's, and its own text
-abbrev pub error_text : Option BerError → Option (List ℕ) → Option (List ℕ)
-error_text (Some (CutShort needed)) own = Some (overrun_text needed)
-error_text (Some (NomError Eof)) own = Some (codes "octets left over or missing")
-error_text (Some (NomError Many0)) own = Some (codes "the reader of one item of a list read no octets")
-error_text _ own = own
+-- an error that holds one of the library's, and its own text; the element is at the end of its list, or not
+abbrev pub error_text : Bool → Option BerError → Option (List ℕ) → Option (List ℕ)
+error_text at_end (Some (CutShort needed)) own = Some (cut_item_text at_end needed)
+error_text at_end (Some (NomError Eof)) own = Some (codes "octets left over or missing")
+error_text at_end (Some (NomError Many0)) own = Some (codes "the reader of one item of a list read no octets")
+error_text at_end _ own = own
+
+-- the refused element is where its list ends
+abbrev pub is_at_end : Option ℕ → ℕ → Bool
+is_at_end None place = false
+is_at_end (Some n) place = nat_eq n place
 
 -- the reason in words, where it has a text
 abbrev pub reason_text : {E : Type 0} → (E → Option (List ℕ)) → (E → Option BerError) → Refusal E → Refused E
     → Option (List ℕ)
 reason_text shown held e (Incomplete needed) = Some (cut_text e.list_end e.offset needed)
-reason_text shown held e (Error x) = error_text (held x) (shown x)
-reason_text shown held e (Failure x) = error_text (held x) (shown x)
+reason_text shown held e (Error x) = error_text (is_at_end e.list_end e.offset) (held x) (shown x)
+reason_text shown held e (Failure x) = error_text (is_at_end e.list_end e.offset) (held x) (shown x)
 reason_text shown held e OutOfMemory = Some (codes "out of memory")
 
 -- the text of a refusal, where its reason has one

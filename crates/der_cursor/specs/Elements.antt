@@ -1,21 +1,47 @@
--- Elements that are opened: of one class, constructed bit and number, by DER.
+-- Elements that are asked for: of one class, constructed bit and number, by the rules that are given.
 use Rattle.std.specs.Borrow.{Bor}
 use Rattle.std.specs.Prelude.{◌≡◌, ◌≢◌, ℕ, ◌⊎◌, Bool, true, false, Some, List, ◌++◌, length, Result}
+use Rattle.der_base.specs.declared.any.Any.{Any}
 use Rattle.der_base.specs.declared.error.Err.{Err as Refused}
 use Rattle.der_base.specs.declared.error.Error.{Error as BerError}
 use Rattle.der_base.specs.declared.header.Class.{Class}
 use Rattle.der_base.specs.declared.header.Class.TheVariants.{ContextSpecific}
-use Rattle.der_base.specs.Any.{DerAnyLacks, leading_content}
+use Rattle.der_base.specs.declared.header.Length.{Length}
+use Rattle.der_base.specs.declared.header.Length.TheVariants.{Definite, Indefinite}
+use Rattle.der_base.specs.declared.rules.Rules.{Rules}
+use Rattle.der_base.specs.declared.rules.Rules.TheVariants.{Ber, Der}
+use Rattle.der_base.specs.Any.{AnyRefuses, AnyLacks, DerAnyLacks, LeadingElement}
 use Rattle.der_base.specs.Exactly.{AnswersExactly}
 use Rattle.der_base.specs.Fault.{DerHeaderRefuses}
-use Rattle.der_base.specs.Headers.{BeginsWithDerHeader}
+use Rattle.der_base.specs.Header.{class_of, is_constructed, number_of}
+use Rattle.der_base.specs.Headers.{BeginsWithDerHeader, LeadingHeader}
 use Rattle.der_base.specs.Octets.{identifier}
 use Rattle.der_base.specs.Refusal.{Refusal, unexpected_class, unexpected_tag, construct_expected, construct_unexpected}
+use Rattle.der_base.specs.Rules.{SpellsHeaderBy}
+use Rattle.der_base.specs.Spelling.{BeginsWithElement, framing_budget}
 
--- i begins with the DER encoding of an element of this class, constructed bit and number (X.690 10.1), whose content
--- octets are v.0, and v.1 follows
-abbrev pub SpellsElement : Class → Bool → ℕ → List ℕ → List ℕ × List ℕ → Type 0
-SpellsElement c p t i v = BeginsWithDerHeader i c p t (length v.0) (v.0 ++ v.1)
+-- i begins with an element of this class, constructed bit and number (X.690 8.1), by DER with the shortest header
+-- (10.1), whose content octets are v.0, and v.1 follows
+abbrev pub SpellsElement : Rules → Class → Bool → ℕ → List ℕ → List ℕ × List ℕ → Type 0
+SpellsElement Ber c p t i v = BeginsWithElement i framing_budget c p t v.0 v.1
+SpellsElement Der c p t i v = BeginsWithDerHeader i c p t (length v.0) (v.0 ++ v.1)
+
+-- the parts of an element, and what follows it
+abbrev pub leading : Class → Bool → ℕ → List ℕ × List ℕ → LeadingElement
+leading c p t v = record { class = c; constructed = p; number = t; content = v.0; rest = v.1 }
+
+abbrev pub SpellsLeading : Rules → List ℕ → LeadingElement → Type 0
+SpellsLeading r i e = SpellsElement r e.class e.constructed e.number i (e.content, e.rest)
+
+-- a front of i shows the refusal, in its header or by BER in the framing of an indefinite length
+abbrev pub NoElement : Rules → List ℕ → Refusal → Type 0
+NoElement Ber i e = AnyRefuses i e
+NoElement Der i e = DerHeaderRefuses i e
+
+-- i ends within an element, and lacks n octets
+abbrev pub ElementLacks : Rules → List ℕ → ℕ → Type 0
+ElementLacks Ber i n = AnyLacks i n
+ElementLacks Der i n = DerAnyLacks i n
 
 -- the refusal of an element that has not this constructed bit
 abbrev pub wrong_form : Bool → Refusal
@@ -30,16 +56,36 @@ pub data IsOther (c : Class) (p : Bool) (t : ℕ) (k : Class) (q : Bool) (n : �
   other_form : k ≡ c → n ≡ t → q ≢ p → IsOther c p t k q n (wrong_form p)
 
 -- the header shows the refusal, or an element begins i and is another
-abbrev pub ElementRefuses : Class → Bool → ℕ → List ℕ → Refusal → Type 0
-ElementRefuses c p t i e = DerHeaderRefuses i e
-    ⊎ ((k : Class) × (q : Bool) × (n : ℕ) × (v : List ℕ × List ℕ) × SpellsElement k q n i v × IsOther c p t k q n e)
+abbrev pub ElementRefuses : Rules → Class → Bool → ℕ → List ℕ → Refusal → Type 0
+ElementRefuses r c p t i e = NoElement r i e
+    ⊎ ((k : Class) × (q : Bool) × (n : ℕ) × (v : List ℕ × List ℕ) × SpellsElement r k q n i v × IsOther c p t k q n e)
 
--- a reader of content octets returns exactly those of such an element, and takes no memory
-abbrev pub AnswersElement : Class → Bool → ℕ → List ℕ → Result (Bor (List ℕ) × Bor (List ℕ)) (Refused BerError)
-    → Type 0
-AnswersElement c p t i result = AnswersExactly result leading_content (λ x. SpellsElement c p t i (leading_content x))
-    (SpellsElement c p t i) (ElementRefuses c p t i) (DerAnyLacks i) ⊥ ⊥
+-- the element that was read begins i
+abbrev pub ReadsAnyBy : Rules → List ℕ → Bor (List ℕ) × Any → Type 0
+ReadsAnyBy r i x = let h = x.1.header in SpellsElement r (class_of h) (is_constructed h) (number_of h) i (x.1.bytes.now, x.0.now)
+
+-- an element that was read: its content octets, and what follows it
+abbrev pub content_and_rest : Bor (List ℕ) × Any → List ℕ × List ℕ
+content_and_rest x = (x.1.bytes.now, x.0.now)
+
+-- a reader of elements returns exactly the one that is asked for, and takes no memory
+abbrev pub AnswersElement : Rules → Class → Bool → ℕ → List ℕ → Result (Bor (List ℕ) × Any) (Refused BerError) → Type 0
+AnswersElement r c p t i result = AnswersExactly result content_and_rest
+    (λ x. SpellsElement r c p t i (content_and_rest x)) (SpellsElement r c p t i) (ElementRefuses r c p t i)
+    (ElementLacks r i) ⊥ ⊥
 
 -- i begins with the identifier octets of an explicit tag of this number, of class context-specific (8.1.2, 8.14.2)
 abbrev pub BeginsWithTag : ℕ → List ℕ → Type 0
 BeginsWithTag n i = (rest : List ℕ) × (i ≡ identifier ContextSpecific true n ++ rest)
+
+-- with those of an element of this class and number, constructed or not
+abbrev pub IsNext : Class → ℕ → List ℕ → Type 0
+IsNext c n i = (p : Bool) × (rest : List ℕ) × (i ≡ identifier c p n ++ rest)
+
+-- how many octets of an end marker follow the content: two after an indefinite length (8.1.3.6)
+abbrev pub marker_size : Length → ℕ
+marker_size (Definite n) = 0
+marker_size Indefinite = 2
+
+abbrev pub MarkerFollows : Rules → List ℕ → ℕ → Type 0
+MarkerFollows r i m = (h : LeadingHeader) × SpellsHeaderBy r i h × (m ≡ marker_size h.length)

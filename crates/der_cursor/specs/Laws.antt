@@ -1,11 +1,12 @@
 -- Statements of the laws in `src/laws.rt`.
 use Rattle.std.specs.Borrow.{Bor}
-use Rattle.std.specs.Prelude.{◌≡◌, ℕ, Bool, false, List, ◌++◌, length, Result, IfOk}
+use Rattle.std.specs.Prelude.{◌≡◌, ℕ, Bool, List, ◌++◌, length, Result, IfOk}
 use Rattle.der_base.specs.declared.error.Error.{Error as BerError}
 use Rattle.der_base.specs.declared.header.Class.{Class}
+use Rattle.der_base.specs.declared.rules.Rules.{Rules}
 use Rattle.der_cursor.specs.declared.cursor.Cursor.{Cursor}
 use Rattle.der_cursor.specs.declared.refusal.Refusal.{Refusal}
-use Rattle.der_cursor.specs.Cursors.{octets_left, place_of, IsCursor, StandsIn, OpensAt}
+use Rattle.der_cursor.specs.Cursors.{octets_left, place_of, advanced, StartsAt, StandsIn, OpensAt}
 
 -- the place of a cursor is the number of octets before those that are left
 abbrev pub PlacesCount : Type 0
@@ -13,12 +14,12 @@ PlacesCount = (i : List ℕ) (c : Cursor) (s : StandsIn i c) → place_of c ≡ 
 
 -- a cursor over the whole input is in it
 abbrev pub NewStand : Type 0
-NewStand = (i : List ℕ) (c : Cursor) → IsCursor c i (length i) false → StandsIn i c
+NewStand = (r : Rules) (i : List ℕ) (c : Cursor) → StartsAt r i c → StandsIn i c
 
 -- one that is in it still is after a parser left an end of its octets
 abbrev pub EndsStand : Type 0
 EndsStand = (i : List ℕ) (c : Cursor) (taken : List ℕ) (rest : Bor (List ℕ)) → StandsIn i c
-    → octets_left c ≡ taken ++ rest.now → StandsIn i (record c { left = rest })
+    → octets_left c ≡ taken ++ rest.now → StandsIn i (advanced c rest)
 
 -- and so do the cursors that an opened element leaves
 abbrev pub OpenedStand : Type 0

@@ -2,4 +2,3 @@ pub mod Cursors
 pub mod Elements
 pub mod Laws
 pub mod Runs
-pub mod Values

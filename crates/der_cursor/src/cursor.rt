@@ -1,47 +1,88 @@
 //! The cursor.
-ghost use Rattle.std.specs.Prelude.{◌≡◌, ◌/◌, ◌↔◌, true, false, IsTrue, length, slice_get};
+ghost use Rattle.std.specs.Prelude.{◌≡◌, ◌/◌, ◌↔◌, true, false, IfOk, IsTrue, Some, [], slice_get};
 ghost use Rattle.der_base.specs.Answer.{MatchAnswer};
-ghost use Rattle.der_base.specs.Any.{DerAnyLacks, leading_content};
 ghost use Rattle.der_base.specs.declared.header.Class.{Class};
+ghost use Rattle.der_base.specs.declared.rules.Rules.{Rules};
+ghost use Rattle.der_base.specs.Header.{length_of};
 ghost use Rattle.der_base.specs.Octets.{class_number};
-ghost use Rattle.der_cursor.specs.Cursors.{octets_left, place_of, list_end_of, refusal_at, IsCursor};
-ghost use Rattle.der_cursor.specs.Cursors.{Reads, ReadsLast, IsLast, OpensAt, OpensTagged, AssertsUniversal, EndsAt};
+ghost use Rattle.der_cursor.specs.Cursors.{octets_left, place_of, list_end_of, refusal_at, advanced};
+ghost use Rattle.der_cursor.specs.Cursors.{class_wanted, number_wanted, StartsAt, Finds};
+ghost use Rattle.der_cursor.specs.Cursors.{Reads, ReadsLast, IsLast, OpensAt, OpensType, OpensTagged};
+ghost use Rattle.der_cursor.specs.Cursors.{AssertsUniversal, EndsAt};
 ghost use Rattle.der_cursor.specs.Runs.{ReadsAll, values_of};
-ghost use Rattle.der_cursor.specs.Elements.{AnswersElement, BeginsWithTag, ElementRefuses, SpellsElement};
+ghost use Rattle.der_cursor.specs.Elements.{AnswersElement, BeginsWithTag, ElementRefuses, ElementLacks};
+ghost use Rattle.der_cursor.specs.Elements.{MarkerFollows, NoElement, ReadsAnyBy, SpellsElement, content_and_rest};
+ghost use Rattle.der_cursor.specs.Elements.{marker_size};
 
 use crate::refusal::Refusal;
 use der_base::any::Any;
-use der_base::error::{BerError, Err as Refused, ErrorKind, IResult, ParseError};
-use der_base::header::{Class, Tag};
+use der_base::error::{BerError, Err as Refused, ErrorKind, IResult, ParseError, refuse_cut_item};
+use der_base::header::{Class, Length, Tag};
+use der_base::rules::Rules;
 use std::alloc::Global;
 
 /// The octets of an input, or of the content of an element, that aren't read yet. A cursor knows its
-/// offset in the input, which each refusal has.
+/// offset in the input, which each refusal has, and the rules by which it reads.
 ///
 /// ```
 /// let mut fields = Cursor::new(certificate).open_sequence()?.open_sequence()?;
 /// fields.open_tagged(0)?; // the version
-/// fields.assert_universal()?;
-/// let serial_number = fields.read(parse_number)?;
+/// let serial_number = fields.integer()?;
 /// ```
 #[derive(Clone, Copy, Debug)]
 pub struct Cursor<'a> {
-    left: &'a [u8],
-    end: usize,
+    pub(crate) left: &'a [u8],
+    pub(crate) end: usize,
     // Whether the octets are the content of an element, and not the input itself.
-    inside: bool,
+    pub(crate) inside: bool,
+    pub(crate) rules: Rules,
+    // The number of the implicit tag that the next element has.
+    pub(crate) implicit: Option<u32>,
 }
 
 impl<'a> Cursor<'a> {
-    /// A cursor at the start of an input.
+    /// A cursor at the start of an input, which reads by DER.
     pub fn new(input: &'a [u8]) -> Cursor<'a>
-        ensures { IsCursor result input.now (length input.now) false }
+        ensures { StartsAt Rules.Der input.now result }
+    {
+        Cursor::by(Rules::Der, input)
+    }
+
+    /// A cursor at the start of an input, which reads by these rules.
+    pub fn by(rules: Rules, input: &'a [u8]) -> Cursor<'a>
+        ensures { StartsAt rules input.now result }
     {
         Cursor {
             left: input,
             end: input.len(),
             inside: false,
+            rules,
+            implicit: None,
         }
+    }
+
+    /// Reads the next element under an implicit tag (X.690 8.14.3): it has the class context-specific
+    /// and this number in place of those of its type.
+    pub fn implicit(&mut self, number: u32) -> &mut Cursor<'a>
+        ensures same { result.ghost_name ≡ self.entry.ghost_name }
+        ensures tagged { result.now ≡ record (self.old) { implicit = Some number } }
+    {
+        self.implicit = Some(number);
+        self
+    }
+
+    /// The octets that aren't read yet.
+    pub fn remaining(&self) -> &'a [u8]
+        ensures { result.now ≡ octets_left self.now }
+    {
+        self.left
+    }
+
+    /// Whether all octets are read.
+    pub fn is_empty(&self) -> bool
+        ensures { IsTrue result ↔ (octets_left self.now ≡ []) }
+    {
+        self.left.is_empty()
     }
 
     /// The number of octets of the input before the cursor, if each parser that was called left an
@@ -70,7 +111,7 @@ impl<'a> Cursor<'a> {
     {
         match parser(self.left) {
             Ok((rest, value)) => {
-                self.left = rest;
+                self.advance(rest);
                 Ok(value)
             }
             Err(reason) => Err(self.refused(reason)),
@@ -86,7 +127,7 @@ impl<'a> Cursor<'a> {
     {
         match parser(alloc, self.left) {
             Ok((rest, value)) => {
-                self.left = rest;
+                self.advance(rest);
                 Ok(value)
             }
             Err(reason) => Err(self.refused(reason)),
@@ -170,16 +211,30 @@ impl<'a> Cursor<'a> {
 
     /// A cursor over the items of the next element, which has to be a SEQUENCE (8.9).
     pub fn open_sequence(&mut self) -> Result<Cursor<'a>, Refusal<BerError>>
-        ensures { OpensAt Class.Universal true 16 self.old result self.new }
+        ensures { OpensType true 16 self.old result self.new }
     {
-        self.open(Class::Universal, true, Tag::Sequence)
+        self.open_type(true, Tag::Sequence)
     }
 
-    /// A cursor over the octets of the next element, which has to be an OCTET STRING (8.7).
-    pub fn open_octet_string(&mut self) -> Result<Cursor<'a>, Refusal<BerError>>
-        ensures { OpensAt Class.Universal false 4 self.old result self.new }
+    /// A cursor over the items of the next element, which has to be a SET (8.11).
+    pub fn open_set(&mut self) -> Result<Cursor<'a>, Refusal<BerError>>
+        ensures { OpensType true 17 self.old result self.new }
     {
-        self.open(Class::Universal, false, Tag::OctetString)
+        self.open_type(true, Tag::Set)
+    }
+
+    /// A cursor over the octets of the next element, which has to be a primitive OCTET STRING (8.7).
+    pub fn open_octet_string(&mut self) -> Result<Cursor<'a>, Refusal<BerError>>
+        ensures { OpensType false 4 self.old result self.new }
+    {
+        self.open_type(false, Tag::OctetString)
+    }
+
+    /// Opens an element of a universal type, or of the implicit tag that it has.
+    fn open_type(&mut self, constructed: bool, tag: Tag) -> Result<Cursor<'a>, Refusal<BerError>>
+        ensures { OpensType constructed tag.0 self.old result self.new }
+    {
+        self.open(self.class_wanted(), constructed, self.tag_wanted(tag))
     }
 
     /// A cursor over the content of the next element, if that is an explicit tag of this number
@@ -188,6 +243,7 @@ impl<'a> Cursor<'a> {
         ensures { OpensTagged number self.old result self.new }
     {
         if !begins_with_tag(self.left, number) {
+            self.advance(self.left);
             return Ok(None);
         }
         match self.open(Class::ContextSpecific, true, Tag(u32::from(number))) {
@@ -207,18 +263,66 @@ impl<'a> Cursor<'a> {
     ) -> Result<Cursor<'a>, Refusal<BerError>>
         ensures { OpensAt class constructed tag.0 self.old result self.new }
     {
-        match parse_content(self.left, class, constructed, tag) {
-            Ok((rest, left)) => {
-                self.left = rest;
-                // The content ends where the next element begins.
-                let end = self.offset();
-                Ok(Cursor {
-                    left,
-                    end,
-                    inside: true,
-                })
-            }
+        let (rest, element) = match self.find(class, constructed, tag) {
+            Ok(found) => found,
+            Err(e) => return Err(e),
+        };
+        self.advance(rest);
+        // The content ends where the next element begins, or at the end marker in front of it.
+        let end = self
+            .offset()
+            .saturating_sub(marker_size(element.header.length()));
+        Ok(Cursor {
+            left: element.bytes,
+            end,
+            inside: true,
+            rules: self.rules,
+            implicit: None,
+        })
+    }
+
+    /// The next element, which has to have this class, constructed bit and tag number, and what
+    /// follows it.
+    pub(crate) fn find(
+        &self,
+        class: Class,
+        constructed: bool,
+        tag: Tag,
+    ) -> Result<(&'a [u8], Any<'a>), Refusal<BerError>>
+        ensures { Finds self.now class constructed tag.0 result }
+    {
+        match parse_element(self.rules, self.left, class, constructed, tag) {
+            Ok(found) => Ok(found),
+            Err(reason) if self.inside => Err(self.refused(refuse_cut_item(reason))),
             Err(reason) => Err(self.refused(reason)),
+        }
+    }
+
+    /// Goes on with these octets, and forgets the implicit tag of the element before them.
+    pub(crate) fn advance(&mut self, rest: &'a [u8])
+        ensures { self.new ≡ advanced self.old rest.entry }
+    {
+        self.left = rest;
+        self.implicit = None;
+    }
+
+    /// The class that an element of a universal type has to have.
+    pub(crate) fn class_wanted(&self) -> Class
+        ensures { result ≡ class_wanted self.now.implicit }
+    {
+        match self.implicit {
+            Some(_) => Class::ContextSpecific,
+            None => Class::Universal,
+        }
+    }
+
+    /// The tag number that it has to have.
+    pub(crate) fn tag_wanted(&self, tag: Tag) -> Tag
+        ensures { result.0 ≡ number_wanted self.now.implicit tag.0 }
+    {
+        match self.implicit {
+            Some(number) => Tag(number),
+            None => tag,
         }
     }
 
@@ -249,7 +353,7 @@ impl<'a> Cursor<'a> {
     }
 
     /// The refusal of the next element.
-    fn refused<E>(&self, reason: Refused<E>) -> Refusal<E>
+    pub(crate) fn refused<E>(&self, reason: Refused<E>) -> Refusal<E>
         ensures { result ≡ refusal_at self.now reason }
     {
         Refusal {
@@ -268,31 +372,45 @@ impl<'a> Cursor<'a> {
     }
 }
 
-/// Reads the content octets of an element of this class, constructed bit and tag number.
-pub(crate) fn parse_content<'a>(
-    i: &'a [u8],
-    class: Class,
-    constructed: bool,
-    tag: Tag,
-) -> IResult<&'a [u8], &'a [u8], BerError>
-    ensures { AnswersElement class constructed tag.0 i.now result }
+/// How many octets of an end marker follow a content of this length (8.1.3.6).
+fn marker_size(length: Length) -> usize
+    ensures { result ≡ marker_size length }
 {
-    read_content(i, class, constructed, tag)
+    match length {
+        Length::Definite(_) => 0,
+        Length::Indefinite => 2,
+    }
 }
 
-fn read_content<'a>(
+/// Reads an element of this class, constructed bit and tag number.
+pub(crate) fn parse_element<'a>(
+    rules: Rules,
     i: &'a [u8],
     class: Class,
     constructed: bool,
     tag: Tag,
-) -> IResult<&'a [u8], &'a [u8], BerError>
-    ensures { MatchAnswer result
-        (λ x. SpellsElement class constructed tag.0 i.now (leading_content x))
-        (ElementRefuses class constructed tag.0 i.now)
-        (DerAnyLacks i.now)
-        ⊥ }
+) -> IResult<&'a [u8], Any<'a>, BerError>
+    ensures exactly { AnswersElement rules class constructed tag.0 i.now result }
+    ensures marker { IfOk result (λ x. MarkerFollows rules i.now (marker_size (length_of x.1.header))) }
 {
-    let (rest, any) = Any::from_der(i)?;
+    read_element(rules, i, class, constructed, tag)
+}
+
+fn read_element<'a>(
+    rules: Rules,
+    i: &'a [u8],
+    class: Class,
+    constructed: bool,
+    tag: Tag,
+) -> IResult<&'a [u8], Any<'a>, BerError>
+    ensures found { MatchAnswer result
+        (λ x. SpellsElement rules class constructed tag.0 i.now (content_and_rest x))
+        (ElementRefuses rules class constructed tag.0 i.now)
+        (ElementLacks rules i.now)
+        ⊥ }
+    ensures marker { IfOk result (λ x. MarkerFollows rules i.now (marker_size (length_of x.1.header))) }
+{
+    let (rest, any) = read_any(rules, i)?;
     any.header.assert_class(class)?;
     any.header.assert_tag(tag)?;
     if constructed {
@@ -300,11 +418,23 @@ fn read_content<'a>(
     } else {
         any.header.assert_primitive()?;
     }
-    Ok((rest, any.bytes))
+    Ok((rest, any))
+}
+
+/// Reads an element by these rules.
+#[inline(always)]
+pub(crate) fn read_any<'a>(rules: Rules, i: &'a [u8]) -> IResult<&'a [u8], Any<'a>, BerError>
+    ensures found { MatchAnswer result (ReadsAnyBy rules i.now) (NoElement rules i.now) (ElementLacks rules i.now) ⊥ }
+    ensures marker { IfOk result (λ x. MarkerFollows rules i.now (marker_size (length_of x.1.header))) }
+{
+    match rules {
+        Rules::Ber => Any::from_ber(i),
+        Rules::Der => Any::from_der(i),
+    }
 }
 
 /// The class of a first identifier octet (8.1.2.2).
-fn class_of(octet: u8) -> Class
+pub(crate) fn class_of(octet: u8) -> Class
     ensures { class_number result ≡ octet / 64 }
 {
     match octet {

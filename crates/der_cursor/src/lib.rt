@@ -3,10 +3,10 @@
 #![tactic(auto)]
 
 mod cursor;
+mod fields;
 pub mod laws;
+mod optional;
 mod refusal;
-mod values;
 
 pub use cursor::Cursor;
 pub use refusal::{AsBerError, Refusal};
-pub use values::{identifier_of, parse_bits, parse_identifier};

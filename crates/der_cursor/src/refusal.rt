@@ -1,5 +1,6 @@
 //! Refusals and their texts.
 ghost use Rattle.std.specs.Prelude.{◌≡◌, Some};
+ghost use Rattle.der_cursor.specs.Cursors.{is_at_end};
 
 use der_base::error::{BerError, Err as Refused, ErrorKind, Needed};
 use std::error::Error;
@@ -21,6 +22,18 @@ pub struct Refusal<E> {
     pub list_end: Option<usize>,
     /// What the parser returned in place of a value.
     pub reason: Refused<E>,
+}
+
+impl<E> Refusal<E> {
+    /// Whether the refused element is where its list ends.
+    fn is_at_end(&self) -> bool
+        ensures { result ≡ is_at_end self.now.list_end self.now.offset }
+    {
+        match self.list_end {
+            Some(end) => end == self.offset,
+            None => false,
+        }
+    }
 }
 
 /// An error type that a cursor prints. It says which error of the library it holds, if any.
@@ -72,8 +85,8 @@ impl<E: fmt::Display + AsBerError> fmt::Display for Reason<'_, E> {
             Refused::Incomplete(needed) => {
                 write!(f, "{}", Cut(refusal.list_end, refusal.offset, *needed))
             }
-            Refused::Error(e) => write!(f, "{}", Fault(e)),
-            Refused::Failure(e) => write!(f, "{}", Fault(e)),
+            Refused::Error(e) => write!(f, "{}", Fault(refusal.is_at_end(), e)),
+            Refused::Failure(e) => write!(f, "{}", Fault(refusal.is_at_end(), e)),
             Refused::OutOfMemory => write!(f, "out of memory"),
         }
     }
@@ -135,19 +148,19 @@ impl fmt::Display for Needs {
     }
 }
 
-/// An error in words.
+/// An error in words, of an element that is at the end of its list or not.
 #[derive(Clone, Copy)]
-struct Fault<'r, E>(&'r E);
+struct Fault<'r, E>(bool, &'r E);
 
 impl<E: fmt::Display + AsBerError> fmt::Display for Fault<'_, E> {
     ghost use Rattle.der_cursor.specs.Cursors.{error_text};
 
-    ghost output = { λ x. error_text (E.ber_error_of x.0.now) (E.Display.output x.0.now) };
+    ghost output = { λ x. error_text x.0 (E.ber_error_of x.1.now) (E.Display.output x.1.now) };
 
     fn fmt<W: fmt::Write>(&self, f: &mut fmt::Formatter<W>) -> fmt::Result {
-        let error = self.0;
+        let error = self.1;
         match error.as_ber_error() {
-            Some(BerError::Incomplete(needed)) => write!(f, "{}", CutItem(false, needed)),
+            Some(BerError::Incomplete(needed)) => write!(f, "{}", CutItem(self.0, needed)),
             Some(BerError::NomError(ErrorKind::Eof)) => write!(f, "octets left over or missing"),
             Some(BerError::NomError(ErrorKind::Many0)) => {
                 write!(f, "the reader of one item of a list read no octets")

@@ -1,0 +1,14 @@
+use Rattle.std.proofs.lemmas.Result.{err_from_is_err_and}
+use Rattle.der_values.specs.Kinds.{booleans}
+use Rattle.der_cursor.proofs.KindLaws.{boolean_one}
+use Rattle.der_cursor.proofs.ValueLaws.{value_refused, value_taken}
+use Rattle.der_cursor.proofs.cursor.Cursor.boolean.Goals as goal
+
+pub returns-in_err-rest : goal.returns-in_err-rest
+returns-in_err-rest c =
+    let q = err_from_is_err_and c.from_residual.result c.from_residual.ensures.1 in
+    rw (q.1, q.2) (value_refused (λ v. v) (booleans c.args.self.now.rules) 1 (boolean_one c.args.self.now.rules) c.args.self.now c.in_err-rest.field-0.0 c.in_err-rest.ensures)
+
+pub returns : goal.returns
+returns c =
+    value_taken (λ v. v) (booleans c.args.self.now.rules) 1 (boolean_one c.args.self.now.rules) c.args.self.now c.in_ok-rest.rest c.in_ok-rest.octets c.read_bool.result c.take.result c.take.new.self c.in_ok-rest.ensures c.read_bool.ensures c.take.ensures

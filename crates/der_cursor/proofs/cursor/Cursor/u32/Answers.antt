@@ -1,0 +1,16 @@
+use Rattle.std.proofs.Common.{pos}
+use Rattle.std.proofs.lemmas.Result.{err_from_is_err_and}
+use Rattle.der_base.specs.Numbers.{unsigned}
+use Rattle.der_values.specs.Kinds.{numbers}
+use Rattle.der_cursor.proofs.KindLaws.{number_one}
+use Rattle.der_cursor.proofs.ValueLaws.{value_refused, value_taken}
+use Rattle.der_cursor.proofs.cursor.Cursor.u32.Goals as goal
+
+pub returns-in_err-rest : goal.returns-in_err-rest
+returns-in_err-rest c =
+    let q = err_from_is_err_and c.from_residual.result c.from_residual.ensures.1 in
+    rw (q.1, q.2) (value_refused pos (numbers c.args.self.now.rules (unsigned 32)) 2 (number_one c.args.self.now.rules (unsigned 32)) c.args.self.now c.in_err-rest.field-0.0 c.in_err-rest.ensures)
+
+pub returns : goal.returns
+returns c =
+    value_taken pos (numbers c.args.self.now.rules (unsigned 32)) 2 (number_one c.args.self.now.rules (unsigned 32)) c.args.self.now c.in_ok-rest.rest c.in_ok-rest.octets c.read_u32.result c.take.result c.take.new.self c.in_ok-rest.ensures c.read_u32.ensures c.take.ensures

@@ -1,0 +1,204 @@
+//! Values that may be absent. Each is read iff its identifier octets are next: the class and the number
+//! of its type, or those of an implicit tag. Where they aren't, nothing is read.
+ghost use Rattle.std.specs.Prelude.{◌≡◌, ◌↔◌, ◌<◌, ◌/◌, ◌%◌, IsTrue, pos};
+ghost use Rattle.der_base.specs.Numbers.{unsigned};
+ghost use Rattle.der_base.specs.Octets.{class_number};
+ghost use Rattle.der_base.specs.Oids.{octets_of};
+ghost use Rattle.der_cursor.specs.Cursors.{octets_left, number_wanted, IsNextType, ReadsAnyAt, ReadsOptional, ReadsOr};
+ghost use Rattle.der_cursor.specs.Cursors.{ReadsTime};
+ghost use Rattle.der_cursor.specs.Elements.{IsNext};
+ghost use Rattle.der_values.specs.Kinds.{bit_strings, booleans, identifiers, integers, numbers, octet_strings, times};
+
+use crate::cursor::{Cursor, class_of, read_any};
+use crate::refusal::Refusal;
+use der_base::any::Any;
+use der_base::error::{BerError, Err as Refused, refuse_cut_item};
+use der_base::header::{Class, Tag};
+use der_base::oid::Oid;
+use der_base::rules::Rules;
+use der_base::time::ASN1DateTime;
+use der_values::BitString;
+
+impl<'a> Cursor<'a> {
+    /// Whether the next element has this class and tag number, which is below 31: such a number is in
+    /// the first identifier octet (X.690 8.1.2.2).
+    pub fn is_next(&self, class: Class, tag: Tag) -> bool
+        requires { tag.0 < 31 }
+        ensures { IsTrue result ↔ IsNext class tag.0 (octets_left self.now) }
+    {
+        match self.left.first() {
+            Some(octet) => is_identifier(*octet, class, tag),
+            None => false,
+        }
+    }
+
+    /// Whether the next element is of this type, or of the implicit tag that it has.
+    fn is_next_type(&self, tag: Tag) -> bool
+        requires { number_wanted self.now.implicit tag.0 < 31 }
+        ensures { IsTrue result ↔ IsNextType tag.0 self.now }
+    {
+        self.is_next(self.class_wanted(), self.tag_wanted(tag))
+    }
+
+    /// A BOOLEAN, if it is next.
+    pub fn optional_boolean(&mut self) -> Result<Option<bool>, Refusal<BerError>>
+        requires { number_wanted self.old.implicit 1 < 31 }
+        ensures { ReadsOptional (λ v. v) (booleans self.old.rules) 1 self.old result self.new }
+    {
+        if !self.is_next_type(Tag::Boolean) {
+            self.advance(self.left);
+            return Ok(None);
+        }
+        match self.boolean() {
+            Ok(value) => Ok(Some(value)),
+            Err(e) => Err(e),
+        }
+    }
+
+    /// The content octets of an INTEGER, if it is next.
+    pub fn optional_integer(&mut self) -> Result<Option<&'a [u8]>, Refusal<BerError>>
+        requires { number_wanted self.old.implicit 2 < 31 }
+        ensures { ReadsOptional (λ v. v.now) (integers self.old.rules) 2 self.old result self.new }
+    {
+        if !self.is_next_type(Tag::Integer) {
+            self.advance(self.left);
+            return Ok(None);
+        }
+        match self.integer() {
+            Ok(value) => Ok(Some(value)),
+            Err(e) => Err(e),
+        }
+    }
+
+    /// The number of an INTEGER from 0 to 2^32-1, if it is next.
+    pub fn optional_u32(&mut self) -> Result<Option<u32>, Refusal<BerError>>
+        requires { number_wanted self.old.implicit 2 < 31 }
+        ensures { ReadsOptional pos (numbers self.old.rules (unsigned 32)) 2 self.old result self.new }
+    {
+        if !self.is_next_type(Tag::Integer) {
+            self.advance(self.left);
+            return Ok(None);
+        }
+        match self.u32() {
+            Ok(value) => Ok(Some(value)),
+            Err(e) => Err(e),
+        }
+    }
+
+    /// The octets of an OCTET STRING, if it is next.
+    pub fn optional_octets(&mut self) -> Result<Option<&'a [u8]>, Refusal<BerError>>
+        requires { number_wanted self.old.implicit 4 < 31 }
+        ensures { ReadsOptional (λ v. v.now) octet_strings 4 self.old result self.new }
+    {
+        if !self.is_next_type(Tag::OctetString) {
+            self.advance(self.left);
+            return Ok(None);
+        }
+        match self.octets() {
+            Ok(value) => Ok(Some(value)),
+            Err(e) => Err(e),
+        }
+    }
+
+    /// The bits of a BIT STRING, if it is next.
+    pub fn optional_bits(&mut self) -> Result<Option<BitString<'a>>, Refusal<BerError>>
+        requires { number_wanted self.old.implicit 3 < 31 }
+        ensures { ReadsOptional (λ v. (v.unused, v.octets.now)) (bit_strings self.old.rules) 3
+            self.old result self.new }
+    {
+        if !self.is_next_type(Tag::BitString) {
+            self.advance(self.left);
+            return Ok(None);
+        }
+        match self.bits() {
+            Ok(value) => Ok(Some(value)),
+            Err(e) => Err(e),
+        }
+    }
+
+    /// An OBJECT IDENTIFIER, if it is next.
+    pub fn optional_oid(&mut self) -> Result<Option<Oid<'a>>, Refusal<BerError>>
+        requires { number_wanted self.old.implicit 6 < 31 }
+        ensures { ReadsOptional (λ x. octets_of x) identifiers 6 self.old result self.new }
+    {
+        if !self.is_next_type(Tag::Oid) {
+            self.advance(self.left);
+            return Ok(None);
+        }
+        match self.oid() {
+            Ok(value) => Ok(Some(value)),
+            Err(e) => Err(e),
+        }
+    }
+
+    /// The time of a GeneralizedTime, if it is next.
+    pub fn optional_generalized_time(&mut self) -> Result<Option<ASN1DateTime>, Refusal<BerError>>
+        requires { number_wanted self.old.implicit 24 < 31 }
+        ensures { ReadsOptional (λ v. v) (times self.old.rules 24) 24 self.old result self.new }
+    {
+        if !self.is_next_type(Tag::GeneralizedTime) {
+            self.advance(self.left);
+            return Ok(None);
+        }
+        match self.generalized_time() {
+            Ok(value) => Ok(Some(value)),
+            Err(e) => Err(e),
+        }
+    }
+
+    /// A BOOLEAN with a default, which is its value if it isn't next. By DER a value that is the default
+    /// isn't encoded (11.5): BerValueError.
+    pub fn boolean_or(&mut self, default: bool) -> Result<bool, Refusal<BerError>>
+        requires { number_wanted self.old.implicit 1 < 31 }
+        ensures { ReadsOr (λ v. v) (booleans self.old.rules) 1 default self.old result self.new }
+    {
+        if !self.is_next_type(Tag::Boolean) {
+            self.advance(self.left);
+            return Ok(default);
+        }
+        let before = *self;
+        let value = match self.boolean() {
+            Ok(value) => value,
+            Err(e) => return Err(e),
+        };
+        if value == default && before.rules == Rules::Der {
+            *self = before;
+            return Err(before.refused(Refused::Error(BerError::BerValueError)));
+        }
+        Ok(value)
+    }
+
+    /// The time of a UTCTime or a GeneralizedTime, as `Time` of RFC 5280 (4.1): the one that is next.
+    pub fn time(&mut self) -> Result<ASN1DateTime, Refusal<BerError>>
+        requires { number_wanted self.old.implicit 24 < 31 }
+        ensures { ReadsTime self.old result self.new }
+    {
+        if self.is_next_type(Tag::GeneralizedTime) {
+            self.generalized_time()
+        } else {
+            self.utc_time()
+        }
+    }
+
+    /// The next element, whatever it is: its header and its content octets, which aren't looked into.
+    pub fn any(&mut self) -> Result<Any<'a>, Refusal<BerError>>
+        ensures { ReadsAnyAt self.old result self.new }
+    {
+        match read_any(self.rules, self.left) {
+            Ok((rest, any)) => {
+                self.advance(rest);
+                Ok(any)
+            }
+            Err(reason) if self.inside => Err(self.refused(refuse_cut_item(reason))),
+            Err(reason) => Err(self.refused(reason)),
+        }
+    }
+}
+
+/// Whether it is the identifier octet of an element of this class and tag number.
+fn is_identifier(octet: u8, class: Class, tag: Tag) -> bool
+    requires { tag.0 < 31 }
+    ensures { IsTrue result ↔ ((octet / 64 ≡ class_number class) × (octet % 32 ≡ tag.0)) }
+{
+    class_of(octet) == class && u32::from(octet % 32) == tag.0
+}

@@ -1,0 +1,3 @@
+mod PaddedArcs
+mod TimeTests
+mod UnusedBits

@@ -1,0 +1,16 @@
+//! Values of content octets, by BER and by DER. None of these calls allocates.
+#![tactic(auto)]
+
+mod bits;
+mod numbers;
+mod oid;
+mod simple;
+mod texts;
+mod times;
+
+pub use bits::{BitString, read_bits};
+pub use numbers::{read_enumerated, read_i32, read_i64, read_integer, read_u32, read_u64};
+pub use oid::read_oid;
+pub use simple::{read_bool, read_null};
+pub use texts::read_text;
+pub use times::read_time;

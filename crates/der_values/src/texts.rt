@@ -1,0 +1,21 @@
+//! String types that are kept as a text.
+ghost use Rattle.std.specs.Prelude.{IsTrue};
+ghost use Rattle.der_base.specs.Text.{is_text_type};
+ghost use Rattle.der_values.specs.Kinds.{Decodes, texts};
+
+use der_base::error::BerError;
+use der_base::header::Tag;
+use der_base::text;
+
+/// The text of a string type that is kept as a text (X.690 8.23): NumericString, PrintableString,
+/// IA5String and VisibleString in their character sets; ObjectDescriptor, UTF8String, T61String,
+/// VideotexString, GraphicString and GeneralString as UTF-8. StringInvalidCharset for other octets.
+pub fn read_text(tag: Tag, octets: &[u8]) -> Result<&str, BerError>
+    requires { IsTrue (is_text_type tag.0) }
+    ensures { Decodes (λ v. v.now) (texts tag.0) octets.now result }
+{
+    match text::read_text(tag, octets) {
+        Some(text) => Ok(text),
+        None => Err(BerError::StringInvalidCharset),
+    }
+}
