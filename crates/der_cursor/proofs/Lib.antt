@@ -3,6 +3,7 @@ pub mod CursorLaws
 pub mod ElementLaws
 pub mod KindLaws
 pub mod Markers
+pub mod NamedLaws
 pub mod NextLaws
 pub mod PlaceLaws
 pub mod TagLaws

@@ -1,4 +1,5 @@
 pub mod Cursors
 pub mod Elements
 pub mod Laws
+pub mod Named
 pub mod Runs

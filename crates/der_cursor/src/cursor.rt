@@ -352,6 +352,14 @@ impl<'a> Cursor<'a> {
         Ok(())
     }
 
+    /// The refusal of the next element for a reason of the caller's, such as a value that the format
+    /// doesn't have.
+    pub fn refuse(&self, e: BerError) -> Refusal<BerError>
+        ensures { result ≡ refusal_at self.now (Refused.Error e) }
+    {
+        self.refused(Refused::Error(e))
+    }
+
     /// The refusal of the next element.
     pub(crate) fn refused<E>(&self, reason: Refused<E>) -> Refusal<E>
         ensures { result ≡ refusal_at self.now reason }

@@ -91,10 +91,16 @@ pub mod der {
     pub use der_object::{DerObject, DerObjectContent};
 }
 
-/// Reading field after field by DER, with the place of a refusal.
+/// Reading field after field, with the place of a refusal.
 pub mod cursor {
-    pub use der_cursor::{
-        AsBerError, Cursor, Refusal, identifier_of, parse_bits, parse_identifier,
+    pub use der_cursor::{AsBerError, Cursor, FieldRefusal, Named, Refusal};
+}
+
+/// Values of content octets, by BER and by DER.
+pub mod values {
+    pub use der_values::{
+        BitString, read_bits, read_bool, read_enumerated, read_i32, read_i64, read_integer,
+        read_null, read_oid, read_text, read_time, read_u32, read_u64,
     };
 }
 

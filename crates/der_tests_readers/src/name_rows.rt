@@ -6,7 +6,6 @@ use der_parser::ber::{
     Header, Length, MAX_OBJECT_SIZE, MAX_RECURSION, Tag, parse_ber_container, parse_ber_content,
     parse_ber_content2,
 };
-use der_parser::cursor::{parse_bits, parse_identifier};
 use der_parser::der::{
     self, DerClass, DerContent, DerContent2, DerObject, DerObjectContent, DerObjectHeader, DerTag,
     parse_der_container, parse_der_content, parse_der_content2,
@@ -367,20 +366,4 @@ fn containers_have_their_rules(rt: HostRuntime) {
     assert!(rt; matches!(by_ber, Ok((&[], 1))));
     let by_der = parse_der_container(size_of_content).parse(b"\x02\x81\x01\x05");
     assert!(rt; by_der == Err(Err::Error(DerConstraintFailed(LengthNotMinimal))));
-}
-
-#[test]
-fn an_identifier_is_parsed_as_one(rt: HostRuntime) -> Result<(), Fail> {
-    let (rest, oid) = parse_identifier(b"\x06\x01\x2a\xff")?;
-    assert!(rt; rest == b"\xff".as_slice());
-    assert!(rt; oid == Oid::new(CowSlice::Borrowed(b"\x2a")));
-    Ok(())
-}
-
-#[test]
-fn bits_are_parsed_as_such(rt: HostRuntime) -> Result<(), Fail> {
-    let (rest, bits) = parse_bits(b"\x03\x02\x01\x30\xff")?;
-    assert!(rt; rest == b"\xff".as_slice());
-    assert!(rt; bits.bytes == b"\x30".as_slice());
-    Ok(())
 }

@@ -71,14 +71,8 @@ fn number_inside<'a>(content: &'a [u8], _header: Header<'a>) -> IResult<&'a [u8]
 /// `Cursor`: the serial number of a certificate. A refusal has its place.
 pub fn read_serial_number(certificate: &[u8]) -> Result<u64, Refusal<BerError>> {
     let mut fields = Cursor::new(certificate).open_sequence()?.open_sequence()?;
-    fields.open_tagged(0)?;
-    fields.assert_universal()?;
-    fields.read(parse_number)
-}
-
-fn parse_number(i: &[u8]) -> IResult<&[u8], u64, BerError> {
-    let (rest, number) = parse_der_integer(i)?;
-    Ok((rest, number.as_u64()?))
+    fields.open_tagged(0)?; // the version
+    fields.u64()
 }
 
 /// `BerObject::from_seq`: a SEQUENCE of a number and a text.

@@ -1,6 +1,6 @@
 -- The kinds of value that primitive elements have: the tests that their content octets pass, and what they mean.
-use Rattle.std.specs.Prelude.{◌≡◌, ℕ, ◌⊎◌, ◌==◌, if◌then◌else◌, Bool, true, false, not, ℤ, pos, None}
-use Rattle.std.specs.Prelude.{List, [], ◌∷◌, ◌++◌, Result, Ok, Err}
+use Rattle.std.specs.Prelude.{◌≡◌, ℕ, ◌-◌, ◌/◌, ◌%◌, ◌^◌, ◌⊎◌, ◌==◌, if◌then◌else◌, Bool, true, false, not, ℤ, pos, None}
+use Rattle.std.specs.Prelude.{List, [], ◌∷◌, ◌++◌, get_or, Result, Ok, Err}
 use Rattle.std.specs.List.{list_all}
 use Rattle.der_base.specs.declared.error.Error.{Error as BerError}
 use Rattle.der_base.specs.declared.rules.Rules.{Rules}
@@ -49,6 +49,10 @@ enumerated_numbers r = record { tests = leaf_tests r 10; means = λ w n. pos n �
 -- how many bits of a BIT STRING aren't used, and its octets (8.6; by DER 11.2)
 abbrev pub bit_strings : Rules → Kind (ℕ × List ℕ)
 bit_strings r = record { tests = leaf_tests r 3; means = λ w v. w ≡ v.0 ∷ v.1 }
+
+-- bit i of octets is 1, where bit 0 is the highest of the first; past the end there is none
+abbrev pub is_bit_set : ℕ → List ℕ → Bool
+is_bit_set i w = get_or w (i / 8) 0 / 2 ^ (7 - i % 8) % 2 == 1
 
 -- the octets of an OCTET STRING (8.7)
 abbrev pub octet_strings : Kind (List ℕ)

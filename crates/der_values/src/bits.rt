@@ -2,7 +2,7 @@
 ghost use Rattle.std.specs.Prelude.{◌≡◌, ◌≤◌, ◌↔◌, IsTrue};
 ghost use Rattle.der_base.specs.declared.rules.Rules.{Rules};
 ghost use Rattle.der_base.specs.Leaf.{HasZeroUnusedBits};
-ghost use Rattle.der_values.specs.Kinds.{Decodes, bit_strings};
+ghost use Rattle.der_values.specs.Kinds.{Decodes, bit_strings, is_bit_set};
 
 use der_base::error::{BerError, DerConstraint};
 use der_base::header::Tag;
@@ -15,6 +15,19 @@ pub struct BitString<'a> {
     pub unused: u8,
     /// The octets, with the unused bits.
     pub octets: &'a [u8],
+}
+
+impl BitString<'_> {
+    /// Whether a bit is 1, where bit 0 is the highest of the first octet. A bit past the end isn't.
+    #[tactic(auto, using(std::proofs::lemmas::Nat::Bits::shr_and_one))]
+    pub fn is_set(&self, number: usize) -> bool
+        ensures { result ≡ is_bit_set number self.now.octets.now }
+    {
+        match self.octets.get(number / 8) {
+            Some(octet) => (*octet >> (7 - number % 8)) & 1 == 1,
+            None => false,
+        }
+    }
 }
 
 /// The bits of a BIT STRING: its first octet is the number of unused bits (8.6.2).

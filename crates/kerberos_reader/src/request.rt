@@ -1,13 +1,11 @@
 //! Requests for tickets (RFC 4120 5.4.1). Each field is inside an explicit tag.
 use crate::fault::{Fault, InField, RequestError};
-use der_parser::ber::{ASN1DateTime, BitStringObject};
+use der_parser::IResult;
+use der_parser::ber::{ASN1DateTime, Class, Tag};
 use der_parser::cursor::{Cursor, Refusal};
-use der_parser::der::{
-    Class, Tag, parse_der_generalizedtime, parse_der_generalstring, parse_der_i32,
-    parse_der_sequence_of_v, parse_der_u32,
-};
+use der_parser::der::parse_der_u32;
 use der_parser::error::{BerError, Err as Refused};
-use der_parser::{IResult, cursor};
+use der_parser::values::BitString;
 use std::alloc::Global;
 
 /// The fields of a request. Texts are slices of the input.
@@ -30,9 +28,9 @@ pub struct Principal<'a>(pub Vec<&'a str>);
 /// Reads an AS-REQ. Octets left over are refused.
 pub fn read_request<'a>(alloc: Global, octets: &'a [u8]) -> Result<Request<'a>, RequestError> {
     let mut fields = open_message(octets).in_field("AS-REQ")?;
-    let version = open_field(&mut fields, 1).in_field("pvno")?;
+    let version = open_number(&mut fields, 1).in_field("pvno")?;
     version.read_last(parse_version).in_field("pvno")?;
-    let kind = open_field(&mut fields, 2).in_field("msg-type")?;
+    let kind = open_number(&mut fields, 2).in_field("msg-type")?;
     kind.read_last(parse_kind).in_field("msg-type")?;
     // What authenticates the client beforehand isn't read.
     fields.open_tagged(3).in_field("padata")?;
@@ -78,12 +76,18 @@ fn read_body<'a>(alloc: Global, mut body: Cursor<'a>) -> Result<Request<'a>, Req
     })
 }
 
-fn read_options<'a>(body: &mut Cursor<'a>) -> Result<BitStringObject<'a>, Refusal<BerError>> {
-    open_field(body, 0)?.read_last(parse_bits)
+fn read_options<'a>(body: &mut Cursor<'a>) -> Result<BitString<'a>, Refusal<BerError>> {
+    let mut field = open_field(body, 0)?;
+    let options = field.bits()?;
+    field.end()?;
+    Ok(options)
 }
 
 fn read_realm<'a>(body: &mut Cursor<'a>) -> Result<&'a str, Refusal<BerError>> {
-    open_field(body, 2)?.read_last(parse_text)
+    let mut field = open_field(body, 2)?;
+    let realm = field.general_string()?;
+    field.end()?;
+    Ok(realm)
 }
 
 /// A time that may be absent, one that is there, and another that may be absent.
@@ -98,15 +102,25 @@ fn read_times(body: &mut Cursor<'_>) -> Result<Times, RequestError> {
 }
 
 fn read_till(body: &mut Cursor<'_>) -> Result<ASN1DateTime, Refusal<BerError>> {
-    open_field(body, 5)?.read_last(parse_time)
+    read_last_time(open_field(body, 5)?)
 }
 
 fn read_nonce(body: &mut Cursor<'_>) -> Result<u32, Refusal<BerError>> {
-    open_field(body, 7)?.read_last(parse_der_u32)
+    let mut field = open_field(body, 7)?;
+    let nonce = field.u32()?;
+    field.end()?;
+    Ok(nonce)
 }
 
 fn read_kinds(alloc: Global, body: &mut Cursor<'_>) -> Result<Vec<i32>, Refusal<BerError>> {
-    open_field(body, 8)?.read_last_in(alloc, parse_numbers)
+    let mut field = open_field(body, 8)?;
+    let kinds = field.open_sequence()?;
+    field.end()?;
+    kinds.read_all(alloc, read_kind)
+}
+
+fn read_kind(_alloc: Global, kinds: &mut Cursor<'_>) -> Result<i32, Refusal<BerError>> {
+    kinds.i32()
 }
 
 /// Reads to the end. Addresses, data for the server and further tickets are passed over.
@@ -117,9 +131,14 @@ fn end_body(mut body: Cursor<'_>) -> Result<(), Refusal<BerError>> {
     body.end()
 }
 
-/// Opens a field that has to be there and to hold a value of a universal type.
+/// Opens a field that has to be there.
 fn open_field<'a>(fields: &mut Cursor<'a>, number: u32) -> Result<Cursor<'a>, Refusal<BerError>> {
-    let inside = fields.open(Class::ContextSpecific, true, Tag(number))?;
+    fields.open(Class::ContextSpecific, true, Tag(number))
+}
+
+/// Opens a field of a number, for a parser that compares the tag number alone.
+fn open_number<'a>(fields: &mut Cursor<'a>, number: u32) -> Result<Cursor<'a>, Refusal<BerError>> {
+    let inside = open_field(fields, number)?;
     inside.assert_universal()?;
     Ok(inside)
 }
@@ -155,47 +174,36 @@ fn read_principal<'a>(
     };
     let mut fields = inside.open_sequence()?;
     inside.end()?;
-    let _kind = open_field(&mut fields, 0)?.read_last(parse_der_i32)?;
-    let texts = open_field(&mut fields, 1)?;
-    let components = texts.read_last_in(alloc, parse_texts)?;
+    read_name_kind(&mut fields)?;
+    let mut field = open_field(&mut fields, 1)?;
     fields.end()?;
+    let texts = field.open_sequence()?;
+    field.end()?;
+    let components = texts.read_all(alloc, read_text)?;
     Ok(Some(Principal(components)))
+}
+
+fn read_name_kind(fields: &mut Cursor<'_>) -> Result<i32, Refusal<BerError>> {
+    let mut field = open_field(fields, 0)?;
+    let kind = field.i32()?;
+    field.end()?;
+    Ok(kind)
+}
+
+fn read_text<'a>(_alloc: Global, texts: &mut Cursor<'a>) -> Result<&'a str, Refusal<BerError>> {
+    texts.general_string()
 }
 
 /// Reads a time under this tag, if it is there.
 fn read_time(body: &mut Cursor<'_>, number: u8) -> Result<Option<ASN1DateTime>, Refusal<BerError>> {
     match body.open_tagged(number)? {
-        Some(inside) => {
-            inside.assert_universal()?;
-            Ok(Some(inside.read_last(parse_time)?))
-        }
+        Some(field) => Ok(Some(read_last_time(field)?)),
         None => Ok(None),
     }
 }
 
-/// Reads the octets of a BIT STRING.
-fn parse_bits<'a>(i: &'a [u8]) -> IResult<&'a [u8], BitStringObject<'a>, BerError> {
-    cursor::parse_bits(i)
-}
-
-/// Reads a GeneralizedTime.
-fn parse_time(i: &[u8]) -> IResult<&[u8], ASN1DateTime, BerError> {
-    let (rest, object) = parse_der_generalizedtime(i)?;
-    Ok((rest, object.as_datetime()?))
-}
-
-/// Reads a GeneralString.
-fn parse_text<'a>(i: &'a [u8]) -> IResult<&'a [u8], &'a str, BerError> {
-    let (rest, object) = parse_der_generalstring(i)?;
-    Ok((rest, object.as_str()?))
-}
-
-/// Reads a SEQUENCE OF texts.
-fn parse_texts<'a>(alloc: Global, i: &'a [u8]) -> IResult<&'a [u8], Vec<&'a str>, BerError> {
-    parse_der_sequence_of_v(alloc, parse_text).parse(i)
-}
-
-/// Reads a SEQUENCE OF numbers.
-fn parse_numbers<'a>(alloc: Global, i: &'a [u8]) -> IResult<&'a [u8], Vec<i32>, BerError> {
-    parse_der_sequence_of_v(alloc, parse_der_i32).parse(i)
+fn read_last_time(mut field: Cursor<'_>) -> Result<ASN1DateTime, Refusal<BerError>> {
+    let time = field.generalized_time()?;
+    field.end()?;
+    Ok(time)
 }

@@ -1,5 +1,6 @@
 //! The lines that describe a certificate.
-use der_parser::ber::{ASN1DateTime, BitStringObject};
+use der_parser::ber::ASN1DateTime;
+use der_parser::values::BitString;
 use std::fmt;
 use std::net::IpAddr;
 use x509_reader::{Certificate, Extension, GeneralName, Value};
@@ -32,7 +33,7 @@ impl fmt::Display for Certified<'_, '_> {
         writeln!(f, "notAfter={}", Moment(certificate.not_after))?;
         writeln!(f, "subject={}", certificate.subject)?;
         writeln!(f, "keyAlgorithm={}", certificate.key_algorithm)?;
-        writeln!(f, "keyOctets={}", certificate.key.bytes.len())?;
+        writeln!(f, "keyOctets={}", certificate.key.octets.len())?;
         for extension in &certificate.extensions {
             write_extension(f, extension)?;
         }
@@ -122,7 +123,7 @@ fn write_extension<W: fmt::Write>(
 
 fn write_key_uses<W: fmt::Write>(
     f: &mut fmt::Formatter<W>,
-    bits: &BitStringObject<'_>,
+    bits: &BitString<'_>,
 ) -> fmt::Result {
     let mut follows_another = false;
     for (bit, name) in KEY_USES.iter().enumerate() {

@@ -1,15 +1,10 @@
 //! Certificates (RFC 5280 4.1).
 use crate::extension::{Extension, read_extension};
-use crate::fault::{CertificateError, in_field};
-use crate::values::{parse_bits, parse_identifier};
-use der_parser::IResult;
-use der_parser::ber::{ASN1DateTime, Any, BitStringObject};
-use der_parser::cursor::{Cursor, Refusal};
-use der_parser::der::{
-    parse_der_generalizedtime, parse_der_integer, parse_der_u32, parse_der_utctime,
-};
-use der_parser::error::{BerError, BerResult, Err as Refused};
+use der_parser::ber::ASN1DateTime;
+use der_parser::cursor::{Cursor, FieldRefusal, Named, Refusal};
+use der_parser::error::BerError;
 use der_parser::oid::Oid;
+use der_parser::values::BitString;
 use names_reader::{Name, parse_name};
 use std::alloc::Global;
 
@@ -27,7 +22,7 @@ pub struct Certificate<'a> {
     pub not_after: ASN1DateTime,
     pub subject: Name<'a>,
     pub key_algorithm: Oid<'a>,
-    pub key: BitStringObject<'a>,
+    pub key: BitString<'a>,
     pub extensions: Vec<Extension<'a>>,
 }
 
@@ -35,11 +30,9 @@ pub struct Certificate<'a> {
 pub fn read_certificate<'a>(
     alloc: Global,
     octets: &'a [u8],
-) -> Result<Certificate<'a>, CertificateError> {
-    read_fields(
-        alloc,
-        open_fields(octets).map_err(|e| in_field("Certificate", e))?,
-    )
+) -> Result<Certificate<'a>, FieldRefusal> {
+    let fields = open_fields(octets).named("Certificate")?;
+    read_fields(alloc, fields).named("tbsCertificate")
 }
 
 /// Opens the signed fields, and checks that a signature follows and nothing else.
@@ -49,38 +42,23 @@ fn open_fields(octets: &[u8]) -> Result<Cursor<'_>, Refusal<BerError>> {
     input.end()?;
     let fields = parts.open_sequence()?;
     read_algorithm(&mut parts)?;
-    parts.assert_universal()?;
-    parts.read_last(parse_bits)?;
+    parts.bits()?;
+    parts.end()?;
     Ok(fields)
 }
 
 fn read_fields<'a>(
     alloc: Global,
     mut fields: Cursor<'a>,
-) -> Result<Certificate<'a>, CertificateError> {
-    let version = read_version(&mut fields).map_err(|e| in_field("tbsCertificate.version", e))?;
-    let serial_number = read_serial_number(&mut fields).map_err(|e| in_field(
-        "tbsCertificate.serialNumber",
-        e,
-    ))?;
-    let signature_algorithm = read_algorithm(&mut fields).map_err(|e| in_field(
-        "tbsCertificate.signature",
-        e,
-    ))?;
-    let issuer = read_name(alloc, &mut fields).map_err(|e| in_field("tbsCertificate.issuer", e))?;
-    let (not_before, not_after) = read_validity(&mut fields).map_err(|e| in_field(
-        "tbsCertificate.validity",
-        e,
-    ))?;
-    let subject = read_name(alloc, &mut fields).map_err(|e| in_field("tbsCertificate.subject", e))?;
-    let (key_algorithm, key) = read_key(&mut fields).map_err(|e| in_field(
-        "tbsCertificate.subjectPublicKeyInfo",
-        e,
-    ))?;
-    let extensions = read_extensions(alloc, fields).map_err(|e| in_field(
-        "tbsCertificate.extensions",
-        e,
-    ))?;
+) -> Result<Certificate<'a>, FieldRefusal> {
+    let version = read_version(&mut fields).named("version")?;
+    let serial_number = fields.integer().named("serialNumber")?;
+    let signature_algorithm = read_algorithm(&mut fields).named("signature")?;
+    let issuer = read_name(alloc, &mut fields).named("issuer")?;
+    let (not_before, not_after) = read_validity(&mut fields).named("validity")?;
+    let subject = read_name(alloc, &mut fields).named("subject")?;
+    let (key_algorithm, key) = read_key(&mut fields).named("subjectPublicKeyInfo")?;
+    let extensions = read_extensions(alloc, fields).named("extensions")?;
     Ok(Certificate {
         version,
         serial_number,
@@ -95,20 +73,18 @@ fn read_fields<'a>(
     })
 }
 
-/// Reads a version, which is absent iff it is the first.
+/// Reads a version, which is absent iff it is the first. The first is encoded as 0 (4.1.2.1).
 fn read_version(fields: &mut Cursor<'_>) -> Result<u32, Refusal<BerError>> {
-    match fields.open_tagged(0)? {
-        Some(inside) => {
-            inside.assert_universal()?;
-            inside.read_last(parse_version)
-        }
-        None => Ok(1),
+    let Some(mut inside) = fields.open_tagged(0)? else {
+        return Ok(1);
+    };
+    let before = inside;
+    let number = inside.u32()?;
+    if number > 2 {
+        return Err(before.refuse(BerError::BerValueError));
     }
-}
-
-fn read_serial_number<'a>(fields: &mut Cursor<'a>) -> Result<&'a [u8], Refusal<BerError>> {
-    fields.assert_universal()?;
-    fields.read(parse_serial_number)
+    inside.end()?;
+    Ok(number + 1)
 }
 
 fn read_name<'a>(alloc: Global, fields: &mut Cursor<'a>) -> Result<Name<'a>, Refusal<BerError>> {
@@ -121,21 +97,18 @@ fn read_validity(
     fields: &mut Cursor<'_>,
 ) -> Result<(ASN1DateTime, ASN1DateTime), Refusal<BerError>> {
     let mut validity = fields.open_sequence()?;
-    validity.assert_universal()?;
-    let not_before = validity.read(parse_time)?;
-    validity.assert_universal()?;
-    let not_after = validity.read_last(parse_time)?;
+    let not_before = validity.time()?;
+    let not_after = validity.time()?;
+    validity.end()?;
     Ok((not_before, not_after))
 }
 
 /// Reads the algorithm of a key, and the key (4.1.2.7).
-fn read_key<'a>(
-    fields: &mut Cursor<'a>,
-) -> Result<(Oid<'a>, BitStringObject<'a>), Refusal<BerError>> {
+fn read_key<'a>(fields: &mut Cursor<'a>) -> Result<(Oid<'a>, BitString<'a>), Refusal<BerError>> {
     let mut key_info = fields.open_sequence()?;
     let algorithm = read_algorithm(&mut key_info)?;
-    key_info.assert_universal()?;
-    let key = key_info.read_last(parse_bits)?;
+    let key = key_info.bits()?;
+    key_info.end()?;
     Ok((algorithm, key))
 }
 
@@ -145,11 +118,8 @@ fn read_extensions<'a>(
     alloc: Global,
     mut fields: Cursor<'a>,
 ) -> Result<Vec<Extension<'a>>, Refusal<BerError>> {
-    for identifier in [0x81, 0x82] {
-        if fields.identifier() == Some(identifier) {
-            fields.read(Any::from_der)?;
-        }
-    }
+    fields.implicit(1).optional_bits()?;
+    fields.implicit(2).optional_bits()?;
     let Some(mut inside) = fields.open_tagged(3)? else {
         fields.end()?;
         return Ok(Vec::new(alloc));
@@ -160,44 +130,8 @@ fn read_extensions<'a>(
     list.read_all(alloc, read_extension)
 }
 
-/// Reads the number of a version. The first version is encoded as 0 (4.1.2.1).
-fn parse_version(i: &[u8]) -> IResult<&[u8], u32, BerError> {
-    match parse_der_u32(i)? {
-        (rest, number @ 0..=2) => Ok((rest, number + 1)),
-        _ => Err(Refused::Error(BerError::BerValueError)),
-    }
-}
-
-/// Reads the content octets of an INTEGER, of either sign (4.1.2.2).
-fn parse_serial_number(i: &[u8]) -> IResult<&[u8], &[u8], BerError> {
-    let (rest, number) = parse_der_integer(i)?;
-    Ok((rest, number.as_slice()?))
-}
-
 /// Reads the identifier of an algorithm. Its parameters aren't read.
 fn read_algorithm<'a>(fields: &mut Cursor<'a>) -> Result<Oid<'a>, Refusal<BerError>> {
     let mut algorithm = fields.open_sequence()?;
-    algorithm.read(parse_identifier)
-}
-
-/// Reads a GeneralizedTime or a UTCTime (4.1.2.5).
-fn parse_time(i: &[u8]) -> IResult<&[u8], ASN1DateTime, BerError> {
-    match i.first() {
-        Some(24) => time_of(parse_der_generalizedtime(i)),
-        _ => parse_utc_time(i),
-    }
-}
-
-/// The time of an object that was read.
-fn time_of<'a>(answer: BerResult<'a>) -> IResult<&'a [u8], ASN1DateTime, BerError> {
-    let (rest, object) = answer?;
-    Ok((rest, object.as_datetime()?))
-}
-
-/// Reads a UTCTime. Its years are 1950 to 2049 (4.1.2.5.1).
-fn parse_utc_time(i: &[u8]) -> IResult<&[u8], ASN1DateTime, BerError> {
-    let (rest, mut time) = time_of(parse_der_utctime(i))?;
-    let century = if time.year < 50 { 2000 } else { 1900 };
-    time.year = time.year.saturating_add(century);
-    Ok((rest, time))
+    algorithm.oid()
 }

@@ -3,9 +3,6 @@
 
 mod certificate;
 mod extension;
-mod fault;
-mod values;
 
 pub use certificate::{Certificate, read_certificate};
 pub use extension::{Extension, GeneralName, Value};
-pub use fault::CertificateError;

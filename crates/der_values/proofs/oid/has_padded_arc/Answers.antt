@@ -22,7 +22,7 @@ returns-then-octet c =
     let begins : c.loop-octet.begins ≡ true = search rules in
     let is : get_or w k 0 ≡ 128 = search rules in
     let no : list_all is_unpadded (subidentifiers w) ≡ false =
-        sym (unpadded w) ∙ sym c.loop-octet.invariant ∙ ap (unpadded_from c.loop-octet.begins) at ∙ padded c.loop-octet.begins _ (drop (k + 1) w) begins is in
+    sym (unpadded w) ∙ sym c.loop-octet.invariant ∙ ap (unpadded_from c.loop-octet.begins) at ∙ padded c.loop-octet.begins _ (drop (k + 1) w) begins is in
     ((λ t. no), (λ t. refl))
 
 pub loop-octet-preserved : goal.loop-octet-preserved
@@ -31,15 +31,15 @@ loop-octet-preserved c =
     let k = c.loop-octet.octet-index in
     let b = get_or w k 0 in
     let other : c.loop-octet.begins ≡ true → b ≡ 128 → ⊥ =
-        elim c.else-begins.branch [
-          | else-begins-via-then-begins+else-octet v ↦ (λ t e. search (rules, e, v.if-octet))
-          | else-begins-via-else-begins v ↦ (λ t e. false≢true (search (rules, t, v.if-begins)))
-        ] in
+    elim c.else-begins.branch [
+      | else-begins-via-then-begins+else-octet v ↦ (λ t e. search (rules, e, v.if-octet))
+      | else-begins-via-else-begins v ↦ (λ t e. false≢true (search (rules, t, v.if-begins)))
+    ] in
     passed c.loop-octet.begins (nat_lt b 128) b (drop (k + 1) w) other refl ∙ ap (unpadded_from c.loop-octet.begins) (sym (octet_at w k (omega arith))) ∙ c.loop-octet.invariant
 
 pub returns : goal.returns
 returns c =
     let w = c.args.octets.now in
     let yes : list_all is_unpadded (subidentifiers w) ≡ true =
-        sym (unpadded w) ∙ sym c.loop-octet.invariant ∙ ap (unpadded_from c.loop-octet.begins) (drop_all c.loop-octet.octet-index w (omega arith)) in
+    sym (unpadded w) ∙ sym c.loop-octet.invariant ∙ ap (unpadded_from c.loop-octet.begins) (drop_all c.loop-octet.octet-index w (omega arith)) in
     ((λ t. absurd (false≢true t)), (λ p. absurd (false≢true (sym p ∙ yes))))
