@@ -15,6 +15,7 @@ use Rattle.der_base.specs.declared.error.Needed.{Needed}
 use Rattle.der_base.specs.declared.error.Needed.TheVariants.{Size}
 use Rattle.der_base.specs.declared.header.Class.{Class}
 use Rattle.der_base.specs.declared.header.Class.TheVariants.{ContextSpecific, Universal}
+use Rattle.der_base.specs.declared.header.Tag.{Tag}
 use Rattle.der_base.specs.Answer.{MatchAnswer}
 use Rattle.der_base.specs.Any.{LeadingElement, leading_content}
 use Rattle.der_base.specs.Containers.{Answered}
@@ -62,13 +63,17 @@ abbrev pub advanced : Cursor → Bor (List ℕ) → Cursor
 advanced c rest = record c { left = rest; implicit = None }
 
 -- the class and the number that the next element has to have: its type's, or those of an implicit tag (X.690 8.14.3)
-abbrev pub class_wanted : Option ℕ → Class
+abbrev pub class_wanted : Option (Class × Tag) → Class
 class_wanted None = Universal
-class_wanted (Some n) = ContextSpecific
+class_wanted (Some k) = k.0
 
-abbrev pub number_wanted : Option ℕ → ℕ → ℕ
+abbrev pub number_wanted : Option (Class × Tag) → ℕ → ℕ
 number_wanted None t = t
-number_wanted (Some n) t = n
+number_wanted (Some k) t = k.1.0
+
+-- the same cursor, before an element under this implicit tag
+abbrev pub IsTagged : Class → ℕ → Cursor → Cursor → Type 0
+IsTagged c n old new = new ≡ record old { implicit = Some (c, record { 0 = n }) }
 
 abbrev pub list_end : Bool → ℕ → Option ℕ
 list_end true n = Some n

@@ -1,12 +1,12 @@
 //! The cursor.
-ghost use Rattle.std.specs.Prelude.{◌≡◌, ◌/◌, ◌↔◌, true, false, IfOk, IsTrue, Some, [], slice_get};
+ghost use Rattle.std.specs.Prelude.{◌≡◌, ◌/◌, ◌↔◌, true, false, IfOk, IsTrue, [], slice_get};
 ghost use Rattle.der_base.specs.Answer.{MatchAnswer};
 ghost use Rattle.der_base.specs.declared.header.Class.{Class};
 ghost use Rattle.der_base.specs.declared.rules.Rules.{Rules};
 ghost use Rattle.der_base.specs.Header.{length_of};
 ghost use Rattle.der_base.specs.Octets.{class_number};
 ghost use Rattle.der_cursor.specs.Cursors.{octets_left, place_of, list_end_of, refusal_at, advanced};
-ghost use Rattle.der_cursor.specs.Cursors.{class_wanted, number_wanted, StartsAt, Finds};
+ghost use Rattle.der_cursor.specs.Cursors.{class_wanted, number_wanted, IsTagged, StartsAt, Finds};
 ghost use Rattle.der_cursor.specs.Cursors.{Reads, ReadsLast, IsLast, OpensAt, OpensType, OpensTagged};
 ghost use Rattle.der_cursor.specs.Cursors.{AssertsUniversal, EndsAt};
 ghost use Rattle.der_cursor.specs.Runs.{ReadsAll, values_of};
@@ -36,8 +36,8 @@ pub struct Cursor<'a> {
     // Whether the octets are the content of an element, and not the input itself.
     pub(crate) inside: bool,
     pub(crate) rules: Rules,
-    // The number of the implicit tag that the next element has.
-    pub(crate) implicit: Option<u32>,
+    // The implicit tag that the next element has.
+    pub(crate) implicit: Option<(Class, Tag)>,
 }
 
 impl<'a> Cursor<'a> {
@@ -65,9 +65,17 @@ impl<'a> Cursor<'a> {
     /// and this number in place of those of its type.
     pub fn implicit(&mut self, number: u32) -> &mut Cursor<'a>
         ensures same { result.ghost_name ≡ self.entry.ghost_name }
-        ensures tagged { result.now ≡ record (self.old) { implicit = Some number } }
+        ensures tagged { IsTagged Class.ContextSpecific number self.old result.now }
     {
-        self.implicit = Some(number);
+        self.implicit_of(Class::ContextSpecific, number)
+    }
+
+    /// The same of a tag of another class.
+    pub fn implicit_of(&mut self, class: Class, number: u32) -> &mut Cursor<'a>
+        ensures same { result.ghost_name ≡ self.entry.ghost_name }
+        ensures tagged { IsTagged class number self.old result.now }
+    {
+        self.implicit = Some((class, Tag(number)));
         self
     }
 
@@ -311,7 +319,7 @@ impl<'a> Cursor<'a> {
         ensures { result ≡ class_wanted self.now.implicit }
     {
         match self.implicit {
-            Some(_) => Class::ContextSpecific,
+            Some((class, _)) => class,
             None => Class::Universal,
         }
     }
@@ -321,7 +329,7 @@ impl<'a> Cursor<'a> {
         ensures { result.0 ≡ number_wanted self.now.implicit tag.0 }
     {
         match self.implicit {
-            Some(number) => Tag(number),
+            Some((_, tag)) => tag,
             None => tag,
         }
     }
