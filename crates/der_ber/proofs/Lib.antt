@@ -3,7 +3,6 @@ pub mod ContentsRead
 pub mod Items
 pub mod Leaves
 pub mod ReadingLaws
-pub mod Slices
 pub mod SpanItems
 pub mod TypedLaws
 pub mod WantedTagNumbers

@@ -1,0 +1,2 @@
+pub mod SetOfLaws
+pub mod Slices
