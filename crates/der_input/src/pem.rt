@@ -1,8 +1,11 @@
 //! Blocks of PEM (RFC 7468), with text around them.
-ghost use Rattle.std.specs.Prelude.{IfOk, MatchOption};
+ghost use Rattle.std.specs.Prelude.{◌≡◌, ◌⊎◌, IfErr, IfOk, IsErr, MatchOption, filter};
+ghost use Rattle.base64.specs.Engines.{standard};
+ghost use Rattle.base64.specs.GeneralPurpose.{decode_of as base64_decode_of};
 ghost use Rattle.bstr.specs.Text.{Contains};
-ghost use Rattle.der_input.specs.Blocks.{BeginsWithBlock, SplitsRound, label_of, lines_of};
+ghost use Rattle.der_input.specs.Blocks.{BeginsWithBlock, BreaksBlock, IsEncrypted, SplitsRound, label_of, lines_of};
 ghost use Rattle.der_input.specs.Forms.{HasNoBlock};
+ghost use Rattle.der_input.specs.Plain.{is_character};
 
 use crate::error::FormError;
 use crate::plain::decode_base64;
@@ -29,8 +32,14 @@ pub struct Block<'a> {
 }
 
 impl Block<'_> {
-    /// The octets that its lines encode.
-    pub fn decode(&self, alloc: Global) -> Result<Vec<u8>, FormError> {
+    /// The octets that its lines encode. An error if they are encrypted or no base64.
+    pub fn decode(&self, alloc: Global) -> Result<Vec<u8>, FormError>
+        ensures ok { IfOk result (λ v. ¬ IsEncrypted (lines_of self.now)
+            × (base64_decode_of standard (filter is_character (lines_of self.now)) ≡ Ok v.items)) }
+        ensures err { IfErr result (λ e. (e ≡ FormError.OutOfMemory)
+            ⊎ ((e ≡ FormError.Encrypted) × IsEncrypted (lines_of self.now))
+            ⊎ ((e ≡ FormError.Base64) × IsErr (base64_decode_of standard (filter is_character (lines_of self.now))))) }
+    {
         if self.lines.contains_str(ENCRYPTED) {
             return Err(FormError::Encrypted);
         }
@@ -39,11 +48,12 @@ impl Block<'_> {
 }
 
 /// The first block of a text, and the text after it. None if no block begins. Octets before the block may
-/// be of any encoding.
+/// be of any encoding. An error if a block begins and doesn't end, or ends with another label.
 pub fn next_block(text: &[u8]) -> Result<Option<(Block<'_>, &[u8])>, FormError>
-    ensures { IfOk result (λ found. MatchOption found
+    ensures ok { IfOk result (λ found. MatchOption found
         (HasNoBlock text.now)
         (λ x. BeginsWithBlock text.now (label_of x.0) (lines_of x.0) x.1.now)) }
+    ensures err { IfErr result (BreaksBlock text.now) }
 {
     let Some((_, block)) = split_round(text, BEGIN) else {
         return Ok(None);
