@@ -1,4 +1,3 @@
-pub mod Appending
 pub mod LineLaws
-pub mod Spaces
+pub mod RowLaws
 mod WorkedRows

@@ -1,6 +1,6 @@
 -- What precedes the value, computed on worked elements: those of a certificate, a tag of another class, an element of
 -- indefinite length far from the start, with colours.
-use Rattle.std.proofs.Common.{◌≡◌, ◌∷◌, ◌++◌, List, ℕ, Bool, true, false, refl, codes, Some, None, Option}
+use Rattle.std.proofs.Common.{◌≡◌, ◌∷◌, ◌++◌, ℕ, Bool, true, false, refl, codes, Some, None, Option}
 use Rattle.std.specs.Fmt.{digits}
 use Rattle.der_base.specs.declared.header.Class.{Class}
 use Rattle.der_base.specs.declared.header.Class.TheVariants.{Universal, Application, ContextSpecific, Private}

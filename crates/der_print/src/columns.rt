@@ -1,5 +1,5 @@
 //! How wide a line is.
-use crate::place::{HEADER, LENGTH, OFFSET};
+use crate::front::{HEADER, LENGTH, OFFSET};
 use der_walk::Element;
 use std::fmt;
 use std::fmt::Write;

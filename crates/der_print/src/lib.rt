@@ -3,12 +3,15 @@
 
 mod characters;
 mod columns;
+mod front;
 mod identifier;
 mod line;
+mod line_octets;
 mod number;
 mod octets;
-mod place;
 mod remark;
+mod room;
+mod row;
 mod shown;
 mod style;
 mod text;
@@ -20,7 +23,7 @@ pub use line::write_line;
 pub use number::Number;
 pub use octets::Hex;
 pub use remark::Remark;
-pub use shown::ShownText;
+pub use room::Room;
 pub use style::{Limit, Style};
 pub use text::{Quoted, is_printable_ascii};
 pub use time::Moment;

@@ -4,9 +4,9 @@ ghost use Rattle.der_walk.specs.Walked.{visited_of};
 ghost use Rattle.der_print.specs.Lines.{AddsLine};
 
 use crate::columns::front_columns;
-use crate::place::write_front;
+use crate::front::with_front;
 use crate::remark::Remark;
-use crate::shown::ShownText;
+use crate::room::Room;
 use crate::style::{Limit, Style};
 use crate::value::Value;
 use der_walk::Element;
@@ -14,23 +14,24 @@ use std::io::Write;
 use std::{fmt, io};
 
 /// Writes the line of an element: where it begins, how many octets its header and its content have, its type, two
-/// columns further in for each element around it, and its value. The text of the value is made in `room`, which is
-/// returned for the next line.
+/// columns further in for each element around it, and its value. Its texts are made in `room`, which is returned for
+/// the next line.
 pub fn write_line<W: Write>(
     out: &mut W,
-    room: ShownText,
+    room: Room,
     element: &Element<'_>,
     style: Style,
-) -> io::Result<ShownText>
+) -> io::Result<Room>
     ensures { OnOk result (AddsLine style.colours (visited_of element.now) (W.contents out.old) (W.contents out.new)) }
 {
     let element = *element;
     let limit = limit_of(&element, style);
-    let text = room.replaced(Ending { element, limit })?;
-    write_front(out, &element, style.colours)?;
-    out.write_all(text.as_bytes())?;
-    out.write_all(b"\n")?;
-    Ok(text)
+    let value = room.value.replaced(Ending { element, limit })?;
+    let mut line = with_front(room.line.cleared(), &element, style.colours)?;
+    line.put(value.as_bytes())?;
+    line.put(b"\n")?;
+    out.write_all(line.as_bytes())?;
+    Ok(Room { line, value })
 }
 
 /// How much of the value of an element is printed.

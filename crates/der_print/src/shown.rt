@@ -8,17 +8,17 @@ use std::fmt;
 
 /// A text without control characters of ASCII, so that it is on one line.
 #[derive(Drop)]
-pub struct ShownText {
+pub(crate) struct ShownText {
     octets: Vec<u8>,
     ghost shown: { IsShown octets.items },
 }
 
 impl ShownText {
     ghost use Rattle.std.specs.Prelude.{[], IfOk, IfSome};
-    ghost use Rattle.der_print.specs.ShownTexts.{octets_of};
+    ghost use Rattle.der_print.specs.Texts.{octets_of};
 
     /// An empty text.
-    pub fn new(alloc: Global) -> ShownText
+    pub(crate) fn new(alloc: Global) -> ShownText
         ensures { octets_of result ≡ [] }
     {
         ShownText {
@@ -27,7 +27,7 @@ impl ShownText {
     }
 
     /// The text in UTF-8.
-    pub fn as_bytes(&self) -> &[u8]
+    pub(crate) fn as_bytes(&self) -> &[u8]
         ensures octets { result.now ≡ octets_of self.now }
         ensures shown { IsShown result.now }
     {
@@ -36,7 +36,7 @@ impl ShownText {
 
     /// The text of a value, in the memory of this one. An error if there is no memory, or if a control
     /// character is in the text.
-    pub fn replaced<D: fmt::Display + Drop>(self, value: D) -> Result<ShownText, AllocError>
+    pub(crate) fn replaced<D: fmt::Display + Drop>(self, value: D) -> Result<ShownText, AllocError>
         ensures { IfOk result (λ t. IfSome (D.output value) (λ text. octets_of t ≡ text)) }
     {
         let mut f = fmt::Formatter::new(self.cleared());
@@ -58,7 +58,7 @@ impl ShownText {
 
 impl fmt::Write for ShownText {
     ghost use Rattle.std.specs.Prelude.{◌++◌};
-    ghost use Rattle.der_print.specs.ShownTexts.{octets_of};
+    ghost use Rattle.der_print.specs.Texts.{octets_of};
 
     ghost write_str_gives = { λ t text u. octets_of u ≡ octets_of t ++ text };
 

@@ -1,5 +1,5 @@
 -- A walk, and the lines of the elements that it has visited.
-use Rattle.std.proofs.Common.{ℕ, Bool, true, Option, List, [], ◌∷◌, ◌++◌}
+use Rattle.std.proofs.Common.{ℕ, true, Option, List, [], ◌∷◌, ◌++◌}
 use Rattle.std.proofs.KnownBytes.{Appends-nil, Appends-trans}
 use Rattle.std.specs.Io.KnownBytes.{Appends}
 use Rattle.der_print.specs.Lines.{AddsLine, AreLines, no_lines}

@@ -5,7 +5,7 @@ ghost use Rattle.der_tool.specs.Outputs.{WritesTree};
 use crate::options::Options;
 use crate::origin::Origin;
 use crate::report::report;
-use der_print::{ShownText, write_line};
+use der_print::{Room, write_line};
 use der_walk::Walk;
 use std::alloc::Global;
 use std::io;
@@ -25,7 +25,7 @@ pub(crate) fn print_tree<W: Write, X: Write>(
         → WritesTree options.now octets.now (W.contents out.old) (W.contents out.new)) }
 {
     let mut walk = Walk::new(octets, options.rules, options.enters_strings).keeping_texts();
-    let mut room = ShownText::new(alloc);
+    let mut room = Room::new(alloc);
     // An element has an octet at least, so the loop ends at the end of the octets.
     'elements: for _ in 0..=octets.len() {
         match walk.next_element() {

@@ -1,7 +1,7 @@
 use Rattle.std.proofs.Common.{◌++◌, ap, refl, ◌∙◌}
 use Rattle.std.proofs.lemmas.Fmt.{contents_after_writes}
 use Rattle.std.proofs.lemmas.Option.{IfSome_then}
-use Rattle.der_print.specs.ShownTexts.{octets_of}
+use Rattle.der_print.specs.Texts.{octets_of}
 use Rattle.der_print.proofs.shown.ShownText.replaced.Goals as goal
 
 pub returns-in-Ok : goal.returns-in-Ok

@@ -1,0 +1,17 @@
+-- The octets of texts that are made.
+use Rattle.std.specs.Prelude.{ℕ, List, drop}
+use Rattle.der_print.specs.declared.line_octets.LineOctets.{LineOctets}
+use Rattle.der_print.specs.declared.row.Row.{Row}
+use Rattle.der_print.specs.declared.shown.ShownText.{ShownText}
+
+-- those of a line
+abbrev pub octets_in : LineOctets → List ℕ
+octets_in l = l.octets.items
+
+-- a text on one line, in UTF-8
+abbrev pub octets_of : ShownText → List ℕ
+octets_of t = t.octets.items
+
+-- a text that is written from its end, which is that of its octets
+abbrev pub row_text : Row → List ℕ
+row_text r = drop r.start r.octets

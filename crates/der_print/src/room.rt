@@ -1,0 +1,21 @@
+//! Memory for the texts of a line.
+use crate::line_octets::LineOctets;
+use crate::shown::ShownText;
+use std::alloc::Global;
+
+/// Memory for the texts of a line, which the next one takes again.
+#[derive(Drop)]
+pub struct Room {
+    pub(crate) line: LineOctets,
+    pub(crate) value: ShownText,
+}
+
+impl Room {
+    /// No memory, until a line needs some.
+    pub fn new(alloc: Global) -> Room {
+        Room {
+            line: LineOctets::new(alloc),
+            value: ShownText::new(alloc),
+        }
+    }
+}
