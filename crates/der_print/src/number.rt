@@ -4,6 +4,12 @@ use crate::style::Limit;
 use der_base::integer::{is_negative, read_i64, read_u64};
 use std::fmt;
 
+/// The columns of `0x`.
+const PREFIX: usize = 2;
+
+/// The columns of what follows the digits of a negative number.
+const NEGATIVE: usize = 32;
+
 /// A number in two's complement: in decimal from -2^63 to 2^64-1, else in hexadecimal digits.
 #[derive(Clone, Copy)]
 pub struct Number<'a> {
@@ -21,11 +27,17 @@ impl fmt::Display for Number<'_> {
         if let Ok(number) = read_u64(octets) {
             return write!(f, "{number}");
         }
+        let is_negative = is_negative(octets);
+        let beside = if is_negative {
+            PREFIX + NEGATIVE
+        } else {
+            PREFIX
+        };
         let hex = Hex {
             octets: without_leading_zero(octets),
-            limit: self.limit,
+            limit: self.limit.without(beside),
         };
-        if is_negative(octets) {
+        if is_negative {
             write!(f, "0x{hex} (negative, in two's complement)")
         } else {
             write!(f, "0x{hex}")

@@ -11,7 +11,10 @@ const FRONT: usize = 20;
 /// The least octets that are printed where there are few columns.
 const LEAST: usize = 4;
 
-/// The columns that are kept for what follows the digits, as `... (1234 octets)`.
+/// The column of the space before the digits.
+const SPACE: usize = 1;
+
+/// The columns that are kept for what is beside the digits, as in ` 3003... (1234 octets)`.
 const ENDING: usize = 18;
 
 /// So many octets are written at once.
@@ -43,7 +46,7 @@ fn printed_octets(number: usize, limit: Limit) -> usize {
         Limit::Whole => number,
         Limit::Front if number <= WHOLE => number,
         Limit::Front => FRONT,
-        Limit::Columns(columns) if number <= columns / 2 => number,
+        Limit::Columns(columns) if number <= columns.saturating_sub(SPACE) / 2 => number,
         Limit::Columns(columns) => (columns.saturating_sub(ENDING) / 2).max(LEAST).min(number),
     }
 }

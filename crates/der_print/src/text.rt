@@ -14,7 +14,7 @@ const LEAST: usize = 10;
 /// The columns that are kept for what is beside the characters, as in `"..." (1234 octets)`.
 const ENDING: usize = 20;
 
-/// A string in quotes. If only its first characters are printed, the number of its octets follows.
+/// A string in quotes, after a space. If only its first characters are printed, the number of its octets follows.
 #[derive(Clone, Copy)]
 pub struct Quoted<'a> {
     /// The content octets.
@@ -28,16 +28,16 @@ impl fmt::Display for Quoted<'_> {
     fn fmt<W: fmt::Write>(&self, f: &mut fmt::Formatter<W>) -> fmt::Result {
         let most = most_characters(self.octets.len(), self.limit);
         f.write_str("\"")?;
-        match self.number {
+        let is_whole = match self.number {
             30 => write_units(f, self.octets, most)?,
             28 => write_codes(f, self.octets, most)?,
             _ => match str::from_utf8(self.octets) {
                 Ok(text) => write_text(f, text, most)?,
                 Err(_) => write_octets(f, self.octets, most)?,
             },
-        }
+        };
         f.write_str("\"")?;
-        if self.octets.len() > most {
+        if !is_whole {
             let number = self.octets.len();
             write!(f, " ({number} octets)")?;
         }
@@ -62,17 +62,23 @@ pub fn is_printable_ascii(octets: &[u8]) -> bool
     octets.len() > 1 && octets.iter().all(|octet| matches!(*octet, b' '..=b'~'))
 }
 
-fn write_text<W: fmt::Write>(f: &mut fmt::Formatter<W>, text: &str, most: usize) -> fmt::Result {
+/// Writes the first characters of a text. Returns whether those are all.
+fn write_text<W: fmt::Write>(
+    f: &mut fmt::Formatter<W>,
+    text: &str,
+    most: usize,
+) -> Result<bool, fmt::Error> {
     if text.len() <= most && text.as_bytes().iter().all(|octet| is_plain(*octet)) {
-        return f.write_str(text);
+        f.write_str(text)?;
+        return Ok(true);
     }
     for (place, character) in text.chars().enumerate() {
         if place == most {
-            return f.write_str("...");
+            return write_points(f);
         }
         write_character(f, character)?;
     }
-    Ok(())
+    Ok(true)
 }
 
 /// Writes ASCII, and other octets by their numbers.
@@ -80,10 +86,10 @@ fn write_octets<W: fmt::Write>(
     f: &mut fmt::Formatter<W>,
     octets: &[u8],
     most: usize,
-) -> fmt::Result {
+) -> Result<bool, fmt::Error> {
     for (place, octet) in octets.iter().enumerate() {
         if place == most {
-            return f.write_str("...");
+            return write_points(f);
         }
         if octet.is_ascii() {
             write_character(f, char::from(*octet))?;
@@ -91,7 +97,7 @@ fn write_octets<W: fmt::Write>(
             write!(f, "\\x{octet:02x}")?;
         }
     }
-    Ok(())
+    Ok(true)
 }
 
 /// Writes the characters of UTF-16, big endian.
@@ -99,18 +105,18 @@ fn write_units<W: fmt::Write>(
     f: &mut fmt::Formatter<W>,
     octets: &[u8],
     most: usize,
-) -> fmt::Result {
+) -> Result<bool, fmt::Error> {
     let units = octets.chunks_exact(2).map(|pair| match pair {
         [high, low] => u16::from_be_bytes([*high, *low]),
         _ => 0,
     });
     for (place, character) in char::decode_utf16(units).enumerate() {
         if place == most {
-            return f.write_str("...");
+            return write_points(f);
         }
         write_character(f, character.unwrap_or(char::REPLACEMENT_CHARACTER))?;
     }
-    Ok(())
+    Ok(true)
 }
 
 /// Writes the characters of UTF-32, big endian.
@@ -118,14 +124,20 @@ fn write_codes<W: fmt::Write>(
     f: &mut fmt::Formatter<W>,
     octets: &[u8],
     most: usize,
-) -> fmt::Result {
+) -> Result<bool, fmt::Error> {
     for (place, octets) in octets.chunks_exact(4).enumerate() {
         if place == most {
-            return f.write_str("...");
+            return write_points(f);
         }
         write_character(f, character_of(octets))?;
     }
-    Ok(())
+    Ok(true)
+}
+
+/// Writes what is in the place of characters that are left out. Returns that not all are written.
+fn write_points<W: fmt::Write>(f: &mut fmt::Formatter<W>) -> Result<bool, fmt::Error> {
+    f.write_str("...")?;
+    Ok(false)
 }
 
 /// The character with this code, in four octets.
