@@ -1,4 +1,3 @@
-pub mod BerContents
 pub mod BerReading
 pub mod Inner
 pub mod Laws

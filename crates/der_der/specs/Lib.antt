@@ -1,4 +1,3 @@
-pub mod DerContents
 pub mod DerReading
 pub mod Inner
 pub mod Laws

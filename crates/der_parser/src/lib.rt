@@ -25,17 +25,8 @@ pub mod ber {
     pub use der_base::time::{ASN1DateTime, ASN1TimeZone, TimeText};
     pub use der_base::{MAX_OBJECT_SIZE, MAX_RECURSION};
     pub use der_ber::{
-        BerContent, BerContent2, ber_object_from_any, ber_read_element_content_as, parse_ber,
-        parse_ber_any, parse_ber_any_r, parse_ber_any_with_tag_r, parse_ber_bitstring,
-        parse_ber_bmpstring, parse_ber_bool, parse_ber_content, parse_ber_content2,
-        parse_ber_counted, parse_ber_endofcontent, parse_ber_enum, parse_ber_generalizedtime,
-        parse_ber_generalstring, parse_ber_graphicstring, parse_ber_i32, parse_ber_i64,
-        parse_ber_ia5string, parse_ber_integer, parse_ber_null, parse_ber_numericstring,
-        parse_ber_objectdescriptor, parse_ber_octetstring, parse_ber_oid,
-        parse_ber_printablestring, parse_ber_recursive, parse_ber_relative_oid, parse_ber_sequence,
-        parse_ber_set, parse_ber_t61string, parse_ber_u32, parse_ber_u64,
-        parse_ber_universalstring, parse_ber_utctime, parse_ber_utf8string,
-        parse_ber_videotexstring, parse_ber_visiblestring, parse_ber_with_tag,
+        parse_ber, parse_ber_any, parse_ber_any_r, parse_ber_any_with_tag_r, parse_ber_counted,
+        parse_ber_recursive,
     };
     pub use der_combinators::{
         Container, ExplicitContainer, ExplicitObject, ImplicitContainer, ImplicitObject,
@@ -50,6 +41,18 @@ pub mod ber {
         BerObject, BerObjectContent, BerObjectIntoIterator, BerObjectRefIterator, BitStringObject,
         FaultWriter, ber_encode_header, ber_encode_object, ber_encode_object_raw,
         ber_encode_tagged_explicit, ber_encode_tagged_implicit,
+    };
+    pub use der_types::{
+        ContentReader as BerContent, ContentReader2 as BerContent2, ber_object_from_any,
+        ber_read_element_content_as, parse_ber_bitstring, parse_ber_bmpstring, parse_ber_bool,
+        parse_ber_content, parse_ber_content2, parse_ber_endofcontent, parse_ber_enum,
+        parse_ber_generalizedtime, parse_ber_generalstring, parse_ber_graphicstring, parse_ber_i32,
+        parse_ber_i64, parse_ber_ia5string, parse_ber_integer, parse_ber_null,
+        parse_ber_numericstring, parse_ber_objectdescriptor, parse_ber_octetstring, parse_ber_oid,
+        parse_ber_printablestring, parse_ber_relative_oid, parse_ber_sequence, parse_ber_set,
+        parse_ber_t61string, parse_ber_u32, parse_ber_u64, parse_ber_universalstring,
+        parse_ber_utctime, parse_ber_utf8string, parse_ber_videotexstring, parse_ber_visiblestring,
+        parse_ber_with_tag,
     };
 
     /// Names that earlier versions of the crate had.
@@ -78,19 +81,20 @@ pub mod der {
         parse_der_set_of_v, parse_der_slice, parse_der_tagged_explicit,
         parse_der_tagged_explicit_g, parse_der_tagged_implicit, parse_der_tagged_implicit_g,
     };
-    pub use der_der::{
-        DerContent, DerContent2, der_read_element_content, der_read_element_content_as, parse_der,
-        parse_der_bitstring, parse_der_bmpstring, parse_der_bool, parse_der_content,
-        parse_der_content2, parse_der_counted, parse_der_endofcontent, parse_der_enum,
+    pub use der_der::{parse_der, parse_der_counted, parse_der_recursive};
+    pub use der_object::{DerObject, DerObjectContent};
+    pub use der_types::{
+        ContentReader as DerContent, ContentReader2 as DerContent2, der_read_element_content,
+        der_read_element_content_as, parse_der_bitstring, parse_der_bmpstring, parse_der_bool,
+        parse_der_content, parse_der_content2, parse_der_endofcontent, parse_der_enum,
         parse_der_generalizedtime, parse_der_generalstring, parse_der_graphicstring, parse_der_i32,
         parse_der_i64, parse_der_ia5string, parse_der_integer, parse_der_null,
         parse_der_numericstring, parse_der_objectdescriptor, parse_der_octetstring, parse_der_oid,
-        parse_der_printablestring, parse_der_recursive, parse_der_relative_oid, parse_der_sequence,
-        parse_der_set, parse_der_t61string, parse_der_u32, parse_der_u64,
-        parse_der_universalstring, parse_der_utctime, parse_der_utf8string,
-        parse_der_videotexstring, parse_der_visiblestring, parse_der_with_tag, visiblestring,
+        parse_der_printablestring, parse_der_relative_oid, parse_der_sequence, parse_der_set,
+        parse_der_t61string, parse_der_u32, parse_der_u64, parse_der_universalstring,
+        parse_der_utctime, parse_der_utf8string, parse_der_videotexstring, parse_der_visiblestring,
+        parse_der_with_tag, visiblestring,
     };
-    pub use der_object::{DerObject, DerObjectContent};
 }
 
 /// Reading field after field, with the place of a refusal.
