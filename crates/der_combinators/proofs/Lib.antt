@@ -1,2 +1,0 @@
-pub mod SetOfLaws
-pub mod Slices
