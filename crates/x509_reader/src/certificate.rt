@@ -47,17 +47,14 @@ fn open_fields(octets: &[u8]) -> Result<Cursor<'_>, Refusal<BerError>> {
     Ok(fields)
 }
 
-fn read_fields<'a>(
-    alloc: Global,
-    mut fields: Cursor<'a>,
-) -> Result<Certificate<'a>, FieldRefusal> {
+fn read_fields<'a>(alloc: Global, mut fields: Cursor<'a>) -> Result<Certificate<'a>, FieldRefusal> {
     let version = read_version(&mut fields).named("version")?;
     let serial_number = fields.integer().named("serialNumber")?;
     let signature_algorithm = read_algorithm(&mut fields).named("signature")?;
     let issuer = read_name(alloc, &mut fields).named("issuer")?;
     let (not_before, not_after) = read_validity(&mut fields).named("validity")?;
     let subject = read_name(alloc, &mut fields).named("subject")?;
-    let (key_algorithm, key) = read_key(&mut fields).named("subjectPublicKeyInfo")?;
+    let key_info = read_key(&mut fields).named("subjectPublicKeyInfo")?;
     let extensions = read_extensions(alloc, fields).named("extensions")?;
     Ok(Certificate {
         version,
@@ -67,8 +64,8 @@ fn read_fields<'a>(
         not_before,
         not_after,
         subject,
-        key_algorithm,
-        key,
+        key_algorithm: key_info.algorithm,
+        key: key_info.key,
         extensions,
     })
 }
@@ -103,13 +100,19 @@ fn read_validity(
     Ok((not_before, not_after))
 }
 
-/// Reads the algorithm of a key, and the key (4.1.2.7).
-fn read_key<'a>(fields: &mut Cursor<'a>) -> Result<(Oid<'a>, BitString<'a>), Refusal<BerError>> {
+/// The algorithm of a key, and the key (4.1.2.7).
+#[derive(Drop)]
+struct KeyInfo<'a> {
+    algorithm: Oid<'a>,
+    key: BitString<'a>,
+}
+
+fn read_key<'a>(fields: &mut Cursor<'a>) -> Result<KeyInfo<'a>, Refusal<BerError>> {
     let mut key_info = fields.open_sequence()?;
     let algorithm = read_algorithm(&mut key_info)?;
     let key = key_info.bits()?;
     key_info.end()?;
-    Ok((algorithm, key))
+    Ok(KeyInfo { algorithm, key })
 }
 
 /// Reads what follows the key: two unique identifiers, which are passed over (4.1.2.8), and the
