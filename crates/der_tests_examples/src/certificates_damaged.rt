@@ -85,7 +85,7 @@ const CERTIFICATE: &[u8] = b"\
 const OPENED: &[usize] = &[237, 257, 301];
 
 /// The issuer, the subject and the other names: a parser reads each, and a refusal has its place.
-const WHOLES: &[usize] = &[30, 97, 303];
+const WHOLES: &[usize] = &[30, 97];
 
 /// The copies that are read.
 #[rattlefmt::skip]
@@ -95,9 +95,6 @@ const PASSES: &[Pass] = &[
     (374, This(LeftOver), "what follows the identifier of an algorithm isn't looked at"),
     (143, This(Class), "the parameters of an algorithm aren't looked at"),
     (143, This(Constructed), "the parameters of an algorithm aren't looked at"),
-    (303, This(Constructed), "the list parser of the other names looks at the tag number alone"),
-    (357, This(Constructed), "the form of an address isn't looked at"),
-    (363, This(Constructed), "the form of an identifier isn't looked at"),
 ];
 
 const CASE: Case<'static> = Case {

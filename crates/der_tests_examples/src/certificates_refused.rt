@@ -71,7 +71,7 @@ const TEXTS: &[(&str, usize, usize, u8, &str)] = &[
     ("signed fields longer than the certificate", 95, 3, 0x5c,
         "Certificate at 2: an element runs past the end of its list, needs 1"),
     ("a serial number longer than the signed fields", 95, 10, 0x50,
-        "tbsCertificate.serialNumber at 9: an element runs past the end of its list, needs 80"),
+        "tbsCertificate.serialNumber at 9: an element runs past the end of its list, needs 5"),
     ("a version longer than its tag", 95, 7, 0x02,
         "tbsCertificate.version at 6: an element runs past the end of its list, needs 1"),
     ("a tag without a version", 95, 5, 0x00,
