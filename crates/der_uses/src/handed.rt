@@ -35,10 +35,15 @@ pub fn read_ticket(input: &[u8]) -> Result<Ticket<'_>, Refusal<BerError>> {
 
 /// Reads a SEQUENCE OF identifiers.
 pub fn read_identifiers(alloc: Global, input: &[u8]) -> Result<Vec<Oid<'_>>, Refusal<BerError>> {
-    Cursor::new(input).open_sequence()?.read_all(alloc, read_identifier)
+    Cursor::new(input)
+        .open_sequence()?
+        .read_all(alloc, read_identifier)
 }
 
-fn read_identifier<'a>(_alloc: Global, list: &mut Cursor<'a>) -> Result<Oid<'a>, Refusal<BerError>> {
+fn read_identifier<'a>(
+    _alloc: Global,
+    list: &mut Cursor<'a>,
+) -> Result<Oid<'a>, Refusal<BerError>> {
     list.oid()
 }
 

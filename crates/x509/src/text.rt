@@ -121,10 +121,7 @@ fn write_extension<W: fmt::Write>(
     }
 }
 
-fn write_key_uses<W: fmt::Write>(
-    f: &mut fmt::Formatter<W>,
-    bits: &BitString<'_>,
-) -> fmt::Result {
+fn write_key_uses<W: fmt::Write>(f: &mut fmt::Formatter<W>, bits: &BitString<'_>) -> fmt::Result {
     let mut follows_another = false;
     for (bit, name) in KEY_USES.iter().enumerate() {
         if bits.is_set(bit) {
