@@ -1,5 +1,3 @@
 pub mod ElementLaws
 pub mod FirstOctets
 pub mod HeadersBy
-pub mod PaddedArcs
-pub mod Quick
