@@ -9,7 +9,7 @@ use Rattle.der_walk.specs.Visits.{Extras, Visited, Visits}
 
 -- nothing is visited but elements
 abbrev pub no_extras : Extras
-no_extras = record { enters_strings = false; keeps_texts = false }
+no_extras = record { enters_strings = false; keeps_values = false }
 
 -- the universal types whose encoding by BER may be in parts: BIT STRING, OCTET STRING, the types of characters and
 -- times (8.6, 8.7, 8.23, 8.25)

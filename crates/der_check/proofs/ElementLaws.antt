@@ -20,9 +20,9 @@ use Rattle.der_base.proofs.Octets.Identifiers.{fronts_same}
 use Rattle.der_laws.proofs.Spellings.DerWithinBer.{der_element}
 use Rattle.der_base.specs.declared.rules.Rules.{Rules}
 use Rattle.der_base.specs.declared.rules.Rules.TheVariants.{Ber, Der}
-use Rattle.der_check.specs.Elements.{AreElements, IsElement, none, one_more, primitive, constructed, indefinite, MayBeConstructed, SpellsLengthBy, SpellsOne}
+use Rattle.der_check.specs.Elements.{AreElements, IsElement, none, one_more, primitive, constructed, indefinite, MayBeConstructed, SpellsLengthBy, SpellsObject, SpellsOne}
 use Rattle.der_base.specs.Rules.{AnswersHeader, SpellsHeaderBy}
-use Rattle.der_check.specs.Readers.{Finds, AnswersOneElement, BeginsWithElement, BeginsWithPrimitive, BeginsWithConstructed, BeginsWithElements, BeginsWithOpenContent, StartsConstructed, StartsEndMarker}
+use Rattle.der_check.specs.Readers.{Finds, AnswersOneElement, BeginsWithElement, BeginsWithOne, BeginsWithPrimitive, BeginsWithConstructed, BeginsWithElements, BeginsWithOpenContent, StartsConstructed, StartsEndMarker, StartsPadded}
 use Rattle.der_check.proofs.FirstOctets.{zero_first, constructed_first}
 use Rattle.der_check.proofs.HeadersBy.{no_ok, spells_definite, definite_spelled, spells_open, open_spelled, header_identifier, header_read, header_only, header_refused}
 
@@ -31,14 +31,17 @@ ber_identifier : (b : List ℕ) (c : Class) (p : Bool) (t : ℕ) (x : Content) (
 ber_identifier b c p t x (form h fs) (ht, hd, hk, inl (s, w, eh, hs, e, hc)) = (s ++ w, e ∙ append_assoc (identifier c p t) s w)
 ber_identifier b c p t x (form h fs) (ht, hd, hk, inr (w, eh, ep, h2, e, hc)) = (128 ∷ w ++ end_marker, e ∙ append_assoc (identifier c p t) (128 ∷ w) end_marker)
 
-pub spells_identifier : (r : Rules) (b : List ℕ) (c : Class) (p : Bool) (t : ℕ) (x : Content) → SpellsOne r b (node c p t x) → (s : List ℕ) × (b ≡ identifier c p t ++ s)
-spells_identifier Ber b c p t x h = ber_identifier b c p t x h.0 h.1
-spells_identifier Der b c p t x h =
+pub object_identifier_octets : (r : Rules) (b : List ℕ) (c : Class) (p : Bool) (t : ℕ) (x : Content) → SpellsObject r b (node c p t x) → (s : List ℕ) × (b ≡ identifier c p t ++ s)
+object_identifier_octets Ber b c p t x h = ber_identifier b c p t x h.0 h.1
+object_identifier_octets Der b c p t x h =
     let w = content_octets x in
     (shortest_length (length w) ++ w, der_element b c p t x 1 h ∙ append_assoc (identifier c p t) (shortest_length (length w)) w)
 
+pub spells_identifier : (r : Rules) (b : List ℕ) (c : Class) (p : Bool) (t : ℕ) (x : Content) → SpellsOne r b (node c p t x) → (s : List ℕ) × (b ≡ identifier c p t ++ s)
+spells_identifier r b c p t x h = object_identifier_octets r b c p t x h.0
+
 -- in front of others
-in_front : (i b s rest : List ℕ) (c : Class) (p : Bool) (t : ℕ) → i ≡ b ++ rest → b ≡ identifier c p t ++ s → i ≡ identifier c p t ++ (s ++ rest)
+pub in_front : (i b s rest : List ℕ) (c : Class) (p : Bool) (t : ℕ) → i ≡ b ++ rest → b ≡ identifier c p t ++ s → i ≡ identifier c p t ++ (s ++ rest)
 in_front i b s rest c p t e h = e ∙ ap (λ l. l ++ rest) h ∙ append_assoc (identifier c p t) s rest
 
 -- an element doesn't begin with the octet of an end marker
@@ -123,16 +126,20 @@ by_primitive r d i result h starts f = finds _ _ result (λ rest p. primitive_el
         let same = starts v.class v.constructed v.number k.0 k.1 in
         cc
 
--- a header that was read is the one of a constructed element
+-- a header in front is the one of a constructed element
+
+pub header_finds : (r : Rules) (d : ℕ) (i : List ℕ) (u : LeadingHeader) (result : Option (Bor (List ℕ))) → SpellsHeaderBy r i u → ((v : LeadingHeader) → SpellsHeaderBy r i v → u ≡ v) → u.constructed ≡ true
+    → MayBeConstructed r u.class u.number → Finds (BeginsWithElements r (d - 1) u.length u.rest) result → Finds (BeginsWithConstructed r d i) result
+header_finds r d i u result s same ep m f =
+    finds _ _ result (λ rest e. (u, s, ep, m, e)) (λ rest p. back rest p) f
+  where
+    back : (rest : List ℕ) → BeginsWithConstructed r d i rest → BeginsWithElements r (d - 1) u.length u.rest rest
+    back rest (v, h, q, n, e) = subst (λ z. BeginsWithElements r (d - 1) z.length z.rest rest) (sym (same v h)) e
 
 pub constructed_finds : (r : Rules) (d : ℕ) (i : List ℕ) (x : Bor (List ℕ) × Header) (l : Length) (result : Option (Bor (List ℕ))) → AnswersHeader r i (Ok x) → is_constructed x.1 ≡ true
     → MayBeConstructed r (class_of x.1) (number_of x.1) → length_of x.1 ≡ l → Finds (BeginsWithElements r (d - 1) l x.0.now) result → Finds (BeginsWithConstructed r d i) result
 constructed_finds r d i x l result a ep m el f =
-    finds _ _ result (λ rest e. (leading_header x, header_read r i x a, ep, m, subst (λ k. BeginsWithElements r (d - 1) k x.0.now rest) (sym el) e)) (λ rest p. back rest p) f
-  where
-    back : (rest : List ℕ) → BeginsWithConstructed r d i rest → BeginsWithElements r (d - 1) l x.0.now rest
-    back rest (v, s, q, n, e) =
-        subst (λ k. BeginsWithElements r (d - 1) k x.0.now rest) el (subst (λ u. BeginsWithElements r (d - 1) u.length u.rest rest) (sym (header_only r i x v a s)) e)
+    header_finds r d i (leading_header x) result (header_read r i x a) (λ v s. header_only r i x v a s) ep m (subst (λ k. Finds (BeginsWithElements r (d - 1) k x.0.now) result) (sym el) f)
 
 pub none_constructed : (r : Rules) (d : ℕ) (i : List ℕ) (x : Bor (List ℕ) × Header) → AnswersHeader r i (Ok x) → (is_constructed x.1 ≡ true → MayBeConstructed r (class_of x.1) (number_of x.1) → ⊥)
     → Finds (BeginsWithConstructed r d i) None
@@ -167,17 +174,26 @@ one_primitive r i rest (node c p t x) b e s starts marker =
     let ep : p ≡ false = starts c p t (k.0 ++ rest) parts in
     (b, c, t, x, e, subst (λ q. SpellsOne r b (node c q t x)) ep s, λ u z. let is = (marker c t (k.0 ++ rest) (subst (λ q. i ≡ identifier c q t ++ (k.0 ++ rest)) ep parts)).1 (u, z) in cc)
 
-pub one_found : (r : Rules) (i : List ℕ) (x : Bor (List ℕ) × ℕ) → AnswersOneElement r i (Ok x) → StartsConstructed i false → StartsEndMarker i false → BeginsWithPrimitive r i x.0.now
-one_found Ber i x a starts marker = let (o, (b, e, s), n) = a.found in one_primitive Ber i x.0.now o b e s starts marker
-one_found Der i x a starts marker = let (o, (b, e, s), n) = a.found in one_primitive Der i x.0.now o b e s starts marker
+-- what the readers of elements found, if no arc is padded
+pub one_found : (r : Rules) (i : List ℕ) (x : Bor (List ℕ) × ℕ) → AnswersOneElement r i (Ok x) → StartsPadded r i false → BeginsWithOne r i x.0.now
+one_found Ber i x a plain = let (o, (b, e, s), n) = a.found in (o, b, e, (s, (plain o b x.0.now e s).1 refl))
+one_found Der i x a plain = let (o, (b, e, s), n) = a.found in (o, b, e, (s, (plain o b x.0.now e s).1 refl))
 
-pub one_only : (r : Rules) (i rest : List ℕ) (x : Bor (List ℕ) × ℕ) → AnswersOneElement r i (Ok x) → BeginsWithPrimitive r i rest → x.0.now ≡ rest
-one_only Ber i rest x a (b, c, t, y, e, s, n) = ap (λ v. v.0) (a.only (rest, object_count (node c false t y)) (node c false t y, (b, e, s), refl))
-one_only Der i rest x a (b, c, t, y, e, s, n) = ap (λ v. v.0) (a.only (rest, object_count (node c false t y)) (node c false t y, (b, e, s), refl))
+pub one_only : (r : Rules) (i rest : List ℕ) (x : Bor (List ℕ) × ℕ) → AnswersOneElement r i (Ok x) → BeginsWithOne r i rest → x.0.now ≡ rest
+one_only Ber i rest x a (o, b, e, s) = ap (λ v. v.0) (a.only (rest, object_count o) (o, (b, e, s.0), refl))
+one_only Der i rest x a (o, b, e, s) = ap (λ v. v.0) (a.only (rest, object_count o) (o, (b, e, s.0), refl))
 
-pub one_refused : (r : Rules) (i rest : List ℕ) (e : Refused BerError) → AnswersOneElement r i (Err e) → BeginsWithPrimitive r i rest → ⊥
-one_refused Ber i rest z a (b, c, t, y, e, s, n) = no_ok z _ (a.only (rest, object_count (node c false t y)) (node c false t y, (b, e, s), refl))
-one_refused Der i rest z a (b, c, t, y, e, s, n) = no_ok z _ (a.only (rest, object_count (node c false t y)) (node c false t y, (b, e, s), refl))
+pub one_refused : (r : Rules) (i rest : List ℕ) (e : Refused BerError) → AnswersOneElement r i (Err e) → BeginsWithOne r i rest → ⊥
+one_refused Ber i rest z a (o, b, e, s) = no_ok z _ (a.only (rest, object_count o) (o, (b, e, s.0), refl))
+one_refused Der i rest z a (o, b, e, s) = no_ok z _ (a.only (rest, object_count o) (o, (b, e, s.0), refl))
+
+pub one_padded : (r : Rules) (i rest : List ℕ) → StartsPadded r i true → BeginsWithOne r i rest → ⊥
+one_padded r i rest padded (o, b, e, s) = absurd (let q = (padded o b rest e s.0).0 s.1 in cc)
+
+-- where a primitive element begins, that is one
+pub primitive_finds : (r : Rules) (i : List ℕ) (result : Option (Bor (List ℕ))) → StartsConstructed i false → StartsEndMarker i false → Finds (BeginsWithOne r i) result → Finds (BeginsWithPrimitive r i) result
+primitive_finds r i result starts marker f =
+    finds _ _ result (λ rest (o, b, e, s). one_primitive r i rest o b e s starts marker) (λ rest (b, c, t, x, e, s, n). (node c false t x, b, e, s)) f
 
 -- the first octet is no end marker's
 pub marker_found : (r : Rules) (i rest : List ℕ) → StartsEndMarker i true → BeginsWithPrimitive r i rest → ⊥

@@ -49,7 +49,7 @@ bit_false Application m first h e = omega (arith, e)
 bit_false ContextSpecific m first h e = omega (arith, e)
 bit_false Private m first h e = omega (arith, e)
 
-first_is : (i : List ℕ) (c : Class) (p : Bool) (t : ℕ) → (f : FirstOctet c p t i) → get_or i 0 0 ≡ leading_bits c p + f.low
+pub first_is : (i : List ℕ) (c : Class) (p : Bool) (t : ℕ) → (f : FirstOctet c p t i) → get_or i 0 0 ≡ leading_bits c p + f.low
 first_is i c p t f = ap (λ l. get_or l 0 0) f.octets
 
 pub constructed_bit_is : (i : List ℕ) (c : Class) (q : Bool) (t : ℕ) (rest : List ℕ) → i ≡ identifier c q t ++ rest → q ≡ nat_eq (get_or i 0 0 / 32 % 2) 1

@@ -13,8 +13,8 @@ use Rattle.der_base.specs.Headers.{BeginsWithHeader, LeadingHeader, leading_head
 use Rattle.der_base.specs.Octets.{identifier, shortest_length}
 use Rattle.der_base.proofs.Framing.FramingLists.{header_takes_two, definite_header, indefinite_header}
 use Rattle.der_base.proofs.Octets.Identifiers.{identifier_octets}
-use Rattle.der_base.proofs.Headers.BerHeaders.{ber_header_shows_one}
-use Rattle.der_base.proofs.Headers.DerHeaders.{der_header_shows_one}
+use Rattle.der_base.proofs.Headers.BerHeaders.{ber_header_same, ber_header_shows_one}
+use Rattle.der_base.proofs.Headers.DerHeaders.{der_header_same, der_header_shows_one}
 use Rattle.der_base.specs.declared.rules.Rules.{Rules}
 use Rattle.der_base.specs.declared.rules.Rules.TheVariants.{Ber, Der}
 use Rattle.der_check.specs.Elements.{SpellsLengthBy}
@@ -39,6 +39,20 @@ header_only Der i x v a s = a.only v s
 pub header_refused : (r : Rules) (i : List ℕ) (e : Refused BerError) (v : LeadingHeader) → AnswersHeader r i (Err e) → SpellsHeaderBy r i v → ⊥
 header_refused Ber i e v a s = no_ok e _ (a.only v s)
 header_refused Der i e v a s = no_ok e _ (a.only v s)
+
+same_parts : (u v : LeadingHeader) → u.class ≡ v.class → u.constructed ≡ v.constructed → u.number ≡ v.number → u.length ≡ v.length → u.rest ≡ v.rest → u ≡ v
+same_parts u v e1 e2 e3 e4 e5 =
+    let s : record { class = u.class; constructed = u.constructed; number = u.number; length = u.length; rest = u.rest }
+    ≡ record { class = v.class; constructed = v.constructed; number = v.number; length = v.length; rest = v.rest } = cc in s
+
+-- there is one header
+pub header_same : (r : Rules) (i : List ℕ) (u v : LeadingHeader) → SpellsHeaderBy r i u → SpellsHeaderBy r i v → u ≡ v
+header_same Ber i u v s h =
+    let z = ber_header_same i u.rest v.rest u.class v.class u.constructed v.constructed u.number v.number u.length v.length s h in
+    same_parts u v z.class z.constructed z.number z.length z.rest
+header_same Der i u v s h =
+    let z = der_header_same i u.rest v.rest u.class v.class u.constructed v.constructed u.number v.number s.0 h.0 s.2 h.2 in
+    same_parts u v z.class z.constructed z.number (s.1 ∙ ap Definite z.length ∙ sym h.1) z.rest
 
 -- a definite length
 pub spells_definite : (r : Rules) (i : List ℕ) (c : Class) (t : ℕ) (s behind : List ℕ) (n : ℕ) → t < 2 ^ 32 → SpellsLengthBy r s n → i ≡ identifier c true t ++ (s ++ behind)

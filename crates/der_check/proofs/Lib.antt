@@ -1,3 +1,5 @@
 pub mod ElementLaws
 pub mod FirstOctets
 pub mod HeadersBy
+pub mod PaddedArcs
+pub mod Quick

@@ -1,5 +1,5 @@
 -- Octets that are elements of BER or DER, one after another (X.690 8.1.1).
-use Rattle.std.specs.Prelude.{◌≡◌, ◌≢◌, ℕ, suc, ◌^◌, ◌<◌, Bool, true, false}
+use Rattle.std.specs.Prelude.{◌≡◌, ◌≢◌, ℕ, suc, ◌^◌, ◌<◌, ◌⊎◌, Bool, true, false}
 use Rattle.std.specs.Prelude.{List, [], ◌∷◌, ◌++◌, length}
 use Rattle.der_base.specs.declared.header.Class.{Class}
 use Rattle.der_base.specs.declared.header.Class.TheVariants.{Universal}
@@ -7,14 +7,30 @@ use Rattle.der_base.specs.Leaf.{is_list, is_mapped}
 use Rattle.der_base.specs.Octets.{identifier, shortest_length, SpellsLength}
 use Rattle.der_base.specs.Spelling.{BerSpells, DerSpells, end_marker, framing_budget}
 use Rattle.der_base.specs.Text.{is_one_of}
-use Rattle.der_base.specs.Tree.{Node, node, Content}
+use Rattle.der_base.specs.Tree.{Node, node, Content, object_identifier, relative_oid}
 use Rattle.der_base.specs.declared.rules.Rules.{Rules}
 use Rattle.der_base.specs.declared.rules.Rules.TheVariants.{Ber, Der}
 
--- the octets spell an object without others inside
+-- an arc in these octets is padded: it begins with an octet of 0x80. One begins at the first octet, and after each
+-- octet below 0x80 (8.19.2)
+abbrev pub HasPaddedArc : List ℕ → Type 0
+HasPaddedArc w = ((v : List ℕ) × (w ≡ 128 ∷ v))
+    ⊎ ((u v : List ℕ) × (b : ℕ) × (b < 128) × (w ≡ u ++ b ∷ 128 ∷ v))
+
+-- no arc of an identifier is (8.19.2, 8.20.2)
+abbrev pub HasNoPaddedArc : Node → Type 0
+HasNoPaddedArc (node c p t (object_identifier r w)) = ¬ HasPaddedArc w
+HasNoPaddedArc (node c p t (relative_oid r w)) = ¬ HasPaddedArc w
+HasNoPaddedArc _ = Unit {0}
+
+-- the octets spell an object without others inside, whatever its arcs are
+abbrev pub SpellsObject : Rules → List ℕ → Node → Type 0
+SpellsObject Ber b o = BerSpells b o 1 framing_budget
+SpellsObject Der b o = DerSpells b o 1
+
+-- the same, and no arc is padded
 abbrev pub SpellsOne : Rules → List ℕ → Node → Type 0
-SpellsOne Ber b o = BerSpells b o 1 framing_budget
-SpellsOne Der b o = DerSpells b o 1
+SpellsOne r b o = SpellsObject r b o × HasNoPaddedArc o
 
 -- the length octets of a definite length: any, or by DER the fewest (8.1.3.3, 10.1)
 abbrev pub SpellsLengthBy : Rules → List ℕ → ℕ → Type 0
@@ -38,8 +54,9 @@ mutual
     one_more : {d : ℕ} {i : List ℕ} (b rest : List ℕ) → i ≡ b ++ rest → IsElement r d b → AreElements r d rest
         → AreElements r d i
 
-  -- One element. An end marker is none. The content octets of a constructed one are elements whatever its class
-  -- (8.1.4), and an end marker follows them where the length is indefinite, which DER forbids (8.1.3.6, 10.1).
+  -- One element. An end marker is none, nor is an identifier with a padded arc. The content octets of a constructed one
+  -- are elements whatever its class (8.1.4), and an end marker follows them where the length is indefinite, which DER
+  -- forbids (8.1.3.6, 10.1).
   pub data IsElement (r : Rules) : ℕ → List ℕ → Type 0 where
     primitive : {d : ℕ} {b : List ℕ} (c : Class) (t : ℕ) (x : Content) → SpellsOne r b (node c false t x)
         → (c ≡ Universal → t ≢ 0) → IsElement r (suc d) b

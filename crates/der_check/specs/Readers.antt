@@ -1,6 +1,6 @@
 -- What the functions of the check find at the start of an input.
 use Rattle.std.specs.Borrow.{Bor}
-use Rattle.std.specs.Prelude.{◌≡◌, ◌≢◌, ℕ, ◌-◌, ◌↔◌, Bool, true, false, Option, Result}
+use Rattle.std.specs.Prelude.{◌≡◌, ◌≢◌, ℕ, ◌-◌, ◌↔◌, ◌⊎◌, Bool, true, false, Option, Result}
 use Rattle.std.specs.Prelude.{List, ◌++◌, length, IfSome, MatchOption}
 use Rattle.der_base.specs.declared.error.Err.{Err as Refused}
 use Rattle.der_base.specs.declared.error.Error.{Error as BerError}
@@ -12,10 +12,12 @@ use Rattle.der_base.specs.Headers.{LeadingHeader}
 use Rattle.der_base.specs.Octets.{identifier}
 use Rattle.der_base.specs.Rules.{SpellsHeaderBy}
 use Rattle.der_base.specs.Spelling.{end_marker}
-use Rattle.der_base.specs.Tree.{node, Content}
+use Rattle.der_base.specs.Tree.{Node, node, Content}
 use Rattle.der_base.specs.declared.rules.Rules.{Rules}
 use Rattle.der_base.specs.declared.rules.Rules.TheVariants.{Ber, Der}
-use Rattle.der_check.specs.Elements.{AreElements, IsElement, MayBeConstructed, SpellsOne}
+use Rattle.der_check.specs.Elements.{AreElements, HasNoPaddedArc, HasPaddedArc, IsElement, MayBeConstructed}
+use Rattle.der_check.specs.Elements.{SpellsObject, SpellsOne}
+use Rattle.der_nodes.specs.Inner.{IsPlainLeaf}
 use Rattle.der_nodes.specs.NodesReading.{AnswersBerNodes, AnswersDerNodes}
 
 -- that of the check of an element without others inside
@@ -31,6 +33,10 @@ pub record Finds (P : List ℕ → Type 0) (result : Option (Bor (List ℕ))) : 
 -- i begins with an element, and rest follows
 abbrev pub BeginsWithElement : Rules → ℕ → List ℕ → List ℕ → Type 0
 BeginsWithElement r d i rest = (b : List ℕ) × (i ≡ b ++ rest) × IsElement r d b
+
+-- with one that has no others inside
+abbrev pub BeginsWithOne : Rules → List ℕ → List ℕ → Type 0
+BeginsWithOne r i rest = (o : Node) × (b : List ℕ) × (i ≡ b ++ rest) × SpellsOne r b o
 
 -- with a primitive one
 abbrev pub BeginsWithPrimitive : Rules → List ℕ → List ℕ → Type 0
@@ -59,3 +65,15 @@ StartsConstructed i p = (c : Class) (q : Bool) (t : ℕ) (rest : List ℕ) → i
 abbrev pub StartsEndMarker : List ℕ → Bool → Type 0
 StartsEndMarker i p = (c : Class) (t : ℕ) (rest : List ℕ) → i ≡ identifier c false t ++ rest
     → (p ≡ true) ↔ ((c ≡ Universal) × (t ≡ 0))
+
+-- where i begins with an object without others inside, whether an arc of it is padded
+abbrev pub StartsPadded : Rules → List ℕ → Bool → Type 0
+StartsPadded r i p = (o : Node) (b rest : List ℕ) → i ≡ b ++ rest → SpellsObject r b o → HasNoPaddedArc o ↔ (p ≡ false)
+
+-- the identifier octet of an OBJECT IDENTIFIER, or of a RELATIVE-OID (8.19.1, 8.20.1)
+abbrev pub IsIdentifierOctet : ℕ → Type 0
+IsIdentifierOctet first = (first ≡ 6) ⊎ (first ≡ 13)
+
+-- a content that DER allows the type whose identifier octet this is, with no padded arc
+abbrev pub IsPlain : ℕ → List ℕ → Type 0
+IsPlain first w = IsPlainLeaf first w × (IsIdentifierOctet first → ¬ HasPaddedArc w)

@@ -3,11 +3,13 @@ ghost use Rattle.std.specs.Prelude.{◌≡◌, ◌↔◌, ◌≤◌, ◌<◌, �
 ghost use Rattle.der_base.specs.Spelling.{end_marker};
 ghost use Rattle.der_check.specs.Elements.{AreElements, IsElement};
 ghost use Rattle.der_check.specs.Readers.{BeginsWithConstructed, BeginsWithElement, BeginsWithOpenContent};
-ghost use Rattle.der_check.specs.Readers.{BeginsWithPrimitive, Finds, StartsConstructed, StartsEndMarker};
+ghost use Rattle.der_check.specs.Readers.{BeginsWithPrimitive, Finds, IsPlain, StartsConstructed, StartsEndMarker};
 
-use crate::rules::{check_one, may_be_constructed};
+use crate::arcs::{has_padded_arc, is_identifier_octet};
+use crate::rules::{after_one, may_be_constructed};
 use der_base::header::Length;
 use der_base::rules::Rules;
+use der_nodes::{is_list_octet, is_plain_leaf, read_short};
 
 /// Whether octets are elements, one after another, and nothing else. The content of a constructed element
 /// of any class is such elements again (X.690 8.1.4), down to this depth.
@@ -50,6 +52,37 @@ fn after_element(i: &[u8], rules: Rules, max_depth: usize) -> Option<&[u8]>
     if max_depth == 0 {
         return None;
     }
+    if let Some(short) = read_short(i) {
+        if is_list_octet(short.first) {
+            if are_elements(short.content, rules, max_depth - 1) {
+                return Some(short.rest);
+            }
+            return None;
+        }
+        if is_plain(short.first, short.content) {
+            return Some(short.rest);
+        }
+    }
+    after_any(i, rules, max_depth)
+}
+
+/// Whether an identifier octet and a content are those of a primitive element as both rules allow it. False for types
+/// that are rare.
+#[inline(always)]
+fn is_plain(first: u8, content: &[u8]) -> bool
+    ensures { IsTrue result → IsPlain first content.now }
+{
+    is_plain_leaf(first, content) && !(is_identifier_octet(first) && has_padded_arc(content))
+}
+
+/// The same of any element, at a depth of at least 1.
+#[cycle(elements)]
+#[inline(never)]
+fn after_any(i: &[u8], rules: Rules, max_depth: usize) -> Option<&[u8]>
+    requires { 1 ≤ max_depth }
+    ensures exactly { Finds (BeginsWithElement rules max_depth i.now) result }
+    ensures shorter { IfSome result (λ x. length x.now < length i.now) }
+{
     if starts_constructed(i) {
         after_constructed(i, rules, max_depth)
     } else {
@@ -78,10 +111,7 @@ fn after_primitive(i: &[u8], rules: Rules) -> Option<&[u8]>
     if starts_end_marker(i) {
         return None;
     }
-    match check_one(rules, i) {
-        Ok((rest, _)) => Some(rest),
-        Err(_) => None,
-    }
+    after_one(rules, i)
 }
 
 /// Whether the first octet is that of an end marker (8.1.5).

@@ -1,8 +1,12 @@
 //! Whether octets are elements of BER or DER and nothing else.
 #![tactic(auto)]
 
+mod arcs;
 mod elements;
 mod rules;
+#[cfg(test)]
+mod tests;
 
+pub use arcs::has_padded_arc;
 pub use elements::{after_end_marker, are_elements, is_element};
-pub use rules::{check_one, may_be_constructed};
+pub use rules::{after_one, check_one, may_be_constructed};

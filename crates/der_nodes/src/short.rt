@@ -12,7 +12,7 @@ use der_base::text::read_text;
 
 /// The parts of an element with a header of two octets.
 #[derive(Clone, Copy)]
-pub(crate) struct Short<'a> {
+pub struct Short<'a> {
     /// The identifier octet, if the tag number is below 31.
     pub first: u8,
     pub content: &'a [u8],
@@ -22,7 +22,7 @@ pub(crate) struct Short<'a> {
 
 /// Splits an element whose length is one octet (8.1.3.4), if its content is whole.
 #[inline(always)]
-pub(crate) fn read_short(i: &[u8]) -> Option<Short<'_>>
+pub fn read_short(i: &[u8]) -> Option<Short<'_>>
     ensures { IfSome result (λ x. IsShort i.now x.first x.content.now x.rest.now) }
 {
     let [first, size, behind @ ..] = i else {
@@ -42,7 +42,7 @@ pub(crate) fn read_short(i: &[u8]) -> Option<Short<'_>>
 
 /// Whether it is the identifier octet of a SEQUENCE or a SET (8.9.1, 8.11.1).
 #[inline(always)]
-pub(crate) fn is_list_octet(first: u8) -> bool
+pub fn is_list_octet(first: u8) -> bool
     ensures { IsTrue result ↔ ((first ≡ 48) ⊎ (first ≡ 49)) }
 {
     first == 0x30 || first == 0x31
@@ -51,7 +51,7 @@ pub(crate) fn is_list_octet(first: u8) -> bool
 /// Whether the identifier octet is that of a primitive universal type, and the content one that DER
 /// allows it. False for types that are rare.
 #[inline(always)]
-pub(crate) fn is_plain_leaf(first: u8, content: &[u8]) -> bool
+pub fn is_plain_leaf(first: u8, content: &[u8]) -> bool
     ensures { IsTrue result → IsPlainLeaf first content.now }
 {
     match first {

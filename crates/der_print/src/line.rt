@@ -64,7 +64,7 @@ impl fmt::Display for Ending<'_> {
             return Ok(());
         }
         write!(f, "{}", Value { element, limit })?;
-        if element.has_other_characters {
+        if element.breaks_its_type {
             write!(f, "  {}", Remark { element })?;
         }
         Ok(())

@@ -1,9 +1,10 @@
-//! A text with a character that its type doesn't have.
+//! A value that breaks its type.
 use crate::characters::write_character;
 use der_walk::Element;
 use std::fmt;
 
-/// What is said of a text with a character that its type doesn't have: the first one, and the rule.
+/// What is said of a value that breaks its type: the rule, and of a text also the first character that the type doesn't
+/// have.
 #[derive(Clone, Copy)]
 pub struct Remark<'a> {
     pub element: Element<'a>,
@@ -14,6 +15,7 @@ impl fmt::Display for Remark<'_> {
         let element = self.element;
         let name = element.name();
         match element.number {
+            6 | 13 => return f.write_str("an arc begins with an octet of 0x80 (X.690 8.19.2)"),
             22 => f.write_str("not an IA5String")?,
             7 | 20 | 21 | 25 | 27 => return f.write_str("not UTF-8"),
             _ => write!(f, "not a {name}")?,
@@ -47,6 +49,7 @@ fn clause(number: u32) -> &'static str {
         12 => "X.690 8.23.10",
         18 => "X.690 8.23.5, X.680 41.2",
         19 => "X.690 8.23.5, X.680 41.4",
+        23 | 24 => "X.690 8.25",
         _ => "X.690 8.23",
     }
 }

@@ -12,7 +12,7 @@ use Rattle.der_tool.specs.Outputs.{WritesTree}
 
 -- with the elements inside strings or without them, and with marked texts
 abbrev pub extras_of : Options → Extras
-extras_of o = record { enters_strings = o.enters_strings; keeps_texts = true }
+extras_of o = record { enters_strings = o.enters_strings; keeps_values = true }
 
 -- known octets grew by a line for each element that the walk has visited
 pub record HasPrinted (o : Options) (i : List ℕ) (w : Walk) (old new : Option (List ℕ)) : Type 0 where

@@ -12,7 +12,7 @@ use Rattle.der_walk.specs.Visits.{Visited, Visits}
 -- known octets grew by a line for each of the elements that the input is, in preorder
 pub record WritesTree (o : Options) (i : List ℕ) (old new : Option (List ℕ)) : Type 0 where
   pub elements : List Visited
-  pub visits : Visits (record { enters_strings = o.enters_strings; keeps_texts = true }) o.rules 101 0 0 i elements
+  pub visits : Visits (record { enters_strings = o.enters_strings; keeps_values = true }) o.rules 101 0 0 i elements
   pub text : List ℕ
   pub lines : AreLines o.style.colours elements text
   pub adds : Appends old new text

@@ -52,7 +52,7 @@ pub(crate) fn print_json<W: Write, X: Write>(
     out: &mut W,
     err: &mut X,
 ) -> io::Result<bool> {
-    let mut walk = Walk::new(octets, options.rules, options.enters_strings).keeping_texts();
+    let mut walk = Walk::new(octets, options.rules, options.enters_strings).keeping_values();
     // An element has an octet at least, so the loop ends at the end of the octets.
     for _ in 0..=octets.len() {
         match walk.next_element() {
@@ -145,9 +145,9 @@ fn name_in(element: &Element<'_>) -> Option<&'static str> {
     name_of(element.content?)
 }
 
-/// What is said of a text with a character that its type doesn't have.
+/// What is said of a value that breaks its type.
 fn fault_in(alloc: Global, element: &Element<'_>) -> Result<Option<String>, AllocError> {
-    if !element.has_other_characters {
+    if !element.breaks_its_type {
         return Ok(None);
     }
     let element = *element;

@@ -24,7 +24,7 @@ pub(crate) fn print_tree<W: Write, X: Write>(
     ensures { IfOk result (λ ok. IsTrue ok
         → WritesTree options.now octets.now (W.contents out.old) (W.contents out.new)) }
 {
-    let mut walk = Walk::new(octets, options.rules, options.enters_strings).keeping_texts();
+    let mut walk = Walk::new(octets, options.rules, options.enters_strings).keeping_values();
     let mut room = Room::new(alloc);
     // An element has an octet at least, so the loop ends at the end of the octets.
     'elements: for _ in 0..=octets.len() {

@@ -13,24 +13,23 @@ use Rattle.der_base.proofs.Octets.Identifiers.{fronts_same}
 use Rattle.der_base.specs.declared.rules.Rules.{Rules}
 use Rattle.der_check.specs.Elements.{SpellsOne}
 use Rattle.der_base.specs.Rules.{AnswersHeader}
-use Rattle.der_check.specs.Readers.{AnswersOneElement}
-use Rattle.der_check.proofs.ElementLaws.{one_refused}
+use Rattle.der_check.specs.Readers.{BeginsWithOne, Finds}
 use Rattle.der_check.proofs.HeadersBy.{header_read}
 use Rattle.der_walk.specs.declared.element.Element.{Element}
 use Rattle.der_walk.specs.declared.walk.Walk.{Walk}
-use Rattle.der_walk.specs.Visits.{Extras, IsHeaderBy, HoldsElement, IsNotEntered, primitive, text, visited, is_text}
+use Rattle.der_walk.specs.Visits.{Extras, IsHeaderBy, HoldsElement, IsNotEntered, primitive, broken, visited, may_break}
 use Rattle.der_walk.specs.Walked.{visited_of}
 use Rattle.der_walk.specs.Reading.{StartsWith, FindsContent, IsChecked, Holds, IsRead, whole, string, list, definite_of, extras_of, OctetsHere, ReadsHere}
 use Rattle.der_walk.proofs.Headers.{Parts, header_parts, checked, raw_tag_read}
 
 -- what is visited, where only the header matters
-visited_plain : (e : Element) (h : List ℕ) (p : Bool) (n : Option ℕ) → e.header ≡ length h → e.length ≡ n → e.constructed ≡ p → e.holds_der ≡ false → e.has_other_characters ≡ false
+visited_plain : (e : Element) (h : List ℕ) (p : Bool) (n : Option ℕ) → e.header ≡ length h → e.length ≡ n → e.constructed ≡ p → e.holds_der ≡ false → e.breaks_its_type ≡ false
     → visited_of e ≡ visited e.offset e.depth e.class p e.number h n
 visited_plain e h p n eh el ep ed eo = cc
 
-visited_text : (e : Element) (h : List ℕ) (n : Option ℕ) → e.header ≡ length h → e.length ≡ n → e.class ≡ Universal → e.constructed ≡ false → e.holds_der ≡ false → e.has_other_characters ≡ true
-    → visited_of e ≡ record (visited e.offset e.depth Universal false e.number h n) { has_other_characters = true }
-visited_text e h n eh el ec ep ed eo = cc
+visited_broken : (e : Element) (h : List ℕ) (n : Option ℕ) → e.header ≡ length h → e.length ≡ n → e.class ≡ Universal → e.constructed ≡ false → e.holds_der ≡ false → e.breaks_its_type ≡ true
+    → visited_of e ≡ record (visited e.offset e.depth Universal false e.number h n) { breaks_its_type = true }
+visited_broken e h n eh el ec ep ed eo = cc
 
 -- the header of the element
 parts_of : (r : Rules) (i : List ℕ) (y : Bor (List ℕ) × Header) (o at k : ℕ) (e : Element) → AnswersHeader r i (Ok y) → StartsWith y.1 o at k e → Parts r i e.class e.constructed e.number e.length y.0.now
@@ -56,7 +55,7 @@ pub record Leaf (r : Rules) (i : List ℕ) (e : Element) (behind : List ℕ) : T
   pub length_is : e.length ≡ Some (length content)
   pub spells : SpellsOne r (octets ++ content) (node e.class false e.number value)
 
-leaf_of : (r : Rules) (i : List ℕ) (y : Bor (List ℕ) × Header) (o at k : ℕ) (e : Element) (z : Bor (List ℕ) × ℕ) → AnswersHeader r i (Ok y) → StartsWith y.1 o at k e → e.constructed ≡ false → AnswersOneElement r i (Ok z)
+leaf_of : (r : Rules) (i : List ℕ) (y : Bor (List ℕ) × Header) (o at k : ℕ) (e : Element) (z : List ℕ) → AnswersHeader r i (Ok y) → StartsWith y.1 o at k e → e.constructed ≡ false → BeginsWithOne r i z
     → Leaf r i e y.0.now
 leaf_of r i y o at k e z a s ep one =
     let g = checked r i y z a (sym s.constructed ∙ ep) one in
@@ -95,22 +94,27 @@ holds_content : (d t : ℕ) (w : List ℕ) (c : Option (Bor (List ℕ))) → Mat
 holds_content d t w None c h = absurd c
 holds_content d t w (Some b) c (u, v, h) = (u, v, subst (λ l. HoldsElement d t l u v) c h)
 
+-- nothing is found where there is no result
+pub none_found : (P : List ℕ → Type 0) (result : Option (Bor (List ℕ))) → ¬ IsSome result → Finds P result → (rest : List ℕ) → P rest → ⊥
+none_found P (Some x) never f rest p = never refl
+none_found P None never f rest p = f.only rest p
+
 bool_cases : (b : Bool) → (b ≡ true) ⊎ (b ≡ false)
 bool_cases true = inl refl
 bool_cases false = inr refl
 
-text_no_string : (t : ℕ) (d : ℕ) (w u v : List ℕ) → IsTrue (is_text t) → HoldsElement d t w u v → ⊥
-text_no_string t d w u v it h =
+broken_no_string : (t : ℕ) (d : ℕ) (w u v : List ℕ) → IsTrue (may_break t) → HoldsElement d t w u v → ⊥
+broken_no_string t d w u v it h =
     ⊎_elim
-    (λ z. absurd (let q : false ≡ true = subst (λ n. IsTrue (is_text n)) z.0 it in cc))
-    (λ z. absurd (let q : false ≡ true = subst (λ n. IsTrue (is_text n)) z.0 it in cc))
+    (λ z. absurd (let q : false ≡ true = subst (λ n. IsTrue (may_break n)) z.0 it in cc))
+    (λ z. absurd (let q : false ≡ true = subst (λ n. IsTrue (may_break n)) z.0 it in cc))
     h.front
 
-pub text_not_zero : (t : ℕ) → IsTrue (is_text t) → t ≢ 0
-text_not_zero t it z = absurd (let q : false ≡ true = subst (λ n. IsTrue (is_text n)) z it in cc)
+pub broken_not_zero : (t : ℕ) → IsTrue (may_break t) → t ≢ 0
+broken_not_zero t it z = absurd (let q : false ≡ true = subst (λ n. IsTrue (may_break n)) z it in cc)
 
 pub reads : (x : Extras) (r : Rules) (i : List ℕ) (y : Bor (List ℕ) × Header) (at k : ℕ) (e : Element) → AnswersHeader r i (Ok y) → StartsWith y.1 (length i - length y.0.now) at k e
-    → FindsContent e y.0.now e.content → IsChecked x.keeps_texts r i e e.has_other_characters → IsTrue e.holds_der ↔ ((x.enters_strings ≡ true) × Holds e) → IsRead x r (100 - e.depth) i e
+    → FindsContent e y.0.now e.content → IsChecked x.keeps_values r i e e.breaks_its_type → IsTrue e.holds_der ↔ ((x.enters_strings ≡ true) × Holds e) → IsRead x r (100 - e.depth) i e
 reads x r i y at k e a s f (inl (ep, may, eo)) holds =
     let g = parts_of r i y _ at k e a s in
     let no : e.holds_der ≡ false = ⊎_elim (λ t. absurd (let q = (holds.0 t).1.0 in cc)) (λ n. n) (bool_cases e.holds_der) in
@@ -138,7 +142,7 @@ reads x r i y at k e a s f (inr (inl (ep, n, eo, z, one))) holds = ⊎_elim ente
         let out = not_entered x e g.content ep c (λ h. absurd (let q = holds.1 h in cc)) in
         whole g.octets g.content g.rest g.split eh g.length_is ep t
         (primitive e.class e.number g.octets g.content g.value g.is refl g.spells n out (ap (λ v. v ∷ []) (visited_plain e g.octets false (Some (length g.content)) eh g.length_is ep t eo)))
-reads x r i y at k e a s f (inr (inr (ep, eo, kt, er, ec, it, z, one))) holds = of e.content refl f
+reads x r i y at k e a s f (inr (inr (ep, eo, kt, er, ec, it, none))) holds = of e.content refl f
   where
     g : Parts r i e.class e.constructed e.number e.length y.0.now
     g = parts_of r i y _ at k e a s
@@ -160,7 +164,7 @@ reads x r i y at k e a s f (inr (inr (ep, eo, kt, er, ec, it, z, one))) holds = 
           where
             none_of : (c : Option (Bor (List ℕ))) → MatchOption c ⊥ (λ w. (u v : List ℕ) × HoldsElement (100 - e.depth) e.number w.now u v) → ⊥
             none_of None h = h
-            none_of (Some w) (u, v, h) = text_no_string e.number (100 - e.depth) w.now u v it h
+            none_of (Some w) (u, v, h) = broken_no_string e.number (100 - e.depth) w.now u v it h
 
     of : (c : Option (Bor (List ℕ))) → e.content ≡ c → FindsContent e y.0.now c → IsRead x r (100 - e.depth) i e
     of None q f = absurd (no_content f)
@@ -170,8 +174,8 @@ reads x r i y at k e a s f (inr (inr (ep, eo, kt, er, ec, it, z, one))) holds = 
         let is2 = subst (λ c. IsHeaderBy r c false e.number e.length g.octets) ec is1 in
         let is : IsHeaderBy r Universal false e.number (Some (length w.now)) g.octets = subst (λ l. IsHeaderBy r Universal false e.number l g.octets) len is2 in
         whole g.octets w.now rest all eh len ep no_holds
-        (text e.number g.octets w.now is refl kt er it (λ v spells. one_refused r i rest z one (g.octets ++ w.now, Universal, e.number, v, all ∙ sym (append_assoc g.octets w.now rest), spells, λ u. text_not_zero e.number it))
-        (ap (λ v. v ∷ []) (visited_text e g.octets (Some (length w.now)) eh len ec ep no_holds eo)))
+        (broken e.number g.octets w.now is refl kt er it (λ v spells. none rest (node Universal false e.number v, g.octets ++ w.now, all ∙ sym (append_assoc g.octets w.now rest), spells))
+        (ap (λ v. v ∷ []) (visited_broken e g.octets (Some (length w.now)) eh len ec ep no_holds eo)))
 
 no_length : (r : Rules) (c : Class) (p : Bool) (t : ℕ) (h : List ℕ) → p ≡ false → IsHeaderBy r c p t None h → ⊥
 no_length r c p t h ep is = absurd (let q = is.2 in cc)
@@ -198,7 +202,7 @@ octets_here r i y at k e a s f = record { identifier = named; content = contents
     some (Some w) f ep = search rules
 
 -- another content and other marks leave the header
-pub starts_again : (h : Header) (o at k : ℕ) (e : Element) (c : Option (Bor (List ℕ))) (holds other : Bool) → StartsWith h o at k e → StartsWith h o at k (record e { content = c; holds_der = holds; has_other_characters = other })
+pub starts_again : (h : Header) (o at k : ℕ) (e : Element) (c : Option (Bor (List ℕ))) (holds other : Bool) → StartsWith h o at k e → StartsWith h o at k (record e { content = c; holds_der = holds; breaks_its_type = other })
 starts_again h o at k e c holds other s = record {
   class = s.class;
   constructed = s.constructed;
@@ -211,7 +215,7 @@ starts_again h o at k e c holds other s = record {
 }
 
 pub reads_here : (w : Walk) (i : List ℕ) (y : Bor (List ℕ) × Header) (e : Element) → AnswersHeader w.content.rules i (Ok y) → StartsWith y.1 (length i - length y.0.now) w.at (length w.opened.items) e
-    → FindsContent e y.0.now e.content → IfSome e.length (λ n. n ≤ w.content.end - (e.offset + e.header)) → IsChecked w.keeps_texts w.content.rules i e e.has_other_characters
+    → FindsContent e y.0.now e.content → IfSome e.length (λ n. n ≤ w.content.end - (e.offset + e.header)) → IsChecked w.keeps_values w.content.rules i e e.breaks_its_type
     → IsTrue e.holds_der ↔ ((w.enters_strings ≡ true) × Holds e) → e.depth ≤ 100 → ReadsHere w i e
 reads_here w i y e a s f room checks holds shallow = record {
   offset = s.offset;

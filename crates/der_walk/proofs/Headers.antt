@@ -10,7 +10,7 @@ use Rattle.der_base.specs.Header.{class_of, is_constructed, number_of, length_of
 use Rattle.der_base.specs.Headers.{BeginsWithHeader, BeginsWithDerHeader, LeadingHeader, leading_header}
 use Rattle.der_base.specs.Octets.{identifier, shortest_length}
 use Rattle.der_base.specs.Spelling.{BerSpellsAs, Form, form, framing_budget}
-use Rattle.der_base.specs.Tree.{Node, node, Content}
+use Rattle.der_base.specs.Tree.{node, Content}
 use Rattle.der_base.proofs.Framing.FramingLists.{definite_header}
 use Rattle.der_base.proofs.Octets.Identifiers.{identifier_same}
 use Rattle.der_laws.proofs.Spellings.DerWithinBer.{der_element}
@@ -18,7 +18,7 @@ use Rattle.der_base.specs.declared.rules.Rules.{Rules}
 use Rattle.der_base.specs.declared.rules.Rules.TheVariants.{Ber, Der}
 use Rattle.der_check.specs.Elements.{SpellsOne}
 use Rattle.der_base.specs.Rules.{AnswersHeader, SpellsHeaderBy}
-use Rattle.der_check.specs.Readers.{AnswersOneElement}
+use Rattle.der_check.specs.Readers.{BeginsWithOne}
 use Rattle.der_check.proofs.ElementLaws.{spells_identifier}
 use Rattle.der_check.proofs.HeadersBy.{header_identifier, header_only, header_read}
 use Rattle.der_walk.specs.Visits.{IsHeaderBy}
@@ -74,8 +74,8 @@ ber_one b c t y (form h fs) (ht, hd, hk, inl (s, w, eh, hs, e, hc)) = record { o
 ber_one b c t y (form h fs) (ht, hd, hk, inr (w, eh, ep, h2, e, hc)) = absurd (cc)
 
 pub one_parts : (r : Rules) (b : List ℕ) (c : Class) (t : ℕ) (y : Content) → SpellsOne r b (node c false t y) → OneParts r b c t
-one_parts Ber b c t y s = ber_one b c t y s.0 s.1
-one_parts Der b c t y s =
+one_parts Ber b c t y (s, n) = ber_one b c t y s.0 s.1
+one_parts Der b c t y (s, n) =
     let w = content_octets y in
     record { octets = identifier c false t ++ shortest_length (length w); content = w; split = der_element b c false t y 1 s; is = (s.valid.0, shortest_length (length w), (omega (arith, s.size), refl), refl) }
 
@@ -90,10 +90,6 @@ pub record Checked (r : Rules) (i : List ℕ) (c : Class) (t : ℕ) (l : Length)
   pub is : IsHeaderBy r c false t (Some (length content)) octets
   pub length_is : l ≡ Definite (length content)
   pub spells : SpellsOne r (octets ++ content) (node c false t value)
-
-spelled : (r : Rules) (i : List ℕ) (y : Bor (List ℕ) × ℕ) → AnswersOneElement r i (Ok y) → (o : Node) × (b : List ℕ) × (i ≡ b ++ y.0.now) × SpellsOne r b o
-spelled Ber i y a = let (o, (b, e, s), n) = a.found in (o, b, e, s)
-spelled Der i y a = let (o, (b, e, s), n) = a.found in (o, b, e, s)
 
 of_parts : (r : Rules) (i : List ℕ) (x : Bor (List ℕ) × Header) → AnswersHeader r i (Ok x) → (b rest : List ℕ) (z : Content) → i ≡ b ++ rest → OneParts r b (class_of x.1) (number_of x.1) → SpellsOne r b (node (class_of x.1) false (number_of x.1) z)
     → Checked r i (class_of x.1) (number_of x.1) (length_of x.1) x.0.now
@@ -123,12 +119,9 @@ same_header r i x a ep b rest c p t z e s =
     let s3 : SpellsOne r b (node (class_of x.1) false (number_of x.1) z) = subst (λ v. SpellsOne r b (node (class_of x.1) false v z)) q.2 s2 in
     of_parts r i x a b rest z e (one_parts r b (class_of x.1) (number_of x.1) z s3) s3
 
-pub checked : (r : Rules) (i : List ℕ) (x : Bor (List ℕ) × Header) (y : Bor (List ℕ) × ℕ) → AnswersHeader r i (Ok x) → is_constructed x.1 ≡ false → AnswersOneElement r i (Ok y)
+pub checked : (r : Rules) (i : List ℕ) (x : Bor (List ℕ) × Header) (rest : List ℕ) → AnswersHeader r i (Ok x) → is_constructed x.1 ≡ false → BeginsWithOne r i rest
     → Checked r i (class_of x.1) (number_of x.1) (length_of x.1) x.0.now
-checked r i x y a ep one = let (o, b, e, s) = spelled r i y one in checked_of o b e s
-  where
-    checked_of : (o : Node) (b : List ℕ) → i ≡ b ++ y.0.now → SpellsOne r b o → Checked r i (class_of x.1) (number_of x.1) (length_of x.1) x.0.now
-    checked_of (node c p t z) b e s = same_header r i x a ep b y.0.now c p t z e s
+checked r i x rest a ep (node c p t z, b, e, s) = same_header r i x a ep b rest c p t z e s
 
 -- the identifier octets are kept
 pub raw_tag_read : (r : Rules) (i : List ℕ) (x : Bor (List ℕ) × Header) → AnswersHeader r i (Ok x) → raw_tag_of x.1 ≡ Some (identifier (class_of x.1) (is_constructed x.1) (number_of x.1))

@@ -18,7 +18,7 @@ use Rattle.der_walk.proofs.Between.{between_more, front_between, front_within, l
 use Rattle.der_walk.proofs.Steps.{advance, go_into, open_depth, within}
 
 -- a list that is opened
-open_list : (x : Extras) (r : Rules) (i : List ℕ) (d : ℕ) (e : Element) (h : List ℕ) (l : Option ℕ) (end : ℕ) → e.length ≡ l → e.header ≡ length h → e.constructed ≡ true → e.holds_der ≡ false → e.has_other_characters ≡ false
+open_list : (x : Extras) (r : Rules) (i : List ℕ) (d : ℕ) (e : Element) (h : List ℕ) (l : Option ℕ) (end : ℕ) → e.length ≡ l → e.header ≡ length h → e.constructed ≡ true → e.holds_der ≡ false → e.breaks_its_type ≡ false
     → IsHeaderBy r e.class true e.number l h → MayBeConstructed r e.class e.number → between i e.offset (e.offset + e.header) ≡ h
     → IsOpen x i r d e.depth e.offset (e.offset + e.header) r (end_from (e.offset + e.header) end l) (ends_at_marker l) (visited_of e)
 open_list x r i d e h (Some n) end el eh ep ed eo is may here = record { closes = closes; begins = omega arith }
@@ -60,7 +60,7 @@ open_list x r i d e h None end el eh ep ed eo is may here = record { closes = cl
 
 -- a string that is opened
 open_string : (x : Extras) (r : Rules) (i : List ℕ) (d : ℕ) (e : Element) (h w u v : List ℕ) (y : Content) (first end : ℕ) → e.header ≡ length h → e.length ≡ Some (length w) → e.constructed ≡ false → e.holds_der ≡ true
-    → e.has_other_characters ≡ false → e.class ≡ Universal → IsHeaderBy r Universal false e.number (Some (length w)) h → SpellsOne r (h ++ w) (node Universal false e.number y) → x.enters_strings ≡ true
+    → e.breaks_its_type ≡ false → e.class ≡ Universal → IsHeaderBy r Universal false e.number (Some (length w)) h → SpellsOne r (h ++ w) (node Universal false e.number y) → x.enters_strings ≡ true
     → HoldsElement d e.number w u v → between i e.offset end ≡ h ++ w → end ≡ e.offset + length (h ++ w) → end ≤ length i → first ≡ e.offset + length h + length u
     → IsOpen x i r d e.depth e.offset first Der end false (visited_of e)
 open_string x r i d e h w u v y first end eh el ep ed eo ec is spells en holds here ee hl ef = record { closes = closes; begins = omega arith }

@@ -17,8 +17,8 @@ use Rattle.der_base.specs.declared.rules.Rules.{Rules}
 use Rattle.der_base.specs.declared.rules.Rules.TheVariants.{Ber, Der}
 use Rattle.der_check.specs.Elements.{SpellsOne}
 use Rattle.der_check.proofs.FirstOctets.{zero_first, constructed_first}
-use Rattle.der_walk.specs.Visits.{Visited, Extras, IsHeaderBy, IsStringFront, HoldsElement, Visits, VisitsOne, none, one_more, primitive, text, string, constructed, indefinite, visited}
-use Rattle.der_walk.proofs.ElementReads.{text_not_zero}
+use Rattle.der_walk.specs.Visits.{Visited, Extras, IsHeaderBy, IsStringFront, HoldsElement, Visits, VisitsOne, none, one_more, primitive, broken, string, constructed, indefinite, visited}
+use Rattle.der_walk.proofs.ElementReads.{broken_not_zero}
 use Rattle.der_walk.proofs.Headers.{spells_parts}
 use Rattle.der_walk.proofs.VisitedElements.{string_not_zero}
 
@@ -103,7 +103,7 @@ front_at r c p t n b h z y i is e q =
 one_front : {x : Extras} {r : Rules} {d k a : ℕ} {b : List ℕ} {us : List Visited} (y i : List ℕ) → VisitsOne x r d k a b us → i ≡ b ++ y
     → (c : Class) × (p : Bool) × (t : ℕ) × (s : List ℕ) × (i ≡ identifier c p t ++ s) × (p ≡ false → c ≡ Universal → t ≡ 0 → ⊥)
 one_front {r = r} {b = b} y i (primitive c t h w z is e spells n out ev) q = let f = front_at r c false t (Some (length w)) b h w y i is e q in (c, false, t, f.0, f.1, λ p. n)
-one_front {r = r} {b = b} y i (text t h w is e keeps er it never ev) q = let f = front_at r Universal false t (Some (length w)) b h w y i is e q in (Universal, false, t, f.0, f.1, λ p c. text_not_zero t it)
+one_front {r = r} {b = b} y i (broken t h w is e keeps er it never ev) q = let f = front_at r Universal false t (Some (length w)) b h w y i is e q in (Universal, false, t, f.0, f.1, λ p c. broken_not_zero t it)
 one_front {r = r} {b = b} y i (string t h w z u v us is e spells en holds vis ev) q = let f = front_at r Universal false t (Some (length w)) b h w y i is e q in (Universal, false, t, f.0, f.1, λ p c. string_not_zero t u holds.front)
 one_front {r = r} {b = b} y i (constructed c t h w us is e may vis ev) q = let f = front_at r c true t (Some (length w)) b h w y i is e q in (c, true, t, f.0, f.1, λ p. absurd (cc))
 one_front {r = r} {b = b} y i (indefinite c t h w us is e may vis ev) q = let f = front_at r c true t None b h (w ++ end_marker) y i is (e ∙ append_assoc h w end_marker) q in (c, true, t, f.0, f.1, λ p. absurd (cc))
@@ -137,7 +137,7 @@ mutual
   one_same {r = r} {k = k} {a = a} {b = b} {b' = b'} y y' (primitive c t h w z is e sp n out ev) (primitive c' t' h' w' z' is' e' sp' n' out' ev') q =
       let s = same_parts r c c' false false t t' b b' h h' w w' y y' is is' e e' q in
       (whole_same b b' h h' w w' e e' s.octets s.content, ev ∙ ap (λ v. v ∷ []) (plain_same a k c c' false t t' h h' (Some (length w)) (Some (length w')) s.class s.number s.octets (ap (λ l. Some (length l)) s.content)) ∙ sym ev', s.rest)
-  one_same {r = r} {b = b} {b' = b'} y y' (primitive c t h w z is e sp n out ev) (text t' h' w' is' e' keeps er it never ev') q =
+  one_same {r = r} {b = b} {b' = b'} y y' (primitive c t h w z is e sp n out ev) (broken t' h' w' is' e' keeps er it never ev') q =
       let s = same_parts r c Universal false false t t' b b' h h' w w' y y' is is' e e' q in
       let same = whole_same b b' h h' w w' e e' s.octets s.content in
       absurd (never z (subst (λ l. SpellsOne r l (node Universal false t' z)) same (subst (λ m. SpellsOne r b (node Universal false m z)) s.number (subst (λ m. SpellsOne r b (node m false t z)) s.class sp))))
@@ -147,27 +147,27 @@ mutual
   one_same {r = r} {b = b} {b' = b'} y y' (primitive c t h w z is e sp n out ev) (constructed c' t' h' w' vs is' e' may vis ev') q = absurd (not_both r c c' t t' (Some (length w)) (Some (length w')) b b' h h' w w' y y' is is' e e' q)
   one_same {r = r} {b = b} {b' = b'} y y' (primitive c t h w z is e sp n out ev) (indefinite c' t' h' w' vs is' e' may vis ev') q =
       absurd (not_both r c c' t t' (Some (length w)) None b b' h h' w (w' ++ end_marker) y y' is is' e (e' ∙ append_assoc h' w' end_marker) q)
-  -- a text
-  one_same {r = r} {b = b} {b' = b'} y y' (text t h w is e keeps er it never ev) (primitive c' t' h' w' z' is' e' sp' n' out' ev') q =
+  -- a value that breaks its type
+  one_same {r = r} {b = b} {b' = b'} y y' (broken t h w is e keeps er it never ev) (primitive c' t' h' w' z' is' e' sp' n' out' ev') q =
       let s = same_parts r Universal c' false false t t' b b' h h' w w' y y' is is' e e' q in
       let same = whole_same b b' h h' w w' e e' s.octets s.content in
       absurd (never z' (subst (λ l. SpellsOne r l (node Universal false t z')) (sym same) (subst (λ m. SpellsOne r b' (node Universal false m z')) (sym s.number) (subst (λ m. SpellsOne r b' (node m false t' z')) (sym s.class) sp'))))
-  one_same {r = r} {k = k} {a = a} {b = b} {b' = b'} y y' (text t h w is e keeps er it never ev) (text t' h' w' is' e' keeps' er' it' never' ev') q =
+  one_same {r = r} {k = k} {a = a} {b = b} {b' = b'} y y' (broken t h w is e keeps er it never ev) (broken t' h' w' is' e' keeps' er' it' never' ev') q =
       let s = same_parts r Universal Universal false false t t' b b' h h' w w' y y' is is' e e' q in
       let same = plain_same a k Universal Universal false t t' h h' (Some (length w)) (Some (length w')) s.class s.number s.octets (ap (λ l. Some (length l)) s.content) in
-      (whole_same b b' h h' w w' e e' s.octets s.content, ev ∙ ap (λ (v : Visited). record v { has_other_characters = true } ∷ []) same ∙ sym ev', s.rest)
-  one_same {r = r} {b = b} {b' = b'} y y' (text t h w is e keeps er it never ev) (string t' h' w' z' u v vs is' e' sp' en holds vis ev') q =
+      (whole_same b b' h h' w w' e e' s.octets s.content, ev ∙ ap (λ (v : Visited). record v { breaks_its_type = true } ∷ []) same ∙ sym ev', s.rest)
+  one_same {r = r} {b = b} {b' = b'} y y' (broken t h w is e keeps er it never ev) (string t' h' w' z' u v vs is' e' sp' en holds vis ev') q =
       let s = same_parts r Universal Universal false false t t' b b' h h' w w' y y' is is' e e' q in
       let same = whole_same b b' h h' w w' e e' s.octets s.content in
       absurd (never z' (subst (λ l. SpellsOne r l (node Universal false t z')) (sym same) (subst (λ m. SpellsOne r b' (node Universal false m z')) (sym s.number) sp')))
-  one_same {r = r} {b = b} {b' = b'} y y' (text t h w is e keeps er it never ev) (constructed c' t' h' w' vs is' e' may vis ev') q = absurd (not_both r Universal c' t t' (Some (length w)) (Some (length w')) b b' h h' w w' y y' is is' e e' q)
-  one_same {r = r} {b = b} {b' = b'} y y' (text t h w is e keeps er it never ev) (indefinite c' t' h' w' vs is' e' may vis ev') q =
+  one_same {r = r} {b = b} {b' = b'} y y' (broken t h w is e keeps er it never ev) (constructed c' t' h' w' vs is' e' may vis ev') q = absurd (not_both r Universal c' t t' (Some (length w)) (Some (length w')) b b' h h' w w' y y' is is' e e' q)
+  one_same {r = r} {b = b} {b' = b'} y y' (broken t h w is e keeps er it never ev) (indefinite c' t' h' w' vs is' e' may vis ev') q =
       absurd (not_both r Universal c' t t' (Some (length w)) None b b' h h' w (w' ++ end_marker) y y' is is' e (e' ∙ append_assoc h' w' end_marker) q)
   -- a string that is entered
   one_same {r = r} {b = b} {b' = b'} y y' (string {d = d} t h w z u v us is e sp en holds vis ev) (primitive c' t' h' w' z' is' e' sp' n' out' ev') q =
       let s = same_parts r Universal c' false false t t' b b' h h' w w' y y' is is' e e' q in
       absurd (out' en (sym s.class) u v (subst (λ l. HoldsElement d t' l u v) s.content (subst (λ m. HoldsElement d m w u v) s.number holds)))
-  one_same {r = r} {b = b} {b' = b'} y y' (string t h w z u v us is e sp en holds vis ev) (text t' h' w' is' e' keeps er it never ev') q =
+  one_same {r = r} {b = b} {b' = b'} y y' (string t h w z u v us is e sp en holds vis ev) (broken t' h' w' is' e' keeps er it never ev') q =
       let s = same_parts r Universal Universal false false t t' b b' h h' w w' y y' is is' e e' q in
       let same = whole_same b b' h h' w w' e e' s.octets s.content in
       absurd (never z (subst (λ l. SpellsOne r l (node Universal false t' z)) same (subst (λ m. SpellsOne r b (node Universal false m z)) s.number sp)))
@@ -184,7 +184,7 @@ mutual
       absurd (not_both r Universal c' t t' (Some (length w)) None b b' h h' w (w' ++ end_marker) y y' is is' e (e' ∙ append_assoc h' w' end_marker) q)
   -- constructed
   one_same {r = r} {b = b} {b' = b'} y y' (constructed c t h w us is e may vis ev) (primitive c' t' h' w' z' is' e' sp' n' out' ev') q = absurd (not_both r c' c t' t (Some (length w')) (Some (length w)) b' b h' h w' w y' y is' is e' e (sym q))
-  one_same {r = r} {b = b} {b' = b'} y y' (constructed c t h w us is e may vis ev) (text t' h' w' is' e' keeps er it never ev') q = absurd (not_both r Universal c t' t (Some (length w')) (Some (length w)) b' b h' h w' w y' y is' is e' e (sym q))
+  one_same {r = r} {b = b} {b' = b'} y y' (constructed c t h w us is e may vis ev) (broken t' h' w' is' e' keeps er it never ev') q = absurd (not_both r Universal c t' t (Some (length w')) (Some (length w)) b' b h' h w' w y' y is' is e' e (sym q))
   one_same {r = r} {b = b} {b' = b'} y y' (constructed c t h w us is e may vis ev) (string t' h' w' z' u v vs is' e' sp' en holds vis' ev') q = absurd (not_both r Universal c t' t (Some (length w')) (Some (length w)) b' b h' h w' w y' y is' is e' e (sym q))
   one_same {x = x} {r = r} {k = k} {a = a} {b = b} {b' = b'} y y' (constructed {d = d} c t h w us is e may vis ev) (constructed c' t' h' w' us' is' e' may' vis' ev') q =
       let s = same_parts r c c' true true t t' b b' h h' w w' y y' is is' e e' q in
@@ -198,7 +198,7 @@ mutual
   -- of indefinite length
   one_same {r = r} {b = b} {b' = b'} y y' (indefinite c t h w us is e may vis ev) (primitive c' t' h' w' z' is' e' sp' n' out' ev') q =
       absurd (not_both r c' c t' t (Some (length w')) None b' b h' h w' (w ++ end_marker) y' y is' is e' (e ∙ append_assoc h w end_marker) (sym q))
-  one_same {r = r} {b = b} {b' = b'} y y' (indefinite c t h w us is e may vis ev) (text t' h' w' is' e' keeps er it never ev') q =
+  one_same {r = r} {b = b} {b' = b'} y y' (indefinite c t h w us is e may vis ev) (broken t' h' w' is' e' keeps er it never ev') q =
       absurd (not_both r Universal c t' t (Some (length w')) None b' b h' h w' (w ++ end_marker) y' y is' is e' (e ∙ append_assoc h w end_marker) (sym q))
   one_same {r = r} {b = b} {b' = b'} y y' (indefinite c t h w us is e may vis ev) (string t' h' w' z' u v vs is' e' sp' en holds vis' ev') q =
       absurd (not_both r Universal c t' t (Some (length w')) None b' b h' h w' (w ++ end_marker) y' y is' is e' (e ∙ append_assoc h w end_marker) (sym q))

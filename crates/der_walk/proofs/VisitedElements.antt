@@ -12,7 +12,7 @@ use Rattle.der_base.specs.declared.rules.Rules.TheVariants.{Ber}
 use Rattle.der_check.specs.Elements.{AreElements, IsElement}
 use Rattle.der_check.specs.Elements.{none as no_elements, one_more as one_element, primitive as primitive_element, constructed as constructed_element, indefinite as indefinite_element}
 use Rattle.der_walk.specs.Laws.{IsWithin}
-use Rattle.der_walk.specs.Visits.{Visited, Extras, Visits, VisitsOne, IsStringFront, none, one_more, primitive, text, string, constructed, indefinite}
+use Rattle.der_walk.specs.Visits.{Visited, Extras, Visits, VisitsOne, IsStringFront, none, one_more, primitive, broken, string, constructed, indefinite}
 
 pub string_not_zero : (t : ℕ) (u : List ℕ) → IsStringFront t u → t ≡ 0 → ⊥
 string_not_zero t u f z = ⊎_elim (λ q. let e : t ≡ 4 = q.0 in absurd (omega (arith, z, e))) (λ q. let e : t ≡ 3 = q.0 in absurd (omega (arith, z, e))) f
@@ -21,14 +21,14 @@ joined : (c : Class) (t : ℕ) (w : List ℕ) → (identifier c true t ++ 128 �
 joined c t w = ap (λ l. l ++ end_marker) (append_assoc (identifier c true t) (128 ∷ []) w)
 
 mutual
-  -- without texts that have other characters
-  pub are_elements : {x : Extras} {r : Rules} {d k a : ℕ} {i : List ℕ} {vs : List Visited} → (x.keeps_texts ≡ true → r ≡ Ber → ⊥) → Visits x r d k a i vs → AreElements r d i
+  -- without values that break their type
+  pub are_elements : {x : Extras} {r : Rules} {d k a : ℕ} {i : List ℕ} {vs : List Visited} → (x.keeps_values ≡ true → r ≡ Ber → ⊥) → Visits x r d k a i vs → AreElements r d i
   are_elements f none = no_elements
   are_elements f (one_more b rest us ws ei ev is more) = one_element b rest ei (is_element f is) (are_elements f more)
 
-  is_element : {x : Extras} {r : Rules} {d k a : ℕ} {b : List ℕ} {vs : List Visited} → (x.keeps_texts ≡ true → r ≡ Ber → ⊥) → VisitsOne x r d k a b vs → IsElement r d b
+  is_element : {x : Extras} {r : Rules} {d k a : ℕ} {b : List ℕ} {vs : List Visited} → (x.keeps_values ≡ true → r ≡ Ber → ⊥) → VisitsOne x r d k a b vs → IsElement r d b
   is_element f (primitive c t h w y is e spells n out ev) = primitive_element c t y spells n
-  is_element f (text t h w is e keeps er it never ev) = absurd (f keeps er)
+  is_element f (broken t h w is e keeps er it never ev) = absurd (f keeps er)
   is_element f (string t h w y u v us is e spells en holds vis ev) = primitive_element Universal t y spells (λ q z. string_not_zero t u holds.front z)
   is_element f (constructed c t h w us is e may vis ev) = constructed_element c t is.1 w is.0 is.2 (e ∙ ap (λ l. l ++ w) is.3) may (are_elements f vis)
   is_element f (indefinite c t h w us is e may vis ev) = indefinite_element c t w is.0 is.1 (e ∙ ap (λ l. l ++ w ++ end_marker) is.3 ∙ joined c t w) may (are_elements f vis)
@@ -72,7 +72,7 @@ mutual
 
   one_within : {x : Extras} {r : Rules} {d k a : ℕ} {b : List ℕ} {vs : List Visited} → VisitsOne x r d k a b vs → All (IsWithin a (a + length b) k d) vs
   one_within {k = k} {a = a} {b = b} {vs = vs} (primitive {d = d} c t h w y is e spells n out ev) = alone a k d b h w vs _ ev refl refl refl refl (ap length e ∙ length-append h w)
-  one_within {k = k} {a = a} {b = b} {vs = vs} (text {d = d} t h w is e keeps er it never ev) = alone a k d b h w vs _ ev refl refl refl refl (ap length e ∙ length-append h w)
+  one_within {k = k} {a = a} {b = b} {vs = vs} (broken {d = d} t h w is e keeps er it never ev) = alone a k d b h w vs _ ev refl refl refl refl (ap length e ∙ length-append h w)
   one_within {k = k} {a = a} {b = b} {vs = vs} (string {d = d} t h w y u v us is e spells en holds vis ev) =
       around a k d b h vs us _ ev refl refl (omega (arith, ap length e ∙ length-append h w)) (omega (arith, ap length e ∙ length-append h w)) refl (a + length h + length u) (a + length h + length u + length v) (omega arith)
       (omega (arith, ap length e ∙ length-append h w, ap length holds.parts ∙ length-append u v)) (visits_within vis)

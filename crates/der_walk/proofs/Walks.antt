@@ -7,7 +7,7 @@ use Rattle.der_base.specs.declared.rules.Rules.{Rules}
 use Rattle.der_walk.specs.declared.content.Open.{Open}
 use Rattle.der_walk.specs.declared.element.Element.{Element}
 use Rattle.der_walk.specs.declared.walk.Walk.{Walk}
-use Rattle.der_walk.specs.Visits.{Visited, Extras, Visits, VisitsOne, none, one_more, primitive, text, string, constructed, indefinite}
+use Rattle.der_walk.specs.Visits.{Visited, Extras, Visits, VisitsOne, none, one_more, primitive, broken, string, constructed, indefinite}
 use Rattle.der_walk.specs.Walked.{between, visited_of, EndsAt, HasWalked, outermost, inside, HasVisited, HasOctets}
 use Rattle.der_walk.specs.Reading.{extras_of, end_from, front_of, EndsHere, IsRead, whole, list, Passes, ReadsHere}
 use Rattle.der_walk.specs.Reading.{string as read_string}
@@ -23,7 +23,7 @@ first_walked x r i opens s e m at eo es he ea =
 -- an element is visited itself
 one_some : {x : Extras} {r : Rules} {d k a : ℕ} {b : List ℕ} {vs : List Visited} → VisitsOne x r d k a b vs → 1 ≤ length vs
 one_some (primitive c t h w y is e spells n out ev) = omega (arith, ap length ev)
-one_some (text t h w is e keeps er it never ev) = omega (arith, ap length ev)
+one_some (broken t h w is e keeps er it never ev) = omega (arith, ap length ev)
 one_some (string t h w y u v us is e spells en holds vis ev) = omega (arith, ap length ev)
 one_some (constructed c t h w us is e may vis ev) = omega (arith, ap length ev)
 one_some (indefinite c t h w us is e may vis ev) = omega (arith, ap length ev)
@@ -60,7 +60,7 @@ here_within w here e eh reads some =
 
 -- after the innermost element
 pub closed : (x : Extras) (r : Rules) (i : List ℕ) (vs : List Visited) (w w' : Walk) (outer : List Open) (o : Open) (after : ℕ) → HasVisited x r i w vs → EndsHere w after → w.opened.items ≡ outer ++ o ∷ []
-    → w'.input.now ≡ w.input.now → w'.enters_strings ≡ w.enters_strings → w'.keeps_texts ≡ w.keeps_texts → w'.opened.items ≡ outer → w'.content ≡ o.around → w'.at ≡ after → HasVisited x r i w' vs
+    → w'.input.now ≡ w.input.now → w'.enters_strings ≡ w.enters_strings → w'.keeps_values ≡ w.keeps_values → w'.opened.items ≡ outer → w'.content ≡ o.around → w'.at ≡ after → HasVisited x r i w' vs
 closed x r i vs w w' outer o after has ends eo e1 e2 e3 e4 e5 e6 = of ends
   where
     at_end : EndsAt i w.content.end w.content.has_marker w.at after → after ≤ length i → after ≤ w.content.end → w.at ≤ after → HasVisited x r i w' vs
@@ -81,10 +81,10 @@ closed x r i vs w w' outer o after has ends eo e1 e2 e3 e4 e5 e6 = of ends
         at_end (inl (m, e, ea)) (omega (arith, ea, q.0)) (omega (arith, ea, q.1)) (omega (arith, ea))
     of (inr (m, ea, h1, h2, eb)) = at_end (inr (m, ea, ap (λ z. between z w.at after) (sym has.input) ∙ eb)) (omega (arith, h2, ap length has.input)) h1 (omega (arith, ea))
 
-extras_same : (x : Extras) (w : Walk) → w.enters_strings ≡ x.enters_strings → w.keeps_texts ≡ x.keeps_texts → extras_of w ≡ x
+extras_same : (x : Extras) (w : Walk) → w.enters_strings ≡ x.enters_strings → w.keeps_values ≡ x.keeps_values → extras_of w ≡ x
 extras_same x w e k =
-    let f : Bool → Bool → Extras = λ a b. record { enters_strings = a; keeps_texts = b } in
-    ap (λ a. f a w.keeps_texts) e ∙ ap (λ b. f x.enters_strings b) k
+    let f : Bool → Bool → Extras = λ a b. record { enters_strings = a; keeps_values = b } in
+    ap (λ a. f a w.keeps_values) e ∙ ap (λ b. f x.enters_strings b) k
 
 end_bounded : (p end : ℕ) (l : Option ℕ) → p ≤ end → IfSome l (λ n. n ≤ end - p) → end_from p end l ≤ end
 end_bounded p end (Some n) h room = omega (arith, room)

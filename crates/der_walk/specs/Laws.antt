@@ -6,10 +6,10 @@ use Rattle.der_base.specs.declared.rules.Rules.TheVariants.{Ber}
 use Rattle.der_check.specs.Elements.{AreElements}
 use Rattle.der_walk.specs.Visits.{Visited, Extras, Visits}
 
--- what is visited is elements, by DER, or if texts with other characters aren't kept
+-- what is visited is elements, by DER, or if no value that breaks its type is
 abbrev pub VisitsElements : Type 0
 VisitsElements = (x : Extras) (r : Rules) (d k a : ℕ) (i : List ℕ) (vs : List Visited)
-    → (x.keeps_texts ≡ true → r ≡ Ber → ⊥) → Visits x r d k a i vs → AreElements r d i
+    → (x.keeps_values ≡ true → r ≡ Ber → ⊥) → Visits x r d k a i vs → AreElements r d i
 
 -- the header and the content lie within these offsets, and the depth in this range
 abbrev pub IsWithin : ℕ → ℕ → ℕ → ℕ → Visited → Type 0

@@ -1,9 +1,7 @@
 -- What the private functions of the walk find and do.
 use Rattle.std.specs.Borrow.{Bor}
 use Rattle.std.specs.Prelude.{◌≡◌, ℕ, suc, ◌+◌, ◌-◌, ◌≤◌, ◌⊎◌, Bool, true, false, ◌&&◌, ◌==◌, if◌then◌else◌, IsTrue, Option, Some, None}
-use Rattle.std.specs.Prelude.{MatchOption, IfSome, IsSome, List, [], ◌∷◌, ◌++◌, length, Ok, Err}
-use Rattle.der_base.specs.declared.error.Err.{Err as Refused}
-use Rattle.der_base.specs.declared.error.Error.{Error as BerError}
+use Rattle.std.specs.Prelude.{MatchOption, IfSome, IsSome, List, [], ◌∷◌, ◌++◌, length}
 use Rattle.der_base.specs.declared.header.Class.TheVariants.{Universal}
 use Rattle.der_base.specs.declared.header.Header.{Header}
 use Rattle.der_base.specs.declared.header.Length.{Length}
@@ -15,11 +13,11 @@ use Rattle.der_base.specs.Tree.{node, Content}
 use Rattle.der_base.specs.declared.rules.Rules.{Rules}
 use Rattle.der_base.specs.declared.rules.Rules.TheVariants.{Ber, Der}
 use Rattle.der_check.specs.Elements.{SpellsOne, MayBeConstructed}
-use Rattle.der_check.specs.Readers.{AnswersOneElement}
+use Rattle.der_check.specs.Readers.{BeginsWithOne}
 use Rattle.der_walk.specs.declared.content.Open.{Open}
 use Rattle.der_walk.specs.declared.element.Element.{Element}
 use Rattle.der_walk.specs.declared.walk.Walk.{Walk}
-use Rattle.der_walk.specs.Visits.{Extras, VisitsOne, IsHeaderBy, IsStringFront, HoldsElement, is_text}
+use Rattle.der_walk.specs.Visits.{Extras, VisitsOne, IsHeaderBy, IsStringFront, HoldsElement, may_break}
 use Rattle.der_walk.specs.Walked.{visited_of, between}
 
 -- the number of octets of a length that is definite
@@ -43,13 +41,13 @@ abbrev pub FindsContent : Element → List ℕ → Option (Bor (List ℕ)) → T
 FindsContent e here result = MatchOption result ((e.constructed ≡ true) ⊎ (e.length ≡ None))
     (λ w. (rest : List ℕ) × (here ≡ w.now ++ rest) × (e.length ≡ Some (length w.now)))
 
--- an element that begins here is one by the rules, as far as itself is concerned, or a text with other characters
+-- an element that begins here is one by the rules, as far as itself is concerned, or it breaks its type
 abbrev pub IsChecked : Bool → Rules → List ℕ → Element → Bool → Type 0
-IsChecked keeps r here e other = ((e.constructed ≡ true) × MayBeConstructed r e.class e.number × (other ≡ false))
-    ⊎ ((e.constructed ≡ false) × (e.class ≡ Universal → e.number ≡ 0 → ⊥) × (other ≡ false)
-    × (y : Bor (List ℕ) × ℕ) × AnswersOneElement r here (Ok y))
-    ⊎ ((e.constructed ≡ false) × (other ≡ true) × (keeps ≡ true) × (r ≡ Ber) × (e.class ≡ Universal)
-    × IsTrue (is_text e.number) × (z : Refused BerError) × AnswersOneElement r here (Err z))
+IsChecked keeps r here e breaks = ((e.constructed ≡ true) × MayBeConstructed r e.class e.number × (breaks ≡ false))
+    ⊎ ((e.constructed ≡ false) × (e.class ≡ Universal → e.number ≡ 0 → ⊥) × (breaks ≡ false)
+    × (rest : List ℕ) × BeginsWithOne r here rest)
+    ⊎ ((e.constructed ≡ false) × (breaks ≡ true) × (keeps ≡ true) × (r ≡ Ber) × (e.class ≡ Universal)
+    × IsTrue (may_break e.number) × ((rest : List ℕ) → ¬ BeginsWithOne r here rest))
 
 -- the octets of a primitive string that may hold an element
 abbrev pub FindsString : Element → Option (Bor (List ℕ)) → Type 0
@@ -69,17 +67,17 @@ pub data IsRead (x : Extras) (r : Rules) (d : ℕ) (here : List ℕ) (e : Elemen
       → e.constructed ≡ false → e.holds_der ≡ false
       → VisitsOne x r (suc d) e.depth e.offset (h ++ w) (visited_of e ∷ []) → IsRead x r d here e
   string : (h w rest u v : List ℕ) (y : Content) → here ≡ h ++ (w ++ rest) → e.header ≡ length h
-      → e.length ≡ Some (length w) → e.constructed ≡ false → e.holds_der ≡ true → e.has_other_characters ≡ false
+      → e.length ≡ Some (length w) → e.constructed ≡ false → e.holds_der ≡ true → e.breaks_its_type ≡ false
       → e.class ≡ Universal → IsHeaderBy r Universal false e.number (Some (length w)) h
       → SpellsOne r (h ++ w) (node Universal false e.number y) → x.enters_strings ≡ true
       → HoldsElement d e.number w u v → IsRead x r d here e
   list : (h rest : List ℕ) → here ≡ h ++ rest → e.header ≡ length h → e.constructed ≡ true → e.holds_der ≡ false
-      → e.has_other_characters ≡ false → IsHeaderBy r e.class true e.number e.length h
+      → e.breaks_its_type ≡ false → IsHeaderBy r e.class true e.number e.length h
       → MayBeConstructed r e.class e.number → IsRead x r d here e
 
 -- what a walk visits besides
 abbrev pub extras_of : Walk → Extras
-extras_of w = record { enters_strings = w.enters_strings; keeps_texts = w.keeps_texts }
+extras_of w = record { enters_strings = w.enters_strings; keeps_values = w.keeps_values }
 
 -- the content here ends here, and what is around it goes on there
 abbrev pub EndsHere : Walk → ℕ → Type 0
@@ -117,7 +115,7 @@ end_from p limit None = limit
 pub record GoesInto (w : Walk) (place : ℕ) (s : Rules) (e : ℕ) (m : Bool) (w' : Walk) : Type 0 where
   pub input : w'.input.now ≡ w.input.now
   pub enters : w'.enters_strings ≡ w.enters_strings
-  pub keeps : w'.keeps_texts ≡ w.keeps_texts
+  pub keeps : w'.keeps_values ≡ w.keeps_values
   pub at : w'.at ≡ place
   pub rules : w'.content.rules ≡ s
   pub end : w'.content.end ≡ e
@@ -132,7 +130,7 @@ pub record GoesInto (w : Walk) (place : ℕ) (s : Rules) (e : ℕ) (m : Bool) (w
 pub record GoesOn (w : Walk) (place : ℕ) (w' : Walk) : Type 0 where
   pub input : w'.input.now ≡ w.input.now
   pub enters : w'.enters_strings ≡ w.enters_strings
-  pub keeps : w'.keeps_texts ≡ w.keeps_texts
+  pub keeps : w'.keeps_values ≡ w.keeps_values
   pub at : w'.at ≡ place
   pub rules : w'.content.rules ≡ w.content.rules
   pub end : w'.content.end ≡ w.content.end

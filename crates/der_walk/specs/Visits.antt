@@ -5,7 +5,8 @@ use Rattle.der_base.specs.declared.header.Class.{Class}
 use Rattle.der_base.specs.declared.header.Class.TheVariants.{Universal}
 use Rattle.der_base.specs.Octets.{identifier}
 use Rattle.der_base.specs.Spelling.{end_marker}
-use Rattle.der_base.specs.Text.{is_text_type}
+use Rattle.der_base.specs.Leaf.{is_time}
+use Rattle.der_base.specs.Text.{is_one_of, is_text_type}
 use Rattle.der_base.specs.Tree.{node, Content}
 use Rattle.der_base.specs.declared.rules.Rules.{Rules}
 use Rattle.der_base.specs.declared.rules.Rules.TheVariants.{Ber, Der}
@@ -26,15 +27,16 @@ pub record Visited : Type 0 where
   pub depth : ℕ
   -- it is a string, whose content is an element that is visited next
   pub holds_der : Bool
-  -- it is a text with a character that its type doesn't have (8.23)
-  pub has_other_characters : Bool
+  -- its octets are no value of its type: a text with a character that the type doesn't have (8.23), a time that is
+  -- none (8.25), an identifier with a padded arc (8.19.2)
+  pub breaks_its_type : Bool
 
 -- what a walk visits besides the elements of X.690
 pub record Extras : Type 0 where
   -- the element of DER that is the whole content of a string
   pub enters_strings : Bool
-  -- by BER, a text with a character that its type doesn't have
-  pub keeps_texts : Bool
+  -- by BER, a value that breaks its type
+  pub keeps_values : Bool
 
 -- h is a header by these rules: identifier octets, and length octets, definite or not (8.1.2, 8.1.3)
 abbrev pub IsHeaderBy : Rules → Class → Bool → ℕ → Option ℕ → List ℕ → Type 0
@@ -52,12 +54,12 @@ visited at k c p t h n = record {
   number = t;
   depth = k;
   holds_der = false;
-  has_other_characters = false;
+  breaks_its_type = false;
 }
 
--- the universal types whose octets spell characters (8.23)
-abbrev pub is_text : ℕ → Bool
-is_text t = is_text_type t || t == 30
+-- the universal types of which it may be visited: texts (8.23), times (8.25), identifiers (8.19, 8.20)
+abbrev pub may_break : ℕ → Bool
+may_break t = is_text_type t || is_time t || is_one_of (6 ∷ 13 ∷ 30 ∷ []) t
 
 -- what is in front of the octets of a string: nothing in an OCTET STRING, and in a BIT STRING the octet that says that
 -- no bit is unused (8.6.2, 8.7)
@@ -94,10 +96,11 @@ mutual
         → IsHeaderBy r c false t (Some (length w)) h → b ≡ h ++ w → SpellsOne r b (node c false t y)
         → (c ≡ Universal → t ≢ 0) → IsNotEntered x d c t w → vs ≡ visited a k c false t h (Some (length w)) ∷ []
         → VisitsOne x r (suc d) k a b vs
-    text : {r : Rules} {d k a : ℕ} {b : List ℕ} {vs : List Visited} (t : ℕ) (h w : List ℕ)
-        → IsHeaderBy r Universal false t (Some (length w)) h → b ≡ h ++ w → x.keeps_texts ≡ true → r ≡ Ber
-        → IsTrue (is_text t) → ((y : Content) → ¬ SpellsOne r b (node Universal false t y))
-        → vs ≡ record (visited a k Universal false t h (Some (length w))) { has_other_characters = true } ∷ []
+    -- no value of its type
+    broken : {r : Rules} {d k a : ℕ} {b : List ℕ} {vs : List Visited} (t : ℕ) (h w : List ℕ)
+        → IsHeaderBy r Universal false t (Some (length w)) h → b ≡ h ++ w → x.keeps_values ≡ true → r ≡ Ber
+        → IsTrue (may_break t) → ((y : Content) → ¬ SpellsOne r b (node Universal false t y))
+        → vs ≡ record (visited a k Universal false t h (Some (length w))) { breaks_its_type = true } ∷ []
         → VisitsOne x r (suc d) k a b vs
     string : {r : Rules} {d k a : ℕ} {b : List ℕ} {vs : List Visited} (t : ℕ) (h w : List ℕ) (y : Content)
         (u v : List ℕ) (us : List Visited)

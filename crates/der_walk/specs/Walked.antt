@@ -22,7 +22,7 @@ visited_of e = record {
   number = e.number;
   depth = e.depth;
   holds_der = e.holds_der;
-  has_other_characters = e.has_other_characters;
+  breaks_its_type = e.breaks_its_type;
 }
 
 -- the steps of elements that are open
@@ -67,7 +67,7 @@ pub data HasWalked (x : Extras) (r : Rules) (i : List ℕ)
 pub record HasVisited (x : Extras) (r : Rules) (i : List ℕ) (w : Walk) (vs : List Visited) : Type 0 where
   pub input : w.input.now ≡ i
   pub enters : w.enters_strings ≡ x.enters_strings
-  pub keeps : w.keeps_texts ≡ x.keeps_texts
+  pub keeps : w.keeps_values ≡ x.keeps_values
   pub depth : ℕ
   pub walked : HasWalked x r i depth w.opened.items w.content.rules w.content.end w.content.has_marker w.at vs
 

@@ -17,6 +17,8 @@ pub enum Cause {
     Header(BerError),
     /// The content of a primitive element is refused.
     Value(BerError),
+    /// An arc of an identifier begins with an octet of 0x80.
+    PaddedArc,
     /// A constructed element is of a type that is primitive by BER.
     Constructed,
     /// A constructed string, by DER.
@@ -108,6 +110,7 @@ impl Cause {
             ),
             Cause::Header(e) => header_rule(e),
             Cause::Value(e) => value_rule(e),
+            Cause::PaddedArc => Rule::new("an arc begins with an octet of 0x80", "8.19.2"),
             Cause::Constructed => Rule::new("the encoding of this type must be primitive", "8.1.4"),
             Cause::ConstructedString => Rule::new(
                 "a string is constructed, which DER forbids",

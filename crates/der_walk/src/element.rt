@@ -1,6 +1,6 @@
 //! An element that a walk visits.
 ghost use Rattle.std.specs.Prelude.{◌≡◌, ◌↔◌, ℕ, IsTrue, List, MatchOption, ◌∷◌};
-ghost use Rattle.der_walk.specs.Visits.{begins_like_element, is_text};
+ghost use Rattle.der_walk.specs.Visits.{begins_like_element, may_break};
 
 use crate::name::TypeName;
 use crate::path::Step;
@@ -32,8 +32,9 @@ pub struct Element<'a> {
     pub index: usize,
     /// Whether it is a string whose content is an element of DER, which is visited next.
     pub holds_der: bool,
-    /// Whether it is a text with a character that its type doesn't have (X.690 8.23).
-    pub has_other_characters: bool,
+    /// Whether its octets are no value of its type: a text with a character that the type doesn't have (X.690 8.23), a
+    /// time that is none (8.25), or an identifier with an arc that begins with an octet of 0x80 (8.19.2).
+    pub breaks_its_type: bool,
 }
 
 impl<'a> Element<'a> {
@@ -69,11 +70,11 @@ impl<'a> Element<'a> {
         self.class == Class::Universal && self.number == number
     }
 
-    /// Whether it is a text, whose octets spell characters of its type (X.690 8.23).
-    pub(crate) fn is_text(&self) -> bool
-        ensures { IsTrue result ↔ ((self.now.class ≡ Class.Universal) × IsTrue (is_text self.now.number)) }
+    /// Whether it is of a type of which a value that breaks it may be visited: a text, a time or an identifier.
+    pub(crate) fn may_break(&self) -> bool
+        ensures { IsTrue result ↔ ((self.now.class ≡ Class.Universal) × IsTrue (may_break self.now.number)) }
     {
-        self.class == Class::Universal && matches!(self.number, 7 | 12 | 18..=22 | 25..=27 | 30)
+        self.class == Class::Universal && matches!(self.number, 6 | 7 | 12 | 13 | 18..=27 | 30)
     }
 
     /// Whether it is a string whose octets are one element of DER. A primitive element of another class than

@@ -1,7 +1,7 @@
 //! Laws of what a walk visits. Each function has a law as its contract and an empty body.
 ghost use Rattle.der_walk.specs.Laws.{VisitsElements, VisitsOnce, VisitsWithin};
 
-/// What is visited without texts that have other characters is elements.
+/// What is visited without values that break their type is elements.
 pub fn visits_elements()
     ensures { VisitsElements }
 {}

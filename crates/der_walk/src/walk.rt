@@ -12,7 +12,7 @@ use arrayvec::ArrayVec;
 use der_base::error::{BerError, Err as Refused, Needed};
 use der_base::header::{Header, Length, Tag};
 use der_base::rules::Rules;
-use der_check::{after_end_marker, check_one, may_be_constructed};
+use der_check::{after_end_marker, after_one, check_one, may_be_constructed};
 
 /// How many elements may be around an element.
 pub const MAX_DEPTH: usize = 100;
@@ -34,7 +34,7 @@ pub struct Walk<'a> {
     /// The elements around it, the outermost first.
     opened: ArrayVec<Open, MAX_OPEN>,
     enters_strings: bool,
-    keeps_texts: bool,
+    keeps_values: bool,
 }
 
 impl<'a> Walk<'a> {
@@ -48,7 +48,7 @@ impl<'a> Walk<'a> {
     /// A walk from the start of an input. If it enters strings, it visits the element that is the whole
     /// content of an OCTET STRING or a BIT STRING by DER.
     pub fn new(input: &'a [u8], rules: Rules, enters_strings: bool) -> Walk<'a>
-        ensures { HasVisited (record { enters_strings = enters_strings; keeps_texts = false }) rules input.now result [] }
+        ensures { HasVisited (record { enters_strings = enters_strings; keeps_values = false }) rules input.now result [] }
     {
         Walk {
             input,
@@ -56,17 +56,17 @@ impl<'a> Walk<'a> {
             content: Content::of_input(rules),
             opened: ArrayVec::new(),
             enters_strings,
-            keeps_texts: false,
+            keeps_values: false,
         }
     }
 
-    /// The same walk, which by BER visits and marks a text with a character that its type doesn't have.
-    pub fn keeping_texts(self) -> Walk<'a>
+    /// The same walk, which by BER visits and marks a value that breaks its type.
+    pub fn keeping_values(self) -> Walk<'a>
         ensures { (x : Extras) (r : Rules) (i : List ℕ) → HasVisited x r i self.entry []
-            → HasVisited (record { enters_strings = x.enters_strings; keeps_texts = true }) r i result [] }
+            → HasVisited (record { enters_strings = x.enters_strings; keeps_values = true }) r i result [] }
     {
         Walk {
-            keeps_texts: true,
+            keeps_values: true,
             ..self
         }
     }
@@ -187,14 +187,14 @@ impl<'a> Walk<'a> {
         if element.depth > MAX_DEPTH {
             return Err(Refusal::of(&element, Cause::TooDeep));
         }
-        let has_other_characters = match self.check(&element, here) {
-            Ok(other) => other,
+        let breaks_its_type = match self.check(&element, here) {
+            Ok(breaks) => breaks,
             Err(refusal) => return Err(refusal),
         };
         let holds_der = self.enters_strings && element.holds_element();
         Ok(Element {
             holds_der,
-            has_other_characters,
+            breaks_its_type,
             ..element
         })
     }
@@ -215,7 +215,7 @@ impl<'a> Walk<'a> {
             depth: self.opened.len(),
             index: self.content.visited,
             holds_der: false,
-            has_other_characters: false,
+            breaks_its_type: false,
         }
     }
 
@@ -245,9 +245,9 @@ impl<'a> Walk<'a> {
     }
 
     /// Checks whether an element may be constructed, or what a primitive one contains, which begins here. Returns
-    /// whether it is a text with other characters than its type has.
+    /// whether it breaks its type.
     fn check(&self, element: &Element<'a>, here: &[u8]) -> Result<bool, Refusal>
-        ensures { IfOk result (IsChecked self.now.keeps_texts self.now.content.rules here.now element.now) }
+        ensures { IfOk result (IsChecked self.now.keeps_values self.now.content.rules here.now element.now) }
     {
         if !element.constructed {
             return self.check_primitive(element, here);
@@ -262,28 +262,23 @@ impl<'a> Walk<'a> {
         }
     }
 
-    /// Checks what a primitive element contains, which begins here. An end marker is no element.
+    /// Checks what a primitive element contains, which begins here. An end marker is no element. Returns whether it
+    /// breaks its type.
     fn check_primitive(&self, element: &Element<'a>, here: &[u8]) -> Result<bool, Refusal>
         requires { element.now.constructed ≡ false }
-        ensures { IfOk result (IsChecked self.now.keeps_texts self.now.content.rules here.now element.now) }
+        ensures { IfOk result (IsChecked self.now.keeps_values self.now.content.rules here.now element.now) }
     {
         if element.is_universal(0) {
             return Err(Refusal::of(element, Cause::EndMarker));
         }
         let rules = self.content.rules;
-        let e = match check_one(rules, here) {
-            Ok(_) => return Ok(false),
-            Err(e) => e,
-        };
-        let cause = value_cause(e);
-        if self.keeps_texts
-            && rules == Rules::Ber
-            && element.is_text()
-            && cause == Cause::Value(BerError::StringInvalidCharset)
-        {
+        if after_one(rules, here).is_some() {
+            return Ok(false);
+        }
+        if self.keeps_values && rules == Rules::Ber && element.may_break() {
             return Ok(true);
         }
-        Err(Refusal::of(element, cause))
+        Err(Refusal::of(element, value_cause(rules, here)))
     }
 
     /// Goes on after an element, or to the elements inside if they are visited next.
@@ -393,10 +388,11 @@ fn length_of(header: &Header<'_>) -> Option<usize>
     }
 }
 
-/// The cause for the content of a primitive element.
-fn value_cause(e: Refused<BerError>) -> Cause {
-    match e {
-        Refused::Error(e) | Refused::Failure(e) => Cause::Value(e),
-        Refused::Incomplete(_) | Refused::OutOfMemory => Cause::Cut(1),
+/// The cause for the content of a primitive element, which begins here and is refused.
+fn value_cause(rules: Rules, here: &[u8]) -> Cause {
+    match check_one(rules, here) {
+        Ok(_) => Cause::PaddedArc,
+        Err(Refused::Error(e) | Refused::Failure(e)) => Cause::Value(e),
+        Err(Refused::Incomplete(_) | Refused::OutOfMemory) => Cause::Cut(1),
     }
 }

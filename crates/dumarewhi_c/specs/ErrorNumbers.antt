@@ -58,6 +58,7 @@ cause_number (causes.Cut n) = 0
 cause_number (causes.PastEnd n) = 17
 cause_number causes.NoEndMarker = 48
 cause_number causes.EndMarker = 49
+cause_number causes.PaddedArc = 2
 cause_number (causes.Header e) = refusal_number (refusal e)
 cause_number (causes.Value e) = refusal_number (refusal e)
 cause_number causes.Constructed = 10

@@ -62,6 +62,7 @@ pub(crate) fn cause_number(cause: Cause) -> u32
         Cause::PastEnd(_) => 17,
         Cause::NoEndMarker => 48,
         Cause::EndMarker => 49,
+        Cause::PaddedArc => 2,
         Cause::Header(e) | Cause::Value(e) => refusal_number(e),
         Cause::Constructed => 10,
         Cause::ConstructedString => 34,

@@ -8,9 +8,9 @@ use Rattle.dumarewhi_page.specs.declared.lists.PageOutcome.{PageOutcome}
 use Rattle.dumarewhi_page.specs.declared.row.PageRow.{PageRow}
 use Rattle.dumarewhi_page.specs.Rows.{AreRows}
 
--- strings that hold DER are entered, and by BER texts with other characters are kept
+-- strings that hold DER are entered, and by BER values that break their type are kept
 abbrev pub all_extras : Extras
-all_extras = record { enters_strings = true; keeps_texts = true }
+all_extras = record { enters_strings = true; keeps_values = true }
 
 -- The elements are all that the input has, or one is refused, and a walk visited these before it.
 abbrev pub AreVisited : Rules → List ℕ → List Visited → ℕ → Type 0

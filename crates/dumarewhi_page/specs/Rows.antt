@@ -21,7 +21,7 @@ visited_in r = record {
   number = r.number;
   depth = r.depth;
   holds_der = r.holds_der == 1;
-  has_other_characters = r.has_other_characters == 1;
+  breaks_its_type = r.breaks_its_type == 1;
 }
 
 -- the first n rows stand for these elements, as far as there is room

@@ -21,7 +21,7 @@ impl fmt::Display for Line<'_> {
             return f.write_str(" holding DER");
         }
         write!(f, "{}", Value { element, limit })?;
-        if element.has_other_characters {
+        if element.breaks_its_type {
             write!(f, "  {}", Remark { element })?;
         }
         Ok(())

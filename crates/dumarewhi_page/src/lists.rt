@@ -76,7 +76,7 @@ pub extern "C" fn page_is_elements(input: &[u8], rules: u32) -> u32
 fn list(input: &[u8], rules: Rules, rows: &mut [PageRow]) -> PageOutcome
     ensures { Lists rules input.now rows.new result }
 {
-    let mut walk = Walk::new(input, rules, true).keeping_texts();
+    let mut walk = Walk::new(input, rules, true).keeping_values();
     let mut last = Last { rows: [0; DEPTHS] };
     // An element has an octet at least, so the loop ends at the end of the input.
     for count in 0..usize::MAX {

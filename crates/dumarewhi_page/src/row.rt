@@ -31,8 +31,8 @@ pub struct PageRow {
     pub definite: u8,
     /// Whether it is a string whose content is an element of DER, 0 or 1.
     pub holds_der: u8,
-    /// Whether it is a text with a character that its type doesn't have, 0 or 1.
-    pub has_other_characters: u8,
+    /// Whether its octets are no value of its type, 0 or 1.
+    pub breaks_its_type: u8,
 }
 
 impl PageRow {
@@ -55,7 +55,7 @@ impl PageRow {
             constructed: bit(element.constructed),
             definite: bit(element.length.is_some()),
             holds_der: bit(element.holds_der),
-            has_other_characters: bit(element.has_other_characters),
+            breaks_its_type: bit(element.breaks_its_type),
         }
     }
 
@@ -81,7 +81,7 @@ impl PageRow {
             depth: self.depth,
             index: self.index,
             holds_der: self.holds_der == 1,
-            has_other_characters: self.has_other_characters == 1,
+            breaks_its_type: self.breaks_its_type == 1,
         }
     }
 

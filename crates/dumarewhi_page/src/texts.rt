@@ -31,7 +31,7 @@ pub extern "C" fn page_value(input: &[u8], row: &PageRow, full: u32, text: &mut 
     put(text, Value { element, limit })
 }
 
-/// Writes what is said of a text with a character that its type doesn't have.
+/// Writes what is said of a value that breaks its type.
 #[unsafe(no_mangle)]
 pub extern "C" fn page_remark(input: &[u8], row: &PageRow, text: &mut [u8]) -> usize {
     let element = row.element(input);
@@ -63,7 +63,7 @@ pub extern "C" fn page_path(rows: &[PageRow], number: usize, text: &mut [u8]) ->
 /// another number. Nothing if no element is refused.
 #[unsafe(no_mangle)]
 pub extern "C" fn page_refusal(input: &[u8], rules: u32, part: u32, text: &mut [u8]) -> usize {
-    let mut walk = Walk::new(input, rules_numbered(rules), true).keeping_texts();
+    let mut walk = Walk::new(input, rules_numbered(rules), true).keeping_values();
     // An element has an octet at least, so the loop ends at the end of the input.
     for _ in 0..=input.len() {
         match walk.next_element() {

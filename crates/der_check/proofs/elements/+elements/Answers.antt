@@ -6,6 +6,7 @@ use Rattle.der_base.specs.Headers.{leading_header}
 use Rattle.der_check.specs.Elements.{AreElements, MayBeConstructed, none}
 use Rattle.der_check.proofs.HeadersBy.{header_read, header_shorter}
 use Rattle.der_check.proofs.ElementLaws.{none_read, none_constructed, constructed_finds, too_long, content_finds, no_content, by_constructed, by_primitive, left, before, not_elements, open_left, open_before, open_none, open_end}
+use Rattle.der_check.proofs.Quick.{no_short_list, short_list, short_plain}
 use Rattle.der_check.proofs.elements.+elements.Goals.{after_constructed-then-not-constructed-via-then-not-constructed, after_constructed-then-not-constructed-via-else-not-constructed+then-not-may_be_constructed}
 use Rattle.der_check.proofs.elements.+elements.Goals as goal
 
@@ -71,15 +72,32 @@ after_constructed-returns-else-are_elements-clause-exactly t c =
     constructed_finds c.args.rules c.args.max_depth c.args.i.now (c.in-Ok.behind, c.in-Ok.header) (Definite c.in-Definite.size) None c.in-Ok.ensures ep may (sym c.in-Definite.ensures)
     (no_content c.args.rules (c.args.max_depth - 1) n behind w rest c.split_at.ensures.front_len parts (λ a. absurd (search (rules, c.if-are_elements.ensures.1 a))))
 
+-- any element
+
+pub after_any-returns-then-starts_constructed-clause-exactly : goal.after_any-returns-then-starts_constructed-clause-exactly
+after_any-returns-then-starts_constructed-clause-exactly t c =
+    by_constructed c.args.rules c.args.max_depth c.args.i.now c.after_constructed.result c.requires c.if-starts_constructed.ensures c.after_constructed.ensures.exactly
+
+pub after_any-returns-else-starts_constructed-clause-exactly : goal.after_any-returns-else-starts_constructed-clause-exactly
+after_any-returns-else-starts_constructed-clause-exactly t c =
+    by_primitive c.args.rules c.args.max_depth c.args.i.now c.after_primitive.result c.requires c.if-starts_constructed.ensures c.after_primitive.ensures.exactly
+
 -- an element
 
-pub after_element-returns-then-starts_constructed-clause-exactly : goal.after_element-returns-then-starts_constructed-clause-exactly
-after_element-returns-then-starts_constructed-clause-exactly t c =
-    by_constructed c.args.rules c.args.max_depth c.args.i.now c.after_constructed.result (omega arith) c.if-starts_constructed.ensures c.after_constructed.ensures.exactly
+pub after_element-returns-then-are_elements-clause-exactly : goal.after_element-returns-then-are_elements-clause-exactly
+after_element-returns-then-are_elements-clause-exactly t c =
+    let x = c.in-Some.short in
+    short_list c.args.rules c.args.max_depth c.args.i.now x.first x.content.now x.rest (omega arith) (c.if-is_list_octet.ensures.0 (search rules)) c.in-Some.ensures (c.if-are_elements.ensures.0 (search rules))
 
-pub after_element-returns-else-starts_constructed-clause-exactly : goal.after_element-returns-else-starts_constructed-clause-exactly
-after_element-returns-else-starts_constructed-clause-exactly t c =
-    by_primitive c.args.rules c.args.max_depth c.args.i.now c.after_primitive.result (omega arith) c.if-starts_constructed.ensures c.after_primitive.ensures.exactly
+pub after_element-returns-then-is_list_octet-clause-exactly : goal.after_element-returns-then-is_list_octet-clause-exactly
+after_element-returns-then-is_list_octet-clause-exactly t c =
+    let x = c.in-Some.short in
+    no_short_list c.args.rules c.args.max_depth c.args.i.now x.first x.content.now x.rest.now (omega arith) (c.if-is_list_octet.ensures.0 (search rules)) c.in-Some.ensures (λ a. absurd (search (rules, c.if-are_elements.ensures.1 a)))
+
+pub after_element-returns-then-is_plain-clause-exactly : goal.after_element-returns-then-is_plain-clause-exactly
+after_element-returns-then-is_plain-clause-exactly t c =
+    let x = c.in-Some.short in
+    short_plain c.args.rules c.args.max_depth c.args.i.now x.first x.content.now x.rest (omega arith) c.in-Some.ensures (c.if-is_plain.ensures (search rules))
 
 -- elements before an end marker
 

@@ -2,7 +2,7 @@ use Rattle.der_tool.proofs.Printing.{extras_of, printed_all, printed_more, print
 use Rattle.der_tool.proofs.tree.print_tree.Goals as goal
 
 pub elements-init : goal.elements-init
-elements-init g c = record { printed = printed_none _ (c.keeping_texts-walk.ensures _ _ _ c.new.ensures) }
+elements-init g c = record { printed = printed_none _ (c.keeping_values-walk.ensures _ _ _ c.new.ensures) }
 
 pub elements-preserved : goal.elements-preserved
 elements-preserved g c =

@@ -11,8 +11,8 @@ use Rattle.dumarewhi_page.proofs.lists.list.Goals as goal
 
 pub loop-count-init : goal.loop-count-init
 loop-count-init c =
-    let x : Extras = record { enters_strings = true; keeps_texts = false } in
-    ([], c.keeping_texts-walk.ensures x c.args.rules c.args.input.now c.new.ensures, rows_none c.args.rows.now)
+    let x : Extras = record { enters_strings = true; keeps_values = false } in
+    ([], c.keeping_values-walk.ensures x c.args.rules c.args.input.now c.new.ensures, rows_none c.args.rows.now)
 
 pub returns-in-Ok-None : goal.returns-in-Ok-None
 returns-in-Ok-None c =
