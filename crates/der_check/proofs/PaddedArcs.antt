@@ -1,4 +1,4 @@
--- Padded arcs: where the loop finds one, and that of the identifier at the start of an input.
+-- Padded arcs of the identifier at the start of an input.
 use Rattle.std.proofs.Common.{◌≡◌, ℕ, ◌-◌, ◌<◌, ◌⊎◌, Bool, true, false, ◌&&◌, ◌||◌, ◌==◌, IsTrue, List, [], ◌∷◌, ◌++◌, length, take, get_or, Ok, Err, refl, sym, ap, subst, ◌∙◌, arith, length-append, inl, inr, ⊎_elim}
 use Rattle.std.specs.Prelude.{◌↔◌, nat_lt}
 use Rattle.std.specs.Borrow.{Bor}
@@ -24,62 +24,12 @@ use Rattle.der_base.proofs.Octets.Identifiers.{identifier_same, identifier_short
 use Rattle.der_base.proofs.Spellings.Contents.{content_same}
 use Rattle.der_base.proofs.Times.OneReading.{times_same}
 use Rattle.der_laws.proofs.Spellings.DerWithinBer.{der_within_ber, der_spelled_header}
-use Rattle.der_check.specs.Elements.{HasPaddedArc, HasNoPaddedArc, SpellsObject}
+use Rattle.der_values.specs.Kinds.{HasPaddedArc}
+use Rattle.der_check.specs.Elements.{HasNoPaddedArc, SpellsObject}
 use Rattle.der_check.specs.Readers.{StartsPadded, IsIdentifierOctet}
 use Rattle.der_check.proofs.ElementLaws.{in_front, object_identifier_octets}
 use Rattle.der_check.proofs.FirstOctets.{first_octet, first_is, no_first}
 use Rattle.der_check.proofs.HeadersBy.{header_only, header_refused}
-
--- an arc of w is padded, if one begins at its first octet or not
-abbrev pub padded_from : Bool → List ℕ → Bool
-padded_from p [] = false
-padded_from p (b ∷ w) = (p && (b == 128)) || padded_from (nat_lt b 128) w
-
--- the same, said of the octets
-abbrev PaddedFrom : Bool → List ℕ → Type 0
-PaddedFrom p w = ((p ≡ true) × (v : List ℕ) × (w ≡ 128 ∷ v)) ⊎ ((u v : List ℕ) × (b : ℕ) × (b < 128) × (w ≡ u ++ b ∷ 128 ∷ v))
-
-first_or_later : (a b : Bool) → (a || b) ≡ true → (a ≡ true) ⊎ (b ≡ true)
-first_or_later true b e = inl refl
-first_or_later false b e = inr e
-
-both_true : (a b : Bool) → (a && b) ≡ true → (a ≡ true) × (b ≡ true)
-both_true true true e = (refl, refl)
-both_true true false e = absurd (cc)
-both_true false b e = absurd (cc)
-
-or_second : (a b : Bool) → b ≡ true → (a || b) ≡ true
-or_second true b e = refl
-or_second false b e = e
-
-is_padded : (p : Bool) (w : List ℕ) → padded_from p w ≡ true → PaddedFrom p w
-is_padded p [] e = absurd (cc)
-is_padded p (b ∷ w) e =
-    ⊎_elim
-    (λ f. let g = both_true p (b == 128) f in let is : b ≡ 128 = grind (arith, nat_tests) in inl (g.0, w, ap (λ x. x ∷ w) is))
-    (λ f. ⊎_elim
-    (λ (small, v, q). let low : b < 128 = grind (arith, nat_tests) in inr ([], v, b, low, ap (λ l. b ∷ l) q))
-    (λ (u, v, x, low, q). inr (b ∷ u, v, x, low, ap (λ l. b ∷ l) q))
-    (is_padded (nat_lt b 128) w f))
-    (first_or_later (p && (b == 128)) (padded_from (nat_lt b 128) w) e)
-
-found_at_first : (w v : List ℕ) → w ≡ 128 ∷ v → padded_from true w ≡ true
-found_at_first w v e = ap (λ l. padded_from true l) e
-
-found_later : (p : Bool) (w u v : List ℕ) (b : ℕ) → b < 128 → w ≡ u ++ b ∷ 128 ∷ v → padded_from p w ≡ true
-found_later p w [] v b low e =
-    let small : nat_lt b 128 ≡ true = grind (arith, nat_tests) in
-    ap (λ l. padded_from p l) e ∙ or_second (p && (b == 128)) (padded_from (nat_lt b 128) (128 ∷ v)) (ap (λ q. padded_from q (128 ∷ v)) small)
-found_later p w (x ∷ u) v b low e =
-    ap (λ l. padded_from p l) e ∙ or_second (p && (x == 128)) (padded_from (nat_lt x 128) (u ++ b ∷ 128 ∷ v)) (found_later (nat_lt x 128) (u ++ b ∷ 128 ∷ v) u v b low refl)
-
--- what the loop finds
-pub padded : (w : List ℕ) → padded_from true w ≡ true → HasPaddedArc w
-padded w e = ⊎_elim (λ (t, v, q). inl (v, q)) (λ h. inr h) (is_padded true w e)
-
-pub padded_back : (w : List ℕ) → HasPaddedArc w → padded_from true w ≡ true
-padded_back w (inl (v, e)) = found_at_first w v e
-padded_back w (inr (u, v, b, low, e)) = found_later true w u v b low e
 
 -- the identifier at the start of an input
 

@@ -18,7 +18,8 @@ use Rattle.der_laws.proofs.Spellings.BerFaults.{spelling_same}
 use Rattle.der_laws.proofs.Spellings.DerWithinBer.{der_spelling_same, der_within_ber, valid_element}
 use Rattle.der_nodes.specs.Inner.{IsShort}
 use Rattle.der_nodes.proofs.ShortLaws.{IsListOctet, short_header, short_der_header}
-use Rattle.der_check.specs.Elements.{AreElements, HasNoPaddedArc, HasPaddedArc, MayBeConstructed, SpellsObject}
+use Rattle.der_values.specs.Kinds.{HasPaddedArc}
+use Rattle.der_check.specs.Elements.{AreElements, HasNoPaddedArc, MayBeConstructed, SpellsObject}
 use Rattle.der_check.specs.Readers.{Finds, BeginsWithElement, BeginsWithElements, BeginsWithPrimitive, IsIdentifierOctet, IsPlain, StartsConstructed}
 use Rattle.der_check.proofs.ElementLaws.{by_constructed, by_primitive, content_finds, header_finds, no_content, spells_identifier, in_front}
 use Rattle.der_check.proofs.HeadersBy.{header_same}

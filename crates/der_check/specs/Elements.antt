@@ -10,14 +10,9 @@ use Rattle.der_base.specs.Text.{is_one_of}
 use Rattle.der_base.specs.Tree.{Node, node, Content, object_identifier, relative_oid}
 use Rattle.der_base.specs.declared.rules.Rules.{Rules}
 use Rattle.der_base.specs.declared.rules.Rules.TheVariants.{Ber, Der}
+use Rattle.der_values.specs.Kinds.{HasPaddedArc}
 
--- an arc in these octets is padded: it begins with an octet of 0x80. One begins at the first octet, and after each
--- octet below 0x80 (8.19.2)
-abbrev pub HasPaddedArc : List ℕ → Type 0
-HasPaddedArc w = ((v : List ℕ) × (w ≡ 128 ∷ v))
-    ⊎ ((u v : List ℕ) × (b : ℕ) × (b < 128) × (w ≡ u ++ b ∷ 128 ∷ v))
-
--- no arc of an identifier is (8.19.2, 8.20.2)
+-- no arc of an identifier is padded (8.19.2, 8.20.2)
 abbrev pub HasNoPaddedArc : Node → Type 0
 HasNoPaddedArc (node c p t (object_identifier r w)) = ¬ HasPaddedArc w
 HasNoPaddedArc (node c p t (relative_oid r w)) = ¬ HasPaddedArc w

@@ -15,7 +15,8 @@ use Rattle.der_base.specs.Spelling.{end_marker}
 use Rattle.der_base.specs.Tree.{Node, node, Content}
 use Rattle.der_base.specs.declared.rules.Rules.{Rules}
 use Rattle.der_base.specs.declared.rules.Rules.TheVariants.{Ber, Der}
-use Rattle.der_check.specs.Elements.{AreElements, HasNoPaddedArc, HasPaddedArc, IsElement, MayBeConstructed}
+use Rattle.der_check.specs.Elements.{AreElements, HasNoPaddedArc, IsElement, MayBeConstructed}
+use Rattle.der_values.specs.Kinds.{HasPaddedArc}
 use Rattle.der_check.specs.Elements.{SpellsObject, SpellsOne}
 use Rattle.der_nodes.specs.Inner.{IsPlainLeaf}
 use Rattle.der_nodes.specs.NodesReading.{AnswersBerNodes, AnswersDerNodes}

@@ -1,24 +1,10 @@
 //! The arcs of identifiers.
 ghost use Rattle.std.specs.Prelude.{◌↔◌, IsTrue};
-ghost use Rattle.der_check.specs.Elements.{HasPaddedArc};
 ghost use Rattle.der_check.specs.Readers.{IsIdentifierOctet, StartsPadded};
 
 use der_base::header::Length;
 use der_base::rules::Rules;
-
-/// Whether an arc in the content octets of an identifier begins with an octet of 0x80 (X.690 8.19.2).
-pub fn has_padded_arc(content: &[u8]) -> bool
-    ensures { IsTrue result ↔ HasPaddedArc content.now }
-{
-    let mut begins = true;
-    for octet in content {
-        if begins && *octet == 0x80 {
-            return true;
-        }
-        begins = *octet < 0x80;
-    }
-    false
-}
+use der_values::has_padded_arc;
 
 /// Whether it is the identifier octet of an OBJECT IDENTIFIER or a RELATIVE-OID (8.19.1, 8.20.1).
 #[inline(always)]

@@ -5,11 +5,12 @@ ghost use Rattle.der_check.specs.Elements.{AreElements, IsElement};
 ghost use Rattle.der_check.specs.Readers.{BeginsWithConstructed, BeginsWithElement, BeginsWithOpenContent};
 ghost use Rattle.der_check.specs.Readers.{BeginsWithPrimitive, Finds, IsPlain, StartsConstructed, StartsEndMarker};
 
-use crate::arcs::{has_padded_arc, is_identifier_octet};
+use crate::arcs::is_identifier_octet;
 use crate::rules::{after_one, may_be_constructed};
 use der_base::header::Length;
 use der_base::rules::Rules;
 use der_nodes::{is_list_octet, is_plain_leaf, read_short};
+use der_values::has_padded_arc;
 
 /// Whether octets are elements, one after another, and nothing else. The content of a constructed element
 /// of any class is such elements again (X.690 8.1.4), down to this depth.

@@ -7,6 +7,5 @@ mod rules;
 #[cfg(test)]
 mod tests;
 
-pub use arcs::has_padded_arc;
 pub use elements::{after_end_marker, are_elements, is_element};
 pub use rules::{after_one, check_one, may_be_constructed};

@@ -1,5 +1,4 @@
 //! Rows of octets: whether they are elements of BER and of DER. What is expected is what the clause of X.690 says.
-use crate::arcs::has_padded_arc;
 use crate::elements::{are_elements, is_element};
 use der_base::rules::Rules;
 use std::io;
@@ -135,14 +134,5 @@ fn depth_is_a_limit(rt: HostRuntime) -> io::Result<()> {
     }
     assert!(rt; are_elements(&[], Rules::Der, 0));
     assert!(rt; !is_element(&[], Rules::Ber, 1));
-    Ok(())
-}
-
-#[test]
-fn arcs_are_padded(rt: HostRuntime) -> io::Result<()> {
-    assert!(rt; has_padded_arc(&[0x80, 1]));
-    assert!(rt; has_padded_arc(&[0x7f, 0x80]));
-    assert!(rt; !has_padded_arc(&[0x81, 0x80, 0x80, 0]));
-    assert!(rt; !has_padded_arc(&[]));
     Ok(())
 }

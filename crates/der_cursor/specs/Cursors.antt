@@ -8,7 +8,8 @@ use Rattle.der_base.specs.declared.any.Any.{Any}
 use Rattle.der_base.specs.declared.error.Err.{Err as Refused}
 use Rattle.der_base.specs.declared.error.Err.TheVariants.{Incomplete, Error, Failure, OutOfMemory}
 use Rattle.der_base.specs.declared.error.Error.{Error as BerError}
-use Rattle.der_base.specs.declared.error.Error.TheVariants.{BerValueError, Incomplete as CutShort, NomError, UnexpectedClass}
+use Rattle.der_base.specs.declared.error.Error.TheVariants.{BerValueError, NomError, UnexpectedClass}
+use Rattle.der_base.specs.declared.error.Error.TheVariants.{Incomplete as CutShort}
 use Rattle.der_base.specs.declared.error.ErrorKind.{ErrorKind}
 use Rattle.der_base.specs.declared.error.ErrorKind.TheVariants.{Eof, Many0}
 use Rattle.der_base.specs.declared.error.Needed.{Needed}
@@ -56,7 +57,8 @@ rules_of c = c.rules
 
 -- a cursor at the start of an input, for a next element that has no implicit tag
 abbrev pub StartsAt : Rules → List ℕ → Cursor → Type 0
-StartsAt r i c = (octets_left c ≡ i) × (end_of c ≡ length i) × (is_inside c ≡ false) × (rules_of c ≡ r) × (c.implicit ≡ None)
+StartsAt r i c = (octets_left c ≡ i) × (end_of c ≡ length i) × (is_inside c ≡ false) × (rules_of c ≡ r)
+    × (c.implicit ≡ None)
 
 -- the cursor after an element, with these octets left
 abbrev pub advanced : Cursor → Bor (List ℕ) → Cursor
@@ -176,7 +178,8 @@ OpensType p t old = OpensAt (class_wanted old.implicit) p (number_wanted old.imp
 abbrev pub FindsPrimitive : ℕ → Cursor → Result (Bor (List ℕ) × Bor (List ℕ)) (Refusal BerError) → Type 0
 FindsPrimitive t old result = let r = rules_of old in let c = class_wanted old.implicit in
     let n = number_wanted old.implicit t in let i = octets_left old in MatchAnswer (reason_of result)
-    (λ x. SpellsElement r c false n i (leading_content x)) (RefusesAt old (ElementRefuses r c false n i)) (LacksAt old) ⊥
+    (λ x. SpellsElement r c false n i (leading_content x)) (RefusesAt old (ElementRefuses r c false n i))
+    (LacksAt old) ⊥
     × IfErr result (λ e. e ≡ refusal_at old e.reason)
 
 -- the value of content octets is taken with what follows, or its refusal is that of the element
@@ -208,8 +211,8 @@ module _ {T V : Type 0} (value : T → V) (k : Kind V) (t : ℕ) where
   value_left x = (value x.0, octets_left x.1)
 
   pub record ReadsValue (old : Cursor) (result : Result T (Refusal BerError)) (new : Cursor) : Type 0 where
-    pub value_read : AnswersExactly (taken result new) value_left (λ x. SpellsValue old (value_left x)) (SpellsValue old)
-        (RefusesAt old (ValueRefuses old)) (LacksAt old) ⊥ ⊥
+    pub value_read : AnswersExactly (taken result new) value_left (λ x. SpellsValue old (value_left x))
+        (SpellsValue old) (RefusesAt old (ValueRefuses old)) (LacksAt old) ⊥ ⊥
     pub place : GoesOn old result new
 
 -- The next element is one of a type, or under the implicit tag that was said (8.1.2).
@@ -217,8 +220,8 @@ abbrev pub IsNextType : ℕ → Cursor → Type 0
 IsNextType t old = IsNext (class_wanted old.implicit) (number_wanted old.implicit t) (octets_left old)
 
 -- an optional value: it is read exactly where its identifier octets are next; else there is none, and nothing is read
-abbrev pub ReadsOptional : {T V : Type 0} → (T → V) → Kind V → ℕ → Cursor → Result (Option T) (Refusal BerError) → Cursor
-    → Type 0
+abbrev pub ReadsOptional : {T V : Type 0} → (T → V) → Kind V → ℕ → Cursor → Result (Option T) (Refusal BerError)
+    → Cursor → Type 0
 ReadsOptional value k t old (Ok None) new = (¬ IsNextType t old) × (new ≡ advanced old old.left)
 ReadsOptional value k t old (Ok (Some x)) new = IsNextType t old × ReadsValue value k t old (Ok x) new
 ReadsOptional value k t old (Err e) new = IsNextType t old × ReadsValue value k t old (Err e) new

@@ -62,7 +62,8 @@ ElementRefuses r c p t i e = NoElement r i e
 
 -- the element that was read begins i
 abbrev pub ReadsAnyBy : Rules → List ℕ → Bor (List ℕ) × Any → Type 0
-ReadsAnyBy r i x = let h = x.1.header in SpellsElement r (class_of h) (is_constructed h) (number_of h) i (x.1.bytes.now, x.0.now)
+ReadsAnyBy r i x = let h = x.1.header in
+    SpellsElement r (class_of h) (is_constructed h) (number_of h) i (x.1.bytes.now, x.0.now)
 
 -- an element that was read: its content octets, and what follows it
 abbrev pub content_and_rest : Bor (List ℕ) × Any → List ℕ × List ℕ

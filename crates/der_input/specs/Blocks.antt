@@ -28,8 +28,8 @@ pub record BeginsWithBlock (text label lines rest : List ℕ) : Type 0 where
 -- Why no block is found though one begins: no dashes follow its label, no line ends it, no dashes follow the label of
 -- that line, or that is another label.
 pub data BreaksBlock (text : List ℕ) : FormError → Type 0 where
-  endless_label : {e : FormError} (before block : List ℕ) → e ≡ NoEnd → SplitsRound text (codes "-----BEGIN ") before block
-      → ¬ Contains block (codes "-----") → BreaksBlock text e
+  endless_label : {e : FormError} (before block : List ℕ) → e ≡ NoEnd
+      → SplitsRound text (codes "-----BEGIN ") before block → ¬ Contains block (codes "-----") → BreaksBlock text e
   endless_lines : {e : FormError} (before block label opened : List ℕ) → e ≡ NoEnd
       → SplitsRound text (codes "-----BEGIN ") before block → SplitsRound block (codes "-----") label opened
       → ¬ Contains opened (codes "-----END ") → BreaksBlock text e

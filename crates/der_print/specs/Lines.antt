@@ -22,7 +22,8 @@ length_text None = codes "inf"
 -- where the element begins, and how many octets its header and its content have
 abbrev pub place_text : ℕ → ℕ → Option ℕ → List ℕ
 place_text offset header l =
-    at_right 7 (decimal offset) ++ codes " " ++ at_right 2 (decimal header) ++ codes "+" ++ at_left 7 (length_text l) ++ codes " "
+    at_right 7 (decimal offset) ++ codes " " ++ at_right 2 (decimal header) ++ codes "+" ++ at_left 7 (length_text l)
+        ++ codes " "
 
 -- two spaces for each element around it
 abbrev pub indentation : ℕ → List ℕ
@@ -67,5 +68,5 @@ pub record AddsLine (colours : Bool) (v : Visited) (old new : Option (List ℕ))
 -- a line for each of some elements, in their order
 pub data AreLines (colours : Bool) : List Visited → List ℕ → Type 0 where
   no_lines : AreLines colours [] []
-  one_more_line : {v : Visited} {vs : List Visited} (line rest : List ℕ) → IsLine colours v line → AreLines colours vs rest
-      → AreLines colours (v ∷ vs) (line ++ rest)
+  one_more_line : {v : Visited} {vs : List Visited} (line rest : List ℕ) → IsLine colours v line
+      → AreLines colours vs rest → AreLines colours (v ∷ vs) (line ++ rest)

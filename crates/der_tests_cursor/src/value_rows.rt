@@ -5,11 +5,15 @@ use crate::calls::Call::{
 };
 use crate::calls::{Call, read};
 use der_base::rules::Rules::{self, Ber, Der};
+use der_values::has_padded_arc;
+use std::process::Abort;
 use std::test::Fail;
 
 /// The call, the rules, the octets of an element, and the value or the refusal.
+type Row = (Call, Rules, &'static [u8], &'static str);
+
 #[rattlefmt::skip]
-const VALUES: &[(Call, Rules, &[u8], &str)] = &[
+const VALUES: &[Row] = &[
     // 8.2, 11.1
     (Boolean, Der, b"\x01\x01\xff", "true"),
     (Boolean, Der, b"\x01\x01\x00", "false"),
@@ -75,21 +79,12 @@ const VALUES: &[(Call, Rules, &[u8], &str)] = &[
 
 #[test]
 fn values_are_read(rt: HostRuntime) -> Result<(), Fail> {
-    for (call, rules, input, expected) in VALUES {
-        let text = read(rt.alloc(), *rules, *call, input)?;
-        assert_eq!(rt;
-            text.as_str(),
-            *expected,
-            "{call:?} {rules:?} {}",
-            input.escape_ascii()
-        );
-    }
-    Ok(())
+    expect_rows(&rt, VALUES)
 }
 
 /// Elements of another class, number or form, and one that is cut short.
 #[rattlefmt::skip]
-const OTHERS: &[(Call, Rules, &[u8], &str)] = &[
+const OTHERS: &[Row] = &[
     (U32, Der, b"\x82\x01\x05", "at 0: unexpected class (expected UNIVERSAL, actual CONTEXT-SPECIFIC)"),
     (U32, Ber, b"\x42\x01\x05", "at 0: unexpected class (expected UNIVERSAL, actual APPLICATION)"),
     (U32, Der, b"\x0a\x01\x05", "at 0: unexpected tag (expected Integer, actual Enumerated)"),
@@ -104,7 +99,12 @@ const OTHERS: &[(Call, Rules, &[u8], &str)] = &[
 
 #[test]
 fn other_elements_are_refused(rt: HostRuntime) -> Result<(), Fail> {
-    for (call, rules, input, expected) in OTHERS {
+    expect_rows(&rt, OTHERS)
+}
+
+/// Each call reads the value, or its refusal has the text.
+fn expect_rows(rt: &(impl Abort + AllocGlobal), rows: &[Row]) -> Result<(), Fail> {
+    for (call, rules, input, expected) in rows {
         let text = read(rt.alloc(), *rules, *call, input)?;
         assert_eq!(rt;
             text.as_str(),
@@ -114,4 +114,12 @@ fn other_elements_are_refused(rt: HostRuntime) -> Result<(), Fail> {
         );
     }
     Ok(())
+}
+
+#[test]
+fn arcs_are_padded(rt: HostRuntime) {
+    assert!(rt; has_padded_arc(&[0x80, 1]));
+    assert!(rt; has_padded_arc(&[0x7f, 0x80]));
+    assert!(rt; !has_padded_arc(&[0x81, 0x80, 0x80, 0]));
+    assert!(rt; !has_padded_arc(&[]));
 }

@@ -1,6 +1,6 @@
 -- The kinds of value that primitive elements have: the tests that their content octets pass, and what they mean.
-use Rattle.std.specs.Prelude.{◌≡◌, ℕ, ◌-◌, ◌/◌, ◌%◌, ◌^◌, ◌⊎◌, ◌==◌, if◌then◌else◌, Bool, true, false, not, ℤ, pos, None}
-use Rattle.std.specs.Prelude.{List, [], ◌∷◌, ◌++◌, get_or, Result, Ok, Err}
+use Rattle.std.specs.Prelude.{◌≡◌, ℕ, ◌-◌, ◌/◌, ◌%◌, ◌^◌, ◌⊎◌, ◌==◌, if◌then◌else◌, Bool, true, false, not, ℤ, pos}
+use Rattle.std.specs.Prelude.{None, List, [], ◌∷◌, ◌++◌, get_or, Result, Ok, Err}
 use Rattle.std.specs.List.{list_all}
 use Rattle.der_base.specs.declared.error.Error.{Error as BerError}
 use Rattle.der_base.specs.declared.rules.Rules.{Rules}

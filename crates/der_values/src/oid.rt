@@ -8,7 +8,7 @@ use der_base::oid::Oid;
 use std::borrow::CowSlice;
 
 /// The identifier with these content octets (X.690 8.19). BerValueError if there are none, if they are
-/// no arcs of 64 bits, or if an arc begins with an octet of 80 (8.19.2).
+/// no arcs of 64 bits, or if an arc begins with an octet of 0x80 (8.19.2).
 pub fn read_oid(octets: &[u8]) -> Result<Oid<'_>, BerError>
     ensures { Decodes (λ x. octets_of x) identifiers octets.now result }
 {
@@ -19,8 +19,9 @@ pub fn read_oid(octets: &[u8]) -> Result<Oid<'_>, BerError>
     Ok(oid)
 }
 
-/// Whether a subidentifier begins with an octet of 80.
-fn has_padded_arc(octets: &[u8]) -> bool
+/// Whether an arc begins with an octet of 0x80 (X.690 8.19.2), as no OBJECT IDENTIFIER and no RELATIVE-OID
+/// may.
+pub fn has_padded_arc(octets: &[u8]) -> bool
     ensures { IsTrue result ↔ HasPaddedArc octets.now }
 {
     let mut begins = true;

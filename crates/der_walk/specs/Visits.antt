@@ -1,6 +1,6 @@
 -- What a walk visits, in preorder.
-use Rattle.std.specs.Prelude.{◌≡◌, ◌≢◌, ℕ, suc, ◌+◌, ◌/◌, ◌%◌, ◌^◌, ◌<◌, ◌⊎◌, Bool, true, false, not, ◌&&◌, ◌||◌, ◌==◌, nat_lt}
-use Rattle.std.specs.Prelude.{IsTrue, slice_index, Option, Some, None, List, [], ◌∷◌, ◌++◌, length}
+use Rattle.std.specs.Prelude.{◌≡◌, ◌≢◌, ℕ, suc, ◌+◌, ◌/◌, ◌%◌, ◌^◌, ◌<◌, ◌⊎◌, Bool, true, false, not, ◌&&◌, ◌||◌, ◌==◌}
+use Rattle.std.specs.Prelude.{nat_lt, IsTrue, slice_index, Option, Some, None, List, [], ◌∷◌, ◌++◌, length}
 use Rattle.der_base.specs.declared.header.Class.{Class}
 use Rattle.der_base.specs.declared.header.Class.TheVariants.{Universal}
 use Rattle.der_base.specs.Octets.{identifier}
@@ -66,7 +66,8 @@ may_break t = is_text_type t || is_time t || is_one_of (6 ∷ 13 ∷ 30 ∷ []) 
 abbrev pub IsStringFront : ℕ → List ℕ → Type 0
 IsStringFront t u = ((t ≡ 4) × (u ≡ [])) ⊎ ((t ≡ 3) × (u ≡ 0 ∷ []))
 
--- there is a first octet, that of an identifier which is universal or constructed and no end marker's (8.1.2.2, 8.1.2.5)
+-- there is a first octet, that of an identifier which is universal or constructed and no end marker's (8.1.2.2,
+-- 8.1.2.5)
 abbrev pub begins_like_element : List ℕ → Bool
 begins_like_element v = let b = slice_index v 0 in not (b == 0) && (nat_lt b 64 || b / 32 % 2 == 1)
 
@@ -92,8 +93,8 @@ mutual
 
   -- The octets b are one: it is visited first, and then those that are its content (8.1.4).
   pub data VisitsOne (x : Extras) : Rules → ℕ → ℕ → ℕ → List ℕ → List Visited → Type 0 where
-    primitive : {r : Rules} {d k a : ℕ} {b : List ℕ} {vs : List Visited} (c : Class) (t : ℕ) (h w : List ℕ) (y : Content)
-        → IsHeaderBy r c false t (Some (length w)) h → b ≡ h ++ w → SpellsOne r b (node c false t y)
+    primitive : {r : Rules} {d k a : ℕ} {b : List ℕ} {vs : List Visited} (c : Class) (t : ℕ) (h w : List ℕ)
+        (y : Content) → IsHeaderBy r c false t (Some (length w)) h → b ≡ h ++ w → SpellsOne r b (node c false t y)
         → (c ≡ Universal → t ≢ 0) → IsNotEntered x d c t w → vs ≡ visited a k c false t h (Some (length w)) ∷ []
         → VisitsOne x r (suc d) k a b vs
     -- no value of its type

@@ -40,8 +40,8 @@ EndsAt i e m at after = ((m ≡ false) × (at ≡ e) × (after ≡ at))
 
 -- The element v begins at an offset, by the rules r and with k elements around it. Its content begins at `first` and is
 -- read by the rules s. Where that ends, v and what is inside were visited, and are all of the element.
-pub record IsOpen (x : Extras) (i : List ℕ) (r : Rules) (d k start first : ℕ) (s : Rules) (e : ℕ) (m : Bool) (v : Visited)
-    : Type 0 where
+pub record IsOpen (x : Extras) (i : List ℕ) (r : Rules) (d k start first : ℕ) (s : Rules) (e : ℕ) (m : Bool)
+    (v : Visited) : Type 0 where
   pub closes : (at after : ℕ) (us : List Visited) → EndsAt i e m at after → first ≤ at → after ≤ length i
       → Visits x s d (suc k) first (between i first at) us
       → VisitsOne x r (suc d) k start (between i start after) (v ∷ us)
@@ -73,7 +73,8 @@ pub record HasVisited (x : Extras) (r : Rules) (i : List ℕ) (w : Walk) (vs : L
 
 -- the second walk has visited all that the first had
 abbrev pub KeepsVisited : Walk → Walk → Type 0
-KeepsVisited w w' = (x : Extras) (r : Rules) (i : List ℕ) (vs : List Visited) → HasVisited x r i w vs → HasVisited x r i w' vs
+KeepsVisited w w' = (x : Extras) (r : Rules) (i : List ℕ) (vs : List Visited) → HasVisited x r i w vs
+    → HasVisited x r i w' vs
 
 -- the octets of an element are those in the input
 pub record HasOctets (i : List ℕ) (e : Element) : Type 0 where

@@ -1,7 +1,8 @@
 //! The walk.
 ghost use Rattle.der_base.specs.Header.{length_of as length_in};
 ghost use Rattle.der_walk.specs.Reading.{definite_of};
-ghost use Rattle.std.specs.Prelude.{◌≡◌, ◌+◌, ◌-◌, ◌^◌, ◌<◌, ◌≤◌, ◌++◌, ℕ, List, IfOk, IfSome, min, length, [], false, true};
+ghost use Rattle.std.specs.Prelude.{◌≡◌, ◌+◌, ◌-◌, ◌^◌, ◌<◌, ◌≤◌, ℕ, IfOk, IfSome, min, false, true};
+ghost use Rattle.std.specs.Prelude.{◌++◌, List, length, []};
 
 use crate::cause::Cause;
 use crate::content::{Content, NO_LIMIT, Open};
@@ -48,7 +49,8 @@ impl<'a> Walk<'a> {
     /// A walk from the start of an input. If it enters strings, it visits the element that is the whole
     /// content of an OCTET STRING or a BIT STRING by DER.
     pub fn new(input: &'a [u8], rules: Rules, enters_strings: bool) -> Walk<'a>
-        ensures { HasVisited (record { enters_strings = enters_strings; keeps_values = false }) rules input.now result [] }
+        ensures { HasVisited (record { enters_strings = enters_strings; keeps_values = false })
+            rules input.now result [] }
     {
         Walk {
             input,
@@ -284,7 +286,8 @@ impl<'a> Walk<'a> {
     /// Goes on after an element, or to the elements inside if they are visited next.
     fn pass(&mut self, element: &Element<'a>)
         requires room { length self.old.opened.items < 101 }
-        requires end { end_from (element.now.offset + element.now.header) self.old.content.end element.now.length < 2 ^ 64 }
+        requires end { end_from (element.now.offset + element.now.header) self.old.content.end element.now.length
+            < 2 ^ 64 }
         requires front { element.now.offset + element.now.header + front_of element.now < 2 ^ 64 }
         ensures { Passes self.old element.now self.new }
     {

@@ -1,5 +1,5 @@
-//! What the page calls: the elements of an input as rows of numbers, their texts, and whether the input is DER. A slice is
-//! a pointer and a length there. Nothing here allocates.
+//! What the page calls: the elements of an input as rows of numbers, their texts, and whether the input is DER. A slice
+//! is a pointer and a length there. Nothing here allocates.
 #![tactic(auto)]
 
 pub mod canon;

@@ -3,8 +3,8 @@ use der_print::{Limit, Remark, Value};
 use der_walk::Element;
 use std::fmt;
 
-/// The line of an element as `der tree` prints it: where it begins, how many octets its header and its content have, its
-/// type, two columns further in for each element around it, and its value.
+/// The line of an element as `der tree` prints it: where it begins, how many octets its header and its content have,
+/// its type, two columns further in for each element around it, and its value.
 #[derive(Clone, Copy)]
 pub(crate) struct Line<'a> {
     pub element: Element<'a>,
