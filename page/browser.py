@@ -2,7 +2,11 @@
 import base64
 import http.server
 import json
+import pathlib
 import shutil
+import socket
+import subprocess
+import tempfile
 import time
 
 class Quiet(http.server.SimpleHTTPRequestHandler):
@@ -29,9 +33,15 @@ class Browser:
         self.address = f"file://{page}"
 
     def load(self, after="", address=None):
-        self.driver.get("about:blank")
-        self.driver.get((address or self.address) + after)
+        self.go("about:blank")
+        self.go((address or self.address) + after)
         self.wait("return window.page !== undefined")
+
+    def go(self, address):
+        self.driver.get(address)
+
+    def quit(self):
+        self.driver.quit()
 
     def wait(self, script, seconds=10):
         end = time.time() + seconds
@@ -144,3 +154,80 @@ class Browser:
         sent = [entry["params"] for entry in entries if entry["method"] == "Network.requestWillBeSent"]
         addresses = [entry["request"]["url"] for entry in sent]
         return [address for address in addresses if not address.startswith(("data:", "about:"))]
+
+
+class Firefox(Browser):
+    """The page in Firefox, over Firefox's own protocol (Marionette), since Debian has no driver for it."""
+
+    def __init__(self, page):
+        self.profile = tempfile.mkdtemp(prefix="page-firefox-")
+        port = free_port()
+        preferences = f'user_pref("marionette.port", {port});\n'
+        pathlib.Path(self.profile, "user.js").write_text(preferences)
+        command = [firefox(), "--headless", "--marionette", "--no-remote", "--profile", self.profile]
+        self.process = subprocess.Popen(command, stdout=subprocess.DEVNULL, stderr=subprocess.DEVNULL)
+        self.stream = connect(port, 60).makefile("rwb")
+        self.receive()
+        self.count = 0
+        self.ask("WebDriver:NewSession")
+        self.address = f"file://{page}"
+
+    def receive(self):
+        """A message is its length, a colon, and JSON."""
+        length = b""
+        while not length.endswith(b":"):
+            octet = self.stream.read(1)
+            if not octet:
+                raise ConnectionError("Firefox ended")
+            length += octet
+        return json.loads(self.stream.read(int(length[:-1])))
+
+    def ask(self, command, **words):
+        self.count += 1
+        message = json.dumps([0, self.count, command, words]).encode()
+        self.stream.write(b"%d:%s" % (len(message), message))
+        self.stream.flush()
+        _, _, fault, result = self.receive()
+        if fault:
+            raise RuntimeError(f"{command}: {fault['message']}")
+        return result
+
+    def go(self, address):
+        self.ask("WebDriver:Navigate", url=address)
+
+    def size(self, width, height, is_phone, is_dark=False):
+        self.ask("WebDriver:SetWindowRect", width=width, height=height)
+
+    def run(self, script, *words):
+        return self.ask("WebDriver:ExecuteScript", script=script, args=list(words))["value"]
+
+    def picture(self, path):
+        picture = self.ask("WebDriver:TakeScreenshot", full=False)["value"]
+        pathlib.Path(path).write_bytes(base64.b64decode(picture))
+
+    def quit(self):
+        self.process.terminate()
+        self.process.wait()
+        shutil.rmtree(self.profile, ignore_errors=True)
+
+
+def firefox():
+    """The path of Firefox, or None."""
+    return shutil.which("firefox-esr") or shutil.which("firefox")
+
+
+def free_port():
+    with socket.socket() as it:
+        it.bind(("127.0.0.1", 0))
+        return it.getsockname()[1]
+
+
+def connect(port, seconds):
+    end = time.time() + seconds
+    while True:
+        try:
+            return socket.create_connection(("127.0.0.1", port))
+        except ConnectionRefusedError:
+            if time.time() > end:
+                raise
+            time.sleep(0.1)

@@ -7,8 +7,8 @@ use der_nodes::{Element, parse_ber_nodes, parse_der_nodes};
 use der_parser::ber::{
     Any, BerObject, BerObjectContent, FaultWriter, MAX_RECURSION, Visit, parse_ber,
 };
+use der_parser::cursor::Cursor;
 use der_parser::der::{Class, parse_der};
-use names_reader::parse_name;
 use std::alloc::Global;
 use x509_reader::read_certificate;
 
@@ -186,21 +186,20 @@ fn count_node_attributes(alloc: Global, s: &[u8]) -> u64 {
     count
 }
 
-/// The same of names whose attributes are kept as octets.
-fn count_octet_attributes(alloc: Global, s: &[u8]) -> u64 {
+/// The same of names that are read with a cursor.
+fn count_cursor_attributes(alloc: Global, s: &[u8]) -> u64 {
     let mut names = Vec::new(alloc);
-    let mut left = s;
+    let mut left = Cursor::new(s);
     for _ in 0..u64::MAX {
         if left.is_empty() {
             break;
         }
-        let Ok((rest, name)) = parse_name(alloc, left) else {
+        let Ok(name) = names_reader::read_name(alloc, &mut left) else {
             return 0;
         };
         if names.push(name).is_err() {
             return 0;
         }
-        left = rest;
     }
     let mut count: u64 = 0;
     for name in &names {
@@ -299,7 +298,7 @@ pub extern "C" fn der_bench_pass(alloc: Global, s: &[u8], mode: u64) -> u64 {
         4 => count_elements(s),
         5 => count_attributes(alloc, s),
         6 => count_visited(alloc, s),
-        7 => count_octet_attributes(alloc, s),
+        7 => count_cursor_attributes(alloc, s),
         8 => count_certificates(alloc, s),
         9 => count_in_buffer(alloc, s, true),
         10 => count_nodes(s, &mut [], true),

@@ -6,5 +6,6 @@ pub mod Markers
 pub mod NamedLaws
 pub mod NextLaws
 pub mod PlaceLaws
+pub mod ShortElements
 pub mod TagLaws
 pub mod ValueLaws

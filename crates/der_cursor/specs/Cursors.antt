@@ -25,15 +25,16 @@ use Rattle.der_base.specs.declared.rules.Rules.{Rules}
 use Rattle.der_base.specs.declared.rules.Rules.TheVariants.{Der}
 use Rattle.der_base.specs.declared.time.ASN1DateTime.{ASN1DateTime}
 use Rattle.der_base.specs.Exactly.{AnswersExactly}
-use Rattle.der_base.specs.Header.{class_of, is_constructed, number_of, length_of}
+use Rattle.der_base.specs.Header.{class_of, is_constructed, number_of}
 use Rattle.der_base.specs.LeafRefusal.{IsFirstRefusal, NoneHolds}
 use Rattle.der_base.specs.Octets.{class_number}
 use Rattle.der_base.specs.Refusal.{Refusal as Name, incomplete}
 use Rattle.der_cursor.specs.declared.cursor.Cursor.{Cursor}
+use Rattle.der_cursor.specs.declared.cursor.Found.{Found}
 use Rattle.der_cursor.specs.declared.refusal.Refusal.{Refusal}
 use Rattle.der_values.specs.Kinds.{Kind, times}
 use Rattle.der_cursor.specs.Elements.{SpellsElement, ElementRefuses, ElementLacks, NoElement, BeginsWithTag, IsNext}
-use Rattle.der_cursor.specs.Elements.{MarkerFollows, SpellsLeading, content_and_rest, leading, marker_size}
+use Rattle.der_cursor.specs.Elements.{MarkerFollows, SpellsLeading, leading}
 
 -- the octets that aren't read yet
 abbrev pub octets_left : Cursor → List ℕ
@@ -147,10 +148,10 @@ module _ (old : Cursor) where
   LacksAt n = (is_inside old ≡ false) × ElementLacks (rules_of old) (octets_left old) n
 
   -- what was found next, and what follows it
-  abbrev pub Finds : Class → Bool → ℕ → Result (Bor (List ℕ) × Any) (Refusal BerError) → Type 0
+  abbrev pub Finds : Class → Bool → ℕ → Result Found (Refusal BerError) → Type 0
   Finds c p t result = MatchAnswer (reason_of result)
-      (λ x. SpellsElement (rules_of old) c p t (octets_left old) (content_and_rest x)
-      × MarkerFollows (rules_of old) (octets_left old) (marker_size (length_of x.1.header)))
+      (λ x. SpellsElement (rules_of old) c p t (octets_left old) (x.content.now, x.rest.now)
+      × MarkerFollows (rules_of old) (octets_left old) x.marker)
       (RefusesAt (ElementRefuses (rules_of old) c p t (octets_left old))) LacksAt ⊥
       × IfErr result (λ e. e ≡ refusal_at old e.reason)
 

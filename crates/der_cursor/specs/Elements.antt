@@ -1,6 +1,6 @@
 -- Elements that are asked for: of one class, constructed bit and number, by the rules that are given.
 use Rattle.std.specs.Borrow.{Bor}
-use Rattle.std.specs.Prelude.{◌≡◌, ◌≢◌, ℕ, ◌⊎◌, Bool, true, false, Some, List, ◌++◌, length, Result}
+use Rattle.std.specs.Prelude.{◌≡◌, ◌≢◌, ℕ, ◌+◌, ◌<◌, ◌⊎◌, Bool, true, false, Some, List, ◌∷◌, ◌++◌, length, Result}
 use Rattle.der_base.specs.declared.any.Any.{Any}
 use Rattle.der_base.specs.declared.error.Err.{Err as Refused}
 use Rattle.der_base.specs.declared.error.Error.{Error as BerError}
@@ -15,7 +15,7 @@ use Rattle.der_base.specs.Exactly.{AnswersExactly}
 use Rattle.der_base.specs.Fault.{DerHeaderRefuses}
 use Rattle.der_base.specs.Header.{class_of, is_constructed, number_of}
 use Rattle.der_base.specs.Headers.{BeginsWithDerHeader, LeadingHeader}
-use Rattle.der_base.specs.Octets.{identifier}
+use Rattle.der_base.specs.Octets.{identifier, leading_bits}
 use Rattle.der_base.specs.Refusal.{Refusal, unexpected_class, unexpected_tag, construct_expected, construct_unexpected}
 use Rattle.der_base.specs.Rules.{SpellsHeaderBy}
 use Rattle.der_base.specs.Spelling.{BeginsWithElement, framing_budget}
@@ -25,6 +25,11 @@ use Rattle.der_base.specs.Spelling.{BeginsWithElement, framing_budget}
 abbrev pub SpellsElement : Rules → Class → Bool → ℕ → List ℕ → List ℕ × List ℕ → Type 0
 SpellsElement Ber c p t i v = BeginsWithElement i framing_budget c p t v.0 v.1
 SpellsElement Der c p t i v = BeginsWithDerHeader i c p t (length v.0) (v.0 ++ v.1)
+
+-- i begins with an element of this class, constructed bit and number whose header has two octets (8.1.2.2, 8.1.3.4)
+abbrev pub IsShortElement : Class → Bool → ℕ → List ℕ → List ℕ → List ℕ → Type 0
+IsShortElement c p t i w rest =
+    (t < 31) × (length w < 128) × (i ≡ (leading_bits c p + t) ∷ length w ∷ w ++ rest)
 
 -- the parts of an element, and what follows it
 abbrev pub leading : Class → Bool → ℕ → List ℕ × List ℕ → LeadingElement

@@ -1,10 +1,10 @@
 //! The cursor.
-ghost use Rattle.std.specs.Prelude.{◌≡◌, ◌/◌, ◌↔◌, true, false, IfOk, IsTrue, [], slice_get};
+ghost use Rattle.std.specs.Prelude.{◌≡◌, ◌+◌, ◌<◌, ◌/◌, ◌↔◌, true, false, IfOk, IfSome, IsTrue, [], slice_get};
 ghost use Rattle.der_base.specs.Answer.{MatchAnswer};
 ghost use Rattle.der_base.specs.declared.header.Class.{Class};
 ghost use Rattle.der_base.specs.declared.rules.Rules.{Rules};
 ghost use Rattle.der_base.specs.Header.{length_of};
-ghost use Rattle.der_base.specs.Octets.{class_number};
+ghost use Rattle.der_base.specs.Octets.{class_number, leading_bits};
 ghost use Rattle.der_cursor.specs.Cursors.{octets_left, place_of, list_end_of, refusal_at, advanced};
 ghost use Rattle.der_cursor.specs.Cursors.{class_wanted, number_wanted, IsTagged, StartsAt, Finds};
 ghost use Rattle.der_cursor.specs.Cursors.{Reads, ReadsLast, IsLast, OpensAt, OpensType, OpensTagged};
@@ -12,7 +12,7 @@ ghost use Rattle.der_cursor.specs.Cursors.{AssertsUniversal, EndsAt};
 ghost use Rattle.der_cursor.specs.Runs.{ReadsAll, values_of};
 ghost use Rattle.der_cursor.specs.Elements.{AnswersElement, BeginsWithTag, ElementRefuses, ElementLacks};
 ghost use Rattle.der_cursor.specs.Elements.{MarkerFollows, NoElement, ReadsAnyBy, SpellsElement, content_and_rest};
-ghost use Rattle.der_cursor.specs.Elements.{marker_size};
+ghost use Rattle.der_cursor.specs.Elements.{IsShortElement, marker_size};
 
 use crate::refusal::Refusal;
 use der_base::any::Any;
@@ -38,6 +38,17 @@ pub struct Cursor<'a> {
     pub(crate) rules: Rules,
     // The implicit tag that the next element has.
     pub(crate) implicit: Option<(Class, Tag)>,
+}
+
+/// An element that was found.
+#[derive(Clone, Copy)]
+pub(crate) struct Found<'a> {
+    /// Its content octets.
+    pub content: &'a [u8],
+    /// How many octets of an end marker follow them.
+    pub marker: usize,
+    /// What follows the element.
+    pub rest: &'a [u8],
 }
 
 impl<'a> Cursor<'a> {
@@ -271,17 +282,15 @@ impl<'a> Cursor<'a> {
     ) -> Result<Cursor<'a>, Refusal<BerError>>
         ensures { OpensAt class constructed tag.0 self.old result self.new }
     {
-        let (rest, element) = match self.find(class, constructed, tag) {
+        let found = match self.find(class, constructed, tag) {
             Ok(found) => found,
             Err(e) => return Err(e),
         };
-        self.advance(rest);
+        self.advance(found.rest);
         // The content ends where the next element begins, or at the end marker in front of it.
-        let end = self
-            .offset()
-            .saturating_sub(marker_size(element.header.length()));
+        let end = self.offset().saturating_sub(found.marker);
         Ok(Cursor {
-            left: element.bytes,
+            left: found.content,
             end,
             inside: true,
             rules: self.rules,
@@ -289,18 +298,37 @@ impl<'a> Cursor<'a> {
         })
     }
 
-    /// The next element, which has to have this class, constructed bit and tag number, and what
-    /// follows it.
+    /// Finds the next element, which has to have this class, constructed bit and tag number.
+    #[inline(always)]
     pub(crate) fn find(
         &self,
         class: Class,
         constructed: bool,
         tag: Tag,
-    ) -> Result<(&'a [u8], Any<'a>), Refusal<BerError>>
+    ) -> Result<Found<'a>, Refusal<BerError>>
+        ensures { Finds self.now class constructed tag.0 result }
+    {
+        match find_short(self.left, class, constructed, tag) {
+            Some(found) => Ok(found),
+            None => self.find_any(class, constructed, tag),
+        }
+    }
+
+    /// The same of an element with any header.
+    fn find_any(
+        &self,
+        class: Class,
+        constructed: bool,
+        tag: Tag,
+    ) -> Result<Found<'a>, Refusal<BerError>>
         ensures { Finds self.now class constructed tag.0 result }
     {
         match parse_element(self.rules, self.left, class, constructed, tag) {
-            Ok(found) => Ok(found),
+            Ok((rest, element)) => Ok(Found {
+                content: element.bytes,
+                marker: marker_size(element.header.length()),
+                rest,
+            }),
             Err(reason) if self.inside => Err(self.refused(refuse_cut_item(reason))),
             Err(reason) => Err(self.refused(reason)),
         }
@@ -386,6 +414,52 @@ impl<'a> Cursor<'a> {
     {
         if self.inside { Some(self.end) } else { None }
     }
+}
+
+/// Finds an element of this class, constructed bit and tag number with a header of two octets, as most
+/// have (8.1.2.2, 8.1.3.4).
+#[inline(always)]
+fn find_short<'a>(
+    i: &'a [u8],
+    class: Class,
+    constructed: bool,
+    tag: Tag,
+) -> Option<Found<'a>>
+    ensures { IfSome result (λ x. (x.marker ≡ 0)
+        × IsShortElement class constructed tag.0 i.now x.content.now x.rest.now) }
+{
+    if tag.0 >= 31 {
+        return None;
+    }
+    let [first, size, following @ ..] = i else {
+        return None;
+    };
+    let size = usize::from(*size);
+    if *first != identifier_octet(class, constructed, tag) || size >= 128 || size > following.len() {
+        return None;
+    }
+    let (content, rest) = following.split_at(size);
+    Some(Found {
+        content,
+        marker: 0,
+        rest,
+    })
+}
+
+/// The identifier octet of a tag number below 31 (8.1.2.2).
+#[inline(always)]
+fn identifier_octet(class: Class, constructed: bool, tag: Tag) -> u8
+    requires { tag.0 < 31 }
+    ensures { result ≡ leading_bits class constructed + tag.0 }
+{
+    let class_bits: u8 = match class {
+        Class::Universal => 0,
+        Class::Application => 0x40,
+        Class::ContextSpecific => 0x80,
+        Class::Private => 0xc0,
+    };
+    let constructed_bit: u8 = if constructed { 0x20 } else { 0 };
+    class_bits + constructed_bit + tag.0 as u8
 }
 
 /// How many octets of an end marker follow a content of this length (8.1.3.6).

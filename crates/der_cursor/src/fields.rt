@@ -174,7 +174,7 @@ impl<'a> Cursor<'a> {
         ensures { FindsPrimitive tag.0 self.now result }
     {
         match self.find(self.class_wanted(), false, self.tag_wanted(tag)) {
-            Ok((rest, element)) => Ok((rest, element.bytes)),
+            Ok(found) => Ok((found.rest, found.content)),
             Err(e) => Err(e),
         }
     }

@@ -1,10 +1,10 @@
 //! Names with each of their elements damaged: each copy is refused, or is listed.
 use der_distinguished_name::read_name;
+use der_parser::cursor::Cursor;
 use der_parser::error::{BerError, Err as Refused};
 use der_tests_damage::Damage::{Class, Constructed};
 use der_tests_damage::Part::This;
 use der_tests_damage::{Case, Outcome, Pass, Reader};
-use names_reader::parse_name;
 use std::alloc::Global;
 use std::test::Fail;
 
@@ -93,12 +93,16 @@ fn outcome_of(refused: Option<Refused<BerError>>) -> Outcome {
     }
 }
 
-/// `parse_name`.
+/// `read_name` of names_reader, with a cursor.
 struct Names;
 
 impl Reader for Names {
     fn outcome(&self, alloc: Global, octets: &[u8]) -> Outcome {
-        outcome_of(parse_name(alloc, octets).err())
+        let mut input = Cursor::new(octets);
+        match names_reader::read_name(alloc, &mut input).err() {
+            None => Outcome::Read,
+            Some(refusal) => Outcome::RefusedAt(refusal.offset),
+        }
     }
 }
 

@@ -1,8 +1,8 @@
 //! Names as octets, and the texts that openssl gives them.
-use der_parser::error::Err::Failure;
-use der_parser::error::{BerError, Err as Refused, ErrorKind};
-use names_reader::parse_name;
+use der_parser::cursor::Cursor;
+use names_reader::read_name;
 use std::alloc::Global;
+use std::process::Abort;
 use std::test::Fail;
 
 /// What a name shows, its octets, and what `openssl x509 -noout -subject -nameopt RFC2253` prints of a
@@ -78,49 +78,65 @@ const TEXTS: &[(&str, &[u8], &str)] = &[
 
 /// What is wrong with a name, its octets, and the refusal.
 #[rattlefmt::skip]
-const REFUSED: &[(&str, &[u8], Refused<BerError>)] = &[
+const REFUSED: &[(&str, &[u8], &str)] = &[
     ("half of a character",
         b"\x30\x0f\x31\x0d\x30\x0b\x06\x03\x55\x04\x03\x1e\x04\xd8\x3d\xde\x00",
-        Failure(BerError::StringInvalidCharset)),
+        "at 11: invalid character in string"),
     ("the second half of a character, the last one that there is",
         b"\x30\x0d\x31\x0b\x30\x09\x06\x03\x55\x04\x03\x1e\x02\xdf\x00",
-        Failure(BerError::StringInvalidCharset)),
+        "at 11: invalid character in string"),
+    ("a part of a character of four octets (X.690 8.23.7)",
+        b"\x30\x0e\x31\x0c\x30\x0a\x06\x03\x55\x04\x03\x1c\x03\x00\x00\x00",
+        "at 11: invalid character in string"),
     ("no UTF-8",
         b"\x30\x0c\x31\x0a\x30\x08\x06\x03\x55\x04\x03\x0c\x01\xc3",
-        Failure(BerError::StringInvalidCharset)),
+        "at 11: invalid character in string"),
     ("a VisibleString",
         b"\x30\x0c\x31\x0a\x30\x08\x06\x03\x55\x04\x03\x1a\x01\x78",
-        Failure(BerError::BerTypeError)),
+        "at 11: wrong type"),
+    ("a value under a tag",
+        b"\x30\x0c\x31\x0a\x30\x08\x06\x03\x55\x04\x03\x8c\x01\x78",
+        "at 11: unexpected class (expected UNIVERSAL, actual CONTEXT-SPECIFIC)"),
+    ("a value in parts",
+        b"\x30\x0e\x31\x0c\x30\x0a\x06\x03\x55\x04\x03\x2c\x03\x0c\x01\x78",
+        "at 11: primitive encoding expected"),
     ("octets after the value",
         b"\x30\x0e\x31\x0c\x30\x0a\x06\x03\x55\x04\x03\x0c\x01\x78\x05\x00",
-        Failure(BerError::NomError(ErrorKind::Eof))),
+        "at 14: octets left over or missing"),
     ("octets after the attribute",
         b"\x30\x0d\x31\x0b\x30\x08\x06\x03\x55\x04\x03\x0c\x01\x78\x30",
-        Failure(BerError::NomError(ErrorKind::Eof))),
+        "at 14: an element runs past the end of its list, needs 1"),
+    ("a set out of order (11.6)",
+        b"\x30\x16\x31\x14\x30\x08\x06\x03\x55\x04\x03\x0c\x01\x79\x30\x08\x06\x03\x55\x04\x03\x0c\x01\x78",
+        "at 2: DER constraint failed: set out of order"),
 ];
 
-/// The text of a name, and whether octets follow it.
+/// The text of a name or of its refusal, and whether octets follow it.
 fn text_of(alloc: Global, octets: &[u8]) -> Result<String, Fail> {
-    let (rest, name) = parse_name(alloc, octets)?;
-    let more = if rest.is_empty() { "" } else { ", and more" };
+    let mut input = Cursor::new(octets);
+    let name = match read_name(alloc, &mut input) {
+        Ok(name) => name,
+        Err(e) => return Ok(format!(in alloc; "{e}")?),
+    };
+    let more = if input.is_empty() { "" } else { ", and more" };
     let text = format!(in alloc; "{name}{more}")?;
     Ok(text)
 }
 
 #[test]
 fn names_are_written(rt: HostRuntime) -> Result<(), Fail> {
-    for (what, octets, text) in TEXTS {
-        let written = text_of(rt.alloc(), octets)?;
-        assert_eq!(rt; written.as_str(), *text, "{what}");
-    }
-    Ok(())
+    expect_texts(&rt, TEXTS)
 }
 
 #[test]
 fn names_are_refused(rt: HostRuntime) -> Result<(), Fail> {
-    for (what, octets, refusal) in REFUSED {
-        let refused = parse_name(rt.alloc(), octets).err();
-        assert_eq!(rt; refused.as_ref(), Some(refusal), "{what}");
+    expect_texts(&rt, REFUSED)
+}
+
+fn expect_texts(rt: &(impl Abort + AllocGlobal), rows: &[(&str, &[u8], &str)]) -> Result<(), Fail> {
+    for (what, octets, expected) in rows {
+        let text = text_of(rt.alloc(), octets)?;
+        assert_eq!(rt; text.as_str(), *expected, "{what}");
     }
     Ok(())
 }

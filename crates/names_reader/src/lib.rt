@@ -6,5 +6,5 @@ mod certificate;
 mod name;
 mod text;
 
-pub use certificate::{Names, parse_names};
-pub use name::{Attribute, Name, parse_name};
+pub use certificate::{Names, read_names};
+pub use name::{Attribute, Name, read_name};

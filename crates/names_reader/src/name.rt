@@ -1,36 +1,27 @@
 //! Names: lists of sets of attributes (X.501 9.2).
-ghost use Rattle.std.specs.Prelude.{◌≡◌, ◌<◌, length, OnOk};
-
-use der_parser::IResult;
-use der_parser::ber::{Any, BerObject};
-use der_parser::der::{
-    Class, Tag, der_read_element_header, parse_der_bitstring, parse_der_bmpstring,
-    parse_der_ia5string, parse_der_numericstring, parse_der_printablestring,
-    parse_der_sequence_defined_g, parse_der_sequence_of_v, parse_der_set_of_v, parse_der_slice,
-    parse_der_universalstring, parse_der_utf8string,
-};
-use der_parser::error::{BerError, BerResult, Err as Refused, ErrorKind, Needed};
+use der_parser::Rules;
+use der_parser::ber::{Any, Class, Tag};
+use der_parser::cursor::{Cursor, Refusal};
+use der_parser::error::{BerError, DerConstraint};
 use der_parser::oid::Oid;
+use der_parser::values::{read_bits, read_text};
 use std::alloc::Global;
-use std::borrow::CowSlice;
 
 /// The relative names of a name, each with its attributes, in the order of the input.
 #[derive(Debug, Drop)]
 pub struct Name<'a>(pub Vec<Vec<Attribute<'a>>>);
 
-/// A type and a value, kept as the octets that were read.
-#[derive(Clone, Copy, Debug, PartialEq)]
-pub struct Attribute<'a> {
-    content: &'a [u8],
-}
-
-/// The parts of an attribute.
+/// A type and a value.
 #[derive(Debug, Drop)]
-pub(crate) struct Parts<'a> {
-    pub oid: Oid<'a>,
+pub struct Attribute<'a> {
+    pub identifier: Oid<'a>,
+    /// All octets of the attribute.
+    octets: &'a [u8],
     /// The value with its header.
-    pub value: &'a [u8],
-    pub coding: Coding,
+    pub(crate) element: &'a [u8],
+    /// Its content octets.
+    pub(crate) content: &'a [u8],
+    pub(crate) coding: Coding,
 }
 
 /// How the characters of a value are written.
@@ -48,146 +39,86 @@ pub(crate) enum Coding {
     NoText,
 }
 
-impl<'a> Name<'a> {
-    /// Whether each attribute type has arcs, so that it can be written with points between them.
-    pub(crate) fn has_arcs(&self) -> bool {
-        self.0
-            .iter()
-            .all(|attributes| attributes.iter().all(has_arcs))
+/// Reads a name: a SEQUENCE OF relative names.
+pub fn read_name<'a>(
+    alloc: Global,
+    fields: &mut Cursor<'a>,
+) -> Result<Name<'a>, Refusal<BerError>> {
+    let names = fields.open_sequence()?;
+    Ok(Name(names.read_all(alloc, read_relative_name)?))
+}
+
+/// Reads a relative name: a SET OF attributes in ascending order (X.690 11.6).
+fn read_relative_name<'a>(
+    alloc: Global,
+    names: &mut Cursor<'a>,
+) -> Result<Vec<Attribute<'a>>, Refusal<BerError>> {
+    let before = *names;
+    let attributes = names.open_set()?.read_all(alloc, read_attribute)?;
+    if attributes.windows(2).any(descends) {
+        let e = BerError::DerConstraintFailed(DerConstraint::SetOfOrder);
+        return Err(before.refuse(e));
     }
+    Ok(attributes)
 }
 
-fn has_arcs(attribute: &Attribute<'_>) -> bool {
-    matches!(attribute.parts(), Ok((_, parts)) if parts.oid.iter().is_some())
+/// Whether the second of two attributes comes before the first, octet by octet.
+fn descends(pair: &[Attribute<'_>]) -> bool {
+    matches!(pair, [first, second] if second.octets < first.octets)
 }
 
-/// Reads a name: a SEQUENCE OF relative names, each a SET OF attributes in ascending order (X.690
-/// 11.6).
-pub fn parse_name<'a>(alloc: Global, i: &'a [u8]) -> IResult<&'a [u8], Name<'a>, BerError> {
-    let relative_name = of_attributes(|i| {
-        check_list(i, 0x31)?;
-        parse_der_set_of_v(alloc, parse_attribute).parse(i)
-    });
-    check_list(i, 0x30)?;
-    let (rest, names) = parse_der_sequence_of_v(alloc, relative_name).parse(i)?;
-    Ok((rest, Name(names)))
-}
-
-/// Asks that an element of this identifier octet is next: the readers of lists look at its tag number
-/// alone. Incomplete at the end of a list, where the list parser calls its parser once more.
-fn check_list(i: &[u8], identifier: u8) -> Result<(), Refused<BerError>>
-    ensures more { OnOk result (0 < length i.now) }
-{
-    let Some(first) = i.first() else {
-        return Err(Refused::Incomplete(Needed::Size(1)));
+/// Reads an attribute: a SEQUENCE of a type and a value.
+fn read_attribute<'a>(
+    _alloc: Global,
+    set: &mut Cursor<'a>,
+) -> Result<Attribute<'a>, Refusal<BerError>> {
+    let here = set.remaining();
+    let mut parts = set.open_sequence()?;
+    let identifier = parts.oid()?;
+    let before = parts;
+    let value = parts.any()?;
+    let coding = match coding_of(&value) {
+        Ok(coding) => coding,
+        Err(e) => return Err(before.refuse(e)),
     };
-    if *first != identifier {
-        check_class_and_form(i)?;
-    }
-    Ok(())
-}
-
-/// Asks that the next element is universal and constructed.
-fn check_class_and_form(i: &[u8]) -> Result<(), Refused<BerError>> {
-    let (_, header) = der_read_element_header(i)?;
-    header.assert_class(Class::Universal)?;
-    header.assert_constructed()?;
-    Ok(())
-}
-
-/// The same parser: a bound that says whose slices the attributes have.
-fn of_attributes<'a, F, E>(f: F) -> F
-where
-    F: FnMut(&'a [u8]) -> IResult<&'a [u8], Vec<Attribute<'a>>, E>,
-    ensures { result ≡ f }
-{
-    f
-}
-
-/// Reads an attribute: a SEQUENCE of a type and a value, and nothing after them.
-fn parse_attribute<'a>(i: &'a [u8]) -> IResult<&'a [u8], Attribute<'a>, BerError> {
-    check_list(i, 0x30)?;
-    parse_der_sequence_defined_g(|content, _| {
-        let (rest, _) = parse_parts(content)?;
-        Ok((rest, Attribute { content }))
-    })
-    .parse(i)
-}
-
-impl<'a> Attribute<'a> {
-    /// Reads the parts again.
-    pub(crate) fn parts(self) -> IResult<&'a [u8], Parts<'a>, BerError> {
-        parse_parts(self.content)
-    }
-}
-
-fn parse_parts<'a>(i: &'a [u8]) -> IResult<&'a [u8], Parts<'a>, BerError> {
-    let (value, oid) = parse_type(i)?;
-    let (rest, coding) = parse_value(value)?;
-    if !rest.is_empty() {
-        return Err(Refused::Error(BerError::NomError(ErrorKind::Eof)));
-    }
-    Ok((rest, Parts { oid, value, coding }))
-}
-
-/// Reads an OBJECT IDENTIFIER.
-fn parse_type<'a>(i: &'a [u8]) -> IResult<&'a [u8], Oid<'a>, BerError> {
-    let (rest, any) = Any::from_der(i)?;
-    any.header.assert_class(Class::Universal)?;
-    any.header.assert_tag(Tag::Oid)?;
-    any.header.assert_primitive()?;
-    Ok((rest, Oid::new(CowSlice::Borrowed(any.bytes))))
-}
-
-/// Reads a value of the types that names have. Its identifier octet is the number of the type, since
-/// these types are primitive and universal (X.690 8.1.2).
-fn parse_value<'a>(i: &'a [u8]) -> IResult<&'a [u8], Coding, BerError> {
-    let answer = match i.first() {
-        Some(12) => parse_der_utf8string(i),
-        Some(18) => parse_der_numericstring(i),
-        Some(19) => parse_der_printablestring(i),
-        Some(22) => parse_der_ia5string(i),
-        _ => return parse_rarer_value(i),
-    };
-    Ok((behind(answer)?, Coding::Utf8))
-}
-
-/// What follows the object that was read.
-#[inline(always)]
-fn behind<'a>(answer: BerResult<'a>) -> Result<&'a [u8], Refused<BerError>> {
-    let (rest, _) = answer?;
-    Ok(rest)
-}
-
-/// The same of the types that are rare.
-#[inline(never)]
-fn parse_rarer_value<'a>(i: &'a [u8]) -> IResult<&'a [u8], Coding, BerError> {
-    Ok(match i.first() {
-        Some(3) => (behind(parse_der_bitstring(i))?, Coding::NoText),
-        Some(20) => (parse_der_slice(i, Tag::T61String)?.0, Coding::Latin1),
-        Some(28) => (behind(parse_der_universalstring(i))?, Coding::Universal),
-        Some(30) => (parse_bmpstring(i)?, Coding::Bmp),
-        _ => return Err(Refused::Error(BerError::BerTypeError)),
+    parts.end()?;
+    Ok(Attribute {
+        identifier,
+        octets: &here[..here.len() - set.remaining().len()],
+        element: before.remaining(),
+        content: value.bytes,
+        coding,
     })
 }
 
-/// Reads a BMPString without halves of characters, and returns what follows it.
-fn parse_bmpstring<'a>(i: &'a [u8]) -> Result<&'a [u8], Refused<BerError>> {
-    let (rest, object) = parse_der_bmpstring(i)?;
-    if has_half(&object) {
-        return Err(Refused::Error(BerError::StringInvalidCharset));
+/// Checks that a value has one of the types that names have, and returns how its characters are
+/// written.
+fn coding_of(value: &Any<'_>) -> Result<Coding, BerError> {
+    value.header.assert_class(Class::Universal)?;
+    value.header.assert_primitive()?;
+    let octets = value.bytes;
+    match value.tag() {
+        tag @ (Tag::Utf8String | Tag::NumericString | Tag::PrintableString | Tag::Ia5String) => {
+            read_text(tag, octets)?;
+            Ok(Coding::Utf8)
+        }
+        Tag::BitString => {
+            read_bits(Rules::Der, octets)?;
+            Ok(Coding::NoText)
+        }
+        Tag::T61String => Ok(Coding::Latin1),
+        Tag::UniversalString if octets.len() % 4 == 0 => Ok(Coding::Universal),
+        Tag::BmpString if octets.len() % 2 == 0 && !has_half(octets) => Ok(Coding::Bmp),
+        Tag::UniversalString | Tag::BmpString => Err(BerError::StringInvalidCharset),
+        _ => Err(BerError::BerTypeError),
     }
-    Ok(rest)
 }
 
-/// Whether a BMPString has half of a character.
-fn has_half(object: &BerObject<'_>) -> bool {
-    object
-        .as_slice()
-        .is_ok_and(|octets| octets.chunks_exact(2).any(is_half))
+/// Whether a BMPString has half of a character of UTF-16.
+fn has_half(octets: &[u8]) -> bool {
+    octets.chunks_exact(2).any(is_half)
 }
 
-/// Whether two octets are half of a character of UTF-16.
 fn is_half(unit: &[u8]) -> bool {
     matches!(unit, [0xd8..=0xdf, _])
 }

@@ -1,7 +1,6 @@
 //! The text of a name by RFC 2253, as openssl writes it: all of it is printable ASCII.
 use crate::attribute_types::short_name;
 use crate::name::{Attribute, Coding, Name};
-use der_parser::ber::Any;
 use std::fmt;
 
 /// The relative names, the last one first, with a comma between them.
@@ -36,21 +35,14 @@ fn write_relative_name<W: fmt::Write>(
 /// written in hexadecimal.
 impl fmt::Display for Attribute<'_> {
     fn fmt<W: fmt::Write>(&self, f: &mut fmt::Formatter<W>) -> fmt::Result {
-        let Ok((_, parts)) = self.parts() else {
-            return Err(fmt::Error);
-        };
-        let Some(name) = short_name(&parts.oid) else {
-            write!(f, "{}", parts.oid)?;
-            return write_hex(f, parts.value);
+        let Some(name) = short_name(&self.identifier) else {
+            write!(f, "{}", self.identifier)?;
+            return write_hex(f, self.element);
         };
         f.write_str(name)?;
-        match Any::from_der(parts.value) {
-            Ok((_, any)) if parts.coding != Coding::NoText => write_text(
-                f,
-                parts.coding,
-                any.bytes,
-            ),
-            _ => write_hex(f, parts.value),
+        match self.coding {
+            Coding::NoText => write_hex(f, self.element),
+            coding => write_text(f, coding, self.content),
         }
     }
 }

@@ -5,7 +5,7 @@ use der_parser::cursor::{Cursor, FieldRefusal, Named, Refusal};
 use der_parser::error::BerError;
 use der_parser::oid::Oid;
 use der_parser::values::BitString;
-use names_reader::{Name, parse_name};
+use names_reader::{Name, read_name};
 use std::alloc::Global;
 
 /// The fields of a certificate. Texts and octets are slices of the input.
@@ -82,11 +82,6 @@ fn read_version(fields: &mut Cursor<'_>) -> Result<u32, Refusal<BerError>> {
     }
     inside.end()?;
     Ok(number + 1)
-}
-
-fn read_name<'a>(alloc: Global, fields: &mut Cursor<'a>) -> Result<Name<'a>, Refusal<BerError>> {
-    fields.assert_universal()?;
-    fields.read_in(alloc, parse_name)
 }
 
 /// Reads the times from which and until which the certificate is valid (4.1.2.5).

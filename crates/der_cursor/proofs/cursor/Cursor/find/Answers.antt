@@ -1,7 +1,14 @@
-use Rattle.std.proofs.Common.{refl}
-use Rattle.der_cursor.proofs.CursorLaws.{refused_inside}
+use Rattle.std.proofs.Common.{sym, subst}
+use Rattle.der_cursor.specs.Cursors.{octets_left, rules_of}
+use Rattle.der_cursor.specs.Elements.{MarkerFollows}
+use Rattle.der_cursor.proofs.ShortElements.{short_spells, short_marker}
 use Rattle.der_cursor.proofs.cursor.Cursor.find.Goals as goal
 
-pub returns-in-Err : goal.returns-in-Err
-returns-in-Err c =
-    rw c.refused.ensures (refused_inside _ _ _ c.args.self.now c.in-Err.reason c.refuse_cut_item.result c.if-self.true c.in-Err.ensures.exactly.found c.refuse_cut_item.ensures, refl)
+pub returns-in-Some : goal.returns-in-Some
+returns-in-Some c =
+    let i = octets_left c.args.self.now in
+    let r = rules_of c.args.self.now in
+    let found = c.in-Some.found in
+    let (none, short) = c.in-Some.ensures in
+    ((short_spells c.args.class c.args.constructed c.args.tag.0 i found.content.now found.rest.now short r,
+    subst (λ m. MarkerFollows r i m) (sym none) (short_marker c.args.class c.args.constructed c.args.tag.0 i found.content.now found.rest.now short r)), tt)

@@ -2,7 +2,6 @@ use Rattle.std.proofs.Common.{refl, ap, ◌∙◌}
 use Rattle.std.specs.Prelude.{◌-◌}
 use Rattle.der_base.proofs.Answers.Exactness.{exactly}
 use Rattle.der_cursor.specs.Cursors.{octets_left, rules_of, place_of, contents}
-use Rattle.der_cursor.specs.Elements.{marker_size}
 use Rattle.der_cursor.proofs.CursorLaws.{not_opened, shows_one_at}
 use Rattle.der_cursor.proofs.ElementLaws.{element_shows_one}
 use Rattle.der_cursor.proofs.cursor.Cursor.open.Goals as goal
@@ -14,8 +13,7 @@ pub returns : goal.returns
 returns c =
     let old = c.args.self.now in
     let found = c.in-Ok.ensures.0 in
-    let end = c.saturating_sub-end.ensures ∙ ap (λ n. n - c.marker_size.result) c.offset.ensures
-    ∙ ap (λ m. place_of c.advance.new.self - m) (c.marker_size.ensures ∙ ap marker_size c.length.ensures) in
+    let end = c.saturating_sub-end.ensures ∙ ap (λ n. n - c.in-Ok.found.marker) c.offset.ensures in
     rw c.advance.ensures (record {
       element = exactly _ (shows_one_at old (element_shows_one (rules_of old) c.args.class c.args.constructed c.args.tag.0 (octets_left old) contents)) (λ n l m. m) found.0;
       places = (refl, (_, found.1, (rw c.advance.ensures at end)), refl, refl, refl);
