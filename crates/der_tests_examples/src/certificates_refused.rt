@@ -1,7 +1,7 @@
 //! Certificates that are refused, and where: a certificate that is read, with one octet changed.
 //! Offsets are counted in the table of octets below.
 use der_parser::der::{Class, Tag};
-use der_parser::error::Err::{Error, Failure, Incomplete};
+use der_parser::error::Err::{Error, Incomplete};
 use der_parser::error::{BerError, DerConstraint, Err as Refused, ErrorKind, Needed};
 use std::alloc::Global;
 use std::test::Fail;
@@ -31,8 +31,8 @@ const REFUSED: &[(&str, usize, usize, u8, usize, Refused<BerError>)] = &[
     ("an octet left over", 96, 95, 0x00, 95, Error(BerError::NomError(ErrorKind::Eof))),
     ("version 4", 95, 8, 0x03, 6, Error(BerError::BerValueError)),
     ("an identifier without arcs", 95, 15, 0x00, 14, Error(BerError::BerValueError)),
-    ("an attribute before a lesser one", 95, 27, 0x0b, 17,
-        Failure(BerError::DerConstraintFailed(DerConstraint::SetOfOrder))),
+    ("an attribute before a lesser one", 95, 27, 0x0b, 19,
+        Error(BerError::DerConstraintFailed(DerConstraint::SetOfOrder))),
     ("a text as the first time", 95, 43, 0x16, 43,
         Error(BerError::UnexpectedTag { expected: Some(Tag::UtcTime), actual: Tag::Ia5String })),
     ("a serial number under the tag [2]", 95, 9, 0x82, 9,
@@ -79,7 +79,7 @@ const TEXTS: &[(&str, usize, usize, u8, &str)] = &[
     ("octets after the version", 95, 5, 0x04, "tbsCertificate.version at 9: octets left over or missing"),
     ("version 4", 95, 8, 0x03, "tbsCertificate.version at 6: wrong value"),
     ("an issuer longer than the signed fields", 95, 18, 0x45,
-        "tbsCertificate.issuer at 17: octets left over or missing"),
+        "tbsCertificate.issuer at 17: an element runs past the end of its list, needs 2"),
     ("a subject of another type", 95, 73, 0x31,
         "tbsCertificate.subject at 73: unexpected tag (expected Sequence, actual Set)"),
 ];
