@@ -152,7 +152,7 @@ impl<'a> Cursor<'a> {
         self.text(Tag::GeneralString)
     }
 
-    /// The time of a UTCTime (8.26, 11.8), of a year from 1950 to 2049, as `read_time`.
+    /// The time of a UTCTime (8.25, 11.8), of a year from 1950 to 2049, as `read_time`.
     pub fn utc_time(&mut self) -> Result<ASN1DateTime, Refusal<BerError>>
         ensures { ReadsValue (λ v. v) (times self.old.rules 23) 23 self.old result self.new }
     {

@@ -60,7 +60,7 @@ const VALUES: &[Row] = &[
     (Printable, Der, b"\x13\x01@", "at 0: invalid character in string"),
     (Ia5, Ber, b"\x16\x03a@b", "a@b"),
     (General, Ber, b"\x1b\x01a", "a"),
-    // 8.25, 8.26, 11.7, 11.8, and the years of RFC 5280 4.1.2.5.1
+    // 8.25, 11.7, 11.8, and the years of RFC 5280 4.1.2.5.1
     (UtcTime, Der, b"\x17\x0d500101000000Z", "19500101000000Z"),
     (UtcTime, Der, b"\x17\x0d491231235959Z", "20491231235959Z"),
     (UtcTime, Der, b"\x17\x0b4912312359Z", "at 0: DER constraint failed: missing seconds"),

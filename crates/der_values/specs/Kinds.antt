@@ -89,7 +89,7 @@ texts t = record { tests = ber_tests false t; means = λ w v. v ≡ w }
 abbrev pub with_whole_year : ℕ → ASN1DateTime → ASN1DateTime
 with_whole_year t x = record x { year = if t == 23 then rfc5280_year x.year else x.year }
 
--- the time of a UTCTime or a GeneralizedTime (8.25, 8.26; by DER 11.7, 11.8)
+-- the time of a UTCTime or a GeneralizedTime (8.25; by DER 11.7, 11.8)
 abbrev pub times : Rules → ℕ → Kind ASN1DateTime
 times r t = record {
   tests = leaf_tests r t;

@@ -9,7 +9,7 @@ use der_base::header::Tag;
 use der_base::rules::Rules;
 use der_base::time::{self, ASN1DateTime, read_der_time};
 
-/// The time of a UTCTime or a GeneralizedTime (X.690 8.25, 8.26). The year of a UTCTime is from 1950 to
+/// The time of a UTCTime or a GeneralizedTime (X.690 8.25). The year of a UTCTime is from 1950 to
 /// 2049 (RFC 5280 4.1.2.5.1).
 ///
 /// By BER InvalidDateTime for another text. By DER the constraint MissingTimeZone for one that does not
