@@ -1,3 +1,6 @@
+mod DecimalDigits
+mod OctetNumbers
 mod PaddedArcs
+mod Subidentifiers
 mod TimeTests
 mod UnusedBits

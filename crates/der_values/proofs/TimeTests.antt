@@ -1,15 +1,15 @@
 -- A time of which no test holds.
-use Rattle.std.proofs.Common.{◌≡◌, ℕ, ◌⊎◌, Bool, true, false, List, Some, refl, sym, ◌∙◌, inl, inr, subst}
+use Rattle.std.proofs.Common.{◌≡◌, ℕ, List, refl, sym, inl, inr, subst}
 use Rattle.std.proofs.lemmas.Bool.{false≢true}
 use Rattle.der_base.specs.declared.rules.Rules.TheVariants.{Ber, Der}
 use Rattle.der_base.specs.declared.time.ASN1DateTime.{ASN1DateTime}
 use Rattle.der_base.specs.Encoding.{content_octets}
-use Rattle.der_base.specs.Leaf.{is_time, IsDerLeaf}
+use Rattle.der_base.specs.Leaf.{IsDerLeaf}
 use Rattle.der_base.specs.LeafRefusal.{NoneHolds}
 use Rattle.der_base.specs.Time.{IsTimeText, time_text}
 use Rattle.der_base.specs.Tree.{time}
 use Rattle.der_base.proofs.Times.DerTimes.{time_passes}
-use Rattle.der_values.specs.Kinds.{leaf_tests, with_whole_year, times}
+use Rattle.der_values.specs.Kinds.{leaf_tests}
 
 -- by BER
 pub ber_time : (t : ℕ) (w : List ℕ) (x : ASN1DateTime) → IsTimeText t w x → NoneHolds (leaf_tests Ber t w)

@@ -1,8 +1,9 @@
 -- The kinds of value that primitive elements have: the tests that their content octets pass, and what they mean.
 use Rattle.std.specs.Prelude.{◌≡◌, ℕ, ◌-◌, ◌/◌, ◌%◌, ◌^◌, ◌⊎◌, ◌==◌, if◌then◌else◌, Bool, true, false, not, ℤ, pos}
-use Rattle.std.specs.Prelude.{None, List, [], ◌∷◌, ◌++◌, get_or, Result, Ok, Err}
+use Rattle.std.specs.Prelude.{Option, None, List, [], ◌∷◌, ◌++◌, get_or, Result, Ok, Err}
 use Rattle.std.specs.List.{list_all}
 use Rattle.der_base.specs.declared.error.Error.{Error as BerError}
+use Rattle.der_base.specs.declared.oid.Oid.{Oid}
 use Rattle.der_base.specs.declared.rules.Rules.{Rules}
 use Rattle.der_base.specs.declared.rules.Rules.TheVariants.{Ber, Der}
 use Rattle.der_base.specs.declared.time.ASN1DateTime.{ASN1DateTime}
@@ -11,6 +12,7 @@ use Rattle.der_base.specs.Leaf.{IsLeafContent}
 use Rattle.der_base.specs.LeafRefusal.{Test, refuse, IsFirstRefusal, NoneHolds, ber_tests, der_primitive_tests}
 use Rattle.der_base.specs.Numbers.{NumberType, number_tests}
 use Rattle.der_base.specs.Octets.{integer_value}
+use Rattle.der_base.specs.Oids.{is_relative_of, octets_of}
 use Rattle.der_base.specs.Refusal.{refusal, wrong_value}
 use Rattle.der_base.specs.Time.{IsTimeText, rfc5280_year}
 use Rattle.der_base.specs.Tree.{boolean, integer}
@@ -73,6 +75,10 @@ is_unpadded (b ∷ s) = not (b == 128)
 -- a subidentifier begins with an octet of 128 (8.19.2)
 abbrev pub HasPaddedArc : List ℕ → Type 0
 HasPaddedArc w = list_all is_unpadded (subidentifiers w) ≡ false
+
+-- the arcs of an OBJECT IDENTIFIER, which a RELATIVE-OID isn't
+abbrev pub absolute_arcs : Oid → Option (List ℕ)
+absolute_arcs x = if is_relative_of x then None else arcs false (octets_of x)
 
 -- the octets of an OBJECT IDENTIFIER (8.19)
 abbrev pub identifiers : Kind (List ℕ)

@@ -1,7 +1,8 @@
-//! Values of content octets, by BER and by DER. None of these calls allocates.
+//! Values of content octets, by BER and by DER. None of these calls but `to_decimal` allocates.
 #![tactic(auto)]
 
 mod bits;
+mod decimal;
 mod numbers;
 mod oid;
 mod simple;
@@ -9,8 +10,9 @@ mod texts;
 mod times;
 
 pub use bits::{BitString, read_bits};
+pub use decimal::to_decimal;
 pub use numbers::{read_enumerated, read_i32, read_i64, read_integer, read_u32, read_u64};
-pub use oid::{has_padded_arc, read_oid};
+pub use oid::{HasArcs, has_padded_arc, read_oid};
 pub use simple::{read_bool, read_null};
 pub use texts::read_text;
 pub use times::read_time;

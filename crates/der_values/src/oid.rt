@@ -1,7 +1,9 @@
 //! OBJECT IDENTIFIER.
-ghost use Rattle.std.specs.Prelude.{◌↔◌, IsTrue};
+ghost use Rattle.std.specs.Prelude.{◌≡◌, ◌↔◌, ◌⊎◌, [], ◌∷◌, IsTrue, MatchOption, None, Some, false, true};
+ghost use Rattle.std.specs.Option.{option_map};
+ghost use Rattle.der_base.specs.Arcs.{arcs, first_arcs};
 ghost use Rattle.der_base.specs.Oids.{octets_of};
-ghost use Rattle.der_values.specs.Kinds.{Decodes, HasPaddedArc, identifiers};
+ghost use Rattle.der_values.specs.Kinds.{Decodes, HasPaddedArc, absolute_arcs, identifiers};
 
 use der_base::error::BerError;
 use der_base::oid::Oid;
@@ -32,4 +34,94 @@ pub fn has_padded_arc(octets: &[u8]) -> bool
         begins = *octet < 0x80;
     }
     false
+}
+
+/// Comparison with arcs that are known when the program is written.
+///
+/// ```
+/// const KEY_USAGE: &[u64] = &[2, 5, 29, 15];
+///
+/// let is_key_usage = fields.oid()?.is(KEY_USAGE);
+/// ```
+pub trait HasArcs {
+    ghost use Rattle.std.specs.Prelude.{ℕ, List, Option};
+
+    ghost own_arcs: { Self → Option (List ℕ) };
+
+    /// Whether it is the OBJECT IDENTIFIER with these arcs, which are those that `Oid::iter` returns. A
+    /// RELATIVE-OID is none. Allocates nothing, and stops at the first arc that differs.
+    ///
+    /// A padded arc (X.690 8.19.2) is the number that it spells, so `06 04 55 80 1d 0f` has the arcs of
+    /// `06 03 55 1d 0f`. `read_oid` refuses it.
+    fn is(&self, arcs: &[u64]) -> bool
+        ensures { IsTrue result ↔ (own_arcs self.now ≡ Some arcs.now) };
+}
+
+impl HasArcs for Oid<'_> {
+    ghost own_arcs = { absolute_arcs };
+
+    fn is(&self, arcs: &[u64]) -> bool {
+        !self.is_relative() && have_arcs(self.as_bytes(), arcs)
+    }
+}
+
+/// Whether the octets of an OBJECT IDENTIFIER have these arcs.
+fn have_arcs(octets: &[u8], wanted: &[u64]) -> bool
+    ensures { IsTrue result ↔ (arcs false octets.now ≡ Some wanted.now) }
+{
+    let [first, second, further @ ..] = wanted else {
+        return wanted.is_empty() && octets.is_empty();
+    };
+    let Some((number, rest)) = split_subidentifier(octets) else {
+        return false;
+    };
+    let (own_first, own_second) = first_arcs(number);
+    own_first == *first && own_second == *second && have_further_arcs(rest, further)
+}
+
+/// Whether the octets are the subidentifiers of these arcs, each of its own (8.20).
+fn have_further_arcs(octets: &[u8], wanted: &[u64]) -> bool
+    ensures { IsTrue result ↔ (arcs true octets.now ≡ Some wanted.now) }
+{
+    let mut left = octets;
+    for arc in wanted {
+        let Some((number, rest)) = split_subidentifier(left) else {
+            return false;
+        };
+        if number != *arc {
+            return false;
+        }
+        left = rest;
+    }
+    left.is_empty()
+}
+
+/// The two arcs that the first subidentifier holds (8.19.4).
+fn first_arcs(number: u64) -> (u64, u64)
+    ensures { first_arcs number ≡ result.0 ∷ result.1 ∷ [] }
+{
+    let first = (number / 40).min(2);
+    (first, number - 40 * first)
+}
+
+/// The greatest number of octets in a subidentifier of 64 bits, as `Oid::iter` has it.
+const MOST_OCTETS: usize = 9;
+
+/// The number in the first subidentifier, and the octets after it. None if the octets don't begin with
+/// one, or it has more than nine octets.
+fn split_subidentifier(octets: &[u8]) -> Option<(u64, &[u8])>
+    ensures { MatchOption result ((octets.now ≡ []) ⊎ (arcs true octets.now ≡ None))
+        (λ x. arcs true octets.now ≡ option_map (λ further. x.0 ∷ further) (arcs true x.1.now)) }
+{
+    let mut number: u64 = 0;
+    for (index, octet) in octets.iter().enumerate() {
+        if index == MOST_OCTETS {
+            return None;
+        }
+        number = number * 128 + u64::from(*octet % 128);
+        if *octet < 128 {
+            return Some((number, &octets[index + 1..]));
+        }
+    }
+    None
 }
