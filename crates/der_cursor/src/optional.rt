@@ -7,7 +7,8 @@ ghost use Rattle.der_base.specs.Oids.{octets_of};
 ghost use Rattle.der_cursor.specs.Cursors.{octets_left, number_wanted, IsNextType, ReadsAnyAt, ReadsOptional, ReadsOr};
 ghost use Rattle.der_cursor.specs.Cursors.{ReadsTime};
 ghost use Rattle.der_cursor.specs.Elements.{IsNext};
-ghost use Rattle.der_values.specs.Kinds.{bit_strings, booleans, identifiers, integers, numbers, octet_strings, times};
+ghost use Rattle.der_values.specs.Kinds.{bit_strings, booleans, identifiers, integers, numbers, octet_strings};
+ghost use Rattle.der_values.specs.Kinds.{texts, times};
 
 use crate::cursor::{Cursor, class_of, read_any};
 use crate::refusal::Refusal;
@@ -85,6 +86,21 @@ impl<'a> Cursor<'a> {
         }
     }
 
+    /// The number of an INTEGER from 0 to 2^64-1, if it is next.
+    pub fn optional_u64(&mut self) -> Result<Option<u64>, Refusal<BerError>>
+        requires { number_wanted self.old.implicit 2 < 31 }
+        ensures { ReadsOptional pos (numbers self.old.rules (unsigned 64)) 2 self.old result self.new }
+    {
+        if !self.is_next_type(Tag::Integer) {
+            self.advance(self.left);
+            return Ok(None);
+        }
+        match self.u64() {
+            Ok(value) => Ok(Some(value)),
+            Err(e) => Err(e),
+        }
+    }
+
     /// The octets of an OCTET STRING, if it is next.
     pub fn optional_octets(&mut self) -> Result<Option<&'a [u8]>, Refusal<BerError>>
         requires { number_wanted self.old.implicit 4 < 31 }
@@ -131,6 +147,21 @@ impl<'a> Cursor<'a> {
         }
     }
 
+    /// The text of a UTF8String, if it is next.
+    pub fn optional_utf8_string(&mut self) -> Result<Option<&'a str>, Refusal<BerError>>
+        requires { number_wanted self.old.implicit 12 < 31 }
+        ensures { ReadsOptional (λ v. v.now) (texts 12) 12 self.old result self.new }
+    {
+        if !self.is_next_type(Tag::Utf8String) {
+            self.advance(self.left);
+            return Ok(None);
+        }
+        match self.utf8_string() {
+            Ok(value) => Ok(Some(value)),
+            Err(e) => Err(e),
+        }
+    }
+
     /// The time of a GeneralizedTime, if it is next.
     pub fn optional_generalized_time(&mut self) -> Result<Option<ASN1DateTime>, Refusal<BerError>>
         requires { number_wanted self.old.implicit 24 < 31 }
@@ -166,6 +197,28 @@ impl<'a> Cursor<'a> {
             return Err(before.refused(Refused::Error(BerError::BerValueError)));
         }
         Ok(value)
+    }
+
+    /// The number of an INTEGER from 0 to 2^32-1 with a default, as `boolean_or`: `version INTEGER DEFAULT
+    /// 0` is `u32_or(0)`.
+    pub fn u32_or(&mut self, default: u32) -> Result<u32, Refusal<BerError>>
+        requires { number_wanted self.old.implicit 2 < 31 }
+        ensures { ReadsOr pos (numbers self.old.rules (unsigned 32)) 2 default self.old result self.new }
+    {
+        if !self.is_next_type(Tag::Integer) {
+            self.advance(self.left);
+            return Ok(default);
+        }
+        let before = *self;
+        let number = match self.u32() {
+            Ok(number) => number,
+            Err(e) => return Err(e),
+        };
+        if number == default && before.rules == Rules::Der {
+            *self = before;
+            return Err(before.refused(Refused::Error(BerError::BerValueError)));
+        }
+        Ok(number)
     }
 
     /// The time of a UTCTime or a GeneralizedTime, as `Time` of RFC 5280 (4.1): the one that is next.
