@@ -4,6 +4,8 @@
 #[cfg(test)]
 mod calls;
 #[cfg(test)]
+mod content_rows;
+#[cfg(test)]
 mod optional_rows;
 #[cfg(test)]
 mod places;

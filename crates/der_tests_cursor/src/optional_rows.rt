@@ -1,7 +1,7 @@
 //! Values that may be absent, and implicit tags.
 use der_base::header::{Class, Tag};
 use der_base::rules::Rules;
-use der_cursor::Cursor;
+use der_cursor::{Cursor, Refusal};
 use std::test::Fail;
 
 #[test]
@@ -27,6 +27,17 @@ fn optional_values_are_read_or_absent(rt: HostRuntime) -> Result<(), Fail> {
 }
 
 #[test]
+fn optional_numbers_and_texts(rt: HostRuntime) -> Result<(), Fail> {
+    let mut cursor = Cursor::new(b"\x02\x05\x01\x00\x00\x00\x00\x0c\x01a");
+    assert!(rt; cursor.optional_utf8_string()?.is_none());
+    assert!(rt; cursor.optional_u64()? == Some(1 << 32));
+    assert!(rt; cursor.optional_u64()?.is_none());
+    assert!(rt; cursor.optional_utf8_string()? == Some("a"));
+    cursor.end()?;
+    Ok(())
+}
+
+#[test]
 fn implicit_tags_are_for_one_element(rt: HostRuntime) -> Result<(), Fail> {
     let mut cursor = Cursor::new(b"\x80\x01\x05\x02\x01\x06\xa1\x03\x02\x01\x07");
     assert!(rt; cursor.is_next(Class::ContextSpecific, Tag(0)));
@@ -47,5 +58,20 @@ fn der_encodes_no_default(rt: HostRuntime) -> Result<(), Fail> {
     assert!(rt; Cursor::new(encoded).boolean_or(true)? == false);
     assert!(rt; Cursor::by(Rules::Ber, encoded).boolean_or(false)? == false);
     assert!(rt; Cursor::new(b"\x02\x01\x00").boolean_or(false)? == false);
+    Ok(())
+}
+
+/// `version INTEGER DEFAULT 0`.
+#[test]
+fn a_version_has_a_default(rt: HostRuntime) -> Result<(), Fail> {
+    let mut encoded = Cursor::new(b"\x02\x01\x02\x05\x00");
+    assert!(rt; encoded.u32_or(0)? == 2);
+    assert!(rt; encoded.u32_or(0)? == 0);
+    encoded.null()?;
+    let mut default = Cursor::new(b"\x02\x01\x00");
+    assert!(rt; matches!(default.u32_or(0), Err(Refusal { offset: 0, .. })));
+    assert!(rt; default.u32()? == 0);
+    assert!(rt; Cursor::by(Rules::Ber, b"\x02\x01\x00").u32_or(0)? == 0);
+    assert!(rt; Cursor::new(b"\x02\x01\xff").u32_or(0).is_err());
     Ok(())
 }
