@@ -99,7 +99,7 @@ pub mod cursor {
 /// Values of content octets, by BER and by DER.
 pub mod values {
     pub use der_values::{
-        BitString, HasArcs, read_bits, read_bool, read_enumerated, read_i32, read_i64,
+        BitString, HasArcs, known_oid, read_bits, read_bool, read_enumerated, read_i32, read_i64,
         read_integer, read_null, read_oid, read_text, read_time, read_u32, read_u64, to_decimal,
     };
 }

@@ -1,6 +1,6 @@
 //! Content octets: the arcs of an OBJECT IDENTIFIER, and the decimal text of an INTEGER.
 use der_base::oid::Oid;
-use der_values::{HasArcs, to_decimal};
+use der_values::{HasArcs, known_oid, to_decimal};
 use std::borrow::CowSlice;
 use std::test::Fail;
 
@@ -33,6 +33,16 @@ fn identifiers_have_arcs(rt: HostRuntime) {
         assert!(rt; oid.is(arcs) == *expected, "{}", octets.escape_ascii());
     }
     assert!(rt; !Oid::new_relative(CowSlice::Borrowed(b"\x02\x05")).is(&[2, 5]));
+}
+
+const KEY_USAGE: &[u64] = &[2, 5, 29, 15];
+
+#[test]
+fn a_known_identifier_is_the_one_of_its_arcs(rt: HostRuntime) -> Result<(), Fail> {
+    let known = known_oid(KEY_USAGE, b"\x55\x1d\x0f");
+    assert!(rt; known == Oid::from(rt.alloc(), KEY_USAGE)?);
+    assert!(rt; known.is(KEY_USAGE));
+    Ok(())
 }
 
 /// The octets of an INTEGER, and its text, as Python has it.

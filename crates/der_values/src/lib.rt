@@ -12,7 +12,7 @@ mod times;
 pub use bits::{BitString, read_bits};
 pub use decimal::to_decimal;
 pub use numbers::{read_enumerated, read_i32, read_i64, read_integer, read_u32, read_u64};
-pub use oid::{HasArcs, has_padded_arc, read_oid};
+pub use oid::{HasArcs, has_padded_arc, known_oid, read_oid};
 pub use simple::{read_bool, read_null};
 pub use texts::read_text;
 pub use times::read_time;

@@ -1,8 +1,9 @@
 //! OBJECT IDENTIFIER.
-ghost use Rattle.std.specs.Prelude.{◌≡◌, ◌↔◌, ◌⊎◌, [], ◌∷◌, IsTrue, MatchOption, None, Some, false, true};
+ghost use Rattle.std.specs.Prelude.{◌≡◌, ◌↔◌, ◌⊎◌, [], ◌∷◌, IsTrue, MatchOption, None, Ok, Some, false, true};
 ghost use Rattle.std.specs.Option.{option_map};
 ghost use Rattle.der_base.specs.Arcs.{arcs, first_arcs};
-ghost use Rattle.der_base.specs.Oids.{octets_of};
+ghost use Rattle.der_base.specs.OidArcs.{octets_of_arcs};
+ghost use Rattle.der_base.specs.Oids.{IsBorrowed, is_relative_of, octets_of};
 ghost use Rattle.der_values.specs.Kinds.{Decodes, HasPaddedArc, absolute_arcs, identifiers};
 
 use der_base::error::BerError;
@@ -19,6 +20,21 @@ pub fn read_oid(octets: &[u8]) -> Result<Oid<'_>, BerError>
         return Err(BerError::BerValueError);
     }
     Ok(oid)
+}
+
+/// The OBJECT IDENTIFIER with these arcs, which has these content octets (8.19.2). A caller proves that,
+/// and for constants the check computes it. Nothing is compared or allocated when the program runs.
+///
+/// ```
+/// let key_usage = known_oid(&[2, 5, 29, 15], b"\x55\x1d\x0f");
+/// ```
+pub fn known_oid<'a>(_arcs: &[u64], octets: &'a [u8]) -> Oid<'a>
+    requires { octets_of_arcs false _arcs.now ≡ Ok octets.now }
+    ensures octets { octets_of result ≡ octets.now }
+    ensures absolute { is_relative_of result ≡ false }
+    ensures borrowed { IsBorrowed result }
+{
+    Oid::new(CowSlice::Borrowed(octets))
 }
 
 /// Whether an arc begins with an octet of 0x80 (X.690 8.19.2), as no OBJECT IDENTIFIER and no RELATIVE-OID
