@@ -1,11 +1,14 @@
 pub mod AnyLaws
 pub mod CursorLaws
 pub mod ElementLaws
+pub mod FormatLaws
 pub mod KindLaws
+pub mod Lists
 pub mod Markers
 pub mod NamedLaws
 pub mod NextLaws
 pub mod PlaceLaws
+pub mod Sequences
 pub mod ShortElements
 pub mod TagLaws
 pub mod ValueLaws

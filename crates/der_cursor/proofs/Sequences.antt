@@ -1,0 +1,179 @@
+-- Fields one after another: what is left to be read of a content, and how its reader ends.
+use Rattle.std.proofs.Common.{◌≡◌, ◌≢◌, ℕ, ◌<◌, ◌≤◌, Bool, List, [], ◌∷◌, ◌++◌, length, map, Option, Some, None, Result, Ok, Err, Bor, refl, sym, ap, subst, ◌∙◌, arith, append_assoc}
+use Rattle.std.specs.Prelude.{IfOk, MatchResult}
+use Rattle.std.specs.Result.{IsErrAnd}
+use Rattle.std.proofs.lemmas.Result.{err_from_is_err_and}
+use Rattle.der_base.specs.declared.error.Error.{Error as BerError}
+use Rattle.der_base.specs.declared.rules.Rules.{Rules}
+use Rattle.der_base.specs.declared.header.Class.TheVariants.{Universal}
+use Rattle.der_cursor.specs.declared.cursor.Cursor.{Cursor}
+use Rattle.der_cursor.specs.declared.named.FieldRefusal.{FieldRefusal}
+use Rattle.der_cursor.specs.declared.refusal.Refusal.{Refusal}
+use Rattle.der_cursor.specs.Cursors.{octets_left, rules_of, advanced, StartsAt, EndsAt, OpensType}
+use Rattle.der_cursor.specs.Named.{NamesRefusal, NamesMore}
+use Rattle.der_cursor.proofs.FormatLaws.{inside, unopened}
+use Rattle.der_cursor.specs.Formats.{Content, Field, Format, Required, Only, ◌⨾◌, End, Each, Never, NoMemory, NoMemoryIn, ReadsWhole, ReadsNext, ReadsField, ReadsContent}
+
+-- An error is passed on as another, which leaves no more open.
+pub record Passes {T E F : Type 0} (May : E → Type 0) (May' : F → Type 0) (r : Result T E) (s : Result T F) : Type 0 where
+  pub passed : MatchResult r (λ x. s ≡ Ok x) (λ e. (f : F) × (s ≡ Err f) × (May e → May' f))
+
+field_passes : {T V E F : Type 0} {G : Field V} {view : T → V} {May : E → Type 0} {May' : F → Type 0} {old new : Cursor} (r : Result T E) (s : Result T F)
+    → Passes May May' r s → ReadsNext G view May old r new → ReadsNext G view May' old s new
+field_passes (Ok x) s p h = rw p.passed (record { found = h.found; only = h.only })
+field_passes (Err e) s p h = rw p.passed.1 (record { found = tt; only = λ v rest z. p.passed.2 (h.only v rest z) })
+
+whole_passes : {T V E F : Type 0} {IsSo : V → Type 0} {view : T → V} {May : E → Type 0} {May' : F → Type 0} (r : Result T E) (s : Result T F)
+    → Passes May May' r s → ReadsWhole IsSo view May r → ReadsWhole IsSo view May' s
+whole_passes (Ok x) s p h = rw p.passed (record { found = h.found; only = h.only })
+whole_passes (Err e) s p h = rw p.passed.1 (record { found = tt; only = λ v z. p.passed.2 (h.only v z) })
+
+-- A refusal is given a name, or one name more.
+module _ {T : Type 0} {May : Refusal BerError → Type 0} {May' : FieldRefusal → Type 0} (more : (e : Refusal BerError) (f : FieldRefusal) → f.refusal ≡ e → May e → May' f) where
+  name_passes : (name : Bor (List ℕ)) (r : Result T (Refusal BerError)) (s : Result T FieldRefusal) → NamesRefusal r name s → Passes May May' r s
+  name_passes name (Ok x) s h = record { passed = h }
+  name_passes name (Err e) s h = let q = err_from_is_err_and s h in record { passed = (q.0, q.1, more e q.0 q.2.0) }
+
+module _ {T : Type 0} {May May' : FieldRefusal → Type 0} (more : (e f : FieldRefusal) → f.refusal ≡ e.refusal → May e → May' f) where
+  more_passes : (name : Bor (List ℕ)) (r s : Result T FieldRefusal) → NamesMore r name s → Passes May May' r s
+  more_passes name (Ok x) s h = record { passed = h }
+  more_passes name (Err e) s h = let q = err_from_is_err_and s h in record { passed = (q.0, q.1, more e q.0 q.2.0) }
+
+memory_named : (e : Refusal BerError) (f : FieldRefusal) → f.refusal ≡ e → NoMemory e → NoMemoryIn f
+memory_named e f q m = ap (λ x. x.reason) q ∙ m
+
+-- a field that was read without memory, and one that may need it
+pub named : (name : Bor (List ℕ)) {T V : Type 0} {F : Field V} {view : T → V} {old new : Cursor} {r : Result T (Refusal BerError)} {s : Result T FieldRefusal}
+    → ReadsField F view Never old r new → NamesRefusal r name s → ReadsField F view Never old s new
+named name {r = r} {s = s} h n fresh = field_passes r s (name_passes (λ e f q m. m) name r s n) (h fresh)
+
+pub named_in : (name : Bor (List ℕ)) {T V : Type 0} {F : Field V} {view : T → V} {old new : Cursor} {r : Result T (Refusal BerError)} {s : Result T FieldRefusal}
+    → ReadsField F view NoMemory old r new → NamesRefusal r name s → ReadsField F view NoMemoryIn old s new
+named_in name {r = r} {s = s} h n fresh = field_passes r s (name_passes memory_named name r s n) (h fresh)
+
+-- The reader has come to the cursor c: P holds of exactly the values that `build` makes of those of the content that is left.
+pub record Remains {V W : Type 0} (P : V → Type 0) (C : Content W) (c : Cursor) (build : W → V) : Type 0 where
+  pub fresh : c.implicit ≡ None
+  pub back : (w : W) → C (rules_of c) (octets_left c) w → P (build w)
+  pub only : (v : V) → P v → (w : W) × C (rules_of c) (octets_left c) w × (v ≡ build w)
+
+-- at the start of a content
+pub start : {V : Type 0} {C : Content V} (c : Cursor) → c.implicit ≡ None → Remains (C (rules_of c) (octets_left c)) C c (λ v. v)
+start c fresh = record { fresh = fresh; back = λ w h. h; only = λ v h. (v, h, refl) }
+
+module _ {V W X T E : Type 0} {P : V → Type 0} {F : Field W} {C : Content X} {c d : Cursor} {build : W × X → V} {view : T → W} {May : E → Type 0} where
+  -- after a field
+  pub after : {x : T} → Remains P (F ⨾ C) c build → ReadsField {E = E} F view May c (Ok x) d → Remains P C d (λ w. build (view x, w))
+  unfolding ◌⨾◌
+  after {x = x} l h =
+      let r = h l.fresh in
+      let same : rules_of d ≡ rules_of c = ap rules_of r.found.1 in record {
+        fresh = ap (λ y. y.implicit) r.found.1;
+        back = λ w z. l.back (view x, w) (octets_left d, r.found.0, subst (λ k. C k (octets_left d) w) same z);
+        only = λ v p.
+            let z = l.only v p in
+            let q = r.only z.0.0 z.1.0 z.1.1 in (
+              z.0.1,
+              subst (λ k. C k (octets_left d) z.0.1) (sym same) (subst (λ w. C (rules_of c) w z.0.1) (sym q.1) z.1.2),
+              z.2 ∙ ap (λ y. build (y, z.0.1)) (sym q.0),
+            );
+      }
+
+-- at a field that is refused
+pub stops : {X : Type 0} (C : Content X) {V W T E Y : Type 0} {P : V → Type 0} {F : Field W} {c d : Cursor} {build : W × X → V} {view : T → W} {May : E → Type 0} {whole : Y → V} {e : E} {result : Result Y E}
+    → Remains P (F ⨾ C) c build → ReadsField F view May c (Err e) d → IsErrAnd result (λ y. y ≡ e) → ReadsWhole P whole May result
+unfolding ◌⨾◌
+stops C {result = result} l h q =
+    let z = err_from_is_err_and result q in
+    rw (z.1, z.2) (record { found = tt; only = λ v p. let y = l.only v p in (h l.fresh).only y.0.0 y.1.0 y.1.1 })
+
+-- the same of a field that takes no memory, in a reader that does
+pub stops_never : {X : Type 0} (C : Content X) {V W T E Y : Type 0} {P : V → Type 0} {F : Field W} {c d : Cursor} {build : W × X → V} {view : T → W} {May : E → Type 0} {whole : Y → V} {e : E} {result : Result Y E}
+    → Remains P (F ⨾ C) c build → ReadsField F view Never c (Err e) d → IsErrAnd result (λ y. y ≡ e) → ReadsWhole P whole May result
+unfolding ◌⨾◌
+stops_never C {result = result} l h q =
+    let z = err_from_is_err_and result q in
+    rw (z.1, z.2) (record { found = tt; only = λ v p. let y = l.only v p in absurd ((h l.fresh).only y.0.0 y.1.0 y.1.1) })
+
+-- what ends a content: `EndsAt`, by the octets that are left and the refusal of these
+abbrev pub EndsBy : List ℕ → Refusal BerError → Result (Unit {0}) (Refusal BerError) → Type 0
+EndsBy w x (Ok u) = w ≡ []
+EndsBy w x (Err e) = (w ≢ []) × (e ≡ x)
+
+abbrev pub Ends : {E : Type 0} → List ℕ → Result (Unit {0}) E → Type 0
+Ends w r = MatchResult r (λ u. w ≡ []) (λ e. w ≢ [])
+
+pub ends_named : (name : Bor (List ℕ)) (w : List ℕ) (x : Refusal BerError) (r : Result (Unit {0}) (Refusal BerError)) (s : Result (Unit {0}) FieldRefusal) → EndsBy w x r → NamesRefusal r name s → Ends w s
+ends_named name w x (Ok u) s h n = rw n h
+ends_named name w x (Err e) s h n = let q = err_from_is_err_and s n in rw q.1 h.0
+
+module _ {V T E : Type 0} {P : V → Type 0} {c : Cursor} {build : Unit {0} → V} {view : T → V} {May : E → Type 0} where
+  -- after the last field
+  pub finish : {x : T} → Remains P End c build → octets_left c ≡ [] → view x ≡ build tt → ReadsWhole {E = E} P view May (Ok x)
+  unfolding End
+  finish l q e = record {
+    found = subst P (sym e) (l.back tt q);
+    only = λ v p. e ∙ sym (l.only v p).2;
+  }
+
+  -- where octets are left
+  pub not_finished : {e : E} → Remains P End c build → octets_left c ≢ [] → ReadsWhole P view May (Err e)
+  unfolding End
+  not_finished l q = record { found = tt; only = λ v p. absurd (q (l.only v p).1) }
+
+-- a whole input that is one field
+of_input : {V : Type 0} (F : Field V) (r : Rules) (i : List ℕ) (c : Cursor) → StartsAt r i c → (v : V) (rest : List ℕ) → F (rules_of c) (octets_left c) v rest → F r i v rest
+of_input F r i c s v rest z = subst (λ k. F k i v rest) s.3 (subst (λ w. F (rules_of c) w v rest) s.0 z)
+
+to_input : {V : Type 0} (F : Field V) (r : Rules) (i : List ℕ) (c : Cursor) → StartsAt r i c → (v : V) (rest : List ℕ) → F r i v rest → F (rules_of c) (octets_left c) v rest
+to_input F r i c s v rest z = subst (λ k. F k (octets_left c) v rest) (sym s.3) (subst (λ w. F r w v rest) (sym s.0) z)
+
+module _ {T V E : Type 0} {F : Field V} {view : T → V} {May : E → Type 0} {r : Rules} {i : List ℕ} {c d : Cursor} where
+  pub input_read : {x : T} → StartsAt r i c → ReadsField {E = E} F view May c (Ok x) d → octets_left d ≡ [] → ReadsWhole (Only F r i) view May (Ok x)
+  unfolding Only
+  input_read {x = x} s h q = let z = h s.4 in record {
+    found = of_input F r i c s (view x) [] (subst (λ rest. F (rules_of c) (octets_left c) (view x) rest) q z.found.0);
+    only = λ v p. (z.only v [] (to_input F r i c s v [] p)).0;
+  }
+
+  pub input_left : (e : E) {Y : Type 0} {whole : Y → V} {x : T} {result : Result Y E} → StartsAt r i c → ReadsField {E = E} F view May c (Ok x) d → octets_left d ≢ [] → IsErrAnd result (λ y. y ≡ e)
+      → ReadsWhole (Only F r i) whole May result
+  unfolding Only
+  input_left e {result = result} s h q n = let y = err_from_is_err_and result n in rw y.1 (record { found = tt; only = λ v p. absurd (q ((h s.4).only v [] (to_input F r i c s v [] p)).1) })
+
+  pub input_stops : {Y : Type 0} {whole : Y → V} {e : E} {result : Result Y E} → StartsAt r i c → ReadsField F view May c (Err e) d → IsErrAnd result (λ y. y ≡ e) → ReadsWhole (Only F r i) whole May result
+  unfolding Only
+  input_stops {result = result} s h n = let y = err_from_is_err_and result n in rw (y.1, y.2) (record { found = tt; only = λ v p. (h s.4).only v [] (to_input F r i c s v [] p) })
+
+-- Elements that are opened, with the name of their field.
+ok_named : {T : Type 0} (name : Bor (List ℕ)) (x : T) (r : Result T (Refusal BerError)) → NamesRefusal r name (Ok x) → r ≡ Ok x
+ok_named {T} name x (Ok y) n = let q : ◌≡◌ {A = Result T FieldRefusal} (Ok x) (Ok y) = n in let e : x ≡ y = cc in ap Ok (sym e)
+ok_named name x (Err e) n = absurd n
+
+err_named : {T : Type 0} (name : Bor (List ℕ)) (f : FieldRefusal) (r : Result T (Refusal BerError)) → NamesRefusal r name (Err f) → (e : Refusal BerError) × (r ≡ Err e)
+err_named {T} name f (Ok y) n = let q : ◌≡◌ {A = Result T FieldRefusal} (Err f) (Ok y) = n in absurd cc
+err_named name f (Err e) n = (e, refl)
+
+pub inside_named : {V : Type 0} (t : ℕ) (C : Content V) (name : Bor (List ℕ)) (inner : Cursor) {T E : Type 0} {view : T → V} {May : E → Type 0} {p : Bool} {old new : Cursor} {r : Result Cursor (Refusal BerError)} {result : Result T E}
+    → OpensType p t old r new → NamesRefusal r name (Ok inner) → ReadsContent C view May inner result
+    → ReadsField (Required (record { class = Universal; number = t; constructed = p; content = C })) view May old result new
+inside_named t C name inner {p = p} {old = old} {new = new} {r = r} o n h = inside t C (subst (λ x. OpensType p t old x new) (ok_named name inner r n) o) h
+
+pub unopened_named : {V : Type 0} (t : ℕ) (C : Content V) (name : Bor (List ℕ)) {T : Type 0} {view : T → V} {May : FieldRefusal → Type 0} {p : Bool} {old new after : Cursor} (f : FieldRefusal)
+    {r : Result Cursor (Refusal BerError)} {result : Result T FieldRefusal} → OpensType p t old r after → NamesRefusal r name (Err f) → IsErrAnd result (λ y. y ≡ f)
+    → ReadsField (Required (record { class = Universal; number = t; constructed = p; content = C })) view May old result new
+unopened_named t C name {p = p} {old = old} {after = after} f {r = r} {result = result} o n q =
+    let e = err_named name f r n in
+    let y = err_from_is_err_and result q in
+    rw y.1 (unopened t C (subst (λ x. OpensType p t old x after) e.1 o))
+
+-- where octets are left after the last field
+pub left_over : {E : Type 0} (e : E) {V T : Type 0} {P : V → Type 0} {c : Cursor} {build : Unit {0} → V} {view : T → V} {May : E → Type 0} {result : Result T E} → Remains P End c build → octets_left c ≢ []
+    → IsErrAnd result (λ y. y ≡ e) → ReadsWhole P view May result
+unfolding End
+left_over e {result = result} l q n = let y = err_from_is_err_and result n in rw y.1 (record { found = tt; only = λ v p. absurd (q (l.only v p).1) })
+
+-- an element that isn't opened, and its refusal is returned
+pub refused_open : {V : Type 0} (t : ℕ) (C : Content V) {T : Type 0} {view : T → V} {May : Refusal BerError → Type 0} {p : Bool} {old new after : Cursor} {e : Refusal BerError} {result : Result T (Refusal BerError)}
+    → OpensType p t old (Err e) after → IsErrAnd result (λ y. y ≡ e) → ReadsField (Required (record { class = Universal; number = t; constructed = p; content = C })) view May old result new
+refused_open t C {result = result} o n = let y = err_from_is_err_and result n in rw y.1 (unopened t C o)
