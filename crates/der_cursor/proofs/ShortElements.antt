@@ -37,7 +37,7 @@ module _ (c : Class) (p : Bool) (t : ℕ) (i w rest : List ℕ) (s : IsShortElem
   pub short_spells : (r : Rules) → SpellsElement r c p t i (w, rest)
   short_spells Ber =
       let octets = begins ∙ sym (append_assoc (identifier c p t) (length w ∷ []) (w ++ rest))
-          ∙ sym (append_assoc (identifier c p t ++ length w ∷ []) w rest) in
+      ∙ sym (append_assoc (identifier c p t ++ length w ∷ []) w rest) in
       (omega (arith, s.0), omega arith, inl (length w ∷ [], (omega (arith, s.1), inl (s.1, refl, refl)), octets))
   short_spells Der = der_header
 

@@ -419,12 +419,7 @@ impl<'a> Cursor<'a> {
 /// Finds an element of this class, constructed bit and tag number with a header of two octets, as most
 /// have (8.1.2.2, 8.1.3.4).
 #[inline(always)]
-fn find_short<'a>(
-    i: &'a [u8],
-    class: Class,
-    constructed: bool,
-    tag: Tag,
-) -> Option<Found<'a>>
+fn find_short<'a>(i: &'a [u8], class: Class, constructed: bool, tag: Tag) -> Option<Found<'a>>
     ensures { IfSome result (λ x. (x.marker ≡ 0)
         × IsShortElement class constructed tag.0 i.now x.content.now x.rest.now) }
 {
@@ -435,7 +430,10 @@ fn find_short<'a>(
         return None;
     };
     let size = usize::from(*size);
-    if *first != identifier_octet(class, constructed, tag) || size >= 128 || size > following.len() {
+    if *first != identifier_octet(class, constructed, tag)
+        || size >= 128
+        || size > following.len()
+    {
         return None;
     }
     let (content, rest) = following.split_at(size);

@@ -23,7 +23,7 @@ length_text None = codes "inf"
 abbrev pub place_text : ℕ → ℕ → Option ℕ → List ℕ
 place_text offset header l =
     at_right 7 (decimal offset) ++ codes " " ++ at_right 2 (decimal header) ++ codes "+" ++ at_left 7 (length_text l)
-        ++ codes " "
+    ++ codes " "
 
 -- two spaces for each element around it
 abbrev pub indentation : ℕ → List ℕ
