@@ -8,6 +8,10 @@ mod certificates_damaged;
 #[cfg(test)]
 mod certificates_refused;
 #[cfg(test)]
+mod keys_damaged;
+#[cfg(test)]
+mod keys_refused;
+#[cfg(test)]
 mod names_damaged;
 #[cfg(test)]
 mod names_read;

@@ -1,0 +1,105 @@
+//! Private keys (RFC 5208 5, RFC 5958 2).
+ghost use Rattle.std.specs.Prelude.{pos};
+ghost use Rattle.std.specs.Option.{option_map};
+ghost use Rattle.der_base.specs.declared.rules.Rules.{Rules};
+ghost use Rattle.der_cursor.specs.Formats.{AnyElement, BitString as BitFormat, IfLeft, Implicit, Never, Only};
+ghost use Rattle.der_cursor.specs.Formats.{Optional, ReadsField, ReadsInput, Required, element_of};
+ghost use Rattle.pkcs8_reader.specs.Keys.{AlgorithmIdentifier, PrivateKeyInfo as KeyFormat, Version};
+ghost use Rattle.pkcs8_reader.specs.Keys.{algorithm_of, bits_of, key_of};
+
+use der_parser::ber::Any;
+use der_parser::cursor::{Cursor, FieldRefusal, Named, Refusal};
+use der_parser::error::BerError;
+use der_parser::oid::Oid;
+use der_parser::values::BitString;
+
+/// The fields of a private key. Octets are slices of the input.
+#[derive(Debug, Drop)]
+pub struct PrivateKeyInfo<'a> {
+    /// 0 for the first version, 1 for the second.
+    pub version: u32,
+    pub algorithm: Algorithm<'a>,
+    /// The key, as its algorithm encodes it.
+    pub private_key: &'a [u8],
+    /// The octets of the attributes, which aren't read.
+    pub attributes: Option<Cursor<'a>>,
+    pub public_key: Option<BitString<'a>>,
+}
+
+/// The algorithm of a key (RFC 5280 4.1.1.2).
+#[derive(Debug, Drop)]
+pub struct Algorithm<'a> {
+    pub identifier: Oid<'a>,
+    /// Any element, as the algorithm has it.
+    pub parameters: Option<Any<'a>>,
+}
+
+/// Reads a private key by DER. Octets left over are refused. The version is 0 or 1.
+pub fn read_private_key(octets: &[u8]) -> Result<PrivateKeyInfo<'_>, FieldRefusal>
+    ensures { ReadsInput Rules.Der (Only (Required KeyFormat)) key_of Never octets.now result }
+{
+    let mut input = Cursor::new(octets);
+    let key = read_fields(&mut input)?;
+    input.end().named("PrivateKeyInfo")?;
+    Ok(key)
+}
+
+fn read_fields<'a>(input: &mut Cursor<'a>) -> Result<PrivateKeyInfo<'a>, FieldRefusal>
+    ensures { ReadsField (Required KeyFormat) key_of Never input.old result input.new }
+{
+    let mut fields = input.open_sequence().named("PrivateKeyInfo")?;
+    let version = read_version(&mut fields).named("version")?;
+    let algorithm = read_algorithm(&mut fields).named("privateKeyAlgorithm")?;
+    let private_key = fields.octets().named("privateKey")?;
+    let attributes = fields.open_tagged(0).named("attributes")?;
+    let public_key = read_public_key(&mut fields).named("publicKey")?;
+    fields.end().named("PrivateKeyInfo")?;
+    Ok(PrivateKeyInfo {
+        version,
+        algorithm,
+        private_key,
+        attributes,
+        public_key,
+    })
+}
+
+/// Reads a version, which is 0 or 1.
+pub(crate) fn read_version(fields: &mut Cursor<'_>) -> Result<u32, Refusal<BerError>>
+    ensures { ReadsField (Required Version) pos Never fields.old result fields.new }
+{
+    let before = *fields;
+    let version = fields.u32()?;
+    if version > 1 {
+        return Err(before.refuse(BerError::BerValueError));
+    }
+    Ok(version)
+}
+
+fn read_algorithm<'a>(fields: &mut Cursor<'a>) -> Result<Algorithm<'a>, Refusal<BerError>>
+    ensures { ReadsField (Required AlgorithmIdentifier) algorithm_of Never fields.old result fields.new }
+{
+    let mut inside = fields.open_sequence()?;
+    let identifier = inside.oid()?;
+    let parameters = read_parameters(&mut inside)?;
+    inside.end()?;
+    Ok(Algorithm {
+        identifier,
+        parameters,
+    })
+}
+
+fn read_public_key<'a>(fields: &mut Cursor<'a>) -> Result<Option<BitString<'a>>, Refusal<BerError>>
+    ensures { ReadsField (Optional (Implicit 1 BitFormat)) (λ x. option_map bits_of x) Never
+        fields.old result fields.new }
+{
+    fields.implicit(1).optional_bits()
+}
+
+fn read_parameters<'a>(inside: &mut Cursor<'a>) -> Result<Option<Any<'a>>, Refusal<BerError>>
+    ensures { ReadsField (IfLeft AnyElement) (λ x. option_map element_of x) Never inside.old result inside.new }
+{
+    if inside.is_empty() {
+        return Ok(None);
+    }
+    Ok(Some(inside.any()?))
+}

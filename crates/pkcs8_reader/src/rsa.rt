@@ -1,0 +1,78 @@
+//! Private keys of RSA (RFC 8017 A.1.2).
+ghost use Rattle.std.specs.Option.{option_map};
+ghost use Rattle.der_base.specs.declared.rules.Rules.{Rules};
+ghost use Rattle.der_cursor.specs.Cursors.{octets_left};
+ghost use Rattle.der_cursor.specs.Formats.{Only, Optional, Required, Never, Octets, Sequence, ReadsField, ReadsInput};
+ghost use Rattle.pkcs8_reader.specs.Keys.{RsaPrivateKey as RsaFormat, rsa_of};
+
+use crate::key::read_version;
+use der_parser::ber::{Class, Tag};
+use der_parser::cursor::{Cursor, FieldRefusal, Named, Refusal};
+use der_parser::error::BerError;
+
+/// The numbers of a key, each as the content octets of its INTEGER: in two's complement (X.690 8.3.3).
+#[derive(Debug, Drop)]
+pub struct RsaPrivateKey<'a> {
+    /// 0 for two primes, 1 for more.
+    pub version: u32,
+    pub modulus: &'a [u8],
+    pub public_exponent: &'a [u8],
+    pub private_exponent: &'a [u8],
+    pub prime1: &'a [u8],
+    pub prime2: &'a [u8],
+    pub exponent1: &'a [u8],
+    pub exponent2: &'a [u8],
+    pub coefficient: &'a [u8],
+    /// The octets of further primes, which aren't read.
+    pub other_primes: Option<Cursor<'a>>,
+}
+
+/// Reads a private key of RSA by DER. Octets left over are refused. The version is 0 or 1, with or
+/// without further primes.
+pub fn read_rsa_private_key(octets: &[u8]) -> Result<RsaPrivateKey<'_>, FieldRefusal>
+    ensures { ReadsInput Rules.Der (Only (Required RsaFormat)) rsa_of Never octets.now result }
+{
+    let mut input = Cursor::new(octets);
+    let key = read_numbers(&mut input)?;
+    input.end().named("RSAPrivateKey")?;
+    Ok(key)
+}
+
+fn read_numbers<'a>(input: &mut Cursor<'a>) -> Result<RsaPrivateKey<'a>, FieldRefusal>
+    ensures { ReadsField (Required RsaFormat) rsa_of Never input.old result input.new }
+{
+    let mut numbers = input.open_sequence().named("RSAPrivateKey")?;
+    let version = read_version(&mut numbers).named("version")?;
+    let modulus = numbers.integer().named("modulus")?;
+    let public_exponent = numbers.integer().named("publicExponent")?;
+    let private_exponent = numbers.integer().named("privateExponent")?;
+    let prime1 = numbers.integer().named("prime1")?;
+    let prime2 = numbers.integer().named("prime2")?;
+    let exponent1 = numbers.integer().named("exponent1")?;
+    let exponent2 = numbers.integer().named("exponent2")?;
+    let coefficient = numbers.integer().named("coefficient")?;
+    let other_primes = open_other_primes(&mut numbers).named("otherPrimeInfos")?;
+    numbers.end().named("RSAPrivateKey")?;
+    Ok(RsaPrivateKey {
+        version,
+        modulus,
+        public_exponent,
+        private_exponent,
+        prime1,
+        prime2,
+        exponent1,
+        exponent2,
+        coefficient,
+        other_primes,
+    })
+}
+
+fn open_other_primes<'a>(numbers: &mut Cursor<'a>) -> Result<Option<Cursor<'a>>, Refusal<BerError>>
+    ensures { ReadsField (Optional (Sequence Octets)) (λ x. option_map octets_left x) Never
+        numbers.old result numbers.new }
+{
+    if numbers.is_next(Class::Universal, Tag::Sequence) {
+        return Ok(Some(numbers.open_sequence()?));
+    }
+    Ok(None)
+}
