@@ -1,0 +1,4 @@
+pub mod CertificateLaws
+pub mod FormatLaws
+pub mod ReaderLaws
+pub mod VersionLaws

@@ -1,0 +1,16 @@
+//! Certificates (RFC 5280 4.1), read as its ASN.1 writes them, by DER. No signature is verified.
+#![tactic(auto)]
+
+mod algorithm;
+mod certificate;
+mod extension;
+mod name;
+mod refusal;
+mod time;
+
+pub use algorithm::{AlgorithmIdentifier, SubjectPublicKeyInfo};
+pub use certificate::{Certificate, TbsCertificate, Version, read_certificate};
+pub use extension::{Extension, Extensions};
+pub use name::{AttributeTypeAndValue, Name, RelativeDistinguishedName};
+pub use refusal::{CertificateRefusal, Field};
+pub use time::Validity;

@@ -1,0 +1,57 @@
+//! Refusals: the field, the place and the reason.
+ghost use Rattle.der_x509.specs.Readers.{NamesField};
+
+use der_base::error::BerError;
+use der_cursor::Refusal;
+use std::fmt;
+
+/// A field of a certificate (RFC 5280 4.1).
+#[derive(Clone, Copy, Debug, PartialEq)]
+pub enum Field {
+    /// The certificate itself: its outermost SEQUENCE, or octets after it.
+    Certificate,
+    /// The part that is signed.
+    TbsCertificate,
+    Version,
+    SerialNumber,
+    Signature,
+    Issuer,
+    Validity,
+    Subject,
+    SubjectPublicKeyInfo,
+    IssuerUniqueId,
+    SubjectUniqueId,
+    Extensions,
+    SignatureAlgorithm,
+    SignatureValue,
+}
+
+/// Why octets aren't a certificate.
+#[derive(Drop)]
+pub struct CertificateRefusal {
+    /// The field that is refused, the first that isn't in order.
+    pub field: Field,
+    /// The place in the input, and the reason.
+    pub refusal: Refusal<BerError>,
+}
+
+impl Field {
+    /// The value, or the refusal of this field.
+    pub(crate) fn of<T>(self, found: Result<T, Refusal<BerError>>) -> Result<T, CertificateRefusal>
+        ensures { NamesField self found result }
+    {
+        match found {
+            Ok(value) => Ok(value),
+            Err(refusal) => Err(CertificateRefusal {
+                field: self,
+                refusal,
+            }),
+        }
+    }
+}
+
+impl fmt::Debug for CertificateRefusal {
+    fn fmt<W: fmt::Write>(&self, f: &mut fmt::Formatter<W>) -> fmt::Result {
+        write!(f, "{:?} {}", self.field, self.refusal)
+    }
+}
