@@ -11,3 +11,6 @@ pub use Rattle.der_base.proofs.Headers.DerHeaders
 pub use Rattle.der_laws.proofs.Headers.StableHeaders
 pub use Rattle.der_base.proofs.Octets.Identifiers
 pub use Rattle.der_laws.proofs.PrettyLaws
+pub use Rattle.der_cursor.proofs.FormatLaws
+pub use Rattle.der_cursor.proofs.Lists as FormatLists
+pub use Rattle.der_cursor.proofs.Sequences as FormatSequences

@@ -58,9 +58,11 @@ pub use Rattle.der_der.specs.DerSlices
 pub use Rattle.der_der.specs.Laws as DerLaws
 pub use Rattle.der_cursor.specs.Cursors
 pub use Rattle.der_cursor.specs.Elements
+pub use Rattle.der_cursor.specs.Formats
 pub use Rattle.der_cursor.specs.Laws as CursorLaws
 pub use Rattle.der_cursor.specs.Named
 pub use Rattle.der_cursor.specs.Runs
+pub use Rattle.der_values.specs.Decimal
 pub use Rattle.der_values.specs.Kinds
 pub use Rattle.der_visit.specs.Changing
 pub use Rattle.der_visit.specs.Visiting
