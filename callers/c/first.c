@@ -1,6 +1,5 @@
 #include "dumarewhi.h"
 #include <stdio.h>
-
 int main(void) {
     const uint8_t input[] = {0x30, 0x06, 0x02, 0x01, 0x05, 0x01, 0x01, 0xff};
     dm_element e[8];
