@@ -12,6 +12,10 @@ mod keys_damaged;
 #[cfg(test)]
 mod keys_refused;
 #[cfg(test)]
+mod lists_damaged;
+#[cfg(test)]
+mod lists_refused;
+#[cfg(test)]
 mod names_damaged;
 #[cfg(test)]
 mod names_read;

@@ -1,0 +1,10 @@
+use Rattle.std.proofs.Common.{refl}
+use Rattle.der_cursor.proofs.FormatLaws.{inside, octets_in}
+use Rattle.der_cursor.proofs.Sequences.{refused_open}
+use Rattle.crl_reader.proofs.list.read_issuer.Goals as goal
+
+pub returns-in_err-content : goal.returns-in_err-content
+returns-in_err-content c = refused_open _ _ c.in_err-content.ensures c.from_residual.ensures.1
+
+pub returns : goal.returns
+returns c = inside _ _ c.in_ok-content.ensures (octets_in c.in_ok-content.content refl)
