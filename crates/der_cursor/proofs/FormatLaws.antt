@@ -1,5 +1,5 @@
 -- What each call of a cursor reads, as a field of a format.
-use Rattle.std.proofs.Common.{◌≡◌, ◌≢◌, ℕ, ◌<◌, Bool, true, false, List, [], ◌∷◌, ◌++◌, length, arith, length-append, Option, Some, None, Result, Ok, Err, Bor, refl, sym, ap, subst, ◌∙◌, inl, inr, append_assoc}
+use Rattle.std.proofs.Common.{◌≡◌, ◌≢◌, ℕ, ◌<◌, Bool, true, false, List, [], ◌∷◌, ◌++◌, length, arith, length-append, Option, Some, None, Result, Ok, Err, Bor, ◌⊎◌, refl, sym, ap, subst, ◌∙◌, inl, inr, append_assoc}
 use Rattle.std.specs.Prelude.{IfOk, MatchResult}
 use Rattle.std.specs.Option.{option_map}
 use Rattle.der_base.specs.declared.any.Any.{Any}
@@ -24,7 +24,7 @@ use Rattle.der_cursor.specs.Cursors.{octets_left, rules_of, advanced, class_want
 use Rattle.der_cursor.specs.Cursors.{OpensAt, OpensType, OpensTagged, ReadsValue, ReadsOptional, ReadsOr, ReadsTime, ReadsAnyAt}
 use Rattle.der_cursor.specs.Elements.{SpellsElement, BeginsWithTag, IsNext}
 use Rattle.der_cursor.specs.Formats.{Content, Field, Format, Required, Optional, Default, OptionalTagged, DefaultTagged, IfLeft, Element, element_of, AnyElement}
-use Rattle.der_cursor.specs.Formats.{Octets, Value, Primitive, Implicit, Limited, UtcTime, GeneralizedTime, Boolean, Time, Never, ReadsWhole, ReadsNext, ReadsField, ReadsContent}
+use Rattle.der_cursor.specs.Formats.{Octets, Value, Primitive, Implicit, Limited, UtcTime, GeneralizedTime, Boolean, Time, OptionalTime, Never, ReadsWhole, ReadsNext, ReadsField, ReadsContent}
 
 -- a reader that takes no memory, at a value that is spelled
 never : {T : Type 0} (P : T → Type 0) (e : Refused BerError) → MatchAnswer (Err e) P (λ _. ⊥) (λ _. ⊥) ⊥ → ⊥
@@ -429,3 +429,91 @@ optional_unopened {V} t C {May = May} {p = p} {old = old} {new = new} q o fresh 
 pub returned : {T V E : Type 0} {F : Field V} {view : T → V} {May : E → Type 0} {old new after : Cursor} {result : Result T E} → ReadsField F view May old result new → after ≡ new
     → ReadsField F view May old result after
 returned {F = F} {view = view} {May = May} {old = old} {result = result} h q = subst (λ c. ReadsField F view May old result c) (sym q) h
+
+-- an element of a universal type, whose octets are kept
+pub kept_read : (t : ℕ) {p : Bool} {old new : Cursor} {result : Result Cursor (Refusal BerError)} → OpensType p t old result new
+    → ReadsField (Required (record { class = Universal; number = t; constructed = p; content = Octets })) octets_left Never old result new
+kept_read t {result = Ok inner} o = inside t Octets o (octets_kept inner)
+kept_read t {result = Err e} o = unopened t Octets o
+
+-- Times.
+module _ (old new : Cursor) (fresh : old.implicit ≡ None) where
+  utc : (x : Result ASN1DateTime (Refusal BerError)) → ReadsValue (λ v. v) (times (rules_of old) 23) 23 old x new → ReadsNext (Required UtcTime) (λ v. v) Never old x new
+  utc x h = value_read (λ r. times r 23) h fresh
+
+  generalized : (x : Result ASN1DateTime (Refusal BerError)) → ReadsValue (λ v. v) (times (rules_of old) 24) 24 old x new → ReadsNext (Required GeneralizedTime) (λ v. v) Never old x new
+  generalized x h = value_read (λ r. times r 24) h fresh
+
+  next_24 : IsNextType 24 old → IsNext Universal 24 (octets_left old)
+  next_24 h = wanted (λ (v : ASN1DateTime). v) (λ r. times r 24) 24 old new Universal 24 (ap class_wanted fresh) (ap (λ m. number_wanted m 24) fresh) h
+
+  to_24 : IsNext Universal 24 (octets_left old) → IsNextType 24 old
+  to_24 h = unwanted (λ (v : ASN1DateTime). v) (λ r. times r 24) 24 old new Universal 24 (ap class_wanted fresh) (ap (λ m. number_wanted m 24) fresh) h
+
+  not_utc : (v : ASN1DateTime) (rest : List ℕ) → Required UtcTime (rules_of old) (octets_left old) v rest → ¬ IsNext Universal 24 (octets_left old)
+  unfolding Required
+  not_utc v rest z = apart_next _ _ 23 24 _ _ (λ q. absurd (omega (arith, q))) z.2
+
+  is_24 : (v : ASN1DateTime) (rest : List ℕ) → Required GeneralizedTime (rules_of old) (octets_left old) v rest → IsNext Universal 24 (octets_left old)
+  unfolding Required
+  is_24 v rest z = is_next _ _ _ _ _ _ z.2
+
+  time_next : (x : Result ASN1DateTime (Refusal BerError)) → ReadsTime old x new → ReadsNext Time (λ v. v) Never old x new
+  unfolding Time
+  time_next (Ok x) (inl (n, h)) = let r = generalized (Ok x) h in record {
+    found = (inr r.found.0, r.found.1);
+    only = λ v rest z. elim z [ inl y ↦ absurd (not_utc v rest y (next_24 n)) | inr y ↦ r.only v rest y ];
+  }
+  time_next (Err e) (inl (n, h)) = let r = generalized (Err e) h in record {
+    found = tt;
+    only = λ v rest z. elim z [ inl y ↦ absurd (not_utc v rest y (next_24 n)) | inr y ↦ r.only v rest y ];
+  }
+  time_next (Ok x) (inr (n, h)) = let r = utc (Ok x) h in record {
+    found = (inl r.found.0, r.found.1);
+    only = λ v rest z. elim z [ inl y ↦ r.only v rest y | inr y ↦ absurd (n (to_24 (is_24 v rest y))) ];
+  }
+  time_next (Err e) (inr (n, h)) = let r = utc (Err e) h in record {
+    found = tt;
+    only = λ v rest z. elim z [ inl y ↦ r.only v rest y | inr y ↦ absurd (n (to_24 (is_24 v rest y))) ];
+  }
+
+pub time_read : {old new : Cursor} {result : Result ASN1DateTime (Refusal BerError)} → ReadsTime old result new → ReadsField Time (λ v. v) Never old result new
+time_read {old = old} {new = new} {result = result} h fresh = time_next old new fresh result h
+
+-- a time that may be absent, which was looked for
+module _ {X E : Type 0} {view : X → ASN1DateTime} {May : E → Type 0} {c : Cursor} where
+  pub no_time_next : ¬ IsNext Universal 23 (octets_left c) → ¬ IsNext Universal 24 (octets_left c) → ReadsField {E = E} OptionalTime (option_map view) May c (Ok None) c
+  unfolding OptionalTime Time Required
+  no_time_next n m fresh = record {
+    found = (((n, m), refl), ap (λ k. record c { implicit = k }) fresh);
+    only = λ v rest. elim v as (λ u. OptionalTime (rules_of c) (octets_left c) u rest → (None ≡ u) × (octets_left c ≡ rest)) [
+      | None ↦ λ z. (refl, z.1)
+      | Some u ↦ λ z. elim z [ inl y ↦ absurd (n (is_next _ _ _ _ _ _ y.2)) | inr y ↦ absurd (m (is_next _ _ _ _ _ _ y.2)) ]
+    ];
+  }
+
+  pub time_is_read : {d : Cursor} {x : X} → (IsNext Universal 23 (octets_left c) ⊎ IsNext Universal 24 (octets_left c)) → ReadsField {E = E} Time view May c (Ok x) d
+      → ReadsField OptionalTime (option_map view) May c (Ok (Some x)) d
+  unfolding OptionalTime
+  time_is_read {d = d} {x = x} q h fresh = let r = h fresh in record {
+    found = r.found;
+    only = λ v rest. elim v as (λ u. OptionalTime (rules_of c) (octets_left c) u rest → (Some (view x) ≡ u) × (octets_left d ≡ rest)) [
+      | None ↦ λ z. elim q [ inl y ↦ absurd (z.0.0 y) | inr y ↦ absurd (z.0.1 y) ]
+      | Some u ↦ λ z. let e = r.only u rest z in (ap Some e.0, e.1)
+    ];
+  }
+
+  pub time_is_refused : {Y : Type 0} {whole : Y → Option ASN1DateTime} {d after : Cursor} {e : E} → (IsNext Universal 23 (octets_left c) ⊎ IsNext Universal 24 (octets_left c))
+      → ReadsField Time view May c (Err e) d → ReadsField OptionalTime whole May c (Err e) after
+  unfolding OptionalTime
+  time_is_refused {e = e} q h fresh = let r = h fresh in record {
+    found = tt;
+    only = λ v rest. elim v as (λ u. OptionalTime (rules_of c) (octets_left c) u rest → May e) [
+      | None ↦ λ z. elim q [ inl y ↦ absurd (z.0.0 y) | inr y ↦ absurd (z.0.1 y) ]
+      | Some u ↦ λ z. r.only u rest z
+    ];
+  }
+
+pub octets_in : (c : Cursor) {T E : Type 0} {view : T → List ℕ} {May : E → Type 0} {x : T} → view x ≡ octets_left c → ReadsContent {E = E} Octets view May c (Ok x)
+unfolding Octets
+octets_in c q fresh = record { found = q; only = λ v z. q ∙ sym z }

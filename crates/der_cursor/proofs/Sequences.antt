@@ -12,7 +12,7 @@ use Rattle.der_cursor.specs.declared.refusal.Refusal.{Refusal}
 use Rattle.der_cursor.specs.Cursors.{octets_left, rules_of, advanced, StartsAt, EndsAt, OpensType}
 use Rattle.der_cursor.specs.Named.{NamesRefusal, NamesMore}
 use Rattle.der_cursor.proofs.FormatLaws.{inside, unopened}
-use Rattle.der_cursor.specs.Formats.{Content, Field, Format, Required, Only, ◌⨾◌, End, Each, Never, NoMemory, NoMemoryIn, ReadsWhole, ReadsNext, ReadsField, ReadsContent}
+use Rattle.der_cursor.specs.Formats.{Content, Field, Format, Required, Only, ◌⨾◌, End, Ignored, Each, Never, NoMemory, NoMemoryIn, ReadsWhole, ReadsNext, ReadsField, ReadsContent}
 
 -- An error is passed on as another, which leaves no more open.
 pub record Passes {T E F : Type 0} (May : E → Type 0) (May' : F → Type 0) (r : Result T E) (s : Result T F) : Type 0 where
@@ -177,3 +177,48 @@ left_over e {result = result} l q n = let y = err_from_is_err_and result n in rw
 pub refused_open : {V : Type 0} (t : ℕ) (C : Content V) {T : Type 0} {view : T → V} {May : Refusal BerError → Type 0} {p : Bool} {old new after : Cursor} {e : Refusal BerError} {result : Result T (Refusal BerError)}
     → OpensType p t old (Err e) after → IsErrAnd result (λ y. y ≡ e) → ReadsField (Required (record { class = Universal; number = t; constructed = p; content = C })) view May old result new
 refused_open t C {result = result} o n = let y = err_from_is_err_and result n in rw y.1 (unopened t C o)
+
+-- what follows isn't asked
+pub finish_ignored : {V T E : Type 0} {P : V → Type 0} {c : Cursor} {build : Unit {0} → V} {view : T → V} {May : E → Type 0} {x : T} → Remains P Ignored c build → view x ≡ build tt
+    → ReadsWhole {E = E} P view May (Ok x)
+unfolding Ignored
+finish_ignored {P = P} l e = record {
+  found = subst P (sym e) (l.back tt tt);
+  only = λ v p. e ∙ sym (l.only v p).2;
+}
+
+-- a content that is one field
+module _ {T V E : Type 0} {F : Field V} {view : T → V} {May : E → Type 0} {c d : Cursor} where
+  pub only_read : {x : T} → ReadsField {E = E} F view May c (Ok x) d → octets_left d ≡ [] → ReadsContent (Only F) view May c (Ok x)
+  unfolding Only
+  only_read {x = x} h q fresh = let z = h fresh in record {
+    found = subst (λ rest. F (rules_of c) (octets_left c) (view x) rest) q z.found.0;
+    only = λ v p. (z.only v [] p).0;
+  }
+
+  pub only_left : {Y : Type 0} {whole : Y → V} {x : T} {e : E} → ReadsField {E = E} F view May c (Ok x) d → octets_left d ≢ [] → ReadsContent (Only F) whole May c (Err e)
+  unfolding Only
+  only_left h q fresh = record { found = tt; only = λ v p. absurd (q ((h fresh).only v [] p).1) }
+
+  pub only_stops : {Y : Type 0} {whole : Y → V} {e : E} → ReadsField F view May c (Err e) d → ReadsContent (Only F) whole May c (Err e)
+  unfolding Only
+  only_stops h fresh = record { found = tt; only = λ v p. (h fresh).only v [] p }
+
+-- a field that takes no memory, in a reader that does
+pub may_need : {T V E : Type 0} {F : Field V} {view : T → V} (May : E → Type 0) {old new : Cursor} (result : Result T E) → ReadsField F view Never old result new → ReadsField F view May old result new
+may_need May (Ok x) h fresh = let r = h fresh in record { found = r.found; only = r.only }
+may_need May (Err e) h fresh = let r = h fresh in record { found = tt; only = λ v rest z. absurd (r.only v rest z) }
+
+-- a reader of the first field alone
+pub first_read : {V T E : Type 0} (F : Field V) {view : T → V} {May : E → Type 0} {c d : Cursor} (result : Result T E) → ReadsField F view May c result d → ReadsContent (F ⨾ Ignored) (λ x. (view x, tt)) May c result
+unfolding ◌⨾◌ Ignored
+first_read F {d = d} (Ok x) h fresh = let r = h fresh in record {
+  found = (octets_left d, r.found.0, tt);
+  only = λ v z. ap (λ y. (y, tt)) (r.only v.0 z.0 z.1).0;
+}
+first_read F (Err e) h fresh = let r = h fresh in record { found = tt; only = λ v z. r.only v.0 z.0 z.1 }
+
+-- a content whose reader names its fields, with one name more
+pub content_named : {V : Type 0} (name : Bor (List ℕ)) (C : Content V) (c : Cursor) {T : Type 0} {view : T → V} {r s : Result T FieldRefusal} → ReadsContent C view NoMemoryIn c r → NamesMore r name s
+    → ReadsContent C view NoMemoryIn c s
+content_named name C c {r = r} {s = s} h n fresh = whole_passes r s (more_passes (λ e f q m. ap (λ x. x.reason) q ∙ m) name r s n) (h fresh)

@@ -96,6 +96,10 @@ unfoldable pub Each : {V : Type 0} → Field V → Content (List V)
 Each F r w [] = w ≡ []
 Each F r w (v ∷ vs) = (rest : List ℕ) × F r w v rest × Each F r rest vs
 
+-- whatever follows, which isn't asked
+unfoldable pub Ignored : Content (Unit {0})
+Ignored r w v = Unit {0}
+
 -- the octets themselves, whatever they are
 unfoldable pub Octets : Content (List ℕ)
 Octets r w v = v ≡ w
@@ -170,6 +174,11 @@ GeneralizedTime = Primitive 24 (Value (λ r. times r 24))
 -- a choice of the two (RFC 5280 4.1)
 unfoldable pub Time : Field ASN1DateTime
 Time r i v rest = Required UtcTime r i v rest ⊎ Required GeneralizedTime r i v rest
+
+-- one of these, or none where neither's class and number are next
+unfoldable pub OptionalTime : Field (Option ASN1DateTime)
+OptionalTime r i (Some v) rest = Time r i v rest
+OptionalTime r i None rest = ((¬ IsNext Universal 23 i) × (¬ IsNext Universal 24 i)) × (i ≡ rest)
 
 -- values of which P holds
 abbrev pub Limited : {V : Type 0} → (V → Type 0) → Format V → Format V
