@@ -10,7 +10,7 @@ use bstr::ByteSlice;
 use crl_reader::read_certificate_list;
 use der_input::next_block;
 use der_parser::cursor::Named;
-use names_reader::parse_name;
+use names_reader::read_name;
 use std::alloc::Global;
 use std::io::Read;
 use text::Listed;
@@ -54,7 +54,7 @@ fn print_blocks(rt: &(impl Print + Eprint), alloc: Global, input: &[u8]) -> Resu
 fn print_list(rt: &impl Print, alloc: Global, octets: &[u8]) -> Result<()> {
     let list = read_certificate_list(alloc, octets)?;
     let mut element = list.signed.issuer.element;
-    let issuer = element.read_in(alloc, parse_name).named("issuer")?;
+    let issuer = read_name(alloc, &mut element).named("issuer")?;
     println!(rt; "{}", Listed(&list, &issuer))?;
     Ok(())
 }

@@ -4,7 +4,7 @@ use crl_reader::{CertificateList, read_certificate_list};
 use der_tests_damage::Damage::LeftOver;
 use der_tests_damage::Part::This;
 use der_tests_damage::{Case, Outcome, Pass, Reader};
-use names_reader::parse_name;
+use names_reader::read_name;
 use std::alloc::Global;
 use std::test::Fail;
 
@@ -93,7 +93,7 @@ impl Reader for Lists {
 /// Where the issuer or a reason is refused, or that all are read.
 fn parts_outcome(alloc: Global, list: &CertificateList<'_>) -> Outcome {
     let mut element = list.signed.issuer.element;
-    if let Err(refused) = element.read_in(alloc, parse_name) {
+    if let Err(refused) = read_name(alloc, &mut element) {
         return Outcome::RefusedAt(refused.offset);
     }
     let Some(entries) = &list.signed.revoked else {
