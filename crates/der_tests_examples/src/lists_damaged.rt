@@ -74,7 +74,7 @@ const PASSES: &[Pass] = &[
 const CASE: Case<'static> = Case {
     message: LIST,
     opened: &[161],
-    wholes: &[22],
+    wholes: &[],
     passes: PASSES,
 };
 
