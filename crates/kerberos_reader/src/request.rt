@@ -1,12 +1,15 @@
 //! Requests for tickets (RFC 4120 5.4.1). Each field is inside an explicit tag.
-use crate::fault::{Fault, InField, RequestError};
-use der_parser::IResult;
 use der_parser::ber::{ASN1DateTime, Class, Tag};
-use der_parser::cursor::{Cursor, Refusal};
-use der_parser::der::parse_der_u32;
-use der_parser::error::{BerError, Err as Refused};
+use der_parser::cursor::{Cursor, FieldRefusal, Named, Refusal};
+use der_parser::error::BerError;
 use der_parser::values::BitString;
 use std::alloc::Global;
+
+/// The version of the protocol (5.4.1).
+const VERSION: u32 = 5;
+
+/// The kind of message that an AS-REQ is, which is also its tag number (5.4.1).
+const AS_REQ: u32 = 10;
 
 /// The fields of a request. Texts are slices of the input.
 #[derive(Debug, Drop)]
@@ -26,21 +29,22 @@ pub struct Request<'a> {
 pub struct Principal<'a>(pub Vec<&'a str>);
 
 /// Reads an AS-REQ. Octets left over are refused.
-pub fn read_request<'a>(alloc: Global, octets: &'a [u8]) -> Result<Request<'a>, RequestError> {
-    let mut fields = open_message(octets).in_field("AS-REQ")?;
-    let version = open_number(&mut fields, 1).in_field("pvno")?;
-    version.read_last(parse_version).in_field("pvno")?;
-    let kind = open_number(&mut fields, 2).in_field("msg-type")?;
-    kind.read_last(parse_kind).in_field("msg-type")?;
+pub fn read_request<'a>(alloc: Global, octets: &'a [u8]) -> Result<Request<'a>, FieldRefusal> {
+    let mut fields = open_message(octets).named("AS-REQ")?;
+    check_number(&mut fields, 1, VERSION).named("pvno")?;
+    check_number(&mut fields, 2, AS_REQ).named("msg-type")?;
     // What authenticates the client beforehand isn't read.
-    fields.open_tagged(3).in_field("padata")?;
-    read_body(alloc, open_body(fields).in_field("req-body")?)
+    fields.open_tagged(3).named("padata")?;
+    let mut body = open_body(fields).named("req-body")?;
+    let request = read_body(alloc, &mut body).named("req-body")?;
+    end_body(body).named("req-body")?;
+    Ok(request)
 }
 
 /// Opens the fields of the message.
 fn open_message(octets: &[u8]) -> Result<Cursor<'_>, Refusal<BerError>> {
     let mut input = Cursor::new(octets);
-    let mut message = input.open(Class::Application, true, Tag(10))?;
+    let mut message = input.open(Class::Application, true, Tag(AS_REQ))?;
     input.end()?;
     let fields = message.open_sequence()?;
     message.end()?;
@@ -56,15 +60,14 @@ fn open_body(mut fields: Cursor<'_>) -> Result<Cursor<'_>, Refusal<BerError>> {
     Ok(body)
 }
 
-fn read_body<'a>(alloc: Global, mut body: Cursor<'a>) -> Result<Request<'a>, RequestError> {
-    read_options(&mut body).in_field("req-body.kdc-options")?;
-    let client = read_principal(alloc, &mut body, 1).in_field("req-body.cname")?;
-    let realm = read_realm(&mut body).in_field("req-body.realm")?;
-    let server = read_principal(alloc, &mut body, 3).in_field("req-body.sname")?;
-    let (from, till, renewable_till) = read_times(&mut body)?;
-    read_nonce(&mut body).in_field("req-body.nonce")?;
-    let encryption_kinds = read_kinds(alloc, &mut body).in_field("req-body.etype")?;
-    end_body(body).in_field("req-body")?;
+fn read_body<'a>(alloc: Global, body: &mut Cursor<'a>) -> Result<Request<'a>, FieldRefusal> {
+    read_options(body).named("kdc-options")?;
+    let client = read_principal(alloc, body, 1).named("cname")?;
+    let realm = read_realm(body).named("realm")?;
+    let server = read_principal(alloc, body, 3).named("sname")?;
+    let (from, till, renewable_till) = read_times(body)?;
+    read_nonce(body).named("nonce")?;
+    let encryption_kinds = read_kinds(alloc, body).named("etype")?;
     Ok(Request {
         client,
         realm,
@@ -94,10 +97,10 @@ fn read_realm<'a>(body: &mut Cursor<'a>) -> Result<&'a str, Refusal<BerError>> {
 type Times = (Option<ASN1DateTime>, ASN1DateTime, Option<ASN1DateTime>);
 
 /// Reads the times of the ticket: from, till, and until when it may be renewed.
-fn read_times(body: &mut Cursor<'_>) -> Result<Times, RequestError> {
-    let from = read_time(body, 4).in_field("req-body.from")?;
-    let till = read_till(body).in_field("req-body.till")?;
-    let renewable_till = read_time(body, 6).in_field("req-body.rtime")?;
+fn read_times(body: &mut Cursor<'_>) -> Result<Times, FieldRefusal> {
+    let from = read_time(body, 4).named("from")?;
+    let till = read_till(body).named("till")?;
+    let renewable_till = read_time(body, 6).named("rtime")?;
     Ok((from, till, renewable_till))
 }
 
@@ -136,31 +139,14 @@ fn open_field<'a>(fields: &mut Cursor<'a>, number: u32) -> Result<Cursor<'a>, Re
     fields.open(Class::ContextSpecific, true, Tag(number))
 }
 
-/// Opens a field of a number, for a parser that compares the tag number alone.
-fn open_number<'a>(fields: &mut Cursor<'a>, number: u32) -> Result<Cursor<'a>, Refusal<BerError>> {
-    let inside = open_field(fields, number)?;
-    inside.assert_universal()?;
-    Ok(inside)
-}
-
-/// Reads the version, which is 5.
-fn parse_version(i: &[u8]) -> IResult<&[u8], (), Fault> {
-    match parse_number(i)? {
-        (rest, 5) => Ok((rest, ())),
-        (_, other) => Err(Refused::Error(Fault::Version(other))),
+/// Reads a number that is the same in each request. BerValueError for another.
+fn check_number(fields: &mut Cursor<'_>, number: u32, value: u32) -> Result<(), Refusal<BerError>> {
+    let mut field = open_field(fields, number)?;
+    let before = field;
+    if field.u32()? != value {
+        return Err(before.refuse(BerError::BerValueError));
     }
-}
-
-/// Reads the kind of the message, which is 10.
-fn parse_kind(i: &[u8]) -> IResult<&[u8], (), Fault> {
-    match parse_number(i)? {
-        (rest, 10) => Ok((rest, ())),
-        (_, other) => Err(Refused::Error(Fault::Kind(other))),
-    }
-}
-
-fn parse_number(i: &[u8]) -> IResult<&[u8], u32, Fault> {
-    parse_der_u32(i).map_err(Refused::convert)
+    field.end()
 }
 
 /// Reads a name (5.2.2) under this tag, if it is there.
