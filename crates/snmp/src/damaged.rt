@@ -1,6 +1,6 @@
 //! Messages with each of their elements damaged: each copy is refused, or is listed. And messages of one
 //! version with a request of the other.
-use crate::message::{SnmpError, parse_message};
+use crate::reader::read_message;
 use der_parser::error::{BerError, Err as Refused};
 use der_tests_damage::Damage::Class;
 use der_tests_damage::Part::This;
@@ -103,15 +103,17 @@ const TEXT_PASSES: &[Pass] = &[
     (38, This(Class), "[APPLICATION 4] is an Opaque (RFC 2578 2)"),
 ];
 
-/// `parse_message`, which reports a field and no place.
+/// `read_message`.
 struct Messages;
 
 impl Reader for Messages {
     fn outcome(&self, alloc: Global, octets: &[u8]) -> Outcome {
-        match parse_message(alloc, octets).err() {
-            None => Outcome::Read,
-            Some(SnmpError(_, Refused::Incomplete(_))) => Outcome::Incomplete,
-            Some(_) => Outcome::Refused,
+        let Some(refused) = read_message(alloc, octets).err() else {
+            return Outcome::Read;
+        };
+        match refused.refusal.reason {
+            Refused::Incomplete(_) => Outcome::Incomplete,
+            _ => Outcome::RefusedAt(refused.refusal.offset),
         }
     }
 }
@@ -162,9 +164,12 @@ fn is_wrong_request(alloc: Global, message: &[u8], version: u8) -> bool {
     copy.copy_from_slice(message);
     octets[4] = version;
     let input = octets.get(..message.len()).unwrap_or(&[]);
+    let Some(refused) = read_message(alloc, input).err() else {
+        return false;
+    };
     matches!(
-        parse_message(alloc, input).err(),
-        Some(SnmpError("request", Refused::Error(BerError::BerTypeError)))
+        refused.refusal.reason,
+        Refused::Error(BerError::UnknownTag(_))
     )
 }
 

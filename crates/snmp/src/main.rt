@@ -1,10 +1,15 @@
 //! `snmp` prints the messages of SNMP on its standard input, one after another, of version 1 (RFC 1157)
-//! and 2c (RFC 1901, RFC 3416). It reports a refused one with its offset.
+//! and 2c (RFC 1901, RFC 3416). It reports a refused one with its offset, the field and the place in it.
 #![tactic(auto)]
 
 #[cfg(test)]
 mod damaged;
 mod message;
+mod reader;
+#[cfg(test)]
+mod refused;
+mod text;
+mod value;
 
 use anyhow::{Result, anyhow};
 use std::io::Read;
@@ -20,7 +25,7 @@ fn main(rt: HostRuntime) -> Result<()> {
             break;
         }
         let offset = input.len().saturating_sub(rest.len());
-        let read = message::parse_message(rt.alloc(), rest);
+        let read = reader::read_message(rt.alloc(), rest);
         let (after, message) = read.map_err(|e| anyhow!("message at {offset}: {e}"))?;
         println!(rt; "{message}")?;
         rest = after;
