@@ -1,17 +1,20 @@
 //! `ldap` prints the messages of LDAP (RFC 4511) on its standard input: number, operation, result and
-//! names. It reports a refused one with its offset.
+//! names. It reports a refused one with its offset, the field and the place in it.
 #![tactic(auto)]
 
 #[cfg(test)]
 mod damaged;
+mod items;
 mod message;
+mod reader;
 #[cfg(test)]
 mod streams;
+mod text;
 
-use crate::message::parse_message;
-use anyhow::{Error, Result, anyhow, bail};
-use der_parser::IResult;
-use der_parser::error::{BerError, Err as Refused, ErrorKind, Needed};
+use crate::reader::read_message;
+use anyhow::{Result, bail};
+use der_parser::cursor::FieldRefusal;
+use der_parser::error::{Err as Refused, Needed};
 use std::alloc::Global;
 use std::io::{Read, Write};
 
@@ -28,14 +31,15 @@ fn print_messages<R: Read, W: Write>(alloc: Global, stream: &mut R, out: &mut W)
     let mut octets = Vec::new(alloc);
     let mut offset: u64 = 0;
     for _ in 0..u64::MAX {
-        match read_line(alloc, &octets) {
-            Ok((left, line)) => {
-                writeln!(out, "{line}")?;
-                let taken = octets.len().saturating_sub(left);
+        match print_message(alloc, &octets, out)? {
+            Ok(taken) => {
                 octets.drain(..taken);
                 offset = offset.saturating_add(taken as u64);
             }
-            Err(Refused::Incomplete(Needed::Size(n))) => {
+            Err(refused) => {
+                let Some(n) = missing_octets(&refused) else {
+                    bail!("message at {offset}: {refused}");
+                };
                 if octets.len().saturating_add(n) > MAX_MESSAGE {
                     bail!("message at {offset}: too large");
                 }
@@ -47,28 +51,30 @@ fn print_messages<R: Read, W: Write>(alloc: Global, stream: &mut R, out: &mut W)
                     bail!("message at {offset}: cut short");
                 }
             }
-            Err(e) => return Err(refusal(offset, e)),
         }
     }
     Ok(())
 }
 
-/// The text of a refusal. Two of the library's errors are put into the words of this program.
-fn refusal(offset: u64, refused: Refused<BerError>) -> Error {
-    match refused {
-        Refused::Error(BerError::Incomplete(Needed::Size(n))) => {
-            anyhow!("message at {offset}: an element runs {n} octets past the end of its list")
+/// Prints the first message of the octets, and returns how many octets it has.
+fn print_message<W: Write>(
+    alloc: Global,
+    octets: &[u8],
+    out: &mut W,
+) -> Result<Result<usize, FieldRefusal>> {
+    match read_message(alloc, octets) {
+        Ok((rest, message)) => {
+            writeln!(out, "{message}")?;
+            Ok(Ok(octets.len().saturating_sub(rest.len())))
         }
-        Refused::Error(BerError::NomError(ErrorKind::Eof)) => {
-            anyhow!("message at {offset}: octets left over")
-        }
-        e => anyhow!("message at {offset}: {e}"),
+        Err(refused) => Ok(Err(refused)),
     }
 }
 
-/// How many octets follow the first message, and the line that is printed for it.
-fn read_line(alloc: Global, octets: &[u8]) -> IResult<usize, String, BerError> {
-    let (rest, message) = parse_message(alloc, octets)?;
-    let line = format!(in alloc; "{message}")?;
-    Ok((rest.len(), line))
+/// How many octets a message that is cut short needs.
+fn missing_octets(refused: &FieldRefusal) -> Option<usize> {
+    match refused.refusal.reason {
+        Refused::Incomplete(Needed::Size(n)) => Some(n),
+        _ => None,
+    }
 }
