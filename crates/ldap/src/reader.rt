@@ -1,5 +1,4 @@
-//! Reads messages field by field (RFC 4511 4). Fields of a SEQUENCE after those that the RFC names are
-//! passed over, as it asks of readers.
+//! Reads messages field by field (RFC 4511 4). Fields after those that the RFC names are passed over.
 use crate::items::{pass_over, read_attribute, read_change, read_choice, read_text};
 use crate::message::{Content, Message, Operation};
 use der_parser::Rules;
@@ -32,10 +31,8 @@ pub fn read_message<'a>(
 fn next_operation(fields: Cursor<'_>) -> Result<(Operation, Tag), Refusal<BerError>> {
     let mut ahead = fields;
     let tag = ahead.any()?.tag();
-    match Operation::of_tag(tag) {
-        Some(operation) => Ok((operation, tag)),
-        None => Err(fields.refuse(BerError::UnknownTag(tag.0))),
-    }
+    let unknown = fields.refuse(BerError::UnknownTag(tag.0));
+    Ok((Operation::of_tag(tag).ok_or(unknown)?, tag))
 }
 
 /// Reads an operation under its implicit tag.
@@ -44,16 +41,16 @@ fn read_operation<'a>(
     operation: Operation,
     field: &mut Cursor<'a>,
 ) -> Result<Content<'a>, FieldRefusal> {
-    let content = match operation {
-        Operation::UnbindRequest => field.null().map(|_| Content::Nothing),
-        Operation::AbandonRequest => field.u32().map(|_| Content::Nothing),
-        Operation::DelRequest => field.octets().map(|name| Content::Name(name)),
+    match operation {
+        Operation::UnbindRequest => field.null().named("protocolOp")?,
+        Operation::AbandonRequest => field.u32().map(|_| ()).named("protocolOp")?,
+        Operation::DelRequest => return Ok(Content::Name(field.octets().named("protocolOp")?)),
         _ => {
             let list = field.open_sequence().named("protocolOp")?;
             return read_fields(alloc, operation, list).named("protocolOp");
         }
-    };
-    content.named("protocolOp")
+    }
+    Ok(Content::Nothing)
 }
 
 fn read_fields<'a>(

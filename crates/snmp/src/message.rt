@@ -12,6 +12,7 @@ pub struct Message<'a> {
     pub pdu: Pdu<'a>,
 }
 
+/// The versions, in the order of their numbers.
 #[derive(Clone, Copy, Debug, PartialEq)]
 pub enum Version {
     One,
@@ -47,6 +48,7 @@ pub struct TrapPdu<'a> {
     pub bindings: Vec<Binding<'a>>,
 }
 
+/// The operations, in the order of their tag numbers.
 #[derive(Clone, Copy, Debug, PartialEq)]
 pub enum Operation {
     GetRequest,
@@ -85,20 +87,43 @@ pub enum Value<'a> {
     EndOfMibView,
 }
 
+impl Version {
+    /// Whether the version has this operation.
+    pub fn has(self, operation: Operation) -> bool {
+        match (self, operation) {
+            (Version::One, Operation::GetBulkRequest)
+            | (Version::One, Operation::InformRequest)
+            | (Version::One, Operation::TrapOfVersion2)
+            | (Version::One, Operation::Report)
+            | (Version::TwoC, Operation::Trap) => false,
+            _ => true,
+        }
+    }
+}
+
 impl Operation {
-    /// The operation of this tag in a version.
-    pub fn of_tag(version: Version, tag: Tag) -> Option<Operation> {
-        match (tag.0, version) {
-            (0, _) => Some(Operation::GetRequest),
-            (1, _) => Some(Operation::GetNextRequest),
-            (2, _) => Some(Operation::Response),
-            (3, _) => Some(Operation::SetRequest),
-            (4, Version::One) => Some(Operation::Trap),
-            (5, Version::TwoC) => Some(Operation::GetBulkRequest),
-            (6, Version::TwoC) => Some(Operation::InformRequest),
-            (7, Version::TwoC) => Some(Operation::TrapOfVersion2),
-            (8, Version::TwoC) => Some(Operation::Report),
+    /// The operation of this tag.
+    pub fn of_tag(tag: Tag) -> Option<Operation> {
+        match tag.0 {
+            0 => Some(Operation::GetRequest),
+            1 => Some(Operation::GetNextRequest),
+            2 => Some(Operation::Response),
+            3 => Some(Operation::SetRequest),
+            4 => Some(Operation::Trap),
+            5 => Some(Operation::GetBulkRequest),
+            6 => Some(Operation::InformRequest),
+            7 => Some(Operation::TrapOfVersion2),
+            8 => Some(Operation::Report),
             _ => None,
+        }
+    }
+}
+
+impl Pdu<'_> {
+    pub fn operation(&self) -> Operation {
+        match self {
+            Pdu::Common(pdu) => pdu.operation,
+            Pdu::Trap(_) => Operation::Trap,
         }
     }
 }

@@ -1,8 +1,8 @@
 //! Reads messages field by field.
-use crate::message::{Binding, CommonPdu, Message, Operation, Pdu, TrapPdu, Version};
-use crate::value::read_binding;
+use crate::message::{CommonPdu, Message, Operation, Pdu, TrapPdu, Version};
+use crate::value::{address_of, read_bindings};
 use der_parser::Rules;
-use der_parser::ber::Class;
+use der_parser::ber::{Class, Tag};
 use der_parser::cursor::{Cursor, FieldRefusal, Named, Refusal};
 use der_parser::error::BerError;
 use std::alloc::Global;
@@ -22,8 +22,14 @@ fn read_fields<'a>(alloc: Global, input: &mut Cursor<'a>) -> Result<Message<'a>,
     let mut fields = input.open_sequence().named("Message")?;
     let version = read_version(&mut fields).named("version")?;
     let community = fields.octets().named("community")?;
-    let pdu = read_pdu(alloc, version, &mut fields)?;
+    let before = fields;
+    let pdu = read_pdu(alloc, &mut fields)?;
     fields.end().named("Message")?;
+    let operation = pdu.operation();
+    if !version.has(operation) {
+        let unknown = BerError::UnknownTag(operation as u32);
+        return Err(before.refuse(unknown)).named("pdu");
+    }
     Ok(Message {
         version,
         community,
@@ -41,77 +47,75 @@ fn read_version(fields: &mut Cursor<'_>) -> Result<Version, Refusal<BerError>> {
     }
 }
 
-fn read_pdu<'a>(
-    alloc: Global,
-    version: Version,
-    fields: &mut Cursor<'a>,
-) -> Result<Pdu<'a>, FieldRefusal> {
-    let (operation, pdu) = open_pdu(version, fields).named("pdu")?;
+fn read_pdu<'a>(alloc: Global, fields: &mut Cursor<'a>) -> Result<Pdu<'a>, FieldRefusal> {
+    let (operation, tag) = next_operation(*fields).named("pdu")?;
     match operation {
-        Operation::Trap => Ok(Pdu::Trap(read_trap(alloc, pdu).named("pdu")?)),
-        _ => Ok(Pdu::Common(read_common(alloc, operation, pdu).named("pdu")?)),
+        Operation::Trap => Ok(Pdu::Trap(read_trap(alloc, tag, fields)?)),
+        _ => Ok(Pdu::Common(read_common(alloc, operation, tag, fields)?)),
     }
 }
 
-/// Opens a PDU. Its tag says which operation it is.
-fn open_pdu<'a>(
-    version: Version,
-    fields: &mut Cursor<'a>,
-) -> Result<(Operation, Cursor<'a>), Refusal<BerError>> {
-    let before = *fields;
-    let tag = fields.any()?.tag();
-    *fields = before;
-    let pdu = fields.open(Class::ContextSpecific, true, tag)?;
-    match Operation::of_tag(version, tag) {
-        Some(operation) => Ok((operation, pdu)),
-        None => Err(before.refuse(BerError::UnknownTag(tag.0))),
+/// The operation that is next, and its tag.
+fn next_operation(fields: Cursor<'_>) -> Result<(Operation, Tag), Refusal<BerError>> {
+    let mut ahead = fields;
+    let tag = ahead.any()?.tag();
+    match Operation::of_tag(tag) {
+        Some(operation) => Ok((operation, tag)),
+        None => Err(fields.refuse(BerError::UnknownTag(tag.0))),
     }
 }
 
 fn read_common<'a>(
     alloc: Global,
     operation: Operation,
-    mut pdu: Cursor<'a>,
+    tag: Tag,
+    fields: &mut Cursor<'a>,
 ) -> Result<CommonPdu<'a>, FieldRefusal> {
+    let mut pdu = fields.open(Class::ContextSpecific, true, tag).named("pdu")?;
+    let request_id = pdu.i32().named("pdu.request-id")?;
+    let error_status = pdu.u32().named("pdu.error-status")?;
+    let error_index = pdu.u32().named("pdu.error-index")?;
+    let bindings = read_bindings(alloc, &mut pdu).named("pdu.variable-bindings")?;
+    pdu.end().named("pdu")?;
     Ok(CommonPdu {
         operation,
-        request_id: pdu.i32().named("request-id")?,
-        error_status: pdu.u32().named("error-status")?,
-        error_index: pdu.u32().named("error-index")?,
-        bindings: read_bindings(alloc, pdu).named("variable-bindings")?,
+        request_id,
+        error_status,
+        error_index,
+        bindings,
     })
 }
 
-fn read_trap<'a>(alloc: Global, mut pdu: Cursor<'a>) -> Result<TrapPdu<'a>, FieldRefusal> {
+fn read_trap<'a>(
+    alloc: Global,
+    tag: Tag,
+    fields: &mut Cursor<'a>,
+) -> Result<TrapPdu<'a>, FieldRefusal> {
+    let mut pdu = fields.open(Class::ContextSpecific, true, tag).named("pdu")?;
+    let enterprise = pdu.oid().named("pdu.enterprise")?;
+    let agent_address = read_address(&mut pdu).named("pdu.agent-addr")?;
+    let generic_trap = pdu.u32().named("pdu.generic-trap")?;
+    let specific_trap = pdu.i32().named("pdu.specific-trap")?;
+    let time = pdu.implicit_of(Class::Application, 3);
+    let time_stamp = time.u32().named("pdu.time-stamp")?;
+    let bindings = read_bindings(alloc, &mut pdu).named("pdu.variable-bindings")?;
+    pdu.end().named("pdu")?;
     Ok(TrapPdu {
-        enterprise: pdu.oid().named("enterprise")?,
-        agent_address: read_address(&mut pdu).named("agent-addr")?,
-        generic_trap: pdu.u32().named("generic-trap")?,
-        specific_trap: pdu.i32().named("specific-trap")?,
-        time_stamp: read_time(&mut pdu).named("time-stamp")?,
-        bindings: read_bindings(alloc, pdu).named("variable-bindings")?,
+        enterprise,
+        agent_address,
+        generic_trap,
+        specific_trap,
+        time_stamp,
+        bindings,
     })
-}
-
-/// Reads TimeTicks, as in `Value::TimeTicks`.
-fn read_time(pdu: &mut Cursor<'_>) -> Result<u32, Refusal<BerError>> {
-    pdu.implicit_of(Class::Application, 3).u32()
 }
 
 /// Reads an IpAddress, as in `Value::Address`.
 fn read_address(pdu: &mut Cursor<'_>) -> Result<Ipv4Addr, Refusal<BerError>> {
     let before = *pdu;
-    match pdu.implicit_of(Class::Application, 0).octets()? {
-        &[a, b, c, d] => Ok(Ipv4Addr::new(a, b, c, d)),
-        _ => Err(before.refuse(BerError::InvalidLength)),
+    let octets = pdu.implicit_of(Class::Application, 0).octets()?;
+    match address_of(octets) {
+        Ok(address) => Ok(address),
+        Err(e) => Err(before.refuse(e)),
     }
-}
-
-fn read_bindings<'a>(
-    alloc: Global,
-    mut pdu: Cursor<'a>,
-) -> Result<Vec<Binding<'a>>, Refusal<BerError>> {
-    let list = pdu.open_sequence()?;
-    pdu.end()?;
-    list.read_all(alloc, read_binding)
 }

@@ -30,12 +30,14 @@ const REFUSED: &[(&str, usize, u8, &str)] = &[
     ("a report, which version 1 doesn't have", 13, 0xa8, "pdu at 13: unknown tag 8"),
     ("a request of the class Application", 13, 0x60,
         "pdu at 13: unexpected class (expected CONTEXT-SPECIFIC, actual APPLICATION)"),
-    ("a request that is shorter than its bindings", 14, 0x17, "Message at 38: octets left over or missing"),
+    ("a request that is shorter than its bindings", 14, 0x17,
+        "pdu.variable-bindings at 24: an element runs past the end of its list, needs 2"),
     ("an error of -1", 20, 0xff, "pdu.error-status at 18: integer negative"),
-    ("bindings that are shorter than theirs", 25, 0x0c, "pdu.variable-bindings at 38: octets left over or missing"),
+    ("a binding that has no value", 27, 0x0a,
+        "pdu.variable-bindings at 38: an element is missing at the end of its list"),
     ("a name that is longer than its binding", 29, 0x0c,
         "pdu.variable-bindings at 28: an element runs past the end of its list, needs 2"),
-    ("a value of a type that isn't defined", 38, 0x45, "pdu.variable-bindings at 38: wrong value"),
+    ("a value of a type that isn't defined", 38, 0x45, "pdu.variable-bindings at 38: unknown tag 5"),
 ];
 
 /// The text of a refusal, or `read`.

@@ -8,7 +8,14 @@ use der_parser::values::{read_i32, read_oid, read_u32, read_u64};
 use std::alloc::Global;
 use std::net::Ipv4Addr;
 
-pub fn read_binding<'a>(
+pub fn read_bindings<'a>(
+    alloc: Global,
+    pdu: &mut Cursor<'a>,
+) -> Result<Vec<Binding<'a>>, Refusal<BerError>> {
+    pdu.open_sequence()?.read_all(alloc, read_binding)
+}
+
+fn read_binding<'a>(
     _alloc: Global,
     list: &mut Cursor<'a>,
 ) -> Result<Binding<'a>, Refusal<BerError>> {
@@ -22,27 +29,59 @@ pub fn read_binding<'a>(
 fn read_value<'a>(binding: &mut Cursor<'a>) -> Result<Value<'a>, Refusal<BerError>> {
     let before = *binding;
     let element = binding.any()?;
-    value_of(element).map_err(|e| before.refuse(e))
+    match value_of(element) {
+        Ok(value) => Ok(value),
+        Err(e) => Err(before.refuse(e)),
+    }
 }
 
 /// The value of a primitive element, whose tag says of which type it is.
 fn value_of(element: Any<'_>) -> Result<Value<'_>, BerError> {
     element.header.assert_primitive()?;
     let octets = element.bytes;
-    Ok(match (element.class(), element.tag().0, octets) {
-        (Class::Universal, 2, _) => Value::Integer(read_i32(Rules::Ber, octets)?),
-        (Class::Universal, 4, _) => Value::OctetString(octets),
-        (Class::Universal, 5, []) => Value::Null,
-        (Class::Universal, 6, _) => Value::Identifier(read_oid(octets)?),
-        (Class::Application, 0, &[a, b, c, d]) => Value::Address(Ipv4Addr::new(a, b, c, d)),
-        (Class::Application, 1, _) => Value::Counter32(read_u32(Rules::Ber, octets)?),
-        (Class::Application, 2, _) => Value::Gauge32(read_u32(Rules::Ber, octets)?),
-        (Class::Application, 3, _) => Value::TimeTicks(read_u32(Rules::Ber, octets)?),
-        (Class::Application, 4, _) => Value::Opaque(octets),
-        (Class::Application, 6, _) => Value::Counter64(read_u64(Rules::Ber, octets)?),
-        (Class::ContextSpecific, 0, []) => Value::NoSuchObject,
-        (Class::ContextSpecific, 1, []) => Value::NoSuchInstance,
-        (Class::ContextSpecific, 2, []) => Value::EndOfMibView,
-        _ => return Err(BerError::BerValueError),
-    })
+    match (element.class(), element.tag().0) {
+        (Class::Universal, 2) => Ok(Value::Integer(read_i32(Rules::Ber, octets)?)),
+        (Class::Universal, 4) => Ok(Value::OctetString(octets)),
+        (Class::Universal, 5) => {
+            check_empty(octets)?;
+            Ok(Value::Null)
+        }
+        (Class::Universal, 6) => Ok(Value::Identifier(read_oid(octets)?)),
+        (Class::Application, 0) => Ok(Value::Address(address_of(octets)?)),
+        (Class::Application, 1) => Ok(Value::Counter32(read_u32(Rules::Ber, octets)?)),
+        (Class::Application, 2) => Ok(Value::Gauge32(read_u32(Rules::Ber, octets)?)),
+        (Class::Application, 3) => Ok(Value::TimeTicks(read_u32(Rules::Ber, octets)?)),
+        (Class::Application, 4) => Ok(Value::Opaque(octets)),
+        (Class::Application, 6) => Ok(Value::Counter64(read_u64(Rules::Ber, octets)?)),
+        (Class::ContextSpecific, 0) => {
+            check_empty(octets)?;
+            Ok(Value::NoSuchObject)
+        }
+        (Class::ContextSpecific, 1) => {
+            check_empty(octets)?;
+            Ok(Value::NoSuchInstance)
+        }
+        (Class::ContextSpecific, 2) => {
+            check_empty(octets)?;
+            Ok(Value::EndOfMibView)
+        }
+        (_, number) => Err(BerError::UnknownTag(number)),
+    }
+}
+
+/// Checks that there are no octets (X.690 8.8.2).
+fn check_empty(octets: &[u8]) -> Result<(), BerError> {
+    if octets.is_empty() {
+        Ok(())
+    } else {
+        Err(BerError::InvalidLength)
+    }
+}
+
+/// The address of four octets.
+pub fn address_of(octets: &[u8]) -> Result<Ipv4Addr, BerError> {
+    match octets {
+        &[a, b, c, d] => Ok(Ipv4Addr::new(a, b, c, d)),
+        _ => Err(BerError::InvalidLength),
+    }
 }
