@@ -44,7 +44,11 @@ pub fn read_choice(list: &mut Cursor<'_>) -> Result<(), Refusal<BerError>> {
 
 /// Passes over all elements that are left.
 pub fn pass_over(mut list: Cursor<'_>) -> Result<(), Refusal<BerError>> {
-    while !list.is_empty() {
+    // Each element has an octet or more, so the loop ends at the end of the list.
+    for _ in 0..list.remaining().len() {
+        if list.is_empty() {
+            break;
+        }
         list.any()?;
     }
     Ok(())
