@@ -1,3 +1,5 @@
+pub mod BerContents
 pub mod BerReading
+pub mod BerSlices
 pub mod Inner
 pub mod Laws

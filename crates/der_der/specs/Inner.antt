@@ -1,3 +1,4 @@
 -- What private functions promise: no public contract cites these.
 pub mod DerForms
 pub mod DerItems
+pub mod InOrder

@@ -1,5 +1,4 @@
 -- Combinators that keep a parser.
-pub mod BerContainers
 pub mod ContainerLaws
 pub mod DerContainers
 pub mod ListStepsLaws

@@ -1,0 +1,12 @@
+use Rattle.std.proofs.Common.{ℕ, List, length}
+use Rattle.der_base.specs.ListSteps.{Calls}
+use Rattle.der_ber.proofs.lists.read_objects.Given as goal
+
+-- the calls so far
+abbrev pub invariant-loop-objects : goal.invariant-loop-objects
+invariant-loop-objects g l =
+    goal.F-IsAlwaysCallable g l.f
+    × (ss : List (List ℕ)) × Calls (goal.F-step g) l.fn.f l.fn.content l.objects.items ss l.f l.input
+
+abbrev pub decreases-loop-objects : goal.decreases-loop-objects
+decreases-loop-objects g l = length l.input

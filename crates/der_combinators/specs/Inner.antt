@@ -1,2 +1,0 @@
--- What private functions promise: no public contract cites these.
-pub mod InOrder

@@ -1,3 +1,0 @@
-pub mod ContentLaws
-pub mod ContentsRead
-pub mod TypedLaws
