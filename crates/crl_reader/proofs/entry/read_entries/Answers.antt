@@ -18,7 +18,7 @@ returns-in_err-read_all c =
 
 pub returns-then-is_next : goal.returns-then-is_next
 returns-then-is_next c =
-    is_read _ (c.is_next.ensures.0 c.if-is_next.true) (inside _ _ c.in_ok-entries.ensures (all_read (Required RevokedCertificate) revoked_of (required_takes RevokedCertificate) (λ f g a b r s. search rules) _ _ _ _ c.in_ok-read_all.ensures))
+    is_read _ (c.is_next.ensures.0 c.if-is_next.true) (inside _ _ c.in_ok-entries.ensures (all_read (Required RevokedCertificate) revoked_of (required_takes RevokedCertificate) (λ f g a b r s. search rules) (λ i k e. Unit {0}) _ _ _ c.in_ok-read_all.ensures))
 
 pub returns : goal.returns
 returns c = not_next _ (λ h. let e = c.is_next.ensures.1 h in cc)

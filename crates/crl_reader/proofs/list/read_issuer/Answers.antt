@@ -7,4 +7,4 @@ pub returns-in_err-content : goal.returns-in_err-content
 returns-in_err-content c = refused_open _ _ c.in_err-content.ensures c.from_residual.ensures.1
 
 pub returns : goal.returns
-returns c = inside _ _ c.in_ok-content.ensures (octets_in _ refl)
+returns c = inside _ _ c.in_ok-content.ensures (octets_in c.in_ok-content.content refl)
