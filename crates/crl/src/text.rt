@@ -10,7 +10,8 @@ pub struct Listed<'r, 'a>(pub &'r CertificateList<'a>, pub &'r Name<'a>);
 
 impl fmt::Display for Listed<'_, '_> {
     fn fmt<W: fmt::Write>(&self, f: &mut fmt::Formatter<W>) -> fmt::Result {
-        let list = &self.0.signed;
+        let whole = self.0;
+        let list = &whole.signed;
         writeln!(f, "version={}", if list.version.is_some() { 2 } else { 1 })?;
         writeln!(f, "signatureAlgorithm={}", list.signature)?;
         writeln!(f, "issuer={}", self.1)?;
@@ -24,7 +25,7 @@ impl fmt::Display for Listed<'_, '_> {
                 write_entry(f, entry)?;
             }
         }
-        writeln!(f, "signature={}", Hex(self.0.signature.octets))
+        writeln!(f, "signature={}", Hex(whole.signature.octets))
     }
 }
 

@@ -32,7 +32,8 @@ fn print_messages<R: Read, W: Write>(alloc: Global, stream: &mut R, out: &mut W)
     let mut offset: u64 = 0;
     for _ in 0..u64::MAX {
         match print_message(alloc, &octets, out)? {
-            Ok(taken) => {
+            Ok(left) => {
+                let taken = octets.len().saturating_sub(left);
                 octets.drain(..taken);
                 offset = offset.saturating_add(taken as u64);
             }
@@ -56,7 +57,7 @@ fn print_messages<R: Read, W: Write>(alloc: Global, stream: &mut R, out: &mut W)
     Ok(())
 }
 
-/// Prints the first message of the octets, and returns how many octets it has.
+/// Prints the first message of the octets, and returns how many octets follow it.
 fn print_message<W: Write>(
     alloc: Global,
     octets: &[u8],
@@ -65,7 +66,7 @@ fn print_message<W: Write>(
     match read_message(alloc, octets) {
         Ok((rest, message)) => {
             writeln!(out, "{message}")?;
-            Ok(Ok(octets.len().saturating_sub(rest.len())))
+            Ok(Ok(rest.len()))
         }
         Err(refused) => Ok(Err(refused)),
     }

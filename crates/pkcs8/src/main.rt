@@ -32,7 +32,11 @@ fn print_blocks(rt: &(impl Print + Eprint), alloc: Global, input: &[u8]) -> Resu
     let mut number: u64 = 0;
     let mut refused: u64 = 0;
     let mut left = input;
-    while let Some((block, rest)) = next_block(left)? {
+    // Each block has an octet or more, so the loop ends at the end of the input.
+    for _ in 0..input.len() {
+        let Some((block, rest)) = next_block(left)? else {
+            break;
+        };
         left = rest;
         if !matches!(block.label, b"PRIVATE KEY") {
             eprintln!(rt; "found {}, not a private key", block.label.escape_ascii())?;
