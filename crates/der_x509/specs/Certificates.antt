@@ -1,6 +1,6 @@
 -- Certificates, as the ASN.1 of RFC 5280 writes them (4.1 and appendix A.1), in DER. Each line has its ASN.1 beside it.
-use Rattle.std.specs.Prelude.{◌≡◌, ◌≢◌, ℕ, ◌⊎◌, ℤ, pos, negsuc, ◌==◌, if◌then◌else◌, Bool, false, Option, List, [], Result}
-use Rattle.std.specs.Prelude.{MatchResult}
+use Rattle.std.specs.Prelude.{◌≡◌, ◌≢◌, ℕ, ◌⊎◌, ℤ, pos, negsuc, ◌==◌, if◌then◌else◌, Bool, false}
+use Rattle.std.specs.Prelude.{Option, List, [], Result, MatchResult}
 use Rattle.std.specs.Option.{option_map}
 use Rattle.der_base.specs.declared.any.Any.{Any}
 use Rattle.der_base.specs.declared.header.Class.TheVariants.{Universal}
@@ -24,8 +24,10 @@ use Rattle.der_x509.specs.declared.name.AttributeTypeAndValue.{AttributeTypeAndV
 use Rattle.der_x509.specs.declared.refusal.CertificateRefusal.{CertificateRefusal}
 use Rattle.der_x509.specs.declared.refusal.Field.TheVariants as field
 use Rattle.der_x509.specs.declared.time.Validity.{Validity}
-use Rattle.der_x509.specs.Formats.{Fault, FieldFault, Format, Element, ◌>>=◌, any, done, either, end_of_content, refuses, spells}
-use Rattle.der_x509.specs.Formats.{explicit_or, inside, list_of, named, optional_implicit, primitive, requiring, sequence, set}
+use Rattle.der_x509.specs.Formats.{Fault, FieldFault, Format, Element, ◌>>=◌, any, done, either, end_of_content}
+use Rattle.der_x509.specs.Formats.{refuses, spells}
+use Rattle.der_x509.specs.Formats.{explicit_or, inside, list_of, named, optional_implicit, primitive}
+use Rattle.der_x509.specs.Formats.{requiring, sequence, set}
 use Rattle.der_x509.specs.Formats.{some_octets, start, with_octets, wrong_at}
 use Rattle.der_x509.specs.Readers.{field_fault}
 

@@ -168,8 +168,10 @@ set = element Universal true 17
 
 -- an explicit tag of this number, if it is next (X.690 8.14.2); else the value that an absent one has
 abbrev pub explicit_or : {V : Type 0} → V → ℕ → Format Fault V → Format Fault V
-explicit_or v n f = either (BeginsWithTag n) (element ContextSpecific true n >>= λ w. inside w (f >>= λ v. end_of_content >>= λ u. done v)) (done v)
+explicit_or v n f = either (BeginsWithTag n)
+    (element ContextSpecific true n >>= λ w. inside w (f >>= λ v. end_of_content >>= λ u. done v)) (done v)
 
 -- a value of a primitive type under an implicit tag of this number, if it is next (X.690 8.14.3)
 abbrev pub optional_implicit : {V : Type 0} → ℕ → Kind V → Format Fault (Option V)
-optional_implicit n k = either (IsNext ContextSpecific n) (primitive ContextSpecific n k >>= λ v. done (Some v)) (done None)
+optional_implicit n k =
+    either (IsNext ContextSpecific n) (primitive ContextSpecific n k >>= λ v. done (Some v)) (done None)

@@ -3,7 +3,8 @@ ghost use Rattle.std.specs.Option.{option_map};
 ghost use Rattle.std.specs.Prelude.{◌<◌, OnOk};
 ghost use Rattle.der_base.specs.declared.rules.Rules.{Rules};
 ghost use Rattle.der_values.specs.Kinds.{bit_strings};
-ghost use Rattle.der_x509.specs.Certificates.{ReadsCertificate, bits_of, certificate, certificate_of, tbs_certificate, tbs_of, version};
+ghost use Rattle.der_x509.specs.Certificates.{ReadsCertificate, bits_of, certificate, certificate_of};
+ghost use Rattle.der_x509.specs.Certificates.{tbs_certificate, tbs_of, version};
 ghost use Rattle.der_x509.specs.Formats.{explicit_or, optional_implicit};
 ghost use Rattle.der_x509.specs.Readers.{IsShorter, ReadsBy, fault_of, field_fault};
 
@@ -119,7 +120,8 @@ fn read_unique_id<'a>(
     number: u32,
 ) -> Result<Option<BitString<'a>>, Refusal<BerError>>
     requires { number < 31 }
-    ensures { ReadsBy fault_of (option_map bits_of) (optional_implicit number (bit_strings Rules.Der)) fields.old result fields.new }
+    ensures { ReadsBy fault_of (option_map bits_of) (optional_implicit number (bit_strings Rules.Der))
+        fields.old result fields.new }
 {
     fields.implicit(number).optional_bits()
 }
