@@ -1,11 +1,14 @@
 -- Laws of the definitions.
-use Rattle.std.specs.Prelude.{◌≡◌, ◌≢◌, ℕ, ◌-◌, ◌%◌, ◌^◌, ◌<◌, ◌≤◌, ◌⊎◌, ◌↔◌, Bool, false, IsTrue, pos}
+use Rattle.std.specs.Prelude.{◌≡◌, ◌≢◌, ℕ, ◌-◌, ◌%◌, ◌^◌, ◌<◌, ◌≤◌, ◌⊎◌, ◌↔◌, Bool, true, false, IsTrue, pos}
 use Rattle.std.specs.Prelude.{◌<ℤ◌, List, [], ◌∷◌, ◌++◌, length, slice_index, All}
 use Rattle.std.specs.List.Sorted.{IsPermutation}
 use Rattle.der_base.specs.declared.error.Err.{Err as Refused}
 use Rattle.der_base.specs.declared.header.Class.{Class}
+use Rattle.der_base.specs.declared.header.Class.TheVariants.{Universal}
 use Rattle.der_base.specs.declared.header.Header.{Header}
 use Rattle.der_base.specs.declared.header.Length.{Length}
+use Rattle.der_base.specs.declared.rules.Rules.{Rules}
+use Rattle.der_base.specs.Containers.{BeginsWithElementBy}
 use Rattle.der_base.specs.Encoding.{encoding, content_octets}
 use Rattle.der_base.specs.Fault.{BerHeaderRefuses, DerHeaderRefuses, ShowsFault, DerShowsFault}
 use Rattle.der_base.specs.Header.{IsHeader, class_of, is_constructed, number_of, length_of, raw_tag_of}
@@ -210,6 +213,16 @@ abbrev pub OpenedPass : {E : Type 0} → (List ℕ → Header → List ℕ → L
     → (List ℕ → Refused E → Type 0) → Type 0
 OpenedPass opens refuses = (i : List ℕ) (h : Header) (w after : List ℕ) → opens i h w after
     → (r : Refused _) → ¬ refuses i r
+
+-- an input that begins with an element is not refused, by a combinator of any element or of the element's tag number
+abbrev pub ElementsPass : {E : Type 0} → Rules → (ℕ → List ℕ → Refused E → Type 0) → Type 0
+ElementsPass rules refuses = (i : List ℕ) (c : Class) (p : Bool) (t : ℕ) (w rest : List ℕ)
+    → BeginsWithElementBy rules i c p t w rest → (r : Refused _) → ¬ refuses t i r
+
+-- nor by a combinator of an explicit tag, where the element is one
+abbrev pub ExplicitElementsPass : {E : Type 0} → Rules → (ℕ → List ℕ → Refused E → Type 0) → Type 0
+ExplicitElementsPass rules refuses = (i : List ℕ) (c : Class) (t : ℕ) (w rest : List ℕ)
+    → BeginsWithElementBy rules i c true t w rest → c ≢ Universal → (r : Refused _) → ¬ refuses t i r
 
 -- octets that are a DER encoding
 abbrev pub IsDerEncoding : List ℕ → Type 0

@@ -8,7 +8,6 @@ use Rattle.der_base.specs.declared.error.Err.TheVariants.{Incomplete, Error, Fai
 use Rattle.der_base.specs.declared.error.ErrorKind.{ErrorKind}
 use Rattle.der_base.specs.declared.error.ErrorKind.TheVariants.{Eof, Many0}
 use Rattle.der_base.specs.declared.error.Needed.{Needed}
-use Rattle.der_base.specs.declared.header.Header.{Header}
 use Rattle.der_base.specs.Containers.{Answered}
 
 -- the octets that a call takes: the front of its input that its rest no longer has
@@ -61,9 +60,3 @@ module _ {F O E : Type 0} (step : F → Bor (List ℕ) → Answered O E → F �
 abbrev pub items_of : {O E : Type 0} → Answered (Vec O) E → Result (List O) (Refused E)
 items_of (Ok x) = Ok x.1.items
 items_of (Err e) = Err e
-
--- A container calls a list parser in the place of a parser of content and header.
-module _ {F O E : Type 0} (from_error_kind_gives : Bor (List ℕ) → ErrorKind → E → Type 0)
-    (step : F → Bor (List ℕ) → Answered O E → F → Type 0) where
-  abbrev pub OnItems : F → Bor (List ℕ) → Header → Answered (Vec O) E → F → Type 0
-  OnItems f content h r g = ListSteps step from_error_kind_gives content.now f (items_of r) g

@@ -2,15 +2,13 @@
 -- at its end.
 use Rattle.std.specs.Prelude.{◌≡◌, ℕ, ◌<◌, List, [], ◌∷◌, ◌++◌, length, get_or, Result, Ok, Err}
 use Rattle.std.specs.Borrow.{Bor}
-use Rattle.std.specs.Global.{Vec}
 use Rattle.der_base.specs.declared.error.DerConstraint.TheVariants.{SetOfOrder}
 use Rattle.der_base.specs.declared.error.Err.{Err as Refused}
 use Rattle.der_base.specs.declared.error.Err.TheVariants.{Error}
 use Rattle.der_base.specs.declared.error.Error.{Error as BerError}
 use Rattle.der_base.specs.declared.error.ErrorKind.{ErrorKind}
-use Rattle.der_base.specs.declared.header.Header.{Header}
 use Rattle.der_base.specs.Containers.{Answered}
-use Rattle.der_base.specs.ListSteps.{Calls, LastCall, no_room, items_of, taken}
+use Rattle.der_base.specs.ListSteps.{Calls, LastCall, no_room, taken}
 use Rattle.der_base.specs.Refusal.{refusal, der_constraint}
 
 -- an octet by its place; after the last one there are octets of 0
@@ -52,7 +50,3 @@ module _ {F O E : Type 0} (from_error_kind_gives : Bor (List ℕ) → ErrorKind 
         {x : E} → Calls step f w vs ss m j → IsAscending ss → step m p (Ok (r, v)) g → p.now ≡ j
         → length r.now < length j → DescendsAtEnd ss (taken j r.now) → refusal e ≡ der_constraint SetOfOrder
         → from_gives e x → OrderedSteps w f (Err (Error x)) g
-
-  -- a container calls a parser of a SET OF in the place of a parser of content and header
-  abbrev pub OnSetOf : F → Bor (List ℕ) → Header → Answered (Vec O) E → F → Type 0
-  OnSetOf f content h r g = OrderedSteps content.now f (items_of r) g

@@ -96,7 +96,7 @@ pub fn read_element_with_tag<'a>(
 /// recorded first.
 #[cycle(reader)]
 #[inline(never)]
-pub(crate) fn read_behind<'a>(
+pub fn read_behind<'a>(
     alloc: Global,
     header: Header<'a>,
     behind: &'a [u8],

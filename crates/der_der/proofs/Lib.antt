@@ -1,9 +1,4 @@
-pub mod ContentLaws
 pub mod Counts
 pub mod Forms
 pub mod Items
 pub mod ReadingLaws
-pub mod SetOfLaws
-pub mod Slices
-pub mod TypedLaws
-pub mod TypedRead

@@ -1,4 +1,3 @@
 -- What private functions promise: no public contract cites these.
 pub mod DerForms
 pub mod DerItems
-pub mod InOrder

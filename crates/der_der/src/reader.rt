@@ -58,7 +58,7 @@ pub fn read_element<'a>(
 
 /// Returns how many octets a content lacks that is cut short: by DER the whole length for class
 /// Universal.
-pub(crate) fn lacking(header: &Header<'_>, size: usize, rest: &[u8]) -> usize
+pub fn lacking(header: &Header<'_>, size: usize, rest: &[u8]) -> usize
     requires { length rest.now < size }
     ensures universal { class_of header.now ≡ Class.Universal → result ≡ size }
     ensures other { class_of header.now ≢ Class.Universal → length rest.now + result ≡ size }
@@ -74,7 +74,7 @@ pub(crate) fn lacking(header: &Header<'_>, size: usize, rest: &[u8]) -> usize
 /// it.
 #[cycle(reader)]
 #[inline(always)]
-pub(crate) fn read_object<'a>(
+pub fn read_object<'a>(
     alloc: Global,
     header: Header<'a>,
     octets: &'a [u8],

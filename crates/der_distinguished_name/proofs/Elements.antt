@@ -1,5 +1,5 @@
 -- What a container of DER answers, where its parser answers what a whole content is.
-use Rattle.std.proofs.Common.{◌≡◌, ◌≢◌, ℕ, Bool, false, List, [], ◌∷◌, ◌++◌, length, Ok, Err, Bor, IfOk, MatchResult, refl, sym, ap, subst, ◌∙◌, arith, append_assoc, length-append, lit<, inl, inr}
+use Rattle.std.proofs.Common.{◌≡◌, ◌≢◌, ℕ, Bool, false, List, [], ◌∷◌, ◌++◌, length, Ok, Err, Bor, IfOk, MatchResult, refl, sym, ap, subst, ◌∙◌, append_assoc, lit<, inl, inr}
 use Rattle.der_parser.specs.declared.error.Err.{Err as Refused}
 use Rattle.der_parser.specs.declared.error.Err.TheVariants.{Incomplete, OutOfMemory}
 use Rattle.der_parser.specs.declared.error.Error.{Error as BerError}
@@ -8,16 +8,16 @@ use Rattle.der_parser.specs.declared.error.Needed.TheVariants.{Size}
 use Rattle.der_parser.specs.declared.ber.Class.{Class}
 use Rattle.der_parser.specs.declared.ber.Class.TheVariants.{Universal}
 use Rattle.der_parser.specs.declared.ber.Header.{Header}
-use Rattle.der_parser.specs.Containers.{Answered, OpensDer, RefusesDer, RefusesDerNumber, DerNumberRun, faulty, cut, too_short, unopened, other_number, stopped, accepted, refused}
+use Rattle.der_parser.specs.declared.Rules.TheVariants.{Der}
+use Rattle.der_parser.specs.Containers.{Answered, Opens, RefusesNumber, NumberRun, faulty, cut, too_short, unopened, other_number, stopped, accepted, refused}
 use Rattle.der_parser.specs.Fault.{DerHeaderRefuses}
 use Rattle.der_parser.specs.Header.{class_of, is_constructed, number_of}
 use Rattle.der_parser.specs.Headers.{BeginsWithDerHeader, DerHeaderLacks}
 use Rattle.der_parser.specs.Octets.{identifier, shortest_length}
 use Rattle.der_parser.specs.Refusal.{Refusal, refusal}
-use Rattle.der_parser.proofs.DerContainers.{opened_size}
-use Rattle.der_parser.proofs.DerHeaders.{der_header_same, der_header_not_refused, der_header_not_lacking}
+use Rattle.der_parser.proofs.ContainerLaws.{element_same, opens_element, number_passes}
+use Rattle.der_parser.proofs.DerHeaders.{der_header_not_lacking}
 use Rattle.der_parser.proofs.StableHeaders.{der_header_fronts_are_cut}
-use Rattle.der_parser.proofs.Identifiers.{fronts_same}
 use Rattle.der_distinguished_name.specs.Inner.{AnswersItem, AnswersWhole, IsIncomplete}
 use Rattle.der_distinguished_name.specs.Names.{BeginsWith, Encloses, IsElementOf}
 
@@ -59,55 +59,40 @@ pub element_some : (b w : List ℕ) (t : ℕ) → IsElementOf t b w → b ≢ []
 element_some b w t (c, p, h) e = nothing_begins c p t (length w) w (subst (λ x. BeginsWithDerHeader x c p t (length w) w) e h)
 
 -- an element that is opened is the one that begins the input
-opened_same : (i w w' after rest : List ℕ) (h : Header) (c : Class) (p : Bool) (t : ℕ) → OpensDer i h w' after → BeginsWithDerHeader i c p t (length w) (w ++ rest)
+opened_same : (i w w' after rest : List ℕ) (h : Header) (c : Class) (p : Bool) (t : ℕ) → Opens Der i h w' after → BeginsWithDerHeader i c p t (length w) (w ++ rest)
     → (w' ≡ w) × (after ≡ rest) × (number_of h ≡ t)
 opened_same i w w' after rest h c p t o b =
-    let s = der_header_same i (w' ++ after) (w ++ rest) _ _ _ _ _ _ o.0.size (length w) o.0.begins b in
-    let f = fronts_same w' w after rest (sym (opened_size i w' after h o) ∙ s.length) s.rest in
-    (f.0, f.1, s.number)
+    let s = element_same Der i w' w after rest (class_of h) c (is_constructed h) p (number_of h) t (opens_element Der i w' after h o) b in
+    (s.3, s.4, s.2)
 
 module _ {E : Type 0} {from_error_kind_gives : Bor (List ℕ) → ErrorKind → E → Type 0} {from_gives : BerError → E → Type 0} where
-  -- and it is not refused
-  element_passes : (i w rest : List ℕ) (c : Class) (p : Bool) (t : ℕ) (r : Refused E) → BeginsWithDerHeader i c p t (length w) (w ++ rest)
-      → RefusesDer from_error_kind_gives from_gives i r → ⊥
-  element_passes i w rest c p t r b (faulty {e = e} f g) = der_header_not_refused i (w ++ rest) c p t (length w) (refusal e) b f
-  element_passes i w rest c p t r b (cut {n = n} l) = der_header_not_lacking i (w ++ rest) c p t (length w) n b l.1
-  element_passes i w rest c p t r b (too_short {behind = v} (c', p', t', n, b', l) k) =
-      let s = der_header_same i (w ++ rest) v.now c c' p p' t t' (length w) n b b' in
-      omega (arith, l, s.length, ap length s.rest, length-append w rest)
-
-  number_passes : (i w rest : List ℕ) (c : Class) (p : Bool) (t : ℕ) (r : Refused E) → BeginsWithDerHeader i c p t (length w) (w ++ rest)
-      → RefusesDerNumber from_error_kind_gives from_gives t i r → ⊥
-  number_passes i w rest c p t r b (unopened u) = element_passes i w rest c p t r b u
-  number_passes i w rest c p t r b (other_number (n, h, w', after, o, z) e g) = n (sym z ∙ (opened_same i w w' after rest h c p t o b).2)
-
   -- where there are no octets, a container wants more
-  refused_wants_more : (t : ℕ) (r : Refused E) → RefusesDerNumber from_error_kind_gives from_gives t [] r → (n : ℕ) × (r ≡ Incomplete (Size n))
+  refused_wants_more : (t : ℕ) (r : Refused E) → RefusesNumber Der from_error_kind_gives from_gives t [] r → (n : ℕ) × (r ≡ Incomplete (Size n))
   refused_wants_more t r (unopened (faulty {e = e} f g)) = absurd (nothing_refused (refusal e) f)
   refused_wants_more t r (unopened (cut {n = n} l)) = (n, refl)
   refused_wants_more t r (unopened (too_short {behind = v} (c, p, t', n, b, l) k)) = absurd (nothing_begins c p t' n v.now b)
-  refused_wants_more t r (other_number (n, h, w, after, o, z) e g) = absurd (nothing_begins _ _ _ o.0.size (w ++ after) o.0.begins)
+  refused_wants_more t r (other_number h w after o n e g) = absurd (nothing_begins _ _ _ o.0.size (w ++ after) o.0.begins)
 
 module _ {F T V : Type 0} {step : F → Bor (List ℕ) → Header → Answered T BerError → F → Type 0} {Whole : List ℕ → V → Type 0} {view : T → V} {t : ℕ}
     {from_error_kind_gives : Bor (List ℕ) → ErrorKind → BerError → Type 0} {from_gives : BerError → BerError → Type 0}
     (answers : (f g : F) (content : Bor (List ℕ)) (h : Header) (r : Answered T BerError) → step f content h r g → AnswersWhole Whole view content.now r) where
-  at_end : {f g : F} {r : Answered T BerError} → DerNumberRun t from_error_kind_gives from_gives [] step f r g → IsIncomplete r
+  at_end : {f g : F} {r : Answered T BerError} → NumberRun Der t from_error_kind_gives from_gives [] step f r g → IsIncomplete r
   at_end (inl (refused {e = e} u)) = let (n, q) = refused_wants_more t e u in rw q tt
   at_end (inr (stopped {h = h} {w = w} {after = after} (o, z) s q)) = absurd (nothing_begins _ _ _ o.0.size (w ++ after) o.0.begins)
   at_end (inr (accepted {h = h} {w = w} {after = after} (o, z) s q)) = absurd (nothing_begins _ _ _ o.0.size (w ++ after.now) o.0.begins)
 
-  found : {i : List ℕ} {f g : F} {r : Answered T BerError} → DerNumberRun t from_error_kind_gives from_gives i step f r g
+  found : {i : List ℕ} {f g : F} {r : Answered T BerError} → NumberRun Der t from_error_kind_gives from_gives i step f r g
       → IfOk r (λ x. BeginsWith (Encloses t Whole) i (view x.1) x.0.now)
   found (inl (refused u)) = tt
   found (inr (stopped o s q)) = tt
   found {i = i} {f = f} (inr (accepted {g = g} {h = h} {w = w} {content = content} {left = left} {after = after} {v = v} (o, z) s q)) =
-      let b : BeginsWithDerHeader i (class_of h) (is_constructed h) t (length w) (w ++ after.now) = subst (λ n. BeginsWithDerHeader i (class_of h) (is_constructed h) n (length w) (w ++ after.now)) z (subst (λ n. BeginsWithDerHeader i (class_of h) (is_constructed h) (number_of h) n (w ++ after.now)) (opened_size i w after.now h o) o.0.begins) in
+      let b : BeginsWithDerHeader i (class_of h) (is_constructed h) t (length w) (w ++ after.now) = subst (λ n. BeginsWithDerHeader i (class_of h) (is_constructed h) n (length w) (w ++ after.now)) z (opens_element Der i w after.now h o) in
       let (e, joined, element) = element_of i w after.now (class_of h) (is_constructed h) t b in
       (e, joined, (w, (class_of h, is_constructed h, element), subst (λ x. Whole x (view v)) q (answers f g content h (Ok (left, v)) s).found))
 
-  only : {i : List ℕ} {f g : F} {r : Answered T BerError} → DerNumberRun t from_error_kind_gives from_gives i step f r g
+  only : {i : List ℕ} {f g : F} {r : Answered T BerError} → NumberRun Der t from_error_kind_gives from_gives i step f r g
       → (v : V) (rest : List ℕ) → BeginsWith (Encloses t Whole) i v rest → MatchResult r (λ x. (view x.1 ≡ v) × (x.0.now ≡ rest)) (λ e. e ≡ OutOfMemory)
-  only {i = i} (inl (refused {e = e} u)) v rest (b, j, (w, (c, p, h), whole)) = absurd (number_passes i w rest c p t e (header_of i b w rest c p t j h) u)
+  only {i = i} (inl (refused {e = e} u)) v rest (b, j, (w, (c, p, h), whole)) = absurd (number_passes {rules = Der} c p t w rest (header_of i b w rest c p t j h) u)
   only {i = i} {f = f} (inr (stopped {g = g} {h = h'} {w = w'} {after = after} {content = content} {e = e} (o, z) s q)) v rest (b, j, (w, (c, p, h), whole)) =
       let same = opened_same i w w' after rest h' c p t o (header_of i b w rest c p t j h) in
       (answers f g content h' (Err e) s).only v (subst (λ x. Whole x v) (sym (q ∙ same.0)) whole)
@@ -115,16 +100,16 @@ module _ {F T V : Type 0} {step : F → Bor (List ℕ) → Header → Answered T
       let same = opened_same i w w' after.now rest h' c p t o (header_of i b w rest c p t j h) in
       ((answers f g content h' (Ok (left, v')) s).only v (subst (λ x. Whole x v) (sym (q ∙ same.0)) whole), same.1)
 
-  whole : {i : List ℕ} {f g : F} {r : Answered T BerError} → DerNumberRun t from_error_kind_gives from_gives i step f r g → AnswersItem (Encloses t Whole) view i r
+  whole : {i : List ℕ} {f g : F} {r : Answered T BerError} → NumberRun Der t from_error_kind_gives from_gives i step f r g → AnswersItem (Encloses t Whole) view i r
   whole {f = f} {g = g} {r = r} run = record {
     spelled = record { found = found run; only = only run };
-    at_end = λ e. at_end (subst (λ i. DerNumberRun t from_error_kind_gives from_gives i step f r g) e run);
+    at_end = λ e. at_end (subst (λ i. NumberRun Der t from_error_kind_gives from_gives i step f r g) e run);
   }
 
 -- a container answers what encloses a content
 pub container : {F T V : Type 0} {step : F → Bor (List ℕ) → Header → Answered T BerError → F → Type 0} {Whole : List ℕ → V → Type 0} {view : T → V} {t : ℕ}
     {from_error_kind_gives : Bor (List ℕ) → ErrorKind → BerError → Type 0} {from_gives : BerError → BerError → Type 0} {i : List ℕ} {f g : F} {r : Answered T BerError}
-    → DerNumberRun t from_error_kind_gives from_gives i step f r g
+    → NumberRun Der t from_error_kind_gives from_gives i step f r g
     → ((f g : F) (content : Bor (List ℕ)) (h : Header) (r : Answered T BerError) → step f content h r g → AnswersWhole Whole view content.now r)
     → AnswersItem (Encloses t Whole) view i r
 container run answers = whole answers run

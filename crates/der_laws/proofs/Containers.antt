@@ -1,4 +1,5 @@
 -- Combinators that keep a parser.
+pub mod BerContainers
 pub mod ContainerLaws
 pub mod DerContainers
 pub mod ListStepsLaws

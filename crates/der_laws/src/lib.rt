@@ -36,14 +36,16 @@ ghost use Rattle.der_base.specs.Laws.{
   EncodingIsNormalForm,
   OpensInOneWay,
   OpenedPass,
+  ElementsPass,
+  ExplicitElementsPass,
   LengthsShowInHeaders,
 };
 ghost use Rattle.der_base.specs.Laws.{NumberOrRefused, NumbersPass, HaveOneNumberRefusal, NumbersFit};
 ghost use Rattle.der_base.specs.Laws.{EncodingsDoNotTie, SetOfHasOneOrder};
 ghost use Rattle.std.specs.Prelude.{ℕ};
-ghost use Rattle.der_base.specs.Containers.{OpensBer, OpensBerNumber, OpensDer, OpensDerNumber};
-ghost use Rattle.der_base.specs.Containers.{RefusesBer, RefusesBerNumber, RefusesDer, RefusesDerNumber};
-ghost use Rattle.der_base.specs.Containers.{OpensExplicit, RefusesExplicit};
+ghost use Rattle.der_base.specs.declared.rules.Rules.{Rules};
+ghost use Rattle.der_base.specs.Containers.{Opens, OpensExplicit, OpensNumber};
+ghost use Rattle.der_base.specs.Containers.{Refuses, RefusesExplicit, RefusesNumber};
 ghost use Rattle.der_base.specs.Fault.{ShowsFault, DerShowsFault};
 ghost use Rattle.der_base.specs.Spelling.{BeginsWithBer, BeginsWithDer};
 
@@ -167,8 +169,7 @@ pub fn encoding_is_normal_form()
 /// An input begins with an element in one way: its header, its content and what follows it are
 /// determined.
 pub fn opened_in_one_way()
-    ensures ber { OpensInOneWay OpensBer }
-    ensures der { OpensInOneWay OpensDer }
+    ensures { (rules : Rules) → OpensInOneWay (Opens rules) }
 {}
 
 /// A combinator doesn't refuse an input that it opens, whether it takes any element, one of a tag
@@ -177,16 +178,26 @@ pub fn opened_in_one_way()
 pub fn opened_never_refused<'a, E>()
 where
     E: ParseError<&'a [u8]> + From<BerError>,
-    ensures ber { OpenedPass OpensBer (RefusesBer E.from_error_kind_gives E.from_gives) }
-    ensures der { OpenedPass OpensDer (RefusesDer E.from_error_kind_gives E.from_gives) }
-    ensures ber_number { (n : ℕ) → OpenedPass (OpensBerNumber n)
-        (RefusesBerNumber E.from_error_kind_gives E.from_gives n) }
-    ensures der_number { (n : ℕ) → OpenedPass (OpensDerNumber n)
-        (RefusesDerNumber E.from_error_kind_gives E.from_gives n) }
-    ensures ber_explicit { (n : ℕ) → OpenedPass (λ i. OpensExplicit (OpensBer i) n)
-        (λ i. RefusesExplicit (OpensBer i) (RefusesBer E.from_error_kind_gives E.from_gives i) E.from_gives n) }
-    ensures der_explicit { (n : ℕ) → OpenedPass (λ i. OpensExplicit (OpensDer i) n)
-        (λ i. RefusesExplicit (OpensDer i) (RefusesDer E.from_error_kind_gives E.from_gives i) E.from_gives n) }
+    ensures any { (rules : Rules) → OpenedPass (Opens rules)
+        (Refuses rules E.from_error_kind_gives E.from_gives) }
+    ensures number { (rules : Rules) (n : ℕ) → OpenedPass (OpensNumber rules n)
+        (RefusesNumber rules E.from_error_kind_gives E.from_gives n) }
+    ensures explicit { (rules : Rules) (n : ℕ) → OpenedPass (OpensExplicit rules n)
+        (RefusesExplicit rules E.from_error_kind_gives E.from_gives n) }
+{}
+
+/// An input that begins with an element isn't refused by a combinator that takes any element, one of
+/// the element's tag number, or an explicit tag that the element is. So the combinator calls the
+/// parser that it keeps.
+pub fn elements_are_never_refused<'a, E>()
+where
+    E: ParseError<&'a [u8]> + From<BerError>,
+    ensures any { (rules : Rules) → ElementsPass rules
+        (λ n. Refuses rules E.from_error_kind_gives E.from_gives) }
+    ensures number { (rules : Rules) → ElementsPass rules
+        (RefusesNumber rules E.from_error_kind_gives E.from_gives) }
+    ensures explicit { (rules : Rules) → ExplicitElementsPass rules
+        (RefusesExplicit rules E.from_error_kind_gives E.from_gives) }
 {}
 
 /// Two DER encodings are the same if neither is greater than the other. So the encodings in a SET OF,

@@ -6,7 +6,6 @@ pub use Rattle.der_laws.proofs.Spellings.DerWithinBer
 pub use Rattle.der_base.proofs.Answers.Exactness
 pub use Rattle.der_base.proofs.Framing.UniqueSpelling
 pub use Rattle.der_laws.proofs.Containers.ContainerLaws
-pub use Rattle.der_laws.proofs.Containers.DerContainers
 pub use Rattle.der_base.proofs.Headers.DerHeaders
 pub use Rattle.der_laws.proofs.Headers.StableHeaders
 pub use Rattle.der_base.proofs.Octets.Identifiers

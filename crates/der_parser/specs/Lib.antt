@@ -48,14 +48,13 @@ pub use Rattle.der_object.specs.Readings
 pub use Rattle.der_object.specs.Room
 pub use Rattle.der_object.specs.View
 pub use Rattle.der_object.specs.Writing
-pub use Rattle.der_ber.specs.BerContents
 pub use Rattle.der_ber.specs.BerReading
-pub use Rattle.der_ber.specs.BerSlices
 pub use Rattle.der_ber.specs.Laws as BerLaws
-pub use Rattle.der_der.specs.DerContents
 pub use Rattle.der_der.specs.DerReading
-pub use Rattle.der_der.specs.DerSlices
 pub use Rattle.der_der.specs.Laws as DerLaws
+pub use Rattle.der_combinators.specs.Lists
+pub use Rattle.der_combinators.specs.Slices
+pub use Rattle.der_types.specs.TypedReading
 pub use Rattle.der_cursor.specs.Cursors
 pub use Rattle.der_cursor.specs.Elements
 pub use Rattle.der_cursor.specs.Formats

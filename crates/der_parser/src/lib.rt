@@ -25,30 +25,34 @@ pub mod ber {
     pub use der_base::time::{ASN1DateTime, ASN1TimeZone, TimeText};
     pub use der_base::{MAX_OBJECT_SIZE, MAX_RECURSION};
     pub use der_ber::{
-        BerContainer, BerContent, BerContent2, BerOptional, BerSequenceDefined,
-        BerSequenceDefinedG, BerSequenceOf, BerSequenceOfV, BerSetDefined, BerSetDefinedG,
-        BerSetOf, BerSetOfV, BerTaggedExplicit, BerTaggedExplicitG, BerTaggedImplicit,
-        BerTaggedImplicitG, ber_object_from_any, ber_read_element_content_as, parse_ber,
-        parse_ber_any, parse_ber_any_r, parse_ber_any_with_tag_r, parse_ber_bitstring,
-        parse_ber_bmpstring, parse_ber_bool, parse_ber_container, parse_ber_content,
-        parse_ber_content2, parse_ber_counted, parse_ber_endofcontent, parse_ber_enum,
-        parse_ber_explicit_optional, parse_ber_generalizedtime, parse_ber_generalstring,
-        parse_ber_graphicstring, parse_ber_i32, parse_ber_i64, parse_ber_ia5string,
-        parse_ber_implicit, parse_ber_integer, parse_ber_null, parse_ber_numericstring,
-        parse_ber_objectdescriptor, parse_ber_octetstring, parse_ber_oid, parse_ber_optional,
-        parse_ber_printablestring, parse_ber_recursive, parse_ber_relative_oid, parse_ber_sequence,
+        parse_ber, parse_ber_any, parse_ber_any_r, parse_ber_any_with_tag_r, parse_ber_counted,
+        parse_ber_recursive,
+    };
+    pub use der_combinators::{
+        Container, ExplicitContainer, ExplicitObject, ImplicitContainer, ImplicitObject,
+        ListObject, ListOfObjects, ListOfValues, NumberedContainer, OptionalObject,
+        parse_ber_container, parse_ber_explicit_optional, parse_ber_implicit, parse_ber_optional,
         parse_ber_sequence_defined, parse_ber_sequence_defined_g, parse_ber_sequence_of,
-        parse_ber_sequence_of_v, parse_ber_set, parse_ber_set_defined, parse_ber_set_defined_g,
-        parse_ber_set_of, parse_ber_set_of_v, parse_ber_slice, parse_ber_t61string,
-        parse_ber_tagged_explicit, parse_ber_tagged_explicit_g, parse_ber_tagged_implicit,
-        parse_ber_tagged_implicit_g, parse_ber_u32, parse_ber_u64, parse_ber_universalstring,
-        parse_ber_utctime, parse_ber_utf8string, parse_ber_videotexstring, parse_ber_visiblestring,
-        parse_ber_with_tag,
+        parse_ber_sequence_of_v, parse_ber_set_defined, parse_ber_set_defined_g, parse_ber_set_of,
+        parse_ber_set_of_v, parse_ber_slice, parse_ber_tagged_explicit,
+        parse_ber_tagged_explicit_g, parse_ber_tagged_implicit, parse_ber_tagged_implicit_g,
     };
     pub use der_object::{
         BerObject, BerObjectContent, BerObjectIntoIterator, BerObjectRefIterator, BitStringObject,
         FaultWriter, ber_encode_header, ber_encode_object, ber_encode_object_raw,
         ber_encode_tagged_explicit, ber_encode_tagged_implicit,
+    };
+    pub use der_types::{
+        ContentReader as BerContent, ContentReader2 as BerContent2, ber_object_from_any,
+        ber_read_element_content_as, parse_ber_bitstring, parse_ber_bmpstring, parse_ber_bool,
+        parse_ber_content, parse_ber_content2, parse_ber_endofcontent, parse_ber_enum,
+        parse_ber_generalizedtime, parse_ber_generalstring, parse_ber_graphicstring, parse_ber_i32,
+        parse_ber_i64, parse_ber_ia5string, parse_ber_integer, parse_ber_null,
+        parse_ber_numericstring, parse_ber_objectdescriptor, parse_ber_octetstring, parse_ber_oid,
+        parse_ber_printablestring, parse_ber_relative_oid, parse_ber_sequence, parse_ber_set,
+        parse_ber_t61string, parse_ber_u32, parse_ber_u64, parse_ber_universalstring,
+        parse_ber_utctime, parse_ber_utf8string, parse_ber_videotexstring, parse_ber_visiblestring,
+        parse_ber_with_tag,
     };
 
     /// Names that earlier versions of the crate had.
@@ -68,27 +72,29 @@ pub mod der {
         Class, Class as DerClass, Header, Header as DerObjectHeader, Tag, Tag as DerTag,
         der_header_counted, der_read_element_header,
     };
-    pub use der_der::{
-        DerContainer, DerContent, DerContent2, DerOptional, DerSequenceDefined,
-        DerSequenceDefinedG, DerSequenceOf, DerSequenceOfV, DerSetDefined, DerSetDefinedG,
-        DerSetOf, DerSetOfV, DerTaggedExplicit, DerTaggedExplicitG, DerTaggedImplicit,
-        DerTaggedImplicitG, der_read_element_content, der_read_element_content_as, parse_der,
-        parse_der_bitstring, parse_der_bmpstring, parse_der_bool, parse_der_container,
-        parse_der_content, parse_der_content2, parse_der_counted, parse_der_endofcontent,
-        parse_der_enum, parse_der_explicit_optional, parse_der_generalizedtime,
-        parse_der_generalstring, parse_der_graphicstring, parse_der_i32, parse_der_i64,
-        parse_der_ia5string, parse_der_implicit, parse_der_integer, parse_der_null,
-        parse_der_numericstring, parse_der_objectdescriptor, parse_der_octetstring, parse_der_oid,
-        parse_der_optional, parse_der_printablestring, parse_der_recursive, parse_der_relative_oid,
-        parse_der_sequence, parse_der_sequence_defined, parse_der_sequence_defined_g,
-        parse_der_sequence_of, parse_der_sequence_of_v, parse_der_set, parse_der_set_defined,
-        parse_der_set_defined_g, parse_der_set_of, parse_der_set_of_v, parse_der_slice,
-        parse_der_t61string, parse_der_tagged_explicit, parse_der_tagged_explicit_g,
-        parse_der_tagged_implicit, parse_der_tagged_implicit_g, parse_der_u32, parse_der_u64,
-        parse_der_universalstring, parse_der_utctime, parse_der_utf8string,
-        parse_der_videotexstring, parse_der_visiblestring, parse_der_with_tag, visiblestring,
+    pub use der_combinators::{
+        Container, ExplicitContainer, ExplicitObject, ImplicitContainer, ImplicitObject,
+        ListObject, ListOfObjects, ListOfValues, NumberedContainer, OptionalObject,
+        parse_der_container, parse_der_explicit_optional, parse_der_implicit, parse_der_optional,
+        parse_der_sequence_defined, parse_der_sequence_defined_g, parse_der_sequence_of,
+        parse_der_sequence_of_v, parse_der_set_defined, parse_der_set_defined_g, parse_der_set_of,
+        parse_der_set_of_v, parse_der_slice, parse_der_tagged_explicit,
+        parse_der_tagged_explicit_g, parse_der_tagged_implicit, parse_der_tagged_implicit_g,
     };
+    pub use der_der::{parse_der, parse_der_counted, parse_der_recursive};
     pub use der_object::{DerObject, DerObjectContent};
+    pub use der_types::{
+        ContentReader as DerContent, ContentReader2 as DerContent2, der_read_element_content,
+        der_read_element_content_as, parse_der_bitstring, parse_der_bmpstring, parse_der_bool,
+        parse_der_content, parse_der_content2, parse_der_endofcontent, parse_der_enum,
+        parse_der_generalizedtime, parse_der_generalstring, parse_der_graphicstring, parse_der_i32,
+        parse_der_i64, parse_der_ia5string, parse_der_integer, parse_der_null,
+        parse_der_numericstring, parse_der_objectdescriptor, parse_der_octetstring, parse_der_oid,
+        parse_der_printablestring, parse_der_relative_oid, parse_der_sequence, parse_der_set,
+        parse_der_t61string, parse_der_u32, parse_der_u64, parse_der_universalstring,
+        parse_der_utctime, parse_der_utf8string, parse_der_videotexstring, parse_der_visiblestring,
+        parse_der_with_tag, visiblestring,
+    };
 }
 
 /// Reading field after field, with the place of a refusal.
@@ -126,16 +132,16 @@ pub mod laws {
         clones_are_the_value, clones_want_no_memory, equals_are_alike, equals_are_the_same,
     };
     pub use der_base::oid::arcs_come_back;
-    pub use der_ber::laws::{elements_are_never_refused, written_is_read_back};
+    pub use der_ber::laws::written_is_read_back;
     pub use der_cursor::laws::{cursor_clones_are_the_value, places_are_exact};
     pub use der_der::laws::written_is_what_was_read;
     pub use der_laws::{
         always_one, appended_lengthen_headers, appended_only_lengthen, der_is_within_ber,
-        encoding_is_normal_form, faults_are_one, fronts_are_cut, header_fronts_are_cut,
-        integers_are_shortest, lengths_are_shortest, lengths_show_in_headers, never_both,
-        numbers_fit_or_are_refused, one_content, one_refusal, opened_in_one_way,
-        opened_never_refused, refused_headers_stay_refused, set_of_has_one_order,
-        spellings_are_one, tag_numbers_are_shortest, unused_bits_are_last,
+        elements_are_never_refused, encoding_is_normal_form, faults_are_one, fronts_are_cut,
+        header_fronts_are_cut, integers_are_shortest, lengths_are_shortest,
+        lengths_show_in_headers, never_both, numbers_fit_or_are_refused, one_content, one_refusal,
+        opened_in_one_way, opened_never_refused, refused_headers_stay_refused,
+        set_of_has_one_order, spellings_are_one, tag_numbers_are_shortest, unused_bits_are_last,
     };
     pub use der_nodes::laws::{
         ber_places_are_exact as ber_element_places_are_exact,

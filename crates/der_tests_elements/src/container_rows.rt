@@ -5,7 +5,7 @@ ghost use Rattle.der_tests_elements.specs.declared.container_rows.Met.TheVariant
 use der_parser::IResult;
 use der_parser::ber::Length::{Definite, Indefinite};
 use der_parser::ber::{
-    BerContainer, BerSequenceDefinedG, BerSetDefinedG, Header, Length, Tag, parse_ber_container,
+    Container, Header, Length, NumberedContainer, Tag, parse_ber_container,
     parse_ber_sequence_defined_g, parse_ber_set_defined_g, parse_ber_slice,
 };
 use der_parser::error::Err::{Error, Incomplete};
@@ -78,7 +78,7 @@ type Given<'a> = IResult<&'a [u8], (&'a [u8], Header<'a>), BerError>;
 /// How often a container calls its parser, and what it answers.
 fn container(i: &[u8]) -> (u64, Given<'_>) {
     let mut calls: u64 = 0;
-    let mut parser: BerContainer<_> = parse_ber_container(|content, header| {
+    let mut parser: Container<_> = parse_ber_container(|content, header| {
         calls = calls.saturating_add(1);
         Ok((content, (content, header)))
     });
@@ -198,10 +198,10 @@ fn defined(i: &[u8], tag: Tag) -> (u64, Given<'_>) {
         Ok((content, (content, header)))
     };
     let given = if tag == Tag::Sequence {
-        let mut reader: BerSequenceDefinedG<_> = parse_ber_sequence_defined_g(parser);
+        let mut reader: NumberedContainer<_> = parse_ber_sequence_defined_g(parser);
         reader.parse(i)
     } else {
-        let mut reader: BerSetDefinedG<_> = parse_ber_set_defined_g(parser);
+        let mut reader: NumberedContainer<_> = parse_ber_set_defined_g(parser);
         reader.parse(i)
     };
     (calls, given)

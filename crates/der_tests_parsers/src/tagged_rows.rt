@@ -2,7 +2,7 @@
 use der_parser::ber::Class::{Application, ContextSpecific, Private, Universal};
 use der_parser::ber::Length::{Definite, Indefinite};
 use der_parser::ber::{
-    BerObject, BerOptional, BerTaggedExplicit, Tag, parse_ber_content, parse_ber_explicit_optional,
+    BerObject, ExplicitObject, OptionalObject, Tag, parse_ber_content, parse_ber_explicit_optional,
     parse_ber_implicit, parse_ber_optional, parse_ber_tagged_explicit, parse_ber_tagged_implicit,
 };
 use der_parser::der::{
@@ -417,12 +417,12 @@ fn optional_of_want_of_memory(rt: HostRuntime) {
 
 /// What is answered where an object that may be absent is wanted, over a form that is kept.
 fn optional_over_kept(alloc: Global, i: &[u8]) -> BerResult<'_> {
-    let mut explicit: BerTaggedExplicit<_> = parse_ber_tagged_explicit(
+    let mut explicit: ExplicitObject<_> = parse_ber_tagged_explicit(
         alloc,
         Tag(0),
         |input| read_type_by_ber(alloc, 2, input),
     );
-    let mut optional: BerOptional<_> = parse_ber_optional(alloc, |input| explicit.parse(input));
+    let mut optional: OptionalObject<_> = parse_ber_optional(alloc, |input| explicit.parse(input));
     optional.parse(i)
 }
 

@@ -2,10 +2,10 @@
 //! it. Under another law's name a function isn't proved.
 ghost use Rattle.std.specs.Cmp.{IsEquivalence};
 ghost use Rattle.std.specs.Prelude.{◌≡◌};
-ghost use Rattle.der_parser.specs.BerLaws.{BeginsWithBerElement, BeginsWithDerElement, ElementsPass};
+ghost use Rattle.der_parser.specs.declared.Rules.{Rules};
 ghost use Rattle.der_parser.specs.BerLaws.{WrittenSpells as BerWrittenSpells, WrittenIsReadBack as BerIsReadBack};
 ghost use Rattle.der_parser.specs.Bits.{AreAlikeBits};
-ghost use Rattle.der_parser.specs.Containers.{OpensBer, OpensDer, RefusesBer, RefusesDer};
+ghost use Rattle.der_parser.specs.Containers.{Opens, Refuses};
 ghost use Rattle.der_parser.specs.Copies.{AlwaysSo, AreAlikeHeaders, AreTheValue, EqualsAre};
 ghost use Rattle.der_parser.specs.CursorLaws.{EndsStand, NewStand, OpenedStand, PlacesCount};
 ghost use Rattle.der_parser.specs.DerLaws.{WrittenIsFront, WrittenSpells, WrittenIsReadBack};
@@ -14,9 +14,9 @@ ghost use Rattle.der_parser.specs.Laws.{AcceptedAreWritten, AppendedLeaveFaults,
 ghost use Rattle.der_parser.specs.Laws.{AppendedLengthenDerHeaders, AppendedLengthenRests, AreWrittenForOne};
 ghost use Rattle.der_parser.specs.Laws.{BerFrontsAreCut, BerHeaderFrontsAreCut, BerRefusedBeginsNone};
 ghost use Rattle.der_parser.specs.Laws.{ContentsPassBer, DerFrontsAreCut, DerHeaderFrontsAreCut, DerIsWithinBer};
-ghost use Rattle.der_parser.specs.Laws.{DerRefusedBeginsNone, DerSpellingsShowNoFault, EncodingIsNormalForm};
-ghost use Rattle.der_parser.specs.Laws.{EncodingsDoNotTie, FaultsAreOne, GroupsAreShortest, HaveOneBerRefusal};
-ghost use Rattle.der_parser.specs.Laws.{HaveOneContent, HaveOneDerRefusal, HaveOneNumberRefusal};
+ghost use Rattle.der_parser.specs.Laws.{DerRefusedBeginsNone, DerSpellingsShowNoFault, ElementsPass};
+ghost use Rattle.der_parser.specs.Laws.{EncodingIsNormalForm, EncodingsDoNotTie, FaultsAreOne, GroupsAreShortest};
+ghost use Rattle.der_parser.specs.Laws.{HaveOneBerRefusal, HaveOneContent, HaveOneDerRefusal, HaveOneNumberRefusal};
 ghost use Rattle.der_parser.specs.Laws.{IntegersAreShortest, LengthsAreShortest, LengthsShowInHeaders};
 ghost use Rattle.der_parser.specs.Laws.{MinimalIsShortest, NumberOrRefused, NumbersFit, NumbersPass};
 ghost use Rattle.der_parser.specs.Laws.{OctetsAreShortest, OpenedPass, OpensInOneWay, ReadOrRefusedByBer};
@@ -233,8 +233,7 @@ fn encoding_is_normal_form()
 }
 
 fn opened_in_one_way()
-    ensures ber { OpensInOneWay OpensBer }
-    ensures der { OpensInOneWay OpensDer }
+    ensures { (rules : Rules) → OpensInOneWay (Opens rules) }
 {
     laws::opened_in_one_way()
 }
@@ -242,8 +241,8 @@ fn opened_in_one_way()
 fn opened_never_refused<'a, E>()
 where
     E: ParseError<&'a [u8]> + From<BerError>,
-    ensures ber { OpenedPass OpensBer (RefusesBer E.from_error_kind_gives E.from_gives) }
-    ensures der { OpenedPass OpensDer (RefusesDer E.from_error_kind_gives E.from_gives) }
+    ensures { (rules : Rules) → OpenedPass (Opens rules)
+        (Refuses rules E.from_error_kind_gives E.from_gives) }
 {
     laws::opened_never_refused::<E>()
 }
@@ -251,8 +250,8 @@ where
 fn elements_are_never_refused<'a, E>()
 where
     E: ParseError<&'a [u8]> + From<BerError>,
-    ensures ber { ElementsPass BeginsWithBerElement (λ n. RefusesBer E.from_error_kind_gives E.from_gives) }
-    ensures der { ElementsPass BeginsWithDerElement (λ n. RefusesDer E.from_error_kind_gives E.from_gives) }
+    ensures { (rules : Rules) → ElementsPass rules
+        (λ n. Refuses rules E.from_error_kind_gives E.from_gives) }
 {
     laws::elements_are_never_refused::<E>()
 }

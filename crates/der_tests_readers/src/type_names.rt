@@ -7,196 +7,196 @@ use der_parser::nodes::{Element, Node, Nodes, Preorder, Trees, Value};
 use der_parser::{IResult, der};
 use std::alloc::Global;
 
-fn ber_container<'a, F, O, E>(f: F) -> ber::BerContainer<F>
+fn ber_container<'a, F, O, E>(f: F) -> ber::Container<F>
 where
     F: FnMut(&'a [u8], Header<'a>) -> IResult<&'a [u8], O, E>,
 {
     ber::parse_ber_container(f)
 }
 
-fn ber_sequence_defined_g<'a, F, O, E>(f: F) -> ber::BerSequenceDefinedG<F>
+fn ber_sequence_defined_g<'a, F, O, E>(f: F) -> ber::NumberedContainer<F>
 where
     F: FnMut(&'a [u8], Header<'a>) -> IResult<&'a [u8], O, E>,
 {
     ber::parse_ber_sequence_defined_g(f)
 }
 
-fn ber_set_defined_g<'a, F, O, E>(f: F) -> ber::BerSetDefinedG<F>
+fn ber_set_defined_g<'a, F, O, E>(f: F) -> ber::NumberedContainer<F>
 where
     F: FnMut(&'a [u8], Header<'a>) -> IResult<&'a [u8], O, E>,
 {
     ber::parse_ber_set_defined_g(f)
 }
 
-fn ber_sequence_of_v<'a, F, O, E>(alloc: Global, f: F) -> ber::BerSequenceOfV<F>
+fn ber_sequence_of_v<'a, F, O, E>(alloc: Global, f: F) -> ber::ListOfValues<F>
 where
     F: FnMut(&'a [u8]) -> IResult<&'a [u8], O, E>,
 {
     ber::parse_ber_sequence_of_v(alloc, f)
 }
 
-fn ber_set_of_v<'a, F, O, E>(alloc: Global, f: F) -> ber::BerSetOfV<F>
+fn ber_set_of_v<'a, F, O, E>(alloc: Global, f: F) -> ber::ListOfValues<F>
 where
     F: FnMut(&'a [u8]) -> IResult<&'a [u8], O, E>,
 {
     ber::parse_ber_set_of_v(alloc, f)
 }
 
-fn ber_sequence_of<'a, F, E>(alloc: Global, f: F) -> ber::BerSequenceOf<F>
+fn ber_sequence_of<'a, F, E>(alloc: Global, f: F) -> ber::ListOfObjects<F>
 where
     F: FnMut(&'a [u8]) -> IResult<&'a [u8], BerObject<'a>, E>,
 {
     ber::parse_ber_sequence_of(alloc, f)
 }
 
-fn ber_set_of<'a, F, E>(alloc: Global, f: F) -> ber::BerSetOf<F>
+fn ber_set_of<'a, F, E>(alloc: Global, f: F) -> ber::ListOfObjects<F>
 where
     F: FnMut(&'a [u8]) -> IResult<&'a [u8], BerObject<'a>, E>,
 {
     ber::parse_ber_set_of(alloc, f)
 }
 
-fn ber_sequence_defined<'a, F, E>(f: F) -> ber::BerSequenceDefined<F>
+fn ber_sequence_defined<'a, F, E>(f: F) -> ber::ListObject<F>
 where
     F: FnMut(&'a [u8]) -> IResult<&'a [u8], Vec<BerObject<'a>>, E>,
 {
     ber::parse_ber_sequence_defined(f)
 }
 
-fn ber_set_defined<'a, F, E>(f: F) -> ber::BerSetDefined<F>
+fn ber_set_defined<'a, F, E>(f: F) -> ber::ListObject<F>
 where
     F: FnMut(&'a [u8]) -> IResult<&'a [u8], Vec<BerObject<'a>>, E>,
 {
     ber::parse_ber_set_defined(f)
 }
 
-fn ber_tagged_explicit_g<'a, F, O, E>(tag: Tag, f: F) -> ber::BerTaggedExplicitG<F>
+fn ber_tagged_explicit_g<'a, F, O, E>(tag: Tag, f: F) -> ber::ExplicitContainer<F>
 where
     F: FnMut(&'a [u8], Header<'a>) -> IResult<&'a [u8], O, E>,
 {
     ber::parse_ber_tagged_explicit_g(tag, f)
 }
 
-fn ber_tagged_implicit_g<'a, F, O, E>(tag: Tag, f: F) -> ber::BerTaggedImplicitG<F>
+fn ber_tagged_implicit_g<'a, F, O, E>(tag: Tag, f: F) -> ber::ImplicitContainer<F>
 where
     F: FnMut(&'a [u8], Header<'a>, usize) -> IResult<&'a [u8], O, E>,
 {
     ber::parse_ber_tagged_implicit_g(tag, f)
 }
 
-fn ber_tagged_explicit<'a, F, E>(alloc: Global, tag: Tag, f: F) -> ber::BerTaggedExplicit<F>
+fn ber_tagged_explicit<'a, F, E>(alloc: Global, tag: Tag, f: F) -> ber::ExplicitObject<F>
 where
     F: FnMut(&'a [u8]) -> IResult<&'a [u8], BerObject<'a>, E>,
 {
     ber::parse_ber_tagged_explicit(alloc, tag, f)
 }
 
-fn ber_tagged_implicit<'a, F, E>(tag: Tag, f: F) -> ber::BerTaggedImplicit<F>
+fn ber_tagged_implicit<'a, F, E>(tag: Tag, f: F) -> ber::ImplicitObject<F>
 where
     F: FnMut(&'a [u8], &Header<'a>, usize) -> IResult<&'a [u8], BerObjectContent<'a>, E>,
 {
     ber::parse_ber_tagged_implicit(tag, f)
 }
 
-fn ber_optional<'a, F, E>(alloc: Global, f: F) -> ber::BerOptional<F>
+fn ber_optional<'a, F, E>(alloc: Global, f: F) -> ber::OptionalObject<F>
 where
     F: FnMut(&'a [u8]) -> IResult<&'a [u8], BerObject<'a>, E>,
 {
     ber::parse_ber_optional(alloc, f)
 }
 
-fn der_container<'a, F, O, E>(f: F) -> der::DerContainer<F>
+fn der_container<'a, F, O, E>(f: F) -> der::Container<F>
 where
     F: FnMut(&'a [u8], Header<'a>) -> IResult<&'a [u8], O, E>,
 {
     der::parse_der_container(f)
 }
 
-fn der_sequence_defined_g<'a, F, O, E>(f: F) -> der::DerSequenceDefinedG<F>
+fn der_sequence_defined_g<'a, F, O, E>(f: F) -> der::NumberedContainer<F>
 where
     F: FnMut(&'a [u8], Header<'a>) -> IResult<&'a [u8], O, E>,
 {
     der::parse_der_sequence_defined_g(f)
 }
 
-fn der_set_defined_g<'a, F, O, E>(f: F) -> der::DerSetDefinedG<F>
+fn der_set_defined_g<'a, F, O, E>(f: F) -> der::NumberedContainer<F>
 where
     F: FnMut(&'a [u8], Header<'a>) -> IResult<&'a [u8], O, E>,
 {
     der::parse_der_set_defined_g(f)
 }
 
-fn der_sequence_of_v<'a, F, O, E>(alloc: Global, f: F) -> der::DerSequenceOfV<F>
+fn der_sequence_of_v<'a, F, O, E>(alloc: Global, f: F) -> der::ListOfValues<F>
 where
     F: FnMut(&'a [u8]) -> IResult<&'a [u8], O, E>,
 {
     der::parse_der_sequence_of_v(alloc, f)
 }
 
-fn der_set_of_v<'a, F, O, E>(alloc: Global, f: F) -> der::DerSetOfV<F>
+fn der_set_of_v<'a, F, O, E>(alloc: Global, f: F) -> der::ListOfValues<F>
 where
     F: FnMut(&'a [u8]) -> IResult<&'a [u8], O, E>,
 {
     der::parse_der_set_of_v(alloc, f)
 }
 
-fn der_sequence_of<'a, F, E>(alloc: Global, f: F) -> der::DerSequenceOf<F>
+fn der_sequence_of<'a, F, E>(alloc: Global, f: F) -> der::ListOfObjects<F>
 where
     F: FnMut(&'a [u8]) -> IResult<&'a [u8], BerObject<'a>, E>,
 {
     der::parse_der_sequence_of(alloc, f)
 }
 
-fn der_set_of<'a, F, E>(alloc: Global, f: F) -> der::DerSetOf<F>
+fn der_set_of<'a, F, E>(alloc: Global, f: F) -> der::ListOfObjects<F>
 where
     F: FnMut(&'a [u8]) -> IResult<&'a [u8], BerObject<'a>, E>,
 {
     der::parse_der_set_of(alloc, f)
 }
 
-fn der_sequence_defined<'a, F, E>(f: F) -> der::DerSequenceDefined<F>
+fn der_sequence_defined<'a, F, E>(f: F) -> der::ListObject<F>
 where
     F: FnMut(&'a [u8]) -> IResult<&'a [u8], Vec<BerObject<'a>>, E>,
 {
     der::parse_der_sequence_defined(f)
 }
 
-fn der_set_defined<'a, F, E>(f: F) -> der::DerSetDefined<F>
+fn der_set_defined<'a, F, E>(f: F) -> der::ListObject<F>
 where
     F: FnMut(&'a [u8]) -> IResult<&'a [u8], Vec<BerObject<'a>>, E>,
 {
     der::parse_der_set_defined(f)
 }
 
-fn der_tagged_explicit_g<'a, F, O, E>(tag: Tag, f: F) -> der::DerTaggedExplicitG<F>
+fn der_tagged_explicit_g<'a, F, O, E>(tag: Tag, f: F) -> der::ExplicitContainer<F>
 where
     F: FnMut(&'a [u8], Header<'a>) -> IResult<&'a [u8], O, E>,
 {
     der::parse_der_tagged_explicit_g(tag, f)
 }
 
-fn der_tagged_implicit_g<'a, F, O, E>(tag: Tag, f: F) -> der::DerTaggedImplicitG<F>
+fn der_tagged_implicit_g<'a, F, O, E>(tag: Tag, f: F) -> der::ImplicitContainer<F>
 where
     F: FnMut(&'a [u8], Header<'a>, usize) -> IResult<&'a [u8], O, E>,
 {
     der::parse_der_tagged_implicit_g(tag, f)
 }
 
-fn der_tagged_explicit<'a, F, E>(alloc: Global, tag: Tag, f: F) -> der::DerTaggedExplicit<F>
+fn der_tagged_explicit<'a, F, E>(alloc: Global, tag: Tag, f: F) -> der::ExplicitObject<F>
 where
     F: FnMut(&'a [u8]) -> IResult<&'a [u8], BerObject<'a>, E>,
 {
     der::parse_der_tagged_explicit(alloc, tag, f)
 }
 
-fn der_tagged_implicit<'a, F, E>(tag: Tag, f: F) -> der::DerTaggedImplicit<F>
+fn der_tagged_implicit<'a, F, E>(tag: Tag, f: F) -> der::ImplicitObject<F>
 where
     F: FnMut(&'a [u8], &Header<'a>, usize) -> IResult<&'a [u8], BerObjectContent<'a>, E>,
 {
     der::parse_der_tagged_implicit(tag, f)
 }
 
-fn der_optional<'a, F, E>(alloc: Global, f: F) -> der::DerOptional<F>
+fn der_optional<'a, F, E>(alloc: Global, f: F) -> der::OptionalObject<F>
 where
     F: FnMut(&'a [u8]) -> IResult<&'a [u8], BerObject<'a>, E>,
 {

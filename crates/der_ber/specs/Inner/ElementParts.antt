@@ -1,9 +1,8 @@
 -- What the private readers of an element's parts answer: of the items of a list, and of the content behind a header.
-use Rattle.std.specs.Prelude.{◌≡◌, ◌≢◌, ℕ, ◌≤◌, ◌⊎◌, Bool, true, IsTrue, List, [], ◌++◌, length, All}
+use Rattle.std.specs.Prelude.{◌≡◌, ◌≢◌, ℕ, ◌≤◌, ◌⊎◌, true, IsTrue, List, [], ◌++◌, All}
 use Rattle.der_base.specs.declared.header.Class.TheVariants.{Universal}
 use Rattle.der_base.specs.declared.header.Header.{Header}
-use Rattle.der_base.specs.declared.header.Length.{Length}
-use Rattle.der_base.specs.declared.header.Length.TheVariants.{Definite, Indefinite}
+use Rattle.der_base.specs.declared.header.Length.TheVariants.{Indefinite}
 use Rattle.der_base.specs.Content.{BeginsWithContent, ContentRefuses as FramingRefuses}
 use Rattle.der_base.specs.Cut.{Lacks}
 use Rattle.der_base.specs.Fault.{ItemRefuses, ShowsFault}
@@ -11,7 +10,7 @@ use Rattle.der_base.specs.Header.{class_of, is_constructed, number_of, length_of
 use Rattle.der_base.specs.Inner.Framed.{HasContent}
 use Rattle.der_base.specs.Leaf.{is_list}
 use Rattle.der_base.specs.Refusal.{Refusal}
-use Rattle.der_base.specs.Spelling.{Forms, Joins, framing_budget, max_object_size}
+use Rattle.der_base.specs.Spelling.{Forms, Joins, framing_budget}
 use Rattle.der_base.specs.Tree.{Nodes}
 use Rattle.der_object.specs.declared.object.BerObject.{BerObject}
 use Rattle.der_object.specs.declared.object.BerObjectContent.{BerObjectContent}
@@ -19,11 +18,6 @@ use Rattle.der_object.specs.HeaderFacts.{forms_of, inner_forms, EachInside, Keep
 use Rattle.der_object.specs.HeaderFacts.{HasRawTagAndHeader, EachHasRawTagAndHeader}
 use Rattle.der_object.specs.View.{trees, content_tree}
 use Rattle.der_ber.specs.BerReading.{ContentRefuses}
-
--- the tests of length and depth pass, and a definite content is there
-abbrev pub MayFollow : Length → Bool → ℕ → List ℕ → Type 0
-MayFollow (Definite n) p d i = (1 ≤ d) × (n ≤ max_object_size) × (n ≤ length i)
-MayFollow Indefinite p d i = (1 ≤ d) × (p ≡ true)
 
 -- w joins items to depth d, and shows the refusal where the next one should begin
 abbrev pub ItemsRefuse : List ℕ → ℕ → Refusal → Type 0

@@ -1,5 +1,5 @@
 -- By DER: the element that begins the input, and what a container refuses.
-use Rattle.std.proofs.Common.{◌≡◌, ℕ, ◌<◌, List, ◌++◌, length, Err, Bor, sym, ap, ◌∙◌, arith, length-append}
+use Rattle.std.proofs.Common.{◌≡◌, ℕ, ◌<◌, List, ◌++◌, length, Err, Bor, sym, ◌∙◌, arith}
 use Rattle.der_base.specs.declared.error.Err.{Err as Refused}
 use Rattle.der_base.specs.declared.error.Err.TheVariants.{Incomplete, Error, Failure, OutOfMemory}
 use Rattle.der_base.specs.declared.error.Error.{Error as BerError}
@@ -7,16 +7,14 @@ use Rattle.der_base.specs.declared.error.ErrorKind.{ErrorKind}
 use Rattle.der_base.specs.declared.error.Needed.TheVariants.{Unknown, Size}
 use Rattle.der_base.specs.declared.header.Header.{Header}
 use Rattle.der_base.specs.declared.header.Length.TheVariants.{Definite}
+use Rattle.der_base.specs.declared.rules.Rules.TheVariants.{Der}
 use Rattle.der_base.specs.Answer.{MatchAnswer}
 use Rattle.der_base.specs.Errors.{MapsError}
 use Rattle.der_base.specs.Fault.{DerHeaderRefuses}
 use Rattle.der_base.specs.Headers.{ReadsDerHeader, DerHeaderLacks}
 use Rattle.der_base.specs.Header.{IsHeader, class_of, is_constructed, number_of, length_of, raw_tag_of}
-use Rattle.der_base.specs.Refusal.{refusal}
-use Rattle.der_base.specs.Containers.{OpensDer, HasShortDerContent, RefusesDer, RefusesDerNumber, OpensDerNumber}
-use Rattle.der_base.specs.Containers.{OpensExplicit, RefusesExplicit, faulty, cut, too_short, unopened, universal}
-use Rattle.der_base.specs.Containers.{other_number, primitive}
-use Rattle.der_base.proofs.Headers.DerHeaders.{der_header_same, der_header_only, der_header_not_refused, der_header_not_lacking}
+use Rattle.der_base.specs.Containers.{OpensDer, HasShortContent, Refuses, faulty, cut}
+use Rattle.der_base.proofs.Headers.DerHeaders.{der_header_same, der_header_only}
 use Rattle.der_base.proofs.Octets.Identifiers.{fronts_same}
 
 -- the size of the header is the length of the content
@@ -34,7 +32,7 @@ der_opens_same i w w' after after' h h' o o' =
     (record { class = q.0.class; constructed = q.0.constructed; number = q.0.number; length = q.0.length ∙ sym o'.0.length; raw_tag = q.0.raw_tag ∙ sym o'.0.raw_tag }, f.0, f.1)
 
 -- a content is short by the header that is read
-pub short_der_behind : (i v : List ℕ) (h : Header) (n : ℕ) → ReadsDerHeader i h v → length_of h ≡ Definite n → length v < n → HasShortDerContent i v
+pub short_der_behind : (i v : List ℕ) (h : Header) (n : ℕ) → ReadsDerHeader i h v → length_of h ≡ Definite n → length v < n → HasShortContent Der i v
 short_der_behind i v h n r l s =
     let e : Definite r.size ≡ Definite n = sym r.length ∙ l in
     let q : r.size ≡ n = cc in
@@ -43,32 +41,9 @@ short_der_behind i v h n r l s =
 -- a refusal of the definition, as it is told in place of another error
 pub converted_der : {E T : Type 0} (P : T → Type 0) (from_error_kind_gives : Bor (List ℕ) → ErrorKind → E → Type 0) (from_gives : BerError → E → Type 0) (i : List ℕ) (e : Refused BerError)
     (r : Refused E)
-    → MatchAnswer (Err e) P (DerHeaderRefuses i) (DerHeaderLacks i) ⊥ → MapsError from_gives e r → RefusesDer from_error_kind_gives from_gives i r
+    → MatchAnswer (Err e) P (DerHeaderRefuses i) (DerHeaderLacks i) ⊥ → MapsError from_gives e r → Refuses Der from_error_kind_gives from_gives i r
 converted_der P k g i (Error e) r h (x, q, m) = rw m (faulty h q)
 converted_der P k g i (Incomplete (Size n)) r h m = rw m (cut h)
 converted_der P k g i (Incomplete Unknown) r h m = absurd h
 converted_der P k g i (Failure e) r h m = absurd h
 converted_der P k g i OutOfMemory r h m = absurd h
-
-module _ {E : Type 0} {from_error_kind_gives : Bor (List ℕ) → ErrorKind → E → Type 0} {from_gives : BerError → E → Type 0} where
-  -- an element in front is not refused
-  pub der_opens_not_refused : {i : List ℕ} {r : Refused E} (h : Header) (w after : List ℕ) → OpensDer i h w after → RefusesDer from_error_kind_gives from_gives i r → ⊥
-  der_opens_not_refused {i = i} h w after o (faulty {e = e} f g) = der_header_not_refused i (w ++ after) _ _ _ o.0.size (refusal e) o.0.begins f
-  der_opens_not_refused {i = i} h w after o (cut {n = n} l) = der_header_not_lacking i (w ++ after) _ _ _ o.0.size n o.0.begins l.1
-  der_opens_not_refused {i = i} h w after o (too_short {behind = v} (c, p, t, n, b, l) k) =
-      let s = der_header_same i (w ++ after) v.now _ c _ p _ t o.0.size n o.0.begins b in
-      omega (arith, l, s.length, opened_size i w after h o, ap length s.rest, length-append w after)
-
-  -- nor one of the number for its number
-  pub der_number_opens_not_refused : {n : ℕ} {i : List ℕ} {r : Refused E} (h : Header) (w after : List ℕ) → OpensDerNumber n i h w after → RefusesDerNumber from_error_kind_gives from_gives n i r → ⊥
-  der_number_opens_not_refused h w after (o, z) (unopened u) = der_opens_not_refused h w after o u
-  der_number_opens_not_refused {i = i} h w after (o, z) (other_number (n, h', w', after', q, z') e g) = n (sym z' ∙ sym (der_opens_same i w w' after after' h h' o q).0.number ∙ z)
-
-  -- nor an explicit tag of the number
-  pub der_explicit_opens_not_refused : {n : ℕ} {i : List ℕ} {r : Refused E} (h : Header) (w after : List ℕ) → OpensExplicit (OpensDer i) n h w after
-      → RefusesExplicit (OpensDer i) (RefusesDer from_error_kind_gives from_gives i) from_gives n r → ⊥
-  der_explicit_opens_not_refused h w after o (unopened u) = der_opens_not_refused h w after o.0 u
-  der_explicit_opens_not_refused {i = i} h w after o (universal {h = h'} {w = w'} {after = a'} q c e g) = o.1 ((der_opens_same i w w' after a' h h' o.0 q).0.class ∙ c)
-  der_explicit_opens_not_refused {i = i} h w after o (other_number {h = h'} {w = w'} {after = a'} q c z e g) = z (sym (der_opens_same i w w' after a' h h' o.0 q).0.number ∙ o.2)
-  der_explicit_opens_not_refused {i = i} h w after o (primitive {h = h'} {w = w'} {after = a'} q c z b e g) =
-      let s = sym o.3 ∙ (der_opens_same i w w' after a' h h' o.0 q).0.constructed ∙ b in cc

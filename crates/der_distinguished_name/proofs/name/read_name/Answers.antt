@@ -7,10 +7,10 @@ use Rattle.der_distinguished_name.proofs.name.read_name.Goals as goal
 
 pub returns-in-Ok : goal.returns-in-Ok
 returns-in-Ok c =
-    let n = container {view = λ v. map attributes_of v.items} c.in-Ok.ensures.run (λ f g content h r s. list_whole content.now r s (λ f g p r s. search rules) set_some) in
+    let n = container {view = λ v. map attributes_of v.items} (rw c.parse_der_sequence_of_v.ensures at c.in-Ok.ensures.run).1 (λ f g content h r s. list_whole content.now r s (λ f g p r s. search rules) set_some) in
     record { found = n.spelled.found; only = n.spelled.only }
 
 pub returns-in-Err : goal.returns-in-Err
 returns-in-Err c =
-    let n = container {view = λ v. map attributes_of v.items} c.in-Err.ensures.run (λ f g content h r s. list_whole content.now r s (λ f g p r s. search rules) set_some) in
+    let n = container {view = λ v. map attributes_of v.items} (rw c.parse_der_sequence_of_v.ensures at c.in-Err.ensures.run).1 (λ f g content h r s. list_whole content.now r s (λ f g p r s. search rules) set_some) in
     record { found = tt; only = n.spelled.only }

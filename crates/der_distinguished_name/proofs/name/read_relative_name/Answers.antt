@@ -6,4 +6,4 @@ use Rattle.der_distinguished_name.proofs.Lists.{set_whole}
 use Rattle.der_distinguished_name.proofs.name.read_relative_name.Goals as goal
 
 pub returns : goal.returns
-returns c = container {view = attributes_of} c.parse.ensures.run (λ f g content h r s. set_whole content.now r s (λ f g p r s. search rules) attribute_some)
+returns c = container {view = attributes_of} (rw c.parse_der_set_of_v.ensures at c.parse.ensures.run).1 (λ f g content h r s. set_whole content.now r s (λ f g p r s. search rules) attribute_some)

@@ -1,9 +1,0 @@
-use Rattle.std.proofs.Common.{refl}
-use Rattle.der_laws.proofs.Containers.OpenedLaws.{opened_run}
-use Rattle.der_ber.proofs.multi.BerSetDefinedG.parse.Goals as goal
-
-pub parse_content-requires : goal.parse_content-requires
-parse_content-requires g c κs = ((refl, tt), rw c.self.view_is c.requires)
-
-pub returns-clause-run : goal.returns-clause-run
-returns-clause-run g c = rw (← c.self.view_is) (opened_run _ _ _ c.open_number.result c.parse_content.ensures.run c.open_number.ensures.ok c.open_number.ensures.err)

@@ -1,9 +1,0 @@
-use Rattle.std.proofs.Common.{◌^◌, ◌<◌, arith}
-use Rattle.der_base.proofs.Answers.Exactness.{exactly}
-use Rattle.der_ber.proofs.TypedLaws.{typed_shows_one}
-use Rattle.der_ber.proofs.typed.parse_typed_leaf.Goals as goal
-
-pub returns : goal.returns
-returns c =
-    let fits : c.args.tag.0 < 2 ^ 32 = omega arith in
-    exactly c.read_typed_leaf.result (typed_shows_one c.args.tag.0 c.args.i.now fits) (λ n h m. m) c.read_typed_leaf.ensures

@@ -1,0 +1,7 @@
+use Rattle.der_base.specs.declared.rules.Rules.TheVariants.{Ber}
+use Rattle.der_base.proofs.Answers.Exactness.{exactly}
+use Rattle.der_combinators.proofs.Slices.{slice_shows_one}
+use Rattle.der_combinators.proofs.slice.parse_ber_slice.Goals as goal
+
+pub returns : goal.returns
+returns c = exactly c.read_slice.result (slice_shows_one Ber c.args.tag.0 c.args.i.now) (λ n h m. m) c.read_slice.ensures

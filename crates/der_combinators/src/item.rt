@@ -1,0 +1,91 @@
+//! One item of a list: what its parser returned is an item more, or the list ends (X.690 8.10, 8.12).
+ghost use Rattle.std.specs.Prelude.{◌≡◌, ◌↔◌, IfErr, IfOk, IsTrue};
+ghost use Rattle.der_base.specs.SetOfOrder.{Descends};
+ghost use Rattle.der_combinators.specs.Inner.InOrder.{IsOutOfOrder, TakesInOrder, octets_compared};
+
+use crate::list_type::ListType;
+use der_base::error::{BerError, DerConstraint, Err, ErrorKind, IResult, ParseError};
+use der_base::rules::Rules;
+use der_object::growth::push_item;
+
+/// Pushes the item that the parser returned on `input`, and returns the octets after it, or None
+/// where the list ends. The list ends where the parser returned Incomplete: octets that are left then
+/// are the Error of Eof. An Error becomes a Failure. A Failure and OutOfMemory pass. A rest that isn't
+/// shorter than the input is the Error of Many0. An item whose octets are less than those `before` is
+/// the Error SetOfOrder, and allocates nothing.
+#[inline(always)]
+pub fn take_item<'a, O, E>(
+    before: &[u8],
+    input: &'a [u8],
+    answer: IResult<&'a [u8], O, E>,
+    values: &mut Vec<O>,
+) -> Result<Option<&'a [u8]>, Err<E>>
+where
+    O: Drop,
+    E: ParseError<&'a [u8]> + From<BerError>,
+    ensures { TakesInOrder E.from_error_kind_gives E.from_gives before.now input.entry answer.entry
+        values.old.items result values.new.items }
+{
+    match answer {
+        Ok((rest, value)) => {
+            if rest.len() >= input.len() {
+                return Err(Err::Error(E::from_error_kind(input, ErrorKind::Many0)));
+            }
+            check_order(before, &input[..input.len() - rest.len()])?;
+            push_item(values, value, rest)?;
+            return Ok(Some(rest));
+        }
+        Err(Err::Incomplete(_)) => {
+            if !input.is_empty() {
+                return Err(Err::Error(E::from_error_kind(input, ErrorKind::Eof)));
+            }
+            return Ok(None);
+        }
+        Err(Err::Error(e)) => return Err(Err::Failure(e)),
+        Err(Err::Failure(e)) => return Err(Err::Failure(e)),
+        Err(Err::OutOfMemory) => return Err(Err::OutOfMemory),
+    }
+}
+
+/// The octets that the next item is compared with: by DER, in a SET OF, those of this item (X.690
+/// 11.6). Elsewhere there are none, and no item is less than none.
+#[inline(always)]
+pub fn compared_octets<'a>(rules: Rules, list: ListType, item: &'a [u8]) -> &'a [u8]
+    ensures { result.now ≡ octets_compared rules list item.now }
+{
+    match rules {
+        Rules::Ber => &[],
+        Rules::Der => match list {
+            ListType::Sequence => &[],
+            ListType::Set => item,
+        },
+    }
+}
+
+/// Refuses an item whose octets are less than those of the item before it.
+#[inline(always)]
+fn check_order<E>(before: &[u8], item: &[u8]) -> Result<(), Err<E>>
+where
+    E: From<BerError>,
+    ensures ok { IfOk result (λ _. ¬ Descends before.now item.now) }
+    ensures err { IfErr result (λ e. Descends before.now item.now × IsOutOfOrder E.from_gives e) }
+{
+    if descends(before, item) {
+        return Err(Err::Error(E::from(BerError::DerConstraintFailed(DerConstraint::SetOfOrder))));
+    }
+    Ok(())
+}
+
+/// Returns whether `first` is greater than `second`, octet by octet. The shorter is padded at its
+/// end with octets of 0.
+fn descends(first: &[u8], second: &[u8]) -> bool
+    ensures { IsTrue result ↔ Descends first.now second.now }
+{
+    for (i, octet) in first.iter().enumerate() {
+        let other = second.get(i).copied().unwrap_or(0);
+        if *octet != other {
+            return *octet > other;
+        }
+    }
+    false
+}

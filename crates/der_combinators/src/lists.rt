@@ -1,0 +1,320 @@
+//! Combinators that keep a parser of items: a SEQUENCE, a SET, and lists of one type.
+ghost use Rattle.std.specs.Prelude.{◌≡◌};
+ghost use Rattle.der_base.specs.declared.rules.Rules.TheVariants.{Ber, Der};
+ghost use Rattle.der_base.specs.Containers.{Keeps, Made, NumberRun, OnContent};
+ghost use Rattle.der_combinators.specs.declared.list_type.ListType.TheVariants.{Sequence, Set};
+ghost use Rattle.der_combinators.specs.Lists.{IsListOf, OnItems, list_number};
+
+use crate::items::{parse_items, parse_objects};
+use crate::list_type::ListType;
+use crate::made::with_list;
+use crate::opened::{open_number, parse_list_content};
+use der_base::error::{BerError, IResult, ParseError};
+use der_base::rules::Rules;
+use der_object::BerObject;
+use std::alloc::Global;
+use std::marker::Model;
+
+/// A parser of SEQUENCE OF or SET OF, which keeps the rules, the type and the parser of its items.
+#[derive(Drop)]
+pub struct ListOfValues<F> {
+    rules: Rules,
+    list: ListType,
+    f: F,
+    alloc: Global,
+}
+
+impl<F> Model for ListOfValues<F> {
+    ghost use Rattle.der_base.specs.declared.rules.Rules.{Rules};
+    ghost use Rattle.der_combinators.specs.declared.list_type.ListType.{ListType};
+
+    ghost Value = { (Rules × ListType) × F };
+
+    ghost view = { λ c. ((c.rules, c.list), c.f) };
+}
+
+/// A parser by BER of an element of the tag number 16, SEQUENCE, which reads its content by `f`,
+/// value after value (X.690 8.10).
+pub fn parse_ber_sequence_of_v<'a, F, O, E>(alloc: Global, f: F) -> ListOfValues<F>
+where
+    F: FnMut(&'a [u8]) -> IResult<&'a [u8], O, E>,
+    ensures { result ≡ ((Ber, Sequence), f) }
+{
+    ListOfValues {
+        rules: Rules::Ber,
+        list: ListType::Sequence,
+        f,
+        alloc,
+    }
+}
+
+/// A parser by BER of an element of the tag number 17, SET, which reads its content by `f`,
+/// value after value (X.690 8.12).
+pub fn parse_ber_set_of_v<'a, F, O, E>(alloc: Global, f: F) -> ListOfValues<F>
+where
+    F: FnMut(&'a [u8]) -> IResult<&'a [u8], O, E>,
+    ensures { result ≡ ((Ber, Set), f) }
+{
+    ListOfValues {
+        rules: Rules::Ber,
+        list: ListType::Set,
+        f,
+        alloc,
+    }
+}
+
+/// A parser by DER of an element of the tag number 16, SEQUENCE, which reads its content by `f`,
+/// value after value (X.690 8.10).
+///
+/// ```
+/// let (rest, numbers) = parse_der_sequence_of_v(alloc, parse_der_i32).parse(input)?;
+/// ```
+pub fn parse_der_sequence_of_v<'a, F, O, E>(alloc: Global, f: F) -> ListOfValues<F>
+where
+    F: FnMut(&'a [u8]) -> IResult<&'a [u8], O, E>,
+    ensures { result ≡ ((Der, Sequence), f) }
+{
+    ListOfValues {
+        rules: Rules::Der,
+        list: ListType::Sequence,
+        f,
+        alloc,
+    }
+}
+
+/// A parser by DER of an element of the tag number 17, SET, which reads its content by `f`,
+/// value after value (X.690 8.12), and checks that the octets of the values ascend (11.6).
+pub fn parse_der_set_of_v<'a, F, O, E>(alloc: Global, f: F) -> ListOfValues<F>
+where
+    F: FnMut(&'a [u8]) -> IResult<&'a [u8], O, E>,
+    ensures { result ≡ ((Der, Set), f) }
+{
+    ListOfValues {
+        rules: Rules::Der,
+        list: ListType::Set,
+        f,
+        alloc,
+    }
+}
+
+impl<F> ListOfValues<F> {
+    /// Reads as `NumberedContainer::parse` an element of the type's tag number, of any class. The kept
+    /// parser is called on its content octets, and then on what each call leaves, also where nothing
+    /// is left: its Incomplete there ends the list. Returns the values in their order.
+    ///
+    /// Refusals, without a call of the parser: those of `NumberedContainer::parse`. After them, at
+    /// the call that shows it: where the parser returns Incomplete and octets are left, the Error of
+    /// Eof at them; where it leaves no less than it was given, the Error of Many0 at what it was
+    /// given. An Error of the parser becomes a Failure. Its Failure and OutOfMemory pass. The list may
+    /// run out of memory at each value.
+    ///
+    /// By DER the octets of each value of a SET OF are compared with those of the value before, octet by
+    /// octet. The shorter is padded at its end with octets of 0. Where a value is less than the one
+    /// before, the result is the Error SetOfOrder, the parser isn't called again, and no memory is
+    /// allocated for the value.
+    #[inline(always)]
+    pub fn parse<'a, O, E>(&mut self, i: &'a [u8]) -> IResult<&'a [u8], Vec<O>, E>
+    where
+        F: FnMut(&'a [u8]) -> IResult<&'a [u8], O, E>,
+        O: Drop,
+        E: ParseError<&'a [u8]> + From<BerError>,
+        requires { F.IsAlwaysCallable self.old.1 }
+        ensures callable { F.IsAlwaysCallable self.new.1 }
+        ensures run { Keeps (λ t. NumberRun t.0 (list_number t.1) E.from_error_kind_gives E.from_gives i.now
+            (OnItems t.0 t.1 E.from_error_kind_gives E.from_gives F.step)) self.old result self.new }
+    {
+        let opened = open_number(self.rules, i, self.list.tag());
+        parse_items(self.rules, self.list, self.alloc, &mut self.f, opened)
+    }
+}
+
+/// A parser of a SEQUENCE OF or SET OF object, which keeps the rules, the type and the parser of its
+/// items.
+#[derive(Drop)]
+pub struct ListOfObjects<F> {
+    rules: Rules,
+    list: ListType,
+    f: F,
+    alloc: Global,
+}
+
+impl<F> Model for ListOfObjects<F> {
+    ghost use Rattle.der_base.specs.declared.rules.Rules.{Rules};
+    ghost use Rattle.der_combinators.specs.declared.list_type.ListType.{ListType};
+
+    ghost Value = { (Rules × ListType) × F };
+
+    ghost view = { λ c. ((c.rules, c.list), c.f) };
+}
+
+/// A parser by BER of an element of the tag number 16, SEQUENCE, which reads its content by `f`,
+/// object after object (X.690 8.10).
+pub fn parse_ber_sequence_of<'a, F, E>(alloc: Global, f: F) -> ListOfObjects<F>
+where
+    F: FnMut(&'a [u8]) -> IResult<&'a [u8], BerObject<'a>, E>,
+    ensures { result ≡ ((Ber, Sequence), f) }
+{
+    ListOfObjects {
+        rules: Rules::Ber,
+        list: ListType::Sequence,
+        f,
+        alloc,
+    }
+}
+
+/// A parser by BER of an element of the tag number 17, SET, which reads its content by `f`,
+/// object after object (X.690 8.12).
+pub fn parse_ber_set_of<'a, F, E>(alloc: Global, f: F) -> ListOfObjects<F>
+where
+    F: FnMut(&'a [u8]) -> IResult<&'a [u8], BerObject<'a>, E>,
+    ensures { result ≡ ((Ber, Set), f) }
+{
+    ListOfObjects {
+        rules: Rules::Ber,
+        list: ListType::Set,
+        f,
+        alloc,
+    }
+}
+
+/// A parser by DER of an element of the tag number 16, SEQUENCE, which reads its content by `f`,
+/// object after object (X.690 8.10).
+pub fn parse_der_sequence_of<'a, F, E>(alloc: Global, f: F) -> ListOfObjects<F>
+where
+    F: FnMut(&'a [u8]) -> IResult<&'a [u8], BerObject<'a>, E>,
+    ensures { result ≡ ((Der, Sequence), f) }
+{
+    ListOfObjects {
+        rules: Rules::Der,
+        list: ListType::Sequence,
+        f,
+        alloc,
+    }
+}
+
+/// A parser by DER of an element of the tag number 17, SET, which reads its content by `f`,
+/// object after object (X.690 8.12), and checks that the octets of the objects ascend (11.6).
+pub fn parse_der_set_of<'a, F, E>(alloc: Global, f: F) -> ListOfObjects<F>
+where
+    F: FnMut(&'a [u8]) -> IResult<&'a [u8], BerObject<'a>, E>,
+    ensures { result ≡ ((Der, Set), f) }
+{
+    ListOfObjects {
+        rules: Rules::Der,
+        list: ListType::Set,
+        f,
+        alloc,
+    }
+}
+
+impl<F> ListOfObjects<F> {
+    /// Reads as `ListOfValues::parse`, with its refusals and its OutOfMemory. Returns the SEQUENCE or the
+    /// SET of the items, as `BerObject::from_seq` or `BerObject::from_set` makes it.
+    #[inline(always)]
+    pub fn parse<'a, E>(&mut self, i: &'a [u8]) -> IResult<&'a [u8], BerObject<'a>, E>
+    where
+        F: FnMut(&'a [u8]) -> IResult<&'a [u8], BerObject<'a>, E>,
+        E: ParseError<&'a [u8]> + From<BerError>,
+        requires { F.IsAlwaysCallable self.old.1 }
+        ensures callable { F.IsAlwaysCallable self.new.1 }
+        ensures run { Keeps (λ t. NumberRun t.0 (list_number t.1) E.from_error_kind_gives E.from_gives i.now
+            (Made (λ _. IsListOf t.1) (OnItems t.0 t.1 E.from_error_kind_gives E.from_gives F.step)))
+            self.old result self.new }
+    {
+        let opened = open_number(self.rules, i, self.list.tag());
+        let items = parse_objects(self.rules, self.list, self.alloc, &mut self.f, opened);
+        with_list(self.list, items)
+    }
+}
+
+/// A parser of a SEQUENCE or SET object, which keeps the rules, the type and the parser of all its items.
+#[derive(Drop)]
+pub struct ListObject<F> {
+    rules: Rules,
+    list: ListType,
+    f: F,
+}
+
+impl<F> Model for ListObject<F> {
+    ghost use Rattle.der_base.specs.declared.rules.Rules.{Rules};
+    ghost use Rattle.der_combinators.specs.declared.list_type.ListType.{ListType};
+
+    ghost Value = { (Rules × ListType) × F };
+
+    ghost view = { λ c. ((c.rules, c.list), c.f) };
+}
+
+/// A parser by BER of an element of the tag number 16, SEQUENCE, whose items `f` reads from its
+/// content (X.690 8.9).
+pub fn parse_ber_sequence_defined<'a, F, E>(f: F) -> ListObject<F>
+where
+    F: FnMut(&'a [u8]) -> IResult<&'a [u8], Vec<BerObject<'a>>, E>,
+    ensures { result ≡ ((Ber, Sequence), f) }
+{
+    ListObject {
+        rules: Rules::Ber,
+        list: ListType::Sequence,
+        f,
+    }
+}
+
+/// A parser by BER of an element of the tag number 17, SET, whose items `f` reads from its
+/// content (X.690 8.11).
+pub fn parse_ber_set_defined<'a, F, E>(f: F) -> ListObject<F>
+where
+    F: FnMut(&'a [u8]) -> IResult<&'a [u8], Vec<BerObject<'a>>, E>,
+    ensures { result ≡ ((Ber, Set), f) }
+{
+    ListObject {
+        rules: Rules::Ber,
+        list: ListType::Set,
+        f,
+    }
+}
+
+/// A parser by DER of an element of the tag number 16, SEQUENCE, whose items `f` reads from its
+/// content (X.690 8.9).
+pub fn parse_der_sequence_defined<'a, F, E>(f: F) -> ListObject<F>
+where
+    F: FnMut(&'a [u8]) -> IResult<&'a [u8], Vec<BerObject<'a>>, E>,
+    ensures { result ≡ ((Der, Sequence), f) }
+{
+    ListObject {
+        rules: Rules::Der,
+        list: ListType::Sequence,
+        f,
+    }
+}
+
+/// A parser by DER of an element of the tag number 17, SET, whose items `f` reads from its
+/// content (X.690 8.11).
+pub fn parse_der_set_defined<'a, F, E>(f: F) -> ListObject<F>
+where
+    F: FnMut(&'a [u8]) -> IResult<&'a [u8], Vec<BerObject<'a>>, E>,
+    ensures { result ≡ ((Der, Set), f) }
+{
+    ListObject {
+        rules: Rules::Der,
+        list: ListType::Set,
+        f,
+    }
+}
+
+impl<F> ListObject<F> {
+    /// Reads as `NumberedContainer::parse`, and calls the kept parser on the content octets alone.
+    /// Returns the SEQUENCE or the SET of the items, as `BerObject::from_seq` or `BerObject::from_set`
+    /// makes it.
+    #[inline(always)]
+    pub fn parse<'a, E>(&mut self, i: &'a [u8]) -> IResult<&'a [u8], BerObject<'a>, E>
+    where
+        F: FnMut(&'a [u8]) -> IResult<&'a [u8], Vec<BerObject<'a>>, E>,
+        E: ParseError<&'a [u8]> + From<BerError>,
+        requires { F.IsAlwaysCallable self.old.1 }
+        ensures callable { F.IsAlwaysCallable self.new.1 }
+        ensures run { Keeps (λ t. NumberRun t.0 (list_number t.1) E.from_error_kind_gives E.from_gives i.now
+            (Made (λ _. IsListOf t.1) (OnContent F.step))) self.old result self.new }
+    {
+        let opened = open_number(self.rules, i, self.list.tag());
+        with_list(self.list, parse_list_content(&mut self.f, opened))
+    }
+}

@@ -1,6 +1,0 @@
-use Rattle.der_base.proofs.Answers.Exactness.{exactly}
-use Rattle.der_der.proofs.Slices.{slice_shows_one}
-use Rattle.der_der.proofs.multi.parse_der_slice.Goals as goal
-
-pub returns : goal.returns
-returns c = exactly c.read_slice.result (slice_shows_one c.args.tag.0 c.args.i.now) (λ n h m. m) c.read_slice.ensures

@@ -1,0 +1,3 @@
+pub mod ContentLaws
+pub mod ContentsRead
+pub mod TypedLaws

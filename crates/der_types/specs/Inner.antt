@@ -1,0 +1,2 @@
+-- What private functions promise: no public contract cites these.
+pub mod Framing
