@@ -24,7 +24,7 @@ use Rattle.der_cursor.specs.Cursors.{octets_left, rules_of, advanced, class_want
 use Rattle.der_cursor.specs.Cursors.{OpensAt, OpensType, OpensTagged, ReadsValue, ReadsOptional, ReadsOr, ReadsTime, ReadsAnyAt}
 use Rattle.der_cursor.specs.Elements.{SpellsElement, BeginsWithTag, IsNext}
 use Rattle.der_cursor.specs.Formats.{Content, Field, Format, Required, Optional, Default, OptionalTagged, DefaultTagged, IfLeft, Element, element_of, AnyElement}
-use Rattle.der_cursor.specs.Formats.{Octets, Value, Primitive, Implicit, Limited, UtcTime, GeneralizedTime, Boolean, Time, OptionalTime, Never, ReadsWhole, ReadsNext, ReadsField, ReadsContent}
+use Rattle.der_cursor.specs.Formats.{Octets, Value, Primitive, Tagged, Implicit, Limited, UtcTime, GeneralizedTime, Boolean, Time, OptionalTime, Never, ReadsWhole, ReadsNext, ReadsField, ReadsContent}
 
 -- a reader that takes no memory, at a value that is spelled
 never : {T : Type 0} (P : T → Type 0) (e : Refused BerError) → MatchAnswer (Err e) P (λ _. ⊥) (λ _. ⊥) ⊥ → ⊥
@@ -99,12 +99,17 @@ untagged : {T V E : Type 0} {F : Field V} {view : T → V} {May : E → Type 0} 
 untagged old m h = record { found = h.found; only = h.only }
 
 -- a value under an implicit tag
+pub tagged_read : {V : Type 0} (k : Rules → Kind V) {T : Type 0} {value : T → V} {t n : ℕ} {c : Class} {old tagged new : Cursor} {result : Result T (Refusal BerError)}
+    → IsTagged c n old tagged → ReadsValue value (k (rules_of tagged)) t tagged result new
+    → ReadsField (Required (Tagged c n (Primitive t (Value k)))) value Never old result new
+tagged_read k {value = value} {t = t} {n = n} {c = c} {old = old} {tagged = tagged} {new = new} {result = result} q h fresh =
+    untagged old (Some (c, record { 0 = n })) (subst (λ m. ReadsNext (Required (Tagged c n (Primitive t (Value k)))) value Never m result new) q
+    (value_next value k t tagged new c n (ap (λ m. class_wanted m.implicit) q) (ap (λ m. number_wanted m.implicit t) q) result h))
+
 pub implicit_read : {V : Type 0} (k : Rules → Kind V) {T : Type 0} {value : T → V} {t n : ℕ} {old tagged new : Cursor} {result : Result T (Refusal BerError)}
     → IsTagged ContextSpecific n old tagged → ReadsValue value (k (rules_of tagged)) t tagged result new
     → ReadsField (Required (Implicit n (Primitive t (Value k)))) value Never old result new
-implicit_read k {value = value} {t = t} {n = n} {old = old} {tagged = tagged} {new = new} {result = result} q h fresh =
-    untagged old (Some (ContextSpecific, record { 0 = n })) (subst (λ m. ReadsNext (Required (Implicit n (Primitive t (Value k)))) value Never m result new) q
-    (value_next value k t tagged new ContextSpecific n (ap (λ m. class_wanted m.implicit) q) (ap (λ m. number_wanted m.implicit t) q) result h))
+implicit_read k q h = tagged_read k q h
 
 -- Values that may be absent.
 module _ {T V : Type 0} (value : T → V) (k : Rules → Kind V) (t : ℕ) (old new : Cursor) (c : Class) (n : ℕ)

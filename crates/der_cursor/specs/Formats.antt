@@ -125,8 +125,11 @@ abbrev pub Explicit : {V : Type 0} → ℕ → Field V → Format V
 Explicit n F = Constructed ContextSpecific n (Only F)
 
 -- a tag in place of that of a type (8.14.3)
+abbrev pub Tagged : {V : Type 0} → Class → ℕ → Format V → Format V
+Tagged c n T = record T { class = c; number = n }
+
 abbrev pub Implicit : {V : Type 0} → ℕ → Format V → Format V
-Implicit n T = record T { class = ContextSpecific; number = n }
+Implicit n T = Tagged ContextSpecific n T
 
 -- a primitive element of this universal type
 abbrev pub Primitive : {V : Type 0} → ℕ → Content V → Format V
