@@ -8,9 +8,10 @@ mod text;
 use anyhow::{Result, ensure};
 use bstr::ByteSlice;
 use pem::{BEGIN, decode_block, is_certificate, label_of};
+use sha2::{Digest, Sha256};
 use std::alloc::Global;
 use std::io::Read;
-use text::Certified;
+use text::{Certified, Fingerprint};
 use x509_reader::read_certificate;
 
 /// The identifier octet of a SEQUENCE, with which a certificate begins, and the dashes of PEM don't.
@@ -52,9 +53,11 @@ fn print_block(rt: &impl Print, alloc: Global, block: &[u8]) -> Result<()> {
     print_certificate(rt, alloc, &octets)
 }
 
-/// Prints a certificate and an empty line.
+/// Prints a certificate, its fingerprint (the SHA-256 digest of its octets) and an empty line.
 fn print_certificate(rt: &impl Print, alloc: Global, octets: &[u8]) -> Result<()> {
     let certificate = read_certificate(alloc, octets)?;
-    println!(rt; "{}", Certified(&certificate))?;
+    let fingerprint = Sha256::digest(octets);
+    print!(rt; "{}", Certified(&certificate))?;
+    println!(rt; "sha256 Fingerprint={}\n", Fingerprint(&fingerprint))?;
     Ok(())
 }

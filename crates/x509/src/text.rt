@@ -90,6 +90,20 @@ fn last_that_is_not_zero(octets: &[u8]) -> usize {
     last
 }
 
+/// A digest, printed as openssl prints fingerprints: pairs of hexadecimal digits with colons between them.
+#[derive(Clone, Copy)]
+pub struct Fingerprint<'a>(pub &'a [u8]);
+
+impl fmt::Display for Fingerprint<'_> {
+    fn fmt<W: fmt::Write>(&self, f: &mut fmt::Formatter<W>) -> fmt::Result {
+        for (i, octet) in self.0.iter().enumerate() {
+            let colon = if i > 0 { ":" } else { "" };
+            write!(f, "{colon}{octet:02X}")?;
+        }
+        Ok(())
+    }
+}
+
 /// A moment in universal time.
 #[derive(Clone, Copy)]
 struct Moment(ASN1DateTime);
