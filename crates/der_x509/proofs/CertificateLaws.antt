@@ -80,7 +80,7 @@ tbs_exact = (
 certificate_exact : IsExact certificate
 certificate_exact = (tt, λ c. (tbs_exact, λ t. (algorithm_exact, λ a. (bits_one Der, λ s. (tt, λ u. tt)))))
 
-whole_exact : IsExact whole_certificate
+pub whole_exact : IsExact whole_certificate
 whole_exact = (certificate_exact, λ c. (tt, λ u. tt))
 
 only_value : (i : List ℕ) (result : Result Certificate CertificateRefusal) → MatchResult result (λ c. spells whole_certificate i (certificate_of c) []) (λ e. refuses whole_certificate (start i) (field_fault e))

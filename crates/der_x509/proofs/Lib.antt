@@ -2,3 +2,4 @@ pub mod CertificateLaws
 pub mod FormatLaws
 pub mod ReaderLaws
 pub mod VersionLaws
+pub mod RuleLaws

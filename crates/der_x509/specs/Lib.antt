@@ -1,3 +1,4 @@
 pub mod Certificates
 pub mod Formats
 pub mod Readers
+pub mod Rules

@@ -6,6 +6,7 @@ mod certificate;
 mod extension;
 mod name;
 mod refusal;
+mod rules;
 mod time;
 
 pub use algorithm::{AlgorithmIdentifier, SubjectPublicKeyInfo};
@@ -13,4 +14,5 @@ pub use certificate::{Certificate, TbsCertificate, Version, read_certificate};
 pub use extension::{Extension, Extensions};
 pub use name::{AttributeTypeAndValue, Name, RelativeDistinguishedName};
 pub use refusal::{CertificateRefusal, Field};
+pub use rules::{Rule, StrictRefusal, read_strict_certificate};
 pub use time::Validity;

@@ -1,0 +1,54 @@
+-- The rules of RFC 5280 that its ASN.1 doesn't say, and reading with them.
+use Rattle.std.specs.Prelude.{◌≡◌, ◌≢◌, ℕ, ◌<◌, ◌⊎◌, ℤ, pos, ◌<ℤ◌, Option, None, List, [], ◌∷◌, length}
+use Rattle.std.specs.Prelude.{Result, MatchResult, Ok, Err}
+use Rattle.der_base.specs.Octets.{integer_value}
+use Rattle.der_x509.specs.declared.certificate.Certificate.{Certificate}
+use Rattle.der_x509.specs.declared.certificate.Version.TheVariants.{V1, V3}
+use Rattle.der_x509.specs.declared.rules.Rule.{Rule}
+use Rattle.der_x509.specs.declared.rules.Rule.TheVariants.{SameAlgorithms, PositiveSerialNumber, ShortSerialNumber}
+use Rattle.der_x509.specs.declared.rules.Rule.TheVariants.{NamedIssuer, UniqueIdVersion, ExtensionsVersion}
+use Rattle.der_x509.specs.declared.rules.StrictRefusal.{StrictRefusal}
+use Rattle.der_x509.specs.declared.rules.StrictRefusal.TheVariants.{Certificate as Malformed, Rule as Broken}
+use Rattle.der_x509.specs.Certificates.{Signed, certificate_of, whole_certificate}
+use Rattle.der_x509.specs.Formats.{refuses, spells, start}
+use Rattle.der_x509.specs.Readers.{field_fault}
+
+abbrev pub IsPositive : List ℕ → Type 0
+IsPositive w = pos 0 <ℤ integer_value w
+
+-- the certificate breaks the rule
+abbrev pub Breaks : Rule → Signed → Type 0
+Breaks SameAlgorithms c = c.algorithm ≢ c.tbs_certificate.signature
+Breaks PositiveSerialNumber c = ¬ IsPositive c.tbs_certificate.serial_number
+Breaks ShortSerialNumber c = 20 < length c.tbs_certificate.serial_number
+Breaks NamedIssuer c = c.tbs_certificate.issuer ≡ []
+Breaks UniqueIdVersion c = let t = c.tbs_certificate in
+    (t.version ≡ V1) × ((t.issuer_id ≢ None) ⊎ (t.subject_id ≢ None))
+Breaks ExtensionsVersion c = let t = c.tbs_certificate in (t.version ≢ V3) × (t.extensions ≢ [])
+
+abbrev pub every_rule : List Rule
+every_rule =
+    SameAlgorithms ∷ PositiveSerialNumber ∷ ShortSerialNumber ∷ NamedIssuer ∷ UniqueIdVersion ∷ ExtensionsVersion ∷ []
+
+abbrev pub NoneBroken : List Rule → Signed → Type 0
+NoneBroken [] c = Unit {0}
+NoneBroken (q ∷ qs) c = (¬ Breaks q c) × NoneBroken qs c
+
+-- r is broken, and none before it in the list
+abbrev pub IsFirstBroken : List Rule → Signed → Rule → Type 0
+IsFirstBroken [] c r = ⊥
+IsFirstBroken (q ∷ qs) c r = (Breaks q c × (r ≡ q)) ⊎ ((¬ Breaks q c) × IsFirstBroken qs c r)
+
+-- the octets are a certificate that breaks no rule
+abbrev pub IsStrict : List ℕ → Signed → Type 0
+IsStrict i c = spells whole_certificate i c [] × NoneBroken every_rule c
+
+-- why they aren't one
+abbrev pub IsWhy : List ℕ → StrictRefusal → Type 0
+IsWhy i (Malformed e) = refuses whole_certificate (start i) (field_fault e)
+IsWhy i (Broken r) = (c : Signed) × spells whole_certificate i c [] × IsFirstBroken every_rule c r
+
+-- What is returned is so, and what is so is returned.
+pub record ReadsStrictly (i : List ℕ) (result : Result Certificate StrictRefusal) : Type 0 where
+  pub found : MatchResult result (λ c. IsStrict i (certificate_of c)) (IsWhy i)
+  pub only : (c : Signed) → IsStrict i c → MatchResult result (λ x. certificate_of x ≡ c) (λ e. ⊥)

@@ -1,0 +1,118 @@
+//! The rules of RFC 5280 that its ASN.1 doesn't say.
+ghost use Rattle.std.specs.Prelude.{◌≡◌, ◌↔◌, IsTrue, MatchOption};
+ghost use Rattle.der_x509.specs.Certificates.{algorithm_of, certificate_of};
+ghost use Rattle.der_x509.specs.Rules.{Breaks, IsFirstBroken, IsPositive, NoneBroken, ReadsStrictly, every_rule};
+
+use crate::algorithm::AlgorithmIdentifier;
+use crate::certificate::{Certificate, Version, read_certificate};
+use crate::refusal::CertificateRefusal;
+use der_base::integer::{is_negative, read_u64};
+
+/// A rule that a certificate may break and still be one by its ASN.1.
+#[derive(Clone, Copy, Debug, PartialEq)]
+pub enum Rule {
+    /// The algorithm beside the signature is the one that is signed (RFC 5280 4.1.1.2).
+    SameAlgorithms,
+    /// The serial number is positive (4.1.2.2).
+    PositiveSerialNumber,
+    /// The serial number has at most 20 octets (4.1.2.2).
+    ShortSerialNumber,
+    /// The issuer has a name (4.1.2.4).
+    NamedIssuer,
+    /// A certificate of version 1 has no unique identifier (4.1.2.8).
+    UniqueIdVersion,
+    /// A certificate with extensions is of version 3 (4.1.2.9).
+    ExtensionsVersion,
+}
+
+/// The most octets of a serial number.
+const LONGEST_SERIAL_NUMBER: usize = 20;
+
+impl Certificate<'_> {
+    /// Whether the certificate breaks the rule.
+    pub fn breaks(&self, rule: Rule) -> bool
+        ensures { IsTrue result ↔ Breaks rule (certificate_of self.now) }
+    {
+        let fields = &self.tbs_certificate;
+        match rule {
+            Rule::SameAlgorithms => !is_same(&self.signature_algorithm, &fields.signature),
+            Rule::PositiveSerialNumber => !is_positive(fields.serial_number),
+            Rule::ShortSerialNumber => fields.serial_number.len() > LONGEST_SERIAL_NUMBER,
+            Rule::NamedIssuer => fields.issuer.octets.is_empty(),
+            Rule::UniqueIdVersion => {
+                fields.version == Version::V1
+                    && (fields.issuer_unique_id.is_some() || fields.subject_unique_id.is_some())
+            }
+            Rule::ExtensionsVersion => {
+                fields.version != Version::V3 && !fields.extensions.octets.is_empty()
+            }
+        }
+    }
+
+    /// The first rule that the certificate breaks, in the order of `Rule`.
+    pub fn first_broken_rule(&self) -> Option<Rule>
+        ensures { let c = certificate_of self.now in MatchOption result
+            (NoneBroken every_rule c)
+            (IsFirstBroken every_rule c) }
+    {
+        if self.breaks(Rule::SameAlgorithms) {
+            return Some(Rule::SameAlgorithms);
+        }
+        if self.breaks(Rule::PositiveSerialNumber) {
+            return Some(Rule::PositiveSerialNumber);
+        }
+        if self.breaks(Rule::ShortSerialNumber) {
+            return Some(Rule::ShortSerialNumber);
+        }
+        if self.breaks(Rule::NamedIssuer) {
+            return Some(Rule::NamedIssuer);
+        }
+        if self.breaks(Rule::UniqueIdVersion) {
+            return Some(Rule::UniqueIdVersion);
+        }
+        if self.breaks(Rule::ExtensionsVersion) {
+            return Some(Rule::ExtensionsVersion);
+        }
+        None
+    }
+}
+
+/// Why octets aren't a certificate that keeps the rules.
+#[derive(Debug, Drop)]
+pub enum StrictRefusal {
+    /// They aren't a certificate by its ASN.1.
+    Certificate(CertificateRefusal),
+    /// They are one, and this is the first rule that it breaks.
+    Rule(Rule),
+}
+
+/// Reads a certificate that keeps each rule of `Rule`, and nothing after it.
+pub fn read_strict_certificate(octets: &[u8]) -> Result<Certificate<'_>, StrictRefusal>
+    ensures { ReadsStrictly octets.now result }
+{
+    let certificate = match read_certificate(octets) {
+        Ok(certificate) => certificate,
+        Err(e) => return Err(StrictRefusal::Certificate(e)),
+    };
+    match certificate.first_broken_rule() {
+        Some(rule) => Err(StrictRefusal::Rule(rule)),
+        None => Ok(certificate),
+    }
+}
+
+/// Whether both are the same algorithm with the same parameters.
+fn is_same(one: &AlgorithmIdentifier<'_>, other: &AlgorithmIdentifier<'_>) -> bool
+    ensures { IsTrue result ↔ (algorithm_of one.now ≡ algorithm_of other.now) }
+{
+    one.algorithm.as_bytes() == other.algorithm.as_bytes() && one.parameters == other.parameters
+}
+
+/// Whether content octets of an INTEGER spell a positive number.
+fn is_positive(octets: &[u8]) -> bool
+    ensures { IsTrue result ↔ IsPositive octets.now }
+{
+    match read_u64(octets) {
+        Ok(number) => number > 0,
+        Err(_) => !is_negative(octets),
+    }
+}
