@@ -1,5 +1,6 @@
 pub mod CertificateLaws
 pub mod FormatLaws
+pub mod ListLaws
 pub mod ReaderLaws
 pub mod VersionLaws
 pub mod RuleLaws

@@ -1,4 +1,5 @@
 pub mod Certificates
 pub mod Formats
+pub mod Lists
 pub mod Readers
 pub mod Rules

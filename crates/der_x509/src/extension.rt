@@ -57,7 +57,7 @@ fn check_extensions(mut list: Cursor<'_>) -> Result<(), Refusal<BerError>>
 }
 
 /// Reads an Extension.
-fn read_extension<'a>(list: &mut Cursor<'a>) -> Result<Extension<'a>, Refusal<BerError>>
+pub(crate) fn read_extension<'a>(list: &mut Cursor<'a>) -> Result<Extension<'a>, Refusal<BerError>>
     ensures reads { ReadsBy fault_of extension_of extension list.old result list.new }
     ensures shorter { OnOk result (IsShorter list.old list.new) }
 {

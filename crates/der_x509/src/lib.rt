@@ -3,7 +3,9 @@
 
 mod algorithm;
 mod certificate;
+mod display;
 mod extension;
+mod lists;
 mod name;
 mod refusal;
 mod rules;
@@ -12,6 +14,7 @@ mod time;
 pub use algorithm::{AlgorithmIdentifier, SubjectPublicKeyInfo};
 pub use certificate::{Certificate, TbsCertificate, Version, read_certificate};
 pub use extension::{Extension, Extensions};
+pub use lists::{Attributes, ExtensionIter, RelativeNames};
 pub use name::{AttributeTypeAndValue, Name, RelativeDistinguishedName};
 pub use refusal::{CertificateRefusal, Field};
 pub use rules::{Rule, StrictRefusal, read_strict_certificate};

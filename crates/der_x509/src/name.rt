@@ -54,7 +54,7 @@ fn check_relative_names(mut names: Cursor<'_>) -> Result<(), Refusal<BerError>>
 }
 
 /// Reads a RelativeDistinguishedName.
-fn read_relative_name<'a>(
+pub(crate) fn read_relative_name<'a>(
     names: &mut Cursor<'a>,
 ) -> Result<RelativeDistinguishedName<'a>, Refusal<BerError>>
     ensures reads { ReadsBy fault_of (λ n. n.octets.now) relative_name names.old result names.new }
@@ -81,7 +81,7 @@ fn check_attributes(mut attributes: Cursor<'_>) -> Result<(), Refusal<BerError>>
 }
 
 /// Reads an AttributeTypeAndValue.
-fn read_attribute<'a>(
+pub(crate) fn read_attribute<'a>(
     attributes: &mut Cursor<'a>,
 ) -> Result<AttributeTypeAndValue<'a>, Refusal<BerError>>
     ensures reads { ReadsBy fault_of attribute_of attribute attributes.old result attributes.new }

@@ -1,0 +1,6 @@
+use Rattle.std.proofs.Common.{refl}
+use Rattle.der_x509.proofs.ListLaws.{attribute_exact, no_item}
+use Rattle.der_x509.proofs.lists.AttributesIterator.next.Goals as goal
+
+pub returns-in_default-clause-steps : goal.returns-in_default-clause-steps
+returns-in_default-clause-steps c = (no_item attribute_exact c.new-attributes.ensures c.in_default.ensures.reads, refl)

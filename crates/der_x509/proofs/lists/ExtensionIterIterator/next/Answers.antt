@@ -1,0 +1,6 @@
+use Rattle.std.proofs.Common.{refl}
+use Rattle.der_x509.proofs.ListLaws.{extension_exact, no_item}
+use Rattle.der_x509.proofs.lists.ExtensionIterIterator.next.Goals as goal
+
+pub returns-in_default-clause-steps : goal.returns-in_default-clause-steps
+returns-in_default-clause-steps c = (no_item extension_exact c.new-list.ensures c.in_default.ensures.reads, refl)
