@@ -49,7 +49,7 @@ fn write_extensions<W: fmt::Write>(
         let critical = if extension.critical { " critical" } else { "" };
         write!(f, "{label}={}{critical} ", extension.identifier)?;
         match extension.reason() {
-            Ok(Some(number)) => writeln!(f, "reason {number}")?,
+            Ok(Some(reason)) => writeln!(f, "reason {}", reason.number())?,
             Ok(None) => writeln!(f, "{}", Hex(extension.value.remaining()))?,
             Err(e) => writeln!(f, "{e}")?,
         }

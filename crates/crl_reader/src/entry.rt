@@ -3,8 +3,10 @@ ghost use Rattle.std.specs.Prelude.{map};
 ghost use Rattle.std.specs.Option.{option_map};
 ghost use Rattle.der_cursor.specs.Formats.{NoMemory, Optional, ReadsField, Required};
 ghost use Rattle.crl_reader.specs.Lists.{Entries, Extensions, RevokedCertificate, extension_of, revoked_of};
+ghost use Rattle.crl_reader.specs.Reasons.{ReadsFirstReason, listed};
 
 use crate::extension::{Extension, read_extensions};
+use crate::reason::Reason;
 use der_parser::ber::{ASN1DateTime, Class, Tag};
 use der_parser::cursor::{Cursor, Refusal};
 use der_parser::error::BerError;
@@ -20,18 +22,26 @@ pub struct Revoked<'a> {
 }
 
 impl Revoked<'_> {
-    /// The number of the reason, if an extension has it (RFC 5280 5.3.1).
-    pub fn reason(&self) -> Result<Option<u64>, Refusal<BerError>> {
+    /// The reason, if an extension has it (RFC 5280 5.3.1).
+    pub fn reason(&self) -> Result<Option<Reason>, Refusal<BerError>>
+        ensures { ReadsFirstReason (listed self.now.extensions) result }
+    {
         let Some(extensions) = &self.extensions else {
             return Ok(None);
         };
-        for extension in extensions {
-            if let Some(number) = extension.reason()? {
-                return Ok(Some(number));
-            }
-        }
-        Ok(None)
+        first_reason(extensions)
     }
+}
+
+fn first_reason(extensions: &[Extension<'_>]) -> Result<Option<Reason>, Refusal<BerError>>
+    ensures { ReadsFirstReason extensions.now result }
+{
+    for extension in extensions {
+        if let Some(reason) = extension.reason()? {
+            return Ok(Some(reason));
+        }
+    }
+    Ok(None)
 }
 
 /// Reads the entries, if there are any.

@@ -2,7 +2,9 @@
 ghost use Rattle.std.specs.Prelude.{map};
 ghost use Rattle.der_cursor.specs.Formats.{NoMemory, ReadsField, Required};
 ghost use Rattle.crl_reader.specs.Lists.{Extension as ExtensionFormat, Extensions, extension_of};
+ghost use Rattle.crl_reader.specs.Reasons.{ReadsReason};
 
+use crate::reason::{Reason, read_reason_code};
 use der_parser::cursor::{Cursor, Refusal};
 use der_parser::error::BerError;
 use der_parser::oid::Oid;
@@ -20,15 +22,14 @@ pub struct Extension<'a> {
 }
 
 impl Extension<'_> {
-    /// The number of the reason, if this extension is a reason code (RFC 5280 5.3.1).
-    pub fn reason(&self) -> Result<Option<u64>, Refusal<BerError>> {
+    /// The reason, if this extension is a reason code (RFC 5280 5.3.1).
+    pub fn reason(&self) -> Result<Option<Reason>, Refusal<BerError>>
+        ensures { ReadsReason self.now result }
+    {
         if self.identifier.as_bytes() != REASON_CODE {
             return Ok(None);
         }
-        let mut value = self.value;
-        let reason = value.enumerated()?;
-        value.end()?;
-        Ok(Some(reason))
+        Ok(Some(read_reason_code(self.value)?))
     }
 }
 

@@ -4,7 +4,9 @@
 mod entry;
 mod extension;
 mod list;
+mod reason;
 
 pub use entry::Revoked;
 pub use extension::Extension;
 pub use list::{CertificateList, Issuer, SignedList, read_certificate_list};
+pub use reason::Reason;

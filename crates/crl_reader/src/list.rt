@@ -1,10 +1,13 @@
 //! Lists of revoked certificates (RFC 5280 5.1).
-ghost use Rattle.std.specs.Prelude.{pos};
+ghost use Rattle.std.specs.Prelude.{map, pos};
 ghost use Rattle.std.specs.Option.{option_map};
+ghost use Rattle.der_base.specs.declared.rules.Rules.{Rules};
 ghost use Rattle.der_base.specs.Oids.{octets_of};
-ghost use Rattle.der_cursor.specs.Cursors.{octets_left};
-ghost use Rattle.der_cursor.specs.Formats.{Never, Octets, Optional, ReadsField, Required, Sequence};
-ghost use Rattle.crl_reader.specs.Lists.{AlgorithmIdentifier, Version};
+ghost use Rattle.der_cursor.specs.Formats.{Never, NoMemory, NoMemoryIn, Only, Optional, OptionalTagged};
+ghost use Rattle.der_cursor.specs.Formats.{OptionalTime, ReadsContent, ReadsField, ReadsInput, Required, Sequence, Time};
+ghost use Rattle.crl_reader.specs.Kept.{Unread, WithCursor};
+ghost use Rattle.crl_reader.specs.Lists.{AlgorithmIdentifier, CertificateList as ListFormat, Extensions, SignedFields};
+ghost use Rattle.crl_reader.specs.Lists.{Version, extension_of, issuer_of, list_of, signed_of};
 
 use crate::entry::{Revoked, read_entries};
 use crate::extension::{Extension, read_extensions};
@@ -47,7 +50,9 @@ pub struct Issuer<'a> {
 pub fn read_certificate_list<'a>(
     alloc: Global,
     octets: &'a [u8],
-) -> Result<CertificateList<'a>, FieldRefusal> {
+) -> Result<CertificateList<'a>, FieldRefusal>
+    ensures { ReadsInput Rules.Der (Only (Required ListFormat)) list_of NoMemoryIn octets.now result }
+{
     let mut input = Cursor::new(octets);
     let list = read_parts(alloc, &mut input)?;
     input.end().named("CertificateList")?;
@@ -57,10 +62,11 @@ pub fn read_certificate_list<'a>(
 fn read_parts<'a>(
     alloc: Global,
     input: &mut Cursor<'a>,
-) -> Result<CertificateList<'a>, FieldRefusal> {
+) -> Result<CertificateList<'a>, FieldRefusal>
+    ensures { ReadsField (Required ListFormat) list_of NoMemoryIn input.old result input.new }
+{
     let mut parts = input.open_sequence().named("CertificateList")?;
-    let fields = parts.open_sequence().named("tbsCertList")?;
-    let signed = read_signed(alloc, fields).named("tbsCertList")?;
+    let signed = read_signed(alloc, &mut parts)?;
     let signature_algorithm = read_algorithm(&mut parts).named("signatureAlgorithm")?;
     let signature = parts.bits().named("signatureValue")?;
     parts.end().named("CertificateList")?;
@@ -71,7 +77,19 @@ fn read_parts<'a>(
     })
 }
 
-fn read_signed<'a>(alloc: Global, mut fields: Cursor<'a>) -> Result<SignedList<'a>, FieldRefusal> {
+fn read_signed<'a>(alloc: Global, parts: &mut Cursor<'a>) -> Result<SignedList<'a>, FieldRefusal>
+    ensures { ReadsField (Required (Sequence SignedFields)) signed_of NoMemoryIn parts.old result parts.new }
+{
+    let fields = parts.open_sequence().named("tbsCertList")?;
+    read_signed_fields(alloc, fields).named("tbsCertList")
+}
+
+fn read_signed_fields<'a>(
+    alloc: Global,
+    mut fields: Cursor<'a>,
+) -> Result<SignedList<'a>, FieldRefusal>
+    ensures { ReadsContent SignedFields signed_of NoMemoryIn fields.entry result }
+{
     let version = read_version(&mut fields).named("version")?;
     let signature = read_algorithm(&mut fields).named("signature")?;
     let issuer = read_issuer(&mut fields).named("issuer")?;
@@ -122,36 +140,42 @@ fn read_algorithm<'a>(fields: &mut Cursor<'a>) -> Result<Oid<'a>, Refusal<BerErr
 }
 
 fn read_issuer<'a>(fields: &mut Cursor<'a>) -> Result<Issuer<'a>, Refusal<BerError>>
-    ensures { ReadsField (Required (Sequence Octets)) (λ x. octets_left x.content) Never fields.old result fields.new }
+    ensures { ReadsField (WithCursor (Required (Sequence Unread))) issuer_of Never fields.old result fields.new }
 {
     let element = *fields;
     let content = fields.open_sequence()?;
     Ok(Issuer { element, content })
 }
 
-fn read_next_update(fields: &mut Cursor<'_>) -> Result<Option<ASN1DateTime>, Refusal<BerError>> {
-    if fields.is_next(Class::Universal, Tag::UtcTime) {
-        return Ok(Some(fields.utc_time()?));
-    }
+/// Reads a time, of either type (4.1).
+fn read_time(fields: &mut Cursor<'_>) -> Result<ASN1DateTime, Refusal<BerError>>
+    ensures { ReadsField Time (λ v. v) Never fields.old result fields.new }
+{
     if fields.is_next(Class::Universal, Tag::GeneralizedTime) {
-        return Ok(Some(fields.generalized_time()?));
+        return fields.generalized_time();
     }
-    Ok(None)
+    fields.utc_time()
 }
 
-/// Reads a UTCTime or a GeneralizedTime (5.1.2.4): the one that is next.
-fn read_time(fields: &mut Cursor<'_>) -> Result<ASN1DateTime, Refusal<BerError>> {
-    if fields.is_next(Class::Universal, Tag::GeneralizedTime) {
-        fields.generalized_time()
-    } else {
-        fields.utc_time()
+fn read_next_update(fields: &mut Cursor<'_>) -> Result<Option<ASN1DateTime>, Refusal<BerError>>
+    ensures { ReadsField OptionalTime (λ x. option_map (λ t. t) x) Never fields.old result fields.new }
+{
+    if fields.is_next(Class::Universal, Tag::UtcTime) {
+        return Ok(Some(read_time(fields)?));
     }
+    if fields.is_next(Class::Universal, Tag::GeneralizedTime) {
+        return Ok(Some(read_time(fields)?));
+    }
+    Ok(None)
 }
 
 fn read_list_extensions<'a>(
     alloc: Global,
     fields: &mut Cursor<'a>,
-) -> Result<Option<Vec<Extension<'a>>>, Refusal<BerError>> {
+) -> Result<Option<Vec<Extension<'a>>>, Refusal<BerError>>
+    ensures { ReadsField (OptionalTagged 0 (Only (Required Extensions)))
+        (λ x. option_map (λ v. map extension_of v.items) x) NoMemory fields.old result fields.new }
+{
     let Some(mut inside) = fields.open_tagged(0)? else {
         return Ok(None);
     };
