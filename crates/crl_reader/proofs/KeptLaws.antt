@@ -1,5 +1,5 @@
 -- Octets that are left to another reader.
-use Rattle.std.proofs.Common.{◌≡◌, ℕ, Bool, None, Result, Ok, Err, sym, ap, subst, ◌∙◌}
+use Rattle.std.proofs.Common.{◌≡◌, ℕ, Bool, Result, Ok, Err, sym, ap, subst, ◌∙◌}
 use Rattle.der_base.specs.declared.error.Error.{Error as BerError}
 use Rattle.der_base.specs.declared.header.Class.TheVariants.{Universal}
 use Rattle.der_cursor.specs.declared.cursor.Cursor.{Cursor}

@@ -1,12 +1,11 @@
 -- Reasons: their numbers, and the reason of an extension.
-use Rattle.std.proofs.Common.{◌≡◌, ◌≢◌, ℕ, suc, ◌<◌, ◌≤◌, Option, Some, None, List, [], ◌∷◌, length, drop, get_or, drop-cons, Result, Ok, Err, refl, sym, ap, subst, ◌∙◌, inl, inr}
+use Rattle.std.proofs.Common.{◌≡◌, ◌≢◌, ℕ, suc, ◌<◌, Option, Some, None, List, ◌∷◌, length, drop, get_or, drop-cons, Result, Ok, Err, refl, sym, ap, subst, ◌∙◌, inl, inr}
 use Rattle.std.specs.Prelude.{◌==◌, if◌then◌else◌, All}
-use Rattle.std.proofs.lemmas.List.{drop_all}
 use Rattle.std.proofs.lemmas.List.Elements.{All-get_or}
 use Rattle.der_base.specs.declared.error.Error.{Error as BerError}
 use Rattle.der_cursor.specs.declared.cursor.Cursor.{Cursor}
 use Rattle.der_cursor.specs.declared.refusal.Refusal.{Refusal}
-use Rattle.der_cursor.specs.Cursors.{octets_left, rules_of}
+use Rattle.der_cursor.specs.Cursors.{rules_of}
 use Rattle.der_cursor.specs.Formats.{Format, Required, Never, ReadsWhole, ReadsField}
 use Rattle.crl_reader.specs.declared.extension.Extension.{Extension}
 use Rattle.crl_reader.specs.declared.reason.Reason.{Reason}

@@ -6,7 +6,6 @@ use Rattle.der_base.specs.Oids.{octets_of}
 use Rattle.der_cursor.specs.declared.refusal.Refusal.{Refusal}
 use Rattle.der_cursor.specs.Cursors.{octets_left, rules_of}
 use Rattle.der_cursor.specs.Formats.{Content, Format, Required, Only, Enumerated, Never, ReadsWhole}
-use Rattle.crl_reader.specs.declared.entry.Revoked.{Revoked}
 use Rattle.crl_reader.specs.declared.extension.Extension.{Extension}
 use Rattle.crl_reader.specs.declared.reason.Reason.{Reason}
 use Rattle.crl_reader.specs.declared.reason.Reason.TheVariants.{Unspecified, KeyCompromise, CaCompromise, AffiliationChanged}

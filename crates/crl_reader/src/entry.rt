@@ -1,13 +1,13 @@
 //! The entries of a list: certificates that are revoked (RFC 5280 5.1.2.6).
 ghost use Rattle.std.specs.Prelude.{map};
-ghost use Rattle.std.specs.Option.{option_map};
-ghost use Rattle.der_cursor.specs.Formats.{NoMemory, Optional, ReadsField, Required};
-ghost use Rattle.crl_reader.specs.Lists.{Entries, Extensions, RevokedCertificate, extension_of, revoked_of};
+ghost use Rattle.der_cursor.specs.Formats.{NoMemory, ReadsField, Required};
+ghost use Rattle.crl_reader.specs.Lists.{Entries, RevokedCertificate, revoked_of};
 ghost use Rattle.crl_reader.specs.Reasons.{ReadsFirstReason, listed};
 
 use crate::extension::{Extension, read_extensions};
+use crate::next::read_if_next;
 use crate::reason::Reason;
-use der_parser::ber::{ASN1DateTime, Class, Tag};
+use der_parser::ber::ASN1DateTime;
 use der_parser::cursor::{Cursor, Refusal};
 use der_parser::error::BerError;
 use std::alloc::Global;
@@ -44,19 +44,14 @@ fn first_reason(extensions: &[Extension<'_>]) -> Result<Option<Reason>, Refusal<
     Ok(None)
 }
 
-/// Reads the entries, if there are any.
+/// Reads a SEQUENCE OF entries.
 pub(crate) fn read_entries<'a>(
     alloc: Global,
     fields: &mut Cursor<'a>,
-) -> Result<Option<Vec<Revoked<'a>>>, Refusal<BerError>>
-    ensures { ReadsField (Optional Entries) (λ x. option_map (λ v. map revoked_of v.items) x) NoMemory
-        fields.old result fields.new }
+) -> Result<Vec<Revoked<'a>>, Refusal<BerError>>
+    ensures { ReadsField (Required Entries) (λ v. map revoked_of v.items) NoMemory fields.old result fields.new }
 {
-    if fields.is_next(Class::Universal, Tag::Sequence) {
-        let entries = fields.open_sequence()?;
-        return Ok(Some(entries.read_all(alloc, read_entry)?));
-    }
-    Ok(None)
+    fields.open_sequence()?.read_all(alloc, read_entry)
 }
 
 fn read_entry<'a>(alloc: Global, entries: &mut Cursor<'a>) -> Result<Revoked<'a>, Refusal<BerError>>
@@ -65,24 +60,11 @@ fn read_entry<'a>(alloc: Global, entries: &mut Cursor<'a>) -> Result<Revoked<'a>
     let mut fields = entries.open_sequence()?;
     let serial_number = fields.integer()?;
     let date = fields.time()?;
-    let extensions = read_entry_extensions(alloc, &mut fields)?;
+    let extensions = read_if_next(alloc, &mut fields, read_extensions)?;
     fields.end()?;
     Ok(Revoked {
         serial_number,
         date,
         extensions,
     })
-}
-
-fn read_entry_extensions<'a>(
-    alloc: Global,
-    fields: &mut Cursor<'a>,
-) -> Result<Option<Vec<Extension<'a>>>, Refusal<BerError>>
-    ensures { ReadsField (Optional Extensions) (λ x. option_map (λ v. map extension_of v.items) x) NoMemory
-        fields.old result fields.new }
-{
-    if fields.is_next(Class::Universal, Tag::Sequence) {
-        return Ok(Some(read_extensions(alloc, fields)?));
-    }
-    Ok(None)
 }

@@ -4,6 +4,7 @@
 mod entry;
 mod extension;
 mod list;
+mod next;
 mod reason;
 
 pub use entry::Revoked;

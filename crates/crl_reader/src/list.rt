@@ -11,6 +11,7 @@ ghost use Rattle.crl_reader.specs.Lists.{Version, extension_of, issuer_of, list_
 
 use crate::entry::{Revoked, read_entries};
 use crate::extension::{Extension, read_extensions};
+use crate::next::read_if_next;
 use der_parser::ber::{ASN1DateTime, Class, Tag};
 use der_parser::cursor::{Cursor, FieldRefusal, Named, Refusal};
 use der_parser::error::BerError;
@@ -95,7 +96,7 @@ fn read_signed_fields<'a>(
     let issuer = read_issuer(&mut fields).named("issuer")?;
     let this_update = read_time(&mut fields).named("thisUpdate")?;
     let next_update = read_next_update(&mut fields).named("nextUpdate")?;
-    let revoked = read_entries(alloc, &mut fields).named("revokedCertificates")?;
+    let revoked = read_if_next(alloc, &mut fields, read_entries).named("revokedCertificates")?;
     let extensions = read_list_extensions(alloc, &mut fields).named("crlExtensions")?;
     fields.end().named("crlExtensions")?;
     Ok(SignedList {
@@ -147,7 +148,7 @@ fn read_issuer<'a>(fields: &mut Cursor<'a>) -> Result<Issuer<'a>, Refusal<BerErr
     Ok(Issuer { element, content })
 }
 
-/// Reads a time, of either type (4.1).
+/// Reads a time, of either type (4.1). Unlike the call of a cursor it asks for no tag number below 31.
 fn read_time(fields: &mut Cursor<'_>) -> Result<ASN1DateTime, Refusal<BerError>>
     ensures { ReadsField Time (λ v. v) Never fields.old result fields.new }
 {

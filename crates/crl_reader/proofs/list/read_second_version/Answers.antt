@@ -1,5 +1,4 @@
-use Rattle.std.proofs.Common.{ap, arith, rules}
-use Rattle.std.specs.Prelude.{pos}
+use Rattle.std.proofs.Common.{arith}
 use Rattle.std.proofs.lemmas.Int.{ints}
 use Rattle.std.proofs.lemmas.Result.{err_from_is_err_and}
 use Rattle.der_cursor.proofs.FormatLaws.{limited_read, limited_stops, not_limited, value_read}
