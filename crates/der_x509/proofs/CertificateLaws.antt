@@ -26,7 +26,7 @@ key_exact : IsExact subject_public_key_info
 key_exact = (tt, λ c. (algorithm_exact, λ a. (bits_one Der, λ k. (tt, λ u. tt))))
 
 time_exact : IsExact time
-time_exact = (time_one Der 24, time_one Der 23)
+time_exact = ((time_one Der 24, λ t. tt), (time_one Der 23, λ t. tt))
 
 validity_exact : IsExact validity
 validity_exact = (tt, λ c. (time_exact, λ a. (time_exact, λ b. (tt, λ u. tt))))

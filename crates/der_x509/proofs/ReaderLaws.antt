@@ -12,7 +12,6 @@ use Rattle.der_base.specs.declared.header.Class.{Class}
 use Rattle.der_base.specs.declared.header.Class.TheVariants.{ContextSpecific, Universal}
 use Rattle.der_base.specs.declared.rules.Rules.{Rules}
 use Rattle.der_base.specs.declared.rules.Rules.TheVariants.{Ber, Der}
-use Rattle.der_base.specs.declared.time.ASN1DateTime.{ASN1DateTime}
 use Rattle.der_base.specs.Answer.{MatchAnswer}
 use Rattle.der_base.specs.Octets.{identifier, shortest_length}
 use Rattle.der_base.specs.Refusal.{Refusal as Name}
@@ -21,12 +20,12 @@ use Rattle.der_base.proofs.Octets.Identifiers.{identifier_octets}
 use Rattle.der_cursor.specs.declared.cursor.Cursor.{Cursor}
 use Rattle.der_cursor.specs.declared.refusal.Refusal.{Refusal}
 use Rattle.der_cursor.specs.Cursors.{octets_left, end_of, is_inside, place_of, rules_of, advanced, refusal_at, RefusesAt, LacksAt, OpensAt, OpensType, OpensTagged, EndsAt}
-use Rattle.der_cursor.specs.Cursors.{ReadsValue, ReadsOptional, ReadsOr, ReadsTime, ReadsAnyAt, IsTagged, class_wanted, number_wanted, contents}
+use Rattle.der_cursor.specs.Cursors.{ReadsValue, ReadsOptional, ReadsOr, ReadsAnyAt, IsTagged, class_wanted, number_wanted, contents}
 use Rattle.der_cursor.specs.Elements.{SpellsElement, ElementRefuses, IsNext, marker_size}
-use Rattle.der_values.specs.Kinds.{Kind, booleans, times}
+use Rattle.der_values.specs.Kinds.{Kind, booleans}
 use Rattle.der_x509.specs.declared.refusal.CertificateRefusal.{CertificateRefusal}
 use Rattle.der_x509.specs.declared.refusal.Field.{Field}
-use Rattle.der_x509.specs.Certificates.{boolean_or_false, element_of, last_any, time}
+use Rattle.der_x509.specs.Certificates.{boolean_or_false, element_of, last_any}
 use Rattle.der_x509.specs.Formats.{Fault, FieldFault, Format, Items, Spot, IsReason, ◌>>=◌, any, done, each, either, element, end_of_content, explicit_or, inside, list_of, more, named, none}
 use Rattle.der_x509.specs.Formats.{optional_implicit, primitive, requiring, some_octets, with_octets, content_at, fault_at, left_at, refuses, spells}
 use Rattle.der_x509.specs.Readers.{IsPlain, IsShorter, NamesField, Reads, ReadsBy, ReadsToEnd, ReadsWhole, fault_of, field_fault, reason_named, spot_of}
@@ -245,16 +244,6 @@ pub boolean_read : {old new : Cursor} {result : Result Bool (Refusal BerError)} 
 boolean_read {old} {new} {result} r = record {
   reads = λ h. at_plain (λ c. ReadsOr (λ v. v) (booleans (rules_of c)) 1 false c result new → Reads fault_of (λ v. v) boolean_or_false c result new) old h
       (boolean_direct old result new) r;
-}
-
--- a Time
-time_direct : (c : Cursor) (result : Result ASN1DateTime (Refusal BerError)) (new : Cursor) → ReadsTime (plain_of c) result new → Reads fault_of (λ v. v) time (plain_of c) result new
-time_direct c result new (inl (n, r)) = first_to fault_of (λ v. v) (primitive Universal 24 (times Der 24)) (primitive Universal 23 (times Der 23)) (IsNext Universal 24) (plain_of c) new result n (value_direct (λ v. v) (times Der 24) 24 (record c { implicit = None }) result new r)
-time_direct c result new (inr (n, r)) = second_to fault_of (λ v. v) (primitive Universal 24 (times Der 24)) (primitive Universal 23 (times Der 23)) (IsNext Universal 24) (plain_of c) new result n (value_direct (λ v. v) (times Der 23) 23 (record c { implicit = None }) result new r)
-
-pub time_read : {old new : Cursor} {result : Result ASN1DateTime (Refusal BerError)} → ReadsTime old result new → ReadsBy fault_of (λ v. v) time old result new
-time_read {old} {new} {result} r = record {
-  reads = λ h. at_plain (λ c. ReadsTime c result new → Reads fault_of (λ v. v) time c result new) old h (time_direct old result new) r;
 }
 
 -- a value under an implicit tag, if it is next

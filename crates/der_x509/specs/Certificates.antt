@@ -23,6 +23,8 @@ use Rattle.der_x509.specs.declared.extension.Extension.{Extension}
 use Rattle.der_x509.specs.declared.name.AttributeTypeAndValue.{AttributeTypeAndValue}
 use Rattle.der_x509.specs.declared.refusal.CertificateRefusal.{CertificateRefusal}
 use Rattle.der_x509.specs.declared.refusal.Field.TheVariants as field
+use Rattle.der_x509.specs.declared.time.Time.{Time}
+use Rattle.der_x509.specs.declared.time.Time.TheVariants.{Generalized, Utc}
 use Rattle.der_x509.specs.declared.time.Validity.{Validity}
 use Rattle.der_x509.specs.Formats.{Fault, FieldFault, Format, Element, ◌>>=◌, any, done, either, end_of_content}
 use Rattle.der_x509.specs.Formats.{refuses, spells}
@@ -59,8 +61,14 @@ subject_public_key_info = sequence >>= λ content. inside content (do
   done (record { algorithm = algorithm; key = key }))
 
 -- Time ::= CHOICE {  utcTime  UTCTime,  generalTime  GeneralizedTime }
-abbrev pub time : Format Fault ASN1DateTime
-time = either (IsNext Universal 24) (primitive Universal 24 (times Der 24)) (primitive Universal 23 (times Der 23))
+abbrev pub time : Format Fault Time
+time = either (IsNext Universal 24)
+    (primitive Universal 24 (times Der 24) >>= λ t. done (Generalized t))
+    (primitive Universal 23 (times Der 23) >>= λ t. done (Utc t))
+
+abbrev pub moment_of : Time → ASN1DateTime
+moment_of (Utc t) = t
+moment_of (Generalized t) = t
 
 -- Validity ::= SEQUENCE {
 abbrev pub validity : Format Fault Validity

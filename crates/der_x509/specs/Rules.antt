@@ -6,9 +6,12 @@ use Rattle.der_x509.specs.declared.certificate.Certificate.{Certificate}
 use Rattle.der_x509.specs.declared.certificate.Version.TheVariants.{V1, V3}
 use Rattle.der_x509.specs.declared.rules.Rule.{Rule}
 use Rattle.der_x509.specs.declared.rules.Rule.TheVariants.{SameAlgorithms, PositiveSerialNumber, ShortSerialNumber}
-use Rattle.der_x509.specs.declared.rules.Rule.TheVariants.{NamedIssuer, UniqueIdVersion, ExtensionsVersion}
+use Rattle.der_x509.specs.declared.rules.Rule.TheVariants.{NamedIssuer, UtcTimeTo2049, UniqueIdVersion}
+use Rattle.der_x509.specs.declared.rules.Rule.TheVariants.{ExtensionsVersion}
 use Rattle.der_x509.specs.declared.rules.StrictRefusal.{StrictRefusal}
 use Rattle.der_x509.specs.declared.rules.StrictRefusal.TheVariants.{Certificate as Malformed, Rule as Broken}
+use Rattle.der_x509.specs.declared.time.Time.{Time}
+use Rattle.der_x509.specs.declared.time.Time.TheVariants.{Generalized, Utc}
 use Rattle.der_x509.specs.Certificates.{Signed, certificate_of, whole_certificate}
 use Rattle.der_x509.specs.Formats.{refuses, spells, start}
 use Rattle.der_x509.specs.Readers.{field_fault}
@@ -16,19 +19,26 @@ use Rattle.der_x509.specs.Readers.{field_fault}
 abbrev pub IsPositive : List ℕ → Type 0
 IsPositive w = pos 0 <ℤ integer_value w
 
+-- a GeneralizedTime of a year to 2049
+abbrev pub IsEarly : Time → Type 0
+IsEarly (Utc t) = ⊥
+IsEarly (Generalized t) = t.year < 2050
+
 -- the certificate breaks the rule
 abbrev pub Breaks : Rule → Signed → Type 0
 Breaks SameAlgorithms c = c.algorithm ≢ c.tbs_certificate.signature
 Breaks PositiveSerialNumber c = ¬ IsPositive c.tbs_certificate.serial_number
 Breaks ShortSerialNumber c = 20 < length c.tbs_certificate.serial_number
 Breaks NamedIssuer c = c.tbs_certificate.issuer ≡ []
+Breaks UtcTimeTo2049 c = let v = c.tbs_certificate.validity in IsEarly v.not_before ⊎ IsEarly v.not_after
 Breaks UniqueIdVersion c = let t = c.tbs_certificate in
     (t.version ≡ V1) × ((t.issuer_id ≢ None) ⊎ (t.subject_id ≢ None))
 Breaks ExtensionsVersion c = let t = c.tbs_certificate in (t.version ≢ V3) × (t.extensions ≢ [])
 
 abbrev pub every_rule : List Rule
 every_rule =
-    SameAlgorithms ∷ PositiveSerialNumber ∷ ShortSerialNumber ∷ NamedIssuer ∷ UniqueIdVersion ∷ ExtensionsVersion ∷ []
+    SameAlgorithms ∷ PositiveSerialNumber ∷ ShortSerialNumber ∷ NamedIssuer ∷ UtcTimeTo2049
+    ∷ UniqueIdVersion ∷ ExtensionsVersion ∷ []
 
 abbrev pub NoneBroken : List Rule → Signed → Type 0
 NoneBroken [] c = Unit {0}

@@ -18,4 +18,4 @@ pub use lists::{Attributes, ExtensionIter, RelativeNames};
 pub use name::{AttributeTypeAndValue, Name, RelativeDistinguishedName};
 pub use refusal::{CertificateRefusal, Field};
 pub use rules::{Rule, StrictRefusal, read_strict_certificate};
-pub use time::Validity;
+pub use time::{Time, Validity};

@@ -1,11 +1,12 @@
 //! The rules of RFC 5280 that its ASN.1 doesn't say.
 ghost use Rattle.std.specs.Prelude.{◌≡◌, ◌↔◌, IsTrue, MatchOption};
 ghost use Rattle.der_x509.specs.Certificates.{algorithm_of, certificate_of};
-ghost use Rattle.der_x509.specs.Rules.{Breaks, IsFirstBroken, IsPositive, NoneBroken, ReadsStrictly, every_rule};
+ghost use Rattle.der_x509.specs.Rules.{Breaks, IsEarly, IsFirstBroken, IsPositive, NoneBroken, ReadsStrictly, every_rule};
 
 use crate::algorithm::AlgorithmIdentifier;
 use crate::certificate::{Certificate, Version, read_certificate};
 use crate::refusal::CertificateRefusal;
+use crate::time::Time;
 use der_base::integer::{is_negative, read_u64};
 
 /// A rule that a certificate may break and still be one by its ASN.1.
@@ -19,6 +20,8 @@ pub enum Rule {
     ShortSerialNumber,
     /// The issuer has a name (4.1.2.4).
     NamedIssuer,
+    /// A time to the end of 2049 is a UTCTime (4.1.2.5).
+    UtcTimeTo2049,
     /// A certificate of version 1 has no unique identifier (4.1.2.8).
     UniqueIdVersion,
     /// A certificate with extensions is of version 3 (4.1.2.9).
@@ -39,6 +42,9 @@ impl Certificate<'_> {
             Rule::PositiveSerialNumber => !is_positive(fields.serial_number),
             Rule::ShortSerialNumber => fields.serial_number.len() > LONGEST_SERIAL_NUMBER,
             Rule::NamedIssuer => fields.issuer.octets.is_empty(),
+            Rule::UtcTimeTo2049 => {
+                is_early(fields.validity.not_before) || is_early(fields.validity.not_after)
+            }
             Rule::UniqueIdVersion => {
                 fields.version == Version::V1
                     && (fields.issuer_unique_id.is_some() || fields.subject_unique_id.is_some())
@@ -66,6 +72,9 @@ impl Certificate<'_> {
         }
         if self.breaks(Rule::NamedIssuer) {
             return Some(Rule::NamedIssuer);
+        }
+        if self.breaks(Rule::UtcTimeTo2049) {
+            return Some(Rule::UtcTimeTo2049);
         }
         if self.breaks(Rule::UniqueIdVersion) {
             return Some(Rule::UniqueIdVersion);
@@ -114,5 +123,15 @@ fn is_positive(octets: &[u8]) -> bool
     match read_u64(octets) {
         Ok(number) => number > 0,
         Err(_) => !is_negative(octets),
+    }
+}
+
+/// Whether it is a GeneralizedTime of a year that a UTCTime has.
+fn is_early(time: Time) -> bool
+    ensures { IsTrue result ↔ IsEarly time }
+{
+    match time {
+        Time::Utc(_) => false,
+        Time::Generalized(moment) => moment.year < 2050,
     }
 }

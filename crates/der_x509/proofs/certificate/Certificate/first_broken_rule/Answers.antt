@@ -15,3 +15,6 @@ returns-then-breaks-5 c = inr (search rules, inr (search rules, inr (search rule
 
 pub returns-then-breaks-6 : goal.returns-then-breaks-6
 returns-then-breaks-6 c = inr (search rules, inr (search rules, inr (search rules, inr (search rules, inr (search rules, inl (search rules, refl))))))
+
+pub returns-then-breaks-7 : goal.returns-then-breaks-7
+returns-then-breaks-7 c = inr (search rules, inr (search rules, inr (search rules, inr (search rules, inr (search rules, inr (search rules, inl (search rules, refl)))))))
