@@ -9,11 +9,11 @@ use Rattle.der_x509.specs.declared.rules.Rule.TheVariants.{SameAlgorithms, Posit
 use Rattle.der_x509.specs.declared.rules.Rule.TheVariants.{NamedIssuer, UtcTimeTo2049, UniqueIdVersion}
 use Rattle.der_x509.specs.declared.rules.Rule.TheVariants.{ExtensionsVersion}
 use Rattle.der_x509.specs.declared.rules.StrictRefusal.{StrictRefusal}
-use Rattle.der_x509.specs.declared.rules.StrictRefusal.TheVariants.{Certificate as Malformed, Rule as Broken}
+use Rattle.der_x509.specs.declared.rules.StrictRefusal.TheVariants.{NotRead, Broken}
 use Rattle.der_x509.specs.declared.time.Time.{Time}
 use Rattle.der_x509.specs.declared.time.Time.TheVariants.{Generalized, Utc}
 use Rattle.der_x509.specs.Certificates.{Signed, certificate_of, whole_certificate}
-use Rattle.der_x509.specs.Formats.{refuses, spells, start}
+use Rattle.der_x509.specs.Formats.{FieldFault, refuses, spells, start}
 use Rattle.der_x509.specs.Readers.{field_fault}
 
 abbrev pub IsPositive : List ℕ → Type 0
@@ -53,12 +53,26 @@ IsFirstBroken (q ∷ qs) c r = (Breaks q c × (r ≡ q)) ⊎ ((¬ Breaks q c) ×
 abbrev pub IsStrict : List ℕ → Signed → Type 0
 IsStrict i c = spells whole_certificate i c [] × NoneBroken every_rule c
 
--- why they aren't one
-abbrev pub IsWhy : List ℕ → StrictRefusal → Type 0
-IsWhy i (Malformed e) = refuses whole_certificate (start i) (field_fault e)
-IsWhy i (Broken r) = (c : Signed) × spells whole_certificate i c [] × IsFirstBroken every_rule c r
+-- what is wrong: the octets aren't a certificate by its ASN.1, or it breaks a rule
+pub data StrictFault : Type 0 where
+  not_read : FieldFault → StrictFault
+  broken : Rule → StrictFault
 
--- What is returned is so, and what is so is returned.
+abbrev pub strict_fault : StrictRefusal → StrictFault
+strict_fault (NotRead e) = not_read (field_fault e)
+strict_fault (Broken r) = broken r
+
+-- the first thing that is wrong
+abbrev pub IsFirstWrong : List ℕ → StrictFault → Type 0
+IsFirstWrong i (not_read e) = refuses whole_certificate (start i) e
+IsFirstWrong i (broken r) = (c : Signed) × spells whole_certificate i c [] × IsFirstBroken every_rule c r
+
+-- A strict reader returns a certificate exactly where the octets are one that breaks no rule, with its fields; else the
+-- first thing that is wrong, and that is the only one.
 pub record ReadsStrictly (i : List ℕ) (result : Result Certificate StrictRefusal) : Type 0 where
-  pub found : MatchResult result (λ c. IsStrict i (certificate_of c)) (IsWhy i)
+  -- what is returned is so
+  pub found : MatchResult result (λ c. IsStrict i (certificate_of c)) (λ e. IsFirstWrong i (strict_fault e))
+  -- what is so is returned
   pub only : (c : Signed) → IsStrict i c → MatchResult result (λ x. certificate_of x ≡ c) (λ e. ⊥)
+  -- and so is what is wrong
+  pub refuses : (e : StrictFault) → IsFirstWrong i e → MatchResult result (λ x. ⊥) (λ x. strict_fault x ≡ e)

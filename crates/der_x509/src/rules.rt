@@ -90,9 +90,9 @@ impl Certificate<'_> {
 #[derive(Debug, Drop)]
 pub enum StrictRefusal {
     /// They aren't a certificate by its ASN.1.
-    Certificate(CertificateRefusal),
+    NotRead(CertificateRefusal),
     /// They are one, and this is the first rule that it breaks.
-    Rule(Rule),
+    Broken(Rule),
 }
 
 /// Reads a certificate that keeps each rule of `Rule`, and nothing after it.
@@ -101,10 +101,10 @@ pub fn read_strict_certificate(octets: &[u8]) -> Result<Certificate<'_>, StrictR
 {
     let certificate = match read_certificate(octets) {
         Ok(certificate) => certificate,
-        Err(e) => return Err(StrictRefusal::Certificate(e)),
+        Err(e) => return Err(StrictRefusal::NotRead(e)),
     };
     match certificate.first_broken_rule() {
-        Some(rule) => Err(StrictRefusal::Rule(rule)),
+        Some(rule) => Err(StrictRefusal::Broken(rule)),
         None => Ok(certificate),
     }
 }
