@@ -1,5 +1,8 @@
 //! Messages of version 1 (RFC 1157 4) and 2c (RFC 1901 3, RFC 3416 3), and the types of values (RFC 1155
 //! 3.2.3, RFC 2578 2).
+ghost use Rattle.std.specs.Prelude.{◌≡◌};
+ghost use Rattle.snmp.specs.Operations.{IsOperationAt, has, operation_in};
+
 use der_parser::ber::Tag;
 use der_parser::oid::Oid;
 use std::net::Ipv4Addr;
@@ -89,7 +92,9 @@ pub enum Value<'a> {
 
 impl Version {
     /// Whether the version has this operation.
-    pub fn has(self, operation: Operation) -> bool {
+    pub fn has(self, operation: Operation) -> bool
+        ensures { result ≡ has self operation }
+    {
         match (self, operation) {
             (Version::One, Operation::GetBulkRequest)
             | (Version::One, Operation::InformRequest)
@@ -103,7 +108,9 @@ impl Version {
 
 impl Operation {
     /// The operation of this tag.
-    pub fn of_tag(tag: Tag) -> Option<Operation> {
+    pub fn of_tag(tag: Tag) -> Option<Operation>
+        ensures { IsOperationAt tag.0 result }
+    {
         match tag.0 {
             0 => Some(Operation::GetRequest),
             1 => Some(Operation::GetNextRequest),
@@ -120,7 +127,9 @@ impl Operation {
 }
 
 impl Pdu<'_> {
-    pub fn operation(&self) -> Operation {
+    pub fn operation(&self) -> Operation
+        ensures { result ≡ operation_in self.now }
+    {
         match self {
             Pdu::Common(pdu) => pdu.operation,
             Pdu::Trap(_) => Operation::Trap,

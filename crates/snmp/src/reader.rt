@@ -1,4 +1,12 @@
 //! Reads messages field by field.
+ghost use Rattle.std.specs.Prelude.{◌≡◌, IfOk, pos};
+ghost use Rattle.std.specs.Net.Addr.{ipv4_octets};
+ghost use Rattle.der_cursor.specs.Formats.{Required, Never, NoMemoryIn, ReadsField};
+ghost use Rattle.snmp.specs.Messages.{CommonFormat, IpAddress, Message as MessageFormat, NextOperation, Pdus};
+ghost use Rattle.snmp.specs.Messages.{ReadsMessage, Ticks, TrapFormat, VersionFormat};
+ghost use Rattle.snmp.specs.Operations.{number_of};
+ghost use Rattle.snmp.specs.Messages.{common_of, message_of, pdu_of, trap_of};
+
 use crate::message::{CommonPdu, Message, Operation, Pdu, TrapPdu, Version};
 use crate::value::{address_of, read_bindings};
 use der_parser::Rules;
@@ -12,13 +20,17 @@ use std::net::Ipv4Addr;
 pub fn read_message<'a>(
     alloc: Global,
     octets: &'a [u8],
-) -> Result<(&'a [u8], Message<'a>), FieldRefusal> {
+) -> Result<(&'a [u8], Message<'a>), FieldRefusal>
+    ensures { ReadsMessage octets.now result }
+{
     let mut input = Cursor::by(Rules::Ber, octets);
     let message = read_fields(alloc, &mut input)?;
     Ok((input.remaining(), message))
 }
 
-fn read_fields<'a>(alloc: Global, input: &mut Cursor<'a>) -> Result<Message<'a>, FieldRefusal> {
+fn read_fields<'a>(alloc: Global, input: &mut Cursor<'a>) -> Result<Message<'a>, FieldRefusal>
+    ensures { ReadsField (Required MessageFormat) message_of NoMemoryIn input.old result input.new }
+{
     let mut fields = input.open_sequence().named("Message")?;
     let version = read_version(&mut fields).named("version")?;
     let community = fields.octets().named("community")?;
@@ -38,7 +50,9 @@ fn read_fields<'a>(alloc: Global, input: &mut Cursor<'a>) -> Result<Message<'a>,
 }
 
 /// Reads a version, which is encoded as 0 or 1.
-fn read_version(fields: &mut Cursor<'_>) -> Result<Version, Refusal<BerError>> {
+fn read_version(fields: &mut Cursor<'_>) -> Result<Version, Refusal<BerError>>
+    ensures { ReadsField (Required VersionFormat) (λ v. v) Never fields.old result fields.new }
+{
     let before = *fields;
     match fields.u32()? {
         0 => Ok(Version::One),
@@ -47,7 +61,9 @@ fn read_version(fields: &mut Cursor<'_>) -> Result<Version, Refusal<BerError>> {
     }
 }
 
-fn read_pdu<'a>(alloc: Global, fields: &mut Cursor<'a>) -> Result<Pdu<'a>, FieldRefusal> {
+fn read_pdu<'a>(alloc: Global, fields: &mut Cursor<'a>) -> Result<Pdu<'a>, FieldRefusal>
+    ensures { ReadsField Pdus pdu_of NoMemoryIn fields.old result fields.new }
+{
     let (operation, tag) = next_operation(*fields).named("pdu")?;
     match operation {
         Operation::Trap => Ok(Pdu::Trap(read_trap(alloc, tag, fields)?)),
@@ -56,7 +72,9 @@ fn read_pdu<'a>(alloc: Global, fields: &mut Cursor<'a>) -> Result<Pdu<'a>, Field
 }
 
 /// The operation that is next, and its tag.
-fn next_operation(fields: Cursor<'_>) -> Result<(Operation, Tag), Refusal<BerError>> {
+fn next_operation(fields: Cursor<'_>) -> Result<(Operation, Tag), Refusal<BerError>>
+    ensures { NextOperation fields.entry result }
+{
     let mut ahead = fields;
     let tag = ahead.any()?.tag();
     match Operation::of_tag(tag) {
@@ -70,7 +88,11 @@ fn read_common<'a>(
     operation: Operation,
     tag: Tag,
     fields: &mut Cursor<'a>,
-) -> Result<CommonPdu<'a>, FieldRefusal> {
+) -> Result<CommonPdu<'a>, FieldRefusal>
+    requires { tag.0 ≡ number_of operation }
+    ensures same { IfOk result (λ x. x.operation ≡ operation) }
+    ensures read { ReadsField (Required (CommonFormat operation)) common_of NoMemoryIn fields.old result fields.new }
+{
     let mut pdu = fields.open(Class::ContextSpecific, true, tag).named("pdu")?;
     let request_id = pdu.i32().named("pdu.request-id")?;
     let error_status = pdu.u32().named("pdu.error-status")?;
@@ -90,14 +112,16 @@ fn read_trap<'a>(
     alloc: Global,
     tag: Tag,
     fields: &mut Cursor<'a>,
-) -> Result<TrapPdu<'a>, FieldRefusal> {
+) -> Result<TrapPdu<'a>, FieldRefusal>
+    requires { tag.0 ≡ number_of Operation.Trap }
+    ensures { ReadsField (Required TrapFormat) trap_of NoMemoryIn fields.old result fields.new }
+{
     let mut pdu = fields.open(Class::ContextSpecific, true, tag).named("pdu")?;
     let enterprise = pdu.oid().named("pdu.enterprise")?;
     let agent_address = read_address(&mut pdu).named("pdu.agent-addr")?;
     let generic_trap = pdu.u32().named("pdu.generic-trap")?;
     let specific_trap = pdu.i32().named("pdu.specific-trap")?;
-    let time = pdu.implicit_of(Class::Application, 3);
-    let time_stamp = time.u32().named("pdu.time-stamp")?;
+    let time_stamp = read_time_stamp(&mut pdu).named("pdu.time-stamp")?;
     let bindings = read_bindings(alloc, &mut pdu).named("pdu.variable-bindings")?;
     pdu.end().named("pdu")?;
     Ok(TrapPdu {
@@ -111,11 +135,19 @@ fn read_trap<'a>(
 }
 
 /// Reads an IpAddress, as in `Value::Address`.
-fn read_address(pdu: &mut Cursor<'_>) -> Result<Ipv4Addr, Refusal<BerError>> {
+fn read_address(pdu: &mut Cursor<'_>) -> Result<Ipv4Addr, Refusal<BerError>>
+    ensures { ReadsField (Required IpAddress) ipv4_octets Never pdu.old result pdu.new }
+{
     let before = *pdu;
     let octets = pdu.implicit_of(Class::Application, 0).octets()?;
     match address_of(octets) {
         Ok(address) => Ok(address),
         Err(e) => Err(before.refuse(e)),
     }
+}
+
+fn read_time_stamp(pdu: &mut Cursor<'_>) -> Result<u32, Refusal<BerError>>
+    ensures { ReadsField (Required Ticks) pos Never pdu.old result pdu.new }
+{
+    pdu.implicit_of(Class::Application, 3).u32()
 }

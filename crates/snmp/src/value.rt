@@ -1,4 +1,9 @@
 //! Reads bindings and their values (RFC 1155 3.2.3, RFC 2578 2, RFC 3416 3).
+ghost use Rattle.std.specs.Net.Addr.{ipv4_octets};
+ghost use Rattle.std.specs.Prelude.{◌≡◌, ◌≢◌, [], length, map, MatchResult};
+ghost use Rattle.der_cursor.specs.Formats.{Required, Never, NoMemory, ReadsField, ReadsWhole, element_of};
+ghost use Rattle.snmp.specs.Messages.{ObjectSyntax, ReadsSyntax, VarBind, VarBindList, binding_of, syntax_of};
+
 use crate::message::{Binding, Value};
 use der_parser::Rules;
 use der_parser::ber::{Any, Class};
@@ -11,14 +16,15 @@ use std::net::Ipv4Addr;
 pub fn read_bindings<'a>(
     alloc: Global,
     pdu: &mut Cursor<'a>,
-) -> Result<Vec<Binding<'a>>, Refusal<BerError>> {
+) -> Result<Vec<Binding<'a>>, Refusal<BerError>>
+    ensures { ReadsField (Required VarBindList) (λ x. map binding_of x.items) NoMemory pdu.old result pdu.new }
+{
     pdu.open_sequence()?.read_all(alloc, read_binding)
 }
 
-fn read_binding<'a>(
-    _alloc: Global,
-    list: &mut Cursor<'a>,
-) -> Result<Binding<'a>, Refusal<BerError>> {
+fn read_binding<'a>(_alloc: Global, list: &mut Cursor<'a>) -> Result<Binding<'a>, Refusal<BerError>>
+    ensures { ReadsField (Required VarBind) binding_of Never list.old result list.new }
+{
     let mut binding = list.open_sequence()?;
     let name = binding.oid()?;
     let value = read_value(&mut binding)?;
@@ -26,7 +32,9 @@ fn read_binding<'a>(
     Ok(Binding { name, value })
 }
 
-fn read_value<'a>(binding: &mut Cursor<'a>) -> Result<Value<'a>, Refusal<BerError>> {
+fn read_value<'a>(binding: &mut Cursor<'a>) -> Result<Value<'a>, Refusal<BerError>>
+    ensures { ReadsField ObjectSyntax syntax_of Never binding.old result binding.new }
+{
     let before = *binding;
     let element = binding.any()?;
     match value_of(element) {
@@ -36,7 +44,9 @@ fn read_value<'a>(binding: &mut Cursor<'a>) -> Result<Value<'a>, Refusal<BerErro
 }
 
 /// The value of a primitive element, whose tag says of which type it is.
-fn value_of(element: Any<'_>) -> Result<Value<'_>, BerError> {
+fn value_of(element: Any<'_>) -> Result<Value<'_>, BerError>
+    ensures { ReadsSyntax (element_of element.entry) result }
+{
     element.header.assert_primitive()?;
     let octets = element.bytes;
     match (element.class(), element.tag().0) {
@@ -70,7 +80,9 @@ fn value_of(element: Any<'_>) -> Result<Value<'_>, BerError> {
 }
 
 /// Checks that there are no octets (X.690 8.8.2).
-fn check_empty(octets: &[u8]) -> Result<(), BerError> {
+fn check_empty(octets: &[u8]) -> Result<(), BerError>
+    ensures { MatchResult result (λ _. octets.now ≡ []) (λ _. octets.now ≢ []) }
+{
     if octets.is_empty() {
         Ok(())
     } else {
@@ -79,7 +91,9 @@ fn check_empty(octets: &[u8]) -> Result<(), BerError> {
 }
 
 /// The address of four octets.
-pub fn address_of(octets: &[u8]) -> Result<Ipv4Addr, BerError> {
+pub fn address_of(octets: &[u8]) -> Result<Ipv4Addr, BerError>
+    ensures { ReadsWhole (λ w. (w ≡ octets.now) × (length w ≡ 4)) ipv4_octets Never result }
+{
     match octets {
         &[a, b, c, d] => Ok(Ipv4Addr::new(a, b, c, d)),
         _ => Err(BerError::InvalidLength),

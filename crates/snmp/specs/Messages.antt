@@ -1,0 +1,216 @@
+-- Messages, as their ASN.1 has them, and what the structs of the code stand for.
+use Rattle.std.specs.Prelude.{◌≡◌, ◌≢◌, ℕ, ℤ, pos, true, false, List, length, map, Result, IfOk, MatchResult}
+use Rattle.std.specs.Borrow.{Bor}
+use Rattle.std.specs.Net.Addr.{ipv4_octets}
+use Rattle.der_base.specs.declared.error.Error.{Error as BerError}
+use Rattle.der_base.specs.declared.header.Class.{Class}
+use Rattle.der_base.specs.declared.header.Class.TheVariants.{Application, ContextSpecific}
+use Rattle.der_base.specs.declared.header.Tag.{Tag}
+use Rattle.der_base.specs.declared.rules.Rules.TheVariants.{Ber}
+use Rattle.der_base.specs.Numbers.{signed, unsigned}
+use Rattle.der_base.specs.Oids.{octets_of}
+use Rattle.der_cursor.specs.declared.cursor.Cursor.{Cursor}
+use Rattle.der_cursor.specs.declared.named.FieldRefusal.{FieldRefusal}
+use Rattle.der_cursor.specs.declared.refusal.Refusal.{Refusal}
+use Rattle.der_cursor.specs.Cursors.{octets_left, rules_of}
+use Rattle.der_cursor.specs.Elements.{SpellsElement}
+use Rattle.der_cursor.specs.Formats.{Element, Field, Format, Required, ◌⨾◌, End, Each, Sequence, Constructed, Implicit}
+use Rattle.der_cursor.specs.Formats.{Tagged, Primitive, Limited, Number, OctetString, ObjectIdentifier}
+use Rattle.der_cursor.specs.Formats.{ReadsWhole, Never, NoMemoryIn}
+use Rattle.snmp.specs.declared.message.Binding.{Binding}
+use Rattle.snmp.specs.declared.message.CommonPdu.{CommonPdu}
+use Rattle.snmp.specs.declared.message.Message.{Message as MessageStruct}
+use Rattle.snmp.specs.declared.message.Operation.{Operation}
+use Rattle.snmp.specs.declared.message.Operation.TheVariants.{Trap}
+use Rattle.snmp.specs.declared.message.Pdu.{Pdu}
+use Rattle.snmp.specs.declared.message.Pdu.TheVariants.{Common, Trap as TrapVariant}
+use Rattle.snmp.specs.declared.message.TrapPdu.{TrapPdu}
+use Rattle.snmp.specs.declared.message.Value.{Value}
+use Rattle.snmp.specs.declared.message.Value.TheVariants.{Integer, OctetString as Octets, Null, Identifier, Address}
+use Rattle.snmp.specs.declared.message.Value.TheVariants.{Counter32, Gauge32, TimeTicks, Opaque, Counter64}
+use Rattle.snmp.specs.declared.message.Value.TheVariants.{NoSuchObject, NoSuchInstance, EndOfMibView}
+use Rattle.snmp.specs.declared.message.Version.{Version}
+use Rattle.snmp.specs.declared.message.Version.TheVariants.{One, TwoC}
+use Rattle.snmp.specs.Operations.{has, number_of}
+
+-- Values.
+
+-- a value of a binding: its number or its octets
+pub data Syntax : Type 0 where
+  integer counter32 gauge32 time_ticks counter64 : ℤ → Syntax
+  octet_string identifier address opaque : List ℕ → Syntax
+  null no_such_object no_such_instance end_of_mib_view : Syntax
+
+abbrev pub Empty : Format (Unit {0})
+Empty = Primitive 5 End
+
+-- IpAddress ::= [APPLICATION 0] IMPLICIT OCTET STRING (SIZE (4))             (RFC 1155 3.2.3.2, RFC 2578 2)
+abbrev pub IpAddress : Format (List ℕ)
+IpAddress = Tagged Application 0 (Limited (λ w. length w ≡ 4) OctetString)
+
+-- TimeTicks ::= [APPLICATION 3] IMPLICIT INTEGER (0..4294967295)
+abbrev pub Ticks : Format ℤ
+Ticks = Tagged Application 3 (Number (unsigned 32))
+
+-- an element of this class and number with these content octets is of the type T, by BER
+abbrev pub Is : {V : Type 0} → Format V → V → Class → ℕ → List ℕ → Type 0
+Is T x c t w = (c ≡ T.class) × (t ≡ T.number) × T.content Ber w x
+
+-- ObjectSyntax, and what a response has in its place                         (RFC 2578 2, RFC 3416 3)
+abbrev pub IsSyntax : Syntax → Class → ℕ → List ℕ → Type 0
+IsSyntax (integer n) = Is (Number (signed 32)) n
+IsSyntax (octet_string w) = Is OctetString w
+IsSyntax null = Is Empty tt
+IsSyntax (identifier w) = Is ObjectIdentifier w
+IsSyntax (address w) = Is IpAddress w
+IsSyntax (counter32 n) = Is (Tagged Application 1 (Number (unsigned 32))) n
+IsSyntax (gauge32 n) = Is (Tagged Application 2 (Number (unsigned 32))) n
+IsSyntax (time_ticks n) = Is Ticks n
+IsSyntax (opaque w) = Is (Tagged Application 4 OctetString) w
+IsSyntax (counter64 n) = Is (Tagged Application 6 (Number (unsigned 64))) n
+IsSyntax no_such_object = Is (Implicit 0 Empty) tt
+IsSyntax no_such_instance = Is (Implicit 1 Empty) tt
+IsSyntax end_of_mib_view = Is (Implicit 2 Empty) tt
+
+unfoldable pub ObjectSyntax : Field Syntax
+ObjectSyntax r i v rest = (c : Class) × (t : ℕ) × (w : List ℕ) × IsSyntax v c t w
+    × SpellsElement r c false t i (w, rest)
+
+abbrev pub BindingValue : Type 0
+BindingValue = List ℕ × (Syntax × Unit {0})
+
+-- VarBind ::= SEQUENCE { name ObjectName, value ObjectSyntax }                (RFC 1157 4, RFC 3416 3)
+abbrev pub VarBind : Format BindingValue
+VarBind = Sequence (Required ObjectIdentifier ⨾ (ObjectSyntax ⨾ End))
+
+abbrev pub VarBindList : Format (List BindingValue)
+VarBindList = Sequence (Each (Required VarBind))
+
+-- PDUs.
+
+abbrev pub CommonValue : Type 0
+CommonValue = ℤ × (ℤ × (ℤ × (List BindingValue × Unit {0})))
+
+abbrev pub TrapValue : Type 0
+TrapValue = List ℕ × (List ℕ × (ℤ × (ℤ × (ℤ × (List BindingValue × Unit {0})))))
+
+pub data PduValue : Type 0 where
+  common : Operation → CommonValue → PduValue
+  trap : TrapValue → PduValue
+
+-- PDU ::= SEQUENCE {                                                          (RFC 1157 4.1.1, RFC 3416 3)
+abbrev pub CommonFormat : Operation → Format CommonValue
+CommonFormat o = Constructed ContextSpecific (number_of o) (
+    Required (Number (signed 32))  -- request-id         INTEGER,
+    ⨾ (Required (Number (unsigned 32))  -- error-status       INTEGER,
+    ⨾ (Required (Number (unsigned 32))  -- error-index        INTEGER,
+    ⨾ (Required VarBindList  -- variable-bindings  VarBindList }
+    ⨾ End))))
+
+-- Trap-PDU ::= [4] IMPLICIT SEQUENCE {                                        (RFC 1157 4.1.6)
+abbrev pub TrapFormat : Format TrapValue
+TrapFormat = Constructed ContextSpecific (number_of Trap) (
+    Required ObjectIdentifier  -- enterprise         OBJECT IDENTIFIER,
+    ⨾ (Required IpAddress  -- agent-addr         NetworkAddress,
+    ⨾ (Required (Number (unsigned 32))  -- generic-trap       INTEGER,
+    ⨾ (Required (Number (signed 32))  -- specific-trap      INTEGER,
+    ⨾ (Required Ticks  -- time-stamp         TimeTicks,
+    ⨾ (Required VarBindList  -- variable-bindings  VarBindList }
+    ⨾ End))))))
+
+-- PDUs, of any version
+unfoldable pub Pdus : Field PduValue
+Pdus r i (common o x) rest = (o ≢ Trap) × Required (CommonFormat o) r i x rest
+Pdus r i (trap x) rest = Required TrapFormat r i x rest
+
+abbrev pub operation_of : PduValue → Operation
+operation_of (common o x) = o
+operation_of (trap x) = Trap
+
+-- Messages.
+
+abbrev pub version_number : Version → ℤ
+version_number One = pos 0
+version_number TwoC = pos 1
+
+abbrev pub VersionFormat : Format Version
+VersionFormat = Primitive 2 (λ r w v. (Number (unsigned 32)).content r w (version_number v))
+
+abbrev pub MessageValue : Type 0
+MessageValue = Version × (List ℕ × (PduValue × Unit {0}))
+
+-- Message ::= SEQUENCE {                                                      (RFC 1157 4, RFC 1901 3)
+abbrev pub MessageFields : Format MessageValue
+MessageFields = Sequence (
+    Required VersionFormat  -- version    INTEGER { version-1(0), version-2(1) },
+    ⨾ (Required OctetString  -- community  OCTET STRING,
+    ⨾ (Pdus  -- data       ANY }
+    ⨾ End)))
+
+-- the version has the operation of the message
+abbrev pub IsOfVersion : MessageValue → Type 0
+IsOfVersion m = has m.0 (operation_of m.1.1.0) ≡ true
+
+abbrev pub Message : Format MessageValue
+Message = Limited IsOfVersion MessageFields
+
+-- What the structs stand for.
+
+abbrev pub syntax_of : Value → Syntax
+syntax_of (Integer n) = integer n
+syntax_of (Octets w) = octet_string w.now
+syntax_of Null = null
+syntax_of (Identifier x) = identifier (octets_of x)
+syntax_of (Address x) = address (ipv4_octets x)
+syntax_of (Counter32 n) = counter32 (pos n)
+syntax_of (Gauge32 n) = gauge32 (pos n)
+syntax_of (TimeTicks n) = time_ticks (pos n)
+syntax_of (Opaque w) = opaque w.now
+syntax_of (Counter64 n) = counter64 (pos n)
+syntax_of NoSuchObject = no_such_object
+syntax_of NoSuchInstance = no_such_instance
+syntax_of EndOfMibView = end_of_mib_view
+
+abbrev pub binding_of : Binding → BindingValue
+binding_of b = (octets_of b.name, (syntax_of b.value, tt))
+
+abbrev pub common_of : CommonPdu → CommonValue
+common_of p = (p.request_id, (pos p.error_status, (pos p.error_index, (map binding_of p.bindings.items, tt))))
+
+abbrev pub trap_of : TrapPdu → TrapValue
+trap_of p = (
+  octets_of p.enterprise,
+  (
+    ipv4_octets p.agent_address,
+    (
+      pos p.generic_trap,
+      (
+        p.specific_trap,
+        (pos p.time_stamp, (map binding_of p.bindings.items, tt)),
+      ),
+    ),
+  ),
+)
+
+abbrev pub pdu_of : Pdu → PduValue
+pdu_of (Common p) = common p.operation (common_of p)
+pdu_of (TrapVariant p) = trap (trap_of p)
+
+abbrev pub message_of : MessageStruct → MessageValue
+message_of m = (m.version, (m.community.now, (pdu_of m.pdu, tt)))
+
+-- a reader returns exactly the message that begins an input, and what follows it, but for memory
+abbrev pub ReadsMessage : List ℕ → Result (Bor (List ℕ) × MessageStruct) FieldRefusal → Type 0
+ReadsMessage i result = ReadsWhole (λ (v : MessageValue × List ℕ). Required Message Ber i v.0 v.1)
+    (λ x. (message_of x.1, x.0.now)) NoMemoryIn result
+
+-- a value of an element, if it is primitive and of one of the types
+abbrev pub ReadsSyntax : Element → Result Value BerError → Type 0
+ReadsSyntax e result = ReadsWhole (λ v. (e.1 ≡ false) × IsSyntax v e.0 e.2 e.3) syntax_of Never result
+
+-- the operation of the element that is next, and its tag
+pub record NextOperation (c : Cursor) (result : Result (Operation × Tag) (Refusal BerError)) : Type 0 where
+  pub found : IfOk result (λ x. x.1.0 ≡ number_of x.0)
+  pub only : (o : Operation) (w : List ℕ × List ℕ)
+      → SpellsElement (rules_of c) ContextSpecific true (number_of o) (octets_left c) w
+      → MatchResult result (λ x. x.0 ≡ o) Never
