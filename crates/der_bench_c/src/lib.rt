@@ -203,9 +203,7 @@ fn count_cursor_attributes(alloc: Global, s: &[u8]) -> u64 {
     }
     let mut count: u64 = 0;
     for name in &names {
-        for attributes in &name.0 {
-            count = count.wrapping_add(attributes.len() as u64);
-        }
+        count = count.wrapping_add(name.attributes.len() as u64);
     }
     count
 }

@@ -1,4 +1,8 @@
 //! The names of a certificate, and how they are reached (RFC 5280 4.1).
+ghost use Rattle.der_base.specs.declared.rules.Rules.{Rules};
+ghost use Rattle.der_cursor.specs.Formats.{NoMemoryIn, ReadsContent, ReadsInput, Required};
+ghost use Rattle.names_reader.specs.Certificates.{Begins, Certificate, FieldNames, field_names_of, names_of};
+
 use crate::name::{Name, read_name};
 use der_parser::cursor::{Cursor, FieldRefusal, Named};
 use std::alloc::Global;
@@ -11,13 +15,17 @@ pub struct Names<'a> {
 }
 
 /// Reads the names of the certificate at the start of an input. What follows the subject isn't read.
-pub fn read_names<'a>(alloc: Global, input: &'a [u8]) -> Result<Names<'a>, FieldRefusal> {
+pub fn read_names<'a>(alloc: Global, input: &'a [u8]) -> Result<Names<'a>, FieldRefusal>
+    ensures { ReadsInput Rules.Der (Begins (Required Certificate)) names_of NoMemoryIn input.now result }
+{
     let mut certificate = Cursor::new(input).open_sequence().named("Certificate")?;
     let fields = certificate.open_sequence().named("tbsCertificate")?;
     read_fields(alloc, fields).named("tbsCertificate")
 }
 
-fn read_fields<'a>(alloc: Global, mut fields: Cursor<'a>) -> Result<Names<'a>, FieldRefusal> {
+fn read_fields<'a>(alloc: Global, mut fields: Cursor<'a>) -> Result<Names<'a>, FieldRefusal>
+    ensures { ReadsContent FieldNames field_names_of NoMemoryIn fields.entry result }
+{
     fields.open_tagged(0).named("version")?;
     fields.integer().named("serialNumber")?;
     fields.open_sequence().named("signature")?;

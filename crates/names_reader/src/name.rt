@@ -1,22 +1,40 @@
-//! Names: lists of sets of attributes (X.501 9.2).
+//! Names: lists of sets of attributes (X.501 9.2, RFC 5280 4.1.2.4).
+ghost use Rattle.std.specs.Prelude.{◌≡◌, ◌↔◌, IfOk, IsTrue, MatchResult};
+ghost use Rattle.der_base.specs.Header.{number_of};
+ghost use Rattle.der_base.specs.SetOfOrder.{Descends};
+ghost use Rattle.der_cursor.specs.Formats.{Never, NoMemory, ReadsField, Required, element_of};
+ghost use Rattle.names_reader.specs.Names.{AddsRelativeName, AttributeTypeAndValue, IsBmp, IsValue, IsValueOf};
+ghost use Rattle.names_reader.specs.Names.{Name as NameFormat, Value, attribute_of, coding_of, name_of};
+
 use der_parser::Rules;
 use der_parser::ber::{Any, Class, Tag};
 use der_parser::cursor::{Cursor, Refusal};
-use der_parser::error::{BerError, DerConstraint};
+use der_parser::error::{BerError, DerConstraint, Err as Refused};
 use der_parser::oid::Oid;
 use der_parser::values::{read_bits, read_text};
 use std::alloc::Global;
 
-/// The relative names of a name, each with its attributes, in the order of the input.
+/// The attributes of a name, in the order of the input. Those of one relative name follow one another,
+/// and have the same `relative_name`:
+///
+/// ```
+/// for relative_name in name.attributes.chunk_by(|a, b| a.relative_name == b.relative_name) {
+///     for attribute in relative_name {
+///         ..
+///     }
+/// }
+/// ```
 #[derive(Debug, Drop)]
-pub struct Name<'a>(pub Vec<Vec<Attribute<'a>>>);
+pub struct Name<'a> {
+    pub attributes: Vec<Attribute<'a>>,
+}
 
 /// A type and a value.
 #[derive(Debug, Drop)]
 pub struct Attribute<'a> {
+    /// The index of the first attribute of its relative name.
+    pub relative_name: usize,
     pub identifier: Oid<'a>,
-    /// All octets of the attribute.
-    octets: &'a [u8],
     /// The value with its header.
     pub(crate) element: &'a [u8],
     /// Its content octets.
@@ -40,65 +58,123 @@ pub(crate) enum Coding {
 }
 
 /// Reads a name: a SEQUENCE OF relative names.
-pub fn read_name<'a>(
-    alloc: Global,
-    fields: &mut Cursor<'a>,
-) -> Result<Name<'a>, Refusal<BerError>> {
-    let names = fields.open_sequence()?;
-    Ok(Name(names.read_all(alloc, read_relative_name)?))
-}
-
-/// Reads a relative name: a SET OF attributes in ascending order (X.690 11.6).
-fn read_relative_name<'a>(
-    alloc: Global,
-    names: &mut Cursor<'a>,
-) -> Result<Vec<Attribute<'a>>, Refusal<BerError>> {
-    let before = *names;
-    let attributes = names.open_set()?.read_all(alloc, read_attribute)?;
-    if attributes.windows(2).any(descends) {
-        let e = BerError::DerConstraintFailed(DerConstraint::SetOfOrder);
-        return Err(before.refuse(e));
+pub fn read_name<'a>(alloc: Global, fields: &mut Cursor<'a>) -> Result<Name<'a>, Refusal<BerError>>
+    ensures { ReadsField (Required NameFormat) name_of NoMemory fields.old result fields.new }
+{
+    let mut names = fields.open_sequence()?;
+    let mut attributes = Vec::new(alloc);
+    while !names.is_empty() {
+        read_relative_name(&mut names, &mut attributes)?;
     }
-    Ok(attributes)
+    Ok(Name { attributes })
 }
 
-/// Whether the second of two attributes comes before the first, octet by octet.
-fn descends(pair: &[Attribute<'_>]) -> bool {
-    matches!(pair, [first, second] if second.octets < first.octets)
+/// Reads a relative name, a SET OF attributes in ascending order (X.690 11.6), and adds these.
+fn read_relative_name<'a>(
+    names: &mut Cursor<'a>,
+    attributes: &mut Vec<Attribute<'a>>,
+) -> Result<(), Refusal<BerError>>
+    ensures { AddsRelativeName attributes.old.items attributes.new.items names.old result names.new }
+{
+    let before = *names;
+    let first = attributes.len();
+    let mut set = names.open_set()?;
+    let mut previous: &[u8] = &[];
+    while !set.is_empty() {
+        let here = set.remaining();
+        let attribute = read_attribute(first, &mut set)?;
+        let (octets, _) = here.split_at(here.len() - set.remaining().len());
+        if descends(previous, octets) {
+            let e = BerError::DerConstraintFailed(DerConstraint::SetOfOrder);
+            return Err(before.refuse(e));
+        }
+        if attributes.push(attribute).is_err() {
+            return Err(out_of_memory(&before));
+        }
+        previous = octets;
+    }
+    Ok(())
+}
+
+/// The refusal of an element for which there is no memory.
+fn out_of_memory(cursor: &Cursor<'_>) -> Refusal<BerError>
+    ensures { NoMemory result }
+{
+    let refusal = cursor.refuse(BerError::BerValueError);
+    Refusal {
+        offset: refusal.offset,
+        list_end: refusal.list_end,
+        reason: Refused::OutOfMemory,
+    }
+}
+
+/// Whether the first is the greater, octet by octet. The shorter is padded with octets of 0.
+fn descends(first: &[u8], second: &[u8]) -> bool
+    ensures { IsTrue result ↔ Descends first.now second.now }
+{
+    for (i, octet) in first.iter().enumerate() {
+        let other = second.get(i).copied().unwrap_or(0);
+        if *octet != other {
+            return *octet > other;
+        }
+    }
+    false
 }
 
 /// Reads an attribute: a SEQUENCE of a type and a value.
 fn read_attribute<'a>(
-    _alloc: Global,
+    relative_name: usize,
     set: &mut Cursor<'a>,
-) -> Result<Attribute<'a>, Refusal<BerError>> {
-    let here = set.remaining();
+) -> Result<Attribute<'a>, Refusal<BerError>>
+    ensures reads { ReadsField (Required AttributeTypeAndValue) attribute_of Never set.old result set.new }
+    ensures numbered { IfOk result (λ x. x.relative_name ≡ relative_name) }
+{
     let mut parts = set.open_sequence()?;
     let identifier = parts.oid()?;
-    let before = parts;
-    let value = parts.any()?;
-    let coding = match coding_of(&value) {
-        Ok(coding) => coding,
-        Err(e) => return Err(before.refuse(e)),
-    };
+    let element = parts.remaining();
+    let (content, coding) = read_value(&mut parts)?;
     parts.end()?;
     Ok(Attribute {
+        relative_name,
         identifier,
-        octets: &here[..here.len() - set.remaining().len()],
-        element: before.remaining(),
-        content: value.bytes,
+        element,
+        content,
         coding,
     })
 }
 
-/// Checks that a value has one of the types that names have, and returns how its characters are
+/// Reads a value of one of the types that names have: its content octets, and how its characters are
 /// written.
-fn coding_of(value: &Any<'_>) -> Result<Coding, BerError> {
+fn read_value<'a>(parts: &mut Cursor<'a>) -> Result<(&'a [u8], Coding), Refusal<BerError>>
+    ensures { ReadsField Value (λ x. (x.0.now, x.1)) Never parts.old result parts.new }
+{
+    let before = *parts;
+    let value = parts.any()?;
+    match coding_of_value(&value) {
+        Ok(coding) => Ok((value.bytes, coding)),
+        Err(e) => Err(before.refuse(e)),
+    }
+}
+
+/// How the characters of a value are written, if it has one of the types that names have.
+fn coding_of_value(value: &Any<'_>) -> Result<Coding, BerError>
+    ensures { MatchResult result
+        (λ k. IsValue (element_of value.now) × (k ≡ coding_of (number_of value.now.header)))
+        (λ _. ¬ IsValue (element_of value.now)) }
+{
     value.header.assert_class(Class::Universal)?;
     value.header.assert_primitive()?;
-    let octets = value.bytes;
-    match value.tag() {
-        tag @ (Tag::Utf8String | Tag::NumericString | Tag::PrintableString | Tag::Ia5String) => {
+    coding_of_type(value.tag(), value.bytes)
+}
+
+/// The same of content octets by their type.
+fn coding_of_type(tag: Tag, octets: &[u8]) -> Result<Coding, BerError>
+    ensures { MatchResult result
+        (λ k. IsValueOf tag.0 octets.now × (k ≡ coding_of tag.0))
+        (λ _. ¬ IsValueOf tag.0 octets.now) }
+{
+    match tag {
+        Tag::Utf8String | Tag::NumericString | Tag::PrintableString | Tag::Ia5String => {
             read_text(tag, octets)?;
             Ok(Coding::Utf8)
         }
@@ -108,17 +184,22 @@ fn coding_of(value: &Any<'_>) -> Result<Coding, BerError> {
         }
         Tag::T61String => Ok(Coding::Latin1),
         Tag::UniversalString if octets.len() % 4 == 0 => Ok(Coding::Universal),
-        Tag::BmpString if octets.len() % 2 == 0 && !has_half(octets) => Ok(Coding::Bmp),
+        Tag::BmpString if is_bmp(octets) => Ok(Coding::Bmp),
         Tag::UniversalString | Tag::BmpString => Err(BerError::StringInvalidCharset),
         _ => Err(BerError::BerTypeError),
     }
 }
 
-/// Whether a BMPString has half of a character of UTF-16.
-fn has_half(octets: &[u8]) -> bool {
-    octets.chunks_exact(2).any(is_half)
-}
-
-fn is_half(unit: &[u8]) -> bool {
-    matches!(unit, [0xd8..=0xdf, _])
+/// Whether octets are characters of two octets each, none of which is half of one of UTF-16.
+fn is_bmp(octets: &[u8]) -> bool
+    ensures { IsTrue result ↔ IsBmp octets.now }
+{
+    let mut left = octets;
+    while let [high, _, rest @ ..] = left {
+        if matches!(*high, 0xd8..=0xdf) {
+            return false;
+        }
+        left = rest;
+    }
+    left.is_empty()
 }

@@ -3,32 +3,22 @@ use crate::attribute_types::short_name;
 use crate::name::{Attribute, Coding, Name};
 use std::fmt;
 
-/// The relative names, the last one first, with a comma between them.
+/// The attributes, the last one first, with a comma between those of different relative names, and else
+/// a plus sign.
 impl fmt::Display for Name<'_> {
     fn fmt<W: fmt::Write>(&self, f: &mut fmt::Formatter<W>) -> fmt::Result {
-        let relative_names = self.0.iter().rev().filter(|r| !r.is_empty());
-        for (i, attributes) in relative_names.enumerate() {
-            if i > 0 {
-                f.write_str(",")?;
+        let mut next = None;
+        for attribute in self.attributes.iter().rev() {
+            match next {
+                Some(number) if number == attribute.relative_name => f.write_str("+")?,
+                Some(_) => f.write_str(",")?,
+                None => (),
             }
-            write_relative_name(f, attributes)?;
+            write!(f, "{attribute}")?;
+            next = Some(attribute.relative_name);
         }
         Ok(())
     }
-}
-
-/// Writes the attributes, the last one first, with a plus sign between them.
-fn write_relative_name<W: fmt::Write>(
-    f: &mut fmt::Formatter<W>,
-    attributes: &[Attribute<'_>],
-) -> fmt::Result {
-    for (i, attribute) in attributes.iter().rev().enumerate() {
-        if i > 0 {
-            f.write_str("+")?;
-        }
-        write!(f, "{attribute}")?;
-    }
-    Ok(())
 }
 
 /// The type and the value. A value whose type has no short name, or that has no characters, is

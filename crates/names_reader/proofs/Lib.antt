@@ -1,0 +1,2 @@
+pub mod CertificateLaws
+pub mod NameLaws
