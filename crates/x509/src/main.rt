@@ -2,17 +2,21 @@
 //! It reports each one that it refuses, and where, on its standard error, and goes on with the next.
 #![tactic(auto)]
 
+mod contents;
+#[cfg(test)]
+mod damaged;
 mod pem;
 mod text;
+mod values;
 
 use anyhow::{Result, ensure};
 use bstr::ByteSlice;
+use contents::read_contents;
 use pem::{BEGIN, decode_block, is_certificate, label_of};
 use sha2::{Digest, Sha256};
 use std::alloc::Global;
 use std::io::Read;
 use text::{Certified, Fingerprint};
-use x509_reader::read_certificate;
 
 /// The identifier octet of a SEQUENCE, with which a certificate begins, and the dashes of PEM don't.
 const SEQUENCE: u8 = 0x30;
@@ -55,9 +59,9 @@ fn print_block(rt: &impl Print, alloc: Global, block: &[u8]) -> Result<()> {
 
 /// Prints a certificate, its fingerprint (the SHA-256 digest of its octets) and an empty line.
 fn print_certificate(rt: &impl Print, alloc: Global, octets: &[u8]) -> Result<()> {
-    let certificate = read_certificate(alloc, octets)?;
+    let contents = read_contents(alloc, octets)?;
     let fingerprint = Sha256::digest(octets);
-    print!(rt; "{}", Certified(&certificate))?;
+    print!(rt; "{}", Certified(&contents))?;
     println!(rt; "sha256 Fingerprint={}\n", Fingerprint(&fingerprint))?;
     Ok(())
 }

@@ -1,9 +1,11 @@
 //! The lines that describe a certificate.
+use crate::contents::Contents;
+use crate::values::{GeneralName, Value};
 use der_parser::ber::ASN1DateTime;
 use der_parser::values::BitString;
+use der_x509::{Extension, Version};
 use std::fmt;
 use std::net::IpAddr;
-use x509_reader::{Certificate, Extension, GeneralName, Value};
 
 /// The uses of a key, by the number of the bit (RFC 5280 4.2.1.3).
 const KEY_USES: [&str; 9] = [
@@ -20,24 +22,35 @@ const KEY_USES: [&str; 9] = [
 
 /// The lines of a certificate.
 #[derive(Clone, Copy)]
-pub struct Certified<'r, 'a>(pub &'r Certificate<'a>);
+pub struct Certified<'r, 'a>(pub &'r Contents<'a>);
 
 impl fmt::Display for Certified<'_, '_> {
     fn fmt<W: fmt::Write>(&self, f: &mut fmt::Formatter<W>) -> fmt::Result {
-        let certificate = self.0;
-        writeln!(f, "version={}", certificate.version)?;
-        writeln!(f, "serial={}", Serial(certificate.serial_number))?;
-        writeln!(f, "signatureAlgorithm={}", certificate.signature_algorithm)?;
-        writeln!(f, "issuer={}", certificate.issuer)?;
-        writeln!(f, "notBefore={}", Moment(certificate.not_before))?;
-        writeln!(f, "notAfter={}", Moment(certificate.not_after))?;
-        writeln!(f, "subject={}", certificate.subject)?;
-        writeln!(f, "keyAlgorithm={}", certificate.key_algorithm)?;
-        writeln!(f, "keyOctets={}", certificate.key.octets.len())?;
-        for extension in &certificate.extensions {
-            write_extension(f, extension)?;
+        let contents = self.0;
+        let fields = &contents.certificate.tbs_certificate;
+        let key_info = &fields.subject_public_key_info;
+        writeln!(f, "version={}", number_of(fields.version))?;
+        writeln!(f, "serial={}", Serial(fields.serial_number))?;
+        writeln!(f, "signatureAlgorithm={}", fields.signature.algorithm)?;
+        writeln!(f, "issuer={}", contents.names.issuer)?;
+        writeln!(f, "notBefore={}", Moment(fields.validity.not_before))?;
+        writeln!(f, "notAfter={}", Moment(fields.validity.not_after))?;
+        writeln!(f, "subject={}", contents.names.subject)?;
+        writeln!(f, "keyAlgorithm={}", key_info.algorithm.algorithm)?;
+        writeln!(f, "keyOctets={}", key_info.subject_public_key.octets.len())?;
+        for (extension, value) in fields.extensions.iter().zip(&contents.values) {
+            write_extension(f, &extension, value)?;
         }
         Ok(())
+    }
+}
+
+/// The number by which a version is known, one more than its encoding.
+fn number_of(version: Version) -> u32 {
+    match version {
+        Version::V1 => 1,
+        Version::V2 => 2,
+        Version::V3 => 3,
     }
 }
 
@@ -120,10 +133,11 @@ impl fmt::Display for Moment {
 fn write_extension<W: fmt::Write>(
     f: &mut fmt::Formatter<W>,
     extension: &Extension<'_>,
+    value: &Value<'_>,
 ) -> fmt::Result {
     let critical = if extension.critical { " critical" } else { "" };
     writeln!(f, "extension={}{critical}", extension.identifier)?;
-    match &extension.value {
+    match value {
         Value::BasicConstraints(true, Some(length)) => {
             writeln!(f, "    CA:TRUE, pathlen:{length}")
         }
