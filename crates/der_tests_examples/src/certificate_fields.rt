@@ -1,12 +1,12 @@
 //! Fields of certificates at the ends of their ranges.
+use der_x509::{Certificate, read_certificate};
 use std::alloc::{AllocError, Global};
 use std::process::Abort;
 use std::test::Fail;
-use x509_reader::{Certificate, read_certificate};
 
 /// A certificate (RFC 5280 4.1): serial number 5, valid from 2026 to 2027.
 #[rattlefmt::skip]
-const CERTIFICATE: &[u8] = b"\
+pub const CERTIFICATE: &[u8] = b"\
     \x30\x5d\
     \x30\x52\
     \xa0\x03\x02\x01\x02\
@@ -73,14 +73,15 @@ fn changed(alloc: Global, octets: &[u8], changes: &[(usize, u8)]) -> Result<Vec<
 /// Whether the certificate has these fields.
 fn is_row(certificate: &Certificate<'_>, row: &Row) -> bool {
     let (_, _, _, serial_number, from, until) = row;
-    certificate.serial_number == *serial_number
-        && certificate.not_before.year == *from
-        && certificate.not_after.year == *until
+    let fields = &certificate.tbs_certificate;
+    fields.serial_number == *serial_number
+        && fields.validity.not_before.year == *from
+        && fields.validity.not_after.year == *until
 }
 
 /// The octets are a certificate with the fields of the row.
-fn expect_fields(rt: &(impl Abort + AllocGlobal), octets: &[u8], row: &Row) -> Result<(), Fail> {
-    let certificate = read_certificate(rt.alloc(), octets)?;
+fn expect_fields(rt: &impl Abort, octets: &[u8], row: &Row) -> Result<(), Fail> {
+    let certificate = read_certificate(octets)?;
     assert!(rt; is_row(&certificate, row), "{}", row.0);
     Ok(())
 }

@@ -1,19 +1,19 @@
 //! A certificate with each of its elements damaged: each copy is refused at its place, or is listed.
-use der_tests_damage::Damage::{Class, Constructed, LeftOver};
+use der_tests_damage::Damage::{Class, Constructed};
 use der_tests_damage::Part::This;
 use der_tests_damage::{Case, Outcome, Pass, Reader};
+use der_x509::read_certificate;
 use std::alloc::Global;
 use std::test::Fail;
-use x509_reader::read_certificate;
 
-/// A certificate that openssl made, with the extensions that are read and one that isn't:
+/// A certificate that openssl made, with four extensions:
 /// `openssl req -x509 -newkey ec -pkeyopt ec_paramgen_curve:P-256 -days 20000 -set_serial 0x8001
 /// -subj '/C=FR/O=Example' -outform DER`, with `string_mask = utf8only` and the extensions
 /// `basicConstraints = critical, CA:TRUE, pathlen:3`, `keyUsage = critical, keyCertSign, cRLSign`,
 /// `subjectKeyIdentifier = hash`, and `subjectAltName` with DNS, email, URI, IP and RID. A line of the
 /// octets is the header of a list, or an element.
 #[rattlefmt::skip]
-const CERTIFICATE: &[u8] = b"\
+pub const CERTIFICATE: &[u8] = b"\
     \x30\x82\x01\xc7\
     \x30\x82\x01\x6e\
     \xa0\x03\
@@ -81,22 +81,24 @@ const CERTIFICATE: &[u8] = b"\
     \xd1\x1f\x83\x46\xc8\x2f\x39\xcd\x38\xde\x53\x8f\x5c\x02\x1f\x24\xa6\x47\x99\x6f\x35\x96\x1c\x22\x28\xb0\x32\
     \x97\x7c\x6a\x50\x94\x42\x45\x35\x5b\xee\x63\x36\xdc\xe4\xf2\xca\x96\xa4\x33";
 
-/// The values of the extensions that are read.
-const OPENED: &[usize] = &[237, 257, 301];
-
 /// The copies that are read.
 #[rattlefmt::skip]
 const PASSES: &[Pass] = &[
-    (18, This(LeftOver), "what follows the identifier of an algorithm isn't looked at"),
-    (132, This(LeftOver), "what follows the identifier of an algorithm isn't looked at"),
-    (374, This(LeftOver), "what follows the identifier of an algorithm isn't looked at"),
-    (143, This(Class), "the parameters of an algorithm aren't looked at"),
-    (143, This(Constructed), "the parameters of an algorithm aren't looked at"),
+    (41, This(Class), "the value of an attribute is of any type"),
+    (41, This(Constructed), "the value of an attribute isn't looked into, nor is its form"),
+    (54, This(Class), "the value of an attribute is of any type"),
+    (54, This(Constructed), "the value of an attribute isn't looked into, nor is its form"),
+    (108, This(Class), "the value of an attribute is of any type"),
+    (108, This(Constructed), "the value of an attribute isn't looked into, nor is its form"),
+    (121, This(Class), "the value of an attribute is of any type"),
+    (121, This(Constructed), "the value of an attribute isn't looked into, nor is its form"),
+    (143, This(Class), "the parameters of an algorithm are of any type"),
+    (143, This(Constructed), "the parameters of an algorithm aren't looked into, nor is their form"),
 ];
 
 const CASE: Case<'static> = Case {
     message: CERTIFICATE,
-    opened: OPENED,
+    opened: &[],
     wholes: &[],
     passes: PASSES,
 };
@@ -105,8 +107,8 @@ const CASE: Case<'static> = Case {
 struct Certificates;
 
 impl Reader for Certificates {
-    fn outcome(&self, alloc: Global, octets: &[u8]) -> Outcome {
-        match read_certificate(alloc, octets).err() {
+    fn outcome(&self, _alloc: Global, octets: &[u8]) -> Outcome {
+        match read_certificate(octets).err() {
             None => Outcome::Read,
             Some(refused) => Outcome::RefusedAt(refused.refusal.offset),
         }

@@ -3,9 +3,10 @@
 use der_parser::der::{Class, Tag};
 use der_parser::error::Err::{Error, Incomplete};
 use der_parser::error::{BerError, DerConstraint, Err as Refused, ErrorKind, Needed};
+use der_x509::read_certificate;
+use names_reader::read_names;
 use std::alloc::Global;
 use std::test::Fail;
-use x509_reader::read_certificate;
 
 /// A certificate (RFC 5280 4.1) of 95 octets, and one octet after it.
 #[rattlefmt::skip]
@@ -31,8 +32,6 @@ const REFUSED: &[(&str, usize, usize, u8, usize, Refused<BerError>)] = &[
     ("an octet left over", 96, 95, 0x00, 95, Error(BerError::NomError(ErrorKind::Eof))),
     ("version 4", 95, 8, 0x03, 6, Error(BerError::BerValueError)),
     ("an identifier without arcs", 95, 15, 0x00, 14, Error(BerError::BerValueError)),
-    ("an attribute before a lesser one", 95, 27, 0x0b, 19,
-        Error(BerError::DerConstraintFailed(DerConstraint::SetOfOrder))),
     ("a text as the first time", 95, 43, 0x16, 43,
         Error(BerError::UnexpectedTag { expected: Some(Tag::UtcTime), actual: Tag::Ia5String })),
     ("a serial number under the tag [2]", 95, 9, 0x82, 9,
@@ -44,7 +43,7 @@ const REFUSED: &[(&str, usize, usize, u8, usize, Refused<BerError>)] = &[
 
 #[test]
 fn certificates_are_refused(rt: HostRuntime) -> Result<(), Fail> {
-    let refused = read_certificate(rt.alloc(), &CERTIFICATE[..95]).err();
+    let refused = read_certificate(&CERTIFICATE[..95]).err();
     assert!(rt; refused.is_none(), "{refused:?}");
     for (what, count, at, octet, offset, reason) in REFUSED {
         let mut octets = CERTIFICATE;
@@ -52,13 +51,29 @@ fn certificates_are_refused(rt: HostRuntime) -> Result<(), Fail> {
             *changed = *octet;
         }
         let input = octets.get(..*count).unwrap_or(&[]);
-        let refused = read_certificate(rt.alloc(), input).err();
+        let refused = read_certificate(input).err();
         assert!(rt;
             matches!(&refused, Some(e) if e.refusal.offset == *offset && e.refusal.reason == *reason),
             "{what}: {refused:?}"
         );
     }
     Ok(())
+}
+
+/// An attribute before a lesser one (X.690 11.6): `read_certificate` doesn't compare attributes, but
+/// `read_names` does.
+#[test]
+fn names_are_refused(rt: HostRuntime) {
+    let mut octets = CERTIFICATE;
+    octets[27] = 0x0b;
+    let refused = read_certificate(&octets[..95]).err();
+    assert!(rt; refused.is_none(), "{refused:?}");
+    let reason = Error(BerError::DerConstraintFailed(DerConstraint::SetOfOrder));
+    let refused = read_names(rt.alloc(), &octets).err();
+    assert!(rt;
+        matches!(&refused, Some(e) if e.refusal.offset == 19 && e.refusal.reason == reason),
+        "{refused:?}"
+    );
 }
 
 /// What is wrong, how many of the octets are read, which one is changed and to what, and the text of
@@ -69,7 +84,7 @@ const TEXTS: &[(&str, usize, usize, u8, &str)] = &[
     ("no octet", 0, 0, 0x30, "Certificate at 0: the input is cut short, needs 1"),
     ("an octet left over", 96, 95, 0x00, "Certificate at 95: octets left over or missing"),
     ("signed fields longer than the certificate", 95, 3, 0x5c,
-        "Certificate at 2: an element runs past the end of its list, needs 1"),
+        "tbsCertificate at 2: an element runs past the end of its list, needs 1"),
     ("a serial number longer than the signed fields", 95, 10, 0x50,
         "tbsCertificate.serialNumber at 9: an element runs past the end of its list, needs 5"),
     ("a version longer than its tag", 95, 7, 0x02,
@@ -86,7 +101,7 @@ const TEXTS: &[(&str, usize, usize, u8, &str)] = &[
 
 /// The text of a refusal, or `read`.
 fn refusal_of(alloc: Global, input: &[u8]) -> Result<String, Fail> {
-    let text = match read_certificate(alloc, input).err() {
+    let text = match read_certificate(input).err() {
         Some(refused) => format!(in alloc; "{refused}")?,
         None => format!(in alloc; "read")?,
     };
@@ -108,9 +123,9 @@ fn refusals_are_printed(rt: HostRuntime) -> Result<(), Fail> {
 }
 
 /// The serial number of a certificate that is read.
-fn serial_number<'a>(alloc: Global, input: &'a [u8]) -> Option<&'a [u8]> {
-    match read_certificate(alloc, input) {
-        Ok(certificate) => Some(certificate.serial_number),
+fn serial_number(input: &[u8]) -> Option<&[u8]> {
+    match read_certificate(input) {
+        Ok(certificate) => Some(certificate.tbs_certificate.serial_number),
         Err(_) => None,
     }
 }
@@ -120,7 +135,7 @@ fn serial_number<'a>(alloc: Global, input: &'a [u8]) -> Option<&'a [u8]> {
 fn a_negative_serial_number_is_read(rt: HostRuntime) -> Result<(), Fail> {
     let mut octets = CERTIFICATE;
     octets[11] = 0x80;
-    let number = serial_number(rt.alloc(), &octets[..95]);
+    let number = serial_number(&octets[..95]);
     assert!(rt; matches!(number, Some([0x80])));
     Ok(())
 }
