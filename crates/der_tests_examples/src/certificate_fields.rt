@@ -75,8 +75,8 @@ fn is_row(certificate: &Certificate<'_>, row: &Row) -> bool {
     let (_, _, _, serial_number, from, until) = row;
     let fields = &certificate.tbs_certificate;
     fields.serial_number == *serial_number
-        && fields.validity.not_before.year == *from
-        && fields.validity.not_after.year == *until
+        && fields.validity.not_before.moment().year == *from
+        && fields.validity.not_after.moment().year == *until
 }
 
 /// The octets are a certificate with the fields of the row.

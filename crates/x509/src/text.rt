@@ -33,8 +33,8 @@ impl fmt::Display for Certified<'_, '_> {
         writeln!(f, "serial={}", Serial(fields.serial_number))?;
         writeln!(f, "signatureAlgorithm={}", fields.signature.algorithm)?;
         writeln!(f, "issuer={}", contents.names.issuer)?;
-        writeln!(f, "notBefore={}", Moment(fields.validity.not_before))?;
-        writeln!(f, "notAfter={}", Moment(fields.validity.not_after))?;
+        writeln!(f, "notBefore={}", Moment(fields.validity.not_before.moment()))?;
+        writeln!(f, "notAfter={}", Moment(fields.validity.not_after.moment()))?;
         writeln!(f, "subject={}", contents.names.subject)?;
         writeln!(f, "keyAlgorithm={}", key_info.algorithm.algorithm)?;
         writeln!(f, "keyOctets={}", key_info.subject_public_key.octets.len())?;
