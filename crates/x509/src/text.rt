@@ -33,7 +33,11 @@ impl fmt::Display for Certified<'_, '_> {
         writeln!(f, "serial={}", Serial(fields.serial_number))?;
         writeln!(f, "signatureAlgorithm={}", fields.signature.algorithm)?;
         writeln!(f, "issuer={}", contents.names.issuer)?;
-        writeln!(f, "notBefore={}", Moment(fields.validity.not_before.moment()))?;
+        writeln!(
+            f,
+            "notBefore={}",
+            Moment(fields.validity.not_before.moment())
+        )?;
         writeln!(f, "notAfter={}", Moment(fields.validity.not_after.moment()))?;
         writeln!(f, "subject={}", contents.names.subject)?;
         writeln!(f, "keyAlgorithm={}", key_info.algorithm.algorithm)?;
