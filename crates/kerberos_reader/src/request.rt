@@ -1,8 +1,18 @@
-//! Requests for tickets (RFC 4120 5.4.1). Each field is inside an explicit tag.
-use der_parser::ber::{ASN1DateTime, Class, Tag};
+//! Requests for tickets (RFC 4120 5.4.1).
+ghost use Rattle.der_base.specs.declared.rules.Rules.{Rules};
+ghost use Rattle.der_cursor.specs.Formats.{Explicit, Never, NoMemory, NoMemoryIn, Only, ReadsContent, ReadsField};
+ghost use Rattle.der_cursor.specs.Formats.{ReadsInput, Required};
+ghost use Rattle.kerberos_reader.specs.Requests.{AsReq, BodyFields, Int32, Kinds, PassedFields, RequestFields};
+ghost use Rattle.kerberos_reader.specs.Requests.{TicketFields, Times as TimesFormat, body_of, request_of, ticket_of};
+
+use crate::fields::{
+    check_number, open_field, open_last, open_sequence_alone, read_nonce, read_options, read_realm,
+    read_till, read_time,
+};
+use crate::name::{Principal, read_principal};
+use der_parser::ber::{ASN1DateTime, Class};
 use der_parser::cursor::{Cursor, FieldRefusal, Named, Refusal};
 use der_parser::error::BerError;
-use der_parser::values::BitString;
 use std::alloc::Global;
 
 /// The version of the protocol (5.4.1).
@@ -24,43 +34,38 @@ pub struct Request<'a> {
     pub encryption_kinds: Vec<i32>,
 }
 
-/// The components of a name (5.2.2).
-#[derive(Debug, Drop)]
-pub struct Principal<'a>(pub Vec<&'a str>);
-
 /// Reads an AS-REQ. Octets left over are refused.
-pub fn read_request<'a>(alloc: Global, octets: &'a [u8]) -> Result<Request<'a>, FieldRefusal> {
-    let mut fields = open_message(octets).named("AS-REQ")?;
+pub fn read_request<'a>(alloc: Global, octets: &'a [u8]) -> Result<Request<'a>, FieldRefusal>
+    ensures { ReadsInput Rules.Der (Only (Required AsReq)) request_of NoMemoryIn octets.now result }
+{
+    let input = Cursor::new(octets);
+    let fields = open_last(input, Class::Application, AS_REQ).named("AS-REQ")?;
+    read_message(alloc, fields)
+}
+
+fn read_message<'a>(alloc: Global, mut fields: Cursor<'a>) -> Result<Request<'a>, FieldRefusal>
+    ensures { ReadsContent RequestFields request_of NoMemoryIn fields.entry result }
+{
     check_number(&mut fields, 1, VERSION).named("pvno")?;
     check_number(&mut fields, 2, AS_REQ).named("msg-type")?;
     // What authenticates the client beforehand isn't read.
     fields.open_tagged(3).named("padata")?;
-    let mut body = open_body(fields).named("req-body")?;
-    let request = read_body(alloc, &mut body).named("req-body")?;
+    let body = open_last(fields, Class::ContextSpecific, 4).named("req-body")?;
+    read_body(alloc, body)
+}
+
+fn read_body<'a>(alloc: Global, mut body: Cursor<'a>) -> Result<Request<'a>, FieldRefusal>
+    ensures { ReadsContent BodyFields body_of NoMemoryIn body.entry result }
+{
+    let request = read_ticket(alloc, &mut body).named("req-body")?;
     end_body(body).named("req-body")?;
     Ok(request)
 }
 
-/// Opens the fields of the message.
-fn open_message(octets: &[u8]) -> Result<Cursor<'_>, Refusal<BerError>> {
-    let mut input = Cursor::new(octets);
-    let mut message = input.open(Class::Application, true, Tag(AS_REQ))?;
-    input.end()?;
-    let fields = message.open_sequence()?;
-    message.end()?;
-    Ok(fields)
-}
-
-/// Opens the fields of the body, which is the last field of the message.
-fn open_body(mut fields: Cursor<'_>) -> Result<Cursor<'_>, Refusal<BerError>> {
-    let mut inside = open_field(&mut fields, 4)?;
-    fields.end()?;
-    let body = inside.open_sequence()?;
-    inside.end()?;
-    Ok(body)
-}
-
-fn read_body<'a>(alloc: Global, body: &mut Cursor<'a>) -> Result<Request<'a>, FieldRefusal> {
+/// Reads the fields of the ticket that is asked for.
+fn read_ticket<'a>(alloc: Global, body: &mut Cursor<'a>) -> Result<Request<'a>, FieldRefusal>
+    ensures { ReadsField TicketFields ticket_of NoMemoryIn body.old result body.new }
+{
     read_options(body).named("kdc-options")?;
     let client = read_principal(alloc, body, 1).named("cname")?;
     let realm = read_realm(body).named("realm")?;
@@ -79,117 +84,40 @@ fn read_body<'a>(alloc: Global, body: &mut Cursor<'a>) -> Result<Request<'a>, Fi
     })
 }
 
-fn read_options<'a>(body: &mut Cursor<'a>) -> Result<BitString<'a>, Refusal<BerError>> {
-    let mut field = open_field(body, 0)?;
-    let options = field.bits()?;
-    field.end()?;
-    Ok(options)
-}
-
-fn read_realm<'a>(body: &mut Cursor<'a>) -> Result<&'a str, Refusal<BerError>> {
-    let mut field = open_field(body, 2)?;
-    let realm = field.general_string()?;
-    field.end()?;
-    Ok(realm)
-}
-
 /// A time that may be absent, one that is there, and another that may be absent.
 type Times = (Option<ASN1DateTime>, ASN1DateTime, Option<ASN1DateTime>);
 
 /// Reads the times of the ticket: from, till, and until when it may be renewed.
-fn read_times(body: &mut Cursor<'_>) -> Result<Times, FieldRefusal> {
+fn read_times(body: &mut Cursor<'_>) -> Result<Times, FieldRefusal>
+    ensures { ReadsField TimesFormat (λ x. (x.0, (x.1, x.2))) Never body.old result body.new }
+{
     let from = read_time(body, 4).named("from")?;
     let till = read_till(body).named("till")?;
     let renewable_till = read_time(body, 6).named("rtime")?;
     Ok((from, till, renewable_till))
 }
 
-fn read_till(body: &mut Cursor<'_>) -> Result<ASN1DateTime, Refusal<BerError>> {
-    read_last_time(open_field(body, 5)?)
-}
-
-fn read_nonce(body: &mut Cursor<'_>) -> Result<u32, Refusal<BerError>> {
-    let mut field = open_field(body, 7)?;
-    let nonce = field.u32()?;
-    field.end()?;
-    Ok(nonce)
-}
-
-fn read_kinds(alloc: Global, body: &mut Cursor<'_>) -> Result<Vec<i32>, Refusal<BerError>> {
-    let mut field = open_field(body, 8)?;
-    let kinds = field.open_sequence()?;
-    field.end()?;
+fn read_kinds(alloc: Global, body: &mut Cursor<'_>) -> Result<Vec<i32>, Refusal<BerError>>
+    ensures { ReadsField (Required (Explicit 8 (Required Kinds))) (λ v. v.items) NoMemory
+        body.old result body.new }
+{
+    let field = open_field(body, 8)?;
+    let kinds = open_sequence_alone(field)?;
     kinds.read_all(alloc, read_kind)
 }
 
-fn read_kind(_alloc: Global, kinds: &mut Cursor<'_>) -> Result<i32, Refusal<BerError>> {
+fn read_kind(_alloc: Global, kinds: &mut Cursor<'_>) -> Result<i32, Refusal<BerError>>
+    ensures { ReadsField (Required Int32) (λ n. n) Never kinds.old result kinds.new }
+{
     kinds.i32()
 }
 
 /// Reads to the end. Addresses, data for the server and further tickets are passed over.
-fn end_body(mut body: Cursor<'_>) -> Result<(), Refusal<BerError>> {
-    for number in 9..=11 {
-        body.open_tagged(number)?;
-    }
+fn end_body(mut body: Cursor<'_>) -> Result<(), Refusal<BerError>>
+    ensures { ReadsContent PassedFields (λ _. (tt, (tt, (tt, tt)))) Never body.entry result }
+{
+    body.open_tagged(9)?;
+    body.open_tagged(10)?;
+    body.open_tagged(11)?;
     body.end()
-}
-
-/// Opens a field that has to be there.
-fn open_field<'a>(fields: &mut Cursor<'a>, number: u32) -> Result<Cursor<'a>, Refusal<BerError>> {
-    fields.open(Class::ContextSpecific, true, Tag(number))
-}
-
-/// Reads a number that is the same in each request. BerValueError for another.
-fn check_number(fields: &mut Cursor<'_>, number: u32, value: u32) -> Result<(), Refusal<BerError>> {
-    let mut field = open_field(fields, number)?;
-    let before = field;
-    if field.u32()? != value {
-        return Err(before.refuse(BerError::BerValueError));
-    }
-    field.end()
-}
-
-/// Reads a name (5.2.2) under this tag, if it is there.
-fn read_principal<'a>(
-    alloc: Global,
-    body: &mut Cursor<'a>,
-    number: u8,
-) -> Result<Option<Principal<'a>>, Refusal<BerError>> {
-    let Some(mut inside) = body.open_tagged(number)? else {
-        return Ok(None);
-    };
-    let mut fields = inside.open_sequence()?;
-    inside.end()?;
-    read_name_kind(&mut fields)?;
-    let mut field = open_field(&mut fields, 1)?;
-    fields.end()?;
-    let texts = field.open_sequence()?;
-    field.end()?;
-    let components = texts.read_all(alloc, read_text)?;
-    Ok(Some(Principal(components)))
-}
-
-fn read_name_kind(fields: &mut Cursor<'_>) -> Result<i32, Refusal<BerError>> {
-    let mut field = open_field(fields, 0)?;
-    let kind = field.i32()?;
-    field.end()?;
-    Ok(kind)
-}
-
-fn read_text<'a>(_alloc: Global, texts: &mut Cursor<'a>) -> Result<&'a str, Refusal<BerError>> {
-    texts.general_string()
-}
-
-/// Reads a time under this tag, if it is there.
-fn read_time(body: &mut Cursor<'_>, number: u8) -> Result<Option<ASN1DateTime>, Refusal<BerError>> {
-    match body.open_tagged(number)? {
-        Some(field) => Ok(Some(read_last_time(field)?)),
-        None => Ok(None),
-    }
-}
-
-fn read_last_time(mut field: Cursor<'_>) -> Result<ASN1DateTime, Refusal<BerError>> {
-    let time = field.generalized_time()?;
-    field.end()?;
-    Ok(time)
 }
