@@ -1,4 +1,5 @@
 pub mod Certificates
+pub mod ExtensionValues
 pub mod Formats
 pub mod Lists
 pub mod Readers

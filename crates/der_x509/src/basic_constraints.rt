@@ -1,0 +1,38 @@
+//! Whether the subject is an authority (RFC 5280 4.2.1.9).
+ghost use Rattle.der_base.specs.declared.rules.Rules.{Rules};
+ghost use Rattle.der_cursor.specs.Formats.{Never, Only, ReadsField, ReadsInput, Required};
+ghost use Rattle.der_x509.specs.ExtensionValues.{BasicConstraints as ConstraintsFormat, constraints_of};
+
+use der_base::error::BerError;
+use der_cursor::{Cursor, Refusal};
+
+/// The value of the extension BasicConstraints.
+#[derive(Clone, Copy, Debug, PartialEq)]
+pub struct BasicConstraints {
+    /// Whether the key may verify signatures of certificates.
+    pub ca: bool,
+    /// How many certificates of authorities may follow this one in a path. A certificate without a
+    /// limit has none here.
+    pub path_length: Option<u32>,
+}
+
+/// Reads the value of a BasicConstraints by DER. Octets left over are refused, and so is a path length
+/// above 2^32-1, by IntegerTooLarge.
+pub fn read_basic_constraints(octets: &[u8]) -> Result<BasicConstraints, Refusal<BerError>>
+    ensures { ReadsInput Rules.Der (Only (Required ConstraintsFormat)) constraints_of Never octets.now result }
+{
+    let mut input = Cursor::new(octets);
+    let constraints = read_constraints(&mut input)?;
+    input.end()?;
+    Ok(constraints)
+}
+
+fn read_constraints(input: &mut Cursor<'_>) -> Result<BasicConstraints, Refusal<BerError>>
+    ensures { ReadsField (Required ConstraintsFormat) constraints_of Never input.old result input.new }
+{
+    let mut fields = input.open_sequence()?;
+    let ca = fields.boolean_or(false)?;
+    let path_length = fields.optional_u32()?;
+    fields.end()?;
+    Ok(BasicConstraints { ca, path_length })
+}

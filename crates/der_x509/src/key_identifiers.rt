@@ -1,0 +1,72 @@
+//! Which key a certificate has, and which key signed it (RFC 5280 4.2.1.1, 4.2.1.2).
+ghost use Rattle.std.specs.Option.{option_map};
+ghost use Rattle.der_base.specs.declared.rules.Rules.{Rules};
+ghost use Rattle.der_cursor.specs.Formats.{Implicit, Integer, Never, OctetString, Only, Optional};
+ghost use Rattle.der_cursor.specs.Formats.{ReadsField, ReadsInput, Required};
+ghost use Rattle.der_x509.specs.ExtensionValues.{AuthorityKeyIdentifier as AuthorityFormat, authority_of};
+
+use der_base::error::BerError;
+use der_cursor::{Cursor, Refusal};
+
+/// The value of the extension AuthorityKeyIdentifier.
+#[derive(Debug, Drop)]
+pub struct AuthorityKeyIdentifier<'a> {
+    pub key_identifier: Option<&'a [u8]>,
+    /// The octets of the names of the issuer's issuer, which aren't looked into.
+    pub authority_cert_issuer: Option<Cursor<'a>>,
+    /// The content octets of the serial number of the issuer's certificate, in two's complement.
+    pub authority_cert_serial_number: Option<&'a [u8]>,
+}
+
+/// Reads the value of a SubjectKeyIdentifier by DER: its octets. Octets left over are refused.
+pub fn read_subject_key_identifier(octets: &[u8]) -> Result<&[u8], Refusal<BerError>>
+    ensures { ReadsInput Rules.Der (Only (Required OctetString)) (λ x. x.now) Never octets.now result }
+{
+    let mut input = Cursor::new(octets);
+    let identifier = input.octets()?;
+    input.end()?;
+    Ok(identifier)
+}
+
+/// Reads the value of an AuthorityKeyIdentifier by DER. Octets left over are refused.
+pub fn read_authority_key_identifier(
+    octets: &[u8],
+) -> Result<AuthorityKeyIdentifier<'_>, Refusal<BerError>>
+    ensures { ReadsInput Rules.Der (Only (Required AuthorityFormat)) authority_of Never octets.now result }
+{
+    let mut input = Cursor::new(octets);
+    let authority = read_authority(&mut input)?;
+    input.end()?;
+    Ok(authority)
+}
+
+fn read_authority<'a>(
+    input: &mut Cursor<'a>,
+) -> Result<AuthorityKeyIdentifier<'a>, Refusal<BerError>>
+    ensures { ReadsField (Required AuthorityFormat) authority_of Never input.old result input.new }
+{
+    let mut fields = input.open_sequence()?;
+    let key_identifier = read_key_identifier(&mut fields)?;
+    let authority_cert_issuer = fields.open_tagged(1)?;
+    let authority_cert_serial_number = read_issuer_serial(&mut fields)?;
+    fields.end()?;
+    Ok(AuthorityKeyIdentifier {
+        key_identifier,
+        authority_cert_issuer,
+        authority_cert_serial_number,
+    })
+}
+
+fn read_key_identifier<'a>(fields: &mut Cursor<'a>) -> Result<Option<&'a [u8]>, Refusal<BerError>>
+    ensures { ReadsField (Optional (Implicit 0 OctetString)) (λ x. option_map (λ v. v.now) x) Never
+        fields.old result fields.new }
+{
+    fields.implicit(0).optional_octets()
+}
+
+fn read_issuer_serial<'a>(fields: &mut Cursor<'a>) -> Result<Option<&'a [u8]>, Refusal<BerError>>
+    ensures { ReadsField (Optional (Implicit 2 Integer)) (λ x. option_map (λ v. v.now) x) Never
+        fields.old result fields.new }
+{
+    fields.implicit(2).optional_integer()
+}
