@@ -3,7 +3,7 @@ use crate::contents::Contents;
 use crate::values::{GeneralName, Value};
 use der_parser::ber::ASN1DateTime;
 use der_parser::values::BitString;
-use der_x509::{Extension, Version};
+use der_x509::{BasicConstraints, Extension, Version};
 use std::fmt;
 use std::net::IpAddr;
 
@@ -142,14 +142,21 @@ fn write_extension<W: fmt::Write>(
     let critical = if extension.critical { " critical" } else { "" };
     writeln!(f, "extension={}{critical}", extension.identifier)?;
     match value {
-        Value::BasicConstraints(true, Some(length)) => {
-            writeln!(f, "    CA:TRUE, pathlen:{length}")
-        }
-        Value::BasicConstraints(true, None) => writeln!(f, "    CA:TRUE"),
-        Value::BasicConstraints(false, _) => writeln!(f, "    CA:FALSE"),
+        Value::BasicConstraints(constraints) => write_constraints(f, constraints),
         Value::KeyUsage(bits) => write_key_uses(f, bits),
         Value::SubjectAltName(names) => write_names(f, names),
         Value::Other => Ok(()),
+    }
+}
+
+fn write_constraints<W: fmt::Write>(
+    f: &mut fmt::Formatter<W>,
+    constraints: &BasicConstraints,
+) -> fmt::Result {
+    match (constraints.ca, constraints.path_length) {
+        (true, Some(length)) => writeln!(f, "    CA:TRUE, pathlen:{length}"),
+        (true, None) => writeln!(f, "    CA:TRUE"),
+        (false, _) => writeln!(f, "    CA:FALSE"),
     }
 }
 

@@ -4,14 +4,14 @@ use der_parser::cursor::{Cursor, FieldRefusal, Named, Refusal};
 use der_parser::error::BerError;
 use der_parser::oid::Oid;
 use der_parser::values::BitString;
-use der_x509::{Extension, Extensions};
+use der_x509::{BasicConstraints, Extension, Extensions, read_basic_constraints};
 use std::alloc::Global;
 
 /// What an extension says.
 #[derive(Debug, Drop)]
 pub enum Value<'a> {
     /// Whether the key signs certificates, and how many may stand between (4.2.1.9).
-    BasicConstraints(bool, Option<u32>),
+    BasicConstraints(BasicConstraints),
     /// A bit for each use of the key (4.2.1.3).
     KeyUsage(BitString<'a>),
     /// Other names of the subject (4.2.1.6).
@@ -39,7 +39,10 @@ pub fn read_value<'a>(alloc: Global, extension: &Extension<'a>) -> Result<Value<
     match extension.identifier.as_bytes() {
         b"\x55\x1d\x0f" => read_key_usage(octets).named("keyUsage"),
         b"\x55\x1d\x11" => read_names(alloc, octets).named("subjectAltName"),
-        b"\x55\x1d\x13" => read_basic_constraints(octets).named("basicConstraints"),
+        b"\x55\x1d\x13" => {
+            let constraints = read_basic_constraints(octets).named("basicConstraints")?;
+            Ok(Value::BasicConstraints(constraints))
+        }
         _ => Ok(Value::Other),
     }
 }
@@ -56,21 +59,12 @@ pub fn read_values<'a>(
     Ok(values)
 }
 
+/// Reads a KeyUsage. One that ends in a bit 0 is read too, since real roots have it.
 fn read_key_usage(octets: &[u8]) -> Result<Value<'_>, Refusal<BerError>> {
     let mut value = Cursor::new(octets);
     let bits = value.bits()?;
     value.end()?;
     Ok(Value::KeyUsage(bits))
-}
-
-fn read_basic_constraints(octets: &[u8]) -> Result<Value<'_>, Refusal<BerError>> {
-    let mut value = Cursor::new(octets);
-    let mut fields = value.open_sequence()?;
-    let authority = fields.boolean_or(false)?;
-    let path_length = fields.optional_u32()?;
-    fields.end()?;
-    value.end()?;
-    Ok(Value::BasicConstraints(authority, path_length))
 }
 
 /// Reads a SEQUENCE OF names.
