@@ -1,5 +1,5 @@
 -- What a reader of a value that stands in a struct needs besides the laws of der_cursor.
-use Rattle.std.proofs.Common.{◌≡◌, Result, Ok, sym, subst, ◌∙◌}
+use Rattle.std.proofs.Common.{◌≡◌, Ok, sym, subst, ◌∙◌}
 use Rattle.der_cursor.specs.declared.cursor.Cursor.{Cursor}
 use Rattle.der_cursor.specs.Cursors.{octets_left, rules_of}
 use Rattle.der_cursor.specs.Formats.{Field, ReadsField}
