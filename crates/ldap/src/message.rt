@@ -1,4 +1,6 @@
 //! Messages, and the operations that they ask for or report (RFC 4511 4.1.1, appendix B).
+ghost use Rattle.ldap.specs.Operations.{IsOperationAt};
+
 use der_parser::ber::Tag;
 
 /// A message. Names and texts are slices of the input.
@@ -65,7 +67,9 @@ pub enum Content<'a> {
 
 impl Operation {
     /// The operation of this tag, whose class is Application.
-    pub fn of_tag(tag: Tag) -> Option<Operation> {
+    pub fn of_tag(tag: Tag) -> Option<Operation>
+        ensures { IsOperationAt tag.0 result }
+    {
         Some(match tag.0 {
             0 => Operation::BindRequest,
             1 => Operation::BindResponse,
