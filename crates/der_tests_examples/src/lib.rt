@@ -8,6 +8,8 @@ mod certificates_damaged;
 #[cfg(test)]
 mod certificates_refused;
 #[cfg(test)]
+mod certificates_strict;
+#[cfg(test)]
 mod certificates_walked;
 #[cfg(test)]
 mod keys_damaged;
