@@ -9,7 +9,7 @@ use der_parser::ber::{
 };
 use der_parser::cursor::Cursor;
 use der_parser::der::{Class, parse_der};
-use der_x509::{Certificate, Name, read_certificate};
+use der_x509::read_certificate;
 use std::alloc::Global;
 
 /// What one pass does with each element.
@@ -208,30 +208,7 @@ fn count_cursor_attributes(alloc: Global, s: &[u8]) -> u64 {
     count
 }
 
-/// How many attributes a name has.
-fn count_of_name(name: &Name<'_>) -> u64 {
-    let mut count: u64 = 0;
-    for relative_name in name.relative_names() {
-        for _ in relative_name.attributes() {
-            count = count.wrapping_add(1);
-        }
-    }
-    count
-}
-
-/// How many attributes and extensions a certificate has.
-fn count_items(certificate: &Certificate<'_>) -> u64 {
-    let fields = &certificate.tbs_certificate;
-    let names = count_of_name(&fields.issuer).wrapping_add(count_of_name(&fields.subject));
-    let mut count: u64 = 0;
-    for _ in fields.extensions.iter() {
-        count = count.wrapping_add(1);
-    }
-    names.wrapping_add(count)
-}
-
-/// How many attributes and extensions the certificates of a slice have, one behind the other, read by
-/// `der_x509`; 0 where one is refused.
+/// How many certificates a slice has, one after another, read by `der_x509`; 0 where one is refused.
 fn count_certificates(alloc: Global, s: &[u8]) -> u64 {
     let mut certificates = Vec::new(alloc);
     let mut left = s;
@@ -251,11 +228,7 @@ fn count_certificates(alloc: Global, s: &[u8]) -> u64 {
         }
         left = rest;
     }
-    let mut count: u64 = 0;
-    for certificate in &certificates {
-        count = count.wrapping_add(count_items(certificate));
-    }
-    count
+    certificates.len() as u64
 }
 
 /// How many elements one call of a reader of elements finds at the start of a slice, and what follows.
@@ -307,12 +280,11 @@ fn count_in_buffer(alloc: Global, s: &[u8], is_der: bool) -> u64 {
 /// One pass over the elements of a slice: 0 reads them by DER, 1 by BER, 2 by BER and writes each
 /// as DER does, 3 by BER and writes the text of each, 4 reads the outermost elements alone, 5 reads
 /// names (X.501 9.2), 6 reads elements by BER and counts them by a visitor, 7 reads names and keeps
-/// their attributes as octets, 8 reads certificates (RFC 5280) with all their fields, and goes through
-/// their names and extensions, 9 writes the elements of each to a buffer by DER, 10 does so without a
-/// buffer, 11 and 12 do these by BER, 13 reads names as 5 over elements. It keeps the objects that it
-/// reads until its end, and returns how many objects or elements it read, those inside lists among them,
-/// or how many attributes, or attributes and extensions (8); 0 where an element is refused, and for
-/// another mode.
+/// their attributes as octets, 8 reads certificates (RFC 5280), 9 writes the elements of each to a
+/// buffer by DER, 10 does so without a buffer, 11 and 12 do these by BER, 13 reads names as 5 over
+/// elements. It keeps the objects that it reads until its end, and returns how many objects or elements
+/// it read, those inside lists among them, or how many attributes or certificates; 0 where an element
+/// is refused, and for another mode.
 #[unsafe(no_mangle)]
 pub extern "C" fn der_bench_pass(alloc: Global, s: &[u8], mode: u64) -> u64 {
     match mode {
