@@ -1,0 +1,4 @@
+mod InputLaws
+mod NumberLists
+mod Results
+mod TaggedNumbers
