@@ -1,12 +1,4 @@
 //! Functions of the library that are handed to others of it by their own names.
-ghost use Rattle.std.specs.Prelude.{map, pos};
-ghost use Rattle.der_parser.specs.declared.Rules.{Rules};
-ghost use Rattle.der_parser.specs.Formats.{Each, Ignored, Never, NoMemory, ObjectIdentifier, ReadsField, ReadsInput};
-ghost use Rattle.der_parser.specs.Formats.{ReadsWhole, Required, Sequence, ◌⨾◌};
-ghost use Rattle.der_parser.specs.Numbers.{unsigned};
-ghost use Rattle.der_parser.specs.Oids.{octets_of};
-ghost use Rattle.der_uses.specs.Examples.{BeginsWithNumbers, NoRoom};
-
 use der_parser::ber::Any;
 use der_parser::cursor::{Cursor, Refusal};
 use der_parser::der::{
@@ -42,26 +34,21 @@ pub fn read_ticket(input: &[u8]) -> Result<Ticket<'_>, Refusal<BerError>> {
 }
 
 /// Reads a SEQUENCE OF identifiers.
-pub fn read_identifiers(alloc: Global, input: &[u8]) -> Result<Vec<Oid<'_>>, Refusal<BerError>>
-    ensures { ReadsInput Rules.Der (Required (Sequence (Each (Required ObjectIdentifier))) ⨾ Ignored)
-        (λ v. (map (λ x. octets_of x) v.items, tt)) NoMemory input.now result }
-{
+pub fn read_identifiers(alloc: Global, input: &[u8]) -> Result<Vec<Oid<'_>>, Refusal<BerError>> {
     Cursor::new(input)
         .open_sequence()?
         .read_all(alloc, read_identifier)
 }
 
-fn read_identifier<'a>(_alloc: Global, list: &mut Cursor<'a>) -> Result<Oid<'a>, Refusal<BerError>>
-    ensures { ReadsField (Required ObjectIdentifier) (λ x. octets_of x) Never list.old result list.new }
-{
+fn read_identifier<'a>(
+    _alloc: Global,
+    list: &mut Cursor<'a>,
+) -> Result<Oid<'a>, Refusal<BerError>> {
     list.oid()
 }
 
 /// Reads a SEQUENCE OF numbers.
-pub fn read_numbers(alloc: Global, input: &[u8]) -> IResult<&[u8], Vec<u32>, BerError>
-    ensures { ReadsWhole (BeginsWithNumbers (unsigned 32) input.now) (λ x. (map pos x.1.items, x.0.now))
-        NoRoom result }
-{
+pub fn read_numbers(alloc: Global, input: &[u8]) -> IResult<&[u8], Vec<u32>, BerError> {
     parse_der_sequence_of_v(alloc, parse_der_u32).parse(input)
 }
 

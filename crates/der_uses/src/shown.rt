@@ -1,20 +1,4 @@
 //! The examples of the doc comments.
-ghost use Rattle.std.specs.Prelude.{◌≡◌, ◌≢◌, ◌↔◌, ◌⊎◌, ◌≤◌, ◌^◌, ℕ, IfErr, IfOk, IfSome, IsTrue, List};
-ghost use Rattle.std.specs.Prelude.{MatchResult, Some, [], ◌∷◌, false, length, map, pos, true};
-ghost use Rattle.std.specs.Result.{IsErrOf};
-ghost use Rattle.der_parser.specs.declared.ber.Class.{Class};
-ghost use Rattle.der_parser.specs.declared.Rules.{Rules};
-ghost use Rattle.der_parser.specs.BerReading.{FramingNeedsMemory, NeedsMemory};
-ghost use Rattle.der_parser.specs.Encoding.{encoding};
-ghost use Rattle.der_parser.specs.Formats.{Ignored, Never, ReadsInput, ReadsWhole, Required, Sequence, ◌⨾◌};
-ghost use Rattle.der_parser.specs.Numbers.{AnswersDerNumber, leading_number, signed, unsigned};
-ghost use Rattle.der_parser.specs.Oids.{octets_of};
-ghost use Rattle.der_parser.specs.Spelling.{BeginsWithBer};
-ghost use Rattle.der_parser.specs.Stable.{BerIsCut};
-ghost use Rattle.der_parser.specs.Tree.{Node, integer, node, nodes_of, sequence, string};
-ghost use Rattle.der_parser.specs.View.{tree};
-ghost use Rattle.der_uses.specs.Examples.{BeginsWithNumbers, BeginsWithTaggedNumber, NoRoom, SerialNumber};
-
 use der_parser::ber::{
     BerObject, BerObjectContent, FaultWriter, Visit, ber_encode_object, parse_ber,
 };
@@ -55,11 +39,7 @@ fn kind_of(object: &BerObject<'_>) -> Result<Found, Err<BerError>> {
 }
 
 /// `Err::Incomplete`: how many octets a client still has to wait for.
-pub fn missing_octets(alloc: Global, input: &[u8]) -> Option<usize>
-    ensures found { IfSome result (λ n. BerIsCut 50 input.now n) }
-    ensures only { (n : ℕ) → BerIsCut 50 input.now n → ¬ FramingNeedsMemory 50 input.now
-        → result ≡ Some n }
-{
+pub fn missing_octets(alloc: Global, input: &[u8]) -> Option<usize> {
     match parse_ber(alloc, input) {
         Err(Err::Incomplete(Needed::Size(n))) => Some(n),
         _ => None,
@@ -67,13 +47,7 @@ pub fn missing_octets(alloc: Global, input: &[u8]) -> Option<usize>
 }
 
 /// `to_vec`: what BER reads, written with DER's lengths.
-pub fn rewrite_by_der(alloc: Global, input: &[u8]) -> Result<Vec<u8>, GenError>
-    ensures found { IfOk result (λ v. v.items ≢ [] → (o : Node) × (rest : List ℕ)
-        × BeginsWithBer 50 input.now o rest × (v.items ≡ encoding o)) }
-    ensures only { (o : Node) (rest : List ℕ) → BeginsWithBer 50 input.now o rest → MatchResult result
-        (λ v. (v.items ≡ encoding o) ⊎ (NeedsMemory 50 input.now × (v.items ≡ [])))
-        (λ e. (e ≡ GenError.TooLarge) ⊎ (e ≡ GenError.OutOfMemory)) }
-{
+pub fn rewrite_by_der(alloc: Global, input: &[u8]) -> Result<Vec<u8>, GenError> {
     match parse_ber(alloc, input) {
         Ok((_rest, object)) => object.to_vec(alloc),
         Err(_) => Ok(Vec::new(alloc)),
@@ -81,31 +55,21 @@ pub fn rewrite_by_der(alloc: Global, input: &[u8]) -> Result<Vec<u8>, GenError>
 }
 
 /// `parse_der_sequence_of_v`: a SEQUENCE OF numbers.
-pub fn item_numbers(alloc: Global, input: &[u8]) -> IResult<&[u8], Vec<i32>, BerError>
-    ensures { ReadsWhole (BeginsWithNumbers (signed 32) input.now) (λ x. (map (λ v. v) x.1.items, x.0.now))
-        NoRoom result }
-{
+pub fn item_numbers(alloc: Global, input: &[u8]) -> IResult<&[u8], Vec<i32>, BerError> {
     parse_der_sequence_of_v(alloc, parse_der_i32).parse(input)
 }
 
 /// `parse_der_tagged_explicit_g`: a number inside the explicit tag [0].
-pub fn tagged_number(input: &[u8]) -> IResult<&[u8], u32, BerError>
-    ensures { ReadsWhole (BeginsWithTaggedNumber input.now) (leading_number pos) Never result }
-{
+pub fn tagged_number(input: &[u8]) -> IResult<&[u8], u32, BerError> {
     parse_der_tagged_explicit_g(Tag(0), number_inside).parse(input)
 }
 
-fn number_inside<'a>(content: &'a [u8], _header: Header<'a>) -> IResult<&'a [u8], u32, BerError>
-    ensures { AnswersDerNumber pos (unsigned 32) content.now result }
-{
+fn number_inside<'a>(content: &'a [u8], _header: Header<'a>) -> IResult<&'a [u8], u32, BerError> {
     parse_der_u32(content)
 }
 
 /// `Cursor`: the serial number of a certificate. A refusal has its place.
-pub fn read_serial_number(certificate: &[u8]) -> Result<u64, Refusal<BerError>>
-    ensures { ReadsInput Rules.Der (Required (Sequence (Required (Sequence SerialNumber) ⨾ Ignored)) ⨾ Ignored)
-        (λ n. ((pos n, tt), tt)) Never certificate.now result }
-{
+pub fn read_serial_number(certificate: &[u8]) -> Result<u64, Refusal<BerError>> {
     let mut fields = Cursor::new(certificate).open_sequence()?.open_sequence()?;
     fields.open_tagged(0)?; // the version
     fields.u64()
@@ -116,11 +80,7 @@ pub fn make_request<'a>(
     alloc: Global,
     number: &'a [u8],
     text: &'a str,
-) -> Result<BerObject<'a>, AllocError>
-    ensures { IfOk result (λ o. tree o ≡ node Class.Universal true 16 (sequence (nodes_of
-        (node Class.Universal false 2 (integer number.now)
-        ∷ node Class.Universal false 12 (string 12 text.now) ∷ [])))) }
-{
+) -> Result<BerObject<'a>, AllocError> {
     let mut items = Vec::new(alloc);
     items.push(BerObject::from_int_slice(number))?;
     items.push(BerObject::from_obj(BerObjectContent::UTF8String(text)))?;
@@ -128,10 +88,7 @@ pub fn make_request<'a>(
 }
 
 /// `ber_encode_object`: an object written to a writer. The encoder takes no memory.
-pub fn write_object(alloc: Global, object: &BerObject<'_>) -> Result<Vec<u8>, GenError>
-    ensures ok { IfOk result (λ v. v.items ≡ encoding (tree object.now)) }
-    ensures too_large { IsErrOf result GenError.TooLarge ↔ (2 ^ 64 ≤ length (encoding (tree object.now))) }
-{
+pub fn write_object(alloc: Global, object: &BerObject<'_>) -> Result<Vec<u8>, GenError> {
     let mut out = FaultWriter::new(Vec::<u8>::new(alloc));
     ber_encode_object(&mut out, object)?;
     Ok(out.into_inner())
@@ -144,10 +101,7 @@ pub fn print_object(alloc: Global, object: &BerObject<'_>) -> Result<String, All
 }
 
 /// `Oid::from_dotted`: whether an identifier is that of commonName.
-pub fn is_common_name(alloc: Global, oid: &Oid<'_>) -> Result<bool, OidParseError>
-    ensures found { IfOk result (λ b. IsTrue b ↔ (octets_of oid.now ≡ 85 ∷ 4 ∷ 3 ∷ [])) }
-    ensures memory { IfErr result (λ e. e ≡ OidParseError.OutOfMemory) }
-{
+pub fn is_common_name(alloc: Global, oid: &Oid<'_>) -> Result<bool, OidParseError> {
     let common_name = Oid::from_dotted(alloc, "2.5.4.3")?;
     Ok(oid.as_bytes() == common_name.as_bytes())
 }

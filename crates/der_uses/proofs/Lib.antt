@@ -1,4 +1,0 @@
-mod InputLaws
-mod NumberLists
-mod Results
-mod TaggedNumbers
