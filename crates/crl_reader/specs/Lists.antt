@@ -4,7 +4,8 @@ use Rattle.std.specs.Option.{option_map}
 use Rattle.der_base.specs.declared.time.ASN1DateTime.{ASN1DateTime}
 use Rattle.der_base.specs.Numbers.{unsigned}
 use Rattle.der_base.specs.Oids.{octets_of}
-use Rattle.der_cursor.specs.Formats.{Content, Format, Required, Optional, OptionalTagged, Default, Time, OptionalTime, Only}
+use Rattle.der_cursor.specs.Formats.{Content, Format, Required, Optional, OptionalTagged, Default, Time}
+use Rattle.der_cursor.specs.Formats.{OptionalTime, Only}
 use Rattle.der_cursor.specs.Formats.{◌⨾◌, End, Ignored, Each, Sequence, Number, Integer, BitString, OctetStringOf}
 use Rattle.der_cursor.specs.Formats.{ObjectIdentifier, Boolean, Limited}
 use Rattle.crl_reader.specs.Kept.{Kept, kept, Unread, WithCursor}

@@ -8,7 +8,8 @@ use Rattle.der_cursor.specs.Cursors.{octets_left, rules_of}
 use Rattle.der_cursor.specs.Formats.{Content, Format, Required, Only, Enumerated, Never, ReadsWhole}
 use Rattle.crl_reader.specs.declared.extension.Extension.{Extension}
 use Rattle.crl_reader.specs.declared.reason.Reason.{Reason}
-use Rattle.crl_reader.specs.declared.reason.Reason.TheVariants.{Unspecified, KeyCompromise, CaCompromise, AffiliationChanged}
+use Rattle.crl_reader.specs.declared.reason.Reason.TheVariants.{Unspecified, KeyCompromise, CaCompromise}
+use Rattle.crl_reader.specs.declared.reason.Reason.TheVariants.{AffiliationChanged}
 use Rattle.crl_reader.specs.declared.reason.Reason.TheVariants.{Superseded, CessationOfOperation, CertificateHold}
 use Rattle.crl_reader.specs.declared.reason.Reason.TheVariants.{RemoveFromCrl, PrivilegeWithdrawn, AaCompromise}
 

@@ -1,7 +1,8 @@
 //! The rules of RFC 5280 that its ASN.1 doesn't say.
 ghost use Rattle.std.specs.Prelude.{◌≡◌, ◌↔◌, IsTrue, MatchOption};
 ghost use Rattle.der_x509.specs.Certificates.{algorithm_of, certificate_of};
-ghost use Rattle.der_x509.specs.Rules.{Breaks, IsEarly, IsFirstBroken, IsPositive, NoneBroken, ReadsStrictly, every_rule};
+ghost use Rattle.der_x509.specs.Rules.{Breaks, IsEarly, IsFirstBroken, IsPositive, NoneBroken};
+ghost use Rattle.der_x509.specs.Rules.{ReadsStrictly, every_rule};
 
 use crate::algorithm::AlgorithmIdentifier;
 use crate::certificate::{Certificate, Version, read_certificate};

@@ -1,6 +1,6 @@
--- Messages, as their ASN.1 has them (RFC 4511), and what the structs of the code stand for. They are read by BER, and the
--- limits that the RFC sets to lengths and to TRUE (5.1) aren't asked. An INTEGER is read up to 2^32-1, lists may be empty,
--- texts are whatever their octets are, and elements after the last field of a SEQUENCE are passed over (4).
+-- Messages, as their ASN.1 has them (RFC 4511), and what the structs of the code stand for. They are read by BER, and
+-- the limits that the RFC sets to lengths and to TRUE (5.1) aren't asked. An INTEGER is read up to 2^32-1, lists may be
+-- empty, texts are whatever their octets are, and elements after the last field of a SEQUENCE are passed over (4).
 use Rattle.std.specs.Borrow.{Bor}
 use Rattle.std.specs.Prelude.{◌≡◌, ℕ, ℤ, pos, Bool, true, false, List, map, Result, IfOk, MatchResult}
 use Rattle.der_base.specs.declared.error.Error.{Error as BerError}
@@ -128,8 +128,8 @@ CompareContent = As (λ v. comparison v.0 v.1.0.0 v.1.0.1.0) (
     ⨾ (Required Assertion  -- ava        AttributeValueAssertion }
     ⨾ Others))
 
--- the content of each operation that is a SEQUENCE. The fields of ExtendedRequest (4.12) and IntermediateResponse (4.13)
--- are passed over.
+-- the content of each operation that is a SEQUENCE. The fields of ExtendedRequest (4.12) and IntermediateResponse
+-- (4.13) are passed over.
 abbrev pub list_content : Operation → Content Parts
 list_content BindRequest = BindContent
 list_content SearchRequest = SearchContent

@@ -1,5 +1,5 @@
--- The names of a certificate, as the ASN.1 of RFC 5280 has them (4.1). What follows the subject isn't asked, nor is what
--- is in the version, the signature and the validity.
+-- The names of a certificate, as the ASN.1 of RFC 5280 has them (4.1). What follows the subject isn't asked, nor is
+-- what is in the version, the signature and the validity.
 use Rattle.std.specs.Prelude.{◌≡◌, ℕ, Option, List}
 use Rattle.der_cursor.specs.Formats.{Content, Field, Format, Required, OptionalTagged, ◌⨾◌, Ignored, Octets}
 use Rattle.der_cursor.specs.Formats.{Sequence, Integer}
