@@ -13,6 +13,7 @@ mod length;
 pub mod oid;
 mod oid_text;
 pub mod rules;
+pub mod set_of_order;
 pub mod spans;
 pub mod text;
 pub mod time;

@@ -1,11 +1,12 @@
 //! One item of a list: what its parser returned is an item more, or the list ends (X.690 8.10, 8.12).
-ghost use Rattle.std.specs.Prelude.{◌≡◌, ◌↔◌, IfErr, IfOk, IsTrue};
+ghost use Rattle.std.specs.Prelude.{◌≡◌, IfErr, IfOk};
 ghost use Rattle.der_base.specs.SetOfOrder.{Descends};
 ghost use Rattle.der_combinators.specs.Inner.InOrder.{IsOutOfOrder, TakesInOrder, octets_compared};
 
 use crate::list_type::ListType;
 use der_base::error::{BerError, DerConstraint, Err, ErrorKind, IResult, ParseError};
 use der_base::rules::Rules;
+use der_base::set_of_order::descends;
 use der_object::growth::push_item;
 
 /// Pushes the item that the parser returned on `input`, and returns the octets after it, or None
@@ -74,18 +75,4 @@ where
         return Err(Err::Error(E::from(BerError::DerConstraintFailed(DerConstraint::SetOfOrder))));
     }
     Ok(())
-}
-
-/// Returns whether `first` is greater than `second`, octet by octet. The shorter is padded at its
-/// end with octets of 0.
-fn descends(first: &[u8], second: &[u8]) -> bool
-    ensures { IsTrue result ↔ Descends first.now second.now }
-{
-    for (i, octet) in first.iter().enumerate() {
-        let other = second.get(i).copied().unwrap_or(0);
-        if *octet != other {
-            return *octet > other;
-        }
-    }
-    false
 }

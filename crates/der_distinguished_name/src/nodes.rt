@@ -4,7 +4,6 @@ ghost use Rattle.std.specs.Prelude.{map, take};
 ghost use Rattle.der_base.specs.declared.header.Class.{Class};
 ghost use Rattle.der_base.specs.Answer.{MatchAnswer};
 ghost use Rattle.der_base.specs.Fault.{DerShowsFault};
-ghost use Rattle.der_base.specs.SetOfOrder.{Descends};
 ghost use Rattle.der_base.specs.Stable.{DerIsCut};
 ghost use Rattle.der_base.specs.Text.{is_one_of};
 ghost use Rattle.der_base.specs.Tree.{Node, Nodes, no_nodes, nodes};
@@ -16,6 +15,7 @@ ghost use Rattle.der_distinguished_name.specs.TreeNames.{text_attribute};
 ghost use Rattle.der_view.specs.Vectors.{HasDerElements};
 ghost use Rattle.der_view.specs.Views.{octets_between};
 
+use der_base::set_of_order::descends;
 use der_nodes::{Element, parse_der_nodes};
 use der_parser::ber::MAX_RECURSION;
 use der_parser::der::{Class, Tag};
@@ -286,19 +286,4 @@ fn between(input: &[u8], from: usize, to: usize) -> &[u8]
     ensures { result.now ≡ octets_between input.now from to }
 {
     input.get(from..to).unwrap_or(&[])
-}
-
-/// Returns whether `first` is greater than `second`, octet by octet. The shorter is padded at its
-/// end with octets of 0.
-#[inline(always)]
-fn descends(first: &[u8], second: &[u8]) -> bool
-    ensures { IsTrue result ↔ Descends first.now second.now }
-{
-    for (i, octet) in first.iter().enumerate() {
-        let other = second.get(i).copied().unwrap_or(0);
-        if *octet != other {
-            return *octet > other;
-        }
-    }
-    false
 }

@@ -1,11 +1,11 @@
 //! Names: lists of sets of attributes (X.501 9.2, RFC 5280 4.1.2.4).
 ghost use Rattle.std.specs.Prelude.{◌≡◌, ◌↔◌, IfOk, IsTrue, MatchResult};
 ghost use Rattle.der_base.specs.Header.{number_of};
-ghost use Rattle.der_base.specs.SetOfOrder.{Descends};
 ghost use Rattle.der_cursor.specs.Formats.{Never, NoMemory, ReadsField, Required, element_of};
 ghost use Rattle.names_reader.specs.Names.{AddsRelativeName, AttributeTypeAndValue, IsBmp, IsValue, IsValueOf};
 ghost use Rattle.names_reader.specs.Names.{Name as NameFormat, Value, attribute_of, coding_of, name_of};
 
+use der_base::set_of_order::descends;
 use der_parser::Rules;
 use der_parser::ber::{Any, Class, Tag};
 use der_parser::cursor::{Cursor, Refusal};
@@ -106,19 +106,6 @@ fn out_of_memory(cursor: &Cursor<'_>) -> Refusal<BerError>
         list_end: refusal.list_end,
         reason: Refused::OutOfMemory,
     }
-}
-
-/// Whether the first is the greater, octet by octet. The shorter is padded with octets of 0.
-fn descends(first: &[u8], second: &[u8]) -> bool
-    ensures { IsTrue result ↔ Descends first.now second.now }
-{
-    for (i, octet) in first.iter().enumerate() {
-        let other = second.get(i).copied().unwrap_or(0);
-        if *octet != other {
-            return *octet > other;
-        }
-    }
-    false
 }
 
 /// Reads an attribute: a SEQUENCE of a type and a value.

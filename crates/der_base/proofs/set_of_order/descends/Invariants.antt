@@ -1,6 +1,6 @@
 use Rattle.std.proofs.Common.{◌≡◌, ℕ, ◌<◌}
 use Rattle.der_base.specs.SetOfOrder.{padded}
-use Rattle.der_distinguished_name.proofs.nodes.descends.Given as goal
+use Rattle.der_base.proofs.set_of_order.descends.Given as goal
 
 -- the octets so far are the same
 abbrev pub invariant-loop-i : goal.invariant-loop-i

@@ -1,0 +1,18 @@
+//! The order of the values of a SET OF (X.690 11.6).
+ghost use Rattle.std.specs.Prelude.{◌↔◌, IsTrue};
+ghost use Rattle.der_base.specs.SetOfOrder.{Descends};
+
+/// Returns whether `first` is greater than `second`, octet by octet: DER refuses a SET OF with them in
+/// this order. The shorter is padded at its end with octets of 0 (X.690 11.6).
+#[inline]
+pub fn descends(first: &[u8], second: &[u8]) -> bool
+    ensures { IsTrue result ↔ Descends first.now second.now }
+{
+    for (i, octet) in first.iter().enumerate() {
+        let other = second.get(i).copied().unwrap_or(0);
+        if *octet != other {
+            return *octet > other;
+        }
+    }
+    false
+}
