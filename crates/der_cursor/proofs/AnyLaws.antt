@@ -1,11 +1,9 @@
 -- Any element is read, a refusal is shown, or the input is cut short: one of them holds at most, and each in one way.
-use Rattle.std.proofs.Common.{◌≡◌, ℕ, List, ◌++◌, length, refl, ap, ◌∙◌}
+use Rattle.std.proofs.Common.{◌≡◌, ℕ, List, refl, ap}
 use Rattle.der_base.specs.declared.rules.Rules.{Rules}
-use Rattle.der_base.specs.declared.rules.Rules.TheVariants.{Ber, Der}
 use Rattle.der_base.specs.Any.{LeadingElement}
-use Rattle.der_base.specs.Refusal.{Refusal}
 use Rattle.der_base.proofs.Answers.Exactness.{ShowsOne}
-use Rattle.der_cursor.specs.Elements.{SpellsElement, SpellsLeading, NoElement, ElementLacks}
+use Rattle.der_cursor.specs.Elements.{SpellsLeading, NoElement, ElementLacks}
 use Rattle.der_cursor.proofs.ElementLaws.{element_same, no_element_same, no_element_not, not_lacking, one_lack, no_element_no_lack}
 
 leading_same : (r : Rules) (i : List ℕ) (x v : LeadingElement) → SpellsLeading r i x → SpellsLeading r i v → x ≡ v

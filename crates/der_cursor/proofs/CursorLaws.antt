@@ -1,14 +1,11 @@
 -- What a cursor returns for its next element, from what a reader of elements does.
-use Rattle.std.proofs.Common.{◌≡◌, ℕ, ◌⊎◌, Bool, true, false, List, Result, Ok, Err, Bor, refl, sym, ap, subst, ◌∙◌, inl, inr}
-use Rattle.std.specs.Prelude.{IfErr}
+use Rattle.std.proofs.Common.{◌≡◌, ℕ, Bool, true, false, Ok, Err, refl, sym, ap, ◌∙◌, inl, inr}
 use Rattle.std.proofs.lemmas.Bool.{false≢true}
-use Rattle.der_base.specs.declared.any.Any.{Any}
 use Rattle.der_base.specs.declared.error.Err.{Err as Refused}
 use Rattle.der_base.specs.declared.error.Err.TheVariants.{Incomplete, Error, Failure, OutOfMemory}
 use Rattle.der_base.specs.declared.error.Error.{Error as BerError}
 use Rattle.der_base.specs.declared.error.Needed.TheVariants.{Unknown, Size}
 use Rattle.der_base.specs.declared.header.Class.{Class}
-use Rattle.der_base.specs.declared.rules.Rules.{Rules}
 use Rattle.der_base.specs.Answer.{MatchAnswer}
 use Rattle.der_base.specs.Errors.{RefusesCutItem}
 use Rattle.der_base.specs.Refusal.{Refusal as Name, incomplete}
@@ -16,9 +13,9 @@ use Rattle.der_base.proofs.Answers.Answering.{passed_on}
 use Rattle.der_base.proofs.Answers.Exactness.{ShowsOne, exactly}
 use Rattle.der_cursor.specs.declared.cursor.Cursor.{Cursor}
 use Rattle.der_cursor.specs.declared.refusal.Refusal.{Refusal}
-use Rattle.der_cursor.specs.Cursors.{octets_left, rules_of, is_inside, refusal_at, contents, RefusesAt, LacksAt, Finds, OpensAt, reason_of}
-use Rattle.der_cursor.specs.Elements.{SpellsElement, ElementRefuses, ElementLacks, AnswersElement}
-use Rattle.der_cursor.proofs.ElementLaws.{element_shows_one, one_lack}
+use Rattle.der_cursor.specs.Cursors.{octets_left, rules_of, is_inside, contents, RefusesAt, LacksAt, Finds, OpensAt}
+use Rattle.der_cursor.specs.Elements.{SpellsElement, ElementRefuses, ElementLacks}
+use Rattle.der_cursor.proofs.ElementLaws.{element_shows_one}
 
 -- an element that is cut short inside a list is refused
 module _ {T V : Type 0} {value : T → V} {Reads : T → Type 0} {Spelled : V → Type 0} {Refuses : Name → Type 0} (old : Cursor)

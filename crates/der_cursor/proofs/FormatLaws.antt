@@ -1,6 +1,5 @@
 -- What each call of a cursor reads, as a field of a format.
-use Rattle.std.proofs.Common.{◌≡◌, ◌≢◌, ℕ, ◌<◌, Bool, true, false, List, [], ◌∷◌, ◌++◌, length, arith, length-append, Option, Some, None, Result, Ok, Err, Bor, ◌⊎◌, refl, sym, ap, subst, ◌∙◌, inl, inr, append_assoc}
-use Rattle.std.specs.Prelude.{IfOk, MatchResult}
+use Rattle.std.proofs.Common.{◌≡◌, ◌≢◌, ℕ, ◌<◌, Bool, true, false, List, [], ◌∷◌, ◌++◌, length, arith, length-append, Option, Some, None, Result, Ok, Err, ◌⊎◌, refl, sym, ap, subst, ◌∙◌, inl, inr, append_assoc}
 use Rattle.std.specs.Option.{option_map}
 use Rattle.der_base.specs.declared.any.Any.{Any}
 use Rattle.der_base.specs.declared.error.Err.{Err as Refused}
@@ -20,14 +19,14 @@ use Rattle.der_base.proofs.Octets.Identifiers.{identifier_same, identifier_octet
 use Rattle.der_values.specs.Kinds.{Kind, booleans, times}
 use Rattle.der_cursor.specs.declared.cursor.Cursor.{Cursor}
 use Rattle.der_cursor.specs.declared.refusal.Refusal.{Refusal}
-use Rattle.der_cursor.specs.Cursors.{octets_left, rules_of, advanced, class_wanted, number_wanted, contents, IsTagged, IsNextType, SpellsValue}
+use Rattle.der_cursor.specs.Cursors.{octets_left, rules_of, advanced, class_wanted, number_wanted, IsTagged, IsNextType, SpellsValue}
 use Rattle.der_cursor.specs.Cursors.{OpensAt, OpensType, OpensTagged, ReadsValue, ReadsOptional, ReadsOr, ReadsTime, ReadsAnyAt}
 use Rattle.der_cursor.specs.Elements.{SpellsElement, BeginsWithTag, IsNext}
-use Rattle.der_cursor.specs.Formats.{Content, Field, Format, Required, Optional, Default, OptionalTagged, DefaultTagged, IfLeft, Element, element_of, AnyElement}
-use Rattle.der_cursor.specs.Formats.{Octets, Value, Primitive, Tagged, Implicit, Limited, UtcTime, GeneralizedTime, Boolean, Time, OptionalTime, Never, ReadsWhole, ReadsNext, ReadsField, ReadsContent}
+use Rattle.der_cursor.specs.Formats.{Content, Field, Format, Required, Optional, Default, OptionalTagged, IfLeft, element_of, AnyElement}
+use Rattle.der_cursor.specs.Formats.{Octets, Value, Primitive, Tagged, Implicit, Limited, UtcTime, GeneralizedTime, Boolean, Time, OptionalTime, Never, ReadsNext, ReadsField, ReadsContent}
 
 -- a reader that takes no memory, at a value that is spelled
-never : {T : Type 0} (P : T → Type 0) (e : Refused BerError) → MatchAnswer (Err e) P (λ _. ⊥) (λ _. ⊥) ⊥ → ⊥
+pub never : {T : Type 0} (P : T → Type 0) (e : Refused BerError) → MatchAnswer (Err e) P (λ _. ⊥) (λ _. ⊥) ⊥ → ⊥
 never P (Error x) h = h
 never P (Incomplete (Size n)) h = h
 never P (Incomplete Unknown) h = h

@@ -1,10 +1,8 @@
 -- Content octets have one value.
-use Rattle.std.proofs.Common.{◌≡◌, ℕ, Bool, List, ◌∷◌, refl, sym, ap, ◌∙◌}
+use Rattle.std.proofs.Common.{◌≡◌, ℕ, ◌∷◌, refl, sym, ap, ◌∙◌}
 use Rattle.std.specs.Prelude.{pos, not, ◌==◌}
 use Rattle.der_base.specs.declared.rules.Rules.{Rules}
-use Rattle.der_base.specs.declared.time.ASN1DateTime.{ASN1DateTime}
 use Rattle.der_base.specs.Numbers.{NumberType}
-use Rattle.der_base.specs.Time.{IsTimeText}
 use Rattle.der_base.proofs.Times.OneReading.{times_same}
 use Rattle.der_values.specs.Kinds.{booleans, integers, numbers, enumerated_numbers, bit_strings, octet_strings, nulls, identifiers, texts, times, with_whole_year}
 use Rattle.der_cursor.proofs.ValueLaws.{HasOneValue}

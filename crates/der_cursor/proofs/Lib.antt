@@ -1,12 +1,15 @@
 pub mod AnyLaws
+pub mod ChoiceLaws
 pub mod CursorLaws
 pub mod ElementLaws
+pub mod FieldLaws
 pub mod FormatLaws
 pub mod KindLaws
 pub mod Lists
 pub mod Markers
 pub mod NamedLaws
 pub mod NextLaws
+pub mod OpenedLaws
 pub mod PlaceLaws
 pub mod Sequences
 pub mod ShortElements

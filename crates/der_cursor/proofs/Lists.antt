@@ -1,15 +1,14 @@
 -- Fields of one kind, that `read_all` reads.
-use Rattle.std.proofs.Common.{◌≡◌, ◌≢◌, ℕ, ◌<◌, ◌≤◌, List, [], ◌∷◌, ◌++◌, length, map, None, Result, Ok, Err, Bor, refl, sym, ap, subst, ◌∙◌, arith, append-nil}
+use Rattle.std.proofs.Common.{◌≡◌, ◌≢◌, ℕ, ◌<◌, List, [], ◌∷◌, ◌++◌, length, map, None, Result, Ok, Err, Bor, refl, sym, ap, subst, ◌∙◌, arith, append-nil}
 use Rattle.std.specs.Borrow.{MutBor}
 use Rattle.std.specs.Global.{Vec}
-use Rattle.der_base.specs.declared.error.Err.TheVariants.{OutOfMemory}
 use Rattle.der_base.specs.declared.error.ErrorKind.{ErrorKind}
 use Rattle.der_base.specs.declared.rules.Rules.{Rules}
 use Rattle.der_cursor.specs.declared.cursor.Cursor.{Cursor}
 use Rattle.der_cursor.specs.declared.refusal.Refusal.{Refusal}
-use Rattle.der_cursor.specs.Cursors.{octets_left, rules_of, advanced}
+use Rattle.der_cursor.specs.Cursors.{octets_left, rules_of}
 use Rattle.der_cursor.specs.Runs.{CallsAt, Calls, no_call, one_more, StopsAt, refused, stuck, no_room, ReadsAll, values_of}
-use Rattle.der_cursor.specs.Formats.{Content, Field, Each, NoMemory, ReadsWhole, ReadsNext, ReadsField, ReadsContent}
+use Rattle.der_cursor.specs.Formats.{Field, Each, NoMemory, ReadsNext, ReadsField, ReadsContent}
 
 joined : {O V : Type 0} (view : O → V) (ws : List O) (v : O) (us : List V) → map view (ws ++ v ∷ []) ++ us ≡ map view ws ++ view v ∷ us
 joined view [] v us = refl

@@ -1,5 +1,5 @@
 -- Whether an end marker follows the content of an element that was read.
-use Rattle.std.proofs.Common.{◌≡◌, ℕ, List, length, Ok, Err, Bor, refl}
+use Rattle.std.proofs.Common.{ℕ, List, length, Ok, Err, refl}
 use Rattle.std.specs.Prelude.{IfOk}
 use Rattle.der_base.specs.declared.any.Any.{Any}
 use Rattle.der_base.specs.declared.rules.Rules.TheVariants.{Ber, Der}

@@ -1,10 +1,10 @@
 -- The first identifier octet shows class and number, where the number is below 31 (X.690 8.1.2.2).
-use Rattle.std.proofs.Common.{◌≡◌, ℕ, ◌+◌, ◌*◌, ◌/◌, ◌%◌, ◌<◌, Bool, true, false, List, [], ◌∷◌, ◌++◌, length, Some, None, Option, refl, sym, ap, ◌∙◌, arith, ⊎_elim}
+use Rattle.std.proofs.Common.{◌≡◌, ℕ, ◌+◌, ◌/◌, ◌%◌, ◌<◌, Bool, true, false, List, [], ◌∷◌, ◌++◌, Some, None, refl, sym, ap, ◌∙◌, arith, ⊎_elim}
 use Rattle.std.specs.Prelude.{◌↔◌, slice_get}
 use Rattle.std.proofs.lemmas.Bool.{cases_lt}
 use Rattle.der_base.specs.declared.header.Class.{Class}
 use Rattle.der_base.specs.declared.header.Class.TheVariants.{Universal, Application, ContextSpecific, Private}
-use Rattle.der_base.specs.Octets.{class_number, constructed_bit, leading_bits, identifier}
+use Rattle.der_base.specs.Octets.{class_number, constructed_bit, leading_bits}
 use Rattle.der_base.proofs.Octets.Identifiers.{identifier_short}
 use Rattle.der_cursor.specs.Elements.{IsNext}
 

@@ -1,18 +1,19 @@
 -- Fields one after another: what is left to be read of a content, and how its reader ends.
-use Rattle.std.proofs.Common.{◌≡◌, ◌≢◌, ℕ, ◌<◌, ◌≤◌, Bool, List, [], ◌∷◌, ◌++◌, length, map, Option, Some, None, Result, Ok, Err, Bor, refl, sym, ap, subst, ◌∙◌, arith, append_assoc}
-use Rattle.std.specs.Prelude.{IfOk, MatchResult}
+use Rattle.std.proofs.Common.{◌≡◌, ◌≢◌, ℕ, Bool, List, [], None, Result, Ok, Err, Bor, refl, sym, ap, subst, ◌∙◌}
+use Rattle.std.specs.Prelude.{MatchResult}
 use Rattle.std.specs.Result.{IsErrAnd}
 use Rattle.std.proofs.lemmas.Result.{err_from_is_err_and}
 use Rattle.der_base.specs.declared.error.Error.{Error as BerError}
 use Rattle.der_base.specs.declared.rules.Rules.{Rules}
+use Rattle.der_base.specs.declared.header.Class.{Class}
 use Rattle.der_base.specs.declared.header.Class.TheVariants.{Universal}
 use Rattle.der_cursor.specs.declared.cursor.Cursor.{Cursor}
 use Rattle.der_cursor.specs.declared.named.FieldRefusal.{FieldRefusal}
 use Rattle.der_cursor.specs.declared.refusal.Refusal.{Refusal}
-use Rattle.der_cursor.specs.Cursors.{octets_left, rules_of, advanced, StartsAt, EndsAt, OpensType}
+use Rattle.der_cursor.specs.Cursors.{octets_left, rules_of, StartsAt, EndsAt, OpensAt, OpensType}
 use Rattle.der_cursor.specs.Named.{NamesRefusal, NamesMore}
-use Rattle.der_cursor.proofs.FormatLaws.{inside, unopened}
-use Rattle.der_cursor.specs.Formats.{Content, Field, Format, Required, Only, ◌⨾◌, End, Ignored, Each, Never, NoMemory, NoMemoryIn, ReadsWhole, ReadsNext, ReadsField, ReadsContent}
+use Rattle.der_cursor.proofs.FormatLaws.{inside, inside_of, unopened, unopened_of}
+use Rattle.der_cursor.specs.Formats.{Content, Field, Format, Required, Only, ◌⨾◌, As, End, Ignored, Mapped, Never, NoMemory, NoMemoryIn, ReadsWhole, ReadsNext, ReadsField, ReadsContent, ReadsFront, ReadsInput}
 
 -- An error is passed on as another, which leaves no more open.
 pub record Passes {T E F : Type 0} (May : E → Type 0) (May' : F → Type 0) (r : Result T E) (s : Result T F) : Type 0 where
@@ -145,12 +146,25 @@ module _ {T V E : Type 0} {F : Field V} {view : T → V} {May : E → Type 0} {r
   unfolding Only
   input_stops {result = result} s h n = let y = err_from_is_err_and result n in rw (y.1, y.2) (record { found = tt; only = λ v p. (h s.4).only v [] (to_input F r i c s v [] p) })
 
+-- a field that an input begins with, and what follows it
+module _ {T V E : Type 0} {F : Field V} {view : T → V} {May : E → Type 0} {r : Rules} {i : List ℕ} {c d : Cursor} where
+  pub front_read : {x : T} (rest : Bor (List ℕ)) → StartsAt r i c → rest.now ≡ octets_left d → ReadsField {E = E} F view May c (Ok x) d → ReadsFront r F view May i (Ok (rest, x))
+  front_read {x = x} rest s q h = let z = h s.4 in record {
+    found = subst (λ w. F r i (view x) w) (sym q) (of_input F r i c s (view x) (octets_left d) z.found.0);
+    only = λ v p. let e = z.only v.0 v.1 (to_input F r i c s v.0 v.1 p) in ap (λ y. (y, rest.now)) e.0 ∙ ap (λ w. (v.0, w)) (q ∙ e.1);
+  }
+
+  pub front_stops : (e : E) {result : Result (Bor (List ℕ) × T) E} → StartsAt r i c → IsErrAnd result (λ y. y ≡ e) → ReadsField F view May c (Err e) d → ReadsFront r F view May i result
+  front_stops e {result = result} s n h =
+      let y = err_from_is_err_and result n in
+      rw (y.1, y.2) (record { found = tt; only = λ v p. (h s.4).only v.0 v.1 (to_input F r i c s v.0 v.1 p) })
+
 -- Elements that are opened, with the name of their field.
-ok_named : {T : Type 0} (name : Bor (List ℕ)) (x : T) (r : Result T (Refusal BerError)) → NamesRefusal r name (Ok x) → r ≡ Ok x
+pub ok_named : {T : Type 0} (name : Bor (List ℕ)) (x : T) (r : Result T (Refusal BerError)) → NamesRefusal r name (Ok x) → r ≡ Ok x
 ok_named {T} name x (Ok y) n = let q : ◌≡◌ {A = Result T FieldRefusal} (Ok x) (Ok y) = n in let e : x ≡ y = cc in ap Ok (sym e)
 ok_named name x (Err e) n = absurd n
 
-err_named : {T : Type 0} (name : Bor (List ℕ)) (f : FieldRefusal) (r : Result T (Refusal BerError)) → NamesRefusal r name (Err f) → (e : Refusal BerError) × (r ≡ Err e)
+pub err_named : {T : Type 0} (name : Bor (List ℕ)) (f : FieldRefusal) (r : Result T (Refusal BerError)) → NamesRefusal r name (Err f) → (e : Refusal BerError) × (r ≡ Err e)
 err_named {T} name f (Ok y) n = let q : ◌≡◌ {A = Result T FieldRefusal} (Err f) (Ok y) = n in absurd cc
 err_named name f (Err e) n = (e, refl)
 
@@ -166,6 +180,21 @@ unopened_named t C name {p = p} {old = old} {after = after} f {r = r} {result = 
     let e = err_named name f r n in
     let y = err_from_is_err_and result q in
     rw y.1 (unopened t C (subst (λ x. OpensType p t old x after) e.1 o))
+
+-- the same of one of any class, whose number is another expression
+pub inside_of_named : {V : Type 0} (n : ℕ) (C : Content V) (name : Bor (List ℕ)) (inner : Cursor) {T E : Type 0} {view : T → V} {May : E → Type 0} {c : Class} {p : Bool} {m : ℕ} {old new : Cursor} {r : Result Cursor (Refusal BerError)} {result : Result T E}
+    → m ≡ n → OpensAt c p m old r new → NamesRefusal r name (Ok inner) → ReadsContent C view May inner result
+    → ReadsField (Required (record { class = c; number = n; constructed = p; content = C })) view May old result new
+inside_of_named n C name inner {c = c} {p = p} {m = m} {old = old} {new = new} {r = r} q o s h =
+    inside_of C (subst (λ k. OpensAt c p k old (Ok inner) new) q (subst (λ x. OpensAt c p m old x new) (ok_named name inner r s) o)) h
+
+pub unopened_of_named : {V : Type 0} (n : ℕ) (C : Content V) (name : Bor (List ℕ)) {T : Type 0} {view : T → V} {May : FieldRefusal → Type 0} {c : Class} {p : Bool} {m : ℕ} {old after new : Cursor} (f : FieldRefusal)
+    {r : Result Cursor (Refusal BerError)} {result : Result T FieldRefusal} → m ≡ n → OpensAt c p m old r after → NamesRefusal r name (Err f) → IsErrAnd result (λ y. y ≡ f)
+    → ReadsField (Required (record { class = c; number = n; constructed = p; content = C })) view May old result new
+unopened_of_named n C name {c = c} {p = p} {m = m} {old = old} {after = after} f {r = r} {result = result} q o s x =
+    let e = err_named name f r s in
+    let y = err_from_is_err_and result x in
+    rw y.1 (unopened_of C (subst (λ k. OpensAt c p k old (Err e.0) after) q (subst (λ z. OpensAt c p m old z after) e.1 o)))
 
 -- where octets are left after the last field
 pub left_over : {E : Type 0} (e : E) {V T : Type 0} {P : V → Type 0} {c : Cursor} {build : Unit {0} → V} {view : T → V} {May : E → Type 0} {result : Result T E} → Remains P End c build → octets_left c ≢ []
@@ -222,3 +251,76 @@ first_read F (Err e) h fresh = let r = h fresh in record { found = tt; only = λ
 pub content_named : {V : Type 0} (name : Bor (List ℕ)) (C : Content V) (c : Cursor) {T : Type 0} {view : T → V} {r s : Result T FieldRefusal} → ReadsContent C view NoMemoryIn c r → NamesMore r name s
     → ReadsContent C view NoMemoryIn c s
 content_named name C c {r = r} {s = s} h n fresh = whole_passes r s (more_passes (λ e f q m. ap (λ x. x.reason) q ∙ m) name r s n) (h fresh)
+
+-- a content that is read without memory, and one that may need it, with the name of the field
+pub content_first_named : {V : Type 0} (name : Bor (List ℕ)) (C : Content V) (c : Cursor) {T : Type 0} {view : T → V} {May : FieldRefusal → Type 0} {r : Result T (Refusal BerError)} {s : Result T FieldRefusal}
+    → ReadsContent C view Never c r → NamesRefusal r name s → ReadsContent C view May c s
+content_first_named name C c {r = r} {s = s} h n fresh = whole_passes r s (name_passes (λ e f q m. absurd m) name r s n) (h fresh)
+
+pub content_named_in : {V : Type 0} (name : Bor (List ℕ)) (C : Content V) (c : Cursor) {T : Type 0} {view : T → V} {r : Result T (Refusal BerError)} {s : Result T FieldRefusal}
+    → ReadsContent C view NoMemory c r → NamesRefusal r name s → ReadsContent C view NoMemoryIn c s
+content_named_in name C c {r = r} {s = s} h n fresh = whole_passes r s (name_passes memory_named name r s n) (h fresh)
+
+-- a field whose reader names its fields, with one name more
+pub named_more : (name : Bor (List ℕ)) {T V : Type 0} {F : Field V} {view : T → V} {old new : Cursor} {r s : Result T FieldRefusal} → ReadsField F view NoMemoryIn old r new → NamesMore r name s
+    → ReadsField F view NoMemoryIn old s new
+named_more name {r = r} {s = s} h n fresh = field_passes r s (more_passes (λ e f q m. ap (λ x. x.reason) q ∙ m) name r s n) (h fresh)
+
+-- All that is left of a content is read by one reader.
+module _ {V W : Type 0} {P : V → Type 0} {C : Content W} {c : Cursor} {build : W → V} {T U E : Type 0} {part : T → W} {view : U → V} {May : E → Type 0} where
+  pub finish_with : {x : T} {y : U} → Remains P C c build → ReadsContent {E = E} C part May c (Ok x) → view y ≡ build (part x) → ReadsWhole {E = E} P view May (Ok y)
+  finish_with {x = x} l h q = let r = h l.fresh in record {
+    found = subst P (sym q) (l.back (part x) r.found);
+    only = λ v p. let z = l.only v p in q ∙ ap build (r.only z.0 z.1) ∙ sym z.2;
+  }
+
+  pub stops_with : (e : E) {result : Result U E} → Remains P C c build → ReadsContent {T = T} C part May c (Err e) → IsErrAnd result (λ y. y ≡ e) → ReadsWhole P view May result
+  stops_with e {result = result} l h n =
+      let q = err_from_is_err_and result n in
+      rw (q.1, q.2) (record { found = tt; only = λ v p. let z = l.only v p in (h l.fresh).only z.0 z.1 })
+
+-- the same, where its result is that of the content
+pub rest_read : {T V W E : Type 0} {P : V → Type 0} {C : Content W} {c : Cursor} {build : W → V} {part : T → W} {view : T → V} {May : E → Type 0} (result : Result T E) → ((x : T) → view x ≡ build (part x)) → Remains P C c build
+    → ReadsContent C part May c result → ReadsWhole P view May result
+rest_read (Ok x) q l h = finish_with l h (q x)
+rest_read (Err e) q l h = let r = h l.fresh in record { found = tt; only = λ v p. let z = l.only v p in r.only z.0 z.1 }
+
+-- the end of the content is the result
+pub ends : {V : Type 0} {P : V → Type 0} {c : Cursor} {build : Unit {0} → V} {view : Unit {0} → V} {May : Refusal BerError → Type 0} (result : Result (Unit {0}) (Refusal BerError)) → view tt ≡ build tt → Remains P End c build
+    → EndsAt c result → ReadsWhole P view May result
+ends (Ok u) q l h = finish l h q
+ends (Err e) q l h = not_finished l h.0
+
+-- a content that begins an input
+pub at_start : {V : Type 0} (C : Content V) (c : Cursor) {T E : Type 0} {view : T → V} {May : E → Type 0} {r : Rules} {i : List ℕ} {result : Result T E} → StartsAt r i c → ReadsContent C view May c result
+    → ReadsInput r C view May i result
+at_start C c {view = view} {May = May} {i = i} {result = result} s h =
+    subst (λ k. ReadsWhole (C k i) view May result) s.3 (subst (λ w. ReadsWhole (C (rules_of c) w) view May result) s.0 (h s.4))
+
+-- A value that stands for another.
+pub start_as : {V W : Type 0} (f : V → W) {C : Content V} (c : Cursor) → c.implicit ≡ None → Remains (As f C (rules_of c) (octets_left c)) C c f
+unfolding As
+start_as f c fresh = record { fresh = fresh; back = λ w h. (w, h, refl); only = λ v h. h }
+
+pub content_as : {V W : Type 0} (f : V → W) (C : Content V) (c : Cursor) {T U E : Type 0} {view : T → V} {view' : U → W} {May : E → Type 0} {x : T} {y : U} → view' y ≡ f (view x)
+    → ReadsContent {E = E} C view May c (Ok x) → ReadsContent (As f C) view' May c (Ok y)
+content_as f C c q h fresh = finish_with (start_as f c fresh) h q
+
+pub no_content_as : {V W : Type 0} (f : V → W) (C : Content V) (c : Cursor) {T U E : Type 0} {view : T → V} {view' : U → W} {May : E → Type 0} (e : E) {result : Result U E} → IsErrAnd result (λ y. y ≡ e)
+    → ReadsContent {T = T} C view May c (Err e) → ReadsContent (As f C) view' May c result
+no_content_as f C c e n h fresh = stops_with e (start_as f c fresh) h n
+
+pub mapped_read : {V W : Type 0} (f : V → W) (F : Format V) {T U E : Type 0} {view : T → V} {view' : U → W} {May May' : E → Type 0} {old new : Cursor} {x : T} {y : U} → view' y ≡ f (view x)
+    → ReadsField {E = E} (Required F) view May old (Ok x) new → ReadsField (Required (Mapped f F)) view' May' old (Ok y) new
+unfolding Required As
+mapped_read f F {view = view} {x = x} q h fresh = let r = h fresh in record {
+  found = (let z = r.found.0 in (z.0, (view x, z.1, q), z.2), r.found.1);
+  only = λ v rest z. let e = r.only z.1.0 rest (z.0, z.1.1, z.2) in (q ∙ ap f e.0 ∙ sym z.1.2, e.1);
+}
+
+pub not_mapped : {V W : Type 0} (f : V → W) (F : Format V) {T U E : Type 0} {view : T → V} {view' : U → W} {May : E → Type 0} {old new after : Cursor} (e : E) {result : Result U E} → IsErrAnd result (λ y. y ≡ e)
+    → ReadsField {T = T} (Required F) view May old (Err e) new → ReadsField (Required (Mapped f F)) view' May old result after
+unfolding Required As
+not_mapped f F e {result = result} n h fresh =
+    let q = err_from_is_err_and result n in
+    rw (q.1, q.2) (record { found = tt; only = λ v rest z. (h fresh).only z.1.0 rest (z.0, z.1.1, z.2) })

@@ -1,12 +1,11 @@
 -- Elements with a header of two octets.
-use Rattle.std.proofs.Common.{◌≡◌, ℕ, ◌+◌, Bool, List, [], ◌∷◌, ◌++◌, length, refl, sym, ap, ◌∙◌, arith, append_assoc, inl, inr}
+use Rattle.std.proofs.Common.{◌≡◌, ℕ, Bool, List, [], ◌∷◌, ◌++◌, length, refl, sym, ap, ◌∙◌, arith, append_assoc, inl}
 use Rattle.der_base.specs.declared.header.Class.{Class}
 use Rattle.der_base.specs.declared.header.Length.TheVariants.{Definite}
 use Rattle.der_base.specs.declared.rules.Rules.{Rules}
 use Rattle.der_base.specs.declared.rules.Rules.TheVariants.{Ber, Der}
 use Rattle.der_base.specs.Headers.{LeadingHeader, BeginsWithHeader, BeginsWithDerHeader}
-use Rattle.der_base.specs.Octets.{identifier, leading_bits}
-use Rattle.der_base.specs.Rules.{SpellsHeaderBy}
+use Rattle.der_base.specs.Octets.{identifier}
 use Rattle.der_base.proofs.Octets.Identifiers.{identifier_short}
 use Rattle.der_base.proofs.Octets.ShortestLengths.{shortest_short}
 use Rattle.der_cursor.specs.Elements.{IsShortElement, MarkerFollows, SpellsElement}

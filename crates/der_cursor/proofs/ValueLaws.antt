@@ -1,9 +1,9 @@
 -- What a cursor returns for a value, from what it finds and what a reader of content octets returns.
-use Rattle.std.proofs.Common.{◌≡◌, ℕ, Bool, true, false, List, Result, Ok, Err, Bor, refl, sym, ap, subst, ◌∙◌, inl, inr}
+use Rattle.std.proofs.Common.{◌≡◌, ℕ, false, List, Result, Ok, Err, Bor, refl, sym, ap, subst, ◌∙◌, inl, inr}
 use Rattle.der_base.specs.declared.error.Err.TheVariants.{Error}
 use Rattle.der_base.specs.declared.error.Error.{Error as BerError}
 use Rattle.der_base.specs.declared.header.Class.{Class}
-use Rattle.der_base.specs.LeafRefusal.{IsFirstRefusal, NoneHolds}
+use Rattle.der_base.specs.LeafRefusal.{IsFirstRefusal}
 use Rattle.der_base.specs.Refusal.{Refusal as Name}
 use Rattle.der_base.proofs.Answers.Answering.{passed_on}
 use Rattle.der_base.proofs.Answers.Exactness.{ShowsOne, exactly}
@@ -11,7 +11,7 @@ use Rattle.der_base.proofs.Leaves.Refusals.{first_refusal_once, none_refuses}
 use Rattle.der_values.specs.Kinds.{Kind, Decodes}
 use Rattle.der_cursor.specs.declared.cursor.Cursor.{Cursor}
 use Rattle.der_cursor.specs.declared.refusal.Refusal.{Refusal}
-use Rattle.der_cursor.specs.Cursors.{octets_left, rules_of, class_wanted, number_wanted, RefusesAt, LacksAt, FindsPrimitive, Takes}
+use Rattle.der_cursor.specs.Cursors.{octets_left, rules_of, class_wanted, number_wanted, RefusesAt, FindsPrimitive, Takes}
 use Rattle.der_cursor.specs.Cursors.{SpellsValue, ValueRefuses, value_left, ReadsValue}
 use Rattle.der_cursor.specs.Elements.{SpellsElement, ElementRefuses, ElementLacks}
 use Rattle.der_cursor.proofs.CursorLaws.{shows_one_at}

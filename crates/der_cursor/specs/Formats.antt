@@ -1,11 +1,13 @@
 -- Formats: which octets are a value of a type of ASN.1 (X.680) by BER or DER, in words that read beside the ASN.1, and
 -- what a reader of one promises. They are relations between octets and a value.
-use Rattle.std.specs.Prelude.{◌≡◌, ◌≢◌, ℕ, ◌<◌, ◌⊎◌, Bool, true, false, ℤ, Option, Some, None, List, [], ◌∷◌, length}
+use Rattle.std.specs.Prelude.{◌≡◌, ◌≢◌, ℕ, ◌⊎◌, Bool, true, false, ℤ, Option, Some, None, List, [], ◌∷◌}
+use Rattle.std.specs.Borrow.{Bor}
 use Rattle.std.specs.Prelude.{Result, IfOk, MatchResult}
 use Rattle.der_base.specs.declared.any.Any.{Any}
 use Rattle.der_base.specs.declared.error.Err.TheVariants.{OutOfMemory}
+use Rattle.der_base.specs.declared.error.Error.{Error as BerError}
 use Rattle.der_base.specs.declared.header.Class.{Class}
-use Rattle.der_base.specs.declared.header.Class.TheVariants.{Universal, ContextSpecific, Application}
+use Rattle.der_base.specs.declared.header.Class.TheVariants.{Universal, ContextSpecific}
 use Rattle.der_base.specs.declared.rules.Rules.{Rules}
 use Rattle.der_base.specs.declared.rules.Rules.TheVariants.{Der}
 use Rattle.der_base.specs.declared.time.ASN1DateTime.{ASN1DateTime}
@@ -76,6 +78,19 @@ element_of a = (class_of a.header, is_constructed a.header, number_of a.header, 
 unfoldable pub AnyElement : Field Element
 AnyElement r i v rest = SpellsElement r v.0 v.1 v.2 i (v.3, rest)
 
+-- one of these types, and which
+unfoldable pub Choice : {K V : Type 0} → (K → Format V) → Field (K × V)
+Choice F r i v rest = Required (F v.0) r i v.1 rest
+
+-- a field whose value isn't kept
+unfoldable pub Passed : {V : Type 0} → Field V → Field (Unit {0})
+Passed {V} F r i u rest = (v : V) × F r i v rest
+
+infixr 20 ◌⨟◌
+-- a field and the next one
+unfoldable pub ◌⨟◌ : {V W : Type 0} → Field V → Field W → Field (V × W)
+◌⨟◌ F G r i v rest = (between : List ℕ) × F r i v.0 between × G r between v.1 rest
+
 -- Contents.
 
 -- one field, and nothing is left
@@ -95,6 +110,14 @@ End r w v = w ≡ []
 unfoldable pub Each : {V : Type 0} → Field V → Content (List V)
 Each F r w [] = w ≡ []
 Each F r w (v ∷ vs) = (rest : List ℕ) × F r w v rest × Each F r rest vs
+
+-- any elements, which aren't kept
+unfoldable pub Others : Content (Unit {0})
+Others r w u = (v : List (Unit {0})) × Each (Passed AnyElement) r w v
+
+-- a content whose value stands for another
+unfoldable pub As : {V W : Type 0} → (V → W) → Content V → Content W
+As {V} f C r w y = (x : V) × C r w x × (y ≡ f x)
 
 -- whatever follows, which isn't asked
 unfoldable pub Ignored : Content (Unit {0})
@@ -187,6 +210,10 @@ OptionalTime r i None rest = ((¬ IsNext Universal 23 i) × (¬ IsNext Universal
 abbrev pub Limited : {V : Type 0} → (V → Type 0) → Format V → Format V
 Limited P T = record T { content = λ r w v. T.content r w v × P v }
 
+-- a type whose value stands for another
+abbrev pub Mapped : {V W : Type 0} → (V → W) → Format V → Format W
+Mapped f T = record { class = T.class; number = T.number; constructed = T.constructed; content = As f T.content }
+
 -- Readers. `view` takes what is returned to the value that it stands for, and `May` says what of an error is left open.
 
 -- no error is left open
@@ -225,3 +252,20 @@ ReadsContent C view May c result = c.implicit ≡ None → ReadsWhole (C (rules_
 -- a reader of an input
 abbrev pub ReadsInput : {T V E : Type 0} → Rules → Content V → (T → V) → (E → Type 0) → List ℕ → Result T E → Type 0
 ReadsInput r C view May i result = ReadsWhole (C r i) view May result
+
+-- a reader of the field that an input begins with, which returns what follows it
+abbrev pub ReadsFront : {T V E : Type 0} → Rules → Field V → (T → V) → (E → Type 0) → List ℕ
+    → Result (Bor (List ℕ) × T) E → Type 0
+ReadsFront {V = V} r F view May i result =
+    ReadsWhole (λ (v : V × List ℕ). F r i v.0 v.1) (λ x. (view x.1, x.0.now)) May result
+
+-- a cursor is opened over the octets that a content keeps, and reads them by the same rules
+pub record Opens (C : Content (List ℕ)) (c : Cursor) (result : Result Cursor (Refusal BerError)) : Type 0 where
+  pub octets : ReadsContent C octets_left Never c result
+  pub by : IfOk result (λ d. (rules_of d ≡ rules_of c) × (d.implicit ≡ None))
+
+-- which of these types the next element is, if it is of one of them
+pub record TellsNext {K V : Type 0} (F : K → Format V) (c : Cursor) (result : Result K (Refusal BerError))
+    : Type 0 where
+  pub only : (k : K) (w : List ℕ × List ℕ) → SpellsElement (rules_of c) (F k).class (F k).constructed (F k).number
+      (octets_left c) w → MatchResult result (λ x. x ≡ k) Never

@@ -1,6 +1,6 @@
 -- The names of fields that a refusal has.
 use Rattle.std.specs.Borrow.{Bor}
-use Rattle.std.specs.Prelude.{◌≡◌, ℕ, ◌+◌, List, [], ◌∷◌, ◌++◌, take, Result, Ok, Err}
+use Rattle.std.specs.Prelude.{◌≡◌, ℕ, List, [], ◌∷◌, ◌++◌, take, Result, Ok, Err}
 use Rattle.std.specs.Result.{IsErrAnd}
 use Rattle.der_base.specs.declared.error.Error.{Error as BerError}
 use Rattle.der_cursor.specs.declared.named.FieldRefusal.{FieldRefusal}

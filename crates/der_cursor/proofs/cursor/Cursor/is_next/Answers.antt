@@ -1,4 +1,4 @@
-use Rattle.std.proofs.Common.{◌<◌, sym, arith}
+use Rattle.std.proofs.Common.{sym, arith}
 use Rattle.std.proofs.lemmas.Bool.{false≢true}
 use Rattle.der_cursor.specs.Cursors.{octets_left}
 use Rattle.der_cursor.proofs.NextLaws.{next_by_first, none_is_next}

@@ -1,7 +1,7 @@
 use Rattle.std.proofs.Common.{refl, ap, ◌∙◌}
 use Rattle.std.specs.Prelude.{◌-◌}
 use Rattle.der_base.proofs.Answers.Exactness.{exactly}
-use Rattle.der_cursor.specs.Cursors.{octets_left, rules_of, place_of, contents}
+use Rattle.der_cursor.specs.Cursors.{octets_left, rules_of, contents}
 use Rattle.der_cursor.proofs.CursorLaws.{not_opened, shows_one_at}
 use Rattle.der_cursor.proofs.ElementLaws.{element_shows_one}
 use Rattle.der_cursor.proofs.cursor.Cursor.open.Goals as goal
