@@ -3,7 +3,7 @@ use Rattle.std.proofs.Common.{◌≡◌, ℕ, zero, suc, ◌<◌, ◌≤◌, Lis
 use Rattle.std.specs.Prelude.{◌↔◌, OnOk, OnErr, IsOk}
 use Rattle.std.proofs.lemmas.List.{take-append-le}
 
-take_all : {A : Type 0} (k : ℕ) (l : List A) → length l ≤ k → take k l ≡ l
+pub take_all : {A : Type 0} (k : ℕ) (l : List A) → length l ≤ k → take k l ≡ l
 take_all zero [] h = refl
 take_all (suc k) [] h = refl
 take_all zero (x ∷ l) h = absurd (omega (arith, h))

@@ -13,7 +13,7 @@ use Rattle.der_cursor.specs.Elements.{BeginsWithTag}
 use Rattle.der_cursor.proofs.ElementLaws.{apart}
 
 -- a list starts with another where it is that one and a rest
-starts : (b : Bool) (xs p : List ℕ) → b ≡ starts_with nat_eq xs p → IsTrue b ↔ ((rest : List ℕ) × (xs ≡ p ++ rest))
+pub starts : (b : Bool) (xs p : List ℕ) → b ≡ starts_with nat_eq xs p → IsTrue b ↔ ((rest : List ℕ) × (xs ≡ p ++ rest))
 starts true xs p e =
     let front : p ≡ take (length p) xs = same_text p (take (length p) xs) e in
     (λ h. (drop (length p) xs, sym (take-append-drop (length p) xs) ∙ ap (λ y. y ++ drop (length p) xs) (sym front)), λ h. refl)
@@ -52,3 +52,56 @@ tag_long n h k = identifier_long ContextSpecific true n h ∙ ap (λ s. 191 ∷ 
 
 pub tag_longer : (n : ℕ) → 128 ≤ n → n < 256 → identifier ContextSpecific true n ≡ 191 ∷ 129 ∷ (n - 128) ∷ []
 tag_longer n h k = identifier_long ContextSpecific true n (omega arith) ∙ ap (λ s. 191 ∷ s) (groups_two n h k)
+
+-- Numbers of any size, by their groups of seven bits.
+more : (f k : ℕ) (after : List ℕ) → 1 ≤ f → 1 ≤ k → groups_before f k after ≡ groups_before (f - 1) (k / 128) ((128 + k % 128) ∷ after)
+more zero k after h l = absurd (omega (arith, h))
+more (suc f) zero after h l = absurd (omega (arith, l))
+more (suc f) (suc k) after h l =
+    let e : f ≡ suc f - 1 = omega arith in
+    ap (λ m. groups_before m (suc k / 128) ((128 + suc k % 128) ∷ after)) e
+
+all : (f k : ℕ) (after : List ℕ) → k ≡ 0 → groups_before f k after ≡ after
+all f k after h = ap (λ m. groups_before f m after) h ∙ no_group f after
+
+abbrev group : ℕ → ℕ
+group k = 128 + k % 128
+
+abbrev upper : ℕ → ℕ
+upper k = k / 128
+
+abbrev last : ℕ → List ℕ
+last n = (n % 128) ∷ []
+
+pub groups_1 : (n : ℕ) → n < 128 → groups n ≡ last n
+groups_1 n h = all n (upper n) (last n) (omega (arith, h))
+
+pub groups_2 : (n : ℕ) → 128 ≤ n → n < 16384 → groups n ≡ group (upper n) ∷ last n
+groups_2 n h k =
+    more n (upper n) (last n) (omega (arith, h)) (omega (arith, h))
+    ∙ all (n - 1) (upper (upper n)) (group (upper n) ∷ last n) (omega (arith, k))
+
+pub groups_3 : (n : ℕ) → 16384 ≤ n → n < 2097152 → groups n ≡ group (upper (upper n)) ∷ group (upper n) ∷ last n
+groups_3 n h k =
+    more n (upper n) (last n) (omega (arith, h)) (omega (arith, h))
+    ∙ more (n - 1) (upper (upper n)) (group (upper n) ∷ last n) (omega (arith, h)) (omega (arith, h))
+    ∙ all (n - 1 - 1) (upper (upper (upper n))) (group (upper (upper n)) ∷ group (upper n) ∷ last n) (omega (arith, k))
+
+pub groups_4 : (n : ℕ) → 2097152 ≤ n → n < 268435456 → groups n ≡ group (upper (upper (upper n))) ∷ group (upper (upper n)) ∷ group (upper n) ∷ last n
+groups_4 n h k =
+    more n (upper n) (last n) (omega (arith, h)) (omega (arith, h))
+    ∙ more (n - 1) (upper (upper n)) (group (upper n) ∷ last n) (omega (arith, h)) (omega (arith, h))
+    ∙ more (n - 1 - 1) (upper (upper (upper n))) (group (upper (upper n)) ∷ group (upper n) ∷ last n) (omega (arith, h)) (omega (arith, h))
+    ∙ all (n - 1 - 1 - 1) (upper (upper (upper (upper n)))) (group (upper (upper (upper n))) ∷ group (upper (upper n)) ∷ group (upper n) ∷ last n) (omega (arith, k))
+
+pub groups_5 : (n : ℕ) → 268435456 ≤ n → n < 4294967296
+    → groups n ≡ group (upper (upper (upper (upper n)))) ∷ group (upper (upper (upper n))) ∷ group (upper (upper n)) ∷ group (upper n) ∷ last n
+groups_5 n h k =
+    more n (upper n) (last n) (omega (arith, h)) (omega (arith, h))
+    ∙ more (n - 1) (upper (upper n)) (group (upper n) ∷ last n) (omega (arith, h)) (omega (arith, h))
+    ∙ more (n - 1 - 1) (upper (upper (upper n))) (group (upper (upper n)) ∷ group (upper n) ∷ last n) (omega (arith, h)) (omega (arith, h))
+    ∙ more (n - 1 - 1 - 1) (upper (upper (upper (upper n)))) (group (upper (upper (upper n))) ∷ group (upper (upper n)) ∷ group (upper n) ∷ last n) (omega (arith, h)) (omega (arith, h))
+    ∙ all (n - 1 - 1 - 1 - 1) (upper (upper (upper (upper (upper n))))) (group (upper (upper (upper (upper n)))) ∷ group (upper (upper (upper n))) ∷ group (upper (upper n)) ∷ group (upper n) ∷ last n) (omega (arith, k))
+
+pub groups_start : (b : Bool) (xs p : List ℕ) (n : ℕ) → groups n ≡ p → b ≡ starts_with nat_eq xs p → IsTrue b ↔ ((rest : List ℕ) × (xs ≡ groups n ++ rest))
+groups_start b xs p n q e = rw q (starts b xs p e)

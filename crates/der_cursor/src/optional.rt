@@ -1,10 +1,10 @@
 //! Values that may be absent. Each is read iff its identifier octets are next: the class and the number
 //! of its type, or those of an implicit tag. Where they aren't, nothing is read.
-ghost use Rattle.std.specs.Prelude.{◌≡◌, ◌↔◌, ◌<◌, ◌/◌, ◌%◌, IsTrue, pos};
+ghost use Rattle.std.specs.Prelude.{◌≡◌, ◌↔◌, ◌≤◌, ◌+◌, ◌/◌, ◌%◌, ◌++◌, ℕ, List, IsTrue, pos};
 ghost use Rattle.der_base.specs.Numbers.{unsigned};
-ghost use Rattle.der_base.specs.Octets.{class_number};
+ghost use Rattle.der_base.specs.Octets.{class_number, groups};
 ghost use Rattle.der_base.specs.Oids.{octets_of};
-ghost use Rattle.der_cursor.specs.Cursors.{octets_left, number_wanted, IsNextType, ReadsAnyAt, ReadsOptional, ReadsOr};
+ghost use Rattle.der_cursor.specs.Cursors.{octets_left, IsNextType, ReadsAnyAt, ReadsOptional, ReadsOr};
 ghost use Rattle.der_cursor.specs.Cursors.{ReadsTime};
 ghost use Rattle.der_cursor.specs.Elements.{IsNext};
 ghost use Rattle.der_values.specs.Kinds.{bit_strings, booleans, identifiers, integers, numbers, octet_strings};
@@ -21,12 +21,13 @@ use der_base::time::ASN1DateTime;
 use der_values::BitString;
 
 impl<'a> Cursor<'a> {
-    /// Whether the next element has this class and tag number, which is below 31: such a number is in
-    /// the first identifier octet (X.690 8.1.2.2).
+    /// Whether the next element has this class and tag number, by its identifier octets (X.690 8.1.2).
     pub fn is_next(&self, class: Class, tag: Tag) -> bool
-        requires { tag.0 < 31 }
         ensures { IsTrue result ↔ IsNext class tag.0 (octets_left self.now) }
     {
+        if tag.0 >= 31 {
+            return begins_with_long_tag(self.left, class, tag);
+        }
         match self.left.first() {
             Some(octet) => is_identifier(*octet, class, tag),
             None => false,
@@ -35,7 +36,6 @@ impl<'a> Cursor<'a> {
 
     /// Whether the next element is of this type, or of the implicit tag that it has.
     fn is_next_type(&self, tag: Tag) -> bool
-        requires { number_wanted self.now.implicit tag.0 < 31 }
         ensures { IsTrue result ↔ IsNextType tag.0 self.now }
     {
         self.is_next(self.class_wanted(), self.tag_wanted(tag))
@@ -43,7 +43,6 @@ impl<'a> Cursor<'a> {
 
     /// A BOOLEAN, if it is next.
     pub fn optional_boolean(&mut self) -> Result<Option<bool>, Refusal<BerError>>
-        requires { number_wanted self.old.implicit 1 < 31 }
         ensures { ReadsOptional (λ v. v) (booleans self.old.rules) 1 self.old result self.new }
     {
         if !self.is_next_type(Tag::Boolean) {
@@ -58,7 +57,6 @@ impl<'a> Cursor<'a> {
 
     /// The content octets of an INTEGER, if it is next.
     pub fn optional_integer(&mut self) -> Result<Option<&'a [u8]>, Refusal<BerError>>
-        requires { number_wanted self.old.implicit 2 < 31 }
         ensures { ReadsOptional (λ v. v.now) (integers self.old.rules) 2 self.old result self.new }
     {
         if !self.is_next_type(Tag::Integer) {
@@ -73,7 +71,6 @@ impl<'a> Cursor<'a> {
 
     /// The number of an INTEGER from 0 to 2^32-1, if it is next.
     pub fn optional_u32(&mut self) -> Result<Option<u32>, Refusal<BerError>>
-        requires { number_wanted self.old.implicit 2 < 31 }
         ensures { ReadsOptional pos (numbers self.old.rules (unsigned 32)) 2 self.old result self.new }
     {
         if !self.is_next_type(Tag::Integer) {
@@ -88,7 +85,6 @@ impl<'a> Cursor<'a> {
 
     /// The number of an INTEGER from 0 to 2^64-1, if it is next.
     pub fn optional_u64(&mut self) -> Result<Option<u64>, Refusal<BerError>>
-        requires { number_wanted self.old.implicit 2 < 31 }
         ensures { ReadsOptional pos (numbers self.old.rules (unsigned 64)) 2 self.old result self.new }
     {
         if !self.is_next_type(Tag::Integer) {
@@ -103,7 +99,6 @@ impl<'a> Cursor<'a> {
 
     /// The octets of an OCTET STRING, if it is next.
     pub fn optional_octets(&mut self) -> Result<Option<&'a [u8]>, Refusal<BerError>>
-        requires { number_wanted self.old.implicit 4 < 31 }
         ensures { ReadsOptional (λ v. v.now) octet_strings 4 self.old result self.new }
     {
         if !self.is_next_type(Tag::OctetString) {
@@ -118,7 +113,6 @@ impl<'a> Cursor<'a> {
 
     /// The bits of a BIT STRING, if it is next.
     pub fn optional_bits(&mut self) -> Result<Option<BitString<'a>>, Refusal<BerError>>
-        requires { number_wanted self.old.implicit 3 < 31 }
         ensures { ReadsOptional (λ v. (v.unused, v.octets.now)) (bit_strings self.old.rules) 3
             self.old result self.new }
     {
@@ -134,7 +128,6 @@ impl<'a> Cursor<'a> {
 
     /// An OBJECT IDENTIFIER, if it is next.
     pub fn optional_oid(&mut self) -> Result<Option<Oid<'a>>, Refusal<BerError>>
-        requires { number_wanted self.old.implicit 6 < 31 }
         ensures { ReadsOptional (λ x. octets_of x) identifiers 6 self.old result self.new }
     {
         if !self.is_next_type(Tag::Oid) {
@@ -149,7 +142,6 @@ impl<'a> Cursor<'a> {
 
     /// The text of a UTF8String, if it is next.
     pub fn optional_utf8_string(&mut self) -> Result<Option<&'a str>, Refusal<BerError>>
-        requires { number_wanted self.old.implicit 12 < 31 }
         ensures { ReadsOptional (λ v. v.now) (texts 12) 12 self.old result self.new }
     {
         if !self.is_next_type(Tag::Utf8String) {
@@ -164,7 +156,6 @@ impl<'a> Cursor<'a> {
 
     /// The time of a GeneralizedTime, if it is next.
     pub fn optional_generalized_time(&mut self) -> Result<Option<ASN1DateTime>, Refusal<BerError>>
-        requires { number_wanted self.old.implicit 24 < 31 }
         ensures { ReadsOptional (λ v. v) (times self.old.rules 24) 24 self.old result self.new }
     {
         if !self.is_next_type(Tag::GeneralizedTime) {
@@ -180,7 +171,6 @@ impl<'a> Cursor<'a> {
     /// A BOOLEAN with a default, which is its value if it isn't next. By DER a value that is the default
     /// isn't encoded (11.5): BerValueError.
     pub fn boolean_or(&mut self, default: bool) -> Result<bool, Refusal<BerError>>
-        requires { number_wanted self.old.implicit 1 < 31 }
         ensures { ReadsOr (λ v. v) (booleans self.old.rules) 1 default self.old result self.new }
     {
         if !self.is_next_type(Tag::Boolean) {
@@ -202,7 +192,6 @@ impl<'a> Cursor<'a> {
     /// The number of an INTEGER from 0 to 2^32-1 with a default, as `boolean_or`: `version INTEGER DEFAULT
     /// 0` is `u32_or(0)`.
     pub fn u32_or(&mut self, default: u32) -> Result<u32, Refusal<BerError>>
-        requires { number_wanted self.old.implicit 2 < 31 }
         ensures { ReadsOr pos (numbers self.old.rules (unsigned 32)) 2 default self.old result self.new }
     {
         if !self.is_next_type(Tag::Integer) {
@@ -223,7 +212,6 @@ impl<'a> Cursor<'a> {
 
     /// The time of a UTCTime or a GeneralizedTime, as `Time` of RFC 5280 (4.1): the one that is next.
     pub fn time(&mut self) -> Result<ASN1DateTime, Refusal<BerError>>
-        requires { number_wanted self.old.implicit 24 < 31 }
         ensures { ReadsTime self.old result self.new }
     {
         if self.is_next_type(Tag::GeneralizedTime) {
@@ -248,9 +236,48 @@ impl<'a> Cursor<'a> {
     }
 }
 
-/// Whether it is the identifier octet of an element of this class and tag number.
+/// Whether the octets begin with the identifier octets of this class and tag number, which is 31 or more
+/// (8.1.2.4).
+fn begins_with_long_tag(left: &[u8], class: Class, tag: Tag) -> bool
+    requires { 31 ≤ tag.0 }
+    ensures { IsTrue result ↔ IsNext class tag.0 left.now }
+{
+    match left {
+        [first, following @ ..] => {
+            is_identifier(*first, class, Tag(31)) && begins_with_groups(following, tag.0)
+        }
+        [] => false,
+    }
+}
+
+/// Whether the octets begin with the fewest groups of seven bits that spell the number, each but the
+/// last with the high bit (8.1.2.4.2).
+fn begins_with_groups(octets: &[u8], n: u32) -> bool
+    ensures { IsTrue result ↔ ((rest : List ℕ) × (octets.now ≡ groups n ++ rest)) }
+{
+    let last = (n % 128) as u8;
+    let a = group(n / 128);
+    let b = group(n / 128 / 128);
+    let c = group(n / 128 / 128 / 128);
+    let d = group(n / 128 / 128 / 128 / 128);
+    match n {
+        0..0x80 => octets.starts_with(&[last]),
+        0x80..0x4000 => octets.starts_with(&[a, last]),
+        0x4000..0x20_0000 => octets.starts_with(&[b, a, last]),
+        0x20_0000..0x1000_0000 => octets.starts_with(&[c, b, a, last]),
+        _ => octets.starts_with(&[d, c, b, a, last]),
+    }
+}
+
+/// The octet of the last seven bits of a number, with the high bit.
+fn group(n: u32) -> u8
+    ensures { result ≡ 128 + n % 128 }
+{
+    128 + (n % 128) as u8
+}
+
+/// Whether the octet has this class, and this number in its last five bits (8.1.2.2).
 fn is_identifier(octet: u8, class: Class, tag: Tag) -> bool
-    requires { tag.0 < 31 }
     ensures { IsTrue result ↔ ((octet / 64 ≡ class_number class) × (octet % 32 ≡ tag.0)) }
 {
     class_of(octet) == class && u32::from(octet % 32) == tag.0
