@@ -1,7 +1,7 @@
 //! The values of extensions, as openssl writes them for `basicConstraints=critical,CA:TRUE,pathlen:3`,
 //! `keyUsage=critical,digitalSignature,keyCertSign,cRLSign,decipherOnly` and
 //! `authorityKeyIdentifier=keyid:always,issuer:always`, and values that aren't by DER.
-use der_x509::{
+use der_extensions::{
     read_authority_key_identifier, read_basic_constraints, read_key_usage,
     read_subject_key_identifier,
 };

@@ -1,5 +1,4 @@
 pub mod CertificateLaws
-pub mod ExtensionLaws
 pub mod FormatLaws
 pub mod ListLaws
 pub mod ReaderLaws

@@ -1,5 +1,4 @@
 pub mod Certificates
-pub mod ExtensionValues
 pub mod Formats
 pub mod Lists
 pub mod Readers

@@ -2,13 +2,9 @@
 #![tactic(auto)]
 
 mod algorithm;
-mod basic_constraints;
 mod certificate;
 mod display;
 mod extension;
-pub mod extension_identifiers;
-mod key_identifiers;
-mod key_usage;
 mod lists;
 mod name;
 mod refusal;
@@ -16,13 +12,8 @@ mod rules;
 mod time;
 
 pub use algorithm::{AlgorithmIdentifier, SubjectPublicKeyInfo};
-pub use basic_constraints::{BasicConstraints, read_basic_constraints};
 pub use certificate::{Certificate, TbsCertificate, Version, read_certificate};
 pub use extension::{Extension, Extensions};
-pub use key_identifiers::{
-    AuthorityKeyIdentifier, read_authority_key_identifier, read_subject_key_identifier,
-};
-pub use key_usage::{KeyUsage, read_key_usage};
 pub use lists::{Attributes, ExtensionIter, RelativeNames};
 pub use name::{AttributeTypeAndValue, Name, RelativeDistinguishedName};
 pub use refusal::{CertificateRefusal, Field};

@@ -1,9 +1,10 @@
 //! The lines that describe a certificate.
 use crate::contents::Contents;
 use crate::values::{GeneralName, Value};
+use der_extensions::BasicConstraints;
 use der_parser::ber::ASN1DateTime;
 use der_parser::values::BitString;
-use der_x509::{BasicConstraints, Extension, Version};
+use der_x509::{Extension, Version};
 use std::fmt;
 use std::net::IpAddr;
 

@@ -1,10 +1,11 @@
 //! What three extensions say (RFC 5280 4.2.1).
+use der_extensions::{BasicConstraints, read_basic_constraints};
 use der_parser::ber::{Class, Tag};
 use der_parser::cursor::{Cursor, FieldRefusal, Named, Refusal};
 use der_parser::error::BerError;
 use der_parser::oid::Oid;
 use der_parser::values::BitString;
-use der_x509::{BasicConstraints, Extension, Extensions, read_basic_constraints};
+use der_x509::{Extension, Extensions};
 use std::alloc::Global;
 
 /// What an extension says.

@@ -1,7 +1,7 @@
 //! Whether the subject is an authority (RFC 5280 4.2.1.9).
 ghost use Rattle.der_base.specs.declared.rules.Rules.{Rules};
 ghost use Rattle.der_cursor.specs.Formats.{Never, Only, ReadsField, ReadsInput, Required};
-ghost use Rattle.der_x509.specs.ExtensionValues.{BasicConstraints as ConstraintsFormat, constraints_of};
+ghost use Rattle.der_extensions.specs.Extensions.{BasicConstraints as ConstraintsFormat, constraints_of};
 
 use der_base::error::BerError;
 use der_cursor::{Cursor, Refusal};

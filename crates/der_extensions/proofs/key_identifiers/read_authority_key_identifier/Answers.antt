@@ -1,5 +1,5 @@
 use Rattle.der_cursor.proofs.Sequences.{input_left, input_read, input_stops}
-use Rattle.der_x509.proofs.key_identifiers.read_authority_key_identifier.Goals as goal
+use Rattle.der_extensions.proofs.key_identifiers.read_authority_key_identifier.Goals as goal
 
 pub returns-in_err-authority : goal.returns-in_err-authority
 returns-in_err-authority c = input_stops c.new-input.ensures c.in_err-authority.ensures c.from_residual.ensures.1

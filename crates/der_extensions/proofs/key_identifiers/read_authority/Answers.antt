@@ -1,7 +1,7 @@
 use Rattle.std.proofs.Common.{refl}
 use Rattle.der_cursor.proofs.FormatLaws.{inside, tagged_octets}
 use Rattle.der_cursor.proofs.Sequences.{after, finish, left_over, refused_open, start, stops}
-use Rattle.der_x509.proofs.key_identifiers.read_authority.Goals as goal
+use Rattle.der_extensions.proofs.key_identifiers.read_authority.Goals as goal
 
 pub returns-in_err-fields : goal.returns-in_err-fields
 returns-in_err-fields c = refused_open _ _ c.in_err-fields.ensures c.from_residual.ensures.1

@@ -4,7 +4,7 @@ ghost use Rattle.der_base.specs.declared.rules.Rules.{Rules};
 ghost use Rattle.der_cursor.specs.Formats.{Never, Only, ReadsField, ReadsInput, Required};
 ghost use Rattle.der_values.specs.Kinds.{is_bit_set};
 ghost use Rattle.der_x509.specs.Certificates.{bits_of};
-ghost use Rattle.der_x509.specs.ExtensionValues.{KeyUsage as UsageFormat, EndsInOne, usage_of};
+ghost use Rattle.der_extensions.specs.Extensions.{KeyUsage as UsageFormat, EndsInOne, usage_of};
 
 use der_base::error::BerError;
 use der_cursor::{Cursor, Refusal};

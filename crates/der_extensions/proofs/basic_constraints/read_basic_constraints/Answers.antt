@@ -1,5 +1,5 @@
 use Rattle.der_cursor.proofs.Sequences.{input_left, input_read, input_stops}
-use Rattle.der_x509.proofs.basic_constraints.read_basic_constraints.Goals as goal
+use Rattle.der_extensions.proofs.basic_constraints.read_basic_constraints.Goals as goal
 
 pub returns-in_err-constraints : goal.returns-in_err-constraints
 returns-in_err-constraints c = input_stops c.new-input.ensures c.in_err-constraints.ensures c.from_residual.ensures.1

@@ -5,9 +5,9 @@ use Rattle.der_base.specs.Numbers.{unsigned}
 use Rattle.der_cursor.specs.Formats.{Format, Optional, Default, ◌⨾◌, End, Sequence, Boolean, Number}
 use Rattle.der_cursor.specs.Formats.{BitString, Limited, OptionalTagged, Implicit, Integer, OctetString, Octets}
 use Rattle.der_cursor.specs.Cursors.{octets_left}
-use Rattle.der_x509.specs.declared.key_identifiers.AuthorityKeyIdentifier.{AuthorityKeyIdentifier as AuthorityStruct}
-use Rattle.der_x509.specs.declared.basic_constraints.BasicConstraints.{BasicConstraints as ConstraintsStruct}
-use Rattle.der_x509.specs.declared.key_usage.KeyUsage.{KeyUsage as UsageStruct}
+use Rattle.der_extensions.specs.declared.basic_constraints.BasicConstraints as constraints
+use Rattle.der_extensions.specs.declared.key_identifiers.AuthorityKeyIdentifier as authority
+use Rattle.der_extensions.specs.declared.key_usage.KeyUsage.{KeyUsage as UsageStruct}
 use Rattle.der_x509.specs.Certificates.{bits_of}
 
 abbrev pub ConstraintsValue : Type 0
@@ -21,7 +21,7 @@ BasicConstraints = Sequence (
     ⨾ (Optional (Number (unsigned 32))  -- pathLenConstraint       INTEGER (0..MAX) OPTIONAL }
     ⨾ End))
 
-abbrev pub constraints_of : ConstraintsStruct → ConstraintsValue
+abbrev pub constraints_of : constraints.BasicConstraints → ConstraintsValue
 constraints_of x = (x.ca, (option_map pos x.path_length, tt))
 
 -- there is a last bit, and it is 1
@@ -50,7 +50,7 @@ AuthorityKeyIdentifier = Sequence (
     ⨾ (Optional (Implicit 2 Integer)  -- authorityCertSerialNumber [2] IMPLICIT INTEGER OPTIONAL }
     ⨾ End)))
 
-abbrev pub authority_of : AuthorityStruct → AuthorityValue
+abbrev pub authority_of : authority.AuthorityKeyIdentifier → AuthorityValue
 authority_of x = (
   option_map (λ v. v.now) x.key_identifier,
   (

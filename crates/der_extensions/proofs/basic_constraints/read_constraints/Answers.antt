@@ -3,7 +3,7 @@ use Rattle.der_base.specs.Numbers.{unsigned}
 use Rattle.der_values.specs.Kinds.{numbers}
 use Rattle.der_cursor.proofs.FormatLaws.{boolean_or_read, inside, optional_read}
 use Rattle.der_cursor.proofs.Sequences.{after, finish, left_over, refused_open, start, stops}
-use Rattle.der_x509.proofs.basic_constraints.read_constraints.Goals as goal
+use Rattle.der_extensions.proofs.basic_constraints.read_constraints.Goals as goal
 
 pub returns-in_err-fields : goal.returns-in_err-fields
 returns-in_err-fields c = refused_open _ _ c.in_err-fields.ensures c.from_residual.ensures.1

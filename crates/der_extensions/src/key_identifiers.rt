@@ -3,7 +3,7 @@ ghost use Rattle.std.specs.Option.{option_map};
 ghost use Rattle.der_base.specs.declared.rules.Rules.{Rules};
 ghost use Rattle.der_cursor.specs.Formats.{Implicit, Integer, Never, OctetString, Only, Optional};
 ghost use Rattle.der_cursor.specs.Formats.{ReadsField, ReadsInput, Required};
-ghost use Rattle.der_x509.specs.ExtensionValues.{AuthorityKeyIdentifier as AuthorityFormat, authority_of};
+ghost use Rattle.der_extensions.specs.Extensions.{AuthorityKeyIdentifier as AuthorityFormat, authority_of};
 
 use der_base::error::BerError;
 use der_cursor::{Cursor, Refusal};

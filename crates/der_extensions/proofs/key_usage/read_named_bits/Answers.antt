@@ -2,7 +2,7 @@ use Rattle.std.proofs.Common.{rules}
 use Rattle.std.proofs.lemmas.Result.{err_from_is_err_and}
 use Rattle.der_values.specs.Kinds.{bit_strings}
 use Rattle.der_cursor.proofs.FormatLaws.{limited_read, limited_stops, not_limited, value_read}
-use Rattle.der_x509.proofs.key_usage.read_named_bits.Goals as goal
+use Rattle.der_extensions.proofs.key_usage.read_named_bits.Goals as goal
 
 pub returns-in_err-bits : goal.returns-in_err-bits
 returns-in_err-bits c =

@@ -1,8 +1,8 @@
 use Rattle.std.proofs.Common.{refl}
 use Rattle.der_cursor.proofs.Sequences.{input_left, input_read, input_stops}
-use Rattle.der_x509.proofs.ExtensionLaws.{wrapped}
-use Rattle.der_x509.specs.ExtensionValues.{usage_of}
-use Rattle.der_x509.proofs.key_usage.read_key_usage.Goals as goal
+use Rattle.der_extensions.proofs.ExtensionLaws.{wrapped}
+use Rattle.der_extensions.specs.Extensions.{usage_of}
+use Rattle.der_extensions.proofs.key_usage.read_key_usage.Goals as goal
 
 pub returns-in_err-bits : goal.returns-in_err-bits
 returns-in_err-bits c = input_stops c.new-input.ensures c.in_err-bits.ensures c.from_residual.ensures.1

@@ -1,7 +1,7 @@
 use Rattle.der_values.specs.Kinds.{octet_strings}
 use Rattle.der_cursor.proofs.FormatLaws.{value_read}
 use Rattle.der_cursor.proofs.Sequences.{input_left, input_read, input_stops}
-use Rattle.der_x509.proofs.key_identifiers.read_subject_key_identifier.Goals as goal
+use Rattle.der_extensions.proofs.key_identifiers.read_subject_key_identifier.Goals as goal
 
 pub returns-in_err-identifier : goal.returns-in_err-identifier
 returns-in_err-identifier c = input_stops c.new-input.ensures (value_read (λ r. octet_strings) c.in_err-identifier.ensures) c.from_residual.ensures.1
