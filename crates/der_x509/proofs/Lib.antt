@@ -1,4 +1,5 @@
 pub mod CertificateLaws
+pub mod ExactLaws
 pub mod FormatLaws
 pub mod ListLaws
 pub mod ReaderLaws

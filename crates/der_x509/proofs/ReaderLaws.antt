@@ -21,14 +21,14 @@ use Rattle.der_cursor.specs.declared.cursor.Cursor.{Cursor}
 use Rattle.der_cursor.specs.declared.refusal.Refusal.{Refusal}
 use Rattle.der_cursor.specs.Cursors.{octets_left, end_of, is_inside, place_of, rules_of, advanced, refusal_at, RefusesAt, LacksAt, OpensAt, OpensType, OpensTagged, EndsAt}
 use Rattle.der_cursor.specs.Cursors.{ReadsValue, ReadsOptional, ReadsOr, ReadsAnyAt, IsTagged, class_wanted, number_wanted, contents}
-use Rattle.der_cursor.specs.Elements.{SpellsElement, ElementRefuses, IsNext, marker_size}
+use Rattle.der_cursor.specs.Elements.{SpellsElement, ElementRefuses, marker_size}
 use Rattle.der_values.specs.Kinds.{Kind, booleans}
 use Rattle.der_x509.specs.declared.refusal.CertificateRefusal.{CertificateRefusal}
 use Rattle.der_x509.specs.declared.refusal.Field.{Field}
 use Rattle.der_x509.specs.Certificates.{boolean_or_false, element_of, last_any}
 use Rattle.der_x509.specs.Formats.{Fault, FieldFault, Format, Items, Spot, IsReason, ◌>>=◌, any, done, each, either, element, end_of_content, explicit_or, inside, list_of, more, named, none}
 use Rattle.der_x509.specs.Formats.{optional_implicit, primitive, requiring, some_octets, with_octets, content_at, fault_at, left_at, refuses, spells}
-use Rattle.der_x509.specs.Readers.{IsPlain, IsShorter, NamesField, Reads, ReadsBy, ReadsToEnd, ReadsWhole, fault_of, field_fault, reason_named, spot_of}
+use Rattle.der_x509.specs.Readers.{IsPlain, IsShorter, NamesBy, NamesField, Reads, ReadsBy, ReadsToEnd, ReadsWhole, certificate_refusal, fault_of, field_fault, reason_named, spot_of}
 
 -- a cursor that reads by DER, and one that said no implicit tag
 abbrev pub der : Cursor → Cursor
@@ -267,28 +267,40 @@ optional_read {value = value} k n t {old} {tagged} {new} {result} g r = record {
       (subst (λ c. ReadsOptional value (k (rules_of c)) t c result new) g r);
 }
 
--- the field of a value
-named_to : {T V : Type 0} (view : T → V) (f : Format Fault V) (old new : Cursor) (n : Field) (found : Result T (Refusal BerError)) (result : Result T CertificateRefusal)
-    → NamesField n found result → Reads fault_of view f old found new → Reads field_fault view (named n f) old result new
-named_to view f old new n (Ok x) result e r = subst (λ z. Reads field_fault view (named n f) old z new) (sym e) r
-named_to view f old new n (Err x) result e r = subst (λ z. Reads field_fault view (named n f) old z new) (sym e) (fault_of x, r, refl)
+-- the field of a value, where `at` makes its refusals
+module _ {N X : Type 0} (fault : X → N × Fault) (at : N → Refusal BerError → X) (same : (n : N) (e : Refusal BerError) → fault (at n e) ≡ (n, fault_of e)) where
+  named_to : {T V : Type 0} (view : T → V) (f : Format Fault V) (old new : Cursor) (n : N) (found : Result T (Refusal BerError)) (result : Result T X)
+      → NamesBy at n found result → Reads fault_of view f old found new → Reads fault view (named n f) old result new
+  named_to view f old new n (Ok x) result e r = subst (λ z. Reads fault view (named n f) old z new) (sym e) r
+  named_to view f old new n (Err x) result e r = subst (λ z. Reads fault view (named n f) old z new) (sym e) (fault_of x, r, same n x)
 
+  pub named_by : {T V : Type 0} {view : T → V} {f : Format Fault V} {old new : Cursor} (n : N) (found : Result T (Refusal BerError)) {result : Result T X}
+      → NamesBy at n found result → ReadsBy fault_of view f old found new → ReadsBy fault view (named n f) old result new
+  named_by {view = view} {f = f} {old = old} {new = new} n found {result} e a = record { reads = λ h. named_to view f old new n found result e (a.reads h) }
+
+  found_by : {T : Type 0} (n : N) (found : Result T (Refusal BerError)) (x : T) → NamesBy at n found (Ok x) → found ≡ Ok x
+  found_by n (Ok y) x e = let q : y ≡ x = cc in ap (λ z. Ok z) q
+  found_by n (Err y) x e = let q : ⊥ = cc in absurd q
+
+  -- what follows an element that was opened, of a field
+  pub opened_by : (n : N) (p : Bool) (t : ℕ) {T V : Type 0} {view : T → V} {k : List ℕ → Format (N × Fault) V} {old inner mid new : Cursor} {result : Result T X}
+      (found : Result Cursor (Refusal BerError)) → NamesBy at n found (Ok inner) → OpensType p t old found mid
+      → (IsContent inner mid → ReadsBy fault view (k (octets_left inner)) mid result new)
+      → ReadsBy fault view (named n (element Universal p t) >>= k) old result new
+  opened_by n p t {k = k} {old = old} {inner = inner} {mid = mid} found e o a =
+      let o' = subst (λ r. OpensType p t old r mid) (found_by n found inner e) o in
+      record { reads = λ h. (step {k = k} (named_by n (Ok inner) refl (type_read p t o')) (a (content_of_type p t o' h))).reads h }
+
+-- the same of a field of a certificate
 pub named_read : {T V : Type 0} {view : T → V} {f : Format Fault V} {old new : Cursor} (n : Field) (found : Result T (Refusal BerError)) {result : Result T CertificateRefusal}
     → NamesField n found result → ReadsBy fault_of view f old found new → ReadsBy field_fault view (named n f) old result new
-named_read {view = view} {f = f} {old = old} {new = new} n found {result} e a = record { reads = λ h. named_to view f old new n found result e (a.reads h) }
+named_read n found e a = named_by field_fault certificate_refusal (λ n e. refl) n found e a
 
-pub found_ok : {T : Type 0} (n : Field) (found : Result T (Refusal BerError)) (x : T) → NamesField n found (Ok x) → found ≡ Ok x
-found_ok n (Ok y) x e = let q : y ≡ x = cc in ap (λ z. Ok z) q
-found_ok n (Err y) x e = let q : ⊥ = cc in absurd q
-
--- what follows an element that was opened, of a field
 pub opened_field : (n : Field) (p : Bool) (t : ℕ) {T V : Type 0} {view : T → V} {k : List ℕ → Format FieldFault V} {old inner mid new : Cursor} {result : Result T CertificateRefusal}
     (found : Result Cursor (Refusal BerError)) → NamesField n found (Ok inner) → OpensType p t old found mid
     → (IsContent inner mid → ReadsBy field_fault view (k (octets_left inner)) mid result new)
     → ReadsBy field_fault view (named n (element Universal p t) >>= k) old result new
-opened_field n p t {k = k} {old = old} {inner = inner} {mid = mid} found e o a =
-    let o' = subst (λ r. OpensType p t old r mid) (found_ok n found inner e) o in
-    record { reads = λ h. (step {k = k} (named_read n (Ok inner) refl (type_read p t o')) (a (content_of_type p t o' h))).reads h }
+opened_field n p t found e o a = opened_by field_fault certificate_refusal (λ n e. refl) n p t found e o a
 
 -- an element is some octets
 element_less : (r : Rules) (c : Class) (p : Bool) (t : ℕ) (i : List ℕ) (v : List ℕ × List ℕ) → SpellsElement r c p t i v → length v.1 < length i
@@ -299,6 +311,10 @@ element_less Der c p t i v s =
 
 pub opened_shorter : (k : Class) (p : Bool) (t : ℕ) {old inner new : Cursor} → OpensAt k p t old (Ok inner) new → IsShorter old new
 opened_shorter k p t {old} {inner} {new} o = element_less (rules_of old) k p t (octets_left old) (octets_left inner, octets_left new) o.element.found
+
+-- so is one of any type
+pub any_shorter : {old new : Cursor} {x : Any} → ReadsAnyAt old (Ok x) new → IsShorter old new
+any_shorter {old} {new} {x} a = element_less (rules_of old) (element_of x).class (element_of x).constructed (element_of x).number (octets_left old) ((element_of x).content, octets_left new) a.any_read.found
 
 pub type_shorter : (p : Bool) (t : ℕ) {old inner new : Cursor} → OpensType p t old (Ok inner) new → IsShorter old new
 type_shorter p t {old} o = opened_shorter (class_wanted old.implicit) p (number_wanted old.implicit t) o
@@ -449,8 +465,13 @@ element_taken c p t i w rest s =
     let b = element_front c p t i w rest s in
     b.1 ∙ ap (λ x. x ++ rest) (sym (front_of i b.0 rest b.1))
 
+-- the same of an element of a field
+module _ {N X : Type 0} (fault : X → N × Fault) (at : N → Refusal BerError → X) (same : (n : N) (e : Refusal BerError) → fault (at n e) ≡ (n, fault_of e)) where
+  pub shorter_by : (n : N) (p : Bool) (t : ℕ) (inner : Cursor) {old mid : Cursor} (found : Result Cursor (Refusal BerError)) → NamesBy at n found (Ok inner) → OpensType p t old found mid → IsShorter old mid
+  shorter_by n p t inner {old = old} {mid = mid} found e o = type_shorter p t (subst (λ r. OpensType p t old r mid) (found_by fault at same n found inner e) o)
+
 pub shorter_field : (n : Field) (p : Bool) (t : ℕ) (inner : Cursor) {old mid : Cursor} (found : Result Cursor (Refusal BerError)) → NamesField n found (Ok inner) → OpensType p t old found mid → IsShorter old mid
-shorter_field n p t inner {old = old} {mid = mid} found e o = type_shorter p t (subst (λ r. OpensType p t old r mid) (found_ok n found inner e) o)
+shorter_field n p t inner found e o = shorter_by field_fault certificate_refusal (λ n e. refl) n p t inner found e o
 
 -- a cursor that was lent is afterwards what its borrower left
 pub given_back : {X E T V : Type 0} {fault : X → E} {view : T → V} {f : Format E V} {old new after : Cursor} {result : Result T X} → ReadsBy fault view f old result new → after ≡ new

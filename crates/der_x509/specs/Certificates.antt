@@ -1,6 +1,6 @@
 -- Certificates, as the ASN.1 of RFC 5280 writes them (4.1 and appendix A.1), in DER. Each line has its ASN.1 beside it.
 use Rattle.std.specs.Prelude.{◌≡◌, ◌≢◌, ℕ, ◌⊎◌, ℤ, pos, negsuc, ◌==◌, if◌then◌else◌, Bool, false}
-use Rattle.std.specs.Prelude.{Option, List, [], Result, MatchResult}
+use Rattle.std.specs.Prelude.{Option, List, [], Result}
 use Rattle.std.specs.Option.{option_map}
 use Rattle.der_base.specs.declared.any.Any.{Any}
 use Rattle.der_base.specs.declared.header.Class.TheVariants.{Universal}
@@ -27,11 +27,10 @@ use Rattle.der_x509.specs.declared.time.Time.{Time}
 use Rattle.der_x509.specs.declared.time.Time.TheVariants.{Generalized, Utc}
 use Rattle.der_x509.specs.declared.time.Validity.{Validity}
 use Rattle.der_x509.specs.Formats.{Fault, FieldFault, Format, Element, ◌>>=◌, any, done, either, end_of_content}
-use Rattle.der_x509.specs.Formats.{refuses, spells}
 use Rattle.der_x509.specs.Formats.{explicit_or, inside, list_of, named, optional_implicit, primitive}
 use Rattle.der_x509.specs.Formats.{requiring, sequence, set}
-use Rattle.der_x509.specs.Formats.{some_octets, start, with_octets, wrong_at}
-use Rattle.der_x509.specs.Readers.{field_fault}
+use Rattle.der_x509.specs.Formats.{some_octets, with_octets, wrong_at}
+use Rattle.der_x509.specs.Readers.{ReadsExactly, field_fault}
 
 -- the octets of an element of any type, or none, to the end of the content
 abbrev pub last_any : Format Fault (List ℕ)
@@ -271,14 +270,6 @@ certificate_of c = record {
   signature = bits_of c.signature_value;
 }
 
--- A reader returns a certificate exactly where the octets are one, with its fields; else the first fault, and that is
--- the only one.
-pub record ReadsCertificate (i : List ℕ) (result : Result Certificate CertificateRefusal) : Type 0 where
-  -- what is returned is so
-  pub found : MatchResult result (λ c. spells whole_certificate i (certificate_of c) [])
-      (λ e. refuses whole_certificate (start i) (field_fault e))
-  -- what is so is returned
-  pub only : (c : Signed) → spells whole_certificate i c [] → MatchResult result (λ x. certificate_of x ≡ c) (λ e. ⊥)
-  -- and so is what is wrong
-  pub refuses : (e : FieldFault) → refuses whole_certificate (start i) e
-      → MatchResult result (λ x. ⊥) (λ x. field_fault x ≡ e)
+-- A reader returns a certificate exactly where the octets are one; else the first fault.
+abbrev pub ReadsCertificate : List ℕ → Result Certificate CertificateRefusal → Type 0
+ReadsCertificate i result = ReadsExactly field_fault certificate_of whole_certificate i result

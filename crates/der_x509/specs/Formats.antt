@@ -52,7 +52,7 @@ pub record Fault : Type 0 where
 abbrev pub fault_at : Spot → Reason → Fault
 fault_at s x = record { offset = place_at s; list_end = list_end s.inside s.end; reason = x }
 
--- the field, and what is wrong with it
+-- the field of a certificate, and what is wrong with it
 abbrev pub FieldFault : Type 0
 FieldFault = Field × Fault
 
@@ -103,7 +103,7 @@ pub data Format : Type 0 → Type 0 → Type 1 where
   -- Items one after another, to the end of the octets. Each may depend on a state, which the one before left.
   items : {E S : Type 0} → (S → Format E S) → S → Format E S
   -- the faults are those of this field
-  named : {V : Type 0} → Field → Format Fault V → Format FieldFault V
+  named : {N V : Type 0} → N → Format Fault V → Format (N × Fault) V
 
 -- items one after another: what one of them says of a state, the octets, the state after it, and the octets after it
 pub data Items {S : Type 0} (Item : S → List ℕ → S → List ℕ → Type 0) : S → List ℕ → S → List ℕ → Type 0 where

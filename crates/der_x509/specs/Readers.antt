@@ -1,5 +1,5 @@
 -- What a reader promises: it returns exactly what a format says of the octets.
-use Rattle.std.specs.Prelude.{◌≡◌, ℕ, ◌<◌, None, List, length, Result, Ok, Err, MatchResult}
+use Rattle.std.specs.Prelude.{◌≡◌, ℕ, ◌<◌, None, List, [], length, Result, Ok, Err, MatchResult}
 use Rattle.der_base.specs.declared.error.Err.{Err as Refused}
 use Rattle.der_base.specs.declared.error.Err.TheVariants.{Incomplete, Error}
 use Rattle.der_base.specs.declared.error.Error.{Error as BerError}
@@ -11,7 +11,8 @@ use Rattle.der_cursor.specs.declared.refusal.Refusal.{Refusal}
 use Rattle.der_cursor.specs.Cursors.{octets_left, end_of, is_inside, rules_of, advanced}
 use Rattle.der_x509.specs.declared.refusal.CertificateRefusal.{CertificateRefusal}
 use Rattle.der_x509.specs.declared.refusal.Field.{Field}
-use Rattle.der_x509.specs.Formats.{Fault, FieldFault, Format, Reason, Spot, refuses, spells, wrong, lacking, unnamed}
+use Rattle.der_x509.specs.Formats.{Fault, FieldFault, Format, Reason, Spot, refuses, spells, start, wrong, lacking}
+use Rattle.der_x509.specs.Formats.{unnamed}
 
 -- what a refusal says
 abbrev pub reason_named : Refused BerError → Reason
@@ -52,10 +53,29 @@ module _ {X E T V : Type 0} (fault : X → E) (view : T → V) (f : Format E V) 
   pub record ReadsToEnd (result : Result T X) : Type 0 where
     pub reads_whole : IsPlain old → ReadsWhole result
 
--- the value is the same, or its refusal is one of this field
+-- the value is the same, or its refusal is one of this field, as `at` makes it
+abbrev pub NamesBy : {N X T : Type 0} → (N → Refusal BerError → X) → N → Result T (Refusal BerError) → Result T X
+    → Type 0
+NamesBy at n (Ok x) result = result ≡ Ok x
+NamesBy at n (Err e) result = result ≡ Err (at n e)
+
+-- the same of a field of a certificate
+abbrev pub certificate_refusal : Field → Refusal BerError → CertificateRefusal
+certificate_refusal n e = record { field = n; refusal = e }
+
 abbrev pub NamesField : {T : Type 0} → Field → Result T (Refusal BerError) → Result T CertificateRefusal → Type 0
-NamesField n (Ok x) result = result ≡ Ok x
-NamesField n (Err e) result = result ≡ Err (record { field = n; refusal = e })
+NamesField n found result = NamesBy certificate_refusal n found result
+
+-- A reader of an input returns a value exactly where the octets are one of the format, with its fields; else the first
+-- fault, and that is the only one.
+module _ {X E T V : Type 0} (fault : X → E) (view : T → V) (f : Format E V) (i : List ℕ) where
+  pub record ReadsExactly (result : Result T X) : Type 0 where
+    -- what is returned is so
+    pub found : MatchResult result (λ x. spells f i (view x) []) (λ e. refuses f (start i) (fault e))
+    -- what is so is returned
+    pub only : (v : V) → spells f i v [] → MatchResult result (λ x. view x ≡ v) (λ e. ⊥)
+    -- and so is what is wrong
+    pub refuses : (e : E) → refuses f (start i) e → MatchResult result (λ x. ⊥) (λ x. fault x ≡ e)
 
 -- fewer octets are left
 abbrev pub IsShorter : Cursor → Cursor → Type 0

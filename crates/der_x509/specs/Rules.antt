@@ -1,6 +1,6 @@
 -- The rules of RFC 5280 that its ASN.1 doesn't say, and reading with them.
-use Rattle.std.specs.Prelude.{◌≡◌, ◌≢◌, ℕ, ◌<◌, ◌⊎◌, ℤ, pos, ◌<ℤ◌, Option, None, List, [], ◌∷◌, length}
-use Rattle.std.specs.Prelude.{Result, MatchResult, Ok, Err}
+use Rattle.std.specs.Prelude.{◌≡◌, ◌≢◌, ℕ, ◌<◌, ◌⊎◌, pos, ◌<ℤ◌, None, List, [], ◌∷◌, length}
+use Rattle.std.specs.Prelude.{Result, MatchResult}
 use Rattle.der_base.specs.Octets.{integer_value}
 use Rattle.der_x509.specs.declared.certificate.Certificate.{Certificate}
 use Rattle.der_x509.specs.declared.certificate.Version.TheVariants.{V1, V3}

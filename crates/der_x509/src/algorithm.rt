@@ -29,7 +29,7 @@ pub struct SubjectPublicKeyInfo<'a> {
 }
 
 /// Reads an AlgorithmIdentifier.
-pub(crate) fn read_algorithm<'a>(
+pub fn read_algorithm<'a>(
     fields: &mut Cursor<'a>,
 ) -> Result<AlgorithmIdentifier<'a>, Refusal<BerError>>
     ensures { ReadsBy fault_of algorithm_of algorithm_identifier fields.old result fields.new }
@@ -56,7 +56,7 @@ fn read_parameters(mut parts: Cursor<'_>) -> Result<(), Refusal<BerError>>
 }
 
 /// Reads a SubjectPublicKeyInfo.
-pub(crate) fn read_key_info<'a>(
+pub fn read_key_info<'a>(
     fields: &mut Cursor<'a>,
 ) -> Result<SubjectPublicKeyInfo<'a>, Refusal<BerError>>
     ensures { ReadsBy fault_of key_info_of subject_public_key_info fields.old result fields.new }

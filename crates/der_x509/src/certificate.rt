@@ -98,7 +98,7 @@ fn read_tbs<'a>(parts: &mut Cursor<'a>) -> Result<TbsCertificate<'a>, Certificat
     let subject_public_key_info = Field::SubjectPublicKeyInfo.of(read_key_info(&mut fields))?;
     let issuer_unique_id = Field::IssuerUniqueId.of(read_unique_id(&mut fields, 1))?;
     let subject_unique_id = Field::SubjectUniqueId.of(read_unique_id(&mut fields, 2))?;
-    let extensions = Field::Extensions.of(read_extensions(&mut fields))?;
+    let extensions = Field::Extensions.of(read_extensions(&mut fields, 3))?;
     Field::TbsCertificate.of(fields.end())?;
     Ok(TbsCertificate {
         version,

@@ -26,18 +26,28 @@ pub struct Extension<'a> {
     pub value: &'a [u8],
 }
 
-/// Reads what is last in a certificate: its extensions, if there are any.
-pub(crate) fn read_extensions<'a>(
+/// Reads extensions under an explicit tag of this number, if it is next; else there are none. It is 3 in
+/// a certificate, and 0 in a list of revoked certificates (5.1).
+pub fn read_extensions<'a>(
     fields: &mut Cursor<'a>,
+    number: u8,
 ) -> Result<Extensions<'a>, Refusal<BerError>>
-    ensures { ReadsBy fault_of (λ e. e.octets.now) (explicit_or [] 3 extensions) fields.old result fields.new }
+    ensures { ReadsBy fault_of (λ e. e.octets.now) (explicit_or [] number extensions) fields.old result fields.new }
 {
-    let Some(mut inside) = fields.open_tagged(3)? else {
+    let Some(mut inside) = fields.open_tagged(number)? else {
         return Ok(Extensions { octets: &[] });
     };
-    let list = inside.open_sequence()?;
-    check_extensions(list)?;
+    let extensions = read_extension_list(&mut inside)?;
     inside.end()?;
+    Ok(extensions)
+}
+
+/// Reads an Extensions, which has one extension at least.
+pub fn read_extension_list<'a>(fields: &mut Cursor<'a>) -> Result<Extensions<'a>, Refusal<BerError>>
+    ensures { ReadsBy fault_of (λ e. e.octets.now) extensions fields.old result fields.new }
+{
+    let list = fields.open_sequence()?;
+    check_extensions(list)?;
     Ok(Extensions {
         octets: list.remaining(),
     })
@@ -57,7 +67,7 @@ fn check_extensions(mut list: Cursor<'_>) -> Result<(), Refusal<BerError>>
 }
 
 /// Reads an Extension.
-pub(crate) fn read_extension<'a>(list: &mut Cursor<'a>) -> Result<Extension<'a>, Refusal<BerError>>
+pub fn read_extension<'a>(list: &mut Cursor<'a>) -> Result<Extension<'a>, Refusal<BerError>>
     ensures reads { ReadsBy fault_of extension_of extension list.old result list.new }
     ensures shorter { OnOk result (IsShorter list.old list.new) }
 {

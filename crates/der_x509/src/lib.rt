@@ -7,6 +7,7 @@ mod display;
 mod extension;
 mod lists;
 mod name;
+pub mod parts;
 mod refusal;
 mod rules;
 mod time;

@@ -33,7 +33,7 @@ pub struct AttributeTypeAndValue<'a> {
 }
 
 /// Reads a Name.
-pub(crate) fn read_name<'a>(fields: &mut Cursor<'a>) -> Result<Name<'a>, Refusal<BerError>>
+pub fn read_name<'a>(fields: &mut Cursor<'a>) -> Result<Name<'a>, Refusal<BerError>>
     ensures { ReadsBy fault_of (λ n. n.octets.now) name fields.old result fields.new }
 {
     let names = fields.open_sequence()?;

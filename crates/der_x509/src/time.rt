@@ -37,7 +37,7 @@ pub struct Validity {
 }
 
 /// Reads a Validity.
-pub(crate) fn read_validity(fields: &mut Cursor<'_>) -> Result<Validity, Refusal<BerError>>
+pub fn read_validity(fields: &mut Cursor<'_>) -> Result<Validity, Refusal<BerError>>
     ensures { ReadsBy fault_of (λ v. v) validity fields.old result fields.new }
 {
     let mut parts = fields.open_sequence()?;
@@ -51,7 +51,7 @@ pub(crate) fn read_validity(fields: &mut Cursor<'_>) -> Result<Validity, Refusal
 }
 
 /// Reads a Time.
-fn read_time(parts: &mut Cursor<'_>) -> Result<Time, Refusal<BerError>>
+pub fn read_time(parts: &mut Cursor<'_>) -> Result<Time, Refusal<BerError>>
     ensures { ReadsBy fault_of (λ v. v) time parts.old result parts.new }
 {
     if parts.is_next(Class::Universal, Tag::GeneralizedTime) {
