@@ -31,16 +31,16 @@ time_exact = ((time_one Der 24, λ t. tt), (time_one Der 23, λ t. tt))
 pub validity_exact : IsExact validity
 validity_exact = (tt, λ c. (time_exact, λ a. (time_exact, λ b. (tt, λ u. tt))))
 
-attribute_exact : IsExact attribute
+pub attribute_exact : IsExact attribute
 attribute_exact = (tt, λ c. (identifier_one, λ a. (tt, λ v. (tt, λ u. tt))))
 
-relative_name_exact : IsExact relative_name
+pub relative_name_exact : IsExact relative_name
 relative_name_exact = (tt, λ c. ((tt, λ u s. (attribute_exact, λ v. tt)), λ u. tt))
 
 pub name_exact : IsExact name
 name_exact = (tt, λ c. ((λ s. (relative_name_exact, λ v. tt)), λ u. tt))
 
-extension_exact : IsExact extension
+pub extension_exact : IsExact extension
 extension_exact = (tt, λ c. (identifier_one, λ a. ((boolean_one Der, tt), λ b. (octets_one, λ v. (tt, λ u. tt)))))
 
 pub extensions_exact : IsExact extensions

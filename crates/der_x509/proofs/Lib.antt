@@ -3,5 +3,7 @@ pub mod ExactLaws
 pub mod FormatLaws
 pub mod ListLaws
 pub mod ReaderLaws
+pub mod Refinements
 pub mod VersionLaws
 pub mod RuleLaws
+pub mod WalkLaws

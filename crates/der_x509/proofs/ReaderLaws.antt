@@ -303,7 +303,7 @@ pub opened_field : (n : Field) (p : Bool) (t : ℕ) {T V : Type 0} {view : T →
 opened_field n p t found e o a = opened_by field_fault certificate_refusal (λ n e. refl) n p t found e o a
 
 -- an element is some octets
-element_less : (r : Rules) (c : Class) (p : Bool) (t : ℕ) (i : List ℕ) (v : List ℕ × List ℕ) → SpellsElement r c p t i v → length v.1 < length i
+pub element_less : (r : Rules) (c : Class) (p : Bool) (t : ℕ) (i : List ℕ) (v : List ℕ × List ℕ) → SpellsElement r c p t i v → length v.1 < length i
 element_less Ber c p t i v s = element_shorter i _ c p t v.0 v.1 s
 element_less Der c p t i v s =
     let a = length-append (identifier c p t ++ shortest_length (length v.0)) (v.0 ++ v.1) in
@@ -320,7 +320,7 @@ pub type_shorter : (p : Bool) (t : ℕ) {old inner new : Cursor} → OpensType p
 type_shorter p t {old} o = opened_shorter (class_wanted old.implicit) p (number_wanted old.implicit t) o
 
 -- the octets of an element, and what follows it
-element_front : (c : Class) (p : Bool) (t : ℕ) (i w rest : List ℕ) → SpellsElement Der c p t i (w, rest) → (b : List ℕ) × (i ≡ b ++ rest)
+pub element_front : (c : Class) (p : Bool) (t : ℕ) (i w rest : List ℕ) → SpellsElement Der c p t i (w, rest) → (b : List ℕ) × (i ≡ b ++ rest)
 element_front c p t i w rest s = (identifier c p t ++ shortest_length (length w) ++ w, s.octets ∙ sym (append_assoc (identifier c p t ++ shortest_length (length w)) w rest))
 
 -- items of a list, so far

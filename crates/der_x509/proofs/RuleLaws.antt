@@ -1,6 +1,7 @@
 -- A certificate is strict or not in one way.
-use Rattle.std.proofs.Common.{◌≡◌, ℕ, List, [], ◌∷◌, Result, Ok, Err, ap, sym, subst, ◌∙◌, inl, inr}
-use Rattle.std.specs.Prelude.{MatchResult}
+use Rattle.std.proofs.Common.{◌≡◌, ℕ, false, IsTrue, List, [], ◌∷◌, Result, Ok, Err, ap, sym, subst, ◌∙◌, inl, inr}
+use Rattle.std.specs.Prelude.{◌↔◌, MatchResult}
+use Rattle.std.proofs.lemmas.Bool.{false≢true}
 use Rattle.der_x509.specs.declared.certificate.Certificate.{Certificate}
 use Rattle.der_x509.specs.declared.rules.Rule.{Rule}
 use Rattle.der_x509.specs.declared.rules.StrictRefusal.{StrictRefusal}
@@ -9,6 +10,10 @@ use Rattle.der_x509.specs.Formats.{spells, start}
 use Rattle.der_x509.specs.Rules.{IsFirstBroken, IsFirstWrong, IsStrict, NoneBroken, ReadsStrictly, StrictFault, broken, every_rule, not_read, strict_fault}
 use Rattle.der_x509.proofs.CertificateLaws.{whole_exact}
 use Rattle.der_x509.proofs.FormatLaws.{shows_one}
+
+-- a test that isn't true
+pub passed : {P : Type 0} → IsTrue false ↔ P → ¬ P
+passed e h = false≢true (e.1 h)
 
 -- none is broken, or one is the first
 not_broken : (rs : List Rule) (c : Signed) (r : Rule) → NoneBroken rs c → IsFirstBroken rs c r → ⊥

@@ -1,5 +1,6 @@
 pub mod Certificates
 pub mod Formats
+pub mod Laws
 pub mod Lists
 pub mod Readers
 pub mod Rules

@@ -1,19 +1,23 @@
 -- The rules of RFC 5280 that its ASN.1 doesn't say, and reading with them.
-use Rattle.std.specs.Prelude.{◌≡◌, ◌≢◌, ℕ, ◌<◌, ◌⊎◌, pos, ◌<ℤ◌, None, List, [], ◌∷◌, length}
+use Rattle.std.specs.Prelude.{◌≡◌, ◌≢◌, ℕ, ◌<◌, ◌⊎◌, false, pos, ◌<ℤ◌, None, List, [], ◌∷◌, length}
 use Rattle.std.specs.Prelude.{Result, MatchResult}
+use Rattle.der_base.specs.declared.header.Class.TheVariants.{Universal}
 use Rattle.der_base.specs.Octets.{integer_value}
+use Rattle.der_base.specs.SetOfOrder.{Descends}
 use Rattle.der_x509.specs.declared.certificate.Certificate.{Certificate}
 use Rattle.der_x509.specs.declared.certificate.Version.TheVariants.{V1, V3}
 use Rattle.der_x509.specs.declared.rules.Rule.{Rule}
 use Rattle.der_x509.specs.declared.rules.Rule.TheVariants.{SameAlgorithms, PositiveSerialNumber, ShortSerialNumber}
-use Rattle.der_x509.specs.declared.rules.Rule.TheVariants.{NamedIssuer, UtcTimeTo2049, UniqueIdVersion}
-use Rattle.der_x509.specs.declared.rules.Rule.TheVariants.{ExtensionsVersion}
+use Rattle.der_x509.specs.declared.rules.Rule.TheVariants.{NamedIssuer, OrderedAttributes, UtcTimeTo2049}
+use Rattle.der_x509.specs.declared.rules.Rule.TheVariants.{UniqueIdVersion, ExtensionsVersion, DistinctExtensions}
 use Rattle.der_x509.specs.declared.rules.StrictRefusal.{StrictRefusal}
 use Rattle.der_x509.specs.declared.rules.StrictRefusal.TheVariants.{NotRead, Broken}
 use Rattle.der_x509.specs.declared.time.Time.{Time}
 use Rattle.der_x509.specs.declared.time.Time.TheVariants.{Generalized, Utc}
 use Rattle.der_x509.specs.Certificates.{Signed, certificate_of, whole_certificate}
-use Rattle.der_x509.specs.Formats.{FieldFault, refuses, spells, start}
+use Rattle.der_x509.specs.Formats.{Fault, FieldFault, Format, element, refuses, sequence, set, spells, start}
+use Rattle.der_x509.specs.Formats.{with_octets}
+use Rattle.der_x509.specs.Lists.{Somewhere}
 use Rattle.der_x509.specs.Readers.{field_fault}
 
 abbrev pub IsPositive : List ℕ → Type 0
@@ -24,21 +28,51 @@ abbrev pub IsEarly : Time → Type 0
 IsEarly (Utc t) = ⊥
 IsEarly (Generalized t) = t.year < 2050
 
+-- Lists are walked without a look into their items, which were read: `specs/Laws` says that these are the attributes and
+-- the extensions.
+
+-- the attribute with these octets is greater than the next one
+abbrev pub DescendsNext : List ℕ → List ℕ → Type 0
+DescendsNext a i = (b : List ℕ × List ℕ) × (rest : List ℕ) × spells (with_octets sequence) i b rest × Descends a b.0
+
+-- an attribute of a relative name is greater than the next one; by DER they ascend (X.690 11.6)
+abbrev pub AttributesDescend : List ℕ → Type 0
+AttributesDescend i = Somewhere (with_octets sequence) (λ a rest. DescendsNext a.0 rest) i
+
+-- those of a relative name of a name do
+abbrev pub HasDescent : List ℕ → Type 0
+HasDescent i = Somewhere set (λ w rest. AttributesDescend w) i
+
+-- the identifier of an extension, which its content begins with
+abbrev pub extension_identifier : Format Fault (List ℕ)
+extension_identifier = element Universal false 6
+
+-- two extensions have one identifier
+abbrev pub HaveOneIdentifier : List ℕ → List ℕ → Type 0
+HaveOneIdentifier x y = (w : List ℕ) × (r : List ℕ) × (q : List ℕ)
+    × spells extension_identifier x w r × spells extension_identifier y w q
+
+-- an extension has the identifier of a later one (4.2)
+abbrev pub HasRepetition : List ℕ → Type 0
+HasRepetition i = Somewhere sequence (λ x rest. Somewhere sequence (λ y _. HaveOneIdentifier x y) rest) i
+
 -- the certificate breaks the rule
 abbrev pub Breaks : Rule → Signed → Type 0
 Breaks SameAlgorithms c = c.algorithm ≢ c.tbs_certificate.signature
 Breaks PositiveSerialNumber c = ¬ IsPositive c.tbs_certificate.serial_number
 Breaks ShortSerialNumber c = 20 < length c.tbs_certificate.serial_number
 Breaks NamedIssuer c = c.tbs_certificate.issuer ≡ []
+Breaks OrderedAttributes c = let t = c.tbs_certificate in HasDescent t.issuer ⊎ HasDescent t.subject
 Breaks UtcTimeTo2049 c = let v = c.tbs_certificate.validity in IsEarly v.not_before ⊎ IsEarly v.not_after
 Breaks UniqueIdVersion c = let t = c.tbs_certificate in
     (t.version ≡ V1) × ((t.issuer_id ≢ None) ⊎ (t.subject_id ≢ None))
 Breaks ExtensionsVersion c = let t = c.tbs_certificate in (t.version ≢ V3) × (t.extensions ≢ [])
+Breaks DistinctExtensions c = HasRepetition c.tbs_certificate.extensions
 
 abbrev pub every_rule : List Rule
 every_rule =
-    SameAlgorithms ∷ PositiveSerialNumber ∷ ShortSerialNumber ∷ NamedIssuer ∷ UtcTimeTo2049
-    ∷ UniqueIdVersion ∷ ExtensionsVersion ∷ []
+    SameAlgorithms ∷ PositiveSerialNumber ∷ ShortSerialNumber ∷ NamedIssuer ∷ OrderedAttributes ∷ UtcTimeTo2049
+    ∷ UniqueIdVersion ∷ ExtensionsVersion ∷ DistinctExtensions ∷ []
 
 abbrev pub NoneBroken : List Rule → Signed → Type 0
 NoneBroken [] c = Unit {0}

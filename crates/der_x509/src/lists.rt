@@ -1,16 +1,18 @@
 //! Iterators over the lists of a certificate: relative names, attributes and extensions.
 ghost use Rattle.std.specs.Prelude.{◌≡◌, ◌<◌, ◌^◌, length};
 ghost use Rattle.std.specs.Iterator.{at_most};
-ghost use Rattle.der_x509.specs.Certificates.{attribute, attribute_of, extension, extension_of, relative_name};
+ghost use Rattle.der_x509.specs.Certificates.{attribute, attribute_of, extension, extension_of};
+ghost use Rattle.der_x509.specs.Formats.{set};
 ghost use Rattle.der_x509.specs.Lists.{YieldsNext, attributes_left, extensions_left, names_left};
 
 use crate::extension::{Extension, Extensions, read_extension};
-use crate::name::{
-    AttributeTypeAndValue, Name, RelativeDistinguishedName, read_attribute, read_relative_name,
-};
+use crate::first_element::first_element;
+use crate::name::{AttributeTypeAndValue, Name, RelativeDistinguishedName, read_attribute};
+use der_base::header::Tag;
 use der_cursor::Cursor;
 
-/// The relative names of a name, in order. It ends where the octets that are left begin with none.
+/// The relative names of a name, in order. It ends where the octets that are left begin with no SET.
+/// The attributes, which were checked, aren't read again.
 #[derive(Clone, Copy, Debug)]
 pub struct RelativeNames<'a> {
     left: &'a [u8],
@@ -76,17 +78,16 @@ impl<'a> Extensions<'a> {
 impl<'a> Iterator for RelativeNames<'a> {
     type Item = RelativeDistinguishedName<'a>;
 
-    ghost next_gives = { YieldsNext names_left (λ n. n.octets.now) relative_name };
+    ghost next_gives = { YieldsNext names_left (λ n. n.octets.now) set };
 
     ghost remaining = { λ s. at_most (length (names_left s)) };
 
     fn next(&mut self) -> Option<RelativeDistinguishedName<'a>> {
-        let mut names = Cursor::new(self.left);
-        let Ok(relative_name) = read_relative_name(&mut names) else {
-            return None;
-        };
-        self.left = names.remaining();
-        Some(relative_name)
+        let first = first_element(self.left, true, Tag::Set)?;
+        self.left = first.rest;
+        Some(RelativeDistinguishedName {
+            octets: first.content,
+        })
     }
 }
 

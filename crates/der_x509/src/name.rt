@@ -54,7 +54,7 @@ fn check_relative_names(mut names: Cursor<'_>) -> Result<(), Refusal<BerError>>
 }
 
 /// Reads a RelativeDistinguishedName.
-pub(crate) fn read_relative_name<'a>(
+fn read_relative_name<'a>(
     names: &mut Cursor<'a>,
 ) -> Result<RelativeDistinguishedName<'a>, Refusal<BerError>>
     ensures reads { ReadsBy fault_of (λ n. n.octets.now) relative_name names.old result names.new }

@@ -6,6 +6,7 @@ ghost use Rattle.der_x509.specs.Rules.{ReadsStrictly, every_rule};
 
 use crate::algorithm::AlgorithmIdentifier;
 use crate::certificate::{Certificate, Version, read_certificate};
+use crate::list_rules::{has_descent, has_repetition};
 use crate::refusal::CertificateRefusal;
 use crate::time::Time;
 use der_base::integer::{is_negative, read_u64};
@@ -21,12 +22,18 @@ pub enum Rule {
     ShortSerialNumber,
     /// The issuer has a name (4.1.2.4).
     NamedIssuer,
+    /// The attributes of each relative name of the issuer and the subject ascend, as a SET OF does by
+    /// DER (4.1, X.690 11.6).
+    OrderedAttributes,
     /// A time to the end of 2049 is a UTCTime (4.1.2.5).
     UtcTimeTo2049,
     /// A certificate of version 1 has no unique identifier (4.1.2.8).
     UniqueIdVersion,
     /// A certificate with extensions is of version 3 (4.1.2.9).
     ExtensionsVersion,
+    /// No two extensions have one identifier (4.2). Each is compared with all that follow it, so the
+    /// time grows with the square of their number.
+    DistinctExtensions,
 }
 
 /// The most octets of a serial number.
@@ -43,6 +50,7 @@ impl Certificate<'_> {
             Rule::PositiveSerialNumber => !is_positive(fields.serial_number),
             Rule::ShortSerialNumber => fields.serial_number.len() > LONGEST_SERIAL_NUMBER,
             Rule::NamedIssuer => fields.issuer.octets.is_empty(),
+            Rule::OrderedAttributes => has_descent(fields.issuer) || has_descent(fields.subject),
             Rule::UtcTimeTo2049 => {
                 is_early(fields.validity.not_before) || is_early(fields.validity.not_after)
             }
@@ -53,6 +61,7 @@ impl Certificate<'_> {
             Rule::ExtensionsVersion => {
                 fields.version != Version::V3 && !fields.extensions.octets.is_empty()
             }
+            Rule::DistinctExtensions => has_repetition(fields.extensions),
         }
     }
 
@@ -74,6 +83,9 @@ impl Certificate<'_> {
         if self.breaks(Rule::NamedIssuer) {
             return Some(Rule::NamedIssuer);
         }
+        if self.breaks(Rule::OrderedAttributes) {
+            return Some(Rule::OrderedAttributes);
+        }
         if self.breaks(Rule::UtcTimeTo2049) {
             return Some(Rule::UtcTimeTo2049);
         }
@@ -82,6 +94,9 @@ impl Certificate<'_> {
         }
         if self.breaks(Rule::ExtensionsVersion) {
             return Some(Rule::ExtensionsVersion);
+        }
+        if self.breaks(Rule::DistinctExtensions) {
+            return Some(Rule::DistinctExtensions);
         }
         None
     }

@@ -1,20 +1,27 @@
-use Rattle.std.proofs.Common.{refl, inl, inr, rules}
+use Rattle.std.proofs.Common.{refl, inl, inr}
+use Rattle.der_x509.proofs.RuleLaws.{passed}
 use Rattle.der_x509.proofs.certificate.Certificate.first_broken_rule.Goals as goal
 
 pub returns-then-breaks-2 : goal.returns-then-breaks-2
-returns-then-breaks-2 c = inr (search rules, inl (search rules, refl))
+returns-then-breaks-2 c = inr (passed c.if-breaks.ensures, inl (c.if-breaks-2.ensures.0 refl, refl))
 
 pub returns-then-breaks-3 : goal.returns-then-breaks-3
-returns-then-breaks-3 c = inr (search rules, inr (search rules, inl (search rules, refl)))
+returns-then-breaks-3 c = inr (passed c.if-breaks.ensures, inr (passed c.if-breaks-2.ensures, inl (c.if-breaks-3.ensures.0 refl, refl)))
 
 pub returns-then-breaks-4 : goal.returns-then-breaks-4
-returns-then-breaks-4 c = inr (search rules, inr (search rules, inr (search rules, inl (search rules, refl))))
+returns-then-breaks-4 c = inr (passed c.if-breaks.ensures, inr (passed c.if-breaks-2.ensures, inr (passed c.if-breaks-3.ensures, inl (c.if-breaks-4.ensures.0 refl, refl))))
 
 pub returns-then-breaks-5 : goal.returns-then-breaks-5
-returns-then-breaks-5 c = inr (search rules, inr (search rules, inr (search rules, inr (search rules, inl (search rules, refl)))))
+returns-then-breaks-5 c = inr (passed c.if-breaks.ensures, inr (passed c.if-breaks-2.ensures, inr (passed c.if-breaks-3.ensures, inr (passed c.if-breaks-4.ensures, inl (c.if-breaks-5.ensures.0 refl, refl)))))
 
 pub returns-then-breaks-6 : goal.returns-then-breaks-6
-returns-then-breaks-6 c = inr (search rules, inr (search rules, inr (search rules, inr (search rules, inr (search rules, inl (search rules, refl))))))
+returns-then-breaks-6 c = inr (passed c.if-breaks.ensures, inr (passed c.if-breaks-2.ensures, inr (passed c.if-breaks-3.ensures, inr (passed c.if-breaks-4.ensures, inr (passed c.if-breaks-5.ensures, inl (c.if-breaks-6.ensures.0 refl, refl))))))
 
 pub returns-then-breaks-7 : goal.returns-then-breaks-7
-returns-then-breaks-7 c = inr (search rules, inr (search rules, inr (search rules, inr (search rules, inr (search rules, inr (search rules, inl (search rules, refl)))))))
+returns-then-breaks-7 c = inr (passed c.if-breaks.ensures, inr (passed c.if-breaks-2.ensures, inr (passed c.if-breaks-3.ensures, inr (passed c.if-breaks-4.ensures, inr (passed c.if-breaks-5.ensures, inr (passed c.if-breaks-6.ensures, inl (c.if-breaks-7.ensures.0 refl, refl)))))))
+
+pub returns-then-breaks-8 : goal.returns-then-breaks-8
+returns-then-breaks-8 c = inr (passed c.if-breaks.ensures, inr (passed c.if-breaks-2.ensures, inr (passed c.if-breaks-3.ensures, inr (passed c.if-breaks-4.ensures, inr (passed c.if-breaks-5.ensures, inr (passed c.if-breaks-6.ensures, inr (passed c.if-breaks-7.ensures, inl (c.if-breaks-8.ensures.0 refl, refl))))))))
+
+pub returns-then-breaks-9 : goal.returns-then-breaks-9
+returns-then-breaks-9 c = inr (passed c.if-breaks.ensures, inr (passed c.if-breaks-2.ensures, inr (passed c.if-breaks-3.ensures, inr (passed c.if-breaks-4.ensures, inr (passed c.if-breaks-5.ensures, inr (passed c.if-breaks-6.ensures, inr (passed c.if-breaks-7.ensures, inr (passed c.if-breaks-8.ensures, inl (c.if-breaks-9.ensures.0 refl, refl)))))))))

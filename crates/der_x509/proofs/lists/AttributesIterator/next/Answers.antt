@@ -1,5 +1,6 @@
 use Rattle.std.proofs.Common.{refl}
-use Rattle.der_x509.proofs.ListLaws.{attribute_exact, no_item}
+use Rattle.der_x509.proofs.CertificateLaws.{attribute_exact}
+use Rattle.der_x509.proofs.ListLaws.{no_item}
 use Rattle.der_x509.proofs.lists.AttributesIterator.next.Goals as goal
 
 pub returns-in_default-clause-steps : goal.returns-in_default-clause-steps

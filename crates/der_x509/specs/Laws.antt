@@ -1,0 +1,43 @@
+-- Statements of the laws in `src/laws.rt`: SETs and SEQUENCEs that are walked without a look into them are the relative
+-- names, attributes and extensions that were read.
+use Rattle.std.specs.Prelude.{◌≡◌, ℕ, ◌⊎◌, ◌↔◌, List, []}
+use Rattle.der_base.specs.SetOfOrder.{Descends}
+use Rattle.der_x509.specs.declared.rules.Rule.TheVariants.{OrderedAttributes, DistinctExtensions}
+use Rattle.der_x509.specs.Certificates.{Attribute, Signed, attribute, extension, name, relative_name, whole_certificate}
+use Rattle.der_x509.specs.Formats.{list_of, set, spells, with_octets}
+use Rattle.der_x509.specs.Lists.{BeginsWithNone, Somewhere}
+use Rattle.der_x509.specs.Rules.{Breaks}
+
+-- the octets are relative names, one after another, and nothing else
+abbrev pub AreRelativeNames : List ℕ → Type 0
+AreRelativeNames i = spells (list_of relative_name) i tt []
+
+-- those of a name are
+abbrev pub NamesHaveThem : Type 0
+NamesHaveThem = (i w rest : List ℕ) → spells name i w rest → AreRelativeNames w
+
+-- each SET that an iterator over them gives is the next relative name
+abbrev pub SetsAreRelativeNames : Type 0
+SetsAreRelativeNames = (i w rest : List ℕ) → AreRelativeNames i → spells set i w rest
+    → spells relative_name i w rest × AreRelativeNames rest
+
+-- and it gives all of them
+abbrev pub NoneIsLeft : Type 0
+NoneIsLeft = (i : List ℕ) → AreRelativeNames i → BeginsWithNone set i → i ≡ []
+
+-- an attribute of the relative name with this content is greater than the next one (X.690 11.6)
+abbrev pub IsUnordered : List ℕ → Type 0
+IsUnordered w = Somewhere (with_octets attribute) (λ a rest. (b : List ℕ × Attribute) × (after : List ℕ)
+    × spells (with_octets attribute) rest b after × Descends a.0 b.0) w
+
+-- of a certificate that was read, the rule is broken by the attributes of a relative name of the issuer or the subject
+abbrev pub OrderIsOfAttributes : Type 0
+OrderIsOfAttributes = (i : List ℕ) (c : Signed) → spells whole_certificate i c [] → Breaks OrderedAttributes c
+    ↔ let t = c.tbs_certificate in
+    Somewhere relative_name (λ w _. IsUnordered w) t.issuer ⊎ Somewhere relative_name (λ w _. IsUnordered w) t.subject
+
+-- and by two extensions with one identifier
+abbrev pub RepetitionIsOfIdentifiers : Type 0
+RepetitionIsOfIdentifiers = (i : List ℕ) (c : Signed) → spells whole_certificate i c [] → Breaks DistinctExtensions c
+    ↔ Somewhere extension (λ x rest. Somewhere extension (λ y _. x.identifier ≡ y.identifier) rest)
+    c.tbs_certificate.extensions

@@ -1,0 +1,16 @@
+//! Laws of lists. Each function's contract is a law, and its body is empty.
+ghost use Rattle.der_x509.specs.Laws.{NamesHaveThem, NoneIsLeft, SetsAreRelativeNames};
+ghost use Rattle.der_x509.specs.Laws.{OrderIsOfAttributes, RepetitionIsOfIdentifiers};
+
+/// `RelativeNames` gives the relative names of a name that was read, in order, and all of them.
+pub fn sets_are_relative_names()
+    ensures of_a_name { NamesHaveThem }
+    ensures each { SetsAreRelativeNames }
+    ensures all { NoneIsLeft }
+{}
+
+/// Of a certificate that was read, the rules about lists speak of its attributes and extensions.
+pub fn rules_are_of_what_was_read()
+    ensures order { OrderIsOfAttributes }
+    ensures repetition { RepetitionIsOfIdentifiers }
+{}

@@ -1,0 +1,87 @@
+//! The rules that compare the items of a list.
+ghost use Rattle.std.specs.Prelude.{◌≡◌, ◌↔◌, ◌++◌, IsTrue, List, ℕ};
+ghost use Rattle.der_x509.specs.Formats.{sequence};
+ghost use Rattle.der_x509.specs.Lists.{Somewhere};
+ghost use Rattle.der_x509.specs.Rules.{AttributesDescend, DescendsNext, HasDescent, HaveOneIdentifier, HasRepetition};
+
+use crate::extension::Extensions;
+use crate::first_element::first_element;
+use crate::name::Name;
+use der_base::header::Tag;
+use der_base::set_of_order::descends;
+
+/// Returns whether attributes of a relative name of the name descend.
+pub(crate) fn has_descent(name: Name<'_>) -> bool
+    ensures { IsTrue result ↔ HasDescent name.entry.octets.now }
+{
+    let mut left = name.octets;
+    while let Some(relative_name) = first_element(left, true, Tag::Set) {
+        if attributes_descend(relative_name.content) {
+            return true;
+        }
+        left = relative_name.rest;
+    }
+    false
+}
+
+/// Returns whether an attribute is greater than the one after it.
+fn attributes_descend(attributes: &[u8]) -> bool
+    ensures { IsTrue result ↔ AttributesDescend attributes.now }
+{
+    let mut left = attributes;
+    while let Some(attribute) = first_element(left, true, Tag::Sequence) {
+        if descends_next(attribute.octets, attribute.rest) {
+            return true;
+        }
+        left = attribute.rest;
+    }
+    false
+}
+
+/// Returns whether an attribute is greater than the first of those after it.
+fn descends_next(attribute: &[u8], rest: &[u8]) -> bool
+    ensures { IsTrue result ↔ DescendsNext attribute.now rest.now }
+{
+    match first_element(rest, true, Tag::Sequence) {
+        Some(next) => descends(attribute, next.octets),
+        None => false,
+    }
+}
+
+/// Returns whether two of the extensions have one identifier.
+pub(crate) fn has_repetition(extensions: Extensions<'_>) -> bool
+    ensures { IsTrue result ↔ HasRepetition extensions.entry.octets.now }
+{
+    let mut left = extensions.octets;
+    while let Some(extension) = first_element(left, true, Tag::Sequence) {
+        if comes_again(extension.content, extension.rest) {
+            return true;
+        }
+        left = extension.rest;
+    }
+    false
+}
+
+/// Returns whether one of the extensions that follow has the identifier of this one.
+fn comes_again(extension: &[u8], rest: &[u8]) -> bool
+    ensures { IsTrue result ↔ Somewhere sequence (λ x _. HaveOneIdentifier extension.now x) rest.now }
+{
+    match first_element(extension, false, Tag::Oid) {
+        Some(identifier) => begins_one(identifier.octets, rest),
+        None => false,
+    }
+}
+
+/// Returns whether one of the extensions begins with these octets.
+fn begins_one(octets: &[u8], extensions: &[u8]) -> bool
+    ensures { IsTrue result ↔ Somewhere sequence (λ x _. (back : List ℕ) × (x ≡ octets.now ++ back)) extensions.now }
+{
+    let mut left = extensions;
+    while let Some(extension) = first_element(left, true, Tag::Sequence) {
+        if extension.content.starts_with(octets) {
+            return true;
+        }
+        left = extension.rest;
+    }
+    false
+}
