@@ -99,6 +99,9 @@ impl<'a> Iterator for Attributes<'a> {
     ghost remaining = { λ s. at_most (length (attributes_left s)) };
 
     fn next(&mut self) -> Option<AttributeTypeAndValue<'a>> {
+        if self.left.is_empty() {
+            return None;
+        }
         let mut attributes = Cursor::new(self.left);
         let Ok(attribute) = read_attribute(&mut attributes) else {
             return None;
@@ -116,6 +119,9 @@ impl<'a> Iterator for ExtensionIter<'a> {
     ghost remaining = { λ s. at_most (length (extensions_left s)) };
 
     fn next(&mut self) -> Option<Extension<'a>> {
+        if self.left.is_empty() {
+            return None;
+        }
         let mut list = Cursor::new(self.left);
         let Ok(extension) = read_extension(&mut list) else {
             return None;
