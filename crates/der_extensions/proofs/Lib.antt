@@ -1,1 +1,5 @@
+pub mod DefaultLaws
 pub mod ExtensionLaws
+pub mod ListLaws
+pub mod NameLaws
+pub mod PointLaws

@@ -1,1 +1,4 @@
 pub mod Extensions
+pub mod GeneralNames
+pub mod Lists
+pub mod Takes

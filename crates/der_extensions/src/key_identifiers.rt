@@ -4,16 +4,21 @@ ghost use Rattle.der_base.specs.declared.rules.Rules.{Rules};
 ghost use Rattle.der_cursor.specs.Formats.{Implicit, Integer, Never, OctetString, Only, Optional};
 ghost use Rattle.der_cursor.specs.Formats.{ReadsField, ReadsInput, Required};
 ghost use Rattle.der_extensions.specs.Extensions.{AuthorityKeyIdentifier as AuthorityFormat, authority_of};
+ghost use Rattle.der_extensions.specs.GeneralNames.{GeneralNames as NamesFormat};
+ghost use Rattle.der_extensions.specs.Lists.{list_octets};
 
+use crate::general_name::GeneralNames;
+use crate::list::read_optional;
 use der_base::error::BerError;
+use der_base::header::{Class, Tag};
 use der_cursor::{Cursor, Refusal};
 
 /// The value of the extension AuthorityKeyIdentifier.
 #[derive(Debug, Drop)]
 pub struct AuthorityKeyIdentifier<'a> {
     pub key_identifier: Option<&'a [u8]>,
-    /// The octets of the names of the issuer's issuer, which aren't looked into.
-    pub authority_cert_issuer: Option<Cursor<'a>>,
+    /// The names of the issuer's issuer, one at least if there are any.
+    pub authority_cert_issuer: Option<GeneralNames<'a>>,
     /// The content octets of the serial number of the issuer's certificate, in two's complement.
     pub authority_cert_serial_number: Option<&'a [u8]>,
 }
@@ -47,7 +52,7 @@ fn read_authority<'a>(
 {
     let mut fields = input.open_sequence()?;
     let key_identifier = read_key_identifier(&mut fields)?;
-    let authority_cert_issuer = fields.open_tagged(1)?;
+    let authority_cert_issuer = read_issuer_names(&mut fields)?;
     let authority_cert_serial_number = read_issuer_serial(&mut fields)?;
     fields.end()?;
     Ok(AuthorityKeyIdentifier {
@@ -62,6 +67,15 @@ fn read_key_identifier<'a>(fields: &mut Cursor<'a>) -> Result<Option<&'a [u8]>, 
         fields.old result fields.new }
 {
     fields.implicit(0).optional_octets()
+}
+
+fn read_issuer_names<'a>(
+    fields: &mut Cursor<'a>,
+) -> Result<Option<GeneralNames<'a>>, Refusal<BerError>>
+    ensures { ReadsField (Optional (Implicit 1 NamesFormat)) (λ x. option_map list_octets x) Never
+        fields.old result fields.new }
+{
+    read_optional(fields, Class::ContextSpecific, Tag(1))
 }
 
 fn read_issuer_serial<'a>(fields: &mut Cursor<'a>) -> Result<Option<&'a [u8]>, Refusal<BerError>>

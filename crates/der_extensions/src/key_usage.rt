@@ -109,7 +109,7 @@ fn read_named_bits<'a>(input: &mut Cursor<'a>) -> Result<BitString<'a>, Refusal<
 
 /// Whether there is a last bit, and it is 1.
 #[tactic(auto, using(std::proofs::lemmas::Nat::Bits::shr_and_one))]
-fn ends_in_one(bits: BitString<'_>) -> bool
+pub(crate) fn ends_in_one(bits: BitString<'_>) -> bool
     ensures { IsTrue result ↔ EndsInOne (bits_of bits.entry) }
 {
     match bits.octets.last() {

@@ -1,0 +1,116 @@
+//! The policies by which a certificate was issued (RFC 5280 4.2.1.4).
+ghost use Rattle.std.specs.Option.{option_map};
+ghost use Rattle.der_base.specs.declared.rules.Rules.{Rules};
+ghost use Rattle.der_cursor.specs.Formats.{Never, Only, Optional, ReadsField, ReadsInput, Required};
+ghost use Rattle.der_extensions.specs.Extensions.{CertificatePolicies as PoliciesFormat};
+ghost use Rattle.der_extensions.specs.Extensions.{PolicyInformation as PolicyFormat, PolicyQualifiers};
+ghost use Rattle.der_extensions.specs.Extensions.{PolicyQualifierInfo as QualifierFormat, policy_of, qualifier_of};
+ghost use Rattle.der_extensions.specs.Lists.{list_octets};
+
+use crate::list::{Item, SequenceOf, read_list, read_optional};
+use der_base::any::Any;
+use der_base::error::BerError;
+use der_base::header::{Class, Tag};
+use der_base::oid::Oid;
+use der_cursor::{Cursor, Refusal};
+
+/// Policies, one at least.
+pub type CertificatePolicies<'a> = SequenceOf<'a, PolicyInformation<'a>>;
+
+/// A policy.
+#[derive(Debug, Drop)]
+pub struct PolicyInformation<'a> {
+    pub policy_identifier: Oid<'a>,
+    /// One at least, if there are any.
+    pub policy_qualifiers: Option<SequenceOf<'a, PolicyQualifierInfo<'a>>>,
+}
+
+/// What is said of a policy, as where its statement is.
+#[derive(Debug, Drop)]
+pub struct PolicyQualifierInfo<'a> {
+    pub policy_qualifier_id: Oid<'a>,
+    /// Of a type that the identifier names. Its content isn't looked into.
+    pub qualifier: Any<'a>,
+}
+
+/// Reads the value of a CertificatePolicies by DER: policies, of which there is one at least. Octets left
+/// over are refused. A policy that comes twice is read.
+pub fn read_certificate_policies(
+    octets: &[u8],
+) -> Result<CertificatePolicies<'_>, Refusal<BerError>>
+    ensures { ReadsInput Rules.Der (Only (Required PoliciesFormat)) list_octets Never octets.now result }
+{
+    read_list(octets)
+}
+
+impl<'a> Item<'a, BerError> for PolicyInformation<'a> {
+    ghost use Rattle.der_cursor.specs.Formats.{Required};
+    ghost use Rattle.der_cursor.proofs.FormatLaws.{required_takes};
+    ghost use Rattle.der_extensions.specs.Extensions.{PolicyInformation as PolicyFormat, PolicyValue, policy_of};
+
+    ghost Value = { PolicyValue };
+
+    ghost field = { Required PolicyFormat };
+
+    ghost view = { policy_of };
+
+    fn read(policies: &mut Cursor<'a>) -> Result<PolicyInformation<'a>, Refusal<BerError>> {
+        read_policy(policies)
+    }
+
+    ghost takes = { required_takes PolicyFormat };
+}
+
+fn read_policy<'a>(policies: &mut Cursor<'a>) -> Result<PolicyInformation<'a>, Refusal<BerError>>
+    ensures { ReadsField (Required PolicyFormat) policy_of Never policies.old result policies.new }
+{
+    let mut fields = policies.open_sequence()?;
+    let policy_identifier = fields.oid()?;
+    let policy_qualifiers = read_qualifiers(&mut fields)?;
+    fields.end()?;
+    Ok(PolicyInformation {
+        policy_identifier,
+        policy_qualifiers,
+    })
+}
+
+fn read_qualifiers<'a>(
+    fields: &mut Cursor<'a>,
+) -> Result<Option<SequenceOf<'a, PolicyQualifierInfo<'a>>>, Refusal<BerError>>
+    ensures { ReadsField (Optional PolicyQualifiers) (λ x. option_map list_octets x) Never
+        fields.old result fields.new }
+{
+    read_optional(fields, Class::Universal, Tag::Sequence)
+}
+
+impl<'a> Item<'a, BerError> for PolicyQualifierInfo<'a> {
+    ghost use Rattle.der_cursor.specs.Formats.{Required};
+    ghost use Rattle.der_cursor.proofs.FormatLaws.{required_takes};
+    ghost use Rattle.der_extensions.specs.Extensions.{PolicyQualifierInfo as QualifierFormat, QualifierValue};
+    ghost use Rattle.der_extensions.specs.Extensions.{qualifier_of};
+
+    ghost Value = { QualifierValue };
+
+    ghost field = { Required QualifierFormat };
+
+    ghost view = { qualifier_of };
+
+    fn read(list: &mut Cursor<'a>) -> Result<PolicyQualifierInfo<'a>, Refusal<BerError>> {
+        read_qualifier(list)
+    }
+
+    ghost takes = { required_takes QualifierFormat };
+}
+
+fn read_qualifier<'a>(list: &mut Cursor<'a>) -> Result<PolicyQualifierInfo<'a>, Refusal<BerError>>
+    ensures { ReadsField (Required QualifierFormat) qualifier_of Never list.old result list.new }
+{
+    let mut fields = list.open_sequence()?;
+    let policy_qualifier_id = fields.oid()?;
+    let qualifier = fields.any()?;
+    fields.end()?;
+    Ok(PolicyQualifierInfo {
+        policy_qualifier_id,
+        qualifier,
+    })
+}

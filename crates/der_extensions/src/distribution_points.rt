@@ -1,0 +1,181 @@
+//! Where lists of revoked certificates are found (RFC 5280 4.2.1.13).
+ghost use Rattle.std.specs.Prelude.{◌↔◌, IsTrue};
+ghost use Rattle.std.specs.Option.{option_map};
+ghost use Rattle.der_base.specs.declared.rules.Rules.{Rules};
+ghost use Rattle.der_cursor.specs.Formats.{BitString as BitsFormat, Implicit, Never, Only, Optional, OptionalTagged};
+ghost use Rattle.der_cursor.specs.Formats.{ReadsField, ReadsInput, Required};
+ghost use Rattle.der_extensions.specs.Extensions.{CRLDistributionPoints, DistributionPoint as PointFormat};
+ghost use Rattle.der_extensions.specs.Extensions.{DistributionPointName as PointNameFormat, IsShortest};
+ghost use Rattle.der_extensions.specs.Extensions.{ReasonFlags as ReasonsFormat, full_name, name_relative_to_issuer};
+ghost use Rattle.der_extensions.specs.Extensions.{point_name_of, point_of};
+ghost use Rattle.der_extensions.specs.GeneralNames.{Chosen, GeneralNames as NamesFormat};
+ghost use Rattle.der_extensions.specs.GeneralNames.{RelativeDistinguishedName as RelativeFormat};
+ghost use Rattle.der_extensions.specs.Lists.{list_octets};
+ghost use Rattle.der_x509.specs.Certificates.{bits_of};
+
+use crate::general_name::{GeneralName, GeneralNames};
+use crate::key_usage::ends_in_one;
+use crate::list::{Item, SequenceOf, read_list, read_optional, read_some};
+use der_base::error::BerError;
+use der_base::header::{Class, Tag};
+use der_cursor::{Cursor, Refusal};
+use der_values::BitString;
+use der_x509::{AttributeTypeAndValue, RelativeDistinguishedName};
+
+/// Places of lists, one at least.
+pub type CrlDistributionPoints<'a> = SequenceOf<'a, DistributionPoint<'a>>;
+
+/// A place of lists.
+#[derive(Debug, Drop)]
+pub struct DistributionPoint<'a> {
+    pub distribution_point: Option<DistributionPointName<'a>>,
+    /// The reasons of revocation that the list has: a bit for each (RFC 5280 4.2.1.13), and all if it is
+    /// absent.
+    pub reasons: Option<BitString<'a>>,
+    /// Who issues the list, if that isn't the issuer of the certificate. One name at least.
+    pub crl_issuer: Option<GeneralNames<'a>>,
+}
+
+/// The name of a place.
+#[derive(Debug, Drop)]
+pub enum DistributionPointName<'a> {
+    FullName(GeneralNames<'a>),
+    /// What follows the name of the issuer.
+    NameRelativeToCrlIssuer(RelativeDistinguishedName<'a>),
+}
+
+/// Reads the value of a CRLDistributionPoints or a FreshestCRL (4.2.1.15) by DER: places, of which there is
+/// one at least. Octets left over are refused. A place with neither a name nor an issuer is read.
+pub fn read_crl_distribution_points(
+    octets: &[u8],
+) -> Result<CrlDistributionPoints<'_>, Refusal<BerError>>
+    ensures { ReadsInput Rules.Der (Only (Required CRLDistributionPoints)) list_octets Never octets.now result }
+{
+    read_list(octets)
+}
+
+impl<'a> Item<'a, BerError> for DistributionPoint<'a> {
+    ghost use Rattle.der_cursor.specs.Formats.{Required};
+    ghost use Rattle.der_cursor.proofs.FormatLaws.{required_takes};
+    ghost use Rattle.der_extensions.specs.Extensions.{DistributionPoint as PointFormat, PointValue, point_of};
+
+    ghost Value = { PointValue };
+
+    ghost field = { Required PointFormat };
+
+    ghost view = { point_of };
+
+    fn read(points: &mut Cursor<'a>) -> Result<DistributionPoint<'a>, Refusal<BerError>> {
+        read_distribution_point(points)
+    }
+
+    ghost takes = { required_takes PointFormat };
+}
+
+fn read_distribution_point<'a>(
+    points: &mut Cursor<'a>,
+) -> Result<DistributionPoint<'a>, Refusal<BerError>>
+    ensures { ReadsField (Required PointFormat) point_of Never points.old result points.new }
+{
+    let mut fields = points.open_sequence()?;
+    let distribution_point = read_tagged_point_name(&mut fields)?;
+    let reasons = read_reasons(&mut fields)?;
+    let crl_issuer = read_crl_issuer(&mut fields)?;
+    fields.end()?;
+    Ok(DistributionPoint {
+        distribution_point,
+        reasons,
+        crl_issuer,
+    })
+}
+
+/// Reads a DistributionPointName in an explicit tag [0], if that is next.
+fn read_tagged_point_name<'a>(
+    fields: &mut Cursor<'a>,
+) -> Result<Option<DistributionPointName<'a>>, Refusal<BerError>>
+    ensures { ReadsField (OptionalTagged 0 (Only PointNameFormat)) (λ x. option_map point_name_of x) Never
+        fields.old result fields.new }
+{
+    let Some(mut inside) = fields.open_tagged(0)? else {
+        return Ok(None);
+    };
+    let name = read_point_name(&mut inside)?;
+    inside.end()?;
+    Ok(Some(name))
+}
+
+fn read_point_name<'a>(
+    inside: &mut Cursor<'a>,
+) -> Result<DistributionPointName<'a>, Refusal<BerError>>
+    ensures { ReadsField PointNameFormat point_name_of Never inside.old result inside.new }
+{
+    if inside.is_next(Class::ContextSpecific, Tag(0)) {
+        return read_full_name(inside);
+    }
+    read_relative_name(inside)
+}
+
+fn read_full_name<'a>(
+    inside: &mut Cursor<'a>,
+) -> Result<DistributionPointName<'a>, Refusal<BerError>>
+    ensures { ReadsField (Chosen full_name (Required (Implicit 0 NamesFormat))) point_name_of Never
+        inside.old result inside.new }
+{
+    let names = read_some::<GeneralName<'a>, BerError>(inside, Class::ContextSpecific, Tag(0))?;
+    Ok(DistributionPointName::FullName(names))
+}
+
+fn read_relative_name<'a>(
+    inside: &mut Cursor<'a>,
+) -> Result<DistributionPointName<'a>, Refusal<BerError>>
+    ensures { ReadsField (Chosen name_relative_to_issuer (Required (Implicit 1 RelativeFormat))) point_name_of Never
+        inside.old result inside.new }
+{
+    let list = read_some::<AttributeTypeAndValue<'a>, BerError>(
+        inside,
+        Class::ContextSpecific,
+        Tag(1),
+    )?;
+    let name = RelativeDistinguishedName {
+        octets: list.octets,
+    };
+    Ok(DistributionPointName::NameRelativeToCrlIssuer(name))
+}
+
+/// Reads ReasonFlags under the implicit tag [1], if they are next. A last bit that is 0 is refused.
+fn read_reasons<'a>(fields: &mut Cursor<'a>) -> Result<Option<BitString<'a>>, Refusal<BerError>>
+    ensures { ReadsField (Optional (Implicit 1 ReasonsFormat)) (λ x. option_map bits_of x) Never
+        fields.old result fields.new }
+{
+    let before = *fields;
+    let Some(bits) = read_bits(fields)? else {
+        return Ok(None);
+    };
+    if !is_shortest(bits) {
+        return Err(before.refuse(BerError::BerValueError));
+    }
+    Ok(Some(bits))
+}
+
+fn read_bits<'a>(fields: &mut Cursor<'a>) -> Result<Option<BitString<'a>>, Refusal<BerError>>
+    ensures { ReadsField (Optional (Implicit 1 BitsFormat)) (λ x. option_map bits_of x) Never
+        fields.old result fields.new }
+{
+    fields.implicit(1).optional_bits()
+}
+
+/// Whether there is no bit, or the last one is 1.
+fn is_shortest(bits: BitString<'_>) -> bool
+    ensures { IsTrue result ↔ IsShortest (bits_of bits.entry) }
+{
+    bits.octets.is_empty() || ends_in_one(bits)
+}
+
+fn read_crl_issuer<'a>(
+    fields: &mut Cursor<'a>,
+) -> Result<Option<GeneralNames<'a>>, Refusal<BerError>>
+    ensures { ReadsField (Optional (Implicit 2 NamesFormat)) (λ x. option_map list_octets x) Never
+        fields.old result fields.new }
+{
+    read_optional(fields, Class::ContextSpecific, Tag(2))
+}

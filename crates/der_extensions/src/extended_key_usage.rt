@@ -1,0 +1,40 @@
+//! What else a key is for (RFC 5280 4.2.1.12).
+ghost use Rattle.der_base.specs.declared.rules.Rules.{Rules};
+ghost use Rattle.der_cursor.specs.Formats.{Never, Only, ReadsInput, Required};
+ghost use Rattle.der_extensions.specs.Extensions.{ExtKeyUsageSyntax};
+ghost use Rattle.der_extensions.specs.Lists.{list_octets};
+
+use crate::list::{Item, SequenceOf, read_list};
+use der_base::error::BerError;
+use der_base::oid::Oid;
+use der_cursor::{Cursor, Refusal};
+
+/// The purposes of a key, one at least.
+pub type ExtendedKeyUsage<'a> = SequenceOf<'a, Oid<'a>>;
+
+/// Reads the value of an ExtendedKeyUsage by DER: the identifiers of purposes, of which there is one at
+/// least. Octets left over are refused.
+pub fn read_extended_key_usage(octets: &[u8]) -> Result<ExtendedKeyUsage<'_>, Refusal<BerError>>
+    ensures { ReadsInput Rules.Der (Only (Required ExtKeyUsageSyntax)) list_octets Never octets.now result }
+{
+    read_list(octets)
+}
+
+impl<'a> Item<'a, BerError> for Oid<'a> {
+    ghost use Rattle.std.specs.Prelude.{List, ℕ};
+    ghost use Rattle.der_base.specs.Oids.{octets_of};
+    ghost use Rattle.der_cursor.specs.Formats.{ObjectIdentifier, Required};
+    ghost use Rattle.der_cursor.proofs.FormatLaws.{required_takes};
+
+    ghost Value = { List ℕ };
+
+    ghost field = { Required ObjectIdentifier };
+
+    ghost view = { octets_of };
+
+    fn read(purposes: &mut Cursor<'a>) -> Result<Oid<'a>, Refusal<BerError>> {
+        purposes.oid()
+    }
+
+    ghost takes = { required_takes ObjectIdentifier };
+}

@@ -1,0 +1,64 @@
+//! Where more about an authority is found (RFC 5280 4.2.2.1, 4.2.2.2).
+ghost use Rattle.der_base.specs.declared.rules.Rules.{Rules};
+ghost use Rattle.der_cursor.specs.Formats.{Never, Only, ReadsField, ReadsInput, Required};
+ghost use Rattle.der_extensions.specs.Extensions.{AccessDescription as AccessFormat, AuthorityInfoAccessSyntax};
+ghost use Rattle.der_extensions.specs.Extensions.{access_of};
+ghost use Rattle.der_extensions.specs.Lists.{list_octets};
+
+use crate::general_name::{GeneralName, read_general_name};
+use crate::list::{Item, SequenceOf, read_list};
+use der_base::error::BerError;
+use der_base::oid::Oid;
+use der_cursor::{Cursor, Refusal};
+
+/// Descriptions of information, one at least.
+pub type InformationAccess<'a> = SequenceOf<'a, AccessDescription<'a>>;
+
+/// Which information it is, and where.
+#[derive(Debug, Drop)]
+pub struct AccessDescription<'a> {
+    pub access_method: Oid<'a>,
+    pub access_location: GeneralName<'a>,
+}
+
+/// Reads the value of an AuthorityInformationAccess or a SubjectInformationAccess by DER: descriptions, of
+/// which there is one at least. Octets left over are refused.
+pub fn read_information_access(octets: &[u8]) -> Result<InformationAccess<'_>, Refusal<BerError>>
+    ensures { ReadsInput Rules.Der (Only (Required AuthorityInfoAccessSyntax)) list_octets Never
+        octets.now result }
+{
+    read_list(octets)
+}
+
+impl<'a> Item<'a, BerError> for AccessDescription<'a> {
+    ghost use Rattle.der_cursor.specs.Formats.{Required};
+    ghost use Rattle.der_cursor.proofs.FormatLaws.{required_takes};
+    ghost use Rattle.der_extensions.specs.Extensions.{AccessDescription as AccessFormat, AccessValue, access_of};
+
+    ghost Value = { AccessValue };
+
+    ghost field = { Required AccessFormat };
+
+    ghost view = { access_of };
+
+    fn read(list: &mut Cursor<'a>) -> Result<AccessDescription<'a>, Refusal<BerError>> {
+        read_access_description(list)
+    }
+
+    ghost takes = { required_takes AccessFormat };
+}
+
+fn read_access_description<'a>(
+    list: &mut Cursor<'a>,
+) -> Result<AccessDescription<'a>, Refusal<BerError>>
+    ensures { ReadsField (Required AccessFormat) access_of Never list.old result list.new }
+{
+    let mut fields = list.open_sequence()?;
+    let access_method = fields.oid()?;
+    let access_location = read_general_name(&mut fields)?;
+    fields.end()?;
+    Ok(AccessDescription {
+        access_method,
+        access_location,
+    })
+}

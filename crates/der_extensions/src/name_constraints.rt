@@ -1,0 +1,117 @@
+//! Which names may be in certificates after this one in a path (RFC 5280 4.2.1.10).
+ghost use Rattle.std.specs.Prelude.{◌<◌, pos};
+ghost use Rattle.std.specs.Option.{option_map};
+ghost use Rattle.der_base.specs.declared.rules.Rules.{Rules};
+ghost use Rattle.der_cursor.specs.Formats.{Default, Implicit, Never, Only, Optional, ReadsField, ReadsInput, Required};
+ghost use Rattle.der_extensions.specs.Extensions.{BaseDistance, GeneralSubtree as SubtreeFormat, GeneralSubtrees};
+ghost use Rattle.der_extensions.specs.Extensions.{NameConstraints as ConstraintsFormat, name_constraints_of};
+ghost use Rattle.der_extensions.specs.Extensions.{subtree_of};
+ghost use Rattle.der_extensions.specs.Lists.{list_octets};
+
+use crate::general_name::{GeneralName, read_general_name};
+use crate::list::{Item, SequenceOf, read_optional};
+use der_base::error::BerError;
+use der_base::header::{Class, Tag};
+use der_cursor::{Cursor, Refusal};
+
+/// The value of the extension NameConstraints.
+#[derive(Debug, Drop)]
+pub struct NameConstraints<'a> {
+    /// Where names have to be, one subtree at least if there are any.
+    pub permitted_subtrees: Option<SequenceOf<'a, GeneralSubtree<'a>>>,
+    /// Where names may not be, one subtree at least if there are any.
+    pub excluded_subtrees: Option<SequenceOf<'a, GeneralSubtree<'a>>>,
+}
+
+/// The names below one.
+#[derive(Debug, Drop)]
+pub struct GeneralSubtree<'a> {
+    pub base: GeneralName<'a>,
+    /// The distance from the base of the first names: 0 in each certificate by RFC 5280, which isn't
+    /// asked.
+    pub minimum: u32,
+    /// That of the last names. None in each certificate by RFC 5280, which isn't asked.
+    pub maximum: Option<u32>,
+}
+
+/// Reads the value of a NameConstraints by DER. Octets left over are refused, and so is a distance above
+/// 2^32-1, by IntegerTooLarge.
+pub fn read_name_constraints(octets: &[u8]) -> Result<NameConstraints<'_>, Refusal<BerError>>
+    ensures { ReadsInput Rules.Der (Only (Required ConstraintsFormat)) name_constraints_of Never octets.now result }
+{
+    let mut input = Cursor::new(octets);
+    let constraints = read_constraints(&mut input)?;
+    input.end()?;
+    Ok(constraints)
+}
+
+fn read_constraints<'a>(input: &mut Cursor<'a>) -> Result<NameConstraints<'a>, Refusal<BerError>>
+    ensures { ReadsField (Required ConstraintsFormat) name_constraints_of Never input.old result input.new }
+{
+    let mut fields = input.open_sequence()?;
+    let permitted_subtrees = read_subtrees(&mut fields, 0)?;
+    let excluded_subtrees = read_subtrees(&mut fields, 1)?;
+    fields.end()?;
+    Ok(NameConstraints {
+        permitted_subtrees,
+        excluded_subtrees,
+    })
+}
+
+/// Reads GeneralSubtrees under an implicit tag of this number, if they are next.
+fn read_subtrees<'a>(
+    fields: &mut Cursor<'a>,
+    number: u32,
+) -> Result<Option<SequenceOf<'a, GeneralSubtree<'a>>>, Refusal<BerError>>
+    requires { number < 31 }
+    ensures { ReadsField (Optional (Implicit number GeneralSubtrees)) (λ x. option_map list_octets x) Never
+        fields.old result fields.new }
+{
+    read_optional(fields, Class::ContextSpecific, Tag(number))
+}
+
+impl<'a> Item<'a, BerError> for GeneralSubtree<'a> {
+    ghost use Rattle.der_cursor.specs.Formats.{Required};
+    ghost use Rattle.der_cursor.proofs.FormatLaws.{required_takes};
+    ghost use Rattle.der_extensions.specs.Extensions.{GeneralSubtree as SubtreeFormat, SubtreeValue, subtree_of};
+
+    ghost Value = { SubtreeValue };
+
+    ghost field = { Required SubtreeFormat };
+
+    ghost view = { subtree_of };
+
+    fn read(list: &mut Cursor<'a>) -> Result<GeneralSubtree<'a>, Refusal<BerError>> {
+        read_subtree(list)
+    }
+
+    ghost takes = { required_takes SubtreeFormat };
+}
+
+fn read_subtree<'a>(list: &mut Cursor<'a>) -> Result<GeneralSubtree<'a>, Refusal<BerError>>
+    ensures { ReadsField (Required SubtreeFormat) subtree_of Never list.old result list.new }
+{
+    let mut fields = list.open_sequence()?;
+    let base = read_general_name(&mut fields)?;
+    let minimum = read_minimum(&mut fields)?;
+    let maximum = read_maximum(&mut fields)?;
+    fields.end()?;
+    Ok(GeneralSubtree {
+        base,
+        minimum,
+        maximum,
+    })
+}
+
+fn read_minimum(fields: &mut Cursor<'_>) -> Result<u32, Refusal<BerError>>
+    ensures { ReadsField (Default (Implicit 0 BaseDistance) (pos 0)) pos Never fields.old result fields.new }
+{
+    fields.implicit(0).u32_or(0)
+}
+
+fn read_maximum(fields: &mut Cursor<'_>) -> Result<Option<u32>, Refusal<BerError>>
+    ensures { ReadsField (Optional (Implicit 1 BaseDistance)) (λ x. option_map pos x) Never
+        fields.old result fields.new }
+{
+    fields.implicit(1).optional_u32()
+}
