@@ -1,17 +1,15 @@
 -- A number with a default under an implicit tag.
-use Rattle.std.proofs.Common.{◌≡◌, ◌≢◌, ℕ, List, Option, Some, None, Result, Ok, Err, refl, sym, ap, subst, ◌∙◌, inl, inr}
+use Rattle.std.proofs.Common.{◌≡◌, ℕ, List, None, Result, Ok, Err, sym, ap, subst, ◌∙◌, inl, inr}
 use Rattle.std.specs.Prelude.{ℤ, pos}
 use Rattle.der_base.specs.declared.error.Error.{Error as BerError}
 use Rattle.der_base.specs.declared.header.Class.TheVariants.{ContextSpecific}
-use Rattle.der_base.specs.declared.rules.Rules.{Rules}
-use Rattle.der_base.specs.declared.rules.Rules.TheVariants.{Der}
 use Rattle.der_base.specs.Numbers.{unsigned}
 use Rattle.der_values.specs.Kinds.{numbers}
 use Rattle.der_cursor.specs.declared.cursor.Cursor.{Cursor}
 use Rattle.der_cursor.specs.declared.refusal.Refusal.{Refusal}
-use Rattle.der_cursor.specs.Cursors.{octets_left, rules_of, advanced, class_wanted, number_wanted, IsTagged, IsNextType, ReadsOr, ReadsValue}
+use Rattle.der_cursor.specs.Cursors.{octets_left, rules_of, advanced, IsTagged, IsNextType, ReadsOr, ReadsValue}
 use Rattle.der_cursor.specs.Elements.{IsNext}
-use Rattle.der_cursor.specs.Formats.{Default, Field, Format, Implicit, Never, Number, ReadsField, ReadsNext, Required}
+use Rattle.der_cursor.specs.Formats.{Default, Format, Implicit, Never, Number, ReadsField, ReadsNext, Required}
 use Rattle.der_cursor.proofs.FormatLaws.{implicit_read}
 use Rattle.der_extensions.proofs.NameLaws.{next_of}
 

@@ -1,3 +1,4 @@
+pub mod CertificateNames
 pub mod DefaultLaws
 pub mod ExtensionLaws
 pub mod ListLaws

@@ -1,11 +1,10 @@
 -- What a loop over the items of a list checks, both ways.
-use Rattle.std.proofs.Common.{◌≡◌, ◌≢◌, ℕ, ◌<◌, List, [], ◌∷◌, length, Option, Some, None, Result, Ok, Err, refl, sym, ap, subst, ◌∙◌, arith}
-use Rattle.std.specs.Prelude.{MatchResult}
+use Rattle.std.proofs.Common.{◌≡◌, ◌≢◌, ℕ, ◌<◌, List, [], ◌∷◌, length, None, Ok, Err, refl, sym, ap, subst, ◌∙◌}
 use Rattle.der_base.specs.declared.header.Class.{Class}
 use Rattle.der_base.specs.declared.rules.Rules.{Rules}
 use Rattle.der_cursor.specs.declared.cursor.Cursor.{Cursor}
-use Rattle.der_cursor.specs.Cursors.{octets_left, rules_of, advanced}
-use Rattle.der_cursor.specs.Formats.{Constructed, Content, Field, Each, Never, ReadsField, ReadsContent, Required}
+use Rattle.der_cursor.specs.Cursors.{octets_left, rules_of}
+use Rattle.der_cursor.specs.Formats.{Constructed, Field, Each, Never, ReadsField, ReadsContent, Required}
 use Rattle.der_extensions.specs.Lists.{IsListOf, ListOf, SomeOf, TakesOctets}
 
 -- the cursor d was reached from c: what is left is a list exactly where all was one

@@ -1,16 +1,15 @@
 -- Names of distribution points, and values that may be absent of which P holds.
-use Rattle.std.proofs.Common.{◌≡◌, ◌≢◌, ℕ, List, Option, Some, None, Result, Ok, Err, refl, sym, ap, subst, ◌∙◌, arith}
+use Rattle.std.proofs.Common.{◌≡◌, Option, Some, None, Result, Ok, Err, refl, sym, subst, arith}
 use Rattle.std.specs.Option.{option_map}
 use Rattle.der_base.specs.declared.error.Error.{Error as BerError}
 use Rattle.der_base.specs.declared.header.Class.TheVariants.{ContextSpecific}
-use Rattle.der_base.specs.declared.rules.Rules.{Rules}
 use Rattle.der_cursor.specs.declared.cursor.Cursor.{Cursor}
 use Rattle.der_cursor.specs.declared.refusal.Refusal.{Refusal}
 use Rattle.der_cursor.specs.Cursors.{octets_left, rules_of}
 use Rattle.der_cursor.specs.Elements.{IsNext}
-use Rattle.der_cursor.specs.Formats.{Field, Format, Implicit, Limited, Never, Optional, ReadsField, Required}
+use Rattle.der_cursor.specs.Formats.{Format, Implicit, Limited, Never, Optional, ReadsField, Required}
 use Rattle.der_extensions.specs.declared.distribution_points.DistributionPointName.{DistributionPointName as NameEnum}
-use Rattle.der_extensions.specs.Extensions.{DistributionPointName, PointNameValue, full_name, name_relative_to_issuer, point_name_of}
+use Rattle.der_extensions.specs.Extensions.{DistributionPointName, full_name, name_relative_to_issuer, point_name_of}
 use Rattle.der_extensions.specs.GeneralNames.{Chosen, GeneralNames, RelativeDistinguishedName}
 use Rattle.der_extensions.proofs.NameLaws.{next_of, one_number}
 

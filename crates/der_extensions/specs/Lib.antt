@@ -1,4 +1,5 @@
 pub mod Extensions
 pub mod GeneralNames
+pub mod Laws
 pub mod Lists
 pub mod Takes

@@ -11,6 +11,7 @@ mod general_name;
 mod information_access;
 mod key_identifiers;
 mod key_usage;
+pub mod laws;
 mod list;
 mod name_constraints;
 

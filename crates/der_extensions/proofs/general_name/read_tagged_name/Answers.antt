@@ -1,5 +1,5 @@
 use Rattle.std.proofs.lemmas.Result.{err_from_is_err_and}
-use Rattle.der_cursor.proofs.FormatLaws.{any_read, inside_of, unopened_of}
+use Rattle.der_cursor.proofs.FormatLaws.{inside_of, unopened_of}
 use Rattle.der_cursor.proofs.Sequences.{only_left, only_read, only_stops}
 use Rattle.der_extensions.proofs.general_name.read_tagged_name.Goals as goal
 
