@@ -29,9 +29,17 @@ list_octets x = x.octets.now
 abbrev pub items_left : {T : Type 0} → Items T → List ℕ
 items_left x = x.left.now
 
+-- the octets i begin with the value v by DER, which rest follows, and with no other
+pub record BeginsWith {V : Type 0} (F : Field V) (i : List ℕ) (v : V) (rest : List ℕ) : Type 0 where
+  pub found : F Der i v rest
+  pub only : (u : V) (k : List ℕ) → F Der i u k → (v ≡ u) × (rest ≡ k)
+
+abbrev pub BeginsWithNone : {V : Type 0} → Field V → List ℕ → Type 0
+BeginsWithNone {V} F i = (v : V) (rest : List ℕ) → ¬ F Der i v rest
+
 -- A call of `next` gives the value that the octets begin with, and those after it are left. It gives None where they
--- begin with none by DER, and they are left.
+-- begin with none, and they are left.
 module _ {S A V : Type 0} (left : S → List ℕ) (view : A → V) (F : Field V) where
   abbrev pub YieldsNext : S → Option A → S → Type 0
-  YieldsNext s r t = MatchOption r (((v : V) (rest : List ℕ) → ¬ F Der (left s) v rest) × (left t ≡ left s))
-      (λ x. F Der (left s) (view x) (left t))
+  YieldsNext s r t = MatchOption r (BeginsWithNone F (left s) × (left t ≡ left s))
+      (λ x. BeginsWith F (left s) (view x) (left t))
