@@ -1,0 +1,35 @@
+//! The text of a refusal.
+use crate::refusal::{Field, RequestRefusal};
+use std::error::Error;
+use std::fmt;
+
+/// The field, the place and the reason: "certificationRequestInfo.subject at 7: wrong value".
+impl fmt::Display for RequestRefusal {
+    fn fmt<W: fmt::Write>(&self, f: &mut fmt::Formatter<W>) -> fmt::Result {
+        write!(f, "{} {}", self.field, self.refusal)
+    }
+}
+
+impl fmt::Debug for RequestRefusal {
+    fn fmt<W: fmt::Write>(&self, f: &mut fmt::Formatter<W>) -> fmt::Result {
+        write!(f, "{self}")
+    }
+}
+
+impl Error for RequestRefusal {}
+
+/// The names of the field and of those that it is in, as the ASN.1 of RFC 2986 4 has them.
+impl fmt::Display for Field {
+    fn fmt<W: fmt::Write>(&self, f: &mut fmt::Formatter<W>) -> fmt::Result {
+        f.write_str(match self {
+            Field::CertificationRequest => "CertificationRequest",
+            Field::CertificationRequestInfo => "certificationRequestInfo",
+            Field::Version => "certificationRequestInfo.version",
+            Field::Subject => "certificationRequestInfo.subject",
+            Field::SubjectPublicKeyInfo => "certificationRequestInfo.subjectPKInfo",
+            Field::Attributes => "certificationRequestInfo.attributes",
+            Field::SignatureAlgorithm => "signatureAlgorithm",
+            Field::Signature => "signature",
+        })
+    }
+}
