@@ -1,2 +1,1 @@
-pub mod ContentLaws
-pub mod FieldLaws
+pub mod Laws

@@ -5,11 +5,11 @@ use Rattle.std.specs.Option.{option_map}
 use Rattle.der_base.specs.declared.header.Class.TheVariants.{Application}
 use Rattle.der_base.specs.declared.time.ASN1DateTime.{ASN1DateTime}
 use Rattle.der_base.specs.Numbers.{signed, unsigned}
-use Rattle.der_cursor.specs.Formats.{Content, Field, Format, Required, OptionalTagged, ◌⨾◌, Only, End, Each, Octets}
-use Rattle.der_cursor.specs.Formats.{Constructed, Sequence, Explicit, Limited, Number, BitString, Text, GeneralizedTime}
+use Rattle.der_cursor.specs.Formats.{Content, Field, Format, Required, OptionalTagged, Passed, ◌⨾◌, ◌⨟◌}
+use Rattle.der_cursor.specs.Formats.{Only, End, Each, Octets, Constructed, Sequence, Explicit, Limited, Number, BitString}
+use Rattle.der_cursor.specs.Formats.{Text, GeneralizedTime}
 use Rattle.kerberos_reader.specs.declared.name.Principal.{Principal}
 use Rattle.kerberos_reader.specs.declared.request.Request.{Request}
-use Rattle.kerberos_reader.specs.Fields.{Passed, ◌⨟◌}
 
 -- KerberosString ::= GeneralString (IA5String); other texts in UTF-8 are read too            (5.2.1)
 abbrev pub KerberosString : Format (List ℕ)

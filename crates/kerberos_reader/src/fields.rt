@@ -2,9 +2,8 @@
 ghost use Rattle.std.specs.Prelude.{pos, true};
 ghost use Rattle.der_base.specs.declared.header.Class.{Class};
 ghost use Rattle.der_cursor.specs.Cursors.{OpensAt};
-ghost use Rattle.der_cursor.specs.Formats.{Constructed, Explicit, Never, Octets, Only, OptionalTagged};
+ghost use Rattle.der_cursor.specs.Formats.{Constructed, Explicit, Never, Octets, Only, Opens, OptionalTagged};
 ghost use Rattle.der_cursor.specs.Formats.{ReadsContent, ReadsField, Required, Sequence};
-ghost use Rattle.kerberos_reader.specs.Fields.{Opens};
 ghost use Rattle.kerberos_reader.specs.Requests.{Exactly, Int32, KdcOptions, KerberosTime, Realm, UInt32};
 
 use der_parser::ber::{ASN1DateTime, Class, Tag};

@@ -1,4 +1,4 @@
-use Rattle.kerberos_reader.proofs.FieldLaws.{field_ends, field_stops, field_unopened}
+use Rattle.der_cursor.proofs.FieldLaws.{field_ends, field_stops, field_unopened}
 use Rattle.kerberos_reader.proofs.fields.check_number.Goals as goal
 
 pub returns-in_err-field : goal.returns-in_err-field

@@ -1,7 +1,8 @@
 use Rattle.std.proofs.Common.{arith}
 use Rattle.std.proofs.lemmas.Int.{ints}
 use Rattle.der_cursor.proofs.FormatLaws.{value_read}
-use Rattle.kerberos_reader.proofs.FieldLaws.{gives, got, got_limited, not_limited, refused, refused_limited, refuses, returned_refusal}
+use Rattle.der_cursor.proofs.FieldLaws.{gives, got, refused, refuses, returned_refusal}
+use Rattle.kerberos_reader.proofs.Laws.{got_limited, not_limited, refused_limited}
 use Rattle.kerberos_reader.proofs.fields.check_value.Goals as goal
 
 pub returns-in_err-read : goal.returns-in_err-read

@@ -1,4 +1,4 @@
-use Rattle.kerberos_reader.proofs.ContentLaws.{not_opened, opened_left, opens_in, opens_nothing}
+use Rattle.der_cursor.proofs.OpenedLaws.{not_opened, opened_left, opens_in, opens_nothing}
 use Rattle.kerberos_reader.proofs.fields.open_last.Goals as goal
 
 pub returns-in_err-inside : goal.returns-in_err-inside

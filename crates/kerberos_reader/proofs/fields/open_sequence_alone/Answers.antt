@@ -1,6 +1,6 @@
 use Rattle.der_cursor.proofs.FormatLaws.{kept_read}
 use Rattle.der_cursor.proofs.Sequences.{only_left, only_stops}
-use Rattle.kerberos_reader.proofs.ContentLaws.{opens_nothing, opens_sequence}
+use Rattle.der_cursor.proofs.OpenedLaws.{opens_nothing, opens_sequence}
 use Rattle.kerberos_reader.proofs.fields.open_sequence_alone.Goals as goal
 
 pub returns-in_err-inside : goal.returns-in_err-inside

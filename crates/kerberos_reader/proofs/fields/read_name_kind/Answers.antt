@@ -1,6 +1,6 @@
 use Rattle.std.proofs.Common.{rules}
 use Rattle.der_cursor.proofs.FormatLaws.{value_read}
-use Rattle.kerberos_reader.proofs.FieldLaws.{field_left, field_read, field_stops, field_unopened, gives, got}
+use Rattle.der_cursor.proofs.FieldLaws.{field_left, field_read, field_stops, field_unopened, gives, got}
 use Rattle.kerberos_reader.proofs.fields.read_name_kind.Goals as goal
 
 pub returns-in_err-field : goal.returns-in_err-field

@@ -1,5 +1,5 @@
 use Rattle.der_cursor.proofs.FormatLaws.{value_read}
-use Rattle.kerberos_reader.proofs.FieldLaws.{field_left, field_read, field_stops, field_unopened}
+use Rattle.der_cursor.proofs.FieldLaws.{field_left, field_read, field_stops, field_unopened}
 use Rattle.kerberos_reader.proofs.fields.read_nonce.Goals as goal
 
 pub returns-in_err-field : goal.returns-in_err-field

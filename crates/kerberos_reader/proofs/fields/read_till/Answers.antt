@@ -1,5 +1,5 @@
 use Rattle.der_cursor.proofs.FormatLaws.{inside_of}
-use Rattle.kerberos_reader.proofs.FieldLaws.{field_unopened}
+use Rattle.der_cursor.proofs.FieldLaws.{field_unopened}
 use Rattle.kerberos_reader.proofs.fields.read_till.Goals as goal
 
 pub returns-in_err-open_field : goal.returns-in_err-open_field

@@ -2,7 +2,7 @@ use Rattle.std.proofs.Common.{refl, sym}
 use Rattle.std.proofs.lemmas.Iterator.Adapters.{option_map_id}
 use Rattle.std.proofs.lemmas.Result.{err_from_is_err_and}
 use Rattle.der_cursor.proofs.FormatLaws.{tagged_absent, tagged_inside, tagged_stops, tagged_unopened}
-use Rattle.kerberos_reader.proofs.FieldLaws.{gives, got, viewed}
+use Rattle.der_cursor.proofs.FieldLaws.{gives, got, viewed}
 use Rattle.kerberos_reader.proofs.fields.read_time.Goals as goal
 
 pub returns-in_err-field : goal.returns-in_err-field

@@ -1,5 +1,5 @@
 use Rattle.kerberos_reader.specs.Requests.{NameFields}
-use Rattle.kerberos_reader.proofs.ContentLaws.{in_sequence, not_within, within}
+use Rattle.der_cursor.proofs.OpenedLaws.{in_sequence, not_within, within}
 use Rattle.kerberos_reader.proofs.name.read_last_name.Goals as goal
 
 pub returns-in_err-fields : goal.returns-in_err-fields

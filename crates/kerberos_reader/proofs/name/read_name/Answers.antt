@@ -4,11 +4,12 @@ use Rattle.std.specs.Prelude.{ℕ, List, map}
 use Rattle.der_base.specs.declared.header.Class.TheVariants.{ContextSpecific}
 use Rattle.der_cursor.proofs.FormatLaws.{required_takes}
 use Rattle.der_cursor.proofs.Lists.{all_read}
-use Rattle.der_cursor.proofs.Sequences.{after, may_need, start, stops_never}
+use Rattle.der_cursor.proofs.Sequences.{after, may_need, rest_read, start, stops_never}
 use Rattle.der_cursor.specs.Formats.{Each, NoMemory, Required}
 use Rattle.kerberos_reader.specs.Requests.{KerberosString}
-use Rattle.kerberos_reader.proofs.ContentLaws.{content_gives, content_stops, in_tag, not_within, rest_read, within}
-use Rattle.kerberos_reader.proofs.FieldLaws.{passed}
+use Rattle.der_cursor.proofs.FieldLaws.{passed}
+use Rattle.der_cursor.proofs.OpenedLaws.{in_tag, not_within, within}
+use Rattle.kerberos_reader.proofs.Laws.{content_gives, content_stops}
 use Rattle.kerberos_reader.proofs.name.read_name.Goals as goal
 
 abbrev text : Bor (List ℕ) → List ℕ

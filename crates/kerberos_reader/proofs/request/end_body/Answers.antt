@@ -1,8 +1,7 @@
 use Rattle.std.proofs.Common.{refl}
 use Rattle.der_cursor.proofs.FormatLaws.{tagged_octets}
-use Rattle.der_cursor.proofs.Sequences.{after, start, stops}
-use Rattle.kerberos_reader.proofs.ContentLaws.{ends}
-use Rattle.kerberos_reader.proofs.FieldLaws.{passed}
+use Rattle.der_cursor.proofs.Sequences.{after, ends, start, stops}
+use Rattle.der_cursor.proofs.FieldLaws.{passed}
 use Rattle.kerberos_reader.proofs.request.end_body.Goals as goal
 
 pub returns-in_err-open_tagged : goal.returns-in_err-open_tagged

@@ -6,8 +6,8 @@ use Rattle.der_cursor.proofs.Lists.{all_read}
 use Rattle.der_cursor.proofs.Sequences.{may_need}
 use Rattle.der_cursor.specs.Formats.{Each, NoMemory, Required}
 use Rattle.kerberos_reader.specs.Requests.{Int32}
-use Rattle.kerberos_reader.proofs.ContentLaws.{in_sequence, not_within, within}
-use Rattle.kerberos_reader.proofs.FieldLaws.{field_unopened, viewed}
+use Rattle.der_cursor.proofs.FieldLaws.{field_unopened, viewed}
+use Rattle.der_cursor.proofs.OpenedLaws.{in_sequence, not_within, within}
 use Rattle.kerberos_reader.proofs.request.read_kinds.Goals as goal
 
 pub returns-in_err-field : goal.returns-in_err-field

@@ -1,10 +1,10 @@
 use Rattle.std.proofs.Common.{refl}
 use Rattle.der_base.specs.declared.header.Class.TheVariants.{ContextSpecific}
 use Rattle.der_cursor.proofs.FormatLaws.{tagged_octets}
-use Rattle.der_cursor.proofs.Sequences.{after, named, start, stops_never}
+use Rattle.der_cursor.proofs.Sequences.{after, named, rest_read, start, stops_never}
 use Rattle.kerberos_reader.specs.Requests.{BodyFields, body_of}
-use Rattle.kerberos_reader.proofs.ContentLaws.{in_tag, not_within_named, rest_read, within_named}
-use Rattle.kerberos_reader.proofs.FieldLaws.{passed}
+use Rattle.der_cursor.proofs.FieldLaws.{passed}
+use Rattle.der_cursor.proofs.OpenedLaws.{in_tag, not_within_named, within_named}
 use Rattle.kerberos_reader.proofs.request.read_message.Goals as goal
 
 pub returns-in_err-named : goal.returns-in_err-named

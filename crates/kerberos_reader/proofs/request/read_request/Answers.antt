@@ -1,7 +1,8 @@
 use Rattle.der_base.specs.declared.header.Class.TheVariants.{Application}
 use Rattle.der_cursor.specs.Formats.{Only, Required}
 use Rattle.kerberos_reader.specs.Requests.{AsReq, RequestFields}
-use Rattle.kerberos_reader.proofs.ContentLaws.{at_start, in_tag, not_within_named, within_named}
+use Rattle.der_cursor.proofs.OpenedLaws.{in_tag, not_within_named, within_named}
+use Rattle.der_cursor.proofs.Sequences.{at_start}
 use Rattle.kerberos_reader.proofs.request.read_request.Goals as goal
 
 pub returns-in_err-fields : goal.returns-in_err-fields

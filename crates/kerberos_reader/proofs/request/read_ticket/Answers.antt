@@ -1,6 +1,6 @@
 use Rattle.std.proofs.Common.{refl}
 use Rattle.der_cursor.proofs.Sequences.{named, named_in}
-use Rattle.kerberos_reader.proofs.FieldLaws.{gives, got, got_then, passed, refused, refused_first, refused_never, refused_then, returned_refusal}
+use Rattle.der_cursor.proofs.FieldLaws.{gives, got, got_then, passed, refused, refused_first, refused_never, refused_then, returned_refusal}
 use Rattle.kerberos_reader.proofs.request.read_ticket.Goals as goal
 
 pub returns-in_err-named : goal.returns-in_err-named

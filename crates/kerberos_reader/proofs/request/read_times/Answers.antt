@@ -1,6 +1,6 @@
 use Rattle.std.proofs.Common.{refl}
 use Rattle.der_cursor.proofs.Sequences.{named}
-use Rattle.kerberos_reader.proofs.FieldLaws.{gives, got, got_then, refused, refused_first, refused_then, returned_refusal}
+use Rattle.der_cursor.proofs.FieldLaws.{gives, got, got_then, refused, refused_first, refused_then, returned_refusal}
 use Rattle.kerberos_reader.proofs.request.read_times.Goals as goal
 
 pub returns-in_err-from : goal.returns-in_err-from
