@@ -21,6 +21,22 @@ const KEY_USES: [&str; 9] = [
     "Decipher Only",
 ];
 
+/// How many nanoseconds a digit of a fraction of a second is worth, from the first digit on.
+const PLACES: [u32; 9] = [
+    100_000_000,
+    10_000_000,
+    1_000_000,
+    100_000,
+    10_000,
+    1_000,
+    100,
+    10,
+    1,
+];
+
+/// What is printed of a list that has nothing.
+const EMPTY: &str = "    <EMPTY>";
+
 /// The lines of a certificate.
 #[derive(Clone, Copy)]
 pub struct Certified<'r, 'a>(pub &'r Contents<'a>);
@@ -130,8 +146,26 @@ impl fmt::Display for Moment {
     fn fmt<W: fmt::Write>(&self, f: &mut fmt::Formatter<W>) -> fmt::Result {
         let time = self.0;
         write!(f, "{:04}-{:02}-{:02} ", time.year, time.month, time.day)?;
-        write!(f, "{:02}:{:02}:{:02}Z", time.hour, time.minute, time.second)
+        write!(f, "{:02}:{:02}:{:02}", time.hour, time.minute, time.second)?;
+        if let Some(nanosecond) = time.nanosecond {
+            write_fraction(f, nanosecond)?;
+        }
+        f.write_str("Z")
     }
+}
+
+/// Writes a number of nanoseconds as a fraction of a second, without zeros at its end.
+fn write_fraction<W: fmt::Write>(f: &mut fmt::Formatter<W>, nanosecond: u32) -> fmt::Result {
+    f.write_str(".")?;
+    let mut left = nanosecond;
+    for place in PLACES {
+        write!(f, "{}", left / place)?;
+        left %= place;
+        if left == 0 {
+            break;
+        }
+    }
+    Ok(())
 }
 
 /// Writes the identifier of an extension, and its value on the next line.
@@ -157,7 +191,8 @@ fn write_constraints<W: fmt::Write>(
     match (constraints.ca, constraints.path_length) {
         (true, Some(length)) => writeln!(f, "    CA:TRUE, pathlen:{length}"),
         (true, None) => writeln!(f, "    CA:TRUE"),
-        (false, _) => writeln!(f, "    CA:FALSE"),
+        (false, Some(length)) => writeln!(f, "    CA:FALSE, pathlen:{length}"),
+        (false, None) => writeln!(f, "    CA:FALSE"),
     }
 }
 
@@ -170,10 +205,16 @@ fn write_key_uses<W: fmt::Write>(f: &mut fmt::Formatter<W>, bits: &BitString<'_>
             follows_another = true;
         }
     }
+    if !follows_another {
+        f.write_str(EMPTY)?;
+    }
     writeln!(f)
 }
 
 fn write_names<W: fmt::Write>(f: &mut fmt::Formatter<W>, names: &[GeneralName<'_>]) -> fmt::Result {
+    if names.is_empty() {
+        return writeln!(f, "{EMPTY}");
+    }
     for (i, name) in names.iter().enumerate() {
         write_separator(f, i > 0)?;
         write_name(f, name)?;
