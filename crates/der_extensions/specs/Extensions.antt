@@ -1,5 +1,6 @@
 -- The values of extensions (RFC 5280 4.2), as their ASN.1 has them, and what the structs of the code stand for.
-use Rattle.std.specs.Prelude.{◌≡◌, ◌⊎◌, ℕ, ◌<◌, ◌-◌, ◌/◌, ◌%◌, ◌^◌, ℤ, pos, Bool, false, Option, List, [], length, slice_get}
+use Rattle.std.specs.Prelude.{◌≡◌, ◌⊎◌, ℕ, ◌<◌, ◌-◌, ◌/◌, ◌%◌, ◌^◌, ℤ, pos, Bool, false}
+use Rattle.std.specs.Prelude.{Option, List, [], length, slice_get}
 use Rattle.std.specs.Option.{option_map, IsSomeAnd}
 use Rattle.der_base.specs.Numbers.{unsigned}
 use Rattle.der_base.specs.Oids.{octets_of}

@@ -1,5 +1,6 @@
 -- A general name has an octet at least, so a list of them ends.
-use Rattle.der_cursor.specs.Formats.{Explicit, Implicit, ObjectIdentifier, OctetString, Octets, Required, Sequence, Text}
+use Rattle.der_cursor.specs.Formats.{Explicit, Implicit, ObjectIdentifier, OctetString, Octets, Required, Sequence}
+use Rattle.der_cursor.specs.Formats.{Text}
 use Rattle.der_cursor.proofs.FormatLaws.{required_takes}
 use Rattle.der_extensions.specs.GeneralNames.{GeneralName, Name, OtherName, other_name, rfc822_name, dns_name}
 use Rattle.der_extensions.specs.GeneralNames.{x400_address, directory_name, edi_party_name, ip_address, registered_id}

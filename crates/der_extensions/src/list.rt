@@ -15,12 +15,12 @@ use der_base::header::{Class, Tag};
 use der_cursor::{Cursor, Refusal};
 use std::marker::PhantomData;
 
-/// A value that lists hold.
+/// A value that lists hold, such as a `GeneralName`.
 pub trait Item<'a, E>: Drop {
     ghost use Rattle.der_cursor.specs.Formats.{Field, Never, ReadsField};
     ghost use Rattle.der_extensions.specs.Lists.{TakesOctets};
 
-    // What the value stands for, its type of ASN.1, and which value of that it is.
+    // The values of its type of ASN.1, that type, and the value that this one stands for.
     ghost Value: { Type 0 };
 
     ghost field: { Field Value };
@@ -31,6 +31,7 @@ pub trait Item<'a, E>: Drop {
     fn read(list: &mut Cursor<'a>) -> Result<Self, Refusal<E>>
         ensures { ReadsField field view Never list.old result list.new };
 
+    // It has an octet at least, so a list ends.
     ghost takes: { TakesOctets field };
 }
 
