@@ -6,7 +6,8 @@ use Rattle.der_base.specs.declared.header.Class.TheVariants.{Application}
 use Rattle.der_base.specs.declared.time.ASN1DateTime.{ASN1DateTime}
 use Rattle.der_base.specs.Numbers.{signed, unsigned}
 use Rattle.der_cursor.specs.Formats.{Content, Field, Format, Required, OptionalTagged, Passed, ◌⨾◌, ◌⨟◌}
-use Rattle.der_cursor.specs.Formats.{Only, End, Each, Octets, Constructed, Sequence, Explicit, Limited, Number, BitString}
+use Rattle.der_cursor.specs.Formats.{Only, End, Each, Octets, Constructed, Sequence}
+use Rattle.der_cursor.specs.Formats.{Explicit, Limited, Number, BitString}
 use Rattle.der_cursor.specs.Formats.{Text, GeneralizedTime}
 use Rattle.kerberos_reader.specs.declared.name.Principal.{Principal}
 use Rattle.kerberos_reader.specs.declared.request.Request.{Request}

@@ -2,20 +2,11 @@
 -- the limits that the RFC sets to lengths and to TRUE (5.1) aren't asked. An INTEGER is read up to 2^32-1, lists may be
 -- empty, texts are whatever their octets are, and elements after the last field of a SEQUENCE are passed over (4).
 use Rattle.std.specs.Borrow.{Bor}
-use Rattle.std.specs.Prelude.{◌≡◌, ℕ, ℤ, pos, Bool, true, false, List, map, Result, IfOk, MatchResult}
-use Rattle.der_base.specs.declared.error.Error.{Error as BerError}
+use Rattle.std.specs.Prelude.{ℕ, ℤ, pos, Bool, true, false, List, map}
 use Rattle.der_base.specs.declared.header.Class.TheVariants.{Application}
-use Rattle.der_base.specs.declared.header.Tag.{Tag}
-use Rattle.der_base.specs.declared.rules.Rules.TheVariants.{Ber}
 use Rattle.der_base.specs.Numbers.{unsigned}
-use Rattle.der_cursor.specs.declared.cursor.Cursor.{Cursor}
-use Rattle.der_cursor.specs.declared.named.FieldRefusal.{FieldRefusal}
-use Rattle.der_cursor.specs.declared.refusal.Refusal.{Refusal}
-use Rattle.der_cursor.specs.Cursors.{octets_left, rules_of}
-use Rattle.der_cursor.specs.Elements.{SpellsElement}
-use Rattle.der_cursor.specs.Formats.{Boolean, Content, Each, Enumerated, Field, Format, Ignored}
-use Rattle.der_cursor.specs.Formats.{Null, Number, OctetString, Required, Sequence, Set, ◌⨾◌}
-use Rattle.der_cursor.specs.Formats.{Never, NoMemoryIn, ReadsWhole}
+use Rattle.der_cursor.specs.Formats.{As, Boolean, Choice, Content, Each, Enumerated, Field, Format, Ignored}
+use Rattle.der_cursor.specs.Formats.{Null, Number, OctetString, Others, Passed, Required, Sequence, Set, ◌⨾◌}
 use Rattle.ldap.specs.declared.message.Content.{Content as ContentStruct}
 use Rattle.ldap.specs.declared.message.Content.TheVariants.{Nothing, Name, Rename, Entry, Comparison, References}
 use Rattle.ldap.specs.declared.message.Content.TheVariants.{Result as Outcome}
@@ -26,7 +17,7 @@ use Rattle.ldap.specs.declared.message.Operation.TheVariants.{DelRequest, Extend
 use Rattle.ldap.specs.declared.message.Operation.TheVariants.{ModifyDNRequest, ModifyRequest, SearchRequest}
 use Rattle.ldap.specs.declared.message.Operation.TheVariants.{SearchResultEntry, SearchResultReference, UnbindRequest}
 use Rattle.ldap.specs.Operations.{number_of}
-use Rattle.ldap.specs.Words.{AnyChoice, As, Others, Passed}
+use Rattle.ldap.specs.Words.{AnyChoice}
 
 -- the names and texts of an operation
 pub data Parts : Type 0 where
@@ -170,8 +161,8 @@ ProtocolOp o = record {
 abbrev pub OperationValue : Type 0
 OperationValue = Operation × Parts
 
-unfoldable pub AnyOperation : Field OperationValue
-AnyOperation r i v rest = Required (ProtocolOp v.0) r i v.1 rest
+abbrev pub AnyOperation : Field OperationValue
+AnyOperation = Choice ProtocolOp
 
 abbrev pub MessageValue : Type 0
 MessageValue = ℤ × (OperationValue × Unit {0})
@@ -199,15 +190,3 @@ parts_of (Outcome n x y) = outcome n x.now y.now
 
 abbrev pub message_of : MessageStruct → MessageValue
 message_of m = (pos m.id, ((m.operation, parts_of m.content), tt))
-
--- a reader returns exactly the message that begins an input, and what follows it, but for memory
-abbrev pub ReadsMessage : List ℕ → Result (Bor (List ℕ) × MessageStruct) FieldRefusal → Type 0
-ReadsMessage i result = ReadsWhole (λ (v : MessageValue × List ℕ). Required Message Ber i v.0 v.1)
-    (λ x. (message_of x.1, x.0.now)) NoMemoryIn result
-
--- the operation of the element that is next, and its tag
-pub record NextOperation (c : Cursor) (result : Result (Operation × Tag) (Refusal BerError)) : Type 0 where
-  pub found : IfOk result (λ x. x.1.0 ≡ number_of x.0)
-  pub only : (o : Operation) (p : Bool) (w : List ℕ × List ℕ)
-      → SpellsElement (rules_of c) Application p (number_of o) (octets_left c) w
-      → MatchResult result (λ x. x.0 ≡ o) Never

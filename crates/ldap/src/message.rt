@@ -1,5 +1,6 @@
 //! Messages, and the operations that they ask for or report (RFC 4511 4.1.1, appendix B).
-ghost use Rattle.ldap.specs.Operations.{IsOperationAt};
+ghost use Rattle.std.specs.Prelude.{◌≡◌};
+ghost use Rattle.ldap.specs.Operations.{IsOperationAt, number_of};
 
 use der_parser::ber::Tag;
 
@@ -11,7 +12,7 @@ pub struct Message<'a> {
     pub content: Content<'a>,
 }
 
-/// The operations. `Debug` writes the name that the RFC gives each.
+/// The operations, with the numbers of their tags. `Debug` writes the name that the RFC gives each.
 #[derive(Clone, Copy, Debug, PartialEq)]
 pub enum Operation {
     BindRequest,
@@ -31,8 +32,8 @@ pub enum Operation {
     CompareRequest,
     CompareResponse,
     AbandonRequest,
-    SearchResultReference,
-    ExtendedRequest,
+    SearchResultReference = 19,
+    ExtendedRequest = 23,
     ExtendedResponse,
     IntermediateResponse,
 }
@@ -66,6 +67,13 @@ pub enum Content<'a> {
 }
 
 impl Operation {
+    /// Its tag, whose class is Application.
+    pub fn tag(self) -> Tag
+        ensures { result.0 ≡ number_of self }
+    {
+        Tag(self as u32)
+    }
+
     /// The operation of this tag, whose class is Application.
     pub fn of_tag(tag: Tag) -> Option<Operation>
         ensures { IsOperationAt tag.0 result }

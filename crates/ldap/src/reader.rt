@@ -1,17 +1,15 @@
 //! Reads messages field by field (RFC 4511 4). Fields after those that the RFC names are passed over.
-ghost use Rattle.std.specs.Prelude.{◌≡◌};
-ghost use Rattle.der_cursor.specs.Formats.{NoMemoryIn, Never, ReadsContent, ReadsField, Required};
-ghost use Rattle.ldap.specs.Messages.{AnyOperation, Assertion, BindContent, CompareContent, EntryContent};
-ghost use Rattle.ldap.specs.Messages.{Message as MessageFormat, ModifyContent, NextOperation, ProtocolOp};
-ghost use Rattle.ldap.specs.Messages.{ReadsMessage, ReferenceContent, RenameContent, ResultContent, SearchContent};
-ghost use Rattle.ldap.specs.Messages.{list_content, message_of, nothing, parts_of};
-ghost use Rattle.ldap.specs.Operations.{number_of};
-ghost use Rattle.ldap.specs.Words.{As, Others};
+ghost use Rattle.der_base.specs.declared.rules.Rules.{Rules};
+ghost use Rattle.der_cursor.specs.Formats.{As, Choice, Never, NoMemoryIn, Others, ReadsContent, ReadsField, ReadsFront};
+ghost use Rattle.der_cursor.specs.Formats.{Required, TellsNext};
+ghost use Rattle.ldap.specs.Messages.{Assertion, BindContent, CompareContent, EntryContent, Message as MessageFormat};
+ghost use Rattle.ldap.specs.Messages.{ModifyContent, ProtocolOp, ReferenceContent, RenameContent, ResultContent};
+ghost use Rattle.ldap.specs.Messages.{SearchContent, list_content, message_of, nothing, parts_of};
 
 use crate::items::{pass_over, read_attributes, read_changes, read_choice, read_text, read_texts};
 use crate::message::{Content, Message, Operation};
 use der_parser::Rules;
-use der_parser::ber::{Class, Tag};
+use der_parser::ber::Class;
 use der_parser::cursor::{Cursor, FieldRefusal, Named, Refusal};
 use der_parser::error::BerError;
 use std::alloc::Global;
@@ -21,7 +19,7 @@ pub fn read_message<'a>(
     alloc: Global,
     octets: &'a [u8],
 ) -> Result<(&'a [u8], Message<'a>), FieldRefusal>
-    ensures { ReadsMessage octets.now result }
+    ensures { ReadsFront Rules.Ber (Required MessageFormat) message_of NoMemoryIn octets.now result }
 {
     let mut input = Cursor::by(Rules::Ber, octets);
     let message = read_fields(alloc, &mut input)?;
@@ -46,61 +44,48 @@ fn read_operation<'a>(
     alloc: Global,
     fields: &mut Cursor<'a>,
 ) -> Result<(Operation, Content<'a>), FieldRefusal>
-    ensures { ReadsField AnyOperation (λ x. (x.0, parts_of x.1)) NoMemoryIn fields.old result fields.new }
+    ensures { ReadsField (Choice ProtocolOp) (λ x. (x.0, parts_of x.1)) NoMemoryIn fields.old result fields.new }
 {
-    let (operation, tag) = next_operation(*fields).named("protocolOp")?;
-    let content = read_content(alloc, operation, tag, fields)?;
+    let operation = next_operation(*fields).named("protocolOp")?;
+    let content = read_content(alloc, operation, fields)?;
     Ok((operation, content))
 }
 
-/// The operation that is next, and its tag.
-fn next_operation(fields: Cursor<'_>) -> Result<(Operation, Tag), Refusal<BerError>>
-    ensures { NextOperation fields.entry result }
+/// The operation that is next.
+fn next_operation(fields: Cursor<'_>) -> Result<Operation, Refusal<BerError>>
+    ensures { TellsNext ProtocolOp fields.entry result }
 {
     let mut ahead = fields;
     let tag = ahead.any()?.tag();
-    match Operation::of_tag(tag) {
-        Some(operation) => Ok((operation, tag)),
-        None => Err(fields.refuse(BerError::UnknownTag(tag.0))),
-    }
+    Operation::of_tag(tag).ok_or(fields.refuse(BerError::UnknownTag(tag.0)))
 }
 
 /// Reads an operation under its implicit tag.
 fn read_content<'a>(
     alloc: Global,
     operation: Operation,
-    tag: Tag,
     fields: &mut Cursor<'a>,
 ) -> Result<Content<'a>, FieldRefusal>
-    requires { tag.0 ≡ number_of operation }
     ensures { ReadsField (Required (ProtocolOp operation)) parts_of NoMemoryIn fields.old result fields.new }
 {
     match operation {
         Operation::UnbindRequest => {
-            fields
-                .implicit_of(Class::Application, 2)
-                .null()
-                .named("protocolOp")?;
+            let field = fields.implicit_of(Class::Application, 2);
+            field.null().named("protocolOp")?;
             Ok(Content::Nothing)
         }
         Operation::AbandonRequest => {
-            fields
-                .implicit_of(Class::Application, 16)
-                .u32()
-                .named("protocolOp")?;
+            let field = fields.implicit_of(Class::Application, 16);
+            field.u32().named("protocolOp")?;
             Ok(Content::Nothing)
         }
         Operation::DelRequest => {
-            let name = fields
-                .implicit_of(Class::Application, 10)
-                .octets()
-                .named("protocolOp")?;
-            Ok(Content::Name(name))
+            let field = fields.implicit_of(Class::Application, 10);
+            Ok(Content::Name(field.octets().named("protocolOp")?))
         }
         _ => {
-            let list = fields
-                .open(Class::Application, true, tag)
-                .named("protocolOp")?;
+            let list = fields.open(Class::Application, true, operation.tag());
+            let list = list.named("protocolOp")?;
             read_list(alloc, operation, list).named("protocolOp")
         }
     }

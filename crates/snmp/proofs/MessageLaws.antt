@@ -1,51 +1,25 @@
 -- Fields of messages, from those that a cursor reads.
-use Rattle.std.proofs.Common.{◌≡◌, ◌≢◌, ℕ, pos, Bool, false, List, length, Result, Ok, Err, Bor, refl, sym, ap, subst, ◌∙◌, arith}
+use Rattle.std.proofs.Common.{◌≡◌, ◌≢◌, ℕ, pos, false, List, length, Result, Ok, Err, Bor, refl, sym, ap, subst, ◌∙◌, arith}
 use Rattle.std.specs.Net.Addr.{ipv4_octets}
+use Rattle.std.specs.Prelude.{MatchResult}
 use Rattle.std.specs.Result.{IsErrAnd}
 use Rattle.std.specs.declared.net.ipv4_addr.Ipv4Addr.{Ipv4Addr}
 use Rattle.std.proofs.lemmas.Int.{ints}
 use Rattle.std.proofs.lemmas.Result.{err_from_is_err_and}
 use Rattle.der_base.specs.declared.any.Any.{Any}
 use Rattle.der_base.specs.declared.error.Error.{Error as BerError}
-use Rattle.der_base.specs.declared.header.Class.{Class}
 use Rattle.der_base.specs.declared.header.Class.TheVariants.{Application}
 use Rattle.der_base.specs.Numbers.{unsigned}
 use Rattle.der_cursor.specs.declared.cursor.Cursor.{Cursor}
-use Rattle.der_cursor.specs.declared.named.FieldRefusal.{FieldRefusal}
 use Rattle.der_cursor.specs.declared.refusal.Refusal.{Refusal}
-use Rattle.der_cursor.specs.Cursors.{octets_left, rules_of, OpensAt}
+use Rattle.der_cursor.specs.Cursors.{octets_left, rules_of}
 use Rattle.der_cursor.specs.Elements.{SpellsElement}
-use Rattle.der_cursor.specs.Named.{NamesRefusal}
-use Rattle.der_cursor.specs.Formats.{AnyElement, Content, Element, Field, Required, Never, Number, OctetString, Tagged, element_of}
-use Rattle.der_cursor.specs.Formats.{ReadsWhole, ReadsField, ReadsContent}
-use Rattle.der_cursor.proofs.FormatLaws.{inside_of, unopened_of}
+use Rattle.der_cursor.specs.Formats.{AnyElement, Element, Field, Required, Never, Number, OctetString, Tagged, element_of}
+use Rattle.der_cursor.specs.Formats.{ReadsWhole, ReadsField}
 use Rattle.snmp.specs.declared.message.Value.{Value as ValueStruct}
 use Rattle.snmp.specs.declared.message.Version.{Version}
 use Rattle.snmp.specs.declared.message.Version.TheVariants.{One, TwoC}
 use Rattle.snmp.specs.Messages.{IpAddress, IsSyntax, ObjectSyntax, ReadsSyntax, VersionFormat, syntax_of, version_number}
-
--- Elements of any class that are opened, with the name of their field.
-pub ok_named : {T : Type 0} (name : Bor (List ℕ)) (x : T) (r : Result T (Refusal BerError)) → NamesRefusal r name (Ok x) → r ≡ Ok x
-ok_named {T} name x (Ok y) n = let q : ◌≡◌ {A = Result T FieldRefusal} (Ok x) (Ok y) = n in let e : x ≡ y = cc in ap Ok (sym e)
-ok_named name x (Err e) n = absurd n
-
-pub err_named : {T : Type 0} (name : Bor (List ℕ)) (f : FieldRefusal) (r : Result T (Refusal BerError)) → NamesRefusal r name (Err f) → (e : Refusal BerError) × (r ≡ Err e)
-err_named {T} name f (Ok y) n = let q : ◌≡◌ {A = Result T FieldRefusal} (Err f) (Ok y) = n in absurd cc
-err_named name f (Err e) n = (e, refl)
-
-pub inside_of_named : {V : Type 0} (n : ℕ) (C : Content V) (name : Bor (List ℕ)) (inner : Cursor) {T E : Type 0} {view : T → V} {May : E → Type 0} {c : Class} {p : Bool} {m : ℕ} {old new : Cursor} {r : Result Cursor (Refusal BerError)} {result : Result T E}
-    → m ≡ n → OpensAt c p m old r new → NamesRefusal r name (Ok inner) → ReadsContent C view May inner result
-    → ReadsField (Required (record { class = c; number = n; constructed = p; content = C })) view May old result new
-inside_of_named n C name inner {c = c} {p = p} {m = m} {old = old} {new = new} {r = r} q o s h =
-    inside_of C (subst (λ k. OpensAt c p k old (Ok inner) new) q (subst (λ x. OpensAt c p m old x new) (ok_named name inner r s) o)) h
-
-pub unopened_of_named : {V : Type 0} (n : ℕ) (C : Content V) (name : Bor (List ℕ)) {T : Type 0} {view : T → V} {May : FieldRefusal → Type 0} {c : Class} {p : Bool} {m : ℕ} {old after new : Cursor} (f : FieldRefusal) {r : Result Cursor (Refusal BerError)}
-    {result : Result T FieldRefusal} → m ≡ n → OpensAt c p m old r after → NamesRefusal r name (Err f) → IsErrAnd result (λ y. y ≡ f)
-    → ReadsField (Required (record { class = c; number = n; constructed = p; content = C })) view May old result new
-unopened_of_named n C name {c = c} {p = p} {m = m} {old = old} {after = after} f {r = r} {result = result} q o s x =
-    let e = err_named name f r s in
-    let y = err_from_is_err_and result x in
-    rw y.1 (unopened_of C (subst (λ k. OpensAt c p k old (Err e.0) after) q (subst (λ z. OpensAt c p m old z after) e.1 o)))
 
 -- a reader that takes no memory
 abbrev Reads : {T V : Type 0} → Field V → (T → V) → Cursor → Result T (Refusal BerError) → Cursor → Type 0
@@ -106,6 +80,12 @@ module _ {old : Cursor} where
   unfolding Required
   address_stops h fresh = let r = h fresh in record { found = tt; only = λ u rest z. r.only u rest (z.0, z.1.0, z.2) }
 
+-- the address of what was read, or a refusal at its place
+pub address_turned : {old new : Cursor} (P : BerError → Refusal BerError → Type 0) (w : Bor (List ℕ)) (r : Result Ipv4Addr BerError) (s : Result Ipv4Addr (Refusal BerError))
+    → Reads (Required (Tagged Application 0 OctetString)) (λ v. v.now) old (Ok w) new → IsAddressOf w r → MatchResult r (λ x. s ≡ Ok x) (λ e. IsErrAnd s (P e)) → Reads (Required IpAddress) ipv4_octets old s new
+address_turned P w (Ok a) s h i m = rw m (address_read w a h i)
+address_turned P w (Err x) s h i m = let y = err_from_is_err_and s m in rw y.1 (address_refused w h i)
+
 -- Values of bindings.
 module _ {old : Cursor} where
   pub syntax_read : {new : Cursor} (a : Any) (x : ValueStruct) → Reads AnyElement element_of old (Ok a) new → ReadsSyntax (element_of a) (Ok x) → Reads ObjectSyntax syntax_of old (Ok x) new
@@ -129,6 +109,12 @@ module _ {old : Cursor} where
   pub syntax_stops : {new after : Cursor} {x e : Refusal BerError} → Reads {T = Any} AnyElement element_of old (Err x) new → Reads ObjectSyntax syntax_of old (Err e) after
   unfolding ObjectSyntax AnyElement
   syntax_stops h fresh = let r = h fresh in record { found = tt; only = λ v rest z. r.only (z.0, false, z.1, z.2) rest z.4 }
+
+-- the value of what was read, or a refusal at its place
+pub syntax_turned : {old new : Cursor} (P : BerError → Refusal BerError → Type 0) (a : Any) (r : Result ValueStruct BerError) (s : Result ValueStruct (Refusal BerError))
+    → Reads AnyElement element_of old (Ok a) new → ReadsSyntax (element_of a) r → MatchResult r (λ x. s ≡ Ok x) (λ e. IsErrAnd s (P e)) → Reads ObjectSyntax syntax_of old s new
+syntax_turned P a (Ok x) s h i m = rw m (syntax_read a x h i)
+syntax_turned P a (Err x) s h i m = let y = err_from_is_err_and s m in rw y.1 (syntax_refused a h i)
 
 -- a part of a value that is the same
 pub same_first : {A B : Type 0} {x y : A} {b : B} → x ≡ y → ◌≡◌ {A = A × B} (x, b) (y, b)

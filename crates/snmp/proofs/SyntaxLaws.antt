@@ -1,5 +1,6 @@
 -- The types of values: an element is of one of them at most, and has one value.
-use Rattle.std.proofs.Common.{◌≡◌, ◌≢◌, ℕ, ◌+◌, ◌*◌, false, List, [], length, Ok, Err, refl, sym, ap, ◌∙◌, arith}
+use Rattle.std.proofs.Common.{◌≡◌, ◌≢◌, ℕ, ◌+◌, ◌*◌, false, List, [], length, Result, Ok, Err, refl, sym, ap, ◌∙◌, arith}
+use Rattle.std.specs.Prelude.{MatchResult}
 use Rattle.der_base.specs.declared.error.Error.{Error as BerError}
 use Rattle.der_base.specs.declared.header.Class.{Class}
 use Rattle.der_base.specs.declared.header.Class.TheVariants.{Universal, Application, ContextSpecific, Private}
@@ -77,6 +78,12 @@ is_value e x p h = record {
 -- one that isn't
 pub no_value : (e : Element) (x : BerError) → ((v : Syntax) → e.1 ≡ false → ¬ IsSyntax v e.0 e.2 e.3) → ReadsSyntax e (Err x)
 no_value e x n = record { found = tt; only = λ v z. n v z.0 z.1 }
+
+-- an element whose type has one value, that of no octets
+pub value_of_none : (e : Element) (x : ValueStruct) (r : Result ValueStruct BerError) → e.1 ≡ false → MatchResult r (λ y. (e.3 ≡ []) × (y ≡ x)) (λ _. e.3 ≢ []) → (e.3 ≡ [] → IsSyntax (syntax_of x) e.0 e.2 e.3)
+    → (e.3 ≢ [] → (v : Syntax) → ¬ IsSyntax v e.0 e.2 e.3) → ReadsSyntax e r
+value_of_none e x (Ok y) p m f g = rw m.1 (is_value e x p (f m.0))
+value_of_none e x (Err b) p m f g = no_value e b (λ v q z. g m v z)
 
 -- Elements of a type whose octets have no value.
 

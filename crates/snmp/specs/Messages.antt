@@ -1,30 +1,24 @@
 -- Messages, as their ASN.1 has them, and what the structs of the code stand for.
-use Rattle.std.specs.Prelude.{◌≡◌, ◌≢◌, ℕ, ℤ, pos, true, false, List, length, map, Result, IfOk, MatchResult}
-use Rattle.std.specs.Borrow.{Bor}
+use Rattle.std.specs.Prelude.{◌≡◌, ℕ, ℤ, pos, true, false, List, length, map, Result}
 use Rattle.std.specs.Net.Addr.{ipv4_octets}
 use Rattle.der_base.specs.declared.error.Error.{Error as BerError}
 use Rattle.der_base.specs.declared.header.Class.{Class}
 use Rattle.der_base.specs.declared.header.Class.TheVariants.{Application, ContextSpecific}
-use Rattle.der_base.specs.declared.header.Tag.{Tag}
 use Rattle.der_base.specs.declared.rules.Rules.TheVariants.{Ber}
 use Rattle.der_base.specs.Numbers.{signed, unsigned}
 use Rattle.der_base.specs.Oids.{octets_of}
-use Rattle.der_cursor.specs.declared.cursor.Cursor.{Cursor}
-use Rattle.der_cursor.specs.declared.named.FieldRefusal.{FieldRefusal}
-use Rattle.der_cursor.specs.declared.refusal.Refusal.{Refusal}
-use Rattle.der_cursor.specs.Cursors.{octets_left, rules_of}
 use Rattle.der_cursor.specs.Elements.{SpellsElement}
-use Rattle.der_cursor.specs.Formats.{Element, Field, Format, Required, ◌⨾◌, End, Each, Sequence, Constructed, Implicit}
-use Rattle.der_cursor.specs.Formats.{Tagged, Primitive, Limited, Number, OctetString, ObjectIdentifier}
-use Rattle.der_cursor.specs.Formats.{ReadsWhole, Never, NoMemoryIn}
+use Rattle.der_cursor.specs.Formats.{As, Choice, Content, Element, Field, Format, Required, ◌⨾◌, End, Each, Sequence}
+use Rattle.der_cursor.specs.Formats.{Constructed, Implicit, Tagged, Primitive, Limited}
+use Rattle.der_cursor.specs.Formats.{Number, OctetString, ObjectIdentifier}
+use Rattle.der_cursor.specs.Formats.{ReadsWhole, Never}
 use Rattle.snmp.specs.declared.message.Binding.{Binding}
-use Rattle.snmp.specs.declared.message.CommonPdu.{CommonPdu}
+use Rattle.snmp.specs.declared.message.Content.{Content as ContentStruct}
+use Rattle.snmp.specs.declared.message.Content.TheVariants.{Common, Trap as TrapVariant}
 use Rattle.snmp.specs.declared.message.Message.{Message as MessageStruct}
 use Rattle.snmp.specs.declared.message.Operation.{Operation}
 use Rattle.snmp.specs.declared.message.Operation.TheVariants.{Trap}
-use Rattle.snmp.specs.declared.message.Pdu.{Pdu}
-use Rattle.snmp.specs.declared.message.Pdu.TheVariants.{Common, Trap as TrapVariant}
-use Rattle.snmp.specs.declared.message.TrapPdu.{TrapPdu}
+use Rattle.snmp.specs.declared.message.Pdu.{Pdu as PduStruct}
 use Rattle.snmp.specs.declared.message.Value.{Value}
 use Rattle.snmp.specs.declared.message.Value.TheVariants.{Integer, OctetString as Octets, Null, Identifier, Address}
 use Rattle.snmp.specs.declared.message.Value.TheVariants.{Counter32, Gauge32, TimeTicks, Opaque, Counter64}
@@ -94,13 +88,13 @@ CommonValue = ℤ × (ℤ × (ℤ × (List BindingValue × Unit {0})))
 abbrev pub TrapValue : Type 0
 TrapValue = List ℕ × (List ℕ × (ℤ × (ℤ × (ℤ × (List BindingValue × Unit {0})))))
 
-pub data PduValue : Type 0 where
-  common : Operation → CommonValue → PduValue
-  trap : TrapValue → PduValue
+pub data ContentValue : Type 0 where
+  common : CommonValue → ContentValue
+  trap : TrapValue → ContentValue
 
 -- PDU ::= SEQUENCE {                                                          (RFC 1157 4.1.1, RFC 3416 3)
-abbrev pub CommonFormat : Operation → Format CommonValue
-CommonFormat o = Constructed ContextSpecific (number_of o) (
+abbrev pub CommonContent : Content ContentValue
+CommonContent = As common (
     Required (Number (signed 32))  -- request-id         INTEGER,
     ⨾ (Required (Number (unsigned 32))  -- error-status       INTEGER,
     ⨾ (Required (Number (unsigned 32))  -- error-index        INTEGER,
@@ -108,8 +102,8 @@ CommonFormat o = Constructed ContextSpecific (number_of o) (
     ⨾ End))))
 
 -- Trap-PDU ::= [4] IMPLICIT SEQUENCE {                                        (RFC 1157 4.1.6)
-abbrev pub TrapFormat : Format TrapValue
-TrapFormat = Constructed ContextSpecific (number_of Trap) (
+abbrev pub TrapContent : Content ContentValue
+TrapContent = As trap (
     Required ObjectIdentifier  -- enterprise         OBJECT IDENTIFIER,
     ⨾ (Required IpAddress  -- agent-addr         NetworkAddress,
     ⨾ (Required (Number (unsigned 32))  -- generic-trap       INTEGER,
@@ -118,14 +112,20 @@ TrapFormat = Constructed ContextSpecific (number_of Trap) (
     ⨾ (Required VarBindList  -- variable-bindings  VarBindList }
     ⨾ End))))))
 
--- PDUs, of any version
-unfoldable pub Pdus : Field PduValue
-Pdus r i (common o x) rest = (o ≢ Trap) × Required (CommonFormat o) r i x rest
-Pdus r i (trap x) rest = Required TrapFormat r i x rest
+abbrev pub pdu_content : Operation → Content ContentValue
+pdu_content Trap = TrapContent
+pdu_content o = CommonContent
 
-abbrev pub operation_of : PduValue → Operation
-operation_of (common o x) = o
-operation_of (trap x) = Trap
+-- [n] IMPLICIT, with the number of the operation                              (RFC 1157 4, RFC 3416 3)
+abbrev pub PduFormat : Operation → Format ContentValue
+PduFormat o = Constructed ContextSpecific (number_of o) (pdu_content o)
+
+-- PDUs, of any version: the operation, and the content
+abbrev pub PduValue : Type 0
+PduValue = Operation × ContentValue
+
+abbrev pub Pdus : Field PduValue
+Pdus = Choice PduFormat
 
 -- Messages.
 
@@ -149,7 +149,7 @@ MessageFields = Sequence (
 
 -- the version has the operation of the message
 abbrev pub IsOfVersion : MessageValue → Type 0
-IsOfVersion m = has m.0 (operation_of m.1.1.0) ≡ true
+IsOfVersion m = has m.0 m.1.1.0.0 ≡ true
 
 abbrev pub Message : Format MessageValue
 Message = Limited IsOfVersion MessageFields
@@ -174,43 +174,17 @@ syntax_of EndOfMibView = end_of_mib_view
 abbrev pub binding_of : Binding → BindingValue
 binding_of b = (octets_of b.name, (syntax_of b.value, tt))
 
-abbrev pub common_of : CommonPdu → CommonValue
-common_of p = (p.request_id, (pos p.error_status, (pos p.error_index, (map binding_of p.bindings.items, tt))))
+abbrev pub content_of : ContentStruct → ContentValue
+content_of (Common n s i v) = common (n, (pos s, (pos i, (map binding_of v.items, tt))))
+content_of (TrapVariant e a g s t v) =
+    trap (octets_of e, (ipv4_octets a, (pos g, (s, (pos t, (map binding_of v.items, tt))))))
 
-abbrev pub trap_of : TrapPdu → TrapValue
-trap_of p = (
-  octets_of p.enterprise,
-  (
-    ipv4_octets p.agent_address,
-    (
-      pos p.generic_trap,
-      (
-        p.specific_trap,
-        (pos p.time_stamp, (map binding_of p.bindings.items, tt)),
-      ),
-    ),
-  ),
-)
-
-abbrev pub pdu_of : Pdu → PduValue
-pdu_of (Common p) = common p.operation (common_of p)
-pdu_of (TrapVariant p) = trap (trap_of p)
+abbrev pub pdu_of : PduStruct → PduValue
+pdu_of p = (p.operation, content_of p.content)
 
 abbrev pub message_of : MessageStruct → MessageValue
 message_of m = (m.version, (m.community.now, (pdu_of m.pdu, tt)))
 
--- a reader returns exactly the message that begins an input, and what follows it, but for memory
-abbrev pub ReadsMessage : List ℕ → Result (Bor (List ℕ) × MessageStruct) FieldRefusal → Type 0
-ReadsMessage i result = ReadsWhole (λ (v : MessageValue × List ℕ). Required Message Ber i v.0 v.1)
-    (λ x. (message_of x.1, x.0.now)) NoMemoryIn result
-
 -- a value of an element, if it is primitive and of one of the types
 abbrev pub ReadsSyntax : Element → Result Value BerError → Type 0
 ReadsSyntax e result = ReadsWhole (λ v. (e.1 ≡ false) × IsSyntax v e.0 e.2 e.3) syntax_of Never result
-
--- the operation of the element that is next, and its tag
-pub record NextOperation (c : Cursor) (result : Result (Operation × Tag) (Refusal BerError)) : Type 0 where
-  pub found : IfOk result (λ x. x.1.0 ≡ number_of x.0)
-  pub only : (o : Operation) (w : List ℕ × List ℕ)
-      → SpellsElement (rules_of c) ContextSpecific true (number_of o) (octets_left c) w
-      → MatchResult result (λ x. x.0 ≡ o) Never

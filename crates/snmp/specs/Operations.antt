@@ -3,8 +3,6 @@ use Rattle.std.specs.Prelude.{◌≡◌, ◌≢◌, ℕ, Bool, true, false, Opti
 use Rattle.snmp.specs.declared.message.Operation.{Operation}
 use Rattle.snmp.specs.declared.message.Operation.TheVariants.{GetRequest, GetNextRequest, Response, SetRequest, Trap}
 use Rattle.snmp.specs.declared.message.Operation.TheVariants.{GetBulkRequest, InformRequest, TrapOfVersion2, Report}
-use Rattle.snmp.specs.declared.message.Pdu.{Pdu}
-use Rattle.snmp.specs.declared.message.Pdu.TheVariants.{Common, Trap as TrapVariant}
 use Rattle.snmp.specs.declared.message.Version.{Version}
 use Rattle.snmp.specs.declared.message.Version.TheVariants.{One, TwoC}
 
@@ -32,7 +30,3 @@ has v o = true
 -- the operation of this tag number, if there is one
 abbrev pub IsOperationAt : ℕ → Option Operation → Type 0
 IsOperationAt n result = MatchOption result ((o : Operation) → number_of o ≢ n) (λ o. number_of o ≡ n)
-
-abbrev pub operation_in : Pdu → Operation
-operation_in (Common p) = p.operation
-operation_in (TrapVariant p) = Trap

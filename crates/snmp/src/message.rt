@@ -1,7 +1,7 @@
 //! Messages of version 1 (RFC 1157 4) and 2c (RFC 1901 3, RFC 3416 3), and the types of values (RFC 1155
 //! 3.2.3, RFC 2578 2).
 ghost use Rattle.std.specs.Prelude.{◌≡◌};
-ghost use Rattle.snmp.specs.Operations.{IsOperationAt, has, operation_in};
+ghost use Rattle.snmp.specs.Operations.{IsOperationAt, has, number_of};
 
 use der_parser::ber::Tag;
 use der_parser::oid::Oid;
@@ -24,31 +24,31 @@ pub enum Version {
 
 /// What a message asks or reports.
 #[derive(Debug, Drop)]
-pub enum Pdu<'a> {
-    Common(CommonPdu<'a>),
-    Trap(TrapPdu<'a>),
-}
-
-/// The form of all but a trap of version 1. In a GetBulkRequest the numbers on errors are non-repeaters
-/// and max-repetitions.
-#[derive(Debug, Drop)]
-pub struct CommonPdu<'a> {
+pub struct Pdu<'a> {
     pub operation: Operation,
-    pub request_id: i32,
-    pub error_status: u32,
-    pub error_index: u32,
-    pub bindings: Vec<Binding<'a>>,
+    pub content: Content<'a>,
 }
 
-/// A trap of version 1.
+/// What a PDU has, by its operation.
 #[derive(Debug, Drop)]
-pub struct TrapPdu<'a> {
-    pub enterprise: Oid<'a>,
-    pub agent_address: Ipv4Addr,
-    pub generic_trap: u32,
-    pub specific_trap: i32,
-    pub time_stamp: u32,
-    pub bindings: Vec<Binding<'a>>,
+pub enum Content<'a> {
+    /// The form of all but a trap of version 1. In a GetBulkRequest the numbers on errors are
+    /// non-repeaters and max-repetitions.
+    Common {
+        request_id: i32,
+        error_status: u32,
+        error_index: u32,
+        bindings: Vec<Binding<'a>>,
+    },
+    /// A trap of version 1.
+    Trap {
+        enterprise: Oid<'a>,
+        agent_address: Ipv4Addr,
+        generic_trap: u32,
+        specific_trap: i32,
+        time_stamp: u32,
+        bindings: Vec<Binding<'a>>,
+    },
 }
 
 /// The operations, in the order of their tag numbers.
@@ -95,44 +95,40 @@ impl Version {
     pub fn has(self, operation: Operation) -> bool
         ensures { result ≡ has self operation }
     {
-        match (self, operation) {
-            (Version::One, Operation::GetBulkRequest)
-            | (Version::One, Operation::InformRequest)
-            | (Version::One, Operation::TrapOfVersion2)
-            | (Version::One, Operation::Report)
-            | (Version::TwoC, Operation::Trap) => false,
+        match operation {
+            Operation::GetBulkRequest
+            | Operation::InformRequest
+            | Operation::TrapOfVersion2
+            | Operation::Report => self == Version::TwoC,
+            Operation::Trap => self == Version::One,
             _ => true,
         }
     }
 }
 
 impl Operation {
+    /// Its tag (RFC 1157 4.1, RFC 3416 3).
+    pub fn tag(self) -> Tag
+        ensures { result.0 ≡ number_of self }
+    {
+        Tag(self as u32)
+    }
+
     /// The operation of this tag.
     pub fn of_tag(tag: Tag) -> Option<Operation>
         ensures { IsOperationAt tag.0 result }
     {
-        match tag.0 {
-            0 => Some(Operation::GetRequest),
-            1 => Some(Operation::GetNextRequest),
-            2 => Some(Operation::Response),
-            3 => Some(Operation::SetRequest),
-            4 => Some(Operation::Trap),
-            5 => Some(Operation::GetBulkRequest),
-            6 => Some(Operation::InformRequest),
-            7 => Some(Operation::TrapOfVersion2),
-            8 => Some(Operation::Report),
-            _ => None,
-        }
-    }
-}
-
-impl Pdu<'_> {
-    pub fn operation(&self) -> Operation
-        ensures { result ≡ operation_in self.now }
-    {
-        match self {
-            Pdu::Common(pdu) => pdu.operation,
-            Pdu::Trap(_) => Operation::Trap,
-        }
+        Some(match tag.0 {
+            0 => Operation::GetRequest,
+            1 => Operation::GetNextRequest,
+            2 => Operation::Response,
+            3 => Operation::SetRequest,
+            4 => Operation::Trap,
+            5 => Operation::GetBulkRequest,
+            6 => Operation::InformRequest,
+            7 => Operation::TrapOfVersion2,
+            8 => Operation::Report,
+            _ => return None,
+        })
     }
 }

@@ -1,5 +1,5 @@
 //! The lines that describe a message.
-use crate::message::{Binding, CommonPdu, Message, Operation, Pdu, TrapPdu, Value};
+use crate::message::{Content, Message, Operation, Value};
 use std::fmt;
 
 /// A line for the message, and one for each binding.
@@ -7,53 +7,42 @@ impl fmt::Display for Message<'_> {
     fn fmt<W: fmt::Write>(&self, f: &mut fmt::Formatter<W>) -> fmt::Result {
         let version = self.version as u8;
         let community = self.community.escape_ascii();
-        write!(f, "version {version} \"{community}\" {}", self.pdu)
-    }
-}
-
-impl fmt::Display for Pdu<'_> {
-    fn fmt<W: fmt::Write>(&self, f: &mut fmt::Formatter<W>) -> fmt::Result {
-        match self {
-            Pdu::Common(pdu) => write!(f, "{pdu}"),
-            Pdu::Trap(pdu) => write!(f, "{pdu}"),
+        write!(f, "version {version} \"{community}\" ")?;
+        let operation = self.pdu.operation;
+        let bindings = match &self.pdu.content {
+            Content::Common {
+                request_id,
+                error_status,
+                error_index,
+                bindings,
+            } => {
+                write!(
+                    f,
+                    "Pdu(\"{operation}\", {request_id}, {error_status}, {error_index})"
+                )?;
+                bindings
+            }
+            Content::Trap {
+                enterprise,
+                agent_address,
+                generic_trap,
+                specific_trap,
+                time_stamp,
+                bindings,
+            } => {
+                write!(f, "Trap({enterprise}, IpAddress({agent_address}), ")?;
+                write!(
+                    f,
+                    "{generic_trap}, {specific_trap}, TimeTicks({time_stamp}))"
+                )?;
+                bindings
+            }
+        };
+        for binding in bindings {
+            write!(f, "\n  {} = {}", binding.name, binding.value)?;
         }
+        Ok(())
     }
-}
-
-impl fmt::Display for CommonPdu<'_> {
-    fn fmt<W: fmt::Write>(&self, f: &mut fmt::Formatter<W>) -> fmt::Result {
-        write!(
-            f,
-            "Pdu(\"{}\", {}, {}, {})",
-            self.operation, self.request_id, self.error_status, self.error_index
-        )?;
-        write_bindings(f, &self.bindings)
-    }
-}
-
-impl fmt::Display for TrapPdu<'_> {
-    fn fmt<W: fmt::Write>(&self, f: &mut fmt::Formatter<W>) -> fmt::Result {
-        write!(
-            f,
-            "Trap({}, IpAddress({}), {}, {}, TimeTicks({}))",
-            self.enterprise,
-            self.agent_address,
-            self.generic_trap,
-            self.specific_trap,
-            self.time_stamp
-        )?;
-        write_bindings(f, &self.bindings)
-    }
-}
-
-fn write_bindings<W: fmt::Write>(
-    f: &mut fmt::Formatter<W>,
-    bindings: &[Binding<'_>],
-) -> fmt::Result {
-    for binding in bindings {
-        write!(f, "\n  {} = {}", binding.name, binding.value)?;
-    }
-    Ok(())
 }
 
 /// The name of the RFC.

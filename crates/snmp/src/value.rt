@@ -36,11 +36,7 @@ fn read_value<'a>(binding: &mut Cursor<'a>) -> Result<Value<'a>, Refusal<BerErro
     ensures { ReadsField ObjectSyntax syntax_of Never binding.old result binding.new }
 {
     let before = *binding;
-    let element = binding.any()?;
-    match value_of(element) {
-        Ok(value) => Ok(value),
-        Err(e) => Err(before.refuse(e)),
-    }
+    value_of(binding.any()?).map_err(|e| before.refuse(e))
 }
 
 /// The value of a primitive element, whose tag says of which type it is.
@@ -52,10 +48,7 @@ fn value_of(element: Any<'_>) -> Result<Value<'_>, BerError>
     match (element.class(), element.tag().0) {
         (Class::Universal, 2) => Ok(Value::Integer(read_i32(Rules::Ber, octets)?)),
         (Class::Universal, 4) => Ok(Value::OctetString(octets)),
-        (Class::Universal, 5) => {
-            check_empty(octets)?;
-            Ok(Value::Null)
-        }
+        (Class::Universal, 5) => of_no_octets(octets, Value::Null),
         (Class::Universal, 6) => Ok(Value::Identifier(read_oid(octets)?)),
         (Class::Application, 0) => Ok(Value::Address(address_of(octets)?)),
         (Class::Application, 1) => Ok(Value::Counter32(read_u32(Rules::Ber, octets)?)),
@@ -63,30 +56,20 @@ fn value_of(element: Any<'_>) -> Result<Value<'_>, BerError>
         (Class::Application, 3) => Ok(Value::TimeTicks(read_u32(Rules::Ber, octets)?)),
         (Class::Application, 4) => Ok(Value::Opaque(octets)),
         (Class::Application, 6) => Ok(Value::Counter64(read_u64(Rules::Ber, octets)?)),
-        (Class::ContextSpecific, 0) => {
-            check_empty(octets)?;
-            Ok(Value::NoSuchObject)
-        }
-        (Class::ContextSpecific, 1) => {
-            check_empty(octets)?;
-            Ok(Value::NoSuchInstance)
-        }
-        (Class::ContextSpecific, 2) => {
-            check_empty(octets)?;
-            Ok(Value::EndOfMibView)
-        }
+        (Class::ContextSpecific, 0) => of_no_octets(octets, Value::NoSuchObject),
+        (Class::ContextSpecific, 1) => of_no_octets(octets, Value::NoSuchInstance),
+        (Class::ContextSpecific, 2) => of_no_octets(octets, Value::EndOfMibView),
         (_, number) => Err(BerError::UnknownTag(number)),
     }
 }
 
-/// Checks that there are no octets (X.690 8.8.2).
-fn check_empty(octets: &[u8]) -> Result<(), BerError>
-    ensures { MatchResult result (λ _. octets.now ≡ []) (λ _. octets.now ≢ []) }
+/// The value that has no octets (X.690 8.8.2), if there are none.
+fn of_no_octets<'a>(octets: &[u8], value: Value<'a>) -> Result<Value<'a>, BerError>
+    ensures { MatchResult result (λ x. (octets.now ≡ []) × (x ≡ value.entry)) (λ _. octets.now ≢ []) }
 {
-    if octets.is_empty() {
-        Ok(())
-    } else {
-        Err(BerError::InvalidLength)
+    match octets {
+        [] => Ok(value),
+        _ => Err(BerError::InvalidLength),
     }
 }
 

@@ -2,8 +2,8 @@ use Rattle.std.proofs.Common.{rules}
 use Rattle.der_cursor.specs.Formats.{AnyElement, Never, NoMemory, ReadsField}
 use Rattle.der_cursor.proofs.Lists.{all_read}
 use Rattle.der_cursor.proofs.Sequences.{may_need}
-use Rattle.ldap.specs.Words.{Passed}
-use Rattle.ldap.proofs.ContentLaws.{others_read, others_stop, passed_takes}
+use Rattle.der_cursor.specs.Formats.{Passed}
+use Rattle.der_cursor.proofs.FieldLaws.{others_read, others_stop, passed_takes}
 use Rattle.ldap.proofs.items.pass_over.Goals as goal
 
 pub returns-in_err-read_all : goal.returns-in_err-read_all

@@ -1,7 +1,7 @@
 use Rattle.std.proofs.Common.{refl}
 use Rattle.der_cursor.proofs.FormatLaws.{inside, value_read}
-use Rattle.der_cursor.proofs.Sequences.{after, refused_open, stops, stops_never}
-use Rattle.ldap.proofs.ContentLaws.{finish_with, passed, start_as, stops_with}
+use Rattle.der_cursor.proofs.Sequences.{after, finish_with, refused_open, start_as, stops, stops_never, stops_with}
+use Rattle.der_cursor.proofs.FieldLaws.{passed}
 use Rattle.ldap.proofs.items.read_change.Goals as goal
 
 pub returns-in_err-fields : goal.returns-in_err-fields

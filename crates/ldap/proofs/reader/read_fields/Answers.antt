@@ -1,8 +1,7 @@
 use Rattle.std.proofs.Common.{refl}
 use Rattle.der_cursor.proofs.FormatLaws.{value_read}
-use Rattle.der_cursor.proofs.Sequences.{after, inside_named, named, start, stops, stops_never, unopened_named}
-use Rattle.ldap.specs.Words.{Others}
-use Rattle.ldap.proofs.ContentLaws.{content_in, finish_with, stops_with}
+use Rattle.der_cursor.proofs.Sequences.{after, content_named_in, finish_with, inside_named, named, start, stops, stops_never, stops_with, unopened_named}
+use Rattle.der_cursor.specs.Formats.{Others}
 use Rattle.ldap.proofs.reader.read_fields.Goals as goal
 
 pub returns-in_err-fields : goal.returns-in_err-fields
@@ -19,8 +18,8 @@ returns-in_err-operation c = inside_named _ _ _ _ c.open_sequence.ensures c.in_o
 pub returns-in_err-named : goal.returns-in_err-named
 returns-in_err-named c = inside_named _ _ _ _ c.open_sequence.ensures c.in_ok-fields.ensures (λ fresh. stops_with _ (after (after (start _ fresh)
     (named _ (value_read _ c.u32.ensures) c.in_ok-id.ensures)) c.in_ok-operation.ensures)
-    (content_in _ Others c.read_operation.new.fields c.pass_over.ensures c.in_err-named.ensures) c.from_residual-in_err-named.ensures.1)
+    (content_named_in _ Others c.read_operation.new.fields c.pass_over.ensures c.in_err-named.ensures) c.from_residual-in_err-named.ensures.1)
 
 pub returns : goal.returns
 returns c = inside_named _ _ _ _ c.open_sequence.ensures c.in_ok-fields.ensures (λ fresh. finish_with (after (after (start _ fresh)
-    (named _ (value_read _ c.u32.ensures) c.in_ok-id.ensures)) c.in_ok-operation.ensures) (content_in _ Others c.read_operation.new.fields c.pass_over.ensures c.in_ok-named.ensures) refl)
+    (named _ (value_read _ c.u32.ensures) c.in_ok-id.ensures)) c.in_ok-operation.ensures) (content_named_in _ Others c.read_operation.new.fields c.pass_over.ensures c.in_ok-named.ensures) refl)

@@ -1,8 +1,8 @@
 use Rattle.std.proofs.Common.{refl}
 use Rattle.der_cursor.proofs.FormatLaws.{value_read}
-use Rattle.der_cursor.proofs.Sequences.{after, named, named_in, stops, stops_never}
-use Rattle.ldap.specs.Words.{Others}
-use Rattle.ldap.proofs.ContentLaws.{content_in, finish_with, passed, start_as, stops_with}
+use Rattle.der_cursor.proofs.Sequences.{after, content_named_in, finish_with, named, named_in, start_as, stops, stops_never, stops_with}
+use Rattle.der_cursor.specs.Formats.{Others}
+use Rattle.der_cursor.proofs.FieldLaws.{passed}
 use Rattle.ldap.proofs.reader.read_search.Goals as goal
 
 pub returns-in_err-name : goal.returns-in_err-name
@@ -53,11 +53,11 @@ returns-in_err-named-7 c = λ fresh. stops_with _ (after (after (after (after (a
     (passed (named _ (value_read _ c.u32.ensures) c.in_ok-named-3.ensures))) (passed (named _ (value_read _ c.u32-2.ensures) c.in_ok-named-4.ensures)))
     (passed (named _ (value_read _ c.boolean.ensures) c.in_ok-named-5.ensures))) (named _ c.read_choice.ensures c.in_ok-named-6.ensures))
     (named_in _ c.read_texts.ensures c.in_ok-attributes.ensures))
-    (content_in _ Others c.read_texts.new.list c.pass_over.ensures c.in_err-named-7.ensures) c.from_residual-in_err-named-7.ensures.1
+    (content_named_in _ Others c.read_texts.new.list c.pass_over.ensures c.in_err-named-7.ensures) c.from_residual-in_err-named-7.ensures.1
 
 pub returns : goal.returns
 returns c = λ fresh. finish_with (after (after (after (after (after (after (after (after (start_as _ _ fresh) (named _ (value_read _ c.octets.ensures) c.in_ok-name.ensures))
     (passed (named _ (value_read _ c.enumerated.ensures) c.in_ok-named.ensures))) (passed (named _ (value_read _ c.enumerated-2.ensures) c.in_ok-named-2.ensures)))
     (passed (named _ (value_read _ c.u32.ensures) c.in_ok-named-3.ensures))) (passed (named _ (value_read _ c.u32-2.ensures) c.in_ok-named-4.ensures)))
     (passed (named _ (value_read _ c.boolean.ensures) c.in_ok-named-5.ensures))) (named _ c.read_choice.ensures c.in_ok-named-6.ensures))
-    (named_in _ c.read_texts.ensures c.in_ok-attributes.ensures)) (content_in _ Others c.read_texts.new.list c.pass_over.ensures c.in_ok-named-7.ensures) refl
+    (named_in _ c.read_texts.ensures c.in_ok-attributes.ensures)) (content_named_in _ Others c.read_texts.new.list c.pass_over.ensures c.in_ok-named-7.ensures) refl

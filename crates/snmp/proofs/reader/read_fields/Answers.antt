@@ -1,10 +1,9 @@
-use Rattle.std.proofs.Common.{◌≡◌, ◌∙◌, true, false, ap, refl, sym}
+use Rattle.std.proofs.Common.{◌≡◌, ◌∙◌, true, false, refl, sym}
 use Rattle.std.proofs.lemmas.Result.{err_from_is_err_and}
 use Rattle.der_cursor.proofs.FormatLaws.{value_read}
 use Rattle.der_cursor.proofs.Sequences.{after, ends_named, finish, inside_named, left_over, named, start, stops, stops_never, unopened_named}
 use Rattle.snmp.specs.declared.message.Message.{Message as MessageStruct}
-use Rattle.snmp.specs.Operations.{has}
-use Rattle.snmp.proofs.FieldLaws.{of_version, same_operation, stops_before_version, wrong_version}
+use Rattle.snmp.proofs.FieldLaws.{of_version, stops_before_version, wrong_version}
 use Rattle.snmp.proofs.reader.read_fields.Goals as goal
 
 pub returns-in_err-fields : goal.returns-in_err-fields
@@ -27,11 +26,10 @@ returns-then-not-has c =
     let q = err_from_is_err_and c.named-then-not-has.result c.named-then-not-has.ensures in
     let x : MessageStruct = record { version = c.in_ok-version.version; community = c.in_ok-community.community; pdu = c.in_ok-pdu.pdu } in
     rw q.1 (wrong_version x (λ h.
-    let m : c.has.result ≡ true = c.has.ensures ∙ ap (λ o. has c.in_ok-version.version o) (c.operation-operation.ensures ∙ sym (same_operation c.in_ok-pdu.pdu)) ∙ h in
+    let m : c.has.result ≡ true = c.has.ensures ∙ h in
     let n : c.has.result ≡ false = c.if-not-has.true in
     absurd cc) (inside_named _ _ _ _ c.open_sequence.ensures c.in_ok-fields.ensures (λ fresh. finish (after (after (after (start _ fresh) (named _ c.read_version.ensures c.in_ok-version.ensures)) (named _ (value_read _ c.octets.ensures) c.in_ok-community.ensures)) c.in_ok-pdu.ensures) (ends_named _ _ _ _ _ c.end.ensures c.in_ok-named.ensures) refl)))
 
 pub returns : goal.returns
 returns c =
-    let m = ap (λ o. has c.in_ok-version.version o) (same_operation c.in_ok-pdu.pdu ∙ sym c.operation-operation.ensures) ∙ sym c.has.ensures ∙ c.if-not-has.false in
-    of_version m (inside_named _ _ _ _ c.open_sequence.ensures c.in_ok-fields.ensures (λ fresh. finish (after (after (after (start _ fresh) (named _ c.read_version.ensures c.in_ok-version.ensures)) (named _ (value_read _ c.octets.ensures) c.in_ok-community.ensures)) c.in_ok-pdu.ensures) (ends_named _ _ _ _ _ c.end.ensures c.in_ok-named.ensures) refl))
+    of_version (sym c.has.ensures ∙ c.if-not-has.false) (inside_named _ _ _ _ c.open_sequence.ensures c.in_ok-fields.ensures (λ fresh. finish (after (after (after (start _ fresh) (named _ c.read_version.ensures c.in_ok-version.ensures)) (named _ (value_read _ c.octets.ensures) c.in_ok-community.ensures)) c.in_ok-pdu.ensures) (ends_named _ _ _ _ _ c.end.ensures c.in_ok-named.ensures) refl))

@@ -1,15 +1,12 @@
 use Rattle.std.proofs.lemmas.Result.{err_from_is_err_and}
 use Rattle.der_cursor.proofs.FormatLaws.{any_read}
-use Rattle.snmp.proofs.MessageLaws.{syntax_read, syntax_refused, syntax_stops}
+use Rattle.snmp.proofs.MessageLaws.{syntax_stops, syntax_turned}
 use Rattle.snmp.proofs.value.read_value.Goals as goal
 
-pub returns-in_err-element : goal.returns-in_err-element
-returns-in_err-element c =
+pub returns-in_err-any : goal.returns-in_err-any
+returns-in_err-any c =
     let q = err_from_is_err_and c.from_residual.result c.from_residual.ensures.1 in
-    rw (q.1, q.2) (syntax_stops (any_read c.in_err-element.ensures))
+    rw (q.1, q.2) (syntax_stops (any_read c.in_err-any.ensures))
 
-pub returns-in-Ok : goal.returns-in-Ok
-returns-in-Ok c = syntax_read c.in_ok-element.element c.in-Ok.value (any_read c.in_ok-element.ensures) c.in-Ok.ensures
-
-pub returns-in-Err : goal.returns-in-Err
-returns-in-Err c = syntax_refused c.in_ok-element.element (any_read c.in_ok-element.ensures) c.in-Err.ensures
+pub returns : goal.returns
+returns c = syntax_turned _ c.in_ok-any.field-0 c.value_of.result c.map_err.result (any_read c.in_ok-any.ensures) c.value_of.ensures c.map_err.ensures.cases

@@ -5,7 +5,8 @@ use Rattle.der_base.specs.declared.header.Class.TheVariants.{Universal, Applicat
 use Rattle.der_base.specs.Header.{class_of, is_constructed, number_of}
 use Rattle.der_base.specs.Refusal.{refusal}
 use Rattle.der_cursor.specs.Formats.{End, Value}
-use Rattle.snmp.proofs.SyntaxLaws.{is_value, no_value, no_address, no_counter32, no_counter64, no_end, no_gauge32, no_identifier}
+use Rattle.snmp.specs.declared.message.Value.TheVariants.{Null, NoSuchObject, NoSuchInstance, EndOfMibView}
+use Rattle.snmp.proofs.SyntaxLaws.{is_value, no_value, value_of_none, no_address, no_counter32, no_counter64, no_end, no_gauge32, no_identifier}
 use Rattle.snmp.proofs.SyntaxLaws.{no_application, no_context, no_instance, no_integer, no_null, no_object, no_private, no_time_ticks, no_universal}
 use Rattle.snmp.proofs.value.value_of.Goals.{in_default-via-in-Universal+in_default-1, in_default-via-in-Application+in_default-1, in_default-via-in-ContextSpecific+in_default-1, in_default-via-in-Private-1}
 use Rattle.snmp.proofs.value.value_of.Goals as goal
@@ -40,21 +41,13 @@ returns-in-Universal-eq4 c =
     let ep : is_constructed c.args.element.header ≡ false = search rules in
     is_value _ _ ep (ec, et, (tt, refl))
 
-pub returns-in_err-check_empty-in-Universal-eq5 : goal.returns-in_err-check_empty-in-Universal-eq5
-returns-in_err-check_empty-in-Universal-eq5 c =
-    let ec : class_of c.args.element.header ≡ Universal = cc in
-    let et : number_of c.args.element.header ≡ 5 = cc in
-    let ep : is_constructed c.args.element.header ≡ false = search rules in
-    let q = err_from_is_err_and c.from_residual-in_err-check_empty-in-Universal-eq5.result c.from_residual-in_err-check_empty-in-Universal-eq5.ensures.1 in
-    rw q.1 (no_value _ _ (λ v p z. no_null c.args.element.bytes.now c.in_err-check_empty-in-Universal-eq5.ensures v _ _ ec et z))
-
-pub returns-in_ok-check_empty-in-Universal-eq5 : goal.returns-in_ok-check_empty-in-Universal-eq5
+pub returns-in-Universal-eq5 : goal.returns-in-Universal-eq5
 unfolding Value End
-returns-in_ok-check_empty-in-Universal-eq5 c =
+returns-in-Universal-eq5 c =
     let ec : class_of c.args.element.header ≡ Universal = cc in
     let et : number_of c.args.element.header ≡ 5 = cc in
     let ep : is_constructed c.args.element.header ≡ false = search rules in
-    is_value _ _ ep (ec, et, c.in_ok-check_empty-in-Universal-eq5.ensures)
+    value_of_none _ Null _ ep c.of_no_octets.ensures (λ h. (ec, et, h)) (λ h v z. no_null c.args.element.bytes.now h v _ _ ec et z)
 
 pub returns-in_err-read_oid-in-Universal-eq6 : goal.returns-in_err-read_oid-in-Universal-eq6
 returns-in_err-read_oid-in-Universal-eq6 c =
@@ -160,53 +153,29 @@ returns-in_ok-read_u64-in-Application-eq6 c =
     let ep : is_constructed c.args.element.header ≡ false = search rules in
     is_value _ _ ep (ec, et, c.in_ok-read_u64-in-Application-eq6.ensures)
 
-pub returns-in_err-check_empty-in-ContextSpecific-eq0 : goal.returns-in_err-check_empty-in-ContextSpecific-eq0
-returns-in_err-check_empty-in-ContextSpecific-eq0 c =
+pub returns-in-ContextSpecific-eq0 : goal.returns-in-ContextSpecific-eq0
+unfolding Value End
+returns-in-ContextSpecific-eq0 c =
     let ec : class_of c.args.element.header ≡ ContextSpecific = cc in
     let et : number_of c.args.element.header ≡ 0 = cc in
     let ep : is_constructed c.args.element.header ≡ false = search rules in
-    let q = err_from_is_err_and c.from_residual-in_err-check_empty-in-ContextSpecific-eq0.result c.from_residual-in_err-check_empty-in-ContextSpecific-eq0.ensures.1 in
-    rw q.1 (no_value _ _ (λ v p z. no_object c.args.element.bytes.now c.in_err-check_empty-in-ContextSpecific-eq0.ensures v _ _ ec et z))
+    value_of_none _ NoSuchObject _ ep c.of_no_octets-in-ContextSpecific-eq0.ensures (λ h. (ec, et, h)) (λ h v z. no_object c.args.element.bytes.now h v _ _ ec et z)
 
-pub returns-in_ok-check_empty-in-ContextSpecific-eq0 : goal.returns-in_ok-check_empty-in-ContextSpecific-eq0
+pub returns-in-ContextSpecific-eq1 : goal.returns-in-ContextSpecific-eq1
 unfolding Value End
-returns-in_ok-check_empty-in-ContextSpecific-eq0 c =
-    let ec : class_of c.args.element.header ≡ ContextSpecific = cc in
-    let et : number_of c.args.element.header ≡ 0 = cc in
-    let ep : is_constructed c.args.element.header ≡ false = search rules in
-    is_value _ _ ep (ec, et, c.in_ok-check_empty-in-ContextSpecific-eq0.ensures)
-
-pub returns-in_err-check_empty-in-ContextSpecific-eq1 : goal.returns-in_err-check_empty-in-ContextSpecific-eq1
-returns-in_err-check_empty-in-ContextSpecific-eq1 c =
+returns-in-ContextSpecific-eq1 c =
     let ec : class_of c.args.element.header ≡ ContextSpecific = cc in
     let et : number_of c.args.element.header ≡ 1 = cc in
     let ep : is_constructed c.args.element.header ≡ false = search rules in
-    let q = err_from_is_err_and c.from_residual-in_err-check_empty-in-ContextSpecific-eq1.result c.from_residual-in_err-check_empty-in-ContextSpecific-eq1.ensures.1 in
-    rw q.1 (no_value _ _ (λ v p z. no_instance c.args.element.bytes.now c.in_err-check_empty-in-ContextSpecific-eq1.ensures v _ _ ec et z))
+    value_of_none _ NoSuchInstance _ ep c.of_no_octets-in-ContextSpecific-eq1.ensures (λ h. (ec, et, h)) (λ h v z. no_instance c.args.element.bytes.now h v _ _ ec et z)
 
-pub returns-in_ok-check_empty-in-ContextSpecific-eq1 : goal.returns-in_ok-check_empty-in-ContextSpecific-eq1
+pub returns-in-ContextSpecific-eq2 : goal.returns-in-ContextSpecific-eq2
 unfolding Value End
-returns-in_ok-check_empty-in-ContextSpecific-eq1 c =
-    let ec : class_of c.args.element.header ≡ ContextSpecific = cc in
-    let et : number_of c.args.element.header ≡ 1 = cc in
-    let ep : is_constructed c.args.element.header ≡ false = search rules in
-    is_value _ _ ep (ec, et, c.in_ok-check_empty-in-ContextSpecific-eq1.ensures)
-
-pub returns-in_err-check_empty-in-ContextSpecific-eq2 : goal.returns-in_err-check_empty-in-ContextSpecific-eq2
-returns-in_err-check_empty-in-ContextSpecific-eq2 c =
+returns-in-ContextSpecific-eq2 c =
     let ec : class_of c.args.element.header ≡ ContextSpecific = cc in
     let et : number_of c.args.element.header ≡ 2 = cc in
     let ep : is_constructed c.args.element.header ≡ false = search rules in
-    let q = err_from_is_err_and c.from_residual-in_err-check_empty-in-ContextSpecific-eq2.result c.from_residual-in_err-check_empty-in-ContextSpecific-eq2.ensures.1 in
-    rw q.1 (no_value _ _ (λ v p z. no_end c.args.element.bytes.now c.in_err-check_empty-in-ContextSpecific-eq2.ensures v _ _ ec et z))
-
-pub returns-in_ok-check_empty-in-ContextSpecific-eq2 : goal.returns-in_ok-check_empty-in-ContextSpecific-eq2
-unfolding Value End
-returns-in_ok-check_empty-in-ContextSpecific-eq2 c =
-    let ec : class_of c.args.element.header ≡ ContextSpecific = cc in
-    let et : number_of c.args.element.header ≡ 2 = cc in
-    let ep : is_constructed c.args.element.header ≡ false = search rules in
-    is_value _ _ ep (ec, et, c.in_ok-check_empty-in-ContextSpecific-eq2.ensures)
+    value_of_none _ EndOfMibView _ ep c.of_no_octets-in-ContextSpecific-eq2.ensures (λ h. (ec, et, h)) (λ h v z. no_end c.args.element.bytes.now h v _ _ ec et z)
 
 pub returns-in_default : goal.returns-in_default
 returns-in_default c = elim c.in_default-1.branch [
