@@ -9,8 +9,10 @@ use anyhow::{Result, ensure};
 use bstr::ByteSlice;
 use crl_reader::read_certificate_list;
 use der_input::next_block;
-use der_parser::cursor::Named;
-use names_reader::read_name;
+use der_parser::ber::{Class, Tag};
+use der_parser::cursor::{Cursor, Named, Refusal};
+use der_parser::error::BerError;
+use names_reader::{Name, read_name};
 use std::alloc::Global;
 use std::io::Read;
 use text::Listed;
@@ -56,9 +58,18 @@ fn print_blocks(rt: &(impl Print + Eprint), alloc: Global, input: &[u8]) -> Resu
 
 /// Prints a list and an empty line.
 fn print_list(rt: &impl Print, alloc: Global, octets: &[u8]) -> Result<()> {
-    let list = read_certificate_list(alloc, octets)?;
-    let mut element = list.signed.issuer.element;
-    let issuer = read_name(alloc, &mut element).named("issuer")?;
+    let list = read_certificate_list(octets)?;
+    let issuer = read_issuer(alloc, octets).named("issuer")?;
     println!(rt; "{}", Listed(&list, &issuer))?;
     Ok(())
+}
+
+/// Reads the issuer of a list, which follows the version, if that is there, and an algorithm.
+fn read_issuer(alloc: Global, octets: &[u8]) -> Result<Name<'_>, Refusal<BerError>> {
+    let mut fields = Cursor::new(octets).open_sequence()?.open_sequence()?;
+    if fields.is_next(Class::Universal, Tag::Integer) {
+        fields.any()?;
+    }
+    fields.any()?;
+    read_name(alloc, &mut fields)
 }

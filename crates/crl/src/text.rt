@@ -1,6 +1,7 @@
 //! The lines that describe a list.
-use crl_reader::{CertificateList, Extension, Revoked};
+use crl_reader::{CertificateList, RevokedCertificate, reason_of};
 use der_parser::ber::ASN1DateTime;
+use der_x509::{Extensions, Version};
 use names_reader::Name;
 use std::fmt;
 
@@ -11,46 +12,47 @@ pub struct Listed<'r, 'a>(pub &'r CertificateList<'a>, pub &'r Name<'a>);
 impl fmt::Display for Listed<'_, '_> {
     fn fmt<W: fmt::Write>(&self, f: &mut fmt::Formatter<W>) -> fmt::Result {
         let whole = self.0;
-        let list = &whole.signed;
-        writeln!(f, "version={}", if list.version.is_some() { 2 } else { 1 })?;
-        writeln!(f, "signatureAlgorithm={}", list.signature)?;
+        let list = &whole.tbs_cert_list;
+        let is_first = list.version == Version::V1;
+        writeln!(f, "version={}", if is_first { 1 } else { 2 })?;
+        writeln!(f, "signatureAlgorithm={}", list.signature.algorithm)?;
         writeln!(f, "issuer={}", self.1)?;
-        writeln!(f, "thisUpdate={}", Moment(list.this_update))?;
+        writeln!(f, "thisUpdate={}", Moment(list.this_update.moment()))?;
         if let Some(time) = list.next_update {
-            writeln!(f, "nextUpdate={}", Moment(time))?;
+            writeln!(f, "nextUpdate={}", Moment(time.moment()))?;
         }
-        write_extensions(f, "extension", &list.extensions)?;
-        if let Some(entries) = &list.revoked {
-            for entry in entries {
-                write_entry(f, entry)?;
+        write_extensions(f, "extension", &list.crl_extensions)?;
+        if let Some(entries) = list.revoked_certificates {
+            for entry in entries.iter() {
+                write_entry(f, &entry)?;
             }
         }
-        writeln!(f, "signature={}", Hex(whole.signature.octets))
+        writeln!(f, "signature={}", Hex(whole.signature_value.octets))
     }
 }
 
 /// Writes the serial number and the date of an entry, its reason, and its extensions.
-fn write_entry<W: fmt::Write>(f: &mut fmt::Formatter<W>, entry: &Revoked<'_>) -> fmt::Result {
-    writeln!(f, "revoked={}", Hex(entry.serial_number))?;
-    writeln!(f, "    date={}", Moment(entry.date))?;
-    write_extensions(f, "    extension", &entry.extensions)
+fn write_entry<W: fmt::Write>(
+    f: &mut fmt::Formatter<W>,
+    entry: &RevokedCertificate<'_>,
+) -> fmt::Result {
+    writeln!(f, "revoked={}", Hex(entry.user_certificate))?;
+    writeln!(f, "    date={}", Moment(entry.revocation_date.moment()))?;
+    write_extensions(f, "    extension", &entry.crl_entry_extensions)
 }
 
 /// Writes each extension: the reason that it has, or its octets.
 fn write_extensions<W: fmt::Write>(
     f: &mut fmt::Formatter<W>,
     label: &str,
-    extensions: &Option<Vec<Extension<'_>>>,
+    extensions: &Extensions<'_>,
 ) -> fmt::Result {
-    let Some(extensions) = extensions else {
-        return Ok(());
-    };
-    for extension in extensions {
+    for extension in extensions.iter() {
         let critical = if extension.critical { " critical" } else { "" };
         write!(f, "{label}={}{critical} ", extension.identifier)?;
-        match extension.reason() {
+        match reason_of(&extension) {
             Ok(Some(reason)) => writeln!(f, "reason {}", reason.number())?,
-            Ok(None) => writeln!(f, "{}", Hex(extension.value.remaining()))?,
+            Ok(None) => writeln!(f, "{}", Hex(extension.value))?,
             Err(e) => writeln!(f, "{e}")?,
         }
     }

@@ -1,3 +1,2 @@
-pub mod KeptLaws
-pub mod NextLaws
+pub mod CrlLaws
 pub mod ReasonLaws

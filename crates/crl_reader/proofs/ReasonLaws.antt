@@ -1,16 +1,19 @@
 -- Reasons: their numbers, and the reason of an extension.
-use Rattle.std.proofs.Common.{◌≡◌, ◌≢◌, ℕ, suc, ◌<◌, Option, Some, None, List, ◌∷◌, length, drop, get_or, drop-cons, Result, Ok, Err, refl, sym, ap, subst, ◌∙◌, inl, inr}
-use Rattle.std.specs.Prelude.{◌==◌, if◌then◌else◌, All}
-use Rattle.std.proofs.lemmas.List.Elements.{All-get_or}
+use Rattle.std.proofs.Common.{◌≡◌, ◌≢◌, ℕ, Option, Some, None, List, Ok, Err, refl, sym, ap, subst, ◌∙◌}
+use Rattle.std.specs.Prelude.{◌==◌, if◌then◌else◌}
 use Rattle.der_base.specs.declared.error.Error.{Error as BerError}
 use Rattle.der_cursor.specs.declared.cursor.Cursor.{Cursor}
 use Rattle.der_cursor.specs.declared.refusal.Refusal.{Refusal}
 use Rattle.der_cursor.specs.Cursors.{rules_of}
-use Rattle.der_cursor.specs.Formats.{Format, Required, Never, ReadsWhole, ReadsField}
-use Rattle.crl_reader.specs.declared.extension.Extension.{Extension}
+use Rattle.der_cursor.specs.Formats.{Format, Never, Required, ReadsField, ReadsWhole}
+use Rattle.der_x509.specs.Certificates.{ExtensionValue, extension}
+use Rattle.der_x509.specs.Formats.{spells}
+use Rattle.der_x509.specs.Lists.{BeginsWithNone}
+use Rattle.der_x509.proofs.FormatLaws.{shows_one}
+use Rattle.der_x509.proofs.ListLaws.{extension_exact}
 use Rattle.crl_reader.specs.declared.reason.Reason.{Reason}
 use Rattle.crl_reader.specs.declared.reason.Reason.TheVariants.{Unspecified, KeyCompromise, CaCompromise, AffiliationChanged, Superseded, CessationOfOperation, CertificateHold, RemoveFromCrl, PrivilegeWithdrawn, AaCompromise}
-use Rattle.crl_reader.specs.Reasons.{number_of, NamedValues, IsReasonOf, IsFirstReason, IsFresh, ReadsReason}
+use Rattle.crl_reader.specs.Reasons.{number_of, NamedValues, IsFirstReason, IsReasonOf, absent, here, later}
 
 -- no two reasons have one number
 reason_with : ℕ → Option Reason
@@ -57,43 +60,61 @@ module _ {V W : Type 0} (value : W → V) (T : Format V) {X Y E : Type 0} {view 
     only = λ w rest z. absurd (other w (sym (r.only (value w) rest (z.0, z.1, z.2)).0));
   }
 
--- the extensions from the index i on have the first reason that all have
-pub record FirstFrom (i : ℕ) (xs : List Extension) : Type 0 where
-  pub back : (v : Option Reason) → IsFirstReason (drop i xs) v → IsFirstReason xs v
-  pub only : (v : Option Reason) → IsFirstReason xs v → IsFirstReason (drop i xs) v
+-- octets begin with one extension at most
+one_extension : (i : List ℕ) (x y : ExtensionValue) (r q : List ℕ) → spells extension i x r → spells extension i y q → (x ≡ y) × (r ≡ q)
+one_extension i x y r q s t = (shows_one extension extension_exact).one_value i x y r q s t
 
--- at the extension x, of index i
-module _ (xs : List Extension) (i : ℕ) (x : Extension) (b : i < length xs) (e : x ≡ get_or xs i x) (fresh : All IsFresh xs) (h : FirstFrom i xs) where
-  rest : drop i xs ≡ x ∷ drop (suc i) xs
-  rest = drop-cons xs i x b ∙ ap (λ y. y ∷ drop (suc i) xs) (sym e)
+-- the extensions that are left have the first reason that all have
+pub record FirstFrom (left all : List ℕ) : Type 0 where
+  pub back : (v : Option Reason) → IsFirstReason left v → IsFirstReason all v
+  pub only : (v : Option Reason) → IsFirstReason all v → IsFirstReason left v
 
-  read_at : {result : Result (Option Reason) (Refusal BerError)} → ReadsReason x result → ReadsWhole (IsReasonOf x) (λ v. v) Never result
-  read_at r = r (subst IsFresh (sym e) (All-get_or IsFresh xs i x b fresh))
+all_left : {i : List ℕ} → FirstFrom i i
+all_left = record { back = λ v h. h; only = λ v h. h }
 
-  first_at : (w : Option Reason) → IsFirstReason xs w → IsFirstReason (x ∷ drop (suc i) xs) w
-  first_at w z = subst (λ ys. IsFirstReason ys w) rest (h.only w z)
+pub started : {left all : List ℕ} → left ≡ all → FirstFrom left all
+started {left = left} e = subst (λ z. FirstFrom left z) e all_left
 
-  at_first : (w : Option Reason) → IsFirstReason (x ∷ drop (suc i) xs) w → IsFirstReason xs w
-  at_first w z = h.back w (subst (λ ys. IsFirstReason ys w) (sym rest) z)
+-- at the extension x of those that are left
+module _ {left rest all : List ℕ} {x : ExtensionValue} (f : FirstFrom left all) (s : spells extension left x rest) where
+  -- it has no reason
+  passed_to : IsReasonOf x None → (v : Option Reason) → IsFirstReason left v → IsFirstReason rest v
+  passed_to n v (absent b) = absurd (b x rest s)
+  passed_to n v (here {rest = r} {x = y} t h) = absurd ((subst (λ z. IsReasonOf z None) (one_extension left x y rest r s t).0 n) h.0)
+  passed_to n v (later {rest = r} {x = y} t m h) = subst (λ z. IsFirstReason z v) (sym (one_extension left x y rest r s t).1) h
 
-  -- it has the reason
-  pub has_it : (v : Reason) → ReadsReason x (Ok (Some v)) → ReadsWhole (IsFirstReason xs) (λ u. u) (Never {E = Refusal BerError}) (Ok (Some v))
-  has_it v r = let k = read_at r in record {
-    found = at_first (Some v) (inl k.found);
-    only = λ w z.
-        (elim w as (λ u. IsFirstReason (x ∷ drop (suc i) xs) u → Some v ≡ u) [
-          | None ↦ λ y. absurd (y.0 k.found.0)
-          | Some u ↦ λ y. elim y [ inl m ↦ k.only (Some u) m | inr m ↦ absurd (m.0 k.found.0) ]
-        ]) (first_at w z);
-  }
+  passed_none : ReadsWhole (IsReasonOf x) (λ v. v) (Never {E = Refusal BerError}) (Ok None) → FirstFrom rest all
+  passed_none k = record { back = λ v h. f.back v (later s k.found h); only = λ v h. passed_to k.found v (f.only v h) }
+
+  pub passed : {o : Option Reason} → ReadsWhole (IsReasonOf x) (λ v. v) (Never {E = Refusal BerError}) (Ok o) → o ≡ None → FirstFrom rest all
+  passed k e = passed_none (subst (λ z. ReadsWhole (IsReasonOf x) (λ v. v) (Never {E = Refusal BerError}) (Ok z)) e k)
+
+  -- it has one
+  has_to : (v : Reason) → ((w : Option Reason) → IsReasonOf x w → Some v ≡ w) → (w : Option Reason) → IsFirstReason left w → Some v ≡ w
+  has_to v k w (absent b) = absurd (b x rest s)
+  has_to v k w (here {rest = r} {x = y} {v = u} t h) = k (Some u) (subst (λ z. IsReasonOf z (Some u)) (sym (one_extension left x y rest r s t).0) h)
+  has_to v k w (later {rest = r} {x = y} t m h) = let q : Some v ≡ None = k None (subst (λ z. IsReasonOf z None) (sym (one_extension left x y rest r s t).0) m) in absurd (let e : ⊥ = cc in e)
+
+  has_some : (v : Reason) → ReadsWhole (IsReasonOf x) (λ v. v) (Never {E = Refusal BerError}) (Ok (Some v)) → ReadsWhole (IsFirstReason all) (λ v. v) (Never {E = Refusal BerError}) (Ok (Some v))
+  has_some v k = record { found = f.back (Some v) (here s k.found); only = λ w z. has_to v k.only w (f.only w z) }
+
+  pub has_reason : {v : Reason} {o : Option Reason} → ReadsWhole (IsReasonOf x) (λ v. v) (Never {E = Refusal BerError}) (Ok o) → o ≡ Some v → ReadsWhole (IsFirstReason all) (λ v. v) (Never {E = Refusal BerError}) (Ok (Some v))
+  has_reason {v} k e = has_some v (subst (λ z. ReadsWhole (IsReasonOf x) (λ v. v) (Never {E = Refusal BerError}) (Ok z)) e k)
 
   -- it is refused
-  pub is_refused : (f : Refusal BerError) → ReadsReason x (Err f) → ReadsWhole (IsFirstReason xs) (λ u. u) Never (Err f)
-  is_refused f r = let k = read_at r in record {
-    found = tt;
-    only = λ w z.
-        (elim w as (λ u. IsFirstReason (x ∷ drop (suc i) xs) u → ⊥) [
-          | None ↦ λ y. k.only None y.0
-          | Some u ↦ λ y. elim y [ inl m ↦ k.only (Some u) m | inr m ↦ k.only None m.0 ]
-        ]) (first_at w z);
-  }
+  refused_to : ((w : Option Reason) → IsReasonOf x w → ⊥) → (w : Option Reason) → IsFirstReason left w → ⊥
+  refused_to k w (absent b) = b x rest s
+  refused_to k w (here {rest = r} {x = y} {v = u} t h) = k (Some u) (subst (λ z. IsReasonOf z (Some u)) (sym (one_extension left x y rest r s t).0) h)
+  refused_to k w (later {rest = r} {x = y} t m h) = k None (subst (λ z. IsReasonOf z None) (sym (one_extension left x y rest r s t).0) m)
+
+  pub reason_refused : {e : Refusal BerError} → ReadsWhole (IsReasonOf x) (λ v. v) Never (Err e) → ReadsWhole (IsFirstReason all) (λ v. v) Never (Err e)
+  reason_refused k = record { found = tt; only = λ w z. refused_to k.only w (f.only w z) }
+
+-- none is left
+none_to : {left : List ℕ} → BeginsWithNone extension left → (w : Option Reason) → IsFirstReason left w → None ≡ w
+none_to b w (absent c) = refl
+none_to b w (here {rest = r} {x = y} t h) = absurd (b y r t)
+none_to b w (later {rest = r} {x = y} t m h) = absurd (b y r t)
+
+pub no_reason : {left all : List ℕ} → FirstFrom left all → BeginsWithNone extension left → ReadsWhole (IsFirstReason all) (λ v. v) (Never {E = Refusal BerError}) (Ok None)
+no_reason f b = record { found = f.back None (absent b); only = λ w z. none_to b w (f.only w z) }

@@ -1,4 +1,2 @@
-pub mod Kept
 pub mod Lists
-pub mod Next
 pub mod Reasons

@@ -1,17 +1,15 @@
 -- The reason of a revocation, as its ASN.1 has it.
-use Rattle.std.specs.Prelude.{◌≡◌, ◌≢◌, ℕ, ◌⊎◌, Option, Some, None, List, [], ◌∷◌, All, Result}
-use Rattle.std.specs.Global.{Vec}
-use Rattle.der_base.specs.declared.error.Error.{Error as BerError}
-use Rattle.der_base.specs.Oids.{octets_of}
-use Rattle.der_cursor.specs.declared.refusal.Refusal.{Refusal}
-use Rattle.der_cursor.specs.Cursors.{octets_left, rules_of}
-use Rattle.der_cursor.specs.Formats.{Content, Format, Required, Only, Enumerated, Never, ReadsWhole}
-use Rattle.crl_reader.specs.declared.extension.Extension.{Extension}
+use Rattle.std.specs.Prelude.{◌≡◌, ◌≢◌, ℕ, Option, Some, None, List, [], ◌∷◌}
+use Rattle.der_base.specs.declared.rules.Rules.TheVariants.{Der}
+use Rattle.der_cursor.specs.Formats.{Content, Format, Required, Only, Enumerated}
 use Rattle.crl_reader.specs.declared.reason.Reason.{Reason}
 use Rattle.crl_reader.specs.declared.reason.Reason.TheVariants.{Unspecified, KeyCompromise, CaCompromise}
 use Rattle.crl_reader.specs.declared.reason.Reason.TheVariants.{AffiliationChanged}
 use Rattle.crl_reader.specs.declared.reason.Reason.TheVariants.{Superseded, CessationOfOperation, CertificateHold}
 use Rattle.crl_reader.specs.declared.reason.Reason.TheVariants.{RemoveFromCrl, PrivilegeWithdrawn, AaCompromise}
+use Rattle.der_x509.specs.Certificates.{ExtensionValue, extension}
+use Rattle.der_x509.specs.Formats.{spells}
+use Rattle.der_x509.specs.Lists.{BeginsWithNone}
 
 -- CRLReason ::= ENUMERATED {                                          (RFC 5280 5.3.1)
 abbrev pub number_of : Reason → ℕ
@@ -29,7 +27,12 @@ number_of AaCompromise = 10  -- aACompromise         (10) }
 -- a type whose values have names
 abbrev pub NamedValues : {V W : Type 0} → (W → V) → Format V → Format W
 NamedValues value T =
-    record { class = T.class; number = T.number; constructed = T.constructed; content = λ r w v. T.content r w (value v) }
+    record {
+      class = T.class;
+      number = T.number;
+      constructed = T.constructed;
+      content = λ r w v. T.content r w (value v);
+    }
 
 abbrev pub CRLReason : Format Reason
 CRLReason = NamedValues number_of Enumerated
@@ -43,30 +46,14 @@ abbrev pub ReasonCode : Content Reason
 ReasonCode = Only (Required CRLReason)
 
 -- the reason that an extension has, if it is a reason code
-abbrev pub IsReasonOf : Extension → Option Reason → Type 0
-IsReasonOf x None = octets_of x.identifier ≢ reason_code
-IsReasonOf x (Some v) = (octets_of x.identifier ≡ reason_code) × ReasonCode (rules_of x.value) (octets_left x.value) v
+abbrev pub IsReasonOf : ExtensionValue → Option Reason → Type 0
+IsReasonOf x None = x.identifier ≢ reason_code
+IsReasonOf x (Some v) = (x.identifier ≡ reason_code) × ReasonCode Der x.value v
 
--- the reason of the first of them that is a reason code
-abbrev pub IsFirstReason : List Extension → Option Reason → Type 0
-IsFirstReason [] None = Unit {0}
-IsFirstReason [] (Some v) = ⊥
-IsFirstReason (x ∷ xs) None = IsReasonOf x None × IsFirstReason xs None
-IsFirstReason (x ∷ xs) (Some v) = IsReasonOf x (Some v) ⊎ (IsReasonOf x None × IsFirstReason xs (Some v))
-
--- no implicit tag was said of its value
-abbrev pub IsFresh : Extension → Type 0
-IsFresh x = x.value.implicit ≡ None
-
--- a reader of the reason of an extension
-abbrev pub ReadsReason : Extension → Result (Option Reason) (Refusal BerError) → Type 0
-ReadsReason x result = IsFresh x → ReadsWhole (IsReasonOf x) (λ v. v) Never result
-
--- of that of a list of extensions
-abbrev pub ReadsFirstReason : List Extension → Result (Option Reason) (Refusal BerError) → Type 0
-ReadsFirstReason xs result = All IsFresh xs → ReadsWhole (IsFirstReason xs) (λ v. v) Never result
-
--- the extensions of an entry, if it has any
-abbrev pub listed : Option (Vec Extension) → List Extension
-listed None = []
-listed (Some v) = v.items
+-- the reason of the first extension of these octets that is a reason code
+pub data IsFirstReason : List ℕ → Option Reason → Type 0 where
+  absent : {i : List ℕ} → BeginsWithNone extension i → IsFirstReason i None
+  here : {i rest : List ℕ} {x : ExtensionValue} {v : Reason} → spells extension i x rest → IsReasonOf x (Some v)
+      → IsFirstReason i (Some v)
+  later : {i rest : List ℕ} {x : ExtensionValue} {v : Option Reason} → spells extension i x rest → IsReasonOf x None
+      → IsFirstReason rest v → IsFirstReason i v

@@ -1,70 +1,96 @@
 //! The entries of a list: certificates that are revoked (RFC 5280 5.1.2.6).
-ghost use Rattle.std.specs.Prelude.{map};
-ghost use Rattle.der_cursor.specs.Formats.{NoMemory, ReadsField, Required};
-ghost use Rattle.crl_reader.specs.Lists.{Entries, RevokedCertificate, revoked_of};
-ghost use Rattle.crl_reader.specs.Reasons.{ReadsFirstReason, listed};
+ghost use Rattle.std.specs.Prelude.{OnOk};
+ghost use Rattle.der_cursor.specs.Formats.{Never, ReadsWhole};
+ghost use Rattle.crl_reader.specs.Reasons.{IsFirstReason};
+ghost use Rattle.crl_reader.specs.Lists.{entry_extensions, revoked_certificate, revoked_certificates, revoked_of};
+ghost use Rattle.der_x509.specs.Formats.{list_of};
+ghost use Rattle.der_x509.specs.Readers.{IsShorter, ReadsBy, ReadsToEnd, fault_of};
 
-use crate::extension::{Extension, read_extensions};
-use crate::next::read_if_next;
-use crate::reason::Reason;
-use der_parser::ber::ASN1DateTime;
-use der_parser::cursor::{Cursor, Refusal};
-use der_parser::error::BerError;
-use std::alloc::Global;
+use crate::reason::{Reason, reason_of};
+use der_base::error::BerError;
+use der_base::header::{Class, Tag};
+use der_cursor::{Cursor, Refusal};
+use der_x509::parts::{read_extension_list, read_time};
+use der_x509::{Extensions, Time};
+
+/// The certificates of a list. They are kept as their octets, which were checked.
+#[derive(Clone, Copy, Debug)]
+pub struct RevokedCertificates<'a> {
+    /// The encodings of the entries, one after another.
+    pub octets: &'a [u8],
+}
 
 /// A certificate that is revoked.
-#[derive(Debug, Drop)]
-pub struct Revoked<'a> {
-    /// The content octets of its serial number, in two's complement (X.690 8.3.3).
-    pub serial_number: &'a [u8],
-    pub date: ASN1DateTime,
-    pub extensions: Option<Vec<Extension<'a>>>,
+#[derive(Clone, Copy, Debug)]
+pub struct RevokedCertificate<'a> {
+    /// Its serial number: the content octets of the INTEGER, in two's complement.
+    pub user_certificate: &'a [u8],
+    pub revocation_date: Time,
+    pub crl_entry_extensions: Extensions<'a>,
 }
 
-impl Revoked<'_> {
-    /// The reason, if an extension has it (RFC 5280 5.3.1).
+impl RevokedCertificate<'_> {
+    /// The reason, if an extension has it (RFC 5280 5.3.1): that of the first reason code.
     pub fn reason(&self) -> Result<Option<Reason>, Refusal<BerError>>
-        ensures { ReadsFirstReason (listed self.now.extensions) result }
+        ensures { ReadsWhole (IsFirstReason self.now.crl_entry_extensions.octets.now) (λ v. v) Never result }
     {
-        let Some(extensions) = &self.extensions else {
-            return Ok(None);
-        };
-        first_reason(extensions)
-    }
-}
-
-fn first_reason(extensions: &[Extension<'_>]) -> Result<Option<Reason>, Refusal<BerError>>
-    ensures { ReadsFirstReason extensions.now result }
-{
-    for extension in extensions {
-        if let Some(reason) = extension.reason()? {
-            return Ok(Some(reason));
+        for extension in self.crl_entry_extensions.iter() {
+            if let Some(reason) = reason_of(&extension)? {
+                return Ok(Some(reason));
+            }
         }
+        Ok(None)
     }
-    Ok(None)
 }
 
 /// Reads a SEQUENCE OF entries.
-pub(crate) fn read_entries<'a>(
-    alloc: Global,
+pub(crate) fn read_revoked_certificates<'a>(
     fields: &mut Cursor<'a>,
-) -> Result<Vec<Revoked<'a>>, Refusal<BerError>>
-    ensures { ReadsField (Required Entries) (λ v. map revoked_of v.items) NoMemory fields.old result fields.new }
+) -> Result<RevokedCertificates<'a>, Refusal<BerError>>
+    ensures { ReadsBy fault_of (λ r. r.octets.now) revoked_certificates fields.old result fields.new }
 {
-    fields.open_sequence()?.read_all(alloc, read_entry)
+    let list = fields.open_sequence()?;
+    check_entries(list)?;
+    Ok(RevokedCertificates {
+        octets: list.remaining(),
+    })
 }
 
-fn read_entry<'a>(alloc: Global, entries: &mut Cursor<'a>) -> Result<Revoked<'a>, Refusal<BerError>>
-    ensures { ReadsField (Required RevokedCertificate) revoked_of NoMemory entries.old result entries.new }
+/// Reads entries to the end of a list.
+fn check_entries(mut list: Cursor<'_>) -> Result<(), Refusal<BerError>>
+    ensures { ReadsToEnd fault_of (λ u. u) (list_of revoked_certificate) list.entry result }
 {
-    let mut fields = entries.open_sequence()?;
-    let serial_number = fields.integer()?;
-    let date = fields.time()?;
-    let extensions = read_if_next(alloc, &mut fields, read_extensions)?;
-    fields.end()?;
-    Ok(Revoked {
-        serial_number,
-        date,
-        extensions,
+    while !list.is_empty() {
+        read_revoked_certificate(&mut list)?;
+    }
+    Ok(())
+}
+
+/// Reads an entry.
+pub(crate) fn read_revoked_certificate<'a>(
+    list: &mut Cursor<'a>,
+) -> Result<RevokedCertificate<'a>, Refusal<BerError>>
+    ensures reads { ReadsBy fault_of revoked_of revoked_certificate list.old result list.new }
+    ensures shorter { OnOk result (IsShorter list.old list.new) }
+{
+    let mut parts = list.open_sequence()?;
+    let user_certificate = parts.integer()?;
+    let revocation_date = read_time(&mut parts)?;
+    let crl_entry_extensions = read_entry_extensions(&mut parts)?;
+    parts.end()?;
+    Ok(RevokedCertificate {
+        user_certificate,
+        revocation_date,
+        crl_entry_extensions,
     })
+}
+
+/// Reads the extensions of an entry, if a SEQUENCE is next.
+fn read_entry_extensions<'a>(parts: &mut Cursor<'a>) -> Result<Extensions<'a>, Refusal<BerError>>
+    ensures { ReadsBy fault_of (λ e. e.octets.now) entry_extensions parts.old result parts.new }
+{
+    if !parts.is_next(Class::Universal, Tag::Sequence) {
+        return Ok(Extensions { octets: &[] });
+    }
+    read_extension_list(parts)
 }

@@ -1,13 +1,16 @@
-//! Reads lists of revoked certificates (RFC 5280 5.1) field by field.
+//! Lists of revoked certificates (RFC 5280 5.1), read as its ASN.1 writes them, by DER. No signature is
+//! verified.
 #![tactic(auto)]
 
+mod display;
 mod entry;
-mod extension;
 mod list;
-mod next;
+mod lists;
 mod reason;
+mod refusal;
 
-pub use entry::Revoked;
-pub use extension::Extension;
-pub use list::{CertificateList, Issuer, SignedList, read_certificate_list};
-pub use reason::Reason;
+pub use entry::{RevokedCertificate, RevokedCertificates};
+pub use list::{CertificateList, TbsCertList, read_certificate_list};
+pub use lists::RevokedIter;
+pub use reason::{Reason, read_reason, reason_of};
+pub use refusal::{Field, ListRefusal};

@@ -1,10 +1,16 @@
 //! The reason of a revocation (RFC 5280 5.3.1).
 ghost use Rattle.std.specs.Prelude.{◌≡◌, ◌≢◌, MatchOption};
-ghost use Rattle.der_cursor.specs.Formats.{Never, ReadsContent, ReadsField, Required};
-ghost use Rattle.crl_reader.specs.Reasons.{CRLReason, ReasonCode, number_of};
+ghost use Rattle.der_base.specs.declared.rules.Rules.{Rules};
+ghost use Rattle.der_cursor.specs.Formats.{Never, ReadsField, ReadsInput, ReadsWhole, Required};
+ghost use Rattle.crl_reader.specs.Reasons.{CRLReason, IsReasonOf, ReasonCode, number_of};
+ghost use Rattle.der_x509.specs.Certificates.{extension_of};
 
-use der_parser::cursor::{Cursor, Refusal};
-use der_parser::error::BerError;
+use der_base::error::BerError;
+use der_cursor::{Cursor, Refusal};
+use der_x509::Extension;
+
+/// The octets of 2.5.29.21, the reason of a revocation (RFC 5280 5.3.1).
+const REASON_CODE: &[u8] = b"\x55\x1d\x15";
 
 /// Why a certificate is revoked. The number 7 isn't used.
 #[derive(Clone, Copy, Debug, PartialEq, Eq)]
@@ -49,16 +55,29 @@ impl Reason {
     }
 }
 
-/// Reads the value of a reason code.
-pub(crate) fn read_reason_code(mut value: Cursor<'_>) -> Result<Reason, Refusal<BerError>>
-    ensures { ReadsContent ReasonCode (λ v. v) Never value.entry result }
+/// The reason, if this extension is a reason code (RFC 5280 5.3.1). Places of refusals are counted in
+/// the octets of its value.
+pub fn reason_of(extension: &Extension<'_>) -> Result<Option<Reason>, Refusal<BerError>>
+    ensures { ReadsWhole (IsReasonOf (extension_of extension.now)) (λ v. v) Never result }
 {
-    let reason = read_reason(&mut value)?;
+    if extension.identifier.as_bytes() != REASON_CODE {
+        return Ok(None);
+    }
+    Ok(Some(read_reason(extension.value)?))
+}
+
+/// Reads the value of a reason code by DER. Octets left over are refused, and so is a number that has
+/// no name, such as 7.
+pub fn read_reason(octets: &[u8]) -> Result<Reason, Refusal<BerError>>
+    ensures { ReadsInput Rules.Der ReasonCode (λ v. v) Never octets.now result }
+{
+    let mut value = Cursor::new(octets);
+    let reason = read_number(&mut value)?;
     value.end()?;
     Ok(reason)
 }
 
-fn read_reason(value: &mut Cursor<'_>) -> Result<Reason, Refusal<BerError>>
+fn read_number(value: &mut Cursor<'_>) -> Result<Reason, Refusal<BerError>>
     ensures { ReadsField (Required CRLReason) (λ v. v) Never value.old result value.new }
 {
     let before = *value;

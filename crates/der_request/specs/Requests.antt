@@ -1,5 +1,5 @@
--- Certification requests, as the ASN.1 of RFC 2986 writes them (4 and appendix A), in DER. Each line has its ASN.1 beside
--- it.
+-- Certification requests, as the ASN.1 of RFC 2986 writes them (4 and appendix A), in DER. Each line has its ASN.1
+-- beside it.
 use Rattle.std.specs.Prelude.{◌≡◌, ℕ, true, pos, List}
 use Rattle.der_base.specs.declared.error.Error.{Error as BerError}
 use Rattle.der_base.specs.declared.header.Class.TheVariants.{ContextSpecific, Universal}

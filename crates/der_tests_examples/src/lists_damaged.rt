@@ -1,10 +1,9 @@
 //! A list of revoked certificates with each of its elements damaged: each copy is refused at its place, or
 //! is listed.
 use crl_reader::{CertificateList, read_certificate_list};
-use der_tests_damage::Damage::LeftOver;
+use der_tests_damage::Damage::{Class, Constructed};
 use der_tests_damage::Part::This;
 use der_tests_damage::{Case, Outcome, Pass, Reader};
-use names_reader::read_name;
 use std::alloc::Global;
 use std::test::Fail;
 
@@ -66,11 +65,15 @@ const LIST: &[u8] = b"\
 /// The copies that are read.
 #[rattlefmt::skip]
 const PASSES: &[Pass] = &[
-    (10, This(LeftOver), "what follows the identifier of an algorithm isn't looked at"),
-    (226, This(LeftOver), "what follows the identifier of an algorithm isn't looked at"),
+    (33, This(Class), "the value of an attribute is of any type"),
+    (33, This(Constructed), "the value of an attribute isn't looked into, nor is its form"),
+    (46, This(Class), "the value of an attribute is of any type"),
+    (46, This(Constructed), "the value of an attribute isn't looked into, nor is its form"),
+    (64, This(Class), "the value of an attribute is of any type"),
+    (64, This(Constructed), "the value of an attribute isn't looked into, nor is its form"),
 ];
 
-/// The value of the reason is read, and the issuer by one parser: a refusal inside it has its place.
+/// The value of the reason is read too.
 const CASE: Case<'static> = Case {
     message: LIST,
     opened: &[161],
@@ -78,33 +81,28 @@ const CASE: Case<'static> = Case {
     passes: PASSES,
 };
 
-/// `read_certificate_list`, the name of the issuer, and the reason of each certificate.
+/// `read_certificate_list`, and the reason of each certificate.
 struct Lists;
 
 impl Reader for Lists {
-    fn outcome(&self, alloc: Global, octets: &[u8]) -> Outcome {
-        match read_certificate_list(alloc, octets) {
-            Ok(list) => parts_outcome(alloc, &list),
+    fn outcome(&self, _alloc: Global, octets: &[u8]) -> Outcome {
+        match read_certificate_list(octets) {
+            Ok(list) => reasons_outcome(&list),
             Err(refused) => Outcome::RefusedAt(refused.refusal.offset),
         }
     }
 }
 
-/// Where the issuer or a reason is refused, or that all are read.
-fn parts_outcome(alloc: Global, list: &CertificateList<'_>) -> Outcome {
-    let mut element = list.signed.issuer.element;
-    if let Err(refused) = read_name(alloc, &mut element) {
-        return Outcome::RefusedAt(refused.offset);
-    }
-    let Some(entries) = &list.signed.revoked else {
+/// Whether all reasons are read. The place of a refusal is in the octets of the value.
+fn reasons_outcome(list: &CertificateList<'_>) -> Outcome {
+    let Some(entries) = list.tbs_cert_list.revoked_certificates else {
         return Outcome::Read;
     };
-    for entry in entries {
-        if let Err(refused) = entry.reason() {
-            return Outcome::RefusedAt(refused.offset);
-        }
+    if entries.iter().all(|entry| entry.reason().is_ok()) {
+        Outcome::Read
+    } else {
+        Outcome::Refused
     }
-    Outcome::Read
 }
 
 #[test]

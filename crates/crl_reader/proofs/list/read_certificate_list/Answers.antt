@@ -1,11 +1,19 @@
-use Rattle.der_cursor.proofs.Sequences.{ends_named, input_left, input_read, input_stops}
+use Rattle.std.proofs.Common.{refl}
+use Rattle.std.proofs.lemmas.Result.{err_from_is_err_and}
+use Rattle.crl_reader.specs.declared.refusal.Field.TheVariants as field
+use Rattle.crl_reader.proofs.CrlLaws.{named_read, read_from_start}
+use Rattle.der_x509.proofs.ReaderLaws.{end_read, finished, step, stop, whole}
 use Rattle.crl_reader.proofs.list.read_certificate_list.Goals as goal
 
 pub returns-in_err-list : goal.returns-in_err-list
-returns-in_err-list c = input_stops c.new-input.ensures c.in_err-list.ensures c.from_residual.ensures.1
+returns-in_err-list c =
+    let q = err_from_is_err_and c.from_residual.result c.from_residual.ensures.1 in
+    rw (q.1, q.2) (read_from_start c.args.octets.now c.new-input.result _ c.new-input.ensures (whole (stop (c.in_err-list.ensures))))
 
-pub returns-in_err-named : goal.returns-in_err-named
-returns-in_err-named c = input_left _ c.new-input.ensures c.in_ok-list.ensures (ends_named _ _ _ _ _ c.end.ensures c.in_err-named.ensures) c.from_residual-in_err-named.ensures.1
+pub returns-in_err-of : goal.returns-in_err-of
+returns-in_err-of c =
+    let q = err_from_is_err_and c.from_residual-in_err-of.result c.from_residual-in_err-of.ensures.1 in
+    rw (q.1, q.2) (read_from_start c.args.octets.now c.new-input.result _ c.new-input.ensures (whole (step (c.in_ok-list.ensures) (stop (named_read field.CertificateList _ c.in_err-of.ensures (end_read c.end.ensures))))))
 
 pub returns : goal.returns
-returns c = input_read c.new-input.ensures c.in_ok-list.ensures (ends_named _ _ _ _ _ c.end.ensures c.in_ok-named.ensures)
+returns c = read_from_start c.args.octets.now c.new-input.result _ c.new-input.ensures (whole (step (c.in_ok-list.ensures) (step (named_read field.CertificateList _ c.in_ok-of.ensures (end_read c.end.ensures)) (finished refl))))

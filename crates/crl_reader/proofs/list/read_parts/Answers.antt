@@ -1,22 +1,36 @@
-use Rattle.std.proofs.Common.{refl}
-use Rattle.der_cursor.proofs.FormatLaws.{value_read}
-use Rattle.der_cursor.proofs.Sequences.{after, ends_named, finish, inside_named, left_over, named, start, stops, stops_never, unopened_named}
+use Rattle.std.proofs.Common.{◌-◌, length, take, true}
+use Rattle.std.proofs.lemmas.Result.{err_from_is_err_and}
+use Rattle.der_cursor.specs.Cursors.{octets_left}
+use Rattle.der_values.specs.Kinds.{bit_strings}
+use Rattle.crl_reader.specs.declared.refusal.Field.TheVariants as field
+use Rattle.crl_reader.proofs.CrlLaws.{tbs_same, tbs_taken, named_read, opened_field}
+use Rattle.der_x509.proofs.ReaderLaws.{end_read, finished, octets_read, octets_refused, step, stop, type_read, value_read, within}
 use Rattle.crl_reader.proofs.list.read_parts.Goals as goal
 
 pub returns-in_err-parts : goal.returns-in_err-parts
-returns-in_err-parts c = unopened_named _ _ _ _ c.open_sequence.ensures c.in_err-parts.ensures c.from_residual.ensures.1
+returns-in_err-parts c =
+    let q = err_from_is_err_and c.from_residual.result c.from_residual.ensures.1 in
+    rw (q.1, q.2) (stop (named_read field.CertificateList _ c.in_err-parts.ensures (type_read true 16 c.open_sequence.ensures)))
 
-pub returns-in_err-signed : goal.returns-in_err-signed
-returns-in_err-signed c = inside_named _ _ _ _ c.open_sequence.ensures c.in_ok-parts.ensures (λ fresh. stops _ (start _ fresh) c.in_err-signed.ensures c.from_residual-in_err-signed.ensures.1)
+pub returns-in_err-tbs_cert_list : goal.returns-in_err-tbs_cert_list
+returns-in_err-tbs_cert_list c =
+    let q = err_from_is_err_and c.from_residual-in_err-tbs_cert_list.result c.from_residual-in_err-tbs_cert_list.ensures.1 in
+    rw (q.1, q.2) (opened_field field.CertificateList true 16 _ c.in_ok-parts.ensures c.open_sequence.ensures (λ i. within i (stop (octets_refused c.in_err-tbs_cert_list.ensures.reads))))
 
 pub returns-in_err-signature_algorithm : goal.returns-in_err-signature_algorithm
-returns-in_err-signature_algorithm c = inside_named _ _ _ _ c.open_sequence.ensures c.in_ok-parts.ensures (λ fresh. stops_never _ (after (start _ fresh) c.in_ok-signed.ensures) (named _ c.read_algorithm.ensures c.in_err-signature_algorithm.ensures) c.from_residual-in_err-signature_algorithm.ensures.1)
+returns-in_err-signature_algorithm c =
+    let q = err_from_is_err_and c.from_residual-in_err-signature_algorithm.result c.from_residual-in_err-signature_algorithm.ensures.1 in
+    rw (q.1, q.2) (opened_field field.CertificateList true 16 _ c.in_ok-parts.ensures c.open_sequence.ensures (λ i. within i (step (octets_read (take (length (octets_left c.in_ok-parts.parts) - length (octets_left c.read_tbs.new.parts)) (octets_left c.in_ok-parts.parts)) c.in_ok-tbs_cert_list.ensures.reads (λ s. tbs_taken _ _ _ s)) (stop (named_read field.SignatureAlgorithm _ c.in_err-signature_algorithm.ensures (c.read_algorithm.ensures))))))
 
-pub returns-in_err-signature : goal.returns-in_err-signature
-returns-in_err-signature c = inside_named _ _ _ _ c.open_sequence.ensures c.in_ok-parts.ensures (λ fresh. stops_never _ (after (after (start _ fresh) c.in_ok-signed.ensures) (named _ c.read_algorithm.ensures c.in_ok-signature_algorithm.ensures)) (named _ (value_read _ c.bits.ensures) c.in_err-signature.ensures) c.from_residual-in_err-signature.ensures.1)
+pub returns-in_err-signature_value : goal.returns-in_err-signature_value
+returns-in_err-signature_value c =
+    let q = err_from_is_err_and c.from_residual-in_err-signature_value.result c.from_residual-in_err-signature_value.ensures.1 in
+    rw (q.1, q.2) (opened_field field.CertificateList true 16 _ c.in_ok-parts.ensures c.open_sequence.ensures (λ i. within i (step (octets_read (take (length (octets_left c.in_ok-parts.parts) - length (octets_left c.read_tbs.new.parts)) (octets_left c.in_ok-parts.parts)) c.in_ok-tbs_cert_list.ensures.reads (λ s. tbs_taken _ _ _ s)) (step (named_read field.SignatureAlgorithm _ c.in_ok-signature_algorithm.ensures (c.read_algorithm.ensures)) (stop (named_read field.SignatureValue _ c.in_err-signature_value.ensures (value_read (λ r. bit_strings r) 3 c.bits.ensures)))))))
 
-pub returns-in_err-named : goal.returns-in_err-named
-returns-in_err-named c = inside_named _ _ _ _ c.open_sequence.ensures c.in_ok-parts.ensures (λ fresh. left_over _ (after (after (after (start _ fresh) c.in_ok-signed.ensures) (named _ c.read_algorithm.ensures c.in_ok-signature_algorithm.ensures)) (named _ (value_read _ c.bits.ensures) c.in_ok-signature.ensures)) (ends_named _ _ _ _ _ c.end.ensures c.in_err-named.ensures) c.from_residual-in_err-named.ensures.1)
+pub returns-in_err-of : goal.returns-in_err-of
+returns-in_err-of c =
+    let q = err_from_is_err_and c.from_residual-in_err-of.result c.from_residual-in_err-of.ensures.1 in
+    rw (q.1, q.2) (opened_field field.CertificateList true 16 _ c.in_ok-parts.ensures c.open_sequence.ensures (λ i. within i (step (octets_read (take (length (octets_left c.in_ok-parts.parts) - length (octets_left c.read_tbs.new.parts)) (octets_left c.in_ok-parts.parts)) c.in_ok-tbs_cert_list.ensures.reads (λ s. tbs_taken _ _ _ s)) (step (named_read field.SignatureAlgorithm _ c.in_ok-signature_algorithm.ensures (c.read_algorithm.ensures)) (step (named_read field.SignatureValue _ c.in_ok-signature_value.ensures (value_read (λ r. bit_strings r) 3 c.bits.ensures)) (stop (named_read field.CertificateList _ c.in_err-of.ensures (end_read c.end.ensures))))))))
 
 pub returns : goal.returns
-returns c = inside_named _ _ _ _ c.open_sequence.ensures c.in_ok-parts.ensures (λ fresh. finish (after (after (after (start _ fresh) c.in_ok-signed.ensures) (named _ c.read_algorithm.ensures c.in_ok-signature_algorithm.ensures)) (named _ (value_read _ c.bits.ensures) c.in_ok-signature.ensures)) (ends_named _ _ _ _ _ c.end.ensures c.in_ok-named.ensures) refl)
+returns c = opened_field field.CertificateList true 16 _ c.in_ok-parts.ensures c.open_sequence.ensures (λ i. within i (step (octets_read (take (length (octets_left c.in_ok-parts.parts) - length (octets_left c.read_tbs.new.parts)) (octets_left c.in_ok-parts.parts)) c.in_ok-tbs_cert_list.ensures.reads (λ s. tbs_taken _ _ _ s)) (step (named_read field.SignatureAlgorithm _ c.in_ok-signature_algorithm.ensures (c.read_algorithm.ensures)) (step (named_read field.SignatureValue _ c.in_ok-signature_value.ensures (value_read (λ r. bit_strings r) 3 c.bits.ensures)) (step (named_read field.CertificateList _ c.in_ok-of.ensures (end_read c.end.ensures)) (finished (tbs_same _ _ _ _ _ _ _ c.remaining-before.ensures c.remaining.ensures)))))))

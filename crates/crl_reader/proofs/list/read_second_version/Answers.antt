@@ -1,16 +1,22 @@
-use Rattle.std.proofs.Common.{arith}
-use Rattle.std.proofs.lemmas.Int.{ints}
+use Rattle.std.proofs.Common.{◌≡◌, ap, refl, rules}
 use Rattle.std.proofs.lemmas.Result.{err_from_is_err_and}
-use Rattle.der_cursor.proofs.FormatLaws.{limited_read, limited_stops, not_limited, value_read}
+use Rattle.std.specs.Prelude.{pos}
+use Rattle.der_base.specs.Numbers.{unsigned}
+use Rattle.der_values.specs.Kinds.{numbers}
+use Rattle.crl_reader.proofs.CrlLaws.{not_second}
+use Rattle.der_x509.specs.Readers.{fault_of}
+use Rattle.der_x509.proofs.ReaderLaws.{finished, not_so, required_read, required_refused, step, stop, value_read}
 use Rattle.crl_reader.proofs.list.read_second_version.Goals as goal
 
-pub returns-in_err-version : goal.returns-in_err-version
-returns-in_err-version c =
+pub returns-in_err-number : goal.returns-in_err-number
+returns-in_err-number c =
     let q = err_from_is_err_and c.from_residual.result c.from_residual.ensures.1 in
-    rw (q.1, q.2) (limited_stops _ _ (value_read _ c.in_err-version.ensures))
+    rw (q.1, q.2) (stop (required_refused (value_read (λ r. numbers r (unsigned 32)) 2 c.in_err-number.ensures)))
 
-pub returns-then-version-ne1 : goal.returns-then-version-ne1
-returns-then-version-ne1 c = not_limited _ _ (λ h. absurd (omega (arith, ints))) (value_read _ c.in_ok-version.ensures)
+pub returns-then-number-ne1 : goal.returns-then-number-ne1
+returns-then-number-ne1 c = stop (not_so (value_read (λ r. numbers r (unsigned 32)) 2 c.in_ok-number.ensures) (not_second c.in_ok-number.number (search rules)) (ap (λ x. fault_of x) c.refuse.ensures))
 
 pub returns : goal.returns
-returns c = limited_read _ _ (omega (arith, ints)) (value_read _ c.in_ok-version.ensures)
+returns c =
+    let e : c.in_ok-number.number ≡ 1 = search rules in
+    step (required_read (value_read (λ r. numbers r (unsigned 32)) 2 c.in_ok-number.ensures) (ap (λ n. pos n) e)) (finished refl)
