@@ -12,6 +12,10 @@ mod certificates_strict;
 #[cfg(test)]
 mod certificates_walked;
 #[cfg(test)]
+mod certification_requests;
+#[cfg(test)]
+mod certification_requests_damaged;
+#[cfg(test)]
 mod keys_damaged;
 #[cfg(test)]
 mod keys_refused;
