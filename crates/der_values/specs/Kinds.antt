@@ -1,6 +1,7 @@
 -- The kinds of value that primitive elements have: the tests that their content octets pass, and what they mean.
-use Rattle.std.specs.Prelude.{◌≡◌, ℕ, ◌-◌, ◌/◌, ◌%◌, ◌^◌, ◌⊎◌, ◌==◌, if◌then◌else◌, Bool, true, false, not, ℤ, pos}
-use Rattle.std.specs.Prelude.{Option, None, List, [], ◌∷◌, ◌++◌, get_or, Result, Ok, Err}
+use Rattle.std.specs.Prelude.{◌≡◌, ℕ, ◌<◌, ◌-◌, ◌/◌, ◌%◌, ◌^◌, ◌⊎◌, ◌==◌, if◌then◌else◌, Bool, true, false, not, ℤ, pos}
+use Rattle.std.specs.Prelude.{Option, None, List, [], ◌∷◌, ◌++◌, length, slice_get, get_or, Result, Ok, Err}
+use Rattle.std.specs.Option.{IsSomeAnd}
 use Rattle.std.specs.List.{list_all}
 use Rattle.der_base.specs.declared.error.Error.{Error as BerError}
 use Rattle.der_base.specs.declared.oid.Oid.{Oid}
@@ -64,9 +65,9 @@ octet_strings = record { tests = λ w. []; means = λ w v. v ≡ w }
 abbrev pub nulls : Rules → Kind (Unit {0})
 nulls r = record { tests = leaf_tests r 5; means = λ w v. Unit {0} }
 
--- the octets are no identifier: there are none, or a subidentifier has no end or is too long
-abbrev pub HasNoArcs : List ℕ → Type 0
-HasNoArcs w = (w ≡ []) ⊎ (arcs false w ≡ None)
+-- there is a last octet, and it ends a subidentifier (8.19.2)
+abbrev pub EndsSubidentifier : List ℕ → Type 0
+EndsSubidentifier w = IsSomeAnd (slice_get w (length w - 1)) (λ b. b < 128)
 
 abbrev pub is_unpadded : List ℕ → Bool
 is_unpadded [] = true
@@ -80,10 +81,10 @@ HasPaddedArc w = list_all is_unpadded (subidentifiers w) ≡ false
 abbrev pub absolute_arcs : Oid → Option (List ℕ)
 absolute_arcs x = if is_relative_of x then None else arcs false (octets_of x)
 
--- the octets of an OBJECT IDENTIFIER (8.19)
+-- the octets of an OBJECT IDENTIFIER (8.19), whose arcs may have any size
 abbrev pub identifiers : Kind (List ℕ)
 identifiers = record {
-  tests = λ w. refuse (HasNoArcs w) wrong_value ∷ refuse (HasPaddedArc w) wrong_value ∷ [];
+  tests = λ w. refuse (¬ EndsSubidentifier w) wrong_value ∷ refuse (HasPaddedArc w) wrong_value ∷ [];
   means = λ w v. v ≡ w;
 }
 

@@ -4,22 +4,33 @@ ghost use Rattle.std.specs.Option.{option_map};
 ghost use Rattle.der_base.specs.Arcs.{arcs, first_arcs};
 ghost use Rattle.der_base.specs.OidArcs.{octets_of_arcs};
 ghost use Rattle.der_base.specs.Oids.{IsBorrowed, is_relative_of, octets_of};
-ghost use Rattle.der_values.specs.Kinds.{Decodes, HasPaddedArc, absolute_arcs, identifiers};
+ghost use Rattle.der_values.specs.Kinds.{Decodes, EndsSubidentifier, HasPaddedArc, absolute_arcs, identifiers};
 
 use der_base::error::BerError;
 use der_base::oid::Oid;
 use std::borrow::CowSlice;
 
-/// The identifier with these content octets (X.690 8.19). BerValueError if there are none, if they are
-/// no arcs of 64 bits, or if an arc begins with an octet of 0x80 (8.19.2).
+/// The identifier with these content octets (X.690 8.19). BerValueError if there are none, if the last
+/// arc has no end, or if an arc begins with an octet of 0x80 (8.19.2). An arc may have any size, though
+/// `Oid::iter` returns only arcs of 64 bits.
 pub fn read_oid(octets: &[u8]) -> Result<Oid<'_>, BerError>
     ensures { Decodes (λ x. octets_of x) identifiers octets.now result }
 {
     let oid = Oid::new(CowSlice::Borrowed(octets));
-    if octets.is_empty() || oid.iter().is_none() || has_padded_arc(octets) {
+    if !ends_subidentifier(octets) || has_padded_arc(octets) {
         return Err(BerError::BerValueError);
     }
     Ok(oid)
+}
+
+/// Whether there is a last octet, and it ends an arc.
+fn ends_subidentifier(octets: &[u8]) -> bool
+    ensures { IsTrue result ↔ EndsSubidentifier octets.now }
+{
+    match octets.last() {
+        Some(octet) => *octet < 0x80,
+        None => false,
+    }
 }
 
 /// The OBJECT IDENTIFIER with these arcs, which has these content octets (8.19.2). A caller proves that,
