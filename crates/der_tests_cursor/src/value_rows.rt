@@ -50,7 +50,7 @@ const VALUES: &[Row] = &[
     (Oid, Der, b"\x06\x03\x55\x1d\x0f", "2.5.29.15"),
     (Oid, Der, b"\x06\x00", "at 0: wrong value"),
     (Oid, Der, b"\x06\x02\x55\x9d", "at 0: wrong value"),
-    (Oid, Der, b"\x06\x0a\x69\xff\xff\xff\xff\xff\xff\xff\xff\x7f", "69 ff ff ff ff ff ff ff ff 7f"),
+    (Oid, Der, b"\x06\x0a\x69\xff\xff\xff\xff\xff\xff\xff\xff\x7f", "[69 ff ff ff ff ff ff ff ff 7f]"),
     (Oid, Der, b"\x06\x04\x55\x80\x1d\x0f", "at 0: wrong value"),
     (Oid, Ber, b"\x06\x03\x80\x55\x04", "at 0: wrong value"),
     (Oid, Ber, b"\x06\x03\x55\x88\x00", "2.5.1024"),
