@@ -33,7 +33,8 @@ IsEarly (Generalized t) = t.year < 2050
 
 -- the attribute with these octets is greater than the next one
 abbrev pub DescendsNext : List ℕ → List ℕ → Type 0
-DescendsNext a i = (b : List ℕ × List ℕ) × (rest : List ℕ) × spells (with_octets sequence) i b rest × Descends a b.0
+DescendsNext a i = (b : List ℕ × List ℕ) × (rest : List ℕ) × spells (with_octets sequence) i b rest
+    × Descends a b.0
 
 -- an attribute of a relative name is greater than the next one; by DER they ascend (X.690 11.6)
 abbrev pub AttributesDescend : List ℕ → Type 0
