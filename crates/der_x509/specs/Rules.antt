@@ -9,7 +9,8 @@ use Rattle.der_x509.specs.declared.certificate.Version.TheVariants.{V1, V3}
 use Rattle.der_x509.specs.declared.rules.Rule.{Rule}
 use Rattle.der_x509.specs.declared.rules.Rule.TheVariants.{SameAlgorithms, PositiveSerialNumber, ShortSerialNumber}
 use Rattle.der_x509.specs.declared.rules.Rule.TheVariants.{NamedIssuer, OrderedAttributes, UtcTimeTo2049}
-use Rattle.der_x509.specs.declared.rules.Rule.TheVariants.{UniqueIdVersion, ExtensionsVersion, DistinctExtensions}
+use Rattle.der_x509.specs.declared.rules.Rule.TheVariants.{WholeSeconds, UniqueIdVersion, ExtensionsVersion}
+use Rattle.der_x509.specs.declared.rules.Rule.TheVariants.{DistinctExtensions}
 use Rattle.der_x509.specs.declared.rules.StrictRefusal.{StrictRefusal}
 use Rattle.der_x509.specs.declared.rules.StrictRefusal.TheVariants.{NotRead, Broken}
 use Rattle.der_x509.specs.declared.time.Time.{Time}
@@ -27,6 +28,11 @@ IsPositive w = pos 0 <ℤ integer_value w
 abbrev pub IsEarly : Time → Type 0
 IsEarly (Utc t) = ⊥
 IsEarly (Generalized t) = t.year < 2050
+
+-- a GeneralizedTime with a fraction of a second; a UTCTime has none
+abbrev pub HasFraction : Time → Type 0
+HasFraction (Utc t) = ⊥
+HasFraction (Generalized t) = t.nanosecond ≢ None
 
 -- Lists are walked without a look into their items, which were read: `specs/Laws` says that these are the attributes and
 -- the extensions.
@@ -65,6 +71,7 @@ Breaks ShortSerialNumber c = 20 < length c.tbs_certificate.serial_number
 Breaks NamedIssuer c = c.tbs_certificate.issuer ≡ []
 Breaks OrderedAttributes c = let t = c.tbs_certificate in HasDescent t.issuer ⊎ HasDescent t.subject
 Breaks UtcTimeTo2049 c = let v = c.tbs_certificate.validity in IsEarly v.not_before ⊎ IsEarly v.not_after
+Breaks WholeSeconds c = let v = c.tbs_certificate.validity in HasFraction v.not_before ⊎ HasFraction v.not_after
 Breaks UniqueIdVersion c = let t = c.tbs_certificate in
     (t.version ≡ V1) × ((t.issuer_id ≢ None) ⊎ (t.subject_id ≢ None))
 Breaks ExtensionsVersion c = let t = c.tbs_certificate in (t.version ≢ V3) × (t.extensions ≢ [])
@@ -73,7 +80,7 @@ Breaks DistinctExtensions c = HasRepetition c.tbs_certificate.extensions
 abbrev pub every_rule : List Rule
 every_rule =
     SameAlgorithms ∷ PositiveSerialNumber ∷ ShortSerialNumber ∷ NamedIssuer ∷ OrderedAttributes ∷ UtcTimeTo2049
-    ∷ UniqueIdVersion ∷ ExtensionsVersion ∷ DistinctExtensions ∷ []
+    ∷ WholeSeconds ∷ UniqueIdVersion ∷ ExtensionsVersion ∷ DistinctExtensions ∷ []
 
 abbrev pub NoneBroken : List Rule → Signed → Type 0
 NoneBroken [] c = Unit {0}

@@ -1,7 +1,7 @@
 //! The rules of RFC 5280 that its ASN.1 doesn't say.
 ghost use Rattle.std.specs.Prelude.{◌≡◌, ◌↔◌, IsTrue, MatchOption};
 ghost use Rattle.der_x509.specs.Certificates.{algorithm_of, certificate_of};
-ghost use Rattle.der_x509.specs.Rules.{Breaks, IsEarly, IsFirstBroken, IsPositive, NoneBroken};
+ghost use Rattle.der_x509.specs.Rules.{Breaks, HasFraction, IsEarly, IsFirstBroken, IsPositive, NoneBroken};
 ghost use Rattle.der_x509.specs.Rules.{ReadsStrictly, every_rule};
 
 use crate::algorithm::AlgorithmIdentifier;
@@ -27,6 +27,8 @@ pub enum Rule {
     OrderedAttributes,
     /// A time to the end of 2049 is a UTCTime (4.1.2.5).
     UtcTimeTo2049,
+    /// A time has no fraction of a second (4.1.2.5.2).
+    WholeSeconds,
     /// A certificate of version 1 has no unique identifier (4.1.2.8).
     UniqueIdVersion,
     /// A certificate with extensions is of version 3 (4.1.2.9).
@@ -54,6 +56,9 @@ impl Certificate<'_> {
             Rule::OrderedAttributes => has_descent(fields.issuer) || has_descent(fields.subject),
             Rule::UtcTimeTo2049 => {
                 is_early(fields.validity.not_before) || is_early(fields.validity.not_after)
+            }
+            Rule::WholeSeconds => {
+                has_fraction(fields.validity.not_before) || has_fraction(fields.validity.not_after)
             }
             Rule::UniqueIdVersion => {
                 fields.version == Version::V1
@@ -89,6 +94,9 @@ impl Certificate<'_> {
         }
         if self.breaks(Rule::UtcTimeTo2049) {
             return Some(Rule::UtcTimeTo2049);
+        }
+        if self.breaks(Rule::WholeSeconds) {
+            return Some(Rule::WholeSeconds);
         }
         if self.breaks(Rule::UniqueIdVersion) {
             return Some(Rule::UniqueIdVersion);
@@ -150,5 +158,15 @@ fn is_early(time: Time) -> bool
     match time {
         Time::Utc(_) => false,
         Time::Generalized(moment) => moment.year < 2050,
+    }
+}
+
+/// Whether it has a fraction of a second, which a UTCTime never has.
+fn has_fraction(time: Time) -> bool
+    ensures { IsTrue result ↔ HasFraction time }
+{
+    match time {
+        Time::Utc(_) => false,
+        Time::Generalized(moment) => moment.nanosecond.is_some(),
     }
 }
