@@ -35,13 +35,13 @@ const SUBJECT_ALT_NAME: &[u8] = b"\
 struct Values<'a>(&'a [u8]);
 
 impl Reader for Values<'_> {
-    fn outcome(&self, alloc: Global, octets: &[u8]) -> Outcome {
+    fn outcome(&self, _alloc: Global, octets: &[u8]) -> Outcome {
         let extension = Extension {
             identifier: Oid::new(CowSlice::Borrowed(self.0)),
             critical: false,
             value: octets,
         };
-        match read_value(alloc, &extension).err() {
+        match read_value(&extension).err() {
             None => Outcome::Read,
             Some(refused) => Outcome::RefusedAt(refused.refusal.offset),
         }

@@ -1,7 +1,7 @@
 //! The lines that describe a certificate.
 use crate::contents::Contents;
-use crate::values::{GeneralName, Value};
-use der_extensions::BasicConstraints;
+use crate::values::Value;
+use der_extensions::{BasicConstraints, GeneralName, GeneralNames};
 use der_parser::ber::ASN1DateTime;
 use der_parser::values::BitString;
 use der_x509::{Extension, Version};
@@ -211,13 +211,10 @@ fn write_key_uses<W: fmt::Write>(f: &mut fmt::Formatter<W>, bits: &BitString<'_>
     writeln!(f)
 }
 
-fn write_names<W: fmt::Write>(f: &mut fmt::Formatter<W>, names: &[GeneralName<'_>]) -> fmt::Result {
-    if names.is_empty() {
-        return writeln!(f, "{EMPTY}");
-    }
+fn write_names<W: fmt::Write>(f: &mut fmt::Formatter<W>, names: &GeneralNames<'_>) -> fmt::Result {
     for (i, name) in names.iter().enumerate() {
         write_separator(f, i > 0)?;
-        write_name(f, name)?;
+        write_name(f, &name)?;
     }
     writeln!(f)
 }
@@ -227,15 +224,21 @@ fn write_separator<W: fmt::Write>(f: &mut fmt::Formatter<W>, follows_another: bo
     f.write_str(if follows_another { ", " } else { "    " })
 }
 
-/// Writes a name. Octets that aren't printable ASCII are escaped.
+/// Writes a name. Octets that aren't printable ASCII are escaped. Of the kinds that aren't texts, addresses
+/// or identifiers, only the number is written.
 fn write_name<W: fmt::Write>(f: &mut fmt::Formatter<W>, name: &GeneralName<'_>) -> fmt::Result {
     match name {
-        GeneralName::Email(text) => write!(f, "email:{}", text.as_bytes().escape_ascii()),
-        GeneralName::Dns(text) => write!(f, "DNS:{}", text.as_bytes().escape_ascii()),
-        GeneralName::Uri(text) => write!(f, "URI:{}", text.as_bytes().escape_ascii()),
-        GeneralName::Address(octets) => write_address(f, octets),
-        GeneralName::Identifier(oid) => write!(f, "Registered ID:{}", oid),
-        GeneralName::Other(tag) => write!(f, "[{}]", tag.0),
+        GeneralName::OtherName(_) => f.write_str("[0]"),
+        GeneralName::Rfc822Name(text) => write!(f, "email:{}", text.as_bytes().escape_ascii()),
+        GeneralName::DnsName(text) => write!(f, "DNS:{}", text.as_bytes().escape_ascii()),
+        GeneralName::X400Address(_) => f.write_str("[3]"),
+        GeneralName::DirectoryName(_) => f.write_str("[4]"),
+        GeneralName::EdiPartyName(_) => f.write_str("[5]"),
+        GeneralName::UniformResourceIdentifier(text) => {
+            write!(f, "URI:{}", text.as_bytes().escape_ascii())
+        }
+        GeneralName::IpAddress(octets) => write_address(f, octets),
+        GeneralName::RegisteredId(identifier) => write!(f, "Registered ID:{identifier}"),
     }
 }
 
