@@ -10,7 +10,7 @@ use Rattle.der_x509.specs.Certificates.{ExtensionValue, extension}
 use Rattle.der_x509.specs.Formats.{spells}
 use Rattle.der_x509.specs.Lists.{BeginsWithNone}
 use Rattle.der_x509.proofs.FormatLaws.{shows_one}
-use Rattle.der_x509.proofs.ListLaws.{extension_exact}
+use Rattle.der_x509.proofs.CertificateLaws.{extension_exact}
 use Rattle.crl_reader.specs.declared.reason.Reason.{Reason}
 use Rattle.crl_reader.specs.declared.reason.Reason.TheVariants.{Unspecified, KeyCompromise, CaCompromise, AffiliationChanged, Superseded, CessationOfOperation, CertificateHold, RemoveFromCrl, PrivilegeWithdrawn, AaCompromise}
 use Rattle.crl_reader.specs.Reasons.{number_of, NamedValues, IsFirstReason, IsReasonOf, absent, here, later}
