@@ -234,8 +234,10 @@ const EXPLICIT: &[Explicit] = &[
     ("a2 05 02 03 01 00 01", Ok(65537)),
     ("62 03 02 01 05", Ok(5)),
     ("a2 03 01 01 ff", Err(Err::Error(MyError::Variant1))),
-    ("a3 05 02 03 01 00 01", Err(Err::Error(MyError::BerError(UnexpectedTag { expected: Some(Tag(2)), actual: Tag(3) })))),
-    ("23 05 02 03 01 00 01", Err(Err::Error(MyError::BerError(UnexpectedClass { expected: None, actual: Class::Universal })))),
+    ("a3 05 02 03 01 00 01",
+        Err(Err::Error(MyError::BerError(UnexpectedTag { expected: Some(Tag(2)), actual: Tag(3) })))),
+    ("23 05 02 03 01 00 01",
+        Err(Err::Error(MyError::BerError(UnexpectedClass { expected: None, actual: Class::Universal })))),
     ("82 05 02 03 01 00 01", Err(Err::Error(MyError::BerError(ConstructExpected)))),
 ];
 
@@ -345,7 +347,8 @@ const IMPLICIT_BY_DER: &[(&str, Handed<'static>)] = &[
     ("82 03 01 00 01", Ok((&[], (&[1, 0, 1], Length::Definite(3), 50)))),
     ("a2 03 02 01 05 ff", Ok((&[255], (&[2, 1, 5], Length::Definite(3), 50)))),
     ("83 00", Err(Err::Error(MyError::BerError(UnexpectedTag { expected: Some(Tag(2)), actual: Tag(3) })))),
-    ("a2 80 02 01 05 00 00", Err(Err::Error(MyError::BerError(BerError::DerConstraintFailed(DerConstraint::IndefiniteLength))))),
+    ("a2 80 02 01 05 00 00",
+        Err(Err::Error(MyError::BerError(BerError::DerConstraintFailed(DerConstraint::IndefiniteLength))))),
     ("82 02 00", Err(Err::Error(MyError::NomError(&[0], ErrorKind::Eof)))),
 ];
 
