@@ -21,18 +21,23 @@ use std::alloc::Global;
 use std::process::Abort;
 use std::test::Fail;
 
-/// The rules that a list and its items are read by.
+/// The rules that a list is read by, and the parser of its items.
 #[derive(Clone, Copy, Debug)]
-enum Rules {
+pub enum Items {
+    /// BER, and that of an INTEGER.
     Ber,
+    /// DER, and that of an INTEGER.
     Der,
+    /// BER, and one that gives back its input.
+    Staying,
 }
 
-/// What the parser of an INTEGER answers.
-fn integer<'a>(rules: Rules, i: &'a [u8]) -> BerResult<'a> {
-    match rules {
-        Rules::Ber => parse_ber_integer(i),
-        Rules::Der => parse_der_integer(i),
+/// What the parser of an item answers.
+fn item<'a>(items: Items, i: &'a [u8]) -> BerResult<'a> {
+    match items {
+        Items::Ber => parse_ber_integer(i),
+        Items::Der => parse_der_integer(i),
+        Items::Staying => Ok((i, BerObject::from_obj(BerObjectContent::Null))),
     }
 }
 
@@ -40,52 +45,18 @@ fn integer<'a>(rules: Rules, i: &'a [u8]) -> BerResult<'a> {
 pub type Given<'a> = (u64, BerResult<'a>);
 
 /// What is answered where a list of INTEGERs is wanted.
-fn integers(alloc: Global, rules: Rules, tag: Tag, i: &[u8]) -> Given<'_> {
-    match (rules, tag) {
-        (Rules::Ber, Tag::Sequence) => sequence_of_integers_by_ber(alloc, i),
-        (Rules::Ber, _) => set_of_integers_by_ber(alloc, i),
-        (Rules::Der, Tag::Sequence) => sequence_of_integers_by_der(alloc, i),
-        (Rules::Der, _) => set_of_integers_by_der(alloc, i),
-    }
-}
-
-pub fn sequence_of_integers_by_ber(alloc: Global, i: &[u8]) -> Given<'_> {
+pub fn integers(alloc: Global, items: Items, tag: Tag, i: &[u8]) -> Given<'_> {
     let mut calls: u64 = 0;
-    let answer = parse_ber_sequence_of(alloc, |input| {
+    let parser = |input| {
         calls = calls.saturating_add(1);
-        integer(Rules::Ber, input)
-    })
-    .parse(i);
-    (calls, answer)
-}
-
-pub fn set_of_integers_by_ber(alloc: Global, i: &[u8]) -> Given<'_> {
-    let mut calls: u64 = 0;
-    let answer = parse_ber_set_of(alloc, |input| {
-        calls = calls.saturating_add(1);
-        integer(Rules::Ber, input)
-    })
-    .parse(i);
-    (calls, answer)
-}
-
-pub fn sequence_of_integers_by_der(alloc: Global, i: &[u8]) -> Given<'_> {
-    let mut calls: u64 = 0;
-    let answer = parse_der_sequence_of(alloc, |input| {
-        calls = calls.saturating_add(1);
-        integer(Rules::Der, input)
-    })
-    .parse(i);
-    (calls, answer)
-}
-
-pub fn set_of_integers_by_der(alloc: Global, i: &[u8]) -> Given<'_> {
-    let mut calls: u64 = 0;
-    let answer = parse_der_set_of(alloc, |input| {
-        calls = calls.saturating_add(1);
-        integer(Rules::Der, input)
-    })
-    .parse(i);
+        item(items, input)
+    };
+    let answer = match (items, tag) {
+        (Items::Der, Tag::Sequence) => parse_der_sequence_of(alloc, parser).parse(i),
+        (Items::Der, _) => parse_der_set_of(alloc, parser).parse(i),
+        (_, Tag::Sequence) => parse_ber_sequence_of(alloc, parser).parse(i),
+        (_, _) => parse_ber_set_of(alloc, parser).parse(i),
+    };
     (calls, answer)
 }
 
@@ -97,7 +68,8 @@ type List = (&'static str, Tag, Answer, u64);
 #[rattlefmt::skip]
 const LISTS: &[List] = &[
     ("30 06 02 01 01 02 01 02", Tag(16), Read(Sequence(&[Integer("01"), Integer("02")]), ""), 3),
-    ("30 0a 02 03 01 00 01 02 03 01 00 00", Tag(16), Read(Sequence(&[Integer("01 00 01"), Integer("01 00 00")]), ""), 3),
+    ("30 0a 02 03 01 00 01 02 03 01 00 00", Tag(16),
+        Read(Sequence(&[Integer("01 00 01"), Integer("01 00 00")]), ""), 3),
     ("30 00 ff", Tag(16), Read(Sequence(&[]), "ff"), 1),
     ("b0 03 82 01 05", Tag(16), Read(Sequence(&[Integer("05")]), ""), 2),
     ("31 03 02 01 05 ff", Tag(17), Read(Set(&[Integer("05")]), "ff"), 2),
@@ -146,90 +118,87 @@ const DER_REFUSED: &[Unread] = &[
 /// The row's list is answered so.
 fn expect_list(
     rt: &(impl Abort + AllocGlobal),
-    rules: Rules,
+    items: Items,
     row: &List,
     given: &Given<'_>,
 ) -> Result<(), Fail> {
     let (text, _, answer, count) = row;
     let (calls, given) = given;
-    assert_eq!(rt; calls, count, "{rules:?}: {text}");
-    assert!(rt;
-        answer.is_given_by(rt.alloc(), given)?,
-        "{rules:?}: {text}: {given:?}"
-    );
+    assert_eq!(rt; calls, count, "{items:?}: {text}");
+    assert!(rt; answer.is_given_by(rt.alloc(), given)?, "{items:?}: {text}");
     Ok(())
 }
 
 /// The row's refusal is answered.
-fn expect_refusal(rt: &impl Abort, rules: Rules, row: &Unread, given: &Given<'_>) {
+fn expect_refusal(rt: &impl Abort, items: Items, row: &Unread, given: &Given<'_>) {
     let (text, _, refusal, count) = row;
     let (calls, given) = given;
-    assert_eq!(rt; calls, count, "{rules:?}: {text}");
+    assert_eq!(rt; calls, count, "{items:?}: {text}");
     assert!(rt;
         matches!(given, Err(e) if e == refusal),
-        "{rules:?}: {text}: {given:?}"
+        "{items:?}: {text}"
     );
 }
 
 /// The list of one type is read so.
-fn expect_read(rt: &(impl Abort + AllocGlobal), rules: Rules, row: &List) -> Result<(), Fail> {
+fn expect_read(rt: &(impl Abort + AllocGlobal), items: Items, row: &List) -> Result<(), Fail> {
     let input = octets(rt.alloc(), row.0)?;
-    let given = integers(rt.alloc(), rules, row.1, &input);
-    expect_list(rt, rules, row, &given)
+    let given = integers(rt.alloc(), items, row.1, &input);
+    expect_list(rt, items, row, &given)
 }
 
 /// Each list of one type is read so.
 fn expect_all_read(
     rt: &(impl Abort + AllocGlobal),
-    rules: Rules,
+    items: Items,
     rows: &[List],
 ) -> Result<(), Fail> {
     for row in rows {
-        expect_read(rt, rules, row)?;
+        expect_read(rt, items, row)?;
     }
     Ok(())
 }
 
 /// The list of one type is refused so.
-fn expect_refused(rt: &(impl Abort + AllocGlobal), rules: Rules, row: &Unread) -> Result<(), Fail> {
+fn expect_refused(rt: &(impl Abort + AllocGlobal), items: Items, row: &Unread) -> Result<(), Fail> {
     let input = octets(rt.alloc(), row.0)?;
-    expect_refusal(rt, rules, row, &integers(rt.alloc(), rules, row.1, &input));
+    expect_refusal(rt, items, row, &integers(rt.alloc(), items, row.1, &input));
     Ok(())
 }
 
 /// Each list of one type is refused so.
 fn expect_all_refused(
     rt: &(impl Abort + AllocGlobal),
-    rules: Rules,
+    items: Items,
     rows: &[Unread],
 ) -> Result<(), Fail> {
     for row in rows {
-        expect_refused(rt, rules, row)?;
+        expect_refused(rt, items, row)?;
     }
     Ok(())
 }
 
 #[test]
 fn lists_of_one_type_by_ber(rt: HostRuntime) -> Result<(), Fail> {
-    expect_all_read(&rt, Rules::Ber, LISTS)?;
-    expect_all_read(&rt, Rules::Ber, BER_LISTS)
+    expect_all_read(&rt, Items::Ber, LISTS)?;
+    expect_all_read(&rt, Items::Ber, BER_LISTS)
 }
 
 #[test]
 fn lists_of_one_type_by_der(rt: HostRuntime) -> Result<(), Fail> {
-    expect_all_read(&rt, Rules::Der, LISTS)
+    expect_all_read(&rt, Items::Der, LISTS)
 }
 
 #[test]
 fn lists_of_one_type_that_are_refused_by_ber(rt: HostRuntime) -> Result<(), Fail> {
-    expect_all_refused(&rt, Rules::Ber, REFUSED)?;
-    expect_all_refused(&rt, Rules::Ber, BER_REFUSED)
+    expect_all_refused(&rt, Items::Ber, REFUSED)?;
+    expect_all_refused(&rt, Items::Ber, BER_REFUSED)
 }
 
 #[test]
 fn lists_of_one_type_that_are_refused_by_der(rt: HostRuntime) -> Result<(), Fail> {
-    expect_all_refused(&rt, Rules::Der, REFUSED)?;
-    expect_all_refused(&rt, Rules::Der, DER_REFUSED)
+    expect_all_refused(&rt, Items::Der, REFUSED)?;
+    expect_all_refused(&rt, Items::Der, DER_REFUSED)
 }
 
 /// The object has this tag and the length 0, and is written so.
@@ -245,14 +214,14 @@ fn expect_made(
     Ok(())
 }
 
-/// By the rules, the list that these octets spell is made.
+/// By the items, the list that these octets spell is made.
 fn expect_list_made(
     rt: &(impl Abort + AllocGlobal),
-    rules: Rules,
+    items: Items,
     tag: Tag,
     input: &[u8],
 ) -> Result<(), Fail> {
-    let (_, object) = integers(rt.alloc(), rules, tag, input).1?;
+    let (_, object) = integers(rt.alloc(), items, tag, input).1?;
     expect_made(rt, &object, tag, input)
 }
 
@@ -260,22 +229,11 @@ fn expect_list_made(
 /// length 0.
 #[test]
 fn lists_of_one_type_are_made(rt: HostRuntime) -> Result<(), Fail> {
-    for rules in [Rules::Ber, Rules::Der] {
-        expect_list_made(&rt, rules, Tag::Sequence, b"\x30\x03\x02\x01\x05")?;
-        expect_list_made(&rt, rules, Tag::Set, b"\x31\x03\x02\x01\x05")?;
+    for items in [Items::Ber, Items::Der] {
+        expect_list_made(&rt, items, Tag::Sequence, b"\x30\x03\x02\x01\x05")?;
+        expect_list_made(&rt, items, Tag::Set, b"\x31\x03\x02\x01\x05")?;
     }
     Ok(())
-}
-
-/// What is answered where the parser of a list gives back its input.
-fn stays(alloc: Global, i: &[u8]) -> Given<'_> {
-    let mut calls: u64 = 0;
-    let answer = parse_ber_sequence_of(alloc, |input| {
-        calls = calls.saturating_add(1);
-        Ok((input, BerObject::from_obj(BerObjectContent::Null)))
-    })
-    .parse(i);
-    (calls, answer)
 }
 
 /// The parser was called once, and the list is refused.
@@ -288,17 +246,18 @@ fn expect_end(rt: &impl Abort, given: &Given<'_>) {
 /// A parser that gives back its input is called once.
 #[test]
 fn a_rest_that_stays(rt: HostRuntime) {
-    expect_end(&rt, &stays(rt.alloc(), b"\x30\x00"));
+    let given = integers(rt.alloc(), Items::Staying, Tag::Sequence, b"\x30\x00");
+    expect_end(&rt, &given);
 }
 
 /// Two INTEGERs, by the rules.
 fn two_integers<'a>(
     alloc: Global,
-    rules: Rules,
+    items: Items,
     i: &'a [u8],
 ) -> IResult<&'a [u8], Vec<BerObject<'a>>, BerError> {
-    let (behind, first) = integer(rules, i)?;
-    two_of(alloc, first, integer(rules, behind))
+    let (behind, first) = item(items, i)?;
+    two_of(alloc, first, item(items, behind))
 }
 
 /// A list of an object and of another, which was read behind it.
@@ -315,52 +274,18 @@ fn two_of<'a>(
 }
 
 /// What is answered where a list of two INTEGERs is wanted.
-fn defined(alloc: Global, rules: Rules, tag: Tag, i: &[u8]) -> Given<'_> {
-    match (rules, tag) {
-        (Rules::Ber, Tag::Sequence) => sequence_defined_by_ber(alloc, i),
-        (Rules::Ber, _) => set_defined_by_ber(alloc, i),
-        (Rules::Der, Tag::Sequence) => sequence_defined_by_der(alloc, i),
-        (Rules::Der, _) => set_defined_by_der(alloc, i),
-    }
-}
-
-fn sequence_defined_by_ber(alloc: Global, i: &[u8]) -> Given<'_> {
+fn defined(alloc: Global, items: Items, tag: Tag, i: &[u8]) -> Given<'_> {
     let mut calls: u64 = 0;
-    let answer = parse_ber_sequence_defined(|input| {
+    let parser = |input| {
         calls = calls.saturating_add(1);
-        two_integers(alloc, Rules::Ber, input)
-    })
-    .parse(i);
-    (calls, answer)
-}
-
-fn set_defined_by_ber(alloc: Global, i: &[u8]) -> Given<'_> {
-    let mut calls: u64 = 0;
-    let answer = parse_ber_set_defined(|input| {
-        calls = calls.saturating_add(1);
-        two_integers(alloc, Rules::Ber, input)
-    })
-    .parse(i);
-    (calls, answer)
-}
-
-fn sequence_defined_by_der(alloc: Global, i: &[u8]) -> Given<'_> {
-    let mut calls: u64 = 0;
-    let answer = parse_der_sequence_defined(|input| {
-        calls = calls.saturating_add(1);
-        two_integers(alloc, Rules::Der, input)
-    })
-    .parse(i);
-    (calls, answer)
-}
-
-fn set_defined_by_der(alloc: Global, i: &[u8]) -> Given<'_> {
-    let mut calls: u64 = 0;
-    let answer = parse_der_set_defined(|input| {
-        calls = calls.saturating_add(1);
-        two_integers(alloc, Rules::Der, input)
-    })
-    .parse(i);
+        two_integers(alloc, items, input)
+    };
+    let answer = match (items, tag) {
+        (Items::Der, Tag::Sequence) => parse_der_sequence_defined(parser).parse(i),
+        (Items::Der, _) => parse_der_set_defined(parser).parse(i),
+        (_, Tag::Sequence) => parse_ber_sequence_defined(parser).parse(i),
+        (_, _) => parse_ber_set_defined(parser).parse(i),
+    };
     (calls, answer)
 }
 
@@ -368,23 +293,24 @@ fn set_defined_by_der(alloc: Global, i: &[u8]) -> Given<'_> {
 /// leaves of the content is dropped.
 #[rattlefmt::skip]
 const DEFINED: &[List] = &[
-    ("30 0c 02 03 01 00 01 02 03 01 00 00 ff ff", Tag(16), Read(Sequence(&[Integer("01 00 01"), Integer("01 00 00")]), ""), 1),
+    ("30 0c 02 03 01 00 01 02 03 01 00 00 ff ff", Tag(16),
+        Read(Sequence(&[Integer("01 00 01"), Integer("01 00 00")]), ""), 1),
     ("30 06 02 01 01 02 01 02 ff", Tag(16), Read(Sequence(&[Integer("01"), Integer("02")]), "ff"), 1),
     ("31 06 02 01 02 02 01 01 ff", Tag(17), Read(Set(&[Integer("02"), Integer("01")]), "ff"), 1),
 ];
 
-/// By the rules, the list of two INTEGERs is read so.
-fn expect_defined(rt: &(impl Abort + AllocGlobal), rules: Rules, row: &List) -> Result<(), Fail> {
+/// By the items, the list of two INTEGERs is read so.
+fn expect_defined(rt: &(impl Abort + AllocGlobal), items: Items, row: &List) -> Result<(), Fail> {
     let input = octets(rt.alloc(), row.0)?;
-    let given = defined(rt.alloc(), rules, row.1, &input);
-    expect_list(rt, rules, row, &given)
+    let given = defined(rt.alloc(), items, row.1, &input);
+    expect_list(rt, items, row, &given)
 }
 
 #[test]
 fn defined_lists(rt: HostRuntime) -> Result<(), Fail> {
     for row in DEFINED {
-        expect_defined(&rt, Rules::Ber, row)?;
-        expect_defined(&rt, Rules::Der, row)?;
+        expect_defined(&rt, Items::Ber, row)?;
+        expect_defined(&rt, Items::Der, row)?;
     }
     Ok(())
 }
@@ -400,22 +326,22 @@ const NOT_DEFINED: &[Unread] = &[
     ("30 06 02 01 02 02 01 01", Tag(17), Error(UnexpectedTag { expected: Some(Tag(17)), actual: Tag(16) }), 0),
 ];
 
-/// By the rules, the list of two INTEGERs is refused so.
+/// By the items, the list of two INTEGERs is refused so.
 fn expect_undefined(
     rt: &(impl Abort + AllocGlobal),
-    rules: Rules,
+    items: Items,
     row: &Unread,
 ) -> Result<(), Fail> {
     let input = octets(rt.alloc(), row.0)?;
-    expect_refusal(rt, rules, row, &defined(rt.alloc(), rules, row.1, &input));
+    expect_refusal(rt, items, row, &defined(rt.alloc(), items, row.1, &input));
     Ok(())
 }
 
 #[test]
 fn defined_lists_that_are_refused(rt: HostRuntime) -> Result<(), Fail> {
     for row in NOT_DEFINED {
-        expect_undefined(&rt, Rules::Ber, row)?;
-        expect_undefined(&rt, Rules::Der, row)?;
+        expect_undefined(&rt, Items::Ber, row)?;
+        expect_undefined(&rt, Items::Der, row)?;
     }
     Ok(())
 }
@@ -446,7 +372,7 @@ fn room_of(object: &BerObject<'_>) -> usize {
 fn expect_room(rt: &impl Abort, text: &str, room: usize, given: &BerResult<'_>) {
     assert!(rt;
         matches!(given, Ok((_, object)) if room_of(object) == room),
-        "{text}: {given:?}"
+        "{text}"
     );
 }
 
@@ -455,14 +381,14 @@ fn expect_room_by_form(rt: &impl Abort, text: &str, room: usize, given: &Given<'
     expect_room(rt, text, room, &given.1);
 }
 
-/// By both rules, the readers of objects and the list forms make so much room.
+/// By both items, the readers of objects and the list forms make so much room.
 fn expect_rooms(rt: &(impl Abort + AllocGlobal), row: &(&str, Tag, usize)) -> Result<(), Fail> {
     let (text, tag, room) = row;
     let input = octets(rt.alloc(), text)?;
     expect_room(rt, text, *room, &parse_ber(rt.alloc(), &input));
     expect_room(rt, text, *room, &parse_der(rt.alloc(), &input));
-    for rules in [Rules::Ber, Rules::Der] {
-        expect_room_by_form(rt, text, *room, &integers(rt.alloc(), rules, *tag, &input));
+    for items in [Items::Ber, Items::Der] {
+        expect_room_by_form(rt, text, *room, &integers(rt.alloc(), items, *tag, &input));
     }
     Ok(())
 }

@@ -1,6 +1,6 @@
 //! Calls that take no memory. These tests take none themselves, so they pass where each growth is
 //! refused: `tools/refused-growths` runs them so.
-use crate::tagged_rows::{implicit_at_once_by_ber, optional_by_ber};
+use crate::tagged_rows::{Rules, implicit_at_once_by_ber, optional};
 use der_parser::ber::Class::ContextSpecific;
 use der_parser::ber::Length::Definite;
 use der_parser::ber::{
@@ -61,14 +61,9 @@ const NO_LISTS: &[&[u8]] = &[
     b"\x9f\xa2\x22\x01\x00",
 ];
 
-/// What is answered is no refusal.
-fn expect_ok(rt: &impl Abort, input: &[u8], given: &BerResult<'_>) {
-    assert!(rt; given.is_ok(), "{input:?}: {given:?}");
-}
-
 /// The element is read.
 fn expect_element(rt: &impl Abort, input: &[u8], given: BerResult<'_>) {
-    expect_ok(rt, input, &given);
+    assert!(rt; given.is_ok(), "{input:?}");
 }
 
 /// Both full readers read the element, to any depth.
@@ -111,10 +106,7 @@ fn no_memory_for_typed_readers(rt: HostRuntime) {
 
 /// What is answered is a string of these octets, with nothing behind it.
 fn expect_octets(rt: &impl Abort, given: &BerResult<'_>, octets: &[u8]) {
-    assert!(rt;
-        matches!(given, Ok((b"", object)) if is_octets(object, octets)),
-        "{given:?}"
-    );
+    assert!(rt; matches!(given, Ok((b"", object)) if is_octets(object, octets)));
 }
 
 #[test]
@@ -128,52 +120,49 @@ fn is_octets(object: &BerObject<'_>, octets: &[u8]) -> bool {
     matches!(&object.content, BerObjectContent::OctetString(bytes) if *bytes == octets)
 }
 
-/// Whether an answer is this refusal.
-fn refuses(given: &BerResult<'_>, refusal: BerError) -> bool {
-    matches!(given, Err(Error(e)) if *e == refusal)
+/// Whether an answer is this refusal, or any where none is named.
+fn refuses(given: &BerResult<'_>, refusal: Option<BerError>) -> bool {
+    match (given, refusal) {
+        (Err(Error(e)), Some(refusal)) => *e == refusal,
+        (Err(_), None) => true,
+        _ => false,
+    }
 }
 
-/// What is answered is that the depth is too small.
-fn expect_max_depth(rt: &impl Abort, given: BerResult<'_>) {
-    let is_so = refuses(&given, BerMaxDepth);
-    expect_so(rt, is_so, &given);
-}
-
-/// What is answered is that the element isn't constructed.
-fn expect_primitive(rt: &impl Abort, given: BerResult<'_>) {
-    let is_so = refuses(&given, ConstructExpected);
-    expect_so(rt, is_so, &given);
-}
-
-/// What is answered is so.
-fn expect_so(rt: &impl Abort, is_so: bool, given: &BerResult<'_>) {
-    assert!(rt; is_so, "{given:?}");
-}
-
-/// What is answered is a refusal.
-fn expect_refusal(rt: &impl Abort, given: BerResult<'_>) {
-    assert!(rt; given.is_err());
+/// What is answered is this refusal, or any where none is named.
+fn expect_refusal(rt: &impl Abort, given: BerResult<'_>, refusal: Option<BerError>) {
+    assert!(rt; refuses(&given, refusal));
 }
 
 #[test]
 fn no_memory_for_refusals_of_a_depth(rt: HostRuntime) {
     let list = b"\x30\x02\x05\x00";
     let indefinite = b"\x30\x80\x05\x00\x00\x00";
-    expect_max_depth(&rt, parse_ber_recursive(rt.alloc(), list, 1));
-    expect_max_depth(&rt, parse_der_recursive(rt.alloc(), list, 1));
-    expect_max_depth(&rt, parse_ber_recursive(rt.alloc(), indefinite, 0));
-    expect_max_depth(&rt, parse_der_recursive(rt.alloc(), list, 0));
+    let too_deep = Some(BerMaxDepth);
+    expect_refusal(&rt, parse_ber_recursive(rt.alloc(), list, 1), too_deep);
+    expect_refusal(&rt, parse_der_recursive(rt.alloc(), list, 1), too_deep);
+    expect_refusal(
+        &rt,
+        parse_ber_recursive(rt.alloc(), indefinite, 0),
+        too_deep,
+    );
+    expect_refusal(&rt, parse_der_recursive(rt.alloc(), list, 0), too_deep);
 }
 
 #[test]
 fn no_memory_for_refusals(rt: HostRuntime) {
     let primitive = b"\x10\x02\x05\x00";
-    expect_primitive(&rt, parse_ber(rt.alloc(), primitive));
-    expect_primitive(&rt, parse_der(rt.alloc(), primitive));
+    let no_list = Some(ConstructExpected);
+    expect_refusal(&rt, parse_ber(rt.alloc(), primitive), no_list);
+    expect_refusal(&rt, parse_der(rt.alloc(), primitive), no_list);
     let with_tag = parse_ber_any_with_tag_r(rt.alloc(), b"\x10\x00", Tag::Sequence, 1);
-    expect_primitive(&rt, with_tag);
-    expect_refusal(&rt, parse_ber(rt.alloc(), b"\x30\x03\x05\x00"));
-    expect_refusal(&rt, parse_der(rt.alloc(), b"\x30\x80\x05\x00\x00\x00"));
+    expect_refusal(&rt, with_tag, no_list);
+    expect_refusal(&rt, parse_ber(rt.alloc(), b"\x30\x03\x05\x00"), None);
+    expect_refusal(
+        &rt,
+        parse_der(rt.alloc(), b"\x30\x80\x05\x00\x00\x00"),
+        None,
+    );
 }
 
 /// The header of a content of one octet.
@@ -182,26 +171,26 @@ fn content_header() -> Header<'static> {
 }
 
 /// A content is read.
-fn expect_content(rt: &impl Abort, given: &BerResult<'_, BerObjectContent<'_>>) {
-    assert!(rt; given.is_ok(), "{given:?}");
+fn expect_content(rt: &impl Abort, given: BerResult<'_, BerObjectContent<'_>>) {
+    assert!(rt; given.is_ok());
 }
 
 #[test]
 fn no_memory_for_a_content_by_ber(rt: HostRuntime) {
     let given = parse_ber_content(rt.alloc(), Tag::Integer).parse(b"\x05", &content_header(), 1);
-    expect_content(&rt, &given);
+    expect_content(&rt, given);
 }
 
 #[test]
 fn no_memory_for_a_content_by_der(rt: HostRuntime) {
     let given = parse_der_content(rt.alloc(), Tag::Integer).parse(b"\x05", &content_header(), 1);
-    expect_content(&rt, &given);
+    expect_content(&rt, given);
 }
 
 #[test]
 fn no_memory_for_a_content_behind_a_header(rt: HostRuntime) {
     let given = der_read_element_content(rt.alloc(), b"\x05", content_header());
-    expect_ok(&rt, b"\x05", &given);
+    expect_element(&rt, b"\x05", given);
 }
 
 #[test]
@@ -232,30 +221,36 @@ fn whole<'a>(content: &'a [u8], header: Header<'a>) -> IResult<&'a [u8], Tag, Be
 /// What a container's parser answers, which answers the tag.
 type Container<'a> = IResult<&'a [u8], Tag, BerError>;
 
+/// What is answered where an element of any tag is wanted, a SEQUENCE, or a SET.
+fn contained(wanted: Option<Tag>, i: &[u8]) -> Container<'_> {
+    match wanted {
+        None => parse_ber_container(whole).parse(i),
+        Some(Tag::Sequence) => parse_ber_sequence_defined_g(whole).parse(i),
+        Some(_) => parse_ber_set_defined_g(whole).parse(i),
+    }
+}
+
 /// The container has this tag, and nothing follows it.
 fn expect_container(rt: &impl Abort, tag: Tag, given: &Container<'_>) {
-    assert!(rt; matches!(given, Ok((b"", it)) if *it == tag), "{given:?}");
+    assert!(rt; matches!(given, Ok((b"", it)) if *it == tag));
 }
 
 #[test]
 fn no_memory_for_a_container(rt: HostRuntime) {
     let list = b"\x30\x80\x31\x80\x00\x00\x00\x00";
-    let given = parse_ber_container(|content, header| whole(content, header)).parse(list);
-    expect_container(&rt, Tag::Sequence, &given);
+    expect_container(&rt, Tag::Sequence, &contained(None, list));
 }
 
 #[test]
 fn no_memory_for_a_sequence(rt: HostRuntime) {
     let list = b"\x30\x80\x31\x80\x00\x00\x00\x00";
-    let given = parse_ber_sequence_defined_g(|content, header| whole(content, header)).parse(list);
-    expect_container(&rt, Tag::Sequence, &given);
+    expect_container(&rt, Tag::Sequence, &contained(Some(Tag::Sequence), list));
 }
 
 #[test]
 fn no_memory_for_a_set(rt: HostRuntime) {
     let list = b"\x31\x80\x30\x80\x00\x00\x00\x00";
-    let given = parse_ber_set_defined_g(|content, header| whole(content, header)).parse(list);
-    expect_container(&rt, Tag::Set, &given);
+    expect_container(&rt, Tag::Set, &contained(Some(Tag::Set), list));
 }
 
 #[test]
@@ -267,21 +262,18 @@ fn no_memory_for_a_slice(rt: HostRuntime) {
 #[test]
 fn no_memory_for_implicit_tags(rt: HostRuntime) {
     let element = b"\x82\x01\x05";
-    let (_, given) = implicit_at_once_by_ber(rt.alloc(), Tag(2), Tag::Integer, element);
-    expect_ok(&rt, element, &given);
+    let given = implicit_at_once_by_ber(rt.alloc(), Tag(2), Tag::Integer, element).1;
+    expect_element(&rt, element, given);
 }
 
 /// Nothing of the element is read.
 fn expect_unread(rt: &impl Abort, given: &BerResult<'_>, input: &[u8]) {
-    assert!(rt;
-        matches!(given, Ok((rest, _)) if *rest == input),
-        "{given:?}"
-    );
+    assert!(rt; matches!(given, Ok((rest, _)) if *rest == input));
 }
 
 #[test]
 fn no_memory_for_an_object_that_is_absent(rt: HostRuntime) {
-    let (_, given) = optional_by_ber(rt.alloc(), 2, b"\x05\x00");
+    let given = optional(rt.alloc(), Rules::Ber, 2, b"\x05\x00").1;
     expect_unread(&rt, &given, b"\x05\x00");
 }
 

@@ -2,14 +2,8 @@
 //! after a test's first lines, which end the test where there is none. With ample memory it returns
 //! Ok. `tools/refused-growths` runs the tests with the first growth refused, then with the second, and
 //! so on: then the call returns OutOfMemory, and nothing else.
-use crate::list_form_rows::{
-    sequence_of_integers_by_ber, sequence_of_integers_by_der, set_of_integers_by_ber,
-    set_of_integers_by_der,
-};
-use crate::tagged_rows::{
-    explicit_by_ber, explicit_by_der, explicit_optional_by_ber, explicit_optional_by_der,
-    optional_by_ber, optional_by_der,
-};
+use crate::list_form_rows::{Items, integers};
+use crate::tagged_rows::{Rules, explicit, explicit_optional, optional};
 use der_parser::ber::{
     Any, BerObject, BerObjectContent, Class, Header, Length, PrettyBer, PrettyPrinterFlag, Tag,
     ber_object_from_any, ber_read_element_content_as, parse_ber_content, parse_ber_content2,
@@ -28,6 +22,7 @@ use der_tests_rows::reader::Reader::{
     ParseBerSequence, ParseBerSet, ParseBerWithTag, ParseDer, ParseDerCounted, ParseDerRecursive,
     ParseDerSequence, ParseDerSet, ParseDerWithTag,
 };
+use std::alloc::Global;
 use std::process::Abort;
 use std::test::Fail;
 
@@ -58,6 +53,35 @@ fn expect_numbers(rt: &impl Abort, answer: BerResult<'_, Vec<u32>>) -> Result<()
     let (rest, _) = answer?;
     assert!(rt; rest.is_empty());
     Ok(())
+}
+
+/// What the parser of a number answers.
+fn number<'a>(rules: Rules, i: &'a [u8]) -> BerResult<'a, u32> {
+    match rules {
+        Rules::Ber => parse_ber_u32(i),
+        Rules::Der => parse_der_u32(i),
+    }
+}
+
+/// What is answered where a list of numbers is wanted.
+fn numbers(alloc: Global, rules: Rules, tag: Tag, i: &[u8]) -> BerResult<'_, Vec<u32>> {
+    let parser = |input| number(rules, input);
+    match (rules, tag) {
+        (Rules::Ber, Tag::Sequence) => parse_ber_sequence_of_v(alloc, parser).parse(i),
+        (Rules::Ber, _) => parse_ber_set_of_v(alloc, parser).parse(i),
+        (Rules::Der, Tag::Sequence) => parse_der_sequence_of_v(alloc, parser).parse(i),
+        (Rules::Der, _) => parse_der_set_of_v(alloc, parser).parse(i),
+    }
+}
+
+/// By the rules, the list of INTEGERs is the whole input.
+fn expect_integers(
+    rt: &(impl Abort + AllocGlobal),
+    items: Items,
+    tag: Tag,
+    i: &[u8],
+) -> Result<(), Fail> {
+    expect_whole(rt, integers(rt.alloc(), items, tag, i).1)
 }
 
 /// A SEQUENCE's header, in front of two octets of content.
@@ -256,81 +280,83 @@ fn wants_memory_der_read_element_content(rt: HostRuntime) -> Result<(), Fail> {
 
 #[test]
 fn wants_memory_parse_ber_sequence_of(rt: HostRuntime) -> Result<(), Fail> {
-    expect_whole(&rt, sequence_of_integers_by_ber(rt.alloc(), INTEGERS).1)
+    expect_integers(&rt, Items::Ber, Tag::Sequence, INTEGERS)
 }
 
 #[test]
 fn wants_memory_parse_ber_sequence_of_v(rt: HostRuntime) -> Result<(), Fail> {
-    let answer = parse_ber_sequence_of_v(rt.alloc(), |i| parse_ber_u32(i)).parse(INTEGERS);
-    expect_numbers(&rt, answer)
+    expect_numbers(
+        &rt,
+        numbers(rt.alloc(), Rules::Ber, Tag::Sequence, INTEGERS),
+    )
 }
 
 #[test]
 fn wants_memory_parse_ber_set_of(rt: HostRuntime) -> Result<(), Fail> {
-    expect_whole(&rt, set_of_integers_by_ber(rt.alloc(), INTEGER_SET).1)
+    expect_integers(&rt, Items::Ber, Tag::Set, INTEGER_SET)
 }
 
 #[test]
 fn wants_memory_parse_ber_set_of_v(rt: HostRuntime) -> Result<(), Fail> {
-    let answer = parse_ber_set_of_v(rt.alloc(), |i| parse_ber_u32(i)).parse(INTEGER_SET);
-    expect_numbers(&rt, answer)
+    expect_numbers(&rt, numbers(rt.alloc(), Rules::Ber, Tag::Set, INTEGER_SET))
 }
 
 #[test]
 fn wants_memory_parse_ber_tagged_explicit(rt: HostRuntime) -> Result<(), Fail> {
-    expect_whole(&rt, explicit_by_ber(rt.alloc(), Tag(0), 2, EXPLICIT).1)
+    expect_whole(&rt, explicit(rt.alloc(), Rules::Ber, Tag(0), 2, EXPLICIT).1)
 }
 
 #[test]
 fn wants_memory_parse_ber_optional(rt: HostRuntime) -> Result<(), Fail> {
-    expect_whole(&rt, optional_by_ber(rt.alloc(), 2, b"\x02\x01\x05").1)
+    expect_whole(&rt, optional(rt.alloc(), Rules::Ber, 2, b"\x02\x01\x05").1)
 }
 
 #[test]
 fn wants_memory_parse_ber_explicit_optional(rt: HostRuntime) -> Result<(), Fail> {
     expect_whole(
         &rt,
-        explicit_optional_by_ber(rt.alloc(), Tag(0), 2, EXPLICIT).1,
+        explicit_optional(rt.alloc(), Rules::Ber, Tag(0), 2, EXPLICIT).1,
     )
 }
 
 #[test]
 fn wants_memory_parse_der_sequence_of(rt: HostRuntime) -> Result<(), Fail> {
-    expect_whole(&rt, sequence_of_integers_by_der(rt.alloc(), INTEGERS).1)
+    expect_integers(&rt, Items::Der, Tag::Sequence, INTEGERS)
 }
 
 #[test]
 fn wants_memory_parse_der_sequence_of_v(rt: HostRuntime) -> Result<(), Fail> {
-    let answer = parse_der_sequence_of_v(rt.alloc(), |i| parse_der_u32(i)).parse(INTEGERS);
-    expect_numbers(&rt, answer)
+    expect_numbers(
+        &rt,
+        numbers(rt.alloc(), Rules::Der, Tag::Sequence, INTEGERS),
+    )
 }
 
 #[test]
 fn wants_memory_parse_der_set_of(rt: HostRuntime) -> Result<(), Fail> {
-    expect_whole(&rt, set_of_integers_by_der(rt.alloc(), INTEGER_SET).1)
+    expect_integers(&rt, Items::Der, Tag::Set, INTEGER_SET)
 }
 
 #[test]
 fn wants_memory_parse_der_set_of_v(rt: HostRuntime) -> Result<(), Fail> {
-    let answer = parse_der_set_of_v(rt.alloc(), |i| parse_der_u32(i)).parse(INTEGER_SET);
-    expect_numbers(&rt, answer)
+    expect_numbers(&rt, numbers(rt.alloc(), Rules::Der, Tag::Set, INTEGER_SET))
 }
 
 #[test]
 fn wants_memory_parse_der_tagged_explicit(rt: HostRuntime) -> Result<(), Fail> {
-    expect_whole(&rt, explicit_by_der(rt.alloc(), Tag(0), 2, EXPLICIT).1)
+    expect_whole(&rt, explicit(rt.alloc(), Rules::Der, Tag(0), 2, EXPLICIT).1)
 }
 
 #[test]
 fn wants_memory_parse_der_optional(rt: HostRuntime) -> Result<(), Fail> {
-    expect_whole(&rt, optional_by_der(rt.alloc(), 2, b"\x02\x01\x05").1)
+    expect_whole(&rt, optional(rt.alloc(), Rules::Der, 2, b"\x02\x01\x05").1)
 }
 
 #[test]
 fn wants_memory_parse_der_explicit_optional(rt: HostRuntime) -> Result<(), Fail> {
     expect_whole(
         &rt,
-        explicit_optional_by_der(rt.alloc(), Tag(0), 2, EXPLICIT).1,
+        explicit_optional(rt.alloc(), Rules::Der, Tag(0), 2, EXPLICIT).1,
     )
 }
 

@@ -139,25 +139,50 @@ const BY_DER: &[FormRow] = &[
 /// What a form answers, and how often it calls the parser that it keeps.
 pub type Given<'a> = (u64, BerResult<'a>);
 
-/// What a form answers by BER.
-fn by_ber(alloc: Global, form: Form, i: &[u8]) -> Given<'_> {
-    match form {
-        Form::Explicit(tag, number) => explicit_by_ber(alloc, tag, number, i),
-        Form::Implicit(tag, content) => implicit_by_ber(alloc, tag, content, i),
-        Form::ImplicitAtOnce(tag, content) => implicit_at_once_by_ber(alloc, tag, content, i),
-        Form::Optional(number) => optional_by_ber(alloc, number, i),
-        Form::ExplicitOptional(tag, number) => explicit_optional_by_ber(alloc, tag, number, i),
+/// The rules that a form and the parser that it keeps read by.
+#[derive(Clone, Copy, Debug)]
+pub enum Rules {
+    Ber,
+    Der,
+}
+
+/// What the reader of the type of this number answers.
+fn read_type<'a>(alloc: Global, rules: Rules, number: u32, i: &'a [u8]) -> BerResult<'a> {
+    match rules {
+        Rules::Ber => read_type_by_ber(alloc, number, i),
+        Rules::Der => read_type_by_der(alloc, number, i),
     }
 }
 
-pub fn explicit_by_ber(alloc: Global, tag: Tag, number: u32, i: &[u8]) -> Given<'_> {
+/// What a form answers.
+fn read_form(alloc: Global, rules: Rules, form: Form, i: &[u8]) -> Given<'_> {
+    match form {
+        Form::Explicit(tag, number) => explicit(alloc, rules, tag, number, i),
+        Form::Implicit(tag, content) => implicit(alloc, rules, tag, content, i),
+        Form::ImplicitAtOnce(tag, content) => implicit_at_once(alloc, rules, tag, content, i),
+        Form::Optional(number) => optional(alloc, rules, number, i),
+        Form::ExplicitOptional(tag, number) => explicit_optional(alloc, rules, tag, number, i),
+    }
+}
+
+pub fn explicit(alloc: Global, rules: Rules, tag: Tag, number: u32, i: &[u8]) -> Given<'_> {
     let mut calls: u64 = 0;
-    let answer = parse_ber_tagged_explicit(alloc, tag, |input| {
+    let parser = |input| {
         calls = calls.saturating_add(1);
-        read_type_by_ber(alloc, number, input)
-    })
-    .parse(i);
+        read_type(alloc, rules, number, input)
+    };
+    let answer = match rules {
+        Rules::Ber => parse_ber_tagged_explicit(alloc, tag, parser).parse(i),
+        Rules::Der => parse_der_tagged_explicit(alloc, tag, parser).parse(i),
+    };
     (calls, answer)
+}
+
+fn implicit(alloc: Global, rules: Rules, tag: Tag, content: Tag, i: &[u8]) -> Given<'_> {
+    match rules {
+        Rules::Ber => implicit_by_ber(alloc, tag, content, i),
+        Rules::Der => implicit_by_der(alloc, tag, content, i),
+    }
 }
 
 fn implicit_by_ber(alloc: Global, tag: Tag, content: Tag, i: &[u8]) -> Given<'_> {
@@ -165,55 +190,6 @@ fn implicit_by_ber(alloc: Global, tag: Tag, content: Tag, i: &[u8]) -> Given<'_>
     let answer = parse_ber_tagged_implicit(tag, |input, header, depth| {
         calls = calls.saturating_add(1);
         parse_ber_content(alloc, content).parse(input, header, depth)
-    })
-    .parse(i);
-    (calls, answer)
-}
-
-pub fn implicit_at_once_by_ber(alloc: Global, tag: Tag, content: Tag, i: &[u8]) -> Given<'_> {
-    let mut calls: u64 = 0;
-    let answer = parse_ber_implicit(i, tag, |input, header, depth| {
-        calls = calls.saturating_add(1);
-        parse_ber_content(alloc, content).parse(input, header, depth)
-    });
-    (calls, answer)
-}
-
-pub fn optional_by_ber(alloc: Global, number: u32, i: &[u8]) -> Given<'_> {
-    let mut calls: u64 = 0;
-    let answer = parse_ber_optional(alloc, |input| {
-        calls = calls.saturating_add(1);
-        read_type_by_ber(alloc, number, input)
-    })
-    .parse(i);
-    (calls, answer)
-}
-
-pub fn explicit_optional_by_ber(alloc: Global, tag: Tag, number: u32, i: &[u8]) -> Given<'_> {
-    let mut calls: u64 = 0;
-    let answer = parse_ber_explicit_optional(alloc, i, tag, |input| {
-        calls = calls.saturating_add(1);
-        read_type_by_ber(alloc, number, input)
-    });
-    (calls, answer)
-}
-
-/// What a form answers by DER.
-fn by_der(alloc: Global, form: Form, i: &[u8]) -> Given<'_> {
-    match form {
-        Form::Explicit(tag, number) => explicit_by_der(alloc, tag, number, i),
-        Form::Implicit(tag, content) => implicit_by_der(alloc, tag, content, i),
-        Form::ImplicitAtOnce(tag, content) => implicit_at_once_by_der(alloc, tag, content, i),
-        Form::Optional(number) => optional_by_der(alloc, number, i),
-        Form::ExplicitOptional(tag, number) => explicit_optional_by_der(alloc, tag, number, i),
-    }
-}
-
-pub fn explicit_by_der(alloc: Global, tag: Tag, number: u32, i: &[u8]) -> Given<'_> {
-    let mut calls: u64 = 0;
-    let answer = parse_der_tagged_explicit(alloc, tag, |input| {
-        calls = calls.saturating_add(1);
-        read_type_by_der(alloc, number, input)
     })
     .parse(i);
     (calls, answer)
@@ -229,6 +205,22 @@ fn implicit_by_der(alloc: Global, tag: Tag, content: Tag, i: &[u8]) -> Given<'_>
     (calls, answer)
 }
 
+fn implicit_at_once(alloc: Global, rules: Rules, tag: Tag, content: Tag, i: &[u8]) -> Given<'_> {
+    match rules {
+        Rules::Ber => implicit_at_once_by_ber(alloc, tag, content, i),
+        Rules::Der => implicit_at_once_by_der(alloc, tag, content, i),
+    }
+}
+
+pub fn implicit_at_once_by_ber(alloc: Global, tag: Tag, content: Tag, i: &[u8]) -> Given<'_> {
+    let mut calls: u64 = 0;
+    let answer = parse_ber_implicit(i, tag, |input, header, depth| {
+        calls = calls.saturating_add(1);
+        parse_ber_content(alloc, content).parse(input, header, depth)
+    });
+    (calls, answer)
+}
+
 fn implicit_at_once_by_der(alloc: Global, tag: Tag, content: Tag, i: &[u8]) -> Given<'_> {
     let mut calls: u64 = 0;
     let answer = parse_der_implicit(i, tag, |input, header, depth| {
@@ -238,22 +230,35 @@ fn implicit_at_once_by_der(alloc: Global, tag: Tag, content: Tag, i: &[u8]) -> G
     (calls, answer)
 }
 
-pub fn optional_by_der(alloc: Global, number: u32, i: &[u8]) -> Given<'_> {
+pub fn optional(alloc: Global, rules: Rules, number: u32, i: &[u8]) -> Given<'_> {
     let mut calls: u64 = 0;
-    let answer = parse_der_optional(alloc, |input| {
+    let parser = |input| {
         calls = calls.saturating_add(1);
-        read_type_by_der(alloc, number, input)
-    })
-    .parse(i);
+        read_type(alloc, rules, number, input)
+    };
+    let answer = match rules {
+        Rules::Ber => parse_ber_optional(alloc, parser).parse(i),
+        Rules::Der => parse_der_optional(alloc, parser).parse(i),
+    };
     (calls, answer)
 }
 
-pub fn explicit_optional_by_der(alloc: Global, tag: Tag, number: u32, i: &[u8]) -> Given<'_> {
+pub fn explicit_optional(
+    alloc: Global,
+    rules: Rules,
+    tag: Tag,
+    number: u32,
+    i: &[u8],
+) -> Given<'_> {
     let mut calls: u64 = 0;
-    let answer = parse_der_explicit_optional(alloc, i, tag, |input| {
+    let parser = |input| {
         calls = calls.saturating_add(1);
-        read_type_by_der(alloc, number, input)
-    });
+        read_type(alloc, rules, number, input)
+    };
+    let answer = match rules {
+        Rules::Ber => parse_ber_explicit_optional(alloc, i, tag, parser),
+        Rules::Der => parse_der_explicit_optional(alloc, i, tag, parser),
+    };
     (calls, answer)
 }
 
@@ -268,57 +273,42 @@ fn expect_form(
     assert_eq!(rt; calls, count, "{form:?} of {text}");
     assert!(rt;
         answer.is_given_by(rt.alloc(), given)?,
-        "{form:?} of {text}: {given:?}"
+        "{form:?} of {text}"
     );
     Ok(())
 }
 
-/// By BER the row's form answers so on its octets.
-fn expect_by_ber(rt: &(impl Abort + AllocGlobal), row: &FormRow) -> Result<(), Fail> {
+/// By the rules, the row's form answers so on its octets.
+fn expect_row(rt: &(impl Abort + AllocGlobal), rules: Rules, row: &FormRow) -> Result<(), Fail> {
     let input = octets(rt.alloc(), row.1)?;
-    let given = by_ber(rt.alloc(), row.0, &input);
+    let given = read_form(rt.alloc(), rules, row.0, &input);
     expect_form(rt, row, &given)
 }
 
-/// By DER the row's form answers so on its octets.
-fn expect_by_der(rt: &(impl Abort + AllocGlobal), row: &FormRow) -> Result<(), Fail> {
-    let input = octets(rt.alloc(), row.1)?;
-    let given = by_der(rt.alloc(), row.0, &input);
-    expect_form(rt, row, &given)
-}
-
-#[test]
-fn forms_by_both(rt: HostRuntime) -> Result<(), Fail> {
-    for row in BY_BOTH {
-        expect_by_ber(&rt, row)?;
-        expect_by_der(&rt, row)?;
-    }
-    Ok(())
-}
-
-#[test]
-fn forms_of_each_class(rt: HostRuntime) -> Result<(), Fail> {
-    for row in CLASSES {
-        expect_by_ber(&rt, row)?;
-        expect_by_der(&rt, row)?;
+/// By the rules, each row's form answers so on its octets.
+fn expect_rows(
+    rt: &(impl Abort + AllocGlobal),
+    rules: Rules,
+    rows: &[FormRow],
+) -> Result<(), Fail> {
+    for row in rows {
+        expect_row(rt, rules, row)?;
     }
     Ok(())
 }
 
 #[test]
 fn forms_by_ber(rt: HostRuntime) -> Result<(), Fail> {
-    for row in BY_BER {
-        expect_by_ber(&rt, row)?;
-    }
-    Ok(())
+    expect_rows(&rt, Rules::Ber, BY_BOTH)?;
+    expect_rows(&rt, Rules::Ber, CLASSES)?;
+    expect_rows(&rt, Rules::Ber, BY_BER)
 }
 
 #[test]
 fn forms_by_der(rt: HostRuntime) -> Result<(), Fail> {
-    for row in BY_DER {
-        expect_by_der(&rt, row)?;
-    }
-    Ok(())
+    expect_rows(&rt, Rules::Der, BY_BOTH)?;
+    expect_rows(&rt, Rules::Der, CLASSES)?;
+    expect_rows(&rt, Rules::Der, BY_DER)
 }
 
 /// A form, octets, and the header of the object that is read by BER.
@@ -346,7 +336,7 @@ fn expect_header(
     let (form, text, parts) = row;
     assert!(rt;
         parts.describes(rt.alloc(), &object.header)?,
-        "{form:?} of {text}: {object:?}"
+        "{form:?} of {text}"
     );
     Ok(())
 }
@@ -354,7 +344,7 @@ fn expect_header(
 /// By BER the row's form reads an object of the row's header.
 fn expect_header_by_ber(rt: &(impl Abort + AllocGlobal), row: &HeaderRow) -> Result<(), Fail> {
     let input = octets(rt.alloc(), row.1)?;
-    let (_, object) = by_ber(rt.alloc(), row.0, &input).1?;
+    let (_, object) = read_form(rt.alloc(), Rules::Ber, row.0, &input).1?;
     expect_header(rt, row, &object)
 }
 
@@ -366,24 +356,17 @@ fn forms_have_headers(rt: HostRuntime) -> Result<(), Fail> {
     Ok(())
 }
 
-/// A parser that always answers a Failure.
-fn fails(_: &[u8]) -> BerResult<'_> {
-    Err(Refusal::Failure(BerTypeError))
+/// A parser that wants memory in front of a NULL, and else always answers a Failure.
+fn refuses(i: &[u8]) -> BerResult<'_> {
+    match i {
+        [5, ..] => Err(Refusal::OutOfMemory),
+        _ => Err(Refusal::Failure(BerTypeError)),
+    }
 }
 
-/// A parser that always wants memory.
-fn wants_memory(_: &[u8]) -> BerResult<'_> {
-    Err(Refusal::OutOfMemory)
-}
-
-/// What is answered where the parser of an object that may be absent answers a Failure.
-fn optional_over_failure(alloc: Global) -> BerResult<'static> {
-    parse_ber_optional(alloc, fails).parse(b"\x02\x01\x05")
-}
-
-/// The same where it answers OutOfMemory.
-fn optional_over_want(alloc: Global) -> BerResult<'static> {
-    parse_ber_optional(alloc, wants_memory).parse(b"\x02\x01\x05")
+/// What is answered where the parser of an object that may be absent always refuses.
+fn optional_over_refusal(alloc: Global, i: &[u8]) -> BerResult<'_> {
+    parse_ber_optional(alloc, refuses).parse(i)
 }
 
 /// The object is absent in front of these octets.
@@ -393,26 +376,26 @@ fn expect_absent(
     text: &'static str,
 ) -> Result<(), Fail> {
     let answer: Answer = Read(Absent, text);
-    assert!(rt; answer.is_given_by(rt.alloc(), given)?, "{given:?}");
+    assert!(rt; answer.is_given_by(rt.alloc(), given)?);
     Ok(())
 }
 
 /// What is answered is OutOfMemory.
 fn expect_want(rt: &impl Abort, given: &BerResult<'_>) {
-    assert!(rt; matches!(given, Err(Refusal::OutOfMemory)), "{given:?}");
+    assert!(rt; matches!(given, Err(Refusal::OutOfMemory)));
 }
 
 /// A Failure says that an object is absent, as an Error and an Incomplete do.
 #[test]
 fn optional_of_a_failure(rt: HostRuntime) -> Result<(), Fail> {
-    let given = optional_over_failure(rt.alloc());
+    let given = optional_over_refusal(rt.alloc(), b"\x02\x01\x05");
     expect_absent(&rt, &given, "02 01 05")
 }
 
 /// OutOfMemory doesn't say that an object is absent.
 #[test]
 fn optional_of_want_of_memory(rt: HostRuntime) {
-    expect_want(&rt, &optional_over_want(rt.alloc()));
+    expect_want(&rt, &optional_over_refusal(rt.alloc(), b"\x05\x00"));
 }
 
 /// What is answered where an object that may be absent is wanted, over a form that is kept.
