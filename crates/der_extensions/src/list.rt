@@ -139,7 +139,6 @@ pub(crate) fn read_optional<'a, T: Item<'a, E>, E: FromRefusal>(
     class: Class,
     tag: Tag,
 ) -> Result<Option<SequenceOf<'a, T>>, Refusal<E>>
-    requires { tag.0 < 31 }
     ensures { ReadsField (Optional (Constructed class tag.0 (SomeOf T.field))) (λ x. option_map list_octets x)
         Never fields.old result fields.new }
 {

@@ -63,7 +63,6 @@ fn read_subtrees<'a>(
     fields: &mut Cursor<'a>,
     number: u32,
 ) -> Result<Option<SequenceOf<'a, GeneralSubtree<'a>>>, Refusal<BerError>>
-    requires { number < 31 }
     ensures { ReadsField (Optional (Implicit number GeneralSubtrees)) (λ x. option_map list_octets x) Never
         fields.old result fields.new }
 {

@@ -34,8 +34,8 @@ abbrev pub HasFraction : Time → Type 0
 HasFraction (Utc t) = ⊥
 HasFraction (Generalized t) = t.nanosecond ≢ None
 
--- Lists are walked without a look into their items, which were read: `specs/Laws` says that these are the attributes and
--- the extensions.
+-- Lists are walked without a look into their items, which were read: `specs/Laws` says that these are the attributes
+-- and the extensions.
 
 -- the attribute with these octets is greater than the next one
 abbrev pub DescendsNext : List ℕ → List ℕ → Type 0
