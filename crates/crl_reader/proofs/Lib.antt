@@ -1,2 +1,3 @@
 pub mod CrlLaws
 pub mod ReasonLaws
+pub mod SignedLaws

@@ -22,7 +22,7 @@ use Rattle.der_x509.specs.declared.certificate.Version.TheVariants.{V1, V2}
 use Rattle.der_x509.specs.declared.time.Time.{Time}
 use Rattle.der_x509.specs.Certificates.{Algorithm, algorithm_identifier, algorithm_of, bits_of, extensions, name, time}
 use Rattle.der_x509.specs.Formats.{Fault, Format, ◌>>=◌, done, either, end_of_content, explicit_or, inside}
-use Rattle.der_x509.specs.Formats.{list_of, named, primitive, requiring, sequence, with_octets, wrong_at}
+use Rattle.der_x509.specs.Formats.{list_of, named, primitive, requiring, sequence, spells, with_octets, wrong_at}
 use Rattle.der_x509.specs.Readers.{fault_of}
 
 -- the field, and what is wrong with it
@@ -130,6 +130,11 @@ whole_list = do
   l ← certificate_list
   _ ← named field.CertificateList end_of_content
   done l
+
+-- the octets that are signed say what was read, and nothing else
+abbrev pub SignedOctetsAreRead : Type 0
+SignedOctetsAreRead = (i : List ℕ) (c : Signed) → spells whole_list i c []
+    → spells tbs_cert_list c.tbs c.tbs_cert_list []
 
 -- What the values of the code stand for.
 abbrev pub revoked_of : RevokedCertificate → Revoked

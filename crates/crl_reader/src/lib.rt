@@ -4,6 +4,7 @@
 
 mod display;
 mod entry;
+pub mod laws;
 mod list;
 mod lists;
 mod reason;

@@ -3,13 +3,14 @@
 #![tactic(auto)]
 
 use der_distinguished_name::{read_name, read_name_nodes};
+use der_extensions::read_extension_value;
 use der_nodes::{Element, parse_ber_nodes, parse_der_nodes};
 use der_parser::ber::{
     Any, BerObject, BerObjectContent, FaultWriter, MAX_RECURSION, Visit, parse_ber,
 };
 use der_parser::cursor::Cursor;
 use der_parser::der::{Class, parse_der};
-use der_x509::read_certificate;
+use der_x509::{Certificate, read_certificate};
 use std::alloc::Global;
 
 /// What one pass does with each element.
@@ -231,6 +232,39 @@ fn count_certificates(alloc: Global, s: &[u8]) -> u64 {
     certificates.len() as u64
 }
 
+/// How many certificates a slice has, one after another, whose extensions' values are read too; 0 where
+/// one is refused.
+fn count_certificate_values(s: &[u8]) -> u64 {
+    let mut count: u64 = 0;
+    let mut left = s;
+    for _ in 0..u64::MAX {
+        if left.is_empty() {
+            break;
+        }
+        let Ok((rest, _)) = Any::from_der(left) else {
+            return 0;
+        };
+        let (octets, _) = left.split_at(left.len() - rest.len());
+        let Ok(certificate) = read_certificate(octets) else {
+            return 0;
+        };
+        count = count.wrapping_add(count_values(&certificate));
+        left = rest;
+    }
+    count
+}
+
+/// How many values of extensions of a certificate are of their type.
+fn count_values(certificate: &Certificate<'_>) -> u64 {
+    let mut count: u64 = 0;
+    for extension in certificate.tbs_certificate.extensions.iter() {
+        if read_extension_value(&extension).is_ok() {
+            count = count.wrapping_add(1);
+        }
+    }
+    count
+}
+
 /// How many elements one call of a reader of elements finds at the start of a slice, and what follows.
 fn read_nodes<'a>(s: &'a [u8], nodes: &mut [Element], is_der: bool) -> Option<(&'a [u8], usize)> {
     let read = if is_der {
@@ -282,9 +316,9 @@ fn count_in_buffer(alloc: Global, s: &[u8], is_der: bool) -> u64 {
 /// names (X.501 9.2), 6 reads elements by BER and counts them by a visitor, 7 reads names and keeps
 /// their attributes as octets, 8 reads certificates (RFC 5280), 9 writes the elements of each to a
 /// buffer by DER, 10 does so without a buffer, 11 and 12 do these by BER, 13 reads names as 5 over
-/// elements. It keeps the objects that it reads until its end, and returns how many objects or elements
-/// it read, those inside lists among them, or how many attributes or certificates; 0 where an element
-/// is refused, and for another mode.
+/// elements, 14 reads certificates and the values of their extensions. It keeps the objects that it reads
+/// until its end, and returns how many objects or elements it read, those inside lists among them, or how
+/// many attributes, certificates or extensions; 0 where an element is refused, and for another mode.
 #[unsafe(no_mangle)]
 pub extern "C" fn der_bench_pass(alloc: Global, s: &[u8], mode: u64) -> u64 {
     match mode {
@@ -302,6 +336,7 @@ pub extern "C" fn der_bench_pass(alloc: Global, s: &[u8], mode: u64) -> u64 {
         11 => count_in_buffer(alloc, s, false),
         12 => count_nodes(s, &mut [], false),
         13 => count_node_attributes(alloc, s),
+        14 => count_certificate_values(s),
         _ => 0,
     }
 }

@@ -7,8 +7,6 @@ mod elements;
 mod error;
 mod octets;
 mod piece;
-#[cfg(test)]
-mod tests;
 mod writer;
 
 pub use elements::{canonical, canonical_into};

@@ -4,8 +4,6 @@
 mod arcs;
 mod elements;
 mod rules;
-#[cfg(test)]
-mod tests;
 
 pub use elements::{after_end_marker, are_elements, is_element};
 pub use rules::{after_one, check_one, may_be_constructed};

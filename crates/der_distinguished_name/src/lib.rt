@@ -4,8 +4,6 @@
 
 mod name;
 mod nodes;
-#[cfg(test)]
-mod tests;
 
 pub use name::{Attr, Name, read_name};
 pub use nodes::{Attribute, read_name_nodes};

@@ -4,3 +4,4 @@ pub mod ExtensionLaws
 pub mod ListLaws
 pub mod NameLaws
 pub mod PointLaws
+pub mod ValueLaws

@@ -3,3 +3,4 @@ pub mod GeneralNames
 pub mod Laws
 pub mod Lists
 pub mod Takes
+pub mod Values

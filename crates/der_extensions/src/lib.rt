@@ -14,6 +14,7 @@ mod key_usage;
 pub mod laws;
 mod list;
 mod name_constraints;
+mod value;
 
 pub use basic_constraints::{BasicConstraints, read_basic_constraints};
 pub use certificate_policies::{
@@ -31,3 +32,4 @@ pub use key_identifiers::{
 pub use key_usage::{KeyUsage, read_key_usage};
 pub use list::{FromRefusal, Item, Items, SequenceOf};
 pub use name_constraints::{GeneralSubtree, NameConstraints, read_name_constraints};
+pub use value::{ExtensionValue, read_extension_value};

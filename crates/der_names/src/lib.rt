@@ -6,12 +6,10 @@ ghost use Rattle.hex.specs.Hex.{encode_lower};
 ghost use Rattle.der_names.specs.Tables.{EndsLine, HasLine, Splits};
 
 mod table;
-#[cfg(test)]
-mod tests;
 
 use memchr::{memchr, memrchr};
 use std::str;
-use table::NAMES;
+pub use table::NAMES;
 
 /// The most halvings of the table.
 const HALVINGS: u32 = 32;

@@ -2,7 +2,7 @@
 
 /// A line for each identifier that has a name: its content octets in hexadecimal digits, a space and
 /// the name. The lines are in ascending order of the octets.
-pub(crate) const NAMES: &str = "\
+pub const NAMES: &str = "\
 03a2310503010901 camellia-128-ecb\n\
 03a2310503010903 camellia-128-ofb\n\
 03a2310503010904 camellia-128-cfb\n\

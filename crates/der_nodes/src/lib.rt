@@ -10,8 +10,6 @@ pub mod laws;
 mod leaf;
 pub mod parser;
 mod short;
-#[cfg(test)]
-mod tests;
 
 pub use element::{Element, Slot};
 pub use parser::{

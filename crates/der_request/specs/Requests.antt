@@ -1,6 +1,6 @@
 -- Certification requests, as the ASN.1 of RFC 2986 writes them (4 and appendix A), in DER. Each line has its ASN.1
 -- beside it.
-use Rattle.std.specs.Prelude.{◌≡◌, ℕ, true, pos, List}
+use Rattle.std.specs.Prelude.{◌≡◌, ℕ, true, pos, List, []}
 use Rattle.der_base.specs.declared.error.Error.{Error as BerError}
 use Rattle.der_base.specs.declared.header.Class.TheVariants.{ContextSpecific, Universal}
 use Rattle.der_base.specs.declared.rules.Rules.TheVariants.{Der}
@@ -18,7 +18,7 @@ use Rattle.der_request.specs.declared.request.CertificationRequestInfo.{Certific
 use Rattle.der_x509.specs.Certificates.{Algorithm, KeyInfo, algorithm_identifier, algorithm_of, bits_of, extensions}
 use Rattle.der_x509.specs.Certificates.{key_info_of, name, subject_public_key_info}
 use Rattle.der_x509.specs.Formats.{Fault, Format, ◌>>=◌, any, done, element, end_of_content, inside, list_of, named}
-use Rattle.der_x509.specs.Formats.{primitive, requiring, sequence, set, some_octets, with_octets, wrong_at}
+use Rattle.der_x509.specs.Formats.{primitive, requiring, sequence, set, some_octets, spells, with_octets, wrong_at}
 use Rattle.der_x509.specs.Readers.{fault_of}
 
 -- the field, and what is wrong with it
@@ -109,6 +109,10 @@ extension_request = do
   es ← extensions
   _ ← end_of_content
   done es
+
+-- the octets that are signed say what was read, and nothing else
+abbrev pub SignedOctetsAreRead : Type 0
+SignedOctetsAreRead = (i : List ℕ) (c : Signed) → spells whole_request i c [] → spells request_info c.octets c.info []
 
 -- What the values of the code stand for.
 abbrev pub attribute_of : AttributeStruct → Attribute

@@ -6,6 +6,7 @@ mod attribute;
 pub mod attribute_identifiers;
 mod display;
 mod extension_request;
+pub mod laws;
 mod lists;
 mod refusal;
 mod request;

@@ -6,6 +6,8 @@ mod calls;
 #[cfg(test)]
 mod content_rows;
 #[cfg(test)]
+mod extension_kinds;
+#[cfg(test)]
 mod extension_values;
 #[cfg(test)]
 mod optional_rows;

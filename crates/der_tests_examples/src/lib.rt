@@ -4,6 +4,8 @@
 #[cfg(test)]
 mod certificate_fields;
 #[cfg(test)]
+mod certificate_times;
+#[cfg(test)]
 mod certificates_damaged;
 #[cfg(test)]
 mod certificates_refused;
@@ -16,13 +18,19 @@ mod certification_requests;
 #[cfg(test)]
 mod certification_requests_damaged;
 #[cfg(test)]
+mod extension_values_damaged;
+#[cfg(test)]
 mod keys_damaged;
 #[cfg(test)]
 mod keys_refused;
 #[cfg(test)]
+mod ldap_damaged;
+#[cfg(test)]
 mod lists_damaged;
 #[cfg(test)]
 mod lists_refused;
+#[cfg(test)]
+mod name_elements;
 #[cfg(test)]
 mod names_damaged;
 #[cfg(test)]
@@ -33,3 +41,7 @@ mod names_written;
 mod requests_damaged;
 #[cfg(test)]
 mod requests_refused;
+#[cfg(test)]
+mod snmp_damaged;
+#[cfg(test)]
+mod snmp_refused;

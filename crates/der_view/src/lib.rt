@@ -7,8 +7,6 @@ pub mod laws;
 pub mod node;
 pub mod node_values;
 pub mod nodes;
-#[cfg(test)]
-mod tests;
 pub mod value;
 pub mod vectors;
 

@@ -9,8 +9,6 @@ pub mod laws;
 mod name;
 mod path;
 mod refusal;
-#[cfg(test)]
-mod tests;
 mod walk;
 
 pub use cause::{Cause, Rule};

@@ -7,3 +7,4 @@ pub mod Refinements
 pub mod VersionLaws
 pub mod RuleLaws
 pub mod WalkLaws
+pub mod SignedLaws

@@ -1,9 +1,10 @@
 -- Statements of the laws in `src/laws.rt`: SETs and SEQUENCEs that are walked without a look into them are the relative
--- names, attributes and extensions that were read.
+-- names, attributes and extensions that were read; and the octets that are signed say what was read.
 use Rattle.std.specs.Prelude.{◌≡◌, ℕ, ◌⊎◌, ◌↔◌, List, []}
 use Rattle.der_base.specs.SetOfOrder.{Descends}
 use Rattle.der_x509.specs.declared.rules.Rule.TheVariants.{OrderedAttributes, DistinctExtensions}
-use Rattle.der_x509.specs.Certificates.{Attribute, Signed, attribute, extension, name, relative_name, whole_certificate}
+use Rattle.der_x509.specs.Certificates.{Attribute, Signed, attribute, extension, name, relative_name, tbs_certificate}
+use Rattle.der_x509.specs.Certificates.{whole_certificate}
 use Rattle.der_x509.specs.Formats.{list_of, set, spells, with_octets}
 use Rattle.der_x509.specs.Lists.{BeginsWithNone, Somewhere}
 use Rattle.der_x509.specs.Rules.{Breaks}
@@ -41,3 +42,8 @@ abbrev pub RepetitionIsOfIdentifiers : Type 0
 RepetitionIsOfIdentifiers = (i : List ℕ) (c : Signed) → spells whole_certificate i c [] → Breaks DistinctExtensions c
     ↔ Somewhere extension (λ x rest. Somewhere extension (λ y _. x.identifier ≡ y.identifier) rest)
     c.tbs_certificate.extensions
+
+-- the octets that are signed say what was read, and nothing else
+abbrev pub SignedOctetsAreRead : Type 0
+SignedOctetsAreRead = (i : List ℕ) (c : Signed) → spells whole_certificate i c []
+    → spells tbs_certificate c.tbs c.tbs_certificate []

@@ -4,3 +4,4 @@ pub mod Laws
 pub mod Lists
 pub mod Readers
 pub mod Rules
+pub mod Times

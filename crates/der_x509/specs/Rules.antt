@@ -1,5 +1,5 @@
 -- The rules of RFC 5280 that its ASN.1 doesn't say, and reading with them.
-use Rattle.std.specs.Prelude.{◌≡◌, ◌≢◌, ℕ, ◌<◌, ◌⊎◌, false, pos, ◌<ℤ◌, None, List, [], ◌∷◌, length}
+use Rattle.std.specs.Prelude.{◌≡◌, ◌≢◌, ℕ, ◌<◌, ◌⊎◌, false, true, pos, ◌<ℤ◌, None, List, [], ◌∷◌, length}
 use Rattle.std.specs.Prelude.{Result, MatchResult}
 use Rattle.der_base.specs.declared.header.Class.TheVariants.{Universal}
 use Rattle.der_base.specs.Octets.{integer_value}
@@ -10,12 +10,12 @@ use Rattle.der_x509.specs.declared.rules.Rule.{Rule}
 use Rattle.der_x509.specs.declared.rules.Rule.TheVariants.{SameAlgorithms, PositiveSerialNumber, ShortSerialNumber}
 use Rattle.der_x509.specs.declared.rules.Rule.TheVariants.{NamedIssuer, OrderedAttributes, UtcTimeTo2049}
 use Rattle.der_x509.specs.declared.rules.Rule.TheVariants.{WholeSeconds, UniqueIdVersion, ExtensionsVersion}
-use Rattle.der_x509.specs.declared.rules.Rule.TheVariants.{DistinctExtensions}
+use Rattle.der_x509.specs.declared.rules.Rule.TheVariants.{DistinctExtensions, NamedSubject}
 use Rattle.der_x509.specs.declared.rules.StrictRefusal.{StrictRefusal}
 use Rattle.der_x509.specs.declared.rules.StrictRefusal.TheVariants.{NotRead, Broken}
 use Rattle.der_x509.specs.declared.time.Time.{Time}
 use Rattle.der_x509.specs.declared.time.Time.TheVariants.{Generalized, Utc}
-use Rattle.der_x509.specs.Certificates.{Signed, certificate_of, whole_certificate}
+use Rattle.der_x509.specs.Certificates.{Signed, certificate_of, extension, whole_certificate}
 use Rattle.der_x509.specs.Formats.{Fault, FieldFault, Format, element, refuses, sequence, set, spells, start}
 use Rattle.der_x509.specs.Formats.{with_octets}
 use Rattle.der_x509.specs.Lists.{Somewhere}
@@ -63,6 +63,14 @@ HaveOneIdentifier x y = (w : List ℕ) × (r : List ℕ) × (q : List ℕ)
 abbrev pub HasRepetition : List ℕ → Type 0
 HasRepetition i = Somewhere sequence (λ x rest. Somewhere sequence (λ y _. HaveOneIdentifier x y) rest) i
 
+-- an extension of the list has this identifier, and is critical
+abbrev pub HasCritical : List ℕ → List ℕ → Type 0
+HasCritical identifier i = Somewhere extension (λ e _. (e.identifier ≡ identifier) × (e.critical ≡ true)) i
+
+-- the octets of the identifier of subjectAltName (4.2.1.6), 2.5.29.17
+abbrev pub subject_alternative_name : List ℕ
+subject_alternative_name = 0x55 ∷ 0x1D ∷ 0x11 ∷ []
+
 -- the certificate breaks the rule
 abbrev pub Breaks : Rule → Signed → Type 0
 Breaks SameAlgorithms c = c.algorithm ≢ c.tbs_certificate.signature
@@ -76,11 +84,13 @@ Breaks UniqueIdVersion c = let t = c.tbs_certificate in
     (t.version ≡ V1) × ((t.issuer_id ≢ None) ⊎ (t.subject_id ≢ None))
 Breaks ExtensionsVersion c = let t = c.tbs_certificate in (t.version ≢ V3) × (t.extensions ≢ [])
 Breaks DistinctExtensions c = HasRepetition c.tbs_certificate.extensions
+Breaks NamedSubject c = let t = c.tbs_certificate in
+    (t.subject ≡ []) × (¬ HasCritical subject_alternative_name t.extensions)
 
 abbrev pub every_rule : List Rule
 every_rule =
     SameAlgorithms ∷ PositiveSerialNumber ∷ ShortSerialNumber ∷ NamedIssuer ∷ OrderedAttributes ∷ UtcTimeTo2049
-    ∷ WholeSeconds ∷ UniqueIdVersion ∷ ExtensionsVersion ∷ DistinctExtensions ∷ []
+    ∷ WholeSeconds ∷ UniqueIdVersion ∷ ExtensionsVersion ∷ DistinctExtensions ∷ NamedSubject ∷ []
 
 abbrev pub NoneBroken : List Rule → Signed → Type 0
 NoneBroken [] c = Unit {0}

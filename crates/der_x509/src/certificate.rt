@@ -119,7 +119,6 @@ fn read_unique_id<'a>(
     fields: &mut Cursor<'a>,
     number: u32,
 ) -> Result<Option<BitString<'a>>, Refusal<BerError>>
-    requires { number < 31 }
     ensures { ReadsBy fault_of (option_map bits_of) (optional_implicit number (bit_strings Rules.Der))
         fields.old result fields.new }
 {

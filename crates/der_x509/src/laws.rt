@@ -1,6 +1,6 @@
-//! Laws of lists. Each function's contract is a law, and its body is empty.
+//! Laws of what was read. Each function's contract is a law, and its body is empty.
 ghost use Rattle.der_x509.specs.Laws.{NamesHaveThem, NoneIsLeft, SetsAreRelativeNames};
-ghost use Rattle.der_x509.specs.Laws.{OrderIsOfAttributes, RepetitionIsOfIdentifiers};
+ghost use Rattle.der_x509.specs.Laws.{OrderIsOfAttributes, RepetitionIsOfIdentifiers, SignedOctetsAreRead};
 
 /// `RelativeNames` gives the relative names of a name that was read, in order, and all of them.
 pub fn sets_are_relative_names()
@@ -13,4 +13,10 @@ pub fn sets_are_relative_names()
 pub fn rules_are_of_what_was_read()
     ensures order { OrderIsOfAttributes }
     ensures repetition { RepetitionIsOfIdentifiers }
+{}
+
+/// The octets that are signed are the encoding of the fields that were read: read again, they give
+/// the same.
+pub fn signed_octets_are_read()
+    ensures { SignedOctetsAreRead }
 {}

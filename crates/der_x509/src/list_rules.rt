@@ -1,10 +1,12 @@
 //! The rules that compare the items of a list.
-ghost use Rattle.std.specs.Prelude.{◌≡◌, ◌↔◌, ◌++◌, IsTrue, List, ℕ};
+ghost use Rattle.std.specs.Prelude.{◌≡◌, ◌↔◌, ◌++◌, IsTrue, List, true, ℕ};
+ghost use Rattle.der_x509.specs.Certificates.{extension_of};
 ghost use Rattle.der_x509.specs.Formats.{sequence};
 ghost use Rattle.der_x509.specs.Lists.{Somewhere};
-ghost use Rattle.der_x509.specs.Rules.{AttributesDescend, DescendsNext, HasDescent, HaveOneIdentifier, HasRepetition};
+ghost use Rattle.der_x509.specs.Rules.{AttributesDescend, DescendsNext, HasCritical, HasDescent, HasRepetition};
+ghost use Rattle.der_x509.specs.Rules.{HaveOneIdentifier};
 
-use crate::extension::Extensions;
+use crate::extension::{Extension, Extensions};
 use crate::first_element::first_element;
 use crate::name::Name;
 use der_base::header::Tag;
@@ -46,6 +48,26 @@ fn descends_next(attribute: &[u8], rest: &[u8]) -> bool
         Some(next) => descends(attribute, next.octets),
         None => false,
     }
+}
+
+/// Returns whether one of the extensions has the identifier with these octets, and is critical.
+pub(crate) fn has_critical(extensions: Extensions<'_>, identifier: &[u8]) -> bool
+    ensures { IsTrue result ↔ HasCritical identifier.now extensions.entry.octets.now }
+{
+    for extension in extensions.iter() {
+        if is_critical(&extension, identifier) {
+            return true;
+        }
+    }
+    false
+}
+
+/// Returns whether the extension has the identifier with these octets, and is critical.
+fn is_critical(extension: &Extension<'_>, identifier: &[u8]) -> bool
+    ensures { let e = extension_of extension.now in
+        IsTrue result ↔ (e.identifier ≡ identifier.now) × (e.critical ≡ true) }
+{
+    extension.critical && extension.identifier.as_bytes() == identifier
 }
 
 /// Returns whether two of the extensions have one identifier.

@@ -6,7 +6,7 @@ ghost use Rattle.der_x509.specs.Rules.{ReadsStrictly, every_rule};
 
 use crate::algorithm::AlgorithmIdentifier;
 use crate::certificate::{Certificate, Version, read_certificate};
-use crate::list_rules::{has_descent, has_repetition};
+use crate::list_rules::{has_critical, has_descent, has_repetition};
 use crate::refusal::CertificateRefusal;
 use crate::time::Time;
 use der_base::integer::{is_negative, read_u64};
@@ -37,10 +37,15 @@ pub enum Rule {
     /// time grows with the square of their number: 40 instructions a pair, a tenth of a second for
     /// 8,000 extensions in 72,000 octets. A caller that doesn't trust its input limits the size.
     DistinctExtensions,
+    /// A subject without a name has another one, in a critical subjectAltName (4.1.2.6, 4.2.1.6).
+    NamedSubject,
 }
 
 /// The most octets of a serial number.
 const LONGEST_SERIAL_NUMBER: usize = 20;
+
+/// subjectAltName: 2.5.29.17.
+const SUBJECT_ALT_NAME: &[u8] = b"\x55\x1d\x11";
 
 impl Certificate<'_> {
     /// Whether the certificate breaks the rule.
@@ -68,6 +73,10 @@ impl Certificate<'_> {
                 fields.version != Version::V3 && !fields.extensions.octets.is_empty()
             }
             Rule::DistinctExtensions => has_repetition(fields.extensions),
+            Rule::NamedSubject => {
+                fields.subject.octets.is_empty()
+                    && !has_critical(fields.extensions, SUBJECT_ALT_NAME)
+            }
         }
     }
 
@@ -106,6 +115,9 @@ impl Certificate<'_> {
         }
         if self.breaks(Rule::DistinctExtensions) {
             return Some(Rule::DistinctExtensions);
+        }
+        if self.breaks(Rule::NamedSubject) {
+            return Some(Rule::NamedSubject);
         }
         None
     }

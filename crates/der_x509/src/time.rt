@@ -1,7 +1,8 @@
 //! Times of validity (RFC 5280 4.1.2.5).
-ghost use Rattle.std.specs.Prelude.{◌≡◌};
+ghost use Rattle.std.specs.Prelude.{◌≡◌, ◌↔◌, [], ◌∷◌, IsTrue};
 ghost use Rattle.der_x509.specs.Certificates.{moment_of, time, validity};
 ghost use Rattle.der_x509.specs.Readers.{ReadsBy, fault_of};
+ghost use Rattle.der_x509.specs.Times.{IsBefore, IsWithin, units_of};
 
 use der_base::error::BerError;
 use der_base::header::{Class, Tag};
@@ -27,6 +28,37 @@ impl Time {
             Time::Generalized(moment) => *moment,
         }
     }
+
+    /// Returns whether this time is before the other one, whichever types they are encoded as. A time
+    /// without a fraction is the start of its second. The zones aren't looked at: by DER a time is in
+    /// UTC.
+    ///
+    /// ```
+    /// let end = Time::Generalized(ASN1DateTime::new(2050, 1, 1, 0, 0, 0, None, ASN1TimeZone::Z));
+    /// let is_short = certificate.tbs_certificate.validity.not_after.is_before(&end);
+    /// ```
+    pub fn is_before(&self, other: &Time) -> bool
+        ensures { IsTrue result ↔ IsBefore self.now other.now }
+    {
+        self.units() < other.units()
+    }
+
+    /// The year, month, day, hour, minute, second and nanosecond.
+    fn units(&self) -> (u32, u8, u8, u8, u8, u8, u32)
+        ensures { let (year, month, day, hour, minute, second, nanosecond) = result in
+            year ∷ month ∷ day ∷ hour ∷ minute ∷ second ∷ nanosecond ∷ [] ≡ units_of self.now }
+    {
+        let moment = self.moment();
+        (
+            moment.year,
+            moment.month,
+            moment.day,
+            moment.hour,
+            moment.minute,
+            moment.second,
+            moment.nanosecond.unwrap_or(0),
+        )
+    }
 }
 
 /// From when and until when the certificate is valid, both included.
@@ -34,6 +66,15 @@ impl Time {
 pub struct Validity {
     pub not_before: Time,
     pub not_after: Time,
+}
+
+impl Validity {
+    /// Returns whether the certificate is valid at the time. Both ends are included.
+    pub fn contains(&self, time: &Time) -> bool
+        ensures { IsTrue result ↔ IsWithin self.now time.now }
+    {
+        !time.is_before(&self.not_before) && !self.not_after.is_before(time)
+    }
 }
 
 /// Reads a Validity.

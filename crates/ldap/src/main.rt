@@ -3,18 +3,12 @@
 #![tactic(auto)]
 
 #[cfg(test)]
-mod damaged;
-mod items;
-mod message;
-mod reader;
-#[cfg(test)]
 mod streams;
-mod text;
 
-use crate::reader::read_message;
 use anyhow::{Result, bail};
 use der_parser::cursor::FieldRefusal;
 use der_parser::error::{Err as Refused, Needed};
+use ldap_reader::read_message;
 use std::alloc::Global;
 use std::io::{Read, Write};
 

@@ -2,16 +2,8 @@
 //! and 2c (RFC 1901, RFC 3416). It reports a refused one with its offset, the field and the place in it.
 #![tactic(auto)]
 
-#[cfg(test)]
-mod damaged;
-mod message;
-mod reader;
-#[cfg(test)]
-mod refused;
-mod text;
-mod value;
-
 use anyhow::{Result, anyhow};
+use snmp_reader::read_message;
 use std::io::Read;
 
 /// Prints each message up to the end of the input, or up to one that is refused.
@@ -25,7 +17,7 @@ fn main(rt: HostRuntime) -> Result<()> {
             break;
         }
         let offset = input.len().saturating_sub(rest.len());
-        let read = reader::read_message(rt.alloc(), rest);
+        let read = read_message(rt.alloc(), rest);
         let (after, message) = read.map_err(|e| anyhow!("message at {offset}: {e}"))?;
         println!(rt; "{message}")?;
         rest = after;

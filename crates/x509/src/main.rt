@@ -3,8 +3,6 @@
 #![tactic(auto)]
 
 mod contents;
-#[cfg(test)]
-mod damaged;
 mod pem;
 mod text;
 mod values;

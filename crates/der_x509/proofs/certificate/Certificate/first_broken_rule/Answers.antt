@@ -28,3 +28,6 @@ returns-then-breaks-9 c = inr (passed c.if-breaks.ensures, inr (passed c.if-brea
 
 pub returns-then-breaks-10 : goal.returns-then-breaks-10
 returns-then-breaks-10 c = inr (passed c.if-breaks.ensures, inr (passed c.if-breaks-2.ensures, inr (passed c.if-breaks-3.ensures, inr (passed c.if-breaks-4.ensures, inr (passed c.if-breaks-5.ensures, inr (passed c.if-breaks-6.ensures, inr (passed c.if-breaks-7.ensures, inr (passed c.if-breaks-8.ensures, inr (passed c.if-breaks-9.ensures, inl (c.if-breaks-10.ensures.0 refl, refl))))))))))
+
+pub returns-then-breaks-11 : goal.returns-then-breaks-11
+returns-then-breaks-11 c = inr (passed c.if-breaks.ensures, inr (passed c.if-breaks-2.ensures, inr (passed c.if-breaks-3.ensures, inr (passed c.if-breaks-4.ensures, inr (passed c.if-breaks-5.ensures, inr (passed c.if-breaks-6.ensures, inr (passed c.if-breaks-7.ensures, inr (passed c.if-breaks-8.ensures, inr (passed c.if-breaks-9.ensures, inr (passed c.if-breaks-10.ensures, inl (c.if-breaks-11.ensures.0 refl, refl)))))))))))

@@ -1,0 +1,194 @@
+-- Messages, as their ASN.1 has them (RFC 4511), and what the structs of the code stand for. They are read by BER, and
+-- the limits that the RFC sets to lengths and to TRUE (5.1) aren't asked. An INTEGER is read up to 2^32-1, lists may be
+-- empty, texts are whatever their octets are, and elements after the last field of a SEQUENCE are passed over (4).
+use Rattle.std.specs.Borrow.{Bor}
+use Rattle.std.specs.Prelude.{ℕ, ℤ, pos, Bool, true, false, List, map}
+use Rattle.der_base.specs.declared.header.Class.TheVariants.{Application}
+use Rattle.der_base.specs.Numbers.{unsigned}
+use Rattle.der_cursor.specs.Formats.{As, Boolean, Choice, Content, Each, Enumerated, Field, Format, Ignored}
+use Rattle.der_cursor.specs.Formats.{Null, Number, OctetString, Others, Passed, Required, Sequence, Set, ◌⨾◌}
+use Rattle.ldap_reader.specs.declared.message.Content.{Content as ContentStruct}
+use Rattle.ldap_reader.specs.declared.message.Content.TheVariants.{Nothing, Name, Rename, Entry, Comparison, References}
+use Rattle.ldap_reader.specs.declared.message.Content.TheVariants.{Result as Outcome}
+use Rattle.ldap_reader.specs.declared.message.Message.{Message as MessageStruct}
+use Rattle.ldap_reader.specs.declared.message.Operation.{Operation}
+use Rattle.ldap_reader.specs.declared.message.Operation.TheVariants.{AbandonRequest, AddRequest, BindRequest}
+use Rattle.ldap_reader.specs.declared.message.Operation.TheVariants.{CompareRequest}
+use Rattle.ldap_reader.specs.declared.message.Operation.TheVariants.{DelRequest, ExtendedRequest, IntermediateResponse}
+use Rattle.ldap_reader.specs.declared.message.Operation.TheVariants.{ModifyDNRequest, ModifyRequest, SearchRequest}
+use Rattle.ldap_reader.specs.declared.message.Operation.TheVariants.{SearchResultEntry, SearchResultReference}
+use Rattle.ldap_reader.specs.declared.message.Operation.TheVariants.{UnbindRequest}
+use Rattle.ldap_reader.specs.Operations.{number_of}
+use Rattle.ldap_reader.specs.Words.{AnyChoice}
+
+-- the names and texts of an operation
+pub data Parts : Type 0 where
+  nothing : Parts
+  name : List ℕ → Parts
+  rename : List ℕ → List ℕ → Parts
+  entry : List ℕ → List (List ℕ) → Parts
+  comparison : List ℕ → List ℕ → List ℕ → Parts
+  references : List (List ℕ) → Parts
+  outcome : ℕ → List ℕ → List ℕ → Parts
+
+abbrev pub Natural : Format ℤ
+Natural = Number (unsigned 32)
+
+-- LDAPString, LDAPDN, RelativeLDAPDN, URI, AttributeDescription, AttributeValue ::= OCTET STRING   (4.1)
+abbrev pub Texts : Content (List (List ℕ))
+Texts = Each (Required OctetString)
+
+-- PartialAttribute ::= SEQUENCE {                                             (4.1.7)
+abbrev pub Attribute : Format (List ℕ)
+Attribute = Sequence (As (λ v. v.0) (
+    Required OctetString  -- type       AttributeDescription,
+    ⨾ (Passed (Required (Set Texts))  -- vals       SET OF value AttributeValue }
+    ⨾ Others)))
+
+-- SEQUENCE {                                                                  (4.6)
+abbrev pub Change : Format (List ℕ)
+Change = Sequence (As (λ v. v.1.0) (
+    Passed (Required Enumerated)  -- operation       ENUMERATED,
+    ⨾ (Required Attribute  -- modification    PartialAttribute }
+    ⨾ Others)))
+
+-- LDAPResult ::= SEQUENCE {                                                   (4.1.9)
+abbrev pub ResultContent : Content Parts
+ResultContent = As (λ v. outcome v.0 v.1.0 v.1.1.0) (
+    Required Enumerated  -- resultCode         ENUMERATED,
+    ⨾ (Required OctetString  -- matchedDN          LDAPDN,
+    ⨾ (Required OctetString  -- diagnosticMessage  LDAPString, .. }
+    ⨾ Others)))
+
+-- BindRequest ::= [APPLICATION 0] SEQUENCE {                                  (4.2)
+abbrev pub BindContent : Content Parts
+BindContent = As (λ v. name v.1.0) (
+    Passed (Required Natural)  -- version         INTEGER,
+    ⨾ (Required OctetString  -- name            LDAPDN,
+    ⨾ (AnyChoice  -- authentication  AuthenticationChoice }
+    ⨾ Others)))
+
+-- SearchRequest ::= [APPLICATION 3] SEQUENCE {                                (4.5.1)
+abbrev pub SearchContent : Content Parts
+SearchContent = As (λ v. entry v.0 v.1.1.1.1.1.1.1.0) (
+    Required OctetString  -- baseObject    LDAPDN,
+    ⨾ (Passed (Required Enumerated)  -- scope         ENUMERATED,
+    ⨾ (Passed (Required Enumerated)  -- derefAliases  ENUMERATED,
+    ⨾ (Passed (Required Natural)  -- sizeLimit     INTEGER,
+    ⨾ (Passed (Required Natural)  -- timeLimit     INTEGER,
+    ⨾ (Passed (Required Boolean)  -- typesOnly     BOOLEAN,
+    ⨾ (AnyChoice  -- filter        Filter,
+    ⨾ (Required (Sequence Texts)  -- attributes    SEQUENCE OF selector LDAPString }
+    ⨾ Others))))))))
+
+-- SearchResultEntry ::= [APPLICATION 4] SEQUENCE {                            (4.5.2)
+-- AddRequest ::= [APPLICATION 8] SEQUENCE {                                   (4.7)
+abbrev pub EntryContent : Content Parts
+EntryContent = As (λ v. entry v.0 v.1.0) (
+    Required OctetString  -- objectName    LDAPDN,
+    ⨾ (Required (Sequence (Each (Required Attribute)))  -- attributes    SEQUENCE OF PartialAttribute }
+    ⨾ Others))
+
+-- SearchResultReference ::= [APPLICATION 19] SEQUENCE OF uri URI              (4.5.2)
+abbrev pub ReferenceContent : Content Parts
+ReferenceContent = As (λ v. references v) Texts
+
+-- ModifyRequest ::= [APPLICATION 6] SEQUENCE {                                (4.6)
+abbrev pub ModifyContent : Content Parts
+ModifyContent = As (λ v. entry v.0 v.1.0) (
+    Required OctetString  -- object     LDAPDN,
+    ⨾ (Required (Sequence (Each (Required Change)))  -- changes    SEQUENCE OF change SEQUENCE }
+    ⨾ Others))
+
+-- ModifyDNRequest ::= [APPLICATION 12] SEQUENCE {                             (4.9)
+abbrev pub RenameContent : Content Parts
+RenameContent = As (λ v. rename v.0 v.1.0) (
+    Required OctetString  -- entry      LDAPDN,
+    ⨾ (Required OctetString  -- newrdn     RelativeLDAPDN, .. }
+    ⨾ Others))
+
+-- AttributeValueAssertion ::= SEQUENCE {                                      (4.1.6)
+abbrev pub Assertion : Format (List ℕ × (List ℕ × Unit {0}))
+Assertion = Sequence (
+    Required OctetString  -- attributeDesc   AttributeDescription,
+    ⨾ (Required OctetString  -- assertionValue  AssertionValue }
+    ⨾ Ignored))
+
+-- CompareRequest ::= [APPLICATION 14] SEQUENCE {                              (4.10)
+abbrev pub CompareContent : Content Parts
+CompareContent = As (λ v. comparison v.0 v.1.0.0 v.1.0.1.0) (
+    Required OctetString  -- entry      LDAPDN,
+    ⨾ (Required Assertion  -- ava        AttributeValueAssertion }
+    ⨾ Others))
+
+-- the content of each operation that is a SEQUENCE. The fields of ExtendedRequest (4.12) and IntermediateResponse
+-- (4.13) are passed over.
+abbrev pub list_content : Operation → Content Parts
+list_content BindRequest = BindContent
+list_content SearchRequest = SearchContent
+list_content SearchResultEntry = EntryContent
+list_content AddRequest = EntryContent
+list_content ModifyRequest = ModifyContent
+list_content ModifyDNRequest = RenameContent
+list_content CompareRequest = CompareContent
+list_content SearchResultReference = ReferenceContent
+list_content ExtendedRequest = As (λ v. nothing) Others
+list_content IntermediateResponse = As (λ v. nothing) Others
+list_content o = ResultContent
+
+-- UnbindRequest ::= [APPLICATION 2] NULL                                     (4.3)
+-- DelRequest ::= [APPLICATION 10] LDAPDN                                      (4.8)
+-- AbandonRequest ::= [APPLICATION 16] MessageID                               (4.11)
+abbrev pub operation_content : Operation → Content Parts
+operation_content UnbindRequest = As (λ v. nothing) Null.content
+operation_content DelRequest = As (λ v. name v) OctetString.content
+operation_content AbandonRequest = As (λ v. nothing) Natural.content
+operation_content o = list_content o
+
+abbrev pub is_list : Operation → Bool
+is_list UnbindRequest = false
+is_list DelRequest = false
+is_list AbandonRequest = false
+is_list o = true
+
+-- [APPLICATION n] IMPLICIT, with the number of the operation                  (4.1.1)
+abbrev pub ProtocolOp : Operation → Format Parts
+ProtocolOp o = record {
+  class = Application;
+  number = number_of o;
+  constructed = is_list o;
+  content = operation_content o;
+}
+
+abbrev pub OperationValue : Type 0
+OperationValue = Operation × Parts
+
+abbrev pub AnyOperation : Field OperationValue
+AnyOperation = Choice ProtocolOp
+
+abbrev pub MessageValue : Type 0
+MessageValue = ℤ × (OperationValue × Unit {0})
+
+-- LDAPMessage ::= SEQUENCE {                                                  (4.1.1)
+abbrev pub Message : Format MessageValue
+Message = Sequence (
+    Required Natural  -- messageID   MessageID,
+    ⨾ (AnyOperation  -- protocolOp  CHOICE { .. },
+    ⨾ Others))  -- controls    [0] Controls OPTIONAL }
+
+-- What the structs stand for.
+
+abbrev pub texts_of : List (Bor (List ℕ)) → List (List ℕ)
+texts_of v = map (λ x. x.now) v
+
+abbrev pub parts_of : ContentStruct → Parts
+parts_of Nothing = nothing
+parts_of (Name x) = name x.now
+parts_of (Rename x y) = rename x.now y.now
+parts_of (Entry x v) = entry x.now (texts_of v.items)
+parts_of (Comparison x y z) = comparison x.now y.now z.now
+parts_of (References v) = references (texts_of v.items)
+parts_of (Outcome n x y) = outcome n x.now y.now
+
+abbrev pub message_of : MessageStruct → MessageValue
+message_of m = (pos m.id, ((m.operation, parts_of m.content), tt))

@@ -1,0 +1,216 @@
+//! Reads messages field by field (RFC 4511 4). Fields after those that the RFC names are passed over.
+ghost use Rattle.der_base.specs.declared.rules.Rules.{Rules};
+ghost use Rattle.der_cursor.specs.Formats.{As, Choice, Never, NoMemoryIn, Others, ReadsContent, ReadsField, ReadsFront};
+ghost use Rattle.der_cursor.specs.Formats.{Required, TellsNext};
+ghost use Rattle.ldap_reader.specs.Messages.{Assertion, BindContent, CompareContent, EntryContent};
+ghost use Rattle.ldap_reader.specs.Messages.{Message as MessageFormat};
+ghost use Rattle.ldap_reader.specs.Messages.{ModifyContent, ProtocolOp, ReferenceContent, RenameContent, ResultContent};
+ghost use Rattle.ldap_reader.specs.Messages.{SearchContent, list_content, message_of, nothing, parts_of};
+
+use crate::items::{pass_over, read_attributes, read_changes, read_choice, read_text, read_texts};
+use crate::message::{Content, Message, Operation};
+use der_parser::Rules;
+use der_parser::ber::Class;
+use der_parser::cursor::{Cursor, FieldRefusal, Named, Refusal};
+use der_parser::error::BerError;
+use std::alloc::Global;
+
+/// Reads a message, and returns what follows it. Incomplete only where the input ends within the message.
+pub fn read_message<'a>(
+    alloc: Global,
+    octets: &'a [u8],
+) -> Result<(&'a [u8], Message<'a>), FieldRefusal>
+    ensures { ReadsFront Rules.Ber (Required MessageFormat) message_of NoMemoryIn octets.now result }
+{
+    let mut input = Cursor::by(Rules::Ber, octets);
+    let message = read_fields(alloc, &mut input)?;
+    Ok((input.remaining(), message))
+}
+
+fn read_fields<'a>(alloc: Global, input: &mut Cursor<'a>) -> Result<Message<'a>, FieldRefusal>
+    ensures { ReadsField (Required MessageFormat) message_of NoMemoryIn input.old result input.new }
+{
+    let mut fields = input.open_sequence().named("LDAPMessage")?;
+    let id = fields.u32().named("messageID")?;
+    let (operation, content) = read_operation(alloc, &mut fields)?;
+    pass_over(alloc, fields).named("controls")?;
+    Ok(Message {
+        id,
+        operation,
+        content,
+    })
+}
+
+fn read_operation<'a>(
+    alloc: Global,
+    fields: &mut Cursor<'a>,
+) -> Result<(Operation, Content<'a>), FieldRefusal>
+    ensures { ReadsField (Choice ProtocolOp) (λ x. (x.0, parts_of x.1)) NoMemoryIn fields.old result fields.new }
+{
+    let operation = next_operation(*fields).named("protocolOp")?;
+    let content = read_content(alloc, operation, fields)?;
+    Ok((operation, content))
+}
+
+/// The operation that is next.
+fn next_operation(fields: Cursor<'_>) -> Result<Operation, Refusal<BerError>>
+    ensures { TellsNext ProtocolOp fields.entry result }
+{
+    let mut ahead = fields;
+    let tag = ahead.any()?.tag();
+    Operation::of_tag(tag).ok_or(fields.refuse(BerError::UnknownTag(tag.0)))
+}
+
+/// Reads an operation under its implicit tag.
+fn read_content<'a>(
+    alloc: Global,
+    operation: Operation,
+    fields: &mut Cursor<'a>,
+) -> Result<Content<'a>, FieldRefusal>
+    ensures { ReadsField (Required (ProtocolOp operation)) parts_of NoMemoryIn fields.old result fields.new }
+{
+    match operation {
+        Operation::UnbindRequest => {
+            let field = fields.implicit_of(Class::Application, 2);
+            field.null().named("protocolOp")?;
+            Ok(Content::Nothing)
+        }
+        Operation::AbandonRequest => {
+            let field = fields.implicit_of(Class::Application, 16);
+            field.u32().named("protocolOp")?;
+            Ok(Content::Nothing)
+        }
+        Operation::DelRequest => {
+            let field = fields.implicit_of(Class::Application, 10);
+            Ok(Content::Name(field.octets().named("protocolOp")?))
+        }
+        _ => {
+            let list = fields.open(Class::Application, true, operation.tag());
+            let list = list.named("protocolOp")?;
+            read_list(alloc, operation, list).named("protocolOp")
+        }
+    }
+}
+
+/// Reads an operation that is a list.
+fn read_list<'a>(
+    alloc: Global,
+    operation: Operation,
+    list: Cursor<'a>,
+) -> Result<Content<'a>, FieldRefusal>
+    ensures { ReadsContent (list_content operation) parts_of NoMemoryIn list.entry result }
+{
+    match operation {
+        Operation::BindRequest => read_bind(alloc, list),
+        Operation::SearchRequest => read_search(alloc, list),
+        Operation::SearchResultEntry | Operation::AddRequest => read_entry(alloc, list),
+        Operation::ModifyRequest => read_modification(alloc, list),
+        Operation::ModifyDNRequest => read_rename(alloc, list),
+        Operation::CompareRequest => read_comparison(alloc, list),
+        Operation::SearchResultReference => read_references(alloc, list),
+        Operation::ExtendedRequest | Operation::IntermediateResponse => read_nothing(alloc, list),
+        _ => read_result(alloc, list),
+    }
+}
+
+fn read_bind<'a>(alloc: Global, mut list: Cursor<'a>) -> Result<Content<'a>, FieldRefusal>
+    ensures { ReadsContent BindContent parts_of NoMemoryIn list.entry result }
+{
+    list.u32().named("version")?;
+    let name = list.octets().named("name")?;
+    read_choice(&mut list).named("authentication")?;
+    pass_over(alloc, list).named("extensions")?;
+    Ok(Content::Name(name))
+}
+
+fn read_search<'a>(alloc: Global, mut list: Cursor<'a>) -> Result<Content<'a>, FieldRefusal>
+    ensures { ReadsContent SearchContent parts_of NoMemoryIn list.entry result }
+{
+    let name = list.octets().named("baseObject")?;
+    list.enumerated().named("scope")?;
+    list.enumerated().named("derefAliases")?;
+    list.u32().named("sizeLimit")?;
+    list.u32().named("timeLimit")?;
+    list.boolean().named("typesOnly")?;
+    read_choice(&mut list).named("filter")?;
+    let attributes = read_texts(alloc, &mut list).named("attributes")?;
+    pass_over(alloc, list).named("extensions")?;
+    Ok(Content::Entry { name, attributes })
+}
+
+fn read_entry<'a>(alloc: Global, mut list: Cursor<'a>) -> Result<Content<'a>, FieldRefusal>
+    ensures { ReadsContent EntryContent parts_of NoMemoryIn list.entry result }
+{
+    let name = list.octets().named("name")?;
+    let attributes = read_attributes(alloc, &mut list).named("attributes")?;
+    pass_over(alloc, list).named("extensions")?;
+    Ok(Content::Entry { name, attributes })
+}
+
+fn read_modification<'a>(alloc: Global, mut list: Cursor<'a>) -> Result<Content<'a>, FieldRefusal>
+    ensures { ReadsContent ModifyContent parts_of NoMemoryIn list.entry result }
+{
+    let name = list.octets().named("object")?;
+    let attributes = read_changes(alloc, &mut list).named("changes")?;
+    pass_over(alloc, list).named("extensions")?;
+    Ok(Content::Entry { name, attributes })
+}
+
+fn read_rename<'a>(alloc: Global, mut list: Cursor<'a>) -> Result<Content<'a>, FieldRefusal>
+    ensures { ReadsContent RenameContent parts_of NoMemoryIn list.entry result }
+{
+    let name = list.octets().named("entry")?;
+    let new_name = list.octets().named("newrdn")?;
+    pass_over(alloc, list).named("extensions")?;
+    Ok(Content::Rename { name, new_name })
+}
+
+fn read_comparison<'a>(alloc: Global, mut list: Cursor<'a>) -> Result<Content<'a>, FieldRefusal>
+    ensures { ReadsContent CompareContent parts_of NoMemoryIn list.entry result }
+{
+    let name = list.octets().named("entry")?;
+    let assertion = read_assertion(&mut list)?;
+    pass_over(alloc, list).named("extensions")?;
+    Ok(Content::Comparison {
+        name,
+        attribute: assertion.0,
+        value: assertion.1,
+    })
+}
+
+fn read_assertion<'a>(list: &mut Cursor<'a>) -> Result<(&'a [u8], &'a [u8]), FieldRefusal>
+    ensures { ReadsField (Required Assertion) (λ x. (x.0.now, (x.1.now, tt))) Never list.old result list.new }
+{
+    let mut fields = list.open_sequence().named("ava")?;
+    let attribute = fields.octets().named("attributeDesc")?;
+    let value = fields.octets().named("assertionValue")?;
+    Ok((attribute, value))
+}
+
+fn read_references<'a>(alloc: Global, list: Cursor<'a>) -> Result<Content<'a>, FieldRefusal>
+    ensures { ReadsContent ReferenceContent parts_of NoMemoryIn list.entry result }
+{
+    let uris = list.read_all(alloc, read_text).named("uri")?;
+    Ok(Content::References(uris))
+}
+
+fn read_nothing<'a>(alloc: Global, list: Cursor<'a>) -> Result<Content<'a>, FieldRefusal>
+    ensures { ReadsContent (As (λ v. nothing) Others) parts_of NoMemoryIn list.entry result }
+{
+    pass_over(alloc, list).named("extensions")?;
+    Ok(Content::Nothing)
+}
+
+fn read_result<'a>(alloc: Global, mut list: Cursor<'a>) -> Result<Content<'a>, FieldRefusal>
+    ensures { ReadsContent ResultContent parts_of NoMemoryIn list.entry result }
+{
+    let code = list.enumerated().named("resultCode")?;
+    let matched_name = list.octets().named("matchedDN")?;
+    let diagnostic_message = list.octets().named("diagnosticMessage")?;
+    pass_over(alloc, list).named("extensions")?;
+    Ok(Content::Result {
+        code,
+        matched_name,
+        diagnostic_message,
+    })
+}

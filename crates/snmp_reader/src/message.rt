@@ -1,0 +1,134 @@
+//! Messages of version 1 (RFC 1157 4) and 2c (RFC 1901 3, RFC 3416 3), and the types of values (RFC 1155
+//! 3.2.3, RFC 2578 2).
+ghost use Rattle.std.specs.Prelude.{◌≡◌};
+ghost use Rattle.snmp_reader.specs.Operations.{IsOperationAt, has, number_of};
+
+use der_parser::ber::Tag;
+use der_parser::oid::Oid;
+use std::net::Ipv4Addr;
+
+/// A message. Texts are slices of the input.
+#[derive(Debug, Drop)]
+pub struct Message<'a> {
+    pub version: Version,
+    pub community: &'a [u8],
+    pub pdu: Pdu<'a>,
+}
+
+/// The versions, in the order of their numbers.
+#[derive(Clone, Copy, Debug, PartialEq)]
+pub enum Version {
+    One,
+    TwoC,
+}
+
+/// What a message asks or reports.
+#[derive(Debug, Drop)]
+pub struct Pdu<'a> {
+    pub operation: Operation,
+    pub content: Content<'a>,
+}
+
+/// What a PDU has, by its operation.
+#[derive(Debug, Drop)]
+pub enum Content<'a> {
+    /// The form of all but a trap of version 1. In a GetBulkRequest the numbers on errors are
+    /// non-repeaters and max-repetitions.
+    Common {
+        request_id: i32,
+        error_status: u32,
+        error_index: u32,
+        bindings: Vec<Binding<'a>>,
+    },
+    /// A trap of version 1.
+    Trap {
+        enterprise: Oid<'a>,
+        agent_address: Ipv4Addr,
+        generic_trap: u32,
+        specific_trap: i32,
+        time_stamp: u32,
+        bindings: Vec<Binding<'a>>,
+    },
+}
+
+/// The operations, in the order of their tag numbers.
+#[derive(Clone, Copy, Debug, PartialEq)]
+pub enum Operation {
+    GetRequest,
+    GetNextRequest,
+    Response,
+    SetRequest,
+    Trap,
+    GetBulkRequest,
+    InformRequest,
+    TrapOfVersion2,
+    Report,
+}
+
+/// A name, and the value that it has.
+#[derive(Debug, Drop)]
+pub struct Binding<'a> {
+    pub name: Oid<'a>,
+    pub value: Value<'a>,
+}
+
+/// A value, or what a response has in place of one.
+#[derive(Debug, Drop)]
+pub enum Value<'a> {
+    Integer(i32),
+    OctetString(&'a [u8]),
+    Null,
+    Identifier(Oid<'a>),
+    Address(Ipv4Addr),
+    Counter32(u32),
+    Gauge32(u32),
+    TimeTicks(u32),
+    Opaque(&'a [u8]),
+    Counter64(u64),
+    NoSuchObject,
+    NoSuchInstance,
+    EndOfMibView,
+}
+
+impl Version {
+    /// Whether the version has this operation.
+    pub fn has(self, operation: Operation) -> bool
+        ensures { result ≡ has self operation }
+    {
+        match operation {
+            Operation::GetBulkRequest
+            | Operation::InformRequest
+            | Operation::TrapOfVersion2
+            | Operation::Report => self == Version::TwoC,
+            Operation::Trap => self == Version::One,
+            _ => true,
+        }
+    }
+}
+
+impl Operation {
+    /// Its tag (RFC 1157 4.1, RFC 3416 3).
+    pub fn tag(self) -> Tag
+        ensures { result.0 ≡ number_of self }
+    {
+        Tag(self as u32)
+    }
+
+    /// The operation of this tag.
+    pub fn of_tag(tag: Tag) -> Option<Operation>
+        ensures { IsOperationAt tag.0 result }
+    {
+        Some(match tag.0 {
+            0 => Operation::GetRequest,
+            1 => Operation::GetNextRequest,
+            2 => Operation::Response,
+            3 => Operation::SetRequest,
+            4 => Operation::Trap,
+            5 => Operation::GetBulkRequest,
+            6 => Operation::InformRequest,
+            7 => Operation::TrapOfVersion2,
+            8 => Operation::Report,
+            _ => return None,
+        })
+    }
+}
