@@ -5,10 +5,15 @@
 pub mod answer;
 pub mod fronts;
 pub mod nodes;
-pub mod octets;
 pub mod reader;
 pub mod reading;
 pub mod round_trips;
 pub mod rows;
 pub mod typed;
+pub mod words;
 pub mod wrong;
+
+/// Octets as texts.
+pub mod octets {
+    pub use test_tables::octets::{TextFault, octets};
+}
