@@ -1,23 +1,21 @@
-//! The rows that objects, identifiers, times and errors are tested on.
+//! Tests of objects, identifiers and errors that need code: want of memory, visitors and writers of
+//! one's own, and values that are made. What rows say of objects is in `rows_of_objects` and
+//! `rows_of_texts`.
 #![tactic(auto)]
 
 #[cfg(test)]
-mod accessor_rows;
+mod accessors;
 #[cfg(test)]
-mod error_rows;
+mod errors;
 #[cfg(test)]
-mod from_any_rows;
+mod from_any;
 #[cfg(test)]
-mod made_rows;
+mod identifiers;
 #[cfg(test)]
-mod oid_rows;
+mod made;
 #[cfg(test)]
-mod print_rows;
+mod printer;
 #[cfg(test)]
-mod text_rows;
+mod visits;
 #[cfg(test)]
-mod visit_rows;
-#[cfg(test)]
-mod watcher;
-#[cfg(test)]
-mod writer_rows;
+mod writer;
