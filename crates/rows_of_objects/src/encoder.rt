@@ -148,14 +148,27 @@ fn written_in_any_room(alloc: Global, encoded: Encoded<'_, '_>) -> Result<String
         return Ok(format!(in alloc; "not written: {e}")?);
     }
     let written = w.into_inner();
-    for room in (0..MOST_ROOM).chain(written.len()..=written.len()) {
-        if !is_written_in_room(alloc, encoded, &written, room) {
-            return Ok(format!(in alloc; "other octets in a room of {room}")?);
-        }
+    if let Some(room) = other_room(alloc, encoded, &written) {
+        return Ok(format!(in alloc; "other octets in a room of {room}")?);
     }
     let mut text = String::new(alloc);
     push_octets(&mut text, &written)?;
     Ok(text)
+}
+
+/// The first room in which what is written isn't the beginning of the octets.
+fn other_room(alloc: Global, encoded: Encoded<'_, '_>, written: &[u8]) -> Option<usize> {
+    for room in 0..MOST_ROOM {
+        if !is_written_in_room(alloc, encoded, written, room) {
+            return Some(room);
+        }
+    }
+    let enough = written.len();
+    if is_written_in_room(alloc, encoded, written, enough) {
+        None
+    } else {
+        Some(enough)
+    }
 }
 
 /// Whether the beginning of the octets is written into so much room, by writes of any size.

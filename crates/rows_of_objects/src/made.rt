@@ -3,7 +3,7 @@
 //! A term is a name that begins with a capital letter, or a brace, and the words up to the next
 //! term: `Tagged context-specific 0 Sequence { Integer 05 Null }`. The last terms are made first.
 use crate::question::{class_of, header_of, tag_of};
-use der_parser::ber::{BerObject, BerObjectContent, BitStringObject};
+use der_parser::ber::{BerObject, BerObjectContent, BitStringObject, Class, Header, Tag};
 use der_parser::oid::Oid;
 use der_tests_rows::words::push_header;
 use std::alloc::{AllocError, Global};
@@ -73,13 +73,16 @@ impl<'o> Lists<'o> {
         Ok(Lists { open })
     }
 
-    /// Adds the object that the term makes of those behind it.
+    /// Adds the object that the term makes of those after it.
     fn add(&mut self, alloc: Global, term: Term<'_, 'o>) -> Result<(), Fault> {
         match term.name {
             "}" => Ok(self.open.push(Vec::new(alloc))?),
             "{" => Ok(()),
             "Sequence" | "Set" => self.add_list(term.name),
-            "Tagged" | "Present" | "Header" => self.add_outer(alloc, term),
+            "Tagged" | "Present" | "Header" => {
+                let outer = Outer::of_term(term).ok_or(Fault::Input)?;
+                self.add_outer(alloc, outer)
+            }
             _ => self.push(leaf(term).ok_or(Fault::Input)?),
         }
     }
@@ -103,9 +106,11 @@ impl<'o> Lists<'o> {
     }
 
     /// Makes an object around the last one.
-    fn add_outer(&mut self, alloc: Global, term: Term<'_, 'o>) -> Result<(), Fault> {
-        let inner = self.pop().ok_or(Fault::Input)?;
-        self.push(outer(alloc, term, inner)?)
+    fn add_outer(&mut self, alloc: Global, outer: Outer) -> Result<(), Fault> {
+        match self.pop() {
+            Some(inner) => self.push(outer.around(alloc, inner)?),
+            None => Err(Fault::Input),
+        }
     }
 
     fn pop(&mut self) -> Option<BerObject<'o>> {
@@ -117,29 +122,39 @@ impl<'o> Lists<'o> {
     }
 }
 
-/// An object around another: in an explicit tag, as one that is present, or its content under a
-/// header.
-fn outer<'o>(
-    alloc: Global,
-    term: Term<'_, 'o>,
-    inner: BerObject<'o>,
-) -> Result<BerObject<'o>, Fault> {
-    match (term.name, term.words) {
-        ("Present", []) => {
-            let inner = Some(Box::new(alloc, inner)?);
-            Ok(BerObject::from_obj(BerObjectContent::Optional(inner)))
+/// What is made around an object.
+#[derive(Clone, Copy)]
+enum Outer {
+    /// An object that may be absent, and isn't.
+    Present,
+    /// An explicit tag.
+    Tagged(Class, Tag),
+    /// Another header for the content.
+    Header(Header<'static>),
+}
+
+impl Outer {
+    fn of_term(term: Term<'_, '_>) -> Option<Outer> {
+        match (term.name, term.words) {
+            ("Present", []) => Some(Outer::Present),
+            ("Tagged", [class, number]) => Some(Outer::Tagged(class_of(class)?, tag_of(number)?)),
+            ("Header", words) => Some(Outer::Header(header_of(words)?)),
+            _ => None,
         }
-        ("Tagged", [class, number]) => {
-            let class = class_of(class).ok_or(Fault::Input)?;
-            let tag = tag_of(number).ok_or(Fault::Input)?;
-            let inner = Box::new(alloc, inner)?;
-            Ok(BerObject::from_obj(BerObjectContent::Tagged(class, tag, inner)))
-        }
-        ("Header", words) => {
-            let header = header_of(words).ok_or(Fault::Input)?;
-            Ok(BerObject::from_header_and_content(header, inner.content))
-        }
-        _ => Err(Fault::Input),
+    }
+
+    /// The object that is made around another.
+    fn around<'o>(self, alloc: Global, inner: BerObject<'o>) -> Result<BerObject<'o>, AllocError> {
+        let content = match self {
+            Outer::Present => BerObjectContent::Optional(Some(Box::new(alloc, inner)?)),
+            Outer::Tagged(class, tag) => {
+                BerObjectContent::Tagged(class, tag, Box::new(alloc, inner)?)
+            }
+            Outer::Header(header) => {
+                return Ok(BerObject::from_header_and_content(header, inner.content));
+            }
+        };
+        Ok(BerObject::from_obj(content))
     }
 }
 

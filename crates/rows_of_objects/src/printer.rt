@@ -87,10 +87,12 @@ fn quoted(alloc: Global, text: &str) -> Result<String, Fault> {
 }
 
 fn push_body(quoted: &mut String, body: &str) -> Result<(), AllocError> {
-    for (i, part) in body.split("  ").enumerate() {
-        if i > 0 {
-            quoted.push_str("__")?;
-        }
+    let mut parts = body.split("  ");
+    if let Some(first) = parts.next() {
+        push_part(quoted, first)?;
+    }
+    for part in parts {
+        quoted.push_str("__")?;
         push_part(quoted, part)?;
     }
     Ok(())

@@ -2,7 +2,7 @@
 use crate::encoder::{Encoder, written_in_rooms};
 use crate::printer::{Layout, shown, written};
 use crate::{accessors, made, pairs, visits};
-use der_parser::ber::{BerObject, Class, Length, Tag};
+use der_parser::ber::{BerObject, Class, Header, Length, Tag};
 use std::alloc::Global;
 use test_tables::fault::Fault;
 
@@ -112,7 +112,7 @@ pub fn length_of(word: &str) -> Option<Length> {
 }
 
 /// A header by its class, form, tag number and length.
-pub fn header_of(words: &[&str]) -> Option<der_parser::ber::Header<'static>> {
+pub fn header_of(words: &[&str]) -> Option<Header<'static>> {
     let [class, form, number, length] = words else {
         return None;
     };
@@ -121,7 +121,7 @@ pub fn header_of(words: &[&str]) -> Option<der_parser::ber::Header<'static>> {
         "constructed" => true,
         _ => return None,
     };
-    Some(der_parser::ber::Header::new(
+    Some(Header::new(
         class_of(class)?,
         constructed,
         tag_of(number)?,
