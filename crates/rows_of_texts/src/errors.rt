@@ -1,8 +1,7 @@
 //! Errors by their names and parts.
 use crate::{class_of, tag_of};
-use der_parser::ber::{Class, Tag};
-use der_parser::error::{BerError, DerConstraint, ErrorKind, GenError, Needed};
-use der_parser::oid::OidParseError;
+use der_base::error::{BerError, DerConstraint, ErrorKind, GenError, Needed, OidParseError};
+use der_base::header::{Class, Tag};
 use std::io;
 
 /// The errors that have no parts.

@@ -1,5 +1,6 @@
 //! Identifiers: their octets, their arcs and their texts.
-use der_parser::oid::{Oid, OidParseError};
+use der_base::error::OidParseError;
+use der_base::oid::Oid;
 use std::alloc::Global;
 use std::borrow::CowSlice;
 use test_tables::fault::Fault;

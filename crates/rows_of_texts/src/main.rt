@@ -5,7 +5,7 @@ mod errors;
 mod identifiers;
 mod times;
 
-use der_parser::ber::{Class, Tag};
+use der_base::header::{Class, Tag};
 use std::alloc::Global;
 use std::process::ExitCode;
 use std::{fmt, io};

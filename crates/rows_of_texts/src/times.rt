@@ -1,5 +1,6 @@
 //! Times by their fields.
-use der_parser::ber::{ASN1DateTime, ASN1TimeZone, Tag, TimeText};
+use der_base::header::Tag;
+use der_base::time::{ASN1DateTime, ASN1TimeZone, TimeText};
 
 /// A time by its year, month, day, hour, minute, second, nanosecond and zone.
 pub fn time(words: &[&str]) -> Option<ASN1DateTime> {
