@@ -37,6 +37,7 @@ use Rattle.der_object.proofs.HeaderFacts.{sequence_each, set_each, sequence_form
 use Rattle.der_object.proofs.HeaderFacts.{leaf_keeps, each_push}
 use Rattle.der_object.proofs.Trees.{sequence_tree, set_tree}
 use Rattle.der_base.specs.Stable.{BerIsCut}
+use Rattle.der_forms.proofs.BerReadings.{any_cut}
 use Rattle.der_ber.specs.BerReading.{ReadsBer, NeedsMemory, ContentRefuses}
 use Rattle.der_ber.specs.Inner.ElementParts.{AreItems, IsContentOf, BehindRefuses, BehindNeedsMemory}
 
