@@ -84,7 +84,7 @@ fn files() -> io::Result<Vec<PathBuf>> {
             }
         }
     }
-    files.retain(|file| file.extension().is_some_and(|end| end == "rows"));
+    files.retain(|file| file.extension() == Some("rows".as_ref()));
     Ok(files)
 }
 
@@ -145,8 +145,11 @@ impl Stated {
 impl Header {
     /// The header of these words: class, form, number, length and identifier octets.
     fn new(words: &[&str]) -> Header {
-        let [class, form, number, length, "raw", identifier @ ..] = words else {
-            panic!("{words:?}");
+        let (class, form, number, length, identifier) = match words {
+            [class, form, number, length, "raw", identifier @ ..] => {
+                (class, form, number, length, identifier)
+            }
+            _ => panic!("{words:?}"),
         };
         let class = match *class {
             "universal" => Class::Universal,
@@ -258,13 +261,11 @@ fn compare(file: &Path) -> usize {
             continue;
         }
         let fields: Vec<_> = line.splitn(3, '|').collect();
-        let [input, answer, _] = fields[..] else {
-            panic!("{}: {line}", file.display());
-        };
+        assert_eq!(fields.len(), 3, "{}: {line}", file.display());
         for call in calls.split(',').filter_map(|call| Call::new(call.trim())) {
             println!("{}: {line}", file.display());
-            let octets = octets(&input.split_whitespace().collect::<Vec<_>>());
-            let stated = Stated::new(&call, answer, octets.len());
+            let octets = octets(&fields[0].split_whitespace().collect::<Vec<_>>());
+            let stated = Stated::new(&call, fields[1], octets.len());
             Row { call, stated, octets }.compare();
             count += 1;
         }
