@@ -9,7 +9,6 @@ pub mod nodes;
 pub mod reader;
 pub mod reading;
 pub mod round_trips;
-pub mod rows;
 pub mod trials;
 pub mod typed;
 pub mod words;

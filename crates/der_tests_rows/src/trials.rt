@@ -1,12 +1,37 @@
 //! What is tried on the octets of each row of a program's files, whatever is answered on them.
+use crate::fronts::expect_stable_fronts;
+use crate::nodes::expect_elements;
 use crate::reader::Reader;
-use crate::rows::Trial;
+use crate::round_trips::expect_round_trip;
 use crate::wrong::Wrong;
 use der_parser::ber::MAX_RECURSION;
+use std::alloc::Global;
 use std::env::{self, Env};
 use std::rt::Files;
 use std::{fs, io};
 use test_tables::table::{Line, Row, read_line};
+
+/// What is tried on the octets of a row, whatever is answered on them.
+#[derive(Clone, Copy)]
+enum Trial {
+    /// What is read is written and read again.
+    RoundTrip,
+    /// Each front is read, and read again with octets behind it.
+    Fronts,
+    /// Elements are read to buffers of any size, beside the object.
+    Nodes,
+}
+
+impl Trial {
+    /// What is tried holds of these octets, read to this depth.
+    fn try_on(self, alloc: Global, depth: usize, text: &str) -> Result<(), Wrong> {
+        match self {
+            Trial::RoundTrip => expect_round_trip(alloc, depth, text),
+            Trial::Fronts => expect_stable_fronts(alloc, text),
+            Trial::Nodes => expect_elements(alloc, depth, text),
+        }
+    }
+}
 
 /// What is tried on each row.
 const TRIALS: [Trial; 3] = [Trial::RoundTrip, Trial::Fronts, Trial::Nodes];
@@ -36,7 +61,10 @@ where
     for file in env::args(rt)?.skip(1) {
         let text = fs::read_to_string(rt, &file)?;
         let count = try_lines(rt, &file, &text)?;
-        println!(rt; "{}: {} rows tried, {} wrong", file, count.tried, count.wrong)?;
+        println!(rt;
+            "{}: {} rows tried, {} wrong",
+            file, count.tried, count.wrong
+        )?;
         if count.tried == 0 || count.wrong > 0 {
             hold = false;
         }
