@@ -7,7 +7,6 @@ pub mod calls;
 pub mod fronts;
 pub mod nodes;
 pub mod reader;
-pub mod reading;
 pub mod round_trips;
 pub mod trials;
 pub mod typed;
