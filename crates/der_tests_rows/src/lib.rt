@@ -3,12 +3,12 @@
 #![tactic(auto)]
 
 pub mod answer;
+pub mod calls;
 pub mod fronts;
 pub mod nodes;
 pub mod reader;
-pub mod reading;
 pub mod round_trips;
-pub mod rows;
+pub mod trials;
 pub mod typed;
 pub mod words;
 pub mod wrong;

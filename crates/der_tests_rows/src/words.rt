@@ -244,6 +244,20 @@ impl Spelled for BerObject<'_> {
     }
 }
 
+/// Octets as they are.
+impl Spelled for &[u8] {
+    fn push_to(&self, text: &mut String) -> Result<(), AllocError> {
+        push_octets(text, self)
+    }
+}
+
+/// A number as its value.
+impl Spelled for i128 {
+    fn push_to(&self, text: &mut String) -> Result<(), AllocError> {
+        push_number(text, *self)
+    }
+}
+
 impl Spelled for BerObjectContent<'_> {
     fn push_to(&self, text: &mut String) -> Result<(), AllocError> {
         push_content(text, self)
