@@ -1,5 +1,5 @@
 //! Parts, items and copies of an object, and want of memory for them.
-use der_parser::ber::{BerObject, BerObjectContent, Header};
+use der_parser::ber::{BerObject, BerObjectContent};
 use der_parser::error::Error::BerTypeError;
 use der_parser::error::{BerError, Err as Refused};
 use der_parser::oid::Oid;
@@ -76,42 +76,14 @@ fn no_memory_for_an_identifier_of_null(rt: HostRuntime) {
     assert!(rt; is_wrong_type(object.as_oid_val(rt.alloc())));
 }
 
-/// Whether the headers are equal, and tell the same lengths and identifier octets.
-fn is_same_header(header: &Header<'_>, copy: &Header<'_>) -> bool {
+/// Whether the copy is equal, and its header tells the same length and identifier octets.
+fn is_copy<'a>(object: &BerObject<'a>, copy: &BerObject<'a>) -> bool {
     let facts = [
-        copy == header,
-        copy.length() == header.length(),
-        copy.raw_tag() == header.raw_tag(),
+        copy == object,
+        copy.header.length() == object.header.length(),
+        copy.header.raw_tag() == object.header.raw_tag(),
     ];
     facts.iter().all(|is_so| *is_so)
-}
-
-/// Whether the objects' headers tell the same, and so do those of unknown contents.
-fn is_same(object: &BerObject<'_>, copy: &BerObject<'_>) -> bool {
-    is_same_header(&object.header, &copy.header)
-        && match (&object.content, &copy.content) {
-            (BerObjectContent::Unknown(any), BerObjectContent::Unknown(twin)) => {
-                is_same_header(&any.header, &twin.header)
-            }
-            _ => true,
-        }
-}
-
-/// Whether the headers of the items tell the same, one by one.
-fn are_same(object: &BerObject<'_>, copy: &BerObject<'_>) -> bool {
-    let mut twins = copy.ref_iter();
-    for item in object.ref_iter() {
-        match twins.next() {
-            Some(twin) if is_same(item, twin) => {}
-            _ => return false,
-        }
-    }
-    twins.next().is_none()
-}
-
-/// Whether the copy is equal, and its headers and those of its items tell the same.
-fn is_copy<'a>(object: &BerObject<'a>, copy: &BerObject<'a>) -> bool {
-    copy == object && is_same(object, copy) && are_same(object, copy)
 }
 
 /// Whether the copy that the object gives is so.

@@ -1,4 +1,4 @@
-//! Tests of objects, identifiers and errors that need code: want of memory, visitors and writers of
+//! Tests of objects and errors that need code: want of memory, visitors and writers of
 //! one's own, and values that are made. What rows say of objects is in `rows_of_objects` and
 //! `rows_of_texts`.
 #![tactic(auto)]
@@ -9,8 +9,6 @@ mod accessors;
 mod errors;
 #[cfg(test)]
 mod from_any;
-#[cfg(test)]
-mod identifiers;
 #[cfg(test)]
 mod made;
 #[cfg(test)]
