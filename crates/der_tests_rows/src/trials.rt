@@ -55,7 +55,7 @@ struct Origin<'a> {
 /// Whether the first argument of the program asks for trials.
 pub fn are_asked_for<R: Env + AllocGlobal>(rt: &R) -> io::Result<bool> {
     let first = env::args(rt)?.skip(1).next();
-    Ok(first.is_some_and(|word| word == "trials"))
+    Ok(first.is_some_and(|word| word.as_str() == "trials"))
 }
 
 /// Tries the rows of each file that is named behind the first argument, and prints how many each has,
