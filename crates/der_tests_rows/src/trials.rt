@@ -7,6 +7,7 @@ use crate::wrong::Wrong;
 use der_parser::ber::MAX_RECURSION;
 use std::alloc::Global;
 use std::env::{self, Env};
+use std::process::ExitCode;
 use std::rt::Files;
 use std::{fs, io};
 use test_tables::table::{Line, Row, read_line};
@@ -51,14 +52,21 @@ struct Origin<'a> {
     depth: usize,
 }
 
-/// Tries the rows of each file that is named as an argument, and prints how many each has, and each
-/// row on whose octets something doesn't hold. Whether all hold.
-pub fn trials_hold<R>(rt: &R) -> io::Result<bool>
+/// Whether the first argument of the program asks for trials.
+pub fn are_asked_for<R: Env + AllocGlobal>(rt: &R) -> io::Result<bool> {
+    let first = env::args(rt)?.skip(1).next();
+    Ok(first.is_some_and(|word| word.as_str() == "trials"))
+}
+
+/// Tries the rows of each file that is named behind the first argument, and prints how many each has,
+/// and each row on whose octets something doesn't hold. The status is 0 if each file has rows, and all
+/// hold.
+pub fn run_trials<R>(rt: &R) -> io::Result<ExitCode>
 where
     R: Env + Files + Print + AllocGlobal,
 {
-    let mut hold = true;
-    for file in env::args(rt)?.skip(1) {
+    let mut status = ExitCode::SUCCESS;
+    for file in env::args(rt)?.skip(2) {
         let text = fs::read_to_string(rt, &file)?;
         let count = try_lines(rt, &file, &text)?;
         println!(rt;
@@ -66,10 +74,10 @@ where
             file, count.tried, count.wrong
         )?;
         if count.tried == 0 || count.wrong > 0 {
-            hold = false;
+            status = ExitCode::FAILURE;
         }
     }
-    Ok(hold)
+    Ok(status)
 }
 
 fn try_lines<R: Print + AllocGlobal>(rt: &R, file: &str, text: &str) -> io::Result<Count> {
