@@ -5,7 +5,6 @@ use crate::{lists, tags};
 use der_parser::Rules;
 use der_parser::ber::Tag;
 use der_parser::error::BerResult;
-use der_tests_rows::reader::Reader;
 use std::alloc::Global;
 
 /// What a combinator answers, and how often it calls the parser that it keeps.
@@ -72,15 +71,5 @@ impl Form {
                 tags::explicit_optional(alloc, rules, tag, kept, i)
             }
         }
-    }
-}
-
-/// The reader that a call names, which keeps no parser.
-pub fn reader_named(call: &str) -> Option<Reader> {
-    match call {
-        "parse_ber" => Some(Reader::ParseBer),
-        "parse_der" => Some(Reader::ParseDer),
-        "parse_der_set" => Some(Reader::ParseDerSet),
-        _ => None,
     }
 }

@@ -1,20 +1,16 @@
 //! Parsers of objects that combinators keep.
 use der_parser::ber::{
-    BerObject, BerObjectContent, Tag, parse_ber_bool, parse_ber_integer, parse_ber_tagged_explicit,
+    BerObject, BerObjectContent, Tag, parse_ber_integer, parse_ber_tagged_explicit,
 };
-use der_parser::der::{parse_der_bool, parse_der_integer, parse_der_set_of};
+use der_parser::der::{parse_der_integer, parse_der_set_of};
 use der_parser::error::{BerError, BerResult, Err as Refused};
-use der_parser::parse_der;
+use der_tests_rows::reader::Reader;
 use std::alloc::Global;
 
 /// A parser of an object.
 #[derive(Clone, Copy)]
 pub enum Kept {
-    BerBool,
-    BerInteger,
-    DerBool,
-    DerInteger,
-    Der,
+    Reader(Reader),
     /// The parser by DER of a SET OF INTEGER.
     SetOfInteger,
     /// The parser by BER of an INTEGER inside an explicit tag of this number.
@@ -31,17 +27,12 @@ impl Kept {
     /// The parser that a call's words name.
     pub fn named(words: &str) -> Option<Kept> {
         match words {
-            "parse_ber_bool" => Some(Kept::BerBool),
-            "parse_ber_integer" => Some(Kept::BerInteger),
-            "parse_der_bool" => Some(Kept::DerBool),
-            "parse_der_integer" => Some(Kept::DerInteger),
-            "parse_der" => Some(Kept::Der),
             "parse_der_set_of parse_der_integer" => Some(Kept::SetOfInteger),
             "parse_ber_tagged_explicit 0 parse_ber_integer" => Some(Kept::ExplicitInteger(Tag(0))),
             "staying" => Some(Kept::Staying),
             "growing" => Some(Kept::Growing),
             "refusing" => Some(Kept::Refusing),
-            _ => None,
+            _ => Reader::of_call(words).map(Kept::Reader),
         }
     }
 
@@ -53,11 +44,7 @@ impl Kept {
     /// What the parser answers on `i`, where `whole` is the input of the combinator.
     pub fn read<'a>(self, alloc: Global, whole: &'a [u8], i: &'a [u8]) -> BerResult<'a> {
         match self {
-            Kept::BerBool => parse_ber_bool(i),
-            Kept::BerInteger => parse_ber_integer(i),
-            Kept::DerBool => parse_der_bool(i),
-            Kept::DerInteger => parse_der_integer(i),
-            Kept::Der => parse_der(alloc, i),
+            Kept::Reader(reader) => reader.read(alloc, i),
             Kept::SetOfInteger => set_of_integer(alloc, i),
             Kept::ExplicitInteger(tag) => explicit_integer(alloc, tag, i),
             Kept::Staying => Ok((i, null())),

@@ -12,10 +12,11 @@ mod tags;
 mod values;
 mod view;
 
-use crate::form::{Form, reader_named};
+use crate::form::Form;
 use crate::names::{first_word, rules_of};
 use crate::view::{View, counted_answer};
 use der_parser::ber::Tag;
+use der_tests_rows::reader::Reader;
 use der_tests_rows::words::answer_of_object;
 use std::alloc::Global;
 use std::io;
@@ -34,34 +35,39 @@ impl Calls for Combinators {
     }
 }
 
-/// What the call answers on these octets.
+/// What the call answers on these octets, or what is asked of the object that it reads.
 fn answer_of_call(alloc: Global, call: &str, i: &[u8]) -> Result<String, Fault> {
+    match call.split_once(" of ") {
+        Some((question, call)) => answer_of_view(alloc, question, call, i),
+        None => answer_of_combinator(alloc, call, i),
+    }
+}
+
+fn answer_of_combinator(alloc: Global, call: &str, i: &[u8]) -> Result<String, Fault> {
     let (name, words) = first_word(call);
-    match (View::named(name), rules_of(name)) {
-        (Some(view), _) => view_answer(alloc, view, words, i),
-        (None, Some((rules, "sequence_of_v"))) => {
-            values::answer(alloc, rules, Tag::Sequence, words, i)
-        }
-        (None, Some((rules, "set_of_v"))) => values::answer(alloc, rules, Tag::Set, words, i),
-        (None, Some((rules, form))) if contents::answers(form, words) => {
+    match rules_of(name) {
+        Some((rules, "sequence_of_v")) => values::answer(alloc, rules, Tag::Sequence, words, i),
+        Some((rules, "set_of_v")) => values::answer(alloc, rules, Tag::Set, words, i),
+        Some((rules, form)) if contents::answers(form, words) => {
             contents::answer(alloc, rules, form, words, i)
         }
-        _ => object_answer(alloc, call, i),
+        _ => answer_of_form(alloc, call, i),
     }
 }
 
 /// What a call that reads an object answers.
-fn object_answer(alloc: Global, call: &str, i: &[u8]) -> Result<String, Fault> {
-    match (Form::named(call), reader_named(call)) {
+fn answer_of_form(alloc: Global, call: &str, i: &[u8]) -> Result<String, Fault> {
+    match (Form::named(call), Reader::of_call(call)) {
         (Some(form), _) => Ok(counted_answer(alloc, form.read(alloc, i))?),
         (None, Some(reader)) => Ok(answer_of_object(alloc, reader.read(alloc, i))?),
         (None, None) => Err(Fault::NoSuchCall),
     }
 }
 
-/// What is wanted of the object that a call reads.
-fn view_answer(alloc: Global, view: View, call: &str, i: &[u8]) -> Result<String, Fault> {
-    match (Form::named(call), reader_named(call)) {
+/// What is asked of the object that a call reads.
+fn answer_of_view(alloc: Global, question: &str, call: &str, i: &[u8]) -> Result<String, Fault> {
+    let view = View::named(question).ok_or(Fault::NoSuchCall)?;
+    match (Form::named(call), Reader::of_call(call)) {
         (Some(form), _) => Ok(view.answer(alloc, form.read(alloc, i).1)?),
         (None, Some(reader)) => Ok(view.answer(alloc, reader.read(alloc, i))?),
         (None, None) => Err(Fault::NoSuchCall),

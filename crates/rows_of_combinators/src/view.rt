@@ -2,9 +2,10 @@
 use crate::form::Given;
 use der_parser::ber::{BerObject, BerObjectContent};
 use der_parser::error::{BerError, BerResult};
+use der_tests_rows::calls::push_written;
 use der_tests_rows::words::{answer_of_object, push_header, push_number, push_refused};
 use std::alloc::{AllocError, Global};
-use test_tables::octets::{push_octets, push_word};
+use test_tables::octets::push_word;
 
 /// What a call wants to know of an object.
 #[derive(Clone, Copy)]
@@ -13,20 +14,20 @@ pub enum View {
     Header,
     /// What it is written as.
     Written,
-    /// How many items it has room for.
+    /// Its capacity for items.
     Capacity,
     /// The number inside a tag, if it is there.
     NumberInside,
 }
 
 impl View {
-    /// What a name in a call wants to know.
+    /// What a word before `of` in a call wants to know.
     pub fn named(name: &str) -> Option<View> {
         match name {
-            "header_of" => Some(View::Header),
-            "written_of" => Some(View::Written),
-            "capacity_of" => Some(View::Capacity),
-            "number_inside" => Some(View::NumberInside),
+            "header" => Some(View::Header),
+            "to_vec" => Some(View::Written),
+            "capacity" => Some(View::Capacity),
+            "number" => Some(View::NumberInside),
             _ => None,
         }
     }
@@ -71,18 +72,7 @@ pub fn push_calls(text: &mut String, calls: u64) -> Result<(), AllocError> {
     push_number(text, calls)
 }
 
-fn push_written(
-    alloc: Global,
-    text: &mut String,
-    object: &BerObject<'_>,
-) -> Result<(), AllocError> {
-    match object.to_vec(alloc) {
-        Ok(octets) => push_octets(text, &octets),
-        Err(_) => push_word(text, "not written"),
-    }
-}
-
-/// How many items the object has room for.
+/// The capacity of the object for items.
 fn capacity_of(object: &BerObject<'_>) -> usize {
     match &object.content {
         BerObjectContent::Sequence(items) => items.capacity(),
