@@ -47,8 +47,8 @@ impl Kept {
             Kept::Reader(reader) => reader.read(alloc, i),
             Kept::SetOfInteger => set_of_integer(alloc, i),
             Kept::ExplicitInteger(tag) => explicit_integer(alloc, tag, i),
-            Kept::Staying => Ok((i, null())),
-            Kept::Growing => Ok((whole, null())),
+            Kept::Staying => leave(i),
+            Kept::Growing => leave(whole),
             Kept::Refusing => refuse(i),
         }
     }
@@ -72,9 +72,9 @@ fn read_ber_integer(i: &[u8]) -> BerResult<'_> {
     parse_ber_integer(i)
 }
 
-/// The object NULL.
-fn null() -> BerObject<'static> {
-    BerObject::from_obj(BerObjectContent::Null)
+/// Answers a NULL, and leaves these octets.
+fn leave(i: &[u8]) -> BerResult<'_> {
+    Ok((i, BerObject::from_obj(BerObjectContent::Null)))
 }
 
 /// Wants memory before a NULL, and else answers a Failure.

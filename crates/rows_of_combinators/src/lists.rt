@@ -26,9 +26,9 @@ pub fn list_of(alloc: Global, rules: Rules, tag: Tag, kept: Kept, i: &[u8]) -> G
 }
 
 /// The parser of a SEQUENCE OF or SET OF what `f` reads.
-fn list_parser<'a, F>(alloc: Global, rules: Rules, tag: Tag, f: F) -> ListOfObjects<F>
+fn list_parser<'a, F, E>(alloc: Global, rules: Rules, tag: Tag, f: F) -> ListOfObjects<F>
 where
-    F: FnMut(&'a [u8]) -> BerResult<'a>,
+    F: FnMut(&'a [u8]) -> IResult<&'a [u8], BerObject<'a>, E>,
     ensures { result.1 ≡ f }
 {
     match (rules, tag) {
@@ -51,9 +51,9 @@ pub fn list_of_two(alloc: Global, rules: Rules, tag: Tag, kept: Kept, i: &[u8]) 
 }
 
 /// The parser of a SEQUENCE or SET whose items `f` reads.
-fn defined_parser<'a, F>(rules: Rules, tag: Tag, f: F) -> ListObject<F>
+fn defined_parser<'a, F, E>(rules: Rules, tag: Tag, f: F) -> ListObject<F>
 where
-    F: FnMut(&'a [u8]) -> BerResult<'a, Vec<BerObject<'a>>>,
+    F: FnMut(&'a [u8]) -> IResult<&'a [u8], Vec<BerObject<'a>>, E>,
     ensures { result.1 ≡ f }
 {
     match (rules, tag) {

@@ -3,17 +3,16 @@ ghost use Rattle.std.specs.Prelude.{◌≡◌};
 
 use crate::form::Given;
 use crate::kept::Kept;
-use der_parser::Rules;
 use der_parser::ber::{
-    BerContent, BerObjectContent, ExplicitObject, Header, ImplicitObject, Tag, parse_ber_content,
-    parse_ber_explicit_optional, parse_ber_implicit, parse_ber_optional, parse_ber_tagged_explicit,
-    parse_ber_tagged_implicit,
+    BerContent, BerObject, BerObjectContent, ExplicitObject, Header, ImplicitObject, Tag,
+    parse_ber_content, parse_ber_explicit_optional, parse_ber_implicit, parse_ber_optional,
+    parse_ber_tagged_explicit, parse_ber_tagged_implicit,
 };
 use der_parser::der::{
     parse_der_content, parse_der_explicit_optional, parse_der_implicit, parse_der_optional,
     parse_der_tagged_explicit, parse_der_tagged_implicit,
 };
-use der_parser::error::BerResult;
+use der_parser::{IResult, Rules};
 use std::alloc::Global;
 
 /// Reads an object inside an explicit tag.
@@ -28,9 +27,9 @@ pub fn explicit(alloc: Global, rules: Rules, tag: Tag, kept: Kept, i: &[u8]) -> 
 }
 
 /// The parser of an object inside an explicit tag, which `f` reads.
-fn explicit_parser<'a, F>(alloc: Global, rules: Rules, tag: Tag, f: F) -> ExplicitObject<F>
+fn explicit_parser<'a, F, E>(alloc: Global, rules: Rules, tag: Tag, f: F) -> ExplicitObject<F>
 where
-    F: FnMut(&'a [u8]) -> BerResult<'a>,
+    F: FnMut(&'a [u8]) -> IResult<&'a [u8], BerObject<'a>, E>,
     ensures { result.1 ≡ f }
 {
     match rules {
@@ -52,9 +51,9 @@ pub fn implicit(alloc: Global, rules: Rules, tag: Tag, content: Tag, i: &[u8]) -
 }
 
 /// The parser of an object under an implicit tag, whose content `f` reads.
-fn implicit_parser<'a, F>(rules: Rules, tag: Tag, f: F) -> ImplicitObject<F>
+fn implicit_parser<'a, F, E>(rules: Rules, tag: Tag, f: F) -> ImplicitObject<F>
 where
-    F: FnMut(&'a [u8], &Header<'a>, usize) -> BerResult<'a, BerObjectContent<'a>>,
+    F: FnMut(&'a [u8], &Header<'a>, usize) -> IResult<&'a [u8], BerObjectContent<'a>, E>,
     ensures { result.1 ≡ f }
 {
     match rules {
