@@ -45,9 +45,6 @@ has() { command -v "$1" > /dev/null && return 0; echo "left out: $2 (there is no
 
 root=$(cd .. && pwd)
 
-# The rows that the tests of the library state for its full readers.
-rows_of_tables() { awk -f tables.awk ../crates/dumarewhi_c/src/errors.rt ../crates/der_tests_*/src/*.rt; }
-
 octets() { printf "%b" "$(echo "$1" | tr -d ' \n' | sed 's/../\\x&/g')"; }
 
 if [ -n "${DUMAREWHI_LIB:-}" ]; then
@@ -71,10 +68,7 @@ run_c() {
     says "stack.c compiles" compile stack stack -pthread
     shown=yes
     for name in layout rows errors stack; do says "$name" "$room/$name"; done
-    run_tables() { rows_of_tables > "$room/tables.txt" && "$room/tables" < "$room/tables.txt"; }
-    has awk "the rows of the library's tests" && says "rows of the library's tests" run_tables
-    run_rows() { "$room/tables" < rows.txt; }
-    says "further rows" run_rows
+    says "rows of the library's tests" "$room/tables" ../crates/*/data/*.rows
     shown=
 
     prints "first" 0 "$(printf 'type 16, octets 2 to 8\ntype 2, octets 4 to 5\ntype 1, octets 7 to 8')" "$room/first"

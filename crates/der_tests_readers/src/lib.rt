@@ -1,23 +1,15 @@
-//! The rows of lists, numbers, DER, and of each public name: tables of inputs and answers, a row a line.
+//! What of the readers needs code, and no rows: headers, laws and types by name, and other names of the same types.
 #![tactic(auto)]
 
 #[cfg(test)]
-mod count_rows;
+mod contents;
 #[cfg(test)]
-mod der_rows;
-#[cfg(test)]
-mod fronts;
+mod headers;
 mod law_names;
 #[cfg(test)]
-mod list_rows;
+mod names;
 #[cfg(test)]
-mod name_rows;
-#[cfg(test)]
-mod nodes;
-#[cfg(test)]
-mod number_rows;
+mod numbers;
 #[cfg(test)]
 mod octets_of_texts;
-#[cfg(test)]
-mod round_trips;
 mod type_names;

@@ -25,38 +25,6 @@ fn expect_stable_to(alloc: Global, depth: usize, text: &str) -> Result<(), Wrong
     expect_stable(alloc, ParseDerRecursive(depth), &input)
 }
 
-/// Both readers, to this depth, answer so on those fronts of these octets whose length leaves this
-/// remainder by four. The shorter fronts are cut short where the whole is read.
-pub fn expect_stable_quarter(
-    alloc: Global,
-    depth: usize,
-    text: &str,
-    remainder: usize,
-) -> Result<(), Wrong> {
-    let input = octets(alloc, text)?;
-    expect_stable_part(alloc, ParseBerRecursive(depth), &input, remainder)?;
-    expect_stable_part(alloc, ParseDerRecursive(depth), &input, remainder)
-}
-
-fn expect_stable_part(
-    alloc: Global,
-    reader: Reader,
-    input: &[u8],
-    remainder: usize,
-) -> Result<(), Wrong> {
-    let whole = reader.read(alloc, input).is_ok();
-    for length in 0..=input.len() {
-        if length % 4 == remainder {
-            let cut = is_cut(alloc, reader, &input[..length], length)?;
-            if !cut && whole && length != input.len() {
-                let wrong = format!(in alloc; "{reader:?}: {length}")?;
-                return Err(Wrong::Answer(wrong));
-            }
-        }
-    }
-    Ok(())
-}
-
 /// The reader answers on the fronts of these octets as the module says. Fronts are read from the
 /// shortest on, so as many are cut short in front of an object as it has octets.
 fn expect_stable(alloc: Global, reader: Reader, input: &[u8]) -> Result<(), Wrong> {

@@ -70,37 +70,18 @@ type Listed<'a> = IResult<&'a [u8], Vec<Element>, BerError>;
 pub fn expect_elements(alloc: Global, depth: usize, text: &str) -> Result<(), Wrong> {
     let input = octets(alloc, text)?;
     let most = input.len() / 2 + 1;
-    expect_elements_to(alloc, depth, &input, 0, most)?;
+    expect_elements_to(alloc, depth, &input, most)?;
     for other in DEPTHS {
         if *other != depth {
-            expect_elements_to(alloc, *other, &input, 0, most)?;
+            expect_elements_to(alloc, *other, &input, most)?;
         }
     }
     Ok(())
 }
 
-/// The readers of elements to this depth return what the readers of objects do on these octets, with
-/// buffers of so many elements, from the least to the most.
-pub fn expect_elements_in(
-    alloc: Global,
-    depth: usize,
-    text: &str,
-    least: usize,
-    most: usize,
-) -> Result<(), Wrong> {
-    let input = octets(alloc, text)?;
-    expect_elements_to(alloc, depth, &input, least, most)
-}
-
-fn expect_elements_to(
-    alloc: Global,
-    depth: usize,
-    input: &[u8],
-    least: usize,
-    most: usize,
-) -> Result<(), Wrong> {
-    expect_elements_by(alloc, Rules::Ber, depth, input, least, most)?;
-    expect_elements_by(alloc, Rules::Der, depth, input, least, most)
+fn expect_elements_to(alloc: Global, depth: usize, input: &[u8], most: usize) -> Result<(), Wrong> {
+    expect_elements_by(alloc, Rules::Ber, depth, input, most)?;
+    expect_elements_by(alloc, Rules::Der, depth, input, most)
 }
 
 fn expect_elements_by(
@@ -108,12 +89,11 @@ fn expect_elements_by(
     rules: Rules,
     depth: usize,
     input: &[u8],
-    least: usize,
     most: usize,
 ) -> Result<(), Wrong> {
     let listed = list_object(alloc, rules, depth, input)?;
     expect_checked(alloc, rules, depth, input, &listed)?;
-    for size in least..=most {
+    for size in 0..=most {
         expect_buffer(alloc, rules, depth, input, size, &listed)?;
     }
     Ok(())

@@ -1,12 +1,38 @@
 //! What is tried on the octets of each row of a program's files, whatever is answered on them.
+use crate::fronts::expect_stable_fronts;
+use crate::nodes::expect_elements;
 use crate::reader::Reader;
-use crate::rows::Trial;
+use crate::round_trips::expect_round_trip;
 use crate::wrong::Wrong;
 use der_parser::ber::MAX_RECURSION;
+use std::alloc::Global;
 use std::env::{self, Env};
+use std::process::ExitCode;
 use std::rt::Files;
 use std::{fs, io};
 use test_tables::table::{Line, Row, read_line};
+
+/// What is tried on the octets of a row, whatever is answered on them.
+#[derive(Clone, Copy)]
+enum Trial {
+    /// What is read is written and read again.
+    RoundTrip,
+    /// Each front is read, and read again with octets behind it.
+    Fronts,
+    /// Elements are read to buffers of any size, beside the object.
+    Nodes,
+}
+
+impl Trial {
+    /// What is tried holds of these octets, read to this depth.
+    fn try_on(self, alloc: Global, depth: usize, text: &str) -> Result<(), Wrong> {
+        match self {
+            Trial::RoundTrip => expect_round_trip(alloc, depth, text),
+            Trial::Fronts => expect_stable_fronts(alloc, text),
+            Trial::Nodes => expect_elements(alloc, depth, text),
+        }
+    }
+}
 
 /// What is tried on each row.
 const TRIALS: [Trial; 3] = [Trial::RoundTrip, Trial::Fronts, Trial::Nodes];
@@ -26,22 +52,32 @@ struct Origin<'a> {
     depth: usize,
 }
 
-/// Tries the rows of each file that is named as an argument, and prints how many each has, and each
-/// row on whose octets something doesn't hold. Whether all hold.
-pub fn trials_hold<R>(rt: &R) -> io::Result<bool>
+/// Whether the first argument of the program asks for trials.
+pub fn are_asked_for<R: Env + AllocGlobal>(rt: &R) -> io::Result<bool> {
+    let first = env::args(rt)?.skip(1).next();
+    Ok(first.is_some_and(|word| word.as_str() == "trials"))
+}
+
+/// Tries the rows of each file that is named behind the first argument, and prints how many each has,
+/// and each row on whose octets something doesn't hold. The status is 0 if each file has rows, and all
+/// hold.
+pub fn run_trials<R>(rt: &R) -> io::Result<ExitCode>
 where
     R: Env + Files + Print + AllocGlobal,
 {
-    let mut hold = true;
-    for file in env::args(rt)?.skip(1) {
+    let mut status = ExitCode::SUCCESS;
+    for file in env::args(rt)?.skip(2) {
         let text = fs::read_to_string(rt, &file)?;
         let count = try_lines(rt, &file, &text)?;
-        println!(rt; "{}: {} rows tried, {} wrong", file, count.tried, count.wrong)?;
+        println!(rt;
+            "{}: {} rows tried, {} wrong",
+            file, count.tried, count.wrong
+        )?;
         if count.tried == 0 || count.wrong > 0 {
-            hold = false;
+            status = ExitCode::FAILURE;
         }
     }
-    Ok(hold)
+    Ok(status)
 }
 
 fn try_lines<R: Print + AllocGlobal>(rt: &R, file: &str, text: &str) -> io::Result<Count> {

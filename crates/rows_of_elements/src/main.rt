@@ -1,5 +1,5 @@
-//! The rows of elements: inputs, and what readers answer on them. On each row's octets everything is tried that holds
-//! of any octets.
+//! The rows of elements: inputs, and what readers answer on them. With the word `trials` in front of the files, what
+//! holds of any octets is tried on those of each row.
 #![tactic(auto)]
 
 mod any;
@@ -12,7 +12,7 @@ use any::AnyReader;
 use containers::ContainerCall;
 use contents::ContentReader;
 use der_tests_rows::calls::answer_of_call;
-use der_tests_rows::trials::trials_hold;
+use der_tests_rows::trials::{are_asked_for, run_trials};
 use headers::HeaderReader;
 use std::alloc::Global;
 use std::io;
@@ -42,10 +42,9 @@ impl Calls for Elements {
 }
 
 fn main(rt: HostRuntime) -> io::Result<ExitCode> {
-    let answered = run(&rt, &Elements)?;
-    Ok(if trials_hold(&rt)? {
-        answered
+    if are_asked_for(&rt)? {
+        run_trials(&rt)
     } else {
-        ExitCode::FAILURE
-    })
+        run(&rt, &Elements)
+    }
 }

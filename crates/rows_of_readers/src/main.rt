@@ -1,11 +1,11 @@
-//! The rows of readers: lists, numbers, DER, counts of headers, and each public name. On each row's octets everything
-//! is tried that holds of any octets.
+//! The rows of readers: lists, numbers, DER, counts of headers, and each public name. With the word `trials` in front
+//! of the files, what holds of any octets is tried on those of each row.
 #![tactic(auto)]
 
 mod numbers;
 
 use der_tests_rows::calls::answer_of_call;
-use der_tests_rows::trials::trials_hold;
+use der_tests_rows::trials::{are_asked_for, run_trials};
 use numbers::NumberCall;
 use std::alloc::Global;
 use std::io;
@@ -26,10 +26,9 @@ impl Calls for Readers {
 }
 
 fn main(rt: HostRuntime) -> io::Result<ExitCode> {
-    let answered = run(&rt, &Readers)?;
-    Ok(if trials_hold(&rt)? {
-        answered
+    if are_asked_for(&rt)? {
+        run_trials(&rt)
     } else {
-        ExitCode::FAILURE
-    })
+        run(&rt, &Readers)
+    }
 }

@@ -58,7 +58,10 @@ impl NumberCall {
     fn answer_on(self, alloc: Global, input: &[u8]) -> Result<String, AllocError> {
         match self {
             NumberCall::OfInteger(number_type) => {
-                text_of(alloc, number_type.of_content(&BerObjectContent::Integer(input)))
+                text_of(
+                    alloc,
+                    number_type.of_content(&BerObjectContent::Integer(input)),
+                )
             }
             NumberCall::OfBits(number_type, unused) => {
                 let bits = BerObjectContent::BitString(unused, BitStringObject { bytes: input });
