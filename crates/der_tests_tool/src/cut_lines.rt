@@ -4,6 +4,7 @@ use der_print::{Limit, Room, Style, write_line};
 use der_walk::{Rules, Walk};
 use std::alloc::Global;
 use std::io;
+use std::process::Abort;
 use std::test::Fail;
 
 /// An element, and its line.
@@ -165,11 +166,17 @@ fn line_of(alloc: Global, octets: &[u8], limit: Limit) -> io::Result<Vec<u8>> {
     Ok(out)
 }
 
+/// The row's element has its line.
+fn expect_line(rt: &(impl Abort + AllocGlobal), row: &Row) -> Result<(), Fail> {
+    let line = line_of(rt.alloc(), row.octets, row.limit)?;
+    assert_eq!(rt; line.as_slice(), row.line.as_bytes(), "{}", row.name);
+    Ok(())
+}
+
 #[test]
 fn values_are_cut(rt: HostRuntime) -> Result<(), Fail> {
     for row in &ROWS {
-        let line = line_of(rt.alloc(), row.octets, row.limit)?;
-        assert_eq!(rt; line.as_slice(), row.line.as_bytes(), "{}", row.name);
+        expect_line(&rt, row)?;
     }
     Ok(())
 }

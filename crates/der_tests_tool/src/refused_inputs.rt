@@ -4,6 +4,7 @@ use der_print::{Limit, Style};
 use der_tool::options::{Action, Options};
 use der_tool::run::run;
 use der_walk::Rules;
+use std::process::Abort;
 use std::str;
 use std::test::Fail;
 
@@ -63,27 +64,41 @@ an indefinite length has no end-of-contents octets (X.690 8.1.3.6)\n",
     },
 ];
 
+/// How the tool reads: a tree, by these rules.
+fn options(rules: Rules) -> Options {
+    Options {
+        action: Action::Tree,
+        rules,
+        enters_strings: true,
+        form: Some(Form::Der),
+        style: Style {
+            limit: Limit::Front,
+            colours: false,
+        },
+        has_several_files: false,
+    }
+}
+
+/// The input is refused, with the row's lines and report.
+fn expect_refusal(rt: &impl Abort, row: &Row, is_read: bool, out: &[u8], err: &[u8]) {
+    assert!(rt; !is_read);
+    assert_eq!(rt; str::from_utf8(out), Ok(row.lines));
+    assert_eq!(rt; str::from_utf8(err), Ok(row.report));
+}
+
+/// The tool refuses the row's input so.
+fn expect_row(rt: &(impl Abort + AllocGlobal), row: &Row) -> Result<(), Fail> {
+    let (mut out, mut err) = (Vec::new(rt.alloc()), Vec::new(rt.alloc()));
+    let options = options(row.rules);
+    let is_read = run(rt.alloc(), &options, "input", row.input, &mut out, &mut err)?;
+    expect_refusal(rt, row, is_read, &out, &err);
+    Ok(())
+}
+
 #[test]
 fn refusals_are_reported(rt: HostRuntime) -> Result<(), Fail> {
-    let style = Style {
-        limit: Limit::Front,
-        colours: false,
-    };
     for row in &ROWS {
-        let options = Options {
-            action: Action::Tree,
-            rules: row.rules,
-            enters_strings: true,
-            form: Some(Form::Der),
-            style,
-            has_several_files: false,
-        };
-        let mut out = Vec::new(rt.alloc());
-        let mut err = Vec::new(rt.alloc());
-        let is_read = run(rt.alloc(), &options, "input", row.input, &mut out, &mut err)?;
-        assert!(rt; !is_read);
-        assert_eq!(rt; str::from_utf8(&out), Ok(row.lines));
-        assert_eq!(rt; str::from_utf8(&err), Ok(row.report));
+        expect_row(&rt, row)?;
     }
     Ok(())
 }

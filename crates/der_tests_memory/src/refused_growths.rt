@@ -2,16 +2,17 @@
 //! after a test's first lines, which end the test where there is none. With ample memory it returns
 //! Ok. `tools/refused-growths` runs the tests with the first growth refused, then with the second, and
 //! so on: then the call returns OutOfMemory, and nothing else.
-use crate::list_form_rows::{Items, integers};
-use crate::tagged_rows::{Rules, explicit, explicit_optional, optional};
+use crate::kept::{integer_by_ber, integer_by_der, number_by_ber, number_by_der};
 use der_parser::ber::{
     Any, BerObject, BerObjectContent, Class, Header, Length, PrettyBer, PrettyPrinterFlag, Tag,
     ber_object_from_any, ber_read_element_content_as, parse_ber_content, parse_ber_content2,
-    parse_ber_sequence_of_v, parse_ber_set_of_v, parse_ber_u32,
+    parse_ber_explicit_optional, parse_ber_optional, parse_ber_sequence_of,
+    parse_ber_sequence_of_v, parse_ber_set_of, parse_ber_set_of_v, parse_ber_tagged_explicit,
 };
 use der_parser::der::{
     der_read_element_content, der_read_element_content_as, parse_der_content, parse_der_content2,
-    parse_der_sequence_of_v, parse_der_set_of_v, parse_der_u32,
+    parse_der_explicit_optional, parse_der_optional, parse_der_sequence_of,
+    parse_der_sequence_of_v, parse_der_set_of, parse_der_set_of_v, parse_der_tagged_explicit,
 };
 use der_parser::error::BerResult;
 use der_parser::oid::Oid;
@@ -55,36 +56,7 @@ fn expect_numbers(rt: &impl Abort, answer: BerResult<'_, Vec<u32>>) -> Result<()
     Ok(())
 }
 
-/// What the parser of a number answers.
-fn number<'a>(rules: Rules, i: &'a [u8]) -> BerResult<'a, u32> {
-    match rules {
-        Rules::Ber => parse_ber_u32(i),
-        Rules::Der => parse_der_u32(i),
-    }
-}
-
-/// What is answered where a list of numbers is wanted.
-fn numbers(alloc: Global, rules: Rules, tag: Tag, i: &[u8]) -> BerResult<'_, Vec<u32>> {
-    let parser = |input| number(rules, input);
-    match (rules, tag) {
-        (Rules::Ber, Tag::Sequence) => parse_ber_sequence_of_v(alloc, parser).parse(i),
-        (Rules::Ber, _) => parse_ber_set_of_v(alloc, parser).parse(i),
-        (Rules::Der, Tag::Sequence) => parse_der_sequence_of_v(alloc, parser).parse(i),
-        (Rules::Der, _) => parse_der_set_of_v(alloc, parser).parse(i),
-    }
-}
-
-/// By the rules, the list of INTEGERs is the whole input.
-fn expect_integers(
-    rt: &(impl Abort + AllocGlobal),
-    items: Items,
-    tag: Tag,
-    i: &[u8],
-) -> Result<(), Fail> {
-    expect_whole(rt, integers(rt.alloc(), items, tag, i).1)
-}
-
-/// A SEQUENCE's header, in front of two octets of content.
+/// A SEQUENCE's header, before two octets of content.
 fn sequence_header() -> Header<'static> {
     Header::new(Class::Universal, true, Tag::Sequence, Length::Definite(2))
 }
@@ -280,83 +252,113 @@ fn wants_memory_der_read_element_content(rt: HostRuntime) -> Result<(), Fail> {
 
 #[test]
 fn wants_memory_parse_ber_sequence_of(rt: HostRuntime) -> Result<(), Fail> {
-    expect_integers(&rt, Items::Ber, Tag::Sequence, INTEGERS)
+    expect_whole(
+        &rt,
+        parse_ber_sequence_of(rt.alloc(), integer_by_ber).parse(INTEGERS),
+    )
 }
 
 #[test]
 fn wants_memory_parse_ber_sequence_of_v(rt: HostRuntime) -> Result<(), Fail> {
     expect_numbers(
         &rt,
-        numbers(rt.alloc(), Rules::Ber, Tag::Sequence, INTEGERS),
+        parse_ber_sequence_of_v(rt.alloc(), number_by_ber).parse(INTEGERS),
     )
 }
 
 #[test]
 fn wants_memory_parse_ber_set_of(rt: HostRuntime) -> Result<(), Fail> {
-    expect_integers(&rt, Items::Ber, Tag::Set, INTEGER_SET)
+    expect_whole(
+        &rt,
+        parse_ber_set_of(rt.alloc(), integer_by_ber).parse(INTEGER_SET),
+    )
 }
 
 #[test]
 fn wants_memory_parse_ber_set_of_v(rt: HostRuntime) -> Result<(), Fail> {
-    expect_numbers(&rt, numbers(rt.alloc(), Rules::Ber, Tag::Set, INTEGER_SET))
+    expect_numbers(
+        &rt,
+        parse_ber_set_of_v(rt.alloc(), number_by_ber).parse(INTEGER_SET),
+    )
 }
 
 #[test]
 fn wants_memory_parse_ber_tagged_explicit(rt: HostRuntime) -> Result<(), Fail> {
-    expect_whole(&rt, explicit(rt.alloc(), Rules::Ber, Tag(0), 2, EXPLICIT).1)
+    expect_whole(
+        &rt,
+        parse_ber_tagged_explicit(rt.alloc(), Tag(0), integer_by_ber).parse(EXPLICIT),
+    )
 }
 
 #[test]
 fn wants_memory_parse_ber_optional(rt: HostRuntime) -> Result<(), Fail> {
-    expect_whole(&rt, optional(rt.alloc(), Rules::Ber, 2, b"\x02\x01\x05").1)
+    expect_whole(
+        &rt,
+        parse_ber_optional(rt.alloc(), integer_by_ber).parse(b"\x02\x01\x05"),
+    )
 }
 
 #[test]
 fn wants_memory_parse_ber_explicit_optional(rt: HostRuntime) -> Result<(), Fail> {
     expect_whole(
         &rt,
-        explicit_optional(rt.alloc(), Rules::Ber, Tag(0), 2, EXPLICIT).1,
+        parse_ber_explicit_optional(rt.alloc(), EXPLICIT, Tag(0), integer_by_ber),
     )
 }
 
 #[test]
 fn wants_memory_parse_der_sequence_of(rt: HostRuntime) -> Result<(), Fail> {
-    expect_integers(&rt, Items::Der, Tag::Sequence, INTEGERS)
+    expect_whole(
+        &rt,
+        parse_der_sequence_of(rt.alloc(), integer_by_der).parse(INTEGERS),
+    )
 }
 
 #[test]
 fn wants_memory_parse_der_sequence_of_v(rt: HostRuntime) -> Result<(), Fail> {
     expect_numbers(
         &rt,
-        numbers(rt.alloc(), Rules::Der, Tag::Sequence, INTEGERS),
+        parse_der_sequence_of_v(rt.alloc(), number_by_der).parse(INTEGERS),
     )
 }
 
 #[test]
 fn wants_memory_parse_der_set_of(rt: HostRuntime) -> Result<(), Fail> {
-    expect_integers(&rt, Items::Der, Tag::Set, INTEGER_SET)
+    expect_whole(
+        &rt,
+        parse_der_set_of(rt.alloc(), integer_by_der).parse(INTEGER_SET),
+    )
 }
 
 #[test]
 fn wants_memory_parse_der_set_of_v(rt: HostRuntime) -> Result<(), Fail> {
-    expect_numbers(&rt, numbers(rt.alloc(), Rules::Der, Tag::Set, INTEGER_SET))
+    expect_numbers(
+        &rt,
+        parse_der_set_of_v(rt.alloc(), number_by_der).parse(INTEGER_SET),
+    )
 }
 
 #[test]
 fn wants_memory_parse_der_tagged_explicit(rt: HostRuntime) -> Result<(), Fail> {
-    expect_whole(&rt, explicit(rt.alloc(), Rules::Der, Tag(0), 2, EXPLICIT).1)
+    expect_whole(
+        &rt,
+        parse_der_tagged_explicit(rt.alloc(), Tag(0), integer_by_der).parse(EXPLICIT),
+    )
 }
 
 #[test]
 fn wants_memory_parse_der_optional(rt: HostRuntime) -> Result<(), Fail> {
-    expect_whole(&rt, optional(rt.alloc(), Rules::Der, 2, b"\x02\x01\x05").1)
+    expect_whole(
+        &rt,
+        parse_der_optional(rt.alloc(), integer_by_der).parse(b"\x02\x01\x05"),
+    )
 }
 
 #[test]
 fn wants_memory_parse_der_explicit_optional(rt: HostRuntime) -> Result<(), Fail> {
     expect_whole(
         &rt,
-        explicit_optional(rt.alloc(), Rules::Der, Tag(0), 2, EXPLICIT).1,
+        parse_der_explicit_optional(rt.alloc(), EXPLICIT, Tag(0), integer_by_der),
     )
 }
 

@@ -1,13 +1,14 @@
 //! Calls that take no memory. These tests take none themselves, so they pass where each growth is
 //! refused: `tools/refused-growths` runs them so.
-use crate::tagged_rows::{Rules, implicit_at_once_by_ber, optional};
+use crate::kept::integer_by_ber;
 use der_parser::ber::Class::ContextSpecific;
 use der_parser::ber::Length::Definite;
 use der_parser::ber::{
     Any, BerObject, BerObjectContent, BitStringObject, Header, HeaderCount, Tag,
     ber_read_element_header, parse_ber_any, parse_ber_any_r, parse_ber_any_with_tag_r,
-    parse_ber_container, parse_ber_content, parse_ber_counted, parse_ber_octetstring,
-    parse_ber_recursive, parse_ber_sequence_defined_g, parse_ber_set_defined_g, parse_ber_slice,
+    parse_ber_container, parse_ber_content, parse_ber_counted, parse_ber_implicit,
+    parse_ber_octetstring, parse_ber_optional, parse_ber_recursive, parse_ber_sequence_defined_g,
+    parse_ber_set_defined_g, parse_ber_slice,
 };
 use der_parser::der::{
     der_read_element_content, der_read_element_header, parse_der_content, parse_der_counted,
@@ -104,7 +105,7 @@ fn no_memory_for_typed_readers(rt: HostRuntime) {
     }
 }
 
-/// What is answered is a string of these octets, with nothing behind it.
+/// What is answered is a string of these octets, after which nothing follows.
 fn expect_octets(rt: &impl Abort, given: &BerResult<'_>, octets: &[u8]) {
     assert!(rt; matches!(given, Ok((b"", object)) if is_octets(object, octets)));
 }
@@ -262,7 +263,10 @@ fn no_memory_for_a_slice(rt: HostRuntime) {
 #[test]
 fn no_memory_for_implicit_tags(rt: HostRuntime) {
     let element = b"\x82\x01\x05";
-    let given = implicit_at_once_by_ber(rt.alloc(), Tag(2), Tag::Integer, element).1;
+    let integer = parse_ber_content(rt.alloc(), Tag::Integer);
+    let given = parse_ber_implicit(element, Tag(2), |i, header, depth| {
+        integer.parse(i, header, depth)
+    });
     expect_element(&rt, element, given);
 }
 
@@ -273,7 +277,7 @@ fn expect_unread(rt: &impl Abort, given: &BerResult<'_>, input: &[u8]) {
 
 #[test]
 fn no_memory_for_an_object_that_is_absent(rt: HostRuntime) {
-    let given = optional(rt.alloc(), Rules::Ber, 2, b"\x05\x00").1;
+    let given = parse_ber_optional(rt.alloc(), integer_by_ber).parse(b"\x05\x00");
     expect_unread(&rt, &given, b"\x05\x00");
 }
 
