@@ -4,10 +4,10 @@
 
 mod changes;
 mod copies;
-mod damaged;
 mod elements;
 mod error;
+mod trial;
 
 pub use changes::changed;
-pub use damaged::{Outcome, Reader, damaged};
 pub use error::DamageError;
+pub use trial::{Outcome, Reader, damaged};
