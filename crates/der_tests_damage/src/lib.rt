@@ -8,6 +8,6 @@ mod elements;
 mod error;
 mod trial;
 
-pub use changes::changed;
+pub use changes::octets_of;
 pub use error::DamageError;
 pub use trial::{Outcome, Reader, damaged};

@@ -32,6 +32,17 @@ pub fn push_refused(text: &mut String, refused: &Refused<BerError>) -> Result<()
     }
 }
 
+/// Adds the words of what is returned in place of a value, and where.
+pub fn push_refused_at(
+    text: &mut String,
+    refused: &Refused<BerError>,
+    offset: usize,
+) -> Result<(), AllocError> {
+    push_refused(text, refused)?;
+    push_word(text, "at")?;
+    push_number(text, offset)
+}
+
 /// Adds the words of a refusal: `broken` and the rule of DER, or `refused`, its name and its parts.
 pub fn push_refusal(text: &mut String, refusal: &BerError) -> Result<(), AllocError> {
     if let BerError::DerConstraintFailed(constraint) = refusal {

@@ -1,5 +1,5 @@
 //! Certificates.
-use der_tests_words::{push_number, push_refused};
+use der_tests_words::{push_number, push_refused_at};
 use der_x509::{
     Certificate, Extensions, Name, Rule, StrictRefusal, read_certificate, read_strict_certificate,
 };
@@ -22,9 +22,7 @@ pub fn reason(alloc: Global, octets: &[u8]) -> Result<String, Fault> {
     match read_certificate(octets).err() {
         None => push_word(&mut text, "read")?,
         Some(refused) => {
-            push_refused(&mut text, &refused.refusal.reason)?;
-            push_word(&mut text, "at")?;
-            push_number(&mut text, refused.refusal.offset)?;
+            push_refused_at(&mut text, &refused.refusal.reason, refused.refusal.offset)?
         }
     }
     Ok(text)

@@ -18,11 +18,11 @@ use crate::extension_values::extension_value;
 use crate::extensions::extension;
 use crate::requests::{certificate_list, certification_request};
 use crate::times::{compared, contained};
+use der_tests_damage::octets_of;
 use std::alloc::Global;
 use std::io;
 use std::process::ExitCode;
 use test_tables::fault::Fault;
-use test_tables::octets::octets;
 use test_tables::run::{Calls, run};
 
 /// The readers of certificates, and of what goes with them.
@@ -30,32 +30,18 @@ struct Readers;
 
 impl Calls for Readers {
     fn answer(&self, alloc: Global, call: &str, input: &str) -> Result<String, Fault> {
-        match call.split_once(' ') {
-            Some((call, message)) => answer_of_changed(alloc, call, message, input),
-            None => answer_of_text(alloc, call, input),
+        if let Some(words) = call.strip_prefix("damaged ") {
+            return damaged_text(alloc, words, input);
         }
-    }
-}
-
-/// What a call with words behind it answers: octets that are changed, or what is damaged.
-fn answer_of_changed(alloc: Global, call: &str, words: &str, input: &str) -> Result<String, Fault> {
-    match words.strip_prefix("of ") {
-        Some(message) => {
-            let octets = der_tests_damage::changed(alloc, message, input)?;
-            answer_of_octets(alloc, call, &octets)
+        match call {
+            "is_before" => compared(alloc, input),
+            "contains" => contained(alloc, input),
+            "extension" => extension(alloc, input),
+            _ => {
+                let (call, octets) = octets_of(alloc, call, input)?;
+                answer_of_octets(alloc, call, &octets)
+            }
         }
-        None if call == "damaged" => damaged_text(alloc, words, input),
-        None => Err(Fault::NoSuchCall),
-    }
-}
-
-/// What the call of this name answers on an input of its own, or on octets.
-fn answer_of_text(alloc: Global, call: &str, input: &str) -> Result<String, Fault> {
-    match call {
-        "is_before" => compared(alloc, input),
-        "contains" => contained(alloc, input),
-        "extension" => extension(alloc, input),
-        _ => answer_of_octets(alloc, call, &octets(alloc, input)?),
     }
 }
 

@@ -2,7 +2,7 @@
 use der_base::error::{BerError, Err as Refused};
 use der_cursor::Cursor;
 use der_distinguished_name::{Attr, Attribute, Name, read_name_nodes};
-use der_tests_words::{push_number, push_refusal, push_refused, push_rest};
+use der_tests_words::{push_number, push_refusal, push_refused, push_refused_at, push_rest};
 use std::alloc::{AllocError, Global};
 use test_tables::fault::Fault;
 use test_tables::octets::{push_octets, push_word};
@@ -28,9 +28,7 @@ pub fn certificate_names(alloc: Global, octets: &[u8]) -> Result<String, Fault> 
     match names_reader::read_names(alloc, octets).err() {
         None => push_word(&mut text, "read")?,
         Some(refused) => {
-            push_refused(&mut text, &refused.refusal.reason)?;
-            push_word(&mut text, "at")?;
-            push_number(&mut text, refused.refusal.offset)?;
+            push_refused_at(&mut text, &refused.refusal.reason, refused.refusal.offset)?
         }
     }
     Ok(text)
