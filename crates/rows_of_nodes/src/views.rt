@@ -1,5 +1,5 @@
 //! Views of elements.
-use crate::words::numbers;
+use crate::words::{number, numbers};
 use der_base::error::BerError;
 use der_base::header::Class;
 use der_nodes::Element;
@@ -12,8 +12,8 @@ use test_tables::fault::Fault;
 /// To which depth elements are read.
 const DEPTH: usize = 50;
 
-/// What is seen of the elements that are read by BER or DER. Behind the rules stand the index of an element and a call:
-/// `BER 1 as_str`.
+/// What is seen of the elements that are read by BER or DER. Behind the rules stand the index of an element, or `root`,
+/// and a call: `BER 1 as_str`.
 pub fn view(alloc: Global, input: &[u8], words: &str) -> Result<String, Fault> {
     let (rules, words) = words.split_once(' ').ok_or(Fault::NoSuchCall)?;
     let read = match rules {
@@ -56,10 +56,11 @@ pub fn made_by_hand(alloc: Global, input: &[u8], words: &str) -> Result<String, 
 /// What a call answers at the element with an index.
 fn seen(alloc: Global, nodes: Nodes<'_, '_>, words: &str) -> Result<String, Fault> {
     let (index, call) = words.split_once(' ').ok_or(Fault::NoSuchCall)?;
-    let Ok(index) = index.parse::<usize>() else {
-        return Err(Fault::NoSuchCall);
+    let node = match index {
+        "root" => nodes.root(),
+        _ => nodes.get(number(index)?),
     };
-    match nodes.get(index) {
+    match node {
         Some(node) => value(alloc, node, call),
         None => Ok(format!(in alloc; "none")?),
     }
