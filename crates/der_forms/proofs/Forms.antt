@@ -11,7 +11,7 @@ use Rattle.der_laws.proofs.Leaves.NeverBoth.{never_both_ber}
 use Rattle.der_laws.proofs.Leaves.OneContent.{one_content}
 use Rattle.der_base.proofs.Leaves.Refusals.{first_refusal_once}
 use Rattle.der_base.proofs.Octets.Shortest.{IsOctet}
-use Rattle.der_der.specs.Inner.DerForms.{IsInForm}
+use Rattle.der_forms.specs.Forms.{IsInForm}
 
 pub small_power : (u : ℕ) → u ≤ 7 → 1 * 2 ^ u % 256 ≡ 2 ^ u
 small_power zero h = omega arith

@@ -1,8 +1,8 @@
 use Rattle.std.proofs.Common.{length, arith, ap}
 use Rattle.std.proofs.lemmas.Bool.Decides.{nat_tests}
 use Rattle.der_laws.proofs.Octets.LastBits.{unused_from_last, last_from_unused}
-use Rattle.der_der.proofs.Forms.{small_power}
-use Rattle.der_der.proofs.leaf.are_last_bits_zero.Goals as goal
+use Rattle.der_forms.proofs.Forms.{small_power}
+use Rattle.der_forms.proofs.content.are_last_bits_zero.Goals as goal
 
 pub returns-in-len1-up : goal.returns-in-len1-up
 returns-in-len1-up c =
