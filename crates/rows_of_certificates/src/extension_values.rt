@@ -14,18 +14,18 @@ use test_tables::octets::{push_octets, push_word};
 /// What the reader of this extension reads.
 pub fn extension_value(alloc: Global, call: &str, octets: &[u8]) -> Result<String, Fault> {
     let text = match call {
-        "basic_constraints" => basic_constraints(alloc, read_basic_constraints(octets))?,
-        "key_usage" => key_usage(alloc, read_key_usage(octets))?,
+        "basic_constraints" => basic_constraints(alloc, read_basic_constraints(octets)),
+        "key_usage" => key_usage(alloc, read_key_usage(octets)),
         "subject_key_identifier" => {
-            subject_key_identifier(alloc, read_subject_key_identifier(octets))?
+            subject_key_identifier(alloc, read_subject_key_identifier(octets))
         }
         "authority_key_identifier" => {
-            authority_key_identifier(alloc, read_authority_key_identifier(octets))?
+            authority_key_identifier(alloc, read_authority_key_identifier(octets))
         }
-        "name_constraints" => name_constraints(alloc, read_name_constraints(octets))?,
+        "name_constraints" => name_constraints(alloc, read_name_constraints(octets)),
         _ => return list(alloc, call, octets),
     };
-    Ok(text)
+    Ok(text?)
 }
 
 fn basic_constraints(

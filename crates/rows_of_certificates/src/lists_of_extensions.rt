@@ -17,16 +17,16 @@ const REASONS: usize = 9;
 /// What the reader of this list reads.
 pub fn list(alloc: Global, call: &str, octets: &[u8]) -> Result<String, Fault> {
     let text = match call {
-        "general_names" => general_names(alloc, read_general_names(octets))?,
-        "extended_key_usage" => counted(alloc, read_extended_key_usage(octets))?,
-        "information_access" => counted(alloc, read_information_access(octets))?,
-        "certificate_policies" => counted(alloc, read_certificate_policies(octets))?,
+        "general_names" => general_names(alloc, read_general_names(octets)),
+        "extended_key_usage" => counted(alloc, read_extended_key_usage(octets)),
+        "information_access" => counted(alloc, read_information_access(octets)),
+        "certificate_policies" => counted(alloc, read_certificate_policies(octets)),
         "crl_distribution_points" => {
-            distribution_points(alloc, read_crl_distribution_points(octets))?
+            distribution_points(alloc, read_crl_distribution_points(octets))
         }
         _ => return Err(Fault::NoSuchCall),
     };
-    Ok(text)
+    Ok(text?)
 }
 
 /// The number of the values.

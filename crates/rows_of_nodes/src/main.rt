@@ -27,9 +27,9 @@ use test_tables::octets::octets;
 use test_tables::run::{Calls, run};
 
 /// The calls on elements.
-struct Elements;
+struct ElementCalls;
 
-impl Calls for Elements {
+impl Calls for ElementCalls {
     fn answer(&self, alloc: Global, call: &str, input: &str) -> Result<String, Fault> {
         let (call, words) = call.split_once(' ').unwrap_or((call, ""));
         let octets = octets(alloc, input)?;
@@ -49,5 +49,5 @@ impl Calls for Elements {
 }
 
 fn main(rt: HostRuntime) -> io::Result<ExitCode> {
-    run(&rt, &Elements)
+    run(&rt, &ElementCalls)
 }

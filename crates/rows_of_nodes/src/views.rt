@@ -69,15 +69,15 @@ fn seen(alloc: Global, nodes: Nodes<'_, '_>, words: &str) -> Result<String, Faul
 /// What the call of this name answers, or the refusal.
 fn value(alloc: Global, node: Node<'_, '_>, call: &str) -> Result<String, Fault> {
     let text = match call {
-        "sizes" => sizes(alloc, node)?,
-        "as_bool" => shown(alloc, node.as_bool())?,
-        "as_str" => shown(alloc, node.as_str())?,
-        "as_i32" => shown(alloc, node.as_i32())?,
-        "as_u64" => shown(alloc, node.as_u64())?,
-        "items as_i64" => items(alloc, node)?,
+        "sizes" => sizes(alloc, node),
+        "as_bool" => shown(alloc, node.as_bool()),
+        "as_str" => shown(alloc, node.as_str()),
+        "as_i32" => shown(alloc, node.as_i32()),
+        "as_u64" => shown(alloc, node.as_u64()),
+        "items as_i64" => items(alloc, node),
         _ => return Err(Fault::NoSuchCall),
     };
-    Ok(text)
+    Ok(text?)
 }
 
 /// How many octets and content octets an element has, how many items, and how many elements.
