@@ -5,7 +5,7 @@ use std::alloc::Global;
 
 /// What is done to an element.
 #[derive(Clone, Copy, Debug, PartialEq)]
-pub enum Damage {
+pub(crate) enum Damage {
     /// Its class is another: Application for Universal, ContextSpecific for Application, and so on.
     Class,
     /// Its constructed bit is turned.
@@ -14,44 +14,26 @@ pub enum Damage {
     LeftOver,
 }
 
-/// A copy of a message with one element damaged.
-#[derive(Debug, Drop)]
-pub(crate) struct Copy {
-    /// Where the element is. All places before the end of its content are those of the message.
-    pub(crate) element: Element,
-    pub(crate) damage: Damage,
-    /// The offsets of the elements around it, from the outermost one to the element itself.
-    pub(crate) around: Vec<usize>,
-    pub(crate) octets: Vec<u8>,
-}
-
-impl Copy {
-    /// A copy of the message whose elements are these, with this one damaged.
-    pub(crate) fn new(
-        alloc: Global,
-        message: &[u8],
-        elements: &[Element],
-        element: Element,
-        damage: Damage,
-    ) -> Result<Copy, DamageError> {
-        let mut octets = Vec::new(alloc);
-        octets.extend_from_slice(message)?;
-        match damage {
-            Damage::Class => change(&mut octets, element.offset, OctetChange::Class)?,
-            Damage::Constructed => change(&mut octets, element.offset, OctetChange::Constructed)?,
-            Damage::LeftOver => {
-                lengthen_all(&mut octets, elements, element)?;
-                octets = with_zero(alloc, &octets, element.end)?;
-            }
+/// A copy of the message whose elements are these, with this one damaged. All offsets up to the end of the content of
+/// the element are those of the message.
+pub(crate) fn damaged_copy(
+    alloc: Global,
+    message: &[u8],
+    elements: &[Element],
+    element: Element,
+    damage: Damage,
+) -> Result<Vec<u8>, DamageError> {
+    let mut octets = Vec::new(alloc);
+    octets.extend_from_slice(message)?;
+    match damage {
+        Damage::Class => change(&mut octets, element.offset, OctetChange::Class)?,
+        Damage::Constructed => change(&mut octets, element.offset, OctetChange::Constructed)?,
+        Damage::LeftOver => {
+            lengthen_all(&mut octets, elements, element)?;
+            octets = with_zero(alloc, &octets, element.end)?;
         }
-        let around = offsets_around(alloc, elements, element)?;
-        Ok(Copy {
-            element,
-            damage,
-            around,
-            octets,
-        })
     }
+    Ok(octets)
 }
 
 /// A change of one octet.
@@ -115,19 +97,4 @@ fn with_zero(alloc: Global, octets: &[u8], place: usize) -> Result<Vec<u8>, Dama
     longer.push(0)?;
     longer.extend_from_slice(after)?;
     Ok(longer)
-}
-
-/// The offsets of the elements around this one, and its own.
-fn offsets_around(
-    alloc: Global,
-    elements: &[Element],
-    element: Element,
-) -> Result<Vec<usize>, DamageError> {
-    let mut offsets = Vec::new(alloc);
-    for outer in elements {
-        if outer.holds(&element) {
-            offsets.push(outer.offset)?;
-        }
-    }
-    Ok(offsets)
 }

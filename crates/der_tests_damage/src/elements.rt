@@ -1,6 +1,6 @@
 //! The elements of a message, each before those inside it.
 use crate::error::DamageError;
-use der_parser::ber::{Length, Tag, ber_read_element_header};
+use der_base::header::{Length, Tag, ber_read_element_header};
 use std::alloc::Global;
 
 /// Where an element of a message is.

@@ -1,6 +1,7 @@
 //! Why a message can't be damaged.
-use der_parser::error::{BerError, Err as Refused};
+use der_base::error::{BerError, Err as Refused};
 use std::alloc::{AllocError, AllocFailed};
+use test_tables::fault::Fault;
 
 /// Why a message can't be damaged.
 #[derive(Debug, Drop)]
@@ -29,5 +30,14 @@ impl From<AllocError> for DamageError {
 impl<T: Drop> From<AllocFailed<T>> for DamageError {
     fn from(_e: AllocFailed<T>) -> DamageError {
         DamageError::OutOfMemory
+    }
+}
+
+impl From<DamageError> for Fault {
+    fn from(e: DamageError) -> Fault {
+        match e {
+            DamageError::OutOfMemory => Fault::OutOfMemory,
+            _ => Fault::Input,
+        }
     }
 }

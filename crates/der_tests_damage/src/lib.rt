@@ -1,12 +1,13 @@
-//! Damaged copies of a valid message, for a systematic test of a reader: three copies of each element.
-//! The reader refuses each copy at the place of the damage, or a table says why it reads it.
+//! Changed copies of a valid message, for rows that say what a reader does with them: copies with octets that a row
+//! changes, and damaged copies of each element, for a systematic test of a reader.
 #![tactic(auto)]
 
-mod case;
+mod changes;
 mod copies;
 mod elements;
 mod error;
+mod trial;
 
-pub use case::{Case, Finding, Outcome, Part, Pass, Reader};
-pub use copies::Damage;
+pub use changes::octets_of;
 pub use error::DamageError;
+pub use trial::{Outcome, Reader, damaged};

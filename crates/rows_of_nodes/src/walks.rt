@@ -1,0 +1,91 @@
+//! Walks over elements.
+use der_tests_words::{push_number, push_refusal};
+use der_walk::{Cause, Element, Refusal, Rules, Walk};
+use std::alloc::{AllocError, Global};
+use test_tables::fault::Fault;
+use test_tables::octets::push_word;
+
+/// The offsets of the elements that a walk visits, with the word `breaks` at one that breaks its type, and why the walk
+/// ends before the last one. Behind the call stand the rules, and the word `keeping` where values are kept that break
+/// their type.
+pub fn walk(alloc: Global, input: &[u8], words: &str) -> Result<String, Fault> {
+    let mut walk = match words {
+        "BER" => Walk::new(input, Rules::Ber, true),
+        "BER keeping" => Walk::new(input, Rules::Ber, true).keeping_values(),
+        "DER keeping" => Walk::new(input, Rules::Der, true).keeping_values(),
+        _ => return Err(Fault::NoSuchCall),
+    };
+    let mut text = String::new(alloc);
+    // Each element has two octets or more.
+    for _ in input {
+        if !push_visited(&mut text, walk.next_element())? {
+            break;
+        }
+    }
+    Ok(text)
+}
+
+/// Adds what was visited, and whether the walk goes on.
+fn push_visited(
+    text: &mut String,
+    visited: Result<Option<Element<'_>>, Refusal>,
+) -> Result<bool, AllocError> {
+    match visited {
+        Ok(Some(element)) => push_element(text, &element)?,
+        Ok(None) => {
+            push_word(text, "end")?;
+            return Ok(false);
+        }
+        Err(refusal) => {
+            push_cause(text, refusal.cause)?;
+            push_word(text, "at")?;
+            push_number(text, refusal.offset)?;
+            return Ok(false);
+        }
+    }
+    Ok(true)
+}
+
+fn push_element(text: &mut String, element: &Element<'_>) -> Result<(), AllocError> {
+    push_number(text, element.offset)?;
+    if element.breaks_its_type {
+        push_word(text, "breaks")?;
+    }
+    Ok(())
+}
+
+/// Adds the name of a cause and its parts, or the refusal of a value.
+fn push_cause(text: &mut String, cause: Cause) -> Result<(), AllocError> {
+    match cause {
+        Cause::Value(e) => push_refusal(text, &e),
+        Cause::Header(e) => {
+            push_word(text, "Header")?;
+            push_refusal(text, &e)
+        }
+        Cause::Cut(count) => {
+            push_word(text, "Cut")?;
+            push_number(text, count)
+        }
+        Cause::PastEnd(count) => {
+            push_word(text, "PastEnd")?;
+            push_number(text, count)
+        }
+        _ => push_word(text, name_of(cause)),
+    }
+}
+
+/// The name of a cause without parts.
+fn name_of(cause: Cause) -> &'static str {
+    match cause {
+        Cause::NoEndMarker => "NoEndMarker",
+        Cause::EndMarker => "EndMarker",
+        Cause::PaddedArc => "PaddedArc",
+        Cause::Constructed => "Constructed",
+        Cause::ConstructedString => "ConstructedString",
+        Cause::OtherPart => "OtherPart",
+        Cause::UnusedBitsInside => "UnusedBitsInside",
+        Cause::NotDer => "NotDer",
+        Cause::TooDeep => "TooDeep",
+        Cause::Cut(_) | Cause::PastEnd(_) | Cause::Header(_) | Cause::Value(_) => "",
+    }
+}
