@@ -11,7 +11,7 @@ set -- "$@" --extern "itoa=$kit/rlibs/itoa.rlib"
 for library in der_base der_nodes der_check der_walk der_canon; do
     set -- "$@" --extern "$library=$root/crates/$library/out/rlib/$library.rlib"
 done
-for library in der_base der_laws der_object der_ber der_der der_values der_nodes der_check der_walk der_canon; do
+for library in der_base der_laws der_forms der_values der_nodes der_check der_walk der_canon; do
     if [ ! -e "$root/crates/$library/out/rlib/$library.rlib" ]; then
         echo "archive.sh: $library isn't built: run 'rt ci', or 'rt lib' in crates/der_canon" >&2
         exit 1

@@ -37,6 +37,7 @@ use Rattle.der_object.proofs.HeaderFacts.{sequence_each, set_each, sequence_form
 use Rattle.der_object.proofs.HeaderFacts.{leaf_keeps, each_push}
 use Rattle.der_object.proofs.Trees.{sequence_tree, set_tree}
 use Rattle.der_base.specs.Stable.{BerIsCut}
+use Rattle.der_forms.proofs.BerReadings.{any_cut}
 use Rattle.der_ber.specs.BerReading.{ReadsBer, NeedsMemory, ContentRefuses}
 use Rattle.der_ber.specs.Inner.ElementParts.{AreItems, IsContentOf, BehindRefuses, BehindNeedsMemory}
 
@@ -137,14 +138,10 @@ object_read i behind w rest r h o d q f deep (er, eh, k) =
     subst (ReadsBer d i o) (sym er) (subst (λ y. ReadsBer d i (record { header = y; content = o.content }) rest)
     (sym eh) (element_read i behind w rest h o.content d q f deep k))
 
--- refusals and cuts of an element, at a depth of at least 1
+-- refusals of an element, at a depth of at least 1
 pub any_refused : (d : ℕ) (i : List ℕ) (e : Refusal) → 1 ≤ d → AnyRefuses i e → ShowsFault d i e
 any_refused zero i e h r = absurd (omega arith)
 any_refused (suc d) i e h r = any_shows d i e r
-
-pub any_cut : (d : ℕ) (i : List ℕ) (n : ℕ) → 1 ≤ d → AnyLacks i n → BerIsCut d i n
-any_cut zero i n h l = absurd (omega arith)
-any_cut (suc d) i n h l = (l.0, l.1, λ e r. cut_shows_nothing d i n e l r)
 
 -- a refusal of the content
 pub content_refused : (d : ℕ) (i rest w : List ℕ) (c : Class) (p : Bool) (t : ℕ) (e : Refusal) → 1 ≤ d

@@ -8,24 +8,16 @@ use Rattle.der_base.proofs.Framing.Cuts.{lacks_same}
 use Rattle.der_base.proofs.Framing.FramingLaws.{begins_not_cut}
 use Rattle.der_base.proofs.Answers.Exactness.{ShowsOne}
 use Rattle.der_base.specs.Fault.{ShowsFault}
+use Rattle.der_forms.proofs.BerReadings.{spelled_same, spelled_not_cut, cut_same}
 use Rattle.der_object.specs.HeaderFacts.{form_of}
 use Rattle.der_object.specs.Readings.{value_of}
 use Rattle.der_base.specs.Stable.{BerIsCut}
 use Rattle.der_ber.specs.BerReading.{FramingNeedsMemory, NeedsMemory, ReadsBer}
 
-pub spelled_not_cut : (d : ℕ) (i b rest : List ℕ) (o : Node) (n : ℕ) → i ≡ b ++ rest → BerSpells b o d framing_budget → BerIsCut d i n → ⊥
-spelled_not_cut d i b rest o n q s k = faults.spelled_not_cut i b rest o d s q k.0
-
-pub cut_same : (d : ℕ) (i : List ℕ) (n n' : ℕ) → BerIsCut d i n → BerIsCut d i n' → n ≡ n'
-cut_same d i n n' h h' = lacks_same h.1 h'.1 refl
-
 -- a cut input is no whole list: it wants memory for what framing keeps alone
 pub cut_needs : (d : ℕ) (i : List ℕ) (n : ℕ) → BerIsCut d i n → NeedsMemory d i → FramingNeedsMemory d i
 cut_needs d i n k (inl (two, (t, (w, rest, list, some, b)))) = absurd (begins_not_cut i framing_budget Universal true t w rest b k.0)
 cut_needs d i n k (inr m) = m
-
-pub spelled_same : (d : ℕ) (i b b' rest rest' : List ℕ) (o o' : Node) → i ≡ b ++ rest → BerSpells b o d framing_budget → i ≡ b' ++ rest' → BerSpells b' o' d framing_budget → (o ≡ o') × (rest ≡ rest')
-spelled_same d i b b' rest rest' o o' q s q' s' = let z = faults.spelling_same b b' rest rest' o o' d d s s' (sym q ∙ q') in (z.1, z.2)
 
 -- of an object, a refusal and a cut, an input shows one at most
 pub ber_shows_one : (d : ℕ) (i : List ℕ) → ShowsOne value_of (λ x. ReadsBer d i x.1 x.0.now) (λ v. BeginsWithBer d i v.0 v.1) (ShowsFault d i) (BerIsCut d i)

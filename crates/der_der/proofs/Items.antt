@@ -33,31 +33,10 @@ use Rattle.der_object.specs.View.{content_tree, trees}
 use Rattle.der_object.proofs.Joins.{der_joins_push}
 use Rattle.der_object.proofs.HeaderFacts.{sequence_each, set_each, leaf_each, leaf_keeps, each_push}
 use Rattle.der_object.proofs.Trees.{sequence_tree, set_tree}
-use Rattle.der_der.specs.DerReading.{ReadsDer, IsDerContentOf, BeginsWithItems, ContentRefuses}
+use Rattle.der_forms.specs.Contents.{IsDerContentOf}
+use Rattle.der_forms.proofs.Contents.{joins_encoded, leaf_height, leaf_valid}
+use Rattle.der_der.specs.DerReading.{ReadsDer, BeginsWithItems, ContentRefuses}
 use Rattle.der_der.specs.Inner.DerItems.{AreItems, IsContentOf}
-
-pub leaf_valid : (c : Class) (p : Bool) (t : ℕ) (x : Content) → c ≡ Universal → p ≡ false → IsDerLeaf t x → IsDerContent c p t x
-leaf_valid c p t end_of_content u h k = inl (u, h, k)
-leaf_valid c p t (boolean v) u h k = inl (u, h, k)
-leaf_valid c p t (integer v) u h k = inl (u, h, k)
-leaf_valid c p t (bit_string m v) u h k = inl (u, h, k)
-leaf_valid c p t (string m v) u h k = inl (u, h, k)
-leaf_valid c p t null u h k = inl (u, h, k)
-leaf_valid c p t (enumerated n) u h k = inl (u, h, k)
-leaf_valid c p t (object_identifier q v) u h k = inl (u, h, k)
-leaf_valid c p t (relative_oid q v) u h k = inl (u, h, k)
-leaf_valid c p t (time m v) u h k = inl (u, h, k)
-leaf_valid c p t (sequence l) u h k = absurd k.0
-leaf_valid c p t (set l) u h k = absurd k.0
-leaf_valid c p t absent u h k = absurd k.0
-leaf_valid c p t (present o) u h k = absurd k.0
-leaf_valid c p t (tagged q m o) u h k = absurd k.0
-leaf_valid c p t (unknown q m n v) u h k = absurd k.0
-
-pub leaf_height : (t : ℕ) (x : Content) → IsDerLeaf t x → content_height x ≡ 1
-leaf_height t (sequence l) k = absurd k.0
-leaf_height t (set l) k = absurd k.0
-leaf_height t _ k = refl
 
 -- the items in front of rest
 pub record Read (w rest : List ℕ) (os : List BerObject) (d : ℕ) : Type 0 where
@@ -80,22 +59,6 @@ read_more w rest after os o d h k = record {
 pub read_all : (w rest : List ℕ) (os : List BerObject) (d : ℕ) → Read w rest os d → length rest ≡ 0 → AreItems w os d
 read_all w [] os d h z = record { joins = subst (λ v. DerJoins v (trees os) d) (sym (h.parts ∙ append-nil h.read)) h.joins; headers = h.headers }
 read_all w (b ∷ rest) os d h z = absurd (omega arith)
-
--- joined items are the encodings of a valid list
-pub record Encoded (w : List ℕ) (l : Nodes) (d : ℕ) : Type 0 where
-  pub octets : w ≡ encodings l
-  pub valid : AreDerValid l
-  pub depth : list_height l ≤ d
-
-pub joins_encoded : (l : Nodes) (w : List ℕ) (d : ℕ) → DerJoins w l d → Encoded w l d
-joins_encoded no_nodes w d j = record { octets = j; valid = tt; depth = omega arith }
-joins_encoded (nodes o l) w d (b, rest, e, h, j) =
-    let k = joins_encoded l rest d j in
-    record {
-      octets = e ∙ ap (λ v. v ++ rest) h.encoded ∙ ap (λ v. encoding o ++ v) k.octets;
-      valid = (h.valid, k.valid);
-      depth = omega (arith, h.depth, k.depth);
-    }
 
 pub sequence_content : (w : List ℕ) (h : Header) (v : Vec BerObject Global) (d : ℕ) → class_of h ≡ Universal → is_constructed h ≡ true → number_of h ≡ 16 → 1 ≤ d
     → AreItems w v.items (d - 1) → IsContentOf w h (Sequence v) d
@@ -158,35 +121,14 @@ content_refused (suc d) i rest w r c p t n e h b s o z (u, m, q) =
     let k : suc d - 1 ≡ d = omega arith in
     behind_shows d i rest c p t n e b (inr (s, u, m, w, r, o, z, rw k at q))
 
-pub universal_or_not : (c : Class) → (c ≡ Universal) ⊎ (c ≢ Universal)
-universal_or_not Universal = inl refl
-universal_or_not Application = inr (λ e. cc)
-universal_or_not ContextSpecific = inr (λ e. cc)
-universal_or_not Private = inr (λ e. cc)
-
--- refusals and cuts of a header, at a depth of at least 1
+-- refusals of a header, at a depth of at least 1
 pub header_refused : (d : ℕ) (i : List ℕ) (e : Refusal) → 1 ≤ d → DerHeaderRefuses i e → DerShowsFault d i e
 header_refused zero i e h r = absurd (omega arith)
 header_refused (suc d) i e h r = header_shows d i e r
 
-pub header_cut : (d : ℕ) (i : List ℕ) (n : ℕ) → 1 ≤ d → DerHeaderLacks i n → DerIsCut d i n
-header_cut zero i n h l = absurd (omega arith)
-header_cut (suc d) i n h l = let q = der_header_cut i n l in (q.0, q.1, λ e r. header_cut_shows_nothing d i n e l r)
-
 pub size_refused : (d : ℕ) (i rest : List ℕ) (c : Class) (p : Bool) (t n : ℕ) → 1 ≤ d → BeginsWithDerHeader i c p t n rest → max_object_size < n → DerShowsFault d i invalid_length
 size_refused zero i rest c p t n h b s = absurd (omega arith)
 size_refused (suc d) i rest c p t n h b s = size_shows d i rest c p t n b s
-
-pub content_cut : (d : ℕ) (i rest : List ℕ) (c : Class) (p : Bool) (t m n : ℕ) → 1 ≤ d → BeginsWithDerHeader i c p t m rest → m ≤ max_object_size → length rest < m
-    → (c ≡ Universal → n ≡ m) → (c ≢ Universal → length rest + n ≡ m) → DerIsCut d i n
-content_cut zero i rest c p t m n h b s l u o = absurd (omega arith)
-content_cut (suc d) i rest c p t m n h b s l u o =
-    let q = der_content_cut i rest c p t m b l in
-    (q.0, lacks (universal_or_not c), λ e r. content_cut_shows_nothing d i rest c p t m e b l s r)
-  where
-    lacks : (c ≡ Universal) ⊎ (c ≢ Universal) → DerLacks i n
-    lacks (inl k) = rw (u k) ((der_content_cut i rest c p t m b l).1.0 k)
-    lacks (inr k) = (der_content_cut i rest c p t m b l).1.1 k n (o k)
 
 pub content_memory : (d : ℕ) (i rest w r : List ℕ) (c : Class) (p : Bool) (t n : ℕ) → BeginsWithDerHeader i c p t n rest → rest ≡ w ++ r → length w ≡ n
     → (2 ≤ d) × (c ≡ Universal) × (p ≡ true) × IsTrue (is_list t) × (w ≢ []) → (2 ≤ d) × BeginsWithItems i
@@ -194,18 +136,3 @@ content_memory d i rest w r c p t n b o z (deep, u, q, k, some) = (deep, (t, w, 
   where
     begins : BeginsWithDerHeader i Universal true t (length w) (w ++ r)
     begins = rw (z, ← o, ← u, ← q) b
-
-pub length_octets : (n : ℕ) → 0 < length (shortest_length n)
-unfolding shortest_length
-length_octets n = some_octets (nat_lt n 128)
-  where
-    some_octets : (b : Bool) → 0 < length (if b then n ∷ [] else (128 + length (octets n)) ∷ octets n)
-    some_octets true = omega arith
-    some_octets false = omega arith
-
--- a header takes two octets at least
-pub header_shorter : (i rest : List ℕ) (c : Class) (p : Bool) (t n : ℕ) → BeginsWithDerHeader i c p t n rest → 2 + length rest ≤ length i
-header_shorter i rest c p t n b =
-    let a = identifier c p t in
-    let s = shortest_length n in
-    omega (arith, ap length b.octets, length-append (a ++ s) rest, length-append a s, identifier_octets c p t, length_octets n)

@@ -1,4 +1,3 @@
 pub mod Counts
-pub mod Forms
 pub mod Items
 pub mod ReadingLaws

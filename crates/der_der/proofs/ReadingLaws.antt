@@ -15,14 +15,9 @@ use Rattle.der_laws.proofs.Spellings.DerWithinBer.{der_spelling_same, der_spelle
 use Rattle.der_laws.proofs.Spellings.DerFaults.{spelled_shows_nothing, shows_one}
 use Rattle.der_base.proofs.Answers.Exactness.{ShowsOne}
 use Rattle.der_base.specs.Fault.{DerShowsFault}
+use Rattle.der_forms.proofs.DerReadings.{spelled_same, spelled_not_cut, cut_same}
 use Rattle.der_object.specs.Readings.{value_of}
 use Rattle.der_der.specs.DerReading.{NeedsMemory, ReadsDer}
-
-pub spelled_not_cut : (d : ℕ) (i b rest : List ℕ) (o : Node) (n : ℕ) → i ≡ b ++ rest → DerSpells b o d → DerIsCut d i n → ⊥
-spelled_not_cut d i b rest o n q s k = der_spelled_not_cut i b rest o d s q k.0
-
-pub cut_same : (d : ℕ) (i : List ℕ) (n n' : ℕ) → DerIsCut d i n → DerIsCut d i n' → n ≡ n'
-cut_same d i n n' h h' = der_lacks_same i n n' h.1 h'.1
 
 -- an element whose content octets are all there is not cut short
 whole_not_cut : (i : List ℕ) (c : Class) (p : Bool) (t : ℕ) (w rest : List ℕ)
@@ -36,9 +31,6 @@ whole_not_cut i c p t w rest b k =
 -- an input that is cut short begins with no whole list, so it wants no memory
 pub cut_needs_none : (d : ℕ) (i : List ℕ) (n : ℕ) → DerIsCut d i n → NeedsMemory d i → ⊥
 cut_needs_none d i n k (two, (t, w, rest, list, some, b)) = whole_not_cut i Universal true t w rest b k.0
-
-pub spelled_same : (d : ℕ) (i b b' rest rest' : List ℕ) (o o' : Node) → i ≡ b ++ rest → DerSpells b o d → i ≡ b' ++ rest' → DerSpells b' o' d → (o ≡ o') × (rest ≡ rest')
-spelled_same d i b b' rest rest' o o' q s q' s' = let z = der_spelling_same b b' rest rest' o o' d d s s' (sym q ∙ q') in (z.1, z.2)
 
 -- of an object, a refusal and a cut, an input shows one at most
 pub der_shows_one : (d : ℕ) (i : List ℕ) → ShowsOne value_of (λ x. ReadsDer d i x.1 x.0.now) (λ v. BeginsWithDer d i v.0 v.1) (DerShowsFault d i) (DerIsCut d i)

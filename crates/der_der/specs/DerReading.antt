@@ -2,15 +2,14 @@
 use Rattle.std.specs.Prelude.{◌≡◌, ◌≢◌, ℕ, ◌-◌, ◌≤◌, Bool, true, IsTrue, List, [], ◌++◌, length}
 use Rattle.der_base.specs.declared.header.Class.{Class}
 use Rattle.der_base.specs.declared.header.Class.TheVariants.{Universal}
-use Rattle.der_base.specs.Encoding.{content_octets}
 use Rattle.der_base.specs.Exactly.{AnswersExactly}
 use Rattle.der_base.specs.Fault.{DerShowsFault, DerShowsInside}
 use Rattle.der_base.specs.Headers.{BeginsWithDerHeader}
 use Rattle.der_base.specs.Leaf.{is_list, is_mapped}
 use Rattle.der_base.specs.Refusal.{Refusal}
-use Rattle.der_base.specs.Spelling.{BeginsWithDer, DerSpells, IsDerContent}
+use Rattle.der_base.specs.Spelling.{BeginsWithDer, DerSpells}
 use Rattle.der_base.specs.Stable.{DerIsCut, AnswerStays}
-use Rattle.der_base.specs.Tree.{Content, content_height}
+pub use Rattle.der_forms.specs.Contents.{IsDerContentOf}
 use Rattle.der_object.specs.declared.object.BerObject.{BerObject}
 use Rattle.der_object.specs.HeaderFacts.{EachHasDerHeader}
 use Rattle.der_object.specs.Readings.{Answer, value_of}
@@ -36,12 +35,6 @@ NeedsMemory d i = (2 ≤ d) × BeginsWithItems i
 -- content octets behind a header of this class, bit and number show the refusal, to a depth of at least 1
 abbrev pub ContentRefuses : Class → Bool → ℕ → List ℕ → ℕ → Refusal → Type 0
 ContentRefuses c p t w d e = (c ≡ Universal) × IsTrue (is_mapped t) × DerShowsInside (d - 1) p t w e
-
--- the octets w are the DER content octets of x in an element of this class, bit and number, to depth d
-pub record IsDerContentOf (w : List ℕ) (c : Class) (p : Bool) (t : ℕ) (x : Content) (d : ℕ) : Type 0 where
-  pub octets : w ≡ content_octets x
-  pub valid : IsDerContent c p t x
-  pub depth : content_height x ≤ d
 
 -- the full reader answers exactly what i shows to depth d
 abbrev pub AnswersDer : ℕ → List ℕ → Answer → Type 0

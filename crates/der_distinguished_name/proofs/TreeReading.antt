@@ -8,7 +8,7 @@ use Rattle.der_base.specs.Stable.{DerIsCut}
 use Rattle.der_base.specs.Tree.{Node, Nodes, no_nodes, nodes}
 use Rattle.der_base.proofs.Answers.Exactness.{ShowsOne}
 use Rattle.der_laws.proofs.Spellings.DerFaults.{spelled_shows_nothing, shows_one}
-use Rattle.der_der.proofs.ReadingLaws.{spelled_same, spelled_not_cut, cut_same}
+use Rattle.der_forms.proofs.DerReadings.{spelled_same, spelled_not_cut, cut_same}
 use Rattle.der_nodes.specs.declared.element.Element.{Element}
 use Rattle.der_nodes.specs.NodesReading.{ListsDerNodes}
 use Rattle.der_nodes.specs.Places.{placed, overlay}

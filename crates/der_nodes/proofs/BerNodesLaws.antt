@@ -11,7 +11,7 @@ use Rattle.der_base.specs.Listing.{object_count}
 use Rattle.der_base.specs.Stable.{BerIsCut}
 use Rattle.der_laws.proofs.Spellings.BerFaults as faults
 use Rattle.der_laws.proofs.Spellings.StableAnswers.{ber_fault_stays, ber_spelling_stays}
-use Rattle.der_ber.proofs.ReadingLaws.{spelled_same, spelled_not_cut, cut_same}
+use Rattle.der_forms.proofs.BerReadings.{spelled_same, spelled_not_cut, cut_same}
 use Rattle.der_nodes.specs.NodesReading.{BeginsWithBerObjects, IsStableBerNodes, counted_value}
 
 pub ber_nodes_show_one : (d : ℕ) (i : List ℕ) → ShowsOne counted_value (λ x. BeginsWithBerObjects d i (counted_value x)) (BeginsWithBerObjects d i) (ShowsFault d i) (BerIsCut d i)

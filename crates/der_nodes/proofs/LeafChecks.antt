@@ -8,8 +8,8 @@ use Rattle.der_base.specs.Text.{is_text_type, IsTextOf}
 use Rattle.der_base.specs.Refusal.{refusal}
 use Rattle.der_base.specs.Tree.{Content, end_of_content, boolean, integer, bit_string, string, null, object_identifier, relative_oid}
 use Rattle.der_base.proofs.Octets.Shortest.{IsOctet}
-use Rattle.der_der.specs.Inner.DerForms.{IsInForm}
-use Rattle.der_der.proofs.Forms.{form_read, form_refused}
+use Rattle.der_forms.specs.Forms.{IsInForm}
+use Rattle.der_forms.proofs.Forms.{form_read, form_refused}
 use Rattle.der_nodes.specs.Inner.{IsDerLeafOf, ChecksLeaf}
 
 -- by BER, the octets are a content of the type

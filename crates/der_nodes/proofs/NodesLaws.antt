@@ -11,7 +11,7 @@ use Rattle.der_base.specs.Listing.{object_count}
 use Rattle.der_base.specs.Stable.{DerIsCut}
 use Rattle.der_laws.proofs.Spellings.DerFaults.{spelled_shows_nothing, shows_one}
 use Rattle.der_laws.proofs.Spellings.StableAnswers.{der_fault_stays, der_spelling_stays}
-use Rattle.der_der.proofs.ReadingLaws.{spelled_same, spelled_not_cut, cut_same}
+use Rattle.der_forms.proofs.DerReadings.{spelled_same, spelled_not_cut, cut_same}
 use Rattle.der_nodes.specs.NodesReading.{BeginsWithDerObjects, IsStableDerNodes, counted_value}
 
 pub der_nodes_show_one : (d : ℕ) (i : List ℕ) → ShowsOne counted_value (λ x. BeginsWithDerObjects d i (counted_value x)) (BeginsWithDerObjects d i) (DerShowsFault d i) (DerIsCut d i)

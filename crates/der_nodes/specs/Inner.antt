@@ -12,7 +12,7 @@ use Rattle.der_base.specs.Refusal.{refusal}
 use Rattle.der_base.specs.Listing.{object_count, content_count, item_count}
 use Rattle.der_base.specs.Spelling.{DerSpells}
 use Rattle.der_base.specs.Tree.{Node, Content, Nodes}
-use Rattle.der_der.specs.DerReading.{IsDerContentOf}
+use Rattle.der_forms.specs.Contents.{IsDerContentOf}
 use Rattle.der_nodes.specs.declared.element.Element.{Element}
 use Rattle.der_nodes.specs.Places.{placed, placed_content, placed_items, overlay}
 

@@ -11,7 +11,7 @@ use der_base::header::Tag;
 use der_base::integer::read_u64;
 use der_base::text::{is_utf16, read_text};
 use der_base::time::{read_der_time, read_time};
-use der_der::leaf::check_form;
+use der_forms::check_form;
 
 /// Checks the content octets of a universal type other than SEQUENCE and SET, which is primitive by
 /// DER.

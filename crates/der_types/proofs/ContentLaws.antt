@@ -33,7 +33,8 @@ use Rattle.der_object.specs.Readings.{content_value_of}
 use Rattle.der_object.specs.View.{tree}
 use Rattle.der_object.proofs.TypedLaws.{shows_read}
 use Rattle.der_ber.proofs.Items as ber_items
-use Rattle.der_der.specs.DerReading.{IsDerContentOf}
+use Rattle.der_forms.specs.Contents.{IsDerContentOf}
+use Rattle.der_forms.proofs.DerReadings.{universal_or_not}
 use Rattle.der_der.proofs.Items as der_items
 use Rattle.der_types.specs.TypedReading.{FramesContent, FrameRefuses, FrameLacks, IsContentBy, ContentRefusesBy, SpellsContent, ReadingRefuses, ReadingNeedsMemory, FramingNeedsMemory}
 use Rattle.der_types.specs.TypedReading.{ReadsContentAs, ReadsContentOf, inner_value_of, length_of_octets, ReadsObjectOf, SpellsObjectOf, ObjectOfRefuses}
@@ -83,7 +84,7 @@ frame_refused_not_lacking Ber c Indefinite p d i e n (inr (inr (h, b, r))) (a, h
 frame_refused_not_lacking Der c Indefinite p d i e n q k = not_ber k.0
 
 frame_lacks_same : (rules : Rules) (c : Class) (l : Length) (p : Bool) (d : ℕ) (i : List ℕ) (n n' : ℕ) → FrameLacks rules c l p d i n → FrameLacks rules c l p d i n' → n ≡ n'
-frame_lacks_same rules c (Definite m) p d i n n' (h, s, u, o) (h', s', u', o') = elim (der_items.universal_or_not c) [
+frame_lacks_same rules c (Definite m) p d i n n' (h, s, u, o) (h', s', u', o') = elim (universal_or_not c) [
   | inl k ↦ u k ∙ sym (u' k)
   | inr k ↦ omega (arith, o k, o' k)
 ]

@@ -32,7 +32,8 @@ use Rattle.der_object.specs.HeaderFacts.{inner_forms, EachInside, KeepsHeader, H
 use Rattle.der_object.specs.Readings.{Answer, value_of, ContentAnswer, content_value_of}
 use Rattle.der_object.specs.View.{tree, content_tree}
 use Rattle.der_ber.specs.BerReading.{ContentRefuses as BerContentRefuses}
-use Rattle.der_der.specs.DerReading.{IsDerContentOf, ContentRefuses as DerContentRefuses}
+use Rattle.der_der.specs.DerReading.{ContentRefuses as DerContentRefuses}
+use Rattle.der_forms.specs.Contents.{IsDerContentOf}
 
 -- content octets
 

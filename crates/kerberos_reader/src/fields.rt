@@ -6,10 +6,11 @@ ghost use Rattle.der_cursor.specs.Formats.{Constructed, Explicit, Never, Octets,
 ghost use Rattle.der_cursor.specs.Formats.{ReadsContent, ReadsField, Required, Sequence};
 ghost use Rattle.kerberos_reader.specs.Requests.{Exactly, Int32, KdcOptions, KerberosTime, Realm, UInt32};
 
-use der_parser::ber::{ASN1DateTime, Class, Tag};
-use der_parser::cursor::{Cursor, Refusal};
-use der_parser::error::BerError;
-use der_parser::values::BitString;
+use der_base::error::BerError;
+use der_base::header::{Class, Tag};
+use der_base::time::ASN1DateTime;
+use der_cursor::{Cursor, Refusal};
+use der_values::BitString;
 
 /// Opens a SEQUENCE inside a tag of this class and number, which is all that is left.
 pub(crate) fn open_last<'a>(

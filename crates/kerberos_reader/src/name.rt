@@ -4,9 +4,9 @@ ghost use Rattle.der_cursor.specs.Formats.{Never, NoMemory, Only, OptionalTagged
 ghost use Rattle.kerberos_reader.specs.Requests.{KerberosString, NameFields, PrincipalName, name_of};
 
 use crate::fields::{open_last, open_sequence_alone, read_name_kind};
-use der_parser::ber::Class;
-use der_parser::cursor::{Cursor, Refusal};
-use der_parser::error::BerError;
+use der_base::error::BerError;
+use der_base::header::Class;
+use der_cursor::{Cursor, Refusal};
 use std::alloc::Global;
 
 /// The components of a name (5.2.2).

@@ -10,9 +10,10 @@ use crate::fields::{
     read_till, read_time,
 };
 use crate::name::{Principal, read_principal};
-use der_parser::ber::{ASN1DateTime, Class};
-use der_parser::cursor::{Cursor, FieldRefusal, Named, Refusal};
-use der_parser::error::BerError;
+use der_base::error::BerError;
+use der_base::header::Class;
+use der_base::time::ASN1DateTime;
+use der_cursor::{Cursor, FieldRefusal, Named, Refusal};
 use std::alloc::Global;
 
 /// The version of the protocol (5.4.1).

@@ -4,9 +4,9 @@ ghost use Rattle.der_cursor.specs.Formats.{ReadsContent, ReadsField, Required, S
 ghost use Rattle.ldap_reader.specs.Messages.{Attribute, Change, Texts, texts_of};
 ghost use Rattle.ldap_reader.specs.Words.{AnyChoice};
 
-use der_parser::ber::Class;
-use der_parser::cursor::{Cursor, Refusal};
-use der_parser::error::BerError;
+use der_base::error::BerError;
+use der_base::header::Class;
+use der_cursor::{Cursor, Refusal};
 use std::alloc::Global;
 
 /// What a reader of a field returns.

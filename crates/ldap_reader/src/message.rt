@@ -2,7 +2,7 @@
 ghost use Rattle.std.specs.Prelude.{◌≡◌};
 ghost use Rattle.ldap_reader.specs.Operations.{IsOperationAt, number_of};
 
-use der_parser::ber::Tag;
+use der_base::header::Tag;
 
 /// A message. Names and texts are slices of the input.
 #[derive(Debug, Drop)]

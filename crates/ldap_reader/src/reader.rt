@@ -9,10 +9,10 @@ ghost use Rattle.ldap_reader.specs.Messages.{SearchContent, list_content, messag
 
 use crate::items::{pass_over, read_attributes, read_changes, read_choice, read_text, read_texts};
 use crate::message::{Content, Message, Operation};
-use der_parser::Rules;
-use der_parser::ber::Class;
-use der_parser::cursor::{Cursor, FieldRefusal, Named, Refusal};
-use der_parser::error::BerError;
+use der_base::error::BerError;
+use der_base::header::Class;
+use der_base::rules::Rules;
+use der_cursor::{Cursor, FieldRefusal, Named, Refusal};
 use std::alloc::Global;
 
 /// Reads a message, and returns what follows it. Incomplete only where the input ends within the message.

@@ -1,5 +1,5 @@
 //! The attribute types that have a short name.
-use der_parser::oid::Oid;
+use der_base::oid::Oid;
 
 /// The content octets of attribute types, and the names by which openssl prints them: those of
 /// RFC 2253, and others that it has given.

@@ -4,7 +4,7 @@ ghost use Rattle.der_cursor.specs.Formats.{NoMemoryIn, ReadsContent, ReadsInput,
 ghost use Rattle.names_reader.specs.Certificates.{Begins, Certificate, FieldNames, field_names_of, names_of};
 
 use crate::name::{Name, read_name};
-use der_parser::cursor::{Cursor, FieldRefusal, Named};
+use der_cursor::{Cursor, FieldRefusal, Named};
 use std::alloc::Global;
 
 /// The names of a certificate: who signed it, and whose key it has.

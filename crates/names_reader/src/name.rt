@@ -5,13 +5,14 @@ ghost use Rattle.der_cursor.specs.Formats.{Never, NoMemory, ReadsField, Required
 ghost use Rattle.names_reader.specs.Names.{AddsRelativeName, AttributeTypeAndValue, IsBmp, IsValue, IsValueOf};
 ghost use Rattle.names_reader.specs.Names.{Name as NameFormat, Value, attribute_of, coding_of, name_of};
 
+use der_base::any::Any;
+use der_base::error::{BerError, DerConstraint, Err as Refused};
+use der_base::header::{Class, Tag};
+use der_base::oid::Oid;
+use der_base::rules::Rules;
 use der_base::set_of_order::descends;
-use der_parser::Rules;
-use der_parser::ber::{Any, Class, Tag};
-use der_parser::cursor::{Cursor, Refusal};
-use der_parser::error::{BerError, DerConstraint, Err as Refused};
-use der_parser::oid::Oid;
-use der_parser::values::{read_bits, read_text};
+use der_cursor::{Cursor, Refusal};
+use der_values::{read_bits, read_text};
 use std::alloc::Global;
 
 /// The attributes of a name, in the order of the input. Those of one relative name follow one another,

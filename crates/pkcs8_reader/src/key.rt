@@ -7,11 +7,11 @@ ghost use Rattle.der_cursor.specs.Formats.{Optional, ReadsField, ReadsInput, Req
 ghost use Rattle.pkcs8_reader.specs.Keys.{AlgorithmIdentifier, PrivateKeyInfo as KeyFormat, Version};
 ghost use Rattle.pkcs8_reader.specs.Keys.{algorithm_of, bits_of, key_of};
 
-use der_parser::ber::Any;
-use der_parser::cursor::{Cursor, FieldRefusal, Named, Refusal};
-use der_parser::error::BerError;
-use der_parser::oid::Oid;
-use der_parser::values::BitString;
+use der_base::any::Any;
+use der_base::error::BerError;
+use der_base::oid::Oid;
+use der_cursor::{Cursor, FieldRefusal, Named, Refusal};
+use der_values::BitString;
 
 /// The fields of a private key. Octets are slices of the input.
 #[derive(Debug, Drop)]

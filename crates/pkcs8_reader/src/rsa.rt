@@ -6,9 +6,9 @@ ghost use Rattle.der_cursor.specs.Formats.{Only, Optional, Required, Never, Octe
 ghost use Rattle.pkcs8_reader.specs.Keys.{RsaPrivateKey as RsaFormat, rsa_of};
 
 use crate::key::read_version;
-use der_parser::ber::{Class, Tag};
-use der_parser::cursor::{Cursor, FieldRefusal, Named, Refusal};
-use der_parser::error::BerError;
+use der_base::error::BerError;
+use der_base::header::{Class, Tag};
+use der_cursor::{Cursor, FieldRefusal, Named, Refusal};
 
 /// The numbers of a key, each as the content octets of its INTEGER: in two's complement (X.690 8.3.3).
 #[derive(Debug, Drop)]

@@ -3,8 +3,8 @@
 ghost use Rattle.std.specs.Prelude.{◌≡◌};
 ghost use Rattle.snmp_reader.specs.Operations.{IsOperationAt, has, number_of};
 
-use der_parser::ber::Tag;
-use der_parser::oid::Oid;
+use der_base::header::Tag;
+use der_base::oid::Oid;
 use std::net::Ipv4Addr;
 
 /// A message. Texts are slices of the input.

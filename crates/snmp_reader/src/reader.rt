@@ -10,10 +10,10 @@ ghost use Rattle.snmp_reader.specs.Messages.{TrapContent, VersionFormat, content
 
 use crate::message::{Content, Message, Operation, Pdu, Version};
 use crate::value::{address_of, read_bindings};
-use der_parser::Rules;
-use der_parser::ber::Class;
-use der_parser::cursor::{Cursor, FieldRefusal, Named, Refusal};
-use der_parser::error::BerError;
+use der_base::error::BerError;
+use der_base::header::Class;
+use der_base::rules::Rules;
+use der_cursor::{Cursor, FieldRefusal, Named, Refusal};
 use std::alloc::Global;
 use std::net::Ipv4Addr;
 

@@ -5,11 +5,12 @@ ghost use Rattle.der_cursor.specs.Formats.{Required, Never, NoMemory, ReadsField
 ghost use Rattle.snmp_reader.specs.Messages.{ObjectSyntax, ReadsSyntax, VarBind, VarBindList, binding_of, syntax_of};
 
 use crate::message::{Binding, Value};
-use der_parser::Rules;
-use der_parser::ber::{Any, Class};
-use der_parser::cursor::{Cursor, Refusal};
-use der_parser::error::BerError;
-use der_parser::values::{read_i32, read_oid, read_u32, read_u64};
+use der_base::any::Any;
+use der_base::error::BerError;
+use der_base::header::Class;
+use der_base::rules::Rules;
+use der_cursor::{Cursor, Refusal};
+use der_values::{read_i32, read_oid, read_u32, read_u64};
 use std::alloc::Global;
 use std::net::Ipv4Addr;
 

@@ -1,6 +1,6 @@
 use Rattle.std.proofs.Common.{rules, refl, inr}
 use Rattle.der_base.specs.Text.{IsTextOf}
-use Rattle.der_ber.proofs.Leaves.{text_refused}
+use Rattle.der_forms.proofs.Contents.{text_refused}
 use Rattle.der_ber.proofs.leaf.read_string.Goals as goal
 
 pub returns-in-None : goal.returns-in-None

@@ -9,8 +9,8 @@ use Rattle.der_base.proofs.Octets.Shortest.{IsOctet}
 use Rattle.der_base.proofs.Octets.ShortestLengths.{bytes_from}
 use Rattle.der_object.specs.declared.object.BerObjectContent.{BerObjectContent}
 use Rattle.der_object.specs.View.{content_tree}
-use Rattle.der_der.specs.Inner.DerForms.{IsInForm}
-use Rattle.der_der.proofs.Forms.{form_read, form_refused}
+use Rattle.der_forms.specs.Forms.{IsInForm}
+use Rattle.der_forms.proofs.Forms.{form_read, form_refused}
 use Rattle.der_der.proofs.leaf.read_leaf.Goals as goal
 
 -- behind the tests of DER, what BER answers is the answer

@@ -17,7 +17,7 @@ use Rattle.der_base.proofs.Answers.Answering.{passed_on, answered, ok_with}
 use Rattle.der_base.proofs.Framing.EndMarkerLoop.{ends_here}
 use Rattle.der_base.proofs.Framing.FramingAny.{any_lacks_header, any_lacks_content}
 use Rattle.der_base.proofs.Framing.FramingLists.{header_takes_two}
-use Rattle.der_ber.proofs.Items.{any_cut}
+use Rattle.der_forms.proofs.BerReadings.{any_cut}
 use Rattle.der_nodes.specs.BerInner.{WritesContent, WritesItems, WritesWhole, is_definite}
 use Rattle.der_nodes.proofs.ShortLaws.{IsListOctet, framed_element, ber_plain_written, ber_list_written, ber_list_refused}
 use Rattle.der_nodes.specs.FaultPlaces.{ContentRefusesAt}

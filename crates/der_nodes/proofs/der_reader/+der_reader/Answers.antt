@@ -10,7 +10,7 @@ use Rattle.der_base.specs.Refusal.{refusal}
 use Rattle.der_base.specs.Spelling.{max_object_size}
 use Rattle.der_base.specs.Tree.{nodes_of}
 use Rattle.der_base.proofs.Answers.Answering.{passed_on, answered}
-use Rattle.der_der.proofs.Items.{header_cut, content_cut, header_shorter}
+use Rattle.der_forms.proofs.DerReadings.{header_cut, content_cut, header_shorter}
 use Rattle.der_nodes.proofs.DerFaultPlaces.{header_refused_at, size_refused_at, content_refused_at, item_refused_at, items_refuse_at}
 use Rattle.der_nodes.specs.Inner.{IsDerLeafOf}
 use Rattle.der_nodes.proofs.ShortLaws.{IsListOctet, der_plain_written, der_list_written, der_list_refused}

@@ -1,0 +1,4 @@
+pub mod BerReadings
+pub mod Contents
+pub mod DerReadings
+pub mod Forms
