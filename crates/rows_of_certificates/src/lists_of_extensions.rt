@@ -2,9 +2,9 @@
 use der_base::error::BerError;
 use der_cursor::Refusal;
 use der_extensions::{
-    CrlDistributionPoints, DistributionPoint, GeneralName, GeneralNames, Item, SequenceOf,
-    read_certificate_policies, read_crl_distribution_points, read_extended_key_usage,
-    read_general_names, read_information_access,
+    CertificatePolicies, CrlDistributionPoints, DistributionPoint, ExtendedKeyUsage, GeneralName,
+    GeneralNames, InformationAccess, read_certificate_policies, read_crl_distribution_points,
+    read_extended_key_usage, read_general_names, read_information_access,
 };
 use der_tests_words::push_number;
 use std::alloc::{AllocError, Global};
@@ -18,9 +18,9 @@ const REASONS: usize = 9;
 pub fn list(alloc: Global, call: &str, octets: &[u8]) -> Result<String, Fault> {
     let text = match call {
         "general_names" => general_names(alloc, read_general_names(octets)),
-        "extended_key_usage" => counted(alloc, read_extended_key_usage(octets)),
-        "information_access" => counted(alloc, read_information_access(octets)),
-        "certificate_policies" => counted(alloc, read_certificate_policies(octets)),
+        "extended_key_usage" => purposes(alloc, read_extended_key_usage(octets)),
+        "information_access" => descriptions(alloc, read_information_access(octets)),
+        "certificate_policies" => policies(alloc, read_certificate_policies(octets)),
         "crl_distribution_points" => {
             distribution_points(alloc, read_crl_distribution_points(octets))
         }
@@ -29,10 +29,32 @@ pub fn list(alloc: Global, call: &str, octets: &[u8]) -> Result<String, Fault> {
     Ok(text?)
 }
 
-/// The number of the values.
-fn counted<'a, T: Item<'a, BerError> + Drop>(
+/// The number of the purposes.
+fn purposes(
     alloc: Global,
-    read: Result<SequenceOf<'a, T>, Refusal<BerError>>,
+    read: Result<ExtendedKeyUsage<'_>, Refusal<BerError>>,
+) -> Result<String, AllocError> {
+    match read {
+        Ok(list) => format!(in alloc; "{} values", list.iter().count()),
+        Err(e) => format!(in alloc; "{e}"),
+    }
+}
+
+/// The number of the descriptions.
+fn descriptions(
+    alloc: Global,
+    read: Result<InformationAccess<'_>, Refusal<BerError>>,
+) -> Result<String, AllocError> {
+    match read {
+        Ok(list) => format!(in alloc; "{} values", list.iter().count()),
+        Err(e) => format!(in alloc; "{e}"),
+    }
+}
+
+/// The number of the policies.
+fn policies(
+    alloc: Global,
+    read: Result<CertificatePolicies<'_>, Refusal<BerError>>,
 ) -> Result<String, AllocError> {
     match read {
         Ok(list) => format!(in alloc; "{} values", list.iter().count()),

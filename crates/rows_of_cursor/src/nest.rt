@@ -101,14 +101,14 @@ impl<'a> Nest<'a> {
 /// What a step answers.
 fn answer(alloc: Global, cursor: &mut Cursor<'_>, step: &str) -> Result<String, Fault> {
     let text = match step {
-        "end" => shown_end(alloc, cursor.end())?,
-        "offset" => format!(in alloc; "{}", cursor.offset())?,
-        "refuse" => format!(in alloc; "{}", cursor.refuse(BerError::BerValueError))?,
-        "is_next(0)" => format!(in alloc; "{}", cursor.is_next(Class::ContextSpecific, Tag(0)))?,
-        "serial_number" => shown_serial_number(alloc, serial_number(cursor))?,
+        "end" => shown_end(alloc, cursor.end()),
+        "offset" => format!(in alloc; "{}", cursor.offset()),
+        "refuse" => format!(in alloc; "{}", cursor.refuse(BerError::BerValueError)),
+        "is_next(0)" => format!(in alloc; "{}", cursor.is_next(Class::ContextSpecific, Tag(0))),
+        "serial_number" => shown_serial_number(alloc, serial_number(cursor)),
         _ => return field(alloc, cursor, step),
     };
-    Ok(text)
+    Ok(text?)
 }
 
 fn shown_end(alloc: Global, ended: Result<(), Refusal<BerError>>) -> Result<String, AllocError> {
