@@ -77,7 +77,7 @@ fn is_same_header(header: &Header<'_>, copy: &Header<'_>) -> bool {
         copy.length() == header.length(),
         copy.raw_tag() == header.raw_tag(),
     ];
-    facts.iter().all(|is_so| *is_so)
+    !facts.contains(&false)
 }
 
 /// Whether the objects' headers tell the same, and so do those of unknown contents.
