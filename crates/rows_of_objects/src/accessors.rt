@@ -33,34 +33,16 @@ fn push_error(text: &mut String, call: &str, e: BerError) -> Result<(), AllocErr
     push_refusal(text, &e)
 }
 
-/// Adds what an accessor of octets returns.
-fn push_given(
-    text: &mut String,
-    call: &str,
-    given: Result<&[u8], BerError>,
-) -> Result<(), AllocError> {
-    match given {
-        Ok(octets) => {
-            push_word(text, call)?;
-            push_octets(text, octets)
-        }
-        Err(e) => push_error(text, call, e),
-    }
+/// Adds the octets that an accessor returns.
+fn push_given(text: &mut String, call: &str, octets: &[u8]) -> Result<(), AllocError> {
+    push_word(text, call)?;
+    push_octets(text, octets)
 }
 
-/// Adds what an accessor of a number returns.
-fn push_count(
-    text: &mut String,
-    call: &str,
-    given: Result<usize, BerError>,
-) -> Result<(), AllocError> {
-    match given {
-        Ok(count) => {
-            push_word(text, call)?;
-            push_number(text, count)
-        }
-        Err(e) => push_error(text, call, e),
-    }
+/// Adds the number that an accessor returns.
+fn push_count(text: &mut String, call: &str, count: usize) -> Result<(), AllocError> {
+    push_word(text, call)?;
+    push_number(text, count)
 }
 
 /// Adds a truth value, an identifier and the year of a time.
@@ -70,51 +52,51 @@ fn push_scalars(text: &mut String, object: &BerObject<'_>) -> Result<(), AllocEr
         Ok(false) => push_word(text, "as_bool false")?,
         Err(e) => push_error(text, "as_bool", e)?,
     }
-    push_identifier(text, object)?;
-    push_count(
-        text,
-        "as_datetime",
-        object.as_datetime().map(|time| time.year as usize),
-    )
-}
-
-/// Adds an identifier, by its octets and whether it is relative.
-fn push_identifier(text: &mut String, object: &BerObject<'_>) -> Result<(), AllocError> {
     match object.as_oid() {
-        Ok(oid) if oid.is_relative() => push_given(text, "as_oid relative", Ok(oid.as_bytes())),
-        Ok(oid) => push_given(text, "as_oid", Ok(oid.as_bytes())),
-        Err(e) => push_error(text, "as_oid", e),
+        Ok(oid) if oid.is_relative() => push_given(text, "as_oid relative", oid.as_bytes())?,
+        Ok(oid) => push_given(text, "as_oid", oid.as_bytes())?,
+        Err(e) => push_error(text, "as_oid", e)?,
+    }
+    match object.as_datetime() {
+        Ok(time) => push_count(text, "as_datetime", time.year as usize),
+        Err(e) => push_error(text, "as_datetime", e),
     }
 }
 
 /// Adds a bit string, by both accessors.
 fn push_bits(text: &mut String, object: &BerObject<'_>) -> Result<(), AllocError> {
-    push_given(
-        text,
-        "as_bitstring",
-        object.as_bitstring().map(|bits| bits.bytes),
-    )?;
-    push_given(
-        text,
-        "as_bitstring_ref",
-        object.as_bitstring_ref().map(|bits| bits.bytes),
-    )
+    match object.as_bitstring() {
+        Ok(bits) => push_given(text, "as_bitstring", bits.bytes)?,
+        Err(e) => push_error(text, "as_bitstring", e)?,
+    }
+    match object.as_bitstring_ref() {
+        Ok(bits) => push_given(text, "as_bitstring_ref", bits.bytes),
+        Err(e) => push_error(text, "as_bitstring_ref", e),
+    }
 }
 
 /// Adds a text and octets.
 fn push_texts(text: &mut String, object: &BerObject<'_>) -> Result<(), AllocError> {
-    push_given(text, "as_str", object.as_str().map(|text| text.as_bytes()))?;
-    push_given(text, "as_slice", object.as_slice())
+    match object.as_str() {
+        Ok(characters) => push_given(text, "as_str", characters.as_bytes())?,
+        Err(e) => push_error(text, "as_str", e)?,
+    }
+    match object.as_slice() {
+        Ok(octets) => push_given(text, "as_slice", octets),
+        Err(e) => push_error(text, "as_slice", e),
+    }
 }
 
 /// Adds how many items a list has.
 fn push_lists(text: &mut String, object: &BerObject<'_>) -> Result<(), AllocError> {
-    push_count(
-        text,
-        "as_sequence",
-        object.as_sequence().map(|items| items.len()),
-    )?;
-    push_count(text, "as_set", object.as_set().map(|items| items.len()))
+    match object.as_sequence() {
+        Ok(items) => push_count(text, "as_sequence", items.len())?,
+        Err(e) => push_error(text, "as_sequence", e)?,
+    }
+    match object.as_set() {
+        Ok(items) => push_count(text, "as_set", items.len()),
+        Err(e) => push_error(text, "as_set", e),
+    }
 }
 
 /// The octets of an object's items, one after another.
@@ -198,5 +180,5 @@ fn is_asked_as_header(o: &BerObject<'_>) -> bool {
         o.is_constructed() == o.assert_constructed().is_ok(),
         o.assert_tag(Tag::Set).is_ok() == (o.tag() == Tag::Set),
     ];
-    asked.iter().all(|is_so| *is_so)
+    !asked.contains(&false)
 }

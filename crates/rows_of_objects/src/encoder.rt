@@ -209,5 +209,5 @@ fn is_beginning(
         narrow.taken.as_slice() == beginning,
         (faults, narrow.failed) == failures,
     ];
-    facts.iter().all(|is_so| *is_so)
+    !facts.contains(&false)
 }

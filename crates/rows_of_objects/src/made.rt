@@ -118,7 +118,10 @@ impl<'o> Lists<'o> {
     }
 
     fn only_object(mut self) -> Result<BerObject<'o>, Fault> {
-        self.pop().ok_or(Fault::Input)
+        match self.open.as_slice() {
+            [objects] if objects.len() == 1 => self.pop().ok_or(Fault::Input),
+            _ => Err(Fault::Input),
+        }
     }
 }
 
