@@ -2,7 +2,6 @@
 //! answers, the readers as values, and what is tried on the octets of each row.
 #![tactic(auto)]
 
-pub mod answer;
 pub mod calls;
 pub mod fronts;
 pub mod nodes;
