@@ -1,9 +1,9 @@
 /* Reads the files of rows of the library's tests, and compares what they say that its full readers answer with what the
  * library returns: tables FILE..
  *
- * A row has an input, an answer and a name, with bars between them. The calls that answer so stand in brackets above it:
- * parse_ber, parse_der, these with _recursive and a depth, and the header of an item that they read. Other calls are
- * passed over. */
+ * A row has an input, an answer and a name, with bars between them. The calls that answer so stand in brackets above
+ * it: parse_ber, parse_der, these with _recursive and a depth, and the header of an item that they read. Other calls
+ * are passed over. */
 #include "dumarewhi.h"
 
 #include <stdio.h>
