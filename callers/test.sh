@@ -68,7 +68,7 @@ run_c() {
     says "stack.c compiles" compile stack stack -pthread
     shown=yes
     for name in layout rows errors stack; do says "$name" "$room/$name"; done
-    says "rows of the library's tests" "$room/tables" ../crates/*/data/*.rows
+    says "rows of the library's tests" "$room/tables" ../tests/*/data/*.rows
     shown=
 
     prints "first" 0 "$(printf 'type 16, octets 2 to 8\ntype 2, octets 4 to 5\ntype 1, octets 7 to 8')" "$room/first"

@@ -74,9 +74,9 @@ const REASONS: &[(&str, Reason)] = &[
 
 /// The files of rows.
 fn files() -> io::Result<Vec<PathBuf>> {
-    let crates = Path::new(env!("CARGO_MANIFEST_DIR")).join("../../crates");
+    let tests = Path::new(env!("CARGO_MANIFEST_DIR")).join("../../tests");
     let mut files = Vec::new();
-    for folder in fs::read_dir(&crates)? {
+    for folder in fs::read_dir(&tests)? {
         let data = folder?.path().join("data");
         if data.is_dir() {
             for file in fs::read_dir(data)? {

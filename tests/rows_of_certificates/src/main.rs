@@ -1,0 +1,64 @@
+//! The rows of the readers of certificates, of lists of revoked certificates, of certification requests and of the
+//! values of extensions. The rows stand in `data`.
+//!
+//! A row's input are the octets that are read. Where its call is `CALL of OCTETS`, it says what is changed in these.
+
+mod certificates;
+mod damage;
+mod extension_values;
+mod extensions;
+mod lists_of_extensions;
+mod requests;
+mod times;
+
+use crate::certificates::{certificate, fields, lists, reason, relative_names, strict_certificate};
+use crate::damage::damaged_text;
+use crate::extension_values::extension_value;
+use crate::extensions::extension;
+use crate::requests::{certificate_list, certification_request};
+use crate::times::{compared, contained};
+use der_tests_damage::octets_of;
+use std::alloc::Global;
+use std::io;
+use std::process::ExitCode;
+use test_tables::fault::Fault;
+use test_tables::run::{Calls, run};
+
+/// The readers of certificates, and of what goes with them.
+struct Readers;
+
+impl Calls for Readers {
+    fn answer(&self, alloc: Global, call: &str, input: &str) -> Result<String, Fault> {
+        if let Some(words) = call.strip_prefix("damaged ") {
+            return damaged_text(alloc, words, input);
+        }
+        match call {
+            "is_before" => compared(alloc, input),
+            "contains" => contained(alloc, input),
+            "extension" => extension(alloc, input),
+            _ => {
+                let (call, octets) = octets_of(alloc, call, input)?;
+                answer_of_octets(alloc, call, &octets)
+            }
+        }
+    }
+}
+
+/// What the call of this name answers on these octets.
+fn answer_of_octets(alloc: Global, call: &str, octets: &[u8]) -> Result<String, Fault> {
+    match call {
+        "certificate" => certificate(alloc, octets),
+        "reason" => reason(alloc, octets),
+        "strict_certificate" => strict_certificate(alloc, octets),
+        "fields" => fields(alloc, octets),
+        "lists" => lists(alloc, octets),
+        "relative_names" => relative_names(alloc, octets),
+        "certificate_list" => certificate_list(alloc, octets),
+        "certification_request" => certification_request(alloc, octets),
+        _ => extension_value(alloc, call, octets),
+    }
+}
+
+fn main(rt: HostRuntime) -> io::Result<ExitCode> {
+    run(&rt, &Readers)
+}

@@ -1,0 +1,49 @@
+//! The rows of elements: inputs, and what readers answer on them. With the word `trials` in front of the files, what
+//! holds of any octets is tried on those of each row.
+
+mod any;
+mod containers;
+mod contents;
+mod headers;
+mod said;
+
+use any::AnyReader;
+use containers::ContainerCall;
+use contents::ContentReader;
+use der_tests_rows::calls::answer_of_call;
+use der_tests_rows::trials::{are_asked_for, run_trials};
+use headers::HeaderReader;
+use std::alloc::Global;
+use std::io;
+use std::process::ExitCode;
+use test_tables::fault::Fault;
+use test_tables::run::{Calls, run};
+
+/// The calls of rows of elements.
+struct Elements;
+
+impl Calls for Elements {
+    fn answer(&self, alloc: Global, call: &str, input: &str) -> Result<String, Fault> {
+        if let Some(reader) = AnyReader::named(call) {
+            return reader.answer(alloc, input);
+        }
+        if let Some(reader) = HeaderReader::named(call) {
+            return reader.answer(alloc, input);
+        }
+        if let Some(reader) = ContentReader::named(call) {
+            return reader.answer(alloc, input);
+        }
+        match ContainerCall::of_call(call) {
+            Some(container) => container.answer(alloc, input),
+            None => answer_of_call(alloc, call, input),
+        }
+    }
+}
+
+fn main(rt: HostRuntime) -> io::Result<ExitCode> {
+    if are_asked_for(&rt)? {
+        run_trials(&rt)
+    } else {
+        run(&rt, &Elements)
+    }
+}

@@ -1,0 +1,52 @@
+//! The rows of the readers of elements, of views of what they read, of walks, of the check of elements and of the
+//! canonical encoding. The rows stand in `data`.
+//!
+//! A call is followed by its depth, by the capacity of its buffer, or by what its module says.
+
+mod canonical;
+mod checked;
+mod elements;
+mod names;
+mod slots;
+mod views;
+mod walks;
+mod words;
+
+use crate::canonical::{in_each_capacity, written};
+use crate::checked::{checked_list, checked_one};
+use crate::elements::answer_of_elements;
+use crate::names::{are_found, name};
+use crate::views::{made_by_hand, view};
+use crate::walks::walk;
+use std::alloc::Global;
+use std::io;
+use std::process::ExitCode;
+use test_tables::fault::Fault;
+use test_tables::octets::octets;
+use test_tables::run::{Calls, run};
+
+/// The calls on elements.
+struct ElementCalls;
+
+impl Calls for ElementCalls {
+    fn answer(&self, alloc: Global, call: &str, input: &str) -> Result<String, Fault> {
+        let (call, words) = call.split_once(' ').unwrap_or((call, ""));
+        let octets = octets(alloc, input)?;
+        match call {
+            "canonical" => written(alloc, &octets),
+            "canonical_into" => in_each_capacity(alloc, &octets),
+            "are_elements" => checked_list(alloc, &octets, words),
+            "is_element" => checked_one(alloc, &octets, words),
+            "name_of" => name(alloc, &octets),
+            "each_line_is_found" => are_found(alloc),
+            "walk" => walk(alloc, &octets, words),
+            "view" => view(alloc, &octets, words),
+            "view_made_by_hand" => made_by_hand(alloc, &octets, words),
+            _ => answer_of_elements(alloc, call, &octets, words),
+        }
+    }
+}
+
+fn main(rt: HostRuntime) -> io::Result<ExitCode> {
+    run(&rt, &ElementCalls)
+}
