@@ -54,7 +54,7 @@ typedef struct dm_outcome {
     uint32_t error;  /* DM_ERROR: one of enum dm_error */
 } dm_outcome;
 
-/* A deeper max_depth is taken as this one. */
+/* Larger values of max_depth are clamped to this one. */
 #define DM_MAX_DEPTH 250
 
 /* How many octets of the stack a level takes at most. This is measured, and no proof says it. */
@@ -63,7 +63,7 @@ typedef struct dm_outcome {
 /* Lists the first element of the input and those inside it in preorder, by DER or by BER. The first `room`
  * of them are written to the buffer, and the call reads on: with room 0 it counts. An element of another
  * class than universal is listed, and nothing inside it: call again with its content. With another status
- * than DM_OK it isn't said what the buffer holds. Returns the status. */
+ * than DM_OK the buffer's contents are unspecified. Returns the status. */
 uint32_t dm_parse_der(const uint8_t *input, size_t length, size_t max_depth, dm_element *elements, size_t room,
                       dm_outcome *outcome);
 uint32_t dm_parse_ber(const uint8_t *input, size_t length, size_t max_depth, dm_element *elements, size_t room,
@@ -89,8 +89,8 @@ uint32_t dm_first_ber(const uint8_t *input, size_t length, dm_element *element, 
  * With DM_OK the first `length` octets of the buffer are elements of DER, and `elements` is 0. Each element but the
  * parts of a string keeps its class, number, depth and place in the order. This is proved, and the values are tested.
  * With DM_NO_ROOM call again with `length` octets of room: until then a value may still be an error. With room 0 the
- * call counts. With DM_ERROR `place` is in the input. With another status than DM_OK it isn't said what the buffer
- * holds.
+ * call counts. With DM_ERROR `place` is in the input. With another status than DM_OK the buffer's contents are
+ * unspecified.
  * Elements that are DER already are copied. The stack has to have room for DM_WRITE_DEPTH levels of DM_LEVEL_OCTETS
  * each. Returns the status. */
 uint32_t dm_write_der(const uint8_t *input, size_t length, uint8_t *out, size_t room, dm_outcome *outcome);
