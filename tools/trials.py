@@ -36,7 +36,7 @@ def copy_crate(crate, to):
 
 def copy_repository(room):
     """Makes the copy in an empty folder. Each crate is in `crates` there."""
-    lists = [ROOT / "crates.txt", TESTS / "crates.txt"]
+    lists = [ROOT / "crates.txt", TESTS / "libraries.txt"]
     (room / "crates.txt").write_text("".join(it.read_text() for it in lists))
     (room / ".git").mkdir()
     for folder in (CRATES, TESTS):
