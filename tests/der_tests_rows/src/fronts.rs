@@ -25,13 +25,26 @@ fn expect_stable_to(alloc: Global, depth: usize, text: &str) -> Result<(), Wrong
     expect_stable(alloc, ParseDerRecursive(depth), &input)
 }
 
+/// The most octets of an input whose every front is tried, from each of its ends.
+const NEAR: usize = 256;
+
+/// Whether a front of this length is tried: of a long input only those that end near one of its ends, since those
+/// between are alike.
+fn is_tried(length: usize, all: usize) -> bool {
+    length <= NEAR || all - length <= NEAR
+}
+
 /// The reader answers on the fronts of these octets as the module says. Fronts are read from the
 /// shortest on, so as many are cut short in front of an object as it has octets.
 fn expect_stable(alloc: Global, reader: Reader, input: &[u8]) -> Result<(), Wrong> {
     let mut cut: usize = 0;
+    let mut was_cut = false;
     for length in 0..=input.len() {
-        if is_cut(alloc, reader, &input[..length], cut)? {
-            cut = cut.saturating_add(1);
+        if is_tried(length, input.len()) {
+            was_cut = is_cut(alloc, reader, &input[..length], cut)?;
+        }
+        if was_cut {
+            cut += 1;
         }
     }
     Ok(())
