@@ -281,6 +281,22 @@ static void test_deep_writings(void) {
     }
 }
 
+/* Lists one inside another, one more than DM_MAX_DEPTH: a greater depth is clamped, so the innermost is too deep. */
+static void test_clamped_depth(void) {
+    uint8_t input[4 * (DM_MAX_DEPTH + 1)];
+    size_t levels = DM_MAX_DEPTH + 1, length = 4 * levels;
+    dm_outcome outcome;
+    for (size_t i = 0; i < levels; i++) {
+        size_t inside = 4 * (levels - 1 - i);
+        uint8_t header[4] = {0x30, 0x82, (uint8_t)(inside >> 8), (uint8_t)inside};
+        memcpy(input + 4 * i, header, sizeof header);
+    }
+    for (size_t depth = DM_MAX_DEPTH; depth <= DM_MAX_DEPTH + 2; depth++) {
+        expect(dm_check_ber(input, length, depth, &outcome) == DM_ERROR && outcome.error == 3, "dm_check_ber", "deep");
+        expect(dm_check_ber(input + 4, length - 4, depth, &outcome) == DM_OK, "dm_check_ber", "as deep as may be");
+    }
+}
+
 /* X.690 8.9.3 in BER, with each place; the buffer has room for two of three. */
 static void test_places(void) {
     uint8_t input[64];
@@ -473,6 +489,7 @@ int main(void) {
     test_firsts();
     test_writings();
     test_deep_writings();
+    test_clamped_depth();
     test_places();
     test_integers();
     test_booleans();
