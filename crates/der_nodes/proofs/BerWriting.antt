@@ -5,7 +5,6 @@ use Rattle.std.proofs.lemmas.List.{append-nil, length-map, map-append}
 use Rattle.der_base.specs.declared.error.Err.{Err as Refusing}
 use Rattle.der_base.specs.declared.error.Error.{Error as BerError}
 use Rattle.der_base.specs.Answer.{MatchAnswer}
-use Rattle.der_base.specs.Refusal.{Refusal}
 use Rattle.der_base.proofs.Answers.Answering.{passed_on}
 use Rattle.der_base.specs.declared.header.Class.{Class}
 use Rattle.der_base.specs.declared.header.Class.TheVariants.{Universal}

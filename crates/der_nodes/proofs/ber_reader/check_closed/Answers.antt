@@ -1,4 +1,4 @@
-use Rattle.std.proofs.Common.{◌≡◌, ◌≤◌, false, IsTrue, rules, arith, refl, inl, inr}
+use Rattle.std.proofs.Common.{◌≡◌, false, IsTrue, rules, arith, refl, inl, inr}
 use Rattle.der_base.specs.declared.header.Class.TheVariants.{Universal}
 use Rattle.der_base.specs.Header.{class_of, is_constructed, number_of}
 use Rattle.der_base.specs.Leaf.{is_mapped}

@@ -1,4 +1,4 @@
-use Rattle.std.proofs.Common.{◌≡◌, ◌-◌, ◌++◌, [], length, length-append, ap, refl, sym, subst, ◌∙◌, take, arith}
+use Rattle.std.proofs.Common.{◌-◌, [], length, length-append, ap, refl, subst, ◌∙◌, take, arith}
 use Rattle.std.proofs.lemmas.List.{take_at}
 use Rattle.std.proofs.lemmas.Result.{err_from_is_err_and}
 use Rattle.der_base.specs.Inner.Framed.{no_elements}
