@@ -93,6 +93,24 @@ pub one_more_element : {u b : List ℕ} {n : ℕ} {l : Length} {c : Class} {p : 
     → ElementAt b n l c p t w k a → b ≢ end_marker → AreElements (u ++ b) k
 one_more_element {b = b} us e other = elements_append b us (elements (is_element e) other no_elements (sym (append-nil b)))
 
+-- the end marker behind a list of elements
+pub ends_at : {u : List ℕ} (i rest behind : List ℕ) (k : ℕ) → 2 ≤ k → AreElements u (k - 1) → i ≡ u ++ rest → rest ≡ end_marker ++ behind
+    → BeginsWithContent i Indefinite k u behind
+ends_at {u} i rest behind k two us parts e = (two, are_raws us, parts ∙ ap (λ x. u ++ x) e ∙ sym (append_assoc u end_marker behind))
+
+-- elements before the inside of an indefinite length
+pub content_behind : (i u v w rest : List ℕ) (k : ℕ) → AreElements u (k - 1) → i ≡ u ++ v → BeginsWithContent v Indefinite k w rest
+    → BeginsWithContent i Indefinite k (u ++ w) rest
+content_behind i u v w rest k us parts (two, ws, e) = (
+  two,
+  are_raws (elements_append w us (raws_are ws)),
+  parts ∙ ap (λ x. u ++ x) (e ∙ append_assoc w end_marker rest)
+      ∙ sym (append_assoc u w (end_marker ++ rest)) ∙ sym (append_assoc (u ++ w) end_marker rest),
+)
+
+pub inside_length : (v w rest : List ℕ) (k : ℕ) → BeginsWithContent v Indefinite k w rest → length v ≡ length w + 2 + length rest
+inside_length v w rest k (two, ws, e) = omega (arith, ap length e, length-append (w ++ end_marker) rest, length-append w end_marker)
+
 -- what begins no end marker is none
 pub no_marker : (rest b after : List ℕ) → rest ≡ b ++ after → ((x : List ℕ) → ¬ (rest ≡ end_marker ++ x)) → b ≢ end_marker
 no_marker rest b after e n z = n after (e ∙ ap (λ v. v ++ after) z)
@@ -101,11 +119,6 @@ no_marker rest b after e n z = n after (e ∙ ap (λ v. v ++ after) z)
 pub open_constructed : (i behind : List ℕ) (c : Class) (p : Bool) (t : ℕ) (l : Length) → l ≡ Indefinite → BeginsWithHeader i c p t l behind → p ≡ true
 open_constructed i behind c p t (Definite m) e h = absurd (cc)
 open_constructed i behind c p t Indefinite e h = h.length.0
-
--- a list, an element behind it, the elements behind that and an end marker
-pub regroup : (u b w m z : List ℕ) → u ++ (b ++ ((w ++ m) ++ z)) ≡ ((u ++ (b ++ w)) ++ m) ++ z
-regroup u b w m z = ap (λ v. u ++ (b ++ v)) (append_assoc w m z) ∙ ap (λ v. u ++ v) (sym (append_assoc b w (m ++ z)))
-    ∙ sym (append_assoc u (b ++ w) (m ++ z)) ∙ sym (append_assoc (u ++ (b ++ w)) m z)
 
 pub element_some : {b : List ℕ} {n : ℕ} {l : Length} {c : Class} {p : Bool} {t : ℕ} {w : List ℕ} {k a : ℕ} → ElementAt b n l c p t w k a → 0 < length b
 element_some {c = c} {p = p} {t = t} {w = w} (closed s el ht hk hs eb ea) = omega (arith, ap length eb, length-append (identifier c p t) (s ++ w), identifier_octets c p t)

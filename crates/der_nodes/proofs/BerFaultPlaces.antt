@@ -1,6 +1,7 @@
 -- Where refusals are, by BER.
 use Rattle.std.proofs.Common.{◌≡◌, ◌≢◌, ℕ, zero, suc, ◌+◌, ◌-◌, ◌<◌, ◌≤◌, ◌⊎◌, Bool, true, List, [], ◌∷◌, ◌++◌, length, Result, Ok, Err}
-use Rattle.std.specs.Prelude.{IfOk}
+use Rattle.std.specs.Borrow.{Bor}
+use Rattle.std.specs.Prelude.{IfOk, MatchResult}
 use Rattle.std.proofs.Common.{refl, sym, ap, subst, ◌∙◌, arith, append_assoc, length-append, inl, inr}
 use Rattle.der_base.specs.declared.error.Err.{Err as Refusing}
 use Rattle.der_base.specs.declared.error.Err.TheVariants.{Incomplete, Error, Failure, OutOfMemory}
@@ -30,8 +31,7 @@ use Rattle.der_base.proofs.Framing.FramingLists.{has_header, none_at_zero, indef
 use Rattle.der_base.proofs.Framing.RawLists.{tail_more}
 use Rattle.der_base.proofs.Framing.Shapes.{raws_are_shapes}
 use Rattle.der_laws.proofs.Answers.ItemAnswers.{some_octets}
-use Rattle.der_nodes.specs.declared.ber_reader.Refused.{Refused}
-use Rattle.der_nodes.specs.BerInner.{FramingRefusesAt, InsideContentRefusesAt, IsRefusal, MatchValues}
+use Rattle.der_nodes.specs.BerInner.{FramingRefusesAt, InsideContentRefusesAt, Settles}
 use Rattle.der_nodes.specs.FaultPlaces.{InsideRefusesAt, refused_header, refused_depth, further_inside, BeginsWithElementAt, ShowsFaultAt, ItemsRefuseAt, ContentRefusesAt}
 use Rattle.der_nodes.proofs.BerElements.{ElementAt, begins_at, at_more}
 
@@ -117,11 +117,16 @@ pub header_refused_at : (d : ℕ) (i : List ℕ) (n : ℕ) (e : Refusal) → 1 �
 header_refused_at zero i n e h r = absurd (omega arith)
 header_refused_at (suc d) i n e h r = inl (r, refl)
 
-pub framing_refused_at : (d : ℕ) (i behind : List ℕ) (c : Class) (p : Bool) (t n a : ℕ) (e : Refusal) (q : ℕ) → 1 ≤ d → BeginsWithHeader i c p t Indefinite behind
+framing_refused_at : (d : ℕ) (i behind : List ℕ) (c : Class) (p : Bool) (t n a : ℕ) (e : Refusal) (q : ℕ) → 1 ≤ d → BeginsWithHeader i c p t Indefinite behind
     → a ≡ n + length i - length behind → InsideRefusesAt behind a framing_budget e q → ShowsFaultAt d i n e q
 framing_refused_at zero i behind c p t n a e q h b at r = absurd (omega arith)
 framing_refused_at (suc d) i behind c p t n a e q h b at r =
     inr (inl (c, t, behind, b.number, indefinite_header i behind c p t b, subst (λ z. InsideRefusesAt behind z framing_budget e q) at r))
+
+pub any_framing_refused_at : (d : ℕ) (i behind : List ℕ) (c : Class) (p : Bool) (t n a : ℕ) (l : Length) (e : Refusal) (q : ℕ) → 1 ≤ d → BeginsWithHeader i c p t l behind
+    → a ≡ n + length i - length behind → FramingRefusesAt behind l a framing_budget e q → ShowsFaultAt d i n e q
+any_framing_refused_at d i behind c p t n a (Definite m) e q h b at r = absurd r
+any_framing_refused_at d i behind c p t n a Indefinite e q h b at r = framing_refused_at d i behind c p t n a e q h b at r
 
 pub content_refused_at : (d : ℕ) (i w rest : List ℕ) (c : Class) (p : Bool) (t n a b : ℕ) (e : Refusal) (q : ℕ) → 1 ≤ d
     → BeginsWithElementAt i n framing_budget c p t w rest a → b ≡ a → ContentRefusesAt c p t w d n b e q → ShowsFaultAt d i n e q
@@ -130,7 +135,7 @@ content_refused_at (suc d) i w rest c p t n a b e q h f at (u, m, r) =
     let k : suc d - 1 ≡ d = omega arith in
     inr (inr (p, t, w, rest, a, subst (λ z. BeginsWithElementAt i n framing_budget z p t w rest a) u f, m, rw (← at) (rw k at r)))
 
-inside_content_refused : (d : ℕ) (i w rest : List ℕ) (c : Class) (p : Bool) (t n a : ℕ) (e : Refusal) (q : ℕ)
+pub inside_content_refused : (d : ℕ) (i w rest : List ℕ) (c : Class) (p : Bool) (t n a : ℕ) (e : Refusal) (q : ℕ)
     → BeginsWithElementAt i n framing_budget c p t w rest a → InsideContentRefusesAt c p t w d n a e q → ShowsFaultAt d i n e q
 inside_content_refused d i w rest c p t n a e q b (inl (z, ee, eq)) = subst (λ x. ShowsFaultAt x i n e q) (sym z) (ee, eq)
 inside_content_refused d i w rest c p t n a e q b (inr (deep, r)) = content_refused_at d i w rest c p t n a a e q deep b refl r
@@ -168,31 +173,41 @@ pub items_refuse_at : (w u r : List ℕ) (items : Nodes) (fs : Forms) (d a n : �
 items_refuse_at w u r items fs d a n e q at parts j some h =
     (items, fs, u, r, parts, joins_then items u fs d j, some, subst (λ n. ShowsFaultAt d r n e q ⊎ ((m : ℕ) × BerIsCut d r m × (e ≡ incomplete (Size m)) × (q ≡ n))) at h)
 
--- values of framed elements, in other words
+-- a refusal that another result passes on
+pub refusal_passed_on : (P P' : ℕ → Type 0) {Q Q' : Refusal → Type 0} (r : Result ℕ (Refusing BerError)) (e : Refusing BerError) → MatchResult r (λ _. ⊥) (λ x. x ≡ e)
+    → MatchAnswer (Err e) P Q (λ _. ⊥) ⊥ → ((x : Refusal) → Q x → Q' x) → MatchAnswer r P' Q' (λ _. ⊥) ⊥
+refusal_passed_on P P' (Ok m) e is h f = absurd is
+refusal_passed_on P P' (Err x) e is h f = rw is (passed_on P P' e h f (λ n b. b) (λ b. b))
 
-pub refusal_answered : (r : Refusing BerError) (Q Q' : Refusal → Type 0) → IsRefusal r Q → ((e : Refusal) → Q e → Q' e) → IsRefusal r Q'
-refusal_answered (Error e) Q Q' h g = g (refusal e) h
-refusal_answered (Incomplete n) Q Q' h g = absurd h
-refusal_answered (Failure e) Q Q' h g = absurd h
-refusal_answered OutOfMemory Q Q' h g = absurd h
+-- of an element with no indefinite length around it
+pub settled : (A : Bor (List ℕ) → List ℕ → Type 0) (P : Bor (List ℕ) → List ℕ → ℕ → Type 0) (Q : List ℕ → Refusal → ℕ → Type 0) (E : Refusal → ℕ → Type 0) (L : ℕ → Type 0)
+    (read : Result (Bor (List ℕ) × Result ℕ (Refusing BerError)) (Refusing BerError)) (start q : ℕ) (result : Result (Bor (List ℕ) × ℕ) (Refusing BerError)) (place : ℕ)
+    (P' : Bor (List ℕ) × ℕ → Type 0) (Q' : Refusal → ℕ → Type 0) (L' : ℕ → Type 0) → Settles read start q result place
+    → MatchAnswer read (λ x. (w : List ℕ) × A x.0 w × MatchAnswer x.1 (P x.0 w) (λ e. Q w e q) (λ _. ⊥) ⊥) (λ e. E e q) L ⊥
+    → ((x : Bor (List ℕ)) (w : List ℕ) (m : ℕ) → A x w → P x w m → P' (x, m)) → ((x : Bor (List ℕ)) (w : List ℕ) (e : Refusal) → A x w → Q w e q → Q' e q)
+    → ((e : Refusal) → E e q → Q' e q) → ((n : ℕ) → L n → L' n)
+    → MatchAnswer result P' (λ e. Q' e place) (λ n. L' n × (place ≡ start)) ⊥
+settled A P Q E L (Ok (x, Ok m)) start q result place P' Q' L' s (w, a, h) f g j l = rw s.0 (f x w m a h)
+settled A P Q E L (Ok (x, Err (Error e))) start q result place P' Q' L' s (w, a, h) f g j l = rw (s.0, s.1) (g x w (refusal e) a h)
+settled A P Q E L (Ok (x, Err (Incomplete (Size n)))) start q result place P' Q' L' s (w, a, h) f g j l = absurd h
+settled A P Q E L (Ok (x, Err (Incomplete Unknown))) start q result place P' Q' L' s (w, a, h) f g j l = absurd h
+settled A P Q E L (Ok (x, Err (Failure e))) start q result place P' Q' L' s (w, a, h) f g j l = absurd h
+settled A P Q E L (Ok (x, Err OutOfMemory)) start q result place P' Q' L' s (w, a, h) f g j l = absurd h
+settled A P Q E L (Err (Error e)) start q result place P' Q' L' s h f g j l = rw (s.0, s.1) (j (refusal e) h)
+settled A P Q E L (Err (Incomplete (Size n))) start q result place P' Q' L' s h f g j l = rw s.0 (l n h, s.1)
+settled A P Q E L (Err (Incomplete Unknown)) start q result place P' Q' L' s h f g j l = absurd h
+settled A P Q E L (Err (Failure e)) start q result place P' Q' L' s h f g j l = absurd h
+settled A P Q E L (Err OutOfMemory) start q result place P' Q' L' s h f g j l = absurd h
 
-pub values_answered : (r : Result ℕ Refused) (P P' : ℕ → Type 0) (Q Q' : Refusal → ℕ → Type 0) → MatchValues r P Q → ((m : ℕ) → P m → P' m)
-    → ((e : Refusal) (q : ℕ) → Q e q → Q' e q) → MatchValues r P' Q'
-values_answered (Ok m) P P' Q Q' h f g = f m h
-values_answered (Err r) P P' Q Q' h f g = refusal_answered r.reason (λ e. Q e r.place) (λ e. Q' e r.place) h (λ e q. g e r.place q)
-
-pub ok_values : (r : Result ℕ Refused) (P : ℕ → Type 0) (Q : Refusal → ℕ → Type 0) (m : ℕ) → r ≡ Ok m → MatchValues r P Q → P m
-ok_values r P Q m e h = subst (λ x. MatchValues x P Q) e h
-
-pub refused_values : (r : Result ℕ Refused) (P : ℕ → Type 0) (Q : Refusal → ℕ → Type 0) (x : Refused) → r ≡ Err x → MatchValues r P Q → IsRefusal x.reason (λ e. Q e x.place)
-refused_values r P Q x e h = subst (λ y. MatchValues y P Q) e h
-
-pub values_if_ok : (r : Result ℕ Refused) (P H : ℕ → Type 0) (Q : Refusal → ℕ → Type 0) → MatchValues r P Q → ((m : ℕ) → P m → H m) → IfOk r H
-values_if_ok (Ok m) P H Q h f = f m h
-values_if_ok (Err x) P H Q h f = tt
-
-pub if_ok : (r : Result ℕ Refused) (P : ℕ → Type 0) (m : ℕ) → r ≡ Ok m → IfOk r P → P m
-if_ok r P m e h = subst (λ x. IfOk x P) e h
+pub settled_ok : (read : Result (Bor (List ℕ) × Result ℕ (Refusing BerError)) (Refusing BerError)) (start q : ℕ) (result : Result (Bor (List ℕ) × ℕ) (Refusing BerError)) (place : ℕ)
+    (H : Bor (List ℕ) → ℕ → Type 0) (H' : Bor (List ℕ) × ℕ → Type 0) → Settles read start q result place → IfOk read (λ x. IfOk x.1 (H x.0))
+    → ((x : Bor (List ℕ)) (m : ℕ) → H x m → H' (x, m)) → IfOk result H'
+settled_ok (Ok (x, Ok m)) start q result place H H' s h f = rw s.0 (f x m h)
+settled_ok (Ok (x, Err e)) start q result place H H' s h f = rw s.0 tt
+settled_ok (Err (Error e)) start q result place H H' s h f = rw s.0 tt
+settled_ok (Err (Incomplete n)) start q result place H H' s h f = rw s.0 tt
+settled_ok (Err (Failure e)) start q result place H H' s h f = rw s.0 tt
+settled_ok (Err OutOfMemory) start q result place H H' s h f = rw s.0 tt
 
 -- a refusal at a place is one of the input
 

@@ -1,12 +1,16 @@
 -- Elements that are written one after the other, of a spelling by BER.
 use Rattle.std.proofs.Common.{◌≡◌, ℕ, suc, ◌+◌, ◌-◌, ◌≤◌, Bool, true, false, IsTrue, List, [], ◌∷◌, ◌++◌, length, map}
-use Rattle.std.proofs.Common.{refl, sym, ap, subst, ◌∙◌, arith, append_assoc, length-append, inl, inr}
+use Rattle.std.proofs.Common.{refl, sym, ap, subst, ◌∙◌, arith, append_assoc, length-append, inl, inr, Result, Ok, Err, MatchResult}
 use Rattle.std.proofs.lemmas.List.{append-nil, length-map, map-append}
+use Rattle.der_base.specs.declared.error.Err.{Err as Refusing}
+use Rattle.der_base.specs.declared.error.Error.{Error as BerError}
+use Rattle.der_base.specs.Answer.{MatchAnswer}
+use Rattle.der_base.proofs.Answers.Answering.{passed_on}
 use Rattle.der_base.specs.declared.header.Class.{Class}
 use Rattle.der_base.specs.declared.header.Class.TheVariants.{Universal}
 use Rattle.der_base.specs.declared.header.Header.{Header}
 use Rattle.der_base.specs.declared.header.Length.{Length}
-use Rattle.der_base.specs.Header.{class_of, is_constructed, number_of}
+use Rattle.der_base.specs.Header.{class_of, is_constructed, number_of, length_of}
 use Rattle.der_base.specs.Inner.Framed.{Spells, HasContent, JoinSpellings}
 use Rattle.der_base.specs.Leaf.{is_list, is_mapped, IsLeafContent}
 use Rattle.der_base.specs.Listing.{object_count, content_count, item_count}
@@ -19,7 +23,8 @@ use Rattle.der_base.proofs.Leaves.Always.{or_cases}
 use Rattle.der_laws.proofs.Spellings.DerFaults.{kept_unmapped}
 use Rattle.der_base.proofs.Spellings.Counted.{object_counted, sequence_counted, set_counted, items_counted}
 use Rattle.der_nodes.specs.declared.element.Element.{Element}
-use Rattle.der_nodes.specs.BerInner.{WritesSpelling, WritesContent, WritesItems, WritesWhole, IsLeafOrKept, is_definite}
+use Rattle.der_nodes.specs.BerInner.{WritesSpelling, WritesContent, WritesItems, WritesWhole, IsLeafOrKept, is_definite, element_of}
+use Rattle.der_nodes.specs.BerInner.{AnswersItems, InsideContentRefusesAt, IsListHeader}
 use Rattle.der_nodes.specs.Places.{IsElementAt, AreElementsOf, AreInContent, AreInItems, overlay}
 use Rattle.der_nodes.proofs.BerElements.{ElementAt, is_element, placed_at}
 use Rattle.der_nodes.proofs.Overlays.{overlay_none, overlay_more, overlay_front}
@@ -208,33 +213,41 @@ spelling_written {row} b w c p t l k d start a old mid n m new le deep e q put =
       written = put ∙ ap (λ y. overlay y n (row element ∷ [])) (q.written ∙ ap (λ y. overlay old y (map row q.elements)) one) ∙ overlay_front old n (row element) (map row q.elements);
     }
 
-pub whole_written : {N : Type 0} {row : Element → N} (b w : List ℕ) (h : Header) (l : Length) (k d start a : ℕ) (old : List N) (n m : ℕ) (new : List N) → k ≤ framing_budget → 1 ≤ d
-    → ElementAt b start l (class_of h) (is_constructed h) (number_of h) w k a → WritesWhole row h l d w start a old n m new
+pub whole_written : {N : Type 0} {row : Element → N} (b w : List ℕ) (h : Header) (k d start a : ℕ) (old : List N) (n m : ℕ) (new : List N) → k ≤ framing_budget → 1 ≤ d
+    → ElementAt b start (length_of h) (class_of h) (is_constructed h) (number_of h) w k a → WritesWhole row h d w start a old n m new
     → WritesSpelling row b start d old n m new
-whole_written b w h l k d start a old n m new le deep e (mid, q, put) =
-    spelling_written b w (class_of h) (is_constructed h) (number_of h) l k d start a old mid n m new le deep e q put
+whole_written b w h k d start a old n m new le deep e (mid, q, put) =
+    spelling_written b w (class_of h) (is_constructed h) (number_of h) (length_of h) k d start a old mid n m new le deep e q put
 
--- the parts of the element that is written
-pub record HasParts (e : Element) (c : Class) (p f : Bool) (t a b z k : ℕ) : Type 0 where
-  pub class : e.class ≡ c
-  pub constructed : e.constructed ≡ p
-  pub definite : e.definite ≡ f
-  pub number : e.number ≡ t
-  pub header : e.header ≡ a
-  pub content : e.content ≡ b
-  pub end : e.end ≡ z
-  pub inside : e.inside ≡ k
+pub whole_put : {N : Type 0} {row : Element → N} (h : Header) (d : ℕ) (w : List ℕ) (start a end : ℕ) (old mid new : List N) (n m : ℕ)
+    → WritesContent row (class_of h) (is_constructed h) (number_of h) d w a old (n + 1) m mid → end ≡ a + length w
+    → new ≡ overlay mid n (row (element_of h start a end (m - n - 1)) ∷ []) → WritesWhole row h d w start a old n m new
+whole_put {row} h d w start a end old mid new n m content e put =
+    (mid, content, subst (λ z. new ≡ overlay mid n (row (element_of h start a z (m - n - 1)) ∷ [])) e put)
 
-pub same_parts : (e : Element) (c : Class) (p f : Bool) (t a b z k : ℕ) → HasParts e c p f t a b z k
-    → e ≡ record { class = c; constructed = p; definite = f; number = t; header = a; content = b; end = z; inside = k }
-same_parts e c p f t a b z k h =
-    let e1 = h.class in let e2 = h.constructed in let e3 = h.definite in let e4 = h.number in let e5 = h.header in let e6 = h.content in let e7 = h.end in let e8 = h.inside in
-    let s : record { class = e.class; constructed = e.constructed; definite = e.definite; number = e.number; header = e.header; content = e.content; end = e.end; inside = e.inside }
-    ≡ record { class = c; constructed = p; definite = f; number = t; header = a; content = b; end = z; inside = k } = cc in s
+-- a list, of the values of its items
+pub list_answered : {N : Type 0} (row : Element → N) (h : Header) (d : ℕ) (w : List ℕ) (start a end : ℕ) (old mid new : List N) (n : ℕ) (values : Result ℕ (Refusing BerError)) (q : ℕ)
+    → IsListHeader h → 1 ≤ d → end ≡ a + length w → AnswersItems row (d - 1) w a old (n + 1) values mid q
+    → MatchResult values (λ m. new ≡ overlay mid n (row (element_of h start a end (m - n - 1)) ∷ [])) (λ _. new ≡ mid)
+    → MatchAnswer values (λ m. (1 ≤ d) × WritesWhole row h d w start a old n m new)
+    (λ e. InsideContentRefusesAt (class_of h) (is_constructed h) (number_of h) w d start a e q) (λ _. ⊥) ⊥
+list_answered row h d w start a end old mid new n (Ok m) q is deep ends found put =
+    let content = list_written (class_of h) (is_constructed h) (number_of h) d w a old (n + 1) m mid is.0 is.2 is.1 found in
+    (deep, whole_put h d w start a end old mid new n m content ends put)
+list_answered row h d w start a end old mid new n (Err e) q is deep ends found put =
+    passed_on (λ m. WritesItems row (d - 1) w a old (n + 1) m mid) (λ m. (1 ≤ d) × WritesWhole row h d w start a old n m new) e found
+    (λ x r. inr (deep, (is.0, list_mapped (number_of h) is.1, inr (is.1, is.2, r)))) (λ m r. r) (λ r. r)
 
-pub whole_put : {N : Type 0} {row : Element → N} (h : Header) (l : Length) (d : ℕ) (w : List ℕ) (start a : ℕ) (old mid new : List N) (n m : ℕ) (e : Element)
-    → WritesContent row (class_of h) (is_constructed h) (number_of h) d w a old (n + 1) m mid
-    → HasParts e (class_of h) (is_constructed h) (is_definite l) (number_of h) start a (a + length w) (m - n - 1)
-    → new ≡ overlay mid n (row e ∷ []) → WritesWhole row h l d w start a old n m new
-whole_put {row} h l d w start a old mid new n m e content parts put =
-    (mid, content, put ∙ ap (λ x. overlay mid n (row x ∷ [])) (same_parts e (class_of h) (is_constructed h) (is_definite l) (number_of h) start a (a + length w) (m - n - 1) parts))
+-- a content that is no list, of what its check returns
+pub closed_answered : {N : Type 0} (row : Element → N) (h : Header) (d : ℕ) (w : List ℕ) (start a : ℕ) (old new : List N) (n : ℕ) (values : Result ℕ (Refusing BerError))
+    → MatchAnswer values (λ m. (1 ≤ d) × (m ≡ n + 1) × IsLeafOrKept (class_of h) (is_constructed h) (number_of h) w)
+    (λ e. (s b : ℕ) → InsideContentRefusesAt (class_of h) (is_constructed h) (number_of h) w d s b e s) (λ _. ⊥) ⊥
+    → MatchResult values (λ m. new ≡ overlay old n (row (element_of h start a (a + length w) (m - n - 1)) ∷ [])) (λ _. new ≡ old)
+    → MatchAnswer values (λ m. (1 ≤ d) × WritesWhole row h d w start a old n m new)
+    (λ e. InsideContentRefusesAt (class_of h) (is_constructed h) (number_of h) w d start a e start) (λ _. ⊥) ⊥
+closed_answered row h d w start a old new n (Ok m) checked put =
+    let content = content_written (class_of h) (is_constructed h) (number_of h) d w a old (n + 1) m checked.1 checked.2 in
+    (checked.0, (old, content, put))
+closed_answered row h d w start a old new n (Err e) checked put =
+    passed_on (λ m. (1 ≤ d) × (m ≡ n + 1) × IsLeafOrKept (class_of h) (is_constructed h) (number_of h) w) (λ m. (1 ≤ d) × WritesWhole row h d w start a old n m new) e checked
+    (λ x r. r start a) (λ m r. r) (λ r. r)

@@ -10,7 +10,6 @@ use Rattle.der_base.proofs.Octets.Identifiers.{head_same, identifier_same}
 use Rattle.der_nodes.specs.declared.element.Element.{Element}
 use Rattle.der_nodes.specs.Laws.{OneListOfElements}
 use Rattle.der_nodes.specs.Places.{IsElementAt, AreElementsOf, AreInContent, AreInItems}
-use Rattle.der_nodes.proofs.BerWriting.{same_parts}
 
 -- two elements of one class, bit and number in front of one list
 record SameFront (b b' : List ℕ) (w w' x x' : List ℕ) (e e' : Element) : Type 0 where
@@ -52,6 +51,24 @@ front_same b b' x x' n c p t w w' k k' e e' at at' q = elim at.octets [
         })
   ]
 ]
+
+-- an element has one choice of parts
+record HasParts (e : Element) (c : Class) (p f : Bool) (t a b z k : ℕ) : Type 0 where
+  class : e.class ≡ c
+  constructed : e.constructed ≡ p
+  definite : e.definite ≡ f
+  number : e.number ≡ t
+  header : e.header ≡ a
+  content : e.content ≡ b
+  end : e.end ≡ z
+  inside : e.inside ≡ k
+
+same_parts : (e : Element) (c : Class) (p f : Bool) (t a b z k : ℕ) → HasParts e c p f t a b z k
+    → e ≡ record { class = c; constructed = p; definite = f; number = t; header = a; content = b; end = z; inside = k }
+same_parts e c p f t a b z k h =
+    let e1 = h.class in let e2 = h.constructed in let e3 = h.definite in let e4 = h.number in let e5 = h.header in let e6 = h.content in let e7 = h.end in let e8 = h.inside in
+    let s : record { class = e.class; constructed = e.constructed; definite = e.definite; number = e.number; header = e.header; content = e.content; end = e.end; inside = e.inside }
+    ≡ record { class = c; constructed = p; definite = f; number = t; header = a; content = b; end = z; inside = k } = cc in s
 
 -- the elements, if what is inside them is one list
 element_same : (b b' : List ℕ) (n : ℕ) (c : Class) (p : Bool) (t : ℕ) (w w' x x' : List ℕ) (k k' : ℕ) (e e' : Element) → IsElementAt b n c p t w k e → IsElementAt b' n c p t w' k' e' → k ≡ k'

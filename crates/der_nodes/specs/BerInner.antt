@@ -1,25 +1,27 @@
 -- What the functions of the reader of BER write and return.
-use Rattle.std.specs.Prelude.{◌≡◌, ℕ, ◌+◌, ◌-◌, ◌≤◌, ◌⊎◌, Bool, true, false, List, [], ◌∷◌, ◌++◌, length, map}
-use Rattle.std.specs.Prelude.{Result, Ok, Err}
+use Rattle.std.specs.Borrow.{Bor}
+use Rattle.std.specs.Prelude.{◌≡◌, ℕ, ◌+◌, ◌*◌, ◌-◌, ◌≤◌, ◌⊎◌, Bool, true, false, IsTrue, List, [], ◌∷◌, ◌++◌, length, map}
+use Rattle.std.specs.Prelude.{Option, None, Some, Result, Ok, Err}
 use Rattle.der_base.specs.declared.error.Err.{Err as Refusing}
-use Rattle.der_base.specs.declared.error.Err.TheVariants.{Error}
+use Rattle.der_base.specs.declared.error.Err.TheVariants.{Incomplete}
 use Rattle.der_base.specs.declared.error.Error.{Error as BerError}
 use Rattle.der_base.specs.declared.header.Class.{Class}
 use Rattle.der_base.specs.declared.header.Class.TheVariants.{Universal}
 use Rattle.der_base.specs.declared.header.Header.{Header}
 use Rattle.der_base.specs.declared.header.Length.{Length}
 use Rattle.der_base.specs.declared.header.Length.TheVariants.{Definite, Indefinite}
-use Rattle.der_base.specs.Header.{class_of, is_constructed, number_of}
+use Rattle.der_base.specs.Answer.{MatchAnswer}
+use Rattle.der_base.specs.Content.{BeginsWithContent, ContentLacks}
+use Rattle.der_base.specs.Header.{class_of, is_constructed, number_of, length_of}
+use Rattle.der_base.specs.Headers.{BeginsWithHeader}
 use Rattle.der_base.specs.Inner.Framed.{AreElements, Spells, HasContent, JoinSpellings}
+use Rattle.der_base.specs.Leaf.{is_list, IsLeafContent}
 use Rattle.der_base.specs.Listing.{object_count, content_count, item_count}
-use Rattle.der_base.specs.Refusal.{Refusal, refusal, max_depth}
-use Rattle.der_base.specs.Spelling.{Form, Forms}
+use Rattle.der_base.specs.Refusal.{Refusal, max_depth}
+use Rattle.der_base.specs.Spelling.{Form, Forms, IsKept, end_marker}
 use Rattle.der_base.specs.Tree.{Node, Content, Nodes}
 use Rattle.der_nodes.specs.declared.element.Element.{Element}
-use Rattle.der_nodes.specs.declared.ber_reader.Refused.{Refused}
-use Rattle.der_base.specs.Leaf.{IsLeafContent}
-use Rattle.der_base.specs.Spelling.{IsKept}
-use Rattle.der_nodes.specs.FaultPlaces.{InsideRefusesAt, ContentRefusesAt}
+use Rattle.der_nodes.specs.FaultPlaces.{InsideRefusesAt, ContentRefusesAt, ItemsRefuseAt}
 use Rattle.der_nodes.specs.Places.{AreElementsOf, AreInContent, AreInItems, overlay}
 
 -- the octets b, which begin at a place, spell a tree; the rows of its elements are written from the number n on
@@ -70,34 +72,35 @@ abbrev pub is_definite : Length → Bool
 is_definite (Definite n) = true
 is_definite Indefinite = false
 
--- the element of a header with content octets w of this length, and those inside it, are written
-abbrev pub WritesWhole : {N : Type 0} → (Element → N) → Header → Length → ℕ → List ℕ → ℕ → ℕ → List N → ℕ → ℕ
-    → List N → Type 0
-WritesWhole {N} row h l d w start at old n m new = (mid : List N)
+-- the element of a header, with its content octets between two places
+abbrev pub element_of : Header → ℕ → ℕ → ℕ → ℕ → Element
+element_of h start content end inside = record {
+  class = class_of h;
+  constructed = is_constructed h;
+  definite = is_definite (length_of h);
+  number = number_of h;
+  header = start;
+  content = content;
+  end = end;
+  inside = inside;
+}
+
+-- the element of a header with content octets w, and those inside it, are written
+abbrev pub WritesWhole : {N : Type 0} → (Element → N) → Header → ℕ → List ℕ → ℕ → ℕ → List N → ℕ → ℕ → List N → Type 0
+WritesWhole {N} row h d w start at old n m new = (mid : List N)
     × WritesContent row (class_of h) (is_constructed h) (number_of h) d w at old (n + 1) m mid
-    × (new ≡ overlay mid n (row element ∷ []))
-  where
-    element : Element
-    element = record {
-      class = class_of h;
-      constructed = is_constructed h;
-      definite = is_definite l;
-      number = number_of h;
-      header = start;
-      content = at;
-      end = at + length w;
-      inside = m - n - 1;
-    }
+    × (new ≡ overlay mid n (row (element_of h start at (at + length w) (m - n - 1)) ∷ []))
 
--- a result is this refusal
-abbrev pub IsRefusal : Refusing BerError → (Refusal → Type 0) → Type 0
-IsRefusal (Error e) Q = Q (refusal e)
-IsRefusal _ Q = ⊥
+-- v is read and rest follows: the elements from the number n to m, before a place, and the headers from old to new
+abbrev pub IsCounted : List ℕ → List ℕ → ℕ → ℕ → ℕ → ℕ → ℕ → Type 0
+IsCounted v rest end n m old new = (n ≤ m) × (m + length rest ≤ end) × (old + m ≤ new + n)
+    × (2 * new + length rest ≤ 2 * old + length v)
 
--- what the values of framed elements are
-abbrev pub MatchValues : Result ℕ Refused → (ℕ → Type 0) → (Refusal → ℕ → Type 0) → Type 0
-MatchValues (Ok m) P Q = P m
-MatchValues (Err r) P Q = IsRefusal r.reason (λ e. Q e r.place)
+-- what stands next inside an indefinite length with the budget k: the header of an element, or the end marker
+abbrev pub StandsNext : List ℕ → ℕ → Option Header → List ℕ → Type 0
+StandsNext i k None rest = (2 ≤ k) × (i ≡ end_marker ++ rest)
+StandsNext i k (Some h) rest = (2 ≤ k) × ((x : List ℕ) → ¬ (i ≡ end_marker ++ x))
+    × BeginsWithHeader i (class_of h) (is_constructed h) (number_of h) (length_of h) rest
 
 -- the framing of a content of this length, which begins at the place n, is refused at q
 abbrev pub FramingRefusesAt : List ℕ → Length → ℕ → ℕ → Refusal → ℕ → Type 0
@@ -108,6 +111,37 @@ FramingRefusesAt v Indefinite n k e q = InsideRefusesAt v n k e q
 abbrev pub InsideContentRefusesAt : Class → Bool → ℕ → List ℕ → ℕ → ℕ → ℕ → Refusal → ℕ → Type 0
 InsideContentRefusesAt c p t w d n a e q = ((d ≡ 0) × (e ≡ max_depth) × (q ≡ n))
     ⊎ ((1 ≤ d) × ContentRefusesAt c p t w d n a e q)
+
+-- items are written, or one of them is refused at q
+abbrev pub AnswersItems : {N : Type 0} → (Element → N) → ℕ → List ℕ → ℕ → List N → ℕ → Result ℕ (Refusing BerError)
+    → List N → ℕ → Type 0
+AnswersItems row d w a old n result new q = MatchAnswer result (λ m. WritesItems row d w a old n m new)
+    (λ e. ItemsRefuseAt w d a e q) (λ _. ⊥) ⊥
+
+-- What is returned of v, which follows the header h of an element that begins at a place: the content is framed, and
+-- then the element and those inside it are written, or its content is refused at q. Or framing is refused there.
+abbrev pub AnswersContent : {N : Type 0} → (Element → N) → Header → List ℕ → ℕ → ℕ → ℕ → ℕ → List N → ℕ
+    → Result (Bor (List ℕ) × Result ℕ (Refusing BerError)) (Refusing BerError) → List N → ℕ → Type 0
+AnswersContent row h v end k d start old n result new q = MatchAnswer result
+    (λ x. (w : List ℕ) × BeginsWithContent v (length_of h) k w x.0.now × MatchAnswer x.1
+    (λ m. (1 ≤ d) × WritesWhole row h d w start (end - length v) old n m new)
+    (λ e. InsideContentRefusesAt (class_of h) (is_constructed h) (number_of h) w d start (end - length v) e q)
+    (λ _. ⊥) ⊥)
+    (λ e. FramingRefusesAt v (length_of h) (end - length v) k e q)
+    (ContentLacks v (length_of h) k)
+    ⊥
+
+-- The same returned of an element with no indefinite length around it: of an Incomplete the place is where it starts.
+abbrev pub Settles : Result (Bor (List ℕ) × Result ℕ (Refusing BerError)) (Refusing BerError) → ℕ → ℕ
+    → Result (Bor (List ℕ) × ℕ) (Refusing BerError) → ℕ → Type 0
+Settles (Ok (rest, Ok m)) start q result place = (result ≡ Ok (rest, m)) × (place ≡ q)
+Settles (Ok (rest, Err e)) start q result place = (result ≡ Err e) × (place ≡ q)
+Settles (Err (Incomplete n)) start q result place = (result ≡ Err (Incomplete n)) × (place ≡ start)
+Settles (Err e) start q result place = (result ≡ Err e) × (place ≡ q)
+
+-- the header of a SEQUENCE or a SET of items
+abbrev pub IsListHeader : Header → Type 0
+IsListHeader h = (class_of h ≡ Universal) × IsTrue (is_list (number_of h)) × (is_constructed h ≡ true)
 
 -- the octets w are a content that is no list
 abbrev pub IsLeafOrKept : Class → Bool → ℕ → List ℕ → Type 0

@@ -5,11 +5,11 @@ ghost use Rattle.der_base.specs.declared.header.Length.{Length};
 ghost use Rattle.der_base.specs.Answer.{MatchAnswer};
 ghost use Rattle.der_base.specs.Content.{BeginsWithContent, ContentLacks};
 ghost use Rattle.der_base.specs.Spelling.{end_marker};
-ghost use Rattle.der_nodes.specs.BerInner.{FramingRefusesAt};
+ghost use Rattle.der_nodes.specs.BerInner.{FramingRefusesAt, StandsNext};
 ghost use Rattle.der_nodes.specs.FaultPlaces.{InsideRefusesAt};
 
 use der_base::error::{BerError, Err, IResult};
-use der_base::header::{Length, ber_read_element_header};
+use der_base::header::{Header, Length, ber_read_element_header};
 use der_base::spans::ber_read_definite;
 
 /// Reads the content after a header of this length, before octets that end at a place of the input.
@@ -42,9 +42,8 @@ pub(crate) fn frame_content<'a>(
     }
 }
 
-/// Reads the elements before the end marker of an indefinite length. The header of each is read before
-/// the budget is looked at. The end marker needs budget too. The place is that of the element that
-/// was begun last.
+/// Reads the elements before the end marker of an indefinite length. The place is that of the element
+/// that was begun last.
 #[cycle(framing)]
 #[inline(never)]
 pub(crate) fn frame_to_end_marker<'a>(
@@ -68,23 +67,55 @@ pub(crate) fn frame_to_end_marker<'a>(
 {
     let mut rest = i;
     'elements: loop {
-        *place = end - rest.len();
-        *headers += 1;
-        let (behind, header) = ber_read_element_header(rest)?;
-        if budget == 1 {
-            return Err(Err::Error(BerError::BerMaxDepth));
+        let (behind, found) = read_next(rest, end, budget, headers, place)?;
+        match found {
+            None => return Ok((behind, &i[..i.len() - rest.len()])),
+            Some(header) => {
+                let size = header.length();
+                let (after, _) = frame_content(behind, size, end, budget - 1, headers, place)?;
+                rest = after;
+            }
         }
-        if begins_with_end_marker(rest) {
-            return Ok((behind, &i[..i.len() - rest.len()]));
-        }
-        let (after, _) = frame_content(behind, header.length(), end, budget - 1, headers, place)?;
-        rest = after;
     }
+}
+
+/// What stands next inside an indefinite length: the header of an element, or None, which is the end
+/// marker. The header is read before the budget is looked at. The end marker needs budget too. The
+/// place is where it begins.
+#[inline(always)]
+pub(crate) fn read_next<'a>(
+    i: &'a [u8],
+    end: usize,
+    budget: usize,
+    headers: &mut usize,
+    place: &mut usize,
+) -> IResult<&'a [u8], Option<Header<'a>>, BerError>
+    requires some { 1 ≤ budget }
+    requires within { length i.now ≤ end }
+    requires fits { headers.old < 2 ^ 64 - 1 }
+    ensures found { MatchAnswer result
+        (λ x. StandsNext i.now budget x.1 x.0.now)
+        (λ e. InsideRefusesAt i.now (end - length i.now) budget e place.new)
+        (ContentLacks i.now Length.Indefinite budget)
+        ⊥ }
+    ensures placed { place.new ≡ end - length i.now }
+    ensures counted { headers.new ≡ headers.old + 1 }
+{
+    *place = end - i.len();
+    *headers += 1;
+    let (behind, header) = ber_read_element_header(i)?;
+    if budget == 1 {
+        return Err(Err::Error(BerError::BerMaxDepth));
+    }
+    if begins_with_end_marker(i) {
+        return Ok((behind, None));
+    }
+    Ok((behind, Some(header)))
 }
 
 /// Whether the input begins with the two octets of an end marker (X.690 8.1.5).
 #[inline]
-pub(crate) fn begins_with_end_marker(i: &[u8]) -> bool
+fn begins_with_end_marker(i: &[u8]) -> bool
     ensures { MatchBool result
         ((rest : List ℕ) × (i.now ≡ end_marker ++ rest))
         ((rest : List ℕ) → ¬ (i.now ≡ end_marker ++ rest)) }

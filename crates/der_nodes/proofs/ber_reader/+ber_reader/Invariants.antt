@@ -4,34 +4,19 @@ use Rattle.der_nodes.specs.BerInner.{WritesItems}
 use Rattle.der_nodes.proofs.ber_reader.+ber_reader.Given as goal
 
 abbrev pub decreases-read_element : goal.decreases-read_element
-decreases-read_element g l = 7 * l.max_depth + 6
+decreases-read_element g l = 4 * l.max_depth + 2
 
 abbrev pub decreases-read_any : goal.decreases-read_any
-decreases-read_any g l = 7 * l.max_depth + 5
-
-abbrev pub decreases-read_outermost : goal.decreases-read_outermost
-decreases-read_outermost g l = 7 * l.max_depth + 4
-
-abbrev pub decreases-read_open : goal.decreases-read_open
-decreases-read_open g l = 7 * l.max_depth + 3
-
-abbrev pub decreases-read_open_content : goal.decreases-read_open_content
-decreases-read_open_content g l = 7 * l.max_depth + 2
-
-abbrev pub decreases-read_to_end_marker : goal.decreases-read_to_end_marker
-decreases-read_to_end_marker g l = 7 * l.max_depth + 7
-
-abbrev pub decreases-read_inside : goal.decreases-read_inside
-decreases-read_inside g l = 7 * l.max_depth + 5
-
-abbrev pub decreases-read_value : goal.decreases-read_value
-decreases-read_value g l = 7 * l.max_depth + 2
+decreases-read_any g l = 4 * l.max_depth + 1
 
 abbrev pub decreases-read_content : goal.decreases-read_content
-decreases-read_content g l = 7 * l.max_depth + 1
+decreases-read_content g l = 4 * l.max_depth
+
+abbrev pub decreases-read_to_end_marker : goal.decreases-read_to_end_marker
+decreases-read_to_end_marker g l = 4 * l.max_depth + 3
 
 abbrev pub decreases-read_items : goal.decreases-read_items
-decreases-read_items g l = 7 * l.max_depth + 7
+decreases-read_items g l = 4 * l.max_depth + 3
 
 -- the items in front of the rest are written
 abbrev pub invariant-read_items-loop-rest : goal.invariant-read_items-loop-rest
