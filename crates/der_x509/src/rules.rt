@@ -52,31 +52,18 @@ impl Certificate<'_> {
     pub fn breaks(&self, rule: Rule) -> bool
         ensures { IsTrue result ↔ Breaks rule (certificate_of self.now) }
     {
-        let fields = &self.tbs_certificate;
         match rule {
-            Rule::SameAlgorithms => !is_same(&self.signature_algorithm, &fields.signature),
-            Rule::PositiveSerialNumber => !is_positive(fields.serial_number),
-            Rule::ShortSerialNumber => fields.serial_number.len() > LONGEST_SERIAL_NUMBER,
-            Rule::NamedIssuer => fields.issuer.octets.is_empty(),
-            Rule::OrderedAttributes => has_descent(fields.issuer) || has_descent(fields.subject),
-            Rule::UtcTimeTo2049 => {
-                is_early(fields.validity.not_before) || is_early(fields.validity.not_after)
-            }
-            Rule::WholeSeconds => {
-                has_fraction(fields.validity.not_before) || has_fraction(fields.validity.not_after)
-            }
-            Rule::UniqueIdVersion => {
-                fields.version == Version::V1
-                    && (fields.issuer_unique_id.is_some() || fields.subject_unique_id.is_some())
-            }
-            Rule::ExtensionsVersion => {
-                fields.version != Version::V3 && !fields.extensions.octets.is_empty()
-            }
-            Rule::DistinctExtensions => has_repetition(fields.extensions),
-            Rule::NamedSubject => {
-                fields.subject.octets.is_empty()
-                    && !has_critical(fields.extensions, SUBJECT_ALT_NAME)
-            }
+            Rule::SameAlgorithms => self.breaks_same_algorithms(),
+            Rule::PositiveSerialNumber => self.breaks_positive_serial_number(),
+            Rule::ShortSerialNumber => self.breaks_short_serial_number(),
+            Rule::NamedIssuer => self.breaks_named_issuer(),
+            Rule::OrderedAttributes => self.breaks_ordered_attributes(),
+            Rule::UtcTimeTo2049 => self.breaks_utc_time_to_2049(),
+            Rule::WholeSeconds => self.breaks_whole_seconds(),
+            Rule::UniqueIdVersion => self.breaks_unique_id_version(),
+            Rule::ExtensionsVersion => self.breaks_extensions_version(),
+            Rule::DistinctExtensions => self.breaks_distinct_extensions(),
+            Rule::NamedSubject => self.breaks_named_subject(),
         }
     }
 
@@ -120,6 +107,82 @@ impl Certificate<'_> {
             return Some(Rule::NamedSubject);
         }
         None
+    }
+}
+
+// A function for each rule: whether the certificate breaks it.
+impl Certificate<'_> {
+    fn breaks_same_algorithms(&self) -> bool
+        ensures { IsTrue result ↔ Breaks Rule.SameAlgorithms (certificate_of self.now) }
+    {
+        !is_same(&self.signature_algorithm, &self.tbs_certificate.signature)
+    }
+
+    fn breaks_positive_serial_number(&self) -> bool
+        ensures { IsTrue result ↔ Breaks Rule.PositiveSerialNumber (certificate_of self.now) }
+    {
+        !is_positive(self.tbs_certificate.serial_number)
+    }
+
+    fn breaks_short_serial_number(&self) -> bool
+        ensures { IsTrue result ↔ Breaks Rule.ShortSerialNumber (certificate_of self.now) }
+    {
+        self.tbs_certificate.serial_number.len() > LONGEST_SERIAL_NUMBER
+    }
+
+    fn breaks_named_issuer(&self) -> bool
+        ensures { IsTrue result ↔ Breaks Rule.NamedIssuer (certificate_of self.now) }
+    {
+        self.tbs_certificate.issuer.octets.is_empty()
+    }
+
+    fn breaks_ordered_attributes(&self) -> bool
+        ensures { IsTrue result ↔ Breaks Rule.OrderedAttributes (certificate_of self.now) }
+    {
+        let fields = &self.tbs_certificate;
+        has_descent(fields.issuer) || has_descent(fields.subject)
+    }
+
+    fn breaks_utc_time_to_2049(&self) -> bool
+        ensures { IsTrue result ↔ Breaks Rule.UtcTimeTo2049 (certificate_of self.now) }
+    {
+        let validity = self.tbs_certificate.validity;
+        is_early(validity.not_before) || is_early(validity.not_after)
+    }
+
+    fn breaks_whole_seconds(&self) -> bool
+        ensures { IsTrue result ↔ Breaks Rule.WholeSeconds (certificate_of self.now) }
+    {
+        let validity = self.tbs_certificate.validity;
+        has_fraction(validity.not_before) || has_fraction(validity.not_after)
+    }
+
+    fn breaks_unique_id_version(&self) -> bool
+        ensures { IsTrue result ↔ Breaks Rule.UniqueIdVersion (certificate_of self.now) }
+    {
+        let fields = &self.tbs_certificate;
+        fields.version == Version::V1
+            && (fields.issuer_unique_id.is_some() || fields.subject_unique_id.is_some())
+    }
+
+    fn breaks_extensions_version(&self) -> bool
+        ensures { IsTrue result ↔ Breaks Rule.ExtensionsVersion (certificate_of self.now) }
+    {
+        let fields = &self.tbs_certificate;
+        fields.version != Version::V3 && !fields.extensions.octets.is_empty()
+    }
+
+    fn breaks_distinct_extensions(&self) -> bool
+        ensures { IsTrue result ↔ Breaks Rule.DistinctExtensions (certificate_of self.now) }
+    {
+        has_repetition(self.tbs_certificate.extensions)
+    }
+
+    fn breaks_named_subject(&self) -> bool
+        ensures { IsTrue result ↔ Breaks Rule.NamedSubject (certificate_of self.now) }
+    {
+        let fields = &self.tbs_certificate;
+        fields.subject.octets.is_empty() && !has_critical(fields.extensions, SUBJECT_ALT_NAME)
     }
 }
 
