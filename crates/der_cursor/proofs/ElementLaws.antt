@@ -100,4 +100,4 @@ module _ (r : Rules) (c : Class) (p : Bool) (t : ℕ) (i : List ℕ) where
   -- an element that was read is told as another
   pub refused_as : (x : Bor (List ℕ) × Any) (e : Refusal) → ReadsAnyBy r i x → IsOther c p t (class_of x.1.header) (is_constructed x.1.header) (number_of x.1.header) e
       → ElementRefuses r c p t i e
-  refused_as x e h o = inr (class_of x.1.header, is_constructed x.1.header, number_of x.1.header, (x.1.bytes.now, x.0.now), h, o)
+  refused_as x e h o = inr (class_of x.1.header, is_constructed x.1.header, number_of x.1.header, (x.1.bytes.now, x.0.now), h.0, o)

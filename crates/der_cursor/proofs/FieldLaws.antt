@@ -128,7 +128,7 @@ field_unopened C {result = result} o s = let y = err_from_is_err_and result s in
 -- Any elements, which aren't kept.
 pub passed_takes : (r : Rules) (i : List ℕ) (v : Unit {0}) (rest : List ℕ) → Passed AnyElement r i v rest → length rest < length i
 unfolding Passed AnyElement
-passed_takes r i v rest z = element_takes r z.0.0 z.0.1 z.0.2 i (z.0.3, rest) z.1
+passed_takes r i v rest z = element_takes r z.0.0 z.0.1 z.0.2 i (z.0.3, rest) z.1.0
 
 module _ (c : Cursor) {T E : Type 0} {view : T → List (Unit {0})} {May : E → Type 0} where
   pub others_read : {x : T} → ReadsContent {E = E} (Each (Passed AnyElement)) view May c (Ok x) → ReadsContent Others (λ x. x) May c (Ok tt)

@@ -23,6 +23,7 @@ use Rattle.der_cursor.specs.Cursors.{octets_left, rules_of, advanced, class_want
 use Rattle.der_cursor.specs.Cursors.{OpensAt, OpensType, OpensTagged, ReadsValue, ReadsOptional, ReadsOr, ReadsTime, ReadsAnyAt}
 use Rattle.der_cursor.specs.Elements.{SpellsElement, BeginsWithTag, IsNext}
 use Rattle.der_cursor.specs.Formats.{Content, Field, Format, Required, Optional, Default, OptionalTagged, IfLeft, element_of, AnyElement}
+use Rattle.der_cursor.proofs.AnyLaws.{header_told}
 use Rattle.der_cursor.specs.Formats.{Octets, Value, Primitive, Tagged, Implicit, Limited, UtcTime, GeneralizedTime, Boolean, Time, OptionalTime, Never, ReadsNext, ReadsField, ReadsContent}
 
 -- a reader that takes no memory, at a value that is spelled
@@ -262,13 +263,13 @@ tagged_octets n {result = Err e} o fresh = tagged_unopened n Octets o fresh
 pub any_read : {old new : Cursor} {result : Result Any (Refusal BerError)} → ReadsAnyAt old result new → ReadsField AnyElement element_of Never old result new
 unfolding AnyElement
 any_read {old = old} {new = new} {result = Ok x} h fresh = record {
-  found = (h.any_read.found, h.place);
-  only = λ v rest z. let q = h.any_read.only (record { class = v.0; constructed = v.1; number = v.2; content = v.3; rest = rest }) z in
-      (ap (λ e. (e.class, e.constructed, e.number, e.content)) q, ap (λ e. e.rest) q);
+  found = ((h.any_read.found, h.header), h.place);
+  only = λ v rest z. let q = h.any_read.only (record { class = v.0; constructed = v.1; number = v.2; content = v.3; rest = rest }) z.0 in
+      (header_told _ _ (element_of x) v (ap (λ e. e.class) q) (ap (λ e. e.constructed) q) (ap (λ e. e.number) q) (ap (λ e. e.content) q) h.header z.1, ap (λ e. e.rest) q);
 }
 any_read {old = old} {new = new} {result = Err e} h fresh = record {
   found = tt;
-  only = λ v rest z. absurd (never _ e.reason (h.any_read.only (record { class = v.0; constructed = v.1; number = v.2; content = v.3; rest = rest }) z));
+  only = λ v rest z. absurd (never _ e.reason (h.any_read.only (record { class = v.0; constructed = v.1; number = v.2; content = v.3; rest = rest }) z.0));
 }
 
 module _ {V : Type 0} (F : Field V) {T E : Type 0} {view : T → V} {May : E → Type 0} {c : Cursor} where

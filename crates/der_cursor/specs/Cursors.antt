@@ -2,7 +2,7 @@
 use Rattle.std.specs.Borrow.{Bor}
 use Rattle.std.specs.Prelude.{◌≡◌, ◌≢◌, ℕ, ◌+◌, ◌-◌, ◌/◌, Bool, true, false, nat_eq, Option, Some, None}
 use Rattle.std.specs.Prelude.{List, [], ◌++◌, length}
-use Rattle.std.specs.Prelude.{Result, Ok, Err, IfErr, ◌⊎◌, slice_get, codes, decimal}
+use Rattle.std.specs.Prelude.{Result, Ok, Err, IfOk, IfErr, ◌⊎◌, slice_get, codes, decimal}
 use Rattle.std.specs.Option.{option_map, IfSome, IsSomeAnd}
 use Rattle.der_base.specs.declared.any.Any.{Any}
 use Rattle.der_base.specs.declared.error.Err.{Err as Refused}
@@ -34,7 +34,7 @@ use Rattle.der_cursor.specs.declared.cursor.Found.{Found}
 use Rattle.der_cursor.specs.declared.refusal.Refusal.{Refusal}
 use Rattle.der_values.specs.Kinds.{Kind, times}
 use Rattle.der_cursor.specs.Elements.{SpellsElement, ElementRefuses, ElementLacks, NoElement, BeginsWithTag, IsNext}
-use Rattle.der_cursor.specs.Elements.{MarkerFollows, SpellsLeading, leading}
+use Rattle.der_cursor.specs.Elements.{MarkerFollows, SpellsLeading, leading, HasHeader, element_of}
 
 -- the octets that aren't read yet
 abbrev pub octets_left : Cursor → List ℕ
@@ -245,10 +245,11 @@ abbrev pub element_left : Any × Cursor → LeadingElement
 element_left x = leading (class_of x.0.header) (is_constructed x.0.header) (number_of x.0.header)
     (x.0.bytes.now, octets_left x.1)
 
--- any element at all is read
+-- any element at all is read, and its header is the one that is there
 pub record ReadsAnyAt (old : Cursor) (result : Result Any (Refusal BerError)) (new : Cursor) : Type 0 where
   pub any_read : let r = rules_of old in let i = octets_left old in AnswersExactly (taken result new) element_left
       (λ x. SpellsLeading r i (element_left x)) (SpellsLeading r i) (RefusesAt old (NoElement r i)) (LacksAt old) ⊥ ⊥
+  pub header : IfOk result (λ a. HasHeader (rules_of old) (octets_left old) (element_of a))
   pub place : GoesOn old result new
 
 -- Opens an explicit tag of this number exactly where its identifier octets are next. Else there is none, and nothing is

@@ -1,6 +1,7 @@
 -- Elements that are asked for: of one class, constructed bit and number, by the rules that are given.
 use Rattle.std.specs.Borrow.{Bor}
-use Rattle.std.specs.Prelude.{◌≡◌, ◌≢◌, ℕ, ◌+◌, ◌<◌, ◌⊎◌, Bool, true, false, Some, List, ◌∷◌, ◌++◌, length, Result}
+use Rattle.std.specs.Prelude.{◌≡◌, ◌≢◌, ℕ, ◌+◌, ◌<◌, ◌⊎◌, Bool, true, false, Option, Some, List, ◌∷◌, ◌++◌, length}
+use Rattle.std.specs.Prelude.{Result}
 use Rattle.der_base.specs.declared.any.Any.{Any}
 use Rattle.der_base.specs.declared.error.Err.{Err as Refused}
 use Rattle.der_base.specs.declared.error.Error.{Error as BerError}
@@ -13,8 +14,8 @@ use Rattle.der_base.specs.declared.rules.Rules.TheVariants.{Ber, Der}
 use Rattle.der_base.specs.Any.{AnyRefuses, AnyLacks, DerAnyLacks, LeadingElement}
 use Rattle.der_base.specs.Exactly.{AnswersExactly}
 use Rattle.der_base.specs.Fault.{DerHeaderRefuses}
-use Rattle.der_base.specs.Header.{class_of, is_constructed, number_of}
-use Rattle.der_base.specs.Headers.{BeginsWithDerHeader, LeadingHeader}
+use Rattle.der_base.specs.Header.{class_of, is_constructed, number_of, length_of, raw_tag_of}
+use Rattle.der_base.specs.Headers.{BeginsWithDerHeader, BeginsWithHeader, LeadingHeader}
 use Rattle.der_base.specs.Octets.{identifier, leading_bits}
 use Rattle.der_base.specs.Refusal.{Refusal, unexpected_class, unexpected_tag, construct_expected, construct_unexpected}
 use Rattle.der_base.specs.Rules.{SpellsHeaderBy}
@@ -65,10 +66,31 @@ abbrev pub ElementRefuses : Rules → Class → Bool → ℕ → List ℕ → Re
 ElementRefuses r c p t i e = NoElement r i e
     ⊎ ((k : Class) × (q : Bool) × (n : ℕ) × (v : List ℕ × List ℕ) × SpellsElement r k q n i v × IsOther c p t k q n e)
 
+-- any element: its class, whether it is constructed, its number and its content octets, and the length and the
+-- identifier octets that its header has
+abbrev pub Element : Type 0
+Element = Class × Bool × ℕ × List ℕ × Length × Option (List ℕ)
+
+abbrev pub element_of : Any → Element
+element_of a = let h = a.header in
+    (class_of h, is_constructed h, number_of h, a.bytes.now, length_of h, raw_tag_of h)
+
+-- the header that i begins with has this length (8.1.3); by DER that is the number of content octets (10.1)
+abbrev pub HasLength : Rules → List ℕ → Element → Type 0
+HasLength Ber i e = (behind : List ℕ) × BeginsWithHeader i e.0 e.1 e.2 e.4 behind
+HasLength Der i e = e.4 ≡ Definite (length e.3)
+
+-- and these identifier octets (8.1.2)
+abbrev pub HasHeader : Rules → List ℕ → Element → Type 0
+HasHeader r i e = HasLength r i e × (e.5 ≡ Some (identifier e.0 e.1 e.2))
+
+-- i begins with the element, and rest follows
+abbrev pub SpellsAny : Rules → List ℕ → Element → List ℕ → Type 0
+SpellsAny r i e rest = SpellsElement r e.0 e.1 e.2 i (e.3, rest) × HasHeader r i e
+
 -- the element that was read begins i
 abbrev pub ReadsAnyBy : Rules → List ℕ → Bor (List ℕ) × Any → Type 0
-ReadsAnyBy r i x = let h = x.1.header in
-    SpellsElement r (class_of h) (is_constructed h) (number_of h) i (x.1.bytes.now, x.0.now)
+ReadsAnyBy r i x = SpellsAny r i (element_of x.1) x.0.now
 
 -- an element that was read: its content octets, and what follows it
 abbrev pub content_and_rest : Bor (List ℕ) × Any → List ℕ × List ℕ

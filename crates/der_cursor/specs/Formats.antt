@@ -3,7 +3,6 @@
 use Rattle.std.specs.Prelude.{◌≡◌, ◌≢◌, ℕ, ◌⊎◌, Bool, true, false, ℤ, Option, Some, None, List, [], ◌∷◌}
 use Rattle.std.specs.Borrow.{Bor}
 use Rattle.std.specs.Prelude.{Result, IfOk, MatchResult}
-use Rattle.der_base.specs.declared.any.Any.{Any}
 use Rattle.der_base.specs.declared.error.Err.TheVariants.{OutOfMemory}
 use Rattle.der_base.specs.declared.error.Error.{Error as BerError}
 use Rattle.der_base.specs.declared.header.Class.{Class}
@@ -11,7 +10,6 @@ use Rattle.der_base.specs.declared.header.Class.TheVariants.{Universal, ContextS
 use Rattle.der_base.specs.declared.rules.Rules.{Rules}
 use Rattle.der_base.specs.declared.rules.Rules.TheVariants.{Der}
 use Rattle.der_base.specs.declared.time.ASN1DateTime.{ASN1DateTime}
-use Rattle.der_base.specs.Header.{class_of, is_constructed, number_of}
 use Rattle.der_base.specs.LeafRefusal.{NoneHolds}
 use Rattle.der_base.specs.Numbers.{NumberType}
 use Rattle.der_values.specs.Kinds.{Kind, booleans, integers, numbers, enumerated_numbers, bit_strings, octet_strings}
@@ -20,7 +18,8 @@ use Rattle.der_cursor.specs.declared.cursor.Cursor.{Cursor}
 use Rattle.der_cursor.specs.declared.named.FieldRefusal.{FieldRefusal}
 use Rattle.der_cursor.specs.declared.refusal.Refusal.{Refusal}
 use Rattle.der_cursor.specs.Cursors.{octets_left, rules_of, advanced}
-use Rattle.der_cursor.specs.Elements.{SpellsElement, BeginsWithTag, IsNext}
+use Rattle.der_cursor.specs.Elements.{SpellsElement, SpellsAny, BeginsWithTag, IsNext}
+pub use Rattle.der_cursor.specs.Elements.{Element, element_of}
 
 -- the octets are the whole content of a value
 abbrev pub Content : Type 0 → Type 1
@@ -68,15 +67,9 @@ unfoldable pub IfLeft : {V : Type 0} → Field V → Field (Option V)
 IfLeft F r i (Some v) rest = (i ≢ []) × F r i v rest
 IfLeft F r i None rest = (i ≡ []) × (i ≡ rest)
 
--- any element: its class, whether it is constructed, its number and its content octets
-abbrev pub Element : Type 0
-Element = Class × Bool × ℕ × List ℕ
-
-abbrev pub element_of : Any → Element
-element_of a = (class_of a.header, is_constructed a.header, number_of a.header, a.bytes.now)
-
+-- any element, with its header
 unfoldable pub AnyElement : Field Element
-AnyElement r i v rest = SpellsElement r v.0 v.1 v.2 i (v.3, rest)
+AnyElement r i v rest = SpellsAny r i v rest
 
 -- one of these types, and which
 unfoldable pub Choice : {K V : Type 0} → (K → Format V) → Field (K × V)

@@ -9,11 +9,10 @@
 ghost use Rattle.std.specs.Prelude.{IsTrue, pos};
 ghost use Rattle.der_base.specs.Leaf.{is_time};
 ghost use Rattle.der_base.specs.Numbers.{signed, unsigned};
-ghost use Rattle.der_base.specs.Oids.{octets_of};
 ghost use Rattle.der_base.specs.Text.{is_text_type};
 ghost use Rattle.der_cursor.specs.Cursors.{FindsPrimitive, ReadsValue, Takes, number_wanted};
-ghost use Rattle.der_values.specs.Kinds.{bit_strings, booleans, enumerated_numbers, identifiers, integers};
-ghost use Rattle.der_values.specs.Kinds.{nulls, numbers, octet_strings, texts, times};
+ghost use Rattle.der_values.specs.Kinds.{absolute_octets, bit_strings, booleans, enumerated_numbers, identifiers};
+ghost use Rattle.der_values.specs.Kinds.{integers, nulls, numbers, octet_strings, texts, times};
 
 use crate::cursor::Cursor;
 use crate::refusal::Refusal;
@@ -109,7 +108,7 @@ impl<'a> Cursor<'a> {
 
     /// An OBJECT IDENTIFIER (8.19), as `read_oid`: one whose arcs are padded is refused.
     pub fn oid(&mut self) -> Result<Oid<'a>, Refusal<BerError>>
-        ensures { ReadsValue (λ x. octets_of x) identifiers 6 self.old result self.new }
+        ensures { ReadsValue absolute_octets identifiers 6 self.old result self.new }
     {
         let (rest, octets) = self.primitive(Tag::Oid)?;
         self.take(rest, read_oid(octets))

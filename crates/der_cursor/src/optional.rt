@@ -3,12 +3,11 @@
 ghost use Rattle.std.specs.Prelude.{◌≡◌, ◌↔◌, ◌≤◌, ◌+◌, ◌/◌, ◌%◌, ◌++◌, ℕ, List, IsTrue, pos};
 ghost use Rattle.der_base.specs.Numbers.{unsigned};
 ghost use Rattle.der_base.specs.Octets.{class_number, groups};
-ghost use Rattle.der_base.specs.Oids.{octets_of};
 ghost use Rattle.der_cursor.specs.Cursors.{octets_left, IsNextType, ReadsAnyAt, ReadsOptional, ReadsOr};
 ghost use Rattle.der_cursor.specs.Cursors.{ReadsTime};
 ghost use Rattle.der_cursor.specs.Elements.{IsNext};
-ghost use Rattle.der_values.specs.Kinds.{bit_strings, booleans, identifiers, integers, numbers, octet_strings};
-ghost use Rattle.der_values.specs.Kinds.{texts, times};
+ghost use Rattle.der_values.specs.Kinds.{absolute_octets, bit_strings, booleans, identifiers, integers, numbers};
+ghost use Rattle.der_values.specs.Kinds.{octet_strings, texts, times};
 
 use crate::cursor::{Cursor, class_of, read_any};
 use crate::refusal::Refusal;
@@ -128,7 +127,7 @@ impl<'a> Cursor<'a> {
 
     /// An OBJECT IDENTIFIER, if it is next.
     pub fn optional_oid(&mut self) -> Result<Option<Oid<'a>>, Refusal<BerError>>
-        ensures { ReadsOptional (λ x. octets_of x) identifiers 6 self.old result self.new }
+        ensures { ReadsOptional absolute_octets identifiers 6 self.old result self.new }
     {
         if !self.is_next_type(Tag::Oid) {
             self.advance(self.left);

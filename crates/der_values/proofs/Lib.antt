@@ -1,4 +1,5 @@
 mod DecimalDigits
+pub mod Identifiers
 mod OctetNumbers
 mod PaddedArcs
 mod Subidentifiers

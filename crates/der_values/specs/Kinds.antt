@@ -81,6 +81,10 @@ HasPaddedArc w = list_all is_unpadded (subidentifiers w) ≡ false
 abbrev pub absolute_arcs : Oid → Option (List ℕ)
 absolute_arcs x = if is_relative_of x then None else arcs false (octets_of x)
 
+-- the content octets of an OBJECT IDENTIFIER; for a RELATIVE-OID it has none, and no OBJECT IDENTIFIER is empty
+abbrev pub absolute_octets : Oid → List ℕ
+absolute_octets x = if is_relative_of x then [] else octets_of x
+
 -- the octets of an OBJECT IDENTIFIER (8.19), whose arcs may have any size
 abbrev pub identifiers : Kind (List ℕ)
 identifiers = record {

@@ -4,7 +4,8 @@ ghost use Rattle.std.specs.Option.{option_map};
 ghost use Rattle.der_base.specs.Arcs.{arcs, first_arcs};
 ghost use Rattle.der_base.specs.OidArcs.{octets_of_arcs};
 ghost use Rattle.der_base.specs.Oids.{IsBorrowed, is_relative_of, octets_of};
-ghost use Rattle.der_values.specs.Kinds.{Decodes, EndsSubidentifier, HasPaddedArc, absolute_arcs, identifiers};
+ghost use Rattle.der_values.specs.Kinds.{Decodes, EndsSubidentifier, HasPaddedArc, absolute_arcs, absolute_octets};
+ghost use Rattle.der_values.specs.Kinds.{identifiers};
 
 use der_base::error::BerError;
 use der_base::oid::Oid;
@@ -14,7 +15,7 @@ use std::borrow::CowSlice;
 /// arc has no end, or if an arc begins with an octet of 0x80 (8.19.2). An arc may have any size, though
 /// `Oid::iter` returns only arcs of 64 bits.
 pub fn read_oid(octets: &[u8]) -> Result<Oid<'_>, BerError>
-    ensures { Decodes (λ x. octets_of x) identifiers octets.now result }
+    ensures { Decodes absolute_octets identifiers octets.now result }
 {
     let oid = Oid::new(CowSlice::Borrowed(octets));
     if !ends_subidentifier(octets) || has_padded_arc(octets) {

@@ -9,7 +9,8 @@ pub returns-in-Ok : goal.returns-in-Ok
 returns-in-Ok c =
     let old = c.args.self.now in
     rw c.advance.ensures (record {
-      any_read = exactly _ (shows_one_at old (any_shows_one (rules_of old) (octets_left old) element_left)) (λ n l m. m) c.in-Ok.ensures.found;
+      any_read = exactly _ (shows_one_at old (any_shows_one (rules_of old) (octets_left old) element_left)) (λ n l m. m) c.in-Ok.ensures.found.0;
+      header = c.in-Ok.ensures.found.1;
       place = refl;
     })
 
@@ -19,6 +20,7 @@ returns-in-Err c =
     rw c.refused.ensures (record {
       any_read = exactly _ (shows_one_at old (any_shows_one (rules_of old) (octets_left old) element_left)) (λ n l m. m)
           (refused_inside _ _ _ old c.in-Err.reason c.refuse_cut_item.result c.if-self.true c.in-Err.ensures.found c.refuse_cut_item.ensures);
+      header = tt;
       place = (refl, refl);
     })
 
@@ -28,5 +30,6 @@ returns-in-Err-2 c =
     rw c.refused-in-Err-2.ensures (record {
       any_read = exactly _ (shows_one_at old (any_shows_one (rules_of old) (octets_left old) element_left)) (λ n l m. m)
           (refused_outside _ _ _ old c.in-Err.reason c.if-self.false c.in-Err.ensures.found);
+      header = tt;
       place = (refl, refl);
     })
