@@ -6,6 +6,7 @@ ghost use Rattle.der_x509.specs.Rules.{ReadsStrictly, every_rule};
 
 use crate::algorithm::AlgorithmIdentifier;
 use crate::certificate::{Certificate, Version, read_certificate};
+use crate::identifier::absolute_octets;
 use crate::list_rules::{has_critical, has_descent, has_repetition};
 use crate::refusal::CertificateRefusal;
 use crate::time::Time;
@@ -213,7 +214,8 @@ pub fn read_strict_certificate(octets: &[u8]) -> Result<Certificate<'_>, StrictR
 fn is_same(one: &AlgorithmIdentifier<'_>, other: &AlgorithmIdentifier<'_>) -> bool
     ensures { IsTrue result ↔ (algorithm_of one.now ≡ algorithm_of other.now) }
 {
-    one.algorithm.as_bytes() == other.algorithm.as_bytes() && one.parameters == other.parameters
+    absolute_octets(&one.algorithm) == absolute_octets(&other.algorithm)
+        && one.parameters == other.parameters
 }
 
 /// Whether content octets of an INTEGER spell a positive number.
