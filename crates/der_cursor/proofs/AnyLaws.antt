@@ -61,17 +61,39 @@ header_told r i e v a b d q h g =
 -- an element has a header
 pub spelled_any : (r : Rules) (c : Class) (p : Bool) (t : ℕ) (i : List ℕ) (v : List ℕ × List ℕ) → SpellsElement r c p t i v → (l : Length) × SpellsAny r i (c, p, t, v.0, l, Some (identifier c p t)) v.1
 spelled_any Der c p t i v s = (Definite (length v.0), (s, (refl, refl)))
-spelled_any Ber c p t i v (ht, hk, inl (s, hs, d)) =
-    (Definite (length v.0), ((ht, hk, inl (s, hs, d)), ((v.0 ++ v.1, record {
-      following = s ++ (v.0 ++ v.1);
-      octets = d ∙ append_assoc (identifier c p t ++ s) v.0 v.1 ∙ append_assoc (identifier c p t) s (v.0 ++ v.1);
-      number = ht;
-      length = (s, hs, refl);
-    }), refl)))
-spelled_any Ber c p t i v (ht, hk, inr (ep, h2, hw, d)) =
-    (Indefinite, ((ht, hk, inr (ep, h2, hw, d)), ((v.0 ++ (end_marker ++ v.1), record {
-      following = 128 ∷ v.0 ++ (end_marker ++ v.1);
-      octets = d ∙ append_assoc (identifier c p t ++ 128 ∷ v.0) end_marker v.1 ∙ append_assoc (identifier c p t) (128 ∷ v.0) (end_marker ++ v.1);
-      number = ht;
-      length = (ep, refl);
-    }), refl)))
+spelled_any Ber c p t i v (ht, hk, inl (s, hs, d)) = (
+  Definite (length v.0),
+  (
+    (ht, hk, inl (s, hs, d)),
+    (
+      (
+        v.0 ++ v.1,
+        record {
+          following = s ++ (v.0 ++ v.1);
+          octets = d ∙ append_assoc (identifier c p t ++ s) v.0 v.1 ∙ append_assoc (identifier c p t) s (v.0 ++ v.1);
+          number = ht;
+          length = (s, hs, refl);
+        },
+      ),
+      refl,
+    ),
+  ),
+)
+spelled_any Ber c p t i v (ht, hk, inr (ep, h2, hw, d)) = (
+  Indefinite,
+  (
+    (ht, hk, inr (ep, h2, hw, d)),
+    (
+      (
+        v.0 ++ (end_marker ++ v.1),
+        record {
+          following = 128 ∷ v.0 ++ (end_marker ++ v.1);
+          octets = d ∙ append_assoc (identifier c p t ++ 128 ∷ v.0) end_marker v.1 ∙ append_assoc (identifier c p t) (128 ∷ v.0) (end_marker ++ v.1);
+          number = ht;
+          length = (ep, refl);
+        },
+      ),
+      refl,
+    ),
+  ),
+)

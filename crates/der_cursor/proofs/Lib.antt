@@ -4,6 +4,7 @@ pub mod CursorLaws
 pub mod ElementLaws
 pub mod FieldLaws
 pub mod FormatLaws
+pub mod FrontLaws
 pub mod KindLaws
 pub mod Lists
 pub mod Markers

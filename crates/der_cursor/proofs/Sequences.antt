@@ -13,7 +13,7 @@ use Rattle.der_cursor.specs.declared.refusal.Refusal.{Refusal}
 use Rattle.der_cursor.specs.Cursors.{octets_left, rules_of, StartsAt, EndsAt, OpensAt, OpensType}
 use Rattle.der_cursor.specs.Named.{NamesRefusal, NamesMore}
 use Rattle.der_cursor.proofs.FormatLaws.{inside, inside_of, unopened, unopened_of}
-use Rattle.der_cursor.specs.Formats.{Content, Field, Format, Required, Only, ◌⨾◌, As, End, Ignored, Mapped, Never, NoMemory, NoMemoryIn, ReadsWhole, ReadsNext, ReadsField, ReadsContent, ReadsFront, ReadsInput}
+use Rattle.der_cursor.specs.Formats.{Content, Field, Format, Required, Only, ◌⨾◌, As, End, Ignored, Mapped, Never, NoMemory, NoMemoryIn, ReadsWhole, ReadsNext, ReadsField, ReadsContent, ReadsInput}
 
 -- An error is passed on as another, which leaves no more open.
 pub record Passes {T E F : Type 0} (May : E → Type 0) (May' : F → Type 0) (r : Result T E) (s : Result T F) : Type 0 where
@@ -148,13 +148,15 @@ module _ {T V E : Type 0} {F : Field V} {view : T → V} {May : E → Type 0} {r
 
 -- a field that an input begins with, and what follows it
 module _ {T V E : Type 0} {F : Field V} {view : T → V} {May : E → Type 0} {r : Rules} {i : List ℕ} {c d : Cursor} where
-  pub front_read : {x : T} (rest : Bor (List ℕ)) → StartsAt r i c → rest.now ≡ octets_left d → ReadsField {E = E} F view May c (Ok x) d → ReadsFront r F view May i (Ok (rest, x))
+  pub front_read : {x : T} (rest : Bor (List ℕ)) → StartsAt r i c → rest.now ≡ octets_left d → ReadsField {E = E} F view May c (Ok x) d
+      → ReadsWhole (λ (v : V × List ℕ). F r i v.0 v.1) (λ (y : Bor (List ℕ) × T). (view y.1, y.0.now)) May (Ok (rest, x))
   front_read {x = x} rest s q h = let z = h s.4 in record {
     found = subst (λ w. F r i (view x) w) (sym q) (of_input F r i c s (view x) (octets_left d) z.found.0);
     only = λ v p. let e = z.only v.0 v.1 (to_input F r i c s v.0 v.1 p) in ap (λ y. (y, rest.now)) e.0 ∙ ap (λ w. (v.0, w)) (q ∙ e.1);
   }
 
-  pub front_stops : (e : E) {result : Result (Bor (List ℕ) × T) E} → StartsAt r i c → IsErrAnd result (λ y. y ≡ e) → ReadsField F view May c (Err e) d → ReadsFront r F view May i result
+  pub front_stops : (e : E) {result : Result (Bor (List ℕ) × T) E} → StartsAt r i c → IsErrAnd result (λ y. y ≡ e) → ReadsField F view May c (Err e) d
+      → ReadsWhole (λ (v : V × List ℕ). F r i v.0 v.1) (λ (y : Bor (List ℕ) × T). (view y.1, y.0.now)) May result
   front_stops e {result = result} s n h =
       let y = err_from_is_err_and result n in
       rw (y.1, y.2) (record { found = tt; only = λ v p. (h s.4).only v.0 v.1 (to_input F r i c s v.0 v.1 p) })

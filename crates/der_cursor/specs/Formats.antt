@@ -2,23 +2,29 @@
 -- what a reader of one promises. They are relations between octets and a value.
 use Rattle.std.specs.Prelude.{◌≡◌, ◌≢◌, ℕ, ◌⊎◌, Bool, true, false, ℤ, Option, Some, None, List, [], ◌∷◌}
 use Rattle.std.specs.Borrow.{Bor}
-use Rattle.std.specs.Prelude.{Result, IfOk, MatchResult}
-use Rattle.der_base.specs.declared.error.Err.TheVariants.{OutOfMemory}
+use Rattle.std.specs.Prelude.{Result, IfOk, IfErr, MatchResult}
+use Rattle.der_base.specs.declared.error.Err.{Err as Refused}
+use Rattle.der_base.specs.declared.error.Err.TheVariants.{Incomplete, OutOfMemory}
 use Rattle.der_base.specs.declared.error.Error.{Error as BerError}
+use Rattle.der_base.specs.declared.error.Needed.{Needed}
+use Rattle.der_base.specs.declared.error.Needed.TheVariants.{Size}
 use Rattle.der_base.specs.declared.header.Class.{Class}
 use Rattle.der_base.specs.declared.header.Class.TheVariants.{Universal, ContextSpecific}
 use Rattle.der_base.specs.declared.rules.Rules.{Rules}
 use Rattle.der_base.specs.declared.rules.Rules.TheVariants.{Der}
 use Rattle.der_base.specs.declared.time.ASN1DateTime.{ASN1DateTime}
+use Rattle.der_base.specs.Answer.{AnswersErrorOr, AnswersIncompleteOr}
 use Rattle.der_base.specs.LeafRefusal.{NoneHolds}
 use Rattle.der_base.specs.Numbers.{NumberType}
+use Rattle.der_base.specs.Refusal.{Refusal as Name}
 use Rattle.der_values.specs.Kinds.{Kind, booleans, integers, numbers, enumerated_numbers, bit_strings, octet_strings}
 use Rattle.der_values.specs.Kinds.{nulls, identifiers, texts, times}
 use Rattle.der_cursor.specs.declared.cursor.Cursor.{Cursor}
 use Rattle.der_cursor.specs.declared.named.FieldRefusal.{FieldRefusal}
 use Rattle.der_cursor.specs.declared.refusal.Refusal.{Refusal}
 use Rattle.der_cursor.specs.Cursors.{octets_left, rules_of, advanced}
-use Rattle.der_cursor.specs.Elements.{SpellsElement, SpellsAny, BeginsWithTag, IsNext}
+use Rattle.der_cursor.specs.Named.{reason_in}
+use Rattle.der_cursor.specs.Elements.{SpellsElement, SpellsAny, ElementLacks, ElementRefuses, BeginsWithTag, IsNext}
 pub use Rattle.der_cursor.specs.Elements.{Element, element_of}
 
 -- the octets are the whole content of a value
@@ -246,11 +252,19 @@ ReadsContent C view May c result = c.implicit ≡ None → ReadsWhole (C (rules_
 abbrev pub ReadsInput : {T V E : Type 0} → Rules → Content V → (T → V) → (E → Type 0) → List ℕ → Result T E → Type 0
 ReadsInput r C view May i result = ReadsWhole (C r i) view May result
 
--- a reader of the field that an input begins with, which returns what follows it
-abbrev pub ReadsFront : {T V E : Type 0} → Rules → Field V → (T → V) → (E → Type 0) → List ℕ
-    → Result (Bor (List ℕ) × T) E → Type 0
-ReadsFront {V = V} r F view May i result =
-    ReadsWhole (λ (v : V × List ℕ). F r i v.0 v.1) (λ x. (view x.1, x.0.now)) May result
+-- Incomplete is reported of an input that ends within an element, and how many octets it lacks.
+abbrev pub IsCutAt : Rules → List ℕ → Refused BerError → Type 0
+IsCutAt r i e = (m : Needed) → e ≡ Incomplete m → (n : ℕ) × (m ≡ Size n) × ElementLacks r i n
+
+-- A reader of the element that an input begins with, which returns what follows it. What the element itself shows to be
+-- wrong is its refusal, and it is Incomplete exactly where the input ends within the element. Which refusal the content
+-- has is left open.
+pub record ReadsFront {T V : Type 0} (r : Rules) (F : Format V) (view : T → V) (May : FieldRefusal → Type 0)
+    (i : List ℕ) (result : Result (Bor (List ℕ) × T) FieldRefusal) : Type 0 where
+  pub value : ReadsWhole (λ (v : V × List ℕ). Required F r i v.0 v.1) (λ x. (view x.1, x.0.now)) May result
+  pub refuses : (e : Name) → ElementRefuses r F.class F.constructed F.number i e → AnswersErrorOr ⊥ (reason_in result) e
+  pub lacks : (n : ℕ) → ElementLacks r i n → AnswersIncompleteOr ⊥ (reason_in result) n
+  pub cut : IfErr result (λ e. IsCutAt r i e.refusal.reason)
 
 -- a cursor is opened over the octets that a content keeps, and reads them by the same rules
 pub record Opens (C : Content (List ℕ)) (c : Cursor) (result : Result Cursor (Refusal BerError)) : Type 0 where

@@ -1,9 +1,9 @@
 //! Names of fields in refusals.
-ghost use Rattle.der_cursor.specs.Named.{NamesRefusal, NamesMore};
+ghost use Rattle.der_cursor.specs.Named.{IsSettled, NamesRefusal, NamesMore};
 
 use crate::refusal::Refusal;
 use arrayvec::ArrayVec;
-use der_base::error::BerError;
+use der_base::error::{BerError, refuse_cut_item};
 use std::error::Error;
 use std::fmt;
 
@@ -18,6 +18,24 @@ pub struct FieldRefusal {
     names: ArrayVec<&'static str, MOST_NAMES>,
     /// The place and the reason.
     pub refusal: Refusal<BerError>,
+}
+
+impl FieldRefusal {
+    /// The same refusal, of a field of an element that the input holds whole. No further octets help, so
+    /// `Err::Incomplete` becomes the error Incomplete.
+    pub fn settled(self) -> FieldRefusal
+        ensures { IsSettled self result }
+    {
+        let FieldRefusal { names, refusal } = self;
+        FieldRefusal {
+            names,
+            refusal: Refusal {
+                offset: refusal.offset,
+                list_end: refusal.list_end,
+                reason: refuse_cut_item(refusal.reason),
+            },
+        }
+    }
 }
 
 impl fmt::Debug for FieldRefusal {

@@ -5,14 +5,13 @@ use Rattle.der_base.specs.declared.error.Error.{Error as BerError}
 use Rattle.der_base.specs.declared.header.Class.TheVariants.{Universal}
 use Rattle.der_base.specs.declared.rules.Rules.TheVariants.{Der}
 use Rattle.der_base.specs.LeafRefusal.{NoneHolds}
-use Rattle.der_base.specs.Oids.{octets_of}
 use Rattle.der_base.specs.SetOfOrder.{IsAscending}
 use Rattle.der_base.specs.Text.{is_one_of}
 use Rattle.der_cursor.specs.declared.cursor.Cursor.{Cursor}
 use Rattle.der_cursor.specs.declared.refusal.Refusal.{Refusal}
 use Rattle.der_cursor.specs.Formats.{Content, Field, Format, Required, ◌⨾◌, Each, Element, AnyElement}
 use Rattle.der_cursor.specs.Formats.{Sequence, Set, ObjectIdentifier, NoMemory, ReadsField}
-use Rattle.der_values.specs.Kinds.{bit_strings, texts}
+use Rattle.der_values.specs.Kinds.{absolute_octets, bit_strings, texts}
 use Rattle.names_reader.specs.declared.name.Attribute.{Attribute as AttributeStruct}
 use Rattle.names_reader.specs.declared.name.Coding.{Coding}
 use Rattle.names_reader.specs.declared.name.Coding.TheVariants as coding
@@ -86,7 +85,7 @@ abbrev pub Name : Format (List (ℕ × AttributeValue))
 Name = Sequence (Joined (Each (Required RelativeDistinguishedName)))
 
 abbrev pub attribute_of : AttributeStruct → AttributeValue
-attribute_of a = (octets_of a.identifier, (a.element.now, (a.content.now, a.coding)))
+attribute_of a = (absolute_octets a.identifier, (a.element.now, (a.content.now, a.coding)))
 
 abbrev pub placed_of : AttributeStruct → ℕ × AttributeValue
 placed_of a = (a.relative_name, attribute_of a)

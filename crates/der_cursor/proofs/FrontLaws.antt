@@ -1,0 +1,107 @@
+-- A reader of the element that an input begins with.
+use Rattle.std.proofs.Common.{◌≡◌, ℕ, Bool, List, Result, Ok, Err, Bor, refl, sym, ap, subst, ◌∙◌, inl}
+use Rattle.std.specs.Prelude.{IfErr}
+use Rattle.std.specs.Result.{IsErrAnd}
+use Rattle.std.proofs.lemmas.Result.{err_from_is_err_and}
+use Rattle.der_base.specs.declared.error.Err.{Err as Refused}
+use Rattle.der_base.specs.declared.error.Err.TheVariants.{Incomplete, Error, Failure, OutOfMemory}
+use Rattle.der_base.specs.declared.error.Error.{Error as BerError}
+use Rattle.der_base.specs.declared.error.Error.TheVariants.{Incomplete as CutShort}
+use Rattle.der_base.specs.declared.error.Needed.{Needed}
+use Rattle.der_base.specs.declared.error.Needed.TheVariants.{Unknown, Size}
+use Rattle.der_base.specs.declared.header.Class.TheVariants.{Universal}
+use Rattle.der_base.specs.declared.rules.Rules.{Rules}
+use Rattle.der_base.specs.Answer.{MatchAnswer, AnswersErrorOr, AnswersIncompleteOr}
+use Rattle.der_base.specs.Errors.{RefusesCutItem}
+use Rattle.der_base.specs.Refusal.{Refusal as Name}
+use Rattle.der_base.proofs.Answers.Answering.{passed_on}
+use Rattle.der_cursor.specs.declared.cursor.Cursor.{Cursor}
+use Rattle.der_cursor.specs.declared.named.FieldRefusal.{FieldRefusal}
+use Rattle.der_cursor.specs.declared.refusal.Refusal.{Refusal}
+use Rattle.der_cursor.specs.Cursors.{LacksAt, OpensAt, OpensType, RefusesAt, StartsAt, class_wanted, number_wanted, octets_left, rules_of}
+use Rattle.der_cursor.specs.Elements.{ElementLacks, ElementRefuses}
+use Rattle.der_cursor.specs.Formats.{Content, Format, IsCutAt, NoMemoryIn, ReadsContent, ReadsField, ReadsFront, ReadsWhole, Required}
+use Rattle.der_cursor.specs.Named.{IsSettled, NamesRefusal}
+use Rattle.der_cursor.proofs.Sequences.{front_read, front_stops, inside_named, ok_named, unopened_named}
+
+-- no settled refusal is Incomplete
+not_incomplete : (old new : Refused BerError) (m : Needed) → RefusesCutItem old new → new ≡ Incomplete m → ⊥
+not_incomplete (Incomplete n) new m h q = let e : Error (CutShort n) ≡ Incomplete m = sym h ∙ q in cc
+not_incomplete (Error x) new m h q = let e : Error x ≡ Incomplete m = sym h ∙ q in cc
+not_incomplete (Failure x) new m h q = let e : Failure x ≡ Incomplete m = sym h ∙ q in cc
+not_incomplete OutOfMemory new m h q = let e : OutOfMemory ≡ Incomplete m = sym h ∙ q in cc
+
+settled_memory : (f g : FieldRefusal) → IsSettled f g → NoMemoryIn f → NoMemoryIn g
+settled_memory f g h m = subst (λ x. RefusesCutItem x g.refusal.reason) m h.reason
+
+-- what is Incomplete lacks octets
+lacking_at : {T : Type 0} (P : T → Type 0) (Q : Name → Type 0) (L : ℕ → Type 0) (m : Needed) → MatchAnswer (Err (Incomplete m)) P Q L ⊥ → (n : ℕ) × (m ≡ Size n) × L n
+lacking_at P Q L (Size n) h = (n, refl, h)
+lacking_at P Q L Unknown h = absurd h
+
+lacks_told : {T : Type 0} (P : T → Type 0) (Q : Name → Type 0) (L : ℕ → Type 0) (x : Refused BerError) (m : Needed) → MatchAnswer (Err x) P Q L ⊥ → x ≡ Incomplete m → (n : ℕ) × (m ≡ Size n) × L n
+lacks_told P Q L x m h q = lacking_at P Q L m (subst (λ y. MatchAnswer (Err y) P Q L ⊥) q h)
+
+-- a refusal with a name is the one without
+names_same : {T : Type 0} (name : Bor (List ℕ)) (f : FieldRefusal) (r : Result T (Refusal BerError)) → NamesRefusal r name (Err f) → (e : Refusal BerError) × (r ≡ Err e) × (f.refusal ≡ e)
+names_same name f (Ok y) n = absurd (cc)
+names_same name f (Err e) n = (e, refl, n.0)
+
+module _ {T V : Type 0} (F : Format V) (view : T → V) {r : Rules} {i : List ℕ} (c d : Cursor) (s : StartsAt r i c) where
+  refuses_at : (e : Name) → ElementRefuses r F.class F.constructed F.number i e → RefusesAt c (ElementRefuses (rules_of c) F.class F.constructed F.number (octets_left c)) e
+  refuses_at e h = inl (subst (λ k. ElementRefuses k F.class F.constructed F.number (octets_left c) e) (sym s.3) (subst (λ w. ElementRefuses r F.class F.constructed F.number w e) (sym s.0) h))
+
+  lacks_at : (n : ℕ) → ElementLacks r i n → LacksAt c n
+  lacks_at n h = (s.2, subst (λ k. ElementLacks k (octets_left c) n) (sym s.3) (subst (λ w. ElementLacks r w n) (sym s.0) h))
+
+  lacking : (n : ℕ) → LacksAt c n → ElementLacks r i n
+  lacking n h = subst (λ w. ElementLacks r w n) s.0 (subst (λ k. ElementLacks k (octets_left c) n) s.3 h.1)
+
+  -- the element is there
+  whole : {inner : Cursor} (result : Result (Bor (List ℕ) × T) FieldRefusal) → OpensAt F.class F.constructed F.number c (Ok inner) d → ReadsWhole (λ (v : V × List ℕ). Required F r i v.0 v.1) (λ (x : Bor (List ℕ) × T). (view x.1, x.0.now)) NoMemoryIn result
+      → IfErr result (λ g. IsCutAt r i g.refusal.reason) → ReadsFront r F view NoMemoryIn i result
+  whole result o h k = record {
+    value = h;
+    refuses = λ e z. absurd (o.element.refuses e (refuses_at e z));
+    lacks = λ n z. absurd (o.element.lacks n (lacks_at n z));
+    cut = k;
+  }
+
+  -- it isn't
+  refused : (e : Refusal BerError) (f : FieldRefusal) → f.refusal ≡ e → OpensAt F.class F.constructed F.number c (Err e) d → ReadsWhole (λ (v : V × List ℕ). Required F r i v.0 v.1) (λ (x : Bor (List ℕ) × T). (view x.1, x.0.now)) NoMemoryIn (Err f) → ReadsFront r F view NoMemoryIn i (Err f)
+  refused e f q o h = let z : f.refusal.reason ≡ e.reason = ap (λ x. x.reason) q in record {
+    value = h;
+    refuses = λ n a. subst (λ x. AnswersErrorOr {T = Bor (List ℕ) × T} ⊥ (Err x) n) (sym z) (passed_on _ _ e.reason (o.element.refuses n (refuses_at n a)) (λ x k. k) (λ m k. k) (λ m. m));
+    lacks = λ n a. subst (λ x. AnswersIncompleteOr {T = Bor (List ℕ) × T} ⊥ (Err x) n) (sym z) (passed_on _ _ e.reason (o.element.lacks n (lacks_at n a)) (λ x k. k) (λ m k. k) (λ m. m));
+    cut = λ m p.
+        let y = lacks_told _ _ (LacksAt c) e.reason m o.element.found (sym z ∙ p) in
+        (y.0, y.1, lacking y.0 y.2);
+  }
+
+-- the element is opened with a name, and its content is read
+abbrev Opened : {V : Type 0} → ℕ → Bool → Content V → Format V
+Opened t p C = record { class = Universal; number = t; constructed = p; content = C }
+
+untagged : (t : ℕ) (p : Bool) {r : Rules} {i : List ℕ} (c d : Cursor) {opening : Result Cursor (Refusal BerError)} → StartsAt r i c → OpensType p t c opening d → (q : Result Cursor (Refusal BerError)) → opening ≡ q → OpensAt Universal p t c q d
+untagged t p c d s o q e = subst (λ m. OpensAt (class_wanted m) p (number_wanted m t) c q d) s.4 (subst (λ x. OpensType p t c x d) e o)
+
+module _ {T V : Type 0} (t : ℕ) (C : Content V) {view : T → V} {p : Bool} {r : Rules} {i : List ℕ} (c d : Cursor) {opening : Result Cursor (Refusal BerError)} (name : Bor (List ℕ))
+    (s : StartsAt r i c) (o : OpensType p t c opening d) where
+  pub front_unopened : (f : FieldRefusal) {result : Result (Bor (List ℕ) × T) FieldRefusal} → NamesRefusal opening name (Err f) → IsErrAnd result (λ y. y ≡ f) → ReadsFront r (Opened t p C) view NoMemoryIn i result
+  front_unopened f {result = result} n q =
+      let y = err_from_is_err_and result q in
+      let e = names_same name f opening n in
+      let h : ReadsField (Required (Opened t p C)) view NoMemoryIn c (Err f) d = unopened_named t C name f o n refl in
+      rw (y.1, y.2) (refused (Opened t p C) view c d s e.0 f e.2 (untagged t p c d s o (Err e.0) e.1) (front_stops f s refl h))
+
+  pub front_settled : (inner : Cursor) (f g : FieldRefusal) → NamesRefusal opening name (Ok inner) → ReadsContent {T = T} C view NoMemoryIn inner (Err f) → IsSettled f g
+      → ReadsFront {T = T} r (Opened t p C) view NoMemoryIn i (Err g)
+  front_settled inner f g n h k =
+      let e : ReadsField {T = T} (Required (Opened t p C)) view NoMemoryIn c (Err f) d = inside_named t C name inner o n h in
+      let settled : ReadsField {T = T} (Required (Opened t p C)) view NoMemoryIn c (Err g) d = (λ fresh. record { found = tt; only = λ v rest z. settled_memory f g k ((e fresh).only v rest z) }) in
+      whole (Opened t p C) view c d s (Err g) (untagged t p c d s o (Ok inner) (ok_named name inner opening n)) (front_stops g s refl settled)
+      (λ m q. absurd (not_incomplete f.refusal.reason g.refusal.reason m k.reason q))
+
+  pub front_opened : (inner : Cursor) (x : T) (rest : Bor (List ℕ)) → NamesRefusal opening name (Ok inner) → ReadsContent {E = FieldRefusal} C view NoMemoryIn inner (Ok x) → rest.now ≡ octets_left d
+      → ReadsFront r (Opened t p C) view NoMemoryIn i (Ok (rest, x))
+  front_opened inner x rest n h q = whole (Opened t p C) view c d s (Ok (rest, x)) (untagged t p c d s o (Ok inner) (ok_named name inner opening n)) (front_read rest s q (inside_named t C name inner o n h)) tt
