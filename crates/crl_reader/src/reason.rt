@@ -60,7 +60,8 @@ impl Reason {
 pub fn reason_of(extension: &Extension<'_>) -> Result<Option<Reason>, Refusal<BerError>>
     ensures { ReadsWhole (IsReasonOf (extension_of extension.now)) (λ v. v) Never result }
 {
-    if extension.identifier.as_bytes() != REASON_CODE {
+    let identifier = &extension.identifier;
+    if identifier.is_relative() || identifier.as_bytes() != REASON_CODE {
         return Ok(None);
     }
     Ok(Some(read_reason(extension.value)?))

@@ -8,20 +8,19 @@ use Rattle.der_cursor.proofs.FormatLaws.{required_takes}
 use Rattle.der_extensions.specs.GeneralNames.{AttributeTypeAndValue, AttributeValue, Name, RelativeDistinguishedName}
 use Rattle.der_extensions.specs.Lists.{IsListOf, ListOf, SomeOf, TakesOctets}
 use Rattle.der_x509.specs.Certificates.{Attribute, attribute, name, relative_name}
-use Rattle.der_x509.specs.Formats.{Element, Fault, Format, Items, each, more, none, spells}
+use Rattle.der_x509.specs.Formats.{Fault, Format, Items, each, more, none, spells}
 
 -- attributes
 attribute_to : (i : List ℕ) (v : AttributeValue) (rest : List ℕ) → Required AttributeTypeAndValue Der i v rest → (a : Attribute) × spells attribute i a rest
 unfolding Required ◌⨾◌ AnyElement End Value
 attribute_to i v rest (w, (m, (x, (n, e), s), (k, any, q)), t) =
-    let value : Element = record { class = v.1.0.0; constructed = v.1.0.1; number = v.1.0.2; content = v.1.0.3 } in
-    let a : Attribute = record { identifier = v.0; value = value } in
-    (a, (w, rest, t, ((k, (v.0, m, (x, n, e, s), (value, k, any, (tt, k, (q, refl), (refl, refl))))), refl)))
+    let a : Attribute = record { identifier = v.0; value = v.1.0 } in
+    (a, (w, rest, t, ((k, (v.0, m, (x, n, e, s), (v.1.0, k, any, (tt, k, (q, refl), (refl, refl))))), refl)))
 
 attribute_back : (i : List ℕ) (a : Attribute) (rest : List ℕ) → spells attribute i a rest → (v : AttributeValue) × Required AttributeTypeAndValue Der i v rest
 unfolding Required ◌⨾◌ AnyElement End Value
 attribute_back i a rest (w, k, t, ((r, (v, m, (x, n, e, s), (value, j, any, (u, l, (q, p), h)))), o)) =
-    ((v, ((value.class, value.constructed, value.number, value.content), tt)), (w, (m, (x, (n, e), s), (j, any, q)), subst (λ y. SpellsElement Der Universal true 16 i (w, y)) (sym o) t))
+    ((v, (value, tt)), (w, (m, (x, (n, e), s), (j, any, q)), subst (λ y. SpellsElement Der Universal true 16 i (w, y)) (sym o) t))
 
 -- lists
 module _ {V W : Type 0} (F : Field V) (f : Format Fault W) (takes : TakesOctets F) (to : (i : List ℕ) (v : V) (rest : List ℕ) → F Der i v rest → (w : W) × spells f i w rest)

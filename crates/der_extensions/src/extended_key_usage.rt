@@ -22,15 +22,15 @@ pub fn read_extended_key_usage(octets: &[u8]) -> Result<ExtendedKeyUsage<'_>, Re
 
 impl<'a> Item<'a, BerError> for Oid<'a> {
     ghost use Rattle.std.specs.Prelude.{List, ℕ};
-    ghost use Rattle.der_base.specs.Oids.{octets_of};
     ghost use Rattle.der_cursor.specs.Formats.{ObjectIdentifier, Required};
     ghost use Rattle.der_cursor.proofs.FormatLaws.{required_takes};
+    ghost use Rattle.der_values.specs.Kinds.{absolute_octets};
 
     ghost Value = { List ℕ };
 
     ghost field = { Required ObjectIdentifier };
 
-    ghost view = { octets_of };
+    ghost view = { absolute_octets };
 
     fn read(purposes: &mut Cursor<'a>) -> Result<Oid<'a>, Refusal<BerError>> {
         purposes.oid()

@@ -1,7 +1,7 @@
 //! Attributes of a request (RFC 2986 4.1).
 ghost use Rattle.std.specs.Prelude.{OnOk};
+ghost use Rattle.der_cursor.specs.Elements.{element_of};
 ghost use Rattle.der_request.specs.Requests.{attribute, attribute_of, attributes, values, values_to_end};
-ghost use Rattle.der_x509.specs.Certificates.{element_of};
 ghost use Rattle.der_x509.specs.Formats.{any, list_of};
 ghost use Rattle.der_x509.specs.Readers.{IsShorter, ReadsBy, ReadsToEnd, fault_of};
 

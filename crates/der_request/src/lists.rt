@@ -1,9 +1,9 @@
 //! Iterators over the attributes of a request and their values.
 ghost use Rattle.std.specs.Prelude.{◌≡◌, ◌<◌, ◌^◌, length};
 ghost use Rattle.std.specs.Iterator.{at_most};
+ghost use Rattle.der_cursor.specs.Elements.{element_of};
 ghost use Rattle.der_request.specs.Lists.{attributes_left, values_left};
 ghost use Rattle.der_request.specs.Requests.{attribute, attribute_of};
-ghost use Rattle.der_x509.specs.Certificates.{element_of};
 ghost use Rattle.der_x509.specs.Formats.{any};
 ghost use Rattle.der_x509.specs.Lists.{YieldsNext};
 

@@ -9,6 +9,7 @@ use Rattle.der_base.specs.LeafRefusal.{IsFirstRefusal}
 use Rattle.der_base.specs.Refusal.{Refusal as Name, incomplete}
 use Rattle.der_base.proofs.Leaves.Refusals.{first_refusal_once, none_refuses}
 use Rattle.der_cursor.specs.Elements.{SpellsElement, ElementRefuses, ElementLacks, NoElement}
+use Rattle.der_cursor.proofs.AnyLaws.{header_told}
 use Rattle.der_cursor.proofs.ElementLaws.{element_same, element_shows_one, no_element_no_lack, no_element_not, no_element_same, not_lacking, one_lack}
 use Rattle.der_cursor.proofs.ValueLaws.{HasOneValue}
 use Rattle.der_values.specs.Kinds.{Kind}
@@ -72,17 +73,13 @@ element_one c p t = record {
 
 any_one : ShowsOne any
 any_one = record {
-  one_value = λ i v u r q a b. let e = element_same Der i v.class u.class v.constructed u.constructed v.number u.number (v.content, r) (u.content, q) a b in (
-    ap (λ x. record { class = x; constructed = v.constructed; number = v.number; content = v.content }) e.0
-        ∙ ap (λ x. record { class = u.class; constructed = x; number = v.number; content = v.content }) e.1
-        ∙ ap (λ x. record { class = u.class; constructed = u.constructed; number = x; content = v.content }) e.2
-        ∙ ap (λ x. record { class = u.class; constructed = u.constructed; number = u.number; content = x.0 }) e.3,
-    ap (λ x. x.1) e.3,
-  );
+  one_value = λ i v u r q a b.
+      let e = element_same Der i v.0 u.0 v.1 u.1 v.2 u.2 (v.3, r) (u.3, q) a.0 b.0 in
+      (header_told Der i v u e.0 e.1 e.2 (ap (λ x. x.0) e.3) a.1 b.1, ap (λ x. x.1) e.3);
   one_fault = λ s e e' a b. next_same (NoElement Der s.octets) s e e' (record { same = no_element_same Der s.octets; not_lacking = no_element_no_lack Der s.octets }) a b;
-  not_both = λ s v r e a b. reason_not (NoElement Der s.octets) s b.0 (SpellsElement Der v.class v.constructed v.number s.octets (v.content, r))
-      (λ x h z. no_element_not Der s.octets v.class v.constructed v.number (v.content, r) x z h)
-      (λ n l z. not_lacking Der s.octets v.class v.constructed v.number (v.content, r) n z l) b.2 a;
+  not_both = λ s v r e a b. reason_not (NoElement Der s.octets) s b.0 (SpellsElement Der v.0 v.1 v.2 s.octets (v.3, r))
+      (λ x h z. no_element_not Der s.octets v.0 v.1 v.2 (v.3, r) x z h)
+      (λ n l z. not_lacking Der s.octets v.0 v.1 v.2 (v.3, r) n z l) b.2 a.0;
 }
 
 -- a value of a primitive type

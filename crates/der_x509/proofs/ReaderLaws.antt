@@ -21,11 +21,11 @@ use Rattle.der_cursor.specs.declared.cursor.Cursor.{Cursor}
 use Rattle.der_cursor.specs.declared.refusal.Refusal.{Refusal}
 use Rattle.der_cursor.specs.Cursors.{octets_left, end_of, is_inside, place_of, rules_of, advanced, refusal_at, RefusesAt, LacksAt, OpensAt, OpensType, OpensTagged, EndsAt}
 use Rattle.der_cursor.specs.Cursors.{ReadsValue, ReadsOptional, ReadsOr, ReadsAnyAt, IsTagged, class_wanted, number_wanted, contents}
-use Rattle.der_cursor.specs.Elements.{SpellsElement, ElementRefuses, marker_size}
+use Rattle.der_cursor.specs.Elements.{SpellsElement, ElementRefuses, element_of, marker_size}
 use Rattle.der_values.specs.Kinds.{Kind, booleans}
 use Rattle.der_x509.specs.declared.refusal.CertificateRefusal.{CertificateRefusal}
 use Rattle.der_x509.specs.declared.refusal.Field.{Field}
-use Rattle.der_x509.specs.Certificates.{boolean_or_false, element_of, last_any}
+use Rattle.der_x509.specs.Certificates.{boolean_or_false, last_any}
 use Rattle.der_x509.specs.Formats.{Fault, FieldFault, Format, Items, Spot, IsReason, ◌>>=◌, any, done, each, either, element, end_of_content, explicit_or, inside, list_of, more, named, none}
 use Rattle.der_x509.specs.Formats.{optional_implicit, primitive, requiring, some_octets, with_octets, content_at, fault_at, left_at, refuses, spells}
 use Rattle.der_x509.specs.Readers.{IsPlain, IsShorter, NamesBy, NamesField, Reads, ReadsBy, ReadsToEnd, ReadsWhole, certificate_refusal, fault_of, field_fault, reason_named, spot_of}
@@ -209,7 +209,7 @@ value_read {value = value} k t {old} {new} {result} r = record {
 
 -- an element of any type
 any_direct : (c : Cursor) (result : Result Any (Refusal BerError)) (new : Cursor) → ReadsAnyAt (der c) result new → Reads fault_of element_of any (der c) result new
-any_direct c (Ok x) new r = (r.any_read.found, r.place)
+any_direct c (Ok x) new r = ((r.any_read.found, r.header), r.place)
 any_direct c (Err e) new r = (
   reason_named e.reason,
   faulted (der c) e r.place.0,
@@ -314,7 +314,7 @@ opened_shorter k p t {old} {inner} {new} o = element_less (rules_of old) k p t (
 
 -- so is one of any type
 pub any_shorter : {old new : Cursor} {x : Any} → ReadsAnyAt old (Ok x) new → IsShorter old new
-any_shorter {old} {new} {x} a = element_less (rules_of old) (element_of x).class (element_of x).constructed (element_of x).number (octets_left old) ((element_of x).content, octets_left new) a.any_read.found
+any_shorter {old} {new} {x} a = element_less (rules_of old) (element_of x).0 (element_of x).1 (element_of x).2 (octets_left old) ((element_of x).3, octets_left new) a.any_read.found
 
 pub type_shorter : (p : Bool) (t : ℕ) {old inner new : Cursor} → OpensType p t old (Ok inner) new → IsShorter old new
 type_shorter p t {old} o = opened_shorter (class_wanted old.implicit) p (number_wanted old.implicit t) o
@@ -403,7 +403,7 @@ last_to old mid x (Ok u) n s m e = (
   ),
 )
 last_to old mid x (Err e) n s m q =
-    let b = element_front (element_of x).class (element_of x).constructed (element_of x).number (octets_left old) (element_of x).content (octets_left mid) s in
+    let b = element_front (element_of x).0 (element_of x).1 (element_of x).2 (octets_left old) (element_of x).3 (octets_left mid) s.0 in
     let r : refuses end_of_content (spot_of mid) (fault_of e) = (q.0, ap (λ x. fault_of x) q.1) in
     inr (n, inr ((b.0, element_of x), octets_left mid, (s, b.1), inl (subst (λ z. refuses end_of_content z (fault_of e)) (moved old mid m) r)))
 

@@ -2,17 +2,15 @@
 use Rattle.std.specs.Prelude.{◌≡◌, ◌≢◌, ℕ, ◌⊎◌, ℤ, pos, negsuc, ◌==◌, if◌then◌else◌, Bool, false}
 use Rattle.std.specs.Prelude.{Option, List, [], Result}
 use Rattle.std.specs.Option.{option_map}
-use Rattle.der_base.specs.declared.any.Any.{Any}
 use Rattle.der_base.specs.declared.header.Class.TheVariants.{Universal}
 use Rattle.der_base.specs.declared.rules.Rules.TheVariants.{Der}
 use Rattle.der_base.specs.declared.time.ASN1DateTime.{ASN1DateTime}
-use Rattle.der_base.specs.Header.{class_of, is_constructed, number_of}
 use Rattle.der_base.specs.Numbers.{unsigned}
-use Rattle.der_base.specs.Oids.{octets_of}
 use Rattle.der_base.specs.Refusal.{wrong_value}
-use Rattle.der_cursor.specs.Elements.{IsNext}
+use Rattle.der_cursor.specs.Elements.{Element, IsNext, element_of}
 use Rattle.der_values.specs.declared.bits.BitString.{BitString}
-use Rattle.der_values.specs.Kinds.{bit_strings, booleans, identifiers, integers, numbers, octet_strings, times}
+use Rattle.der_values.specs.Kinds.{absolute_octets, bit_strings, booleans, identifiers, integers, numbers}
+use Rattle.der_values.specs.Kinds.{octet_strings, times}
 use Rattle.der_x509.specs.declared.algorithm.AlgorithmIdentifier.{AlgorithmIdentifier}
 use Rattle.der_x509.specs.declared.algorithm.SubjectPublicKeyInfo.{SubjectPublicKeyInfo}
 use Rattle.der_x509.specs.declared.certificate.Certificate.{Certificate}
@@ -26,7 +24,7 @@ use Rattle.der_x509.specs.declared.refusal.Field.TheVariants as field
 use Rattle.der_x509.specs.declared.time.Time.{Time}
 use Rattle.der_x509.specs.declared.time.Time.TheVariants.{Generalized, Utc}
 use Rattle.der_x509.specs.declared.time.Validity.{Validity}
-use Rattle.der_x509.specs.Formats.{Fault, FieldFault, Format, Element, ◌>>=◌, any, done, either, end_of_content}
+use Rattle.der_x509.specs.Formats.{Fault, FieldFault, Format, ◌>>=◌, any, done, either, end_of_content}
 use Rattle.der_x509.specs.Formats.{explicit_or, inside, list_of, named, optional_implicit, primitive}
 use Rattle.der_x509.specs.Formats.{requiring, sequence, set}
 use Rattle.der_x509.specs.Formats.{some_octets, with_octets, wrong_at}
@@ -229,24 +227,16 @@ abbrev pub bits_of : BitString → ℕ × List ℕ
 bits_of b = (b.unused, b.octets.now)
 
 abbrev pub algorithm_of : AlgorithmIdentifier → Algorithm
-algorithm_of a = record { algorithm = octets_of a.algorithm; parameters = a.parameters.now }
+algorithm_of a = record { algorithm = absolute_octets a.algorithm; parameters = a.parameters.now }
 
 abbrev pub key_info_of : SubjectPublicKeyInfo → KeyInfo
 key_info_of k = record { algorithm = algorithm_of k.algorithm; key = bits_of k.subject_public_key }
 
-abbrev pub element_of : Any → Element
-element_of a = record {
-  class = class_of a.header;
-  constructed = is_constructed a.header;
-  number = number_of a.header;
-  content = a.bytes.now;
-}
-
 abbrev pub attribute_of : AttributeTypeAndValue → Attribute
-attribute_of a = record { identifier = octets_of a.identifier; value = element_of a.value }
+attribute_of a = record { identifier = absolute_octets a.identifier; value = element_of a.value }
 
 abbrev pub extension_of : Extension → ExtensionValue
-extension_of e = record { identifier = octets_of e.identifier; critical = e.critical; value = e.value.now }
+extension_of e = record { identifier = absolute_octets e.identifier; critical = e.critical; value = e.value.now }
 
 abbrev pub tbs_of : TbsCertificate → Tbs
 tbs_of t = record {

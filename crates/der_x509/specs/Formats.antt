@@ -9,7 +9,8 @@ use Rattle.der_base.specs.declared.rules.Rules.TheVariants.{Der}
 use Rattle.der_base.specs.LeafRefusal.{IsFirstRefusal, NoneHolds}
 use Rattle.der_base.specs.Refusal.{Refusal, incomplete, parser_fault, wrong_value}
 use Rattle.der_cursor.specs.Cursors.{list_end}
-use Rattle.der_cursor.specs.Elements.{SpellsElement, ElementRefuses, ElementLacks, NoElement, BeginsWithTag, IsNext}
+use Rattle.der_cursor.specs.Elements.{Element, SpellsAny, SpellsElement, ElementRefuses, ElementLacks, NoElement}
+use Rattle.der_cursor.specs.Elements.{BeginsWithTag, IsNext}
 use Rattle.der_values.specs.Kinds.{Kind}
 use Rattle.der_x509.specs.declared.refusal.Field.{Field}
 
@@ -70,13 +71,6 @@ IsReason refuses s unnamed = ⊥
 abbrev pub RefusesNext : (Refusal → Type 0) → Spot → Fault → Type 0
 RefusesNext refuses s e = (x : Reason) × (e ≡ fault_at s x) × IsReason refuses s x
 
--- an element of any type: its class, constructed bit and number, and its content octets, which may be any
-pub record Element : Type 0 where
-  pub class : Class
-  pub constructed : Bool
-  pub number : ℕ
-  pub content : List ℕ
-
 -- A format of values V, whose faults are in E.
 infixl 10 ◌>>=◌
 pub data Format : Type 0 → Type 0 → Type 1 where
@@ -88,7 +82,7 @@ pub data Format : Type 0 → Type 0 → Type 1 where
   element : Class → Bool → ℕ → Format Fault (List ℕ)
   -- the value of a primitive element, whose content octets are of this kind
   primitive : {V : Type 0} → Class → ℕ → Kind V → Format Fault V
-  -- an element of any type
+  -- an element of any type, with its header; its content octets may be any
   any : Format Fault Element
   -- the content octets of an element that was read are of a format
   inside : {E V : Type 0} → List ℕ → Format E V → Format E V
@@ -117,7 +111,7 @@ spells (done v) i w rest = (w ≡ v) × (rest ≡ i)
 spells (element c p t) i w rest = SpellsElement Der c p t i (w, rest)
 spells (primitive c t k) i v rest = (w : List ℕ) × NoneHolds (k.tests w) × k.means w v
     × SpellsElement Der c false t i (w, rest)
-spells any i v rest = SpellsElement Der v.class v.constructed v.number i (v.content, rest)
+spells any i v rest = SpellsAny Der i v rest
 spells (inside w f) i v rest = ((r : List ℕ) × spells f w v r) × (rest ≡ i)
 spells (either P f g) i v rest = (P i × spells f i v rest) ⊎ ((¬ P i) × spells g i v rest)
 spells (check P fault) i u rest = P i × (rest ≡ i)

@@ -6,6 +6,7 @@ mod certificate;
 mod display;
 mod extension;
 mod first_element;
+mod identifier;
 pub mod laws;
 mod list_rules;
 mod lists;

@@ -8,6 +8,7 @@ ghost use Rattle.der_x509.specs.Rules.{HaveOneIdentifier};
 
 use crate::extension::{Extension, Extensions};
 use crate::first_element::first_element;
+use crate::identifier::absolute_octets;
 use crate::name::Name;
 use der_base::header::Tag;
 use der_base::set_of_order::descends;
@@ -67,7 +68,7 @@ fn is_critical(extension: &Extension<'_>, identifier: &[u8]) -> bool
     ensures { let e = extension_of extension.now in
         IsTrue result ↔ (e.identifier ≡ identifier.now) × (e.critical ≡ true) }
 {
-    extension.critical && extension.identifier.as_bytes() == identifier
+    extension.critical && absolute_octets(&extension.identifier) == identifier
 }
 
 /// Returns whether two of the extensions have one identifier.

@@ -6,6 +6,7 @@ ghost use Rattle.der_x509.specs.Rules.{ReadsStrictly, every_rule};
 
 use crate::algorithm::AlgorithmIdentifier;
 use crate::certificate::{Certificate, Version, read_certificate};
+use crate::identifier::absolute_octets;
 use crate::list_rules::{has_critical, has_descent, has_repetition};
 use crate::refusal::CertificateRefusal;
 use crate::time::Time;
@@ -52,31 +53,18 @@ impl Certificate<'_> {
     pub fn breaks(&self, rule: Rule) -> bool
         ensures { IsTrue result ↔ Breaks rule (certificate_of self.now) }
     {
-        let fields = &self.tbs_certificate;
         match rule {
-            Rule::SameAlgorithms => !is_same(&self.signature_algorithm, &fields.signature),
-            Rule::PositiveSerialNumber => !is_positive(fields.serial_number),
-            Rule::ShortSerialNumber => fields.serial_number.len() > LONGEST_SERIAL_NUMBER,
-            Rule::NamedIssuer => fields.issuer.octets.is_empty(),
-            Rule::OrderedAttributes => has_descent(fields.issuer) || has_descent(fields.subject),
-            Rule::UtcTimeTo2049 => {
-                is_early(fields.validity.not_before) || is_early(fields.validity.not_after)
-            }
-            Rule::WholeSeconds => {
-                has_fraction(fields.validity.not_before) || has_fraction(fields.validity.not_after)
-            }
-            Rule::UniqueIdVersion => {
-                fields.version == Version::V1
-                    && (fields.issuer_unique_id.is_some() || fields.subject_unique_id.is_some())
-            }
-            Rule::ExtensionsVersion => {
-                fields.version != Version::V3 && !fields.extensions.octets.is_empty()
-            }
-            Rule::DistinctExtensions => has_repetition(fields.extensions),
-            Rule::NamedSubject => {
-                fields.subject.octets.is_empty()
-                    && !has_critical(fields.extensions, SUBJECT_ALT_NAME)
-            }
+            Rule::SameAlgorithms => self.breaks_same_algorithms(),
+            Rule::PositiveSerialNumber => self.breaks_positive_serial_number(),
+            Rule::ShortSerialNumber => self.breaks_short_serial_number(),
+            Rule::NamedIssuer => self.breaks_named_issuer(),
+            Rule::OrderedAttributes => self.breaks_ordered_attributes(),
+            Rule::UtcTimeTo2049 => self.breaks_utc_time_to_2049(),
+            Rule::WholeSeconds => self.breaks_whole_seconds(),
+            Rule::UniqueIdVersion => self.breaks_unique_id_version(),
+            Rule::ExtensionsVersion => self.breaks_extensions_version(),
+            Rule::DistinctExtensions => self.breaks_distinct_extensions(),
+            Rule::NamedSubject => self.breaks_named_subject(),
         }
     }
 
@@ -123,6 +111,82 @@ impl Certificate<'_> {
     }
 }
 
+// A function for each rule: whether the certificate breaks it.
+impl Certificate<'_> {
+    fn breaks_same_algorithms(&self) -> bool
+        ensures { IsTrue result ↔ Breaks Rule.SameAlgorithms (certificate_of self.now) }
+    {
+        !is_same(&self.signature_algorithm, &self.tbs_certificate.signature)
+    }
+
+    fn breaks_positive_serial_number(&self) -> bool
+        ensures { IsTrue result ↔ Breaks Rule.PositiveSerialNumber (certificate_of self.now) }
+    {
+        !is_positive(self.tbs_certificate.serial_number)
+    }
+
+    fn breaks_short_serial_number(&self) -> bool
+        ensures { IsTrue result ↔ Breaks Rule.ShortSerialNumber (certificate_of self.now) }
+    {
+        self.tbs_certificate.serial_number.len() > LONGEST_SERIAL_NUMBER
+    }
+
+    fn breaks_named_issuer(&self) -> bool
+        ensures { IsTrue result ↔ Breaks Rule.NamedIssuer (certificate_of self.now) }
+    {
+        self.tbs_certificate.issuer.octets.is_empty()
+    }
+
+    fn breaks_ordered_attributes(&self) -> bool
+        ensures { IsTrue result ↔ Breaks Rule.OrderedAttributes (certificate_of self.now) }
+    {
+        let fields = &self.tbs_certificate;
+        has_descent(fields.issuer) || has_descent(fields.subject)
+    }
+
+    fn breaks_utc_time_to_2049(&self) -> bool
+        ensures { IsTrue result ↔ Breaks Rule.UtcTimeTo2049 (certificate_of self.now) }
+    {
+        let validity = self.tbs_certificate.validity;
+        is_early(validity.not_before) || is_early(validity.not_after)
+    }
+
+    fn breaks_whole_seconds(&self) -> bool
+        ensures { IsTrue result ↔ Breaks Rule.WholeSeconds (certificate_of self.now) }
+    {
+        let validity = self.tbs_certificate.validity;
+        has_fraction(validity.not_before) || has_fraction(validity.not_after)
+    }
+
+    fn breaks_unique_id_version(&self) -> bool
+        ensures { IsTrue result ↔ Breaks Rule.UniqueIdVersion (certificate_of self.now) }
+    {
+        let fields = &self.tbs_certificate;
+        fields.version == Version::V1
+            && (fields.issuer_unique_id.is_some() || fields.subject_unique_id.is_some())
+    }
+
+    fn breaks_extensions_version(&self) -> bool
+        ensures { IsTrue result ↔ Breaks Rule.ExtensionsVersion (certificate_of self.now) }
+    {
+        let fields = &self.tbs_certificate;
+        fields.version != Version::V3 && !fields.extensions.octets.is_empty()
+    }
+
+    fn breaks_distinct_extensions(&self) -> bool
+        ensures { IsTrue result ↔ Breaks Rule.DistinctExtensions (certificate_of self.now) }
+    {
+        has_repetition(self.tbs_certificate.extensions)
+    }
+
+    fn breaks_named_subject(&self) -> bool
+        ensures { IsTrue result ↔ Breaks Rule.NamedSubject (certificate_of self.now) }
+    {
+        let fields = &self.tbs_certificate;
+        fields.subject.octets.is_empty() && !has_critical(fields.extensions, SUBJECT_ALT_NAME)
+    }
+}
+
 /// Why octets aren't a certificate that keeps the rules.
 #[derive(Debug, Drop)]
 pub enum StrictRefusal {
@@ -150,7 +214,8 @@ pub fn read_strict_certificate(octets: &[u8]) -> Result<Certificate<'_>, StrictR
 fn is_same(one: &AlgorithmIdentifier<'_>, other: &AlgorithmIdentifier<'_>) -> bool
     ensures { IsTrue result ↔ (algorithm_of one.now ≡ algorithm_of other.now) }
 {
-    one.algorithm.as_bytes() == other.algorithm.as_bytes() && one.parameters == other.parameters
+    absolute_octets(&one.algorithm) == absolute_octets(&other.algorithm)
+        && one.parameters == other.parameters
 }
 
 /// Whether content octets of an INTEGER spell a positive number.
