@@ -1,2 +1,4 @@
+pub mod Contents
 pub mod Copies
+pub mod Joinings
 pub mod Steps

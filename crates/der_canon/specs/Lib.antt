@@ -1,3 +1,5 @@
+pub mod Joined
 pub mod Pieces
 pub mod Same
+pub mod Values
 pub mod Written

@@ -1,35 +1,129 @@
 //! The content octets that DER gives a value.
+ghost use Rattle.std.specs.Prelude.{◌≡◌, ◌≢◌, ◌++◌, ◌∷◌, ◌+◌, [], ℕ, length, IfSome, IsTrue, MatchBool, MatchOption};
+ghost use Rattle.der_base.specs.Octets.{integer_value};
+ghost use Rattle.der_base.specs.Leaf.{IsMinimalInteger};
+ghost use Rattle.der_canon.specs.Values.{IsSameBits, IsSameBoolean, IsSameNumber, RepeatsSign, boolean_octet, cleared, cleared_octet};
 
 /// The content octets of an INTEGER or ENUMERATED without those that the fewest octets don't have (X.690 8.3.2).
-pub(crate) fn shortest_number(octets: &[u8]) -> &[u8] {
+pub(crate) fn shortest_number(octets: &[u8]) -> &[u8]
+    ensures { octets.now ≢ [] → IsSameNumber octets.now result.now }
+{
     let mut shortest = octets;
-    for _ in 0..octets.len() {
-        match shortest {
-            [0, next, ..] if *next < 128 => {}
-            [0xff, next, ..] if *next >= 128 => {}
-            _ => return shortest,
+    for _ in octets {
+        match without_first(shortest) {
+            Some(rest) => shortest = rest,
+            None => return shortest,
         }
-        shortest = shortest.get(1..).unwrap_or(&[]);
     }
     shortest
 }
 
+/// The octets of a number without the first, if the number is the same without it.
+fn without_first(octets: &[u8]) -> Option<&[u8]>
+    ensures { MatchOption result (octets.now ≢ [] → IsMinimalInteger octets.now)
+        (λ x. (a : ℕ) × (octets.now ≡ a ∷ x.now) × RepeatsSign a x.now) }
+{
+    let Some((first, rest)) = octets.split_first() else {
+        return None;
+    };
+    if repeats_sign(*first, rest) {
+        Some(rest)
+    } else {
+        None
+    }
+}
+
+/// Whether the first octet has the first bit of the others eight times.
+fn repeats_sign(first: u8, others: &[u8]) -> bool
+    ensures { MatchBool result (RepeatsSign first others.now) (IsMinimalInteger (first ∷ others.now)) }
+{
+    let Some((next, _)) = others.split_first() else {
+        return false;
+    };
+    if *next < 128 {
+        first == 0
+    } else {
+        first == 255
+    }
+}
+
 /// The content octet of a BOOLEAN: 00, or ff for any other (11.1).
-pub(crate) fn boolean(octet: u8) -> u8 {
+pub(crate) fn boolean(octet: u8) -> u8
+    ensures { result ≡ boolean_octet octet }
+{
     if octet == 0 { 0 } else { 0xff }
 }
 
 /// The last octet of a BIT STRING with its unused bits set to 0 (11.2.1).
-pub(crate) fn without_unused(octet: u8, unused: u8) -> u8 {
+pub(crate) fn without_unused(octet: u8, unused: u8) -> u8
+    ensures { result ≡ cleared_octet unused octet }
+{
     match unused {
         0 => octet,
-        1 => octet & 0xfe,
-        2 => octet & 0xfc,
-        3 => octet & 0xf8,
-        4 => octet & 0xf0,
-        5 => octet & 0xe0,
-        6 => octet & 0xc0,
-        7 => octet & 0x80,
-        _ => octet,
+        1 => octet - octet % 2,
+        2 => octet - octet % 4,
+        3 => octet - octet % 8,
+        4 => octet - octet % 16,
+        5 => octet - octet % 32,
+        6 => octet - octet % 64,
+        7 => octet - octet % 128,
+        _ => 0,
+    }
+}
+
+/// Whether a number was written in the fewest octets.
+pub(crate) fn is_same_number(content: &[u8], written: &[u8]) -> bool
+    ensures { IsTrue result → IsSameNumber content.now written.now }
+{
+    !content.is_empty() && written == shortest_number(content)
+}
+
+/// Whether a BOOLEAN was written as 00 or ff.
+pub(crate) fn is_same_boolean(content: &[u8], written: &[u8]) -> bool
+    ensures { IsTrue result → IsSameBoolean content.now written.now }
+{
+    match (content, written) {
+        ([octet], [other]) => *other == boolean(*octet),
+        _ => false,
+    }
+}
+
+/// Whether the bits of a BIT STRING were written, and 0 for those that are unused.
+pub(crate) fn is_same_bits(content: &[u8], written: &[u8]) -> bool
+    ensures { IsTrue result → IsSameBits content.now written.now }
+{
+    let (Some((unused, bits)), Some((first, others))) = (
+        content.split_first(),
+        written.split_first(),
+    ) else {
+        return false;
+    };
+    first == unused && matches!(after_bits(others, bits, *unused), Some([]))
+}
+
+/// What follows octets that others begin with.
+pub(crate) fn after_octets<'a>(octets: &'a [u8], first: &[u8]) -> Option<&'a [u8]>
+    ensures { IfSome result (λ x. octets.now ≡ first.now ++ x.now) }
+{
+    if first.len() > octets.len() {
+        return None;
+    }
+    let (begin, rest) = octets.split_at(first.len());
+    if begin == first { Some(rest) } else { None }
+}
+
+/// What follows bits that octets begin with, which has 0 for so many unused bits.
+pub(crate) fn after_bits<'a>(octets: &'a [u8], bits: &[u8], unused: u8) -> Option<&'a [u8]>
+    ensures { IfSome result (λ x. octets.now ≡ cleared unused bits.now ++ x.now) }
+{
+    let Some((last, others)) = bits.split_last() else {
+        return Some(octets);
+    };
+    let after = after_octets(octets, others)?;
+    let (first, rest) = after.split_first()?;
+    if *first == without_unused(*last, unused) {
+        Some(rest)
+    } else {
+        None
     }
 }

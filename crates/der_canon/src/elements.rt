@@ -1,20 +1,17 @@
 //! The public calls.
-ghost use Rattle.std.specs.Prelude.{◌≡◌, ◌≤◌, ℕ, List, length, take, IfOk, IfSome, IsSomeAnd, IsTrue, OnOk};
+ghost use Rattle.std.specs.Prelude.{◌≤◌, length, take, IfOk, IfSome};
 ghost use Rattle.der_check.specs.Elements.{AreElements};
 ghost use Rattle.der_base.specs.declared.rules.Rules.{Rules};
-ghost use Rattle.der_walk.specs.Visits.{Visited, Visits};
-ghost use Rattle.der_walk.specs.Walked.{HasVisited, visited_of};
-ghost use Rattle.der_canon.specs.Pieces.{HasPiece};
-ghost use Rattle.der_canon.specs.Same.{HasElementsOf, IsWrittenAs, no_extras};
-ghost use Rattle.der_canon.specs.Written.{KeepsDer, WritesDer, WritesElements};
+ghost use Rattle.der_canon.specs.Same.{HasElementsOf, IsDerOf};
+ghost use Rattle.der_canon.specs.Written.{KeepsDer, WritesDer};
 
+use crate::check::{check_written, refuse_all};
 use crate::error::{CanonError, NotCanonical};
 use crate::octets::copy;
-use crate::piece::{Piece, Pieces, is_in_parts, refuse};
 use crate::writer::write_pieces;
 use der_base::rules::Rules;
 use der_check::are_elements;
-use der_walk::{Cause, Element, MAX_DEPTH, Refusal, Walk};
+use der_walk::{MAX_DEPTH, Walk};
 use std::alloc::Global;
 
 /// Writes elements that are read by BER as DER writes them, to a buffer: lengths in the fewest octets (X.690 10.1),
@@ -23,7 +20,7 @@ use std::alloc::Global;
 /// they stay as they are. Other values that DER doesn't have, as a time without seconds, are refused.
 ///
 /// Returns how many octets there are, room or not. If the buffer has room for them, they are in front of it, and are
-/// elements of DER: those of the input but the parts of strings, each with its class, number and depth. If it has
+/// elements of DER: those of the input but the parts of strings, each with its class, number, depth and value. If it has
 /// less, call again with more: what it holds then isn't said, nor whether a value is refused. Elements that are DER
 /// already are copied. It takes no memory, and the buffer keeps what follows them.
 ///
@@ -33,9 +30,8 @@ use std::alloc::Global;
 /// // size is 5, and the first 5 octets of out are 30 03 01 01 ff
 /// ```
 pub fn canonical_into(octets: &[u8], out: &mut [u8]) -> Result<usize, NotCanonical>
-    ensures elements { WritesDer out.new result }
+    ensures written { WritesDer octets.now out.new result }
     ensures unchanged { KeepsDer octets.now out.old out.new result }
-    ensures same { WritesElements octets.now out.new result }
 {
     if are_elements(octets, Rules::Der, MAX_DEPTH + 1) {
         copy(out, octets);
@@ -46,8 +42,7 @@ pub fn canonical_into(octets: &[u8], out: &mut [u8]) -> Result<usize, NotCanonic
 
 /// Writes elements that aren't DER already.
 fn write_others(octets: &[u8], out: &mut [u8]) -> Result<usize, NotCanonical>
-    ensures elements { WritesDer out.new result }
-    ensures same { IfOk result (λ n. n ≤ length out.new → HasElementsOf octets.now (take n out.new)) }
+    ensures { IfOk result (λ n. n ≤ length out.new → HasElementsOf octets.now (take n out.new)) }
 {
     let needed = write_pieces(octets, out)?;
     if needed > out.len() {
@@ -57,75 +52,9 @@ fn write_others(octets: &[u8], out: &mut [u8]) -> Result<usize, NotCanonical>
     Ok(needed)
 }
 
-/// Checks that what was written is elements of DER, those of the input. A refusal has the place in the input of the
-/// element that isn't DER.
-fn check_written(octets: &[u8], written: &[u8]) -> Result<(), NotCanonical>
-    ensures { OnOk result (HasElementsOf octets.now written.now) }
-{
-    let mut pieces = Pieces::new(octets);
-    let mut walk = Walk::new(written, Rules::Der, false);
-    // An element has an octet at least, so the loop ends at the end of the input.
-    for _ in 0..=octets.len() {
-        match pieces.next_piece() {
-            Ok(Some(piece)) => check_piece(&mut walk, &piece)?,
-            Ok(None) => return check_end(&mut walk),
-            Err(_) => break,
-        }
-    }
-    Err(refuse_all(&walk))
-}
-
-/// Checks that the next element that was written is this piece.
-fn check_piece(walk: &mut Walk<'_>, piece: &Piece<'_>) -> Result<(), NotCanonical>
-    ensures { OnOk result (HasPiece piece.now walk.old walk.new) }
-{
-    if !piece.has_header() {
-        return Ok(());
-    }
-    match walk.next_element() {
-        Ok(Some(written)) if is_written_as(&piece.element, &written) => Ok(()),
-        Ok(_) => Err(refuse_all(walk)),
-        Err(refusal) => {
-            let offset = piece.element.offset;
-            Err(refuse(walk, &Refusal { offset, ..refusal }))
-        }
-    }
-}
-
-/// Checks that all that was written is checked.
-fn check_end(walk: &mut Walk<'_>) -> Result<(), NotCanonical>
-    ensures { OnOk result ((o : List ℕ) (ws : List Visited) → HasVisited no_extras Rules.Der o walk.old ws
-        → Visits no_extras Rules.Der 101 0 0 o ws) }
-{
-    match walk.next_element() {
-        Ok(None) => Ok(()),
-        _ => Err(refuse_all(walk)),
-    }
-}
-
-/// Whether an element that was written is this one, as DER writes it.
-fn is_written_as(element: &Element<'_>, written: &Element<'_>) -> bool
-    ensures { IsTrue result → IsWrittenAs (visited_of element.now) (visited_of written.now) }
-{
-    written.class == element.class
-        && written.number == element.number
-        && written.depth == element.depth
-        && written.constructed == (element.constructed && !is_in_parts(element))
-}
-
-/// Refuses all that was written, with no place.
-fn refuse_all(walk: &Walk<'_>) -> NotCanonical {
-    let refusal = Refusal {
-        offset: 0,
-        step: None,
-        cause: Cause::NotDer,
-    };
-    refuse(walk, &refusal)
-}
 /// Writes elements as `canonical_into` does, to a vector that has room for them. OutOfMemory if there is none.
 pub fn canonical(alloc: Global, octets: &[u8]) -> Result<Vec<u8>, CanonError>
-    ensures elements { IfOk result (λ v. AreElements Rules.Der 101 v.items) }
-    ensures unchanged { AreElements Rules.Der 101 octets.now → IfOk result (λ v. v.items ≡ octets.now) }
+    ensures { IfOk result (λ v. IsDerOf octets.now v.items) }
 {
     // They are seldom more octets than before.
     if let Some(written) = write_within(alloc, octets, octets.len())? {
@@ -142,9 +71,7 @@ pub fn canonical(alloc: Global, octets: &[u8]) -> Result<Vec<u8>, CanonError>
 
 /// Writes elements to a vector of so many octets. None if they need more.
 fn write_within(alloc: Global, octets: &[u8], room: usize) -> Result<Option<Vec<u8>>, CanonError>
-    ensures elements { IfOk result (λ o. IfSome o (λ v. AreElements Rules.Der 101 v.items)) }
-    ensures unchanged { AreElements Rules.Der 101 octets.now → length octets.now ≤ room
-        → IfOk result (λ o. IsSomeAnd o (λ v. v.items ≡ octets.now)) }
+    ensures { IfOk result (λ o. IfSome o (λ v. IsDerOf octets.now v.items)) }
 {
     let mut written = vec![in alloc; 0u8; room]?;
     let needed = canonical_into(octets, &mut written)?;

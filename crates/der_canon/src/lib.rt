@@ -2,9 +2,11 @@
 //! memory: what is written goes to a buffer of the caller's.
 #![tactic(auto)]
 
+mod check;
 mod content;
 mod elements;
 mod error;
+mod joined;
 mod octets;
 mod piece;
 mod writer;

@@ -1,8 +1,7 @@
 -- What is written of an input that is read to its end.
 use Rattle.std.specs.Prelude.{ℕ, true, Option, List}
 use Rattle.std.specs.Io.KnownBytes.{Appends, Keeps}
-use Rattle.der_base.specs.declared.rules.Rules.TheVariants.{Der}
-use Rattle.der_check.specs.Elements.{AreElements}
+use Rattle.der_canon.specs.Same.{IsDerOf}
 use Rattle.der_print.specs.Lines.{AreLines}
 use Rattle.der_tool.specs.declared.options.Action.{Action}
 use Rattle.der_tool.specs.declared.options.Action.TheVariants.{Tree, Check, Json, Canon}
@@ -17,10 +16,10 @@ pub record WritesTree (o : Options) (i : List ℕ) (old new : Option (List ℕ))
   pub lines : AreLines o.style.colours elements text
   pub adds : Appends old new text
 
--- known octets grew by elements of DER
-pub record WritesDer (old new : Option (List ℕ)) : Type 0 where
+-- known octets grew by the input as DER writes it
+pub record WritesDer (i : List ℕ) (old new : Option (List ℕ)) : Type 0 where
   pub text : List ℕ
-  pub elements : AreElements Der 101 text
+  pub same : IsDerOf i text
   pub adds : Appends old new text
 
 -- what an action writes of an input that is octets; of JSON no more is said
@@ -28,4 +27,4 @@ abbrev pub Writes : Action → Options → List ℕ → Option (List ℕ) → Op
 Writes Tree o i old new = WritesTree o i old new
 Writes Check o i old new = Keeps old new
 Writes Json o i old new = Unit {0}
-Writes Canon o i old new = WritesDer old new
+Writes Canon o i old new = WritesDer i old new

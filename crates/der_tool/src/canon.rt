@@ -23,7 +23,8 @@ pub(crate) fn write_canonical<W: Write, X: Write>(
     err: &mut X,
 ) -> io::Result<bool>
     ensures { origin.entry.block ≡ None
-        → IfOk result (λ ok. IsTrue ok → WritesDer (W.contents out.old) (W.contents out.new)) }
+        → IfOk result (λ ok. IsTrue ok
+        → WritesDer octets.now (W.contents out.old) (W.contents out.new)) }
 {
     match canonical(alloc, octets) {
         Ok(written) => {

@@ -11,7 +11,7 @@ use Rattle.der_base.specs.Any.{AnyAnswer, AnswersAny, AnswersDerAny}
 use Rattle.der_base.specs.Headers.{ReadsDerHeader, ReadsHeader}
 use Rattle.der_base.specs.Refusal.{refusal}
 use Rattle.der_canon.specs.declared.error.NotCanonical.{NotCanonical}
-use Rattle.der_canon.specs.Written.{KeepsDer, WritesDer, WritesElements}
+use Rattle.der_canon.specs.Written.{KeepsDer, WritesDer}
 use Rattle.der_nodes.specs.FaultPlaces.{IsBerPlace, IsDerPlace}
 use Rattle.der_nodes.specs.NodesReading.{AnswersBerNodes, AnswersDerNodes, KeepsBerNodes, KeepsDerNodes}
 use Rattle.der_walk.specs.declared.cause.Cause.{Cause}
@@ -102,8 +102,8 @@ abbrev pub outcome_of_written : ℕ → Result ℕ NotCanonical → DmOutcome
 outcome_of_written room (Ok n) = if nat_le n room then read_outcome 0 n else no_room_outcome n
 outcome_of_written room (Err e) = unwritten_outcome e.cause e.offset
 
--- If there is room for what is written, it is elements of DER. What is DER already is written as it is, and of other
--- elements each that is no part of a string keeps its class, its number, its depth and its place in the order.
+-- If there is room for what is written, it is the input as DER writes it. What is DER already is written as it is, as
+-- far as there is room.
 abbrev pub Writes : List ℕ → List ℕ → List ℕ → DmOutcome → Type 0
 Writes i old new o = (found : Result ℕ NotCanonical) × (o ≡ outcome_of_written (length old) found)
-    × WritesDer new found × KeepsDer i old new found × WritesElements i new found
+    × WritesDer i new found × KeepsDer i old new found

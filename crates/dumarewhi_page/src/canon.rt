@@ -1,7 +1,5 @@
 //! What DER has the values of an input.
-ghost use Rattle.std.specs.Prelude.{◌≡◌, ◌≤◌, length, take};
-ghost use Rattle.der_base.specs.declared.rules.Rules.TheVariants.{Der};
-ghost use Rattle.der_check.specs.Elements.{AreElements};
+ghost use Rattle.dumarewhi_page.specs.Written.{WritesInput};
 
 use crate::fault::Fault;
 use crate::room::put;
@@ -11,7 +9,7 @@ use der_canon::canonical_into;
 /// have, room or not. Returns 0, or 1 if DER doesn't have a value.
 #[unsafe(no_mangle)]
 pub extern "C" fn page_canonical(input: &[u8], out: &mut [u8], needed: &mut usize) -> u32
-    ensures { result ≡ 0 → needed.new ≤ length out.new → AreElements Der 101 (take needed.new out.new) }
+    ensures { WritesInput input.now out.old out.new needed.old needed.new result }
 {
     match canonical_into(input, out) {
         Ok(size) => {
