@@ -1,8 +1,8 @@
 -- The octets of an input from one offset up to another.
 use Rattle.std.proofs.Common.{◌≡◌, ℕ, ◌+◌, ◌-◌, ◌≤◌, List, [], ◌++◌, length, take, drop, sym, ap, ◌∙◌, arith, length-drop, length-append, append_assoc}
 use Rattle.std.proofs.lemmas.List.{append_cancel_left, take-append-drop, drop-drop, drop-take, length-take, take-take, take_all, length-take-le}
-use Rattle.std.proofs.Math.Seq.{take-append_seam}
-use Rattle.der_walk.specs.Walked.{between}
+use Rattle.std.proofs.Math.Seq.{drop-append_seam, take-append_seam}
+use Rattle.der_walk.specs.Ends.{between}
 
 -- the first octets of a list in two parts
 take_two : (m n : ℕ) (l : List ℕ) → take m l ++ take n (drop m l) ≡ take (m + n) l
@@ -46,3 +46,24 @@ middle_between i a n h w rest e =
     let q : a + length (h ++ w) ≡ m + length w = omega (arith, length-append h w) in
     append_cancel_left h (between i m (m + length w)) w
     (ap (λ l. l ++ between i m (m + length w)) (sym first) ∙ between_more i a m (m + length w) (omega arith) (omega arith) ∙ ap (λ x. between i a x) (sym q) ∙ both)
+
+-- and what follows it
+pub between_drop : (i : List ℕ) (a n : ℕ) → a ≤ n → between i a n ++ drop n i ≡ drop a i
+between_drop i a n h =
+    let e : a + (n - a) ≡ n = omega arith in
+    ap (λ x. between i a n ++ drop x i) (sym e) ∙ ap (λ l. between i a n ++ l) (sym (drop-drop (n - a) a i)) ∙ take-append-drop (n - a) (drop a i)
+
+-- where octets begin so
+pub between_front : (i : List ℕ) (a : ℕ) (b rest : List ℕ) → drop a i ≡ b ++ rest → between i a (a + length b) ≡ b
+between_front i a b rest e =
+    let z : a + length b - a ≡ length b = omega arith in
+    ap (λ x. take x (drop a i)) z ∙ ap (λ l. take (length b) l) e ∙ take-append_seam b rest
+
+pub drop_front : (i : List ℕ) (a : ℕ) (b rest : List ℕ) → drop a i ≡ b ++ rest → drop (a + length b) i ≡ rest
+drop_front i a b rest e = sym (drop-drop (length b) a i) ∙ ap (λ l. drop (length b) l) e ∙ drop-append_seam b rest
+
+-- and where they are some of those up to an offset
+pub front_of_between : (i : List ℕ) (a n : ℕ) (w t : List ℕ) → drop a i ≡ w ++ t → a + length w ≤ n → n ≤ length i → (z : List ℕ) × (between i a n ≡ w ++ z)
+front_of_between i a n w t e h k =
+    let m = a + length w in
+    (between i m n, sym (between_more i a m n (omega arith) h) ∙ ap (λ l. l ++ between i m n) (between_front i a w t e))

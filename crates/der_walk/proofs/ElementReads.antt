@@ -14,10 +14,11 @@ use Rattle.der_base.specs.declared.rules.Rules.{Rules}
 use Rattle.der_check.specs.Elements.{SpellsOne}
 use Rattle.der_base.specs.Rules.{AnswersHeader}
 use Rattle.der_check.specs.Readers.{BeginsWithOne, Finds}
-use Rattle.der_check.proofs.HeadersBy.{header_read}
+use Rattle.der_check.proofs.HeadersBy.{header_read, header_shorter}
 use Rattle.der_walk.specs.declared.element.Element.{Element}
 use Rattle.der_walk.specs.declared.walk.Walk.{Walk}
 use Rattle.der_walk.specs.Visits.{Extras, IsHeaderBy, HoldsElement, IsNotEntered, primitive, broken, visited, may_break}
+use Rattle.der_walk.specs.Ends.{end_of, IsWithin}
 use Rattle.der_walk.specs.Walked.{visited_of}
 use Rattle.der_walk.specs.Reading.{StartsWith, FindsContent, IsChecked, Holds, IsRead, whole, string, list, definite_of, extras_of, OctetsHere, ReadsHere}
 use Rattle.der_walk.proofs.Headers.{Parts, header_parts, checked, raw_tag_read}
@@ -32,8 +33,8 @@ visited_broken : (e : Element) (h : List ℕ) (n : Option ℕ) → e.header ≡ 
 visited_broken e h n eh el ec ep ed eo = cc
 
 -- the header of the element
-parts_of : (r : Rules) (i : List ℕ) (y : Bor (List ℕ) × Header) (o at k : ℕ) (e : Element) → AnswersHeader r i (Ok y) → StartsWith y.1 o at k e → Parts r i e.class e.constructed e.number e.length y.0.now
-parts_of r i y o at k e a s =
+parts_of : (r : Rules) (i : List ℕ) (y : Bor (List ℕ) × Header) (o at k j : ℕ) (e : Element) → AnswersHeader r i (Ok y) → StartsWith y.1 o at k j e → Parts r i e.class e.constructed e.number e.length y.0.now
+parts_of r i y o at k j e a s =
     let g = header_parts r i (leading_header y) (header_read r i y a) in
     let g1 = subst (λ c. Parts r i c (is_constructed y.1) (number_of y.1) (definite_of (length_of y.1)) y.0.now) (sym s.class) g in
     let g2 = subst (λ p. Parts r i e.class p (number_of y.1) (definite_of (length_of y.1)) y.0.now) (sym s.constructed) g1 in
@@ -55,9 +56,9 @@ pub record Leaf (r : Rules) (i : List ℕ) (e : Element) (behind : List ℕ) : T
   pub length_is : e.length ≡ Some (length content)
   pub spells : SpellsOne r (octets ++ content) (node e.class false e.number value)
 
-leaf_of : (r : Rules) (i : List ℕ) (y : Bor (List ℕ) × Header) (o at k : ℕ) (e : Element) (z : List ℕ) → AnswersHeader r i (Ok y) → StartsWith y.1 o at k e → e.constructed ≡ false → BeginsWithOne r i z
+leaf_of : (r : Rules) (i : List ℕ) (y : Bor (List ℕ) × Header) (o at k j : ℕ) (e : Element) (z : List ℕ) → AnswersHeader r i (Ok y) → StartsWith y.1 o at k j e → e.constructed ≡ false → BeginsWithOne r i z
     → Leaf r i e y.0.now
-leaf_of r i y o at k e z a s ep one =
+leaf_of r i y o at k j e z a s ep one =
     let g = checked r i y z a (sym s.constructed ∙ ep) one in
     record {
       octets = g.octets;
@@ -113,16 +114,16 @@ broken_no_string t d w u v it h =
 pub broken_not_zero : (t : ℕ) → IsTrue (may_break t) → t ≢ 0
 broken_not_zero t it z = absurd (let q : false ≡ true = subst (λ n. IsTrue (may_break n)) z it in cc)
 
-pub reads : (x : Extras) (r : Rules) (i : List ℕ) (y : Bor (List ℕ) × Header) (at k : ℕ) (e : Element) → AnswersHeader r i (Ok y) → StartsWith y.1 (length i - length y.0.now) at k e
+pub reads : (x : Extras) (r : Rules) (i : List ℕ) (y : Bor (List ℕ) × Header) (at k j : ℕ) (e : Element) → AnswersHeader r i (Ok y) → StartsWith y.1 (length i - length y.0.now) at k j e
     → FindsContent e y.0.now e.content → IsChecked x.keeps_values r i e e.breaks_its_type → IsTrue e.holds_der ↔ ((x.enters_strings ≡ true) × Holds e) → IsRead x r (100 - e.depth) i e
-reads x r i y at k e a s f (inl (ep, may, eo)) holds =
-    let g = parts_of r i y _ at k e a s in
+reads x r i y at k j e a s f (inl (ep, may, eo)) holds =
+    let g = parts_of r i y _ at k j e a s in
     let no : e.holds_der ≡ false = ⊎_elim (λ t. absurd (let q = (holds.0 t).1.0 in cc)) (λ n. n) (bool_cases e.holds_der) in
     list g.octets y.0.now g.split (header_length i g.octets y.0.now e.header s.header g.split) ep no eo (subst (λ p. IsHeaderBy r e.class p e.number e.length g.octets) ep g.is) may
-reads x r i y at k e a s f (inr (inl (ep, n, eo, z, one))) holds = ⊎_elim entered plain (bool_cases e.holds_der)
+reads x r i y at k j e a s f (inr (inl (ep, n, eo, z, one))) holds = ⊎_elim entered plain (bool_cases e.holds_der)
   where
     g : Leaf r i e y.0.now
-    g = leaf_of r i y _ at k e z a s ep one
+    g = leaf_of r i y _ at k j e z a s ep one
 
     eh : e.header ≡ length g.octets
     eh = header_length i g.octets y.0.now e.header s.header (g.split ∙ ap (λ l. g.octets ++ l) (sym g.behind_is))
@@ -142,10 +143,10 @@ reads x r i y at k e a s f (inr (inl (ep, n, eo, z, one))) holds = ⊎_elim ente
         let out = not_entered x e g.content ep c (λ h. absurd (let q = holds.1 h in cc)) in
         whole g.octets g.content g.rest g.split eh g.length_is ep t
         (primitive e.class e.number g.octets g.content g.value g.is refl g.spells n out (ap (λ v. v ∷ []) (visited_plain e g.octets false (Some (length g.content)) eh g.length_is ep t eo)))
-reads x r i y at k e a s f (inr (inr (ep, eo, kt, er, ec, it, none))) holds = of e.content refl f
+reads x r i y at k j e a s f (inr (inr (ep, eo, kt, er, ec, it, none))) holds = of e.content refl f
   where
     g : Parts r i e.class e.constructed e.number e.length y.0.now
-    g = parts_of r i y _ at k e a s
+    g = parts_of r i y _ at k j e a s
 
     eh : e.header ≡ length g.octets
     eh = header_length i g.octets y.0.now e.header s.header g.split
@@ -181,11 +182,11 @@ no_length : (r : Rules) (c : Class) (p : Bool) (t : ℕ) (h : List ℕ) → p �
 no_length r c p t h ep is = absurd (let q = is.2 in cc)
 
 -- the octets of the element
-octets_here : (r : Rules) (i : List ℕ) (y : Bor (List ℕ) × Header) (at k : ℕ) (e : Element) → AnswersHeader r i (Ok y) → StartsWith y.1 (length i - length y.0.now) at k e → FindsContent e y.0.now e.content → OctetsHere i e
-octets_here r i y at k e a s f = record { identifier = named; content = contents e.content f; primitive = λ ep. some e.content f ep }
+octets_here : (r : Rules) (i : List ℕ) (y : Bor (List ℕ) × Header) (at k j : ℕ) (e : Element) → AnswersHeader r i (Ok y) → StartsWith y.1 (length i - length y.0.now) at k j e → FindsContent e y.0.now e.content → OctetsHere i e
+octets_here r i y at k j e a s f = record { identifier = named; content = contents e.content f; primitive = λ ep. some e.content f ep }
   where
     g : Parts r i e.class e.constructed e.number e.length y.0.now
-    g = parts_of r i y _ at k e a s
+    g = parts_of r i y _ at k j e a s
 
     named : e.identifier.now ≡ identifier e.class e.constructed e.number
     named =
@@ -202,8 +203,8 @@ octets_here r i y at k e a s f = record { identifier = named; content = contents
     some (Some w) f ep = search rules
 
 -- another content and other marks leave the header
-pub starts_again : (h : Header) (o at k : ℕ) (e : Element) (c : Option (Bor (List ℕ))) (holds other : Bool) → StartsWith h o at k e → StartsWith h o at k (record e { content = c; holds_der = holds; breaks_its_type = other })
-starts_again h o at k e c holds other s = record {
+pub starts_again : (h : Header) (o at k j : ℕ) (e : Element) (c : Option (Bor (List ℕ))) (holds other : Bool) → StartsWith h o at k j e → StartsWith h o at k j (record e { content = c; holds_der = holds; breaks_its_type = other })
+starts_again h o at k j e c holds other s = record {
   class = s.class;
   constructed = s.constructed;
   number = s.number;
@@ -211,18 +212,21 @@ starts_again h o at k e c holds other s = record {
   header = s.header;
   offset = s.offset;
   depth = s.depth;
+  index = s.index;
   identifier = s.identifier;
 }
 
-pub reads_here : (w : Walk) (i : List ℕ) (y : Bor (List ℕ) × Header) (e : Element) → AnswersHeader w.content.rules i (Ok y) → StartsWith y.1 (length i - length y.0.now) w.at (length w.opened.items) e
-    → FindsContent e y.0.now e.content → IfSome e.length (λ n. n ≤ w.content.end - (e.offset + e.header)) → IsChecked w.keeps_values w.content.rules i e e.breaks_its_type
+pub reads_here : (w : Walk) (i : List ℕ) (y : Bor (List ℕ) × Header) (e : Element) → AnswersHeader w.content.rules i (Ok y) → StartsWith y.1 (length i - length y.0.now) w.at (length w.opened.items) w.content.visited e
+    → FindsContent e y.0.now e.content → IfSome e.length (λ n. IsWithin (e.offset + e.header + n) (end_of w)) → IsChecked w.keeps_values w.content.rules i e e.breaks_its_type
     → IsTrue e.holds_der ↔ ((w.enters_strings ≡ true) × Holds e) → e.depth ≤ 100 → ReadsHere w i e
 reads_here w i y e a s f room checks holds shallow = record {
   offset = s.offset;
   depth = s.depth;
   shallow = shallow;
   fits = omega (arith, s.header);
+  some = (let h = header_shorter w.content.rules i (leading_header y) (header_read w.content.rules i y a) in omega (arith, s.header, h));
   room = room;
-  read = reads (extras_of w) w.content.rules i y w.at (length w.opened.items) e a s f checks holds;
-  octets = octets_here w.content.rules i y w.at (length w.opened.items) e a s f;
+  index = s.index;
+  read = reads (extras_of w) w.content.rules i y w.at (length w.opened.items) w.content.visited e a s f checks holds;
+  octets = octets_here w.content.rules i y w.at (length w.opened.items) w.content.visited e a s f;
 }

@@ -1,8 +1,13 @@
 pub mod Between
+pub mod Counts
 pub mod ElementReads
+pub mod Ends
 pub mod Headers
 pub mod Next
 pub mod OneVisit
+pub mod Opening
+pub mod Refusals
+pub mod Rest
 pub mod Steps
 pub mod Strings
 pub mod VisitedElements

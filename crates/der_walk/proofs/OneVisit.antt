@@ -33,7 +33,7 @@ length_back None (Some m) e = absurd (cc)
 length_back None None e = refl
 
 -- a header is one by BER
-header_begins : (r : Rules) (i : List ℕ) (c : Class) (p : Bool) (t : ℕ) (n : Option ℕ) (h rest : List ℕ) → IsHeaderBy r c p t n h → i ≡ h ++ rest → BeginsWithHeader i c p t (length_from n) rest
+pub header_begins : (r : Rules) (i : List ℕ) (c : Class) (p : Bool) (t : ℕ) (n : Option ℕ) (h rest : List ℕ) → IsHeaderBy r c p t n h → i ≡ h ++ rest → BeginsWithHeader i c p t (length_from n) rest
 header_begins Ber i c p t (Some n) h rest is e = spells_parts Ber i c p t n h rest is e
 header_begins Der i c p t (Some n) h rest is e =
     let s = is.1 in
@@ -45,15 +45,15 @@ header_begins Der i c p t (Some n) h rest is e =
     }
 header_begins r i c p t None h rest is e = record { following = 128 ∷ rest; octets = e ∙ ap (λ l. l ++ rest) is.3 ∙ append_assoc (identifier c p t) (128 ∷ []) rest; number = is.0; length = (is.2, refl) }
 
-record SameStart (c c' : Class) (p p' : Bool) (t t' : ℕ) (n n' : Option ℕ) (h h' y y' : List ℕ) : Type 0 where
-  class : c ≡ c'
-  constructed : p ≡ p'
-  number : t ≡ t'
-  length : n ≡ n'
-  octets : h ≡ h'
-  rest : y ≡ y'
+pub record SameStart (c c' : Class) (p p' : Bool) (t t' : ℕ) (n n' : Option ℕ) (h h' y y' : List ℕ) : Type 0 where
+  pub class : c ≡ c'
+  pub constructed : p ≡ p'
+  pub number : t ≡ t'
+  pub length : n ≡ n'
+  pub octets : h ≡ h'
+  pub rest : y ≡ y'
 
-same_start : (r : Rules) (c c' : Class) (p p' : Bool) (t t' : ℕ) (n n' : Option ℕ) (h h' y y' : List ℕ) → IsHeaderBy r c p t n h → IsHeaderBy r c' p' t' n' h' → h ++ y ≡ h' ++ y' → SameStart c c' p p' t t' n n' h h' y y'
+pub same_start : (r : Rules) (c c' : Class) (p p' : Bool) (t t' : ℕ) (n n' : Option ℕ) (h h' y y' : List ℕ) → IsHeaderBy r c p t n h → IsHeaderBy r c' p' t' n' h' → h ++ y ≡ h' ++ y' → SameStart c c' p p' t t' n n' h h' y y'
 same_start r c c' p p' t t' n n' h h' y y' is is' e =
     let s = ber_header_same (h ++ y) y y' c c' p p' t t' (length_from n) (length_from n') (header_begins r (h ++ y) c p t n h y is refl) (header_begins r (h ++ y) c' p' t' n' h' y' is' e) in
     record {
@@ -66,18 +66,18 @@ same_start r c c' p p' t t' n n' h h' y y' is is' e =
     }
 
 -- two elements with definite lengths
-record SameParts (c c' : Class) (p p' : Bool) (t t' : ℕ) (h h' w w' y y' : List ℕ) : Type 0 where
-  class : c ≡ c'
-  constructed : p ≡ p'
-  number : t ≡ t'
-  octets : h ≡ h'
-  content : w ≡ w'
-  rest : y ≡ y'
+pub record SameParts (c c' : Class) (p p' : Bool) (t t' : ℕ) (h h' w w' y y' : List ℕ) : Type 0 where
+  pub class : c ≡ c'
+  pub constructed : p ≡ p'
+  pub number : t ≡ t'
+  pub octets : h ≡ h'
+  pub content : w ≡ w'
+  pub rest : y ≡ y'
 
 in_two : (b b' h h' z z' y y' : List ℕ) → b ≡ h ++ z → b' ≡ h' ++ z' → b ++ y ≡ b' ++ y' → h ++ (z ++ y) ≡ h' ++ (z' ++ y')
 in_two b b' h h' z z' y y' e e' q = sym (ap (λ l. l ++ y) e ∙ append_assoc h z y) ∙ q ∙ ap (λ l. l ++ y') e' ∙ append_assoc h' z' y'
 
-same_parts : (r : Rules) (c c' : Class) (p p' : Bool) (t t' : ℕ) (b b' h h' w w' y y' : List ℕ) → IsHeaderBy r c p t (Some (length w)) h → IsHeaderBy r c' p' t' (Some (length w')) h' → b ≡ h ++ w → b' ≡ h' ++ w' → b ++ y ≡ b' ++ y'
+pub same_parts : (r : Rules) (c c' : Class) (p p' : Bool) (t t' : ℕ) (b b' h h' w w' y y' : List ℕ) → IsHeaderBy r c p t (Some (length w)) h → IsHeaderBy r c' p' t' (Some (length w')) h' → b ≡ h ++ w → b' ≡ h' ++ w' → b ++ y ≡ b' ++ y'
     → SameParts c c' p p' t t' h h' w w' y y'
 same_parts r c c' p p' t t' b b' h h' w w' y y' is is' e e' q =
     let s = same_start r c c' p p' t t' (Some (length w)) (Some (length w')) h h' (w ++ y) (w' ++ y') is is' (in_two b b' h h' w w' y y' e e' q) in
@@ -85,13 +85,13 @@ same_parts r c c' p p' t t' b b' h h' w w' y y' is is' e e' q =
     let f = fronts_same w w' y y' len s.rest in
     record { class = s.class; constructed = s.constructed; number = s.number; octets = s.octets; content = f.0; rest = f.1 }
 
-not_both : (r : Rules) (c c' : Class) (t t' : ℕ) (n n' : Option ℕ) (b b' h h' z z' y y' : List ℕ) → IsHeaderBy r c false t n h → IsHeaderBy r c' true t' n' h' → b ≡ h ++ z → b' ≡ h' ++ z' → b ++ y ≡ b' ++ y' → ⊥
+pub not_both : (r : Rules) (c c' : Class) (t t' : ℕ) (n n' : Option ℕ) (b b' h h' z z' y y' : List ℕ) → IsHeaderBy r c false t n h → IsHeaderBy r c' true t' n' h' → b ≡ h ++ z → b' ≡ h' ++ z' → b ++ y ≡ b' ++ y' → ⊥
 not_both r c c' t t' n n' b b' h h' z z' y y' is is' e e' q =
     let s = same_start r c c' false true t t' n n' h h' (z ++ y) (z' ++ y') is is' (in_two b b' h h' z z' y y' e e' q) in
     absurd (let p = s.constructed in cc)
 
 -- an element has an octet, and doesn't begin as an end marker
-header_front : (r : Rules) (c : Class) (p : Bool) (t : ℕ) (n : Option ℕ) (h : List ℕ) → IsHeaderBy r c p t n h → (s : List ℕ) × (h ≡ identifier c p t ++ s)
+pub header_front : (r : Rules) (c : Class) (p : Bool) (t : ℕ) (n : Option ℕ) (h : List ℕ) → IsHeaderBy r c p t n h → (s : List ℕ) × (h ≡ identifier c p t ++ s)
 header_front r c p t (Some n) h is = (is.1, is.3)
 header_front r c p t None h is = (128 ∷ [], is.3)
 
@@ -100,7 +100,7 @@ front_at r c p t n b h z y i is e q =
     let f = header_front r c p t n h is in
     (f.0 ++ (z ++ y), q ∙ ap (λ l. l ++ y) e ∙ append_assoc h z y ∙ ap (λ l. l ++ (z ++ y)) f.1 ∙ append_assoc (identifier c p t) f.0 (z ++ y))
 
-one_front : {x : Extras} {r : Rules} {d k a : ℕ} {b : List ℕ} {us : List Visited} (y i : List ℕ) → VisitsOne x r d k a b us → i ≡ b ++ y
+pub one_front : {x : Extras} {r : Rules} {d k a : ℕ} {b : List ℕ} {us : List Visited} (y i : List ℕ) → VisitsOne x r d k a b us → i ≡ b ++ y
     → (c : Class) × (p : Bool) × (t : ℕ) × (s : List ℕ) × (i ≡ identifier c p t ++ s) × (p ≡ false → c ≡ Universal → t ≡ 0 → ⊥)
 one_front {r = r} {b = b} y i (primitive c t h w z is e spells n out ev) q = let f = front_at r c false t (Some (length w)) b h w y i is e q in (c, false, t, f.0, f.1, λ p. n)
 one_front {r = r} {b = b} y i (broken t h w is e keeps er it never ev) q = let f = front_at r Universal false t (Some (length w)) b h w y i is e q in (Universal, false, t, f.0, f.1, λ p c. broken_not_zero t it)
@@ -108,17 +108,17 @@ one_front {r = r} {b = b} y i (string t h w z u v us is e spells en holds vis ev
 one_front {r = r} {b = b} y i (constructed c t h w us is e may vis ev) q = let f = front_at r c true t (Some (length w)) b h w y i is e q in (c, true, t, f.0, f.1, λ p. absurd (cc))
 one_front {r = r} {b = b} y i (indefinite c t h w us is e may vis ev) q = let f = front_at r c true t None b h (w ++ end_marker) y i is (e ∙ append_assoc h w end_marker) q in (c, true, t, f.0, f.1, λ p. absurd (cc))
 
-one_nonempty : {x : Extras} {r : Rules} {d k a : ℕ} {b : List ℕ} {us : List Visited} (y : List ℕ) → VisitsOne x r d k a b us → [] ≡ b ++ y → ⊥
+pub one_nonempty : {x : Extras} {r : Rules} {d k a : ℕ} {b : List ℕ} {us : List Visited} (y : List ℕ) → VisitsOne x r d k a b us → [] ≡ b ++ y → ⊥
 one_nonempty y one q = let (c, p, t, s, e, n) = one_front y [] one q in identifier_some c p t s e
 
-no_zero : (i : List ℕ) (c : Class) (p : Bool) (t : ℕ) (s more : List ℕ) → i ≡ 0 ∷ more → i ≡ identifier c p t ++ s → (p ≡ false → c ≡ Universal → t ≡ 0 → ⊥) → ⊥
+pub no_zero : (i : List ℕ) (c : Class) (p : Bool) (t : ℕ) (s more : List ℕ) → i ≡ 0 ∷ more → i ≡ identifier c p t ++ s → (p ≡ false → c ≡ Universal → t ≡ 0 → ⊥) → ⊥
 no_zero i c false t s more z e n = let f = zero_first (0 ∷ more) c t s refl (sym z ∙ e) in n refl f.0 f.1
 no_zero i c true t s more z e n = constructed_first (0 ∷ more) c t s refl (sym z ∙ e)
 
-one_no_marker : {x : Extras} {r : Rules} {d k a : ℕ} {b : List ℕ} {us : List Visited} (y more : List ℕ) → VisitsOne x r d k a b us → 0 ∷ more ≡ b ++ y → ⊥
+pub one_no_marker : {x : Extras} {r : Rules} {d k a : ℕ} {b : List ℕ} {us : List Visited} (y more : List ℕ) → VisitsOne x r d k a b us → 0 ∷ more ≡ b ++ y → ⊥
 one_no_marker y more one q = let (c, p, t, s, e, n) = one_front y (0 ∷ more) one q in no_zero (0 ∷ more) c p t s more refl e n
 
-front_same : (t : ℕ) (u u' : List ℕ) → IsStringFront t u → IsStringFront t u' → u ≡ u'
+pub front_same : (t : ℕ) (u u' : List ℕ) → IsStringFront t u → IsStringFront t u' → u ≡ u'
 front_same t u u' (inl z) (inl z') = z.1 ∙ sym z'.1
 front_same t u u' (inl z) (inr z') = let e : t ≡ 4 = z.0 in let e' : t ≡ 3 = z'.0 in absurd (omega (arith, e, e'))
 front_same t u u' (inr z) (inl z') = let e : t ≡ 3 = z.0 in let e' : t ≡ 4 = z'.0 in absurd (omega (arith, e, e'))
@@ -132,7 +132,7 @@ plain_same a k c c' p t t' h h' n n' e1 e2 e3 e4 =
     ap (λ z. visited a k z p t h n) e1 ∙ ap (λ z. visited a k c' p z h n) e2 ∙ ap (λ z. visited a k c' p t' z n) e3 ∙ ap (λ z. visited a k c' p t' h' z) e4
 
 mutual
-  one_same : {x : Extras} {r : Rules} {d k a : ℕ} {b b' : List ℕ} {us us' : List Visited} (y y' : List ℕ) → VisitsOne x r d k a b us → VisitsOne x r d k a b' us' → b ++ y ≡ b' ++ y' → (b ≡ b') × (us ≡ us') × (y ≡ y')
+  pub one_same : {x : Extras} {r : Rules} {d k a : ℕ} {b b' : List ℕ} {us us' : List Visited} (y y' : List ℕ) → VisitsOne x r d k a b us → VisitsOne x r d k a b' us' → b ++ y ≡ b' ++ y' → (b ≡ b') × (us ≡ us') × (y ≡ y')
   -- primitive
   one_same {r = r} {k = k} {a = a} {b = b} {b' = b'} y y' (primitive c t h w z is e sp n out ev) (primitive c' t' h' w' z' is' e' sp' n' out' ev') q =
       let s = same_parts r c c' false false t t' b b' h h' w w' y y' is is' e e' q in

@@ -1,3 +1,5 @@
+pub mod Ends
+pub mod Faults
 pub mod Laws
 pub mod Reading
 pub mod TypeNames

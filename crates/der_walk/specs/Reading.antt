@@ -1,7 +1,10 @@
 -- What the private functions of the walk find and do.
 use Rattle.std.specs.Borrow.{Bor}
 use Rattle.std.specs.Prelude.{◌≡◌, ℕ, suc, ◌+◌, ◌-◌, ◌≤◌, ◌⊎◌, Bool, true, false, ◌&&◌, ◌==◌, if◌then◌else◌}
-use Rattle.std.specs.Prelude.{IsTrue, Option, Some, None, MatchOption, IfSome, IsSome, List, [], ◌∷◌, ◌++◌, length}
+use Rattle.std.specs.Prelude.{IsTrue, Option, Some, None, MatchOption, IfSome, IsSome, IsSomeAnd, Result, ◌≢◌, ◌<◌, ◌^◌}
+use Rattle.std.specs.Prelude.{List, [], ◌∷◌, ◌++◌, length, min}
+use Rattle.der_base.specs.declared.error.Err.{Err as Refused}
+use Rattle.der_base.specs.declared.error.Error.{Error as BerError}
 use Rattle.der_base.specs.declared.header.Class.TheVariants.{Universal}
 use Rattle.der_base.specs.declared.header.Header.{Header}
 use Rattle.der_base.specs.declared.header.Length.{Length}
@@ -9,24 +12,31 @@ use Rattle.der_base.specs.declared.header.Length.TheVariants.{Definite, Indefini
 use Rattle.der_base.specs.Header.{class_of, is_constructed, number_of, length_of, raw_tag_of}
 use Rattle.der_base.specs.Octets.{identifier}
 use Rattle.der_base.specs.Spelling.{end_marker}
-use Rattle.der_base.specs.Tree.{node, Content}
+use Rattle.der_base.specs.Tree.{node, Content as Contents}
 use Rattle.der_base.specs.declared.rules.Rules.{Rules}
 use Rattle.der_base.specs.declared.rules.Rules.TheVariants.{Ber, Der}
 use Rattle.der_check.specs.Elements.{SpellsOne, MayBeConstructed}
-use Rattle.der_check.specs.Readers.{BeginsWithOne}
+use Rattle.der_check.specs.Readers.{AnswersOneElement, BeginsWithOne}
+use Rattle.der_walk.specs.declared.cause.Cause.{Cause}
+use Rattle.der_walk.specs.declared.cause.Cause.TheVariants.{Constructed, ConstructedString, EndMarker}
+use Rattle.der_walk.specs.declared.content.Content.{Content}
 use Rattle.der_walk.specs.declared.content.Open.{Open}
 use Rattle.der_walk.specs.declared.element.Element.{Element}
 use Rattle.der_walk.specs.declared.walk.Walk.{Walk}
-use Rattle.der_walk.specs.Visits.{Extras, VisitsOne, IsHeaderBy, IsStringFront, HoldsElement, may_break}
-use Rattle.der_walk.specs.Walked.{visited_of, between}
+use Rattle.der_walk.specs.Visits.{Visited, Extras, VisitsOne, IsHeaderBy, IsStringFront, HoldsElement, may_break}
+use Rattle.der_walk.specs.declared.content.End.{End}
+use Rattle.der_walk.specs.declared.refusal.Refusal.{Refusal}
+use Rattle.der_walk.specs.Ends.{between, end_in, end_of, limit_of, overrun, IsWithin}
+use Rattle.der_walk.specs.Faults.{IsAtFault, cause_of_content, cause_of_value, place_of}
+use Rattle.der_walk.specs.Walked.{visited_of}
 
 -- the number of octets of a length that is definite
 abbrev pub definite_of : Length → Option ℕ
 definite_of (Definite n) = Some n
 definite_of Indefinite = None
 
--- e has this header of so many octets
-pub record StartsWith (h : Header) (octets at k : ℕ) (e : Element) : Type 0 where
+-- e has this header of so many octets, and begins here, with k elements around it and n before it
+pub record StartsWith (h : Header) (octets at k n : ℕ) (e : Element) : Type 0 where
   pub class : e.class ≡ class_of h
   pub constructed : e.constructed ≡ is_constructed h
   pub number : e.number ≡ number_of h
@@ -34,6 +44,7 @@ pub record StartsWith (h : Header) (octets at k : ℕ) (e : Element) : Type 0 wh
   pub header : e.header ≡ octets
   pub offset : e.offset ≡ at
   pub depth : e.depth ≡ k
+  pub index : e.index ≡ n
   pub identifier : (b : List ℕ) → raw_tag_of h ≡ Some b → e.identifier.now ≡ b
 
 -- the content octets of an element, of which these are in the input; a constructed one may be cut
@@ -66,7 +77,7 @@ pub data IsRead (x : Extras) (r : Rules) (d : ℕ) (here : List ℕ) (e : Elemen
   whole : (h w rest : List ℕ) → here ≡ h ++ (w ++ rest) → e.header ≡ length h → e.length ≡ Some (length w)
       → e.constructed ≡ false → e.holds_der ≡ false
       → VisitsOne x r (suc d) e.depth e.offset (h ++ w) (visited_of e ∷ []) → IsRead x r d here e
-  string : (h w rest u v : List ℕ) (y : Content) → here ≡ h ++ (w ++ rest) → e.header ≡ length h
+  string : (h w rest u v : List ℕ) (y : Contents) → here ≡ h ++ (w ++ rest) → e.header ≡ length h
       → e.length ≡ Some (length w) → e.constructed ≡ false → e.holds_der ≡ true → e.breaks_its_type ≡ false
       → e.class ≡ Universal → IsHeaderBy r Universal false e.number (Some (length w)) h
       → SpellsOne r (h ++ w) (node Universal false e.number y) → x.enters_strings ≡ true
@@ -81,9 +92,16 @@ extras_of w = record { enters_strings = w.enters_strings; keeps_values = w.keeps
 
 -- the content here ends here, and what is around it goes on there
 abbrev pub EndsHere : Walk → ℕ → Type 0
-EndsHere w after = ((w.content.has_marker ≡ false) × (w.content.end ≤ w.at) × (after ≡ w.at))
-    ⊎ ((w.content.has_marker ≡ true) × (after ≡ w.at + 2) × (after ≤ w.content.end) × (after ≤ length w.input.now)
+EndsHere w after = ((w.content.has_marker ≡ false) × IsSomeAnd (end_of w) (λ n. n ≤ w.at) × (after ≡ w.at))
+    ⊎ ((w.content.has_marker ≡ true) × (after ≡ w.at + 2) × IsWithin after (end_of w) × (after ≤ length w.input.now)
     × (between w.input.now w.at after ≡ end_marker))
+
+abbrev pub EndsNowhere : Walk → Type 0
+EndsNowhere w = (after : ℕ) → ¬ EndsHere w after
+
+-- the content here doesn't end here, or is the input's
+abbrev pub StaysOpen : Walk → Type 0
+StaysOpen w = (w.opened.items ≢ []) → EndsNowhere w
 
 -- the octets of e in these
 pub record OctetsHere (here : List ℕ) (e : Element) : Type 0 where
@@ -98,7 +116,9 @@ pub record ReadsHere (w : Walk) (here : List ℕ) (e : Element) : Type 0 where
   pub depth : e.depth ≡ length w.opened.items
   pub shallow : e.depth ≤ 100
   pub fits : e.header ≤ length here
-  pub room : IfSome e.length (λ n. n ≤ w.content.end - (e.offset + e.header))
+  pub some : 0 < e.header
+  pub room : IfSome e.length (λ n. IsWithin (e.offset + e.header + n) (end_of w))
+  pub index : e.index ≡ w.content.visited
   pub read : IsRead (extras_of w) w.content.rules (100 - e.depth) here e
   pub octets : OctetsHere here e
 
@@ -107,35 +127,9 @@ abbrev pub front_of : Element → ℕ
 front_of e = if (e.holds_der && (e.number == 3)) then 1 else 0
 
 -- where the content of a length ends that begins at p, and that of an indefinite one at the latest
-abbrev pub end_from : ℕ → ℕ → Option ℕ → ℕ
-end_from p limit (Some n) = p + n
+abbrev pub end_from : ℕ → Option ℕ → Option ℕ → Option ℕ
+end_from p limit (Some n) = Some (p + n)
 end_from p limit None = limit
-
--- the walk went into an element: to an offset, in a content of these rules that ends there
-pub record GoesInto (w : Walk) (place : ℕ) (s : Rules) (e : ℕ) (m : Bool) (w' : Walk) : Type 0 where
-  pub input : w'.input.now ≡ w.input.now
-  pub enters : w'.enters_strings ≡ w.enters_strings
-  pub keeps : w'.keeps_values ≡ w.keeps_values
-  pub at : w'.at ≡ place
-  pub rules : w'.content.rules ≡ s
-  pub end : w'.content.end ≡ e
-  pub marker : w'.content.has_marker ≡ m
-  pub opened : Open
-  pub opens : w'.opened.items ≡ w.opened.items ++ opened ∷ []
-  pub around_rules : opened.around.rules ≡ w.content.rules
-  pub around_end : opened.around.end ≡ w.content.end
-  pub around_marker : opened.around.has_marker ≡ w.content.has_marker
-
--- the walk went on to an offset in the same content
-pub record GoesOn (w : Walk) (place : ℕ) (w' : Walk) : Type 0 where
-  pub input : w'.input.now ≡ w.input.now
-  pub enters : w'.enters_strings ≡ w.enters_strings
-  pub keeps : w'.keeps_values ≡ w.keeps_values
-  pub at : w'.at ≡ place
-  pub rules : w'.content.rules ≡ w.content.rules
-  pub end : w'.content.end ≡ w.content.end
-  pub marker : w'.content.has_marker ≡ w.content.has_marker
-  pub opens : w'.opened.items ≡ w.opened.items
 
 -- the rules of what is inside an element
 abbrev pub rules_inside : Rules → Element → Rules
@@ -146,9 +140,81 @@ abbrev pub ends_at_marker : Option ℕ → Bool
 ends_at_marker (Some n) = false
 ends_at_marker None = true
 
+-- a content in which one more element was visited
+abbrev pub count_one : Content → Content
+count_one c = record c { visited = min (c.visited + 1) (2 ^ 64 - 1) }
+
+-- the walk w, in which the element e is counted, went into e: to an offset, in a content that ends there
+pub record GoesInto (w : Walk) (e : Element) (place : ℕ) (limit : End) (w' : Walk) : Type 0 where
+  pub input : w'.input.now ≡ w.input.now
+  pub enters : w'.enters_strings ≡ w.enters_strings
+  pub keeps : w'.keeps_values ≡ w.keeps_values
+  pub at : w'.at ≡ place
+  pub rules : w'.content.rules ≡ rules_inside w.content.rules e
+  pub end : w'.content.end ≡ limit
+  pub marker : w'.content.has_marker ≡ ends_at_marker e.length
+  pub none : w'.content.visited ≡ 0
+  pub opened : Open
+  pub opens : w'.opened.items ≡ w.opened.items ++ opened ∷ []
+  pub around : opened.around ≡ w.content
+  pub offset : opened.offset ≡ e.offset
+
+-- the walk went on to an offset in the same content, in which one more element is counted
+pub record GoesOn (w : Walk) (place : ℕ) (w' : Walk) : Type 0 where
+  pub input : w'.input.now ≡ w.input.now
+  pub enters : w'.enters_strings ≡ w.enters_strings
+  pub keeps : w'.keeps_values ≡ w.keeps_values
+  pub at : w'.at ≡ place
+  pub content : w'.content ≡ count_one w.content
+  pub opens : w'.opened.items ≡ w.opened.items
+
 -- the walk passed an element, or its header and what is in front of the elements inside
 abbrev pub Passes : Walk → Element → Walk → Type 0
-Passes w e w' = let p = e.offset + e.header in let end = end_from p w.content.end e.length in
-    (((e.constructed ≡ true) ⊎ (e.holds_der ≡ true))
-    × GoesInto w (p + front_of e) (rules_inside w.content.rules e) end (ends_at_marker e.length) w')
-    ⊎ ((e.constructed ≡ false) × (e.holds_der ≡ false) × GoesOn w end w')
+Passes w e w' = let p = e.offset + e.header in
+    (end : End) × (end_in (length w.input.now) end ≡ end_from p (end_of w) e.length)
+    × ((((e.constructed ≡ true) ⊎ (e.holds_der ≡ true))
+    × GoesInto (record w { content = count_one w.content }) e (p + front_of e) end w')
+    ⊎ ((e.constructed ≡ false) × (e.holds_der ≡ false)
+    × GoesOn w (limit_of (length w.input.now) (end_from p (end_of w) e.length)) w'))
+
+-- no element that is visited next begins these octets, which are here
+abbrev pub BeginsNone : Walk → List ℕ → Type 0
+BeginsNone w here = (d : ℕ) (b rest : List ℕ) (us : List Visited) → d + length w.opened.items ≡ 101
+    → here ≡ b ++ rest → ¬ VisitsOne (extras_of w) w.content.rules d (length w.opened.items) w.at b us
+
+-- the octets here are refused
+pub record Refuses (w : Walk) (here : List ℕ) (f : Refusal) : Type 0 where
+  pub none : BeginsNone w here
+  pub fault : IsAtFault w here f.cause
+  pub place : f.offset ≡ place_of w f.cause
+
+-- the content of e ends after that around it, or e is primitive and not all of its content is here
+pub record LacksContent (w : Walk) (here : List ℕ) (e : Element) (f : Refusal) : Type 0 where
+  pub size : ℕ
+  pub length_is : e.length ≡ Some size
+  pub lacks : length here < size
+  pub past : e.constructed ≡ true → overrun (e.offset + e.header + size) (end_of w) ≢ 0
+  pub cause : f.cause ≡ cause_of_content w (e.offset + e.header + size) (size - length here)
+  pub offset : f.offset ≡ e.offset
+
+-- a value is visited that breaks its type
+abbrev pub Keeps : Walk → Element → Type 0
+Keeps w e = (w.keeps_values ≡ true) × (w.content.rules ≡ Ber) × (e.class ≡ Universal) × IsTrue (may_break e.number)
+
+-- why the octets here aren't those of a constructed element
+abbrev pub FailsConstructed : Rules → Element → Cause → Type 0
+FailsConstructed r e c = (e.constructed ≡ true) × (¬ MayBeConstructed r e.class e.number)
+    × ((MayBeConstructed Ber e.class e.number × (c ≡ ConstructedString))
+    ⊎ ((¬ MayBeConstructed Ber e.class e.number) × (c ≡ Constructed)))
+
+-- or those of a primitive one
+abbrev pub FailsPrimitive : Walk → List ℕ → Element → Cause → Type 0
+FailsPrimitive w here e c = (e.constructed ≡ false) × (((e.class ≡ Universal) × (e.number ≡ 0) × (c ≡ EndMarker))
+    ⊎ (((rest : List ℕ) → ¬ BeginsWithOne w.content.rules here rest) × (¬ Keeps w e)
+    × (found : Result (Bor (List ℕ) × ℕ) (Refused BerError)) × AnswersOneElement w.content.rules here found
+    × (c ≡ cause_of_value found)))
+
+-- the element e that begins here is refused itself
+pub record FailsCheck (w : Walk) (here : List ℕ) (e : Element) (f : Refusal) : Type 0 where
+  pub fails : FailsConstructed w.content.rules e f.cause ⊎ FailsPrimitive w here e f.cause
+  pub offset : f.offset ≡ e.offset

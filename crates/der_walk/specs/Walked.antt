@@ -1,14 +1,17 @@
 -- How far a walk has come.
-use Rattle.std.specs.Prelude.{◌≡◌, ℕ, suc, ◌+◌, ◌-◌, ◌≤◌, ◌⊎◌, Bool, true, false, Option, Some, None, IfSome, IsSome}
-use Rattle.std.specs.Prelude.{List, [], ◌∷◌, ◌++◌, length, map, take, drop, Result, Ok, Err}
+use Rattle.std.specs.Prelude.{◌≡◌, ◌≢◌, ℕ, suc, ◌+◌, ◌<◌, ◌≤◌, ◌⊎◌, Bool, true, false, Option, Some, None, IfSome}
+use Rattle.std.specs.Prelude.{IsSome, nat_lt, ◌==◌, if◌then◌else◌, List, [], ◌∷◌, ◌++◌, length, map, drop, Result, Ok, Err}
 use Rattle.der_base.specs.Octets.{identifier}
 use Rattle.der_base.specs.Spelling.{end_marker}
 use Rattle.der_base.specs.declared.rules.Rules.{Rules}
 use Rattle.der_walk.specs.declared.content.Open.{Open}
 use Rattle.der_walk.specs.declared.element.Element.{Element}
 use Rattle.der_walk.specs.declared.path.Step.{Step}
-use Rattle.der_walk.specs.declared.refusal.Refusal.{Refusal}
 use Rattle.der_walk.specs.declared.walk.Walk.{Walk}
+use Rattle.der_walk.specs.declared.refusal.Refusal.{Refusal}
+use Rattle.der_walk.specs.Ends.{end_in, here_of, EndsWithin, IsWithin}
+pub use Rattle.der_walk.specs.Ends.{between}
+use Rattle.der_walk.specs.Faults.{IsAtFault, place_of}
 use Rattle.der_walk.specs.Visits.{Visited, Extras, Visits, VisitsOne}
 
 -- what is visited of an element
@@ -25,43 +28,57 @@ visited_of e = record {
   breaks_its_type = e.breaks_its_type;
 }
 
+-- how many elements of a content were visited last, with k elements around them: those since the last one with fewer
+abbrev pub counted : ℕ → ℕ → Visited → ℕ
+counted k n v = if nat_lt v.depth k then 0 else (if v.depth == k then suc n else n)
+
+unfoldable pub counted_in : ℕ → ℕ → List Visited → ℕ
+counted_in k n [] = n
+counted_in k n (v ∷ vs) = counted_in k (counted k n v) vs
+
+-- the index of the next element with k around it, after these were visited
+abbrev pub index_in : ℕ → List Visited → ℕ
+index_in k vs = counted_in k 0 vs
+
 -- the steps of elements that are open
 abbrev pub steps_of : List Open → List Step
 steps_of opens = map (λ o. o.step) opens
 
--- the octets of i from an offset up to another
-abbrev pub between : List ℕ → ℕ → ℕ → List ℕ
-between i a n = take (n - a) (drop a i)
-
 -- A content with this end ends here, and what is around it goes on there: after an end marker, if it has one (8.1.3.6).
-abbrev pub EndsAt : List ℕ → ℕ → Bool → ℕ → ℕ → Type 0
-EndsAt i e m at after = ((m ≡ false) × (at ≡ e) × (after ≡ at))
+abbrev pub EndsAt : List ℕ → Option ℕ → Bool → ℕ → ℕ → Type 0
+EndsAt i e m at after = ((m ≡ false) × (e ≡ Some at) × (after ≡ at))
     ⊎ ((m ≡ true) × (after ≡ at + 2) × (between i at after ≡ end_marker))
 
 -- The element v begins at an offset, by the rules r and with k elements around it. Its content begins at `first` and is
 -- read by the rules s. Where that ends, v and what is inside were visited, and are all of the element.
-pub record IsOpen (x : Extras) (i : List ℕ) (r : Rules) (d k start first : ℕ) (s : Rules) (e : ℕ) (m : Bool)
+pub record IsOpen (x : Extras) (i : List ℕ) (r : Rules) (d k start first : ℕ) (s : Rules) (e : Option ℕ) (m : Bool)
     (v : Visited) : Type 0 where
   pub closes : (at after : ℕ) (us : List Visited) → EndsAt i e m at after → first ≤ at → after ≤ length i
       → Visits x s d (suc k) first (between i first at) us
       → VisitsOne x r (suc d) k start (between i start after) (v ∷ us)
-  pub begins : start ≤ first
+  -- an element that begins there is visited so alone
+  pub opens : (b y : List ℕ) (us : List Visited) → drop start i ≡ b ++ y → VisitsOne x r (suc d) k start b us
+      → (w z : List ℕ) × (ws : List Visited) × (drop first i ≡ w ++ z) × Visits x s d (suc k) first w ws
+      × EndsAt i e m (first + length w) (start + length b)
+  pub begins : start < first
+  pub no_marker : (z : List ℕ) → drop start i ≢ end_marker ++ z
 
 -- What was visited up to an offset, where these elements are open, the outermost first. The content there is read by
 -- the rules s, ends at e at the latest, and has an end marker or none.
 pub data HasWalked (x : Extras) (r : Rules) (i : List ℕ)
-    : ℕ → List Open → Rules → ℕ → Bool → ℕ → List Visited → Type 0 where
-  outermost : {d : ℕ} {opens : List Open} {s : Rules} {e : ℕ} {m : Bool} {at : ℕ} {vs : List Visited}
-      → d ≡ 101 → opens ≡ [] → s ≡ r → length i ≤ e → at ≤ length i
+    : ℕ → List Open → Rules → Option ℕ → Bool → ℕ → List Visited → Type 0 where
+  outermost : {d : ℕ} {opens : List Open} {s : Rules} {e : Option ℕ} {m : Bool} {at : ℕ} {vs : List Visited}
+      → d ≡ 101 → opens ≡ [] → s ≡ r → e ≡ None → at ≤ length i
       → Visits x r d 0 0 (between i 0 at) vs → HasWalked x r i d opens s e m at vs
-  inside : {d : ℕ} {opens : List Open} {s : Rules} {e : ℕ} {m : Bool} {at : ℕ} {vs : List Visited}
+  inside : {d : ℕ} {opens : List Open} {s : Rules} {e : Option ℕ} {m : Bool} {at : ℕ} {vs : List Visited}
       (outer : List Open) (o : Open) (start first : ℕ) (before us : List Visited) (v : Visited)
       → opens ≡ outer ++ o ∷ []
-      → HasWalked x r i (suc d) outer o.around.rules o.around.end o.around.has_marker start before
+      → HasWalked x r i (suc d) outer o.around.rules (end_in (length i) o.around.end) o.around.has_marker start before
       → IsOpen x i o.around.rules d (length outer) start first s e m v
-      → e ≤ o.around.end → first ≤ at → at ≤ e → at ≤ length i
+      → EndsWithin e (end_in (length i) o.around.end) → first ≤ at → IsWithin at e → at ≤ length i
       → Visits x s d (suc (length outer)) first (between i first at) us
-      → vs ≡ before ++ v ∷ us → HasWalked x r i d opens s e m at vs
+      → vs ≡ before ++ v ∷ us → (m ≡ true → e ≡ end_in (length i) o.around.end) → o.offset ≡ start
+      → HasWalked x r i d opens s e m at vs
 
 -- a walk through i by these rules has visited vs so far
 pub record HasVisited (x : Extras) (r : Rules) (i : List ℕ) (w : Walk) (vs : List Visited) : Type 0 where
@@ -69,7 +86,13 @@ pub record HasVisited (x : Extras) (r : Rules) (i : List ℕ) (w : Walk) (vs : L
   pub enters : w.enters_strings ≡ x.enters_strings
   pub keeps : w.keeps_values ≡ x.keeps_values
   pub depth : ℕ
-  pub walked : HasWalked x r i depth w.opened.items w.content.rules w.content.end w.content.has_marker w.at vs
+  pub walked : HasWalked x r i depth w.opened.items w.content.rules (end_in (length i) w.content.end)
+      w.content.has_marker w.at vs
+  -- the elements of each content are counted
+  pub counts : w.content.visited ≡ index_in (length w.opened.items) vs
+  pub counts_around : (outer inner : List Open) (o : Open) → w.opened.items ≡ outer ++ o ∷ inner
+      → o.around.visited ≡ index_in (length outer) vs
+  pub few : length vs ≤ w.at
 
 -- the second walk has visited all that the first had
 abbrev pub KeepsVisited : Walk → Walk → Type 0
@@ -86,9 +109,18 @@ pub record HasOctets (i : List ℕ) (e : Element) : Type 0 where
   -- a primitive element has them
   pub primitive : e.constructed ≡ false → IsSome e.content
 
+-- After vs the walk is refused. The input is then no elements that are visited to their end.
+pub record IsRefused (x : Extras) (r : Rules) (i : List ℕ) (vs : List Visited) (w : Walk) (f : Refusal) : Type 0 where
+  pub visited : HasVisited x r i w vs
+  pub never : (us : List Visited) → ¬ Visits x r 101 0 0 i us
+  -- what is wrong, and where
+  pub fault : IsAtFault w (here_of w) f.cause
+  pub place : f.offset ≡ place_of w f.cause
+
 -- After vs the walk visits one more element, or there is none: then the input is elements, and these were all that is
--- visited of them.
+-- visited of them. Or it is refused.
 abbrev pub VisitsNext : Extras → Rules → List ℕ → List Visited → Walk → Result (Option Element) Refusal → Type 0
 VisitsNext x r i vs w (Ok (Some e)) = HasVisited x r i w (vs ++ visited_of e ∷ []) × HasOctets i e
+    × (e.index ≡ index_in e.depth vs)
 VisitsNext x r i vs w (Ok None) = Visits x r 101 0 0 i vs
-VisitsNext x r i vs w (Err _) = HasVisited x r i w vs
+VisitsNext x r i vs w (Err f) = IsRefused x r i vs w f

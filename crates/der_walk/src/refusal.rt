@@ -1,4 +1,6 @@
 //! Where and why a walk ends before its input does.
+ghost use Rattle.std.specs.Prelude.{◌≡◌, None};
+
 use crate::cause::Cause;
 use crate::element::Element;
 use crate::path::Step;
@@ -6,7 +8,7 @@ use crate::path::Step;
 /// Where and why a walk ends before its input does.
 #[derive(Clone, Copy, Debug, PartialEq)]
 pub struct Refusal {
-    /// Where the element begins that is refused.
+    /// Where the element begins that is refused. Where the input ends, if it is cut in front of an element.
     pub offset: usize,
     /// The element, if its header was read.
     pub step: Option<Step>,
@@ -15,7 +17,9 @@ pub struct Refusal {
 
 impl Refusal {
     /// A refusal of an element whose header isn't read, or of the end of the input.
-    pub(crate) fn at(offset: usize, cause: Cause) -> Refusal {
+    pub(crate) fn at(offset: usize, cause: Cause) -> Refusal
+        ensures { result ≡ record { offset = offset; step = None; cause = cause } }
+    {
         Refusal {
             offset,
             step: None,
@@ -24,7 +28,10 @@ impl Refusal {
     }
 
     /// A refusal of an element that was read.
-    pub(crate) fn of(element: &Element<'_>, cause: Cause) -> Refusal {
+    pub(crate) fn of(element: &Element<'_>, cause: Cause) -> Refusal
+        ensures offset { result.offset ≡ element.now.offset }
+        ensures cause { result.cause ≡ cause }
+    {
         Refusal {
             offset: element.offset,
             step: Some(element.step()),

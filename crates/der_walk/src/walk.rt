@@ -1,11 +1,16 @@
 //! The walk.
 ghost use Rattle.der_base.specs.Header.{length_of as length_in};
 ghost use Rattle.der_walk.specs.Reading.{definite_of};
-ghost use Rattle.std.specs.Prelude.{◌≡◌, ◌+◌, ◌-◌, ◌^◌, ◌<◌, ◌≤◌, ℕ, IfOk, IfSome, min, false, true};
-ghost use Rattle.std.specs.Prelude.{◌++◌, List, length, []};
+ghost use Rattle.std.specs.Prelude.{◌≡◌, ◌+◌, ◌^◌, ◌<◌, ◌≤◌, ◌↔◌, ℕ, IfErr, IfOk, IfSome, IsTrue, MatchOption, false, true};
+ghost use Rattle.std.specs.Prelude.{◌++◌, List, Result, length, []};
+ghost use Rattle.std.specs.Borrow.{Bor};
+ghost use Rattle.der_base.specs.declared.error.Err.{Err as Refused};
+ghost use Rattle.der_base.specs.declared.error.Error.{Error as BerError};
+ghost use Rattle.der_check.specs.Readers.{AnswersOneElement};
+ghost use Rattle.der_walk.specs.Faults.{cause_of_value};
 
 use crate::cause::Cause;
-use crate::content::{Content, NO_LIMIT, Open};
+use crate::content::{Content, End, Open};
 use crate::element::Element;
 use crate::path::Path;
 use crate::refusal::Refusal;
@@ -42,9 +47,13 @@ impl<'a> Walk<'a> {
     ghost use Rattle.der_base.specs.declared.rules.Rules.{Rules};
     ghost use Rattle.der_walk.specs.Visits.{Extras, Visited};
     ghost use Rattle.std.specs.Option.{option_to_list};
-    ghost use Rattle.der_walk.specs.Walked.{HasVisited, KeepsVisited, VisitsNext, between, steps_of};
-    ghost use Rattle.der_walk.specs.Reading.{EndsHere, FindsContent, IsChecked, Passes, ReadsHere, StartsWith};
-    ghost use Rattle.der_walk.specs.Reading.{GoesInto, end_from, ends_at_marker, front_of, rules_inside};
+    ghost use Rattle.der_walk.specs.Ends.{IsWithin, end_of, here_of, limit_of};
+    ghost use Rattle.der_walk.specs.Faults.{cause_of_end, cause_of_header, cause_of_lack, innermost_of};
+    ghost use Rattle.der_walk.specs.Faults.{missing_in, outermost_end, place_of};
+    ghost use Rattle.der_walk.specs.Walked.{HasVisited, KeepsVisited, VisitsNext, steps_of};
+    ghost use Rattle.der_walk.specs.Reading.{EndsHere, EndsNowhere, FindsContent, IsChecked, Passes, ReadsHere};
+    ghost use Rattle.der_walk.specs.Reading.{FailsCheck, Keeps, LacksContent, Refuses, StartsWith, StaysOpen, GoesInto};
+    ghost use Rattle.der_walk.specs.Reading.{front_of};
 
     /// A walk from the start of an input. If it enters strings, it visits the element that is the whole
     /// content of an OCTET STRING or a BIT STRING by DER.
@@ -110,14 +119,18 @@ impl<'a> Walk<'a> {
         path
     }
 
-    /// How many elements are around an element that is refused.
-    pub fn depth(&self) -> usize {
+    /// How many elements are open where the walk ends: those around an element that is refused, and the element itself
+    /// if it lacks its end marker.
+    pub fn depth(&self) -> usize
+        ensures { result ≡ length self.now.opened.items }
+    {
         self.opened.len()
     }
 
     /// Closes the elements whose content ends here.
     fn close_ended(&mut self)
-        ensures { KeepsVisited self.old self.new }
+        ensures keeps { KeepsVisited self.old self.new }
+        ensures stays { StaysOpen self.new }
     {
         for _ in 0..self.opened.len() {
             if !self.close_last() {
@@ -128,7 +141,9 @@ impl<'a> Walk<'a> {
 
     /// Closes the innermost element if its content ends here. Returns whether it does.
     fn close_last(&mut self) -> bool
-        ensures { KeepsVisited self.old self.new }
+        ensures keeps { KeepsVisited self.old self.new }
+        ensures closes { result ≡ true → length self.old.opened.items ≡ length self.new.opened.items + 1 }
+        ensures stays { result ≡ false → StaysOpen self.new }
     {
         let Some(after) = self.after_end() else {
             return false;
@@ -143,13 +158,13 @@ impl<'a> Walk<'a> {
 
     /// Where the content around goes on, if the content here ends here.
     fn after_end(&self) -> Option<usize>
-        ensures { IfSome result (λ after. EndsHere self.now after) }
+        ensures { MatchOption result (EndsNowhere self.now) (λ after. EndsHere self.now after) }
     {
         if !self.content.has_marker {
-            if self.at < self.content.end {
-                return None;
+            if self.content.end.is_reached(self.at, self.input.len()) {
+                return Some(self.at);
             }
-            return Some(self.at);
+            return None;
         }
         match after_end_marker(self.octets_here()) {
             Some(_) => Some(self.at + END_MARKER),
@@ -159,11 +174,10 @@ impl<'a> Walk<'a> {
 
     /// The octets from here to the end of the content, or further if it ends at an end marker.
     fn octets_here(&self) -> &'a [u8]
-        ensures here { result.now ≡ between self.now.input.now self.now.at
-            (min self.now.content.end (length self.now.input.now)) }
-        ensures fits { (length self.now.input.now < 2 ^ 64) × (self.now.content.end < 2 ^ 64) }
+        ensures here { result.now ≡ here_of self.now }
+        ensures fits { length self.now.input.now < 2 ^ 64 }
     {
-        let end = self.content.end.min(self.input.len());
+        let end = self.content.end.limit(self.input.len());
         if self.at < end {
             &self.input[self.at..end]
         } else {
@@ -173,8 +187,9 @@ impl<'a> Walk<'a> {
 
     /// Reads the element at the start of the octets here.
     fn read_element(&self, here: &'a [u8]) -> Result<Element<'a>, Refusal>
-        requires fits { self.now.at + length here.now ≤ length self.now.input.now }
-        ensures { IfOk result (λ e. ReadsHere self.now here.now e) }
+        requires fits { self.now.at + length here.now ≤ limit_of (length self.now.input.now) (end_of self.now) }
+        ensures read { IfOk result (λ e. ReadsHere self.now here.now e) }
+        ensures refused { IfErr result (Refuses self.now here.now) }
     {
         let (rest, header) = match self.content.rules.read_header(here) {
             Ok(found) => found,
@@ -203,7 +218,8 @@ impl<'a> Walk<'a> {
 
     /// The element here, which has this header of so many octets.
     fn element_of(&self, header: &Header<'a>, octets: usize) -> Element<'a>
-        ensures { StartsWith header.now octets self.now.at (length self.now.opened.items) result }
+        ensures { StartsWith header.now octets self.now.at (length self.now.opened.items) self.now.content.visited
+            result }
     {
         Element {
             class: header.class(),
@@ -224,21 +240,23 @@ impl<'a> Walk<'a> {
     /// The content octets of an element, which begin here. None if the length is indefinite, and for a constructed
     /// element that is cut.
     fn content_of(&self, element: &Element<'a>, here: &'a [u8]) -> Result<Option<&'a [u8]>, Refusal>
-        requires fits { element.now.offset + element.now.header < 2 ^ 64 }
+        requires fits { element.now.offset + element.now.header + length here.now
+            ≤ limit_of (length self.now.input.now) (end_of self.now) }
         ensures content { IfOk result (FindsContent element.now here.now) }
         ensures room { IfOk result (λ _. IfSome element.now.length (λ n.
-            n ≤ self.now.content.end - (element.now.offset + element.now.header))) }
+            IsWithin (element.now.offset + element.now.header + n) (end_of self.now))) }
+        ensures refused { IfErr result (LacksContent self.now here.now element.now) }
     {
         let Some(length) = element.length else {
             return Ok(None);
         };
-        let begin = element.offset + element.header;
-        let room = self.content.end.saturating_sub(begin);
-        if length > room {
-            return Err(Refusal::of(element, Cause::PastEnd(length - room)));
-        }
         if length <= here.len() {
             return Ok(Some(&here[..length]));
+        }
+        let begin = element.offset + element.header;
+        let past = self.content.end.overrun(begin, length, self.input.len());
+        if past > 0 {
+            return Err(Refusal::of(element, Cause::PastEnd(past)));
         }
         if element.constructed {
             return Ok(None);
@@ -249,7 +267,8 @@ impl<'a> Walk<'a> {
     /// Checks whether an element may be constructed, or what a primitive one contains, which begins here. Returns
     /// whether it breaks its type.
     fn check(&self, element: &Element<'a>, here: &[u8]) -> Result<bool, Refusal>
-        ensures { IfOk result (IsChecked self.now.keeps_values self.now.content.rules here.now element.now) }
+        ensures checked { IfOk result (IsChecked self.now.keeps_values self.now.content.rules here.now element.now) }
+        ensures refused { IfErr result (FailsCheck self.now here.now element.now) }
     {
         if !element.constructed {
             return self.check_primitive(element, here);
@@ -268,7 +287,8 @@ impl<'a> Walk<'a> {
     /// breaks its type.
     fn check_primitive(&self, element: &Element<'a>, here: &[u8]) -> Result<bool, Refusal>
         requires { element.now.constructed ≡ false }
-        ensures { IfOk result (IsChecked self.now.keeps_values self.now.content.rules here.now element.now) }
+        ensures checked { IfOk result (IsChecked self.now.keeps_values self.now.content.rules here.now element.now) }
+        ensures refused { IfErr result (FailsCheck self.now here.now element.now) }
     {
         if element.is_universal(0) {
             return Err(Refusal::of(element, Cause::EndMarker));
@@ -277,42 +297,48 @@ impl<'a> Walk<'a> {
         if after_one(rules, here).is_some() {
             return Ok(false);
         }
-        if self.keeps_values && rules == Rules::Ber && element.may_break() {
+        if self.keeps(element) {
             return Ok(true);
         }
         Err(Refusal::of(element, value_cause(rules, here)))
     }
 
+    /// Whether an element here is visited though it breaks its type.
+    fn keeps(&self, element: &Element<'a>) -> bool
+        ensures { IsTrue result ↔ Keeps self.now element.now }
+    {
+        self.keeps_values && self.content.rules == Rules::Ber && element.may_break()
+    }
+
     /// Goes on after an element, or to the elements inside if they are visited next.
     fn pass(&mut self, element: &Element<'a>)
         requires room { length self.old.opened.items < 101 }
-        requires end { end_from (element.now.offset + element.now.header) self.old.content.end element.now.length
-            < 2 ^ 64 }
+        requires begin { element.now.offset + element.now.header ≤ length self.old.input.now }
         requires front { element.now.offset + element.now.header + front_of element.now < 2 ^ 64 }
         ensures { Passes self.old element.now self.new }
     {
         let begin = element.offset + element.header;
         let end = match element.length {
-            Some(length) => begin + length,
+            Some(length) => End::of(begin, length, self.input.len()),
             None => self.content.end,
         };
         self.content.visited = self.content.visited.saturating_add(1);
         if element.constructed || element.holds_der {
             self.open_content(element, begin + element.front(), end);
         } else {
-            self.at = end;
+            self.at = end.limit(self.input.len());
         }
     }
 
     /// Opens the content of an element, which begins and ends here.
-    fn open_content(&mut self, element: &Element<'a>, begin: usize, end: usize)
+    fn open_content(&mut self, element: &Element<'a>, begin: usize, end: End)
         requires { length self.old.opened.items < 101 }
-        ensures { GoesInto self.old begin (rules_inside self.old.content.rules element.now) end
-            (ends_at_marker element.now.length) self.new }
+        ensures { GoesInto self.old element.now begin end self.new }
     {
         let around = self.content;
         self.opened.push(Open {
             step: element.step(),
+            offset: element.offset,
             around,
         });
         self.content = Content {
@@ -328,13 +354,10 @@ impl<'a> Walk<'a> {
         self.at = begin;
     }
 
-    /// Whether the input ends before the content here.
-    fn is_cut(&self) -> bool {
-        self.content.end > self.input.len()
-    }
-
-    /// Where the outermost element ends at the latest.
-    fn outermost_end(&self) -> usize {
+    /// Where the outermost element ends, or the content here if no element is open.
+    fn outermost_end(&self) -> End
+        ensures { result ≡ outermost_end self.now }
+    {
         match self.opened.as_slice().get(1) {
             Some(second) => second.around.end,
             None => self.content.end,
@@ -342,36 +365,53 @@ impl<'a> Walk<'a> {
     }
 
     /// The cause for an input that is cut: the outermost element lacks octets up to its end, or at least these.
-    fn cut(&self, least: usize) -> Cause {
-        let end = self.outermost_end();
-        if end < NO_LIMIT {
-            Cause::Cut(end.saturating_sub(self.input.len()))
-        } else {
-            Cause::Cut(least)
+    fn cut(&self, least: usize) -> Cause
+        ensures { result ≡ Cause.Cut (missing_in self.now least) }
+    {
+        match self.outermost_end() {
+            End::After(missing) => Cause::Cut(missing),
+            End::At(_) | End::Unlimited => Cause::Cut(least),
         }
     }
 
     /// The cause for a header that lacks octets here.
-    fn lacks(&self, missing: usize) -> Cause {
-        if self.is_cut() {
-            self.cut(missing)
-        } else {
-            Cause::PastEnd(missing)
+    fn lacks(&self, missing: usize) -> Cause
+        ensures { result ≡ cause_of_lack self.now missing }
+    {
+        match self.content.end {
+            End::At(_) => Cause::PastEnd(missing),
+            End::After(_) | End::Unlimited => self.cut(missing),
         }
     }
 
-    /// Refuses the end of the input, since an indefinite length lacks its end marker.
-    fn refuse_end(&self) -> Refusal {
-        let cause = if self.is_cut() {
-            self.cut(END_MARKER)
-        } else {
-            Cause::NoEndMarker
-        };
-        Refusal::at(self.at, cause)
+    /// Refuses the end of the octets here: the input is cut, or the innermost element lacks its end marker.
+    fn refuse_end(&self) -> Refusal
+        ensures cause { result.cause ≡ cause_of_end self.now }
+        ensures place { result.offset ≡ place_of self.now result.cause }
+    {
+        match self.content.end {
+            End::At(_) if self.content.has_marker => {
+                Refusal::at(self.innermost(), Cause::NoEndMarker)
+            }
+            _ => Refusal::at(self.at, self.cut(END_MARKER)),
+        }
+    }
+
+    /// Where the innermost element begins that is open.
+    fn innermost(&self) -> usize
+        ensures { result ≡ innermost_of self.now }
+    {
+        match self.opened.as_slice().last() {
+            Some(open) => open.offset,
+            None => self.at,
+        }
     }
 
     /// Refuses an element here whose header isn't read.
-    fn refuse_header(&self, e: Refused<BerError>) -> Refusal {
+    fn refuse_header(&self, e: Refused<BerError>) -> Refusal
+        ensures cause { result.cause ≡ cause_of_header self.now e }
+        ensures place { result.offset ≡ self.now.at }
+    {
         let cause = match e {
             Refused::Incomplete(Needed::Size(missing)) => self.lacks(missing),
             Refused::Error(e) | Refused::Failure(e) => Cause::Header(e),
@@ -392,7 +432,10 @@ fn length_of(header: &Header<'_>) -> Option<usize>
 }
 
 /// The cause for the content of a primitive element, which begins here and is refused.
-fn value_cause(rules: Rules, here: &[u8]) -> Cause {
+fn value_cause(rules: Rules, here: &[u8]) -> Cause
+    ensures { (found : Result (Bor (List ℕ) × ℕ) (Refused BerError)) × AnswersOneElement rules here.now found
+        × (result ≡ cause_of_value found) }
+{
     match check_one(rules, here) {
         Ok(_) => Cause::PaddedArc,
         Err(Refused::Error(e) | Refused::Failure(e)) => Cause::Value(e),

@@ -1,13 +1,21 @@
-use Rattle.std.proofs.Common.{◌≡◌, true, List, ℕ, refl, rules, inr}
-use Rattle.der_base.specs.declared.rules.Rules.TheVariants.{Ber}
+use Rattle.std.proofs.Common.{List, ℕ, refl, rules, inl, inr, ◌∙◌}
 use Rattle.der_check.specs.Readers.{BeginsWithOne}
 use Rattle.der_walk.proofs.ElementReads.{none_found}
 use Rattle.der_walk.proofs.walk.Walk.check_primitive.Goals as goal
 
-pub returns-then-may_break : goal.returns-then-may_break
-returns-then-may_break c =
+pub returns-then-is_universal-clause-refused : goal.returns-then-is_universal-clause-refused
+returns-then-is_universal-clause-refused c =
+    let q = c.if-is_universal.ensures.0 (search rules) in
+    record { fails = inr (c.requires, inl (q.0, q.1, c.of.ensures.cause)); offset = c.of.ensures.offset }
+
+pub returns-then-keeps-clause-checked : goal.returns-then-keeps-clause-checked
+returns-then-keeps-clause-checked c =
     let none : (rest : List ℕ) → BeginsWithOne c.args.self.now.content.rules c.args.here.now rest → ⊥ = none_found _ c.after_one.result (λ s. absurd (let e = c.if-is_some.ensures in cc)) c.after_one.ensures.exactly in
-    let keeps : c.args.self.now.keeps_values ≡ true = search rules in
-    let ber : c.args.self.now.content.rules ≡ Ber = search rules in
-    let q = c.if-may_break.ensures.0 (search rules) in
-    inr (inr (c.requires, refl, keeps, ber, q.0, q.1, none))
+    let k = c.if-keeps.ensures.0 (search rules) in
+    inr (inr (c.requires, refl, k.0, k.1, k.2, k.3, none))
+
+pub returns-clause-refused : goal.returns-clause-refused
+returns-clause-refused c =
+    let none : (rest : List ℕ) → BeginsWithOne c.args.self.now.content.rules c.args.here.now rest → ⊥ = none_found _ c.after_one.result (λ s. absurd (let e = c.if-is_some.ensures in cc)) c.after_one.ensures.exactly in
+    let v = c.value_cause.ensures in
+    record { fails = inr (c.requires, inr (none, (λ k. absurd (let t = c.keeps.ensures.1 k in let f = c.if-keeps.false in cc)), v.0, v.1, c.of-2.ensures.cause ∙ v.2)); offset = c.of-2.ensures.offset }

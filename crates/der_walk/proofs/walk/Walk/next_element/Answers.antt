@@ -1,27 +1,44 @@
-use Rattle.std.proofs.Common.{◌<◌, ◌^◌, ◌+◌, arith, length, rules, ◌≡◌}
-use Rattle.der_walk.proofs.Walks.{ended, fits_end, fits_front, here_within, visited_next}
+use Rattle.std.proofs.Common.{◌≡◌, ◌<◌, ◌∙◌, ap, arith, length, rules, sym, subst}
+use Rattle.std.proofs.lemmas.List.{nil_from_length}
+use Rattle.der_walk.specs.Reading.{Refuses}
+use Rattle.der_walk.proofs.Refusals.{refused, refuses_end}
+use Rattle.der_walk.proofs.Walks.{ended, fits_front, here_within, visited_next}
 use Rattle.der_walk.proofs.walk.Walk.next_element.Goals as goal
 
 pub returns-then-is_empty-2 : goal.returns-then-is_empty-2
 returns-then-is_empty-2 c =
     let z : length c.octets_here-here.result.now ≡ 0 = search rules in
     let n : length c.close_ended.new.self.opened.items ≡ 0 = search rules in
-    λ x r i vs has. ended x r i vs c.close_ended.new.self c.octets_here-here.result.now (c.close_ended.ensures x r i vs has) c.octets_here-here.ensures.here z n
+    λ x r i vs has. ended x r i vs c.close_ended.new.self (c.close_ended.ensures.keeps x r i vs has) (ap length (sym c.octets_here-here.ensures.here) ∙ z) n
 
-pub pass-requires-clause-end : goal.pass-requires-clause-end
-pass-requires-clause-end c =
+pub pass-requires-clause-begin : goal.pass-requires-clause-begin
+pass-requires-clause-begin c =
     let some : 0 < length c.octets_here-here.result.now = search rules in
-    let within = here_within c.close_ended.new.self c.octets_here-here.result.now c.in-Ok.element c.octets_here-here.ensures.here c.in-Ok.ensures some in
-    let fits : c.in-Ok.element.offset + c.in-Ok.element.header < 2 ^ 64 = omega (arith, within, c.octets_here-here.ensures.fits.0) in
-    fits_end c.close_ended.new.self c.octets_here-here.result.now c.in-Ok.element c.in-Ok.ensures fits c.octets_here-here.ensures.fits.1
+    here_within c.close_ended.new.self c.octets_here-here.result.now c.in-Ok.element c.octets_here-here.ensures.here c.in-Ok.ensures.read some
 
 pub pass-requires-clause-front : goal.pass-requires-clause-front
 pass-requires-clause-front c =
     let some : 0 < length c.octets_here-here.result.now = search rules in
-    let within = here_within c.close_ended.new.self c.octets_here-here.result.now c.in-Ok.element c.octets_here-here.ensures.here c.in-Ok.ensures some in
-    let fits : c.in-Ok.element.offset + c.in-Ok.element.header < 2 ^ 64 = omega (arith, within, c.octets_here-here.ensures.fits.0) in
-    fits_front c.close_ended.new.self c.octets_here-here.result.now c.in-Ok.element c.in-Ok.ensures fits c.octets_here-here.ensures.fits.1
+    fits_front c.close_ended.new.self c.octets_here-here.result.now c.in-Ok.element c.octets_here-here.ensures.here c.in-Ok.ensures.read some c.octets_here-here.ensures.fits
 
 pub returns-in-Ok : goal.returns-in-Ok
 returns-in-Ok c = λ x r i vs has.
-    visited_next x r i vs c.close_ended.new.self c.pass.new.self c.octets_here-here.result.now c.in-Ok.element (c.close_ended.ensures x r i vs has) c.octets_here-here.ensures.here c.in-Ok.ensures c.pass.ensures
+    visited_next x r i vs c.close_ended.new.self c.pass.new.self c.octets_here-here.result.now c.in-Ok.element c.octets_here-here.ensures.fits (c.close_ended.ensures.keeps x r i vs has) c.octets_here-here.ensures.here c.in-Ok.ensures.read c.pass.ensures
+
+pub returns-in-Err : goal.returns-in-Err
+returns-in-Err c =
+    let w = c.close_ended.new.self in
+    let some : 0 < length c.octets_here-here.result.now = search rules in
+    let here = c.octets_here-here.ensures.here in
+    λ x r i vs has.
+    refused x r i vs w c.in-Err.refusal (c.close_ended.ensures.keeps x r i vs has) c.close_ended.ensures.stays (λ o e. absurd (omega (arith, ap length (here ∙ e), some)))
+    (subst (λ l. Refuses w l c.in-Err.refusal) here c.in-Err.ensures.refused)
+
+pub returns-then-is_empty : goal.returns-then-is_empty
+returns-then-is_empty c =
+    let w = c.close_ended.new.self in
+    let none : length c.octets_here-here.result.now ≡ 0 = search rules in
+    let here = sym c.octets_here-here.ensures.here ∙ nil_from_length c.octets_here-here.result.now none in
+    λ x r i vs has.
+    refused x r i vs w c.refuse_end.result (c.close_ended.ensures.keeps x r i vs has) c.close_ended.ensures.stays (λ o e. absurd (search rules))
+    (refuses_end w _ c.refuse_end.result here c.refuse_end.ensures.cause c.refuse_end.ensures.place)

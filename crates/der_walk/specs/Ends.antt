@@ -1,0 +1,41 @@
+-- Where contents end.
+use Rattle.std.specs.Prelude.{◌≡◌, ℕ, ◌+◌, ◌-◌, ◌≤◌, min, Option, Some, None, IfSome, List, length, take, drop}
+use Rattle.der_walk.specs.declared.content.End.{End}
+use Rattle.der_walk.specs.declared.content.End.TheVariants.{At, After, Unlimited}
+use Rattle.der_walk.specs.declared.walk.Walk.{Walk}
+
+-- the offset at which a content ends at the latest, in or after an input of n octets, if a length says it
+abbrev pub end_in : ℕ → End → Option ℕ
+end_in n (At e) = Some e
+end_in n (After m) = Some (n + m)
+end_in n Unlimited = None
+
+-- an offset isn't after an end
+abbrev pub IsWithin : ℕ → Option ℕ → Type 0
+IsWithin n e = IfSome e (λ m. n ≤ m)
+
+-- a content with the first end lies in one with the second
+abbrev pub EndsWithin : Option ℕ → Option ℕ → Type 0
+EndsWithin e (Some n) = (m : ℕ) × (e ≡ Some m) × (m ≤ n)
+EndsWithin e None = Unit {0}
+
+-- where the octets of a content end that are in an input of n octets
+abbrev pub limit_of : ℕ → Option ℕ → ℕ
+limit_of n (Some e) = min e n
+limit_of n None = n
+
+-- how many octets an offset is after an end
+abbrev pub overrun : ℕ → Option ℕ → ℕ
+overrun n (Some e) = n - e
+overrun n None = 0
+
+-- the octets of i from an offset up to another
+abbrev pub between : List ℕ → ℕ → ℕ → List ℕ
+between i a n = take (n - a) (drop a i)
+
+-- where the content of a walk ends at the latest, and its octets in the input from here on
+abbrev pub end_of : Walk → Option ℕ
+end_of w = end_in (length w.input.now) w.content.end
+
+abbrev pub here_of : Walk → List ℕ
+here_of w = between w.input.now w.at (limit_of (length w.input.now) (end_of w))
