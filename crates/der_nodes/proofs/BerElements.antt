@@ -13,7 +13,7 @@ use Rattle.der_base.proofs.Framing.Framed.{elements_more, elements_append}
 use Rattle.der_base.proofs.Framing.FramedIsSpelling.{raws_are, are_raws}
 use Rattle.der_base.proofs.Octets.Identifiers.{identifier_octets}
 use Rattle.der_base.proofs.Framing.FramingLists.{definite_header}
-use Rattle.der_nodes.specs.BerInner.{is_definite}
+use Rattle.der_nodes.specs.Inner.{is_definite}
 use Rattle.der_nodes.specs.FaultPlaces.{BeginsWithElementAt}
 use Rattle.der_nodes.specs.Places.{IsElementAt}
 

@@ -23,8 +23,8 @@ use Rattle.der_base.proofs.Leaves.Always.{or_cases}
 use Rattle.der_laws.proofs.Spellings.DerFaults.{kept_unmapped}
 use Rattle.der_base.proofs.Spellings.Counted.{object_counted, sequence_counted, set_counted, items_counted}
 use Rattle.der_nodes.specs.declared.element.Element.{Element}
-use Rattle.der_nodes.specs.BerInner.{WritesSpelling, WritesContent, WritesItems, WritesWhole, IsLeafOrKept, is_definite, element_of}
-use Rattle.der_nodes.specs.BerInner.{AnswersItems, InsideContentRefusesAt, IsListHeader}
+use Rattle.der_nodes.specs.BerInner.{WritesSpelling, WritesContent, WritesItems, WritesWhole, IsLeafOrKept, AnswersItems, InsideContentRefusesAt}
+use Rattle.der_nodes.specs.Inner.{IsListHeader, is_definite, element_of}
 use Rattle.der_nodes.specs.Places.{IsElementAt, AreElementsOf, AreInContent, AreInItems, overlay}
 use Rattle.der_nodes.proofs.BerElements.{ElementAt, is_element, placed_at}
 use Rattle.der_nodes.proofs.Overlays.{overlay_none, overlay_more, overlay_front}

@@ -6,7 +6,9 @@ use Rattle.der_base.specs.declared.error.Error.{Error as BerError}
 use Rattle.der_base.specs.declared.error.Needed.TheVariants.{Unknown, Size}
 use Rattle.der_base.specs.declared.header.Class.{Class}
 use Rattle.der_base.specs.declared.header.Class.TheVariants.{Universal}
+use Rattle.der_base.specs.declared.header.Header.{Header}
 use Rattle.der_base.specs.Answer.{MatchAnswer}
+use Rattle.der_base.specs.Header.{class_of, is_constructed, number_of}
 use Rattle.der_base.specs.Errors.{RefusesCutItem}
 use Rattle.der_base.specs.Cut.{DerLacks}
 use Rattle.der_base.specs.Fault.{DerHeaderRefuses, DerShowsFault, DerJoins, ItemRefuses}
@@ -24,7 +26,9 @@ use Rattle.der_laws.proofs.Spellings.DerWithinBer.{der_spelled_not_cut}
 use Rattle.der_laws.proofs.Answers.ItemAnswers.{some_octets}
 use Rattle.der_laws.proofs.Spellings.DerFaults.{header_shows, size_shows, content_shows, behind_shows, list_passes, joins_same, spelled_shows_nothing}
 use Rattle.der_nodes.proofs.BerWriting.{list_mapped}
+use Rattle.der_forms.proofs.DerReadings.{header_shorter}
 use Rattle.der_nodes.specs.FaultPlaces.{DerShowsFaultAt, DerItemsRefuseAt, DerContentRefusesAt}
+use Rattle.der_nodes.specs.Inner.{FramesDer}
 
 -- a refusal of an item is one of the input
 item_shows : (d : ℕ) (i rest w r u v : List ℕ) (l : Nodes) (t n : ℕ) (e : Refusal) → BeginsWithDerHeader i Universal true t n rest → n ≤ max_object_size → IsTrue (is_list t)
@@ -61,6 +65,18 @@ content_refused_at (suc d) i rest w r c p t m n a e k h b s o z at (u, mapped, q
     let d' : suc d - 1 ≡ d = omega arith in
     let b' : BeginsWithDerHeader i Universal p t (length w) (w ++ r) = rw (z, ← o, ← u) b in
     inr (inr (p, t, w, r, b', omega (arith, s, z), mapped, rw (← at) (rw d' at q)))
+
+-- the same of a header and its content, framed
+pub framed_refused_at : (d : ℕ) (i w r : List ℕ) (h : Header) (end : ℕ) (e : Refusal) (k : ℕ) → 1 ≤ d → length i ≤ end → FramesDer i h w r
+    → DerContentRefusesAt (class_of h) (is_constructed h) (number_of h) w d (end - length i) (end - length r - length w) e k → DerShowsFaultAt d i (end - length i) e k
+framed_refused_at d i w r h end e k deep room f q =
+    let shorter = header_shorter i (w ++ r) (class_of h) (is_constructed h) (number_of h) (length w) f.0 in
+    content_refused_at d i (w ++ r) w r (class_of h) (is_constructed h) (number_of h) (length w) (end - length i) (end - length r - length w) e k deep f.0 f.1 refl refl
+    (omega (arith, shorter, room, length-append w r)) q
+
+-- what follows it is shorter by the content and two octets of the header
+pub framed_shorter : (i w r : List ℕ) (h : Header) → FramesDer i h w r → 2 + length w + length r ≤ length i
+framed_shorter i w r h f = omega (arith, header_shorter i (w ++ r) (class_of h) (is_constructed h) (number_of h) (length w) f.0, length-append w r)
 
 -- of an item
 

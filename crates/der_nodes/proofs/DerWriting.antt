@@ -1,8 +1,10 @@
 -- Elements that are written one behind the other.
-use Rattle.std.proofs.Common.{◌≡◌, ℕ, suc, ◌+◌, ◌-◌, ◌≤◌, Bool, true, false, List, [], ◌∷◌, ◌++◌, length, map, refl, sym, ap, subst, ◌∙◌, arith, append_assoc, length-append, inr}
+use Rattle.std.proofs.Common.{◌≡◌, ℕ, suc, ◌+◌, ◌-◌, ◌≤◌, Bool, true, false, List, [], ◌∷◌, ◌++◌, length, map, refl, sym, ap, subst, ◌∙◌, arith, append_assoc, length-append, inl, inr}
 use Rattle.std.proofs.lemmas.List.{append-nil, length-map, map-append}
 use Rattle.der_base.specs.declared.header.Class.{Class}
 use Rattle.der_base.specs.declared.header.Class.TheVariants.{Universal}
+use Rattle.der_base.specs.declared.header.Header.{Header}
+use Rattle.der_base.specs.Header.{class_of, is_constructed, number_of}
 use Rattle.der_base.specs.Encoding.{encoding, encodings, element, content_octets}
 use Rattle.der_base.specs.Fault.{DerJoins}
 use Rattle.der_base.specs.Headers.{BeginsWithDerHeader}
@@ -19,7 +21,7 @@ use Rattle.der_laws.proofs.Spellings.DerWithinBer.{valid_element}
 use Rattle.der_forms.proofs.Contents.{joins_encoded, leaf_valid, leaf_height}
 use Rattle.der_nodes.specs.declared.element.Element.{Element}
 use Rattle.der_nodes.specs.Places.{placed, placed_content, placed_items, overlay}
-use Rattle.der_nodes.specs.Inner.{IsDerLeafOf, WritesDerElement, WritesDerContent, WritesDerItems}
+use Rattle.der_nodes.specs.Inner.{IsDerClosed, IsDerLeafOf, FramesDer, WritesDerElement, WritesDerContent, WritesDerItems, is_definite, element_of}
 use Rattle.der_nodes.proofs.Overlays.{overlay_none, overlay_more, overlay_front}
 
 -- as many elements are placed as there are objects
@@ -97,6 +99,12 @@ list_written {row} c p t d w end old n m new le ec ep l h = or_cases (t == 16) (
     (λ e. set_written c p t d w end old n m new le ec ep ((Decides-eqb t 17).0 e) h)
 
 -- an element of a header and a content
+
+-- a content that is no list
+closed_written : {N : Type 0} {row : Element → N} (c : Class) (p : Bool) (t d : ℕ) (w : List ℕ) (end : ℕ) (old : List N) (n : ℕ) → 1 ≤ d → IsDerClosed c p t w
+    → WritesDerContent row c p t d w end old n n old
+closed_written c p t d w end old n deep (inl (u, leaf)) = leaf_written c p t d w end old n deep u leaf
+closed_written c p t d w end old n deep (inr raw) = raw_written c p t d w end old n deep raw
 
 -- the parts of the element that is written
 pub record HasPlaces (e : Element) (c : Class) (p : Bool) (t a b z k : ℕ) : Type 0 where
@@ -219,3 +227,29 @@ all_written d w end old n [] m new h z = record {
   written = h.written;
 }
 all_written d w end old n (b ∷ rest) m new h z = absurd (omega arith)
+
+-- the element of a header and its content, framed
+
+pub framed_written : {N : Type 0} {row : Element → N} (d : ℕ) (i w r : List ℕ) (h : Header) (end : ℕ) (old mid new : List N) (n m : ℕ) → n + length i ≤ end → FramesDer i h w r
+    → WritesDerContent row (class_of h) (is_constructed h) (number_of h) d w (end - length r) old (n + 1) m mid
+    → new ≡ overlay mid n (row (element_of h (end - length i) (end - length r - length w) (end - length r) (m - n - 1)) ∷ []) → WritesDerElement row d i end old n r m new
+framed_written d i w r h end old mid new n m room f content put =
+    element_written d i (w ++ r) w r (class_of h) (is_constructed h) (number_of h) (length w) end old mid new n m _ room f.0 f.1 refl refl content
+    (record {
+      class = refl;
+      constructed = refl;
+      definite = ap is_definite f.2;
+      number = refl;
+      header = refl;
+      content = refl;
+      end = refl;
+      inside = refl;
+    }) put
+
+pub framed_closed_written : {N : Type 0} {row : Element → N} (d : ℕ) (i w r : List ℕ) (h : Header) (end : ℕ) (old new : List N) (n : ℕ) → n + length i ≤ end → FramesDer i h w r → 1 ≤ d
+    → IsDerClosed (class_of h) (is_constructed h) (number_of h) w
+    → new ≡ overlay old n (row (element_of h (end - length i) (end - length r - length w) (end - length r) 0) ∷ []) → WritesDerElement row d i end old n r (n + 1) new
+framed_closed_written {row} d i w r h end old new n room f deep closed put =
+    let none : 0 ≡ (n + 1) - n - 1 = omega arith in
+    framed_written d i w r h end old old new n (n + 1) room f (closed_written (class_of h) (is_constructed h) (number_of h) d w (end - length r) old (n + 1) deep closed)
+    (subst (λ z. new ≡ overlay old n (row (element_of h (end - length i) (end - length r - length w) (end - length r) z) ∷ [])) none put)

@@ -1,6 +1,6 @@
 -- What the functions of the reader of BER write and return.
 use Rattle.std.specs.Borrow.{Bor}
-use Rattle.std.specs.Prelude.{◌≡◌, ℕ, ◌+◌, ◌*◌, ◌-◌, ◌≤◌, ◌⊎◌, Bool, true, false, IsTrue, List, [], ◌∷◌, ◌++◌, length, map}
+use Rattle.std.specs.Prelude.{◌≡◌, ℕ, ◌+◌, ◌*◌, ◌-◌, ◌≤◌, ◌⊎◌, Bool, List, [], ◌∷◌, ◌++◌, length, map}
 use Rattle.std.specs.Prelude.{Option, None, Some, Result, Ok, Err}
 use Rattle.der_base.specs.declared.error.Err.{Err as Refusing}
 use Rattle.der_base.specs.declared.error.Err.TheVariants.{Incomplete}
@@ -15,13 +15,14 @@ use Rattle.der_base.specs.Content.{BeginsWithContent, ContentLacks}
 use Rattle.der_base.specs.Header.{class_of, is_constructed, number_of, length_of}
 use Rattle.der_base.specs.Headers.{BeginsWithHeader}
 use Rattle.der_base.specs.Inner.Framed.{AreElements, Spells, HasContent, JoinSpellings}
-use Rattle.der_base.specs.Leaf.{is_list, IsLeafContent}
+use Rattle.der_base.specs.Leaf.{IsLeafContent}
 use Rattle.der_base.specs.Listing.{object_count, content_count, item_count}
 use Rattle.der_base.specs.Refusal.{Refusal, max_depth}
 use Rattle.der_base.specs.Spelling.{Form, Forms, IsKept, end_marker}
 use Rattle.der_base.specs.Tree.{Node, Content, Nodes}
 use Rattle.der_nodes.specs.declared.element.Element.{Element}
 use Rattle.der_nodes.specs.FaultPlaces.{InsideRefusesAt, ContentRefusesAt, ItemsRefuseAt}
+use Rattle.der_nodes.specs.Inner.{element_of}
 use Rattle.der_nodes.specs.Places.{AreElementsOf, AreInContent, AreInItems, overlay}
 
 -- the octets b, which begin at a place, spell a tree; the rows of its elements are written from the number n on
@@ -67,23 +68,6 @@ pub record WritesItems {N : Type 0} (row : Element → N) (d : ℕ) (w : List �
   pub places : AreInItems w at items elements
   pub count : m ≡ n + item_count items
   pub written : new ≡ overlay old n (map row elements)
-
-abbrev pub is_definite : Length → Bool
-is_definite (Definite n) = true
-is_definite Indefinite = false
-
--- the element of a header, with its content octets between two places
-abbrev pub element_of : Header → ℕ → ℕ → ℕ → ℕ → Element
-element_of h start content end inside = record {
-  class = class_of h;
-  constructed = is_constructed h;
-  definite = is_definite (length_of h);
-  number = number_of h;
-  header = start;
-  content = content;
-  end = end;
-  inside = inside;
-}
 
 -- the element of a header with content octets w, and those inside it, are written
 abbrev pub WritesWhole : {N : Type 0} → (Element → N) → Header → ℕ → List ℕ → ℕ → ℕ → List N → ℕ → ℕ → List N → Type 0
@@ -138,10 +122,6 @@ Settles (Ok (rest, Ok m)) start q result place = (result ≡ Ok (rest, m)) × (p
 Settles (Ok (rest, Err e)) start q result place = (result ≡ Err e) × (place ≡ q)
 Settles (Err (Incomplete n)) start q result place = (result ≡ Err (Incomplete n)) × (place ≡ start)
 Settles (Err e) start q result place = (result ≡ Err e) × (place ≡ q)
-
--- the header of a SEQUENCE or a SET of items
-abbrev pub IsListHeader : Header → Type 0
-IsListHeader h = (class_of h ≡ Universal) × IsTrue (is_list (number_of h)) × (is_constructed h ≡ true)
 
 -- the octets w are a content that is no list
 abbrev pub IsLeafOrKept : Class → Bool → ℕ → List ℕ → Type 0

@@ -1,16 +1,21 @@
 -- What the functions of the readers of DER write and return.
-use Rattle.std.specs.Prelude.{◌≡◌, ℕ, ◌+◌, ◌-◌, ◌<◌, ◌≤◌, Bool, true, false, List, ◌∷◌, ◌++◌, length, map}
+use Rattle.std.specs.Prelude.{◌≡◌, ℕ, ◌+◌, ◌-◌, ◌<◌, ◌≤◌, ◌⊎◌, Bool, true, false, IsTrue, List, ◌∷◌, ◌++◌, length, map}
 use Rattle.std.specs.Prelude.{Result, MatchResult}
 use Rattle.der_base.specs.declared.header.Class.{Class}
 use Rattle.der_base.specs.declared.header.Class.TheVariants.{Universal}
+use Rattle.der_base.specs.declared.header.Header.{Header}
+use Rattle.der_base.specs.declared.header.Length.{Length}
+use Rattle.der_base.specs.declared.header.Length.TheVariants.{Definite, Indefinite}
 use Rattle.der_base.specs.Encoding.{content_octets}
 use Rattle.der_base.specs.Fault.{DerJoins}
 use Rattle.der_base.specs.declared.error.Error.{Error as BerError}
-use Rattle.der_base.specs.Leaf.{IsLeafContent, IsDerLeaf}
+use Rattle.der_base.specs.Header.{class_of, is_constructed, number_of, length_of}
+use Rattle.der_base.specs.Headers.{BeginsWithDerHeader}
+use Rattle.der_base.specs.Leaf.{is_list, is_mapped, IsLeafContent, IsDerLeaf}
 use Rattle.der_base.specs.LeafRefusal.{BerLeafRefuses}
 use Rattle.der_base.specs.Refusal.{refusal}
 use Rattle.der_base.specs.Listing.{object_count, content_count, item_count}
-use Rattle.der_base.specs.Spelling.{DerSpells}
+use Rattle.der_base.specs.Spelling.{DerSpells, max_object_size}
 use Rattle.der_base.specs.Tree.{Node, Content, Nodes}
 use Rattle.der_forms.specs.Contents.{IsDerContentOf}
 use Rattle.der_nodes.specs.declared.element.Element.{Element}
@@ -40,6 +45,36 @@ universal_element p t size end inside = record {
   end = end;
   inside = inside;
 }
+
+-- the header of a SEQUENCE or a SET of items
+abbrev pub IsListHeader : Header → Type 0
+IsListHeader h = (class_of h ≡ Universal) × IsTrue (is_list (number_of h)) × (is_constructed h ≡ true)
+
+abbrev pub is_definite : Length → Bool
+is_definite (Definite n) = true
+is_definite Indefinite = false
+
+-- the element of a header, with its content octets between two places
+abbrev pub element_of : Header → ℕ → ℕ → ℕ → ℕ → Element
+element_of h start content end inside = record {
+  class = class_of h;
+  constructed = is_constructed h;
+  definite = is_definite (length_of h);
+  number = number_of h;
+  header = start;
+  content = content;
+  end = end;
+  inside = inside;
+}
+
+-- by DER, i begins with the header h, its content w follows, which may be so long, and then rest
+abbrev pub FramesDer : List ℕ → Header → List ℕ → List ℕ → Type 0
+FramesDer i h w rest = BeginsWithDerHeader i (class_of h) (is_constructed h) (number_of h) (length w) (w ++ rest)
+    × (length w ≤ max_object_size) × (length_of h ≡ Definite (length w))
+
+-- the octets w are a content by DER that is no list: of a type that DER knows, or kept as they are
+abbrev pub IsDerClosed : Class → Bool → ℕ → List ℕ → Type 0
+IsDerClosed c p t w = ((c ≡ Universal) × IsDerLeafOf p t w) ⊎ (c ≡ Universal → is_mapped t ≡ false)
 
 -- whether BER has a content of type t in the octets w, primitive or constructed
 abbrev pub ChecksLeaf : Bool → ℕ → List ℕ → Result (Unit {0}) BerError → Type 0

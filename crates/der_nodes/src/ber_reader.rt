@@ -1,7 +1,7 @@
 //! One element of BER and what is inside it: element, content and items call each other, a depth less
 //! at each list. The inside of an indefinite length is read once: its elements are framed and read on
 //! the way. Errors of framing come first, so the first error of a value waits until framing ends.
-ghost use Rattle.std.specs.Prelude.{◌≡◌, ◌⊎◌, ◌+◌, ◌-◌, ◌*◌, ◌^◌, ◌<◌, ◌≤◌, ◌↔◌, ℕ, List, [], ◌∷◌};
+ghost use Rattle.std.specs.Prelude.{◌≡◌, ◌⊎◌, ◌+◌, ◌-◌, ◌*◌, ◌^◌, ◌<◌, ◌≤◌, ℕ, List, [], ◌∷◌};
 ghost use Rattle.std.specs.Prelude.{IfOk, IfSome, IsTrue, MatchOption, MatchResult, length};
 ghost use Rattle.der_base.specs.declared.header.Length.{Length};
 ghost use Rattle.der_base.specs.Answer.{MatchAnswer};
@@ -9,14 +9,15 @@ ghost use Rattle.der_base.specs.Content.{BeginsWithContent, ContentLacks};
 ghost use Rattle.der_base.specs.Header.{class_of, is_constructed, number_of};
 ghost use Rattle.der_base.specs.Spelling.{framing_budget};
 ghost use Rattle.der_base.specs.Stable.{BerIsCut};
-ghost use Rattle.der_nodes.specs.BerInner.{AnswersContent, AnswersItems, IsCounted, IsLeafOrKept, IsListHeader};
-ghost use Rattle.der_nodes.specs.BerInner.{InsideContentRefusesAt, Settles, WritesElement, WritesFramed, element_of};
+ghost use Rattle.der_nodes.specs.BerInner.{AnswersContent, AnswersItems, IsCounted, IsLeafOrKept};
+ghost use Rattle.der_nodes.specs.BerInner.{InsideContentRefusesAt, Settles, WritesElement, WritesFramed};
+ghost use Rattle.der_nodes.specs.Inner.{IsListHeader, element_of};
 ghost use Rattle.der_nodes.specs.FaultPlaces.{ShowsFaultAt, InsideRefusesAt};
 ghost use Rattle.der_nodes.specs.Places.{overlay};
 
-use crate::element::{Element, Slot, put};
+use crate::element::{Slot, element_of, put};
 use crate::framing::{frame_content, frame_to_end_marker, read_next};
-use crate::leaf::check_ber_leaf;
+use crate::leaf::{check_ber_leaf, is_list};
 use crate::short::{is_list_octet, is_plain_leaf, read_short, universal_element};
 use der_base::MAX_RECURSION;
 use der_base::error::{BerError, Err, IResult, refuse_cut_item};
@@ -218,15 +219,6 @@ fn read_content<'a, N: Slot>(
     }
 }
 
-/// Whether it is the header of a SEQUENCE or a SET of items.
-#[inline(always)]
-fn is_list(header: &Header<'_>) -> bool
-    ensures { IsTrue result ↔ IsListHeader header.now }
-{
-    let tag = header.tag();
-    header.constructed() && header.is_universal() && (tag == Tag::Sequence || tag == Tag::Set)
-}
-
 /// Writes the element of a header, if its values aren't refused.
 #[inline(always)]
 fn put_whole<N: Slot>(
@@ -244,17 +236,12 @@ fn put_whole<N: Slot>(
         (λ _. nodes.new ≡ nodes.old) }
 {
     if let Ok(next) = values {
-        let element = Element {
-            class: header.class(),
-            constructed: header.constructed(),
-            definite: matches!(header.length(), Length::Definite(_)),
-            number: header.tag().0,
-            header: start,
-            content,
-            end,
-            inside: *next - count - 1,
-        };
-        put(nodes, count, element);
+        let inside = *next - count - 1;
+        put(
+            nodes,
+            count,
+            element_of(header, start, content, end, inside),
+        );
     }
 }
 

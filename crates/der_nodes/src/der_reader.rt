@@ -1,15 +1,18 @@
-//! One element of DER and what is inside it: element, content and items call each other, a depth
-//! less at each list.
-ghost use Rattle.std.specs.Prelude.{◌≡◌, ◌≢◌, ◌+◌, ◌-◌, ◌<◌, ◌≤◌, IfOk, length};
+//! One element of DER and what is inside it: element and items call each other, a depth less at each
+//! list.
+ghost use Rattle.std.specs.Prelude.{◌≡◌, ◌≢◌, ◌+◌, ◌-◌, ◌<◌, ◌≤◌, ℕ, IfOk, IsTrue, MatchResult, length};
 ghost use Rattle.der_base.specs.declared.header.Class.{Class};
 ghost use Rattle.der_base.specs.Answer.{MatchAnswer};
 ghost use Rattle.der_base.specs.Header.{class_of, is_constructed, number_of};
+ghost use Rattle.der_base.specs.Leaf.{is_mapped};
+ghost use Rattle.der_base.specs.LeafRefusal.{DerLeafRefuses};
+ghost use Rattle.der_base.specs.Refusal.{refusal};
 ghost use Rattle.der_base.specs.Stable.{DerIsCut};
-ghost use Rattle.der_nodes.specs.FaultPlaces.{DerShowsFaultAt, DerContentRefusesAt, DerItemsRefuseAt};
-ghost use Rattle.der_nodes.specs.Inner.{WritesDerElement, WritesDerContent, WritesDerItems};
+ghost use Rattle.der_nodes.specs.FaultPlaces.{DerShowsFaultAt, DerItemsRefuseAt};
+ghost use Rattle.der_nodes.specs.Inner.{FramesDer, IsDerClosed, IsListHeader, WritesDerElement, WritesDerItems};
 
-use crate::element::{Element, Slot, put};
-use crate::leaf::check_der_leaf;
+use crate::element::{Slot, element_of, put};
+use crate::leaf::{check_der_leaf, is_list};
 use crate::short::{is_list_octet, is_plain_leaf, read_short, universal_element};
 use der_base::MAX_OBJECT_SIZE;
 use der_base::error::{BerError, Err, IResult, Needed, refuse_cut_item};
@@ -94,7 +97,35 @@ fn read_any<'a, N: Slot>(
     ensures shorter { IfOk result (λ x. length x.0.now < length i.now) }
     ensures within { IfOk result (λ x. x.1 + length x.0.now ≤ end) }
 {
-    *place = end - i.len();
+    let start = end - i.len();
+    *place = start;
+    let (rest, (header, octets)) = frame(i)?;
+    let after = end - rest.len();
+    let content = after - octets.len();
+    if !is_list(&header) {
+        check_closed(&header, octets)?;
+        put(nodes, count, element_of(&header, start, content, after, 0));
+        return Ok((rest, count + 1));
+    }
+    let next = read_items(octets, after, max_depth - 1, nodes, count + 1, place)?;
+    let inside = next - count - 1;
+    put(
+        nodes,
+        count,
+        element_of(&header, start, content, after, inside),
+    );
+    Ok((rest, next))
+}
+
+/// The header of an element and its content octets, if these are whole, and what follows it.
+#[inline(always)]
+fn frame<'a>(i: &'a [u8]) -> IResult<&'a [u8], (Header<'a>, &'a [u8]), BerError>
+    ensures { MatchAnswer result
+        (λ x. FramesDer i.now x.1.0 x.1.1.now x.0.now)
+        (λ e. (d n : ℕ) → 1 ≤ d → DerShowsFaultAt d i.now n e n)
+        (λ m. (d : ℕ) → 1 ≤ d → DerIsCut d i.now m)
+        ⊥ }
+{
     let (rest, header) = der_read_element_header(i)?;
     let length = header.length().definite()?;
     if length > MAX_OBJECT_SIZE {
@@ -104,20 +135,7 @@ fn read_any<'a, N: Slot>(
         return Err(Err::Incomplete(Needed::Size(lacking(&header, length, rest))));
     }
     let (content, rest) = rest.split_at(length);
-    let behind = end - rest.len();
-    let next = read_content(&header, content, behind, max_depth, nodes, count + 1, place)?;
-    let element = Element {
-        class: header.class(),
-        constructed: header.constructed(),
-        definite: true,
-        number: header.tag().0,
-        header: end - i.len(),
-        content: behind - length,
-        end: behind,
-        inside: next - count - 1,
-    };
-    put(nodes, count, element);
-    Ok((rest, next))
+    Ok((rest, (header, content)))
 }
 
 /// How many octets a content lacks that is cut short: by DER the whole length for class Universal.
@@ -133,46 +151,26 @@ fn lacking(header: &Header<'_>, size: usize, rest: &[u8]) -> usize
     }
 }
 
-/// The content octets of an element, which end at a place of the input.
-#[cycle(der_reader)]
+/// Checks a content that isn't read as items.
 #[inline(always)]
-fn read_content<N: Slot>(
-    header: &Header<'_>,
-    octets: &[u8],
-    end: usize,
-    max_depth: usize,
-    nodes: &mut [N],
-    count: usize,
-    place: &mut usize,
-) -> Result<usize, Err<BerError>>
-    requires deep { 1 ≤ max_depth }
-    requires room { count + length octets.now ≤ end }
-    ensures found { let h = header.now in MatchAnswer result
-        (λ m. WritesDerContent N.slot (class_of h) (is_constructed h) (number_of h) max_depth octets.now end nodes.old
-        count m nodes.new)
-        (λ e. DerContentRefusesAt (class_of h) (is_constructed h) (number_of h) octets.now max_depth place.old
-        (end - length octets.now) e place.new)
-        (λ _. ⊥)
-        ⊥ }
-    ensures within { IfOk result (λ m. (count ≤ m) × (m ≤ end)) }
+fn check_closed(header: &Header<'_>, content: &[u8]) -> Result<(), BerError>
+    requires { ¬ IsListHeader header.now }
+    ensures { let h = header.now in MatchResult result
+        (λ _. IsDerClosed (class_of h) (is_constructed h) (number_of h) content.now)
+        (λ e. (class_of h ≡ Class.Universal) × IsTrue (is_mapped (number_of h))
+        × DerLeafRefuses (is_constructed h) (number_of h) content.now (refusal e)) }
 {
     if !header.is_universal() {
-        return Ok(count);
+        return Ok(());
     }
     let tag = header.tag();
-    if tag == Tag::Sequence {
-        header.assert_constructed()?;
-        return read_items(octets, end, max_depth - 1, nodes, count, place);
-    }
-    if tag == Tag::Set {
-        header.assert_constructed()?;
-        return read_items(octets, end, max_depth - 1, nodes, count, place);
+    if tag == Tag::Sequence || tag == Tag::Set {
+        return Err(BerError::ConstructExpected);
     }
     if !tag.is_mapped() {
-        return Ok(count);
+        return Ok(());
     }
-    check_der_leaf(header.constructed(), tag, octets)?;
-    Ok(count)
+    check_der_leaf(header.constructed(), tag, content)
 }
 
 /// The elements that content octets join.

@@ -1,8 +1,9 @@
 //! Elements by their places.
 ghost use Rattle.std.specs.Prelude.{◌≡◌, [], ◌∷◌};
+ghost use Rattle.der_nodes.specs.Inner.{element_of};
 ghost use Rattle.der_nodes.specs.Places.{overlay};
 
-use der_base::header::Class;
+use der_base::header::{Class, Header, Length};
 
 /// An element of an input: its identifier octets (X.690 8.1.2), where it is, and how many elements
 /// are inside it. Places are numbers of octets from the start of the input.
@@ -53,5 +54,28 @@ pub(crate) fn put<N: Slot>(nodes: &mut [N], at: usize, element: Element)
 {
     if at < nodes.len() {
         nodes[at] = N::keep(element);
+    }
+}
+
+/// The element of a header, with its content octets between two places.
+#[inline(always)]
+pub(crate) fn element_of(
+    header: &Header<'_>,
+    start: usize,
+    content: usize,
+    end: usize,
+    inside: usize,
+) -> Element
+    ensures { result ≡ element_of header.now start content end inside }
+{
+    Element {
+        class: header.class(),
+        constructed: header.constructed(),
+        definite: matches!(header.length(), Length::Definite(_)),
+        number: header.tag().0,
+        header: start,
+        content,
+        end,
+        inside,
     }
 }

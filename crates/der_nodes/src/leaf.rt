@@ -1,17 +1,26 @@
 //! The content octets of the universal types that are no list, of which nothing is kept.
-ghost use Rattle.std.specs.Prelude.{◌≡◌, false, true, IsTrue, MatchResult};
+ghost use Rattle.std.specs.Prelude.{◌≡◌, ◌↔◌, false, true, IsTrue, MatchResult};
 ghost use Rattle.der_base.specs.Leaf.{is_list, is_mapped, is_time};
 ghost use Rattle.der_base.specs.LeafRefusal.{DerLeafRefuses};
 ghost use Rattle.der_base.specs.Refusal.{refusal};
 ghost use Rattle.der_base.specs.Text.{is_text_type};
-ghost use Rattle.der_nodes.specs.Inner.{IsDerLeafOf, ChecksLeaf};
+ghost use Rattle.der_nodes.specs.Inner.{IsDerLeafOf, IsListHeader, ChecksLeaf};
 
 use der_base::error::{BerError, DerConstraint};
-use der_base::header::Tag;
+use der_base::header::{Header, Tag};
 use der_base::integer::read_u64;
 use der_base::text::{is_utf16, read_text};
 use der_base::time::{read_der_time, read_time};
 use der_forms::check_form;
+
+/// Whether it is the header of a SEQUENCE or a SET of items.
+#[inline(always)]
+pub(crate) fn is_list(header: &Header<'_>) -> bool
+    ensures { IsTrue result ↔ IsListHeader header.now }
+{
+    let tag = header.tag();
+    header.constructed() && header.is_universal() && (tag == Tag::Sequence || tag == Tag::Set)
+}
 
 /// Checks the content octets of a universal type other than SEQUENCE and SET, which is primitive by
 /// DER.

@@ -15,7 +15,8 @@ use Rattle.der_base.proofs.Framing.Framed.{elements_append}
 use Rattle.der_base.proofs.Framing.FramingAny.{any_lacks_header, any_lacks_content}
 use Rattle.der_base.proofs.Framing.FramingLists.{header_takes_two}
 use Rattle.der_forms.proofs.BerReadings.{any_cut}
-use Rattle.der_nodes.specs.BerInner.{AnswersItems, FramingRefusesAt, InsideContentRefusesAt, IsCounted, IsListHeader, StandsNext, WritesElement, WritesItems, WritesWhole}
+use Rattle.der_nodes.specs.BerInner.{AnswersItems, FramingRefusesAt, InsideContentRefusesAt, IsCounted, StandsNext, WritesElement, WritesItems, WritesWhole}
+use Rattle.der_nodes.specs.Inner.{IsListHeader}
 use Rattle.der_nodes.specs.FaultPlaces.{ItemsRefuseAt, ShowsFaultAt}
 use Rattle.der_nodes.proofs.BerElements.{element_at, begins_at, one_more_element, no_marker, element_some, ends_at, content_behind, inside_length}
 use Rattle.der_nodes.proofs.BerFaultPlaces.{header_refused_at, any_framing_refused_at, inside_content_refused, item_refused_at, items_refuse_at}

@@ -3,16 +3,13 @@ use Rattle.der_nodes.proofs.DerWriting.{SoFar}
 use Rattle.der_nodes.proofs.der_reader.+der_reader.Given as goal
 
 abbrev pub decreases-read_element : goal.decreases-read_element
-decreases-read_element g l = 4 * l.max_depth + 3
+decreases-read_element g l = 3 * l.max_depth + 1
 
 abbrev pub decreases-read_any : goal.decreases-read_any
-decreases-read_any g l = 4 * l.max_depth + 2
-
-abbrev pub decreases-read_content : goal.decreases-read_content
-decreases-read_content g l = 4 * l.max_depth + 1
+decreases-read_any g l = 3 * l.max_depth
 
 abbrev pub decreases-read_items : goal.decreases-read_items
-decreases-read_items g l = 4 * l.max_depth + 4
+decreases-read_items g l = 3 * l.max_depth + 2
 
 abbrev pub invariant-read_items-loop-rest : goal.invariant-read_items-loop-rest
 invariant-read_items-loop-rest g l = SoFar g.N.Slot.slot l.max_depth l.content l.end l.fn.nodes l.fn.count l.rest l.next l.nodes × (l.fn.count ≤ l.next) × (l.next + length l.rest ≤ l.end)
