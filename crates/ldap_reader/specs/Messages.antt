@@ -170,11 +170,14 @@ abbrev pub MessageValue : Type 0
 MessageValue = ℤ × (OperationValue × Unit {0})
 
 -- LDAPMessage ::= SEQUENCE {                                                  (4.1.1)
-abbrev pub Message : Format MessageValue
-Message = Sequence (
+abbrev pub MessageContent : Content MessageValue
+MessageContent =
     Required Natural  -- messageID   MessageID,
     ⨾ (AnyOperation  -- protocolOp  CHOICE { .. },
-    ⨾ Others))  -- controls    [0] Controls OPTIONAL }
+    ⨾ Others)  -- controls    [0] Controls OPTIONAL }
+
+abbrev pub Message : Format MessageValue
+Message = Sequence MessageContent
 
 -- What the structs stand for.
 

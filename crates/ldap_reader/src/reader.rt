@@ -3,7 +3,7 @@ ghost use Rattle.der_base.specs.declared.rules.Rules.{Rules};
 ghost use Rattle.der_cursor.specs.Formats.{As, Choice, Never, NoMemoryIn, Others, ReadsContent, ReadsField, ReadsFront};
 ghost use Rattle.der_cursor.specs.Formats.{Required, TellsNext};
 ghost use Rattle.ldap_reader.specs.Messages.{Assertion, BindContent, CompareContent, EntryContent};
-ghost use Rattle.ldap_reader.specs.Messages.{Message as MessageFormat};
+ghost use Rattle.ldap_reader.specs.Messages.{Message as MessageFormat, MessageContent};
 ghost use Rattle.ldap_reader.specs.Messages.{ModifyContent, ProtocolOp, ReferenceContent, RenameContent, ResultContent};
 ghost use Rattle.ldap_reader.specs.Messages.{SearchContent, list_content, message_of, nothing, parts_of};
 
@@ -20,17 +20,19 @@ pub fn read_message<'a>(
     alloc: Global,
     octets: &'a [u8],
 ) -> Result<(&'a [u8], Message<'a>), FieldRefusal>
-    ensures { ReadsFront Rules.Ber (Required MessageFormat) message_of NoMemoryIn octets.now result }
+    ensures { ReadsFront Rules.Ber MessageFormat message_of NoMemoryIn octets.now result }
 {
     let mut input = Cursor::by(Rules::Ber, octets);
-    let message = read_fields(alloc, &mut input)?;
-    Ok((input.remaining(), message))
+    let fields = input.open_sequence().named("LDAPMessage")?;
+    match read_fields(alloc, fields) {
+        Ok(message) => Ok((input.remaining(), message)),
+        Err(refused) => Err(refused.settled()),
+    }
 }
 
-fn read_fields<'a>(alloc: Global, input: &mut Cursor<'a>) -> Result<Message<'a>, FieldRefusal>
-    ensures { ReadsField (Required MessageFormat) message_of NoMemoryIn input.old result input.new }
+fn read_fields<'a>(alloc: Global, mut fields: Cursor<'a>) -> Result<Message<'a>, FieldRefusal>
+    ensures { ReadsContent MessageContent message_of NoMemoryIn fields.entry result }
 {
-    let mut fields = input.open_sequence().named("LDAPMessage")?;
     let id = fields.u32().named("messageID")?;
     let (operation, content) = read_operation(alloc, &mut fields)?;
     pass_over(alloc, fields).named("controls")?;

@@ -15,14 +15,13 @@ use Rattle.der_cursor.specs.Formats.{Required, NoMemoryIn, ReadsContent, ReadsFi
 use Rattle.der_cursor.specs.Named.{NamesRefusal}
 use Rattle.der_cursor.proofs.ChoiceLaws.{choice_read, choice_stops, next_known, next_unknown}
 use Rattle.der_cursor.proofs.Sequences.{inside_of_named, unopened_of_named}
-use Rattle.der_cursor.proofs.FormatLaws.{limited_read, limited_stops, not_limited}
 use Rattle.snmp_reader.specs.declared.message.Content.{Content as ContentStruct}
 use Rattle.snmp_reader.specs.declared.message.Message.{Message as MessageStruct}
 use Rattle.snmp_reader.specs.declared.message.Operation.{Operation}
 use Rattle.snmp_reader.specs.declared.message.Operation.TheVariants.{GetRequest, GetNextRequest, Response, SetRequest, Trap}
 use Rattle.snmp_reader.specs.declared.message.Operation.TheVariants.{GetBulkRequest, InformRequest, TrapOfVersion2, Report}
 use Rattle.snmp_reader.specs.declared.message.Pdu.{Pdu as PduStruct}
-use Rattle.snmp_reader.specs.Messages.{CommonContent, IsOfVersion, Message, MessageFields, PduFormat, Pdus, TrapContent}
+use Rattle.snmp_reader.specs.Messages.{CommonContent, IsOfVersion, MessageContent, MessageFields, PduFormat, Pdus, TrapContent}
 use Rattle.snmp_reader.specs.Messages.{content_of, message_of, pdu_content, pdu_of}
 use Rattle.snmp_reader.specs.Operations.{IsOperationAt, number_of}
 
@@ -79,18 +78,16 @@ module _ {o : Operation} (c : Cursor) {result : Result ContentStruct FieldRefusa
   of_common e h = subst (λ C. ReadsContent C content_of NoMemoryIn c result) (sym (is_common o e)) h
 
 -- A message is of a version that has its operation.
-module _ {old : Cursor} where
-  pub of_version : {new : Cursor} {x : MessageStruct} → IsOfVersion (message_of x) → ReadsField {E = FieldRefusal} (Required MessageFields) message_of NoMemoryIn old (Ok x) new
-      → ReadsField (Required Message) message_of NoMemoryIn old (Ok x) new
-  of_version p h = limited_read IsOfVersion MessageFields p h
+module _ (c : Cursor) where
+  pub of_version : {x : MessageStruct} → IsOfVersion (message_of x) → ReadsContent {E = FieldRefusal} MessageFields message_of NoMemoryIn c (Ok x)
+      → ReadsContent {E = FieldRefusal} MessageContent message_of NoMemoryIn c (Ok x)
+  of_version p h fresh = let r = h fresh in record { found = (r.found, p); only = λ v z. r.only v z.0 }
 
-  pub wrong_version : {new after : Cursor} {e : FieldRefusal} (x : MessageStruct) → ¬ IsOfVersion (message_of x) → ReadsField {E = FieldRefusal} (Required MessageFields) message_of NoMemoryIn old (Ok x) new
-      → ReadsField (Required Message) message_of NoMemoryIn old (Err e) after
-  wrong_version x p h = not_limited IsOfVersion MessageFields p h
+  pub wrong_version : {e : FieldRefusal} (x : MessageStruct) → ¬ IsOfVersion (message_of x) → ReadsContent {E = FieldRefusal} MessageFields message_of NoMemoryIn c (Ok x)
+      → ReadsContent {T = MessageStruct} MessageContent message_of NoMemoryIn c (Err e)
+  wrong_version x p h fresh = record { found = tt; only = λ v z. absurd (p (subst IsOfVersion (sym ((h fresh).only v z.0)) z.1)) }
 
-  pub stops_before_version : {new after : Cursor} {result : Result MessageStruct FieldRefusal} (e : FieldRefusal) → IsErrAnd result (λ y. y ≡ e)
-      → ReadsField (Required MessageFields) message_of NoMemoryIn old result new → ReadsField (Required Message) message_of NoMemoryIn old result after
-  stops_before_version {new = new} {after = after} {result = result} e n h =
-      let q = err_from_is_err_and result n in
-      subst (λ r. ReadsField (Required Message) message_of NoMemoryIn old r after) (sym q.1)
-      (limited_stops IsOfVersion MessageFields {after = after} (subst (λ r. ReadsField (Required MessageFields) message_of NoMemoryIn old r new) q.1 h))
+  pub stops_before_version : (result : Result MessageStruct FieldRefusal) (e : FieldRefusal) → IsErrAnd result (λ y. y ≡ e) → ReadsContent MessageFields message_of NoMemoryIn c result
+      → ReadsContent MessageContent message_of NoMemoryIn c result
+  stops_before_version (Ok x) e n h fresh = absurd n
+  stops_before_version (Err f) e n h fresh = let r = h fresh in record { found = tt; only = λ v z. r.only v z.0 }

@@ -1,5 +1,5 @@
 -- Fields of messages, from those that a cursor reads.
-use Rattle.std.proofs.Common.{◌≡◌, ◌≢◌, ℕ, pos, false, List, length, Result, Ok, Err, Bor, refl, sym, ap, subst, ◌∙◌, arith}
+use Rattle.std.proofs.Common.{◌≡◌, ◌≢◌, ℕ, pos, false, List, length, Some, Result, Ok, Err, Bor, refl, sym, ap, subst, ◌∙◌, arith}
 use Rattle.std.specs.Net.Addr.{ipv4_octets}
 use Rattle.std.specs.Prelude.{MatchResult}
 use Rattle.std.specs.Result.{IsErrAnd}
@@ -10,12 +10,14 @@ use Rattle.der_base.specs.declared.any.Any.{Any}
 use Rattle.der_base.specs.declared.error.Error.{Error as BerError}
 use Rattle.der_base.specs.declared.header.Class.TheVariants.{Application}
 use Rattle.der_base.specs.Numbers.{unsigned}
+use Rattle.der_base.specs.Octets.{identifier}
 use Rattle.der_cursor.specs.declared.cursor.Cursor.{Cursor}
 use Rattle.der_cursor.specs.declared.refusal.Refusal.{Refusal}
 use Rattle.der_cursor.specs.Cursors.{octets_left, rules_of}
 use Rattle.der_cursor.specs.Elements.{SpellsElement}
 use Rattle.der_cursor.specs.Formats.{AnyElement, Element, Field, Required, Never, Number, OctetString, Tagged, element_of}
 use Rattle.der_cursor.specs.Formats.{ReadsWhole, ReadsField}
+use Rattle.der_cursor.proofs.AnyLaws.{spelled_any}
 use Rattle.snmp_reader.specs.declared.message.Value.{Value as ValueStruct}
 use Rattle.snmp_reader.specs.declared.message.Version.{Version}
 use Rattle.snmp_reader.specs.declared.message.Version.TheVariants.{One, TwoC}
@@ -91,9 +93,10 @@ module _ {old : Cursor} where
   pub syntax_read : {new : Cursor} (a : Any) (x : ValueStruct) → Reads AnyElement element_of old (Ok a) new → ReadsSyntax (element_of a) (Ok x) → Reads ObjectSyntax syntax_of old (Ok x) new
   unfolding ObjectSyntax AnyElement
   syntax_read {new = new} a x h s fresh = let r = h fresh in let e = element_of a in record {
-    found = ((e.0, e.2, e.3, s.found.1, subst (λ p. SpellsElement (rules_of old) e.0 p e.2 (octets_left old) (e.3, octets_left new)) s.found.0 r.found.0), r.found.1);
+    found = ((e.0, e.2, e.3, s.found.1, subst (λ p. SpellsElement (rules_of old) e.0 p e.2 (octets_left old) (e.3, octets_left new)) s.found.0 r.found.0.0), r.found.1);
     only = λ v rest z.
-        let q = r.only (z.0, false, z.1, z.2) rest z.4 in
+        let y = spelled_any (rules_of old) z.0 false z.1 (octets_left old) (z.2, rest) z.4 in
+        let q = r.only (z.0, false, z.1, z.2, y.0, Some (identifier z.0 false z.1)) rest y.1 in
         (s.only v (subst (λ (y : Element). (y.1 ≡ false) × IsSyntax v y.0 y.2 y.3) (sym q.0) (refl, z.3)), q.1);
   }
 
@@ -102,13 +105,19 @@ module _ {old : Cursor} where
   syntax_refused a h s fresh = let r = h fresh in record {
     found = tt;
     only = λ v rest z.
-        let q = r.only (z.0, false, z.1, z.2) rest z.4 in
+        let y = spelled_any (rules_of old) z.0 false z.1 (octets_left old) (z.2, rest) z.4 in
+        let q = r.only (z.0, false, z.1, z.2, y.0, Some (identifier z.0 false z.1)) rest y.1 in
         s.only v (subst (λ (y : Element). (y.1 ≡ false) × IsSyntax v y.0 y.2 y.3) (sym q.0) (refl, z.3));
   }
 
   pub syntax_stops : {new after : Cursor} {x e : Refusal BerError} → Reads {T = Any} AnyElement element_of old (Err x) new → Reads ObjectSyntax syntax_of old (Err e) after
   unfolding ObjectSyntax AnyElement
-  syntax_stops h fresh = let r = h fresh in record { found = tt; only = λ v rest z. r.only (z.0, false, z.1, z.2) rest z.4 }
+  syntax_stops h fresh = let r = h fresh in record {
+    found = tt;
+    only = λ v rest z.
+        let y = spelled_any (rules_of old) z.0 false z.1 (octets_left old) (z.2, rest) z.4 in
+        r.only (z.0, false, z.1, z.2, y.0, Some (identifier z.0 false z.1)) rest y.1;
+  }
 
 -- the value of what was read, or a refusal at its place
 pub syntax_turned : {old new : Cursor} (P : BerError → Refusal BerError → Type 0) (a : Any) (r : Result ValueStruct BerError) (s : Result ValueStruct (Refusal BerError))

@@ -6,12 +6,12 @@ use Rattle.der_base.specs.declared.header.Class.{Class}
 use Rattle.der_base.specs.declared.header.Class.TheVariants.{Application, ContextSpecific}
 use Rattle.der_base.specs.declared.rules.Rules.TheVariants.{Ber}
 use Rattle.der_base.specs.Numbers.{signed, unsigned}
-use Rattle.der_base.specs.Oids.{octets_of}
 use Rattle.der_cursor.specs.Elements.{SpellsElement}
 use Rattle.der_cursor.specs.Formats.{As, Choice, Content, Element, Field, Format, Required, ◌⨾◌, End, Each, Sequence}
 use Rattle.der_cursor.specs.Formats.{Constructed, Implicit, Tagged, Primitive, Limited}
 use Rattle.der_cursor.specs.Formats.{Number, OctetString, ObjectIdentifier}
 use Rattle.der_cursor.specs.Formats.{ReadsWhole, Never}
+use Rattle.der_values.specs.Kinds.{absolute_octets}
 use Rattle.snmp_reader.specs.declared.message.Binding.{Binding}
 use Rattle.snmp_reader.specs.declared.message.Content.{Content as ContentStruct}
 use Rattle.snmp_reader.specs.declared.message.Content.TheVariants.{Common, Trap as TrapVariant}
@@ -141,19 +141,22 @@ abbrev pub MessageValue : Type 0
 MessageValue = Version × (List ℕ × (PduValue × Unit {0}))
 
 -- Message ::= SEQUENCE {                                                      (RFC 1157 4, RFC 1901 3)
-abbrev pub MessageFields : Format MessageValue
-MessageFields = Sequence (
+abbrev pub MessageFields : Content MessageValue
+MessageFields =
     Required VersionFormat  -- version    INTEGER { version-1(0), version-2(1) },
     ⨾ (Required OctetString  -- community  OCTET STRING,
     ⨾ (Pdus  -- data       ANY }
-    ⨾ End)))
+    ⨾ End))
 
 -- the version has the operation of the message
 abbrev pub IsOfVersion : MessageValue → Type 0
 IsOfVersion m = has m.0 m.1.1.0.0 ≡ true
 
+abbrev pub MessageContent : Content MessageValue
+MessageContent r w m = MessageFields r w m × IsOfVersion m
+
 abbrev pub Message : Format MessageValue
-Message = Limited IsOfVersion MessageFields
+Message = Sequence MessageContent
 
 -- What the structs stand for.
 
@@ -161,7 +164,7 @@ abbrev pub syntax_of : Value → Syntax
 syntax_of (Integer n) = integer n
 syntax_of (Octets w) = octet_string w.now
 syntax_of Null = null
-syntax_of (Identifier x) = identifier (octets_of x)
+syntax_of (Identifier x) = identifier (absolute_octets x)
 syntax_of (Address x) = address (ipv4_octets x)
 syntax_of (Counter32 n) = counter32 (pos n)
 syntax_of (Gauge32 n) = gauge32 (pos n)
@@ -173,12 +176,12 @@ syntax_of NoSuchInstance = no_such_instance
 syntax_of EndOfMibView = end_of_mib_view
 
 abbrev pub binding_of : Binding → BindingValue
-binding_of b = (octets_of b.name, (syntax_of b.value, tt))
+binding_of b = (absolute_octets b.name, (syntax_of b.value, tt))
 
 abbrev pub content_of : ContentStruct → ContentValue
 content_of (Common n s i v) = common (n, (pos s, (pos i, (map binding_of v.items, tt))))
 content_of (TrapVariant e a g s t v) =
-    trap (octets_of e, (ipv4_octets a, (pos g, (s, (pos t, (map binding_of v.items, tt))))))
+    trap (absolute_octets e, (ipv4_octets a, (pos g, (s, (pos t, (map binding_of v.items, tt))))))
 
 abbrev pub pdu_of : PduStruct → PduValue
 pdu_of p = (p.operation, content_of p.content)

@@ -4,8 +4,8 @@ ghost use Rattle.std.specs.Prelude.{pos};
 ghost use Rattle.der_cursor.specs.Formats.{Never, NoMemoryIn, ReadsContent, ReadsField};
 ghost use Rattle.der_cursor.specs.Formats.{ReadsFront, Required, TellsNext};
 ghost use Rattle.der_base.specs.declared.rules.Rules.{Rules};
-ghost use Rattle.snmp_reader.specs.Messages.{CommonContent, IpAddress, Message as MessageFormat, PduFormat, Pdus};
-ghost use Rattle.snmp_reader.specs.Messages.{Ticks};
+ghost use Rattle.snmp_reader.specs.Messages.{CommonContent, IpAddress, Message as MessageFormat, MessageContent};
+ghost use Rattle.snmp_reader.specs.Messages.{PduFormat, Pdus, Ticks};
 ghost use Rattle.snmp_reader.specs.Messages.{TrapContent, VersionFormat, content_of, message_of, pdu_of};
 
 use crate::message::{Content, Message, Operation, Pdu, Version};
@@ -22,17 +22,19 @@ pub fn read_message<'a>(
     alloc: Global,
     octets: &'a [u8],
 ) -> Result<(&'a [u8], Message<'a>), FieldRefusal>
-    ensures { ReadsFront Rules.Ber (Required MessageFormat) message_of NoMemoryIn octets.now result }
+    ensures { ReadsFront Rules.Ber MessageFormat message_of NoMemoryIn octets.now result }
 {
     let mut input = Cursor::by(Rules::Ber, octets);
-    let message = read_fields(alloc, &mut input)?;
-    Ok((input.remaining(), message))
+    let fields = input.open_sequence().named("Message")?;
+    match read_fields(alloc, fields) {
+        Ok(message) => Ok((input.remaining(), message)),
+        Err(refused) => Err(refused.settled()),
+    }
 }
 
-fn read_fields<'a>(alloc: Global, input: &mut Cursor<'a>) -> Result<Message<'a>, FieldRefusal>
-    ensures { ReadsField (Required MessageFormat) message_of NoMemoryIn input.old result input.new }
+fn read_fields<'a>(alloc: Global, mut fields: Cursor<'a>) -> Result<Message<'a>, FieldRefusal>
+    ensures { ReadsContent MessageContent message_of NoMemoryIn fields.entry result }
 {
-    let mut fields = input.open_sequence().named("Message")?;
     let version = read_version(&mut fields).named("version")?;
     let community = fields.octets().named("community")?;
     let before = fields;

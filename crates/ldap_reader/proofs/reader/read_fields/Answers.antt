@@ -1,25 +1,22 @@
 use Rattle.std.proofs.Common.{refl}
 use Rattle.der_cursor.proofs.FormatLaws.{value_read}
-use Rattle.der_cursor.proofs.Sequences.{after, content_named_in, finish_with, inside_named, named, start, stops, stops_never, stops_with, unopened_named}
+use Rattle.der_cursor.proofs.Sequences.{after, content_named_in, finish_with, named, start, stops, stops_never, stops_with}
 use Rattle.der_cursor.specs.Formats.{Others}
 use Rattle.ldap_reader.proofs.reader.read_fields.Goals as goal
 
-pub returns-in_err-fields : goal.returns-in_err-fields
-returns-in_err-fields c = unopened_named _ _ _ _ c.open_sequence.ensures c.in_err-fields.ensures c.from_residual.ensures.1
-
 pub returns-in_err-id : goal.returns-in_err-id
-returns-in_err-id c = inside_named _ _ _ _ c.open_sequence.ensures c.in_ok-fields.ensures (λ fresh. stops_never _ (start _ fresh)
-    (named _ (value_read _ c.u32.ensures) c.in_err-id.ensures) c.from_residual-in_err-id.ensures.1)
+returns-in_err-id c = λ fresh. stops_never _ (start c.args.fields fresh)
+    (named _ (value_read _ c.u32.ensures) c.in_err-id.ensures) c.from_residual.ensures.1
 
 pub returns-in_err-operation : goal.returns-in_err-operation
-returns-in_err-operation c = inside_named _ _ _ _ c.open_sequence.ensures c.in_ok-fields.ensures (λ fresh. stops _ (after (start _ fresh)
-    (named _ (value_read _ c.u32.ensures) c.in_ok-id.ensures)) c.in_err-operation.ensures c.from_residual-in_err-operation.ensures.1)
+returns-in_err-operation c = λ fresh. stops _ (after (start c.args.fields fresh)
+    (named _ (value_read _ c.u32.ensures) c.in_ok-id.ensures)) c.in_err-operation.ensures c.from_residual-in_err-operation.ensures.1
 
 pub returns-in_err-named : goal.returns-in_err-named
-returns-in_err-named c = inside_named _ _ _ _ c.open_sequence.ensures c.in_ok-fields.ensures (λ fresh. stops_with _ (after (after (start _ fresh)
+returns-in_err-named c = λ fresh. stops_with _ (after (after (start c.args.fields fresh)
     (named _ (value_read _ c.u32.ensures) c.in_ok-id.ensures)) c.in_ok-operation.ensures)
-    (content_named_in _ Others c.read_operation.new.fields c.pass_over.ensures c.in_err-named.ensures) c.from_residual-in_err-named.ensures.1)
+    (content_named_in _ Others c.read_operation.new.fields c.pass_over.ensures c.in_err-named.ensures) c.from_residual-in_err-named.ensures.1
 
 pub returns : goal.returns
-returns c = inside_named _ _ _ _ c.open_sequence.ensures c.in_ok-fields.ensures (λ fresh. finish_with (after (after (start _ fresh)
-    (named _ (value_read _ c.u32.ensures) c.in_ok-id.ensures)) c.in_ok-operation.ensures) (content_named_in _ Others c.read_operation.new.fields c.pass_over.ensures c.in_ok-named.ensures) refl)
+returns c = λ fresh. finish_with (after (after (start c.args.fields fresh)
+    (named _ (value_read _ c.u32.ensures) c.in_ok-id.ensures)) c.in_ok-operation.ensures) (content_named_in _ Others c.read_operation.new.fields c.pass_over.ensures c.in_ok-named.ensures) refl
