@@ -1,9 +1,10 @@
 -- Octets of numbers and bits.
-use Rattle.std.proofs.Common.{◌≡◌, ◌≢◌, ℕ, suc, List, [], ◌∷◌, ◌++◌, ◌+◌, ◌*◌, ◌^◌, ◌%◌, ◌<◌, ◌≤◌, refl, sym, ap, ◌∙◌, arith, inl, inr, pos, length, append_assoc}
+use Rattle.std.proofs.Common.{◌≡◌, ◌≢◌, ℕ, zero, suc, List, [], ◌∷◌, ◌++◌, ◌+◌, ◌*◌, ◌^◌, ◌%◌, ◌<◌, ◌≤◌, refl, sym, ap, ◌∙◌, arith, inl, inr, pos, length, get_or, append_assoc}
 use Rattle.std.specs.Prelude.{◌-ℤ◌}
 use Rattle.std.proofs.lemmas.Int.{ints}
 use Rattle.std.proofs.Math.Nat.{pow-suc, mul_assoc, mul_comm, mod-eq_of_lt}
 use Rattle.std.proofs.Math.Pow.{pow_mono}
+use Rattle.der_base.specs.Laws.{AreOctets}
 use Rattle.der_base.specs.Octets.{number, number_from, integer_value}
 use Rattle.der_base.proofs.Octets.MinimalIntegers.{high_value, low_value}
 use Rattle.der_canon.specs.Values.{RepeatsSign, cleared, cleared_octet}
@@ -20,7 +21,7 @@ minus x p q y e f = omega (arith, ints)
 
 pub same_value : (a : ℕ) (w : List ℕ) → RepeatsSign a w → integer_value w ≡ integer_value (a ∷ w)
 same_value a [] r = absurd r
-same_value a (b ∷ w) (inl (zero, low)) = low_value b w low ∙ ap (λ k. integer_value (k ∷ b ∷ w)) (sym zero)
+same_value a (b ∷ w) (inl (none, low)) = low_value b w low ∙ ap (λ k. integer_value (k ∷ b ∷ w)) (sym none)
 same_value a (b ∷ w) (inr (all, high)) =
     let l : number_from 255 (b ∷ w) ≡ 255 * 256 ^ suc (length w) + number_from 0 (b ∷ w) = lead 255 0 (b ∷ w) in
     high_value b w high ∙ minus (number (b ∷ w)) (256 ^ suc (length w)) (256 ^ suc (suc (length w))) (number (255 ∷ b ∷ w)) l (pow-suc 256 (suc (length w))) ∙ sym (high_value 255 (b ∷ w) (omega arith)) ∙ ap (λ k. integer_value (k ∷ b ∷ w)) (sym all)
@@ -48,3 +49,11 @@ pub joined_bits : (u b x : ℕ) (octets bits others after rest : List ℕ) → b
 joined_bits u b x octets bits others after rest e f g h =
     let k : cleared u bits ≡ others ++ cleared_octet u b ∷ [] = ap (cleared u) e ∙ cleared_last u b others in
     f ∙ ap (λ v. others ++ v) (g ∙ ap (λ k. k ∷ rest) h) ∙ sym (ap (λ v. v ++ rest) k ∙ append_assoc others (cleared_octet u b ∷ []) rest)
+
+pub octets_at : (w : List ℕ) → ((k : ℕ) → get_or w k 0 < 256) → (k d : ℕ) → k < length w → get_or w k d < 256
+octets_at [] h k d l = absurd (omega arith)
+octets_at (b ∷ w) h zero d l = h 0
+octets_at (b ∷ w) h (suc k) d l = octets_at w (λ j. h (suc j)) k d (omega arith)
+
+pub octets_behind : (b : ℕ) (w : List ℕ) → AreOctets (b ∷ w) → AreOctets w
+octets_behind b w h = λ k d l. h (suc k) d (omega arith)

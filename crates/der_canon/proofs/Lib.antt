@@ -1,4 +1,5 @@
 pub mod Contents
 pub mod Copies
 pub mod Joinings
+pub mod Sizings
 pub mod Steps

@@ -22,11 +22,11 @@ use Rattle.der_canon.specs.Pieces.{HasPiece, IsForm, IsWrittenFor, depth_of}
 use Rattle.der_canon.specs.Same.{AreWrittenAs, HasElementsOf, IsHeadedAs, IsPartOf, content_of, contents_of, is_in_parts, is_part, part_number, parts_of, none, one_more, no_extras}
 use Rattle.der_canon.specs.Values.{IsJoined, IsSameValue, Joins, string_content}
 
-not_false : (b : Bool) → not b ≡ false → b ≡ true
+pub not_false : (b : Bool) → not b ≡ false → b ≡ true
 not_false true h = refl
 not_false false h = sym h
 
-not_true : (b : Bool) → not b ≡ true → b ≡ false
+pub not_true : (b : Bool) → not b ≡ true → b ≡ false
 not_true true h = sym h
 not_true false h = refl
 
@@ -44,7 +44,7 @@ some_is None h = absurd (let k = h in cc)
 some_is (Some w) h = (w, refl)
 
 -- the content of an element is in the input at its place
-octets_of : (i : List ℕ) (e : Element) (w : Bor (List ℕ)) → HasOctets i e → e.content ≡ Some w → content_of i (visited_of e) ≡ w.now
+pub octets_of : (i : List ℕ) (e : Element) (w : Bor (List ℕ)) → HasOctets i e → e.content ≡ Some w → content_of i (visited_of e) ≡ w.now
 octets_of i e w h is =
     let p = rw is at h.content in
     let n : unwrap_or e.length 0 ≡ length w.now = ap (λ l. unwrap_or l 0) p.0 in

@@ -3,6 +3,7 @@ use Rattle.std.specs.Prelude.{◌≡◌, ℕ, ◌-◌, ◌%◌, ◌^◌, ◌<◌
 use Rattle.std.specs.Prelude.{List, [], ◌∷◌, ◌++◌}
 use Rattle.der_base.specs.declared.header.Class.{Class}
 use Rattle.der_base.specs.declared.header.Class.TheVariants.{Universal}
+use Rattle.der_base.specs.Laws.{AreOctets}
 use Rattle.der_base.specs.Leaf.{IsMinimalInteger}
 use Rattle.der_base.specs.Octets.{integer_value}
 use Rattle.der_base.specs.Text.{is_one_of}
@@ -16,6 +17,7 @@ IsSameBoolean w x = (b : ℕ) × (w ≡ b ∷ []) × (x ≡ boolean_octet b ∷ 
 
 -- an INTEGER or ENUMERATED is in the fewest octets (8.3.2)
 pub record IsSameNumber (w x : List ℕ) : Type 0 where
+  pub octets : AreOctets x
   pub value : integer_value x ≡ integer_value w
   pub fewest : IsMinimalInteger x
 

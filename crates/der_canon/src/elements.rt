@@ -3,11 +3,13 @@ ghost use Rattle.std.specs.Prelude.{◌≤◌, length, take, IfOk, IfSome};
 ghost use Rattle.der_check.specs.Elements.{AreElements};
 ghost use Rattle.der_base.specs.declared.rules.Rules.{Rules};
 ghost use Rattle.der_canon.specs.Same.{HasElementsOf, IsDerOf};
+ghost use Rattle.der_canon.specs.Sizes.{HasSize};
 ghost use Rattle.der_canon.specs.Written.{KeepsDer, WritesDer};
 
 use crate::check::{check_written, refuse_all};
 use crate::error::{CanonError, NotCanonical};
 use crate::octets::copy;
+use crate::size::size_of;
 use crate::writer::write_pieces;
 use der_base::rules::Rules;
 use der_check::are_elements;
@@ -42,12 +44,14 @@ pub fn canonical_into(octets: &[u8], out: &mut [u8]) -> Result<usize, NotCanonic
 
 /// Writes elements that aren't DER already.
 fn write_others(octets: &[u8], out: &mut [u8]) -> Result<usize, NotCanonical>
-    ensures { IfOk result (λ n. n ≤ length out.new → HasElementsOf octets.now (take n out.new)) }
+    ensures { IfOk result (λ n. HasSize octets.now n
+        × (n ≤ length out.new → HasElementsOf octets.now (take n out.new))) }
 {
-    let needed = write_pieces(octets, out)?;
+    let needed = size_of(octets)?;
     if needed > out.len() {
         return Ok(needed);
     }
+    write_pieces(octets, out)?;
     check_written(octets, &out[..needed])?;
     Ok(needed)
 }

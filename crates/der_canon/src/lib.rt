@@ -9,6 +9,7 @@ mod error;
 mod joined;
 mod octets;
 mod piece;
+mod size;
 mod writer;
 
 pub use elements::{canonical, canonical_into};

@@ -1,5 +1,6 @@
 //! Octets in a buffer, which are written as far as there is room.
-ghost use Rattle.std.specs.Prelude.{◌≡◌, ◌≤◌};
+ghost use Rattle.std.specs.Prelude.{◌≡◌, ◌≤◌, length};
+ghost use Rattle.der_base.specs.Octets.{octets, shortest_length};
 ghost use Rattle.der_nodes.specs.Places.{overlay};
 
 /// Writes octets at the start of a buffer.
@@ -26,21 +27,29 @@ pub(crate) fn move_up(out: &mut [u8], start: usize, end: usize, by: usize) {
     }
 }
 
-/// How many octets a length has after the first, if it has as few as possible (X.690 10.1).
-pub(crate) fn further_octets(length: usize) -> usize
+/// How many octets a length has, if it has as few as possible (X.690 10.1).
+#[tactic(auto, unfolding(der_base::specs::Octets::shortest_length))]
+pub(crate) fn length_size(size: usize) -> usize
+    ensures count { result ≡ length (shortest_length size) }
+    ensures few { (1 ≤ result) × (result ≤ 9) }
+{
+    if size < 128 { 1 } else { 1 + octet_count(size) }
+}
+
+/// How many octets a number has, none for 0.
+#[tactic(auto, using(der_base::proofs::Octets::Numbers::octets_leading))]
+fn octet_count(number: usize) -> usize
+    ensures count { result ≡ length (octets number) }
+    ensures few { result ≤ 8 }
+{
+    8 - number.leading_zeros() as usize / 8
+}
+
+/// How many octets a length has after the first.
+pub(crate) fn further_octets(size: usize) -> usize
     ensures { result ≤ 8 }
 {
-    if length < 128 {
-        return 0;
-    }
-    let mut left = length;
-    for number in 1..8 {
-        left /= 256;
-        if left == 0 {
-            return number;
-        }
-    }
-    8
+    length_size(size) - 1
 }
 
 /// Writes a length in the fewest octets from a place on (8.1.3.4, 8.1.3.5).

@@ -10,8 +10,8 @@ use der_walk::{Element, MAX_DEPTH};
 /// How many elements are open at most: one at each depth.
 const DEPTHS: usize = MAX_DEPTH + 1;
 
-/// Writes the elements of an input as far as there is room. Returns how many octets they have, room or not.
-pub(crate) fn write_pieces(octets: &[u8], out: &mut [u8]) -> Result<usize, NotCanonical> {
+/// Writes the elements of an input as far as there is room.
+pub(crate) fn write_pieces(octets: &[u8], out: &mut [u8]) -> Result<(), NotCanonical> {
     let mut pieces = Pieces::new(octets);
     let mut writer = Writer::new();
     // An element has an octet at least, so the loop ends at the end of the input.
@@ -23,7 +23,7 @@ pub(crate) fn write_pieces(octets: &[u8], out: &mut [u8]) -> Result<usize, NotCa
         }
     }
     writer.complete(out, 0);
-    Ok(writer.end)
+    Ok(())
 }
 
 /// How far elements are written.

@@ -1,22 +1,29 @@
-use Rattle.std.proofs.Common.{◌≡◌, ◌≤◌, length, take, sym, ap, subst, ◌∙◌, arith, rules, IsTrue, false}
+use Rattle.std.proofs.Common.{◌≡◌, ◌≤◌, length, take, refl, sym, ap, subst, ◌∙◌, arith, rules, IsTrue, false}
 use Rattle.der_base.specs.declared.rules.Rules.TheVariants.{Der}
 use Rattle.der_check.specs.Elements.{AreElements}
+use Rattle.der_canon.specs.Sizes.{IsSizeOf}
 use Rattle.der_canon.proofs.Copies.{take-overlay}
 use Rattle.der_canon.proofs.Steps.{are_der, ok_map}
 use Rattle.der_canon.proofs.elements.canonical_into.Goals as goal
 
 pub returns-then-are_elements-clause-written : goal.returns-then-are_elements-clause-written
-returns-then-are_elements-clause-written c = λ h.
+returns-then-are_elements-clause-written c =
     let i = c.args.octets.now in
     let out = c.args.out.now in
-    let fits : length i ≤ length out = omega arith in
-    let front : take (length i) c.copy.new.out ≡ i = ap (take (length i)) c.copy.ensures ∙ take-overlay out i fits in
     let all : AreElements Der 101 i = c.if-are_elements.ensures.0 (search rules) in
-    record { elements = subst (λ l. AreElements Der 101 l) (sym front) all; unchanged = λ _. front; same = λ k. absurd (k all) }
+    let size : IsSizeOf i (length i) = record { unchanged = λ _. refl; others = λ k. absurd (k all) } in (
+      size,
+      λ h. let fits : length i ≤ length out = omega arith in
+          let front : take (length i) c.copy.new.out ≡ i = ap (take (length i)) c.copy.ensures ∙ take-overlay out i fits in
+          record { elements = subst (λ l. AreElements Der 101 l) (sym front) all; unchanged = λ _. front; same = λ k. absurd (k all) },
+    )
 
 pub returns-clause-written : goal.returns-clause-written
 returns-clause-written c =
     let i = c.args.octets.now in
     let out = c.write_others.new.out in
     let not_der : ¬ AreElements Der 101 i = (λ a. let t : IsTrue false = c.if-are_elements.ensures.1 a in absurd (cc)) in
-    ok_map c.write_others.result _ _ (λ n k l. record { elements = are_der i (take n out) (k l); unchanged = λ a. absurd (not_der a); same = λ _. k l }) c.write_others.ensures
+    ok_map c.write_others.result _ _ (λ n k. (
+      record { unchanged = λ a. absurd (not_der a); others = λ _. k.0 },
+      λ l. record { elements = are_der i (take n out) (k.1 l); unchanged = λ a. absurd (not_der a); same = λ _. k.1 l },
+    )) c.write_others.ensures

@@ -11,4 +11,4 @@ returns c =
     let more = drop (length out) written.items in
     let fits : n ≤ length out = omega (arith, c.deref_mut.ensures.len, c.in_ok-written.ensures.len) in
     let same : c.truncate.new.self.items ≡ take n out = c.truncate.ensures.items ∙ take-take n written.len (out ++ more) (omega arith) ∙ take-append-le n out more fits in
-    subst (λ l. IsDerOf c.args.octets.now l) (sym same) (c.in_ok-needed.ensures.written fits)
+    subst (λ l. IsDerOf c.args.octets.now l) (sym same) (c.in_ok-needed.ensures.written.1 fits)

@@ -1,0 +1,195 @@
+//! How many octets elements have in DER.
+ghost use Rattle.std.specs.Prelude.{◌≡◌, ◌↔◌, ◌+◌, ◌++◌, ◌∷◌, [], IfOk, IfSome, IsTrue, OnOk, OnSome, false, length};
+ghost use Rattle.der_base.specs.Octets.{shortest_length};
+ghost use Rattle.der_canon.specs.Sizes.{Ends, HasSize, HasValueSize, IsNumber, part_size, start_size, with_length};
+ghost use Rattle.der_canon.specs.Sizing.{AddsElement, AddsPart, AddsPiece};
+ghost use Rattle.der_walk.specs.Walked.{visited_of};
+
+use crate::check::refuse_all;
+use crate::content::shortest_number;
+use crate::error::NotCanonical;
+use crate::octets::length_size;
+use crate::piece::{Piece, Pieces, is_in_parts};
+use arrayvec::ArrayVec;
+use der_base::rules::Rules;
+use der_walk::{Element, MAX_DEPTH, Walk};
+
+/// How many elements are open at most: one at each depth.
+const DEPTHS: usize = MAX_DEPTH + 1;
+
+/// How many octets DER has for the elements of an input.
+pub(crate) fn size_of(octets: &[u8]) -> Result<usize, NotCanonical>
+    ensures { IfOk result (HasSize octets.now) }
+{
+    let mut pieces = Pieces::new(octets);
+    let mut sizes = Sizes::new();
+    // An element has an octet at least, so the loop ends at the end of the input.
+    for _ in 0..=octets.len() {
+        match pieces.next_piece() {
+            Ok(Some(piece)) => sizes.add(&piece)?,
+            Ok(None) => return sizes.total(),
+            Err(refusal) => return Err(pieces.refuse(&refusal)),
+        }
+    }
+    Err(too_large())
+}
+
+/// Refuses elements that have more octets than a slice.
+fn too_large() -> NotCanonical {
+    refuse_all(&Walk::new(&[], Rules::Der, false))
+}
+
+/// How many octets the contents have that go on, as far as their elements were read.
+#[derive(Drop)]
+struct Sizes {
+    /// Those around the innermost, the outermost first.
+    around: ArrayVec<usize, DEPTHS>,
+    /// The innermost.
+    here: usize,
+}
+
+impl Sizes {
+    fn new() -> Sizes
+        ensures around { result.around.items ≡ [] }
+        ensures here { result.here ≡ 0 }
+    {
+        Sizes {
+            around: ArrayVec::new(),
+            here: 0,
+        }
+    }
+
+    /// Adds one more piece.
+    fn add(&mut self, piece: &Piece<'_>) -> Result<(), NotCanonical>
+        ensures { OnOk result (AddsPiece piece.now self.old self.new) }
+    {
+        if piece.has_header() {
+            return match self.add_element(&piece.element) {
+                Some(()) => Ok(()),
+                None => Err(too_large()),
+            };
+        }
+        match self.add_part(&piece.element) {
+            Some(()) => Ok(()),
+            None => Err(too_large()),
+        }
+    }
+
+    /// How many octets there are in all.
+    fn total(&mut self) -> Result<usize, NotCanonical>
+        ensures { IfOk result
+            (λ n. Ends 0 self.old.around.items self.old.here self.new.around.items n) }
+    {
+        match self.end(0) {
+            Some(()) => Ok(self.here),
+            None => Err(too_large()),
+        }
+    }
+
+    /// Adds an element with its header.
+    fn add_element(&mut self, element: &Element<'_>) -> Option<()>
+        ensures { OnSome result (AddsElement element.now self.old self.new) }
+    {
+        self.end(element.depth)?;
+        self.grow(element.identifier.len())?;
+        if element.constructed {
+            return self.begin(start_size(element));
+        }
+        let size = with_length(value_size(element, element.content?))?;
+        self.grow(size)
+    }
+
+    /// Adds what a part gives to its string.
+    fn add_part(&mut self, element: &Element<'_>) -> Option<()>
+        ensures { OnSome result (AddsPart element.now self.old self.new) }
+    {
+        if element.constructed {
+            return Some(());
+        }
+        self.grow(part_size(element.number, element.content?))
+    }
+
+    /// Ends the contents that have more others around them than this depth.
+    fn end(&mut self, depth: usize) -> Option<()>
+        ensures { OnSome result
+            (Ends depth self.old.around.items self.old.here self.new.around.items self.new.here) }
+    {
+        'ending: while self.around.len() > depth {
+            let outer = self.around.pop()?;
+            self.here = outer.checked_add(with_length(self.here)?)?;
+        }
+        Some(())
+    }
+
+    /// Adds octets to the innermost content.
+    fn grow(&mut self, octets: usize) -> Option<()>
+        ensures around { OnSome result (self.new.around ≡ self.old.around) }
+        ensures here { OnSome result (self.new.here ≡ self.old.here + octets) }
+    {
+        self.here = self.here.checked_add(octets)?;
+        Some(())
+    }
+
+    /// Begins a content inside the innermost, with so many octets.
+    fn begin(&mut self, octets: usize) -> Option<()>
+        ensures around { OnSome result (self.new.around.items ≡ self.old.around.items ++ self.old.here ∷ []) }
+        ensures here { OnSome result (self.new.here ≡ octets) }
+    {
+        if self.around.is_full() {
+            return None;
+        }
+        self.around.push(self.here);
+        self.here = octets;
+        Some(())
+    }
+}
+
+/// How many octets a content has with its length octets.
+fn with_length(content: usize) -> Option<usize>
+    ensures { IfSome result (λ n. n ≡ with_length content) }
+{
+    length_size(content).checked_add(content)
+}
+
+/// How many octets the content of a primitive element has.
+fn value_size(element: &Element<'_>, content: &[u8]) -> usize
+    ensures { HasValueSize element.now.class element.now.number content.now result }
+{
+    if content.is_empty() {
+        return 0;
+    }
+    if is_number(element) {
+        shortest_number(content).len()
+    } else {
+        content.len()
+    }
+}
+
+/// Whether an element is an INTEGER or an ENUMERATED.
+fn is_number(element: &Element<'_>) -> bool
+    ensures { IsTrue result ↔ IsNumber element.now.class element.now.number }
+{
+    element.is_universal(2) || element.is_universal(10)
+}
+
+/// How many octets a string in parts has before those of its parts: the one of a BIT STRING for its unused bits.
+fn start_size(element: &Element<'_>) -> usize
+    ensures { result ≡ start_size (visited_of element.now) }
+{
+    if is_in_parts(element) && element.number == 3 {
+        1
+    } else {
+        0
+    }
+}
+
+/// How many octets a primitive part gives to its string.
+fn part_size(number: u32, content: &[u8]) -> usize
+    ensures { result ≡ part_size false number content.now }
+{
+    if number == 3 {
+        content.len().saturating_sub(1)
+    } else {
+        content.len()
+    }
+}
