@@ -225,7 +225,7 @@ pub record Reads (x : Extras) (w : Walk) (e : Element) : Type 0 where
   pub offset : e.offset ≡ w.at
   pub depth : e.depth ≡ length w.opened.items
   pub shallow : e.depth ≤ 100
-  pub some : 0 < e.header
+  pub some : 2 ≤ e.header
   pub room : IfSome e.length (λ n. IsWithin (e.offset + e.header + n) (end_of w))
   pub read : IsRead x w.content.rules (100 - e.depth) (here_of w) e
 
@@ -281,7 +281,7 @@ passes x r w w' vs e size has reads pass = of reads.read pass
         let q = length-append h b in
         let z = reads.offset in
         let end : w'.at ≡ n = g.at ∙ ap (λ l. limit_of (length i) (end_from (e.offset + e.header) (end_of w) l)) el ∙ omega (arith, eh, q, z, inside, short) in
-        let later : w.at < n = omega (arith, q, eh, reads.some) in
+        let later : w.at + 2 ≤ n = omega (arith, q, eh, reads.some) in
         let opens = ap length g.opens in
         record {
           input = g.input;
@@ -297,8 +297,8 @@ passes x r w w' vs e size has reads pass = of reads.read pass
 
     into : (first : ℕ) (limit : End) → GoesInto (record w { content = count_one w.content }) e first limit w' → end_in (length i) limit ≡ end_from (e.offset + e.header) (end_of w) e.length
         → IsOpen x i w.content.rules (100 - e.depth) e.depth e.offset first (rules_inside w.content.rules e) (end_from (e.offset + e.header) (end_of w) e.length) (ends_at_marker e.length) (visited_of e)
-        → IsWithin first (end_from (e.offset + e.header) (end_of w) e.length) → first ≤ length i → HasVisited x r i w' (vs ++ visited_of e ∷ [])
-    into first limit g ee is h2 h3 =
+        → IsWithin first (end_from (e.offset + e.header) (end_of w) e.length) → first ≤ length i → w.at + 2 ≤ first → HasVisited x r i w' (vs ++ visited_of e ∷ [])
+    into first limit g ee is h2 h3 later =
         let s = rules_inside w.content.rules e in
         let en = end_from (e.offset + e.header) (end_of w) e.length in
         let m = ends_at_marker e.length in
@@ -310,7 +310,6 @@ passes x r w w' vs e size has reads pass = of reads.read pass
         let is3 = subst (λ q. IsOpen x i q (100 - e.depth) (length w.opened.items) w.at first s en m (visited_of e)) (sym (ap (λ c. c.rules) g.around)) is2 in
         let fits = subst (λ q. EndsWithin en q) (sym around) (ends_within (e.offset + e.header) (end_of w) e.length reads.room) in
         let next = go_into (w.opened.items ++ o ∷ []) o first s en m (visited_of e) base refl is3 fits h2 h3 (ap (λ q. end_from (e.offset + e.header) q e.length) (sym around)) refl (g.offset ∙ reads.offset) in
-        let later : w.at < first = omega (arith, is.begins, reads.offset) in
         let k : length w'.opened.items ≡ suc (length w.opened.items) = omega (arith, ap length g.opens, length-append w.opened.items (o ∷ [])) in
         record {
           input = g.input;
@@ -354,7 +353,7 @@ passes x r w w' vs e size has reads pass = of reads.read pass
         let is1 = subst (λ q. IsOpen x i w.content.rules (100 - e.depth) e.depth e.offset first Der q false (visited_of e)) (sym from) is_open in
         let is2 = subst (λ q. IsOpen x i w.content.rules (100 - e.depth) e.depth e.offset first Der (end_from p (end_of w) e.length) q (visited_of e)) (sym (ap ends_at_marker el)) is1 in
         let is3 = subst (λ q. IsOpen x i w.content.rules (100 - e.depth) e.depth e.offset first q (end_from p (end_of w) e.length) (ends_at_marker e.length) (visited_of e)) (sym (ap (λ z. if z then Der else w.content.rules) ed)) is2 in
-        into first end g ee is3 (subst (λ q. IsWithin first q) (sym from) (let z : first ≤ last = omega (arith, fl, lu) in z)) (omega (arith, fl, lu, n, inside, short))
+        into first end g ee is3 (subst (λ q. IsWithin first q) (sym from) (let z : first ≤ last = omega (arith, fl, lu) in z)) (omega (arith, fl, lu, n, inside, short)) (omega (arith, reads.some, reads.offset))
     of (list h rest split eh ep ed eo is may) (end, ee, inr (p, d, g)) = absurd (cc)
     of (list h rest split eh ep ed eo is may) (end, ee, inl (t, g)) =
         let p = e.offset + e.header in
@@ -367,4 +366,4 @@ passes x r w w' vs e size has reads pass = of reads.read pass
         let g1 = subst (λ q. GoesInto (record w { content = count_one w.content }) e q end w') no_front g in
         let is1 = subst (λ q. IsOpen x i w.content.rules (100 - e.depth) e.depth e.offset p q (end_from p (end_of w) e.length) (ends_at_marker e.length) (visited_of e)) (sym (ap (λ z. if z then Der else w.content.rules) ed)) is_open in
         let fits : p ≤ limit = omega (arith, n, inside) in
-        into p end g1 ee is1 (end_at_least p (end_of w) e.length (limit_within p (length i) (end_of w) fits)) (omega (arith, fits, short))
+        into p end g1 ee is1 (end_at_least p (end_of w) e.length (limit_within p (length i) (end_of w) fits)) (omega (arith, fits, short)) (omega (arith, reads.some, reads.offset))

@@ -116,7 +116,7 @@ pub record ReadsHere (w : Walk) (here : List ℕ) (e : Element) : Type 0 where
   pub depth : e.depth ≡ length w.opened.items
   pub shallow : e.depth ≤ 100
   pub fits : e.header ≤ length here
-  pub some : 0 < e.header
+  pub some : 2 ≤ e.header
   pub room : IfSome e.length (λ n. IsWithin (e.offset + e.header + n) (end_of w))
   pub index : e.index ≡ w.content.visited
   pub read : IsRead (extras_of w) w.content.rules (100 - e.depth) here e

@@ -105,7 +105,8 @@ pub record HasVisited (x : Extras) (r : Rules) (i : List ℕ) (w : Walk) (vs : L
   pub counts : w.content.visited ≡ index_in (length w.opened.items) vs
   pub counts_around : (outer inner : List Open) (o : Open) → w.opened.items ≡ outer ++ o ∷ inner
       → o.around.visited ≡ index_in (length outer) vs
-  pub few : length vs ≤ w.at
+  -- each has two octets or more
+  pub few : length vs + length vs ≤ w.at
 
 -- the second walk has visited all that the first had
 abbrev pub KeepsVisited : Walk → Walk → Type 0
