@@ -14,14 +14,14 @@ use Rattle.der_base.specs.declared.rules.Rules.{Rules}
 use Rattle.der_check.specs.Elements.{SpellsOne}
 use Rattle.der_base.specs.Rules.{AnswersHeader}
 use Rattle.der_check.specs.Readers.{BeginsWithOne, Finds}
-use Rattle.der_check.proofs.HeadersBy.{header_read, header_shorter}
+use Rattle.der_check.proofs.HeadersBy.{header_read}
 use Rattle.der_walk.specs.declared.element.Element.{Element}
 use Rattle.der_walk.specs.declared.walk.Walk.{Walk}
 use Rattle.der_walk.specs.Visits.{Extras, IsHeaderBy, HoldsElement, IsNotEntered, primitive, broken, visited, may_break}
 use Rattle.der_walk.specs.Ends.{end_of, IsWithin}
 use Rattle.der_walk.specs.Walked.{visited_of}
 use Rattle.der_walk.specs.Reading.{StartsWith, FindsContent, IsChecked, Holds, IsRead, whole, string, list, definite_of, extras_of, OctetsHere, ReadsHere}
-use Rattle.der_walk.proofs.Headers.{Parts, header_parts, checked, raw_tag_read}
+use Rattle.der_walk.proofs.Headers.{Parts, header_parts, header_two, checked, raw_tag_read}
 
 -- what is visited, where only the header matters
 visited_plain : (e : Element) (h : List ℕ) (p : Bool) (n : Option ℕ) → e.header ≡ length h → e.length ≡ n → e.constructed ≡ p → e.holds_der ≡ false → e.breaks_its_type ≡ false
@@ -224,7 +224,7 @@ reads_here w i y e a s f room checks holds shallow = record {
   depth = s.depth;
   shallow = shallow;
   fits = omega (arith, s.header);
-  some = (let h = header_shorter w.content.rules i (leading_header y) (header_read w.content.rules i y a) in omega (arith, s.header, h));
+  some = (let h = header_two w.content.rules i (leading_header y) (header_read w.content.rules i y a) in omega (arith, s.header, h));
   room = room;
   index = s.index;
   read = reads (extras_of w) w.content.rules i y w.at (length w.opened.items) w.content.visited e a s f checks holds;

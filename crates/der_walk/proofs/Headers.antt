@@ -1,5 +1,5 @@
 -- Headers, and primitive elements that have them.
-use Rattle.std.proofs.Common.{◌≡◌, ℕ, Bool, false, List, [], ◌∷◌, ◌++◌, length, Option, Some, Ok, refl, sym, ap, subst, ◌∙◌, arith, append_assoc, inl, inr}
+use Rattle.std.proofs.Common.{◌≡◌, ℕ, ◌+◌, ◌≤◌, Bool, false, List, [], ◌∷◌, ◌++◌, length, Option, Some, None, Ok, refl, sym, ap, subst, ◌∙◌, arith, append_assoc, inl, inr}
 use Rattle.std.specs.Borrow.{Bor}
 use Rattle.der_base.specs.declared.header.Class.{Class}
 use Rattle.der_base.specs.declared.header.Header.{Header}
@@ -8,11 +8,12 @@ use Rattle.der_base.specs.declared.header.Length.TheVariants.{Definite, Indefini
 use Rattle.der_base.specs.Encoding.{content_octets}
 use Rattle.der_base.specs.Header.{class_of, is_constructed, number_of, length_of, raw_tag_of}
 use Rattle.der_base.specs.Headers.{BeginsWithHeader, BeginsWithDerHeader, LeadingHeader, leading_header}
-use Rattle.der_base.specs.Octets.{identifier, shortest_length}
+use Rattle.der_base.specs.Octets.{identifier, shortest_length, SpellsLength}
 use Rattle.der_base.specs.Spelling.{BerSpellsAs, Form, form, framing_budget}
 use Rattle.der_base.specs.Tree.{node, Content}
-use Rattle.der_base.proofs.Framing.FramingLists.{definite_header}
+use Rattle.der_base.proofs.Framing.FramingLists.{definite_header, header_takes_two}
 use Rattle.der_base.proofs.Octets.Identifiers.{identifier_same}
+use Rattle.der_base.proofs.Octets.ShortestLengths.{shortest_spells}
 use Rattle.der_laws.proofs.Spellings.DerWithinBer.{der_element}
 use Rattle.der_base.specs.declared.rules.Rules.{Rules}
 use Rattle.der_base.specs.declared.rules.Rules.TheVariants.{Ber, Der}
@@ -127,3 +128,27 @@ checked r i x rest a ep (node c p t z, b, e, s) = same_header r i x a ep b rest 
 pub raw_tag_read : (r : Rules) (i : List ℕ) (x : Bor (List ℕ) × Header) → AnswersHeader r i (Ok x) → raw_tag_of x.1 ≡ Some (identifier (class_of x.1) (is_constructed x.1) (number_of x.1))
 raw_tag_read Ber i x a = a.found.raw_tag
 raw_tag_read Der i x a = a.found.raw_tag
+
+abbrev pub length_from : Option ℕ → Length
+length_from (Some n) = Definite n
+length_from None = Indefinite
+
+-- a header is one by BER
+pub header_begins : (r : Rules) (i : List ℕ) (c : Class) (p : Bool) (t : ℕ) (n : Option ℕ) (h rest : List ℕ) → IsHeaderBy r c p t n h → i ≡ h ++ rest → BeginsWithHeader i c p t (length_from n) rest
+header_begins Ber i c p t (Some n) h rest is e = spells_parts Ber i c p t n h rest is e
+header_begins Der i c p t (Some n) h rest is e =
+    let s = is.1 in
+    record {
+      following = s ++ rest;
+      octets = e ∙ ap (λ l. l ++ rest) is.3 ∙ append_assoc (identifier c p t) s rest;
+      number = is.0;
+      length = (s, subst (λ l. SpellsLength l n) (sym is.2.1) (shortest_spells n is.2.0), refl);
+    }
+header_begins r i c p t None h rest is e = record { following = 128 ∷ rest; octets = e ∙ ap (λ l. l ++ rest) is.3 ∙ append_assoc (identifier c p t) (128 ∷ []) rest; number = is.0; length = (is.2, refl) }
+
+-- a header has two octets
+pub header_two : (r : Rules) (i : List ℕ) (v : LeadingHeader) → SpellsHeaderBy r i v → length v.rest + 2 ≤ length i
+header_two r i v h =
+    let g = header_parts r i v h in
+    let n = definite_of v.length in
+    header_takes_two i v.rest v.class v.constructed v.number (length_from n) (header_begins r i v.class v.constructed v.number n g.octets v.rest g.is g.split)

@@ -1,5 +1,5 @@
 -- A walk passes the element that it read.
-use Rattle.std.proofs.Common.{◌≡◌, ℕ, suc, ◌+◌, ◌-◌, ◌^◌, ◌<◌, ◌≤◌, Bool, true, false, ◌&&◌, ◌==◌, if◌then◌else◌, min, List, [], ◌∷◌, ◌++◌, length, drop, Option, Some, None, refl, sym, ap, subst, ◌∙◌, arith, append_assoc, length-append, inl, inr, ⊎_elim}
+use Rattle.std.proofs.Common.{◌≡◌, ℕ, suc, ◌+◌, ◌-◌, ◌^◌, ◌<◌, ◌≤◌, Bool, true, false, not, ◌&&◌, ◌==◌, if◌then◌else◌, min, List, [], ◌∷◌, ◌++◌, length, drop, Option, Some, None, refl, sym, ap, subst, ◌∙◌, arith, append_assoc, length-append, inl, inr, ⊎_elim}
 use Rattle.std.proofs.lemmas.List.{append_cancel_left}
 use Rattle.der_base.specs.declared.header.Class.TheVariants.{Universal}
 use Rattle.der_base.specs.Spelling.{end_marker}
@@ -13,9 +13,9 @@ use Rattle.der_walk.specs.declared.walk.Walk.{Walk}
 use Rattle.der_walk.specs.Visits.{Visited, Extras, IsHeaderBy, HoldsElement, Visits, VisitsOne, string, constructed, indefinite, visited}
 use Rattle.std.specs.Prelude.{IfSome}
 use Rattle.der_walk.specs.declared.content.End.{End}
-use Rattle.der_walk.specs.Ends.{between, end_in, end_of, here_of, limit_of, EndsWithin, IsWithin}
-use Rattle.der_walk.specs.Walked.{visited_of, index_in, EndsAt, IsOpen, HasWalked, HasVisited}
-use Rattle.der_walk.specs.Reading.{IsRead, whole, list, Passes, GoesInto, GoesOn, count_one, front_of, end_from, ends_at_marker, rules_inside}
+use Rattle.der_walk.specs.Ends.{end_from, ends_at_marker, between, end_in, end_of, here_of, limit_of, EndsWithin, IsWithin}
+use Rattle.der_walk.specs.Walked.{visited_of, index_in, BeginsAt, EndsAt, IsOpen, HasWalked, HasVisited}
+use Rattle.der_walk.specs.Reading.{IsRead, whole, list, Passes, GoesInto, GoesOn, count_one, front_of, rules_inside}
 use Rattle.der_walk.specs.Reading.{string as read_string}
 use Rattle.der_walk.proofs.Between.{between_drop, between_front, between_more, drop_front, front_between, front_within, length-between}
 use Rattle.der_walk.proofs.Counts.{index_around, index_few, index_inside, index_same, split_last}
@@ -28,13 +28,26 @@ use Rattle.der_walk.proofs.Steps.{advance, go_into, open_depth, within}
 open_list : (x : Extras) (r : Rules) (i : List ℕ) (d : ℕ) (e : Element) (h : List ℕ) (l end : Option ℕ) → e.length ≡ l → e.header ≡ length h → e.constructed ≡ true → e.holds_der ≡ false → e.breaks_its_type ≡ false
     → IsHeaderBy r e.class true e.number l h → MayBeConstructed r e.class e.number → drop e.offset i ≡ h ++ drop (e.offset + e.header) i
     → IsOpen x i r d e.depth e.offset (e.offset + e.header) r (end_from (e.offset + e.header) end l) (ends_at_marker l) (visited_of e)
-open_list x r i d e h (Some n) end el eh ep ed eo is may there = record { closes = closes; opens = opens; begins = omega (arith, eh, header_some r e.class true e.number (Some n) h is); no_marker = no_marker }
+open_list x r i d e h (Some n) end el eh ep ed eo is may there = record { closes = closes; opens = opens; header = header_is; begins = omega (arith, eh, header_some r e.class true e.number (Some n) h is); no_marker = no_marker }
   where
     p : ℕ
     p = e.offset + e.header
 
     here : between i e.offset p ≡ h
     here = (let q : p ≡ e.offset + length h = omega (arith, eh) in ap (λ m. between i e.offset m) q ∙ between_front i e.offset h (drop p i) there)
+
+    header_is : BeginsAt i r e.depth e.offset (visited_of e)
+    header_is = record {
+      octets = h;
+      rest = drop p i;
+      split = there;
+      is = subst (λ q. IsHeaderBy r e.class q e.number e.length h) (sym ep) (subst (λ q. IsHeaderBy r e.class true e.number q h) (sym el) is);
+      header = eh;
+      offset = refl;
+      depth = refl;
+      holds = ed ∙ sym (ap (λ b. not b) ep);
+      whole = eo;
+    }
 
     no_marker : (z : List ℕ) → drop e.offset i ≡ end_marker ++ z → ⊥
     no_marker z q = header_no_marker r e.class true e.number (Some n) h (drop p i) z is (λ t. absurd (cc)) (sym there ∙ q)
@@ -61,13 +74,26 @@ open_list x r i d e h (Some n) end el eh ep ed eo is may there = record { closes
       where
         same : (l : Option ℕ) → e.length ≡ l → visited_of e ≡ visited e.offset e.depth e.class true e.number h l
         same l el = cc
-open_list x r i d e h None end el eh ep ed eo is may there = record { closes = closes; opens = opens; begins = omega (arith, eh, header_some r e.class true e.number None h is); no_marker = no_marker }
+open_list x r i d e h None end el eh ep ed eo is may there = record { closes = closes; opens = opens; header = header_is; begins = omega (arith, eh, header_some r e.class true e.number None h is); no_marker = no_marker }
   where
     p : ℕ
     p = e.offset + e.header
 
     here : between i e.offset p ≡ h
     here = (let q : p ≡ e.offset + length h = omega (arith, eh) in ap (λ m. between i e.offset m) q ∙ between_front i e.offset h (drop p i) there)
+
+    header_is : BeginsAt i r e.depth e.offset (visited_of e)
+    header_is = record {
+      octets = h;
+      rest = drop p i;
+      split = there;
+      is = subst (λ q. IsHeaderBy r e.class q e.number e.length h) (sym ep) (subst (λ q. IsHeaderBy r e.class true e.number q h) (sym el) is);
+      header = eh;
+      offset = refl;
+      depth = refl;
+      holds = ed ∙ sym (ap (λ b. not b) ep);
+      whole = eo;
+    }
 
     no_marker : (z : List ℕ) → drop e.offset i ≡ end_marker ++ z → ⊥
     no_marker z q = header_no_marker r e.class true e.number None h (drop p i) z is (λ t. absurd (cc)) (sym there ∙ q)
@@ -101,13 +127,29 @@ open_string : (x : Extras) (r : Rules) (i : List ℕ) (d : ℕ) (e : Element) (h
     → e.breaks_its_type ≡ false → e.class ≡ Universal → IsHeaderBy r Universal false e.number (Some (length w)) h → SpellsOne r (h ++ w) (node Universal false e.number y) → x.enters_strings ≡ true
     → HoldsElement d e.number w u v → drop e.offset i ≡ (h ++ w) ++ drop end i → end ≡ e.offset + length (h ++ w) → end ≤ length i → first ≡ e.offset + length h + length u
     → IsOpen x i r d e.depth e.offset first Der (Some end) false (visited_of e)
-open_string x r i d e h w u v y first end eh el ep ed eo ec is spells en holds there ee hl ef = record { closes = closes; opens = opens; begins = omega (arith, ef, header_some r Universal false e.number (Some (length w)) h is); no_marker = no_marker }
+open_string x r i d e h w u v y first end eh el ep ed eo ec is spells en holds there ee hl ef = record { closes = closes; opens = opens; header = header_is; begins = omega (arith, ef, header_some r Universal false e.number (Some (length w)) h is); no_marker = no_marker }
   where
     total : length (h ++ w) ≡ length h + (length u + length v)
     total = omega (arith, length-append h w, ap length holds.parts, length-append u v)
 
     here : between i e.offset end ≡ h ++ w
     here = ap (λ m. between i e.offset m) ee ∙ between_front i e.offset (h ++ w) (drop end i) there
+
+    header_is : BeginsAt i r e.depth e.offset (visited_of e)
+    header_is =
+        let is1 = subst (λ q. IsHeaderBy r Universal false e.number q h) (sym el) is in
+        let is2 = subst (λ q. IsHeaderBy r q false e.number e.length h) (sym ec) is1 in
+        record {
+          octets = h;
+          rest = w ++ drop end i;
+          split = there ∙ append_assoc h w (drop end i);
+          is = subst (λ q. IsHeaderBy r e.class q e.number e.length h) (sym ep) is2;
+          header = eh;
+          offset = refl;
+          depth = refl;
+          holds = ed ∙ sym (ap (λ b. not b) ep);
+          whole = eo;
+        }
 
     no_marker : (z : List ℕ) → drop e.offset i ≡ end_marker ++ z → ⊥
     no_marker z q =
@@ -168,10 +210,6 @@ ends_within p None l h = tt
 ends_within p (Some k) (Some n) h = (p + n, refl, h)
 ends_within p (Some k) None h = (k, refl, omega arith)
 
-same_end : (p : ℕ) (end l : Option ℕ) → ends_at_marker l ≡ true → end_from p end l ≡ end
-same_end p end (Some n) q = absurd (cc)
-same_end p end None q = refl
-
 -- the same at equal places
 pub moved : (x : Extras) (r : Rules) (i : List ℕ) (d : ℕ) (opens opens' : List Open) (s s' : Rules) (e e' : Option ℕ) (m m' : Bool) (at at' : ℕ) (vs : List Visited) → opens' ≡ opens → s' ≡ s → e' ≡ e → m' ≡ m → at' ≡ at
     → HasWalked x r i d opens s e m at vs → HasWalked x r i d opens' s' e' m' at' vs
@@ -187,7 +225,7 @@ pub record Reads (x : Extras) (w : Walk) (e : Element) : Type 0 where
   pub offset : e.offset ≡ w.at
   pub depth : e.depth ≡ length w.opened.items
   pub shallow : e.depth ≤ 100
-  pub some : 0 < e.header
+  pub some : 2 ≤ e.header
   pub room : IfSome e.length (λ n. IsWithin (e.offset + e.header + n) (end_of w))
   pub read : IsRead x w.content.rules (100 - e.depth) (here_of w) e
 
@@ -243,7 +281,7 @@ passes x r w w' vs e size has reads pass = of reads.read pass
         let q = length-append h b in
         let z = reads.offset in
         let end : w'.at ≡ n = g.at ∙ ap (λ l. limit_of (length i) (end_from (e.offset + e.header) (end_of w) l)) el ∙ omega (arith, eh, q, z, inside, short) in
-        let later : w.at < n = omega (arith, q, eh, reads.some) in
+        let later : w.at + 2 ≤ n = omega (arith, q, eh, reads.some) in
         let opens = ap length g.opens in
         record {
           input = g.input;
@@ -259,8 +297,8 @@ passes x r w w' vs e size has reads pass = of reads.read pass
 
     into : (first : ℕ) (limit : End) → GoesInto (record w { content = count_one w.content }) e first limit w' → end_in (length i) limit ≡ end_from (e.offset + e.header) (end_of w) e.length
         → IsOpen x i w.content.rules (100 - e.depth) e.depth e.offset first (rules_inside w.content.rules e) (end_from (e.offset + e.header) (end_of w) e.length) (ends_at_marker e.length) (visited_of e)
-        → IsWithin first (end_from (e.offset + e.header) (end_of w) e.length) → first ≤ length i → HasVisited x r i w' (vs ++ visited_of e ∷ [])
-    into first limit g ee is h2 h3 =
+        → IsWithin first (end_from (e.offset + e.header) (end_of w) e.length) → first ≤ length i → w.at + 2 ≤ first → HasVisited x r i w' (vs ++ visited_of e ∷ [])
+    into first limit g ee is h2 h3 later =
         let s = rules_inside w.content.rules e in
         let en = end_from (e.offset + e.header) (end_of w) e.length in
         let m = ends_at_marker e.length in
@@ -271,8 +309,7 @@ passes x r w w' vs e size has reads pass = of reads.read pass
         let is2 = subst (λ k. IsOpen x i w.content.rules (100 - e.depth) (length w.opened.items) k first s en m (visited_of e)) reads.offset is1 in
         let is3 = subst (λ q. IsOpen x i q (100 - e.depth) (length w.opened.items) w.at first s en m (visited_of e)) (sym (ap (λ c. c.rules) g.around)) is2 in
         let fits = subst (λ q. EndsWithin en q) (sym around) (ends_within (e.offset + e.header) (end_of w) e.length reads.room) in
-        let next = go_into (w.opened.items ++ o ∷ []) o first s en m (visited_of e) base refl is3 fits h2 h3 (λ q. same_end (e.offset + e.header) (end_of w) e.length q ∙ sym around) (g.offset ∙ reads.offset) in
-        let later : w.at < first = omega (arith, is.begins, reads.offset) in
+        let next = go_into (w.opened.items ++ o ∷ []) o first s en m (visited_of e) base refl is3 fits h2 h3 (ap (λ q. end_from (e.offset + e.header) q e.length) (sym around)) refl (g.offset ∙ reads.offset) in
         let k : length w'.opened.items ≡ suc (length w.opened.items) = omega (arith, ap length g.opens, length-append w.opened.items (o ∷ [])) in
         record {
           input = g.input;
@@ -316,7 +353,7 @@ passes x r w w' vs e size has reads pass = of reads.read pass
         let is1 = subst (λ q. IsOpen x i w.content.rules (100 - e.depth) e.depth e.offset first Der q false (visited_of e)) (sym from) is_open in
         let is2 = subst (λ q. IsOpen x i w.content.rules (100 - e.depth) e.depth e.offset first Der (end_from p (end_of w) e.length) q (visited_of e)) (sym (ap ends_at_marker el)) is1 in
         let is3 = subst (λ q. IsOpen x i w.content.rules (100 - e.depth) e.depth e.offset first q (end_from p (end_of w) e.length) (ends_at_marker e.length) (visited_of e)) (sym (ap (λ z. if z then Der else w.content.rules) ed)) is2 in
-        into first end g ee is3 (subst (λ q. IsWithin first q) (sym from) (let z : first ≤ last = omega (arith, fl, lu) in z)) (omega (arith, fl, lu, n, inside, short))
+        into first end g ee is3 (subst (λ q. IsWithin first q) (sym from) (let z : first ≤ last = omega (arith, fl, lu) in z)) (omega (arith, fl, lu, n, inside, short)) (omega (arith, reads.some, reads.offset))
     of (list h rest split eh ep ed eo is may) (end, ee, inr (p, d, g)) = absurd (cc)
     of (list h rest split eh ep ed eo is may) (end, ee, inl (t, g)) =
         let p = e.offset + e.header in
@@ -329,4 +366,4 @@ passes x r w w' vs e size has reads pass = of reads.read pass
         let g1 = subst (λ q. GoesInto (record w { content = count_one w.content }) e q end w') no_front g in
         let is1 = subst (λ q. IsOpen x i w.content.rules (100 - e.depth) e.depth e.offset p q (end_from p (end_of w) e.length) (ends_at_marker e.length) (visited_of e)) (sym (ap (λ z. if z then Der else w.content.rules) ed)) is_open in
         let fits : p ≤ limit = omega (arith, n, inside) in
-        into p end g1 ee is1 (end_at_least p (end_of w) e.length (limit_within p (length i) (end_of w) fits)) (omega (arith, fits, short))
+        into p end g1 ee is1 (end_at_least p (end_of w) e.length (limit_within p (length i) (end_of w) fits)) (omega (arith, fits, short)) (omega (arith, reads.some, reads.offset))

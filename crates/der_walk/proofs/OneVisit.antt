@@ -3,47 +3,26 @@ use Rattle.std.proofs.Common.{◌≡◌, ℕ, suc, ◌+◌, Bool, true, false, L
 use Rattle.std.proofs.lemmas.List.{append_cancel_left, append_cancel_right}
 use Rattle.der_base.specs.declared.header.Class.{Class}
 use Rattle.der_base.specs.declared.header.Class.TheVariants.{Universal}
-use Rattle.der_base.specs.declared.header.Length.{Length}
-use Rattle.der_base.specs.declared.header.Length.TheVariants.{Definite, Indefinite}
-use Rattle.der_base.specs.Headers.{BeginsWithHeader}
-use Rattle.der_base.specs.Octets.{identifier, SpellsLength}
+use Rattle.der_base.specs.Octets.{identifier}
 use Rattle.der_base.specs.Spelling.{end_marker}
 use Rattle.der_base.specs.Tree.{node}
 use Rattle.der_base.proofs.Framing.Elements.{identifier_some}
 use Rattle.der_base.proofs.Headers.BerHeaders.{ber_header_same}
 use Rattle.der_base.proofs.Octets.Identifiers.{fronts_same}
-use Rattle.der_base.proofs.Octets.ShortestLengths.{shortest_spells}
 use Rattle.der_base.specs.declared.rules.Rules.{Rules}
-use Rattle.der_base.specs.declared.rules.Rules.TheVariants.{Ber, Der}
+use Rattle.der_base.specs.declared.rules.Rules.TheVariants.{Der}
 use Rattle.der_check.specs.Elements.{SpellsOne}
 use Rattle.der_check.proofs.FirstOctets.{zero_first, constructed_first}
 use Rattle.der_walk.specs.Visits.{Visited, Extras, IsHeaderBy, IsStringFront, HoldsElement, Visits, VisitsOne, none, one_more, primitive, broken, string, constructed, indefinite, visited}
 use Rattle.der_walk.proofs.ElementReads.{broken_not_zero}
-use Rattle.der_walk.proofs.Headers.{spells_parts}
+use Rattle.der_walk.proofs.Headers.{header_begins, length_from}
 use Rattle.der_walk.proofs.VisitedElements.{string_not_zero}
-
-abbrev length_from : Option ℕ → Length
-length_from (Some n) = Definite n
-length_from None = Indefinite
 
 length_back : (n n' : Option ℕ) → length_from n ≡ length_from n' → n ≡ n'
 length_back (Some n) (Some m) e = cc
 length_back (Some n) None e = absurd (cc)
 length_back None (Some m) e = absurd (cc)
 length_back None None e = refl
-
--- a header is one by BER
-pub header_begins : (r : Rules) (i : List ℕ) (c : Class) (p : Bool) (t : ℕ) (n : Option ℕ) (h rest : List ℕ) → IsHeaderBy r c p t n h → i ≡ h ++ rest → BeginsWithHeader i c p t (length_from n) rest
-header_begins Ber i c p t (Some n) h rest is e = spells_parts Ber i c p t n h rest is e
-header_begins Der i c p t (Some n) h rest is e =
-    let s = is.1 in
-    record {
-      following = s ++ rest;
-      octets = e ∙ ap (λ l. l ++ rest) is.3 ∙ append_assoc (identifier c p t) s rest;
-      number = is.0;
-      length = (s, subst (λ l. SpellsLength l n) (sym is.2.1) (shortest_spells n is.2.0), refl);
-    }
-header_begins r i c p t None h rest is e = record { following = 128 ∷ rest; octets = e ∙ ap (λ l. l ++ rest) is.3 ∙ append_assoc (identifier c p t) (128 ∷ []) rest; number = is.0; length = (is.2, refl) }
 
 pub record SameStart (c c' : Class) (p p' : Bool) (t t' : ℕ) (n n' : Option ℕ) (h h' y y' : List ℕ) : Type 0 where
   pub class : c ≡ c'

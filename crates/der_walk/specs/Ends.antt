@@ -1,5 +1,5 @@
 -- Where contents end.
-use Rattle.std.specs.Prelude.{◌≡◌, ℕ, ◌+◌, ◌-◌, ◌≤◌, min, Option, Some, None, IfSome, List, length, take, drop}
+use Rattle.std.specs.Prelude.{◌≡◌, ℕ, ◌+◌, ◌-◌, ◌≤◌, min, Bool, true, false, Option, Some, None, IfSome, List, length, take, drop}
 use Rattle.der_walk.specs.declared.content.End.{End}
 use Rattle.der_walk.specs.declared.content.End.TheVariants.{At, After, Unlimited}
 use Rattle.der_walk.specs.declared.walk.Walk.{Walk}
@@ -23,6 +23,16 @@ EndsWithin e None = Unit {0}
 abbrev pub limit_of : ℕ → Option ℕ → ℕ
 limit_of n (Some e) = min e n
 limit_of n None = n
+
+-- where the content of this length ends that begins at p, and that of an indefinite one at the latest
+abbrev pub end_from : ℕ → Option ℕ → Option ℕ → Option ℕ
+end_from p around (Some n) = Some (p + n)
+end_from p around None = around
+
+-- whether the content of this length ends at an end marker
+abbrev pub ends_at_marker : Option ℕ → Bool
+ends_at_marker (Some n) = false
+ends_at_marker None = true
 
 -- how many octets an offset is after an end
 abbrev pub overrun : ℕ → Option ℕ → ℕ

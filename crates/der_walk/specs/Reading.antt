@@ -26,7 +26,7 @@ use Rattle.der_walk.specs.declared.walk.Walk.{Walk}
 use Rattle.der_walk.specs.Visits.{Visited, Extras, VisitsOne, IsHeaderBy, IsStringFront, HoldsElement, may_break}
 use Rattle.der_walk.specs.declared.content.End.{End}
 use Rattle.der_walk.specs.declared.refusal.Refusal.{Refusal}
-use Rattle.der_walk.specs.Ends.{between, end_in, end_of, limit_of, overrun, IsWithin}
+use Rattle.der_walk.specs.Ends.{between, end_from, end_in, end_of, ends_at_marker, limit_of, overrun, IsWithin}
 use Rattle.der_walk.specs.Faults.{IsAtFault, cause_of_content, cause_of_value, place_of}
 use Rattle.der_walk.specs.Walked.{visited_of}
 
@@ -116,7 +116,7 @@ pub record ReadsHere (w : Walk) (here : List ℕ) (e : Element) : Type 0 where
   pub depth : e.depth ≡ length w.opened.items
   pub shallow : e.depth ≤ 100
   pub fits : e.header ≤ length here
-  pub some : 0 < e.header
+  pub some : 2 ≤ e.header
   pub room : IfSome e.length (λ n. IsWithin (e.offset + e.header + n) (end_of w))
   pub index : e.index ≡ w.content.visited
   pub read : IsRead (extras_of w) w.content.rules (100 - e.depth) here e
@@ -126,19 +126,9 @@ pub record ReadsHere (w : Walk) (here : List ℕ) (e : Element) : Type 0 where
 abbrev pub front_of : Element → ℕ
 front_of e = if (e.holds_der && (e.number == 3)) then 1 else 0
 
--- where the content of a length ends that begins at p, and that of an indefinite one at the latest
-abbrev pub end_from : ℕ → Option ℕ → Option ℕ → Option ℕ
-end_from p limit (Some n) = Some (p + n)
-end_from p limit None = limit
-
 -- the rules of what is inside an element
 abbrev pub rules_inside : Rules → Element → Rules
 rules_inside r e = if e.holds_der then Der else r
-
--- whether a content ends at an end marker, by its length
-abbrev pub ends_at_marker : Option ℕ → Bool
-ends_at_marker (Some n) = false
-ends_at_marker None = true
 
 -- a content in which one more element was visited
 abbrev pub count_one : Content → Content

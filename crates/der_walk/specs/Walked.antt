@@ -1,5 +1,5 @@
 -- How far a walk has come.
-use Rattle.std.specs.Prelude.{◌≡◌, ◌≢◌, ℕ, suc, ◌+◌, ◌<◌, ◌≤◌, ◌⊎◌, Bool, true, false, Option, Some, None, IfSome}
+use Rattle.std.specs.Prelude.{◌≡◌, ◌≢◌, ℕ, suc, ◌+◌, ◌<◌, ◌≤◌, ◌⊎◌, Bool, true, false, not, Option, Some, None, IfSome}
 use Rattle.std.specs.Prelude.{IsSome, nat_lt, ◌==◌, if◌then◌else◌, List, [], ◌∷◌, ◌++◌, length, map, drop, Result, Ok, Err}
 use Rattle.der_base.specs.Octets.{identifier}
 use Rattle.der_base.specs.Spelling.{end_marker}
@@ -9,10 +9,10 @@ use Rattle.der_walk.specs.declared.element.Element.{Element}
 use Rattle.der_walk.specs.declared.path.Step.{Step}
 use Rattle.der_walk.specs.declared.walk.Walk.{Walk}
 use Rattle.der_walk.specs.declared.refusal.Refusal.{Refusal}
-use Rattle.der_walk.specs.Ends.{end_in, here_of, EndsWithin, IsWithin}
+use Rattle.der_walk.specs.Ends.{end_from, end_in, ends_at_marker, here_of, EndsWithin, IsWithin}
 pub use Rattle.der_walk.specs.Ends.{between}
 use Rattle.der_walk.specs.Faults.{IsAtFault, place_of}
-use Rattle.der_walk.specs.Visits.{Visited, Extras, Visits, VisitsOne}
+use Rattle.der_walk.specs.Visits.{Visited, Extras, IsHeaderBy, Visits, VisitsOne}
 
 -- what is visited of an element
 abbrev pub visited_of : Element → Visited
@@ -49,6 +49,18 @@ abbrev pub EndsAt : List ℕ → Option ℕ → Bool → ℕ → ℕ → Type 0
 EndsAt i e m at after = ((m ≡ false) × (e ≡ Some at) × (after ≡ at))
     ⊎ ((m ≡ true) × (after ≡ at + 2) × (between i at after ≡ end_marker))
 
+-- The header of v begins at an offset, by the rules r and with k elements around it, and what is inside is visited.
+pub record BeginsAt (i : List ℕ) (r : Rules) (k start : ℕ) (v : Visited) : Type 0 where
+  pub octets : List ℕ
+  pub rest : List ℕ
+  pub split : drop start i ≡ octets ++ rest
+  pub is : IsHeaderBy r v.class v.constructed v.number v.length octets
+  pub header : v.header ≡ length octets
+  pub offset : v.offset ≡ start
+  pub depth : v.depth ≡ k
+  pub holds : v.holds_der ≡ not v.constructed
+  pub whole : v.breaks_its_type ≡ false
+
 -- The element v begins at an offset, by the rules r and with k elements around it. Its content begins at `first` and is
 -- read by the rules s. Where that ends, v and what is inside were visited, and are all of the element.
 pub record IsOpen (x : Extras) (i : List ℕ) (r : Rules) (d k start first : ℕ) (s : Rules) (e : Option ℕ) (m : Bool)
@@ -60,6 +72,7 @@ pub record IsOpen (x : Extras) (i : List ℕ) (r : Rules) (d k start first : ℕ
   pub opens : (b y : List ℕ) (us : List Visited) → drop start i ≡ b ++ y → VisitsOne x r (suc d) k start b us
       → (w z : List ℕ) × (ws : List Visited) × (drop first i ≡ w ++ z) × Visits x s d (suc k) first w ws
       × EndsAt i e m (first + length w) (start + length b)
+  pub header : BeginsAt i r k start v
   pub begins : start < first
   pub no_marker : (z : List ℕ) → drop start i ≢ end_marker ++ z
 
@@ -77,8 +90,8 @@ pub data HasWalked (x : Extras) (r : Rules) (i : List ℕ)
       → IsOpen x i o.around.rules d (length outer) start first s e m v
       → EndsWithin e (end_in (length i) o.around.end) → first ≤ at → IsWithin at e → at ≤ length i
       → Visits x s d (suc (length outer)) first (between i first at) us
-      → vs ≡ before ++ v ∷ us → (m ≡ true → e ≡ end_in (length i) o.around.end) → o.offset ≡ start
-      → HasWalked x r i d opens s e m at vs
+      → vs ≡ before ++ v ∷ us → e ≡ end_from (v.offset + v.header) (end_in (length i) o.around.end) v.length
+      → m ≡ ends_at_marker v.length → o.offset ≡ start → HasWalked x r i d opens s e m at vs
 
 -- a walk through i by these rules has visited vs so far
 pub record HasVisited (x : Extras) (r : Rules) (i : List ℕ) (w : Walk) (vs : List Visited) : Type 0 where
@@ -92,7 +105,8 @@ pub record HasVisited (x : Extras) (r : Rules) (i : List ℕ) (w : Walk) (vs : L
   pub counts : w.content.visited ≡ index_in (length w.opened.items) vs
   pub counts_around : (outer inner : List Open) (o : Open) → w.opened.items ≡ outer ++ o ∷ inner
       → o.around.visited ≡ index_in (length outer) vs
-  pub few : length vs ≤ w.at
+  -- each has two octets or more
+  pub few : length vs + length vs ≤ w.at
 
 -- the second walk has visited all that the first had
 abbrev pub KeepsVisited : Walk → Walk → Type 0

@@ -18,9 +18,9 @@ const DEPTHS: usize = MAX_DEPTH + 1;
 pub struct PageOutcome {
     /// How many elements there are, even if there is room for fewer.
     pub rows: usize,
-    /// Where the element begins that is refused. 0 if none is.
+    /// Where the element begins that is refused, or where the input ends that is cut. 0 if none is.
     pub place: usize,
-    /// How many elements are around it.
+    /// How many elements are open where the walk ends: those around it, and it itself if it lacks its end marker.
     pub depth: usize,
     /// 1 if an element is refused, else 0.
     pub refused: u32,
@@ -109,6 +109,8 @@ fn ended(rows: usize) -> PageOutcome
 /// The outcome of a walk to an element that is refused.
 fn refused(rows: usize, place: usize, depth: usize) -> PageOutcome
     ensures rows { result.rows ≡ rows }
+    ensures place { result.place ≡ place }
+    ensures depth { result.depth ≡ depth }
     ensures refused { result.refused ≡ 1 }
 {
     PageOutcome {

@@ -1,8 +1,9 @@
-use Rattle.std.proofs.Common.{◌≡◌, ℕ, ◌+◌, Option, Some, None, Result, Ok, List, [], ◌∷◌, ◌++◌, set, true, false, sym, ap, ◌∙◌, subst, inl}
+use Rattle.std.proofs.Common.{◌≡◌, ℕ, ◌+◌, Option, Some, None, Result, Ok, List, [], ◌∷◌, ◌++◌, set, true, false, sym, ap, ◌∙◌, subst, inl, inr, arith}
 use Rattle.der_walk.specs.declared.element.Element.{Element}
 use Rattle.der_walk.specs.declared.refusal.Refusal.{Refusal}
 use Rattle.der_walk.specs.Visits.{Extras, Visited, Visits}
 use Rattle.der_walk.specs.Walked.{VisitsNext, visited_of}
+use Rattle.der_walk.proofs.Steps.{within}
 use Rattle.dumarewhi_page.specs.declared.row.PageRow.{PageRow}
 use Rattle.dumarewhi_page.specs.Listed.{all_extras}
 use Rattle.dumarewhi_page.specs.Rows.{AreRows}
@@ -33,3 +34,19 @@ loop-count-preserved c =
     let Q : Visited → Type 0 = λ w. AreRows (so_far.0 ++ w ∷ []) (set c.loop-count.rows n row) (n + 1) in
     let S : List PageRow → Type 0 = λ rows. AreRows (so_far.0 ++ v ∷ []) rows (n + 1) in
     (so_far.0 ++ v ∷ [], next.0, subst S (sym c.put_row.ensures) (subst Q c.new-row.ensures (rows_more so_far.0 c.loop-count.rows n row so_far.2)))
+
+pub returns-in-Err : goal.returns-in-Err
+returns-in-Err c =
+    let so_far = c.loop-count.invariant in
+    let P : Result (Option Element) Refusal → Type 0 = λ q. VisitsNext all_extras c.args.rules c.args.input.now so_far.0 c.next_element.new.self q in
+    let is = subst P c.in-Err.is (c.next_element.ensures all_extras c.args.rules c.args.input.now so_far.0 so_far.1) in
+    let Q : ℕ → Type 0 = λ n. AreRows so_far.0 c.loop-count.rows n in
+    (so_far.0, subst Q (sym c.refused.ensures.rows) so_far.2, inr (c.refused.ensures.refused, c.next_element.new.self, c.in-Err.refusal, is, c.refused.ensures.place, c.refused.ensures.depth ∙ c.depth.ensures))
+
+-- there are fewer elements than octets, and fewer octets than that
+pub returns : goal.returns
+returns c =
+    let so_far = c.loop-count.invariant in
+    let few = so_far.1.few in
+    let place = within so_far.1.walked in
+    ?
