@@ -223,7 +223,7 @@ static const struct {
     {"30 02 00 00", NULL, DM_ERROR, 49, 2},
     {"00 00", NULL, DM_ERROR, 49, 0},
     {"30 06 30 80 02 01 05 07", NULL, DM_ERROR, 17, 7},
-    {"30 05 30 80 02 01 05", NULL, DM_ERROR, 48, 7},
+    {"30 05 30 80 02 01 05", NULL, DM_ERROR, 48, 2},
     /* 8.3.1, 8.1.2.4, 8.1.3.5, 8.23 and 8.1.3 */
     {"22 03 02 01 05", NULL, DM_ERROR, 10, 0},
     {"05 00 9f 80 01 00", NULL, DM_ERROR, 5, 2},
@@ -234,6 +234,8 @@ static const struct {
     {"30 80 05 00", NULL, DM_INCOMPLETE, 0, 2},
     {"04 05 61 62", NULL, DM_INCOMPLETE, 0, 3},
     {"02", NULL, DM_INCOMPLETE, 0, 1},
+    {"02 88 ff ff ff ff ff ff ff f6", NULL, DM_INCOMPLETE, 0, 0xfffffffffffffff6},
+    {"30 88 ff ff ff ff ff ff ff f5", NULL, DM_INCOMPLETE, 0, 0xfffffffffffffff5},
 };
 
 static void test_writings(void) {

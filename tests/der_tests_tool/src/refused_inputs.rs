@@ -59,7 +59,7 @@ a BOOLEAN isn't one octet, a NULL has some, or a BIT STRING has none (X.690 8.2.
         rules: Rules::Ber,
         input: b"\x30\x04\x30\x80\x05\x00",
         lines: "      0  2+4       SEQUENCE\n      2  2+inf       SEQUENCE\n      4  2+0           NULL\n",
-        report: "der: input: at 6, SEQUENCE[0].SEQUENCE[0]: \
+        report: "der: input: at 2, SEQUENCE[0].SEQUENCE[0]: \
 an indefinite length has no end-of-contents octets (X.690 8.1.3.6)\n",
     },
 ];
