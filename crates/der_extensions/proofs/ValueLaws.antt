@@ -1,5 +1,5 @@
 -- Kinds of extensions.
-use Rattle.std.proofs.Common.{◌≡◌, ◌≢◌, Some}
+use Rattle.std.proofs.Common.{◌≢◌, Some}
 use Rattle.der_base.specs.declared.oid.Oid.{Oid}
 use Rattle.der_values.specs.Kinds.{absolute_arcs}
 use Rattle.der_extensions.specs.declared.value.Kind.{Kind}
