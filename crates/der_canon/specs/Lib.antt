@@ -1,4 +1,5 @@
 pub mod Joined
+pub mod Laws
 pub mod Pieces
 pub mod Same
 pub mod Sizes

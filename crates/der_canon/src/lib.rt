@@ -7,6 +7,7 @@ mod content;
 mod elements;
 mod error;
 mod joined;
+pub mod laws;
 mod octets;
 mod piece;
 mod size;
