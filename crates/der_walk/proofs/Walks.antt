@@ -39,7 +39,7 @@ nothing_visited z (one_more b rest us ws ei ev one more) e = absurd (omega (arit
 pub nothing_walked : {x : Extras} (z : Extras) {r : Rules} {i : List ℕ} {d : ℕ} {opens : List Open} {s : Rules} {e : Option ℕ} {m : Bool} {at : ℕ} {vs : List Visited} → HasWalked x r i d opens s e m at vs → vs ≡ []
     → HasWalked z r i d opens s e m at vs
 nothing_walked z (outermost ed eo es he ha v) q = outermost ed eo es he ha (nothing_visited z v q)
-nothing_walked z (inside outer o start first before us v eo w is he hf ha hl vis ev el em ef) q = absurd (omega (arith, ap length (sym ev ∙ q), length-append before (v ∷ us)))
+nothing_walked z (inside outer o start first before us v eo w is he hf ha hl vis ev el em ef es) q = absurd (omega (arith, ap length (sym ev ∙ q), length-append before (v ∷ us)))
 
 -- at the end
 pub all_visited : {x : Extras} {r : Rules} {i : List ℕ} {d : ℕ} {opens : List Open} {s : Rules} {e : Option ℕ} {m : Bool} {at : ℕ} {vs : List Visited} → HasWalked x r i d opens s e m at vs → opens ≡ []
@@ -48,7 +48,7 @@ all_visited {x} {r} {i} {d} {opens} {s} {e} {m} {at} {vs} (outermost ed eo es he
     let limit : limit_of (length i) e ≡ length i = ap (λ q. limit_of (length i) q) he in
     let ended : length i ≤ at = omega (arith, z, limit, length-between i at (limit_of (length i) e) (limit_size (length i) e)) in
     subst (λ l. Visits x r 101 0 0 l vs) (between_all i at ended) (subst (λ n. Visits x r n 0 0 (between i 0 at) vs) ed v)
-all_visited (inside outer o start first before us v eo w is he hf ha hl vis ev el em ef) q z = absurd (omega (arith, ap length (sym eo ∙ q), length-append outer (o ∷ [])))
+all_visited (inside outer o start first before us v eo w is he hf ha hl vis ev el em ef es) q z = absurd (omega (arith, ap length (sym eo ∙ q), length-append outer (o ∷ [])))
 
 pub ended : (x : Extras) (r : Rules) (i : List ℕ) (vs : List Visited) (w : Walk) → HasVisited x r i w vs → length (here_of w) ≡ 0 → length w.opened.items ≡ 0 → Visits x r 101 0 0 i vs
 ended x r i vs w has z n =
@@ -142,6 +142,7 @@ visited_next x r i vs w w' here e size has eh reads pass =
       depth = reads.depth;
       shallow = reads.shallow;
       some = reads.some;
+      index = reads.index;
       room = reads.room;
       read = subst (λ z. IsRead z w.content.rules (100 - e.depth) (here_of w) e) (extras_same x w has.enters has.keeps) (subst (λ l. IsRead (extras_of w) w.content.rules (100 - e.depth) l e) eh reads.read);
     }
