@@ -125,10 +125,10 @@ fits_front w here e eh reads some size = of reads.read
 
 -- the walk goes on after an element
 pub visited_next : (x : Extras) (r : Rules) (i : List ℕ) (vs : List Visited) (w w' : Walk) (here : List ℕ) (e : Element) → length w.input.now < 2 ^ 64 → HasVisited x r i w vs → here ≡ here_of w → ReadsHere w here e → Passes w e w'
-    → HasVisited x r i w' (vs ++ visited_of e ∷ []) × HasOctets i e × (e.index ≡ index_in e.depth vs)
+    → HasVisited x r i w' (vs ++ visited_of e ∷ []) × HasOctets i e × (e.index ≡ index_in e.depth vs) × (e.depth ≤ 100)
 visited_next x r i vs w w' here e size has eh reads pass =
-    subst (λ l. HasVisited x r l w' (vs ++ visited_of e ∷ []) × HasOctets l e × (e.index ≡ index_in e.depth vs)) has.input
-    (passes x r w w' vs e size here_has known pass, octets, reads.index ∙ has.counts ∙ ap (λ k. index_in k vs) (sym reads.depth))
+    subst (λ l. HasVisited x r l w' (vs ++ visited_of e ∷ []) × HasOctets l e × (e.index ≡ index_in e.depth vs) × (e.depth ≤ 100)) has.input
+    (passes x r w w' vs e size here_has known pass, octets, reads.index ∙ has.counts ∙ ap (λ k. index_in k vs) (sym reads.depth), reads.shallow)
   where
     here_has : HasVisited x r w.input.now w vs
     here_has = subst (λ l. HasVisited x r l w vs) (sym has.input) has

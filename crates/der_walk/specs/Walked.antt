@@ -137,6 +137,6 @@ pub record IsRefused (x : Extras) (r : Rules) (i : List ℕ) (vs : List Visited)
 -- visited of them. Or it is refused.
 abbrev pub VisitsNext : Extras → Rules → List ℕ → List Visited → Walk → Result (Option Element) Refusal → Type 0
 VisitsNext x r i vs w (Ok (Some e)) = HasVisited x r i w (vs ++ visited_of e ∷ []) × HasOctets i e
-    × (e.index ≡ index_in e.depth vs)
+    × (e.index ≡ index_in e.depth vs) × (e.depth ≤ 100)
 VisitsNext x r i vs w (Ok None) = Visits x r 101 0 0 i vs
 VisitsNext x r i vs w (Err f) = IsRefused x r i vs w f
