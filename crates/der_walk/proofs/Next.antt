@@ -14,6 +14,7 @@ use Rattle.der_walk.specs.Visits.{Visited, Extras, IsHeaderBy, HoldsElement, Vis
 use Rattle.std.specs.Prelude.{IfSome}
 use Rattle.der_walk.specs.declared.content.End.{End}
 use Rattle.der_walk.specs.Ends.{end_from, ends_at_marker, between, end_in, end_of, here_of, limit_of, EndsWithin, IsWithin}
+use Rattle.der_walk.specs.Faults.{IsStep}
 use Rattle.der_walk.specs.Walked.{visited_of, index_in, BeginsAt, EndsAt, IsOpen, HasWalked, HasVisited}
 use Rattle.der_walk.specs.Reading.{IsRead, whole, list, Passes, GoesInto, GoesOn, count_one, front_of, rules_inside}
 use Rattle.der_walk.specs.Reading.{string as read_string}
@@ -226,6 +227,7 @@ pub record Reads (x : Extras) (w : Walk) (e : Element) : Type 0 where
   pub depth : e.depth ≡ length w.opened.items
   pub shallow : e.depth ≤ 100
   pub some : 2 ≤ e.header
+  pub index : e.index ≡ w.content.visited
   pub room : IfSome e.length (λ n. IsWithin (e.offset + e.header + n) (end_of w))
   pub read : IsRead x w.content.rules (100 - e.depth) (here_of w) e
 
@@ -309,7 +311,7 @@ passes x r w w' vs e size has reads pass = of reads.read pass
         let is2 = subst (λ k. IsOpen x i w.content.rules (100 - e.depth) (length w.opened.items) k first s en m (visited_of e)) reads.offset is1 in
         let is3 = subst (λ q. IsOpen x i q (100 - e.depth) (length w.opened.items) w.at first s en m (visited_of e)) (sym (ap (λ c. c.rules) g.around)) is2 in
         let fits = subst (λ q. EndsWithin en q) (sym around) (ends_within (e.offset + e.header) (end_of w) e.length reads.room) in
-        let next = go_into (w.opened.items ++ o ∷ []) o first s en m (visited_of e) base refl is3 fits h2 h3 (ap (λ q. end_from (e.offset + e.header) q e.length) (sym around)) refl (g.offset ∙ reads.offset) in
+        let next = go_into (w.opened.items ++ o ∷ []) o first s en m (visited_of e) base refl is3 fits h2 h3 (ap (λ q. end_from (e.offset + e.header) q e.length) (sym around)) refl (g.offset ∙ reads.offset) (subst (λ n. IsStep o.step e.class e.number n) (reads.index ∙ has.counts) g.step) in
         let k : length w'.opened.items ≡ suc (length w.opened.items) = omega (arith, ap length g.opens, length-append w.opened.items (o ∷ [])) in
         record {
           input = g.input;

@@ -1,6 +1,7 @@
 -- Where a walk is refused, no walk goes to the end of the input.
-use Rattle.std.proofs.Common.{◌≡◌, ◌≢◌, ℕ, ◌+◌, ◌-◌, ◌<◌, ◌≤◌, ◌⊎◌, ◌==◌, if◌then◌else◌, Bool, true, false, IsTrue, List, [], ◌∷◌, ◌++◌, length, drop, Some, None, Result, Ok, Err, refl, sym, ap, subst, ◌∙◌, arith, append_assoc, length-append, length-drop, inl, inr}
+use Rattle.std.proofs.Common.{◌≡◌, ◌≢◌, ℕ, ◌+◌, ◌-◌, ◌<◌, ◌≤◌, ◌⊎◌, ◌==◌, if◌then◌else◌, Bool, true, false, IsTrue, List, [], ◌∷◌, ◌++◌, length, drop, Option, Some, None, Result, Ok, Err, refl, sym, ap, subst, ◌∙◌, arith, append_assoc, length-append, length-drop, inl, inr}
 use Rattle.std.specs.Borrow.{Bor}
+use Rattle.std.specs.Prelude.{IsSomeAnd}
 use Rattle.std.proofs.lemmas.List.{nil_from_length}
 use Rattle.der_base.specs.declared.error.Err.{Err as Refused}
 use Rattle.der_base.specs.declared.error.Err.TheVariants.{Incomplete, Error, Failure, OutOfMemory}
@@ -26,10 +27,11 @@ use Rattle.der_walk.specs.declared.cause.Cause.TheVariants.{Cut, PastEnd, TooDee
 use Rattle.der_walk.specs.declared.content.End.{End}
 use Rattle.der_walk.specs.declared.content.End.TheVariants.{At, After, Unlimited}
 use Rattle.der_walk.specs.declared.element.Element.{Element}
+use Rattle.der_walk.specs.declared.path.Step.{Step}
 use Rattle.der_walk.specs.declared.refusal.Refusal.{Refusal}
 use Rattle.der_walk.specs.declared.walk.Walk.{Walk}
 use Rattle.der_walk.specs.Ends.{between, end_of, here_of, limit_of, overrun, IsWithin}
-use Rattle.der_walk.specs.Faults.{ended, header, content, too_deep, string, constructed, marker, value, cause_of_content, cause_of_end, cause_of_header, cause_of_lack, cause_of_value, content_at, ends_inside, missing_in, place_of}
+use Rattle.der_walk.specs.Faults.{IsLastStep, IsStep, ended, header, content, too_deep, string, constructed, marker, value, cause_of_content, cause_of_end, cause_of_header, cause_of_lack, cause_of_value, content_at, ends_inside, missing_in, place_of}
 use Rattle.der_walk.specs.Visits.{Visited, Extras, Visits, VisitsOne, none, one_more, primitive, broken, indefinite, may_break}
 use Rattle.der_walk.specs.Visits.{string as visits_string, constructed as visits_constructed}
 use Rattle.der_walk.specs.Walked.{EndsAt, HasVisited, IsRefused}
@@ -37,7 +39,7 @@ use Rattle.der_walk.specs.Reading.{BeginsNone, EndsHere, FailsCheck, FailsConstr
 use Rattle.der_walk.proofs.Between.{between_more, front_of_between}
 use Rattle.der_walk.proofs.ElementReads.{broken_not_zero}
 use Rattle.der_walk.proofs.Ends.{is_reached, limit_least, limit_size}
-use Rattle.der_walk.proofs.Headers.{spells_parts}
+use Rattle.der_walk.proofs.Headers.{header_two, spells_parts}
 use Rattle.der_walk.proofs.OneVisit.{one_nonempty}
 use Rattle.der_walk.proofs.Rest.{no_limit, rest_of}
 use Rattle.der_walk.proofs.Steps.{open_depth, within}
@@ -134,22 +136,28 @@ placed : (w : Walk) (f : Refusal) (c : Cause) → place_of w c ≡ w.at → f.ca
 placed w f c p e q = q ∙ sym p ∙ ap (λ z. place_of w z) (sym e)
 
 -- without a header
-pub refuses_header : (w : Walk) (here : List ℕ) (e : Refused BerError) (f : Refusal) → AnswersHeader w.content.rules here (Err e) → f.cause ≡ cause_of_header w e → f.offset ≡ w.at → Refuses w here f
-refuses_header w here e f a ec eo = record {
+pub refuses_header : (w : Walk) (here : List ℕ) (e : Refused BerError) (f : Refusal) → AnswersHeader w.content.rules here (Err e) → f.cause ≡ cause_of_header w e → f.offset ≡ w.at → f.step ≡ None → Refuses w here f
+refuses_header w here e f a ec eo es = record {
   none = λ d b rest us k q one. let (v, spells, z) = one_fits here rest q one in header_refused w.content.rules here e v a spells;
   fault = header e a ec;
   place = placed w f (cause_of_header w e) (at_header w e) ec eo;
+  step = subst (λ q. IsLastStep w here q) (sym es) (λ v spells. header_refused w.content.rules here e v a spells);
 }
 
 -- without octets
-pub refuses_end : (w : Walk) (here : List ℕ) (f : Refusal) → here ≡ [] → f.cause ≡ cause_of_end w → f.offset ≡ place_of w f.cause → Refuses w here f
-refuses_end w here f e ec eo = record { none = λ d b rest us k q one. one_nonempty rest one (sym e ∙ q); fault = ended e ec; place = eo }
+pub refuses_end : (w : Walk) (here : List ℕ) (f : Refusal) → here ≡ [] → f.cause ≡ cause_of_end w → f.offset ≡ place_of w f.cause → f.step ≡ None → Refuses w here f
+refuses_end w here f e ec eo es = record {
+  none = λ d b rest us k q one. one_nonempty rest one (sym e ∙ q);
+  fault = ended e ec;
+  place = eo;
+  step = subst (λ q. IsLastStep w here q) (sym es) (λ v spells. absurd (omega (arith, ap length e, header_two w.content.rules here v spells)));
+}
 
 definite_back : (l : Length) (n : ℕ) → definite_of l ≡ Some n → l ≡ Definite n
 definite_back (Definite m) n e = (cc)
 definite_back Indefinite n e = absurd (cc)
 
-module _ (w : Walk) (here : List ℕ) (y : Bor (List ℕ) × Header) (j : ℕ) (e : Element) (f : Refusal) (a : AnswersHeader w.content.rules here (Ok y)) (s : StartsWith y.1 (length here - length y.0.now) w.at (length w.opened.items) j e)
+module _ (w : Walk) (here : List ℕ) (y : Bor (List ℕ) × Header) (e : Element) (f : Refusal) (a : AnswersHeader w.content.rules here (Ok y)) (s : StartsWith y.1 (length here - length y.0.now) w.at (length w.opened.items) w.content.visited e)
   where
     abbrev v : LeadingHeader
     v = leading_header y
@@ -160,6 +168,10 @@ module _ (w : Walk) (here : List ℕ) (y : Bor (List ℕ) × Header) (j : ℕ) (
     at : e.offset + e.header ≡ content_at w here v
     at = (let o = s.offset in let h = s.header in omega (arith, o, h))
 
+    step_of : (o : Option Step) → IsSomeAnd o (λ z. IsStep z e.class e.number e.index) → IsLastStep w here o
+    step_of None z = absurd z
+    step_of (Some z) g = (v, spells, record { class = g.class ∙ s.class; number = g.number ∙ s.number; index = g.index ∙ s.index })
+
     -- a content that ends too late
     pub refuses_content : LacksContent w y.0.now e f → Refuses w here f
     refuses_content l =
@@ -169,14 +181,16 @@ module _ (w : Walk) (here : List ℕ) (y : Bor (List ℕ) × Header) (j : ℕ) (
           none = λ d b rest us k q one. let z = (fits here rest y a q one).room l.size is in absurd (omega (arith, z, l.lacks));
           fault = content v l.size spells is l.lacks (λ p z. l.past (s.constructed ∙ p) (ap (λ n. overrun (n + l.size) (end_of w)) at ∙ z)) cause;
           place = placed w f _ (at_content w (content_at w here v + l.size) (l.size - length y.0.now)) cause (l.offset ∙ s.offset);
+          step = step_of f.step l.step;
         }
 
     -- an element that is too deep
-    pub refuses_depth : 100 < e.depth → f.cause ≡ TooDeep → f.offset ≡ e.offset → Refuses w here f
-    refuses_depth deep ec eo = record {
+    pub refuses_depth : 100 < e.depth → f.cause ≡ TooDeep → f.offset ≡ e.offset → IsSomeAnd f.step (λ z. IsStep z e.class e.number e.index) → Refuses w here f
+    refuses_depth deep ec eo es = record {
       none = λ d b rest us k q one. (let z = deep_enough one in let g = s.depth in absurd (omega (arith, z, k, g, deep)));
       fault = too_deep v spells (let g = s.depth in omega (arith, g, deep)) ec;
       place = placed w f TooDeep refl ec (eo ∙ s.offset);
+      step = step_of f.step es;
     }
 
     list_of : MayBeConstructed w.content.rules v.class v.number → MayBeConstructed w.content.rules e.class e.number
@@ -221,21 +235,25 @@ module _ (w : Walk) (here : List ℕ) (y : Bor (List ℕ) × Header) (j : ℕ) (
           none = none_of (not_list p bad);
           fault = string v spells (sym s.constructed ∙ p) (λ m. bad (list_of m)) (of_list may) ec;
           place = placed w f _ refl ec at_e;
+          step = step_of f.step g.step;
         }
         of (inl (p, bad, inr (never, ec))) = record {
           none = none_of (not_list p bad);
           fault = constructed v spells (sym s.constructed ∙ p) (λ m. never (ber_list m)) ec;
           place = placed w f _ refl ec at_e;
+          step = step_of f.step g.step;
         }
         of (inr (p, inl (eu, en, ec))) = record {
           none = none_of (not_marker p eu en);
           fault = marker v spells (sym s.constructed ∙ p) (sym s.class ∙ eu) (sym s.number ∙ en) ec;
           place = placed w f _ refl ec at_e;
+          step = step_of f.step g.step;
         }
         of (inr (p, inr (bad, never, found, af, ec))) = record {
           none = none_of (not_value p bad never);
           fault = value v found spells (sym s.constructed ∙ p) af bad ec;
           place = placed w f _ (at_value w found) ec at_e;
+          step = step_of f.step g.step;
         }
 
 -- the octets here begin with an element that is visited next, if the walk goes to the end
@@ -273,7 +291,7 @@ goes_on w x d octets others us stays top h q (one_more b rest us1 ws1 ei ev one 
 
 pub refused : (x : Extras) (r : Rules) (i : List ℕ) (vs : List Visited) (w : Walk) (f : Refusal) → HasVisited x r i w vs → StaysOpen w → (w.opened.items ≡ [] → here_of w ≡ [] → ⊥) → Refuses w (here_of w) f
     → IsRefused x r i vs w f
-refused x r i vs w f has stays some g = record { visited = has; never = never; fault = g.fault; place = g.place }
+refused x r i vs w f has stays some g = record { visited = has; never = never; fault = g.fault; place = g.place; step = g.step }
   where
     here_has : HasVisited x r w.input.now w vs
     here_has = subst (λ l. HasVisited x r l w vs) (sym has.input) has

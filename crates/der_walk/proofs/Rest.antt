@@ -22,7 +22,7 @@ pub record Rest (x : Extras) (i : List ℕ) (s : Rules) (d : ℕ) (opens : List 
 
 pub no_limit : {x : Extras} {r : Rules} {i : List ℕ} {d : ℕ} {opens : List Open} {s : Rules} {e : Option ℕ} {m : Bool} {at : ℕ} {vs : List Visited} → HasWalked x r i d opens s e m at vs → opens ≡ [] → e ≡ None
 no_limit (outermost ed eo es he ha v) q = he
-no_limit (inside outer o start first before us v eo w is he hf ha hl vis ev el em ef) q = absurd (omega (arith, ap length (sym eo ∙ q), length-append outer (o ∷ [])))
+no_limit (inside outer o start first before us v eo w is he hf ha hl vis ev el em ef es) q = absurd (omega (arith, ap length (sym eo ∙ q), length-append outer (o ∷ [])))
 
 -- a content has octets where an element is open
 no_end : (i : List ℕ) (outer : List Open) (e : Option ℕ) (m : Bool) (start at : ℕ) (others : List ℕ) → start < at → at ≤ length i → IsWithin at e → ((z : List ℕ) → drop start i ≡ end_marker ++ z → ⊥) → drop start i ≡ others
@@ -102,7 +102,7 @@ rest_of {x} {r} {i} {d} {opens} {s} {e} {m} {at} (outermost ed eo es he ha v) us
       visits = subst (λ q. Visits x q d (length opens) at left.octets left.visited) (sym es) (subst (λ q. Visits x r d q at left.octets left.visited) k vis);
       ends = inl (eo, refl);
     }
-rest_of {x} {r} {i} {d} {opens} {s} {e} {m} {at} (inside outer o start first before ws v eo w is he hf ha hl vis ev el em ef) us all =
+rest_of {x} {r} {i} {d} {opens} {s} {e} {m} {at} (inside outer o start first before ws v eo w is he hf ha hl vis ev el em ef es) us all =
     let around = rest_of w us all in
     let k : length opens ≡ suc (length outer) = omega (arith, ap length eo, length-append outer (o ∷ [])) in
     inner {x = x} {i = i} {d = d} {s = s} {e = e} {m = m} {at = at} opens outer o start first ws v around.octets around.others around.visited k is he hf ha hl vis (λ q. el ∙ same_end (v.offset + v.header) (end_in (length i) o.around.end) v.length (sym em ∙ q)) (no_limit w) around.split around.visits around.ends

@@ -39,7 +39,7 @@ nothing_visited z (one_more b rest us ws ei ev one more) e = absurd (omega (arit
 pub nothing_walked : {x : Extras} (z : Extras) {r : Rules} {i : List ℕ} {d : ℕ} {opens : List Open} {s : Rules} {e : Option ℕ} {m : Bool} {at : ℕ} {vs : List Visited} → HasWalked x r i d opens s e m at vs → vs ≡ []
     → HasWalked z r i d opens s e m at vs
 nothing_walked z (outermost ed eo es he ha v) q = outermost ed eo es he ha (nothing_visited z v q)
-nothing_walked z (inside outer o start first before us v eo w is he hf ha hl vis ev el em ef) q = absurd (omega (arith, ap length (sym ev ∙ q), length-append before (v ∷ us)))
+nothing_walked z (inside outer o start first before us v eo w is he hf ha hl vis ev el em ef es) q = absurd (omega (arith, ap length (sym ev ∙ q), length-append before (v ∷ us)))
 
 -- at the end
 pub all_visited : {x : Extras} {r : Rules} {i : List ℕ} {d : ℕ} {opens : List Open} {s : Rules} {e : Option ℕ} {m : Bool} {at : ℕ} {vs : List Visited} → HasWalked x r i d opens s e m at vs → opens ≡ []
@@ -48,7 +48,7 @@ all_visited {x} {r} {i} {d} {opens} {s} {e} {m} {at} {vs} (outermost ed eo es he
     let limit : limit_of (length i) e ≡ length i = ap (λ q. limit_of (length i) q) he in
     let ended : length i ≤ at = omega (arith, z, limit, length-between i at (limit_of (length i) e) (limit_size (length i) e)) in
     subst (λ l. Visits x r 101 0 0 l vs) (between_all i at ended) (subst (λ n. Visits x r n 0 0 (between i 0 at) vs) ed v)
-all_visited (inside outer o start first before us v eo w is he hf ha hl vis ev el em ef) q z = absurd (omega (arith, ap length (sym eo ∙ q), length-append outer (o ∷ [])))
+all_visited (inside outer o start first before us v eo w is he hf ha hl vis ev el em ef es) q z = absurd (omega (arith, ap length (sym eo ∙ q), length-append outer (o ∷ [])))
 
 pub ended : (x : Extras) (r : Rules) (i : List ℕ) (vs : List Visited) (w : Walk) → HasVisited x r i w vs → length (here_of w) ≡ 0 → length w.opened.items ≡ 0 → Visits x r 101 0 0 i vs
 ended x r i vs w has z n =
@@ -125,10 +125,10 @@ fits_front w here e eh reads some size = of reads.read
 
 -- the walk goes on after an element
 pub visited_next : (x : Extras) (r : Rules) (i : List ℕ) (vs : List Visited) (w w' : Walk) (here : List ℕ) (e : Element) → length w.input.now < 2 ^ 64 → HasVisited x r i w vs → here ≡ here_of w → ReadsHere w here e → Passes w e w'
-    → HasVisited x r i w' (vs ++ visited_of e ∷ []) × HasOctets i e × (e.index ≡ index_in e.depth vs)
+    → HasVisited x r i w' (vs ++ visited_of e ∷ []) × HasOctets i e × (e.index ≡ index_in e.depth vs) × (e.depth ≤ 100)
 visited_next x r i vs w w' here e size has eh reads pass =
-    subst (λ l. HasVisited x r l w' (vs ++ visited_of e ∷ []) × HasOctets l e × (e.index ≡ index_in e.depth vs)) has.input
-    (passes x r w w' vs e size here_has known pass, octets, reads.index ∙ has.counts ∙ ap (λ k. index_in k vs) (sym reads.depth))
+    subst (λ l. HasVisited x r l w' (vs ++ visited_of e ∷ []) × HasOctets l e × (e.index ≡ index_in e.depth vs) × (e.depth ≤ 100)) has.input
+    (passes x r w w' vs e size here_has known pass, octets, reads.index ∙ has.counts ∙ ap (λ k. index_in k vs) (sym reads.depth), reads.shallow)
   where
     here_has : HasVisited x r w.input.now w vs
     here_has = subst (λ l. HasVisited x r l w vs) (sym has.input) has
@@ -142,6 +142,7 @@ visited_next x r i vs w w' here e size has eh reads pass =
       depth = reads.depth;
       shallow = reads.shallow;
       some = reads.some;
+      index = reads.index;
       room = reads.room;
       read = subst (λ z. IsRead z w.content.rules (100 - e.depth) (here_of w) e) (extras_same x w has.enters has.keeps) (subst (λ l. IsRead (extras_of w) w.content.rules (100 - e.depth) l e) eh reads.read);
     }

@@ -6,6 +6,7 @@ use Rattle.der_base.specs.declared.error.Err.{Err as Refused}
 use Rattle.der_base.specs.declared.error.Err.TheVariants.{Incomplete, Error, Failure, OutOfMemory}
 use Rattle.der_base.specs.declared.error.Error.{Error as BerError}
 use Rattle.der_base.specs.declared.error.Needed.TheVariants.{Unknown, Size}
+use Rattle.der_base.specs.declared.header.Class.{Class}
 use Rattle.der_base.specs.declared.header.Class.TheVariants.{Universal}
 use Rattle.der_base.specs.declared.header.Length.TheVariants.{Definite}
 use Rattle.der_base.specs.declared.rules.Rules.TheVariants.{Ber}
@@ -19,6 +20,7 @@ use Rattle.der_walk.specs.declared.cause.Cause.TheVariants.{Constructed, Constru
 use Rattle.der_walk.specs.declared.content.End.{End}
 use Rattle.der_walk.specs.declared.content.End.TheVariants.{At, After, Unlimited}
 use Rattle.der_walk.specs.declared.content.Open.{Open}
+use Rattle.der_walk.specs.declared.path.Step.{Step}
 use Rattle.der_walk.specs.declared.walk.Walk.{Walk}
 use Rattle.der_walk.specs.Ends.{end_of, overrun}
 
@@ -106,6 +108,18 @@ pub data IsAtFault (w : Walk) (here : List ℕ) : Cause → Type 0 where
   value : {c : Cause} (v : LeadingHeader) (found : Result (Bor (List ℕ) × ℕ) (Refused BerError))
       → SpellsHeaderBy w.content.rules here v → v.constructed ≡ false → AnswersOneElement w.content.rules here found
       → ((rest : List ℕ) → ¬ BeginsWithOne w.content.rules here rest) → c ≡ cause_of_value found → IsAtFault w here c
+
+-- the step of a path to an element of this class and number, of which so many precede it in the same content
+pub record IsStep (s : Step) (c : Class) (t n : ℕ) : Type 0 where
+  pub class : s.name.class ≡ c
+  pub number : s.name.number ≡ t
+  pub index : s.index ≡ n
+
+-- the last step of the path to what is refused: that of the element here, if its header is read
+abbrev pub IsLastStep : Walk → List ℕ → Option Step → Type 0
+IsLastStep w here (Some s) = (v : LeadingHeader) × SpellsHeaderBy w.content.rules here v
+    × IsStep s v.class v.number w.content.visited
+IsLastStep w here None = (v : LeadingHeader) → ¬ SpellsHeaderBy w.content.rules here v
 
 -- where the innermost element begins that is open
 abbrev pub offset_or : ℕ → Option Open → ℕ

@@ -27,7 +27,7 @@ use Rattle.der_walk.specs.Visits.{Visited, Extras, VisitsOne, IsHeaderBy, IsStri
 use Rattle.der_walk.specs.declared.content.End.{End}
 use Rattle.der_walk.specs.declared.refusal.Refusal.{Refusal}
 use Rattle.der_walk.specs.Ends.{between, end_from, end_in, end_of, ends_at_marker, limit_of, overrun, IsWithin}
-use Rattle.der_walk.specs.Faults.{IsAtFault, cause_of_content, cause_of_value, place_of}
+use Rattle.der_walk.specs.Faults.{IsAtFault, IsLastStep, IsStep, cause_of_content, cause_of_value, place_of}
 use Rattle.der_walk.specs.Walked.{visited_of}
 
 -- the number of octets of a length that is definite
@@ -148,6 +148,7 @@ pub record GoesInto (w : Walk) (e : Element) (place : ℕ) (limit : End) (w' : W
   pub opens : w'.opened.items ≡ w.opened.items ++ opened ∷ []
   pub around : opened.around ≡ w.content
   pub offset : opened.offset ≡ e.offset
+  pub step : IsStep opened.step e.class e.number e.index
 
 -- the walk went on to an offset in the same content, in which one more element is counted
 pub record GoesOn (w : Walk) (place : ℕ) (w' : Walk) : Type 0 where
@@ -177,6 +178,7 @@ pub record Refuses (w : Walk) (here : List ℕ) (f : Refusal) : Type 0 where
   pub none : BeginsNone w here
   pub fault : IsAtFault w here f.cause
   pub place : f.offset ≡ place_of w f.cause
+  pub step : IsLastStep w here f.step
 
 -- the content of e ends after that around it, or e is primitive and not all of its content is here
 pub record LacksContent (w : Walk) (here : List ℕ) (e : Element) (f : Refusal) : Type 0 where
@@ -186,6 +188,7 @@ pub record LacksContent (w : Walk) (here : List ℕ) (e : Element) (f : Refusal)
   pub past : e.constructed ≡ true → overrun (e.offset + e.header + size) (end_of w) ≢ 0
   pub cause : f.cause ≡ cause_of_content w (e.offset + e.header + size) (size - length here)
   pub offset : f.offset ≡ e.offset
+  pub step : IsSomeAnd f.step (λ s. IsStep s e.class e.number e.index)
 
 -- a value is visited that breaks its type
 abbrev pub Keeps : Walk → Element → Type 0
@@ -208,3 +211,4 @@ FailsPrimitive w here e c = (e.constructed ≡ false) × (((e.class ≡ Universa
 pub record FailsCheck (w : Walk) (here : List ℕ) (e : Element) (f : Refusal) : Type 0 where
   pub fails : FailsConstructed w.content.rules e f.cause ⊎ FailsPrimitive w here e f.cause
   pub offset : f.offset ≡ e.offset
+  pub step : IsSomeAnd f.step (λ s. IsStep s e.class e.number e.index)

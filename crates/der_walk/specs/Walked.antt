@@ -11,7 +11,7 @@ use Rattle.der_walk.specs.declared.walk.Walk.{Walk}
 use Rattle.der_walk.specs.declared.refusal.Refusal.{Refusal}
 use Rattle.der_walk.specs.Ends.{end_from, end_in, ends_at_marker, here_of, EndsWithin, IsWithin}
 pub use Rattle.der_walk.specs.Ends.{between}
-use Rattle.der_walk.specs.Faults.{IsAtFault, place_of}
+use Rattle.der_walk.specs.Faults.{IsAtFault, IsLastStep, IsStep, place_of}
 use Rattle.der_walk.specs.Visits.{Visited, Extras, IsHeaderBy, Visits, VisitsOne}
 
 -- what is visited of an element
@@ -91,7 +91,8 @@ pub data HasWalked (x : Extras) (r : Rules) (i : List ℕ)
       → EndsWithin e (end_in (length i) o.around.end) → first ≤ at → IsWithin at e → at ≤ length i
       → Visits x s d (suc (length outer)) first (between i first at) us
       → vs ≡ before ++ v ∷ us → e ≡ end_from (v.offset + v.header) (end_in (length i) o.around.end) v.length
-      → m ≡ ends_at_marker v.length → o.offset ≡ start → HasWalked x r i d opens s e m at vs
+      → m ≡ ends_at_marker v.length → o.offset ≡ start
+      → IsStep o.step v.class v.number (index_in (length outer) before) → HasWalked x r i d opens s e m at vs
 
 -- a walk through i by these rules has visited vs so far
 pub record HasVisited (x : Extras) (r : Rules) (i : List ℕ) (w : Walk) (vs : List Visited) : Type 0 where
@@ -130,11 +131,12 @@ pub record IsRefused (x : Extras) (r : Rules) (i : List ℕ) (vs : List Visited)
   -- what is wrong, and where
   pub fault : IsAtFault w (here_of w) f.cause
   pub place : f.offset ≡ place_of w f.cause
+  pub step : IsLastStep w (here_of w) f.step
 
 -- After vs the walk visits one more element, or there is none: then the input is elements, and these were all that is
 -- visited of them. Or it is refused.
 abbrev pub VisitsNext : Extras → Rules → List ℕ → List Visited → Walk → Result (Option Element) Refusal → Type 0
 VisitsNext x r i vs w (Ok (Some e)) = HasVisited x r i w (vs ++ visited_of e ∷ []) × HasOctets i e
-    × (e.index ≡ index_in e.depth vs)
+    × (e.index ≡ index_in e.depth vs) × (e.depth ≤ 100)
 VisitsNext x r i vs w (Ok None) = Visits x r 101 0 0 i vs
 VisitsNext x r i vs w (Err f) = IsRefused x r i vs w f

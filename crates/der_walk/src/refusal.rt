@@ -1,5 +1,6 @@
 //! Where and why a walk ends before its input does.
-ghost use Rattle.std.specs.Prelude.{◌≡◌, None};
+ghost use Rattle.std.specs.Prelude.{◌≡◌, IsSomeAnd, None};
+ghost use Rattle.der_walk.specs.Faults.{IsStep};
 
 use crate::cause::Cause;
 use crate::element::Element;
@@ -31,6 +32,7 @@ impl Refusal {
     pub(crate) fn of(element: &Element<'_>, cause: Cause) -> Refusal
         ensures offset { result.offset ≡ element.now.offset }
         ensures cause { result.cause ≡ cause }
+        ensures step { IsSomeAnd result.step (λ s. IsStep s element.now.class element.now.number element.now.index) }
     {
         Refusal {
             offset: element.offset,

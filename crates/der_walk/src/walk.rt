@@ -1,7 +1,7 @@
 //! The walk.
 ghost use Rattle.der_base.specs.Header.{length_of as length_in};
 ghost use Rattle.der_walk.specs.Reading.{definite_of};
-ghost use Rattle.std.specs.Prelude.{◌≡◌, ◌+◌, ◌^◌, ◌<◌, ◌≤◌, ◌↔◌, ℕ, IfErr, IfOk, IfSome, IsTrue, MatchOption, false, true};
+ghost use Rattle.std.specs.Prelude.{◌≡◌, ◌+◌, ◌^◌, ◌<◌, ◌≤◌, ◌↔◌, ℕ, IfErr, IfOk, IfSome, IsTrue, MatchOption, None, false, true};
 ghost use Rattle.std.specs.Prelude.{◌++◌, List, Result, length, []};
 ghost use Rattle.std.specs.Borrow.{Bor};
 ghost use Rattle.der_base.specs.declared.error.Err.{Err as Refused};
@@ -388,6 +388,7 @@ impl<'a> Walk<'a> {
     fn refuse_end(&self) -> Refusal
         ensures cause { result.cause ≡ cause_of_end self.now }
         ensures place { result.offset ≡ place_of self.now result.cause }
+        ensures step { result.step ≡ None }
     {
         match self.content.end {
             End::At(_) if self.content.has_marker => {
@@ -411,6 +412,7 @@ impl<'a> Walk<'a> {
     fn refuse_header(&self, e: Refused<BerError>) -> Refusal
         ensures cause { result.cause ≡ cause_of_header self.now e }
         ensures place { result.offset ≡ self.now.at }
+        ensures step { result.step ≡ None }
     {
         let cause = match e {
             Refused::Incomplete(Needed::Size(missing)) => self.lacks(missing),

@@ -6,7 +6,7 @@ use Rattle.der_walk.proofs.walk.Walk.check_primitive.Goals as goal
 pub returns-then-is_universal-clause-refused : goal.returns-then-is_universal-clause-refused
 returns-then-is_universal-clause-refused c =
     let q = c.if-is_universal.ensures.0 (search rules) in
-    record { fails = inr (c.requires, inl (q.0, q.1, c.of.ensures.cause)); offset = c.of.ensures.offset }
+    record { fails = inr (c.requires, inl (q.0, q.1, c.of.ensures.cause)); offset = c.of.ensures.offset; step = c.of.ensures.step }
 
 pub returns-then-keeps-clause-checked : goal.returns-then-keeps-clause-checked
 returns-then-keeps-clause-checked c =
@@ -18,4 +18,4 @@ pub returns-clause-refused : goal.returns-clause-refused
 returns-clause-refused c =
     let none : (rest : List ℕ) → BeginsWithOne c.args.self.now.content.rules c.args.here.now rest → ⊥ = none_found _ c.after_one.result (λ s. absurd (let e = c.if-is_some.ensures in cc)) c.after_one.ensures.exactly in
     let v = c.value_cause.ensures in
-    record { fails = inr (c.requires, inr (none, (λ k. absurd (let t = c.keeps.ensures.1 k in let f = c.if-keeps.false in cc)), v.0, v.1, c.of-2.ensures.cause ∙ v.2)); offset = c.of-2.ensures.offset }
+    record { fails = inr (c.requires, inr (none, (λ k. absurd (let t = c.keeps.ensures.1 k in let f = c.if-keeps.false in cc)), v.0, v.1, c.of-2.ensures.cause ∙ v.2)); offset = c.of-2.ensures.offset; step = c.of-2.ensures.step }

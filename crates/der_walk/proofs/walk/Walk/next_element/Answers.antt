@@ -41,4 +41,4 @@ returns-then-is_empty c =
     let here = sym c.octets_here-here.ensures.here ∙ nil_from_length c.octets_here-here.result.now none in
     λ x r i vs has.
     refused x r i vs w c.refuse_end.result (c.close_ended.ensures.keeps x r i vs has) c.close_ended.ensures.stays (λ o e. absurd (search rules))
-    (refuses_end w _ c.refuse_end.result here c.refuse_end.ensures.cause c.refuse_end.ensures.place)
+    (refuses_end w _ c.refuse_end.result here c.refuse_end.ensures.cause c.refuse_end.ensures.place c.refuse_end.ensures.step)

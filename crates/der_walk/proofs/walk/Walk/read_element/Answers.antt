@@ -14,20 +14,20 @@ returns-clause-read c =
     ]) (omega arith)
 
 pub returns-in-Err-clause-refused : goal.returns-in-Err-clause-refused
-returns-in-Err-clause-refused c = refuses_header c.args.self.now c.args.here.now c.in-Err.e c.refuse_header.result c.in-Err.ensures c.refuse_header.ensures.cause c.refuse_header.ensures.place
+returns-in-Err-clause-refused c = refuses_header c.args.self.now c.args.here.now c.in-Err.e c.refuse_header.result c.in-Err.ensures c.refuse_header.ensures.cause c.refuse_header.ensures.place c.refuse_header.ensures.step
 
 pub returns-in-Err-content_of-clause-refused : goal.returns-in-Err-content_of-clause-refused
 returns-in-Err-content_of-clause-refused c =
-    refuses_content c.args.self.now c.args.here.now c.in-Ok.found _ c.element_of-element.result c.in-Err-content_of.refusal c.in-Ok.ensures c.element_of-element.ensures c.in-Err-content_of.ensures.refused
+    refuses_content c.args.self.now c.args.here.now c.in-Ok.found c.element_of-element.result c.in-Err-content_of.refusal c.in-Ok.ensures c.element_of-element.ensures c.in-Err-content_of.ensures.refused
 
 pub returns-then-element-gt-MAX_DEPTH-clause-refused : goal.returns-then-element-gt-MAX_DEPTH-clause-refused
 returns-then-element-gt-MAX_DEPTH-clause-refused c =
     let e = c.element_of-element.result in
-    refuses_depth c.args.self.now c.args.here.now c.in-Ok.found _ _ c.of.result c.in-Ok.ensures (starts_again c.in-Ok.found.1 _ _ _ _ e c.in-Ok-content_of.content e.holds_der e.breaks_its_type c.element_of-element.ensures)
-    c.if-element-gt-MAX_DEPTH.true c.of.ensures.cause c.of.ensures.offset
+    refuses_depth c.args.self.now c.args.here.now c.in-Ok.found _ c.of.result c.in-Ok.ensures (starts_again c.in-Ok.found.1 _ _ _ _ e c.in-Ok-content_of.content e.holds_der e.breaks_its_type c.element_of-element.ensures)
+    c.if-element-gt-MAX_DEPTH.true c.of.ensures.cause c.of.ensures.offset c.of.ensures.step
 
 pub returns-in-Err-check-clause-refused : goal.returns-in-Err-check-clause-refused
 returns-in-Err-check-clause-refused c =
     let e = c.element_of-element.result in
-    refuses_check c.args.self.now c.args.here.now c.in-Ok.found _ _ c.in-Err-check.refusal c.in-Ok.ensures (starts_again c.in-Ok.found.1 _ _ _ _ e c.in-Ok-content_of.content e.holds_der e.breaks_its_type c.element_of-element.ensures)
+    refuses_check c.args.self.now c.args.here.now c.in-Ok.found _ c.in-Err-check.refusal c.in-Ok.ensures (starts_again c.in-Ok.found.1 _ _ _ _ e c.in-Ok-content_of.content e.holds_der e.breaks_its_type c.element_of-element.ensures)
     c.in-Err-check.ensures.refused
