@@ -8,7 +8,7 @@
  * not overlap anything else that is passed; and the stack has room for max_depth levels of DM_LEVEL_OCTETS
  * each, at most DM_MAX_DEPTH of them. What is written to may be uninitialised.
  *
- * Places are numbers of octets from the start of the input. */
+ * Offsets (`place`) are numbers of octets from the start of the input. */
 #ifndef DUMAREWHI_H
 #define DUMAREWHI_H
 
@@ -37,7 +37,7 @@ enum dm_class { DM_UNIVERSAL = 0, DM_APPLICATION = 1, DM_CONTEXT_SPECIFIC = 2, D
 /* What a call found. */
 enum dm_status {
     DM_OK = 0,         /* the input begins with an element */
-    DM_ERROR = 1,      /* a front of the input breaks a rule, whatever follows */
+    DM_ERROR = 1,      /* a prefix of the input breaks a rule, whatever follows (of dm_write_der: see there) */
     DM_INCOMPLETE = 2, /* the input is cut short: more octets may complete it */
     DM_NO_ROOM = 3     /* dm_write_der: the buffer is too small */
 };
@@ -87,10 +87,10 @@ uint32_t dm_first_ber(const uint8_t *input, size_t length, dm_element *element, 
  * they are. Another value that DER does not have, as a time without seconds, is an error.
  *
  * With DM_OK the first `length` octets of the buffer are elements of DER, and `elements` is 0. Each element but the
- * parts of a string keeps its class, number, depth and place in the order. This is proved, and the values are tested.
- * With DM_NO_ROOM call again with `length` octets of room: until then a value may still be an error. With room 0 the
- * call counts. With DM_ERROR `place` is in the input. With another status than DM_OK the buffer's contents are
- * unspecified.
+ * parts of a string keeps its class, number, depth, position in the order, and value. This is proved. With DM_NO_ROOM
+ * call again with `length` octets of room: until then a value may still be an error. With room 0 the call counts. A
+ * value that only DER refuses is reported after all that BER refuses, so octets that follow may change a DM_ERROR. With
+ * another status than DM_OK the buffer's contents are unspecified.
  * Elements that are DER already are copied. The stack has to have room for DM_WRITE_DEPTH levels of DM_LEVEL_OCTETS
  * each. Returns the status. */
 uint32_t dm_write_der(const uint8_t *input, size_t length, uint8_t *out, size_t room, dm_outcome *outcome);
