@@ -1,9 +1,11 @@
 -- Rows that are written one after another.
-use Rattle.std.proofs.Common.{◌≡◌, ℕ, zero, suc, ◌+◌, ◌<◌, ◌≤◌, ◌⊎◌, List, [], ◌∷◌, ◌++◌, length, map, take, sym, ap, ◌∙◌, arith, refl, inl, inr, length-append, set}
-use Rattle.std.proofs.lemmas.List.{take_all, take_more_set, take-append-le, map-append, set_past, length-set}
+use Rattle.std.proofs.Common.{◌≡◌, ℕ, zero, suc, ◌+◌, ◌-◌, ◌<◌, ◌≤◌, ◌⊎◌, ◌==◌, if◌then◌else◌, true, false, List, [], ◌∷◌, ◌++◌, length, map, take, sym, ap, ◌∙◌, arith, refl, inl, inr, append_assoc, length-append, set, get_or, replicate, eq-eqb}
+use Rattle.std.proofs.lemmas.Bool.{ne_eqb}
+use Rattle.std.proofs.lemmas.Bool.Decides.{eqb_tells}
+use Rattle.std.proofs.lemmas.List.{take_all, take_more_set, take-append-le, map-append, append-nil, set_past, length-set, get_or-replicate, get_or-set_same, get_or-set_other, length-replicate}
 use Rattle.der_walk.specs.Visits.{Visited}
 use Rattle.dumarewhi_page.specs.declared.row.PageRow.{PageRow}
-use Rattle.dumarewhi_page.specs.Rows.{AreRows, visited_in}
+use Rattle.dumarewhi_page.specs.Rows.{AreRows, Entry, around_in, entries_after, entry_after, entry_in, last_with}
 
 below_or_not : (n m : ℕ) → (n < m) ⊎ (m ≤ n)
 below_or_not n zero = inr (omega arith)
@@ -11,29 +13,84 @@ below_or_not zero (suc m) = inl (omega arith)
 below_or_not (suc n) (suc m) = elim (below_or_not n m) [ inl h ↦ inl (omega (arith, h)) | inr h ↦ inr (omega (arith, h)) ]
 
 pub rows_none : (rows : List PageRow) → AreRows [] rows 0
+unfolding entries_after
 rows_none rows = (refl, sym (take_all (length rows) [] (omega arith)))
 
+length-entries : (before vs : List Visited) → length (entries_after before vs) ≡ length vs
+unfolding entries_after
+length-entries before [] = refl
+length-entries before (v ∷ vs) = omega (arith, length-entries (before ++ v ∷ []) vs)
+
+-- one more at the end
+entries_more : (before vs : List Visited) (v : Visited) → entries_after before (vs ++ v ∷ []) ≡ entries_after before vs ++ entry_after (before ++ vs) v ∷ []
+unfolding entries_after
+entries_more before [] v = ap (λ l. entry_after l v ∷ []) (sym (append-nil before))
+entries_more before (u ∷ vs) v =
+    ap (λ l. entry_after before u ∷ l) (entries_more (before ++ u ∷ []) vs v ∙ ap (λ l. entries_after (before ++ u ∷ []) vs ++ entry_after l v ∷ []) (append_assoc before (u ∷ []) vs))
+
 -- a row after the others, if there is room
-pub rows_more : (vs : List Visited) (rows : List PageRow) (n : ℕ) (row : PageRow) → AreRows vs rows n
-    → AreRows (vs ++ visited_in row ∷ []) (set rows n row) (n + 1)
-rows_more vs rows n row h =
-    let v = visited_in row in
-    let size : length (vs ++ v ∷ []) ≡ length vs + 1 = length-append vs (v ∷ []) in
-    let count : n + 1 ≡ length (vs ++ v ∷ []) = omega (arith, h.0, size) in
+more_rows : (es : List Entry) (rows : List PageRow) (n : ℕ) (row : PageRow) → n ≡ length es → map entry_in (take n rows) ≡ take (length rows) es
+    → map entry_in (take (n + 1) (set rows n row)) ≡ take (length (set rows n row)) (es ++ entry_in row ∷ [])
+more_rows es rows n row e h =
+    let v = entry_in row in
+    let size : length (es ++ v ∷ []) ≡ length es + 1 = length-append es (v ∷ []) in
     let same : length (set rows n row) ≡ length rows = length-set rows n row in
     elim (below_or_not n (length rows)) [
       | inl room ↦ (
-        count,
-        ap (map visited_in) (take_more_set rows n row room) ∙ map-append visited_in (take n rows) (row ∷ [])
-            ∙ ap (λ us. us ++ v ∷ []) (h.1 ∙ take_all (length rows) vs (omega (arith, h.0, room)))
-            ∙ sym (take_all (length (set rows n row)) (vs ++ v ∷ []) (omega (arith, h.0, room, size, same))),
-      )
+          ap (map entry_in) (take_more_set rows n row room) ∙ map-append entry_in (take n rows) (row ∷ [])
+          ∙ ap (λ us. us ++ v ∷ []) (h ∙ take_all (length rows) es (omega (arith, e, room)))
+          ∙ sym (take_all (length (set rows n row)) (es ++ v ∷ []) (omega (arith, e, room, size, same)))
+          )
       | inr full ↦ (
-        count,
-        ap (λ rs. map visited_in (take (n + 1) rs)) (set_past rows n row full)
-            ∙ ap (map visited_in) (take_all (n + 1) rows (omega (arith, full)))
-            ∙ sym (ap (map visited_in) (take_all n rows full)) ∙ h.1
-            ∙ sym (take-append-le (length rows) vs (v ∷ []) (omega (arith, h.0, full)))
-            ∙ ap (λ k. take k (vs ++ v ∷ [])) (sym same),
-      )
+          ap (λ rs. map entry_in (take (n + 1) rs)) (set_past rows n row full)
+          ∙ ap (map entry_in) (take_all (n + 1) rows (omega (arith, full)))
+          ∙ sym (ap (map entry_in) (take_all n rows full)) ∙ h
+          ∙ sym (take-append-le (length rows) es (v ∷ []) (omega (arith, e, full)))
+          ∙ ap (λ k. take k (es ++ v ∷ [])) (sym same)
+          )
     ]
+
+pub rows_more : (vs : List Visited) (rows : List PageRow) (n : ℕ) (row : PageRow) (v : Visited) → AreRows vs rows n → entry_in row ≡ entry_after vs v
+    → AreRows (vs ++ v ∷ []) (set rows n row) (n + 1)
+rows_more vs rows n row v h e =
+    let es = entries_after [] vs in
+    let all : entries_after [] (vs ++ v ∷ []) ≡ es ++ entry_in row ∷ [] = entries_more [] vs v ∙ ap (λ z. es ++ z ∷ []) (sym e) in
+    let size = length-entries [] vs in (
+      omega (arith, h.0, length-append vs (v ∷ [])),
+      more_rows es rows n row (h.0 ∙ sym size) h.1 ∙ ap (λ l. take (length (set rows n row)) l) (sym all),
+    )
+
+last_more : (k l n : ℕ) (vs : List Visited) (v : Visited) → last_with k l n (vs ++ v ∷ []) ≡ (if v.depth == k then suc (n + length vs) else last_with k l n vs)
+unfolding last_with
+last_more k l n [] v = let e : n + 0 ≡ n = omega arith in ap (λ m. if v.depth == k then suc m else l) (sym e)
+last_more k l n (u ∷ vs) v =
+    let e : suc n + length vs ≡ n + length (u ∷ vs) = omega arith in
+    last_more k (if u.depth == k then suc n else l) (suc n) vs v ∙ ap (λ m. if v.depth == k then suc m else last_with k (if u.depth == k then suc n else l) (suc n) vs) e
+
+-- the last of each depth
+pub record AreLast (rows : List ℕ) (vs : List Visited) : Type 0 where
+  pub size : length rows ≡ 101
+  pub last : (k : ℕ) → k < 101 → get_or rows k 0 ≡ last_with k 0 0 vs
+
+pub last_none : (rows : List ℕ) → rows ≡ replicate 101 0 → AreLast rows []
+unfolding last_with
+last_none rows e = record { size = ap length e ∙ length-replicate {A = ℕ} 101 0; last = λ k h. ap (λ l. get_or l k 0) e ∙ get_or-replicate {A = ℕ} 101 k 0 0 h }
+
+pub last_set : (rows : List ℕ) (vs : List Visited) (v : Visited) (d n : ℕ) → AreLast rows vs → v.depth ≡ d → n ≡ length vs → AreLast (set rows d (n + 1)) (vs ++ v ∷ [])
+last_set rows vs v d n h e c = record { size = length-set rows d (n + 1) ∙ h.size; last = last }
+  where
+    last : (k : ℕ) → k < 101 → get_or (set rows d (n + 1)) k 0 ≡ last_with k 0 0 (vs ++ v ∷ [])
+    last k small =
+        elim (eqb_tells v.depth k) [
+          | inl (t, same) ↦ (
+              let q : k ≡ d = sym same ∙ e in
+              let fits : d < length rows = omega (arith, h.size, q, small) in
+              ap (λ j. get_or (set rows d (n + 1)) j 0) q ∙ get_or-set_same rows d (n + 1) 0 fits ∙ omega (arith, c) ∙ ap (λ b. if b then suc (0 + length vs) else last_with k 0 0 vs) (sym t) ∙ sym (last_more k 0 0 vs v)
+              )
+          | inr (t, other) ↦ (
+              get_or-set_other rows d k (n + 1) 0 (λ z. other (e ∙ sym z)) ∙ h.last k small ∙ ap (λ b. if b then suc (0 + length vs) else last_with k 0 0 vs) (sym t) ∙ sym (last_more k 0 0 vs v)
+              )
+        ]
+
+pub around_is : (rows : List ℕ) (vs : List Visited) (d : ℕ) → AreLast rows vs → d ≤ 100 → (if d == 0 then 0 else get_or rows (d - 1) 0) ≡ around_in d vs
+around_is rows vs d h small = ap (λ m. if d == 0 then 0 else m) (h.last (d - 1) (omega (arith, small)))

@@ -1,5 +1,5 @@
 //! The elements of an input, and whether it is elements and nothing else.
-ghost use Rattle.std.specs.Prelude.{◌≡◌, ◌↔◌, slice_set};
+ghost use Rattle.std.specs.Prelude.{◌≡◌, ◌↔◌, ◌==◌, ◌-◌, if◌then◌else◌, get_or, length, replicate, slice_set};
 ghost use Rattle.der_check.specs.Elements.{AreElements};
 ghost use Rattle.dumarewhi_page.specs.Listed.{Lists};
 ghost use Rattle.dumarewhi_page.specs.Rules.{rules_numbered};
@@ -33,17 +33,29 @@ struct Last {
 }
 
 impl Last {
+    /// No row of any depth.
+    fn none() -> Last
+        ensures { result.rows ≡ replicate 101 0 }
+    {
+        Last { rows: [0; DEPTHS] }
+    }
+
     /// The row of the element around those of a depth, or 0.
-    fn around(&self, depth: usize) -> usize {
+    fn around(&self, depth: usize) -> usize
+        ensures { result ≡ (if depth == 0 then 0 else get_or self.now.rows (depth - 1) 0) }
+    {
         if depth == 0 {
             return 0;
         }
         self.rows.get(depth - 1).copied().unwrap_or(0)
     }
 
-    fn set(&mut self, depth: usize, row: usize) {
-        if let Some(last) = self.rows.get_mut(depth) {
-            *last = row;
+    fn set(&mut self, depth: usize, row: usize)
+        requires { length self.old.rows ≡ 101 }
+        ensures { self.new.rows ≡ slice_set self.old.rows depth row }
+    {
+        if depth < DEPTHS {
+            self.rows[depth] = row;
         }
     }
 }
@@ -77,7 +89,7 @@ fn list(input: &[u8], rules: Rules, rows: &mut [PageRow]) -> PageOutcome
     ensures { Lists rules input.now rows.new result }
 {
     let mut walk = Walk::new(input, rules, true).keeping_values();
-    let mut last = Last { rows: [0; DEPTHS] };
+    let mut last = Last::none();
     // An element has an octet at least, so the loop ends at the end of the input.
     for count in 0..usize::MAX {
         match walk.next_element() {

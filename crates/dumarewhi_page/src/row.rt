@@ -37,11 +37,15 @@ pub struct PageRow {
 
 impl PageRow {
     ghost use Rattle.der_walk.specs.Walked.{visited_of};
-    ghost use Rattle.dumarewhi_page.specs.Rows.{visited_in};
+    ghost use Rattle.dumarewhi_page.specs.Rows.{entry_in, visited_in};
 
     /// The row of an element inside the element with the row `around`.
     pub(crate) fn new(element: &Element<'_>, around: usize) -> PageRow
-        ensures { visited_in result ≡ visited_of element.now }
+        ensures { entry_in result ≡ record {
+          visited = visited_of element.now;
+          index = element.now.index;
+          around = around;
+        } }
     {
         PageRow {
             offset: element.offset,

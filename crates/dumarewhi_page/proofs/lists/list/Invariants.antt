@@ -3,8 +3,9 @@ use Rattle.der_walk.specs.Visits.{Visited}
 use Rattle.der_walk.specs.Walked.{HasVisited}
 use Rattle.dumarewhi_page.specs.Listed.{all_extras}
 use Rattle.dumarewhi_page.specs.Rows.{AreRows}
+use Rattle.dumarewhi_page.proofs.Listing.{AreLast}
 use Rattle.dumarewhi_page.proofs.lists.list.Given as goal
 
 -- the elements so far were visited and listed
 abbrev pub invariant-loop-count : goal.invariant-loop-count
-invariant-loop-count l = (vs : List Visited) × HasVisited all_extras l.fn.rules l.fn.input l.walk vs × AreRows vs l.rows l.count
+invariant-loop-count l = (vs : List Visited) × HasVisited all_extras l.fn.rules l.fn.input l.walk vs × AreRows vs l.rows l.count × AreLast l.last.rows vs
