@@ -55,7 +55,7 @@ impl Reason {
     }
 }
 
-/// The reason, if this extension is a reason code (RFC 5280 5.3.1). Places of refusals are counted in
+/// The reason, if this extension is a reason code (RFC 5280 5.3.1). Offsets of errors are counted in
 /// the octets of its value.
 pub fn reason_of(extension: &Extension<'_>) -> Result<Option<Reason>, Refusal<BerError>>
     ensures { ReadsWhole (IsReasonOf (extension_of extension.now)) (λ v. v) Never result }

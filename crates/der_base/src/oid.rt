@@ -101,7 +101,7 @@ impl<'a> Oid<'a> {
     }
 
     /// A copy. A borrowed identifier is copied without allocation, and the copy is borrowed from the
-    /// same place.
+    /// same offset.
     pub fn try_clone(&self, alloc: Global) -> Result<Oid<'a>, AllocError>
         ensures same { IfOk result
             (λ x. (octets_of x ≡ octets_of self.now) × (is_relative_of x ≡ is_relative_of self.now)) }

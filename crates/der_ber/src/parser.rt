@@ -34,7 +34,7 @@ pub fn parse_ber<'a>(alloc: Global, i: &'a [u8]) -> BerResult<'a>
 /// deeper than `max_depth`, with indefinite lengths nested no deeper than 49 (X.690 8.1.3). Each
 /// header has the length and the identifier octets as read.
 ///
-/// Refusals, in this order:
+/// Errors, in this order:
 /// - BerMaxDepth at depth 0;
 /// - those of `Any::from_ber`, which are those of the header and, for an indefinite length, of the
 ///   headers in it;
@@ -43,7 +43,7 @@ pub fn parse_ber<'a>(alloc: Global, i: &'a [u8]) -> BerResult<'a>
 /// - those of the first item that is refused, at one depth less. An item that runs past the end of
 ///   its list is the Error `BerError::Incomplete`, since more input can't complete it.
 ///
-/// Incomplete where the input ends within the element and shows no refusal, with the number of octets
+/// Incomplete where the input ends within the element and shows no error, with the number of octets
 /// that it lacks. OutOfMemory only at depth 2 and more, where the input begins with a whole list that
 /// has items, and at depth 1 and more, where it begins with a header of indefinite length.
 pub fn parse_ber_recursive<'a>(alloc: Global, i: &'a [u8], max_depth: usize) -> BerResult<'a>
@@ -65,7 +65,7 @@ pub fn parse_ber_any_r<'a>(alloc: Global, i: &'a [u8], max_depth: usize) -> BerR
 }
 
 /// Reads as `parse_ber_recursive` an element of this tag number, of any class. Another number is
-/// UnexpectedTag, after the refusals of the header and of framing, and before those of the content.
+/// UnexpectedTag, after the errors of the header and of framing, and before those of the content.
 /// Only a list of this number that has items, or an indefinite length, can run out of memory.
 pub fn parse_ber_any_with_tag_r<'a>(
     alloc: Global,

@@ -16,7 +16,7 @@ use der_base::header::Class;
 use der_base::rules::Rules;
 use der_walk::{Cause, Element, Refusal, Walk};
 
-/// Checks that what was written is elements of DER, those of the input. A refusal has the place in the input of the
+/// Checks that what was written is elements of DER, those of the input. An error has the offset in the input of the
 /// element that isn't DER.
 pub(crate) fn check_written(octets: &[u8], written: &[u8]) -> Result<(), NotCanonical>
     ensures { OnOk result (HasElementsOf octets.now written.now) }
@@ -156,7 +156,7 @@ fn is_same_value(element: &Element<'_>, content: &[u8], written: &[u8]) -> bool
     }
 }
 
-/// Refuses all that was written, with no place.
+/// Refuses all that was written, with no offset.
 pub(crate) fn refuse_all(walk: &Walk<'_>) -> NotCanonical {
     let refusal = Refusal {
         offset: 0,

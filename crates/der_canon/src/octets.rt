@@ -11,7 +11,7 @@ pub(crate) fn copy(out: &mut [u8], octets: &[u8])
     out[..count].copy_from_slice(&octets[..count]);
 }
 
-/// Writes octets from a place on.
+/// Writes octets from an offset on.
 pub(crate) fn put_octets(out: &mut [u8], at: usize, octets: &[u8]) {
     if at < out.len() {
         let count = octets.len().min(out.len() - at);
@@ -19,7 +19,7 @@ pub(crate) fn put_octets(out: &mut [u8], at: usize, octets: &[u8]) {
     }
 }
 
-/// Moves the octets from a place to another one up, by so many places.
+/// Moves the octets from an offset to another one up, by so many places.
 pub(crate) fn move_up(out: &mut [u8], start: usize, end: usize, by: usize) {
     let end = end.min(out.len().saturating_sub(by));
     if start < end {
@@ -52,7 +52,7 @@ pub(crate) fn further_octets(size: usize) -> usize
     length_size(size) - 1
 }
 
-/// Writes a length in the fewest octets from a place on (8.1.3.4, 8.1.3.5).
+/// Writes a length in the fewest octets from an offset on (8.1.3.4, 8.1.3.5).
 pub(crate) fn put_length(out: &mut [u8], at: usize, length: usize) {
     let further = further_octets(length);
     if further == 0 {

@@ -1,5 +1,5 @@
 //! Writing from the first octet to the last. How long a content is shows at its end. Then its length is written in
-//! front of it, and the content moves up if the length has more than one octet.
+//! prefix of it, and the content moves up if the length has more than one octet.
 use crate::content::{boolean, shortest_number, without_unused};
 use crate::error::NotCanonical;
 use crate::octets::{further_octets, move_up, put_length, put_octets};

@@ -55,7 +55,7 @@ impl<F> Container<F> {
     /// (X.690 8.1.3), as the header says, and an end marker is no part of the content. The form of the
     /// content isn't checked. It allocates nothing.
     ///
-    /// Refusals, without a call of the parser: by BER those of `Any::from_ber`, by DER those of
+    /// Errors, without a call of the parser: by BER those of `Any::from_ber`, by DER those of
     /// `der_read_element_header`, and where a definite content is cut short, the Error of Eof at the
     /// octets after the header. Incomplete where the input ends within a header, or within the content
     /// of an indefinite length.
@@ -149,7 +149,7 @@ where
 
 impl<F> NumberedContainer<F> {
     /// Reads as `Container::parse` an element of the number, of any class, constructed or not. Another
-    /// number is UnexpectedTag, after the refusals of `Container::parse`, without a call of the parser.
+    /// number is UnexpectedTag, after the errors of `Container::parse`, without a call of the parser.
     #[inline(always)]
     pub fn parse<'a, O, E>(&mut self, i: &'a [u8]) -> IResult<&'a [u8], O, E>
     where

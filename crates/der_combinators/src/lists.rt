@@ -102,7 +102,7 @@ impl<F> ListOfValues<F> {
     /// parser is called on its content octets, and then on what each call leaves, also where nothing
     /// is left: its Incomplete there ends the list. Returns the values in their order.
     ///
-    /// Refusals, without a call of the parser: those of `NumberedContainer::parse`. After them, at
+    /// Errors, without a call of the parser: those of `NumberedContainer::parse`. After them, at
     /// the call that shows it: where the parser returns Incomplete and octets are left, the Error of
     /// Eof at them; where it leaves no less than it was given, the Error of Many0 at what it was
     /// given. An Error of the parser becomes a Failure. Its Failure and OutOfMemory pass. The list may
@@ -208,7 +208,7 @@ where
 }
 
 impl<F> ListOfObjects<F> {
-    /// Reads as `ListOfValues::parse`, with its refusals and its OutOfMemory. Returns the SEQUENCE or the
+    /// Reads as `ListOfValues::parse`, with its errors and its OutOfMemory. Returns the SEQUENCE or the
     /// SET of the items, as `BerObject::from_seq` or `BerObject::from_set` makes it.
     #[inline(always)]
     pub fn parse<'a, E>(&mut self, i: &'a [u8]) -> IResult<&'a [u8], BerObject<'a>, E>

@@ -13,7 +13,7 @@ use der_base::rules::Rules;
 /// Returns the content octets of an element of this tag number, of any class, constructed or not,
 /// with what follows the element. An end marker is no part of a content of indefinite length.
 ///
-/// Refusals, in this order: those of `Container::parse` by BER; UnexpectedTag where the number is
+/// Errors, in this order: those of `Container::parse` by BER; UnexpectedTag where the number is
 /// another one. Incomplete where the input ends within the header, or within the content of an
 /// indefinite length. It allocates nothing.
 pub fn parse_ber_slice<'a>(i: &'a [u8], tag: Tag) -> IResult<&'a [u8], &'a [u8], BerError>
@@ -25,7 +25,7 @@ pub fn parse_ber_slice<'a>(i: &'a [u8], tag: Tag) -> IResult<&'a [u8], &'a [u8],
 /// Returns the content octets of an element of this tag number, of any class, constructed or not,
 /// with what follows the element. The octets aren't checked.
 ///
-/// Refusals, in this order: those of `Container::parse` by DER; UnexpectedTag where the number is
+/// Errors, in this order: those of `Container::parse` by DER; UnexpectedTag where the number is
 /// another one. Incomplete where the input ends within the header. It allocates nothing.
 pub fn parse_der_slice<'a>(i: &'a [u8], tag: Tag) -> IResult<&'a [u8], &'a [u8], BerError>
     ensures { AnswersSlice Der tag.0 i.now result }

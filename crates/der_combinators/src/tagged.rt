@@ -73,7 +73,7 @@ impl<F> ExplicitContainer<F> {
     /// Reads as `Container::parse` an element that is an explicit tag of the number:
     /// constructed, and of any class but Universal.
     ///
-    /// Refusals, without a call of the parser, after those of `Container::parse` and in this order:
+    /// Errors, without a call of the parser, after those of `Container::parse` and in this order:
     /// UnexpectedClass for class Universal; UnexpectedTag for another number; ConstructExpected for a
     /// primitive encoding.
     #[inline(always)]
@@ -141,7 +141,7 @@ impl<F> ImplicitContainer<F> {
     /// parser gets the header with the definite length of the content octets, so it may read them as
     /// those of the type under the tag.
     ///
-    /// Another number is UnexpectedTag, after the refusals of `Container::parse`, without a call of
+    /// Another number is UnexpectedTag, after the errors of `Container::parse`, without a call of
     /// the parser.
     #[inline(always)]
     pub fn parse<'a, O, E>(&mut self, i: &'a [u8]) -> IResult<&'a [u8], O, E>

@@ -22,7 +22,7 @@ use der_base::rules::Rules;
 use std::alloc::Global;
 
 /// The octets of an input, or of the content of an element, that aren't read yet. A cursor knows its
-/// offset in the input, which each refusal has, and the rules by which it reads.
+/// offset in the input, which each error has, and the rules by which it reads.
 ///
 /// ```
 /// let mut fields = Cursor::new(certificate).open_sequence()?.open_sequence()?;
@@ -120,7 +120,7 @@ impl<'a> Cursor<'a> {
         self.left.first().copied()
     }
 
-    /// Reads the value that the parser reads. A refusal has the offset where the parser was called,
+    /// Reads the value that the parser reads. An error has the offset where the parser was called,
     /// and the cursor stays there.
     pub fn read<O, F, E>(&mut self, parser: F) -> Result<O, Refusal<E>>
     where
@@ -272,7 +272,7 @@ impl<'a> Cursor<'a> {
     }
 
     /// A cursor over the content of the next element, which has to have this class, constructed bit
-    /// and tag number. Refusals are those of `Any::from_der`, then UnexpectedClass, UnexpectedTag,
+    /// and tag number. Errors are those of `Any::from_der`, then UnexpectedClass, UnexpectedTag,
     /// and ConstructExpected or ConstructUnexpected.
     pub fn open(
         &mut self,
@@ -388,7 +388,7 @@ impl<'a> Cursor<'a> {
         Ok(())
     }
 
-    /// The refusal of the next element for a reason of the caller's, such as a value that the format
+    /// The error of the next element for a reason of the caller's, such as a value that the format
     /// doesn't have.
     pub fn refuse(&self, e: BerError) -> Refusal<BerError>
         ensures { result ≡ refusal_at self.now (Refused.Error e) }
@@ -396,7 +396,7 @@ impl<'a> Cursor<'a> {
         self.refused(Refused::Error(e))
     }
 
-    /// The refusal of the next element.
+    /// The error of the next element.
     pub(crate) fn refused<E>(&self, reason: Refused<E>) -> Refusal<E>
         ensures { result ≡ refusal_at self.now reason }
     {

@@ -1,7 +1,7 @@
 //! Calls of a cursor that read the value of one type. Each asks for the class, the tag number and the
 //! primitive form, then reads the content octets.
 //!
-//! A refusal has the place of the element, and the cursor stays there. The refusals come in this order:
+//! An error has the offset of the element, and the cursor stays there. The errors come in this order:
 //! those of the header (by BER also of the framing of an indefinite length); UnexpectedClass,
 //! UnexpectedTag, ConstructUnexpected; those of the content octets, which each call names. An element
 //! that is cut short is Incomplete, and inside a list the error Incomplete, since no further octets mend

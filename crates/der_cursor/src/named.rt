@@ -1,4 +1,4 @@
-//! Names of fields in refusals.
+//! Names of fields in errors.
 ghost use Rattle.der_cursor.specs.Named.{IsSettled, NamesRefusal, NamesMore};
 
 use crate::refusal::Refusal;
@@ -7,21 +7,21 @@ use der_base::error::{BerError, refuse_cut_item};
 use std::error::Error;
 use std::fmt;
 
-/// How many names a refusal keeps. Those of further fields around them are left out.
+/// How many names an error keeps. Those of further fields around them are left out.
 pub(crate) const MOST_NAMES: usize = 8;
 
-/// A refusal with the names of the fields that its element is in:
+/// An error with the names of the fields that its element is in:
 /// "tbsCertificate.serialNumber at 13: ..".
 #[derive(Drop)]
 pub struct FieldRefusal {
     /// The innermost first.
     names: ArrayVec<&'static str, MOST_NAMES>,
-    /// The place and the reason.
+    /// The offset and the reason.
     pub refusal: Refusal<BerError>,
 }
 
 impl FieldRefusal {
-    /// The same refusal, of a field of an element that the input holds whole. No further octets help, so
+    /// The same error, of a field of an element that the input holds whole. No further octets help, so
     /// `Err::Incomplete` becomes the error Incomplete.
     pub fn settled(self) -> FieldRefusal
         ensures { IsSettled self result }
@@ -58,7 +58,7 @@ impl fmt::Display for FieldRefusal {
 
 impl Error for FieldRefusal {}
 
-/// Names the field that a result is of, which a refusal then has.
+/// Names the field that a result is of, which an error then has.
 ///
 /// ```
 /// let serial_number = fields.integer().named("serialNumber")?;
@@ -70,7 +70,7 @@ pub trait Named<T> {
 
     ghost names: { Self → Bor (List ℕ) → Result T FieldRefusal → Type 0 };
 
-    /// The value, or the refusal with this name in front of those that it has.
+    /// The value, or the error with this name in front of those that it has.
     fn named(self, name: &'static str) -> Result<T, FieldRefusal>
         ensures { names self name.entry result };
 }

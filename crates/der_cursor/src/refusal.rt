@@ -1,4 +1,4 @@
-//! Refusals and their texts.
+//! Errors and their texts.
 ghost use Rattle.std.specs.Prelude.{◌≡◌, Some};
 ghost use Rattle.der_cursor.specs.Cursors.{is_at_end};
 
@@ -56,7 +56,7 @@ impl AsBerError for BerError {
     }
 }
 
-/// The place and the reason: "at 13: an element runs past the end of its list, needs 9". An error has
+/// The offset and the reason: "at 13: an element runs past the end of its list, needs 9". An error has
 /// its own text, except for a cut item, `Eof` ("octets left over or missing") and `Many0`.
 impl<E: fmt::Display + AsBerError> fmt::Display for Refusal<E> {
     ghost use Rattle.der_cursor.specs.Cursors.{refusal_text};
@@ -70,7 +70,7 @@ impl<E: fmt::Display + AsBerError> fmt::Display for Refusal<E> {
 
 impl<E: fmt::Debug + fmt::Display + AsBerError + Drop> Error for Refusal<E> {}
 
-/// The reason of a refusal in words.
+/// The reason of an error in words.
 #[derive(Clone, Copy)]
 struct Reason<'r, E>(&'r Refusal<E>);
 

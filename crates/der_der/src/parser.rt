@@ -32,7 +32,7 @@ pub fn parse_der<'a>(alloc: Global, i: &'a [u8]) -> BerResult<'a>
 /// content octets of at most `MAX_OBJECT_SIZE`. Each header has the length and the identifier
 /// octets as read.
 ///
-/// Refusals, in this order: BerMaxDepth at depth 0; those of `der_read_element_header`;
+/// Errors, in this order: BerMaxDepth at depth 0; those of `der_read_element_header`;
 /// InvalidLength above `MAX_OBJECT_SIZE`; Incomplete where the content is cut short, with the whole
 /// length for class Universal and with the number of missing octets for others; ConstructExpected
 /// for a primitive SEQUENCE or SET, and the constraint Constructed for another type that is

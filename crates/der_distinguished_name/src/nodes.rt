@@ -1,4 +1,4 @@
-//! Names by elements: each attribute is read from the places of its elements, and no object is made.
+//! Names by elements: each attribute is read from the offsets of its elements, and no object is made.
 ghost use Rattle.std.specs.Prelude.{◌≡◌, ◌<◌, ◌≤◌, ◌↔◌, IfOk, IfSome, IsTrue, MatchOption, [], ◌∷◌, length};
 ghost use Rattle.std.specs.Prelude.{map, take};
 ghost use Rattle.der_base.specs.declared.header.Class.{Class};
@@ -280,7 +280,7 @@ fn string_type(element: &Element) -> Option<Tag>
     }
 }
 
-/// The octets between two places of the input. There are none if a place is outside it.
+/// The octets between two offsets of the input. There are none if an offset is outside it.
 #[inline(always)]
 fn between(input: &[u8], from: usize, to: usize) -> &[u8]
     ensures { result.now ≡ octets_between input.now from to }

@@ -111,7 +111,7 @@ pub(crate) fn read_general_name<'a>(
     Err(refuse_other(names))
 }
 
-/// The refusal of a next element that is none of these.
+/// The error of a next element that is none of these.
 pub(crate) fn refuse_other(names: &Cursor<'_>) -> Refusal<BerError> {
     let mut next = *names;
     match next.any() {

@@ -35,9 +35,9 @@ pub trait Item<'a, E>: Drop {
     ghost takes: { TakesOctets field };
 }
 
-/// An error that a cursor's refusal is made one of.
+/// An error that a cursor's error is made one of.
 pub trait FromRefusal: Drop {
-    /// The refusal of a cursor.
+    /// The error of a cursor.
     fn from_refusal(refusal: Refusal<BerError>) -> Refusal<Self>;
 }
 

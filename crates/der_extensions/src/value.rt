@@ -76,7 +76,7 @@ pub enum ExtensionValue<'a> {
     Other,
 }
 
-/// Reads the value of an extension by DER, as the type that its identifier names. The place of a refusal
+/// Reads the value of an extension by DER, as the type that its identifier names. The offset of an error
 /// is the one in the value.
 ///
 /// ```

@@ -71,7 +71,7 @@ pub fn next_block(text: &[u8]) -> Result<Option<(Block<'_>, &[u8])>, FormError>
     }
 }
 
-/// What is before and after the first place where a needle occurs.
+/// What is before and after the first offset where a needle occurs.
 fn split_round<'a>(text: &'a [u8], needle: &[u8]) -> Option<(&'a [u8], &'a [u8])>
     ensures { MatchOption result (¬ Contains text.now needle.now)
         (λ x. SplitsRound text.now needle.now x.0.now x.1.now) }

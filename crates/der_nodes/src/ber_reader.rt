@@ -27,9 +27,9 @@ use der_base::spans::ber_read_definite;
 /// What the values of framed elements are: the number after their elements, or the first error.
 type Values = Result<usize, Err<BerError>>;
 
-/// One element before octets that end at a place of the input. It and what is inside it are written
+/// One element before octets that end at an offset of the input. It and what is inside it are written
 /// to the buffer from a number on, as far as there is room. Returns what follows, and the number
-/// after them. The place of an error is that of the innermost element that shows it.
+/// after them. The offset of an error is that of the innermost element that shows it.
 #[cycle(ber_reader)]
 #[inline(always)]
 pub(crate) fn read_element<'a, N: Slot>(
@@ -132,7 +132,7 @@ fn read_any<'a, N: Slot>(
 }
 
 /// What is returned of an element with no indefinite length around it: an error of its values is its
-/// own. The place of Incomplete is where it starts.
+/// own. The offset of Incomplete is where it starts.
 #[inline(always)]
 fn settle<'a>(
     read: IResult<&'a [u8], Values, BerError>,
@@ -152,7 +152,7 @@ fn settle<'a>(
     }
 }
 
-/// An element after its header. Returns what follows it, and its values. The place is that of the
+/// An element after its header. Returns what follows it, and its values. The offset is that of the
 /// element, and then that of an error.
 #[cycle(ber_reader)]
 #[inline(always)]
@@ -414,7 +414,7 @@ fn read_plain<'a, N: Slot>(
 }
 
 /// The elements behind one that is refused, before the end marker of an indefinite length: they are
-/// only framed. The place is that of the refusal.
+/// only framed. The offset is that of the error.
 #[inline(always)]
 fn frame_rest<'a>(
     i: &'a [u8],

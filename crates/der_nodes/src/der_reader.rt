@@ -18,9 +18,9 @@ use der_base::MAX_OBJECT_SIZE;
 use der_base::error::{BerError, Err, IResult, Needed, refuse_cut_item};
 use der_base::header::{Header, Tag, der_read_element_header};
 
-/// One element in front of octets that end at a place of the input. It and what is inside it are
+/// One element in front of octets that end at an offset of the input. It and what is inside it are
 /// written to the nodes from a number on, as far as there is room. Answers what follows, and the
-/// number behind them. The place is that of the element that was begun last.
+/// number behind them. The offset is that of the element that was begun last.
 #[cycle(der_reader)]
 #[inline(always)]
 pub(crate) fn read_element<'a, N: Slot>(

@@ -1,4 +1,4 @@
-//! Elements by their places.
+//! Elements by their offsets.
 ghost use Rattle.std.specs.Prelude.{◌≡◌, [], ◌∷◌};
 ghost use Rattle.der_nodes.specs.Inner.{element_of};
 ghost use Rattle.der_nodes.specs.Places.{overlay};
@@ -6,7 +6,7 @@ ghost use Rattle.der_nodes.specs.Places.{overlay};
 use der_base::header::{Class, Header, Length};
 
 /// An element of an input: its identifier octets (X.690 8.1.2), where it is, and how many elements
-/// are inside it. Places are numbers of octets from the start of the input.
+/// are inside it. Offsets are numbers of octets from the start of the input.
 #[derive(Clone, Copy, Debug, PartialEq)]
 pub struct Element {
     pub class: Class,
@@ -57,7 +57,7 @@ pub(crate) fn put<N: Slot>(nodes: &mut [N], at: usize, element: Element)
     }
 }
 
-/// The element of a header, with its content octets between two places.
+/// The element of a header, with its content octets between two offsets.
 #[inline(always)]
 pub(crate) fn element_of(
     header: &Header<'_>,

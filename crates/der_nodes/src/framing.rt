@@ -1,4 +1,4 @@
-//! Framing that keeps the place of an error: where the content of an element ends, by BER (X.690
+//! Framing that keeps the offset of an error: where the content of an element ends, by BER (X.690
 //! 8.1.3). The octets inside a definite length aren't looked into.
 ghost use Rattle.std.specs.Prelude.{◌≡◌, ◌+◌, ◌-◌, ◌*◌, ◌^◌, ◌<◌, ◌≤◌, ◌++◌, List, ℕ, IfOk, MatchBool, length};
 ghost use Rattle.der_base.specs.declared.header.Length.{Length};
@@ -12,7 +12,7 @@ use der_base::error::{BerError, Err, IResult};
 use der_base::header::{Header, Length, ber_read_element_header};
 use der_base::spans::ber_read_definite;
 
-/// Reads the content after a header of this length, before octets that end at a place of the input.
+/// Reads the content after a header of this length, before octets that end at an offset of the input.
 /// Returns what follows the element, and the content octets without the end marker. Indefinite
 /// lengths, this one included, may be nested less deep than the budget.
 #[cycle(framing)]
@@ -42,7 +42,7 @@ pub(crate) fn frame_content<'a>(
     }
 }
 
-/// Reads the elements before the end marker of an indefinite length. The place is that of the element
+/// Reads the elements before the end marker of an indefinite length. The offset is that of the element
 /// that was begun last.
 #[cycle(framing)]
 #[inline(never)]
@@ -81,7 +81,7 @@ pub(crate) fn frame_to_end_marker<'a>(
 
 /// What stands next inside an indefinite length: the header of an element, or None, which is the end
 /// marker. The header is read before the budget is looked at. The end marker needs budget too. The
-/// place is where it begins.
+/// offset is where it begins.
 #[inline(always)]
 pub(crate) fn read_next<'a>(
     i: &'a [u8],

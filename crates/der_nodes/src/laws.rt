@@ -1,4 +1,4 @@
-//! Laws of elements and their places. Each function's contract is a law, and its body is empty.
+//! Laws of elements and their offsets. Each function's contract is a law, and its body is empty.
 ghost use Rattle.der_nodes.specs.Laws.{PlacesStand, PlacesInPreorder, OnePlace, PlacesShow};
 ghost use Rattle.der_nodes.specs.Laws.{BerPlacesStand, BerPlacesInPreorder, BerOnePlace, BerPlacesShow};
 ghost use Rattle.der_nodes.specs.FaultPlaces.{ShowsFaultAt, DerShowsFaultAt};
@@ -6,7 +6,7 @@ ghost use Rattle.der_nodes.specs.Laws.{OneListOfElements, OneBuffer, AppendedLea
 ghost use Rattle.der_nodes.specs.Laws.{PlacedAreElements, DerBufferIsBer};
 ghost use Rattle.der_nodes.specs.NodesReading.{ListsBerNodes, ListsDerNodes};
 
-/// By DER, the places of elements are those of the headers and contents in the input, and the elements
+/// By DER, the offsets of elements are those of the headers and contents in the input, and the elements
 /// are in the order of a visitor.
 pub fn places_are_exact()
     ensures stand { PlacesStand }
@@ -19,7 +19,7 @@ pub fn ber_places_are_exact()
     ensures preorder { BerPlacesInPreorder }
 {}
 
-/// An error has one place, and the input shows the error.
+/// An error has one offset, and the input shows the error.
 pub fn refusals_have_one_place()
     ensures one { OnePlace }
     ensures shows { PlacesShow }
@@ -36,7 +36,7 @@ pub fn elements_are_one()
 {}
 
 /// Appending octets to an input only lengthens the rest. The elements stay the same, and so does the
-/// place of an error.
+/// offset of an error.
 pub fn appended_leave_elements()
     ensures ber { AppendedLeaveBuffer ListsBerNodes }
     ensures der { AppendedLeaveBuffer ListsDerNodes }

@@ -1,4 +1,4 @@
-//! Reading without memory: the elements of an input by BER or DER, in preorder, each with its places,
+//! Reading without memory: the elements of an input by BER or DER, in preorder, each with its offsets,
 //! written to a buffer of the caller's.
 #![tactic(auto)]
 

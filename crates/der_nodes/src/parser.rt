@@ -45,8 +45,8 @@ pub fn parse_der_nodes<'a>(
     parse_der_nodes_placed(i, max_depth, nodes, &mut place)
 }
 
-/// Reads as `parse_der_nodes`, and gives the place of an Error: where the innermost element begins
-/// that shows it. The place of Incomplete is 0.
+/// Reads as `parse_der_nodes`, and gives the offset of an Error: where the innermost element begins
+/// that shows it. The offset of Incomplete is 0.
 pub fn parse_der_nodes_placed<'a>(
     i: &'a [u8],
     max_depth: usize,
@@ -105,8 +105,8 @@ pub fn parse_ber_nodes<'a>(
     parse_ber_nodes_placed(i, max_depth, nodes, &mut place)
 }
 
-/// Reads as `parse_ber_nodes`, and gives the place of an Error: where the innermost element begins
-/// that shows it. The place of Incomplete is 0.
+/// Reads as `parse_ber_nodes`, and gives the offset of an Error: where the innermost element begins
+/// that shows it. The offset of Incomplete is 0.
 pub fn parse_ber_nodes_placed<'a>(
     i: &'a [u8],
     max_depth: usize,

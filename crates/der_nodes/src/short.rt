@@ -99,7 +99,7 @@ fn is_time(first: u8, content: &[u8]) -> bool
 }
 
 /// The element of a universal type with a header of two octets, whose content of this size ends at a
-/// place.
+/// offset.
 #[inline(always)]
 pub(crate) fn universal_element(
     constructed: bool,

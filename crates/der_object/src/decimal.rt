@@ -29,7 +29,7 @@ fn decimal_length(n: u32) -> usize
     count
 }
 
-/// Writes a number in decimal before a place, with leading zeros up to a number of digits.
+/// Writes a number in decimal before an offset, with leading zeros up to a number of digits.
 pub fn write_digits(out: &mut [u8], end: usize, digits: usize, n: u32) -> usize
     requires room { length (at_least_digits digits n) ≤ end }
     requires within { end ≤ length out.old }
@@ -39,7 +39,7 @@ pub fn write_digits(out: &mut [u8], end: usize, digits: usize, n: u32) -> usize
     write_zeros(out, begin, digits.saturating_sub(end - begin))
 }
 
-/// Writes so many zeros before a place.
+/// Writes so many zeros before an offset.
 fn write_zeros(out: &mut [u8], end: usize, count: usize) -> usize
     requires room { count ≤ end }
     requires within { end ≤ length out.old }
@@ -50,7 +50,7 @@ fn write_zeros(out: &mut [u8], end: usize, count: usize) -> usize
     begin
 }
 
-/// Writes a number in decimal before a place.
+/// Writes a number in decimal before an offset.
 pub fn write_decimal(out: &mut [u8], end: usize, n: u64) -> usize
     requires room { length (decimal n) ≤ end }
     requires within { end ≤ length out.old }

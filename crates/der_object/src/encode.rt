@@ -254,7 +254,7 @@ fn send_header<W: Write>(
     send(w, &room[..end])
 }
 
-/// Writes the octets of a length before a place, of an indefinite one too (8.1.3.6).
+/// Writes the octets of a length before an offset, of an indefinite one too (8.1.3.6).
 fn write_any_length(out: &mut [u8], end: usize, stated: Length) -> usize
     requires room { length (length_octets stated) ≤ end }
     requires within { end ≤ length out.old }

@@ -49,7 +49,7 @@ fn send_some<W: Write>(w: &mut FaultWriter<W>, octets: &[u8]) -> Result<(), GenE
     send(w, &room[begin..])
 }
 
-/// Writes octets before a place, each after a space.
+/// Writes octets before an offset, each after a space.
 fn write_spaced(out: &mut [u8], end: usize, octets: &[u8]) -> usize
     requires room { 3 * length octets.now ≤ end }
     requires within { end ≤ length out.old }
@@ -62,7 +62,7 @@ fn write_spaced(out: &mut [u8], end: usize, octets: &[u8]) -> usize
     begin
 }
 
-/// Writes the two digits of an octet before a place, and a space before them.
+/// Writes the two digits of an octet before an offset, and a space before them.
 #[inline]
 fn write_pair(out: &mut [u8], end: usize, octet: u8) -> usize
     requires room { 3 ≤ end }

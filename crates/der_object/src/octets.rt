@@ -2,7 +2,7 @@
 ghost use Rattle.std.specs.Prelude.{◌≤◌, [], ◌∷◌, length};
 ghost use Rattle.der_object.specs.Room.{PutsBefore};
 
-/// Writes octets before a place.
+/// Writes octets before an offset.
 pub fn write_octets(out: &mut [u8], end: usize, octets: &[u8]) -> usize
     requires room { length octets.now ≤ end }
     requires within { end ≤ length out.old }
@@ -13,7 +13,7 @@ pub fn write_octets(out: &mut [u8], end: usize, octets: &[u8]) -> usize
     begin
 }
 
-/// Writes an octet before a place.
+/// Writes an octet before an offset.
 pub fn write_octet(out: &mut [u8], end: usize, octet: u8) -> usize
     requires room { length (octet ∷ []) ≤ end }
     requires within { end ≤ length out.old }

@@ -51,7 +51,7 @@ impl BerObject<'_> {
     }
 }
 
-/// Writes an object before a place (8.1.1), and returns where it begins.
+/// Writes an object before an offset (8.1.1), and returns where it begins.
 #[cycle(serialize)]
 fn write_object(out: &mut [u8], end: usize, o: &BerObject<'_>) -> usize
     requires room { length (encoding (tree o.now)) ≤ end }
@@ -75,7 +75,7 @@ fn write_object(out: &mut [u8], end: usize, o: &BerObject<'_>) -> usize
     }
 }
 
-/// Writes content octets before a place.
+/// Writes content octets before an offset.
 #[cycle(serialize)]
 #[tactic(auto, using(crate::proofs::Trees::sequence_tree, crate::proofs::Trees::set_tree))]
 fn write_content(out: &mut [u8], end: usize, content: &BerObjectContent<'_>) -> usize
@@ -103,7 +103,7 @@ fn write_content(out: &mut [u8], end: usize, content: &BerObjectContent<'_>) -> 
     }
 }
 
-/// Writes objects before a place, one after another.
+/// Writes objects before an offset, one after another.
 #[cycle(serialize)]
 fn write_items(out: &mut [u8], end: usize, items: &[BerObject<'_>]) -> usize
     requires room { length (encodings (trees items.now)) ≤ end }
@@ -117,7 +117,7 @@ fn write_items(out: &mut [u8], end: usize, items: &[BerObject<'_>]) -> usize
     begin
 }
 
-/// Writes the identifier octets of a header and the octets of a length before a place.
+/// Writes the identifier octets of a header and the octets of a length before an offset.
 fn write_header(out: &mut [u8], end: usize, header: &Header<'_>, n: usize) -> usize
     requires room { let h = header.now in
         length (identifier (class_of h) (is_constructed h) (number_of h) ++ shortest_length n) ≤ end }
@@ -136,7 +136,7 @@ fn write_header(out: &mut [u8], end: usize, header: &Header<'_>, n: usize) -> us
     )
 }
 
-/// Writes identifier octets before a place (8.1.2).
+/// Writes identifier octets before an offset (8.1.2).
 #[tactic(auto, using(der_base::proofs::Octets::Identifiers::identifier_short, der_base::proofs::Octets::Identifiers::identifier_long, der_base::proofs::Octets::Numbers::identifier_short_length, der_base::proofs::Octets::Numbers::identifier_long_length))]
 pub fn write_identifier(
     out: &mut [u8],
@@ -172,7 +172,7 @@ fn leading_octet(class: Class, constructed: bool) -> u8
     if constructed { class + 0x20 } else { class }
 }
 
-/// Writes a tag number before a place, in groups of seven bits (8.1.2.4.2).
+/// Writes a tag number before an offset, in groups of seven bits (8.1.2.4.2).
 fn write_groups(out: &mut [u8], end: usize, n: u32) -> usize
     requires room { length (groups n) ≤ end }
     requires within { end ≤ length out.old }
@@ -189,7 +189,7 @@ fn write_groups(out: &mut [u8], end: usize, n: u32) -> usize
     begin
 }
 
-/// Writes length octets before a place, the fewest (8.1.3, 10.1).
+/// Writes length octets before an offset, the fewest (8.1.3, 10.1).
 #[tactic(auto, using(der_base::proofs::Octets::Numbers::octets_leading), unfolding(der_base::specs::Octets::shortest_length))]
 pub fn write_length(out: &mut [u8], end: usize, n: usize) -> usize
     requires room { length (shortest_length n) ≤ end }
@@ -204,7 +204,7 @@ pub fn write_length(out: &mut [u8], end: usize, n: usize) -> usize
     }
 }
 
-/// Writes the fewest octets of a number before a place, none for 0.
+/// Writes the fewest octets of a number before an offset, none for 0.
 #[tactic(auto, using(der_base::proofs::Octets::Numbers::octets_from_bytes))]
 fn write_number(out: &mut [u8], end: usize, n: usize) -> usize
     requires room { length (octets n) ≤ end }
@@ -215,7 +215,7 @@ fn write_number(out: &mut [u8], end: usize, n: usize) -> usize
     write_octets(out, end, &n.to_be_bytes()[zeros..])
 }
 
-/// Writes a number in two's complement before a place, in the fewest octets (8.3.2).
+/// Writes a number in two's complement before an offset, in the fewest octets (8.3.2).
 #[tactic(auto, using(crate::proofs::Room::puts_both), unfolding(der_base::specs::Octets::shortest_integer))]
 pub fn write_integer(out: &mut [u8], end: usize, n: u64) -> usize
     requires room { length (shortest_integer n) ≤ end }

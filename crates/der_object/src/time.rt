@@ -61,7 +61,7 @@ fn fraction_length(nanosecond: Option<u32>) -> usize
     }
 }
 
-/// Writes the text of a time before a place, with a year of at least so many digits.
+/// Writes the text of a time before an offset, with a year of at least so many digits.
 pub fn write_time(out: &mut [u8], end: usize, year_digits: usize, time: ASN1DateTime) -> usize
     requires room { length (text_from_year year_digits time) ≤ end }
     requires within { end ≤ length out.old }
@@ -77,7 +77,7 @@ pub fn write_time(out: &mut [u8], end: usize, year_digits: usize, time: ASN1Date
     write_digits(out, begin, year_digits, time.year)
 }
 
-/// Writes a zone before a place.
+/// Writes a zone before an offset.
 fn write_zone(out: &mut [u8], end: usize, zone: ASN1TimeZone) -> usize
     requires room { length (zone_text zone) ≤ end }
     requires within { end ≤ length out.old }
@@ -101,7 +101,7 @@ fn sign(hours: i8, minutes: i8) -> u8
     if hours < 0 || minutes < 0 { b'-' } else { b'+' }
 }
 
-/// Writes a fraction of a second before a place, where there is one, without zeros at its end.
+/// Writes a fraction of a second before an offset, where there is one, without zeros at its end.
 fn write_fraction(out: &mut [u8], end: usize, nanosecond: Option<u32>) -> usize
     requires room { length (fraction_text nanosecond) ≤ end }
     requires within { end ≤ length out.old }

@@ -8,7 +8,7 @@ pub use der_base::rules::Rules;
 pub use der_ber::parse_ber;
 pub use der_der::parse_der;
 
-/// Refusals, and what a parser answers.
+/// Errors, and what a parser answers.
 pub mod error {
     pub use der_base::error::{
         BerError, DerConstraint, Err, Error, ErrorKind, GenError, IResult, Needed, ParseError,
@@ -97,7 +97,7 @@ pub mod der {
     };
 }
 
-/// Reading field after field, with the place of a refusal.
+/// Reading field after field, with the offset of an error.
 pub mod cursor {
     pub use der_cursor::{AsBerError, Cursor, FieldRefusal, Named, Refusal};
 }
@@ -110,7 +110,7 @@ pub mod values {
     };
 }
 
-/// Elements by their places in the input, read without memory by BER and DER, and a view of them.
+/// Elements by their offsets in the input, read without memory by BER and DER, and a view of them.
 pub mod nodes {
     pub use der_nodes::{
         Element, check_ber, check_der, parse_ber_nodes, parse_ber_nodes_counted,

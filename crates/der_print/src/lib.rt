@@ -1,4 +1,4 @@
-//! Elements as text for people: a line for each, with its place, its type and its value.
+//! Elements as text for people: a line for each, with its offset, its type and its value.
 #![tactic(auto)]
 
 mod characters;

@@ -1,9 +1,9 @@
-//! The text of a refusal.
+//! The text of an error.
 use crate::refusal::{Field, RequestRefusal};
 use std::error::Error;
 use std::fmt;
 
-/// The field, the place and the reason: "certificationRequestInfo.subject at 7: wrong value".
+/// The field, the offset and the reason: "certificationRequestInfo.subject at 7: wrong value".
 impl fmt::Display for RequestRefusal {
     fn fmt<W: fmt::Write>(&self, f: &mut fmt::Formatter<W>) -> fmt::Result {
         write!(f, "{} {}", self.field, self.refusal)

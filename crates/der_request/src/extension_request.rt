@@ -9,7 +9,7 @@ use der_x509::Extensions;
 use der_x509::parts::read_extension_list;
 
 /// Reads the values of an attribute `EXTENSION_REQUEST`: a list of extensions, and nothing after it.
-/// Places of refusals are counted in the octets of the values.
+/// Offsets of errors are counted in the octets of the values.
 ///
 /// ```
 /// for attribute in request.info.attributes.iter() {

@@ -147,12 +147,12 @@ pub(crate) fn read_element_content_as<'a>(
 /// class Universal at this depth, so the items of a list at one less. A tag number that has no type
 /// gives `Unknown`, with a header of class Universal that has no raw tag.
 ///
-/// Refusals, in this order:
+/// Errors, in this order:
 /// - InvalidLength for a definite length above `MAX_OBJECT_SIZE`;
 /// - Incomplete for a definite length with fewer octets after it, with the whole length as its size;
 /// - BerMaxDepth at depth 0;
 /// - ConstructExpected for an indefinite length without the constructed bit;
-/// - the refusals of framing, or Incomplete with the number of octets that the elements of an
+/// - the errors of framing, or Incomplete with the number of octets that the elements of an
 ///   indefinite length lack;
 /// - those of the type, and of the first item that is refused.
 ///
@@ -172,7 +172,7 @@ pub fn ber_read_element_content_as<'a>(
 
 /// Reads the content of a universal type by DER, as `ber_read_element_content_as` does by BER.
 ///
-/// Refusals, in this order: the constraint IndefiniteLength; InvalidLength for a length above
+/// Errors, in this order: the constraint IndefiniteLength; InvalidLength for a length above
 /// `MAX_OBJECT_SIZE`; BerMaxDepth at depth 0; ConstructExpected for a primitive SEQUENCE or SET,
 /// and the constraint Constructed for another type that is constructed; those of the type, and of
 /// the first item that is refused. Incomplete with the whole length where fewer octets are left;
@@ -196,7 +196,7 @@ pub fn der_read_element_content_as<'a>(
 /// `MAX_RECURSION`. A class other than Universal, and a number that has no content of its own, give
 /// Unknown.
 ///
-/// Refusals are those of `der_read_element_content_as`. Incomplete where fewer octets are left: with
+/// Errors are those of `der_read_element_content_as`. Incomplete where fewer octets are left: with
 /// the whole length for class Universal, and with the number of missing octets for others.
 /// OutOfMemory only for a list that has items.
 pub fn der_read_element_content<'a>(alloc: Global, i: &'a [u8], hdr: Header<'a>) -> BerResult<'a>
@@ -233,7 +233,7 @@ fn object_from_any<'a>(alloc: Global, any: Any<'a>) -> Result<BerObject<'a>, Err
 /// their number as the definite length, at the depth `MAX_RECURSION`. The header gives the tag number
 /// and the constructed bit. Its class and its length are ignored.
 ///
-/// Refusals are those of `ber_read_element_content_as`. Never Incomplete. OutOfMemory only for a
+/// Errors are those of `ber_read_element_content_as`. Never Incomplete. OutOfMemory only for a
 /// list that has items.
 pub fn ber_object_from_any<'a>(alloc: Global, any: Any<'a>) -> Result<BerObject<'a>, Err<BerError>>
     ensures { AnswersObjectOf any.entry result }

@@ -75,7 +75,7 @@ fn read_der_natural(i: &[u8]) -> IResult<&[u8], &[u8], BerError>
 /// Reads an INTEGER from -2^63 to 2^63-1 by BER, and returns it with what is left of the input. It may
 /// have more octets than its number needs. No octets are 0.
 ///
-/// Refusals, in this order: those of `Any::from_ber`; UnexpectedTag for another tag number;
+/// Errors, in this order: those of `Any::from_ber`; UnexpectedTag for another tag number;
 /// ConstructUnexpected; IntegerTooLarge. Incomplete as for `Any::from_ber`.
 pub fn parse_ber_i64(i: &[u8]) -> IResult<&[u8], i64, BerError>
     ensures { AnswersBerNumber (λ v. v) (signed 64) i.now result }
@@ -115,7 +115,7 @@ pub fn parse_ber_u32(i: &[u8]) -> IResult<&[u8], u32, BerError>
 
 /// Reads an INTEGER from -2^63 to 2^63-1 by DER, and returns the rest of the input with it.
 ///
-/// Refusals, in this order: those of `Any::from_der`; UnexpectedTag for another tag number; the
+/// Errors, in this order: those of `Any::from_der`; UnexpectedTag for another tag number; the
 /// constraints Constructed, IntegerEmpty, IntegerLeadingZeroes, IntegerLeadingFF; IntegerTooLarge.
 /// Incomplete as of `Any::from_der`.
 pub fn parse_der_i64(i: &[u8]) -> IResult<&[u8], i64, BerError>

@@ -8,7 +8,7 @@
 //! Constructed, before all else; by BER a BOOLEAN, an ENUMERATED or an identifier with
 //! ConstructUnexpected, and a BIT STRING, a time or a string other than OCTET STRING with Unsupported.
 //! The readers of strings refuse characters that the type does not have with StringInvalidCharset.
-//! The other refusals of a content are named at each reader.
+//! The other errors of a content are named at each reader.
 ghost use Rattle.std.specs.Prelude.{◌≡◌, ℕ, false, IsTrue, List, MatchResult};
 ghost use Rattle.der_base.specs.declared.header.Class.{Class};
 ghost use Rattle.der_base.specs.declared.header.Length.{Length};
@@ -130,7 +130,7 @@ fn parse_der_leaf<'a>(i: &'a [u8], tag: Tag) -> BerResult<'a>
 /// input. `ber_read_element_content_as` reads its content as that of the universal type of the
 /// number, at the depth `MAX_RECURSION`. The object has the header as read.
 ///
-/// Refusals, in this order: those of `ber_read_element_header`; UnexpectedTag for another number;
+/// Errors, in this order: those of `ber_read_element_header`; UnexpectedTag for another number;
 /// those of `ber_read_element_content_as`. Incomplete with the number of octets that the header
 /// lacks, the whole of a definite length whose content is cut short, or the number of octets that
 /// the elements of an indefinite length lack. OutOfMemory only for a list that has items, or for an
@@ -152,28 +152,28 @@ pub fn parse_der_with_tag<'a>(alloc: Global, i: &'a [u8], tag: Tag) -> BerResult
 }
 
 /// Reads a SEQUENCE or SEQUENCE OF by BER (8.9, 8.10). ConstructExpected where it is primitive, and the
-/// first refusal of an item.
+/// first error of an item.
 pub fn parse_ber_sequence<'a>(alloc: Global, i: &'a [u8]) -> BerResult<'a>
     ensures { AnswersTyped Rules.Ber 16 i.now result }
 {
     parse_ber_with_tag(alloc, i, Tag::Sequence)
 }
 
-/// Reads a SEQUENCE or SEQUENCE OF by DER. Refusals as of `parse_ber_sequence`.
+/// Reads a SEQUENCE or SEQUENCE OF by DER. Errors as of `parse_ber_sequence`.
 pub fn parse_der_sequence<'a>(alloc: Global, i: &'a [u8]) -> BerResult<'a>
     ensures { AnswersTyped Rules.Der 16 i.now result }
 {
     parse_der_with_tag(alloc, i, Tag::Sequence)
 }
 
-/// Reads a SET or SET OF by BER (8.11, 8.12). Refusals as of `parse_ber_sequence`.
+/// Reads a SET or SET OF by BER (8.11, 8.12). Errors as of `parse_ber_sequence`.
 pub fn parse_ber_set<'a>(alloc: Global, i: &'a [u8]) -> BerResult<'a>
     ensures { AnswersTyped Rules.Ber 17 i.now result }
 {
     parse_ber_with_tag(alloc, i, Tag::Set)
 }
 
-/// Reads a SET or SET OF by DER, its items in any order. Refusals as of `parse_ber_sequence`.
+/// Reads a SET or SET OF by DER, its items in any order. Errors as of `parse_ber_sequence`.
 pub fn parse_der_set<'a>(alloc: Global, i: &'a [u8]) -> BerResult<'a>
     ensures { AnswersTyped Rules.Der 17 i.now result }
 {
@@ -288,7 +288,7 @@ pub fn parse_ber_enum(i: &[u8]) -> BerResult<'_>
     parse_ber_leaf(i, Tag::Enumerated)
 }
 
-/// Reads an ENUMERATED from 0 to 2^64-1 by DER, in the fewest octets. The refusals of
+/// Reads an ENUMERATED from 0 to 2^64-1 by DER, in the fewest octets. The errors of
 /// `parse_der_integer`, then those of `parse_ber_enum`.
 pub fn parse_der_enum(i: &[u8]) -> BerResult<'_>
     ensures { AnswersLeaf Rules.Der 10 i.now result }
@@ -430,7 +430,7 @@ pub fn parse_ber_generalizedtime(i: &[u8]) -> BerResult<'_>
     parse_ber_leaf(i, Tag::GeneralizedTime)
 }
 
-/// Reads a GeneralizedTime by DER, with seconds and the zone Z (11.7). The refusals of
+/// Reads a GeneralizedTime by DER, with seconds and the zone Z (11.7). The errors of
 /// `parse_der_utctime`, then FractionNotMinimal.
 pub fn parse_der_generalizedtime(i: &[u8]) -> BerResult<'_>
     ensures { AnswersLeaf Rules.Der 24 i.now result }

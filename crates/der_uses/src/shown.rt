@@ -68,7 +68,7 @@ fn number_inside<'a>(content: &'a [u8], _header: Header<'a>) -> IResult<&'a [u8]
     parse_der_u32(content)
 }
 
-/// `Cursor`: the serial number of a certificate. A refusal has its place.
+/// `Cursor`: the serial number of a certificate. An error has its offset.
 pub fn read_serial_number(certificate: &[u8]) -> Result<u64, Refusal<BerError>> {
     let mut fields = Cursor::new(certificate).open_sequence()?.open_sequence()?;
     fields.open_tagged(0)?; // the version

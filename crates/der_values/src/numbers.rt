@@ -21,7 +21,7 @@ pub fn read_integer(rules: Rules, octets: &[u8]) -> Result<&[u8], BerError>
     }
 }
 
-/// The number of an INTEGER from -2^63 to 2^63-1. After the refusals of `read_integer`,
+/// The number of an INTEGER from -2^63 to 2^63-1. After the errors of `read_integer`,
 /// IntegerTooLarge for any other.
 pub fn read_i64(rules: Rules, octets: &[u8]) -> Result<i64, BerError>
     ensures { Decodes (λ v. v) (numbers rules (signed 64)) octets.now result }
@@ -36,7 +36,7 @@ pub fn read_i32(rules: Rules, octets: &[u8]) -> Result<i32, BerError>
     integer::read_i32(read_integer(rules, octets)?)
 }
 
-/// The number of an INTEGER from 0 to 2^64-1. After the refusals of `read_integer`, IntegerNegative for
+/// The number of an INTEGER from 0 to 2^64-1. After the errors of `read_integer`, IntegerNegative for
 /// one below, IntegerTooLarge for one above.
 pub fn read_u64(rules: Rules, octets: &[u8]) -> Result<u64, BerError>
     ensures { Decodes pos (numbers rules (unsigned 64)) octets.now result }
@@ -51,7 +51,7 @@ pub fn read_u32(rules: Rules, octets: &[u8]) -> Result<u32, BerError>
     integer::read_u32(read_integer(rules, octets)?)
 }
 
-/// The number of an ENUMERATED (8.4) from 0 to 2^64-1, with the refusals of `read_u64`.
+/// The number of an ENUMERATED (8.4) from 0 to 2^64-1, with the errors of `read_u64`.
 pub fn read_enumerated(rules: Rules, octets: &[u8]) -> Result<u64, BerError>
     ensures { Decodes (λ v. v) (enumerated_numbers rules) octets.now result }
 {

@@ -108,7 +108,7 @@ impl<'b, 'a> Node<'b, 'a> {
     }
 }
 
-/// The octets between two places of the input. There are none if a place is outside it.
+/// The octets between two offsets of the input. There are none if an offset is outside it.
 fn between(input: &[u8], from: usize, to: usize) -> &[u8]
     ensures { result.now ≡ octets_between input.now from to }
 {

@@ -16,8 +16,8 @@ pub struct Nodes<'b, 'a> {
 }
 
 impl<'b, 'a> Nodes<'b, 'a> {
-    /// The view of these elements over an input. The elements may be any: places outside the input are
-    /// places of no octets.
+    /// The view of these elements over an input. The elements may be any: offsets outside the input are
+    /// offsets of no octets.
     ///
     /// ```
     /// let (_, count) = parse_der_nodes(input, 50, &mut elements)?;

@@ -27,7 +27,7 @@ pub enum Cause {
     OtherPart,
     /// A part of a constructed BIT STRING has unused bits, and another part follows.
     UnusedBitsInside,
-    /// The octets aren't elements of DER, and no place of this is known.
+    /// The octets aren't elements of DER, and no offset of this is known.
     NotDer,
     /// Elements are nested deeper than the limit.
     TooDeep,

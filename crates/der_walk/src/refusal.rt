@@ -17,7 +17,7 @@ pub struct Refusal {
 }
 
 impl Refusal {
-    /// A refusal of an element whose header isn't read, or of the end of the input.
+    /// An error of an element whose header isn't read, or of the end of the input.
     pub(crate) fn at(offset: usize, cause: Cause) -> Refusal
         ensures { result ≡ record { offset = offset; step = None; cause = cause } }
     {
@@ -28,7 +28,7 @@ impl Refusal {
         }
     }
 
-    /// A refusal of an element that was read.
+    /// An error of an element that was read.
     pub(crate) fn of(element: &Element<'_>, cause: Cause) -> Refusal
         ensures offset { result.offset ≡ element.now.offset }
         ensures cause { result.cause ≡ cause }

@@ -83,7 +83,7 @@ impl<'a> Walk<'a> {
     }
 
     /// The next element. None at the end of the input: then the input is elements, and those that were visited are
-    /// all that a walk visits of them, each with its place.
+    /// all that a walk visits of them, each with its offset.
     pub fn next_element(&mut self) -> Result<Option<Element<'a>>, Refusal>
         ensures { (x : Extras) (r : Rules) (i : List ℕ) (vs : List Visited) → HasVisited x r i self.old vs
             → VisitsNext x r i vs self.new result }

@@ -1,9 +1,9 @@
-//! The text of a refusal.
+//! The text of an error.
 use crate::refusal::{CertificateRefusal, Field};
 use std::error::Error;
 use std::fmt;
 
-/// The field, the place and the reason: "tbsCertificate.version at 9: wrong value".
+/// The field, the offset and the reason: "tbsCertificate.version at 9: wrong value".
 impl fmt::Display for CertificateRefusal {
     fn fmt<W: fmt::Write>(&self, f: &mut fmt::Formatter<W>) -> fmt::Result {
         write!(f, "{} {}", self.field, self.refusal)

@@ -1,4 +1,4 @@
-//! Refusals: the field, the place and the reason.
+//! Errors: the field, the offset and the reason.
 ghost use Rattle.der_x509.specs.Readers.{NamesField};
 
 use der_base::error::BerError;
@@ -31,12 +31,12 @@ pub enum Field {
 pub struct CertificateRefusal {
     /// The field that is refused, the first that isn't in order.
     pub field: Field,
-    /// The place in the input, and the reason.
+    /// The offset in the input, and the reason.
     pub refusal: Refusal<BerError>,
 }
 
 impl Field {
-    /// The value, or the refusal of this field.
+    /// The value, or the error of this field.
     pub(crate) fn of<T>(self, found: Result<T, Refusal<BerError>>) -> Result<T, CertificateRefusal>
         ensures { NamesField self found result }
     {

@@ -182,7 +182,7 @@ fn push_output(
     }
 }
 
-/// Adds what the command writes of an object, or a front of it.
+/// Adds what the command writes of an object, or a prefix of it.
 fn push(
     alloc: Global,
     command: Command,
@@ -213,7 +213,7 @@ fn push_encoding(
     pending.extend_from_slice(&encoding)
 }
 
-/// Adds the text of an object on a line of its own, or a front of it.
+/// Adds the text of an object on a line of its own, or a prefix of it.
 fn push_line(alloc: Global, pending: &mut Vec<u8>, object: &BerObject<'_>) -> Result<(), AllocError>
     ensures ok { OnOk result (pending.new.items ≡ pending.old.items ++ line_of (tree object.now)) }
     ensures err { OnErr result (AddsSome pending.old.items pending.new.items) }
@@ -224,7 +224,7 @@ fn push_line(alloc: Global, pending: &mut Vec<u8>, object: &BerObject<'_>) -> Re
     Ok(())
 }
 
-/// Adds the text that a printer writes, or a front of it.
+/// Adds the text that a printer writes, or a prefix of it.
 fn push_text(
     alloc: Global,
     pending: &mut Vec<u8>,

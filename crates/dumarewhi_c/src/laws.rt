@@ -2,7 +2,7 @@
 ghost use Rattle.dumarewhi_c.specs.Laws.{BerElementsLieWithin, BerFirstLiesWithin};
 ghost use Rattle.dumarewhi_c.specs.Laws.{DerElementsLieWithin, DerFirstLiesWithin};
 
-/// The places of the elements that a call writes are within the input: the header begins no later than
+/// The offsets of the elements that a call writes are within the input: the header begins no later than
 /// the content, this begins no later than it ends, and it ends within the input.
 pub fn elements_lie_within()
     ensures der { DerElementsLieWithin }

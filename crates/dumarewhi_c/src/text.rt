@@ -39,7 +39,7 @@ fn put_number(room: &mut [u8], at: usize, number: u64) -> usize
     put_text(room, at, digits.format(number).as_bytes())
 }
 
-/// Writes a text from a place on, as far as there is room. Returns the place after it, room or not.
+/// Writes a text from an offset on, as far as there is room. Returns the offset after it, room or not.
 pub(crate) fn put_text(room: &mut [u8], at: usize, text: &[u8]) -> usize
     ensures { PutsText room.old at text.now room.new result }
 {

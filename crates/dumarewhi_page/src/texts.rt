@@ -1,4 +1,4 @@
-//! Texts of rows and of refusals. Each call writes as many octets of the text, in UTF-8, as there is room for, and
+//! Texts of rows and of errors. Each call writes as many octets of the text, in UTF-8, as there is room for, and
 //! returns the text's length.
 use crate::fault::Fault;
 use crate::line::Line;
@@ -9,9 +9,9 @@ use crate::rules::rules_numbered;
 use der_print::{Limit, Remark, Value};
 use der_walk::{Refusal, Walk};
 
-/// A part of a refusal.
+/// A part of an error.
 enum Part {
-    /// The place, the path and the cause, as `der` prints them.
+    /// The offset, the path and the cause, as `der` prints them.
     Whole,
     Cause,
     Path,

@@ -1,5 +1,5 @@
 //! `ldap` prints the messages of LDAP (RFC 4511) on its standard input: number, operation, result and
-//! names. It reports a refused one with its offset, the field and the place in it.
+//! names. It reports a refused one with its offset, the field and the offset in it.
 #![tactic(auto)]
 
 #[cfg(test)]

@@ -30,7 +30,7 @@ const MESSAGES: &[u8] = b"\
 
 const LINES: &str = "1 BindRequest \"cn=a\"\n1 BindResponse 0 \"\" \"\"\n2 UnbindRequest\n";
 
-/// What the octets are, the octets, what is printed, and the refusal.
+/// What the octets are, the octets, what is printed, and the error.
 type Row = (&'static str, &'static [u8], &'static str, &'static str);
 
 /// Streams that are printed up to their end, or are refused.
@@ -58,7 +58,7 @@ const STREAMS: &[Row] = &[
         "message at 7: too large"),
 ];
 
-/// What is printed of a stream that gives at most so many octets a read, and the text of the refusal,
+/// What is printed of a stream that gives at most so many octets a read, and the text of the error,
 /// or nothing where there is none.
 fn run(alloc: Global, octets: &[u8], most: usize) -> Result<(Vec<u8>, String), AllocError> {
     let mut printed = Vec::new(alloc);

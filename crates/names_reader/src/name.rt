@@ -97,7 +97,7 @@ fn read_relative_name<'a>(
     Ok(())
 }
 
-/// The refusal of an element for which there is no memory.
+/// The error of an element for which there is no memory.
 fn out_of_memory(cursor: &Cursor<'_>) -> Refusal<BerError>
     ensures { NoMemory result }
 {

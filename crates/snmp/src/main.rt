@@ -1,5 +1,5 @@
 //! `snmp` prints the messages of SNMP on its standard input, one after another, of version 1 (RFC 1157)
-//! and 2c (RFC 1901, RFC 3416). It reports a refused one with its offset, the field and the place in it.
+//! and 2c (RFC 1901, RFC 3416). It reports a refused one with its offset, the field and the offset in it.
 #![tactic(auto)]
 
 use anyhow::{Result, anyhow};

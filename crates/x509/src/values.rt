@@ -20,7 +20,7 @@ pub enum Value<'a> {
     Other,
 }
 
-/// Reads the value of an extension. The place of a refusal is that in the value.
+/// Reads the value of an extension. The offset of an error is that in the value.
 pub fn read_value<'a>(extension: &Extension<'a>) -> Result<Value<'a>, FieldRefusal> {
     let octets = extension.value;
     if extension.identifier.is(KEY_USAGE) {
