@@ -46,7 +46,7 @@ short_der_header i c p t first w rest lt e s = record {
   length = omega (arith, s.0);
 }
 
-short_octets : (i : List ℕ) (first : ℕ) (w rest : List ℕ) → IsShort i first w rest → length i ≡ 2 + length w + length rest
+pub short_octets : (i : List ℕ) (first : ℕ) (w rest : List ℕ) → IsShort i first w rest → length i ≡ 2 + length w + length rest
 short_octets i first w rest s = omega (arith, ap length s.1, length-append w rest)
 
 -- lists are SEQUENCE and SET

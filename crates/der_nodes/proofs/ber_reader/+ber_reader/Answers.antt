@@ -2,7 +2,7 @@ use Rattle.std.proofs.Common.{◌≡◌, ◌+◌, ◌-◌, ◌≤◌, ◌<◌, �
 use Rattle.std.specs.Prelude.{IfOk}
 use Rattle.std.proofs.Common.{refl, sym, ap, subst, ◌∙◌, arith, rules}
 use Rattle.std.proofs.lemmas.Bool.Decides.{nat_tests}
-use Rattle.std.proofs.lemmas.Result.{err_from_is_err_and}
+use Rattle.std.proofs.lemmas.Result.{err_from_is_err_and, IfOk-weaker}
 use Rattle.der_base.specs.declared.header.Length.TheVariants.{Definite, Indefinite}
 use Rattle.der_base.specs.Answer.{MatchAnswer}
 use Rattle.der_base.specs.Content.{BeginsWithContent, ContentLacks}
@@ -22,7 +22,7 @@ use Rattle.der_nodes.proofs.BerElements.{element_at, begins_at, one_more_element
 use Rattle.der_nodes.proofs.BerFaultPlaces.{header_refused_at, any_framing_refused_at, inside_content_refused, item_refused_at, items_refuse_at}
 use Rattle.der_nodes.proofs.BerFaultPlaces.{content_answered_at, framing_behind, inside_behind, lacks_behind, framed_refused, refusal_passed_on, settled, settled_ok}
 use Rattle.der_nodes.proofs.BerWriting.{no_items_written, one_more_written, whole_written, list_answered}
-use Rattle.der_nodes.proofs.ShortLaws.{IsListOctet, framed_element, ber_plain_written, ber_list_written, ber_list_refused}
+use Rattle.der_nodes.proofs.ShortLaws.{IsListOctet, short_octets, framed_element, ber_plain_written, ber_list_written, ber_list_refused}
 use Rattle.der_nodes.proofs.ber_reader.+ber_reader.Goals as goal
 
 -- a short element
@@ -50,6 +50,31 @@ read_element-returns-then-is_plain_leaf-clause-found g t c =
     framed_element framing_budget c.args.max_depth c.args.i.now c.args.end c.args.nodes.now c.args.count short.rest.now (c.args.count + 1) c.put-then-is_plain_leaf.new.nodes
     (ber_plain_written framing_budget c.args.max_depth c.args.i.now short.content.now short.rest.now short.first c.args.end c.args.count c.args.nodes.now c.put-then-is_plain_leaf.new.nodes
     (omega arith) (omega arith) (omega arith) c.requires.room c.in-Some.ensures (c.is_plain_leaf.ensures is) (rw (← c.universal_element-then-is_plain_leaf.ensures) c.put-then-is_plain_leaf.ensures))
+
+pub read_element-returns-in_err-next-clause-bounded : goal.read_element-returns-in_err-next-clause-bounded
+read_element-returns-in_err-next-clause-bounded g t c =
+    let short = c.in-Some.short in
+    let size = short_octets c.args.i.now short.first short.content.now short.rest.now c.in-Some.ensures in
+    omega (arith, size, c.in_err-next.ensures.bounded)
+
+pub read_element-returns-then-is_list_octet-clause-counted : goal.read_element-returns-then-is_list_octet-clause-counted
+read_element-returns-then-is_list_octet-clause-counted g t c =
+    let short = c.in-Some.short in
+    let size = short_octets c.args.i.now short.first short.content.now short.rest.now c.in-Some.ensures in
+    let k = c.in_ok-next.ensures.counted in
+    (omega (arith, k.0), omega (arith, k.1, size, c.requires.room), omega (arith, k.2), omega (arith, k.3, size))
+
+pub read_element-returns-then-is_list_octet-clause-bounded : goal.read_element-returns-then-is_list_octet-clause-bounded
+read_element-returns-then-is_list_octet-clause-bounded g t c =
+    let short = c.in-Some.short in
+    let size = short_octets c.args.i.now short.first short.content.now short.rest.now c.in-Some.ensures in
+    omega (arith, size, c.in_ok-next.ensures.bounded)
+
+pub read_element-returns-then-is_plain_leaf-clause-counted : goal.read_element-returns-then-is_plain_leaf-clause-counted
+read_element-returns-then-is_plain_leaf-clause-counted g t c =
+    let short = c.in-Some.short in
+    let size = short_octets c.args.i.now short.first short.content.now short.rest.now c.in-Some.ensures in
+    (omega arith, omega (arith, size, c.requires.room), omega arith, omega (arith, size))
 
 -- an element
 
@@ -130,6 +155,24 @@ read_content-returns-in_ok-rest-in-Definite-clause-found g t c =
           c.put_whole.ensures,
     )
 
+pub read_content-returns-in_ok-rest-in-Definite-clause-counted : goal.read_content-returns-in_ok-rest-in-Definite-clause-counted
+read_content-returns-in_ok-rest-in-Definite-clause-counted g t c =
+    let whole : length c.args.behind.now ≡ length c.in_ok-rest-in-Definite.octets.now + length c.in_ok-rest-in-Definite.rest.now =
+    ap length c.in_ok-rest-in-Definite.ensures.1 ∙ length-append c.in_ok-rest-in-Definite.octets.now c.in_ok-rest-in-Definite.rest.now in
+    IfOk-weaker c.read_items-values.result _ _ (λ m k. (k.0, omega (arith, k.1, whole, c.requires.room), k.2, omega (arith, k.3, whole))) c.read_items-values.ensures.counted
+
+pub read_content-returns-in_ok-rest-in-Definite-clause-bounded : goal.read_content-returns-in_ok-rest-in-Definite-clause-bounded
+read_content-returns-in_ok-rest-in-Definite-clause-bounded g t c =
+    let whole : length c.args.behind.now ≡ length c.in_ok-rest-in-Definite.octets.now + length c.in_ok-rest-in-Definite.rest.now =
+    ap length c.in_ok-rest-in-Definite.ensures.1 ∙ length-append c.in_ok-rest-in-Definite.octets.now c.in_ok-rest-in-Definite.rest.now in
+    omega (arith, whole, c.read_items-values.ensures.bounded)
+
+pub read_content-returns-in_ok-rest-in-Definite-clause-framed : goal.read_content-returns-in_ok-rest-in-Definite-clause-framed
+read_content-returns-in_ok-rest-in-Definite-clause-framed g t c =
+    let whole : length c.args.behind.now ≡ length c.in_ok-rest-in-Definite.octets.now + length c.in_ok-rest-in-Definite.rest.now =
+    ap length c.in_ok-rest-in-Definite.ensures.1 ∙ length-append c.in_ok-rest-in-Definite.octets.now c.in_ok-rest-in-Definite.rest.now in
+    omega (arith, whole, c.read_items-values.ensures.bounded)
+
 pub read_content-returns-in_ok-rest-in-Indefinite-clause-found : goal.read_content-returns-in_ok-rest-in-Indefinite-clause-found
 read_content-returns-in_ok-rest-in-Indefinite-clause-found g t c =
     let h = c.args.header.now in
@@ -185,6 +228,19 @@ read_items-returns-in-Err-clause-found g t c =
     item_refused_at _ _ _ c.args.max_depth rest (c.args.end - length rest) _ c.in-Err.e c.refuse_cut_item.result c.refuse_cut_item.ensures some c.in-Err.ensures.found
     (λ x n h. items_refuse_at c.args.content.now u rest k.2.items k.2.forms c.args.max_depth a (c.args.end - length rest) x _ at k.1 k.2.joins n h)
 
+pub read_items-returns-in-Err-clause-bounded : goal.read_items-returns-in-Err-clause-bounded
+read_items-returns-in-Err-clause-bounded g t c =
+    let k = c.loop-rest.invariant in
+    omega (arith, k.5, ap length k.1, length-append k.0 c.loop-rest.rest.now, c.in-Err.ensures.bounded)
+
+pub read_items-returns-clause-counted : goal.read_items-returns-clause-counted
+read_items-returns-clause-counted g t c =
+    let k = c.loop-rest.invariant in
+    (k.3, omega (arith, k.4), omega (arith, k.6), omega (arith, k.5))
+
+pub read_items-returns-clause-bounded : goal.read_items-returns-clause-bounded
+read_items-returns-clause-bounded g t c = omega (arith, c.loop-rest.invariant.5)
+
 -- the elements inside an indefinite length
 
 pub read_to_end_marker-elements-init : goal.read_to_end_marker-elements-init
@@ -232,6 +288,32 @@ read_to_end_marker-returns-in-None-clause-found g t c =
       ends_at i rest behind c.args.budget next.0 k.2 k.1 next.1,
       subst (λ y. WritesItems g.N.Slot.slot c.args.max_depth u (c.args.end - length i) c.args.nodes.now c.args.count c.elements.next y) (sym c.in_default.ensures.found) k.3,
     )
+
+pub read_to_end_marker-returns-in_err-behind-clause-bounded : goal.read_to_end_marker-returns-in_err-behind-clause-bounded
+read_to_end_marker-returns-in_err-behind-clause-bounded g t c = omega (arith, c.elements.invariant.6, c.read_next.ensures.counted)
+
+pub read_to_end_marker-returns-in-None-clause-counted : goal.read_to_end_marker-returns-in-None-clause-counted
+read_to_end_marker-returns-in-None-clause-counted g t c =
+    let k = c.elements.invariant in
+    let next = subst (λ x. StandsNext c.elements.rest.now c.args.budget x c.in_ok-behind.behind.now) c.in-None.is c.in_ok-behind.ensures.found in
+    let marker = ap length next.1 in
+    (k.4, omega (arith, k.5, marker), omega (arith, k.7, c.read_next.ensures.counted), omega (arith, k.6, marker, c.read_next.ensures.counted))
+
+pub read_to_end_marker-returns-in-None-clause-bounded : goal.read_to_end_marker-returns-in-None-clause-bounded
+read_to_end_marker-returns-in-None-clause-bounded g t c = omega (arith, c.elements.invariant.6, c.read_next.ensures.counted)
+
+pub read_to_end_marker-returns-in-None-clause-framed : goal.read_to_end_marker-returns-in-None-clause-framed
+read_to_end_marker-returns-in-None-clause-framed g t c =
+    let k = c.elements.invariant in
+    let next = subst (λ x. StandsNext c.elements.rest.now c.args.budget x c.in_ok-behind.behind.now) c.in-None.is c.in_ok-behind.ensures.found in
+    omega (arith, k.6, ap length next.1, ap length k.1, length-append k.0 c.elements.rest.now, c.read_next.ensures.counted)
+
+pub read_to_end_marker-returns-in_err-after-in-Some-found-clause-bounded : goal.read_to_end_marker-returns-in_err-after-in-Some-found-clause-bounded
+read_to_end_marker-returns-in_err-after-in-Some-found-clause-bounded g t c =
+    let k = c.elements.invariant in
+    let next = subst (λ x. StandsNext c.elements.rest.now c.args.budget x c.in_ok-behind.behind.now) c.in-Some-found.is c.in_ok-behind.ensures.found in
+    let two = header_takes_two _ _ _ _ _ _ next.2 in
+    omega (arith, k.6, two, ap length k.1, length-append k.0 c.elements.rest.now, c.read_next.ensures.counted, c.in_err-after-in-Some-found.ensures.bounded)
 
 pub read_to_end_marker-read_content-requires : goal.read_to_end_marker-read_content-requires
 read_to_end_marker-read_content-requires g t c =
