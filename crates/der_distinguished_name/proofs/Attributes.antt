@@ -4,22 +4,21 @@ use Rattle.der_parser.specs.declared.error.Err.{Err as Refused}
 use Rattle.der_parser.specs.declared.error.Error.{Error as BerError}
 use Rattle.der_parser.specs.declared.ber.BerObject.{BerObject}
 use Rattle.der_parser.specs.declared.oid.Oid.{Oid}
-use Rattle.der_parser.specs.Oids.{octets_of}
 use Rattle.der_parser.specs.View.{tree}
 use Rattle.der_distinguished_name.specs.declared.name.Attr.{Attr}
 use Rattle.der_distinguished_name.specs.Inner.{AnswersWhole}
 use Rattle.der_distinguished_name.specs.Names.{AnswersSpelled, Attribute, SpellsAttribute, SpellsIdentifier, SpellsParts, SpellsSet, SpellsString}
-use Rattle.der_distinguished_name.specs.Views.{attribute_of}
+use Rattle.der_distinguished_name.specs.Views.{attribute_of, identifier_of}
 use Rattle.der_distinguished_name.proofs.Elements.{element_some}
 use Rattle.der_distinguished_name.proofs.Lists.{nil_or_more}
 
 -- the type is refused
-pub no_type : (i : List ℕ) (e : Refused BerError) → AnswersSpelled {T = Oid} SpellsIdentifier octets_of i (Err e) → AnswersWhole {T = Attr} SpellsParts attribute_of i (Err e)
+pub no_type : (i : List ℕ) (e : Refused BerError) → AnswersSpelled {T = Oid} SpellsIdentifier identifier_of i (Err e) → AnswersWhole {T = Attr} SpellsParts attribute_of i (Err e)
 no_type i e t = record { found = tt; only = λ a s. t.only a.0 s.string (s.identifier, s.octets, s.type) }
 
-module _ (i : List ℕ) (behind : Bor (List ℕ)) (x : Oid) (t : AnswersSpelled SpellsIdentifier octets_of i (Ok (behind, x))) where
+module _ (i : List ℕ) (behind : Bor (List ℕ)) (x : Oid) (t : AnswersSpelled SpellsIdentifier identifier_of i (Ok (behind, x))) where
   -- what stands behind the type that is spelled
-  value_behind : (a : Attribute) (s : SpellsParts i a) → (octets_of x ≡ a.0) × (behind.now ≡ s.string ++ [])
+  value_behind : (a : Attribute) (s : SpellsParts i a) → (identifier_of x ≡ a.0) × (behind.now ≡ s.string ++ [])
   value_behind a s =
       let (e, q) = t.only a.0 s.string (s.identifier, s.octets, s.type) in
       (e, q ∙ sym (append-nil s.string))
@@ -41,7 +40,7 @@ module _ (i : List ℕ) (behind : Bor (List ℕ)) (x : Oid) (t : AnswersSpelled 
           only = λ a s.
               let p = value_behind a s in
               let q = v.only a.1 [] (s.string, p.1, s.value) in
-              rw (p.0, q.0) refl;
+              ap (λ y. (y, tree o)) p.0 ∙ ap (λ y. (a.0, y)) q.0;
         }
 
 -- an attribute and a set are some octets

@@ -24,7 +24,8 @@ use Rattle.der_parser.specs.DerReading.{IsDerContentOf}
 use Rattle.der_parser.specs.TypedReading.{AnswersLeaf, FramesContent, ReadsTyped, SpellsTyped}
 use Rattle.der_parser.specs.View.{content_tree, tree}
 use Rattle.der_parser.proofs.DerHeaders.{der_header_same}
-use Rattle.der_distinguished_name.specs.Names.{AnswersSpelled, BeginsWith, SpellsIdentifier, SpellsString}
+use Rattle.der_distinguished_name.specs.Names.{AnswersSpelled, BeginsWith, Identifier, SpellsIdentifier, SpellsString}
+use Rattle.der_distinguished_name.specs.Views.{identifier_of}
 use Rattle.der_distinguished_name.proofs.Contents.{IsStringNumber, string_content, which}
 use Rattle.der_distinguished_name.proofs.Elements.{element_of, header_of}
 
@@ -62,24 +63,24 @@ abbrev content_at : Node → Content
 content_at (node c p t x) = x
 
 -- the content of an object identifier
-identifier_content : (p r : Bool) (x : Content) (w : List ℕ) → IsDerContent Universal p 6 x → identifier_part x ≡ Some (r, w) → (p ≡ false) × (content_octets x ≡ w)
-identifier_content p r (object_identifier r' w') w (inl (c, e, l)) q = (e, ap (λ x. x.1) (some_same (r', w') (r, w) q))
+identifier_content : (p r : Bool) (x : Content) (w : List ℕ) → IsDerContent Universal p 6 x → identifier_part x ≡ Some (r, w) → (p ≡ false) × (content_octets x ≡ w) × (r ≡ false)
+identifier_content p r (object_identifier r' w') w (inl (c, e, l)) q = let z = some_same (r', w') (r, w) q in (e, ap (λ x. x.1) z, sym (ap (λ x. x.0) z) ∙ l.0.2)
 identifier_content p r (object_identifier r' w') w (inr k) q = absurd k
 identifier_content p r (relative_oid r' w') w (inl (c, e, l)) q = absurd (omega (arith, l.0.0))
 identifier_content p r (relative_oid r' w') w (inr k) q = absurd k
 identifier_content p r _ w h q = cc
 
-identifier_found : (i : List ℕ) (o : BerObject) (rest : List ℕ) (r : Bool) (v : List ℕ) → ReadsTyped Der 6 i o rest → identifier_part (content_tree o.content) ≡ Some (r, v) → BeginsWith SpellsIdentifier i v rest
+identifier_found : (i : List ℕ) (o : BerObject) (rest : List ℕ) (r : Bool) (v : List ℕ) → ReadsTyped Der 6 i o rest → identifier_part (content_tree o.content) ≡ Some (r, v) → BeginsWith SpellsIdentifier i (r, v) rest
 identifier_found i o rest r v read q =
     let (w, begins, l, content) = typed_element 6 i o rest read in
-    let (e, k) = identifier_content (is_constructed o.header) r (content_tree o.content) v content.valid q in
+    let (e, k, absolute) = identifier_content (is_constructed o.header) r (content_tree o.content) v content.valid q in
     let (b, j, h) = element_of i w rest (class_of o.header) (is_constructed o.header) 6 begins in
     let s : w ≡ v = content.octets ∙ k in
-    (b, j, subst (λ w. SpellsIdentifier b w) s (class_of o.header, subst (λ p. BeginsWithDerHeader b (class_of o.header) p 6 (length w) w) e h, l))
+    (b, j, subst (λ w. SpellsIdentifier b (r, w)) s (absolute, class_of o.header, subst (λ p. BeginsWithDerHeader b (class_of o.header) p 6 (length w) w) e h, l))
 
-identifier_only : (i w rest : List ℕ) → BeginsWith SpellsIdentifier i w rest → (c : Class) × SpellsTyped Der 6 i (node c false 6 (object_identifier false w), rest)
-identifier_only i w rest (b, j, (c, h, l)) =
-    (c, typed_spelled i b w rest c false 6 (object_identifier false w) j h l (record { octets = refl; valid = inl (refl, refl, ((refl, refl, refl, refl), tt)); depth = lit≤ tt }))
+identifier_only : (i : List ℕ) (x : Identifier) (rest : List ℕ) → BeginsWith SpellsIdentifier i x rest → (c : Class) × SpellsTyped Der 6 i (node c false 6 (object_identifier false x.1), rest)
+identifier_only i x rest (b, j, (q, c, h, l)) =
+    (c, typed_spelled i b x.1 rest c false 6 (object_identifier false x.1) j h l (record { octets = refl; valid = inl (refl, refl, ((refl, refl, refl, refl), tt)); depth = lit≤ tt }))
 
 -- what the accessor answers
 module _ (M : Type 0) where
@@ -92,28 +93,28 @@ module _ (M : Type 0) where
   part_refused None e v h q = cc
 
   -- of an object identifier that is spelled
-  part_spelled : (i : List ℕ) (o : BerObject) (left : Bor (List ℕ)) (w rest : List ℕ) → AnswersLeaf Der 6 i (Ok (left, o)) → BeginsWith SpellsIdentifier i w rest
-      → (identifier_part (content_tree o.content) ≡ Some (false, w)) × (left.now ≡ rest)
+  part_spelled : (i : List ℕ) (o : BerObject) (left : Bor (List ℕ)) (w : Identifier) (rest : List ℕ) → AnswersLeaf Der 6 i (Ok (left, o)) → BeginsWith SpellsIdentifier i w rest
+      → (identifier_part (content_tree o.content) ≡ Some w) × (left.now ≡ rest)
   part_spelled i o left w rest a s =
       let (c, spelled) = identifier_only i w rest s in
-      let q : (tree o, left.now) ≡ (node c false 6 (object_identifier false w), rest) = a.only (node c false 6 (object_identifier false w), rest) spelled in
-      (ap (λ x. identifier_part (content_at x.0)) q, ap (λ x. x.1) q)
+      let q : (tree o, left.now) ≡ (node c false 6 (object_identifier false w.1), rest) = a.only (node c false 6 (object_identifier false w.1), rest) spelled in
+      (ap (λ x. identifier_part (content_at x.0)) q ∙ ap (λ r. Some (r, w.1)) (sym s.2.0), ap (λ x. x.1) q)
 
   pub type_read : (i : List ℕ) (o : BerObject) (left : Bor (List ℕ)) (x : Oid) → AnswersLeaf Der 6 i (Ok (left, o))
-      → AnswersPartOr M (λ x. (is_relative_of x, octets_of x)) (identifier_part (content_tree o.content)) (Ok x) → AnswersSpelled SpellsIdentifier octets_of i (Ok (left, x))
+      → AnswersPartOr M (λ x. (is_relative_of x, octets_of x)) (identifier_part (content_tree o.content)) (Ok x) → AnswersSpelled SpellsIdentifier identifier_of i (Ok (left, x))
   type_read i o left x a p =
       let told = part_told (identifier_part (content_tree o.content)) x p in
       record {
         found = identifier_found i o left.now (is_relative_of x) (octets_of x) a.found told;
-        only = λ w rest s. let (q, e) = part_spelled i o left w rest a s in (ap (λ x. x.1) (some_same (is_relative_of x, octets_of x) (false, w) (sym told ∙ q)), e);
+        only = λ w rest s. let (q, e) = part_spelled i o left w rest a s in (some_same (is_relative_of x, octets_of x) w (sym told ∙ q), e);
       }
 
   pub type_wants_memory : (i : List ℕ) (o : BerObject) (left : Bor (List ℕ)) (e : Refused BerError) → AnswersLeaf Der 6 i (Ok (left, o))
-      → AnswersPartOr M (λ x. (is_relative_of x, octets_of x)) (identifier_part (content_tree o.content)) (Err e) → AnswersSpelled {T = Oid} SpellsIdentifier octets_of i (Err e)
-  type_wants_memory i o left e a p = record { found = tt; only = λ w rest s. part_refused (identifier_part (content_tree o.content)) e (false, w) p (part_spelled i o left w rest a s).0 }
+      → AnswersPartOr M (λ x. (is_relative_of x, octets_of x)) (identifier_part (content_tree o.content)) (Err e) → AnswersSpelled {T = Oid} SpellsIdentifier identifier_of i (Err e)
+  type_wants_memory i o left e a p = record { found = tt; only = λ w rest s. part_refused (identifier_part (content_tree o.content)) e w p (part_spelled i o left w rest a s).0 }
 
-pub type_refused : (i : List ℕ) (e : Refused BerError) → AnswersLeaf Der 6 i (Err e) → AnswersSpelled {T = Oid} SpellsIdentifier octets_of i (Err e)
-type_refused i e a = record { found = tt; only = λ w rest s. let (c, spelled) = identifier_only i w rest s in no_memory ⊥ (λ x. value_of x ≡ (node c false 6 (object_identifier false w), rest)) e (a.only (node c false 6 (object_identifier false w), rest) spelled) }
+pub type_refused : (i : List ℕ) (e : Refused BerError) → AnswersLeaf Der 6 i (Err e) → AnswersSpelled {T = Oid} SpellsIdentifier identifier_of i (Err e)
+type_refused i e a = record { found = tt; only = λ w rest s. let (c, spelled) = identifier_only i w rest s in no_memory ⊥ (λ x. value_of x ≡ (node c false 6 (object_identifier false w.1), rest)) e (a.only (node c false 6 (object_identifier false w.1), rest) spelled) }
 
 node_is : (c : Class) (p : Bool) (t : ℕ) (x : Content) (k : ℕ) (s : List ℕ) → c ≡ Universal → p ≡ false → t ≡ k → x ≡ string k s → node c p t x ≡ node Universal false k (string k s)
 node_is c p t x k s ec ep et ex = rw (ec, ep, et, ex) refl

@@ -108,7 +108,7 @@ are_parts i eo et k l h oc on tc tn s =
 -- an attribute by its elements
 pub attribute_found : (i : List ℕ) (e eo et : Element) (after : List Element) (c : Class) (p : Bool) (t : ℕ) (x : Content) (l : Nodes) (k : ℕ) → IsFirst i e (eo ∷ et ∷ []) after c p t x l
     → e.class ≡ Universal → e.number ≡ 16 → eo.class ≡ Universal → eo.number ≡ 6 → et.class ≡ Universal → et.number ≡ k → IsStringNumber k
-    → IsAttributeOf (node c p t x) (octets_between i eo.content eo.end, k, octets_between i et.content et.end) × IsUtf8 (octets_between i et.content et.end)
+    → IsAttributeOf (node c p t x) ((false, octets_between i eo.content eo.end), k, octets_between i et.content et.end) × IsUtf8 (octets_between i et.content et.end)
 attribute_found i e eo et after c p t x l k f ec en oc on tc tn s =
     let (a, b, v) = universal_at 16 f ec en in
     let (l', ex, ep) = sequence_content p x v in
@@ -131,7 +131,7 @@ pub record AttributeElements (e : Element) (inside : List Element) (k : ℕ) : T
 pub attribute_elements : (i : List ℕ) (e : Element) (inside after : List Element) (c : Class) (p : Bool) (t : ℕ) (x : Content) (l : Nodes) (a : TextAttribute) → IsFirst i e inside after c p t x l
     → IsAttributeOf (node c p t x) a → AttributeElements e inside a.1
 attribute_elements i e inside after c p t x l (w, k, s) f (h, q) =
-    let o = node Universal false 6 (object_identifier false w) in
+    let o = node Universal false 6 (object_identifier w.0 w.1) in
     let v = node Universal false k (string k s) in
     let ec : c ≡ Universal = cc in
     let et : t ≡ 16 = cc in
@@ -140,7 +140,7 @@ attribute_elements i e inside after c p t x l (w, k, s) f (h, q) =
     record {
       class = f.class ∙ ec;
       number = f.number ∙ et;
-      identifier = head_of Universal false 6 (object_identifier false w) m;
+      identifier = head_of Universal false 6 (object_identifier w.0 w.1) m;
       string = head_of Universal false k (string k s) (m + length (encoding o));
       items = f.places ∙ ap (λ x. placed_content x m) ex;
       identifier_class = refl;
@@ -182,7 +182,7 @@ members_same l l' p p' e = cc
 pub attribute_read : (i : List ℕ) (es : List Element) (e eo et : Element) (inside after : List Element) (k : ℕ) (o : Node) (l : Nodes) → AreElementsIn i es (nodes o l)
     → es ≡ e ∷ (inside ++ after) → length inside ≡ e.inside
     → inside ≡ eo ∷ et ∷ [] → e.class ≡ Universal → e.number ≡ 16 → eo.class ≡ Universal → eo.number ≡ 6 → et.class ≡ Universal → et.number ≡ k → IsStringNumber k
-    → IsAttributeOf o (octets_between i eo.content eo.end, k, octets_between i et.content et.end) × IsUtf8 (octets_between i et.content et.end) × AreElementsIn i after l
+    → IsAttributeOf o ((false, octets_between i eo.content eo.end), k, octets_between i et.content et.end) × IsUtf8 (octets_between i et.content et.end) × AreElementsIn i after l
 attribute_read i es e eo et inside after k (node c p t x) l h s n two ec en oc on tc tn a =
     let f : IsFirst i e inside after c p t x l = first_of i es e inside after c p t x l h s n in
     let (found, text) = attribute_found i e eo et after c p t x l k (subst (λ inside. IsFirst i e inside after c p t x l) two f) ec en oc on tc tn a in
@@ -207,8 +207,8 @@ two_of (x ∷ []) d n m = absurd (omega (arith, n))
 two_of (x ∷ y ∷ []) d n m = refl
 two_of (x ∷ y ∷ z ∷ es) d n m = absurd (omega (arith, m))
 
-pub same_attribute : (n : ℕ) (w w' : List ℕ) (k : ℕ) (s s' : List ℕ) → w ≡ w' → s ≡ s' → ◌≡◌ {A = ℕ × TextAttribute} (n, (w, k, s)) (n, (w', k, s'))
-same_attribute n w w' k s s' a b = rw (a, b) refl
+pub same_attribute : (n : ℕ) (r r' : Bool) (w w' : List ℕ) (k : ℕ) (s s' : List ℕ) → r ≡ r' → w ≡ w' → s ≡ s' → ◌≡◌ {A = ℕ × TextAttribute} (n, ((r, w), k, s)) (n, ((r', w'), k, s'))
+same_attribute n r r' w w' k s s' q a b = rw (q, a, b) refl
 
 -- the items of a name and of a set
 pub name_read : (i : List ℕ) (es : List Element) (e : Element) (inside after : List Element) (o : Node) (l : Nodes) → AreElementsIn i es (nodes o l) → es ≡ e ∷ (inside ++ after)

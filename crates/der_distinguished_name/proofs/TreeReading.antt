@@ -1,5 +1,5 @@
 -- An input shows one name at most; the elements of a whole object.
-use Rattle.std.proofs.Common.{◌≡◌, ℕ, zero, suc, ◌≤◌, List, [], ◌∷◌, ◌++◌, length, take, drop, refl, sym, ap, subst, ◌∙◌, arith, append-nil, inl, inr, length-append, length-take}
+use Rattle.std.proofs.Common.{◌≡◌, ℕ, zero, suc, ◌≤◌, Bool, List, [], ◌∷◌, ◌++◌, length, take, drop, refl, sym, ap, subst, ◌∙◌, arith, append-nil, inl, inr, length-append, length-take}
 use Rattle.std.proofs.lemmas.List.{take-append-le}
 use Rattle.der_base.specs.Encoding.{encoding}
 use Rattle.der_base.specs.Refusal.{Refusal}
@@ -20,12 +20,16 @@ use Rattle.der_distinguished_name.proofs.TreeLists.{names_of_name, attributes_of
 
 -- a node is of one attribute, of one relative name, and of one name
 
+parts_same : (r r' : Bool) (w w' : List ℕ) (k k' : ℕ) (s s' : List ℕ) → r ≡ r' → w ≡ w' → k ≡ k' → s ≡ s' → ◌≡◌ {A = TextAttribute} ((r, w), k, s) ((r', w'), k', s')
+parts_same r r' w w' k k' s s' q a b d = rw (q, a, b, d) refl
+
 attribute_same : (o : Node) (a b : TextAttribute) → IsAttributeOf o a → IsAttributeOf o b → a ≡ b
 attribute_same o (w, k, s) (w', k', s') (h, e) (h', e') =
-    let a : w ≡ w' = cc in
+    let r : w.0 ≡ w'.0 = cc in
+    let a : w.1 ≡ w'.1 = cc in
     let b : k ≡ k' = cc in
     let d : s ≡ s' = cc in
-    rw (a, b, d) refl
+    parts_same w.0 w'.0 w.1 w'.1 k k' s s' r a b d
 
 each_same : {V : Type 0} (P : Node → V → Type 0) → ((o : Node) (v v' : V) → P o v → P o v' → v ≡ v') → (l : Nodes) (vs us : List V) → AreEach P l vs → AreEach P l us → vs ≡ us
 each_same P one no_nodes [] [] h k = refl

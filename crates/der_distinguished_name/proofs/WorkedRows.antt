@@ -14,9 +14,9 @@ unfolding identifier shortest_length
 no_sets = ([], (Universal, true, record { octets = refl; number = lit< tt; length = lit< tt }), ([], refl, tt))
 
 -- 06 03 55 04 06
-country : SpellsIdentifier (6 ∷ 3 ∷ 0x55 ∷ 4 ∷ 6 ∷ []) (0x55 ∷ 4 ∷ 6 ∷ [])
+country : SpellsIdentifier (6 ∷ 3 ∷ 0x55 ∷ 4 ∷ 6 ∷ []) (false, 0x55 ∷ 4 ∷ 6 ∷ [])
 unfolding identifier shortest_length
-country = (Universal, record { octets = refl; number = lit< tt; length = lit< tt }, lit≤ tt)
+country = (refl, Universal, record { octets = refl; number = lit< tt; length = lit< tt }, lit≤ tt)
 
 printable : All (λ b. IsTrue (is_printable b)) (0x46 ∷ 0x52 ∷ [])
 printable = All-from_recursion (λ b. IsTrue (is_printable b)) (0x46 ∷ 0x52 ∷ []) (refl, (refl, tt))
@@ -30,7 +30,7 @@ unfolding identifier shortest_length
 france = record { encoded = refl; valid = (lit< tt, inl (refl, refl, ((refl, inr (inr (inr (refl, refl, in_set))), refl), tt))); depth = lit≤ tt; size = lit≤ tt }
 
 attribute : Attribute
-attribute = (0x55 ∷ 4 ∷ 6 ∷ [], node Universal false 19 (string 19 (0x46 ∷ 0x52 ∷ [])))
+attribute = ((false, 0x55 ∷ 4 ∷ 6 ∷ []), node Universal false 19 (string 19 (0x46 ∷ 0x52 ∷ [])))
 
 parts : List ℕ
 parts = 6 ∷ 3 ∷ 0x55 ∷ 4 ∷ 6 ∷ 0x13 ∷ 2 ∷ 0x46 ∷ 0x52 ∷ []

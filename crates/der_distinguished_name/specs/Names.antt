@@ -15,9 +15,13 @@ use Rattle.der_parser.specs.Spelling.{DerSpells, max_object_size}
 use Rattle.der_parser.specs.Text.{is_one_of}
 use Rattle.der_parser.specs.Tree.{Node, node, string}
 
--- the content octets of the identifier, and the tree of the string
+-- an identifier: whether it is relative, and its content octets
+abbrev pub Identifier : Type 0
+Identifier = Bool × List ℕ
+
+-- the identifier, and the tree of the string
 abbrev pub Attribute : Type 0
-Attribute = List ℕ × Node
+Attribute = Identifier × Node
 
 -- the attributes of each set, in their order
 abbrev pub RelativeNames : Type 0
@@ -27,9 +31,10 @@ RelativeNames = List (List Attribute)
 abbrev pub IsElementOf : ℕ → List ℕ → List ℕ → Type 0
 IsElementOf t b w = (c : Class) × (p : Bool) × BeginsWithDerHeader b c p t (length w) w
 
--- b is an object identifier with the content octets w, primitive and of any class
-abbrev pub SpellsIdentifier : List ℕ → List ℕ → Type 0
-SpellsIdentifier b w = (c : Class) × BeginsWithDerHeader b c false 6 (length w) w × (length w ≤ max_object_size)
+-- b is the OBJECT IDENTIFIER, primitive and of any class
+abbrev pub SpellsIdentifier : List ℕ → Identifier → Type 0
+SpellsIdentifier b x = (x.0 ≡ false) × (c : Class) × BeginsWithDerHeader b c false 6 (length x.1) x.1
+    × (length x.1 ≤ max_object_size)
 
 -- b is the DER spelling of a UTF8String, a PrintableString or an IA5String
 abbrev pub SpellsString : List ℕ → Node → Type 0

@@ -1,6 +1,6 @@
 -- Distinguished names (X.501 9.2) as trees, of elements whose class is compared too, and a reader of them.
 use Rattle.std.specs.Borrow.{Bor}
-use Rattle.std.specs.Prelude.{◌≡◌, ◌≢◌, ℕ, suc, ◌⊎◌, true, false, IsTrue, List, [], ◌∷◌, ◌++◌, map, Result}
+use Rattle.std.specs.Prelude.{◌≡◌, ◌≢◌, ℕ, suc, ◌⊎◌, Bool, true, false, IsTrue, List, [], ◌∷◌, ◌++◌, map, Result}
 use Rattle.std.specs.Global.{Vec}
 use Rattle.der_base.specs.declared.error.Err.{Err as Refused}
 use Rattle.der_base.specs.declared.error.Error.{Error as BerError}
@@ -8,7 +8,7 @@ use Rattle.der_base.specs.declared.header.Class.TheVariants.{Universal}
 use Rattle.der_base.specs.Encoding.{encoding}
 use Rattle.der_base.specs.Exactly.{AnswersExactly}
 use Rattle.der_base.specs.Fault.{DerShowsFault}
-use Rattle.der_base.specs.Oids.{octets_of}
+use Rattle.der_base.specs.Oids.{is_relative_of, octets_of}
 use Rattle.der_base.specs.Refusal.{Refusal, wrong_value}
 use Rattle.der_base.specs.SetOfOrder.{IsAscending}
 use Rattle.der_base.specs.Spelling.{BeginsWithDer}
@@ -17,14 +17,14 @@ use Rattle.der_base.specs.Text.{is_one_of}
 use Rattle.der_base.specs.Tree.{Node, node, sequence, set, object_identifier, string, Nodes, no_nodes, nodes}
 use Rattle.der_distinguished_name.specs.declared.nodes.Attribute.{Attribute}
 
--- the content octets of the identifier; the type number and the octets of the string
+-- whether the identifier is relative, and its content octets; the type number and the octets of the string
 abbrev pub TextAttribute : Type 0
-TextAttribute = List ℕ × ℕ × List ℕ
+TextAttribute = (Bool × List ℕ) × ℕ × List ℕ
 
 -- a SEQUENCE of an OBJECT IDENTIFIER and a UTF8String, a PrintableString or an IA5String
 abbrev pub IsAttributeOf : Node → TextAttribute → Type 0
-IsAttributeOf o (w, k, s) = IsTrue (is_one_of (12 ∷ 19 ∷ 22 ∷ []) k) × (o ≡ node Universal true 16 (sequence
-    (nodes (node Universal false 6 (object_identifier false w))
+IsAttributeOf o (x, k, s) = IsTrue (is_one_of (12 ∷ 19 ∷ 22 ∷ []) k) × (o ≡ node Universal true 16 (sequence
+    (nodes (node Universal false 6 (object_identifier x.0 x.1))
     (nodes (node Universal false k (string k s)) no_nodes))))
 
 -- each item is of the value in its place
@@ -55,7 +55,7 @@ numbered k [] = []
 numbered k (vs ∷ n) = map (λ a. (k, a)) vs ++ numbered (suc k) n
 
 abbrev pub text_attribute : Attribute → ℕ × TextAttribute
-text_attribute a = (a.relative_name, (octets_of a.oid, a.tag.0, a.text.now))
+text_attribute a = (a.relative_name, ((is_relative_of a.oid, octets_of a.oid), a.tag.0, a.text.now))
 
 -- i begins with the DER encoding of the name that has these attributes, and the rest follows
 abbrev pub BeginsWithName : List ℕ → List ℕ × List (ℕ × TextAttribute) → Type 0

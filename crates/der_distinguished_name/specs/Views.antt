@@ -1,14 +1,18 @@
 -- What a name and its parts stand for.
 use Rattle.std.specs.Prelude.{List, map}
 use Rattle.std.specs.Global.{Vec}
-use Rattle.der_parser.specs.Oids.{octets_of}
+use Rattle.der_parser.specs.declared.oid.Oid.{Oid}
+use Rattle.der_parser.specs.Oids.{is_relative_of, octets_of}
 use Rattle.der_parser.specs.View.{tree}
 use Rattle.der_distinguished_name.specs.declared.name.Attr.{Attr}
 use Rattle.der_distinguished_name.specs.declared.name.Name.{Name}
-use Rattle.der_distinguished_name.specs.Names.{Attribute, RelativeNames}
+use Rattle.der_distinguished_name.specs.Names.{Attribute, Identifier, RelativeNames}
+
+abbrev pub identifier_of : Oid → Identifier
+identifier_of x = (is_relative_of x, octets_of x)
 
 abbrev pub attribute_of : Attr → Attribute
-attribute_of a = (octets_of a.oid, tree a.value)
+attribute_of a = (identifier_of a.oid, tree a.value)
 
 abbrev pub attributes_of : Vec Attr → List Attribute
 attributes_of v = map attribute_of v.items

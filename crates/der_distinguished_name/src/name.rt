@@ -4,8 +4,7 @@ ghost use Rattle.std.specs.Prelude.{◌≡◌};
 ghost use Rattle.der_distinguished_name.specs.Inner.{AnswersItem, AnswersWhole};
 ghost use Rattle.der_distinguished_name.specs.Names.{AnswersName, AnswersSpelled, SpellsAttribute, SpellsIdentifier};
 ghost use Rattle.der_distinguished_name.specs.Names.{SpellsParts, SpellsSet, SpellsString};
-ghost use Rattle.der_distinguished_name.specs.Views.{attribute_of, attributes_of, name_of};
-ghost use Rattle.der_parser.specs.Oids.{octets_of};
+ghost use Rattle.der_distinguished_name.specs.Views.{attribute_of, attributes_of, identifier_of, name_of};
 ghost use Rattle.der_parser.specs.View.{tree};
 
 use der_parser::IResult;
@@ -122,7 +121,7 @@ fn read_parts<'a>(alloc: Global, i: &'a [u8]) -> BerResult<'a, Attr<'a>>
 
 /// Reads the type of an attribute.
 fn read_type<'a>(alloc: Global, i: &'a [u8]) -> BerResult<'a, Oid<'a>>
-    ensures { AnswersSpelled SpellsIdentifier octets_of i.now result }
+    ensures { AnswersSpelled SpellsIdentifier identifier_of i.now result }
 {
     let (rest, object) = match parse_der_oid(i) {
         Ok(read) => read,

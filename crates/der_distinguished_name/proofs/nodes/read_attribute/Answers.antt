@@ -26,4 +26,4 @@ returns-clause-read c =
     let two = two_of c.in-Some.inside.now _ c.in-len2.len_at_least c.in-len2.len_below in
     λ o l h. (let q = attribute_read c.args.i.now c.args.elements.now c.in-Some.sequence.now _ _ c.in-Some.inside.now c.in-Some.after.now c.in-Some-string_type.tag.0 o l h s.0 s.1 two a.0
     a.1 b.0 b.1 t.0 t.2 t.1 in
-    (_, q.0, same_attribute c.args.relative_name _ _ _ _ _ (c.new.ensures.octets ∙ c.between.ensures) (c.from_utf8_unchecked.ensures ∙ c.between-text.ensures), q.2))
+    (_, q.0, same_attribute c.args.relative_name _ _ _ _ _ _ _ c.new.ensures.absolute (c.new.ensures.octets ∙ c.between.ensures) (c.from_utf8_unchecked.ensures ∙ c.between-text.ensures), q.2))
