@@ -9,7 +9,8 @@ use Rattle.der_canon.specs.Values.{Joins, string_content}
 
 -- the content x begins with what parts with these contents have together
 abbrev pub HasJoined : Joined → List (List ℕ) → List ℕ → Type 0
-HasJoined j ws x = (y : List ℕ) × Joins j.is_bits ws j.last y × (x ≡ string_content j.is_bits j.unused (y ++ j.rest.now))
+HasJoined j ws x = (y : List ℕ) × Joins j.is_bits ws j.last y
+    × (x ≡ string_content j.is_bits j.unused (y ++ j.rest.now))
 
 -- and it is all of it
 pub record IsComplete (j : Joined) : Type 0 where

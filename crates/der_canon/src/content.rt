@@ -1,8 +1,8 @@
 //! The content octets that DER gives a value.
 ghost use Rattle.std.specs.Prelude.{◌≡◌, ◌≢◌, ◌++◌, ◌∷◌, ◌+◌, [], ℕ, length, IfSome, IsTrue, MatchBool, MatchOption};
-ghost use Rattle.der_base.specs.Octets.{integer_value};
 ghost use Rattle.der_base.specs.Leaf.{IsMinimalInteger};
-ghost use Rattle.der_canon.specs.Values.{IsSameBits, IsSameBoolean, IsSameNumber, RepeatsSign, boolean_octet, cleared, cleared_octet};
+ghost use Rattle.der_canon.specs.Values.{IsSameBits, IsSameBoolean, IsSameNumber, RepeatsSign};
+ghost use Rattle.der_canon.specs.Values.{boolean_octet, cleared, cleared_octet};
 
 /// The content octets of an INTEGER or ENUMERATED without those that the fewest octets don't have (X.690 8.3.2).
 pub(crate) fn shortest_number(octets: &[u8]) -> &[u8]

@@ -1,19 +1,20 @@
 //! The public calls.
-ghost use Rattle.std.specs.Prelude.{◌≤◌, length, take, IfOk, IfSome};
+ghost use Rattle.std.specs.Prelude.{◌≡◌, ◌≤◌, length, take, IfErr, IfOk, IfSome};
 ghost use Rattle.der_check.specs.Elements.{AreElements};
 ghost use Rattle.der_base.specs.declared.rules.Rules.{Rules};
 ghost use Rattle.der_canon.specs.Same.{HasElementsOf, IsDerOf};
 ghost use Rattle.der_canon.specs.Sizes.{HasSize};
-ghost use Rattle.der_canon.specs.Written.{KeepsDer, WritesDer};
+ghost use Rattle.der_canon.specs.Written.{IsRefusalOf, KeepsDer, WritesDer, is_about_der};
 
 use crate::check::{check_written, refuse_all};
 use crate::error::{CanonError, NotCanonical};
 use crate::octets::copy;
 use crate::size::size_of;
 use crate::writer::write_pieces;
+use der_base::error::BerError;
 use der_base::rules::Rules;
 use der_check::are_elements;
-use der_walk::{MAX_DEPTH, Walk};
+use der_walk::{Cause, MAX_DEPTH, Walk};
 use std::alloc::Global;
 
 /// Writes elements that are read by BER as DER writes them, to a buffer: lengths in the fewest octets (X.690 10.1),
@@ -22,9 +23,12 @@ use std::alloc::Global;
 /// they stay as they are. Other values that DER doesn't have, as a time without seconds, are refused.
 ///
 /// Returns how many octets there are, room or not. If the buffer has room for them, they are in front of it, and are
-/// elements of DER: those of the input but the parts of strings, each with its class, number, depth and value. If it has
-/// less, call again with more: what it holds then isn't said, nor whether a value is refused. Elements that are DER
-/// already are copied. It takes no memory, and the buffer keeps what follows them.
+/// elements of DER: those of the input but the parts of strings, each with its class, number, depth and value. If it
+/// has less, call again with so many: what it holds then isn't said, nor whether a value is refused. Elements that are
+/// DER already are copied. It takes no memory, and the buffer keeps what follows them.
+///
+/// A refusal with the cause `OtherPart`, `UnusedBitsInside`, `NotDer` or a broken rule of DER says that the input has
+/// no DER. Any other says that it isn't elements of BER.
 ///
 /// ```
 /// let mut out = [0; 8];
@@ -34,12 +38,40 @@ use std::alloc::Global;
 pub fn canonical_into(octets: &[u8], out: &mut [u8]) -> Result<usize, NotCanonical>
     ensures written { WritesDer octets.now out.new result }
     ensures unchanged { KeepsDer octets.now out.old out.new result }
+    ensures refused { IfErr result (IsRefusalOf octets.now) }
 {
     if are_elements(octets, Rules::Der, MAX_DEPTH + 1) {
         copy(out, octets);
         return Ok(octets.len());
     }
-    write_others(octets, out)
+    match write_others(octets, out) {
+        Ok(needed) => Ok(needed),
+        Err(refused) => Err(refuse_input(octets, refused)),
+    }
+}
+
+/// The refusal of an input. One that says that the input breaks a rule of BER is kept only if it does.
+fn refuse_input(octets: &[u8], refused: NotCanonical) -> NotCanonical
+    ensures { IsRefusalOf octets.now result }
+{
+    if is_about_der(refused.cause) || !are_elements(octets, Rules::Ber, MAX_DEPTH + 1) {
+        return refused;
+    }
+    NotCanonical {
+        cause: Cause::NotDer,
+        ..refused
+    }
+}
+
+/// Whether a cause says that an element of BER has no DER.
+fn is_about_der(cause: Cause) -> bool
+    ensures { result ≡ is_about_der cause }
+{
+    match cause {
+        Cause::OtherPart | Cause::UnusedBitsInside | Cause::NotDer => true,
+        Cause::Value(BerError::DerConstraintFailed(_)) => true,
+        _ => false,
+    }
 }
 
 /// Writes elements that aren't DER already.

@@ -1,6 +1,7 @@
 -- What a reader of elements returns to C.
 use Rattle.std.specs.Borrow.{Bor}
-use Rattle.std.specs.Prelude.{◌≡◌, ℕ, ◌-◌, nat_le, if◌then◌else◌, List, length, Result, Ok, Err, IfOk, MatchResult}
+use Rattle.std.specs.Prelude.{◌≡◌, ℕ, ◌-◌, nat_le, if◌then◌else◌, List, length, Result, Ok, Err, IfErr, IfOk}
+use Rattle.std.specs.Prelude.{MatchResult}
 use Rattle.der_base.specs.declared.any.Any.{Any}
 use Rattle.der_base.specs.declared.error.Err.{Err as Refused}
 use Rattle.der_base.specs.declared.error.Err.TheVariants.{Incomplete, Error, Failure, OutOfMemory}
@@ -11,7 +12,7 @@ use Rattle.der_base.specs.Any.{AnyAnswer, AnswersAny, AnswersDerAny}
 use Rattle.der_base.specs.Headers.{ReadsDerHeader, ReadsHeader}
 use Rattle.der_base.specs.Refusal.{refusal}
 use Rattle.der_canon.specs.declared.error.NotCanonical.{NotCanonical}
-use Rattle.der_canon.specs.Written.{KeepsDer, WritesDer}
+use Rattle.der_canon.specs.Written.{IsRefusalOf, KeepsDer, WritesDer}
 use Rattle.der_nodes.specs.FaultPlaces.{IsBerPlace, IsDerPlace}
 use Rattle.der_nodes.specs.NodesReading.{AnswersBerNodes, AnswersDerNodes, KeepsBerNodes, KeepsDerNodes}
 use Rattle.der_walk.specs.declared.cause.Cause.{Cause}
@@ -103,7 +104,7 @@ outcome_of_written room (Ok n) = if nat_le n room then read_outcome 0 n else no_
 outcome_of_written room (Err e) = unwritten_outcome e.cause e.offset
 
 -- If there is room for what is written, it is the input as DER writes it. What is DER already is written as it is, as
--- far as there is room.
+-- far as there is room. If the outcome names a rule of BER, or says that the input is cut short, the input isn't BER.
 abbrev pub Writes : List ℕ → List ℕ → List ℕ → DmOutcome → Type 0
 Writes i old new o = (found : Result ℕ NotCanonical) × (o ≡ outcome_of_written (length old) found)
-    × WritesDer i new found × KeepsDer i old new found
+    × WritesDer i new found × KeepsDer i old new found × IfErr found (IsRefusalOf i)

@@ -3,7 +3,7 @@ use Rattle.der_base.specs.declared.rules.Rules.TheVariants.{Der}
 use Rattle.der_check.specs.Elements.{AreElements}
 use Rattle.der_canon.specs.Sizes.{IsSizeOf}
 use Rattle.der_canon.proofs.Copies.{take-overlay}
-use Rattle.der_canon.proofs.Steps.{are_der, ok_map}
+use Rattle.der_canon.proofs.Steps.{are_der}
 use Rattle.der_canon.proofs.elements.canonical_into.Goals as goal
 
 pub returns-then-are_elements-clause-written : goal.returns-then-are_elements-clause-written
@@ -18,12 +18,13 @@ returns-then-are_elements-clause-written c =
           record { elements = subst (λ l. AreElements Der 101 l) (sym front) all; unchanged = λ _. front; same = λ k. absurd (k all) },
     )
 
-pub returns-clause-written : goal.returns-clause-written
-returns-clause-written c =
+pub returns-in-Ok-clause-written : goal.returns-in-Ok-clause-written
+returns-in-Ok-clause-written c =
     let i = c.args.octets.now in
     let out = c.write_others.new.out in
+    let n = c.in-Ok.needed in
     let not_der : ¬ AreElements Der 101 i = (λ a. let t : IsTrue false = c.if-are_elements.ensures.1 a in absurd (cc)) in
-    ok_map c.write_others.result _ _ (λ n k. (
+    let k = c.in-Ok.ensures in (
       record { unchanged = λ a. absurd (not_der a); others = λ _. k.0 },
       λ l. record { elements = are_der i (take n out) (k.1 l); unchanged = λ a. absurd (not_der a); same = λ _. k.1 l },
-    )) c.write_others.ensures
+    )
