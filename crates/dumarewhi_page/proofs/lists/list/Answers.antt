@@ -1,7 +1,7 @@
-use Rattle.std.proofs.Common.{◌≡◌, ℕ, ◌+◌, ◌^◌, ◌<◌, length, Option, Some, None, Result, Ok, List, [], ◌∷◌, ◌++◌, set, true, false, sym, ap, ◌∙◌, subst, inl, inr, arith, refl, rules}
+use Rattle.std.proofs.Common.{◌≡◌, ℕ, ◌+◌, ◌^◌, ◌<◌, length, Option, Result, Ok, List, [], ◌∷◌, ◌++◌, true, false, sym, ap, ◌∙◌, subst, inl, inr, arith, refl, rules}
 use Rattle.der_walk.specs.declared.element.Element.{Element}
 use Rattle.der_walk.specs.declared.refusal.Refusal.{Refusal}
-use Rattle.der_walk.specs.Visits.{Extras, Visited, Visits}
+use Rattle.der_walk.specs.Visits.{Extras}
 use Rattle.der_walk.specs.Walked.{VisitsNext, index_in, visited_of}
 use Rattle.der_walk.proofs.Steps.{within}
 use Rattle.dumarewhi_page.specs.declared.row.PageRow.{PageRow}
