@@ -27,7 +27,7 @@ use std::alloc::Global;
 /// has less, call again with so many: what it holds then isn't said, nor whether a value is refused. Elements that are
 /// DER already are copied. It takes no memory, and the buffer keeps what follows them.
 ///
-/// A refusal with the cause `OtherPart`, `UnusedBitsInside`, `NotDer` or a broken rule of DER says that the input has
+/// An error with the cause `OtherPart`, `UnusedBitsInside`, `NotDer` or a broken rule of DER says that the input has
 /// no DER. Any other says that it isn't elements of BER.
 ///
 /// ```
@@ -50,7 +50,7 @@ pub fn canonical_into(octets: &[u8], out: &mut [u8]) -> Result<usize, NotCanonic
     }
 }
 
-/// The refusal of an input. One that says that the input breaks a rule of BER is kept only if it does.
+/// The error of an input. One that says that the input breaks a rule of BER is kept only if it does.
 fn refuse_input(octets: &[u8], refused: NotCanonical) -> NotCanonical
     ensures { IsRefusalOf octets.now result }
 {
