@@ -1,6 +1,7 @@
 //! Laws by name: each law of `der_parser` is stated here as the contract of a function that only calls
 //! it. Under another law's name a function isn't proved.
 #![tactic(auto)]
+
 ghost use Rattle.std.specs.Cmp.{IsEquivalence};
 ghost use Rattle.std.specs.Prelude.{◌≡◌};
 ghost use Rattle.der_parser.specs.declared.Rules.{Rules};
