@@ -23,8 +23,8 @@ pub trait Reader {
 }
 
 /// What the reader does with a message, and with the copies that it doesn't refuse at the place of the damage: the
-/// offset of the damaged element and what is done to it, with another outcome than `read` behind them. The elements of a
-/// string whose offset is in `opened` are damaged too.
+/// offset of the damaged element and what is done to it, with another outcome than `read` behind them. The elements of
+/// a string whose offset is in `opened` are damaged too.
 pub fn damaged<R: Reader>(
     alloc: Global,
     message: &[u8],

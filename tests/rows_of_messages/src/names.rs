@@ -87,8 +87,8 @@ fn push_value(
     }
 }
 
-/// The attributes of a name, which is read by its elements: the number of the relative name, the octets of the type, the
-/// tag number and the octets of the text. The buffer of the elements was used before.
+/// The attributes of a name, which is read by its elements: the number of the relative name, the octets of the type,
+/// the tag number and the octets of the text. The buffer of the elements was used before.
 pub fn elements(alloc: Global, octets: &[u8]) -> Result<String, Fault> {
     let mut elements = Vec::new(alloc);
     let _ = read_name_nodes(alloc, octets, &mut elements);
