@@ -1,3 +1,5 @@
+pub mod AllVisited
+pub mod Causes
 pub mod Contents
 pub mod Copies
 pub mod Forms

@@ -1,10 +1,10 @@
 -- Why an input isn't written as DER, and where.
-use Rattle.std.specs.Prelude.{◌≡◌, ◌≢◌, ◌↔◌, ◌==◌, ℕ, ◌⊎◌, Bool, true, false, Option, Some, None, List, [], ◌∷◌, ◌++◌, Result, Ok, Err, MatchResult}
+use Rattle.std.specs.Prelude.{◌≡◌, ◌≢◌, ◌↔◌, ◌==◌, ℕ, ◌⊎◌, Bool, true, false, Option, Some, None, List, [], ◌∷◌, ◌++◌, length, Result, Ok, Err, MatchResult}
 use Rattle.std.specs.Option.{option_to_list}
 use Rattle.der_base.specs.declared.rules.Rules.TheVariants.{Ber}
 use Rattle.der_base.specs.declared.header.Class.TheVariants.{Universal}
 use Rattle.der_walk.specs.declared.cause.Cause.{Cause}
-use Rattle.der_walk.specs.declared.cause.Cause.TheVariants.{OtherPart, UnusedBitsInside}
+use Rattle.der_walk.specs.declared.cause.Cause.TheVariants.{NotDer, OtherPart, UnusedBitsInside}
 use Rattle.der_walk.specs.declared.element.Element.{Element}
 use Rattle.der_walk.specs.declared.path.Step.{Step}
 use Rattle.der_walk.specs.declared.refusal.Refusal.{Refusal}
@@ -20,6 +20,7 @@ use Rattle.der_canon.specs.declared.piece.Piece.{Piece}
 use Rattle.der_canon.specs.declared.piece.Pieces.{Pieces}
 use Rattle.der_canon.specs.NoDer.{HasDer, HasNoDer, HaveDer, IsNoPart, is_inside, string_after, string_of, unused_after, unused_of}
 use Rattle.der_canon.specs.Same.{no_extras, part_number}
+use Rattle.der_canon.specs.Written.{is_about_der}
 
 -- the last step of the path to an element: a constructed one is open, so its step is among those of the walk
 abbrev pub IsStepTo : Visited → ℕ → Option Step → Type 0
@@ -87,3 +88,41 @@ abbrev pub FindsForm : List ℕ → List Visited → Element → Result (Form ×
 FindsForm i vs e result = let v = visited_of e in MatchResult result
     (λ x. AreParts x.1 (string_of (string_after vs) v) (unused_of i v) × HasDer i vs v)
     (λ c. HasNoDer i vs v c)
+
+-- an error of all octets
+abbrev pub IsAll : NotCanonical → Type 0
+IsAll e = (e.offset ≡ 0) × (e.cause ≡ NotDer)
+
+-- i is elements by BER, and each has a form in DER
+abbrev pub AllHaveDer : List ℕ → Type 0
+AllHaveDer i = (vs : List Visited) × Visits no_extras Ber 101 0 0 i vs × HaveDer i vs
+
+-- Elements of i have too many octets in DER: those to v, and its own.
+pub record IsTooLarge (i : List ℕ) (e : NotCanonical) : Type 0 where
+  pub before : List Visited
+  pub walk : Walk
+  pub visited : HasVisited no_extras Ber i walk before
+  pub have : HaveDer i before
+  pub cause : e.cause ≡ NotDer
+  pub offset : e.offset ≡ 0
+
+-- What was written for i isn't its elements in DER. It shows at an element of i, or at the end of i.
+pub data IsUnwritten (i : List ℕ) (e : NotCanonical) : Type 0 where
+  at : (vs : List Visited) (v : Visited) (w : Walk) → HasVisited no_extras Ber i w (vs ++ v ∷ [])
+      → e.offset ≡ v.offset → is_about_der e.cause ≡ true → IsUnwritten i e
+  end : (vs : List Visited) → Visits no_extras Ber 101 0 0 i vs → e.offset ≡ length i → e.cause ≡ NotDer
+      → IsUnwritten i e
+
+-- Why i isn't written. Where each of its elements has a form in DER, it is elements by BER.
+pub data IsErrorOf (i : List ℕ) (e : NotCanonical) : Type 0 where
+  first : IsFirstFault i e → IsErrorOf i e
+  large : IsTooLarge i e → IsErrorOf i e
+  unwritten : AllHaveDer i → IsUnwritten i e → IsErrorOf i e
+
+-- an error at an element of the input
+abbrev pub IsErrorAt : Element → NotCanonical → Type 0
+IsErrorAt x e = (e.offset ≡ x.offset) × (is_about_der e.cause ≡ true)
+
+-- and one at its end
+abbrev pub IsErrorAtEnd : ℕ → NotCanonical → Type 0
+IsErrorAtEnd n e = (e.offset ≡ n) × (e.cause ≡ NotDer)

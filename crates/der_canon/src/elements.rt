@@ -4,17 +4,17 @@ ghost use Rattle.der_check.specs.Elements.{AreElements};
 ghost use Rattle.der_base.specs.declared.rules.Rules.{Rules};
 ghost use Rattle.der_canon.specs.Same.{HasElementsOf, IsDerOf};
 ghost use Rattle.der_canon.specs.Sizes.{HasSize};
-ghost use Rattle.der_canon.specs.Written.{IsRefusalOf, KeepsDer, WritesDer, is_about_der};
+ghost use Rattle.der_canon.specs.Errors.{IsErrorOf};
+ghost use Rattle.der_canon.specs.Written.{IsRefusalOf, KeepsDer, WritesDer};
 
 use crate::check::{check_written, refuse_all};
 use crate::error::{CanonError, NotCanonical};
 use crate::octets::copy;
 use crate::size::size_of;
 use crate::writer::write_pieces;
-use der_base::error::BerError;
 use der_base::rules::Rules;
 use der_check::are_elements;
-use der_walk::{Cause, MAX_DEPTH, Walk};
+use der_walk::{MAX_DEPTH, Walk};
 use std::alloc::Global;
 
 /// Writes elements that are read by BER as DER writes them, to a buffer: lengths in the fewest octets (X.690 10.1),
@@ -39,6 +39,7 @@ pub fn canonical_into(octets: &[u8], out: &mut [u8]) -> Result<usize, NotCanonic
     ensures written { WritesDer octets.now out.new result }
     ensures unchanged { KeepsDer octets.now out.old out.new result }
     ensures refused { IfErr result (IsRefusalOf octets.now) }
+    ensures error { IfErr result (IsErrorOf octets.now) }
 {
     if are_elements(octets, Rules::Der, MAX_DEPTH + 1) {
         copy(out, octets);
@@ -46,46 +47,28 @@ pub fn canonical_into(octets: &[u8], out: &mut [u8]) -> Result<usize, NotCanonic
     }
     match write_others(octets, out) {
         Ok(needed) => Ok(needed),
-        Err(refused) => Err(refuse_input(octets, refused)),
-    }
-}
-
-/// The error of an input. One that says that the input breaks a rule of BER is kept only if it does.
-fn refuse_input(octets: &[u8], refused: NotCanonical) -> NotCanonical
-    ensures { IsRefusalOf octets.now result }
-{
-    if is_about_der(refused.cause) || !are_elements(octets, Rules::Ber, MAX_DEPTH + 1) {
-        return refused;
-    }
-    NotCanonical {
-        cause: Cause::NotDer,
-        ..refused
-    }
-}
-
-/// Whether a cause says that an element of BER has no DER.
-fn is_about_der(cause: Cause) -> bool
-    ensures { result ≡ is_about_der cause }
-{
-    match cause {
-        Cause::OtherPart | Cause::UnusedBitsInside | Cause::NotDer => true,
-        Cause::Value(BerError::DerConstraintFailed(_)) => true,
-        _ => false,
+        Err(refused) => Err(refused),
     }
 }
 
 /// Writes elements that aren't DER already.
 fn write_others(octets: &[u8], out: &mut [u8]) -> Result<usize, NotCanonical>
-    ensures { IfOk result (λ n. HasSize octets.now n
+    ensures written { IfOk result (λ n. HasSize octets.now n
         × (n ≤ length out.new → HasElementsOf octets.now (take n out.new))) }
+    ensures error { IfErr result (IsErrorOf octets.now) }
 {
-    let needed = size_of(octets)?;
+    let needed = match size_of(octets) {
+        Ok(needed) => needed,
+        Err(refused) => return Err(refused),
+    };
     if needed > out.len() {
         return Ok(needed);
     }
-    write_pieces(octets, out)?;
-    check_written(octets, &out[..needed])?;
-    Ok(needed)
+    write_pieces(octets, out);
+    match check_written(octets, &out[..needed]) {
+        Ok(()) => Ok(needed),
+        Err(refused) => Err(refused),
+    }
 }
 
 /// Writes elements as `canonical_into` does, to a vector that has room for them. OutOfMemory if there is none.

@@ -70,6 +70,7 @@ impl<'a> Pieces<'a> {
     pub(crate) fn new(octets: &'a [u8]) -> Pieces<'a>
         ensures walk { HasVisited no_extras Rules.Ber octets.now result.walk [] }
         ensures parts { depth_of result.parts ≡ None }
+        ensures read { HasRead octets.now [] result }
     {
         Pieces {
             walk: Walk::new(octets, Rules::Ber, false),
