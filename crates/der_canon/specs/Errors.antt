@@ -1,5 +1,5 @@
 -- Why an input isn't written as DER, and where.
-use Rattle.std.specs.Prelude.{◌≡◌, ◌≢◌, ◌↔◌, ◌==◌, ℕ, ◌⊎◌, Bool, true, false, Option, Some, None, List, [], ◌∷◌, ◌++◌, length, Result, Ok, Err, MatchResult}
+use Rattle.std.specs.Prelude.{◌≡◌, ◌≢◌, ◌↔◌, ◌==◌, ◌<◌, ℕ, ◌⊎◌, Bool, true, false, Option, Some, None, List, [], ◌∷◌, ◌++◌, length, Result, Ok, Err, MatchResult}
 use Rattle.std.specs.Option.{option_to_list}
 use Rattle.der_base.specs.declared.rules.Rules.TheVariants.{Ber}
 use Rattle.der_base.specs.declared.header.Class.TheVariants.{Universal}
@@ -12,6 +12,8 @@ use Rattle.der_walk.specs.declared.walk.Walk.{Walk}
 use Rattle.der_walk.specs.Faults.{IsStep}
 use Rattle.der_walk.specs.Visits.{Visited, Visits}
 use Rattle.der_walk.specs.Walked.{HasOctets, HasVisited, IsRefused, index_in, steps_of, visited_of}
+use Rattle.der_canon.specs.declared.error.CanonError.{CanonError}
+use Rattle.der_canon.specs.declared.error.CanonError.TheVariants as canon
 use Rattle.der_canon.specs.declared.error.NotCanonical.{NotCanonical}
 use Rattle.der_canon.specs.declared.piece.Form.{Form}
 use Rattle.der_canon.specs.declared.piece.Form.TheVariants.{Primitive}
@@ -20,6 +22,7 @@ use Rattle.der_canon.specs.declared.piece.Piece.{Piece}
 use Rattle.der_canon.specs.declared.piece.Pieces.{Pieces}
 use Rattle.der_canon.specs.NoDer.{HasDer, HasNoDer, HaveDer, IsNoPart, is_inside, string_after, string_of, unused_after, unused_of}
 use Rattle.der_canon.specs.Same.{no_extras, part_number}
+use Rattle.der_canon.specs.Sizes.{IsSizeOf}
 use Rattle.der_canon.specs.Written.{is_about_der}
 
 -- the last step of the path to an element: a constructed one is open, so its step is among those of the walk
@@ -126,3 +129,12 @@ IsErrorAt x e = (e.offset ≡ x.offset) × (is_about_der e.cause ≡ true)
 -- and one at its end
 abbrev pub IsErrorAtEnd : ℕ → NotCanonical → Type 0
 IsErrorAtEnd n e = (e.offset ≡ n) × (e.cause ≡ NotDer)
+
+-- DER has more octets for i than these
+abbrev pub NeedsMore : List ℕ → ℕ → Type 0
+NeedsMore i room = (n : ℕ) × IsSizeOf i n × (room < n)
+
+-- why i isn't written to a vector: an error of i, or there was no memory
+abbrev pub IsCanonErrorOf : List ℕ → CanonError → Type 0
+IsCanonErrorOf i (canon.NotCanonical e) = IsErrorOf i e
+IsCanonErrorOf i canon.OutOfMemory = Unit {0}

@@ -1,10 +1,10 @@
 //! The public calls.
-ghost use Rattle.std.specs.Prelude.{◌≡◌, ◌≤◌, length, take, IfErr, IfOk, IfSome};
+ghost use Rattle.std.specs.Prelude.{◌≡◌, ◌≤◌, length, take, IfErr, IfOk, MatchOption};
 ghost use Rattle.der_check.specs.Elements.{AreElements};
 ghost use Rattle.der_base.specs.declared.rules.Rules.{Rules};
 ghost use Rattle.der_canon.specs.Same.{HasElementsOf, IsDerOf};
 ghost use Rattle.der_canon.specs.Sizes.{HasSize};
-ghost use Rattle.der_canon.specs.Errors.{IsErrorOf};
+ghost use Rattle.der_canon.specs.Errors.{IsCanonErrorOf, IsErrorOf, NeedsMore};
 ghost use Rattle.der_canon.specs.Written.{IsRefusalOf, KeepsDer, WritesDer};
 
 use crate::check::{check_written, refuse_all};
@@ -73,7 +73,8 @@ fn write_others(octets: &[u8], out: &mut [u8]) -> Result<usize, NotCanonical>
 
 /// Writes elements as `canonical_into` does, to a vector that has room for them. OutOfMemory if there is none.
 pub fn canonical(alloc: Global, octets: &[u8]) -> Result<Vec<u8>, CanonError>
-    ensures { IfOk result (λ v. IsDerOf octets.now v.items) }
+    ensures written { IfOk result (λ v. IsDerOf octets.now v.items) }
+    ensures error { IfErr result (IsCanonErrorOf octets.now) }
 {
     // They are seldom more octets than before.
     if let Some(written) = write_within(alloc, octets, octets.len())? {
@@ -90,7 +91,8 @@ pub fn canonical(alloc: Global, octets: &[u8]) -> Result<Vec<u8>, CanonError>
 
 /// Writes elements to a vector of so many octets. None if they need more.
 fn write_within(alloc: Global, octets: &[u8], room: usize) -> Result<Option<Vec<u8>>, CanonError>
-    ensures { IfOk result (λ o. IfSome o (λ v. IsDerOf octets.now v.items)) }
+    ensures written { IfOk result (λ o. MatchOption o (NeedsMore octets.now room) (λ v. IsDerOf octets.now v.items)) }
+    ensures error { IfErr result (IsCanonErrorOf octets.now) }
 {
     let mut written = vec![in alloc; 0u8; room]?;
     let needed = canonical_into(octets, &mut written)?;
