@@ -92,7 +92,7 @@ FindsForm i vs e result = let v = visited_of e in MatchResult result
     (λ x. AreParts x.1 (string_of (string_after vs) v) (unused_of i v) × HasDer i vs v)
     (λ c. HasNoDer i vs v c)
 
--- an error of all octets
+-- an error of the whole input
 abbrev pub IsAll : NotCanonical → Type 0
 IsAll e = (e.offset ≡ 0) × (e.cause ≡ NotDer)
 
@@ -100,7 +100,7 @@ IsAll e = (e.offset ≡ 0) × (e.cause ≡ NotDer)
 abbrev pub AllHaveDer : List ℕ → Type 0
 AllHaveDer i = (vs : List Visited) × Visits no_extras Ber 101 0 0 i vs × HaveDer i vs
 
--- Elements of i have too many octets in DER: those to v, and its own.
+-- DER has too many octets for i to count them, after the elements `before`. It says no offset.
 pub record IsTooLarge (i : List ℕ) (e : NotCanonical) : Type 0 where
   pub before : List Visited
   pub walk : Walk
@@ -116,7 +116,8 @@ pub data IsUnwritten (i : List ℕ) (e : NotCanonical) : Type 0 where
   end : (vs : List Visited) → Visits no_extras Ber 101 0 0 i vs → e.offset ≡ length i → e.cause ≡ NotDer
       → IsUnwritten i e
 
--- Why i isn't written. Where each of its elements has a form in DER, it is elements by BER.
+-- Why i isn't written: its first fault; that it is too large; or, where it is elements by BER and each has a form in
+-- DER, that what was written isn't these, as where a string in parts is none of its type.
 pub data IsErrorOf (i : List ℕ) (e : NotCanonical) : Type 0 where
   first : IsFirstFault i e → IsErrorOf i e
   large : IsTooLarge i e → IsErrorOf i e

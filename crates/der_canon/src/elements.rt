@@ -1,10 +1,10 @@
 //! The public calls.
-ghost use Rattle.std.specs.Prelude.{◌≡◌, ◌≤◌, length, take, IfErr, IfOk, MatchOption};
+ghost use Rattle.std.specs.Prelude.{◌≡◌, ◌≤◌, length, take, IfErr, IfOk, MatchOption, OnOk};
 ghost use Rattle.der_check.specs.Elements.{AreElements};
 ghost use Rattle.der_base.specs.declared.rules.Rules.{Rules};
 ghost use Rattle.der_canon.specs.Same.{HasElementsOf, IsDerOf};
 ghost use Rattle.der_canon.specs.Sizes.{HasSize};
-ghost use Rattle.der_canon.specs.Errors.{IsCanonErrorOf, IsErrorOf, NeedsMore};
+ghost use Rattle.der_canon.specs.Errors.{AllHaveDer, IsCanonErrorOf, IsErrorOf, NeedsMore};
 ghost use Rattle.der_canon.specs.Written.{IsRefusalOf, KeepsDer, WritesDer};
 
 use crate::check::{check_written, refuse_all};
@@ -24,11 +24,14 @@ use std::alloc::Global;
 ///
 /// Returns how many octets there are, room or not. If the buffer has room for them, they are in front of it, and are
 /// elements of DER: those of the input but the parts of strings, each with its class, number, depth and value. If it
-/// has less, call again with so many: what it holds then isn't said, nor whether a value is refused. Elements that are
-/// DER already are copied. It takes no memory, and the buffer keeps what follows them.
+/// has less, call again with so many: what it holds then isn't said, nor whether a string in parts is refused. Elements
+/// that are DER already are copied. It takes no memory, and the buffer keeps what follows them.
 ///
-/// An error with the cause `OtherPart`, `UnusedBitsInside`, `NotDer` or a broken rule of DER says that the input has
-/// no DER. Any other says that it isn't elements of BER.
+/// An error is the first fault of the input, with its offset and its path: where it isn't elements of BER, or its first
+/// element that DER has no form of. These have the causes `OtherPart`, `UnusedBitsInside`, `NotDer` or a broken rule of
+/// DER: a number without octets (8.3.1), a NULL with octets (8.8.2), more than seven unused bits or some of no octet
+/// (8.6.2), a time that isn't as DER writes it (11.7, 11.8), and a part of another type or after unused bits (8.6.4,
+/// 8.7.3). The content of a string in parts is looked at after all these.
 ///
 /// ```
 /// let mut out = [0; 8];
@@ -40,6 +43,7 @@ pub fn canonical_into(octets: &[u8], out: &mut [u8]) -> Result<usize, NotCanonic
     ensures unchanged { KeepsDer octets.now out.old out.new result }
     ensures refused { IfErr result (IsRefusalOf octets.now) }
     ensures error { IfErr result (IsErrorOf octets.now) }
+    ensures have { OnOk result (¬ AreElements Rules.Der 101 octets.now → AllHaveDer octets.now) }
 {
     if are_elements(octets, Rules::Der, MAX_DEPTH + 1) {
         copy(out, octets);
@@ -56,6 +60,7 @@ fn write_others(octets: &[u8], out: &mut [u8]) -> Result<usize, NotCanonical>
     ensures written { IfOk result (λ n. HasSize octets.now n
         × (n ≤ length out.new → HasElementsOf octets.now (take n out.new))) }
     ensures error { IfErr result (IsErrorOf octets.now) }
+    ensures have { OnOk result (AllHaveDer octets.now) }
 {
     let needed = match size_of(octets) {
         Ok(needed) => needed,
