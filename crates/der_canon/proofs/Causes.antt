@@ -1,17 +1,15 @@
 -- What an error says of an input.
-use Rattle.std.proofs.Common.{◌≡◌, ℕ, ◌⊎◌, true, false, List, refl, sym, ap, ◌∙◌}
+use Rattle.std.proofs.Common.{◌≡◌, ℕ, true, false, List, refl, sym, ap, ◌∙◌}
 use Rattle.der_base.specs.declared.error.Error.{Error as BerError}
 use Rattle.der_base.specs.declared.error.Error.TheVariants as errors
-use Rattle.der_base.specs.declared.rules.Rules.TheVariants.{Ber}
-use Rattle.der_check.specs.Elements.{AreElements}
 use Rattle.der_walk.specs.declared.cause.Cause.{Cause}
-use Rattle.der_walk.specs.declared.cause.Cause.TheVariants.{NotDer, OtherPart, UnusedBitsInside, Value}
+use Rattle.der_walk.specs.declared.cause.Cause.TheVariants.{NotDer}
 use Rattle.der_walk.specs.declared.refusal.Refusal.{Refusal}
 use Rattle.der_walk.specs.declared.walk.Walk.{Walk}
 use Rattle.der_walk.specs.Visits.{Visited}
 use Rattle.der_canon.specs.declared.error.NotCanonical.{NotCanonical}
 use Rattle.der_canon.specs.Errors.{IsErrorOf, IsFirstError, IsUnwritten, first, large, unwritten, ber, der, at, end}
-use Rattle.der_canon.specs.NoDer.{HasNoDer, HasNoForm, IsNoPart, cause_of, number, null, many_unused, no_bits, time, other, unused, part, value}
+use Rattle.der_canon.specs.NoDer.{HasNoDer, HasNoForm, cause_of, number, null, many_unused, no_bits, time, other, unused, part, value}
 use Rattle.der_canon.specs.Written.{IsRefusalOf, is_about_der}
 use Rattle.der_canon.proofs.AllVisited.{all_visited}
 

@@ -1,14 +1,13 @@
 -- One more element that has a form in DER, or has none.
-use Rattle.std.proofs.Common.{◌≡◌, ◌≢◌, ℕ, ◌<◌, ◌⊎◌, Bool, true, false, Option, Some, None, List, [], ◌∷◌, ◌++◌, Result, Ok, Err, refl, sym, ap, subst, ◌∙◌, inl, inr, arith}
-use Rattle.std.specs.Prelude.{if◌then◌else◌, ◌==◌}
+use Rattle.std.proofs.Common.{◌≡◌, ℕ, ◌<◌, false, Option, Some, None, List, [], ◌∷◌, ◌++◌, refl, sym, subst, ◌∙◌, inl, inr, arith}
 use Rattle.der_base.specs.declared.header.Class.TheVariants.{Universal}
 use Rattle.der_walk.specs.declared.cause.Cause.{Cause}
 use Rattle.der_walk.specs.declared.element.Element.{Element}
 use Rattle.der_walk.specs.Visits.{Visited}
-use Rattle.der_walk.specs.Walked.{HasOctets, visited_of}
+use Rattle.der_walk.specs.Walked.{visited_of}
 use Rattle.der_canon.specs.declared.piece.Parts.{Parts}
 use Rattle.der_canon.specs.Errors.{AreParts, IsNoPartAfter}
-use Rattle.der_canon.specs.NoDer.{HasDer, HasNoDer, HasNoForm, IsNoPart, is_inside, string_after, string_from, string_of, unused_after, unused_from, unused_of, other, unused, part, value}
+use Rattle.der_canon.specs.NoDer.{HasDer, HasNoForm, IsNoPart, is_inside, string_after, string_from, string_of, unused_after, unused_from, unused_of, other, unused, part, value}
 use Rattle.der_canon.specs.Same.{content_of}
 
 pub no_part : (s : Option Visited) (u : ℕ) (e : Element) (p : Parts) (c : Cause) → AreParts (Some p) s u → p.depth < e.depth → IsNoPartAfter e p c → IsNoPart s u (visited_of e) c

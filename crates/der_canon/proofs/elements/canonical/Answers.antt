@@ -1,4 +1,4 @@
-use Rattle.std.proofs.Common.{◌≡◌, arith}
+use Rattle.std.proofs.Common.{arith}
 use Rattle.std.proofs.lemmas.Result.{err_from_is_err_and}
 use Rattle.der_canon.proofs.OneSize.{size_one}
 use Rattle.der_canon.proofs.elements.canonical.Goals as goal

@@ -1,4 +1,4 @@
-use Rattle.std.proofs.Common.{◌≡◌, arith}
+use Rattle.std.proofs.Common.{arith}
 use Rattle.der_canon.proofs.Readings.{no_part}
 use Rattle.der_canon.proofs.piece.form_of.Goals as goal
 

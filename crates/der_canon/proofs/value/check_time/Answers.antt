@@ -1,4 +1,3 @@
-use Rattle.std.proofs.Common.{◌≡◌}
 use Rattle.der_base.specs.Refusal.{refusal}
 use Rattle.der_canon.specs.NoDer.{time}
 use Rattle.der_canon.proofs.Forms.{time_refuses}
