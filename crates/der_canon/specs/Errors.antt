@@ -1,5 +1,6 @@
 -- Why an input isn't written as DER, and where.
-use Rattle.std.specs.Prelude.{◌≡◌, ◌≢◌, ◌↔◌, ◌==◌, ◌<◌, ℕ, ◌⊎◌, true, false, Option, Some, None, List, [], ◌∷◌, ◌++◌, length, Result, Ok, Err, MatchResult}
+use Rattle.std.specs.Prelude.{◌≡◌, ◌≢◌, ◌↔◌, ◌==◌, ◌<◌, ℕ, ◌⊎◌, true, false, Option}
+use Rattle.std.specs.Prelude.{Some, None, List, [], ◌∷◌, ◌++◌, length, Result, Ok, Err, MatchResult}
 use Rattle.std.specs.Option.{option_to_list}
 use Rattle.der_base.specs.declared.rules.Rules.TheVariants.{Ber}
 use Rattle.der_base.specs.declared.header.Class.TheVariants.{Universal}
@@ -20,7 +21,8 @@ use Rattle.der_canon.specs.declared.piece.Form.TheVariants.{Primitive}
 use Rattle.der_canon.specs.declared.piece.Parts.{Parts}
 use Rattle.der_canon.specs.declared.piece.Piece.{Piece}
 use Rattle.der_canon.specs.declared.piece.Pieces.{Pieces}
-use Rattle.der_canon.specs.NoDer.{HasDer, HasNoDer, HaveDer, IsNoPart, is_inside, string_after, string_of, unused_after, unused_of}
+use Rattle.der_canon.specs.NoDer.{HasDer, HasNoDer, HaveDer, IsNoPart}
+use Rattle.der_canon.specs.NoDer.{is_inside, string_after, string_of, unused_after, unused_of}
 use Rattle.der_canon.specs.Same.{no_extras, part_number}
 use Rattle.der_canon.specs.Sizes.{IsSizeOf}
 use Rattle.der_canon.specs.Written.{is_about_der}

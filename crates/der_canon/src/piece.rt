@@ -158,7 +158,9 @@ fn form_of(element: &Element<'_>, parts: Option<Parts>) -> Result<(Form, Option<
 /// The string after one more of its parts.
 fn after_part(element: &Element<'_>, around: Parts) -> Result<Parts, Cause>
     ensures depth { IfOk result (λ p. p.depth ≡ around.depth) }
-    ensures part { MatchResult result (λ p. IsPartAfter element.now around p) (λ c. IsNoPartAfter element.now around c) }
+    ensures part { MatchResult result
+        (λ p. IsPartAfter element.now around p)
+        (λ c. IsNoPartAfter element.now around c) }
 {
     if !element.is_universal(around.number) {
         return Err(Cause::OtherPart);

@@ -1,5 +1,6 @@
 //! How many octets elements have in DER.
-ghost use Rattle.std.specs.Prelude.{◌≡◌, ◌↔◌, ◌+◌, ◌++◌, ◌∷◌, [], IfErr, IfOk, IfSome, IsTrue, OnOk, OnSome, false, length};
+ghost use Rattle.std.specs.Prelude.{◌≡◌, ◌↔◌, ◌+◌, ◌++◌, ◌∷◌, [], IfErr};
+ghost use Rattle.std.specs.Prelude.{IfOk, IfSome, IsTrue, OnOk, OnSome, false, length};
 ghost use Rattle.der_base.specs.Octets.{shortest_length};
 ghost use Rattle.der_canon.specs.Errors.{AllHaveDer, IsAll, IsErrorOf};
 ghost use Rattle.der_canon.specs.Sizes.{Ends, HasSize, HasValueSize, IsNumber, part_size, start_size, with_length};
