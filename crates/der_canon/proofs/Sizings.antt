@@ -1,15 +1,15 @@
 -- One more piece that is counted.
 use Rattle.std.proofs.Common.{◌≡◌, ℕ, ◌+◌, true, false, Option, Some, None, List, [], ◌∷◌, ◌++◌, length, OnSome, refl, sym, ap, subst, ◌∙◌, inl, inr, arith}
-use Rattle.der_base.specs.declared.rules.Rules.TheVariants.{Ber}
 use Rattle.der_walk.specs.declared.element.Element.{Element}
 use Rattle.der_walk.specs.Visits.{Visited}
-use Rattle.der_walk.specs.Walked.{HasOctets, HasVisited, visited_of}
+use Rattle.der_walk.specs.Walked.{HasOctets, visited_of}
 use Rattle.der_canon.specs.declared.piece.Parts.{Parts}
 use Rattle.der_canon.specs.declared.piece.Piece.{Piece}
 use Rattle.der_canon.specs.declared.piece.Pieces.{Pieces}
 use Rattle.der_canon.specs.declared.size.Sizes.{Sizes}
+use Rattle.der_canon.specs.Errors.{HasRead}
 use Rattle.der_canon.specs.Pieces.{IsForm, depth_of}
-use Rattle.der_canon.specs.Same.{content_of, is_part, parts_of, no_extras}
+use Rattle.der_canon.specs.Same.{content_of, is_part, parts_of}
 use Rattle.der_canon.specs.Sizes.{HasSizes, HasValueSize, part, part_size, with_length}
 use Rattle.der_canon.specs.Sizes.{primitive as primitive_size, constructed as constructed_size}
 use Rattle.der_canon.specs.Sizing.{AddsElement, AddsPart, AddsPiece, primitive, constructed}
@@ -40,8 +40,8 @@ element_more i vs s e a b h free g (constructed ks k con ends around here) =
     constructed_size vs (visited_of e) s a.around.items ks a.here k h free ends con (around ∙ ap (λ z. ks ++ (k + length z) ∷ []) g.identifier) here refl refl
 
 pub size_step : (i : List ℕ) (vs : List Visited) (s : Option Parts) (x : Piece) (p : Pieces) (a b : Sizes) → HasSizes i vs (depth_of s) a.around.items a.here
-    → HasVisited no_extras Ber i p.walk (vs ++ visited_of x.element ∷ []) → HasOctets i x.element → IsForm s (visited_of x.element) x.form p.parts → AddsPiece x a b
-    → (us : List Visited) × HasVisited no_extras Ber i p.walk us × HasSizes i us (depth_of p.parts) b.around.items b.here
+    → HasRead i (vs ++ visited_of x.element ∷ []) p → HasOctets i x.element → IsForm s (visited_of x.element) x.form p.parts → AddsPiece x a b
+    → (us : List Visited) × HasRead i us p × HasSizes i us (depth_of p.parts) b.around.items b.here
 size_step i vs s x p a b h walked g f (inl (plain, adds)) =
     let v = visited_of x.element in
     let e : is_part (depth_of s) v ≡ true = not_false (is_part (depth_of s) v) (sym f.header ∙ plain) in
@@ -50,3 +50,7 @@ size_step i vs s x p a b h walked g f (inr (headed, adds)) =
     let v = visited_of x.element in
     let e : is_part (depth_of s) v ≡ false = not_true (is_part (depth_of s) v) (sym f.header ∙ headed) in
     (vs ++ v ∷ [], walked, subst (λ t. HasSizes i (vs ++ v ∷ []) t b.around.items b.here) (sym (f.whole e)) (element_more i vs (depth_of s) x.element a b h e g adds))
+
+pub some_map : {X : Type 0} (r : Option X) (P Q : Type 0) → (P → Q) → OnSome r P → OnSome r Q
+some_map (Some x) P Q f h = f h
+some_map None P Q f h = h

@@ -1,12 +1,12 @@
 -- One more piece that is checked.
 use Rattle.std.specs.Borrow.{Bor}
-use Rattle.std.proofs.Common.{◌≡◌, ℕ, ◌+◌, Bool, true, false, not, Option, Some, None, List, [], ◌∷◌, ◌++◌, length, unwrap_or, Result, Ok, Err, IfOk, OnOk, refl, sym, ap, subst, ◌∙◌, inl, inr, append_assoc, IsSome, arith}
+use Rattle.std.proofs.Common.{◌≡◌, ℕ, ◌+◌, Bool, true, false, not, Option, Some, None, List, [], ◌∷◌, ◌++◌, length, unwrap_or, Result, Ok, Err, IfErr, IfOk, OnOk, refl, sym, ap, subst, ◌∙◌, inl, inr, append_assoc, IsSome, arith}
 use Rattle.std.specs.Prelude.{◌==◌, ◌<◌, if◌then◌else◌}
 use Rattle.std.specs.List.{All}
 use Rattle.std.proofs.lemmas.List.Elements.{All-push}
 use Rattle.std.proofs.lemmas.Bool.{ltb-true}
 use Rattle.std.proofs.lemmas.List.{append-nil}
-use Rattle.der_base.specs.declared.rules.Rules.TheVariants.{Ber, Der}
+use Rattle.der_base.specs.declared.rules.Rules.TheVariants.{Der}
 use Rattle.der_check.specs.Elements.{AreElements}
 use Rattle.der_walk.specs.declared.element.Element.{Element}
 use Rattle.der_walk.specs.declared.walk.Walk.{Walk}
@@ -17,6 +17,7 @@ use Rattle.der_canon.specs.declared.joined.Joined.{Joined}
 use Rattle.der_canon.specs.declared.piece.Parts.{Parts}
 use Rattle.der_canon.specs.declared.piece.Piece.{Piece}
 use Rattle.der_canon.specs.declared.piece.Pieces.{Pieces}
+use Rattle.der_canon.specs.Errors.{HasRead}
 use Rattle.der_canon.specs.Joined.{HasJoined, IsComplete, TakesPart, contents_in, given}
 use Rattle.der_canon.specs.Pieces.{HasPiece, IsForm, IsWrittenFor, depth_of}
 use Rattle.der_canon.specs.Same.{AreWrittenAs, HasElementsOf, IsHeadedAs, IsPartOf, content_of, contents_of, is_in_parts, is_part, part_number, parts_of, none, one_more, no_extras}
@@ -104,9 +105,9 @@ another i o vs ws s j j' e (some before written parts v w t are free all header 
     (ap (λ z. z ++ u ∷ []) a ∙ append_assoc before (v ∷ parts) (u ∷ [])) b d
 
 pub step : (i o : List ℕ) (vs ws : List Visited) (s : Option Parts) (j j' : Joined) (x : Piece) (p : Pieces) (w w' : Walk) → HasChecked i o vs (depth_of s) ws j
-    → HasVisited no_extras Ber i p.walk (vs ++ visited_of x.element ∷ []) → HasVisited no_extras Der o w ws → HasOctets i x.element
+    → HasRead i (vs ++ visited_of x.element ∷ []) p → HasVisited no_extras Der o w ws → HasOctets i x.element
     → IsForm s (visited_of x.element) x.form p.parts → HasPiece x j w w' j'
-    → (us ts : List Visited) × HasVisited no_extras Ber i p.walk us × HasVisited no_extras Der o w' ts × HasChecked i o us (depth_of p.parts) ts j'
+    → (us ts : List Visited) × HasRead i us p × HasVisited no_extras Der o w' ts × HasChecked i o us (depth_of p.parts) ts j'
 step i o vs ws s j j' x p w w' a h ho g f (inl (plain, same, takes)) =
     let v = visited_of x.element in
     let e : is_part (depth_of s) v ≡ true = not_false (is_part (depth_of s) v) (sym f.header ∙ plain) in
@@ -128,3 +129,7 @@ are_der i o (vs, ws, s, ber, der, a) = are_elements (λ k e. absurd (let h = k i
 pub ok_map : {E : Type 0} (r : Result ℕ E) (P Q : ℕ → Type 0) → ((n : ℕ) → P n → Q n) → IfOk r P → IfOk r Q
 ok_map (Ok n) P Q f h = f n h
 ok_map (Err e) P Q f h = h
+
+pub err_map : {T E : Type 0} (r : Result T E) (P Q : E → Type 0) → ((e : E) → P e → Q e) → IfErr r P → IfErr r Q
+err_map (Ok n) P Q f h = h
+err_map (Err e) P Q f h = f e h

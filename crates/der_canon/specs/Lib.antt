@@ -1,5 +1,7 @@
+pub mod Errors
 pub mod Joined
 pub mod Laws
+pub mod NoDer
 pub mod Pieces
 pub mod Same
 pub mod Sizes

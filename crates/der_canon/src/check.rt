@@ -1,34 +1,41 @@
 //! What was written, beside the input: each element has the same value.
-ghost use Rattle.std.specs.Prelude.{◌≡◌, ℕ, List, [], IfOk, IfSome, IsTrue, OnOk};
+ghost use Rattle.std.specs.Prelude.{◌≡◌, ℕ, List, [], IfErr, IfSome, IsTrue, OnOk, true};
 ghost use Rattle.der_base.specs.declared.rules.Rules.{Rules};
 ghost use Rattle.der_walk.specs.Visits.{Visited, Visits};
 ghost use Rattle.der_walk.specs.Walked.{HasVisited, visited_of};
+ghost use Rattle.der_canon.specs.Errors.{AllHaveDer, IsAll, IsErrorAt, IsErrorAtEnd, IsErrorOf};
 ghost use Rattle.der_canon.specs.Joined.{IsComplete};
 ghost use Rattle.der_canon.specs.Pieces.{HasElement, HasPiece, IsWrittenFor};
 ghost use Rattle.der_canon.specs.Same.{HasElementsOf, IsHeadedAs, no_extras};
 ghost use Rattle.der_canon.specs.Values.{IsSameValue};
+ghost use Rattle.der_canon.specs.Written.{is_about_der};
 
 use crate::content::{is_same_bits, is_same_boolean, is_same_number};
 use crate::error::NotCanonical;
 use crate::joined::Joined;
 use crate::piece::{Piece, Pieces, is_in_parts, refuse};
+use der_base::error::BerError;
 use der_base::header::Class;
 use der_base::rules::Rules;
-use der_walk::{Cause, Element, Refusal, Walk};
+use der_walk::{Cause, Element, Refusal, Step, Walk};
 
 /// Checks that what was written is elements of DER, those of the input. An error has the offset in the input of the
 /// element that isn't DER.
 pub(crate) fn check_written(octets: &[u8], written: &[u8]) -> Result<(), NotCanonical>
-    ensures { OnOk result (HasElementsOf octets.now written.now) }
+    ensures elements { OnOk result (HasElementsOf octets.now written.now) }
+    ensures refused { AllHaveDer octets.now → IfErr result (IsErrorOf octets.now) }
 {
     let mut pieces = Pieces::new(octets);
     let mut checker = Checker::new(written);
     // An element has an octet at least, so the loop ends at the end of the input.
     for _ in 0..=octets.len() {
         match pieces.next_piece() {
-            Ok(Some(piece)) => checker.check_piece(&piece)?,
-            Ok(None) => return checker.check_end(),
-            Err(_) => break,
+            Ok(Some(piece)) => match checker.check_piece(&piece) {
+                Ok(()) => {}
+                Err(refused) => return Err(refused),
+            },
+            Ok(None) => return checker.check_end(octets.len()),
+            Err(refusal) => return Err(pieces.refuse(&refusal)),
         }
     }
     Err(refuse_all(&checker.walk))
@@ -54,8 +61,9 @@ impl<'a> Checker<'a> {
 
     /// Checks that what was written goes on with this piece.
     fn check_piece(&mut self, piece: &Piece<'_>) -> Result<(), NotCanonical>
-        ensures { OnOk result
+        ensures piece { OnOk result
             (HasPiece piece.now self.old.joined self.old.walk self.new.walk self.new.joined) }
+        ensures refused { IfErr result (IsErrorAt piece.now.element) }
     {
         if piece.has_header() {
             return self.check_element(&piece.element);
@@ -65,17 +73,18 @@ impl<'a> Checker<'a> {
                 self.joined = joined;
                 Ok(())
             }
-            None => Err(refuse_all(&self.walk)),
+            None => Err(self.refuse(&piece.element, None, Cause::NotDer)),
         }
     }
 
     /// Checks that the next element that was written is this one, as DER writes it.
     fn check_element(&mut self, element: &Element<'_>) -> Result<(), NotCanonical>
-        ensures { OnOk result
+        ensures element { OnOk result
             (HasElement element.now self.old.joined self.old.walk self.new.walk self.new.joined) }
+        ensures refused { IfErr result (IsErrorAt element.now) }
     {
         if !self.joined.is_complete() {
-            return Err(refuse_all(&self.walk));
+            return Err(self.refuse(element, None, Cause::NotDer));
         }
         match self.walk.next_element() {
             Ok(Some(written)) => match compare(element, &written) {
@@ -83,29 +92,49 @@ impl<'a> Checker<'a> {
                     self.joined = joined;
                     Ok(())
                 }
-                None => Err(refuse_all(&self.walk)),
+                None => Err(self.refuse(element, None, Cause::NotDer)),
             },
-            Ok(None) => Err(refuse_all(&self.walk)),
-            Err(refusal) => {
-                let offset = element.offset;
-                Err(refuse(&self.walk, &Refusal { offset, ..refusal }))
-            }
+            Ok(None) => Err(self.refuse(element, None, Cause::NotDer)),
+            Err(refusal) => Err(self.refuse(element, refusal.step, refusal.cause)),
         }
     }
 
-    /// Checks that all that was written is checked.
-    fn check_end(&mut self) -> Result<(), NotCanonical>
+    /// Refuses what was written for an element. The path is that of what was written, which is the same in the input.
+    fn refuse(&self, element: &Element<'_>, step: Option<Step>, cause: Cause) -> NotCanonical
+        ensures { IsErrorAt element.now result }
+    {
+        let refusal = Refusal {
+            offset: element.offset,
+            step,
+            cause: cause_in_der(cause),
+        };
+        refuse(&self.walk, &refusal)
+    }
+
+    /// Checks that all that was written is checked. An error has this offset.
+    fn check_end(&mut self, end: usize) -> Result<(), NotCanonical>
         ensures complete { OnOk result (IsComplete self.old.joined) }
         ensures visits { OnOk result ((o : List ℕ) (ws : List Visited)
             → HasVisited no_extras Rules.Der o self.old.walk ws → Visits no_extras Rules.Der 101 0 0 o ws) }
+        ensures refused { IfErr result (IsErrorAtEnd end) }
     {
         if !self.joined.is_complete() {
-            return Err(refuse_all(&self.walk));
+            return Err(refuse_from(&self.walk, end));
         }
         match self.walk.next_element() {
             Ok(None) => Ok(()),
-            _ => Err(refuse_all(&self.walk)),
+            _ => Err(refuse_from(&self.walk, end)),
         }
+    }
+}
+
+/// The cause of an error of what was written: a rule of DER, if it names one.
+fn cause_in_der(cause: Cause) -> Cause
+    ensures { is_about_der result ≡ true }
+{
+    match cause {
+        Cause::Value(BerError::DerConstraintFailed(_)) => cause,
+        _ => Cause::NotDer,
     }
 }
 
@@ -157,9 +186,18 @@ fn is_same_value(element: &Element<'_>, content: &[u8], written: &[u8]) -> bool
 }
 
 /// Refuses all that was written, with no offset.
-pub(crate) fn refuse_all(walk: &Walk<'_>) -> NotCanonical {
+pub(crate) fn refuse_all(walk: &Walk<'_>) -> NotCanonical
+    ensures { IsAll result }
+{
+    refuse_from(walk, 0)
+}
+
+/// Refuses what was written, with this offset.
+fn refuse_from(walk: &Walk<'_>, offset: usize) -> NotCanonical
+    ensures { IsErrorAtEnd offset result }
+{
     let refusal = Refusal {
-        offset: 0,
+        offset,
         step: None,
         cause: Cause::NotDer,
     };

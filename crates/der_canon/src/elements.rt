@@ -1,20 +1,20 @@
 //! The public calls.
-ghost use Rattle.std.specs.Prelude.{◌≡◌, ◌≤◌, length, take, IfErr, IfOk, IfSome};
+ghost use Rattle.std.specs.Prelude.{◌≡◌, ◌≤◌, length, take, IfErr, IfOk, MatchOption, OnOk};
 ghost use Rattle.der_check.specs.Elements.{AreElements};
 ghost use Rattle.der_base.specs.declared.rules.Rules.{Rules};
 ghost use Rattle.der_canon.specs.Same.{HasElementsOf, IsDerOf};
 ghost use Rattle.der_canon.specs.Sizes.{HasSize};
-ghost use Rattle.der_canon.specs.Written.{IsRefusalOf, KeepsDer, WritesDer, is_about_der};
+ghost use Rattle.der_canon.specs.Errors.{AllHaveDer, IsCanonErrorOf, IsErrorOf, NeedsMore};
+ghost use Rattle.der_canon.specs.Written.{IsRefusalOf, KeepsDer, WritesDer};
 
 use crate::check::{check_written, refuse_all};
 use crate::error::{CanonError, NotCanonical};
 use crate::octets::copy;
 use crate::size::size_of;
 use crate::writer::write_pieces;
-use der_base::error::BerError;
 use der_base::rules::Rules;
 use der_check::are_elements;
-use der_walk::{Cause, MAX_DEPTH, Walk};
+use der_walk::{MAX_DEPTH, Walk};
 use std::alloc::Global;
 
 /// Writes elements that are read by BER as DER writes them, to a buffer: lengths in the fewest octets (X.690 10.1),
@@ -24,11 +24,14 @@ use std::alloc::Global;
 ///
 /// Returns how many octets there are, room or not. If the buffer has room for them, they are in front of it, and are
 /// elements of DER: those of the input but the parts of strings, each with its class, number, depth and value. If it
-/// has less, call again with so many: what it holds then isn't said, nor whether a value is refused. Elements that are
-/// DER already are copied. It takes no memory, and the buffer keeps what follows them.
+/// has less, call again with so many: what it holds then isn't said, nor whether a string in parts is refused. Elements
+/// that are DER already are copied. It takes no memory, and the buffer keeps what follows them.
 ///
-/// An error with the cause `OtherPart`, `UnusedBitsInside`, `NotDer` or a broken rule of DER says that the input has
-/// no DER. Any other says that it isn't elements of BER.
+/// An error is the first fault of the input, with its offset and its path: where it isn't elements of BER, or its first
+/// element that DER has no form of. These have the causes `OtherPart`, `UnusedBitsInside`, `NotDer` or a broken rule of
+/// DER: a number without octets (8.3.1), a NULL with octets (8.8.2), more than seven unused bits or some of no octet
+/// (8.6.2), a time that isn't as DER writes it (11.7, 11.8), and a part of another type or after unused bits (8.6.4,
+/// 8.7.3). The content of a string in parts is looked at after all these.
 ///
 /// ```
 /// let mut out = [0; 8];
@@ -39,6 +42,8 @@ pub fn canonical_into(octets: &[u8], out: &mut [u8]) -> Result<usize, NotCanonic
     ensures written { WritesDer octets.now out.new result }
     ensures unchanged { KeepsDer octets.now out.old out.new result }
     ensures refused { IfErr result (IsRefusalOf octets.now) }
+    ensures error { IfErr result (IsErrorOf octets.now) }
+    ensures have { OnOk result (¬ AreElements Rules.Der 101 octets.now → AllHaveDer octets.now) }
 {
     if are_elements(octets, Rules::Der, MAX_DEPTH + 1) {
         copy(out, octets);
@@ -46,51 +51,35 @@ pub fn canonical_into(octets: &[u8], out: &mut [u8]) -> Result<usize, NotCanonic
     }
     match write_others(octets, out) {
         Ok(needed) => Ok(needed),
-        Err(refused) => Err(refuse_input(octets, refused)),
-    }
-}
-
-/// The error of an input. One that says that the input breaks a rule of BER is kept only if it does.
-fn refuse_input(octets: &[u8], refused: NotCanonical) -> NotCanonical
-    ensures { IsRefusalOf octets.now result }
-{
-    if is_about_der(refused.cause) || !are_elements(octets, Rules::Ber, MAX_DEPTH + 1) {
-        return refused;
-    }
-    NotCanonical {
-        cause: Cause::NotDer,
-        ..refused
-    }
-}
-
-/// Whether a cause says that an element of BER has no DER.
-fn is_about_der(cause: Cause) -> bool
-    ensures { result ≡ is_about_der cause }
-{
-    match cause {
-        Cause::OtherPart | Cause::UnusedBitsInside | Cause::NotDer => true,
-        Cause::Value(BerError::DerConstraintFailed(_)) => true,
-        _ => false,
+        Err(refused) => Err(refused),
     }
 }
 
 /// Writes elements that aren't DER already.
 fn write_others(octets: &[u8], out: &mut [u8]) -> Result<usize, NotCanonical>
-    ensures { IfOk result (λ n. HasSize octets.now n
+    ensures written { IfOk result (λ n. HasSize octets.now n
         × (n ≤ length out.new → HasElementsOf octets.now (take n out.new))) }
+    ensures error { IfErr result (IsErrorOf octets.now) }
+    ensures have { OnOk result (AllHaveDer octets.now) }
 {
-    let needed = size_of(octets)?;
+    let needed = match size_of(octets) {
+        Ok(needed) => needed,
+        Err(refused) => return Err(refused),
+    };
     if needed > out.len() {
         return Ok(needed);
     }
-    write_pieces(octets, out)?;
-    check_written(octets, &out[..needed])?;
-    Ok(needed)
+    write_pieces(octets, out);
+    match check_written(octets, &out[..needed]) {
+        Ok(()) => Ok(needed),
+        Err(refused) => Err(refused),
+    }
 }
 
 /// Writes elements as `canonical_into` does, to a vector that has room for them. OutOfMemory if there is none.
 pub fn canonical(alloc: Global, octets: &[u8]) -> Result<Vec<u8>, CanonError>
-    ensures { IfOk result (λ v. IsDerOf octets.now v.items) }
+    ensures written { IfOk result (λ v. IsDerOf octets.now v.items) }
+    ensures error { IfErr result (IsCanonErrorOf octets.now) }
 {
     // They are seldom more octets than before.
     if let Some(written) = write_within(alloc, octets, octets.len())? {
@@ -107,7 +96,8 @@ pub fn canonical(alloc: Global, octets: &[u8]) -> Result<Vec<u8>, CanonError>
 
 /// Writes elements to a vector of so many octets. None if they need more.
 fn write_within(alloc: Global, octets: &[u8], room: usize) -> Result<Option<Vec<u8>>, CanonError>
-    ensures { IfOk result (λ o. IfSome o (λ v. IsDerOf octets.now v.items)) }
+    ensures written { IfOk result (λ o. MatchOption o (NeedsMore octets.now room) (λ v. IsDerOf octets.now v.items)) }
+    ensures error { IfErr result (IsCanonErrorOf octets.now) }
 {
     let mut written = vec![in alloc; 0u8; room]?;
     let needed = canonical_into(octets, &mut written)?;

@@ -1,4 +1,7 @@
 //! Why elements aren't written.
+ghost use Rattle.std.specs.Prelude.{◌≡◌};
+ghost use Rattle.der_canon.specs.declared.error.CanonError.TheVariants.{NotCanonical, OutOfMemory};
+
 use der_walk::{Cause, Path};
 use std::alloc::{AllocError, AllocFailed};
 
@@ -22,12 +25,16 @@ pub enum CanonError {
 }
 
 impl From<NotCanonical> for CanonError {
+    ghost from_gives = { λ refused e. e ≡ NotCanonical refused };
+
     fn from(refused: NotCanonical) -> CanonError {
         CanonError::NotCanonical(refused)
     }
 }
 
 impl From<AllocError> for CanonError {
+    ghost from_gives = { λ _ e. e ≡ OutOfMemory };
+
     fn from(_: AllocError) -> CanonError {
         CanonError::OutOfMemory
     }

@@ -11,6 +11,7 @@ pub mod laws;
 mod octets;
 mod piece;
 mod size;
+mod value;
 mod writer;
 
 pub use elements::{canonical, canonical_into};

@@ -1,12 +1,16 @@
 //! The elements of an input, as they are to be written.
-ghost use Rattle.std.specs.Prelude.{◌≡◌, ℕ, Option, None, List, [], false, true, IfOk};
+ghost use Rattle.std.specs.Prelude.{◌≡◌, ℕ, Option, None, List, [], false, true, IfOk, MatchResult};
 ghost use Rattle.der_base.specs.declared.rules.Rules.{Rules};
 ghost use Rattle.der_walk.specs.Visits.{Visited};
-ghost use Rattle.der_walk.specs.Walked.{HasVisited, visited_of};
+ghost use Rattle.der_walk.specs.Walked.{HasOctets, HasVisited, visited_of};
+ghost use Rattle.der_canon.specs.Errors.{AreParts, FindsForm, FindsPart, HasRead, IsNoPartAfter, IsPartAfter};
+ghost use Rattle.der_canon.specs.Errors.{IsStepTo, IsToldOf, ReadsOn};
+ghost use Rattle.der_canon.specs.NoDer.{string_after, unused_after, unused_of};
 ghost use Rattle.der_canon.specs.Pieces.{IsForm, PieceNext, depth_of, has_header};
 ghost use Rattle.der_canon.specs.Same.{is_in_parts, is_string, no_extras};
 
 use crate::error::NotCanonical;
+use crate::value::check_value;
 use der_base::header::Class;
 use der_base::rules::Rules;
 use der_walk::{Cause, Element, Refusal, Walk};
@@ -66,6 +70,7 @@ impl<'a> Pieces<'a> {
     pub(crate) fn new(octets: &'a [u8]) -> Pieces<'a>
         ensures walk { HasVisited no_extras Rules.Ber octets.now result.walk [] }
         ensures parts { depth_of result.parts ≡ None }
+        ensures read { HasRead octets.now [] result }
     {
         Pieces {
             walk: Walk::new(octets, Rules::Ber, false),
@@ -75,13 +80,14 @@ impl<'a> Pieces<'a> {
 
     /// The next element. None at the end of the input.
     pub(crate) fn next_piece(&mut self) -> Result<Option<Piece<'a>>, Refusal>
-        ensures { (i : List ℕ) (vs : List Visited) → HasVisited no_extras Rules.Ber i self.old.walk vs
+        ensures next { (i : List ℕ) (vs : List Visited) → HasVisited no_extras Rules.Ber i self.old.walk vs
             → PieceNext i vs self.old.parts self.new result }
+        ensures errors { (i : List ℕ) (vs : List Visited) → HasRead i vs self.old → ReadsOn i vs self.new result }
     {
         let Some(element) = self.walk.next_element()? else {
             return Ok(None);
         };
-        match form_of(&element, self.parts) {
+        match form_in_der(&element, self.parts) {
             Ok((form, parts)) => {
                 self.parts = parts;
                 Ok(Some(Piece { element, form }))
@@ -91,13 +97,17 @@ impl<'a> Pieces<'a> {
     }
 
     /// Where and why the input isn't written.
-    pub(crate) fn refuse(&self, refusal: &Refusal) -> NotCanonical {
+    pub(crate) fn refuse(&self, refusal: &Refusal) -> NotCanonical
+        ensures { IsToldOf self.now.walk refusal.now result }
+    {
         refuse(&self.walk, refusal)
     }
 }
 
 /// Where and why a walk ends before its input does.
-pub(crate) fn refuse(walk: &Walk<'_>, refusal: &Refusal) -> NotCanonical {
+pub(crate) fn refuse(walk: &Walk<'_>, refusal: &Refusal) -> NotCanonical
+    ensures { IsToldOf walk.now refusal.now result }
+{
     NotCanonical {
         offset: refusal.offset,
         path: walk.path(refusal),
@@ -105,15 +115,33 @@ pub(crate) fn refuse(walk: &Walk<'_>, refusal: &Refusal) -> NotCanonical {
     }
 }
 
+/// The form of an element after others, and the string whose parts follow it. An error if DER has none.
+fn form_in_der(element: &Element<'_>, parts: Option<Parts>) -> Result<(Form, Option<Parts>), Cause>
+    ensures form { IfOk result (λ x. IsForm parts (visited_of element.now) x.0 x.1) }
+    ensures der { (i : List ℕ) (vs : List Visited) → HasOctets i element.now
+        → AreParts parts (string_after vs) (unused_after i vs) → FindsForm i vs element.now result }
+{
+    match form_of(element, parts) {
+        Ok((form, following)) if form != Form::Primitive => Ok((form, following)),
+        Ok((form, following)) => match check_value(element) {
+            Ok(()) => Ok((form, following)),
+            Err(cause) => Err(cause),
+        },
+        Err(cause) => Err(cause),
+    }
+}
+
 /// The form of an element after others, and the string whose parts follow it.
 fn form_of(element: &Element<'_>, parts: Option<Parts>) -> Result<(Form, Option<Parts>), Cause>
-    ensures { IfOk result (λ x. IsForm parts (visited_of element.now) x.0 x.1) }
+    ensures form { IfOk result (λ x. IsForm parts (visited_of element.now) x.0 x.1) }
+    ensures part { (i : List ℕ) (s : Option Visited) (u : ℕ) → HasOctets i element.now → AreParts parts s u
+        → FindsPart i s u element.now result }
 {
     match parts {
-        Some(around) if element.depth > around.depth => {
-            let next = after_part(element, around)?;
-            Ok((Form::Part, Some(next)))
-        }
+        Some(around) if element.depth > around.depth => match after_part(element, around) {
+            Ok(next) => Ok((Form::Part, Some(next))),
+            Err(cause) => Err(cause),
+        },
         _ if !element.constructed => Ok((Form::Primitive, None)),
         _ if is_in_parts(element) => {
             let parts = Parts {
@@ -129,7 +157,10 @@ fn form_of(element: &Element<'_>, parts: Option<Parts>) -> Result<(Form, Option<
 
 /// The string after one more of its parts.
 fn after_part(element: &Element<'_>, around: Parts) -> Result<Parts, Cause>
-    ensures { IfOk result (λ p. p.depth ≡ around.depth) }
+    ensures depth { IfOk result (λ p. p.depth ≡ around.depth) }
+    ensures part { MatchResult result
+        (λ p. IsPartAfter element.now around p)
+        (λ c. IsNoPartAfter element.now around c) }
 {
     if !element.is_universal(around.number) {
         return Err(Cause::OtherPart);
@@ -137,11 +168,20 @@ fn after_part(element: &Element<'_>, around: Parts) -> Result<Parts, Cause>
     if around.unused != 0 {
         return Err(Cause::UnusedBitsInside);
     }
-    let unused = match element.content {
-        Some([unused, ..]) if !element.constructed && around.number == 3 => *unused,
+    Ok(Parts {
+        unused: unused_in(element),
+        ..around
+    })
+}
+
+/// How many bits are unused at the end of a primitive part of a BIT STRING.
+fn unused_in(element: &Element<'_>) -> u8
+    ensures { (i : List ℕ) → HasOctets i element.now → result ≡ unused_of i (visited_of element.now) }
+{
+    match element.content {
+        Some([unused, ..]) if !element.constructed && element.number == 3 => *unused,
         _ => 0,
-    };
-    Ok(Parts { unused, ..around })
+    }
 }
 
 /// Whether an element is a string in parts.
@@ -159,7 +199,10 @@ fn is_string(number: u32) -> bool
 }
 
 /// Refuses an element that was read. A constructed one is open, so it is in the path already.
-fn refuse_element(element: &Element<'_>, cause: Cause) -> Refusal {
+fn refuse_element(element: &Element<'_>, cause: Cause) -> Refusal
+    ensures told { (result.offset ≡ element.now.offset) × (result.cause ≡ cause) }
+    ensures step { IsStepTo (visited_of element.now) element.now.index result.step }
+{
     let step = if element.constructed {
         None
     } else {

@@ -1,6 +1,8 @@
 //! How many octets elements have in DER.
-ghost use Rattle.std.specs.Prelude.{◌≡◌, ◌↔◌, ◌+◌, ◌++◌, ◌∷◌, [], IfOk, IfSome, IsTrue, OnOk, OnSome, false, length};
+ghost use Rattle.std.specs.Prelude.{◌≡◌, ◌↔◌, ◌+◌, ◌++◌, ◌∷◌, [], IfErr};
+ghost use Rattle.std.specs.Prelude.{IfOk, IfSome, IsTrue, OnOk, OnSome, false, length};
 ghost use Rattle.der_base.specs.Octets.{shortest_length};
+ghost use Rattle.der_canon.specs.Errors.{AllHaveDer, IsAll, IsErrorOf};
 ghost use Rattle.der_canon.specs.Sizes.{Ends, HasSize, HasValueSize, IsNumber, part_size, start_size, with_length};
 ghost use Rattle.der_canon.specs.Sizing.{AddsElement, AddsPart, AddsPiece};
 ghost use Rattle.der_walk.specs.Walked.{visited_of};
@@ -19,15 +21,25 @@ const DEPTHS: usize = MAX_DEPTH + 1;
 
 /// How many octets DER has for the elements of an input.
 pub(crate) fn size_of(octets: &[u8]) -> Result<usize, NotCanonical>
-    ensures { IfOk result (HasSize octets.now) }
+    ensures size { IfOk result (HasSize octets.now) }
+    ensures have { OnOk result (AllHaveDer octets.now) }
+    ensures refused { IfErr result (IsErrorOf octets.now) }
 {
     let mut pieces = Pieces::new(octets);
     let mut sizes = Sizes::new();
     // An element has an octet at least, so the loop ends at the end of the input.
     for _ in 0..=octets.len() {
         match pieces.next_piece() {
-            Ok(Some(piece)) => sizes.add(&piece)?,
-            Ok(None) => return sizes.total(),
+            Ok(Some(piece)) => match sizes.add(&piece) {
+                Some(()) => {}
+                None => return Err(too_large()),
+            },
+            Ok(None) => {
+                return match sizes.total() {
+                    Some(size) => Ok(size),
+                    None => Err(too_large()),
+                };
+            }
             Err(refusal) => return Err(pieces.refuse(&refusal)),
         }
     }
@@ -35,7 +47,9 @@ pub(crate) fn size_of(octets: &[u8]) -> Result<usize, NotCanonical>
 }
 
 /// Refuses elements that have more octets than a slice.
-fn too_large() -> NotCanonical {
+fn too_large() -> NotCanonical
+    ensures { IsAll result }
+{
     refuse_all(&Walk::new(&[], Rules::Der, false))
 }
 
@@ -60,29 +74,24 @@ impl Sizes {
     }
 
     /// Adds one more piece.
-    fn add(&mut self, piece: &Piece<'_>) -> Result<(), NotCanonical>
-        ensures { OnOk result (AddsPiece piece.now self.old self.new) }
+    fn add(&mut self, piece: &Piece<'_>) -> Option<()>
+        ensures { OnSome result (AddsPiece piece.now self.old self.new) }
     {
         if piece.has_header() {
-            return match self.add_element(&piece.element) {
-                Some(()) => Ok(()),
-                None => Err(too_large()),
-            };
-        }
-        match self.add_part(&piece.element) {
-            Some(()) => Ok(()),
-            None => Err(too_large()),
+            self.add_element(&piece.element)
+        } else {
+            self.add_part(&piece.element)
         }
     }
 
     /// How many octets there are in all.
-    fn total(&mut self) -> Result<usize, NotCanonical>
-        ensures { IfOk result
+    fn total(&mut self) -> Option<usize>
+        ensures { IfSome result
             (λ n. Ends 0 self.old.around.items self.old.here self.new.around.items n) }
     {
         match self.end(0) {
-            Some(()) => Ok(self.here),
-            None => Err(too_large()),
+            Some(()) => Some(self.here),
+            None => None,
         }
     }
 

@@ -1,7 +1,6 @@
 //! Writing from the first octet to the last. How long a content is shows at its end. Then its length is written in
 //! prefix of it, and the content moves up if the length has more than one octet.
 use crate::content::{boolean, shortest_number, without_unused};
-use crate::error::NotCanonical;
 use crate::octets::{further_octets, move_up, put_length, put_octets};
 use crate::piece::{Form, Piece, Pieces};
 use arrayvec::ArrayVec;
@@ -11,19 +10,17 @@ use der_walk::{Element, MAX_DEPTH};
 const DEPTHS: usize = MAX_DEPTH + 1;
 
 /// Writes the elements of an input as far as there is room.
-pub(crate) fn write_pieces(octets: &[u8], out: &mut [u8]) -> Result<(), NotCanonical> {
+pub(crate) fn write_pieces(octets: &[u8], out: &mut [u8]) {
     let mut pieces = Pieces::new(octets);
     let mut writer = Writer::new();
     // An element has an octet at least, so the loop ends at the end of the input.
     for _ in 0..=octets.len() {
         match pieces.next_piece() {
             Ok(Some(piece)) => writer.write(out, &piece),
-            Ok(None) => break,
-            Err(refusal) => return Err(pieces.refuse(&refusal)),
+            Ok(None) | Err(_) => break,
         }
     }
     writer.complete(out, 0);
-    Ok(())
 }
 
 /// How far elements are written.

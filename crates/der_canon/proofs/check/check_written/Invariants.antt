@@ -1,7 +1,8 @@
 use Rattle.std.proofs.Common.{List}
-use Rattle.der_base.specs.declared.rules.Rules.TheVariants.{Ber, Der}
+use Rattle.der_base.specs.declared.rules.Rules.TheVariants.{Der}
 use Rattle.der_walk.specs.Visits.{Visited}
 use Rattle.der_walk.specs.Walked.{HasVisited}
+use Rattle.der_canon.specs.Errors.{HasRead}
 use Rattle.der_canon.specs.Pieces.{depth_of}
 use Rattle.der_canon.specs.Same.{no_extras}
 use Rattle.der_canon.proofs.Steps.{HasChecked}
@@ -9,5 +10,5 @@ use Rattle.der_canon.proofs.check.check_written.Given as goal
 
 -- what was written so far is checked
 abbrev pub invariant-loop : goal.invariant-loop
-invariant-loop l = (vs ws : List Visited) × HasVisited no_extras Ber l.octets l.pieces.walk vs × HasVisited no_extras Der l.written l.checker.walk ws
+invariant-loop l = (vs ws : List Visited) × HasRead l.octets vs l.pieces × HasVisited no_extras Der l.written l.checker.walk ws
     × HasChecked l.octets l.written vs (depth_of l.pieces.parts) ws l.checker.joined
