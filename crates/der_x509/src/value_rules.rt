@@ -1,4 +1,5 @@
-//! The rule that values of any type are in DER (X.690 10). They are spans of the input, and nothing is copied.
+//! The rule that values of any type are in DER (X.690 10). They are slices of the input: nothing is
+//! copied.
 ghost use Rattle.std.specs.Prelude.{◌↔◌, IsTrue};
 ghost use Rattle.der_x509.specs.Certificates.{algorithm_of};
 ghost use Rattle.der_x509.specs.Rules.{AttributesBreakDer, IsDer, NameBreaksDer, ParametersBreakDer, ValueBreaksDer};
