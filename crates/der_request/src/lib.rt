@@ -1,5 +1,9 @@
 //! Certification requests (PKCS #10, RFC 2986), read as its ASN.1 writes them, by DER. No signature is
 //! verified.
+//!
+//! Of a value of any type (parameters of algorithms, values of attributes) a DER header and as many
+//! octets are read. That it is an element of DER (X.690 10) no reading here asks: `is_element` of
+//! `der_check` tests that. The rules of RFC 5280 and the order of sets aren't asked either.
 #![tactic(auto)]
 
 mod attribute;

@@ -1,15 +1,17 @@
 -- A walk that doesn't look into the items of a list is one over what was read.
-use Rattle.std.proofs.Common.{◌≡◌, ◌≢◌, ℕ, ◌⊎◌, true, List, [], ◌∷◌, refl, sym, ap, subst, ◌∙◌, inl, inr, arith}
+use Rattle.std.proofs.Common.{◌≡◌, ◌≢◌, ℕ, ◌⊎◌, true, List, [], ◌∷◌, ◌++◌, length, refl, sym, ap, subst, ◌∙◌, inl, inr, arith, append-nil}
 use Rattle.std.specs.Prelude.{◌↔◌}
 use Rattle.der_base.specs.declared.header.Class.TheVariants.{Universal}
 use Rattle.der_base.specs.declared.rules.Rules.TheVariants.{Der}
+use Rattle.der_base.specs.Octets.{identifier, shortest_length}
 use Rattle.der_base.specs.SetOfOrder.{Descends}
-use Rattle.der_x509.specs.Certificates.{ExtensionValue, Signed, Tbs, attribute, extension, name, relative_name, tbs_certificate, whole_certificate}
+use Rattle.der_cursor.specs.Elements.{Element, SpellsAny}
+use Rattle.der_x509.specs.Certificates.{Attribute, ExtensionValue, Signed, Tbs, attribute, extension, name, relative_name, tbs_certificate, whole_certificate}
 use Rattle.der_x509.specs.Certificates.{extensions as extension_list}
 use Rattle.der_x509.specs.Formats.{Fault, Format, Items, ◌>>=◌, each, element, explicit_or, more, none, list_of, sequence, set, some_octets, spells, with_octets}
-use Rattle.der_x509.specs.Laws.{IsUnordered, NamesHaveThem, NoneIsLeft, OrderIsOfAttributes, RepetitionIsOfIdentifiers, SetsAreRelativeNames}
+use Rattle.der_x509.specs.Laws.{HasOtherValue, IsUnordered, NamesHaveThem, NoneIsLeft, OrderIsOfAttributes, RepetitionIsOfIdentifiers, SetsAreRelativeNames, ValuesAreOfAttributes, encoding_of}
 use Rattle.der_x509.specs.Lists.{BeginsWithNone, Somewhere, here, later}
-use Rattle.der_x509.specs.Rules.{AttributesDescend, HasDescent, HasRepetition, HaveOneIdentifier, extension_identifier}
+use Rattle.der_x509.specs.Rules.{AttributesBreakDer, AttributesDescend, HasDescent, HasRepetition, HaveOneIdentifier, IsDer, NameBreaksDer, leading_identifier}
 use Rattle.der_x509.proofs.CertificateLaws.{attribute_exact, extension_exact, relative_name_exact}
 use Rattle.der_x509.proofs.FormatLaws.{IsExact, shows_one}
 use Rattle.der_x509.proofs.ReaderLaws.{element_front, element_less}
@@ -107,9 +109,41 @@ ordered i r = (
   down _ _ _ relative_names (λ v w rest n q d. (unordered w q.1).1 (subst (λ z. IsUnordered z) q.0 d)) r,
 )
 
+-- an attribute is a SEQUENCE in which its value follows the identifier
+abbrev HasValue : Attribute → List ℕ → Type 0
+HasValue a w = (x : List ℕ) × spells leading_identifier w x (encoding_of a.value)
+
+last_octets : (i : List ℕ) (e : Element) (rest : List ℕ) → SpellsAny Der i e rest → rest ≡ [] → i ≡ encoding_of e
+last_octets i e rest s h = s.0.octets ∙ ap (λ z. identifier e.0 e.1 e.2 ++ shortest_length (length e.3) ++ z) (ap (λ z. e.3 ++ z) h ∙ append-nil e.3)
+
+with_values : Refines attribute sequence HasValue
+with_values = record {
+  f_exact = attribute_exact;
+  g_exact = tt;
+  refine = λ i rest a s.
+      let g = s.3.0.1 in
+      let e = last_octets g.1 g.3.0 g.3.1 g.3.2 g.3.3.2.0 ∙ ap (λ z. encoding_of z.value) (sym g.3.3.3.0) in
+      (s.0, subst (λ z. spells sequence i s.0 z) (sym s.3.1) s.2, (g.2.0, subst (λ z. spells leading_identifier s.0 g.2.0 z) e g.2.3));
+  g_octets = λ w rest s. nothing_begins 16 w rest s;
+}
+
+values_of : (w : List ℕ) → Run attribute w → AttributesBreakDer w ↔ HasOtherValue w
+values_of w r = (
+  up _ _ _ with_values
+      (λ a x rest n q (v, i, s, b). subst (λ z. ¬ IsDer z) (sym ((shows_one leading_identifier tt).one_value x q.0 v _ i q.1 s).1) b)
+      r,
+  down _ _ _ with_values (λ a x rest n q b. (q.0, encoding_of a.value, q.1, b)) r,
+)
+
+values_of_names : (i : List ℕ) → Run relative_name i → NameBreaksDer i ↔ Somewhere relative_name (λ w _. HasOtherValue w) i
+values_of_names i r = (
+  up _ _ _ relative_names (λ v w rest n q d. subst (λ z. HasOtherValue z) (sym q.0) ((values_of w q.1).0 d)) r,
+  down _ _ _ relative_names (λ v w rest n q d. (values_of w q.1).1 (subst (λ z. HasOtherValue z) q.0 d)) r,
+)
+
 -- an extension is a SEQUENCE that begins with its identifier
 abbrev Identifies : ExtensionValue → List ℕ → Type 0
-Identifies e x = (q : List ℕ) × spells extension_identifier x e.identifier q
+Identifies e x = (q : List ℕ) × spells leading_identifier x e.identifier q
 
 extensions : Refines extension sequence Identifies
 extensions = record {
@@ -117,15 +151,15 @@ extensions = record {
   g_exact = tt;
   refine = λ i rest v s.
       let g = s.3.0.1 in
-      (s.0, subst (λ z. spells sequence i s.0 z) (sym s.3.1) s.2, (g.1, subst (λ z. spells extension_identifier s.0 z g.1) (sym (ap (λ z. z.identifier) g.3.3.3.3.0 ∙ g.2.2)) g.2.3));
+      (s.0, subst (λ z. spells sequence i s.0 z) (sym s.3.1) s.2, (g.1, subst (λ z. spells leading_identifier s.0 z g.1) (sym (ap (λ z. z.identifier) g.3.3.3.3.0 ∙ g.2.2)) g.2.3));
   g_octets = λ w rest s. nothing_begins 16 w rest s;
 }
 
 same_identifier : (e f : ExtensionValue) (x y : List ℕ) → Identifies e x → Identifies f y → HaveOneIdentifier x y ↔ (e.identifier ≡ f.identifier)
 same_identifier e f x y (q, a) (p, b) = (
   λ (w, r, r', s, t).
-      ((shows_one extension_identifier tt).one_value x e.identifier w q r a s).0 ∙ sym ((shows_one extension_identifier tt).one_value y f.identifier w p r' b t).0,
-  λ h. (e.identifier, q, p, a, subst (λ z. spells extension_identifier y z p) (sym h) b),
+      ((shows_one leading_identifier tt).one_value x e.identifier w q r a s).0 ∙ sym ((shows_one leading_identifier tt).one_value y f.identifier w p r' b t).0,
+  λ h. (e.identifier, q, p, a, subst (λ z. spells leading_identifier y z p) (sym h) b),
 )
 
 repeated : (i : List ℕ) → Run extension i → HasRepetition i ↔ Somewhere extension (λ x rest. Somewhere extension (λ y _. x.identifier ≡ y.identifier) rest) i
@@ -193,3 +227,6 @@ order_is_of_attributes i c s =
 
 pub repetition_is_of_identifiers : RepetitionIsOfIdentifiers
 repetition_is_of_identifiers i c s = repeated c.tbs_certificate.extensions (lists_of i c s).extensions
+
+pub values_are_of_attributes : ValuesAreOfAttributes
+values_are_of_attributes i w rest s = values_of_names w (names_of i w rest s)

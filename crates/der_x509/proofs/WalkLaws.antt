@@ -1,6 +1,6 @@
 -- Walks over the values of a format that octets begin with, one after another.
 use Rattle.std.proofs.Common.{◌≡◌, ℕ, Bool, true, false, nat_eq, List, ◌++◌, length, take, drop, IsTrue, refl, sym, ap, subst, ◌∙◌, append_assoc}
-use Rattle.std.specs.Prelude.{◌↔◌}
+use Rattle.std.specs.Prelude.{◌↔◌, not}
 use Rattle.std.specs.List.{starts_with}
 use Rattle.std.specs.Cmp.Lexicographic.{same_text, other_text}
 use Rattle.std.proofs.Math.Seq.{take-append_seam}
@@ -11,7 +11,7 @@ use Rattle.der_base.specs.Octets.{identifier, shortest_length}
 use Rattle.der_base.specs.SetOfOrder.{Descends}
 use Rattle.der_x509.specs.Formats.{Format, sequence, spells, with_octets}
 use Rattle.der_x509.specs.Lists.{BeginsWithNone, Somewhere, here, later}
-use Rattle.der_x509.specs.Rules.{DescendsNext, HaveOneIdentifier, extension_identifier}
+use Rattle.der_x509.specs.Rules.{DescendsNext, HaveOneIdentifier, IsDer, ValueBreaksDer, leading_identifier}
 use Rattle.der_x509.proofs.FormatLaws.{IsExact, shows_one}
 
 -- a fact is one of what is left, too
@@ -55,6 +55,14 @@ next_descends {a = a} {i = i} b rest s d = (
   λ n. d.1 (subst (λ z. Descends a z.0) (sym ((shows_one (with_octets sequence) tt).one_value i b n.0 rest n.1 s n.2).0) n.3),
 )
 
+-- the value that follows the identifier is one by DER, or not
+pub value_broken : {w v : List ℕ} (x : List ℕ) (b : Bool) → spells leading_identifier w x v → IsTrue b ↔ IsDer v → IsTrue (not b) ↔ ValueBreaksDer w
+value_broken {w = w} {v = v} x true s t = (
+  λ h. absurd (false≢true h),
+  λ n. absurd (n.3 (subst (λ z. IsDer z) ((shows_one leading_identifier tt).one_value w x n.0 v n.1 s n.2).1 (t.0 refl))),
+)
+value_broken {v = v} x false s t = (λ h. (x, v, s, λ d. false≢true (t.1 d)), λ n. refl)
+
 -- octets that begin with others
 pub starts : (xs p : List ℕ) → true ≡ starts_with nat_eq xs p → (back : List ℕ) × (xs ≡ p ++ back)
 starts xs p e = (drop (length p) xs, sym (take-append-drop (length p) xs) ∙ ap (λ y. y ++ drop (length p) xs) (sym (same_text p (take (length p) xs) e)))
@@ -66,10 +74,10 @@ not_starts xs p e h = other_text p (take (length p) xs) e (sym (ap (λ y. take (
 abbrev before : List ℕ → List ℕ
 before v = identifier Universal false 6 ++ shortest_length (length v)
 
-whole : (v back y : List ℕ) → spells extension_identifier y v back → y ≡ before v ++ v ++ back
+whole : (v back y : List ℕ) → spells leading_identifier y v back → y ≡ before v ++ v ++ back
 whole v back y a = a.octets ∙ sym (append_assoc (before v) v back)
 
-module _ (x p w r : List ℕ) (s : spells (with_octets extension_identifier) x (p, w) r) where
+module _ (x p w r : List ℕ) (s : spells (with_octets leading_identifier) x (p, w) r) where
   octets_are : p ≡ before w ++ w
   octets_are = append_cancel_right p (before w ++ w) r (sym s.1 ∙ whole w r x s.0)
 
@@ -88,7 +96,7 @@ module _ (x p w r : List ℕ) (s : spells (with_octets extension_identifier) x (
 
   begins_other : (y : List ℕ) → HaveOneIdentifier x y → (back : List ℕ) × (y ≡ p ++ back)
   begins_other y (v, r', q, a, b) =
-      let e = ((shows_one extension_identifier tt).one_value x w v r r' s.0 a).0 in
+      let e = ((shows_one leading_identifier tt).one_value x w v r r' s.0 a).0 in
       (q, whole v q y b ∙ ap (λ z. before z ++ z ++ q) (sym e) ∙ ap (λ z. z ++ q) (sym octets_are))
 
   pub comes_again : {i : List ℕ} {b : Bool} → IsTrue b ↔ Somewhere sequence (λ y _. (back : List ℕ) × (y ≡ p ++ back)) i → IsTrue b ↔ Somewhere sequence (λ y _. HaveOneIdentifier x y) i
@@ -98,5 +106,5 @@ never : {E V : Type 0} {f : Format E V} {P : V → List ℕ → Type 0} {i : Lis
 never n (here v s p) = n v _ p
 never n (later v s p) = never n p
 
-pub has_none : {x i : List ℕ} → BeginsWithNone extension_identifier x → IsTrue false ↔ Somewhere sequence (λ y _. HaveOneIdentifier x y) i
+pub has_none : {x i : List ℕ} → BeginsWithNone leading_identifier x → IsTrue false ↔ Somewhere sequence (λ y _. HaveOneIdentifier x y) i
 has_none n = (λ h. absurd (false≢true h), λ h. absurd (never (λ v rest (w, r, q, a, b). n w r a) h))

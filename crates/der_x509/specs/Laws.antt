@@ -1,13 +1,15 @@
 -- Statements of the laws in `src/laws.rt`: SETs and SEQUENCEs that are walked without a look into them are the relative
 -- names, attributes and extensions that were read; and the octets that are signed say what was read.
-use Rattle.std.specs.Prelude.{◌≡◌, ℕ, ◌⊎◌, ◌↔◌, List, []}
+use Rattle.std.specs.Prelude.{◌≡◌, ℕ, ◌⊎◌, ◌↔◌, List, [], ◌++◌, length}
+use Rattle.der_base.specs.Octets.{identifier, shortest_length}
 use Rattle.der_base.specs.SetOfOrder.{Descends}
+use Rattle.der_cursor.specs.Elements.{Element}
 use Rattle.der_x509.specs.declared.rules.Rule.TheVariants.{OrderedAttributes, DistinctExtensions}
 use Rattle.der_x509.specs.Certificates.{Attribute, Signed, attribute, extension, name, relative_name, tbs_certificate}
 use Rattle.der_x509.specs.Certificates.{whole_certificate}
 use Rattle.der_x509.specs.Formats.{list_of, set, spells, with_octets}
 use Rattle.der_x509.specs.Lists.{BeginsWithNone, Somewhere}
-use Rattle.der_x509.specs.Rules.{Breaks}
+use Rattle.der_x509.specs.Rules.{Breaks, IsDer, NameBreaksDer}
 
 -- the octets are relative names, one after another, and nothing else
 abbrev pub AreRelativeNames : List ℕ → Type 0
@@ -42,6 +44,19 @@ abbrev pub RepetitionIsOfIdentifiers : Type 0
 RepetitionIsOfIdentifiers = (i : List ℕ) (c : Signed) → spells whole_certificate i c [] → Breaks DistinctExtensions c
     ↔ Somewhere extension (λ x rest. Somewhere extension (λ y _. x.identifier ≡ y.identifier) rest)
     c.tbs_certificate.extensions
+
+-- the octets of an element by DER (X.690 8.1.1, 10.1)
+abbrev pub encoding_of : Element → List ℕ
+encoding_of e = identifier e.0 e.1 e.2 ++ shortest_length (length e.3) ++ e.3
+
+-- an attribute of the relative name with this content has a value that isn't in DER
+abbrev pub HasOtherValue : List ℕ → Type 0
+HasOtherValue w = Somewhere attribute (λ a _. ¬ IsDer (encoding_of a.value)) w
+
+-- of a name that was read, the values of attributes are asked
+abbrev pub ValuesAreOfAttributes : Type 0
+ValuesAreOfAttributes = (i w rest : List ℕ) → spells name i w rest
+    → NameBreaksDer w ↔ Somewhere relative_name (λ v _. HasOtherValue v) w
 
 -- the octets that are signed say what was read, and nothing else
 abbrev pub SignedOctetsAreRead : Type 0

@@ -2,20 +2,22 @@
 use Rattle.std.specs.Prelude.{◌≡◌, ◌≢◌, ℕ, ◌<◌, ◌⊎◌, false, true, pos, ◌<ℤ◌, None, List, [], ◌∷◌, length}
 use Rattle.std.specs.Prelude.{Result, MatchResult}
 use Rattle.der_base.specs.declared.header.Class.TheVariants.{Universal}
+use Rattle.der_base.specs.declared.rules.Rules.TheVariants.{Der}
 use Rattle.der_base.specs.Octets.{integer_value}
 use Rattle.der_base.specs.SetOfOrder.{Descends}
+use Rattle.der_check.specs.Elements.{IsElement}
 use Rattle.der_x509.specs.declared.certificate.Certificate.{Certificate}
 use Rattle.der_x509.specs.declared.certificate.Version.TheVariants.{V1, V3}
 use Rattle.der_x509.specs.declared.rules.Rule.{Rule}
 use Rattle.der_x509.specs.declared.rules.Rule.TheVariants.{SameAlgorithms, PositiveSerialNumber, ShortSerialNumber}
 use Rattle.der_x509.specs.declared.rules.Rule.TheVariants.{NamedIssuer, OrderedAttributes, UtcTimeTo2049}
 use Rattle.der_x509.specs.declared.rules.Rule.TheVariants.{WholeSeconds, UniqueIdVersion, ExtensionsVersion}
-use Rattle.der_x509.specs.declared.rules.Rule.TheVariants.{DistinctExtensions, NamedSubject}
+use Rattle.der_x509.specs.declared.rules.Rule.TheVariants.{DistinctExtensions, NamedSubject, DerValues}
 use Rattle.der_x509.specs.declared.rules.StrictRefusal.{StrictRefusal}
 use Rattle.der_x509.specs.declared.rules.StrictRefusal.TheVariants.{NotRead, Broken}
 use Rattle.der_x509.specs.declared.time.Time.{Time}
 use Rattle.der_x509.specs.declared.time.Time.TheVariants.{Generalized, Utc}
-use Rattle.der_x509.specs.Certificates.{Signed, certificate_of, extension, whole_certificate}
+use Rattle.der_x509.specs.Certificates.{Algorithm, Signed, certificate_of, extension, whole_certificate}
 use Rattle.der_x509.specs.Formats.{Fault, FieldFault, Format, element, refuses, sequence, set, spells, start}
 use Rattle.der_x509.specs.Formats.{with_octets}
 use Rattle.der_x509.specs.Lists.{Somewhere}
@@ -50,14 +52,14 @@ AttributesDescend i = Somewhere (with_octets sequence) (λ a rest. DescendsNext 
 abbrev pub HasDescent : List ℕ → Type 0
 HasDescent i = Somewhere set (λ w rest. AttributesDescend w) i
 
--- the identifier of an extension, which its content begins with
-abbrev pub extension_identifier : Format Fault (List ℕ)
-extension_identifier = element Universal false 6
+-- the identifier that the content of an attribute or an extension begins with
+abbrev pub leading_identifier : Format Fault (List ℕ)
+leading_identifier = element Universal false 6
 
 -- two extensions have one identifier
 abbrev pub HaveOneIdentifier : List ℕ → List ℕ → Type 0
 HaveOneIdentifier x y = (w : List ℕ) × (r : List ℕ) × (q : List ℕ)
-    × spells extension_identifier x w r × spells extension_identifier y w q
+    × spells leading_identifier x w r × spells leading_identifier y w q
 
 -- an extension has the identifier of a later one (4.2)
 abbrev pub HasRepetition : List ℕ → Type 0
@@ -70,6 +72,26 @@ HasCritical identifier i = Somewhere extension (λ e _. (e.identifier ≡ identi
 -- the octets of the identifier of subjectAltName (4.2.1.6), 2.5.29.17
 abbrev pub subject_alternative_name : List ℕ
 subject_alternative_name = 0x55 ∷ 0x1D ∷ 0x11 ∷ []
+
+-- one element by DER (X.690 10), with others inside to depth 50
+abbrev pub IsDer : List ℕ → Type 0
+IsDer i = IsElement Der 50 i
+
+-- the parameters of the algorithm are there, and aren't one
+abbrev pub ParametersBreakDer : Algorithm → Type 0
+ParametersBreakDer a = (a.parameters ≢ []) × (¬ IsDer a.parameters)
+
+-- what follows the identifier in the content of an attribute isn't: its value
+abbrev pub ValueBreaksDer : List ℕ → Type 0
+ValueBreaksDer w = (x : List ℕ) × (v : List ℕ) × spells leading_identifier w x v × (¬ IsDer v)
+
+-- that of an attribute isn't
+abbrev pub AttributesBreakDer : List ℕ → Type 0
+AttributesBreakDer i = Somewhere sequence (λ w _. ValueBreaksDer w) i
+
+-- that of an attribute of a relative name of a name isn't
+abbrev pub NameBreaksDer : List ℕ → Type 0
+NameBreaksDer i = Somewhere set (λ w _. AttributesBreakDer w) i
 
 -- the certificate breaks the rule
 abbrev pub Breaks : Rule → Signed → Type 0
@@ -86,11 +108,14 @@ Breaks ExtensionsVersion c = let t = c.tbs_certificate in (t.version ≢ V3) × 
 Breaks DistinctExtensions c = HasRepetition c.tbs_certificate.extensions
 Breaks NamedSubject c = let t = c.tbs_certificate in
     (t.subject ≡ []) × (¬ HasCritical subject_alternative_name t.extensions)
+Breaks DerValues c = let t = c.tbs_certificate in ParametersBreakDer c.algorithm
+    ⊎ ParametersBreakDer t.signature ⊎ ParametersBreakDer t.key_info.algorithm
+    ⊎ NameBreaksDer t.issuer ⊎ NameBreaksDer t.subject
 
 abbrev pub every_rule : List Rule
 every_rule =
     SameAlgorithms ∷ PositiveSerialNumber ∷ ShortSerialNumber ∷ NamedIssuer ∷ OrderedAttributes ∷ UtcTimeTo2049
-    ∷ WholeSeconds ∷ UniqueIdVersion ∷ ExtensionsVersion ∷ DistinctExtensions ∷ NamedSubject ∷ []
+    ∷ WholeSeconds ∷ UniqueIdVersion ∷ ExtensionsVersion ∷ DistinctExtensions ∷ NamedSubject ∷ DerValues ∷ []
 
 abbrev pub NoneBroken : List Rule → Signed → Type 0
 NoneBroken [] c = Unit {0}

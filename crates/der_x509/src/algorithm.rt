@@ -15,7 +15,7 @@ pub struct AlgorithmIdentifier<'a> {
     /// The identifier.
     pub algorithm: Oid<'a>,
     /// The element that has the parameters, with its header, and empty if there is none. Its content
-    /// isn't looked into.
+    /// isn't looked into, but by `Rule::DerValues`.
     pub parameters: &'a [u8],
 }
 

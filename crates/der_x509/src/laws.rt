@@ -1,6 +1,7 @@
 //! Laws of what was read. Each function's contract is a law, and its body is empty.
 ghost use Rattle.der_x509.specs.Laws.{NamesHaveThem, NoneIsLeft, SetsAreRelativeNames};
 ghost use Rattle.der_x509.specs.Laws.{OrderIsOfAttributes, RepetitionIsOfIdentifiers, SignedOctetsAreRead};
+ghost use Rattle.der_x509.specs.Laws.{ValuesAreOfAttributes};
 
 /// `RelativeNames` gives the relative names of a name that was read, in order, and all of them.
 pub fn sets_are_relative_names()
@@ -13,6 +14,7 @@ pub fn sets_are_relative_names()
 pub fn rules_are_of_what_was_read()
     ensures order { OrderIsOfAttributes }
     ensures repetition { RepetitionIsOfIdentifiers }
+    ensures values { ValuesAreOfAttributes }
 {}
 
 /// The octets that are signed are the encoding of the fields that were read: read again, they give

@@ -15,6 +15,7 @@ pub mod parts;
 mod refusal;
 mod rules;
 mod time;
+mod value_rules;
 
 pub use algorithm::{AlgorithmIdentifier, SubjectPublicKeyInfo};
 pub use certificate::{Certificate, TbsCertificate, Version, read_certificate};

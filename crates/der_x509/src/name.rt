@@ -28,7 +28,7 @@ pub struct RelativeDistinguishedName<'a> {
 pub struct AttributeTypeAndValue<'a> {
     /// Its type.
     pub identifier: Oid<'a>,
-    /// Its value, which is of any ASN.1 type. Its content isn't looked into.
+    /// Its value, of any ASN.1 type. Its content isn't looked into, but by `Rule::DerValues`.
     pub value: Any<'a>,
 }
 

@@ -10,6 +10,7 @@ use crate::identifier::absolute_octets;
 use crate::list_rules::{has_critical, has_descent, has_repetition};
 use crate::refusal::CertificateRefusal;
 use crate::time::Time;
+use crate::value_rules::{name_breaks_der, parameters_break_der};
 use der_base::integer::{is_negative, read_u64};
 
 /// A rule that a certificate may break and still be one by its ASN.1.
@@ -40,6 +41,10 @@ pub enum Rule {
     DistinctExtensions,
     /// A subject without a name has another one, in a critical subjectAltName (4.1.2.6, 4.2.1.6).
     NamedSubject,
+    /// The values of any type are in DER (X.690 10): the parameters of the algorithms and of the key, and
+    /// the attributes' values of the issuer and the subject. Each is an element as `der_check` reads one,
+    /// with others inside to the depth `MAX_RECURSION`: so a TeletexString that isn't UTF-8 breaks it.
+    DerValues,
 }
 
 /// The most octets of a serial number.
@@ -65,6 +70,7 @@ impl Certificate<'_> {
             Rule::ExtensionsVersion => self.breaks_extensions_version(),
             Rule::DistinctExtensions => self.breaks_distinct_extensions(),
             Rule::NamedSubject => self.breaks_named_subject(),
+            Rule::DerValues => self.breaks_der_values(),
         }
     }
 
@@ -106,6 +112,9 @@ impl Certificate<'_> {
         }
         if self.breaks(Rule::NamedSubject) {
             return Some(Rule::NamedSubject);
+        }
+        if self.breaks(Rule::DerValues) {
+            return Some(Rule::DerValues);
         }
         None
     }
@@ -184,6 +193,17 @@ impl Certificate<'_> {
     {
         let fields = &self.tbs_certificate;
         fields.subject.octets.is_empty() && !has_critical(fields.extensions, SUBJECT_ALT_NAME)
+    }
+
+    fn breaks_der_values(&self) -> bool
+        ensures { IsTrue result ↔ Breaks Rule.DerValues (certificate_of self.now) }
+    {
+        let fields = &self.tbs_certificate;
+        parameters_break_der(&self.signature_algorithm)
+            || parameters_break_der(&fields.signature)
+            || parameters_break_der(&fields.subject_public_key_info.algorithm)
+            || name_breaks_der(fields.issuer)
+            || name_breaks_der(fields.subject)
     }
 }
 

@@ -52,6 +52,7 @@ fn name_of(rule: Rule) -> &'static str {
         Rule::ExtensionsVersion => "ExtensionsVersion",
         Rule::DistinctExtensions => "DistinctExtensions",
         Rule::NamedSubject => "NamedSubject",
+        Rule::DerValues => "DerValues",
     }
 }
 

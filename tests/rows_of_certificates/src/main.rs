@@ -8,6 +8,7 @@ mod damage;
 mod extension_values;
 mod extensions;
 mod lists_of_extensions;
+mod reasons;
 mod requests;
 mod times;
 
@@ -15,6 +16,7 @@ use crate::certificates::{certificate, fields, lists, reason, relative_names, st
 use crate::damage::damaged_text;
 use crate::extension_values::extension_value;
 use crate::extensions::extension;
+use crate::reasons::{reason_code, reasons};
 use crate::requests::{certificate_list, certification_request};
 use crate::times::{compared, contained};
 use der_tests_damage::octets_of;
@@ -55,6 +57,8 @@ fn answer_of_octets(alloc: Global, call: &str, octets: &[u8]) -> Result<String, 
         "relative_names" => relative_names(alloc, octets),
         "certificate_list" => certificate_list(alloc, octets),
         "certification_request" => certification_request(alloc, octets),
+        "reason_code" => reason_code(alloc, octets),
+        "reasons" => reasons(alloc, octets),
         _ => extension_value(alloc, call, octets),
     }
 }

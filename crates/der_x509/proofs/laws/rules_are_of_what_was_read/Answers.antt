@@ -1,4 +1,4 @@
-use Rattle.der_x509.proofs.Refinements.{order_is_of_attributes, repetition_is_of_identifiers}
+use Rattle.der_x509.proofs.Refinements.{order_is_of_attributes, repetition_is_of_identifiers, values_are_of_attributes}
 use Rattle.der_x509.proofs.laws.rules_are_of_what_was_read.Goals as goal
 
 pub returns-clause-order : goal.returns-clause-order
@@ -6,3 +6,6 @@ returns-clause-order c = order_is_of_attributes
 
 pub returns-clause-repetition : goal.returns-clause-repetition
 returns-clause-repetition c = repetition_is_of_identifiers
+
+pub returns-clause-values : goal.returns-clause-values
+returns-clause-values c = values_are_of_attributes

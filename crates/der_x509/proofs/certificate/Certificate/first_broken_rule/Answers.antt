@@ -31,3 +31,6 @@ returns-then-breaks-10 c = inr (passed c.if-breaks.ensures, inr (passed c.if-bre
 
 pub returns-then-breaks-11 : goal.returns-then-breaks-11
 returns-then-breaks-11 c = inr (passed c.if-breaks.ensures, inr (passed c.if-breaks-2.ensures, inr (passed c.if-breaks-3.ensures, inr (passed c.if-breaks-4.ensures, inr (passed c.if-breaks-5.ensures, inr (passed c.if-breaks-6.ensures, inr (passed c.if-breaks-7.ensures, inr (passed c.if-breaks-8.ensures, inr (passed c.if-breaks-9.ensures, inr (passed c.if-breaks-10.ensures, inl (c.if-breaks-11.ensures.0 refl, refl)))))))))))
+
+pub returns-then-breaks-12 : goal.returns-then-breaks-12
+returns-then-breaks-12 c = inr (passed c.if-breaks.ensures, inr (passed c.if-breaks-2.ensures, inr (passed c.if-breaks-3.ensures, inr (passed c.if-breaks-4.ensures, inr (passed c.if-breaks-5.ensures, inr (passed c.if-breaks-6.ensures, inr (passed c.if-breaks-7.ensures, inr (passed c.if-breaks-8.ensures, inr (passed c.if-breaks-9.ensures, inr (passed c.if-breaks-10.ensures, inr (passed c.if-breaks-11.ensures, inl (c.if-breaks-12.ensures.0 refl, refl))))))))))))
