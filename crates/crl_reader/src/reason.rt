@@ -6,6 +6,7 @@ ghost use Rattle.crl_reader.specs.Reasons.{CRLReason, IsReasonOf, ReasonCode, nu
 ghost use Rattle.der_x509.specs.Certificates.{extension_of};
 
 use der_base::error::BerError;
+use der_base::header::{Class, Tag};
 use der_cursor::{Cursor, Refusal};
 use der_x509::Extension;
 
@@ -55,8 +56,7 @@ impl Reason {
     }
 }
 
-/// The reason, if this extension is a reason code (RFC 5280 5.3.1). Offsets of errors are counted in
-/// the octets of its value.
+/// The reason, if this extension is a reason code (RFC 5280 5.3.1). Its value is an input of its own.
 pub fn reason_of(extension: &Extension<'_>) -> Result<Option<Reason>, Refusal<BerError>>
     ensures { ReadsWhole (IsReasonOf (extension_of extension.now)) (λ v. v) Never result }
 {
@@ -68,9 +68,23 @@ pub fn reason_of(extension: &Extension<'_>) -> Result<Option<Reason>, Refusal<Be
 }
 
 /// Reads the value of a reason code by DER. Octets left over are refused, and so is a number that has
-/// no name, such as 7.
+/// no name, such as 7. Incomplete exactly where the octets end within the ENUMERATED.
 pub fn read_reason(octets: &[u8]) -> Result<Reason, Refusal<BerError>>
-    ensures { ReadsInput Rules.Der ReasonCode (λ v. v) Never octets.now result }
+    ensures { ReadsInput Rules.Der CRLReason (λ v. v) Never octets.now result }
+{
+    match read_whole_reason(octets) {
+        Ok(reason) => Ok(reason),
+        Err(e) => Err(e.of_element(
+            Cursor::new(octets),
+            Class::Universal,
+            false,
+            Tag::Enumerated,
+        )),
+    }
+}
+
+fn read_whole_reason(octets: &[u8]) -> Result<Reason, Refusal<BerError>>
+    ensures { ReadsWhole (ReasonCode Rules.Der octets.now) (λ v. v) Never result }
 {
     let mut value = Cursor::new(octets);
     let reason = read_number(&mut value)?;

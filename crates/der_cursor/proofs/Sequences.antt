@@ -13,7 +13,7 @@ use Rattle.der_cursor.specs.declared.refusal.Refusal.{Refusal}
 use Rattle.der_cursor.specs.Cursors.{octets_left, rules_of, StartsAt, EndsAt, OpensAt, OpensType}
 use Rattle.der_cursor.specs.Named.{NamesRefusal, NamesMore}
 use Rattle.der_cursor.proofs.FormatLaws.{inside, inside_of, unopened, unopened_of}
-use Rattle.der_cursor.specs.Formats.{Content, Field, Format, Required, Only, ◌⨾◌, As, End, Ignored, Mapped, Never, NoMemory, NoMemoryIn, ReadsWhole, ReadsNext, ReadsField, ReadsContent, ReadsInput}
+use Rattle.der_cursor.specs.Formats.{Content, Field, Format, Required, Only, ◌⨾◌, As, End, Ignored, Mapped, Never, NoMemory, NoMemoryIn, ReadsWhole, ReadsNext, ReadsField, ReadsContent}
 
 -- An error is passed on as another, which leaves no more open.
 pub record Passes {T E F : Type 0} (May : E → Type 0) (May' : F → Type 0) (r : Result T E) (s : Result T F) : Type 0 where
@@ -295,7 +295,7 @@ ends (Err e) q l h = not_finished l h.0
 
 -- a content that begins an input
 pub at_start : {V : Type 0} (C : Content V) (c : Cursor) {T E : Type 0} {view : T → V} {May : E → Type 0} {r : Rules} {i : List ℕ} {result : Result T E} → StartsAt r i c → ReadsContent C view May c result
-    → ReadsInput r C view May i result
+    → ReadsWhole (C r i) view May result
 at_start C c {view = view} {May = May} {i = i} {result = result} s h =
     subst (λ k. ReadsWhole (C k i) view May result) s.3 (subst (λ w. ReadsWhole (C (rules_of c) w) view May result) s.0 (h s.4))
 

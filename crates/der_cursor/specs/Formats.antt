@@ -22,7 +22,7 @@ use Rattle.der_values.specs.Kinds.{nulls, identifiers, texts, times}
 use Rattle.der_cursor.specs.declared.cursor.Cursor.{Cursor}
 use Rattle.der_cursor.specs.declared.named.FieldRefusal.{FieldRefusal}
 use Rattle.der_cursor.specs.declared.refusal.Refusal.{Refusal}
-use Rattle.der_cursor.specs.Cursors.{octets_left, rules_of, advanced}
+use Rattle.der_cursor.specs.Cursors.{octets_left, rules_of, advanced, reason_of}
 use Rattle.der_cursor.specs.Named.{reason_in}
 use Rattle.der_cursor.specs.Elements.{SpellsElement, SpellsAny, ElementLacks, ElementRefuses, BeginsWithTag, IsNext}
 pub use Rattle.der_cursor.specs.Elements.{Element, element_of}
@@ -63,10 +63,10 @@ unfoldable pub OptionalTagged : {V : Type 0} → ℕ → Content V → Field (Op
 OptionalTagged n C r i (Some v) rest = (w : List ℕ) × C r w v × SpellsElement r ContextSpecific true n i (w, rest)
 OptionalTagged n C r i None rest = (¬ BeginsWithTag n i) × (i ≡ rest)
 
--- the same, or the default
+-- the same, or the default; by DER the default isn't encoded (11.5)
 unfoldable pub DefaultTagged : {V : Type 0} → ℕ → Content V → V → Field V
 DefaultTagged n C d r i v rest = ((¬ BeginsWithTag n i) × (v ≡ d) × (i ≡ rest))
-    ⊎ ((w : List ℕ) × C r w v × SpellsElement r ContextSpecific true n i (w, rest))
+    ⊎ ((w : List ℕ) × C r w v × SpellsElement r ContextSpecific true n i (w, rest) × (r ≡ Der → v ≢ d))
 
 -- a field, or none where nothing is left
 unfoldable pub IfLeft : {V : Type 0} → Field V → Field (Option V)
@@ -248,23 +248,40 @@ ReadsField F view May old result new = old.implicit ≡ None → ReadsNext F vie
 abbrev pub ReadsContent : {T V E : Type 0} → Content V → (T → V) → (E → Type 0) → Cursor → Result T E → Type 0
 ReadsContent C view May c result = c.implicit ≡ None → ReadsWhole (C (rules_of c) (octets_left c)) view May result
 
--- a reader of an input
-abbrev pub ReadsInput : {T V E : Type 0} → Rules → Content V → (T → V) → (E → Type 0) → List ℕ → Result T E → Type 0
-ReadsInput r C view May i result = ReadsWhole (C r i) view May result
-
 -- Incomplete is reported of an input that ends within an element, and how many octets it lacks.
 abbrev pub IsCutAt : Rules → List ℕ → Refused BerError → Type 0
 IsCutAt r i e = (m : Needed) → e ≡ Incomplete m → (n : ℕ) × (m ≡ Size n) × ElementLacks r i n
 
--- A reader of the element that an input begins with, which returns what follows it. What the element itself shows to be
--- wrong is its refusal, and it is Incomplete exactly where the input ends within the element. Which refusal the content
--- has is left open.
+-- What the element that an input begins with shows to be wrong is its refusal, and it is Incomplete exactly where the
+-- input ends within that element. Which refusal its content has else is left open.
+pub record ShowsElement {T V : Type 0} (r : Rules) (F : Format V) (i : List ℕ) (result : Result T (Refused BerError))
+    : Type 0 where
+  pub refuses : (e : Name) → ElementRefuses r F.class F.constructed F.number i e → AnswersErrorOr ⊥ result e
+  pub lacks : (n : ℕ) → ElementLacks r i n → AnswersIncompleteOr ⊥ result n
+  pub cut : IfErr result (IsCutAt r i)
+
+-- A reader of an input whose content C is an element of the type F. `reason` is the result with the reason of a refusal
+-- alone.
+pub record ReadsElement {T V W E : Type 0} (reason : Result T E → Result T (Refused BerError)) (r : Rules)
+    (F : Format W) (C : Content V) (view : T → V) (May : E → Type 0) (i : List ℕ) (result : Result T E) : Type 0 where
+  pub value : ReadsWhole (C r i) view May result
+  pub shows : ShowsElement r F i (reason result)
+
+-- a reader of an input that is a value of the type
+abbrev pub ReadsInput : {T V : Type 0} → Rules → Format V → (T → V) → (Refusal BerError → Type 0) → List ℕ
+    → Result T (Refusal BerError) → Type 0
+ReadsInput r F view May i result = ReadsElement reason_of r F (Only (Required F)) view May i result
+
+-- the same, whose refusals have the names of fields
+abbrev pub ReadsNamedInput : {T V : Type 0} → Rules → Format V → (T → V) → (FieldRefusal → Type 0) → List ℕ
+    → Result T FieldRefusal → Type 0
+ReadsNamedInput r F view May i result = ReadsElement reason_in r F (Only (Required F)) view May i result
+
+-- a reader of the element that an input begins with, which returns what follows it
 pub record ReadsFront {T V : Type 0} (r : Rules) (F : Format V) (view : T → V) (May : FieldRefusal → Type 0)
     (i : List ℕ) (result : Result (Bor (List ℕ) × T) FieldRefusal) : Type 0 where
   pub value : ReadsWhole (λ (v : V × List ℕ). Required F r i v.0 v.1) (λ x. (view x.1, x.0.now)) May result
-  pub refuses : (e : Name) → ElementRefuses r F.class F.constructed F.number i e → AnswersErrorOr ⊥ (reason_in result) e
-  pub lacks : (n : ℕ) → ElementLacks r i n → AnswersIncompleteOr ⊥ (reason_in result) n
-  pub cut : IfErr result (λ e. IsCutAt r i e.refusal.reason)
+  pub shows : ShowsElement r F i (reason_in result)
 
 -- a cursor is opened over the octets that a content keeps, and reads them by the same rules
 pub record Opens (C : Content (List ℕ)) (c : Cursor) (result : Result Cursor (Refusal BerError)) : Type 0 where

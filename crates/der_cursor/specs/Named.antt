@@ -1,12 +1,15 @@
 -- The names of fields that a refusal has.
 use Rattle.std.specs.Borrow.{Bor}
-use Rattle.std.specs.Prelude.{◌≡◌, ℕ, List, [], ◌∷◌, ◌++◌, take, Result, Ok, Err}
+use Rattle.std.specs.Prelude.{◌≡◌, ℕ, Bool, List, [], ◌∷◌, ◌++◌, take, Result, Ok, Err, MatchResult}
 use Rattle.std.specs.Result.{IsErrAnd}
 use Rattle.der_base.specs.declared.error.Err.{Err as Refused}
 use Rattle.der_base.specs.declared.error.Error.{Error as BerError}
+use Rattle.der_base.specs.declared.header.Class.{Class}
 use Rattle.der_base.specs.Errors.{RefusesCutItem}
+use Rattle.der_cursor.specs.declared.cursor.Cursor.{Cursor}
 use Rattle.der_cursor.specs.declared.named.FieldRefusal.{FieldRefusal}
 use Rattle.der_cursor.specs.declared.refusal.Refusal.{Refusal}
+use Rattle.der_cursor.specs.Cursors.{OpensAt}
 
 -- the value, or the refusal with one name
 abbrev pub NamesRefusal : {T : Type 0} → Result T (Refusal BerError) → Bor (List ℕ) → Result T FieldRefusal → Type 0
@@ -25,8 +28,21 @@ reason_in (Ok x) = Ok x
 reason_in (Err f) = Err f.refusal.reason
 
 -- the same refusal, of a field of an element that is whole: no further octets mend it
+pub record Settles (old new : Refusal BerError) : Type 0 where
+  pub offset : new.offset ≡ old.offset
+  pub list_end : new.list_end ≡ old.list_end
+  pub reason : RefusesCutItem old.reason new.reason
+
 pub record IsSettled (old new : FieldRefusal) : Type 0 where
   pub names : new.names ≡ old.names
-  pub offset : new.refusal.offset ≡ old.refusal.offset
-  pub list_end : new.refusal.list_end ≡ old.refusal.list_end
-  pub reason : RefusesCutItem old.refusal.reason new.refusal.reason
+  pub refusal : Settles old.refusal new.refusal
+
+-- The refusal of an input that is one element of this class, constructed bit and number: that of the element itself, as
+-- `open` returns it, or else the old one, which no further octets mend.
+abbrev pub IsOfElement : Class → Bool → ℕ → Cursor → Refusal BerError → Refusal BerError → Type 0
+IsOfElement c p n input old new = (opening : Result Cursor (Refusal BerError)) × (after : Cursor)
+    × OpensAt c p n input opening after × MatchResult opening (λ _. Settles old new) (λ e. new ≡ e)
+
+pub record NamesOfElement (c : Class) (p : Bool) (n : ℕ) (input : Cursor) (old new : FieldRefusal) : Type 0 where
+  pub names : new.names ≡ old.names
+  pub refusal : IsOfElement c p n input old.refusal new.refusal

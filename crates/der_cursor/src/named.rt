@@ -1,14 +1,49 @@
 //! Names of fields in errors.
-ghost use Rattle.der_cursor.specs.Named.{IsSettled, NamesRefusal, NamesMore};
+ghost use Rattle.der_cursor.specs.Named.{IsOfElement, IsSettled, NamesMore, NamesOfElement, NamesRefusal, Settles};
 
+use crate::cursor::Cursor;
 use crate::refusal::Refusal;
 use arrayvec::ArrayVec;
 use der_base::error::{BerError, refuse_cut_item};
+use der_base::header::{Class, Tag};
 use std::error::Error;
 use std::fmt;
 
 /// How many names an error keeps. Those of further fields around them are left out.
 pub(crate) const MOST_NAMES: usize = 8;
+
+impl Refusal<BerError> {
+    /// The same error, of a part of an element that the input holds whole. No further octets help, so
+    /// `Err::Incomplete` becomes the error Incomplete.
+    pub fn settled(self) -> Refusal<BerError>
+        ensures { Settles self result }
+    {
+        Refusal {
+            offset: self.offset,
+            list_end: self.list_end,
+            reason: refuse_cut_item(self.reason),
+        }
+    }
+
+    /// The error of an input that has to be one element of this class, constructed bit and tag number, where
+    /// its reader returned this one. If the input ends within the element, or begins with another, it is the
+    /// error of `Cursor::open`, and else this one, settled: Incomplete says that the element is cut.
+    pub fn of_element(
+        self,
+        input: Cursor<'_>,
+        class: Class,
+        constructed: bool,
+        tag: Tag,
+    ) -> Refusal<BerError>
+        ensures { IsOfElement class constructed tag.0 input.entry self result }
+    {
+        let mut element = input;
+        match element.open(class, constructed, tag) {
+            Ok(_) => self.settled(),
+            Err(e) => e,
+        }
+    }
+}
 
 /// An error with the names of the fields that its element is in:
 /// "tbsCertificate.serialNumber at 13: ..".
@@ -29,11 +64,24 @@ impl FieldRefusal {
         let FieldRefusal { names, refusal } = self;
         FieldRefusal {
             names,
-            refusal: Refusal {
-                offset: refusal.offset,
-                list_end: refusal.list_end,
-                reason: refuse_cut_item(refusal.reason),
-            },
+            refusal: refusal.settled(),
+        }
+    }
+
+    /// As `Refusal::of_element`, with the names that the error has.
+    pub fn of_element(
+        self,
+        input: Cursor<'_>,
+        class: Class,
+        constructed: bool,
+        tag: Tag,
+    ) -> FieldRefusal
+        ensures { NamesOfElement class constructed tag.0 input.entry self result }
+    {
+        let FieldRefusal { names, refusal } = self;
+        FieldRefusal {
+            names,
+            refusal: refusal.of_element(input, class, constructed, tag),
         }
     }
 }

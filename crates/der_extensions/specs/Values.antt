@@ -5,7 +5,7 @@ use Rattle.der_base.specs.declared.error.Error.{Error as BerError}
 use Rattle.der_base.specs.declared.oid.Oid.{Oid}
 use Rattle.der_base.specs.declared.rules.Rules.TheVariants.{Der}
 use Rattle.der_cursor.specs.declared.refusal.Refusal.{Refusal}
-use Rattle.der_cursor.specs.Formats.{Format, Never, OctetString, Only, ReadsInput, Required}
+use Rattle.der_cursor.specs.Formats.{Format, Never, OctetString, ReadsInput}
 use Rattle.der_values.specs.Kinds.{absolute_arcs}
 use Rattle.der_x509.specs.declared.extension.Extension.{Extension}
 use Rattle.der_extensions.specs.declared.value.Kind.{Kind}
@@ -64,7 +64,7 @@ IsKindIn ks x k = absolute_arcs x ≡ Some (arcs_of k)
 -- the value of the extension is read as one of this format
 module _ (w : List ℕ) (result : Result ExtensionValue (Refusal BerError)) where
   abbrev pub IsRead : {T V : Type 0} → (T → ExtensionValue) → Format V → (T → V) → Type 0
-  IsRead {T} made f view = (read : Result T (Refusal BerError)) × ReadsInput Der (Only (Required f)) view Never w read
+  IsRead {T} made f view = (read : Result T (Refusal BerError)) × ReadsInput Der f view Never w read
       × (result ≡ result_map_both made (λ e. e) read)
 
   abbrev pub ReadsAs : Kind → Type 0

@@ -1,9 +1,10 @@
 //! Whether the subject is an authority (RFC 5280 4.2.1.9).
 ghost use Rattle.der_base.specs.declared.rules.Rules.{Rules};
-ghost use Rattle.der_cursor.specs.Formats.{Never, Only, ReadsField, ReadsInput, Required};
+ghost use Rattle.der_cursor.specs.Formats.{Never, Only, ReadsField, ReadsInput, ReadsWhole, Required};
 ghost use Rattle.der_extensions.specs.Extensions.{BasicConstraints as ConstraintsFormat, constraints_of};
 
 use der_base::error::BerError;
+use der_base::header::{Class, Tag};
 use der_cursor::{Cursor, Refusal};
 
 /// The value of the extension BasicConstraints.
@@ -17,9 +18,18 @@ pub struct BasicConstraints {
 }
 
 /// Reads the value of a BasicConstraints by DER. Octets left over are refused, and so is a path length
-/// above 2^32-1, by IntegerTooLarge.
+/// above 2^32-1.
 pub fn read_basic_constraints(octets: &[u8]) -> Result<BasicConstraints, Refusal<BerError>>
-    ensures { ReadsInput Rules.Der (Only (Required ConstraintsFormat)) constraints_of Never octets.now result }
+    ensures { ReadsInput Rules.Der ConstraintsFormat constraints_of Never octets.now result }
+{
+    match read_whole_constraints(octets) {
+        Ok(constraints) => Ok(constraints),
+        Err(e) => Err(e.of_element(Cursor::new(octets), Class::Universal, true, Tag::Sequence)),
+    }
+}
+
+fn read_whole_constraints(octets: &[u8]) -> Result<BasicConstraints, Refusal<BerError>>
+    ensures { ReadsWhole (Only (Required ConstraintsFormat) Rules.Der octets.now) constraints_of Never result }
 {
     let mut input = Cursor::new(octets);
     let constraints = read_constraints(&mut input)?;

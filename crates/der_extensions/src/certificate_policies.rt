@@ -1,7 +1,7 @@
 //! The policies by which a certificate was issued (RFC 5280 4.2.1.4).
 ghost use Rattle.std.specs.Option.{option_map};
 ghost use Rattle.der_base.specs.declared.rules.Rules.{Rules};
-ghost use Rattle.der_cursor.specs.Formats.{Never, Only, Optional, ReadsField, ReadsInput, Required};
+ghost use Rattle.der_cursor.specs.Formats.{Never, Optional, ReadsField, ReadsInput, Required};
 ghost use Rattle.der_extensions.specs.Extensions.{CertificatePolicies as PoliciesFormat};
 ghost use Rattle.der_extensions.specs.Extensions.{PolicyInformation as PolicyFormat, PolicyQualifiers};
 ghost use Rattle.der_extensions.specs.Extensions.{PolicyQualifierInfo as QualifierFormat, policy_of, qualifier_of};
@@ -38,9 +38,12 @@ pub struct PolicyQualifierInfo<'a> {
 pub fn read_certificate_policies(
     octets: &[u8],
 ) -> Result<CertificatePolicies<'_>, Refusal<BerError>>
-    ensures { ReadsInput Rules.Der (Only (Required PoliciesFormat)) list_octets Never octets.now result }
+    ensures { ReadsInput Rules.Der PoliciesFormat list_octets Never octets.now result }
 {
-    read_list(octets)
+    match read_list::<PolicyInformation<'_>, BerError>(octets) {
+        Ok(policies) => Ok(policies),
+        Err(e) => Err(e.of_element(Cursor::new(octets), Class::Universal, true, Tag::Sequence)),
+    }
 }
 
 impl<'a> Item<'a, BerError> for PolicyInformation<'a> {

@@ -49,9 +49,12 @@ pub enum DistributionPointName<'a> {
 pub fn read_crl_distribution_points(
     octets: &[u8],
 ) -> Result<CrlDistributionPoints<'_>, Refusal<BerError>>
-    ensures { ReadsInput Rules.Der (Only (Required CRLDistributionPoints)) list_octets Never octets.now result }
+    ensures { ReadsInput Rules.Der CRLDistributionPoints list_octets Never octets.now result }
 {
-    read_list(octets)
+    match read_list::<DistributionPoint<'_>, BerError>(octets) {
+        Ok(points) => Ok(points),
+        Err(e) => Err(e.of_element(Cursor::new(octets), Class::Universal, true, Tag::Sequence)),
+    }
 }
 
 impl<'a> Item<'a, BerError> for DistributionPoint<'a> {

@@ -1,11 +1,12 @@
 //! What else a key is for (RFC 5280 4.2.1.12).
 ghost use Rattle.der_base.specs.declared.rules.Rules.{Rules};
-ghost use Rattle.der_cursor.specs.Formats.{Never, Only, ReadsInput, Required};
+ghost use Rattle.der_cursor.specs.Formats.{Never, ReadsInput, Required};
 ghost use Rattle.der_extensions.specs.Extensions.{ExtKeyUsageSyntax};
 ghost use Rattle.der_extensions.specs.Lists.{list_octets};
 
 use crate::list::{Item, SequenceOf, read_list};
 use der_base::error::BerError;
+use der_base::header::{Class, Tag};
 use der_base::oid::Oid;
 use der_cursor::{Cursor, Refusal};
 
@@ -15,9 +16,12 @@ pub type ExtendedKeyUsage<'a> = SequenceOf<'a, Oid<'a>>;
 /// Reads the value of an ExtendedKeyUsage by DER: the identifiers of purposes, of which there is one at
 /// least. Octets left over are refused.
 pub fn read_extended_key_usage(octets: &[u8]) -> Result<ExtendedKeyUsage<'_>, Refusal<BerError>>
-    ensures { ReadsInput Rules.Der (Only (Required ExtKeyUsageSyntax)) list_octets Never octets.now result }
+    ensures { ReadsInput Rules.Der ExtKeyUsageSyntax list_octets Never octets.now result }
 {
-    read_list(octets)
+    match read_list::<Oid<'_>, BerError>(octets) {
+        Ok(purposes) => Ok(purposes),
+        Err(e) => Err(e.of_element(Cursor::new(octets), Class::Universal, true, Tag::Sequence)),
+    }
 }
 
 impl<'a> Item<'a, BerError> for Oid<'a> {

@@ -1,7 +1,7 @@
 //! Names of nine kinds (RFC 5280 4.2.1.6).
 ghost use Rattle.der_base.specs.declared.rules.Rules.{Rules};
 ghost use Rattle.der_cursor.specs.Formats.{AnyElement, Explicit, Implicit, Never, ObjectIdentifier, OctetString};
-ghost use Rattle.der_cursor.specs.Formats.{Octets, Only, ReadsField, ReadsInput, Required, Sequence, Text, element_of};
+ghost use Rattle.der_cursor.specs.Formats.{Octets, ReadsField, ReadsInput, Required, Sequence, Text, element_of};
 ghost use Rattle.der_extensions.specs.GeneralNames.{Chosen, GeneralName as AnyName, GeneralNames as NamesFormat};
 ghost use Rattle.der_extensions.specs.GeneralNames.{Name as NameFormat, OtherName as OtherNameFormat};
 ghost use Rattle.der_extensions.specs.GeneralNames.{directory_name, dns_name, edi_party_name, ip_address, name_of};
@@ -53,9 +53,12 @@ pub struct OtherName<'a> {
 /// Reads the value of a SubjectAltName or an IssuerAltName (4.2.1.7) by DER: its names, of which there is
 /// one at least. Octets left over are refused.
 pub fn read_general_names(octets: &[u8]) -> Result<GeneralNames<'_>, Refusal<BerError>>
-    ensures { ReadsInput Rules.Der (Only (Required NamesFormat)) list_octets Never octets.now result }
+    ensures { ReadsInput Rules.Der NamesFormat list_octets Never octets.now result }
 {
-    read_list(octets)
+    match read_list::<GeneralName<'_>, BerError>(octets) {
+        Ok(names) => Ok(names),
+        Err(e) => Err(e.of_element(Cursor::new(octets), Class::Universal, true, Tag::Sequence)),
+    }
 }
 
 impl<'a> Item<'a, BerError> for GeneralName<'a> {

@@ -1,6 +1,6 @@
 //! Where more about an authority is found (RFC 5280 4.2.2.1, 4.2.2.2).
 ghost use Rattle.der_base.specs.declared.rules.Rules.{Rules};
-ghost use Rattle.der_cursor.specs.Formats.{Never, Only, ReadsField, ReadsInput, Required};
+ghost use Rattle.der_cursor.specs.Formats.{Never, ReadsField, ReadsInput, Required};
 ghost use Rattle.der_extensions.specs.Extensions.{AccessDescription as AccessFormat, AuthorityInfoAccessSyntax};
 ghost use Rattle.der_extensions.specs.Extensions.{access_of};
 ghost use Rattle.der_extensions.specs.Lists.{list_octets};
@@ -8,6 +8,7 @@ ghost use Rattle.der_extensions.specs.Lists.{list_octets};
 use crate::general_name::{GeneralName, read_general_name};
 use crate::list::{Item, SequenceOf, read_list};
 use der_base::error::BerError;
+use der_base::header::{Class, Tag};
 use der_base::oid::Oid;
 use der_cursor::{Cursor, Refusal};
 
@@ -24,10 +25,12 @@ pub struct AccessDescription<'a> {
 /// Reads the value of an AuthorityInformationAccess or a SubjectInformationAccess by DER: descriptions, of
 /// which there is one at least. Octets left over are refused.
 pub fn read_information_access(octets: &[u8]) -> Result<InformationAccess<'_>, Refusal<BerError>>
-    ensures { ReadsInput Rules.Der (Only (Required AuthorityInfoAccessSyntax)) list_octets Never
-        octets.now result }
+    ensures { ReadsInput Rules.Der AuthorityInfoAccessSyntax list_octets Never octets.now result }
 {
-    read_list(octets)
+    match read_list::<AccessDescription<'_>, BerError>(octets) {
+        Ok(descriptions) => Ok(descriptions),
+        Err(e) => Err(e.of_element(Cursor::new(octets), Class::Universal, true, Tag::Sequence)),
+    }
 }
 
 impl<'a> Item<'a, BerError> for AccessDescription<'a> {

@@ -2,7 +2,7 @@
 ghost use Rattle.std.specs.Option.{option_map};
 ghost use Rattle.der_base.specs.declared.rules.Rules.{Rules};
 ghost use Rattle.der_cursor.specs.Formats.{Implicit, Integer, Never, OctetString, Only, Optional};
-ghost use Rattle.der_cursor.specs.Formats.{ReadsField, ReadsInput, Required};
+ghost use Rattle.der_cursor.specs.Formats.{ReadsField, ReadsInput, ReadsWhole, Required};
 ghost use Rattle.der_extensions.specs.Extensions.{AuthorityKeyIdentifier as AuthorityFormat, authority_of};
 ghost use Rattle.der_extensions.specs.GeneralNames.{GeneralNames as NamesFormat};
 ghost use Rattle.der_extensions.specs.Lists.{list_octets};
@@ -25,7 +25,21 @@ pub struct AuthorityKeyIdentifier<'a> {
 
 /// Reads the value of a SubjectKeyIdentifier by DER: its octets. Octets left over are refused.
 pub fn read_subject_key_identifier(octets: &[u8]) -> Result<&[u8], Refusal<BerError>>
-    ensures { ReadsInput Rules.Der (Only (Required OctetString)) (λ x. x.now) Never octets.now result }
+    ensures { ReadsInput Rules.Der OctetString (λ x. x.now) Never octets.now result }
+{
+    match read_whole_identifier(octets) {
+        Ok(identifier) => Ok(identifier),
+        Err(e) => Err(e.of_element(
+            Cursor::new(octets),
+            Class::Universal,
+            false,
+            Tag::OctetString,
+        )),
+    }
+}
+
+fn read_whole_identifier(octets: &[u8]) -> Result<&[u8], Refusal<BerError>>
+    ensures { ReadsWhole (Only (Required OctetString) Rules.Der octets.now) (λ x. x.now) Never result }
 {
     let mut input = Cursor::new(octets);
     let identifier = input.octets()?;
@@ -37,7 +51,16 @@ pub fn read_subject_key_identifier(octets: &[u8]) -> Result<&[u8], Refusal<BerEr
 pub fn read_authority_key_identifier(
     octets: &[u8],
 ) -> Result<AuthorityKeyIdentifier<'_>, Refusal<BerError>>
-    ensures { ReadsInput Rules.Der (Only (Required AuthorityFormat)) authority_of Never octets.now result }
+    ensures { ReadsInput Rules.Der AuthorityFormat authority_of Never octets.now result }
+{
+    match read_whole_authority(octets) {
+        Ok(authority) => Ok(authority),
+        Err(e) => Err(e.of_element(Cursor::new(octets), Class::Universal, true, Tag::Sequence)),
+    }
+}
+
+fn read_whole_authority(octets: &[u8]) -> Result<AuthorityKeyIdentifier<'_>, Refusal<BerError>>
+    ensures { ReadsWhole (Only (Required AuthorityFormat) Rules.Der octets.now) authority_of Never result }
 {
     let mut input = Cursor::new(octets);
     let authority = read_authority(&mut input)?;

@@ -1,12 +1,13 @@
 //! What a key is for (RFC 5280 4.2.1.3).
 ghost use Rattle.std.specs.Prelude.{◌≡◌, ◌↔◌, IsTrue};
 ghost use Rattle.der_base.specs.declared.rules.Rules.{Rules};
-ghost use Rattle.der_cursor.specs.Formats.{Never, Only, ReadsField, ReadsInput, Required};
+ghost use Rattle.der_cursor.specs.Formats.{Never, Only, ReadsField, ReadsInput, ReadsWhole, Required};
 ghost use Rattle.der_values.specs.Kinds.{is_bit_set};
 ghost use Rattle.der_x509.specs.Certificates.{bits_of};
 ghost use Rattle.der_extensions.specs.Extensions.{KeyUsage as UsageFormat, EndsInOne, usage_of};
 
 use der_base::error::BerError;
+use der_base::header::{Class, Tag};
 use der_cursor::{Cursor, Refusal};
 use der_values::BitString;
 
@@ -85,9 +86,18 @@ impl KeyUsage<'_> {
 }
 
 /// Reads the value of a KeyUsage by DER. Octets left over are refused. The last bit is 1 (X.690 11.2.2): a
-/// value that ends in a bit 0, or has no bit, is refused by BerValueError.
+/// value that ends in a bit 0, or has no bit, is refused.
 pub fn read_key_usage(octets: &[u8]) -> Result<KeyUsage<'_>, Refusal<BerError>>
-    ensures { ReadsInput Rules.Der (Only (Required UsageFormat)) usage_of Never octets.now result }
+    ensures { ReadsInput Rules.Der UsageFormat usage_of Never octets.now result }
+{
+    match read_whole_usage(octets) {
+        Ok(usage) => Ok(usage),
+        Err(e) => Err(e.of_element(Cursor::new(octets), Class::Universal, false, Tag::BitString)),
+    }
+}
+
+fn read_whole_usage(octets: &[u8]) -> Result<KeyUsage<'_>, Refusal<BerError>>
+    ensures { ReadsWhole (Only (Required UsageFormat) Rules.Der octets.now) usage_of Never result }
 {
     let mut input = Cursor::new(octets);
     let bits = read_named_bits(&mut input)?;

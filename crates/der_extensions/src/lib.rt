@@ -1,4 +1,5 @@
-//! The values of the extensions of certificates (RFC 5280 4.2), read as their ASN.1 writes them, by DER.
+//! The values of the extensions of certificates (RFC 5280 4.2), read as their ASN.1 writes them, by DER. A
+//! reader is Incomplete exactly where the octets end within the element that they begin with.
 #![tactic(auto)]
 
 mod basic_constraints;

@@ -6,7 +6,7 @@ ghost use Rattle.std.specs.Prelude.{◌≡◌, ◌<◌, ◌^◌, length};
 ghost use Rattle.std.specs.Iterator.{at_most};
 ghost use Rattle.std.specs.Option.{option_map};
 ghost use Rattle.der_base.specs.declared.rules.Rules.{Rules};
-ghost use Rattle.der_cursor.specs.Formats.{Constructed, Never, Only, Optional, ReadsField, ReadsInput};
+ghost use Rattle.der_cursor.specs.Formats.{Constructed, Never, Only, Optional, ReadsField, ReadsWhole};
 ghost use Rattle.der_cursor.specs.Formats.{Required, Sequence};
 ghost use Rattle.der_extensions.specs.Lists.{ListOf, SomeOf, YieldsNext, items_left, list_octets};
 
@@ -153,8 +153,7 @@ pub(crate) fn read_optional<'a, T: Item<'a, E>, E: FromRefusal>(
 pub(crate) fn read_list<'a, T: Item<'a, E>, E: FromRefusal>(
     octets: &'a [u8],
 ) -> Result<SequenceOf<'a, T>, Refusal<E>>
-    ensures { ReadsInput Rules.Der (Only (Required (Sequence (SomeOf T.field)))) list_octets Never
-        octets.now result }
+    ensures { ReadsWhole (Only (Required (Sequence (SomeOf T.field))) Rules.Der octets.now) list_octets Never result }
 {
     let mut input = Cursor::new(octets);
     let list = read_some::<T, E>(&mut input, Class::Universal, Tag::Sequence)?;

@@ -2,7 +2,8 @@
 ghost use Rattle.std.specs.Prelude.{◌<◌, pos};
 ghost use Rattle.std.specs.Option.{option_map};
 ghost use Rattle.der_base.specs.declared.rules.Rules.{Rules};
-ghost use Rattle.der_cursor.specs.Formats.{Default, Implicit, Never, Only, Optional, ReadsField, ReadsInput, Required};
+ghost use Rattle.der_cursor.specs.Formats.{Default, Implicit, Never, Only, Optional, ReadsField, ReadsInput};
+ghost use Rattle.der_cursor.specs.Formats.{ReadsWhole, Required};
 ghost use Rattle.der_extensions.specs.Extensions.{BaseDistance, GeneralSubtree as SubtreeFormat, GeneralSubtrees};
 ghost use Rattle.der_extensions.specs.Extensions.{NameConstraints as ConstraintsFormat, name_constraints_of};
 ghost use Rattle.der_extensions.specs.Extensions.{subtree_of};
@@ -35,9 +36,18 @@ pub struct GeneralSubtree<'a> {
 }
 
 /// Reads the value of a NameConstraints by DER. Octets left over are refused, and so is a distance above
-/// 2^32-1, by IntegerTooLarge.
+/// 2^32-1.
 pub fn read_name_constraints(octets: &[u8]) -> Result<NameConstraints<'_>, Refusal<BerError>>
-    ensures { ReadsInput Rules.Der (Only (Required ConstraintsFormat)) name_constraints_of Never octets.now result }
+    ensures { ReadsInput Rules.Der ConstraintsFormat name_constraints_of Never octets.now result }
+{
+    match read_whole_constraints(octets) {
+        Ok(constraints) => Ok(constraints),
+        Err(e) => Err(e.of_element(Cursor::new(octets), Class::Universal, true, Tag::Sequence)),
+    }
+}
+
+fn read_whole_constraints(octets: &[u8]) -> Result<NameConstraints<'_>, Refusal<BerError>>
+    ensures { ReadsWhole (Only (Required ConstraintsFormat) Rules.Der octets.now) name_constraints_of Never result }
 {
     let mut input = Cursor::new(octets);
     let constraints = read_constraints(&mut input)?;

@@ -76,8 +76,8 @@ pub enum ExtensionValue<'a> {
     Other,
 }
 
-/// Reads the value of an extension by DER, as the type that its identifier names. The offset of an error
-/// is the one in the value.
+/// Reads the value of an extension by DER, as the type that its identifier names. The value is an input of
+/// its own.
 ///
 /// ```
 /// for extension in certificate.tbs_certificate.extensions.iter() {

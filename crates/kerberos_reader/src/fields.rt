@@ -47,7 +47,7 @@ pub(crate) fn open_field<'a>(
     fields.open(Class::ContextSpecific, true, Tag(number))
 }
 
-/// Reads a number that is the same in each request. BerValueError for another.
+/// Reads a number that is the same in each request.
 pub(crate) fn check_number(
     fields: &mut Cursor<'_>,
     number: u32,

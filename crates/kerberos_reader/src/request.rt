@@ -1,7 +1,7 @@
 //! Requests for tickets (RFC 4120 5.4.1).
 ghost use Rattle.der_base.specs.declared.rules.Rules.{Rules};
 ghost use Rattle.der_cursor.specs.Formats.{Explicit, Never, NoMemory, NoMemoryIn, Only, ReadsContent, ReadsField};
-ghost use Rattle.der_cursor.specs.Formats.{ReadsInput, Required};
+ghost use Rattle.der_cursor.specs.Formats.{ReadsNamedInput, ReadsWhole, Required};
 ghost use Rattle.kerberos_reader.specs.Requests.{AsReq, BodyFields, Int32, Kinds, PassedFields, RequestFields};
 ghost use Rattle.kerberos_reader.specs.Requests.{TicketFields, Times as TimesFormat, body_of, request_of, ticket_of};
 
@@ -11,7 +11,7 @@ use crate::fields::{
 };
 use crate::name::{Principal, read_principal};
 use der_base::error::BerError;
-use der_base::header::Class;
+use der_base::header::{Class, Tag};
 use der_base::time::ASN1DateTime;
 use der_cursor::{Cursor, FieldRefusal, Named, Refusal};
 use std::alloc::Global;
@@ -35,9 +35,21 @@ pub struct Request<'a> {
     pub encryption_kinds: Vec<i32>,
 }
 
-/// Reads an AS-REQ. Octets left over are refused.
+/// Reads an AS-REQ. Octets left over are refused. Incomplete exactly where the input ends within the request.
 pub fn read_request<'a>(alloc: Global, octets: &'a [u8]) -> Result<Request<'a>, FieldRefusal>
-    ensures { ReadsInput Rules.Der (Only (Required AsReq)) request_of NoMemoryIn octets.now result }
+    ensures { ReadsNamedInput Rules.Der AsReq request_of NoMemoryIn octets.now result }
+{
+    match read_whole_request(alloc, octets) {
+        Ok(request) => Ok(request),
+        Err(e) => {
+            let input = Cursor::new(octets);
+            Err(e.of_element(input, Class::Application, true, Tag(AS_REQ)))
+        }
+    }
+}
+
+fn read_whole_request<'a>(alloc: Global, octets: &'a [u8]) -> Result<Request<'a>, FieldRefusal>
+    ensures { ReadsWhole (Only (Required AsReq) Rules.Der octets.now) request_of NoMemoryIn result }
 {
     let input = Cursor::new(octets);
     let fields = open_last(input, Class::Application, AS_REQ).named("AS-REQ")?;

@@ -3,7 +3,8 @@ use Rattle.std.proofs.Common.{◌≡◌, ℕ, List, Result, Ok, Err, sym, ap, su
 use Rattle.der_base.specs.declared.rules.Rules.{Rules}
 use Rattle.der_cursor.specs.declared.cursor.Cursor.{Cursor}
 use Rattle.der_cursor.specs.Cursors.{octets_left, rules_of, StartsAt}
-use Rattle.der_cursor.specs.Formats.{Field, Ignored, ReadsWhole, ReadsField}
+use Rattle.der_cursor.specs.Formats.{Field, Format, Ignored, ReadsWhole, ReadsField, Required}
+use Rattle.der_cursor.proofs.FrontLaws.{Framed}
 use Rattle.der_cursor.proofs.Sequences.{Remains}
 use Rattle.names_reader.specs.Certificates.{Begins}
 
@@ -32,3 +33,8 @@ module _ {V T E : Type 0} {F : Field V} {view : T → V} {May : E → Type 0} {r
     only = λ v y. (z.only v y.0 (to F r i c s v y.0 y.1)).0;
   }
   begins_read (Err e) h = let z = h s.4 in record { found = tt; only = λ v y. z.only v y.0 (to F r i c s v y.0 y.1) }
+
+-- each is an element
+pub begun : {V : Type 0} (F : Format V) {r : Rules} {i : List ℕ} → Framed r F (Begins (Required F)) i
+unfolding Begins Required
+begun F = record { element = λ v z. ((z.1.0, z.0), z.1.2) }

@@ -1,5 +1,5 @@
 -- Private keys, as their ASN.1 has them, and what the structs of the code stand for.
-use Rattle.std.specs.Prelude.{ℕ, ℤ, pos, ◌≤ℤ◌, Bool, Option, List}
+use Rattle.std.specs.Prelude.{◌≡◌, ℕ, ℤ, pos, ◌≤ℤ◌, Bool, true, false, is_some, Option, List}
 use Rattle.std.specs.Option.{option_map}
 use Rattle.der_base.specs.Numbers.{unsigned}
 use Rattle.der_cursor.specs.Cursors.{octets_left}
@@ -17,6 +17,11 @@ use Rattle.pkcs8_reader.specs.declared.rsa.RsaPrivateKey.{RsaPrivateKey as RsaSt
 abbrev pub Version : Format ℤ
 Version = Limited (λ n. n ≤ℤ pos 1) (Number (unsigned 32))
 
+-- the version of a key that has a further part, or doesn't
+abbrev pub version_with : Bool → ℕ
+version_with true = 1
+version_with false = 0
+
 abbrev pub AlgorithmValue : Type 0
 AlgorithmValue = List ℕ × (Option Element × Unit {0})
 
@@ -30,23 +35,33 @@ AlgorithmIdentifier = Sequence (
 abbrev pub KeyValue : Type 0
 KeyValue = ℤ × (AlgorithmValue × (List ℕ × (Option (List ℕ) × (Option (ℕ × List ℕ) × Unit {0}))))
 
+-- If publicKey is present, then version is set to v2 else version is set to v1.
+abbrev pub HasVersion : KeyValue → Type 0
+HasVersion k = k.0 ≡ pos (version_with (is_some k.1.1.1.1.0))
+
 -- PrivateKeyInfo ::= SEQUENCE {                                               (RFC 5208 5, RFC 5958 2)
+-- The content of the attributes isn't asked.
 abbrev pub PrivateKeyInfo : Format KeyValue
-PrivateKeyInfo = Sequence (
+PrivateKeyInfo = Limited HasVersion (Sequence (
     Required Version  -- version              Version,
     ⨾ (Required AlgorithmIdentifier  -- privateKeyAlgorithm  AlgorithmIdentifier,
     ⨾ (Required OctetString  -- privateKey           OCTET STRING,
     ⨾ (OptionalTagged 0 Octets  -- attributes           [0] IMPLICIT SET OF Attribute OPTIONAL,
     ⨾ (Optional (Implicit 1 BitString)  -- publicKey            [1] IMPLICIT BIT STRING OPTIONAL }
-    ⨾ End)))))
+    ⨾ End))))))
 
 abbrev pub RsaValue : Type 0
 RsaValue = ℤ × (List ℕ × (List ℕ × (List ℕ × (List ℕ × (List ℕ × (List ℕ × (List ℕ × (List ℕ
     × (Option (List ℕ) × Unit {0})))))))))
 
+-- The version is two-prime, unless there are further primes, in which case it is multi.
+abbrev pub HasRsaVersion : RsaValue → Type 0
+HasRsaVersion k = k.0 ≡ pos (version_with (is_some k.1.1.1.1.1.1.1.1.1.0))
+
 -- RSAPrivateKey ::= SEQUENCE {                                                (RFC 8017 A.1.2)
+-- The content of further primes isn't asked.
 abbrev pub RsaPrivateKey : Format RsaValue
-RsaPrivateKey = Sequence (
+RsaPrivateKey = Limited HasRsaVersion (Sequence (
     Required Version  -- version              Version,
     ⨾ (Required Integer  -- modulus              INTEGER,
     ⨾ (Required Integer  -- publicExponent       INTEGER,
@@ -57,7 +72,7 @@ RsaPrivateKey = Sequence (
     ⨾ (Required Integer  -- exponent2            INTEGER,
     ⨾ (Required Integer  -- coefficient          INTEGER,
     ⨾ (Optional (Sequence Octets)  -- otherPrimeInfos      SEQUENCE OF OtherPrimeInfo OPTIONAL }
-    ⨾ End))))))))))
+    ⨾ End)))))))))))
 
 abbrev pub algorithm_of : Algorithm → AlgorithmValue
 algorithm_of a = (absolute_octets a.identifier, (option_map element_of a.parameters, tt))

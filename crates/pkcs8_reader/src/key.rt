@@ -1,14 +1,15 @@
 //! Private keys (RFC 5208 5, RFC 5958 2).
-ghost use Rattle.std.specs.Prelude.{pos};
+ghost use Rattle.std.specs.Prelude.{◌≡◌, pos};
 ghost use Rattle.std.specs.Option.{option_map};
 ghost use Rattle.der_base.specs.declared.rules.Rules.{Rules};
 ghost use Rattle.der_cursor.specs.Formats.{AnyElement, BitString as BitFormat, IfLeft, Implicit, Never, Only};
-ghost use Rattle.der_cursor.specs.Formats.{Optional, ReadsField, ReadsInput, Required, element_of};
+ghost use Rattle.der_cursor.specs.Formats.{Optional, ReadsField, ReadsNamedInput, ReadsWhole, Required, element_of};
 ghost use Rattle.pkcs8_reader.specs.Keys.{AlgorithmIdentifier, PrivateKeyInfo as KeyFormat, Version};
-ghost use Rattle.pkcs8_reader.specs.Keys.{algorithm_of, bits_of, key_of};
+ghost use Rattle.pkcs8_reader.specs.Keys.{algorithm_of, bits_of, key_of, version_with};
 
 use der_base::any::Any;
 use der_base::error::BerError;
+use der_base::header::{Class, Tag};
 use der_base::oid::Oid;
 use der_cursor::{Cursor, FieldRefusal, Named, Refusal};
 use der_values::BitString;
@@ -16,7 +17,7 @@ use der_values::BitString;
 /// The fields of a private key. Octets are slices of the input.
 #[derive(Debug, Drop)]
 pub struct PrivateKeyInfo<'a> {
-    /// 0 for the first version, 1 for the second.
+    /// 0 for the first version, 1 for the second, which has a public key.
     pub version: u32,
     pub algorithm: Algorithm<'a>,
     /// The key, as its algorithm encodes it.
@@ -34,9 +35,22 @@ pub struct Algorithm<'a> {
     pub parameters: Option<Any<'a>>,
 }
 
-/// Reads a private key by DER. Octets left over are refused. The version is 0 or 1.
+/// Reads a private key by DER. Octets left over are refused. The version is 1 where there is a public key,
+/// and else 0 (RFC 5958 2). Incomplete exactly where the input ends within the key.
 pub fn read_private_key(octets: &[u8]) -> Result<PrivateKeyInfo<'_>, FieldRefusal>
-    ensures { ReadsInput Rules.Der (Only (Required KeyFormat)) key_of Never octets.now result }
+    ensures { ReadsNamedInput Rules.Der KeyFormat key_of Never octets.now result }
+{
+    match read_whole_key(octets) {
+        Ok(key) => Ok(key),
+        Err(e) => {
+            let input = Cursor::new(octets);
+            Err(e.of_element(input, Class::Universal, true, Tag::Sequence))
+        }
+    }
+}
+
+fn read_whole_key(octets: &[u8]) -> Result<PrivateKeyInfo<'_>, FieldRefusal>
+    ensures { ReadsWhole (Only (Required KeyFormat) Rules.Der octets.now) key_of Never result }
 {
     let mut input = Cursor::new(octets);
     let key = read_fields(&mut input)?;
@@ -48,12 +62,16 @@ fn read_fields<'a>(input: &mut Cursor<'a>) -> Result<PrivateKeyInfo<'a>, FieldRe
     ensures { ReadsField (Required KeyFormat) key_of Never input.old result input.new }
 {
     let mut fields = input.open_sequence().named("PrivateKeyInfo")?;
+    let first = fields;
     let version = read_version(&mut fields).named("version")?;
     let algorithm = read_algorithm(&mut fields).named("privateKeyAlgorithm")?;
     let private_key = fields.octets().named("privateKey")?;
     let attributes = fields.open_tagged(0).named("attributes")?;
     let public_key = read_public_key(&mut fields).named("publicKey")?;
     fields.end().named("PrivateKeyInfo")?;
+    if version != version_of(public_key.is_some()) {
+        return Err(first.refuse(BerError::BerValueError)).named("version");
+    }
     Ok(PrivateKeyInfo {
         version,
         algorithm,
@@ -61,6 +79,13 @@ fn read_fields<'a>(input: &mut Cursor<'a>) -> Result<PrivateKeyInfo<'a>, FieldRe
         attributes,
         public_key,
     })
+}
+
+/// The version of a key that has a further part, or doesn't: a public key, or further primes.
+pub(crate) fn version_of(further: bool) -> u32
+    ensures { result ≡ version_with further }
+{
+    u32::from(further)
 }
 
 /// Reads a version, which is 0 or 1.

@@ -2,10 +2,11 @@
 ghost use Rattle.std.specs.Option.{option_map};
 ghost use Rattle.der_base.specs.declared.rules.Rules.{Rules};
 ghost use Rattle.der_cursor.specs.Cursors.{octets_left};
-ghost use Rattle.der_cursor.specs.Formats.{Only, Optional, Required, Never, Octets, Sequence, ReadsField, ReadsInput};
+ghost use Rattle.der_cursor.specs.Formats.{Never, Octets, Only, Optional, ReadsField, ReadsNamedInput, ReadsWhole};
+ghost use Rattle.der_cursor.specs.Formats.{Required, Sequence};
 ghost use Rattle.pkcs8_reader.specs.Keys.{RsaPrivateKey as RsaFormat, rsa_of};
 
-use crate::key::read_version;
+use crate::key::{read_version, version_of};
 use der_base::error::BerError;
 use der_base::header::{Class, Tag};
 use der_cursor::{Cursor, FieldRefusal, Named, Refusal};
@@ -27,10 +28,22 @@ pub struct RsaPrivateKey<'a> {
     pub other_primes: Option<Cursor<'a>>,
 }
 
-/// Reads a private key of RSA by DER. Octets left over are refused. The version is 0 or 1, with or
-/// without further primes.
+/// Reads a private key of RSA by DER. Octets left over are refused. The version is 1 where there are further
+/// primes, and else 0. Incomplete exactly where the input ends within the key.
 pub fn read_rsa_private_key(octets: &[u8]) -> Result<RsaPrivateKey<'_>, FieldRefusal>
-    ensures { ReadsInput Rules.Der (Only (Required RsaFormat)) rsa_of Never octets.now result }
+    ensures { ReadsNamedInput Rules.Der RsaFormat rsa_of Never octets.now result }
+{
+    match read_whole_key(octets) {
+        Ok(key) => Ok(key),
+        Err(e) => {
+            let input = Cursor::new(octets);
+            Err(e.of_element(input, Class::Universal, true, Tag::Sequence))
+        }
+    }
+}
+
+fn read_whole_key(octets: &[u8]) -> Result<RsaPrivateKey<'_>, FieldRefusal>
+    ensures { ReadsWhole (Only (Required RsaFormat) Rules.Der octets.now) rsa_of Never result }
 {
     let mut input = Cursor::new(octets);
     let key = read_numbers(&mut input)?;
@@ -42,6 +55,7 @@ fn read_numbers<'a>(input: &mut Cursor<'a>) -> Result<RsaPrivateKey<'a>, FieldRe
     ensures { ReadsField (Required RsaFormat) rsa_of Never input.old result input.new }
 {
     let mut numbers = input.open_sequence().named("RSAPrivateKey")?;
+    let first = numbers;
     let version = read_version(&mut numbers).named("version")?;
     let modulus = numbers.integer().named("modulus")?;
     let public_exponent = numbers.integer().named("publicExponent")?;
@@ -53,6 +67,9 @@ fn read_numbers<'a>(input: &mut Cursor<'a>) -> Result<RsaPrivateKey<'a>, FieldRe
     let coefficient = numbers.integer().named("coefficient")?;
     let other_primes = open_other_primes(&mut numbers).named("otherPrimeInfos")?;
     numbers.end().named("RSAPrivateKey")?;
+    if version != version_of(other_primes.is_some()) {
+        return Err(first.refuse(BerError::BerValueError)).named("version");
+    }
     Ok(RsaPrivateKey {
         version,
         modulus,

@@ -1,7 +1,7 @@
 //! Messages, by the names of their readers: `read`, or the refusal as it is printed.
 use crate::names::{certificate_names, elements, name_text, plain_name};
 use kerberos_reader::read_request;
-use pkcs8_reader::read_private_key;
+use pkcs8_reader::{read_private_key, read_rsa_private_key};
 use snmp_reader::read_message;
 use std::alloc::Global;
 use std::fmt::Display;
@@ -11,6 +11,7 @@ use test_tables::fault::Fault;
 pub fn message(alloc: Global, call: &str, octets: &[u8]) -> Result<String, Fault> {
     match call {
         "private_key" => refusal(alloc, read_private_key(octets).err()),
+        "rsa_private_key" => refusal(alloc, read_rsa_private_key(octets).err()),
         "kerberos_request" => refusal(alloc, read_request(alloc, octets).err()),
         "snmp_message" => refusal(alloc, read_message(alloc, octets).err()),
         "written_name" => name_text(alloc, octets),

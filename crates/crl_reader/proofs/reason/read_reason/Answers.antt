@@ -1,11 +1,9 @@
-use Rattle.der_cursor.proofs.Sequences.{input_left, input_read, input_stops}
+use Rattle.der_cursor.proofs.FrontLaws.{framed, never_kept, refused_alone, value_alone}
+use Rattle.crl_reader.specs.Reasons.{CRLReason}
 use Rattle.crl_reader.proofs.reason.read_reason.Goals as goal
 
-pub returns-in_err-reason : goal.returns-in_err-reason
-returns-in_err-reason c = input_stops c.new-value.ensures c.in_err-reason.ensures c.from_residual.ensures.1
+pub returns-in-Ok : goal.returns-in-Ok
+returns-in-Ok c = value_alone (framed CRLReason) c.in-Ok.ensures
 
-pub returns-in_err-end : goal.returns-in_err-end
-returns-in_err-end c = input_left _ c.new-value.ensures c.in_ok-reason.ensures c.in_err-end.ensures.0 c.from_residual-in_err-end.ensures.1
-
-pub returns : goal.returns
-returns c = input_read c.new-value.ensures c.in_ok-reason.ensures c.in_ok-end.ensures
+pub returns-in-Err : goal.returns-in-Err
+returns-in-Err c = refused_alone (framed CRLReason) c.new.ensures never_kept c.in-Err.ensures c.of_element.ensures

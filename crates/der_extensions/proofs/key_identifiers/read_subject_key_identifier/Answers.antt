@@ -1,13 +1,9 @@
-use Rattle.der_values.specs.Kinds.{octet_strings}
-use Rattle.der_cursor.proofs.FormatLaws.{value_read}
-use Rattle.der_cursor.proofs.Sequences.{input_left, input_read, input_stops}
+use Rattle.der_cursor.specs.Formats.{OctetString as Format}
+use Rattle.der_cursor.proofs.FrontLaws.{framed, never_kept, refused_alone, value_alone}
 use Rattle.der_extensions.proofs.key_identifiers.read_subject_key_identifier.Goals as goal
 
-pub returns-in_err-identifier : goal.returns-in_err-identifier
-returns-in_err-identifier c = input_stops c.new-input.ensures (value_read (λ r. octet_strings) c.in_err-identifier.ensures) c.from_residual.ensures.1
+pub returns-in-Ok : goal.returns-in-Ok
+returns-in-Ok c = value_alone (framed Format) c.in-Ok.ensures
 
-pub returns-in_err-end : goal.returns-in_err-end
-returns-in_err-end c = input_left _ c.new-input.ensures (value_read (λ r. octet_strings) c.in_ok-identifier.ensures) c.in_err-end.ensures.0 c.from_residual-in_err-end.ensures.1
-
-pub returns : goal.returns
-returns c = input_read c.new-input.ensures (value_read (λ r. octet_strings) c.in_ok-identifier.ensures) c.in_ok-end.ensures
+pub returns-in-Err : goal.returns-in-Err
+returns-in-Err c = refused_alone (framed Format) c.new.ensures never_kept c.in-Err.ensures c.of_element.ensures

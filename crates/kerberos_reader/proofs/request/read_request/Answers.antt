@@ -1,14 +1,9 @@
-use Rattle.der_base.specs.declared.header.Class.TheVariants.{Application}
-use Rattle.der_cursor.specs.Formats.{Only, Required}
-use Rattle.kerberos_reader.specs.Requests.{AsReq, RequestFields}
-use Rattle.der_cursor.proofs.OpenedLaws.{in_tag, not_within_named, within_named}
-use Rattle.der_cursor.proofs.Sequences.{at_start}
+use Rattle.der_cursor.proofs.FrontLaws.{framed, memory_kept_in, named_alone, refused_named}
+use Rattle.kerberos_reader.specs.Requests.{AsReq}
 use Rattle.kerberos_reader.proofs.request.read_request.Goals as goal
 
-pub returns-in_err-fields : goal.returns-in_err-fields
-returns-in_err-fields c = at_start (Only (Required AsReq)) c.new-input.result c.new-input.ensures
-    (not_within_named (in_tag Application 10 RequestFields) _ _ c.open_last.ensures c.in_err-fields.ensures c.from_residual.ensures.1)
+pub returns-in-Ok : goal.returns-in-Ok
+returns-in-Ok c = named_alone (framed AsReq) c.in-Ok.ensures
 
-pub returns : goal.returns
-returns c = at_start (Only (Required AsReq)) c.new-input.result c.new-input.ensures
-    (within_named (in_tag Application 10 RequestFields) _ _ _ c.open_last.ensures c.in_ok-fields.ensures c.read_message.ensures)
+pub returns-in-Err : goal.returns-in-Err
+returns-in-Err c = refused_named (framed AsReq) c.new-input.ensures memory_kept_in c.in-Err.ensures c.of_element.ensures
