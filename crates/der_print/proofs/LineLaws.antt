@@ -1,10 +1,52 @@
--- One line after others.
-use Rattle.std.proofs.Common.{ℕ, Bool, List, [], ◌∷◌, ◌++◌, sym, subst, append_assoc, append-nil}
-use Rattle.der_print.specs.Lines.{AreLines, IsLine, no_lines, one_more_line}
+-- One line after others, and the content of an element.
+use Rattle.std.proofs.Common.{◌≡◌, ℕ, ◌+◌, ◌⊎◌, inl, inr, Bool, true, false, Option, Some, None, IfSome, IsSome, List, [], ◌∷◌, ◌++◌, codes, length, MatchBool, refl, sym, ap, ◌∙◌, subst, append_assoc, append-nil}
+use Rattle.std.specs.Borrow.{Bor}
+use Rattle.std.specs.Option.{unwrap_or}
+use Rattle.der_base.specs.declared.header.Class.{Class}
+use Rattle.der_base.specs.declared.header.Class.TheVariants.{Universal}
+use Rattle.der_print.specs.declared.style.Limit.{Limit}
+use Rattle.der_print.specs.declared.style.Style.{Style}
+use Rattle.der_print.specs.Lines.{AreLines, IsLine, content_in, no_lines, one_more_line}
+use Rattle.der_print.specs.Texts.{content_of, octets_or_none}
+use Rattle.der_print.specs.Values.{IsSaid, IsValue}
+use Rattle.der_walk.specs.declared.element.Element.{Element}
+use Rattle.der_walk.specs.Ends.{between}
 use Rattle.der_walk.specs.Visits.{Visited}
+use Rattle.der_walk.specs.Walked.{HasOctets, visited_of}
 
-pub lines_more : {colours : Bool} {vs : List Visited} {text : List ℕ} (v : Visited) (line : List ℕ) → AreLines colours vs text → IsLine colours v line
-    → AreLines colours (vs ++ v ∷ []) (text ++ line)
-lines_more {colours} v line no_lines l = subst (AreLines colours (v ∷ [])) (append-nil line) (one_more_line line [] l no_lines)
-lines_more {colours} v line (one_more_line {v = u} {vs = vs} first rest k ks) l =
-    subst (AreLines colours (u ∷ vs ++ v ∷ [])) (sym (append_assoc first rest line)) (one_more_line first (rest ++ line) k (lines_more v line ks l))
+pub lines_more : {style : Style} {i : List ℕ} {vs : List Visited} {text : List ℕ} (v : Visited) (line : List ℕ) → AreLines style i vs text → IsLine style v (content_in i v) line
+    → AreLines style i (vs ++ v ∷ []) (text ++ line)
+lines_more {style} {i} v line no_lines l = subst (AreLines style i (v ∷ [])) (append-nil line) (one_more_line line [] l no_lines)
+lines_more {style} {i} v line (one_more_line {v = u} {vs = vs} first rest k ks) l =
+    subst (AreLines style i (u ∷ vs ++ v ∷ [])) (sym (append_assoc first rest line)) (one_more_line first (rest ++ line) k (lines_more v line ks l))
+
+-- a constructed element's content isn't looked at
+ending_of : (limit : Limit) (h p : Bool) (t : ℕ) (w w' text : List ℕ) → (p ≡ false → w ≡ w') → MatchBool h (text ≡ codes " holding DER") (MatchBool p (text ≡ []) (IsValue limit t w text))
+    → MatchBool h (text ≡ codes " holding DER") (MatchBool p (text ≡ []) (IsValue limit t w' text))
+ending_of limit true p t w w' text same x = x
+ending_of limit false true t w w' text same x = x
+ending_of limit false false t w w' text same x = subst (λ u. IsValue limit t u text) (same refl) x
+
+said_of : {H : Type 0} (p : Bool) (c : Class) (broken : Bool) (t : ℕ) (w w' : List ℕ) → (p ≡ false → w ≡ w') → H ⊎ (p ≡ true) ⊎ ((c ≡ Universal) × (broken ≡ false) × IsSaid t w')
+    → H ⊎ (p ≡ true) ⊎ ((c ≡ Universal) × (broken ≡ false) × IsSaid t w)
+said_of true c broken t w w' same x = inr (inl refl)
+said_of false c broken t w w' same (inl h) = inl h
+said_of false c broken t w w' same (inr (inl h)) = inr (inl h)
+said_of false c broken t w w' same (inr (inr h)) = inr (inr (h.0, h.1, subst (IsSaid t) (sym (same refl)) h.2))
+
+pub line_of : (style : Style) (v : Visited) (w w' line : List ℕ) → (v.constructed ≡ false → w ≡ w') → IsLine style v w line → IsLine style v w' line
+line_of style v w w' line same l = record {
+  value = l.value;
+  shown = l.shown;
+  ending = λ said. ending_of _ v.holds_der v.constructed v.number w w' l.value same (l.ending (said_of v.constructed v.class v.breaks_its_type v.number w w' same said));
+  whole = l.whole;
+}
+
+content_at : (i : List ℕ) (p : ℕ) (content : Option (Bor (List ℕ))) (n : Option ℕ) → IsSome content
+    → IfSome content (λ w. (n ≡ Some (length w.now)) × (w.now ≡ between i p (p + length w.now))) → octets_or_none content ≡ between i p (p + unwrap_or n 0)
+content_at i p (Some w) n some h = h.1 ∙ ap (λ m. between i p (p + unwrap_or m 0)) (sym h.0)
+content_at i p None n some h = cc
+
+-- the content octets of an element are those in the input
+pub content_is : (i : List ℕ) (e : Element) → HasOctets i e → e.constructed ≡ false → content_of e ≡ content_in i (visited_of e)
+content_is i e h primitive = content_at i (e.offset + e.header) e.content e.length (h.primitive primitive) h.content

@@ -1,10 +1,14 @@
 -- What precedes the value, computed on worked elements: those of a certificate, a tag of another class, an element of
 -- indefinite length far from the start, with colours.
-use Rattle.std.proofs.Common.{◌≡◌, ◌∷◌, ◌++◌, ℕ, Bool, true, false, refl, codes, Some, None, Option}
+use Rattle.std.proofs.Common.{◌≡◌, ◌∷◌, ◌++◌, ℕ, Bool, true, false, [], refl, codes, Some, None, Option, pos, negsuc}
 use Rattle.std.specs.Fmt.{digits}
 use Rattle.der_base.specs.declared.header.Class.{Class}
 use Rattle.der_base.specs.declared.header.Class.TheVariants.{Universal, Application, ContextSpecific, Private}
-use Rattle.der_print.specs.Lines.{front_text, known_text}
+use Rattle.der_base.specs.declared.time.ASN1TimeZone.TheVariants.{Offset}
+use Rattle.hex.specs.Hex.{encode_with}
+use Rattle.der_print.specs.declared.style.Limit.TheVariants.{Whole}
+use Rattle.der_print.specs.Lines.{front_text}
+use Rattle.der_print.specs.Values.{boolean_text, identifier_text, number_text, zone_text}
 use Rattle.der_walk.specs.Visits.{Visited}
 
 abbrev visited : ℕ → ℕ → Option ℕ → Class → Bool → ℕ → ℕ → Visited
@@ -36,8 +40,22 @@ in_colours : front_text true (visited 2 2 (Some 1) Private false 7 0)
 unfolding digits
 in_colours = refl
 
-no_value : known_text (visited 0 4 (Some 515) Universal true 16 0) ≡ Some (codes "")
-no_value = refl
+-- values: a number above 64 bits, the arcs of a relative identifier, half an hour west
+large : number_text Whole (0x01 ∷ 0 ∷ 0 ∷ 0 ∷ 0 ∷ 0 ∷ 0 ∷ 0 ∷ 0 ∷ []) ≡ codes "0x010000000000000000"
+unfolding digits encode_with
+large = refl
 
-any_value : known_text (visited 10 2 (Some 1) Universal false 2 3) ≡ None
-any_value = refl
+below : number_text Whole (0xff ∷ 0x7f ∷ []) ≡ codes "-129"
+unfolding digits
+below = refl
+
+relative : identifier_text true (1 ∷ 2 ∷ 3 ∷ []) ≡ codes ".1.2.3"
+unfolding digits
+relative = refl
+
+west : zone_text (Offset (pos 0) (negsuc 29)) ≡ codes " -00:30"
+unfolding digits
+west = refl
+
+other_truth : boolean_text (1 ∷ []) ≡ codes " TRUE (01)"
+other_truth = refl

@@ -1,3 +1,5 @@
 pub mod Lines
 pub mod Shown
 pub mod Texts
+pub mod Values
+pub mod Writes

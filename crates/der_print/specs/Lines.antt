@@ -1,9 +1,15 @@
 -- The line that is printed of an element.
-use Rattle.std.specs.Prelude.{◌≡◌, ℕ, ◌-◌, Bool, if◌then◌else◌, Option, Some, None, IfSome}
+use Rattle.std.specs.Prelude.{◌≡◌, ℕ, ◌+◌, ◌-◌, ◌⊎◌, Bool, true, false, if◌then◌else◌, MatchBool, Option, Some, None}
 use Rattle.std.specs.Prelude.{List, [], ◌∷◌, ◌++◌, codes, decimal, length}
+use Rattle.std.specs.Option.{unwrap_or}
 use Rattle.std.specs.Io.KnownBytes.{Appends}
 use Rattle.der_base.specs.Pretty.{spaces}
+use Rattle.der_base.specs.declared.header.Class.TheVariants.{Universal}
+use Rattle.der_print.specs.declared.style.Limit.{Limit}
+use Rattle.der_print.specs.declared.style.Style.{Style}
 use Rattle.der_print.specs.Shown.{IsShown}
+use Rattle.der_print.specs.Values.{IsSaid, IsValue, limit_without}
+use Rattle.der_walk.specs.Ends.{between}
 use Rattle.der_walk.specs.TypeNames.{type_text}
 use Rattle.der_walk.specs.Visits.{Visited}
 
@@ -48,25 +54,40 @@ front_text colours v =
     dim colours ++ place_text v.offset v.header v.length ++ plain colours ++ indentation v.depth
     ++ bold colours ++ type_text v.class v.number ++ plain colours
 
--- what follows it where no value does: nothing for a constructed element
-abbrev pub known_text : Visited → Option (List ℕ)
-known_text v = if v.holds_der then Some (codes " holding DER") else if v.constructed then Some [] else None
+-- how much is printed of the value: the limit of a line is one of the whole line
+abbrev pub limit_of : Style → Visited → Limit
+limit_of style v = limit_without style.limit (length (front_text false v))
 
--- the line: that, the value's text, and the line's end
-pub record IsLine (colours : Bool) (v : Visited) (line : List ℕ) : Type 0 where
+-- what follows that, of an element with this content: nothing for a constructed one, or the value; the element inside
+-- a string has a line of its own
+abbrev pub IsEnding : Limit → Visited → List ℕ → List ℕ → Type 0
+IsEnding limit v w text = MatchBool v.holds_der (text ≡ codes " holding DER")
+    (MatchBool v.constructed (text ≡ []) (IsValue limit v.number w text))
+
+-- it is said what follows
+abbrev pub IsEndingSaid : Visited → List ℕ → Type 0
+IsEndingSaid v w = (v.holds_der ≡ true) ⊎ (v.constructed ≡ true)
+    ⊎ ((v.class ≡ Universal) × (v.breaks_its_type ≡ false) × IsSaid v.number w)
+
+-- the line of an element with this content: that and the line's end
+pub record IsLine (style : Style) (v : Visited) (w line : List ℕ) : Type 0 where
   pub value : List ℕ
   pub shown : IsShown value
-  pub known : IfSome (known_text v) (λ text. value ≡ text)
-  pub whole : line ≡ front_text colours v ++ value ++ codes "\n"
+  pub ending : IsEndingSaid v w → IsEnding (limit_of style v) v w value
+  pub whole : line ≡ front_text style.colours v ++ value ++ codes "\n"
 
 -- known octets grew by the line of an element
-pub record AddsLine (colours : Bool) (v : Visited) (old new : Option (List ℕ)) : Type 0 where
+pub record AddsLine (style : Style) (v : Visited) (w : List ℕ) (old new : Option (List ℕ)) : Type 0 where
   pub line : List ℕ
-  pub is_line : IsLine colours v line
+  pub is_line : IsLine style v w line
   pub adds : Appends old new line
 
--- a line for each of some elements, in their order
-pub data AreLines (colours : Bool) : List Visited → List ℕ → Type 0 where
-  no_lines : AreLines colours [] []
-  one_more_line : {v : Visited} {vs : List Visited} (line rest : List ℕ) → IsLine colours v line
-      → AreLines colours vs rest → AreLines colours (v ∷ vs) (line ++ rest)
+-- the content octets of an element in an input
+abbrev pub content_in : List ℕ → Visited → List ℕ
+content_in i v = let p = v.offset + v.header in between i p (p + unwrap_or v.length 0)
+
+-- a line for each of some elements in an input, in their order
+pub data AreLines (style : Style) (i : List ℕ) : List Visited → List ℕ → Type 0 where
+  no_lines : AreLines style i [] []
+  one_more_line : {v : Visited} {vs : List Visited} (line rest : List ℕ) → IsLine style v (content_in i v) line
+      → AreLines style i vs rest → AreLines style i (v ∷ vs) (line ++ rest)

@@ -1,8 +1,10 @@
 -- The octets of texts that are made.
-use Rattle.std.specs.Prelude.{ℕ, List, drop}
+use Rattle.std.specs.Borrow.{Bor}
+use Rattle.std.specs.Prelude.{ℕ, List, [], Option, Some, None, drop}
 use Rattle.der_print.specs.declared.line_octets.LineOctets.{LineOctets}
 use Rattle.der_print.specs.declared.row.Row.{Row}
 use Rattle.der_print.specs.declared.shown.ShownText.{ShownText}
+use Rattle.der_walk.specs.declared.element.Element.{Element}
 
 -- those of a line
 abbrev pub octets_in : LineOctets → List ℕ
@@ -15,3 +17,11 @@ octets_of t = t.octets.items
 -- a text that is written from its end, which is that of its octets
 abbrev pub row_text : Row → List ℕ
 row_text r = drop r.start r.octets
+
+-- the content octets of an element, or none
+abbrev pub octets_or_none : Option (Bor (List ℕ)) → List ℕ
+octets_or_none (Some w) = w.now
+octets_or_none None = []
+
+abbrev pub content_of : Element → List ℕ
+content_of e = octets_or_none e.content

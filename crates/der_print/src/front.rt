@@ -20,13 +20,13 @@ const BOLD: &[u8] = b"[1m";
 const PLAIN: &[u8] = b"[0m";
 
 /// The columns for the offset.
-pub(crate) const OFFSET: usize = 7;
+const OFFSET: usize = 7;
 
 /// The columns for the number of header octets.
-pub(crate) const HEADER: usize = 2;
+const HEADER: usize = 2;
 
 /// The columns for the number of content octets.
-pub(crate) const LENGTH: usize = 7;
+const LENGTH: usize = 7;
 
 /// A line that goes on with where an element begins, how many octets its header and its content have, two spaces
 /// for each element around it, and its type or tag.

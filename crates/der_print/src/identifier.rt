@@ -1,4 +1,9 @@
 //! Object identifiers (X.690 8.19 and 8.20).
+ghost use Rattle.std.specs.Prelude.{◌≡◌, Some};
+ghost use Rattle.std.specs.Fmt.{DisplaysOnOk};
+ghost use Rattle.der_base.specs.Oids.{is_relative_of, octets_of};
+ghost use Rattle.der_print.specs.Values.{identifier_text};
+
 use crate::octets::Hex;
 use crate::style::Limit;
 use der_base::oid::Oid;
@@ -15,13 +20,13 @@ pub struct Arcs<'a> {
 }
 
 impl fmt::Display for Arcs<'_> {
+    ghost use Rattle.std.specs.Prelude.{Some};
+    ghost use Rattle.der_print.specs.Values.{identifier_text};
+
+    ghost output = { λ x. Some (identifier_text x.relative x.octets.now) };
+
     fn fmt<W: fmt::Write>(&self, f: &mut fmt::Formatter<W>) -> fmt::Result {
-        let octets = CowSlice::Borrowed(self.octets);
-        let oid = if self.relative {
-            Oid::new_relative(octets)
-        } else {
-            Oid::new(octets)
-        };
+        let oid = identifier_of(self.octets, self.relative);
         let written = write_arcs(f, &oid);
         // It owns no memory. Without its drop no code here reaches an allocator.
         mem::forget(oid);
@@ -29,21 +34,31 @@ impl fmt::Display for Arcs<'_> {
     }
 }
 
-fn write_arcs<W: fmt::Write>(f: &mut fmt::Formatter<W>, oid: &Oid<'_>) -> fmt::Result {
-    let Some(arcs) = oid.iter() else {
-        let hex = Hex {
-            octets: oid.as_bytes(),
-            limit: Limit::Whole,
-        };
-        return write!(f, "octets {hex}");
-    };
-    let mut needs_point = oid.is_relative();
-    for arc in arcs {
-        if needs_point {
-            f.write_str(".")?;
-        }
-        write!(f, "{arc}")?;
-        needs_point = true;
+/// The identifier with these content octets.
+fn identifier_of(octets: &[u8], relative: bool) -> Oid<'_>
+    ensures octets { octets_of result ≡ octets.now }
+    ensures relative { is_relative_of result ≡ relative }
+{
+    let octets = CowSlice::Borrowed(octets);
+    if relative {
+        Oid::new_relative(octets)
+    } else {
+        Oid::new(octets)
     }
-    Ok(())
+}
+
+/// Writes arcs with points between them, after a point if the identifier is relative.
+fn write_arcs<W: fmt::Write>(f: &mut fmt::Formatter<W>, oid: &Oid<'_>) -> fmt::Result
+    ensures { DisplaysOnOk W.Write.write_str_gives f.old result
+        (Some (identifier_text (is_relative_of oid.now) (octets_of oid.now))) f.new }
+{
+    let octets = oid.as_bytes();
+    if oid.iter().is_none() {
+        let limit = Limit::Whole;
+        return write!(f, "octets {}", Hex { octets, limit });
+    }
+    if oid.is_relative() && !octets.is_empty() {
+        return write!(f, ".{oid}");
+    }
+    write!(f, "{oid}")
 }

@@ -2,7 +2,7 @@
 #![tactic(auto)]
 
 mod characters;
-mod columns;
+mod ending;
 mod front;
 mod identifier;
 mod line;

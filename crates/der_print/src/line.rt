@@ -1,17 +1,19 @@
 //! The line of an element.
-ghost use Rattle.std.specs.Prelude.{OnOk};
+ghost use Rattle.std.specs.Prelude.{◌≡◌, ◌-◌, OnOk, if◌then◌else◌, length};
 ghost use Rattle.der_walk.specs.Walked.{visited_of};
 ghost use Rattle.der_print.specs.Lines.{AddsLine};
+ghost use Rattle.der_print.specs.Texts.{content_of, octets_in};
 
-use crate::columns::front_columns;
 use crate::front::with_front;
-use crate::remark::Remark;
+use crate::line_octets::LineOctets;
 use crate::room::Room;
-use crate::style::{Limit, Style};
-use crate::value::Value;
+use crate::style::Style;
 use der_walk::Element;
+use std::io;
 use std::io::Write;
-use std::{fmt, io};
+
+/// The octets that begin and end dim and bold letters.
+const LETTERS: usize = 16;
 
 /// Writes the line of an element: where it begins, how many octets its header and its content have, its type, two
 /// columns further in for each element around it, and its value. Its texts are made in `room`, which is returned for
@@ -22,51 +24,21 @@ pub fn write_line<W: Write>(
     element: &Element<'_>,
     style: Style,
 ) -> io::Result<Room>
-    ensures { OnOk result (AddsLine style.colours (visited_of element.now) (W.contents out.old) (W.contents out.new)) }
+    ensures { OnOk result (AddsLine style (visited_of element.now) (content_of element.now)
+        (W.contents out.old) (W.contents out.new)) }
 {
-    let element = *element;
-    let limit = limit_of(&element, style);
-    let value = room.value.replaced(Ending { element, limit })?;
-    let mut line = with_front(room.line.cleared(), &element, style.colours)?;
+    let mut line = with_front(room.line.cleared(), element, style.colours)?;
+    let limit = style.limit.without(columns_of(&line, style.colours));
+    let value = room.value.ending(element, limit)?;
     line.put(value.as_bytes())?;
     line.put(b"\n")?;
     out.write_all(line.as_bytes())?;
     Ok(Room { line, value })
 }
 
-/// How much of the value of an element is printed.
-fn limit_of(element: &Element<'_>, style: Style) -> Limit {
-    match style.limit {
-        Limit::Columns(_) => style.limit.without(front_columns(element)),
-        limit => limit,
-    }
-}
-
-/// What follows the type on the line of an element.
-#[derive(Clone, Copy)]
-struct Ending<'a> {
-    element: Element<'a>,
-    limit: Limit,
-}
-
-impl fmt::Display for Ending<'_> {
-    ghost use Rattle.der_print.specs.Lines.{known_text};
-
-    ghost output = { λ x. known_text (visited_of x.element) };
-
-    fn fmt<W: fmt::Write>(&self, f: &mut fmt::Formatter<W>) -> fmt::Result {
-        let element = self.element;
-        let limit = self.limit;
-        if element.holds_der {
-            return write!(f, " holding DER");
-        }
-        if element.constructed {
-            return Ok(());
-        }
-        write!(f, "{}", Value { element, limit })?;
-        if element.breaks_its_type {
-            write!(f, "  {}", Remark { element })?;
-        }
-        Ok(())
-    }
+/// How many columns the line has so far, without what begins and ends special letters.
+fn columns_of(line: &LineOctets, colours: bool) -> usize
+    ensures { result ≡ length (octets_in line.now) - (if colours then 16 else 0) }
+{
+    line.len().saturating_sub(if colours { LETTERS } else { 0 })
 }

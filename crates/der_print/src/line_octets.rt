@@ -1,5 +1,5 @@
 //! The octets of a line, which grow at their end.
-ghost use Rattle.std.specs.Prelude.{◌≡◌, [], ◌++◌, IfOk, IfSome, OnOk};
+ghost use Rattle.std.specs.Prelude.{◌≡◌, [], ◌++◌, IfOk, IfSome, OnOk, length};
 ghost use Rattle.der_base.specs.Pretty.{spaces};
 ghost use Rattle.der_print.specs.Texts.{octets_in};
 
@@ -36,6 +36,13 @@ impl LineOctets {
         ensures { result.now ≡ octets_in self.now }
     {
         self.octets.as_slice()
+    }
+
+    /// How many they are.
+    pub(crate) fn len(&self) -> usize
+        ensures { result ≡ length (octets_in self.now) }
+    {
+        self.octets.len()
     }
 
     /// Puts octets at the end.

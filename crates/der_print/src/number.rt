@@ -1,4 +1,7 @@
 //! INTEGER and ENUMERATED (X.690 8.3 and 8.4).
+ghost use Rattle.std.specs.Prelude.{◌≡◌};
+ghost use Rattle.der_print.specs.Values.{without_leading_zero};
+
 use crate::octets::Hex;
 use crate::style::Limit;
 use der_base::integer::{is_negative, read_i64, read_u64};
@@ -19,6 +22,11 @@ pub struct Number<'a> {
 }
 
 impl fmt::Display for Number<'_> {
+    ghost use Rattle.std.specs.Prelude.{Some};
+    ghost use Rattle.der_print.specs.Values.{number_text};
+
+    ghost output = { λ x. Some (number_text x.limit x.octets.now) };
+
     fn fmt<W: fmt::Write>(&self, f: &mut fmt::Formatter<W>) -> fmt::Result {
         let octets = self.octets;
         if let Ok(number) = read_i64(octets) {
@@ -27,26 +35,21 @@ impl fmt::Display for Number<'_> {
         if let Ok(number) = read_u64(octets) {
             return write!(f, "{number}");
         }
-        let is_negative = is_negative(octets);
-        let beside = if is_negative {
-            PREFIX + NEGATIVE
-        } else {
-            PREFIX
-        };
-        let hex = Hex {
-            octets: without_leading_zero(octets),
-            limit: self.limit.without(beside),
-        };
-        if is_negative {
-            write!(f, "0x{hex} (negative, in two's complement)")
-        } else {
-            write!(f, "0x{hex}")
+        if is_negative(octets) {
+            let limit = self.limit.without(PREFIX + NEGATIVE);
+            let hex = Hex { octets, limit };
+            return write!(f, "0x{hex} (negative, in two's complement)");
         }
+        let limit = self.limit.without(PREFIX);
+        let octets = without_leading_zero(octets);
+        write!(f, "0x{}", Hex { octets, limit })
     }
 }
 
 /// The octets without one that is 0 before others.
-fn without_leading_zero(octets: &[u8]) -> &[u8] {
+fn without_leading_zero(octets: &[u8]) -> &[u8]
+    ensures { result.now ≡ without_leading_zero octets.now }
+{
     match octets {
         [0, others @ ..] if !others.is_empty() => others,
         _ => octets,

@@ -1,4 +1,9 @@
 //! Octets in hexadecimal digits.
+ghost use Rattle.std.specs.Prelude.{◌≡◌, Some};
+ghost use Rattle.std.specs.Fmt.{DisplaysOnOk};
+ghost use Rattle.hex.specs.Hex.{encode_lower};
+ghost use Rattle.der_print.specs.Values.{printed_octets};
+
 use crate::style::Limit;
 use std::{fmt, str};
 
@@ -28,20 +33,26 @@ pub struct Hex<'a> {
 }
 
 impl fmt::Display for Hex<'_> {
+    ghost use Rattle.std.specs.Prelude.{Some};
+    ghost use Rattle.der_print.specs.Values.{hex_text};
+
+    ghost output = { λ x. Some (hex_text x.limit x.octets.now) };
+
     fn fmt<W: fmt::Write>(&self, f: &mut fmt::Formatter<W>) -> fmt::Result {
         let number = self.octets.len();
-        match self.octets.get(..printed_octets(number, self.limit)) {
-            Some(front) if front.len() < number => {
-                write_digits(f, front)?;
-                write!(f, "... ({number} octets)")
-            }
-            _ => write_digits(f, self.octets),
+        let printed = printed_octets(number, self.limit);
+        if printed < number {
+            write_digits(f, &self.octets[..printed])?;
+            return write!(f, "... ({number} octets)");
         }
+        write_digits(f, self.octets)
     }
 }
 
 /// How many of so many octets are printed.
-fn printed_octets(number: usize, limit: Limit) -> usize {
+fn printed_octets(number: usize, limit: Limit) -> usize
+    ensures { result ≡ printed_octets limit number }
+{
     match limit {
         Limit::Whole => number,
         Limit::Front if number <= WHOLE => number,
@@ -51,19 +62,32 @@ fn printed_octets(number: usize, limit: Limit) -> usize {
     }
 }
 
-fn write_digits<W: fmt::Write>(f: &mut fmt::Formatter<W>, octets: &[u8]) -> fmt::Result {
-    let mut room = [0; 2 * MANY];
-    for octets in octets.chunks(MANY) {
-        let Some(digits) = room.get_mut(..octets.len().saturating_mul(2)) else {
-            return Err(fmt::Error);
-        };
-        let Ok(()) = hex::encode_to_slice(octets, digits) else {
-            return Err(fmt::Error);
-        };
-        match str::from_utf8(digits) {
-            Ok(digits) => f.write_str(digits)?,
-            Err(_) => return Err(fmt::Error),
-        }
+/// Writes octets in hexadecimal digits.
+fn write_digits<W: fmt::Write>(f: &mut fmt::Formatter<W>, octets: &[u8]) -> fmt::Result
+    ensures { DisplaysOnOk W.Write.write_str_gives f.old result (Some (encode_lower octets.now)) f.new }
+{
+    let mut rest = octets;
+    while !rest.is_empty() {
+        let (first, others) = rest.split_at(rest.len().min(MANY));
+        write_few(f, first)?;
+        rest = others;
     }
     Ok(())
+}
+
+/// Writes a few octets at once.
+fn write_few<W: fmt::Write>(f: &mut fmt::Formatter<W>, octets: &[u8]) -> fmt::Result
+    ensures { DisplaysOnOk W.Write.write_str_gives f.old result (Some (encode_lower octets.now)) f.new }
+{
+    let mut room = [0; 2 * MANY];
+    let Some(digits) = room.get_mut(..octets.len().saturating_mul(2)) else {
+        return Err(fmt::Error);
+    };
+    let Ok(()) = hex::encode_to_slice(octets, digits) else {
+        return Err(fmt::Error);
+    };
+    match str::from_utf8(digits) {
+        Ok(digits) => f.write_str(digits),
+        Err(_) => Err(fmt::Error),
+    }
 }

@@ -1,4 +1,7 @@
 //! Memory for the texts of a line.
+ghost use Rattle.std.specs.Prelude.{◌≡◌, []};
+ghost use Rattle.der_print.specs.Texts.{octets_in, octets_of};
+
 use crate::line_octets::LineOctets;
 use crate::shown::ShownText;
 use std::alloc::Global;
@@ -12,7 +15,10 @@ pub struct Room {
 
 impl Room {
     /// No memory, until a line needs some.
-    pub fn new(alloc: Global) -> Room {
+    pub fn new(alloc: Global) -> Room
+        ensures line { octets_in result.line ≡ [] }
+        ensures value { octets_of result.value ≡ [] }
+    {
         Room {
             line: LineOctets::new(alloc),
             value: ShownText::new(alloc),

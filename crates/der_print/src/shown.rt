@@ -3,6 +3,9 @@ ghost use Rattle.std.specs.Prelude.{◌≡◌};
 ghost use Rattle.std.specs.List.{list_all};
 ghost use Rattle.der_print.specs.Shown.{IsShown, is_shown};
 
+use crate::ending::write_ending;
+use crate::style::Limit;
+use der_walk::Element;
 use std::alloc::{AllocError, Global};
 use std::fmt;
 
@@ -14,8 +17,10 @@ pub(crate) struct ShownText {
 }
 
 impl ShownText {
-    ghost use Rattle.std.specs.Prelude.{[], IfOk, IfSome};
-    ghost use Rattle.der_print.specs.Texts.{octets_of};
+    ghost use Rattle.std.specs.Prelude.{[], IfOk};
+    ghost use Rattle.der_walk.specs.Walked.{visited_of};
+    ghost use Rattle.der_print.specs.Lines.{IsEnding, IsEndingSaid};
+    ghost use Rattle.der_print.specs.Texts.{content_of, octets_of};
 
     /// An empty text.
     pub(crate) fn new(alloc: Global) -> ShownText
@@ -34,13 +39,14 @@ impl ShownText {
         self.octets.as_slice()
     }
 
-    /// The text of a value, in the memory of this one. An error if there is no memory, or if a control
-    /// character is in the text.
-    pub(crate) fn replaced<D: fmt::Display + Drop>(self, value: D) -> Result<ShownText, AllocError>
-        ensures { IfOk result (λ t. IfSome (D.output value) (λ text. octets_of t ≡ text)) }
+    /// What follows the type on the line of an element, in the memory of this text. An error if there is no memory, or if
+    /// a control character is in the text.
+    pub(crate) fn ending(self, element: &Element<'_>, limit: Limit) -> Result<ShownText, AllocError>
+        ensures { let v = visited_of element.now in let w = content_of element.now in
+            IsEndingSaid v w → IfOk result (λ t. IsEnding limit v w (octets_of t)) }
     {
         let mut f = fmt::Formatter::new(self.cleared());
-        match f.write(value) {
+        match write_ending(&mut f, element, limit) {
             Ok(()) => Ok(f.into_inner()),
             Err(_) => Err(AllocError),
         }

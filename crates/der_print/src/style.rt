@@ -1,4 +1,5 @@
 //! How much is printed of a value, and in which colours.
+ghost use Rattle.std.specs.Prelude.{◌≡◌};
 
 /// How much is printed of a long value.
 #[derive(Clone, Copy, Debug, PartialEq)]
@@ -12,8 +13,12 @@ pub enum Limit {
 }
 
 impl Limit {
+    ghost use Rattle.der_print.specs.Values.{limit_without};
+
     /// The limit where so many columns are needed for something else.
-    pub(crate) fn without(self, columns: usize) -> Limit {
+    pub(crate) fn without(self, columns: usize) -> Limit
+        ensures { result ≡ limit_without self columns }
+    {
         match self {
             Limit::Columns(all) => Limit::Columns(all.saturating_sub(columns)),
             limit => limit,

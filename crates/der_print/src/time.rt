@@ -1,4 +1,9 @@
 //! UTCTime and GeneralizedTime as people write them.
+ghost use Rattle.std.specs.Prelude.{◌≡◌, ◌||◌, Some, codes, if◌then◌else◌, int_lt, pos};
+ghost use Rattle.std.specs.Fmt.{DisplaysOnOk};
+ghost use Rattle.der_base.specs.Time.{at_least_digits};
+ghost use Rattle.der_print.specs.Values.{full_year, nanosecond_text, zone_text};
+
 use der_base::time::{ASN1DateTime, ASN1TimeZone};
 use std::fmt;
 
@@ -11,31 +16,118 @@ pub struct Moment {
 }
 
 impl fmt::Display for Moment {
+    ghost use Rattle.std.specs.Prelude.{Some};
+    ghost use Rattle.der_print.specs.Values.{moment_text};
+
+    ghost output = { λ x. Some (moment_text x.is_utc_time x.time) };
+
     fn fmt<W: fmt::Write>(&self, f: &mut fmt::Formatter<W>) -> fmt::Result {
         let time = self.time;
-        let year = if self.is_utc_time {
-            time.rfc5280_year()
-        } else {
-            time.year
+        let year = Digits {
+            number: full_year(time, self.is_utc_time),
+            least: 4,
         };
-        write!(f, "{year:04}-{:02}-{:02} ", time.month, time.day)?;
-        write!(f, "{:02}:{:02}:{:02}", time.hour, time.minute, time.second)?;
-        if let Some(nanosecond) = time.nanosecond {
-            write!(f, ".{nanosecond:09}")?;
-        }
+        let month = two_digits(time.month);
+        let day = two_digits(time.day);
+        write!(f, "{year}-{month}-{day}")?;
+        let hour = two_digits(time.hour);
+        let minute = two_digits(time.minute);
+        let second = two_digits(time.second);
+        write!(f, " {hour}:{minute}:{second}")?;
+        write_nanosecond(f, time.nanosecond)?;
         write_zone(f, time.tz)
     }
 }
 
-fn write_zone<W: fmt::Write>(f: &mut fmt::Formatter<W>, zone: ASN1TimeZone) -> fmt::Result {
+/// A number in at least this many digits.
+#[derive(Clone, Copy)]
+struct Digits {
+    number: u32,
+    least: usize,
+}
+
+impl fmt::Display for Digits {
+    ghost use Rattle.std.specs.Prelude.{Some};
+    ghost use Rattle.der_base.specs.Time.{at_least_digits};
+
+    ghost output = { λ x. Some (at_least_digits x.least x.number) };
+
+    fn fmt<W: fmt::Write>(&self, f: &mut fmt::Formatter<W>) -> fmt::Result {
+        let number = self.number;
+        let least = self.least;
+        write!(f, "{number:0least$}")
+    }
+}
+
+/// A number in at least two digits.
+fn two_digits(number: u8) -> Digits
+    ensures { at_least_digits result.least result.number ≡ at_least_digits 2 number }
+{
+    Digits {
+        number: u32::from(number),
+        least: 2,
+    }
+}
+
+/// The year, completed if it is that of a UTCTime.
+fn full_year(time: ASN1DateTime, is_utc_time: bool) -> u32
+    ensures { result ≡ full_year is_utc_time time }
+{
+    if is_utc_time {
+        time.rfc5280_year()
+    } else {
+        time.year
+    }
+}
+
+/// Writes nine digits of a fraction, if there is one.
+fn write_nanosecond<W: fmt::Write>(
+    f: &mut fmt::Formatter<W>,
+    nanosecond: Option<u32>,
+) -> fmt::Result
+    ensures { DisplaysOnOk W.Write.write_str_gives f.old result (Some (nanosecond_text nanosecond)) f.new }
+{
+    match nanosecond {
+        Some(number) => write!(f, ".{}", Digits { number, least: 9 }),
+        None => Ok(()),
+    }
+}
+
+/// Writes the zone.
+fn write_zone<W: fmt::Write>(f: &mut fmt::Formatter<W>, zone: ASN1TimeZone) -> fmt::Result
+    ensures { DisplaysOnOk W.Write.write_str_gives f.old result (Some (zone_text zone)) f.new }
+{
     match zone {
-        ASN1TimeZone::Undefined => f.write_str(" local time"),
-        ASN1TimeZone::Z => f.write_str(" UTC"),
+        ASN1TimeZone::Undefined => write!(f, " local time"),
+        ASN1TimeZone::Z => write!(f, " UTC"),
         ASN1TimeZone::Offset(hours, minutes) => {
-            let sign = if hours < 0 || minutes < 0 { "-" } else { "+" };
-            let hours = hours.unsigned_abs();
-            let minutes = minutes.unsigned_abs();
-            write!(f, " {sign}{hours:02}:{minutes:02}")
+            let sign = sign(hours, minutes);
+            let hours = two_digits(hours.unsigned_abs());
+            let minutes = Minutes(minutes.unsigned_abs());
+            write!(f, "{sign}{hours}{minutes}")
         }
     }
+}
+
+/// The minutes of an offset, after a colon.
+#[derive(Clone, Copy)]
+struct Minutes(u8);
+
+impl fmt::Display for Minutes {
+    ghost use Rattle.std.specs.Prelude.{Some};
+    ghost use Rattle.der_print.specs.Values.{minutes_text};
+
+    ghost output = { λ x. Some (minutes_text x.0) };
+
+    fn fmt<W: fmt::Write>(&self, f: &mut fmt::Formatter<W>) -> fmt::Result {
+        let minutes = two_digits(self.0);
+        write!(f, ":{minutes}")
+    }
+}
+
+/// A space and the sign of an offset.
+fn sign(hours: i8, minutes: i8) -> &'static str
+    ensures { result.now ≡ (if int_lt hours (pos 0) || int_lt minutes (pos 0) then codes " -" else codes " +") }
+{
+    if hours < 0 || minutes < 0 { " -" } else { " +" }
 }

@@ -1,4 +1,14 @@
 //! The values of primitive elements.
+ghost use Rattle.std.specs.Prelude.{◌≡◌, ◌++◌, ◌==◌, ℕ, IfSome, List, Option, Some, codes, false, true};
+ghost use Rattle.std.specs.Fmt.{DisplaysOnOk};
+ghost use Rattle.der_base.specs.declared.time.ASN1DateTime.{ASN1DateTime};
+ghost use Rattle.der_base.specs.Pretty.{hex_pair};
+ghost use Rattle.der_base.specs.Time.{IsTimeText};
+ghost use Rattle.der_print.specs.Texts.{content_of, octets_or_none};
+ghost use Rattle.der_print.specs.Values.{IsNameOf, IsSaid, IsValue, bits_text, boolean_text, identifier_text};
+ghost use Rattle.der_print.specs.Values.{moment_text, name_text, truth_text, unused_text};
+ghost use Rattle.der_print.specs.Writes.{WritesOne};
+
 use crate::identifier::Arcs;
 use crate::number::Number;
 use crate::octets::Hex;
@@ -10,6 +20,9 @@ use der_base::time::read_time;
 use der_names::name_of;
 use der_walk::Element;
 use std::fmt;
+
+/// The octet of TRUE by DER (X.690 11.1).
+const TRUE: u8 = 0xff;
 
 /// The columns of the number of unused bits.
 const UNUSED: usize = 16;
@@ -28,11 +41,33 @@ impl fmt::Display for Value<'_> {
         if element.constructed || element.holds_der {
             return Ok(());
         }
-        let octets = element.content.unwrap_or(&[]);
-        if element.class != Class::Universal {
-            return write_octets(f, octets, self.limit);
-        }
-        write_universal(f, element.number, octets, self.limit)
+        write_value(f, &element, self.limit)
+    }
+}
+
+/// Writes the value of a primitive element.
+pub(crate) fn write_value<W: fmt::Write>(
+    f: &mut fmt::Formatter<W>,
+    element: &Element<'_>,
+    limit: Limit,
+) -> fmt::Result
+    ensures { let w = content_of element.now in element.now.class ≡ Class.Universal → IsSaid element.now.number w
+        → WritesOne W.Write.write_str_gives f.old result (IsValue limit element.now.number w) f.new }
+{
+    let octets = octets_or_none(element.content);
+    if element.class != Class::Universal {
+        return write_octets(f, octets, limit);
+    }
+    write_universal(f, element.number, octets, limit)
+}
+
+/// The content octets, or none.
+fn octets_or_none(content: Option<&[u8]>) -> &[u8]
+    ensures { result.now ≡ octets_or_none content.entry }
+{
+    match content {
+        Some(octets) => octets,
+        None => &[],
     }
 }
 
@@ -42,21 +77,19 @@ fn write_universal<W: fmt::Write>(
     number: u32,
     octets: &[u8],
     limit: Limit,
-) -> fmt::Result {
+) -> fmt::Result
+    ensures { IsSaid number octets.now
+        → WritesOne W.Write.write_str_gives f.old result (IsValue limit number octets.now) f.new }
+{
     match number {
         0 | 5 => Ok(()),
         1 => write_boolean(f, octets),
         2 | 10 => write!(f, " {}", Number { octets, limit }),
         3 => write_bits(f, octets, limit),
         6 => write_identifier(f, octets),
-        13 => write!(
-            f,
-            " {}",
-            Arcs {
-                octets,
-                relative: true
-            }
-        ),
+        13 => write_relative(f, octets),
+        23 => write_time(f, number, octets, limit),
+        24 => write_time(f, number, octets, limit),
         7 | 12 | 18..=22 | 25..=28 | 30 => write!(
             f,
             " {}",
@@ -66,7 +99,6 @@ fn write_universal<W: fmt::Write>(
                 limit
             }
         ),
-        23 | 24 => write_time(f, Tag(number), octets, limit),
         _ => write_octets(f, octets, limit),
     }
 }
@@ -95,71 +127,111 @@ fn write_octets<W: fmt::Write>(
     write!(f, " {}", Hex { octets, limit })
 }
 
-fn write_boolean<W: fmt::Write>(f: &mut fmt::Formatter<W>, octets: &[u8]) -> fmt::Result {
+fn write_boolean<W: fmt::Write>(f: &mut fmt::Formatter<W>, octets: &[u8]) -> fmt::Result
+    ensures { DisplaysOnOk W.Write.write_str_gives f.old result (Some (boolean_text octets.now)) f.new }
+{
     match octets {
-        [0] => f.write_str(" FALSE"),
-        [0xff] => f.write_str(" TRUE"),
-        [octet] => write!(f, " TRUE ({octet:02x})"),
+        [octet] => write_truth(f, *octet),
         _ => Ok(()),
     }
 }
 
+/// Writes what the octet of a BOOLEAN says.
+fn write_truth<W: fmt::Write>(f: &mut fmt::Formatter<W>, octet: u8) -> fmt::Result
+    ensures { DisplaysOnOk W.Write.write_str_gives f.old result (Some (truth_text octet)) f.new }
+{
+    if octet == 0 {
+        return write!(f, " FALSE");
+    }
+    if octet == TRUE {
+        return write!(f, " TRUE");
+    }
+    write!(f, " TRUE (")?;
+    write_pair(f, octet)?;
+    write!(f, ")")
+}
+
+/// Writes an octet as two hexadecimal digits.
+fn write_pair<W: fmt::Write>(f: &mut fmt::Formatter<W>, octet: u8) -> fmt::Result
+    ensures { DisplaysOnOk W.Write.write_str_gives f.old result (Some (hex_pair octet)) f.new }
+{
+    write!(f, "{octet:02x}")
+}
+
 /// Writes the octets of a BIT STRING, and how many bits of the last aren't used.
-fn write_bits<W: fmt::Write>(
-    f: &mut fmt::Formatter<W>,
-    octets: &[u8],
-    limit: Limit,
-) -> fmt::Result {
+fn write_bits<W: fmt::Write>(f: &mut fmt::Formatter<W>, octets: &[u8], limit: Limit) -> fmt::Result
+    ensures { DisplaysOnOk W.Write.write_str_gives f.old result (Some (bits_text limit octets.now)) f.new }
+{
     let [unused, octets @ ..] = octets else {
         return Ok(());
     };
     let limit = limit.without(UNUSED);
     write!(f, " {}", Hex { octets, limit })?;
-    match *unused {
+    write_unused(f, *unused)
+}
+
+/// Writes how many bits aren't used.
+fn write_unused<W: fmt::Write>(f: &mut fmt::Formatter<W>, unused: u8) -> fmt::Result
+    ensures { DisplaysOnOk W.Write.write_str_gives f.old result (Some (unused_text unused)) f.new }
+{
+    match unused {
         0 => Ok(()),
-        1 => f.write_str(" (1 bit unused)"),
+        1 => write!(f, " (1 bit unused)"),
         _ => write!(f, " ({unused} bits unused)"),
     }
 }
 
 /// Writes an identifier and its name.
-fn write_identifier<W: fmt::Write>(f: &mut fmt::Formatter<W>, octets: &[u8]) -> fmt::Result {
-    write!(
-        f,
-        " {}",
-        Arcs {
-            octets,
-            relative: false
-        }
-    )?;
+fn write_identifier<W: fmt::Write>(f: &mut fmt::Formatter<W>, octets: &[u8]) -> fmt::Result
+    ensures { WritesOne W.Write.write_str_gives f.old result (λ text. (name : Option (List ℕ))
+        × IfSome name (IsNameOf octets.now)
+        × (text ≡ codes " " ++ identifier_text false octets.now ++ name_text name)) f.new }
+{
+    let arcs = Arcs {
+        octets,
+        relative: false,
+    };
     match name_of(octets) {
-        Some(name) => write!(f, " {name}"),
-        None => Ok(()),
+        Some(name) => write!(f, " {arcs} {name}"),
+        None => write!(f, " {arcs}"),
     }
 }
 
+/// Writes a relative identifier.
+fn write_relative<W: fmt::Write>(f: &mut fmt::Formatter<W>, octets: &[u8]) -> fmt::Result
+    ensures { DisplaysOnOk W.Write.write_str_gives f.old result
+        (Some (codes " " ++ identifier_text true octets.now)) f.new }
+{
+    let arcs = Arcs {
+        octets,
+        relative: true,
+    };
+    write!(f, " {arcs}")
+}
+
+/// Writes a time, or octets that are none as a text.
 fn write_time<W: fmt::Write>(
     f: &mut fmt::Formatter<W>,
-    tag: Tag,
+    number: u32,
     octets: &[u8],
     limit: Limit,
-) -> fmt::Result {
-    match read_time(tag, octets) {
+) -> fmt::Result
+    ensures { (x : ASN1DateTime) → IsTimeText number octets.now x → DisplaysOnOk W.Write.write_str_gives f.old result
+        (Some (codes " " ++ moment_text (number == 23) x)) f.new }
+{
+    match read_time(Tag(number), octets) {
         Some(time) => {
-            let is_utc_time = tag == Tag::UtcTime;
+            let is_utc_time = number == Tag::UtcTime.0;
             write!(f, " {}", Moment { time, is_utc_time })
         }
-        None => {
-            let number = tag.0;
-            write!(
-                f,
-                " {}",
-                Quoted {
-                    octets,
-                    number,
-                    limit
-                }
-            )
-        }
+        None => write!(
+            f,
+            " {}",
+            Quoted {
+                octets,
+                number,
+                limit
+            }
+        ),
     }
 }

@@ -1,0 +1,136 @@
+-- What is printed of the value of a primitive element.
+use Rattle.std.specs.Prelude.{◌≡◌, ℕ, suc, ◌+◌, ◌-◌, ◌/◌, ◌^◌, min, max, ◌⊎◌, ◌==◌, ◌||◌, nat_le, nat_lt, if◌then◌else◌}
+use Rattle.std.specs.Prelude.{Bool, true, false, IsTrue, ℤ, pos, negsuc, int_lt, nat_abs, Option, Some, None, IfSome}
+use Rattle.std.specs.Prelude.{List, [], ◌∷◌, ◌++◌, codes, decimal, length, take}
+use Rattle.std.specs.Fmt.{signed_decimal}
+use Rattle.hex.specs.Hex.{encode_lower}
+use Rattle.der_base.specs.declared.time.ASN1DateTime.{ASN1DateTime}
+use Rattle.der_base.specs.declared.time.ASN1TimeZone.{ASN1TimeZone}
+use Rattle.der_base.specs.declared.time.ASN1TimeZone.TheVariants.{Undefined, Z, Offset}
+use Rattle.der_base.specs.Arcs.{arcs}
+use Rattle.der_base.specs.Octets.{integer_value}
+use Rattle.der_base.specs.Pretty.{dotted, hex_pair}
+use Rattle.der_base.specs.Text.{is_one_of}
+use Rattle.der_base.specs.Time.{IsTimeText, at_least_digits, rfc5280_year}
+use Rattle.der_names.specs.Tables.{HasLine}
+use Rattle.der_names.specs.declared.table.TheConstants.{NAMES}
+use Rattle.der_print.specs.declared.style.Limit.{Limit}
+use Rattle.der_print.specs.declared.style.Limit.TheVariants.{Whole, Front, Columns}
+
+-- how much is printed where so many columns are needed for something else
+abbrev pub limit_without : Limit → ℕ → Limit
+limit_without Whole columns = Whole
+limit_without Front columns = Front
+limit_without (Columns all) columns = Columns (all - columns)
+
+-- a BOOLEAN: by BER any octet but 0 is TRUE, and another one than FF is shown (8.2.2, 11.1)
+abbrev pub truth_text : ℕ → List ℕ
+truth_text b =
+    if b == 0 then codes " FALSE" else if b == 0xff then codes " TRUE" else codes " TRUE (" ++ hex_pair b ++ codes ")"
+
+abbrev pub boolean_text : List ℕ → List ℕ
+boolean_text (b ∷ []) = truth_text b
+boolean_text w = []
+
+-- how many of so many octets are printed
+abbrev pub printed_octets : Limit → ℕ → ℕ
+printed_octets Whole n = n
+printed_octets Front n = if nat_le n 32 then n else 20
+printed_octets (Columns columns) n = if nat_le n ((columns - 1) / 2) then n else min (max ((columns - 18) / 2) 4) n
+
+-- octets in hexadecimal digits, or the first of them and how many they are
+abbrev pub hex_text : Limit → List ℕ → List ℕ
+hex_text limit w = let n = printed_octets limit (length w) in
+    if nat_lt n (length w) then encode_lower (take n w) ++ codes "... (" ++ decimal (length w) ++ codes " octets)"
+    else encode_lower w
+
+-- the octets without one that is 0 before others
+abbrev pub without_leading_zero : List ℕ → List ℕ
+without_leading_zero [] = []
+without_leading_zero (a ∷ []) = a ∷ []
+without_leading_zero (a ∷ b ∷ w) = if a == 0 then b ∷ w else a ∷ b ∷ w
+
+-- a number in decimal, or in hexadecimal digits if it doesn't fit 64 bits
+abbrev pub text_of_number : Limit → List ℕ → ℤ → List ℕ
+text_of_number limit w (pos n) =
+    if nat_lt n (2 ^ 64) then decimal n else codes "0x" ++ hex_text (limit_without limit 2) (without_leading_zero w)
+text_of_number limit w (negsuc n) =
+    if nat_lt n (2 ^ 63) then signed_decimal (negsuc n)
+    else codes "0x" ++ hex_text (limit_without limit 34) w ++ codes " (negative, in two's complement)"
+
+abbrev pub number_text : Limit → List ℕ → List ℕ
+number_text limit w = text_of_number limit w (integer_value w)
+
+-- what precedes the first arc of an identifier, relative or not
+abbrev pub point_before : Bool → List ℕ → List ℕ
+point_before true (b ∷ w) = codes "."
+point_before relative w = []
+
+-- an identifier: its arcs with points between them, a relative one after a point, or its octets where they are no arcs
+abbrev pub text_of_arcs : Option (List ℕ) → Bool → List ℕ → List ℕ
+text_of_arcs (Some numbers) relative w = point_before relative w ++ dotted numbers
+text_of_arcs None relative w = codes "octets " ++ encode_lower w
+
+abbrev pub identifier_text : Bool → List ℕ → List ℕ
+identifier_text relative w = text_of_arcs (arcs relative w) relative w
+
+-- the name of the identifier with these content octets
+abbrev pub IsNameOf : List ℕ → List ℕ → Type 0
+IsNameOf w name = HasLine NAMES.now (encode_lower w ++ 0x20 ∷ name)
+
+abbrev pub name_text : Option (List ℕ) → List ℕ
+name_text (Some name) = codes " " ++ name
+name_text None = []
+
+-- the unused bits of the last octet of a BIT STRING (8.6.2)
+abbrev pub unused_text : ℕ → List ℕ
+unused_text u =
+    if u == 0 then [] else if u == 1 then codes " (1 bit unused)" else codes " (" ++ decimal u ++ codes " bits unused)"
+
+abbrev pub bits_text : Limit → List ℕ → List ℕ
+bits_text limit [] = []
+bits_text limit (u ∷ w) = codes " " ++ hex_text (limit_without limit 16) w ++ unused_text u
+
+-- a moment, with nine digits of a fraction
+abbrev pub nanosecond_text : Option ℕ → List ℕ
+nanosecond_text None = []
+nanosecond_text (Some n) = codes "." ++ at_least_digits 9 n
+
+abbrev pub minutes_text : ℕ → List ℕ
+minutes_text n = codes ":" ++ at_least_digits 2 n
+
+abbrev pub zone_text : ASN1TimeZone → List ℕ
+zone_text Undefined = codes " local time"
+zone_text Z = codes " UTC"
+zone_text (Offset h m) = (if int_lt h (pos 0) || int_lt m (pos 0) then codes " -" else codes " +")
+    ++ at_least_digits 2 (nat_abs h) ++ minutes_text (nat_abs m)
+
+-- the year of a UTCTime is completed (RFC 5280 4.1.2.5.1)
+abbrev pub full_year : Bool → ASN1DateTime → ℕ
+full_year is_utc_time t = if is_utc_time then rfc5280_year t.year else t.year
+
+abbrev pub moment_text : Bool → ASN1DateTime → List ℕ
+moment_text is_utc_time t = at_least_digits 4 (full_year is_utc_time t) ++ codes "-" ++ at_least_digits 2 t.month
+    ++ codes "-" ++ at_least_digits 2 t.day ++ codes " " ++ at_least_digits 2 t.hour ++ codes ":"
+    ++ at_least_digits 2 t.minute ++ codes ":" ++ at_least_digits 2 t.second ++ nanosecond_text t.nanosecond
+    ++ zone_text t.tz
+
+-- the universal types of which it is said how a value is printed; of a time, if the octets are one
+abbrev pub IsSaid : ℕ → List ℕ → Type 0
+IsSaid t w = IsTrue (is_one_of (0 ∷ 1 ∷ 2 ∷ 3 ∷ 5 ∷ 6 ∷ 10 ∷ 13 ∷ []) t) ⊎ ((x : ASN1DateTime) × IsTimeText t w x)
+
+-- The text of a content after the name of its universal type, by the type's number.
+pub data IsValue (limit : Limit) (t : ℕ) (w text : List ℕ) : Type 0 where
+  -- NULL, and end-of-contents octets
+  no_value : (t ≡ 0) ⊎ (t ≡ 5) → text ≡ [] → IsValue limit t w text
+  boolean : t ≡ 1 → text ≡ boolean_text w → IsValue limit t w text
+  -- INTEGER and ENUMERATED
+  number : (t ≡ 2) ⊎ (t ≡ 10) → text ≡ codes " " ++ number_text limit w → IsValue limit t w text
+  bits : t ≡ 3 → text ≡ bits_text limit w → IsValue limit t w text
+  -- OBJECT IDENTIFIER, and its name
+  identifier : t ≡ 6 → (name : Option (List ℕ)) → IfSome name (IsNameOf w)
+      → text ≡ codes " " ++ identifier_text false w ++ name_text name → IsValue limit t w text
+  relative : t ≡ 13 → text ≡ codes " " ++ identifier_text true w → IsValue limit t w text
+  -- UTCTime and GeneralizedTime
+  moment : (x : ASN1DateTime) → IsTimeText t w x → text ≡ codes " " ++ moment_text (t == 23) x
+      → IsValue limit t w text
