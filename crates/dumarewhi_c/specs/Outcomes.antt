@@ -12,7 +12,8 @@ use Rattle.der_base.specs.Any.{AnyAnswer, AnswersAny, AnswersDerAny}
 use Rattle.der_base.specs.Headers.{ReadsDerHeader, ReadsHeader}
 use Rattle.der_base.specs.Refusal.{refusal}
 use Rattle.der_canon.specs.declared.error.NotCanonical.{NotCanonical}
-use Rattle.der_canon.specs.Written.{IsRefusalOf, KeepsDer, WritesDer}
+use Rattle.der_canon.specs.Errors.{IsErrorOf}
+use Rattle.der_canon.specs.Written.{KeepsDer, WritesDer}
 use Rattle.der_nodes.specs.FaultPlaces.{IsBerPlace, IsDerPlace}
 use Rattle.der_nodes.specs.NodesReading.{AnswersBerNodes, AnswersDerNodes, KeepsBerNodes, KeepsDerNodes}
 use Rattle.der_walk.specs.declared.cause.Cause.{Cause}
@@ -104,7 +105,7 @@ outcome_of_written room (Ok n) = if nat_le n room then read_outcome 0 n else no_
 outcome_of_written room (Err e) = unwritten_outcome e.cause e.offset
 
 -- If there is room for what is written, it is the input as DER writes it. What is DER already is written as it is, as
--- far as there is room. If the outcome names a rule of BER, or says that the input is cut short, the input isn't BER.
+-- far as there is room. An error is the first fault of the input, where it has one.
 abbrev pub Writes : List ℕ → List ℕ → List ℕ → DmOutcome → Type 0
 Writes i old new o = (found : Result ℕ NotCanonical) × (o ≡ outcome_of_written (length old) found)
-    × WritesDer i new found × KeepsDer i old new found × IfErr found (IsRefusalOf i)
+    × WritesDer i new found × KeepsDer i old new found × IfErr found (IsErrorOf i)
