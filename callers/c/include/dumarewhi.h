@@ -1,12 +1,12 @@
-/* Reads BER and DER (ITU-T X.690), and writes DER. The readers are proved: the repository's README says what that
- * means.
+/* Reads BER and DER (ITU-T X.690), and writes DER. What is proved of each call is in the repository's
+ * docs/GUARANTEES.md.
  *
  * No call allocates, keeps a pointer or has a state, so calls may run in several threads at a time.
  *
  * The caller owes this, and nothing checks it: each pointer may be read or written for the length that is
  * passed beside it, is aligned for its type and is not NULL, not even with length 0; what is written does
- * not overlap anything else that is passed; and the stack has room for max_depth levels of DM_LEVEL_OCTETS
- * each, at most DM_MAX_DEPTH of them. What is written to may be uninitialised.
+ * not overlap anything else that is passed; and the stack has the capacity for max_depth levels of
+ * DM_LEVEL_OCTETS each, at most DM_MAX_DEPTH of them. What is written to may be uninitialised.
  *
  * Offsets (`place`) are numbers of octets from the start of the input. */
 #ifndef DUMAREWHI_H
@@ -27,7 +27,7 @@ typedef struct dm_element {
     size_t inside;       /* how many of the elements that follow are inside this one, at any depth */
     uint32_t number;     /* the tag number */
     uint8_t tag_class;   /* one of enum dm_class */
-    uint8_t constructed; /* 1 if the content octets are elements, else 0 */
+    uint8_t constructed; /* the constructed bit (8.1.2.5), 0 or 1. BER also takes it in INTEGER and NULL */
     uint8_t definite;    /* 1 if the length is definite (8.1.3.3), 0 if it is indefinite (8.1.3.6) */
     uint8_t reserved;    /* 0 */
 } dm_element;
@@ -36,15 +36,15 @@ enum dm_class { DM_UNIVERSAL = 0, DM_APPLICATION = 1, DM_CONTEXT_SPECIFIC = 2, D
 
 /* What a call found. */
 enum dm_status {
-    DM_OK = 0,         /* the input begins with an element */
+    DM_OK = 0,         /* the input begins with an element (of dm_write_der: it is elements) */
     DM_ERROR = 1,      /* a prefix of the input breaks a rule, whatever follows (of dm_write_der: see there) */
     DM_INCOMPLETE = 2, /* the input is cut short: more octets may complete it */
-    DM_NO_ROOM = 3     /* dm_write_der: the buffer is too small */
+    DM_NO_ROOM = 3     /* dm_write_der: the buffer's capacity is too small */
 };
 
 /* Fields that the status does not name are 0. */
 typedef struct dm_outcome {
-    size_t elements; /* DM_OK: how many elements there are, even if the buffer has room for fewer */
+    size_t elements; /* DM_OK: how many elements there are, even if the buffer holds fewer */
     size_t length;   /* DM_OK: how many octets they have; what follows is left. DM_NO_ROOM: how many are needed */
     size_t place;    /* DM_ERROR: where the innermost element begins that breaks the rule */
     size_t missing;  /* DM_INCOMPLETE: how many octets are missing, as far as the input shows. dm_parse_der and
@@ -60,10 +60,10 @@ typedef struct dm_outcome {
 /* How many octets of the stack a level takes at most. This is measured, and no proof says it. */
 #define DM_LEVEL_OCTETS 1024
 
-/* Lists the first element of the input and those inside it in preorder, by DER or by BER. The first `room`
- * of them are written to the buffer, and the call reads on: with room 0 it counts. An element of another
- * class than universal is listed, and nothing inside it: call again with its content. With another status
- * than DM_OK the buffer's contents are unspecified. Returns the status. */
+/* Lists the first element of the input and those inside it in preorder, by DER or by BER. `room` is the buffer's
+ * capacity: the first elements that fit are written, and the call reads on. With 0 it counts. An element of another
+ * class than universal is listed, and nothing inside it: call again with its content. With another status than
+ * DM_OK the buffer's contents are unspecified. Returns the status. */
 uint32_t dm_parse_der(const uint8_t *input, size_t length, size_t max_depth, dm_element *elements, size_t room,
                       dm_outcome *outcome);
 uint32_t dm_parse_ber(const uint8_t *input, size_t length, size_t max_depth, dm_element *elements, size_t room,
@@ -88,11 +88,11 @@ uint32_t dm_first_ber(const uint8_t *input, size_t length, dm_element *element, 
  *
  * With DM_OK the first `length` octets of the buffer are elements of DER, and `elements` is 0. Each element but the
  * parts of a string keeps its class, number, depth, position in the order, and value. This is proved. With DM_NO_ROOM
- * call again with `length` octets of room: until then a value may still be an error. With room 0 the call counts. A
+ * call again with a capacity of `length` octets: until then a value may still be an error. With 0 the call counts. A
  * value that only DER refuses is reported after all that BER refuses, so octets that follow may change a DM_ERROR. With
  * another status than DM_OK the buffer's contents are unspecified.
- * Elements that are DER already are copied. The stack has to have room for DM_WRITE_DEPTH levels of DM_LEVEL_OCTETS
- * each. Returns the status. */
+ * Elements that are DER already are copied. The stack has to have the capacity for DM_WRITE_DEPTH levels of
+ * DM_LEVEL_OCTETS each. Returns the status. */
 uint32_t dm_write_der(const uint8_t *input, size_t length, uint8_t *out, size_t room, dm_outcome *outcome);
 
 #define DM_WRITE_DEPTH 101
@@ -138,7 +138,8 @@ enum dm_error {
     DM_ERROR_NOT_DER = 52
 };
 
-/* Writes the first `room` octets of the text of an error, without a 0 after it. Returns the length of the text. */
+/* Writes the text of an error, without a 0 after it: its first `room` octets, if it is longer. Returns the length
+ * of the whole text. The texts are tested, not proved. */
 size_t dm_error_text(uint32_t error, uint8_t *text, size_t room);
 
 /* Values of content octets. Each returns 0 and writes the value, or returns the number of an error (one of
@@ -151,9 +152,10 @@ uint32_t dm_read_u64(const uint8_t *content, size_t length, uint64_t *value);
 /* A BOOLEAN (8.2): 0 or 1. */
 uint32_t dm_read_bool(const uint8_t *content, size_t length, uint8_t *value);
 
-/* An OBJECT IDENTIFIER (8.19) as arcs with points, such as 2.5.4.3. Writes the first `room` octets of the text,
- * without a 0 after it, and its length to `needed`. No octets have no arcs, and an empty text. An error if a
- * subidentifier has no last octet, or ten octets or more. */
+/* An OBJECT IDENTIFIER (8.19) as arcs with points, such as 2.5.4.3. Writes the text without a 0 after it: its first
+ * `room` octets, if it is longer. Writes the length of the whole text to `needed`. No octets have no arcs, and an
+ * empty text. A padded arc (8.19.2) is taken. An error if a subidentifier has no last octet, or ten octets or
+ * more. */
 uint32_t dm_read_oid(const uint8_t *content, size_t length, uint8_t *text, size_t room, size_t *needed);
 
 /* Whether the octets are a text of the string type with this tag number (8.23). In their character sets: 18
@@ -178,6 +180,7 @@ typedef struct dm_time {
 
 enum dm_zone { DM_LOCAL = 0, DM_UTC = 1, DM_OFFSET = 2 };
 
+/* The time that the octets spell, of the type with this tag number, 23 or 24. Any other number is an error. */
 uint32_t dm_read_time(uint32_t number, const uint8_t *content, size_t length, dm_time *time);
 
 #ifdef __cplusplus

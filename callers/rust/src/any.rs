@@ -47,7 +47,7 @@ impl<'a> Any<'a> {
         Ok(any)
     }
 
-    /// The element at its place in an input that begins at `base` of the outermost one.
+    /// The element at its offset in an input that begins at `base` of the outermost one.
     pub(crate) fn new(input: &'a [u8], element: &Element, base: usize, rules: Rules) -> Any<'a> {
         Any {
             tag: element.tag(),
@@ -75,7 +75,7 @@ impl<'a> Any<'a> {
         self.tag.class
     }
 
-    /// Whether the content octets are elements (X.690 8.1.2.5).
+    /// Whether it is constructed, by its identifier octets (X.690 8.1.2.5).
     pub fn is_constructed(&self) -> bool {
         self.constructed
     }

@@ -1,4 +1,4 @@
-//! Elements in a buffer of the caller's, without memory.
+//! Elements in a buffer of the caller's, without allocating.
 use crate::error::{ErrorKind, Reason, Result};
 use crate::ffi::{self, Element, Outcome};
 use crate::{Class, Error, Tag};
@@ -7,7 +7,7 @@ use core::ops::Range;
 /// How deep SEQUENCE and SET may nest, unless [`Rules::with_max_depth`] changes it.
 pub const DEFAULT_DEPTH: usize = 50;
 
-/// A deeper limit is taken as this one. A level takes 1024 octets of the stack at most, which is measured.
+/// Larger values are clamped to this one. A level takes 1024 octets of the stack at most, which is measured.
 pub const MAX_DEPTH: usize = ffi::MAX_DEPTH;
 
 /// The rules of an encoding, and how deep SEQUENCE and SET may nest.
@@ -53,8 +53,8 @@ impl Rules {
         max_depth: DEFAULT_DEPTH,
     };
 
-    /// The same rules with another depth: 1 allows a SEQUENCE without elements. More than [`MAX_DEPTH`] is taken
-    /// as that.
+    /// The same rules with another depth: 1 allows a SEQUENCE without elements. Larger values than [`MAX_DEPTH`]
+    /// are clamped to it.
     pub const fn with_max_depth(self, max_depth: usize) -> Rules {
         Rules {
             der: self.der,
@@ -78,8 +78,8 @@ impl Rules {
     }
 
     /// Lists the first element and those inside it in preorder. The first of them are written to the buffer,
-    /// as many as it has room for. [`Found::elements`] is how many there are, room or not. After an error, the
-    /// buffer may have changed.
+    /// as many as fit. [`Found::elements`] is how many there are, also if fewer fit. After an error, the
+    /// buffer's contents are unspecified.
     pub fn list(self, input: &[u8], elements: &mut [Element]) -> Result<Found> {
         self.found(ffi::list(self.der, input, self.max_depth, elements), input)
     }
@@ -195,7 +195,7 @@ pub fn check_ber(input: &[u8]) -> Result<usize> {
 }
 
 /// Lists the one element that the input is in DER and those inside it, in preorder. The first of them are
-/// written to the buffer, as many as it has room for. Returns how many there are, room or not.
+/// written to the buffer, as many as fit. Returns how many there are, also if fewer fit.
 ///
 /// ```
 /// use dumarewhi::{check_der, list_der, Element};
@@ -236,7 +236,7 @@ impl Element {
         }
     }
 
-    /// Whether its content octets are elements (X.690 8.1.2.5).
+    /// Whether it is constructed, by its identifier octets (X.690 8.1.2.5).
     pub fn is_constructed(&self) -> bool {
         self.constructed != 0
     }

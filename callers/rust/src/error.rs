@@ -42,7 +42,7 @@ pub enum ErrorKind {
         /// How many octets are missing in the content.
         missing: usize,
     },
-    /// Octets follow where the input, or the content of an element, should end.
+    /// There is trailing data where the input, or the content of an element, should end.
     TrailingData,
     /// The content of an element ends where another element is expected in it.
     MissingElement,
@@ -66,7 +66,7 @@ pub enum ErrorKind {
     },
     /// There is no memory for the elements.
     OutOfMemory,
-    /// A refusal of the caller's own.
+    /// An error of the caller's own.
     Other(&'static str),
 }
 
@@ -86,7 +86,7 @@ pub struct Reason(pub(crate) u32);
 pub type Result<T, E = Error> = core::result::Result<T, E>;
 
 impl Error {
-    /// An error at this offset. A caller makes its own refusals with [`ErrorKind::Other`].
+    /// An error at this offset. A caller makes its own errors with [`ErrorKind::Other`].
     ///
     /// ```
     /// use dumarewhi::{Error, ErrorKind};

@@ -4,10 +4,10 @@
 #[cfg(feature = "alloc")]
 use alloc::vec::Vec;
 
-/// The place of one element in an input, and its identifier octets (X.690 8.1.2).
+/// The offsets of one element in an input, and its identifier octets (X.690 8.1.2).
 ///
 /// [`list_der`](crate::list_der) writes elements to a buffer. A default one is only there to make that
-/// buffer: it is an empty place at the start.
+/// buffer: it has no octets, at offset 0.
 ///
 /// ```
 /// use dumarewhi::{list_der, Element, Tag};
@@ -109,7 +109,7 @@ extern "C" {
 
 // Each call below passes the pointer and length of a slice, or the pointer of a reference: never null,
 // aligned, and valid for that length. What is written is borrowed by `&mut`, so nothing else that is passed
-// overlaps it. The depth is at most MAX_DEPTH, as the callee takes a greater one as that.
+// overlaps it. The depth is at most MAX_DEPTH, as the callee clamps larger values to it.
 
 fn parse_call(der: bool) -> Parse {
     if der {
@@ -142,7 +142,7 @@ pub(crate) fn list_in_vec(der: bool, input: &[u8], max_depth: usize, elements: &
     elements.clear();
     let room = elements.capacity();
     let mut outcome = Outcome::default();
-    // SAFETY: see above. The vector owns room for `capacity` elements, and the callee only writes there. If
+    // SAFETY: see above. The vector owns memory for `capacity` elements, and the callee only writes there. If
     // it returns OK, it has written the first `room` of them, so these are initialized.
     unsafe {
         parse_call(der)(

@@ -18,17 +18,18 @@
 //! | read a whole input, and look at its elements | [`Tree`], [`Node`] |
 //! | read the fields of a type, one after the other | [`Reader`] |
 //! | take input in pieces, as from a socket | [`Buffer`] |
-//! | check, list or count without memory | [`check_der`], [`list_der`], [`Rules`] |
+//! | check, list or count without allocating | [`check_der`], [`list_der`], [`Rules`] |
 //! | read one element | [`Any`] |
 //! | write BER as DER | [`write_der`], [`to_der`] |
 //!
 //! # What is proved
 //!
 //! The work is done by `libdumarewhi_c.a`, which is written in Rattle and proved: which inputs it reads, which
-//! elements it lists and where, which error it reports, and which values it gives, and that what it writes is DER.
-//! Its header `dumarewhi.h` has the calls. This crate passes slices to them, and makes safe types of what they return.
+//! elements it lists and where, which error a reader reports, which values it gives, and that what it writes is DER
+//! with the values of the input. The texts of errors are tested. Its header `dumarewhi.h` has the calls. This crate
+//! passes slices to them, and makes safe types of what they return.
 //!
-//! It computes little itself: slices of the input by the places that are listed, the steps from an element to
+//! It computes little itself: slices of the input by the offsets that are listed, the steps from an element to
 //! the next, the split of a BIT STRING's first octet, what is kept of an input that comes in pieces, and the
 //! header of the copy that [`Reader::implicit`] checks. That is tested, and not proved.
 //!
@@ -37,7 +38,7 @@
 //! - An element of another class than universal, as `[0]`, is kept as octets: nothing looks inside it until
 //!   [`Node::parse_content`], [`Any::reader`] or [`Reader::tagged`] does.
 //! - Rules that need the ASN.1 type aren't checked: the order of a SET, default values, named bits.
-//! - The parts of a string that is constructed aren't joined.
+//! - Readers don't join the parts of a constructed string. [`write_der`] does.
 //! - An error of an input that is cut short counts the octets that are missing, by BER and by DER. In
 //!   `dm_parse_der` and in der-parser, it is the whole length of a content by DER.
 //! - SEQUENCE and SET nest to [`DEFAULT_DEPTH`], or to [`MAX_DEPTH`] at most: [`Rules::with_max_depth`].

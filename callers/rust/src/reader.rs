@@ -7,8 +7,9 @@ use crate::{Any, Class, Element, Error, Tag};
 /// Reads the fields of a type, one after the other.
 ///
 /// Each call reads the next element, checks it with all that is inside it, and compares its tag. After an
-/// error the reader is where it was. A reader doesn't allocate, and keeps no list. What is inside a SEQUENCE or a
-/// SET is checked with it, so when its fields are read, only their headers are read once more.
+/// error the reader is where it was. A reader keeps no list, and allocates in [`implicit`](Reader::implicit) alone.
+/// What is inside a SEQUENCE or a SET is checked with it, so when its fields are read, only their headers are read
+/// once more.
 ///
 /// ```
 /// use dumarewhi::{Reader, Tag};
@@ -360,8 +361,8 @@ impl<'a> Reader<'a> {
 /// How many octets an element has whose length has the short form (X.690 8.1.3.4).
 const SHORT: usize = 2 + 127;
 
-/// Checks an element as one of the universal type that its tag is set to: a copy of its content, with that
-/// tag in front of it.
+/// Checks an element as one of the universal type that its tag is set to: a copy of its content after a header with
+/// that tag.
 fn check_as(any: &Any<'_>) -> Result<()> {
     let number = match any.tag() {
         Tag {

@@ -11,7 +11,7 @@ use core::ops::Range;
 
 /// An element and those inside it, over the input that it was read from.
 ///
-/// The tree is a list of places, of 40 octets for each element. An element has two octets at least.
+/// The tree is a list of offsets, with 40 octets for each element. An element has two octets at least.
 ///
 /// ```
 /// use dumarewhi::{Tag, Tree};
@@ -69,12 +69,12 @@ impl<'a> Tree<'a> {
         self.elements.len()
     }
 
-    /// The places of all elements in preorder.
+    /// The offsets and tags of all elements in preorder.
     pub fn elements(&self) -> &[Element] {
         &self.elements
     }
 
-    /// The list of places, for [`Rules::parse_with`].
+    /// The list of elements, for [`Rules::parse_with`].
     pub fn into_elements(self) -> Vec<Element> {
         self.elements
     }
@@ -144,7 +144,7 @@ fn likely_elements(input: &[u8]) -> usize {
     (likely_length(input) / 3 + 2).min(1 << 16)
 }
 
-/// How many octets the first element is likely to have after its header. What follows it needs no room.
+/// How many octets the first element is likely to have after its header. What follows it needs no memory.
 fn likely_length(input: &[u8]) -> usize {
     let length = match *input {
         [_, length @ 0..=0x7f, ..] => usize::from(length),
@@ -241,7 +241,7 @@ impl<'t, 'a> Node<'t, 'a> {
         self.tag().class
     }
 
-    /// Whether the content octets are elements (X.690 8.1.2.5).
+    /// Whether it is constructed, by its identifier octets (X.690 8.1.2.5).
     pub fn is_constructed(&self) -> bool {
         self.element().is_constructed()
     }

@@ -65,7 +65,7 @@ impl<'a> ObjectIdentifier<'a> {
         self.0
     }
 
-    /// What the function makes of the text, if there is room to write it: without the feature `alloc`, only a
+    /// What the function makes of the text, if there is memory to write it: without the feature `alloc`, only a
     /// text of at most 256 octets has it.
     fn with_text<T>(self, function: impl FnOnce(&str) -> T) -> Option<T> {
         let mut short = [0; SHORT_TEXT];
