@@ -5,7 +5,7 @@
  *
  * The caller owes this, and nothing checks it: each pointer may be read or written for the length that is
  * passed beside it, is aligned for its type and is not NULL, not even with length 0; what is written does
- * not overlap anything else that is passed; and the stack has the capacity for max_depth levels of
+ * not overlap anything else that is passed; and the stack has space for max_depth levels of
  * DM_LEVEL_OCTETS each, at most DM_MAX_DEPTH of them. What is written to may be uninitialised.
  *
  * Offsets (`place`) are numbers of octets from the start of the input. */
@@ -88,10 +88,10 @@ uint32_t dm_first_ber(const uint8_t *input, size_t length, dm_element *element, 
  *
  * With DM_OK the first `length` octets of the buffer are elements of DER, and `elements` is 0. Each element but the
  * parts of a string keeps its class, number, depth, position in the order, and value. This is proved. With DM_NO_ROOM
- * call again with a capacity of `length` octets: until then a value may still be an error. With 0 the call counts. A
- * value that only DER refuses is reported after all that BER refuses, so octets that follow may change a DM_ERROR. With
- * another status than DM_OK the buffer's contents are unspecified.
- * Elements that are DER already are copied. The stack has to have the capacity for DM_WRITE_DEPTH levels of
+ * call again with a capacity of `length` octets. With 0 the call counts. An error is the first fault of the input,
+ * whatever follows and whatever the capacity; only the content of a string in parts is checked last, and only if there
+ * is room. With another status than DM_OK the buffer's contents are unspecified.
+ * Elements that are DER already are copied. The stack has to have space for DM_WRITE_DEPTH levels of
  * DM_LEVEL_OCTETS each. Returns the status. */
 uint32_t dm_write_der(const uint8_t *input, size_t length, uint8_t *out, size_t room, dm_outcome *outcome);
 
