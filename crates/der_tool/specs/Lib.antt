@@ -1,1 +1,4 @@
+pub mod Arguments
+pub mod Inputs
+pub mod Labels
 pub mod Outputs

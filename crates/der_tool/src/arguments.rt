@@ -1,4 +1,10 @@
 //! The arguments.
+ghost use Rattle.std.specs.Prelude.{◌≡◌, ◌≢◌, ◌⊎◌, IfSome, Some, false};
+ghost use Rattle.der_input.specs.declared.form.Form.{Form};
+ghost use Rattle.der_tool.specs.Arguments.{action_word, form_word};
+ghost use Rattle.der_tool.specs.declared.options.Action.{Action};
+ghost use Rattle.der_base.specs.declared.rules.Rules.{Rules};
+
 use crate::options::{Action, Options};
 use clap::{Arg, ArgAction, ArgMatches, Command, Error};
 use der_input::Form;
@@ -112,7 +118,13 @@ fn files<'a>(alloc: Global) -> Arg<'a> {
 }
 
 /// What the arguments after a subcommand ask for. The style of lines is that of the terminal.
-pub(crate) fn options_of(action: Action, matches: &ArgMatches<'_>, terminal: Style) -> Options {
+pub(crate) fn options_of(action: Action, matches: &ArgMatches<'_>, terminal: Style) -> Options
+    ensures action { result.action ≡ action }
+    ensures rules { action ≡ Action.Canon → result.rules ≡ Rules.Ber }
+    ensures strings { (action ≡ Action.Check) ⊎ (action ≡ Action.Canon) → result.enters_strings ≡ false }
+    ensures limit { action ≢ Action.Tree → result.style.limit ≡ terminal.limit }
+    ensures colours { action ≡ Action.Tree → result.style.colours ≡ terminal.colours }
+{
     let rules = match action {
         Action::Check if !matches.get_flag("ber") => Rules::Der,
         Action::Tree | Action::Json if matches.get_flag("der") => Rules::Der,
@@ -147,7 +159,9 @@ fn has_several_files(matches: &ArgMatches<'_>) -> bool {
 }
 
 /// The action of a subcommand.
-pub(crate) fn action_named(word: &str) -> Action {
+pub(crate) fn action_named(word: &str) -> Action
+    ensures { (action : Action) → word.now ≡ action_word action → result ≡ action }
+{
     match word {
         "check" => Action::Check,
         "canon" => Action::Canon,
@@ -156,7 +170,11 @@ pub(crate) fn action_named(word: &str) -> Action {
     }
 }
 
-fn form_named(word: &str) -> Option<Form> {
+/// The form with this name.
+fn form_named(word: &str) -> Option<Form>
+    ensures found { (form : Form) → word.now ≡ form_word form → result ≡ Some form }
+    ensures only { IfSome result (λ form. word.now ≡ form_word form) }
+{
     match word {
         "der" => Some(Form::Der),
         "pem" => Some(Form::Pem),

@@ -2,10 +2,10 @@
 ghost use Rattle.std.specs.Prelude.{◌≡◌, IfOk, IsTrue, None};
 ghost use Rattle.der_tool.specs.Outputs.{WritesDer};
 
+use crate::label::Label;
 use crate::origin::Origin;
 use crate::report::report_place;
 use base64::engine::general_purpose::STANDARD;
-use bstr::ByteSlice;
 use der_canon::{CanonError, canonical};
 use std::alloc::Global;
 use std::io;
@@ -45,7 +45,7 @@ pub(crate) fn write_canonical<W: Write, X: Write>(
 
 /// Writes octets as a block of PEM (RFC 7468).
 fn write_pem<W: Write>(alloc: Global, label: &[u8], octets: &[u8], out: &mut W) -> io::Result<()> {
-    let label = label.escape_ascii();
+    let label = Label(label);
     let text = STANDARD.encode(alloc, octets)?;
     writeln!(out, "-----BEGIN {label}-----")?;
     for line in text.as_bytes().chunks(LINE) {

@@ -1,8 +1,11 @@
 //! The elements of an input as lines of JSON.
+ghost use Rattle.std.specs.Prelude.{◌≡◌};
+ghost use Rattle.der_tool.specs.Arguments.{class_word};
+
+use crate::label::Label;
 use crate::options::Options;
 use crate::origin::Origin;
 use crate::report::report;
-use bstr::ByteSlice;
 use der_base::header::Class;
 use der_base::integer::{read_i64, read_u64};
 use der_names::name_of;
@@ -121,14 +124,17 @@ fn block_in(
 ) -> Result<(Option<usize>, Option<String>), AllocError> {
     match origin.block {
         Some(block) => {
-            let label = format!(in alloc; "{}", block.label.escape_ascii())?;
+            let label = format!(in alloc; "{}", Label(block.label))?;
             Ok((Some(block.number), Some(label)))
         }
         None => Ok((None, None)),
     }
 }
 
-fn class_name(class: Class) -> &'static str {
+/// The word of a class.
+fn class_name(class: Class) -> &'static str
+    ensures { result.now ≡ class_word class }
+{
     match class {
         Class::Universal => "universal",
         Class::Application => "application",

@@ -4,6 +4,7 @@
 mod arguments;
 mod canon;
 mod json;
+mod label;
 pub mod options;
 mod origin;
 mod report;

@@ -1,5 +1,5 @@
 //! Where octets are from.
-use bstr::ByteSlice;
+use crate::label::Label;
 use std::fmt;
 
 /// Where octets are from: a file, or a block of PEM in it.
@@ -26,7 +26,7 @@ impl fmt::Display for Origin<'_> {
         match self.block {
             Some(block) => {
                 let number = block.number;
-                let label = block.label.escape_ascii();
+                let label = Label(block.label);
                 write!(f, "{name}, block {number} ({label})")
             }
             None => write!(f, "{name}"),

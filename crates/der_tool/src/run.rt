@@ -1,20 +1,22 @@
 //! What is done with an input.
-ghost use Rattle.std.specs.Prelude.{◌≡◌, ◌↔◌, IfOk, IsTrue, None, Some, false};
+ghost use Rattle.std.specs.Prelude.{◌≡◌, ◌<◌, ◌↔◌, ℕ, IfOk, IsOkAnd, IsTrue, None, Ok, OnOk, Some, false};
 ghost use Rattle.std.specs.Io.KnownBytes.{Keeps};
 ghost use Rattle.der_check.specs.Elements.{AreElements};
 ghost use Rattle.der_input.specs.declared.form.Form.{Form};
-ghost use Rattle.der_tool.specs.Outputs.{Writes};
+ghost use Rattle.der_input.specs.Blocks.{label_of, lines_of};
+ghost use Rattle.der_tool.specs.Inputs.{IsFormOf, ReadsBlock, ReadsBlocks, ReadsInput};
+ghost use Rattle.der_tool.specs.Outputs.{Writes, WritesHeading, WritesInside};
 ghost use Rattle.der_tool.specs.declared.options.Action.{Action};
 
 use crate::canon::write_canonical;
 use crate::json::print_json;
+use crate::label::Label;
 use crate::options::{Action, Options};
 use crate::origin::{BlockName, Origin};
 use crate::report::{refuse_form, report_first};
 use crate::tree::print_tree;
-use bstr::ByteSlice;
 use der_check::are_elements;
-use der_input::{Form, FormError, decode_base64, decode_hex, form_of, next_block};
+use der_input::{Block, Form, FormError, decode_base64, decode_hex, form_of, next_block};
 use der_walk::MAX_DEPTH;
 use std::alloc::Global;
 use std::io;
@@ -32,22 +34,50 @@ pub fn run<W: Write, X: Write>(
 ) -> io::Result<bool>
     ensures checked { options.now.action ≡ Action.Check → options.now.form ≡ Some Form.Der
         → IfOk result (λ ok. IsTrue ok ↔ AreElements options.now.rules 101 input.now) }
-    ensures written { options.now.form ≡ Some Form.Der → options.now.has_several_files ≡ false
-        → IfOk result (λ ok. IsTrue ok
-        → Writes options.now.action options.now input.now (W.contents out.old) (W.contents out.new)) }
+    ensures read { options.now.has_several_files ≡ false → IfOk result (λ ok. IsTrue ok
+        → ReadsInput options.now name.now input.now (W.contents out.old) (W.contents out.new)) }
 {
-    let form = match options.form {
+    match form_in(options.form, input) {
+        Ok(Form::Der) => act_on_file(alloc, options, name, input, out, err),
+        Ok(Form::Pem) => act_on_blocks(alloc, options, name, input, out, err),
+        Ok(Form::Hex) => act_on_decoded(options, name, decode_hex(alloc, input), alloc, out, err),
+        Ok(Form::Base64) => act_on_decoded(
+            options,
+            name,
+            decode_base64(alloc, input),
+            alloc,
+            out,
+            err,
+        ),
+        Err(e) => refuse_file(options, name, e, out, err),
+    }
+}
+
+/// How an input is written: as is asked for, or as a look at it finds.
+fn form_in(asked: Option<Form>, input: &[u8]) -> Result<Form, FormError>
+    ensures found { IfOk result (IsFormOf asked input.now) }
+    ensures asked { (form : Form) → asked ≡ Some form → result ≡ Ok form }
+{
+    match asked {
         Some(form) => Ok(form),
         None => form_of(input),
-    };
-    let octets = match form {
-        Ok(Form::Der) => return act_on_file(alloc, options, name, input, out, err),
-        Ok(Form::Pem) => return act_on_blocks(alloc, options, name, input, out, err),
-        Ok(Form::Hex) => decode_hex(alloc, input),
-        Ok(Form::Base64) => decode_base64(alloc, input),
-        Err(e) => Err(e),
-    };
-    match octets {
+    }
+}
+
+/// Does it with octets that are decoded, or reports why they aren't.
+fn act_on_decoded<W: Write, X: Write>(
+    options: &Options,
+    name: &str,
+    decoded: Result<Vec<u8>, FormError>,
+    alloc: Global,
+    out: &mut W,
+    err: &mut X,
+) -> io::Result<bool>
+    ensures { options.now.has_several_files ≡ false → IfOk result (λ ok. IsTrue ok
+        → IsOkAnd decoded (λ v. Writes options.now.action options.now v.items
+        (W.contents out.old) (W.contents out.new))) }
+{
+    match decoded {
         Ok(octets) => act_on_file(alloc, options, name, &octets, out, err),
         Err(e) => refuse_file(options, name, e, out, err),
     }
@@ -102,6 +132,8 @@ fn act<W: Write, X: Write>(
         → IfOk result (λ ok. IsTrue ok ↔ AreElements options.now.rules 101 octets.now) }
     ensures written { origin.entry.block ≡ None → IfOk result (λ ok. IsTrue ok
         → Writes options.now.action options.now octets.now (W.contents out.old) (W.contents out.new)) }
+    ensures inside { IfOk result (λ ok. IsTrue ok
+        → WritesInside options.now.action options.now octets.now (W.contents out.old) (W.contents out.new)) }
 {
     match options.action {
         Action::Check => check(options, origin, octets, out),
@@ -128,7 +160,7 @@ fn check<W: Write>(
     Ok(false)
 }
 
-/// Does it with the blocks of a text in PEM. The tree of each follows its label.
+/// Does it with the blocks of a text in PEM.
 fn act_on_blocks<W: Write, X: Write>(
     alloc: Global,
     options: &Options,
@@ -136,36 +168,64 @@ fn act_on_blocks<W: Write, X: Write>(
     text: &[u8],
     out: &mut W,
     err: &mut X,
-) -> io::Result<bool> {
+) -> io::Result<bool>
+    ensures { IfOk result (λ ok. IsTrue ok → (n : ℕ) × (0 < n)
+        × ReadsBlocks options.now name.now n text.now (W.contents out.old) (W.contents out.new)) }
+{
     let mut rest = text;
     let mut are_read = true;
-    // A block has an octet at least, so the loop ends after the last one.
-    for before in 0..text.len() {
+    // A block has an octet at least, so the loop ends at the end of the text.
+    for before in 0..=text.len() {
         match next_block(rest) {
             Ok(Some((block, after))) => {
-                rest = after;
-                let label = block.label;
-                if options.action == Action::Tree {
-                    writeln!(out, "{name}: {}", label.escape_ascii())?;
-                }
-                let number = before + 1;
-                let block_name = Some(BlockName { number, label });
-                let origin = Origin {
-                    name,
-                    block: block_name,
-                };
-                let is_read = match block.decode(alloc) {
-                    Ok(octets) => act(alloc, options, origin, &octets, out, err)?,
-                    Err(e) => refuse_form(options, origin, e, out, err)?,
-                };
+                let is_read = act_on_block(alloc, options, name, before, &block, out, err)?;
                 are_read = are_read && is_read;
+                rest = after;
             }
             Ok(None) if before > 0 => return Ok(are_read),
             Ok(None) => return refuse_file(options, name, FormError::NoBlock, out, err),
             Err(e) => return refuse_file(options, name, e, out, err),
         }
     }
-    Ok(are_read)
+    Ok(false)
+}
+
+/// Does it with a block that so many are before. The tree of a block follows its label.
+fn act_on_block<W: Write, X: Write>(
+    alloc: Global,
+    options: &Options,
+    name: &str,
+    before: usize,
+    block: &Block<'_>,
+    out: &mut W,
+    err: &mut X,
+) -> io::Result<bool>
+    ensures { IfOk result (λ ok. IsTrue ok → ReadsBlock options.now name.now (label_of block.now) (lines_of block.now)
+        (W.contents out.old) (W.contents out.new)) }
+{
+    let label = block.label;
+    write_label(options, name, label, out)?;
+    let number = before.saturating_add(1);
+    let block_name = Some(BlockName { number, label });
+    let origin = Origin {
+        name,
+        block: block_name,
+    };
+    match block.decode(alloc) {
+        Ok(octets) => act(alloc, options, origin, &octets, out, err),
+        Err(e) => refuse_form(options, origin, e, out, err),
+    }
+}
+
+/// Writes the name of a file and the label of a block, before its tree.
+fn write_label<W: Write>(options: &Options, name: &str, label: &[u8], out: &mut W) -> io::Result<()>
+    ensures { OnOk result (WritesHeading options.now.action name.now label.now
+        (W.contents out.old) (W.contents out.new)) }
+{
+    match options.action {
+        Action::Tree => writeln!(out, "{name}: {}", Label(label)),
+        Action::Check | Action::Json | Action::Canon => Ok(()),
+    }
 }
 
 /// Reports a file whose octets aren't found.

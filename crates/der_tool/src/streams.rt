@@ -1,4 +1,6 @@
 //! The program between its streams.
+ghost use Rattle.std.specs.Prelude.{◌≡◌, false};
+
 use crate::arguments::{action_named, command, options_of};
 use crate::options::Options;
 use crate::run::run;
@@ -69,7 +71,10 @@ fn start<R: Env + Files + AllocGlobal, I: Read + Drop, W: Write + Drop, X: Write
 }
 
 /// How lines are written: on a terminal in colours, unless `NO_COLOR` is set, and as wide as `COLUMNS` says.
-fn style_of<R: Env + AllocGlobal>(rt: &R, is_terminal: bool) -> Style {
+fn style_of<R: Env + AllocGlobal>(rt: &R, is_terminal: bool) -> Style
+    ensures limit { is_terminal ≡ false → result.limit ≡ Limit.Front }
+    ensures colours { is_terminal ≡ false → result.colours ≡ false }
+{
     if !is_terminal {
         return Style {
             limit: Limit::Front,

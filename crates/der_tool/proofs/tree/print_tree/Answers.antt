@@ -8,7 +8,7 @@ pub elements-preserved : goal.elements-preserved
 elements-preserved g c =
     let p = c.elements.invariant.printed in
     let next = rw c.in-Ok-Some.field-0-is at (c.in-Ok-Some.ensures (extras_of c.args.options.now) c.args.options.now.rules c.args.octets.now p.elements p.visited) in
-    record { printed = printed_more _ p next.0 c.in_ok-room-in-Ok-Some.ensures }
+    record { printed = printed_more _ p next.0 next.1 c.in_ok-room-in-Ok-Some.ensures }
 
 pub returns-in-Ok-None : goal.returns-in-Ok-None
 returns-in-Ok-None g c =

@@ -1,0 +1,10 @@
+use Rattle.std.proofs.Common.{◌≡◌, ℕ, ◌+◌, true, Option, List}
+use Rattle.der_tool.specs.Inputs.{ReadsBlocks}
+use Rattle.der_tool.proofs.run.act_on_blocks.Given as goal
+
+-- with the blocks of the rest, those of the text are read
+abbrev pub invariant-loop-before : goal.invariant-loop-before
+invariant-loop-before g l = record {
+  read : l.are_read ≡ true → (n : ℕ) (new : Option (List ℕ)) → ReadsBlocks l.options l.name n l.rest (g.W.Write.contents l.out) new
+      → ReadsBlocks l.options l.name (l.before + n) l.text (g.W.Write.contents l.fn.out) new;
+}

@@ -1,0 +1,18 @@
+-- The labels of blocks as they are printed.
+use Rattle.std.specs.Prelude.{ℕ, ◌==◌, ◌&&◌, nat_le, not, Bool, if◌then◌else◌, List, [], ◌∷◌, ◌++◌, codes}
+use Rattle.std.specs.List.{flat_map}
+use Rattle.der_base.specs.Pretty.{hex_pair}
+
+-- printable ASCII but a backslash
+abbrev pub is_plain : ℕ → Bool
+is_plain c = nat_le 0x20 c && nat_le c 0x7e && not (c == 0x5c)
+
+abbrev pub octet_text : ℕ → List ℕ
+octet_text c = if is_plain c then c ∷ [] else 0x5c ∷ 0x78 ∷ hex_pair c
+
+abbrev pub label_text : List ℕ → List ℕ
+label_text label = flat_map octet_text label
+
+-- the line before the tree of a block, with the name of the input and the label
+abbrev pub heading_text : List ℕ → List ℕ → List ℕ
+heading_text name label = name ++ codes ": " ++ label_text label ++ codes "\n"
