@@ -2,6 +2,7 @@ pub mod AllVisited
 pub mod Causes
 pub mod Contents
 pub mod Copies
+pub mod Costs
 pub mod Forms
 pub mod Joinings
 pub mod OneSize

@@ -17,7 +17,6 @@ use Rattle.der_canon.specs.declared.joined.Joined.{Joined}
 use Rattle.der_canon.specs.declared.piece.Parts.{Parts}
 use Rattle.der_canon.specs.declared.piece.Piece.{Piece}
 use Rattle.der_canon.specs.declared.piece.Pieces.{Pieces}
-use Rattle.der_canon.specs.Errors.{HasRead}
 use Rattle.der_canon.specs.Joined.{HasJoined, IsComplete, TakesPart, contents_in, given}
 use Rattle.der_canon.specs.Pieces.{HasPiece, IsForm, IsWrittenFor, depth_of}
 use Rattle.der_canon.specs.Same.{AreWrittenAs, HasElementsOf, IsHeadedAs, IsPartOf, content_of, contents_of, is_in_parts, is_part, part_number, parts_of, none, one_more, no_extras}
@@ -105,19 +104,19 @@ another i o vs ws s j j' e (some before written parts v w t are free all header 
     (ap (λ z. z ++ u ∷ []) a ∙ append_assoc before (v ∷ parts) (u ∷ [])) b d
 
 pub step : (i o : List ℕ) (vs ws : List Visited) (s : Option Parts) (j j' : Joined) (x : Piece) (p : Pieces) (w w' : Walk) → HasChecked i o vs (depth_of s) ws j
-    → HasRead i (vs ++ visited_of x.element ∷ []) p → HasVisited no_extras Der o w ws → HasOctets i x.element
+    → HasVisited no_extras Der o w ws → HasOctets i x.element
     → IsForm s (visited_of x.element) x.form p.parts → HasPiece x j w w' j'
-    → (us ts : List Visited) × HasRead i us p × HasVisited no_extras Der o w' ts × HasChecked i o us (depth_of p.parts) ts j'
-step i o vs ws s j j' x p w w' a h ho g f (inl (plain, same, takes)) =
+    → (ts : List Visited) × HasVisited no_extras Der o w' ts × HasChecked i o (vs ++ visited_of x.element ∷ []) (depth_of p.parts) ts j'
+step i o vs ws s j j' x p w w' a ho g f (inl (plain, same, takes)) =
     let v = visited_of x.element in
     let e : is_part (depth_of s) v ≡ true = not_false (is_part (depth_of s) v) (sym f.header ∙ plain) in
-    (vs ++ v ∷ [], ws, h, subst (λ k. HasVisited no_extras Der o k ws) (sym same) ho, subst (λ t. HasChecked i o (vs ++ v ∷ []) t ws j') (sym (f.part e)) (another i o vs ws (depth_of s) j j' x.element a e g takes))
-step i o vs ws s j j' x p w w' a h ho g f (inr (headed, element)) =
+    (ws, subst (λ k. HasVisited no_extras Der o k ws) (sym same) ho, subst (λ t. HasChecked i o (vs ++ v ∷ []) t ws j') (sym (f.part e)) (another i o vs ws (depth_of s) j j' x.element a e g takes))
+step i o vs ws s j j' x p w w' a ho g f (inr (headed, element)) =
     let v = visited_of x.element in
     let e : is_part (depth_of s) v ≡ false = not_true (is_part (depth_of s) v) (sym f.header ∙ headed) in
     let q = element.1 o ws ho in
     let u = visited_of q.0 in
-    (vs ++ v ∷ [], ws ++ u ∷ [], h, q.1, subst (λ t. HasChecked i o (vs ++ v ∷ []) t (ws ++ u ∷ []) j') (sym (f.whole e)) (whole i o vs ws (depth_of s) j j' x.element q.0 a element.0 e g q.2 q.3))
+    (ws ++ u ∷ [], q.1, subst (λ t. HasChecked i o (vs ++ v ∷ []) t (ws ++ u ∷ []) j') (sym (f.whole e)) (whole i o vs ws (depth_of s) j j' x.element q.0 a element.0 e g q.2 q.3))
 
 pub both_ok : {T E : Type 0} (r : Result T E) (P Q R : Type 0) → (P → Q → R) → OnOk r P → OnOk r Q → OnOk r R
 both_ok (Ok x) P Q R f h k = f h k

@@ -1,5 +1,5 @@
 -- Why an input isn't written as DER, and where.
-use Rattle.std.specs.Prelude.{◌≡◌, ◌≢◌, ◌↔◌, ◌==◌, ◌<◌, ℕ, ◌⊎◌, true, false, Option}
+use Rattle.std.specs.Prelude.{◌≡◌, ◌≢◌, ◌↔◌, ◌==◌, ◌<◌, ◌≤◌, ◌^◌, ℕ, ◌⊎◌, true, false, Option}
 use Rattle.std.specs.Prelude.{Some, None, List, [], ◌∷◌, ◌++◌, length, Result, Ok, Err, MatchResult}
 use Rattle.std.specs.Option.{option_to_list}
 use Rattle.der_base.specs.declared.rules.Rules.TheVariants.{Ber}
@@ -102,12 +102,11 @@ IsAll e = (e.offset ≡ 0) × (e.cause ≡ NotDer)
 abbrev pub AllHaveDer : List ℕ → Type 0
 AllHaveDer i = (vs : List Visited) × Visits no_extras Ber 101 0 0 i vs × HaveDer i vs
 
--- DER has too many octets for i to count them, after the elements `before`. It says no offset.
+-- DER has too many octets for i to count them. Each element has at most ten times as many in DER, so that i has 2^60
+-- octets or more. It says no offset.
 pub record IsTooLarge (i : List ℕ) (e : NotCanonical) : Type 0 where
-  pub before : List Visited
-  pub walk : Walk
-  pub visited : HasVisited no_extras Ber i walk before
-  pub have : HaveDer i before
+  pub have : AllHaveDer i
+  pub many : 2 ^ 60 ≤ length i
   pub cause : e.cause ≡ NotDer
   pub offset : e.offset ≡ 0
 

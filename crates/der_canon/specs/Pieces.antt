@@ -1,7 +1,7 @@
 -- What the private functions find.
 use Rattle.std.specs.Borrow.{Bor}
 use Rattle.std.specs.Prelude.{◌≡◌, Bool, true, false, not, ◌==◌, Option, Some, None}
-use Rattle.std.specs.Prelude.{List, [], ◌∷◌, ◌++◌, Result, Ok, Err, ℕ, ◌⊎◌}
+use Rattle.std.specs.Prelude.{List, [], ◌∷◌, ◌++◌, Result, Ok, Err, ℕ, ◌≤◌, ◌⊎◌}
 use Rattle.der_base.specs.declared.rules.Rules.TheVariants.{Ber, Der}
 use Rattle.der_walk.specs.declared.refusal.Refusal.{Refusal}
 use Rattle.der_walk.specs.Visits.{Visited, Visits}
@@ -35,7 +35,7 @@ pub record IsForm (s : Option Parts) (v : Visited) (form : Form) (s' : Option Pa
 -- one more piece, or the end of the input
 abbrev pub PieceNext : List ℕ → List Visited → Option Parts → Pieces → Result (Option Piece) Refusal → Type 0
 PieceNext i vs s p (Ok (Some x)) = HasVisited no_extras Ber i p.walk (vs ++ visited_of x.element ∷ [])
-    × HasOctets i x.element × IsForm s (visited_of x.element) x.form p.parts
+    × HasOctets i x.element × IsForm s (visited_of x.element) x.form p.parts × (x.element.depth ≤ 100)
 PieceNext i vs s p (Ok None) = Visits no_extras Ber 101 0 0 i vs
 PieceNext i vs s p (Err e) = Unit {0}
 

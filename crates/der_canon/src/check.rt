@@ -27,8 +27,9 @@ pub(crate) fn check_written(octets: &[u8], written: &[u8]) -> Result<(), NotCano
 {
     let mut pieces = Pieces::new(octets);
     let mut checker = Checker::new(written);
-    // An element has an octet at least, so the loop ends at the end of the input.
-    for _ in 0..=octets.len() {
+    let mut read = 0;
+    // An element has two octets at least, so the loop ends at the end of the input.
+    'pieces: while read <= octets.len() {
         match pieces.next_piece() {
             Ok(Some(piece)) => match checker.check_piece(&piece) {
                 Ok(()) => {}
@@ -37,6 +38,7 @@ pub(crate) fn check_written(octets: &[u8], written: &[u8]) -> Result<(), NotCano
             Ok(None) => return checker.check_end(octets.len()),
             Err(refusal) => return Err(pieces.refuse(&refusal)),
         }
+        read += 1;
     }
     Err(refuse_all(&checker.walk))
 }

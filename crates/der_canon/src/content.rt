@@ -1,12 +1,14 @@
 //! The content octets that DER gives a value.
-ghost use Rattle.std.specs.Prelude.{◌≡◌, ◌≢◌, ◌++◌, ◌∷◌, ◌+◌, [], ℕ, length, IfSome, IsTrue, MatchBool, MatchOption};
+ghost use Rattle.std.specs.Prelude.{◌≡◌, ◌≢◌, ◌++◌, ◌∷◌, ◌+◌, ◌≤◌, [], ℕ, length};
+ghost use Rattle.std.specs.Prelude.{IfSome, IsTrue, MatchBool, MatchOption};
 ghost use Rattle.der_base.specs.Leaf.{IsMinimalInteger};
 ghost use Rattle.der_canon.specs.Values.{IsSameBits, IsSameBoolean, IsSameNumber, RepeatsSign};
 ghost use Rattle.der_canon.specs.Values.{boolean_octet, cleared, cleared_octet};
 
 /// The content octets of an INTEGER or ENUMERATED without those that the fewest octets don't have (X.690 8.3.2).
 pub(crate) fn shortest_number(octets: &[u8]) -> &[u8]
-    ensures { octets.now ≢ [] → IsSameNumber octets.now result.now }
+    ensures number { octets.now ≢ [] → IsSameNumber octets.now result.now }
+    ensures most { length result.now ≤ length octets.now }
 {
     let mut shortest = octets;
     for _ in octets {

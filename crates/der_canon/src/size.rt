@@ -1,10 +1,10 @@
 //! How many octets elements have in DER.
 ghost use Rattle.std.specs.Prelude.{◌≡◌, ◌↔◌, ◌+◌, ◌++◌, ◌∷◌, [], IfErr};
-ghost use Rattle.std.specs.Prelude.{IfOk, IfSome, IsTrue, OnOk, OnSome, false, length};
+ghost use Rattle.std.specs.Prelude.{IfOk, IfSome, IsTrue, MatchOption, OnOk, OnSome, false, length, ◌^◌, ◌≤◌};
 ghost use Rattle.der_base.specs.Octets.{shortest_length};
 ghost use Rattle.der_canon.specs.Errors.{AllHaveDer, IsAll, IsErrorOf};
 ghost use Rattle.der_canon.specs.Sizes.{Ends, HasSize, HasValueSize, IsNumber, part_size, start_size, with_length};
-ghost use Rattle.der_canon.specs.Sizing.{AddsElement, AddsPart, AddsPiece};
+ghost use Rattle.der_canon.specs.Sizing.{AddsElement, AddsPart, AddsPiece, ComesTo, IsFound, cost, most};
 ghost use Rattle.der_walk.specs.Walked.{visited_of};
 
 use crate::check::refuse_all;
@@ -27,26 +27,27 @@ pub(crate) fn size_of(octets: &[u8]) -> Result<usize, NotCanonical>
 {
     let mut pieces = Pieces::new(octets);
     let mut sizes = Sizes::new();
-    // An element has an octet at least, so the loop ends at the end of the input.
-    for _ in 0..=octets.len() {
+    // Whether the octets so far can be counted.
+    let mut fits = true;
+    let mut read = 0;
+    // An element has two octets at least, so the loop ends at the end of the input.
+    'pieces: while read <= octets.len() {
         match pieces.next_piece() {
-            Ok(Some(piece)) => match sizes.add(&piece) {
-                Some(()) => {}
-                None => return Err(too_large()),
-            },
+            Ok(Some(piece)) => fits = fits && sizes.add(&piece).is_some(),
             Ok(None) => {
                 return match sizes.total() {
-                    Some(size) => Ok(size),
-                    None => Err(too_large()),
+                    Some(size) if fits => Ok(size),
+                    _ => Err(too_large()),
                 };
             }
             Err(refusal) => return Err(pieces.refuse(&refusal)),
         }
+        read += 1;
     }
     Err(too_large())
 }
 
-/// Refuses elements that have more octets than a slice.
+/// Refuses elements that have more octets in DER than a usize counts.
 fn too_large() -> NotCanonical
     ensures { IsAll result }
 {
@@ -75,7 +76,9 @@ impl Sizes {
 
     /// Adds one more piece.
     fn add(&mut self, piece: &Piece<'_>) -> Option<()>
-        ensures { OnSome result (AddsPiece piece.now self.old self.new) }
+        requires { IsFound piece.now.element }
+        ensures adds { OnSome result (AddsPiece piece.now self.old self.new) }
+        ensures most { ComesTo (most self.old + cost (visited_of piece.now.element)) self.new result }
     {
         if piece.has_header() {
             self.add_element(&piece.element)
@@ -86,7 +89,7 @@ impl Sizes {
 
     /// How many octets there are in all.
     fn total(&mut self) -> Option<usize>
-        ensures { IfSome result
+        ensures { MatchOption result (2 ^ 64 ≤ most self.old)
             (λ n. Ends 0 self.old.around.items self.old.here self.new.around.items n) }
     {
         match self.end(0) {
@@ -97,12 +100,15 @@ impl Sizes {
 
     /// Adds an element with its header.
     fn add_element(&mut self, element: &Element<'_>) -> Option<()>
-        ensures { OnSome result (AddsElement element.now self.old self.new) }
+        requires { IsFound element.now }
+        ensures adds { OnSome result (AddsElement element.now self.old self.new) }
+        ensures most { ComesTo (most self.old + cost (visited_of element.now)) self.new result }
     {
         self.end(element.depth)?;
         self.grow(element.identifier.len())?;
         if element.constructed {
-            return self.begin(start_size(element));
+            self.begin(start_size(element));
+            return Some(());
         }
         let size = with_length(value_size(element, element.content?))?;
         self.grow(size)
@@ -110,7 +116,9 @@ impl Sizes {
 
     /// Adds what a part gives to its string.
     fn add_part(&mut self, element: &Element<'_>) -> Option<()>
-        ensures { OnSome result (AddsPart element.now self.old self.new) }
+        requires { IsFound element.now }
+        ensures adds { OnSome result (AddsPart element.now self.old self.new) }
+        ensures most { ComesTo (most self.old + cost (visited_of element.now)) self.new result }
     {
         if element.constructed {
             return Some(());
@@ -120,8 +128,10 @@ impl Sizes {
 
     /// Ends the contents that have more others around them than this depth.
     fn end(&mut self, depth: usize) -> Option<()>
-        ensures { OnSome result
+        ensures ends { OnSome result
             (Ends depth self.old.around.items self.old.here self.new.around.items self.new.here) }
+        ensures around { OnSome result (length self.new.around.items ≤ depth) }
+        ensures most { ComesTo (most self.old) self.new result }
     {
         'ending: while self.around.len() > depth {
             let outer = self.around.pop()?;
@@ -134,35 +144,35 @@ impl Sizes {
     fn grow(&mut self, octets: usize) -> Option<()>
         ensures around { OnSome result (self.new.around ≡ self.old.around) }
         ensures here { OnSome result (self.new.here ≡ self.old.here + octets) }
+        ensures most { ComesTo (most self.old + octets) self.new result }
     {
         self.here = self.here.checked_add(octets)?;
         Some(())
     }
 
     /// Begins a content inside the innermost, with so many octets.
-    fn begin(&mut self, octets: usize) -> Option<()>
-        ensures around { OnSome result (self.new.around.items ≡ self.old.around.items ++ self.old.here ∷ []) }
-        ensures here { OnSome result (self.new.here ≡ octets) }
+    fn begin(&mut self, octets: usize)
+        requires { length self.old.around.items ≤ 100 }
+        ensures around { self.new.around.items ≡ self.old.around.items ++ self.old.here ∷ [] }
+        ensures here { self.new.here ≡ octets }
     {
-        if self.around.is_full() {
-            return None;
-        }
         self.around.push(self.here);
         self.here = octets;
-        Some(())
     }
 }
 
 /// How many octets a content has with its length octets.
 fn with_length(content: usize) -> Option<usize>
-    ensures { IfSome result (λ n. n ≡ with_length content) }
+    ensures size { IfSome result (λ n. n ≡ with_length content) }
+    ensures most { MatchOption result (2 ^ 64 ≤ content + 9) (λ n. n ≤ content + 9) }
 {
     length_size(content).checked_add(content)
 }
 
 /// How many octets the content of a primitive element has.
 fn value_size(element: &Element<'_>, content: &[u8]) -> usize
-    ensures { HasValueSize element.now.class element.now.number content.now result }
+    ensures size { HasValueSize element.now.class element.now.number content.now result }
+    ensures most { result ≤ length content.now }
 {
     if content.is_empty() {
         return 0;
@@ -183,7 +193,8 @@ fn is_number(element: &Element<'_>) -> bool
 
 /// How many octets a string in parts has before those of its parts: the one of a BIT STRING for its unused bits.
 fn start_size(element: &Element<'_>) -> usize
-    ensures { result ≡ start_size (visited_of element.now) }
+    ensures size { result ≡ start_size (visited_of element.now) }
+    ensures most { result ≤ 1 }
 {
     if is_in_parts(element) && element.number == 3 {
         1
@@ -194,7 +205,8 @@ fn start_size(element: &Element<'_>) -> usize
 
 /// How many octets a primitive part gives to its string.
 fn part_size(number: u32, content: &[u8]) -> usize
-    ensures { result ≡ part_size false number content.now }
+    ensures size { result ≡ part_size false number content.now }
+    ensures most { result ≤ length content.now }
 {
     if number == 3 {
         content.len().saturating_sub(1)

@@ -14,8 +14,14 @@ loop-preserved c =
     let one : length c.loop.shortest.now ≡ suc (length rest) = ap length r.1 in
     (omega (arith, one), same_value r.0 rest r.2 ∙ ap integer_value (sym r.1) ∙ c.loop.invariant.1, λ h. some_of r.0 rest r.2, octets_behind r.0 rest (subst AreOctets r.1 c.loop.invariant.3))
 
-pub returns-in-None : goal.returns-in-None
-returns-in-None c = λ h. record { octets = c.loop.invariant.3; value = c.loop.invariant.1; fewest = c.in-None.ensures (c.loop.invariant.2 h) }
+pub returns-in-None-clause-number : goal.returns-in-None-clause-number
+returns-in-None-clause-number c = λ h. record { octets = c.loop.invariant.3; value = c.loop.invariant.1; fewest = c.in-None.ensures (c.loop.invariant.2 h) }
 
-pub returns : goal.returns
-returns c = λ h. absurd (c.loop.invariant.2 h (none_is c.loop.shortest.now (omega arith)))
+pub returns-clause-number : goal.returns-clause-number
+returns-clause-number c = λ h. absurd (c.loop.invariant.2 h (none_is c.loop.shortest.now (omega arith)))
+
+pub returns-in-None-clause-most : goal.returns-in-None-clause-most
+returns-in-None-clause-most c = omega (arith, c.loop.invariant.0)
+
+pub returns-clause-most : goal.returns-clause-most
+returns-clause-most c = omega (arith, c.loop.invariant.0)
