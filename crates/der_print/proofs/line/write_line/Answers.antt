@@ -1,6 +1,6 @@
-use Rattle.std.proofs.Common.{◌≡◌, ◌++◌, ◌-◌, codes, length, if◌then◌else◌, ap, sym, subst, ◌∙◌}
+use Rattle.std.proofs.Common.{◌++◌, ◌-◌, codes, length, if◌then◌else◌, ap, sym, subst, ◌∙◌}
 use Rattle.der_walk.specs.Walked.{visited_of}
-use Rattle.der_print.specs.Lines.{IsEnding, front_text, limit_of}
+use Rattle.der_print.specs.Lines.{IsEnding, front_text}
 use Rattle.der_print.specs.Texts.{content_of}
 use Rattle.der_print.specs.Values.{limit_without}
 use Rattle.der_print.proofs.FrontLaws.{front_columns}

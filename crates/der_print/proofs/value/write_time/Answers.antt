@@ -1,4 +1,4 @@
-use Rattle.std.proofs.Common.{◌≡◌, ◌∷◌, ◌==◌, None, Option, Some, subst}
+use Rattle.std.proofs.Common.{◌≡◌, ◌∷◌, ◌==◌, None, Some, subst}
 use Rattle.std.specs.Fmt.{HasWritten}
 use Rattle.der_print.specs.Values.{moment_text}
 use Rattle.der_print.proofs.value.write_time.Goals as goal

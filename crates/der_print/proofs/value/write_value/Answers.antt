@@ -1,7 +1,5 @@
 use Rattle.std.proofs.Common.{subst, sym}
-use Rattle.std.specs.Fmt.{HasWritten}
 use Rattle.der_print.specs.Values.{IsSaid, IsValue}
-use Rattle.der_print.specs.Writes.{WritesOne}
 use Rattle.der_print.proofs.value.write_value.Goals as goal
 
 pub returns : goal.returns
