@@ -1,3 +1,4 @@
+mod ContentLaws
 mod DecimalDigits
 pub mod Identifiers
 mod OctetNumbers

@@ -1,5 +1,5 @@
 -- The kinds of value that primitive elements have: the tests that their content octets pass, and what they mean.
-use Rattle.std.specs.Prelude.{◌≡◌, ℕ, ◌<◌, ◌-◌, ◌/◌, ◌%◌, ◌^◌, ◌⊎◌, ◌==◌, if◌then◌else◌, Bool, true, false, not, ℤ, pos}
+use Rattle.std.specs.Prelude.{◌≡◌, ℕ, ◌<◌, ◌-◌, ◌/◌, ◌%◌, ◌^◌, ◌==◌, if◌then◌else◌, Bool, true, false, not, ℤ, pos}
 use Rattle.std.specs.Prelude.{Option, None, List, [], ◌∷◌, ◌++◌, length, slice_get, get_or, Result, Ok, Err}
 use Rattle.std.specs.Option.{IsSomeAnd}
 use Rattle.std.specs.List.{list_all}
@@ -11,17 +11,24 @@ use Rattle.der_base.specs.declared.time.ASN1DateTime.{ASN1DateTime}
 use Rattle.der_base.specs.Arcs.{arcs, subidentifiers}
 use Rattle.der_base.specs.Leaf.{IsLeafContent}
 use Rattle.der_base.specs.LeafRefusal.{Test, refuse, IsFirstRefusal, NoneHolds, ber_tests, der_primitive_tests}
+use Rattle.der_base.specs.LeafRefusal.{der_tests}
 use Rattle.der_base.specs.Numbers.{NumberType, number_tests}
 use Rattle.der_base.specs.Octets.{integer_value}
 use Rattle.der_base.specs.Oids.{is_relative_of, octets_of}
 use Rattle.der_base.specs.Refusal.{refusal, wrong_value}
 use Rattle.der_base.specs.Time.{IsTimeText, rfc5280_year}
-use Rattle.der_base.specs.Tree.{boolean, integer}
+use Rattle.der_base.specs.Tree.{Content, boolean, integer}
+use Rattle.der_values.specs.declared.identifier.ObjectIdentifier.{ObjectIdentifier}
 
 -- the tests of the content octets of a primitive universal type (X.690 8), and by DER those of 10 and 11
 abbrev pub leaf_tests : Rules → ℕ → List ℕ → List Test
 leaf_tests Ber t w = ber_tests false t w
 leaf_tests Der t w = der_primitive_tests t w
+
+-- the same in an element that is primitive or constructed
+abbrev pub content_tests : Rules → Bool → ℕ → List ℕ → List Test
+content_tests Ber p t w = ber_tests p t w
+content_tests Der p t w = der_tests p t w
 
 -- The tests of content octets, and the value of those of which no test holds.
 pub record Kind (V : Type 0) : Type 1 where
@@ -32,6 +39,18 @@ pub record Kind (V : Type 0) : Type 1 where
 abbrev pub Decodes : {T V : Type 0} → (T → V) → Kind V → List ℕ → Result T BerError → Type 0
 Decodes value k w (Ok x) = NoneHolds (k.tests w) × k.means w (value x)
 Decodes value k w (Err e) = IsFirstRefusal (k.tests w) (refusal e)
+
+-- the same octets, of whose value nothing is kept
+abbrev pub checked : {V : Type 0} → Kind V → Kind (Unit {0})
+checked k = record { tests = k.tests; means = λ w u. Unit {0} }
+
+-- the content of a universal type that is no list, in a primitive element
+abbrev pub primitives : Rules → ℕ → Kind Content
+primitives r t = record { tests = leaf_tests r t; means = IsLeafContent false t }
+
+-- and in one that is primitive or constructed
+abbrev pub contents : Rules → Bool → ℕ → Kind Content
+contents r p t = record { tests = content_tests r p t; means = IsLeafContent p t }
 
 -- a BOOLEAN is one octet, false if it is 0 (8.2); by DER true is 255 (11.1)
 abbrev pub booleans : Rules → Kind Bool
@@ -85,6 +104,13 @@ absolute_arcs x = if is_relative_of x then None else arcs false (octets_of x)
 abbrev pub absolute_octets : Oid → List ℕ
 absolute_octets x = if is_relative_of x then [] else octets_of x
 
+-- the same of an identifier that is borrowed
+abbrev pub borrowed_arcs : ObjectIdentifier → Option (List ℕ)
+borrowed_arcs x = if x.relative then None else arcs false x.octets.now
+
+abbrev pub borrowed_octets : ObjectIdentifier → List ℕ
+borrowed_octets x = if x.relative then [] else x.octets.now
+
 -- the octets of an OBJECT IDENTIFIER (8.19), whose arcs may have any size
 abbrev pub identifiers : Kind (List ℕ)
 identifiers = record {
@@ -92,7 +118,7 @@ identifiers = record {
   means = λ w v. v ≡ w;
 }
 
--- the octets of a string type that is kept as a text (8.23), for which DER has no other tests
+-- the octets of a string type that is kept as a text, or of a BMPString (8.23); DER has no other tests
 abbrev pub texts : ℕ → Kind (List ℕ)
 texts t = record { tests = ber_tests false t; means = λ w v. v ≡ w }
 
@@ -100,7 +126,11 @@ texts t = record { tests = ber_tests false t; means = λ w v. v ≡ w }
 abbrev pub with_whole_year : ℕ → ASN1DateTime → ASN1DateTime
 with_whole_year t x = record x { year = if t == 23 then rfc5280_year x.year else x.year }
 
--- the time of a UTCTime or a GeneralizedTime (8.25; by DER 11.7, 11.8)
+-- the fields of a UTCTime or a GeneralizedTime (8.25; by DER 11.7, 11.8)
+abbrev pub moments : Rules → ℕ → Kind ASN1DateTime
+moments r t = record { tests = leaf_tests r t; means = IsTimeText t }
+
+-- its time, whose year has all digits
 abbrev pub times : Rules → ℕ → Kind ASN1DateTime
 times r t = record {
   tests = leaf_tests r t;

@@ -1,8 +1,9 @@
 //! BIT STRING.
-ghost use Rattle.std.specs.Prelude.{◌≡◌, ◌≤◌, ◌↔◌, IsTrue};
-ghost use Rattle.der_base.specs.declared.rules.Rules.{Rules};
+ghost use Rattle.std.specs.Prelude.{◌≡◌, ◌≤◌, ◌↔◌, [], ◌∷◌, IsTrue};
 ghost use Rattle.der_base.specs.Leaf.{HasZeroUnusedBits};
-ghost use Rattle.der_values.specs.Kinds.{Decodes, bit_strings, is_bit_set};
+ghost use Rattle.der_base.specs.LeafRefusal.{IsFirstRefusal};
+ghost use Rattle.der_base.specs.Refusal.{refusal};
+ghost use Rattle.der_values.specs.Kinds.{Decodes, bit_strings, checked, is_bit_set, leaf_tests};
 
 use der_base::error::{BerError, DerConstraint};
 use der_base::header::Tag;
@@ -37,40 +38,38 @@ impl BitString<'_> {
 pub fn read_bits(rules: Rules, octets: &[u8]) -> Result<BitString<'_>, BerError>
     ensures { Decodes (λ v. (v.unused, v.octets.now)) (bit_strings rules) octets.now result }
 {
+    let [unused, bits @ ..] = octets else {
+        return Err(no_octet(rules));
+    };
+    check_unused_bits(rules, *unused, bits)?;
+    Ok(BitString {
+        unused: *unused,
+        octets: bits,
+    })
+}
+
+/// The error of a BIT STRING without octets.
+fn no_octet(rules: Rules) -> BerError
+    ensures { IsFirstRefusal (leaf_tests rules 3 []) (refusal result) }
+{
     match rules {
-        Rules::Ber => read_ber_bits(octets),
-        Rules::Der => read_der_bits(octets),
+        Rules::Ber => BerError::BerValueError,
+        Rules::Der => BerError::InvalidLength,
     }
 }
 
-fn read_ber_bits(content: &[u8]) -> Result<BitString<'_>, BerError>
-    ensures { Decodes (λ v. (v.unused, v.octets.now)) (bit_strings Rules.Ber) content.now result }
+/// Checks that by DER at most seven bits are unused, and that they are 0.
+fn check_unused_bits(rules: Rules, unused: u8, bits: &[u8]) -> Result<(), BerError>
+    ensures { Decodes (λ v. v) (checked (bit_strings rules)) (unused ∷ bits.now) result }
 {
-    let [unused, octets @ ..] = content else {
-        return Err(BerError::BerValueError);
-    };
-    Ok(BitString {
-        unused: *unused,
-        octets,
-    })
-}
-
-fn read_der_bits(content: &[u8]) -> Result<BitString<'_>, BerError>
-    ensures { Decodes (λ v. (v.unused, v.octets.now)) (bit_strings Rules.Der) content.now result }
-{
-    let [unused, octets @ ..] = content else {
-        return Err(BerError::InvalidLength);
-    };
-    if *unused > 7 {
-        return Err(BerError::invalid_value(Tag::BitString, "More than 7 unused bits"));
+    match rules {
+        Rules::Ber => Ok(()),
+        Rules::Der if unused > 7 => {
+            Err(BerError::invalid_value(Tag::BitString, "More than 7 unused bits"))
+        }
+        Rules::Der if are_last_bits_zero(unused, bits) => Ok(()),
+        Rules::Der => Err(BerError::DerConstraintFailed(DerConstraint::UnusedBitsNotZero)),
     }
-    if !are_last_bits_zero(*unused, octets) {
-        return Err(BerError::DerConstraintFailed(DerConstraint::UnusedBitsNotZero));
-    }
-    Ok(BitString {
-        unused: *unused,
-        octets,
-    })
 }
 
 /// Returns whether this many last bits of the last octet are 0, and without octets whether the

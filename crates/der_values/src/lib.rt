@@ -2,17 +2,23 @@
 #![tactic(auto)]
 
 mod bits;
+mod contents;
 mod decimal;
+mod identifier;
 mod numbers;
 mod oid;
 mod simple;
 mod texts;
 mod times;
+mod value;
 
 pub use bits::{BitString, read_bits};
+pub use contents::{check_value, read_value};
 pub use decimal::to_decimal;
+pub use identifier::ObjectIdentifier;
 pub use numbers::{read_enumerated, read_i32, read_i64, read_integer, read_u32, read_u64};
-pub use oid::{HasArcs, has_padded_arc, known_oid, read_oid};
+pub use oid::{HasArcs, has_padded_arc, known_oid, read_identifier, read_oid};
 pub use simple::{read_bool, read_null};
 pub use texts::read_text;
 pub use times::read_time;
+pub use value::Value;

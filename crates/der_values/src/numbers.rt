@@ -55,11 +55,6 @@ pub fn read_u32(rules: Rules, octets: &[u8]) -> Result<u32, BerError>
 pub fn read_enumerated(rules: Rules, octets: &[u8]) -> Result<u64, BerError>
     ensures { Decodes (λ v. v) (enumerated_numbers rules) octets.now result }
 {
-    match rules {
-        Rules::Ber => integer::read_u64(octets),
-        Rules::Der => {
-            check_fewest_octets(octets)?;
-            integer::read_u64(octets)
-        }
-    }
+    let number = read_integer(rules, octets)?;
+    integer::read_u64(number)
 }

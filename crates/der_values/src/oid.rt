@@ -1,27 +1,38 @@
-//! OBJECT IDENTIFIER.
+//! The content octets of an OBJECT IDENTIFIER, and its arcs.
 ghost use Rattle.std.specs.Prelude.{◌≡◌, ◌↔◌, ◌⊎◌, [], ◌∷◌, IsTrue, MatchOption, None, Ok, Some, false, true};
 ghost use Rattle.std.specs.Option.{option_map};
 ghost use Rattle.der_base.specs.Arcs.{arcs, first_arcs};
 ghost use Rattle.der_base.specs.OidArcs.{octets_of_arcs};
 ghost use Rattle.der_base.specs.Oids.{IsBorrowed, is_relative_of, octets_of};
 ghost use Rattle.der_values.specs.Kinds.{Decodes, EndsSubidentifier, HasPaddedArc, absolute_arcs, absolute_octets};
-ghost use Rattle.der_values.specs.Kinds.{identifiers};
+ghost use Rattle.der_values.specs.Kinds.{borrowed_arcs, borrowed_octets, identifiers};
 
+use crate::identifier::ObjectIdentifier;
 use der_base::error::BerError;
 use der_base::oid::Oid;
 use std::borrow::CowSlice;
 
-/// The identifier with these content octets (X.690 8.19). BerValueError if there are none, if the last
-/// arc has no end, or if an arc begins with an octet of 0x80 (8.19.2). An arc may have any size, though
-/// `Oid::iter` returns only arcs of 64 bits.
-pub fn read_oid(octets: &[u8]) -> Result<Oid<'_>, BerError>
-    ensures { Decodes absolute_octets identifiers octets.now result }
+/// The OBJECT IDENTIFIER with these content octets (X.690 8.19). BerValueError if there are none, if the last
+/// arc has no end, or if an arc begins with an octet of 0x80 (8.19.2). An arc may have any size.
+pub fn read_identifier(octets: &[u8]) -> Result<ObjectIdentifier<'_>, BerError>
+    ensures { Decodes borrowed_octets identifiers octets.now result }
 {
-    let oid = Oid::new(CowSlice::Borrowed(octets));
+    let identifier = ObjectIdentifier::new(octets);
     if !ends_subidentifier(octets) || has_padded_arc(octets) {
         return Err(BerError::BerValueError);
     }
-    Ok(oid)
+    Ok(identifier)
+}
+
+/// As `read_identifier`, as an `Oid` that borrows the octets. An arc may have any size, though `Oid::iter`
+/// returns only arcs of at most nine octets.
+pub fn read_oid(octets: &[u8]) -> Result<Oid<'_>, BerError>
+    ensures { Decodes absolute_octets identifiers octets.now result }
+{
+    match read_identifier(octets) {
+        Ok(identifier) => Ok(identifier.to_oid()),
+        Err(e) => Err(e),
+    }
 }
 
 /// Whether there is a last octet, and it ends an arc.
@@ -85,11 +96,19 @@ pub trait HasArcs {
         ensures { IsTrue result ↔ (own_arcs self.now ≡ Some arcs.now) };
 }
 
+impl HasArcs for ObjectIdentifier<'_> {
+    ghost own_arcs = { borrowed_arcs };
+
+    fn is(&self, arcs: &[u64]) -> bool {
+        !self.is_relative() && have_arcs(self.as_bytes(), arcs)
+    }
+}
+
 impl HasArcs for Oid<'_> {
     ghost own_arcs = { absolute_arcs };
 
     fn is(&self, arcs: &[u64]) -> bool {
-        !self.is_relative() && have_arcs(self.as_bytes(), arcs)
+        ObjectIdentifier::of_oid(self).is(arcs)
     }
 }
 

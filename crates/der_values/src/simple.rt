@@ -1,5 +1,4 @@
 //! BOOLEAN and NULL.
-ghost use Rattle.der_base.specs.declared.rules.Rules.{Rules};
 ghost use Rattle.der_values.specs.Kinds.{Decodes, booleans, nulls};
 
 use der_base::error::{BerError, DerConstraint};
@@ -11,28 +10,13 @@ use der_base::rules::Rules;
 pub fn read_bool(rules: Rules, octets: &[u8]) -> Result<bool, BerError>
     ensures { Decodes (λ v. v) (booleans rules) octets.now result }
 {
-    match rules {
-        Rules::Ber => read_ber_bool(octets),
-        Rules::Der => read_der_bool(octets),
-    }
-}
-
-fn read_ber_bool(octets: &[u8]) -> Result<bool, BerError>
-    ensures { Decodes (λ v. v) (booleans Rules.Ber) octets.now result }
-{
-    match octets {
-        [octet] => Ok(*octet != 0),
-        _ => Err(BerError::InvalidLength),
-    }
-}
-
-fn read_der_bool(octets: &[u8]) -> Result<bool, BerError>
-    ensures { Decodes (λ v. v) (booleans Rules.Der) octets.now result }
-{
     match octets {
         [0x00] => Ok(false),
         [0xff] => Ok(true),
-        [_] => Err(BerError::DerConstraintFailed(DerConstraint::InvalidBoolean)),
+        [_] => match rules {
+            Rules::Ber => Ok(true),
+            Rules::Der => Err(BerError::DerConstraintFailed(DerConstraint::InvalidBoolean)),
+        },
         _ => Err(BerError::InvalidLength),
     }
 }

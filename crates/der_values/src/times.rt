@@ -2,7 +2,7 @@
 ghost use Rattle.std.specs.Prelude.{◌≡◌, IsTrue};
 ghost use Rattle.der_base.specs.declared.rules.Rules.{Rules};
 ghost use Rattle.der_base.specs.Leaf.{is_time};
-ghost use Rattle.der_values.specs.Kinds.{Decodes, times, with_whole_year};
+ghost use Rattle.der_values.specs.Kinds.{Decodes, moments, times, with_whole_year};
 
 use der_base::error::BerError;
 use der_base::header::Tag;
@@ -18,29 +18,32 @@ pub fn read_time(rules: Rules, tag: Tag, octets: &[u8]) -> Result<ASN1DateTime, 
     requires { IsTrue (is_time tag.0) }
     ensures { Decodes (λ v. v) (times rules tag.0) octets.now result }
 {
-    match rules {
-        Rules::Ber => read_ber_time(tag, octets),
-        Rules::Der => read_strict_time(tag, octets),
+    match read_moment(rules, tag, octets) {
+        Ok(moment) => Ok(with_whole_year(tag, moment)),
+        Err(e) => Err(e),
     }
 }
 
-fn read_ber_time(tag: Tag, octets: &[u8]) -> Result<ASN1DateTime, BerError>
+/// The fields of a UTCTime or a GeneralizedTime, with the two digits of a UTCTime's year. The errors are
+/// those of `read_time`.
+#[inline(always)]
+pub(crate) fn read_moment(rules: Rules, tag: Tag, octets: &[u8]) -> Result<ASN1DateTime, BerError>
     requires { IsTrue (is_time tag.0) }
-    ensures { Decodes (λ v. v) (times Rules.Ber tag.0) octets.now result }
+    ensures { Decodes (λ v. v) (moments rules tag.0) octets.now result }
+{
+    match rules {
+        Rules::Ber => read_ber_moment(tag, octets),
+        Rules::Der => read_der_time(tag, octets),
+    }
+}
+
+fn read_ber_moment(tag: Tag, octets: &[u8]) -> Result<ASN1DateTime, BerError>
+    requires { IsTrue (is_time tag.0) }
+    ensures { Decodes (λ v. v) (moments Rules.Ber tag.0) octets.now result }
 {
     match time::read_time(tag, octets) {
-        Some(time) => Ok(with_whole_year(tag, time)),
+        Some(moment) => Ok(moment),
         None => Err(BerError::InvalidDateTime),
-    }
-}
-
-fn read_strict_time(tag: Tag, octets: &[u8]) -> Result<ASN1DateTime, BerError>
-    requires { IsTrue (is_time tag.0) }
-    ensures { Decodes (λ v. v) (times Rules.Der tag.0) octets.now result }
-{
-    match read_der_time(tag, octets) {
-        Ok(time) => Ok(with_whole_year(tag, time)),
-        Err(e) => Err(e),
     }
 }
 

@@ -7,10 +7,9 @@ pub mod laws;
 pub mod node;
 pub mod node_values;
 pub mod nodes;
-pub mod value;
 pub mod vectors;
 
+pub use der_values::Value;
 pub use node::Node;
 pub use nodes::{Nodes, Preorder, Trees};
-pub use value::Value;
 pub use vectors::{read_ber_nodes, read_der_nodes};

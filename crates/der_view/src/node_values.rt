@@ -5,17 +5,18 @@ ghost use Rattle.der_base.specs.Numbers.{AnswersSigned, AnswersUnsigned};
 ghost use Rattle.der_base.specs.Oids.{octets_of, is_relative_of};
 ghost use Rattle.der_base.specs.Parts.{AnswersPart, boolean_part, identifier_part, bits_part, text_part, octets_part};
 ghost use Rattle.der_base.specs.Refusal.{refusal};
-ghost use Rattle.der_object.specs.Items.{time_part};
-ghost use Rattle.der_view.specs.Values.{AnswersValue, HasContent, HasFault, value_content};
+ghost use Rattle.der_values.specs.Values.{time_part, value_content};
+ghost use Rattle.der_view.specs.Values.{AnswersValue, HasContent, HasFault};
 ghost use Rattle.der_view.specs.Views.{view};
 
 use crate::node::Node;
-use crate::value::{Value, read_value};
 use der_base::error::BerError;
 use der_base::header::{Class, Tag};
 use der_base::oid::Oid;
+use der_base::rules::Rules;
 use der_base::time::ASN1DateTime;
 use der_object::BitStringObject;
+use der_values::{Value, read_value};
 
 impl<'a> Node<'_, 'a> {
     /// What the content octets are, by BER. A node that was read by BER or DER has a value, so the
@@ -37,7 +38,7 @@ impl<'a> Node<'_, 'a> {
         match tag {
             Tag::Sequence => Ok(Value::Sequence),
             Tag::Set => Ok(Value::Set),
-            _ => read_value(self.is_constructed(), tag, self.content()),
+            _ => read_value(Rules::Ber, self.is_constructed(), tag, self.content()),
         }
     }
 
@@ -60,7 +61,7 @@ impl<'a> Node<'_, 'a> {
     pub fn as_bitstring(&self) -> Result<BitStringObject<'a>, BerError>
         ensures { AnswersValue (λ x r. AnswersPart (λ w. w.bytes.now) (bits_part x) r) (view self.now) result }
     {
-        self.value()?.as_bitstring()
+        bits_of(self.value()?)
     }
 
     /// The fields of a UTCTime or a GeneralizedTime (8.25).
@@ -111,5 +112,15 @@ impl<'a> Node<'_, 'a> {
         ensures { AnswersValue (λ x r. AnswersUnsigned 32 x r) (view self.now) result }
     {
         self.value()?.as_u32()
+    }
+}
+
+/// The octets of a BIT STRING, the unused bits too.
+fn bits_of(value: Value<'_>) -> Result<BitStringObject<'_>, BerError>
+    ensures { AnswersPart (λ w. w.bytes.now) (bits_part (value_content value.entry)) result }
+{
+    match value {
+        Value::BitString(_, bytes) => Ok(BitStringObject { bytes }),
+        _ => Err(BerError::BerTypeError),
     }
 }

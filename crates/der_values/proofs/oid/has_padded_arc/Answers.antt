@@ -1,8 +1,7 @@
-use Rattle.std.proofs.Common.{◌≡◌, true, false, length, drop, get_or, refl, sym, ap, ◌∙◌, ◌+◌, arith, rules}
+use Rattle.std.proofs.Common.{◌≡◌, true, false, drop, get_or, refl, sym, ap, ◌∙◌, ◌+◌, arith, rules}
 use Rattle.std.specs.Prelude.{nat_lt}
 use Rattle.std.specs.List.{list_all}
 use Rattle.std.proofs.lemmas.Bool.{false≢true}
-use Rattle.std.proofs.lemmas.Bool.Decides.{nat_tests}
 use Rattle.std.proofs.lemmas.List.{drop_all}
 use Rattle.der_base.specs.Arcs.{subidentifiers}
 use Rattle.der_base.proofs.Oids.Arcs.{octet_at}

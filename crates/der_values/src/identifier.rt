@@ -1,0 +1,90 @@
+//! Identifiers by their content octets.
+ghost use Rattle.std.specs.Prelude.{◌≡◌, false, true, Some};
+ghost use Rattle.der_base.specs.Arcs.{arcs};
+ghost use Rattle.der_base.specs.Oids.{IsBorrowed, is_relative_of, octets_of};
+ghost use Rattle.der_base.specs.Pretty.{arcs_text};
+
+use der_base::oid::Oid;
+use std::borrow::CowSlice;
+use std::fmt;
+
+/// An OBJECT IDENTIFIER or a RELATIVE-OID by its content octets (X.690 8.19, 8.20). It owns no memory, so
+/// code that has one reaches no allocator.
+#[derive(Clone, Copy, Debug, PartialEq)]
+pub struct ObjectIdentifier<'a> {
+    octets: &'a [u8],
+    relative: bool,
+}
+
+impl<'a> ObjectIdentifier<'a> {
+    /// The OBJECT IDENTIFIER with these content octets. They aren't checked.
+    pub fn new(octets: &'a [u8]) -> ObjectIdentifier<'a>
+        ensures octets { result.octets.now ≡ octets.now }
+        ensures absolute { result.relative ≡ false }
+    {
+        ObjectIdentifier {
+            octets,
+            relative: false,
+        }
+    }
+
+    /// The RELATIVE-OID with these content octets. They aren't checked.
+    pub fn new_relative(octets: &'a [u8]) -> ObjectIdentifier<'a>
+        ensures octets { result.octets.now ≡ octets.now }
+        ensures relative { result.relative ≡ true }
+    {
+        ObjectIdentifier {
+            octets,
+            relative: true,
+        }
+    }
+
+    /// The same identifier, of an `Oid` that may own its octets.
+    pub fn of_oid(oid: &'a Oid<'_>) -> ObjectIdentifier<'a>
+        ensures octets { result.octets.now ≡ octets_of oid.now }
+        ensures relative { result.relative ≡ is_relative_of oid.now }
+    {
+        ObjectIdentifier {
+            octets: oid.as_bytes(),
+            relative: oid.is_relative(),
+        }
+    }
+
+    /// The same identifier as an `Oid`, which borrows these octets.
+    pub fn to_oid(self) -> Oid<'a>
+        ensures octets { octets_of result ≡ self.entry.octets.now }
+        ensures relative { is_relative_of result ≡ self.entry.relative }
+        ensures borrowed { IsBorrowed result }
+    {
+        let octets = CowSlice::Borrowed(self.octets);
+        if self.relative {
+            Oid::new_relative(octets)
+        } else {
+            Oid::new(octets)
+        }
+    }
+
+    /// The content octets.
+    pub fn as_bytes(self) -> &'a [u8]
+        ensures { result.now ≡ self.entry.octets.now }
+    {
+        self.octets
+    }
+
+    /// Whether it is a RELATIVE-OID.
+    pub fn is_relative(self) -> bool
+        ensures { result ≡ self.entry.relative }
+    {
+        self.relative
+    }
+}
+
+/// The text of the `Oid`: arcs with points between them, or octets in hexadecimal.
+impl fmt::Display for ObjectIdentifier<'_> {
+    ghost output = { λ x. Some (arcs_text (arcs x.relative x.octets.now) x.octets.now) };
+
+    fn fmt<W: fmt::Write>(&self, f: &mut fmt::Formatter<W>) -> fmt::Result {
+        let oid = self.to_oid();
+        write!(f, "{oid}")
+    }
+}
