@@ -1,3 +1,4 @@
+pub mod DerObjects
 pub mod ElementLaws
 pub mod FirstOctets
 pub mod HeadersBy

@@ -3,6 +3,7 @@
 
 mod arcs;
 mod elements;
+pub mod laws;
 mod rules;
 
 pub use elements::{after_end_marker, are_elements, is_element};

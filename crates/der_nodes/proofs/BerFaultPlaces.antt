@@ -31,7 +31,7 @@ use Rattle.der_base.proofs.Framing.FramingLists.{has_header, none_at_zero, indef
 use Rattle.der_base.proofs.Framing.RawLists.{tail_more}
 use Rattle.der_base.proofs.Framing.Shapes.{raws_are_shapes}
 use Rattle.der_laws.proofs.Answers.ItemAnswers.{some_octets}
-use Rattle.der_nodes.specs.BerInner.{FramingRefusesAt, InsideContentRefusesAt, Settles}
+use Rattle.der_nodes.specs.BerInner.{FramingRefusesAt, InsideContentRefusesAt, Settles, Values}
 use Rattle.der_nodes.specs.FaultPlaces.{InsideRefusesAt, refused_header, refused_depth, further_inside, BeginsWithElementAt, ShowsFaultAt, ItemsRefuseAt, ContentRefusesAt}
 use Rattle.der_nodes.proofs.BerElements.{ElementAt, begins_at, at_more}
 
@@ -174,20 +174,20 @@ items_refuse_at w u r items fs d a n e q at parts j some h =
     (items, fs, u, r, parts, joins_then items u fs d j, some, subst (λ n. ShowsFaultAt d r n e q ⊎ ((m : ℕ) × BerIsCut d r m × (e ≡ incomplete (Size m)) × (q ≡ n))) at h)
 
 -- a refusal that another result passes on
-pub refusal_passed_on : (P P' : ℕ → Type 0) {Q Q' : Refusal → Type 0} (r : Result ℕ (Refusing BerError)) (e : Refusing BerError) → MatchResult r (λ _. ⊥) (λ x. x ≡ e)
+pub refusal_passed_on : (P P' : Unit {0} → Type 0) {Q Q' : Refusal → Type 0} (r : Values) (e : Refusing BerError) → MatchResult r (λ _. ⊥) (λ x. x ≡ e)
     → MatchAnswer (Err e) P Q (λ _. ⊥) ⊥ → ((x : Refusal) → Q x → Q' x) → MatchAnswer r P' Q' (λ _. ⊥) ⊥
 refusal_passed_on P P' (Ok m) e is h f = absurd is
 refusal_passed_on P P' (Err x) e is h f = rw is (passed_on P P' e h f (λ n b. b) (λ b. b))
 
 -- of an element with no indefinite length around it
-pub settled : (A : Bor (List ℕ) → List ℕ → Type 0) (P : Bor (List ℕ) → List ℕ → ℕ → Type 0) (Q : List ℕ → Refusal → ℕ → Type 0) (E : Refusal → ℕ → Type 0) (L : ℕ → Type 0)
-    (read : Result (Bor (List ℕ) × Result ℕ (Refusing BerError)) (Refusing BerError)) (start q : ℕ) (result : Result (Bor (List ℕ) × ℕ) (Refusing BerError)) (place : ℕ)
-    (P' : Bor (List ℕ) × ℕ → Type 0) (Q' : Refusal → ℕ → Type 0) (L' : ℕ → Type 0) → Settles read start q result place
-    → MatchAnswer read (λ x. (w : List ℕ) × A x.0 w × MatchAnswer x.1 (P x.0 w) (λ e. Q w e q) (λ _. ⊥) ⊥) (λ e. E e q) L ⊥
-    → ((x : Bor (List ℕ)) (w : List ℕ) (m : ℕ) → A x w → P x w m → P' (x, m)) → ((x : Bor (List ℕ)) (w : List ℕ) (e : Refusal) → A x w → Q w e q → Q' e q)
+pub settled : (A : Bor (List ℕ) → List ℕ → Type 0) (P : Bor (List ℕ) → List ℕ → Type 0) (Q : List ℕ → Refusal → ℕ → Type 0) (E : Refusal → ℕ → Type 0) (L : ℕ → Type 0)
+    (read : Result (Bor (List ℕ) × Values) (Refusing BerError)) (start q : ℕ) (result : Result (Bor (List ℕ)) (Refusing BerError)) (place : ℕ)
+    (P' : Bor (List ℕ) → Type 0) (Q' : Refusal → ℕ → Type 0) (L' : ℕ → Type 0) → Settles read start q result place
+    → MatchAnswer read (λ x. (w : List ℕ) × A x.0 w × MatchAnswer x.1 (λ _. P x.0 w) (λ e. Q w e q) (λ _. ⊥) ⊥) (λ e. E e q) L ⊥
+    → ((x : Bor (List ℕ)) (w : List ℕ) → A x w → P x w → P' x) → ((x : Bor (List ℕ)) (w : List ℕ) (e : Refusal) → A x w → Q w e q → Q' e q)
     → ((e : Refusal) → E e q → Q' e q) → ((n : ℕ) → L n → L' n)
     → MatchAnswer result P' (λ e. Q' e place) (λ n. L' n × (place ≡ start)) ⊥
-settled A P Q E L (Ok (x, Ok m)) start q result place P' Q' L' s (w, a, h) f g j l = rw s.0 (f x w m a h)
+settled A P Q E L (Ok (x, Ok u)) start q result place P' Q' L' s (w, a, h) f g j l = rw s.0 (f x w a h)
 settled A P Q E L (Ok (x, Err (Error e))) start q result place P' Q' L' s (w, a, h) f g j l = rw (s.0, s.1) (g x w (refusal e) a h)
 settled A P Q E L (Ok (x, Err (Incomplete (Size n)))) start q result place P' Q' L' s (w, a, h) f g j l = absurd h
 settled A P Q E L (Ok (x, Err (Incomplete Unknown))) start q result place P' Q' L' s (w, a, h) f g j l = absurd h
@@ -199,10 +199,10 @@ settled A P Q E L (Err (Incomplete Unknown)) start q result place P' Q' L' s h f
 settled A P Q E L (Err (Failure e)) start q result place P' Q' L' s h f g j l = absurd h
 settled A P Q E L (Err OutOfMemory) start q result place P' Q' L' s h f g j l = absurd h
 
-pub settled_ok : (read : Result (Bor (List ℕ) × Result ℕ (Refusing BerError)) (Refusing BerError)) (start q : ℕ) (result : Result (Bor (List ℕ) × ℕ) (Refusing BerError)) (place : ℕ)
-    (H : Bor (List ℕ) → ℕ → Type 0) (H' : Bor (List ℕ) × ℕ → Type 0) → Settles read start q result place → IfOk read (λ x. IfOk x.1 (H x.0))
-    → ((x : Bor (List ℕ)) (m : ℕ) → H x m → H' (x, m)) → IfOk result H'
-settled_ok (Ok (x, Ok m)) start q result place H H' s h f = rw s.0 (f x m h)
+pub settled_ok : (read : Result (Bor (List ℕ) × Values) (Refusing BerError)) (start q : ℕ) (result : Result (Bor (List ℕ)) (Refusing BerError)) (place : ℕ)
+    (H H' : Bor (List ℕ) → Type 0) → Settles read start q result place → IfOk read (λ x. IfOk x.1 (λ _. H x.0))
+    → ((x : Bor (List ℕ)) → H x → H' x) → IfOk result H'
+settled_ok (Ok (x, Ok u)) start q result place H H' s h f = rw s.0 (f x h)
 settled_ok (Ok (x, Err e)) start q result place H H' s h f = rw s.0 tt
 settled_ok (Err (Error e)) start q result place H H' s h f = rw s.0 tt
 settled_ok (Err (Incomplete n)) start q result place H H' s h f = rw s.0 tt

@@ -1,9 +1,7 @@
 -- Elements that are written one after the other, of a spelling by BER.
 use Rattle.std.proofs.Common.{◌≡◌, ℕ, suc, ◌+◌, ◌-◌, ◌≤◌, Bool, true, false, IsTrue, List, [], ◌∷◌, ◌++◌, length, map}
-use Rattle.std.proofs.Common.{refl, sym, ap, subst, ◌∙◌, arith, append_assoc, length-append, inl, inr, Result, Ok, Err, MatchResult}
+use Rattle.std.proofs.Common.{refl, sym, ap, subst, ◌∙◌, arith, append_assoc, length-append, inl, inr, Ok, Err}
 use Rattle.std.proofs.lemmas.List.{append-nil, length-map, map-append}
-use Rattle.der_base.specs.declared.error.Err.{Err as Refusing}
-use Rattle.der_base.specs.declared.error.Error.{Error as BerError}
 use Rattle.der_base.specs.Answer.{MatchAnswer}
 use Rattle.der_base.proofs.Answers.Answering.{passed_on}
 use Rattle.der_base.specs.declared.header.Class.{Class}
@@ -23,7 +21,9 @@ use Rattle.der_base.proofs.Leaves.Always.{or_cases}
 use Rattle.der_laws.proofs.Spellings.DerFaults.{kept_unmapped}
 use Rattle.der_base.proofs.Spellings.Counted.{object_counted, sequence_counted, set_counted, items_counted}
 use Rattle.der_nodes.specs.declared.element.Element.{Element}
-use Rattle.der_nodes.specs.BerInner.{WritesSpelling, WritesContent, WritesItems, WritesWhole, IsLeafOrKept, AnswersItems, InsideContentRefusesAt}
+use Rattle.der_nodes.specs.declared.tape.Tape.{Tape}
+use Rattle.der_nodes.specs.BerInner.{WritesSpelling, WritesContent, WritesItems, WritesWhole, IsLeafOrKept, InsideContentRefusesAt, KeepsTape, PutsWhole, Values}
+use Rattle.der_nodes.specs.FaultPlaces.{ItemsRefuseAt}
 use Rattle.der_nodes.specs.Inner.{IsListHeader, is_definite, element_of}
 use Rattle.der_nodes.specs.Places.{IsElementAt, AreElementsOf, AreInContent, AreInItems, overlay}
 use Rattle.der_nodes.proofs.BerElements.{ElementAt, is_element, placed_at}
@@ -115,6 +115,11 @@ one_more_written {row} d u b a at old mid new n m m' e h k =
           ∙ overlay_more old n rows more ∙ ap (λ q. overlay old n q) (sym (map-append row h.elements k.elements));
     }
 
+-- nothing more
+pub kept_items : {N : Type 0} {row : Element → N} (d : ℕ) (u : List ℕ) (a : ℕ) (first old new : Tape N) → KeepsTape old new
+    → WritesItems row d u a first.nodes.now first.count old.count old.nodes.now → WritesItems row d u a first.nodes.now first.count new.count new.nodes.now
+kept_items {row} d u a first old new same h = rw (same.0, same.1) h
+
 -- contents
 
 pub sequence_written : {N : Type 0} {row : Element → N} (c : Class) (p : Bool) (t d : ℕ) (w : List ℕ) (a : ℕ) (old : List N) (n m : ℕ) (new : List N) → c ≡ Universal → p ≡ true → t ≡ 16
@@ -185,10 +190,10 @@ raw_written {row} c p t d w a old n k = record {
   written = overlay_none old n;
 }
 
-pub content_written : {N : Type 0} {row : Element → N} (c : Class) (p : Bool) (t d : ℕ) (w : List ℕ) (a : ℕ) (old : List N) (n m : ℕ) → m ≡ n → IsLeafOrKept c p t w
-    → WritesContent row c p t d w a old n m old
-content_written {row} c p t d w a old n m e (x, inl (u, k)) = subst (λ y. WritesContent row c p t d w a old n y old) (sym e) (leaf_written c p t d w a old n u (x, k))
-content_written {row} c p t d w a old n m e (x, inr k) = subst (λ y. WritesContent row c p t d w a old n y old) (sym e) (raw_written c p t d w a old n (λ u. kept_unmapped c p t w x k u))
+pub content_written : {N : Type 0} {row : Element → N} (c : Class) (p : Bool) (t d : ℕ) (w : List ℕ) (a : ℕ) (old : List N) (n : ℕ) → IsLeafOrKept c p t w
+    → WritesContent row c p t d w a old n n old
+content_written c p t d w a old n (x, inl (u, k)) = leaf_written c p t d w a old n u (x, k)
+content_written c p t d w a old n (x, inr k) = raw_written c p t d w a old n (λ u. kept_unmapped c p t w x k u)
 
 -- an element of a header and a content
 
@@ -226,28 +231,29 @@ whole_put {row} h d w start a end old mid new n m content e put =
     (mid, content, subst (λ z. new ≡ overlay mid n (row (element_of h start a z (m - n - 1)) ∷ [])) e put)
 
 -- a list, of the values of its items
-pub list_answered : {N : Type 0} (row : Element → N) (h : Header) (d : ℕ) (w : List ℕ) (start a end : ℕ) (old mid new : List N) (n : ℕ) (values : Result ℕ (Refusing BerError)) (q : ℕ)
-    → IsListHeader h → 1 ≤ d → end ≡ a + length w → AnswersItems row (d - 1) w a old (n + 1) values mid q
-    → MatchResult values (λ m. new ≡ overlay mid n (row (element_of h start a end (m - n - 1)) ∷ [])) (λ _. new ≡ mid)
-    → MatchAnswer values (λ m. (1 ≤ d) × WritesWhole row h d w start a old n m new)
+pub list_answered : {N : Type 0} (row : Element → N) (h : Header) (d : ℕ) (w : List ℕ) (start a end : ℕ) (old mid new : List N) (n m : ℕ) (values : Values) (q : ℕ)
+    → IsListHeader h → 1 ≤ d → end ≡ a + length w
+    → MatchAnswer values (λ _. WritesItems row (d - 1) w a old (n + 1) m mid) (λ e. ItemsRefuseAt w (d - 1) a e q) (λ _. ⊥) ⊥
+    → PutsWhole row n m (element_of h start a end 0) values mid new
+    → MatchAnswer values (λ _. (1 ≤ d) × WritesWhole row h d w start a old n m new)
     (λ e. InsideContentRefusesAt (class_of h) (is_constructed h) (number_of h) w d start a e q) (λ _. ⊥) ⊥
-list_answered row h d w start a end old mid new n (Ok m) q is deep ends found put =
+list_answered row h d w start a end old mid new n m (Ok u) q is deep ends found put =
     let content = list_written (class_of h) (is_constructed h) (number_of h) d w a old (n + 1) m mid is.0 is.2 is.1 found in
     (deep, whole_put h d w start a end old mid new n m content ends put)
-list_answered row h d w start a end old mid new n (Err e) q is deep ends found put =
-    passed_on (λ m. WritesItems row (d - 1) w a old (n + 1) m mid) (λ m. (1 ≤ d) × WritesWhole row h d w start a old n m new) e found
+list_answered row h d w start a end old mid new n m (Err e) q is deep ends found put =
+    passed_on (λ _. WritesItems row (d - 1) w a old (n + 1) m mid) (λ _. (1 ≤ d) × WritesWhole row h d w start a old n m new) e found
     (λ x r. inr (deep, (is.0, list_mapped (number_of h) is.1, inr (is.1, is.2, r)))) (λ m r. r) (λ r. r)
 
 -- a content that is no list, of what its check returns
-pub closed_answered : {N : Type 0} (row : Element → N) (h : Header) (d : ℕ) (w : List ℕ) (start a : ℕ) (old new : List N) (n : ℕ) (values : Result ℕ (Refusing BerError))
-    → MatchAnswer values (λ m. (1 ≤ d) × (m ≡ n + 1) × IsLeafOrKept (class_of h) (is_constructed h) (number_of h) w)
+pub closed_answered : {N : Type 0} (row : Element → N) (h : Header) (d : ℕ) (w : List ℕ) (start a : ℕ) (old new : List N) (n : ℕ) (values : Values)
+    → MatchAnswer values (λ _. (1 ≤ d) × IsLeafOrKept (class_of h) (is_constructed h) (number_of h) w)
     (λ e. (s b : ℕ) → InsideContentRefusesAt (class_of h) (is_constructed h) (number_of h) w d s b e s) (λ _. ⊥) ⊥
-    → MatchResult values (λ m. new ≡ overlay old n (row (element_of h start a (a + length w) (m - n - 1)) ∷ [])) (λ _. new ≡ old)
-    → MatchAnswer values (λ m. (1 ≤ d) × WritesWhole row h d w start a old n m new)
+    → PutsWhole row n (n + 1) (element_of h start a (a + length w) 0) values old new
+    → MatchAnswer values (λ _. (1 ≤ d) × WritesWhole row h d w start a old n (n + 1) new)
     (λ e. InsideContentRefusesAt (class_of h) (is_constructed h) (number_of h) w d start a e start) (λ _. ⊥) ⊥
-closed_answered row h d w start a old new n (Ok m) checked put =
-    let content = content_written (class_of h) (is_constructed h) (number_of h) d w a old (n + 1) m checked.1 checked.2 in
+closed_answered row h d w start a old new n (Ok u) checked put =
+    let content = content_written (class_of h) (is_constructed h) (number_of h) d w a old (n + 1) checked.1 in
     (checked.0, (old, content, put))
 closed_answered row h d w start a old new n (Err e) checked put =
-    passed_on (λ m. (1 ≤ d) × (m ≡ n + 1) × IsLeafOrKept (class_of h) (is_constructed h) (number_of h) w) (λ m. (1 ≤ d) × WritesWhole row h d w start a old n m new) e checked
+    passed_on (λ _. (1 ≤ d) × IsLeafOrKept (class_of h) (is_constructed h) (number_of h) w) (λ _. (1 ≤ d) × WritesWhole row h d w start a old n (n + 1) new) e checked
     (λ x r. r start a) (λ m r. r) (λ r. r)

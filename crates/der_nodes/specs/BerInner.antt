@@ -1,7 +1,7 @@
 -- What the functions of the reader of BER write and return.
 use Rattle.std.specs.Borrow.{Bor}
 use Rattle.std.specs.Prelude.{◌≡◌, ℕ, ◌+◌, ◌*◌, ◌-◌, ◌≤◌, ◌⊎◌, Bool, List, [], ◌∷◌, ◌++◌, length, map}
-use Rattle.std.specs.Prelude.{Option, None, Some, Result, Ok, Err}
+use Rattle.std.specs.Prelude.{Option, None, Some, Result, Ok, Err, MatchResult}
 use Rattle.der_base.specs.declared.error.Err.{Err as Refusing}
 use Rattle.der_base.specs.declared.error.Err.TheVariants.{Incomplete}
 use Rattle.der_base.specs.declared.error.Error.{Error as BerError}
@@ -19,9 +19,11 @@ use Rattle.der_base.specs.Leaf.{IsLeafContent}
 use Rattle.der_base.specs.Listing.{object_count, content_count, item_count}
 use Rattle.der_base.specs.Refusal.{Refusal, max_depth}
 use Rattle.der_base.specs.Spelling.{Form, Forms, IsKept, end_marker}
+use Rattle.der_base.specs.Stable.{BerIsCut}
 use Rattle.der_base.specs.Tree.{Node, Content, Nodes}
 use Rattle.der_nodes.specs.declared.element.Element.{Element}
-use Rattle.der_nodes.specs.FaultPlaces.{InsideRefusesAt, ContentRefusesAt, ItemsRefuseAt}
+use Rattle.der_nodes.specs.declared.tape.Tape.{Tape}
+use Rattle.der_nodes.specs.FaultPlaces.{InsideRefusesAt, ContentRefusesAt, ItemsRefuseAt, ShowsFaultAt}
 use Rattle.der_nodes.specs.Inner.{element_of}
 use Rattle.der_nodes.specs.Places.{AreElementsOf, AreInContent, AreInItems, overlay}
 
@@ -75,10 +77,20 @@ WritesWhole {N} row h d w start at old n m new = (mid : List N)
     × WritesContent row (class_of h) (is_constructed h) (number_of h) d w at old (n + 1) m mid
     × (new ≡ overlay mid n (row (element_of h start at (at + length w) (m - n - 1)) ∷ []))
 
--- v is read and rest follows: the elements from the number n to m, before a place, and the headers from old to new
-abbrev pub IsCounted : List ℕ → List ℕ → ℕ → ℕ → ℕ → ℕ → ℕ → Type 0
-IsCounted v rest end n m old new = (n ≤ m) × (m + length rest ≤ end) × (old + m ≤ new + n)
-    × (2 * new + length rest ≤ 2 * old + length v)
+-- v is read and rest follows, before a place: elements and headers are counted, and each element has a header
+abbrev pub IsCounted : {N : Type 0} → List ℕ → List ℕ → ℕ → Tape N → Tape N → Type 0
+IsCounted v rest end old new = (old.count ≤ new.count) × (new.count + length rest ≤ end)
+    × (old.progress.headers + new.count ≤ new.progress.headers + old.count)
+    × (2 * new.progress.headers + length rest ≤ 2 * old.progress.headers + length v)
+
+-- one more element is begun
+abbrev pub begun : {N : Type 0} → Tape N → Tape N
+begun s = record s { count = s.count + 1 }
+
+-- nothing was read
+abbrev pub KeepsTape : {N : Type 0} → Tape N → Tape N → Type 0
+KeepsTape old new = (new.nodes.now ≡ old.nodes.now) × (new.count ≡ old.count)
+    × (new.progress.headers ≡ old.progress.headers)
 
 -- what stands next inside an indefinite length with the budget k: the header of an element, or the end marker
 abbrev pub StandsNext : List ℕ → ℕ → Option Header → List ℕ → Type 0
@@ -96,29 +108,52 @@ abbrev pub InsideContentRefusesAt : Class → Bool → ℕ → List ℕ → ℕ 
 InsideContentRefusesAt c p t w d n a e q = ((d ≡ 0) × (e ≡ max_depth) × (q ≡ n))
     ⊎ ((1 ≤ d) × ContentRefusesAt c p t w d n a e q)
 
--- items are written, or one of them is refused at q
-abbrev pub AnswersItems : {N : Type 0} → (Element → N) → ℕ → List ℕ → ℕ → List N → ℕ → Result ℕ (Refusing BerError)
-    → List N → ℕ → Type 0
-AnswersItems row d w a old n result new q = MatchAnswer result (λ m. WritesItems row d w a old n m new)
-    (λ e. ItemsRefuseAt w d a e q) (λ _. ⊥) ⊥
+-- what is returned of the values of an element that was framed
+abbrev pub Values : Type 0
+Values = Result (Unit {0}) (Refusing BerError)
 
--- What is returned of v, which follows the header h of an element that begins at a place: the content is framed, and
--- then the element and those inside it are written, or its content is refused at q. Or framing is refused there.
-abbrev pub AnswersContent : {N : Type 0} → (Element → N) → Header → List ℕ → ℕ → ℕ → ℕ → ℕ → List N → ℕ
-    → Result (Bor (List ℕ) × Result ℕ (Refusing BerError)) (Refusing BerError) → List N → ℕ → Type 0
-AnswersContent row h v end k d start old n result new q = MatchAnswer result
+-- an element is written at the number n, before those inside it, which have the numbers up to m, if these are accepted
+abbrev pub PutsWhole : {N : Type 0} → (Element → N) → ℕ → ℕ → Element → Values → List N → List N → Type 0
+PutsWhole row n m e values old new = MatchResult values
+    (λ _. new ≡ overlay old n (row (record e { inside = m - n - 1 }) ∷ []))
+    (λ _. new ≡ old)
+
+-- What is returned of i, which ends at the place end: it begins with an element, which is written with those inside it,
+-- or it shows a refusal at a place, or is cut short where it begins.
+abbrev pub AnswersElement : {N : Type 0} → (Element → N) → ℕ → List ℕ → ℕ → Tape N
+    → Result (Bor (List ℕ)) (Refusing BerError) → Tape N → Type 0
+AnswersElement row d i end old result new = let n = end - length i in MatchAnswer result
+    (λ rest. WritesElement row d i end old.nodes.now old.count rest.now new.count new.nodes.now)
+    (λ e. ShowsFaultAt d i n e new.progress.place)
+    (λ m. BerIsCut d i m × (new.progress.place ≡ n))
+    ⊥
+
+-- of items: they are written, or one of them is refused at a place
+abbrev pub AnswersItems : {N : Type 0} → (Element → N) → ℕ → List ℕ → ℕ → Tape N → Values → Tape N → Type 0
+AnswersItems row d w a old result new = MatchAnswer result
+    (λ _. WritesItems row d w a old.nodes.now old.count new.count new.nodes.now)
+    (λ e. ItemsRefuseAt w d a e new.progress.place)
+    (λ _. ⊥)
+    ⊥
+
+-- Of v, which follows the header h of an element that begins at a place: the content is framed, and then the element
+-- and those inside it are written, or its content is refused at a place. Or framing is refused there.
+abbrev pub AnswersContent : {N : Type 0} → (Element → N) → Header → List ℕ → ℕ → ℕ → ℕ → Tape N
+    → Result (Bor (List ℕ) × Values) (Refusing BerError) → Tape N → Type 0
+AnswersContent row h v end k d old result new = let start = old.progress.place in let a = end - length v in
+    MatchAnswer result
     (λ x. (w : List ℕ) × BeginsWithContent v (length_of h) k w x.0.now × MatchAnswer x.1
-    (λ m. (1 ≤ d) × WritesWhole row h d w start (end - length v) old n m new)
-    (λ e. InsideContentRefusesAt (class_of h) (is_constructed h) (number_of h) w d start (end - length v) e q)
+    (λ _. (1 ≤ d) × WritesWhole row h d w start a old.nodes.now old.count new.count new.nodes.now)
+    (λ e. InsideContentRefusesAt (class_of h) (is_constructed h) (number_of h) w d start a e new.progress.place)
     (λ _. ⊥) ⊥)
-    (λ e. FramingRefusesAt v (length_of h) (end - length v) k e q)
+    (λ e. FramingRefusesAt v (length_of h) a k e new.progress.place)
     (ContentLacks v (length_of h) k)
     ⊥
 
 -- The same returned of an element with no indefinite length around it: of an Incomplete the place is where it starts.
-abbrev pub Settles : Result (Bor (List ℕ) × Result ℕ (Refusing BerError)) (Refusing BerError) → ℕ → ℕ
-    → Result (Bor (List ℕ) × ℕ) (Refusing BerError) → ℕ → Type 0
-Settles (Ok (rest, Ok m)) start q result place = (result ≡ Ok (rest, m)) × (place ≡ q)
+abbrev pub Settles : Result (Bor (List ℕ) × Values) (Refusing BerError) → ℕ → ℕ
+    → Result (Bor (List ℕ)) (Refusing BerError) → ℕ → Type 0
+Settles (Ok (rest, Ok u)) start q result place = (result ≡ Ok rest) × (place ≡ q)
 Settles (Ok (rest, Err e)) start q result place = (result ≡ Err e) × (place ≡ q)
 Settles (Err (Incomplete n)) start q result place = (result ≡ Err (Incomplete n)) × (place ≡ start)
 Settles (Err e) start q result place = (result ≡ Err e) × (place ≡ q)

@@ -1,6 +1,6 @@
 //! One element of DER and what is inside it: element and items call each other, a depth less at each
 //! list.
-ghost use Rattle.std.specs.Prelude.{◌≡◌, ◌≢◌, ◌+◌, ◌-◌, ◌<◌, ◌≤◌, ℕ, IfOk, IsTrue, MatchResult, length};
+ghost use Rattle.std.specs.Prelude.{◌≡◌, ◌≢◌, ◌+◌, ◌<◌, ◌≤◌, ℕ, IfOk, IsTrue, MatchResult, length};
 ghost use Rattle.der_base.specs.declared.header.Class.{Class};
 ghost use Rattle.der_base.specs.Answer.{MatchAnswer};
 ghost use Rattle.der_base.specs.Header.{class_of, is_constructed, number_of};
@@ -8,72 +8,64 @@ ghost use Rattle.der_base.specs.Leaf.{is_mapped};
 ghost use Rattle.der_base.specs.LeafRefusal.{DerLeafRefuses};
 ghost use Rattle.der_base.specs.Refusal.{refusal};
 ghost use Rattle.der_base.specs.Stable.{DerIsCut};
-ghost use Rattle.der_nodes.specs.FaultPlaces.{DerShowsFaultAt, DerItemsRefuseAt};
-ghost use Rattle.der_nodes.specs.Inner.{FramesDer, IsDerClosed, IsListHeader, WritesDerElement, WritesDerItems};
+ghost use Rattle.der_nodes.specs.FaultPlaces.{DerShowsFaultAt};
+ghost use Rattle.der_nodes.specs.Inner.{AnswersDerElement, AnswersDerItems, FramesDer, IsDerClosed, IsListHeader};
 
 use crate::element::{Slot, element_of, put};
 use crate::leaf::{check_der_leaf, is_list};
 use crate::short::{is_list_octet, is_plain_leaf, read_short, universal_element};
+use crate::tape::Tape;
 use der_base::MAX_OBJECT_SIZE;
 use der_base::error::{BerError, Err, IResult, Needed, refuse_cut_item};
 use der_base::header::{Header, Tag, der_read_element_header};
 
-/// One element in front of octets that end at an offset of the input. It and what is inside it are
-/// written to the nodes from a number on, as far as there is room. Answers what follows, and the
-/// number behind them. The offset is that of the element that was begun last.
+/// One element before octets that end at an offset of the input. It and what is inside it are written.
+/// Returns what follows. The offset of an error is that of the innermost element that shows it.
 #[cycle(der_reader)]
 #[inline(always)]
 pub(crate) fn read_element<'a, N: Slot>(
     i: &'a [u8],
     end: usize,
     max_depth: usize,
-    nodes: &mut [N],
-    count: usize,
-    place: &mut usize,
-) -> IResult<&'a [u8], usize, BerError>
-    requires { count + length i.now ≤ end }
-    ensures found { let n = end - length i.now in MatchAnswer result
-        (λ x. WritesDerElement N.slot max_depth i.now end nodes.old count x.0.now x.1 nodes.new)
-        (λ e. DerShowsFaultAt max_depth i.now n e place.new)
-        (λ m. DerIsCut max_depth i.now m × (place.new ≡ n))
-        ⊥ }
-    ensures shorter { IfOk result (λ x. length x.0.now < length i.now) }
-    ensures within { IfOk result (λ x. x.1 + length x.0.now ≤ end) }
+    tape: &mut Tape<'_, N>,
+) -> Result<&'a [u8], Err<BerError>>
+    requires { tape.old.count + length i.now ≤ end }
+    ensures same { tape.new.nodes.ghost_name ≡ tape.old.nodes.ghost_name }
+    ensures found { AnswersDerElement N.slot max_depth i.now end tape.old result tape.new }
+    ensures shorter { IfOk result (λ rest. length rest.now < length i.now) }
+    ensures within { IfOk result (λ rest. tape.new.count + length rest.now ≤ end) }
 {
     if max_depth == 0 {
-        *place = end - i.len();
+        tape.progress.place = end - i.len();
         return Err(Err::Error(BerError::BerMaxDepth));
     }
     if let Some(short) = read_short(i) {
         let behind = end - short.rest.len();
         let size = short.content.len();
         if is_list_octet(short.first) {
-            let next = read_items(
-                short.content,
-                behind,
-                max_depth - 1,
-                nodes,
-                count + 1,
-                place,
-            )?;
-            let inside = next - count - 1;
+            let at = tape.count;
+            tape.count += 1;
+            read_items(short.content, behind, max_depth - 1, tape)?;
+            let inside = tape.count - at - 1;
             put(
-                nodes,
-                count,
+                tape.nodes,
+                at,
                 universal_element(true, short.first - 32, size, behind, inside),
             );
-            return Ok((short.rest, next));
+            return Ok(short.rest);
         }
         if is_plain_leaf(short.first, short.content) {
+            let at = tape.count;
+            tape.count += 1;
             put(
-                nodes,
-                count,
+                tape.nodes,
+                at,
                 universal_element(false, short.first, size, behind, 0),
             );
-            return Ok((short.rest, count + 1));
+            return Ok(short.rest);
         }
     }
-    read_any(i, end, max_depth, nodes, count, place)
+    read_any(i, end, max_depth, tape)
 }
 
 /// Any element at a depth of at least 1.
@@ -83,38 +75,39 @@ fn read_any<'a, N: Slot>(
     i: &'a [u8],
     end: usize,
     max_depth: usize,
-    nodes: &mut [N],
-    count: usize,
-    place: &mut usize,
-) -> IResult<&'a [u8], usize, BerError>
+    tape: &mut Tape<'_, N>,
+) -> Result<&'a [u8], Err<BerError>>
     requires deep { 1 ≤ max_depth }
-    requires room { count + length i.now ≤ end }
-    ensures found { let n = end - length i.now in MatchAnswer result
-        (λ x. WritesDerElement N.slot max_depth i.now end nodes.old count x.0.now x.1 nodes.new)
-        (λ e. DerShowsFaultAt max_depth i.now n e place.new)
-        (λ m. DerIsCut max_depth i.now m × (place.new ≡ n))
-        ⊥ }
-    ensures shorter { IfOk result (λ x. length x.0.now < length i.now) }
-    ensures within { IfOk result (λ x. x.1 + length x.0.now ≤ end) }
+    requires room { tape.old.count + length i.now ≤ end }
+    ensures same { tape.new.nodes.ghost_name ≡ tape.old.nodes.ghost_name }
+    ensures found { AnswersDerElement N.slot max_depth i.now end tape.old result tape.new }
+    ensures shorter { IfOk result (λ rest. length rest.now < length i.now) }
+    ensures within { IfOk result (λ rest. tape.new.count + length rest.now ≤ end) }
 {
     let start = end - i.len();
-    *place = start;
+    tape.progress.place = start;
     let (rest, (header, octets)) = frame(i)?;
     let after = end - rest.len();
     let content = after - octets.len();
+    let at = tape.count;
+    tape.count += 1;
     if !is_list(&header) {
         check_closed(&header, octets)?;
-        put(nodes, count, element_of(&header, start, content, after, 0));
-        return Ok((rest, count + 1));
+        put(
+            tape.nodes,
+            at,
+            element_of(&header, start, content, after, 0),
+        );
+        return Ok(rest);
     }
-    let next = read_items(octets, after, max_depth - 1, nodes, count + 1, place)?;
-    let inside = next - count - 1;
+    read_items(octets, after, max_depth - 1, tape)?;
+    let inside = tape.count - at - 1;
     put(
-        nodes,
-        count,
+        tape.nodes,
+        at,
         element_of(&header, start, content, after, inside),
     );
-    Ok((rest, next))
+    Ok(rest)
 }
 
 /// The header of an element and its content octets, if these are whole, and what follows it.
@@ -179,28 +172,19 @@ fn read_items<N: Slot>(
     content: &[u8],
     end: usize,
     max_depth: usize,
-    nodes: &mut [N],
-    count: usize,
-    place: &mut usize,
-) -> Result<usize, Err<BerError>>
-    requires { count + length content.now ≤ end }
-    ensures found { MatchAnswer result
-        (λ m. WritesDerItems N.slot max_depth content.now end nodes.old count m nodes.new)
-        (λ e. DerItemsRefuseAt content.now max_depth (end - length content.now) e place.new)
-        (λ _. ⊥)
-        ⊥ }
-    ensures within { IfOk result (λ m. (count ≤ m) × (m ≤ end)) }
+    tape: &mut Tape<'_, N>,
+) -> Result<(), Err<BerError>>
+    requires { tape.old.count + length content.now ≤ end }
+    ensures same { tape.new.nodes.ghost_name ≡ tape.old.nodes.ghost_name }
+    ensures found { AnswersDerItems N.slot max_depth content.now end tape.old result tape.new }
+    ensures within { IfOk result (λ _. (tape.old.count ≤ tape.new.count) × (tape.new.count ≤ end)) }
 {
-    let mut next = count;
     let mut rest = content;
     while !rest.is_empty() {
-        match read_element(rest, end, max_depth, nodes, next, place) {
-            Ok((after, behind)) => {
-                next = behind;
-                rest = after;
-            }
+        match read_element(rest, end, max_depth, tape) {
+            Ok(after) => rest = after,
             Err(e) => return Err(refuse_cut_item(e)),
         }
     }
-    Ok(next)
+    Ok(())
 }

@@ -8,6 +8,7 @@ ghost use Rattle.der_base.specs.Spelling.{end_marker};
 ghost use Rattle.der_nodes.specs.BerInner.{FramingRefusesAt, StandsNext};
 ghost use Rattle.der_nodes.specs.FaultPlaces.{InsideRefusesAt};
 
+use crate::tape::Progress;
 use der_base::error::{BerError, Err, IResult};
 use der_base::header::{Header, Length, ber_read_element_header};
 use der_base::spans::ber_read_definite;
@@ -21,24 +22,24 @@ pub(crate) fn frame_content<'a>(
     stated: Length,
     end: usize,
     budget: usize,
-    headers: &mut usize,
-    place: &mut usize,
+    progress: &mut Progress,
 ) -> IResult<&'a [u8], &'a [u8], BerError>
     requires some { 1 ≤ budget }
     requires within { length i.now ≤ end }
-    requires fits { headers.old + length i.now < 2 ^ 64 - 1 }
+    requires fits { progress.old.headers + length i.now < 2 ^ 64 - 1 }
     ensures found { let a = end - length i.now in MatchAnswer result
         (λ x. BeginsWithContent i.now stated budget x.1.now x.0.now)
-        (λ e. FramingRefusesAt i.now stated a budget e place.new)
+        (λ e. FramingRefusesAt i.now stated a budget e progress.new.place)
         (ContentLacks i.now stated budget)
         ⊥ }
-    ensures counted { headers.old ≤ headers.new }
-    ensures bounded { 2 * headers.new ≤ 2 * headers.old + length i.now + 2 }
-    ensures bounded_ok { IfOk result (λ x. 2 * headers.new + length x.0.now ≤ 2 * headers.old + length i.now) }
+    ensures counted { progress.old.headers ≤ progress.new.headers }
+    ensures bounded { 2 * progress.new.headers ≤ 2 * progress.old.headers + length i.now + 2 }
+    ensures bounded_ok { IfOk result (λ x.
+        2 * progress.new.headers + length x.0.now ≤ 2 * progress.old.headers + length i.now) }
 {
     match stated {
         Length::Definite(size) => ber_read_definite(i, size),
-        Length::Indefinite => frame_to_end_marker(i, end, budget, headers, place),
+        Length::Indefinite => frame_to_end_marker(i, end, budget, progress),
     }
 }
 
@@ -50,29 +51,29 @@ pub(crate) fn frame_to_end_marker<'a>(
     i: &'a [u8],
     end: usize,
     budget: usize,
-    headers: &mut usize,
-    place: &mut usize,
+    progress: &mut Progress,
 ) -> IResult<&'a [u8], &'a [u8], BerError>
     requires some { 1 ≤ budget }
     requires within { length i.now ≤ end }
-    requires fits { headers.old + length i.now < 2 ^ 64 - 1 }
+    requires fits { progress.old.headers + length i.now < 2 ^ 64 - 1 }
     ensures found { let a = end - length i.now in MatchAnswer result
         (λ x. BeginsWithContent i.now Length.Indefinite budget x.1.now x.0.now)
-        (λ e. InsideRefusesAt i.now a budget e place.new)
+        (λ e. InsideRefusesAt i.now a budget e progress.new.place)
         (ContentLacks i.now Length.Indefinite budget)
         ⊥ }
-    ensures counted { headers.old ≤ headers.new }
-    ensures bounded { 2 * headers.new ≤ 2 * headers.old + length i.now + 2 }
-    ensures bounded_ok { IfOk result (λ x. 2 * headers.new + length x.0.now ≤ 2 * headers.old + length i.now) }
+    ensures counted { progress.old.headers ≤ progress.new.headers }
+    ensures bounded { 2 * progress.new.headers ≤ 2 * progress.old.headers + length i.now + 2 }
+    ensures bounded_ok { IfOk result (λ x.
+        2 * progress.new.headers + length x.0.now ≤ 2 * progress.old.headers + length i.now) }
 {
     let mut rest = i;
     'elements: loop {
-        let (behind, found) = read_next(rest, end, budget, headers, place)?;
+        let (behind, found) = read_next(rest, end, budget, progress)?;
         match found {
             None => return Ok((behind, &i[..i.len() - rest.len()])),
             Some(header) => {
                 let size = header.length();
-                let (after, _) = frame_content(behind, size, end, budget - 1, headers, place)?;
+                let (after, _) = frame_content(behind, size, end, budget - 1, progress)?;
                 rest = after;
             }
         }
@@ -87,22 +88,21 @@ pub(crate) fn read_next<'a>(
     i: &'a [u8],
     end: usize,
     budget: usize,
-    headers: &mut usize,
-    place: &mut usize,
+    progress: &mut Progress,
 ) -> IResult<&'a [u8], Option<Header<'a>>, BerError>
     requires some { 1 ≤ budget }
     requires within { length i.now ≤ end }
-    requires fits { headers.old < 2 ^ 64 - 1 }
+    requires fits { progress.old.headers < 2 ^ 64 - 1 }
     ensures found { MatchAnswer result
         (λ x. StandsNext i.now budget x.1 x.0.now)
-        (λ e. InsideRefusesAt i.now (end - length i.now) budget e place.new)
+        (λ e. InsideRefusesAt i.now (end - length i.now) budget e progress.new.place)
         (ContentLacks i.now Length.Indefinite budget)
         ⊥ }
-    ensures placed { place.new ≡ end - length i.now }
-    ensures counted { headers.new ≡ headers.old + 1 }
+    ensures placed { progress.new.place ≡ end - length i.now }
+    ensures counted { progress.new.headers ≡ progress.old.headers + 1 }
 {
-    *place = end - i.len();
-    *headers += 1;
+    progress.place = end - i.len();
+    progress.headers += 1;
     let (behind, header) = ber_read_element_header(i)?;
     if budget == 1 {
         return Err(Err::Error(BerError::BerMaxDepth));

@@ -10,6 +10,7 @@ pub mod laws;
 mod leaf;
 pub mod parser;
 mod short;
+mod tape;
 
 pub use element::{Element, Slot};
 pub use parser::{

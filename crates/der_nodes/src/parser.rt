@@ -5,6 +5,7 @@ ghost use Rattle.der_nodes.specs.NodesReading.{AnswersBerNodes, AnswersDerNodes,
 ghost use Rattle.der_nodes.specs.NodesReading.{IsStableBerNodes, IsStableDerNodes, ListsBerNodes, ListsDerNodes};
 
 use crate::element::{Element, Slot};
+use crate::tape::Tape;
 use crate::{ber_reader, der_reader};
 use der_base::error::{BerError, IResult};
 
@@ -75,7 +76,29 @@ pub fn parse_der_nodes_into<'a, N: Slot>(
     ensures placed { IsDerPlace max_depth i.now result place.new }
     ensures shorter { IfOk result (λ x. length x.0.now < length i.now) }
 {
-    der_reader::read_element(i, i.len(), max_depth, nodes, 0, place)
+    let mut tape = Tape::new(nodes);
+    let found = read_der_onto(i, max_depth, &mut tape);
+    *place = tape.progress.place;
+    found
+}
+
+/// Reads one object in DER onto a tape without elements.
+fn read_der_onto<'a, N: Slot>(
+    i: &'a [u8],
+    max_depth: usize,
+    tape: &mut Tape<'_, N>,
+) -> IResult<&'a [u8], usize, BerError>
+    requires { tape.old.count ≡ 0 }
+    ensures same { tape.new.nodes.ghost_name ≡ tape.old.nodes.ghost_name }
+    ensures exactly { AnswersDerNodes max_depth i.now result }
+    ensures stable { IsStableDerNodes max_depth i.now result }
+    ensures nodes { IfOk result (λ x.
+        KeepsDerNodes N.slot max_depth i.now x.0.now x.1 tape.old.nodes.now tape.new.nodes.now) }
+    ensures placed { IsDerPlace max_depth i.now result tape.new.progress.place }
+    ensures shorter { IfOk result (λ x. length x.0.now < length i.now) }
+{
+    let rest = der_reader::read_element(i, i.len(), max_depth, tape)?;
+    Ok((rest, tape.count))
 }
 
 /// Checks one object in BER. Returns what follows it, and how many objects it has, itself and those
@@ -177,6 +200,32 @@ fn read_ber<'a, N: Slot>(
     ensures bounded { headers.new ≤ length i.now + 1 }
     ensures bounded_ok { IfOk result (λ x. 2 * headers.new + length x.0.now ≤ length i.now) }
 {
-    *headers = 0;
-    ber_reader::read_element(i, i.len(), max_depth, nodes, 0, headers, place)
+    let mut tape = Tape::new(nodes);
+    let found = read_ber_onto(i, max_depth, &mut tape);
+    *place = tape.progress.place;
+    *headers = tape.progress.headers;
+    found
+}
+
+/// Reads one object in BER onto a tape without elements.
+fn read_ber_onto<'a, N: Slot>(
+    i: &'a [u8],
+    max_depth: usize,
+    tape: &mut Tape<'_, N>,
+) -> IResult<&'a [u8], usize, BerError>
+    requires count { tape.old.count ≡ 0 }
+    requires headers { tape.old.progress.headers ≡ 0 }
+    ensures same { tape.new.nodes.ghost_name ≡ tape.old.nodes.ghost_name }
+    ensures exactly { AnswersBerNodes max_depth i.now result }
+    ensures stable { IsStableBerNodes max_depth i.now result }
+    ensures nodes { IfOk result (λ x.
+        KeepsBerNodes N.slot max_depth i.now x.0.now x.1 tape.old.nodes.now tape.new.nodes.now) }
+    ensures placed { IsBerPlace max_depth i.now result tape.new.progress.place }
+    ensures shorter { IfOk result (λ x. length x.0.now < length i.now) }
+    ensures counted { IfOk result (λ x. x.1 ≤ tape.new.progress.headers) }
+    ensures bounded { tape.new.progress.headers ≤ length i.now + 1 }
+    ensures bounded_ok { IfOk result (λ x. 2 * tape.new.progress.headers + length x.0.now ≤ length i.now) }
+{
+    let rest = ber_reader::read_element(i, i.len(), max_depth, tape)?;
+    Ok((rest, tape.count))
 }

@@ -1,6 +1,6 @@
-use Rattle.std.proofs.Common.{◌≡◌, ◌+◌, ◌*◌, ◌-◌, ◌≤◌, ◌++◌, List, ℕ, length}
+use Rattle.std.proofs.Common.{◌≡◌, ◌+◌, ◌*◌, ◌-◌, ◌++◌, List, ℕ, length}
 use Rattle.der_base.specs.Inner.Framed.{AreElements}
-use Rattle.der_nodes.specs.BerInner.{WritesItems}
+use Rattle.der_nodes.specs.BerInner.{IsCounted, WritesItems}
 use Rattle.der_nodes.proofs.ber_reader.+ber_reader.Given as goal
 
 abbrev pub decreases-read_element : goal.decreases-read_element
@@ -21,10 +21,8 @@ decreases-read_items g l = 4 * l.max_depth + 3
 -- the items in front of the rest are written
 abbrev pub invariant-read_items-loop-rest : goal.invariant-read_items-loop-rest
 invariant-read_items-loop-rest g l = (u : List ℕ) × (l.content ≡ u ++ l.rest)
-    × WritesItems g.N.Slot.slot l.max_depth u (l.end - length l.content) l.fn.nodes l.fn.count l.next l.nodes
-    × (l.fn.count ≤ l.next) × (l.next + length l.rest ≤ l.end)
-    × (2 * l.headers + length l.rest ≤ 2 * l.fn.headers + length l.content)
-    × (l.fn.headers + l.next ≤ l.headers + l.fn.count)
+    × WritesItems g.N.Slot.slot l.max_depth u (l.end - length l.content) l.fn.tape.nodes.now l.fn.tape.count l.tape.count l.tape.nodes.now
+    × IsCounted l.content l.rest l.end l.fn.tape l.tape × (l.tape.nodes.ghost_name ≡ l.fn.tape.nodes.ghost_name)
 
 abbrev pub decreases-read_items-loop-rest : goal.decreases-read_items-loop-rest
 decreases-read_items-loop-rest g l = length l.rest
@@ -32,10 +30,8 @@ decreases-read_items-loop-rest g l = length l.rest
 -- and they are elements of a list that is framed
 abbrev pub invariant-read_to_end_marker-elements : goal.invariant-read_to_end_marker-elements
 invariant-read_to_end_marker-elements g l = (u : List ℕ) × (l.i ≡ u ++ l.rest) × AreElements u (l.budget - 1)
-    × WritesItems g.N.Slot.slot l.max_depth u (l.end - length l.i) l.fn.nodes l.fn.count l.next l.nodes
-    × (l.fn.count ≤ l.next) × (l.next + length l.rest ≤ l.end)
-    × (2 * l.headers + length l.rest ≤ 2 * l.fn.headers + length l.i)
-    × (l.fn.headers + l.next ≤ l.headers + l.fn.count)
+    × WritesItems g.N.Slot.slot l.max_depth u (l.end - length l.i) l.fn.tape.nodes.now l.fn.tape.count l.tape.count l.tape.nodes.now
+    × IsCounted l.i l.rest l.end l.fn.tape l.tape × (l.tape.nodes.ghost_name ≡ l.fn.tape.nodes.ghost_name)
 
 abbrev pub decreases-read_to_end_marker-elements : goal.decreases-read_to_end_marker-elements
 decreases-read_to_end_marker-elements g l = length l.rest

@@ -11,13 +11,13 @@ pub returns-then-not-is_universal : goal.returns-then-not-is_universal
 returns-then-not-is_universal c =
     let h = c.args.header.now in
     let other : class_of h ≡ Universal → is_mapped (number_of h) ≡ false = λ u. absurd (search rules) in
-    (omega arith, refl, (unknown (class_of h) (is_constructed h) (number_of h) c.args.content.now, inr (refl, refl, refl, refl, other)))
+    (omega arith, (unknown (class_of h) (is_constructed h) (number_of h) c.args.content.now, inr (refl, refl, refl, refl, other)))
 
 pub returns-then-not-is_mapped : goal.returns-then-not-is_mapped
 returns-then-not-is_mapped c =
     let h = c.args.header.now in
     let raw : is_mapped (number_of h) ≡ false = search rules in
-    (omega arith, refl, (unknown (class_of h) (is_constructed h) (number_of h) c.args.content.now, inr (refl, refl, refl, refl, λ u. raw)))
+    (omega arith, (unknown (class_of h) (is_constructed h) (number_of h) c.args.content.now, inr (refl, refl, refl, refl, λ u. raw)))
 
 pub returns-in-Err : goal.returns-in-Err
 returns-in-Err c =

@@ -12,6 +12,6 @@ returns-clause-found g c =
     let two : 2 ≤ c.args.budget = grind (arith, nat_tests) in
     let deep : 1 ≤ c.args.max_depth = grind (arith, nat_tests) in (
       two,
-      ber_plain_written (c.args.budget - 1) c.args.max_depth c.args.i.now short.content.now short.rest.now short.first c.args.end c.args.count c.args.nodes.now c.put.new.nodes
+      ber_plain_written (c.args.budget - 1) c.args.max_depth c.args.i.now short.content.now short.rest.now short.first c.args.end c.args.tape.now.count c.args.tape.now.nodes.now c.put.new.nodes
           (omega (arith, two)) (omega (arith, c.requires.bounded)) deep c.requires.room c.in_ok-short.ensures leaf (rw (← c.universal_element.ensures) c.put.ensures),
     )

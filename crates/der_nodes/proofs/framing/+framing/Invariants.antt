@@ -11,7 +11,7 @@ decreases-frame_to_end_marker l = 2 * l.budget
 -- what was read so far is elements
 abbrev pub invariant-frame_to_end_marker-elements : goal.invariant-frame_to_end_marker-elements
 invariant-frame_to_end_marker-elements l = (u : List ℕ) × AreElements u (l.budget - 1) × (l.i ≡ u ++ l.rest)
-    × (2 * l.headers + length l.rest ≤ 2 * l.fn.headers + length l.i) × (l.fn.headers ≤ l.headers)
+    × (2 * l.progress.headers + length l.rest ≤ 2 * l.fn.progress.headers + length l.i) × (l.fn.progress.headers ≤ l.progress.headers)
 
 abbrev pub decreases-frame_to_end_marker-elements : goal.decreases-frame_to_end_marker-elements
 decreases-frame_to_end_marker-elements l = length l.rest
