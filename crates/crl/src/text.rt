@@ -1,6 +1,6 @@
 //! The lines that describe a list.
 use crl_reader::{CertificateList, RevokedCertificate, reason_of};
-use der_parser::ber::ASN1DateTime;
+use der_base::time::ASN1DateTime;
 use der_x509::{Extensions, Version};
 use names_reader::Name;
 use std::fmt;

@@ -1,5 +1,5 @@
 //! The lines that describe a request.
-use der_parser::ber::ASN1DateTime;
+use der_base::time::ASN1DateTime;
 use kerberos_reader::{Principal, Request};
 use std::fmt;
 
