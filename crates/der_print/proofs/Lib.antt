@@ -1,5 +1,8 @@
 pub mod FrontLaws
 pub mod LineLaws
 pub mod NumberLaws
+pub mod PieceLaws
+pub mod QuoteLaws
 pub mod RowLaws
+pub mod ValueLaws
 mod WorkedRows

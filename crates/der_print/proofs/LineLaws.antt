@@ -1,14 +1,10 @@
 -- One line after others, and the content of an element.
-use Rattle.std.proofs.Common.{◌≡◌, ℕ, ◌+◌, ◌⊎◌, inl, inr, Bool, true, false, Option, Some, None, IfSome, IsSome, List, [], ◌∷◌, ◌++◌, codes, length, MatchBool, refl, sym, ap, ◌∙◌, subst, append_assoc, append-nil}
+use Rattle.std.proofs.Common.{◌≡◌, ℕ, ◌+◌, Bool, true, false, Option, Some, None, IfSome, IsSome, List, [], ◌∷◌, ◌++◌, codes, length, MatchBool, refl, sym, ap, ◌∙◌, subst, append_assoc, append-nil}
 use Rattle.std.specs.Borrow.{Bor}
 use Rattle.std.specs.Option.{unwrap_or}
-use Rattle.der_base.specs.declared.header.Class.{Class}
-use Rattle.der_base.specs.declared.header.Class.TheVariants.{Universal}
-use Rattle.der_print.specs.declared.style.Limit.{Limit}
 use Rattle.der_print.specs.declared.style.Style.{Style}
-use Rattle.der_print.specs.Lines.{AreLines, IsLine, content_in, no_lines, one_more_line}
+use Rattle.der_print.specs.Lines.{AreLines, IsLine, IsValueSaid, content_in, limit_of, no_lines, one_more_line}
 use Rattle.der_print.specs.Texts.{content_of, octets_or_none}
-use Rattle.der_print.specs.Values.{IsSaid, IsValue}
 use Rattle.der_walk.specs.declared.element.Element.{Element}
 use Rattle.der_walk.specs.Ends.{between}
 use Rattle.der_walk.specs.Visits.{Visited}
@@ -21,24 +17,16 @@ lines_more {style} {i} v line (one_more_line {v = u} {vs = vs} first rest k ks) 
     subst (AreLines style i (u ∷ vs ++ v ∷ [])) (sym (append_assoc first rest line)) (one_more_line first (rest ++ line) k (lines_more v line ks l))
 
 -- a constructed element's content isn't looked at
-ending_of : (limit : Limit) (h p : Bool) (t : ℕ) (w w' text : List ℕ) → (p ≡ false → w ≡ w') → MatchBool h (text ≡ codes " holding DER") (MatchBool p (text ≡ []) (IsValue limit t w text))
-    → MatchBool h (text ≡ codes " holding DER") (MatchBool p (text ≡ []) (IsValue limit t w' text))
-ending_of limit true p t w w' text same x = x
-ending_of limit false true t w w' text same x = x
-ending_of limit false false t w w' text same x = subst (λ u. IsValue limit t u text) (same refl) x
-
-said_of : {H : Type 0} (p : Bool) (c : Class) (broken : Bool) (t : ℕ) (w w' : List ℕ) → (p ≡ false → w ≡ w') → H ⊎ (p ≡ true) ⊎ ((c ≡ Universal) × (broken ≡ false) × IsSaid t w')
-    → H ⊎ (p ≡ true) ⊎ ((c ≡ Universal) × (broken ≡ false) × IsSaid t w)
-said_of true c broken t w w' same x = inr (inl refl)
-said_of false c broken t w w' same (inl h) = inl h
-said_of false c broken t w w' same (inr (inl h)) = inr (inl h)
-said_of false c broken t w w' same (inr (inr h)) = inr (inr (h.0, h.1, subst (IsSaid t) (sym (same refl)) h.2))
+ending_of : (A P : Type 0) (h p : Bool) (B : List ℕ → Type 0) (w w' : List ℕ) → (p ≡ false → w ≡ w') → MatchBool h A (MatchBool p P (B w)) → MatchBool h A (MatchBool p P (B w'))
+ending_of A P true p B w w' same x = x
+ending_of A P false true B w w' same x = x
+ending_of A P false false B w w' same x = subst B (same refl) x
 
 pub line_of : (style : Style) (v : Visited) (w w' line : List ℕ) → (v.constructed ≡ false → w ≡ w') → IsLine style v w line → IsLine style v w' line
 line_of style v w w' line same l = record {
   value = l.value;
   shown = l.shown;
-  ending = λ said. ending_of _ v.holds_der v.constructed v.number w w' l.value same (l.ending (said_of v.constructed v.class v.breaks_its_type v.number w w' same said));
+  ending = ending_of (l.value ≡ codes " holding DER") (l.value ≡ []) v.holds_der v.constructed (λ u. IsValueSaid (limit_of style v) v u l.value) w w' same l.ending;
   whole = l.whole;
 }
 

@@ -6,9 +6,14 @@ use Rattle.der_base.specs.declared.header.Class.{Class}
 use Rattle.der_base.specs.declared.header.Class.TheVariants.{Universal, Application, ContextSpecific, Private}
 use Rattle.der_base.specs.declared.time.ASN1TimeZone.TheVariants.{Offset}
 use Rattle.hex.specs.Hex.{encode_with}
-use Rattle.der_print.specs.declared.style.Limit.TheVariants.{Whole}
+use Rattle.der_print.specs.declared.style.Limit.TheVariants.{Whole, Columns}
 use Rattle.der_print.specs.Lines.{front_text}
-use Rattle.der_print.specs.Values.{boolean_text, identifier_text, number_text, zone_text}
+use lib.Utf8.{encode}
+use Rattle.std.specs.Char.Utf16.{utf16_chars}
+use Rattle.std.specs.Str.{chars, is_utf8}
+use Rattle.der_print.specs.Quotes.{character_text, quoted_text}
+use Rattle.der_print.specs.Remarks.{remark_text}
+use Rattle.der_print.specs.Values.{boolean_text, identifier_text, number_text, octets_text, zone_text}
 use Rattle.der_walk.specs.Visits.{Visited}
 
 abbrev visited : ℕ → ℕ → Option ℕ → Class → Bool → ℕ → ℕ → Visited
@@ -59,3 +64,28 @@ west = refl
 
 other_truth : boolean_text (1 ∷ []) ≡ codes " TRUE (01)"
 other_truth = refl
+
+-- texts: marks that turn the direction, UTF-16 with a pair, the cut, octets that are one character, a remark
+direction : character_text 0x202e ≡ codes "\\u{202e}"
+unfolding digits
+direction = refl
+
+pair : quoted_text Whole 30 (0x00 ∷ 0x61 ∷ 0xd8 ∷ 0x3d ∷ 0xde ∷ 0x00 ∷ []) ≡ codes "\"a" ++ 0xf0 ∷ 0x9f ∷ 0x98 ∷ 0x80 ∷ codes "\""
+unfolding utf16_chars encode
+pair = refl
+
+cut : quoted_text (Columns 0) 22 (codes "abcdefghijkl") ≡ codes "\"abcdefghij...\" (12 octets)"
+unfolding chars digits is_utf8 encode
+cut = refl
+
+one_octet : octets_text Whole (0x61 ∷ []) ≡ codes " 61"
+unfolding encode_with
+one_octet = refl
+
+two_octets : octets_text Whole (0x61 ∷ 0x62 ∷ []) ≡ codes " \"ab\""
+unfolding chars is_utf8 encode
+two_octets = refl
+
+remark : remark_text Universal 19 (codes "a*") ≡ codes "not a PrintableString: * (X.690 8.23.5, X.680 41.4)"
+unfolding encode
+remark = refl

@@ -1,4 +1,7 @@
 pub mod Lines
+pub mod Pieces
+pub mod Quotes
+pub mod Remarks
 pub mod Shown
 pub mod Texts
 pub mod Values

@@ -1,14 +1,14 @@
 -- The line that is printed of an element.
-use Rattle.std.specs.Prelude.{◌≡◌, ℕ, ◌+◌, ◌-◌, ◌⊎◌, Bool, true, false, if◌then◌else◌, MatchBool, Option, Some, None}
+use Rattle.std.specs.Prelude.{◌≡◌, ℕ, ◌+◌, ◌-◌, Bool, false, if◌then◌else◌, MatchBool, Option, Some, None}
 use Rattle.std.specs.Prelude.{List, [], ◌∷◌, ◌++◌, codes, decimal, length}
 use Rattle.std.specs.Option.{unwrap_or}
 use Rattle.std.specs.Io.KnownBytes.{Appends}
 use Rattle.der_base.specs.Pretty.{spaces}
-use Rattle.der_base.specs.declared.header.Class.TheVariants.{Universal}
 use Rattle.der_print.specs.declared.style.Limit.{Limit}
 use Rattle.der_print.specs.declared.style.Style.{Style}
+use Rattle.der_print.specs.Remarks.{remark_text}
 use Rattle.der_print.specs.Shown.{IsShown}
-use Rattle.der_print.specs.Values.{IsSaid, IsValue, limit_without}
+use Rattle.der_print.specs.Values.{IsValue, limit_without}
 use Rattle.der_walk.specs.Ends.{between}
 use Rattle.der_walk.specs.TypeNames.{type_text}
 use Rattle.der_walk.specs.Visits.{Visited}
@@ -58,22 +58,27 @@ front_text colours v =
 abbrev pub limit_of : Style → Visited → Limit
 limit_of style v = limit_without style.limit (length (front_text false v))
 
+-- what is said of a value that breaks its type, after two spaces
+abbrev pub remark_in : Visited → List ℕ → List ℕ
+remark_in v w = if v.breaks_its_type then codes "  " ++ remark_text v.class v.number w else []
+
+-- the value of a primitive element with this content, and the remark
+pub record IsValueSaid (limit : Limit) (v : Visited) (w text : List ℕ) : Type 0 where
+  pub value : List ℕ
+  pub is_value : IsValue limit v.class v.number w value
+  pub whole : text ≡ value ++ remark_in v w
+
 -- what follows that, of an element with this content: nothing for a constructed one, or the value; the element inside
 -- a string has a line of its own
 abbrev pub IsEnding : Limit → Visited → List ℕ → List ℕ → Type 0
 IsEnding limit v w text = MatchBool v.holds_der (text ≡ codes " holding DER")
-    (MatchBool v.constructed (text ≡ []) (IsValue limit v.number w text))
-
--- it is said what follows
-abbrev pub IsEndingSaid : Visited → List ℕ → Type 0
-IsEndingSaid v w = (v.holds_der ≡ true) ⊎ (v.constructed ≡ true)
-    ⊎ ((v.class ≡ Universal) × (v.breaks_its_type ≡ false) × IsSaid v.number w)
+    (MatchBool v.constructed (text ≡ []) (IsValueSaid limit v w text))
 
 -- the line of an element with this content: that and the line's end
 pub record IsLine (style : Style) (v : Visited) (w line : List ℕ) : Type 0 where
   pub value : List ℕ
   pub shown : IsShown value
-  pub ending : IsEndingSaid v w → IsEnding (limit_of style v) v w value
+  pub ending : IsEnding (limit_of style v) v w value
   pub whole : line ≡ front_text style.colours v ++ value ++ codes "\n"
 
 -- known octets grew by the line of an element

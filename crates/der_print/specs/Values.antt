@@ -1,21 +1,25 @@
 -- What is printed of the value of a primitive element.
-use Rattle.std.specs.Prelude.{◌≡◌, ℕ, ◌-◌, ◌/◌, ◌^◌, min, max, ◌⊎◌, ◌==◌, ◌||◌, nat_le, nat_lt, if◌then◌else◌}
+use Rattle.std.specs.Prelude.{◌≡◌, ℕ, ◌-◌, ◌/◌, ◌^◌, min, max, ◌⊎◌, ◌==◌, ◌||◌, ◌&&◌, nat_le, nat_lt, if◌then◌else◌}
 use Rattle.std.specs.Prelude.{Bool, true, false, IsTrue, ℤ, pos, negsuc, int_lt, nat_abs, Option, Some, None, IfSome}
 use Rattle.std.specs.Prelude.{List, [], ◌∷◌, ◌++◌, codes, decimal, length, take}
 use Rattle.std.specs.Fmt.{signed_decimal}
 use Rattle.hex.specs.Hex.{encode_lower}
+use Rattle.std.specs.List.{list_all}
+use Rattle.der_base.specs.declared.header.Class.{Class}
+use Rattle.der_base.specs.declared.header.Class.TheVariants.{Universal, Application, ContextSpecific, Private}
 use Rattle.der_base.specs.declared.time.ASN1DateTime.{ASN1DateTime}
 use Rattle.der_base.specs.declared.time.ASN1TimeZone.{ASN1TimeZone}
 use Rattle.der_base.specs.declared.time.ASN1TimeZone.TheVariants.{Undefined, Z, Offset}
 use Rattle.der_base.specs.Arcs.{arcs}
 use Rattle.der_base.specs.Octets.{integer_value}
 use Rattle.der_base.specs.Pretty.{dotted, hex_pair}
-use Rattle.der_base.specs.Text.{is_one_of}
+use Rattle.der_base.specs.Text.{is_one_of, is_text_type, is_visible}
 use Rattle.der_base.specs.Time.{IsTimeText, at_least_digits, rfc5280_year}
 use Rattle.der_names.specs.Tables.{HasLine}
 use Rattle.der_names.specs.declared.table.TheConstants.{NAMES}
 use Rattle.der_print.specs.declared.style.Limit.{Limit}
 use Rattle.der_print.specs.declared.style.Limit.TheVariants.{Whole, Front, Columns}
+use Rattle.der_print.specs.Quotes.{quoted_text}
 
 -- how much is printed where so many columns are needed for something else
 abbrev pub limit_without : Limit → ℕ → Limit
@@ -115,22 +119,49 @@ moment_text is_utc_time t = at_least_digits 4 (full_year is_utc_time t) ++ codes
     ++ at_least_digits 2 t.minute ++ codes ":" ++ at_least_digits 2 t.second ++ nanosecond_text t.nanosecond
     ++ zone_text t.tz
 
--- the universal types of which it is said how a value is printed; of a time, if the octets are one
-abbrev pub IsSaid : ℕ → List ℕ → Type 0
-IsSaid t w = IsTrue (is_one_of (0 ∷ 1 ∷ 2 ∷ 3 ∷ 5 ∷ 6 ∷ 10 ∷ 13 ∷ []) t) ⊎ ((x : ASN1DateTime) × IsTimeText t w x)
+-- octets that are printed as a text: at least two printable characters of ASCII
+abbrev pub is_ascii_text : List ℕ → Bool
+is_ascii_text w = nat_lt 1 (length w) && list_all is_visible w
+
+-- octets of which no type says more: as an IA5String that they may be, or in hexadecimal digits
+abbrev pub octets_text : Limit → List ℕ → List ℕ
+octets_text limit [] = []
+octets_text limit (b ∷ w) =
+    codes " " ++ (if is_ascii_text (b ∷ w) then quoted_text limit 22 (b ∷ w) else hex_text limit (b ∷ w))
+
+-- the numbers of the types whose value is quoted, and of all others whose value isn't printed as octets
+abbrev pub is_quoted_type : ℕ → Bool
+is_quoted_type t = is_text_type t || is_one_of (28 ∷ 30 ∷ []) t
+
+abbrev pub is_other_type : ℕ → Bool
+is_other_type t = is_one_of (0 ∷ 1 ∷ 2 ∷ 3 ∷ 5 ∷ 6 ∷ 10 ∷ 13 ∷ 23 ∷ 24 ∷ []) t
 
 -- The text of a content after the name of its universal type, by the type's number.
-pub data IsValue (limit : Limit) (t : ℕ) (w text : List ℕ) : Type 0 where
+pub data IsUniversalValue (limit : Limit) (t : ℕ) (w text : List ℕ) : Type 0 where
   -- NULL, and end-of-contents octets
-  no_value : (t ≡ 0) ⊎ (t ≡ 5) → text ≡ [] → IsValue limit t w text
-  boolean : t ≡ 1 → text ≡ boolean_text w → IsValue limit t w text
+  no_value : (t ≡ 0) ⊎ (t ≡ 5) → text ≡ [] → IsUniversalValue limit t w text
+  boolean : t ≡ 1 → text ≡ boolean_text w → IsUniversalValue limit t w text
   -- INTEGER and ENUMERATED
-  number : (t ≡ 2) ⊎ (t ≡ 10) → text ≡ codes " " ++ number_text limit w → IsValue limit t w text
-  bits : t ≡ 3 → text ≡ bits_text limit w → IsValue limit t w text
+  number : (t ≡ 2) ⊎ (t ≡ 10) → text ≡ codes " " ++ number_text limit w → IsUniversalValue limit t w text
+  bits : t ≡ 3 → text ≡ bits_text limit w → IsUniversalValue limit t w text
   -- OBJECT IDENTIFIER, and its name
   identifier : t ≡ 6 → (name : Option (List ℕ)) → IfSome name (IsNameOf w)
-      → text ≡ codes " " ++ identifier_text false w ++ name_text name → IsValue limit t w text
-  relative : t ≡ 13 → text ≡ codes " " ++ identifier_text true w → IsValue limit t w text
-  -- UTCTime and GeneralizedTime
+      → text ≡ codes " " ++ identifier_text false w ++ name_text name → IsUniversalValue limit t w text
+  relative : t ≡ 13 → text ≡ codes " " ++ identifier_text true w → IsUniversalValue limit t w text
+  -- UTCTime and GeneralizedTime, and one that is no time
   moment : (x : ASN1DateTime) → IsTimeText t w x → text ≡ codes " " ++ moment_text (t == 23) x
-      → IsValue limit t w text
+      → IsUniversalValue limit t w text
+  no_moment : (t ≡ 23) ⊎ (t ≡ 24) → ((x : ASN1DateTime) → ¬ IsTimeText t w x)
+      → text ≡ codes " " ++ quoted_text limit t w → IsUniversalValue limit t w text
+  -- strings of characters
+  string : IsTrue (is_quoted_type t) → text ≡ codes " " ++ quoted_text limit t w → IsUniversalValue limit t w text
+  -- OCTET STRING, and types without a notation here
+  octets : is_quoted_type t ≡ false → is_other_type t ≡ false → text ≡ octets_text limit w
+      → IsUniversalValue limit t w text
+
+-- the text of a content after the name of its type or its tag: outside the universal types it is octets
+abbrev pub IsValue : Limit → Class → ℕ → List ℕ → List ℕ → Type 0
+IsValue limit Universal t w text = IsUniversalValue limit t w text
+IsValue limit Application t w text = text ≡ octets_text limit w
+IsValue limit ContextSpecific t w text = text ≡ octets_text limit w
+IsValue limit Private t w text = text ≡ octets_text limit w

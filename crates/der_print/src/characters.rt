@@ -1,4 +1,9 @@
 //! Characters that are safe in a terminal.
+ghost use Rattle.std.specs.Prelude.{◌≡◌, Some};
+ghost use Rattle.std.specs.Fmt.{DisplaysOnOk};
+ghost use Rattle.der_base.specs.Pretty.{hex_pair};
+ghost use Rattle.der_print.specs.Quotes.{character_text, code_text, is_hidden, is_plain, octet_text};
+
 use std::fmt;
 
 /// Writes a character of a quoted text. The quote, the backslash, control characters, and marks that
@@ -6,28 +11,56 @@ use std::fmt;
 pub(crate) fn write_character<W: fmt::Write>(
     f: &mut fmt::Formatter<W>,
     character: char,
-) -> fmt::Result {
+) -> fmt::Result
+    ensures { DisplaysOnOk W.Write.write_str_gives f.old result (Some (character_text character)) f.new }
+{
     match character {
         '"' => f.write_str("\\\""),
         '\\' => f.write_str("\\\\"),
         '\n' => f.write_str("\\n"),
         '\r' => f.write_str("\\r"),
         '\t' => f.write_str("\\t"),
-        _ if is_hidden(character) => {
-            let code = u32::from(character);
-            write!(f, "\\u{{{code:x}}}")
-        }
+        _ if is_hidden(character) => write_code(f, u32::from(character)),
         _ => f.write_char(character),
     }
 }
 
+/// Writes a character by its number.
+fn write_code<W: fmt::Write>(f: &mut fmt::Formatter<W>, code: u32) -> fmt::Result
+    ensures { DisplaysOnOk W.Write.write_str_gives f.old result (Some (code_text code)) f.new }
+{
+    write!(f, "\\u{{{code:x}}}")
+}
+
+/// Writes an octet of a text that isn't UTF-8: ASCII as a character, another one by its number.
+pub(crate) fn write_octet<W: fmt::Write>(f: &mut fmt::Formatter<W>, octet: u8) -> fmt::Result
+    ensures { DisplaysOnOk W.Write.write_str_gives f.old result (Some (octet_text octet)) f.new }
+{
+    if octet.is_ascii() {
+        return write_character(f, char::from(octet));
+    }
+    f.write_str("\\x")?;
+    write_pair(f, octet)
+}
+
+/// Writes an octet as two hexadecimal digits.
+pub(crate) fn write_pair<W: fmt::Write>(f: &mut fmt::Formatter<W>, octet: u8) -> fmt::Result
+    ensures { DisplaysOnOk W.Write.write_str_gives f.old result (Some (hex_pair octet)) f.new }
+{
+    write!(f, "{octet:02x}")
+}
+
 /// Whether an octet is a character of ASCII that is written as it is.
-pub(crate) fn is_plain(octet: u8) -> bool {
-    matches!(octet, b' '..=b'~') && !matches!(octet, b'"' | b'\\')
+pub(crate) fn is_plain(octet: u8) -> bool
+    ensures { result ≡ is_plain octet }
+{
+    matches!(octet, b' '..=b'~') && octet != b'"' && octet != b'\\'
 }
 
 /// Whether a character is a control character, or a mark that can't be seen.
-fn is_hidden(character: char) -> bool {
+fn is_hidden(character: char) -> bool
+    ensures { result ≡ is_hidden character }
+{
     let code = u32::from(character);
     matches!(code,
         0..=0x1f | 0x7f..=0x9f | 0xad | 0x61c | 0x180e | 0x200b..=0x200f | 0x2028..=0x202e

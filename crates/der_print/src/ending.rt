@@ -1,6 +1,8 @@
 //! What follows the type on the line of an element.
+ghost use Rattle.std.specs.Prelude.{Some};
+ghost use Rattle.std.specs.Fmt.{DisplaysOnOk};
 ghost use Rattle.der_walk.specs.Walked.{visited_of};
-ghost use Rattle.der_print.specs.Lines.{IsEnding, IsEndingSaid};
+ghost use Rattle.der_print.specs.Lines.{IsEnding, IsValueSaid, remark_in};
 ghost use Rattle.der_print.specs.Texts.{content_of};
 ghost use Rattle.der_print.specs.Writes.{WritesOne};
 
@@ -17,7 +19,7 @@ pub(crate) fn write_ending<W: fmt::Write>(
     limit: Limit,
 ) -> fmt::Result
     ensures { let v = visited_of element.now in let w = content_of element.now in
-        IsEndingSaid v w → WritesOne W.Write.write_str_gives f.old result (IsEnding limit v w) f.new }
+        WritesOne W.Write.write_str_gives f.old result (IsEnding limit v w) f.new }
 {
     if element.holds_der {
         return write!(f, " holding DER");
@@ -25,19 +27,30 @@ pub(crate) fn write_ending<W: fmt::Write>(
     if element.constructed {
         return Ok(());
     }
-    if element.breaks_its_type {
-        return write_broken(f, element, limit);
-    }
-    write_value(f, element, limit)
+    write_value_said(f, element, limit)
 }
 
-/// Writes a value that breaks its type, and what is said of it.
-fn write_broken<W: fmt::Write>(
+/// Writes a value, and what is said of one that breaks its type.
+fn write_value_said<W: fmt::Write>(
     f: &mut fmt::Formatter<W>,
     element: &Element<'_>,
     limit: Limit,
-) -> fmt::Result {
+) -> fmt::Result
+    ensures { let v = visited_of element.now in let w = content_of element.now in
+        WritesOne W.Write.write_str_gives f.old result (IsValueSaid limit v w) f.new }
+{
     write_value(f, element, limit)?;
+    write_remark(f, element)
+}
+
+/// Writes what is said of a value that breaks its type, after two spaces.
+fn write_remark<W: fmt::Write>(f: &mut fmt::Formatter<W>, element: &Element<'_>) -> fmt::Result
+    ensures { DisplaysOnOk W.Write.write_str_gives f.old result
+        (Some (remark_in (visited_of element.now) (content_of element.now))) f.new }
+{
+    if !element.breaks_its_type {
+        return Ok(());
+    }
     let element = *element;
     write!(f, "  {}", Remark { element })
 }

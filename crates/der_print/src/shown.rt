@@ -19,7 +19,7 @@ pub(crate) struct ShownText {
 impl ShownText {
     ghost use Rattle.std.specs.Prelude.{[], IfOk};
     ghost use Rattle.der_walk.specs.Walked.{visited_of};
-    ghost use Rattle.der_print.specs.Lines.{IsEnding, IsEndingSaid};
+    ghost use Rattle.der_print.specs.Lines.{IsEnding};
     ghost use Rattle.der_print.specs.Texts.{content_of, octets_of};
 
     /// An empty text.
@@ -39,11 +39,11 @@ impl ShownText {
         self.octets.as_slice()
     }
 
-    /// What follows the type on the line of an element, in the memory of this text. An error if there is no memory, or if
-    /// a control character is in the text.
+    /// What follows the type on the line of an element, in the memory of this text. An error if there is no memory, or
+    /// if a control character is in the text.
     pub(crate) fn ending(self, element: &Element<'_>, limit: Limit) -> Result<ShownText, AllocError>
         ensures { let v = visited_of element.now in let w = content_of element.now in
-            IsEndingSaid v w → IfOk result (λ t. IsEnding limit v w (octets_of t)) }
+            IfOk result (λ t. IsEnding limit v w (octets_of t)) }
     {
         let mut f = fmt::Formatter::new(self.cleared());
         match write_ending(&mut f, element, limit) {

@@ -1,9 +1,17 @@
 //! The texts of the string types (X.690 8.23).
-ghost use Rattle.std.specs.Prelude.{◌↔◌, ◌<◌, ◌≤◌, All, IsTrue, length};
+ghost use Rattle.std.specs.Prelude.{◌≡◌, Some, map};
+ghost use Rattle.std.specs.Fmt.{DisplaysOnOk};
+ghost use Rattle.std.specs.List.{list_all};
+ghost use Rattle.der_base.specs.Text.{is_visible};
+ghost use Rattle.der_print.specs.Pieces.{pieces_left};
+ghost use Rattle.der_print.specs.Quotes.{is_plain, piece_text, plain_text, printed_characters};
+ghost use Rattle.der_print.specs.Values.{is_ascii_text};
+ghost use Rattle.der_print.specs.Writes.{WritesFirst};
 
-use crate::characters::{is_plain, write_character};
+use crate::characters::{is_plain, write_character, write_octet};
+use crate::pieces::{Characters, Piece, characters_of, next_piece};
 use crate::style::Limit;
-use std::{fmt, str};
+use std::fmt;
 
 /// The most characters that are printed where long values are cut.
 const MOST: usize = 120;
@@ -11,10 +19,13 @@ const MOST: usize = 120;
 /// The least characters that are printed where there are few columns.
 const LEAST: usize = 10;
 
+/// The columns of the space before a text, and of its quotes.
+const QUOTES: usize = 3;
+
 /// The columns that are kept for what is beside the characters, as in `"..." (1234 octets)`.
 const ENDING: usize = 20;
 
-/// A string in quotes, after a space. If only its first characters are printed, the number of its octets follows.
+/// A string in quotes. If only its first characters are printed, the number of its octets follows.
 #[derive(Clone, Copy)]
 pub struct Quoted<'a> {
     /// The content octets.
@@ -25,127 +36,136 @@ pub struct Quoted<'a> {
 }
 
 impl fmt::Display for Quoted<'_> {
+    ghost use Rattle.std.specs.Prelude.{Some};
+    ghost use Rattle.der_print.specs.Quotes.{quoted_text};
+
+    ghost output = { λ x. Some (quoted_text x.limit x.number x.octets.now) };
+
     fn fmt<W: fmt::Write>(&self, f: &mut fmt::Formatter<W>) -> fmt::Result {
-        let most = most_characters(self.octets.len(), self.limit);
+        let number = self.octets.len();
+        let most = printed_characters(number, self.limit);
         f.write_str("\"")?;
-        let is_whole = match self.number {
-            30 => write_units(f, self.octets, most)?,
-            28 => write_codes(f, self.octets, most)?,
-            _ => match str::from_utf8(self.octets) {
-                Ok(text) => write_text(f, text, most)?,
-                Err(_) => write_octets(f, self.octets, most)?,
-            },
-        };
-        f.write_str("\"")?;
-        if !is_whole {
-            let number = self.octets.len();
-            write!(f, " ({number} octets)")?;
+        if write_first(f, characters_of(self.number, self.octets), most)? {
+            return f.write_str("\"");
+        }
+        write!(f, "...\" ({number} octets)")
+    }
+}
+
+/// The characters of a string as they are.
+#[derive(Clone, Copy)]
+pub struct Unquoted<'a> {
+    /// The content octets.
+    pub octets: &'a [u8],
+    /// The tag number of the type.
+    pub number: u32,
+}
+
+impl fmt::Display for Unquoted<'_> {
+    ghost use Rattle.std.specs.Prelude.{Some};
+    ghost use Rattle.der_print.specs.Quotes.{unquoted_text};
+
+    ghost output = { λ x. Some (unquoted_text x.number x.octets.now) };
+
+    fn fmt<W: fmt::Write>(&self, f: &mut fmt::Formatter<W>) -> fmt::Result {
+        let mut rest = characters_of(self.number, self.octets);
+        while let Some((piece, others)) = next_piece(rest) {
+            write_plain(f, piece)?;
+            rest = others;
         }
         Ok(())
     }
 }
 
-/// The most characters that are printed of so many octets.
-fn most_characters(number: usize, limit: Limit) -> usize {
+/// Writes a character as it is.
+fn write_plain<W: fmt::Write>(f: &mut fmt::Formatter<W>, piece: Piece) -> fmt::Result
+    ensures { DisplaysOnOk W.Write.write_str_gives f.old result (Some (plain_text piece)) f.new }
+{
+    match piece {
+        Piece::Character(character) => f.write_char(character),
+        Piece::Octet(octet) => write_octet(f, octet),
+    }
+}
+
+/// The most characters that are printed of so many octets, which no text has more of.
+fn printed_characters(number: usize, limit: Limit) -> usize
+    ensures { result ≡ printed_characters limit number }
+{
     match limit {
-        Limit::Whole => usize::MAX,
+        Limit::Whole => number,
         Limit::Front => MOST,
-        Limit::Columns(columns) if number.saturating_add(3) <= columns => number,
+        Limit::Columns(columns) if number <= columns.saturating_sub(QUOTES) => number,
         Limit::Columns(columns) => columns.saturating_sub(ENDING).max(LEAST),
     }
 }
 
 /// Whether octets are at least two characters of ASCII that can be printed.
 pub fn is_printable_ascii(octets: &[u8]) -> bool
-    ensures { IsTrue result ↔ ((1 < length octets.now) × All (λ octet. (32 ≤ octet) × (octet ≤ 126)) octets.now) }
+    ensures { result ≡ is_ascii_text octets.now }
 {
-    octets.len() > 1 && octets.iter().all(|octet| matches!(*octet, b' '..=b'~'))
+    octets.len() > 1 && are_visible(octets)
 }
 
-/// Writes the first characters of a text. Returns whether those are all.
-fn write_text<W: fmt::Write>(
+/// Whether octets are characters of ASCII that can be printed.
+fn are_visible(octets: &[u8]) -> bool
+    ensures { result ≡ list_all is_visible octets.now }
+{
+    octets.iter().all(|octet| *octet >= b' ' && *octet <= b'~')
+}
+
+/// Writes the first of some characters. Returns whether those are all.
+fn write_first<W: fmt::Write>(
     f: &mut fmt::Formatter<W>,
-    text: &str,
+    characters: Characters<'_>,
     most: usize,
-) -> Result<bool, fmt::Error> {
-    if text.len() <= most && text.as_bytes().iter().all(|octet| is_plain(*octet)) {
-        f.write_str(text)?;
-        return Ok(true);
-    }
-    for (place, character) in text.chars().enumerate() {
-        if place == most {
-            return write_points(f);
+) -> Result<bool, fmt::Error>
+    ensures { WritesFirst W.Write.write_str_gives f.old result most
+        (map piece_text (pieces_left characters.entry)) f.new }
+{
+    match characters {
+        Characters::Utf8(text) if text.len() <= most && are_plain(text.as_bytes()) => {
+            f.write_str(text)?;
+            Ok(true)
         }
-        write_character(f, character)?;
+        _ => write_pieces(f, characters, most),
+    }
+}
+
+/// Whether octets are ASCII that is written as it is.
+fn are_plain(octets: &[u8]) -> bool
+    ensures { result ≡ list_all is_plain octets.now }
+{
+    octets.iter().all(|octet| is_plain(*octet))
+}
+
+/// Writes the first of some characters, one by one. Returns whether those are all.
+fn write_pieces<W: fmt::Write>(
+    f: &mut fmt::Formatter<W>,
+    characters: Characters<'_>,
+    most: usize,
+) -> Result<bool, fmt::Error>
+    ensures { WritesFirst W.Write.write_str_gives f.old result most
+        (map piece_text (pieces_left characters.entry)) f.new }
+{
+    let mut rest = characters;
+    let mut left = most;
+    while let Some((piece, others)) = next_piece(rest) {
+        if left == 0 {
+            return Ok(false);
+        }
+        write_piece(f, piece)?;
+        rest = others;
+        left -= 1;
     }
     Ok(true)
 }
 
-/// Writes ASCII, and other octets by their numbers.
-fn write_octets<W: fmt::Write>(
-    f: &mut fmt::Formatter<W>,
-    octets: &[u8],
-    most: usize,
-) -> Result<bool, fmt::Error> {
-    for (place, octet) in octets.iter().enumerate() {
-        if place == most {
-            return write_points(f);
-        }
-        if octet.is_ascii() {
-            write_character(f, char::from(*octet))?;
-        } else {
-            write!(f, "\\x{octet:02x}")?;
-        }
-    }
-    Ok(true)
-}
-
-/// Writes the characters of UTF-16, big endian.
-fn write_units<W: fmt::Write>(
-    f: &mut fmt::Formatter<W>,
-    octets: &[u8],
-    most: usize,
-) -> Result<bool, fmt::Error> {
-    let units = octets.chunks_exact(2).map(|pair| match pair {
-        [high, low] => u16::from_be_bytes([*high, *low]),
-        _ => 0,
-    });
-    for (place, character) in char::decode_utf16(units).enumerate() {
-        if place == most {
-            return write_points(f);
-        }
-        write_character(f, character.unwrap_or(char::REPLACEMENT_CHARACTER))?;
-    }
-    Ok(true)
-}
-
-/// Writes the characters of UTF-32, big endian.
-fn write_codes<W: fmt::Write>(
-    f: &mut fmt::Formatter<W>,
-    octets: &[u8],
-    most: usize,
-) -> Result<bool, fmt::Error> {
-    for (place, octets) in octets.chunks_exact(4).enumerate() {
-        if place == most {
-            return write_points(f);
-        }
-        write_character(f, character_of(octets))?;
-    }
-    Ok(true)
-}
-
-/// Writes what is in the place of characters that are left out. Returns that not all are written.
-fn write_points<W: fmt::Write>(f: &mut fmt::Formatter<W>) -> Result<bool, fmt::Error> {
-    f.write_str("...")?;
-    Ok(false)
-}
-
-/// The character with this code, in four octets.
-fn character_of(octets: &[u8]) -> char {
-    match octets {
-        [a, b, c, d] => char::from_u32(u32::from_be_bytes([*a, *b, *c, *d])).unwrap_or(
-            char::REPLACEMENT_CHARACTER,
-        ),
-        _ => char::REPLACEMENT_CHARACTER,
+/// Writes a character, or an octet that isn't one.
+fn write_piece<W: fmt::Write>(f: &mut fmt::Formatter<W>, piece: Piece) -> fmt::Result
+    ensures { DisplaysOnOk W.Write.write_str_gives f.old result (Some (piece_text piece)) f.new }
+{
+    match piece {
+        Piece::Character(character) => write_character(f, character),
+        Piece::Octet(octet) => write_octet(f, octet),
     }
 }

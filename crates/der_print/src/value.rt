@@ -1,14 +1,14 @@
 //! The values of primitive elements.
-ghost use Rattle.std.specs.Prelude.{◌≡◌, ◌++◌, ◌==◌, ℕ, IfSome, List, Option, Some, codes, false, true};
+ghost use Rattle.std.specs.Prelude.{◌≡◌, ◌⊎◌, ◌++◌, ℕ, IfSome, List, Option, Some, codes, false, true};
 ghost use Rattle.std.specs.Fmt.{DisplaysOnOk};
-ghost use Rattle.der_base.specs.declared.time.ASN1DateTime.{ASN1DateTime};
-ghost use Rattle.der_base.specs.Pretty.{hex_pair};
-ghost use Rattle.der_base.specs.Time.{IsTimeText};
+ghost use Rattle.der_print.specs.Quotes.{quoted_text};
 ghost use Rattle.der_print.specs.Texts.{content_of, octets_or_none};
-ghost use Rattle.der_print.specs.Values.{IsNameOf, IsSaid, IsValue, bits_text, boolean_text, identifier_text};
-ghost use Rattle.der_print.specs.Values.{moment_text, name_text, truth_text, unused_text};
+ghost use Rattle.der_print.specs.Values.{IsNameOf, IsUniversalValue, IsValue, bits_text, boolean_text};
+ghost use Rattle.der_print.specs.Values.{identifier_text, is_quoted_type, name_text, octets_text, truth_text};
+ghost use Rattle.der_print.specs.Values.{unused_text};
 ghost use Rattle.der_print.specs.Writes.{WritesOne};
 
+use crate::characters::write_pair;
 use crate::identifier::Arcs;
 use crate::number::Number;
 use crate::octets::Hex;
@@ -51,8 +51,8 @@ pub(crate) fn write_value<W: fmt::Write>(
     element: &Element<'_>,
     limit: Limit,
 ) -> fmt::Result
-    ensures { let w = content_of element.now in element.now.class ≡ Class.Universal → IsSaid element.now.number w
-        → WritesOne W.Write.write_str_gives f.old result (IsValue limit element.now.number w) f.new }
+    ensures { let w = content_of element.now in WritesOne W.Write.write_str_gives f.old result
+        (IsValue limit element.now.class element.now.number w) f.new }
 {
     let octets = octets_or_none(element.content);
     if element.class != Class::Universal {
@@ -62,7 +62,7 @@ pub(crate) fn write_value<W: fmt::Write>(
 }
 
 /// The content octets, or none.
-fn octets_or_none(content: Option<&[u8]>) -> &[u8]
+pub fn octets_or_none(content: Option<&[u8]>) -> &[u8]
     ensures { result.now ≡ octets_or_none content.entry }
 {
     match content {
@@ -78,8 +78,7 @@ fn write_universal<W: fmt::Write>(
     octets: &[u8],
     limit: Limit,
 ) -> fmt::Result
-    ensures { IsSaid number octets.now
-        → WritesOne W.Write.write_str_gives f.old result (IsValue limit number octets.now) f.new }
+    ensures { WritesOne W.Write.write_str_gives f.old result (IsUniversalValue limit number octets.now) f.new }
 {
     match number {
         0 | 5 => Ok(()),
@@ -90,17 +89,40 @@ fn write_universal<W: fmt::Write>(
         13 => write_relative(f, octets),
         23 => write_time(f, number, octets, limit),
         24 => write_time(f, number, octets, limit),
-        7 | 12 | 18..=22 | 25..=28 | 30 => write!(
-            f,
-            " {}",
-            Quoted {
-                octets,
-                number,
-                limit
-            }
-        ),
+        _ if is_quoted_type(number) => write_quoted(f, number, octets, limit),
         _ => write_octets(f, octets, limit),
     }
+}
+
+/// Whether the values of a universal type are strings of characters.
+pub fn is_quoted_type(number: u32) -> bool
+    ensures { result ≡ is_quoted_type number }
+{
+    matches!(
+        number,
+        7 | 12 | 18 | 19 | 20 | 21 | 22 | 25 | 26 | 27 | 28 | 30
+    )
+}
+
+/// Writes a string in quotes.
+fn write_quoted<W: fmt::Write>(
+    f: &mut fmt::Formatter<W>,
+    number: u32,
+    octets: &[u8],
+    limit: Limit,
+) -> fmt::Result
+    ensures { DisplaysOnOk W.Write.write_str_gives f.old result
+        (Some (codes " " ++ quoted_text limit number octets.now)) f.new }
+{
+    write!(
+        f,
+        " {}",
+        Quoted {
+            octets,
+            number,
+            limit
+        }
+    )
 }
 
 /// Writes octets in hexadecimal digits, or as a text if they are printable ASCII.
@@ -108,21 +130,14 @@ fn write_octets<W: fmt::Write>(
     f: &mut fmt::Formatter<W>,
     octets: &[u8],
     limit: Limit,
-) -> fmt::Result {
+) -> fmt::Result
+    ensures { DisplaysOnOk W.Write.write_str_gives f.old result (Some (octets_text limit octets.now)) f.new }
+{
     if octets.is_empty() {
         return Ok(());
     }
     if is_printable_ascii(octets) {
-        let number = Tag::Ia5String.0;
-        return write!(
-            f,
-            " {}",
-            Quoted {
-                octets,
-                number,
-                limit
-            }
-        );
+        return write_quoted(f, Tag::Ia5String.0, octets, limit);
     }
     write!(f, " {}", Hex { octets, limit })
 }
@@ -149,13 +164,6 @@ fn write_truth<W: fmt::Write>(f: &mut fmt::Formatter<W>, octet: u8) -> fmt::Resu
     write!(f, " TRUE (")?;
     write_pair(f, octet)?;
     write!(f, ")")
-}
-
-/// Writes an octet as two hexadecimal digits.
-fn write_pair<W: fmt::Write>(f: &mut fmt::Formatter<W>, octet: u8) -> fmt::Result
-    ensures { DisplaysOnOk W.Write.write_str_gives f.old result (Some (hex_pair octet)) f.new }
-{
-    write!(f, "{octet:02x}")
 }
 
 /// Writes the octets of a BIT STRING, and how many bits of the last aren't used.
@@ -216,22 +224,14 @@ fn write_time<W: fmt::Write>(
     octets: &[u8],
     limit: Limit,
 ) -> fmt::Result
-    ensures { (x : ASN1DateTime) → IsTimeText number octets.now x → DisplaysOnOk W.Write.write_str_gives f.old result
-        (Some (codes " " ++ moment_text (number == 23) x)) f.new }
+    ensures { (number ≡ 23) ⊎ (number ≡ 24)
+        → WritesOne W.Write.write_str_gives f.old result (IsUniversalValue limit number octets.now) f.new }
 {
     match read_time(Tag(number), octets) {
         Some(time) => {
             let is_utc_time = number == Tag::UtcTime.0;
             write!(f, " {}", Moment { time, is_utc_time })
         }
-        None => write!(
-            f,
-            " {}",
-            Quoted {
-                octets,
-                number,
-                limit
-            }
-        ),
+        None => write_quoted(f, number, octets, limit),
     }
 }

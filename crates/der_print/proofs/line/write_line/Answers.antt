@@ -21,7 +21,7 @@ returns g c =
       is_line = record {
         value = value;
         shown = c.as_bytes.ensures.shown;
-        ending = λ said. subst (λ l. IsEnding l v w value) limited (subst (IsEnding _ v w) (sym c.as_bytes.ensures.octets) (c.in_ok-value.ensures said));
+        ending = subst (λ l. IsEnding l v w value) limited (subst (IsEnding _ v w) (sym c.as_bytes.ensures.octets) c.in_ok-value.ensures);
         whole = c.as_bytes-2.ensures ∙ c.in_ok-put-2.ensures ∙ ap (λ w. w ++ codes "\n") (c.in_ok-put.ensures ∙ ap (λ w. w ++ value) has_front);
       };
       adds = c.in_ok-write_all.ensures.bytes;

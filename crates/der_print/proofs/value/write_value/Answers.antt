@@ -1,10 +1,12 @@
-use Rattle.std.proofs.Common.{subst, sym}
-use Rattle.der_print.specs.Values.{IsSaid, IsValue}
+use Rattle.std.proofs.Common.{rules, subst}
+use Rattle.der_print.specs.Values.{IsUniversalValue}
+use Rattle.der_print.proofs.ValueLaws.{value_of_universal}
 use Rattle.der_print.proofs.value.write_value.Goals as goal
 
 pub returns : goal.returns
 returns g c =
-    let n = c.args.element.now.number in
+    let e = c.args.element.now in
     let same = c.octets_or_none-octets.ensures in
-    λ universal said plain ok.
-    let k = c.write_universal.ensures (subst (IsSaid n) (sym same) said) plain ok in (k.0, subst (λ w. IsValue c.args.limit n w k.0) same k.1, k.2)
+    λ plain ok.
+    let k = c.write_universal.ensures plain ok in
+    (k.0, value_of_universal c.args.limit e.class e.number _ k.0 (search rules) (subst (λ w. IsUniversalValue c.args.limit e.number w k.0) same k.1), k.2)

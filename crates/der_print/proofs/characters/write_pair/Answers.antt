@@ -3,7 +3,7 @@ use Rattle.std.specs.Fmt.{styled_digits_output, DisplaysOnOk, padded_integral, s
 use Rattle.std.specs.Option.{option_map}
 use Rattle.der_base.specs.Pretty.{hex_pair}
 use Rattle.der_base.proofs.HexTexts.{pair_is}
-use Rattle.der_print.proofs.value.write_pair.Goals as goal
+use Rattle.der_print.proofs.characters.write_pair.Goals as goal
 
 pub returns : goal.returns
 returns g c =
