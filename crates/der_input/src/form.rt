@@ -1,7 +1,9 @@
 //! How an input is written, found by a look at it.
-ghost use Rattle.std.specs.Prelude.{◌≡◌, ◌↔◌, IfOk, IsTrue};
+ghost use Rattle.std.specs.Prelude.{◌≡◌, ◌↔◌, IfErr, IfOk, IsTrue, find, option_copied};
 ghost use Rattle.std.specs.List.{list_all, list_any};
-ghost use Rattle.der_input.specs.Forms.{FindsForm, IsText, is_base64, is_control, is_hex};
+ghost use Rattle.std.specs.Option.{option_map};
+ghost use Rattle.der_input.specs.Forms.{FindsForm, FindsNoForm, IsText, begins_with, is_base64, is_control};
+ghost use Rattle.der_input.specs.Forms.{is_hex, other_kind};
 
 use crate::error::FormError;
 use crate::pem::BEGIN;
@@ -34,9 +36,11 @@ const OTHER_KINDS: [(&[u8], &str); 9] = [
     (b"\xff\xfe", "a text file in UTF-16"),
 ];
 
-/// How an input is written: as text that is PEM, hexadecimal digits or base64, or as octets.
+/// How an input is written: as text that is PEM, hexadecimal digits or base64, or as octets. An error if it
+/// begins as a file of another kind does, or is another text.
 pub fn form_of(input: &[u8]) -> Result<Form, FormError>
-    ensures { IfOk result (FindsForm input.now) }
+    ensures form { IfOk result (FindsForm input.now) }
+    ensures none { IfErr result (FindsNoForm input.now) }
 {
     if let Some(kind) = other_kind(input) {
         return Err(FormError::LooksLike(kind));
@@ -57,11 +61,21 @@ pub fn form_of(input: &[u8]) -> Result<Form, FormError>
 }
 
 /// The kind of a file of another kind.
-fn other_kind(input: &[u8]) -> Option<&'static str> {
-    let (_, kind) = OTHER_KINDS
-        .iter()
-        .find(|(octets, _)| input.starts_with(octets))?;
+fn other_kind(input: &[u8]) -> Option<&'static str>
+    ensures { option_map (λ kind. kind.now) result ≡ other_kind input.now }
+{
+    let (_, kind) = row_of(&OTHER_KINDS, input)?;
     Some(kind)
+}
+
+/// The first row whose octets an input begins with.
+fn row_of<'r>(
+    rows: &'r [(&'static [u8], &'static str)],
+    input: &[u8],
+) -> Option<&'r (&'static [u8], &'static str)>
+    ensures { option_copied result ≡ find (λ row. begins_with input.now row.0.now) rows.now }
+{
+    rows.iter().find(|(octets, _)| input.starts_with(octets))
 }
 
 /// Whether octets are UTF-8 without control characters but those of white space.
