@@ -104,7 +104,7 @@ absolute_arcs x = if is_relative_of x then None else arcs false (octets_of x)
 abbrev pub absolute_octets : Oid → List ℕ
 absolute_octets x = if is_relative_of x then [] else octets_of x
 
--- the same of an identifier that is borrowed
+-- the same of a borrowed identifier: its arcs, and its octets
 abbrev pub borrowed_arcs : ObjectIdentifier → Option (List ℕ)
 borrowed_arcs x = if x.relative then None else arcs false x.octets.now
 
