@@ -136,3 +136,8 @@ times r t = record {
   tests = leaf_tests r t;
   means = λ w v. (x : ASN1DateTime) × IsTimeText t w x × (v ≡ with_whole_year t x);
 }
+
+-- the one or the other
+abbrev pub times_by : Bool → Rules → ℕ → Kind ASN1DateTime
+times_by true r t = times r t
+times_by false r t = moments r t

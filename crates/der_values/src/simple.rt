@@ -10,14 +10,14 @@ use der_base::rules::Rules;
 pub fn read_bool(rules: Rules, octets: &[u8]) -> Result<bool, BerError>
     ensures { Decodes (λ v. v) (booleans rules) octets.now result }
 {
-    match octets {
-        [0x00] => Ok(false),
-        [0xff] => Ok(true),
-        [_] => match rules {
-            Rules::Ber => Ok(true),
-            Rules::Der => Err(BerError::DerConstraintFailed(DerConstraint::InvalidBoolean)),
-        },
-        _ => Err(BerError::InvalidLength),
+    let [octet] = octets else {
+        return Err(BerError::InvalidLength);
+    };
+    match rules {
+        Rules::Der if *octet != 0x00 && *octet != 0xff => {
+            Err(BerError::DerConstraintFailed(DerConstraint::InvalidBoolean))
+        }
+        _ => Ok(*octet != 0x00),
     }
 }
 
