@@ -1,18 +1,20 @@
--- A time of which no test holds.
-use Rattle.std.proofs.Common.{◌≡◌, ℕ, Bool, true, false, if◌then◌else◌, List, Ok, Err, refl, sym, inl, inr, subst}
+-- A time of which no test holds, or the first that does.
+use Rattle.std.proofs.Common.{◌≡◌, ℕ, Bool, true, false, List, Result, Ok, Err, MatchResult, refl, sym, inl, inr, subst}
+use Rattle.std.specs.Prelude.{◌==◌}
 use Rattle.std.proofs.lemmas.Bool.{false≢true}
+use Rattle.std.proofs.lemmas.Bool.Decides.{Decides-eqb}
 use Rattle.der_base.specs.declared.error.Error.{Error as BerError}
-use Rattle.der_base.specs.declared.rules.Rules.{Rules}
 use Rattle.der_base.specs.declared.rules.Rules.TheVariants.{Ber, Der}
 use Rattle.der_base.specs.declared.time.ASN1DateTime.{ASN1DateTime}
 use Rattle.der_base.specs.Encoding.{content_octets}
-use Rattle.der_base.specs.Leaf.{IsDerLeaf}
-use Rattle.der_base.specs.LeafRefusal.{IsFirstRefusal, NoneHolds}
-use Rattle.der_base.specs.Refusal.{refusal}
+use Rattle.der_base.specs.Leaf.{is_time, IsDerLeaf}
+use Rattle.der_base.specs.LeafRefusal.{IsFirstRefusal, NoneHolds, time_tests}
+use Rattle.der_base.specs.Refusal.{Refusal, refusal}
 use Rattle.der_base.specs.Time.{IsTimeText, time_text}
 use Rattle.der_base.specs.Tree.{time}
+use Rattle.der_base.proofs.Leaves.Always.{or_cases}
 use Rattle.der_base.proofs.Times.DerTimes.{time_passes}
-use Rattle.der_values.specs.Kinds.{Decodes, leaf_tests, times_by, with_whole_year}
+use Rattle.der_values.specs.Kinds.{Decodes, leaf_tests, moments, times_by}
 
 -- by BER
 pub ber_time : (t : ℕ) (w : List ℕ) (x : ASN1DateTime) → IsTimeText t w x → NoneHolds (leaf_tests Ber t w)
@@ -28,11 +30,19 @@ der_written t x h =
 pub der_time : (t : ℕ) (w : List ℕ) (x : ASN1DateTime) → IsDerLeaf t (time t x) → w ≡ content_octets (time t x) → NoneHolds (leaf_tests Der t w) × IsTimeText t w x
 der_time t w x h e = (subst (λ v. NoneHolds (leaf_tests Der t v)) (sym e) (der_written t x h), subst (λ v. IsTimeText t v x) (sym e) h.0.2)
 
--- with all digits of the year, or as they are written
-pub year_read : (whole : Bool) (r : Rules) (t : ℕ) (w : List ℕ) (x v : ASN1DateTime) → NoneHolds (leaf_tests r t w) → IsTimeText t w x → v ≡ (if whole then with_whole_year t x else x) → Decodes (λ v. v) (times_by whole r t) w (Ok v)
-year_read true r t w x v n h e = (n, (x, h, e))
-year_read false r t w x v n h e = (n, rw e h)
+der_refused : (t : ℕ) (w : List ℕ) (e : Refusal) → is_time t ≡ true → IsFirstRefusal (time_tests t w) e → IsFirstRefusal (leaf_tests Der t w) e
+der_refused t w e h =
+    or_cases (t == 23) (t == 24) (IsFirstRefusal (time_tests t w) e → IsFirstRefusal (leaf_tests Der t w) e) h
+    (λ k. subst (λ n. IsFirstRefusal (time_tests n w) e → IsFirstRefusal (leaf_tests Der n w) e) (sym ((Decides-eqb t 23).0 k)) (λ r. r))
+    (λ k. subst (λ n. IsFirstRefusal (time_tests n w) e → IsFirstRefusal (leaf_tests Der n w) e) (sym ((Decides-eqb t 24).0 k)) (λ r. r))
 
-pub year_refused : (whole : Bool) (r : Rules) (t : ℕ) (w : List ℕ) (f : BerError) → IsFirstRefusal (leaf_tests r t w) (refusal f) → Decodes {T = ASN1DateTime} (λ v. v) (times_by whole r t) w (Err f)
-year_refused true r t w f h = h
-year_refused false r t w f h = h
+-- what is read by DER
+pub der_moment : (t : ℕ) (w : List ℕ) (r : Result ASN1DateTime BerError) → is_time t ≡ true
+    → MatchResult r (λ x. IsDerLeaf t (time t x) × (w ≡ content_octets (time t x))) (λ e. IsFirstRefusal (time_tests t w) (refusal e))
+    → Decodes (λ v. v) (moments Der t) w r
+der_moment t w (Ok x) h m = der_time t w x m.0 m.1
+der_moment t w (Err e) h m = der_refused t w (refusal e) h m
+
+pub ber_refused : (whole : Bool) (t : ℕ) (w : List ℕ) (f : BerError) → IsFirstRefusal (leaf_tests Ber t w) (refusal f) → Decodes {T = ASN1DateTime} (λ v. v) (times_by whole Ber t) w (Err f)
+ber_refused true t w f h = h
+ber_refused false t w f h = h

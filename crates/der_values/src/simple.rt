@@ -1,4 +1,6 @@
 //! BOOLEAN and NULL.
+ghost use Rattle.std.specs.Prelude.{[], ◌∷◌};
+ghost use Rattle.der_base.specs.declared.rules.Rules.{Rules};
 ghost use Rattle.der_values.specs.Kinds.{Decodes, booleans, nulls};
 
 use der_base::error::{BerError, DerConstraint};
@@ -14,10 +16,19 @@ pub fn read_bool(rules: Rules, octets: &[u8]) -> Result<bool, BerError>
         return Err(BerError::InvalidLength);
     };
     match rules {
-        Rules::Der if *octet != 0x00 && *octet != 0xff => {
-            Err(BerError::DerConstraintFailed(DerConstraint::InvalidBoolean))
-        }
-        _ => Ok(*octet != 0x00),
+        Rules::Ber => Ok(*octet != 0x00),
+        Rules::Der => read_strict_octet(*octet),
+    }
+}
+
+/// The value of the octet of a BOOLEAN, which is 00 or ff by DER.
+fn read_strict_octet(octet: u8) -> Result<bool, BerError>
+    ensures { Decodes (λ v. v) (booleans Rules.Der) (octet ∷ []) result }
+{
+    match octet {
+        0x00 => Ok(false),
+        0xff => Ok(true),
+        _ => Err(BerError::DerConstraintFailed(DerConstraint::InvalidBoolean)),
     }
 }
 

@@ -1,5 +1,5 @@
 //! UTCTime and GeneralizedTime.
-ghost use Rattle.std.specs.Prelude.{◌≡◌, if◌then◌else◌, IsTrue};
+ghost use Rattle.std.specs.Prelude.{◌≡◌, IsTrue};
 ghost use Rattle.der_base.specs.declared.rules.Rules.{Rules};
 ghost use Rattle.der_base.specs.Leaf.{is_time};
 ghost use Rattle.der_values.specs.Kinds.{Decodes, moments, times, times_by, with_whole_year};
@@ -18,7 +18,10 @@ pub fn read_time(rules: Rules, tag: Tag, octets: &[u8]) -> Result<ASN1DateTime, 
     requires { IsTrue (is_time tag.0) }
     ensures { Decodes (λ v. v) (times rules tag.0) octets.now result }
 {
-    read_years(true, rules, tag, octets)
+    match rules {
+        Rules::Ber => read_ber_time(true, tag, octets),
+        Rules::Der => read_strict_time(tag, octets),
+    }
 }
 
 /// The fields of a UTCTime or a GeneralizedTime, with the two digits of a UTCTime's year. The errors are
@@ -27,51 +30,33 @@ pub(crate) fn read_moment(rules: Rules, tag: Tag, octets: &[u8]) -> Result<ASN1D
     requires { IsTrue (is_time tag.0) }
     ensures { Decodes (λ v. v) (moments rules tag.0) octets.now result }
 {
-    read_years(false, rules, tag, octets)
-}
-
-/// The fields, where the year of a UTCTime has all its digits or two.
-#[inline(always)]
-fn read_years(whole: bool, rules: Rules, tag: Tag, octets: &[u8]) -> Result<ASN1DateTime, BerError>
-    requires { IsTrue (is_time tag.0) }
-    ensures { Decodes (λ v. v) (times_by whole rules tag.0) octets.now result }
-{
     match rules {
-        Rules::Ber => read_ber_time(whole, tag, octets),
-        Rules::Der => read_strict_time(whole, tag, octets),
+        Rules::Ber => read_ber_time(false, tag, octets),
+        Rules::Der => read_der_time(tag, octets),
     }
 }
 
+/// Reads by BER, where the year of a UTCTime has all its digits or two.
 #[inline(always)]
 fn read_ber_time(whole: bool, tag: Tag, octets: &[u8]) -> Result<ASN1DateTime, BerError>
     requires { IsTrue (is_time tag.0) }
     ensures { Decodes (λ v. v) (times_by whole Rules.Ber tag.0) octets.now result }
 {
     match time::read_time(tag, octets) {
-        Some(time) => Ok(with_year(whole, tag, time)),
+        Some(time) if whole => Ok(with_whole_year(tag, time)),
+        Some(time) => Ok(time),
         None => Err(BerError::InvalidDateTime),
     }
 }
 
-#[inline(always)]
-fn read_strict_time(whole: bool, tag: Tag, octets: &[u8]) -> Result<ASN1DateTime, BerError>
+fn read_strict_time(tag: Tag, octets: &[u8]) -> Result<ASN1DateTime, BerError>
     requires { IsTrue (is_time tag.0) }
-    ensures { Decodes (λ v. v) (times_by whole Rules.Der tag.0) octets.now result }
+    ensures { Decodes (λ v. v) (times Rules.Der tag.0) octets.now result }
 {
     match read_der_time(tag, octets) {
-        Ok(time) => Ok(with_year(whole, tag, time)),
+        Ok(time) => Ok(with_whole_year(tag, time)),
         Err(e) => Err(e),
     }
-}
-
-#[inline(always)]
-fn with_year(whole: bool, tag: Tag, time: ASN1DateTime) -> ASN1DateTime
-    ensures { result ≡ (if whole then with_whole_year tag.0 time else time) }
-{
-    if !whole {
-        return time;
-    }
-    with_whole_year(tag, time)
 }
 
 /// The time with all digits of its year, of which a UTCTime has the last two.
