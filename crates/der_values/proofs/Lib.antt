@@ -6,3 +6,4 @@ mod PaddedArcs
 mod Subidentifiers
 mod TimeTests
 mod UnusedBits
+mod WideArcs

@@ -1,5 +1,5 @@
 -- A time of which no test holds, or the first that does.
-use Rattle.std.proofs.Common.{◌≡◌, ℕ, true, List, Result, Ok, Err, MatchResult, refl, sym, inl, inr, subst}
+use Rattle.std.proofs.Common.{◌≡◌, ℕ, Bool, true, false, List, Result, Ok, Err, MatchResult, refl, sym, inl, inr, subst}
 use Rattle.std.specs.Prelude.{◌==◌}
 use Rattle.std.proofs.lemmas.Bool.{false≢true}
 use Rattle.std.proofs.lemmas.Bool.Decides.{Decides-eqb}
@@ -14,7 +14,7 @@ use Rattle.der_base.specs.Time.{IsTimeText, time_text}
 use Rattle.der_base.specs.Tree.{time}
 use Rattle.der_base.proofs.Leaves.Always.{or_cases}
 use Rattle.der_base.proofs.Times.DerTimes.{time_passes}
-use Rattle.der_values.specs.Kinds.{Decodes, leaf_tests, moments}
+use Rattle.der_values.specs.Kinds.{Decodes, leaf_tests, moments, times_by}
 
 -- by BER
 pub ber_time : (t : ℕ) (w : List ℕ) (x : ASN1DateTime) → IsTimeText t w x → NoneHolds (leaf_tests Ber t w)
@@ -42,3 +42,7 @@ pub der_moment : (t : ℕ) (w : List ℕ) (r : Result ASN1DateTime BerError) →
     → Decodes (λ v. v) (moments Der t) w r
 der_moment t w (Ok x) h m = der_time t w x m.0 m.1
 der_moment t w (Err e) h m = der_refused t w (refusal e) h m
+
+pub ber_refused : (whole : Bool) (t : ℕ) (w : List ℕ) (f : BerError) → IsFirstRefusal (leaf_tests Ber t w) (refusal f) → Decodes {T = ASN1DateTime} (λ v. v) (times_by whole Ber t) w (Err f)
+ber_refused true t w f h = h
+ber_refused false t w f h = h

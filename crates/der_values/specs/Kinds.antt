@@ -104,7 +104,7 @@ absolute_arcs x = if is_relative_of x then None else arcs false (octets_of x)
 abbrev pub absolute_octets : Oid → List ℕ
 absolute_octets x = if is_relative_of x then [] else octets_of x
 
--- the same of an identifier that is borrowed
+-- the same of a borrowed identifier: its arcs, and its octets
 abbrev pub borrowed_arcs : ObjectIdentifier → Option (List ℕ)
 borrowed_arcs x = if x.relative then None else arcs false x.octets.now
 
@@ -136,3 +136,8 @@ times r t = record {
   tests = leaf_tests r t;
   means = λ w v. (x : ASN1DateTime) × IsTimeText t w x × (v ≡ with_whole_year t x);
 }
+
+-- the one or the other
+abbrev pub times_by : Bool → Rules → ℕ → Kind ASN1DateTime
+times_by true r t = times r t
+times_by false r t = moments r t

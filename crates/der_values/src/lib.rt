@@ -1,6 +1,7 @@
 //! Values of content octets, by BER and by DER. None of these calls but `to_decimal` allocates.
 #![tactic(auto)]
 
+mod arcs;
 mod bits;
 mod contents;
 mod decimal;
@@ -12,6 +13,7 @@ mod texts;
 mod times;
 mod value;
 
+pub use arcs::{ArcNumber, Arcs};
 pub use bits::{BitString, read_bits};
 pub use contents::{check_value, read_value};
 pub use decimal::to_decimal;

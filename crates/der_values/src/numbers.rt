@@ -1,7 +1,7 @@
 //! INTEGER and ENUMERATED.
 ghost use Rattle.std.specs.Prelude.{◌≡◌, pos};
 ghost use Rattle.der_base.specs.Numbers.{signed, unsigned};
-ghost use Rattle.der_values.specs.Kinds.{Decodes, enumerated_numbers, integers, numbers};
+ghost use Rattle.der_values.specs.Kinds.{Decodes, checked, enumerated_numbers, integers, numbers};
 
 use der_base::error::BerError;
 use der_base::integer::{self, check_fewest_octets};
@@ -12,12 +12,17 @@ use der_base::rules::Rules;
 pub fn read_integer(rules: Rules, octets: &[u8]) -> Result<&[u8], BerError>
     ensures { Decodes (λ v. v.now) (integers rules) octets.now result }
 {
+    check_octets(rules, octets)?;
+    Ok(octets)
+}
+
+/// Checks that by DER the octets are the fewest for their number.
+fn check_octets(rules: Rules, octets: &[u8]) -> Result<(), BerError>
+    ensures { Decodes (λ v. v) (checked (integers rules)) octets.now result }
+{
     match rules {
-        Rules::Ber => Ok(octets),
-        Rules::Der => {
-            check_fewest_octets(octets)?;
-            Ok(octets)
-        }
+        Rules::Ber => Ok(()),
+        Rules::Der => check_fewest_octets(octets),
     }
 }
 
@@ -55,6 +60,6 @@ pub fn read_u32(rules: Rules, octets: &[u8]) -> Result<u32, BerError>
 pub fn read_enumerated(rules: Rules, octets: &[u8]) -> Result<u64, BerError>
     ensures { Decodes (λ v. v) (enumerated_numbers rules) octets.now result }
 {
-    let number = read_integer(rules, octets)?;
-    integer::read_u64(number)
+    check_octets(rules, octets)?;
+    integer::read_u64(octets)
 }

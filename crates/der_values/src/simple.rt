@@ -1,4 +1,6 @@
 //! BOOLEAN and NULL.
+ghost use Rattle.std.specs.Prelude.{[], ◌∷◌};
+ghost use Rattle.der_base.specs.declared.rules.Rules.{Rules};
 ghost use Rattle.der_values.specs.Kinds.{Decodes, booleans, nulls};
 
 use der_base::error::{BerError, DerConstraint};
@@ -10,14 +12,23 @@ use der_base::rules::Rules;
 pub fn read_bool(rules: Rules, octets: &[u8]) -> Result<bool, BerError>
     ensures { Decodes (λ v. v) (booleans rules) octets.now result }
 {
-    match octets {
-        [0x00] => Ok(false),
-        [0xff] => Ok(true),
-        [_] => match rules {
-            Rules::Ber => Ok(true),
-            Rules::Der => Err(BerError::DerConstraintFailed(DerConstraint::InvalidBoolean)),
-        },
-        _ => Err(BerError::InvalidLength),
+    let [octet] = octets else {
+        return Err(BerError::InvalidLength);
+    };
+    match rules {
+        Rules::Ber => Ok(*octet != 0x00),
+        Rules::Der => read_strict_octet(*octet),
+    }
+}
+
+/// The value of the octet of a BOOLEAN, which is 00 or ff by DER.
+fn read_strict_octet(octet: u8) -> Result<bool, BerError>
+    ensures { Decodes (λ v. v) (booleans Rules.Der) (octet ∷ []) result }
+{
+    match octet {
+        0x00 => Ok(false),
+        0xff => Ok(true),
+        _ => Err(BerError::DerConstraintFailed(DerConstraint::InvalidBoolean)),
     }
 }
 

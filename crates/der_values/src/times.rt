@@ -2,7 +2,7 @@
 ghost use Rattle.std.specs.Prelude.{◌≡◌, IsTrue};
 ghost use Rattle.der_base.specs.declared.rules.Rules.{Rules};
 ghost use Rattle.der_base.specs.Leaf.{is_time};
-ghost use Rattle.der_values.specs.Kinds.{Decodes, moments, times, with_whole_year};
+ghost use Rattle.der_values.specs.Kinds.{Decodes, moments, times, times_by, with_whole_year};
 
 use der_base::error::BerError;
 use der_base::header::Tag;
@@ -18,32 +18,44 @@ pub fn read_time(rules: Rules, tag: Tag, octets: &[u8]) -> Result<ASN1DateTime, 
     requires { IsTrue (is_time tag.0) }
     ensures { Decodes (λ v. v) (times rules tag.0) octets.now result }
 {
-    match read_moment(rules, tag, octets) {
-        Ok(moment) => Ok(with_whole_year(tag, moment)),
-        Err(e) => Err(e),
+    match rules {
+        Rules::Ber => read_ber_time(true, tag, octets),
+        Rules::Der => read_strict_time(tag, octets),
     }
 }
 
 /// The fields of a UTCTime or a GeneralizedTime, with the two digits of a UTCTime's year. The errors are
 /// those of `read_time`.
-#[inline(always)]
 pub(crate) fn read_moment(rules: Rules, tag: Tag, octets: &[u8]) -> Result<ASN1DateTime, BerError>
     requires { IsTrue (is_time tag.0) }
     ensures { Decodes (λ v. v) (moments rules tag.0) octets.now result }
 {
     match rules {
-        Rules::Ber => read_ber_moment(tag, octets),
+        Rules::Ber => read_ber_time(false, tag, octets),
         Rules::Der => read_der_time(tag, octets),
     }
 }
 
-fn read_ber_moment(tag: Tag, octets: &[u8]) -> Result<ASN1DateTime, BerError>
+/// Reads by BER, where the year of a UTCTime has all its digits or two.
+#[inline(always)]
+fn read_ber_time(whole: bool, tag: Tag, octets: &[u8]) -> Result<ASN1DateTime, BerError>
     requires { IsTrue (is_time tag.0) }
-    ensures { Decodes (λ v. v) (moments Rules.Ber tag.0) octets.now result }
+    ensures { Decodes (λ v. v) (times_by whole Rules.Ber tag.0) octets.now result }
 {
     match time::read_time(tag, octets) {
-        Some(moment) => Ok(moment),
+        Some(time) if whole => Ok(with_whole_year(tag, time)),
+        Some(time) => Ok(time),
         None => Err(BerError::InvalidDateTime),
+    }
+}
+
+fn read_strict_time(tag: Tag, octets: &[u8]) -> Result<ASN1DateTime, BerError>
+    requires { IsTrue (is_time tag.0) }
+    ensures { Decodes (λ v. v) (times Rules.Der tag.0) octets.now result }
+{
+    match read_der_time(tag, octets) {
+        Ok(time) => Ok(with_whole_year(tag, time)),
+        Err(e) => Err(e),
     }
 }
 
