@@ -4,10 +4,10 @@ ghost use Rattle.std.specs.Prelude.{◌≡◌};
 /// How far a reader is.
 #[derive(Clone, Copy)]
 pub(crate) struct Progress {
-    /// How many headers were read, end markers too.
-    pub headers: usize,
     /// Where the element begins that was begun last, or the innermost one that shows an error.
     pub place: usize,
+    /// How many headers were read, end markers too.
+    pub headers: usize,
 }
 
 /// The elements that are read, in preorder, and how far the reader is.
@@ -32,8 +32,8 @@ impl<'n, N> Tape<'n, N> {
             nodes,
             count: 0,
             progress: Progress {
-                headers: 0,
                 place: 0,
+                headers: 0,
             },
         }
     }
