@@ -13,11 +13,11 @@ pub(crate) struct Progress {
 /// The elements that are read, in preorder, and how far the reader is.
 #[derive(Drop)]
 pub(crate) struct Tape<'n, N> {
-    /// What they are written to, as far as there is room.
-    pub nodes: &'n mut [N],
     /// How many there are, room or not.
     pub count: usize,
     pub progress: Progress,
+    /// What they are written to, as far as there is room.
+    pub nodes: &'n mut [N],
 }
 
 impl<'n, N> Tape<'n, N> {
@@ -29,12 +29,12 @@ impl<'n, N> Tape<'n, N> {
         ensures headers { result.progress.headers ≡ 0 }
     {
         Tape {
-            nodes,
             count: 0,
             progress: Progress {
                 place: 0,
                 headers: 0,
             },
+            nodes,
         }
     }
 }
