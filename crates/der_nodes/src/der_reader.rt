@@ -45,7 +45,9 @@ pub(crate) fn read_element<'a, N: Slot>(
         if is_list_octet(short.first) {
             let at = tape.count;
             tape.count += 1;
-            read_items(short.content, behind, max_depth - 1, tape)?;
+            if let Err(e) = read_items(short.content, behind, max_depth - 1, tape) {
+                return Err(e);
+            }
             let inside = tape.count - at - 1;
             put(
                 tape.nodes,

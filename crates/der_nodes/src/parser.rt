@@ -97,8 +97,10 @@ fn read_der_onto<'a, N: Slot>(
     ensures placed { IsDerPlace max_depth i.now result tape.new.progress.place }
     ensures shorter { IfOk result (λ x. length x.0.now < length i.now) }
 {
-    let rest = der_reader::read_element(i, i.len(), max_depth, tape)?;
-    Ok((rest, tape.count))
+    match der_reader::read_element(i, i.len(), max_depth, tape) {
+        Ok(rest) => Ok((rest, tape.count)),
+        Err(e) => Err(e),
+    }
 }
 
 /// Checks one object in BER. Returns what follows it, and how many objects it has, itself and those
@@ -226,6 +228,8 @@ fn read_ber_onto<'a, N: Slot>(
     ensures bounded { tape.new.progress.headers ≤ length i.now + 1 }
     ensures bounded_ok { IfOk result (λ x. 2 * tape.new.progress.headers + length x.0.now ≤ length i.now) }
 {
-    let rest = ber_reader::read_element(i, i.len(), max_depth, tape)?;
-    Ok((rest, tape.count))
+    match ber_reader::read_element(i, i.len(), max_depth, tape) {
+        Ok(rest) => Ok((rest, tape.count)),
+        Err(e) => Err(e),
+    }
 }

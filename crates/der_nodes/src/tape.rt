@@ -4,20 +4,20 @@ ghost use Rattle.std.specs.Prelude.{◌≡◌};
 /// How far a reader is.
 #[derive(Clone, Copy)]
 pub(crate) struct Progress {
-    /// How many headers were read, end markers too.
-    pub headers: usize,
     /// Where the element begins that was begun last, or the innermost one that shows an error.
     pub place: usize,
+    /// How many headers were read, end markers too.
+    pub headers: usize,
 }
 
 /// The elements that are read, in preorder, and how far the reader is.
 #[derive(Drop)]
 pub(crate) struct Tape<'n, N> {
-    /// What they are written to, as far as there is room.
-    pub nodes: &'n mut [N],
     /// How many there are, room or not.
     pub count: usize,
     pub progress: Progress,
+    /// What they are written to, as far as there is room.
+    pub nodes: &'n mut [N],
 }
 
 impl<'n, N> Tape<'n, N> {
@@ -29,12 +29,12 @@ impl<'n, N> Tape<'n, N> {
         ensures headers { result.progress.headers ≡ 0 }
     {
         Tape {
-            nodes,
             count: 0,
             progress: Progress {
-                headers: 0,
                 place: 0,
+                headers: 0,
             },
+            nodes,
         }
     }
 }

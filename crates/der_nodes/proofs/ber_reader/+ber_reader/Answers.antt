@@ -27,21 +27,20 @@ use Rattle.der_nodes.proofs.ber_reader.+ber_reader.Goals as goal
 
 -- a short element
 
-pub read_element-returns-in_err-read_items-clause-found : goal.read_element-returns-in_err-read_items-clause-found
-read_element-returns-in_err-read_items-clause-found g t c =
+pub read_element-returns-in-Err-clause-found : goal.read_element-returns-in-Err-clause-found
+read_element-returns-in-Err-clause-found g t c =
     let short = c.in-Some.short in
     let is : IsListOctet short.first = search rules in
-    let p = err_from_is_err_and c.from_residual.result c.from_residual.ensures.1 in
-    rw (p.1, p.2) (passed_on _ _ c.in_err-read_items.field-0.0 c.in_err-read_items.ensures.found
-    (λ e q. ber_list_refused c.args.max_depth c.args.i.now short.content.now short.rest.now short.first c.args.end e _ (omega arith) (omega (arith, c.requires.room)) c.in-Some.ensures is q)
-    (λ m q. absurd q) (λ m. m))
+    passed_on _ _ c.in-Err.e c.in-Err.ensures.found
+    (λ e q. ber_list_refused c.args.max_depth c.args.i.now short.content.now short.rest.now short.first c.args.end e c.read_items.new.tape.progress.place (omega arith) (omega (arith, c.requires.room)) c.in-Some.ensures is q)
+    (λ m q. absurd q) (λ m. m)
 
 pub read_element-returns-then-is_list_octet-clause-found : goal.read_element-returns-then-is_list_octet-clause-found
 read_element-returns-then-is_list_octet-clause-found g t c =
     let short = c.in-Some.short in
     let is : IsListOctet short.first = search rules in
     ber_list_written c.args.max_depth c.args.i.now short.content.now short.rest.now short.first c.args.end c.args.tape.now.count c.read_items.new.tape.count c.args.tape.now.nodes.now c.read_items.new.tape.nodes.now c.put.new.nodes
-    (omega arith) c.requires.room c.in-Some.ensures is c.in_ok-read_items.ensures.found (rw (← c.universal_element.ensures) c.put.ensures)
+    (omega arith) c.requires.room c.in-Some.ensures is c.in_default-read_items.ensures.found (rw (← c.universal_element.ensures) c.put.ensures)
 
 pub read_element-returns-then-is_plain_leaf-clause-found : goal.read_element-returns-then-is_plain_leaf-clause-found
 read_element-returns-then-is_plain_leaf-clause-found g t c =
@@ -51,24 +50,24 @@ read_element-returns-then-is_plain_leaf-clause-found g t c =
     (ber_plain_written framing_budget c.args.max_depth c.args.i.now short.content.now short.rest.now short.first c.args.end c.args.tape.now.count c.args.tape.now.nodes.now c.put-then-is_plain_leaf.new.nodes
     (omega arith) (omega arith) (omega arith) c.requires.room c.in-Some.ensures (c.is_plain_leaf.ensures is) (rw (← c.universal_element-then-is_plain_leaf.ensures) c.put-then-is_plain_leaf.ensures))
 
-pub read_element-returns-in_err-read_items-clause-bounded : goal.read_element-returns-in_err-read_items-clause-bounded
-read_element-returns-in_err-read_items-clause-bounded g t c =
+pub read_element-returns-in-Err-clause-bounded : goal.read_element-returns-in-Err-clause-bounded
+read_element-returns-in-Err-clause-bounded g t c =
     let short = c.in-Some.short in
     let size = short_octets c.args.i.now short.first short.content.now short.rest.now c.in-Some.ensures in
-    omega (arith, size, c.in_err-read_items.ensures.bounded)
+    omega (arith, size, c.in-Err.ensures.bounded)
 
 pub read_element-returns-then-is_list_octet-clause-counted : goal.read_element-returns-then-is_list_octet-clause-counted
 read_element-returns-then-is_list_octet-clause-counted g t c =
     let short = c.in-Some.short in
     let size = short_octets c.args.i.now short.first short.content.now short.rest.now c.in-Some.ensures in
-    let k = c.in_ok-read_items.ensures.counted in
+    let k = c.in_default-read_items.ensures.counted in
     (omega (arith, k.0), omega (arith, k.1, size, c.requires.room), omega (arith, k.2), omega (arith, k.3, size))
 
 pub read_element-returns-then-is_list_octet-clause-bounded : goal.read_element-returns-then-is_list_octet-clause-bounded
 read_element-returns-then-is_list_octet-clause-bounded g t c =
     let short = c.in-Some.short in
     let size = short_octets c.args.i.now short.first short.content.now short.rest.now c.in-Some.ensures in
-    omega (arith, size, c.in_ok-read_items.ensures.bounded)
+    omega (arith, size, c.in_default-read_items.ensures.bounded)
 
 pub read_element-returns-then-is_plain_leaf-clause-counted : goal.read_element-returns-then-is_plain_leaf-clause-counted
 read_element-returns-then-is_plain_leaf-clause-counted g t c =

@@ -14,21 +14,20 @@ use Rattle.der_nodes.proofs.der_reader.+der_reader.Goals as goal
 
 -- a short element
 
-pub read_element-returns-in_err-read_items-clause-found : goal.read_element-returns-in_err-read_items-clause-found
-read_element-returns-in_err-read_items-clause-found g t c =
+pub read_element-returns-in-Err-clause-found : goal.read_element-returns-in-Err-clause-found
+read_element-returns-in-Err-clause-found g t c =
     let short = c.in-Some.short in
     let is : IsListOctet short.first = search rules in
-    let p = err_from_is_err_and c.from_residual.result c.from_residual.ensures.1 in
-    rw (p.1, p.2) (passed_on _ _ c.in_err-read_items.field-0.0 c.in_err-read_items.ensures.found
-    (λ e q. der_list_refused c.args.max_depth c.args.i.now short.content.now short.rest.now short.first c.args.end e _ (omega arith) (omega (arith, c.requires)) c.in-Some.ensures is q)
-    (λ m q. absurd q) (λ m. m))
+    passed_on _ _ c.in-Err.e c.in-Err.ensures.found
+    (λ e q. der_list_refused c.args.max_depth c.args.i.now short.content.now short.rest.now short.first c.args.end e c.read_items.new.tape.progress.place (omega arith) (omega (arith, c.requires)) c.in-Some.ensures is q)
+    (λ m q. absurd q) (λ m. m)
 
 pub read_element-returns-then-is_list_octet-clause-found : goal.read_element-returns-then-is_list_octet-clause-found
 read_element-returns-then-is_list_octet-clause-found g t c =
     let short = c.in-Some.short in
     let is : IsListOctet short.first = search rules in
     der_list_written c.args.max_depth c.args.i.now short.content.now short.rest.now short.first c.args.end c.args.tape.now.count c.read_items.new.tape.count c.args.tape.now.nodes.now c.read_items.new.tape.nodes.now c.put.new.nodes
-    (omega arith) c.requires c.in-Some.ensures is c.in_ok-read_items.ensures.found (rw (← c.universal_element.ensures) c.put.ensures)
+    (omega arith) c.requires c.in-Some.ensures is c.in_default-read_items.ensures.found (rw (← c.universal_element.ensures) c.put.ensures)
 
 pub read_element-returns-then-is_plain_leaf-clause-found : goal.read_element-returns-then-is_plain_leaf-clause-found
 read_element-returns-then-is_plain_leaf-clause-found g t c =
