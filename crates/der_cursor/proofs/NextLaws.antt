@@ -8,7 +8,7 @@ use Rattle.der_base.specs.declared.header.Class.TheVariants.{Universal, Applicat
 use Rattle.der_base.specs.Octets.{class_number, constructed_bit, leading_bits, groups}
 use Rattle.der_base.proofs.Octets.Identifiers.{identifier_long, identifier_short}
 use Rattle.der_cursor.specs.Elements.{IsNext}
-use Rattle.der_cursor.proofs.NamedLaws.{take_all}
+use Rattle.std.proofs.lemmas.List.{take_all}
 
 pub class_same : (c c' : Class) → class_number c ≡ class_number c' → c ≡ c'
 class_same Universal Universal e = refl

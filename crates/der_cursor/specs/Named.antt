@@ -1,6 +1,6 @@
 -- The names of fields that a refusal has.
 use Rattle.std.specs.Borrow.{Bor}
-use Rattle.std.specs.Prelude.{◌≡◌, ℕ, Bool, List, [], ◌∷◌, ◌++◌, take, Result, Ok, Err, MatchResult}
+use Rattle.std.specs.Prelude.{◌≡◌, ℕ, ◌-◌, Bool, List, [], ◌∷◌, length, drop, Result, Ok, Err, MatchResult}
 use Rattle.std.specs.Result.{IsErrAnd}
 use Rattle.der_base.specs.declared.error.Err.{Err as Refused}
 use Rattle.der_base.specs.declared.error.Error.{Error as BerError}
@@ -11,16 +11,24 @@ use Rattle.der_cursor.specs.declared.named.FieldRefusal.{FieldRefusal}
 use Rattle.der_cursor.specs.declared.refusal.Refusal.{Refusal}
 use Rattle.der_cursor.specs.Cursors.{OpensAt}
 
+-- the names of the fields that a refused element is in, the outermost first
+abbrev pub names_of : FieldRefusal → List (Bor (List ℕ))
+names_of f = f.names.items
+
+-- the last eight names, which are the innermost
+abbrev pub innermost : List (Bor (List ℕ)) → List (Bor (List ℕ))
+innermost names = drop (length names - 8) names
+
 -- the value, or the refusal with one name
 abbrev pub NamesRefusal : {T : Type 0} → Result T (Refusal BerError) → Bor (List ℕ) → Result T FieldRefusal → Type 0
 NamesRefusal (Ok x) name result = result ≡ Ok x
-NamesRefusal (Err e) name result = IsErrAnd result (λ f. (f.refusal ≡ e) × (f.names.items ≡ name ∷ []))
+NamesRefusal (Err e) name result = IsErrAnd result (λ f. (f.refusal ≡ e) × (names_of f ≡ name ∷ []))
 
--- the value, or the refusal with one name more, of eight at most
+-- the value, or the refusal with one name more in front
 abbrev pub NamesMore : {T : Type 0} → Result T FieldRefusal → Bor (List ℕ) → Result T FieldRefusal → Type 0
 NamesMore (Ok x) name result = result ≡ Ok x
 NamesMore (Err e) name result = IsErrAnd result (λ f. (f.refusal ≡ e.refusal)
-    × (f.names.items ≡ take 8 (e.names.items ++ name ∷ [])))
+    × (names_of f ≡ innermost (name ∷ names_of e)))
 
 -- the value, or the reason alone
 abbrev pub reason_in : {T : Type 0} → Result T FieldRefusal → Result T (Refused BerError)

@@ -1,5 +1,7 @@
 //! Names of fields in errors.
+ghost use Rattle.std.specs.Prelude.{◌≡◌};
 ghost use Rattle.der_cursor.specs.Named.{IsOfElement, IsSettled, NamesMore, NamesOfElement, NamesRefusal, Settles};
+ghost use Rattle.der_cursor.specs.Named.{names_of};
 
 use crate::cursor::Cursor;
 use crate::refusal::Refusal;
@@ -9,7 +11,7 @@ use der_base::header::{Class, Tag};
 use std::error::Error;
 use std::fmt;
 
-/// How many names an error keeps. Those of further fields around them are left out.
+/// How many names an error keeps: the innermost.
 pub(crate) const MOST_NAMES: usize = 8;
 
 impl Refusal<BerError> {
@@ -49,13 +51,20 @@ impl Refusal<BerError> {
 /// "tbsCertificate.serialNumber at 13: ..".
 #[derive(Drop)]
 pub struct FieldRefusal {
-    /// The innermost first.
+    /// The outermost first.
     names: ArrayVec<&'static str, MOST_NAMES>,
     /// The offset and the reason.
     pub refusal: Refusal<BerError>,
 }
 
 impl FieldRefusal {
+    /// The names of the fields that the element is in, the outermost first. The innermost eight are kept.
+    pub fn names(&self) -> &[&'static str]
+        ensures { result.now ≡ names_of self.now }
+    {
+        self.names.as_slice()
+    }
+
     /// The same error, of a field of an element that the input holds whole. No further octets help, so
     /// `Err::Incomplete` becomes the error Incomplete.
     pub fn settled(self) -> FieldRefusal
@@ -94,7 +103,7 @@ impl fmt::Debug for FieldRefusal {
 
 impl fmt::Display for FieldRefusal {
     fn fmt<W: fmt::Write>(&self, f: &mut fmt::Formatter<W>) -> fmt::Result {
-        for (index, name) in self.names.iter().rev().enumerate() {
+        for (index, name) in self.names.iter().enumerate() {
             if index > 0 {
                 write!(f, ".")?;
             }
@@ -118,7 +127,7 @@ pub trait Named<T> {
 
     ghost names: { Self → Bor (List ℕ) → Result T FieldRefusal → Type 0 };
 
-    /// The value, or the error with this name in front of those that it has.
+    /// The value, or the error with this name in front of those that it has, of which the last eight are kept.
     fn named(self, name: &'static str) -> Result<T, FieldRefusal>
         ensures { names self name.entry result };
 }
@@ -145,7 +154,7 @@ impl<T> Named<T> for Result<T, FieldRefusal> {
         match self {
             Ok(value) => Ok(value),
             Err(mut refused) => {
-                let _ = refused.names.try_push(name);
+                let _ = refused.names.try_insert(0, name);
                 Err(refused)
             }
         }

@@ -7,7 +7,7 @@ use der_base::rules::Rules;
 use der_cursor::{Cursor, FieldRefusal, Named, Refusal};
 use std::alloc::{AllocError, Global};
 use test_tables::fault::Fault;
-use test_tables::octets::push_octets;
+use test_tables::octets::{push_octets, push_word};
 
 /// A cursor, those of the elements around it from the outermost on, and the answers so far.
 #[derive(Drop)]
@@ -106,6 +106,7 @@ fn answer(alloc: Global, cursor: &mut Cursor<'_>, step: &str) -> Result<String, 
         "refuse" => format!(in alloc; "{}", cursor.refuse(BerError::BerValueError)),
         "is_next(0)" => format!(in alloc; "{}", cursor.is_next(Class::ContextSpecific, Tag(0))),
         "serial_number" => shown_serial_number(alloc, serial_number(cursor)),
+        "names" => shown_names(alloc, serial_number(cursor)),
         _ => return field(alloc, cursor, step),
     };
     Ok(text?)
@@ -140,4 +141,15 @@ fn shown_serial_number(
         Ok(number) => octets_text(alloc, number),
         Err(e) => format!(in alloc; "{e}"),
     }
+}
+
+/// The names of the fields that the error of a serial number has.
+fn shown_names(alloc: Global, read: Result<&[u8], FieldRefusal>) -> Result<String, AllocError> {
+    let mut text = String::new(alloc);
+    if let Err(refused) = read {
+        for name in refused.names() {
+            push_word(&mut text, name)?;
+        }
+    }
+    Ok(text)
 }
