@@ -30,7 +30,7 @@ pub record ReadsBlock (o : Options) (name label lines : List ℕ) (old new : Opt
   pub spells : base64_decode_of standard (filter is_character lines) ≡ Ok octets
   pub between : Option (List ℕ)
   pub heading : WritesHeading o.action name label old between
-  pub writes : WritesInside o.action o octets between new
+  pub writes : WritesInside o.action o label octets between new
 
 -- the n blocks of a text are read, in their order
 pub data ReadsBlocks (o : Options) (name : List ℕ) : ℕ → List ℕ → Option (List ℕ) → Option (List ℕ) → Type 0 where

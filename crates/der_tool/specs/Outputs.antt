@@ -1,19 +1,28 @@
 -- What is written of octets that are read to their end.
 use Rattle.std.specs.Prelude.{◌≡◌, ℕ, true, Option, List}
 use Rattle.std.specs.Io.KnownBytes.{Appends, Keeps}
+use Rattle.der_canon.specs.declared.error.CanonError.TheVariants as canon
+use Rattle.der_canon.specs.declared.error.NotCanonical.{NotCanonical}
+use Rattle.der_canon.specs.Errors.{IsCanonErrorOf}
 use Rattle.der_canon.specs.Same.{IsDerOf}
 use Rattle.der_check.specs.Elements.{AreElements}
 use Rattle.der_print.specs.Lines.{AreLines}
 use Rattle.der_tool.specs.declared.options.Action.{Action}
 use Rattle.der_tool.specs.declared.options.Action.TheVariants.{Tree, Check, Json, Canon}
 use Rattle.der_tool.specs.declared.options.Options.{Options}
+use Rattle.der_tool.specs.Json.{AreJsonLines}
 use Rattle.der_tool.specs.Labels.{heading_text}
-use Rattle.der_walk.specs.Visits.{Visited, Visits}
+use Rattle.der_tool.specs.Pem.{IsPem}
+use Rattle.der_walk.specs.Visits.{Extras, Visited, Visits}
+
+-- with the elements inside strings or without them, and with values that break their type
+abbrev pub extras_of : Options → Extras
+extras_of o = record { enters_strings = o.enters_strings; keeps_values = true }
 
 -- known octets grew by a line for each of the elements that the input is, in preorder
 pub record WritesTree (o : Options) (i : List ℕ) (old new : Option (List ℕ)) : Type 0 where
   pub elements : List Visited
-  pub visits : Visits (record { enters_strings = o.enters_strings; keeps_values = true }) o.rules 101 0 0 i elements
+  pub visits : Visits (extras_of o) o.rules 101 0 0 i elements
   pub text : List ℕ
   pub lines : AreLines o.style i elements text
   pub adds : Appends old new text
@@ -24,24 +33,55 @@ pub record WritesDer (i : List ℕ) (old new : Option (List ℕ)) : Type 0 where
   pub same : IsDerOf i text
   pub adds : Appends old new text
 
+-- known octets grew by a block of PEM with this label, of the input as DER writes it
+pub record WritesPem (label i : List ℕ) (old new : Option (List ℕ)) : Type 0 where
+  pub octets : List ℕ
+  pub same : IsDerOf i octets
+  pub text : List ℕ
+  pub is_pem : IsPem label octets text
+  pub adds : Appends old new text
+
+-- known octets grew by a line of JSON for each of the elements that the input is, in preorder
+pub record WritesJson (o : Options) (i : List ℕ) (old new : Option (List ℕ)) : Type 0 where
+  pub elements : List Visited
+  pub visits : Visits (extras_of o) o.rules 101 0 0 i elements
+  pub text : List ℕ
+  pub lines : AreJsonLines elements text
+  pub adds : Appends old new text
+
 -- nothing is written of an input that is elements
 pub record WritesNothing (o : Options) (i : List ℕ) (old new : Option (List ℕ)) : Type 0 where
   pub elements : AreElements o.rules 101 i
   pub keeps : Keeps old new
 
--- what an action writes of octets; of JSON no more is said
+-- what an action writes of octets
 abbrev pub Writes : Action → Options → List ℕ → Option (List ℕ) → Option (List ℕ) → Type 0
 Writes Tree o i old new = WritesTree o i old new
 Writes Check o i old new = WritesNothing o i old new
-Writes Json o i old new = Unit {0}
+Writes Json o i old new = WritesJson o i old new
 Writes Canon o i old new = WritesDer i old new
 
--- the same of the octets of a block: what is written as DER is in PEM again, of which no more is said
-abbrev pub WritesInside : Action → Options → List ℕ → Option (List ℕ) → Option (List ℕ) → Type 0
-WritesInside Tree o i old new = WritesTree o i old new
-WritesInside Check o i old new = WritesNothing o i old new
-WritesInside Json o i old new = Unit {0}
-WritesInside Canon o i old new = Unit {0}
+-- the same of the octets of a block with this label: what is written as DER is in PEM again
+abbrev pub WritesInside : Action → Options → List ℕ → List ℕ → Option (List ℕ) → Option (List ℕ) → Type 0
+WritesInside Tree o label i old new = WritesTree o i old new
+WritesInside Check o label i old new = WritesNothing o i old new
+WritesInside Json o label i old new = WritesJson o i old new
+WritesInside Canon o label i old new = WritesPem label i old new
+
+-- the input is no elements that are visited to its end
+abbrev pub IsNoVisit : Options → List ℕ → Type 0
+IsNoVisit o i = (vs : List Visited) → ¬ Visits (extras_of o) o.rules 101 0 0 i vs
+
+-- they aren't written as DER, since they aren't elements by BER, or one of them has no form in DER
+abbrev pub IsNotWritten : List ℕ → Type 0
+IsNotWritten i = (e : NotCanonical) × IsCanonErrorOf i (canon.NotCanonical e)
+
+-- octets are refused by an action
+abbrev pub IsRefusedBy : Action → Options → List ℕ → Type 0
+IsRefusedBy Tree o i = IsNoVisit o i
+IsRefusedBy Check o i = ¬ AreElements o.rules 101 i
+IsRefusedBy Json o i = IsNoVisit o i
+IsRefusedBy Canon o i = IsNotWritten i
 
 -- what precedes that of a block with this label: a heading of a tree
 abbrev pub WritesHeading : Action → List ℕ → List ℕ → Option (List ℕ) → Option (List ℕ) → Type 0

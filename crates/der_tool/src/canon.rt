@@ -1,6 +1,9 @@
 //! The elements of an input as DER writes them.
-ghost use Rattle.std.specs.Prelude.{◌≡◌, IfOk, IsTrue, None};
-ghost use Rattle.der_tool.specs.Outputs.{WritesDer};
+ghost use Rattle.std.specs.Prelude.{◌≡◌, ℕ, IfOk, IsTrue, List, None, OnOk, Some, false};
+ghost use Rattle.std.specs.Io.KnownBytes.{Appends};
+ghost use Rattle.der_tool.specs.Outputs.{IsNotWritten, WritesDer, WritesPem};
+ghost use Rattle.der_tool.specs.Pem.{InLines, IsPem};
+ghost use Rattle.der_tool.specs.declared.origin.BlockName.{BlockName};
 
 use crate::label::Label;
 use crate::origin::Origin;
@@ -22,9 +25,13 @@ pub(crate) fn write_canonical<W: Write, X: Write>(
     out: &mut W,
     err: &mut X,
 ) -> io::Result<bool>
-    ensures { origin.entry.block ≡ None
+    ensures octets { origin.entry.block ≡ None
         → IfOk result (λ ok. IsTrue ok
         → WritesDer octets.now (W.contents out.old) (W.contents out.new)) }
+    ensures pem { (block : BlockName) → origin.entry.block ≡ Some block
+        → IfOk result (λ ok. IsTrue ok
+        → WritesPem block.label.now octets.now (W.contents out.old) (W.contents out.new)) }
+    ensures refused { IfOk result (λ ok. ok ≡ false → IsNotWritten octets.now) }
 {
     match canonical(alloc, octets) {
         Ok(written) => {
@@ -44,13 +51,28 @@ pub(crate) fn write_canonical<W: Write, X: Write>(
 }
 
 /// Writes octets as a block of PEM (RFC 7468).
-fn write_pem<W: Write>(alloc: Global, label: &[u8], octets: &[u8], out: &mut W) -> io::Result<()> {
+fn write_pem<W: Write>(alloc: Global, label: &[u8], octets: &[u8], out: &mut W) -> io::Result<()>
+    ensures { OnOk result ((text : List ℕ) × IsPem label.now octets.now text
+        × Appends (W.contents out.old) (W.contents out.new) text) }
+{
     let label = Label(label);
     let text = STANDARD.encode(alloc, octets)?;
     writeln!(out, "-----BEGIN {label}-----")?;
-    for line in text.as_bytes().chunks(LINE) {
-        out.write_all(line)?;
-        writeln!(out)?;
-    }
+    write_lines(text.as_bytes(), out)?;
     writeln!(out, "-----END {label}-----")
+}
+
+/// Writes a text in lines of 64 characters.
+fn write_lines<W: Write>(text: &[u8], out: &mut W) -> io::Result<()>
+    ensures { OnOk result ((lines : List ℕ) × InLines text.now lines
+        × Appends (W.contents out.old) (W.contents out.new) lines) }
+{
+    let mut rest = text;
+    while !rest.is_empty() {
+        let (line, others) = rest.split_at(rest.len().min(LINE));
+        out.write_all(line)?;
+        out.write_all(b"\n")?;
+        rest = others;
+    }
+    Ok(())
 }

@@ -1,5 +1,7 @@
 //! What is said of an input that is refused.
-ghost use Rattle.std.specs.Prelude.{◌≡◌, IfOk, false};
+ghost use Rattle.std.specs.Prelude.{◌≡◌, ◌≢◌, IfOk, OnOk, false};
+ghost use Rattle.std.specs.Io.KnownBytes.{Keeps};
+ghost use Rattle.der_tool.specs.declared.options.Action.{Action};
 
 use crate::options::{Action, Options};
 use crate::origin::Origin;
@@ -38,7 +40,10 @@ pub(crate) fn refuse_form<W: Write, X: Write>(
     out: &mut W,
     err: &mut X,
 ) -> io::Result<bool>
-    ensures { IfOk result (λ ok. ok ≡ false) }
+    ensures refused { IfOk result (λ ok. ok ≡ false) }
+    ensures quiet { options.now.action ≢ Action.Check
+        → OnOk result (Keeps (W.contents out.old) (W.contents out.new)) }
+    ensures loud { options.now.action ≡ Action.Check → err.new ≡ err.old }
 {
     if options.action == Action::Check {
         writeln!(out, "der: {origin}: {e}")?;

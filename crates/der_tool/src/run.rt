@@ -5,8 +5,9 @@ ghost use Rattle.der_check.specs.Elements.{AreElements};
 ghost use Rattle.der_input.specs.declared.form.Form.{Form};
 ghost use Rattle.der_input.specs.Blocks.{label_of, lines_of};
 ghost use Rattle.der_tool.specs.Inputs.{IsFormOf, ReadsBlock, ReadsBlocks, ReadsInput};
-ghost use Rattle.der_tool.specs.Outputs.{Writes, WritesHeading, WritesInside};
+ghost use Rattle.der_tool.specs.Outputs.{IsRefusedBy, Writes, WritesHeading, WritesInside};
 ghost use Rattle.der_tool.specs.declared.options.Action.{Action};
+ghost use Rattle.der_tool.specs.declared.origin.BlockName.{BlockName};
 
 use crate::canon::write_canonical;
 use crate::json::print_json;
@@ -36,6 +37,8 @@ pub fn run<W: Write, X: Write>(
         → IfOk result (λ ok. IsTrue ok ↔ AreElements options.now.rules 101 input.now) }
     ensures read { options.now.has_several_files ≡ false → IfOk result (λ ok. IsTrue ok
         → ReadsInput options.now name.now input.now (W.contents out.old) (W.contents out.new)) }
+    ensures refused { options.now.form ≡ Some Form.Der → IfOk result (λ ok. ok ≡ false
+        → IsRefusedBy options.now.action options.now input.now) }
 {
     match form_in(options.form, input) {
         Ok(Form::Der) => act_on_file(alloc, options, name, input, out, err),
@@ -96,6 +99,7 @@ fn act_on_file<W: Write, X: Write>(
         → IfOk result (λ ok. IsTrue ok ↔ AreElements options.now.rules 101 octets.now) }
     ensures written { options.now.has_several_files ≡ false → IfOk result (λ ok. IsTrue ok
         → Writes options.now.action options.now octets.now (W.contents out.old) (W.contents out.new)) }
+    ensures refused { IfOk result (λ ok. ok ≡ false → IsRefusedBy options.now.action options.now octets.now) }
 {
     write_heading(options, name, out)?;
     act(
@@ -132,8 +136,10 @@ fn act<W: Write, X: Write>(
         → IfOk result (λ ok. IsTrue ok ↔ AreElements options.now.rules 101 octets.now) }
     ensures written { origin.entry.block ≡ None → IfOk result (λ ok. IsTrue ok
         → Writes options.now.action options.now octets.now (W.contents out.old) (W.contents out.new)) }
-    ensures inside { IfOk result (λ ok. IsTrue ok
-        → WritesInside options.now.action options.now octets.now (W.contents out.old) (W.contents out.new)) }
+    ensures inside { (block : BlockName) → origin.entry.block ≡ Some block → IfOk result (λ ok. IsTrue ok
+        → WritesInside options.now.action options.now block.label.now octets.now
+        (W.contents out.old) (W.contents out.new)) }
+    ensures refused { IfOk result (λ ok. ok ≡ false → IsRefusedBy options.now.action options.now octets.now) }
 {
     match options.action {
         Action::Check => check(options, origin, octets, out),
@@ -212,7 +218,7 @@ fn act_on_block<W: Write, X: Write>(
         block: block_name,
     };
     match block.decode(alloc) {
-        Ok(octets) => act(alloc, options, origin, &octets, out, err),
+        Ok(octets) => act(alloc, options, origin, octets.as_slice(), out, err),
         Err(e) => refuse_form(options, origin, e, out, err),
     }
 }

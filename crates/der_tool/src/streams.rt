@@ -1,5 +1,13 @@
 //! The program between its streams.
-ghost use Rattle.std.specs.Prelude.{◌≡◌, false};
+ghost use Rattle.std.specs.Prelude.{◌≡◌, ◌≢◌, ◌≤◌, ◌↔◌, IfErr, IfOk, IfSome, IsTrue, Some, codes, false, nat_lt, string_len};
+ghost use Rattle.std.specs.IoError.{error_kind};
+ghost use Rattle.std.specs.Process.{exit_status};
+ghost use Rattle.std.specs.declared.io.ErrorKind.{ErrorKind};
+ghost use Rattle.der_check.specs.Elements.{AreElements};
+ghost use Rattle.der_input.specs.declared.form.Form.{Form};
+ghost use Rattle.der_tool.specs.Inputs.{ReadsInput};
+ghost use Rattle.der_tool.specs.Statuses.{IsStatus};
+ghost use Rattle.der_tool.specs.declared.options.Action.{Action};
 
 use crate::arguments::{action_named, command, options_of};
 use crate::options::Options;
@@ -7,7 +15,7 @@ use crate::run::run;
 use clap::ArgMatches;
 use der_print::{Limit, Style};
 use std::alloc::Global;
-use std::env::Env;
+use std::env::{Env, VarError};
 use std::io::{BufWriter, ErrorKind, Read, Write};
 use std::process::ExitCode;
 use std::rt::Files;
@@ -30,16 +38,26 @@ pub fn program<R: Env + Files + AllocGlobal, I: Read + Drop, W: Write + Drop, X:
     out: W,
     mut err: X,
     is_terminal: bool,
-) -> ExitCode {
+) -> ExitCode
+    ensures { IsStatus (exit_status result) }
+{
     let status = match start(rt, input, out, &mut err, is_terminal) {
         Ok(status) => status,
-        Err(e) if e.kind() == ErrorKind::BrokenPipe => CLOSED_PIPE,
-        Err(e) => {
-            let _ = writeln!(err, "der: {e}");
-            REFUSED
-        }
+        Err(e) => status_after(e, &mut err),
     };
     ExitCode::from(status)
+}
+
+/// The status after an error, which is reported unless it is a closed pipe.
+fn status_after<X: Write>(e: io::Error, err: &mut X) -> u8
+    ensures closed { error_kind e ≡ ErrorKind.BrokenPipe → result ≡ 141 }
+    ensures refused { error_kind e ≢ ErrorKind.BrokenPipe → result ≡ 1 }
+{
+    if e.kind() == ErrorKind::BrokenPipe {
+        return CLOSED_PIPE;
+    }
+    let _ = writeln!(err, "der: {e}");
+    REFUSED
 }
 
 /// Reads the arguments.
@@ -49,7 +67,9 @@ fn start<R: Env + Files + AllocGlobal, I: Read + Drop, W: Write + Drop, X: Write
     mut out: W,
     err: &mut X,
     is_terminal: bool,
-) -> io::Result<u8> {
+) -> io::Result<u8>
+    ensures { IfOk result (λ status. status ≤ 2) }
+{
     let alloc = rt.alloc();
     let words: Vec<String> = env::args(rt)?.collect(alloc)?;
     let command = command(alloc)?;
@@ -86,13 +106,16 @@ fn style_of<R: Env + AllocGlobal>(rt: &R, is_terminal: bool) -> Style
             Some(columns) => Limit::Columns(columns),
             None => Limit::Front,
         },
-        colours: !has_no_color(rt),
+        colours: !is_set(env::var(rt, "NO_COLOR")),
     }
 }
 
-/// Whether the environment has `NO_COLOR`, and not as an empty text.
-fn has_no_color<R: Env + AllocGlobal>(rt: &R) -> bool {
-    match env::var(rt, "NO_COLOR") {
+/// Whether the environment has a variable, and not as an empty text.
+fn is_set(variable: Result<String, VarError>) -> bool
+    ensures set { IfOk variable (λ text. result ≡ nat_lt 0 (string_len text)) }
+    ensures none { IfErr variable (λ _. result ≡ false) }
+{
+    match variable {
         Ok(text) => !text.is_empty(),
         Err(_) => false,
     }
@@ -112,7 +135,9 @@ fn run_subcommand<R: Files + AllocGlobal, I: Read + Drop, W: Write + Drop, X: Wr
     input: I,
     out: W,
     err: &mut X,
-) -> io::Result<u8> {
+) -> io::Result<u8>
+    ensures { IfOk result (λ status. status ≤ 2) }
+{
     let Some((name, matches)) = matches.subcommand() else {
         return Ok(USAGE);
     };
@@ -156,7 +181,13 @@ fn run_reader<I: Read + Drop, W: Write, X: Write>(
     mut input: I,
     out: &mut W,
     err: &mut X,
-) -> io::Result<bool> {
+) -> io::Result<bool>
+    ensures checked { options.now.action ≡ Action.Check → options.now.form ≡ Some Form.Der → IfOk result
+        (λ ok. IfSome (I.remaining input) (λ octets. IsTrue ok ↔ AreElements options.now.rules 101 octets)) }
+    ensures read { options.now.has_several_files ≡ false → IfOk result (λ ok. IsTrue ok
+        → IfSome (I.remaining input) (λ octets. ReadsInput options.now (codes "standard input") octets
+        (W.contents out.old) (W.contents out.new))) }
+{
     let mut octets = Vec::new(alloc);
     input.read_to_end(&mut octets)?;
     run(alloc, options, "standard input", &octets, out, err)

@@ -1,6 +1,6 @@
 //! The elements of an input as lines.
-ghost use Rattle.std.specs.Prelude.{IfOk, IsTrue};
-ghost use Rattle.der_tool.specs.Outputs.{WritesTree};
+ghost use Rattle.std.specs.Prelude.{◌≡◌, IfOk, IsTrue, false};
+ghost use Rattle.der_tool.specs.Outputs.{IsNoVisit, WritesTree};
 
 use crate::options::Options;
 use crate::origin::Origin;
@@ -21,13 +21,15 @@ pub(crate) fn print_tree<W: Write, X: Write>(
     out: &mut W,
     err: &mut X,
 ) -> io::Result<bool>
-    ensures { IfOk result (λ ok. IsTrue ok
+    ensures read { IfOk result (λ ok. IsTrue ok
         → WritesTree options.now octets.now (W.contents out.old) (W.contents out.new)) }
+    ensures refused { IfOk result (λ ok. ok ≡ false → IsNoVisit options.now octets.now) }
 {
     let mut walk = Walk::new(octets, options.rules, options.enters_strings).keeping_values();
     let mut room = Room::new(alloc);
-    // An element has an octet at least, so the loop ends at the end of the octets.
-    'elements: for _ in 0..=octets.len() {
+    let mut read = 0;
+    // An element has two octets at least, so the loop ends at the end of the octets.
+    'elements: while read <= octets.len() {
         match walk.next_element() {
             Ok(Some(element)) => room = write_line(out, room, &element, options.style)?,
             Ok(None) => return Ok(true),
@@ -37,6 +39,7 @@ pub(crate) fn print_tree<W: Write, X: Write>(
                 return Ok(false);
             }
         }
+        read += 1;
     }
     Ok(false)
 }

@@ -6,6 +6,7 @@ use Rattle.der_input.specs.declared.form.Form.TheVariants.{Base64, Der, Hex}
 use Rattle.der_input.specs.Plain.{is_character, is_digit}
 use Rattle.der_tool.specs.Inputs.{ReadsBlocks, ReadsInput, blocks, octets}
 use Rattle.der_tool.specs.Outputs.{Writes}
+use Rattle.der_tool.proofs.Printing.{then_reads}
 use Rattle.der_tool.proofs.run.run.Goals as goal
 
 both : {A E : Type 0} (r : Result A E) (P Q : A → Type 0) → IsOkAnd r P → IfOk r Q → (v : A) × P v × Q v
@@ -14,10 +15,6 @@ both (Err e) P Q p q = absurd p
 
 not_both : {A E P : Type 0} {x : A} {y : E} {r : Result A E} → r ≡ Ok x → r ≡ Err y → P
 not_both p q = cc
-
-then_reads : {E : Type 0} (r : Result Bool E) (W R : Type 0) → (W → R) → IfOk r (λ ok. IsTrue ok → W) → IfOk r (λ ok. IsTrue ok → R)
-then_reads (Ok x) W R f h = λ t. f (h t)
-then_reads (Err e) W R f h = tt
 
 pub returns-in-Ok-Der-clause-read : goal.returns-in-Ok-Der-clause-read
 returns-in-Ok-Der-clause-read g c =
