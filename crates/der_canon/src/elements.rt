@@ -31,8 +31,8 @@ use std::alloc::Global;
 /// element that DER has no form of. These have the causes `OtherPart`, `UnusedBitsInside`, `NotDer` or a broken rule of
 /// DER: a number without octets (8.3.1), a NULL with octets (8.8.2), more than seven unused bits or some of no octet
 /// (8.6.2), a time that isn't as DER writes it (11.7, 11.8), and a part of another type or after unused bits (8.6.4,
-/// 8.7.3). The content of a string in parts is looked at after all these. Where DER has more octets than a usize counts,
-/// the cause is NotDer and the offset 0: only an input of 2^60 octets or more can have so many.
+/// 8.7.3). The content of a string in parts is looked at after all these. Where DER has more octets than a usize
+/// counts, the cause is NotDer and the offset 0: only an input of 2^60 octets or more can have so many.
 ///
 /// ```
 /// let mut out = [0; 8];

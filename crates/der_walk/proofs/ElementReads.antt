@@ -5,6 +5,7 @@ use Rattle.std.specs.Prelude.{◌↔◌, MatchOption, IfSome, IsSome}
 use Rattle.der_base.specs.declared.header.Class.{Class}
 use Rattle.der_base.specs.declared.header.Class.TheVariants.{Universal}
 use Rattle.der_base.specs.declared.header.Header.{Header}
+use Rattle.der_base.specs.Cut.{IsCut}
 use Rattle.der_base.specs.Header.{class_of, is_constructed, number_of, length_of}
 use Rattle.der_base.specs.Headers.{leading_header}
 use Rattle.der_base.specs.Octets.{identifier}
@@ -22,6 +23,7 @@ use Rattle.der_walk.specs.Ends.{end_of, IsWithin}
 use Rattle.der_walk.specs.Walked.{visited_of}
 use Rattle.der_walk.specs.Reading.{StartsWith, FindsContent, IsChecked, Holds, IsRead, whole, string, list, definite_of, extras_of, OctetsHere, ReadsHere}
 use Rattle.der_walk.proofs.Headers.{Parts, header_parts, header_two, checked, raw_tag_read}
+use Rattle.der_walk.proofs.Values.{whole_not_cut}
 
 -- what is visited, where only the header matters
 visited_plain : (e : Element) (h : List ℕ) (p : Bool) (n : Option ℕ) → e.header ≡ length h → e.length ≡ n → e.constructed ≡ p → e.holds_der ≡ false → e.breaks_its_type ≡ false
@@ -94,6 +96,11 @@ not_entered x e w ep c never en ec u v h = never (en, (ep, ec, of e.content c))
 holds_content : (d t : ℕ) (w : List ℕ) (c : Option (Bor (List ℕ))) → MatchOption c ⊥ (λ v. v.now ≡ w) → MatchOption c ⊥ (λ w. (u v : List ℕ) × HoldsElement d t w.now u v) → (u v : List ℕ) × HoldsElement d t w u v
 holds_content d t w None c h = absurd c
 holds_content d t w (Some b) c (u, v, h) = (u, v, subst (λ l. HoldsElement d t l u v) c h)
+
+-- what is found where there is a result
+pub some_found : (P : List ℕ → Type 0) (o : Option (Bor (List ℕ))) → IsSome o → Finds P o → (rest : List ℕ) × P rest
+some_found P None some f = absurd (cc)
+some_found P (Some x) some f = (x.now, f.found)
 
 -- nothing is found where there is no result
 pub none_found : (P : List ℕ → Type 0) (result : Option (Bor (List ℕ))) → ¬ IsSome result → Finds P result → (rest : List ℕ) → P rest → ⊥
@@ -230,3 +237,20 @@ reads_here w i y e a s f room checks holds shallow = record {
   read = reads (extras_of w) w.content.rules i y w.at (length w.opened.items) w.content.visited e a s f checks holds;
   octets = octets_here w.content.rules i y w.at (length w.opened.items) w.content.visited e a s f;
 }
+
+-- a primitive element is whole
+pub whole_here : (r : Rules) (i : List ℕ) (y : Bor (List ℕ) × Header) (at k j : ℕ) (e : Element) → AnswersHeader r i (Ok y) → StartsWith y.1 (length i - length y.0.now) at k j e → FindsContent e y.0.now e.content
+    → e.constructed ≡ false → IsCut i → ⊥
+whole_here r i y at k j e a s f ep cut = of e.content f
+  where
+    g : Parts r i e.class e.constructed e.number e.length y.0.now
+    g = parts_of r i y _ at k j e a s
+
+    by_length : (l : Option ℕ) → e.length ≡ l → IsHeaderBy r e.class e.constructed e.number l g.octets
+    by_length l q = subst (λ n. IsHeaderBy r e.class e.constructed e.number n g.octets) q g.is
+
+    of : (c : Option (Bor (List ℕ))) → FindsContent e y.0.now c → ⊥
+    of None (inl t) = absurd (cc)
+    of None (inr n) = no_length r e.class e.constructed e.number g.octets ep (by_length None n)
+    of (Some w) (rest, split, len) =
+        whole_not_cut r i e.class e.constructed e.number g.octets w.now rest (by_length (Some (length w.now)) len) (g.split ∙ ap (λ l. g.octets ++ l) split) cut

@@ -1,7 +1,7 @@
 -- Where contents end.
 use Rattle.std.proofs.Common.{◌≡◌, ℕ, ◌≤◌, true, Option, Some, None, refl, sym, subst, arith}
 use Rattle.std.specs.Prelude.{IsSomeAnd}
-use Rattle.der_walk.specs.Ends.{end_from, ends_at_marker, EndsWithin, IsWithin, limit_of}
+use Rattle.der_walk.specs.Ends.{end_from, ends_at_marker, EndsWithin, IsWithin, limit_of, overrun}
 
 pub within_later : (n m : ℕ) (e : Option ℕ) → m ≤ n → IsWithin n e → IsWithin m e
 within_later n m (Some k) h w = omega (arith, h, w)
@@ -22,6 +22,10 @@ limit_least n l None h w = h
 pub limit_size : (l : ℕ) (e : Option ℕ) → limit_of l e ≤ l
 limit_size l (Some k) = omega arith
 limit_size l None = omega arith
+
+pub no_overrun : (n : ℕ) (e : Option ℕ) → IsWithin n e → overrun n e ≡ 0
+no_overrun n (Some k) h = omega (arith, h)
+no_overrun n None h = refl
 
 -- an indefinite length is limited by that around it
 pub same_end : (p : ℕ) (e l : Option ℕ) → ends_at_marker l ≡ true → end_from p e l ≡ e

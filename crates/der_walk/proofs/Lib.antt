@@ -6,9 +6,11 @@ pub mod Headers
 pub mod Next
 pub mod OneVisit
 pub mod Opening
+pub mod PathTexts
 pub mod Refusals
 pub mod Rest
 pub mod Steps
 pub mod Strings
+pub mod Values
 pub mod VisitedElements
 pub mod Walks

@@ -25,33 +25,44 @@ use Rattle.der_walk.proofs.Opening.{header_no_marker, header_some, into_definite
 use Rattle.der_walk.proofs.VisitedElements.{string_not_zero}
 use Rattle.der_walk.proofs.Steps.{advance, go_into, open_depth, within}
 
+-- a list is opened whose header is h
+module _ (i : List ℕ) (r : Rules) (e : Element) (h : List ℕ) (l : Option ℕ) (el : e.length ≡ l) (eh : e.header ≡ length h) (ep : e.constructed ≡ true) (ed : e.holds_der ≡ false) (eo : e.breaks_its_type ≡ false)
+    (is : IsHeaderBy r e.class true e.number l h) (there : drop e.offset i ≡ h ++ drop (e.offset + e.header) i) where
+  list_header : between i e.offset (e.offset + e.header) ≡ h
+  list_header =
+      let q : e.offset + e.header ≡ e.offset + length h = omega (arith, eh) in
+      ap (λ m. between i e.offset m) q ∙ between_front i e.offset h (drop (e.offset + e.header) i) there
+
+  list_begins : BeginsAt i r e.depth e.offset (visited_of e)
+  list_begins = record {
+    octets = h;
+    rest = drop (e.offset + e.header) i;
+    split = there;
+    is = subst (λ q. IsHeaderBy r e.class q e.number e.length h) (sym ep) (subst (λ q. IsHeaderBy r e.class true e.number q h) (sym el) is);
+    header = eh;
+    offset = refl;
+    depth = refl;
+    holds = ed ∙ sym (ap (λ b. not b) ep);
+    whole = eo;
+  }
+
+  list_no_marker : (z : List ℕ) → drop e.offset i ≡ end_marker ++ z → ⊥
+  list_no_marker z q = header_no_marker r e.class true e.number l h (drop (e.offset + e.header) i) z is (λ t. absurd (cc)) (sym there ∙ q)
+
 -- a list that is opened
 open_list : (x : Extras) (r : Rules) (i : List ℕ) (d : ℕ) (e : Element) (h : List ℕ) (l end : Option ℕ) → e.length ≡ l → e.header ≡ length h → e.constructed ≡ true → e.holds_der ≡ false → e.breaks_its_type ≡ false
     → IsHeaderBy r e.class true e.number l h → MayBeConstructed r e.class e.number → drop e.offset i ≡ h ++ drop (e.offset + e.header) i
     → IsOpen x i r d e.depth e.offset (e.offset + e.header) r (end_from (e.offset + e.header) end l) (ends_at_marker l) (visited_of e)
-open_list x r i d e h (Some n) end el eh ep ed eo is may there = record { closes = closes; opens = opens; header = header_is; begins = omega (arith, eh, header_some r e.class true e.number (Some n) h is); no_marker = no_marker }
+open_list x r i d e h (Some n) end el eh ep ed eo is may there = record {
+  closes = closes;
+  opens = opens;
+  header = list_begins i r e h (Some n) el eh ep ed eo is there;
+  begins = omega (arith, eh, header_some r e.class true e.number (Some n) h is);
+  no_marker = list_no_marker i r e h (Some n) el eh ep ed eo is there;
+}
   where
     p : ℕ
     p = e.offset + e.header
-
-    here : between i e.offset p ≡ h
-    here = (let q : p ≡ e.offset + length h = omega (arith, eh) in ap (λ m. between i e.offset m) q ∙ between_front i e.offset h (drop p i) there)
-
-    header_is : BeginsAt i r e.depth e.offset (visited_of e)
-    header_is = record {
-      octets = h;
-      rest = drop p i;
-      split = there;
-      is = subst (λ q. IsHeaderBy r e.class q e.number e.length h) (sym ep) (subst (λ q. IsHeaderBy r e.class true e.number q h) (sym el) is);
-      header = eh;
-      offset = refl;
-      depth = refl;
-      holds = ed ∙ sym (ap (λ b. not b) ep);
-      whole = eo;
-    }
-
-    no_marker : (z : List ℕ) → drop e.offset i ≡ end_marker ++ z → ⊥
-    no_marker z q = header_no_marker r e.class true e.number (Some n) h (drop p i) z is (λ t. absurd (cc)) (sym there ∙ q)
 
     opens : (b y : List ℕ) (us : List Visited) → drop e.offset i ≡ b ++ y → VisitsOne x r (suc d) e.depth e.offset b us
         → (w z : List ℕ) × (ws : List Visited) × (drop p i ≡ w ++ z) × Visits x r d (suc e.depth) p w ws × EndsAt i (Some (p + n)) false (p + length w) (e.offset + length b)
@@ -68,36 +79,23 @@ open_list x r i d e h (Some n) end el eh ep ed eo is may there = record { closes
         let w = between i p at in
         let ee : p + n ≡ at = (cc) in
         let len : length w ≡ n = omega (arith, ee, length-between i p at) in
-        let all : between i e.offset after ≡ h ++ w = ap (λ q. between i e.offset q) eb ∙ sym (between_more i e.offset p at (omega arith) hp) ∙ ap (λ l. l ++ w) here in
+        let all : between i e.offset after ≡ h ++ w = ap (λ q. between i e.offset q) eb ∙ sym (between_more i e.offset p at (omega arith) hp) ∙ ap (λ l. l ++ w) (list_header i r e h (Some n) el eh ep ed eo is there) in
         let begins : p ≡ e.offset + length h = omega (arith, eh) in
         constructed e.class e.number h w us (subst (λ q. IsHeaderBy r e.class true e.number (Some q) h) (sym len) is) all may (subst (λ q. Visits x r d (suc e.depth) q w us) begins v)
         (ap (λ q. q ∷ us) (same (Some (length w)) (el ∙ ap Some (sym len))))
       where
         same : (l : Option ℕ) → e.length ≡ l → visited_of e ≡ visited e.offset e.depth e.class true e.number h l
         same l el = cc
-open_list x r i d e h None end el eh ep ed eo is may there = record { closes = closes; opens = opens; header = header_is; begins = omega (arith, eh, header_some r e.class true e.number None h is); no_marker = no_marker }
+open_list x r i d e h None end el eh ep ed eo is may there = record {
+  closes = closes;
+  opens = opens;
+  header = list_begins i r e h None el eh ep ed eo is there;
+  begins = omega (arith, eh, header_some r e.class true e.number None h is);
+  no_marker = list_no_marker i r e h None el eh ep ed eo is there;
+}
   where
     p : ℕ
     p = e.offset + e.header
-
-    here : between i e.offset p ≡ h
-    here = (let q : p ≡ e.offset + length h = omega (arith, eh) in ap (λ m. between i e.offset m) q ∙ between_front i e.offset h (drop p i) there)
-
-    header_is : BeginsAt i r e.depth e.offset (visited_of e)
-    header_is = record {
-      octets = h;
-      rest = drop p i;
-      split = there;
-      is = subst (λ q. IsHeaderBy r e.class q e.number e.length h) (sym ep) (subst (λ q. IsHeaderBy r e.class true e.number q h) (sym el) is);
-      header = eh;
-      offset = refl;
-      depth = refl;
-      holds = ed ∙ sym (ap (λ b. not b) ep);
-      whole = eo;
-    }
-
-    no_marker : (z : List ℕ) → drop e.offset i ≡ end_marker ++ z → ⊥
-    no_marker z q = header_no_marker r e.class true e.number None h (drop p i) z is (λ t. absurd (cc)) (sym there ∙ q)
 
     opens : (b y : List ℕ) (us : List Visited) → drop e.offset i ≡ b ++ y → VisitsOne x r (suc d) e.depth e.offset b us
         → (w z : List ℕ) × (ws : List Visited) × (drop p i ≡ w ++ z) × Visits x r d (suc e.depth) p w ws × EndsAt i end true (p + length w) (e.offset + length b)
@@ -116,7 +114,7 @@ open_list x r i d e h None end el eh ep ed eo is may there = record { closes = c
         let w = between i p at in
         let all : between i e.offset after ≡ h ++ w ++ end_marker =
         sym (between_more i e.offset at after (omega arith) (omega (arith, ea))) ∙ ap (λ l. between i e.offset at ++ l) eb
-        ∙ ap (λ l. l ++ end_marker) (sym (between_more i e.offset p at (omega arith) hp) ∙ ap (λ l. l ++ w) here) in
+        ∙ ap (λ l. l ++ end_marker) (sym (between_more i e.offset p at (omega arith) hp) ∙ ap (λ l. l ++ w) (list_header i r e h None el eh ep ed eo is there)) in
         let begins : p ≡ e.offset + length h = omega (arith, eh) in
         indefinite e.class e.number h w us is all may (subst (λ q. Visits x r d (suc e.depth) q w us) begins v) (ap (λ q. q ∷ us) same)
       where

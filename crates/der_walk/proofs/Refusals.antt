@@ -1,7 +1,7 @@
 -- Where a walk is refused, no walk goes to the end of the input.
 use Rattle.std.proofs.Common.{◌≡◌, ◌≢◌, ℕ, ◌+◌, ◌-◌, ◌<◌, ◌≤◌, ◌⊎◌, ◌==◌, if◌then◌else◌, Bool, true, false, IsTrue, List, [], ◌∷◌, ◌++◌, length, drop, Option, Some, None, Result, Ok, Err, refl, sym, ap, subst, ◌∙◌, arith, append_assoc, length-append, length-drop, inl, inr}
 use Rattle.std.specs.Borrow.{Bor}
-use Rattle.std.specs.Prelude.{IsSomeAnd}
+use Rattle.std.specs.Prelude.{IfSome, IsSomeAnd}
 use Rattle.std.proofs.lemmas.List.{nil_from_length}
 use Rattle.der_base.specs.declared.error.Err.{Err as Refused}
 use Rattle.der_base.specs.declared.error.Err.TheVariants.{Incomplete, Error, Failure, OutOfMemory}
@@ -31,14 +31,14 @@ use Rattle.der_walk.specs.declared.path.Step.{Step}
 use Rattle.der_walk.specs.declared.refusal.Refusal.{Refusal}
 use Rattle.der_walk.specs.declared.walk.Walk.{Walk}
 use Rattle.der_walk.specs.Ends.{between, end_of, here_of, limit_of, overrun, IsWithin}
-use Rattle.der_walk.specs.Faults.{IsLastStep, IsStep, ended, header, content, too_deep, string, constructed, marker, value, cause_of_content, cause_of_end, cause_of_header, cause_of_lack, cause_of_value, content_at, ends_inside, missing_in, place_of}
+use Rattle.der_walk.specs.Faults.{HasRoom, IsReached, IsLastStep, IsStep, ended, header, content, too_deep, string, constructed, marker, value, cause_of_content, cause_of_end, cause_of_header, cause_of_lack, IsCauseOfValue, content_at, ends_inside, missing_in, place_of}
 use Rattle.der_walk.specs.Visits.{Visited, Extras, Visits, VisitsOne, none, one_more, primitive, broken, indefinite, may_break}
 use Rattle.der_walk.specs.Visits.{string as visits_string, constructed as visits_constructed}
 use Rattle.der_walk.specs.Walked.{EndsAt, HasVisited, IsRefused}
-use Rattle.der_walk.specs.Reading.{BeginsNone, EndsHere, FailsCheck, FailsConstructed, FailsPrimitive, Keeps, LacksContent, Refuses, StartsWith, StaysOpen, definite_of}
+use Rattle.der_walk.specs.Reading.{BeginsNone, EndsHere, FindsContent, FailsCheck, FailsConstructed, FailsPrimitive, Keeps, LacksContent, Refuses, StartsWith, StaysOpen, definite_of}
 use Rattle.der_walk.proofs.Between.{between_more, front_of_between}
 use Rattle.der_walk.proofs.ElementReads.{broken_not_zero}
-use Rattle.der_walk.proofs.Ends.{is_reached, limit_least, limit_size}
+use Rattle.der_walk.proofs.Ends.{is_reached, limit_least, limit_size, no_overrun}
 use Rattle.der_walk.proofs.Headers.{header_two, spells_parts}
 use Rattle.der_walk.proofs.OneVisit.{one_nonempty}
 use Rattle.der_walk.proofs.Rest.{no_limit, rest_of}
@@ -54,6 +54,9 @@ pub record Fits (x : Extras) (r : Rules) (here rest : List ℕ) (v : LeadingHead
 
 same_length : (n m : ℕ) → Definite n ≡ Definite m → n ≡ m
 same_length n m e = cc
+
+same_size : (n m : ℕ) → Some n ≡ Some m → n ≡ m
+same_size n m e = cc
 
 room_of : (n m : ℕ) (w rest : List ℕ) → n ≡ length w → Definite n ≡ Definite m → m ≤ length (w ++ rest)
 room_of n m w rest e q = let z = same_length n m q in omega (arith, z, e, length-append w rest)
@@ -125,21 +128,21 @@ at_content w end n = of (overrun end (end_of w) == 0)
     of true = refl
     of false = refl
 
-at_value : (w : Walk) (found : Result (Bor (List ℕ) × ℕ) (Refused BerError)) → place_of w (cause_of_value found) ≡ w.at
-at_value w (Ok x) = refl
-at_value w (Err (Error e)) = refl
-at_value w (Err (Failure e)) = refl
-at_value w (Err (Incomplete n)) = refl
-at_value w (Err OutOfMemory) = refl
+at_value : (w : Walk) (found : Result (Bor (List ℕ) × ℕ) (Refused BerError)) (c : Cause) → IsCauseOfValue found c → place_of w c ≡ w.at
+at_value w (Ok x) c h = ap (λ z. place_of w z) h
+at_value w (Err (Error e)) c h = ap (λ z. place_of w z) h
+at_value w (Err (Failure e)) c h = absurd h
+at_value w (Err (Incomplete n)) c h = absurd h
+at_value w (Err OutOfMemory) c h = absurd h
 
 placed : (w : Walk) (f : Refusal) (c : Cause) → place_of w c ≡ w.at → f.cause ≡ c → f.offset ≡ w.at → f.offset ≡ place_of w f.cause
 placed w f c p e q = q ∙ sym p ∙ ap (λ z. place_of w z) (sym e)
 
 -- without a header
-pub refuses_header : (w : Walk) (here : List ℕ) (e : Refused BerError) (f : Refusal) → AnswersHeader w.content.rules here (Err e) → f.cause ≡ cause_of_header w e → f.offset ≡ w.at → f.step ≡ None → Refuses w here f
-refuses_header w here e f a ec eo es = record {
+pub refuses_header : (w : Walk) (here : List ℕ) (e : Refused BerError) (f : Refusal) → here ≢ [] → AnswersHeader w.content.rules here (Err e) → f.cause ≡ cause_of_header w e → f.offset ≡ w.at → f.step ≡ None → Refuses w here f
+refuses_header w here e f some a ec eo es = record {
   none = λ d b rest us k q one. let (v, spells, z) = one_fits here rest q one in header_refused w.content.rules here e v a spells;
-  fault = header e a ec;
+  fault = header e some a ec;
   place = placed w f (cause_of_header w e) (at_header w e) ec eo;
   step = subst (λ q. IsLastStep w here q) (sym es) (λ v spells. header_refused w.content.rules here e v a spells);
 }
@@ -184,11 +187,29 @@ module _ (w : Walk) (here : List ℕ) (y : Bor (List ℕ) × Header) (e : Elemen
           step = step_of f.step l.step;
         }
 
+    has_room : (o : Option (Bor (List ℕ))) → FindsContent e y.0.now o → IfSome e.length (λ n. IsWithin (e.offset + e.header + n) (end_of w)) → HasRoom w here v
+    has_room o found room n is lacks = of o found
+      where
+        size : e.length ≡ Some n
+        size = s.length ∙ ap definite_of is
+
+        ends : overrun (content_at w here v + n) (end_of w) ≡ 0
+        ends =
+            let inside = subst (λ l. IfSome l (λ m. IsWithin (e.offset + e.header + m) (end_of w))) size room in
+            subst (λ p. overrun (p + n) (end_of w) ≡ 0) at (no_overrun (e.offset + e.header + n) (end_of w) inside)
+
+        of : (o : Option (Bor (List ℕ))) → FindsContent e y.0.now o → (v.constructed ≡ true) × (overrun (content_at w here v + n) (end_of w) ≡ 0)
+        of None (inl t) = (sym s.constructed ∙ t, ends)
+        of None (inr z) = absurd (cc)
+        of (Some c) (rest, split, len) =
+            let q : n ≡ length c.now = same_size n (length c.now) (sym size ∙ len) in
+            absurd (omega (arith, q, lacks, ap length split, length-append c.now rest))
+
     -- an element that is too deep
-    pub refuses_depth : 100 < e.depth → f.cause ≡ TooDeep → f.offset ≡ e.offset → IsSomeAnd f.step (λ z. IsStep z e.class e.number e.index) → Refuses w here f
-    refuses_depth deep ec eo es = record {
+    pub refuses_depth : (o : Option (Bor (List ℕ))) → FindsContent e y.0.now o → IfSome e.length (λ n. IsWithin (e.offset + e.header + n) (end_of w)) → 100 < e.depth → f.cause ≡ TooDeep → f.offset ≡ e.offset → IsSomeAnd f.step (λ z. IsStep z e.class e.number e.index) → Refuses w here f
+    refuses_depth o found room deep ec eo es = record {
       none = λ d b rest us k q one. (let z = deep_enough one in let g = s.depth in absurd (omega (arith, z, k, g, deep)));
-      fault = too_deep v spells (let g = s.depth in omega (arith, g, deep)) ec;
+      fault = too_deep v spells (has_room o found room) (let g = s.depth in omega (arith, g, deep)) ec;
       place = placed w f TooDeep refl ec (eo ∙ s.offset);
       step = step_of f.step es;
     }
@@ -224,35 +245,38 @@ module _ (w : Walk) (here : List ℕ) (y : Bor (List ℕ) × Header) (e : Elemen
     none_of never d b rest us k q one = never rest (fits here rest y a q one).kind
 
     -- an element that is refused itself
-    pub refuses_check : FailsCheck w here e f → Refuses w here f
-    refuses_check g = of g.fails
+    pub refuses_check : (o : Option (Bor (List ℕ))) → FindsContent e y.0.now o → IfSome e.length (λ n. IsWithin (e.offset + e.header + n) (end_of w)) → e.depth ≤ 100 → FailsCheck w here e f → Refuses w here f
+    refuses_check o found room shallow g = of g.fails
       where
+        reached : IsReached w here v
+        reached = record { header = spells; room = has_room o found room; shallow = (let q = s.depth in omega (arith, q, shallow)) }
+
         at_e : f.offset ≡ w.at
         at_e = g.offset ∙ s.offset
 
         of : FailsConstructed w.content.rules e f.cause ⊎ FailsPrimitive w here e f.cause → Refuses w here f
         of (inl (p, bad, inl (may, ec))) = record {
           none = none_of (not_list p bad);
-          fault = string v spells (sym s.constructed ∙ p) (λ m. bad (list_of m)) (of_list may) ec;
+          fault = string v reached (sym s.constructed ∙ p) (λ m. bad (list_of m)) (of_list may) ec;
           place = placed w f _ refl ec at_e;
           step = step_of f.step g.step;
         }
         of (inl (p, bad, inr (never, ec))) = record {
           none = none_of (not_list p bad);
-          fault = constructed v spells (sym s.constructed ∙ p) (λ m. never (ber_list m)) ec;
+          fault = constructed v reached (sym s.constructed ∙ p) (λ m. never (ber_list m)) ec;
           place = placed w f _ refl ec at_e;
           step = step_of f.step g.step;
         }
         of (inr (p, inl (eu, en, ec))) = record {
           none = none_of (not_marker p eu en);
-          fault = marker v spells (sym s.constructed ∙ p) (sym s.class ∙ eu) (sym s.number ∙ en) ec;
+          fault = marker v reached (sym s.constructed ∙ p) (sym s.class ∙ eu) (sym s.number ∙ en) ec;
           place = placed w f _ refl ec at_e;
           step = step_of f.step g.step;
         }
-        of (inr (p, inr (bad, never, found, af, ec))) = record {
+        of (inr (p, inr (no_zero, bad, never, answer, af, ec))) = record {
           none = none_of (not_value p bad never);
-          fault = value v found spells (sym s.constructed ∙ p) af bad ec;
-          place = placed w f _ (at_value w found) ec at_e;
+          fault = value v answer reached (sym s.constructed ∙ p) (λ c n. no_zero (s.class ∙ c) (s.number ∙ n)) af bad ec;
+          place = at_e ∙ sym (at_value w answer f.cause ec);
           step = step_of f.step g.step;
         }
 

@@ -1,5 +1,6 @@
 -- Where contents end.
-use Rattle.std.specs.Prelude.{◌≡◌, ℕ, ◌+◌, ◌-◌, ◌≤◌, min, Bool, true, false, Option, Some, None, IfSome, List, length, take, drop}
+use Rattle.std.specs.Prelude.{◌≡◌, ℕ, ◌+◌, ◌-◌, ◌≤◌, min, Bool, true, false, Option, Some, None, IfSome}
+use Rattle.std.specs.Prelude.{List, length, take, drop}
 use Rattle.der_walk.specs.declared.content.End.{End}
 use Rattle.der_walk.specs.declared.content.End.TheVariants.{At, After, Unlimited}
 use Rattle.der_walk.specs.declared.walk.Walk.{Walk}

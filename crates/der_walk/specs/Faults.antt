@@ -1,7 +1,7 @@
 -- Where and why a walk ends before its input does: what is wrong there.
 use Rattle.std.specs.Borrow.{Bor}
-use Rattle.std.specs.Prelude.{◌≡◌, ℕ, ◌+◌, ◌-◌, ◌<◌, ◌==◌, if◌then◌else◌, Bool, true, false, ◌&&◌, ◌≢◌, Option, Some, None, slice_get}
-use Rattle.std.specs.Prelude.{List, [], length, Result, Ok, Err}
+use Rattle.std.specs.Prelude.{◌≡◌, ◌≢◌, ℕ, ◌+◌, ◌-◌, ◌<◌, ◌≤◌, ◌==◌, if◌then◌else◌, Bool, true, false, ◌&&◌}
+use Rattle.std.specs.Prelude.{Option, Some, None, List, [], length, slice_get, Result, Ok, Err}
 use Rattle.der_base.specs.declared.error.Err.{Err as Refused}
 use Rattle.der_base.specs.declared.error.Err.TheVariants.{Incomplete, Error, Failure, OutOfMemory}
 use Rattle.der_base.specs.declared.error.Error.{Error as BerError}
@@ -15,8 +15,8 @@ use Rattle.der_base.specs.Rules.{AnswersHeader, SpellsHeaderBy}
 use Rattle.der_check.specs.Elements.{MayBeConstructed}
 use Rattle.der_check.specs.Readers.{AnswersOneElement, BeginsWithOne}
 use Rattle.der_walk.specs.declared.cause.Cause.{Cause}
-use Rattle.der_walk.specs.declared.cause.Cause.TheVariants.{Cut, PastEnd, NoEndMarker, EndMarker, Header, Value, PaddedArc}
-use Rattle.der_walk.specs.declared.cause.Cause.TheVariants.{Constructed, ConstructedString, TooDeep}
+use Rattle.der_walk.specs.declared.cause.Cause.TheVariants.{Cut, PastEnd, NoEndMarker, EndMarker, Header, Value}
+use Rattle.der_walk.specs.declared.cause.Cause.TheVariants.{PaddedArc, Constructed, ConstructedString, TooDeep}
 use Rattle.der_walk.specs.declared.content.End.{End}
 use Rattle.der_walk.specs.declared.content.End.TheVariants.{At, After, Unlimited}
 use Rattle.der_walk.specs.declared.content.Open.{Open}
@@ -68,46 +68,56 @@ abbrev pub cause_of_content : Walk → ℕ → ℕ → Cause
 cause_of_content w end n =
     if overrun end (end_of w) == 0 then Cut (missing_in w n) else PastEnd (overrun end (end_of w))
 
--- the cause where a primitive element is none
-abbrev pub cause_of_value : Result (Bor (List ℕ) × ℕ) (Refused BerError) → Cause
-cause_of_value (Ok x) = PaddedArc
-cause_of_value (Err (Error e)) = Value e
-cause_of_value (Err (Failure e)) = Value e
-cause_of_value (Err (Incomplete n)) = Cut 1
-cause_of_value (Err OutOfMemory) = Cut 1
+-- the cause where a primitive element is none: an error of its content, or an arc that is padded (8.19.2, 8.20.2)
+abbrev pub IsCauseOfValue : Result (Bor (List ℕ) × ℕ) (Refused BerError) → Cause → Type 0
+IsCauseOfValue (Ok x) c = c ≡ PaddedArc
+IsCauseOfValue (Err (Error e)) c = c ≡ Value e
+IsCauseOfValue r c = ⊥
 
 -- the cause where no octets are left here
 abbrev pub cause_of_end : Walk → Cause
 cause_of_end w = if ends_inside w.content.end && w.content.has_marker then NoEndMarker else Cut (missing_in w 2)
 
--- What is wrong at the start of the octets here, and its cause.
+-- the content after this header is here, or it is a list that is cut and ends in the content around it
+abbrev pub HasRoom : Walk → List ℕ → LeadingHeader → Type 0
+HasRoom w here v = (n : ℕ) → v.length ≡ Definite n → length v.rest < n
+    → (v.constructed ≡ true) × (overrun (content_at w here v + n) (end_of w) ≡ 0)
+
+-- the octets here begin with this header, and neither its length nor its depth is at fault
+pub record IsReached (w : Walk) (here : List ℕ) (v : LeadingHeader) : Type 0 where
+  pub header : SpellsHeaderBy w.content.rules here v
+  pub room : HasRoom w here v
+  pub shallow : length w.opened.items ≤ 100
+
+-- What is wrong at the start of the octets here, and its cause: the first of these that is so.
 pub data IsAtFault (w : Walk) (here : List ℕ) : Cause → Type 0 where
   -- there are none, and the content doesn't end
   ended : {c : Cause} → here ≡ [] → c ≡ cause_of_end w → IsAtFault w here c
   -- they begin with no header (8.1.2, 8.1.3)
-  header : {c : Cause} (e : Refused BerError) → AnswersHeader w.content.rules here (Err e) → c ≡ cause_of_header w e
-      → IsAtFault w here c
+  header : {c : Cause} (e : Refused BerError) → here ≢ [] → AnswersHeader w.content.rules here (Err e)
+      → c ≡ cause_of_header w e → IsAtFault w here c
   -- the content is longer than the one around it, or that of a primitive element is cut
   content : {c : Cause} (v : LeadingHeader) (n : ℕ) → SpellsHeaderBy w.content.rules here v → v.length ≡ Definite n
       → length v.rest < n → (v.constructed ≡ true → overrun (content_at w here v + n) (end_of w) ≢ 0)
       → c ≡ cause_of_content w (content_at w here v + n) (n - length v.rest) → IsAtFault w here c
   -- a hundred elements are around the one here, and one more
-  too_deep : {c : Cause} (v : LeadingHeader) → SpellsHeaderBy w.content.rules here v
+  too_deep : {c : Cause} (v : LeadingHeader) → SpellsHeaderBy w.content.rules here v → HasRoom w here v
       → 100 < length w.opened.items → c ≡ TooDeep → IsAtFault w here c
   -- a string, by DER (10.2)
-  string : {c : Cause} (v : LeadingHeader) → SpellsHeaderBy w.content.rules here v → v.constructed ≡ true
+  string : {c : Cause} (v : LeadingHeader) → IsReached w here v → v.constructed ≡ true
       → ¬ MayBeConstructed w.content.rules v.class v.number → MayBeConstructed Ber v.class v.number
       → c ≡ ConstructedString → IsAtFault w here c
   -- a type that is primitive by either rules
-  constructed : {c : Cause} (v : LeadingHeader) → SpellsHeaderBy w.content.rules here v → v.constructed ≡ true
+  constructed : {c : Cause} (v : LeadingHeader) → IsReached w here v → v.constructed ≡ true
       → ¬ MayBeConstructed Ber v.class v.number → c ≡ Constructed → IsAtFault w here c
   -- end-of-contents octets (8.1.5)
-  marker : {c : Cause} (v : LeadingHeader) → SpellsHeaderBy w.content.rules here v → v.constructed ≡ false
+  marker : {c : Cause} (v : LeadingHeader) → IsReached w here v → v.constructed ≡ false
       → v.class ≡ Universal → v.number ≡ 0 → c ≡ EndMarker → IsAtFault w here c
   -- the content is no value of the type
   value : {c : Cause} (v : LeadingHeader) (found : Result (Bor (List ℕ) × ℕ) (Refused BerError))
-      → SpellsHeaderBy w.content.rules here v → v.constructed ≡ false → AnswersOneElement w.content.rules here found
-      → ((rest : List ℕ) → ¬ BeginsWithOne w.content.rules here rest) → c ≡ cause_of_value found → IsAtFault w here c
+      → IsReached w here v → v.constructed ≡ false → (v.class ≡ Universal → v.number ≢ 0)
+      → AnswersOneElement w.content.rules here found → ((rest : List ℕ) → ¬ BeginsWithOne w.content.rules here rest)
+      → IsCauseOfValue found c → IsAtFault w here c
 
 -- the step of a path to an element of this class and number, of which so many precede it in the same content
 pub record IsStep (s : Step) (c : Class) (t n : ℕ) : Type 0 where

@@ -1,6 +1,7 @@
 pub mod Ends
 pub mod Faults
 pub mod Laws
+pub mod Paths
 pub mod Reading
 pub mod TypeNames
 pub mod Visits

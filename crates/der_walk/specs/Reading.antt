@@ -27,7 +27,7 @@ use Rattle.der_walk.specs.Visits.{Visited, Extras, VisitsOne, IsHeaderBy, IsStri
 use Rattle.der_walk.specs.declared.content.End.{End}
 use Rattle.der_walk.specs.declared.refusal.Refusal.{Refusal}
 use Rattle.der_walk.specs.Ends.{between, end_from, end_in, end_of, ends_at_marker, limit_of, overrun, IsWithin}
-use Rattle.der_walk.specs.Faults.{IsAtFault, IsLastStep, IsStep, cause_of_content, cause_of_value, place_of}
+use Rattle.der_walk.specs.Faults.{IsAtFault, IsLastStep, IsStep, IsCauseOfValue, cause_of_content, place_of}
 use Rattle.der_walk.specs.Walked.{visited_of}
 
 -- the number of octets of a length that is definite
@@ -203,9 +203,10 @@ FailsConstructed r e c = (e.constructed ≡ true) × (¬ MayBeConstructed r e.cl
 -- or those of a primitive one
 abbrev pub FailsPrimitive : Walk → List ℕ → Element → Cause → Type 0
 FailsPrimitive w here e c = (e.constructed ≡ false) × (((e.class ≡ Universal) × (e.number ≡ 0) × (c ≡ EndMarker))
-    ⊎ (((rest : List ℕ) → ¬ BeginsWithOne w.content.rules here rest) × (¬ Keeps w e)
+    ⊎ ((e.class ≡ Universal → e.number ≢ 0) × ((rest : List ℕ) → ¬ BeginsWithOne w.content.rules here rest)
+    × (¬ Keeps w e)
     × (found : Result (Bor (List ℕ) × ℕ) (Refused BerError)) × AnswersOneElement w.content.rules here found
-    × (c ≡ cause_of_value found)))
+    × IsCauseOfValue found c))
 
 -- the element e that begins here is refused itself
 pub record FailsCheck (w : Walk) (here : List ℕ) (e : Element) (f : Refusal) : Type 0 where

@@ -1,5 +1,7 @@
 //! The path to an element.
-ghost use Rattle.std.specs.Prelude.{◌≡◌, ◌<◌, ◌↔◌, IsTrue, [], ◌∷◌, ◌++◌, length};
+ghost use Rattle.std.specs.Prelude.{◌≡◌, ◌<◌, ◌↔◌, IsTrue, Some, [], ◌∷◌, ◌++◌, length};
+ghost use Rattle.std.specs.Fmt.{DisplaysOnOk};
+ghost use Rattle.der_walk.specs.Paths.{further_text};
 
 use crate::name::TypeName;
 use arrayvec::ArrayVec;
@@ -32,13 +34,17 @@ impl Default for Step {
 
 /// A universal type with its index, as `SEQUENCE[2]`. A tag of another class, as `[3]`.
 impl fmt::Display for Step {
+    ghost use Rattle.std.specs.Prelude.{Some};
+    ghost use Rattle.der_walk.specs.Paths.{step_text};
+
+    ghost output = { λ x. Some (step_text x) };
+
     fn fmt<W: fmt::Write>(&self, f: &mut fmt::Formatter<W>) -> fmt::Result {
         let name = self.name;
         let index = self.index;
-        if name.class == Class::Universal {
-            write!(f, "{name}[{index}]")
-        } else {
-            write!(f, "{name}")
+        match name.class {
+            Class::Universal => write!(f, "{name}[{index}]"),
+            Class::Application | Class::ContextSpecific | Class::Private => write!(f, "{name}"),
         }
     }
 }
@@ -75,13 +81,26 @@ impl Path {
 }
 
 impl fmt::Display for Path {
+    ghost use Rattle.std.specs.Prelude.{Some};
+    ghost use Rattle.der_walk.specs.Paths.{path_text};
+
+    ghost output = { λ x. Some (path_text x.steps.items) };
+
     fn fmt<W: fmt::Write>(&self, f: &mut fmt::Formatter<W>) -> fmt::Result {
-        for (place, step) in self.steps.as_slice().iter().enumerate() {
-            if place > 0 {
-                f.write_str(".")?;
-            }
-            write!(f, "{step}")?;
-        }
-        Ok(())
+        let [first, others @ ..] = self.steps.as_slice() else {
+            return Ok(());
+        };
+        write!(f, "{first}")?;
+        write_further(f, others)
     }
+}
+
+/// Writes steps, each after a point.
+fn write_further<W: fmt::Write>(f: &mut fmt::Formatter<W>, steps: &[Step]) -> fmt::Result
+    ensures { DisplaysOnOk W.Write.write_str_gives f.old result (Some (further_text steps.now)) f.new }
+{
+    for step in steps {
+        write!(f, ".{step}")?;
+    }
+    Ok(())
 }

@@ -1,13 +1,14 @@
 //! The walk.
 ghost use Rattle.der_base.specs.Header.{length_of as length_in};
 ghost use Rattle.der_walk.specs.Reading.{definite_of};
-ghost use Rattle.std.specs.Prelude.{◌≡◌, ◌+◌, ◌^◌, ◌<◌, ◌≤◌, ◌↔◌, ℕ, IfErr, IfOk, IfSome, IsTrue, MatchOption, None, false, true};
-ghost use Rattle.std.specs.Prelude.{◌++◌, List, Result, length, []};
+ghost use Rattle.std.specs.Prelude.{◌≡◌, ◌≢◌, ◌+◌, ◌^◌, ◌<◌, ◌≤◌, ◌↔◌, ◌++◌, ℕ, List, Result, length, [], false, true};
+ghost use Rattle.std.specs.Prelude.{IfErr, IfOk, IfSome, IsTrue, MatchOption, None};
 ghost use Rattle.std.specs.Borrow.{Bor};
 ghost use Rattle.der_base.specs.declared.error.Err.{Err as Refused};
 ghost use Rattle.der_base.specs.declared.error.Error.{Error as BerError};
 ghost use Rattle.der_check.specs.Readers.{AnswersOneElement};
-ghost use Rattle.der_walk.specs.Faults.{cause_of_value};
+ghost use Rattle.der_walk.specs.Faults.{IsCauseOfValue};
+ghost use Rattle.der_base.specs.Cut.{IsCut};
 
 use crate::cause::Cause;
 use crate::content::{Content, End, Open};
@@ -188,6 +189,7 @@ impl<'a> Walk<'a> {
     /// Reads the element at the start of the octets here.
     fn read_element(&self, here: &'a [u8]) -> Result<Element<'a>, Refusal>
         requires fits { self.now.at + length here.now ≤ limit_of (length self.now.input.now) (end_of self.now) }
+        requires some { here.now ≢ [] }
         ensures read { IfOk result (λ e. ReadsHere self.now here.now e) }
         ensures refused { IfErr result (Refuses self.now here.now) }
     {
@@ -267,6 +269,7 @@ impl<'a> Walk<'a> {
     /// Checks whether an element may be constructed, or what a primitive one contains, which begins here. Returns
     /// whether it breaks its type.
     fn check(&self, element: &Element<'a>, here: &[u8]) -> Result<bool, Refusal>
+        requires { element.now.constructed ≡ false → ¬ IsCut here.now }
         ensures checked { IfOk result (IsChecked self.now.keeps_values self.now.content.rules here.now element.now) }
         ensures refused { IfErr result (FailsCheck self.now here.now element.now) }
     {
@@ -286,7 +289,8 @@ impl<'a> Walk<'a> {
     /// Checks what a primitive element contains, which begins here. An end marker is no element. Returns whether it
     /// breaks its type.
     fn check_primitive(&self, element: &Element<'a>, here: &[u8]) -> Result<bool, Refusal>
-        requires { element.now.constructed ≡ false }
+        requires primitive { element.now.constructed ≡ false }
+        requires whole { ¬ IsCut here.now }
         ensures checked { IfOk result (IsChecked self.now.keeps_values self.now.content.rules here.now element.now) }
         ensures refused { IfErr result (FailsCheck self.now here.now element.now) }
     {
@@ -435,12 +439,12 @@ fn length_of(header: &Header<'_>) -> Option<usize>
 
 /// The cause for the content of a primitive element, which begins here and is refused.
 fn value_cause(rules: Rules, here: &[u8]) -> Cause
+    requires { ¬ IsCut here.now }
     ensures { (found : Result (Bor (List ℕ) × ℕ) (Refused BerError)) × AnswersOneElement rules here.now found
-        × (result ≡ cause_of_value found) }
+        × IsCauseOfValue found result }
 {
-    match check_one(rules, here) {
-        Ok(_) => Cause::PaddedArc,
-        Err(Refused::Error(e) | Refused::Failure(e)) => Cause::Value(e),
-        Err(Refused::Incomplete(_) | Refused::OutOfMemory) => Cause::Cut(1),
-    }
+    let Err(Refused::Error(e)) = check_one(rules, here) else {
+        return Cause::PaddedArc;
+    };
+    Cause::Value(e)
 }

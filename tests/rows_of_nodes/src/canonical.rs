@@ -2,6 +2,7 @@
 use der_canon::{CanonError, canonical, canonical_into};
 use der_tests_words::push_number;
 use std::alloc::{AllocError, Global};
+use crate::walks::push_path;
 use test_tables::fault::Fault;
 use test_tables::octets::{push_octets, push_word};
 
@@ -12,6 +13,21 @@ const FILL: u8 = 0x55;
 pub fn written(alloc: Global, input: &[u8]) -> Result<String, Fault> {
     let text = match canonical(alloc, input) {
         Ok(octets) => read_text(alloc, &octets)?,
+        Err(e) => refused_text(alloc, e)?,
+    };
+    Ok(text)
+}
+
+/// Why nothing is written: the offset, the path and the cause.
+pub fn refused(alloc: Global, input: &[u8]) -> Result<String, Fault> {
+    let text = match canonical(alloc, input) {
+        Ok(octets) => read_text(alloc, &octets)?,
+        Err(CanonError::NotCanonical(refused)) => {
+            let mut text = format!(in alloc; "at {}", refused.offset)?;
+            push_path(&mut text, &refused.path)?;
+            write!(text, ": {}", refused.cause)?;
+            text
+        }
         Err(e) => refused_text(alloc, e)?,
     };
     Ok(text)

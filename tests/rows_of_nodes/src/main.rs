@@ -1,11 +1,12 @@
-//! The rows of the readers of elements, of views of what they read, of walks, of the check of elements and of the
-//! canonical encoding. The rows stand in `data`.
+//! The rows of the readers of elements, of views of what they read, of walks, of the check of elements, of the
+//! canonical encoding, and of inputs as people have them. The rows stand in `data`.
 //!
 //! A call is followed by its depth, by the capacity of its buffer, or by what its module says.
 
 mod canonical;
 mod checked;
 mod elements;
+mod inputs;
 mod names;
 mod slots;
 mod views;
@@ -34,12 +35,15 @@ impl Calls for ElementCalls {
         let octets = octets(alloc, input)?;
         match call {
             "canonical" => written(alloc, &octets),
+            "not_canonical" => canonical::refused(alloc, &octets),
             "canonical_into" => in_each_capacity(alloc, &octets),
             "are_elements" => checked_list(alloc, &octets, words),
             "is_element" => checked_one(alloc, &octets, words),
             "name_of" => name(alloc, &octets),
             "each_line_is_found" => are_found(alloc),
             "walk" => walk(alloc, &octets, words),
+            "refused" => walks::refused(alloc, &octets, words),
+            "input" => inputs::input(alloc, &octets, words),
             "view" => view(alloc, &octets, words),
             "view_made_by_hand" => made_by_hand(alloc, &octets, words),
             _ => answer_of_elements(alloc, call, &octets, words),

@@ -1,6 +1,6 @@
 //! Walks over elements.
 use der_tests_words::{push_number, push_refusal};
-use der_walk::{Cause, Element, Refusal, Rules, Walk};
+use der_walk::{Cause, Element, Path, Refusal, Rules, Walk};
 use std::alloc::{AllocError, Global};
 use test_tables::fault::Fault;
 use test_tables::octets::push_word;
@@ -23,6 +23,38 @@ pub fn walk(alloc: Global, input: &[u8], words: &str) -> Result<String, Fault> {
         }
     }
     Ok(text)
+}
+
+/// How many elements are open where a walk ends before its input does, at which offset and path, and why. Behind the
+/// call stand the rules.
+pub fn refused(alloc: Global, input: &[u8], words: &str) -> Result<String, Fault> {
+    let mut walk = match words {
+        "BER" => Walk::new(input, Rules::Ber, true),
+        "DER" => Walk::new(input, Rules::Der, true),
+        _ => return Err(Fault::NoSuchCall),
+    };
+    // Each element has two octets or more.
+    for _ in 0..=input.len() {
+        match walk.next_element() {
+            Ok(Some(_)) => {}
+            Ok(None) => break,
+            Err(refusal) => {
+                let mut text = format!(in alloc; "{} at {}", walk.depth(), refusal.offset)?;
+                push_path(&mut text, &walk.path(&refusal))?;
+                write!(text, ": {}", refusal.cause)?;
+                return Ok(text);
+            }
+        }
+    }
+    Ok(format!(in alloc; "end")?)
+}
+
+/// Adds a path, if it has steps.
+pub fn push_path(text: &mut String, path: &Path) -> Result<(), AllocError> {
+    if !path.is_empty() {
+        write!(text, ", {path}")?;
+    }
+    Ok(())
 }
 
 /// Adds what was visited, and whether the walk goes on.

@@ -11,6 +11,11 @@ returns-then-is_empty-2 c =
     let n : length c.close_ended.new.self.opened.items ≡ 0 = search rules in
     λ x r i vs has. ended x r i vs c.close_ended.new.self (c.close_ended.ensures.keeps x r i vs has) (ap length (sym c.octets_here-here.ensures.here) ∙ z) n
 
+pub read_element-requires-clause-some : goal.read_element-requires-clause-some
+read_element-requires-clause-some c =
+    let some : 0 < length c.octets_here-here.result.now = search rules in
+    λ e. absurd (omega (arith, ap length e, some))
+
 pub pass-requires-clause-begin : goal.pass-requires-clause-begin
 pass-requires-clause-begin c =
     let some : 0 < length c.octets_here-here.result.now = search rules in
