@@ -1,5 +1,10 @@
 pub mod ArcNumbers
+pub mod ContentErrors
+pub mod ContentRules
 pub mod Decimal
+pub mod Grammar
 pub mod Identifiers
 pub mod Kinds
+pub mod RealForms
+pub mod TimeForms
 pub mod Values

@@ -3,18 +3,25 @@
 
 mod arcs;
 mod bits;
+mod content_error;
+mod content_rules;
 mod contents;
 mod decimal;
+mod grammar;
 mod identifier;
 mod numbers;
 mod oid;
+mod real_forms;
 mod simple;
 mod texts;
+mod time_forms;
 mod times;
 mod value;
 
 pub use arcs::{ArcNumber, Arcs};
 pub use bits::{BitString, read_bits};
+pub use content_error::ContentError;
+pub use content_rules::check_content;
 pub use contents::{check_value, read_value};
 pub use decimal::to_decimal;
 pub use identifier::ObjectIdentifier;
