@@ -4,4 +4,6 @@ use Rattle.der_values.specs.Grammar.{IsSpace}
 use Rattle.der_values.proofs.grammar.count_spaces.Goals as goal
 
 pub loop-index-preserved : goal.loop-index-preserved
-loop-index-preserved c = All-more IsSpace c.args.octets.now c.loop-index.index 0 c.loop-index-test.true c.loop-index.invariant (omega arith)
+loop-index-preserved c =
+    All-more IsSpace c.args.octets.now c.loop-index.index 0 c.loop-index-test.true c.loop-index.invariant
+    (omega arith)

@@ -5,5 +5,9 @@ use Rattle.der_values.specs.Grammar.{BeginsWithNo}
 use Rattle.der_values.proofs.grammar.skip_digits.Goals as goal
 
 pub returns : goal.returns
-returns c = let d = c.count_digits.ensures in let w = c.args.octets.now in let n = c.count_digits.result in let e : take (length w - n) (drop n w) ≡ drop n w = take_rest w n in
+returns c =
+    let d = c.count_digits.ensures in
+    let w = c.args.octets.now in
+    let n = c.count_digits.result in
+    let e : take (length w - n) (drop n w) ≡ drop n w = take_rest w n in
     (n, omega arith, d.within, d.digits, e, subst (BeginsWithNo IsDigit) (sym e) d.behind)

@@ -3,10 +3,15 @@ use Rattle.der_values.proofs.RuleLaws.{chosen, other_chosen}
 use Rattle.der_values.proofs.real_forms.check_form.Goals as goal
 
 pub returns-then-first-lt-SPECIAL : goal.returns-then-first-lt-SPECIAL
-returns-then-first-lt-SPECIAL c = chosen c.args.first 64 _ _ c.check_decimal.result (omega arith) c.check_decimal.ensures
+returns-then-first-lt-SPECIAL c =
+    chosen c.args.first 64 _ _ c.check_decimal.result (omega arith) c.check_decimal.ensures
 
 pub returns-then-first-lt-BINARY : goal.returns-then-first-lt-BINARY
-returns-then-first-lt-BINARY c = other_chosen c.args.first 64 _ _ c.check_special.result (omega arith) (chosen c.args.first 128 _ _ c.check_special.result (omega arith) c.check_special.ensures)
+returns-then-first-lt-BINARY c =
+    other_chosen c.args.first 64 _ _ c.check_special.result (omega arith)
+    (chosen c.args.first 128 _ _ c.check_special.result (omega arith) c.check_special.ensures)
 
 pub returns : goal.returns
-returns c = other_chosen c.args.first 64 _ _ c.check_binary.result (omega arith) (other_chosen c.args.first 128 _ _ c.check_binary.result (omega arith) c.check_binary.ensures)
+returns c =
+    other_chosen c.args.first 64 _ _ c.check_binary.result (omega arith)
+    (other_chosen c.args.first 128 _ _ c.check_binary.result (omega arith) c.check_binary.ensures)

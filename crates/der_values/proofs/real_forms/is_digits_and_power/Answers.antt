@@ -6,7 +6,10 @@ use Rattle.der_values.proofs.GrammarLaws.{never_told, one_is, some_passed, told_
 use Rattle.der_values.proofs.real_forms.is_digits_and_power.Goals as goal
 
 pub returns-in-Some : goal.returns-in-Some
-returns-in-Some c = told_at _ _ _ (some_passed IsDigit IsPower power_no_digit c.args.octets.now c.in-Some.power.now c.in-Some.ensures) c.is_power.ensures
+returns-in-Some c =
+    told_at _ _ _
+    (some_passed IsDigit IsPower power_no_digit c.args.octets.now c.in-Some.power.now c.in-Some.ensures)
+    c.is_power.ensures
 
 pub returns-in-None : goal.returns-in-None
 returns-in-None c = never_told _ (λ o. one_is IsDigit (AnyThen IsDigit IsPower) c.args.octets.now o c.in-None.ensures)

@@ -12,4 +12,6 @@ returns-in-Ok c =
     (subst (λ v. Checks (fraction_rules v) c.check_fraction.result) e c.check_fraction.ensures)
 
 pub returns-in-Err : goal.returns-in-Err
-returns-in-Err c = broken_in_front (strict_time_rules 14 c.args.octets.now) (fraction_rules (drop 14 c.args.octets.now)) c.in-Err.e c.in-Err.ensures
+returns-in-Err c =
+    broken_in_front (strict_time_rules 14 c.args.octets.now) (fraction_rules (drop 14 c.args.octets.now)) c.in-Err.e
+    c.in-Err.ensures
