@@ -1,10 +1,14 @@
 -- The first octets of the parts of times and of decimal numbers.
-use Rattle.std.proofs.Common.{◌≡◌, ℕ, ◌⊎◌, Bool, true, List, [], ◌∷◌, ◌++◌, sym, ap, subst, ◌∙◌, inl, inr, arith, codes, IsTrue}
+use Rattle.std.proofs.Common.{◌≡◌, ℕ, ◌⊎◌, Bool, true, List, [], ◌∷◌, ◌++◌, sym, ap, subst, ◌∙◌, inl, inr, arith}
+use Rattle.std.proofs.Common.{codes, IsTrue}
 use Rattle.std.specs.Prelude.{◌↔◌}
 use Rattle.der_base.specs.Time.{IsDigit}
-use Rattle.der_values.specs.Grammar.{IsSpace, IsPlus, IsMinus, IsSign, IsPoint, IsMark, Ends, BeginsWithNo, OneThen, MaybeThen, ToNonzeroThen, NumberThen}
-use Rattle.der_values.specs.RealForms.{IsWhole, IsExponentMark, IsPower, IsMarkedPower, IsOfForm, IsStrictWhole, IsStrictPower, IsStrictMantissa}
-use Rattle.der_values.specs.TimeForms.{MonthToHour, UtcToMinute, CenturyToHour, IsZone, IsLastZone, EndsTime, HasLastZero}
+use Rattle.der_values.specs.Grammar.{IsSpace, IsPlus, IsMinus, IsSign, IsPoint, IsMark, Ends, BeginsWithNo, OneThen}
+use Rattle.der_values.specs.Grammar.{MaybeThen, ToNonzeroThen, NumberThen}
+use Rattle.der_values.specs.RealForms.{IsWhole, IsExponentMark, IsPower, IsMarkedPower, IsOfForm, IsStrictWhole}
+use Rattle.der_values.specs.RealForms.{IsStrictPower, IsStrictMantissa}
+use Rattle.der_values.specs.TimeForms.{MonthToHour, UtcToMinute, CenturyToHour, IsZone, IsLastZone, EndsTime}
+use Rattle.der_values.specs.TimeForms.{HasLastZero}
 use Rattle.der_base.proofs.Octets.Identifiers.{head_same}
 use Rattle.der_values.proofs.GrammarLaws.{IsFront, joined, number_front, one_begins}
 
@@ -37,10 +41,12 @@ z_no_digit : (w : List ℕ) → w ≡ codes "Z" → BeginsWithNo IsDigit w
 z_no_digit w e = subst (BeginsWithNo IsDigit) (sym e) (λ d. omega (arith, d.1))
 
 z_no_mark : (w : List ℕ) → w ≡ codes "Z" → BeginsWithNo IsMark w
-z_no_mark w e = subst (BeginsWithNo IsMark) (sym e) (λ m. elim m [ inl f ↦ omega (arith, f) | inr f ↦ omega (arith, f) ])
+z_no_mark w e =
+    subst (BeginsWithNo IsMark) (sym e) (λ m. elim m [ inl f ↦ omega (arith, f) | inr f ↦ omega (arith, f) ])
 
 pub z_no_sign : (w : List ℕ) → w ≡ codes "Z" → BeginsWithNo IsSign w
-z_no_sign w e = subst (BeginsWithNo IsSign) (sym e) (λ m. elim m [ inl f ↦ omega (arith, f) | inr f ↦ omega (arith, f) ])
+z_no_sign w e =
+    subst (BeginsWithNo IsSign) (sym e) (λ m. elim m [ inl f ↦ omega (arith, f) | inr f ↦ omega (arith, f) ])
 
 pub z_or_end_no_sign : (w : List ℕ) → (w ≡ codes "Z") ⊎ Ends w → BeginsWithNo IsSign w
 z_or_end_no_sign w (inl e) = z_no_sign w e
@@ -93,7 +99,8 @@ pub whole_no_sign : (w : List ℕ) → IsWhole w → BeginsWithNo IsSign w
 whole_no_sign w o = one_begins IsDigit IsSign _ w digit_no_sign o
 
 -- the first octet of a number is a digit or a mark
-form_begins : (Q : ℕ → Type 0) → ((b : ℕ) → IsDigit b → ¬ Q b) → ((b : ℕ) → IsMark b → ¬ Q b) → (a : ℕ) (w : List ℕ) → IsOfForm a w → BeginsWithNo Q w
+form_begins : (Q : ℕ → Type 0) → ((b : ℕ) → IsDigit b → ¬ Q b) → ((b : ℕ) → IsMark b → ¬ Q b) → (a : ℕ) (w : List ℕ)
+    → IsOfForm a w → BeginsWithNo Q w
 form_begins Q d m a w (inl h) = one_begins IsDigit Q _ w d h.1
 form_begins Q d m a w (inr (inl (e, inl o))) = one_begins IsDigit Q _ w d o
 form_begins Q d m a w (inr (inl (e, inr o))) = one_begins IsMark Q _ w m o
@@ -130,7 +137,8 @@ minus_no_plus b d e = omega (arith, e, d)
 point_no_digit : (b : ℕ) → IsPoint b → ¬ IsDigit b
 point_no_digit b e d = omega (arith, e, d.0)
 
-nonzero_begins : (Q : ℕ → Type 0) → ((b : ℕ) → IsDigit b → ¬ Q b) → (G : List ℕ → Type 0) (w : List ℕ) → ToNonzeroThen G w → BeginsWithNo Q w
+nonzero_begins : (Q : ℕ → Type 0) → ((b : ℕ) → IsDigit b → ¬ Q b) → (G : List ℕ → Type 0) (w : List ℕ)
+    → ToNonzeroThen G w → BeginsWithNo Q w
 nonzero_begins Q d G [] h = absurd h
 nonzero_begins Q d G (b ∷ w) h = d b h.0
 
@@ -165,7 +173,8 @@ generalized_front =
     (joined (NumberThen 0 99) MonthToHour (number_front 0 99) month_to_hour_front)
 
 -- a point in front, and 0Z at the end
-pub last_zero_by : (w behind front : List ℕ) (r : Bool) → w ≡ codes "." ++ behind → (r ≡ true → w ≡ front ++ codes "0Z") → ((f : List ℕ) → w ≡ f ++ codes "0Z" → r ≡ true)
+pub last_zero_by : (w behind front : List ℕ) (r : Bool) → w ≡ codes "." ++ behind
+    → (r ≡ true → w ≡ front ++ codes "0Z") → ((f : List ℕ) → w ≡ f ++ codes "0Z" → r ≡ true)
     → IsTrue r ↔ HasLastZero w
 last_zero_by w behind front r point there back = ((λ h. pointed front (there h)), (λ h. back (0x2E ∷ h.0) h.1))
   where

@@ -1,12 +1,15 @@
 -- What follows the front of a text, and whether a test of it tells the whole text.
-use Rattle.std.proofs.Common.{◌≡◌, ◌≢◌, ℕ, zero, suc, ◌-◌, ◌<◌, ◌≤◌, ◌⊎◌, Bool, false, List, [], ◌∷◌, length, take, drop, get_or, All, Option, Some, None, refl, sym, ap, subst, ◌∙◌, inl, inr, arith, IsTrue}
+use Rattle.std.proofs.Common.{◌≡◌, ◌≢◌, ℕ, zero, suc, ◌-◌, ◌<◌, ◌≤◌, ◌⊎◌, Bool, false, List, [], ◌∷◌, length, take}
+use Rattle.std.proofs.Common.{drop, get_or, All, Option, Some, None, refl, sym, ap, subst, ◌∙◌, inl, inr, arith}
+use Rattle.std.proofs.Common.{IsTrue}
 use Rattle.std.specs.Prelude.{◌↔◌}
 use Rattle.std.specs.Borrow.{Bor}
 use Rattle.std.proofs.lemmas.Bool.{false≢true}
 use Rattle.std.proofs.lemmas.List.{take_all}
 use Rattle.std.proofs.lemmas.List.Elements.{All-nil, All-cons, All-head, All-tail}
 use Rattle.der_base.specs.Time.{IsDigit}
-use Rattle.der_values.specs.Grammar.{BeginsWithNo, OneThen, MaybeThen, AnyThen, SomeThen, ToNonzeroThen, NumberThen, Strips, Skips, SkipsOne}
+use Rattle.der_values.specs.Grammar.{BeginsWithNo, OneThen, MaybeThen, AnyThen, SomeThen, ToNonzeroThen, NumberThen}
+use Rattle.der_values.specs.Grammar.{Strips, Skips, SkipsOne}
 
 -- A front of texts: what follows it is found once, and decides the rest.
 pub record IsFront (F : (List ℕ → Type 0) → List ℕ → Type 0) : Type 1 where
@@ -47,7 +50,8 @@ joined F H f h = record {
 
 -- what is stripped in two steps
 module _ (F H : (List ℕ → Type 0) → List ℕ → Type 0) (f : IsFront F) (w : List ℕ) where
-  pub strips_both : (v : List ℕ) (r : Option (Bor (List ℕ))) → F (λ u. u ≡ v) w → Strips H v r → Strips (λ G. F (H G)) w r
+  pub strips_both : (v : List ℕ) (r : Option (Bor (List ℕ))) → F (λ u. u ≡ v) w → Strips H v r
+      → Strips (λ G. F (H G)) w r
   strips_both v None k s = λ u x. s u ((f.passed (H (λ y. y ≡ u)) w v k).0 x)
   strips_both v (Some rest) k s = (f.passed (H (λ y. y ≡ rest.now)) w v k).1 s
 
@@ -65,22 +69,28 @@ left_told A B r n h = ((λ t. inl (h.0 t)), (λ x. elim x [ inl a ↦ h.1 a | in
 pub right_told : (A B : Type 0) (r : Bool) → ¬ A → (IsTrue r ↔ B) → IsTrue r ↔ (A ⊎ B)
 right_told A B r n h = ((λ t. inr (h.0 t)), (λ x. elim x [ inl a ↦ absurd (n a) | inr b ↦ h.1 b ]))
 
-pub told_behind : (F : (List ℕ → Type 0) → List ℕ → Type 0) → IsFront F → (G : List ℕ → Type 0) (w rest : List ℕ) (r : Bool) → F (λ u. u ≡ rest) w → (IsTrue r ↔ G rest) → IsTrue r ↔ F G w
+pub told_behind : (F : (List ℕ → Type 0) → List ℕ → Type 0) → IsFront F
+    → (G : List ℕ → Type 0) (w rest : List ℕ) (r : Bool) → F (λ u. u ≡ rest) w → (IsTrue r ↔ G rest)
+    → IsTrue r ↔ F G w
 told_behind F f G w rest r k h = let p = f.passed G w rest k in ((λ t. p.1 (h.0 t)), (λ x. h.1 (p.0 x)))
 
-pub no_front : (F : (List ℕ → Type 0) → List ℕ → Type 0) → IsFront F → (G : List ℕ → Type 0) (w : List ℕ) → ((v : List ℕ) → ¬ F (λ u. u ≡ v) w) → ¬ F G w
+pub no_front : (F : (List ℕ → Type 0) → List ℕ → Type 0) → IsFront F → (G : List ℕ → Type 0) (w : List ℕ)
+    → ((v : List ℕ) → ¬ F (λ u. u ≡ v) w) → ¬ F G w
 no_front F f G w n x = let o = f.opened G w x in n o.0 o.1
 
 -- the first octet
 
-pub one_begins : (P Q : ℕ → Type 0) (G : List ℕ → Type 0) (w : List ℕ) → ((b : ℕ) → P b → ¬ Q b) → OneThen P G w → BeginsWithNo Q w
+pub one_begins : (P Q : ℕ → Type 0) (G : List ℕ → Type 0) (w : List ℕ) → ((b : ℕ) → P b → ¬ Q b) → OneThen P G w
+    → BeginsWithNo Q w
 one_begins P Q G w other (b, v, e, p, g) = subst (BeginsWithNo Q) (sym e) (other b p)
 
 pub one_is : (P : ℕ → Type 0) (G : List ℕ → Type 0) (w : List ℕ) → OneThen P G w → BeginsWithNo P w → ⊥
 one_is P G w (b, v, e, p, g) stop = let n : ¬ P b = subst (BeginsWithNo P) e stop in n p
 
 pub number_is : (low high : ℕ) (G : List ℕ → Type 0) (w : List ℕ) → NumberThen low high G w → BeginsWithNo IsDigit w → ⊥
-number_is low high G w (a, b, v, e, da, db, lo, hi, g) stop = let n : ¬ IsDigit a = subst (BeginsWithNo IsDigit) e stop in n da
+number_is low high G w (a, b, v, e, da, db, lo, hi, g) stop =
+    let n : ¬ IsDigit a = subst (BeginsWithNo IsDigit) e stop in
+    n da
 
 pub none_begins : (P : ℕ → Type 0) (w : List ℕ) → ((v : List ℕ) → ¬ OneThen P (λ u. u ≡ v) w) → BeginsWithNo P w
 none_begins P [] n = tt
@@ -98,7 +108,8 @@ module _ (P : ℕ → Type 0) (G : List ℕ → Type 0) (stops : (v : List ℕ) 
   at_once [] g = g
   at_once (b ∷ w) g = inl g
 
-  passed_any : (k : ℕ) (w : List ℕ) → k ≤ length w → All P (take k w) → BeginsWithNo P (drop k w) → AnyThen P G w ↔ G (drop k w)
+  passed_any : (k : ℕ) (w : List ℕ) → k ≤ length w → All P (take k w) → BeginsWithNo P (drop k w)
+      → AnyThen P G w ↔ G (drop k w)
   passed_any zero w l all stop = (none_more w stop, at_once w)
   passed_any (suc k) [] l all stop = absurd (omega arith)
   passed_any (suc k) (b ∷ w) l all stop =
@@ -112,7 +123,8 @@ module _ (P : ℕ → Type 0) (G : List ℕ → Type 0) (stops : (v : List ℕ) 
       let q = passed_any k w l all (subst (BeginsWithNo P) e stop) in
       ((λ h. subst G (sym e) (q.0 h)), (λ g. q.1 (subst G e g)))
 
-  passed_some : (k : ℕ) (w : List ℕ) → 1 ≤ k → k ≤ length w → All P (take k w) → BeginsWithNo P (drop k w) → SomeThen P G w ↔ G (drop k w)
+  passed_some : (k : ℕ) (w : List ℕ) → 1 ≤ k → k ≤ length w → All P (take k w) → BeginsWithNo P (drop k w)
+      → SomeThen P G w ↔ G (drop k w)
   passed_some zero w some l all stop = absurd (omega arith)
   passed_some (suc k) [] some l all stop = absurd (omega arith)
   passed_some (suc k) (b ∷ w) some l all stop =
@@ -144,7 +156,8 @@ nonzero_is : (G : List ℕ → Type 0) (w : List ℕ) → ToNonzeroThen G w → 
 nonzero_is G [] h stop = h
 nonzero_is G (b ∷ w) h stop = stop h.0
 
-pub to_nonzero : (G : List ℕ → Type 0) (stops : (v : List ℕ) → G v → BeginsWithNo IsDigit v) (k : ℕ) (w : List ℕ) → k ≤ length w → All IsDigit (take k w) → BeginsWithNo IsDigit (drop k w)
+pub to_nonzero : (G : List ℕ → Type 0) (stops : (v : List ℕ) → G v → BeginsWithNo IsDigit v) (k : ℕ) (w : List ℕ)
+    → k ≤ length w → All IsDigit (take k w) → BeginsWithNo IsDigit (drop k w)
     → ToNonzeroThen G w ↔ ((0 < k) × (get_or w (k - 1) 0 ≢ 0x30) × G (drop k w))
 to_nonzero G stops zero w l all stop = ((λ h. absurd (nonzero_is G w h stop)), (λ h. absurd (omega (arith, h.0))))
 to_nonzero G stops (suc k) [] l all stop = absurd (omega arith)
@@ -158,7 +171,8 @@ to_nonzero G stops (suc (suc k)) (b ∷ c ∷ w) l all stop =
     let m = to_nonzero G stops (suc k) (c ∷ w) (omega arith) rest stop in
     let one : suc (suc k) - 1 ≡ suc k = omega arith in
     let two : k ≡ suc k - 1 = omega arith in
-    let same : get_or (b ∷ c ∷ w) (suc (suc k) - 1) 0 ≡ get_or (c ∷ w) (suc k - 1) 0 = ap (λ j. get_or (b ∷ c ∷ w) j 0) one ∙ ap (λ j. get_or (c ∷ w) j 0) two in (
+    let same : get_or (b ∷ c ∷ w) (suc (suc k) - 1) 0 ≡ get_or (c ∷ w) (suc k - 1) 0 =
+    ap (λ j. get_or (b ∷ c ∷ w) j 0) one ∙ ap (λ j. get_or (c ∷ w) j 0) two in (
       (λ h. elim h.1 [
         | inl g ↦ absurd (stops (c ∷ w) g.1 (All-head IsDigit c (take k w) rest))
         | inr n ↦ (let q = m.0 n in (omega arith, (λ e. q.1 (sym same ∙ e)), q.2))
@@ -185,13 +199,16 @@ fewer_all P zero k w l all = All-nil P
 fewer_all P (suc n) zero w l all = absurd (omega arith)
 fewer_all P (suc n) (suc k) [] l all = All-nil P
 fewer_all P (suc n) (suc k) (b ∷ w) l all =
-    All-cons P b (take n w) (All-head P b (take k w) all) (fewer_all P n k w (omega arith) (All-tail P b (take k w) all))
+    let rest = fewer_all P n k w (omega arith) (All-tail P b (take k w) all) in
+    All-cons P b (take n w) (All-head P b (take k w) all) rest
 
-pub not_more : (P : ℕ → Type 0) (n k : ℕ) (w : List ℕ) → k < n → n ≤ length w → All P (take n w) → BeginsWithNo P (drop k w) → ⊥
+pub not_more : (P : ℕ → Type 0) (n k : ℕ) (w : List ℕ) → k < n → n ≤ length w → All P (take n w)
+    → BeginsWithNo P (drop k w) → ⊥
 not_more P zero k w l h all stop = absurd (omega arith)
 not_more P (suc n) k [] l h all stop = absurd (omega arith)
 not_more P (suc n) zero (b ∷ w) l h all stop = stop (All-head P b (take n w) all)
-not_more P (suc n) (suc k) (b ∷ w) l h all stop = not_more P n k w (omega arith) (omega arith) (All-tail P b (take n w) all) stop
+not_more P (suc n) (suc k) (b ∷ w) l h all stop =
+    not_more P n k w (omega arith) (omega arith) (All-tail P b (take n w) all) stop
 
 pub first_and_rest : (w : List ℕ) → 1 ≤ length w → w ≡ get_or w 0 0 ∷ take (length w - 1) (drop 1 w)
 first_and_rest [] l = absurd (omega arith)

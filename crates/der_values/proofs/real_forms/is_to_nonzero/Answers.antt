@@ -9,7 +9,8 @@ use Rattle.der_values.proofs.real_forms.is_to_nonzero.Goals as goal
 pub returns-then-count-eq0 : goal.returns-then-count-eq0
 returns-then-count-eq0 c =
     let d = c.count_digits-count.ensures in
-    let m = to_nonzero IsStrictPower strict_power_no_digit c.count_digits-count.result c.args.octets.now d.within d.digits d.behind in
+    let n = c.count_digits-count.result in
+    let m = to_nonzero IsStrictPower strict_power_no_digit n c.args.octets.now d.within d.digits d.behind in
     never_told _ (λ h. let q = m.0 h in absurd (grind (arith, nat_tests, q)))
 
 pub returns : goal.returns

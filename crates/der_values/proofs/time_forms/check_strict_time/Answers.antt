@@ -16,7 +16,6 @@ returns-then-count_digits-digits c =
 
 pub returns : goal.returns
 returns c =
-    let d = c.count_digits.ensures in (
-      c.if-not-ends_in_z.ensures.0 refl,
-      ((omega (arith, d.within), fewer_all IsDigit c.args.digits c.count_digits.result c.args.octets.now (omega arith) d.digits), tt),
-    )
+    let d = c.count_digits.ensures in
+    let first = fewer_all IsDigit c.args.digits c.count_digits.result c.args.octets.now (omega arith) d.digits in
+    (c.if-not-ends_in_z.ensures.0 refl, ((omega (arith, d.within), first), tt))
