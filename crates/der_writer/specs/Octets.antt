@@ -1,0 +1,25 @@
+-- Octets of headers and numbers.
+use Rattle.std.specs.Prelude.{ℕ, ◌-◌, ◌%◌, ◌^◌, min, Bool, ℤ, pos, negsuc, List, [], ◌∷◌, ◌++◌, map}
+use Rattle.der_base.specs.declared.header.Class.{Class}
+use Rattle.der_base.specs.Octets.{identifier, shortest_length, shortest_integer}
+
+-- the octets of an element before its content
+abbrev pub header : Class → Bool → ℕ → ℕ → List ℕ
+header c p t n = identifier c p t ++ shortest_length n
+
+-- the fewest octets of a number in two's complement (X.690 8.3.2): those of -1 - n are those of n with each bit turned
+abbrev pub signed_integer : ℤ → List ℕ
+signed_integer (pos n) = shortest_integer n
+signed_integer (negsuc n) = map (λ b. 255 - b) (shortest_integer n)
+
+-- the octets with the last u bits 0
+abbrev pub cleared : ℕ → List ℕ → List ℕ
+cleared u [] = []
+cleared u (b ∷ []) = (b - b % 2 ^ u) ∷ []
+cleared u (b ∷ c ∷ w) = b ∷ cleared u (c ∷ w)
+
+-- The content of a BIT STRING of octets whose last u bits aren't used (8.6.2): at most seven, none where there is no
+-- octet (8.6.2.3), and 0 (11.2.1).
+abbrev pub bit_octets : ℕ → List ℕ → List ℕ
+bit_octets u [] = 0 ∷ []
+bit_octets u (b ∷ w) = min u 7 ∷ cleared (min u 7) (b ∷ w)

@@ -1,0 +1,23 @@
+//! Laws of what is written. Each function's contract is a law, and its body is empty.
+ghost use Rattle.der_writer.specs.Laws.{BitsSpell, ElementsBegin, FieldsSpell, LeavesSpell, NumbersSpell};
+ghost use Rattle.der_writer.specs.Laws.{SequencesSpell, SetsSpell, TaggedSpell};
+
+/// Fields that are DER encodings, closed under SEQUENCE or SET, are the DER encoding of the list of them.
+pub fn fields_spell()
+    ensures fields { FieldsSpell }
+    ensures sequences { SequencesSpell }
+    ensures sets { SetsSpell }
+    ensures tagged { TaggedSpell }
+{}
+
+/// A value's element is its DER encoding.
+pub fn leaves_spell()
+    ensures leaves { LeavesSpell }
+    ensures numbers { NumbersSpell }
+    ensures bits { BitsSpell }
+{}
+
+/// An element that was put is what a cursor finds.
+pub fn elements_begin()
+    ensures { ElementsBegin }
+{}

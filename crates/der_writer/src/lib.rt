@@ -1,0 +1,9 @@
+//! Writing DER field after field into a buffer of the caller's (X.690 8, 10 and 11). It takes no memory.
+#![tactic(auto)]
+
+mod element;
+mod fields;
+pub mod laws;
+mod writer;
+
+pub use writer::{Mark, WriteError, Writer};

@@ -1,0 +1,273 @@
+//! The writer.
+ghost use Rattle.std.specs.Prelude.{◌≡◌, ◌+◌, ◌≤◌, ◌++◌, [], drop, false, length, take, true};
+ghost use Rattle.der_base.specs.declared.header.Class.{Class};
+ghost use Rattle.der_base.specs.Encoding.{element};
+ghost use Rattle.der_base.specs.Octets.{shortest_length};
+ghost use Rattle.der_writer.specs.Written.{Closes, EndsContent, FillsTo, Finishes, IsTagged, Opens, Puts, PutsLeaf};
+ghost use Rattle.der_writer.specs.Written.{Resumes, StartsAt, class_put, number_put};
+
+use crate::element::{fill_length, header_size, identifier_octets, write_primitive};
+use der_base::header::{Class, Tag};
+use der_octets::header::{identifier_octet_count, length_octet_count};
+
+/// Writes DER field after field into a buffer, from its first octet on. It goes on counting where the buffer is full,
+/// and `finish` returns an error.
+///
+/// ```
+/// let mut fields = Writer::new(&mut buffer);
+/// let algorithm = fields.open_sequence();
+/// fields.put_oid(b"\x2b\x65\x70");
+/// fields.close(algorithm);
+/// let size = fields.finish()?;
+/// ```
+#[derive(Drop)]
+pub struct Writer<'b> {
+    out: &'b mut [u8],
+    // How many octets there are, room or not.
+    count: usize,
+    // Where the length of the innermost open element stands. 0 if no element is open.
+    innermost: usize,
+    // The implicit tag that the next element has.
+    pub(crate) implicit: Option<(Class, Tag)>,
+}
+
+/// An element that is open, which `close` closes.
+#[derive(Drop)]
+pub struct Mark {
+    // Where its length stands.
+    start: usize,
+    // Where that of the element around it stands. 0 if there is none.
+    outer: usize,
+}
+
+/// Why the octets aren't all in the buffer.
+#[derive(Clone, Copy, Debug, PartialEq, thiserror::Error)]
+pub enum WriteError {
+    /// The buffer has no room. So many octets are needed.
+    #[error("no room, needs {0}")]
+    NoRoom(usize),
+    /// An element wasn't closed, or not before the one around it.
+    #[error("element not closed")]
+    NotClosed,
+}
+
+impl<'b> Writer<'b> {
+    /// A writer at the start of a buffer.
+    pub fn new(out: &'b mut [u8]) -> Writer<'b>
+        ensures { StartsAt out.entry result }
+    {
+        Writer::at(out, 0)
+    }
+
+    /// A writer that goes on after so many octets in a buffer, as `count` returned them. No element is open.
+    pub fn at(out: &'b mut [u8], count: usize) -> Writer<'b>
+        ensures { Resumes out.entry count result }
+    {
+        Writer {
+            out,
+            count,
+            innermost: 0,
+            implicit: None,
+        }
+    }
+
+    /// How many octets there are, room or not.
+    pub fn count(&self) -> usize
+        ensures { result ≡ self.now.count }
+    {
+        self.count
+    }
+
+    /// Puts the next element, which has to be primitive, under an implicit tag (X.690 8.14.3): it has the class
+    /// context-specific and this number in place of those of its type.
+    pub fn implicit(&mut self, number: u32) -> &mut Writer<'b>
+        ensures same { result.ghost_name ≡ self.entry.ghost_name }
+        ensures tagged { IsTagged Class.ContextSpecific number self.old result.now }
+    {
+        self.implicit_of(Class::ContextSpecific, number)
+    }
+
+    /// The same of a tag of another class.
+    pub fn implicit_of(&mut self, class: Class, number: u32) -> &mut Writer<'b>
+        ensures same { result.ghost_name ≡ self.entry.ghost_name }
+        ensures tagged { IsTagged class number self.old result.now }
+    {
+        self.implicit = Some((class, Tag(number)));
+        self
+    }
+
+    /// Puts octets as they are: elements of DER that were written before.
+    pub fn put_elements(&mut self, octets: &[u8])
+        ensures { Puts octets.now self.old self.new }
+    {
+        self.implicit = None;
+        let end = self.count.saturating_add(octets.len());
+        fill(self.out, self.count, end, octets);
+        self.count = end;
+    }
+
+    /// Puts a primitive element of a universal type, or of the implicit tag that it has. Its content is in two parts.
+    pub(crate) fn put_primitive(&mut self, tag: Tag, front: &[u8], octets: &[u8])
+        ensures { PutsLeaf tag.0 (front.now ++ octets.now) self.old self.new }
+    {
+        let (class, tag) = tag_put(self.implicit, tag);
+        self.implicit = None;
+        let content_size = front.len() + octets.len();
+        let size = content_size.saturating_add(header_size(tag, content_size));
+        let end = self.count.saturating_add(size);
+        put_between(self.out, self.count, end, class, tag, front, octets);
+        self.count = end;
+    }
+
+    /// Opens a SEQUENCE (8.9).
+    pub fn open_sequence(&mut self) -> Mark
+        ensures { Opens Class.Universal true 16 result self.old self.new }
+    {
+        self.open(Class::Universal, true, Tag::Sequence)
+    }
+
+    /// Opens a SET (8.11).
+    pub fn open_set(&mut self) -> Mark
+        ensures { Opens Class.Universal true 17 result self.old self.new }
+    {
+        self.open(Class::Universal, true, Tag::Set)
+    }
+
+    /// Opens an OCTET STRING whose octets are elements (8.7).
+    pub fn open_octet_string(&mut self) -> Mark
+        ensures { Opens Class.Universal false 4 result self.old self.new }
+    {
+        self.open(Class::Universal, false, Tag::OctetString)
+    }
+
+    /// Opens an element of the class context-specific: an explicit tag around what is put (8.14.2), or a SEQUENCE or
+    /// SET with an implicit tag (8.14.3).
+    pub fn open_tagged(&mut self, number: u32) -> Mark
+        ensures { Opens Class.ContextSpecific true number result self.old self.new }
+    {
+        self.open(Class::ContextSpecific, true, Tag(number))
+    }
+
+    /// Opens an element of this class, constructed bit and tag number. What is put until it is closed is its content.
+    pub fn open(&mut self, class: Class, constructed: bool, tag: Tag) -> Mark
+        ensures { Opens class constructed tag.0 result self.old self.new }
+    {
+        let start = self.count.saturating_add(identifier_octet_count(tag));
+        let mut room = [0; 8];
+        let octets = identifier_octets(&mut room, class, constructed, tag);
+        self.put_elements(octets);
+        let outer = self.innermost;
+        self.innermost = start;
+        Mark { start, outer }
+    }
+
+    /// Closes an element. Those that were opened in it have to be closed before: otherwise nothing is closed, and
+    /// `finish` returns `NotClosed`.
+    pub fn close(&mut self, mark: Mark)
+        ensures { Closes mark self.old self.new }
+    {
+        self.implicit = None;
+        if mark.start != self.innermost {
+            return;
+        }
+        self.innermost = mark.outer;
+        self.end_content(mark.start);
+    }
+
+    /// Makes all from an offset on the content of one element: its length is written there, in place of the octet that
+    /// is reserved for it.
+    fn end_content(&mut self, start: usize)
+        ensures { EndsContent start self.old self.new }
+    {
+        let size = self.count.saturating_sub(start);
+        let start = self.count - size;
+        let content_size = size.saturating_sub(1);
+        let end = start
+            .saturating_add(length_octet_count(content_size))
+            .saturating_add(content_size);
+        wrap(self.out, start, end, content_size);
+        self.count = end;
+    }
+
+    /// How many octets there are, at the front of the buffer. `NotClosed` if an element is open; `NoRoom` if the buffer
+    /// has fewer octets.
+    pub fn finish(self) -> Result<usize, WriteError>
+        ensures { Finishes self.entry self.exit.0.now result }
+    {
+        if self.innermost != 0 {
+            Err(WriteError::NotClosed)
+        } else if self.count <= self.out.len() {
+            Ok(self.count)
+        } else {
+            Err(WriteError::NoRoom(self.count))
+        }
+    }
+}
+
+/// Writes octets between two offsets, if the buffer has room.
+fn fill(out: &mut [u8], begin: usize, end: usize, octets: &[u8])
+    requires { end ≤ length out.old → begin + length octets.now ≡ end }
+    ensures { FillsTo end out.old out.new begin octets.now }
+{
+    if end <= out.len() {
+        out[begin..end].copy_from_slice(octets);
+    }
+}
+
+/// Writes a primitive element between two offsets, if the buffer has room.
+fn put_between(
+    out: &mut [u8],
+    begin: usize,
+    end: usize,
+    class: Class,
+    tag: Tag,
+    front: &[u8],
+    octets: &[u8],
+)
+    requires { let e = element class false tag.0 (front.now ++ octets.now) in
+        end ≤ length out.old → begin + length e ≡ end }
+    ensures { FillsTo end out.old out.new begin (element class false tag.0 (front.now ++ octets.now)) }
+{
+    if end <= out.len() {
+        write_primitive(&mut out[begin..end], class, tag, front, octets);
+    }
+}
+
+/// The tag of the next element: that of its type, or an implicit one.
+pub(crate) fn tag_put(implicit: Option<(Class, Tag)>, tag: Tag) -> (Class, Tag)
+    ensures class { result.0 ≡ class_put implicit }
+    ensures number { result.1.0 ≡ number_put implicit tag.0 }
+{
+    match implicit {
+        Some(implicit) => implicit,
+        None => (Class::Universal, tag),
+    }
+}
+
+/// Writes the length of an open element from an offset on, and moves its content up to the end.
+fn wrap(out: &mut [u8], begin: usize, end: usize, content_size: usize)
+    requires { end ≤ length out.old → begin + length (shortest_length content_size) + content_size ≡ end }
+    ensures { FillsTo end out.old out.new begin
+        (shortest_length content_size ++ take content_size (drop (begin + 1) out.old)) }
+{
+    if end <= out.len() {
+        let content = end - content_size;
+        move_up(out, begin + 1, content, content_size);
+        fill_length(&mut out[begin..content], content_size);
+    }
+}
+
+/// Moves so many octets up to another offset, if that is higher.
+#[tactic(auto, using(crate::proofs::Moves::behind_stays))]
+fn move_up(out: &mut [u8], from: usize, to: usize, count: usize)
+    requires up { from ≤ to }
+    requires within { to + count ≤ length out.old }
+    ensures size { length out.new ≡ length out.old }
+    ensures front { take from out.new ≡ take from out.old }
+    ensures moved { take count (drop to out.new) ≡ take count (drop from out.old) }
+    ensures behind { drop (to + count) out.new ≡ drop (to + count) out.old }
+{
+    if to > from {
+        out.copy_within(from..from + count, to);
+    }
+}
