@@ -1,0 +1,33 @@
+-- A GetRequest encodes its value.
+use Rattle.std.proofs.Common.{◌≡◌, ℕ, ◌≤◌, ◌⊎◌, ⊎_elim, pos, ◌++◌, sym, ◌∙◌, arith, append_assoc, lit<}
+use Rattle.std.specs.Prelude.{◌<ℤ◌}
+use Rattle.std.proofs.lemmas.Int.{ints}
+use Rattle.der_base.specs.declared.header.Class.TheVariants.{Universal, ContextSpecific}
+use Rattle.der_base.specs.Numbers.{signed, least, greatest}
+use Rattle.der_writer.specs.Fields as put
+use Rattle.der_written.proofs.Encoded.{constructed_encodes, last_encodes, before_encodes, one_encodes, regrouped}
+use Rattle.der_written.proofs.Values.{signed_encodes, octets_encode, identifier_encodes, null_encodes}
+use Rattle.snmp_writer.specs.Formats.{RequestsEncode}
+
+-- a number of one digit fits
+small_fits : (n : ℕ) → n ≤ 9 → ¬ ((pos n <ℤ least (signed 32)) ⊎ (greatest (signed 32) <ℤ pos n))
+small_fits n h = λ k. ⊎_elim (λ low. absurd (omega (arith, ints, low))) (λ high. absurd (omega (arith, ints, high))) k
+
+pub request_encodes : RequestsEncode
+request_encodes community id name fits ends plain =
+    let one = put.Integer (pos 1) in
+    let zero = put.Integer (pos 0) in
+    let own = put.Integer id in
+    let octets = put.OctetString community in
+    let list = put.Sequence (put.Sequence (put.ObjectIdentifier name ++ put.Null)) in
+    let pdu = put.Tagged 0 (own ++ zero ++ zero ++ list) in
+    let none = signed_encodes 32 (pos 0) (small_fits 0 (omega arith)) in
+    let binding = constructed_encodes Universal 16 (lit< tt) (before_encodes (identifier_encodes name ends plain) (last_encodes null_encodes)) in
+    let bindings = constructed_encodes Universal 16 (lit< tt) (one_encodes binding) in
+    let fields = before_encodes (signed_encodes 32 id fits) (before_encodes none (before_encodes none (last_encodes bindings))) in
+    let joined : own ++ (zero ++ (zero ++ list)) ≡ own ++ zero ++ zero ++ list =
+    sym (append_assoc own zero (zero ++ list)) ∙ sym (append_assoc (own ++ zero) zero list) in
+    let pdu_encodes = constructed_encodes ContextSpecific 0 (lit< tt) (regrouped joined fields) in
+    let version = signed_encodes 32 (pos 1) (small_fits 1 (omega arith)) in
+    let message = before_encodes version (before_encodes (octets_encode community) (last_encodes pdu_encodes)) in
+    constructed_encodes Universal 16 (lit< tt) (regrouped (sym (append_assoc one octets pdu)) message)

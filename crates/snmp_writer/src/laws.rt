@@ -1,0 +1,7 @@
+//! Laws of messages. Each function's contract is a law, and its body is empty.
+ghost use Rattle.snmp_writer.specs.Formats.{RequestsEncode};
+
+/// A GetRequest that is written is read with the values that were put.
+pub fn requests_encode()
+    ensures { RequestsEncode }
+{}
