@@ -1,0 +1,9 @@
+//! Tests of the writer: octets of the standard and of openssl, every capacity, contents around each size of a
+//! length, and marks in the wrong order.
+
+#[cfg(test)]
+mod records;
+#[cfg(test)]
+mod sizes;
+#[cfg(test)]
+mod values;

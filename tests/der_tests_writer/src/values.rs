@@ -1,0 +1,137 @@
+//! Values of each type. Octets are those of X.690 where a line says so, else of `openssl asn1parse -genconf`.
+use der_base::error::BerError;
+use der_base::header::Tag;
+use der_base::time::{ASN1DateTime, ASN1TimeZone};
+use der_writer::Writer;
+
+/// Whether exactly these octets are put.
+fn puts<F>(put: F, expected: &[u8]) -> bool
+where
+    F: FnOnce(&mut Writer<'_>),
+{
+    let mut out = [0; 64];
+    let mut fields = Writer::new(&mut out);
+    put(&mut fields);
+    match fields.finish() {
+        Ok(size) => &out[..size] == expected,
+        Err(_) => false,
+    }
+}
+
+#[test]
+fn booleans_and_null(rt: HostRuntime) {
+    assert!(rt; puts(|fields| fields.put_bool(true), b"\x01\x01\xff"));
+    assert!(rt; puts(|fields| fields.put_bool(false), b"\x01\x01\x00"));
+    assert!(rt; puts(|fields| fields.put_null(), b"\x05\x00"));
+}
+
+/// Numbers and their INTEGER.
+const SIGNED: &[(i64, &[u8])] = &[
+    (0, b"\x02\x01\x00"),
+    (127, b"\x02\x01\x7f"),
+    (128, b"\x02\x02\x00\x80"),
+    (255, b"\x02\x02\x00\xff"),
+    (256, b"\x02\x02\x01\x00"),
+    (32767, b"\x02\x02\x7f\xff"),
+    (32768, b"\x02\x03\x00\x80\x00"),
+    (-1, b"\x02\x01\xff"),
+    (-128, b"\x02\x01\x80"),
+    (-129, b"\x02\x02\xff\x7f"),
+    (-256, b"\x02\x02\xff\x00"),
+    (-32768, b"\x02\x02\x80\x00"),
+    (-32769, b"\x02\x03\xff\x7f\xff"),
+    (i64::MAX, b"\x02\x08\x7f\xff\xff\xff\xff\xff\xff\xff"),
+    (i64::MIN, b"\x02\x08\x80\x00\x00\x00\x00\x00\x00\x00"),
+];
+
+#[test]
+fn signed_numbers(rt: HostRuntime) {
+    for (value, expected) in SIGNED {
+        assert!(rt; puts(|fields| fields.put_i64(*value), expected), "{value}");
+    }
+    assert!(rt; puts(|fields| fields.put_i32(-1000), b"\x02\x02\xfc\x18"));
+}
+
+#[test]
+fn unsigned_numbers(rt: HostRuntime) {
+    assert!(rt; puts(|fields| fields.put_u32(200), b"\x02\x02\x00\xc8"));
+    assert!(rt; puts(|fields| fields.put_u64(u64::MAX), b"\x02\x09\x00\xff\xff\xff\xff\xff\xff\xff\xff"));
+    assert!(rt; puts(|fields| fields.put_enumerated(128), b"\x0a\x02\x00\x80"));
+    assert!(rt; puts(|fields| fields.put_integer(b"\xff\x7f"), b"\x02\x02\xff\x7f"));
+}
+
+#[test]
+fn magnitudes(rt: HostRuntime) {
+    assert!(rt; puts(|fields| fields.put_magnitude(b""), b"\x02\x01\x00"));
+    assert!(rt; puts(|fields| fields.put_magnitude(b"\x00\x00"), b"\x02\x01\x00"));
+    assert!(rt; puts(|fields| fields.put_magnitude(b"\x00\x7f"), b"\x02\x01\x7f"));
+    assert!(rt; puts(|fields| fields.put_magnitude(b"\x80\x01"), b"\x02\x03\x00\x80\x01"));
+}
+
+#[test]
+fn bits(rt: HostRuntime) {
+    // X.690 8.6.4.2
+    let bits = b"\x0a\x3b\x5f\x29\x1c\xdf";
+    assert!(rt; puts(|fields| fields.put_bits(4, bits), b"\x03\x07\x04\x0a\x3b\x5f\x29\x1c\xd0"));
+    assert!(rt; puts(|fields| fields.put_bits(0, b"\xff"), b"\x03\x02\x00\xff"));
+    assert!(rt; puts(|fields| fields.put_bits(9, b"\xff"), b"\x03\x02\x07\x80"));
+    assert!(rt; puts(|fields| fields.put_bits(3, b""), b"\x03\x01\x00"));
+    assert!(rt; puts(|fields| fields.implicit(0).put_bits(1, b"\xff"), b"\x80\x02\x01\xfe"));
+}
+
+#[test]
+fn identifiers_and_octets(rt: HostRuntime) {
+    // X.690 8.19.5
+    assert!(rt; puts(|fields| fields.put_oid(b"\x81\x34\x03"), b"\x06\x03\x81\x34\x03"));
+    assert!(rt; puts(|fields| fields.put_octets(b"\x01\x02"), b"\x04\x02\x01\x02"));
+    assert!(rt; puts(|fields| fields.implicit(31).put_octets(b"\x01"), b"\x9f\x1f\x01\x01"));
+}
+
+/// Whether a text is refused, and nothing is put.
+fn is_refused<F>(put: F) -> bool
+where
+    F: FnOnce(&mut Writer<'_>) -> Result<(), BerError>,
+{
+    let mut out = [0; 16];
+    let mut fields = Writer::new(&mut out);
+    let refused = put(&mut fields) == Err(BerError::StringInvalidCharset);
+    refused && fields.finish() == Ok(0)
+}
+
+#[test]
+fn texts(rt: HostRuntime) {
+    // X.690 8.14.3, Type1
+    assert!(rt; puts(|fields| drop_result(fields.put_text(Tag::VisibleString, b"Jones")), b"\x1a\x05Jones"));
+    assert!(rt; puts(|fields| fields.put_utf8("\u{e9}"), b"\x0c\x02\xc3\xa9"));
+    assert!(rt; puts(|fields| drop_result(fields.put_printable("a b")), b"\x13\x03a b"));
+    assert!(rt; puts(|fields| drop_result(fields.put_ia5("a@b")), b"\x16\x03a@b"));
+    assert!(rt; is_refused(|fields| fields.put_printable("a@b")));
+    assert!(rt; is_refused(|fields| fields.put_ia5("\u{e9}")));
+    assert!(rt; is_refused(|fields| fields.put_text(Tag::Utf8String, b"\xc3")));
+}
+
+/// Takes a result that a test doesn't look at.
+fn drop_result(_result: Result<(), BerError>) {}
+
+/// 6 May 1991, 23:45:40 in UTC, with a fraction or without one.
+fn moment(year: u32, nanosecond: Option<u32>) -> ASN1DateTime {
+    ASN1DateTime {
+        year,
+        month: 5,
+        day: 6,
+        hour: 23,
+        minute: 45,
+        second: 40,
+        nanosecond,
+        tz: ASN1TimeZone::Z,
+    }
+}
+
+#[test]
+fn times(rt: HostRuntime) {
+    assert!(rt; puts(|fields| fields.put_utc_time(moment(91, None)), b"\x17\x0d910506234540Z"));
+    let whole = moment(1991, None);
+    assert!(rt; puts(|fields| fields.put_generalized_time(whole), b"\x18\x0f19910506234540Z"));
+    let tenths = moment(1991, Some(300_000_000));
+    assert!(rt; puts(|fields| fields.put_generalized_time(tenths), b"\x18\x1119910506234540.3Z"));
+}
