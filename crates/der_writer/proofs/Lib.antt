@@ -1,3 +1,4 @@
+pub mod Arcs
 pub mod Bits
 pub mod Composing
 pub mod Counts

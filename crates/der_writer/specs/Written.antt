@@ -3,6 +3,7 @@ use Rattle.std.specs.Borrow.{MutBor}
 use Rattle.std.specs.Prelude.{◌≡◌, ℕ, ◌-◌, ◌^◌, ◌<◌, ◌≤◌, Bool, false, Option, Some, None, min, take, drop}
 use Rattle.std.specs.Prelude.{List, [], ◌∷◌, ◌++◌, length, Result, Ok, Err, MatchResult}
 use Rattle.der_base.specs.declared.error.Error.{Error as BerError}
+use Rattle.der_base.specs.declared.error.OidParseError.{OidParseError}
 use Rattle.der_base.specs.declared.header.Class.{Class}
 use Rattle.der_base.specs.declared.header.Class.TheVariants.{Universal}
 use Rattle.der_base.specs.declared.header.Tag.{Tag}
@@ -95,6 +96,12 @@ abbrev pub PutsText : ℕ → List ℕ → Writer → Result (Unit {0}) BerError
 PutsText t x old result new = MatchResult result
     (λ v. IsTextOf t x × PutsLeaf t x old new)
     (λ e. (¬ IsTextOf t x) × (refusal e ≡ invalid_charset) × (new ≡ old))
+
+-- the content octets of arcs are put, or it is refused why there are none, and nothing is put
+abbrev pub PutsArcs : Result (List ℕ) OidParseError → Writer → Result (Unit {0}) OidParseError → Writer → Type 0
+PutsArcs (Ok w) old (Ok u) new = PutsLeaf 6 w old new
+PutsArcs (Err refusal) old (Err e) new = (e ≡ refusal) × (new ≡ old)
+PutsArcs _ old _ new = ⊥
 
 -- the same writer, before an element under this implicit tag
 abbrev pub IsTagged : Class → ℕ → Writer → Writer → Type 0

@@ -3,6 +3,7 @@
 
 mod element;
 mod fields;
+mod identifier;
 pub mod laws;
 mod writer;
 

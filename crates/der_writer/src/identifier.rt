@@ -1,0 +1,76 @@
+//! OBJECT IDENTIFIERs by their arcs (X.690 8.19).
+ghost use Rattle.std.specs.Prelude.{◌+◌, ◌*◌, ◌∷◌, IsTrue, false};
+ghost use Rattle.std.specs.List.{flat_map};
+ghost use Rattle.std.specs.Option.{SomeIff};
+ghost use Rattle.der_base.specs.OidArcs.{have_subidentifier, octets_of_arcs};
+ghost use Rattle.der_base.specs.Octets.{groups};
+ghost use Rattle.der_writer.specs.Written.{Puts, PutsArcs};
+
+use crate::writer::{Writer, tag_put};
+use der_base::error::OidParseError;
+use der_base::header::Tag;
+
+impl<'b> Writer<'b> {
+    /// An OBJECT IDENTIFIER with these arcs (8.19). TooShort for fewer than two; FirstComponentsTooLarge if the first is
+    /// above 2, the second above 39 after 0 or 1, or their subidentifier above 2^64-1: then nothing is put.
+    pub fn put_arcs(&mut self, arcs: &[u64]) -> Result<(), OidParseError>
+        ensures { PutsArcs (octets_of_arcs false arcs.now) self.old result self.new }
+    {
+        let [first, second, others @ ..] = arcs else {
+            return Err(OidParseError::TooShort);
+        };
+        self.put_absolute(*first, *second, others)
+    }
+
+    /// The same of two arcs and others.
+    fn put_absolute(&mut self, first: u64, second: u64, others: &[u64]) -> Result<(), OidParseError>
+        ensures { PutsArcs (octets_of_arcs false (first ∷ second ∷ others.now)) self.old result self.new }
+    {
+        let Some(value) = first_value(first, second) else {
+            return Err(OidParseError::FirstComponentsTooLarge);
+        };
+        let (class, tag) = tag_put(self.implicit, Tag::Oid);
+        let identifier = self.open(class, false, tag);
+        self.put_subidentifier(value);
+        self.put_subidentifiers(others);
+        self.close(identifier);
+        Ok(())
+    }
+
+    /// Puts numbers, each as a subidentifier.
+    fn put_subidentifiers(&mut self, values: &[u64])
+        ensures { Puts (flat_map groups values.now) self.old self.new }
+    {
+        self.put_elements(&[]);
+        for value in values {
+            self.put_subidentifier(*value);
+        }
+    }
+
+    /// Puts a number as a subidentifier, in the fewest groups of seven bits (8.19.2).
+    fn put_subidentifier(&mut self, value: u64)
+        ensures { Puts (groups value) self.old self.new }
+    {
+        let mut last_groups = [0; 10];
+        last_groups[9] = (value % 128) as u8;
+        let mut begin: usize = 9;
+        let mut rest = value / 128;
+        while rest != 0 {
+            begin -= 1;
+            last_groups[begin] = 128 + (rest % 128) as u8;
+            rest /= 128;
+        }
+        self.put_elements(&last_groups[begin..]);
+    }
+}
+
+/// The first subidentifier for the first two arcs (8.19.4), if there is one.
+fn first_value(first: u64, second: u64) -> Option<u64>
+    ensures { SomeIff result (IsTrue (have_subidentifier first second)) (40 * first + second) }
+{
+    match first {
+        0 | 1 if second < 40 => Some(first * 40 + second),
+        2 => second.checked_add(80),
+        _ => None,
+    }
+}
