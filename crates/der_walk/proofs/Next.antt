@@ -13,7 +13,7 @@ use Rattle.der_walk.specs.declared.walk.Walk.{Walk}
 use Rattle.der_walk.specs.Visits.{Visited, Extras, IsHeaderBy, HoldsElement, Visits, VisitsOne, string, constructed, indefinite, visited}
 use Rattle.std.specs.Prelude.{IfSome}
 use Rattle.der_walk.specs.declared.content.End.{End}
-use Rattle.der_walk.specs.Ends.{end_from, ends_at_marker, between, end_in, end_of, here_of, limit_of, EndsWithin, IsWithin}
+use Rattle.der_walk.specs.Ends.{end_from, ends_at_marker, between, end_in, end_of, here_of, limit_of, EndsWithin, IsEndOf, IsWithin}
 use Rattle.der_walk.specs.Faults.{IsStep}
 use Rattle.der_walk.specs.Walked.{visited_of, index_in, BeginsAt, EndsAt, IsOpen, HasWalked, HasVisited}
 use Rattle.der_walk.specs.Reading.{IsRead, whole, list, Passes, GoesInto, GoesOn, count_one, front_of, rules_inside}
@@ -292,13 +292,15 @@ passes x r w w' vs e size has reads pass = of reads.read pass
               (ap (λ c. end_in (length i) c.end) g.content) (ap (λ c. c.has_marker) g.content) end next;
           counts = ap (λ c. c.visited) g.content ∙ one_more_here (omega (arith, later, inside, short)) ∙ ap (λ k. index_in k (vs ++ visited_of e ∷ [])) (sym opens);
           counts_around = λ outer inner o q. none_around outer inner o (sym g.opens ∙ q);
+          end = subst (λ z. IsEndOf (length i) z) (sym (ap (λ c. c.end) g.content)) has.end;
+          ends_around = λ outer inner o q. has.ends_around outer inner o (sym g.opens ∙ q);
           few = omega (arith, more, has.few, later, end);
         }
 
-    into : (first : ℕ) (limit : End) → GoesInto (record w { content = count_one w.content }) e first limit w' → end_in (length i) limit ≡ end_from (e.offset + e.header) (end_of w) e.length
+    into : (first : ℕ) (limit : End) → IsEndOf (length i) limit → GoesInto (record w { content = count_one w.content }) e first limit w' → end_in (length i) limit ≡ end_from (e.offset + e.header) (end_of w) e.length
         → IsOpen x i w.content.rules (100 - e.depth) e.depth e.offset first (rules_inside w.content.rules e) (end_from (e.offset + e.header) (end_of w) e.length) (ends_at_marker e.length) (visited_of e)
         → IsWithin first (end_from (e.offset + e.header) (end_of w) e.length) → first ≤ length i → w.at + 2 ≤ first → HasVisited x r i w' (vs ++ visited_of e ∷ [])
-    into first limit g ee is h2 h3 later =
+    into first limit inside g ee is h2 h3 later =
         let s = rules_inside w.content.rules e in
         let en = end_from (e.offset + e.header) (end_of w) e.length in
         let m = ends_at_marker e.length in
@@ -319,6 +321,8 @@ passes x r w w' vs e size has reads pass = of reads.read pass
           walked = moved x r i (100 - e.depth) (w.opened.items ++ o ∷ []) w'.opened.items s w'.content.rules en (end_in (length i) w'.content.end) m w'.content.has_marker first w'.at (vs ++ visited_of e ∷ []) g.opens g.rules (ap (λ z. end_in (length i) z) g.end ∙ ee) g.marker g.at next;
           counts = g.none ∙ sym (index_inside (length w'.opened.items) vs (visited_of e) (omega (arith, k, reads.depth)));
           counts_around = λ outer inner p q. counted_around o (omega (arith, later, h3)) outer inner p (sym g.opens ∙ q);
+          end = subst (λ z. IsEndOf (length i) z) (sym g.end) inside;
+          ends_around = λ outer inner p q. ends_of outer inner p (sym g.opens ∙ q);
           few = omega (arith, more, has.few, later, g.at);
         }
       where
@@ -329,12 +333,19 @@ passes x r w w' vs e size has reads pass = of reads.read pass
               | inr (more, f) ↦ none_around outer more p f
             ]
 
+        ends_of : (outer inner : List Open) (p : Open) → w.opened.items ++ g.opened ∷ [] ≡ outer ++ p ∷ inner → IsEndOf (length i) p.around.end
+        ends_of outer inner p q =
+            elim (split_last outer inner p w.opened.items g.opened q) [
+              | inl (f, same) ↦ subst (λ z. IsEndOf (length i) z) (sym (ap (λ (z : Open). z.around.end) same ∙ ap (λ c. c.end) g.around)) has.end
+              | inr (more, f) ↦ has.ends_around outer more p f
+            ]
+
     of : IsRead x w.content.rules (100 - e.depth) (here_of w) e → Passes w e w' → HasVisited x r i w' (vs ++ visited_of e ∷ [])
-    of (whole h b rest split eh el ep ed one) (end, ee, inl (inl t, g)) = absurd (cc)
-    of (whole h b rest split eh el ep ed one) (end, ee, inl (inr t, g)) = absurd (cc)
-    of (whole h b rest split eh el ep ed one) (end, ee, inr (p, d, g)) = on g h b rest (split ∙ sym (append_assoc h b rest)) eh el one
-    of (read_string h b rest u v y split eh el ep ed eo ec is spells en holds) (end, ee, inr (p, d, g)) = absurd (cc)
-    of (read_string h b rest u v y split eh el ep ed eo ec is spells en holds) (end, ee, inl (t, g)) =
+    of (whole h b rest split eh el ep ed one) (end, te, ee, inl (inl t, g)) = absurd (cc)
+    of (whole h b rest split eh el ep ed one) (end, te, ee, inl (inr t, g)) = absurd (cc)
+    of (whole h b rest split eh el ep ed one) (end, te, ee, inr (p, d, g)) = on g h b rest (split ∙ sym (append_assoc h b rest)) eh el one
+    of (read_string h b rest u v y split eh el ep ed eo ec is spells en holds) (end, te, ee, inr (p, d, g)) = absurd (cc)
+    of (read_string h b rest u v y split eh el ep ed eo ec is spells en holds) (end, te, ee, inl (t, g)) =
         let all : here_of w ≡ (h ++ b) ++ rest = split ∙ sym (append_assoc h b rest) in
         let inside : w.at + length (h ++ b) ≤ limit = front_within i w.at limit (h ++ b) rest there short all in
         let p = e.offset + e.header in
@@ -353,9 +364,9 @@ passes x r w w' vs e size has reads pass = of reads.read pass
         let is1 = subst (λ q. IsOpen x i w.content.rules (100 - e.depth) e.depth e.offset first Der q false (visited_of e)) (sym from) is_open in
         let is2 = subst (λ q. IsOpen x i w.content.rules (100 - e.depth) e.depth e.offset first Der (end_from p (end_of w) e.length) q (visited_of e)) (sym (ap ends_at_marker el)) is1 in
         let is3 = subst (λ q. IsOpen x i w.content.rules (100 - e.depth) e.depth e.offset first q (end_from p (end_of w) e.length) (ends_at_marker e.length) (visited_of e)) (sym (ap (λ z. if z then Der else w.content.rules) ed)) is2 in
-        into first end g ee is3 (subst (λ q. IsWithin first q) (sym from) (let z : first ≤ last = omega (arith, fl, lu) in z)) (omega (arith, fl, lu, n, inside, short)) (omega (arith, reads.some, reads.offset))
-    of (list h rest split eh ep ed eo is may) (end, ee, inr (p, d, g)) = absurd (cc)
-    of (list h rest split eh ep ed eo is may) (end, ee, inl (t, g)) =
+        into first end (te has.end) g ee is3 (subst (λ q. IsWithin first q) (sym from) (let z : first ≤ last = omega (arith, fl, lu) in z)) (omega (arith, fl, lu, n, inside, short)) (omega (arith, reads.some, reads.offset))
+    of (list h rest split eh ep ed eo is may) (end, te, ee, inr (p, d, g)) = absurd (cc)
+    of (list h rest split eh ep ed eo is may) (end, te, ee, inl (t, g)) =
         let p = e.offset + e.header in
         let inside : w.at + length h ≤ limit = front_within i w.at limit h rest there short split in
         let n : w.at + length h ≡ p = omega (arith, eh, reads.offset) in
@@ -366,4 +377,4 @@ passes x r w w' vs e size has reads pass = of reads.read pass
         let g1 = subst (λ q. GoesInto (record w { content = count_one w.content }) e q end w') no_front g in
         let is1 = subst (λ q. IsOpen x i w.content.rules (100 - e.depth) e.depth e.offset p q (end_from p (end_of w) e.length) (ends_at_marker e.length) (visited_of e)) (sym (ap (λ z. if z then Der else w.content.rules) ed)) is_open in
         let fits : p ≤ limit = omega (arith, n, inside) in
-        into p end g1 ee is1 (end_at_least p (end_of w) e.length (limit_within p (length i) (end_of w) fits)) (omega (arith, fits, short)) (omega (arith, reads.some, reads.offset))
+        into p end (te has.end) g1 ee is1 (end_at_least p (end_of w) e.length (limit_within p (length i) (end_of w) fits)) (omega (arith, fits, short)) (omega (arith, reads.some, reads.offset))

@@ -9,7 +9,7 @@ use Rattle.der_walk.specs.declared.element.Element.{Element}
 use Rattle.der_walk.specs.declared.walk.Walk.{Walk}
 use Rattle.der_walk.specs.Visits.{Visited, Extras, Visits, VisitsOne, none, one_more, primitive, broken, string, constructed, indefinite}
 use Rattle.std.specs.Prelude.{IsSomeAnd}
-use Rattle.der_walk.specs.Ends.{between, end_in, end_of, here_of, limit_of, IsWithin}
+use Rattle.der_walk.specs.Ends.{between, end_in, end_of, here_of, limit_of, IsEndOf, IsWithin}
 use Rattle.der_walk.specs.Walked.{visited_of, index_in, EndsAt, HasWalked, outermost, inside, HasVisited, HasOctets}
 use Rattle.der_walk.specs.Reading.{extras_of, front_of, EndsHere, IsRead, whole, list, Passes, ReadsHere}
 use Rattle.der_walk.specs.Reading.{string as read_string}
@@ -75,6 +75,10 @@ closed x r i vs w w' outer o after has ends eo e1 e2 e3 e4 e5 e6 = of ends
     same : end_of w ≡ e
     same = ap (λ l. end_in (length l) w.content.end) has.input
 
+    -- those that stay open were so before
+    opened : (before inner : List Open) (p : Open) → w'.opened.items ≡ before ++ p ∷ inner → w.opened.items ≡ before ++ p ∷ (inner ++ o ∷ [])
+    opened before inner p q = eo ∙ ap (λ l. l ++ o ∷ []) (sym e4 ∙ q) ∙ append_assoc before (p ∷ inner) (o ∷ [])
+
     at_end : EndsAt i e w.content.has_marker w.at after → after ≤ length i → IsWithin after e → w.at ≤ after → HasVisited x r i w' vs
     at_end ends h1 h2 h3 =
         let opens = ap length e4 in
@@ -86,7 +90,9 @@ closed x r i vs w w' outer o after has ends eo e1 e2 e3 e4 e5 e6 = of ends
           walked = moved x r i (suc has.depth) outer w'.opened.items o.around.rules w'.content.rules (end_in (length i) o.around.end) (end_in (length i) w'.content.end) o.around.has_marker w'.content.has_marker after w'.at vs e4 (ap (λ c. c.rules) e5) (ap (λ c. end_in (length i) c.end) e5)
               (ap (λ c. c.has_marker) e5) e6 (close outer o after eo has.walked ends h1 h2 h3);
           counts = ap (λ c. c.visited) e5 ∙ has.counts_around outer [] o eo ∙ ap (λ k. index_in k vs) (sym opens);
-          counts_around = λ before inner p q. has.counts_around before (inner ++ o ∷ []) p (eo ∙ ap (λ l. l ++ o ∷ []) (sym e4 ∙ q) ∙ append_assoc before (p ∷ inner) (o ∷ []));
+          counts_around = λ before inner p q. has.counts_around before (inner ++ o ∷ []) p (opened before inner p q);
+          end = subst (λ z. IsEndOf (length i) z) (sym (ap (λ c. c.end) e5)) (has.ends_around outer [] o eo);
+          ends_around = λ before inner p q. has.ends_around before (inner ++ o ∷ []) p (opened before inner p q);
           few = omega (arith, has.few, h3, e6);
         }
 

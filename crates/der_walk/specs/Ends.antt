@@ -1,5 +1,5 @@
 -- Where contents end.
-use Rattle.std.specs.Prelude.{◌≡◌, ℕ, ◌+◌, ◌-◌, ◌≤◌, min, Bool, true, false, Option, Some, None, IfSome}
+use Rattle.std.specs.Prelude.{◌≡◌, ℕ, ◌+◌, ◌-◌, ◌<◌, ◌≤◌, min, Bool, true, false, Option, Some, None, IfSome}
 use Rattle.std.specs.Prelude.{List, length, take, drop}
 use Rattle.der_walk.specs.declared.content.End.{End}
 use Rattle.der_walk.specs.declared.content.End.TheVariants.{At, After, Unlimited}
@@ -10,6 +10,12 @@ abbrev pub end_in : ℕ → End → Option ℕ
 end_in n (At e) = Some e
 end_in n (After m) = Some (n + m)
 end_in n Unlimited = None
+
+-- an end is in an input of n octets, or after it, as its name says
+abbrev pub IsEndOf : ℕ → End → Type 0
+IsEndOf n (At e) = e ≤ n
+IsEndOf n (After m) = 0 < m
+IsEndOf n Unlimited = Unit {0}
 
 -- an offset isn't after an end
 abbrev pub IsWithin : ℕ → Option ℕ → Type 0

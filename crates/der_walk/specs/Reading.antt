@@ -26,7 +26,7 @@ use Rattle.der_walk.specs.declared.walk.Walk.{Walk}
 use Rattle.der_walk.specs.Visits.{Visited, Extras, VisitsOne, IsHeaderBy, IsStringFront, HoldsElement, may_break}
 use Rattle.der_walk.specs.declared.content.End.{End}
 use Rattle.der_walk.specs.declared.refusal.Refusal.{Refusal}
-use Rattle.der_walk.specs.Ends.{between, end_from, end_in, end_of, ends_at_marker, limit_of, overrun, IsWithin}
+use Rattle.der_walk.specs.Ends.{between, end_from, end_in, end_of, ends_at_marker, limit_of, overrun, IsEndOf, IsWithin}
 use Rattle.der_walk.specs.Faults.{IsAtFault, IsLastStep, IsStep, IsCauseOfValue, cause_of_content, place_of}
 use Rattle.der_walk.specs.Walked.{visited_of}
 
@@ -162,7 +162,8 @@ pub record GoesOn (w : Walk) (place : ℕ) (w' : Walk) : Type 0 where
 -- the walk passed an element, or its header and what is in front of the elements inside
 abbrev pub Passes : Walk → Element → Walk → Type 0
 Passes w e w' = let p = e.offset + e.header in
-    (end : End) × (end_in (length w.input.now) end ≡ end_from p (end_of w) e.length)
+    (end : End) × (IsEndOf (length w.input.now) w.content.end → IsEndOf (length w.input.now) end)
+    × (end_in (length w.input.now) end ≡ end_from p (end_of w) e.length)
     × ((((e.constructed ≡ true) ⊎ (e.holds_der ≡ true))
     × GoesInto (record w { content = count_one w.content }) e (p + front_of e) end w')
     ⊎ ((e.constructed ≡ false) × (e.holds_der ≡ false)

@@ -10,7 +10,7 @@ use Rattle.der_walk.specs.declared.element.Element.{Element}
 use Rattle.der_walk.specs.declared.path.Step.{Step}
 use Rattle.der_walk.specs.declared.walk.Walk.{Walk}
 use Rattle.der_walk.specs.declared.refusal.Refusal.{Refusal}
-use Rattle.der_walk.specs.Ends.{end_from, end_in, ends_at_marker, here_of, EndsWithin, IsWithin}
+use Rattle.der_walk.specs.Ends.{end_from, end_in, ends_at_marker, here_of, EndsWithin, IsEndOf, IsWithin}
 pub use Rattle.der_walk.specs.Ends.{between}
 use Rattle.der_walk.specs.Faults.{IsAtFault, IsLastStep, IsStep, place_of}
 use Rattle.der_walk.specs.Visits.{Visited, Extras, IsHeaderBy, Visits, VisitsOne}
@@ -107,6 +107,10 @@ pub record HasVisited (x : Extras) (r : Rules) (i : List ℕ) (w : Walk) (vs : L
   pub counts : w.content.visited ≡ index_in (length w.opened.items) vs
   pub counts_around : (outer inner : List Open) (o : Open) → w.opened.items ≡ outer ++ o ∷ inner
       → o.around.visited ≡ index_in (length outer) vs
+  -- each content ends in the input or after it, as its end says
+  pub end : IsEndOf (length i) w.content.end
+  pub ends_around : (outer inner : List Open) (o : Open) → w.opened.items ≡ outer ++ o ∷ inner
+      → IsEndOf (length i) o.around.end
   -- each has two octets or more
   pub few : length vs + length vs ≤ w.at
 

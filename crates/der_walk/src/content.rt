@@ -1,6 +1,6 @@
 //! The contents that a walk is in.
 ghost use Rattle.std.specs.Prelude.{◌≡◌, ◌+◌, ◌≤◌, ◌↔◌, IsSomeAnd, IsTrue, Some, false};
-ghost use Rattle.der_walk.specs.Ends.{end_in, limit_of, overrun};
+ghost use Rattle.der_walk.specs.Ends.{IsEndOf, end_in, limit_of, overrun};
 
 use crate::path::Step;
 use der_base::rules::Rules;
@@ -20,7 +20,8 @@ impl End {
     /// The end of a content of this length that begins at this offset of an input of this size.
     pub(crate) fn of(begin: usize, length: usize, size: usize) -> End
         requires { begin ≤ size }
-        ensures { end_in size result ≡ Some (begin + length) }
+        ensures inside { IsEndOf size result }
+        ensures place { end_in size result ≡ Some (begin + length) }
     {
         let room = size - begin;
         if length <= room {
