@@ -1,16 +1,24 @@
 //! The text of an error.
+ghost use Rattle.der_request.specs.Texts.{text_with_field};
+
 use crate::refusal::{Field, RequestRefusal};
+use der_base::error::BerError;
+use der_cursor::Refusal;
 use std::error::Error;
 use std::fmt;
 
 /// The field, the offset and the reason: "certificationRequestInfo.subject at 7: wrong value".
 impl fmt::Display for RequestRefusal {
+    ghost output = { λ x. text_with_field x.field (⟦<Refusal<BerError> as fmt::Display>⟧.output x.refusal) };
+
     fn fmt<W: fmt::Write>(&self, f: &mut fmt::Formatter<W>) -> fmt::Result {
         write!(f, "{} {}", self.field, self.refusal)
     }
 }
 
 impl fmt::Debug for RequestRefusal {
+    ghost debug_output = { ⟦<RequestRefusal as fmt::Display>⟧.output };
+
     fn fmt<W: fmt::Write>(&self, f: &mut fmt::Formatter<W>) -> fmt::Result {
         write!(f, "{self}")
     }
@@ -20,6 +28,11 @@ impl Error for RequestRefusal {}
 
 /// The names of the field and of those that it is in, as the ASN.1 of RFC 2986 4 has them.
 impl fmt::Display for Field {
+    ghost use Rattle.std.specs.Prelude.{Some};
+    ghost use Rattle.der_request.specs.Texts.{field_text};
+
+    ghost output = { λ x. Some (field_text x) };
+
     fn fmt<W: fmt::Write>(&self, f: &mut fmt::Formatter<W>) -> fmt::Result {
         f.write_str(match self {
             Field::CertificationRequest => "CertificationRequest",
