@@ -1,14 +1,14 @@
 -- An element of DER is an object, whose elements of other classes keep their octets.
-use Rattle.std.proofs.Common.{◌≡◌, ℕ, suc, ◌^◌, ◌<◌, ◌≤◌, Bool, true, false, ◌==◌, List, ◌++◌, length, refl, ap, ◌∙◌, arith, length-append, inr}
+use Rattle.std.proofs.Common.{◌≡◌, ℕ, suc, ◌^◌, ◌<◌, ◌≤◌, Bool, true, false, ◌==◌, List, ◌++◌, length, refl, sym, ap, ◌∙◌, arith, length-append, inr}
 use Rattle.std.proofs.lemmas.Bool.Decides.{Decides-eqb}
 use Rattle.der_base.specs.declared.header.Class.{Class}
 use Rattle.der_base.specs.declared.header.Class.TheVariants.{Universal, Application, ContextSpecific, Private}
 use Rattle.der_base.specs.declared.rules.Rules.TheVariants.{Der}
-use Rattle.der_base.specs.Encoding.{encoding, encodings}
+use Rattle.der_base.specs.Encoding.{content_octets, encoding, encodings}
 use Rattle.der_base.specs.Leaf.{is_list, is_mapped}
 use Rattle.der_base.specs.Octets.{identifier, shortest_length}
-use Rattle.der_base.specs.Spelling.{AreDerValid, DerSpells, max_object_size}
-use Rattle.der_base.specs.Tree.{Node, node, sequence, set, unknown, Nodes, no_nodes, nodes, list_height}
+use Rattle.der_base.specs.Spelling.{AreDerValid, DerSpells, IsDerContent, max_object_size}
+use Rattle.der_base.specs.Tree.{Node, node, Content, sequence, set, unknown, Nodes, no_nodes, nodes, content_height, list_height}
 use Rattle.der_base.proofs.Leaves.Always.{or_cases}
 use Rattle.der_check.specs.Elements.{AreElements, none, one_more, primitive, constructed, indefinite, MayBeConstructed}
 use Rattle.der_check.specs.Laws.{ElementsAreObjects}
@@ -43,31 +43,23 @@ module _ (b w : List ℕ) (t d : ℕ) (number : t < 2 ^ 32) (small : length w �
       → b ≡ identifier Universal true t ++ shortest_length (length (encodings l)) ++ encodings l
   octets l items e = e ∙ ap (λ v. identifier Universal true t ++ shortest_length (length v) ++ v) items
 
-  is_sequence : (l : Nodes) → Encode w l d → Whole Universal → t ≡ 16 → IsObject
-  is_sequence l items e et = (
-    node Universal true t (sequence l),
+  joined : (x : Content) (l : Nodes) → Encode w l d → Whole Universal
+      → encoding (node Universal true t x) ≡ identifier Universal true t ++ shortest_length (length (encodings l)) ++ encodings l
+      → content_octets x ≡ encodings l → content_height x ≡ suc (list_height l) → IsDerContent Universal true t x → IsObject
+  joined x l items e whole same tall valid = (
+    node Universal true t x,
     record {
-      encoded = octets l items.octets e;
-      valid = (number, (refl, et, refl, items.valid));
-      depth = omega (arith, items.depth);
-      size = omega (arith, small, ap length items.octets);
-    },
-  )
-
-  is_set : (l : Nodes) → Encode w l d → Whole Universal → t ≡ 17 → IsObject
-  is_set l items e et = (
-    node Universal true t (set l),
-    record {
-      encoded = octets l items.octets e;
-      valid = (number, (refl, et, refl, items.valid));
-      depth = omega (arith, items.depth);
-      size = omega (arith, small, ap length items.octets);
+      encoded = octets l items.octets e ∙ sym whole;
+      valid = (number, valid);
+      depth = omega (arith, items.depth, tall);
+      size = omega (arith, small, ap length items.octets, ap length same);
     },
   )
 
   universal : (v : Bool) → is_list t ≡ v → (l : Nodes) → Encode w l d → Whole Universal → MayBeConstructed Der Universal t → IsObject
   universal true is l items e m = or_cases (t == 16) (t == 17) IsObject is
-      (λ q. is_sequence l items e ((Decides-eqb t 16).0 q)) (λ q. is_set l items e ((Decides-eqb t 17).0 q))
+      (λ q. joined (sequence l) l items e refl refl refl (refl, (Decides-eqb t 16).0 q, refl, items.valid))
+      (λ q. joined (set l) l items e refl refl refl (refl, (Decides-eqb t 17).0 q, refl, items.valid))
   universal false is l items e m = kept Universal e (λ u. unmapped t (is_mapped t) refl (m refl).1 is)
 
   constructed_object : (c : Class) (l : Nodes) → Encode w l d → Whole c → MayBeConstructed Der c t → IsObject

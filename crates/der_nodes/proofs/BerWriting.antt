@@ -122,35 +122,26 @@ kept_items {row} d u a first old new same h = rw (same.0, same.1) h
 
 -- contents
 
-pub sequence_written : {N : Type 0} {row : Element → N} (c : Class) (p : Bool) (t d : ℕ) (w : List ℕ) (a : ℕ) (old : List N) (n m : ℕ) (new : List N) → c ≡ Universal → p ≡ true → t ≡ 16
-    → WritesItems row (d - 1) w a old n m new → WritesContent row c p t d w a old n m new
-sequence_written c p t d w a old n m new ec ep et h = record {
-  value = sequence h.items;
+items_written : {N : Type 0} {row : Element → N} (x : Content) (c : Class) (p : Bool) (t d : ℕ) (w : List ℕ) (a : ℕ) (old : List N) (n m : ℕ) (new : List N)
+    (h : WritesItems row (d - 1) w a old n m new) → HasContent w c p t x h.forms d → AreInContent c p t w a x h.elements → content_count x ≡ item_count h.items
+    → WritesContent row c p t d w a old n m new
+items_written x c p t d w a old n m new h has are counted = record {
+  value = x;
   forms = h.forms;
-  content = (ec, et, ep, h.joins);
+  content = has;
   elements = h.elements;
-  places = (ec, et, ep, h.places);
-  count = h.count ∙ ap (λ k. n + k) (sym (sequence_counted h.items));
-  written = h.written;
-}
-
-pub set_written : {N : Type 0} {row : Element → N} (c : Class) (p : Bool) (t d : ℕ) (w : List ℕ) (a : ℕ) (old : List N) (n m : ℕ) (new : List N) → c ≡ Universal → p ≡ true → t ≡ 17
-    → WritesItems row (d - 1) w a old n m new → WritesContent row c p t d w a old n m new
-set_written c p t d w a old n m new ec ep et h = record {
-  value = set h.items;
-  forms = h.forms;
-  content = (ec, et, ep, h.joins);
-  elements = h.elements;
-  places = (ec, et, ep, h.places);
-  count = h.count ∙ ap (λ k. n + k) (sym (set_counted h.items));
+  places = are;
+  count = h.count ∙ ap (λ k. n + k) (sym counted);
   written = h.written;
 }
 
 pub list_written : {N : Type 0} {row : Element → N} (c : Class) (p : Bool) (t d : ℕ) (w : List ℕ) (a : ℕ) (old : List N) (n m : ℕ) (new : List N) → c ≡ Universal → p ≡ true → IsTrue (is_list t)
     → WritesItems row (d - 1) w a old n m new → WritesContent row c p t d w a old n m new
 list_written {row} c p t d w a old n m new ec ep l h = or_cases (t == 16) (t == 17) (WritesContent row c p t d w a old n m new) l
-    (λ e. sequence_written c p t d w a old n m new ec ep ((Decides-eqb t 16).0 e) h)
-    (λ e. set_written c p t d w a old n m new ec ep ((Decides-eqb t 17).0 e) h)
+    (λ e. let et = (Decides-eqb t 16).0 e in
+    items_written (sequence h.items) c p t d w a old n m new h (ec, et, ep, h.joins) (ec, et, ep, h.places) (sequence_counted h.items))
+    (λ e. let et = (Decides-eqb t 17).0 e in
+    items_written (set h.items) c p t d w a old n m new h (ec, et, ep, h.joins) (ec, et, ep, h.places) (set_counted h.items))
 
 pub list_mapped : (t : ℕ) → IsTrue (is_list t) → IsTrue (is_mapped t)
 list_mapped t l = or_cases (t == 16) (t == 17) (IsTrue (is_mapped t)) l

@@ -18,6 +18,7 @@ use Rattle.der_base.specs.Spelling.{DerSpells, max_object_size}
 use Rattle.der_base.specs.Tree.{Node, node, Content, sequence, set, unknown, Nodes, no_nodes, nodes, nodes_of}
 use Rattle.der_base.proofs.Spellings.Counted.{object_counted, sequence_counted, set_counted, items_counted}
 use Rattle.der_laws.proofs.Spellings.DerWithinBer.{valid_element}
+use Rattle.der_forms.specs.Contents.{IsDerContentOf}
 use Rattle.der_forms.proofs.Contents.{joins_encoded, leaf_valid, leaf_height}
 use Rattle.der_nodes.specs.declared.element.Element.{Element}
 use Rattle.der_nodes.specs.Places.{placed, placed_content, placed_items, overlay}
@@ -69,34 +70,26 @@ leaf_written {row} c p t d w end old n le u (x, q, k, e) = record {
   written = overlay_none old n ∙ ap (λ v. overlay old n (map row v)) (sym (leaf_places t x (end - length w) k));
 }
 
-pub sequence_written : {N : Type 0} {row : Element → N} (c : Class) (p : Bool) (t d : ℕ) (w : List ℕ) (end : ℕ) (old : List N) (n m : ℕ) (new : List N) → 1 ≤ d → c ≡ Universal → p ≡ true → t ≡ 16
-    → WritesDerItems row (d - 1) w end old n m new → WritesDerContent row c p t d w end old n m new
-sequence_written c p t d w end old n m new le ec ep et h =
-    let q = joins_encoded h.items w (d - 1) h.joins in
-    record {
-      value = sequence h.items;
-      content = record { octets = q.octets; valid = (ec, et, ep, q.valid); depth = omega (arith, q.depth) };
-      count = h.count ∙ ap (λ k. n + k) (sym (sequence_counted h.items));
-      written = h.written;
-    }
-
-pub set_written : {N : Type 0} {row : Element → N} (c : Class) (p : Bool) (t d : ℕ) (w : List ℕ) (end : ℕ) (old : List N) (n m : ℕ) (new : List N) → 1 ≤ d → c ≡ Universal → p ≡ true → t ≡ 17
-    → WritesDerItems row (d - 1) w end old n m new → WritesDerContent row c p t d w end old n m new
-set_written c p t d w end old n m new le ec ep et h =
-    let q = joins_encoded h.items w (d - 1) h.joins in
-    record {
-      value = set h.items;
-      content = record { octets = q.octets; valid = (ec, et, ep, q.valid); depth = omega (arith, q.depth) };
-      count = h.count ∙ ap (λ k. n + k) (sym (set_counted h.items));
-      written = h.written;
-    }
+items_written : {N : Type 0} {row : Element → N} (x : Content) (c : Class) (p : Bool) (t d : ℕ) (w : List ℕ) (end : ℕ) (old : List N) (n m : ℕ) (new : List N)
+    (h : WritesDerItems row (d - 1) w end old n m new) → IsDerContentOf w c p t x d → content_count x ≡ item_count h.items
+    → placed_content x (end - length w) ≡ placed_items h.items (end - length w) → WritesDerContent row c p t d w end old n m new
+items_written {row} x c p t d w end old n m new h is counted places = record {
+  value = x;
+  content = is;
+  count = h.count ∙ ap (λ k. n + k) (sym counted);
+  written = h.written ∙ ap (λ v. overlay old n (map row v)) (sym places);
+}
 
 pub list_written : {N : Type 0} {row : Element → N} (c : Class) (p : Bool) (t d : ℕ) (w : List ℕ) (end : ℕ) (old : List N) (n m : ℕ) (new : List N) → 1 ≤ d → c ≡ Universal → p ≡ true
     → IsTrue (is_list t)
     → WritesDerItems row (d - 1) w end old n m new → WritesDerContent row c p t d w end old n m new
-list_written {row} c p t d w end old n m new le ec ep l h = or_cases (t == 16) (t == 17) (WritesDerContent row c p t d w end old n m new) l
-    (λ e. sequence_written c p t d w end old n m new le ec ep ((Decides-eqb t 16).0 e) h)
-    (λ e. set_written c p t d w end old n m new le ec ep ((Decides-eqb t 17).0 e) h)
+list_written {row} c p t d w end old n m new le ec ep l h =
+    let q = joins_encoded h.items w (d - 1) h.joins in
+    or_cases (t == 16) (t == 17) (WritesDerContent row c p t d w end old n m new) l
+    (λ e. items_written (sequence h.items) c p t d w end old n m new h
+    (record { octets = q.octets; valid = (ec, (Decides-eqb t 16).0 e, ep, q.valid); depth = omega (arith, q.depth, le) }) (sequence_counted h.items) refl)
+    (λ e. items_written (set h.items) c p t d w end old n m new h
+    (record { octets = q.octets; valid = (ec, (Decides-eqb t 17).0 e, ep, q.valid); depth = omega (arith, q.depth, le) }) (set_counted h.items) refl)
 
 -- an element of a header and a content
 
