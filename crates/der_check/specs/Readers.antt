@@ -14,17 +14,15 @@ use Rattle.der_base.specs.Rules.{SpellsHeaderBy}
 use Rattle.der_base.specs.Spelling.{end_marker}
 use Rattle.der_base.specs.Tree.{Node, node, Content}
 use Rattle.der_base.specs.declared.rules.Rules.{Rules}
-use Rattle.der_base.specs.declared.rules.Rules.TheVariants.{Ber, Der}
 use Rattle.der_check.specs.Elements.{AreElements, HasNoPaddedArc, IsElement, MayBeConstructed}
 use Rattle.der_values.specs.Kinds.{HasPaddedArc}
 use Rattle.der_check.specs.Elements.{SpellsObject, SpellsOne}
 use Rattle.der_nodes.specs.Inner.{IsPlainLeaf}
-use Rattle.der_nodes.specs.NodesReading.{AnswersBerNodes, AnswersDerNodes}
+use Rattle.der_nodes.specs.NodesReading.{AnswersNodes}
 
 -- that of the check of an element without others inside
 abbrev pub AnswersOneElement : Rules → List ℕ → Result (Bor (List ℕ) × ℕ) (Refused BerError) → Type 0
-AnswersOneElement Ber i result = AnswersBerNodes 1 i result
-AnswersOneElement Der i result = AnswersDerNodes 1 i result
+AnswersOneElement r i result = AnswersNodes r 1 i result
 
 -- the result is what follows, where something is followed so, and nothing else is
 pub record Finds (P : List ℕ → Type 0) (result : Option (Bor (List ℕ))) : Type 0 where

@@ -7,7 +7,6 @@ pub mod DerFaultPlaces
 pub mod BerElements
 pub mod BerWriting
 pub mod BerFaultPlaces
-pub mod BerNodesLaws
 pub mod BerOnePlace
 pub mod BerPlaces
 pub mod ShortLaws
@@ -15,3 +14,4 @@ pub mod OneList
 pub mod BerOfDer
 pub mod BufferLaws
 pub mod AppendedPlaces
+pub mod WholeReading

@@ -19,11 +19,10 @@ use Rattle.der_base.specs.Leaf.{IsLeafContent}
 use Rattle.der_base.specs.Listing.{object_count, content_count, item_count}
 use Rattle.der_base.specs.Refusal.{Refusal, max_depth}
 use Rattle.der_base.specs.Spelling.{Form, Forms, IsKept, end_marker}
-use Rattle.der_base.specs.Stable.{BerIsCut}
 use Rattle.der_base.specs.Tree.{Node, Content, Nodes}
 use Rattle.der_nodes.specs.declared.element.Element.{Element}
 use Rattle.der_nodes.specs.declared.tape.Tape.{Tape}
-use Rattle.der_nodes.specs.FaultPlaces.{InsideRefusesAt, ContentRefusesAt, ItemsRefuseAt, ShowsFaultAt}
+use Rattle.der_nodes.specs.FaultPlaces.{InsideRefusesAt, ContentRefusesAt, ItemsRefuseAt}
 use Rattle.der_nodes.specs.Inner.{element_of}
 use Rattle.der_nodes.specs.Places.{AreElementsOf, AreInContent, AreInItems, overlay}
 
@@ -118,17 +117,7 @@ PutsWhole row n m e values old new = MatchResult values
     (λ _. new ≡ overlay old n (row (record e { inside = m - n - 1 }) ∷ []))
     (λ _. new ≡ old)
 
--- What is returned of i, which ends at the place end: it begins with an element, which is written with those inside it,
--- or it shows a refusal at a place, or is cut short where it begins.
-abbrev pub AnswersElement : {N : Type 0} → (Element → N) → ℕ → List ℕ → ℕ → Tape N
-    → Result (Bor (List ℕ)) (Refusing BerError) → Tape N → Type 0
-AnswersElement row d i end old result new = let n = end - length i in MatchAnswer result
-    (λ rest. WritesElement row d i end old.nodes.now old.count rest.now new.count new.nodes.now)
-    (λ e. ShowsFaultAt d i n e new.progress.place)
-    (λ m. BerIsCut d i m × (new.progress.place ≡ n))
-    ⊥
-
--- of items: they are written, or one of them is refused at a place
+-- What is returned of items: they are written, or one of them is refused at a place.
 abbrev pub AnswersItems : {N : Type 0} → (Element → N) → ℕ → List ℕ → ℕ → Tape N → Values → Tape N → Type 0
 AnswersItems row d w a old result new = MatchAnswer result
     (λ _. WritesItems row d w a old.nodes.now old.count new.count new.nodes.now)

@@ -1,13 +1,9 @@
 -- Where a refusal is in an input: the place of the innermost element that is refused.
-use Rattle.std.specs.Borrow.{Bor}
 use Rattle.std.specs.Prelude.{◌≡◌, ◌≢◌, ℕ, zero, suc, ◌+◌, ◌-◌, ◌^◌, ◌<◌, ◌≤◌, ◌⊎◌, Bool, true, IsTrue}
-use Rattle.std.specs.Prelude.{List, [], ◌∷◌, ◌++◌, length, Result}
-use Rattle.der_base.specs.declared.error.Err.{Err as Refused}
-use Rattle.der_base.specs.declared.error.Error.{Error as BerError}
+use Rattle.std.specs.Prelude.{List, [], ◌∷◌, ◌++◌, length}
 use Rattle.der_base.specs.declared.error.Needed.TheVariants.{Size}
 use Rattle.der_base.specs.declared.header.Class.{Class}
 use Rattle.der_base.specs.declared.header.Class.TheVariants.{Universal}
-use Rattle.der_base.specs.Answer.{MatchAnswer}
 use Rattle.der_base.specs.Fault.{BerHeaderRefuses, DerHeaderRefuses, DerJoins, HasHeader}
 use Rattle.der_base.specs.Headers.{BeginsWithDerHeader}
 use Rattle.der_base.specs.Leaf.{is_list, is_mapped}
@@ -48,10 +44,6 @@ DerItemsRefuseAt w d n e k = DerItemsRefuseBy (DerShowsFaultAt d) w d n e k
 abbrev pub DerContentRefusesAt : Class → Bool → ℕ → List ℕ → ℕ → ℕ → ℕ → Refusal → ℕ → Type 0
 DerContentRefusesAt c p t w d n m e k = (c ≡ Universal) × IsTrue (is_mapped t)
     × ((DerLeafRefuses p t w e × (k ≡ n)) ⊎ (IsTrue (is_list t) × (p ≡ true) × DerItemsRefuseAt w (d - 1) m e k))
-
--- an Error is at the place; of an input that is cut short the place is its front
-abbrev pub IsDerPlace : ℕ → List ℕ → Result (Bor (List ℕ) × ℕ) (Refused BerError) → ℕ → Type 0
-IsDerPlace d i result k = MatchAnswer result (λ _. Unit {0}) (λ e. DerShowsFaultAt d i 0 e k) (λ _. k ≡ 0) ⊥
 
 -- By BER. The inside of an indefinite length, which begins at the place n, shows the refusal with this budget, and the
 -- innermost element whose header or depth is refused begins at q.
@@ -98,6 +90,3 @@ ItemsRefuseAt w d n e q = ItemsRefuseBy (ShowsFaultAt d) w d n e q
 abbrev pub ContentRefusesAt : Class → Bool → ℕ → List ℕ → ℕ → ℕ → ℕ → Refusal → ℕ → Type 0
 ContentRefusesAt c p t w d n a e q = (c ≡ Universal) × IsTrue (is_mapped t)
     × ((BerLeafRefuses p t w e × (q ≡ n)) ⊎ (IsTrue (is_list t) × (p ≡ true) × ItemsRefuseAt w (d - 1) a e q))
-
-abbrev pub IsBerPlace : ℕ → List ℕ → Result (Bor (List ℕ) × ℕ) (Refused BerError) → ℕ → Type 0
-IsBerPlace d i result q = MatchAnswer result (λ _. Unit {0}) (λ e. ShowsFaultAt d i 0 e q) (λ _. q ≡ 0) ⊥

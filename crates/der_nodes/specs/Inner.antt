@@ -1,10 +1,8 @@
 -- What the functions of the readers of DER write and return.
 use Rattle.std.specs.Prelude.{◌≡◌, ℕ, ◌+◌, ◌-◌, ◌<◌, ◌≤◌, ◌⊎◌, Bool, true, false, IsTrue, List, ◌∷◌, ◌++◌, length, map}
-use Rattle.std.specs.Borrow.{Bor}
 use Rattle.std.specs.Prelude.{Result, MatchResult}
 use Rattle.der_base.specs.declared.error.Err.{Err as Refusing}
 use Rattle.der_base.specs.Answer.{MatchAnswer}
-use Rattle.der_base.specs.Stable.{DerIsCut}
 use Rattle.der_base.specs.declared.header.Class.{Class}
 use Rattle.der_base.specs.declared.header.Class.TheVariants.{Universal}
 use Rattle.der_base.specs.declared.header.Header.{Header}
@@ -24,7 +22,7 @@ use Rattle.der_base.specs.Tree.{Node, Content, Nodes}
 use Rattle.der_forms.specs.Contents.{IsDerContentOf}
 use Rattle.der_nodes.specs.declared.element.Element.{Element}
 use Rattle.der_nodes.specs.declared.tape.Tape.{Tape}
-use Rattle.der_nodes.specs.FaultPlaces.{DerShowsFaultAt, DerItemsRefuseAt}
+use Rattle.der_nodes.specs.FaultPlaces.{DerItemsRefuseAt}
 use Rattle.der_nodes.specs.Places.{placed, placed_content, placed_items, overlay}
 
 -- the octets w are the content of a type
@@ -114,17 +112,7 @@ pub record WritesDerItems {N : Type 0} (row : Element → N) (d : ℕ) (w : List
   pub count : m ≡ n + item_count items
   pub written : new ≡ overlay old n (map row (placed_items items (end - length w)))
 
--- What is returned of i, which ends at the place end: it begins with an element, which is written with those inside it,
--- or it shows a refusal at a place, or is cut short where it begins.
-abbrev pub AnswersDerElement : {N : Type 0} → (Element → N) → ℕ → List ℕ → ℕ → Tape N
-    → Result (Bor (List ℕ)) (Refusing BerError) → Tape N → Type 0
-AnswersDerElement row d i end old result new = let n = end - length i in MatchAnswer result
-    (λ rest. WritesDerElement row d i end old.nodes.now old.count rest.now new.count new.nodes.now)
-    (λ e. DerShowsFaultAt d i n e new.progress.place)
-    (λ m. DerIsCut d i m × (new.progress.place ≡ n))
-    ⊥
-
--- of items: they are written, or one of them is refused at a place
+-- What is returned of items: they are written, or one of them is refused at a place.
 abbrev pub AnswersDerItems : {N : Type 0} → (Element → N) → ℕ → List ℕ → ℕ → Tape N
     → Result (Unit {0}) (Refusing BerError) → Tape N → Type 0
 AnswersDerItems row d w end old result new = MatchAnswer result

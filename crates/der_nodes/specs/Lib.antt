@@ -4,3 +4,4 @@ pub mod Places
 pub mod Inner
 pub mod BerInner
 pub mod NodesReading
+pub mod ElementReading

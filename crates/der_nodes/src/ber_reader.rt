@@ -4,12 +4,14 @@
 ghost use Rattle.std.specs.Prelude.{◌≡◌, ◌⊎◌, ◌+◌, ◌-◌, ◌*◌, ◌^◌, ◌<◌, ◌≤◌, ℕ, List, []};
 ghost use Rattle.std.specs.Prelude.{IfOk, IfSome, IsTrue, MatchOption, MatchResult, length};
 ghost use Rattle.der_base.specs.declared.header.Length.{Length};
+ghost use Rattle.der_base.specs.declared.rules.Rules.TheVariants.{Ber};
 ghost use Rattle.der_base.specs.Answer.{MatchAnswer};
 ghost use Rattle.der_base.specs.Content.{BeginsWithContent, ContentLacks};
 ghost use Rattle.der_base.specs.Header.{class_of, is_constructed, number_of};
 ghost use Rattle.der_base.specs.Spelling.{framing_budget};
-ghost use Rattle.der_nodes.specs.BerInner.{AnswersContent, AnswersElement, AnswersItems, IsCounted, IsLeafOrKept};
+ghost use Rattle.der_nodes.specs.BerInner.{AnswersContent, AnswersItems, IsCounted, IsLeafOrKept};
 ghost use Rattle.der_nodes.specs.BerInner.{InsideContentRefusesAt, KeepsTape, PutsWhole, Settles, WritesFramed, begun};
+ghost use Rattle.der_nodes.specs.ElementReading.{AnswersElement};
 ghost use Rattle.der_nodes.specs.Inner.{IsListHeader};
 ghost use Rattle.der_nodes.specs.FaultPlaces.{InsideRefusesAt};
 
@@ -39,7 +41,7 @@ pub(crate) fn read_element<'a, N: Slot>(
     requires room { tape.old.count + length i.now ≤ end }
     requires fits { tape.old.progress.headers + length i.now < 2 ^ 64 - 1 }
     ensures same { tape.new.nodes.ghost_name ≡ tape.old.nodes.ghost_name }
-    ensures found { AnswersElement N.slot max_depth i.now end tape.old result tape.new }
+    ensures found { AnswersElement Ber N.slot max_depth i.now end tape.old result tape.new }
     ensures counted { IfOk result (λ rest. IsCounted i.now rest.now end tape.old tape.new) }
     ensures bounded { tape.new.progress.headers ≤ tape.old.progress.headers + length i.now + 1 }
 {
@@ -93,7 +95,7 @@ fn read_any<'a, N: Slot>(
     requires room { tape.old.count + length i.now ≤ end }
     requires fits { tape.old.progress.headers + length i.now < 2 ^ 64 - 1 }
     ensures same { tape.new.nodes.ghost_name ≡ tape.old.nodes.ghost_name }
-    ensures found { AnswersElement N.slot max_depth i.now end tape.old result tape.new }
+    ensures found { AnswersElement Ber N.slot max_depth i.now end tape.old result tape.new }
     ensures counted { IfOk result (λ rest. IsCounted i.now rest.now end tape.old tape.new) }
     ensures bounded { tape.new.progress.headers ≤ tape.old.progress.headers + length i.now + 1 }
 {

@@ -2,14 +2,16 @@
 //! list.
 ghost use Rattle.std.specs.Prelude.{◌≡◌, ◌≢◌, ◌+◌, ◌<◌, ◌≤◌, ℕ, IfOk, IsTrue, MatchResult, length};
 ghost use Rattle.der_base.specs.declared.header.Class.{Class};
+ghost use Rattle.der_base.specs.declared.rules.Rules.TheVariants.{Der};
 ghost use Rattle.der_base.specs.Answer.{MatchAnswer};
 ghost use Rattle.der_base.specs.Header.{class_of, is_constructed, number_of};
 ghost use Rattle.der_base.specs.Leaf.{is_mapped};
 ghost use Rattle.der_base.specs.LeafRefusal.{DerLeafRefuses};
 ghost use Rattle.der_base.specs.Refusal.{refusal};
 ghost use Rattle.der_base.specs.Stable.{DerIsCut};
+ghost use Rattle.der_nodes.specs.ElementReading.{AnswersElement};
 ghost use Rattle.der_nodes.specs.FaultPlaces.{DerShowsFaultAt};
-ghost use Rattle.der_nodes.specs.Inner.{AnswersDerElement, AnswersDerItems, FramesDer, IsDerClosed, IsListHeader};
+ghost use Rattle.der_nodes.specs.Inner.{AnswersDerItems, FramesDer, IsDerClosed, IsListHeader};
 
 use crate::element::{Slot, element_of, put};
 use crate::leaf::{check_der_leaf, is_list};
@@ -31,7 +33,7 @@ pub(crate) fn read_element<'a, N: Slot>(
 ) -> Result<&'a [u8], Err<BerError>>
     requires { tape.old.count + length i.now ≤ end }
     ensures same { tape.new.nodes.ghost_name ≡ tape.old.nodes.ghost_name }
-    ensures found { AnswersDerElement N.slot max_depth i.now end tape.old result tape.new }
+    ensures found { AnswersElement Der N.slot max_depth i.now end tape.old result tape.new }
     ensures shorter { IfOk result (λ rest. length rest.now < length i.now) }
     ensures within { IfOk result (λ rest. tape.new.count + length rest.now ≤ end) }
 {
@@ -82,7 +84,7 @@ fn read_any<'a, N: Slot>(
     requires deep { 1 ≤ max_depth }
     requires room { tape.old.count + length i.now ≤ end }
     ensures same { tape.new.nodes.ghost_name ≡ tape.old.nodes.ghost_name }
-    ensures found { AnswersDerElement N.slot max_depth i.now end tape.old result tape.new }
+    ensures found { AnswersElement Der N.slot max_depth i.now end tape.old result tape.new }
     ensures shorter { IfOk result (λ rest. length rest.now < length i.now) }
     ensures within { IfOk result (λ rest. tape.new.count + length rest.now ≤ end) }
 {

@@ -9,6 +9,7 @@ mod framing;
 pub mod laws;
 mod leaf;
 pub mod parser;
+mod reading;
 mod short;
 mod tape;
 
@@ -17,4 +18,5 @@ pub use parser::{
     check_ber, check_der, parse_ber_nodes, parse_ber_nodes_counted, parse_ber_nodes_into,
     parse_ber_nodes_placed, parse_der_nodes, parse_der_nodes_into, parse_der_nodes_placed,
 };
+pub use reading::{Counted, PlacedError, PlacedResult};
 pub use short::{Short, is_list_octet, is_plain_leaf, read_short};

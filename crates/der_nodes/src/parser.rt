@@ -1,10 +1,11 @@
 //! The public calls.
-ghost use Rattle.std.specs.Prelude.{◌≡◌, ◌+◌, ◌*◌, ◌<◌, ◌≤◌, IfOk, length};
-ghost use Rattle.der_nodes.specs.FaultPlaces.{IsBerPlace, IsDerPlace};
-ghost use Rattle.der_nodes.specs.NodesReading.{AnswersBerNodes, AnswersDerNodes, KeepsBerNodes, KeepsDerNodes};
-ghost use Rattle.der_nodes.specs.NodesReading.{IsStableBerNodes, IsStableDerNodes, ListsBerNodes, ListsDerNodes};
+ghost use Rattle.std.specs.Prelude.{◌≡◌, ◌<◌, IfOk, length};
+ghost use Rattle.der_base.specs.declared.rules.Rules.TheVariants.{Ber, Der};
+ghost use Rattle.der_nodes.specs.NodesReading.{AnswersNodes, CountsHeaders, IsStableNodes, ListsBerNodes};
+ghost use Rattle.der_nodes.specs.NodesReading.{ListsDerNodes, ReadsNodes};
 
 use crate::element::{Element, Slot};
+use crate::reading::{Counted, PlacedError, PlacedResult};
 use crate::tape::Tape;
 use crate::{ber_reader, der_reader};
 use der_base::error::{BerError, IResult};
@@ -16,8 +17,8 @@ use der_base::error::{BerError, IResult};
 /// matches!(check_der(&[0x30, 0x03, 0x02, 0x01, 0x05], 50), Ok((&[], 2)))
 /// ```
 pub fn check_der<'a>(i: &'a [u8], max_depth: usize) -> IResult<&'a [u8], usize, BerError>
-    ensures exactly { AnswersDerNodes max_depth i.now result }
-    ensures stable { IsStableDerNodes max_depth i.now result }
+    ensures exactly { AnswersNodes Der max_depth i.now result }
+    ensures stable { IsStableNodes Der max_depth i.now result }
     ensures shorter { IfOk result (λ x. length x.0.now < length i.now) }
 {
     parse_der_nodes(i, max_depth, &mut [])
@@ -37,30 +38,28 @@ pub fn parse_der_nodes<'a>(
     max_depth: usize,
     nodes: &mut [Element],
 ) -> IResult<&'a [u8], usize, BerError>
-    ensures exactly { AnswersDerNodes max_depth i.now result }
-    ensures stable { IsStableDerNodes max_depth i.now result }
+    ensures exactly { AnswersNodes Der max_depth i.now result }
+    ensures stable { IsStableNodes Der max_depth i.now result }
     ensures nodes { IfOk result (λ x. ListsDerNodes max_depth i.now x.0.now x.1 nodes.old nodes.new) }
     ensures shorter { IfOk result (λ x. length x.0.now < length i.now) }
 {
-    let mut place = 0;
-    parse_der_nodes_placed(i, max_depth, nodes, &mut place)
+    match parse_der_nodes_placed(i, max_depth, nodes) {
+        Ok(read) => Ok(read),
+        Err(PlacedError { error, offset: _ }) => Err(error),
+    }
 }
 
-/// Reads as `parse_der_nodes`, and gives the offset of an Error: where the innermost element begins
-/// that shows it. The offset of Incomplete is 0.
+/// Reads as `parse_der_nodes`. An Error has its offset: where the innermost element begins that shows
+/// it. The offset of Incomplete is 0.
 pub fn parse_der_nodes_placed<'a>(
     i: &'a [u8],
     max_depth: usize,
     nodes: &mut [Element],
-    place: &mut usize,
-) -> IResult<&'a [u8], usize, BerError>
-    ensures exactly { AnswersDerNodes max_depth i.now result }
-    ensures stable { IsStableDerNodes max_depth i.now result }
-    ensures nodes { IfOk result (λ x. ListsDerNodes max_depth i.now x.0.now x.1 nodes.old nodes.new) }
-    ensures placed { IsDerPlace max_depth i.now result place.new }
+) -> PlacedResult<'a>
+    ensures read { ReadsNodes Der (λ e. e) max_depth i.now result nodes.old nodes.new }
     ensures shorter { IfOk result (λ x. length x.0.now < length i.now) }
 {
-    parse_der_nodes_into(i, max_depth, nodes, place)
+    parse_der_nodes_into(i, max_depth, nodes)
 }
 
 /// Reads as `parse_der_nodes_placed`, into slots of a type of your own.
@@ -68,18 +67,12 @@ pub fn parse_der_nodes_into<'a, N: Slot>(
     i: &'a [u8],
     max_depth: usize,
     nodes: &mut [N],
-    place: &mut usize,
-) -> IResult<&'a [u8], usize, BerError>
-    ensures exactly { AnswersDerNodes max_depth i.now result }
-    ensures stable { IsStableDerNodes max_depth i.now result }
-    ensures nodes { IfOk result (λ x. KeepsDerNodes N.slot max_depth i.now x.0.now x.1 nodes.old nodes.new) }
-    ensures placed { IsDerPlace max_depth i.now result place.new }
+) -> PlacedResult<'a>
+    ensures read { ReadsNodes Der N.slot max_depth i.now result nodes.old nodes.new }
     ensures shorter { IfOk result (λ x. length x.0.now < length i.now) }
 {
     let mut tape = Tape::new(nodes);
-    let found = read_der_onto(i, max_depth, &mut tape);
-    *place = tape.progress.place;
-    found
+    read_der_onto(i, max_depth, &mut tape)
 }
 
 /// Reads one object in DER onto a tape without elements.
@@ -87,27 +80,26 @@ fn read_der_onto<'a, N: Slot>(
     i: &'a [u8],
     max_depth: usize,
     tape: &mut Tape<'_, N>,
-) -> IResult<&'a [u8], usize, BerError>
+) -> PlacedResult<'a>
     requires { tape.old.count ≡ 0 }
     ensures same { tape.new.nodes.ghost_name ≡ tape.old.nodes.ghost_name }
-    ensures exactly { AnswersDerNodes max_depth i.now result }
-    ensures stable { IsStableDerNodes max_depth i.now result }
-    ensures nodes { IfOk result (λ x.
-        KeepsDerNodes N.slot max_depth i.now x.0.now x.1 tape.old.nodes.now tape.new.nodes.now) }
-    ensures placed { IsDerPlace max_depth i.now result tape.new.progress.place }
+    ensures read { ReadsNodes Der N.slot max_depth i.now result tape.old.nodes.now tape.new.nodes.now }
     ensures shorter { IfOk result (λ x. length x.0.now < length i.now) }
 {
     match der_reader::read_element(i, i.len(), max_depth, tape) {
         Ok(rest) => Ok((rest, tape.count)),
-        Err(e) => Err(e),
+        Err(error) => Err(PlacedError {
+            error,
+            offset: tape.progress.place,
+        }),
     }
 }
 
 /// Checks one object in BER. Returns what follows it, and how many objects it has, itself and those
 /// inside it. It is Ok, Error and Incomplete exactly as `parse_ber_recursive`, and it doesn't allocate.
 pub fn check_ber<'a>(i: &'a [u8], max_depth: usize) -> IResult<&'a [u8], usize, BerError>
-    ensures exactly { AnswersBerNodes max_depth i.now result }
-    ensures stable { IsStableBerNodes max_depth i.now result }
+    ensures exactly { AnswersNodes Ber max_depth i.now result }
+    ensures stable { IsStableNodes Ber max_depth i.now result }
     ensures shorter { IfOk result (λ x. length x.0.now < length i.now) }
 {
     parse_ber_nodes(i, max_depth, &mut [])
@@ -121,30 +113,28 @@ pub fn parse_ber_nodes<'a>(
     max_depth: usize,
     nodes: &mut [Element],
 ) -> IResult<&'a [u8], usize, BerError>
-    ensures exactly { AnswersBerNodes max_depth i.now result }
-    ensures stable { IsStableBerNodes max_depth i.now result }
+    ensures exactly { AnswersNodes Ber max_depth i.now result }
+    ensures stable { IsStableNodes Ber max_depth i.now result }
     ensures nodes { IfOk result (λ x. ListsBerNodes max_depth i.now x.0.now x.1 nodes.old nodes.new) }
     ensures shorter { IfOk result (λ x. length x.0.now < length i.now) }
 {
-    let mut place = 0;
-    parse_ber_nodes_placed(i, max_depth, nodes, &mut place)
+    match parse_ber_nodes_placed(i, max_depth, nodes) {
+        Ok(read) => Ok(read),
+        Err(PlacedError { error, offset: _ }) => Err(error),
+    }
 }
 
-/// Reads as `parse_ber_nodes`, and gives the offset of an Error: where the innermost element begins
-/// that shows it. The offset of Incomplete is 0.
+/// Reads as `parse_ber_nodes`. An Error has its offset: where the innermost element begins that shows
+/// it. The offset of Incomplete is 0.
 pub fn parse_ber_nodes_placed<'a>(
     i: &'a [u8],
     max_depth: usize,
     nodes: &mut [Element],
-    place: &mut usize,
-) -> IResult<&'a [u8], usize, BerError>
-    ensures exactly { AnswersBerNodes max_depth i.now result }
-    ensures stable { IsStableBerNodes max_depth i.now result }
-    ensures nodes { IfOk result (λ x. ListsBerNodes max_depth i.now x.0.now x.1 nodes.old nodes.new) }
-    ensures placed { IsBerPlace max_depth i.now result place.new }
+) -> PlacedResult<'a>
+    ensures read { ReadsNodes Ber (λ e. e) max_depth i.now result nodes.old nodes.new }
     ensures shorter { IfOk result (λ x. length x.0.now < length i.now) }
 {
-    parse_ber_nodes_counted(i, max_depth, nodes, place, &mut 0)
+    parse_ber_nodes_into(i, max_depth, nodes)
 }
 
 /// Reads as `parse_ber_nodes_placed`, into slots of a type of your own.
@@ -152,15 +142,12 @@ pub fn parse_ber_nodes_into<'a, N: Slot>(
     i: &'a [u8],
     max_depth: usize,
     nodes: &mut [N],
-    place: &mut usize,
-) -> IResult<&'a [u8], usize, BerError>
-    ensures exactly { AnswersBerNodes max_depth i.now result }
-    ensures stable { IsStableBerNodes max_depth i.now result }
-    ensures nodes { IfOk result (λ x. KeepsBerNodes N.slot max_depth i.now x.0.now x.1 nodes.old nodes.new) }
-    ensures placed { IsBerPlace max_depth i.now result place.new }
+) -> PlacedResult<'a>
+    ensures read { ReadsNodes Ber N.slot max_depth i.now result nodes.old nodes.new }
     ensures shorter { IfOk result (λ x. length x.0.now < length i.now) }
 {
-    read_ber(i, max_depth, nodes, place, &mut 0)
+    let mut tape = Tape::new(nodes);
+    read_ber_onto(i, max_depth, &mut tape)
 }
 
 /// Reads as `parse_ber_nodes_placed`, and counts the headers that it reads, end markers too. Where it
@@ -170,43 +157,17 @@ pub fn parse_ber_nodes_counted<'a>(
     i: &'a [u8],
     max_depth: usize,
     nodes: &mut [Element],
-    place: &mut usize,
-    headers: &mut usize,
-) -> IResult<&'a [u8], usize, BerError>
-    ensures exactly { AnswersBerNodes max_depth i.now result }
-    ensures stable { IsStableBerNodes max_depth i.now result }
-    ensures nodes { IfOk result (λ x. ListsBerNodes max_depth i.now x.0.now x.1 nodes.old nodes.new) }
-    ensures placed { IsBerPlace max_depth i.now result place.new }
-    ensures shorter { IfOk result (λ x. length x.0.now < length i.now) }
-    ensures counted { IfOk result (λ x. x.1 ≤ headers.new) }
-    ensures bounded { headers.new ≤ length i.now + 1 }
-    ensures bounded_ok { IfOk result (λ x. 2 * headers.new + length x.0.now ≤ length i.now) }
-{
-    read_ber(i, max_depth, nodes, place, headers)
-}
-
-/// Reads one object in BER into slots, and counts the headers.
-fn read_ber<'a, N: Slot>(
-    i: &'a [u8],
-    max_depth: usize,
-    nodes: &mut [N],
-    place: &mut usize,
-    headers: &mut usize,
-) -> IResult<&'a [u8], usize, BerError>
-    ensures exactly { AnswersBerNodes max_depth i.now result }
-    ensures stable { IsStableBerNodes max_depth i.now result }
-    ensures nodes { IfOk result (λ x. KeepsBerNodes N.slot max_depth i.now x.0.now x.1 nodes.old nodes.new) }
-    ensures placed { IsBerPlace max_depth i.now result place.new }
-    ensures shorter { IfOk result (λ x. length x.0.now < length i.now) }
-    ensures counted { IfOk result (λ x. x.1 ≤ headers.new) }
-    ensures bounded { headers.new ≤ length i.now + 1 }
-    ensures bounded_ok { IfOk result (λ x. 2 * headers.new + length x.0.now ≤ length i.now) }
+) -> Counted<'a>
+    ensures read { ReadsNodes Ber (λ e. e) max_depth i.now result.read nodes.old nodes.new }
+    ensures shorter { IfOk result.read (λ x. length x.0.now < length i.now) }
+    ensures headers { CountsHeaders i.now result.read result.headers }
 {
     let mut tape = Tape::new(nodes);
-    let found = read_ber_onto(i, max_depth, &mut tape);
-    *place = tape.progress.place;
-    *headers = tape.progress.headers;
-    found
+    let read = read_ber_onto(i, max_depth, &mut tape);
+    Counted {
+        read,
+        headers: tape.progress.headers,
+    }
 }
 
 /// Reads one object in BER onto a tape without elements.
@@ -214,22 +175,19 @@ fn read_ber_onto<'a, N: Slot>(
     i: &'a [u8],
     max_depth: usize,
     tape: &mut Tape<'_, N>,
-) -> IResult<&'a [u8], usize, BerError>
+) -> PlacedResult<'a>
     requires count { tape.old.count ≡ 0 }
     requires headers { tape.old.progress.headers ≡ 0 }
     ensures same { tape.new.nodes.ghost_name ≡ tape.old.nodes.ghost_name }
-    ensures exactly { AnswersBerNodes max_depth i.now result }
-    ensures stable { IsStableBerNodes max_depth i.now result }
-    ensures nodes { IfOk result (λ x.
-        KeepsBerNodes N.slot max_depth i.now x.0.now x.1 tape.old.nodes.now tape.new.nodes.now) }
-    ensures placed { IsBerPlace max_depth i.now result tape.new.progress.place }
+    ensures read { ReadsNodes Ber N.slot max_depth i.now result tape.old.nodes.now tape.new.nodes.now }
     ensures shorter { IfOk result (λ x. length x.0.now < length i.now) }
-    ensures counted { IfOk result (λ x. x.1 ≤ tape.new.progress.headers) }
-    ensures bounded { tape.new.progress.headers ≤ length i.now + 1 }
-    ensures bounded_ok { IfOk result (λ x. 2 * tape.new.progress.headers + length x.0.now ≤ length i.now) }
+    ensures headers { CountsHeaders i.now result tape.new.progress.headers }
 {
     match ber_reader::read_element(i, i.len(), max_depth, tape) {
         Ok(rest) => Ok((rest, tape.count)),
-        Err(e) => Err(e),
+        Err(error) => Err(PlacedError {
+            error,
+            offset: tape.progress.place,
+        }),
     }
 }

@@ -1,5 +1,6 @@
 //! Elements as most are: a header of two octets, and in a primitive element of class Universal a content
-//! that DER allows. They are read by these few tests; any other element is read whole.
+//! that DER allows. They are read by these few tests; any other element is read whole. Each reader calls
+//! them itself, since a function for both would test the rules at each element.
 ghost use Rattle.std.specs.Prelude.{◌≡◌, ◌⊎◌, ◌↔◌, ◌+◌, ◌≤◌, false, IfSome, IsTrue, length};
 ghost use Rattle.der_base.specs.Leaf.{is_list, is_mapped, is_time};
 ghost use Rattle.der_base.specs.Text.{is_text_type};

@@ -113,8 +113,8 @@ pub mod values {
 /// Elements by their offsets in the input, read without memory by BER and DER, and a view of them.
 pub mod nodes {
     pub use der_nodes::{
-        Element, check_ber, check_der, parse_ber_nodes, parse_ber_nodes_counted,
-        parse_ber_nodes_placed, parse_der_nodes, parse_der_nodes_placed,
+        Counted, Element, PlacedError, PlacedResult, check_ber, check_der, parse_ber_nodes,
+        parse_ber_nodes_counted, parse_ber_nodes_placed, parse_der_nodes, parse_der_nodes_placed,
     };
     pub use der_view::{Node, Nodes, Preorder, Trees, Value, read_ber_nodes, read_der_nodes};
 }

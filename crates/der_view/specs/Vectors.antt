@@ -5,13 +5,14 @@ use Rattle.std.specs.declared.alloc.Global.{Global}
 use Rattle.std.specs.declared.vec.Vec.{Vec}
 use Rattle.der_base.specs.declared.error.Err.{Err as Refused}
 use Rattle.der_base.specs.declared.error.Error.{Error as BerError}
+use Rattle.der_base.specs.declared.rules.Rules.TheVariants.{Ber, Der}
 use Rattle.der_base.specs.Exactly.{AnswersExactly}
 use Rattle.der_base.specs.Fault.{ShowsFault, DerShowsFault}
 use Rattle.der_base.specs.Spelling.{BeginsWithDer, BerSpells, framing_budget}
 use Rattle.der_base.specs.Stable.{BerIsCut, DerIsCut}
 use Rattle.der_base.specs.Tree.{Node}
 use Rattle.der_nodes.specs.declared.element.Element.{Element}
-use Rattle.der_nodes.specs.NodesReading.{BeginsWithBerObjects, BeginsWithDerObjects}
+use Rattle.der_nodes.specs.NodesReading.{BeginsWithObjects}
 use Rattle.der_nodes.specs.Places.{placed, AreElementsOf}
 
 -- i begins with a DER encoding, whose elements in preorder are these, and rest follows
@@ -31,9 +32,9 @@ counted_elements x = (x.0.now, length x.1.items)
 -- with an object alone.
 abbrev pub AnswersDerElements : ℕ → List ℕ → Result (Bor (List ℕ) × Vec Element Global) (Refused BerError) → Type 0
 AnswersDerElements d i result = AnswersExactly result counted_elements (λ x. HasDerElements d i x.0.now x.1.items)
-    (BeginsWithDerObjects d i) (DerShowsFault d i) (DerIsCut d i) ((v : List ℕ × ℕ) × BeginsWithDerObjects d i v) ⊥
+    (BeginsWithObjects Der d i) (DerShowsFault d i) (DerIsCut d i) ((v : List ℕ × ℕ) × BeginsWithObjects Der d i v) ⊥
 
 -- the same by BER
 abbrev pub AnswersBerElements : ℕ → List ℕ → Result (Bor (List ℕ) × Vec Element Global) (Refused BerError) → Type 0
 AnswersBerElements d i result = AnswersExactly result counted_elements (λ x. HasBerElements d i x.0.now x.1.items)
-    (BeginsWithBerObjects d i) (ShowsFault d i) (BerIsCut d i) ((v : List ℕ × ℕ) × BeginsWithBerObjects d i v) ⊥
+    (BeginsWithObjects Ber d i) (ShowsFault d i) (BerIsCut d i) ((v : List ℕ × ℕ) × BeginsWithObjects Ber d i v) ⊥

@@ -1,9 +1,10 @@
 //! Readers of elements into a vector, which has room for all of them.
 ghost use Rattle.std.specs.Prelude.{ℕ, List};
+ghost use Rattle.der_base.specs.declared.rules.Rules.TheVariants.{Ber, Der};
 ghost use Rattle.der_base.specs.Answer.{MatchAnswer};
 ghost use Rattle.der_base.specs.Fault.{DerShowsFault, ShowsFault};
 ghost use Rattle.der_base.specs.Stable.{BerIsCut, DerIsCut};
-ghost use Rattle.der_nodes.specs.NodesReading.{BeginsWithBerObjects, BeginsWithDerObjects};
+ghost use Rattle.der_nodes.specs.NodesReading.{BeginsWithObjects};
 ghost use Rattle.der_view.specs.Vectors.{AnswersDerElements, AnswersBerElements, HasDerElements, HasBerElements};
 
 use der_base::error::{BerError, Err, IResult};
@@ -51,7 +52,7 @@ fn read_der<'a>(
         (λ x. HasDerElements max_depth input.now x.0.now x.1.items)
         (DerShowsFault max_depth input.now)
         (DerIsCut max_depth input.now)
-        ((v : List ℕ × ℕ) × BeginsWithDerObjects max_depth input.now v) }
+        ((v : List ℕ × ℕ) × BeginsWithObjects Der max_depth input.now v) }
 {
     let (_, count) = check_der(input, max_depth)?;
     let Ok(mut elements) = vec![in alloc; NO_ELEMENT; count] else {
@@ -83,7 +84,7 @@ fn read_ber<'a>(
         (λ x. HasBerElements max_depth input.now x.0.now x.1.items)
         (ShowsFault max_depth input.now)
         (BerIsCut max_depth input.now)
-        ((v : List ℕ × ℕ) × BeginsWithBerObjects max_depth input.now v) }
+        ((v : List ℕ × ℕ) × BeginsWithObjects Ber max_depth input.now v) }
 {
     let (_, count) = check_ber(input, max_depth)?;
     let Ok(mut elements) = vec![in alloc; NO_ELEMENT; count] else {

@@ -1,6 +1,5 @@
 -- What a reader of elements returns to C.
-use Rattle.std.specs.Borrow.{Bor}
-use Rattle.std.specs.Prelude.{◌≡◌, ℕ, ◌-◌, nat_le, if◌then◌else◌, List, length, Result, Ok, Err, IfErr, IfOk}
+use Rattle.std.specs.Prelude.{◌≡◌, ℕ, ◌-◌, nat_le, if◌then◌else◌, List, length, Result, Ok, Err, IfErr}
 use Rattle.std.specs.Prelude.{MatchResult}
 use Rattle.der_base.specs.declared.any.Any.{Any}
 use Rattle.der_base.specs.declared.error.Err.{Err as Refused}
@@ -8,14 +7,14 @@ use Rattle.der_base.specs.declared.error.Err.TheVariants.{Incomplete, Error, Fai
 use Rattle.der_base.specs.declared.error.Error.{Error as BerError}
 use Rattle.der_base.specs.declared.error.Needed.TheVariants.{Unknown, Size}
 use Rattle.der_base.specs.declared.header.Header.{Header}
+use Rattle.der_base.specs.declared.rules.Rules.TheVariants.{Ber, Der}
 use Rattle.der_base.specs.Any.{AnyAnswer, AnswersAny, AnswersDerAny}
 use Rattle.der_base.specs.Headers.{ReadsDerHeader, ReadsHeader}
 use Rattle.der_base.specs.Refusal.{refusal}
 use Rattle.der_canon.specs.declared.error.NotCanonical.{NotCanonical}
 use Rattle.der_canon.specs.Errors.{IsErrorOf}
 use Rattle.der_canon.specs.Written.{KeepsDer, WritesDer}
-use Rattle.der_nodes.specs.FaultPlaces.{IsBerPlace, IsDerPlace}
-use Rattle.der_nodes.specs.NodesReading.{AnswersBerNodes, AnswersDerNodes, KeepsBerNodes, KeepsDerNodes}
+use Rattle.der_nodes.specs.NodesReading.{AnswersNodes, IsPlaced, PlacedResult, ReadsNodes, unplaced}
 use Rattle.der_walk.specs.declared.cause.Cause.{Cause}
 use Rattle.der_walk.specs.declared.cause.Cause.TheVariants.{Cut}
 use Rattle.dumarewhi_c.specs.declared.element.DmElement.{DmElement}
@@ -43,33 +42,29 @@ refused_outcome (Incomplete Unknown) at = error_outcome 0 at
 refused_outcome (Failure e) at = error_outcome 0 at
 refused_outcome OutOfMemory at = error_outcome 0 at
 
--- the result of a reader of elements
-abbrev pub NodesAnswer : Type 0
-NodesAnswer = Result (Bor (List ℕ) × ℕ) (Refused BerError)
-
--- its outcome, where the input has n octets, and an Error is at a place
-abbrev pub outcome_of : ℕ → NodesAnswer → ℕ → DmOutcome
-outcome_of n (Ok x) at = read_outcome x.1 (n - length x.0.now)
-outcome_of n (Err e) at = refused_outcome e at
+-- the outcome of a reader of elements, where the input has n octets
+abbrev pub outcome_of : ℕ → PlacedResult → DmOutcome
+outcome_of n (Ok x) = read_outcome x.1 (n - length x.0.now)
+outcome_of n (Err e) = refused_outcome e.error e.offset
 
 -- The outcome is that of a result which is exactly what i shows by DER, to depth d, and an Error has its place.
 abbrev pub ChecksDer : ℕ → List ℕ → DmOutcome → Type 0
-ChecksDer d i o = (found : NodesAnswer) × AnswersDerNodes d i found × (at : ℕ) × IsDerPlace d i found at
-    × (o ≡ outcome_of (length i) found at)
+ChecksDer d i o = (found : PlacedResult) × AnswersNodes Der d i (unplaced found) × IfErr found (IsPlaced Der d i)
+    × (o ≡ outcome_of (length i) found)
 
 -- And where it is Ok, the buffer keeps the elements, as far as there is room.
 abbrev pub ListsDer : ℕ → List ℕ → List DmElement → List DmElement → DmOutcome → Type 0
-ListsDer d i old new o = (found : NodesAnswer) × AnswersDerNodes d i found × (at : ℕ) × IsDerPlace d i found at
-    × (o ≡ outcome_of (length i) found at) × IfOk found (λ x. KeepsDerNodes slot_of d i x.0.now x.1 old new)
+ListsDer d i old new o = (found : PlacedResult) × ReadsNodes Der slot_of d i found old new
+    × (o ≡ outcome_of (length i) found)
 
 -- The same by BER.
 abbrev pub ChecksBer : ℕ → List ℕ → DmOutcome → Type 0
-ChecksBer d i o = (found : NodesAnswer) × AnswersBerNodes d i found × (at : ℕ) × IsBerPlace d i found at
-    × (o ≡ outcome_of (length i) found at)
+ChecksBer d i o = (found : PlacedResult) × AnswersNodes Ber d i (unplaced found) × IfErr found (IsPlaced Ber d i)
+    × (o ≡ outcome_of (length i) found)
 
 abbrev pub ListsBer : ℕ → List ℕ → List DmElement → List DmElement → DmOutcome → Type 0
-ListsBer d i old new o = (found : NodesAnswer) × AnswersBerNodes d i found × (at : ℕ) × IsBerPlace d i found at
-    × (o ≡ outcome_of (length i) found at) × IfOk found (λ x. KeepsBerNodes slot_of d i x.0.now x.1 old new)
+ListsBer d i old new o = (found : PlacedResult) × ReadsNodes Ber slot_of d i found old new
+    × (o ≡ outcome_of (length i) found)
 
 -- The outcome is that of the first element, of which only the header is read, and by BER the framing.
 abbrev pub outcome_of_first : ℕ → AnyAnswer → DmOutcome

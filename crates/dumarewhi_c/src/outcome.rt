@@ -10,6 +10,7 @@ use crate::errors::{cause_number, refusal_number};
 use der_base::any::Any;
 use der_base::error::{BerError, Err, IResult, Needed};
 use der_canon::NotCanonical;
+use der_nodes::{PlacedError, PlacedResult};
 use der_walk::Cause;
 
 /// What a reader of elements found. Fields that the status does not name are 0.
@@ -102,17 +103,13 @@ fn no_room_outcome(length: usize) -> DmOutcome
 }
 
 /// The outcome of what a reader of elements found in an input of this size.
-pub(crate) fn outcome_of(
-    size: usize,
-    found: IResult<&[u8], usize, BerError>,
-    place: usize,
-) -> DmOutcome
+pub(crate) fn outcome_of(size: usize, found: PlacedResult<'_>) -> DmOutcome
     requires { IfOk found (λ x. length_of x.0.now ≤ size) }
-    ensures { result ≡ outcome_of size found.entry place }
+    ensures { result ≡ outcome_of size found.entry }
 {
     match found {
         Ok((rest, elements)) => read_outcome(elements, size - rest.len()),
-        Err(refused) => refused_outcome(refused, place),
+        Err(PlacedError { error, offset }) => refused_outcome(error, offset),
     }
 }
 

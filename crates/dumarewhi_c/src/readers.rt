@@ -22,9 +22,8 @@ pub extern "C" fn dm_parse_der(
     ensures exactly { ListsDer (min max_depth 250) input.now elements.old elements.new outcome.new }
     ensures status { result ≡ outcome.new.status }
 {
-    let mut place = 0;
-    let found = parse_der_nodes_into(input, max_depth.min(GREATEST_DEPTH), elements, &mut place);
-    *outcome = outcome_of(input.len(), found, place);
+    let found = parse_der_nodes_into(input, max_depth.min(GREATEST_DEPTH), elements);
+    *outcome = outcome_of(input.len(), found);
     outcome.status
 }
 
@@ -39,9 +38,8 @@ pub extern "C" fn dm_parse_ber(
     ensures exactly { ListsBer (min max_depth 250) input.now elements.old elements.new outcome.new }
     ensures status { result ≡ outcome.new.status }
 {
-    let mut place = 0;
-    let found = parse_ber_nodes_into(input, max_depth.min(GREATEST_DEPTH), elements, &mut place);
-    *outcome = outcome_of(input.len(), found, place);
+    let found = parse_ber_nodes_into(input, max_depth.min(GREATEST_DEPTH), elements);
+    *outcome = outcome_of(input.len(), found);
     outcome.status
 }
 
@@ -51,10 +49,9 @@ pub extern "C" fn dm_check_der(input: &[u8], max_depth: usize, outcome: &mut DmO
     ensures exactly { ChecksDer (min max_depth 250) input.now outcome.new }
     ensures status { result ≡ outcome.new.status }
 {
-    let mut place = 0;
     let none: &mut [DmElement] = &mut [];
-    let found = parse_der_nodes_into(input, max_depth.min(GREATEST_DEPTH), none, &mut place);
-    *outcome = outcome_of(input.len(), found, place);
+    let found = parse_der_nodes_into(input, max_depth.min(GREATEST_DEPTH), none);
+    *outcome = outcome_of(input.len(), found);
     outcome.status
 }
 
@@ -64,10 +61,9 @@ pub extern "C" fn dm_check_ber(input: &[u8], max_depth: usize, outcome: &mut DmO
     ensures exactly { ChecksBer (min max_depth 250) input.now outcome.new }
     ensures status { result ≡ outcome.new.status }
 {
-    let mut place = 0;
     let none: &mut [DmElement] = &mut [];
-    let found = parse_ber_nodes_into(input, max_depth.min(GREATEST_DEPTH), none, &mut place);
-    *outcome = outcome_of(input.len(), found, place);
+    let found = parse_ber_nodes_into(input, max_depth.min(GREATEST_DEPTH), none);
+    *outcome = outcome_of(input.len(), found);
     outcome.status
 }
 

@@ -68,19 +68,19 @@ fn constants_have_numbers(rt: HostRuntime) {
 #[test]
 fn elements_are_read_by_their_rules(rt: HostRuntime) {
     let input = b"\x30\x80\x05\x00\x00\x00".as_slice();
-    let (mut place, mut headers) = (0, 0);
+    let counted = parse_ber_nodes_counted(input, 2, &mut []);
+    assert!(rt; counted.headers == 3);
     let by_ber = [
         check_ber(input, 2),
         parse_ber_nodes(input, 2, &mut []),
-        parse_ber_nodes_placed(input, 2, &mut [], &mut place),
-        parse_ber_nodes_counted(input, 2, &mut [], &mut place, &mut headers),
+        parse_ber_nodes_placed(input, 2, &mut []).map_err(|e| e.error),
+        counted.read.map_err(|e| e.error),
     ];
     assert!(rt; by_ber.iter().all(|given| *given == Ok((b"".as_slice(), 2))));
-    assert!(rt; headers == 3);
     let by_der = [
         check_der(input, 2),
         parse_der_nodes(input, 2, &mut []),
-        parse_der_nodes_placed(input, 2, &mut [], &mut place),
+        parse_der_nodes_placed(input, 2, &mut []).map_err(|e| e.error),
     ];
     let refused = Err(Err::Error(DerConstraintFailed(IndefiniteLength)));
     assert!(rt; by_der.iter().all(|given| *given == refused));

@@ -3,16 +3,14 @@ use crate::slots::{NO_EXTENT, NONE, push_elements, push_extents};
 use crate::words::numbers;
 use der_base::error::{BerError, IResult};
 use der_nodes::{
-    Element, check_ber, check_der, parse_ber_nodes, parse_ber_nodes_counted, parse_ber_nodes_into,
-    parse_ber_nodes_placed, parse_der_nodes, parse_der_nodes_into, parse_der_nodes_placed,
+    Counted, Element, PlacedResult, check_ber, check_der, parse_ber_nodes, parse_ber_nodes_counted,
+    parse_ber_nodes_into, parse_ber_nodes_placed, parse_der_nodes, parse_der_nodes_into,
+    parse_der_nodes_placed,
 };
 use der_tests_words::{push_number, push_refused, push_rest};
 use std::alloc::{AllocError, Global};
 use test_tables::fault::Fault;
 use test_tables::octets::push_word;
-
-/// A place that no reader answers for a row.
-const NO_PLACE: usize = 9_999;
 
 /// What a reader returns.
 type Read<'a> = IResult<&'a [u8], usize, BerError>;
@@ -40,8 +38,8 @@ pub fn answer_of_elements(
     }
 }
 
-/// What a reader answers that lists elements, and what it wrote: the place of an error, the number of headers, and the
-/// elements.
+/// What a reader answers that lists elements, and these: the place of an error and the number of headers too, where it
+/// returns them.
 fn listed(
     alloc: Global,
     call: &str,
@@ -50,44 +48,34 @@ fn listed(
     capacity: usize,
 ) -> Result<String, Fault> {
     let mut nodes = vec![in alloc; NONE; capacity]?;
-    let mut places = Places {
-        fault: NO_PLACE,
-        headers: NO_PLACE,
-    };
-    let read = read_listed(call, input, depth, &mut nodes, &mut places)?;
-    let mut text = answer_at(alloc, read, places)?;
+    let mut text = answer_of_listed(alloc, call, input, depth, &mut nodes)?;
     push_elements(&mut text, &nodes)?;
     Ok(text)
 }
 
-/// What a reader writes beside elements.
-#[derive(Clone, Copy)]
-struct Places {
-    fault: usize,
-    /// How many headers it read.
-    headers: usize,
-}
-
-/// What the reader of this name returns.
-fn read_listed<'a>(
+/// What the reader of this name answers, without the elements.
+fn answer_of_listed(
+    alloc: Global,
     call: &str,
-    input: &'a [u8],
+    input: &[u8],
     depth: usize,
     nodes: &mut [Element],
-    places: &mut Places,
-) -> Result<Read<'a>, Fault> {
-    let place = &mut places.fault;
-    match call {
-        "parse_ber_nodes" => Ok(parse_ber_nodes(input, depth, nodes)),
-        "parse_der_nodes" => Ok(parse_der_nodes(input, depth, nodes)),
-        "parse_ber_nodes_placed" => Ok(parse_ber_nodes_placed(input, depth, nodes, place)),
-        "parse_der_nodes_placed" => Ok(parse_der_nodes_placed(input, depth, nodes, place)),
+) -> Result<String, Fault> {
+    let text = match call {
+        "parse_ber_nodes" => answer(alloc, parse_ber_nodes(input, depth, nodes))?,
+        "parse_der_nodes" => answer(alloc, parse_der_nodes(input, depth, nodes))?,
+        "parse_ber_nodes_placed" => answer_at(alloc, parse_ber_nodes_placed(input, depth, nodes))?,
+        "parse_der_nodes_placed" => answer_at(alloc, parse_der_nodes_placed(input, depth, nodes))?,
         "parse_ber_nodes_counted" => {
-            let headers = &mut places.headers;
-            Ok(parse_ber_nodes_counted(input, depth, nodes, place, headers))
+            let Counted { read, headers } = parse_ber_nodes_counted(input, depth, nodes);
+            let mut text = answer_at(alloc, read)?;
+            push_word(&mut text, "headers")?;
+            push_number(&mut text, headers)?;
+            text
         }
-        _ => Err(Fault::NoSuchCall),
-    }
+        _ => return Err(Fault::NoSuchCall),
+    };
+    Ok(text)
 }
 
 /// What a reader answers that keeps extents, and those.
@@ -99,12 +87,11 @@ fn extents(
     capacity: usize,
 ) -> Result<String, Fault> {
     let mut extents = vec![in alloc; NO_EXTENT; capacity]?;
-    let mut place = NO_PLACE;
     let read = match call {
-        "parse_ber_nodes_into" => parse_ber_nodes_into(input, depth, &mut extents, &mut place),
-        _ => parse_der_nodes_into(input, depth, &mut extents, &mut place),
+        "parse_ber_nodes_into" => parse_ber_nodes_into(input, depth, &mut extents),
+        _ => parse_der_nodes_into(input, depth, &mut extents),
     };
-    let mut text = answer(alloc, read)?;
+    let mut text = answer_at(alloc, read)?;
     push_extents(&mut text, &extents)?;
     Ok(text)
 }
@@ -123,17 +110,14 @@ fn answer(alloc: Global, read: Read<'_>) -> Result<String, AllocError> {
     Ok(text)
 }
 
-/// The same with the place of an error, and the number of headers.
-fn answer_at(alloc: Global, read: Read<'_>, places: Places) -> Result<String, AllocError> {
-    let is_placed = read.is_err() && places.fault != NO_PLACE;
-    let mut text = answer(alloc, read)?;
-    if is_placed {
-        push_word(&mut text, "at")?;
-        push_number(&mut text, places.fault)?;
-    }
-    if places.headers != NO_PLACE {
-        push_word(&mut text, "headers")?;
-        push_number(&mut text, places.headers)?;
-    }
+/// The same with the place of an error.
+fn answer_at(alloc: Global, read: PlacedResult<'_>) -> Result<String, AllocError> {
+    let refused = match read {
+        Ok(read) => return answer(alloc, Ok(read)),
+        Err(refused) => refused,
+    };
+    let mut text = answer(alloc, Err(refused.error))?;
+    push_word(&mut text, "at")?;
+    push_number(&mut text, refused.offset)?;
     Ok(text)
 }

@@ -1,5 +1,6 @@
 use Rattle.std.proofs.Common.{◌≡◌, length, ap, sym, subst, ◌∙◌, rules}
-use Rattle.der_nodes.proofs.BerNodesLaws.{ber_nodes_show_one}
+use Rattle.der_base.specs.declared.rules.Rules.TheVariants.{Ber}
+use Rattle.der_nodes.proofs.NodesLaws.{nodes_show_one}
 use Rattle.der_nodes.specs.Places.{AreElementsOf}
 use Rattle.der_view.proofs.VectorLaws.{ber_count, filled}
 use Rattle.der_view.proofs.vectors.read_ber.Goals as goal
@@ -13,7 +14,7 @@ returns c =
     let i = c.args.input.now in
     let first = c.in_ok-count.ensures.exactly.found in
     let l = c.in_ok-rest.ensures.nodes in
-    let one = (ber_nodes_show_one d i).one_value (c.in_ok-count.field-0-0, c.in_ok-count.count) (c.in_ok-rest.rest.now, c.in_ok-rest.field-0-1) first (l.0, (l.1, l.2, l.3), l.4) in
+    let one = (nodes_show_one Ber d i).one_value (c.in_ok-count.field-0-0, c.in_ok-count.count) (c.in_ok-rest.rest.now, c.in_ok-rest.field-0-1) first (l.0, (l.1, l.2, l.3), l.4) in
     let size = c.in-Ok.elements.len in
     let items = c.in-Ok.elements.items in
     let old = c.deref_mut.result in

@@ -6,4 +6,4 @@ pub returns-clause-exactly : goal.returns-clause-exactly
 returns-clause-exactly c =
     let read = c.parse_ber_nodes_into-found in
     let Lists : ℕ → Type 0 = λ d. ListsBer d c.args.input.now c.args.elements.now read.new.nodes c.outcome_of.result in
-    subst Lists c.min.ensures (read.result, read.ensures.exactly, read.new.place, read.ensures.placed, c.outcome_of.ensures, read.ensures.nodes)
+    subst Lists c.min.ensures (read.result, read.ensures.read, c.outcome_of.ensures)
