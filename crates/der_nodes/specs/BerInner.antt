@@ -1,7 +1,7 @@
 -- What the functions of the reader of BER write and return.
 use Rattle.std.specs.Borrow.{Bor}
 use Rattle.std.specs.Prelude.{◌≡◌, ℕ, ◌+◌, ◌*◌, ◌-◌, ◌≤◌, ◌⊎◌, Bool, List, [], ◌∷◌, ◌++◌, length, map}
-use Rattle.std.specs.Prelude.{Option, None, Some, Result, Ok, Err, MatchResult}
+use Rattle.std.specs.Prelude.{Option, None, Some, Result, Ok, Err, IfOk, MatchResult}
 use Rattle.der_base.specs.declared.error.Err.{Err as Refusing}
 use Rattle.der_base.specs.declared.error.Err.TheVariants.{Incomplete}
 use Rattle.der_base.specs.declared.error.Error.{Error as BerError}
@@ -110,6 +110,14 @@ InsideContentRefusesAt c p t w d n a e q = ((d ≡ 0) × (e ≡ max_depth) × (q
 -- what is returned of the values of an element that was framed
 abbrev pub Values : Type 0
 Values = Result (Unit {0}) (Refusing BerError)
+
+-- Of v, which follows a header or is inside an indefinite length: where its values are accepted, elements and headers are
+-- counted; of headers there is at most one for each octet that was read, and one more.
+abbrev pub CountsContent : {N : Type 0} → List ℕ → ℕ → Tape N → Result (Bor (List ℕ) × Values) (Refusing BerError)
+    → Tape N → Type 0
+CountsContent v end old result new = IfOk result (λ x. IfOk x.1 (λ _. IsCounted v x.0.now end old new))
+    × (new.progress.headers ≤ old.progress.headers + length v + 1)
+    × IfOk result (λ x. new.progress.headers + length x.0.now ≤ old.progress.headers + length v + 1)
 
 -- an element is written at the number n, before those inside it, which have the numbers up to m, if these are accepted
 abbrev pub PutsWhole : {N : Type 0} → (Element → N) → ℕ → ℕ → Element → Values → List N → List N → Type 0

@@ -9,7 +9,7 @@ ghost use Rattle.der_base.specs.Answer.{MatchAnswer};
 ghost use Rattle.der_base.specs.Content.{BeginsWithContent, ContentLacks};
 ghost use Rattle.der_base.specs.Header.{class_of, is_constructed, number_of};
 ghost use Rattle.der_base.specs.Spelling.{framing_budget};
-ghost use Rattle.der_nodes.specs.BerInner.{AnswersContent, AnswersItems, IsCounted, IsLeafOrKept};
+ghost use Rattle.der_nodes.specs.BerInner.{AnswersContent, AnswersItems, CountsContent, IsCounted, IsLeafOrKept};
 ghost use Rattle.der_nodes.specs.BerInner.{InsideContentRefusesAt, KeepsTape, PutsWhole, Settles, WritesFramed, begun};
 ghost use Rattle.der_nodes.specs.ElementReading.{AnswersElement};
 ghost use Rattle.der_nodes.specs.Inner.{IsListHeader};
@@ -147,10 +147,7 @@ fn read_content<'a, N: Slot>(
     requires fits { tape.old.progress.headers + length behind.now < 2 ^ 64 - 1 }
     ensures same { tape.new.nodes.ghost_name ≡ tape.old.nodes.ghost_name }
     ensures found { AnswersContent N.slot header.now behind.now end budget max_depth tape.old result tape.new }
-    ensures counted { IfOk result (λ x. IfOk x.1 (λ _. IsCounted behind.now x.0.now end (begun tape.old) tape.new)) }
-    ensures bounded { tape.new.progress.headers ≤ tape.old.progress.headers + length behind.now + 1 }
-    ensures framed { IfOk result (λ x.
-        tape.new.progress.headers + length x.0.now ≤ tape.old.progress.headers + length behind.now + 1) }
+    ensures counted { CountsContent behind.now end (begun tape.old) result tape.new }
 {
     if max_depth == 0 || !is_list(header) {
         return read_closed(header, behind, end, budget, max_depth, tape);
@@ -207,10 +204,7 @@ fn read_closed<'a, N: Slot>(
     requires fits { tape.old.progress.headers + length behind.now < 2 ^ 64 - 1 }
     ensures same { tape.new.nodes.ghost_name ≡ tape.old.nodes.ghost_name }
     ensures found { AnswersContent N.slot header.now behind.now end budget max_depth tape.old result tape.new }
-    ensures counted { IfOk result (λ x. IfOk x.1 (λ _. IsCounted behind.now x.0.now end (begun tape.old) tape.new)) }
-    ensures bounded { tape.new.progress.headers ≤ tape.old.progress.headers + length behind.now + 1 }
-    ensures framed { IfOk result (λ x.
-        tape.new.progress.headers + length x.0.now ≤ tape.old.progress.headers + length behind.now + 1) }
+    ensures counted { CountsContent behind.now end (begun tape.old) result tape.new }
 {
     let at = tape.count;
     let start = tape.progress.place;
@@ -276,10 +270,7 @@ fn read_to_end_marker<'a, N: Slot>(
         (λ e. InsideRefusesAt i.now a budget e tape.new.progress.place)
         (ContentLacks i.now Length.Indefinite budget)
         ⊥ }
-    ensures counted { IfOk result (λ x. IfOk x.1 (λ _. IsCounted i.now x.0.now end tape.old tape.new)) }
-    ensures bounded { tape.new.progress.headers ≤ tape.old.progress.headers + length i.now + 1 }
-    ensures framed { IfOk result (λ x.
-        tape.new.progress.headers + length x.0.now ≤ tape.old.progress.headers + length i.now + 1) }
+    ensures counted { CountsContent i.now end tape.old result tape.new }
 {
     let mut rest = i;
     'elements: loop {

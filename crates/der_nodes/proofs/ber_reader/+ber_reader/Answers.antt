@@ -10,7 +10,7 @@ use Rattle.der_base.specs.Header.{class_of, is_constructed, number_of, length_of
 use Rattle.der_base.specs.Inner.Framed.{no_elements}
 use Rattle.der_base.specs.Spelling.{framing_budget}
 use Rattle.der_base.specs.Stable.{BerIsCut}
-use Rattle.der_base.proofs.Answers.Answering.{passed_on, answered}
+use Rattle.der_base.proofs.Answers.Answering.{passed_on, answered, ok_with}
 use Rattle.der_base.proofs.Framing.Framed.{elements_append}
 use Rattle.der_base.proofs.Framing.FramingAny.{any_lacks_header, any_lacks_content}
 use Rattle.der_base.proofs.Framing.FramingLists.{header_takes_two}
@@ -129,13 +129,13 @@ read_any-returns-clause-counted g t c =
     settled_ok c.read_content-read.result _ _ c.settle.result _
     (λ x. (old.count + 1 ≤ new.count) × (new.count + length x.now ≤ c.args.end) × ((old.progress.headers + 1) + new.count ≤ new.progress.headers + (old.count + 1))
     × (2 * new.progress.headers + length x.now ≤ 2 * (old.progress.headers + 1) + length behind))
-    _ c.settle.ensures.settled c.read_content-read.ensures.counted
+    _ c.settle.ensures.settled c.read_content-read.ensures.counted.0
     (λ x k. (omega (arith, k.0), k.1, omega (arith, k.2, headers), omega (arith, k.3, two, headers)))
 
 pub read_any-returns-clause-bounded : goal.read_any-returns-clause-bounded
 read_any-returns-clause-bounded g t c =
     let two = header_takes_two _ _ _ _ _ _ c.in_ok-behind.ensures.found.begins in
-    omega (arith, two, c.read_content-read.ensures.bounded, c.settle.ensures.headers)
+    omega (arith, two, c.read_content-read.ensures.counted.1, c.settle.ensures.headers)
 
 -- its content, of a list
 
@@ -167,20 +167,11 @@ read_content-returns-in_ok-rest-in-Definite-clause-found g t c =
 pub read_content-returns-in_ok-rest-in-Definite-clause-counted : goal.read_content-returns-in_ok-rest-in-Definite-clause-counted
 read_content-returns-in_ok-rest-in-Definite-clause-counted g t c =
     let whole : length c.args.behind.now ≡ length c.in_ok-rest-in-Definite.octets.now + length c.in_ok-rest-in-Definite.rest.now =
-    ap length c.in_ok-rest-in-Definite.ensures.1 ∙ length-append c.in_ok-rest-in-Definite.octets.now c.in_ok-rest-in-Definite.rest.now in
-    IfOk-weaker c.read_items-values.result _ _ (λ m k. (k.0, omega (arith, k.1, whole, c.requires.room), k.2, omega (arith, k.3, whole))) c.read_items-values.ensures.counted
-
-pub read_content-returns-in_ok-rest-in-Definite-clause-bounded : goal.read_content-returns-in_ok-rest-in-Definite-clause-bounded
-read_content-returns-in_ok-rest-in-Definite-clause-bounded g t c =
-    let whole : length c.args.behind.now ≡ length c.in_ok-rest-in-Definite.octets.now + length c.in_ok-rest-in-Definite.rest.now =
-    ap length c.in_ok-rest-in-Definite.ensures.1 ∙ length-append c.in_ok-rest-in-Definite.octets.now c.in_ok-rest-in-Definite.rest.now in
-    omega (arith, whole, c.read_items-values.ensures.bounded)
-
-pub read_content-returns-in_ok-rest-in-Definite-clause-framed : goal.read_content-returns-in_ok-rest-in-Definite-clause-framed
-read_content-returns-in_ok-rest-in-Definite-clause-framed g t c =
-    let whole : length c.args.behind.now ≡ length c.in_ok-rest-in-Definite.octets.now + length c.in_ok-rest-in-Definite.rest.now =
-    ap length c.in_ok-rest-in-Definite.ensures.1 ∙ length-append c.in_ok-rest-in-Definite.octets.now c.in_ok-rest-in-Definite.rest.now in
-    omega (arith, whole, c.read_items-values.ensures.bounded)
+    ap length c.in_ok-rest-in-Definite.ensures.1 ∙ length-append c.in_ok-rest-in-Definite.octets.now c.in_ok-rest-in-Definite.rest.now in (
+      IfOk-weaker c.read_items-values.result _ _ (λ m k. (k.0, omega (arith, k.1, whole, c.requires.room), k.2, omega (arith, k.3, whole))) c.read_items-values.ensures.counted,
+      omega (arith, whole, c.read_items-values.ensures.bounded),
+      omega (arith, whole, c.read_items-values.ensures.bounded),
+    )
 
 pub read_content-returns-in_ok-rest-in-Indefinite-clause-found : goal.read_content-returns-in_ok-rest-in-Indefinite-clause-found
 read_content-returns-in_ok-rest-in-Indefinite-clause-found g t c =
@@ -303,9 +294,10 @@ read_to_end_marker-returns-in-None-clause-found g t c =
       kept_items c.args.max_depth u a c.args.tape.now c.elements.tape c.read_plain.new.tape c.in_default.ensures.found k.3,
     )
 
-pub read_to_end_marker-returns-in_err-behind-clause-bounded : goal.read_to_end_marker-returns-in_err-behind-clause-bounded
-read_to_end_marker-returns-in_err-behind-clause-bounded g t c =
-    omega (arith, c.elements.invariant.4.3, c.in_default.ensures.found.2, c.read_next.ensures.counted)
+pub read_to_end_marker-returns-in_err-behind-clause-counted : goal.read_to_end_marker-returns-in_err-behind-clause-counted
+read_to_end_marker-returns-in_err-behind-clause-counted g t c =
+    let p = err_from_is_err_and c.from_residual.result c.from_residual.ensures.1 in
+    rw p.1 (tt, omega (arith, c.elements.invariant.4.3, c.in_default.ensures.found.2, c.read_next.ensures.counted), tt)
 
 pub read_to_end_marker-returns-in-None-clause-counted : goal.read_to_end_marker-returns-in-None-clause-counted
 read_to_end_marker-returns-in-None-clause-counted g t c =
@@ -313,25 +305,20 @@ read_to_end_marker-returns-in-None-clause-counted g t c =
     let same = c.in_default.ensures.found in
     let next = subst (λ x. StandsNext c.elements.rest.now c.args.budget x c.in_ok-behind.behind.now) c.in-None.is c.in_ok-behind.ensures.found in
     let marker = ap length next.1 in
-    let one = c.read_next.ensures.counted in
-    (omega (arith, k.0, same.1), omega (arith, k.1, marker, same.1), omega (arith, k.2, one, same.1, same.2), omega (arith, k.3, marker, one, same.2))
+    let octets = length-append c.elements.invariant.0 c.elements.rest.now in
+    let one = c.read_next.ensures.counted in (
+      (omega (arith, k.0, same.1), omega (arith, k.1, marker, same.1), omega (arith, k.2, one, same.1, same.2), omega (arith, k.3, marker, one, same.2)),
+      omega (arith, k.3, same.2, one),
+      omega (arith, k.3, marker, ap length c.elements.invariant.1, octets, same.2, one),
+    )
 
-pub read_to_end_marker-returns-in-None-clause-bounded : goal.read_to_end_marker-returns-in-None-clause-bounded
-read_to_end_marker-returns-in-None-clause-bounded g t c =
-    omega (arith, c.elements.invariant.4.3, c.in_default.ensures.found.2, c.read_next.ensures.counted)
-
-pub read_to_end_marker-returns-in-None-clause-framed : goal.read_to_end_marker-returns-in-None-clause-framed
-read_to_end_marker-returns-in-None-clause-framed g t c =
-    let k = c.elements.invariant in
-    let next = subst (λ x. StandsNext c.elements.rest.now c.args.budget x c.in_ok-behind.behind.now) c.in-None.is c.in_ok-behind.ensures.found in
-    omega (arith, k.4.3, ap length next.1, ap length k.1, length-append k.0 c.elements.rest.now, c.in_default.ensures.found.2, c.read_next.ensures.counted)
-
-pub read_to_end_marker-returns-in_err-after-in-Some-found-clause-bounded : goal.read_to_end_marker-returns-in_err-after-in-Some-found-clause-bounded
-read_to_end_marker-returns-in_err-after-in-Some-found-clause-bounded g t c =
+pub read_to_end_marker-returns-in_err-after-in-Some-found-clause-counted : goal.read_to_end_marker-returns-in_err-after-in-Some-found-clause-counted
+read_to_end_marker-returns-in_err-after-in-Some-found-clause-counted g t c =
     let k = c.elements.invariant in
     let next = subst (λ x. StandsNext c.elements.rest.now c.args.budget x c.in_ok-behind.behind.now) c.in-Some-found.is c.in_ok-behind.ensures.found in
     let two = header_takes_two _ _ _ _ _ _ next.2 in
-    omega (arith, k.4.3, two, ap length k.1, length-append k.0 c.elements.rest.now, c.in_default.ensures.found.2, c.read_next.ensures.counted, c.in_err-after-in-Some-found.ensures.bounded)
+    let p = err_from_is_err_and c.from_residual-in_err-after-in-Some-found.result c.from_residual-in_err-after-in-Some-found.ensures.1 in
+    rw p.1 (tt, omega (arith, k.4.3, two, ap length k.1, length-append k.0 c.elements.rest.now, c.in_default.ensures.found.2, c.read_next.ensures.counted, c.in_err-after-in-Some-found.ensures.counted.1), tt)
 
 pub read_to_end_marker-read_content-requires : goal.read_to_end_marker-read_content-requires
 read_to_end_marker-read_content-requires g t c =
@@ -397,7 +384,7 @@ read_to_end_marker-elements-preserved g t c =
     let same = c.in_default.ensures.found in
     let count = subst (λ y. IfOk y (λ _. (mid.count + 1 ≤ new.count) × (new.count + length after ≤ end)
     × (c.read_next.new.progress.headers + new.count ≤ new.progress.headers + (mid.count + 1))
-    × (2 * new.progress.headers + length after ≤ 2 * c.read_next.new.progress.headers + length behind))) c.in-Ok.is c.in_ok-after-in-Some-found.ensures.counted in
+    × (2 * new.progress.headers + length after ≤ 2 * c.read_next.new.progress.headers + length behind))) c.in-Ok.is c.in_ok-after-in-Some-found.ensures.counted.0 in
     let e = element_at rest behind w after (class_of h) (is_constructed h) (number_of h) (length_of h) (c.args.budget - 1) end
     (omega (arith, next.0)) (omega (arith, k.4.1)) next.2 found.1 in
     let other = no_marker rest e.0 after e.2 next.1 in
@@ -420,14 +407,22 @@ read_to_end_marker-frame_rest-requires-clause-fits g t c =
     let k = c.elements.invariant in
     let next = subst (λ x. StandsNext c.elements.rest.now c.args.budget x c.in_ok-behind.behind.now) c.in-Some-found.is c.in_ok-behind.ensures.found in
     let two = header_takes_two _ _ _ _ _ _ next.2 in
-    omega (arith, k.4.3, two, ap length k.1, length-append k.0 c.elements.rest.now, c.in_ok-after-in-Some-found.ensures.framed, c.in_default.ensures.found.2, c.read_next.ensures.counted, c.requires.fits)
+    omega (arith, k.4.3, two, ap length k.1, length-append k.0 c.elements.rest.now, c.in_ok-after-in-Some-found.ensures.counted.2, c.in_default.ensures.found.2, c.read_next.ensures.counted, c.requires.fits)
 
-pub read_to_end_marker-returns-in-Err-clause-bounded : goal.read_to_end_marker-returns-in-Err-clause-bounded
-read_to_end_marker-returns-in-Err-clause-bounded g t c =
+pub read_to_end_marker-returns-in-Err-clause-counted : goal.read_to_end_marker-returns-in-Err-clause-counted
+read_to_end_marker-returns-in-Err-clause-counted g t c =
     let k = c.elements.invariant in
     let next = subst (λ x. StandsNext c.elements.rest.now c.args.budget x c.in_ok-behind.behind.now) c.in-Some-found.is c.in_ok-behind.ensures.found in
     let two = header_takes_two _ _ _ _ _ _ next.2 in
-    omega (arith, k.4.3, two, ap length k.1, length-append k.0 c.elements.rest.now, c.in_ok-after-in-Some-found.ensures.framed, c.in_default.ensures.found.2, c.read_next.ensures.counted, c.frame_rest.ensures.bounded)
+    let octets : length c.args.i.now ≡ length k.0 + length c.elements.rest.now = ap length k.1 ∙ length-append k.0 c.elements.rest.now in
+    let framed = c.in_ok-after-in-Some-found.ensures.counted.2 in
+    let before : c.read_content.new.tape.progress.headers + length c.in_ok-after-in-Some-found.after.now ≤ c.args.tape.now.progress.headers + length c.args.i.now =
+    omega (arith, k.4.3, two, octets, framed, c.in_default.ensures.found.2, c.read_next.ensures.counted) in (
+      search rules,
+      omega (arith, before, c.frame_rest.ensures.bounded),
+      ok_with _ _ _ c.frame_rest.result _ _ c.frame_rest.ensures.found c.frame_rest.ensures.framed
+          (λ x f h. omega (arith, before, h, inside_length c.in_ok-after-in-Some-found.after.now f.0 x.0.now c.args.budget f.1)),
+    )
 
 pub read_to_end_marker-returns-in-Err-clause-found : goal.read_to_end_marker-returns-in-Err-clause-found
 read_to_end_marker-returns-in-Err-clause-found g t c =
