@@ -1,5 +1,5 @@
 //! Values of each type. Octets are those of X.690 where a line says so, else of `openssl asn1parse -genconf`.
-use der_base::error::BerError;
+use der_base::error::{BerError, OidParseError};
 use der_base::header::Tag;
 use der_base::time::{ASN1DateTime, ASN1TimeZone};
 use der_writer::Writer;
@@ -85,6 +85,30 @@ fn identifiers_and_octets(rt: HostRuntime) {
     assert!(rt; puts(|fields| fields.put_oid(b"\x81\x34\x03"), b"\x06\x03\x81\x34\x03"));
     assert!(rt; puts(|fields| fields.put_octets(b"\x01\x02"), b"\x04\x02\x01\x02"));
     assert!(rt; puts(|fields| fields.implicit(31).put_octets(b"\x01"), b"\x9f\x1f\x01\x01"));
+}
+
+/// Whether arcs are refused so, and nothing is put.
+fn are_refused(arcs: &[u64], expected: OidParseError) -> bool {
+    let mut out = [0; 16];
+    let mut fields = Writer::new(&mut out);
+    let refused = fields.put_arcs(arcs) == Err(expected);
+    refused && fields.finish() == Ok(0)
+}
+
+/// Takes a result that a test doesn't look at.
+fn drop_arcs(_result: Result<(), OidParseError>) {}
+
+#[test]
+fn arcs(rt: HostRuntime) {
+    // X.690 8.19.5
+    assert!(rt; puts(|fields| drop_arcs(fields.put_arcs(&[2, 100, 3])), b"\x06\x03\x81\x34\x03"));
+    let rsa = [1, 2, 840, 113549];
+    assert!(rt; puts(|fields| drop_arcs(fields.put_arcs(&rsa)), b"\x06\x06\x2a\x86\x48\x86\xf7\x0d"));
+    assert!(rt; puts(|fields| drop_arcs(fields.put_arcs(&[0, 0])), b"\x06\x01\x00"));
+    assert!(rt; puts(|fields| drop_arcs(fields.implicit(2).put_arcs(&[1, 39])), b"\x82\x01\x4f"));
+    assert!(rt; are_refused(&[1], OidParseError::TooShort));
+    assert!(rt; are_refused(&[1, 40], OidParseError::FirstComponentsTooLarge));
+    assert!(rt; are_refused(&[3, 1], OidParseError::FirstComponentsTooLarge));
 }
 
 /// Whether a text is refused, and nothing is put.
