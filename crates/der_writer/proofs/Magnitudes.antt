@@ -1,5 +1,6 @@
 -- Numbers of any size by their octets.
-use Rattle.std.proofs.Common.{◌≡◌, ◌≢◌, ℕ, suc, ◌<◌, ◌≤◌, true, false, List, [], ◌∷◌, length, get_or, drop, refl, sym, arith}
+use Rattle.std.proofs.Common.{◌≡◌, ◌≢◌, ℕ, zero, suc, ◌+◌, ◌*◌, ◌<◌, ◌≤◌, nat_lt, true, false, List, [], ◌∷◌, length, get_or, drop, refl, sym, arith}
+use Rattle.std.proofs.lemmas.Bool.Decides.{nat_tests}
 use Rattle.der_base.specs.Octets.{needs_zero, number, octets, shortest_integer}
 use Rattle.der_base.proofs.AllByRecursion.{Each}
 use Rattle.der_base.proofs.Octets.Shortest.{IsOctet, octets_of_number}
@@ -36,3 +37,13 @@ fewest (b ∷ v) are some other =
 pub none_left : (w : List ℕ) → length w < 1 → w ≡ octets (number w)
 none_left [] few = refl
 none_left (b ∷ w) few = absurd (omega arith)
+
+-- a number of one octet
+pub small_integer : (n : ℕ) → n < 128 → shortest_integer n ≡ n ∷ []
+unfolding shortest_integer
+small_integer zero few = refl
+small_integer (suc n) few =
+    let k : 0 * 256 + suc n ≡ suc n = omega arith in
+    let own : octets (suc n) ≡ suc n ∷ [] = rw k at (octets_of_number (suc n) [] (omega arith) (omega arith) tt) in
+    let high : nat_lt 127 (suc n) ≡ false = grind (arith, nat_tests) in
+    rw (own, high) refl

@@ -22,7 +22,7 @@ impl<'b> Writer<'b> {
     pub fn put_bool(&mut self, value: bool)
         ensures { PutsLeaf 1 (content_octets (boolean value)) self.old self.new }
     {
-        self.put_primitive(Tag::Boolean, &[], &[if value { 0xff } else { 0 }]);
+        self.put_primitive(Tag::Boolean, &[if value { 0xff } else { 0 }]);
     }
 
     /// An INTEGER with these content octets, in two's complement (8.3). They are the fewest for their number, as
@@ -31,7 +31,7 @@ impl<'b> Writer<'b> {
         requires { IsMinimalInteger octets.now }
         ensures { PutsLeaf 2 octets.now self.old self.new }
     {
-        self.put_primitive(Tag::Integer, &[], octets);
+        self.put_primitive(Tag::Integer, octets);
     }
 
     /// An INTEGER that isn't negative.
@@ -62,7 +62,7 @@ impl<'b> Writer<'b> {
         if value < 0 {
             let mut room = [0; 9];
             let octets = negative_octets(&mut room, ones_complement(value));
-            self.put_primitive(Tag::Integer, &[], octets);
+            self.put_primitive(Tag::Integer, octets);
         } else {
             self.put_number(Tag::Integer, value as u64);
         }
@@ -75,9 +75,9 @@ impl<'b> Writer<'b> {
     {
         let fewest = fewest_octets(octets);
         if needs_zero(fewest) {
-            self.put_primitive(Tag::Integer, &[0], fewest);
+            self.put_parts(Tag::Integer, &[0], fewest);
         } else {
-            self.put_primitive(Tag::Integer, &[], fewest);
+            self.put_primitive(Tag::Integer, fewest);
         }
     }
 
@@ -89,12 +89,17 @@ impl<'b> Writer<'b> {
     }
 
     /// A number in the fewest octets (8.3.2).
+    #[tactic(auto, using(crate::proofs::Magnitudes::small_integer))]
     fn put_number(&mut self, tag: Tag, value: u64)
         ensures { PutsLeaf tag.0 (shortest_integer value) self.old self.new }
     {
+        if value < 128 {
+            self.put_primitive(tag, &[value as u8]);
+            return;
+        }
         let mut room = [0; 9];
         let octets = number_octets(&mut room, value);
-        self.put_primitive(tag, &[], octets);
+        self.put_primitive(tag, octets);
     }
 
     /// A BIT STRING (8.6, 11.2) of octets whose last bits aren't used, so many, at most seven. They are put as 0.
@@ -102,7 +107,7 @@ impl<'b> Writer<'b> {
         ensures { PutsLeaf 3 (bit_octets unused octets.now) self.old self.new }
     {
         let Some((last, front)) = octets.split_last() else {
-            self.put_primitive(Tag::BitString, &[], &[0]);
+            self.put_primitive(Tag::BitString, &[0]);
             return;
         };
         let unused = unused.min(7);
@@ -118,21 +123,21 @@ impl<'b> Writer<'b> {
     pub fn put_octets(&mut self, octets: &[u8])
         ensures { PutsLeaf 4 octets.now self.old self.new }
     {
-        self.put_primitive(Tag::OctetString, &[], octets);
+        self.put_primitive(Tag::OctetString, octets);
     }
 
     /// A NULL (8.8).
     pub fn put_null(&mut self)
         ensures { PutsLeaf 5 [] self.old self.new }
     {
-        self.put_primitive(Tag::Null, &[], &[]);
+        self.put_primitive(Tag::Null, &[]);
     }
 
     /// An OBJECT IDENTIFIER with these content octets (8.19).
     pub fn put_oid(&mut self, octets: &[u8])
         ensures { PutsLeaf 6 octets.now self.old self.new }
     {
-        self.put_primitive(Tag::Oid, &[], octets);
+        self.put_primitive(Tag::Oid, octets);
     }
 
     /// A string type that is kept as a text (8.23), with these octets. StringInvalidCharset if they aren't in its
@@ -143,7 +148,7 @@ impl<'b> Writer<'b> {
     {
         match read_text(tag, octets) {
             Some(text) => {
-                self.put_primitive(tag, &[], text.as_bytes());
+                self.put_primitive(tag, text.as_bytes());
                 Ok(())
             }
             None => Err(BerError::StringInvalidCharset),
@@ -154,7 +159,7 @@ impl<'b> Writer<'b> {
     pub fn put_utf8(&mut self, text: &str)
         ensures { PutsLeaf 12 text.now self.old self.new }
     {
-        self.put_primitive(Tag::Utf8String, &[], text.as_bytes());
+        self.put_primitive(Tag::Utf8String, text.as_bytes());
     }
 
     /// A PrintableString, as `put_text`.
@@ -177,7 +182,7 @@ impl<'b> Writer<'b> {
     {
         let mut room = [0; 128];
         let text = time_octets(&mut room, UTC_YEAR, value);
-        self.put_primitive(Tag::UtcTime, &[], text);
+        self.put_primitive(Tag::UtcTime, text);
     }
 
     /// A GeneralizedTime (11.7).
@@ -186,7 +191,7 @@ impl<'b> Writer<'b> {
     {
         let mut room = [0; 128];
         let text = time_octets(&mut room, GENERALIZED_YEAR, value);
-        self.put_primitive(Tag::GeneralizedTime, &[], text);
+        self.put_primitive(Tag::GeneralizedTime, text);
     }
 }
 

@@ -106,17 +106,27 @@ impl<'b> Writer<'b> {
         self.count = end;
     }
 
-    /// Puts a primitive element of a universal type, or of the implicit tag that it has. Its content is in two parts.
-    pub(crate) fn put_primitive(&mut self, tag: Tag, front: &[u8], octets: &[u8])
-        ensures { PutsLeaf tag.0 (front.now ++ octets.now) self.old self.new }
+    /// Puts a primitive element of a universal type, or of the implicit tag that it has.
+    pub(crate) fn put_primitive(&mut self, tag: Tag, octets: &[u8])
+        ensures { PutsLeaf tag.0 octets.now self.old self.new }
     {
         let (class, tag) = tag_put(self.implicit, tag);
         self.implicit = None;
-        let content_size = front.len() + octets.len();
-        let size = content_size.saturating_add(header_size(tag, content_size));
+        let size = octets.len().saturating_add(header_size(tag, octets.len()));
         let end = self.count.saturating_add(size);
-        put_between(self.out, self.count, end, class, tag, front, octets);
+        put_between(self.out, self.count, end, class, tag, octets);
         self.count = end;
+    }
+
+    /// The same of a content in two parts.
+    pub(crate) fn put_parts(&mut self, tag: Tag, front: &[u8], octets: &[u8])
+        ensures { PutsLeaf tag.0 (front.now ++ octets.now) self.old self.new }
+    {
+        let (class, tag) = tag_put(self.implicit, tag);
+        let element = self.open(class, false, tag);
+        self.put_elements(front);
+        self.put_elements(octets);
+        self.close(element);
     }
 
     /// Opens a SEQUENCE (8.9).
@@ -215,21 +225,12 @@ fn fill(out: &mut [u8], begin: usize, end: usize, octets: &[u8])
 }
 
 /// Writes a primitive element between two offsets, if the buffer has room.
-fn put_between(
-    out: &mut [u8],
-    begin: usize,
-    end: usize,
-    class: Class,
-    tag: Tag,
-    front: &[u8],
-    octets: &[u8],
-)
-    requires { let e = element class false tag.0 (front.now ++ octets.now) in
-        end ≤ length out.old → begin + length e ≡ end }
-    ensures { FillsTo end out.old out.new begin (element class false tag.0 (front.now ++ octets.now)) }
+fn put_between(out: &mut [u8], begin: usize, end: usize, class: Class, tag: Tag, octets: &[u8])
+    requires { end ≤ length out.old → begin + length (element class false tag.0 octets.now) ≡ end }
+    ensures { FillsTo end out.old out.new begin (element class false tag.0 octets.now) }
 {
     if end <= out.len() {
-        write_primitive(&mut out[begin..end], class, tag, front, octets);
+        write_primitive(&mut out[begin..end], class, tag, octets);
     }
 }
 

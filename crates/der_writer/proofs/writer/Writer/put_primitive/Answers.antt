@@ -1,4 +1,4 @@
-use Rattle.std.proofs.Common.{◌≡◌, ◌+◌, ◌++◌, false, length, refl, arith, length-append, sym}
+use Rattle.std.proofs.Common.{false, refl, arith}
 use Rattle.der_writer.specs.Written.{leaf}
 use Rattle.der_writer.proofs.Counts.{puts_filled}
 use Rattle.der_writer.proofs.Headers.{element_size}
@@ -7,10 +7,9 @@ use Rattle.der_writer.proofs.writer.Writer.put_primitive.Goals as goal
 pub returns : goal.returns
 unfolding leaf
 returns c =
-    let x = c.args.front.now ++ c.args.octets.now in
+    let x = c.args.octets.now in
     let k = c.tag_put-class.result in
-    let n : length c.args.front.now + length c.args.octets.now ≡ length x = sym (length-append c.args.front.now c.args.octets.now) in
-    let size = element_size k.0 false k.1.0 x _ c.header_size.result n (c.header_size.ensures.count k.0 false) in
+    let size = element_size k.0 false k.1.0 x _ c.header_size.result refl (c.header_size.ensures.count k.0 false) in
     rw (← c.tag_put-class.ensures.class, ← c.tag_put-class.ensures.number)
     (puts_filled c.args.self.now _ _ c.saturating_add-size.result refl refl refl (omega arith)
     (omega (arith, c.saturating_add-size.ensures, size)) c.saturating_add-end.ensures c.put_between.ensures)
