@@ -1,5 +1,5 @@
--- A GetRequest encodes its value.
-use Rattle.std.proofs.Common.{◌≡◌, ℕ, ◌≤◌, ◌⊎◌, ⊎_elim, pos, ◌++◌, sym, ◌∙◌, arith, append_assoc, lit<}
+-- A message encodes its value.
+use Rattle.std.proofs.Common.{◌≡◌, ℕ, ◌^◌, ◌<◌, ◌≤◌, ◌⊎◌, ⊎_elim, ℤ, pos, List, ◌++◌, sym, ◌∙◌, arith, append_assoc, lit<}
 use Rattle.std.specs.Prelude.{◌<ℤ◌}
 use Rattle.std.proofs.lemmas.Int.{ints}
 use Rattle.der_base.specs.declared.header.Class.TheVariants.{Universal, ContextSpecific}
@@ -7,27 +7,39 @@ use Rattle.der_base.specs.Numbers.{signed, least, greatest}
 use Rattle.der_writer.specs.Fields as put
 use Rattle.der_written.proofs.Encoded.{constructed_encodes, last_encodes, before_encodes, one_encodes, regrouped}
 use Rattle.der_written.proofs.Values.{signed_encodes, octets_encode, identifier_encodes, null_encodes}
-use Rattle.snmp_writer.specs.Formats.{RequestsEncode}
+use Rattle.der_cursor.specs.Formats.{Format, Required, OctetString, Null}
+use Rattle.der_values.specs.Kinds.{EndsSubidentifier, HasPaddedArc}
+use Rattle.der_written.specs.Encodings.{Encodes}
+use Rattle.snmp_writer.specs.Formats.{IsRequestId, Message, RequestsEncode, ResponsesEncode, value_of}
+use Rattle.snmp_writer.specs.Messages.{binding, message}
 
 -- a number of one digit fits
 small_fits : (n : ℕ) → n ≤ 9 → ¬ ((pos n <ℤ least (signed 32)) ⊎ (greatest (signed 32) <ℤ pos n))
 small_fits n h = λ k. ⊎_elim (λ low. absurd (omega (arith, ints, low))) (λ high. absurd (omega (arith, ints, high))) k
 
-pub request_encodes : RequestsEncode
-request_encodes community id name fits ends plain =
+message_encodes : {V : Type 0} (operation : ℕ) (T : Format V) (v : V) (e : List ℕ) → operation < 2 ^ 32 → Encodes (Required T) v e
+    → (community : List ℕ) (id : ℤ) (name : List ℕ) → IsRequestId id → EndsSubidentifier name → ¬ HasPaddedArc name
+    → Encodes (Required (Message operation T)) (value_of community id name v) (message operation community id (binding name e))
+message_encodes operation T v e small value community id name fits ends plain =
     let one = put.Integer (pos 1) in
     let zero = put.Integer (pos 0) in
     let own = put.Integer id in
     let octets = put.OctetString community in
-    let list = put.Sequence (put.Sequence (put.ObjectIdentifier name ++ put.Null)) in
-    let pdu = put.Tagged 0 (own ++ zero ++ zero ++ list) in
+    let list = put.Sequence (binding name e) in
+    let pdu = put.Tagged operation (own ++ zero ++ zero ++ list) in
     let none = signed_encodes 32 (pos 0) (small_fits 0 (omega arith)) in
-    let binding = constructed_encodes Universal 16 (lit< tt) (before_encodes (identifier_encodes name ends plain) (last_encodes null_encodes)) in
-    let bindings = constructed_encodes Universal 16 (lit< tt) (one_encodes binding) in
+    let own_binding = constructed_encodes Universal 16 (lit< tt) (before_encodes (identifier_encodes name ends plain) (last_encodes value)) in
+    let bindings = constructed_encodes Universal 16 (lit< tt) (one_encodes own_binding) in
     let fields = before_encodes (signed_encodes 32 id fits) (before_encodes none (before_encodes none (last_encodes bindings))) in
     let joined : own ++ (zero ++ (zero ++ list)) ≡ own ++ zero ++ zero ++ list =
     sym (append_assoc own zero (zero ++ list)) ∙ sym (append_assoc (own ++ zero) zero list) in
-    let pdu_encodes = constructed_encodes ContextSpecific 0 (lit< tt) (regrouped joined fields) in
+    let pdu_encodes = constructed_encodes ContextSpecific operation small (regrouped joined fields) in
     let version = signed_encodes 32 (pos 1) (small_fits 1 (omega arith)) in
-    let message = before_encodes version (before_encodes (octets_encode community) (last_encodes pdu_encodes)) in
-    constructed_encodes Universal 16 (lit< tt) (regrouped (sym (append_assoc one octets pdu)) message)
+    let all = before_encodes version (before_encodes (octets_encode community) (last_encodes pdu_encodes)) in
+    constructed_encodes Universal 16 (lit< tt) (regrouped (sym (append_assoc one octets pdu)) all)
+
+pub request_encodes : RequestsEncode
+request_encodes = message_encodes 0 Null tt put.Null (lit< tt) null_encodes
+
+pub response_encodes : ResponsesEncode
+response_encodes community id name value = message_encodes 2 OctetString value (put.OctetString value) (lit< tt) (octets_encode value) community id name
