@@ -11,8 +11,8 @@ use der_base::error::OidParseError;
 use der_base::header::Tag;
 
 impl<'b> Writer<'b> {
-    /// An OBJECT IDENTIFIER with these arcs (8.19). TooShort for fewer than two; FirstComponentsTooLarge if the first is
-    /// above 2, the second above 39 after 0 or 1, or their subidentifier above 2^64-1: then nothing is put.
+    /// An OBJECT IDENTIFIER with these arcs (8.19). TooShort for fewer than two; FirstComponentsTooLarge if the first
+    /// is above 2, the second above 39 after 0 or 1, or their subidentifier above 2^64-1: then nothing is put.
     pub fn put_arcs(&mut self, arcs: &[u64]) -> Result<(), OidParseError>
         ensures { PutsArcs (octets_of_arcs false arcs.now) self.old result self.new }
     {

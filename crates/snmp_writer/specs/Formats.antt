@@ -47,7 +47,8 @@ IsRequestId n = ¬ ((n <ℤ least (signed 32)) ⊎ (greatest (signed 32) <ℤ n)
 abbrev pub RequestsEncode : Type 0
 RequestsEncode = (community : List ℕ) (request_id : ℤ) (name : List ℕ)
     → IsRequestId request_id → EndsSubidentifier name → ¬ HasPaddedArc name
-    → Encodes (Required (Message 0 Null)) (value_of community request_id name tt) (get_request community request_id name)
+    → Encodes (Required (Message 0 Null)) (value_of community request_id name tt)
+    (get_request community request_id name)
 
 abbrev pub ResponsesEncode : Type 0
 ResponsesEncode = (community : List ℕ) (request_id : ℤ) (name value : List ℕ)
