@@ -8,4 +8,5 @@ use Rattle.der_check.specs.Elements.{IsElement}
 -- An element of DER is an object of DER to the same depth, up to the greatest size of one. Its SEQUENCEs and SETs have
 -- the same items, and other constructed elements keep their octets.
 abbrev pub ElementsAreObjects : Type 0
-ElementsAreObjects = (d : ℕ) (b : List ℕ) → length b ≤ max_object_size → IsElement Der d b → (o : Node) × DerSpells b o d
+ElementsAreObjects =
+    (d : ℕ) (b : List ℕ) → length b ≤ max_object_size → IsElement Der d b → (o : Node) × DerSpells b o d

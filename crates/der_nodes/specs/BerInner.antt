@@ -111,8 +111,8 @@ InsideContentRefusesAt c p t w d n a e q = ((d ≡ 0) × (e ≡ max_depth) × (q
 abbrev pub Values : Type 0
 Values = Result (Unit {0}) (Refusing BerError)
 
--- Of v, which follows a header or is inside an indefinite length: where its values are accepted, elements and headers are
--- counted; of headers there is at most one for each octet that was read, and one more.
+-- Of v, which follows a header or is inside an indefinite length: where its values are accepted, elements and headers
+-- are counted; of headers there is at most one for each octet that was read, and one more.
 abbrev pub CountsContent : {N : Type 0} → List ℕ → ℕ → Tape N → Result (Bor (List ℕ) × Values) (Refusing BerError)
     → Tape N → Type 0
 CountsContent v end old result new = IfOk result (λ x. IfOk x.1 (λ _. IsCounted v x.0.now end old new))
