@@ -2,8 +2,11 @@
 pub mod AppendedBer
 pub mod AppendedDer
 pub mod BerFaults
+pub mod BerReadings
+pub mod DerContents
 pub mod DerFaults
 pub mod DerLacking
+pub mod DerReadings
 pub mod DerWithinBer
 pub mod FrontsAreCut
 pub mod NormalForm

@@ -26,7 +26,7 @@ use Rattle.der_laws.proofs.Spellings.DerWithinBer.{der_spelled_not_cut}
 use Rattle.der_laws.proofs.Answers.ItemAnswers.{some_octets}
 use Rattle.der_laws.proofs.Spellings.DerFaults.{header_shows, size_shows, content_shows, behind_shows, list_passes, joins_same, spelled_shows_nothing}
 use Rattle.der_nodes.proofs.BerWriting.{list_mapped}
-use Rattle.der_forms.proofs.DerReadings.{header_shorter}
+use Rattle.der_laws.proofs.Spellings.DerReadings.{header_shorter}
 use Rattle.der_nodes.specs.FaultPlaces.{DerShowsFaultAt, DerItemsRefuseAt, DerContentRefusesAt}
 use Rattle.der_nodes.specs.Inner.{FramesDer}
 

@@ -18,8 +18,8 @@ use Rattle.der_base.specs.Spelling.{DerSpells, max_object_size}
 use Rattle.der_base.specs.Tree.{Node, node, Content, sequence, set, unknown, Nodes, no_nodes, nodes, nodes_of}
 use Rattle.der_base.proofs.Spellings.Counted.{object_counted, sequence_counted, set_counted, items_counted}
 use Rattle.der_laws.proofs.Spellings.DerWithinBer.{valid_element}
-use Rattle.der_forms.specs.Contents.{IsDerContentOf}
-use Rattle.der_forms.proofs.Contents.{joins_encoded, leaf_valid, leaf_height}
+use Rattle.der_values.specs.Contents.{IsDerContentOf}
+use Rattle.der_laws.proofs.Spellings.DerContents.{joins_encoded, leaf_valid, leaf_height}
 use Rattle.der_nodes.specs.declared.element.Element.{Element}
 use Rattle.der_nodes.specs.Places.{placed, placed_content, placed_items, overlay}
 use Rattle.der_nodes.specs.Inner.{IsDerClosed, IsDerLeafOf, FramesDer, WritesDerElement, WritesDerContent, WritesDerItems, is_definite, element_of}

@@ -1,8 +1,8 @@
 pub mod Overlays
 pub mod DerWriting
+mod PlainLeaves
 pub mod NodesLaws
 pub mod DerPlaces
-pub mod LeafChecks
 pub mod DerFaultPlaces
 pub mod BerElements
 pub mod BerWriting

@@ -16,8 +16,8 @@ use Rattle.der_base.proofs.Answers.Exactness.{ShowsOne}
 use Rattle.der_laws.proofs.Spellings.BerFaults as ber_faults
 use Rattle.der_laws.proofs.Spellings.DerFaults as der_faults
 use Rattle.der_laws.proofs.Spellings.StableAnswers.{ber_fault_stays, ber_spelling_stays, der_fault_stays, der_spelling_stays}
-use Rattle.der_forms.proofs.BerReadings as ber
-use Rattle.der_forms.proofs.DerReadings as der
+use Rattle.der_laws.proofs.Spellings.BerReadings as ber
+use Rattle.der_laws.proofs.Spellings.DerReadings as der
 use Rattle.der_nodes.specs.NodesReading.{BeginsWithBy, BeginsWithObjects, IsCutBy, IsStableNodes, ShowsFaultBy, counted_value}
 
 same_tree : (r : Rules) (d : ℕ) (i rest rest' : List ℕ) (o o' : Node) → BeginsWithBy r d i o rest → BeginsWithBy r d i o' rest' → (o ≡ o') × (rest ≡ rest')

@@ -1,6 +1,6 @@
 -- What the functions of the readers of DER write and return.
 use Rattle.std.specs.Prelude.{◌≡◌, ℕ, ◌+◌, ◌-◌, ◌<◌, ◌≤◌, ◌⊎◌, Bool, true, false, IsTrue, List, ◌∷◌, ◌++◌, length, map}
-use Rattle.std.specs.Prelude.{Result, MatchResult}
+use Rattle.std.specs.Prelude.{Result}
 use Rattle.der_base.specs.declared.error.Err.{Err as Refusing}
 use Rattle.der_base.specs.Answer.{MatchAnswer}
 use Rattle.der_base.specs.declared.header.Class.{Class}
@@ -13,13 +13,11 @@ use Rattle.der_base.specs.Fault.{DerJoins}
 use Rattle.der_base.specs.declared.error.Error.{Error as BerError}
 use Rattle.der_base.specs.Header.{class_of, is_constructed, number_of, length_of}
 use Rattle.der_base.specs.Headers.{BeginsWithDerHeader}
-use Rattle.der_base.specs.Leaf.{is_list, is_mapped, IsLeafContent, IsDerLeaf}
-use Rattle.der_base.specs.LeafRefusal.{BerLeafRefuses}
-use Rattle.der_base.specs.Refusal.{refusal}
+use Rattle.der_base.specs.Leaf.{is_list, is_mapped, IsDerLeaf}
 use Rattle.der_base.specs.Listing.{object_count, content_count, item_count}
 use Rattle.der_base.specs.Spelling.{DerSpells, max_object_size}
 use Rattle.der_base.specs.Tree.{Node, Content, Nodes}
-use Rattle.der_forms.specs.Contents.{IsDerContentOf}
+use Rattle.der_values.specs.Contents.{IsDerContentOf}
 use Rattle.der_nodes.specs.declared.element.Element.{Element}
 use Rattle.der_nodes.specs.declared.tape.Tape.{Tape}
 use Rattle.der_nodes.specs.FaultPlaces.{DerItemsRefuseAt}
@@ -79,11 +77,6 @@ FramesDer i h w rest = BeginsWithDerHeader i (class_of h) (is_constructed h) (nu
 -- the octets w are a content by DER that is no list: of a type that DER knows, or kept as they are
 abbrev pub IsDerClosed : Class → Bool → ℕ → List ℕ → Type 0
 IsDerClosed c p t w = ((c ≡ Universal) × IsDerLeafOf p t w) ⊎ (c ≡ Universal → is_mapped t ≡ false)
-
--- whether BER has a content of type t in the octets w, primitive or constructed
-abbrev pub ChecksLeaf : Bool → ℕ → List ℕ → Result (Unit {0}) BerError → Type 0
-ChecksLeaf p t w result =
-    MatchResult result (λ _. (x : Content) × IsLeafContent p t w x) (λ e. BerLeafRefuses p t w (refusal e))
 
 -- i, which ends at the place end, begins with the spelling of a tree; the rows of its elements are written from the
 -- number n on

@@ -7,9 +7,10 @@ ghost use Rattle.der_base.specs.Text.{is_text_type};
 ghost use Rattle.der_nodes.specs.Inner.{IsDerLeafOf, IsPlainLeaf, IsShort, universal_element};
 
 use crate::element::Element;
-use crate::leaf::{check_der_leaf, check_time};
+use crate::leaf::check_der_leaf;
 use der_base::header::{Class, Tag};
-use der_base::text::read_text;
+use der_base::rules::Rules;
+use der_values::{read_text, read_time};
 
 /// The parts of an element with a header of two octets.
 #[derive(Clone, Copy)]
@@ -62,6 +63,7 @@ pub fn is_plain_leaf(first: u8, content: &[u8]) -> bool
         4 => is_leaf(Tag::OctetString, content),
         5 => is_leaf(Tag::Null, content),
         6 => is_leaf(Tag::Oid, content),
+        10 => is_leaf(Tag::Enumerated, content),
         12 | 18 | 19 | 20 | 22 | 26 => is_text(first, content),
         23 | 24 => is_time(first, content),
         _ => false,
@@ -69,7 +71,7 @@ pub fn is_plain_leaf(first: u8, content: &[u8]) -> bool
 }
 
 /// Whether it is a content of this type.
-#[inline(always)]
+#[inline]
 fn is_leaf(tag: Tag, content: &[u8]) -> bool
     requires mapped { IsTrue (is_mapped tag.0) }
     requires no_list { is_list tag.0 ≡ false }
@@ -84,10 +86,7 @@ fn is_text(first: u8, content: &[u8]) -> bool
     requires { IsTrue (is_text_type first) }
     ensures { IsTrue result → IsDerLeafOf false first content.now }
 {
-    match read_text(Tag(u32::from(first)), content) {
-        Some(_) => true,
-        None => false,
-    }
+    read_text(Tag(u32::from(first)), content).is_ok()
 }
 
 /// The same of a UTCTime or a GeneralizedTime (11.7, 11.8).
@@ -96,7 +95,7 @@ fn is_time(first: u8, content: &[u8]) -> bool
     requires { IsTrue (is_time first) }
     ensures { IsTrue result → IsDerLeafOf false first content.now }
 {
-    check_time(Tag(u32::from(first)), content).is_ok()
+    read_time(Rules::Der, Tag(u32::from(first)), content).is_ok()
 }
 
 /// The element of a universal type with a header of two octets, whose content of this size ends at a

@@ -1,5 +1,6 @@
 mod ContentLaws
 mod DecimalDigits
+pub mod DecodedContents
 mod FormLaws
 mod GrammarLaws
 pub mod Identifiers

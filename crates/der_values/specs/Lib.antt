@@ -1,6 +1,7 @@
 pub mod ArcNumbers
 pub mod ContentErrors
 pub mod ContentRules
+pub mod Contents
 pub mod Decimal
 pub mod Grammar
 pub mod Identifiers

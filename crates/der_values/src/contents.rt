@@ -42,6 +42,7 @@ pub fn read_value<'a>(
 }
 
 /// Checks content octets as `read_value` does.
+#[inline(always)]
 pub fn check_value(rules: Rules, constructed: bool, tag: Tag, octets: &[u8]) -> Result<(), BerError>
     requires mapped { IsTrue (is_mapped tag.0) }
     requires no_list { is_list tag.0 ≡ false }
@@ -59,6 +60,7 @@ fn read_primitive<'a>(rules: Rules, tag: Tag, octets: &'a [u8]) -> Result<Value<
     requires no_list { is_list tag.0 ≡ false }
     ensures { Decodes value_content (primitives rules tag.0) octets.now result }
 {
+    // Strings and times are calls. The other readers are compiled in (docs/PERFORMANCE.md).
     match tag {
         // The marker of an end has no content octets either (8.1.5).
         Tag::EndOfContent => {

@@ -17,6 +17,7 @@ pub fn read_integer(rules: Rules, octets: &[u8]) -> Result<&[u8], BerError>
 }
 
 /// Checks that by DER the octets are the fewest for their number.
+#[inline(always)]
 fn check_octets(rules: Rules, octets: &[u8]) -> Result<(), BerError>
     ensures { Decodes (λ v. v) (checked (integers rules)) octets.now result }
 {

@@ -10,6 +10,7 @@ use der_base::text::{self, is_utf16};
 /// The text of a string type that is kept as a text (X.690 8.23): NumericString, PrintableString,
 /// IA5String and VisibleString in their character sets; ObjectDescriptor, UTF8String, T61String,
 /// VideotexString, GraphicString and GeneralString as UTF-8. StringInvalidCharset for other octets.
+#[inline(always)]
 pub fn read_text(tag: Tag, octets: &[u8]) -> Result<&str, BerError>
     requires { IsTrue (is_text_type tag.0) }
     ensures { Decodes (λ v. v.now) (texts tag.0) octets.now result }

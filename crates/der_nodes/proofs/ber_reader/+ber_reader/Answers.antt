@@ -14,7 +14,7 @@ use Rattle.der_base.proofs.Answers.Answering.{passed_on, answered, ok_with}
 use Rattle.der_base.proofs.Framing.Framed.{elements_append}
 use Rattle.der_base.proofs.Framing.FramingAny.{any_lacks_header, any_lacks_content}
 use Rattle.der_base.proofs.Framing.FramingLists.{header_takes_two}
-use Rattle.der_forms.proofs.BerReadings.{any_cut}
+use Rattle.der_laws.proofs.Spellings.BerReadings.{any_cut}
 use Rattle.der_nodes.specs.BerInner.{FramingRefusesAt, InsideContentRefusesAt, PutsWhole, StandsNext, WritesElement, WritesItems, WritesWhole}
 use Rattle.der_nodes.specs.Inner.{IsListHeader}
 use Rattle.der_nodes.specs.FaultPlaces.{ItemsRefuseAt, ShowsFaultAt}

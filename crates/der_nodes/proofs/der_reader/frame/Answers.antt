@@ -6,7 +6,7 @@ use Rattle.der_base.specs.declared.header.Length.TheVariants.{Definite}
 use Rattle.der_base.specs.Headers.{BeginsWithDerHeader}
 use Rattle.der_base.specs.Spelling.{max_object_size}
 use Rattle.der_base.proofs.Answers.Answering.{passed_on}
-use Rattle.der_forms.proofs.DerReadings.{header_cut, content_cut}
+use Rattle.der_laws.proofs.Spellings.DerReadings.{header_cut, content_cut}
 use Rattle.der_nodes.proofs.DerFaultPlaces.{header_refused_at, size_refused_at}
 use Rattle.der_nodes.proofs.der_reader.frame.Goals as goal
 
