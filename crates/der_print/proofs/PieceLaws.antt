@@ -40,7 +40,7 @@ utf8_pieces t w bmp universal utf8 =
     let not_universal : (t == 28) ≡ false = grind (arith, nat_tests) in
     rw (not_bmp, not_universal, is_utf8-from_IsUtf8 w utf8) refl
 
-not_true : (b : Bool) → ¬ (b ≡ true) → b ≡ false
+pub not_true : (b : Bool) → ¬ (b ≡ true) → b ≡ false
 not_true true h = absurd (h refl)
 not_true false h = refl
 

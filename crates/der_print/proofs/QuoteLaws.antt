@@ -1,15 +1,16 @@
 -- Texts that are written one after another, and characters that are written as they are.
 use Rattle.std.proofs.Common.{◌≡◌, ◌∙◌, ◌∷◌, ◌++◌, ◌+◌, ◌<◌, ◌≤◌, ◌&&◌, ◌==◌, [], Bool, List, false, true, ℕ, ap, append-nil, append_assoc, arith, length, refl, suc, sym, take, zero}
-use Rattle.std.specs.Prelude.{map, nat_le, slice_index}
+use Rattle.std.specs.Prelude.{IsUtf8, encode_utf8, encode_utf8_all, map, nat_le, not, slice_index}
 use Rattle.std.specs.List.{concat, list_all}
 use Rattle.std.specs.Str.{IsAscii, chars}
 use Rattle.std.proofs.Math.Seq.{take-append_seam}
 use Rattle.std.proofs.lemmas.Bool.Decides.{nat_tests}
 use Rattle.std.proofs.lemmas.List.{length-append, length-map, take_all}
 use Rattle.std.proofs.lemmas.List.Folds.{concat-append}
-use Rattle.std.proofs.lemmas.Str.{chars-IsAscii, encode_ascii}
+use Rattle.std.proofs.lemmas.Str.{chars-IsAscii, encodes-chars, length-le-encodes}
 use Rattle.der_print.specs.declared.pieces.Piece.TheVariants.{Character}
-use Rattle.der_print.specs.Quotes.{character_text, is_hidden, is_plain, piece_text}
+use Rattle.der_print.specs.Quotes.{character_text, is_hidden, is_plain, is_unescaped, piece_text}
+use Rattle.der_print.proofs.PieceLaws.{not_true}
 
 -- one more text was written
 pub texts_more : (all sent others : List (List ℕ)) (t : List ℕ) → all ≡ sent ++ (t ∷ others) → all ≡ (sent ++ t ∷ []) ++ others
@@ -51,35 +52,61 @@ plain_bounds b h = grind (arith, nat_tests)
 shown : (b : ℕ) → 0x20 ≤ b → b ≤ 0x7e → is_hidden b ≡ false
 shown b low high = grind (arith, nat_tests)
 
-pub plain_character : (b : ℕ) → is_plain b ≡ true → character_text b ≡ b ∷ []
-plain_character b h =
+-- different from a hidden one, as a line feed is
+apart : (c d : ℕ) → is_hidden c ≡ false → is_hidden d ≡ true → (c == d) ≡ false
+apart c d seen hidden = not_true (c == d) (λ e. let same : c ≡ d = grind (arith, nat_tests) in no_truth (sym seen ∙ ap is_hidden same ∙ hidden))
+
+is_not : (b : Bool) → not b ≡ true → b ≡ false
+is_not true h = no_truth h
+is_not false h = refl
+
+unescaped_character : (c : ℕ) → is_unescaped c ≡ true → character_text c ≡ encode_utf8 c
+unescaped_character c h =
+    let all = both_true (not (c == 0x22) && not (c == 0x5c)) (not (is_hidden c)) h in
+    let marks = both_true (not (c == 0x22)) (not (c == 0x5c)) all.0 in
+    let seen = is_not (is_hidden c) all.1 in
+    rw (is_not (c == 0x22) marks.0, is_not (c == 0x5c) marks.1, apart c 0x0a seen refl, apart c 0x0d seen refl, apart c 0x09 seen refl, seen) refl
+
+-- plain ASCII is written as it is
+plain_octet : (b : ℕ) → is_plain b ≡ true → is_unescaped b ≡ true
+plain_octet b h =
     let k = plain_bounds b h in
     let quote : (b == 0x22) ≡ false = grind (arith, nat_tests) in
     let backslash : (b == 0x5c) ≡ false = grind (arith, nat_tests) in
-    let line_feed : (b == 0x0a) ≡ false = grind (arith, nat_tests) in
-    let return : (b == 0x0d) ≡ false = grind (arith, nat_tests) in
-    let tab : (b == 0x09) ≡ false = grind (arith, nat_tests) in
-    rw (quote, backslash, line_feed, return, tab, shown b k.0 k.1) (encode_ascii b (omega arith))
+    rw (quote, backslash, shown b k.0 k.1) refl
 
 plain_ascii : (w : List ℕ) → list_all is_plain w ≡ true → IsAscii w
 plain_ascii [] h i = omega arith
 plain_ascii (b ∷ w) h zero = let k = plain_bounds b (both_true (is_plain b) (list_all is_plain w) h).0 in omega arith
 plain_ascii (b ∷ w) h (suc i) = plain_ascii w (both_true (is_plain b) (list_all is_plain w) h).1 i
 
-plain_octets : (w : List ℕ) → list_all is_plain w ≡ true → concat (map piece_text (map (λ c. Character c) w)) ≡ w
+plain_octets : (w : List ℕ) → list_all is_plain w ≡ true → list_all is_unescaped w ≡ true
 plain_octets [] h = refl
 plain_octets (b ∷ w) h =
     let k = both_true (is_plain b) (list_all is_plain w) h in
-    rw (plain_character b k.0, plain_octets w k.1) refl
+    rw (plain_octet b k.0, plain_octets w k.1) refl
 
-length_pieces : (w : List ℕ) → length (map piece_text (map (λ c. Character c) w)) ≡ length w
-length_pieces w = length-map (map (λ c. Character c) w) piece_text ∙ length-map w (λ c. Character c)
+pub plain_unescaped : (w : List ℕ) → list_all is_plain w ≡ true → true ≡ list_all is_unescaped (chars w)
+plain_unescaped w h = rw (chars-IsAscii w (plain_ascii w h)) (sym (plain_octets w h))
 
--- a plain text is written as it is
-pub plain_fits : (w : List ℕ) (n : ℕ) → list_all is_plain w ≡ true → length w ≤ n → true ≡ nat_le (length (map piece_text (map (λ c. Character c) (chars w)))) n
-plain_fits w n h short = rw (chars-IsAscii w (plain_ascii w h), length_pieces w) (grind (arith, nat_tests))
+length_pieces : (cs : List ℕ) → length (map piece_text (map (λ c. Character c) cs)) ≡ length cs
+length_pieces cs = length-map (map (λ c. Character c) cs) piece_text ∙ length-map cs (λ c. Character c)
 
-pub plain_whole : (w : List ℕ) (n : ℕ) → list_all is_plain w ≡ true → length w ≤ n → w ≡ concat (take n (map piece_text (map (λ c. Character c) (chars w))))
-plain_whole w n h short =
-    let few : length (map piece_text (map (λ c. Character c) w)) ≤ n = omega (arith, length_pieces w) in
-    rw (chars-IsAscii w (plain_ascii w h), take_all n (map piece_text (map (λ c. Character c) w)) few) (sym (plain_octets w h))
+-- a text has no more characters than octets
+few_pieces : (w : List ℕ) (n : ℕ) → IsUtf8 w → length w ≤ n → length (map piece_text (map (λ c. Character c) (chars w))) ≤ n
+few_pieces w n utf8 short = omega (arith, length_pieces (chars w), length-le-encodes (chars w), ap length (encodes-chars w utf8))
+
+pub short_fits : (w : List ℕ) (n : ℕ) → IsUtf8 w → length w ≤ n → true ≡ nat_le (length (map piece_text (map (λ c. Character c) (chars w)))) n
+short_fits w n utf8 short = let few = few_pieces w n utf8 short in grind (arith, nat_tests)
+
+unescaped_characters : (cs : List ℕ) → list_all is_unescaped cs ≡ true → concat (map piece_text (map (λ c. Character c) cs)) ≡ encode_utf8_all cs
+unescaped_characters [] h = refl
+unescaped_characters (c ∷ cs) h =
+    let k = both_true (is_unescaped c) (list_all is_unescaped cs) h in
+    rw (unescaped_character c k.0, unescaped_characters cs k.1) refl
+
+-- a text without escapes is written as it is
+pub unescaped_whole : (w : List ℕ) (n : ℕ) → IsUtf8 w → list_all is_unescaped (chars w) ≡ true → length w ≤ n
+    → w ≡ concat (take n (map piece_text (map (λ c. Character c) (chars w))))
+unescaped_whole w n utf8 h short =
+    rw (take_all n (map piece_text (map (λ c. Character c) (chars w))) (few_pieces w n utf8 short)) (sym (unescaped_characters (chars w) h ∙ encodes-chars w utf8))

@@ -58,6 +58,11 @@ front_text colours v =
 abbrev pub limit_of : Style → Visited → Limit
 limit_of style v = limit_without style.limit (length (front_text false v))
 
+-- the value of an element with this content, and nothing where the content is elements
+abbrev pub IsValueAlone : Limit → Visited → List ℕ → List ℕ → Type 0
+IsValueAlone limit v w text = MatchBool v.holds_der (text ≡ [])
+    (MatchBool v.constructed (text ≡ []) (IsValue limit v.class v.number w text))
+
 -- what is said of a value that breaks its type, after two spaces
 abbrev pub remark_in : Visited → List ℕ → List ℕ
 remark_in v w = if v.breaks_its_type then codes "  " ++ remark_text v.class v.number w else []

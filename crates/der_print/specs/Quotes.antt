@@ -24,6 +24,10 @@ is_hidden c =
 abbrev pub is_plain : ℕ → Bool
 is_plain b = is_within 0x20 0x7e b && not (b == 0x22) && not (b == 0x5c)
 
+-- a character that is written as it is
+abbrev pub is_unescaped : ℕ → Bool
+is_unescaped c = not (c == 0x22) && not (c == 0x5c) && not (is_hidden c)
+
 -- a character by its number
 abbrev pub code_text : ℕ → List ℕ
 code_text c = codes "\\u{" ++ digits 16 false c ++ codes "}"

@@ -10,7 +10,8 @@ abbrev pub WritesOne : {W : Type 0} → (W → List ℕ → W → Type 0) → Fo
     → (List ℕ → Type 0) → Formatter W → Type 0
 WritesOne took f r right g = IsPlainFormatter f → IsOk r → (text : List ℕ) × right text × HasWritten took f text g
 
--- if f is plain and r is `Ok`, then g is f after writing some texts, n of them at most, and r says whether those are all
+-- if f is plain and r is `Ok`, then g is f after writing some texts, n of them at most, and r says whether those are
+-- all
 abbrev pub WritesFirst : {W : Type 0} → (W → List ℕ → W → Type 0) → Formatter W → Result Bool Error → ℕ
     → List (List ℕ) → Formatter W → Type 0
 WritesFirst took f r n texts g = IsPlainFormatter f

@@ -2,7 +2,7 @@
 ghost use Rattle.std.specs.Prelude.{◌≡◌, Some};
 ghost use Rattle.std.specs.Fmt.{DisplaysOnOk};
 ghost use Rattle.der_base.specs.Pretty.{hex_pair};
-ghost use Rattle.der_print.specs.Quotes.{character_text, code_text, is_hidden, is_plain, octet_text};
+ghost use Rattle.der_print.specs.Quotes.{character_text, code_text, is_hidden, is_plain, is_unescaped, octet_text};
 
 use std::fmt;
 
@@ -55,6 +55,13 @@ pub(crate) fn is_plain(octet: u8) -> bool
     ensures { result ≡ is_plain octet }
 {
     matches!(octet, b' '..=b'~') && octet != b'"' && octet != b'\\'
+}
+
+/// Whether a character is written as it is.
+pub(crate) fn is_unescaped(character: char) -> bool
+    ensures { result ≡ is_unescaped character }
+{
+    character != '"' && character != '\\' && !is_hidden(character)
 }
 
 /// Whether a character is a control character, or a mark that can't be seen.

@@ -2,13 +2,15 @@
 ghost use Rattle.std.specs.Prelude.{◌≡◌, Some, map};
 ghost use Rattle.std.specs.Fmt.{DisplaysOnOk};
 ghost use Rattle.std.specs.List.{list_all};
+ghost use Rattle.std.specs.Str.{chars};
 ghost use Rattle.der_base.specs.Text.{is_visible};
 ghost use Rattle.der_print.specs.Pieces.{pieces_left};
-ghost use Rattle.der_print.specs.Quotes.{is_plain, piece_text, plain_text, printed_characters};
+ghost use Rattle.der_print.specs.Quotes.{is_plain, is_unescaped, piece_text, plain_text, printed_characters};
 ghost use Rattle.der_print.specs.Values.{is_ascii_text};
 ghost use Rattle.der_print.specs.Writes.{WritesFirst};
+ghost use Rattle.der_print.specs.declared.pieces.Piece.{Piece};
 
-use crate::characters::{is_plain, write_character, write_octet};
+use crate::characters::{is_plain, is_unescaped, write_character, write_octet};
 use crate::pieces::{Characters, Piece, characters_of, next_piece};
 use crate::style::Limit;
 use std::fmt;
@@ -123,12 +125,35 @@ fn write_first<W: fmt::Write>(
         (map piece_text (pieces_left characters.entry)) f.new }
 {
     match characters {
-        Characters::Utf8(text) if text.len() <= most && are_plain(text.as_bytes()) => {
-            f.write_str(text)?;
-            Ok(true)
-        }
+        Characters::Utf8(text) => write_text(f, text, most),
         _ => write_pieces(f, characters, most),
     }
+}
+
+/// Writes the first characters of a text. Returns whether those are all.
+fn write_text<W: fmt::Write>(
+    f: &mut fmt::Formatter<W>,
+    text: &str,
+    most: usize,
+) -> Result<bool, fmt::Error>
+    ensures { WritesFirst W.Write.write_str_gives f.old result most
+        (map piece_text (map (λ c. Piece.Character c) (chars text.now))) f.new }
+{
+    if text.len() <= most && are_unescaped(text) {
+        f.write_str(text)?;
+        return Ok(true);
+    }
+    write_pieces(f, Characters::Utf8(text), most)
+}
+
+/// Whether the characters of a text are written as they are.
+fn are_unescaped(text: &str) -> bool
+    ensures { result ≡ list_all is_unescaped (chars text.now) }
+{
+    if are_plain(text.as_bytes()) {
+        return true;
+    }
+    text.chars().all(|character| is_unescaped(character))
 }
 
 /// Whether octets are ASCII that is written as it is.

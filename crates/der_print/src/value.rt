@@ -1,12 +1,14 @@
 //! The values of primitive elements.
 ghost use Rattle.std.specs.Prelude.{◌≡◌, ◌⊎◌, ◌++◌, ℕ, IfSome, List, Option, Some, codes, false, true};
 ghost use Rattle.std.specs.Fmt.{DisplaysOnOk};
+ghost use Rattle.der_print.specs.Lines.{IsValueAlone};
 ghost use Rattle.der_print.specs.Quotes.{quoted_text};
 ghost use Rattle.der_print.specs.Texts.{content_of, octets_or_none};
 ghost use Rattle.der_print.specs.Values.{IsNameOf, IsUniversalValue, IsValue, bits_text, boolean_text};
 ghost use Rattle.der_print.specs.Values.{identifier_text, is_quoted_type, name_text, octets_text, truth_text};
 ghost use Rattle.der_print.specs.Values.{unused_text};
 ghost use Rattle.der_print.specs.Writes.{WritesOne};
+ghost use Rattle.der_walk.specs.Walked.{visited_of};
 
 use crate::characters::write_pair;
 use crate::identifier::Arcs;
@@ -37,12 +39,23 @@ pub struct Value<'a> {
 
 impl fmt::Display for Value<'_> {
     fn fmt<W: fmt::Write>(&self, f: &mut fmt::Formatter<W>) -> fmt::Result {
-        let element = self.element;
-        if element.constructed || element.holds_der {
-            return Ok(());
-        }
-        write_value(f, &element, self.limit)
+        write_value_alone(f, &self.element, self.limit)
     }
+}
+
+/// Writes the value of a primitive element, and nothing of an element whose content is elements.
+fn write_value_alone<W: fmt::Write>(
+    f: &mut fmt::Formatter<W>,
+    element: &Element<'_>,
+    limit: Limit,
+) -> fmt::Result
+    ensures { let v = visited_of element.now in let w = content_of element.now in
+        WritesOne W.Write.write_str_gives f.old result (IsValueAlone limit v w) f.new }
+{
+    if element.holds_der || element.constructed {
+        return Ok(());
+    }
+    write_value(f, element, limit)
 }
 
 /// Writes the value of a primitive element.
