@@ -1,9 +1,0 @@
-use Rattle.std.proofs.Common.{◌∙◌, ap, sym}
-use Rattle.std.specs.List.{list_all}
-use Rattle.der_print.specs.Quotes.{is_plain}
-use Rattle.der_print.proofs.QuoteLaws.{plain_unescaped}
-use Rattle.der_print.proofs.text.are_unescaped.Goals as goal
-
-pub returns-then-are_plain : goal.returns-then-are_plain
-returns-then-are_plain c =
-    plain_unescaped c.args.text.now (sym (ap (list_all is_plain) c.as_bytes.ensures.value) ∙ sym c.are_plain.ensures ∙ c.if-are_plain.true)
