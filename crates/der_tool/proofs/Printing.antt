@@ -1,5 +1,5 @@
 -- A walk, and the lines of the elements that it has visited.
-use Rattle.std.proofs.Common.{◌≡◌, ◌∙◌, ◌+◌, ◌<◌, ◌≤◌, ℕ, true, Bool, Err, IfOk, IsTrue, Ok, OnOk, Option, Result, List, [], ◌∷◌, ◌++◌, ap, append-nil, append_assoc, arith, codes, length, refl, subst, sym}
+use Rattle.std.proofs.Common.{◌≡◌, ◌∙◌, ◌+◌, ◌<◌, ◌≤◌, ℕ, true, false, Bool, Err, IfOk, IsTrue, Ok, OnOk, Option, Result, List, [], ◌∷◌, ◌++◌, ap, append-nil, append_assoc, arith, codes, length, refl, subst, sym}
 use Rattle.std.proofs.KnownBytes.{Appends-nil, Appends-trans}
 use Rattle.std.proofs.lemmas.List.{length-append}
 use Rattle.std.specs.Io.KnownBytes.{Appends}
@@ -25,6 +25,11 @@ on_ok (Err e) P Q f h = tt
 pub then_reads : {E : Type 0} (r : Result Bool E) (W R : Type 0) → (W → R) → IfOk r (λ ok. IsTrue ok → W) → IfOk r (λ ok. IsTrue ok → R)
 then_reads (Ok x) W R f h = λ t. f (h t)
 then_reads (Err e) W R f h = tt
+
+-- what follows where not all was read
+pub then_refuses : {E : Type 0} (r : Result Bool E) (P Q : Type 0) → (P → Q) → IfOk r (λ ok. ok ≡ false → P) → IfOk r (λ ok. ok ≡ false → Q)
+then_refuses (Ok x) P Q f h = λ no. f (h no)
+then_refuses (Err e) P Q f h = tt
 
 -- each element has two octets or more
 few_read : {x : Extras} {r : Rules} {i : List ℕ} {w : Walk} {vs : List Visited} → HasVisited x r i w vs → length vs + length vs ≤ length i

@@ -1,15 +1,16 @@
 -- What is read from an input, and what is written of it.
-use Rattle.std.specs.Prelude.{◌≡◌, ◌<◌, ℕ, suc, Option, Some, None, List, Ok, filter}
+use Rattle.std.specs.Prelude.{◌≡◌, ◌≢◌, ◌<◌, ℕ, suc, Option, Some, None, List, Ok, IsErr, filter}
 use Rattle.base64.specs.Engines.{standard}
 use Rattle.base64.specs.GeneralPurpose.{decode_of as base64_decode_of}
 use Rattle.hex.specs.Hex.{decode_of as hex_decode_of}
+use Rattle.der_input.specs.declared.error.FormError.{FormError}
 use Rattle.der_input.specs.declared.form.Form.{Form}
 use Rattle.der_input.specs.declared.form.Form.TheVariants.{Der, Pem, Hex, Base64}
-use Rattle.der_input.specs.Blocks.{BeginsWithBlock, IsEncrypted}
-use Rattle.der_input.specs.Forms.{FindsForm, HasNoBlock}
+use Rattle.der_input.specs.Blocks.{BeginsWithBlock, BreaksBlock, IsEncrypted}
+use Rattle.der_input.specs.Forms.{FindsForm, FindsNoForm, HasNoBlock}
 use Rattle.der_input.specs.Plain.{is_character, is_digit}
 use Rattle.der_tool.specs.declared.options.Options.{Options}
-use Rattle.der_tool.specs.Outputs.{Writes, WritesHeading, WritesInside}
+use Rattle.der_tool.specs.Outputs.{IsRefusedBy, RefusesFile, WritesFile, WritesHeading, WritesInside}
 
 -- how an input is written: as is asked for, or as a look at it finds
 abbrev pub IsFormOf : Option Form → List ℕ → Form → Type 0
@@ -41,6 +42,36 @@ pub data ReadsBlocks (o : Options) (name : List ℕ) : ℕ → List ℕ → Opti
 
 -- An input is read to its end, and this is written of it: of its octets, or of each of its blocks, one at least.
 pub data ReadsInput (o : Options) (name i : List ℕ) (old new : Option (List ℕ)) : Type 0 where
-  octets : (form : Form) (w : List ℕ) → IsFormOf o.form i form → Spells form i w → Writes o.action o w old new
+  octets : (form : Form) (w : List ℕ) → IsFormOf o.form i form → Spells form i w → WritesFile o name w old new
       → ReadsInput o name i old new
   blocks : (n : ℕ) → IsFormOf o.form i Pem → 0 < n → ReadsBlocks o name n i old new → ReadsInput o name i old new
+
+-- a block with these lines is refused: they are encrypted or no base64, or an action refuses its octets
+pub data RefusesBlock (o : Options) (lines : List ℕ) : Type 0 where
+  encrypted : IsEncrypted lines → RefusesBlock o lines
+  no_base64 : IsErr (base64_decode_of standard (filter is_character lines)) → RefusesBlock o lines
+  refused : (w : List ℕ) (old new : Option (List ℕ)) → base64_decode_of standard (filter is_character lines) ≡ Ok w
+      → IsRefusedBy o.action o w old new → RefusesBlock o lines
+
+-- what is left of a text after n blocks
+pub data IsAfterBlocks (i : List ℕ) : ℕ → List ℕ → Type 0 where
+  after_none : IsAfterBlocks i 0 i
+  after_more : {n : ℕ} {j : List ℕ} (label lines rest : List ℕ) → IsAfterBlocks i n j
+      → BeginsWithBlock j label lines rest → IsAfterBlocks i (suc n) rest
+
+-- A text has no block, or one that is refused, or one that is broken after these.
+pub data RefusesBlocks (o : Options) (i : List ℕ) : Type 0 where
+  without_blocks : HasNoBlock i → RefusesBlocks o i
+  refused_block : (n : ℕ) (j label lines rest : List ℕ) → IsAfterBlocks i n j → BeginsWithBlock j label lines rest
+      → RefusesBlock o lines → RefusesBlocks o i
+  broken_block : (n : ℕ) (j : List ℕ) (e : FormError) → IsAfterBlocks i n j → BreaksBlock j e → RefusesBlocks o i
+
+-- An input is refused: a look at it finds no form, it spells no octets, these are refused after what is written, or so
+-- are its blocks.
+pub data RefusesInput (o : Options) (name i : List ℕ) (old new : Option (List ℕ)) : Type 0 where
+  without_form : (e : FormError) → o.form ≡ None → FindsNoForm i e → RefusesInput o name i old new
+  without_octets : (form : Form) → IsFormOf o.form i form → form ≢ Pem → ((w : List ℕ) → ¬ Spells form i w)
+      → RefusesInput o name i old new
+  refused_octets : (form : Form) (w : List ℕ) → IsFormOf o.form i form → Spells form i w
+      → RefusesFile o name w old new → RefusesInput o name i old new
+  refused_blocks : IsFormOf o.form i Pem → RefusesBlocks o i → RefusesInput o name i old new

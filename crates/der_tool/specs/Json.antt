@@ -1,7 +1,7 @@
 -- What is written of an element as JSON.
 use Rattle.std.specs.Prelude.{◌≡◌, ◌⊎◌, ◌==◌, ◌^◌, ◌||◌, ℕ, not, nat_lt, Bool, true, false, if◌then◌else◌, IsTrue}
-use Rattle.std.specs.Prelude.{IfSome, MatchBool, ℤ, pos, negsuc, Option, Some, None, option_map, List, [], ◌∷◌, ◌++◌, codes}
-use Rattle.std.specs.Prelude.{string_bytes}
+use Rattle.std.specs.Prelude.{IfSome, MatchBool, ℤ, pos, negsuc, Option, Some, None, option_map}
+use Rattle.std.specs.Prelude.{List, [], ◌∷◌, ◌++◌, codes, string_bytes}
 use Rattle.std.specs.Str.{is_utf8}
 use Rattle.std.specs.Io.KnownBytes.{Appends}
 use Rattle.serde.specs.Event.{Log}

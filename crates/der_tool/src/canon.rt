@@ -1,7 +1,7 @@
 //! The elements of an input as DER writes them.
 ghost use Rattle.std.specs.Prelude.{◌≡◌, ℕ, IfOk, IsTrue, List, None, OnOk, Some, false};
 ghost use Rattle.std.specs.Io.KnownBytes.{Appends};
-ghost use Rattle.der_tool.specs.Outputs.{IsNotWritten, WritesDer, WritesPem};
+ghost use Rattle.der_tool.specs.Outputs.{RefusesDer, WritesDer, WritesPem};
 ghost use Rattle.der_tool.specs.Pem.{InLines, IsPem};
 ghost use Rattle.der_tool.specs.declared.origin.BlockName.{BlockName};
 
@@ -31,7 +31,8 @@ pub(crate) fn write_canonical<W: Write, X: Write>(
     ensures pem { (block : BlockName) → origin.entry.block ≡ Some block
         → IfOk result (λ ok. IsTrue ok
         → WritesPem block.label.now octets.now (W.contents out.old) (W.contents out.new)) }
-    ensures refused { IfOk result (λ ok. ok ≡ false → IsNotWritten octets.now) }
+    ensures refused { IfOk result (λ ok. ok ≡ false
+        → RefusesDer octets.now (W.contents out.old) (W.contents out.new)) }
 {
     match canonical(alloc, octets) {
         Ok(written) => {

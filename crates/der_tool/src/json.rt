@@ -15,7 +15,7 @@ ghost use Rattle.der_base.specs.declared.header.Class.{Class};
 ghost use Rattle.der_tool.specs.Json.{AddsJson, IsFrom, IsJson, IsJsonValue, IsObjectOf, IsUniversalJson};
 ghost use Rattle.der_tool.specs.Json.{is_false, json_number};
 ghost use Rattle.der_tool.specs.Labels.{label_text};
-ghost use Rattle.der_tool.specs.Outputs.{IsNoVisit, WritesJson};
+ghost use Rattle.der_tool.specs.Outputs.{RefusesJson, WritesJson};
 ghost use Rattle.der_walk.specs.Walked.{visited_of};
 
 use crate::label::Label;
@@ -75,7 +75,8 @@ pub(crate) fn print_json<W: Write, X: Write>(
 ) -> io::Result<bool>
     ensures read { IfOk result (λ ok. IsTrue ok
         → WritesJson options.now octets.now (W.contents out.old) (W.contents out.new)) }
-    ensures refused { IfOk result (λ ok. ok ≡ false → IsNoVisit options.now octets.now) }
+    ensures refused { IfOk result (λ ok. ok ≡ false
+        → RefusesJson options.now octets.now (W.contents out.old) (W.contents out.new)) }
 {
     let mut walk = Walk::new(octets, options.rules, options.enters_strings).keeping_values();
     let mut read = 0;

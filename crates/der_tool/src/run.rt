@@ -1,11 +1,16 @@
 //! What is done with an input.
-ghost use Rattle.std.specs.Prelude.{◌≡◌, ◌<◌, ◌↔◌, ℕ, IfOk, IsOkAnd, IsTrue, None, Ok, OnOk, Some, false};
+ghost use Rattle.std.specs.Prelude.{◌≡◌, ◌≢◌, ◌<◌, ◌↔◌, ℕ, IfErr, IfOk, IsOkAnd, IsTrue, MatchBool, MatchResult};
+ghost use Rattle.std.specs.Prelude.{None, Ok, OnOk, Some, false};
 ghost use Rattle.std.specs.Io.KnownBytes.{Keeps};
 ghost use Rattle.der_check.specs.Elements.{AreElements};
+ghost use Rattle.der_input.specs.declared.error.FormError.{FormError};
 ghost use Rattle.der_input.specs.declared.form.Form.{Form};
 ghost use Rattle.der_input.specs.Blocks.{label_of, lines_of};
+ghost use Rattle.der_input.specs.Forms.{FindsNoForm};
 ghost use Rattle.der_tool.specs.Inputs.{IsFormOf, ReadsBlock, ReadsBlocks, ReadsInput};
-ghost use Rattle.der_tool.specs.Outputs.{IsRefusedBy, Writes, WritesHeading, WritesInside};
+ghost use Rattle.der_tool.specs.Inputs.{RefusesBlock, RefusesBlocks, RefusesInput};
+ghost use Rattle.der_tool.specs.Outputs.{IsRefusedBy, RefusesFile, Writes, WritesFile, WritesHeading};
+ghost use Rattle.der_tool.specs.Outputs.{WritesInside, WritesName};
 ghost use Rattle.der_tool.specs.declared.options.Action.{Action};
 ghost use Rattle.der_tool.specs.declared.origin.BlockName.{BlockName};
 
@@ -21,7 +26,7 @@ use der_input::{Block, Form, FormError, decode_base64, decode_hex, form_of, next
 use der_walk::MAX_DEPTH;
 use std::alloc::Global;
 use std::io;
-use std::io::Write;
+use std::io::{ErrorKind, Write};
 
 /// Does what is asked for with an input, and reports on `err` why it is refused. Returns whether all of it was
 /// read: of a check whether it is elements and nothing else.
@@ -35,10 +40,10 @@ pub fn run<W: Write, X: Write>(
 ) -> io::Result<bool>
     ensures checked { options.now.action ≡ Action.Check → options.now.form ≡ Some Form.Der
         → IfOk result (λ ok. IsTrue ok ↔ AreElements options.now.rules 101 input.now) }
-    ensures read { options.now.has_several_files ≡ false → IfOk result (λ ok. IsTrue ok
+    ensures read { IfOk result (λ ok. IsTrue ok
         → ReadsInput options.now name.now input.now (W.contents out.old) (W.contents out.new)) }
-    ensures refused { options.now.form ≡ Some Form.Der → IfOk result (λ ok. ok ≡ false
-        → IsRefusedBy options.now.action options.now input.now) }
+    ensures refused { IfOk result (λ ok. ok ≡ false
+        → RefusesInput options.now name.now input.now (W.contents out.old) (W.contents out.new)) }
 {
     match form_in(options.form, input) {
         Ok(Form::Der) => act_on_file(alloc, options, name, input, out, err),
@@ -60,6 +65,7 @@ pub fn run<W: Write, X: Write>(
 fn form_in(asked: Option<Form>, input: &[u8]) -> Result<Form, FormError>
     ensures found { IfOk result (IsFormOf asked input.now) }
     ensures asked { (form : Form) → asked ≡ Some form → result ≡ Ok form }
+    ensures none { IfErr result (λ e. (asked ≡ None) × FindsNoForm input.now e) }
 {
     match asked {
         Some(form) => Ok(form),
@@ -76,12 +82,15 @@ fn act_on_decoded<W: Write, X: Write>(
     out: &mut W,
     err: &mut X,
 ) -> io::Result<bool>
-    ensures { options.now.has_several_files ≡ false → IfOk result (λ ok. IsTrue ok
-        → IsOkAnd decoded (λ v. Writes options.now.action options.now v.items
+    ensures read { IfOk result (λ ok. IsTrue ok → IsOkAnd decoded (λ v. WritesFile options.now name.now v.items
         (W.contents out.old) (W.contents out.new))) }
+    ensures refused { IfOk result (λ ok. ok ≡ false → MatchResult decoded
+        (λ v. RefusesFile options.now name.now v.items (W.contents out.old) (W.contents out.new))
+        (λ e. e ≢ FormError.OutOfMemory)) }
 {
     match decoded {
         Ok(octets) => act_on_file(alloc, options, name, &octets, out, err),
+        Err(FormError::OutOfMemory) => Err(io::Error::from(ErrorKind::OutOfMemory)),
         Err(e) => refuse_file(options, name, e, out, err),
     }
 }
@@ -97,9 +106,10 @@ fn act_on_file<W: Write, X: Write>(
 ) -> io::Result<bool>
     ensures checked { options.now.action ≡ Action.Check
         → IfOk result (λ ok. IsTrue ok ↔ AreElements options.now.rules 101 octets.now) }
-    ensures written { options.now.has_several_files ≡ false → IfOk result (λ ok. IsTrue ok
-        → Writes options.now.action options.now octets.now (W.contents out.old) (W.contents out.new)) }
-    ensures refused { IfOk result (λ ok. ok ≡ false → IsRefusedBy options.now.action options.now octets.now) }
+    ensures written { IfOk result (λ ok. IsTrue ok
+        → WritesFile options.now name.now octets.now (W.contents out.old) (W.contents out.new)) }
+    ensures refused { IfOk result (λ ok. ok ≡ false
+        → RefusesFile options.now name.now octets.now (W.contents out.old) (W.contents out.new)) }
 {
     write_heading(options, name, out)?;
     act(
@@ -114,12 +124,23 @@ fn act_on_file<W: Write, X: Write>(
 
 /// Writes the name of a file, before its tree if there are several.
 fn write_heading<W: Write>(options: &Options, name: &str, out: &mut W) -> io::Result<()>
-    ensures { options.now.has_several_files ≡ false → out.new ≡ out.old }
+    ensures { OnOk result (MatchBool options.now.has_several_files
+        (WritesName options.now.action name.now (W.contents out.old) (W.contents out.new))
+        (W.contents out.new ≡ W.contents out.old)) }
 {
-    if options.has_several_files && options.action == Action::Tree {
-        writeln!(out, "{name}:")
-    } else {
-        Ok(())
+    if options.has_several_files {
+        return write_name(options, name, out);
+    }
+    Ok(())
+}
+
+/// Writes the name of a file, before its tree.
+fn write_name<W: Write>(options: &Options, name: &str, out: &mut W) -> io::Result<()>
+    ensures { OnOk result (WritesName options.now.action name.now (W.contents out.old) (W.contents out.new)) }
+{
+    match options.action {
+        Action::Tree => writeln!(out, "{name}:"),
+        Action::Check | Action::Json | Action::Canon => Ok(()),
     }
 }
 
@@ -139,7 +160,8 @@ fn act<W: Write, X: Write>(
     ensures inside { (block : BlockName) → origin.entry.block ≡ Some block → IfOk result (λ ok. IsTrue ok
         → WritesInside options.now.action options.now block.label.now octets.now
         (W.contents out.old) (W.contents out.new)) }
-    ensures refused { IfOk result (λ ok. ok ≡ false → IsRefusedBy options.now.action options.now octets.now) }
+    ensures refused { IfOk result (λ ok. ok ≡ false → IsRefusedBy options.now.action options.now octets.now
+        (W.contents out.old) (W.contents out.new)) }
 {
     match options.action {
         Action::Check => check(options, origin, octets, out),
@@ -175,8 +197,9 @@ fn act_on_blocks<W: Write, X: Write>(
     out: &mut W,
     err: &mut X,
 ) -> io::Result<bool>
-    ensures { IfOk result (λ ok. IsTrue ok → (n : ℕ) × (0 < n)
+    ensures read { IfOk result (λ ok. IsTrue ok → (n : ℕ) × (0 < n)
         × ReadsBlocks options.now name.now n text.now (W.contents out.old) (W.contents out.new)) }
+    ensures refused { IfOk result (λ ok. ok ≡ false → RefusesBlocks options.now text.now) }
 {
     let mut rest = text;
     let mut are_read = true;
@@ -206,8 +229,10 @@ fn act_on_block<W: Write, X: Write>(
     out: &mut W,
     err: &mut X,
 ) -> io::Result<bool>
-    ensures { IfOk result (λ ok. IsTrue ok → ReadsBlock options.now name.now (label_of block.now) (lines_of block.now)
+    ensures read { IfOk result (λ ok. IsTrue ok
+        → ReadsBlock options.now name.now (label_of block.now) (lines_of block.now)
         (W.contents out.old) (W.contents out.new)) }
+    ensures refused { IfOk result (λ ok. ok ≡ false → RefusesBlock options.now (lines_of block.now)) }
 {
     let label = block.label;
     write_label(options, name, label, out)?;
@@ -219,6 +244,7 @@ fn act_on_block<W: Write, X: Write>(
     };
     match block.decode(alloc) {
         Ok(octets) => act(alloc, options, origin, octets.as_slice(), out, err),
+        Err(FormError::OutOfMemory) => Err(io::Error::from(ErrorKind::OutOfMemory)),
         Err(e) => refuse_form(options, origin, e, out, err),
     }
 }

@@ -1,5 +1,6 @@
 //! The program between its streams.
-ghost use Rattle.std.specs.Prelude.{◌≡◌, ◌≢◌, ◌≤◌, ◌↔◌, IfErr, IfOk, IfSome, IsTrue, Some, codes, false, nat_lt, string_len};
+ghost use Rattle.std.specs.Prelude.{◌≡◌, ◌≢◌, ◌≤◌, ◌↔◌, IfErr, IfOk, IfSome, IsTrue, Some};
+ghost use Rattle.std.specs.Prelude.{codes, false, nat_lt, string_len};
 ghost use Rattle.std.specs.IoError.{error_kind};
 ghost use Rattle.std.specs.Process.{exit_status};
 ghost use Rattle.std.specs.declared.io.ErrorKind.{ErrorKind};
@@ -52,6 +53,7 @@ pub fn program<R: Env + Files + AllocGlobal, I: Read + Drop, W: Write + Drop, X:
 fn status_after<X: Write>(e: io::Error, err: &mut X) -> u8
     ensures closed { error_kind e ≡ ErrorKind.BrokenPipe → result ≡ 141 }
     ensures refused { error_kind e ≢ ErrorKind.BrokenPipe → result ≡ 1 }
+    ensures quiet { error_kind e ≡ ErrorKind.BrokenPipe → err.new ≡ err.old }
 {
     if e.kind() == ErrorKind::BrokenPipe {
         return CLOSED_PIPE;
@@ -184,9 +186,8 @@ fn run_reader<I: Read + Drop, W: Write, X: Write>(
 ) -> io::Result<bool>
     ensures checked { options.now.action ≡ Action.Check → options.now.form ≡ Some Form.Der → IfOk result
         (λ ok. IfSome (I.remaining input) (λ octets. IsTrue ok ↔ AreElements options.now.rules 101 octets)) }
-    ensures read { options.now.has_several_files ≡ false → IfOk result (λ ok. IsTrue ok
-        → IfSome (I.remaining input) (λ octets. ReadsInput options.now (codes "standard input") octets
-        (W.contents out.old) (W.contents out.new))) }
+    ensures read { IfOk result (λ ok. IsTrue ok → IfSome (I.remaining input) (λ octets.
+        ReadsInput options.now (codes "standard input") octets (W.contents out.old) (W.contents out.new))) }
 {
     let mut octets = Vec::new(alloc);
     input.read_to_end(&mut octets)?;

@@ -1,6 +1,6 @@
 //! The elements of an input as lines.
 ghost use Rattle.std.specs.Prelude.{◌≡◌, IfOk, IsTrue, false};
-ghost use Rattle.der_tool.specs.Outputs.{IsNoVisit, WritesTree};
+ghost use Rattle.der_tool.specs.Outputs.{RefusesTree, WritesTree};
 
 use crate::options::Options;
 use crate::origin::Origin;
@@ -23,7 +23,8 @@ pub(crate) fn print_tree<W: Write, X: Write>(
 ) -> io::Result<bool>
     ensures read { IfOk result (λ ok. IsTrue ok
         → WritesTree options.now octets.now (W.contents out.old) (W.contents out.new)) }
-    ensures refused { IfOk result (λ ok. ok ≡ false → IsNoVisit options.now octets.now) }
+    ensures refused { IfOk result (λ ok. ok ≡ false
+        → RefusesTree options.now octets.now (W.contents out.old) (W.contents out.new)) }
 {
     let mut walk = Walk::new(octets, options.rules, options.enters_strings).keeping_values();
     let mut room = Room::new(alloc);

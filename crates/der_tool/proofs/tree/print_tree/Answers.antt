@@ -1,4 +1,5 @@
 use Rattle.std.proofs.Common.{arith}
+use Rattle.std.proofs.KnownBytes.{Appends-kept}
 use Rattle.der_tool.specs.Outputs.{extras_of}
 use Rattle.der_tool.proofs.Printing.{printed_all, printed_few, printed_more, printed_none}
 use Rattle.der_tool.proofs.tree.print_tree.Goals as goal
@@ -22,7 +23,7 @@ pub returns-in-Err-clause-refused : goal.returns-in-Err-clause-refused
 returns-in-Err-clause-refused g c =
     let p = c.elements.invariant.printed in
     let refused = c.in-Err.ensures (extras_of c.args.options.now) c.args.options.now.rules c.args.octets.now p.elements p.visited in
-    λ no. refused.never
+    λ no. record { elements = p.elements; refused = (_, _, refused); text = p.text; lines = p.lines; adds = Appends-kept _ _ _ p.text p.adds c.in_ok-flush-in-Err.ensures.bytes }
 
 pub returns-clause-refused : goal.returns-clause-refused
 returns-clause-refused g c = λ no. printed_few c.elements.invariant.printed (omega arith)
