@@ -143,7 +143,27 @@ fn write_text<W: fmt::Write>(
         f.write_str(text)?;
         return Ok(true);
     }
-    write_pieces(f, Characters::Utf8(text), most)
+    write_characters(f, text, most)
+}
+
+/// Writes the first characters of a text, one by one. Returns whether those are all.
+fn write_characters<W: fmt::Write>(
+    f: &mut fmt::Formatter<W>,
+    text: &str,
+    most: usize,
+) -> Result<bool, fmt::Error>
+    ensures { WritesFirst W.Write.write_str_gives f.old result most
+        (map piece_text (map (λ c. Piece.Character c) (chars text.now))) f.new }
+{
+    let mut wanted = most;
+    for character in text.chars() {
+        if wanted == 0 {
+            return Ok(false);
+        }
+        write_character(f, character)?;
+        wanted -= 1;
+    }
+    Ok(true)
 }
 
 /// Whether it is seen at once that the characters of a text are written as they are. False says nothing.
