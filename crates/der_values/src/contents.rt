@@ -34,8 +34,9 @@ pub fn read_value<'a>(
     requires no_list { is_list tag.0 ≡ false }
     ensures { Decodes value_content (contents rules constructed tag.0) octets.now result }
 {
+    // `Ok(..?)` copies the answer of a call.
     if constructed {
-        read_constructed(rules, tag, octets)
+        Ok(read_constructed(rules, tag, octets)?)
     } else {
         read_primitive(rules, tag, octets)
     }
