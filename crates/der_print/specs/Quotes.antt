@@ -13,12 +13,15 @@ use Rattle.der_print.specs.declared.pieces.Piece.TheVariants.{Character, Octet}
 use Rattle.der_print.specs.declared.style.Limit.{Limit}
 use Rattle.der_print.specs.declared.style.Limit.TheVariants.{Whole, Front, Columns}
 
--- control characters, and marks that can't be seen or turn the direction of a text
+-- control characters, and characters that can't be seen or turn the direction of a text: those that are ignored where
+-- they can't be shown (Unicode's Default_Ignorable_Code_Point), the separators of lines, and marks of notes
 abbrev pub is_hidden : ℕ → Bool
 is_hidden c =
-    is_within 0 0x1f c || is_within 0x7f 0x9f c || c == 0xad || c == 0x61c || c == 0x180e || is_within 0x200b 0x200f c
-    || is_within 0x2028 0x202e c || is_within 0x2060 0x206f c || is_within 0xfe00 0xfe0f c || c == 0xfeff
-    || is_within 0xfff0 0xfffb c || is_within 0x1d173 0x1d17a c || is_within 0xe0000 0xe0fff c
+    is_within 0 0x1f c || is_within 0x7f 0x9f c || c == 0xad || c == 0x34f || c == 0x61c || is_within 0x115f 0x1160 c
+    || is_within 0x17b4 0x17b5 c || is_within 0x180b 0x180f c || is_within 0x200b 0x200f c || is_within 0x2028 0x202e c
+    || is_within 0x2060 0x206f c || c == 0x3164 || is_within 0xfe00 0xfe0f c || c == 0xfeff || c == 0xffa0
+    || is_within 0xfff0 0xfffb c || is_within 0x1bca0 0x1bca3 c || is_within 0x1d173 0x1d17a c
+    || is_within 0xe0000 0xe0fff c
 
 -- ASCII that is written as it is
 abbrev pub is_plain : ℕ → Bool
