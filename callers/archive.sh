@@ -8,7 +8,7 @@ made=$(realpath -m "$1")
 cd "$root/crates/dumarewhi_c"
 set -- --crate-name dumarewhi_c src/lib.rt --extern "std=$kit/rlibs/std.rlib" -L "dependency=$kit/rlibs"
 set -- "$@" --extern "itoa=$kit/rlibs/itoa.rlib"
-for library in der_base der_nodes der_check der_walk der_canon; do
+for library in der_base der_values der_nodes der_check der_walk der_canon; do
     set -- "$@" --extern "$library=$root/crates/$library/out/rlib/$library.rlib"
 done
 for library in der_base der_laws der_forms der_values der_nodes der_check der_walk der_canon; do

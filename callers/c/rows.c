@@ -369,7 +369,8 @@ static void test_booleans(void) {
     }
 }
 
-/* Identifiers: 8.19.5, RFC 5280 and RFC 3279; the greatest subidentifier of nine octets; two that are none. */
+/* Identifiers: 8.19.5, RFC 5280 and RFC 3279; the greatest subidentifiers of nine octets and of 128 bits; X.667; two
+   that are none. */
 static const struct {
     const char *hex;
     const char *text;
@@ -384,17 +385,20 @@ static const struct {
     {"7f", "2.47"},
     {"80 01", "0.1"},
     {"2a ff ff ff ff ff ff ff ff 7f", "1.2.9223372036854775807"},
+    {"2a 81 80 80 80 80 80 80 80 80 00", "1.2.9223372036854775808"},
+    {"69 83 f0 9d a7 eb cf de e0 c7 a1 a7 b2 c0 94 8c c8 f9 d7 76", "2.25.329800735698586629295641978511506172918"},
+    {"69 83 ff ff ff ff ff ff ff ff ff ff ff ff ff ff ff ff ff 7f", "2.25.340282366920938463463374607431768211455"},
     {"", ""},
     {"2a 86", NULL},
-    {"2a 81 80 80 80 80 80 80 80 80 00", NULL},
+    {"69 84 80 80 80 80 80 80 80 80 80 80 80 80 80 80 80 80 80 00", NULL},
 };
 
 static void test_identifiers(void) {
     for (size_t i = 0; i < sizeof identifiers / sizeof *identifiers; i++) {
-        uint8_t content[16];
+        uint8_t content[32];
         size_t length = octets_of(identifiers[i].hex, content);
-        for (size_t room = 0; room <= 40; room++) {
-            uint8_t text[41];
+        for (size_t room = 0; room <= 48; room++) {
+            uint8_t text[49];
             size_t needed = 77;
             memset(text, '#', sizeof text);
             uint32_t result = dm_read_oid(content, length, text, room, &needed);

@@ -154,8 +154,7 @@ uint32_t dm_read_bool(const uint8_t *content, size_t length, uint8_t *value);
 
 /* An OBJECT IDENTIFIER (8.19) as arcs with points, such as 2.5.4.3. Writes the text without a 0 after it: its first
  * `room` octets, if it is longer. Writes the length of the whole text to `needed`. No octets have no arcs, and an
- * empty text. A padded arc (8.19.2) is taken. An error if a subidentifier has no last octet, or ten octets or
- * more. */
+ * empty text. A padded arc (8.19.2) is taken. An error if a subidentifier has no last octet, or is 2^128 or more. */
 uint32_t dm_read_oid(const uint8_t *content, size_t length, uint8_t *text, size_t room, size_t *needed);
 
 /* Whether the octets are a text of the string type with this tag number (8.23). In their character sets: 18

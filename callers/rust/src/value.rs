@@ -54,7 +54,7 @@ const SHORT_TEXT: usize = 256;
 
 impl<'a> ObjectIdentifier<'a> {
     /// The identifier with these content octets. An error if the last octet isn't the end of an arc, or if
-    /// an arc is too large.
+    /// a subidentifier is 2^128 or more.
     pub fn from_content(content: &'a [u8]) -> Result<ObjectIdentifier<'a>, Reason> {
         ffi::read_oid(content, &mut []).map_err(Reason)?;
         Ok(ObjectIdentifier(content))

@@ -87,6 +87,15 @@ fn identifiers() {
             &[0x2a, 0xff, 0xff, 0xff, 0xff, 0xff, 0xff, 0xff, 0xff, 0x7f],
             "1.2.9223372036854775807",
         ),
+        (
+            &[0x2a, 0x81, 0x80, 0x80, 0x80, 0x80, 0x80, 0x80, 0x80, 0x80, 0],
+            "1.2.9223372036854775808",
+        ),
+        (
+            // The UUID f81d4fae-7dec-11d0-a765-00a0c91e6bf6, as X.667 writes it.
+            b"\x69\x83\xf0\x9d\xa7\xeb\xcf\xde\xe0\xc7\xa1\xa7\xb2\xc0\x94\x8c\xc8\xf9\xd7\x76",
+            "2.25.329800735698586629295641978511506172918",
+        ),
     ];
     for (content, text) in rows {
         let oid = ObjectIdentifier::from_content(content).unwrap();
@@ -115,10 +124,12 @@ fn long_identifiers() {
 #[test]
 fn identifiers_that_are_cut_have_no_text() {
     assert!(ObjectIdentifier::from_content(&[0x55, 0x84]).is_err());
-    assert!(
-        ObjectIdentifier::from_content(&[0x2a, 0x81, 0x80, 0x80, 0x80, 0x80, 0x80, 0x80, 0x80, 0x80, 0])
-            .is_err()
-    );
+    let mut content = [0x80; 20];
+    content[..2].copy_from_slice(&[0x69, 0x84]);
+    content[19] = 0;
+    assert!(ObjectIdentifier::from_content(&content).is_err());
+    content[1] = 0x83;
+    assert!(ObjectIdentifier::from_content(&content).is_ok());
     let any = Any::from_der(&[6, 2, 0x55, 0x84]).unwrap();
     assert!(matches!(any.as_oid().unwrap_err().kind(), ErrorKind::Value(_)));
 }

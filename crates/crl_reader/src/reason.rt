@@ -60,7 +60,7 @@ impl Reason {
 pub fn reason_of(extension: &Extension<'_>) -> Result<Option<Reason>, Refusal<BerError>>
     ensures { ReadsWhole (IsReasonOf (extension_of extension.now)) (λ v. v) Never result }
 {
-    let identifier = &extension.identifier;
+    let identifier = extension.identifier;
     if identifier.is_relative() || identifier.as_bytes() != REASON_CODE {
         return Ok(None);
     }

@@ -11,18 +11,17 @@ ghost use Rattle.der_base.specs.Leaf.{is_time};
 ghost use Rattle.der_base.specs.Numbers.{signed, unsigned};
 ghost use Rattle.der_base.specs.Text.{is_text_type};
 ghost use Rattle.der_cursor.specs.Cursors.{FindsPrimitive, ReadsValue, Takes, number_wanted};
-ghost use Rattle.der_values.specs.Kinds.{absolute_octets, bit_strings, booleans, enumerated_numbers, identifiers};
+ghost use Rattle.der_values.specs.Kinds.{bit_strings, booleans, borrowed_octets, enumerated_numbers, identifiers};
 ghost use Rattle.der_values.specs.Kinds.{integers, nulls, numbers, octet_strings, texts, times};
 
 use crate::cursor::Cursor;
 use crate::refusal::Refusal;
 use der_base::error::{BerError, Err as Refused};
 use der_base::header::Tag;
-use der_base::oid::Oid;
 use der_base::time::ASN1DateTime;
 use der_values::{
-    BitString, read_bits, read_bool, read_enumerated, read_i32, read_i64, read_integer, read_null,
-    read_oid, read_text, read_time, read_u32, read_u64,
+    BitString, ObjectIdentifier, read_bits, read_bool, read_enumerated, read_i32, read_i64,
+    read_identifier, read_integer, read_null, read_text, read_time, read_u32, read_u64,
 };
 
 impl<'a> Cursor<'a> {
@@ -106,12 +105,12 @@ impl<'a> Cursor<'a> {
         self.take(rest, read_null(self.rules, octets))
     }
 
-    /// An OBJECT IDENTIFIER (8.19), as `read_oid`: one whose arcs are padded is refused.
-    pub fn oid(&mut self) -> Result<Oid<'a>, Refusal<BerError>>
-        ensures { ReadsValue absolute_octets identifiers 6 self.old result self.new }
+    /// An OBJECT IDENTIFIER (8.19), as `read_identifier`: one whose arcs are padded is refused.
+    pub fn oid(&mut self) -> Result<ObjectIdentifier<'a>, Refusal<BerError>>
+        ensures { ReadsValue borrowed_octets identifiers 6 self.old result self.new }
     {
         let (rest, octets) = self.primitive(Tag::Oid)?;
-        self.take(rest, read_oid(octets))
+        self.take(rest, read_identifier(octets))
     }
 
     /// The text of a string type that is kept as a text (8.23), as `read_text`.

@@ -6,7 +6,7 @@ ghost use Rattle.der_base.specs.Octets.{class_number, groups};
 ghost use Rattle.der_cursor.specs.Cursors.{octets_left, IsNextType, ReadsAnyAt, ReadsOptional, ReadsOr};
 ghost use Rattle.der_cursor.specs.Cursors.{ReadsTime};
 ghost use Rattle.der_cursor.specs.Elements.{IsNext};
-ghost use Rattle.der_values.specs.Kinds.{absolute_octets, bit_strings, booleans, identifiers, integers, numbers};
+ghost use Rattle.der_values.specs.Kinds.{bit_strings, booleans, borrowed_octets, identifiers, integers, numbers};
 ghost use Rattle.der_values.specs.Kinds.{octet_strings, texts, times};
 
 use crate::cursor::{Cursor, class_of, read_any};
@@ -14,10 +14,9 @@ use crate::refusal::Refusal;
 use der_base::any::Any;
 use der_base::error::{BerError, Err as Refused, refuse_cut_item};
 use der_base::header::{Class, Tag};
-use der_base::oid::Oid;
 use der_base::rules::Rules;
 use der_base::time::ASN1DateTime;
-use der_values::BitString;
+use der_values::{BitString, ObjectIdentifier};
 
 impl<'a> Cursor<'a> {
     /// Whether the next element has this class and tag number, by its identifier octets (X.690 8.1.2).
@@ -126,8 +125,8 @@ impl<'a> Cursor<'a> {
     }
 
     /// An OBJECT IDENTIFIER, if it is next.
-    pub fn optional_oid(&mut self) -> Result<Option<Oid<'a>>, Refusal<BerError>>
-        ensures { ReadsOptional absolute_octets identifiers 6 self.old result self.new }
+    pub fn optional_oid(&mut self) -> Result<Option<ObjectIdentifier<'a>>, Refusal<BerError>>
+        ensures { ReadsOptional borrowed_octets identifiers 6 self.old result self.new }
     {
         if !self.is_next_type(Tag::Oid) {
             self.advance(self.left);

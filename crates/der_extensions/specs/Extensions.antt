@@ -19,7 +19,7 @@ use Rattle.der_extensions.specs.declared.name_constraints.GeneralSubtree.{Genera
 use Rattle.der_extensions.specs.declared.name_constraints.NameConstraints as names
 use Rattle.der_extensions.specs.GeneralNames.{GeneralName, GeneralNames, NameValue, RelativeDistinguishedName, name_of}
 use Rattle.der_extensions.specs.Lists.{SomeOf, list_octets}
-use Rattle.der_values.specs.Kinds.{absolute_octets}
+use Rattle.der_values.specs.Kinds.{borrowed_octets}
 use Rattle.der_x509.specs.Certificates.{bits_of}
 
 abbrev pub ConstraintsValue : Type 0
@@ -90,7 +90,7 @@ abbrev pub AuthorityInfoAccessSyntax : Format (List ℕ)
 AuthorityInfoAccessSyntax = Sequence (SomeOf (Required AccessDescription))
 
 abbrev pub access_of : AccessStruct → AccessValue
-access_of x = (absolute_octets x.access_method, (name_of x.access_location, tt))
+access_of x = (borrowed_octets x.access_method, (name_of x.access_location, tt))
 
 abbrev pub QualifierValue : Type 0
 QualifierValue = List ℕ × (Element × Unit {0})
@@ -121,10 +121,10 @@ abbrev pub CertificatePolicies : Format (List ℕ)
 CertificatePolicies = Sequence (SomeOf (Required PolicyInformation))
 
 abbrev pub qualifier_of : qualifier.PolicyQualifierInfo → QualifierValue
-qualifier_of x = (absolute_octets x.policy_qualifier_id, (element_of x.qualifier, tt))
+qualifier_of x = (borrowed_octets x.policy_qualifier_id, (element_of x.qualifier, tt))
 
 abbrev pub policy_of : PolicyStruct → PolicyValue
-policy_of x = (absolute_octets x.policy_identifier, (option_map list_octets x.policy_qualifiers, tt))
+policy_of x = (borrowed_octets x.policy_identifier, (option_map list_octets x.policy_qualifiers, tt))
 
 -- a name by its kind, as the octets of its list
 pub data PointNameValue : Type 0 where

@@ -6,7 +6,7 @@ use Rattle.der_extensions.specs.declared.general_name.GeneralName.{GeneralName a
 use Rattle.der_extensions.specs.declared.general_name.GeneralName.TheVariants as kind
 use Rattle.der_extensions.specs.declared.general_name.OtherName.{OtherName as OtherStruct}
 use Rattle.der_extensions.specs.Lists.{ListOf, SomeOf}
-use Rattle.der_values.specs.Kinds.{absolute_octets}
+use Rattle.der_values.specs.Kinds.{borrowed_octets}
 use Rattle.der_x509.specs.declared.name.AttributeTypeAndValue.{AttributeTypeAndValue as AttributeStruct}
 
 abbrev pub AttributeValue : Type 0
@@ -81,10 +81,10 @@ unfoldable pub Chosen : {V W : Type 0} → (V → W) → Field V → Field W
 Chosen {V} alternative F r i w rest = (v : V) × (w ≡ alternative v) × F r i v rest
 
 abbrev pub attribute_of : AttributeStruct → AttributeValue
-attribute_of a = (absolute_octets a.identifier, (element_of a.value, tt))
+attribute_of a = (borrowed_octets a.identifier, (element_of a.value, tt))
 
 abbrev pub other_name_of : OtherStruct → OtherNameValue
-other_name_of n = (absolute_octets n.type_id, (element_of n.value, tt))
+other_name_of n = (borrowed_octets n.type_id, (element_of n.value, tt))
 
 abbrev pub name_of : NameEnum → NameValue
 name_of (kind.OtherName n) = other_name (other_name_of n)
@@ -95,4 +95,4 @@ name_of (kind.DirectoryName n) = directory_name n.octets.now
 name_of (kind.EdiPartyName w) = edi_party_name w.now
 name_of (kind.UniformResourceIdentifier s) = uniform_resource_identifier s.now
 name_of (kind.IpAddress w) = ip_address w.now
-name_of (kind.RegisteredId x) = registered_id (absolute_octets x)
+name_of (kind.RegisteredId x) = registered_id (borrowed_octets x)

@@ -2,11 +2,11 @@
 use Rattle.std.specs.Prelude.{◌≡◌, ◌≢◌, ℕ, List, [], ◌∷◌, Some, Result, Ok}
 use Rattle.std.specs.Result.{result_map_both}
 use Rattle.der_base.specs.declared.error.Error.{Error as BerError}
-use Rattle.der_base.specs.declared.oid.Oid.{Oid}
 use Rattle.der_base.specs.declared.rules.Rules.TheVariants.{Der}
 use Rattle.der_cursor.specs.declared.refusal.Refusal.{Refusal}
 use Rattle.der_cursor.specs.Formats.{Format, Never, OctetString, ReadsInput}
-use Rattle.der_values.specs.Kinds.{absolute_arcs}
+use Rattle.der_values.specs.declared.identifier.ObjectIdentifier.{ObjectIdentifier}
+use Rattle.der_values.specs.Kinds.{borrowed_arcs}
 use Rattle.der_x509.specs.declared.extension.Extension.{Extension}
 use Rattle.der_extensions.specs.declared.value.Kind.{Kind}
 use Rattle.der_extensions.specs.declared.value.Kind.TheVariants as kind
@@ -52,14 +52,14 @@ every_kind =
     kind.AuthorityKeyIdentifier ∷ kind.SubjectKeyIdentifier ∷ kind.KeyUsage ∷ kind.CertificatePolicies
     ∷ kind.SubjectAltName ∷ kind.IssuerAltName ∷ kind.BasicConstraints ∷ further_kinds
 
-abbrev pub IsNone : List Kind → Oid → Type 0
+abbrev pub IsNone : List Kind → ObjectIdentifier → Type 0
 IsNone [] x = Unit {0}
-IsNone (k ∷ ks) x = (absolute_arcs x ≢ Some (arcs_of k)) × IsNone ks x
+IsNone (k ∷ ks) x = (borrowed_arcs x ≢ Some (arcs_of k)) × IsNone ks x
 
 -- the identifier has the arcs of this kind; Other is one that has those of none of the kinds
-abbrev pub IsKindIn : List Kind → Oid → Kind → Type 0
+abbrev pub IsKindIn : List Kind → ObjectIdentifier → Kind → Type 0
 IsKindIn ks x kind.Other = IsNone ks x
-IsKindIn ks x k = absolute_arcs x ≡ Some (arcs_of k)
+IsKindIn ks x k = borrowed_arcs x ≡ Some (arcs_of k)
 
 -- the value of the extension is read as one of this format
 module _ (w : List ℕ) (result : Result ExtensionValue (Refusal BerError)) where

@@ -11,8 +11,8 @@ use crate::list::{Item, SequenceOf, read_list, read_optional};
 use der_base::any::Any;
 use der_base::error::BerError;
 use der_base::header::{Class, Tag};
-use der_base::oid::Oid;
 use der_cursor::{Cursor, Refusal};
+use der_values::ObjectIdentifier;
 
 /// Policies, one at least.
 pub type CertificatePolicies<'a> = SequenceOf<'a, PolicyInformation<'a>>;
@@ -20,7 +20,7 @@ pub type CertificatePolicies<'a> = SequenceOf<'a, PolicyInformation<'a>>;
 /// A policy.
 #[derive(Debug, Drop)]
 pub struct PolicyInformation<'a> {
-    pub policy_identifier: Oid<'a>,
+    pub policy_identifier: ObjectIdentifier<'a>,
     /// One at least, if there are any.
     pub policy_qualifiers: Option<SequenceOf<'a, PolicyQualifierInfo<'a>>>,
 }
@@ -28,7 +28,7 @@ pub struct PolicyInformation<'a> {
 /// What is said of a policy, as where its statement is.
 #[derive(Debug, Drop)]
 pub struct PolicyQualifierInfo<'a> {
-    pub policy_qualifier_id: Oid<'a>,
+    pub policy_qualifier_id: ObjectIdentifier<'a>,
     /// Of a type that the identifier names. Its content isn't looked into.
     pub qualifier: Any<'a>,
 }

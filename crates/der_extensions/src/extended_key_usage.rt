@@ -7,38 +7,38 @@ ghost use Rattle.der_extensions.specs.Lists.{list_octets};
 use crate::list::{Item, SequenceOf, read_list};
 use der_base::error::BerError;
 use der_base::header::{Class, Tag};
-use der_base::oid::Oid;
 use der_cursor::{Cursor, Refusal};
+use der_values::ObjectIdentifier;
 
 /// The purposes of a key, one at least.
-pub type ExtendedKeyUsage<'a> = SequenceOf<'a, Oid<'a>>;
+pub type ExtendedKeyUsage<'a> = SequenceOf<'a, ObjectIdentifier<'a>>;
 
 /// Reads the value of an ExtendedKeyUsage by DER: the identifiers of purposes, of which there is one at
 /// least. Octets left over are refused.
 pub fn read_extended_key_usage(octets: &[u8]) -> Result<ExtendedKeyUsage<'_>, Refusal<BerError>>
     ensures { ReadsInput Rules.Der ExtKeyUsageSyntax list_octets Never octets.now result }
 {
-    match read_list::<Oid<'_>, BerError>(octets) {
+    match read_list::<ObjectIdentifier<'_>, BerError>(octets) {
         Ok(purposes) => Ok(purposes),
         Err(e) => Err(e.of_element(Cursor::new(octets), Class::Universal, true, Tag::Sequence)),
     }
 }
 
-impl<'a> Item<'a, BerError> for Oid<'a> {
+impl<'a> Item<'a, BerError> for ObjectIdentifier<'a> {
     ghost use Rattle.std.specs.Prelude.{List, ℕ};
-    ghost use Rattle.der_cursor.specs.Formats.{ObjectIdentifier, Required};
+    ghost use Rattle.der_cursor.specs.Formats.{ObjectIdentifier as IdentifierFormat, Required};
     ghost use Rattle.der_cursor.proofs.FormatLaws.{required_takes};
-    ghost use Rattle.der_values.specs.Kinds.{absolute_octets};
+    ghost use Rattle.der_values.specs.Kinds.{borrowed_octets};
 
     ghost Value = { List ℕ };
 
-    ghost field = { Required ObjectIdentifier };
+    ghost field = { Required IdentifierFormat };
 
-    ghost view = { absolute_octets };
+    ghost view = { borrowed_octets };
 
-    fn read(purposes: &mut Cursor<'a>) -> Result<Oid<'a>, Refusal<BerError>> {
+    fn read(purposes: &mut Cursor<'a>) -> Result<ObjectIdentifier<'a>, Refusal<BerError>> {
         purposes.oid()
     }
 
-    ghost takes = { required_takes ObjectIdentifier };
+    ghost takes = { required_takes IdentifierFormat };
 }

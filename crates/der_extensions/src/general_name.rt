@@ -1,7 +1,8 @@
 //! Names of nine kinds (RFC 5280 4.2.1.6).
 ghost use Rattle.der_base.specs.declared.rules.Rules.{Rules};
-ghost use Rattle.der_cursor.specs.Formats.{AnyElement, Explicit, Implicit, Never, ObjectIdentifier, OctetString};
-ghost use Rattle.der_cursor.specs.Formats.{Octets, ReadsField, ReadsInput, Required, Sequence, Text, element_of};
+ghost use Rattle.der_cursor.specs.Formats.{AnyElement, Explicit, Implicit, Never, ObjectIdentifier as IdentifierFormat};
+ghost use Rattle.der_cursor.specs.Formats.{OctetString, Octets, ReadsField, ReadsInput, Required, Sequence, Text};
+ghost use Rattle.der_cursor.specs.Formats.{element_of};
 ghost use Rattle.der_extensions.specs.GeneralNames.{Chosen, GeneralName as AnyName, GeneralNames as NamesFormat};
 ghost use Rattle.der_extensions.specs.GeneralNames.{Name as NameFormat, OtherName as OtherNameFormat};
 ghost use Rattle.der_extensions.specs.GeneralNames.{directory_name, dns_name, edi_party_name, ip_address, name_of};
@@ -14,8 +15,8 @@ use crate::list::{Item, SequenceOf, read_list};
 use der_base::any::Any;
 use der_base::error::BerError;
 use der_base::header::{Class, Tag};
-use der_base::oid::Oid;
 use der_cursor::{Cursor, Refusal};
+use der_values::ObjectIdentifier;
 use der_x509::Name;
 
 /// Names, one at least.
@@ -39,13 +40,13 @@ pub enum GeneralName<'a> {
     /// The octets of an address: 4 of IPv4 and 16 of IPv6, and in name constraints as many again for the
     /// mask. Their number isn't asked.
     IpAddress(&'a [u8]),
-    RegisteredId(Oid<'a>),
+    RegisteredId(ObjectIdentifier<'a>),
 }
 
 /// A name of a kind that its identifier says.
 #[derive(Debug, Drop)]
 pub struct OtherName<'a> {
-    pub type_id: Oid<'a>,
+    pub type_id: ObjectIdentifier<'a>,
     /// Of a type that the identifier names. Its content isn't looked into.
     pub value: Any<'a>,
 }
@@ -235,7 +236,7 @@ fn read_ip_address<'a>(names: &mut Cursor<'a>) -> Result<GeneralName<'a>, Refusa
 }
 
 fn read_registered_id<'a>(names: &mut Cursor<'a>) -> Result<GeneralName<'a>, Refusal<BerError>>
-    ensures { ReadsField (Chosen registered_id (Required (Implicit 8 ObjectIdentifier))) name_of Never
+    ensures { ReadsField (Chosen registered_id (Required (Implicit 8 IdentifierFormat))) name_of Never
         names.old result names.new }
 {
     let identifier = names.implicit(8).oid()?;

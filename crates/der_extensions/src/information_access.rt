@@ -9,8 +9,8 @@ use crate::general_name::{GeneralName, read_general_name};
 use crate::list::{Item, SequenceOf, read_list};
 use der_base::error::BerError;
 use der_base::header::{Class, Tag};
-use der_base::oid::Oid;
 use der_cursor::{Cursor, Refusal};
+use der_values::ObjectIdentifier;
 
 /// Descriptions of information, one at least.
 pub type InformationAccess<'a> = SequenceOf<'a, AccessDescription<'a>>;
@@ -18,7 +18,7 @@ pub type InformationAccess<'a> = SequenceOf<'a, AccessDescription<'a>>;
 /// Which information it is, and where.
 #[derive(Debug, Drop)]
 pub struct AccessDescription<'a> {
-    pub access_method: Oid<'a>,
+    pub access_method: ObjectIdentifier<'a>,
     pub access_location: GeneralName<'a>,
 }
 

@@ -19,9 +19,8 @@ use crate::key_usage::{KeyUsage, read_key_usage};
 use crate::name_constraints::{NameConstraints, read_name_constraints};
 use crate::value::ExtensionValue as Value;
 use der_base::error::BerError;
-use der_base::oid::Oid;
 use der_cursor::Refusal;
-use der_values::HasArcs;
+use der_values::{HasArcs, ObjectIdentifier};
 use der_x509::Extension;
 
 /// The extensions whose values are read.
@@ -110,7 +109,7 @@ pub fn read_extension_value<'a>(extension: &Extension<'a>) -> Result<ExtensionVa
 }
 
 /// Which extension an identifier names.
-fn kind_of(identifier: &Oid<'_>) -> Kind
+fn kind_of(identifier: &ObjectIdentifier<'_>) -> Kind
     ensures { IsKindIn every_kind identifier.now result }
 {
     if identifier.is(AUTHORITY_KEY_IDENTIFIER) {
@@ -138,7 +137,7 @@ fn kind_of(identifier: &Oid<'_>) -> Kind
 }
 
 /// Which of the further extensions an identifier names.
-fn further_kind_of(identifier: &Oid<'_>) -> Kind
+fn further_kind_of(identifier: &ObjectIdentifier<'_>) -> Kind
     ensures { IsKindIn further_kinds identifier.now result }
 {
     if identifier.is(NAME_CONSTRAINTS) {

@@ -61,7 +61,9 @@ pub use Rattle.der_cursor.specs.Formats
 pub use Rattle.der_cursor.specs.Laws as CursorLaws
 pub use Rattle.der_cursor.specs.Named
 pub use Rattle.der_cursor.specs.Runs
+pub use Rattle.der_values.specs.ArcNumbers
 pub use Rattle.der_values.specs.Decimal
+pub use Rattle.der_values.specs.Identifiers
 pub use Rattle.der_values.specs.Kinds
 pub use Rattle.der_visit.specs.Changing
 pub use Rattle.der_visit.specs.Visiting

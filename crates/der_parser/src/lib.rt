@@ -106,7 +106,8 @@ pub mod cursor {
 pub mod values {
     pub use der_values::{
         BitString, HasArcs, known_oid, read_bits, read_bool, read_enumerated, read_i32, read_i64,
-        read_integer, read_null, read_oid, read_text, read_time, read_u32, read_u64, to_decimal,
+        read_identifier, read_integer, read_null, read_oid, read_text, read_time, read_u32,
+        read_u64, to_decimal,
     };
 }
 
@@ -123,6 +124,7 @@ pub mod nodes {
 pub mod oid {
     pub use der_base::error::OidParseError;
     pub use der_base::oid::{Oid, OidIter};
+    pub use der_values::{ArcNumber, Arcs, ObjectIdentifier, U128Arcs};
 }
 
 /// Laws of the definitions and of what is read and written. Each is a function with an empty body,

@@ -7,7 +7,7 @@ use Rattle.der_base.specs.declared.rules.Rules.TheVariants.{Der}
 use Rattle.der_base.specs.Numbers.{unsigned}
 use Rattle.der_base.specs.Refusal.{wrong_value}
 use Rattle.der_cursor.specs.declared.refusal.Refusal.{Refusal}
-use Rattle.der_values.specs.Kinds.{absolute_octets, bit_strings, identifiers, numbers}
+use Rattle.der_values.specs.Kinds.{bit_strings, borrowed_octets, identifiers, numbers}
 use Rattle.der_request.specs.declared.attribute.Attribute.{Attribute as AttributeStruct}
 use Rattle.der_request.specs.declared.refusal.Field.{Field}
 use Rattle.der_request.specs.declared.refusal.Field.TheVariants as field
@@ -115,7 +115,7 @@ SignedOctetsAreRead = (i : List ℕ) (c : Signed) → spells whole_request i c [
 
 -- What the values of the code stand for.
 abbrev pub attribute_of : AttributeStruct → Attribute
-attribute_of a = record { identifier = absolute_octets a.identifier; values = a.values.octets.now }
+attribute_of a = record { identifier = borrowed_octets a.identifier; values = a.values.octets.now }
 
 abbrev pub info_of : CertificationRequestInfo → Info
 info_of x = record {

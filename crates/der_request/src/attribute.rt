@@ -8,8 +8,8 @@ ghost use Rattle.der_x509.specs.Readers.{IsShorter, ReadsBy, ReadsToEnd, fault_o
 use der_base::any::Any;
 use der_base::error::BerError;
 use der_base::header::{Class, Tag};
-use der_base::oid::Oid;
 use der_cursor::{Cursor, Refusal};
+use der_values::ObjectIdentifier;
 
 /// The attributes of a request. They are kept as their octets, which were checked.
 #[derive(Clone, Copy, Debug)]
@@ -22,7 +22,7 @@ pub struct Attributes<'a> {
 #[derive(Debug, Drop)]
 pub struct Attribute<'a> {
     /// Its type.
-    pub identifier: Oid<'a>,
+    pub identifier: ObjectIdentifier<'a>,
     pub values: Values<'a>,
 }
 

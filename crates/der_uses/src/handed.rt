@@ -5,14 +5,14 @@ use der_parser::der::{
     parse_der_integer, parse_der_sequence_of, parse_der_sequence_of_v, parse_der_u32, parse_der_u64,
 };
 use der_parser::error::{BerError, BerResult, IResult};
-use der_parser::oid::Oid;
+use der_parser::oid::ObjectIdentifier;
 use der_parser::values::BitString;
 use std::alloc::Global;
 
 /// Some fields.
 #[derive(Drop)]
 pub struct Ticket<'a> {
-    pub identifier: Oid<'a>,
+    pub identifier: ObjectIdentifier<'a>,
     pub flags: BitString<'a>,
     pub number: u64,
     pub last: Any<'a>,
@@ -34,7 +34,10 @@ pub fn read_ticket(input: &[u8]) -> Result<Ticket<'_>, Refusal<BerError>> {
 }
 
 /// Reads a SEQUENCE OF identifiers.
-pub fn read_identifiers(alloc: Global, input: &[u8]) -> Result<Vec<Oid<'_>>, Refusal<BerError>> {
+pub fn read_identifiers(
+    alloc: Global,
+    input: &[u8],
+) -> Result<Vec<ObjectIdentifier<'_>>, Refusal<BerError>> {
     Cursor::new(input)
         .open_sequence()?
         .read_all(alloc, read_identifier)
@@ -43,7 +46,7 @@ pub fn read_identifiers(alloc: Global, input: &[u8]) -> Result<Vec<Oid<'_>>, Ref
 fn read_identifier<'a>(
     _alloc: Global,
     list: &mut Cursor<'a>,
-) -> Result<Oid<'a>, Refusal<BerError>> {
+) -> Result<ObjectIdentifier<'a>, Refusal<BerError>> {
     list.oid()
 }
 

@@ -1,11 +1,10 @@
 -- What has the octets of an OBJECT IDENTIFIER is one.
 use Rattle.std.proofs.Common.{◌≡◌, ◌≢◌, ℕ, Bool, true, false, List, [], None, refl, sym, ap, subst}
 use Rattle.std.specs.Prelude.{if◌then◌else◌}
-use Rattle.der_base.specs.declared.oid.Oid.{Oid}
 use Rattle.der_base.specs.Arcs.{arcs}
 use Rattle.der_base.specs.LeafRefusal.{NoneHolds}
-use Rattle.der_base.specs.Oids.{is_relative_of, octets_of}
-use Rattle.der_values.specs.Kinds.{EndsSubidentifier, absolute_arcs, absolute_octets, identifiers}
+use Rattle.der_values.specs.declared.identifier.ObjectIdentifier.{ObjectIdentifier}
+use Rattle.der_values.specs.Kinds.{EndsSubidentifier, borrowed_arcs, borrowed_octets, identifiers}
 
 -- no octets are those of an OBJECT IDENTIFIER
 no_end : EndsSubidentifier [] → ⊥
@@ -22,9 +21,9 @@ arcs_told : (relative : Bool) (own w : List ℕ) → relative ≡ false → own 
 arcs_told true own w r e = absurd (cc)
 arcs_told false own w r e = ap (arcs false) e
 
-module _ (x : Oid) (w : List ℕ) (n : NoneHolds (identifiers.tests w)) (e : absolute_octets x ≡ w) where
-  pub identifier_is : (is_relative_of x ≡ false) × (octets_of x ≡ w)
-  identifier_is = told (is_relative_of x) (octets_of x) w (not_empty w n) e
+module _ (x : ObjectIdentifier) (w : List ℕ) (n : NoneHolds (identifiers.tests w)) (e : borrowed_octets x ≡ w) where
+  pub identifier_is : (x.relative ≡ false) × (x.octets.now ≡ w)
+  identifier_is = told x.relative x.octets.now w (not_empty w n) e
 
-  pub identifier_arcs : absolute_arcs x ≡ arcs false w
-  identifier_arcs = arcs_told (is_relative_of x) (octets_of x) w identifier_is.0 identifier_is.1
+  pub identifier_arcs : borrowed_arcs x ≡ arcs false w
+  identifier_arcs = arcs_told x.relative x.octets.now w identifier_is.0 identifier_is.1

@@ -7,6 +7,7 @@ pub mod Identifiers
 mod OctetNumbers
 mod PaddedArcs
 mod RuleLaws
+mod SmallArcs
 mod Subidentifiers
 mod TimeTests
 mod UnusedBits

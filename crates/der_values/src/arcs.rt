@@ -93,7 +93,7 @@ impl<'a> Iterator for Arcs<'a> {
 }
 
 /// Whether each subidentifier has a last octet.
-fn are_ended(octets: &[u8]) -> bool
+pub(crate) fn are_ended(octets: &[u8]) -> bool
     ensures { result ≡ list_all ends_below_128 (subidentifiers octets.now) }
 {
     if octets.is_empty() {
@@ -103,7 +103,7 @@ fn are_ended(octets: &[u8]) -> bool
 }
 
 /// The first subidentifier, and the octets after it. None if there are no octets.
-fn split_groups(octets: &[u8]) -> Option<(&[u8], &[u8])>
+pub(crate) fn split_groups(octets: &[u8]) -> Option<(&[u8], &[u8])>
     requires { AreEnded octets.now }
     ensures { MatchOption result (octets.now ≡ [])
         (λ x. (subidentifiers octets.now ≡ x.0.now ∷ subidentifiers x.1.now) × AreEnded x.1.now) }
@@ -135,7 +135,7 @@ fn first_arcs(groups: &[u8]) -> (ArcNumber<'_>, ArcNumber<'_>)
 }
 
 /// The number that groups of seven bits spell, if it is below 2^128.
-fn number_of(groups: &[u8]) -> Option<u128>
+pub(crate) fn number_of(groups: &[u8]) -> Option<u128>
     ensures { SomeIff result (groups_value 0 groups.now < 2 ^ 128) (groups_value 0 groups.now) }
 {
     let mut number: u128 = 0;

@@ -1,12 +1,9 @@
 //! Identifiers by their content octets.
-ghost use Rattle.std.specs.Prelude.{◌≡◌, false, true, Some};
-ghost use Rattle.der_base.specs.Arcs.{arcs};
+ghost use Rattle.std.specs.Prelude.{◌≡◌, false, true};
 ghost use Rattle.der_base.specs.Oids.{IsBorrowed, is_relative_of, octets_of};
-ghost use Rattle.der_base.specs.Pretty.{arcs_text};
 
 use der_base::oid::Oid;
 use std::borrow::CowSlice;
-use std::fmt;
 
 /// An OBJECT IDENTIFIER or a RELATIVE-OID by its content octets (X.690 8.19, 8.20). It owns no memory, so
 /// code that has one reaches no allocator.
@@ -76,15 +73,5 @@ impl<'a> ObjectIdentifier<'a> {
         ensures { result ≡ self.entry.relative }
     {
         self.relative
-    }
-}
-
-/// The text of the `Oid`: arcs with points between them, or octets in hexadecimal.
-impl fmt::Display for ObjectIdentifier<'_> {
-    ghost output = { λ x. Some (arcs_text (arcs x.relative x.octets.now) x.octets.now) };
-
-    fn fmt<W: fmt::Write>(&self, f: &mut fmt::Formatter<W>) -> fmt::Result {
-        let oid = self.to_oid();
-        write!(f, "{oid}")
     }
 }

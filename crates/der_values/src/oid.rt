@@ -3,14 +3,12 @@ ghost use Rattle.std.specs.Prelude.{◌≡◌, ◌↔◌, ◌⊎◌, [], ◌∷�
 ghost use Rattle.std.specs.Option.{option_map};
 ghost use Rattle.der_base.specs.Arcs.{arcs, first_arcs};
 ghost use Rattle.der_base.specs.OidArcs.{octets_of_arcs};
-ghost use Rattle.der_base.specs.Oids.{IsBorrowed, is_relative_of, octets_of};
 ghost use Rattle.der_values.specs.Kinds.{Decodes, EndsSubidentifier, HasPaddedArc, absolute_arcs, absolute_octets};
 ghost use Rattle.der_values.specs.Kinds.{borrowed_arcs, borrowed_octets, identifiers};
 
 use crate::identifier::ObjectIdentifier;
 use der_base::error::BerError;
 use der_base::oid::Oid;
-use std::borrow::CowSlice;
 
 /// The OBJECT IDENTIFIER with these content octets (X.690 8.19). BerValueError if there are none, if the last
 /// arc has no end, or if an arc begins with an octet of 0x80 (8.19.2). An arc may have any size.
@@ -51,13 +49,12 @@ pub(crate) fn ends_subidentifier(octets: &[u8]) -> bool
 /// ```
 /// let key_usage = known_oid(&[2, 5, 29, 15], b"\x55\x1d\x0f");
 /// ```
-pub fn known_oid<'a>(_arcs: &[u64], octets: &'a [u8]) -> Oid<'a>
+pub fn known_oid<'a>(_arcs: &[u64], octets: &'a [u8]) -> ObjectIdentifier<'a>
     requires { octets_of_arcs false _arcs.now ≡ Ok octets.now }
-    ensures octets { octets_of result ≡ octets.now }
-    ensures absolute { is_relative_of result ≡ false }
-    ensures borrowed { IsBorrowed result }
+    ensures octets { result.octets.now ≡ octets.now }
+    ensures absolute { result.relative ≡ false }
 {
-    Oid::new(CowSlice::Borrowed(octets))
+    ObjectIdentifier::new(octets)
 }
 
 /// Whether an arc begins with an octet of 0x80 (X.690 8.19.2), as no OBJECT IDENTIFIER and no RELATIVE-OID

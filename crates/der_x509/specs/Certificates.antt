@@ -9,7 +9,7 @@ use Rattle.der_base.specs.Numbers.{unsigned}
 use Rattle.der_base.specs.Refusal.{wrong_value}
 use Rattle.der_cursor.specs.Elements.{Element, IsNext, element_of}
 use Rattle.der_values.specs.declared.bits.BitString.{BitString}
-use Rattle.der_values.specs.Kinds.{absolute_octets, bit_strings, booleans, identifiers, integers, numbers}
+use Rattle.der_values.specs.Kinds.{bit_strings, booleans, borrowed_octets, identifiers, integers, numbers}
 use Rattle.der_values.specs.Kinds.{octet_strings, times}
 use Rattle.der_x509.specs.declared.algorithm.AlgorithmIdentifier.{AlgorithmIdentifier}
 use Rattle.der_x509.specs.declared.algorithm.SubjectPublicKeyInfo.{SubjectPublicKeyInfo}
@@ -227,16 +227,16 @@ abbrev pub bits_of : BitString → ℕ × List ℕ
 bits_of b = (b.unused, b.octets.now)
 
 abbrev pub algorithm_of : AlgorithmIdentifier → Algorithm
-algorithm_of a = record { algorithm = absolute_octets a.algorithm; parameters = a.parameters.now }
+algorithm_of a = record { algorithm = borrowed_octets a.algorithm; parameters = a.parameters.now }
 
 abbrev pub key_info_of : SubjectPublicKeyInfo → KeyInfo
 key_info_of k = record { algorithm = algorithm_of k.algorithm; key = bits_of k.subject_public_key }
 
 abbrev pub attribute_of : AttributeTypeAndValue → Attribute
-attribute_of a = record { identifier = absolute_octets a.identifier; value = element_of a.value }
+attribute_of a = record { identifier = borrowed_octets a.identifier; value = element_of a.value }
 
 abbrev pub extension_of : Extension → ExtensionValue
-extension_of e = record { identifier = absolute_octets e.identifier; critical = e.critical; value = e.value.now }
+extension_of e = record { identifier = borrowed_octets e.identifier; critical = e.critical; value = e.value.now }
 
 abbrev pub tbs_of : TbsCertificate → Tbs
 tbs_of t = record {

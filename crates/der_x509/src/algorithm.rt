@@ -5,15 +5,14 @@ ghost use Rattle.der_x509.specs.Certificates.{subject_public_key_info};
 ghost use Rattle.der_x509.specs.Readers.{ReadsBy, ReadsToEnd, fault_of};
 
 use der_base::error::BerError;
-use der_base::oid::Oid;
 use der_cursor::{Cursor, Refusal};
-use der_values::BitString;
+use der_values::{BitString, ObjectIdentifier};
 
 /// An algorithm, and its parameters.
 #[derive(Debug, Drop)]
 pub struct AlgorithmIdentifier<'a> {
     /// The identifier.
-    pub algorithm: Oid<'a>,
+    pub algorithm: ObjectIdentifier<'a>,
     /// The element that has the parameters, with its header, and empty if there is none. Its content
     /// isn't looked into, but by `Rule::DerValues`.
     pub parameters: &'a [u8],

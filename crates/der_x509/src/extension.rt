@@ -5,8 +5,8 @@ ghost use Rattle.der_x509.specs.Formats.{explicit_or};
 ghost use Rattle.der_x509.specs.Readers.{IsShorter, ReadsBy, ReadsToEnd, fault_of};
 
 use der_base::error::BerError;
-use der_base::oid::Oid;
 use der_cursor::{Cursor, Refusal};
+use der_values::ObjectIdentifier;
 
 /// The extensions of a certificate. They are kept as their octets, which were checked.
 #[derive(Clone, Copy, Debug)]
@@ -19,7 +19,7 @@ pub struct Extensions<'a> {
 #[derive(Debug, Drop)]
 pub struct Extension<'a> {
     /// Which extension it is.
-    pub identifier: Oid<'a>,
+    pub identifier: ObjectIdentifier<'a>,
     /// Whether a certificate has to be refused by who doesn't know it.
     pub critical: bool,
     /// Its value, the encoding of a type that the identifier names.

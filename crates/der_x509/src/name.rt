@@ -6,8 +6,8 @@ ghost use Rattle.der_x509.specs.Readers.{IsShorter, ReadsBy, ReadsToEnd, fault_o
 
 use der_base::any::Any;
 use der_base::error::BerError;
-use der_base::oid::Oid;
 use der_cursor::{Cursor, Refusal};
+use der_values::ObjectIdentifier;
 
 /// A distinguished name. It is kept as its octets, which were checked.
 #[derive(Clone, Copy, Debug)]
@@ -27,7 +27,7 @@ pub struct RelativeDistinguishedName<'a> {
 #[derive(Debug, Drop)]
 pub struct AttributeTypeAndValue<'a> {
     /// Its type.
-    pub identifier: Oid<'a>,
+    pub identifier: ObjectIdentifier<'a>,
     /// Its value, of any ASN.1 type. Its content isn't looked into, but by `Rule::DerValues`.
     pub value: Any<'a>,
 }

@@ -1,16 +1,16 @@
 //! Texts that are written to a buffer, as far as there is room.
 ghost use Rattle.std.specs.Prelude.{◌≡◌, ◌+◌, ◌-◌, ◌^◌, ◌∷◌, [], decimal, min};
-ghost use Rattle.der_base.specs.Oids.{arcs_left};
 ghost use Rattle.der_base.specs.Pretty.{dotted, pointed};
 ghost use Rattle.der_nodes.specs.Places.{overlay};
+ghost use Rattle.der_values.specs.Identifiers.{u128_arcs_left};
 ghost use Rattle.dumarewhi_c.specs.Texts.{PutsText};
 
-use der_base::oid::OidIter;
+use der_values::U128Arcs;
 use itoa::Buffer;
 
 /// Writes arcs with points between them. Returns the length of the text.
-pub(crate) fn put_arcs(room: &mut [u8], mut arcs: OidIter<'_>) -> usize
-    ensures { PutsText room.old 0 (dotted (arcs_left arcs.entry)) room.new result }
+pub(crate) fn put_arcs(room: &mut [u8], mut arcs: U128Arcs<'_>) -> usize
+    ensures { PutsText room.old 0 (dotted (u128_arcs_left arcs.entry)) room.new result }
 {
     let Some(first) = arcs.next() else {
         return 0;
@@ -20,8 +20,8 @@ pub(crate) fn put_arcs(room: &mut [u8], mut arcs: OidIter<'_>) -> usize
 }
 
 /// Writes arcs, each after a point.
-fn put_further_arcs(room: &mut [u8], at: usize, arcs: OidIter<'_>) -> usize
-    ensures { PutsText room.old at (pointed (arcs_left arcs.entry)) room.new result }
+fn put_further_arcs(room: &mut [u8], at: usize, arcs: U128Arcs<'_>) -> usize
+    ensures { PutsText room.old at (pointed (u128_arcs_left arcs.entry)) room.new result }
 {
     let mut end = at;
     for arc in arcs {
@@ -32,7 +32,7 @@ fn put_further_arcs(room: &mut [u8], at: usize, arcs: OidIter<'_>) -> usize
 }
 
 /// Writes a number by its decimal digits.
-fn put_number(room: &mut [u8], at: usize, number: u64) -> usize
+fn put_number(room: &mut [u8], at: usize, number: u128) -> usize
     ensures { PutsText room.old at (decimal number) room.new result }
 {
     let mut digits = Buffer::new();

@@ -3,11 +3,11 @@
 ghost use Rattle.std.specs.Prelude.{◌≡◌, List, Result, ℕ, false};
 ghost use Rattle.der_base.specs.declared.error.Error.{Error as BerError};
 ghost use Rattle.std.specs.Option.{option_map};
-ghost use Rattle.der_base.specs.Arcs.{arcs};
 ghost use Rattle.der_base.specs.Numbers.{AnswersSigned, AnswersUnsigned};
 ghost use Rattle.der_base.specs.Pretty.{dotted};
 ghost use Rattle.der_base.specs.Text.{is_text_type};
 ghost use Rattle.der_base.specs.Tree.{integer};
+ghost use Rattle.der_values.specs.ArcNumbers.{u128_arcs};
 ghost use Rattle.dumarewhi_c.specs.ErrorNumbers.{number_of_result};
 ghost use Rattle.dumarewhi_c.specs.Texts.{PutsText, ReturnsText};
 ghost use Rattle.dumarewhi_c.specs.Values.{AnswersBoolean, AnswersText, AnswersTime, Returns, written};
@@ -19,9 +19,8 @@ use crate::time::{DmTime, read_fields};
 use der_base::error::BerError;
 use der_base::header::Tag;
 use der_base::integer::{read_i64, read_u64};
-use der_base::oid::Oid;
 use der_base::text::{is_utf16, read_text};
-use std::borrow::CowSlice;
+use der_values::ObjectIdentifier;
 
 /// Writes what a reader returned. Returns 0 or the number of its error.
 fn write<V: Copy>(found: Result<V, BerError>, value: &mut V) -> u32
@@ -71,13 +70,15 @@ fn read_boolean(content: &[u8]) -> Result<u8, BerError>
     }
 }
 
-/// Writes the arcs of an OBJECT IDENTIFIER with points between them, and the length of that text.
+/// Writes the arcs of an OBJECT IDENTIFIER with points between them, and the length of that text. Each
+/// subidentifier is below 2^128.
 #[unsafe(no_mangle)]
 pub extern "C" fn dm_read_oid(content: &[u8], text: &mut [u8], needed: &mut usize) -> u32
-    ensures { ReturnsText (option_map dotted (arcs false content.now)) text.old text.new needed.old needed.new result }
+    ensures { ReturnsText (option_map dotted (u128_arcs false content.now)) text.old text.new
+        needed.old needed.new result }
 {
-    let oid = Oid::new(CowSlice::Borrowed(content));
-    match oid.iter() {
+    let identifier = ObjectIdentifier::new(content);
+    match identifier.u128_arcs() {
         Some(arcs) => {
             *needed = put_arcs(text, arcs);
             0

@@ -11,7 +11,7 @@ use Rattle.der_cursor.specs.declared.cursor.Cursor.{Cursor}
 use Rattle.der_cursor.specs.declared.refusal.Refusal.{Refusal}
 use Rattle.der_cursor.specs.Formats.{Content, Field, Format, Required, ◌⨾◌, Each, Element, AnyElement}
 use Rattle.der_cursor.specs.Formats.{Sequence, Set, ObjectIdentifier, NoMemory, ReadsField}
-use Rattle.der_values.specs.Kinds.{absolute_octets, bit_strings, texts}
+use Rattle.der_values.specs.Kinds.{bit_strings, borrowed_octets, texts}
 use Rattle.names_reader.specs.declared.name.Attribute.{Attribute as AttributeStruct}
 use Rattle.names_reader.specs.declared.name.Coding.{Coding}
 use Rattle.names_reader.specs.declared.name.Coding.TheVariants as coding
@@ -85,7 +85,7 @@ abbrev pub Name : Format (List (ℕ × AttributeValue))
 Name = Sequence (Joined (Each (Required RelativeDistinguishedName)))
 
 abbrev pub attribute_of : AttributeStruct → AttributeValue
-attribute_of a = (absolute_octets a.identifier, (a.element.now, (a.content.now, a.coding)))
+attribute_of a = (borrowed_octets a.identifier, (a.element.now, (a.content.now, a.coding)))
 
 abbrev pub placed_of : AttributeStruct → ℕ × AttributeValue
 placed_of a = (a.relative_name, attribute_of a)

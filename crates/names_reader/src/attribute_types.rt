@@ -1,5 +1,5 @@
 //! The attribute types that have a short name.
-use der_base::oid::Oid;
+use der_values::ObjectIdentifier;
 
 /// The content octets of attribute types, and the names by which openssl prints them: those of
 /// RFC 2253, and others that it has given.
@@ -44,9 +44,9 @@ const SHORT_NAMES: &[(&[u8], &str)] = &[
 ];
 
 /// The short name of an attribute type, where it has one.
-pub fn short_name(oid: &Oid<'_>) -> Option<&'static str> {
+pub fn short_name(identifier: ObjectIdentifier<'_>) -> Option<&'static str> {
     for (octets, name) in SHORT_NAMES {
-        if oid.as_bytes() == *octets {
+        if identifier.as_bytes() == *octets {
             return Some(*name);
         }
     }

@@ -8,11 +8,10 @@ ghost use Rattle.names_reader.specs.Names.{Name as NameFormat, Value, attribute_
 use der_base::any::Any;
 use der_base::error::{BerError, DerConstraint, Err as Refused};
 use der_base::header::{Class, Tag};
-use der_base::oid::Oid;
 use der_base::rules::Rules;
 use der_base::set_of_order::descends;
 use der_cursor::{Cursor, Refusal};
-use der_values::{read_bits, read_text};
+use der_values::{ObjectIdentifier, read_bits, read_text};
 use std::alloc::Global;
 
 /// The attributes of a name, in the order of the input. Those of one relative name follow one another,
@@ -35,7 +34,7 @@ pub struct Name<'a> {
 pub struct Attribute<'a> {
     /// The index of the first attribute of its relative name.
     pub relative_name: usize,
-    pub identifier: Oid<'a>,
+    pub identifier: ObjectIdentifier<'a>,
     /// The value with its header.
     pub(crate) element: &'a [u8],
     /// Its content octets.

@@ -25,7 +25,7 @@ impl fmt::Display for Name<'_> {
 /// written in hexadecimal.
 impl fmt::Display for Attribute<'_> {
     fn fmt<W: fmt::Write>(&self, f: &mut fmt::Formatter<W>) -> fmt::Result {
-        let Some(name) = short_name(&self.identifier) else {
+        let Some(name) = short_name(self.identifier) else {
             write!(f, "{}", self.identifier)?;
             return write_hex(f, self.element);
         };

@@ -7,7 +7,7 @@ use Rattle.der_cursor.specs.Formats.{Format, Element, element_of, Required, Opti
 use Rattle.der_cursor.specs.Formats.{AnyElement, ◌⨾◌, End, Octets, Sequence, Implicit, Integer, Number, BitString}
 use Rattle.der_cursor.specs.Formats.{OctetString, ObjectIdentifier, Limited}
 use Rattle.der_values.specs.declared.bits.BitString.{BitString as BitStruct}
-use Rattle.der_values.specs.Kinds.{absolute_octets}
+use Rattle.der_values.specs.Kinds.{borrowed_octets}
 use Rattle.pkcs8_reader.specs.declared.key.Algorithm.{Algorithm}
 use Rattle.pkcs8_reader.specs.declared.key.PrivateKeyInfo.{PrivateKeyInfo as KeyStruct}
 use Rattle.pkcs8_reader.specs.declared.rsa.RsaPrivateKey.{RsaPrivateKey as RsaStruct}
@@ -75,7 +75,7 @@ RsaPrivateKey = Limited HasRsaVersion (Sequence (
     ⨾ End)))))))))))
 
 abbrev pub algorithm_of : Algorithm → AlgorithmValue
-algorithm_of a = (absolute_octets a.identifier, (option_map element_of a.parameters, tt))
+algorithm_of a = (borrowed_octets a.identifier, (option_map element_of a.parameters, tt))
 
 abbrev pub bits_of : BitStruct → ℕ × List ℕ
 bits_of b = (b.unused, b.octets.now)

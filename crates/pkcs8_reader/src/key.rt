@@ -10,9 +10,8 @@ ghost use Rattle.pkcs8_reader.specs.Keys.{algorithm_of, bits_of, key_of, version
 use der_base::any::Any;
 use der_base::error::BerError;
 use der_base::header::{Class, Tag};
-use der_base::oid::Oid;
 use der_cursor::{Cursor, FieldRefusal, Named, Refusal};
-use der_values::BitString;
+use der_values::{BitString, ObjectIdentifier};
 
 /// The fields of a private key. Octets are slices of the input.
 #[derive(Debug, Drop)]
@@ -30,7 +29,7 @@ pub struct PrivateKeyInfo<'a> {
 /// The algorithm of a key (RFC 5280 4.1.1.2).
 #[derive(Debug, Drop)]
 pub struct Algorithm<'a> {
-    pub identifier: Oid<'a>,
+    pub identifier: ObjectIdentifier<'a>,
     /// Any element, as the algorithm has it.
     pub parameters: Option<Any<'a>>,
 }

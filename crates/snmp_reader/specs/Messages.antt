@@ -11,7 +11,7 @@ use Rattle.der_cursor.specs.Formats.{As, Choice, Content, Element, Field, Format
 use Rattle.der_cursor.specs.Formats.{Constructed, Implicit, Tagged, Primitive, Limited}
 use Rattle.der_cursor.specs.Formats.{Number, OctetString, ObjectIdentifier}
 use Rattle.der_cursor.specs.Formats.{ReadsWhole, Never}
-use Rattle.der_values.specs.Kinds.{absolute_octets}
+use Rattle.der_values.specs.Kinds.{borrowed_octets}
 use Rattle.snmp_reader.specs.declared.message.Binding.{Binding}
 use Rattle.snmp_reader.specs.declared.message.Content.{Content as ContentStruct}
 use Rattle.snmp_reader.specs.declared.message.Content.TheVariants.{Common, Trap as TrapVariant}
@@ -164,7 +164,7 @@ abbrev pub syntax_of : Value → Syntax
 syntax_of (Integer n) = integer n
 syntax_of (Octets w) = octet_string w.now
 syntax_of Null = null
-syntax_of (Identifier x) = identifier (absolute_octets x)
+syntax_of (Identifier x) = identifier (borrowed_octets x)
 syntax_of (Address x) = address (ipv4_octets x)
 syntax_of (Counter32 n) = counter32 (pos n)
 syntax_of (Gauge32 n) = gauge32 (pos n)
@@ -176,12 +176,12 @@ syntax_of NoSuchInstance = no_such_instance
 syntax_of EndOfMibView = end_of_mib_view
 
 abbrev pub binding_of : Binding → BindingValue
-binding_of b = (absolute_octets b.name, (syntax_of b.value, tt))
+binding_of b = (borrowed_octets b.name, (syntax_of b.value, tt))
 
 abbrev pub content_of : ContentStruct → ContentValue
 content_of (Common n s i v) = common (n, (pos s, (pos i, (map binding_of v.items, tt))))
 content_of (TrapVariant e a g s t v) =
-    trap (absolute_octets e, (ipv4_octets a, (pos g, (s, (pos t, (map binding_of v.items, tt))))))
+    trap (borrowed_octets e, (ipv4_octets a, (pos g, (s, (pos t, (map binding_of v.items, tt))))))
 
 abbrev pub pdu_of : PduStruct → PduValue
 pdu_of p = (p.operation, content_of p.content)

@@ -4,7 +4,7 @@ ghost use Rattle.std.specs.Prelude.{◌≡◌};
 ghost use Rattle.snmp_reader.specs.Operations.{IsOperationAt, has, number_of};
 
 use der_base::header::Tag;
-use der_base::oid::Oid;
+use der_values::ObjectIdentifier;
 use std::net::Ipv4Addr;
 
 /// A message. Texts are slices of the input.
@@ -42,7 +42,7 @@ pub enum Content<'a> {
     },
     /// A trap of version 1.
     Trap {
-        enterprise: Oid<'a>,
+        enterprise: ObjectIdentifier<'a>,
         agent_address: Ipv4Addr,
         generic_trap: u32,
         specific_trap: i32,
@@ -68,7 +68,7 @@ pub enum Operation {
 /// A name, and the value that it has.
 #[derive(Debug, Drop)]
 pub struct Binding<'a> {
-    pub name: Oid<'a>,
+    pub name: ObjectIdentifier<'a>,
     pub value: Value<'a>,
 }
 
@@ -78,7 +78,7 @@ pub enum Value<'a> {
     Integer(i32),
     OctetString(&'a [u8]),
     Null,
-    Identifier(Oid<'a>),
+    Identifier(ObjectIdentifier<'a>),
     Address(Ipv4Addr),
     Counter32(u32),
     Gauge32(u32),

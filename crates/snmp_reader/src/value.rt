@@ -10,7 +10,7 @@ use der_base::error::BerError;
 use der_base::header::Class;
 use der_base::rules::Rules;
 use der_cursor::{Cursor, Refusal};
-use der_values::{read_i32, read_oid, read_u32, read_u64};
+use der_values::{read_i32, read_identifier, read_u32, read_u64};
 use std::alloc::Global;
 use std::net::Ipv4Addr;
 
@@ -50,7 +50,7 @@ fn value_of(element: Any<'_>) -> Result<Value<'_>, BerError>
         (Class::Universal, 2) => Ok(Value::Integer(read_i32(Rules::Ber, octets)?)),
         (Class::Universal, 4) => Ok(Value::OctetString(octets)),
         (Class::Universal, 5) => of_no_octets(octets, Value::Null),
-        (Class::Universal, 6) => Ok(Value::Identifier(read_oid(octets)?)),
+        (Class::Universal, 6) => Ok(Value::Identifier(read_identifier(octets)?)),
         (Class::Application, 0) => Ok(Value::Address(address_of(octets)?)),
         (Class::Application, 1) => Ok(Value::Counter32(read_u32(Rules::Ber, octets)?)),
         (Class::Application, 2) => Ok(Value::Gauge32(read_u32(Rules::Ber, octets)?)),

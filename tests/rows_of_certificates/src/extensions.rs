@@ -1,9 +1,8 @@
 //! Extensions, by their identifiers.
-use der_base::oid::Oid;
 use der_extensions::{ExtensionValue, read_extension_value};
+use der_values::ObjectIdentifier;
 use der_x509::Extension;
 use std::alloc::Global;
-use std::borrow::CowSlice;
 use test_tables::fault::Fault;
 use test_tables::octets::octets;
 
@@ -14,7 +13,7 @@ pub fn extension(alloc: Global, input: &str) -> Result<String, Fault> {
     let identifier = octets(alloc, identifier)?;
     let value = octets(alloc, value)?;
     let extension = Extension {
-        identifier: Oid::new(CowSlice::Borrowed(&identifier)),
+        identifier: ObjectIdentifier::new(&identifier),
         critical: false,
         value: &value,
     };

@@ -1,8 +1,7 @@
 //! The calls on content octets: the arcs of an OBJECT IDENTIFIER, and the decimal text of an INTEGER.
 use der_base::oid::Oid;
-use der_values::{HasArcs, has_padded_arc, known_oid, to_decimal};
+use der_values::{HasArcs, ObjectIdentifier, has_padded_arc, known_oid, to_decimal};
 use std::alloc::Global;
-use std::borrow::CowSlice;
 use test_tables::fault::Fault;
 use test_tables::octets::octets;
 
@@ -28,17 +27,20 @@ enum Kind {
     Relative,
 }
 
-/// Whether octets are those of an identifier with these arcs.
+/// Whether octets are those of an identifier with these arcs, where an `Oid` of them says the same.
 fn has_arcs(alloc: Global, input: &str, kind: Kind) -> Result<String, Fault> {
     let (content, arcs) = input.split_once(':').ok_or(Fault::Input)?;
     let content = octets(alloc, content)?;
     let arcs = numbers(alloc, arcs)?;
-    let content = CowSlice::Borrowed(content.as_slice());
-    let oid = match kind {
-        Kind::Absolute => Oid::new(content),
-        Kind::Relative => Oid::new_relative(content),
+    let identifier = match kind {
+        Kind::Absolute => ObjectIdentifier::new(&content),
+        Kind::Relative => ObjectIdentifier::new_relative(&content),
     };
-    Ok(format!(in alloc; "{}", oid.is(&arcs))?)
+    let has = identifier.is(&arcs);
+    if identifier.to_oid().is(&arcs) != has {
+        return Err(Fault::Input);
+    }
+    Ok(format!(in alloc; "{has}")?)
 }
 
 /// Whether an identifier that is known when the program is written, 2.5.29.15, is the one made of these arcs, and
@@ -46,7 +48,8 @@ fn has_arcs(alloc: Global, input: &str, kind: Kind) -> Result<String, Fault> {
 fn is_known(alloc: Global, arcs: &str) -> Result<String, Fault> {
     let known = known_oid(&[2, 5, 29, 15], b"\x55\x1d\x0f");
     let arcs = numbers(alloc, arcs)?;
-    let is_same = known == Oid::from(alloc, &arcs).map_err(|_| Fault::Input)?;
+    let made = Oid::from(alloc, &arcs).map_err(|_| Fault::Input)?;
+    let is_same = known == ObjectIdentifier::of_oid(&made);
     Ok(format!(in alloc; "{is_same} {}", known.is(&arcs))?)
 }
 

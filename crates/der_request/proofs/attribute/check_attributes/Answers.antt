@@ -14,8 +14,5 @@ returns-in_err-read_attribute c =
 pub loop-list-preserved : goal.loop-list-preserved
 loop-list-preserved c = reaches_more c.loop-list.invariant (search rules) c.in_ok-read_attribute.ensures.reads
 
-pub loop-list-preserved-in_ok-read_attribute : goal.loop-list-preserved-in_ok-read_attribute
-loop-list-preserved-in_ok-read_attribute c = reaches_more c.loop-list.invariant (search rules) c.in_ok-read_attribute.ensures.reads
-
 pub returns : goal.returns
 returns c = reaches_end c.loop-list.invariant (search rules)

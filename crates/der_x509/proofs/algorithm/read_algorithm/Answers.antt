@@ -1,6 +1,6 @@
 use Rattle.std.proofs.Common.{true, refl, ap}
 use Rattle.std.proofs.lemmas.Result.{err_from_is_err_and}
-use Rattle.der_values.specs.Kinds.{absolute_octets, identifiers}
+use Rattle.der_values.specs.Kinds.{borrowed_octets, identifiers}
 use Rattle.der_x509.proofs.ReaderLaws.{finish_whole, opened, step_whole, stop, stop_whole, type_read, value_read, whole, within_whole}
 use Rattle.der_x509.proofs.algorithm.read_algorithm.Goals as goal
 
@@ -22,4 +22,4 @@ returns-in_err-read_parameters c =
 pub returns : goal.returns
 returns c =
     opened true 16 c.in_ok-parts.ensures (λ i. within_whole i (step_whole (value_read (λ r. identifiers) 6 c.in_ok-algorithm.ensures)
-    (finish_whole c.in_ok-read_parameters.ensures (λ m. (ap (λ x. record { algorithm = absolute_octets c.in_ok-algorithm.algorithm; parameters = x }) c.remaining-parameters.ensures, refl)))))
+    (finish_whole c.in_ok-read_parameters.ensures (λ m. (ap (λ x. record { algorithm = borrowed_octets c.in_ok-algorithm.algorithm; parameters = x }) c.remaining-parameters.ensures, refl)))))

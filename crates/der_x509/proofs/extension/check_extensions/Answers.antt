@@ -14,9 +14,6 @@ returns-in_err-read_extension c =
 pub loop-list-preserved : goal.loop-list-preserved
 loop-list-preserved c = reaches_more c.loop-list.invariant (search rules) c.in_ok-read_extension.ensures.reads
 
-pub loop-list-preserved-in_ok-read_extension : goal.loop-list-preserved-in_ok-read_extension
-loop-list-preserved-in_ok-read_extension c = reaches_more c.loop-list.invariant (search rules) c.in_ok-read_extension.ensures.reads
-
 pub returns : goal.returns
 returns c = some_read (search rules) (reaches_end c.loop-list.invariant (search rules))
 

@@ -11,8 +11,5 @@ returns-then-is_critical c = found_here {f = extension} extension_exact (extensi
 pub loop-extension-preserved : goal.loop-extension-preserved
 loop-extension-preserved c = still_on {f = extension} extension_exact (extension_of c.in-Some.extension) c.in-Some.ensures.steps c.loop-extension.invariant (λ h. false≢true (c.if-is_critical.ensures.1 h))
 
-pub loop-extension-preserved-else-is_critical : goal.loop-extension-preserved-else-is_critical
-loop-extension-preserved-else-is_critical c = still_on {f = extension} extension_exact (extension_of c.in-Some.extension) c.in-Some.ensures.steps c.loop-extension.invariant (λ h. false≢true (c.if-is_critical.ensures.1 h))
-
 pub returns : goal.returns
 returns c = not_found c.loop-extension.invariant c.in-None.ensures.steps.0

@@ -14,9 +14,6 @@ returns-in_err-read_attribute c =
 pub loop-attributes-preserved : goal.loop-attributes-preserved
 loop-attributes-preserved c = reaches_more c.loop-attributes.invariant (search rules) c.in_ok-read_attribute.ensures.reads
 
-pub loop-attributes-preserved-in_ok-read_attribute : goal.loop-attributes-preserved-in_ok-read_attribute
-loop-attributes-preserved-in_ok-read_attribute c = reaches_more c.loop-attributes.invariant (search rules) c.in_ok-read_attribute.ensures.reads
-
 pub returns : goal.returns
 returns c = some_read (search rules) (reaches_end c.loop-attributes.invariant (search rules))
 

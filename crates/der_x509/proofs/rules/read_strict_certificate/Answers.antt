@@ -10,5 +10,5 @@ returns-in-Err c = reads_strictly c.args.octets.now (Err (NotRead c.in-Err.e)) c
 pub returns-in-Some : goal.returns-in-Some
 returns-in-Some c = reads_strictly c.args.octets.now (Err (Broken c.in-Some.rule)) (certificate_of c.in-Ok.certificate, c.in-Ok.ensures.found, c.in-Some.ensures)
 
-pub returns : goal.returns
-returns c = reads_strictly c.args.octets.now (Ok c.in-Ok.certificate) (c.in-Ok.ensures.found, c.in-None.ensures)
+pub returns-in-None : goal.returns-in-None
+returns-in-None c = reads_strictly c.args.octets.now (Ok c.in-Ok.certificate) (c.in-Ok.ensures.found, c.in-None.ensures)

@@ -1,6 +1,6 @@
 use Rattle.std.proofs.Common.{◌≡◌, ◌-◌, ◌^◌, ◌≤◌, [], ◌∷◌, length, arith, rules, decimal, sym, subst}
-use Rattle.der_base.specs.Oids.{arcs_left}
 use Rattle.der_base.specs.Pretty.{dotted, pointed}
+use Rattle.der_values.specs.Identifiers.{u128_arcs_left}
 use Rattle.dumarewhi_c.specs.Texts.{PutsText}
 use Rattle.dumarewhi_c.proofs.Puts.{puts_none, puts_more}
 use Rattle.dumarewhi_c.proofs.text.put_arcs.Goals as goal
@@ -8,7 +8,7 @@ use Rattle.dumarewhi_c.proofs.text.put_arcs.Goals as goal
 pub returns-in_default : goal.returns-in_default
 returns-in_default c =
     let room = c.args.room.now in
-    let none : arcs_left c.args.arcs ≡ [] = search rules in
+    let none : u128_arcs_left c.args.arcs ≡ [] = search rules in
     subst (λ l. PutsText room 0 (dotted l) room 0) (sym none) (puts_none room 0 (omega arith))
 
 pub returns : goal.returns
@@ -16,8 +16,8 @@ returns c =
     let room = c.args.room.now in
     let before = c.put_number-end.new.room in
     let after = c.put_further_arcs.new.room in
-    let others = arcs_left c.next.new.self in
-    let some : arcs_left c.args.arcs ≡ c.in-Some.first ∷ others = search rules in
+    let others = u128_arcs_left c.next.new.self in
+    let some : u128_arcs_left c.args.arcs ≡ c.in-Some.first ∷ others = search rules in
     let short : length room ≤ 2 ^ 64 - 1 = omega arith in
     let both = puts_more room before after (decimal c.in-Some.first) (pointed others) 0 c.put_number-end.result c.put_further_arcs.result short c.put_number-end.ensures c.put_further_arcs.ensures in
     subst (λ l. PutsText room 0 (dotted l) after c.put_further_arcs.result) (sym some) both

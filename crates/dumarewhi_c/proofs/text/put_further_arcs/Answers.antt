@@ -1,12 +1,12 @@
 use Rattle.std.proofs.Common.{◌≡◌, ◌-◌, ◌^◌, ◌≤◌, [], ◌++◌, length, arith, rules, codes, decimal, ◌∙◌, ap, sym, append_assoc}
-use Rattle.der_base.specs.Oids.{arcs_left}
 use Rattle.der_base.specs.Pretty.{pointed}
+use Rattle.der_values.specs.Identifiers.{u128_arcs_left}
 use Rattle.dumarewhi_c.proofs.Puts.{puts_none, puts_more}
 use Rattle.dumarewhi_c.proofs.text.put_further_arcs.Goals as goal
 
 pub loop-arc-init : goal.loop-arc-init
 loop-arc-init c =
-    let all : pointed (arcs_left c.args.arcs) ≡ pointed (arcs_left c.into_iter-arc-iterator.result) = search rules in
+    let all : pointed (u128_arcs_left c.args.arcs) ≡ pointed (u128_arcs_left c.into_iter-arc-iterator.result) = search rules in
     ([], all, puts_none c.args.room.now c.args.at c.ranges.at.fits)
 
 pub loop-arc-preserved : goal.loop-arc-preserved
@@ -14,7 +14,7 @@ loop-arc-preserved c =
     let done = c.loop-arc.invariant in
     let number = decimal c.in-Some.arc in
     let text = codes "." ++ number in
-    let others = pointed (arcs_left c.next.new.self) in
+    let others = pointed (u128_arcs_left c.next.new.self) in
     let room = c.args.room.now in
     let before = c.loop-arc.room in
     let after = c.put_number-end.new.room in

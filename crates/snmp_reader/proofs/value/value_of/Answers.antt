@@ -49,21 +49,21 @@ returns-in-Universal-eq5 c =
     let ep : is_constructed c.args.element.header ≡ false = search rules in
     value_of_none (element_of c.args.element) Null _ ep c.of_no_octets.ensures (λ h. (ec, et, h)) (λ h v z. no_null c.args.element.bytes.now h v _ _ ec et z)
 
-pub returns-in_err-read_oid-in-Universal-eq6 : goal.returns-in_err-read_oid-in-Universal-eq6
-returns-in_err-read_oid-in-Universal-eq6 c =
+pub returns-in_err-read_identifier-in-Universal-eq6 : goal.returns-in_err-read_identifier-in-Universal-eq6
+returns-in_err-read_identifier-in-Universal-eq6 c =
     let ec : class_of c.args.element.header ≡ Universal = cc in
     let et : number_of c.args.element.header ≡ 6 = cc in
     let ep : is_constructed c.args.element.header ≡ false = search rules in
-    let q = err_from_is_err_and c.from_residual-in_err-read_oid-in-Universal-eq6.result c.from_residual-in_err-read_oid-in-Universal-eq6.ensures.1 in
-    rw q.1 (no_value (element_of c.args.element) _ (λ v p z. no_identifier c.args.element.bytes.now (refusal c.in_err-read_oid-in-Universal-eq6.field-0.0) c.in_err-read_oid-in-Universal-eq6.ensures v _ _ ec et z))
+    let q = err_from_is_err_and c.from_residual-in_err-read_identifier-in-Universal-eq6.result c.from_residual-in_err-read_identifier-in-Universal-eq6.ensures.1 in
+    rw q.1 (no_value (element_of c.args.element) _ (λ v p z. no_identifier c.args.element.bytes.now (refusal c.in_err-read_identifier-in-Universal-eq6.field-0.0) c.in_err-read_identifier-in-Universal-eq6.ensures v _ _ ec et z))
 
-pub returns-in_ok-read_oid-in-Universal-eq6 : goal.returns-in_ok-read_oid-in-Universal-eq6
+pub returns-in_ok-read_identifier-in-Universal-eq6 : goal.returns-in_ok-read_identifier-in-Universal-eq6
 unfolding Value End
-returns-in_ok-read_oid-in-Universal-eq6 c =
+returns-in_ok-read_identifier-in-Universal-eq6 c =
     let ec : class_of c.args.element.header ≡ Universal = cc in
     let et : number_of c.args.element.header ≡ 6 = cc in
     let ep : is_constructed c.args.element.header ≡ false = search rules in
-    is_value (element_of c.args.element) _ ep (ec, et, c.in_ok-read_oid-in-Universal-eq6.ensures)
+    is_value (element_of c.args.element) _ ep (ec, et, c.in_ok-read_identifier-in-Universal-eq6.ensures)
 
 pub returns-in_err-address_of-in-Application-eq0 : goal.returns-in_err-address_of-in-Application-eq0
 returns-in_err-address_of-in-Application-eq0 c =

@@ -15,9 +15,6 @@ returns-in_err-reason c =
 pub returns-in-Some-2 : goal.returns-in-Some-2
 returns-in-Some-2 c = has_reason c.loop-extension.invariant c.in-Some.ensures.steps c.in_ok-reason.ensures c.in-Some-2.is
 
-pub loop-extension-preserved-in_default : goal.loop-extension-preserved-in_default
-loop-extension-preserved-in_default c = passed c.loop-extension.invariant c.in-Some.ensures.steps c.in_ok-reason.ensures (search rules)
-
 pub loop-extension-preserved : goal.loop-extension-preserved
 loop-extension-preserved c = passed c.loop-extension.invariant c.in-Some.ensures.steps c.in_ok-reason.ensures (search rules)
 
