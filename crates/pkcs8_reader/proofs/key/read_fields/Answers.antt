@@ -29,7 +29,9 @@ pub returns-in_err-named : goal.returns-in_err-named
 returns-in_err-named c = inside_named _ _ _ _ c.open_sequence.ensures c.in_ok-fields.ensures (λ fresh. limits _ c.from_residual-in_err-named.result c.from_residual-in_err-named.ensures.1 (left_over _ (after (after (after (after (after (start _ fresh) (named _ c.read_version.ensures c.in_ok-version.ensures)) (named _ c.read_algorithm.ensures c.in_ok-algorithm.ensures)) (named _ (value_read _ c.octets.ensures) c.in_ok-private_key.ensures)) (named _ (tagged_octets _ c.open_tagged.ensures) c.in_ok-attributes.ensures)) (named _ c.read_public_key.ensures c.in_ok-public_key.ensures)) (ends_named _ _ _ _ _ c.end.ensures c.in_err-named.ensures) c.from_residual-in_err-named.ensures.1))
 
 pub returns : goal.returns
-returns c = inside_named _ _ _ _ c.open_sequence.ensures c.in_ok-fields.ensures (λ fresh. limited (has_version bits_of _ c.is_some.ensures c.version_of.ensures c.if-version-version_of.false) (finish (after (after (after (after (after (start _ fresh) (named _ c.read_version.ensures c.in_ok-version.ensures)) (named _ c.read_algorithm.ensures c.in_ok-algorithm.ensures)) (named _ (value_read _ c.octets.ensures) c.in_ok-private_key.ensures)) (named _ (tagged_octets _ c.open_tagged.ensures) c.in_ok-attributes.ensures)) (named _ c.read_public_key.ensures c.in_ok-public_key.ensures)) (ends_named _ _ _ _ _ c.end.ensures c.in_ok-named.ensures) refl))
+returns c =
+    let x : KeyStruct = record { version = c.in_ok-version.version; algorithm = c.in_ok-algorithm.algorithm; private_key = c.in_ok-private_key.private_key; attributes = c.in_ok-attributes.attributes; public_key = c.in_ok-public_key.public_key } in
+    inside_named _ _ _ _ c.open_sequence.ensures c.in_ok-fields.ensures (λ fresh. limited {x = x} (has_version bits_of _ c.is_some.ensures c.version_of.ensures c.if-version-version_of.false) (finish (after (after (after (after (after (start _ fresh) (named _ c.read_version.ensures c.in_ok-version.ensures)) (named _ c.read_algorithm.ensures c.in_ok-algorithm.ensures)) (named _ (value_read _ c.octets.ensures) c.in_ok-private_key.ensures)) (named _ (tagged_octets _ c.open_tagged.ensures) c.in_ok-attributes.ensures)) (named _ c.read_public_key.ensures c.in_ok-public_key.ensures)) (ends_named _ _ _ _ _ c.end.ensures c.in_ok-named.ensures) refl))
 
 pub returns-then-version-version_of : goal.returns-then-version-version_of
 returns-then-version-version_of c =
