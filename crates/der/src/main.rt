@@ -2,7 +2,7 @@
 //! `der check` tells which files aren't DER, and `der canon` writes a file as DER.
 #![tactic(auto)]
 
-use der_tool::program;
+use der_cli::program;
 use std::io::IsTerminal;
 use std::process::ExitCode;
 

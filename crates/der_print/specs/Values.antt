@@ -15,8 +15,8 @@ use Rattle.der_base.specs.Octets.{integer_value}
 use Rattle.der_base.specs.Pretty.{dotted, hex_pair}
 use Rattle.der_base.specs.Text.{is_one_of, is_text_type, is_visible}
 use Rattle.der_base.specs.Time.{IsTimeText, at_least_digits, rfc5280_year}
-use Rattle.der_names.specs.Tables.{HasLine}
-use Rattle.der_names.specs.declared.table.TheConstants.{NAMES}
+use Rattle.oid_names.specs.Tables.{HasLine}
+use Rattle.oid_names.specs.declared.table.TheConstants.{NAMES}
 use Rattle.der_print.specs.declared.style.Limit.{Limit}
 use Rattle.der_print.specs.declared.style.Limit.TheVariants.{Whole, Front, Columns}
 use Rattle.der_print.specs.Quotes.{quoted_text}

@@ -19,7 +19,7 @@ use crate::text::{Quoted, is_printable_ascii};
 use crate::time::Moment;
 use der_base::header::{Class, Tag};
 use der_base::time::read_time;
-use der_names::name_of;
+use oid_names::name_of;
 use der_walk::Element;
 use std::fmt;
 

@@ -1,14 +1,11 @@
 mod ContentLaws
 mod DecimalDigits
 pub mod DecodedContents
-mod FormLaws
-mod GrammarLaws
 pub mod Identifiers
 mod OctetNumbers
 mod PaddedArcs
-mod RuleLaws
 mod SmallArcs
-mod Subidentifiers
+pub mod Subidentifiers
 mod TimeTests
 mod UnusedBits
 mod WideArcs

@@ -1,11 +1,6 @@
 pub mod ArcNumbers
-pub mod ContentErrors
-pub mod ContentRules
 pub mod Contents
 pub mod Decimal
-pub mod Grammar
 pub mod Identifiers
 pub mod Kinds
-pub mod RealForms
-pub mod TimeForms
 pub mod Values

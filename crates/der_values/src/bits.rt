@@ -74,7 +74,7 @@ fn check_unused_bits(rules: Rules, unused: u8, bits: &[u8]) -> Result<(), BerErr
 
 /// Returns whether this many last bits of the last octet are 0, and without octets whether the
 /// number is 0.
-pub(crate) fn are_last_bits_zero(count: u8, octets: &[u8]) -> bool
+pub fn are_last_bits_zero(count: u8, octets: &[u8]) -> bool
     requires { count ≤ 7 }
     ensures { IsTrue result ↔ HasZeroUnusedBits count octets.now }
 {

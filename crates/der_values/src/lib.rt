@@ -3,32 +3,25 @@
 
 mod arcs;
 mod bits;
-mod content_error;
-mod content_rules;
 mod contents;
 mod decimal;
-mod grammar;
 mod identifier;
 mod identifier_text;
 mod numbers;
 mod oid;
-mod real_forms;
 mod simple;
 mod texts;
-mod time_forms;
 mod times;
 mod u128_arcs;
 mod value;
 
 pub use arcs::{ArcNumber, Arcs};
-pub use bits::{BitString, read_bits};
-pub use content_error::ContentError;
-pub use content_rules::check_content;
+pub use bits::{BitString, are_last_bits_zero, read_bits};
 pub use contents::{check_value, read_value};
 pub use decimal::to_decimal;
 pub use identifier::ObjectIdentifier;
 pub use numbers::{read_enumerated, read_i32, read_i64, read_integer, read_u32, read_u64};
-pub use oid::{HasArcs, has_padded_arc, known_oid, read_identifier, read_oid};
+pub use oid::{HasArcs, ends_subidentifier, has_padded_arc, known_oid, read_identifier, read_oid};
 pub use simple::{read_bool, read_null};
 pub use texts::read_text;
 pub use times::read_time;

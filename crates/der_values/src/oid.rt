@@ -34,7 +34,7 @@ pub fn read_oid(octets: &[u8]) -> Result<Oid<'_>, BerError>
 }
 
 /// Whether there is a last octet, and it ends an arc.
-pub(crate) fn ends_subidentifier(octets: &[u8]) -> bool
+pub fn ends_subidentifier(octets: &[u8]) -> bool
     ensures { IsTrue result ↔ EndsSubidentifier octets.now }
 {
     match octets.last() {

@@ -1,5 +1,5 @@
 //! Certificates.
-use der_tests_words::{push_number, push_refused_at};
+use test_words::{push_number, push_refused_at};
 use der_x509::{
     Certificate, Extensions, Name, Rule, StrictRefusal, read_certificate, read_strict_certificate,
 };

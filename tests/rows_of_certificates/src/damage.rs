@@ -6,7 +6,7 @@ use der_extensions::{read_basic_constraints, read_general_names, read_key_usage}
 use der_request::{
     Attribute, CertificationRequest, attribute_identifiers, read_extension_request, read_request,
 };
-use der_tests_damage::{Outcome, Reader, damaged};
+use test_damage::{Outcome, Reader, damaged};
 use der_values::HasArcs;
 use der_x509::read_certificate;
 use std::alloc::Global;

@@ -6,7 +6,7 @@ use der_extensions::{
     GeneralNames, InformationAccess, read_certificate_policies, read_crl_distribution_points,
     read_extended_key_usage, read_general_names, read_information_access,
 };
-use der_tests_words::push_number;
+use test_words::push_number;
 use std::alloc::{AllocError, Global};
 use test_tables::fault::Fault;
 use test_tables::octets::{push_octets, push_word};

@@ -19,7 +19,7 @@ use crate::extensions::extension;
 use crate::reasons::{reason_code, reasons};
 use crate::requests::{certificate_list, certification_request};
 use crate::times::{compared, contained};
-use der_tests_damage::octets_of;
+use test_damage::octets_of;
 use std::alloc::Global;
 use std::io;
 use std::process::ExitCode;

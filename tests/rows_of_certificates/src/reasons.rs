@@ -2,7 +2,7 @@
 use crl_reader::{Reason, read_certificate_list, read_reason};
 use der_base::error::BerError;
 use der_cursor::Refusal;
-use der_tests_words::push_number;
+use test_words::push_number;
 use std::alloc::{AllocError, Global};
 use test_tables::fault::Fault;
 use test_tables::octets::{push_octets, push_word};

@@ -11,7 +11,7 @@ use der_parser::der::{
     parse_der_tagged_implicit_g,
 };
 use der_parser::error::BerResult;
-use der_tests_rows::words::{push_content, push_length, push_number, push_refused, push_rest};
+use test_support::words::{push_content, push_length, push_number, push_refused, push_rest};
 use std::alloc::{AllocError, Global};
 use test_tables::fault::Fault;
 use test_tables::octets::{push_octets, push_word};

@@ -4,7 +4,7 @@ use der_parser::ber::{
 };
 use der_parser::der::{parse_der_integer, parse_der_set_of};
 use der_parser::error::{BerError, BerResult, Err as Refused};
-use der_tests_rows::reader::Reader;
+use test_support::reader::Reader;
 use std::alloc::Global;
 
 /// A parser of an object.

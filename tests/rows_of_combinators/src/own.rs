@@ -6,7 +6,7 @@ ghost use Rattle.rows_of_combinators.specs.declared.own.OwnError.TheVariants.{No
 use der_parser::IResult;
 use der_parser::ber::{BerObject, parse_ber_integer, parse_ber_u32};
 use der_parser::error::{BerError, Err, ErrorKind, ParseError};
-use der_tests_rows::words::{push_needed, push_refusal};
+use test_support::words::{push_needed, push_refusal};
 use std::alloc::AllocError;
 use test_tables::octets::{push_octets, push_word};
 

@@ -8,7 +8,7 @@ use der_parser::ber::{ListOfValues, Tag, parse_ber_sequence_of_v, parse_ber_set_
 use der_parser::der::{parse_der_sequence_of_v, parse_der_set_of_v};
 use der_parser::error::{BerResult, Err as Refused, Needed};
 use der_parser::{IResult, Rules};
-use der_tests_rows::words::{push_number, push_refused, push_rest};
+use test_support::words::{push_number, push_refused, push_rest};
 use std::alloc::{AllocError, Global};
 use test_tables::fault::Fault;
 use test_tables::octets::push_word;

@@ -2,8 +2,8 @@
 use crate::form::Given;
 use der_parser::ber::{BerObject, BerObjectContent};
 use der_parser::error::{BerError, BerResult};
-use der_tests_rows::calls::push_written;
-use der_tests_rows::words::{answer_of_object, push_header, push_number, push_refused};
+use test_support::calls::push_written;
+use test_support::words::{answer_of_object, push_header, push_number, push_refused};
 use std::alloc::{AllocError, Global};
 use test_tables::octets::push_word;
 

@@ -1,8 +1,8 @@
 //! The readers of elements whose content isn't read.
 use der_parser::ber::{Any, parse_ber_any};
 use der_parser::error::BerResult;
-use der_tests_rows::octets::octets;
-use der_tests_rows::words::answer_of;
+use test_support::octets::octets;
+use test_support::words::answer_of;
 use std::alloc::Global;
 use test_tables::fault::Fault;
 

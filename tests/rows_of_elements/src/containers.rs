@@ -5,8 +5,8 @@ use der_parser::ber::{
     parse_ber_set_defined_g, parse_ber_slice,
 };
 use der_parser::error::BerError;
-use der_tests_rows::octets::octets;
-use der_tests_rows::words::{answer_of, push_header, push_number, push_refused, push_rest};
+use test_support::octets::octets;
+use test_support::words::{answer_of, push_header, push_number, push_refused, push_rest};
 use std::alloc::{AllocError, Global};
 use test_tables::fault::Fault;
 use test_tables::octets::{push_octets, push_word};

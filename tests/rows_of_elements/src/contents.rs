@@ -8,9 +8,9 @@ use der_parser::der::{
     der_read_element_content, der_read_element_content_as, parse_der_content, parse_der_content2,
 };
 use der_parser::error::BerResult;
-use der_tests_rows::calls::has_same_parts;
-use der_tests_rows::octets::octets;
-use der_tests_rows::words::{answer_of, push_answer, push_header};
+use test_support::calls::has_same_parts;
+use test_support::octets::octets;
+use test_support::words::{answer_of, push_answer, push_header};
 use std::alloc::{AllocError, Global};
 use test_tables::fault::Fault;
 use test_tables::octets::push_word;

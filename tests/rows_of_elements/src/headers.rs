@@ -2,8 +2,8 @@
 use der_parser::ber::{Header, HeaderCount, ber_header_counted, ber_read_element_header};
 use der_parser::der::{der_header_counted, der_read_element_header};
 use der_parser::error::BerResult;
-use der_tests_rows::octets::octets;
-use der_tests_rows::words::{push_answer, push_number};
+use test_support::octets::octets;
+use test_support::words::{push_answer, push_number};
 use std::alloc::{AllocError, Global};
 use test_tables::fault::Fault;
 use test_tables::octets::push_word;

@@ -2,7 +2,7 @@
 use der_base::error::Err as Refused;
 use der_cursor::Cursor;
 use der_distinguished_name::read_name;
-use der_tests_damage::{Outcome, Reader, damaged};
+use test_damage::{Outcome, Reader, damaged};
 use kerberos_reader::read_request;
 use pkcs8_reader::{read_private_key, read_rsa_private_key};
 use std::alloc::Global;

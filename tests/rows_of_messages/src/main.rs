@@ -9,7 +9,7 @@ mod names;
 
 use crate::damage::damaged_text;
 use crate::messages::message;
-use der_tests_damage::octets_of;
+use test_damage::octets_of;
 use std::alloc::Global;
 use std::io;
 use std::process::ExitCode;

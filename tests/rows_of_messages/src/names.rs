@@ -2,7 +2,7 @@
 use der_base::error::{BerError, Err as Refused};
 use der_cursor::Cursor;
 use der_distinguished_name::{Attr, Attribute, Name, read_name_nodes};
-use der_tests_words::{push_number, push_refusal, push_refused, push_refused_at, push_rest};
+use test_words::{push_number, push_refusal, push_refused, push_refused_at, push_rest};
 use std::alloc::{AllocError, Global};
 use test_tables::fault::Fault;
 use test_tables::octets::{push_octets, push_word};

@@ -1,6 +1,6 @@
 //! The canonical encoding of elements.
 use der_canon::{CanonError, canonical, canonical_into};
-use der_tests_words::push_number;
+use test_words::push_number;
 use std::alloc::{AllocError, Global};
 use crate::walks::push_path;
 use test_tables::fault::Fault;

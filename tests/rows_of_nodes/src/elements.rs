@@ -7,7 +7,7 @@ use der_nodes::{
     parse_ber_nodes_into, parse_ber_nodes_placed, parse_der_nodes, parse_der_nodes_into,
     parse_der_nodes_placed,
 };
-use der_tests_words::{push_number, push_refused, push_rest};
+use test_words::{push_number, push_refused, push_rest};
 use std::alloc::{AllocError, Global};
 use test_tables::fault::Fault;
 use test_tables::octets::push_word;

@@ -1,5 +1,5 @@
 //! Names of identifiers.
-use der_names::{NAMES, name_of};
+use oid_names::{NAMES, name_of};
 use std::alloc::Global;
 use test_tables::fault::Fault;
 

@@ -3,7 +3,7 @@ use crate::words::{number, numbers};
 use der_base::error::BerError;
 use der_base::header::Class;
 use der_nodes::Element;
-use der_tests_words::{push_number, push_refusal, push_refused};
+use test_words::{push_number, push_refusal, push_refused};
 use der_view::{Node, Nodes, read_ber_nodes, read_der_nodes};
 use std::alloc::{AllocError, Global};
 use std::fmt::Display;

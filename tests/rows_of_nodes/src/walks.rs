@@ -1,5 +1,5 @@
 //! Walks over elements.
-use der_tests_words::{push_number, push_refusal};
+use test_words::{push_number, push_refusal};
 use der_walk::{Cause, Element, Path, Refusal, Rules, Walk};
 use std::alloc::{AllocError, Global};
 use test_tables::fault::Fault;

@@ -1,7 +1,7 @@
 //! The parts of an object, its items, and the questions on its header.
 use der_parser::ber::{BerObject, Class, Tag};
 use der_parser::error::BerError;
-use der_tests_rows::words::{push_number, push_refusal};
+use test_support::words::{push_number, push_refusal};
 use std::alloc::{AllocError, Global};
 use test_tables::fault::Fault;
 use test_tables::octets::{push_octets, push_word};

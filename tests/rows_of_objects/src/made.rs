@@ -5,7 +5,7 @@
 use crate::question::{class_of, header_of, tag_of};
 use der_parser::ber::{BerObject, BerObjectContent, BitStringObject, Class, Header, Tag};
 use der_parser::oid::Oid;
-use der_tests_rows::words::push_header;
+use test_support::words::push_header;
 use std::alloc::{AllocError, Global};
 use std::borrow::CowSlice;
 use test_tables::fault::Fault;

@@ -13,7 +13,7 @@ mod watcher;
 use crate::question::Question;
 use der_parser::ber::parse_ber;
 use der_parser::error::BerResult;
-use der_tests_rows::words::push_refused;
+use test_support::words::push_refused;
 use std::alloc::Global;
 use std::io;
 use std::process::ExitCode;

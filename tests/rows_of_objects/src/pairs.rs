@@ -1,7 +1,7 @@
 //! Whether two objects are equal, whether a copy tells the same, and an object beside its element.
 use der_parser::ber::{Any, BerObject, BerObjectContent, Header, ber_object_from_any, parse_ber};
 use der_parser::error::{BerError, BerResult, Err as Refused};
-use der_tests_rows::words::{push_content, push_header, push_refused};
+use test_support::words::{push_content, push_header, push_refused};
 use std::alloc::{AllocError, Global};
 use test_tables::fault::Fault;
 use test_tables::octets::{octets, push_word};

@@ -3,8 +3,8 @@
 
 mod numbers;
 
-use der_tests_rows::calls::answer_of_call;
-use der_tests_rows::trials::{are_asked_for, run_trials};
+use test_support::calls::answer_of_call;
+use test_support::trials::{are_asked_for, run_trials};
 use numbers::NumberCall;
 use std::alloc::Global;
 use std::io;

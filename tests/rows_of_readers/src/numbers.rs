@@ -5,8 +5,8 @@ use der_parser::ber::{
 };
 use der_parser::der::{parse_der_i32, parse_der_i64, parse_der_u32, parse_der_u64};
 use der_parser::error::{BerError, BerResult};
-use der_tests_rows::octets::octets;
-use der_tests_rows::words::{answer_of, push_number, push_refusal, push_refused, push_rest};
+use test_support::octets::octets;
+use test_support::words::{answer_of, push_number, push_refusal, push_refused, push_rest};
 use std::alloc::{AllocError, Global};
 use test_tables::fault::Fault;
 

@@ -1,0 +1,69 @@
+-- Refusals of inputs and of their blocks.
+use Rattle.std.proofs.Common.{◌≡◌, ◌≢◌, ◌⊎◌, ◌+◌, ◌<◌, ◌≤◌, ℕ, suc, Bool, Err, IfErr, IfOk, IsErr, MatchResult, Ok, Result, false, inl, inr, List, ◌++◌, ap, arith, codes, length, refl, subst, sym, true}
+use Rattle.std.proofs.lemmas.List.{length-append}
+use Rattle.der_input.specs.declared.error.FormError.{FormError}
+use Rattle.der_input.specs.declared.error.FormError.TheVariants.{OutOfMemory}
+use Rattle.der_input.specs.Blocks.{BeginsWithBlock}
+use Rattle.der_cli.specs.Inputs.{IsAfterBlocks, after_more, after_none}
+
+-- what holds whatever is returned
+pub refuses_all : {E : Type 0} (r : Result Bool E) (P : Type 0) → P → IfOk r (λ ok. ok ≡ false → P)
+refuses_all (Ok x) P p = λ no. p
+refuses_all (Err e) P p = tt
+
+false_is_not_true : {P : Type 0} → false ≡ true → P
+false_is_not_true e = cc
+
+-- what isn't decoded is no octets
+pub no_octets : {A E : Type 0} (r : Result A E) → IsErr r → (w : A) → ¬ (r ≡ Ok w)
+no_octets (Ok v) failed w e = false_is_not_true failed
+no_octets (Err y) failed w e = cc
+
+-- digits are octets that are refused, or no digits
+pub of_digits : {A : Type 0} (r : Result A FormError) (P S : A → Type 0) (x : FormError) (Q R : Type 0) → MatchResult r P (λ e. e ≢ OutOfMemory)
+    → IfOk r S → IfErr r (λ e. (e ≡ OutOfMemory) ⊎ ((e ≡ x) × Q)) → ((v : A) → S v → P v → R) → (Q → R) → R
+of_digits (Ok v) P S x Q R p s e f g = f v s p
+of_digits (Err y) P S x Q R p s (inl none) f g = absurd (p none)
+of_digits (Err y) P S x Q R p s (inr why) f g = g why.1
+
+behind : (a b : List ℕ) → length b ≤ length (a ++ b)
+behind a b = let e = length-append a b in omega (arith, e)
+
+-- a block has an octet at least
+shorter : {j label lines rest : List ℕ} → BeginsWithBlock j label lines rest → length rest < length j
+shorter {label = label} {lines = lines} {rest = rest} b =
+    let last = codes "-----" ++ rest in
+    let end = codes "-----END " ++ (label ++ last) in
+    let first = label ++ (codes "-----" ++ b.opened) in
+    let begin = codes "-----BEGIN " ++ first in
+    let some : length (codes "-----BEGIN ") ≡ 11 = refl in
+    omega (
+      arith,
+      some,
+      behind (codes "-----") rest,
+      behind label last,
+      behind (codes "-----END ") (label ++ last),
+      behind lines end,
+      ap length b.end.whole,
+      behind (codes "-----") b.opened,
+      behind label (codes "-----" ++ b.opened),
+      length-append (codes "-----BEGIN ") first,
+      behind b.before begin,
+      ap length b.begin.whole,
+    )
+
+-- there are no more blocks than octets
+pub few_blocks : {i j : List ℕ} {n : ℕ} → IsAfterBlocks i n j → n + length j ≤ length i
+few_blocks after_none = omega arith
+few_blocks (after_more label lines rest after begins) = omega (arith, few_blocks after, shorter begins)
+
+-- before the first block the text is whole
+pub before_first : {i j : List ℕ} {n : ℕ} → IsAfterBlocks i n j → n ≡ 0 → j ≡ i
+before_first after_none e = refl
+before_first (after_more label lines rest after begins) e = absurd (omega (arith, e))
+
+-- one more block was there
+pub after_next : {i j : List ℕ} {n : ℕ} (label lines rest left : List ℕ) → IsAfterBlocks i n j → BeginsWithBlock j label lines rest → left ≡ rest → IsAfterBlocks i (n + 1) left
+after_next {i = i} {n = n} label lines rest left after begins e =
+    let one : suc n ≡ n + 1 = omega arith in
+    subst (λ m. IsAfterBlocks i m left) one (subst (λ r. IsAfterBlocks i (suc n) r) (sym e) (after_more label lines rest after begins))

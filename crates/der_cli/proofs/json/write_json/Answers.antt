@@ -1,0 +1,15 @@
+use Rattle.std.proofs.Common.{codes, subst, sym}
+use Rattle.std.proofs.KnownBytes.{Appends-trans}
+use Rattle.std.specs.Io.KnownBytes.{Appends}
+use Rattle.der_cli.specs.Json.{IsJson}
+use Rattle.der_cli.proofs.Printing.{on_ok}
+use Rattle.der_cli.proofs.json.write_json.Goals as goal
+
+pub returns : goal.returns
+returns g c =
+    on_ok c.write_all-2.result (Appends (g.W.Write.contents c.write_all.new.self) (g.W.Write.contents c.write_all-2.new.self) (codes "\n")) _
+    (λ end. record {
+      text = c.as_bytes.result.now;
+      is_json = subst IsJson (sym c.as_bytes.ensures.value) c.in_ok-text.ensures;
+      adds = Appends-trans _ _ _ _ _ c.in_ok-write_all.ensures.bytes end;
+    }) c.write_all-2.ensures.bytes

@@ -1,0 +1,32 @@
+use Rattle.std.proofs.Common.{refl}
+use Rattle.der_input.specs.Blocks.{label_of, lines_of}
+use Rattle.der_cli.specs.Inputs.{ReadsBlock, RefusesBlock, refused}
+use Rattle.der_cli.specs.Outputs.{IsRefusedBy, WritesInside}
+use Rattle.der_cli.proofs.Printing.{then_reads, then_refuses}
+use Rattle.der_cli.proofs.run.act_on_block.Goals as goal
+
+pub returns-in-Ok-clause-read : goal.returns-in-Ok-clause-read
+returns-in-Ok-clause-read g c =
+    let o = c.args.options.now in
+    let block = c.args.block.now in
+    let new = g.W.Write.contents c.act.new.out in
+    let between = g.W.Write.contents c.write_label.new.out in
+    then_reads c.act.result (WritesInside o.action o (label_of block) c.as_slice.result.now between new)
+    (ReadsBlock o c.args.name.now (label_of block) (lines_of block) (g.W.Write.contents c.args.out.now) new)
+    (λ written. record {
+      octets = c.as_slice.result.now;
+      readable = c.in-Ok.ensures.ok.0;
+      spells = cc (c.in-Ok.ensures.ok.1, c.as_slice.ensures.value);
+      between = between;
+      heading = c.in_ok-write_label.ensures;
+      writes = written;
+    }) (c.act.ensures.inside _ refl)
+
+pub returns-in-Ok-clause-refused : goal.returns-in-Ok-clause-refused
+returns-in-Ok-clause-refused g c =
+    let o = c.args.options.now in
+    let w = c.as_slice.result.now in
+    let new = g.W.Write.contents c.act.new.out in
+    let between = g.W.Write.contents c.write_label.new.out in
+    then_refuses c.act.result (IsRefusedBy o.action o w between new) (RefusesBlock o (lines_of c.args.block.now))
+    (λ no. refused w between new (cc (c.in-Ok.ensures.ok.1, c.as_slice.ensures.value)) no) c.act.ensures.refused

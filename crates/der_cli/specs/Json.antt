@@ -1,0 +1,98 @@
+-- What is written of an element as JSON.
+use Rattle.std.specs.Prelude.{◌≡◌, ◌⊎◌, ◌==◌, ◌^◌, ◌||◌, ℕ, not, nat_lt, Bool, true, false, if◌then◌else◌, IsTrue}
+use Rattle.std.specs.Prelude.{IfSome, MatchBool, ℤ, pos, negsuc, Option, Some, None, option_map}
+use Rattle.std.specs.Prelude.{List, [], ◌∷◌, ◌++◌, codes, string_bytes}
+use Rattle.std.specs.Str.{is_utf8}
+use Rattle.std.specs.Io.KnownBytes.{Appends}
+use Rattle.serde.specs.Event.{Log}
+use Rattle.serde_json.specs.Data.{Data, boolean, negative, null, number, string, unsigned}
+use Rattle.serde_json.specs.Sent.{IsTextOf}
+use Rattle.serde_json.specs.View.{view}
+use Rattle.hex.specs.Hex.{encode_lower}
+use Rattle.der_base.specs.declared.header.Class.{Class}
+use Rattle.der_base.specs.declared.header.Class.TheVariants.{Universal, Application, ContextSpecific, Private}
+use Rattle.der_base.specs.Octets.{integer_value}
+use Rattle.der_base.specs.Text.{is_text_type}
+use Rattle.der_print.specs.Quotes.{unquoted_text}
+use Rattle.der_print.specs.Remarks.{remark_text}
+use Rattle.der_print.specs.Values.{IsNameOf, identifier_text, is_other_type, is_quoted_type}
+use Rattle.der_cli.specs.declared.json.Object.{Object}
+use Rattle.der_cli.specs.declared.options.Options.{Options}
+use Rattle.der_cli.specs.declared.origin.Origin.{Origin}
+use Rattle.der_cli.specs.Arguments.{class_word}
+use Rattle.der_cli.specs.Labels.{label_text}
+use Rattle.der_walk.specs.TypeNames.{type_text}
+use Rattle.der_walk.specs.Visits.{Visited}
+
+-- a text is JSON without spaces
+abbrev pub IsJson : List ℕ → Type 0
+IsJson text = (log : Log) × IsTextOf log text
+
+-- known octets grew by a line of JSON
+pub record AddsJson (old new : Option (List ℕ)) : Type 0 where
+  pub text : List ℕ
+  pub is_json : IsJson text
+  pub adds : Appends old new (text ++ codes "\n")
+
+-- a number of 64 bits, or the digits of a larger one
+abbrev pub json_number : List ℕ → ℤ → Data
+json_number w (pos n) = if nat_lt n (2 ^ 64) then number (unsigned n) else string (encode_lower w)
+json_number w (negsuc n) = if nat_lt n (2 ^ 63) then number (negative (negsuc n)) else string (encode_lower w)
+
+-- the octet of FALSE (X.690 8.2.2)
+abbrev pub is_false : List ℕ → Bool
+is_false (b ∷ []) = b == 0
+is_false w = false
+
+-- The value of a content by the number of its universal type.
+pub data IsUniversalJson (t : ℕ) (w : List ℕ) (d : Data) : Type 0 where
+  no_value : (t ≡ 0) ⊎ (t ≡ 5) → d ≡ null → IsUniversalJson t w d
+  truth : t ≡ 1 → d ≡ boolean (not (is_false w)) → IsUniversalJson t w d
+  json_integer : (t ≡ 2) ⊎ (t ≡ 10) → d ≡ json_number w (integer_value w) → IsUniversalJson t w d
+  identifier : t ≡ 6 → d ≡ string (identifier_text false w) → IsUniversalJson t w d
+  relative : t ≡ 13 → d ≡ string (identifier_text true w) → IsUniversalJson t w d
+  text : IsTrue (is_text_type t) → d ≡ string (if is_utf8 w then w else encode_lower w) → IsUniversalJson t w d
+  wide_text : (t ≡ 28) ⊎ (t ≡ 30) → d ≡ string (unquoted_text t w) → IsUniversalJson t w d
+  -- a BIT STRING, UTCTime and GeneralizedTime are a text as it is printed, of which no more is said
+  printed : (t ≡ 3) ⊎ (t ≡ 23) ⊎ (t ≡ 24) → (text : List ℕ) → d ≡ string text → IsUniversalJson t w d
+  octets : is_quoted_type t ≡ false → is_other_type t ≡ false → d ≡ string (encode_lower w) → IsUniversalJson t w d
+
+-- the value of a primitive element
+abbrev pub IsPrimitiveJson : Class → ℕ → List ℕ → Data → Type 0
+IsPrimitiveJson Universal t w d = IsUniversalJson t w d
+IsPrimitiveJson Application t w d = d ≡ string (encode_lower w)
+IsPrimitiveJson ContextSpecific t w d = d ≡ string (encode_lower w)
+IsPrimitiveJson Private t w d = d ≡ string (encode_lower w)
+
+-- the value of an element: none if its content is elements, which have objects of their own
+abbrev pub IsJsonValue : Visited → List ℕ → Data → Type 0
+IsJsonValue v w d = MatchBool (v.constructed || v.holds_der) (d ≡ null) (IsPrimitiveJson v.class v.number w d)
+
+-- the members that an element with this content determines
+pub record IsObjectOf (v : Visited) (w : List ℕ) (o : Object) : Type 0 where
+  pub offset : o.offset ≡ v.offset
+  pub depth : o.depth ≡ v.depth
+  pub header : o.header ≡ v.header
+  pub length : o.length ≡ v.length
+  pub class : o.class.now ≡ class_word v.class
+  pub tag : o.tag ≡ v.number
+  pub constructed : o.constructed ≡ v.constructed
+  pub kind : string_bytes o.kind ≡ type_text v.class v.number
+  pub value : IsJsonValue v w (view o.value)
+  -- the name of an OBJECT IDENTIFIER, if it has one
+  pub name : IfSome o.name (λ name. (v.class ≡ Universal) × (v.number ≡ 6) × IsNameOf w name.now)
+  -- what is said of a value that breaks its type
+  pub fault : option_map string_bytes o.fault
+      ≡ (if v.breaks_its_type then Some (remark_text v.class v.number w) else None)
+
+-- the members that say where it is from: the file if there are several, and the block
+pub record IsFrom (options : Options) (origin : Origin) (o : Object) : Type 0 where
+  pub file : option_map (λ name. name.now) o.file ≡ (if options.has_several_files then Some origin.name.now else None)
+  pub block : o.block ≡ option_map (λ b. b.number) origin.block
+  pub label : option_map string_bytes o.label ≡ option_map (λ b. label_text b.label.now) origin.block
+
+-- one line of JSON for each of some elements
+pub data AreJsonLines : List Visited → List ℕ → Type 0 where
+  no_lines : AreJsonLines [] []
+  one_more_line : {v : Visited} {vs : List Visited} (text rest : List ℕ) → IsJson text → AreJsonLines vs rest
+      → AreJsonLines (v ∷ vs) (text ++ codes "\n" ++ rest)

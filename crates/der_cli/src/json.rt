@@ -1,0 +1,324 @@
+//! The elements of an input as lines of JSON.
+ghost use Rattle.std.specs.Prelude.{◌≡◌, ℕ, IfOk, IfSome, IsTrue, List, None, OnOk, Some, false, if◌then◌else◌};
+ghost use Rattle.std.specs.Prelude.{option_map, string_bytes};
+ghost use Rattle.der_cli.specs.Arguments.{class_word};
+ghost use Rattle.std.specs.Str.{is_utf8};
+ghost use Rattle.hex.specs.Hex.{encode_lower};
+ghost use Rattle.serde_json.specs.Data.{string};
+ghost use Rattle.serde_json.specs.View.{view};
+ghost use Rattle.der_base.specs.Octets.{integer_value};
+ghost use Rattle.der_print.specs.Quotes.{unquoted_text};
+ghost use Rattle.der_print.specs.Texts.{content_of};
+ghost use Rattle.der_print.specs.Remarks.{remark_text};
+ghost use Rattle.der_print.specs.Values.{IsNameOf, identifier_text};
+ghost use Rattle.der_base.specs.declared.header.Class.{Class};
+ghost use Rattle.der_cli.specs.Json.{AddsJson, IsFrom, IsJson, IsJsonValue, IsObjectOf, IsUniversalJson};
+ghost use Rattle.der_cli.specs.Json.{is_false, json_number};
+ghost use Rattle.der_cli.specs.Labels.{label_text};
+ghost use Rattle.der_cli.specs.Outputs.{RefusesJson, WritesJson};
+ghost use Rattle.der_walk.specs.Walked.{visited_of};
+
+use crate::label::Label;
+use crate::options::Options;
+use crate::origin::Origin;
+use crate::report::report;
+use der_base::header::Class;
+use der_base::integer::{read_i64, read_u64};
+use oid_names::name_of;
+use der_print::{
+    Arcs, Hex, Limit, Remark, Unquoted, Value as Printed, is_quoted_type, octets_or_none,
+};
+use der_walk::{Element, Walk};
+use serde::Serialize;
+use serde_json::Value;
+use std::alloc::{AllocError, Global};
+use std::io::{ErrorKind, Write};
+use std::{io, str};
+
+/// An element as an object of JSON.
+#[derive(Drop, Serialize)]
+struct Object<'a> {
+    /// The name of the file, if there are several.
+    #[serde(skip_serializing_if = "Option::is_none")]
+    file: Option<&'a str>,
+    /// The number and the label of the block, if the file has blocks.
+    #[serde(skip_serializing_if = "Option::is_none")]
+    block: Option<usize>,
+    #[serde(skip_serializing_if = "Option::is_none")]
+    label: Option<String>,
+    offset: usize,
+    depth: usize,
+    header: usize,
+    length: Option<usize>,
+    class: &'static str,
+    tag: u32,
+    constructed: bool,
+    #[serde(rename = "type")]
+    kind: String,
+    value: Value,
+    #[serde(skip_serializing_if = "Option::is_none")]
+    name: Option<&'static str>,
+    /// What is wrong with a text.
+    #[serde(skip_serializing_if = "Option::is_none")]
+    fault: Option<String>,
+}
+
+/// Writes a line of JSON for each element of octets, and reports on `err` why they are refused. Returns whether
+/// they were elements to their end.
+pub(crate) fn print_json<W: Write, X: Write>(
+    alloc: Global,
+    options: &Options,
+    origin: Origin<'_>,
+    octets: &[u8],
+    out: &mut W,
+    err: &mut X,
+) -> io::Result<bool>
+    ensures read { IfOk result (λ ok. IsTrue ok
+        → WritesJson options.now octets.now (W.contents out.old) (W.contents out.new)) }
+    ensures refused { IfOk result (λ ok. ok ≡ false
+        → RefusesJson options.now octets.now (W.contents out.old) (W.contents out.new)) }
+{
+    let mut walk = Walk::new(octets, options.rules, options.enters_strings).keeping_values();
+    let mut read = 0;
+    // An element has two octets at least, so the loop ends at the end of the octets.
+    'elements: while read <= octets.len() {
+        match walk.next_element() {
+            Ok(Some(element)) => write_json(alloc, options, origin, &element, out)?,
+            Ok(None) => return Ok(true),
+            Err(refusal) => {
+                out.flush()?;
+                report(origin, &walk, &refusal, err)?;
+                return Ok(false);
+            }
+        }
+        read += 1;
+    }
+    Ok(false)
+}
+
+/// Writes an element as a line of JSON.
+fn write_json<W: Write>(
+    alloc: Global,
+    options: &Options,
+    origin: Origin<'_>,
+    element: &Element<'_>,
+    out: &mut W,
+) -> io::Result<()>
+    ensures { OnOk result (AddsJson (W.contents out.old) (W.contents out.new)) }
+{
+    let object = object_of(alloc, options, origin, element)?;
+    let text = json_of(alloc, &object)?;
+    out.write_all(text.as_bytes())?;
+    out.write_all(b"\n")
+}
+
+/// The text of an object, which is one line.
+fn json_of(alloc: Global, object: &Object<'_>) -> io::Result<String>
+    ensures { IfOk result (λ text. IsJson (string_bytes text)) }
+{
+    match serde_json::to_string(alloc, object) {
+        Ok(text) => Ok(text),
+        Err(_) => Err(io::Error::from(ErrorKind::OutOfMemory)),
+    }
+}
+
+/// An element as an object.
+fn object_of<'a>(
+    alloc: Global,
+    options: &Options,
+    origin: Origin<'a>,
+    element: &Element<'_>,
+) -> io::Result<Object<'a>>
+    ensures element { IfOk result (IsObjectOf (visited_of element.now) (content_of element.now)) }
+    ensures origin { IfOk result (IsFrom options.now origin.entry) }
+{
+    let kind = format!(in alloc; "{}", element.name())?;
+    let value = value_of(alloc, element)?;
+    let file = if options.has_several_files {
+        Some(origin.name)
+    } else {
+        None
+    };
+    let (block, label) = block_in(alloc, origin)?;
+    Ok(Object {
+        file,
+        block,
+        label,
+        offset: element.offset,
+        depth: element.depth,
+        header: element.header,
+        length: element.length,
+        class: class_name(element.class),
+        tag: element.number,
+        constructed: element.constructed,
+        kind,
+        value,
+        name: name_in(element),
+        fault: fault_in(alloc, element)?,
+    })
+}
+
+/// The number and the label of a block.
+fn block_in(
+    alloc: Global,
+    origin: Origin<'_>,
+) -> Result<(Option<usize>, Option<String>), AllocError>
+    ensures number { IfOk result (λ p. p.0 ≡ option_map (λ b. b.number) origin.entry.block) }
+    ensures label { IfOk result (λ p. option_map string_bytes p.1
+        ≡ option_map (λ b. label_text b.label.now) origin.entry.block) }
+{
+    match origin.block {
+        Some(block) => {
+            let label = format!(in alloc; "{}", Label(block.label))?;
+            Ok((Some(block.number), Some(label)))
+        }
+        None => Ok((None, None)),
+    }
+}
+
+/// The word of a class.
+fn class_name(class: Class) -> &'static str
+    ensures { result.now ≡ class_word class }
+{
+    match class {
+        Class::Universal => "universal",
+        Class::Application => "application",
+        Class::ContextSpecific => "context-specific",
+        Class::Private => "private",
+    }
+}
+
+/// The name of an object identifier.
+fn name_in(element: &Element<'_>) -> Option<&'static str>
+    ensures { IfSome result (λ name. (element.now.class ≡ Class.Universal) × (element.now.number ≡ 6)
+        × IsNameOf (content_of element.now) name.now) }
+{
+    if element.constructed || !element.is_universal(6) {
+        return None;
+    }
+    name_of(octets_or_none(element.content))
+}
+
+/// What is said of a value that breaks its type.
+fn fault_in(alloc: Global, element: &Element<'_>) -> Result<Option<String>, AllocError>
+    ensures { let e = element.now in IfOk result (λ fault. option_map string_bytes fault
+        ≡ (if e.breaks_its_type then Some (remark_text e.class e.number (content_of e)) else None)) }
+{
+    if !element.breaks_its_type {
+        return Ok(None);
+    }
+    let element = *element;
+    let text = format!(in alloc; "{}", Remark { element })?;
+    Ok(Some(text))
+}
+
+/// The value of an element. Null if its content is elements.
+fn value_of(alloc: Global, element: &Element<'_>) -> Result<Value, AllocError>
+    ensures { IfOk result (λ value. IsJsonValue (visited_of element.now) (content_of element.now) (view value)) }
+{
+    if element.constructed || element.holds_der {
+        return Ok(Value::Null);
+    }
+    let octets = octets_or_none(element.content);
+    if element.class != Class::Universal {
+        return hex(alloc, octets);
+    }
+    universal_value(alloc, element, octets)
+}
+
+/// The value of a universal type.
+fn universal_value(alloc: Global, element: &Element<'_>, octets: &[u8]) -> Result<Value, AllocError>
+    ensures { IfOk result (λ value. IsUniversalJson element.now.number octets.now (view value)) }
+{
+    let number = element.number;
+    match number {
+        0 | 5 => Ok(Value::Null),
+        1 => Ok(Value::Bool(!is_false(octets))),
+        2 | 10 => integer(alloc, octets),
+        6 => arcs(alloc, octets, false),
+        13 => arcs(alloc, octets, true),
+        3 => printed(alloc, element),
+        23 => printed(alloc, element),
+        24 => printed(alloc, element),
+        28 => wide_text(alloc, number, octets),
+        30 => wide_text(alloc, number, octets),
+        _ if is_quoted_type(number) => text(alloc, octets),
+        _ => hex(alloc, octets),
+    }
+}
+
+/// Whether octets are those of FALSE.
+fn is_false(octets: &[u8]) -> bool
+    ensures { result ≡ is_false octets.now }
+{
+    match octets {
+        [octet] => *octet == 0,
+        _ => false,
+    }
+}
+
+/// An identifier, with points between its arcs.
+fn arcs(alloc: Global, octets: &[u8], relative: bool) -> Result<Value, AllocError>
+    ensures { IfOk result (λ value. view value ≡ string (identifier_text relative octets.now)) }
+{
+    string(format!(in alloc; "{}", Arcs { octets, relative })?)
+}
+
+fn string(text: String) -> Result<Value, AllocError>
+    ensures { IfOk result (λ value. view value ≡ string (string_bytes text)) }
+{
+    Ok(Value::String(text))
+}
+
+/// A number of 64 bits, or the digits of a larger one.
+fn integer(alloc: Global, octets: &[u8]) -> Result<Value, AllocError>
+    ensures { IfOk result (λ value. view value ≡ json_number octets.now (integer_value octets.now)) }
+{
+    if let Ok(number) = read_i64(octets) {
+        return Ok(Value::from(number));
+    }
+    if let Ok(number) = read_u64(octets) {
+        return Ok(Value::from(number));
+    }
+    hex(alloc, octets)
+}
+
+/// A text, or the digits of octets that aren't UTF-8.
+fn text(alloc: Global, octets: &[u8]) -> Result<Value, AllocError>
+    ensures { IfOk result (λ value. view value
+        ≡ string (if is_utf8 octets.now then octets.now else encode_lower octets.now)) }
+{
+    match str::from_utf8(octets) {
+        Ok(text) => Value::try_from_str(alloc, text),
+        Err(_) => hex(alloc, octets),
+    }
+}
+
+/// The characters of a BMPString or a UniversalString.
+fn wide_text(alloc: Global, number: u32, octets: &[u8]) -> Result<Value, AllocError>
+    ensures { IfOk result (λ value. view value ≡ string (unquoted_text number octets.now)) }
+{
+    string(format!(in alloc; "{}", Unquoted { octets, number })?)
+}
+
+fn hex(alloc: Global, octets: &[u8]) -> Result<Value, AllocError>
+    ensures { IfOk result (λ value. view value ≡ string (encode_lower octets.now)) }
+{
+    let limit = Limit::Whole;
+    string(format!(in alloc; "{}", Hex { octets, limit })?)
+}
+
+/// The value as it is printed for people.
+fn printed(alloc: Global, element: &Element<'_>) -> Result<Value, AllocError>
+    ensures { IfOk result (λ value. (text : List ℕ) × (view value ≡ string text)) }
+{
+    let element = *element;
+    let text = format!(in alloc;
+        "{}",
+        Printed {
+            element,
+            limit: Limit::Whole
+        }
+    )?;
+    Value::try_from_str(alloc, text.trim().trim_matches('"'))
+}

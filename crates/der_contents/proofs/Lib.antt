@@ -1,0 +1,3 @@
+pub mod FormLaws
+pub mod GrammarLaws
+pub mod RuleLaws

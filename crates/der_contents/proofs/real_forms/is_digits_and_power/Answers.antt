@@ -1,0 +1,15 @@
+use Rattle.der_base.specs.Time.{IsDigit}
+use Rattle.der_contents.specs.Grammar.{AnyThen}
+use Rattle.der_contents.specs.RealForms.{IsPower}
+use Rattle.der_contents.proofs.FormLaws.{power_no_digit}
+use Rattle.der_contents.proofs.GrammarLaws.{never_told, one_is, some_passed, told_at}
+use Rattle.der_contents.proofs.real_forms.is_digits_and_power.Goals as goal
+
+pub returns-in-Some : goal.returns-in-Some
+returns-in-Some c =
+    told_at _ _ _
+    (some_passed IsDigit IsPower power_no_digit c.args.octets.now c.in-Some.power.now c.in-Some.ensures)
+    c.is_power.ensures
+
+pub returns-in-None : goal.returns-in-None
+returns-in-None c = never_told _ (λ o. one_is IsDigit (AnyThen IsDigit IsPower) c.args.octets.now o c.in-None.ensures)
