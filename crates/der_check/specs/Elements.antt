@@ -1,31 +1,15 @@
 -- Octets that are elements of BER or DER, one after another (X.690 8.1.1).
-use Rattle.std.specs.Prelude.{◌≡◌, ◌≢◌, ℕ, suc, ◌^◌, ◌<◌, ◌⊎◌, Bool, true, false}
+use Rattle.std.specs.Prelude.{◌≡◌, ◌≢◌, ℕ, suc, ◌^◌, ◌<◌, Bool, true, false}
 use Rattle.std.specs.Prelude.{List, [], ◌∷◌, ◌++◌, length}
 use Rattle.der_base.specs.declared.header.Class.{Class}
 use Rattle.der_base.specs.declared.header.Class.TheVariants.{Universal}
 use Rattle.der_base.specs.Leaf.{is_list, is_mapped}
 use Rattle.der_base.specs.Octets.{identifier, shortest_length, SpellsLength}
-use Rattle.der_base.specs.Spelling.{BerSpells, DerSpells, end_marker, framing_budget}
+use Rattle.der_base.specs.Spelling.{end_marker}
 use Rattle.der_base.specs.Text.{is_one_of}
-use Rattle.der_base.specs.Tree.{Node, node, Content, object_identifier, relative_oid}
 use Rattle.der_base.specs.declared.rules.Rules.{Rules}
 use Rattle.der_base.specs.declared.rules.Rules.TheVariants.{Ber, Der}
-use Rattle.der_values.specs.Kinds.{HasPaddedArc}
-
--- no arc of an identifier is padded (8.19.2, 8.20.2)
-abbrev pub HasNoPaddedArc : Node → Type 0
-HasNoPaddedArc (node c p t (object_identifier r w)) = ¬ HasPaddedArc w
-HasNoPaddedArc (node c p t (relative_oid r w)) = ¬ HasPaddedArc w
-HasNoPaddedArc _ = Unit {0}
-
--- the octets spell an object without others inside, whatever its arcs are
-abbrev pub SpellsObject : Rules → List ℕ → Node → Type 0
-SpellsObject Ber b o = BerSpells b o 1 framing_budget
-SpellsObject Der b o = DerSpells b o 1
-
--- the same, and no arc is padded
-abbrev pub SpellsOne : Rules → List ℕ → Node → Type 0
-SpellsOne r b o = SpellsObject r b o × HasNoPaddedArc o
+use Rattle.der_contents.specs.ContentRules.{IsContent}
 
 -- the length octets of a definite length: any, or by DER the fewest (8.1.3.3, 10.1)
 abbrev pub SpellsLengthBy : Rules → List ℕ → ℕ → Type 0
@@ -42,6 +26,11 @@ abbrev pub MayBeConstructed : Rules → Class → ℕ → Type 0
 MayBeConstructed Ber c t = c ≡ Universal → is_always_primitive t ≡ false
 MayBeConstructed Der c t = c ≡ Universal → (is_always_primitive t ≡ false) × (is_mapped t ≡ true → is_list t ≡ true)
 
+-- a primitive element of this class and number may have these content octets (8.2 to 8.26, and by DER 10 and 11); an
+-- end marker is no element (8.1.5)
+abbrev pub MayHaveContent : Rules → Class → ℕ → List ℕ → Type 0
+MayHaveContent r c t w = c ≡ Universal → (t ≢ 0) × IsContent r t w
+
 mutual
   -- elements, one after another, to a depth
   pub data AreElements (r : Rules) : ℕ → List ℕ → Type 0 where
@@ -49,12 +38,11 @@ mutual
     one_more : {d : ℕ} {i : List ℕ} (b rest : List ℕ) → i ≡ b ++ rest → IsElement r d b → AreElements r d rest
         → AreElements r d i
 
-  -- One element. An end marker is none, nor is an identifier with a padded arc. The content octets of a constructed one
-  -- are elements whatever its class (8.1.4), and an end marker follows them where the length is indefinite, which DER
-  -- forbids (8.1.3.6, 10.1).
+  -- One element. The content octets of a constructed one are elements whatever its class (8.1.4), and an end marker
+  -- follows them where the length is indefinite, which DER forbids (8.1.3.6, 10.1).
   pub data IsElement (r : Rules) : ℕ → List ℕ → Type 0 where
-    primitive : {d : ℕ} {b : List ℕ} (c : Class) (t : ℕ) (x : Content) → SpellsOne r b (node c false t x)
-        → (c ≡ Universal → t ≢ 0) → IsElement r (suc d) b
+    primitive : {d : ℕ} {b : List ℕ} (c : Class) (t : ℕ) (s w : List ℕ) → t < 2 ^ 32 → SpellsLengthBy r s (length w)
+        → b ≡ identifier c false t ++ s ++ w → MayHaveContent r c t w → IsElement r (suc d) b
     constructed : {d : ℕ} {b : List ℕ} (c : Class) (t : ℕ) (s w : List ℕ) → t < 2 ^ 32 → SpellsLengthBy r s (length w)
         → b ≡ identifier c true t ++ s ++ w → MayBeConstructed r c t → AreElements r d w → IsElement r (suc d) b
     indefinite : {d : ℕ} {b : List ℕ} (c : Class) (t : ℕ) (w : List ℕ) → t < 2 ^ 32 → r ≡ Ber
