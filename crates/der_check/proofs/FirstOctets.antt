@@ -1,6 +1,7 @@
 -- What the first octet says of identifier octets.
-use Rattle.std.proofs.Common.{◌≡◌, ℕ, ◌+◌, ◌/◌, ◌%◌, ◌<◌, Bool, true, false, nat_eq, List, ◌∷◌, ◌++◌, length, get_or, ◌↔◌, eq-eqb, refl, sym, ap, ◌∙◌, arith, ⊎_elim}
-use Rattle.std.proofs.lemmas.Bool.{cases_lt, eqb-true}
+use Rattle.std.proofs.Common.{◌≡◌, ℕ, ◌+◌, ◌/◌, ◌%◌, ◌<◌, Bool, true, false, List, ◌∷◌, ◌++◌, get_or, refl, sym, ap, ◌∙◌}
+use Rattle.std.proofs.Common.{arith, ⊎_elim}
+use Rattle.std.proofs.lemmas.Bool.{cases_lt}
 use Rattle.der_base.specs.declared.header.Class.{Class}
 use Rattle.der_base.specs.declared.header.Class.TheVariants.{Universal, Application, ContextSpecific, Private}
 use Rattle.der_base.specs.Octets.{identifier, leading_bits, groups}
@@ -13,7 +14,6 @@ pub record FirstOctet (c : Class) (p : Bool) (t : ℕ) (i : List ℕ) : Type 0 w
   pub small : low < 32
   pub octets : i ≡ (leading_bits c p + low) ∷ following
   pub zero_low : low ≡ 0 → t ≡ 0
-  pub zero_number : t ≡ 0 → low ≡ 0
 
 pub first_octet : (i : List ℕ) (c : Class) (p : Bool) (t : ℕ) (rest : List ℕ) → i ≡ identifier c p t ++ rest → FirstOctet c p t i
 first_octet i c p t rest e =
@@ -24,7 +24,6 @@ first_octet i c p t rest e =
       small = omega arith;
       octets = e ∙ ap (λ l. l ++ rest) (identifier_short c p t h);
       zero_low = λ z. z;
-      zero_number = λ z. z;
     })
     (λ h. record {
       low = 31;
@@ -32,7 +31,6 @@ first_octet i c p t rest e =
       small = omega arith;
       octets = e ∙ ap (λ l. l ++ rest) (identifier_long c p t h);
       zero_low = λ z. absurd (omega (arith, z));
-      zero_number = λ z. absurd (omega (arith, z, h));
     })
     (cases_lt t 31)
 
@@ -43,26 +41,8 @@ bit_true Application m first h e = omega (arith, e)
 bit_true ContextSpecific m first h e = omega (arith, e)
 bit_true Private m first h e = omega (arith, e)
 
-bit_false : (c : Class) (m first : ℕ) → m < 32 → first ≡ leading_bits c false + m → first / 32 % 2 ≡ 0
-bit_false Universal m first h e = omega (arith, e)
-bit_false Application m first h e = omega (arith, e)
-bit_false ContextSpecific m first h e = omega (arith, e)
-bit_false Private m first h e = omega (arith, e)
-
 pub first_is : (i : List ℕ) (c : Class) (p : Bool) (t : ℕ) → (f : FirstOctet c p t i) → get_or i 0 0 ≡ leading_bits c p + f.low
 first_is i c p t f = ap (λ l. get_or l 0 0) f.octets
-
-pub constructed_bit_is : (i : List ℕ) (c : Class) (q : Bool) (t : ℕ) (rest : List ℕ) → i ≡ identifier c q t ++ rest → q ≡ nat_eq (get_or i 0 0 / 32 % 2) 1
-constructed_bit_is i c true t rest e =
-    let f = first_octet i c true t rest e in
-    sym (ap (λ k. nat_eq k 1) (bit_true c f.low (get_or i 0 0) f.small (first_is i c true t f)))
-constructed_bit_is i c false t rest e =
-    let f = first_octet i c false t rest e in
-    sym (ap (λ k. nat_eq k 1) (bit_false c f.low (get_or i 0 0) f.small (first_is i c false t f)))
-
--- identifier octets have one
-pub no_first : {A : Type 0} (i : List ℕ) (c : Class) (q : Bool) (t : ℕ) (rest : List ℕ) → length i < 1 → i ≡ identifier c q t ++ rest → A
-no_first i c q t rest h e = let f = first_octet i c q t rest e in absurd (omega (arith, ap length f.octets, h))
 
 -- the class number 0
 first_zero : (c : Class) (m : ℕ) → leading_bits c false + m ≡ 0 → (c ≡ Universal) × (m ≡ 0)
@@ -76,15 +56,6 @@ zero_first i c t rest z e =
     let f = first_octet i c false t rest e in
     let n = first_zero c f.low (sym (first_is i c false t f) ∙ z) in
     (n.0, f.zero_low n.1)
-
-zero_back : (i : List ℕ) (c : Class) (t : ℕ) (rest : List ℕ) → i ≡ identifier c false t ++ rest → (c ≡ Universal) × (t ≡ 0) → get_or i 0 0 ≡ 0
-zero_back i c t rest e (u, z) =
-    let f = first_octet i c false t rest e in
-    let universal : leading_bits c false ≡ 0 = ap (λ k. leading_bits k false) u in
-    omega (arith, first_is i c false t f, universal, f.zero_number z)
-
-pub marker_is : (i : List ℕ) (c : Class) (t : ℕ) (rest : List ℕ) → i ≡ identifier c false t ++ rest → (nat_eq (get_or i 0 0) 0 ≡ true) ↔ ((c ≡ Universal) × (t ≡ 0))
-marker_is i c t rest e = (λ h. zero_first i c t rest (eqb-true (get_or i 0 0) 0 h) e, λ u. eq-eqb (get_or i 0 0) 0 (zero_back i c t rest e u))
 
 -- a constructed one isn't 0
 pub constructed_first : (i : List ℕ) (c : Class) (t : ℕ) (rest : List ℕ) → get_or i 0 0 ≡ 0 → i ≡ identifier c true t ++ rest → ⊥

@@ -55,23 +55,23 @@ header_same Der i u v s h =
     same_parts u v z.class z.constructed z.number (s.1 ∙ ap Definite z.length ∙ sym h.1) z.rest
 
 -- a definite length
-pub spells_definite : (r : Rules) (i : List ℕ) (c : Class) (t : ℕ) (s behind : List ℕ) (n : ℕ) → t < 2 ^ 32 → SpellsLengthBy r s n → i ≡ identifier c true t ++ (s ++ behind)
-    → SpellsHeaderBy r i (record { class = c; constructed = true; number = t; length = Definite n; rest = behind })
-spells_definite Ber i c t s behind n h l e = record { following = s ++ behind; octets = e; number = h; length = (s, l, refl) }
-spells_definite Der i c t s behind n h l e =
-    (n, refl, record { octets = e ∙ sym (append_assoc (identifier c true t) s behind) ∙ ap (λ k. identifier c true t ++ k ++ behind) l.1; number = h; length = l.0 })
+pub spells_definite : (r : Rules) (i : List ℕ) (c : Class) (p : Bool) (t : ℕ) (s behind : List ℕ) (n : ℕ) → t < 2 ^ 32 → SpellsLengthBy r s n → i ≡ identifier c p t ++ (s ++ behind)
+    → SpellsHeaderBy r i (record { class = c; constructed = p; number = t; length = Definite n; rest = behind })
+spells_definite Ber i c p t s behind n h l e = record { following = s ++ behind; octets = e; number = h; length = (s, l, refl) }
+spells_definite Der i c p t s behind n h l e =
+    (n, refl, record { octets = e ∙ sym (append_assoc (identifier c p t) s behind) ∙ ap (λ k. identifier c p t ++ k ++ behind) l.1; number = h; length = l.0 })
 
 -- its octets
-pub definite_spelled : (r : Rules) (i : List ℕ) (v : LeadingHeader) (n : ℕ) → SpellsHeaderBy r i v → v.constructed ≡ true → v.length ≡ Definite n
-    → (s : List ℕ) × (v.number < 2 ^ 32) × SpellsLengthBy r s n × (i ≡ identifier v.class true v.number ++ (s ++ v.rest))
-definite_spelled Ber i v n h ep el =
-    let begins = subst (λ l. BeginsWithHeader i v.class true v.number l v.rest) el (subst (λ q. BeginsWithHeader i v.class q v.number v.length v.rest) ep h) in
-    let s = definite_header i v.rest v.class true v.number n begins in
+pub definite_spelled : (r : Rules) (i : List ℕ) (v : LeadingHeader) (n : ℕ) → SpellsHeaderBy r i v → v.length ≡ Definite n
+    → (s : List ℕ) × (v.number < 2 ^ 32) × SpellsLengthBy r s n × (i ≡ identifier v.class v.constructed v.number ++ (s ++ v.rest))
+definite_spelled Ber i v n h el =
+    let begins = subst (λ l. BeginsWithHeader i v.class v.constructed v.number l v.rest) el h in
+    let s = definite_header i v.rest v.class v.constructed v.number n begins in
     (s.0, h.number, s.1, s.2)
-definite_spelled Der i v n h ep el =
+definite_spelled Der i v n h el =
     let e : h.0 ≡ n = (let stated = h.1 in cc) in
-    let f = λ (k : ℕ) (q : Bool). identifier v.class q v.number ++ shortest_length k ++ v.rest in
-    (shortest_length n, h.2.number, (omega (arith, h.2.length, e), refl), h.2.octets ∙ ap (λ k. f k v.constructed) e ∙ ap (λ q. f n q) ep ∙ append_assoc (identifier v.class true v.number) (shortest_length n) v.rest)
+    let front = identifier v.class v.constructed v.number in
+    (shortest_length n, h.2.number, (omega (arith, h.2.length, e), refl), h.2.octets ∙ ap (λ k. front ++ shortest_length k ++ v.rest) e ∙ append_assoc front (shortest_length n) v.rest)
 
 -- an indefinite one
 pub spells_open : (i : List ℕ) (c : Class) (t : ℕ) (behind : List ℕ) → t < 2 ^ 32 → i ≡ identifier c true t ++ 128 ∷ behind
@@ -79,12 +79,12 @@ pub spells_open : (i : List ℕ) (c : Class) (t : ℕ) (behind : List ℕ) → t
 spells_open i c t behind h e = record { following = 128 ∷ behind; octets = e; number = h; length = (refl, refl) }
 
 -- it is BER's
-pub open_spelled : (r : Rules) (i : List ℕ) (v : LeadingHeader) → SpellsHeaderBy r i v → v.constructed ≡ true → v.length ≡ Indefinite
+pub open_spelled : (r : Rules) (i : List ℕ) (v : LeadingHeader) → SpellsHeaderBy r i v → v.length ≡ Indefinite
     → (r ≡ Ber) × (v.number < 2 ^ 32) × (i ≡ identifier v.class true v.number ++ 128 ∷ v.rest)
-open_spelled Ber i v h ep el =
-    let begins = subst (λ l. BeginsWithHeader i v.class true v.number l v.rest) el (subst (λ q. BeginsWithHeader i v.class q v.number v.length v.rest) ep h) in
-    (refl, h.number, indefinite_header i v.rest v.class true v.number begins)
-open_spelled Der i v h ep el = absurd (let stated = h.1 in cc)
+open_spelled Ber i v h el =
+    let begins = subst (λ l. BeginsWithHeader i v.class v.constructed v.number l v.rest) el h in
+    (refl, h.number, indefinite_header i v.rest v.class v.constructed v.number begins)
+open_spelled Der i v h el = absurd (let stated = h.1 in cc)
 
 -- the identifier octets
 pub header_identifier : (r : Rules) (i : List ℕ) (v : LeadingHeader) → SpellsHeaderBy r i v → (s : List ℕ) × (i ≡ identifier v.class v.constructed v.number ++ s)

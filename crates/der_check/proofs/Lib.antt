@@ -1,6 +1,5 @@
-pub mod DerObjects
+pub mod Contents
 pub mod ElementLaws
 pub mod FirstOctets
 pub mod HeadersBy
-pub mod PaddedArcs
 pub mod Quick

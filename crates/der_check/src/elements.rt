@@ -1,16 +1,15 @@
 //! Elements and what is inside them: they call each other, a depth less at each constructed element.
 ghost use Rattle.std.specs.Prelude.{◌≡◌, ◌↔◌, ◌≤◌, ◌<◌, ◌++◌, ℕ, List, IfSome, IsTrue, MatchOption, false, length};
+ghost use Rattle.der_base.specs.Header.{class_of, number_of, length_of};
 ghost use Rattle.der_base.specs.Spelling.{end_marker};
 ghost use Rattle.der_check.specs.Elements.{AreElements, IsElement};
-ghost use Rattle.der_check.specs.Readers.{BeginsWithConstructed, BeginsWithElement, BeginsWithOpenContent};
-ghost use Rattle.der_check.specs.Readers.{BeginsWithPrimitive, Finds, IsPlain, StartsConstructed, StartsEndMarker};
+ghost use Rattle.der_check.specs.Readers.{BeginsWithContent, BeginsWithElement, BeginsWithElements};
+ghost use Rattle.der_check.specs.Readers.{BeginsWithOpenContent, Finds, IsPlain};
 
-use crate::arcs::is_identifier_octet;
-use crate::rules::{after_one, may_be_constructed};
-use der_base::header::Length;
+use crate::rules::{is_content, may_be_constructed, may_have_content};
+use der_base::header::{Header, Length};
 use der_base::rules::Rules;
-use der_nodes::{is_list_octet, is_plain_leaf, read_short};
-use der_values::has_padded_arc;
+use der_nodes::{is_list_octet, read_short};
 
 /// Whether octets are elements, one after another, and nothing else. The content of a constructed element
 /// of any class is such elements again (X.690 8.1.4), down to this depth.
@@ -60,20 +59,19 @@ fn after_element(i: &[u8], rules: Rules, max_depth: usize) -> Option<&[u8]>
             }
             return None;
         }
-        if is_plain(short.first, short.content) {
+        if is_plain(rules, short.first, short.content) {
             return Some(short.rest);
         }
     }
     after_any(i, rules, max_depth)
 }
 
-/// Whether an identifier octet and a content are those of a primitive element as both rules allow it. False for types
-/// that are rare.
+/// Whether an identifier octet and a content are those of a primitive element of a universal type.
 #[inline(always)]
-fn is_plain(first: u8, content: &[u8]) -> bool
-    ensures { IsTrue result → IsPlain first content.now }
+fn is_plain(rules: Rules, first: u8, content: &[u8]) -> bool
+    ensures { IsTrue result → IsPlain rules first content.now }
 {
-    is_plain_leaf(first, content) && !(is_identifier_octet(first) && has_padded_arc(content))
+    0 < first && first < 31 && is_content(rules, u32::from(first), content)
 }
 
 /// The same of any element, at a depth of at least 1.
@@ -84,69 +82,47 @@ fn after_any(i: &[u8], rules: Rules, max_depth: usize) -> Option<&[u8]>
     ensures exactly { Finds (BeginsWithElement rules max_depth i.now) result }
     ensures shorter { IfSome result (λ x. length x.now < length i.now) }
 {
-    if starts_constructed(i) {
-        after_constructed(i, rules, max_depth)
-    } else {
-        after_primitive(i, rules)
-    }
-}
-
-/// Whether the first octet is that of a constructed element (8.1.2.5).
-#[inline(always)]
-fn starts_constructed(i: &[u8]) -> bool
-    ensures { StartsConstructed i.now result }
-{
-    match i {
-        [first, ..] => first / 32 % 2 == 1,
-        [] => false,
-    }
-}
-
-/// The same of a primitive element. An end marker is none.
-#[inline(always)]
-fn after_primitive(i: &[u8], rules: Rules) -> Option<&[u8]>
-    requires { StartsConstructed i.now false }
-    ensures exactly { Finds (BeginsWithPrimitive rules i.now) result }
-    ensures shorter { IfSome result (λ x. length x.now < length i.now) }
-{
-    if starts_end_marker(i) {
-        return None;
-    }
-    after_one(rules, i)
-}
-
-/// Whether the first octet is that of an end marker (8.1.5).
-#[inline(always)]
-fn starts_end_marker(i: &[u8]) -> bool
-    ensures { StartsEndMarker i.now result }
-{
-    match i {
-        [first, ..] => *first == 0,
-        [] => false,
-    }
-}
-
-/// The same of a constructed element, whose content is elements.
-#[cycle(elements)]
-fn after_constructed(i: &[u8], rules: Rules, max_depth: usize) -> Option<&[u8]>
-    requires { 1 ≤ max_depth }
-    ensures exactly { Finds (BeginsWithConstructed rules max_depth i.now) result }
-    ensures shorter { IfSome result (λ x. length x.now < length i.now) }
-{
     let Ok((behind, header)) = rules.read_header(i) else {
         return None;
     };
-    if !header.constructed() || !may_be_constructed(rules, header.class(), header.tag()) {
+    if !header.constructed() {
+        return after_content(behind, &header, rules);
+    }
+    if !may_be_constructed(rules, header.class(), header.tag()) {
         return None;
     }
+    after_elements(behind, header.length(), rules, max_depth - 1)
+}
+
+/// What follows the content octets of a primitive element with this header, if it may have them.
+#[inline(always)]
+fn after_content<'a>(i: &'a [u8], header: &Header<'_>, rules: Rules) -> Option<&'a [u8]>
+    ensures exactly { let h = header.now in
+        Finds (BeginsWithContent rules (class_of h) (number_of h) (length_of h) i.now) result }
+    ensures shorter { IfSome result (λ x. length x.now ≤ length i.now) }
+{
     let Length::Definite(size) = header.length() else {
-        return after_open_content(behind, rules, max_depth - 1);
-    };
-    if size > behind.len() {
         return None;
+    };
+    let (content, rest) = i.split_at_checked(size)?;
+    if may_have_content(rules, header.class(), header.tag(), content) {
+        Some(rest)
+    } else {
+        None
     }
-    let (content, rest) = behind.split_at(size);
-    if are_elements(content, rules, max_depth - 1) {
+}
+
+/// What follows a content of this length, if it is elements.
+#[cycle(elements)]
+fn after_elements(i: &[u8], size: Length, rules: Rules, max_depth: usize) -> Option<&[u8]>
+    ensures exactly { Finds (BeginsWithElements rules max_depth size i.now) result }
+    ensures shorter { IfSome result (λ x. length x.now ≤ length i.now) }
+{
+    let Length::Definite(size) = size else {
+        return after_open_content(i, rules, max_depth);
+    };
+    let (content, rest) = i.split_at_checked(size)?;
+    if are_elements(content, rules, max_depth) {
         Some(rest)
     } else {
         None

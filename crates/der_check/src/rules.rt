@@ -1,40 +1,11 @@
 //! What an element may be, by the rules.
-ghost use Rattle.std.specs.Prelude.{◌↔◌, ◌<◌, IfOk, IfSome, IsTrue, length};
-ghost use Rattle.der_check.specs.Elements.{MayBeConstructed};
-ghost use Rattle.der_check.specs.Readers.{AnswersOneElement, BeginsWithOne, Finds};
+ghost use Rattle.std.specs.Prelude.{◌↔◌, IsTrue};
+ghost use Rattle.der_check.specs.Elements.{MayBeConstructed, MayHaveContent};
+ghost use Rattle.der_contents.specs.ContentRules.{IsContent};
 
-use crate::arcs::starts_padded;
-use der_base::error::{BerError, IResult};
 use der_base::header::{Class, Tag};
 use der_base::rules::Rules;
-use der_nodes::{check_ber, check_der};
-
-/// Checks the element at the start of the input, which has no others inside, as `check_ber` or
-/// `check_der`. They don't look at arcs.
-#[inline(always)]
-pub fn check_one<'a>(rules: Rules, i: &'a [u8]) -> IResult<&'a [u8], usize, BerError>
-    ensures exactly { AnswersOneElement rules i.now result }
-    ensures shorter { IfOk result (λ x. length x.0.now < length i.now) }
-{
-    match rules {
-        Rules::Ber => check_ber(i, 1),
-        Rules::Der => check_der(i, 1),
-    }
-}
-
-/// What follows the element at the start of the input, which has no others inside, if there is one.
-pub fn after_one(rules: Rules, i: &[u8]) -> Option<&[u8]>
-    ensures exactly { Finds (BeginsWithOne rules i.now) result }
-    ensures shorter { IfSome result (λ x. length x.now < length i.now) }
-{
-    let Ok((rest, _)) = check_one(rules, i) else {
-        return None;
-    };
-    if starts_padded(rules, i) {
-        return None;
-    }
-    Some(rest)
-}
+use der_contents::check_content;
 
 /// Whether an element of this class and number may be constructed: always by another class than
 /// Universal, by BER a list or a string, by DER a list.
@@ -48,4 +19,23 @@ pub fn may_be_constructed(rules: Rules, class: Class, tag: Tag) -> bool
         return tag == Tag::Sequence || tag == Tag::Set;
     }
     !matches!(tag.0, 0..=2 | 5 | 6 | 9 | 10 | 13)
+}
+
+/// Whether a primitive element of this class and number may have these content octets: always by another
+/// class than Universal. An end marker is no element.
+pub(crate) fn may_have_content(rules: Rules, class: Class, tag: Tag, octets: &[u8]) -> bool
+    ensures { IsTrue result ↔ MayHaveContent rules class tag.0 octets.now }
+{
+    if class != Class::Universal {
+        return true;
+    }
+    tag != Tag::EndOfContent && is_content(rules, tag.0, octets)
+}
+
+/// Whether the octets are a content of the universal type of this number.
+#[inline(always)]
+pub(crate) fn is_content(rules: Rules, number: u32, octets: &[u8]) -> bool
+    ensures { IsTrue result ↔ IsContent rules number octets.now }
+{
+    check_content(rules, number, octets).is_ok()
 }
