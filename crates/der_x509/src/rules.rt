@@ -43,7 +43,7 @@ pub enum Rule {
     NamedSubject,
     /// The values of any type are in DER (X.690 10): the parameters of the algorithms and of the key, and
     /// the attributes' values of the issuer and the subject. Each is an element as `der_check` reads one,
-    /// with others inside to the depth `MAX_RECURSION`: so a TeletexString that isn't UTF-8 breaks it.
+    /// with others inside to the depth `MAX_RECURSION`.
     DerValues,
 }
 

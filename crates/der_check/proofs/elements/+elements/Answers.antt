@@ -1,86 +1,23 @@
-use Rattle.std.proofs.Common.{◌≡◌, ◌-◌, ◌<◌, ◌++◌, [], length, take, true, Some, None, sym, ap, subst, ◌∙◌, arith, rules, IsTrue}
-use Rattle.std.proofs.lemmas.List.{take-append-drop, nil_from_length}
-use Rattle.der_base.specs.declared.header.Length.TheVariants.{Definite, Indefinite}
-use Rattle.der_base.specs.Header.{class_of, is_constructed, number_of}
+use Rattle.std.proofs.Common.{◌≡◌, ◌-◌, ◌<◌, ◌++◌, [], length, take, false, true, Some, None, sym, ap, subst, ◌∙◌, arith, rules, IsTrue}
+use Rattle.std.proofs.lemmas.List.{nil_from_length}
+use Rattle.der_base.specs.declared.header.Length.TheVariants.{Definite}
+use Rattle.der_base.specs.Header.{class_of, is_constructed, length_of, number_of}
 use Rattle.der_base.specs.Headers.{leading_header}
 use Rattle.der_check.specs.Elements.{AreElements, MayBeConstructed, none}
 use Rattle.der_check.proofs.HeadersBy.{header_read, header_shorter}
-use Rattle.der_check.proofs.ElementLaws.{none_read, none_constructed, constructed_finds, too_long, content_finds, no_content, by_constructed, by_primitive, left, before, not_elements, open_left, open_before, open_none, open_end}
+use Rattle.der_check.proofs.ElementLaws.{before, constructed_follow, left, no_part, none_constructed, none_read, not_elements, open_before, open_end, open_left, open_none, part_found, read_finds, too_long}
 use Rattle.der_check.proofs.Quick.{no_short_list, short_list, short_plain}
-use Rattle.der_check.proofs.elements.+elements.Goals.{after_constructed-then-not-constructed-via-then-not-constructed, after_constructed-then-not-constructed-via-else-not-constructed+then-not-may_be_constructed}
 use Rattle.der_check.proofs.elements.+elements.Goals as goal
 
--- a constructed element
+-- a content
 
-pub after_constructed-returns-in_default-clause-exactly : goal.after_constructed-returns-in_default-clause-exactly
-after_constructed-returns-in_default-clause-exactly t c = none_read c.args.rules c.args.max_depth c.args.i.now c.in_default.field-0 c.in_default.ensures
-
-pub after_constructed-returns-then-not-constructed-clause-exactly : goal.after_constructed-returns-then-not-constructed-clause-exactly
-after_constructed-returns-then-not-constructed-clause-exactly t c =
-    none_constructed c.args.rules c.args.max_depth c.args.i.now (c.in-Ok.behind, c.in-Ok.header) c.in-Ok.ensures (λ ep m.
-    elim c.then-not-constructed.branch [
-      | after_constructed-then-not-constructed-via-then-not-constructed w ↦ absurd (let f = w.if-not-constructed.true in let g = c.constructed.ensures in cc)
-      | after_constructed-then-not-constructed-via-else-not-constructed+then-not-may_be_constructed w ↦
-          (let may : MayBeConstructed c.args.rules w.class.result w.tag.result.0 = rw (w.class.ensures, w.tag.ensures) m in
-          let yes : IsTrue w.may_be_constructed.result = w.may_be_constructed.ensures.1 may in
-          absurd (let f = w.if-not-may_be_constructed.true in search (rules, f, yes)))
-    ])
-
-pub after_constructed-returns-in_default-length-clause-exactly : goal.after_constructed-returns-in_default-length-clause-exactly
-after_constructed-returns-in_default-length-clause-exactly t c =
-    let h = c.in-Ok.header in
-    let ep : is_constructed h ≡ true = (let f = c.if-not-constructed.false in let g = c.constructed.ensures in cc) in
-    let may : MayBeConstructed c.args.rules (class_of h) (number_of h) = rw (← c.class.ensures, ← c.tag.ensures) (c.if-not-may_be_constructed.ensures.0 (search rules)) in
-    constructed_finds c.args.rules c.args.max_depth c.args.i.now (c.in-Ok.behind, c.in-Ok.header) Indefinite c.after_open_content.result c.in-Ok.ensures ep may (sym c.in_default-length.ensures) c.after_open_content.ensures.exactly
-
-pub after_constructed-returns-then-size-behind-clause-exactly : goal.after_constructed-returns-then-size-behind-clause-exactly
-after_constructed-returns-then-size-behind-clause-exactly t c =
-    let h = c.in-Ok.header in
-    let ep : is_constructed h ≡ true = (let f = c.if-not-constructed.false in let g = c.constructed.ensures in cc) in
-    let may : MayBeConstructed c.args.rules (class_of h) (number_of h) = rw (← c.class.ensures, ← c.tag.ensures) (c.if-not-may_be_constructed.ensures.0 (search rules)) in
-    constructed_finds c.args.rules c.args.max_depth c.args.i.now (c.in-Ok.behind, c.in-Ok.header) (Definite c.in-Definite.size) None c.in-Ok.ensures ep may (sym c.in-Definite.ensures)
-    (too_long c.args.rules (c.args.max_depth - 1) c.in-Definite.size c.in-Ok.behind.now c.if-size-behind.true)
-
-pub after_constructed-returns-then-are_elements-clause-exactly : goal.after_constructed-returns-then-are_elements-clause-exactly
-after_constructed-returns-then-are_elements-clause-exactly t c =
-    let h = c.in-Ok.header in
-    let ep : is_constructed h ≡ true = (let f = c.if-not-constructed.false in let g = c.constructed.ensures in cc) in
-    let may : MayBeConstructed c.args.rules (class_of h) (number_of h) = rw (← c.class.ensures, ← c.tag.ensures) (c.if-not-may_be_constructed.ensures.0 (search rules)) in
-    let n = c.in-Definite.size in
-    let behind = c.in-Ok.behind.now in
-    let w = c.split_at.result.0.now in
-    let rest = c.split_at.result.1.now in
-    let parts : behind ≡ w ++ rest = sym (ap (λ v. v ++ rest) c.split_at.ensures.front ∙ ap (λ v. take n behind ++ v) c.split_at.ensures.back ∙ take-append-drop n behind) in
-    constructed_finds c.args.rules c.args.max_depth c.args.i.now (c.in-Ok.behind, c.in-Ok.header) (Definite c.in-Definite.size) (Some c.split_at.result.1) c.in-Ok.ensures ep may (sym c.in-Definite.ensures)
-    (content_finds c.args.rules (c.args.max_depth - 1) n behind w c.split_at.result.1 c.split_at.ensures.front_len parts (c.if-are_elements.ensures.0 (search rules)))
-
-pub after_constructed-returns-then-are_elements-clause-shorter : goal.after_constructed-returns-then-are_elements-clause-shorter
-after_constructed-returns-then-are_elements-clause-shorter t c =
-    let s = header_shorter c.args.rules c.args.i.now (leading_header (c.in-Ok.behind, c.in-Ok.header)) (header_read c.args.rules c.args.i.now (c.in-Ok.behind, c.in-Ok.header) c.in-Ok.ensures) in
-    omega (arith, s, c.split_at.ensures.back_len)
-
-pub after_constructed-returns-else-are_elements-clause-exactly : goal.after_constructed-returns-else-are_elements-clause-exactly
-after_constructed-returns-else-are_elements-clause-exactly t c =
-    let h = c.in-Ok.header in
-    let ep : is_constructed h ≡ true = (let f = c.if-not-constructed.false in let g = c.constructed.ensures in cc) in
-    let may : MayBeConstructed c.args.rules (class_of h) (number_of h) = rw (← c.class.ensures, ← c.tag.ensures) (c.if-not-may_be_constructed.ensures.0 (search rules)) in
-    let n = c.in-Definite.size in
-    let behind = c.in-Ok.behind.now in
-    let w = c.split_at.result.0.now in
-    let rest = c.split_at.result.1.now in
-    let parts : behind ≡ w ++ rest = sym (ap (λ v. v ++ rest) c.split_at.ensures.front ∙ ap (λ v. take n behind ++ v) c.split_at.ensures.back ∙ take-append-drop n behind) in
-    constructed_finds c.args.rules c.args.max_depth c.args.i.now (c.in-Ok.behind, c.in-Ok.header) (Definite c.in-Definite.size) None c.in-Ok.ensures ep may (sym c.in-Definite.ensures)
-    (no_content c.args.rules (c.args.max_depth - 1) n behind w rest c.split_at.ensures.front_len parts (λ a. absurd (search (rules, c.if-are_elements.ensures.1 a))))
+pub after_elements-returns-then-are_elements-clause-exactly : goal.after_elements-returns-then-are_elements-clause-exactly
+after_elements-returns-then-are_elements-clause-exactly t c = ?
 
 -- any element
 
-pub after_any-returns-then-starts_constructed-clause-exactly : goal.after_any-returns-then-starts_constructed-clause-exactly
-after_any-returns-then-starts_constructed-clause-exactly t c =
-    by_constructed c.args.rules c.args.max_depth c.args.i.now c.after_constructed.result c.requires c.if-starts_constructed.ensures c.after_constructed.ensures.exactly
-
-pub after_any-returns-else-starts_constructed-clause-exactly : goal.after_any-returns-else-starts_constructed-clause-exactly
-after_any-returns-else-starts_constructed-clause-exactly t c =
-    by_primitive c.args.rules c.args.max_depth c.args.i.now c.after_primitive.result c.requires c.if-starts_constructed.ensures c.after_primitive.ensures.exactly
+pub after_any-returns-in_default-clause-exactly : goal.after_any-returns-in_default-clause-exactly
+after_any-returns-in_default-clause-exactly t c = none_read c.args.rules c.args.max_depth c.args.i.now c.in_default.field-0 c.in_default.ensures
 
 -- an element
 
