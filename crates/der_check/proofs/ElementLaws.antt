@@ -1,6 +1,7 @@
 -- Elements at the start of an input: their headers, and what is left after them.
 use Rattle.std.proofs.Common.{◌≡◌, ℕ, zero, suc, ◌-◌, ◌<◌, ◌≤◌, Bool, true, false, List, [], ◌∷◌, ◌++◌, length, Option}
-use Rattle.std.proofs.Common.{Some, None, Ok, Err, refl, sym, ap, subst, ◌∙◌, arith, append_assoc, length-append}
+use Rattle.std.proofs.Common.{Some, None, Ok, Err, refl, sym, ap, subst, ◌∙◌, arith, append_assoc}
+use Rattle.std.specs.Prelude.{IfSome}
 use Rattle.std.specs.Borrow.{Bor}
 use Rattle.std.proofs.lemmas.List.{append-nil, nil_from_length}
 use Rattle.der_base.specs.declared.error.Err.{Err as Refused}
@@ -10,7 +11,6 @@ use Rattle.der_base.specs.declared.header.Length.{Length}
 use Rattle.der_base.specs.declared.header.Length.TheVariants.{Definite, Indefinite}
 use Rattle.der_base.specs.declared.header.Header.{Header}
 use Rattle.der_base.specs.declared.rules.Rules.{Rules}
-use Rattle.der_base.specs.declared.rules.Rules.TheVariants.{Ber}
 use Rattle.der_base.specs.Header.{class_of, is_constructed, number_of, length_of}
 use Rattle.der_base.specs.Headers.{LeadingHeader, leading_header}
 use Rattle.der_base.specs.Octets.{identifier}
@@ -24,7 +24,7 @@ use Rattle.der_check.specs.Readers.{Finds, BeginsWithContent, BeginsWithElement,
 use Rattle.der_check.specs.Readers.{BeginsWithOpenContent, BeginsWithPart}
 use Rattle.der_check.proofs.FirstOctets.{zero_first, constructed_first}
 use Rattle.der_check.proofs.HeadersBy.{spells_definite, definite_spelled, spells_open, open_spelled}
-use Rattle.der_check.proofs.HeadersBy.{header_only, header_read, header_refused}
+use Rattle.der_check.proofs.HeadersBy.{header_only, header_read, header_refused, header_shorter}
 
 -- an element doesn't begin with the octet of an end marker
 no_zero_first : (r : Rules) (d : ℕ) (b more rest : List ℕ) → IsElement r d b → 0 ∷ more ≡ b ++ rest → ⊥
@@ -128,7 +128,12 @@ pub constructed_follow : (r : Rules) (d : ℕ) (c : Class) (t : ℕ) (l : Length
 constructed_follow r d c t l i result m f = finds _ _ result (λ rest a. (m, a)) (λ rest a. a.1) f
 
 pub none_constructed : (r : Rules) (d : ℕ) (c : Class) (t : ℕ) (l : Length) (i : List ℕ) → (MayBeConstructed r c t → ⊥) → Finds (Follows r d c true t l i) None
-none_constructed r d c t l i no = record { found = tt; only = λ rest a. no a.0 }
+none_constructed r d c t l i never = record { found = tt; only = λ rest a. never a.0 }
+
+-- what follows the content is shorter than the input
+pub shorter : (r : Rules) (i : List ℕ) (x : Bor (List ℕ) × Header) (result : Option (Bor (List ℕ))) → AnswersHeader r i (Ok x) → IfSome result (λ y. length y.now ≤ length x.0.now) → IfSome result (λ y. length y.now < length i)
+shorter r i x (Some y) a h = omega (arith, h, header_shorter r i (leading_header x) (header_read r i x a))
+shorter r i x None a h = tt
 
 -- the first octets of an input
 
@@ -136,10 +141,7 @@ pub part_found : (P : List ℕ → Type 0) (n : ℕ) (i w : List ℕ) (rest : Bo
 part_found P n i w rest en e h = record { found = (w, en, e, h); only = λ rest' p. (fronts_same w p.0 rest.now rest' (en ∙ sym p.1) (sym e ∙ p.2)).1 }
 
 pub no_part : (P : List ℕ → Type 0) (n : ℕ) (i w rest : List ℕ) → length w ≡ n → i ≡ w ++ rest → (P w → ⊥) → Finds (BeginsWithPart P n i) None
-no_part P n i w rest en e no = record { found = tt; only = λ rest' p. no (subst P (sym (fronts_same w p.0 rest rest' (en ∙ sym p.1) (sym e ∙ p.2)).0) p.3) }
-
-pub too_long : (P : List ℕ → Type 0) (n : ℕ) (i : List ℕ) → length i < n → Finds (BeginsWithPart P n i) None
-too_long P n i h = record { found = tt; only = λ rest p. absurd (omega (arith, h, p.1, ap length p.2, length-append p.0 rest)) }
+no_part P n i w rest en e never = record { found = tt; only = λ rest' p. never (subst P (sym (fronts_same w p.0 rest rest' (en ∙ sym p.1) (sym e ∙ p.2)).0) p.3) }
 
 -- elements, one after another
 

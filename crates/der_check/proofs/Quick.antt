@@ -2,7 +2,6 @@
 use Rattle.std.proofs.Common.{◌≡◌, ℕ, ◌+◌, ◌-◌, ◌<◌, ◌≤◌, Bool, true, false, List, ◌++◌, length, Option, Some, None, refl}
 use Rattle.std.proofs.Common.{ap, arith, length-append, inl, inr}
 use Rattle.std.specs.Borrow.{Bor}
-use Rattle.der_base.specs.declared.header.Class.{Class}
 use Rattle.der_base.specs.declared.header.Class.TheVariants.{Universal}
 use Rattle.der_base.specs.declared.header.Length.TheVariants.{Definite}
 use Rattle.der_base.specs.declared.rules.Rules.{Rules}
@@ -50,7 +49,7 @@ pub short_list : (r : Rules) (d : ℕ) (i : List ℕ) (first : ℕ) (w : List �
 short_list r d i first w rest deep is short a = short_list_finds r d i first w rest.now (Some rest) deep is short (part_found (AreElements r (d - 1)) (length w) (w ++ rest.now) w rest refl refl a)
 
 pub no_short_list : (r : Rules) (d : ℕ) (i : List ℕ) (first : ℕ) (w rest : List ℕ) → 1 ≤ d → IsListOctet first → IsShort i first w rest → (AreElements r (d - 1) w → ⊥) → Finds (BeginsWithElement r d i) None
-no_short_list r d i first w rest deep is short no = short_list_finds r d i first w rest None deep is short (no_part (AreElements r (d - 1)) (length w) (w ++ rest) w rest refl refl no)
+no_short_list r d i first w rest deep is short never = short_list_finds r d i first w rest None deep is short (no_part (AreElements r (d - 1)) (length w) (w ++ rest) w rest refl refl never)
 
 -- a primitive element
 

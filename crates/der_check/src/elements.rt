@@ -118,10 +118,10 @@ fn after_elements(i: &[u8], size: Length, rules: Rules, max_depth: usize) -> Opt
     ensures exactly { Finds (BeginsWithElements rules max_depth size i.now) result }
     ensures shorter { IfSome result (λ x. length x.now ≤ length i.now) }
 {
-    let Length::Definite(size) = size else {
+    let Length::Definite(count) = size else {
         return after_open_content(i, rules, max_depth);
     };
-    let (content, rest) = i.split_at_checked(size)?;
+    let (content, rest) = i.split_at_checked(count)?;
     if are_elements(content, rules, max_depth) {
         Some(rest)
     } else {

@@ -1,23 +1,46 @@
-use Rattle.std.proofs.Common.{◌≡◌, ◌-◌, ◌<◌, ◌++◌, [], length, take, false, true, Some, None, sym, ap, subst, ◌∙◌, arith, rules, IsTrue}
+use Rattle.std.proofs.Common.{◌≡◌, ◌-◌, ◌<◌, [], length, false, true, None, sym, subst, arith, rules}
 use Rattle.std.proofs.lemmas.List.{nil_from_length}
-use Rattle.der_base.specs.declared.header.Length.TheVariants.{Definite}
 use Rattle.der_base.specs.Header.{class_of, is_constructed, length_of, number_of}
-use Rattle.der_base.specs.Headers.{leading_header}
 use Rattle.der_check.specs.Elements.{AreElements, MayBeConstructed, none}
-use Rattle.der_check.proofs.HeadersBy.{header_read, header_shorter}
-use Rattle.der_check.proofs.ElementLaws.{before, constructed_follow, left, no_part, none_constructed, none_read, not_elements, open_before, open_end, open_left, open_none, part_found, read_finds, too_long}
+use Rattle.der_check.specs.Readers.{BeginsWithElements, Finds}
+use Rattle.der_check.proofs.ElementLaws.{before, constructed_follow, left, none_constructed, none_read, not_elements, open_before, open_end, open_left, open_none, read_finds, shorter}
 use Rattle.der_check.proofs.Quick.{no_short_list, short_list, short_plain}
 use Rattle.der_check.proofs.elements.+elements.Goals as goal
-
--- a content
-
-pub after_elements-returns-then-are_elements-clause-exactly : goal.after_elements-returns-then-are_elements-clause-exactly
-after_elements-returns-then-are_elements-clause-exactly t c = ?
 
 -- any element
 
 pub after_any-returns-in_default-clause-exactly : goal.after_any-returns-in_default-clause-exactly
 after_any-returns-in_default-clause-exactly t c = none_read c.args.rules c.args.max_depth c.args.i.now c.in_default.field-0 c.in_default.ensures
+
+pub after_any-returns-then-not-constructed-clause-exactly : goal.after_any-returns-then-not-constructed-clause-exactly
+after_any-returns-then-not-constructed-clause-exactly t c =
+    let ep : is_constructed c.in-Ok.header ≡ false = (let f = c.if-not-constructed.true in let g = c.constructed.ensures in cc) in
+    read_finds c.args.rules c.args.max_depth c.args.i.now (c.in-Ok.behind, c.in-Ok.header) false c.after_content.result c.requires c.in-Ok.ensures ep c.after_content.ensures.exactly
+
+pub after_any-returns-then-not-constructed-clause-shorter : goal.after_any-returns-then-not-constructed-clause-shorter
+after_any-returns-then-not-constructed-clause-shorter t c = shorter c.args.rules c.args.i.now (c.in-Ok.behind, c.in-Ok.header) c.after_content.result c.in-Ok.ensures c.after_content.ensures.shorter
+
+pub after_any-returns-then-not-may_be_constructed-clause-exactly : goal.after_any-returns-then-not-may_be_constructed-clause-exactly
+after_any-returns-then-not-may_be_constructed-clause-exactly t c =
+    let h = c.in-Ok.header in
+    let ep : is_constructed h ≡ true = (let f = c.if-not-constructed.false in let g = c.constructed.ensures in cc) in
+    let never : MayBeConstructed c.args.rules (class_of h) (number_of h) → ⊥ = λ m.
+        let may : MayBeConstructed c.args.rules c.class.result c.tag.result.0 = rw (c.class.ensures, c.tag.ensures) m in
+        absurd (let f = c.if-not-may_be_constructed.true in search (rules, f, c.may_be_constructed.ensures.1 may)) in
+    read_finds c.args.rules c.args.max_depth c.args.i.now (c.in-Ok.behind, h) true None c.requires c.in-Ok.ensures ep
+    (none_constructed c.args.rules c.args.max_depth (class_of h) (number_of h) (length_of h) c.in-Ok.behind.now never)
+
+pub after_any-returns-clause-exactly : goal.after_any-returns-clause-exactly
+after_any-returns-clause-exactly t c =
+    let h = c.in-Ok.header in
+    let ep : is_constructed h ≡ true = (let f = c.if-not-constructed.false in let g = c.constructed.ensures in cc) in
+    let may : MayBeConstructed c.args.rules (class_of h) (number_of h) = rw (← c.class.ensures, ← c.tag.ensures) (c.may_be_constructed.ensures.0 (search rules)) in
+    let f = subst (λ l. Finds (BeginsWithElements c.args.rules (c.args.max_depth - 1) l c.in-Ok.behind.now) c.after_elements.result) c.length.ensures c.after_elements.ensures.exactly in
+    read_finds c.args.rules c.args.max_depth c.args.i.now (c.in-Ok.behind, h) true c.after_elements.result c.requires c.in-Ok.ensures ep
+    (constructed_follow c.args.rules c.args.max_depth (class_of h) (number_of h) (length_of h) c.in-Ok.behind.now c.after_elements.result may f)
+
+pub after_any-returns-clause-shorter : goal.after_any-returns-clause-shorter
+after_any-returns-clause-shorter t c = shorter c.args.rules c.args.i.now (c.in-Ok.behind, c.in-Ok.header) c.after_elements.result c.in-Ok.ensures c.after_elements.ensures.shorter
 
 -- an element
 

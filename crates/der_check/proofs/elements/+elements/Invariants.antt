@@ -3,20 +3,20 @@ use Rattle.der_check.specs.Elements.{AreElements}
 use Rattle.der_check.specs.Readers.{BeginsWithOpenContent}
 use Rattle.der_check.proofs.elements.+elements.Given as goal
 
-abbrev pub decreases-after_constructed : goal.decreases-after_constructed
-decreases-after_constructed l = 4 * l.max_depth
-
 abbrev pub decreases-after_any : goal.decreases-after_any
-decreases-after_any l = 4 * l.max_depth + 1
+decreases-after_any l = 4 * l.max_depth
 
 abbrev pub decreases-after_element : goal.decreases-after_element
-decreases-after_element l = 4 * l.max_depth + 2
+decreases-after_element l = 4 * l.max_depth + 1
 
 abbrev pub decreases-are_elements : goal.decreases-are_elements
-decreases-are_elements l = 4 * l.max_depth + 3
+decreases-are_elements l = 4 * l.max_depth + 2
 
 abbrev pub decreases-after_open_content : goal.decreases-after_open_content
-decreases-after_open_content l = 4 * l.max_depth + 3
+decreases-after_open_content l = 4 * l.max_depth + 2
+
+abbrev pub decreases-after_elements : goal.decreases-after_elements
+decreases-after_elements l = 4 * l.max_depth + 3
 
 -- the octets are elements iff what is left of them is
 abbrev pub invariant-are_elements-loop-rest : goal.invariant-are_elements-loop-rest
