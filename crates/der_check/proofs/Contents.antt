@@ -1,5 +1,5 @@
 -- Contents by the answer of their check.
-use Rattle.std.proofs.Common.{◌≡◌, ℕ, Bool, true, false, List, [], ◌∷◌, Result, Ok, Err, refl, inl, inr, IsTrue}
+use Rattle.std.proofs.Common.{List, [], ◌∷◌, Result, Ok, Err, refl, inl, inr, IsTrue}
 use Rattle.std.specs.Prelude.{◌↔◌, is_ok}
 use Rattle.der_contents.specs.declared.content_error.ContentError.{ContentError}
 use Rattle.der_contents.specs.ContentRules.{AllHold, Checks, IsFirstBroken, Rule}

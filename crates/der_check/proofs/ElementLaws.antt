@@ -1,9 +1,9 @@
 -- Elements at the start of an input: their headers, and what is left after them.
 use Rattle.std.proofs.Common.{◌≡◌, ℕ, zero, suc, ◌-◌, ◌<◌, ◌≤◌, Bool, true, false, List, [], ◌∷◌, ◌++◌, length, Option}
-use Rattle.std.proofs.Common.{Some, None, Ok, Err, refl, sym, ap, subst, ◌∙◌, arith, append_assoc}
+use Rattle.std.proofs.Common.{Some, None, Ok, Err, refl, sym, ap, subst, ◌∙◌, arith, append_assoc, take, drop}
 use Rattle.std.specs.Prelude.{IfSome}
 use Rattle.std.specs.Borrow.{Bor}
-use Rattle.std.proofs.lemmas.List.{append-nil, nil_from_length}
+use Rattle.std.proofs.lemmas.List.{append-nil, nil_from_length, take-append-drop}
 use Rattle.der_base.specs.declared.error.Err.{Err as Refused}
 use Rattle.der_base.specs.declared.error.Error.{Error as BerError}
 use Rattle.der_base.specs.declared.header.Class.{Class}
@@ -19,7 +19,7 @@ use Rattle.der_base.specs.Spelling.{end_marker}
 use Rattle.der_base.proofs.Framing.Elements.{definite_part, open_part}
 use Rattle.der_base.proofs.Octets.Identifiers.{fronts_same}
 use Rattle.der_check.specs.Elements.{AreElements, IsElement, none, one_more, primitive, constructed, indefinite}
-use Rattle.der_check.specs.Elements.{MayBeConstructed, SpellsLengthBy}
+use Rattle.der_check.specs.Elements.{MayBeConstructed, MayHaveContent, SpellsLengthBy}
 use Rattle.der_check.specs.Readers.{Finds, BeginsWithContent, BeginsWithElement, BeginsWithElements}
 use Rattle.der_check.specs.Readers.{BeginsWithOpenContent, BeginsWithPart}
 use Rattle.der_check.proofs.FirstOctets.{zero_first, constructed_first}
@@ -142,6 +142,26 @@ part_found P n i w rest en e h = record { found = (w, en, e, h); only = λ rest'
 
 pub no_part : (P : List ℕ → Type 0) (n : ℕ) (i w rest : List ℕ) → length w ≡ n → i ≡ w ++ rest → (P w → ⊥) → Finds (BeginsWithPart P n i) None
 no_part P n i w rest en e never = record { found = tt; only = λ rest' p. never (subst P (sym (fronts_same w p.0 rest rest' (en ∙ sym p.1) (sym e ∙ p.2)).0) p.3) }
+
+split : (n : ℕ) (i w rest : List ℕ) → w ≡ take n i → rest ≡ drop n i → i ≡ w ++ rest
+split n i w rest front back = sym (ap (λ v. v ++ rest) front ∙ ap (λ v. take n i ++ v) back ∙ take-append-drop n i)
+
+-- the content of a primitive element
+
+abbrev pub IsLengthOf : ℕ → List ℕ → List ℕ → List ℕ → Type 0
+IsLengthOf n i w rest = (length w ≡ n) × (w ≡ take n i) × (rest ≡ drop n i)
+
+pub content_found : (r : Rules) (c k : Class) (t u n : ℕ) (l : Length) (i w : List ℕ) (rest : Bor (List ℕ)) → c ≡ k → t ≡ u → Definite n ≡ l → IsLengthOf n i w rest.now → MayHaveContent r c t w
+    → Finds (BeginsWithContent r k u l i) (Some rest)
+content_found r c k t u n l i w rest ec et el (size, front, back) m =
+    let is = subst (λ z. MayHaveContent r z u w) ec (subst (λ z. MayHaveContent r c z w) et m) in
+    subst (λ z. Finds (BeginsWithContent r k u z i) (Some rest)) el (part_found (MayHaveContent r k u) n i w rest size (split n i w rest.now front back) is)
+
+pub no_content : (r : Rules) (c k : Class) (t u n : ℕ) (l : Length) (i w rest : List ℕ) → c ≡ k → t ≡ u → Definite n ≡ l → IsLengthOf n i w rest → ¬ MayHaveContent r c t w
+    → Finds (BeginsWithContent r k u l i) None
+no_content r c k t u n l i w rest ec et el (size, front, back) never =
+    let isnt = subst (λ z. ¬ MayHaveContent r z u w) ec (subst (λ z. ¬ MayHaveContent r c z w) et never) in
+    subst (λ z. Finds (BeginsWithContent r k u z i) None) el (no_part (MayHaveContent r k u) n i w rest size (split n i w rest front back) isnt)
 
 -- elements, one after another
 

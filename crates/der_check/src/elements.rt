@@ -71,7 +71,10 @@ fn after_element(i: &[u8], rules: Rules, max_depth: usize) -> Option<&[u8]>
 fn is_plain(rules: Rules, first: u8, content: &[u8]) -> bool
     ensures { IsTrue result → IsPlain rules first content.now }
 {
-    0 < first && first < 31 && is_content(rules, u32::from(first), content)
+    match first {
+        1..=30 => is_content(rules, u32::from(first), content),
+        _ => false,
+    }
 }
 
 /// The same of any element, at a depth of at least 1.

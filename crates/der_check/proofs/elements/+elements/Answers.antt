@@ -25,8 +25,8 @@ after_any-returns-then-not-may_be_constructed-clause-exactly t c =
     let h = c.in-Ok.header in
     let ep : is_constructed h ≡ true = (let f = c.if-not-constructed.false in let g = c.constructed.ensures in cc) in
     let never : MayBeConstructed c.args.rules (class_of h) (number_of h) → ⊥ = λ m.
-        let may : MayBeConstructed c.args.rules c.class.result c.tag.result.0 = rw (c.class.ensures, c.tag.ensures) m in
-        absurd (let f = c.if-not-may_be_constructed.true in search (rules, f, c.may_be_constructed.ensures.1 may)) in
+    let may : MayBeConstructed c.args.rules c.class.result c.tag.result.0 = rw (c.class.ensures, c.tag.ensures) m in
+    absurd (let f = c.if-not-may_be_constructed.true in search (rules, f, c.may_be_constructed.ensures.1 may)) in
     read_finds c.args.rules c.args.max_depth c.args.i.now (c.in-Ok.behind, h) true None c.requires c.in-Ok.ensures ep
     (none_constructed c.args.rules c.args.max_depth (class_of h) (number_of h) (length_of h) c.in-Ok.behind.now never)
 
