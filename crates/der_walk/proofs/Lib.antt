@@ -11,6 +11,5 @@ pub mod Refusals
 pub mod Rest
 pub mod Steps
 pub mod Strings
-pub mod Values
 pub mod VisitedElements
 pub mod Walks

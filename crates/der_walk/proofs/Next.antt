@@ -3,10 +3,10 @@ use Rattle.std.proofs.Common.{◌≡◌, ℕ, suc, ◌+◌, ◌-◌, ◌^◌, �
 use Rattle.std.proofs.lemmas.List.{append_cancel_left}
 use Rattle.der_base.specs.declared.header.Class.TheVariants.{Universal}
 use Rattle.der_base.specs.Spelling.{end_marker}
-use Rattle.der_base.specs.Tree.{node, Content}
 use Rattle.der_base.specs.declared.rules.Rules.{Rules}
 use Rattle.der_base.specs.declared.rules.Rules.TheVariants.{Der}
-use Rattle.der_check.specs.Elements.{SpellsOne, MayBeConstructed}
+use Rattle.der_check.specs.Elements.{MayBeConstructed}
+use Rattle.der_contents.specs.ContentRules.{IsContent}
 use Rattle.der_walk.specs.declared.content.Open.{Open}
 use Rattle.der_walk.specs.declared.element.Element.{Element}
 use Rattle.der_walk.specs.declared.walk.Walk.{Walk}
@@ -122,11 +122,11 @@ open_list x r i d e h None end el eh ep ed eo is may there = record {
         same = cc
 
 -- a string that is opened
-open_string : (x : Extras) (r : Rules) (i : List ℕ) (d : ℕ) (e : Element) (h w u v : List ℕ) (y : Content) (first end : ℕ) → e.header ≡ length h → e.length ≡ Some (length w) → e.constructed ≡ false → e.holds_der ≡ true
-    → e.breaks_its_type ≡ false → e.class ≡ Universal → IsHeaderBy r Universal false e.number (Some (length w)) h → SpellsOne r (h ++ w) (node Universal false e.number y) → x.enters_strings ≡ true
+open_string : (x : Extras) (r : Rules) (i : List ℕ) (d : ℕ) (e : Element) (h w u v : List ℕ) (first end : ℕ) → e.header ≡ length h → e.length ≡ Some (length w) → e.constructed ≡ false → e.holds_der ≡ true
+    → e.breaks_its_type ≡ false → e.class ≡ Universal → IsHeaderBy r Universal false e.number (Some (length w)) h → IsContent r e.number w → x.enters_strings ≡ true
     → HoldsElement d e.number w u v → drop e.offset i ≡ (h ++ w) ++ drop end i → end ≡ e.offset + length (h ++ w) → end ≤ length i → first ≡ e.offset + length h + length u
     → IsOpen x i r d e.depth e.offset first Der (Some end) false (visited_of e)
-open_string x r i d e h w u v y first end eh el ep ed eo ec is spells en holds there ee hl ef = record { closes = closes; opens = opens; header = header_is; begins = omega (arith, ef, header_some r Universal false e.number (Some (length w)) h is); no_marker = no_marker }
+open_string x r i d e h w u v first end eh el ep ed eo ec is content en holds there ee hl ef = record { closes = closes; opens = opens; header = header_is; begins = omega (arith, ef, header_some r Universal false e.number (Some (length w)) h is); no_marker = no_marker }
   where
     total : length (h ++ w) ≡ length h + (length u + length v)
     total = omega (arith, length-append h w, ap length holds.parts, length-append u v)
@@ -164,7 +164,7 @@ open_string x r i d e h w u v y first end eh el ep ed eo ec is spells en holds t
     opens : (b z : List ℕ) (us : List Visited) → drop e.offset i ≡ b ++ z → VisitsOne x r (suc d) e.depth e.offset b us
         → (w1 z1 : List ℕ) × (ws : List Visited) × (drop first i ≡ w1 ++ z1) × Visits x Der d (suc e.depth) first w1 ws × EndsAt i (Some end) false (first + length w1) (e.offset + length b)
     opens b z us q one =
-        let g = into_string e.number h w y u v z (drop end i) is spells en holds one (sym q ∙ there) in
+        let g = into_string e.number h w u v z (drop end i) is content en holds one (sym q ∙ there) in
         let last : end ≡ first + length v = omega (arith, ee, ef, total) in
         (v, drop end i, g.visited, rest, subst (λ m. Visits x Der d (suc e.depth) m v g.visited) (sym ef) g.visits, inl (refl, ap Some last, omega (arith, last, ee, ap length g.whole)))
 
@@ -188,7 +188,7 @@ open_string x r i d e h w u v y first end eh el ep ed eo ec is spells en holds t
     closes at after us (inl (m, es, eb)) hp ha vis =
         let ea : at ≡ end = (cc) in
         let all : between i e.offset after ≡ h ++ w = ap (λ n. between i e.offset n) (eb ∙ ea) ∙ here in
-        string e.number h w y u v us is all (subst (λ l. SpellsOne r l (node Universal false e.number y)) (sym all) spells) en holds
+        string e.number h w u v us is all content en holds
         (subst (λ n. Visits x Der d (suc e.depth) n v us) ef (subst (λ l. Visits x Der d (suc e.depth) first l us) (ap (λ n. between i first n) ea ∙ inner) vis))
         (ap (λ q. q ∷ us) same)
 
@@ -344,8 +344,8 @@ passes x r w w' vs e size has reads pass = of reads.read pass
     of (whole h b rest split eh el ep ed one) (end, te, ee, inl (inl t, g)) = absurd (cc)
     of (whole h b rest split eh el ep ed one) (end, te, ee, inl (inr t, g)) = absurd (cc)
     of (whole h b rest split eh el ep ed one) (end, te, ee, inr (p, d, g)) = on g h b rest (split ∙ sym (append_assoc h b rest)) eh el one
-    of (read_string h b rest u v y split eh el ep ed eo ec is spells en holds) (end, te, ee, inr (p, d, g)) = absurd (cc)
-    of (read_string h b rest u v y split eh el ep ed eo ec is spells en holds) (end, te, ee, inl (t, g)) =
+    of (read_string h b rest u v split eh el ep ed eo ec is content en holds) (end, te, ee, inr (p, d, g)) = absurd (cc)
+    of (read_string h b rest u v split eh el ep ed eo ec is content en holds) (end, te, ee, inl (t, g)) =
         let all : here_of w ≡ (h ++ b) ++ rest = split ∙ sym (append_assoc h b rest) in
         let inside : w.at + length (h ++ b) ≤ limit = front_within i w.at limit (h ++ b) rest there short all in
         let p = e.offset + e.header in
@@ -360,7 +360,7 @@ passes x r w w' vs e size has reads pass = of reads.read pass
         let to_end : drop e.offset i ≡ (h ++ b) ++ drop last i =
         ap (λ n. drop n i) reads.offset ∙ sym (between_drop i w.at (w.at + length (h ++ b)) (omega arith)) ∙ ap (λ l. l ++ drop (w.at + length (h ++ b)) i) (front_between i w.at limit (h ++ b) rest all)
         ∙ ap (λ n. (h ++ b) ++ drop n i) n in
-        let is_open = open_string x w.content.rules i (100 - e.depth) e h b u v y first last eh el ep ed eo ec is spells en holds to_end (omega (arith, lb, eh)) (omega (arith, n, inside, short)) ef in
+        let is_open = open_string x w.content.rules i (100 - e.depth) e h b u v first last eh el ep ed eo ec is content en holds to_end (omega (arith, lb, eh)) (omega (arith, n, inside, short)) ef in
         let is1 = subst (λ q. IsOpen x i w.content.rules (100 - e.depth) e.depth e.offset first Der q false (visited_of e)) (sym from) is_open in
         let is2 = subst (λ q. IsOpen x i w.content.rules (100 - e.depth) e.depth e.offset first Der (end_from p (end_of w) e.length) q (visited_of e)) (sym (ap ends_at_marker el)) is1 in
         let is3 = subst (λ q. IsOpen x i w.content.rules (100 - e.depth) e.depth e.offset first q (end_from p (end_of w) e.length) (ends_at_marker e.length) (visited_of e)) (sym (ap (λ z. if z then Der else w.content.rules) ed)) is2 in

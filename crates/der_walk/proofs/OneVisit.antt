@@ -5,14 +5,13 @@ use Rattle.der_base.specs.declared.header.Class.{Class}
 use Rattle.der_base.specs.declared.header.Class.TheVariants.{Universal}
 use Rattle.der_base.specs.Octets.{identifier}
 use Rattle.der_base.specs.Spelling.{end_marker}
-use Rattle.der_base.specs.Tree.{node}
 use Rattle.der_base.proofs.Framing.Elements.{identifier_some}
 use Rattle.der_base.proofs.Headers.BerHeaders.{ber_header_same}
 use Rattle.der_base.proofs.Octets.Identifiers.{fronts_same}
 use Rattle.der_base.specs.declared.rules.Rules.{Rules}
 use Rattle.der_base.specs.declared.rules.Rules.TheVariants.{Der}
-use Rattle.der_check.specs.Elements.{SpellsOne}
 use Rattle.der_check.proofs.FirstOctets.{zero_first, constructed_first}
+use Rattle.der_contents.specs.ContentRules.{IsContent}
 use Rattle.der_walk.specs.Visits.{Visited, Extras, IsHeaderBy, IsStringFront, HoldsElement, Visits, VisitsOne, none, one_more, primitive, broken, string, constructed, indefinite, visited}
 use Rattle.der_walk.proofs.ElementReads.{broken_not_zero}
 use Rattle.der_walk.proofs.Headers.{header_begins, length_from}
@@ -81,9 +80,9 @@ front_at r c p t n b h z y i is e q =
 
 pub one_front : {x : Extras} {r : Rules} {d k a : ℕ} {b : List ℕ} {us : List Visited} (y i : List ℕ) → VisitsOne x r d k a b us → i ≡ b ++ y
     → (c : Class) × (p : Bool) × (t : ℕ) × (s : List ℕ) × (i ≡ identifier c p t ++ s) × (p ≡ false → c ≡ Universal → t ≡ 0 → ⊥)
-one_front {r = r} {b = b} y i (primitive c t h w z is e spells n out ev) q = let f = front_at r c false t (Some (length w)) b h w y i is e q in (c, false, t, f.0, f.1, λ p. n)
+one_front {r = r} {b = b} y i (primitive c t h w is e has out ev) q = let f = front_at r c false t (Some (length w)) b h w y i is e q in (c, false, t, f.0, f.1, λ p ec. (has ec).0)
 one_front {r = r} {b = b} y i (broken t h w is e keeps er it never ev) q = let f = front_at r Universal false t (Some (length w)) b h w y i is e q in (Universal, false, t, f.0, f.1, λ p c. broken_not_zero t it)
-one_front {r = r} {b = b} y i (string t h w z u v us is e spells en holds vis ev) q = let f = front_at r Universal false t (Some (length w)) b h w y i is e q in (Universal, false, t, f.0, f.1, λ p c. string_not_zero t u holds.front)
+one_front {r = r} {b = b} y i (string t h w u v us is e has en holds vis ev) q = let f = front_at r Universal false t (Some (length w)) b h w y i is e q in (Universal, false, t, f.0, f.1, λ p c. string_not_zero t u holds.front)
 one_front {r = r} {b = b} y i (constructed c t h w us is e may vis ev) q = let f = front_at r c true t (Some (length w)) b h w y i is e q in (c, true, t, f.0, f.1, λ p. absurd (cc))
 one_front {r = r} {b = b} y i (indefinite c t h w us is e may vis ev) q = let f = front_at r c true t None b h (w ++ end_marker) y i is (e ∙ append_assoc h w end_marker) q in (c, true, t, f.0, f.1, λ p. absurd (cc))
 
@@ -106,6 +105,9 @@ front_same t u u' (inr z) (inr z') = z.1 ∙ sym z'.1
 whole_same : (b b' h h' w w' : List ℕ) → b ≡ h ++ w → b' ≡ h' ++ w' → h ≡ h' → w ≡ w' → b ≡ b'
 whole_same b b' h h' w w' e e' p q = e ∙ ap (λ l. l ++ w) p ∙ ap (λ l. h' ++ l) q ∙ sym e'
 
+pub content_same : (r : Rules) (t t' : ℕ) (w w' : List ℕ) → t ≡ t' → w ≡ w' → IsContent r t w → IsContent r t' w'
+content_same r t t' w w' et ew h = subst (λ l. IsContent r t' l) ew (subst (λ n. IsContent r n w) et h)
+
 plain_same : (a k : ℕ) (c c' : Class) (p : Bool) (t t' : ℕ) (h h' : List ℕ) (n n' : Option ℕ) → c ≡ c' → t ≡ t' → h ≡ h' → n ≡ n' → visited a k c p t h n ≡ visited a k c' p t' h' n'
 plain_same a k c c' p t t' h h' n n' e1 e2 e3 e4 =
     ap (λ z. visited a k z p t h n) e1 ∙ ap (λ z. visited a k c' p z h n) e2 ∙ ap (λ z. visited a k c' p t' z n) e3 ∙ ap (λ z. visited a k c' p t' h' z) e4
@@ -113,44 +115,40 @@ plain_same a k c c' p t t' h h' n n' e1 e2 e3 e4 =
 mutual
   pub one_same : {x : Extras} {r : Rules} {d k a : ℕ} {b b' : List ℕ} {us us' : List Visited} (y y' : List ℕ) → VisitsOne x r d k a b us → VisitsOne x r d k a b' us' → b ++ y ≡ b' ++ y' → (b ≡ b') × (us ≡ us') × (y ≡ y')
   -- primitive
-  one_same {r = r} {k = k} {a = a} {b = b} {b' = b'} y y' (primitive c t h w z is e sp n out ev) (primitive c' t' h' w' z' is' e' sp' n' out' ev') q =
+  one_same {r = r} {k = k} {a = a} {b = b} {b' = b'} y y' (primitive c t h w is e has out ev) (primitive c' t' h' w' is' e' has' out' ev') q =
       let s = same_parts r c c' false false t t' b b' h h' w w' y y' is is' e e' q in
       (whole_same b b' h h' w w' e e' s.octets s.content, ev ∙ ap (λ v. v ∷ []) (plain_same a k c c' false t t' h h' (Some (length w)) (Some (length w')) s.class s.number s.octets (ap (λ l. Some (length l)) s.content)) ∙ sym ev', s.rest)
-  one_same {r = r} {b = b} {b' = b'} y y' (primitive c t h w z is e sp n out ev) (broken t' h' w' is' e' keeps er it never ev') q =
+  one_same {r = r} {b = b} {b' = b'} y y' (primitive c t h w is e has out ev) (broken t' h' w' is' e' keeps er it never ev') q =
       let s = same_parts r c Universal false false t t' b b' h h' w w' y y' is is' e e' q in
-      let same = whole_same b b' h h' w w' e e' s.octets s.content in
-      absurd (never z (subst (λ l. SpellsOne r l (node Universal false t' z)) same (subst (λ m. SpellsOne r b (node Universal false m z)) s.number (subst (λ m. SpellsOne r b (node m false t z)) s.class sp))))
-  one_same {x = x} {r = r} {b = b} {b' = b'} y y' (primitive {d = d} c t h w z is e sp n out ev) (string t' h' w' z' u v vs is' e' sp' en holds vis ev') q =
+      absurd (never (content_same r t t' w w' s.number s.content (has s.class).1))
+  one_same {x = x} {r = r} {b = b} {b' = b'} y y' (primitive {d = d} c t h w is e has out ev) (string t' h' w' u v vs is' e' has' en holds vis ev') q =
       let s = same_parts r c Universal false false t t' b b' h h' w w' y y' is is' e e' q in
       absurd (out en s.class u v (subst (λ l. HoldsElement d t l u v) (sym s.content) (subst (λ m. HoldsElement d m w' u v) (sym s.number) holds)))
-  one_same {r = r} {b = b} {b' = b'} y y' (primitive c t h w z is e sp n out ev) (constructed c' t' h' w' vs is' e' may vis ev') q = absurd (not_both r c c' t t' (Some (length w)) (Some (length w')) b b' h h' w w' y y' is is' e e' q)
-  one_same {r = r} {b = b} {b' = b'} y y' (primitive c t h w z is e sp n out ev) (indefinite c' t' h' w' vs is' e' may vis ev') q =
+  one_same {r = r} {b = b} {b' = b'} y y' (primitive c t h w is e has out ev) (constructed c' t' h' w' vs is' e' may vis ev') q = absurd (not_both r c c' t t' (Some (length w)) (Some (length w')) b b' h h' w w' y y' is is' e e' q)
+  one_same {r = r} {b = b} {b' = b'} y y' (primitive c t h w is e has out ev) (indefinite c' t' h' w' vs is' e' may vis ev') q =
       absurd (not_both r c c' t t' (Some (length w)) None b b' h h' w (w' ++ end_marker) y y' is is' e (e' ∙ append_assoc h' w' end_marker) q)
   -- a value that breaks its type
-  one_same {r = r} {b = b} {b' = b'} y y' (broken t h w is e keeps er it never ev) (primitive c' t' h' w' z' is' e' sp' n' out' ev') q =
+  one_same {r = r} {b = b} {b' = b'} y y' (broken t h w is e keeps er it never ev) (primitive c' t' h' w' is' e' has' out' ev') q =
       let s = same_parts r Universal c' false false t t' b b' h h' w w' y y' is is' e e' q in
-      let same = whole_same b b' h h' w w' e e' s.octets s.content in
-      absurd (never z' (subst (λ l. SpellsOne r l (node Universal false t z')) (sym same) (subst (λ m. SpellsOne r b' (node Universal false m z')) (sym s.number) (subst (λ m. SpellsOne r b' (node m false t' z')) (sym s.class) sp'))))
+      absurd (never (content_same r t' t w' w (sym s.number) (sym s.content) (has' (sym s.class)).1))
   one_same {r = r} {k = k} {a = a} {b = b} {b' = b'} y y' (broken t h w is e keeps er it never ev) (broken t' h' w' is' e' keeps' er' it' never' ev') q =
       let s = same_parts r Universal Universal false false t t' b b' h h' w w' y y' is is' e e' q in
       let same = plain_same a k Universal Universal false t t' h h' (Some (length w)) (Some (length w')) s.class s.number s.octets (ap (λ l. Some (length l)) s.content) in
       (whole_same b b' h h' w w' e e' s.octets s.content, ev ∙ ap (λ (v : Visited). record v { breaks_its_type = true } ∷ []) same ∙ sym ev', s.rest)
-  one_same {r = r} {b = b} {b' = b'} y y' (broken t h w is e keeps er it never ev) (string t' h' w' z' u v vs is' e' sp' en holds vis ev') q =
+  one_same {r = r} {b = b} {b' = b'} y y' (broken t h w is e keeps er it never ev) (string t' h' w' u v vs is' e' has' en holds vis ev') q =
       let s = same_parts r Universal Universal false false t t' b b' h h' w w' y y' is is' e e' q in
-      let same = whole_same b b' h h' w w' e e' s.octets s.content in
-      absurd (never z' (subst (λ l. SpellsOne r l (node Universal false t z')) (sym same) (subst (λ m. SpellsOne r b' (node Universal false m z')) (sym s.number) sp')))
+      absurd (never (content_same r t' t w' w (sym s.number) (sym s.content) has'))
   one_same {r = r} {b = b} {b' = b'} y y' (broken t h w is e keeps er it never ev) (constructed c' t' h' w' vs is' e' may vis ev') q = absurd (not_both r Universal c' t t' (Some (length w)) (Some (length w')) b b' h h' w w' y y' is is' e e' q)
   one_same {r = r} {b = b} {b' = b'} y y' (broken t h w is e keeps er it never ev) (indefinite c' t' h' w' vs is' e' may vis ev') q =
       absurd (not_both r Universal c' t t' (Some (length w)) None b b' h h' w (w' ++ end_marker) y y' is is' e (e' ∙ append_assoc h' w' end_marker) q)
   -- a string that is entered
-  one_same {r = r} {b = b} {b' = b'} y y' (string {d = d} t h w z u v us is e sp en holds vis ev) (primitive c' t' h' w' z' is' e' sp' n' out' ev') q =
+  one_same {r = r} {b = b} {b' = b'} y y' (string {d = d} t h w u v us is e has en holds vis ev) (primitive c' t' h' w' is' e' has' out' ev') q =
       let s = same_parts r Universal c' false false t t' b b' h h' w w' y y' is is' e e' q in
       absurd (out' en (sym s.class) u v (subst (λ l. HoldsElement d t' l u v) s.content (subst (λ m. HoldsElement d m w u v) s.number holds)))
-  one_same {r = r} {b = b} {b' = b'} y y' (string t h w z u v us is e sp en holds vis ev) (broken t' h' w' is' e' keeps er it never ev') q =
+  one_same {r = r} {b = b} {b' = b'} y y' (string t h w u v us is e has en holds vis ev) (broken t' h' w' is' e' keeps er it never ev') q =
       let s = same_parts r Universal Universal false false t t' b b' h h' w w' y y' is is' e e' q in
-      let same = whole_same b b' h h' w w' e e' s.octets s.content in
-      absurd (never z (subst (λ l. SpellsOne r l (node Universal false t' z)) same (subst (λ m. SpellsOne r b (node Universal false m z)) s.number sp)))
-  one_same {x = x} {r = r} {k = k} {a = a} {b = b} {b' = b'} y y' (string {d = d} t h w z u v us is e sp en holds vis ev) (string t' h' w' z' u' v' us' is' e' sp' en' holds' vis' ev') q =
+      absurd (never (content_same r t t' w w' s.number s.content has))
+  one_same {x = x} {r = r} {k = k} {a = a} {b = b} {b' = b'} y y' (string {d = d} t h w u v us is e has en holds vis ev) (string t' h' w' u' v' us' is' e' has' en' holds' vis' ev') q =
       let s = same_parts r Universal Universal false false t t' b b' h h' w w' y y' is is' e e' q in
       let fronts : u ≡ u' = front_same t u u' holds.front (subst (λ m. IsStringFront m u') (sym s.number) holds'.front) in
       let inner : v ≡ v' = append_cancel_left u v v' (sym holds.parts ∙ s.content ∙ holds'.parts ∙ ap (λ l. l ++ v') (sym fronts)) in
@@ -158,13 +156,13 @@ mutual
       let more : us ≡ us' = visits_same vis (subst (λ m. Visits x Der d (suc k) m v' us') begins vis') inner in
       let same = plain_same a k Universal Universal false t t' h h' (Some (length w)) (Some (length w')) s.class s.number s.octets (ap (λ l. Some (length l)) s.content) in
       (whole_same b b' h h' w w' e e' s.octets s.content, ev ∙ ap (λ (m : Visited). record m { holds_der = true } ∷ us) same ∙ ap (λ l. record (visited a k Universal false t' h' (Some (length w'))) { holds_der = true } ∷ l) more ∙ sym ev', s.rest)
-  one_same {r = r} {b = b} {b' = b'} y y' (string t h w z u v us is e sp en holds vis ev) (constructed c' t' h' w' vs is' e' may vis' ev') q = absurd (not_both r Universal c' t t' (Some (length w)) (Some (length w')) b b' h h' w w' y y' is is' e e' q)
-  one_same {r = r} {b = b} {b' = b'} y y' (string t h w z u v us is e sp en holds vis ev) (indefinite c' t' h' w' vs is' e' may vis' ev') q =
+  one_same {r = r} {b = b} {b' = b'} y y' (string t h w u v us is e has en holds vis ev) (constructed c' t' h' w' vs is' e' may vis' ev') q = absurd (not_both r Universal c' t t' (Some (length w)) (Some (length w')) b b' h h' w w' y y' is is' e e' q)
+  one_same {r = r} {b = b} {b' = b'} y y' (string t h w u v us is e has en holds vis ev) (indefinite c' t' h' w' vs is' e' may vis' ev') q =
       absurd (not_both r Universal c' t t' (Some (length w)) None b b' h h' w (w' ++ end_marker) y y' is is' e (e' ∙ append_assoc h' w' end_marker) q)
   -- constructed
-  one_same {r = r} {b = b} {b' = b'} y y' (constructed c t h w us is e may vis ev) (primitive c' t' h' w' z' is' e' sp' n' out' ev') q = absurd (not_both r c' c t' t (Some (length w')) (Some (length w)) b' b h' h w' w y' y is' is e' e (sym q))
+  one_same {r = r} {b = b} {b' = b'} y y' (constructed c t h w us is e may vis ev) (primitive c' t' h' w' is' e' has' out' ev') q = absurd (not_both r c' c t' t (Some (length w')) (Some (length w)) b' b h' h w' w y' y is' is e' e (sym q))
   one_same {r = r} {b = b} {b' = b'} y y' (constructed c t h w us is e may vis ev) (broken t' h' w' is' e' keeps er it never ev') q = absurd (not_both r Universal c t' t (Some (length w')) (Some (length w)) b' b h' h w' w y' y is' is e' e (sym q))
-  one_same {r = r} {b = b} {b' = b'} y y' (constructed c t h w us is e may vis ev) (string t' h' w' z' u v vs is' e' sp' en holds vis' ev') q = absurd (not_both r Universal c t' t (Some (length w')) (Some (length w)) b' b h' h w' w y' y is' is e' e (sym q))
+  one_same {r = r} {b = b} {b' = b'} y y' (constructed c t h w us is e may vis ev) (string t' h' w' u v vs is' e' has' en holds vis' ev') q = absurd (not_both r Universal c t' t (Some (length w')) (Some (length w)) b' b h' h w' w y' y is' is e' e (sym q))
   one_same {x = x} {r = r} {k = k} {a = a} {b = b} {b' = b'} y y' (constructed {d = d} c t h w us is e may vis ev) (constructed c' t' h' w' us' is' e' may' vis' ev') q =
       let s = same_parts r c c' true true t t' b b' h h' w w' y y' is is' e e' q in
       let begins : a + length h' ≡ a + length h = (let m = ap length s.octets in omega (arith, m)) in
@@ -175,11 +173,11 @@ mutual
       let s = same_start r c c' true true t t' (Some (length w)) None h h' (w ++ y) (w' ++ end_marker ++ y') is is' (in_two b b' h h' w (w' ++ end_marker) y y' e (e' ∙ append_assoc h' w' end_marker) q) in
       absurd (let l = s.length in cc)
   -- of indefinite length
-  one_same {r = r} {b = b} {b' = b'} y y' (indefinite c t h w us is e may vis ev) (primitive c' t' h' w' z' is' e' sp' n' out' ev') q =
+  one_same {r = r} {b = b} {b' = b'} y y' (indefinite c t h w us is e may vis ev) (primitive c' t' h' w' is' e' has' out' ev') q =
       absurd (not_both r c' c t' t (Some (length w')) None b' b h' h w' (w ++ end_marker) y' y is' is e' (e ∙ append_assoc h w end_marker) (sym q))
   one_same {r = r} {b = b} {b' = b'} y y' (indefinite c t h w us is e may vis ev) (broken t' h' w' is' e' keeps er it never ev') q =
       absurd (not_both r Universal c t' t (Some (length w')) None b' b h' h w' (w ++ end_marker) y' y is' is e' (e ∙ append_assoc h w end_marker) (sym q))
-  one_same {r = r} {b = b} {b' = b'} y y' (indefinite c t h w us is e may vis ev) (string t' h' w' z' u v vs is' e' sp' en holds vis' ev') q =
+  one_same {r = r} {b = b} {b' = b'} y y' (indefinite c t h w us is e may vis ev) (string t' h' w' u v vs is' e' has' en holds vis' ev') q =
       absurd (not_both r Universal c t' t (Some (length w')) None b' b h' h w' (w ++ end_marker) y' y is' is e' (e ∙ append_assoc h w end_marker) (sym q))
   one_same {r = r} {b = b} {b' = b'} y y' (indefinite c t h w us is e may vis ev) (constructed c' t' h' w' us' is' e' may' vis' ev') q =
       let s = same_start r c c' true true t t' None (Some (length w')) h h' (w ++ end_marker ++ y) (w' ++ y') is is' (in_two b b' h h' (w ++ end_marker) w' y y' (e ∙ append_assoc h w end_marker) e' q) in

@@ -1,8 +1,9 @@
 -- Where a walk is refused, no walk goes to the end of the input.
-use Rattle.std.proofs.Common.{◌≡◌, ◌≢◌, ℕ, ◌+◌, ◌-◌, ◌<◌, ◌≤◌, ◌⊎◌, ◌==◌, if◌then◌else◌, Bool, true, false, IsTrue, List, [], ◌∷◌, ◌++◌, length, drop, Option, Some, None, Result, Ok, Err, refl, sym, ap, subst, ◌∙◌, arith, append_assoc, length-append, length-drop, inl, inr}
+use Rattle.std.proofs.Common.{◌≡◌, ◌≢◌, ℕ, ◌+◌, ◌-◌, ◌<◌, ◌≤◌, ◌⊎◌, ◌==◌, if◌then◌else◌, Bool, true, false, IsTrue, List, [], ◌∷◌, ◌++◌, length, take, drop, Option, Some, None, Ok, Err, refl, sym, ap, subst, ◌∙◌, arith, append_assoc, length-append, length-drop, inl, inr}
 use Rattle.std.specs.Borrow.{Bor}
 use Rattle.std.specs.Prelude.{IfSome, IsSomeAnd}
 use Rattle.std.proofs.lemmas.List.{nil_from_length}
+use Rattle.std.proofs.Math.Seq.{take-append_seam}
 use Rattle.der_base.specs.declared.error.Err.{Err as Refused}
 use Rattle.der_base.specs.declared.error.Err.TheVariants.{Incomplete, Error, Failure, OutOfMemory}
 use Rattle.der_base.specs.declared.error.Error.{Error as BerError}
@@ -18,10 +19,10 @@ use Rattle.der_base.specs.Headers.{LeadingHeader, leading_header}
 use Rattle.der_base.specs.Octets.{identifier}
 use Rattle.der_base.specs.Rules.{AnswersHeader, SpellsHeaderBy}
 use Rattle.der_base.specs.Spelling.{end_marker}
-use Rattle.der_base.specs.Tree.{node}
-use Rattle.der_check.specs.Elements.{MayBeConstructed}
-use Rattle.der_check.specs.Readers.{BeginsWithOne}
+use Rattle.der_check.specs.Elements.{MayBeConstructed, MayHaveContent}
 use Rattle.der_check.proofs.HeadersBy.{header_read, header_refused, header_same, spells_open}
+use Rattle.der_contents.specs.ContentRules.{IsContent, IsFirstBroken, content_rules}
+use Rattle.der_contents.specs.declared.content_error.ContentError.{ContentError}
 use Rattle.der_walk.specs.declared.cause.Cause.{Cause}
 use Rattle.der_walk.specs.declared.cause.Cause.TheVariants.{Cut, PastEnd, TooDeep}
 use Rattle.der_walk.specs.declared.content.End.{End}
@@ -31,26 +32,32 @@ use Rattle.der_walk.specs.declared.path.Step.{Step}
 use Rattle.der_walk.specs.declared.refusal.Refusal.{Refusal}
 use Rattle.der_walk.specs.declared.walk.Walk.{Walk}
 use Rattle.der_walk.specs.Ends.{between, end_of, here_of, limit_of, overrun, IsWithin}
-use Rattle.der_walk.specs.Faults.{HasRoom, IsReached, IsLastStep, IsStep, ended, header, content, too_deep, string, constructed, marker, value, cause_of_content, cause_of_end, cause_of_header, cause_of_lack, IsCauseOfValue, content_at, ends_inside, missing_in, place_of}
+use Rattle.der_walk.specs.Faults.{HasRoom, IsReached, IsLastStep, IsStep, ended, header, content, too_deep, string, constructed, marker, value, cause_of_content, cause_of_end, cause_of_header, cause_of_lack, content_at, ends_inside, missing_in, place_of}
 use Rattle.der_walk.specs.Visits.{Visited, Extras, Visits, VisitsOne, none, one_more, primitive, broken, indefinite, may_break}
 use Rattle.der_walk.specs.Visits.{string as visits_string, constructed as visits_constructed}
 use Rattle.der_walk.specs.Walked.{EndsAt, HasVisited, IsRefused}
-use Rattle.der_walk.specs.Reading.{BeginsNone, EndsHere, FindsContent, FailsCheck, FailsConstructed, FailsPrimitive, Keeps, LacksContent, Refuses, StartsWith, StaysOpen, definite_of}
+use Rattle.der_walk.specs.Reading.{BeginsNone, EndsHere, FindsContent, FailsCheck, FailsConstructed, FailsPrimitive, Keeps, LacksContent, Refuses, StartsWith, StaysOpen, definite_of, extras_of, octets_or_none}
 use Rattle.der_walk.proofs.Between.{between_more, front_of_between}
-use Rattle.der_walk.proofs.ElementReads.{broken_not_zero}
+use Rattle.der_walk.proofs.ElementReads.{Leaf, broken_not_zero, leaf_of, not_all_hold}
 use Rattle.der_walk.proofs.Ends.{is_reached, limit_least, limit_size, no_overrun}
 use Rattle.der_walk.proofs.Headers.{header_two, spells_parts}
-use Rattle.der_walk.proofs.OneVisit.{one_nonempty}
+use Rattle.der_walk.proofs.OneVisit.{content_same, one_nonempty}
 use Rattle.der_walk.proofs.Rest.{no_limit, rest_of}
 use Rattle.der_walk.proofs.Steps.{open_depth, within}
 use Rattle.der_walk.proofs.VisitedElements.{string_not_zero}
 use Rattle.der_walk.proofs.Walks.{extras_same, length-here}
 
+-- what is visited behind the header v
+abbrev pub Kind : Extras → Rules → LeadingHeader → Type 0
+Kind x r v =
+    ((v.constructed ≡ true) × MayBeConstructed r v.class v.number)
+    ⊎ ((v.constructed ≡ false) × (n : ℕ) × (v.length ≡ Definite n)
+    × (MayHaveContent r v.class v.number (take n v.rest) ⊎ ((x.keeps_values ≡ true) × (r ≡ Ber) × (v.class ≡ Universal) × IsTrue (may_break v.number))))
+
 -- what holds of the octets here, whose header is v, where an element that is visited next begins them
-pub record Fits (x : Extras) (r : Rules) (here rest : List ℕ) (v : LeadingHeader) : Type 0 where
+pub record Fits (x : Extras) (r : Rules) (v : LeadingHeader) : Type 0 where
   pub room : (n : ℕ) → v.length ≡ Definite n → n ≤ length v.rest
-  pub kind : ((v.constructed ≡ true) × MayBeConstructed r v.class v.number)
-      ⊎ ((v.constructed ≡ false) × (v.class ≡ Universal → v.number ≢ 0) × (BeginsWithOne r here rest ⊎ ((x.keeps_values ≡ true) × (r ≡ Ber) × (v.class ≡ Universal) × IsTrue (may_break v.number))))
+  pub kind : Kind x r v
 
 same_length : (n m : ℕ) → Definite n ≡ Definite m → n ≡ m
 same_length n m e = cc
@@ -64,21 +71,21 @@ room_of n m w rest e q = let z = same_length n m q in omega (arith, z, e, length
 split_of : (here b h w rest : List ℕ) → here ≡ b ++ rest → b ≡ h ++ w → here ≡ h ++ (w ++ rest)
 split_of here b h w rest e q = e ∙ ap (λ l. l ++ rest) q ∙ append_assoc h w rest
 
-one_fits : {x : Extras} {r : Rules} {d k a : ℕ} {b : List ℕ} {us : List Visited} (here rest : List ℕ) → here ≡ b ++ rest → VisitsOne x r d k a b us → (v : LeadingHeader) × SpellsHeaderBy r here v × Fits x r here rest v
-one_fits {x = x} {r = r} {b = b} here rest e (primitive c t h w y is eb sp n out ev) = (
+one_fits : {x : Extras} {r : Rules} {d k a : ℕ} {b : List ℕ} {us : List Visited} (here rest : List ℕ) → here ≡ b ++ rest → VisitsOne x r d k a b us → (v : LeadingHeader) × SpellsHeaderBy r here v × Fits x r v
+one_fits {x = x} {r = r} {b = b} here rest e (primitive c t h w is eb has out ev) = (
   record { class = c; constructed = false; number = t; length = Definite (length w); rest = w ++ rest },
   spells_parts r here c false t (length w) h (w ++ rest) is (split_of here b h w rest e eb),
-  record { room = λ m q. room_of (length w) m w rest refl q; kind = inr (refl, n, inl (node c false t y, b, e, sp)) },
+  record { room = λ m q. room_of (length w) m w rest refl q; kind = inr (refl, length w, refl, inl (subst (λ l. MayHaveContent r c t l) (sym (take-append_seam w rest)) has)) },
 )
 one_fits {x = x} {r = r} {b = b} here rest e (broken t h w is eb keeps er it never ev) = (
   record { class = Universal; constructed = false; number = t; length = Definite (length w); rest = w ++ rest },
   spells_parts r here Universal false t (length w) h (w ++ rest) is (split_of here b h w rest e eb),
-  record { room = λ m q. room_of (length w) m w rest refl q; kind = inr (refl, (λ q. broken_not_zero t it), inr (keeps, er, refl, it)) },
+  record { room = λ m q. room_of (length w) m w rest refl q; kind = inr (refl, length w, refl, inr (keeps, er, refl, it)) },
 )
-one_fits {x = x} {r = r} {b = b} here rest e (visits_string t h w y u v us is eb sp en holds vis ev) = (
+one_fits {x = x} {r = r} {b = b} here rest e (visits_string t h w u v us is eb has en holds vis ev) = (
   record { class = Universal; constructed = false; number = t; length = Definite (length w); rest = w ++ rest },
   spells_parts r here Universal false t (length w) h (w ++ rest) is (split_of here b h w rest e eb),
-  record { room = λ m q. room_of (length w) m w rest refl q; kind = inr (refl, (λ q. string_not_zero t u holds.front), inl (node Universal false t y, b, e, sp)) },
+  record { room = λ m q. room_of (length w) m w rest refl q; kind = inr (refl, length w, refl, inl (λ q. (string_not_zero t u holds.front, subst (λ l. IsContent r t l) (sym (take-append_seam w rest)) has))) },
 )
 one_fits {x = x} {r = r} {b = b} here rest e (visits_constructed c t h w us is eb may vis ev) = (
   record { class = c; constructed = true; number = t; length = Definite (length w); rest = w ++ rest },
@@ -92,18 +99,18 @@ one_fits {x = x} {r = r} {b = b} here rest e (indefinite c t h w us is eb may vi
     (v, subst (λ q. SpellsHeaderBy q here v) (sym is.1) (spells_open here c t behind is.0 all), record { room = λ m q. absurd (cc); kind = inl (refl, may) })
 
 deep_enough : {x : Extras} {r : Rules} {d k a : ℕ} {b : List ℕ} {us : List Visited} → VisitsOne x r d k a b us → 0 < d
-deep_enough (primitive c t h w y is eb sp n out ev) = omega arith
+deep_enough (primitive c t h w is eb has out ev) = omega arith
 deep_enough (broken t h w is eb keeps er it never ev) = omega arith
-deep_enough (visits_string t h w y u v us is eb sp en holds vis ev) = omega arith
+deep_enough (visits_string t h w u v us is eb has en holds vis ev) = omega arith
 deep_enough (visits_constructed c t h w us is eb may vis ev) = omega arith
 deep_enough (indefinite c t h w us is eb may vis ev) = omega arith
 
 -- of an element whose header was read
 fits : {x : Extras} {r : Rules} {d k a : ℕ} {b : List ℕ} {us : List Visited} (here rest : List ℕ) (y : Bor (List ℕ) × Header) → AnswersHeader r here (Ok y) → here ≡ b ++ rest → VisitsOne x r d k a b us
-    → Fits x r here rest (leading_header y)
+    → Fits x r (leading_header y)
 fits {x = x} {r = r} here rest y a e one =
     let (v, spells, f) = one_fits here rest e one in
-    subst (λ q. Fits x r here rest q) (header_same r here v (leading_header y) spells (header_read r here y a)) f
+    subst (λ q. Fits x r q) (header_same r here v (leading_header y) spells (header_read r here y a)) f
 
 -- where it is refused
 at_lack : (w : Walk) (n : ℕ) → place_of w (cause_of_lack w n) ≡ w.at
@@ -127,13 +134,6 @@ at_content w end n = of (overrun end (end_of w) == 0)
     of : (b : Bool) → place_of w (if b then Cut (missing_in w n) else PastEnd (overrun end (end_of w))) ≡ w.at
     of true = refl
     of false = refl
-
-at_value : (w : Walk) (found : Result (Bor (List ℕ) × ℕ) (Refused BerError)) (c : Cause) → IsCauseOfValue found c → place_of w c ≡ w.at
-at_value w (Ok x) c h = ap (λ z. place_of w z) h
-at_value w (Err (Error e)) c h = ap (λ z. place_of w z) h
-at_value w (Err (Failure e)) c h = absurd h
-at_value w (Err (Incomplete n)) c h = absurd h
-at_value w (Err OutOfMemory) c h = absurd h
 
 placed : (w : Walk) (f : Refusal) (c : Cause) → place_of w c ≡ w.at → f.cause ≡ c → f.offset ≡ w.at → f.offset ≡ place_of w f.cause
 placed w f c p e q = q ∙ sym p ∙ ap (λ z. place_of w z) (sym e)
@@ -223,38 +223,52 @@ module _ (w : Walk) (here : List ℕ) (y : Bor (List ℕ) × Header) (e : Elemen
     of_list : MayBeConstructed Ber e.class e.number → MayBeConstructed Ber v.class v.number
     of_list may = subst (λ c. MayBeConstructed Ber c v.number) s.class (subst (λ n. MayBeConstructed Ber e.class n) s.number may)
 
-    abbrev Kind : List ℕ → Type 0
-    Kind rest =
-        ((v.constructed ≡ true) × MayBeConstructed w.content.rules v.class v.number)
-        ⊎ ((v.constructed ≡ false) × (v.class ≡ Universal → v.number ≢ 0) × (BeginsWithOne w.content.rules here rest ⊎ ((w.keeps_values ≡ true) × (w.content.rules ≡ Ber) × (v.class ≡ Universal) × IsTrue (may_break v.number))))
+    not_list : e.constructed ≡ true → ¬ MayBeConstructed w.content.rules e.class e.number → Kind (extras_of w) w.content.rules v → ⊥
+    not_list p bad (inl (t, may)) = bad (list_of may)
+    not_list p bad (inr (t, n, l, z)) = absurd (let q = s.constructed in cc)
 
-    not_list : e.constructed ≡ true → ¬ MayBeConstructed w.content.rules e.class e.number → (rest : List ℕ) → Kind rest → ⊥
-    not_list p bad rest (inl (t, may)) = bad (list_of may)
-    not_list p bad rest (inr (t, n, z)) = absurd (let q = s.constructed in cc)
+    not_marker : e.constructed ≡ false → e.class ≡ Universal → e.number ≡ 0 → Kind (extras_of w) w.content.rules v → ⊥
+    not_marker p ec en (inl (t, may)) = absurd (let q = s.constructed in cc)
+    not_marker p ec en (inr (t, n, l, inl has)) = (has (sym s.class ∙ ec)).0 (sym s.number ∙ en)
+    not_marker p ec en (inr (t, n, l, inr (keeps, ber, uni, may))) = broken_not_zero v.number may (sym s.number ∙ en)
 
-    not_marker : e.constructed ≡ false → e.class ≡ Universal → e.number ≡ 0 → (rest : List ℕ) → Kind rest → ⊥
-    not_marker p ec en rest (inl (t, may)) = absurd (let q = s.constructed in cc)
-    not_marker p ec en rest (inr (t, n, z)) = n (sym s.class ∙ ec) (sym s.number ∙ en)
+    -- the content of a primitive element
+    module _ (found : FindsContent e y.0.now e.content) (p : e.constructed ≡ false)
+      where
+        g : Leaf w.content.rules here y.0.now e
+        g = leaf_of w.content.rules here y w.at (length w.opened.items) w.content.visited e a s found p
 
-    not_value : e.constructed ≡ false → ((rest : List ℕ) → ¬ BeginsWithOne w.content.rules here rest) → (¬ Keeps w e) → (rest : List ℕ) → Kind rest → ⊥
-    not_value p bad never rest (inl (t, may)) = absurd (let q = s.constructed in cc)
-    not_value p bad never rest (inr (t, n, inl one)) = bad rest one
-    not_value p bad never rest (inr (t, n, inr (keeps, ber, uni, may))) = never (keeps, ber, s.class ∙ uni, subst (λ m. IsTrue (may_break m)) (sym s.number) may)
+        size_is : v.length ≡ Definite (length g.content.now)
+        size_is = definite_back (length_of y.1) (length g.content.now) (sym s.length ∙ g.length_is)
 
-    none_of : ((rest : List ℕ) → Kind rest → ⊥) → BeginsNone w here
-    none_of never d b rest us k q one = never rest (fits here rest y a q one).kind
+        taken : (n : ℕ) → v.length ≡ Definite n → take n v.rest ≡ octets_or_none e.content
+        taken n l =
+            ap (λ k. take k v.rest) (same_length n (length g.content.now) (sym l ∙ size_is)) ∙ ap (λ l. take (length g.content.now) l) g.behind_is ∙ take-append_seam g.content.now g.rest ∙ sym (ap octets_or_none g.content_is)
+
+        not_value : e.class ≡ Universal → (c : ContentError) → IsFirstBroken (content_rules w.content.rules e.number (octets_or_none e.content)) c → (¬ Keeps w e) → Kind (extras_of w) w.content.rules v → ⊥
+        not_value ec c first never (inl (t, may)) = absurd (let q = s.constructed in cc)
+        not_value ec c first never (inr (t, n, l, inl has)) =
+            not_all_hold _ c first (content_same w.content.rules v.number e.number (take n v.rest) (octets_or_none e.content) (sym s.number) (taken n l) (has (sym s.class ∙ ec)).1)
+        not_value ec c first never (inr (t, n, l, inr (keeps, ber, uni, may))) = never (keeps, ber, s.class ∙ uni, subst (λ m. IsTrue (may_break m)) (sym s.number) may)
+
+        first_broken : (c : ContentError) → IsFirstBroken (content_rules w.content.rules e.number (octets_or_none e.content)) c → IsFirstBroken (content_rules w.content.rules v.number (take (length g.content.now) v.rest)) c
+        first_broken c first =
+            subst (λ l. IsFirstBroken (content_rules w.content.rules v.number l) c) (sym (taken (length g.content.now) size_is)) (subst (λ n. IsFirstBroken (content_rules w.content.rules n (octets_or_none e.content)) c) s.number first)
+
+    none_of : (Kind (extras_of w) w.content.rules v → ⊥) → BeginsNone w here
+    none_of never d b rest us k q one = never (fits here rest y a q one).kind
 
     -- an element that is refused itself
-    pub refuses_check : (o : Option (Bor (List ℕ))) → FindsContent e y.0.now o → IfSome e.length (λ n. IsWithin (e.offset + e.header + n) (end_of w)) → e.depth ≤ 100 → FailsCheck w here e f → Refuses w here f
-    refuses_check o found room shallow g = of g.fails
+    pub refuses_check : FindsContent e y.0.now e.content → IfSome e.length (λ n. IsWithin (e.offset + e.header + n) (end_of w)) → e.depth ≤ 100 → FailsCheck w e f → Refuses w here f
+    refuses_check found room shallow g = of g.fails
       where
         reached : IsReached w here v
-        reached = record { header = spells; room = has_room o found room; shallow = (let q = s.depth in omega (arith, q, shallow)) }
+        reached = record { header = spells; room = has_room e.content found room; shallow = (let q = s.depth in omega (arith, q, shallow)) }
 
         at_e : f.offset ≡ w.at
         at_e = g.offset ∙ s.offset
 
-        of : FailsConstructed w.content.rules e f.cause ⊎ FailsPrimitive w here e f.cause → Refuses w here f
+        of : FailsConstructed w.content.rules e f.cause ⊎ FailsPrimitive w e f.cause → Refuses w here f
         of (inl (p, bad, inl (may, ec))) = record {
           none = none_of (not_list p bad);
           fault = string v reached (sym s.constructed ∙ p) (λ m. bad (list_of m)) (of_list may) ec;
@@ -267,16 +281,16 @@ module _ (w : Walk) (here : List ℕ) (y : Bor (List ℕ) × Header) (e : Elemen
           place = placed w f _ refl ec at_e;
           step = step_of f.step g.step;
         }
-        of (inr (p, inl (eu, en, ec))) = record {
+        of (inr (p, eu, inl (en, ec))) = record {
           none = none_of (not_marker p eu en);
           fault = marker v reached (sym s.constructed ∙ p) (sym s.class ∙ eu) (sym s.number ∙ en) ec;
           place = placed w f _ refl ec at_e;
           step = step_of f.step g.step;
         }
-        of (inr (p, inr (no_zero, bad, never, answer, af, ec))) = record {
-          none = none_of (not_value p bad never);
-          fault = value v answer reached (sym s.constructed ∙ p) (λ c n. no_zero (s.class ∙ c) (s.number ∙ n)) af bad ec;
-          place = at_e ∙ sym (at_value w answer f.cause ec);
+        of (inr (p, eu, inr (some, never, c, first, ec))) = record {
+          none = none_of (not_value found p eu c first never);
+          fault = value v _ c reached (sym s.constructed ∙ p) (sym s.class ∙ eu) (λ z. some (s.number ∙ z)) (size_is found p) (first_broken found p c first) ec;
+          place = placed w f _ refl ec at_e;
           step = step_of f.step g.step;
         }
 

@@ -27,9 +27,9 @@ mutual
   are_elements f (one_more b rest us ws ei ev is more) = one_element b rest ei (is_element f is) (are_elements f more)
 
   is_element : {x : Extras} {r : Rules} {d k a : ℕ} {b : List ℕ} {vs : List Visited} → (x.keeps_values ≡ true → r ≡ Ber → ⊥) → VisitsOne x r d k a b vs → IsElement r d b
-  is_element f (primitive c t h w y is e spells n out ev) = primitive_element c t y spells n
+  is_element f (primitive c t h w is e has out ev) = primitive_element c t is.1 w is.0 is.2 (e ∙ ap (λ l. l ++ w) is.3) has
   is_element f (broken t h w is e keeps er it never ev) = absurd (f keeps er)
-  is_element f (string t h w y u v us is e spells en holds vis ev) = primitive_element Universal t y spells (λ q z. string_not_zero t u holds.front z)
+  is_element f (string t h w u v us is e has en holds vis ev) = primitive_element Universal t is.1 w is.0 is.2 (e ∙ ap (λ l. l ++ w) is.3) (λ q. (string_not_zero t u holds.front, has))
   is_element f (constructed c t h w us is e may vis ev) = constructed_element c t is.1 w is.0 is.2 (e ∙ ap (λ l. l ++ w) is.3) may (are_elements f vis)
   is_element f (indefinite c t h w us is e may vis ev) = indefinite_element c t w is.0 is.1 (e ∙ ap (λ l. l ++ w ++ end_marker) is.3 ∙ joined c t w) may (are_elements f vis)
 
@@ -71,9 +71,9 @@ mutual
       (All-weaker (IsWithin (a + length b) (a + length b + length rest) k d) P (wider (a + length b) (a + length b + length rest) k d a (a + length i) k d (omega arith) (omega (arith, len)) (omega arith) (omega arith)) ws (visits_within more)))
 
   one_within : {x : Extras} {r : Rules} {d k a : ℕ} {b : List ℕ} {vs : List Visited} → VisitsOne x r d k a b vs → All (IsWithin a (a + length b) k d) vs
-  one_within {k = k} {a = a} {b = b} {vs = vs} (primitive {d = d} c t h w y is e spells n out ev) = alone a k d b h w vs _ ev refl refl refl refl (ap length e ∙ length-append h w)
+  one_within {k = k} {a = a} {b = b} {vs = vs} (primitive {d = d} c t h w is e has out ev) = alone a k d b h w vs _ ev refl refl refl refl (ap length e ∙ length-append h w)
   one_within {k = k} {a = a} {b = b} {vs = vs} (broken {d = d} t h w is e keeps er it never ev) = alone a k d b h w vs _ ev refl refl refl refl (ap length e ∙ length-append h w)
-  one_within {k = k} {a = a} {b = b} {vs = vs} (string {d = d} t h w y u v us is e spells en holds vis ev) =
+  one_within {k = k} {a = a} {b = b} {vs = vs} (string {d = d} t h w u v us is e has en holds vis ev) =
       around a k d b h vs us _ ev refl refl (omega (arith, ap length e ∙ length-append h w)) (omega (arith, ap length e ∙ length-append h w)) refl (a + length h + length u) (a + length h + length u + length v) (omega arith)
       (omega (arith, ap length e ∙ length-append h w, ap length holds.parts ∙ length-append u v)) (visits_within vis)
   one_within {k = k} {a = a} {b = b} {vs = vs} (constructed {d = d} c t h w us is e may vis ev) =

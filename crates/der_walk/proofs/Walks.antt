@@ -25,9 +25,9 @@ first_walked x r i opens s e m at eo es he ea =
 
 -- an element is visited itself
 one_some : {x : Extras} {r : Rules} {d k a : ℕ} {b : List ℕ} {vs : List Visited} → VisitsOne x r d k a b vs → 1 ≤ length vs
-one_some (primitive c t h w y is e spells n out ev) = omega (arith, ap length ev)
+one_some (primitive c t h w is e has out ev) = omega (arith, ap length ev)
 one_some (broken t h w is e keeps er it never ev) = omega (arith, ap length ev)
-one_some (string t h w y u v us is e spells en holds vis ev) = omega (arith, ap length ev)
+one_some (string t h w u v us is e has en holds vis ev) = omega (arith, ap length ev)
 one_some (constructed c t h w us is e may vis ev) = omega (arith, ap length ev)
 one_some (indefinite c t h w us is e may vis ev) = omega (arith, ap length ev)
 
@@ -123,7 +123,7 @@ fits_front w here e eh reads some size = of reads.read
     of : IsRead (extras_of w) w.content.rules (100 - e.depth) here e → e.offset + e.header + front_of e < 2 ^ 64
     of (whole h b rest split eh el ep ed one) = no_front ed
     of (list h rest split eh ep ed eo is may) = no_front ed
-    of (read_string h b rest u v y split eb el ep ed eo ec is spells en holds) =
+    of (read_string h b rest u v split eb el ep ed eo ec is has en holds) =
         let fl = front_length e (100 - e.depth) b u v ed holds in
         let total = ap length holds.parts ∙ length-append u v in
         let short = limit_size (length w.input.now) (end_of w) in

@@ -1,7 +1,6 @@
 -- Where and why a walk ends before its input does: what is wrong there.
-use Rattle.std.specs.Borrow.{Bor}
 use Rattle.std.specs.Prelude.{◌≡◌, ◌≢◌, ℕ, ◌+◌, ◌-◌, ◌<◌, ◌≤◌, ◌==◌, if◌then◌else◌, Bool, true, false, ◌&&◌}
-use Rattle.std.specs.Prelude.{Option, Some, None, List, [], length, slice_get, Result, Ok, Err}
+use Rattle.std.specs.Prelude.{Option, Some, None, List, [], length, slice_get, take, Err}
 use Rattle.der_base.specs.declared.error.Err.{Err as Refused}
 use Rattle.der_base.specs.declared.error.Err.TheVariants.{Incomplete, Error, Failure, OutOfMemory}
 use Rattle.der_base.specs.declared.error.Error.{Error as BerError}
@@ -13,10 +12,11 @@ use Rattle.der_base.specs.declared.rules.Rules.TheVariants.{Ber}
 use Rattle.der_base.specs.Headers.{LeadingHeader}
 use Rattle.der_base.specs.Rules.{AnswersHeader, SpellsHeaderBy}
 use Rattle.der_check.specs.Elements.{MayBeConstructed}
-use Rattle.der_check.specs.Readers.{AnswersOneElement, BeginsWithOne}
+use Rattle.der_contents.specs.ContentRules.{IsFirstBroken, content_rules}
+use Rattle.der_contents.specs.declared.content_error.ContentError.{ContentError}
 use Rattle.der_walk.specs.declared.cause.Cause.{Cause}
 use Rattle.der_walk.specs.declared.cause.Cause.TheVariants.{Cut, PastEnd, NoEndMarker, EndMarker, Header, Value}
-use Rattle.der_walk.specs.declared.cause.Cause.TheVariants.{PaddedArc, Constructed, ConstructedString, TooDeep}
+use Rattle.der_walk.specs.declared.cause.Cause.TheVariants.{Constructed, ConstructedString, TooDeep}
 use Rattle.der_walk.specs.declared.content.End.{End}
 use Rattle.der_walk.specs.declared.content.End.TheVariants.{At, After, Unlimited}
 use Rattle.der_walk.specs.declared.content.Open.{Open}
@@ -68,12 +68,6 @@ abbrev pub cause_of_content : Walk → ℕ → ℕ → Cause
 cause_of_content w end n =
     if overrun end (end_of w) == 0 then Cut (missing_in w n) else PastEnd (overrun end (end_of w))
 
--- the cause where a primitive element is none: an error of its content, or an arc that is padded (8.19.2, 8.20.2)
-abbrev pub IsCauseOfValue : Result (Bor (List ℕ) × ℕ) (Refused BerError) → Cause → Type 0
-IsCauseOfValue (Ok x) c = c ≡ PaddedArc
-IsCauseOfValue (Err (Error e)) c = c ≡ Value e
-IsCauseOfValue r c = ⊥
-
 -- the cause where no octets are left here
 abbrev pub cause_of_end : Walk → Cause
 cause_of_end w = if ends_inside w.content.end && w.content.has_marker then NoEndMarker else Cut (missing_in w 2)
@@ -113,11 +107,10 @@ pub data IsAtFault (w : Walk) (here : List ℕ) : Cause → Type 0 where
   -- end-of-contents octets (8.1.5)
   marker : {c : Cause} (v : LeadingHeader) → IsReached w here v → v.constructed ≡ false
       → v.class ≡ Universal → v.number ≡ 0 → c ≡ EndMarker → IsAtFault w here c
-  -- the content is no value of the type
-  value : {c : Cause} (v : LeadingHeader) (found : Result (Bor (List ℕ) × ℕ) (Refused BerError))
-      → IsReached w here v → v.constructed ≡ false → (v.class ≡ Universal → v.number ≢ 0)
-      → AnswersOneElement w.content.rules here found → ((rest : List ℕ) → ¬ BeginsWithOne w.content.rules here rest)
-      → IsCauseOfValue found c → IsAtFault w here c
+  -- the content octets break a rule of their type (8.2 to 8.26, and by DER 10 and 11): this is the first
+  value : {c : Cause} (v : LeadingHeader) (n : ℕ) (e : ContentError) → IsReached w here v → v.constructed ≡ false
+      → v.class ≡ Universal → v.number ≢ 0 → v.length ≡ Definite n
+      → IsFirstBroken (content_rules w.content.rules v.number (take n v.rest)) e → c ≡ Value e → IsAtFault w here c
 
 -- the step of a path to an element of this class and number, of which so many precede it in the same content
 pub record IsStep (s : Step) (c : Class) (t n : ℕ) : Type 0 where

@@ -1,10 +1,8 @@
 -- What the private functions of the walk find and do.
 use Rattle.std.specs.Borrow.{Bor}
 use Rattle.std.specs.Prelude.{◌≡◌, ℕ, suc, ◌+◌, ◌-◌, ◌≤◌, ◌⊎◌, Bool, true, false, ◌&&◌, ◌==◌, if◌then◌else◌}
-use Rattle.std.specs.Prelude.{IsTrue, Option, Some, None, MatchOption, IfSome, IsSome, IsSomeAnd, Result, ◌≢◌, ◌<◌, ◌^◌}
+use Rattle.std.specs.Prelude.{IsTrue, Option, Some, None, MatchOption, IfSome, IsSome, IsSomeAnd, ◌≢◌, ◌<◌, ◌^◌}
 use Rattle.std.specs.Prelude.{List, [], ◌∷◌, ◌++◌, length, min}
-use Rattle.der_base.specs.declared.error.Err.{Err as Refused}
-use Rattle.der_base.specs.declared.error.Error.{Error as BerError}
 use Rattle.der_base.specs.declared.header.Class.TheVariants.{Universal}
 use Rattle.der_base.specs.declared.header.Header.{Header}
 use Rattle.der_base.specs.declared.header.Length.{Length}
@@ -12,13 +10,13 @@ use Rattle.der_base.specs.declared.header.Length.TheVariants.{Definite, Indefini
 use Rattle.der_base.specs.Header.{class_of, is_constructed, number_of, length_of, raw_tag_of}
 use Rattle.der_base.specs.Octets.{identifier}
 use Rattle.der_base.specs.Spelling.{end_marker}
-use Rattle.der_base.specs.Tree.{node, Content as Contents}
 use Rattle.der_base.specs.declared.rules.Rules.{Rules}
 use Rattle.der_base.specs.declared.rules.Rules.TheVariants.{Ber, Der}
-use Rattle.der_check.specs.Elements.{SpellsOne, MayBeConstructed}
-use Rattle.der_check.specs.Readers.{AnswersOneElement, BeginsWithOne}
+use Rattle.der_check.specs.Elements.{MayBeConstructed, MayHaveContent}
+use Rattle.der_contents.specs.ContentRules.{IsContent, IsFirstBroken, content_rules}
+use Rattle.der_contents.specs.declared.content_error.ContentError.{ContentError}
 use Rattle.der_walk.specs.declared.cause.Cause.{Cause}
-use Rattle.der_walk.specs.declared.cause.Cause.TheVariants.{Constructed, ConstructedString, EndMarker}
+use Rattle.der_walk.specs.declared.cause.Cause.TheVariants.{Constructed, ConstructedString, EndMarker, Value}
 use Rattle.der_walk.specs.declared.content.Content.{Content}
 use Rattle.der_walk.specs.declared.content.Open.{Open}
 use Rattle.der_walk.specs.declared.element.Element.{Element}
@@ -27,7 +25,7 @@ use Rattle.der_walk.specs.Visits.{Visited, Extras, VisitsOne, IsHeaderBy, IsStri
 use Rattle.der_walk.specs.declared.content.End.{End}
 use Rattle.der_walk.specs.declared.refusal.Refusal.{Refusal}
 use Rattle.der_walk.specs.Ends.{between, end_from, end_in, end_of, ends_at_marker, limit_of, overrun, IsEndOf, IsWithin}
-use Rattle.der_walk.specs.Faults.{IsAtFault, IsLastStep, IsStep, IsCauseOfValue, cause_of_content, place_of}
+use Rattle.der_walk.specs.Faults.{IsAtFault, IsLastStep, IsStep, cause_of_content, place_of}
 use Rattle.der_walk.specs.Walked.{visited_of}
 
 -- the number of octets of a length that is definite
@@ -52,13 +50,17 @@ abbrev pub FindsContent : Element → List ℕ → Option (Bor (List ℕ)) → T
 FindsContent e here result = MatchOption result ((e.constructed ≡ true) ⊎ (e.length ≡ None))
     (λ w. (rest : List ℕ) × (here ≡ w.now ++ rest) × (e.length ≡ Some (length w.now)))
 
--- an element that begins here is one by the rules, as far as itself is concerned, or it breaks its type
-abbrev pub IsChecked : Bool → Rules → List ℕ → Element → Bool → Type 0
-IsChecked keeps r here e breaks = ((e.constructed ≡ true) × MayBeConstructed r e.class e.number × (breaks ≡ false))
-    ⊎ ((e.constructed ≡ false) × (e.class ≡ Universal → e.number ≡ 0 → ⊥) × (breaks ≡ false)
-    × (rest : List ℕ) × BeginsWithOne r here rest)
+-- the content octets, or none
+abbrev pub octets_or_none : Option (Bor (List ℕ)) → List ℕ
+octets_or_none (Some w) = w.now
+octets_or_none None = []
+
+-- an element is one by the rules, as far as itself is concerned, or its content breaks its type and is kept
+abbrev pub IsChecked : Bool → Rules → Element → Bool → Type 0
+IsChecked keeps r e breaks = ((e.constructed ≡ true) × MayBeConstructed r e.class e.number × (breaks ≡ false))
+    ⊎ ((e.constructed ≡ false) × MayHaveContent r e.class e.number (octets_or_none e.content) × (breaks ≡ false))
     ⊎ ((e.constructed ≡ false) × (breaks ≡ true) × (keeps ≡ true) × (r ≡ Ber) × (e.class ≡ Universal)
-    × IsTrue (may_break e.number) × ((rest : List ℕ) → ¬ BeginsWithOne r here rest))
+    × IsTrue (may_break e.number) × (¬ IsContent r e.number (octets_or_none e.content)))
 
 -- the octets of a primitive string that may hold an element
 abbrev pub FindsString : Element → Option (Bor (List ℕ)) → Type 0
@@ -77,11 +79,10 @@ pub data IsRead (x : Extras) (r : Rules) (d : ℕ) (here : List ℕ) (e : Elemen
   whole : (h w rest : List ℕ) → here ≡ h ++ (w ++ rest) → e.header ≡ length h → e.length ≡ Some (length w)
       → e.constructed ≡ false → e.holds_der ≡ false
       → VisitsOne x r (suc d) e.depth e.offset (h ++ w) (visited_of e ∷ []) → IsRead x r d here e
-  string : (h w rest u v : List ℕ) (y : Contents) → here ≡ h ++ (w ++ rest) → e.header ≡ length h
+  string : (h w rest u v : List ℕ) → here ≡ h ++ (w ++ rest) → e.header ≡ length h
       → e.length ≡ Some (length w) → e.constructed ≡ false → e.holds_der ≡ true → e.breaks_its_type ≡ false
       → e.class ≡ Universal → IsHeaderBy r Universal false e.number (Some (length w)) h
-      → SpellsOne r (h ++ w) (node Universal false e.number y) → x.enters_strings ≡ true
-      → HoldsElement d e.number w u v → IsRead x r d here e
+      → IsContent r e.number w → x.enters_strings ≡ true → HoldsElement d e.number w u v → IsRead x r d here e
   list : (h rest : List ℕ) → here ≡ h ++ rest → e.header ≡ length h → e.constructed ≡ true → e.holds_der ≡ false
       → e.breaks_its_type ≡ false → IsHeaderBy r e.class true e.number e.length h
       → MayBeConstructed r e.class e.number → IsRead x r d here e
@@ -191,26 +192,24 @@ pub record LacksContent (w : Walk) (here : List ℕ) (e : Element) (f : Refusal)
   pub offset : f.offset ≡ e.offset
   pub step : IsSomeAnd f.step (λ s. IsStep s e.class e.number e.index)
 
--- a value is visited that breaks its type
+-- a primitive element is visited whose content breaks its type
 abbrev pub Keeps : Walk → Element → Type 0
 Keeps w e = (w.keeps_values ≡ true) × (w.content.rules ≡ Ber) × (e.class ≡ Universal) × IsTrue (may_break e.number)
 
--- why the octets here aren't those of a constructed element
+-- why it isn't a constructed element
 abbrev pub FailsConstructed : Rules → Element → Cause → Type 0
 FailsConstructed r e c = (e.constructed ≡ true) × (¬ MayBeConstructed r e.class e.number)
     × ((MayBeConstructed Ber e.class e.number × (c ≡ ConstructedString))
     ⊎ ((¬ MayBeConstructed Ber e.class e.number) × (c ≡ Constructed)))
 
--- or those of a primitive one
-abbrev pub FailsPrimitive : Walk → List ℕ → Element → Cause → Type 0
-FailsPrimitive w here e c = (e.constructed ≡ false) × (((e.class ≡ Universal) × (e.number ≡ 0) × (c ≡ EndMarker))
-    ⊎ ((e.class ≡ Universal → e.number ≢ 0) × ((rest : List ℕ) → ¬ BeginsWithOne w.content.rules here rest)
-    × (¬ Keeps w e)
-    × (found : Result (Bor (List ℕ) × ℕ) (Refused BerError)) × AnswersOneElement w.content.rules here found
-    × IsCauseOfValue found c))
+-- or a primitive one
+abbrev pub FailsPrimitive : Walk → Element → Cause → Type 0
+FailsPrimitive w e c = (e.constructed ≡ false) × (e.class ≡ Universal) × (((e.number ≡ 0) × (c ≡ EndMarker))
+    ⊎ ((e.number ≢ 0) × (¬ Keeps w e) × (f : ContentError)
+    × IsFirstBroken (content_rules w.content.rules e.number (octets_or_none e.content)) f × (c ≡ Value f)))
 
--- the element e that begins here is refused itself
-pub record FailsCheck (w : Walk) (here : List ℕ) (e : Element) (f : Refusal) : Type 0 where
-  pub fails : FailsConstructed w.content.rules e f.cause ⊎ FailsPrimitive w here e f.cause
+-- the element e is refused itself
+pub record FailsCheck (w : Walk) (e : Element) (f : Refusal) : Type 0 where
+  pub fails : FailsConstructed w.content.rules e f.cause ⊎ FailsPrimitive w e f.cause
   pub offset : f.offset ≡ e.offset
   pub step : IsSomeAnd f.step (λ s. IsStep s e.class e.number e.index)

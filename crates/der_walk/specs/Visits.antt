@@ -7,10 +7,10 @@ use Rattle.der_base.specs.Octets.{identifier}
 use Rattle.der_base.specs.Spelling.{end_marker}
 use Rattle.der_base.specs.Leaf.{is_time}
 use Rattle.der_base.specs.Text.{is_one_of, is_text_type}
-use Rattle.der_base.specs.Tree.{node, Content}
 use Rattle.der_base.specs.declared.rules.Rules.{Rules}
 use Rattle.der_base.specs.declared.rules.Rules.TheVariants.{Ber, Der}
-use Rattle.der_check.specs.Elements.{SpellsOne, SpellsLengthBy, MayBeConstructed, IsElement}
+use Rattle.der_check.specs.Elements.{IsElement, MayBeConstructed, MayHaveContent, SpellsLengthBy}
+use Rattle.der_contents.specs.ContentRules.{IsContent}
 
 -- an element that is visited
 pub record Visited : Type 0 where
@@ -27,15 +27,14 @@ pub record Visited : Type 0 where
   pub depth : ℕ
   -- it is a string, whose content is an element that is visited next
   pub holds_der : Bool
-  -- its octets are no value of its type: a text with a character that the type doesn't have (8.23), a time that is
-  -- none (8.25), an identifier with a padded arc (8.19.2)
+  -- its content octets break a rule of its type: a text (8.23), a time (8.25) or an identifier (8.19, 8.20)
   pub breaks_its_type : Bool
 
 -- what a walk visits besides the elements of X.690
 pub record Extras : Type 0 where
   -- the element of DER that is the whole content of a string
   pub enters_strings : Bool
-  -- by BER, a value that breaks its type
+  -- by BER, a primitive element whose content breaks its type
   pub keeps_values : Bool
 
 -- h is a header by these rules: identifier octets, and length octets, definite or not (8.1.2, 8.1.3)
@@ -59,7 +58,7 @@ visited at k c p t h n = record {
 
 -- the universal types of which it may be visited: texts (8.23), times (8.25), identifiers (8.19, 8.20)
 abbrev pub may_break : ℕ → Bool
-may_break t = is_text_type t || is_time t || is_one_of (6 ∷ 13 ∷ 30 ∷ []) t
+may_break t = is_text_type t || is_time t || is_one_of (6 ∷ 13 ∷ 28 ∷ 30 ∷ []) t
 
 -- what is in front of the octets of a string: nothing in an OCTET STRING, and in a BIT STRING the octet that says that
 -- no bit is unused (8.6.2, 8.7)
@@ -94,18 +93,16 @@ mutual
   -- The octets b are one: it is visited first, and then those that are its content (8.1.4).
   pub data VisitsOne (x : Extras) : Rules → ℕ → ℕ → ℕ → List ℕ → List Visited → Type 0 where
     primitive : {r : Rules} {d k a : ℕ} {b : List ℕ} {vs : List Visited} (c : Class) (t : ℕ) (h w : List ℕ)
-        (y : Content) → IsHeaderBy r c false t (Some (length w)) h → b ≡ h ++ w → SpellsOne r b (node c false t y)
-        → (c ≡ Universal → t ≢ 0) → IsNotEntered x d c t w → vs ≡ visited a k c false t h (Some (length w)) ∷ []
-        → VisitsOne x r (suc d) k a b vs
-    -- no value of its type
+        → IsHeaderBy r c false t (Some (length w)) h → b ≡ h ++ w → MayHaveContent r c t w → IsNotEntered x d c t w
+        → vs ≡ visited a k c false t h (Some (length w)) ∷ [] → VisitsOne x r (suc d) k a b vs
+    -- the content breaks its type
     broken : {r : Rules} {d k a : ℕ} {b : List ℕ} {vs : List Visited} (t : ℕ) (h w : List ℕ)
         → IsHeaderBy r Universal false t (Some (length w)) h → b ≡ h ++ w → x.keeps_values ≡ true → r ≡ Ber
-        → IsTrue (may_break t) → ((y : Content) → ¬ SpellsOne r b (node Universal false t y))
+        → IsTrue (may_break t) → ¬ IsContent r t w
         → vs ≡ record (visited a k Universal false t h (Some (length w))) { breaks_its_type = true } ∷ []
         → VisitsOne x r (suc d) k a b vs
-    string : {r : Rules} {d k a : ℕ} {b : List ℕ} {vs : List Visited} (t : ℕ) (h w : List ℕ) (y : Content)
-        (u v : List ℕ) (us : List Visited)
-        → IsHeaderBy r Universal false t (Some (length w)) h → b ≡ h ++ w → SpellsOne r b (node Universal false t y)
+    string : {r : Rules} {d k a : ℕ} {b : List ℕ} {vs : List Visited} (t : ℕ) (h w u v : List ℕ) (us : List Visited)
+        → IsHeaderBy r Universal false t (Some (length w)) h → b ≡ h ++ w → IsContent r t w
         → x.enters_strings ≡ true → HoldsElement d t w u v
         → Visits x Der d (suc k) (a + length h + length u) v us
         → vs ≡ record (visited a k Universal false t h (Some (length w))) { holds_der = true } ∷ us

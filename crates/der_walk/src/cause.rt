@@ -1,5 +1,6 @@
 //! Why an input is refused, and which rule says so.
 use der_base::error::{BerError, DerConstraint};
+use der_contents::ContentError;
 use std::fmt;
 
 /// Why a walk ends before its input does.
@@ -15,10 +16,8 @@ pub enum Cause {
     EndMarker,
     /// A header is refused.
     Header(BerError),
-    /// The content of a primitive element is refused.
-    Value(BerError),
-    /// An arc of an identifier begins with an octet of 0x80.
-    PaddedArc,
+    /// The content octets of a primitive element break this rule of their type.
+    Value(ContentError),
     /// A constructed element is of a type that is primitive by BER.
     Constructed,
     /// A constructed string, by DER.
@@ -109,8 +108,7 @@ impl Cause {
                 "8.1.5",
             ),
             Cause::Header(e) => header_rule(e),
-            Cause::Value(e) => value_rule(e),
-            Cause::PaddedArc => Rule::new("an arc begins with an octet of 0x80", "8.19.2"),
+            Cause::Value(e) => Rule::new(e.found(), e.clause()),
             Cause::Constructed => Rule::new("the encoding of this type must be primitive", "8.1.4"),
             Cause::ConstructedString => Rule::new(
                 "a string is constructed, which DER forbids",
@@ -148,77 +146,13 @@ fn header_rule(e: BerError) -> Rule {
             "a primitive element has an indefinite length",
             "8.1.3.2",
         ),
-        BerError::DerConstraintFailed(rule) => der_rule(rule),
-        _ => Rule::new("the header is invalid", "8.1.2"),
-    }
-}
-
-/// The rule that the content of a primitive element breaks.
-fn value_rule(e: BerError) -> Rule {
-    match e {
-        BerError::InvalidLength => Rule::new(
-            "a BOOLEAN isn't one octet, a NULL has some, or a BIT STRING has none",
-            "8.2.1, 8.6.2 and 8.8.2",
-        ),
-        BerError::BerValueError => Rule::new(
-            "a BIT STRING has no octet for its unused bits",
-            "8.6.2",
-        ),
-        BerError::ConstructExpected => Rule::new("a SEQUENCE or SET is primitive", "8.9.1"),
-        BerError::IntegerTooLarge | BerError::IntegerNegative => {
-            Rule::new(
-                "an ENUMERATED is below 0 or above 18446744073709551615, the limits here",
-                "",
-            )
-        }
-        BerError::StringInvalidCharset => {
-            Rule::new("an octet isn't in the character set of the type", "8.23")
-        }
-        BerError::InvalidDateTime => Rule::new("the octets aren't a time of the type", "8.25"),
-        BerError::Unsupported => Rule::new("a BMPString has an odd number of octets", "8.23"),
-        BerError::DerConstraintFailed(rule) => der_rule(rule),
-        _ => Rule::new("the content is no value of the type", "8"),
-    }
-}
-
-/// The rule of DER that is broken.
-fn der_rule(rule: DerConstraint) -> Rule {
-    match rule {
-        DerConstraint::IndefiniteLength => Rule::new(
+        BerError::DerConstraintFailed(DerConstraint::IndefiniteLength) => Rule::new(
             "a length is indefinite, which DER forbids",
             "10.1",
         ),
-        DerConstraint::LengthNotMinimal => Rule::new("a length isn't in the fewest octets", "10.1"),
-        DerConstraint::Constructed => Rule::new(
-            "a string is constructed, which DER forbids",
-            "10.2",
-        ),
-        DerConstraint::InvalidBoolean => Rule::new("a BOOLEAN is neither 00 nor ff", "11.1"),
-        DerConstraint::IntegerEmpty => Rule::new("a number has no octet", "8.3.1"),
-        DerConstraint::IntegerLeadingZeroes => {
-            Rule::new(
-                "a number isn't in the fewest octets, its first nine bits are 0",
-                "8.3.2",
-            )
+        BerError::DerConstraintFailed(DerConstraint::LengthNotMinimal) => {
+            Rule::new("a length isn't in the fewest octets", "10.1")
         }
-        DerConstraint::IntegerLeadingFF => {
-            Rule::new(
-                "a number isn't in the fewest octets, its first nine bits are 1",
-                "8.3.2",
-            )
-        }
-        DerConstraint::MissingTimeZone => Rule::new("a time doesn't end in Z", "11.7.1 and 11.8.1"),
-        DerConstraint::MissingSeconds => Rule::new("a time has no seconds", "11.7.2 and 11.8.2"),
-        DerConstraint::FractionNotMinimal => {
-            Rule::new(
-                "a fraction of a second ends in 0 or has a comma",
-                "11.7.3 and 11.7.4",
-            )
-        }
-        DerConstraint::UnusedBitsNotZero => Rule::new(
-            "an unused bit of a BIT STRING is 1",
-            "11.2.1",
-        ),
-        DerConstraint::SetOfOrder => Rule::new("the elements of a SET OF aren't in order", "11.6"),
+        _ => Rule::new("the header is invalid", "8.1.2"),
     }
 }

@@ -32,8 +32,8 @@ pub struct Element<'a> {
     pub index: usize,
     /// Whether it is a string whose content is an element of DER, which is visited next.
     pub holds_der: bool,
-    /// Whether its octets are no value of its type: a text with a character that the type doesn't have (X.690 8.23), a
-    /// time that is none (8.25), or an identifier with an arc that begins with an octet of 0x80 (8.19.2).
+    /// Whether its content octets break a rule of its type: a text (X.690 8.23), a time (8.25) or an identifier (8.19,
+    /// 8.20).
     pub breaks_its_type: bool,
 }
 
@@ -70,11 +70,11 @@ impl<'a> Element<'a> {
         self.class == Class::Universal && self.number == number
     }
 
-    /// Whether it is of a type of which a value that breaks it may be visited: a text, a time or an identifier.
+    /// Whether it is of a type of which a content that breaks it may be visited: a text, a time or an identifier.
     pub(crate) fn may_break(&self) -> bool
         ensures { IsTrue result ↔ ((self.now.class ≡ Class.Universal) × IsTrue (may_break self.now.number)) }
     {
-        self.class == Class::Universal && matches!(self.number, 6 | 7 | 12 | 13 | 18..=27 | 30)
+        self.class == Class::Universal && matches!(self.number, 6 | 7 | 12 | 13 | 18..=28 | 30)
     }
 
     /// Whether it is a string whose octets are one element of DER. A primitive element of another class than

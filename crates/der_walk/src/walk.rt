@@ -1,14 +1,8 @@
 //! The walk.
 ghost use Rattle.der_base.specs.Header.{length_of as length_in};
 ghost use Rattle.der_walk.specs.Reading.{definite_of};
-ghost use Rattle.std.specs.Prelude.{◌≡◌, ◌≢◌, ◌+◌, ◌^◌, ◌<◌, ◌≤◌, ◌↔◌, ◌++◌, ℕ, List, Result, length, [], false, true};
+ghost use Rattle.std.specs.Prelude.{◌≡◌, ◌≢◌, ◌+◌, ◌^◌, ◌<◌, ◌≤◌, ◌↔◌, ◌++◌, ℕ, List, length, [], false, true};
 ghost use Rattle.std.specs.Prelude.{IfErr, IfOk, IfSome, IsTrue, MatchOption, None};
-ghost use Rattle.std.specs.Borrow.{Bor};
-ghost use Rattle.der_base.specs.declared.error.Err.{Err as Refused};
-ghost use Rattle.der_base.specs.declared.error.Error.{Error as BerError};
-ghost use Rattle.der_check.specs.Readers.{AnswersOneElement};
-ghost use Rattle.der_walk.specs.Faults.{IsCauseOfValue};
-ghost use Rattle.der_base.specs.Cut.{IsCut};
 
 use crate::cause::Cause;
 use crate::content::{Content, End, Open};
@@ -17,9 +11,10 @@ use crate::path::Path;
 use crate::refusal::Refusal;
 use arrayvec::ArrayVec;
 use der_base::error::{BerError, Err as Refused, Needed};
-use der_base::header::{Header, Length, Tag};
+use der_base::header::{Class, Header, Length, Tag};
 use der_base::rules::Rules;
-use der_check::{after_end_marker, after_one, check_one, may_be_constructed};
+use der_check::{after_end_marker, may_be_constructed};
+use der_contents::check_content;
 
 /// How many elements may be around an element.
 pub const MAX_DEPTH: usize = 100;
@@ -72,7 +67,7 @@ impl<'a> Walk<'a> {
         }
     }
 
-    /// The same walk, which by BER visits and marks a value that breaks its type.
+    /// The same walk, which by BER visits and marks a primitive element whose content breaks its type.
     pub fn keeping_values(self) -> Walk<'a>
         ensures { (x : Extras) (r : Rules) (i : List ℕ) → HasVisited x r i self.entry []
             → HasVisited (record { enters_strings = x.enters_strings; keeps_values = true }) r i result [] }
@@ -206,7 +201,7 @@ impl<'a> Walk<'a> {
         if element.depth > MAX_DEPTH {
             return Err(Refusal::of(&element, Cause::TooDeep));
         }
-        let breaks_its_type = match self.check(&element, here) {
+        let breaks_its_type = match self.check(&element) {
             Ok(breaks) => breaks,
             Err(refusal) => return Err(refusal),
         };
@@ -266,15 +261,14 @@ impl<'a> Walk<'a> {
         Err(Refusal::of(element, self.cut(length - here.len())))
     }
 
-    /// Checks whether an element may be constructed, or what a primitive one contains, which begins here. Returns
-    /// whether it breaks its type.
-    fn check(&self, element: &Element<'a>, here: &[u8]) -> Result<bool, Refusal>
-        requires { element.now.constructed ≡ false → ¬ IsCut here.now }
-        ensures checked { IfOk result (IsChecked self.now.keeps_values self.now.content.rules here.now element.now) }
-        ensures refused { IfErr result (FailsCheck self.now here.now element.now) }
+    /// Checks whether an element may be constructed, or what a primitive one contains. Returns whether that breaks
+    /// its type.
+    fn check(&self, element: &Element<'a>) -> Result<bool, Refusal>
+        ensures checked { IfOk result (IsChecked self.now.keeps_values self.now.content.rules element.now) }
+        ensures refused { IfErr result (FailsCheck self.now element.now) }
     {
         if !element.constructed {
-            return self.check_primitive(element, here);
+            return self.check_primitive(element);
         }
         let tag = Tag(element.number);
         if may_be_constructed(self.content.rules, element.class, tag) {
@@ -286,28 +280,30 @@ impl<'a> Walk<'a> {
         }
     }
 
-    /// Checks what a primitive element contains, which begins here. An end marker is no element. Returns whether it
-    /// breaks its type.
-    fn check_primitive(&self, element: &Element<'a>, here: &[u8]) -> Result<bool, Refusal>
-        requires primitive { element.now.constructed ≡ false }
-        requires whole { ¬ IsCut here.now }
-        ensures checked { IfOk result (IsChecked self.now.keeps_values self.now.content.rules here.now element.now) }
-        ensures refused { IfErr result (FailsCheck self.now here.now element.now) }
+    /// Checks what a primitive element contains. An end marker is no element. Returns whether the content breaks its
+    /// type.
+    fn check_primitive(&self, element: &Element<'a>) -> Result<bool, Refusal>
+        requires { element.now.constructed ≡ false }
+        ensures checked { IfOk result (IsChecked self.now.keeps_values self.now.content.rules element.now) }
+        ensures refused { IfErr result (FailsCheck self.now element.now) }
     {
-        if element.is_universal(0) {
-            return Err(Refusal::of(element, Cause::EndMarker));
-        }
-        let rules = self.content.rules;
-        if after_one(rules, here).is_some() {
+        if element.class != Class::Universal {
             return Ok(false);
         }
+        if element.number == 0 {
+            return Err(Refusal::of(element, Cause::EndMarker));
+        }
+        let content = element.content.unwrap_or(&[]);
+        let Err(e) = check_content(self.content.rules, element.number, content) else {
+            return Ok(false);
+        };
         if self.keeps(element) {
             return Ok(true);
         }
-        Err(Refusal::of(element, value_cause(rules, here)))
+        Err(Refusal::of(element, Cause::Value(e)))
     }
 
-    /// Whether an element here is visited though it breaks its type.
+    /// Whether an element here is visited though its content breaks its type.
     fn keeps(&self, element: &Element<'a>) -> bool
         ensures { IsTrue result ↔ Keeps self.now element.now }
     {
@@ -435,16 +431,4 @@ fn length_of(header: &Header<'_>) -> Option<usize>
         Length::Definite(length) => Some(length),
         Length::Indefinite => None,
     }
-}
-
-/// The cause for the content of a primitive element, which begins here and is refused.
-fn value_cause(rules: Rules, here: &[u8]) -> Cause
-    requires { ¬ IsCut here.now }
-    ensures { (found : Result (Bor (List ℕ) × ℕ) (Refused BerError)) × AnswersOneElement rules here.now found
-        × IsCauseOfValue found result }
-{
-    let Err(Refused::Error(e)) = check_one(rules, here) else {
-        return Cause::PaddedArc;
-    };
-    Cause::Value(e)
 }

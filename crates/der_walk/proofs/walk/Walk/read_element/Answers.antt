@@ -1,5 +1,5 @@
 use Rattle.std.proofs.Common.{arith, ◌∙◌, sym}
-use Rattle.der_walk.proofs.ElementReads.{reads_here, starts_again, whole_here}
+use Rattle.der_walk.proofs.ElementReads.{reads_here, starts_again}
 use Rattle.der_walk.proofs.walk.Walk.read_element.Goals.{then-self, else-self}
 use Rattle.der_walk.proofs.Refusals.{refuses_check, refuses_content, refuses_depth, refuses_header}
 use Rattle.der_walk.proofs.walk.Walk.read_element.Goals as goal
@@ -26,14 +26,8 @@ returns-then-element-gt-MAX_DEPTH-clause-refused c =
     refuses_depth c.args.self.now c.args.here.now c.in-Ok.found _ c.of.result c.in-Ok.ensures (starts_again c.in-Ok.found.1 _ _ _ _ e c.in-Ok-content_of.content e.holds_der e.breaks_its_type c.element_of-element.ensures)
     c.in-Ok-content_of.content c.in-Ok-content_of.ensures.content c.in-Ok-content_of.ensures.room c.if-element-gt-MAX_DEPTH.true c.of.ensures.cause c.of.ensures.offset c.of.ensures.step
 
-pub check-requires : goal.check-requires
-check-requires c =
-    let e = c.element_of-element.result in
-    let begins = starts_again c.in-Ok.found.1 _ _ _ _ e c.in-Ok-content_of.content e.holds_der e.breaks_its_type c.element_of-element.ensures in
-    whole_here c.args.self.now.content.rules c.args.here.now c.in-Ok.found _ _ _ _ c.in-Ok.ensures begins c.in-Ok-content_of.ensures.content
-
 pub returns-in-Err-check-clause-refused : goal.returns-in-Err-check-clause-refused
 returns-in-Err-check-clause-refused c =
     let e = c.element_of-element.result in
     refuses_check c.args.self.now c.args.here.now c.in-Ok.found _ c.in-Err-check.refusal c.in-Ok.ensures (starts_again c.in-Ok.found.1 _ _ _ _ e c.in-Ok-content_of.content e.holds_der e.breaks_its_type c.element_of-element.ensures)
-    c.in-Ok-content_of.content c.in-Ok-content_of.ensures.content c.in-Ok-content_of.ensures.room (omega arith) c.in-Err-check.ensures.refused
+    c.in-Ok-content_of.ensures.content c.in-Ok-content_of.ensures.room (omega arith) c.in-Err-check.ensures.refused
