@@ -1,11 +1,11 @@
 -- An element that is read is one.
-use Rattle.std.proofs.Common.{◌≡◌, ◌≢◌, ℕ, ◌+◌, ◌-◌, ◌≤◌, ◌⊎◌, Bool, true, false, IsTrue, List, [], ◌∷◌, ◌++◌, length, Option, Some, None, Ok, refl, sym, ap, subst, ◌∙◌, arith, rules, append_assoc, length-append, inl, inr, ⊎_elim}
+use Rattle.std.proofs.Common.{◌≡◌, ◌≢◌, ℕ, ◌+◌, ◌-◌, ◌≤◌, ◌⊎◌, Bool, true, false, IsTrue, List, [], ◌∷◌, ◌++◌, length, Option, Some, None, Ok, refl, sym, ap, subst, ◌∙◌, arith, length-append, inl, inr, ⊎_elim}
 use Rattle.std.specs.Borrow.{Bor}
 use Rattle.std.specs.Prelude.{◌↔◌, MatchOption, IfSome, IsSome, unwrap_or}
 use Rattle.der_base.specs.declared.header.Class.{Class}
 use Rattle.der_base.specs.declared.header.Class.TheVariants.{Universal}
 use Rattle.der_base.specs.declared.header.Header.{Header}
-use Rattle.der_base.specs.Header.{class_of, is_constructed, number_of, length_of}
+use Rattle.der_base.specs.Header.{is_constructed, number_of, length_of}
 use Rattle.der_base.specs.Headers.{leading_header}
 use Rattle.der_base.specs.Octets.{identifier}
 use Rattle.der_base.specs.declared.rules.Rules.{Rules}
