@@ -10,6 +10,5 @@ pub mod Layouts
 pub mod Objects
 pub mod Printer
 pub mod Readings
-pub mod Room
 pub mod View
 pub mod Writing

@@ -6,22 +6,21 @@ ghost use Rattle.der_base.specs.Header.{class_of, is_constructed, number_of};
 ghost use Rattle.der_base.specs.Octets.{identifier, shortest_integer};
 ghost use Rattle.der_base.specs.Time.{text_from_year};
 ghost use Rattle.der_object.specs.Encoders.{header_octets, length_octets, explicit_octets, implicit_octets};
-ghost use Rattle.der_object.specs.Room.{PutsBefore};
 ghost use Rattle.der_object.specs.View.{tree, content_tree, trees};
 ghost use Rattle.der_object.specs.Writing.{Encodes, IoWhereFaultsRose, Wrote};
+ghost use Rattle.der_octets.specs.Room.{PutsBefore};
 
 use crate::length::{
-    content_length, explicit_length, header_length, implicit_length, integer_octet_count,
-    object_length, raw_length,
+    content_length, explicit_length, header_length, implicit_length, object_length, raw_length,
 };
 use crate::object::{BerObject, BerObjectContent};
-use crate::octets::write_octet;
-use crate::serialize::{write_identifier, write_integer, write_length};
-use crate::time::{GENERALIZED_YEAR, UTC_YEAR, time_length, write_time};
 use crate::writer::{FaultWriter, send};
 use der_base::error::GenError;
 use der_base::header::{Class, Header, Length, Tag};
 use der_base::time::ASN1DateTime;
+use der_octets::header::{integer_octet_count, write_identifier, write_integer, write_length};
+use der_octets::octets::write_octet;
+use der_octets::time::{GENERALIZED_YEAR, UTC_YEAR, time_length, write_time};
 use std::io::Write;
 
 /// The octets that a header has at most: 6 identifier octets and 9 length octets.

@@ -1,12 +1,12 @@
 //! Octets in hexadecimal text.
 ghost use Rattle.std.specs.Prelude.{◌≡◌, ◌≤◌, ◌<◌, ◌*◌, ◌∷◌, length};
 ghost use Rattle.der_base.specs.Pretty.{hex, hex_digit, hex_pair, spaced_hex};
-ghost use Rattle.der_object.specs.Room.{PutsBefore};
 ghost use Rattle.der_object.specs.Writing.{Wrote};
+ghost use Rattle.der_octets.specs.Room.{PutsBefore};
 
-use crate::octets::write_octets;
 use crate::writer::{FaultWriter, send};
 use der_base::error::GenError;
+use der_octets::octets::write_octets;
 use std::io::Write;
 
 /// So many octets are sent at once.

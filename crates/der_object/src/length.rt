@@ -1,16 +1,17 @@
 //! How many octets an object has, counted before any is written.
-ghost use Rattle.std.specs.Prelude.{◌≡◌, ℕ, ◌+◌, ◌<◌, ◌≤◌, ◌^◌, ◌++◌, Bool, List, length};
+ghost use Rattle.std.specs.Prelude.{◌≡◌, ◌+◌, ◌<◌, ◌≤◌, ◌^◌, ◌++◌, Bool, length};
 ghost use Rattle.std.specs.Option.{SomeIff};
 ghost use Rattle.der_base.specs.declared.header.Class.{Class};
 ghost use Rattle.der_base.specs.Encoding.{encoding, encodings, content_octets, element};
 ghost use Rattle.der_base.specs.Header.{class_of, is_constructed, number_of};
-ghost use Rattle.der_base.specs.Octets.{identifier, shortest_length, shortest_integer, octets, groups, needs_zero};
+ghost use Rattle.der_base.specs.Octets.{identifier, shortest_length};
 ghost use Rattle.der_object.specs.Encoders.{length_octets, header_octets, explicit_octets, implicit_octets};
 ghost use Rattle.der_object.specs.View.{tree, content_tree, trees};
 
 use crate::object::{BerObject, BerObjectContent};
-use crate::time::{GENERALIZED_YEAR, UTC_YEAR, time_length};
 use der_base::header::{Header, Length, Tag};
+use der_octets::header::{identifier_octet_count, integer_octet_count, length_octet_count};
+use der_octets::time::{GENERALIZED_YEAR, UTC_YEAR, time_length};
 
 /// How many octets an object has, if at most 2^64-1.
 #[cycle(length)]
@@ -111,68 +112,4 @@ pub fn header_length(header: &Header<'_>, stated: Length) -> usize
         Length::Indefinite => 1,
     };
     identifier_octet_count(header.tag()) + length_octets
-}
-
-/// How many identifier octets a tag number has (8.1.2).
-#[tactic(auto, using(der_base::proofs::Octets::Numbers::identifier_short_length, der_base::proofs::Octets::Numbers::identifier_long_length))]
-fn identifier_octet_count(tag: Tag) -> usize
-    ensures count { (c : Class) (p : Bool) → result ≡ length (identifier c p tag.0) }
-    ensures few { result ≤ 6 }
-{
-    if tag.0 < 31 {
-        1
-    } else {
-        1 + group_count(tag.0)
-    }
-}
-
-/// How many length octets a length has, in the shortest form (8.1.3, 10.1).
-#[tactic(auto, unfolding(der_base::specs::Octets::shortest_length))]
-fn length_octet_count(n: usize) -> usize
-    ensures count { result ≡ length (shortest_length n) }
-    ensures few { result ≤ 9 }
-{
-    if n < 128 { 1 } else { 1 + octet_count(n) }
-}
-
-/// How many octets a number has, none for 0.
-#[tactic(auto, using(der_base::proofs::Octets::Numbers::octets_leading))]
-fn octet_count(n: usize) -> usize
-    ensures count { result ≡ length (octets n) }
-    ensures few { result ≤ 8 }
-{
-    8 - n.leading_zeros() as usize / 8
-}
-
-/// How many octets a number has in two's complement, the fewest (8.3.2).
-#[tactic(auto, unfolding(der_base::specs::Octets::shortest_integer))]
-pub fn integer_octet_count(n: u64) -> usize
-    ensures count { result ≡ length (shortest_integer n) }
-    ensures few { result ≤ 9 }
-{
-    octet_count(n as usize) + usize::from(needs_zero(n))
-}
-
-/// Whether a leading 00 octet is needed, since there are no octets or their first
-/// bit says that the number is negative (8.3.3).
-#[tactic(auto, using(crate::proofs::Integers::needs_zero_leading))]
-pub fn needs_zero(n: u64) -> bool
-    ensures { result ≡ needs_zero (octets n) }
-{
-    n.leading_zeros() % 8 == 0
-}
-
-/// How many groups of seven bits a tag number has (8.1.2.4.2).
-#[tactic(auto, using(der_base::proofs::Octets::Numbers::groups_one, der_base::proofs::Octets::Numbers::groups_count))]
-fn group_count(n: u32) -> usize
-    ensures count { result ≡ length (groups n) }
-    ensures few { result ≤ 5 }
-{
-    match n {
-        0..0x80 => 1,
-        0x80..0x4000 => 2,
-        0x4000..0x20_0000 => 3,
-        0x20_0000..0x1000_0000 => 4,
-        _ => 5,
-    }
 }

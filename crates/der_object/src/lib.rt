@@ -5,7 +5,6 @@
 pub mod bit_string;
 mod characters;
 mod copies;
-mod decimal;
 mod encode;
 mod equality;
 pub mod error;
@@ -16,13 +15,11 @@ pub mod laws;
 mod length;
 pub mod number;
 pub mod object;
-mod octets;
 mod parts;
 pub mod print;
 mod questions;
 mod serialize;
 mod text;
-mod time;
 mod writer;
 
 pub use bit_string::BitStringObject;

@@ -3,22 +3,22 @@
 //!
 //! They are written from the last to the first: a length is written after its content, so
 //! no content is measured again for each list around it.
-ghost use Rattle.std.specs.Prelude.{◌≡◌, ◌≢◌, ℕ, ◌+◌, ◌-◌, ◌*◌, ◌<◌, ◌≤◌, ◌^◌, ◌↔◌, ◌⊎◌, [], ◌∷◌, ◌++◌, length};
+ghost use Rattle.std.specs.Prelude.{◌≡◌, ◌≢◌, ◌≤◌, ◌^◌, ◌↔◌, ◌⊎◌, [], ◌++◌, length};
 ghost use Rattle.std.specs.Prelude.{IfOk, IfErr};
 ghost use Rattle.std.specs.Result.{IsErrOf};
 ghost use Rattle.der_base.specs.Encoding.{encoding, encodings, content_octets};
 ghost use Rattle.der_base.specs.Header.{class_of, is_constructed, number_of};
-ghost use Rattle.der_base.specs.Octets.{identifier, shortest_length, shortest_integer, octets, groups};
-ghost use Rattle.der_base.specs.Octets.{leading_bits, class_number};
-ghost use Rattle.der_object.specs.Room.{PutsBefore};
+ghost use Rattle.der_base.specs.Octets.{identifier, shortest_length};
 ghost use Rattle.der_object.specs.View.{tree, content_tree, trees};
+ghost use Rattle.der_octets.specs.Room.{PutsBefore};
 
-use crate::length::{needs_zero, object_length};
+use crate::length::object_length;
 use crate::object::{BerObject, BerObjectContent};
-use crate::octets::{write_octet, write_octets};
-use crate::time::{GENERALIZED_YEAR, UTC_YEAR, write_time};
 use der_base::error::GenError;
-use der_base::header::{Class, Header, Length, Tag};
+use der_base::header::{Header, Length};
+use der_octets::header::{write_identifier, write_integer, write_length};
+use der_octets::octets::{write_octet, write_octets};
+use der_octets::time::{GENERALIZED_YEAR, UTC_YEAR, write_time};
 use std::alloc::Global;
 
 impl BerObject<'_> {
@@ -134,98 +134,4 @@ fn write_header(out: &mut [u8], end: usize, header: &Header<'_>, n: usize) -> us
         header.constructed(),
         header.tag(),
     )
-}
-
-/// Writes identifier octets before an offset (8.1.2).
-#[tactic(auto, using(der_base::proofs::Octets::Identifiers::identifier_short, der_base::proofs::Octets::Identifiers::identifier_long, der_base::proofs::Octets::Numbers::identifier_short_length, der_base::proofs::Octets::Numbers::identifier_long_length))]
-pub fn write_identifier(
-    out: &mut [u8],
-    end: usize,
-    class: Class,
-    constructed: bool,
-    tag: Tag,
-) -> usize
-    requires room { length (identifier class constructed tag.0) ≤ end }
-    requires within { end ≤ length out.old }
-    ensures { PutsBefore out.old out.new end (identifier class constructed tag.0) result }
-{
-    let leading = leading_octet(class, constructed);
-    if tag.0 < 31 {
-        write_octet(out, end, leading + tag.0 as u8)
-    } else {
-        let begin = write_groups(out, end, tag.0);
-        write_octet(out, begin, leading + 31)
-    }
-}
-
-/// The first identifier octet, with no bit of the tag number (8.1.2.2, 8.1.2.5).
-fn leading_octet(class: Class, constructed: bool) -> u8
-    ensures value { result ≡ leading_bits class constructed }
-    ensures small { result ≤ 224 }
-{
-    let class = match class {
-        Class::Universal => 0,
-        Class::Application => 0x40,
-        Class::ContextSpecific => 0x80,
-        Class::Private => 0xc0,
-    };
-    if constructed { class + 0x20 } else { class }
-}
-
-/// Writes a tag number before an offset, in groups of seven bits (8.1.2.4.2).
-fn write_groups(out: &mut [u8], end: usize, n: u32) -> usize
-    requires room { length (groups n) ≤ end }
-    requires within { end ≤ length out.old }
-    ensures { PutsBefore out.old out.new end (groups n) result }
-{
-    let mut begin = end - 1;
-    out[begin] = (n % 128) as u8;
-    let mut rest = n / 128;
-    while rest != 0 {
-        begin -= 1;
-        out[begin] = 128 + (rest % 128) as u8;
-        rest /= 128;
-    }
-    begin
-}
-
-/// Writes length octets before an offset, the fewest (8.1.3, 10.1).
-#[tactic(auto, using(der_base::proofs::Octets::Numbers::octets_leading), unfolding(der_base::specs::Octets::shortest_length))]
-pub fn write_length(out: &mut [u8], end: usize, n: usize) -> usize
-    requires room { length (shortest_length n) ≤ end }
-    requires within { end ≤ length out.old }
-    ensures { PutsBefore out.old out.new end (shortest_length n) result }
-{
-    if n < 128 {
-        write_octet(out, end, n as u8)
-    } else {
-        let begin = write_number(out, end, n);
-        write_octet(out, begin, 128 + (end - begin) as u8)
-    }
-}
-
-/// Writes the fewest octets of a number before an offset, none for 0.
-#[tactic(auto, using(der_base::proofs::Octets::Numbers::octets_from_bytes))]
-fn write_number(out: &mut [u8], end: usize, n: usize) -> usize
-    requires room { length (octets n) ≤ end }
-    requires within { end ≤ length out.old }
-    ensures { PutsBefore out.old out.new end (octets n) result }
-{
-    let zeros = n.leading_zeros() as usize / 8;
-    write_octets(out, end, &n.to_be_bytes()[zeros..])
-}
-
-/// Writes a number in two's complement before an offset, in the fewest octets (8.3.2).
-#[tactic(auto, using(crate::proofs::Room::puts_both), unfolding(der_base::specs::Octets::shortest_integer))]
-pub fn write_integer(out: &mut [u8], end: usize, n: u64) -> usize
-    requires room { length (shortest_integer n) ≤ end }
-    requires within { end ≤ length out.old }
-    ensures { PutsBefore out.old out.new end (shortest_integer n) result }
-{
-    let begin = write_number(out, end, n as usize);
-    if needs_zero(n) {
-        write_octet(out, begin, 0)
-    } else {
-        begin
-    }
 }

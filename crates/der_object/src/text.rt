@@ -17,17 +17,17 @@ ghost use Rattle.der_object.specs.View.{content_tree, tree, trees};
 ghost use Rattle.der_object.specs.Writing.{Wrote};
 
 use crate::characters::{Coding, are_characters, send_characters};
-use crate::decimal::write_decimal;
 use crate::encode::send_time;
 use crate::hex::send_hex;
 use crate::object::{BerObject, BerObjectContent};
-use crate::octets::write_octet;
-use crate::time::{GENERALIZED_YEAR, UTC_YEAR};
 use crate::writer::{FaultWriter, send};
 use der_base::error::GenError;
 use der_base::header::{Class, Header, Length, Tag};
 use der_base::oid::{Oid, OidIter};
 use der_base::time::ASN1DateTime;
+use der_octets::decimal::write_decimal;
+use der_octets::octets::write_octet;
+use der_octets::time::{GENERALIZED_YEAR, UTC_YEAR};
 use std::io::Write;
 
 /// How objects are printed.

@@ -45,7 +45,6 @@ pub use Rattle.der_object.specs.Items
 pub use Rattle.der_object.specs.Objects
 pub use Rattle.der_object.specs.Printer
 pub use Rattle.der_object.specs.Readings
-pub use Rattle.der_object.specs.Room
 pub use Rattle.der_object.specs.View
 pub use Rattle.der_object.specs.Writing
 pub use Rattle.der_ber.specs.BerReading
