@@ -23,7 +23,7 @@ further m n x y h e =
     let P : ℕ → Type 0 = λ j. drop j x ≡ drop j y in
     subst P k (sym (drop-drop (n - m) m x) ∙ ap (drop (n - m)) e ∙ drop-drop (n - m) m y)
 
-keeps_both : (a b c : Writer) → KeepsBuffer a b → KeepsBuffer b c → KeepsBuffer a c
+pub keeps_both : (a b c : Writer) → KeepsBuffer a b → KeepsBuffer b c → KeepsBuffer a c
 keeps_both a b c h k = record {
   same = k.same ∙ h.same;
   size = k.size ∙ h.size;

@@ -1,9 +1,13 @@
 pub mod Arcs
 pub mod Bits
+pub mod ClosingSets
 pub mod Composing
 pub mod Counts
 pub mod Headers
 pub mod Magnitudes
+pub mod Measuring
 pub mod Moves
+pub mod NamedBits
 pub mod Signed
+pub mod Sorting
 pub mod Trees

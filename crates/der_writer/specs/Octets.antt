@@ -1,5 +1,7 @@
 -- Octets of headers and numbers.
-use Rattle.std.specs.Prelude.{ℕ, ◌-◌, ◌%◌, ◌^◌, min, Bool, ℤ, pos, negsuc, List, [], ◌∷◌, ◌++◌, map}
+use Rattle.std.specs.Prelude.{ℕ, ◌-◌, ◌%◌, ◌^◌, ◌==◌, ◌&&◌, if◌then◌else◌, min, Bool, ℤ, pos, negsuc}
+use Rattle.std.specs.Prelude.{List, [], ◌∷◌, ◌++◌, map, length}
+use Rattle.std.specs.Int.{w8, trailing_zeros}
 use Rattle.der_base.specs.declared.header.Class.{Class}
 use Rattle.der_base.specs.Octets.{identifier, shortest_length, shortest_integer}
 
@@ -23,3 +25,18 @@ cleared u (b ∷ c ∷ w) = b ∷ cleared u (c ∷ w)
 abbrev pub bit_octets : ℕ → List ℕ → List ℕ
 bit_octets u [] = 0 ∷ []
 bit_octets u (b ∷ w) = min u 7 ∷ cleared (min u 7) (b ∷ w)
+
+-- octets without those of 0 at their end
+abbrev pub without_last_zeros : List ℕ → List ℕ
+without_last_zeros [] = []
+without_last_zeros (b ∷ w) = let rest = without_last_zeros w in if b == 0 && length rest == 0 then [] else b ∷ rest
+
+-- how many of the last bits of the last octet are 0
+abbrev pub last_zero_bits : List ℕ → ℕ
+last_zero_bits [] = 0
+last_zero_bits (b ∷ []) = trailing_zeros w8 b
+last_zero_bits (b ∷ c ∷ w) = last_zero_bits (c ∷ w)
+
+-- the content of a BIT STRING of these bits where they have names (X.680 22.7): without those of 0 at the end (11.2.2)
+abbrev pub named_bits : List ℕ → List ℕ
+named_bits w = let used = without_last_zeros w in bit_octets (last_zero_bits used) used

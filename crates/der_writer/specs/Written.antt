@@ -1,6 +1,6 @@
 -- What a writer has written.
 use Rattle.std.specs.Borrow.{MutBor}
-use Rattle.std.specs.Prelude.{◌≡◌, ℕ, ◌-◌, ◌^◌, ◌<◌, ◌≤◌, Bool, false, Option, Some, None, min, take, drop}
+use Rattle.std.specs.Prelude.{◌≡◌, ◌≢◌, ℕ, ◌-◌, ◌^◌, ◌<◌, ◌≤◌, Bool, false, Option, Some, None, min, take, drop}
 use Rattle.std.specs.Prelude.{List, [], ◌∷◌, ◌++◌, length, Result, Ok, Err, MatchResult}
 use Rattle.der_base.specs.declared.error.Error.{Error as BerError}
 use Rattle.der_base.specs.declared.error.OidParseError.{OidParseError}
@@ -90,6 +90,21 @@ leaf i t x = element (class_put i) false (number_put i t) x
 -- it is put with these content octets
 abbrev pub PutsLeaf : ℕ → List ℕ → Writer → Writer → Type 0
 PutsLeaf t x old new = Puts (leaf old.implicit t x) old new
+
+-- octets of a value, and none where there is no value
+abbrev pub if_some : {V : Type 0} → (V → List ℕ) → Option V → List ℕ
+if_some octets None = []
+if_some octets (Some v) = octets v
+
+-- it is put with the content octets of the value, if there is one (X.680 25.8)
+abbrev pub PutsOptional : {V : Type 0} → ℕ → (V → List ℕ) → Option V → Writer → Writer → Type 0
+PutsOptional t content v old new = Puts (if_some (λ x. leaf old.implicit t (content x)) v) old new
+
+-- it is put with the content octets of the value, unless that is the default (11.5)
+pub record PutsUnless {V : Type 0} (default : V) (t : ℕ) (content : V → List ℕ) (v : V) (old new : Writer)
+    : Type 0 where
+  pub same : v ≡ default → Puts [] old new
+  pub other : v ≢ default → PutsLeaf t (content v) old new
 
 -- it is put, with octets in the character set of the string type; or they aren't, and nothing is put
 abbrev pub PutsText : ℕ → List ℕ → Writer → Result (Unit {0}) BerError → Writer → Type 0

@@ -5,6 +5,10 @@ mod element;
 mod fields;
 mod identifier;
 pub mod laws;
+mod named_bits;
+mod optional;
+mod set_of;
+mod times;
 mod writer;
 
 pub use writer::{Mark, WriteError, Writer};

@@ -3,10 +3,12 @@ ghost use Rattle.std.specs.Prelude.{◌≡◌, ◌+◌, ◌≤◌, ◌++◌, [],
 ghost use Rattle.der_base.specs.declared.header.Class.{Class};
 ghost use Rattle.der_base.specs.Encoding.{element};
 ghost use Rattle.der_base.specs.Octets.{shortest_length};
+ghost use Rattle.der_writer.specs.SetsOf.{ClosesSetOf};
 ghost use Rattle.der_writer.specs.Written.{Closes, EndsContent, FillsTo, Finishes, IsTagged, Opens, Puts, PutsLeaf};
 ghost use Rattle.der_writer.specs.Written.{Resumes, StartsAt, class_put, number_put};
 
 use crate::element::{fill_length, header_size, identifier_octets, write_primitive};
+use crate::set_of::sort_between;
 use der_base::header::{Class, Tag};
 use der_octets::header::{identifier_octet_count, length_octet_count};
 
@@ -182,6 +184,17 @@ impl<'b> Writer<'b> {
         }
         self.innermost = mark.outer;
         self.end_content(mark.start);
+    }
+
+    /// Closes a SET OF, as `close`, and sorts the elements that were put in it (11.6), in the buffer. For n of them it
+    /// takes up to n^2/2 comparisons.
+    pub fn close_set_of(&mut self, mark: Mark)
+        ensures { ClosesSetOf mark self.old self.new }
+    {
+        if mark.start == self.innermost {
+            sort_between(self.out, mark.start.saturating_add(1), self.count);
+        }
+        self.close(mark);
     }
 
     /// Makes all from an offset on the content of one element: its length is written there, in place of the octet that

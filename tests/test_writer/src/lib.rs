@@ -2,6 +2,8 @@
 //! length, and marks in the wrong order.
 
 #[cfg(test)]
+mod lists;
+#[cfg(test)]
 mod records;
 #[cfg(test)]
 mod sizes;

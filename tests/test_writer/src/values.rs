@@ -159,3 +159,105 @@ fn times(rt: HostRuntime) {
     let tenths = moment(1991, Some(300_000_000));
     assert!(rt; puts(|fields| fields.put_generalized_time(tenths), b"\x18\x1119910506234540.3Z"));
 }
+
+/// Octets of named bits and their BIT STRING, by `openssl asn1parse -genstr FORMAT:BITLIST,BITSTRING:..`.
+const NAMED_BITS: &[(&[u8], &[u8])] = &[
+    (b"", b"\x03\x01\x00"),
+    (b"\x00\x00", b"\x03\x01\x00"),
+    (b"\x80", b"\x03\x02\x07\x80"),
+    (b"\x40\x00", b"\x03\x02\x06\x40"),
+    (b"\x01", b"\x03\x02\x00\x01"),
+    (b"\x00\x80", b"\x03\x03\x07\x00\x80"),
+    (b"\x06\x00\x00", b"\x03\x02\x01\x06"),
+    (b"\x80\x80", b"\x03\x03\x07\x80\x80"),
+    (b"\x50\x01", b"\x03\x03\x00\x50\x01"),
+    (b"\x00\x00\x01\x00", b"\x03\x04\x00\x00\x00\x01"),
+];
+
+#[test]
+fn named_bits(rt: HostRuntime) {
+    for (octets, expected) in NAMED_BITS {
+        assert!(rt; puts(|fields| fields.put_named_bits(octets), expected), "{expected:?}");
+    }
+    assert!(rt; puts(|fields| fields.implicit(1).put_named_bits(b"\x80"), b"\x81\x02\x07\x80"));
+}
+
+#[test]
+fn values_that_may_be_absent(rt: HostRuntime) {
+    assert!(rt; puts(|fields| fields.put_default_bool(false, false), b""));
+    assert!(rt; puts(|fields| fields.put_default_bool(true, false), b"\x01\x01\xff"));
+    assert!(rt; puts(|fields| fields.put_default_u64(1, 1), b""));
+    assert!(rt; puts(|fields| fields.put_default_u64(2, 1), b"\x02\x01\x02"));
+    assert!(rt; puts(|fields| fields.put_default_i64(-1, -1), b""));
+    assert!(rt; puts(|fields| fields.implicit(0).put_default_i64(1, -1), b"\x80\x01\x01"));
+    assert!(rt; puts(|fields| fields.put_optional_bool(None), b""));
+    assert!(rt; puts(|fields| fields.put_optional_bool(Some(false)), b"\x01\x01\x00"));
+    assert!(rt; puts(|fields| fields.put_optional_u64(Some(128)), b"\x02\x02\x00\x80"));
+    assert!(rt; puts(|fields| fields.put_optional_i64(Some(-128)), b"\x02\x01\x80"));
+    assert!(rt; puts(|fields| fields.implicit(3).put_optional_octets(Some(b"a")), b"\x83\x01a"));
+}
+
+/// Puts a NULL behind a value that is absent.
+fn put_null_behind(fields: &mut Writer<'_>) {
+    fields.implicit(3).put_optional_octets(None);
+    fields.put_null();
+    fields.implicit(3).put_default_u64(5, 5);
+    fields.put_null();
+}
+
+#[test]
+fn absent_values_have_no_tag(rt: HostRuntime) {
+    assert!(rt; puts(put_null_behind, b"\x05\x00\x05\x00"));
+}
+
+/// The years of 1 January, 00:00:00 in UTC, and their times, by `openssl asn1parse -genstr UTC:..` and `GENTIME:..`.
+const RFC5280_TIMES: &[(u32, &[u8])] = &[
+    (1950, b"\x17\x0d500101000000Z"),
+    (1999, b"\x17\x0d990101000000Z"),
+    (2000, b"\x17\x0d000101000000Z"),
+    (2049, b"\x17\x0d490101000000Z"),
+    (2050, b"\x18\x0f20500101000000Z"),
+    (9999, b"\x18\x0f99990101000000Z"),
+];
+
+/// 1 January, 00:00:00 in UTC.
+fn first_moment(year: u32) -> ASN1DateTime {
+    ASN1DateTime {
+        year,
+        month: 1,
+        day: 1,
+        hour: 0,
+        minute: 0,
+        second: 0,
+        nanosecond: None,
+        tz: ASN1TimeZone::Z,
+    }
+}
+
+/// Whether it has no form in a certificate, and nothing is put.
+fn is_no_rfc5280_time(value: ASN1DateTime) -> bool {
+    let mut out = [0; 32];
+    let mut fields = Writer::new(&mut out);
+    let refused = fields.put_rfc5280_time(value) == Err(BerError::InvalidDateTime);
+    refused && fields.finish() == Ok(0)
+}
+
+#[test]
+fn times_of_certificates(rt: HostRuntime) {
+    for (year, expected) in RFC5280_TIMES {
+        let value = first_moment(*year);
+        assert!(rt; puts(|fields| drop_result(fields.put_rfc5280_time(value)), expected), "{year}");
+    }
+    let first = first_moment(2026);
+    assert!(rt; is_no_rfc5280_time(first_moment(1949)));
+    assert!(rt; is_no_rfc5280_time(first_moment(10000)));
+    assert!(rt; is_no_rfc5280_time(first_moment(26)));
+    assert!(rt; is_no_rfc5280_time(ASN1DateTime { month: 0, ..first }));
+    assert!(rt; is_no_rfc5280_time(ASN1DateTime { day: 32, ..first }));
+    assert!(rt; is_no_rfc5280_time(ASN1DateTime { hour: 24, ..first }));
+    assert!(rt; is_no_rfc5280_time(ASN1DateTime { minute: 60, ..first }));
+    assert!(rt; is_no_rfc5280_time(ASN1DateTime { second: 60, ..first }));
+    assert!(rt; is_no_rfc5280_time(ASN1DateTime { nanosecond: Some(0), ..first }));
+    assert!(rt; is_no_rfc5280_time(ASN1DateTime { tz: ASN1TimeZone::Undefined, ..first }));
+    assert!(rt; is_no_rfc5280_time(ASN1DateTime { tz: ASN1TimeZone::Offset(0, 0), ..first }));
+}
