@@ -1,5 +1,5 @@
 -- Fields that are put one after another, and inside one another.
-use Rattle.std.proofs.Common.{◌≡◌, ℕ, ◌+◌, ◌-◌, ◌^◌, ◌<◌, ◌≤◌, Bool, true, false, Option, Some, None, List, [], ◌++◌, length, take, drop, min, refl, ap, sym, subst, ◌∙◌, arith, append_assoc, length-append, Result}
+use Rattle.std.proofs.Common.{◌≡◌, ◌≢◌, ℕ, ◌⊎◌, inl, inr, All, ◌+◌, ◌-◌, ◌^◌, ◌<◌, ◌≤◌, Bool, true, false, Option, Some, None, List, [], ◌++◌, length, take, drop, min, refl, ap, sym, subst, ◌∙◌, arith, append_assoc, length-append, Result}
 use Rattle.std.specs.Borrow.{MutBor}
 use Rattle.std.specs.Prelude.{Ok, Err}
 use Rattle.std.proofs.Math.Seq.{drop-drop}
@@ -13,8 +13,10 @@ use Rattle.der_writer.specs.declared.writer.WriteError.TheVariants.{NoRoom, NotC
 use Rattle.der_writer.specs.declared.writer.Writer.{Writer}
 use Rattle.der_base.specs.Encoding.{element}
 use Rattle.der_base.specs.Octets.{identifier, shortest_length}
+use Rattle.std.specs.List.{concat}
 use Rattle.der_writer.specs.Fields.{primitive, constructed}
-use Rattle.der_writer.specs.Written.{HasWritten, IsClosed, IsInnermost, StartsAt, KeepsBuffer, Puts, Opens, EndsContent, Closes, IsTagged, Returns, Finishes, Wrote, class_put, number_put, leaf, reserved}
+use Rattle.der_writer.specs.SetsOf.{IsElement, IsInOrder, ClosesSetOf}
+use Rattle.der_writer.specs.Written.{HasWritten, IsClosed, IsInnermost, StartsAt, KeepsBuffer, Puts, Opens, EndsContent, Closes, IsTagged, Returns, Finishes, Wrote, PutsOptional, PutsUnless, if_some, class_put, number_put, leaf, reserved}
 
 -- what stays behind a place stays behind a further one
 further : (m n : ℕ) (x y : List ℕ) → m ≤ n → drop m x ≡ drop m y → drop n x ≡ drop n y
@@ -173,3 +175,38 @@ wrote_back e old r x y same w = let P : List ℕ → Type 0 = λ l. Wrote e old 
 -- the same of a writer that was lent and came back
 pub puts_back : (e : List ℕ) (a x y : Writer) → x ≡ y → Puts e a y → Puts e a x
 puts_back e a x y same h = let P : Writer → Type 0 = λ s. Puts e a s in subst P (sym same) h
+
+-- A field that may be absent, and one with a default: with the octets of the value, or none.
+pub optional_put : {V : Type 0} {a b : Writer} (t : ℕ) (x : V → List ℕ) (v : Option V) → PutsOptional t x v a b → a.implicit ≡ None
+    → Puts (if_some (λ y. primitive Universal t (x y)) v) a b
+optional_put t x None h e = h
+optional_put t x (Some v) h e = puts_plain t (x v) h e
+
+pub unless_put : {V : Type 0} {a b : Writer} {d v : V} (t : ℕ) (x : V → List ℕ) → (v ≡ d) ⊎ (v ≢ d) → PutsUnless d t x v a b → a.implicit ≡ None
+    → (e : List ℕ) × Puts e a b × (((v ≡ d) × (e ≡ [])) ⊎ ((v ≢ d) × (e ≡ primitive Universal t (x v))))
+unless_put t x (inl same) h e = ([], h.same same, inl (same, refl))
+unless_put {v = v} t x (inr other) h e = (primitive Universal t (x v), puts_plain t (x v) (h.other other) e, inr (other, refl))
+
+-- a SET OF the elements between its begin and its end
+pub set_of_put : {a b c d : Writer} {k : Class} {t : ℕ} {m : Mark} (ss : List (List ℕ)) → All IsElement ss → Opens k true t m a b → Puts (concat ss) b c → ClosesSetOf m c d
+    → (ts : List (List ℕ)) × IsInOrder ss ts × Puts (constructed k t (concat ts)) a d
+unfolding constructed
+set_of_put {a = a} {b = b} {c = c} {d = d} {k = k} {t = t} {m = m} ss are o h l =
+    let inner : IsInnermost m c = h.level ∙ o.innermost in
+    let sorted = l.written ss are in
+    let ts = sorted.0 in (
+      ts,
+      sorted.1,
+      record {
+        keeps = keeps_both a c d (keeps_both a b c o.keeps h.keeps) l.keeps;
+        plain = l.plain;
+        level = l.closed inner ∙ o.outer;
+        written = λ before held.
+            let opened = o.written before held in
+            let front = identifier k true t in
+            let size = shortest_length (length (concat ts)) in
+            let P : List ℕ → Type 0 = λ v. HasWritten v d in
+            subst P (append_assoc before front (size ++ concat ts) ∙ ap (λ v. before ++ v) (sym (append_assoc front size (concat ts))))
+            (sorted.2 (before ++ front) inner opened.0 (h.written (before ++ front ++ reserved) opened.1));
+      },
+    )

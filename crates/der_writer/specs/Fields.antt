@@ -6,7 +6,8 @@ use Rattle.der_base.specs.declared.time.ASN1DateTime.{ASN1DateTime}
 use Rattle.der_base.specs.Encoding.{content_octets, element}
 use Rattle.der_base.specs.Octets.{shortest_integer}
 use Rattle.der_base.specs.Tree.{boolean, time}
-use Rattle.der_writer.specs.Octets.{signed_integer}
+use Rattle.der_writer.specs.Octets.{named_bits, signed_integer}
+use Rattle.der_writer.specs.Times.{rfc5280_octets, rfc5280_type}
 
 -- a primitive element
 unfoldable pub primitive : Class → ℕ → List ℕ → List ℕ
@@ -32,6 +33,10 @@ Enumerated n = primitive Universal 10 (shortest_integer n)
 abbrev pub BitString : ℕ → List ℕ → List ℕ
 BitString unused w = primitive Universal 3 (unused ∷ w)
 
+-- of bits that have names
+abbrev pub NamedBits : List ℕ → List ℕ
+NamedBits w = primitive Universal 3 (named_bits w)
+
 abbrev pub OctetString : List ℕ → List ℕ
 OctetString w = primitive Universal 4 w
 
@@ -50,6 +55,10 @@ UtcTime t = primitive Universal 23 (content_octets (time 23 t))
 
 abbrev pub GeneralizedTime : ASN1DateTime → List ℕ
 GeneralizedTime t = primitive Universal 24 (content_octets (time 24 t))
+
+-- a time of a certificate
+abbrev pub Rfc5280Time : ASN1DateTime → List ℕ
+Rfc5280Time t = primitive Universal (rfc5280_type t) (rfc5280_octets t)
 
 abbrev pub Sequence : List ℕ → List ℕ
 Sequence w = constructed Universal 16 w

@@ -3,6 +3,7 @@ use Rattle.std.specs.Prelude.{ℕ, ◌-◌, ◌%◌, ◌^◌, ◌==◌, ◌&&◌
 use Rattle.std.specs.Prelude.{List, [], ◌∷◌, ◌++◌, map, length}
 use Rattle.std.specs.Int.{w8, trailing_zeros}
 use Rattle.der_base.specs.declared.header.Class.{Class}
+use Rattle.der_values.specs.declared.identifier.ObjectIdentifier.{ObjectIdentifier}
 use Rattle.der_base.specs.Octets.{identifier, shortest_length, shortest_integer}
 
 -- the octets of an element before its content
@@ -40,3 +41,10 @@ last_zero_bits (b ∷ c ∷ w) = last_zero_bits (c ∷ w)
 -- the content of a BIT STRING of these bits where they have names (X.680 22.7): without those of 0 at the end (11.2.2)
 abbrev pub named_bits : List ℕ → List ℕ
 named_bits w = let used = without_last_zeros w in bit_octets (last_zero_bits used) used
+
+-- the type of an identifier: OBJECT IDENTIFIER, or RELATIVE-OID; and its content octets
+abbrev pub identifier_type : ObjectIdentifier → ℕ
+identifier_type x = if x.relative then 13 else 6
+
+abbrev pub identifier_octets : ObjectIdentifier → List ℕ
+identifier_octets x = x.octets.now

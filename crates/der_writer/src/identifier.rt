@@ -4,13 +4,27 @@ ghost use Rattle.std.specs.List.{flat_map};
 ghost use Rattle.std.specs.Option.{SomeIff};
 ghost use Rattle.der_base.specs.OidArcs.{have_subidentifier, octets_of_arcs};
 ghost use Rattle.der_base.specs.Octets.{groups};
-ghost use Rattle.der_writer.specs.Written.{Puts, PutsArcs};
+ghost use Rattle.der_writer.specs.Octets.{identifier_octets, identifier_type};
+ghost use Rattle.der_writer.specs.Written.{Puts, PutsArcs, PutsLeaf};
 
 use crate::writer::{Writer, tag_put};
 use der_base::error::OidParseError;
 use der_base::header::Tag;
+use der_values::ObjectIdentifier;
 
 impl<'b> Writer<'b> {
+    /// An OBJECT IDENTIFIER (8.19) or a RELATIVE-OID (8.20) with the content octets of the value.
+    pub fn put_identifier(&mut self, value: ObjectIdentifier<'_>)
+        ensures { PutsLeaf (identifier_type value.entry) (identifier_octets value.entry) self.old self.new }
+    {
+        let tag = if value.is_relative() {
+            Tag::RelativeOid
+        } else {
+            Tag::Oid
+        };
+        self.put_primitive(tag, value.as_bytes());
+    }
+
     /// An OBJECT IDENTIFIER with these arcs (8.19). TooShort for fewer than two; FirstComponentsTooLarge if the first
     /// is above 2, the second above 39 after 0 or 1, or their subidentifier above 2^64-1: then nothing is put.
     pub fn put_arcs(&mut self, arcs: &[u64]) -> Result<(), OidParseError>

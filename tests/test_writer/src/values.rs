@@ -2,6 +2,7 @@
 use der_base::error::{BerError, OidParseError};
 use der_base::header::Tag;
 use der_base::time::{ASN1DateTime, ASN1TimeZone};
+use der_values::ObjectIdentifier;
 use der_writer::Writer;
 
 /// Whether exactly these octets are put.
@@ -81,6 +82,10 @@ fn bits(rt: HostRuntime) {
 
 #[test]
 fn identifiers_and_octets(rt: HostRuntime) {
+    // X.690 8.19.5, 8.20.5
+    assert!(rt; puts(|fields| fields.put_identifier(ObjectIdentifier::new(b"\x81\x34\x03")), b"\x06\x03\x81\x34\x03"));
+    let relative = ObjectIdentifier::new_relative(b"\xc2\x7b\x03\x02");
+    assert!(rt; puts(|fields| fields.put_identifier(relative), b"\x0d\x04\xc2\x7b\x03\x02"));
     // X.690 8.19.5
     assert!(rt; puts(|fields| fields.put_oid(b"\x81\x34\x03"), b"\x06\x03\x81\x34\x03"));
     assert!(rt; puts(|fields| fields.put_octets(b"\x01\x02"), b"\x04\x02\x01\x02"));
