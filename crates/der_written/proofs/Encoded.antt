@@ -1,5 +1,5 @@
 -- Octets that encode a value: an element of its content, and fields one after another.
-use Rattle.std.proofs.Common.{◌≡◌, ◌≢◌, ℕ, ◌^◌, ◌<◌, ◌≤◌, Bool, true, Some, None, List, [], ◌∷◌, ◌++◌, length, refl, sym, subst, ◌∙◌, arith, append_assoc, length-append, inl, inr}
+use Rattle.std.proofs.Common.{◌≡◌, ◌≢◌, ℕ, ◌^◌, ◌<◌, ◌≤◌, ◌⊎◌, Bool, true, Option, Some, None, List, [], ◌∷◌, ◌++◌, length, refl, sym, ap, subst, ◌∙◌, arith, append_assoc, length-append, inl, inr}
 use Rattle.std.proofs.lemmas.List.{append-nil}
 use Rattle.der_base.specs.declared.header.Class.{Class}
 use Rattle.der_base.specs.declared.header.Class.TheVariants.{Universal, ContextSpecific}
@@ -15,6 +15,7 @@ use Rattle.der_cursor.specs.Formats.{Content, Field, Format, Required, Optional,
 use Rattle.der_cursor.specs.Formats.{Constructed, Primitive, Tagged}
 use Rattle.der_values.specs.Kinds.{Kind}
 use Rattle.der_writer.specs.Fields.{primitive, constructed}
+use Rattle.der_writer.specs.Written.{if_some}
 use Rattle.der_written.specs.Encodings.{Encodes, EncodesContent}
 
 -- Elements.
@@ -147,3 +148,22 @@ one_encodes {F = F} {e = e} h = regrouped (append-nil e) (more_encode h (none_en
 pub as_encodes : {V W : Type 0} (f : V → W) {C : Content V} {v : V} {w : List ℕ} → EncodesContent C v w → EncodesContent (As f C) (f v) w
 unfolding As
 as_encodes f {v = v} h = record { read = λ few. (v, h.read few, refl) }
+
+-- Fields that a value may leave out.
+
+-- octets of a value, if there is one
+pub if_some_encodes : {V W : Type 0} (T : Format V) {C : Content W} {x : W} {f : V → List ℕ} {w : List ℕ} (o : Option V)
+    → ((v : V) → o ≡ Some v → Encodes (Required T) v (f v)) → (o ≡ None → ¬ IsNext T.class T.number w) → EncodesContent C x w
+    → EncodesContent (Optional T ⨾ C) (o, x) (if_some f o ++ w)
+if_some_encodes T None own other h = absent_encodes T (other refl) h
+if_some_encodes T (Some v) own other h = before_encodes (some_encodes T (own v refl)) h
+
+-- octets of a value, unless it is the default
+pub unless_encodes : {V W : Type 0} (T : Format V) (d : V) {C : Content W} {v : V} {x : W} {o e w : List ℕ}
+    → ((v ≡ d) × (e ≡ [])) ⊎ ((v ≢ d) × (e ≡ o)) → Encodes (Required T) v o → (v ≡ d → ¬ IsNext T.class T.number w) → EncodesContent C x w
+    → EncodesContent (Default T d ⨾ C) (v, x) (e ++ w)
+unless_encodes T d {C = C} {v = v} {x = x} {w = w} (inl (same, none)) own other h =
+    let P : _ → Type 0 = λ y. EncodesContent (Default T d ⨾ C) (y, x) w in
+    regrouped (ap (λ l. l ++ w) (sym none)) (subst P (sym same) (default_encodes T d (other same) h))
+unless_encodes T d {w = w} (inr (differs, is)) own other h =
+    regrouped (ap (λ l. l ++ w) (sym is)) (before_encodes (other_encodes T d differs own) h)

@@ -1,4 +1,6 @@
 use Rattle.der_written.proofs.Values.{boolean_encodes, signed_encodes, unsigned_encodes, integer_encodes, enumerated_encodes, bits_encode, octets_encode, null_encodes, identifier_encodes, text_encodes, utc_encodes, generalized_encodes}
+use Rattle.der_written.proofs.NamedBits.{named_bits_encode}
+use Rattle.der_written.proofs.Times.{rfc5280_encodes}
 use Rattle.der_written.proofs.values_encode.Goals as goal
 
 pub returns : goal.returns
@@ -9,10 +11,12 @@ returns c = record {
   integers = integer_encodes;
   enumerated = enumerated_encodes;
   bit_strings = bits_encode;
+  named_bits = named_bits_encode;
   octet_strings = octets_encode;
   nulls = null_encodes;
   identifiers = identifier_encodes;
   texts = text_encodes;
   utc_times = utc_encodes;
   generalized_times = generalized_encodes;
+  certificate_times = rfc5280_encodes;
 }
