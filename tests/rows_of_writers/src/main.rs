@@ -1,11 +1,13 @@
-//! The rows of the writers of certification requests. The rows stand in `data`.
+//! The rows of the writers of certification requests and LDAP messages. The rows stand in `data`.
 //!
 //! A row's input are the values that are written, and its answer the octets.
 
 mod capacities;
 mod requests;
+mod searches;
 
 use crate::requests::{algorithm_text, alternative_names_text, name_text, request_text};
+use crate::searches::search_text;
 use std::alloc::Global;
 use std::io;
 use std::process::ExitCode;
@@ -22,6 +24,7 @@ impl Calls for Writers {
             "name" => name_text(alloc, input),
             "algorithm" => algorithm_text(alloc, input),
             "alternative_names" => alternative_names_text(alloc, input),
+            "search" => search_text(alloc, input),
             _ => Err(Fault::NoSuchCall),
         }
     }
