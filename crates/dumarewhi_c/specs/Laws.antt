@@ -1,10 +1,14 @@
 -- Statements of the laws in `src/laws.rt`.
-use Rattle.std.specs.Prelude.{◌≡◌, ℕ, ◌≤◌, List, length, take, All}
+use Rattle.std.specs.Prelude.{◌≡◌, ℕ, ◌^◌, ◌<◌, ◌≤◌, List, length, take, All, Result}
 use Rattle.der_nodes.specs.NodesReading.{KeepsBerNodes, KeepsDerNodes}
+use Rattle.der_writer.specs.declared.writer.WriteError.{WriteError}
+use Rattle.der_writer.specs.Written.{Puts, Returns, StartsAt, Wrote}
 use Rattle.dumarewhi_c.specs.declared.element.DmElement.{DmElement}
 use Rattle.dumarewhi_c.specs.declared.outcome.DmOutcome.{DmOutcome}
 use Rattle.dumarewhi_c.specs.Elements.{slot_of}
+use Rattle.dumarewhi_c.specs.declared.state.DmWriter.{DmWriter}
 use Rattle.dumarewhi_c.specs.Outcomes.{FindsBer, FindsDer}
+use Rattle.dumarewhi_c.specs.Writers.{writer_of}
 
 -- the element is within an input of n octets
 abbrev pub IsWithin : ℕ → DmElement → Type 0
@@ -29,3 +33,9 @@ DerFirstLiesWithin = FirstLiesWithin FindsDer
 
 abbrev pub BerFirstLiesWithin : Type 0
 BerFirstLiesWithin = FirstLiesWithin FindsBer
+
+-- Of all that was put since the start, dm_finish tells whether the buffer begins with it; what follows is as it was.
+abbrev pub FinishedIsWritten : Type 0
+FinishedIsWritten = (w : List ℕ) (old new : DmWriter) (found : Result ℕ WriteError)
+    → StartsAt old.octets (writer_of old) → Puts w (writer_of old) (writer_of new) → length new.octets.now < 2 ^ 63
+    → Returns (writer_of new) found → Wrote w old.octets.now new.octets.now found

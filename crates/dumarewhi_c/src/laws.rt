@@ -1,6 +1,6 @@
 //! Laws of what C sees. Each function's contract is a law, and its body is empty.
 ghost use Rattle.dumarewhi_c.specs.Laws.{BerElementsLieWithin, BerFirstLiesWithin};
-ghost use Rattle.dumarewhi_c.specs.Laws.{DerElementsLieWithin, DerFirstLiesWithin};
+ghost use Rattle.dumarewhi_c.specs.Laws.{DerElementsLieWithin, DerFirstLiesWithin, FinishedIsWritten};
 
 /// The offsets of the elements that a call writes are within the input: the header begins no later than
 /// the content, this begins no later than it ends, and it ends within the input.
@@ -13,4 +13,10 @@ pub fn elements_lie_within()
 pub fn first_lies_within()
     ensures der { DerFirstLiesWithin }
     ensures ber { BerFirstLiesWithin }
+{}
+
+/// A finished writer's buffer begins with the octets that were put, and what follows is as it was; or it has fewer,
+/// and they are counted.
+pub fn finished_is_written()
+    ensures { FinishedIsWritten }
 {}

@@ -2,11 +2,17 @@
 //! `callers/c/include/dumarewhi.h` declares it all.
 #![tactic(auto)]
 
+mod close;
 pub mod element;
 mod errors;
+pub mod fields;
 pub mod laws;
+mod moment;
+pub mod opening;
 pub mod outcome;
 pub mod readers;
+pub mod state;
+pub mod tested;
 mod text;
 pub mod time;
 pub mod values;

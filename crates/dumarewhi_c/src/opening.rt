@@ -1,0 +1,134 @@
+//! Elements that C opens and closes, and the end of what it writes.
+ghost use Rattle.std.specs.Prelude.{◌≡◌, Result, true, false, ℕ};
+ghost use Rattle.der_base.specs.declared.header.Class.{Class};
+ghost use Rattle.der_writer.specs.declared.writer.WriteError.{WriteError};
+ghost use Rattle.der_writer.specs.Written.{Closes, IsTagged, Opens, Puts, Returns};
+ghost use Rattle.dumarewhi_c.specs.Writers.{class_of, finished_length, finished_status, is_set, mark_of, writer_of};
+
+use crate::close::end_content;
+use crate::state::{DmMark, DmWriter, class_of};
+use der_base::header::{Class, Tag};
+use der_octets::header::identifier_octet_count;
+use der_writer::Writer;
+
+/// What `dm_finish` returns.
+const FINISHED: u32 = 0;
+
+const NO_ROOM: u32 = 3;
+
+const NOT_CLOSED: u32 = 4;
+
+/// Opens an element of this class, constructed bit and tag number. What is put until it is closed is its content.
+#[unsafe(no_mangle)]
+pub extern "C" fn dm_open(
+    writer: &mut DmWriter<'_>,
+    tag_class: u8,
+    constructed: u8,
+    number: u32,
+) -> DmMark
+    ensures { Opens (class_of tag_class) (is_set constructed) number (mark_of result)
+        (writer_of writer.old) (writer_of writer.new) }
+{
+    open(writer, class_of(tag_class), constructed != 0, Tag(number))
+}
+
+/// Opens a SEQUENCE (X.690 8.9).
+#[unsafe(no_mangle)]
+pub extern "C" fn dm_open_sequence(writer: &mut DmWriter<'_>) -> DmMark
+    ensures { Opens Class.Universal true 16 (mark_of result) (writer_of writer.old) (writer_of writer.new) }
+{
+    open(writer, Class::Universal, true, Tag::Sequence)
+}
+
+/// Opens a SET (8.11).
+#[unsafe(no_mangle)]
+pub extern "C" fn dm_open_set(writer: &mut DmWriter<'_>) -> DmMark
+    ensures { Opens Class.Universal true 17 (mark_of result) (writer_of writer.old) (writer_of writer.new) }
+{
+    open(writer, Class::Universal, true, Tag::Set)
+}
+
+/// Opens an OCTET STRING whose octets are elements (8.7).
+#[unsafe(no_mangle)]
+pub extern "C" fn dm_open_octet_string(writer: &mut DmWriter<'_>) -> DmMark
+    ensures { Opens Class.Universal false 4 (mark_of result) (writer_of writer.old) (writer_of writer.new) }
+{
+    open(writer, Class::Universal, false, Tag::OctetString)
+}
+
+/// Opens an element of the class context-specific: an explicit tag around what is put (8.14.2), or a SEQUENCE or SET
+/// with an implicit tag (8.14.3).
+#[unsafe(no_mangle)]
+pub extern "C" fn dm_open_tagged(writer: &mut DmWriter<'_>, number: u32) -> DmMark
+    ensures { Opens Class.ContextSpecific true number (mark_of result) (writer_of writer.old) (writer_of writer.new) }
+{
+    open(writer, Class::ContextSpecific, true, Tag(number))
+}
+
+/// `open` of der_writer.
+fn open(writer: &mut DmWriter<'_>, class: Class, constructed: bool, tag: Tag) -> DmMark
+    ensures { Opens class constructed tag.0 (mark_of result) (writer_of writer.old) (writer_of writer.new) }
+{
+    let start = writer.count.saturating_add(identifier_octet_count(tag));
+    let mut fields = Writer::at(writer.octets, writer.count);
+    let _ = fields.open(class, constructed, tag);
+    writer.count = fields.count();
+    writer.implicit = 0;
+    let outer = writer.innermost;
+    writer.innermost = start;
+    DmMark { start, outer }
+}
+
+/// Closes an element. Those that were opened in it have to be closed before: otherwise nothing is closed, and
+/// `dm_finish` returns 4.
+#[unsafe(no_mangle)]
+pub extern "C" fn dm_close(writer: &mut DmWriter<'_>, mark: DmMark)
+    ensures { Closes (mark_of mark) (writer_of writer.old) (writer_of writer.new) }
+{
+    writer.implicit = 0;
+    if mark.start != writer.innermost {
+        return;
+    }
+    writer.innermost = mark.outer;
+    end_content(writer, mark.start);
+}
+
+/// Puts the next element, which has to be primitive, under an implicit tag (8.14.3): it has this class and number in
+/// place of those of its type.
+#[unsafe(no_mangle)]
+pub extern "C" fn dm_implicit(writer: &mut DmWriter<'_>, tag_class: u8, number: u32)
+    ensures { IsTagged (class_of tag_class) number (writer_of writer.old) (writer_of writer.new) }
+{
+    writer.implicit = 1 + u32::from(tag_class.min(3));
+    writer.number = number;
+}
+
+/// Puts octets as they are: elements of DER that were written before.
+#[unsafe(no_mangle)]
+pub extern "C" fn dm_put_elements(writer: &mut DmWriter<'_>, octets: &[u8])
+    ensures { Puts octets.now (writer_of writer.old) (writer_of writer.new) }
+{
+    let mut fields = Writer::at(writer.octets, writer.count);
+    fields.put_elements(octets);
+    writer.count = fields.count();
+    writer.implicit = 0;
+}
+
+/// How many octets there are, at the front of the buffer, and 0. If the buffer has fewer, how many are needed, and 3.
+/// If an element is open, 0 octets, and 4.
+#[unsafe(no_mangle)]
+pub extern "C" fn dm_finish(writer: &DmWriter<'_>, length: &mut usize) -> u32
+    ensures { (found : Result ℕ WriteError) × Returns (writer_of writer.now) found
+        × (length.new ≡ finished_length found) × (result ≡ finished_status found) }
+{
+    if writer.innermost != 0 {
+        *length = 0;
+        return NOT_CLOSED;
+    }
+    *length = writer.count;
+    if writer.count <= writer.octets.len() {
+        FINISHED
+    } else {
+        NO_ROOM
+    }
+}
