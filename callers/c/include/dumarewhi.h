@@ -1,7 +1,8 @@
 /* Reads BER and DER (ITU-T X.690), and writes DER. What is proved of each call is in the repository's
  * docs/GUARANTEES.md.
  *
- * No call allocates, keeps a pointer or has a state, so calls may run in several threads at a time.
+ * No call allocates, keeps a pointer or has a state but that of a dm_writer, which is the caller's. So calls may run in
+ * several threads at a time, each with writers of its own.
  *
  * The caller owes this, and nothing checks it: each pointer may be read or written for the length that is
  * passed beside it, is aligned for its type and is not NULL, not even with length 0; what is written does
@@ -39,7 +40,8 @@ enum dm_status {
     DM_OK = 0,         /* the input begins with an element (of dm_write_der: it is elements) */
     DM_ERROR = 1,      /* a prefix of the input breaks a rule, whatever follows (of dm_write_der: see there) */
     DM_INCOMPLETE = 2, /* the input is cut short: more octets may complete it */
-    DM_NO_ROOM = 3     /* dm_write_der: the buffer's capacity is too small */
+    DM_NO_ROOM = 3,    /* dm_write_der, dm_finish: the buffer's capacity is too small */
+    DM_NOT_CLOSED = 4  /* dm_finish: an element is open */
 };
 
 /* Fields that the status does not name are 0. */
@@ -181,6 +183,98 @@ enum dm_zone { DM_LOCAL = 0, DM_UTC = 1, DM_OFFSET = 2 };
 
 /* The time that the octets spell, of the type with this tag number, 23 or 24. Any other number is an error. */
 uint32_t dm_read_time(uint32_t number, const uint8_t *content, size_t length, dm_time *time);
+
+/* Writes DER, element after element, into a buffer:
+ *
+ *     dm_writer w = dm_writer_over(buffer, sizeof buffer);
+ *     dm_mark pair = dm_open_sequence(&w);
+ *     dm_put_u64(&w, 5);
+ *     dm_put_bool(&w, 1);
+ *     dm_close(&w, pair);
+ *     if (dm_finish(&w, &length) == DM_OK) send(buffer, length);
+ *
+ * An element is written behind those before it if the buffer has room for it, and its octets are counted in any case:
+ * only dm_finish returns whether all have room. With a capacity of 0 a writer counts. What is behind the octets that
+ * were counted stays as it was. The buffer is the caller's, and no call frees or moves it. */
+typedef struct dm_writer {
+    uint8_t *octets;    /* the buffer. Not NULL, not even with capacity 0 */
+    size_t capacity;    /* how many octets it has room for */
+    size_t count;       /* how many octets there are, room or not */
+    size_t innermost;   /* where the length of the innermost open element stands; 0 if none is open */
+    uint32_t implicit;  /* whether the next element has an implicit tag: 0 if not, else 1 + its enum dm_class */
+    uint32_t number;    /* the number of that tag */
+} dm_writer;
+
+/* An element that is open. */
+typedef struct dm_mark {
+    size_t start; /* where its length stands */
+    size_t outer; /* where that of the element around it stands; 0 if there is none */
+} dm_mark;
+
+/* A writer at the start of a buffer. */
+static inline dm_writer dm_writer_over(uint8_t *octets, size_t capacity) {
+    dm_writer writer = {octets, capacity, 0, 0, 0, 0};
+    return writer;
+}
+
+/* Opens an element: what is put until it is closed is its content. Of dm_open the arguments are those of a dm_element.
+ * dm_open_tagged opens one of the class context-specific: an explicit tag around what is put (8.14.2), or a SEQUENCE or
+ * SET with an implicit tag (8.14.3). dm_open_octet_string opens an OCTET STRING whose octets are elements. */
+dm_mark dm_open_sequence(dm_writer *writer);
+dm_mark dm_open_set(dm_writer *writer);
+dm_mark dm_open_octet_string(dm_writer *writer);
+dm_mark dm_open_tagged(dm_writer *writer, uint32_t number);
+dm_mark dm_open(dm_writer *writer, uint8_t tag_class, uint8_t constructed, uint32_t number);
+
+/* Closes an element. Those that were opened in it have to be closed before: otherwise nothing is closed. */
+void dm_close(dm_writer *writer, dm_mark mark);
+
+/* Puts the next element, which has to be primitive, under an implicit tag (8.14.3). A call that puts nothing leaves it
+ * for the next. */
+void dm_implicit(dm_writer *writer, uint8_t tag_class, uint32_t number);
+
+/* Each puts one element. A BOOLEAN is true unless the value is 0. */
+void dm_put_bool(dm_writer *writer, uint8_t value);
+void dm_put_i64(dm_writer *writer, int64_t value);
+void dm_put_u64(dm_writer *writer, uint64_t value);
+void dm_put_enumerated(dm_writer *writer, uint64_t value);
+void dm_put_octets(dm_writer *writer, const uint8_t *octets, size_t length);
+void dm_put_null(dm_writer *writer);
+
+/* An INTEGER of any size that isn't negative: its octets, the highest first. Zeros in front are left out. */
+void dm_put_magnitude(dm_writer *writer, const uint8_t *octets, size_t length);
+
+/* A BIT STRING of octets whose last `unused` bits aren't used, at most seven (8.6). They are put as 0 (11.2). */
+void dm_put_bits(dm_writer *writer, uint8_t unused, const uint8_t *octets, size_t length);
+
+/* An OBJECT IDENTIFIER with these content octets. They aren't tested. */
+void dm_put_oid(dm_writer *writer, const uint8_t *content, size_t length);
+
+/* Octets as they are: elements of DER that were written before. They aren't tested. */
+void dm_put_elements(dm_writer *writer, const uint8_t *octets, size_t length);
+
+/* These test what is put. Each returns 0, or the number of an error (one of enum dm_error), and then puts nothing and
+ * leaves the writer as it was. */
+
+/* An INTEGER with these content octets, in two's complement. They have to be the fewest for their number (8.3.2). */
+uint32_t dm_put_integer(dm_writer *writer, const uint8_t *content, size_t length);
+
+/* An OBJECT IDENTIFIER with these arcs. DM_ERROR_INVALID_LENGTH for fewer than two. DM_ERROR_WRONG_VALUE if the first
+ * is above 2, the second above 39 after 0 or 1, or 80 and the second are 2^64 or more. */
+uint32_t dm_put_arcs(dm_writer *writer, const uint64_t *arcs, size_t count);
+
+/* A string type, by its tag number, with these octets: the types and character sets of dm_check_text, but for
+ * BMPString. */
+uint32_t dm_put_text(dm_writer *writer, uint32_t number, const uint8_t *octets, size_t length);
+
+/* A UTCTime (23) of the years 1950 to 2049 with no fraction, or a GeneralizedTime (24) of the years 0 to 9999. The zone
+ * has to be DM_UTC. The zone's hours and minutes aren't read. Any other number or value is an error. */
+uint32_t dm_put_time(dm_writer *writer, uint32_t number, const dm_time *time);
+
+/* DM_OK, and the number of octets, which are at the front of the buffer. DM_NO_ROOM, and how many are needed: then the
+ * buffer's first `count` octets are unspecified. DM_NOT_CLOSED, and 0: an element is open, or marks were closed in the
+ * wrong order. Writing may go on after each of them. */
+uint32_t dm_finish(const dm_writer *writer, size_t *length);
 
 #ifdef __cplusplus
 }
