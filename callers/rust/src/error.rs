@@ -1,4 +1,4 @@
-//! Why an input isn't read.
+//! Why an input isn't read, or a value isn't written.
 use crate::{ffi, Tag};
 use core::fmt;
 
@@ -63,6 +63,11 @@ pub enum ErrorKind {
     TooLong {
         /// The limit in octets.
         limit: usize,
+    },
+    /// The buffer of a [`Writer`](crate::Writer) is too small.
+    NoRoom {
+        /// How many octets are needed.
+        needed: usize,
     },
     /// There is no memory for the elements.
     OutOfMemory,
@@ -233,6 +238,7 @@ impl fmt::Display for ErrorKind {
             ErrorKind::PrimitiveExpected(tag) => write!(f, "primitive encoding expected for {tag}"),
             ErrorKind::UnusedBits => f.write_str("invalid number of unused bits"),
             ErrorKind::TooLong { limit } => write!(f, "an element is longer than {limit} octets"),
+            ErrorKind::NoRoom { needed } => write!(f, "no room, needs {needed}"),
             ErrorKind::OutOfMemory => f.write_str("out of memory"),
             ErrorKind::Other(text) => f.write_str(text),
         }

@@ -1,8 +1,10 @@
 //! The calls of `dumarewhi.h`. All `unsafe` of this crate is here.
 #![allow(unsafe_code)]
 
+use crate::{Class, Tag};
 #[cfg(feature = "alloc")]
 use alloc::vec::Vec;
+use core::marker::PhantomData;
 
 /// The offsets of one element in an input, and its identifier octets (X.690 8.1.2).
 ///
@@ -40,6 +42,8 @@ pub(crate) const OK: u32 = 0;
 const ERROR: u32 = 1;
 pub(crate) const INCOMPLETE: u32 = 2;
 pub(crate) const NO_ROOM: u32 = 3;
+#[cfg(test)]
+const NOT_CLOSED: u32 = 4;
 
 #[repr(C)]
 #[derive(Clone, Copy, Debug, Default)]
@@ -67,11 +71,30 @@ pub(crate) struct TimeFields {
     pub zone_minutes: i8,
 }
 
+/// A buffer, and what is written to it.
+#[repr(C)]
+#[derive(Debug)]
+struct WriterState {
+    octets: *mut u8,
+    capacity: usize,
+    count: usize,
+    innermost: usize,
+    implicit: u32,
+    number: u32,
+}
+
+/// An element that is open.
+#[repr(C)]
+#[derive(Clone, Copy, Debug, Default)]
+pub(crate) struct Mark {
+    start: usize,
+    outer: usize,
+}
+
 pub(crate) const MAX_DEPTH: usize = 250;
 pub(crate) const ZONE_LOCAL: u8 = 0;
 pub(crate) const ZONE_UTC: u8 = 1;
-#[cfg(test)]
-const ZONE_OFFSET: u8 = 2;
+pub(crate) const ZONE_OFFSET: u8 = 2;
 
 type Parse = unsafe extern "C" fn(*const u8, usize, usize, *mut Element, usize, *mut Outcome) -> u32;
 
@@ -105,6 +128,28 @@ extern "C" {
     fn dm_read_oid(content: *const u8, length: usize, text: *mut u8, room: usize, needed: *mut usize) -> u32;
     fn dm_check_text(number: u32, content: *const u8, length: usize) -> u32;
     fn dm_read_time(number: u32, content: *const u8, length: usize, time: *mut TimeFields) -> u32;
+    fn dm_open_sequence(writer: *mut WriterState) -> Mark;
+    fn dm_open_set(writer: *mut WriterState) -> Mark;
+    fn dm_open_octet_string(writer: *mut WriterState) -> Mark;
+    fn dm_open_tagged(writer: *mut WriterState, number: u32) -> Mark;
+    fn dm_open(writer: *mut WriterState, tag_class: u8, constructed: u8, number: u32) -> Mark;
+    fn dm_close(writer: *mut WriterState, mark: Mark);
+    fn dm_implicit(writer: *mut WriterState, tag_class: u8, number: u32);
+    fn dm_put_bool(writer: *mut WriterState, value: u8);
+    fn dm_put_i64(writer: *mut WriterState, value: i64);
+    fn dm_put_u64(writer: *mut WriterState, value: u64);
+    fn dm_put_enumerated(writer: *mut WriterState, value: u64);
+    fn dm_put_octets(writer: *mut WriterState, octets: *const u8, length: usize);
+    fn dm_put_null(writer: *mut WriterState);
+    fn dm_put_magnitude(writer: *mut WriterState, octets: *const u8, length: usize);
+    fn dm_put_bits(writer: *mut WriterState, unused: u8, octets: *const u8, length: usize);
+    fn dm_put_oid(writer: *mut WriterState, content: *const u8, length: usize);
+    fn dm_put_elements(writer: *mut WriterState, octets: *const u8, length: usize);
+    fn dm_put_integer(writer: *mut WriterState, content: *const u8, length: usize) -> u32;
+    fn dm_put_arcs(writer: *mut WriterState, arcs: *const u64, count: usize) -> u32;
+    fn dm_put_text(writer: *mut WriterState, number: u32, octets: *const u8, length: usize) -> u32;
+    fn dm_put_time(writer: *mut WriterState, number: u32, time: *const TimeFields) -> u32;
+    fn dm_finish(writer: *const WriterState, length: *mut usize) -> u32;
 }
 
 // Each call below passes the pointer and length of a slice, or the pointer of a reference: never null,
@@ -255,6 +300,161 @@ pub(crate) fn read_time(number: u32, content: &[u8]) -> Result<TimeFields, u32> 
     // SAFETY: see above.
     let error = unsafe { dm_read_time(number, content.as_ptr(), content.len(), &mut time) };
     value_or(error, time)
+}
+
+/// A writer over a slice, which stays borrowed. The callee reads and writes the slice alone, and nothing that is put
+/// overlaps it, since it is borrowed by `&mut`.
+#[derive(Debug)]
+pub(crate) struct Fields<'b> {
+    state: WriterState,
+    buffer: PhantomData<&'b mut [u8]>,
+}
+
+// SAFETY: it is a `&mut [u8]` and numbers.
+unsafe impl Send for Fields<'_> {}
+
+// SAFETY: through a `&Fields` only the numbers are read.
+unsafe impl Sync for Fields<'_> {}
+
+impl<'b> Fields<'b> {
+    /// At the start of the slice.
+    pub(crate) fn new(buffer: &'b mut [u8]) -> Fields<'b> {
+        let state = WriterState {
+            octets: buffer.as_mut_ptr(),
+            capacity: buffer.len(),
+            count: 0,
+            innermost: 0,
+            implicit: 0,
+            number: 0,
+        };
+        Fields {
+            state,
+            buffer: PhantomData,
+        }
+    }
+
+    /// How many octets there are, room or not.
+    pub(crate) fn count(&self) -> usize {
+        self.state.count
+    }
+
+    /// How many octets there are or are needed, and the status.
+    pub(crate) fn finish(&self) -> (u32, usize) {
+        let mut length = 0;
+        // SAFETY: see above.
+        let status = unsafe { dm_finish(&self.state, &mut length) };
+        (status, length)
+    }
+
+    pub(crate) fn open_sequence(&mut self) -> Mark {
+        // SAFETY: see above.
+        unsafe { dm_open_sequence(&mut self.state) }
+    }
+
+    pub(crate) fn open_set(&mut self) -> Mark {
+        // SAFETY: see above.
+        unsafe { dm_open_set(&mut self.state) }
+    }
+
+    pub(crate) fn open_octet_string(&mut self) -> Mark {
+        // SAFETY: see above.
+        unsafe { dm_open_octet_string(&mut self.state) }
+    }
+
+    /// Opens a constructed element with this tag.
+    pub(crate) fn open(&mut self, tag: Tag) -> Mark {
+        // SAFETY: see above.
+        unsafe {
+            match tag.class {
+                Class::ContextSpecific => dm_open_tagged(&mut self.state, tag.number),
+                class => dm_open(&mut self.state, class as u8, 1, tag.number),
+            }
+        }
+    }
+
+    pub(crate) fn close(&mut self, mark: Mark) {
+        // SAFETY: see above.
+        unsafe { dm_close(&mut self.state, mark) }
+    }
+
+    pub(crate) fn implicit(&mut self, tag: Tag) {
+        // SAFETY: see above.
+        unsafe { dm_implicit(&mut self.state, tag.class as u8, tag.number) }
+    }
+
+    pub(crate) fn put_bool(&mut self, value: bool) {
+        // SAFETY: see above.
+        unsafe { dm_put_bool(&mut self.state, value.into()) }
+    }
+
+    pub(crate) fn put_i64(&mut self, value: i64) {
+        // SAFETY: see above.
+        unsafe { dm_put_i64(&mut self.state, value) }
+    }
+
+    pub(crate) fn put_u64(&mut self, value: u64) {
+        // SAFETY: see above.
+        unsafe { dm_put_u64(&mut self.state, value) }
+    }
+
+    pub(crate) fn put_enumerated(&mut self, value: u64) {
+        // SAFETY: see above.
+        unsafe { dm_put_enumerated(&mut self.state, value) }
+    }
+
+    pub(crate) fn put_octets(&mut self, octets: &[u8]) {
+        // SAFETY: see above.
+        unsafe { dm_put_octets(&mut self.state, octets.as_ptr(), octets.len()) }
+    }
+
+    pub(crate) fn put_null(&mut self) {
+        // SAFETY: see above.
+        unsafe { dm_put_null(&mut self.state) }
+    }
+
+    pub(crate) fn put_magnitude(&mut self, octets: &[u8]) {
+        // SAFETY: see above.
+        unsafe { dm_put_magnitude(&mut self.state, octets.as_ptr(), octets.len()) }
+    }
+
+    pub(crate) fn put_bits(&mut self, unused: u8, octets: &[u8]) {
+        // SAFETY: see above.
+        unsafe { dm_put_bits(&mut self.state, unused, octets.as_ptr(), octets.len()) }
+    }
+
+    pub(crate) fn put_oid(&mut self, content: &[u8]) {
+        // SAFETY: see above.
+        unsafe { dm_put_oid(&mut self.state, content.as_ptr(), content.len()) }
+    }
+
+    pub(crate) fn put_elements(&mut self, octets: &[u8]) {
+        // SAFETY: see above.
+        unsafe { dm_put_elements(&mut self.state, octets.as_ptr(), octets.len()) }
+    }
+
+    pub(crate) fn put_integer(&mut self, content: &[u8]) -> Result<(), u32> {
+        // SAFETY: see above.
+        let error = unsafe { dm_put_integer(&mut self.state, content.as_ptr(), content.len()) };
+        value_or(error, ())
+    }
+
+    pub(crate) fn put_arcs(&mut self, arcs: &[u64]) -> Result<(), u32> {
+        // SAFETY: see above.
+        let error = unsafe { dm_put_arcs(&mut self.state, arcs.as_ptr(), arcs.len()) };
+        value_or(error, ())
+    }
+
+    pub(crate) fn put_text(&mut self, number: u32, text: &[u8]) -> Result<(), u32> {
+        // SAFETY: see above.
+        let error = unsafe { dm_put_text(&mut self.state, number, text.as_ptr(), text.len()) };
+        value_or(error, ())
+    }
+
+    pub(crate) fn put_time(&mut self, number: u32, time: &TimeFields) -> Result<(), u32> {
+        // SAFETY: see above.
+        let error = unsafe { dm_put_time(&mut self.state, number, time) };
+        value_or(error, ())
+    }
 }
 
 fn value_or<T>(error: u32, value: T) -> Result<T, u32> {

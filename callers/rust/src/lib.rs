@@ -1,4 +1,4 @@
-//! Reads BER and DER (ITU-T X.690): certificates, SNMP, LDAP, Kerberos. Writes BER as DER.
+//! Reads BER and DER (ITU-T X.690), and writes DER: certificates, SNMP, LDAP, Kerberos.
 //!
 //! ```
 //! use dumarewhi::{Error, Tag, Tree};
@@ -20,14 +20,15 @@
 //! | take input in pieces, as from a socket | [`Buffer`] |
 //! | check, list or count without allocating | [`check_der`], [`list_der`], [`Rules`] |
 //! | read one element | [`Any`] |
+//! | write DER, element after element | [`Writer`], [`to_vec`], [`Encode`] |
 //! | write BER as DER | [`write_der`], [`to_der`] |
 //!
 //! # What is proved
 //!
 //! The work is done by `libdumarewhi_c.a`, which is written in Rattle and proved: which inputs it reads, which
-//! elements it lists and where, which error a reader reports, which values it gives, and that what it writes is DER
-//! with the values of the input. The texts of errors are tested. Its header `dumarewhi.h` has the calls. This crate
-//! passes slices to them, and makes safe types of what they return.
+//! elements it lists and where, which error a reader reports, which values it gives, which octets a [`Writer`] writes,
+//! and that what [`write_der`] writes is DER with the values of the input. The texts of errors are tested. Its header
+//! `dumarewhi.h` has the calls. This crate passes slices to them, and makes safe types of what they return.
 //!
 //! It computes little itself: slices of the input by the offsets that are listed, the steps from an element to
 //! the next, the split of a BIT STRING's first octet, what is kept of an input that comes in pieces, and the
@@ -39,13 +40,15 @@
 //!   [`Node::parse_content`], [`Any::reader`] or [`Reader::tagged`] does.
 //! - Rules that need the ASN.1 type aren't checked: the order of a SET, default values, named bits.
 //! - Readers don't join the parts of a constructed string. [`write_der`] does.
+//! - A [`Writer`] doesn't sort a SET OF, and leaves out no default value. Only [`Writer::finish`] and [`to_vec`] tell
+//!   that a buffer is too small.
 //! - An error of an input that is cut short counts the octets that are missing, by BER and by DER. In
 //!   `dm_parse_der` and in der-parser, it is the whole length of a content by DER.
 //! - SEQUENCE and SET nest to [`DEFAULT_DEPTH`], or to [`MAX_DEPTH`] at most: [`Rules::with_max_depth`].
 //!
 //! # Features
 //!
-//! `std` (by default) implements [`std::error::Error`]. `alloc` has [`Tree`] and [`Buffer`]. Without
+//! `std` (by default) implements [`std::error::Error`]. `alloc` has [`Tree`], [`Buffer`] and [`to_vec`]. Without
 //! them, the crate is `no_std` and never allocates.
 #![no_std]
 #![deny(missing_docs)]
@@ -69,6 +72,7 @@ mod tag;
 mod tree;
 mod value;
 mod write;
+mod writer;
 
 pub use any::Any;
 pub use element::{check_ber, check_der, list_ber, list_der, Found, Rules, DEFAULT_DEPTH, MAX_DEPTH};
@@ -84,6 +88,9 @@ pub use value::{BitString, Integer, ObjectIdentifier, Time, Zone};
 #[cfg(feature = "alloc")]
 pub use write::to_der;
 pub use write::write_der;
+#[cfg(feature = "alloc")]
+pub use writer::to_vec;
+pub use writer::{Encode, Writer};
 
 #[cfg(all(doctest, feature = "std"))]
 #[doc = include_str!("../README.md")]

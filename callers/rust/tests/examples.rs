@@ -17,8 +17,13 @@ fn program(name: &str) -> Option<PathBuf> {
 }
 
 fn run(name: &str, input: &[u8]) -> Option<Output> {
+    run_with(name, &[], input)
+}
+
+fn run_with(name: &str, words: &[&str], input: &[u8]) -> Option<Output> {
     let mut command = Command::new(program(name)?);
     command
+        .args(words)
         .stdin(Stdio::piped())
         .stdout(Stdio::piped())
         .stderr(Stdio::piped());
@@ -146,4 +151,39 @@ fn certificate_prints_fields() {
             .for_each(|line| assert!(text.lines().any(|it| it == *line), "{line} in {text}"));
         assert_eq!(text.matches("Z\n").count(), 2);
     }
+}
+
+/// A request for sysDescr.0 has this answer.
+#[test]
+fn snmp_reply_answers() {
+    if let Some(output) = run("snmp_reply", REQUEST) {
+        let mut answer = REQUEST.to_vec();
+        answer.truncate(REQUEST.len() - 2);
+        answer.extend(b"\x04\x17an example of dumarewhi");
+        // The content of each list around the value is 23 octets longer.
+        [1, 14, 28, 30].iter().for_each(|at| answer[*at] += 23);
+        answer[13] = 0xa2;
+        assert!(output.status.success());
+        assert_eq!(output.stdout, answer);
+    }
+    if let Some(output) = run("snmp_reply", &REQUEST[..20]) {
+        assert!(!output.status.success() && output.stdout.is_empty());
+    }
+}
+
+/// The octets that openssl has to sign. That it verifies the request is tested in `callers/test.sh`.
+#[test]
+fn csr_writes_what_is_signed() {
+    let key = env::temp_dir().join(format!("dumarewhi-public-{}", std::process::id()));
+    std::fs::write(&key, b"\x30\x02\x05\x00").unwrap();
+    if let Some(output) = run_with("csr", &["info", key.to_str().unwrap(), "a.b"], &[]) {
+        let expected = b"\x30\x3a\x02\x01\x00\
+            \x30\x0e\x31\x0c\x30\x0a\x06\x03\x55\x04\x03\x0c\x03a.b\
+            \x30\x02\x05\x00\
+            \xa0\x21\x30\x1f\x06\x09\x2a\x86\x48\x86\xf7\x0d\x01\x09\x0e\
+            \x31\x12\x30\x10\x30\x0e\x06\x03\x55\x1d\x11\x04\x07\x30\x05\x82\x03a.b";
+        assert!(output.status.success());
+        assert_eq!(output.stdout, expected);
+    }
+    std::fs::remove_file(&key).unwrap();
 }

@@ -13,8 +13,8 @@ type Row = (String, usize);
 
 /// The offset of each field of a struct.
 macro_rules! layout {
-    ($type:ty, $name:literal, [$($field:ident),*]) => {{
-        let value = <$type>::default();
+    ($type:ty, $value:expr, $name:literal, [$($field:ident),*]) => {{
+        let value: $type = $value;
         let start = &value as *const $type as usize;
         vec![
             (format!("sizeof(struct {})", $name), size_of::<$type>()),
@@ -34,6 +34,7 @@ macro_rules! layout {
 fn own_rows() -> Vec<Row> {
     let mut rows = layout!(
         Element,
+        Element::default(),
         "dm_element",
         [
             header,
@@ -49,11 +50,13 @@ fn own_rows() -> Vec<Row> {
     );
     rows.extend(layout!(
         Outcome,
+        Outcome::default(),
         "dm_outcome",
         [elements, length, place, missing, status, error]
     ));
     rows.extend(layout!(
         TimeFields,
+        TimeFields::default(),
         "dm_time",
         [
             year,
@@ -68,11 +71,19 @@ fn own_rows() -> Vec<Row> {
             zone_minutes
         ]
     ));
+    rows.extend(layout!(
+        WriterState,
+        Fields::new(&mut []).state,
+        "dm_writer",
+        [octets, capacity, count, innermost, implicit, number]
+    ));
+    rows.extend(layout!(Mark, Mark::default(), "dm_mark", [start, outer]));
     let constants = [
         ("DM_OK", OK as usize),
         ("DM_ERROR", ERROR as usize),
         ("DM_INCOMPLETE", INCOMPLETE as usize),
         ("DM_NO_ROOM", NO_ROOM as usize),
+        ("DM_NOT_CLOSED", NOT_CLOSED as usize),
         ("DM_MAX_DEPTH", MAX_DEPTH),
         ("DM_LOCAL", ZONE_LOCAL.into()),
         ("DM_UTC", ZONE_UTC.into()),
@@ -154,6 +165,8 @@ fn structs_have_no_other_field() {
     assert_eq!(fields_in(&header, "dm_element"), 9);
     assert_eq!(fields_in(&header, "dm_outcome"), 6);
     assert_eq!(fields_in(&header, "dm_time"), 10);
+    assert_eq!(fields_in(&header, "dm_writer"), 6);
+    assert_eq!(fields_in(&header, "dm_mark"), 2);
 }
 
 /// Each call that is declared in the header is declared here, and none other.
@@ -170,10 +183,10 @@ fn calls_are_those_of_the_header() {
         names.sort();
         names
     };
-    let mut declared = names(&header, "uint32_t dm_");
-    declared.extend(names(&header, "size_t dm_"));
+    let results = ["uint32_t dm_", "size_t dm_", "void dm_", "dm_mark dm_"];
+    let mut declared: Vec<_> = results.iter().flat_map(|it| names(&header, it)).collect();
     declared.sort();
-    assert_eq!(declared.len(), 14);
+    assert_eq!(declared.len(), 36);
     assert_eq!(declared, names(own, "fn dm_"));
 }
 

@@ -1,0 +1,427 @@
+//! Element after element.
+use crate::error::{ErrorKind, Reason, Result};
+use crate::ffi::{self, Fields};
+use crate::value::{BitString, Integer, ObjectIdentifier, Time, Zone};
+use crate::{Any, Error, Tag};
+#[cfg(feature = "alloc")]
+use alloc::vec::Vec;
+
+/// Writes DER, element after element, into a buffer.
+///
+/// An element is written behind those before it if the buffer has room for it, and its octets are counted in any
+/// case: only [`finish`](Writer::finish) returns whether all have room. A writer allocates nothing. [`to_vec`] makes a
+/// vector of what is written.
+///
+/// ```
+/// use dumarewhi::{Result, Tag, Writer};
+///
+/// // SEQUENCE { version [0] EXPLICIT INTEGER OPTIONAL, name UTF8String, critical BOOLEAN DEFAULT FALSE }
+/// fn write(w: &mut Writer<'_>, version: u64, name: &str, critical: bool) {
+///     w.sequence(|w| {
+///         w.tagged(Tag::context(0), |w| w.u64(version));
+///         w.utf8_string(name);
+///         if critical {
+///             w.boolean(true);
+///         }
+///     });
+/// }
+///
+/// let mut buffer = [0; 32];
+/// let mut writer = Writer::new(&mut buffer);
+/// write(&mut writer, 2, "hi", false);
+/// let length = writer.finish()?;
+/// assert_eq!(buffer[..length], [0x30, 0x09, 0xa0, 0x03, 0x02, 0x01, 0x02, 0x0c, 0x02, b'h', b'i']);
+/// # Ok::<(), dumarewhi::Error>(())
+/// ```
+///
+/// A call that takes a function returns what that returns. So one that may fail is ended by `?`, inside and outside:
+///
+/// ```
+/// use dumarewhi::{to_vec, Reason};
+///
+/// let error = to_vec(|w| w.set(|w| w.printable_string("a@b"))).unwrap_err();
+/// assert_eq!(error.to_string(), "invalid character in string at offset 2");
+/// ```
+#[derive(Debug)]
+pub struct Writer<'b> {
+    fields: Fields<'b>,
+}
+
+impl<'b> Writer<'b> {
+    /// A writer at the start of a buffer.
+    pub fn new(buffer: &'b mut [u8]) -> Writer<'b> {
+        Writer {
+            fields: Fields::new(buffer),
+        }
+    }
+
+    /// How many octets there are, room or not.
+    pub fn offset(&self) -> usize {
+        self.fields.count()
+    }
+
+    /// How many octets there are, at the front of the buffer. What is behind them stays as it was. An error if the
+    /// buffer has no room for them, with how many are needed.
+    ///
+    /// ```
+    /// use dumarewhi::{ErrorKind, Writer};
+    ///
+    /// let mut writer = Writer::new(&mut []);
+    /// writer.octet_string(&[0; 200]);
+    /// assert_eq!(writer.finish().unwrap_err().kind(), ErrorKind::NoRoom { needed: 203 });
+    /// ```
+    pub fn finish(self) -> Result<usize> {
+        match self.fields.finish() {
+            (ffi::OK, length) => Ok(length),
+            (ffi::NO_ROOM, needed) => Err(Error::new(ErrorKind::NoRoom { needed }, 0)),
+            _ => Err(self.error(ErrorKind::Other("an element isn't closed"))),
+        }
+    }
+
+    /// An error where the next element begins.
+    fn error(&self, kind: ErrorKind) -> Error {
+        Error::new(kind, self.offset())
+    }
+
+    fn put(&self, put: Result<(), u32>) -> Result<()> {
+        put.map_err(|number| self.error(ErrorKind::Value(Reason(number))))
+    }
+
+    /// Writes a value.
+    ///
+    /// ```
+    /// use dumarewhi::to_vec;
+    ///
+    /// let octets = to_vec(|w| {
+    ///     w.value(&true)?;
+    ///     w.value(&Some(7_u64))?;
+    ///     w.value(&None::<u64>)
+    /// })?;
+    /// assert_eq!(octets, [0x01, 0x01, 0xff, 0x02, 0x01, 0x07]);
+    /// # Ok::<(), dumarewhi::Error>(())
+    /// ```
+    pub fn value(&mut self, value: &(impl Encode + ?Sized)) -> Result<()> {
+        value.encode(self)
+    }
+
+    /// Writes a SEQUENCE of what the function writes.
+    pub fn sequence<T>(&mut self, function: impl FnOnce(&mut Writer<'b>) -> T) -> T {
+        let mark = self.fields.open_sequence();
+        self.inside(mark, function)
+    }
+
+    /// Writes a SET of what the function writes, in that order. A SET OF has to be in ascending order by DER (X.690
+    /// 11.6), which the caller owes.
+    pub fn set<T>(&mut self, function: impl FnOnce(&mut Writer<'b>) -> T) -> T {
+        let mark = self.fields.open_set();
+        self.inside(mark, function)
+    }
+
+    /// Writes a constructed element with this tag around what the function writes: an EXPLICIT tag, or an IMPLICIT one
+    /// of a SEQUENCE or SET.
+    ///
+    /// ```
+    /// use dumarewhi::{to_vec, Tag};
+    ///
+    /// // [APPLICATION 1] IMPLICIT SEQUENCE { INTEGER, [0] EXPLICIT INTEGER }
+    /// let octets = to_vec(|w| {
+    ///     w.tagged(Tag::application(1), |w| {
+    ///         w.u64(5);
+    ///         w.tagged(Tag::context(0), |w| w.u64(7));
+    ///     });
+    ///     Ok(())
+    /// })?;
+    /// assert_eq!(octets, [0x61, 0x08, 0x02, 0x01, 0x05, 0xa0, 0x03, 0x02, 0x01, 0x07]);
+    /// # Ok::<(), dumarewhi::Error>(())
+    /// ```
+    pub fn tagged<T>(&mut self, tag: Tag, function: impl FnOnce(&mut Writer<'b>) -> T) -> T {
+        let mark = self.fields.open(tag);
+        self.inside(mark, function)
+    }
+
+    /// Writes an OCTET STRING whose octets are the elements that the function writes.
+    pub fn octet_string_of<T>(&mut self, function: impl FnOnce(&mut Writer<'b>) -> T) -> T {
+        let mark = self.fields.open_octet_string();
+        self.inside(mark, function)
+    }
+
+    fn inside<T>(&mut self, mark: ffi::Mark, function: impl FnOnce(&mut Writer<'b>) -> T) -> T {
+        let value = function(self);
+        self.fields.close(mark);
+        value
+    }
+
+    /// Writes the next element, which has to be primitive, with this tag in place of that of its type: an IMPLICIT tag.
+    /// [`tagged`](Writer::tagged) writes that of a SEQUENCE or SET.
+    ///
+    /// ```
+    /// use dumarewhi::{to_vec, Tag};
+    ///
+    /// // dNSName [2] IMPLICIT IA5String
+    /// let octets = to_vec(|w| w.implicit(Tag::context(2)).ia5_string("a.b"))?;
+    /// assert_eq!(octets, [0x82, 0x03, b'a', b'.', b'b']);
+    /// # Ok::<(), dumarewhi::Error>(())
+    /// ```
+    pub fn implicit(&mut self, tag: Tag) -> &mut Writer<'b> {
+        self.fields.implicit(tag);
+        self
+    }
+
+    /// Writes elements as they are: octets of DER that were written before. They aren't checked.
+    pub fn elements(&mut self, octets: &[u8]) {
+        self.fields.put_elements(octets);
+    }
+
+    /// Writes a BOOLEAN.
+    pub fn boolean(&mut self, value: bool) {
+        self.fields.put_bool(value);
+    }
+
+    /// Writes an INTEGER that isn't negative.
+    pub fn u64(&mut self, value: u64) {
+        self.fields.put_u64(value);
+    }
+
+    /// Writes an INTEGER.
+    pub fn i64(&mut self, value: i64) {
+        self.fields.put_i64(value);
+    }
+
+    /// Writes an INTEGER of any size. An error if its octets aren't the fewest (X.690 8.3.2), as of one that was read
+    /// by BER.
+    pub fn integer(&mut self, value: Integer<'_>) -> Result<()> {
+        let put = self.fields.put_integer(value.as_bytes());
+        self.put(put)
+    }
+
+    /// Writes an INTEGER of any size that isn't negative, with these octets, the highest first. Zeros in front are left
+    /// out.
+    ///
+    /// ```
+    /// use dumarewhi::to_vec;
+    ///
+    /// let octets = to_vec(|w| Ok(w.magnitude(&[0x00, 0x00, 0xff])))?;
+    /// assert_eq!(octets, [0x02, 0x02, 0x00, 0xff]);
+    /// # Ok::<(), dumarewhi::Error>(())
+    /// ```
+    pub fn magnitude(&mut self, octets: &[u8]) {
+        self.fields.put_magnitude(octets);
+    }
+
+    /// Writes an ENUMERATED.
+    pub fn enumerated(&mut self, value: u64) {
+        self.fields.put_enumerated(value);
+    }
+
+    /// Writes a NULL.
+    pub fn null(&mut self) {
+        self.fields.put_null();
+    }
+
+    /// Writes an OBJECT IDENTIFIER with these arcs. An error if there are fewer than two, or the first two can't be
+    /// (X.690 8.19.4).
+    ///
+    /// ```
+    /// use dumarewhi::to_vec;
+    ///
+    /// assert_eq!(to_vec(|w| w.oid(&[2, 5, 4, 3]))?, [0x06, 0x03, 0x55, 0x04, 0x03]);
+    /// assert!(to_vec(|w| w.oid(&[1, 40])).is_err());
+    /// # Ok::<(), dumarewhi::Error>(())
+    /// ```
+    pub fn oid(&mut self, arcs: &[u64]) -> Result<()> {
+        let put = self.fields.put_arcs(arcs);
+        self.put(put)
+    }
+
+    /// Writes an OCTET STRING.
+    pub fn octet_string(&mut self, octets: &[u8]) {
+        self.fields.put_octets(octets);
+    }
+
+    /// Writes a BIT STRING of octets, whose last bits aren't used, so many, at most seven. They are written as 0.
+    pub fn bit_string(&mut self, unused: u8, octets: &[u8]) {
+        self.fields.put_bits(unused, octets);
+    }
+
+    /// Writes a UTF8String.
+    pub fn utf8_string(&mut self, text: &str) {
+        // A `str` is UTF-8, so no error is returned.
+        let _ = self.string(Tag::UTF8_STRING, text);
+    }
+
+    /// Writes a PrintableString. An error if a character isn't in its set.
+    pub fn printable_string(&mut self, text: &str) -> Result<()> {
+        self.string(Tag::PRINTABLE_STRING, text)
+    }
+
+    /// Writes an IA5String. An error if a character isn't in its set.
+    pub fn ia5_string(&mut self, text: &str) -> Result<()> {
+        self.string(Tag::IA5_STRING, text)
+    }
+
+    /// Writes a character string of any type that [`Any::as_str`] has. An error if a character isn't in its set.
+    pub fn string(&mut self, tag: Tag, text: &str) -> Result<()> {
+        if !tag.is_text() {
+            return Err(self.error(ErrorKind::Other("the tag is of no type of text")));
+        }
+        let put = self.fields.put_text(tag.number, text.as_bytes());
+        self.put(put)
+    }
+
+    /// Writes a UTCTime. An error unless the zone is UTC, the year 1950 to 2049, and there is no fraction.
+    pub fn utc_time(&mut self, time: Time) -> Result<()> {
+        self.time(Tag::UTC_TIME, time)
+    }
+
+    /// Writes a GeneralizedTime. An error unless the zone is UTC and the year at most 9999.
+    pub fn generalized_time(&mut self, time: Time) -> Result<()> {
+        self.time(Tag::GENERALIZED_TIME, time)
+    }
+
+    fn time(&mut self, tag: Tag, time: Time) -> Result<()> {
+        let put = self.fields.put_time(tag.number, &fields_of(time));
+        self.put(put)
+    }
+}
+
+fn fields_of(time: Time) -> ffi::TimeFields {
+    let (zone, zone_hours, zone_minutes) = match time.zone {
+        Zone::Local => (ffi::ZONE_LOCAL, 0, 0),
+        Zone::Utc => (ffi::ZONE_UTC, 0, 0),
+        Zone::Offset { hours, minutes } => (ffi::ZONE_OFFSET, hours, minutes),
+    };
+    ffi::TimeFields {
+        year: time.year,
+        nanosecond: time.nanosecond,
+        month: time.month,
+        day: time.day,
+        hour: time.hour,
+        minute: time.minute,
+        second: time.second,
+        zone,
+        zone_hours,
+        zone_minutes,
+    }
+}
+
+/// A value that a [`Writer`] writes, as [`Writer::value`] does. A type of the caller's own is written by its fields.
+///
+/// ```
+/// use dumarewhi::{to_vec, Encode, Result, Writer};
+///
+/// /// SEQUENCE { number INTEGER, name PrintableString }
+/// struct Entry {
+///     number: u64,
+///     name: &'static str,
+/// }
+///
+/// impl Encode for Entry {
+///     fn encode(&self, w: &mut Writer<'_>) -> Result<()> {
+///         w.sequence(|w| {
+///             w.u64(self.number);
+///             w.printable_string(self.name)
+///         })
+///     }
+/// }
+///
+/// let octets = to_vec(|w| w.value(&Entry { number: 5, name: "hi" }))?;
+/// assert_eq!(octets, [0x30, 0x07, 0x02, 0x01, 0x05, 0x13, 0x02, b'h', b'i']);
+/// # Ok::<(), dumarewhi::Error>(())
+/// ```
+pub trait Encode {
+    /// Writes the elements of the value.
+    fn encode(&self, w: &mut Writer<'_>) -> Result<()>;
+}
+
+macro_rules! encodes {
+    ($($(#[$doc:meta])* $type:ty: |$w:ident, $value:ident| $call:expr;)*) => {
+        $($(#[$doc])* impl Encode for $type {
+            fn encode(&self, $w: &mut Writer<'_>) -> Result<()> {
+                let $value = self;
+                $call;
+                Ok(())
+            }
+        })*
+    };
+}
+
+encodes! {
+    /// A BOOLEAN.
+    bool: |w, value| w.boolean(*value);
+    /// An INTEGER.
+    u32: |w, value| w.u64((*value).into());
+    /// An INTEGER.
+    u64: |w, value| w.u64(*value);
+    /// An INTEGER.
+    i32: |w, value| w.i64((*value).into());
+    /// An INTEGER.
+    i64: |w, value| w.i64(*value);
+    /// An INTEGER, as [`Writer::integer`].
+    Integer<'_>: |w, value| w.integer(*value)?;
+    /// An OBJECT IDENTIFIER.
+    ObjectIdentifier<'_>: |w, value| w.fields.put_oid(value.as_bytes());
+    /// A BIT STRING.
+    BitString<'_>: |w, value| w.bit_string(value.unused_bits(), value.raw_bytes());
+    /// A UTF8String.
+    str: |w, value| w.utf8_string(value);
+    /// An element that was read by DER, as it is. One that was read by BER stays in BER: [`write_der`] writes it as
+    /// DER.
+    ///
+    /// [`write_der`]: crate::write_der
+    Any<'_>: |w, value| w.elements(value.octets());
+}
+
+/// As the value that it refers to.
+impl<T: Encode + ?Sized> Encode for &T {
+    fn encode(&self, w: &mut Writer<'_>) -> Result<()> {
+        (**self).encode(w)
+    }
+}
+
+/// The value, or nothing: an OPTIONAL field.
+impl<T: Encode> Encode for Option<T> {
+    fn encode(&self, w: &mut Writer<'_>) -> Result<()> {
+        self.as_ref().map_or(Ok(()), |value| value.encode(w))
+    }
+}
+
+/// A SEQUENCE OF.
+impl<T: Encode> Encode for [T] {
+    fn encode(&self, w: &mut Writer<'_>) -> Result<()> {
+        w.sequence(|w| self.iter().try_for_each(|value| value.encode(w)))
+    }
+}
+
+/// The octets that the function writes. It is called twice: to count them, and to write them to a vector that is
+/// allocated once.
+///
+/// ```
+/// use dumarewhi::{check_der, to_vec};
+///
+/// let octets = to_vec(|w| {
+///     w.sequence(|w| {
+///         w.u64(5);
+///         w.oid(&[2, 5, 4, 3])?;
+///         w.null();
+///         Ok(())
+///     })
+/// })?;
+/// assert_eq!(octets, b"\x30\x0a\x02\x01\x05\x06\x03\x55\x04\x03\x05\x00");
+/// assert_eq!(check_der(&octets), Ok(4));
+/// # Ok::<(), dumarewhi::Error>(())
+/// ```
+#[cfg(feature = "alloc")]
+pub fn to_vec(mut function: impl FnMut(&mut Writer<'_>) -> Result<()>) -> Result<Vec<u8>> {
+    let mut counter = Writer::new(&mut []);
+    function(&mut counter)?;
+    let length = counter.offset();
+    let mut octets = Vec::new();
+    let reserved = octets.try_reserve_exact(length);
+    reserved.map_err(|_| Error::new(ErrorKind::OutOfMemory, 0))?;
+    octets.resize(length, 0);
+    let mut writer = Writer::new(&mut octets);
+    function(&mut writer)?;
+    let written = writer.finish()?;
+    octets.truncate(written);
+    Ok(octets)
+}

@@ -1,0 +1,236 @@
+//! Elements that are written, in buffers of every capacity, and read back.
+#![cfg(feature = "alloc")]
+use dumarewhi::{
+    check_der, to_der, to_vec, Any, Encode, Error, ErrorKind, Reader, Reason, Result, Tag, Time, Writer, Zone,
+};
+
+/// The personnel record of X.690 A.3.
+const RECORD: &[u8] = b"\x60\x81\x85\
+    \x61\x10\x1a\x04John\x1a\x01P\x1a\x05Smith\
+    \xa0\x0a\x1a\x08Director\
+    \x42\x01\x33\
+    \xa1\x0a\x43\x0819710917\
+    \xa2\x12\x61\x10\x1a\x04Mary\x1a\x01T\x1a\x05Smith\
+    \xa3\x42\
+    \x31\x1f\x61\x11\x1a\x05Ralph\x1a\x01T\x1a\x05Smith\xa0\x0a\x43\x0819571111\
+    \x31\x1f\x61\x11\x1a\x05Susan\x1a\x01B\x1a\x05Jones\xa0\x0a\x43\x0819590717";
+
+/// Name ::= [APPLICATION 1] IMPLICIT SEQUENCE { givenName, initial, familyName VisibleString }
+struct Name(&'static str, &'static str, &'static str);
+
+impl Encode for Name {
+    fn encode(&self, w: &mut Writer<'_>) -> Result<()> {
+        w.tagged(Tag::application(1), |w| {
+            w.string(Tag::VISIBLE_STRING, self.0)?;
+            w.string(Tag::VISIBLE_STRING, self.1)?;
+            w.string(Tag::VISIBLE_STRING, self.2)
+        })
+    }
+}
+
+/// Date ::= [APPLICATION 3] IMPLICIT VisibleString, in an explicit tag.
+fn date(w: &mut Writer<'_>, number: u32, text: &str) -> Result<()> {
+    w.tagged(Tag::context(number), |w| {
+        w.implicit(Tag::application(3)).string(Tag::VISIBLE_STRING, text)
+    })
+}
+
+fn child(w: &mut Writer<'_>, name: Name, born: &str) -> Result<()> {
+    w.set(|w| {
+        w.value(&name)?;
+        date(w, 0, born)
+    })
+}
+
+fn record(w: &mut Writer<'_>) -> Result<()> {
+    w.tagged(Tag::application(0), |w| {
+        w.value(&Name("John", "P", "Smith"))?;
+        w.tagged(Tag::context(0), |w| w.string(Tag::VISIBLE_STRING, "Director"))?;
+        w.implicit(Tag::application(2)).u64(51);
+        date(w, 1, "19710917")?;
+        w.tagged(Tag::context(2), |w| w.value(&Name("Mary", "T", "Smith")))?;
+        w.tagged(Tag::context(3), |w| {
+            child(w, Name("Ralph", "T", "Smith"), "19571111")?;
+            child(w, Name("Susan", "B", "Jones"), "19590717")
+        })
+    })
+}
+
+#[test]
+fn each_capacity() {
+    let needed = RECORD.len();
+    for capacity in 0..needed + 3 {
+        let mut buffer = vec![b'#'; needed + 3];
+        let mut writer = Writer::new(&mut buffer[..capacity]);
+        record(&mut writer).unwrap();
+        assert_eq!(writer.offset(), needed);
+        let finished = writer.finish();
+        if capacity < needed {
+            assert_eq!(finished, Err(Error::new(ErrorKind::NoRoom { needed }, 0)));
+        } else {
+            assert_eq!(finished, Ok(needed));
+            assert_eq!(buffer[..needed], *RECORD);
+            assert!(buffer[needed..].iter().all(|octet| *octet == b'#'));
+        }
+    }
+    assert_eq!(to_vec(record).unwrap(), RECORD);
+}
+
+#[test]
+fn each_size_of_a_length() {
+    for size in [0, 1, 125, 126, 127, 128, 255, 256, 65_535, 65_536] {
+        let content = vec![7; size];
+        let octets = to_vec(|w| {
+            w.sequence(|w| {
+                w.octet_string(&content);
+                w.octet_string_of(|w| w.octet_string(&content));
+                w.bit_string(0, &content);
+            });
+            Ok(())
+        })
+        .unwrap();
+        assert_eq!(check_der(&octets), Ok(4));
+        assert_eq!(to_der(&octets).unwrap(), octets);
+        let mut reader = Reader::new(&octets);
+        let read = reader.sequence(|r| {
+            let first = r.octet_string()?;
+            let second = Any::from_der(r.octet_string()?)?.as_bytes()?;
+            Ok((first, second, r.bit_string()?.raw_bytes()))
+        });
+        assert_eq!(read, Ok((&content[..], &content[..], &content[..])));
+        reader.finish().unwrap();
+    }
+}
+
+/// What is read of one value is written as the same octets.
+#[test]
+fn values_that_were_read() {
+    let octets = to_vec(|w| {
+        w.boolean(true);
+        w.i64(i64::MIN);
+        w.u64(u64::MAX);
+        w.magnitude(&[0xff; 20]);
+        w.oid(&[2, 999, 3])?;
+        w.bit_string(4, &[0x0a, 0x3f]);
+        w.utf8_string("é");
+        w.enumerated(3);
+        w.null();
+        Ok(())
+    })
+    .unwrap();
+    let mut r = Reader::new(&octets);
+    let again = to_vec(|w| {
+        let mut r = r.clone();
+        w.value(&r.boolean()?)?;
+        w.value(&r.i64()?)?;
+        w.value(&r.u64()?)?;
+        w.value(&r.integer()?)?;
+        w.value(&r.oid()?)?;
+        w.value(&r.bit_string()?)?;
+        w.value(r.utf8_string()?)?;
+        w.value(&r.any()?)?;
+        w.value(&Some(r.any()?))?;
+        w.value(&None::<bool>)?;
+        r.finish()
+    });
+    assert_eq!(again.unwrap(), octets);
+    assert!(r.any().is_ok());
+}
+
+#[test]
+fn lists_of_values() {
+    let octets = to_vec(|w| w.value(&[1_u32, 300][..])).unwrap();
+    assert_eq!(octets, [0x30, 7, 2, 1, 1, 2, 2, 1, 44]);
+    let octets = to_vec(|w| w.value(&["a", "b"][..])).unwrap();
+    assert_eq!(octets, b"\x30\x06\x0c\x01a\x0c\x01b");
+    assert_eq!(to_vec(|w| w.value(&-1_i32)).unwrap(), [2, 1, 255]);
+}
+
+const TIME: Time = Time {
+    year: 2026,
+    month: 11,
+    day: 27,
+    hour: 9,
+    minute: 5,
+    second: 0,
+    nanosecond: 0,
+    zone: Zone::Utc,
+};
+
+#[test]
+fn times() {
+    assert_eq!(to_vec(|w| w.utc_time(TIME)).unwrap(), b"\x17\x0d261127090500Z");
+    let time = Time {
+        nanosecond: 120_000_000,
+        ..TIME
+    };
+    let octets = to_vec(|w| w.generalized_time(time)).unwrap();
+    assert_eq!(octets, b"\x18\x1220261127090500.12Z");
+    assert_eq!(Any::from_der(&octets).unwrap().as_time(), Ok(time));
+}
+
+#[test]
+fn refused_values() {
+    let reason = |put: &dyn Fn(&mut Writer<'_>) -> Result<()>| {
+        let error = to_vec(|w| {
+            w.null();
+            put(w)
+        })
+        .unwrap_err();
+        assert_eq!(error.offset(), 2);
+        match error.kind() {
+            ErrorKind::Value(reason) => reason,
+            kind => panic!("{kind}"),
+        }
+    };
+    let padded = Any::from_ber(&[2, 2, 0, 5]).unwrap().as_integer().unwrap();
+    assert_eq!(reason(&|w| w.integer(padded)), Reason::INTEGER_LEADING_ZEROES);
+    assert_eq!(reason(&|w| w.oid(&[1])), Reason::INVALID_LENGTH);
+    assert_eq!(reason(&|w| w.oid(&[3, 1])), Reason::WRONG_VALUE);
+    assert_eq!(reason(&|w| w.printable_string("a@b")), Reason::INVALID_CHARACTER);
+    assert_eq!(reason(&|w| w.ia5_string("é")), Reason::INVALID_CHARACTER);
+    let year = Time { year: 2050, ..TIME };
+    assert_eq!(reason(&|w| w.utc_time(year)), Reason::INVALID_TIME);
+    let (hours, minutes) = (1, 0);
+    let zone = Time {
+        zone: Zone::Offset { hours, minutes },
+        ..TIME
+    };
+    assert_eq!(reason(&|w| w.generalized_time(zone)), Reason::INVALID_TIME);
+    let error = to_vec(|w| w.string(Tag::BMP_STRING, "a")).unwrap_err();
+    assert!(matches!(error.kind(), ErrorKind::Other(_)));
+}
+
+/// A writer that takes another one's place in the middle of an element is no harm, and an error at the end.
+#[test]
+fn swapped_writers() {
+    let (mut first, mut second) = ([0; 16], [0; 16]);
+    let mut other = Writer::new(&mut second);
+    let mut writer = Writer::new(&mut first);
+    other.null();
+    writer.sequence(|w| {
+        w.null();
+        std::mem::swap(w, &mut other);
+    });
+    assert!(writer.finish().is_ok());
+    assert!(other.finish().is_err());
+}
+
+/// A function that writes more the second time is an error, and one that writes less is no harm.
+#[test]
+fn functions_that_change() {
+    let mut count = 0;
+    let octets = to_vec(|w| {
+        count += 1;
+        (0..count).for_each(|_| w.null());
+        Ok(())
+    });
+    assert_eq!(octets.unwrap_err().kind(), ErrorKind::NoRoom { needed: 4 });
+    let mut count = 3;
+    let octets = to_vec(|w| {
+        count -= 1;
+        (0..count).for_each(|_| w.null());
+        Ok(())
+    });
+    assert_eq!(octets.unwrap(), [5, 0]);
+}
