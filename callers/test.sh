@@ -61,13 +61,41 @@ has nm "undefined symbols" && says "the archive needs no other library" \
 
 compile() { cc -std=c99 -Wall -Wextra -Werror -O2 "${@:3}" -Ic/include "c/$1.c" "$archive" -o "$room/$2"; }
 
+# Each size of a length is written, and openssl reads it.
+run_sized() {
+    local size
+    for size in 0 1 125 126 127 128 255 256 65535 65536; do
+        openssl asn1parse -inform DER -in "$room/sized.$size" > "$room/parsed" || return
+        [ "$(sed -n '3s/.* l= *\([0-9]*\) prim: OCTET STRING.*/\1/p' "$room/parsed")" = "$size" ] || return
+    done
+}
+
+# run_csr PROGRAM: openssl signs what is written, and verifies the request that is written of it.
+run_csr() (
+    cd "$room" && openssl genpkey -algorithm EC -pkeyopt ec_paramgen_curve:P-256 -out private.pem \
+        && openssl pkey -in private.pem -pubout -outform DER -out key && "$1" info key example.org > info \
+        && openssl dgst -sha256 -sign private.pem -out signature info && "$1" request info signature > request \
+        && openssl req -inform DER -in request -noout -verify \
+        && openssl req -inform DER -in request -noout -subject | grep -q "CN *= *example.org" \
+        && openssl req -inform DER -in request -noout -text | grep -q "DNS:example.org"
+)
+
+# A GetRequest for three objects, and the answer: the name, the time, and that there is no third.
+octets "30 45 02 01 01 04 06 70 75 62 6c 69 63 a0 38 02 04 71 68 2a 51 02 01 00 02 01 00 30 2a 30 0c 06 08 2b 06 01 02
+    01 01 01 00 05 00 30 0c 06 08 2b 06 01 02 01 01 03 00 05 00 30 0c 06 08 2b 06 01 02 01 01 09 00 05 00" > "$room/ask"
+octets "30 5e 02 01 01 04 06 70 75 62 6c 69 63 a2 51 02 04 71 68 2a 51 02 01 00 02 01 00 30 43 30 23 06 08 2b 06 01 02
+    01 01 01 00 04 17 61 6e 20 65 78 61 6d 70 6c 65 20 6f 66 20 64 75 6d 61 72 65 77 68 69 30 0e 06 08 2b 06 01 02 01
+    01 03 00 43 02 10 68 30 0c 06 08 2b 06 01 02 01 01 09 00 80 00" > "$room/answer"
+run_reply() { "$1" < "$room/ask" > "$room/reply" && cmp "$room/reply" "$room/answer"; }
+
 run_c() {
-    for name in first tree certificate snmp count layout rows errors tables; do
+    for name in first tree certificate snmp count layout rows errors tables csr snmp_reply writer; do
         says "$name.c compiles" compile $name $name
     done
     says "stack.c compiles" compile stack stack -pthread
     shown=yes
     for name in layout rows errors stack; do says "$name" "$room/$name"; done
+    says "writer" "$room/writer" "$room"
     says "rows of the library's tests" "$room/tables" ../tests/*/data/*.rows
     shown=
 
@@ -100,6 +128,11 @@ version 1, community public: get-next 43 1.3.6.1.2.1.1.3.0" "$room/snmp"
     prints "SNMP of no octets" 0 "" "$room/snmp"
     { head -c 3 "$room/messages"; sleep 0.2; tail -c +4 "$room/messages"; } | "$room/snmp" > "$room/out"
     says "SNMP that comes in pieces" grep -q "get-next 43" "$room/out"
+    says "SNMP that is answered" run_reply "$room/snmp_reply"
+    if has openssl "elements and requests that openssl reads"; then
+        says "elements as openssl reads them" run_sized
+        says "a request that openssl verifies" run_csr "$room/csr"
+    fi
 }
 
 # The serial number, the dates and how many of the machine's certificates were read are compared with openssl's.
@@ -148,9 +181,11 @@ if has cc "all of C"; then
         says "hostile.c compiles" compile hostile hostile -g -fsanitize=address,undefined -fno-sanitize-recover=all
         shown=yes
         says "damaged inputs" run_hostile 40000 hostile
+        says "writer.c compiles" compile writer sanitized -g -fsanitize=address,undefined -fno-sanitize-recover=all
+        says "writer under sanitizers" "$room/sanitized" "$room"
         shown=
     else
-        echo "left out: damaged inputs under sanitizers (cc has no -fsanitize=address,undefined)"
+        echo "left out: damaged inputs and writer under sanitizers (cc has no -fsanitize=address,undefined)"
     fi
     # The sanitizers see the program, and valgrind each access of the library too.
     if has valgrind "damaged inputs under valgrind"; then
@@ -160,6 +195,8 @@ if has cc "all of C"; then
         printf '#!/bin/sh\nexec valgrind -q --error-exitcode=9 "%s/plain" "$@"\n' "$room" > "$room/checked"
         chmod +x "$room/checked"
         says "damaged inputs under valgrind" run_valgrind
+        says "writer.c compiles" compile writer plain_writer -g
+        says "writer under valgrind" valgrind -q --error-exitcode=9 "$room/plain_writer" "$room"
         shown=
     fi
     awk '/^```c$/ {on = 1; next} /^```$/ {on = 0} on' ../README.md > "$room/readme.c"
@@ -183,6 +220,9 @@ if [ -d rust ]; then
         shown=yes
         run_cargo() { DUMAREWHI_LIB=$(dirname "$archive") CARGO_TARGET_DIR=$room/target cargo "$@" 2>&1; }
         says "cargo test" run_cargo test --offline --quiet --manifest-path rust/Cargo.toml
+        examples=$room/target/debug/examples
+        says "SNMP that Rust answers" run_reply "$examples/snmp_reply"
+        has openssl "a request of Rust" && says "a request of Rust that openssl verifies" run_csr "$examples/csr"
         if cargo clippy --version > /dev/null 2>&1; then
             run_clippy() { run_cargo clippy --offline --quiet --all-targets --manifest-path "$1" -- -D warnings; }
             says "cargo clippy" run_clippy rust/Cargo.toml

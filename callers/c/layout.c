@@ -116,10 +116,39 @@ static void test_times(void) {
     expect(sizeof(dm_time) == 16, "a time has 16 octets");
 }
 
+static void test_writers(void) {
+    static uint8_t buffer[400];
+    struct {
+        dm_writer writer;
+        uint8_t after[16];
+    } memory;
+    struct {
+        dm_mark mark;
+        uint8_t after[16];
+    } outer, inner;
+    memset(&memory, 0xaa, sizeof memory);
+    memset(&outer, 0xaa, sizeof outer);
+    memset(&inner, 0xaa, sizeof inner);
+    dm_writer *w = &memory.writer;
+    *w = dm_writer_over(buffer, sizeof buffer);
+    dm_put_null(w);
+    outer.mark = dm_open(w, DM_PRIVATE, 1, 1234567);
+    inner.mark = dm_open_sequence(w);
+    expect(outer.mark.start == 6 && outer.mark.outer == 0, "the outer mark");
+    expect(inner.mark.start == 8 && inner.mark.outer == 6, "the inner mark");
+    dm_implicit(w, DM_CONTEXT_SPECIFIC, 0xfedcba98u);
+    expect(w->octets == buffer && w->capacity == 400 && w->count == 9, "buffer, capacity and count");
+    expect(w->innermost == 8 && w->implicit == 3 && w->number == 0xfedcba98u, "the rest of the state");
+    expect(is_untouched(memory.after, 0, 16) && is_untouched(outer.after, 0, 16) && is_untouched(inner.after, 0, 16),
+           "nothing after a writer or a mark is written");
+    expect(sizeof(dm_writer) == 40 && sizeof(dm_mark) == 16, "a writer has 40 octets, a mark 16");
+}
+
 int main(void) {
     test_elements();
     test_outcomes();
     test_times();
+    test_writers();
     printf("layout: %d passed, %d failed\n", passed, failed);
     return failed != 0;
 }
