@@ -1,5 +1,5 @@
 -- Writers with the same octets.
-use Rattle.std.proofs.Common.{◌≡◌, ℕ, ◌+◌, ◌-◌, ◌^◌, ◌≤◌, Bool, None, List, ◌++◌, length, drop, take, min, refl, sym, ap, subst, ◌∙◌, arith, length-append}
+use Rattle.std.proofs.Common.{◌≡◌, ℕ, ◌+◌, ◌-◌, ◌^◌, ◌≤◌, Bool, List, ◌++◌, length, take, min, refl, sym, ap, subst, ◌∙◌, arith, length-append}
 use Rattle.der_base.specs.declared.header.Class.{Class}
 use Rattle.der_base.specs.Octets.{identifier}
 use Rattle.der_writer.specs.declared.writer.Mark.{Mark}

@@ -1,5 +1,6 @@
 pub mod Alike
 pub mod Firsts
+pub mod Moments
 pub mod Puts
 pub mod TextTests
 pub mod Within

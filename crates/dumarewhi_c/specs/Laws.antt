@@ -1,5 +1,7 @@
 -- Statements of the laws in `src/laws.rt`.
-use Rattle.std.specs.Prelude.{◌≡◌, ℕ, ◌^◌, ◌<◌, ◌≤◌, List, length, take, All, Result}
+use Rattle.std.specs.Prelude.{◌≡◌, ℕ, ◌^◌, ◌<◌, ◌≤◌, IsTrue, List, length, take, All, Result}
+use Rattle.der_base.specs.Leaf.{IsDerLeaf}
+use Rattle.der_base.specs.Tree.{time}
 use Rattle.der_nodes.specs.NodesReading.{KeepsBerNodes, KeepsDerNodes}
 use Rattle.der_writer.specs.declared.writer.WriteError.{WriteError}
 use Rattle.der_writer.specs.Written.{Puts, Returns, StartsAt, Wrote}
@@ -7,7 +9,9 @@ use Rattle.dumarewhi_c.specs.declared.element.DmElement.{DmElement}
 use Rattle.dumarewhi_c.specs.declared.outcome.DmOutcome.{DmOutcome}
 use Rattle.dumarewhi_c.specs.Elements.{slot_of}
 use Rattle.dumarewhi_c.specs.declared.state.DmWriter.{DmWriter}
+use Rattle.dumarewhi_c.specs.declared.time.DmTime.{DmTime}
 use Rattle.dumarewhi_c.specs.Outcomes.{FindsBer, FindsDer}
+use Rattle.dumarewhi_c.specs.Tested.{has_time, time_of}
 use Rattle.dumarewhi_c.specs.Writers.{writer_of}
 
 -- the element is within an input of n octets
@@ -39,3 +43,7 @@ abbrev pub FinishedIsWritten : Type 0
 FinishedIsWritten = (w : List ℕ) (old new : DmWriter) (found : Result ℕ WriteError)
     → StartsAt old.octets (writer_of old) → Puts w (writer_of old) (writer_of new) → length new.octets.now < 2 ^ 63
     → Returns (writer_of new) found → Wrote w old.octets.now new.octets.now found
+
+-- a time that is put is one that DER has
+abbrev pub TimesAreDer : Type 0
+TimesAreDer = (k : ℕ) (t : DmTime) → IsTrue (has_time k t) → IsDerLeaf k (time k (time_of k t))

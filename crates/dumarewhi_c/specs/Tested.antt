@@ -48,7 +48,7 @@ abbrev pub has_year : ℕ → DmTime → Bool
 has_year k t = if k == 23 then is_within 1950 2049 t.year && t.nanosecond == 0
     else k == 24 && nat_le t.year 9999 && nat_le t.nanosecond 999999999
 
--- DER writes a time of this type with these fields, in universal time (11.7, 11.8)
+-- DER has a time of this type with these fields, which is in universal time (11.7, 11.8)
 abbrev pub has_time : ℕ → DmTime → Bool
 has_time k t = has_year k t && is_within 1 12 t.month && is_within 1 31 t.day && nat_le t.hour 23
     && nat_le t.minute 59 && nat_le t.second 59 && t.zone == 1
@@ -66,7 +66,7 @@ time_of k t = record {
   tz = Z;
 }
 
--- a UTCTime or a GeneralizedTime with these fields, if DER writes it
+-- a UTCTime or a GeneralizedTime with these fields, if DER has it
 abbrev pub PutsTime : ℕ → DmTime → Writer → Result (Unit {0}) BerError → Writer → Type 0
 PutsTime k t old found new = MatchResult found
     (λ _. IsTrue (has_time k t) × PutsLeaf k (content_octets (time k (time_of k t))) old new)

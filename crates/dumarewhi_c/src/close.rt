@@ -1,4 +1,5 @@
-//! The content of an element that is closed.
+//! The content of an element that is closed, as `close` of der_writer ends it. That takes a mark of its own, and C
+//! keeps numbers.
 ghost use Rattle.std.specs.Prelude.{◌≡◌, ◌+◌, ◌≤◌, ◌++◌, drop, length, take};
 ghost use Rattle.der_base.specs.Octets.{shortest_length};
 ghost use Rattle.der_writer.specs.Written.{EndsContent, FillsTo};

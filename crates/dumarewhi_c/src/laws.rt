@@ -1,6 +1,6 @@
 //! Laws of what C sees. Each function's contract is a law, and its body is empty.
 ghost use Rattle.dumarewhi_c.specs.Laws.{BerElementsLieWithin, BerFirstLiesWithin};
-ghost use Rattle.dumarewhi_c.specs.Laws.{DerElementsLieWithin, DerFirstLiesWithin, FinishedIsWritten};
+ghost use Rattle.dumarewhi_c.specs.Laws.{DerElementsLieWithin, DerFirstLiesWithin, FinishedIsWritten, TimesAreDer};
 
 /// The offsets of the elements that a call writes are within the input: the header begins no later than
 /// the content, this begins no later than it ends, and it ends within the input.
@@ -19,4 +19,9 @@ pub fn first_lies_within()
 /// and they are counted.
 pub fn finished_is_written()
     ensures { FinishedIsWritten }
+{}
+
+/// A time that is put is one that DER has, so a reader by DER reads it (`leaves_spell` of der_writer).
+pub fn times_are_der()
+    ensures { TimesAreDer }
 {}

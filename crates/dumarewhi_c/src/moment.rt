@@ -13,7 +13,7 @@ use der_base::header::Tag;
 use der_base::time::{ASN1DateTime, ASN1TimeZone};
 use der_writer::Writer;
 
-/// Whether DER writes a time of this type with these fields, in universal time (X.690 11.7, 11.8).
+/// Whether DER has a time of this type with these fields, in universal time (X.690 11.7, 11.8).
 pub(crate) fn has_time(tag: Tag, time: &DmTime) -> bool
     ensures { result ≡ has_time tag.0 time.now }
 {
