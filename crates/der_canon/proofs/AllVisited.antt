@@ -1,12 +1,11 @@
 -- Elements are visited.
-use Rattle.std.proofs.Common.{ℕ, suc, ◌+◌, true, List, [], ◌∷◌, ◌++◌, length, refl, sym, ap, ◌∙◌, append_assoc}
+use Rattle.std.proofs.Common.{ℕ, suc, ◌+◌, true, false, List, [], ◌∷◌, ◌++◌, length, refl, sym, ap, ◌∙◌, append_assoc}
 use Rattle.der_base.specs.Octets.{identifier}
 use Rattle.der_base.specs.Spelling.{end_marker}
 use Rattle.der_base.specs.declared.rules.Rules.{Rules}
 use Rattle.der_check.specs.Elements.{AreElements, IsElement}
 use Rattle.der_check.specs.Elements.{none as no_elements, one_more as one_element, primitive as primitive_element, constructed as constructed_element, indefinite as indefinite_element}
 use Rattle.der_walk.specs.Visits.{Visited, Visits, VisitsOne, none, one_more, primitive, constructed, indefinite}
-use Rattle.der_walk.proofs.Headers.{one_parts}
 use Rattle.der_canon.specs.Same.{no_extras}
 
 mutual
@@ -18,9 +17,9 @@ mutual
       (one.0 ++ others.0, one_more b rest one.0 others.0 e refl one.1 others.1)
 
   one_visited : {r : Rules} {d : ℕ} {b : List ℕ} → IsElement r d b → (k a : ℕ) → (vs : List Visited) × VisitsOne no_extras r d k a b vs
-  one_visited {r} (primitive_element c t x s n) k a =
-      let p = one_parts r _ c t x s in
-      (_, primitive c t p.octets p.content x p.is p.split s n (λ enters. absurd (cc)) refl)
+  one_visited (primitive_element c t s w l len e may) k a =
+      let h = identifier c false t ++ s in
+      (_, primitive c t h w (l, s, len, refl) e may (λ enters. absurd (cc)) refl)
   one_visited (constructed_element c t s w l len e may more) k a =
       let h = identifier c true t ++ s in
       let inside = all_visited more (suc k) (a + length h) in

@@ -1,7 +1,5 @@
 -- What an error says of an input.
 use Rattle.std.proofs.Common.{◌≡◌, ℕ, true, false, List, refl, sym, ap, ◌∙◌}
-use Rattle.der_base.specs.declared.error.Error.{Error as BerError}
-use Rattle.der_base.specs.declared.error.Error.TheVariants as errors
 use Rattle.der_walk.specs.declared.cause.Cause.{Cause}
 use Rattle.der_walk.specs.declared.cause.Cause.TheVariants.{NotDer}
 use Rattle.der_walk.specs.declared.refusal.Refusal.{Refusal}
@@ -9,45 +7,17 @@ use Rattle.der_walk.specs.declared.walk.Walk.{Walk}
 use Rattle.der_walk.specs.Visits.{Visited}
 use Rattle.der_canon.specs.declared.error.NotCanonical.{NotCanonical}
 use Rattle.der_canon.specs.Errors.{IsErrorOf, IsFirstError, IsUnwritten, first, large, unwritten, ber, der, at, end}
-use Rattle.der_canon.specs.NoDer.{HasNoDer, HasNoForm, cause_of, number, null, many_unused, no_bits, time, other, unused, part, value}
+use Rattle.der_canon.specs.NoDer.{HasNoDer, other, unused, part, value}
 use Rattle.der_canon.specs.Written.{IsRefusalOf, is_about_der}
 use Rattle.der_canon.proofs.AllVisited.{all_visited}
 
 about : (c k : Cause) → c ≡ k → is_about_der k ≡ true → is_about_der c ≡ true
 about c k e h = ap is_about_der e ∙ h
 
-about_error : (e : BerError) → is_about_der (cause_of e) ≡ true
-about_error errors.BerTypeError = refl
-about_error errors.BerValueError = refl
-about_error errors.BerMaxDepth = refl
-about_error errors.InvalidLength = refl
-about_error errors.InvalidTag = refl
-about_error (errors.UnknownTag n) = refl
-about_error (errors.UnexpectedTag e a) = refl
-about_error (errors.UnexpectedClass e a) = refl
-about_error errors.ConstructExpected = refl
-about_error errors.ConstructUnexpected = refl
-about_error errors.IntegerTooLarge = refl
-about_error errors.IntegerNegative = refl
-about_error (errors.InvalidValue t m) = refl
-about_error errors.StringInvalidCharset = refl
-about_error errors.InvalidDateTime = refl
-about_error errors.Unsupported = refl
-about_error (errors.DerConstraintFailed c) = refl
-about_error (errors.Incomplete n) = refl
-about_error (errors.NomError k) = refl
-
-about_form : (t : ℕ) (w : List ℕ) (c : Cause) → HasNoForm t w c → is_about_der c ≡ true
-about_form t w c (number k e f) = about c _ f refl
-about_form t w c (null k e f) = about c _ f refl
-about_form t w c (many_unused u v k e l f) = about c _ f refl
-about_form t w c (no_bits u k e l m f) = about c _ f refl
-about_form t w c (time e k f g) = about c _ g (about_error e)
-
 pub about_der : (i : List ℕ) (vs : List Visited) (v : Visited) (c : Cause) → HasNoDer i vs v c → is_about_der c ≡ true
 about_der i vs v c (part (other x s l never e)) = about c _ e refl
 about_der i vs v c (part (unused x s l k n u e)) = about c _ e refl
-about_der i vs v c (value a b k h) = about_form _ _ c h
+about_der i vs v c (value a b k h) = about c _ h.2 refl
 
 differ : {A : Type 0} → true ≡ false → A
 differ e = absurd (cc)

@@ -71,10 +71,10 @@ mutual
       omega (arith, ap length e, length-append b rest, ap costs f, costs_append us ws, costs_one is, costs_within more)
 
   costs_one : {d k a : ℕ} {b : List ℕ} {vs : List Visited} → VisitsOne no_extras Ber d k a b vs → costs vs ≤ 10 * length b
-  costs_one (primitive c t h w y is e spells out closed ev) =
+  costs_one (primitive c t h w is e may out ev) =
       omega (arith, header_costs c false t (Some (length w)) h is, ap length e, length-append h w, ap costs ev)
   costs_one (broken t h w is e keeps er it never ev) = absurd (cc)
-  costs_one (string t h w y u v us is e spells enters holds vis ev) = absurd (cc)
+  costs_one (string t h w u v us is e value enters holds vis ev) = absurd (cc)
   costs_one (constructed c t h w us is e may vis ev) =
       omega (arith, header_costs c true t (Some (length w)) h is, ap length e, length-append h w, ap costs ev, costs_within vis)
   costs_one {b = b} (indefinite c t h w us is e may vis ev) =

@@ -8,7 +8,8 @@ use Rattle.der_walk.specs.declared.element.Element.{Element}
 use Rattle.der_canon.specs.declared.joined.Joined.{Joined}
 use Rattle.der_canon.specs.Joined.{HasJoined, TakesPart, contents_in, given}
 use Rattle.der_canon.specs.Same.{part_number}
-use Rattle.der_canon.specs.Values.{Joins, bits, cleared, octets, string_content}
+use Rattle.der_writer.specs.Octets.{cleared}
+use Rattle.der_canon.specs.Values.{Joins, bits, octets, string_content}
 
 contents_none : (e : Element) → e.constructed ≡ true → contents_in e ≡ []
 contents_none e h = ap (λ b. if b then [] else given e.content) h

@@ -1,17 +1,12 @@
 -- How many octets DER has for elements is one number.
-use Rattle.std.proofs.Common.{◌≡◌, ◌≢◌, ℕ, zero, suc, ◌+◌, ◌≤◌, ◌⊎◌, true, false, Option, List, [], ◌∷◌, ◌++◌, length, length-append, refl, sym, ap, subst, ◌∙◌, inl, inr, arith}
-use Rattle.der_base.proofs.AllByRecursion.{each_from_all}
-use Rattle.der_base.proofs.Octets.MinimalIntegers.{minimal_fewest, some_of_minimal}
-use Rattle.der_base.proofs.Octets.Shortest.{IsOctet}
-use Rattle.der_base.specs.declared.header.Class.{Class}
+use Rattle.std.proofs.Common.{◌≡◌, ◌≢◌, ℕ, zero, suc, ◌+◌, ◌⊎◌, true, false, Option, List, [], ◌∷◌, ◌++◌, length, length-append, refl, sym, ap, subst, ◌∙◌, inl, inr, arith}
 use Rattle.der_base.specs.declared.rules.Rules.TheVariants.{Der}
 use Rattle.der_base.specs.Octets.{identifier}
 use Rattle.der_check.specs.Elements.{AreElements}
 use Rattle.der_walk.specs.Visits.{Visited}
 use Rattle.der_walk.proofs.OneVisit.{visits_same}
 use Rattle.der_canon.specs.Same.{content_of, is_part, parts_of}
-use Rattle.der_canon.specs.Sizes.{Ends, HasSize, HasSizes, HasValueSize, IsSizeOf, part_size, start_size, with_length, close, constructed, none, number, other, part, primitive, stay}
-use Rattle.der_canon.specs.Values.{IsSameNumber}
+use Rattle.der_canon.specs.Sizes.{Ends, HasSize, HasSizes, IsSizeOf, part_size, start_size, with_length, close, constructed, none, part, primitive, stay}
 
 none_more : {X : Type 0} (ys : List X) (y : X) → [] ≡ ys ++ y ∷ [] → ⊥
 none_more [] y e = cc
@@ -38,15 +33,6 @@ ends_one k ls ks ms ns l j m n (close around p a more h) (close others q b also 
     let sum : p + with_length l ≡ q + with_length j = ap (λ x. x + with_length l) same.1 ∙ ap (λ x. q + with_length x) f in
     ends_one k around others ms ns (p + with_length l) (q + with_length j) m n h g same.0 sum
 
-fewer : (w x y : List ℕ) → IsSameNumber w x → IsSameNumber w y → length x ≤ length y
-fewer w x y a b = minimal_fewest x y (each_from_all IsOctet x a.octets) (each_from_all IsOctet y b.octets) a.fewest (some_of_minimal y b.fewest) (b.value ∙ sym a.value)
-
-value_one : (c : Class) (t : ℕ) (w : List ℕ) (n m : ℕ) → HasValueSize c t w n → HasValueSize c t w m → n ≡ m
-value_one c t w n m (number x of some a e) (number y also more b f) = omega (arith, fewer w x y a b, fewer w y x b a, e, f)
-value_one c t w n m (number x of some a e) (other empty f) = absurd (some (empty of))
-value_one c t w n m (other empty e) (number x of some a f) = absurd (some (empty of))
-value_one c t w n m (other empty e) (other also f) = e ∙ sym f
-
 differ : {A : Type 0} → true ≡ false → A
 differ e = absurd (cc)
 
@@ -54,16 +40,16 @@ sizes_one : (i : List ℕ) (vs us : List Visited) (s r : Option ℕ) (ms ns : Li
     → (s ≡ r) × (ms ≡ ns) × (m ≡ n)
 sizes_one i vs us s r ms ns m n (none a b c d) (none e f g h) same = (b ∙ sym f, c ∙ sym g, d ∙ sym h)
 sizes_one i vs us s r ms ns m n (none a b c d) (part before v l h in_it e f) same = absurd (none_more before v (sym a ∙ same ∙ e))
-sizes_one i vs us s r ms ns m n (none a b c d) (primitive before v t ls l k q h free ends plain size f e g) same = absurd (none_more before v (sym a ∙ same ∙ e))
+sizes_one i vs us s r ms ns m n (none a b c d) (primitive before v t ls l k h free ends plain f e g) same = absurd (none_more before v (sym a ∙ same ∙ e))
 sizes_one i vs us s r ms ns m n (none a b c d) (constructed before v t ls ks l k h free ends plain f g e z) same = absurd (none_more before v (sym a ∙ same ∙ e))
 sizes_one i vs us s r ms ns m n (part before v l h inner e f) (none a b c d) same = absurd (none_more before v (sym a ∙ sym same ∙ e))
-sizes_one i vs us s r ms ns m n (primitive before v t ls l k q h free ends plain size f e g) (none a b c d) same = absurd (none_more before v (sym a ∙ sym same ∙ e))
+sizes_one i vs us s r ms ns m n (primitive before v t ls l k h free ends plain f e g) (none a b c d) same = absurd (none_more before v (sym a ∙ sym same ∙ e))
 sizes_one i vs us s r ms ns m n (constructed before v t ls ks l k h free ends plain f g e z) (none a b c d) same = absurd (none_more before v (sym a ∙ sym same ∙ e))
 sizes_one i vs us s r ms ns m n (part b1 v1 l1 h1 in1 e1 f1) (part b2 v2 l2 h2 in2 e2 f2) same =
     let q = last_one b1 b2 v1 v2 (sym e1 ∙ same ∙ e2) in
     let x = sizes_one i b1 b2 s r ms ns l1 l2 h1 h2 q.0 in
     (x.0, x.1, f1 ∙ ap (λ z. z + part_size v1.constructed v1.number (content_of i v1)) x.2 ∙ ap (λ (z : Visited). l2 + part_size z.constructed z.number (content_of i z)) q.1 ∙ sym f2)
-sizes_one i vs us s r ms ns m n (part b1 v1 l1 h1 in1 e1 f1) (primitive b2 v2 t2 ls2 l2 k2 n2 h2 free2 ends2 plain2 size2 f2 e2 g2) same =
+sizes_one i vs us s r ms ns m n (part b1 v1 l1 h1 in1 e1 f1) (primitive b2 v2 t2 ls2 l2 k2 h2 free2 ends2 plain2 f2 e2 g2) same =
     let q = last_one b1 b2 v1 v2 (sym e1 ∙ same ∙ e2) in
     let x = sizes_one i b1 b2 s t2 ms ls2 l1 l2 h1 h2 q.0 in
     differ (sym in1 ∙ ap (λ z. is_part z v1) x.0 ∙ ap (is_part t2) q.1 ∙ free2)
@@ -71,7 +57,7 @@ sizes_one i vs us s r ms ns m n (part b1 v1 l1 h1 in1 e1 f1) (constructed b2 v2 
     let q = last_one b1 b2 v1 v2 (sym e1 ∙ same ∙ e2) in
     let x = sizes_one i b1 b2 s t2 ms ls2 l1 l2 h1 h2 q.0 in
     differ (sym in1 ∙ ap (λ z. is_part z v1) x.0 ∙ ap (is_part t2) q.1 ∙ free2)
-sizes_one i vs us s r ms ns m n (primitive b1 v1 t1 ls1 l1 k1 n1 h1 free1 ends1 plain1 size1 f1 e1 g1) (part b2 v2 l2 h2 in2 e2 f2) same =
+sizes_one i vs us s r ms ns m n (primitive b1 v1 t1 ls1 l1 k1 h1 free1 ends1 plain1 f1 e1 g1) (part b2 v2 l2 h2 in2 e2 f2) same =
     let q = last_one b1 b2 v1 v2 (sym e1 ∙ same ∙ e2) in
     let x = sizes_one i b1 b2 t1 r ls1 ns l1 l2 h1 h2 q.0 in
     differ (sym in2 ∙ ap (is_part r) (sym q.1) ∙ ap (λ z. is_part z v1) (sym x.0) ∙ free1)
@@ -79,20 +65,19 @@ sizes_one i vs us s r ms ns m n (constructed b1 v1 t1 ls1 ks1 l1 k1 h1 free1 end
     let q = last_one b1 b2 v1 v2 (sym e1 ∙ same ∙ e2) in
     let x = sizes_one i b1 b2 t1 r ls1 ns l1 l2 h1 h2 q.0 in
     differ (sym in2 ∙ ap (is_part r) (sym q.1) ∙ ap (λ z. is_part z v1) (sym x.0) ∙ free1)
-sizes_one i vs us s r ms ns m n (primitive b1 v1 t1 ls1 l1 k1 n1 h1 free1 ends1 plain1 size1 f1 e1 g1) (constructed b2 v2 t2 ls2 ks2 l2 k2 h2 free2 ends2 plain2 f2 g2 e2 z2) same =
+sizes_one i vs us s r ms ns m n (primitive b1 v1 t1 ls1 l1 k1 h1 free1 ends1 plain1 f1 e1 g1) (constructed b2 v2 t2 ls2 ks2 l2 k2 h2 free2 ends2 plain2 f2 g2 e2 z2) same =
     let q = last_one b1 b2 v1 v2 (sym e1 ∙ same ∙ e2) in
     differ (sym plain2 ∙ ap (λ (z : Visited). z.constructed) (sym q.1) ∙ plain1)
-sizes_one i vs us s r ms ns m n (constructed b1 v1 t1 ls1 ks1 l1 k1 h1 free1 ends1 plain1 f1 g1 e1 z1) (primitive b2 v2 t2 ls2 l2 k2 n2 h2 free2 ends2 plain2 size2 f2 e2 g2) same =
+sizes_one i vs us s r ms ns m n (constructed b1 v1 t1 ls1 ks1 l1 k1 h1 free1 ends1 plain1 f1 g1 e1 z1) (primitive b2 v2 t2 ls2 l2 k2 h2 free2 ends2 plain2 f2 e2 g2) same =
     let q = last_one b1 b2 v1 v2 (sym e1 ∙ same ∙ e2) in
     differ (sym plain1 ∙ ap (λ (z : Visited). z.constructed) q.1 ∙ plain2)
-sizes_one i vs us s r ms ns m n (primitive b1 v1 t1 ls1 l1 k1 n1 h1 free1 ends1 plain1 size1 f1 e1 g1) (primitive b2 v2 t2 ls2 l2 k2 n2 h2 free2 ends2 plain2 size2 f2 e2 g2) same =
+sizes_one i vs us s r ms ns m n (primitive b1 v1 t1 ls1 l1 k1 h1 free1 ends1 plain1 f1 e1 g1) (primitive b2 v2 t2 ls2 l2 k2 h2 free2 ends2 plain2 f2 e2 g2) same =
     let q = last_one b1 b2 v1 v2 (sym e1 ∙ same ∙ e2) in
     let x = sizes_one i b1 b2 t1 t2 ls1 ls2 l1 l2 h1 h2 q.0 in
-    let y = ends_one v1.depth ls1 ls2 ms ns l1 l2 k1 k2 ends1 (subst (λ (z : Visited). Ends z.depth ls2 l2 ns k2) (sym q.1) ends2) x.1 x.2 in
-    let w = value_one v1.class v1.number (content_of i v1) n1 n2 size1 (subst (λ (z : Visited). HasValueSize z.class z.number (content_of i z) n2) (sym q.1) size2) in (
+    let y = ends_one v1.depth ls1 ls2 ms ns l1 l2 k1 k2 ends1 (subst (λ (z : Visited). Ends z.depth ls2 l2 ns k2) (sym q.1) ends2) x.1 x.2 in (
       g1 ∙ ap parts_of q.1 ∙ sym g2,
       y.0,
-      f1 ∙ ap (λ z. z + length (identifier v1.class v1.constructed v1.number) + with_length n1) y.1 ∙ ap (λ (z : Visited). k2 + length (identifier z.class z.constructed z.number) + with_length n1) q.1 ∙ ap (λ z. k2 + length (identifier v2.class v2.constructed v2.number) + with_length z) w ∙ sym f2,
+      f1 ∙ ap (λ z. z + length (identifier v1.class v1.constructed v1.number) + with_length (length (content_of i v1))) y.1 ∙ ap (λ (z : Visited). k2 + length (identifier z.class z.constructed z.number) + with_length (length (content_of i z))) q.1 ∙ sym f2,
     )
 sizes_one i vs us s r ms ns m n (constructed b1 v1 t1 ls1 ks1 l1 k1 h1 free1 ends1 plain1 f1 g1 e1 z1) (constructed b2 v2 t2 ls2 ks2 l2 k2 h2 free2 ends2 plain2 f2 g2 e2 z2) same =
     let q = last_one b1 b2 v1 v2 (sym e1 ∙ same ∙ e2) in

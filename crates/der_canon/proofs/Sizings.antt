@@ -1,5 +1,6 @@
 -- One more piece that is counted.
 use Rattle.std.proofs.Common.{◌≡◌, ℕ, ◌+◌, ◌^◌, ◌≤◌, ◌⊎◌, Bool, true, false, Option, Some, None, List, [], ◌∷◌, ◌++◌, length, OnSome, is_some, refl, sym, ap, subst, ◌∙◌, inl, inr, arith}
+use Rattle.der_base.specs.Octets.{identifier}
 use Rattle.der_walk.specs.declared.element.Element.{Element}
 use Rattle.der_walk.specs.Visits.{Visited}
 use Rattle.der_walk.specs.Walked.{HasOctets, visited_of}
@@ -9,7 +10,7 @@ use Rattle.der_canon.specs.declared.piece.Pieces.{Pieces}
 use Rattle.der_canon.specs.declared.size.Sizes.{Sizes}
 use Rattle.der_canon.specs.Pieces.{IsForm, depth_of}
 use Rattle.der_canon.specs.Same.{content_of, is_part, parts_of}
-use Rattle.der_canon.specs.Sizes.{HasSizes, HasValueSize, part, part_size, with_length}
+use Rattle.der_canon.specs.Sizes.{HasSizes, part, part_size, with_length}
 use Rattle.der_canon.specs.Sizes.{primitive as primitive_size, constructed as constructed_size}
 use Rattle.der_canon.specs.Sizing.{AddsElement, AddsPart, AddsPiece, ComesTo, cost, costs, most, primitive, constructed}
 use Rattle.der_canon.proofs.Costs.{costs_push}
@@ -33,9 +34,9 @@ part_more i vs s e a b h inner g (constructed con around here) =
 
 element_more : (i : List ℕ) (vs : List Visited) (s : Option ℕ) (e : Element) (a b : Sizes) → HasSizes i vs s a.around.items a.here → is_part s (visited_of e) ≡ false
     → HasOctets i e → AddsElement e a b → HasSizes i (vs ++ visited_of e ∷ []) (parts_of (visited_of e)) b.around.items b.here
-element_more i vs s e a b h free g (primitive k n w con ends is size here) =
-    primitive_size vs (visited_of e) s a.around.items a.here k n h free ends con (subst (λ z. HasValueSize e.class e.number z n) (sym (octets_of i e w g is)) size)
-    (here ∙ ap (λ z. k + length z + with_length n) g.identifier) refl refl
+element_more i vs s e a b h free g (primitive k w con ends is here) =
+    primitive_size vs (visited_of e) s a.around.items a.here k h free ends con
+    (here ∙ ap (λ z. k + length z + with_length (length w.now)) g.identifier ∙ ap (λ z. k + length (identifier e.class e.constructed e.number) + with_length (length z)) (sym (octets_of i e w g is))) refl refl
 element_more i vs s e a b h free g (constructed ks k con ends around here) =
     constructed_size vs (visited_of e) s a.around.items ks a.here k h free ends con (around ∙ ap (λ z. ks ++ (k + length z) ∷ []) g.identifier) here refl refl
 

@@ -20,7 +20,7 @@ use Rattle.der_canon.specs.declared.piece.Pieces.{Pieces}
 use Rattle.der_canon.specs.Joined.{HasJoined, IsComplete, TakesPart, contents_in, given}
 use Rattle.der_canon.specs.Pieces.{HasPiece, IsForm, IsWrittenFor, depth_of}
 use Rattle.der_canon.specs.Same.{AreWrittenAs, HasElementsOf, IsHeadedAs, IsPartOf, content_of, contents_of, is_in_parts, is_part, part_number, parts_of, none, one_more, no_extras}
-use Rattle.der_canon.specs.Values.{IsJoined, IsSameValue, Joins, string_content}
+use Rattle.der_canon.specs.Values.{IsJoined, Joins, string_content, value_in_der}
 
 pub not_false : (b : Bool) → not b ≡ false → b ≡ true
 not_false true h = refl
@@ -35,7 +35,7 @@ pub data HasChecked (i o : List ℕ) : List Visited → Option ℕ → List Visi
   nothing : {vs ws : List Visited} {s : Option ℕ} {j : Joined} → vs ≡ [] → s ≡ None → ws ≡ [] → HasChecked i o vs s ws j
   some : {vs ws : List Visited} {s : Option ℕ} {j : Joined} (before written parts : List Visited) (v w : Visited) (t : Option ℕ)
       → AreWrittenAs i o before t written → is_part t v ≡ false → All (IsPartOf v) parts → IsHeadedAs v w
-      → (v.constructed ≡ false → IsSameValue v.class v.number (content_of i v) (content_of o w))
+      → (v.constructed ≡ false → content_of o w ≡ value_in_der v.class v.number (content_of i v))
       → (is_in_parts v ≡ true → (j.is_bits ≡ (v.number == 3)) × HasJoined j (contents_of i parts) (content_of o w))
       → vs ≡ before ++ v ∷ parts → s ≡ parts_of v → ws ≡ written ++ w ∷ [] → HasChecked i o vs s ws j
 
@@ -70,8 +70,7 @@ whole : (i o : List ℕ) (vs ws : List Visited) (s : Option ℕ) (j j' : Joined)
 whole i o vs ws s j j' e f h c free he hf is =
     let v = visited_of e in let w = visited_of f in
     some vs ws [] v w s (close i o vs ws s j h c) free (λ k d l. absurd (omega arith)) is.header
-    (λ k. let q = is.value k in
-    subst (λ z. IsSameValue e.class e.number z (content_of o w)) (sym (octets_of i e q.0 he q.2)) (subst (λ z. IsSameValue e.class e.number q.0.now z) (sym (octets_of o f q.1 hf q.3)) q.4))
+    (λ k. let q = is.value k in octets_of o f q.1 hf q.3 ∙ q.4 ∙ ap (value_in_der e.class e.number) (sym (octets_of i e q.0 he q.2)))
     (λ k. let q = is.joined k in (q.2, subst (HasJoined j' []) (sym (octets_of o f q.0 hf q.1)) q.3))
     refl refl refl
 

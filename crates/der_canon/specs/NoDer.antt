@@ -1,38 +1,27 @@
 -- The elements of BER that DER has no form of, and why.
-use Rattle.std.specs.Prelude.{◌≡◌, ◌≢◌, ℕ, ◌<◌, ◌≤◌, ◌⊎◌, ◌==◌, Bool, true, false, if◌then◌else◌, nat_lt}
+use Rattle.std.specs.Prelude.{◌≡◌, ◌≢◌, ℕ, ◌<◌, ◌==◌, ◌||◌, Bool, false, if◌then◌else◌, nat_lt}
 use Rattle.std.specs.Prelude.{Option, Some, None, List, [], ◌∷◌, ◌++◌, Result, MatchResult}
-use Rattle.der_base.specs.declared.error.Error.{Error as BerError}
-use Rattle.der_base.specs.declared.error.Error.TheVariants.{DerConstraintFailed}
-use Rattle.der_base.specs.declared.error.DerConstraint.TheVariants.{IntegerEmpty, UnusedBitsNotZero}
 use Rattle.der_base.specs.declared.header.Class.{Class}
 use Rattle.der_base.specs.declared.header.Class.TheVariants.{Universal}
-use Rattle.der_base.specs.Leaf.{is_time}
-use Rattle.der_base.specs.LeafRefusal.{IsFirstRefusal, time_tests}
-use Rattle.der_base.specs.Refusal.{refusal}
+use Rattle.der_base.specs.declared.rules.Rules.{Rules}
+use Rattle.der_base.specs.declared.rules.Rules.TheVariants.{Ber, Der}
+use Rattle.der_contents.specs.declared.content_error.ContentError.{ContentError}
+use Rattle.der_contents.specs.ContentRules.{IsFirstBroken, content_rules}
 use Rattle.der_walk.specs.declared.cause.Cause.{Cause}
-use Rattle.der_walk.specs.declared.cause.Cause.TheVariants.{NotDer, OtherPart, UnusedBitsInside, Value}
+use Rattle.der_walk.specs.declared.cause.Cause.TheVariants.{OtherPart, UnusedBitsInside, Value}
 use Rattle.der_walk.specs.Visits.{Visited}
 use Rattle.der_canon.specs.Same.{content_of, is_in_parts, part_number}
+use Rattle.der_canon.specs.Values.{content_in_der}
 
--- the cause of an error of DER: its rule, if it names one
-abbrev pub cause_of : BerError → Cause
-cause_of (DerConstraintFailed rule) = Value (DerConstraintFailed rule)
-cause_of _ = NotDer
+-- By DER a BOOLEAN and the unused bits of a BIT STRING are written as DER has them, so that BER's rules are enough for
+-- their contents.
+abbrev pub rules_of : ℕ → Rules
+rules_of t = if t == 1 || t == 3 then Ber else Der
 
--- BER has a primitive element of this universal type and content, and DER none, for this cause
-pub data HasNoForm (t : ℕ) (w : List ℕ) (c : Cause) : Type 0 where
-  -- an INTEGER or ENUMERATED without octets (8.3.1, 8.4)
-  number : (t ≡ 2) ⊎ (t ≡ 10) → w ≡ [] → c ≡ Value (DerConstraintFailed IntegerEmpty) → HasNoForm t w c
-  -- a NULL with some (8.8.2)
-  null : t ≡ 5 → w ≢ [] → c ≡ NotDer → HasNoForm t w c
-  -- a BIT STRING that says that more than seven bits are unused (8.6.2.2)
-  many_unused : (u : ℕ) (v : List ℕ) → t ≡ 3 → w ≡ u ∷ v → 7 < u → c ≡ NotDer → HasNoForm t w c
-  -- or that some are, where there are none (8.6.2.3)
-  no_bits : (u : ℕ) → t ≡ 3 → w ≡ u ∷ [] → 0 < u → u ≤ 7 → c ≡ Value (DerConstraintFailed UnusedBitsNotZero)
-      → HasNoForm t w c
-  -- a time that isn't in universal time, or without seconds, or with a loose fraction (11.7, 11.8)
-  time : (e : BerError) → is_time t ≡ true → IsFirstRefusal (time_tests t w) (refusal e) → c ≡ cause_of e
-      → HasNoForm t w c
+-- The content w of a primitive element of this universal type, as DER writes it, breaks a rule of DER, for this cause:
+-- a time without Z or without seconds (11.7, 11.8), a REAL that isn't in the form of 11.3.
+abbrev pub HasNoForm : ℕ → List ℕ → Cause → Type 0
+HasNoForm t w c = (e : ContentError) × IsFirstBroken (content_rules Der t (content_in_der t w)) e × (c ≡ Value e)
 
 -- v is inside the string
 abbrev pub is_inside : Option Visited → Visited → Bool

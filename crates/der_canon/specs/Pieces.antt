@@ -16,7 +16,7 @@ use Rattle.der_canon.specs.declared.piece.Pieces.{Pieces}
 use Rattle.der_walk.specs.declared.walk.Walk.{Walk}
 use Rattle.der_canon.specs.Joined.{HasJoined, IsComplete, TakesPart}
 use Rattle.der_canon.specs.Same.{IsHeadedAs, is_in_parts, is_part, parts_of, no_extras}
-use Rattle.der_canon.specs.Values.{IsSameValue}
+use Rattle.der_canon.specs.Values.{value_in_der}
 
 abbrev pub has_header : Form → Bool
 has_header Part = false
@@ -43,7 +43,7 @@ PieceNext i vs s p (Err e) = Unit {0}
 pub record IsWrittenFor (e f : Element) (j : Joined) : Type 0 where
   pub header : IsHeadedAs (visited_of e) (visited_of f)
   pub value : e.constructed ≡ false → (w x : Bor (List ℕ)) × (e.content ≡ Some w) × (f.content ≡ Some x)
-      × IsSameValue e.class e.number w.now x.now
+      × (x.now ≡ value_in_der e.class e.number w.now)
   pub joined : is_in_parts (visited_of e) ≡ true → (x : Bor (List ℕ)) × (f.content ≡ Some x)
       × (j.is_bits ≡ (e.number == 3)) × HasJoined j [] x.now
 

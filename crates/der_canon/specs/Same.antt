@@ -2,14 +2,13 @@
 use Rattle.std.specs.Prelude.{◌≡◌, ℕ, ◌+◌, ◌<◌, Bool, true, false, not, ◌&&◌, ◌||◌, ◌==◌}
 use Rattle.std.specs.Prelude.{nat_lt, if◌then◌else◌, Option, Some, None, unwrap_or, List, [], ◌∷◌, ◌++◌}
 use Rattle.std.specs.List.{All}
-use Rattle.der_base.specs.declared.header.Class.{Class}
 use Rattle.der_base.specs.declared.header.Class.TheVariants.{Universal}
 use Rattle.der_base.specs.Text.{is_one_of, is_within}
 use Rattle.der_base.specs.declared.rules.Rules.TheVariants.{Ber, Der}
 use Rattle.der_check.specs.Elements.{AreElements}
 use Rattle.der_walk.specs.Visits.{Extras, Visited, Visits}
 use Rattle.der_walk.specs.Walked.{between}
-use Rattle.der_canon.specs.Values.{IsJoined, IsSameValue}
+use Rattle.der_canon.specs.Values.{IsJoined, is_universal, value_in_der}
 
 -- nothing is visited but elements
 abbrev pub no_extras : Extras
@@ -19,10 +18,6 @@ no_extras = record { enters_strings = false; keeps_values = false }
 -- times (8.6, 8.7, 8.23, 8.25)
 abbrev pub is_string : ℕ → Bool
 is_string t = is_one_of (3 ∷ 4 ∷ 7 ∷ 12 ∷ 30 ∷ []) t || is_within 18 28 t
-
-abbrev pub is_universal : Class → Bool
-is_universal Universal = true
-is_universal _ = false
 
 -- it is a string in parts
 abbrev pub is_in_parts : Visited → Bool
@@ -68,7 +63,7 @@ pub record IsHeadedAs (v w : Visited) : Type 0 where
 -- same value.
 pub record IsWrittenAs (i o : List ℕ) (v : Visited) (parts : List Visited) (w : Visited) : Type 0 where
   pub header : IsHeadedAs v w
-  pub value : v.constructed ≡ false → IsSameValue v.class v.number (content_of i v) (content_of o w)
+  pub value : v.constructed ≡ false → content_of o w ≡ value_in_der v.class v.number (content_of i v)
   pub joined : is_in_parts v ≡ true → IsJoined (v.number == 3) (contents_of i parts) (content_of o w)
 
 -- In order, ws are written for those of vs that are no parts of a string. More parts of the one at depth s may follow.

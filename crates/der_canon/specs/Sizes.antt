@@ -1,27 +1,15 @@
 -- How many octets DER has for elements.
-use Rattle.std.specs.Prelude.{◌≡◌, ◌≢◌, ℕ, ◌+◌, ◌-◌, ◌≤◌, ◌⊎◌, Bool, true, false, ◌&&◌, ◌==◌, if◌then◌else◌}
+use Rattle.std.specs.Prelude.{◌≡◌, ℕ, ◌+◌, ◌-◌, ◌≤◌, Bool, true, false, ◌&&◌, ◌==◌, if◌then◌else◌}
 use Rattle.std.specs.Prelude.{Option, None, List, [], ◌∷◌, ◌++◌, length}
-use Rattle.der_base.specs.declared.header.Class.{Class}
-use Rattle.der_base.specs.declared.header.Class.TheVariants.{Universal}
 use Rattle.der_base.specs.Octets.{identifier, shortest_length}
 use Rattle.der_base.specs.declared.rules.Rules.TheVariants.{Ber, Der}
 use Rattle.der_check.specs.Elements.{AreElements}
 use Rattle.der_walk.specs.Visits.{Visited, Visits}
 use Rattle.der_canon.specs.Same.{content_of, is_in_parts, is_part, parts_of, no_extras}
-use Rattle.der_canon.specs.Values.{IsSameNumber}
 
 -- a content of so many octets, with its length octets (10.1)
 abbrev pub with_length : ℕ → ℕ
 with_length n = length (shortest_length n) + n
-
--- an INTEGER or an ENUMERATED
-abbrev pub IsNumber : Class → ℕ → Type 0
-IsNumber c t = (c ≡ Universal) × ((t ≡ 2) ⊎ (t ≡ 10))
-
--- the content of a primitive element has so many octets: those of its value, which are fewer for a number alone (8.3.2)
-pub data HasValueSize (c : Class) (t : ℕ) (w : List ℕ) (n : ℕ) : Type 0 where
-  number : (x : List ℕ) → IsNumber c t → w ≢ [] → IsSameNumber w x → n ≡ length x → HasValueSize c t w n
-  other : (IsNumber c t → w ≡ []) → n ≡ length w → HasValueSize c t w n
 
 -- a part gives so many octets to its string: without the octet of a BIT STRING that says how many bits are unused
 abbrev pub part_size : Bool → ℕ → List ℕ → ℕ
@@ -39,7 +27,8 @@ pub data Ends (k : ℕ) : List ℕ → ℕ → List ℕ → ℕ → Type 0 where
       → Ends k around (p + with_length l) ms m → Ends k ls l ms m
 
 -- The elements vs of i were visited, and the contents that go on have so many octets in DER. More parts of the string
--- at depth s may follow. The constructed bit doesn't change how many octets an identifier has (8.1.2).
+-- at depth s may follow. The constructed bit doesn't change how many octets an identifier has (8.1.2), nor does DER
+-- change how many a value has.
 pub data HasSizes (i : List ℕ) : List Visited → Option ℕ → List ℕ → ℕ → Type 0 where
   none : {vs : List Visited} {s : Option ℕ} {ms : List ℕ} {m : ℕ} → vs ≡ [] → s ≡ None → ms ≡ [] → m ≡ 0
       → HasSizes i vs s ms m
@@ -47,10 +36,10 @@ pub data HasSizes (i : List ℕ) : List Visited → Option ℕ → List ℕ → 
       → HasSizes i before s ms l → is_part s v ≡ true → vs ≡ before ++ v ∷ []
       → m ≡ l + part_size v.constructed v.number (content_of i v) → HasSizes i vs s ms m
   primitive : {vs : List Visited} {s : Option ℕ} {ms : List ℕ} {m : ℕ} (before : List Visited) (v : Visited)
-      (t : Option ℕ) (ls : List ℕ) (l k n : ℕ) → HasSizes i before t ls l → is_part t v ≡ false
-      → Ends v.depth ls l ms k → v.constructed ≡ false → HasValueSize v.class v.number (content_of i v) n
-      → m ≡ k + length (identifier v.class v.constructed v.number) + with_length n → vs ≡ before ++ v ∷ []
-      → s ≡ parts_of v → HasSizes i vs s ms m
+      (t : Option ℕ) (ls : List ℕ) (l k : ℕ) → HasSizes i before t ls l → is_part t v ≡ false
+      → Ends v.depth ls l ms k → v.constructed ≡ false
+      → m ≡ k + length (identifier v.class v.constructed v.number) + with_length (length (content_of i v))
+      → vs ≡ before ++ v ∷ [] → s ≡ parts_of v → HasSizes i vs s ms m
   constructed : {vs : List Visited} {s : Option ℕ} {ms : List ℕ} {m : ℕ} (before : List Visited) (v : Visited)
       (t : Option ℕ) (ls ks : List ℕ) (l k : ℕ) → HasSizes i before t ls l → is_part t v ≡ false
       → Ends v.depth ls l ks k → v.constructed ≡ true

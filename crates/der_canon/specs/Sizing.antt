@@ -9,13 +9,13 @@ use Rattle.der_walk.specs.Walked.{visited_of}
 use Rattle.der_canon.specs.declared.piece.Piece.{Piece}
 use Rattle.der_canon.specs.declared.size.Sizes.{Sizes}
 use Rattle.der_canon.specs.Pieces.{has_header}
-use Rattle.der_canon.specs.Sizes.{Ends, HasValueSize, part_size, start_size, with_length}
+use Rattle.der_canon.specs.Sizes.{Ends, part_size, start_size, with_length}
 
 -- an element with a header was added
 pub data AddsElement (e : Element) (a b : Sizes) : Type 0 where
-  primitive : (k n : ℕ) (w : Bor (List ℕ)) → e.constructed ≡ false
+  primitive : (k : ℕ) (w : Bor (List ℕ)) → e.constructed ≡ false
       → Ends e.depth a.around.items a.here b.around.items k → e.content ≡ Some w
-      → HasValueSize e.class e.number w.now n → b.here ≡ k + length e.identifier.now + with_length n → AddsElement e a b
+      → b.here ≡ k + length e.identifier.now + with_length (length w.now) → AddsElement e a b
   constructed : (ks : List ℕ) (k : ℕ) → e.constructed ≡ true → Ends e.depth a.around.items a.here ks k
       → b.around.items ≡ ks ++ (k + length e.identifier.now) ∷ [] → b.here ≡ start_size (visited_of e)
       → AddsElement e a b

@@ -1,50 +1,29 @@
 -- The content octets of a value of BER, as DER writes them.
-use Rattle.std.specs.Prelude.{◌≡◌, ℕ, ◌-◌, ◌%◌, ◌^◌, ◌<◌, ◌≤◌, ◌⊎◌, ◌==◌, Bool, true, false, if◌then◌else◌}
-use Rattle.std.specs.Prelude.{List, [], ◌∷◌, ◌++◌}
+use Rattle.std.specs.Prelude.{◌≡◌, ℕ, ◌==◌, Bool, true, false, if◌then◌else◌, List, [], ◌∷◌, ◌++◌, map}
 use Rattle.der_base.specs.declared.header.Class.{Class}
 use Rattle.der_base.specs.declared.header.Class.TheVariants.{Universal}
-use Rattle.der_base.specs.Laws.{AreOctets}
-use Rattle.der_base.specs.Leaf.{IsMinimalInteger}
-use Rattle.der_base.specs.Octets.{integer_value}
-use Rattle.der_base.specs.Text.{is_one_of}
+use Rattle.der_writer.specs.Octets.{cleared}
+
+abbrev pub is_universal : Class → Bool
+is_universal Universal = true
+is_universal _ = false
 
 -- a BOOLEAN that is true is ff (8.2.2, 11.1)
 abbrev pub boolean_octet : ℕ → ℕ
 boolean_octet b = if b == 0 then 0 else 255
 
-abbrev pub IsSameBoolean : List ℕ → List ℕ → Type 0
-IsSameBoolean w x = (b : ℕ) × (w ≡ b ∷ []) × (x ≡ boolean_octet b ∷ [])
-
--- an INTEGER or ENUMERATED is in the fewest octets (8.3.2)
-pub record IsSameNumber (w x : List ℕ) : Type 0 where
-  pub octets : AreOctets x
-  pub value : integer_value x ≡ integer_value w
-  pub fewest : IsMinimalInteger x
-
--- the octet a has the first bit of w eight times
-abbrev pub RepeatsSign : ℕ → List ℕ → Type 0
-RepeatsSign a [] = ⊥
-RepeatsSign a (b ∷ w) = ((a ≡ 0) × (b < 128)) ⊎ ((a ≡ 255) × (128 ≤ b))
-
--- the last u bits are 0
-abbrev pub cleared_octet : ℕ → ℕ → ℕ
-cleared_octet u b = b - b % 2 ^ u
-
-abbrev pub cleared : ℕ → List ℕ → List ℕ
-cleared u [] = []
-cleared u (b ∷ []) = cleared_octet u b ∷ []
-cleared u (b ∷ c ∷ bs) = b ∷ cleared u (c ∷ bs)
-
 -- the unused bits of a BIT STRING are 0 (11.2.1)
-abbrev pub IsSameBits : List ℕ → List ℕ → Type 0
-IsSameBits w x = (u : ℕ) × (v : List ℕ) × (w ≡ u ∷ v) × (x ≡ u ∷ cleared u v)
+abbrev pub bits_in_der : List ℕ → List ℕ
+bits_in_der [] = []
+bits_in_der (u ∷ w) = u ∷ cleared u w
 
--- the content w of a primitive element of this class and number is x in DER
-pub data IsSameValue (c : Class) (t : ℕ) (w x : List ℕ) : Type 0 where
-  boolean : c ≡ Universal → t ≡ 1 → IsSameBoolean w x → IsSameValue c t w x
-  number : c ≡ Universal → (t ≡ 2) ⊎ (t ≡ 10) → IsSameNumber w x → IsSameValue c t w x
-  bits : c ≡ Universal → t ≡ 3 → IsSameBits w x → IsSameValue c t w x
-  other : (c ≡ Universal → is_one_of (1 ∷ 2 ∷ 3 ∷ 10 ∷ []) t ≡ false) → x ≡ w → IsSameValue c t w x
+-- the content w of a primitive element of the universal type of this number, as DER writes it
+abbrev pub content_in_der : ℕ → List ℕ → List ℕ
+content_in_der t w = if t == 1 then map boolean_octet w else (if t == 3 then bits_in_der w else w)
+
+-- that of an element of this class, which isn't known of another class than Universal
+abbrev pub value_in_der : Class → ℕ → List ℕ → List ℕ
+value_in_der c t w = if is_universal c then content_in_der t w else w
 
 -- The parts of a string have these contents, one after another, and together these octets, of which so many bits are
 -- unused. Those of a BIT STRING say how many bits are unused, which are only in the last one (8.6.4).

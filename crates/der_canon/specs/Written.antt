@@ -1,6 +1,5 @@
 -- What is written as DER writes it.
 use Rattle.std.specs.Prelude.{◌≡◌, ℕ, ◌≤◌, Bool, true, false, List, length, take, Result, Ok, IfOk}
-use Rattle.der_base.specs.declared.error.Error.TheVariants.{DerConstraintFailed}
 use Rattle.der_base.specs.declared.rules.Rules.TheVariants.{Ber, Der}
 use Rattle.der_check.specs.Elements.{AreElements}
 use Rattle.der_nodes.specs.Places.{overlay}
@@ -18,12 +17,12 @@ WritesDer i new result = IfOk result (λ n. IsSizeOf i n × (n ≤ length new �
 abbrev pub KeepsDer : {E : Type 0} → List ℕ → List ℕ → List ℕ → Result ℕ E → Type 0
 KeepsDer i old new result = AreElements Der 101 i → (result ≡ Ok (length i)) × (new ≡ overlay old 0 i)
 
--- the cause says that an element of BER has no DER
+-- the cause may be that an element of BER has no DER
 abbrev pub is_about_der : Cause → Bool
 is_about_der OtherPart = true
 is_about_der UnusedBitsInside = true
 is_about_der NotDer = true
-is_about_der (Value (DerConstraintFailed rule)) = true
+is_about_der (Value e) = true
 is_about_der cause = false
 
 -- every other cause is a rule of BER that the input breaks

@@ -7,14 +7,13 @@ ghost use Rattle.der_canon.specs.Errors.{AllHaveDer, IsAll, IsErrorAt, IsErrorAt
 ghost use Rattle.der_canon.specs.Joined.{IsComplete};
 ghost use Rattle.der_canon.specs.Pieces.{HasElement, HasPiece, IsWrittenFor};
 ghost use Rattle.der_canon.specs.Same.{HasElementsOf, IsHeadedAs, no_extras};
-ghost use Rattle.der_canon.specs.Values.{IsSameValue};
+ghost use Rattle.der_canon.specs.Values.{value_in_der};
 ghost use Rattle.der_canon.specs.Written.{is_about_der};
 
-use crate::content::{is_same_bits, is_same_boolean, is_same_number};
+use crate::content::{is_same_bits, is_same_boolean};
 use crate::error::NotCanonical;
 use crate::joined::Joined;
 use crate::piece::{Piece, Pieces, is_in_parts, refuse};
-use der_base::error::BerError;
 use der_base::header::Class;
 use der_base::rules::Rules;
 use der_walk::{Cause, Element, Refusal, Step, Walk};
@@ -130,12 +129,12 @@ impl<'a> Checker<'a> {
     }
 }
 
-/// The cause of an error of what was written: a rule of DER, if it names one.
+/// The cause of an error of what was written: the rule that a content breaks, if it is one.
 fn cause_in_der(cause: Cause) -> Cause
     ensures { is_about_der result ≡ true }
 {
     match cause {
-        Cause::Value(BerError::DerConstraintFailed(_)) => cause,
+        Cause::Value(_) => cause,
         _ => Cause::NotDer,
     }
 }
@@ -174,14 +173,13 @@ fn is_headed_as(element: &Element<'_>, written: &Element<'_>) -> bool
 
 /// Whether what was written is the content of a primitive element, as DER writes it.
 fn is_same_value(element: &Element<'_>, content: &[u8], written: &[u8]) -> bool
-    ensures { IsTrue result → IsSameValue element.now.class element.now.number content.now written.now }
+    ensures { IsTrue result → written.now ≡ value_in_der element.now.class element.now.number content.now }
 {
     if element.class != Class::Universal {
         return written == content;
     }
     match element.number {
         1 => is_same_boolean(content, written),
-        2 | 10 => is_same_number(content, written),
         3 => is_same_bits(content, written),
         _ => written == content,
     }

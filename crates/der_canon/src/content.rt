@@ -1,53 +1,7 @@
 //! The content octets that DER gives a value.
-ghost use Rattle.std.specs.Prelude.{◌≡◌, ◌≢◌, ◌++◌, ◌∷◌, ◌+◌, ◌≤◌, [], ℕ, length};
-ghost use Rattle.std.specs.Prelude.{IfSome, IsTrue, MatchBool, MatchOption};
-ghost use Rattle.der_base.specs.Leaf.{IsMinimalInteger};
-ghost use Rattle.der_canon.specs.Values.{IsSameBits, IsSameBoolean, IsSameNumber, RepeatsSign};
-ghost use Rattle.der_canon.specs.Values.{boolean_octet, cleared, cleared_octet};
-
-/// The content octets of an INTEGER or ENUMERATED without those that the fewest octets don't have (X.690 8.3.2).
-pub(crate) fn shortest_number(octets: &[u8]) -> &[u8]
-    ensures number { octets.now ≢ [] → IsSameNumber octets.now result.now }
-    ensures most { length result.now ≤ length octets.now }
-{
-    let mut shortest = octets;
-    for _ in octets {
-        match without_first(shortest) {
-            Some(rest) => shortest = rest,
-            None => return shortest,
-        }
-    }
-    shortest
-}
-
-/// The octets of a number without the first, if the number is the same without it.
-fn without_first(octets: &[u8]) -> Option<&[u8]>
-    ensures { MatchOption result (octets.now ≢ [] → IsMinimalInteger octets.now)
-        (λ x. (a : ℕ) × (octets.now ≡ a ∷ x.now) × RepeatsSign a x.now) }
-{
-    let Some((first, rest)) = octets.split_first() else {
-        return None;
-    };
-    if repeats_sign(*first, rest) {
-        Some(rest)
-    } else {
-        None
-    }
-}
-
-/// Whether the first octet has the first bit of the others eight times.
-fn repeats_sign(first: u8, others: &[u8]) -> bool
-    ensures { MatchBool result (RepeatsSign first others.now) (IsMinimalInteger (first ∷ others.now)) }
-{
-    let Some((next, _)) = others.split_first() else {
-        return false;
-    };
-    if *next < 128 {
-        first == 0
-    } else {
-        first == 255
-    }
-}
+ghost use Rattle.std.specs.Prelude.{◌≡◌, ◌++◌, ◌-◌, ◌%◌, ◌^◌, IfSome, IsTrue, map};
+ghost use Rattle.der_writer.specs.Octets.{cleared};
+ghost use Rattle.der_canon.specs.Values.{bits_in_der, boolean_octet};
 
 /// The content octet of a BOOLEAN: 00, or ff for any other (11.1).
 pub(crate) fn boolean(octet: u8) -> u8
@@ -58,7 +12,7 @@ pub(crate) fn boolean(octet: u8) -> u8
 
 /// The last octet of a BIT STRING with its unused bits set to 0 (11.2.1).
 pub(crate) fn without_unused(octet: u8, unused: u8) -> u8
-    ensures { result ≡ cleared_octet unused octet }
+    ensures { result ≡ octet - octet % 2 ^ unused }
 {
     match unused {
         0 => octet,
@@ -73,16 +27,9 @@ pub(crate) fn without_unused(octet: u8, unused: u8) -> u8
     }
 }
 
-/// Whether a number was written in the fewest octets.
-pub(crate) fn is_same_number(content: &[u8], written: &[u8]) -> bool
-    ensures { IsTrue result → IsSameNumber content.now written.now }
-{
-    !content.is_empty() && written == shortest_number(content)
-}
-
 /// Whether a BOOLEAN was written as 00 or ff.
 pub(crate) fn is_same_boolean(content: &[u8], written: &[u8]) -> bool
-    ensures { IsTrue result → IsSameBoolean content.now written.now }
+    ensures { IsTrue result → written.now ≡ map boolean_octet content.now }
 {
     match (content, written) {
         ([octet], [other]) => *other == boolean(*octet),
@@ -92,7 +39,7 @@ pub(crate) fn is_same_boolean(content: &[u8], written: &[u8]) -> bool
 
 /// Whether the bits of a BIT STRING were written, and 0 for those that are unused.
 pub(crate) fn is_same_bits(content: &[u8], written: &[u8]) -> bool
-    ensures { IsTrue result → IsSameBits content.now written.now }
+    ensures { IsTrue result → written.now ≡ bits_in_der content.now }
 {
     let (Some((unused, bits)), Some((first, others))) = (
         content.split_first(),

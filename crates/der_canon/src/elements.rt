@@ -18,9 +18,9 @@ use der_walk::{MAX_DEPTH, Walk};
 use std::alloc::Global;
 
 /// Writes elements that are read by BER as DER writes them, to a buffer: lengths in the fewest octets (X.690 10.1),
-/// strings primitive (10.2), BOOLEANs as 00 or ff (11.1), unused bits as 0 (11.2.1), numbers in the fewest octets
-/// (8.3.2). The order of a SET OF, default values and the types of elements of other classes aren't known here, so
-/// they stay as they are. Other values that DER doesn't have, as a time without seconds, are refused.
+/// strings primitive (10.2), BOOLEANs as 00 or ff (11.1), unused bits as 0 (11.2.1). The order of a SET OF, default
+/// values and the types of elements of other classes aren't known here, so they stay as they are. Other values that DER
+/// doesn't have, as a time without seconds, are refused.
 ///
 /// Returns how many octets there are, room or not. If the buffer has room for them, they are in front of it, and are
 /// elements of DER: those of the input but the parts of strings, each with its class, number, depth and value. If it
@@ -28,11 +28,11 @@ use std::alloc::Global;
 /// that are DER already are copied. It takes no memory, and the buffer keeps what follows them.
 ///
 /// An error is the first fault of the input, with its offset and its path: where it isn't elements of BER, or its first
-/// element that DER has no form of. These have the causes `OtherPart`, `UnusedBitsInside`, `NotDer` or a broken rule of
-/// DER: a number without octets (8.3.1), a NULL with octets (8.8.2), more than seven unused bits or some of no octet
-/// (8.6.2), a time that isn't as DER writes it (11.7, 11.8), and a part of another type or after unused bits (8.6.4,
-/// 8.7.3). The content of a string in parts is looked at after all these. Where DER has more octets than a usize
-/// counts, the cause is NotDer and the offset 0: only an input of 2^60 octets or more can have so many.
+/// element that DER has no form of. These have the causes `OtherPart` and `UnusedBitsInside`, for a part of another
+/// type or after unused bits (8.6.4, 8.7.3), and `Value`, for a content that breaks a rule of DER as it would be
+/// written: a time without Z or seconds (11.7, 11.8), a REAL in another form than that of 11.3. The content of a string
+/// in parts is looked at after all these. Where DER has more octets than a usize counts, the cause is `NotDer` and the
+/// offset 0: only an input of 2^60 octets or more can have so many.
 ///
 /// ```
 /// let mut out = [0; 8];

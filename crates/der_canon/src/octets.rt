@@ -1,7 +1,11 @@
 //! Octets in a buffer, which are written as far as there is room.
-ghost use Rattle.std.specs.Prelude.{◌≡◌, ◌≤◌, length};
-ghost use Rattle.der_base.specs.Octets.{octets, shortest_length};
+ghost use Rattle.std.specs.Prelude.{◌≡◌};
 ghost use Rattle.der_nodes.specs.Places.{overlay};
+
+use der_octets::header::{length_octet_count, write_length};
+
+/// How many octets a length has at most.
+const LENGTH_OCTETS: usize = 9;
 
 /// Writes octets at the start of a buffer.
 pub(crate) fn copy(out: &mut [u8], octets: &[u8])
@@ -27,42 +31,10 @@ pub(crate) fn move_up(out: &mut [u8], start: usize, end: usize, by: usize) {
     }
 }
 
-/// How many octets a length has, if it has as few as possible (X.690 10.1).
-#[tactic(auto, unfolding(der_base::specs::Octets::shortest_length))]
-pub(crate) fn length_size(size: usize) -> usize
-    ensures count { result ≡ length (shortest_length size) }
-    ensures few { (1 ≤ result) × (result ≤ 9) }
-{
-    if size < 128 { 1 } else { 1 + octet_count(size) }
-}
-
-/// How many octets a number has, none for 0.
-#[tactic(auto, using(der_base::proofs::Octets::Numbers::octets_leading))]
-fn octet_count(number: usize) -> usize
-    ensures count { result ≡ length (octets number) }
-    ensures few { result ≤ 8 }
-{
-    8 - number.leading_zeros() as usize / 8
-}
-
-/// How many octets a length has after the first.
-pub(crate) fn further_octets(size: usize) -> usize
-    ensures { result ≤ 8 }
-{
-    length_size(size) - 1
-}
-
-/// Writes a length in the fewest octets from an offset on (8.1.3.4, 8.1.3.5).
+/// Writes a length in the fewest octets from an offset on (X.690 8.1.3.4, 8.1.3.5, 10.1).
 pub(crate) fn put_length(out: &mut [u8], at: usize, length: usize) {
-    let further = further_octets(length);
-    if further == 0 {
-        return put_octets(out, at, &[(length % 128) as u8]);
-    }
-    put_octets(out, at, &[0x80 + further as u8]);
-    let mut left = length;
-    for place in (0..further).rev() {
-        let octet = (left % 256) as u8;
-        put_octets(out, at.saturating_add(1).saturating_add(place), &[octet]);
-        left /= 256;
-    }
+    let mut room = [0; LENGTH_OCTETS];
+    let begin = LENGTH_OCTETS - length_octet_count(length);
+    write_length(&mut room, LENGTH_OCTETS, length);
+    put_octets(out, at, &room[begin..]);
 }

@@ -1,19 +1,17 @@
 //! How many octets elements have in DER.
-ghost use Rattle.std.specs.Prelude.{◌≡◌, ◌↔◌, ◌+◌, ◌++◌, ◌∷◌, [], IfErr};
-ghost use Rattle.std.specs.Prelude.{IfOk, IfSome, IsTrue, MatchOption, OnOk, OnSome, false, length, ◌^◌, ◌≤◌};
-ghost use Rattle.der_base.specs.Octets.{shortest_length};
+ghost use Rattle.std.specs.Prelude.{◌≡◌, ◌+◌, ◌++◌, ◌∷◌, [], IfErr};
+ghost use Rattle.std.specs.Prelude.{IfOk, IfSome, MatchOption, OnOk, OnSome, false, length, ◌^◌, ◌≤◌};
 ghost use Rattle.der_canon.specs.Errors.{AllHaveDer, IsAll, IsErrorOf};
-ghost use Rattle.der_canon.specs.Sizes.{Ends, HasSize, HasValueSize, IsNumber, part_size, start_size, with_length};
+ghost use Rattle.der_canon.specs.Sizes.{Ends, HasSize, part_size, start_size, with_length};
 ghost use Rattle.der_canon.specs.Sizing.{AddsElement, AddsPart, AddsPiece, ComesTo, IsFound, cost, most};
 ghost use Rattle.der_walk.specs.Walked.{visited_of};
 
 use crate::check::refuse_all;
-use crate::content::shortest_number;
 use crate::error::NotCanonical;
-use crate::octets::length_size;
 use crate::piece::{Piece, Pieces, is_in_parts};
 use arrayvec::ArrayVec;
 use der_base::rules::Rules;
+use der_octets::header::length_octet_count;
 use der_walk::{Element, MAX_DEPTH, Walk};
 
 /// How many elements are open at most: one at each depth.
@@ -110,7 +108,7 @@ impl Sizes {
             self.begin(start_size(element));
             return Some(());
         }
-        let size = with_length(value_size(element, element.content?))?;
+        let size = with_length(element.content?.len())?;
         self.grow(size)
     }
 
@@ -166,29 +164,7 @@ fn with_length(content: usize) -> Option<usize>
     ensures size { IfSome result (λ n. n ≡ with_length content) }
     ensures most { MatchOption result (2 ^ 64 ≤ content + 9) (λ n. n ≤ content + 9) }
 {
-    length_size(content).checked_add(content)
-}
-
-/// How many octets the content of a primitive element has.
-fn value_size(element: &Element<'_>, content: &[u8]) -> usize
-    ensures size { HasValueSize element.now.class element.now.number content.now result }
-    ensures most { result ≤ length content.now }
-{
-    if content.is_empty() {
-        return 0;
-    }
-    if is_number(element) {
-        shortest_number(content).len()
-    } else {
-        content.len()
-    }
-}
-
-/// Whether an element is an INTEGER or an ENUMERATED.
-fn is_number(element: &Element<'_>) -> bool
-    ensures { IsTrue result ↔ IsNumber element.now.class element.now.number }
-{
-    element.is_universal(2) || element.is_universal(10)
+    length_octet_count(content).checked_add(content)
 }
 
 /// How many octets a string in parts has before those of its parts: the one of a BIT STRING for its unused bits.

@@ -1,13 +1,12 @@
 //! Values of BER that DER has no form of.
-ghost use Rattle.std.specs.Prelude.{◌≡◌, ℕ, List, false, true};
-ghost use Rattle.der_base.specs.Leaf.{is_time};
+ghost use Rattle.std.specs.Prelude.{◌≡◌, ℕ, List, false};
 ghost use Rattle.der_walk.specs.Walked.{HasOctets, visited_of};
-ghost use Rattle.der_canon.specs.NoDer.{ChecksForm, ChecksValue, cause_of};
+ghost use Rattle.der_canon.specs.NoDer.{ChecksForm, ChecksValue, rules_of};
 ghost use Rattle.der_canon.specs.Same.{content_of};
 
-use der_base::error::{BerError, DerConstraint};
-use der_base::header::{Class, Tag};
-use der_base::time::read_der_time;
+use der_base::header::Class;
+use der_base::rules::Rules;
+use der_contents::check_content;
 use der_walk::{Cause, Element};
 
 /// Checks that DER has a form of a primitive element of BER that is no part of a string.
@@ -25,50 +24,19 @@ pub(crate) fn check_value(element: &Element<'_>) -> Result<(), Cause>
 fn check_form(number: u32, content: &[u8]) -> Result<(), Cause>
     ensures { ChecksForm number content.now result }
 {
+    match check_content(rules_of(number), number, content) {
+        Ok(()) => Ok(()),
+        Err(e) => Err(Cause::Value(e)),
+    }
+}
+
+/// The rules that a content has to keep before it is written. A BOOLEAN and the unused bits of a BIT STRING are written
+/// as DER has them.
+fn rules_of(number: u32) -> Rules
+    ensures { result ≡ rules_of number }
+{
     match number {
-        2 | 10 if content.is_empty() => {
-            Err(Cause::Value(BerError::DerConstraintFailed(DerConstraint::IntegerEmpty)))
-        }
-        3 => check_bits(content),
-        5 if !content.is_empty() => Err(Cause::NotDer),
-        23 | 24 => check_time(Tag(number), content),
-        _ => Ok(()),
-    }
-}
-
-/// Checks how many bits of a BIT STRING are unused: at most seven, and none where there are none (8.6.2).
-fn check_bits(content: &[u8]) -> Result<(), Cause>
-    ensures { ChecksForm 3 content.now result }
-{
-    let Some((unused, bits)) = content.split_first() else {
-        return Ok(());
-    };
-    if *unused > 7 {
-        return Err(Cause::NotDer);
-    }
-    if *unused > 0 && bits.is_empty() {
-        return Err(Cause::Value(BerError::DerConstraintFailed(DerConstraint::UnusedBitsNotZero)));
-    }
-    Ok(())
-}
-
-/// Checks a time (11.7, 11.8).
-fn check_time(tag: Tag, content: &[u8]) -> Result<(), Cause>
-    requires { is_time tag.0 ≡ true }
-    ensures { ChecksForm tag.0 content.now result }
-{
-    match read_der_time(tag, content) {
-        Ok(_) => Ok(()),
-        Err(e) => Err(cause_of(e)),
-    }
-}
-
-/// The cause of an error of DER.
-fn cause_of(e: BerError) -> Cause
-    ensures { result ≡ cause_of e }
-{
-    match e {
-        BerError::DerConstraintFailed(_) => Cause::Value(e),
-        _ => Cause::NotDer,
+        1 | 3 => Rules::Ber,
+        _ => Rules::Der,
     }
 }

@@ -1,9 +1,10 @@
 //! Writing from the first octet to the last. How long a content is shows at its end. Then its length is written in
 //! prefix of it, and the content moves up if the length has more than one octet.
-use crate::content::{boolean, shortest_number, without_unused};
-use crate::octets::{further_octets, move_up, put_length, put_octets};
+use crate::content::{boolean, without_unused};
+use crate::octets::{move_up, put_length, put_octets};
 use crate::piece::{Form, Piece, Pieces};
 use arrayvec::ArrayVec;
+use der_octets::header::length_octet_count;
 use der_walk::{Element, MAX_DEPTH};
 
 /// How many elements are open at most: one at each depth.
@@ -67,7 +68,7 @@ impl Writer {
     /// Writes the length of the content that begins here, and ends where all ends so far.
     fn complete_content(&mut self, out: &mut [u8], start: usize) {
         let length = self.end.saturating_sub(start);
-        let further = further_octets(length);
+        let further = length_octet_count(length).saturating_sub(1);
         move_up(out, start, self.end, further);
         put_length(out, start.saturating_sub(1), length);
         self.end = self.end.saturating_add(further);
@@ -111,9 +112,6 @@ impl Writer {
         self.put(out, element.identifier);
         let octets = element.content.unwrap_or(&[]);
         match octets {
-            _ if element.is_universal(2) || element.is_universal(10) => {
-                self.put_content(out, shortest_number(octets));
-            }
             [octet] if element.is_universal(1) => self.put_content(out, &[boolean(*octet)]),
             [unused, bits @ ..] if element.is_universal(3) => {
                 self.put_length(out, octets.len());
@@ -132,10 +130,7 @@ impl Writer {
 
     fn put_length(&mut self, out: &mut [u8], length: usize) {
         put_length(out, self.end, length);
-        self.end = self
-            .end
-            .saturating_add(1)
-            .saturating_add(further_octets(length));
+        self.end = self.end.saturating_add(length_octet_count(length));
     }
 
     /// Writes the bits of a BIT STRING, and 0 for those that are unused.

@@ -28,9 +28,9 @@ returns-clause-adds c =
     let a = c.args.self.now in
     let e = c.args.element.now in
     both_some c.grow-2.result _ _ _
-    (λ p q. primitive ended.here c.value_size.result c.in_ok-element.field-0 c.if-element.false
+    (λ p q. primitive ended.here c.in_ok-element.field-0 c.if-element.false
     (subst (λ v. Ends e.depth a.around.items a.here v.items ended.here) (sym (p ∙ c.in_ok-grow.ensures.around)) c.in_ok-end.ensures.ends)
-    c.in_ok-element.was c.value_size.ensures.size
+    c.in_ok-element.was
     (q ∙ ap (λ z. z + c.in_ok-size.size) c.in_ok-grow.ensures.here ∙ ap (λ z. ended.here + length e.identifier.now + z) c.in_ok-size.ensures.size))
     c.grow-2.ensures.around c.grow-2.ensures.here
 
@@ -39,5 +39,5 @@ returns-clause-most c =
     let e = c.args.element.now in
     let n = cost_of e c.in_ok-element.field-0 c.requires c.if-element.false c.in_ok-element.was in
     comes_more (most c.grow.new.self + c.in_ok-size.size) (most c.args.self.now + cost (visited_of e)) _ c.grow-2.result
-    (omega (arith, n, c.value_size.ensures.most, c.in_ok-size.ensures.most, c.in_ok-grow.ensures.most, c.in_ok-end.ensures.most))
+    (omega (arith, n, c.in_ok-size.ensures.most, c.in_ok-grow.ensures.most, c.in_ok-end.ensures.most))
     c.grow-2.ensures.most
