@@ -10,11 +10,11 @@ use Rattle.der_base.specs.declared.header.Class.TheVariants.{Universal, Applicat
 use Rattle.der_base.specs.declared.time.ASN1DateTime.{ASN1DateTime}
 use Rattle.der_base.specs.declared.time.ASN1TimeZone.{ASN1TimeZone}
 use Rattle.der_base.specs.declared.time.ASN1TimeZone.TheVariants.{Undefined, Z, Offset}
-use Rattle.der_base.specs.Arcs.{arcs}
 use Rattle.der_base.specs.Octets.{integer_value}
 use Rattle.der_base.specs.Pretty.{dotted, hex_pair}
 use Rattle.der_base.specs.Text.{is_one_of, is_text_type, is_visible}
 use Rattle.der_base.specs.Time.{IsTimeText, at_least_digits, rfc5280_year}
+use Rattle.der_values.specs.ArcNumbers.{u128_arcs}
 use Rattle.oid_names.specs.Tables.{HasLine}
 use Rattle.oid_names.specs.declared.table.TheConstants.{NAMES}
 use Rattle.der_print.specs.declared.style.Limit.{Limit}
@@ -71,12 +71,13 @@ point_before true (b ∷ w) = codes "."
 point_before relative w = []
 
 -- an identifier: its arcs with points between them, a relative one after a point, or its octets where they are no arcs
+-- below 2^128
 abbrev pub text_of_arcs : Option (List ℕ) → Bool → List ℕ → List ℕ
 text_of_arcs (Some numbers) relative w = point_before relative w ++ dotted numbers
 text_of_arcs None relative w = codes "octets " ++ encode_lower w
 
 abbrev pub identifier_text : Bool → List ℕ → List ℕ
-identifier_text relative w = text_of_arcs (arcs relative w) relative w
+identifier_text relative w = text_of_arcs (u128_arcs relative w) relative w
 
 -- the name of the identifier with these content octets
 abbrev pub IsNameOf : List ℕ → List ℕ → Type 0

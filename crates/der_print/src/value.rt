@@ -19,8 +19,8 @@ use crate::text::{Quoted, is_printable_ascii};
 use crate::time::Moment;
 use der_base::header::{Class, Tag};
 use der_base::time::read_time;
-use oid_names::name_of;
 use der_walk::Element;
+use oid_names::name_of;
 use std::fmt;
 
 /// The octet of TRUE by DER (X.690 11.1).
