@@ -12,8 +12,9 @@ use lib.Utf8.{encode}
 use Rattle.std.specs.Char.Utf16.{utf16_chars}
 use Rattle.std.specs.Str.{chars, is_utf8}
 use Rattle.der_print.specs.Quotes.{character_text, quoted_text}
-use Rattle.der_print.specs.Remarks.{remark_text}
-use Rattle.der_print.specs.Values.{boolean_text, identifier_text, number_text, octets_text, zone_text}
+use Rattle.der_contents.specs.declared.content_error.ContentError.TheVariants as errors
+use Rattle.der_print.specs.Remarks.{rule_of_content}
+use Rattle.der_print.specs.Values.{boolean_text, identifier_text, number_text, octets_text, real_text, zone_text}
 use Rattle.der_walk.specs.Visits.{Visited}
 
 abbrev visited : ℕ → ℕ → Option ℕ → Class → Bool → ℕ → ℕ → Visited
@@ -62,8 +63,22 @@ west : zone_text (Offset (pos 0) (negsuc 29)) ≡ codes " -00:30"
 unfolding digits
 west = refl
 
-other_truth : boolean_text (1 ∷ []) ≡ codes " TRUE (01)"
+other_truth : boolean_text Whole (1 ∷ []) ≡ codes " TRUE (01)"
 other_truth = refl
+
+-- REAL: 0, a special value, 15 * 10^-1 in the form NR3 (8.5.8), 5 * 2^-3 (8.5.7)
+zero : real_text Whole [] ≡ codes "0"
+zero = refl
+
+infinity : real_text Whole (0x41 ∷ []) ≡ codes "MINUS-INFINITY"
+infinity = refl
+
+decimal_real : real_text Whole (3 ∷ codes "15.E-1") ≡ codes "15.E-1"
+decimal_real = refl
+
+binary_real : real_text Whole (0x80 ∷ 0xfd ∷ 5 ∷ []) ≡ codes "80fd05"
+unfolding encode_with
+binary_real = refl
 
 -- texts: marks that turn the direction, UTF-16 with a pair, the cut, octets that are one character, a remark
 direction : character_text 0x202e ≡ codes "\\u{202e}"
@@ -86,6 +101,6 @@ two_octets : octets_text Whole (0x61 ∷ 0x62 ∷ []) ≡ codes " \"ab\""
 unfolding chars is_utf8 encode
 two_octets = refl
 
-remark : remark_text Universal 19 (codes "a*") ≡ codes "not a PrintableString: * (X.690 8.23.5, X.680 41.4)"
+remark : rule_of_content errors.CharacterOutside 19 (codes "a*") ≡ codes "an octet is outside of the character set: * (X.690 8.23)"
 unfolding encode
 remark = refl

@@ -6,7 +6,7 @@ use Rattle.std.specs.Io.KnownBytes.{Appends}
 use Rattle.der_base.specs.Pretty.{spaces}
 use Rattle.der_print.specs.declared.style.Limit.{Limit}
 use Rattle.der_print.specs.declared.style.Style.{Style}
-use Rattle.der_print.specs.Remarks.{remark_text}
+use Rattle.der_print.specs.Remarks.{IsRemark}
 use Rattle.der_print.specs.Shown.{IsShown}
 use Rattle.der_print.specs.Values.{IsValue, limit_without}
 use Rattle.der_walk.specs.Ends.{between}
@@ -63,15 +63,18 @@ abbrev pub IsValueAlone : Limit → Visited → List ℕ → List ℕ → Type 0
 IsValueAlone limit v w text = MatchBool v.holds_der (text ≡ [])
     (MatchBool v.constructed (text ≡ []) (IsValue limit v.class v.number w text))
 
--- what is said of a value that breaks its type, after two spaces
-abbrev pub remark_in : Visited → List ℕ → List ℕ
-remark_in v w = if v.breaks_its_type then codes "  " ++ remark_text v.class v.number w else []
+-- a remark after two spaces
+abbrev pub after_spaces : Option (List ℕ) → List ℕ
+after_spaces (Some remark) = codes "  " ++ remark
+after_spaces None = []
 
--- the value of a primitive element with this content, and the remark
+-- the value of a primitive element with this content, and what is said of one that breaks its type
 pub record IsValueSaid (limit : Limit) (v : Visited) (w text : List ℕ) : Type 0 where
   pub value : List ℕ
   pub is_value : IsValue limit v.class v.number w value
-  pub whole : text ≡ value ++ remark_in v w
+  pub remark : Option (List ℕ)
+  pub is_remark : IsRemark v w remark
+  pub whole : text ≡ value ++ after_spaces remark
 
 -- what follows that, of an element with this content: nothing for a constructed one, or the value; the element inside
 -- a string has a line of its own

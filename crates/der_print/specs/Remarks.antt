@@ -1,10 +1,14 @@
 -- What is said of a value that breaks its type.
-use Rattle.std.specs.Prelude.{ℕ, ◌==◌, not, if◌then◌else◌, Bool, true, Option, Some, None}
+use Rattle.std.specs.Prelude.{◌≡◌, ℕ, ◌⊎◌, ◌==◌, not, if◌then◌else◌, Bool, true, false, Option, Some, None}
 use Rattle.std.specs.Prelude.{List, [], ◌∷◌, ◌++◌, codes, find}
-use Rattle.der_base.specs.declared.header.Class.{Class}
-use Rattle.der_base.specs.Text.{is_ia5, is_numeric, is_one_of, is_printable, is_visible}
+use Rattle.der_base.specs.declared.rules.Rules.TheVariants.{Ber}
+use Rattle.der_base.specs.Text.{is_ia5, is_numeric, is_printable, is_visible}
+use Rattle.der_contents.specs.ContentErrors.{rule_text}
+use Rattle.der_contents.specs.ContentRules.{IsContent, IsFirstBroken, content_rules}
+use Rattle.der_contents.specs.declared.content_error.ContentError.{ContentError}
+use Rattle.der_print.specs.declared.remark.Remark.{Remark}
 use Rattle.der_print.specs.Quotes.{octet_text}
-use Rattle.der_walk.specs.TypeNames.{type_text}
+use Rattle.der_walk.specs.Visits.{Visited}
 
 -- whether an octet may be in a string of the type with this number; any is in one of another type
 abbrev pub is_of_type : ℕ → ℕ → Bool
@@ -12,33 +16,21 @@ is_of_type t b =
     if t == 18 then is_numeric b else if t == 19 then is_printable b else if t == 22 then is_ia5 b
     else if t == 26 then is_visible b else true
 
--- the clause that the type breaks
-abbrev pub clause_text : ℕ → List ℕ
-clause_text t =
-    if t == 12 then codes "X.690 8.23.10" else if t == 18 then codes "X.690 8.23.5, X.680 41.2"
-    else if t == 19 then codes "X.690 8.23.5, X.680 41.4" else if is_one_of (23 ∷ 24 ∷ []) t then codes "X.690 8.25"
-    else codes "X.690 8.23"
-
--- what isn't so
-abbrev pub denial_text : Class → ℕ → List ℕ
-denial_text class t = if t == 22 then codes "not an IA5String" else codes "not a " ++ type_text class t
-
--- the first octet that isn't of the type
+-- the first octet outside of the character set
 abbrev pub fault_text : Option ℕ → List ℕ
 fault_text (Some b) = codes ": " ++ octet_text b
 fault_text None = []
 
-abbrev pub is_identifier : ℕ → Bool
-is_identifier t = is_one_of (6 ∷ 13 ∷ []) t
+-- the rule that a content breaks, with the first octet outside of the character set of its type
+abbrev pub rule_of_content : ContentError → ℕ → List ℕ → List ℕ
+rule_of_content e t w = (rule_text e).0 ++ fault_text (find (λ b. not (is_of_type t b)) w)
+    ++ codes " (X.690 " ++ (rule_text e).1 ++ codes ")"
 
--- the strings that are kept as UTF-8 but UTF8String
-abbrev pub is_only_utf8 : ℕ → Bool
-is_only_utf8 t = is_one_of (7 ∷ 20 ∷ 21 ∷ 25 ∷ 27 ∷ []) t
+abbrev pub remark_text : Remark → List ℕ
+remark_text r = rule_of_content r.error r.number r.octets.now
 
--- the rule, and of a string of characters also the first octet that the type doesn't have
-abbrev pub remark_text : Class → ℕ → List ℕ → List ℕ
-remark_text class t w =
-    if is_identifier t then codes "an arc begins with an octet of 0x80 (X.690 8.19.2)"
-    else if is_only_utf8 t then codes "not UTF-8"
-    else denial_text class t ++ fault_text (find (λ b. not (is_of_type t b)) w)
-    ++ codes " (" ++ clause_text t ++ codes ")"
+-- what is said of an element with this content: the first rule of BER that it breaks, if it is one that breaks its type
+abbrev pub IsRemark : Visited → List ℕ → Option (List ℕ) → Type 0
+IsRemark v w (Some text) = (v.breaks_its_type ≡ true) × (e : ContentError)
+    × IsFirstBroken (content_rules Ber v.number w) e × (text ≡ rule_of_content e v.number w)
+IsRemark v w None = (v.breaks_its_type ≡ false) ⊎ IsContent Ber v.number w

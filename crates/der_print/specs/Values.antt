@@ -12,7 +12,7 @@ use Rattle.der_base.specs.declared.time.ASN1TimeZone.{ASN1TimeZone}
 use Rattle.der_base.specs.declared.time.ASN1TimeZone.TheVariants.{Undefined, Z, Offset}
 use Rattle.der_base.specs.Octets.{integer_value}
 use Rattle.der_base.specs.Pretty.{dotted, hex_pair}
-use Rattle.der_base.specs.Text.{is_one_of, is_text_type, is_visible}
+use Rattle.der_base.specs.Text.{is_one_of, is_text_type, is_visible, is_within}
 use Rattle.der_base.specs.Time.{IsTimeText, at_least_digits, rfc5280_year}
 use Rattle.der_values.specs.ArcNumbers.{u128_arcs}
 use Rattle.oid_names.specs.Tables.{HasLine}
@@ -27,14 +27,10 @@ limit_without Whole columns = Whole
 limit_without Front columns = Front
 limit_without (Columns all) columns = Columns (all - columns)
 
--- a BOOLEAN: by BER any octet but 0 is TRUE, and another one than FF is shown (8.2.2, 11.1)
+-- the octet of a BOOLEAN: by BER any octet but 0 is TRUE, and another one than FF is shown (8.2.2, 11.1)
 abbrev pub truth_text : ℕ → List ℕ
 truth_text b =
     if b == 0 then codes " FALSE" else if b == 0xff then codes " TRUE" else codes " TRUE (" ++ hex_pair b ++ codes ")"
-
-abbrev pub boolean_text : List ℕ → List ℕ
-boolean_text (b ∷ []) = truth_text b
-boolean_text w = []
 
 -- how many of so many octets are printed
 abbrev pub printed_octets : Limit → ℕ → ℕ
@@ -94,7 +90,7 @@ unused_text u =
 
 abbrev pub bits_text : Limit → List ℕ → List ℕ
 bits_text limit [] = []
-bits_text limit (u ∷ w) = codes " " ++ hex_text (limit_without limit 16) w ++ unused_text u
+bits_text limit (u ∷ w) = hex_text (limit_without limit 16) w ++ unused_text u
 
 -- a moment, with nine digits of a fraction
 abbrev pub nanosecond_text : Option ℕ → List ℕ
@@ -130,26 +126,49 @@ octets_text limit [] = []
 octets_text limit (b ∷ w) =
     codes " " ++ (if is_ascii_text (b ∷ w) then quoted_text limit 22 (b ∷ w) else hex_text limit (b ∷ w))
 
+-- a BOOLEAN of one octet, or the octets
+abbrev pub boolean_text : Limit → List ℕ → List ℕ
+boolean_text limit (b ∷ []) = truth_text b
+boolean_text limit w = octets_text limit w
+
+-- a REAL of one octet (8.5.9), as X.680 writes it (21.6)
+abbrev pub special_text : ℕ → List ℕ
+special_text a =
+    if a == 0x40 then codes "PLUS-INFINITY" else if a == 0x41 then codes "MINUS-INFINITY"
+    else if a == 0x42 then codes "NOT-A-NUMBER" else if a == 0x43 then codes "-0" else hex_pair a
+
+-- a decimal form (8.5.8) is printed as it is where as many octets would be printed whole
+abbrev pub is_shown_decimal : Limit → ℕ → List ℕ → Bool
+is_shown_decimal limit a w =
+    is_within 1 3 a && list_all is_visible w && nat_le (length w) (printed_octets limit (length w))
+
+-- a REAL: 0, a special value, a decimal form, or the octets of another one
+abbrev pub real_text : Limit → List ℕ → List ℕ
+real_text limit [] = codes "0"
+real_text limit (a ∷ w) =
+    if nat_le (length w) 0 then special_text a else if is_shown_decimal limit a w then w else hex_text limit (a ∷ w)
+
 -- the numbers of the types whose value is quoted, and of all others whose value isn't printed as octets
 abbrev pub is_quoted_type : ℕ → Bool
 is_quoted_type t = is_text_type t || is_one_of (28 ∷ 30 ∷ []) t
 
 abbrev pub is_other_type : ℕ → Bool
-is_other_type t = is_one_of (0 ∷ 1 ∷ 2 ∷ 3 ∷ 5 ∷ 6 ∷ 10 ∷ 13 ∷ 23 ∷ 24 ∷ []) t
+is_other_type t = is_one_of (0 ∷ 1 ∷ 2 ∷ 3 ∷ 5 ∷ 6 ∷ 9 ∷ 10 ∷ 13 ∷ 23 ∷ 24 ∷ []) t
 
 -- The text of a content after the name of its universal type, by the type's number.
 pub data IsUniversalValue (limit : Limit) (t : ℕ) (w text : List ℕ) : Type 0 where
-  -- NULL, and end-of-contents octets
-  no_value : (t ≡ 0) ⊎ (t ≡ 5) → text ≡ [] → IsUniversalValue limit t w text
-  boolean : t ≡ 1 → text ≡ boolean_text w → IsUniversalValue limit t w text
+  -- NULL, and end-of-contents octets: octets, if there are any
+  no_value : (t ≡ 0) ⊎ (t ≡ 5) → text ≡ octets_text limit w → IsUniversalValue limit t w text
+  boolean : t ≡ 1 → text ≡ boolean_text limit w → IsUniversalValue limit t w text
   -- INTEGER and ENUMERATED
   number : (t ≡ 2) ⊎ (t ≡ 10) → text ≡ codes " " ++ number_text limit w → IsUniversalValue limit t w text
-  bits : t ≡ 3 → text ≡ bits_text limit w → IsUniversalValue limit t w text
+  bits : t ≡ 3 → text ≡ codes " " ++ bits_text limit w → IsUniversalValue limit t w text
   -- OBJECT IDENTIFIER, and its name
   identifier : t ≡ 6 → (name : Option (List ℕ)) → IfSome name (IsNameOf w)
       → text ≡ codes " " ++ identifier_text false w ++ name_text name → IsUniversalValue limit t w text
   relative : t ≡ 13 → text ≡ codes " " ++ identifier_text true w → IsUniversalValue limit t w text
-  -- UTCTime and GeneralizedTime, and one that is no time
+  real : t ≡ 9 → text ≡ codes " " ++ real_text limit w → IsUniversalValue limit t w text
+  -- UTCTime and GeneralizedTime; as a text where there is no such moment, as one with 60 seconds
   moment : (x : ASN1DateTime) → IsTimeText t w x → text ≡ codes " " ++ moment_text (t == 23) x
       → IsUniversalValue limit t w text
   no_moment : (t ≡ 23) ⊎ (t ≡ 24) → ((x : ASN1DateTime) → ¬ IsTimeText t w x)

@@ -1,8 +1,10 @@
 //! What follows the type on the line of an element.
 ghost use Rattle.std.specs.Prelude.{Some};
 ghost use Rattle.std.specs.Fmt.{DisplaysOnOk};
+ghost use Rattle.std.specs.Option.{option_map};
 ghost use Rattle.der_walk.specs.Walked.{visited_of};
-ghost use Rattle.der_print.specs.Lines.{IsEnding, IsValueSaid, remark_in};
+ghost use Rattle.der_print.specs.Lines.{IsEnding, IsValueSaid, after_spaces};
+ghost use Rattle.der_print.specs.Remarks.{remark_text};
 ghost use Rattle.der_print.specs.Texts.{content_of};
 ghost use Rattle.der_print.specs.Writes.{WritesOne};
 
@@ -40,17 +42,16 @@ fn write_value_said<W: fmt::Write>(
         WritesOne W.Write.write_str_gives f.old result (IsValueSaid limit v w) f.new }
 {
     write_value(f, element, limit)?;
-    write_remark(f, element)
+    write_remark(f, Remark::on(element))
 }
 
-/// Writes what is said of a value that breaks its type, after two spaces.
-fn write_remark<W: fmt::Write>(f: &mut fmt::Formatter<W>, element: &Element<'_>) -> fmt::Result
+/// Writes a remark after two spaces.
+fn write_remark<W: fmt::Write>(f: &mut fmt::Formatter<W>, remark: Option<Remark<'_>>) -> fmt::Result
     ensures { DisplaysOnOk W.Write.write_str_gives f.old result
-        (Some (remark_in (visited_of element.now) (content_of element.now))) f.new }
+        (Some (after_spaces (option_map remark_text remark))) f.new }
 {
-    if !element.breaks_its_type {
-        return Ok(());
+    match remark {
+        Some(remark) => write!(f, "  {remark}"),
+        None => Ok(()),
     }
-    let element = *element;
-    write!(f, "  {}", Remark { element })
 }

@@ -1,6 +1,7 @@
 //! Elements as text for people: a line for each, with its offset, its type and its value.
 #![tactic(auto)]
 
+mod bits;
 mod characters;
 mod ending;
 mod front;
@@ -10,6 +11,7 @@ mod line_octets;
 mod number;
 mod octets;
 mod pieces;
+mod real;
 mod remark;
 mod room;
 mod row;
@@ -19,10 +21,12 @@ mod text;
 mod time;
 mod value;
 
+pub use bits::Bits;
 pub use identifier::Arcs;
 pub use line::write_line;
 pub use number::Number;
 pub use octets::Hex;
+pub use real::Real;
 pub use remark::Remark;
 pub use room::Room;
 pub use style::{Limit, Style};

@@ -50,7 +50,7 @@ impl fmt::Display for Hex<'_> {
 }
 
 /// How many of so many octets are printed.
-fn printed_octets(number: usize, limit: Limit) -> usize
+pub(crate) fn printed_octets(number: usize, limit: Limit) -> usize
     ensures { result ≡ printed_octets limit number }
 {
     match limit {

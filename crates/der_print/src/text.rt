@@ -109,7 +109,7 @@ pub fn is_printable_ascii(octets: &[u8]) -> bool
 }
 
 /// Whether octets are characters of ASCII that can be printed.
-fn are_visible(octets: &[u8]) -> bool
+pub(crate) fn are_visible(octets: &[u8]) -> bool
     ensures { result ≡ list_all is_visible octets.now }
 {
     octets.iter().all(|octet| *octet >= b' ' && *octet <= b'~')

@@ -4,16 +4,17 @@ ghost use Rattle.std.specs.Fmt.{DisplaysOnOk};
 ghost use Rattle.der_print.specs.Lines.{IsValueAlone};
 ghost use Rattle.der_print.specs.Quotes.{quoted_text};
 ghost use Rattle.der_print.specs.Texts.{content_of, octets_or_none};
-ghost use Rattle.der_print.specs.Values.{IsNameOf, IsUniversalValue, IsValue, bits_text, boolean_text};
-ghost use Rattle.der_print.specs.Values.{identifier_text, is_quoted_type, name_text, octets_text, truth_text};
-ghost use Rattle.der_print.specs.Values.{unused_text};
+ghost use Rattle.der_print.specs.Values.{IsNameOf, IsUniversalValue, IsValue, boolean_text, identifier_text};
+ghost use Rattle.der_print.specs.Values.{is_quoted_type, name_text, octets_text, truth_text};
 ghost use Rattle.der_print.specs.Writes.{WritesOne};
 ghost use Rattle.der_walk.specs.Walked.{visited_of};
 
+use crate::bits::Bits;
 use crate::characters::write_pair;
 use crate::identifier::Arcs;
 use crate::number::Number;
 use crate::octets::Hex;
+use crate::real::Real;
 use crate::style::Limit;
 use crate::text::{Quoted, is_printable_ascii};
 use crate::time::Moment;
@@ -25,9 +26,6 @@ use std::fmt;
 
 /// The octet of TRUE by DER (X.690 11.1).
 const TRUE: u8 = 0xff;
-
-/// The columns of the number of unused bits.
-const UNUSED: usize = 16;
 
 /// The value of a primitive element, after a space. Nothing for an element whose content is elements, and
 /// for NULL.
@@ -94,11 +92,12 @@ fn write_universal<W: fmt::Write>(
     ensures { WritesOne W.Write.write_str_gives f.old result (IsUniversalValue limit number octets.now) f.new }
 {
     match number {
-        0 | 5 => Ok(()),
-        1 => write_boolean(f, octets),
+        0 | 5 => write_octets(f, octets, limit),
+        1 => write_boolean(f, octets, limit),
         2 | 10 => write!(f, " {}", Number { octets, limit }),
-        3 => write_bits(f, octets, limit),
+        3 => write!(f, " {}", Bits { octets, limit }),
         6 => write_identifier(f, octets),
+        9 => write!(f, " {}", Real { octets, limit }),
         13 => write_relative(f, octets),
         23 => write_time(f, number, octets, limit),
         24 => write_time(f, number, octets, limit),
@@ -155,12 +154,17 @@ fn write_octets<W: fmt::Write>(
     write!(f, " {}", Hex { octets, limit })
 }
 
-fn write_boolean<W: fmt::Write>(f: &mut fmt::Formatter<W>, octets: &[u8]) -> fmt::Result
-    ensures { DisplaysOnOk W.Write.write_str_gives f.old result (Some (boolean_text octets.now)) f.new }
+/// Writes a BOOLEAN, or octets that are none.
+fn write_boolean<W: fmt::Write>(
+    f: &mut fmt::Formatter<W>,
+    octets: &[u8],
+    limit: Limit,
+) -> fmt::Result
+    ensures { DisplaysOnOk W.Write.write_str_gives f.old result (Some (boolean_text limit octets.now)) f.new }
 {
     match octets {
         [octet] => write_truth(f, *octet),
-        _ => Ok(()),
+        _ => write_octets(f, octets, limit),
     }
 }
 
@@ -177,29 +181,6 @@ fn write_truth<W: fmt::Write>(f: &mut fmt::Formatter<W>, octet: u8) -> fmt::Resu
     write!(f, " TRUE (")?;
     write_pair(f, octet)?;
     write!(f, ")")
-}
-
-/// Writes the octets of a BIT STRING, and how many bits of the last aren't used.
-fn write_bits<W: fmt::Write>(f: &mut fmt::Formatter<W>, octets: &[u8], limit: Limit) -> fmt::Result
-    ensures { DisplaysOnOk W.Write.write_str_gives f.old result (Some (bits_text limit octets.now)) f.new }
-{
-    let [unused, octets @ ..] = octets else {
-        return Ok(());
-    };
-    let limit = limit.without(UNUSED);
-    write!(f, " {}", Hex { octets, limit })?;
-    write_unused(f, *unused)
-}
-
-/// Writes how many bits aren't used.
-fn write_unused<W: fmt::Write>(f: &mut fmt::Formatter<W>, unused: u8) -> fmt::Result
-    ensures { DisplaysOnOk W.Write.write_str_gives f.old result (Some (unused_text unused)) f.new }
-{
-    match unused {
-        0 => Ok(()),
-        1 => write!(f, " (1 bit unused)"),
-        _ => write!(f, " ({unused} bits unused)"),
-    }
 }
 
 /// Writes an identifier and its name.
@@ -230,7 +211,7 @@ fn write_relative<W: fmt::Write>(f: &mut fmt::Formatter<W>, octets: &[u8]) -> fm
     write!(f, " {arcs}")
 }
 
-/// Writes a time, or octets that are none as a text.
+/// Writes a time, as a text where there is no such moment.
 fn write_time<W: fmt::Write>(
     f: &mut fmt::Formatter<W>,
     number: u32,

@@ -2,7 +2,7 @@
 use der_walk::{Cause, Path};
 use std::fmt;
 
-/// Where and why an element is refused, as `at 13, SEQUENCE[0].INTEGER[1]: a number has no octet (X.690 8.3.1)`.
+/// Where and why an element is refused, as `at 13, SEQUENCE[0].INTEGER[1]: a number has no octets (X.690 8.3.1)`.
 #[derive(Clone, Copy)]
 pub(crate) struct Fault<'a> {
     /// Where the element begins.

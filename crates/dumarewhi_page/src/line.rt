@@ -21,10 +21,10 @@ impl fmt::Display for Line<'_> {
             return f.write_str(" holding DER");
         }
         write!(f, "{}", Value { element, limit })?;
-        if element.breaks_its_type {
-            write!(f, "  {}", Remark { element })?;
+        match Remark::on(&element) {
+            Some(remark) => write!(f, "  {remark}"),
+            None => Ok(()),
         }
-        Ok(())
     }
 }
 

@@ -31,11 +31,13 @@ pub extern "C" fn page_value(input: &[u8], row: &PageRow, full: u32, text: &mut 
     put(text, Value { element, limit })
 }
 
-/// Writes what is said of a value that breaks its type.
+/// Writes what is said of a value that breaks its type, and nothing of another one.
 #[unsafe(no_mangle)]
 pub extern "C" fn page_remark(input: &[u8], row: &PageRow, text: &mut [u8]) -> usize {
-    let element = row.element(input);
-    put(text, Remark { element })
+    match Remark::on(&row.element(input)) {
+        Some(remark) => put(text, remark),
+        None => 0,
+    }
 }
 
 /// Writes the line of a row, as `der tree` prints it. With 0 for `full`, a long value is cut.
