@@ -2,7 +2,6 @@
 use Rattle.std.specs.Prelude.{◌≡◌, ◌⊎◌, ◌==◌, ◌^◌, ◌||◌, ℕ, not, nat_lt, Bool, true, false, if◌then◌else◌, IsTrue}
 use Rattle.std.specs.Prelude.{IfSome, MatchBool, ℤ, pos, negsuc, Option, Some, None, option_map}
 use Rattle.std.specs.Prelude.{List, [], ◌∷◌, ◌++◌, codes, string_bytes}
-use Rattle.std.specs.Str.{is_utf8}
 use Rattle.std.specs.Io.KnownBytes.{Appends}
 use Rattle.serde.specs.Event.{Log}
 use Rattle.serde_json.specs.Data.{Data, boolean, negative, null, number, string, unsigned}
@@ -11,11 +10,14 @@ use Rattle.serde_json.specs.View.{view}
 use Rattle.hex.specs.Hex.{encode_lower}
 use Rattle.der_base.specs.declared.header.Class.{Class}
 use Rattle.der_base.specs.declared.header.Class.TheVariants.{Universal, Application, ContextSpecific, Private}
+use Rattle.der_base.specs.declared.time.ASN1DateTime.{ASN1DateTime}
 use Rattle.der_base.specs.Octets.{integer_value}
-use Rattle.der_base.specs.Text.{is_text_type}
+use Rattle.der_base.specs.Time.{IsTimeText}
 use Rattle.der_print.specs.Quotes.{unquoted_text}
-use Rattle.der_print.specs.Remarks.{remark_text}
-use Rattle.der_print.specs.Values.{IsNameOf, identifier_text, is_other_type, is_quoted_type}
+use Rattle.der_print.specs.Remarks.{IsRemark}
+use Rattle.der_print.specs.declared.style.Limit.TheVariants.{Whole}
+use Rattle.der_print.specs.Values.{IsNameOf, bits_text, identifier_text, is_other_type, is_quoted_type, moment_text}
+use Rattle.der_print.specs.Values.{real_text}
 use Rattle.der_cli.specs.declared.json.Object.{Object}
 use Rattle.der_cli.specs.declared.options.Options.{Options}
 use Rattle.der_cli.specs.declared.origin.Origin.{Origin}
@@ -51,10 +53,14 @@ pub data IsUniversalJson (t : ℕ) (w : List ℕ) (d : Data) : Type 0 where
   json_integer : (t ≡ 2) ⊎ (t ≡ 10) → d ≡ json_number w (integer_value w) → IsUniversalJson t w d
   identifier : t ≡ 6 → d ≡ string (identifier_text false w) → IsUniversalJson t w d
   relative : t ≡ 13 → d ≡ string (identifier_text true w) → IsUniversalJson t w d
-  text : IsTrue (is_text_type t) → d ≡ string (if is_utf8 w then w else encode_lower w) → IsUniversalJson t w d
-  wide_text : (t ≡ 28) ⊎ (t ≡ 30) → d ≡ string (unquoted_text t w) → IsUniversalJson t w d
-  -- a BIT STRING, UTCTime and GeneralizedTime are a text as it is printed, of which no more is said
-  printed : (t ≡ 3) ⊎ (t ≡ 23) ⊎ (t ≡ 24) → (text : List ℕ) → d ≡ string text → IsUniversalJson t w d
+  real : t ≡ 9 → d ≡ string (real_text Whole w) → IsUniversalJson t w d
+  -- the characters of a string; octets that are none are escaped
+  text : IsTrue (is_quoted_type t) → d ≡ string (unquoted_text t w) → IsUniversalJson t w d
+  bits : t ≡ 3 → d ≡ string (bits_text Whole w) → IsUniversalJson t w d
+  -- UTCTime and GeneralizedTime; as a text where there is no such moment, as one with 60 seconds
+  moment : (x : ASN1DateTime) → IsTimeText t w x → d ≡ string (moment_text (t == 23) x) → IsUniversalJson t w d
+  no_moment : (t ≡ 23) ⊎ (t ≡ 24) → ((x : ASN1DateTime) → ¬ IsTimeText t w x) → d ≡ string (unquoted_text t w)
+      → IsUniversalJson t w d
   octets : is_quoted_type t ≡ false → is_other_type t ≡ false → d ≡ string (encode_lower w) → IsUniversalJson t w d
 
 -- the value of a primitive element
@@ -82,8 +88,7 @@ pub record IsObjectOf (v : Visited) (w : List ℕ) (o : Object) : Type 0 where
   -- the name of an OBJECT IDENTIFIER, if it has one
   pub name : IfSome o.name (λ name. (v.class ≡ Universal) × (v.number ≡ 6) × IsNameOf w name.now)
   -- what is said of a value that breaks its type
-  pub fault : option_map string_bytes o.fault
-      ≡ (if v.breaks_its_type then Some (remark_text v.class v.number w) else None)
+  pub fault : IsRemark v w (option_map string_bytes o.fault)
 
 -- the members that say where it is from: the file if there are several, and the block
 pub record IsFrom (options : Options) (origin : Origin) (o : Object) : Type 0 where

@@ -1,16 +1,15 @@
 //! The elements of an input as lines of JSON.
-ghost use Rattle.std.specs.Prelude.{◌≡◌, ℕ, IfOk, IfSome, IsTrue, List, None, OnOk, Some, false, if◌then◌else◌};
+ghost use Rattle.std.specs.Prelude.{◌≡◌, ◌⊎◌, IfOk, IfSome, IsTrue, OnOk, false};
 ghost use Rattle.std.specs.Prelude.{option_map, string_bytes};
 ghost use Rattle.der_cli.specs.Arguments.{class_word};
-ghost use Rattle.std.specs.Str.{is_utf8};
 ghost use Rattle.hex.specs.Hex.{encode_lower};
 ghost use Rattle.serde_json.specs.Data.{string};
 ghost use Rattle.serde_json.specs.View.{view};
 ghost use Rattle.der_base.specs.Octets.{integer_value};
 ghost use Rattle.der_print.specs.Quotes.{unquoted_text};
 ghost use Rattle.der_print.specs.Texts.{content_of};
-ghost use Rattle.der_print.specs.Remarks.{remark_text};
-ghost use Rattle.der_print.specs.Values.{IsNameOf, identifier_text};
+ghost use Rattle.der_print.specs.Remarks.{IsRemark};
+ghost use Rattle.der_print.specs.Values.{IsNameOf, bits_text, identifier_text, real_text};
 ghost use Rattle.der_base.specs.declared.header.Class.{Class};
 ghost use Rattle.der_cli.specs.Json.{AddsJson, IsFrom, IsJson, IsJsonValue, IsObjectOf, IsUniversalJson};
 ghost use Rattle.der_cli.specs.Json.{is_false, json_number};
@@ -22,18 +21,19 @@ use crate::label::Label;
 use crate::options::Options;
 use crate::origin::Origin;
 use crate::report::report;
-use der_base::header::Class;
+use der_base::header::{Class, Tag};
 use der_base::integer::{read_i64, read_u64};
-use oid_names::name_of;
+use der_base::time::read_time;
 use der_print::{
-    Arcs, Hex, Limit, Remark, Unquoted, Value as Printed, is_quoted_type, octets_or_none,
+    Arcs, Bits, Hex, Limit, Moment, Real, Remark, Unquoted, is_quoted_type, octets_or_none,
 };
 use der_walk::{Element, Walk};
+use oid_names::name_of;
 use serde::Serialize;
 use serde_json::Value;
 use std::alloc::{AllocError, Global};
+use std::io;
 use std::io::{ErrorKind, Write};
-use std::{io, str};
 
 /// An element as an object of JSON.
 #[derive(Drop, Serialize)]
@@ -58,7 +58,7 @@ struct Object<'a> {
     value: Value,
     #[serde(skip_serializing_if = "Option::is_none")]
     name: Option<&'static str>,
-    /// What is wrong with a text.
+    /// What is said of a value that breaks its type.
     #[serde(skip_serializing_if = "Option::is_none")]
     fault: Option<String>,
 }
@@ -201,15 +201,13 @@ fn name_in(element: &Element<'_>) -> Option<&'static str>
 
 /// What is said of a value that breaks its type.
 fn fault_in(alloc: Global, element: &Element<'_>) -> Result<Option<String>, AllocError>
-    ensures { let e = element.now in IfOk result (λ fault. option_map string_bytes fault
-        ≡ (if e.breaks_its_type then Some (remark_text e.class e.number (content_of e)) else None)) }
+    ensures { IfOk result (λ fault.
+        IsRemark (visited_of element.now) (content_of element.now) (option_map string_bytes fault)) }
 {
-    if !element.breaks_its_type {
-        return Ok(None);
+    match Remark::on(element) {
+        Some(remark) => Ok(Some(format!(in alloc; "{remark}")?)),
+        None => Ok(None),
     }
-    let element = *element;
-    let text = format!(in alloc; "{}", Remark { element })?;
-    Ok(Some(text))
 }
 
 /// The value of an element. Null if its content is elements.
@@ -223,26 +221,24 @@ fn value_of(alloc: Global, element: &Element<'_>) -> Result<Value, AllocError>
     if element.class != Class::Universal {
         return hex(alloc, octets);
     }
-    universal_value(alloc, element, octets)
+    universal_value(alloc, element.number, octets)
 }
 
 /// The value of a universal type.
-fn universal_value(alloc: Global, element: &Element<'_>, octets: &[u8]) -> Result<Value, AllocError>
-    ensures { IfOk result (λ value. IsUniversalJson element.now.number octets.now (view value)) }
+fn universal_value(alloc: Global, number: u32, octets: &[u8]) -> Result<Value, AllocError>
+    ensures { IfOk result (λ value. IsUniversalJson number octets.now (view value)) }
 {
-    let number = element.number;
     match number {
         0 | 5 => Ok(Value::Null),
         1 => Ok(Value::Bool(!is_false(octets))),
         2 | 10 => integer(alloc, octets),
         6 => arcs(alloc, octets, false),
         13 => arcs(alloc, octets, true),
-        3 => printed(alloc, element),
-        23 => printed(alloc, element),
-        24 => printed(alloc, element),
-        28 => wide_text(alloc, number, octets),
-        30 => wide_text(alloc, number, octets),
-        _ if is_quoted_type(number) => text(alloc, octets),
+        3 => bits(alloc, octets),
+        9 => real(alloc, octets),
+        23 => time(alloc, number, octets),
+        24 => time(alloc, number, octets),
+        _ if is_quoted_type(number) => text(alloc, number, octets),
         _ => hex(alloc, octets),
     }
 }
@@ -283,19 +279,38 @@ fn integer(alloc: Global, octets: &[u8]) -> Result<Value, AllocError>
     hex(alloc, octets)
 }
 
-/// A text, or the digits of octets that aren't UTF-8.
-fn text(alloc: Global, octets: &[u8]) -> Result<Value, AllocError>
-    ensures { IfOk result (λ value. view value
-        ≡ string (if is_utf8 octets.now then octets.now else encode_lower octets.now)) }
+/// The octets of a BIT STRING, and how many bits of the last aren't used.
+fn bits(alloc: Global, octets: &[u8]) -> Result<Value, AllocError>
+    ensures { IfOk result (λ value. view value ≡ string (bits_text Limit.Whole octets.now)) }
 {
-    match str::from_utf8(octets) {
-        Ok(text) => Value::try_from_str(alloc, text),
-        Err(_) => hex(alloc, octets),
+    let limit = Limit::Whole;
+    string(format!(in alloc; "{}", Bits { octets, limit })?)
+}
+
+/// A time, as a text where there is no such moment.
+fn time(alloc: Global, number: u32, octets: &[u8]) -> Result<Value, AllocError>
+    ensures { (number ≡ 23) ⊎ (number ≡ 24)
+        → IfOk result (λ value. IsUniversalJson number octets.now (view value)) }
+{
+    match read_time(Tag(number), octets) {
+        Some(time) => {
+            let is_utc_time = number == Tag::UtcTime.0;
+            string(format!(in alloc; "{}", Moment { time, is_utc_time })?)
+        }
+        None => text(alloc, number, octets),
     }
 }
 
-/// The characters of a BMPString or a UniversalString.
-fn wide_text(alloc: Global, number: u32, octets: &[u8]) -> Result<Value, AllocError>
+/// A REAL as it is printed whole.
+fn real(alloc: Global, octets: &[u8]) -> Result<Value, AllocError>
+    ensures { IfOk result (λ value. view value ≡ string (real_text Limit.Whole octets.now)) }
+{
+    let limit = Limit::Whole;
+    string(format!(in alloc; "{}", Real { octets, limit })?)
+}
+
+/// The characters of a string. Octets that are no characters are escaped.
+fn text(alloc: Global, number: u32, octets: &[u8]) -> Result<Value, AllocError>
     ensures { IfOk result (λ value. view value ≡ string (unquoted_text number octets.now)) }
 {
     string(format!(in alloc; "{}", Unquoted { octets, number })?)
@@ -306,19 +321,4 @@ fn hex(alloc: Global, octets: &[u8]) -> Result<Value, AllocError>
 {
     let limit = Limit::Whole;
     string(format!(in alloc; "{}", Hex { octets, limit })?)
-}
-
-/// The value as it is printed for people.
-fn printed(alloc: Global, element: &Element<'_>) -> Result<Value, AllocError>
-    ensures { IfOk result (λ value. (text : List ℕ) × (view value ≡ string text)) }
-{
-    let element = *element;
-    let text = format!(in alloc;
-        "{}",
-        Printed {
-            element,
-            limit: Limit::Whole
-        }
-    )?;
-    Value::try_from_str(alloc, text.trim().trim_matches('"'))
 }
