@@ -1,4 +1,5 @@
 //! Walks over elements.
+use der_contents::ContentError;
 use test_words::{push_number, push_refusal};
 use der_walk::{Cause, Element, Path, Refusal, Rules, Walk};
 use std::alloc::{AllocError, Global};
@@ -86,10 +87,10 @@ fn push_element(text: &mut String, element: &Element<'_>) -> Result<(), AllocErr
     Ok(())
 }
 
-/// Adds the name of a cause and its parts, or the refusal of a value.
+/// Adds the name of a cause and its parts, or of the rule that a content breaks.
 fn push_cause(text: &mut String, cause: Cause) -> Result<(), AllocError> {
     match cause {
-        Cause::Value(e) => push_refusal(text, &e),
+        Cause::Value(e) => push_debug(text, e),
         Cause::Header(e) => {
             push_word(text, "Header")?;
             push_refusal(text, &e)
@@ -106,12 +107,19 @@ fn push_cause(text: &mut String, cause: Cause) -> Result<(), AllocError> {
     }
 }
 
+/// Adds the name of a rule.
+fn push_debug(text: &mut String, rule: ContentError) -> Result<(), AllocError> {
+    if !text.is_empty() {
+        text.push(' ')?;
+    }
+    write!(text, "{rule:?}")
+}
+
 /// The name of a cause without parts.
 fn name_of(cause: Cause) -> &'static str {
     match cause {
         Cause::NoEndMarker => "NoEndMarker",
         Cause::EndMarker => "EndMarker",
-        Cause::PaddedArc => "PaddedArc",
         Cause::Constructed => "Constructed",
         Cause::ConstructedString => "ConstructedString",
         Cause::OtherPart => "OtherPart",

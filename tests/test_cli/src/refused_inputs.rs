@@ -23,7 +23,7 @@ const ROWS: [Row; 6] = [
         input: b"\x30\x0b\x02\x01\x05\x30\x06\x02\x02\x00\x7f\x05\x00",
         lines: "      0  2+11      SEQUENCE\n      2  2+1         INTEGER 5\n      5  2+6         SEQUENCE\n",
         report: "der: input: at 7, SEQUENCE[0].SEQUENCE[1].INTEGER[0]: \
-a number isn't in the fewest octets, its first nine bits are 0 (X.690 8.3.2)\n",
+the first nine bits of a number are alike (X.690 8.3.2)\n",
     },
     // A BOOLEAN of two octets.
     Row {
@@ -31,7 +31,7 @@ a number isn't in the fewest octets, its first nine bits are 0 (X.690 8.3.2)\n",
         input: b"\x30\x07\x02\x01\x05\x01\x02\x00\x00",
         lines: "      0  2+7       SEQUENCE\n      2  2+1         INTEGER 5\n",
         report: "der: input: at 5, SEQUENCE[0].BOOLEAN[1]: \
-a BOOLEAN isn't one octet, a NULL has some, or a BIT STRING has none (X.690 8.2.1, 8.6.2 and 8.8.2)\n",
+a BOOLEAN isn't one octet (X.690 8.2.1)\n",
     },
     // An INTEGER of three octets, of which the SEQUENCE around it has two.
     Row {
