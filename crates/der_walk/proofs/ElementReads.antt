@@ -9,14 +9,15 @@ use Rattle.der_base.specs.Header.{is_constructed, number_of, length_of}
 use Rattle.der_base.specs.Headers.{leading_header}
 use Rattle.der_base.specs.Octets.{identifier}
 use Rattle.der_base.specs.declared.rules.Rules.{Rules}
+use Rattle.der_base.specs.declared.rules.Rules.TheVariants.{Ber, Der}
 use Rattle.der_check.specs.Elements.{MayHaveContent}
 use Rattle.der_base.specs.Rules.{AnswersHeader}
 use Rattle.der_check.proofs.HeadersBy.{header_read}
-use Rattle.der_contents.specs.ContentRules.{Rule, AllHold, IsContent, IsFirstBroken}
+use Rattle.der_contents.specs.ContentRules.{Rule, AllHold, IsContent, IsFirstBroken, bit_string_rules}
 use Rattle.der_contents.specs.declared.content_error.ContentError.{ContentError}
 use Rattle.der_walk.specs.declared.element.Element.{Element}
 use Rattle.der_walk.specs.declared.walk.Walk.{Walk}
-use Rattle.der_walk.specs.Visits.{Extras, IsHeaderBy, HoldsElement, primitive, broken, visited, may_break}
+use Rattle.der_walk.specs.Visits.{Extras, IsHeaderBy, HoldsElement, primitive, broken, visited}
 use Rattle.der_walk.specs.Ends.{end_of, IsWithin}
 use Rattle.der_walk.specs.Walked.{visited_of}
 use Rattle.der_walk.specs.Reading.{StartsWith, FindsContent, IsChecked, Holds, IsRead, whole, string, list, definite_of, extras_of, octets_or_none, OctetsHere, ReadsHere}
@@ -95,11 +96,17 @@ bool_cases : (b : Bool) → (b ≡ true) ⊎ (b ≡ false)
 bool_cases true = inl refl
 bool_cases false = inr refl
 
-broken_no_string : (t : ℕ) (d : ℕ) (w u v : List ℕ) → IsTrue (may_break t) → HoldsElement d t w u v → ⊥
-broken_no_string t d w u v it h =
-    ⊎_elim
-    (λ z. absurd (let q : false ≡ true = subst (λ n. IsTrue (may_break n)) z.0 it in cc))
-    (λ z. absurd (let q : false ≡ true = subst (λ n. IsTrue (may_break n)) z.0 it in cc))
+-- a BIT STRING without unused bits
+all_bits : (r : Rules) (v : List ℕ) → AllHold (bit_string_rules r (0 ∷ v))
+all_bits Ber v = (omega arith, (λ e. refl, tt))
+all_bits Der [] = (omega arith, (λ e. refl, (refl, tt)))
+all_bits Der (b ∷ v) = (omega arith, (λ e. refl, ((omega arith, omega arith), tt)))
+
+-- what holds an element doesn't break its type
+holds_content : (r : Rules) (t d : ℕ) (w u v : List ℕ) → HoldsElement d t w u v → IsContent r t w
+holds_content r t d w u v h = ⊎_elim
+    (λ z. subst (λ n. IsContent r n w) (sym z.0) tt)
+    (λ z. subst (λ n. IsContent r n w) (sym z.0) (subst (λ l. IsContent r 3 l) (sym (h.parts ∙ ap (λ l. l ++ v) z.1)) (all_bits r v)))
     h.front
 
 -- what a string holds, by its content
@@ -108,9 +115,6 @@ holds_in e w q h = subst (λ c. MatchOption c ⊥ (λ w. (u v : List ℕ) × Hol
 
 in_holds : (e : Element) (w : Bor (List ℕ)) → e.content ≡ Some w → e.constructed ≡ false → e.class ≡ Universal → (u v : List ℕ) → HoldsElement (100 - e.depth) e.number w.now u v → Holds e
 in_holds e w q ep ec u v h = (ep, ec, subst (λ c. MatchOption c ⊥ (λ w. (u v : List ℕ) × HoldsElement (100 - e.depth) e.number w.now u v)) (sym q) (u, v, h))
-
-pub broken_not_zero : (t : ℕ) → IsTrue (may_break t) → t ≢ 0
-broken_not_zero t it z = absurd (let q : false ≡ true = subst (λ n. IsTrue (may_break n)) z it in cc)
 
 pub reads : (x : Extras) (r : Rules) (i : List ℕ) (y : Bor (List ℕ) × Header) (at k j : ℕ) (e : Element) → AnswersHeader r i (Ok y) → StartsWith y.1 (length i - length y.0.now) at k j e
     → FindsContent e y.0.now e.content → IsChecked x.keeps_values r e e.breaks_its_type → IsTrue e.holds_der ↔ ((x.enters_strings ≡ true) × Holds e) → IsRead x r (100 - e.depth) i e
@@ -149,7 +153,7 @@ reads x r i y at k j e a s f (inr (inr (ep, eo, kt, er, ec, it, never))) holds =
     strange : e.holds_der ≡ true → ⊥
     strange t =
         let (u, v, in_it) = holds_in e g.content g.content_is (holds.0 t).1 in
-        broken_no_string e.number (100 - e.depth) g.content.now u v it in_it
+        never (subst (λ l. IsContent r e.number l) (sym (ap octets_or_none g.content_is)) (holds_content r e.number (100 - e.depth) g.content.now u v in_it))
 
     no_holds : e.holds_der ≡ false
     no_holds = ⊎_elim (λ t. absurd (strange t)) (λ n. n) (bool_cases e.holds_der)

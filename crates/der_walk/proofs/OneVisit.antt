@@ -13,7 +13,6 @@ use Rattle.der_base.specs.declared.rules.Rules.TheVariants.{Der}
 use Rattle.der_check.proofs.FirstOctets.{zero_first, constructed_first}
 use Rattle.der_contents.specs.ContentRules.{IsContent}
 use Rattle.der_walk.specs.Visits.{Visited, Extras, IsHeaderBy, IsStringFront, HoldsElement, Visits, VisitsOne, none, one_more, primitive, broken, string, constructed, indefinite, visited}
-use Rattle.der_walk.proofs.ElementReads.{broken_not_zero}
 use Rattle.der_walk.proofs.Headers.{header_begins, length_from}
 use Rattle.der_walk.proofs.VisitedElements.{string_not_zero}
 
@@ -81,7 +80,7 @@ front_at r c p t n b h z y i is e q =
 pub one_front : {x : Extras} {r : Rules} {d k a : ℕ} {b : List ℕ} {us : List Visited} (y i : List ℕ) → VisitsOne x r d k a b us → i ≡ b ++ y
     → (c : Class) × (p : Bool) × (t : ℕ) × (s : List ℕ) × (i ≡ identifier c p t ++ s) × (p ≡ false → c ≡ Universal → t ≡ 0 → ⊥)
 one_front {r = r} {b = b} y i (primitive c t h w is e has out ev) q = let f = front_at r c false t (Some (length w)) b h w y i is e q in (c, false, t, f.0, f.1, λ p ec. (has ec).0)
-one_front {r = r} {b = b} y i (broken t h w is e keeps er it never ev) q = let f = front_at r Universal false t (Some (length w)) b h w y i is e q in (Universal, false, t, f.0, f.1, λ p c. broken_not_zero t it)
+one_front {r = r} {b = b} y i (broken t h w is e keeps er it never ev) q = let f = front_at r Universal false t (Some (length w)) b h w y i is e q in (Universal, false, t, f.0, f.1, λ p c. it)
 one_front {r = r} {b = b} y i (string t h w u v us is e has en holds vis ev) q = let f = front_at r Universal false t (Some (length w)) b h w y i is e q in (Universal, false, t, f.0, f.1, λ p c. string_not_zero t u holds.front)
 one_front {r = r} {b = b} y i (constructed c t h w us is e may vis ev) q = let f = front_at r c true t (Some (length w)) b h w y i is e q in (c, true, t, f.0, f.1, λ p. absurd (cc))
 one_front {r = r} {b = b} y i (indefinite c t h w us is e may vis ev) q = let f = front_at r c true t None b h (w ++ end_marker) y i is (e ∙ append_assoc h w end_marker) q in (c, true, t, f.0, f.1, λ p. absurd (cc))

@@ -33,12 +33,12 @@ use Rattle.der_walk.specs.declared.refusal.Refusal.{Refusal}
 use Rattle.der_walk.specs.declared.walk.Walk.{Walk}
 use Rattle.der_walk.specs.Ends.{between, end_of, here_of, limit_of, overrun, IsWithin}
 use Rattle.der_walk.specs.Faults.{HasRoom, IsReached, IsLastStep, IsStep, ended, header, content, too_deep, string, constructed, marker, value, cause_of_content, cause_of_end, cause_of_header, cause_of_lack, content_at, ends_inside, missing_in, place_of}
-use Rattle.der_walk.specs.Visits.{Visited, Extras, Visits, VisitsOne, none, one_more, primitive, broken, indefinite, may_break}
+use Rattle.der_walk.specs.Visits.{Visited, Extras, Visits, VisitsOne, none, one_more, primitive, broken, indefinite}
 use Rattle.der_walk.specs.Visits.{string as visits_string, constructed as visits_constructed}
 use Rattle.der_walk.specs.Walked.{EndsAt, HasVisited, IsRefused}
 use Rattle.der_walk.specs.Reading.{BeginsNone, EndsHere, FindsContent, FailsCheck, FailsConstructed, FailsPrimitive, Keeps, LacksContent, Refuses, StartsWith, StaysOpen, definite_of, extras_of, octets_or_none}
 use Rattle.der_walk.proofs.Between.{between_more, front_of_between}
-use Rattle.der_walk.proofs.ElementReads.{Leaf, broken_not_zero, leaf_of, not_all_hold}
+use Rattle.der_walk.proofs.ElementReads.{Leaf, leaf_of, not_all_hold}
 use Rattle.der_walk.proofs.Ends.{is_reached, limit_least, limit_size, no_overrun}
 use Rattle.der_walk.proofs.Headers.{header_two, spells_parts}
 use Rattle.der_walk.proofs.OneVisit.{content_same, one_nonempty}
@@ -52,7 +52,7 @@ abbrev pub Kind : Extras → Rules → LeadingHeader → Type 0
 Kind x r v =
     ((v.constructed ≡ true) × MayBeConstructed r v.class v.number)
     ⊎ ((v.constructed ≡ false) × (n : ℕ) × (v.length ≡ Definite n)
-    × (MayHaveContent r v.class v.number (take n v.rest) ⊎ ((x.keeps_values ≡ true) × (r ≡ Ber) × (v.class ≡ Universal) × IsTrue (may_break v.number))))
+    × (MayHaveContent r v.class v.number (take n v.rest) ⊎ ((x.keeps_values ≡ true) × (r ≡ Ber) × (v.class ≡ Universal) × (v.number ≢ 0))))
 
 -- what holds of the octets here, whose header is v, where an element that is visited next begins them
 pub record Fits (x : Extras) (r : Rules) (v : LeadingHeader) : Type 0 where
@@ -230,7 +230,7 @@ module _ (w : Walk) (here : List ℕ) (y : Bor (List ℕ) × Header) (e : Elemen
     not_marker : e.constructed ≡ false → e.class ≡ Universal → e.number ≡ 0 → Kind (extras_of w) w.content.rules v → ⊥
     not_marker p ec en (inl (t, may)) = absurd (let q = s.constructed in cc)
     not_marker p ec en (inr (t, n, l, inl has)) = (has (sym s.class ∙ ec)).0 (sym s.number ∙ en)
-    not_marker p ec en (inr (t, n, l, inr (keeps, ber, uni, may))) = broken_not_zero v.number may (sym s.number ∙ en)
+    not_marker p ec en (inr (t, n, l, inr (keeps, ber, uni, may))) = may (sym s.number ∙ en)
 
     -- the content of a primitive element
     module _ (found : FindsContent e y.0.now e.content) (p : e.constructed ≡ false)
@@ -245,11 +245,11 @@ module _ (w : Walk) (here : List ℕ) (y : Bor (List ℕ) × Header) (e : Elemen
         taken n l =
             ap (λ k. take k v.rest) (same_length n (length g.content.now) (sym l ∙ size_is)) ∙ ap (λ l. take (length g.content.now) l) g.behind_is ∙ take-append_seam g.content.now g.rest ∙ sym (ap octets_or_none g.content_is)
 
-        not_value : e.class ≡ Universal → (c : ContentError) → IsFirstBroken (content_rules w.content.rules e.number (octets_or_none e.content)) c → (¬ Keeps w e) → Kind (extras_of w) w.content.rules v → ⊥
+        not_value : e.class ≡ Universal → (c : ContentError) → IsFirstBroken (content_rules w.content.rules e.number (octets_or_none e.content)) c → (¬ Keeps w) → Kind (extras_of w) w.content.rules v → ⊥
         not_value ec c first never (inl (t, may)) = absurd (let q = s.constructed in cc)
         not_value ec c first never (inr (t, n, l, inl has)) =
             not_all_hold _ c first (content_same w.content.rules v.number e.number (take n v.rest) (octets_or_none e.content) (sym s.number) (taken n l) (has (sym s.class ∙ ec)).1)
-        not_value ec c first never (inr (t, n, l, inr (keeps, ber, uni, may))) = never (keeps, ber, s.class ∙ uni, subst (λ m. IsTrue (may_break m)) (sym s.number) may)
+        not_value ec c first never (inr (t, n, l, inr (keeps, ber, uni, may))) = never (keeps, ber)
 
         first_broken : (c : ContentError) → IsFirstBroken (content_rules w.content.rules e.number (octets_or_none e.content)) c → IsFirstBroken (content_rules w.content.rules v.number (take (length g.content.now) v.rest)) c
         first_broken c first =

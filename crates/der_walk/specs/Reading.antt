@@ -21,7 +21,7 @@ use Rattle.der_walk.specs.declared.content.Content.{Content}
 use Rattle.der_walk.specs.declared.content.Open.{Open}
 use Rattle.der_walk.specs.declared.element.Element.{Element}
 use Rattle.der_walk.specs.declared.walk.Walk.{Walk}
-use Rattle.der_walk.specs.Visits.{Visited, Extras, VisitsOne, IsHeaderBy, IsStringFront, HoldsElement, may_break}
+use Rattle.der_walk.specs.Visits.{Visited, Extras, VisitsOne, IsHeaderBy, IsStringFront, HoldsElement}
 use Rattle.der_walk.specs.declared.content.End.{End}
 use Rattle.der_walk.specs.declared.refusal.Refusal.{Refusal}
 use Rattle.der_walk.specs.Ends.{between, end_from, end_in, end_of, ends_at_marker, limit_of, overrun, IsEndOf, IsWithin}
@@ -60,7 +60,7 @@ abbrev pub IsChecked : Bool → Rules → Element → Bool → Type 0
 IsChecked keeps r e breaks = ((e.constructed ≡ true) × MayBeConstructed r e.class e.number × (breaks ≡ false))
     ⊎ ((e.constructed ≡ false) × MayHaveContent r e.class e.number (octets_or_none e.content) × (breaks ≡ false))
     ⊎ ((e.constructed ≡ false) × (breaks ≡ true) × (keeps ≡ true) × (r ≡ Ber) × (e.class ≡ Universal)
-    × IsTrue (may_break e.number) × (¬ IsContent r e.number (octets_or_none e.content)))
+    × (e.number ≢ 0) × (¬ IsContent r e.number (octets_or_none e.content)))
 
 -- the octets of a primitive string that may hold an element
 abbrev pub FindsString : Element → Option (Bor (List ℕ)) → Type 0
@@ -193,8 +193,8 @@ pub record LacksContent (w : Walk) (here : List ℕ) (e : Element) (f : Refusal)
   pub step : IsSomeAnd f.step (λ s. IsStep s e.class e.number e.index)
 
 -- a primitive element is visited whose content breaks its type
-abbrev pub Keeps : Walk → Element → Type 0
-Keeps w e = (w.keeps_values ≡ true) × (w.content.rules ≡ Ber) × (e.class ≡ Universal) × IsTrue (may_break e.number)
+abbrev pub Keeps : Walk → Type 0
+Keeps w = (w.keeps_values ≡ true) × (w.content.rules ≡ Ber)
 
 -- why it isn't a constructed element
 abbrev pub FailsConstructed : Rules → Element → Cause → Type 0
@@ -205,7 +205,7 @@ FailsConstructed r e c = (e.constructed ≡ true) × (¬ MayBeConstructed r e.cl
 -- or a primitive one
 abbrev pub FailsPrimitive : Walk → Element → Cause → Type 0
 FailsPrimitive w e c = (e.constructed ≡ false) × (e.class ≡ Universal) × (((e.number ≡ 0) × (c ≡ EndMarker))
-    ⊎ ((e.number ≢ 0) × (¬ Keeps w e) × (f : ContentError)
+    ⊎ ((e.number ≢ 0) × (¬ Keeps w) × (f : ContentError)
     × IsFirstBroken (content_rules w.content.rules e.number (octets_or_none e.content)) f × (c ≡ Value f)))
 
 -- the element e is refused itself

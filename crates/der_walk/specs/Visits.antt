@@ -1,12 +1,10 @@
 -- What a walk visits, in preorder.
-use Rattle.std.specs.Prelude.{◌≡◌, ℕ, suc, ◌+◌, ◌/◌, ◌%◌, ◌^◌, ◌<◌, ◌⊎◌, Bool, true, false, not, ◌&&◌, ◌||◌, ◌==◌}
+use Rattle.std.specs.Prelude.{◌≡◌, ◌≢◌, ℕ, suc, ◌+◌, ◌/◌, ◌%◌, ◌^◌, ◌<◌, ◌⊎◌, Bool, true, false, not, ◌&&◌, ◌||◌, ◌==◌}
 use Rattle.std.specs.Prelude.{nat_lt, IsTrue, slice_index, Option, Some, None, List, [], ◌∷◌, ◌++◌, length}
 use Rattle.der_base.specs.declared.header.Class.{Class}
 use Rattle.der_base.specs.declared.header.Class.TheVariants.{Universal}
 use Rattle.der_base.specs.Octets.{identifier}
 use Rattle.der_base.specs.Spelling.{end_marker}
-use Rattle.der_base.specs.Leaf.{is_time}
-use Rattle.der_base.specs.Text.{is_one_of, is_text_type}
 use Rattle.der_base.specs.declared.rules.Rules.{Rules}
 use Rattle.der_base.specs.declared.rules.Rules.TheVariants.{Ber, Der}
 use Rattle.der_check.specs.Elements.{IsElement, MayBeConstructed, MayHaveContent, SpellsLengthBy}
@@ -27,7 +25,7 @@ pub record Visited : Type 0 where
   pub depth : ℕ
   -- it is a string, whose content is an element that is visited next
   pub holds_der : Bool
-  -- its content octets break a rule of its type: a text (8.23), a time (8.25) or an identifier (8.19, 8.20)
+  -- its content octets break a rule of its type
   pub breaks_its_type : Bool
 
 -- what a walk visits besides the elements of X.690
@@ -55,10 +53,6 @@ visited at k c p t h n = record {
   holds_der = false;
   breaks_its_type = false;
 }
-
--- the universal types of which it may be visited: texts (8.23), times (8.25), identifiers (8.19, 8.20)
-abbrev pub may_break : ℕ → Bool
-may_break t = is_text_type t || is_time t || is_one_of (6 ∷ 13 ∷ 28 ∷ 30 ∷ []) t
 
 -- what is in front of the octets of a string: nothing in an OCTET STRING, and in a BIT STRING the octet that says that
 -- no bit is unused (8.6.2, 8.7)
@@ -98,7 +92,7 @@ mutual
     -- the content breaks its type
     broken : {r : Rules} {d k a : ℕ} {b : List ℕ} {vs : List Visited} (t : ℕ) (h w : List ℕ)
         → IsHeaderBy r Universal false t (Some (length w)) h → b ≡ h ++ w → x.keeps_values ≡ true → r ≡ Ber
-        → IsTrue (may_break t) → ¬ IsContent r t w
+        → t ≢ 0 → ¬ IsContent r t w
         → vs ≡ record (visited a k Universal false t h (Some (length w))) { breaks_its_type = true } ∷ []
         → VisitsOne x r (suc d) k a b vs
     string : {r : Rules} {d k a : ℕ} {b : List ℕ} {vs : List Visited} (t : ℕ) (h w u v : List ℕ) (us : List Visited)

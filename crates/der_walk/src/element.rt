@@ -1,6 +1,6 @@
 //! An element that a walk visits.
 ghost use Rattle.std.specs.Prelude.{◌≡◌, ◌↔◌, ℕ, IsTrue, List, MatchOption, ◌∷◌};
-ghost use Rattle.der_walk.specs.Visits.{begins_like_element, may_break};
+ghost use Rattle.der_walk.specs.Visits.{begins_like_element};
 
 use crate::name::TypeName;
 use crate::path::Step;
@@ -68,13 +68,6 @@ impl<'a> Element<'a> {
         ensures { IsTrue result ↔ ((self.now.class ≡ Class.Universal) × (self.now.number ≡ number)) }
     {
         self.class == Class::Universal && self.number == number
-    }
-
-    /// Whether it is of a type of which a content that breaks it may be visited: a text, a time or an identifier.
-    pub(crate) fn may_break(&self) -> bool
-        ensures { IsTrue result ↔ ((self.now.class ≡ Class.Universal) × IsTrue (may_break self.now.number)) }
-    {
-        self.class == Class::Universal && matches!(self.number, 6 | 7 | 12 | 13 | 18..=28 | 30)
     }
 
     /// Whether it is a string whose octets are one element of DER. A primitive element of another class than

@@ -297,17 +297,17 @@ impl<'a> Walk<'a> {
         let Err(e) = check_content(self.content.rules, element.number, content) else {
             return Ok(false);
         };
-        if self.keeps(element) {
+        if self.keeps() {
             return Ok(true);
         }
         Err(Refusal::of(element, Cause::Value(e)))
     }
 
     /// Whether an element here is visited though its content breaks its type.
-    fn keeps(&self, element: &Element<'a>) -> bool
-        ensures { IsTrue result ↔ Keeps self.now element.now }
+    fn keeps(&self) -> bool
+        ensures { IsTrue result ↔ Keeps self.now }
     {
-        self.keeps_values && self.content.rules == Rules::Ber && element.may_break()
+        self.keeps_values && self.content.rules == Rules::Ber
     }
 
     /// Goes on after an element, or to the elements inside if they are visited next.

@@ -16,7 +16,8 @@ returns-then-keeps-clause-checked c =
     let e = c.args.element.now in
     let same : c.unwrap_or-content.result.now ≡ octets_or_none e.content = ap (λ w. w.now) c.unwrap_or-content.ensures ∙ or_none e.content _ refl in
     let k = c.if-keeps.ensures.0 refl in
-    inr (inr (c.requires, refl, k.0, k.1, k.2, k.3, λ has. not_all_hold _ c.in-Err.e c.in-Err.ensures (subst (λ l. IsContent c.args.self.now.content.rules e.number l) (sym same) has)))
+    let uni : e.class ≡ Universal = search rules in
+    inr (inr (c.requires, refl, k.0, k.1, uni, c.if-element-eq0.false, λ has. not_all_hold _ c.in-Err.e c.in-Err.ensures (subst (λ l. IsContent c.args.self.now.content.rules e.number l) (sym same) has)))
 
 pub returns-clause-refused : goal.returns-clause-refused
 returns-clause-refused c =
