@@ -48,7 +48,7 @@ fn write_value_said<W: fmt::Write>(
 /// Writes a remark after two spaces.
 fn write_remark<W: fmt::Write>(f: &mut fmt::Formatter<W>, remark: Option<Remark<'_>>) -> fmt::Result
     ensures { DisplaysOnOk W.Write.write_str_gives f.old result
-        (Some (after_spaces (option_map remark_text remark))) f.new }
+        (Some (after_spaces (option_map remark_text remark.entry))) f.new }
 {
     match remark {
         Some(remark) => write!(f, "  {remark}"),
