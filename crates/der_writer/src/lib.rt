@@ -1,4 +1,4 @@
-//! Writing DER field after field into a buffer of the caller's (X.690 8, 10 and 11). It takes no memory.
+//! Writing DER field after field into a buffer of the caller's (X.690 8, 10 and 11). Only `to_vec` takes memory.
 #![tactic(auto)]
 
 mod element;
@@ -9,6 +9,8 @@ mod named_bits;
 mod optional;
 mod set_of;
 mod times;
+mod vectors;
 mod writer;
 
+pub use vectors::{Put, to_vec};
 pub use writer::{Mark, WriteError, Writer};

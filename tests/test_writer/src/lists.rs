@@ -1,6 +1,9 @@
 //! SET OF, values that may be absent, and named bits. Octets are of `openssl asn1parse -genconf`, but where a line says
 //! otherwise.
-use der_writer::Writer;
+ghost use Rattle.der_writer.specs.Fields.{OctetString, Sequence};
+
+use der_writer::{Put, Writer, to_vec};
+use std::test::Fail;
 
 /// What is put, and its octets.
 type Row = (&'static [&'static [u8]], &'static [u8]);
@@ -74,4 +77,43 @@ fn a_set_that_is_not_the_innermost_stays_open(rt: HostRuntime) {
     fields.close_set_of(set);
     assert!(rt; fields.finish().is_err());
     assert!(rt; &out[..10] == b"\x31\x00\x02\x01\x02\x31\x00\x02\x01\x01".as_slice());
+}
+
+/// Elements that were written before.
+struct Written {
+    octets: &'static [u8],
+}
+
+impl Put for Written {
+    ghost octets = { λ it. it.octets.now };
+
+    fn put(&self, fields: &mut Writer<'_>) {
+        fields.put_elements(self.octets);
+    }
+}
+
+/// An OCTET STRING in a SEQUENCE.
+struct Wrapped {
+    octets: &'static [u8],
+}
+
+impl Put for Wrapped {
+    ghost octets = { λ it. Sequence (OctetString it.octets.now) };
+
+    fn put(&self, fields: &mut Writer<'_>) {
+        let list = fields.open_sequence();
+        fields.put_octets(self.octets);
+        fields.close(list);
+    }
+}
+
+#[test]
+fn values_are_written_to_memory(rt: HostRuntime) -> Result<(), Fail> {
+    let none = to_vec(rt.alloc(), &Written { octets: b"" })?;
+    assert!(rt; none.is_empty());
+    let null = to_vec(rt.alloc(), &Written { octets: b"\x05\x00" })?;
+    assert_eq!(rt; null.as_slice(), b"\x05\x00".as_slice());
+    let list = to_vec(rt.alloc(), &Wrapped { octets: b"ab" })?;
+    assert_eq!(rt; list.as_slice(), b"\x30\x04\x04\x02ab".as_slice());
+    Ok(())
 }
