@@ -90,7 +90,7 @@ pub fn write_identifier(
     if tag.0 < 31 {
         write_octet(out, end, leading + tag.0 as u8)
     } else {
-        let begin = write_groups(out, end, tag.0);
+        let begin = write_groups(out, end, u64::from(tag.0));
         write_octet(out, begin, leading + 31)
     }
 }
@@ -109,8 +109,8 @@ fn leading_octet(class: Class, constructed: bool) -> u8
     if constructed { class + 0x20 } else { class }
 }
 
-/// Writes a tag number before an offset, in groups of seven bits (8.1.2.4.2).
-fn write_groups(out: &mut [u8], end: usize, n: u32) -> usize
+/// Writes a number before an offset, in the fewest groups of seven bits (8.1.2.4.2, 8.19.2).
+pub fn write_groups(out: &mut [u8], end: usize, n: u64) -> usize
     requires room { length (groups n) ≤ end }
     requires within { end ≤ length out.old }
     ensures { PutsBefore out.old out.new end (groups n) result }

@@ -10,7 +10,11 @@ ghost use Rattle.der_writer.specs.Written.{Puts, PutsArcs, PutsLeaf};
 use crate::writer::{Writer, tag_put};
 use der_base::error::OidParseError;
 use der_base::header::Tag;
+use der_octets::header::write_groups;
 use der_values::ObjectIdentifier;
+
+/// The groups of seven bits that a number of 64 bits has at most.
+const GROUPS: usize = 10;
 
 impl<'b> Writer<'b> {
     /// An OBJECT IDENTIFIER (8.19) or a RELATIVE-OID (8.20) with the content octets of the value.
@@ -62,19 +66,13 @@ impl<'b> Writer<'b> {
     }
 
     /// Puts a number as a subidentifier, in the fewest groups of seven bits (8.19.2).
+    #[tactic(auto, using(der_octets::proofs::Groups::groups_few, der_octets::proofs::Room::puts_tail))]
     fn put_subidentifier(&mut self, value: u64)
         ensures { Puts (groups value) self.old self.new }
     {
-        let mut last_groups = [0; 10];
-        last_groups[9] = (value % 128) as u8;
-        let mut begin: usize = 9;
-        let mut rest = value / 128;
-        while rest != 0 {
-            begin -= 1;
-            last_groups[begin] = 128 + (rest % 128) as u8;
-            rest /= 128;
-        }
-        self.put_elements(&last_groups[begin..]);
+        let mut octets = [0; GROUPS];
+        let begin = write_groups(&mut octets, GROUPS, value);
+        self.put_elements(&octets[begin..]);
     }
 }
 
