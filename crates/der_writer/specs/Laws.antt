@@ -1,5 +1,6 @@
 -- Statements of the laws in `src/laws.rt`.
-use Rattle.std.specs.Prelude.{◌≡◌, ◌≢◌, ℕ, suc, ◌^◌, ◌<◌, ◌≤◌, ℤ, true, false, List, [], ◌∷◌, ◌++◌, length}
+use Rattle.std.specs.Prelude.{◌≡◌, ◌≢◌, ℕ, suc, ◌^◌, ◌<◌, ◌≤◌, ℤ, true, false, List, [], ◌∷◌, ◌++◌, length, All}
+use Rattle.std.specs.List.{concat}
 use Rattle.der_base.specs.declared.header.Class.{Class}
 use Rattle.der_base.specs.declared.header.Class.TheVariants.{Universal}
 use Rattle.der_base.specs.Encoding.{content_octets}
@@ -10,7 +11,8 @@ use Rattle.der_base.specs.Spelling.{DerSpells, max_object_size}
 use Rattle.der_base.specs.Tree.{Node, node, Content, sequence, set, unknown, nodes_of}
 use Rattle.der_writer.specs.Fields.{primitive, constructed, Sequence, Set}
 use Rattle.der_writer.specs.Octets.{bit_octets, signed_integer}
-use Rattle.der_writer.specs.Spelled.{AreSpelled}
+use Rattle.der_writer.specs.SetsOf.{IsInOrder}
+use Rattle.der_writer.specs.Spelled.{AreSpelled, SpellsOne}
 
 -- a primitive element of a universal type is the DER spelling of its content
 abbrev pub LeavesSpell : Type 0
@@ -34,6 +36,12 @@ SequencesSpell = (w : List ℕ) (os : List Node) (d : ℕ) → AreSpelled w os d
 abbrev pub SetsSpell : Type 0
 SetsSpell = (w : List ℕ) (os : List Node) (d : ℕ) → AreSpelled w os d → length w ≤ max_object_size
     → DerSpells (Set w) (node Universal true 17 (set (nodes_of os))) (suc d)
+
+-- a SET OF spellings in order is one of the tree with those items
+abbrev pub SetsOfSpell : Type 0
+SetsOfSpell = (ss ts : List (List ℕ)) (d : ℕ) → All (SpellsOne d) ss → IsInOrder ss ts
+    → length (concat ts) ≤ max_object_size
+    → (os : List Node) × DerSpells (Set (concat ts)) (node Universal true 17 (set (nodes_of os))) (suc d)
 
 -- any octets under a tag of another class are a spelling of the element that keeps them
 abbrev pub TaggedSpell : Type 0

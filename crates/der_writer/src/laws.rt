@@ -1,12 +1,14 @@
 //! Laws of what is written. Each function's contract is a law, and its body is empty.
 ghost use Rattle.der_writer.specs.Laws.{BitsSpell, ElementsBegin, FieldsSpell, LeavesSpell, NumbersSpell};
-ghost use Rattle.der_writer.specs.Laws.{SequencesSpell, SetsSpell, TaggedSpell};
+ghost use Rattle.der_writer.specs.Laws.{SequencesSpell, SetsOfSpell, SetsSpell, TaggedSpell};
 
-/// Fields that are DER encodings, closed under SEQUENCE or SET, are the DER encoding of the list of them.
+/// Fields that are DER encodings, closed under SEQUENCE or SET, are the DER encoding of the list of them, and in order
+/// that of a SET OF.
 pub fn fields_spell()
     ensures fields { FieldsSpell }
     ensures sequences { SequencesSpell }
     ensures sets { SetsSpell }
+    ensures sets_of { SetsOfSpell }
     ensures tagged { TaggedSpell }
 {}
 
