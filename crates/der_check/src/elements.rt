@@ -66,13 +66,21 @@ fn after_element(i: &[u8], rules: Rules, max_depth: usize) -> Option<&[u8]>
     after_any(i, rules, max_depth)
 }
 
-/// Whether an identifier octet and a content are those of a primitive element of a universal type.
+/// Whether an identifier octet and a content are those of a primitive element of a universal type. The
+/// types that are common have calls of their own, so that each is compiled without the table of types.
 #[inline(always)]
 fn is_plain(rules: Rules, first: u8, content: &[u8]) -> bool
     ensures { IsTrue result → IsPlain rules first content.now }
 {
     match first {
-        1..=30 => is_content(rules, u32::from(first), content),
+        1 => is_content(rules, 1, content),
+        2 => is_content(rules, 2, content),
+        3 => is_content(rules, 3, content),
+        4 => is_content(rules, 4, content),
+        5 => is_content(rules, 5, content),
+        6 => is_content(rules, 6, content),
+        10 => is_content(rules, 10, content),
+        7..=30 => is_content(rules, u32::from(first), content),
         _ => false,
     }
 }
