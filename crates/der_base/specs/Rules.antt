@@ -2,7 +2,8 @@
 use Rattle.std.specs.Prelude.{ℕ, List}
 use Rattle.der_base.specs.declared.rules.Rules.{Rules}
 use Rattle.der_base.specs.declared.rules.Rules.TheVariants.{Ber, Der}
-use Rattle.der_base.specs.Headers.{HeaderAnswer, AnswersBerHeader, AnswersDerHeader, LeadingHeader, SpellsHeader, SpellsDerHeader}
+use Rattle.der_base.specs.Headers.{HeaderAnswer, AnswersBerHeader, AnswersDerHeader, LeadingHeader, SpellsHeader}
+use Rattle.der_base.specs.Headers.{SpellsDerHeader}
 
 -- i begins with a header, by these rules
 abbrev pub SpellsHeaderBy : Rules → List ℕ → LeadingHeader → Type 0

@@ -12,7 +12,8 @@ use Rattle.der_base.specs.Containers.{Answered}
 use Rattle.der_base.specs.ListSteps.{ListSteps, items_of}
 use Rattle.der_base.specs.SetOfOrder.{OrderedSteps}
 use Rattle.der_object.specs.declared.object.BerObject.{BerObject}
-use Rattle.der_object.specs.declared.object.BerObjectContent.TheVariants.{Sequence as SequenceContent, Set as SetContent}
+use Rattle.der_object.specs.declared.object.BerObjectContent.TheVariants.{Sequence as SequenceContent}
+use Rattle.der_object.specs.declared.object.BerObjectContent.TheVariants.{Set as SetContent}
 use Rattle.der_object.specs.Objects.{IsMadeOf}
 use Rattle.der_combinators.specs.declared.list_type.ListType.{ListType}
 use Rattle.der_combinators.specs.declared.list_type.ListType.TheVariants.{Sequence, Set}

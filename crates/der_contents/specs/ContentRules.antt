@@ -11,7 +11,8 @@ use Rattle.der_contents.specs.declared.content_error.ContentError.TheVariants as
 use Rattle.der_contents.specs.Grammar.{BeginsWithNo}
 use Rattle.der_values.specs.Kinds.{EndsSubidentifier, HasPaddedArc}
 use Rattle.der_contents.specs.RealForms.{exponent_of, mantissa_of, EndsOdd, IsDecimal, IsStrictDecimal}
-use Rattle.der_contents.specs.TimeForms.{IsUtcTimeText, IsGeneralizedTimeText, EndsInZ, HasDigits, HasComma, HasLastZero}
+use Rattle.der_contents.specs.TimeForms.{IsUtcTimeText, IsGeneralizedTimeText, EndsInZ, HasDigits, HasComma}
+use Rattle.der_contents.specs.TimeForms.{HasLastZero}
 
 -- a rule, and the error where it doesn't hold
 pub record Rule : Type 1 where
