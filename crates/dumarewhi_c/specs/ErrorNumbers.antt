@@ -8,6 +8,8 @@ use Rattle.der_base.specs.Refusal.{unknown_tag, unexpected_tag, unexpected_class
 use Rattle.der_base.specs.Refusal.{construct_unexpected, integer_too_large, integer_negative, invalid_value}
 use Rattle.der_base.specs.Refusal.{invalid_charset, invalid_date_time, unsupported, der_constraint, incomplete}
 use Rattle.der_base.specs.Refusal.{parser_fault}
+use Rattle.der_contents.specs.declared.content_error.ContentError.{ContentError}
+use Rattle.der_contents.specs.declared.content_error.ContentError.TheVariants as contents
 use Rattle.der_walk.specs.declared.cause.Cause.{Cause}
 use Rattle.der_walk.specs.declared.cause.Cause.TheVariants as causes
 
@@ -52,15 +54,53 @@ abbrev pub number_of_result : {V : Type 0} → Result V BerError → ℕ
 number_of_result (Ok v) = 0
 number_of_result (Err e) = refusal_number (refusal e)
 
+-- of a rule that content octets break: that of the nearest error of a reader
+abbrev pub content_number : ContentError → ℕ
+content_number contents.BooleanLength = 4
+content_number contents.BooleanValue = 35
+content_number contents.NumberEmpty = 4
+content_number contents.NumberPadded = 2
+content_number contents.UnusedBitsMissing = 4
+content_number contents.UnusedBitsAboveSeven = 13
+content_number contents.UnusedBitsOfNone = 13
+content_number contents.UnusedBitsNotZero = 42
+content_number contents.NullNotEmpty = 4
+content_number contents.IdentifierEmpty = 2
+content_number contents.ArcOpen = 2
+content_number contents.ArcPadded = 2
+content_number contents.RealBaseReserved = 2
+content_number contents.RealExponentMissing = 2
+content_number contents.RealMantissaMissing = 2
+content_number contents.RealExponentPadded = 2
+content_number contents.RealBaseOrScale = 2
+content_number contents.RealExponentNotFewest = 2
+content_number contents.RealMantissaNotFewest = 2
+content_number contents.RealSpecial = 2
+content_number contents.RealDecimal = 2
+content_number contents.RealDecimalNotStrict = 2
+content_number contents.NotUtf8 = 14
+content_number contents.CharacterOutside = 14
+content_number contents.UniversalStringLength = 4
+content_number contents.BmpStringLength = 4
+content_number contents.TimeText = 15
+content_number contents.TimeNotInZ = 39
+content_number contents.TimeWithoutSeconds = 40
+content_number contents.TimeComma = 41
+content_number contents.TimeLastZero = 41
+content_number contents.SequencePrimitive = 9
+content_number contents.SetPrimitive = 9
+content_number contents.EmbeddedPdvPrimitive = 9
+content_number contents.ExternalPrimitive = 9
+content_number contents.CharacterStringPrimitive = 9
+
 -- Of the cause why elements aren't written. An input that is cut short is no error.
 abbrev pub cause_number : Cause → ℕ
 cause_number (causes.Cut n) = 0
 cause_number (causes.PastEnd n) = 17
 cause_number causes.NoEndMarker = 48
 cause_number causes.EndMarker = 49
-cause_number causes.PaddedArc = 2
 cause_number (causes.Header e) = refusal_number (refusal e)
-cause_number (causes.Value e) = refusal_number (refusal e)
+cause_number (causes.Value e) = content_number e
 cause_number causes.Constructed = 10
 cause_number causes.ConstructedString = 34
 cause_number causes.OtherPart = 50

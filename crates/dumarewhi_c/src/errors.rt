@@ -1,9 +1,11 @@
 //! Errors by numbers.
 ghost use Rattle.std.specs.Prelude.{◌≡◌};
 ghost use Rattle.der_base.specs.Refusal.{refusal};
-ghost use Rattle.dumarewhi_c.specs.ErrorNumbers.{cause_number, constraint_number, number_of_result, refusal_number};
+ghost use Rattle.dumarewhi_c.specs.ErrorNumbers.{cause_number, constraint_number, content_number};
+ghost use Rattle.dumarewhi_c.specs.ErrorNumbers.{number_of_result, refusal_number};
 
 use der_base::error::{BerError, DerConstraint};
+use der_contents::ContentError;
 use der_walk::Cause;
 
 /// The number of an error.
@@ -53,6 +55,47 @@ fn constraint_number(constraint: DerConstraint) -> u32
     }
 }
 
+/// The number of a rule that content octets break: that of the nearest error of a reader.
+fn content_number(e: ContentError) -> u32
+    ensures { result ≡ content_number e }
+{
+    match e {
+        ContentError::NumberPadded
+        | ContentError::IdentifierEmpty
+        | ContentError::ArcOpen
+        | ContentError::ArcPadded
+        | ContentError::RealBaseReserved
+        | ContentError::RealExponentMissing
+        | ContentError::RealMantissaMissing
+        | ContentError::RealExponentPadded
+        | ContentError::RealBaseOrScale
+        | ContentError::RealExponentNotFewest
+        | ContentError::RealMantissaNotFewest
+        | ContentError::RealSpecial
+        | ContentError::RealDecimal
+        | ContentError::RealDecimalNotStrict => 2,
+        ContentError::BooleanLength
+        | ContentError::NumberEmpty
+        | ContentError::UnusedBitsMissing
+        | ContentError::NullNotEmpty
+        | ContentError::UniversalStringLength
+        | ContentError::BmpStringLength => 4,
+        ContentError::ExternalPrimitive
+        | ContentError::EmbeddedPdvPrimitive
+        | ContentError::SequencePrimitive
+        | ContentError::SetPrimitive
+        | ContentError::CharacterStringPrimitive => 9,
+        ContentError::UnusedBitsAboveSeven | ContentError::UnusedBitsOfNone => 13,
+        ContentError::NotUtf8 | ContentError::CharacterOutside => 14,
+        ContentError::TimeText => 15,
+        ContentError::BooleanValue => 35,
+        ContentError::TimeNotInZ => 39,
+        ContentError::TimeWithoutSeconds => 40,
+        ContentError::TimeComma | ContentError::TimeLastZero => 41,
+        ContentError::UnusedBitsNotZero => 42,
+    }
+}
+
 /// The number of the cause why elements aren't written. An input that is cut short is no error, and has 0.
 pub(crate) fn cause_number(cause: Cause) -> u32
     ensures { result ≡ cause_number cause }
@@ -62,8 +105,8 @@ pub(crate) fn cause_number(cause: Cause) -> u32
         Cause::PastEnd(_) => 17,
         Cause::NoEndMarker => 48,
         Cause::EndMarker => 49,
-        Cause::PaddedArc => 2,
-        Cause::Header(e) | Cause::Value(e) => refusal_number(e),
+        Cause::Header(e) => refusal_number(e),
+        Cause::Value(e) => content_number(e),
         Cause::Constructed => 10,
         Cause::ConstructedString => 34,
         Cause::OtherPart => 50,
