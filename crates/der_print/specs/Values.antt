@@ -146,7 +146,7 @@ is_shown_decimal limit a w =
 abbrev pub real_text : Limit → List ℕ → List ℕ
 real_text limit [] = codes "0"
 real_text limit (a ∷ w) =
-    if nat_le (length w) 0 then special_text a else if is_shown_decimal limit a w then w else hex_text limit (a ∷ w)
+    if length w == 0 then special_text a else if is_shown_decimal limit a w then w else hex_text limit (a ∷ w)
 
 -- the numbers of the types whose value is quoted, and of all others whose value isn't printed as octets
 abbrev pub is_quoted_type : ℕ → Bool
