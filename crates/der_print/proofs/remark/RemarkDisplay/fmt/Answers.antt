@@ -16,5 +16,5 @@ returns-clause-writes g c =
     let found = c.in_ok-write_str.ensures.writes plain refl in
     let fault = c.in_ok-write_fault.ensures found.plain refl in
     let clause = c.write.ensures.writes fault.plain ok in
-    has_written_of_eq _ _ _ _ _ (remark_shown _ _ _ _ _ _ c.found.ensures c.fault_in.ensures c.clause-clause.ensures)
+    has_written_of_eq _ _ _ _ _ (remark_shown c.args.self.now.error c.args.self.now.number c.args.self.now.octets.now _ _ _ c.found.ensures c.fault_in.ensures c.clause-clause.ensures)
     (has_written_append _ _ _ _ _ _ found (has_written_append _ _ _ _ _ _ fault clause))
