@@ -1,9 +1,12 @@
 //! Object identifiers (X.690 8.19 and 8.20).
-ghost use Rattle.std.specs.Prelude.{◌≡◌};
+ghost use Rattle.std.specs.Prelude.{◌≡◌, Some};
+ghost use Rattle.std.specs.Fmt.{DisplaysOnOk};
+ghost use Rattle.der_base.specs.Pretty.{pointed};
+ghost use Rattle.der_values.specs.Identifiers.{u128_arcs_left};
 
 use crate::octets::Hex;
 use crate::style::Limit;
-use der_values::ObjectIdentifier;
+use der_values::{ObjectIdentifier, U128Arcs};
 use std::fmt;
 
 /// An identifier with points between its arcs. One without an end, or with an arc of 2^128 and above, is printed by its
@@ -24,16 +27,50 @@ impl fmt::Display for Arcs<'_> {
 
     fn fmt<W: fmt::Write>(&self, f: &mut fmt::Formatter<W>) -> fmt::Result {
         let octets = self.octets;
-        let identifier = identifier_of(octets, self.relative);
-        if identifier.u128_arcs().is_none() {
+        let Some(arcs) = identifier_of(octets, self.relative).u128_arcs() else {
             let limit = Limit::Whole;
             return write!(f, "octets {}", Hex { octets, limit });
-        }
+        };
+        let numbers = Numbers { arcs };
         if self.relative && !octets.is_empty() {
-            return write!(f, ".{identifier}");
+            return write!(f, ".{numbers}");
         }
-        write!(f, "{identifier}")
+        write!(f, "{numbers}")
     }
+}
+
+/// Arcs with points between them. (`ObjectIdentifier` is printed so too, but by an `Oid`, which may own memory, where
+/// it has no such arcs: then the page would need some.)
+#[derive(Clone, Copy)]
+struct Numbers<'a> {
+    arcs: U128Arcs<'a>,
+}
+
+impl fmt::Display for Numbers<'_> {
+    ghost use Rattle.std.specs.Prelude.{Some};
+    ghost use Rattle.der_base.specs.Pretty.{dotted};
+    ghost use Rattle.der_values.specs.Identifiers.{u128_arcs_left};
+
+    ghost output = { λ x. Some (dotted (u128_arcs_left x.arcs)) };
+
+    fn fmt<W: fmt::Write>(&self, f: &mut fmt::Formatter<W>) -> fmt::Result {
+        let mut arcs = self.arcs;
+        let Some(first) = arcs.next() else {
+            return Ok(());
+        };
+        write!(f, "{first}")?;
+        write_further_arcs(f, arcs)
+    }
+}
+
+/// Writes arcs, each after a point.
+fn write_further_arcs<W: fmt::Write>(f: &mut fmt::Formatter<W>, arcs: U128Arcs<'_>) -> fmt::Result
+    ensures { DisplaysOnOk W.Write.write_str_gives f.old result (Some (pointed (u128_arcs_left arcs.entry))) f.new }
+{
+    for arc in arcs {
+        write!(f, ".{arc}")?;
+    }
+    Ok(())
 }
 
 /// The identifier with these content octets.
