@@ -25,9 +25,9 @@ const ROWS: [Row; 6] = [
         report: "der: input: at 7, SEQUENCE[0].SEQUENCE[1].INTEGER[0]: \
 the first nine bits of a number are alike (X.690 8.3.2)\n",
     },
-    // A BOOLEAN of two octets.
+    // A BOOLEAN of two octets, which a tree by BER marks.
     Row {
-        rules: Rules::Ber,
+        rules: Rules::Der,
         input: b"\x30\x07\x02\x01\x05\x01\x02\x00\x00",
         lines: "      0  2+7       SEQUENCE\n      2  2+1         INTEGER 5\n",
         report: "der: input: at 5, SEQUENCE[0].BOOLEAN[1]: \
