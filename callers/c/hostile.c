@@ -108,8 +108,30 @@ static uint8_t *write_in_room(const uint8_t *input, size_t length, size_t room, 
     return out;
 }
 
+/* Whether dm_check_der refuses an element by one of der-parser's rules, which X.690 doesn't have: that a T61String and
+ * the like are UTF-8 and a BMPString is UTF-16, that an ENUMERATED is from 0 to 2^64-1, that a second is below 60. */
+static int is_of_der_parser(const uint8_t *element, uint32_t error) {
+    switch (*element) {
+    case 0x07: case 0x14: case 0x15: case 0x19: case 0x1b: case 0x1e: return error == 14;
+    case 0x0a: return error == 11 || error == 12;
+    case 0x17: case 0x18: return error == 15;
+    default: return 0;
+    }
+}
+
+/* Whether the octets are elements of DER, as far as dm_check_der looks. */
+static int are_der(const uint8_t *octets, size_t length) {
+    dm_outcome outcome;
+    for (size_t at = 0; at < length; at += outcome.length) {
+        uint32_t status = dm_check_der(octets + at, length - at, DM_MAX_DEPTH, &outcome);
+        if (status == DM_ERROR) return is_of_der_parser(octets + at + outcome.place, outcome.error);
+        if (status != DM_OK) return 0;
+    }
+    return 1;
+}
+
 /* The input as DER writes it: the room that is counted is enough, with less it is counted again, and what is written
- * is DER, which is written as it is. */
+ * is DER that is written as it is. */
 static void test_writing(const uint8_t *input, size_t length) {
     dm_outcome counted, written, again;
     free(write_in_room(input, length, 0, &counted));
@@ -121,7 +143,7 @@ static void test_writing(const uint8_t *input, size_t length) {
     expect(written.status != DM_NO_ROOM, "the room that is counted is too small");
     if (counted.status != DM_NO_ROOM) expect(memcmp(&counted, &written, sizeof written) == 0, "writing twice");
     if (written.status == DM_OK) {
-        expect(written.length == counted.length, "what is written isn't what is counted");
+        expect(written.length == counted.length && are_der(out, written.length), "what is written isn't DER");
         uint8_t *twice = write_in_room(out, written.length, written.length, &again);
         expect(again.status == DM_OK && again.length == written.length && memcmp(out, twice, written.length) == 0,
                "DER is changed");
