@@ -21,13 +21,13 @@ use Rattle.der_base.proofs.Octets.Identifiers.{fronts_same}
 use Rattle.der_check.specs.Elements.{AreElements, IsElement, none, one_more, primitive, constructed, indefinite}
 use Rattle.der_check.specs.Elements.{MayBeConstructed, MayHaveContent, SpellsLengthBy}
 use Rattle.der_check.specs.Readers.{Finds, BeginsWithContent, BeginsWithElement, BeginsWithElements}
-use Rattle.der_check.specs.Readers.{BeginsWithOpenContent, BeginsWithPart}
+use Rattle.der_check.specs.Readers.{BeginsWithOpenContent, BeginsWithPart, Follows}
 use Rattle.der_check.proofs.FirstOctets.{zero_first, constructed_first}
 use Rattle.der_check.proofs.HeadersBy.{spells_definite, definite_spelled, spells_open, open_spelled}
 use Rattle.der_check.proofs.HeadersBy.{header_only, header_read, header_refused, header_shorter}
 
 -- an element doesn't begin with the octet of an end marker
-no_zero_first : (r : Rules) (d : ℕ) (b more rest : List ℕ) → IsElement r d b → 0 ∷ more ≡ b ++ rest → ⊥
+pub no_zero_first : (r : Rules) (d : ℕ) (b more rest : List ℕ) → IsElement r d b → 0 ∷ more ≡ b ++ rest → ⊥
 no_zero_first r d b more rest (primitive c t s w ht hs eb m) e =
     let z = zero_first (0 ∷ more) c t (s ++ (w ++ rest)) refl (e ∙ definite_part c false t s w b rest eb) in
     (m z.0).0 z.1
@@ -46,10 +46,6 @@ pub none_at_depth : (r : Rules) (d : ℕ) (i : List ℕ) → d ≡ 0 → Finds (
 none_at_depth r d i z = record { found = tt; only = λ rest e. no_depth r d e.0 z e.2 }
 
 -- what follows a header
-
-abbrev pub Follows : Rules → ℕ → Class → Bool → ℕ → Length → List ℕ → List ℕ → Type 0
-Follows r d c false t l i rest = BeginsWithContent r c t l i rest
-Follows r d c true t l i rest = MayBeConstructed r c t × BeginsWithElements r (d - 1) l i rest
 
 abbrev FollowsHeader : Rules → ℕ → LeadingHeader → List ℕ → Type 0
 FollowsHeader r d v rest = Follows r d v.class v.constructed v.number v.length v.rest rest
@@ -72,7 +68,7 @@ header_of r d i rest (b, e, indefinite {d = k} c t w ht er eb m a) =
     (v, subst (λ q. SpellsHeaderBy q i v) (sym er) (spells_open i c t (w ++ (end_marker ++ rest)) ht (e ∙ open_part c true t w b rest eb)), (m, (w, refl, one_less r k w a)))
 
 -- and a header and what follows it are one
-definite_octets : (i s w rest behind b : List ℕ) (c : Class) (p : Bool) (t : ℕ) → i ≡ identifier c p t ++ (s ++ behind) → behind ≡ w ++ rest → b ≡ identifier c p t ++ s ++ w → i ≡ b ++ rest
+pub definite_octets : (i s w rest behind b : List ℕ) (c : Class) (p : Bool) (t : ℕ) → i ≡ identifier c p t ++ (s ++ behind) → behind ≡ w ++ rest → b ≡ identifier c p t ++ s ++ w → i ≡ b ++ rest
 definite_octets i s w rest behind b c p t e ew eb = e ∙ ap (λ l. identifier c p t ++ (s ++ l)) ew ∙ sym (definite_part c p t s w b rest eb)
 
 element_of : (r : Rules) (d : ℕ) (i rest : List ℕ) (v : LeadingHeader) (p : Bool) (l : Length) → v.constructed ≡ p → v.length ≡ l → SpellsHeaderBy r i v
@@ -143,7 +139,7 @@ part_found P n i w rest en e h = record { found = (w, en, e, h); only = λ rest'
 pub no_part : (P : List ℕ → Type 0) (n : ℕ) (i w rest : List ℕ) → length w ≡ n → i ≡ w ++ rest → (P w → ⊥) → Finds (BeginsWithPart P n i) None
 no_part P n i w rest en e never = record { found = tt; only = λ rest' p. never (subst P (sym (fronts_same w p.0 rest rest' (en ∙ sym p.1) (sym e ∙ p.2)).0) p.3) }
 
-split : (n : ℕ) (i w rest : List ℕ) → w ≡ take n i → rest ≡ drop n i → i ≡ w ++ rest
+pub split : (n : ℕ) (i w rest : List ℕ) → w ≡ take n i → rest ≡ drop n i → i ≡ w ++ rest
 split n i w rest front back = sym (ap (λ v. v ++ rest) front ∙ ap (λ v. take n i ++ v) back ∙ take-append-drop n i)
 
 -- the content of a primitive element

@@ -1,5 +1,6 @@
 -- Headers by the rules: what is read is spelled, and what is spelled is read.
-use Rattle.std.proofs.Common.{◌≡◌, ℕ, ◌^◌, ◌<◌, Bool, true, List, ◌∷◌, ◌++◌, length, Ok, Err, refl, sym, ap, subst, ◌∙◌, arith, append_assoc, length-append}
+use Rattle.std.proofs.Common.{◌≡◌, ℕ, ◌+◌, ◌^◌, ◌<◌, ◌≤◌, Bool, true, List, ◌∷◌, ◌++◌, length, Ok, Err, refl, sym, ap, subst, ◌∙◌, ⊎_elim, arith, append_assoc, length-append}
+use Rattle.std.proofs.lemmas.Bool.{cases_lt}
 use Rattle.std.specs.Borrow.{Bor}
 use Rattle.der_base.specs.declared.error.Err.{Err as Refused}
 use Rattle.der_base.specs.declared.error.Err.TheVariants.{Incomplete, Error, Failure, OutOfMemory}
@@ -13,6 +14,7 @@ use Rattle.der_base.specs.Headers.{BeginsWithHeader, LeadingHeader, leading_head
 use Rattle.der_base.specs.Octets.{identifier, shortest_length}
 use Rattle.der_base.proofs.Framing.FramingLists.{header_takes_two, definite_header, indefinite_header}
 use Rattle.der_base.proofs.Octets.Identifiers.{identifier_octets}
+use Rattle.der_base.proofs.Octets.ShortestLengths.{shortest_long, shortest_short}
 use Rattle.der_base.proofs.Headers.BerHeaders.{ber_header_same, ber_header_shows_one}
 use Rattle.der_base.proofs.Headers.DerHeaders.{der_header_same, der_header_shows_one}
 use Rattle.der_base.specs.declared.rules.Rules.{Rules}
@@ -91,7 +93,12 @@ pub header_identifier : (r : Rules) (i : List ℕ) (v : LeadingHeader) → Spell
 header_identifier Ber i v h = (h.following, h.octets)
 header_identifier Der i v h = (shortest_length h.0 ++ v.rest, h.2.octets ∙ append_assoc (identifier v.class v.constructed v.number) (shortest_length h.0) v.rest)
 
-pub header_shorter : (r : Rules) (i : List ℕ) (v : LeadingHeader) → SpellsHeaderBy r i v → length v.rest < length i
-header_shorter Ber i v h = omega (arith, header_takes_two i v.rest v.class v.constructed v.number v.length h)
+-- it has at least two octets
+length_some : (n : ℕ) → 0 < length (shortest_length n)
+length_some n = ⊎_elim (λ (h : n < 128). omega (arith, ap length (shortest_short n h))) (λ h. omega (arith, ap length (shortest_long n h))) (cases_lt n 128)
+
+pub header_shorter : (r : Rules) (i : List ℕ) (v : LeadingHeader) → SpellsHeaderBy r i v → length v.rest + 2 ≤ length i
+header_shorter Ber i v h = header_takes_two i v.rest v.class v.constructed v.number v.length h
 header_shorter Der i v h =
-    omega (arith, ap length h.2.octets, identifier_octets v.class v.constructed v.number, length-append (identifier v.class v.constructed v.number ++ shortest_length h.0) v.rest, length-append (identifier v.class v.constructed v.number) (shortest_length h.0))
+    let front = identifier v.class v.constructed v.number in
+    omega (arith, ap length h.2.octets, identifier_octets v.class v.constructed v.number, length_some h.0, length-append (front ++ shortest_length h.0) v.rest, length-append front (shortest_length h.0))

@@ -1,6 +1,6 @@
 -- Elements with a header of two octets.
 use Rattle.std.proofs.Common.{◌≡◌, ℕ, ◌+◌, ◌-◌, ◌<◌, ◌≤◌, Bool, true, false, List, ◌++◌, length, Option, Some, None, refl}
-use Rattle.std.proofs.Common.{ap, arith, length-append, inl, inr}
+use Rattle.std.proofs.Common.{◌∙◌, sym, subst, ap, arith, length-append, inl, inr}
 use Rattle.std.specs.Borrow.{Bor}
 use Rattle.der_base.specs.declared.header.Class.TheVariants.{Universal}
 use Rattle.der_base.specs.declared.header.Length.TheVariants.{Definite}
@@ -9,19 +9,23 @@ use Rattle.der_base.specs.declared.rules.Rules.TheVariants.{Ber, Der}
 use Rattle.der_base.specs.Headers.{LeadingHeader}
 use Rattle.der_base.specs.Octets.{leading_bits}
 use Rattle.der_base.specs.Rules.{SpellsHeaderBy}
-use Rattle.der_nodes.specs.Inner.{IsShort}
-use Rattle.der_nodes.proofs.ShortLaws.{IsListOctet, short_header, short_der_header}
+use Rattle.der_nodes.specs.declared.element.Element.{Element}
+use Rattle.der_nodes.specs.Inner.{IsShort, universal_element}
+use Rattle.der_nodes.proofs.ShortLaws.{IsListOctet, short_header, short_der_header, short_octets}
+use Rattle.der_check.specs.declared.tape.Tape.{Tape}
 use Rattle.der_check.specs.Elements.{AreElements, MayBeConstructed, MayHaveContent}
-use Rattle.der_check.specs.Readers.{BeginsWithElement, BeginsWithPart, Finds, IsPlain}
-use Rattle.der_check.proofs.ElementLaws.{Follows, constructed_follow, header_finds, no_part, part_found}
+use Rattle.der_check.specs.Readers.{BeginsWithElement, BeginsWithPart, Finds, Follows, IsPlain}
+use Rattle.der_check.proofs.ElementLaws.{constructed_follow, header_finds, no_part, part_found}
+use Rattle.der_check.specs.Tapes.{KeepsElement, KeepsElements}
 use Rattle.der_check.proofs.HeadersBy.{header_same}
+use Rattle.der_check.proofs.TapeLaws.{Writes, content_listed, element_listed, keeps_none, of_header}
 
 -- the header of an element of a universal type
-abbrev universal_header : Bool → ℕ → List ℕ → List ℕ → LeadingHeader
+abbrev pub universal_header : Bool → ℕ → List ℕ → List ℕ → LeadingHeader
 universal_header p t w rest =
     record { class = Universal; constructed = p; number = t; length = Definite (length w); rest = w ++ rest }
 
-spelled : (r : Rules) (i : List ℕ) (p : Bool) (t first : ℕ) (w rest : List ℕ) → t < 31 → first ≡ leading_bits Universal p + t → IsShort i first w rest
+pub spelled : (r : Rules) (i : List ℕ) (p : Bool) (t first : ℕ) (w rest : List ℕ) → t < 31 → first ≡ leading_bits Universal p + t → IsShort i first w rest
     → SpellsHeaderBy r i (universal_header p t w rest)
 spelled Ber i p t first w rest small octet short = short_header i Universal p t first w rest small octet short
 spelled Der i p t first w rest small octet short = (length w, refl, short_der_header i Universal p t first w rest small octet short)
@@ -34,7 +38,7 @@ short_finds r d i p t first w rest result deep small octet short f =
 
 -- a list
 
-may_be_list : (r : Rules) → MayBeConstructed r Universal 16 × MayBeConstructed r Universal 17
+pub may_be_list : (r : Rules) → MayBeConstructed r Universal 16 × MayBeConstructed r Universal 17
 may_be_list Ber = (λ u. refl, λ u. refl)
 may_be_list Der = (λ u. (refl, λ m. refl), λ u. (refl, λ m. refl))
 
@@ -61,3 +65,36 @@ short_plain r d i t w rest deep short (some, small, is) =
 -- what follows is shorter
 pub short_shorter : (i : List ℕ) (first : ℕ) (w rest : List ℕ) → IsShort i first w rest → length rest < length i
 short_shorter i first w rest s = omega (arith, ap length s.1, length-append w rest)
+
+-- what is listed of them
+
+short_element : (p : Bool) (t : ℕ) (i : List ℕ) (first : ℕ) (w rest : List ℕ) (end : ℕ) → length i ≤ end → IsShort i first w rest
+    → universal_element p t (length w) (end - length rest) 0 ≡ of_header (universal_header p t w rest) p (Definite (length w)) (end - length i) (end - length (w ++ rest)) (end - length rest)
+short_element p t i first w rest end room s =
+    let size = short_octets i first w rest s in
+    let header : end - length rest - length w - 2 ≡ end - length i = omega (arith, size, room) in
+    let content : end - length rest - length w ≡ end - length (w ++ rest) = omega (arith, size, room, length-append w rest) in
+    let ends : end - length rest ≡ end - length rest - 0 = omega arith in
+    cc
+
+list_number : (r : Rules) (first : ℕ) → IsListOctet first → (first - 32 < 31) × (first ≡ leading_bits Universal true + (first - 32)) × MayBeConstructed r Universal (first - 32)
+list_number r first (inl e) = let n : first - 32 ≡ 16 = omega (arith, e) in (omega (arith, n), omega (arith, e), subst (λ t. MayBeConstructed r Universal t) (sym n) (may_be_list r).0)
+list_number r first (inr e) = let n : first - 32 ≡ 17 = omega (arith, e) in (omega (arith, n), omega (arith, e), subst (λ t. MayBeConstructed r Universal t) (sym n) (may_be_list r).1)
+
+pub short_list_listed : {N : Type 0} {slot : Element → N} (r : Rules) (d : ℕ) (i : List ℕ) (first : ℕ) (w rest : List ℕ) (end k : ℕ) (e : Element) (old begun mid new : Tape N) → 1 ≤ d → length i ≤ end
+    → IsListOctet first → IsShort i first w rest → e ≡ universal_element true (first - 32) (length w) (end - length rest) 0 → KeepsElements r slot (d - 1) w (end - length rest) begun mid
+    → Writes slot e k old begun mid new → KeepsElement r slot d i end old rest new
+short_list_listed r d i first w rest end k e old begun mid new deep room is short made inside writes =
+    let t = first - 32 in
+    let (small, octet, may) = list_number r first is in
+    let within : length (w ++ rest) ≤ end = omega (arith, short_octets i first w rest short, room, length-append w rest) in
+    element_listed r d i rest (universal_header true t w rest) true (Definite (length w)) end k e old begun mid new deep room refl refl (spelled r i true t first w rest small octet short)
+    (may, (w, refl, refl, inside.0)) (content_listed r (d - 1) (length w) (w ++ rest) w rest end begun mid within refl refl inside)
+    (made ∙ short_element true t i first w rest end room short) writes
+
+pub short_plain_listed : {N : Type 0} {slot : Element → N} (r : Rules) (d : ℕ) (i : List ℕ) (t : ℕ) (w rest : List ℕ) (end k : ℕ) (e : Element) (old begun new : Tape N) → 1 ≤ d → length i ≤ end
+    → IsShort i t w rest → IsPlain r t w → e ≡ universal_element false t (length w) (end - length rest) 0 → Writes slot e k old begun begun new → KeepsElement r slot d i end old rest new
+short_plain_listed r d i t w rest end k e old begun new deep room short (some, small, is) made writes =
+    element_listed r d i rest (universal_header false t w rest) false (Definite (length w)) end k e old begun begun new deep room refl refl (spelled r i false t t w rest small (omega arith) short)
+    (w, refl, refl, λ u. (λ z. absurd (omega (arith, some, z)), is)) (keeps_none begun begun refl refl)
+    (made ∙ short_element false t i t w rest end room short) writes

@@ -1,2 +1,5 @@
 pub mod Elements
+pub mod Laws
+pub mod Listing
 pub mod Readers
+pub mod Tapes

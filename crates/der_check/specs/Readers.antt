@@ -1,12 +1,12 @@
 -- What the functions of the check find at the start of an input.
 use Rattle.std.specs.Borrow.{Bor}
-use Rattle.std.specs.Prelude.{◌≡◌, ℕ, ◌<◌, ◌≤◌, Option, List, ◌++◌, length, IfSome, MatchOption}
+use Rattle.std.specs.Prelude.{◌≡◌, ℕ, ◌-◌, ◌<◌, ◌≤◌, Bool, true, false, Option, List, ◌++◌, length, IfSome, MatchOption}
 use Rattle.der_base.specs.declared.header.Class.{Class}
 use Rattle.der_base.specs.declared.header.Length.{Length}
 use Rattle.der_base.specs.declared.header.Length.TheVariants.{Definite, Indefinite}
 use Rattle.der_base.specs.Spelling.{end_marker}
 use Rattle.der_base.specs.declared.rules.Rules.{Rules}
-use Rattle.der_check.specs.Elements.{AreElements, IsElement, MayHaveContent}
+use Rattle.der_check.specs.Elements.{AreElements, IsElement, MayBeConstructed, MayHaveContent}
 use Rattle.der_contents.specs.ContentRules.{IsContent}
 
 -- the result is what follows, where something is followed so, and nothing else is
@@ -35,6 +35,11 @@ BeginsWithOpenContent r d i rest = (w : List ℕ) × (i ≡ w ++ (end_marker ++ 
 abbrev pub BeginsWithElements : Rules → ℕ → Length → List ℕ → List ℕ → Type 0
 BeginsWithElements r d (Definite n) i rest = BeginsWithPart (AreElements r d) n i rest
 BeginsWithElements r d Indefinite i rest = BeginsWithOpenContent r d i rest
+
+-- with what may follow the header of an element of this class, form, number and length
+abbrev pub Follows : Rules → ℕ → Class → Bool → ℕ → Length → List ℕ → List ℕ → Type 0
+Follows r d c false t l i rest = BeginsWithContent r c t l i rest
+Follows r d c true t l i rest = MayBeConstructed r c t × BeginsWithElements r (d - 1) l i rest
 
 -- the identifier octet and the content of a primitive element of a universal type
 abbrev pub IsPlain : Rules → ℕ → List ℕ → Type 0

@@ -2,6 +2,8 @@
 use crate::slots::{NO_EXTENT, NONE, push_elements, push_extents};
 use crate::words::numbers;
 use der_base::error::{BerError, IResult};
+use der_base::rules::Rules;
+use der_check::{Listed, list_element, list_elements};
 use der_nodes::{
     Counted, Element, PlacedResult, check_ber, check_der, parse_ber_nodes, parse_ber_nodes_counted,
     parse_ber_nodes_into, parse_ber_nodes_placed, parse_der_nodes, parse_der_nodes_into,
@@ -34,6 +36,7 @@ pub fn answer_of_elements(
         "parse_ber_nodes_into" | "parse_der_nodes_into" => {
             extents(alloc, call, input, depth, capacity)
         }
+        "list_der_elements" => listed_extents(alloc, input, depth, capacity),
         _ => listed(alloc, call, input, depth, capacity),
     }
 }
@@ -73,6 +76,8 @@ fn answer_of_listed(
             push_number(&mut text, headers)?;
             text
         }
+        "list_ber_element" => answer_of_list(alloc, list_element(input, Rules::Ber, depth, nodes))?,
+        "list_der_element" => answer_of_list(alloc, list_element(input, Rules::Der, depth, nodes))?,
         _ => return Err(Fault::NoSuchCall),
     };
     Ok(text)
@@ -94,6 +99,31 @@ fn extents(
     let mut text = answer_at(alloc, read)?;
     push_extents(&mut text, &extents)?;
     Ok(text)
+}
+
+/// How many elements octets are by DER, and the extents that are kept of them.
+fn listed_extents(
+    alloc: Global,
+    input: &[u8],
+    depth: usize,
+    capacity: usize,
+) -> Result<String, Fault> {
+    let mut extents = vec![in alloc; NO_EXTENT; capacity]?;
+    let found = match list_elements(input, Rules::Der, depth, &mut extents) {
+        Some(elements) => Some(Listed { elements, rest: &[] }),
+        None => None,
+    };
+    let mut text = answer_of_list(alloc, found)?;
+    push_extents(&mut text, &extents)?;
+    Ok(text)
+}
+
+/// The number of elements that are listed and what follows them.
+fn answer_of_list(alloc: Global, found: Option<Listed<'_>>) -> Result<String, AllocError> {
+    match found {
+        Some(Listed { elements, rest }) => answer(alloc, Ok((rest, elements))),
+        None => format!(in alloc; "none"),
+    }
 }
 
 /// The number of elements and what follows them, or the reason of a refusal.

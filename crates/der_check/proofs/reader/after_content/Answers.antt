@@ -1,7 +1,7 @@
 use Rattle.std.proofs.Common.{rules}
 use Rattle.der_base.specs.Header.{class_of, length_of, number_of}
 use Rattle.der_check.proofs.ElementLaws.{content_found, no_content}
-use Rattle.der_check.proofs.elements.after_content.Goals as goal
+use Rattle.der_check.proofs.reader.after_content.Goals as goal
 
 pub returns-then-may_have_content-clause-exactly : goal.returns-then-may_have_content-clause-exactly
 returns-then-may_have_content-clause-exactly c =

@@ -1,6 +1,6 @@
 use Rattle.std.proofs.Common.{◌≤◌, ◌<◌, rules, subst}
 use Rattle.der_contents.specs.ContentRules.{IsContent}
-use Rattle.der_check.proofs.elements.is_plain.Goals as goal
+use Rattle.der_check.proofs.reader.is_plain.Goals as goal
 
 pub returns-in-7-to-30 : goal.returns-in-7-to-30
 returns-in-7-to-30 c =

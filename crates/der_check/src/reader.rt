@@ -1,0 +1,264 @@
+//! Elements and what is inside them: they call each other, a depth less at each constructed element. With `LISTS` they
+//! list on a tape what they read. Without, the tape stays as it is, and the compiled code has none.
+ghost use Rattle.std.specs.Prelude.{◌≡◌, ◌↔◌, ◌+◌, ◌-◌, ◌≤◌, ◌<◌, ◌++◌, ℕ, List, length};
+ghost use Rattle.std.specs.Prelude.{IfSome, IsTrue, MatchOption};
+ghost use Rattle.der_base.specs.Header.{class_of, is_constructed, number_of, length_of};
+ghost use Rattle.der_base.specs.Spelling.{end_marker};
+ghost use Rattle.der_check.specs.Elements.{AreElements};
+ghost use Rattle.der_check.specs.Readers.{BeginsWithContent, BeginsWithElement, BeginsWithElements};
+ghost use Rattle.der_check.specs.Readers.{BeginsWithOpenContent, Finds, Follows, IsPlain};
+ghost use Rattle.der_check.specs.Tapes.{KeepsContent, KeepsElement, KeepsElements, KeepsInside};
+
+use crate::element::{element_of, universal_element};
+use crate::rules::{is_content, may_be_constructed, may_have_content};
+use crate::tape::{Tape, begin, list};
+use der_base::header::{Header, Length};
+use der_base::rules::Rules;
+use der_nodes::{Slot, is_list_octet, read_short};
+
+/// Reads octets, which end at an offset of the input. Returns whether they are elements, one after another.
+#[cycle(reader)]
+pub(crate) fn read_elements<N: Slot, const LISTS: bool>(
+    octets: &[u8],
+    end: usize,
+    rules: Rules,
+    max_depth: usize,
+    tape: &mut Tape<'_, N>,
+) -> bool
+    requires { tape.old.count + length octets.now ≤ end }
+    ensures same { tape.new.slots.ghost_name ≡ tape.old.slots.ghost_name }
+    ensures exactly { IsTrue result ↔ AreElements rules max_depth octets.now }
+    ensures listed { IsTrue LISTS → IsTrue result →
+        KeepsElements rules N.slot max_depth octets.now end tape.old tape.new }
+    ensures within { IsTrue result → (tape.old.count ≤ tape.new.count) × (tape.new.count ≤ end) }
+{
+    let mut rest = octets;
+    while !rest.is_empty() {
+        match read_element::<N, LISTS>(rest, end, rules, max_depth, tape) {
+            Some(after) => rest = after,
+            None => return false,
+        }
+    }
+    true
+}
+
+/// Reads the element at the start of the input, if there is one. Returns what follows it.
+#[cycle(reader)]
+#[inline(always)]
+pub(crate) fn read_element<'a, N: Slot, const LISTS: bool>(
+    i: &'a [u8],
+    end: usize,
+    rules: Rules,
+    max_depth: usize,
+    tape: &mut Tape<'_, N>,
+) -> Option<&'a [u8]>
+    requires { tape.old.count + length i.now ≤ end }
+    ensures same { tape.new.slots.ghost_name ≡ tape.old.slots.ghost_name }
+    ensures exactly { Finds (BeginsWithElement rules max_depth i.now) result }
+    ensures listed { IsTrue LISTS → IfSome result (λ rest.
+        KeepsElement rules N.slot max_depth i.now end tape.old rest.now tape.new) }
+    ensures shorter { IfSome result (λ rest. length rest.now < length i.now) }
+    ensures within { IfSome result (λ rest.
+        (tape.old.count ≤ tape.new.count) × (tape.new.count + length rest.now ≤ end)) }
+{
+    if max_depth == 0 {
+        return None;
+    }
+    if let Some(short) = read_short(i) {
+        let after = end - short.rest.len();
+        let size = short.content.len();
+        if is_list_octet(short.first) {
+            let number = begin::<N, LISTS>(tape);
+            if !read_elements::<N, LISTS>(short.content, after, rules, max_depth - 1, tape) {
+                return None;
+            }
+            let element = universal_element(true, short.first - 32, size, after);
+            list::<N, LISTS>(tape, number, element);
+            return Some(short.rest);
+        }
+        if is_plain(rules, short.first, short.content) {
+            let number = begin::<N, LISTS>(tape);
+            let element = universal_element(false, short.first, size, after);
+            list::<N, LISTS>(tape, number, element);
+            return Some(short.rest);
+        }
+    }
+    read_any::<N, LISTS>(i, end, rules, max_depth, tape)
+}
+
+/// Whether an identifier octet and a content are those of a primitive element of a universal type. The
+/// types that are common have calls of their own, so that each is compiled without the table of types.
+#[inline(always)]
+fn is_plain(rules: Rules, first: u8, content: &[u8]) -> bool
+    ensures { IsTrue result → IsPlain rules first content.now }
+{
+    match first {
+        1 => is_content(rules, 1, content),
+        2 => is_content(rules, 2, content),
+        3 => is_content(rules, 3, content),
+        4 => is_content(rules, 4, content),
+        5 => is_content(rules, 5, content),
+        6 => is_content(rules, 6, content),
+        10 => is_content(rules, 10, content),
+        7..=30 => is_content(rules, u32::from(first), content),
+        _ => false,
+    }
+}
+
+/// The same of any element, at a depth of at least 1.
+#[cycle(reader)]
+#[inline(never)]
+fn read_any<'a, N: Slot, const LISTS: bool>(
+    i: &'a [u8],
+    end: usize,
+    rules: Rules,
+    max_depth: usize,
+    tape: &mut Tape<'_, N>,
+) -> Option<&'a [u8]>
+    requires deep { 1 ≤ max_depth }
+    requires room { tape.old.count + length i.now ≤ end }
+    ensures same { tape.new.slots.ghost_name ≡ tape.old.slots.ghost_name }
+    ensures exactly { Finds (BeginsWithElement rules max_depth i.now) result }
+    ensures listed { IsTrue LISTS → IfSome result (λ rest.
+        KeepsElement rules N.slot max_depth i.now end tape.old rest.now tape.new) }
+    ensures shorter { IfSome result (λ rest. length rest.now < length i.now) }
+    ensures within { IfSome result (λ rest.
+        (tape.old.count ≤ tape.new.count) × (tape.new.count + length rest.now ≤ end)) }
+{
+    let Ok((behind, header)) = rules.read_header(i) else {
+        return None;
+    };
+    let number = begin::<N, LISTS>(tape);
+    let rest = read_content::<N, LISTS>(behind, &header, end, rules, max_depth, tape)?;
+    let element = element_of(&header, end - i.len(), end - behind.len(), end - rest.len());
+    list::<N, LISTS>(tape, number, element);
+    Some(rest)
+}
+
+/// Reads the content of the element with this header, if it may have it. Returns what follows the element.
+#[cycle(reader)]
+#[inline(always)]
+fn read_content<'a, N: Slot, const LISTS: bool>(
+    i: &'a [u8],
+    header: &Header<'_>,
+    end: usize,
+    rules: Rules,
+    max_depth: usize,
+    tape: &mut Tape<'_, N>,
+) -> Option<&'a [u8]>
+    requires deep { 1 ≤ max_depth }
+    requires room { tape.old.count + length i.now ≤ end }
+    ensures same { tape.new.slots.ghost_name ≡ tape.old.slots.ghost_name }
+    ensures exactly { let h = header.now in
+        Finds (Follows rules max_depth (class_of h) (is_constructed h) (number_of h) (length_of h) i.now) result }
+    ensures listed { let h = header.now in IsTrue LISTS → IfSome result (λ rest. KeepsInside (is_constructed h)
+        rules N.slot (max_depth - 1) (length_of h) i.now end tape.old rest.now tape.new) }
+    ensures shorter { IfSome result (λ rest. length rest.now ≤ length i.now) }
+    ensures within { IfSome result (λ rest.
+        (tape.old.count ≤ tape.new.count) × (tape.new.count + length rest.now ≤ end)) }
+{
+    if !header.constructed() {
+        return after_content(i, header, rules);
+    }
+    if !may_be_constructed(rules, header.class(), header.tag()) {
+        return None;
+    }
+    read_constructed_content::<N, LISTS>(i, header.length(), end, rules, max_depth - 1, tape)
+}
+
+/// What follows the content octets of a primitive element with this header, if it may have them.
+#[inline(always)]
+fn after_content<'a>(i: &'a [u8], header: &Header<'_>, rules: Rules) -> Option<&'a [u8]>
+    ensures exactly { let h = header.now in
+        Finds (BeginsWithContent rules (class_of h) (number_of h) (length_of h) i.now) result }
+    ensures shorter { IfSome result (λ x. length x.now ≤ length i.now) }
+{
+    let Length::Definite(size) = header.length() else {
+        return None;
+    };
+    let (content, rest) = i.split_at_checked(size)?;
+    if may_have_content(rules, header.class(), header.tag(), content) {
+        Some(rest)
+    } else {
+        None
+    }
+}
+
+/// Reads a content of this length, if it is elements. Returns what follows it and its end marker.
+#[cycle(reader)]
+fn read_constructed_content<'a, N: Slot, const LISTS: bool>(
+    i: &'a [u8],
+    size: Length,
+    end: usize,
+    rules: Rules,
+    max_depth: usize,
+    tape: &mut Tape<'_, N>,
+) -> Option<&'a [u8]>
+    requires { tape.old.count + length i.now ≤ end }
+    ensures same { tape.new.slots.ghost_name ≡ tape.old.slots.ghost_name }
+    ensures exactly { Finds (BeginsWithElements rules max_depth size i.now) result }
+    ensures listed { IsTrue LISTS → IfSome result (λ rest.
+        KeepsContent rules N.slot max_depth size i.now end tape.old rest.now tape.new) }
+    ensures shorter { IfSome result (λ rest. length rest.now ≤ length i.now) }
+    ensures within { IfSome result (λ rest.
+        (tape.old.count ≤ tape.new.count) × (tape.new.count + length rest.now ≤ end)) }
+{
+    let Length::Definite(count) = size else {
+        return read_open_content::<N, LISTS>(i, end, rules, max_depth, tape);
+    };
+    let (content, rest) = i.split_at_checked(count)?;
+    if read_elements::<N, LISTS>(content, end - rest.len(), rules, max_depth, tape) {
+        Some(rest)
+    } else {
+        None
+    }
+}
+
+/// Reads elements and their end marker (8.1.3.6). Returns what follows it.
+#[cycle(reader)]
+fn read_open_content<'a, N: Slot, const LISTS: bool>(
+    i: &'a [u8],
+    end: usize,
+    rules: Rules,
+    max_depth: usize,
+    tape: &mut Tape<'_, N>,
+) -> Option<&'a [u8]>
+    requires { tape.old.count + length i.now ≤ end }
+    ensures same { tape.new.slots.ghost_name ≡ tape.old.slots.ghost_name }
+    ensures exactly { Finds (BeginsWithOpenContent rules max_depth i.now) result }
+    ensures listed { IsTrue LISTS → IfSome result (λ rest.
+        KeepsContent rules N.slot max_depth Length.Indefinite i.now end tape.old rest.now tape.new) }
+    ensures shorter { IfSome result (λ rest. length rest.now ≤ length i.now) }
+    ensures within { IfSome result (λ rest.
+        (tape.old.count ≤ tape.new.count) × (tape.new.count + length rest.now ≤ end)) }
+{
+    let mut rest = i;
+    loop {
+        if let Some(after) = after_end_marker(rest) {
+            return Some(after);
+        }
+        match read_element::<N, LISTS>(rest, end, rules, max_depth, tape) {
+            Some(after) => rest = after,
+            None => return None,
+        }
+    }
+}
+
+/// What follows the end marker at the start of the input, if there is one (8.1.5).
+pub fn after_end_marker(i: &[u8]) -> Option<&[u8]>
+    ensures { MatchOption result
+        ((rest : List ℕ) → i.now ≡ end_marker ++ rest → ⊥)
+        (λ x. i.now ≡ end_marker ++ x.now) }
+{
+    let Some((first, following)) = i.split_first() else {
+        return None;
+    };
+    let Some((second, after)) = following.split_first() else {
+        return None;
+    };
+    if *first == 0 && *second == 0 {
+        Some(after)
+    } else {
+        None
+    }
+}
