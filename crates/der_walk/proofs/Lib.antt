@@ -1,3 +1,4 @@
+pub mod Ahead
 pub mod Between
 pub mod Counts
 pub mod ElementReads

@@ -56,3 +56,7 @@ end_of w = end_in (length w.input.now) w.content.end
 
 abbrev pub here_of : Walk → List ℕ
 here_of w = between w.input.now w.at (limit_of (length w.input.now) (end_of w))
+
+-- how many octets of the input a walk hasn't passed
+abbrev pub octets_ahead : Walk → ℕ
+octets_ahead w = length w.input.now - w.at

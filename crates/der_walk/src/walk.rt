@@ -2,7 +2,7 @@
 ghost use Rattle.der_base.specs.Header.{length_of as length_in};
 ghost use Rattle.der_walk.specs.Reading.{definite_of};
 ghost use Rattle.std.specs.Prelude.{◌≡◌, ◌≢◌, ◌+◌, ◌^◌, ◌<◌, ◌≤◌, ◌↔◌, ◌++◌, ℕ, List, length, [], false, true};
-ghost use Rattle.std.specs.Prelude.{IfErr, IfOk, IfSome, IsTrue, MatchOption, None};
+ghost use Rattle.std.specs.Prelude.{IfErr, IfOk, IfSome, IsSome, IsTrue, MatchOption, None};
 
 use crate::cause::Cause;
 use crate::content::{Content, End, Open};
@@ -41,12 +41,12 @@ pub struct Walk<'a> {
 
 impl<'a> Walk<'a> {
     ghost use Rattle.der_base.specs.declared.rules.Rules.{Rules};
-    ghost use Rattle.der_walk.specs.Visits.{Extras, Visited};
+    ghost use Rattle.der_walk.specs.Visits.{Extras, Visited, Visits};
     ghost use Rattle.std.specs.Option.{option_to_list};
-    ghost use Rattle.der_walk.specs.Ends.{IsWithin, end_of, here_of, limit_of};
+    ghost use Rattle.der_walk.specs.Ends.{IsWithin, end_of, here_of, limit_of, octets_ahead};
     ghost use Rattle.der_walk.specs.Faults.{cause_of_end, cause_of_header, cause_of_lack, innermost_of};
     ghost use Rattle.der_walk.specs.Faults.{missing_in, outermost_end, place_of};
-    ghost use Rattle.der_walk.specs.Walked.{HasVisited, KeepsVisited, VisitsNext, steps_of};
+    ghost use Rattle.der_walk.specs.Walked.{HasVisited, IsRefused, KeepsVisited, VisitsNext, steps_of};
     ghost use Rattle.der_walk.specs.Reading.{EndsHere, EndsNowhere, FindsContent, IsChecked, Passes, ReadsHere};
     ghost use Rattle.der_walk.specs.Reading.{FailsCheck, Keeps, LacksContent, Refuses, StartsWith, StaysOpen, GoesInto};
     ghost use Rattle.der_walk.specs.Reading.{front_of};
@@ -81,8 +81,9 @@ impl<'a> Walk<'a> {
     /// The next element. None at the end of the input: then the input is elements, and those that were visited are
     /// all that a walk visits of them, each with its offset.
     pub fn next_element(&mut self) -> Result<Option<Element<'a>>, Refusal>
-        ensures { (x : Extras) (r : Rules) (i : List ℕ) (vs : List Visited) → HasVisited x r i self.old vs
+        ensures visits { (x : Extras) (r : Rules) (i : List ℕ) (vs : List Visited) → HasVisited x r i self.old vs
             → VisitsNext x r i vs self.new result }
+        ensures shorter { IfOk result (λ e. IsSome e → octets_ahead self.new < octets_ahead self.old) }
     {
         self.close_ended();
         let here = self.octets_here();
@@ -98,6 +99,20 @@ impl<'a> Walk<'a> {
                 Ok(Some(element))
             }
             Err(refusal) => Err(refusal),
+        }
+    }
+
+    /// Goes on to the first fault. None if the input is elements to its end.
+    pub fn find_fault(&mut self) -> Option<Refusal>
+        ensures { (x : Extras) (r : Rules) (i : List ℕ) (vs : List Visited) → HasVisited x r i self.old vs
+            → (us : List Visited) × MatchOption result (Visits x r 101 0 0 i us) (IsRefused x r i us self.new) }
+    {
+        'elements: loop {
+            match self.next_element() {
+                Ok(Some(_)) => {}
+                Ok(None) => return None,
+                Err(refusal) => return Some(refusal),
+            }
         }
     }
 
@@ -126,18 +141,16 @@ impl<'a> Walk<'a> {
     /// Closes the elements whose content ends here.
     fn close_ended(&mut self)
         ensures keeps { KeepsVisited self.old self.new }
+        ensures ahead { octets_ahead self.new ≤ octets_ahead self.old }
         ensures stays { StaysOpen self.new }
     {
-        for _ in 0..self.opened.len() {
-            if !self.close_last() {
-                return;
-            }
-        }
+        'ended: while self.close_last() {}
     }
 
     /// Closes the innermost element if its content ends here. Returns whether it does.
     fn close_last(&mut self) -> bool
         ensures keeps { KeepsVisited self.old self.new }
+        ensures ahead { octets_ahead self.new ≤ octets_ahead self.old }
         ensures closes { result ≡ true → length self.old.opened.items ≡ length self.new.opened.items + 1 }
         ensures stays { result ≡ false → StaysOpen self.new }
     {

@@ -1,6 +1,10 @@
-use Rattle.std.proofs.Common.{◌≡◌, ◌+◌, length}
+use Rattle.std.proofs.Common.{◌≤◌, length}
+use Rattle.der_walk.specs.Ends.{octets_ahead}
 use Rattle.der_walk.specs.Walked.{KeepsVisited}
 use Rattle.der_walk.proofs.walk.Walk.close_ended.Given as goal
 
-abbrev pub invariant-loop : goal.invariant-loop
-invariant-loop l = record { keeps : KeepsVisited l.fn.self l.self; count : length l.self.opened.items + l.counter ≡ length l.fn.self.opened.items }
+abbrev pub invariant-ended : goal.invariant-ended
+invariant-ended l = record { keeps : KeepsVisited l.fn.self l.self; ahead : octets_ahead l.self ≤ octets_ahead l.fn.self }
+
+abbrev pub decreases-ended : goal.decreases-ended
+decreases-ended l = length l.self.opened.items
