@@ -3,6 +3,7 @@ pub mod Between
 pub mod Counts
 pub mod ElementReads
 pub mod Ends
+pub mod FirstFaults
 pub mod Headers
 pub mod Next
 pub mod OneVisit

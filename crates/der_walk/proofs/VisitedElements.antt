@@ -1,8 +1,9 @@
 -- What is visited is of elements.
-use Rattle.std.proofs.Common.{◌≡◌, ℕ, suc, ◌+◌, ◌≤◌, Option, Some, None, true, List, [], ◌∷◌, ◌++◌, length, refl, sym, ap, subst, ◌∙◌, arith, append_assoc, length-append, ⊎_elim}
+use Rattle.std.proofs.Common.{◌≡◌, ℕ, zero, suc, ◌+◌, ◌<◌, ◌≤◌, Option, Some, None, true, List, [], ◌∷◌, ◌++◌, length, take, drop, refl, sym, ap, subst, ◌∙◌, arith, append_assoc, length-append, ⊎_elim}
 use Rattle.std.specs.Prelude.{IfSome}
 use Rattle.std.specs.List.{All}
-use Rattle.std.proofs.lemmas.List.Elements.{All-nil, All-cons, All-same, All-append, All-weaker}
+use Rattle.std.proofs.lemmas.List.Elements.{All-nil, All-cons, All-head, All-tail, All-same, All-append, All-take, All-drop, All-weaker}
+use Rattle.std.proofs.Math.Seq.{take-append_seam, drop-append_seam}
 use Rattle.der_base.specs.declared.header.Class.{Class}
 use Rattle.der_base.specs.declared.header.Class.TheVariants.{Universal}
 use Rattle.der_base.specs.Octets.{identifier}
@@ -11,6 +12,7 @@ use Rattle.der_base.specs.declared.rules.Rules.{Rules}
 use Rattle.der_base.specs.declared.rules.Rules.TheVariants.{Ber}
 use Rattle.der_check.specs.Elements.{AreElements, IsElement}
 use Rattle.der_check.specs.Elements.{none as no_elements, one_more as one_element, primitive as primitive_element, constructed as constructed_element, indefinite as indefinite_element}
+use Rattle.der_walk.specs.FirstFault.{IsShallow}
 use Rattle.der_walk.specs.Laws.{IsWithin}
 use Rattle.der_walk.specs.Visits.{Visited, Extras, Visits, VisitsOne, IsStringFront, none, one_more, primitive, broken, string, constructed, indefinite}
 
@@ -19,19 +21,6 @@ string_not_zero t u f z = ⊎_elim (λ q. let e : t ≡ 4 = q.0 in absurd (omega
 
 joined : (c : Class) (t : ℕ) (w : List ℕ) → (identifier c true t ++ 128 ∷ []) ++ w ++ end_marker ≡ identifier c true t ++ 128 ∷ w ++ end_marker
 joined c t w = ap (λ l. l ++ end_marker) (append_assoc (identifier c true t) (128 ∷ []) w)
-
-mutual
-  -- without values that break their type
-  pub are_elements : {x : Extras} {r : Rules} {d k a : ℕ} {i : List ℕ} {vs : List Visited} → (x.keeps_values ≡ true → r ≡ Ber → ⊥) → Visits x r d k a i vs → AreElements r d i
-  are_elements f none = no_elements
-  are_elements f (one_more b rest us ws ei ev is more) = one_element b rest ei (is_element f is) (are_elements f more)
-
-  is_element : {x : Extras} {r : Rules} {d k a : ℕ} {b : List ℕ} {vs : List Visited} → (x.keeps_values ≡ true → r ≡ Ber → ⊥) → VisitsOne x r d k a b vs → IsElement r d b
-  is_element f (primitive c t h w is e has out ev) = primitive_element c t is.1 w is.0 is.2 (e ∙ ap (λ l. l ++ w) is.3) has
-  is_element f (broken t h w is e keeps er it never ev) = absurd (f keeps er)
-  is_element f (string t h w u v us is e has en holds vis ev) = primitive_element Universal t is.1 w is.0 is.2 (e ∙ ap (λ l. l ++ w) is.3) (λ q. (string_not_zero t u holds.front, has))
-  is_element f (constructed c t h w us is e may vis ev) = constructed_element c t is.1 w is.0 is.2 (e ∙ ap (λ l. l ++ w) is.3) may (are_elements f vis)
-  is_element f (indefinite c t h w us is e may vis ev) = indefinite_element c t w is.0 is.1 (e ∙ ap (λ l. l ++ w ++ end_marker) is.3 ∙ joined c t w) may (are_elements f vis)
 
 -- places
 
@@ -83,3 +72,51 @@ mutual
       let len = ap length e ∙ length-append (h ++ w) end_marker in
       let hw = length-append h w in
       around a k d b h vs us _ ev refl refl (omega (arith, len, hw)) tt refl (a + length h) (a + length h + length w) (omega arith) (omega (arith, len, hw)) (visits_within vis)
+
+-- elements
+
+pub front_all : (P : Visited → Type 0) (us ws vs : List Visited) → vs ≡ us ++ ws → All P vs → All P us
+front_all P us ws vs e h = All-same P us (take (length us) (us ++ ws)) (sym (take-append_seam us ws)) (All-take P (length us) (us ++ ws) (subst (All P) e h))
+
+pub back_all : (P : Visited → Type 0) (us ws vs : List Visited) → vs ≡ us ++ ws → All P vs → All P ws
+back_all P us ws vs e h = All-same P ws (drop (length us) (us ++ ws)) (sym (drop-append_seam us ws)) (All-drop P (length us) (us ++ ws) (subst (All P) e h))
+
+shallower : (k d : ℕ) (u : Visited) → u.depth < k + suc d → u.depth < suc k + d
+shallower k d u h = omega (arith, h)
+
+-- inside the first of these
+all_inside : (k d : ℕ) (vs us : List Visited) (v : Visited) → vs ≡ v ∷ us → All (IsShallow (k + suc d)) vs → All (IsShallow (suc k + d)) us
+all_inside k d vs us v e h = All-weaker (IsShallow (k + suc d)) (IsShallow (suc k + d)) (shallower k d) us (All-tail (IsShallow (k + suc d)) v us (subst (All (IsShallow (k + suc d))) e h))
+
+-- the first of these is no deeper than the elements around it
+not_shallow : {P : Type 0} (k : ℕ) (vs us : List Visited) (v : Visited) → vs ≡ v ∷ us → v.depth ≡ k → All (IsShallow (k + 0)) vs → P
+not_shallow k vs us v e own h = let p : v.depth < k + 0 = All-head (IsShallow (k + 0)) v us (subst (All (IsShallow (k + 0))) e h) in absurd (omega (arith, p, own))
+
+no_depth : {P : Type 0} {x : Extras} {r : Rules} {n k a : ℕ} {b : List ℕ} {vs : List Visited} → All (IsShallow (k + 0)) vs → VisitsOne x r n k a b vs → P
+no_depth {k = k} {vs = vs} h (primitive c t o w is e has out ev) = not_shallow k vs [] _ ev refl h
+no_depth {k = k} {vs = vs} h (broken t o w is e keeps er it never ev) = not_shallow k vs [] _ ev refl h
+no_depth {k = k} {vs = vs} h (string t o w u v us is e has en holds vis ev) = not_shallow k vs us _ ev refl h
+no_depth {k = k} {vs = vs} h (constructed c t o w us is e may vis ev) = not_shallow k vs us _ ev refl h
+no_depth {k = k} {vs = vs} h (indefinite c t o w us is e may vis ev) = not_shallow k vs us _ ev refl h
+
+mutual
+  -- to the depth of what is visited, without values that break their type
+  pub shallow_elements : {x : Extras} {r : Rules} {n k a : ℕ} {i : List ℕ} {vs : List Visited} (d : ℕ) → (x.keeps_values ≡ true → r ≡ Ber → ⊥) → All (IsShallow (k + d)) vs → Visits x r n k a i vs → AreElements r d i
+  shallow_elements d f h none = no_elements
+  shallow_elements {k = k} {vs = vs} d f h (one_more b rest us ws ei ev one more) =
+      let P = IsShallow (k + d) in
+      one_element b rest ei (shallow_element d f (front_all P us ws vs ev h) one) (shallow_elements d f (back_all P us ws vs ev h) more)
+
+  pub shallow_element : {x : Extras} {r : Rules} {n k a : ℕ} {b : List ℕ} {vs : List Visited} (d : ℕ) → (x.keeps_values ≡ true → r ≡ Ber → ⊥) → All (IsShallow (k + d)) vs → VisitsOne x r n k a b vs → IsElement r d b
+  shallow_element zero f h one = no_depth h one
+  shallow_element (suc d) f h (primitive c t o w is e has out ev) = primitive_element c t is.1 w is.0 is.2 (e ∙ ap (λ l. l ++ w) is.3) has
+  shallow_element (suc d) f h (broken t o w is e keeps er it never ev) = absurd (f keeps er)
+  shallow_element (suc d) f h (string t o w u v us is e has en holds vis ev) = primitive_element Universal t is.1 w is.0 is.2 (e ∙ ap (λ l. l ++ w) is.3) (λ q. (string_not_zero t u holds.front, has))
+  shallow_element {k = k} {vs = vs} (suc d) f h (constructed c t o w us is e may vis ev) =
+      constructed_element c t is.1 w is.0 is.2 (e ∙ ap (λ l. l ++ w) is.3) may (shallow_elements d f (all_inside k d vs us _ ev h) vis)
+  shallow_element {k = k} {vs = vs} (suc d) f h (indefinite c t o w us is e may vis ev) =
+      indefinite_element c t w is.0 is.1 (e ∙ ap (λ l. l ++ w ++ end_marker) is.3 ∙ joined c t w) may (shallow_elements d f (all_inside k d vs us _ ev h) vis)
+
+-- to the depth of the walk
+pub are_elements : {x : Extras} {r : Rules} {d k a : ℕ} {i : List ℕ} {vs : List Visited} → (x.keeps_values ≡ true → r ≡ Ber → ⊥) → Visits x r d k a i vs → AreElements r d i
+are_elements {d = d} {k = k} {a = a} {i = i} {vs = vs} f v = shallow_elements d f (All-weaker (IsWithin a (a + length i) k d) (IsShallow (k + d)) (λ u p. p.4) vs (visits_within v)) v

@@ -1,5 +1,6 @@
 pub mod Ends
 pub mod Faults
+pub mod FirstFault
 pub mod Laws
 pub mod Paths
 pub mod Reading

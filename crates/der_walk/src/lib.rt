@@ -5,6 +5,7 @@
 mod cause;
 mod content;
 mod element;
+mod fault;
 pub mod laws;
 mod name;
 mod path;
@@ -14,6 +15,7 @@ mod walk;
 pub use cause::{Cause, Rule};
 pub use der_base::rules::Rules;
 pub use element::Element;
+pub use fault::first_fault;
 pub use name::TypeName;
 pub use path::{Path, Step};
 pub use refusal::Refusal;

@@ -43,6 +43,7 @@ impl Calls for ElementCalls {
             "each_line_is_found" => are_found(alloc),
             "walk" => walk(alloc, &octets, words),
             "refused" => walks::refused(alloc, &octets, words),
+            "first_fault" => walks::first_fault_in(alloc, &octets, words),
             "input" => inputs::input(alloc, &octets, words),
             "view" => view(alloc, &octets, words),
             "view_made_by_hand" => made_by_hand(alloc, &octets, words),

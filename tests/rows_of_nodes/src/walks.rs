@@ -1,7 +1,7 @@
 //! Walks over elements.
 use der_contents::ContentError;
 use test_words::{push_number, push_refusal};
-use der_walk::{Cause, Element, Path, Refusal, Rules, Walk};
+use der_walk::{Cause, Element, Path, Refusal, Rules, Walk, first_fault};
 use std::alloc::{AllocError, Global};
 use test_tables::fault::Fault;
 use test_tables::octets::push_word;
@@ -17,12 +17,7 @@ pub fn walk(alloc: Global, input: &[u8], words: &str) -> Result<String, Fault> {
         _ => return Err(Fault::NoSuchCall),
     };
     let mut text = String::new(alloc);
-    // Each element has two octets or more.
-    for _ in input {
-        if !push_visited(&mut text, walk.next_element())? {
-            break;
-        }
-    }
+    while push_visited(&mut text, walk.next_element())? {}
     Ok(text)
 }
 
@@ -34,20 +29,31 @@ pub fn refused(alloc: Global, input: &[u8], words: &str) -> Result<String, Fault
         "DER" => Walk::new(input, Rules::Der, true),
         _ => return Err(Fault::NoSuchCall),
     };
-    // Each element has two octets or more.
-    for _ in 0..=input.len() {
-        match walk.next_element() {
-            Ok(Some(_)) => {}
-            Ok(None) => break,
-            Err(refusal) => {
-                let mut text = format!(in alloc; "{} at {}", walk.depth(), refusal.offset)?;
-                push_path(&mut text, &walk.path(&refusal))?;
-                write!(text, ": {}", refusal.cause)?;
-                return Ok(text);
-            }
-        }
+    let Some(refusal) = walk.find_fault() else {
+        return Ok(format!(in alloc; "end")?);
+    };
+    let mut text = format!(in alloc; "{} at {}", walk.depth(), refusal.offset)?;
+    push_path(&mut text, &walk.path(&refusal))?;
+    write!(text, ": {}", refusal.cause)?;
+    Ok(text)
+}
+
+/// The first fault of the element that an input doesn't begin with: its offset, the last step of the path, and why.
+/// Behind the call stand the rules and the depth.
+pub fn first_fault_in(alloc: Global, input: &[u8], words: &str) -> Result<String, Fault> {
+    let (rules, max_depth) = match words {
+        "BER 101" => (Rules::Ber, 101),
+        "BER 2" => (Rules::Ber, 2),
+        "DER 101" => (Rules::Der, 101),
+        _ => return Err(Fault::NoSuchCall),
+    };
+    let fault = first_fault(input, rules, max_depth);
+    let mut text = format!(in alloc; "{}", fault.offset)?;
+    if let Some(step) = fault.step {
+        write!(text, ", {step}")?;
     }
-    Ok(format!(in alloc; "end")?)
+    write!(text, ": {}", fault.cause)?;
+    Ok(text)
 }
 
 /// Adds a path, if it has steps.
