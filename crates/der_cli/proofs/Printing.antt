@@ -1,17 +1,14 @@
 -- A walk, and the lines of the elements that it has visited.
-use Rattle.std.proofs.Common.{◌≡◌, ◌∙◌, ◌+◌, ◌<◌, ◌≤◌, ℕ, true, false, Bool, Err, IfOk, IsTrue, Ok, OnOk, Option, Result, List, [], ◌∷◌, ◌++◌, ap, append-nil, append_assoc, arith, codes, length, refl, subst, sym}
+use Rattle.std.proofs.Common.{◌≡◌, ℕ, false, Bool, Err, IfOk, IsTrue, Ok, OnOk, Option, Result, List, [], ◌∷◌, ◌++◌, append-nil, append_assoc, codes, subst, sym}
 use Rattle.std.proofs.KnownBytes.{Appends-nil, Appends-trans}
-use Rattle.std.proofs.lemmas.List.{length-append}
 use Rattle.std.specs.Io.KnownBytes.{Appends}
-use Rattle.der_base.specs.declared.rules.Rules.{Rules}
 use Rattle.der_print.specs.Lines.{AddsLine, AreLines, content_in, no_lines}
 use Rattle.der_print.specs.Texts.{content_of}
 use Rattle.der_print.proofs.LineLaws.{content_is, line_of, lines_more}
 use Rattle.der_walk.specs.declared.element.Element.{Element}
 use Rattle.der_walk.specs.declared.walk.Walk.{Walk}
-use Rattle.der_walk.specs.Visits.{Extras, Visited, Visits}
+use Rattle.der_walk.specs.Visits.{Visited, Visits}
 use Rattle.der_walk.specs.Walked.{HasOctets, HasVisited, visited_of}
-use Rattle.der_walk.proofs.Steps.{within}
 use Rattle.der_cli.specs.declared.options.Options.{Options}
 use Rattle.der_cli.specs.Json.{AddsJson, AreJsonLines, IsJson, no_lines as no_json_lines, one_more_line as one_more_json_line}
 use Rattle.der_cli.specs.Outputs.{WritesJson, WritesTree, extras_of}
@@ -31,41 +28,34 @@ pub then_refuses : {E : Type 0} (r : Result Bool E) (P Q : Type 0) → (P → Q)
 then_refuses (Ok x) P Q f h = λ no. f (h no)
 then_refuses (Err e) P Q f h = tt
 
--- each element has two octets or more
-few_read : {x : Extras} {r : Rules} {i : List ℕ} {w : Walk} {vs : List Visited} → HasVisited x r i w vs → length vs + length vs ≤ length i
-few_read v = let at = within v.walked in omega (arith, v.few, at.0)
-
 -- known octets grew by a line for each element that the walk has visited
-pub record HasPrinted (o : Options) (i : List ℕ) (w : Walk) (n : ℕ) (old new : Option (List ℕ)) : Type 0 where
+pub record HasPrinted (o : Options) (i : List ℕ) (w : Walk) (old new : Option (List ℕ)) : Type 0 where
   pub elements : List Visited
-  pub count : length elements ≡ n
   pub visited : HasVisited (extras_of o) o.rules i w elements
   pub text : List ℕ
   pub lines : AreLines o.style i elements text
   pub adds : Appends old new text
 
-pub printed_none : {o : Options} {i : List ℕ} {w : Walk} (old : Option (List ℕ)) → HasVisited (extras_of o) o.rules i w [] → HasPrinted o i w 0 old old
-printed_none old v = record { elements = []; count = refl; visited = v; text = []; lines = no_lines; adds = Appends-nil old }
+pub printed_none : {o : Options} {i : List ℕ} {w : Walk} (old : Option (List ℕ)) → HasVisited (extras_of o) o.rules i w [] → HasPrinted o i w old old
+printed_none old v = record { elements = []; visited = v; text = []; lines = no_lines; adds = Appends-nil old }
 
-pub printed_more : {o : Options} {i : List ℕ} {w w' : Walk} {n : ℕ} {old mid new : Option (List ℕ)} (e : Element) (p : HasPrinted o i w n old mid)
-    → HasVisited (extras_of o) o.rules i w' (p.elements ++ visited_of e ∷ []) → HasOctets i e → AddsLine o.style (visited_of e) (content_of e) mid new → HasPrinted o i w' (n + 1) old new
+pub printed_more : {o : Options} {i : List ℕ} {w w' : Walk} {old mid new : Option (List ℕ)} (e : Element) (p : HasPrinted o i w old mid)
+    → HasVisited (extras_of o) o.rules i w' (p.elements ++ visited_of e ∷ []) → HasOctets i e → AddsLine o.style (visited_of e) (content_of e) mid new → HasPrinted o i w' old new
 printed_more {o = o} {i = i} {old = old} {mid = mid} {new = new} e p visited octets l = let v = visited_of e in record {
   elements = p.elements ++ v ∷ [];
-  count = length-append p.elements (v ∷ []) ∙ ap (λ k. k + 1) p.count;
   visited = visited;
   text = p.text ++ l.line;
   lines = lines_more v l.line p.lines (line_of o.style v (content_of e) (content_in i v) l.line (content_is i e octets) l.is_line);
   adds = Appends-trans old mid new p.text l.line p.adds l.adds;
 }
 
-pub printed_all : {o : Options} {i : List ℕ} {w : Walk} {n : ℕ} {old new : Option (List ℕ)} (p : HasPrinted o i w n old new)
+pub printed_all : {o : Options} {i : List ℕ} {w : Walk} {old new : Option (List ℕ)} (p : HasPrinted o i w old new)
     → Visits (extras_of o) o.rules 101 0 0 i p.elements → WritesTree o i old new
 printed_all p v = record { elements = p.elements; visits = v; text = p.text; lines = p.lines; adds = p.adds }
 
 -- known octets grew by a line of JSON for each element that the walk has visited
-pub record HasListed (o : Options) (i : List ℕ) (w : Walk) (n : ℕ) (old new : Option (List ℕ)) : Type 0 where
+pub record HasListed (o : Options) (i : List ℕ) (w : Walk) (old new : Option (List ℕ)) : Type 0 where
   pub elements : List Visited
-  pub count : length elements ≡ n
   pub visited : HasVisited (extras_of o) o.rules i w elements
   pub text : List ℕ
   pub lines : AreJsonLines elements text
@@ -76,28 +66,19 @@ json_more v line no_json_lines j = subst (AreJsonLines (v ∷ [])) (append-nil (
 json_more v line (one_more_json_line {v = u} {vs = vs} first rest k ks) j =
     subst (AreJsonLines (u ∷ vs ++ v ∷ [])) (sym (append_assoc (first ++ codes "\n") rest (line ++ codes "\n"))) (one_more_json_line first (rest ++ (line ++ codes "\n")) k (json_more v line ks j))
 
-pub listed_none : {o : Options} {i : List ℕ} {w : Walk} (old : Option (List ℕ)) → HasVisited (extras_of o) o.rules i w [] → HasListed o i w 0 old old
-listed_none old v = record { elements = []; count = refl; visited = v; text = []; lines = no_json_lines; adds = Appends-nil old }
+pub listed_none : {o : Options} {i : List ℕ} {w : Walk} (old : Option (List ℕ)) → HasVisited (extras_of o) o.rules i w [] → HasListed o i w old old
+listed_none old v = record { elements = []; visited = v; text = []; lines = no_json_lines; adds = Appends-nil old }
 
-pub listed_more : {o : Options} {i : List ℕ} {w w' : Walk} {n : ℕ} {old mid new : Option (List ℕ)} (v : Visited) (p : HasListed o i w n old mid)
-    → HasVisited (extras_of o) o.rules i w' (p.elements ++ v ∷ []) → AddsJson mid new → HasListed o i w' (n + 1) old new
+pub listed_more : {o : Options} {i : List ℕ} {w w' : Walk} {old mid new : Option (List ℕ)} (v : Visited) (p : HasListed o i w old mid)
+    → HasVisited (extras_of o) o.rules i w' (p.elements ++ v ∷ []) → AddsJson mid new → HasListed o i w' old new
 listed_more {old = old} {mid = mid} {new = new} v p visited l = record {
   elements = p.elements ++ v ∷ [];
-  count = length-append p.elements (v ∷ []) ∙ ap (λ k. k + 1) p.count;
   visited = visited;
   text = p.text ++ (l.text ++ codes "\n");
   lines = json_more v l.text p.lines l.is_json;
   adds = Appends-trans old mid new p.text (l.text ++ codes "\n") p.adds l.adds;
 }
 
-pub listed_all : {o : Options} {i : List ℕ} {w : Walk} {n : ℕ} {old new : Option (List ℕ)} (p : HasListed o i w n old new)
+pub listed_all : {o : Options} {i : List ℕ} {w : Walk} {old new : Option (List ℕ)} (p : HasListed o i w old new)
     → Visits (extras_of o) o.rules 101 0 0 i p.elements → WritesJson o i old new
 listed_all p v = record { elements = p.elements; visits = v; text = p.text; lines = p.lines; adds = p.adds }
-
--- there are no more elements than octets
-pub printed_few : {P : Type 0} {o : Options} {i : List ℕ} {w : Walk} {n : ℕ} {old new : Option (List ℕ)} → HasPrinted o i w n old new → length i < n → P
-printed_few p many = absurd (omega (arith, few_read p.visited, p.count))
-
--- there are no more elements than octets
-pub listed_few : {P : Type 0} {o : Options} {i : List ℕ} {w : Walk} {n : ℕ} {old new : Option (List ℕ)} → HasListed o i w n old new → length i < n → P
-listed_few p many = absurd (omega (arith, few_read p.visited, p.count))

@@ -79,9 +79,7 @@ pub(crate) fn print_json<W: Write, X: Write>(
         → RefusesJson options.now octets.now (W.contents out.old) (W.contents out.new)) }
 {
     let mut walk = Walk::new(octets, options.rules, options.enters_strings).keeping_values();
-    let mut read = 0;
-    // An element has two octets at least, so the loop ends at the end of the octets.
-    'elements: while read <= octets.len() {
+    'elements: loop {
         match walk.next_element() {
             Ok(Some(element)) => write_json(alloc, options, origin, &element, out)?,
             Ok(None) => return Ok(true),
@@ -91,9 +89,7 @@ pub(crate) fn print_json<W: Write, X: Write>(
                 return Ok(false);
             }
         }
-        read += 1;
     }
-    Ok(false)
 }
 
 /// Writes an element as a line of JSON.

@@ -10,7 +10,7 @@ use der_walk::{Cause, Path, Refusal, Walk};
 use std::io;
 use std::io::Write;
 
-/// Reports the first element that is refused.
+/// Reports the first element that is refused, if there is one.
 pub(crate) fn report_first<W: Write>(
     options: &Options,
     origin: Origin<'_>,
@@ -18,18 +18,10 @@ pub(crate) fn report_first<W: Write>(
     out: &mut W,
 ) -> io::Result<()> {
     let mut walk = Walk::new(octets, options.rules, false);
-    // An element has an octet at least, so the loop ends at the end of the octets.
-    for _ in 0..=octets.len() {
-        match walk.next_element() {
-            Ok(Some(_)) => {}
-            Ok(None) => break,
-            Err(refusal) => return report(origin, &walk, &refusal, out),
-        }
+    match walk.find_fault() {
+        Some(refusal) => report(origin, &walk, &refusal, out),
+        None => Ok(()),
     }
-    writeln!(
-        out,
-        "der: {origin}: not elements of the rules that are asked for"
-    )
 }
 
 /// Reports an input or a block whose octets aren't found.

@@ -28,9 +28,7 @@ pub(crate) fn print_tree<W: Write, X: Write>(
 {
     let mut walk = Walk::new(octets, options.rules, options.enters_strings).keeping_values();
     let mut room = Room::new(alloc);
-    let mut read = 0;
-    // An element has two octets at least, so the loop ends at the end of the octets.
-    'elements: while read <= octets.len() {
+    'elements: loop {
         match walk.next_element() {
             Ok(Some(element)) => room = write_line(out, room, &element, options.style)?,
             Ok(None) => return Ok(true),
@@ -40,7 +38,5 @@ pub(crate) fn print_tree<W: Write, X: Write>(
                 return Ok(false);
             }
         }
-        read += 1;
     }
-    Ok(false)
 }

@@ -90,19 +90,19 @@ fn list(input: &[u8], rules: Rules, rows: &mut [PageRow]) -> PageOutcome
 {
     let mut walk = Walk::new(input, rules, true).keeping_values();
     let mut last = Last::none();
-    // An element has an octet at least, so the loop ends at the end of the input.
-    for count in 0..usize::MAX {
+    let mut count = 0;
+    'elements: loop {
         match walk.next_element() {
             Ok(Some(element)) => {
                 let row = PageRow::new(&element, last.around(element.depth));
                 put_row(rows, count, row);
-                last.set(element.depth, count + 1);
+                count += 1;
+                last.set(element.depth, count);
             }
             Ok(None) => return ended(count),
             Err(refusal) => return refused(count, refusal.offset, walk.depth()),
         }
     }
-    refused(usize::MAX, input.len(), 0)
 }
 
 /// The outcome of a walk to the end of an input.

@@ -66,15 +66,10 @@ pub extern "C" fn page_path(rows: &[PageRow], number: usize, text: &mut [u8]) ->
 #[unsafe(no_mangle)]
 pub extern "C" fn page_refusal(input: &[u8], rules: u32, part: u32, text: &mut [u8]) -> usize {
     let mut walk = Walk::new(input, rules_numbered(rules), true).keeping_values();
-    // An element has an octet at least, so the loop ends at the end of the input.
-    for _ in 0..=input.len() {
-        match walk.next_element() {
-            Ok(Some(_)) => {}
-            Ok(None) => return 0,
-            Err(refusal) => return put_refusal(&walk, refusal, part_numbered(part), text),
-        }
+    match walk.find_fault() {
+        Some(refusal) => put_refusal(&walk, refusal, part_numbered(part), text),
+        None => 0,
     }
-    0
 }
 
 fn part_numbered(number: u32) -> Part {

@@ -1,4 +1,5 @@
 use Rattle.std.proofs.Common.{List}
+use Rattle.der_walk.specs.Ends.{octets_ahead}
 use Rattle.der_walk.specs.Visits.{Visited}
 use Rattle.der_walk.specs.Walked.{HasVisited}
 use Rattle.dumarewhi_page.specs.Listed.{all_extras}
@@ -7,5 +8,8 @@ use Rattle.dumarewhi_page.proofs.Listing.{AreLast}
 use Rattle.dumarewhi_page.proofs.lists.list.Given as goal
 
 -- the elements so far were visited and listed
-abbrev pub invariant-loop-count : goal.invariant-loop-count
-invariant-loop-count l = (vs : List Visited) × HasVisited all_extras l.fn.rules l.fn.input l.walk vs × AreRows vs l.rows l.count × AreLast l.last.rows vs
+abbrev pub invariant-elements : goal.invariant-elements
+invariant-elements l = (vs : List Visited) × HasVisited all_extras l.fn.rules l.fn.input l.walk vs × AreRows vs l.rows l.count × AreLast l.last.rows vs
+
+abbrev pub decreases-elements : goal.decreases-elements
+decreases-elements l = octets_ahead l.walk
