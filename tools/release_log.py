@@ -1,0 +1,59 @@
+"""What the log of a gate says, which is what `.ci/run` prints."""
+import dataclasses
+import re
+
+LAST = re.compile(r"(\d+) passed, 0 failed")
+# What rt prints of a crate: a heading, and when it is proved two lines
+HEADING = re.compile(r"== (\w+)")
+PROVED = re.compile(r"logic=proved functions=(\d+) sum=(\w+) .*")
+KEPT = re.compile(r"rt: (\w+) is kept: .*")
+EDITS = re.compile(r"rt: ok; .*must-fail edits: (\d+) refused.*")
+# What .ci/run prints of itself: the commit first, and last how many passed of each part
+COMMIT = re.compile(r"commit ([0-9a-f]{40})")
+PART = re.compile(r"of ([a-z -]+): (\d+)")
+
+
+@dataclasses.dataclass
+class Gate:
+    passed: int
+    # None if the log doesn't name it, as those of earlier commits
+    commit: str | None
+    parts: list
+    # How many functions each crate has that this run proved, and the crates that it kept from an earlier one
+    functions: dict
+    kept: list
+    edits: int
+    logics: set
+
+
+def read_log(text):
+    """Reads the log of a gate. A ValueError says why it is none that passed."""
+    lines = text.rstrip("\n").split("\n")
+    last = LAST.fullmatch(lines[-1])
+    if not last:
+        raise ValueError(f"its last line isn't 'N passed, 0 failed', but {lines[-1]!r}")
+    found = lambda pattern: [it for it in map(pattern.fullmatch, lines) if it]
+    edits = found(EDITS)
+    if not edits:
+        raise ValueError("it has no line 'rt: ok' of a whole rt ci")
+    functions, logics = functions_in(lines)
+    commits = [it[1] for it in found(COMMIT)]
+    parts = [(it[1], int(it[2])) for it in found(PART)]
+    if parts and sum(number for _, number in parts) != int(last[1]):
+        raise ValueError("its parts don't add up to its last line")
+    kept = [it[1] for it in found(KEPT)]
+    return Gate(int(last[1]), commits[0] if commits else None, parts, functions, kept, int(edits[-1][1]), logics)
+
+
+def functions_in(lines):
+    """How many functions of each crate were proved, and over which sums of the logic."""
+    functions, logics, crate = {}, set(), None
+    for line in lines:
+        heading, proved = HEADING.fullmatch(line), PROVED.fullmatch(line)
+        if heading:
+            crate = heading[1]
+        elif proved and crate:
+            functions[crate] = int(proved[1])
+            logics.add(proved[2])
+            crate = None
+    return functions, logics
