@@ -4,8 +4,8 @@ import re
 
 LAST = re.compile(r"(\d+) passed, 0 failed")
 # What rt prints of a crate: a heading, and when it is proved two lines
-HEADING = re.compile(r"== (\w+)")
-PROVED = re.compile(r"logic=proved functions=(\d+) sum=(\w+) .*")
+HEADING = re.compile(r"== (.*)")
+PROVED = re.compile(r"logic=proved (?:.* )?functions=(\d+) (?:axioms=(\d+) )?(?:.* )?sum=(\w+) .*")
 KEPT = re.compile(r"rt: (\w+) is kept: .*")
 EDITS = re.compile(r"rt: ok; .*must-fail edits: (\d+) refused.*")
 # What .ci/run prints of itself: the commit first, and last how many passed of each part
@@ -19,8 +19,10 @@ class Gate:
     # None if the log doesn't name it, as those of earlier commits
     commit: str | None
     parts: list
-    # How many functions each crate has that this run proved, and the crates that it kept from an earlier one
+    # How many functions each crate has that this run proved, and of how many C functions its proofs trust the contract
     functions: dict
+    axioms: dict
+    # The crates that it kept from an earlier run
     kept: list
     edits: int
     logics: set
@@ -36,24 +38,27 @@ def read_log(text):
     edits = found(EDITS)
     if not edits:
         raise ValueError("it has no line 'rt: ok' of a whole rt ci")
-    functions, logics = functions_in(lines)
+    functions, axioms, logics = proofs_in(lines)
     commits = [it[1] for it in found(COMMIT)]
     parts = [(it[1], int(it[2])) for it in found(PART)]
     if parts and sum(number for _, number in parts) != int(last[1]):
         raise ValueError("its parts don't add up to its last line")
     kept = [it[1] for it in found(KEPT)]
-    return Gate(int(last[1]), commits[0] if commits else None, parts, functions, kept, int(edits[-1][1]), logics)
+    commit = commits[0] if commits else None
+    return Gate(int(last[1]), commit, parts, functions, axioms, kept, int(edits[-1][1]), logics)
 
 
-def functions_in(lines):
-    """How many functions of each crate were proved, and over which sums of the logic."""
-    functions, logics, crate = {}, set(), None
+def proofs_in(lines):
+    """How many functions of each crate were proved, without those of its tests; how many C functions they trust; and
+    the sums of the logic."""
+    functions, axioms, logics, crate = {}, {}, set(), None
     for line in lines:
         heading, proved = HEADING.fullmatch(line), PROVED.fullmatch(line)
         if heading:
             crate = heading[1]
-        elif proved and crate:
-            functions[crate] = int(proved[1])
-            logics.add(proved[2])
+        elif proved and crate and crate.isidentifier():
+            functions[crate], axioms[crate] = int(proved[1]), int(proved[2] or 0)
+            logics.add(proved[3])
+            # What follows may be of the other parts of the gate, which prove a crate once more.
             crate = None
-    return functions, logics
+    return functions, axioms, logics
