@@ -261,5 +261,6 @@ if [ -d rust ]; then
     fi
 fi
 
+shown=yes says "Python" env "DUMAREWHI_LIB=$(dirname "$archive")" python/test && grep "^left out" "$room/log"
 echo "callers: $passed passed, $failed failed"
 [ "$failed" = 0 ]

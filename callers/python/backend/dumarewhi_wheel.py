@@ -1,0 +1,151 @@
+"""Builds the wheel. It is a build backend (PEP 517) that needs nothing else, so that pip can build without a network.
+
+The shared library is made of the archive ``libdumarewhi_c.a``. That is in the folder that DUMAREWHI_LIB names, or else
+where ``rt lib`` leaves it, or else ``callers/archive.sh`` builds it.
+"""
+from __future__ import annotations
+
+import base64
+import hashlib
+import os
+import re
+import subprocess
+import sys
+import tempfile
+import zipfile
+from pathlib import Path
+from typing import Dict, Iterator, List, Optional
+
+PACKAGE = Path(__file__).resolve().parent.parent
+CALLERS = PACKAGE.parent
+SOURCES = PACKAGE / "src" / "dumarewhi"
+HEADER = CALLERS / "c" / "include" / "dumarewhi.h"
+ARCHIVE = "libdumarewhi_c.a"
+PLATFORM = "py3-none-linux_x86_64"
+
+WHEEL = f"Wheel-Version: 1.0\nGenerator: dumarewhi\nRoot-Is-Purelib: false\nTag: {PLATFORM}\n"
+
+# The calls of the header are exported, and nothing else.
+EXPORTS = "{ global: dm_*; local: *; };\n"
+
+
+def build_wheel(
+    wheel_directory: str, config_settings: Optional[Dict[str, str]] = None, metadata_directory: Optional[str] = None
+) -> str:
+    """The hook of PEP 517: builds the wheel in a folder, and returns its name."""
+    version = _version()
+    wheel = f"dumarewhi-{version}-{PLATFORM}.whl"
+    info = f"dumarewhi-{version}.dist-info"
+    files = {f"dumarewhi/{path.name}": path.read_bytes() for path in sorted(SOURCES.glob("*.py"))}
+    files["dumarewhi/py.typed"] = (SOURCES / "py.typed").read_bytes()
+    files["dumarewhi/_rules.py"] = rules_of(HEADER.read_text()).encode()
+    files["dumarewhi/libdumarewhi.so"] = _shared_library()
+    files[f"{info}/METADATA"] = _metadata(version).encode()
+    files[f"{info}/WHEEL"] = WHEEL.encode()
+    record = f"{info}/RECORD"
+    files[record] = "".join([*_record(files), f"{record},,\n"]).encode()
+    _write(Path(wheel_directory) / wheel, files)
+    return wheel
+
+
+def build_sdist(sdist_directory: str, config_settings: Optional[Dict[str, str]] = None) -> str:
+    """The hook of PEP 517. There is no source distribution: the archive is built of the repository."""
+    raise NotImplementedError("build a wheel: there is no source distribution")
+
+
+def rules_of(header: str) -> str:
+    """The module with the numbers of errors, from the header of C."""
+    numbers = re.findall(r"^ *DM_ERROR_(\w+) = (\d+)", header, re.MULTILINE)
+    if not numbers:
+        raise ValueError("the header has no numbers of errors")
+    lines = [
+        '"""The numbers of errors, from dumarewhi.h."""',
+        "import enum",
+        "",
+        "",
+        "class Rule(enum.IntEnum):",
+        '    """The number of an error: the rule that an input breaks. ``rule_text`` returns its text."""',
+        "",
+        *(f"    {name} = {number}" for name, number in numbers),
+    ]
+    return "\n".join(lines) + "\n"
+
+
+def _version() -> str:
+    match = re.search(r'^__version__ = "(.*)"$', (SOURCES / "__init__.py").read_text(), re.MULTILINE)
+    if match is None:
+        raise ValueError("__init__.py has no version")
+    return match[1]
+
+
+def _metadata(version: str) -> str:
+    project = (PACKAGE / "pyproject.toml").read_text()
+
+    def text(key: str) -> str:
+        match = re.search(rf'^{key} = "(.*)"$', project, re.MULTILINE)
+        if match is None:
+            raise ValueError(f"pyproject.toml has no {key}")
+        return match[1]
+
+    def texts(key: str) -> List[str]:
+        match = re.search(rf"^{key} = \[(.*?)\]$", project, re.MULTILINE | re.DOTALL)
+        return re.findall(r'"([^"]*)"', match[1]) if match else []
+
+    lines = [
+        "Metadata-Version: 2.1",
+        "Name: dumarewhi",
+        f"Version: {version}",
+        f"Summary: {text('description')}",
+        f"Requires-Python: {text('requires-python')}",
+        f"Keywords: {','.join(texts('keywords'))}",
+        *(f"Classifier: {classifier}" for classifier in texts("classifiers")),
+        "Description-Content-Type: text/markdown",
+        "",
+        (PACKAGE / "README.md").read_text(),
+    ]
+    return "\n".join(lines)
+
+
+def _shared_library() -> bytes:
+    """All of the archive as a shared library, which needs the C library alone."""
+    with tempfile.TemporaryDirectory() as room:
+        library, exports = Path(room, "libdumarewhi.so"), Path(room, "exports")
+        exports.write_text(EXPORTS)
+        archive = str(_archive(Path(room)))
+        command = [os.environ.get("CC", "cc"), "-shared", "-o", str(library)]
+        command += ["-Wl,--whole-archive", archive, "-Wl,--no-whole-archive"]
+        command += [f"-Wl,--version-script={exports}", "-Wl,-z,defs,-z,now,-z,noexecstack,--strip-all"]
+        subprocess.run(command, check=True)
+        return library.read_bytes()
+
+
+def _archive(room: Path) -> Path:
+    """The archive, which is built if there is none."""
+    folder = os.environ.get("DUMAREWHI_LIB", CALLERS.parent / "crates" / "dumarewhi_c" / "out")
+    archive = Path(folder, ARCHIVE)
+    if archive.exists() or "DUMAREWHI_LIB" in os.environ:
+        return archive
+    subprocess.run([CALLERS / "archive.sh", room / ARCHIVE], check=True)
+    return room / ARCHIVE
+
+
+def _record(files: Dict[str, bytes]) -> Iterator[str]:
+    """A line for each file: its name, hash and size."""
+    for name, content in files.items():
+        digest = base64.urlsafe_b64encode(hashlib.sha256(content).digest()).decode().rstrip("=")
+        yield f"{name},sha256={digest},{len(content)}\n"
+
+
+def _write(wheel: Path, files: Dict[str, bytes]) -> None:
+    """The same octets at each build: the files have no times of their own."""
+    wheel.parent.mkdir(parents=True, exist_ok=True)
+    with zipfile.ZipFile(wheel, "w", zipfile.ZIP_DEFLATED) as archive:
+        for name, content in files.items():
+            entry = zipfile.ZipInfo(name)
+            entry.compress_type = zipfile.ZIP_DEFLATED
+            entry.external_attr = 0o644 << 16
+            archive.writestr(entry, content)
+
+
+if __name__ == "__main__":
+    print(Path(sys.argv[1], build_wheel(sys.argv[1])))

@@ -1,0 +1,146 @@
+"""Times reading beside pyasn1 and asn1crypto, and prints a table of microseconds an element:  python bench.py
+
+The inputs are the certificates of the machine, and an SNMP response with ten variables. Each task reads all values of
+all elements, so that nothing is left for later: asn1crypto and this package read a value when it is asked for. pyasn1
+reads without a schema, which is its fastest way; asn1crypto has schemas, which it needs for tags. The time is the least
+of several rounds over all inputs, and that of the processor, which other programs change less.
+"""
+from __future__ import annotations
+
+import os
+import platform
+import ssl
+import time
+from pathlib import Path
+from typing import Any, Callable, List, Optional, Tuple
+
+from dumarewhi import Reader, Writer, check_der, parse_der
+
+ROUNDS = 9
+SECONDS = 0.1  # of a round, at least
+
+Task = Callable[[bytes], object]
+
+
+def certificates() -> List[bytes]:
+    files = sorted(Path("/usr/share/ca-certificates").rglob("*.crt"))
+    return [ssl.PEM_cert_to_DER_cert(file.read_text()) for file in files]
+
+
+def response() -> bytes:
+    """Message ::= SEQUENCE { version INTEGER, community OCTET STRING, data [2] IMPLICIT PDU } (RFC 3416)"""
+    w = Writer()
+    with w.sequence():
+        w.integer(1)
+        w.octet_string(b"public")
+        with w.tagged(2):
+            for number in (1_902_661_969, 0, 0):
+                w.integer(number)
+            with w.sequence():
+                for interface in range(10):
+                    with w.sequence():
+                        w.oid(f"1.3.6.1.2.1.2.2.1.10.{interface}")
+                        w.integer(1_000_000 * interface)
+    return w.to_bytes()
+
+
+def values(octets: bytes) -> object:
+    return [node.value for node in parse_der(octets).root.walk() if not node.constructed]
+
+
+def nested(octets: bytes) -> object:
+    return parse_der(octets).root.value
+
+
+def message(octets: bytes) -> object:
+    with Reader(octets) as reader, reader.sequence() as fields:
+        version, community = fields.integer(), fields.octet_string()
+        with fields.tagged(2) as pdu:
+            numbers = pdu.integer(), pdu.integer(), pdu.integer()
+            with pdu.sequence() as variables:
+                pairs = []
+                while not variables.at_end:
+                    with variables.sequence() as pair:
+                        pairs.append((pair.oid(), pair.integer()))
+    return version, community, numbers, pairs
+
+
+def of_asn1crypto() -> Optional[Tuple[Task, Task]]:
+    try:
+        from asn1crypto import core, x509
+    except ImportError:
+        return None
+
+    class Variable(core.Sequence):  # type: ignore[misc, no-any-unimported]
+        _fields = [("name", core.ObjectIdentifier), ("value", core.Integer)]
+
+    class Variables(core.SequenceOf):  # type: ignore[misc, no-any-unimported]
+        _child_spec = Variable
+
+    class Request(core.Sequence):  # type: ignore[misc, no-any-unimported]
+        _fields = [("id", core.Integer), ("status", core.Integer), ("index", core.Integer), ("variables", Variables)]
+
+    class Message(core.Sequence):  # type: ignore[misc, no-any-unimported]
+        _fields = [
+            ("version", core.Integer),
+            ("community", core.OctetString),
+            ("data", Request, {"implicit": 2}),
+        ]
+
+    def certificate(octets: bytes) -> Any:
+        return x509.Certificate.load(octets).native
+
+    def snmp(octets: bytes) -> Any:
+        return Message.load(octets).native
+
+    return certificate, snmp
+
+
+def of_pyasn1() -> Optional[Task]:
+    try:
+        from pyasn1.codec.der.decoder import decode
+    except ImportError:
+        return None
+    task: Task = decode
+    return task
+
+
+def microseconds(task: Task, inputs: List[bytes]) -> float:
+    """The least time of a round, for each element."""
+    elements = sum(1 for octets in inputs for _ in parse_der(octets).root.walk())
+    best = float("inf")
+    for _ in range(ROUNDS):
+        times, begin, taken = 0, time.process_time(), 0.0
+        while taken < SECONDS:
+            for octets in inputs:
+                task(octets)
+            times += 1
+            taken = time.process_time() - begin
+        best = min(best, taken / times)
+    return best * 1e6 / elements
+
+
+def main() -> None:
+    of_certificates, messages = certificates(), [response()]
+    asn1crypto, pyasn1 = of_asn1crypto(), of_pyasn1()
+    tasks: List[Tuple[str, Optional[Task], Optional[Task]]] = [
+        ("`check_der`", check_der, check_der),
+        ("`parse_der`, the value of each node", values, values),
+        ("`parse_der`, `root.value`", nested, nested),
+        ("`Reader`, field after field", None, message),
+        ("asn1crypto, `.native`", *(asn1crypto or (None, None))),
+        ("pyasn1, `decode`", pyasn1, pyasn1),
+    ]
+    load = os.getloadavg()[0]
+    print(f"Python {platform.python_version()}, {os.cpu_count()} processors, load {load:.1f} at the start.\n")
+    print("| microseconds an element | certificates | SNMP |\n|---|---|---|")
+    for name, certificate, snmp in tasks:
+        shown = [
+            f"{microseconds(task, inputs):.2f}" if task and inputs else "-"
+            for task, inputs in ((certificate, of_certificates), (snmp, messages))
+        ]
+        print(f"| {name} | {shown[0]} | {shown[1]} |")
+
+
+if __name__ == "__main__":
+    main()

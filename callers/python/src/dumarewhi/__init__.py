@@ -1,0 +1,53 @@
+"""Reads BER and DER (ITU-T X.690), and writes DER: certificates, SNMP, LDAP, Kerberos.
+
+The work is done by a library that is proved. This package is a way to call it, which is tested.
+
+>>> import dumarewhi
+>>> tree = dumarewhi.parse_der(bytes.fromhex("3006 020105 0101ff"))
+>>> tree.root.value
+[5, True]
+>>> [(child.tag.number, child.offset) for child in tree.root]
+[(2, 2), (1, 5)]
+
+:func:`parse_der` and :func:`parse_ber` return a :class:`Tree` of :class:`Node`. :class:`Reader` reads the fields of a
+type, one after the other. :class:`Writer` writes them. :func:`to_der` writes BER as DER.
+
+Any thread may read any tree at any time. A :class:`Reader` or :class:`Writer` is for one thread at a time.
+"""
+from ._errors import DerError, Incomplete
+from ._library import DEFAULT_DEPTH, MAX_DEPTH, Rules, rule_text
+from ._reader import Reader
+from ._rules import Rule
+from ._tag import AnyTag, Tag, TagClass
+from ._tree import Node, Tree, Value, check_ber, check_der, parse_ber, parse_der, to_der
+from ._values import BitString, ObjectIdentifier
+from ._writer import Block, Writer
+
+__version__ = "0.1.0"
+
+__all__ = [
+    "AnyTag",
+    "BitString",
+    "Block",
+    "DEFAULT_DEPTH",
+    "DerError",
+    "Incomplete",
+    "MAX_DEPTH",
+    "Node",
+    "ObjectIdentifier",
+    "Reader",
+    "Rule",
+    "Rules",
+    "Tag",
+    "TagClass",
+    "Tree",
+    "Value",
+    "Writer",
+    "__version__",
+    "check_ber",
+    "check_der",
+    "parse_ber",
+    "parse_der",
+    "rule_text",
+    "to_der",
+]

@@ -1,0 +1,396 @@
+"""The shared library: its structs and calls, as ``dumarewhi.h`` declares them.
+
+Nothing outside of this module calls the library. The calls neither allocate nor keep a pointer, so what they are given
+has to live for the call alone.
+"""
+from __future__ import annotations
+
+import ctypes
+from array import array
+from ctypes import c_char_p, c_int8, c_int64, c_size_t, c_uint8, c_uint32, c_uint64, c_void_p
+from pathlib import Path
+from typing import TYPE_CHECKING, Any, Callable, Dict, Literal, NamedTuple, Tuple, Type, Union
+
+from ._errors import DerError, Incomplete
+from ._rules import Rule
+
+if TYPE_CHECKING:
+    from _typeshed import ReadableBuffer
+
+Rules = Literal["der", "ber"]
+"""The rules that an input is read by: ``"der"`` or ``"ber"``."""
+
+DEFAULT_DEPTH = 50
+"""How many elements may be one inside another, unless ``max_depth`` is given."""
+
+MAX_DEPTH = 250
+"""The largest value of ``max_depth``. Larger ones are taken as this one."""
+
+# enum dm_status
+OK = 0
+ERROR = 1
+INCOMPLETE = 2
+NO_ROOM = 3
+
+# enum dm_zone
+LOCAL = 0
+UTC = 1
+
+# A short call takes less time than other threads need to take and return the GIL. So they get it for long ones only.
+_LONG = 1 << 14
+
+
+class ElementStruct(ctypes.Structure):
+    """``dm_element``. Elements are kept as words: see :class:`Source`."""
+
+    _fields_ = [
+        ("header", c_size_t),
+        ("content", c_size_t),
+        ("end", c_size_t),
+        ("inside", c_size_t),
+        ("number", c_uint32),
+        ("tag_class", c_uint8),
+        ("constructed", c_uint8),
+        ("definite", c_uint8),
+        ("reserved", c_uint8),
+    ]
+
+
+class OutcomeStruct(ctypes.Structure):
+    """``dm_outcome``."""
+
+    elements: int
+    length: int
+    place: int
+    missing: int
+    status: int
+    error: int
+    _fields_ = [
+        ("elements", c_size_t),
+        ("length", c_size_t),
+        ("place", c_size_t),
+        ("missing", c_size_t),
+        ("status", c_uint32),
+        ("error", c_uint32),
+    ]
+
+
+class TimeStruct(ctypes.Structure):
+    """``dm_time``."""
+
+    year: int
+    nanosecond: int
+    month: int
+    day: int
+    hour: int
+    minute: int
+    second: int
+    zone: int
+    zone_hours: int
+    zone_minutes: int
+    _fields_ = [
+        ("year", c_uint32),
+        ("nanosecond", c_uint32),
+        ("month", c_uint8),
+        ("day", c_uint8),
+        ("hour", c_uint8),
+        ("minute", c_uint8),
+        ("second", c_uint8),
+        ("zone", c_uint8),
+        ("zone_hours", c_int8),
+        ("zone_minutes", c_int8),
+    ]
+
+
+class WriterStruct(ctypes.Structure):
+    """``dm_writer``."""
+
+    octets: int
+    capacity: int
+    count: int
+    innermost: int
+    implicit: int
+    number: int
+    _fields_ = [
+        ("octets", c_void_p),
+        ("capacity", c_size_t),
+        ("count", c_size_t),
+        ("innermost", c_size_t),
+        ("implicit", c_uint32),
+        ("number", c_uint32),
+    ]
+
+
+class MarkStruct(ctypes.Structure):
+    """``dm_mark``."""
+
+    start: int
+    outer: int
+    _fields_ = [("start", c_size_t), ("outer", c_size_t)]
+
+
+STRUCTS: Dict[str, Type[ctypes.Structure]] = {
+    "dm_element": ElementStruct,
+    "dm_outcome": OutcomeStruct,
+    "dm_time": TimeStruct,
+    "dm_writer": WriterStruct,
+    "dm_mark": MarkStruct,
+}
+
+_FILE = str(Path(__file__).with_name("libdumarewhi.so"))
+_holding = ctypes.PyDLL(_FILE)  # calls that hold the GIL
+_releasing = ctypes.CDLL(_FILE)  # calls that release it
+
+
+Call = Callable[..., Any]
+
+
+def _call(name: str, result: Any, *arguments: Any, library: ctypes.CDLL = _holding) -> Call:
+    call = library[name]
+    call.restype = result
+    call.argtypes = arguments
+    return call
+
+
+class _Calls(NamedTuple):
+    """The calls that read inputs of any length, by their rules."""
+
+    parse: Dict[Rules, Call]
+    check: Dict[Rules, Call]
+    write_der: Call
+
+
+_BOTH: Tuple[Rules, Rules] = ("der", "ber")
+
+
+def _reading_calls(library: ctypes.CDLL) -> _Calls:
+    parse = (c_void_p, c_size_t, c_size_t, c_void_p, c_size_t, c_void_p)
+    check = (c_void_p, c_size_t, c_size_t, c_void_p)
+    write = (c_void_p, c_size_t, c_void_p, c_size_t, c_void_p)
+    return _Calls(
+        {rules: _call("dm_parse_" + rules, c_uint32, *parse, library=library) for rules in _BOTH},
+        {rules: _call("dm_check_" + rules, c_uint32, *check, library=library) for rules in _BOTH},
+        _call("dm_write_der", c_uint32, *write, library=library),
+    )
+
+
+_SHORT_CALLS = _reading_calls(_holding)
+_LONG_CALLS = _reading_calls(_releasing)
+_first_der = _call("dm_first_der", c_uint32, c_void_p, c_size_t, c_void_p, c_void_p)
+
+_error_text = _call("dm_error_text", c_size_t, c_uint32, c_char_p, c_size_t)
+read_oid = _call("dm_read_oid", c_uint32, c_char_p, c_size_t, c_void_p, c_size_t, c_void_p)
+check_text = _call("dm_check_text", c_uint32, c_uint32, c_char_p, c_size_t)
+read_time = _call("dm_read_time", c_uint32, c_uint32, c_char_p, c_size_t, c_void_p)
+
+open_element = _call("dm_open", MarkStruct, c_void_p, c_uint8, c_uint8, c_uint32)
+close = _call("dm_close", None, c_void_p, MarkStruct)
+implicit = _call("dm_implicit", None, c_void_p, c_uint8, c_uint32)
+put_bool = _call("dm_put_bool", None, c_void_p, c_uint8)
+put_i64 = _call("dm_put_i64", None, c_void_p, c_int64)
+put_enumerated = _call("dm_put_enumerated", None, c_void_p, c_uint64)
+put_octets = _call("dm_put_octets", None, c_void_p, c_char_p, c_size_t)
+put_null = _call("dm_put_null", None, c_void_p)
+put_bits = _call("dm_put_bits", None, c_void_p, c_uint8, c_char_p, c_size_t)
+put_oid = _call("dm_put_oid", None, c_void_p, c_char_p, c_size_t)
+put_elements = _call("dm_put_elements", None, c_void_p, c_char_p, c_size_t)
+put_integer = _call("dm_put_integer", c_uint32, c_void_p, c_char_p, c_size_t)
+put_text = _call("dm_put_text", c_uint32, c_void_p, c_uint32, c_char_p, c_size_t)
+put_time = _call("dm_put_time", c_uint32, c_void_p, c_uint32, c_void_p)
+finish = _call("dm_finish", c_uint32, c_void_p, c_void_p)
+
+
+def rule_text(rule: int) -> str:
+    """The library's text of an error, by its number.
+
+    >>> rule_text(Rule.INVALID_CHARACTER)
+    'invalid character in string'
+    """
+    room = 128
+    while True:
+        text = ctypes.create_string_buffer(room)
+        length: int = _error_text(rule, text, room)
+        if length <= room:
+            return text.raw[:length].decode()
+        room = length
+
+
+def rule_error(rule: int, offset: int) -> DerError:
+    """The error that a rule is broken at an offset."""
+    return DerError(rule_text(rule), offset, rule)
+
+
+class _Buffer(ctypes.Structure):
+    """``Py_buffer`` of CPython."""
+
+    buf: Union[int, None]
+    _fields_ = [
+        ("buf", c_void_p),
+        ("obj", c_void_p),
+        ("len", ctypes.c_ssize_t),
+        ("itemsize", ctypes.c_ssize_t),
+        ("readonly", ctypes.c_int),
+        ("ndim", ctypes.c_int),
+        ("format", c_char_p),
+        ("shape", c_void_p),
+        ("strides", c_void_p),
+        ("suboffsets", c_void_p),
+        ("internal", c_void_p),
+    ]
+
+
+def _python_call(name: str, result: Any, *arguments: Any) -> Call:
+    return ctypes.PYFUNCTYPE(result, *arguments)((name, ctypes.pythonapi))
+
+
+_bytes_address = _python_call("PyBytes_AsString", c_void_p, ctypes.py_object)
+_get_buffer = _python_call("PyObject_GetBuffer", ctypes.c_int, ctypes.py_object, c_void_p, ctypes.c_int)
+_release_buffer = _python_call("PyBuffer_Release", None, c_void_p)
+
+# The library takes no NULL, also for no octets.
+_NOTHING = b"\0"
+
+
+def _octets(view: memoryview) -> memoryview:
+    """A view of any items, as one of octets."""
+    if view.nbytes == 0:  # which can't be cast
+        return memoryview(b"")
+    return view if view.format == "B" and view.ndim == 1 else view.cast("B")
+
+
+def _address(view: memoryview) -> int:
+    """Where the octets of a view are. They stay there as long as the view is held."""
+    buffer = _Buffer()
+    _get_buffer(view, ctypes.byref(buffer), 0)
+    address = buffer.buf
+    _release_buffer(ctypes.byref(buffer))
+    return address or int(_bytes_address(_NOTHING))
+
+
+if TYPE_CHECKING:
+    Words = array[int]
+
+
+class Listing(NamedTuple):
+    """An element and those inside it, in preorder.
+
+    Each has five words of 64 bits, as ``dm_element`` has them: where its header begins, where its content begins and
+    ends, how many elements are inside it, and the number, class, form and kind of length, in this order from the
+    lowest bit.
+    """
+
+    words: Words
+    length: int
+
+
+WORDS = 5
+_NO_WORD = array("Q", [0])
+
+
+def words_of(*words: int) -> Words:
+    """A list of words."""
+    return array("Q", words)
+
+
+class Source:
+    """The octets of an object of the caller's, which aren't copied. While this lives, the object can't be resized."""
+
+    __slots__ = ("data", "view", "length", "_address", "_is_constant")
+
+    data: Union[bytes, memoryview]
+    view: memoryview
+
+    def __init__(self, data: ReadableBuffer) -> None:
+        if type(data) is bytes:
+            self.data = data
+            self.view = memoryview(data)
+            self._address = _bytes_address(data)
+        else:
+            self.data = self.view = _octets(memoryview(data))
+            self._address = _address(self.view)
+        self.length = len(self.data)
+        self._is_constant = type(self.view.obj) is bytes
+
+    def _calls(self, length: int) -> _Calls:
+        """The calls for so many octets. Octets that another thread may change are read with the GIL."""
+        return _LONG_CALLS if self._is_constant and length >= _LONG else _SHORT_CALLS
+
+    def list_first(self, rules: Rules, begin: int, end: int, max_depth: int, nested: bool) -> Listing:
+        """The first element of a part of the octets, and those inside it. Its offsets are those of the part."""
+        length = _likely_length(self.data, begin, end)
+        parse = self._calls(length).parse[rules]
+        outcome = OutcomeStruct()
+        room = _likely_elements(length)
+        while True:
+            words = _NO_WORD * (WORDS * room)
+            address, _ = words.buffer_info()
+            status = parse(self._address + begin, end - begin, max_depth, address, room, ctypes.byref(outcome))
+            if status != OK:
+                raise self._error(rules, begin, end, outcome, nested)
+            if outcome.elements <= room:
+                del words[WORDS * outcome.elements :]
+                return Listing(words, outcome.length)
+            room = outcome.elements
+
+    def check_first(self, rules: Rules, max_depth: int) -> OutcomeStruct:
+        """Checks the first element. Returns how many elements and how many octets there are."""
+        outcome = OutcomeStruct()
+        if self._calls(self.length).check[rules](self._address, self.length, max_depth, ctypes.byref(outcome)) != OK:
+            raise self._error(rules, 0, self.length, outcome, False)
+        return outcome
+
+    def to_der(self) -> bytes:
+        """All elements as DER writes them."""
+        outcome = OutcomeStruct()
+        write = self._calls(self.length).write_der
+        room = self.length + 16
+        while True:
+            octets = bytearray(room)
+            address = ctypes.addressof(ctypes.c_char.from_buffer(octets))
+            status = write(self._address, self.length, address, room, ctypes.byref(outcome))
+            if status == OK:
+                return bytes(memoryview(octets)[: outcome.length])
+            if status != NO_ROOM:
+                raise self._error("ber", 0, self.length, outcome, False)
+            room = outcome.length
+
+    def _error(self, rules: Rules, begin: int, end: int, outcome: OutcomeStruct, nested: bool) -> DerError:
+        """The error of an outcome. What is nested can't be completed by more octets."""
+        if outcome.status == ERROR:
+            return rule_error(outcome.error, begin + outcome.place)
+        if nested:
+            return rule_error(Rule.OVERRUN, begin)
+        missing = outcome.missing if rules == "ber" else self._missing_by_der(begin, end, outcome.missing)
+        return Incomplete(missing, end)
+
+    def _missing_by_der(self, begin: int, end: int, missing: int) -> int:
+        """How many octets are missing. ``dm_parse_der`` may count the whole content that is cut short."""
+        element, outcome = ElementStruct(), OutcomeStruct()
+        status = _first_der(self._address + begin, end - begin, ctypes.byref(element), ctypes.byref(outcome))
+        return outcome.missing if status == INCOMPLETE else missing
+
+
+def _likely_length(data: Union[bytes, memoryview], begin: int, end: int) -> int:
+    """How many octets the first element is likely to have: what follows it takes no time and no room."""
+    first = data[begin + 1 : begin + 4]
+    if not first or first[0] > 0x82:
+        likely = end - begin
+    elif first[0] < 0x80:
+        likely = 2 + first[0]
+    elif first[0] == 0x80:
+        likely = _UNKNOWN
+    else:
+        likely = 4 + int.from_bytes(first[1 : first[0] - 0x7F], "big")
+    return min(likely, end - begin)
+
+
+# An element of indefinite length is likely to have at most so many octets.
+_UNKNOWN = 1 << 12
+
+
+def _likely_elements(length: int) -> int:
+    """How many elements there are likely to be at most: one that isn't empty has three octets.
+
+    No more than 65,536, which have 2.5 MiB: an element may be one long string. If there are more, all are listed again.
+    """
+    return min(length // 3 + 2, 1 << 16)

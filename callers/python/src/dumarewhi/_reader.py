@@ -1,0 +1,315 @@
+"""Field after field."""
+from __future__ import annotations
+
+import datetime
+from types import TracebackType
+from typing import TYPE_CHECKING, Callable, Iterator, Optional, Type, TypeVar, Union, overload
+
+from ._errors import DerError, Incomplete
+from ._library import DEFAULT_DEPTH, Rules, Source
+from ._rules import Rule
+from ._tag import AnyTag, Tag, TagClass, key_of, tag_of
+from ._tree import Node, Tree, _depth
+from ._values import BitString, ObjectIdentifier
+
+if TYPE_CHECKING:
+    from _typeshed import ReadableBuffer
+
+T = TypeVar("T")
+D = TypeVar("D")
+
+_SEQUENCE = key_of(Tag.SEQUENCE)
+_SET = key_of(Tag.SET)
+_INTEGER = key_of(Tag.INTEGER)
+_ENUMERATED = key_of(Tag.ENUMERATED)
+_UTF8_STRING = key_of(Tag.UTF8_STRING)
+_PRINTABLE_STRING = key_of(Tag.PRINTABLE_STRING)
+_IA5_STRING = key_of(Tag.IA5_STRING)
+
+
+class Reader:
+    """Reads the fields of a type, one after the other.
+
+    Each call reads the next element, with all that is inside it. After an error the reader is where it was. Leaving a
+    ``with`` block calls :meth:`end`, so an element that nothing reads is an error:
+
+    >>> # SEQUENCE { version [0] EXPLICIT INTEGER DEFAULT 0, name UTF8String, critical BOOLEAN DEFAULT FALSE }
+    >>> octets = bytes.fromhex("3009 a003 020102 0c026869")
+    >>> with Reader(octets) as reader, reader.sequence() as fields:
+    ...     version = fields.optional_explicit(0, Reader.integer, 0)
+    ...     name = fields.utf8_string()
+    ...     critical = fields.optional(Tag.BOOLEAN, Reader.boolean, False)
+    >>> version, name, critical
+    (2, 'hi', False)
+
+    A tag that is given as a number is context-specific, as ``[0]``.
+
+    Args:
+        data: Any object with octets, as ``bytes`` or ``mmap``. They aren't copied: the reader keeps the object.
+        rules: ``"der"`` or ``"ber"``.
+        max_depth: How many elements may be one inside another, at most 250.
+    """
+
+    __slots__ = ("_nodes", "_next", "_begin", "_end", "_last")
+
+    _nodes: Iterator[Node]
+    # The next element, if it has been looked at.
+    _next: Optional[Node]
+    # Where the elements begin, and end.
+    _begin: int
+    _end: int
+    # The element that was read last.
+    _last: Optional[Node]
+
+    def __init__(self, data: ReadableBuffer, *, rules: Rules = "der", max_depth: int = DEFAULT_DEPTH) -> None:
+        if rules not in ("der", "ber"):
+            raise ValueError(f"the rules are 'der' or 'ber', and not {rules!r}")
+        source = Source(data)
+        self._nodes = _Outermost(source, rules, _depth(max_depth))
+        self._next = self._last = None
+        self._begin = 0
+        self._end = source.length
+
+    @classmethod
+    def _inside(cls, node: Node) -> Reader:
+        """A reader of the elements inside an element."""
+        if not node.constructed:
+            raise node._error(Rule.CONSTRUCTED_EXPECTED)
+        reader = cls.__new__(cls)
+        reader._nodes = iter(node.children)
+        reader._next = reader._last = None
+        reader._begin = node.content_offset
+        reader._end = node.content_end
+        return reader
+
+    @property
+    def offset(self) -> int:
+        """Where the next element begins, in octets from the start of the outermost input."""
+        return self._begin if self._last is None else self._last.end
+
+    @property
+    def at_end(self) -> bool:
+        """Whether all elements are read.
+
+        >>> reader = Reader(bytes.fromhex("020105 020107"))
+        >>> numbers = []
+        >>> while not reader.at_end:
+        ...     numbers.append(reader.integer())
+        >>> numbers
+        [5, 7]
+        """
+        return self.offset >= self._end
+
+    def end(self) -> None:
+        """Raises an error unless all elements are read."""
+        if not self.at_end:
+            raise DerError("octets are left", self.offset)
+
+    def __enter__(self) -> Reader:
+        return self
+
+    def __exit__(
+        self, kind: Optional[Type[BaseException]], error: Optional[BaseException], trace: Optional[TracebackType]
+    ) -> None:
+        if kind is None:
+            self.end()
+
+    def peek(self) -> Optional[Tag]:
+        """The tag of the next element, or ``None`` at the end."""
+        node = self._look()
+        return None if node is None else node.tag
+
+    # Elements
+
+    def node(self) -> Node:
+        """Reads an element of any type."""
+        return self._take(self._must())
+
+    def __iter__(self) -> Iterator[Node]:
+        """Reads all elements that are left."""
+        while not self.at_end:
+            yield self.node()
+
+    def sequence(self) -> Reader:
+        """Reads a SEQUENCE. What is returned reads its elements."""
+        return self._open(_SEQUENCE)
+
+    def set(self) -> Reader:
+        """Reads a SET. What is returned reads its elements, in the order that is written."""
+        return self._open(_SET)
+
+    def tagged(self, tag: AnyTag) -> Reader:
+        """Reads a constructed element with this tag. What is returned reads its elements.
+
+        So it reads an EXPLICIT tag, and an IMPLICIT one of a SEQUENCE or SET.
+
+        >>> with Reader(bytes.fromhex("6106 020105 020107")).tagged(Tag.application(1)) as fields:
+        ...     fields.integer(), fields.integer()
+        (5, 7)
+        """
+        return self._open(key_of(tag))
+
+    def explicit(self, tag: AnyTag, read: Callable[[Reader], T]) -> T:
+        """Reads the one value in an EXPLICIT tag, as ``read`` reads it.
+
+        >>> Reader(bytes.fromhex("a003 020105")).explicit(0, Reader.integer)
+        5
+        """
+        node = self._expect(key_of(tag))
+        with Reader._inside(node) as fields:
+            value = read(fields)
+        self._take(node)
+        return value
+
+    def implicit(self, tag: AnyTag, universal: Tag) -> Node:
+        """Reads an element with this tag as one of a universal type, whose tag it replaces. Its content is checked by
+        the rules of that type, in a copy.
+
+        >>> # dNSName [2] IMPLICIT IA5String
+        >>> Reader(b"\\x82\\x03a.b").implicit(2, Tag.IA5_STRING).as_str()
+        'a.b'
+        """
+        if universal.tag_class != TagClass.UNIVERSAL or not 1 <= universal.number <= 30:
+            raise ValueError(f"an implicit tag replaces a universal one below 31, and not {universal}")
+        node = self._expect(key_of(tag))
+        value = node._with_tag(key_of(universal))
+        self._take(node)
+        return value
+
+    @overload
+    def optional(self, tag: AnyTag, read: Callable[[Reader], T]) -> Optional[T]: ...
+
+    @overload
+    def optional(self, tag: AnyTag, read: Callable[[Reader], T], default: D) -> Union[T, D]: ...
+
+    def optional(self, tag: AnyTag, read: Callable[[Reader], T], default: object = None) -> object:
+        """Reads with ``read`` if the next element has this tag. If not, it returns the default.
+
+        >>> reader = Reader(bytes.fromhex("020105"))
+        >>> reader.optional(Tag.BOOLEAN, Reader.boolean, False), reader.integer()
+        (False, 5)
+        """
+        node = self._look()
+        return default if node is None or node._key != key_of(tag) else read(self)
+
+    @overload
+    def optional_explicit(self, tag: AnyTag, read: Callable[[Reader], T]) -> Optional[T]: ...
+
+    @overload
+    def optional_explicit(self, tag: AnyTag, read: Callable[[Reader], T], default: D) -> Union[T, D]: ...
+
+    def optional_explicit(self, tag: AnyTag, read: Callable[[Reader], T], default: object = None) -> object:
+        """Reads as :meth:`explicit` if the next element has this tag. If not, it returns the default."""
+        return self.optional(tag, lambda reader: reader.explicit(tag, read), default)
+
+    # Values
+
+    def boolean(self) -> bool:
+        """Reads a BOOLEAN."""
+        return self._value(Node.as_bool)
+
+    def integer(self) -> int:
+        """Reads an INTEGER, of any size."""
+        return self._value(Node.as_int, _INTEGER)
+
+    def enumerated(self) -> int:
+        """Reads an ENUMERATED."""
+        return self._value(Node.as_int, _ENUMERATED)
+
+    def null(self) -> None:
+        """Reads a NULL."""
+        self._value(Node.as_null)
+
+    def oid(self) -> ObjectIdentifier:
+        """Reads an OBJECT IDENTIFIER."""
+        return self._value(Node.as_oid)
+
+    def octet_string(self) -> bytes:
+        """Reads an OCTET STRING."""
+        return self._value(Node.as_bytes)
+
+    def bit_string(self) -> BitString:
+        """Reads a BIT STRING."""
+        return self._value(Node.as_bit_string)
+
+    def utf8_string(self) -> str:
+        """Reads a UTF8String."""
+        return self._value(Node.as_str, _UTF8_STRING)
+
+    def printable_string(self) -> str:
+        """Reads a PrintableString."""
+        return self._value(Node.as_str, _PRINTABLE_STRING)
+
+    def ia5_string(self) -> str:
+        """Reads an IA5String."""
+        return self._value(Node.as_str, _IA5_STRING)
+
+    def string(self) -> str:
+        """Reads a character string of any type that :meth:`Node.as_str` has."""
+        return self._value(Node.as_str)
+
+    def time(self) -> datetime.datetime:
+        """Reads a UTCTime or a GeneralizedTime."""
+        return self._value(Node.as_datetime)
+
+    def _value(self, read: Callable[[Node], T], key: Optional[int] = None) -> T:
+        """Reads a value. The element has this tag, unless ``read`` looks at it."""
+        node = self._must() if key is None else self._expect(key)
+        value = read(node)
+        self._take(node)
+        return value
+
+    def _open(self, key: int) -> Reader:
+        node = self._expect(key)
+        reader = Reader._inside(node)
+        self._take(node)
+        return reader
+
+    def _look(self) -> Optional[Node]:
+        if self._next is None:
+            self._next = next(self._nodes, None)
+        return self._next
+
+    def _must(self) -> Node:
+        """The next element, which stays the next one."""
+        node = self._look()
+        if node is not None:
+            return node
+        if isinstance(self._nodes, _Outermost):
+            raise Incomplete(1, self.offset)
+        raise DerError("an element is missing", self.offset)
+
+    def _expect(self, key: int) -> Node:
+        """The next element, which has this tag."""
+        node = self._must()
+        if node._key != key:
+            raise node._unexpected(str(tag_of(key)))
+        return node
+
+    def _take(self, node: Node) -> Node:
+        self._last = node
+        self._next = None
+        return node
+
+
+class _Outermost:
+    """The elements of an input, each of which is read when it is asked for."""
+
+    __slots__ = ("_source", "_rules", "_max_depth", "_begin")
+
+    def __init__(self, source: Source, rules: Rules, max_depth: int) -> None:
+        self._source = source
+        self._rules = rules
+        self._max_depth = max_depth
+        self._begin = 0
+
+    def __iter__(self) -> _Outermost:
+        return self
+
+    def __next__(self) -> Node:
+        source = self._source
+        if self._begin == source.length:
+            raise StopIteration
+        tree = Tree._read(source, self._rules, self._max_depth, self._begin, source.length, 0)
+        self._begin = tree.end
+        return tree.root

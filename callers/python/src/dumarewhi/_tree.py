@@ -1,0 +1,566 @@
+"""Elements, and the calls that read them."""
+from __future__ import annotations
+
+import ctypes
+import datetime
+from typing import TYPE_CHECKING, Callable, Dict, Iterator, List, Optional, Tuple, Union
+
+from . import _library
+from ._errors import DerError
+from ._library import DEFAULT_DEPTH, MAX_DEPTH, WORDS, Listing, Rules, Source
+from ._rules import Rule
+from ._tag import KEY_MASK, NUMBER_MASK, Tag, TagClass, key_of, tag_of
+from ._values import BitString, ObjectIdentifier
+
+if TYPE_CHECKING:
+    from _typeshed import ReadableBuffer
+
+    from ._library import Words
+    from ._reader import Reader
+
+Value = Union[bool, int, bytes, str, None, datetime.datetime, ObjectIdentifier, BitString, List["Value"]]
+"""What :attr:`Node.value` returns."""
+
+# The bits of the fifth word of an element (see `_library.Listing`).
+_CONSTRUCTED = 1 << 40
+_DEFINITE = 1 << 48
+
+_BOOLEAN = key_of(Tag.BOOLEAN)
+_INTEGER = key_of(Tag.INTEGER)
+_BIT_STRING = key_of(Tag.BIT_STRING)
+_OCTET_STRING = key_of(Tag.OCTET_STRING)
+_NULL = key_of(Tag.NULL)
+_OBJECT_IDENTIFIER = key_of(Tag.OBJECT_IDENTIFIER)
+_ENUMERATED = key_of(Tag.ENUMERATED)
+_SEQUENCE = key_of(Tag.SEQUENCE)
+_UTC_TIME = key_of(Tag.UTC_TIME)
+_GENERALIZED_TIME = key_of(Tag.GENERALIZED_TIME)
+
+# X.690 8.23. The character sets that need escape sequences are taken as UTF-8, as `dm_check_text` takes them.
+_CODECS: Dict[int, str] = {
+    key_of(Tag.UTF8_STRING): "utf-8",
+    key_of(Tag.NUMERIC_STRING): "ascii",
+    key_of(Tag.PRINTABLE_STRING): "ascii",
+    key_of(Tag.IA5_STRING): "ascii",
+    key_of(Tag.VISIBLE_STRING): "ascii",
+    key_of(Tag.OBJECT_DESCRIPTOR): "utf-8",
+    key_of(Tag.TELETEX_STRING): "utf-8",
+    key_of(Tag.VIDEOTEX_STRING): "utf-8",
+    key_of(Tag.GRAPHIC_STRING): "utf-8",
+    key_of(Tag.GENERAL_STRING): "utf-8",
+    key_of(Tag.UNIVERSAL_STRING): "utf-32-be",
+    key_of(Tag.BMP_STRING): "utf-16-be",
+}
+
+
+def parse_der(data: ReadableBuffer, *, max_depth: int = DEFAULT_DEPTH, allow_trailing: bool = False) -> Tree:
+    """Reads the one element that the octets are in DER.
+
+    >>> tree = parse_der(bytes.fromhex("3006 020105 0101ff"))
+    >>> [child.value for child in tree.root]
+    [5, True]
+
+    Args:
+        data: Any object with octets, as ``bytes`` or ``mmap``. They aren't copied: the tree keeps the object.
+        max_depth: How many elements may be one inside another, at most 250.
+        allow_trailing: Whether octets may follow the element. :attr:`Tree.end` is where they begin.
+
+    Raises:
+        Incomplete: The octets are cut short.
+        DerError: They are no element of DER, or octets follow it.
+    """
+    return _parse("der", data, max_depth, allow_trailing)
+
+
+def parse_ber(data: ReadableBuffer, *, max_depth: int = DEFAULT_DEPTH, allow_trailing: bool = False) -> Tree:
+    """Reads as :func:`parse_der`, in BER: of definite or indefinite length.
+
+    >>> parse_ber(bytes.fromhex("3080 020105 0000")).root.value
+    [5]
+    """
+    return _parse("ber", data, max_depth, allow_trailing)
+
+
+def check_der(data: ReadableBuffer, *, max_depth: int = DEFAULT_DEPTH) -> int:
+    """Checks that the octets are one element in DER. Returns how many elements are in it, itself among them.
+
+    It keeps nothing. The content of an element of another class than universal isn't looked at.
+
+    >>> check_der(bytes.fromhex("3006 020105 0101ff"))
+    3
+
+    Raises:
+        Incomplete: The octets are cut short.
+        DerError: They are no element of DER, or octets follow it.
+    """
+    return _check("der", data, max_depth)
+
+
+def check_ber(data: ReadableBuffer, *, max_depth: int = DEFAULT_DEPTH) -> int:
+    """Checks as :func:`check_der`, by BER."""
+    return _check("ber", data, max_depth)
+
+
+def to_der(data: ReadableBuffer) -> bytes:
+    """Elements in BER as DER writes them, all of them: with lengths in the fewest octets and strings in one part.
+
+    The types aren't known, so the order of a SET OF and default values stay as they are.
+
+    >>> to_der(bytes.fromhex("3080 2480 040161 040162 0000 0000")).hex(" ", -4)
+    '30040402 6162'
+
+    Raises:
+        Incomplete: The octets are cut short.
+        DerError: They aren't elements of BER, or one has a value that DER doesn't have.
+    """
+    return Source(data).to_der()
+
+
+def _depth(max_depth: int) -> int:
+    return max(0, min(max_depth, MAX_DEPTH))
+
+
+def _parse(rules: Rules, data: ReadableBuffer, max_depth: int, allow_trailing: bool) -> Tree:
+    source = Source(data)
+    tree = Tree._read(source, rules, _depth(max_depth), 0, source.length, 0)
+    if not allow_trailing:
+        _expect_end(tree.end, source.length)
+    return tree
+
+
+def _check(rules: Rules, data: ReadableBuffer, max_depth: int) -> int:
+    source = Source(data)
+    found = source.check_first(rules, _depth(max_depth))
+    _expect_end(found.length, source.length)
+    return found.elements
+
+
+def _expect_end(end: int, length: int) -> None:
+    if end < length:
+        raise DerError("octets are left", end)
+
+
+class Tree:
+    """An element and those inside it, as :func:`parse_der` returns it.
+
+    It is a list of offsets, with 40 octets for each element, over the caller's octets. Its nodes are made when they
+    are asked for.
+    """
+
+    __slots__ = ("_source", "_rules", "_max_depth", "_begin", "_depth", "_words", "_length", "_inner")
+
+    _source: Source
+    _rules: Rules
+    # How deep an element may be, from the outermost one.
+    _max_depth: int
+    # Where the first element begins, and how deep it is.
+    _begin: int
+    _depth: int
+    _words: Words
+    _length: int
+    # What is inside the elements whose content isn't listed, once it is asked for, by the places of their words.
+    _inner: Dict[int, Tuple[Node, ...]]
+
+    def __init__(self) -> None:
+        raise TypeError("trees are made by parse_der and parse_ber")
+
+    @classmethod
+    def _read(cls, source: Source, rules: Rules, max_depth: int, begin: int, end: int, depth: int) -> Tree:
+        listing = source.list_first(rules, begin, end, max_depth - depth, depth > 0)
+        return cls._of(source, rules, max_depth, begin, depth, listing)
+
+    @classmethod
+    def _of(
+        cls, source: Source, rules: Rules, max_depth: int, begin: int, depth: int, listing: Listing
+    ) -> Tree:
+        tree = cls.__new__(cls)
+        tree._source = source
+        tree._rules = rules
+        tree._max_depth = max_depth
+        tree._begin = begin
+        tree._depth = depth
+        tree._words, tree._length = listing
+        tree._inner = {}
+        return tree
+
+    @property
+    def root(self) -> Node:
+        """The outermost element."""
+        return Node(self, 0, self._depth)
+
+    @property
+    def end(self) -> int:
+        """Where the octets begin that follow it."""
+        return self._begin + self._length
+
+    def __iter__(self) -> Iterator[Node]:
+        """All elements in preorder, as :meth:`Node.walk`."""
+        return self.root.walk()
+
+    def __repr__(self) -> str:
+        return f"<Tree of {self._length} octets: {self.root!r}>"
+
+
+class Node:
+    """An element of a :class:`Tree`.
+
+    >>> node = parse_der(bytes.fromhex("a003 020105")).root
+    >>> node.tag, node.offset, node.header_length, node.constructed
+    (Tag(tag_class=<TagClass.CONTEXT: 2>, number=0), 0, 2, True)
+    >>> node[0].as_int(), node[0].offset
+    (5, 2)
+
+    The content of a constructed element is elements, of any class (X.690 8.1.4). Under a tag of another class than
+    universal they are listed when they are asked for. So :attr:`children`, and all that uses it, may raise an error.
+    """
+
+    __slots__ = ("_tree", "_at", "depth")
+
+    depth: int
+    """How many elements it is inside."""
+
+    def __init__(self, tree: Tree, at: int, depth: int) -> None:
+        self._tree = tree
+        self._at = at
+        self.depth = depth
+
+    @property
+    def _key(self) -> int:
+        return self._tree._words[self._at + 4] & KEY_MASK
+
+    @property
+    def tag(self) -> Tag:
+        """The tag."""
+        return tag_of(self._key)
+
+    @property
+    def tag_class(self) -> TagClass:
+        """The class of the tag."""
+        return self.tag.tag_class
+
+    @property
+    def number(self) -> int:
+        """The number of the tag."""
+        return self._tree._words[self._at + 4] & NUMBER_MASK
+
+    @property
+    def constructed(self) -> bool:
+        """Whether it is constructed, by its identifier octets (X.690 8.1.2.5)."""
+        return self._tree._words[self._at + 4] & _CONSTRUCTED != 0
+
+    @property
+    def definite(self) -> bool:
+        """Whether its length is definite (X.690 8.1.3). By DER it always is."""
+        return self._tree._words[self._at + 4] & _DEFINITE != 0
+
+    @property
+    def offset(self) -> int:
+        """Where it begins, in octets from the start of the input."""
+        return self._tree._begin + self._tree._words[self._at]
+
+    @property
+    def header_length(self) -> int:
+        """How many identifier and length octets it has."""
+        return self._tree._words[self._at + 1] - self._tree._words[self._at]
+
+    @property
+    def content_offset(self) -> int:
+        """Where its content octets begin."""
+        return self._tree._begin + self._tree._words[self._at + 1]
+
+    @property
+    def content_end(self) -> int:
+        """Where its content octets end."""
+        return self._tree._begin + self._tree._words[self._at + 2]
+
+    @property
+    def end(self) -> int:
+        """Where it ends: behind the end marker that follows a content of indefinite length (X.690 8.1.5)."""
+        return self.content_end + (0 if self.definite else 2)
+
+    @property
+    def header(self) -> memoryview:
+        """The identifier and length octets."""
+        return self._tree._source.view[self.offset : self.content_offset]
+
+    @property
+    def content(self) -> memoryview:
+        """The content octets, without an end marker."""
+        return self._tree._source.view[self.content_offset : self.content_end]
+
+    @property
+    def octets(self) -> memoryview:
+        """All octets: the header, the content, and an end marker."""
+        return self._tree._source.view[self.offset : self.end]
+
+    # What is inside
+
+    def __iter__(self) -> Iterator[Node]:
+        """The elements directly inside it, in order."""
+        return iter(self.children)
+
+    def __getitem__(self, index: int) -> Node:
+        """An element directly inside it."""
+        return self.children[index]
+
+    @property
+    def children(self) -> Tuple[Node, ...]:
+        """The elements directly inside it, in order.
+
+        Raises:
+            DerError: It has another class than universal, and its content isn't elements.
+        """
+        tree, at = self._tree, self._at
+        words = tree._words
+        inside = words[at + 3]
+        if inside == 0:
+            return self._unlisted() if self.constructed and self.content_offset < self.content_end else ()
+        depth = self.depth + 1
+        children = []
+        at += WORDS
+        stop = at + WORDS * inside
+        while at < stop:
+            children.append(Node(tree, at, depth))
+            at += WORDS * (1 + words[at + 3])
+        return tuple(children)
+
+    def _unlisted(self) -> Tuple[Node, ...]:
+        """The elements of a content that isn't listed with the element. They are listed as those of a SEQUENCE, of a
+        copy that lives as long as the call."""
+        tree = self._tree
+        known = tree._inner.get(self._at)
+        if known is not None:
+            return known
+        copy = Source(self._copy(_SEQUENCE))
+        begin = self.content_end - copy.length
+        try:
+            listing = copy.list_first(tree._rules, 0, copy.length, tree._max_depth - self.depth, True)
+        except DerError as error:
+            raise DerError(error.reason, begin + error.offset, error.rule) from None
+        inner = Tree._of(tree._source, tree._rules, tree._max_depth, begin, self.depth, listing)
+        return tree._inner.setdefault(self._at, inner.root.children)
+
+    def walk(self) -> Iterator[Node]:
+        """Itself, and the elements inside it at any depth, in preorder.
+
+        >>> [node.offset for node in parse_der(bytes.fromhex("3007 a003 020105 0500")).root.walk()]
+        [0, 2, 4, 7]
+        """
+        tree, at = self._tree, self._at
+        words = tree._words
+        stop = at + WORDS * (1 + words[at + 3])
+        ends: List[int] = []  # of the listed elements around the next one
+        while at < stop:
+            while ends and ends[-1] <= at:
+                ends.pop()
+            node = Node(tree, at, self.depth + len(ends))
+            yield node
+            inside = words[at + 3]
+            at += WORDS
+            if inside:
+                ends.append(at + WORDS * inside)
+            elif node.constructed:
+                for child in node.children:
+                    yield from child.walk()
+
+    def parse_content(self) -> Tree:
+        """Reads the one element that the content octets are, by the same rules: that of an explicit tag, or of an
+        OCTET STRING that holds an encoding. Its offsets are those of the outermost input.
+
+        >>> parse_der(bytes.fromhex("0403 020105")).root.parse_content().root.offset
+        2
+        """
+        tree, end = self._tree, self.content_end
+        inner = Tree._read(tree._source, tree._rules, tree._max_depth, self.content_offset, end, self.depth + 1)
+        _expect_end(inner.end, end)
+        return inner
+
+    def reader(self) -> Reader:
+        """Reads the elements directly inside it, one after the other.
+
+        Raises:
+            DerError: It isn't constructed.
+        """
+        from ._reader import Reader
+
+        return Reader._inside(self)
+
+    # Values
+
+    @property
+    def value(self) -> Value:
+        """The value, as the type of Python for its tag.
+
+        It is a ``bool``, ``int`` (of an INTEGER or ENUMERATED), :class:`BitString`, ``bytes`` (of an OCTET STRING),
+        ``None`` (of a NULL), :class:`ObjectIdentifier`, ``str`` or ``datetime``. Of another constructed element it is
+        the list of the values inside it, and of another primitive one the content octets.
+
+        >>> parse_der(bytes.fromhex("3008 0603550403 0c0161")).root.value
+        [ObjectIdentifier('2.5.4.3'), 'a']
+        """
+        read = _READERS.get(self._key)
+        if read is not None:
+            return read(self)
+        if self.constructed:
+            return [child.value for child in self.children]
+        return bytes(self.content)
+
+    def as_bool(self) -> bool:
+        """A BOOLEAN (X.690 8.2)."""
+        return self._primitive(_BOOLEAN) != b"\0"
+
+    def as_int(self) -> int:
+        """An INTEGER or an ENUMERATED, of any size (X.690 8.3)."""
+        key = _ENUMERATED if self._key == _ENUMERATED else _INTEGER
+        return int.from_bytes(self._primitive(key), "big", signed=True)
+
+    def as_bytes(self) -> bytes:
+        """An OCTET STRING (X.690 8.7). In BER, the parts of a constructed one are joined."""
+        return bytes(self._string(_OCTET_STRING))
+
+    def as_bit_string(self) -> BitString:
+        """A BIT STRING (X.690 8.6). In BER, the parts of a constructed one are joined."""
+        content = bytes(self._string(_BIT_STRING))
+        try:
+            return BitString(content[1:], content[0])
+        except (IndexError, ValueError):
+            raise self._error(Rule.WRONG_VALUE) from None
+
+    def as_null(self) -> None:
+        """A NULL (X.690 8.8)."""
+        self._primitive(_NULL)
+
+    def as_oid(self) -> ObjectIdentifier:
+        """An OBJECT IDENTIFIER (X.690 8.19)."""
+        content = bytes(self._primitive(_OBJECT_IDENTIFIER))
+        try:
+            return ObjectIdentifier.from_content(content)
+        except ValueError:
+            raise self._error(Rule.WRONG_VALUE) from None
+
+    def as_str(self) -> str:
+        """A character string of any type of X.690 8.23. In BER, the parts of a constructed one are joined.
+
+        TeletexString, VideotexString, GraphicString, GeneralString and ObjectDescriptor are taken as UTF-8. Where they
+        aren't, an error is raised, and :attr:`content` has the octets.
+        """
+        key = self._key
+        codec = _CODECS.get(key)
+        if codec is None:
+            raise self._unexpected("a character string")
+        content = bytes(self._string(key))
+        try:
+            return content.decode(codec)
+        except UnicodeDecodeError:
+            raise self._error(_library.check_text(key, content, len(content)) or Rule.INVALID_CHARACTER) from None
+
+    def as_datetime(self) -> datetime.datetime:
+        """A UTCTime or a GeneralizedTime (X.690 8.25).
+
+        It has the zone that is written, or none. The year of a UTCTime is 1950 to 2049 (RFC 5280 4.1.2.5.1). Digits
+        below a microsecond are dropped.
+        """
+        key = self._key
+        if key != _UTC_TIME:
+            key = _GENERALIZED_TIME
+        content = bytes(self._string(key))
+        time = _library.TimeStruct()
+        rule = _library.read_time(key, content, len(content), ctypes.byref(time))
+        if rule:
+            raise self._error(rule)
+        try:
+            return _datetime(time)
+        except ValueError:  # as of 30 February
+            raise self._error(Rule.INVALID_TIME) from None
+
+    def _primitive(self, key: int) -> Union[bytes, memoryview]:
+        """The content octets, if it has this tag and is primitive."""
+        tree, at = self._tree, self._at
+        words = tree._words
+        word = words[at + 4]
+        if word & KEY_MASK != key:
+            raise self._unexpected(str(tag_of(key)))
+        if word & _CONSTRUCTED:
+            raise self._error(Rule.PRIMITIVE_EXPECTED)
+        return tree._source.data[tree._begin + words[at + 1] : tree._begin + words[at + 2]]
+
+    def _string(self, key: int) -> Union[bytes, memoryview]:
+        """The content octets, if it has this tag. The library joins the parts of a constructed string."""
+        if not self.constructed:
+            return self._primitive(key)
+        if self._key != key:
+            raise self._unexpected(str(tag_of(key)))
+        try:
+            return parse_der(to_der(self._copy(key))).root._primitive(key)
+        except DerError as error:
+            raise self._error(error.rule) from None
+
+    def _copy(self, key: int) -> bytes:
+        """The content behind a header with this universal tag, of a number below 31."""
+        identifier = key | (0x20 if self.constructed else 0)
+        return _header(identifier, self.content_end - self.content_offset) + self.content
+
+    def _with_tag(self, key: int) -> Node:
+        """The same element with this universal tag. The content is checked as of that type, in a copy."""
+        tree = self._tree
+        # Any octets are an OCTET STRING.
+        if self.constructed or key != _OCTET_STRING:
+            try:
+                _parse(tree._rules, self._copy(key), tree._max_depth - self.depth, False)
+            except DerError as error:
+                raise DerError(error.reason, self.offset, error.rule) from None
+        header, content, end, _, word = tree._words[self._at : self._at + WORDS]
+        listing = Listing(_library.words_of(header, content, end, 0, word & ~KEY_MASK | key), self.end - self.offset)
+        return Tree._of(tree._source, tree._rules, tree._max_depth, tree._begin, self.depth, listing).root
+
+    def _error(self, rule: int) -> DerError:
+        return _library.rule_error(rule, self.offset)
+
+    def _unexpected(self, expected: str) -> DerError:
+        return DerError(f"expected {expected}, found {self.tag}", self.offset, Rule.UNEXPECTED_TAG)
+
+    def __eq__(self, other: object) -> bool:
+        if not isinstance(other, Node):
+            return NotImplemented
+        return self._tree is other._tree and self._at == other._at
+
+    def __hash__(self) -> int:
+        return hash((id(self._tree), self._at))
+
+    def __repr__(self) -> str:
+        content = bytes(self.content[:17])
+        shown = content.hex(" ") if len(content) < 17 else content[:16].hex(" ") + " .."
+        return f"<Node {self.tag} at {self.offset}: {shown}>"
+
+
+_READERS: Dict[int, Callable[[Node], Value]] = {
+    _BOOLEAN: Node.as_bool,
+    _INTEGER: Node.as_int,
+    _BIT_STRING: Node.as_bit_string,
+    _OCTET_STRING: Node.as_bytes,
+    _NULL: Node.as_null,
+    _OBJECT_IDENTIFIER: Node.as_oid,
+    _ENUMERATED: Node.as_int,
+    _UTC_TIME: Node.as_datetime,
+    _GENERALIZED_TIME: Node.as_datetime,
+    **dict.fromkeys(_CODECS, Node.as_str),
+}
+
+
+def _datetime(time: _library.TimeStruct) -> datetime.datetime:
+    zone: Optional[datetime.timezone] = None
+    if time.zone == _library.UTC:
+        zone = datetime.timezone.utc
+    elif time.zone != _library.LOCAL:
+        zone = datetime.timezone(datetime.timedelta(hours=time.zone_hours, minutes=time.zone_minutes))
+    return datetime.datetime(
+        time.year, time.month, time.day, time.hour, time.minute, time.second, time.nanosecond // 1000, zone
+    )
+
+
+def _header(identifier: int, length: int) -> bytes:
+    """One identifier octet, and a length in the fewest octets (X.690 10.1)."""
+    if length < 0x80:
+        return bytes((identifier, length))
+    spelled = length.to_bytes((length.bit_length() + 7) // 8, "big")
+    return bytes((identifier, 0x80 | len(spelled))) + spelled

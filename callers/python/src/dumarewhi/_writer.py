@@ -1,0 +1,320 @@
+"""Element after element."""
+from __future__ import annotations
+
+import ctypes
+import datetime
+from types import TracebackType
+from typing import TYPE_CHECKING, Iterable, Optional, Type, Union
+
+from . import _library
+from ._library import MarkStruct, TimeStruct, WriterStruct
+from ._tag import CLASS_SHIFT, NUMBER_MASK, AnyTag, Tag, TagClass, key_of
+from ._values import BitString, ObjectIdentifier
+
+if TYPE_CHECKING:
+    from _typeshed import ReadableBuffer
+
+# How many octets an element may have besides its content: 6 of its tag, 9 of its length.
+_HEADER = 16
+_FIRST_ROOM = 256
+
+# Types of text that are put as octets with the type's tag. `dm_put_text` has the others, which are UTF-8.
+_WIDE = {Tag.BMP_STRING: "utf-16-be", Tag.UNIVERSAL_STRING: "utf-32-be"}
+
+
+class Writer:
+    """Writes DER, element after element.
+
+    A constructed element is a ``with`` block. What is written in the block is inside the element.
+
+    >>> w = Writer()
+    >>> with w.sequence():
+    ...     w.integer(5)
+    ...     w.oid("2.5.4.3")
+    ...     with w.tagged(0):
+    ...         w.utf8_string("hi")
+    >>> w.to_bytes().hex(" ")
+    '30 0e 02 01 05 06 03 55 04 03 a0 04 0c 02 68 69'
+
+    If the block raises an error, the element is taken back with all that is inside it. A tag that is given as a number
+    is context-specific, as ``[0]``.
+    """
+
+    __slots__ = ("_octets", "_first", "_state", "_at")
+
+    def __init__(self) -> None:
+        self._octets = bytearray(_FIRST_ROOM)
+        # While this is held, the octets stay where they are.
+        self._first = ctypes.c_char.from_buffer(self._octets)
+        self._state = WriterStruct(ctypes.addressof(self._first), _FIRST_ROOM)
+        self._at = ctypes.addressof(self._state)
+
+    @property
+    def offset(self) -> int:
+        """How many octets are written."""
+        return self._state.count
+
+    def to_bytes(self) -> bytes:
+        """What is written. Writing may go on.
+
+        Raises:
+            ValueError: An element is open.
+        """
+        length = ctypes.c_size_t()
+        if _library.finish(self._at, ctypes.byref(length)) != _library.OK:
+            raise ValueError("an element is open")
+        return bytes(memoryview(self._octets)[: length.value])
+
+    def __bytes__(self) -> bytes:
+        return self.to_bytes()
+
+    # Elements
+
+    def sequence(self) -> Block:
+        """Opens a SEQUENCE."""
+        return self._open(Tag.SEQUENCE)
+
+    def set(self) -> Block:
+        """Opens a SET, whose elements stay in the order that they are written in. :meth:`set_of` sorts."""
+        return self._open(Tag.SET)
+
+    def set_of(self, elements: Iterable[bytes]) -> None:
+        """Writes a SET OF these elements, in the order of DER (X.690 11.6). They aren't checked.
+
+        >>> w = Writer()
+        >>> w.set_of([b"\\x02\\x01\\x07", b"\\x02\\x01\\x05"])
+        >>> w.to_bytes().hex(" ")
+        '31 06 02 01 05 02 01 07'
+        """
+        with self.set():
+            self.elements(b"".join(sorted(elements)))
+
+    def tagged(self, tag: AnyTag) -> Block:
+        """Opens a constructed element with this tag: an EXPLICIT tag, or an IMPLICIT one of a SEQUENCE or SET."""
+        return self._open(tag)
+
+    def octet_string_of(self) -> Block:
+        """Opens an OCTET STRING whose octets are elements.
+
+        >>> w = Writer()
+        >>> with w.octet_string_of():
+        ...     w.boolean(True)
+        >>> w.to_bytes().hex(" ")
+        '04 03 01 01 ff'
+        """
+        return self._open(Tag.OCTET_STRING, constructed=False)
+
+    def implicit(self, tag: AnyTag) -> Writer:
+        """Gives the next element, which has to be primitive, this tag in place of that of its type. Returns the writer.
+
+        >>> w = Writer()
+        >>> w.implicit(2).ia5_string("a.b")  # dNSName [2] IMPLICIT IA5String
+        >>> w.to_bytes()
+        b'\\x82\\x03a.b'
+        """
+        key = key_of(tag)
+        _library.implicit(self._at, key >> CLASS_SHIFT, key & NUMBER_MASK)
+        return self
+
+    def elements(self, octets: ReadableBuffer) -> None:
+        """Writes elements as they are: octets of DER that were written before. They aren't checked."""
+        self._expect_no_tag()
+        copy = bytes(octets)
+        self._reserve(len(copy))
+        _library.put_elements(self._at, copy, len(copy))
+
+    # Values
+
+    def boolean(self, value: bool) -> None:
+        """Writes a BOOLEAN."""
+        self._reserve(1)
+        _library.put_bool(self._at, bool(value))
+
+    def integer(self, value: int) -> None:
+        """Writes an INTEGER, of any size."""
+        if -(1 << 63) <= value < 1 << 63:
+            self._reserve(8)
+            _library.put_i64(self._at, value)
+            return
+        magnitude = value if value >= 0 else ~value
+        content = value.to_bytes(magnitude.bit_length() // 8 + 1, "big", signed=True)
+        self._reserve(len(content))
+        self._check(_library.put_integer(self._at, content, len(content)))
+
+    def enumerated(self, value: int) -> None:
+        """Writes an ENUMERATED, of any size."""
+        if 0 <= value < 1 << 64:
+            self._reserve(9)
+            _library.put_enumerated(self._at, value)
+        else:
+            self._as(Tag.ENUMERATED).integer(value)
+
+    def null(self) -> None:
+        """Writes a NULL."""
+        self._reserve(0)
+        _library.put_null(self._at)
+
+    def oid(self, value: Union[ObjectIdentifier, str, Iterable[int]]) -> None:
+        """Writes an OBJECT IDENTIFIER, which may be given as a text or as arcs."""
+        identifier = value if isinstance(value, ObjectIdentifier) else ObjectIdentifier(value)
+        content = identifier.content
+        if not content:
+            raise ValueError("an object identifier has two arcs at least")
+        self._reserve(len(content))
+        _library.put_oid(self._at, content, len(content))
+
+    def octet_string(self, value: ReadableBuffer) -> None:
+        """Writes an OCTET STRING."""
+        content = bytes(value)
+        self._reserve(len(content))
+        _library.put_octets(self._at, content, len(content))
+
+    def bit_string(self, value: Union[BitString, bytes], unused_bits: int = 0) -> None:
+        """Writes a BIT STRING, which may be given as octets. Its unused bits are written as 0 (X.690 11.2.1)."""
+        bits = value if isinstance(value, BitString) else BitString(value, unused_bits)
+        content = bytes(bits)
+        self._reserve(1 + len(content))
+        _library.put_bits(self._at, bits.unused_bits, content, len(content))
+
+    def utf8_string(self, value: str) -> None:
+        """Writes a UTF8String."""
+        self.string(Tag.UTF8_STRING, value)
+
+    def printable_string(self, value: str) -> None:
+        """Writes a PrintableString. An error if a character isn't in its set."""
+        self.string(Tag.PRINTABLE_STRING, value)
+
+    def ia5_string(self, value: str) -> None:
+        """Writes an IA5String. An error if a character isn't in its set."""
+        self.string(Tag.IA5_STRING, value)
+
+    def string(self, tag: Tag, value: str) -> None:
+        """Writes a character string of the type with this tag, any that :meth:`Node.as_str` has.
+
+        >>> w = Writer()
+        >>> w.string(Tag.NUMERIC_STRING, "1 2")
+        >>> w.to_bytes()
+        b'\\x12\\x031 2'
+
+        Raises:
+            DerError: A character isn't in the set of the type, or the tag is of no such type.
+        """
+        if tag in _WIDE:
+            self._as(tag).octet_string(value.encode(_WIDE[tag]))
+            return
+        if tag.tag_class != TagClass.UNIVERSAL:
+            raise ValueError(f"{tag} is the tag of no character string")
+        content = value.encode()
+        self._reserve(len(content))
+        self._check(_library.put_text(self._at, tag.number, content, len(content)))
+
+    def time(self, value: datetime.datetime) -> None:
+        """Writes a UTCTime of the years 1950 to 2049 without a fraction, or else a GeneralizedTime (RFC 5280 4.1.2.5).
+
+        >>> w = Writer()
+        >>> w.time(datetime.datetime(2049, 12, 31, tzinfo=datetime.timezone.utc))
+        >>> w.to_bytes()
+        b'\\x17\\r491231000000Z'
+        """
+        is_short = 1950 <= _in_utc(value).year <= 2049 and value.microsecond == 0
+        self._time(Tag.UTC_TIME if is_short else Tag.GENERALIZED_TIME, value)
+
+    def utc_time(self, value: datetime.datetime) -> None:
+        """Writes a UTCTime. An error unless the year is 1950 to 2049, and there is no fraction of a second."""
+        self._time(Tag.UTC_TIME, value)
+
+    def generalized_time(self, value: datetime.datetime) -> None:
+        """Writes a GeneralizedTime."""
+        self._time(Tag.GENERALIZED_TIME, value)
+
+    def _time(self, tag: Tag, value: datetime.datetime) -> None:
+        moment = _in_utc(value)
+        time = TimeStruct(
+            moment.year,
+            moment.microsecond * 1000,
+            moment.month,
+            moment.day,
+            moment.hour,
+            moment.minute,
+            moment.second,
+            _library.UTC,
+        )
+        self._reserve(32)
+        self._check(_library.put_time(self._at, tag.number, ctypes.byref(time)))
+
+    def _open(self, tag: AnyTag, constructed: bool = True) -> Block:
+        self._expect_no_tag()
+        self._reserve(0)
+        key = key_of(tag)
+        count, innermost = self._state.count, self._state.innermost
+        mark = _library.open_element(self._at, key >> CLASS_SHIFT, constructed, key & NUMBER_MASK)
+        return Block(self, mark, count, innermost)
+
+    def _as(self, tag: Tag) -> Writer:
+        """Gives the next element this tag, unless it has an implicit one."""
+        return self if self._state.implicit else self.implicit(tag)
+
+    def _expect_no_tag(self) -> None:
+        if self._state.implicit:
+            raise ValueError("an implicit tag is for a primitive element: tagged() is for a SEQUENCE or SET")
+
+    def _check(self, rule: int) -> None:
+        if rule:
+            raise _library.rule_error(rule, self.offset)
+
+    def _reserve(self, length: int) -> None:
+        """Makes room for an element with so many content octets, or for the end of one. So all that is written has
+        room, which the library asks for before it writes."""
+        state = self._state
+        needed = state.count + length + _HEADER
+        if needed <= state.capacity:
+            return
+        octets = bytearray(max(needed, 2 * state.capacity))
+        octets[: state.count] = memoryview(self._octets)[: state.count]
+        self._first = ctypes.c_char.from_buffer(octets)
+        self._octets = octets
+        state.octets = ctypes.addressof(self._first)
+        state.capacity = len(octets)
+
+
+class Block:
+    """An element of a :class:`Writer` that is open until the end of a ``with`` block."""
+
+    __slots__ = ("_writer", "_mark", "_count", "_innermost")
+
+    def __init__(self, writer: Writer, mark: MarkStruct, count: int, innermost: int) -> None:
+        self._writer = writer
+        self._mark = mark
+        # The writer before the element was opened.
+        self._count = count
+        self._innermost = innermost
+
+    def __enter__(self) -> Writer:
+        return self._writer
+
+    def __exit__(
+        self, kind: Optional[Type[BaseException]], error: Optional[BaseException], trace: Optional[TracebackType]
+    ) -> None:
+        if kind is None:
+            self._close()
+        else:
+            self._take_back()
+
+    def _close(self) -> None:
+        writer = self._writer
+        if writer._state.innermost != self._mark.start:
+            raise ValueError("an element inside this one is open, or this one is closed")
+        writer._expect_no_tag()
+        writer._reserve(0)
+        _library.close(writer._at, self._mark)
+
+    def _take_back(self) -> None:
+        # What was written before hasn't changed: it moves when an element around it is closed.
+        state = self._writer._state
+        state.count, state.innermost, state.implicit, state.number = self._count, self._innermost, 0, 0
+
+
+def _in_utc(value: datetime.datetime) -> datetime.datetime:
+    if value.tzinfo is None:
+        raise ValueError("a time without a zone has no encoding in DER")
+    return value.astimezone(datetime.timezone.utc)

@@ -1,0 +1,80 @@
+"""The structs of the package beside those of the C compiler, and the numbers of the header."""
+from __future__ import annotations
+
+import ctypes
+import re
+import subprocess
+from pathlib import Path
+from typing import Callable, Dict, List
+
+from conftest import HEADERS
+
+from dumarewhi import MAX_DEPTH, Rule, TagClass, _library, rule_text
+
+CONSTANTS = {
+    "DM_OK": _library.OK,
+    "DM_ERROR": _library.ERROR,
+    "DM_INCOMPLETE": _library.INCOMPLETE,
+    "DM_NO_ROOM": _library.NO_ROOM,
+    "DM_LOCAL": _library.LOCAL,
+    "DM_UTC": _library.UTC,
+    "DM_MAX_DEPTH": MAX_DEPTH,
+    "DM_UNIVERSAL": TagClass.UNIVERSAL,
+    "DM_APPLICATION": TagClass.APPLICATION,
+    "DM_CONTEXT_SPECIFIC": TagClass.CONTEXT,
+    "DM_PRIVATE": TagClass.PRIVATE,
+    **{f"DM_ERROR_{rule.name}": rule for rule in Rule},
+}
+
+
+def source() -> str:
+    """A program that prints a name and numbers on each line."""
+    lines: List[str] = []
+    for name, struct in _library.STRUCTS.items():
+        lines.append(f'printf("{name} %zu\\n", sizeof({name}));')
+        for field, *_ in struct._fields_:
+            size = f"sizeof((({name} *)0)->{field})"
+            lines.append(f'printf("{name}.{field} %zu %zu\\n", offsetof({name}, {field}), {size});')
+    lines += [f'printf("{name} %u\\n", (unsigned){name});' for name in CONSTANTS]
+    body = "\n".join(lines)
+    return f'#include "dumarewhi.h"\n#include <stdio.h>\nint main(void) {{\n{body}\nreturn 0;\n}}\n'
+
+
+def of_c(compiled: Callable[[Path], Path], folder: Path) -> Dict[str, List[int]]:
+    file = folder / "layout_of_python.c"
+    file.write_text(source())
+    lines = subprocess.run([compiled(file)], check=True, capture_output=True, text=True).stdout.splitlines()
+    return {name: [int(number) for number in numbers] for name, *numbers in map(str.split, lines)}
+
+
+def test_layout(compiled: Callable[[Path], Path], tmp_path: Path) -> None:
+    numbers = of_c(compiled, tmp_path)
+    for name, struct in _library.STRUCTS.items():
+        assert numbers[name] == [ctypes.sizeof(struct)], name
+        sizes = 0
+        for field, *_ in struct._fields_:
+            of_field = getattr(struct, field)
+            assert numbers[f"{name}.{field}"] == [of_field.offset, of_field.size], (name, field)
+            sizes += of_field.size
+        # No field is left out, and there is no padding.
+        assert sizes == ctypes.sizeof(struct), name
+    for name, value in CONSTANTS.items():
+        assert numbers[name] == [value], name
+
+
+def test_words_of_elements() -> None:
+    """An element is five words: see `Listing`."""
+    fields = _library.ElementStruct
+    words = [fields.header.offset, fields.content.offset, fields.end.offset, fields.inside.offset]  # type: ignore
+    assert words == [0, 8, 16, 24]
+    bits = [8 * (getattr(fields, name).offset - 32) for name in ("number", "tag_class", "constructed", "definite")]
+    assert bits == [0, 32, 40, 48]
+
+
+def test_errors_of_the_header() -> None:
+    text = (HEADERS / "dumarewhi.h").read_text()
+    names = dict(re.findall(r"^ *DM_ERROR_(\w+) = (\d+)", text, re.MULTILINE))
+    assert {rule.name: str(rule.value) for rule in Rule} == names
+    for rule in Rule:
+        assert len(rule_text(rule)) >= 8 and rule_text(rule) != "unknown error", rule
+    assert rule_text(0) == "no error" and rule_text(4_000_000_000) == "unknown error"

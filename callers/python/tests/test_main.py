@@ -1,0 +1,74 @@
+"""The command: ``python -m dumarewhi``."""
+from __future__ import annotations
+
+import base64
+import subprocess
+import sys
+from pathlib import Path
+
+import pytest
+from conftest import DATA, octets_of
+
+from dumarewhi import __version__
+
+MESSAGE = octets_of(
+    "30 26 02 01 00 04 06 70 75 62 6c 69 63 a0 19 02 01 2a 02 01 00 02 01 00 30 0e 30 0c 06 08 2b 06 01 02 01 01"
+    "01 00 05 00"
+)
+
+TREE = """\
+     0 SEQUENCE
+     2   INTEGER 0
+     5   OCTET STRING 7075626c6963
+    13   [0]
+    15     INTEGER 42
+    18     INTEGER 0
+    21     INTEGER 0
+    24     SEQUENCE
+    26       SEQUENCE
+    28         OBJECT IDENTIFIER 1.3.6.1.2.1.1.1.0
+    38         NULL None
+"""
+
+
+def run(*words: str, octets: bytes = b"") -> "subprocess.CompletedProcess[bytes]":
+    return subprocess.run([sys.executable, "-m", "dumarewhi", *words], input=octets, capture_output=True)
+
+
+def test_tree(tmp_path: Path) -> None:
+    (tmp_path / "message").write_bytes(MESSAGE)
+    shown = run("tree", str(tmp_path / "message"))
+    assert (shown.stdout.decode(), shown.stderr, shown.returncode) == (TREE, b"", 0)
+
+
+def test_standard_input() -> None:
+    text = b"-----BEGIN A-----\n" + base64.encodebytes(MESSAGE) + b"-----END A-----\n"
+    assert run("tree", "-", octets=text).stdout.decode() == TREE
+    shown = run("tree", "--ber", "-", octets=octets_of("30 80 01 01 ff 00 00 05 00"))
+    assert shown.stdout.decode() == "     0 SEQUENCE\n     2   BOOLEAN True\n     7 NULL None\n"
+
+
+def test_check(tmp_path: Path) -> None:
+    assert run("check", str(DATA / "certificate.der"), str(DATA / "key.p8")).returncode == 0
+    wrong = tmp_path / "wrong"
+    wrong.write_bytes(octets_of("05 00 30 80 05 00 00 00"))
+    shown = run("check", str(wrong), str(DATA / "certificate.der"))
+    assert (shown.stdout, shown.returncode) == (b"", 1)
+    assert shown.stderr.decode().startswith(f"{wrong}: ") and shown.stderr.decode().endswith(" at offset 2\n")
+    assert run("check", "--ber", str(wrong)).returncode == 0
+    wrong.write_bytes(octets_of("a0 02 05 01"))
+    assert run("check", str(wrong)).stderr.decode().endswith(" at offset 2\n")
+
+
+def test_no_file(tmp_path: Path) -> None:
+    shown = run("tree", str(tmp_path / "nothing"))
+    assert shown.returncode == 1 and b"No such file" in shown.stderr
+
+
+@pytest.mark.parametrize("words", [[], ["tree"], ["draw", "x"]])
+def test_usage(words: "list[str]") -> None:
+    assert run(*words).returncode == 2
+
+
+def test_version() -> None:
+    assert run("--version").stdout.decode() == __version__ + "\n"

@@ -1,0 +1,256 @@
+"""What is written, and what is read of it again."""
+from __future__ import annotations
+
+import datetime
+import random
+from typing import Callable
+
+import pytest
+from conftest import octets_of
+
+from dumarewhi import BitString, DerError, ObjectIdentifier, Reader, Rule, Tag, Writer, check_der, parse_der, to_der
+
+# The personnel record of X.690 A.3
+RECORD = bytes.fromhex(
+    "608185 6110 1a044a6f686e 1a0150 1a05536d697468 a00a 1a084469726563746f72 420133 a10a 43083139373130393137"
+    "a212 6110 1a044d617279 1a0154 1a05536d697468 a342"
+    "311f 6111 1a0552616c7068 1a0154 1a05536d697468 a00a 43083139353731313131"
+    "311f 6111 1a05537573616e 1a0142 1a054a6f6e6573 a00a 43083139353930373137"
+)
+
+
+def written(write: Callable[[Writer], object]) -> bytes:
+    w = Writer()
+    write(w)
+    return w.to_bytes()
+
+
+def write_name(w: Writer, *parts: str) -> None:
+    with w.tagged(Tag.application(1)):
+        for part in parts:
+            w.string(Tag.VISIBLE_STRING, part)
+
+
+def write_date(w: Writer, number: int, text: str) -> None:
+    with w.tagged(number):
+        w.implicit(Tag.application(3)).string(Tag.VISIBLE_STRING, text)
+
+
+def test_record() -> None:
+    w = Writer()
+    with w.tagged(Tag.application(0)):
+        write_name(w, "John", "P", "Smith")
+        with w.tagged(0):
+            w.string(Tag.VISIBLE_STRING, "Director")
+        w.implicit(Tag.application(2)).integer(51)
+        write_date(w, 1, "19710917")
+        with w.tagged(2):
+            write_name(w, "Mary", "T", "Smith")
+        with w.tagged(3):
+            for name, born in (("Ralph T Smith", "19571111"), ("Susan B Jones", "19590717")):
+                with w.set():
+                    write_name(w, *name.split())
+                    write_date(w, 0, born)
+    assert bytes(w) == RECORD and w.offset == len(RECORD)
+
+
+@pytest.mark.parametrize(
+    "write, octets",
+    [
+        (lambda w: w.boolean(True), "01 01 ff"),
+        (lambda w: w.boolean(False), "01 01 00"),
+        (lambda w: w.integer(0), "02 01 00"),
+        (lambda w: w.integer(-129), "02 02 ff 7f"),
+        (lambda w: w.integer(1 << 63), "02 09 00 80 00 00 00 00 00 00 00"),
+        (lambda w: w.integer(-(1 << 63) - 1), "02 09 ff 7f ff ff ff ff ff ff ff"),
+        (lambda w: w.enumerated(3), "0a 01 03"),
+        (lambda w: w.enumerated((1 << 64) - 1), "0a 09 00 ff ff ff ff ff ff ff ff"),
+        (lambda w: w.enumerated(-1), "0a 01 ff"),
+        (lambda w: w.implicit(0).enumerated(-1), "80 01 ff"),
+        (lambda w: w.null(), "05 00"),
+        (lambda w: w.oid("2.999.3"), "06 03 88 37 03"),
+        (lambda w: w.oid([1, 2, 1 << 64]), "06 0b 2a 82 80 80 80 80 80 80 80 80 00"),
+        (lambda w: w.oid(ObjectIdentifier("1.2")), "06 01 2a"),
+        (lambda w: w.octet_string(b"ab"), "04 02 61 62"),
+        (lambda w: w.octet_string(memoryview(b"ab")), "04 02 61 62"),
+        (lambda w: w.bit_string(BitString(b"\xff", 4)), "03 02 04 f0"),
+        (lambda w: w.bit_string(b"\xff"), "03 02 00 ff"),
+        (lambda w: w.bit_string(b""), "03 01 00"),
+        (lambda w: w.utf8_string("é"), "0c 02 c3 a9"),
+        (lambda w: w.printable_string("A"), "13 01 41"),
+        (lambda w: w.ia5_string("@"), "16 01 40"),
+        (lambda w: w.string(Tag.BMP_STRING, "Lé"), "1e 04 00 4c 00 e9"),
+        (lambda w: w.string(Tag.UNIVERSAL_STRING, "A"), "1c 04 00 00 00 41"),
+        (lambda w: w.implicit(1).string(Tag.BMP_STRING, "A"), "81 02 00 41"),
+        (lambda w: w.implicit(Tag.private(0xFFFFFFFF)).null(), "df 8f ff ff ff 7f 00"),
+        (lambda w: w.elements(b"\x05\x00\x05\x00"), "05 00 05 00"),
+        (lambda w: w.set_of([]), "31 00"),
+    ],
+)
+def test_elements(write: Callable[[Writer], object], octets: str) -> None:
+    assert written(write) == octets_of(octets)
+
+
+ZONE = datetime.timezone(datetime.timedelta(hours=1))
+
+
+@pytest.mark.parametrize(
+    "time, octets",
+    [
+        (datetime.datetime(1950, 1, 1, tzinfo=datetime.timezone.utc), b"\x17\x0d500101000000Z"),
+        (datetime.datetime(2050, 1, 1, 0, 30, tzinfo=ZONE), b"\x17\x0d491231233000Z"),
+        (datetime.datetime(2050, 1, 1, 1, tzinfo=ZONE), b"\x18\x0f20500101000000Z"),
+        (datetime.datetime(2020, 1, 1, 1, 0, 0, 500_000, ZONE), b"\x18\x1120200101000000.5Z"),
+        (datetime.datetime(1, 1, 1, tzinfo=datetime.timezone.utc), b"\x18\x0f00010101000000Z"),
+    ],
+)
+def test_times(time: datetime.datetime, octets: bytes) -> None:
+    assert written(lambda w: w.time(time)) == octets
+    assert parse_der(octets).root.as_datetime() == time
+
+
+def test_no_times() -> None:
+    w = Writer()
+    with pytest.raises(ValueError):
+        w.time(datetime.datetime(2020, 1, 1))
+    for time in (
+        datetime.datetime(2050, 1, 1, tzinfo=datetime.timezone.utc),
+        datetime.datetime(2020, 1, 1, 0, 0, 0, 1, datetime.timezone.utc),
+    ):
+        with pytest.raises(DerError):
+            w.utc_time(time)
+    assert w.to_bytes() == b""
+    w.generalized_time(datetime.datetime(2020, 1, 1, tzinfo=datetime.timezone.utc))
+    assert w.to_bytes() == b"\x18\x0f20200101000000Z"
+
+
+def test_integers() -> None:
+    chance = random.Random(3)
+    for bits in range(1, 300):
+        number = chance.getrandbits(bits) * chance.choice((1, -1))
+        assert parse_der(written(lambda w: w.integer(number))).root.as_int() == number
+
+
+def test_errors() -> None:
+    w = Writer()
+    with w.sequence():
+        w.integer(5)
+        with pytest.raises(DerError) as caught:
+            w.printable_string("a@b")
+        assert (caught.value.rule, caught.value.offset) == (Rule.INVALID_CHARACTER, 5)
+        w.implicit(0)
+        with pytest.raises(DerError):
+            w.ia5_string("é")
+        w.ia5_string("e")  # which has the tag that is left for it
+    assert w.to_bytes() == octets_of("30 06 02 01 05 80 01 65")
+    for text in ("1", "3.1"):
+        with pytest.raises(ValueError):
+            w.oid(text)
+    with pytest.raises(ValueError):
+        w.oid(ObjectIdentifier.from_content(b""))
+    for tag in (Tag.context(12), Tag.INTEGER):
+        with pytest.raises(ValueError):
+            w.string(tag, "1")
+    with pytest.raises(TypeError):
+        w.integer("5")  # type: ignore[arg-type]
+    for number in (-1, 1 << 32):
+        with pytest.raises(ValueError):
+            w.tagged(number)
+    assert w.offset == 8
+
+
+def test_blocks() -> None:
+    w = Writer()
+    w.null()
+    block = w.sequence()
+    with pytest.raises(ValueError):
+        w.to_bytes()
+    inner = w.set()
+    with pytest.raises(ValueError):
+        block.__exit__(None, None, None)
+    inner.__exit__(None, None, None)
+    block.__exit__(None, None, None)
+    assert w.to_bytes() == octets_of("05 00 30 02 31 00")
+    with pytest.raises(ValueError):
+        block.__exit__(None, None, None)
+    with w.sequence() as same:
+        assert same is w
+    w.implicit(0)
+    for opening in (w.sequence, w.set, lambda: w.tagged(0), w.octet_string_of):
+        with pytest.raises(ValueError):
+            opening()
+    w.null()
+    assert w.to_bytes() == octets_of("05 00 30 02 31 00 30 00 80 00")
+
+
+def test_a_block_that_fails_is_taken_back() -> None:
+    w = Writer()
+    with w.sequence():
+        w.integer(5)
+        with pytest.raises(KeyError):
+            with w.set():
+                w.octet_string(bytes(1000))
+                with w.tagged(0):
+                    w.implicit(1)
+                    raise KeyError
+        w.null()
+    assert w.to_bytes() == octets_of("30 05 02 01 05 05 00")
+
+
+def test_each_size_of_a_length() -> None:
+    for size in [0, 1, 125, 126, 127, 128, 255, 256, 65_535, 65_536, 1 << 24]:
+        content = bytes(size)
+        w = Writer()
+        with w.sequence():
+            w.octet_string(content)
+            with w.octet_string_of():
+                w.octet_string(content)
+            w.bit_string(content)
+        octets = w.to_bytes()
+        assert check_der(octets) == 4 and to_der(octets) == octets
+        with Reader(octets) as reader, reader.sequence() as r:
+            assert r.octet_string() == content
+            assert Reader(r.octet_string()).octet_string() == content
+            assert bytes(r.bit_string()) == content
+
+
+def test_many_lists_that_grow() -> None:
+    """Each end of a list moves its content, in a buffer that grows meanwhile."""
+    for depth in range(1, 100, 7):
+        for size in range(0, 300, 23):
+            w = Writer()
+            blocks = [w.sequence() for _ in range(depth)]
+            w.octet_string(b"x" * size)
+            for block in reversed(blocks):
+                block.__exit__(None, None, None)
+            octets = w.to_bytes()
+            assert check_der(octets, max_depth=250) == depth + 1 and octets.endswith(b"x" * size)
+
+
+def test_a_tree_is_written_again() -> None:
+    def write(w: Writer, node: object) -> None:
+        if isinstance(node, list):
+            with w.sequence():
+                for item in node:
+                    write(w, item)
+        elif isinstance(node, bool):
+            w.boolean(node)
+        elif isinstance(node, int):
+            w.integer(node)
+        elif isinstance(node, str):
+            w.utf8_string(node)
+        else:
+            w.null()
+
+    value = [5, [True, "é", [], [None, [-1 << 70]]], "x" * 200]
+    octets = written(lambda w: write(w, value))
+    assert parse_der(octets).root.value == value
+
+
+def test_order_of_a_set_of() -> None:
+    chance = random.Random(4)
+    elements = [written(lambda w: w.octet_string(chance.randbytes(chance.randrange(4)))) for _ in range(50)]
+    octets = written(lambda w: w.set_of(elements))
+    children = [bytes(child.octets) for child in parse_der(octets).root]
+    # X.690 11.6: the shorter ones are padded with zeros
+    assert children == sorted(elements, key=lambda element: element.ljust(8, b"\0"))
