@@ -1,12 +1,12 @@
 -- What an error says of an input.
 use Rattle.std.proofs.Common.{◌≡◌, ℕ, true, false, List, refl, sym, ap, ◌∙◌}
 use Rattle.der_walk.specs.declared.cause.Cause.{Cause}
-use Rattle.der_walk.specs.declared.cause.Cause.TheVariants.{NotDer}
+use Rattle.der_walk.specs.declared.cause.Cause.TheVariants.{NotDer, Value}
 use Rattle.der_walk.specs.declared.refusal.Refusal.{Refusal}
 use Rattle.der_walk.specs.declared.walk.Walk.{Walk}
 use Rattle.der_walk.specs.Visits.{Visited}
 use Rattle.der_canon.specs.declared.error.NotCanonical.{NotCanonical}
-use Rattle.der_canon.specs.Errors.{IsErrorOf, IsFirstError, IsUnwritten, first, large, unwritten, ber, der, at, end}
+use Rattle.der_canon.specs.Errors.{IsErrorOf, IsFirstError, first, large, string, ber, der}
 use Rattle.der_canon.specs.NoDer.{HasNoDer, other, unused, part, value}
 use Rattle.der_canon.specs.Written.{IsRefusalOf, is_about_der}
 use Rattle.der_canon.proofs.AllVisited.{all_visited}
@@ -26,12 +26,8 @@ of_first : (i : List ℕ) (vs : List Visited) (w : Walk) (f : Refusal) (e : NotC
 of_first i vs w f e (ber refused) same = λ h a. let v = all_visited a 0 0 in refused.never v.0 v.1
 of_first i vs w f e (der v visited none place step) same = λ h. differ (sym (about e.cause f.cause same (about_der i vs v f.cause none)) ∙ h)
 
-of_unwritten : (i : List ℕ) (e : NotCanonical) → IsUnwritten i e → IsRefusalOf i e
-of_unwritten i e (at vs v w visited place h) = λ k. differ (sym h ∙ k)
-of_unwritten i e (end vs visits place c) = λ k. differ (sym (about e.cause NotDer c refl) ∙ k)
-
 -- one that isn't about DER says that the input isn't elements by BER
 pub refusal_of : (i : List ℕ) (e : NotCanonical) → IsErrorOf i e → IsRefusalOf i e
 refusal_of i e (first f) = of_first i f.before f.walk f.refusal e f.error f.told.cause
 refusal_of i e (large l) = λ k. differ (sym (about e.cause NotDer l.cause refl) ∙ k)
-refusal_of i e (unwritten all u) = of_unwritten i e u
+refusal_of i e (string all s) = λ k. differ (sym (about e.cause (Value s.error) s.cause refl) ∙ k)

@@ -1,12 +1,12 @@
 -- Octets of bits.
-use Rattle.std.proofs.Common.{◌≡◌, ℕ, List, [], ◌∷◌, ◌++◌, ◌-◌, ◌%◌, ◌^◌, ◌<◌, ◌≤◌, min, refl, sym, ap, subst, ◌∙◌, arith, append_assoc}
+use Rattle.std.proofs.Common.{◌≡◌, ℕ, List, [], ◌∷◌, ◌++◌, ◌-◌, ◌%◌, ◌^◌, ◌<◌, ◌≤◌, min, refl, sym, ap, subst, arith}
 use Rattle.std.proofs.Math.Nat.{mod-eq_of_lt}
 use Rattle.std.proofs.Math.Pow.{pow_mono}
 use Rattle.der_base.specs.Leaf.{HasZeroUnusedBits}
 use Rattle.der_writer.specs.Octets.{cleared}
 use Rattle.der_writer.proofs.Bits.{bits_strict}
 
-cleared_last : (u b : ℕ) (bs : List ℕ) → cleared u (bs ++ b ∷ []) ≡ bs ++ (b - b % 2 ^ u) ∷ []
+pub cleared_last : (u b : ℕ) (bs : List ℕ) → cleared u (bs ++ b ∷ []) ≡ bs ++ (b - b % 2 ^ u) ∷ []
 cleared_last u b [] = refl
 cleared_last u b (x ∷ []) = refl
 cleared_last u b (x ∷ y ∷ bs) = ap (λ v. x ∷ v) (cleared_last u b (y ∷ bs))
@@ -16,11 +16,6 @@ all_cleared u b h l =
     let p : 2 ^ 8 ≤ 2 ^ u = pow_mono h in
     let e : b % 2 ^ u ≡ b = mod-eq_of_lt (omega arith) in
     omega (arith, e)
-
-pub joined_bits : (u b x : ℕ) (octets bits others after rest : List ℕ) → bits ≡ others ++ b ∷ [] → octets ≡ others ++ after → after ≡ x ∷ rest → x ≡ b - b % 2 ^ u → octets ≡ cleared u bits ++ rest
-joined_bits u b x octets bits others after rest e f g h =
-    let k : cleared u bits ≡ others ++ (b - b % 2 ^ u) ∷ [] = ap (cleared u) e ∙ cleared_last u b others in
-    f ∙ ap (λ v. others ++ v) (g ∙ ap (λ k. k ∷ rest) h) ∙ sym (ap (λ v. v ++ rest) k ∙ append_assoc others ((b - b % 2 ^ u) ∷ []) rest)
 
 pub none_cleared : (u : ℕ) (w : List ℕ) → cleared u w ≡ [] → w ≡ []
 none_cleared u [] k = refl

@@ -1,16 +1,16 @@
 -- Contents as DER writes them, and its rules.
 use Rattle.std.proofs.Common.{◌≡◌, ℕ, Bool, true, false, List, [], ◌∷◌, Result, Ok, Err, refl, sym, ap, subst, inl, inr, arith}
-use Rattle.std.specs.Prelude.{◌==◌, ◌||◌, ◌⊎◌, if◌then◌else◌, map}
+use Rattle.std.specs.Prelude.{◌==◌, ◌||◌, ◌⊎◌, if◌then◌else◌}
 use Rattle.std.proofs.lemmas.Bool.Decides.{nat_tests}
 use Rattle.der_base.specs.declared.header.Class.{Class}
 use Rattle.der_base.specs.declared.header.Class.TheVariants.{Universal}
 use Rattle.der_base.specs.declared.rules.Rules.TheVariants.{Ber, Der}
 use Rattle.der_contents.specs.declared.content_error.ContentError.{ContentError}
-use Rattle.der_contents.specs.ContentRules.{AllHold, Checks, IsFirstBroken, Rule, bit_string_rules, boolean_rules, content_rules}
+use Rattle.der_contents.specs.ContentRules.{AllHold, Checks, IsContent, IsFirstBroken, Rule, bit_string_rules, boolean_rules, content_rules}
 use Rattle.der_walk.specs.declared.cause.Cause.{Cause}
 use Rattle.der_writer.specs.Octets.{cleared}
 use Rattle.der_canon.specs.NoDer.{ChecksForm, ChecksValue, HasNoForm, rules_of}
-use Rattle.der_canon.specs.Values.{bits_in_der, boolean_octet, content_in_der}
+use Rattle.der_canon.specs.Values.{bits_in_der, boolean_in_der, boolean_octet, content_in_der}
 use Rattle.der_canon.proofs.Contents.{cleared_zero, none_cleared}
 
 pub none_broken : (rs : List Rule) (e : ContentError) → AllHold rs → IsFirstBroken rs e → ⊥
@@ -22,7 +22,7 @@ truth : (p : Bool) (x : ℕ) → x ≡ (if p then 0 else 255) → (x ∷ [] ≡ 
 truth true x e = inl (ap (λ y. y ∷ []) e)
 truth false x e = inr (ap (λ y. y ∷ []) e)
 
-boolean_form : (w : List ℕ) (x : Result (Unit {0}) ContentError) → Checks (boolean_rules Ber w) x → Checks (boolean_rules Der (map boolean_octet w)) x
+boolean_form : (w : List ℕ) (x : Result (Unit {0}) ContentError) → Checks (boolean_rules Ber w) x → Checks (boolean_rules Der (boolean_in_der w)) x
 boolean_form [] (Ok u) h = absurd (omega (arith, h.0))
 boolean_form (b ∷ []) (Ok u) h = (refl, (truth (b == 0) (boolean_octet b) refl, tt))
 boolean_form (b ∷ c ∷ w) (Ok u) h = absurd (omega (arith, h.0))
@@ -39,10 +39,10 @@ bits_form (u ∷ w) (Err e) (inr (few, inl h)) = inr (few, inl ((λ k. h.0 (λ q
 bits_form (u ∷ w) (Err e) (inr (few, inr h)) = absurd h.1
 
 of_type : (t : ℕ) (w : List ℕ) (x : Result (Unit {0}) ContentError) (p q : Bool) → (t == 1) ≡ p → (t == 3) ≡ q → Checks (content_rules (if p || q then Ber else Der) t w) x
-    → Checks (content_rules Der t (if p then map boolean_octet w else (if q then bits_in_der w else w))) x
+    → Checks (content_rules Der t (if p then boolean_in_der w else (if q then bits_in_der w else w))) x
 of_type t w x true q e f h =
     let k : t ≡ 1 = grind (arith, nat_tests) in
-    subst (λ z. Checks (content_rules Der z (map boolean_octet w)) x) (sym k) (boolean_form w x (subst (λ z. Checks (content_rules Ber z w) x) k h))
+    subst (λ z. Checks (content_rules Der z (boolean_in_der w)) x) (sym k) (boolean_form w x (subst (λ z. Checks (content_rules Ber z w) x) k h))
 of_type t w x false true e f h =
     let k : t ≡ 3 = grind (arith, nat_tests) in
     subst (λ z. Checks (content_rules Der z (bits_in_der w)) x) (sym k) (bits_form w x (subst (λ z. Checks (content_rules Ber z w) x) k h))
@@ -54,5 +54,5 @@ in_form t w x h = of_type t w x (t == 1) (t == 3) refl refl h
 
 -- the content of an element of class Universal was checked
 pub of_universal : (k : Class) (t : ℕ) (w v : List ℕ) (r : Result (Unit {0}) Cause) → k ≡ Universal → v ≡ w → ChecksForm t w r → ChecksValue k t v r
-of_universal k t w v (Ok x) u e h = λ c q n. h c (subst (λ z. HasNoForm t z c) e n)
+of_universal k t w v (Ok x) u e h = λ q. subst (λ z. IsContent Der t (content_in_der t z)) (sym e) h
 of_universal k t w v (Err c) u e h = (u, subst (λ z. HasNoForm t z c) (sym e) h)

@@ -12,7 +12,7 @@ none_more : {X : Type 0} (ys : List X) (y : X) → [] ≡ ys ++ y ∷ [] → ⊥
 none_more [] y e = cc
 none_more (z ∷ ys) y e = cc
 
-last_one : {X : Type 0} (xs ys : List X) (x y : X) → xs ++ x ∷ [] ≡ ys ++ y ∷ [] → (xs ≡ ys) × (x ≡ y)
+pub last_one : {X : Type 0} (xs ys : List X) (x y : X) → xs ++ x ∷ [] ≡ ys ++ y ∷ [] → (xs ≡ ys) × (x ≡ y)
 last_one [] [] x y e = (refl, cc)
 last_one [] (z ∷ ys) x y e = absurd (none_more ys y (cc))
 last_one (z ∷ xs) [] x y e = absurd (let k : [] ≡ xs ++ x ∷ [] = cc in none_more xs x k)
@@ -88,7 +88,7 @@ sizes_one i vs us s r ms ns m n (constructed b1 v1 t1 ls1 ks1 l1 k1 h1 free1 end
       g1 ∙ ap start_size q.1 ∙ sym g2,
     )
 
-of_sizes : (i : List ℕ) (n m : ℕ) → HasSize i n → HasSize i m → n ≡ m
+pub of_sizes : (i : List ℕ) (n m : ℕ) → HasSize i n → HasSize i m → n ≡ m
 of_sizes i n m (vs, s, ms, rest, l, visits, sizes, ends) (us, r, ns, also, k, visits', sizes', ends') =
     let x = sizes_one i vs us s r ms ns l k sizes sizes' (visits_same visits visits' refl) in
     (ends_one 0 ms ns rest also l k n m ends ends' x.1 x.2).1

@@ -4,8 +4,9 @@ use Rattle.std.specs.Prelude.{Some, None, List, [], ◌∷◌, ◌++◌, length,
 use Rattle.std.specs.Option.{option_to_list}
 use Rattle.der_base.specs.declared.rules.Rules.TheVariants.{Ber}
 use Rattle.der_base.specs.declared.header.Class.TheVariants.{Universal}
+use Rattle.der_contents.specs.declared.content_error.ContentError.{ContentError}
 use Rattle.der_walk.specs.declared.cause.Cause.{Cause}
-use Rattle.der_walk.specs.declared.cause.Cause.TheVariants.{NotDer, OtherPart, UnusedBitsInside}
+use Rattle.der_walk.specs.declared.cause.Cause.TheVariants.{NotDer, OtherPart, UnusedBitsInside, Value}
 use Rattle.der_walk.specs.declared.element.Element.{Element}
 use Rattle.der_walk.specs.declared.path.Step.{Step}
 use Rattle.der_walk.specs.declared.refusal.Refusal.{Refusal}
@@ -25,7 +26,7 @@ use Rattle.der_canon.specs.NoDer.{HasDer, HasNoDer, HaveDer, IsNoPart}
 use Rattle.der_canon.specs.NoDer.{is_inside, string_after, string_of, unused_after, unused_of}
 use Rattle.der_canon.specs.Same.{no_extras, part_number}
 use Rattle.der_canon.specs.Sizes.{IsSizeOf}
-use Rattle.der_canon.specs.Written.{is_about_der}
+use Rattle.der_canon.specs.Strings.{IsBroken}
 
 -- the last step of the path to an element: a constructed one is open, so its step is among those of the walk
 abbrev pub IsStepTo : Visited → ℕ → Option Step → Type 0
@@ -110,27 +111,22 @@ pub record IsTooLarge (i : List ℕ) (e : NotCanonical) : Type 0 where
   pub cause : e.cause ≡ NotDer
   pub offset : e.offset ≡ 0
 
--- What was written for i isn't its elements in DER. It shows at an element of i, or at the end of i.
-pub data IsUnwritten (i : List ℕ) (e : NotCanonical) : Type 0 where
-  at : (vs : List Visited) (v : Visited) (w : Walk) → HasVisited no_extras Ber i w (vs ++ v ∷ [])
-      → e.offset ≡ v.offset → is_about_der e.cause ≡ true → IsUnwritten i e
-  end : (vs : List Visited) → Visits no_extras Ber 101 0 0 i vs → e.offset ≡ length i → e.cause ≡ NotDer
-      → IsUnwritten i e
+-- A string in parts of i has a content in DER that breaks a rule of its type, which is the cause.
+pub record IsBrokenString (i : List ℕ) (e : NotCanonical) : Type 0 where
+  pub error : ContentError
+  pub broken : IsBroken i e.offset error
+  pub cause : e.cause ≡ Value error
+
+-- why i isn't written, where its first fault isn't said before
+abbrev pub IsErrorOfString : List ℕ → NotCanonical → Type 0
+IsErrorOfString i e = IsFirstFault i e ⊎ IsBrokenString i e
 
 -- Why i isn't written: its first fault; that it is too large; or, where it is elements by BER and each has a form in
--- DER, that what was written isn't these, as where a string in parts is none of its type.
+-- DER, a string in parts.
 pub data IsErrorOf (i : List ℕ) (e : NotCanonical) : Type 0 where
   first : IsFirstFault i e → IsErrorOf i e
   large : IsTooLarge i e → IsErrorOf i e
-  unwritten : AllHaveDer i → IsUnwritten i e → IsErrorOf i e
-
--- an error at an element of the input
-abbrev pub IsErrorAt : Element → NotCanonical → Type 0
-IsErrorAt x e = (e.offset ≡ x.offset) × (is_about_der e.cause ≡ true)
-
--- and one at its end
-abbrev pub IsErrorAtEnd : ℕ → NotCanonical → Type 0
-IsErrorAtEnd n e = (e.offset ≡ n) × (e.cause ≡ NotDer)
+  string : AllHaveDer i → IsBrokenString i e → IsErrorOf i e
 
 -- DER has more octets for i than these
 abbrev pub NeedsMore : List ℕ → ℕ → Type 0

@@ -1,10 +1,12 @@
+pub mod Contents
 pub mod Errors
-pub mod Joined
 pub mod Laws
 pub mod NoDer
 pub mod Pieces
 pub mod Same
 pub mod Sizes
 pub mod Sizing
+pub mod Strings
 pub mod Values
+pub mod Writing
 pub mod Written

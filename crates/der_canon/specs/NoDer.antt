@@ -6,7 +6,7 @@ use Rattle.der_base.specs.declared.header.Class.TheVariants.{Universal}
 use Rattle.der_base.specs.declared.rules.Rules.{Rules}
 use Rattle.der_base.specs.declared.rules.Rules.TheVariants.{Ber, Der}
 use Rattle.der_contents.specs.declared.content_error.ContentError.{ContentError}
-use Rattle.der_contents.specs.ContentRules.{IsFirstBroken, content_rules}
+use Rattle.der_contents.specs.ContentRules.{IsContent, IsFirstBroken, content_rules}
 use Rattle.der_walk.specs.declared.cause.Cause.{Cause}
 use Rattle.der_walk.specs.declared.cause.Cause.TheVariants.{OtherPart, UnusedBitsInside, Value}
 use Rattle.der_walk.specs.Visits.{Visited}
@@ -83,9 +83,9 @@ pub data HaveDer (i : List ℕ) : List Visited → Type 0 where
 
 -- the content of a primitive element is checked for its form
 abbrev pub ChecksForm : ℕ → List ℕ → Result (Unit {0}) Cause → Type 0
-ChecksForm t w result = MatchResult result (λ _. (c : Cause) → ¬ HasNoForm t w c) (λ c. HasNoForm t w c)
+ChecksForm t w result = MatchResult result (λ _. IsContent Der t (content_in_der t w)) (λ c. HasNoForm t w c)
 
 -- that of an element is, if its class is Universal
 abbrev pub ChecksValue : Class → ℕ → List ℕ → Result (Unit {0}) Cause → Type 0
-ChecksValue k t w result = MatchResult result (λ _. (c : Cause) → k ≡ Universal → ¬ HasNoForm t w c)
+ChecksValue k t w result = MatchResult result (λ _. k ≡ Universal → IsContent Der t (content_in_der t w))
     (λ c. (k ≡ Universal) × HasNoForm t w c)

@@ -1,14 +1,16 @@
--- Elements and those that are written for them.
-use Rattle.std.specs.Prelude.{◌≡◌, ℕ, ◌+◌, ◌<◌, Bool, true, false, not, ◌&&◌, ◌||◌, ◌==◌}
-use Rattle.std.specs.Prelude.{nat_lt, if◌then◌else◌, Option, Some, None, unwrap_or, List, [], ◌∷◌, ◌++◌}
-use Rattle.std.specs.List.{All}
-use Rattle.der_base.specs.declared.header.Class.TheVariants.{Universal}
-use Rattle.der_base.specs.Text.{is_one_of, is_within}
+-- Elements of BER, and the octets by which DER writes them.
+use Rattle.std.specs.Prelude.{◌≡◌, ℕ, suc, ◌+◌, ◌⊎◌, Bool, true, false, ◌&&◌, ◌||◌, ◌==◌}
+use Rattle.std.specs.Prelude.{nat_lt, if◌then◌else◌, Option, Some, None, unwrap_or, List, [], ◌∷◌, ◌++◌, length}
+use Rattle.der_base.specs.declared.header.Class.{Class}
 use Rattle.der_base.specs.declared.rules.Rules.TheVariants.{Ber, Der}
-use Rattle.der_check.specs.Elements.{AreElements}
-use Rattle.der_walk.specs.Visits.{Extras, Visited, Visits}
+use Rattle.der_base.specs.Encoding.{element}
+use Rattle.der_base.specs.Spelling.{end_marker}
+use Rattle.der_base.specs.Text.{is_one_of, is_within}
+use Rattle.der_check.specs.Elements.{AreElements, MayBeConstructed, MayHaveContent}
+use Rattle.der_walk.specs.Visits.{Extras, IsHeaderBy, Visited}
 use Rattle.der_walk.specs.Walked.{between}
-use Rattle.der_canon.specs.Values.{IsJoined, is_universal, value_in_der}
+use Rattle.der_writer.specs.Octets.{cleared}
+use Rattle.der_canon.specs.Values.{is_universal, value_in_der}
 
 -- nothing is visited but elements
 abbrev pub no_extras : Extras
@@ -19,9 +21,13 @@ no_extras = record { enters_strings = false; keeps_values = false }
 abbrev pub is_string : ℕ → Bool
 is_string t = is_one_of (3 ∷ 4 ∷ 7 ∷ 12 ∷ 30 ∷ []) t || is_within 18 28 t
 
+-- an element of this class and number has one of them
+abbrev pub is_string_of : Class → ℕ → Bool
+is_string_of c t = is_universal c && is_string t
+
 -- it is a string in parts
 abbrev pub is_in_parts : Visited → Bool
-is_in_parts v = v.constructed && (is_universal v.class && is_string v.number)
+is_in_parts v = v.constructed && is_string_of v.class v.number
 
 -- its depth, if it is
 abbrev pub parts_of : Visited → Option ℕ
@@ -36,51 +42,69 @@ is_part (Some k) v = nat_lt k v.depth
 abbrev pub part_number : Bool → ℕ
 part_number is_bits = if is_bits then 3 else 4
 
--- p is a part of the string v, or inside one
-pub record IsPartOf (v p : Visited) : Type 0 where
-  pub string : is_in_parts v ≡ true
-  pub inside : v.depth < p.depth
-  pub class : p.class ≡ Universal
-  pub number : p.number ≡ part_number (v.number == 3)
-
 -- the content octets of an element of i whose length is definite
 abbrev pub content_of : List ℕ → Visited → List ℕ
 content_of i v = let begin = v.offset + v.header in between i begin (begin + unwrap_or v.length 0)
 
--- those of the primitive ones
-abbrev pub contents_of : List ℕ → List Visited → List (List ℕ)
-contents_of i [] = []
-contents_of i (v ∷ vs) = if v.constructed then contents_of i vs else content_of i v ∷ contents_of i vs
+-- the content of a string in parts before them: a BIT STRING begins with how many bits are unused (8.6.2)
+abbrev pub string_start : ℕ → List ℕ
+string_start t = if t == 3 then 0 ∷ [] else []
 
--- w is v as DER writes it: a string in parts is primitive (10.2), and the others are constructed as they were
-pub record IsHeadedAs (v w : Visited) : Type 0 where
-  pub class : w.class ≡ v.class
-  pub number : w.number ≡ v.number
-  pub depth : w.depth ≡ v.depth
-  pub constructed : w.constructed ≡ (v.constructed && not (is_in_parts v))
+-- the octets x, with another first octet
+abbrev pub with_first : ℕ → List ℕ → List ℕ
+with_first u [] = []
+with_first u (n ∷ x) = u ∷ x
 
--- The element w of o is the element v of i, with these parts if it is a string in parts, as DER writes it: with the
--- same value.
-pub record IsWrittenAs (i o : List ℕ) (v : Visited) (parts : List Visited) (w : Visited) : Type 0 where
-  pub header : IsHeadedAs v w
-  pub value : v.constructed ≡ false → content_of o w ≡ value_in_der v.class v.number (content_of i v)
-  pub joined : is_in_parts v ≡ true → IsJoined (v.number == 3) (contents_of i parts) (content_of o w)
+-- the content x of a BIT STRING, with the bits of one more part: the last part says how many are unused (8.6.4)
+abbrev pub with_bits : List ℕ → List ℕ → List ℕ
+with_bits [] x = x
+with_bits (u ∷ w) x = with_first u x ++ cleared u w
 
--- In order, ws are written for those of vs that are no parts of a string. More parts of the one at depth s may follow.
-pub data AreWrittenAs (i o : List ℕ) : List Visited → Option ℕ → List Visited → Type 0 where
-  none : {vs ws : List Visited} {s : Option ℕ} → vs ≡ [] → s ≡ None → ws ≡ [] → AreWrittenAs i o vs s ws
-  one_more : {vs ws : List Visited} {s : Option ℕ} (before written parts : List Visited) (v w : Visited) (t : Option ℕ)
-      → AreWrittenAs i o before t written → is_part t v ≡ false → All (IsPartOf v) parts
-      → IsWrittenAs i o v parts w → vs ≡ before ++ v ∷ parts → s ≡ parts_of v → ws ≡ written ++ w ∷ []
-      → AreWrittenAs i o vs s ws
+-- the content x of a string, with one more part of this type and content (8.6.4, 8.7.3)
+abbrev pub with_part : ℕ → List ℕ → List ℕ → List ℕ
+with_part t w x = if t == 3 then with_bits w x else x ++ w
 
--- the octets o are elements of DER, which are written for those that i is by BER
-abbrev pub HasElementsOf : List ℕ → List ℕ → Type 0
-HasElementsOf i o = (vs ws : List Visited) × (s : Option ℕ) × Visits no_extras Ber 101 0 0 i vs
-    × Visits no_extras Der 101 0 0 o ws × AreWrittenAs i o vs s ws
+-- the octets b are one constructed element by BER with the content octets w, and its length is definite or not (8.1.3)
+abbrev pub IsConstructed : Class → ℕ → List ℕ → List ℕ → Type 0
+IsConstructed c t b w = (h : List ℕ) × ((IsHeaderBy Ber c true t (Some (length w)) h × (b ≡ h ++ w))
+    ⊎ (IsHeaderBy Ber c true t None h × (b ≡ h ++ w ++ end_marker)))
+
+mutual
+  -- the octets w are parts of a string, one after another, by which its content x becomes y
+  pub data AreJoined : List ℕ → List ℕ → List ℕ → Type 0 where
+    no_parts : {w x y : List ℕ} → w ≡ [] → y ≡ x → AreJoined w x y
+    one_more_part : {w x y : List ℕ} (b rest z : List ℕ) → w ≡ b ++ rest → IsPartJoined b x z → AreJoined rest z y
+        → AreJoined w x y
+
+  pub data IsPartJoined : List ℕ → List ℕ → List ℕ → Type 0 where
+    primitive_part : {b x y : List ℕ} (c : Class) (t : ℕ) (h w : List ℕ)
+        → IsHeaderBy Ber c false t (Some (length w)) h → b ≡ h ++ w → y ≡ with_part t w x → IsPartJoined b x y
+    constructed_part : {b x y : List ℕ} (c : Class) (t : ℕ) (w : List ℕ) → IsConstructed c t b w → AreJoined w x y
+        → IsPartJoined b x y
+
+mutual
+  -- The octets i are elements by BER to depth d, one after another, and o are these as DER writes them. Each content
+  -- keeps DER's rules.
+  pub data AreInDer : ℕ → List ℕ → List ℕ → Type 0 where
+    none : {d : ℕ} {i o : List ℕ} → i ≡ [] → o ≡ [] → AreInDer d i o
+    one_more : {d : ℕ} {i o : List ℕ} (b rest p q : List ℕ) → i ≡ b ++ rest → o ≡ p ++ q → IsInDer d b p
+        → AreInDer d rest q → AreInDer d i o
+
+  -- One element. It keeps its class and number, and its length is in the fewest octets (10.1).
+  pub data IsInDer : ℕ → List ℕ → List ℕ → Type 0 where
+    primitive : {d : ℕ} {b p : List ℕ} (c : Class) (t : ℕ) (h w : List ℕ)
+        → IsHeaderBy Ber c false t (Some (length w)) h → b ≡ h ++ w → MayHaveContent Ber c t w
+        → MayHaveContent Der c t (value_in_der c t w) → p ≡ element c false t (value_in_der c t w) → IsInDer (suc d) b p
+    constructed : {d : ℕ} {b p : List ℕ} (c : Class) (t : ℕ) (w x : List ℕ) → IsConstructed c t b w
+        → MayBeConstructed Ber c t → is_string_of c t ≡ false → AreInDer d w x → p ≡ element c true t x
+        → IsInDer (suc d) b p
+    -- a string in parts is primitive (10.2), and has their content
+    string : {d : ℕ} {b p : List ℕ} (c : Class) (t : ℕ) (w x : List ℕ) → IsConstructed c t b w
+        → is_string_of c t ≡ true → AreJoined w (string_start t) x → MayHaveContent Der c t x
+        → p ≡ element c false t x → IsInDer (suc d) b p
 
 -- The octets o are the elements i as DER writes them: what is DER already is written as it is.
 pub record IsDerOf (i o : List ℕ) : Type 0 where
   pub elements : AreElements Der 101 o
   pub unchanged : AreElements Der 101 i → o ≡ i
-  pub same : ¬ AreElements Der 101 i → HasElementsOf i o
+  pub same : ¬ AreElements Der 101 i → AreInDer 101 i o

@@ -2,14 +2,14 @@
 ghost use Rattle.std.specs.Prelude.{◌≡◌, ◌≤◌, length, take, IfErr, IfOk, MatchOption, OnOk};
 ghost use Rattle.der_check.specs.Elements.{AreElements};
 ghost use Rattle.der_base.specs.declared.rules.Rules.{Rules};
-ghost use Rattle.der_canon.specs.Same.{HasElementsOf, IsDerOf};
+ghost use Rattle.der_canon.specs.Same.{AreInDer, IsDerOf};
 ghost use Rattle.der_canon.specs.Sizes.{HasSize};
 ghost use Rattle.der_canon.specs.Errors.{AllHaveDer, IsCanonErrorOf, IsErrorOf, NeedsMore};
 ghost use Rattle.der_canon.specs.Written.{IsRefusalOf, KeepsDer, WritesDer};
 
-use crate::check::{check_written, refuse_all};
 use crate::error::{CanonError, NotCanonical};
 use crate::octets::copy;
+use crate::piece::refuse_all;
 use crate::size::size_of;
 use crate::writer::write_pieces;
 use der_base::rules::Rules;
@@ -22,17 +22,18 @@ use std::alloc::Global;
 /// values and the types of elements of other classes aren't known here, so they stay as they are. Other values that DER
 /// doesn't have, as a time without seconds, are refused.
 ///
-/// Returns how many octets there are, room or not. If the buffer has room for them, they are in front of it, and are
-/// elements of DER: those of the input but the parts of strings, each with its class, number, depth and value. If it
-/// has less, call again with so many: what it holds then isn't said, nor whether a string in parts is refused. Elements
+/// Returns how many octets there are, room or not. If the buffer has room for them, it begins with them, and they are
+/// elements of DER: those of the input, each with its class, number and value, and strings in parts as one. If it has
+/// less, call again with so many: what it holds then isn't said, nor whether a string in parts is refused. Elements
 /// that are DER already are copied. It takes no memory, and the buffer keeps what follows them.
 ///
 /// An error is the first fault of the input, with its offset and its path: where it isn't elements of BER, or its first
 /// element that DER has no form of. These have the causes `OtherPart` and `UnusedBitsInside`, for a part of another
 /// type or after unused bits (8.6.4, 8.7.3), and `Value`, for a content that breaks a rule of DER as it would be
 /// written: a time without Z or seconds (11.7, 11.8), a REAL in another form than that of 11.3. The content of a string
-/// in parts is looked at after all these. Where DER has more octets than a usize counts, the cause is `NotDer` and the
-/// offset 0: only an input of 2^60 octets or more can have so many.
+/// in parts is looked at after all these: the cause is `Value` too, and the offset that of the string. Where DER has
+/// more octets than a usize counts, the cause is `NotDer` and the offset 0: only an input of 2^60 octets or more can
+/// have so many.
 ///
 /// ```
 /// let mut out = [0; 8];
@@ -59,7 +60,7 @@ pub fn canonical_into(octets: &[u8], out: &mut [u8]) -> Result<usize, NotCanonic
 /// Writes elements that aren't DER already.
 fn write_others(octets: &[u8], out: &mut [u8]) -> Result<usize, NotCanonical>
     ensures written { IfOk result (λ n. HasSize octets.now n
-        × (n ≤ length out.new → HasElementsOf octets.now (take n out.new))) }
+        × (n ≤ length out.new → AreInDer 101 octets.now (take n out.new))) }
     ensures error { IfErr result (IsErrorOf octets.now) }
     ensures have { OnOk result (AllHaveDer octets.now) }
 {
@@ -70,8 +71,7 @@ fn write_others(octets: &[u8], out: &mut [u8]) -> Result<usize, NotCanonical>
     if needed > out.len() {
         return Ok(needed);
     }
-    write_pieces(octets, out);
-    match check_written(octets, &out[..needed]) {
+    match write_pieces(octets, out) {
         Ok(()) => Ok(needed),
         Err(refused) => Err(refused),
     }

@@ -2,15 +2,14 @@
 //! memory: what is written goes to a buffer of the caller's.
 #![tactic(auto)]
 
-mod check;
 mod content;
 mod elements;
 mod error;
-mod joined;
 pub mod laws;
 mod octets;
 mod piece;
 mod size;
+mod strings;
 mod value;
 mod writer;
 

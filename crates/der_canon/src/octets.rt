@@ -1,11 +1,13 @@
-//! Octets in a buffer, which are written as far as there is room.
-ghost use Rattle.std.specs.Prelude.{◌≡◌};
+//! Octets in a buffer, which are written if there is room.
+ghost use Rattle.std.specs.Prelude.{◌≡◌, ◌+◌, ◌≤◌, ◌++◌, drop, length, take};
+ghost use Rattle.der_base.specs.Octets.{shortest_length};
 ghost use Rattle.der_nodes.specs.Places.{overlay};
+ghost use Rattle.der_writer.specs.Written.{FillsTo};
 
-use der_octets::header::{length_octet_count, write_length};
+use der_octets::header::write_length;
 
 /// How many octets a length has at most.
-const LENGTH_OCTETS: usize = 9;
+pub(crate) const LENGTH_OCTETS: usize = 9;
 
 /// Writes octets at the start of a buffer.
 pub(crate) fn copy(out: &mut [u8], octets: &[u8])
@@ -15,26 +17,49 @@ pub(crate) fn copy(out: &mut [u8], octets: &[u8])
     out[..count].copy_from_slice(&octets[..count]);
 }
 
-/// Writes octets from an offset on.
-pub(crate) fn put_octets(out: &mut [u8], at: usize, octets: &[u8]) {
-    if at < out.len() {
-        let count = octets.len().min(out.len() - at);
-        out[at..at + count].copy_from_slice(&octets[..count]);
+/// Writes octets between two offsets.
+pub(crate) fn put_octets(out: &mut [u8], begin: usize, end: usize, octets: &[u8])
+    requires { end ≤ length out.old → begin + length octets.now ≡ end }
+    ensures { FillsTo end out.old out.new begin octets.now }
+{
+    if end <= out.len() {
+        out[begin..end].copy_from_slice(octets);
     }
 }
 
-/// Moves the octets from an offset to another one up, by so many places.
-pub(crate) fn move_up(out: &mut [u8], start: usize, end: usize, by: usize) {
-    let end = end.min(out.len().saturating_sub(by));
-    if start < end {
-        out.copy_within(start..end, start + by);
+/// Writes a length from an offset on, in place of one octet, and moves the content after that up to the end.
+pub(crate) fn wrap(out: &mut [u8], begin: usize, end: usize, content_size: usize)
+    requires { end ≤ length out.old → begin + length (shortest_length content_size) + content_size ≡ end }
+    ensures { FillsTo end out.old out.new begin
+        (shortest_length content_size ++ take content_size (drop (begin + 1) out.old)) }
+{
+    if end <= out.len() {
+        let content = end - content_size;
+        move_up(out, begin + 1, content, content_size);
+        fill_length(&mut out[begin..content], content_size);
     }
 }
 
-/// Writes a length in the fewest octets from an offset on (X.690 8.1.3.4, 8.1.3.5, 10.1).
-pub(crate) fn put_length(out: &mut [u8], at: usize, length: usize) {
-    let mut room = [0; LENGTH_OCTETS];
-    let begin = LENGTH_OCTETS - length_octet_count(length);
-    write_length(&mut room, LENGTH_OCTETS, length);
-    put_octets(out, at, &room[begin..]);
+/// Moves so many octets up to another offset, if that is higher.
+#[tactic(auto, using(der_writer::proofs::Moves::behind_stays))]
+fn move_up(out: &mut [u8], from: usize, to: usize, count: usize)
+    requires up { from ≤ to }
+    requires within { to + count ≤ length out.old }
+    ensures size { length out.new ≡ length out.old }
+    ensures front { take from out.new ≡ take from out.old }
+    ensures moved { take count (drop to out.new) ≡ take count (drop from out.old) }
+    ensures behind { drop (to + count) out.new ≡ drop (to + count) out.old }
+{
+    if to > from {
+        out.copy_within(from..from + count, to);
+    }
+}
+
+/// Fills a buffer with a length, in the fewest octets (X.690 8.1.3.4, 8.1.3.5, 10.1).
+pub(crate) fn fill_length(room: &mut [u8], content_size: usize)
+    requires { length room.old ≡ length (shortest_length content_size) }
+    ensures { room.new ≡ shortest_length content_size }
+{
+    let end = room.len();
+    write_length(room, end, content_size);
 }

@@ -1,12 +1,12 @@
 //! The elements of an input, as they are to be written.
-ghost use Rattle.std.specs.Prelude.{◌≡◌, ℕ, Option, None, List, [], false, true, IfOk, MatchResult};
+ghost use Rattle.std.specs.Prelude.{◌≡◌, ◌&&◌, ◌==◌, ℕ, Option, None, List, [], false, true, IfOk, MatchResult};
 ghost use Rattle.der_base.specs.declared.rules.Rules.{Rules};
 ghost use Rattle.der_walk.specs.Visits.{Visited};
 ghost use Rattle.der_walk.specs.Walked.{HasOctets, HasVisited, visited_of};
 ghost use Rattle.der_canon.specs.Errors.{AreParts, FindsForm, FindsPart, HasRead, IsNoPartAfter, IsPartAfter};
-ghost use Rattle.der_canon.specs.Errors.{IsStepTo, IsToldOf, ReadsOn};
+ghost use Rattle.der_canon.specs.Errors.{IsAll, IsStepTo, IsToldOf, ReadsOn};
 ghost use Rattle.der_canon.specs.NoDer.{string_after, unused_after, unused_of};
-ghost use Rattle.der_canon.specs.Pieces.{IsForm, PieceNext, depth_of, has_header};
+ghost use Rattle.der_canon.specs.Pieces.{IsForm, KeepsForm, PieceNext, depth_of, has_header};
 ghost use Rattle.der_canon.specs.Same.{is_in_parts, is_string, no_extras};
 
 use crate::error::NotCanonical;
@@ -115,9 +115,23 @@ pub(crate) fn refuse(walk: &Walk<'_>, refusal: &Refusal) -> NotCanonical
     }
 }
 
+/// Refuses all elements, with no offset.
+pub(crate) fn refuse_all(walk: &Walk<'_>) -> NotCanonical
+    ensures { IsAll result }
+{
+    let refusal = Refusal {
+        offset: 0,
+        step: None,
+        cause: Cause::NotDer,
+    };
+    refuse(walk, &refusal)
+}
+
 /// The form of an element after others, and the string whose parts follow it. An error if DER has none.
 fn form_in_der(element: &Element<'_>, parts: Option<Parts>) -> Result<(Form, Option<Parts>), Cause>
     ensures form { IfOk result (λ x. IsForm parts (visited_of element.now) x.0 x.1) }
+    ensures kept { (i : List ℕ) → HasOctets i element.now
+        → IfOk result (λ x. KeepsForm i (visited_of element.now) x.0) }
     ensures der { (i : List ℕ) (vs : List Visited) → HasOctets i element.now
         → AreParts parts (string_after vs) (unused_after i vs) → FindsForm i vs element.now result }
 {
@@ -189,6 +203,13 @@ pub(crate) fn is_in_parts(element: &Element<'_>) -> bool
     ensures { result ≡ is_in_parts (visited_of element.now) }
 {
     element.constructed && element.class == Class::Universal && is_string(element.number)
+}
+
+/// Whether an element is a BIT STRING in parts.
+pub(crate) fn is_bits_in_parts(element: &Element<'_>) -> bool
+    ensures { result ≡ (is_in_parts (visited_of element.now) && (element.now.number == 3)) }
+{
+    is_in_parts(element) && element.number == 3
 }
 
 /// Whether the universal type with this number is a string or a time.

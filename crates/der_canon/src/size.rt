@@ -6,9 +6,8 @@ ghost use Rattle.der_canon.specs.Sizes.{Ends, HasSize, part_size, start_size, wi
 ghost use Rattle.der_canon.specs.Sizing.{AddsElement, AddsPart, AddsPiece, ComesTo, IsFound, cost, most};
 ghost use Rattle.der_walk.specs.Walked.{visited_of};
 
-use crate::check::refuse_all;
 use crate::error::NotCanonical;
-use crate::piece::{Piece, Pieces, is_in_parts};
+use crate::piece::{Piece, Pieces, is_bits_in_parts, refuse_all};
 use arrayvec::ArrayVec;
 use der_base::rules::Rules;
 use der_octets::header::length_octet_count;
@@ -172,11 +171,7 @@ fn start_size(element: &Element<'_>) -> usize
     ensures size { result ≡ start_size (visited_of element.now) }
     ensures most { result ≤ 1 }
 {
-    if is_in_parts(element) && element.number == 3 {
-        1
-    } else {
-        0
-    }
+    if is_bits_in_parts(element) { 1 } else { 0 }
 }
 
 /// How many octets a primitive part gives to its string.

@@ -1,10 +1,11 @@
 use Rattle.std.proofs.Common.{◌≡◌, ◌≤◌, length, take, refl, sym, ap, subst, ◌∙◌, arith, rules, IsTrue, false}
+use Rattle.std.proofs.lemmas.List.{length-take-le}
 use Rattle.der_base.specs.declared.rules.Rules.TheVariants.{Der}
 use Rattle.der_check.specs.Elements.{AreElements}
 use Rattle.der_canon.specs.Sizes.{IsSizeOf}
 use Rattle.der_canon.proofs.Causes.{refusal_of}
 use Rattle.der_canon.proofs.Copies.{take-overlay}
-use Rattle.der_canon.proofs.Steps.{are_der}
+use Rattle.der_canon.proofs.DerElements.{der_elements}
 use Rattle.der_canon.proofs.elements.canonical_into.Goals as goal
 
 pub returns-then-are_elements-clause-written : goal.returns-then-are_elements-clause-written
@@ -27,7 +28,11 @@ returns-in-Ok-clause-written c =
     let not_der : ¬ AreElements Der 101 i = (λ a. let t : IsTrue false = c.if-are_elements.ensures.1 a in absurd (cc)) in
     let k = c.in-Ok.ensures.written in (
       record { unchanged = λ a. absurd (not_der a); others = λ _. k.0 },
-      λ l. record { elements = are_der i (take n out) (k.1 l); unchanged = λ a. absurd (not_der a); same = λ _. k.1 l },
+      λ l. record {
+        elements = der_elements 101 i (take n out) (k.1 l) (omega (arith, length-take-le n out l));
+        unchanged = λ a. absurd (not_der a);
+        same = λ _. k.1 l;
+      },
     )
 
 pub returns-in-Err-clause-refused : goal.returns-in-Err-clause-refused

@@ -1,16 +1,13 @@
 use Rattle.std.proofs.Common.{Ok, Err, refl, subst}
-use Rattle.der_base.specs.declared.rules.Rules.TheVariants.{Der}
 use Rattle.der_contents.specs.ContentRules.{Checks, content_rules}
-use Rattle.der_canon.specs.Values.{content_in_der}
-use Rattle.der_canon.proofs.Forms.{in_form, none_broken}
+use Rattle.der_canon.proofs.Forms.{in_form}
 use Rattle.der_canon.proofs.value.check_form.Goals as goal
 
 pub returns-in-Ok : goal.returns-in-Ok
-returns-in-Ok c = λ k h.
+returns-in-Ok c =
     let t = c.args.number in
     let w = c.args.content.now in
-    let kept = in_form t w (Ok tt) (subst (λ r. Checks (content_rules r t w) (Ok tt)) c.rules_of.ensures c.in-Ok.ensures) in
-    none_broken (content_rules Der t (content_in_der t w)) h.0 kept h.1
+    in_form t w (Ok tt) (subst (λ r. Checks (content_rules r t w) (Ok tt)) c.rules_of.ensures c.in-Ok.ensures)
 
 pub returns-in-Err : goal.returns-in-Err
 returns-in-Err c =

@@ -11,7 +11,7 @@ pub returns-in_default-clause-next : goal.returns-in_default-clause-next
 returns-in_default-clause-next c = λ i vs h. (rw c.in_default.is at c.in_ok-element.ensures) no_extras Ber i vs h
 
 pub returns-in-Ok-clause-next : goal.returns-in-Ok-clause-next
-returns-in-Ok-clause-next c = λ i vs h. let next = (rw c.in-Some.is at c.in_ok-element.ensures) no_extras Ber i vs h in (next.0, next.1, c.in-Ok.ensures.form, next.3)
+returns-in-Ok-clause-next c = λ i vs h. let next = (rw c.in-Some.is at c.in_ok-element.ensures) no_extras Ber i vs h in (next.0, next.1, c.in-Ok.ensures.form, next.3, c.in-Ok.ensures.kept i next.1)
 
 pub returns-in-Ok-clause-errors : goal.returns-in-Ok-clause-errors
 returns-in-Ok-clause-errors c = λ i vs h.
