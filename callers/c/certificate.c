@@ -92,8 +92,8 @@ int main(void) {
     dm_outcome outcome;
     size_t room = sizeof elements / sizeof *elements;
     size_t length = fread(input, 1, sizeof input, stdin);
-    if (dm_parse_der(input, length, 50, elements, room, &outcome) != DM_OK || outcome.length != length
-        || outcome.elements > room || print_certificate(outcome.elements) != 0) {
+    if (dm_parse_der(input, length, DM_MAX_DEPTH, elements, room, &outcome) != DM_OK
+        || outcome.length != length || outcome.elements > room || print_certificate(outcome.elements) != 0) {
         fprintf(stderr, "no certificate in DER\n");
         return 1;
     }

@@ -23,8 +23,8 @@ int main(int count, char **words) {
     size_t objects = 0, outermost = 0, at = 0, length = (size_t)size;
     while (at < length) {
         dm_outcome outcome;
-        uint32_t status = is_ber ? dm_check_ber(input + at, length - at, 50, &outcome)
-                                 : dm_check_der(input + at, length - at, 50, &outcome);
+        uint32_t status = is_ber ? dm_check_ber(input + at, length - at, DM_MAX_DEPTH, &outcome)
+                                 : dm_check_der(input + at, length - at, DM_MAX_DEPTH, &outcome);
         if (status != DM_OK) {
             fprintf(stderr, "at %zu: %s\n", at + outcome.place, status == DM_ERROR ? "an error" : "cut short");
             return 1;

@@ -6,7 +6,8 @@
 
 static int passed, failed;
 
-/* The texts are those of the errors of der_base, without the values that an error keeps, and of dm_write_der. */
+/* The texts are those of the errors of der_base, without the values that an error keeps, and of der_walk and
+ * der_contents. */
 static const struct {
     enum dm_error error;
     const char *text;
@@ -41,15 +42,53 @@ static const struct {
     {DM_ERROR_FRACTION_NOT_MINIMAL, "DER constraint failed: fraction not minimal"},
     {DM_ERROR_UNUSED_BITS_NOT_ZERO, "DER constraint failed: unused bits not zero"},
     {DM_ERROR_SET_OUT_OF_ORDER, "DER constraint failed: set out of order"},
-    {DM_ERROR_NO_END_MARKER, "no end-of-contents octets after an indefinite length"},
-    {DM_ERROR_STRAY_END_MARKER, "end-of-contents octets where no indefinite length ends"},
-    {DM_ERROR_PART_OF_ANOTHER_TYPE, "part of a constructed string has another type"},
-    {DM_ERROR_UNUSED_BITS_INSIDE, "unused bits in a part of a BIT STRING that isn't the last"},
-    {DM_ERROR_NOT_DER, "no elements of DER"},
+    {DM_ERROR_NO_END_MARKER, "an indefinite length has no end-of-contents octets (X.690 8.1.3.6)"},
+    {DM_ERROR_STRAY_END_MARKER, "end-of-contents octets, and no indefinite length ends here (X.690 8.1.5)"},
+    {DM_ERROR_PART_OF_ANOTHER_TYPE,
+     "a part of a constructed string isn't an OCTET STRING, or of a BIT STRING no BIT STRING (X.690 8.6.4 and 8.7.3)"},
+    {DM_ERROR_UNUSED_BITS_INSIDE,
+     "a part of a BIT STRING has unused bits, and another part follows (X.690 8.6.4)"},
+    {DM_ERROR_NOT_DER, "these are no elements of DER (X.690 10)"},
+    {DM_ERROR_BOOLEAN_LENGTH, "a BOOLEAN isn't one octet (X.690 8.2.1)"},
+    {DM_ERROR_BOOLEAN_VALUE, "a BOOLEAN is neither 00 nor ff (X.690 11.1)"},
+    {DM_ERROR_NUMBER_EMPTY, "a number has no octets (X.690 8.3.1)"},
+    {DM_ERROR_NUMBER_PADDED, "the first nine bits of a number are alike (X.690 8.3.2)"},
+    {DM_ERROR_UNUSED_BITS_MISSING, "a BIT STRING has no octets (X.690 8.6.2.1)"},
+    {DM_ERROR_UNUSED_BITS_ABOVE_SEVEN, "more than seven bits are unused (X.690 8.6.2.2)"},
+    {DM_ERROR_UNUSED_BITS_OF_NONE, "a BIT STRING without bits has unused ones (X.690 8.6.2.3)"},
+    {DM_ERROR_UNUSED_BIT_IS_SET, "an unused bit isn't 0 (X.690 11.2.1)"},
+    {DM_ERROR_NULL_NOT_EMPTY, "a NULL has octets (X.690 8.8.2)"},
+    {DM_ERROR_IDENTIFIER_EMPTY, "an identifier has no octets (X.690 8.19.2, 8.20.2)"},
+    {DM_ERROR_ARC_OPEN, "the last arc has no end (X.690 8.19.2, 8.20.2)"},
+    {DM_ERROR_ARC_PADDED, "an arc begins with 80 (X.690 8.19.2, 8.20.2)"},
+    {DM_ERROR_REAL_BASE_RESERVED, "the base of a REAL is a reserved one (X.690 8.5.7.2)"},
+    {DM_ERROR_REAL_EXPONENT_MISSING, "a REAL has no exponent (X.690 8.5.7.4)"},
+    {DM_ERROR_REAL_MANTISSA_MISSING, "a REAL has no mantissa (X.690 8.5.7.5)"},
+    {DM_ERROR_REAL_EXPONENT_PADDED, "the first nine bits of an exponent are alike (X.690 8.5.7.4)"},
+    {DM_ERROR_REAL_BASE_OR_SCALE, "a REAL has a base other than 2 or a scaling factor (X.690 11.3.1)"},
+    {DM_ERROR_REAL_EXPONENT_NOT_FEWEST, "an exponent isn't in its fewest octets (X.690 11.3.1)"},
+    {DM_ERROR_REAL_MANTISSA_NOT_FEWEST, "a mantissa is even or begins with 00 (X.690 11.3.1)"},
+    {DM_ERROR_REAL_SPECIAL, "a special value of a REAL isn't known (X.690 8.5.9)"},
+    {DM_ERROR_REAL_DECIMAL, "a decimal REAL isn't in its form of ISO 6093 (X.690 8.5.8)"},
+    {DM_ERROR_REAL_DECIMAL_NOT_STRICT, "a decimal REAL has needless characters (X.690 11.3.2)"},
+    {DM_ERROR_NOT_UTF8, "a UTF8String isn't UTF-8 (X.690 8.23.10)"},
+    {DM_ERROR_CHARACTER_OUTSIDE, "an octet is outside of the character set (X.690 8.23)"},
+    {DM_ERROR_UNIVERSAL_STRING_LENGTH, "a UniversalString isn't groups of four octets (X.690 8.23.7)"},
+    {DM_ERROR_BMP_STRING_LENGTH, "a BMPString isn't pairs of octets (X.690 8.23.9)"},
+    {DM_ERROR_TIME_TEXT, "a time isn't a text of its type (X.690 8.25)"},
+    {DM_ERROR_TIME_NOT_IN_Z, "a time doesn't end in Z (X.690 11.7.1, 11.8.1)"},
+    {DM_ERROR_TIME_WITHOUT_SECONDS, "a time has no seconds (X.690 11.7.2, 11.8.2)"},
+    {DM_ERROR_TIME_COMMA, "a fraction has a comma (X.690 11.7.4)"},
+    {DM_ERROR_TIME_LAST_ZERO, "a fraction ends in 0 (X.690 11.7.3)"},
+    {DM_ERROR_SEQUENCE_PRIMITIVE, "a SEQUENCE is primitive (X.690 8.9.1)"},
+    {DM_ERROR_SET_PRIMITIVE, "a SET is primitive (X.690 8.11.1)"},
+    {DM_ERROR_EMBEDDED_PDV_PRIMITIVE, "an EMBEDDED PDV is primitive (X.690 8.17)"},
+    {DM_ERROR_EXTERNAL_PRIMITIVE, "an EXTERNAL is primitive (X.690 8.18.1)"},
+    {DM_ERROR_CHARACTER_STRING_PRIMITIVE, "a CHARACTER STRING is primitive (X.690 8.24)"},
 };
 
 static void expect_text(uint32_t error, const char *text) {
-    uint8_t found[128];
+    uint8_t found[DM_TEXT_OCTETS];
     size_t size = dm_error_text(error, found, sizeof found);
     if (size == strlen(text) && memcmp(found, text, size) == 0) {
         passed++;

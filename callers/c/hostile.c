@@ -19,7 +19,7 @@ static size_t below(size_t bound) {
     return bound == 0 ? 0 : (size_t)(state % bound);
 }
 
-static unsigned long failed, statuses[3], writings[4], errors[64], rooms;
+static unsigned long failed, statuses[3], writings[4], errors[128], rooms;
 
 static void expect(int is_so, const char *what) {
     if (!is_so && failed++ < 10) printf("hostile: %s\n", what);
@@ -39,17 +39,24 @@ static void test_values(const uint8_t *content, size_t length, uint32_t number) 
     (void)dm_read_time(23 + (uint32_t)below(2), content, length, &time);
 }
 
-/* Whether the elements inside come with their elements, and each is within the input and the one around it. */
+/* The content of a constructed element is the elements inside it, one after another; nothing is inside another. */
+static void test_inside(const dm_element *e) {
+    size_t at = e->content;
+    for (size_t i = 1; i <= e->inside; i += 1 + e[i].inside) {
+        expect(e[i].header == at, "an element doesn't begin where the one before it ends");
+        at = e[i].end + (e[i].definite ? 0 : 2);
+    }
+    expect(e->constructed ? at == e->end : e->inside == 0, "the content isn't the elements inside");
+}
+
+/* Whether each element is within the input, and the elements inside follow it. */
 static void test_elements(const uint8_t *input, size_t length, const dm_element *elements, size_t count) {
     for (size_t i = 0; i < count; i++) {
         const dm_element *e = &elements[i];
         expect(e->header < e->content && e->content <= e->end && e->end <= length, "a place is outside the input");
         expect(e->inside <= count - i - 1, "more elements are inside than follow");
         expect(e->tag_class <= 3 && e->constructed <= 1 && e->definite <= 1 && e->reserved == 0, "a field is wrong");
-        if (e->inside > 0) {
-            expect(elements[i + 1].header == e->content, "the first item isn't at the content");
-            expect(elements[i + e->inside].end <= e->end, "an item ends after its list");
-        }
+        if (e->inside <= count - i - 1) test_inside(e);
         if (!e->constructed && e->end <= length) test_values(input + e->content, e->end - e->content, e->number);
     }
 }
@@ -64,7 +71,7 @@ static void test_input(const uint8_t *input, size_t length, size_t depth, parse 
     expect(status == whole.status && status <= 2, "the status");
     statuses[status]++;
     if (status == DM_ERROR) {
-        errors[whole.error < 64 ? whole.error : 0]++;
+        errors[whole.error < 128 ? whole.error : 0]++;
         expect(whole.error != 0 && whole.place <= length, "an error has a number and a place");
     }
     if (status == DM_INCOMPLETE) expect(whole.missing > 0, "nothing is missing");
@@ -108,26 +115,28 @@ static uint8_t *write_in_room(const uint8_t *input, size_t length, size_t room, 
     return out;
 }
 
-/* Whether dm_check_der refuses an element by one of der-parser's rules, which X.690 doesn't have: that a T61String and
- * the like are UTF-8 and a BMPString is UTF-16, that an ENUMERATED is from 0 to 2^64-1, that a second is below 60. */
-static int is_of_der_parser(const uint8_t *element, uint32_t error) {
-    switch (*element) {
-    case 0x07: case 0x14: case 0x15: case 0x19: case 0x1b: case 0x1e: return error == 14;
-    case 0x0a: return error == 11 || error == 12;
-    case 0x17: case 0x18: return error == 15;
-    default: return 0;
-    }
-}
-
-/* Whether the octets are elements of DER, as far as dm_check_der looks. */
-static int are_der(const uint8_t *octets, size_t length) {
+/* DM_OK if the octets are elements, one after another, or the status of the first that is none. */
+static uint32_t check_all(check *check, const uint8_t *octets, size_t length) {
     dm_outcome outcome;
     for (size_t at = 0; at < length; at += outcome.length) {
-        uint32_t status = dm_check_der(octets + at, length - at, DM_MAX_DEPTH, &outcome);
-        if (status == DM_ERROR) return is_of_der_parser(octets + at + outcome.place, outcome.error);
-        if (status != DM_OK) return 0;
+        uint32_t status = check(octets + at, length - at, DM_MAX_DEPTH, &outcome);
+        if (status != DM_OK) return status;
     }
-    return 1;
+    return DM_OK;
+}
+
+/* What is DER is written as it is. What isn't BER is an error too where it is written, or is cut short. */
+static void compare_checks(const uint8_t *input, size_t length, const uint8_t *out, const dm_outcome *written) {
+    if (check_all(dm_check_der, input, length) == DM_OK) {
+        expect(written->status == DM_OK && written->length == length && memcmp(out, input, length) == 0,
+               "what is DER isn't written as it is");
+    }
+    uint32_t status = check_all(dm_check_ber, input, length);
+    if (status == DM_ERROR) expect(written->status == DM_ERROR, "what isn't BER is written");
+    if (status == DM_INCOMPLETE) {
+        expect(written->status == DM_INCOMPLETE || written->status == DM_ERROR, "what is cut short is written");
+    }
+    if (written->status == DM_INCOMPLETE) expect(status == DM_INCOMPLETE, "what isn't cut short isn't written so");
 }
 
 /* The input as DER writes it: the room that is counted is enough, with less it is counted again, and what is written
@@ -141,9 +150,11 @@ static void test_writing(const uint8_t *input, size_t length) {
     uint8_t *out = write_in_room(input, length, counted.length, &written);
     writings[written.status < 4 ? written.status : 3]++;
     expect(written.status != DM_NO_ROOM, "the room that is counted is too small");
+    compare_checks(input, length, out, &written);
     if (counted.status != DM_NO_ROOM) expect(memcmp(&counted, &written, sizeof written) == 0, "writing twice");
     if (written.status == DM_OK) {
-        expect(written.length == counted.length && are_der(out, written.length), "what is written isn't DER");
+        expect(written.length == counted.length && check_all(dm_check_der, out, written.length) == DM_OK,
+               "what is written isn't DER");
         uint8_t *twice = write_in_room(out, written.length, written.length, &again);
         expect(again.status == DM_OK && again.length == written.length && memcmp(out, twice, written.length) == 0,
                "DER is changed");
@@ -192,7 +203,7 @@ int main(int count, char **words) {
         free(input);
     }
     unsigned long kinds = 0;
-    for (size_t i = 0; i < 64; i++) kinds += errors[i] > 0;
+    for (size_t i = 0; i < sizeof errors / sizeof *errors; i++) kinds += errors[i] > 0;
     expect(statuses[0] > 0 && statuses[1] > 0 && statuses[2] > 0 && kinds > 4, "too few inputs of a kind");
     expect(writings[0] > 0 && writings[1] > 0 && writings[2] > 0, "too few writings of a kind");
     printf("hostile: %lu inputs, %lu read, %lu refused by %lu errors, %lu cut short, %lu written, %lu buffers,"

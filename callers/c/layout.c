@@ -25,14 +25,15 @@ static int is_untouched(const void *memory, size_t from, size_t to) {
     return 1;
 }
 
-/* A SEQUENCE of 303 octets: [PRIVATE 0xfedcba98] constructed, of 290 octets, and a BOOLEAN. */
+/* A SEQUENCE: [PRIVATE 0xfedcba98] that holds an OCTET STRING of 286 octets, a BOOLEAN, and an empty OCTET STRING. */
 static size_t make_input(uint8_t *input) {
     static const uint8_t front[] = {0x30, 0x82, 0x01, 0x2f, 0xff, 0x8f, 0xf6, 0xf2, 0xf5, 0x18, 0x82, 0x01, 0x22};
+    static const uint8_t inside[] = {0x04, 0x82, 0x01, 0x1e};
     static const uint8_t last[] = {0x01, 0x01, 0xff};
     memcpy(input, front, sizeof front);
     memset(input + sizeof front, 0, 290);
+    memcpy(input + sizeof front, inside, sizeof inside);
     memcpy(input + sizeof front + 290, last, sizeof last);
-    /* An octet string fills the rest. */
     input[306] = 0x04;
     input[307] = 0x00;
     input[3] = (uint8_t)(306 + 2 - 4);
@@ -42,24 +43,25 @@ static size_t make_input(uint8_t *input) {
 static void test_elements(void) {
     uint8_t input[400];
     union {
-        dm_element elements[5];
-        uint8_t octets[5 * sizeof(dm_element)];
+        dm_element elements[6];
+        uint8_t octets[6 * sizeof(dm_element)];
     } memory;
     dm_outcome outcome;
     size_t length = make_input(input);
     memset(&memory, 0xaa, sizeof memory);
-    expect(dm_parse_der(input, length, 9, memory.elements, 5, &outcome) == DM_OK, "the input is read");
-    expect(outcome.elements == 4 && outcome.length == 308, "elements and length");
+    expect(dm_parse_der(input, length, 9, memory.elements, 6, &outcome) == DM_OK, "the input is read");
+    expect(outcome.elements == 5 && outcome.length == 308, "elements and length");
     const dm_element *e = memory.elements;
-    expect(e[0].header == 0 && e[0].content == 4 && e[0].end == 308 && e[0].inside == 3, "places of the sequence");
+    expect(e[0].header == 0 && e[0].content == 4 && e[0].end == 308 && e[0].inside == 4, "places of the sequence");
     expect(e[0].number == 16 && e[0].tag_class == 0 && e[0].constructed == 1 && e[0].definite == 1, "its identifier");
-    expect(e[1].header == 4 && e[1].content == 13 && e[1].end == 303 && e[1].inside == 0, "places of the second");
+    expect(e[1].header == 4 && e[1].content == 13 && e[1].end == 303 && e[1].inside == 1, "places of the second");
     expect(e[1].number == 0xfedcba98u && e[1].tag_class == DM_PRIVATE && e[1].constructed == 1, "its identifier");
     expect(e[1].definite == 1 && e[1].reserved == 0, "its last fields");
-    expect(e[2].header == 303 && e[2].content == 305 && e[2].end == 306, "places of the third");
-    expect(e[2].number == 1 && e[2].constructed == 0, "its identifier");
-    expect(e[3].header == 306 && e[3].content == 308 && e[3].end == 308 && e[3].number == 4, "the fourth");
-    expect(is_untouched(&memory, 4 * sizeof(dm_element), sizeof memory), "the fifth is untouched");
+    expect(e[2].header == 13 && e[2].content == 17 && e[2].end == 303 && e[2].inside == 0, "places of the third");
+    expect(e[3].header == 303 && e[3].content == 305 && e[3].end == 306, "places of the fourth");
+    expect(e[3].number == 1 && e[3].constructed == 0, "its identifier");
+    expect(e[4].header == 306 && e[4].content == 308 && e[4].end == 308 && e[4].number == 4, "the fifth");
+    expect(is_untouched(&memory, 5 * sizeof(dm_element), sizeof memory), "the sixth is untouched");
     expect(sizeof(dm_element) == 40, "an element has 40 octets");
 
     memset(&memory, 0xaa, sizeof memory);
@@ -71,7 +73,7 @@ static void test_elements(void) {
 
     static const uint8_t indefinite[] = {0x30, 0x80, 0x00, 0x00};
     memset(&memory, 0xaa, sizeof memory);
-    expect(dm_parse_ber(indefinite, 4, 9, memory.elements, 5, &outcome) == DM_OK, "an indefinite length is read");
+    expect(dm_parse_ber(indefinite, 4, 9, memory.elements, 6, &outcome) == DM_OK, "an indefinite length is read");
     expect(e[0].definite == 0 && e[0].constructed == 1 && e[0].end == 2, "and told");
 }
 
@@ -84,7 +86,7 @@ static void test_outcomes(void) {
     static const uint8_t read[] = {0x30, 0x03, 0x02, 0x01, 0x05, 0x00};
     static const uint8_t wrong[] = {0x30, 0x05, 0x05, 0x00, 0x01, 0x01, 0x07};
     static const uint8_t cut[] = {0x04, 0x09, 0x00};
-    static const size_t want[3][6] = {{2, 5, 0, 0, 0, 0}, {0, 0, 4, 0, 1, 35}, {0, 0, 0, 9, 2, 0}};
+    static const size_t want[3][6] = {{2, 5, 0, 0, 0, 0}, {0, 0, 4, 0, 1, 65}, {0, 0, 0, 8, 2, 0}};
     struct {
         dm_outcome outcome;
         uint8_t after[16];

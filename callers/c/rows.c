@@ -41,78 +41,115 @@ struct row {
 #define FAULT(error, place) DM_ERROR, error, place, 0
 #define CUT(missing) DM_INCOMPLETE, 0, missing, 0
 
+/* What decides is named by its clause of X.690, in front of the rows. */
 static const struct row rows[] = {
-    /* X.690 8.2.2: TRUE. By DER true is ff alone (11.1). */
+    /* X.690 8.2: TRUE. A BOOLEAN is one octet, and primitive. By DER true is ff alone (11.1). */
     {"01 01 ff", DER, 50, OK(1, 3)},
     {"01 01 ff", BER, 50, OK(1, 3)},
     {"01 01 01", BER, 50, OK(1, 3)},
-    {"01 01 01", DER, 50, FAULT(35, 0)},
-    {"01 02 ff ff", BER, 50, FAULT(4, 0)},
+    {"01 01 01", DER, 50, FAULT(65, 0)},
+    {"01 02 ff ff", BER, 50, FAULT(64, 0)},
     {"21 01 ff", BER, 50, FAULT(10, 0)},
-    {"21 01 ff", DER, 50, FAULT(34, 0)},
-    /* 8.3.2: the fewest octets, by DER */
+    {"21 01 ff", DER, 50, FAULT(10, 0)},
+    /* 8.3: one octet at least, the fewest, and primitive; so is an ENUMERATED (8.4), of any number */
     {"02 02 00 80", DER, 50, OK(1, 4)},
-    {"02 02 00 7f", DER, 50, FAULT(37, 0)},
-    {"02 02 ff 80", DER, 50, FAULT(38, 0)},
-    {"02 00", DER, 50, FAULT(36, 0)},
-    {"02 02 00 7f", BER, 50, OK(1, 4)},
-    /* 8.6.4.2: a BIT STRING of 44 bits; the constructed form isn't joined here */
+    {"02 02 00 7f", DER, 50, FAULT(67, 0)},
+    {"02 02 ff 80", DER, 50, FAULT(67, 0)},
+    {"02 00", DER, 50, FAULT(66, 0)},
+    {"02 02 00 7f", BER, 50, FAULT(67, 0)},
+    {"02 00", BER, 50, FAULT(66, 0)},
+    {"22 03 02 01 05", BER, 50, FAULT(10, 0)},
+    {"0a 01 ff", DER, 50, OK(1, 3)},
+    {"0a 09 01 00 00 00 00 00 00 00 00", DER, 50, OK(1, 11)},
+    /* 8.5.9: minus zero, and no special value */
+    {"09 01 43", DER, 50, OK(1, 3)},
+    {"09 01 44", BER, 50, FAULT(83, 0)},
+    /* 8.6.4.2: 44 bits, and their constructed form, which DER forbids (10.2). 8.6.2, 11.2.1: unused bits */
     {"03 07 04 0a 3b 5f 29 1c d0", DER, 50, OK(1, 9)},
-    {"03 07 04 0a 3b 5f 29 1c d1", DER, 50, FAULT(42, 0)},
-    {"03 01 08", DER, 50, FAULT(13, 0)},
-    {"23 80 03 03 00 0a 3b 03 05 04 5f 29 1c d0 00 00", BER, 50, FAULT(16, 0)},
+    {"03 07 04 0a 3b 5f 29 1c d1", DER, 50, FAULT(71, 0)},
+    {"03 02 08 00", BER, 50, FAULT(69, 0)},
+    {"03 01 07", BER, 50, FAULT(70, 0)},
+    {"03 00", BER, 50, FAULT(68, 0)},
+    {"23 80 03 03 00 0a 3b 03 05 04 5f 29 1c d0 00 00", BER, 50, OK(3, 16)},
+    {"23 07 03 05 04 5f 29 1c d0", DER, 50, FAULT(34, 0)},
     /* 8.8: NULL */
     {"05 00", DER, 50, OK(1, 2)},
-    {"05 01 00", DER, 50, FAULT(4, 0)},
+    {"05 01 00", DER, 50, FAULT(72, 0)},
+    {"05 01 00", BER, 50, FAULT(72, 0)},
+    {"25 00", BER, 50, FAULT(10, 0)},
     /* 8.9.3: SEQUENCE {name "Smith", ok TRUE}, in each form of length */
     {"30 0a 16 05 53 6d 69 74 68 01 01 ff", DER, 50, OK(3, 12)},
     {"30 80 16 05 53 6d 69 74 68 01 01 ff 00 00", BER, 50, OK(3, 14)},
     {"30 81 0a 16 05 53 6d 69 74 68 01 01 ff", BER, 50, OK(3, 13)},
     {"30 81 0a 16 05 53 6d 69 74 68 01 01 ff", DER, 50, FAULT(33, 0)},
     {"30 80 16 05 53 6d 69 74 68 01 01 ff 00 00", DER, 50, FAULT(32, 0)},
-    {"30 0a 16 05 53 6d 69 74 68 01 01 07", DER, 50, FAULT(35, 9)},
-    {"10 00", DER, 50, FAULT(9, 0)},
-    /* 8.14.3: tagged types; the content of another class is kept */
+    {"30 0a 16 05 53 6d 69 74 68 01 01 07", DER, 50, FAULT(65, 9)},
+    {"10 00", DER, 50, FAULT(95, 0)},
+    {"11 00", BER, 50, FAULT(96, 0)},
+    /* 8.14: tagged types; the content of a constructed element of any class is elements (8.1.4) */
     {"43 05 4a 6f 6e 65 73", DER, 50, OK(1, 7)},
-    {"a2 07 43 05 4a 6f 6e 65 73", DER, 50, OK(1, 9)},
-    {"67 07 43 05 4a 6f 6e 65 73", DER, 50, OK(1, 9)},
+    {"a2 07 43 05 4a 6f 6e 65 73", DER, 50, OK(2, 9)},
+    {"67 07 43 05 4a 6f 6e 65 73", DER, 50, OK(2, 9)},
     {"82 05 4a 6f 6e 65 73", DER, 50, OK(1, 7)},
-    /* 8.19.5 and 8.20.5: identifiers */
+    {"a0 03 02 02 05", DER, 50, FAULT(17, 2)},
+    {"a0 03 01 01 07", DER, 50, FAULT(65, 2)},
+    {"30 06 a0 80 05 00 00 00", BER, 50, OK(3, 8)},
+    /* 8.17, 8.18, 8.24: always constructed */
+    {"08 00", BER, 50, FAULT(98, 0)},
+    {"0b 00", BER, 50, FAULT(97, 0)},
+    {"1d 00", BER, 50, FAULT(99, 0)},
+    /* 8.19.5 and 8.20.5: identifiers; 8.19.2: one arc at least, with its last octet, and no padding */
     {"06 03 88 37 03", DER, 50, OK(1, 5)},
     {"0d 04 c2 7b 03 02", DER, 50, OK(1, 6)},
-    /* 8.21.5.4: the VisibleString "Jones", and its constructed form, which isn't joined */
+    {"06 00", DER, 50, FAULT(73, 0)},
+    {"06 03 55 04 83", BER, 50, FAULT(74, 0)},
+    {"06 03 80 55 04", BER, 50, FAULT(75, 0)},
+    /* 8.23: the VisibleString "Jones", and its constructed form */
     {"1a 05 4a 6f 6e 65 73", DER, 50, OK(1, 7)},
-    {"3a 09 04 03 4a 6f 6e 04 02 65 73", BER, 50, FAULT(16, 0)},
-    /* 8.25, 11.8: times */
+    {"3a 09 04 03 4a 6f 6e 04 02 65 73", BER, 50, OK(3, 11)},
+    /* 8.25, 11.7, 11.8: times; a second of 60 (X.680 47) */
     {"17 0d 39 31 30 35 30 36 32 33 34 35 34 30 5a", DER, 50, OK(1, 15)},
-    {"17 0b 39 31 30 35 30 36 32 33 34 35 5a", DER, 50, FAULT(40, 0)},
+    {"17 0d 31 36 31 32 33 31 32 33 35 39 36 30 5a", DER, 50, OK(1, 15)},
+    {"17 0b 39 31 30 35 30 36 32 33 34 35 5a", DER, 50, FAULT(92, 0)},
     {"17 0b 39 31 30 35 30 36 32 33 34 35 5a", BER, 50, OK(1, 13)},
-    {"17 11 39 31 30 35 30 36 31 36 34 35 34 30 2d 30 37 30 30", DER, 50, FAULT(39, 0)},
-    {"18 11 31 39 39 32 30 37 32 32 31 33 32 31 30 30 2e 30 5a", DER, 50, FAULT(41, 0)},
+    {"17 11 39 31 30 35 30 36 31 36 34 35 34 30 2d 30 37 30 30", DER, 50, FAULT(91, 0)},
+    {"18 11 31 39 39 32 30 37 32 32 31 33 32 31 30 30 2e 30 5a", DER, 50, FAULT(94, 0)},
     {"18 11 31 39 39 32 30 37 32 32 31 33 32 31 30 30 2e 33 5a", DER, 50, OK(1, 19)},
-    {"17 0d 39 31 31 33 30 36 32 33 34 35 34 30 5a", DER, 50, FAULT(15, 0)},
-    /* 8.23: character sets */
-    {"13 01 2a", DER, 50, FAULT(14, 0)},
-    {"0c 02 c3 28", BER, 50, FAULT(14, 0)},
-    {"1e 01 41", BER, 50, FAULT(16, 0)},
+    {"17 0d 39 31 31 33 30 36 32 33 34 35 34 30 5a", DER, 50, FAULT(90, 0)},
+    /* 8.23: character sets. T61String has any octets */
+    {"13 01 2a", DER, 50, FAULT(87, 0)},
+    {"0c 02 c3 28", BER, 50, FAULT(86, 0)},
+    {"1e 01 41", BER, 50, FAULT(89, 0)},
+    {"1c 03 00 00 00", BER, 50, FAULT(88, 0)},
+    {"14 01 e9", DER, 50, OK(1, 3)},
     /* 8.1.2.4: tag numbers from 31 on; a first octet of 80, and numbers above 2^32-1 */
     {"1f 1f 00", DER, 50, OK(1, 3)},
     {"9f 8f ff ff ff 7f 00", DER, 50, OK(1, 7)},
     {"9f 90 80 80 80 00 00", DER, 50, FAULT(5, 0)},
     /* 8.1.3.5 c: the length octet ff is reserved */
     {"04 ff", BER, 50, FAULT(4, 0)},
+    /* 8.1.3.2: a primitive element has a definite length */
+    {"04 80", BER, 50, FAULT(9, 0)},
+    /* 8.1.5: end-of-contents octets are no element, and no other octets of that type are */
+    {"00 00", BER, 50, FAULT(49, 0)},
+    {"30 02 00 00", BER, 50, FAULT(49, 2)},
+    {"30 80 00 81 00 00 00", BER, 50, FAULT(49, 2)},
+    {"30 04 30 80 05 00", BER, 50, FAULT(48, 2)},
     /* depth */
     {"30 04 30 02 05 00", DER, 3, OK(3, 6)},
     {"30 04 30 02 05 00", DER, 2, FAULT(3, 4)},
+    {"a0 04 a0 02 05 00", DER, 2, FAULT(3, 4)},
     {"05 00", DER, 0, FAULT(3, 0)},
-    /* an item runs past its list, whatever follows */
+    /* 8.1.3: an item runs past its list, whatever follows */
     {"30 03 02 02 01 00 00", DER, 50, FAULT(17, 2)},
-    /* cut short */
-    {"", DER, 50, CUT(1)},
-    {"", BER, 50, CUT(1)},
+    /* cut short: two octets at least are an element, and end an indefinite length */
+    {"", DER, 50, CUT(2)},
+    {"", BER, 50, CUT(2)},
     {"30", DER, 50, CUT(1)},
     {"04 05 61 62", BER, 50, CUT(3)},
-    {"30 80", BER, 50, CUT(1)},
+    {"04 05 61 62", DER, 50, CUT(3)},
+    {"30 0a 02 01 05", DER, 50, CUT(7)},
+    {"30 80", BER, 50, CUT(2)},
     {"30 82 01", DER, 50, CUT(1)},
     /* what follows is left */
     {"05 00 05 00 ff", DER, 50, OK(1, 2)},
@@ -214,8 +251,8 @@ static const struct {
     {"03 02 04 ff", "03 02 04 f0", DM_OK, 0, 0},
     {"05 00 05 00", "05 00 05 00", DM_OK, 0, 0},
     /* 11.8.2: a time without seconds. 11.8.1: without Z */
-    {"30 80 05 00 17 0b 39 39 31 32 33 31 32 33 35 39 5a 00 00", NULL, DM_ERROR, 40, 4},
-    {"a0 13 17 11 39 31 30 35 30 36 31 36 34 35 34 30 2d 30 37 30 30", NULL, DM_ERROR, 39, 2},
+    {"30 80 05 00 17 0b 39 39 31 32 33 31 32 33 35 39 5a 00 00", NULL, DM_ERROR, 92, 4},
+    {"a0 13 17 11 39 31 30 35 30 36 31 36 34 35 34 30 2d 30 37 30 30", NULL, DM_ERROR, 91, 2},
     /* 8.6.4, 8.7.3: parts of another type, and unused bits inside */
     {"24 80 02 01 05 00 00", NULL, DM_ERROR, 50, 2},
     {"23 08 03 02 01 80 03 02 00 80", NULL, DM_ERROR, 51, 6},
@@ -226,13 +263,13 @@ static const struct {
     {"30 05 30 80 02 01 05", NULL, DM_ERROR, 48, 2},
     /* 8.3.1, 8.1.2.4, 8.1.3.5, 8.23 and 8.1.3 */
     {"22 03 02 01 05", NULL, DM_ERROR, 10, 0},
-    {"02 03 00 00 80", NULL, DM_ERROR, 2, 0},
-    {"30 80 02 02 ff 80 00 00", NULL, DM_ERROR, 2, 2},
-    {"30 80 05 01 00 00 00", NULL, DM_ERROR, 4, 2},
-    {"30 80 28 80 00 00 08 01 00 00 00", NULL, DM_ERROR, 9, 6},
+    {"02 03 00 00 80", NULL, DM_ERROR, 67, 0},
+    {"30 80 02 02 ff 80 00 00", NULL, DM_ERROR, 67, 2},
+    {"30 80 05 01 00 00 00", NULL, DM_ERROR, 72, 2},
+    {"30 80 28 80 00 00 08 01 00 00 00", NULL, DM_ERROR, 98, 6},
     {"05 00 9f 80 01 00", NULL, DM_ERROR, 5, 2},
     {"04 ff", NULL, DM_ERROR, 4, 0},
-    {"30 04 0c 02 c3 28", NULL, DM_ERROR, 14, 2},
+    {"30 04 0c 02 c3 28", NULL, DM_ERROR, 86, 2},
     {"30 03 02 02 05", NULL, DM_ERROR, 17, 2},
     /* cut short */
     {"30 80 05 00", NULL, DM_INCOMPLETE, 0, 2},
@@ -270,18 +307,18 @@ static void test_writings(void) {
 
 /* Elements that are 101 deep are written, and deeper ones are refused at the first that is too deep. */
 static void test_deep_writings(void) {
-    uint8_t input[4 * DM_WRITE_DEPTH + 4], out[2 * sizeof input];
+    uint8_t input[4 * DM_MAX_DEPTH + 4], out[2 * sizeof input];
     dm_outcome outcome;
-    for (size_t depth = DM_WRITE_DEPTH; depth <= DM_WRITE_DEPTH + 1; depth++) {
+    for (size_t depth = DM_MAX_DEPTH; depth <= DM_MAX_DEPTH + 1; depth++) {
         memset(input, 0, sizeof input);
         for (size_t i = 0; i < depth; i++) memcpy(input + 2 * i, "\x30\x80", 2);
         uint32_t status = dm_write_der(input, 4 * depth, out, sizeof out, &outcome);
-        if (depth == DM_WRITE_DEPTH) {
+        if (depth == DM_MAX_DEPTH) {
             /* 64 levels have a header of two octets: 30 7e and what it holds have 128. Each other has three. */
             expect(status == DM_OK && outcome.length == 64 * 2 + 37 * 3, "dm_write_der", "101 deep");
             expect(memcmp(out, "\x30\x81\xec\x30\x81\xe9", 6) == 0, "dm_write_der's octets", "101 deep");
         } else {
-            expect(status == DM_ERROR && outcome.error == 3 && outcome.place == 2 * DM_WRITE_DEPTH, "dm_write_der",
+            expect(status == DM_ERROR && outcome.error == 3 && outcome.place == 2 * DM_MAX_DEPTH, "dm_write_der",
                    "102 deep");
         }
     }
@@ -472,9 +509,15 @@ static void test_times(void) {
     }
 }
 
+static void expect_text(uint32_t error, const char *words) {
+    uint8_t text[DM_TEXT_OCTETS];
+    size_t size = dm_error_text(error, text, sizeof text);
+    expect(size == strlen(words) && memcmp(text, words, size) == 0, "dm_error_text", words);
+}
+
 static void test_error_texts(void) {
     for (size_t i = 0; i < sizeof rows / sizeof *rows; i++) {
-        uint8_t text[80], cut[4];
+        uint8_t text[DM_TEXT_OCTETS], cut[4];
         size_t size = dm_error_text(rows[i].error, text, sizeof text);
         expect(size >= 8 && size < sizeof text && (size != 13 || memcmp(text, "unknown error", 13) != 0),
                "dm_error_text", rows[i].hex);
@@ -482,16 +525,14 @@ static void test_error_texts(void) {
                rows[i].hex);
     }
     for (size_t i = 0; i < sizeof writings / sizeof *writings; i++) {
-        uint8_t text[80];
+        uint8_t text[DM_TEXT_OCTETS];
         size_t size = dm_error_text(writings[i].error, text, sizeof text);
         expect(size >= 8 && size < sizeof text && (size != 13 || memcmp(text, "unknown error", 13) != 0),
                "dm_error_text", writings[i].hex);
     }
-    uint8_t text[80];
-    expect(dm_error_text(35, text, 80) == 38 && memcmp(text, "DER constraint failed: invalid boolean", 38) == 0,
-           "dm_error_text", "35");
-    expect(dm_error_text(14, text, 80) == 27 && memcmp(text, "invalid character in string", 27) == 0,
-           "dm_error_text", "14");
+    expect_text(35, "DER constraint failed: invalid boolean");
+    expect_text(14, "invalid character in string");
+    expect_text(66, "a number has no octets (X.690 8.3.1)");
 }
 
 int main(void) {

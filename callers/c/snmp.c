@@ -12,35 +12,23 @@ static dm_element elements[256];
 
 static const char *const requests[] = {"get", "get-next", "response", "set"};
 
+static const uint8_t *content_of(const dm_element *element) { return buffer + element->content; }
 static size_t size_of(const dm_element *element) { return element->end - element->content; }
 
-/* The variables of a request: its content is read by a call of its own, since its class isn't universal. */
+/* [n] IMPLICIT SEQUENCE { request-id, error-status, error-index INTEGER, variable-bindings }, by its place in the list:
+ * the three numbers have nothing inside them. */
 static int print_request(const dm_element *request) {
-    const uint8_t *pdu = buffer + request->content;
-    size_t size = size_of(request);
-    dm_element fields[64];
-    dm_outcome outcome;
+    const dm_element *variables = request + 4;
     int64_t id;
-    if (request->tag_class != DM_CONTEXT_SPECIFIC || request->number > 3) return 1;
-    printf(" %s", requests[request->number]);
-    /* The first field is the number of the request, the fourth the list of variables. */
-    for (int field = 0; field < 4; field++) {
-        if (dm_parse_ber(pdu, size, 50, fields, 64, &outcome) != DM_OK || outcome.elements > 64) return 1;
-        if (field == 0) {
-            if (fields[0].number != 2 || dm_read_i64(pdu + fields[0].content, size_of(&fields[0]), &id) != 0) return 1;
-            printf(" %lld", (long long)id);
-        }
-        if (field < 3) {
-            pdu += outcome.length;
-            size -= outcome.length;
-        }
-    }
-    for (size_t i = 1; i < outcome.elements; i += 1 + fields[i].inside) {
+    if (request->tag_class != DM_CONTEXT_SPECIFIC || request->number > 3 || request->inside < 4) return 1;
+    if (request[1].number != 2 || dm_read_i64(content_of(&request[1]), size_of(&request[1]), &id) != 0) return 1;
+    printf(" %s %lld", requests[request->number], (long long)id);
+    for (size_t i = 1; i <= variables->inside; i += 1 + variables[i].inside) {
+        const dm_element *name = &variables[i + 1];
         uint8_t text[256];
         size_t needed;
-        if (fields[i].inside < 2 || fields[i + 1].number != 6) return 1;
-        if (dm_read_oid(pdu + fields[i + 1].content, size_of(&fields[i + 1]), text, sizeof text, &needed) != 0
-            || needed > sizeof text) {
+        if (variables[i].inside < 2 || name->number != 6) return 1;
+        if (dm_read_oid(content_of(name), size_of(name), text, sizeof text, &needed) != 0 || needed > sizeof text) {
             return 1;
         }
         printf(" %.*s", (int)needed, (const char *)text);
@@ -51,12 +39,13 @@ static int print_request(const dm_element *request) {
 /* SEQUENCE { version INTEGER, community OCTET STRING, data } */
 static int print_message(const dm_outcome *outcome) {
     int64_t version;
-    if (outcome->elements != 4 || elements[0].number != 16 || elements[1].number != 2 || elements[2].number != 4) {
+    if (outcome->elements < 8 || outcome->elements > 256 || elements[0].number != 16 || elements[1].number != 2
+        || elements[2].number != 4) {
         return 1;
     }
-    if (dm_read_i64(buffer + elements[1].content, size_of(&elements[1]), &version) != 0) return 1;
+    if (dm_read_i64(content_of(&elements[1]), size_of(&elements[1]), &version) != 0) return 1;
     printf("version %lld, community %.*s:", (long long)version, (int)size_of(&elements[2]),
-           (const char *)(buffer + elements[2].content));
+           (const char *)content_of(&elements[2]));
     return print_request(&elements[3]);
 }
 
@@ -64,7 +53,7 @@ int main(void) {
     size_t filled = 0;
     for (;;) {
         dm_outcome outcome;
-        uint32_t status = dm_parse_ber(buffer, filled, 50, elements, 256, &outcome);
+        uint32_t status = dm_parse_ber(buffer, filled, DM_MAX_DEPTH, elements, 256, &outcome);
         if (status == DM_INCOMPLETE) {
             /* At least this many octets are missing: to wait for them can't wait too long. */
             size_t want = outcome.missing;
@@ -82,7 +71,7 @@ int main(void) {
             continue;
         }
         if (status == DM_ERROR || print_message(&outcome) != 0) {
-            uint8_t text[64];
+            uint8_t text[DM_TEXT_OCTETS];
             size_t size = dm_error_text(outcome.error, text, sizeof text);
             if (status == DM_ERROR) fprintf(stderr, "at %zu: %.*s\n", outcome.place, (int)size, (const char *)text);
             else fprintf(stderr, "no message of SNMP\n");

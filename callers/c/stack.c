@@ -7,8 +7,21 @@
 #include <stdio.h>
 #include <string.h>
 
-static uint8_t definite[1 << 12], indefinite[1 << 12];
-static size_t definite_length, indefinite_length;
+static uint8_t definite[1 << 10], indefinite[1 << 10], framed[1 << 10];
+static size_t definite_length, indefinite_length, framed_length;
+
+/* How many indefinite lengths may be inside one another where a call only frames them. */
+enum { FRAMED = 49 };
+
+/* Lists in lists, of indefinite lengths. */
+static size_t make_indefinite(uint8_t *octets, size_t levels) {
+    for (size_t level = 0; level < levels; level++) {
+        octets[2 * level] = 0x30;
+        octets[2 * level + 1] = 0x80;
+    }
+    memset(octets + 2 * levels, 0, 2 * levels);
+    return 4 * levels;
+}
 
 /* Lists in lists, from the inside out, with lengths of DER. */
 static void make_inputs(void) {
@@ -29,15 +42,8 @@ static void make_inputs(void) {
     }
     definite_length = sizeof definite - at;
     memmove(definite, definite + at, definite_length);
-    /* Indefinite lengths, as many as may be nested, and lists of definite lengths inside the last. */
-    size_t opened = 49;
-    for (size_t level = 0; level < opened; level++) {
-        indefinite[indefinite_length++] = 0x30;
-        indefinite[indefinite_length++] = 0x80;
-    }
-    uint8_t inner[] = {0x30, 0x06, 0x30, 0x04, 0x30, 0x02, 0x05, 0x00};
-    memcpy(indefinite + indefinite_length, inner, sizeof inner);
-    indefinite_length += sizeof inner + 2 * opened;
+    indefinite_length = make_indefinite(indefinite, DM_MAX_DEPTH);
+    framed_length = make_indefinite(framed, FRAMED);
 }
 
 static uint8_t unwritten[1 << 10], written[1 << 10];
@@ -47,19 +53,19 @@ static size_t unwritten_length;
  * have. */
 static void make_unwritten(void) {
     static const uint8_t time[] = {0x17, 0x0b, '9', '9', '1', '2', '3', '1', '2', '3', '5', '9', 'Z'};
-    for (size_t level = 1; level < DM_WRITE_DEPTH; level++) {
+    for (size_t level = 1; level < DM_MAX_DEPTH; level++) {
         unwritten[unwritten_length++] = 0x30;
         unwritten[unwritten_length++] = 0x80;
     }
     memcpy(unwritten + unwritten_length, time, sizeof time);
-    unwritten_length += sizeof time + 2 * (DM_WRITE_DEPTH - 1);
+    unwritten_length += sizeof time + 2 * (DM_MAX_DEPTH - 1);
 }
 
 static void *write_all(void *failed) {
     dm_outcome outcome;
     int *faults = failed;
     *faults += dm_write_der(unwritten, unwritten_length, written, sizeof written, &outcome) != DM_ERROR;
-    *faults += outcome.error != 40 || outcome.place != 2 * (DM_WRITE_DEPTH - 1);
+    *faults += outcome.error != DM_ERROR_TIME_WITHOUT_SECONDS || outcome.place != 2 * (DM_MAX_DEPTH - 1);
     /* As an OCTET STRING it is written. */
     unwritten[outcome.place] = 0x04;
     *faults += dm_write_der(unwritten, unwritten_length, written, sizeof written, &outcome) != DM_OK;
@@ -77,18 +83,21 @@ static void *read_all(void *failed) {
     *faults += dm_check_ber(definite, definite_length, (size_t)-1, &outcome) != DM_OK;
     *faults += dm_check_der(definite, definite_length, DM_MAX_DEPTH - 1, &outcome) != DM_ERROR || outcome.error != 3;
     *faults += dm_parse_ber(indefinite, indefinite_length, DM_MAX_DEPTH, elements, 4, &outcome) != DM_OK;
-    *faults += outcome.elements != 53;
-    *faults += dm_first_ber(indefinite, indefinite_length, elements, &outcome) != DM_OK;
+    *faults += outcome.elements != DM_MAX_DEPTH;
+    *faults += dm_parse_ber(indefinite, indefinite_length - 1, DM_MAX_DEPTH, elements, 4, &outcome) != DM_INCOMPLETE;
+    *faults += dm_check_ber(indefinite, indefinite_length, DM_MAX_DEPTH - 1, &outcome) != DM_ERROR;
+    *faults += outcome.error != DM_ERROR_MAX_DEPTH || outcome.place != 2 * (DM_MAX_DEPTH - 1);
+    *faults += dm_first_ber(framed, framed_length, elements, &outcome) != DM_OK;
     return NULL;
 }
 
-/* Runs a function in a thread whose stack has room for so many levels. What a thread takes for itself, and a
+/* Runs a function in a thread whose stack has room for DM_MAX_DEPTH levels. What a thread takes for itself, and a
  * system's least, is on top. */
-static int run(void *(*function)(void *), size_t levels, int *failed) {
+static int run(void *(*function)(void *), int *failed) {
     pthread_attr_t attributes;
     pthread_t thread;
     pthread_attr_init(&attributes);
-    return pthread_attr_setstacksize(&attributes, levels * DM_LEVEL_OCTETS + 32768) != 0
+    return pthread_attr_setstacksize(&attributes, DM_MAX_DEPTH * DM_LEVEL_OCTETS + 32768) != 0
            || pthread_create(&thread, &attributes, function, failed) != 0 || pthread_join(thread, NULL) != 0;
 }
 
@@ -96,7 +105,7 @@ int main(void) {
     int failed = 0;
     make_inputs();
     make_unwritten();
-    if (run(read_all, DM_MAX_DEPTH, &failed) != 0 || run(write_all, DM_WRITE_DEPTH, &failed) != 0) {
+    if (run(read_all, &failed) != 0 || run(write_all, &failed) != 0) {
         printf("stack: no thread\n");
         return 2;
     }

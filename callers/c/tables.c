@@ -1,71 +1,49 @@
-/* Reads the files of rows of the library's tests, and compares what they say that its full readers answer with what the
- * library returns: tables FILE..
+/* Reads the files of rows of the library's tests, and compares what they say of elements with what the library returns:
+ * tables FILE..
  *
  * A row has an input, an answer and a name, with bars between them. The calls that answer so stand in brackets above
- * it: parse_ber, parse_der, these with _recursive and a depth, and the header of an item that they read. Other calls
- * are passed over. */
+ * it. These are compared: are_elements and is_element with a depth, whose answer is by which rules the octets are
+ * elements; refused and walk with the rules, whose answer ends with the first fault. Of every other call only the input
+ * is taken: what is checked as elements has to be written. */
 #include "dumarewhi.h"
 
 #include <stdio.h>
 #include <stdlib.h>
 #include <string.h>
 
-enum { DEPTH = 50 };
+enum rules { BER, DER };
 
 static char line[1 << 14], calls[1 << 14];
 static uint8_t octets[1 << 16];
-static dm_element elements[1 << 8];
-static size_t answers, failed;
+static size_t answers, inputs, failed;
 
-/* The numbers of errors, by their names in rows. */
+/* The errors whose texts in rows are those of causes: how a text begins, or the name of the cause. */
 static const struct {
-    const char *name;
+    const char *text;
     uint32_t number;
-} errors[] = {
-    {"BerTypeError", DM_ERROR_WRONG_TYPE},
-    {"BerValueError", DM_ERROR_WRONG_VALUE},
-    {"BerMaxDepth", DM_ERROR_MAX_DEPTH},
-    {"InvalidLength", DM_ERROR_INVALID_LENGTH},
-    {"InvalidTag", DM_ERROR_INVALID_TAG},
-    {"ConstructExpected", DM_ERROR_CONSTRUCTED_EXPECTED},
-    {"ConstructUnexpected", DM_ERROR_PRIMITIVE_EXPECTED},
-    {"IntegerTooLarge", DM_ERROR_INTEGER_TOO_LARGE},
-    {"IntegerNegative", DM_ERROR_INTEGER_NEGATIVE},
-    {"InvalidValue", DM_ERROR_INVALID_VALUE},
-    {"StringInvalidCharset", DM_ERROR_INVALID_CHARACTER},
-    {"InvalidDateTime", DM_ERROR_INVALID_TIME},
-    {"Unsupported", DM_ERROR_UNSUPPORTED},
-    {"Incomplete", DM_ERROR_OVERRUN},
-    {"IndefiniteLength", DM_ERROR_INDEFINITE_LENGTH},
-    {"LengthNotMinimal", DM_ERROR_LENGTH_NOT_MINIMAL},
-    {"Constructed", DM_ERROR_CONSTRUCTED},
-    {"InvalidBoolean", DM_ERROR_INVALID_BOOLEAN},
-    {"IntegerEmpty", DM_ERROR_INTEGER_EMPTY},
-    {"IntegerLeadingZeroes", DM_ERROR_INTEGER_LEADING_ZEROES},
-    {"IntegerLeadingFF", DM_ERROR_INTEGER_LEADING_FF},
-    {"MissingTimeZone", DM_ERROR_MISSING_TIME_ZONE},
-    {"MissingSeconds", DM_ERROR_MISSING_SECONDS},
-    {"FractionNotMinimal", DM_ERROR_FRACTION_NOT_MINIMAL},
-    {"UnusedBitsNotZero", DM_ERROR_UNUSED_BITS_NOT_ZERO},
-    {"SetOfOrder", DM_ERROR_SET_OUT_OF_ORDER},
-};
-
-static const char *const classes[] = {"universal", "application", "context-specific", "private"};
-
-struct call {
-    int by_der, has_path;
-    size_t depth;
-    const char *path; /* the places that lead to an item, with spaces between them */
+} causes[] = {
+    {"it ends ", DM_ERROR_OVERRUN},
+    {"the tag number isn't in the fewest octets", DM_ERROR_INVALID_TAG},
+    {"the first length octet is ff", DM_ERROR_INVALID_LENGTH},
+    {"a primitive element has an indefinite length", DM_ERROR_CONSTRUCTED_EXPECTED},
+    {"a length is indefinite", DM_ERROR_INDEFINITE_LENGTH},
+    {"a length isn't in the fewest octets", DM_ERROR_LENGTH_NOT_MINIMAL},
+    {"the encoding of this type must be primitive", DM_ERROR_PRIMITIVE_EXPECTED},
+    {"a string is constructed", DM_ERROR_CONSTRUCTED},
+    {"elements are nested more than 100 deep", DM_ERROR_MAX_DEPTH},
+    {"PastEnd ", DM_ERROR_OVERRUN},
+    {"NoEndMarker ", DM_ERROR_NO_END_MARKER},
+    {"ConstructedString ", DM_ERROR_CONSTRUCTED},
+    {"ArcPadded ", DM_ERROR_ARC_PADDED},
+    {"CharacterOutside ", DM_ERROR_CHARACTER_OUTSIDE},
+    {"BmpStringLength ", DM_ERROR_BMP_STRING_LENGTH},
+    {"TimeText ", DM_ERROR_TIME_TEXT},
 };
 
 struct word {
     const char *text;
     size_t length;
 };
-
-static int is(struct word word, const char *text) {
-    return word.length == strlen(text) && memcmp(word.text, text, word.length) == 0;
-}
 
 /* The word at a place of a text, of length 0 behind the last one. The place moves behind it. */
 static struct word next_word(const char **at) {
@@ -96,140 +74,128 @@ static uint8_t *octets_of(const char *text, size_t *length) {
         unsigned long count = star == NULL ? 1 : strtoul(star + 1, NULL, 10);
         while (count-- > 0) *length = push_numbers(word, end, *length);
     }
-    uint8_t *block = malloc(*length + 1);
-    if (block != NULL) memcpy(block, octets, *length);
+    uint8_t *block = malloc(*length + (*length == 0));
+    if (block == NULL) exit(2);
+    memcpy(block, octets, *length);
     return block;
 }
 
-/* Whether a call is one of a full reader. */
-static int read_call(const char *text, struct call *call) {
-    const char *asked = strstr(text, " of ");
-    memset(call, 0, sizeof *call);
-    call->depth = DEPTH;
-    if (asked != NULL) {
-        if (strncmp(text, "header", 6) != 0) return 0;
-        call->has_path = 1;
-        call->path = text + 6;
-        text = asked + 4;
+static uint32_t check(enum rules rules, const uint8_t *input, size_t length, size_t depth, dm_outcome *outcome) {
+    return rules == DER ? dm_check_der(input, length, depth, outcome) : dm_check_ber(input, length, depth, outcome);
+}
+
+/* The outcome of the first octets that are no element, where elements should follow one another. */
+static dm_outcome check_all(enum rules rules, const uint8_t *input, size_t length, size_t depth) {
+    dm_outcome outcome = {0, 0, 0, 0, DM_OK, 0};
+    for (size_t at = 0; at < length; at += outcome.length) {
+        if (check(rules, input + at, length - at, depth, &outcome) == DM_OK) continue;
+        outcome.place += at;
+        break;
     }
-    struct word name = next_word(&text), depth = next_word(&text);
-    if (depth.length != 0) {
-        unsigned long long number = strtoull(depth.text, NULL, 10);
-        call->depth = number > SIZE_MAX ? SIZE_MAX : (size_t)number;
-        call->by_der = is(name, "parse_der_recursive");
-        return next_word(&text).length == 0 && (call->by_der || is(name, "parse_ber_recursive"));
+    return outcome;
+}
+
+/* Whether a text begins with another. */
+static int begins(const char *text, const char *front) { return strncmp(text, front, strlen(front)) == 0; }
+
+/* By which rules the octets are elements, or one element. */
+static int is_checked(const char *call, const char *answer, const uint8_t *input, size_t length) {
+    size_t depth = strtoull(strchr(call, ' ') + 1, NULL, 10);
+    int are[2];
+    for (int rules = BER; rules <= DER; rules++) {
+        dm_outcome outcome;
+        if (begins(call, "are_elements")) {
+            are[rules] = check_all(rules, input, length, depth).status == DM_OK;
+        } else {
+            are[rules] = check(rules, input, length, depth, &outcome) == DM_OK && outcome.length == length;
+        }
     }
-    call->by_der = is(name, "parse_der");
-    return call->by_der || is(name, "parse_ber");
+    return strcmp(answer, are[BER] ? are[DER] ? "BER and DER" : "BER" : are[DER] ? "DER" : "none") == 0;
 }
 
-static uint32_t check(const struct call *call, const uint8_t *input, size_t length, dm_outcome *outcome) {
-    if (call->by_der) return dm_check_der(input, length, call->depth, outcome);
-    return dm_check_ber(input, length, call->depth, outcome);
-}
-
-static uint32_t parse(const struct call *call, const uint8_t *input, size_t length, dm_outcome *outcome) {
-    size_t room = sizeof elements / sizeof *elements;
-    if (call->by_der) return dm_parse_der(input, length, call->depth, elements, room, outcome);
-    return dm_parse_ber(input, length, call->depth, elements, room, outcome);
-}
-
-/* The number of an error, or 0. */
-static uint32_t number_of_error(struct word name) {
-    for (size_t i = 0; i < sizeof errors / sizeof *errors; i++) {
-        if (is(name, errors[i].name)) return errors[i].number;
+/* Whether an error has this text, or is of a cause that has it. */
+static int has_text(uint32_t error, const char *text) {
+    uint8_t own[DM_TEXT_OCTETS];
+    size_t size = dm_error_text(error, own, sizeof own);
+    if (size == strlen(text) && memcmp(own, text, size) == 0) return 1;
+    for (size_t i = 0; i < sizeof causes / sizeof *causes; i++) {
+        if (begins(text, causes[i].text)) return causes[i].number == error;
     }
     return 0;
 }
 
-/* What a row says of a value that is read: each word that begins with a capital letter is an element, and the octets
- * of the rest are behind them. */
-static void make_found(const char *answer, size_t length, dm_outcome *want) {
-    want->length = length;
-    for (struct word word = next_word(&answer); word.length != 0; word = next_word(&answer)) {
-        if (*word.text >= 'A' && *word.text <= 'Z') want->elements++;
-        if (is(word, "rest")) {
-            size_t left;
-            free(octets_of(answer, &left));
-            want->length = length - left;
-            return;
-        }
+/* Whether the first fault is the one that is stated: `1 at 5, PATH: TEXT`, where the text of cut input says how many
+ * octets are missing; or `0 2 CAUSE at 2`, where the cause of cut input is `Cut` with that number. */
+static int is_fault(enum rules rules, const char *answer, const uint8_t *input, size_t length) {
+    dm_outcome outcome = check_all(rules, input, length, DM_MAX_DEPTH);
+    const char *at = strstr(answer, " at "), *text = strstr(answer, ": "), *missing = strstr(answer, "at least ");
+    if (at == NULL) return outcome.status == DM_OK;
+    if (text == NULL) {
+        text = answer + strcspn(answer, "ABCDEFGHIJKLMNOPQRSTUVWXYZ");
+        missing = begins(text, "Cut ") ? text + strlen("Cut ") : NULL;
+    } else {
+        text += strlen(": ");
+        if (missing != NULL) missing += strlen("at least ");
     }
+    if (missing != NULL) return outcome.status == DM_INCOMPLETE && outcome.missing == strtoull(missing, NULL, 10);
+    return outcome.status == DM_ERROR && outcome.place == strtoull(at + strlen(" at "), NULL, 10)
+           && has_text(outcome.error, text);
 }
 
-/* The outcome that an answer is. The place of an error is the library's: no row states it. */
-static int make_outcome(const char *answer, size_t length, const dm_outcome *found, dm_outcome *want) {
-    struct word kind = next_word(&answer);
-    memset(want, 0, sizeof *want);
-    if (is(kind, "read")) {
-        make_found(answer, length, want);
-        return want->elements > 0;
+/* Whether the octets are written as DER if they are elements, and as they are if they are DER. */
+static int is_written(const uint8_t *input, size_t length) {
+    dm_outcome written;
+    uint8_t *out = malloc(length + (length == 0));
+    if (out == NULL) exit(2);
+    dm_outcome by_ber = check_all(BER, input, length, DM_MAX_DEPTH);
+    dm_outcome by_der = check_all(DER, input, length, DM_MAX_DEPTH);
+    uint32_t status = dm_write_der(input, length, out, length, &written);
+    int is_so = by_ber.status == DM_OK ? status != DM_INCOMPLETE : status == DM_INCOMPLETE || status == DM_ERROR;
+    if (by_der.status == DM_OK) {
+        is_so = is_so && status == DM_OK && written.length == length && memcmp(out, input, length) == 0;
     }
-    if (is(kind, "incomplete")) {
-        want->status = DM_INCOMPLETE;
-        want->missing = strtoull(answer, NULL, 10);
-        return want->missing > 0;
-    }
-    want->status = DM_ERROR;
-    want->error = number_of_error(next_word(&answer));
-    want->place = found->place;
-    return want->error != 0 && (is(kind, "refused") || is(kind, "broken"));
-}
-
-/* The place in the list of the item to which a path leads. */
-static size_t item_at(const char *path) {
-    size_t at = 0;
-    for (struct word word = next_word(&path); *word.text >= '0' && *word.text <= '9'; word = next_word(&path)) {
-        unsigned long count = strtoul(word.text, NULL, 10);
-        at++;
-        while (count-- > 0) at += 1 + elements[at].inside;
-    }
-    return at;
-}
-
-/* Whether an element has the header that an answer is: class, form, number, length and identifier octets. */
-static int has_header(const char *answer, const dm_element *element, const uint8_t *input) {
-    struct word class = next_word(&answer), form = next_word(&answer), number = next_word(&answer);
-    struct word length = next_word(&answer), raw = next_word(&answer);
-    size_t size;
-    uint8_t *identifier = octets_of(answer, &size);
-    int definite = !is(length, "indefinite");
-    int is_so = element->tag_class < 4 && is(class, classes[element->tag_class]) && is(raw, "raw") && size > 0
-                && is(form, element->constructed ? "constructed" : "primitive")
-                && element->number == strtoull(number.text, NULL, 10) && element->definite == definite
-                && (!definite || element->end - element->content == strtoull(length.text, NULL, 10))
-                && memcmp(input + element->header, identifier, size) == 0;
-    free(identifier);
+    free(out);
     return is_so;
 }
 
-static int is_as_stated(const struct call *call, const char *answer, const uint8_t *input, size_t length) {
-    dm_outcome listed, checked, want;
-    uint32_t status = parse(call, input, length, &listed);
-    if (status != check(call, input, length, &checked) || memcmp(&listed, &checked, sizeof listed) != 0) return 0;
-    if (call->has_path) {
-        size_t at = item_at(call->path);
-        return status == DM_OK && at < listed.elements && has_header(answer, &elements[at], input);
+/* The rules that a call of walk or refused names, or -1 for a call that isn't compared. */
+static int rules_of(const char *call) {
+    if (strcmp(call, "refused BER") == 0 || strcmp(call, "walk BER") == 0) return BER;
+    if (strcmp(call, "refused DER") == 0 || strcmp(call, "walk DER keeping") == 0) return DER;
+    return -1;
+}
+
+static void try_call(const char *call, const char *answer, const uint8_t *input, size_t length, const char *name) {
+    int is_check = begins(call, "are_elements ") || begins(call, "is_element "), rules = rules_of(call);
+    if (!is_check && rules < 0) return;
+    answers++;
+    if (is_check ? !is_checked(call, answer, input, length) : !is_fault(rules, answer, input, length)) {
+        failed++;
+        printf("tables: %s: %s: %s\n", call, answer, name);
     }
-    if (status == DM_OK && (elements[0].header != 0 || elements[0].inside != listed.elements - 1)) return 0;
-    return make_outcome(answer, length, &listed, &want) && status == want.status
-           && memcmp(&listed, &want, sizeof want) == 0 && listed.place <= length;
+}
+
+/* The text without spaces around it. */
+static char *trimmed(char *text) {
+    text += strspn(text, " ");
+    size_t length = strlen(text);
+    while (length > 0 && text[length - 1] == ' ') text[--length] = 0;
+    return text;
 }
 
 /* Compares the answers of the calls that stand above a row. */
-static void try_row(const char *input, const char *answer, const char *name) {
+static void try_row(const char *input, char *answer, const char *name) {
     static char copy[sizeof calls];
     size_t length;
     uint8_t *block = octets_of(input, &length);
     strcpy(copy, calls);
     for (char *call = strtok(copy, ","); call != NULL; call = strtok(NULL, ",")) {
-        struct call read;
-        if (!read_call(call + strspn(call, " "), &read)) continue;
-        answers++;
-        if (block == NULL || !is_as_stated(&read, answer, block, length)) {
-            failed++;
-            printf("tables:%s of %s| %s| %s\n", call, input, answer, name);
-        }
+        try_call(trimmed(call), trimmed(answer), block, length, name);
+    }
+    inputs++;
+    if (!is_written(block, length)) {
+        failed++;
+        printf("tables: writing %s: %s\n", input, name);
     }
     free(block);
 }
@@ -273,6 +239,6 @@ int main(int count, char **files) {
             printf("tables: %s isn't read\n", files[i]);
         }
     }
-    printf("tables: %zu answers in %d files, %zu failed\n", answers, count - 1, failed);
+    printf("tables: %zu answers, %zu inputs in %d files, %zu failed\n", answers, inputs, count - 1, failed);
     return answers == 0 || failed != 0;
 }

@@ -80,9 +80,10 @@ int main(int count, char **words) {
     }
     int is_ber = strcmp(words[1], "ber") == 0;
     /* The first call counts the elements, and the second lists them. */
-    uint32_t status = is_ber ? dm_check_ber(input, length, 50, &outcome) : dm_check_der(input, length, 50, &outcome);
+    uint32_t status = is_ber ? dm_check_ber(input, length, DM_MAX_DEPTH, &outcome)
+                             : dm_check_der(input, length, DM_MAX_DEPTH, &outcome);
     if (status == DM_ERROR) {
-        uint8_t text[64];
+        uint8_t text[DM_TEXT_OCTETS];
         size_t size = dm_error_text(outcome.error, text, sizeof text);
         fprintf(stderr, "at %zu: %.*s\n", outcome.place, (int)size, (const char *)text);
         return 1;
@@ -94,9 +95,9 @@ int main(int count, char **words) {
     dm_element *elements = malloc(outcome.elements * sizeof *elements);
     if (elements == NULL) return 2;
     if (is_ber) {
-        dm_parse_ber(input, length, 50, elements, outcome.elements, &outcome);
+        dm_parse_ber(input, length, DM_MAX_DEPTH, elements, outcome.elements, &outcome);
     } else {
-        dm_parse_der(input, length, 50, elements, outcome.elements, &outcome);
+        dm_parse_der(input, length, DM_MAX_DEPTH, elements, outcome.elements, &outcome);
     }
     print_tree(input, elements, outcome.elements);
     printf("%zu elements in %zu octets, %zu octets follow\n", outcome.elements, outcome.length,

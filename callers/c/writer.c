@@ -357,7 +357,7 @@ static size_t put_random(dm_writer *w, size_t depth) {
             break;
         case 9:
             mark = dm_open(w, (uint8_t)(1 + below(3)), 1, (uint32_t)(below(UINT32_MAX) >> below(32)));
-            (void)put_random(w, depth - 1);
+            count += put_random(w, depth - 1);
             dm_close(w, mark);
             break;
         default:

@@ -6,8 +6,8 @@
  *
  * The caller owes this, and nothing checks it: each pointer may be read or written for the length that is
  * passed beside it, is aligned for its type and is not NULL, not even with length 0; what is written does
- * not overlap anything else that is passed; and the stack has space for max_depth levels of
- * DM_LEVEL_OCTETS each, at most DM_MAX_DEPTH of them. What is written to may be uninitialised.
+ * not overlap anything else that is passed; and the stack has space for DM_MAX_DEPTH levels of
+ * DM_LEVEL_OCTETS each. What is written to may be uninitialised.
  *
  * Offsets (`place`) are numbers of octets from the start of the input. */
 #ifndef DUMAREWHI_H
@@ -28,7 +28,7 @@ typedef struct dm_element {
     size_t inside;       /* how many of the elements that follow are inside this one, at any depth */
     uint32_t number;     /* the tag number */
     uint8_t tag_class;   /* one of enum dm_class */
-    uint8_t constructed; /* the constructed bit (8.1.2.5), 0 or 1. BER also takes it in INTEGER and NULL */
+    uint8_t constructed; /* the constructed bit (8.1.2.5), 0 or 1 */
     uint8_t definite;    /* 1 if the length is definite (8.1.3.3), 0 if it is indefinite (8.1.3.6) */
     uint8_t reserved;    /* 0 */
 } dm_element;
@@ -49,23 +49,25 @@ typedef struct dm_outcome {
     size_t elements; /* DM_OK: how many elements there are, even if the buffer holds fewer */
     size_t length;   /* DM_OK: how many octets they have; what follows is left. DM_NO_ROOM: how many are needed */
     size_t place;    /* DM_ERROR: where the innermost element begins that breaks the rule */
-    size_t missing;  /* DM_INCOMPLETE: how many octets are missing, as far as the input shows. dm_parse_der and
-                      * dm_check_der: if the content of a universal type is cut short, its whole length; then
-                      * dm_first_der finds how many are missing */
+    size_t missing;  /* DM_INCOMPLETE: how many octets are missing, as far as the input shows: those up to the end of
+                      * the outermost element, once its header gives its length */
     uint32_t status; /* one of enum dm_status */
     uint32_t error;  /* DM_ERROR: one of enum dm_error */
 } dm_outcome;
 
-/* Larger values of max_depth are clamped to this one. */
-#define DM_MAX_DEPTH 250
+/* How deep elements may be: the outermost one is 1 deep, and one inside it 2. Larger values of max_depth are clamped to
+ * this one. */
+#define DM_MAX_DEPTH 101
 
 /* How many octets of the stack a level takes at most. This is measured, and no proof says it. */
 #define DM_LEVEL_OCTETS 1024
 
-/* Lists the first element of the input and those inside it in preorder, by DER or by BER. `room` is the buffer's
- * capacity: the first elements that fit are written, and the call reads on. With 0 it counts. An element of another
- * class than universal is listed, and nothing inside it: call again with its content. With another status than
- * DM_OK the buffer's contents are unspecified. Returns the status. */
+/* Lists the first element of the input and those inside it in preorder, by DER or by BER. The content of a constructed
+ * element of any class is elements (8.1.4), at most max_depth deep. The content octets of a primitive element are those
+ * of its universal type (8.2 to 8.26, and by DER 10 and 11); another class has any. Rules that need the ASN.1 type
+ * aren't checked, as the order of a SET, nor that the parts of a constructed string are of its type (8.6.4, 8.7.3).
+ * `room` is the buffer's capacity: the first elements that fit are written, and the call reads on. With 0 it counts.
+ * With another status than DM_OK the buffer's contents are unspecified. Returns the status. */
 uint32_t dm_parse_der(const uint8_t *input, size_t length, size_t max_depth, dm_element *elements, size_t room,
                       dm_outcome *outcome);
 uint32_t dm_parse_ber(const uint8_t *input, size_t length, size_t max_depth, dm_element *elements, size_t room,
@@ -77,14 +79,14 @@ uint32_t dm_check_ber(const uint8_t *input, size_t length, size_t max_depth, dm_
 
 /* Finds the first element by its header (and by BER its framing). Nothing inside it is checked or listed. With
  * DM_OK the element is written, its `inside` is 0, `elements` is 1, and `length` is that of the header, the content
- * and an end marker. With another status the element stays as it was, and with DM_ERROR `place` is 0. Returns the
- * status. */
+ * and an end marker. With another status the element stays as it was, and with DM_ERROR `place` is 0. By BER more than
+ * 49 indefinite lengths inside one another are DM_ERROR_MAX_DEPTH. Returns the status. */
 uint32_t dm_first_der(const uint8_t *input, size_t length, dm_element *element, dm_outcome *outcome);
 uint32_t dm_first_ber(const uint8_t *input, size_t length, dm_element *element, dm_outcome *outcome);
 
 /* Writes the elements of an input in BER, all of them, as DER writes them: lengths in the fewest octets (10.1),
  * strings primitive (10.2), BOOLEANs as 00 or ff (11.1), unused bits as 0 (11.2.1), numbers in the fewest octets
- * (8.3.2). The content of a constructed element of any class is elements (8.1.4), at most DM_WRITE_DEPTH deep. The
+ * (8.3.2). The content of a constructed element of any class is elements (8.1.4), at most DM_MAX_DEPTH deep. The
  * order of a SET OF, default values and the types of elements of other classes are not known here, so they stay as
  * they are. Another value that DER does not have, as a time without seconds, is an error.
  *
@@ -93,11 +95,8 @@ uint32_t dm_first_ber(const uint8_t *input, size_t length, dm_element *element, 
  * call again with a capacity of `length` octets. With 0 the call counts. An error is the first fault of the input,
  * whatever follows and whatever the capacity; only the content of a string in parts is checked last, and only if there
  * is room. With another status than DM_OK the buffer's contents are unspecified.
- * Elements that are DER already are copied. The stack has to have space for DM_WRITE_DEPTH levels of
- * DM_LEVEL_OCTETS each. Returns the status. */
+ * Elements that are DER already are copied. Returns the status. */
 uint32_t dm_write_der(const uint8_t *input, size_t length, uint8_t *out, size_t room, dm_outcome *outcome);
-
-#define DM_WRITE_DEPTH 101
 
 /* The numbers of errors. 0 is no error. Not all of them are returned by a call of this header. */
 enum dm_error {
@@ -132,17 +131,57 @@ enum dm_error {
     DM_ERROR_FRACTION_NOT_MINIMAL = 41,
     DM_ERROR_UNUSED_BITS_NOT_ZERO = 42,
     DM_ERROR_SET_OUT_OF_ORDER = 43,
-    /* of dm_write_der alone */
+    /* end-of-contents octets (8.1.5) */
     DM_ERROR_NO_END_MARKER = 48,
     DM_ERROR_STRAY_END_MARKER = 49,
+    /* of dm_write_der alone */
     DM_ERROR_PART_OF_ANOTHER_TYPE = 50,
     DM_ERROR_UNUSED_BITS_INSIDE = 51,
-    DM_ERROR_NOT_DER = 52
+    DM_ERROR_NOT_DER = 52,
+    /* rules of content octets, of the calls that list, check and write elements */
+    DM_ERROR_BOOLEAN_LENGTH = 64, /* 8.2.1 */
+    DM_ERROR_BOOLEAN_VALUE = 65, /* 11.1 */
+    DM_ERROR_NUMBER_EMPTY = 66, /* 8.3.1 */
+    DM_ERROR_NUMBER_PADDED = 67, /* 8.3.2 */
+    DM_ERROR_UNUSED_BITS_MISSING = 68, /* 8.6.2.1 */
+    DM_ERROR_UNUSED_BITS_ABOVE_SEVEN = 69, /* 8.6.2.2 */
+    DM_ERROR_UNUSED_BITS_OF_NONE = 70, /* 8.6.2.3 */
+    DM_ERROR_UNUSED_BIT_IS_SET = 71, /* 11.2.1 */
+    DM_ERROR_NULL_NOT_EMPTY = 72, /* 8.8.2 */
+    DM_ERROR_IDENTIFIER_EMPTY = 73, /* 8.19.2, 8.20.2 */
+    DM_ERROR_ARC_OPEN = 74, /* 8.19.2, 8.20.2 */
+    DM_ERROR_ARC_PADDED = 75, /* 8.19.2, 8.20.2 */
+    DM_ERROR_REAL_BASE_RESERVED = 76, /* 8.5.7.2 */
+    DM_ERROR_REAL_EXPONENT_MISSING = 77, /* 8.5.7.4 */
+    DM_ERROR_REAL_MANTISSA_MISSING = 78, /* 8.5.7.5 */
+    DM_ERROR_REAL_EXPONENT_PADDED = 79, /* 8.5.7.4 */
+    DM_ERROR_REAL_BASE_OR_SCALE = 80, /* 11.3.1 */
+    DM_ERROR_REAL_EXPONENT_NOT_FEWEST = 81, /* 11.3.1 */
+    DM_ERROR_REAL_MANTISSA_NOT_FEWEST = 82, /* 11.3.1 */
+    DM_ERROR_REAL_SPECIAL = 83, /* 8.5.9 */
+    DM_ERROR_REAL_DECIMAL = 84, /* 8.5.8 */
+    DM_ERROR_REAL_DECIMAL_NOT_STRICT = 85, /* 11.3.2 */
+    DM_ERROR_NOT_UTF8 = 86, /* 8.23.10 */
+    DM_ERROR_CHARACTER_OUTSIDE = 87, /* 8.23 */
+    DM_ERROR_UNIVERSAL_STRING_LENGTH = 88, /* 8.23.7 */
+    DM_ERROR_BMP_STRING_LENGTH = 89, /* 8.23.9 */
+    DM_ERROR_TIME_TEXT = 90, /* 8.25 */
+    DM_ERROR_TIME_NOT_IN_Z = 91, /* 11.7.1, 11.8.1 */
+    DM_ERROR_TIME_WITHOUT_SECONDS = 92, /* 11.7.2, 11.8.2 */
+    DM_ERROR_TIME_COMMA = 93, /* 11.7.4 */
+    DM_ERROR_TIME_LAST_ZERO = 94, /* 11.7.3 */
+    DM_ERROR_SEQUENCE_PRIMITIVE = 95, /* 8.9.1 */
+    DM_ERROR_SET_PRIMITIVE = 96, /* 8.11.1 */
+    DM_ERROR_EMBEDDED_PDV_PRIMITIVE = 97, /* 8.17 */
+    DM_ERROR_EXTERNAL_PRIMITIVE = 98, /* 8.18.1 */
+    DM_ERROR_CHARACTER_STRING_PRIMITIVE = 99 /* 8.24 */
 };
 
 /* Writes the text of an error, without a 0 after it: its first `room` octets, if it is longer. Returns the length
- * of the whole text. The texts are tested, not proved. */
+ * of the whole text, which is at most DM_TEXT_OCTETS. The texts are tested, not proved. */
 size_t dm_error_text(uint32_t error, uint8_t *text, size_t room);
+
+#define DM_TEXT_OCTETS 160
 
 /* Values of content octets. Each returns 0 and writes the value, or returns the number of an error (one of
  * enum dm_error) and writes nothing. */

@@ -37,9 +37,16 @@ impl<'a> Case<'a> {
         self.rules.is_der() && self.reason.map_or(false, |reason| breaks(reason, element))
     }
 
-    /// Why a list is refused that this element is in: it is refused, or it runs past the list's end.
-    pub fn reason_in_list(&self) -> Reason {
-        self.reason.unwrap_or(Reason::OVERRUN)
+    /// Whether a list that this element is in is refused for the same reason, or because the element, or its end marker,
+    /// is past the list's end.
+    pub fn refuses(&self, list: &Case<'_>) -> bool {
+        let is_past = self
+            .header
+            .map_or(true, |header| header.content(self.input).is_none());
+        match list.reason {
+            Some(Reason::OVERRUN) | Some(Reason::NO_END_MARKER) if is_past => true,
+            reason => reason.is_some() && reason == self.reason,
+        }
     }
 
     pub fn content(&self) -> &'a [u8] {
@@ -73,10 +80,6 @@ impl<'a> Case<'a> {
         }
     }
 
-    pub fn has_content(&self) -> bool {
-        self.header.map_or(false, |it| it.length != Length::Definite(0))
-    }
-
     pub fn is_read_by_own_alone(&self, numbers: &[u128]) -> bool {
         self.is_universal(numbers) && self.own.is_read() && self.other == Outcome::Refused
     }
@@ -98,25 +101,22 @@ fn breaks(reason: Reason, element: &[u8]) -> bool {
         Reason::INDEFINITE_LENGTH => header.length == Length::Indefinite,
         Reason::LENGTH_NOT_MINIMAL => header.is_longer_than_needed(),
         Reason::CONSTRUCTED => header.is_universal() && header.constructed && !header.is_list(),
-        Reason::INVALID_BOOLEAN => is(&[1]) && content != [0] && content != [0xff],
-        Reason::INTEGER_EMPTY => is(&[2, 10]) && content.is_empty(),
-        Reason::INTEGER_LEADING_ZEROES => is(&[2, 10]) && matches!(content, [0, 0..=0x7f, ..]),
-        Reason::INTEGER_LEADING_FF => is(&[2, 10]) && matches!(content, [0xff, 0x80..=0xff, ..]),
-        Reason::MISSING_TIME_ZONE => is(&[23, 24]) && !content.ends_with(b"Z"),
-        Reason::MISSING_SECONDS => (is(&[23]) && content.len() == 11) || (is(&[24]) && content.len() == 13),
-        Reason::FRACTION_NOT_MINIMAL => is(&[24]) && (content.ends_with(b"0Z") || content.contains(&b',')),
-        Reason::UNUSED_BITS_NOT_ZERO => is(&[3]) && has_unused_bits(content),
-        Reason::INVALID_VALUE => is(&[3]) && matches!(content, [8..=0xff, ..]),
-        Reason::INVALID_LENGTH => is(&[0, 5]) && header.length != Length::Definite(0),
+        Reason::BOOLEAN_VALUE => is(&[1]) && content != [0] && content != [0xff],
+        Reason::TIME_NOT_IN_Z => is(&[23, 24]) && !content.ends_with(b"Z"),
+        Reason::TIME_WITHOUT_SECONDS => {
+            (is(&[23]) && content.len() < 13) || (is(&[24]) && content.len() < 15)
+        }
+        Reason::TIME_COMMA => is(&[24]) && content.contains(&b','),
+        Reason::TIME_LAST_ZERO => is(&[24]) && content.ends_with(b"0Z"),
+        Reason::UNUSED_BIT_IS_SET => is(&[3]) && has_unused_bits(content),
         _ => false,
     }
 }
 
-/// Whether a bit is set that the first octet says is unused, or there is no octet to have it.
+/// Whether a bit is set that the first octet says is unused.
 fn has_unused_bits(content: &[u8]) -> bool {
     match content {
-        [0] | [] => false,
-        [_] => true,
+        [_] | [] => false,
         [unused, .., last] => u32::from(*last).trailing_zeros() < u32::from(*unused),
     }
 }

@@ -3,7 +3,7 @@
 use crate::case::{framing, is_other_end, Case};
 use crate::readers::Outcome;
 use crate::rules::{rule_named, FRAMING_FIRST, ITEMS_BY_BER, LISTS_END, OTHER_END, RULES};
-use dumarewhi::{Reason, Rules};
+use dumarewhi::Rules;
 
 impl<'a> Case<'a> {
     /// The number of the rule that decides at the element, or at the first one inside it where the readers differ.
@@ -35,7 +35,7 @@ impl<'a> Case<'a> {
             {
                 Step::Over(item.len() - left)
             }
-            (own, other) if !own.is_read() && !other.is_read() => Step::Unread(here.reason_in_list()),
+            (own, other) if !own.is_read() && !other.is_read() => Step::Unread(here.refuses(self)),
             (Outcome::Refused, _) if here.breaks_der() && by_ber.own == by_ber.other => {
                 let is_of_item = self.reason == here.reason;
                 Step::Differ(rule_named(ITEMS_BY_BER).filter(|_| is_of_item))
@@ -58,9 +58,8 @@ impl<'a> Case<'a> {
         while !rest.is_empty() {
             match self.step(rest) {
                 Step::Over(length) => rest = &rest[length..],
-                Step::Unread(reason) => {
-                    let is_of_item = self.reason == Some(reason) && self.other.is_read();
-                    return rule_named(LISTS_END).filter(|_| is_of_item);
+                Step::Unread(is_of_item) => {
+                    return rule_named(LISTS_END).filter(|_| is_of_item && self.other.is_read());
                 }
                 Step::Differ(rule) => return rule,
             }
@@ -108,8 +107,8 @@ impl<'a> Case<'a> {
 enum Step {
     /// They read the same, of so many octets.
     Over(usize),
-    /// Neither reads it, and dumarewhi has this reason for a list around it.
-    Unread(Reason),
+    /// Neither reads it, and whether the list around it is refused for that.
+    Unread(bool),
     /// They differ, by the rule of this number.
     Differ(Option<usize>),
 }

@@ -2,7 +2,7 @@
 use der_parser::ber::{parse_ber_recursive, BerObject, BerObjectContent, BerSize};
 use der_parser::der::parse_der_recursive;
 use der_parser::nom;
-use dumarewhi::{ErrorKind, Reason, Rules, Tree};
+use dumarewhi::{ErrorKind, Node, Reason, Rules, Tag, Tree};
 
 /// How deep both of them read.
 pub const DEPTH: usize = 50;
@@ -48,24 +48,27 @@ pub fn own(rules: Rules, input: &[u8], depth: usize) -> (Outcome, Option<Refusal
     }
 }
 
+/// The elements but those that der-parser doesn't look for: inside another class, or a string.
 fn own_places(tree: &Tree<'_>) -> Vec<Place> {
-    let mut ends: Vec<usize> = Vec::new();
     let mut places = Vec::with_capacity(tree.len());
-    for (index, element) in tree.elements().iter().enumerate() {
-        while ends.last().map_or(false, |end| *end <= index) {
-            ends.pop();
-        }
-        places.push(Place {
-            offset: element.offset(),
-            depth: ends.len(),
-            class: element.tag().class as u8,
-            constructed: element.is_constructed(),
-            number: element.tag().number,
-            length: element.is_definite().then(|| element.content_range().len()),
-        });
-        ends.push(index + 1 + element.descendants());
-    }
+    push_own(tree.root(), 0, &mut places);
     places
+}
+
+fn push_own(node: Node<'_, '_>, depth: usize, places: &mut Vec<Place>) {
+    let has_marker = node.octets().len() > node.header().len() + node.content().len();
+    places.push(Place {
+        offset: node.offset(),
+        depth,
+        class: node.class() as u8,
+        constructed: node.is_constructed(),
+        number: node.tag().number,
+        length: (!has_marker).then(|| node.content().len()),
+    });
+    if matches!(node.tag(), Tag::SEQUENCE | Tag::SET) {
+        node.children()
+            .for_each(|child| push_own(child, depth + 1, places));
+    }
 }
 
 /// What der-parser returns.

@@ -2,7 +2,7 @@
 //! docs/DIFFERENCES.md that says the same of der-parser 10; what is neither is a habit of der-parser 6.
 use crate::case::{framing, is_other_end, long_form, Case};
 use crate::readers::{other, Outcome};
-use dumarewhi::{Reason, Rules};
+use dumarewhi::Reason;
 
 /// A rule by which the readers differ at one element.
 pub struct Rule {
@@ -43,12 +43,7 @@ pub const RULES: &[Rule] = &[
             let is_padded = matches!(case.input, [first, 0x80, ..] if first & 0x1f == 0x1f);
             case.reason == Some(Reason::INVALID_TAG) && (is_small || is_padded)
         },
-        examples: &[
-            (true, "1f 1e 00"),
-            (true, "9f 80 22 00"),
-            (false, "5f 02"),
-            (false, "a0 80 9f 01 00 00 00"),
-        ],
+        examples: &[(true, "1f 1e 00"), (true, "9f 80 22 00"), (false, "5f 02")],
     },
     Rule {
         name: "a tag number above 2^32-1",
@@ -76,17 +71,17 @@ pub const RULES: &[Rule] = &[
         ],
     },
     Rule {
-        name: "a length above 2^32-1 by BER",
+        name: "a length above 2^32-1",
         source: "more octets may complete it; refused by der-parser 6",
         is_of_header: false,
         decides: |case| {
-            !case.rules.is_der()
-                && case.own == Outcome::CutShort
+            case.own == Outcome::CutShort
                 && case.other == Outcome::Refused
                 && matches!(case.definite(), Some(length) if length > u32::MAX.into())
         },
         examples: &[
             (false, "04 85 01 00 00 00 00"),
+            (true, "04 85 01 00 00 00 00"),
             (false, "80 88 ff ff ff ff ff ff ff ff"),
         ],
     },
@@ -98,148 +93,15 @@ pub const RULES: &[Rule] = &[
         examples: &[(true, "21 01 ff"), (false, "21 01 00")],
     },
     Rule {
-        name: "an end of contents with octets, or constructed",
-        source: "8.1.5 forbids it; read by BER as by der-parser 10",
-        is_of_header: false,
-        decides: |case| match case.rules.is_der() {
-            true => case.is_read_by_other_alone(&[0]) && case.is_constructed(),
-            false => case.is_read_by_own_alone(&[0]) && case.has_content(),
-        },
-        examples: &[(true, "20 00"), (false, "00 01 ff"), (false, "20 80 05 00 00 00")],
-    },
-    Rule {
-        name: "a constructed OCTET STRING by BER",
-        source: "8.7.1; DIFFERENCES: Constructed by DER alone",
-        is_of_header: false,
-        decides: |case| !case.rules.is_der() && case.is_read_by_own_alone(&[4]) && case.is_constructed(),
-        examples: &[(false, "24 03 04 01 61"), (false, "24 80 04 01 61 00 00")],
-    },
-    Rule {
-        name: "a constructed INTEGER or NULL by BER",
-        source: "8.3.1 and 8.8.1 forbid it; read as by der-parser 10",
-        is_of_header: false,
-        decides: |case| !case.rules.is_der() && case.is_read_by_own_alone(&[2, 5]) && case.is_constructed(),
-        examples: &[(false, "22 01 05"), (false, "25 00"), (false, "25 80 00 00")],
-    },
-    Rule {
-        name: "a NULL with octets by BER",
-        source: "8.8.2 forbids it; read by BER as by der-parser 10",
-        is_of_header: false,
-        decides: |case| !case.rules.is_der() && case.is_read_by_own_alone(&[5]) && case.has_content(),
-        examples: &[(false, "05 01 00")],
-    },
-    Rule {
-        name: "an identifier without arcs, or whose last arc has no end",
-        source: "8.19.2; its octets are kept, as by der-parser 10",
-        is_of_header: false,
-        decides: |case| {
-            let content = case.content();
-            case.is_read_by_own_alone(&[6, 13]) && content.last().map_or(true, |last| *last >= 0x80)
-        },
-        examples: &[(true, "06 00"), (true, "0d 01 80"), (false, "06 02 2a 86")],
-    },
-    Rule {
-        name: "a negative ENUMERATED",
-        source: "8.4; DIFFERENCES: two's complement, 0 to 2^64-1",
-        is_of_header: false,
-        decides: |case| {
-            case.is_read_by_other_alone(&[10])
-                && case.content().first().map_or(false, |first| *first >= 0x80)
-                && (case.reason == Some(Reason::INTEGER_NEGATIVE)
-                    || case.reason == Some(Reason::INTEGER_LEADING_FF))
-        },
-        examples: &[(true, "0a 01 80"), (false, "0a 02 ff 7f"), (true, "0a 02 ff 80")],
-    },
-    Rule {
-        name: "an ENUMERATED of no octets, or of more than eight",
-        source: "8.4; DIFFERENCES: two's complement, 0 to 2^64-1",
-        is_of_header: false,
-        decides: |case| case.is_read_by_own_alone(&[10]) && matches!(case.content().len(), 0 | 9..),
-        examples: &[
-            (false, "0a 00"),
-            (true, "0a 09 00 ff ff ff ff ff ff ff ff"),
-            (false, "0a 09 00 00 00 00 00 00 00 00 05"),
-        ],
-    },
-    Rule {
-        name: "an INTEGER or ENUMERATED with needless octets by DER",
-        source: "8.3.2; DIFFERENCES: IntegerLeadingFF, ENUMERATED with leading zeroes",
-        is_of_header: false,
-        decides: |case| match case.reason {
-            Some(Reason::INTEGER_LEADING_FF) => case.is_read_by_other_alone(&[2]),
-            Some(Reason::INTEGER_LEADING_ZEROES) => case.is_read_by_other_alone(&[10]),
-            _ => false,
-        },
-        examples: &[(true, "02 02 ff 80"), (true, "0a 02 00 05")],
-    },
-    Rule {
-        name: "unused bits of no octet by DER",
-        source: "11.2.1; DIFFERENCES: UnusedBitsNotZero",
-        is_of_header: false,
-        decides: |case| {
-            case.reason == Some(Reason::UNUSED_BITS_NOT_ZERO)
-                && case.is_read_by_other_alone(&[3])
-                && matches!(case.content(), [1..=7])
-        },
-        examples: &[(true, "03 01 03")],
-    },
-    Rule {
-        name: "a BIT STRING of no octets by DER",
-        source: "8.6.2.2; DIFFERENCES: der-parser looks past it",
-        is_of_header: false,
-        decides: |case| {
-            case.is_universal(&[3])
-                && case.content().is_empty()
-                && case.own == Outcome::Refused
-                && case.other == Outcome::CutShort
-        },
-        examples: &[(true, "03 00")],
-    },
-    Rule {
-        name: "a text that isn't UTF-8",
-        source: "DIFFERENCES: T61String and the like are UTF-8",
-        is_of_header: false,
-        decides: |case| {
-            case.reason == Some(Reason::INVALID_CHARACTER)
-                && case.is_read_by_other_alone(&[7, 20, 21, 25, 27])
-                && core::str::from_utf8(case.content()).is_err()
-        },
-        examples: &[
-            (true, "14 01 e9"),
-            (false, "1b 01 ff"),
-            (true, "07 01 80"),
-            (false, "15 01 80"),
-            (true, "19 01 80"),
-        ],
-    },
-    Rule {
         name: "a VisibleString with a delete",
         source: "8.23.5: its characters are 20 to 7e",
         is_of_header: false,
         decides: |case| {
-            case.reason == Some(Reason::INVALID_CHARACTER)
+            case.reason == Some(Reason::CHARACTER_OUTSIDE)
                 && case.is_read_by_other_alone(&[26])
                 && case.content().contains(&0x7f)
         },
         examples: &[(true, "1a 01 7f"), (false, "1a 02 20 7f")],
-    },
-    Rule {
-        name: "a BMPString that isn't UTF-16",
-        source: "8.23.7: two octets a character",
-        is_of_header: false,
-        decides: |case| {
-            let units = case
-                .content()
-                .chunks(2)
-                .map(|pair| pair.iter().fold(0, |unit, octet| unit << 8 | u16::from(*octet)));
-            let is_odd = case.content().len() % 2 == 1;
-            case.is_read_by_other_alone(&[30]) && (is_odd || char::decode_utf16(units).any(|it| it.is_err()))
-        },
-        examples: &[
-            (true, "1e 01 41"),
-            (false, "1e 02 d8 00"),
-            (true, "1e 04 00 41 dc 00"),
-        ],
     },
     Rule {
         name: "a text that is no time",
@@ -247,7 +109,7 @@ pub const RULES: &[Rule] = &[
         is_of_header: false,
         decides: |case| {
             case.is_read_by_other_alone(&[23, 24])
-                && matches!(case.reason, Some(Reason::INVALID_TIME))
+                && matches!(case.reason, Some(Reason::TIME_TEXT))
                 && !case.is_constructed()
         },
         examples: &[
@@ -257,11 +119,104 @@ pub const RULES: &[Rule] = &[
         ],
     },
     Rule {
-        name: "a constructed time",
-        source: "10.2; parts of a string aren't joined",
+        name: "end-of-contents octets, or constructed",
+        source: "8.1.5: they are no element",
         is_of_header: false,
-        decides: |case| case.is_read_by_other_alone(&[23, 24]) && case.is_constructed(),
-        examples: &[(false, "37 01 5a"), (true, "38 01 5a")],
+        decides: |case| case.is_read_by_other_alone(&[0]),
+        examples: &[(true, "20 00"), (true, "00 00"), (false, "00 00")],
+    },
+    Rule {
+        name: "a constructed string by BER",
+        source: "8.7.1, 8.23.6: its parts are elements; an OCTET STRING alone is kept by der-parser 10",
+        is_of_header: false,
+        decides: |case| {
+            !case.rules.is_der()
+                && case.is_read_by_own_alone(&[3, 4, 7, 12, 18, 19, 20, 21, 22, 25, 26, 27, 28, 30])
+                && case.is_constructed()
+        },
+        examples: &[(false, "24 03 04 01 61"), (false, "24 80 04 01 61 00 00")],
+    },
+    Rule {
+        name: "an ENUMERATED of more than eight octets",
+        source: "8.4: any number",
+        is_of_header: false,
+        decides: |case| case.is_read_by_own_alone(&[10]) && case.content().len() > 8,
+        examples: &[
+            (true, "0a 09 00 ff ff ff ff ff ff ff ff"),
+            (false, "0a 09 01 00 00 00 00 00 00 00 00"),
+        ],
+    },
+    Rule {
+        name: "an INTEGER or ENUMERATED with needless octets",
+        source: "8.3.2; by BER der-parser 10 reads it too",
+        is_of_header: false,
+        decides: |case| {
+            case.reason == Some(Reason::NUMBER_PADDED)
+                && case.is_read_by_other_alone(&[2, 10])
+                && matches!(case.content(), [0, 0..=0x7f, ..] | [0xff, 0x80..=0xff, ..])
+        },
+        examples: &[
+            (true, "02 02 ff 80"),
+            (true, "0a 02 00 05"),
+            (false, "02 02 00 05"),
+        ],
+    },
+    Rule {
+        name: "an INTEGER of no octets by BER",
+        source: "8.3.1; der-parser 10 reads it too",
+        is_of_header: false,
+        decides: |case| case.is_read_by_other_alone(&[2, 10]) && case.content().is_empty(),
+        examples: &[(false, "02 00")],
+    },
+    Rule {
+        name: "an invalid number of unused bits",
+        source: "8.6.2.2, 8.6.2.3",
+        is_of_header: false,
+        decides: |case| {
+            case.is_read_by_other_alone(&[3]) && matches!(case.content(), [8..=0xff, ..] | [1..=0xff])
+        },
+        examples: &[(true, "03 01 03"), (false, "03 01 03"), (false, "03 02 08 00")],
+    },
+    Rule {
+        name: "an identifier with a padded arc",
+        source: "8.19.2, 8.20.2; der-parser 10 reads it too",
+        is_of_header: false,
+        decides: |case| case.reason == Some(Reason::ARC_PADDED) && case.is_read_by_other_alone(&[6, 13]),
+        examples: &[(true, "06 03 80 55 04"), (false, "0d 02 80 01")],
+    },
+    Rule {
+        name: "a REAL that is none",
+        source: "8.5, 11.3; der-parser 10 keeps its octets",
+        is_of_header: false,
+        decides: |case| case.is_read_by_other_alone(&[9]),
+        examples: &[(true, "09 01 44"), (false, "09 01 44")],
+    },
+    Rule {
+        name: "a type that is always constructed",
+        source: "8.17, 8.18, 8.24; der-parser 10 keeps its octets",
+        is_of_header: false,
+        decides: |case| case.is_read_by_other_alone(&[8, 11, 29]) && !case.is_constructed(),
+        examples: &[(true, "08 00"), (false, "0b 00"), (true, "1d 01 00")],
+    },
+    Rule {
+        name: "a BMPString or UniversalString of a wrong size",
+        source: "8.23.7, 8.23.9: four or two octets a character",
+        is_of_header: false,
+        decides: |case| {
+            let size = case.content().len();
+            (case.is_read_by_other_alone(&[30]) && size % 2 != 0)
+                || (case.is_read_by_other_alone(&[28]) && size % 4 != 0)
+        },
+        examples: &[(true, "1e 01 41"), (false, "1e 01 41"), (true, "1c 03 00 00 00")],
+    },
+    Rule {
+        name: "a constructed time by DER",
+        source: "10.2",
+        is_of_header: false,
+        decides: |case| {
+            case.rules.is_der() && case.is_read_by_other_alone(&[23, 24]) && case.is_constructed()
+        },
+        examples: &[(true, "38 01 5a")],
     },
     Rule {
         name: "a time that isn't in its form for DER",
@@ -271,7 +226,10 @@ pub const RULES: &[Rule] = &[
             case.is_read_by_other_alone(&[23, 24])
                 && matches!(
                     case.reason,
-                    Some(Reason::MISSING_SECONDS) | Some(Reason::FRACTION_NOT_MINIMAL)
+                    Some(Reason::TIME_WITHOUT_SECONDS)
+                        | Some(Reason::TIME_NOT_IN_Z)
+                        | Some(Reason::TIME_COMMA)
+                        | Some(Reason::TIME_LAST_ZERO)
                 )
         },
         examples: &[
@@ -280,21 +238,36 @@ pub const RULES: &[Rule] = &[
         ],
     },
     Rule {
-        name: "levels of indefinite length",
-        source: "no clause: 49 of them are framed, and der-parser 6 frames as many as the depth has left",
+        name: "what is inside an element of another class, or a string",
+        source: "8.1.4: elements; der-parser keeps octets",
         is_of_header: false,
         decides: |case| {
-            let is_framed = Rules::BER.first_length(case.input).is_ok();
-            case.is_indefinite()
-                && match case.reason {
-                    Some(reason) => reason == Reason::MAX_DEPTH && !is_framed,
-                    None => case.own == other(case.rules, case.input, 50) && case.other == Outcome::Refused,
-                }
+            case.is_constructed() && !case.is_list() && case.own == Outcome::Refused && case.other.is_read()
         },
         examples: &[
-            (false, "30.80*50 00.00*50"),
-            (false, "30 81 c4 a0.80*49 00.00*49"),
+            (true, "a0 01 05"),
+            (true, "a0 03 01 01 7f"),
+            (false, "a0 03 02 02 05"),
+            (false, "37 01 5a"),
         ],
+    },
+    Rule {
+        name: "a fault in what is cut short",
+        source: "no clause: no octets that follow mend it",
+        is_of_header: false,
+        decides: |case| case.own == Outcome::Refused && case.other == Outcome::CutShort,
+        examples: &[(true, "30 0a 01 01 7f"), (false, "30 0a 02 00"), (true, "03 00")],
+    },
+    Rule {
+        name: "levels of indefinite length",
+        source: "no clause: der-parser 6 frames as many as the depth has left",
+        is_of_header: false,
+        decides: |case| {
+            case.is_indefinite()
+                && case.own == other(case.rules, case.input, 50)
+                && case.other == Outcome::Refused
+        },
+        examples: &[(false, "30 81 c4 a0.80*49 00.00*49")],
     },
     Rule {
         name: OTHER_END,
@@ -319,11 +292,7 @@ pub const RULES: &[Rule] = &[
                 && case.own == Outcome::CutShort
                 && case.other == Outcome::Refused
         },
-        examples: &[
-            (false, "24 80 04 01 61"),
-            (false, "30 80 01 00"),
-            (false, "21 80"),
-        ],
+        examples: &[(false, "24 80 04 01 61")],
     },
     Rule {
         name: LISTS_END,
@@ -341,11 +310,7 @@ pub const RULES: &[Rule] = &[
         source: "10, 11; DIFFERENCES: by DER at every depth",
         is_of_header: false,
         decides: |_| false,
-        examples: &[
-            (true, "30 03 01 01 7f"),
-            (true, "30 04 31 80 00 00"),
-            (true, "31 04 02 02 00 05"),
-        ],
+        examples: &[(true, "30 03 01 01 7f"), (true, "30 04 31 80 00 00")],
     },
 ];
 

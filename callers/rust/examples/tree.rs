@@ -1,6 +1,6 @@
 //! Prints the elements of a file, or of standard input: `cargo run --example tree FILE`.
 //!
-//! The file has DER or BER. What is in an explicit tag is printed too, if it is an element.
+//! The file has DER or BER.
 use dumarewhi::{Any, Node, Rules, Tag};
 use std::io::{self, Read};
 
@@ -27,12 +27,6 @@ fn print(node: Node<'_, '_>, depth: usize) {
     println!("{:5} {indent}{}{}", node.offset(), node.tag(), value(&node.any()));
     for child in node.children() {
         print(child, depth + 1);
-    }
-    // What is inside another class isn't in the tree.
-    if node.is_constructed() && node.children().next().is_none() {
-        if let Ok(inner) = node.parse_content() {
-            print(inner.root(), depth + 1);
-        }
     }
 }
 

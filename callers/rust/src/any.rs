@@ -241,9 +241,15 @@ impl Rules {
     /// # Ok::<(), dumarewhi::Error>(())
     /// ```
     pub fn any(self, input: &[u8]) -> Result<(&[u8], Any<'_>)> {
+        let element = self.list_first(input)?;
+        Ok((&input[element.range().end..], Any::new(input, &element, 0, self)))
+    }
+
+    /// The first element, with what is inside it checked.
+    pub(crate) fn list_first(self, input: &[u8]) -> Result<Element> {
         let mut element = [Element::default()];
-        let found = self.list(input, &mut element)?;
-        Ok((&input[found.length..], Any::new(input, &element[0], 0, self)))
+        self.list(input, &mut element)?;
+        Ok(element[0])
     }
 }
 

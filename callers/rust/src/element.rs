@@ -4,13 +4,11 @@ use crate::ffi::{self, Element, Outcome};
 use crate::{Class, Error, Tag};
 use core::ops::Range;
 
-/// How deep SEQUENCE and SET may nest, unless [`Rules::with_max_depth`] changes it.
-pub const DEFAULT_DEPTH: usize = 50;
-
-/// Larger values are clamped to this one. A level takes 1024 octets of the stack at most, which is measured.
+/// How deep elements may be, unless [`Rules::with_max_depth`] changes it: the outermost one is 1 deep, and one inside it
+/// 2. Larger values are clamped to this one. A level takes 1024 octets of the stack at most, which is measured.
 pub const MAX_DEPTH: usize = ffi::MAX_DEPTH;
 
-/// The rules of an encoding, and how deep SEQUENCE and SET may nest.
+/// The rules of an encoding, and how deep elements may be.
 ///
 /// Its calls read the first element of an input. What follows it is left to the caller.
 ///
@@ -41,19 +39,19 @@ pub struct Found {
 }
 
 impl Rules {
-    /// The Basic Encoding Rules (X.690 clause 8), to [`DEFAULT_DEPTH`].
+    /// The Basic Encoding Rules (X.690 clause 8), to [`MAX_DEPTH`].
     pub const BER: Rules = Rules {
         der: false,
-        max_depth: DEFAULT_DEPTH,
+        max_depth: MAX_DEPTH,
     };
 
-    /// The Distinguished Encoding Rules (X.690 clauses 8, 10 and 11), to [`DEFAULT_DEPTH`].
+    /// The Distinguished Encoding Rules (X.690 clauses 8, 10 and 11), to [`MAX_DEPTH`].
     pub const DER: Rules = Rules {
         der: true,
-        max_depth: DEFAULT_DEPTH,
+        max_depth: MAX_DEPTH,
     };
 
-    /// The same rules with another depth: 1 allows a SEQUENCE without elements. Larger values than [`MAX_DEPTH`]
+    /// The same rules with another depth: 1 allows an element with no other inside. Larger values than [`MAX_DEPTH`]
     /// are clamped to it.
     pub const fn with_max_depth(self, max_depth: usize) -> Rules {
         Rules {
@@ -62,7 +60,7 @@ impl Rules {
         }
     }
 
-    /// How deep SEQUENCE and SET may nest.
+    /// How deep elements may be.
     pub const fn max_depth(self) -> usize {
         self.max_depth
     }
@@ -74,14 +72,14 @@ impl Rules {
 
     /// Checks the first element, and counts those inside it.
     pub fn check(self, input: &[u8]) -> Result<Found> {
-        self.found(ffi::check(self.der, input, self.max_depth), input)
+        found(ffi::check(self.der, input, self.max_depth), input)
     }
 
     /// Lists the first element and those inside it in preorder. The first of them are written to the buffer,
     /// as many as fit. [`Found::elements`] is how many there are, also if fewer fit. After an error, the
     /// buffer's contents are unspecified.
     pub fn list(self, input: &[u8], elements: &mut [Element]) -> Result<Found> {
-        self.found(ffi::list(self.der, input, self.max_depth, elements), input)
+        found(ffi::list(self.der, input, self.max_depth, elements), input)
     }
 
     /// Finds how many octets the first element has, by its header alone (and by its framing, if its length is
@@ -100,7 +98,7 @@ impl Rules {
     }
 
     /// Finds the first element, by its header alone (and by its framing, if its length is indefinite). Nothing
-    /// inside it is checked or counted.
+    /// inside it is checked or counted. More than 49 indefinite lengths inside one another are an error.
     ///
     /// ```
     /// use dumarewhi::{Rules, Tag};
@@ -113,15 +111,6 @@ impl Rules {
     pub fn first(self, input: &[u8]) -> Result<Element> {
         let (outcome, element) = ffi::first(self.der, input);
         found(outcome, input).map(|_| element)
-    }
-
-    /// The result of reading the whole element. If the input is cut short, the outcome may count octets as
-    /// missing that are there. [`first_length`](Rules::first_length) counts those that are missing.
-    pub(crate) fn found(self, outcome: Outcome, input: &[u8]) -> Result<Found> {
-        match found(outcome, input) {
-            Err(error) if error.is_incomplete() => Err(self.first_length(input).err().unwrap_or(error)),
-            result => result,
-        }
     }
 
     /// The same rules for what is inside an element.
@@ -246,8 +235,7 @@ impl Element {
         self.definite != 0
     }
 
-    /// How many elements are inside it, at any depth: the next ones in the list. Inside an element of another
-    /// class than universal, none are listed.
+    /// How many elements are inside it, at any depth: the next ones in the list.
     pub fn descendants(&self) -> usize {
         self.inside
     }

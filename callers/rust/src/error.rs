@@ -33,8 +33,8 @@ pub enum ErrorKind {
     Value(Reason),
     /// The input is cut short: more octets may complete it.
     Incomplete {
-        /// How many octets are missing, as far as the input shows. By DER too: der-parser has the whole length
-        /// of a content there.
+        /// How many octets are missing, as far as the input shows: those up to the end of the outermost element, once
+        /// its header gives its length.
         missing: usize,
     },
     /// An element runs past the end of the content that it is in. No further input mends that.
@@ -81,8 +81,8 @@ pub enum ErrorKind {
 /// use dumarewhi::{check_der, ErrorKind, Reason};
 ///
 /// let error = check_der(&[0x01, 0x01, 0x7f]).unwrap_err();
-/// assert_eq!(error.kind(), ErrorKind::Malformed(Reason::INVALID_BOOLEAN));
-/// assert_eq!(Reason::INVALID_BOOLEAN.to_string(), "DER constraint failed: invalid boolean");
+/// assert_eq!(error.kind(), ErrorKind::Malformed(Reason::BOOLEAN_VALUE));
+/// assert_eq!(Reason::BOOLEAN_VALUE.to_string(), "a BOOLEAN is neither 00 nor ff (X.690 11.1)");
 /// ```
 #[derive(Clone, Copy, Debug, PartialEq, Eq, Hash, PartialOrd, Ord)]
 pub struct Reason(pub(crate) u32);
@@ -186,12 +186,52 @@ reasons! {
     FRACTION_NOT_MINIMAL = 41, "DER constraint failed: fraction not minimal";
     UNUSED_BITS_NOT_ZERO = 42, "DER constraint failed: unused bits not zero";
     SET_OUT_OF_ORDER = 43, "DER constraint failed: set out of order";
-    NO_END_MARKER = 48, "no end-of-contents octets after an indefinite length";
-    STRAY_END_MARKER = 49, "end-of-contents octets where no indefinite length ends";
-    PART_OF_ANOTHER_TYPE = 50, "part of a constructed string has another type";
-    UNUSED_BITS_INSIDE = 51, "unused bits in a part of a BIT STRING that isn't the last";
-    NOT_DER = 52, "no elements of DER";
+    NO_END_MARKER = 48, "an indefinite length has no end-of-contents octets (X.690 8.1.3.6)";
+    STRAY_END_MARKER = 49, "end-of-contents octets, and no indefinite length ends here (X.690 8.1.5)";
+    PART_OF_ANOTHER_TYPE = 50, "a part of a constructed string isn't an OCTET STRING, or of a BIT STRING no BIT STRING \
+        (X.690 8.6.4 and 8.7.3)";
+    UNUSED_BITS_INSIDE = 51, "a part of a BIT STRING has unused bits, and another part follows (X.690 8.6.4)";
+    NOT_DER = 52, "these are no elements of DER (X.690 10)";
+    BOOLEAN_LENGTH = 64, "a BOOLEAN isn't one octet (X.690 8.2.1)";
+    BOOLEAN_VALUE = 65, "a BOOLEAN is neither 00 nor ff (X.690 11.1)";
+    NUMBER_EMPTY = 66, "a number has no octets (X.690 8.3.1)";
+    NUMBER_PADDED = 67, "the first nine bits of a number are alike (X.690 8.3.2)";
+    UNUSED_BITS_MISSING = 68, "a BIT STRING has no octets (X.690 8.6.2.1)";
+    UNUSED_BITS_ABOVE_SEVEN = 69, "more than seven bits are unused (X.690 8.6.2.2)";
+    UNUSED_BITS_OF_NONE = 70, "a BIT STRING without bits has unused ones (X.690 8.6.2.3)";
+    UNUSED_BIT_IS_SET = 71, "an unused bit isn't 0 (X.690 11.2.1)";
+    NULL_NOT_EMPTY = 72, "a NULL has octets (X.690 8.8.2)";
+    IDENTIFIER_EMPTY = 73, "an identifier has no octets (X.690 8.19.2, 8.20.2)";
+    ARC_OPEN = 74, "the last arc has no end (X.690 8.19.2, 8.20.2)";
+    ARC_PADDED = 75, "an arc begins with 80 (X.690 8.19.2, 8.20.2)";
+    REAL_BASE_RESERVED = 76, "the base of a REAL is a reserved one (X.690 8.5.7.2)";
+    REAL_EXPONENT_MISSING = 77, "a REAL has no exponent (X.690 8.5.7.4)";
+    REAL_MANTISSA_MISSING = 78, "a REAL has no mantissa (X.690 8.5.7.5)";
+    REAL_EXPONENT_PADDED = 79, "the first nine bits of an exponent are alike (X.690 8.5.7.4)";
+    REAL_BASE_OR_SCALE = 80, "a REAL has a base other than 2 or a scaling factor (X.690 11.3.1)";
+    REAL_EXPONENT_NOT_FEWEST = 81, "an exponent isn't in its fewest octets (X.690 11.3.1)";
+    REAL_MANTISSA_NOT_FEWEST = 82, "a mantissa is even or begins with 00 (X.690 11.3.1)";
+    REAL_SPECIAL = 83, "a special value of a REAL isn't known (X.690 8.5.9)";
+    REAL_DECIMAL = 84, "a decimal REAL isn't in its form of ISO 6093 (X.690 8.5.8)";
+    REAL_DECIMAL_NOT_STRICT = 85, "a decimal REAL has needless characters (X.690 11.3.2)";
+    NOT_UTF8 = 86, "a UTF8String isn't UTF-8 (X.690 8.23.10)";
+    CHARACTER_OUTSIDE = 87, "an octet is outside of the character set (X.690 8.23)";
+    UNIVERSAL_STRING_LENGTH = 88, "a UniversalString isn't groups of four octets (X.690 8.23.7)";
+    BMP_STRING_LENGTH = 89, "a BMPString isn't pairs of octets (X.690 8.23.9)";
+    TIME_TEXT = 90, "a time isn't a text of its type (X.690 8.25)";
+    TIME_NOT_IN_Z = 91, "a time doesn't end in Z (X.690 11.7.1, 11.8.1)";
+    TIME_WITHOUT_SECONDS = 92, "a time has no seconds (X.690 11.7.2, 11.8.2)";
+    TIME_COMMA = 93, "a fraction has a comma (X.690 11.7.4)";
+    TIME_LAST_ZERO = 94, "a fraction ends in 0 (X.690 11.7.3)";
+    SEQUENCE_PRIMITIVE = 95, "a SEQUENCE is primitive (X.690 8.9.1)";
+    SET_PRIMITIVE = 96, "a SET is primitive (X.690 8.11.1)";
+    EMBEDDED_PDV_PRIMITIVE = 97, "an EMBEDDED PDV is primitive (X.690 8.17)";
+    EXTERNAL_PRIMITIVE = 98, "an EXTERNAL is primitive (X.690 8.18.1)";
+    CHARACTER_STRING_PRIMITIVE = 99, "a CHARACTER STRING is primitive (X.690 8.24)";
 }
+
+/// How many octets the text of an error has at most.
+const LONGEST_TEXT: usize = 160;
 
 impl Reason {
     /// The number.
@@ -202,7 +242,7 @@ impl Reason {
 
 impl fmt::Display for Reason {
     fn fmt(&self, f: &mut fmt::Formatter<'_>) -> fmt::Result {
-        let mut text = [0; 96];
+        let mut text = [0; LONGEST_TEXT];
         let length = ffi::error_text(self.0, &mut text).min(text.len());
         match core::str::from_utf8(&text[..length]) {
             Ok(text) => f.write_str(text),

@@ -91,7 +91,7 @@ pub(crate) struct Mark {
     outer: usize,
 }
 
-pub(crate) const MAX_DEPTH: usize = 250;
+pub(crate) const MAX_DEPTH: usize = 101;
 pub(crate) const ZONE_LOCAL: u8 = 0;
 pub(crate) const ZONE_UTC: u8 = 1;
 pub(crate) const ZONE_OFFSET: u8 = 2;

@@ -36,15 +36,14 @@
 //!
 //! # What you might not expect
 //!
-//! - An element of another class than universal, as `[0]`, is kept as octets: nothing looks inside it until
-//!   [`Node::parse_content`], [`Any::reader`] or [`Reader::tagged`] does.
-//! - Rules that need the ASN.1 type aren't checked: the order of a SET, default values, named bits.
+//! - The content of a constructed element of any class, as `[0]`, is elements (X.690 8.1.4), and they are in a [`Tree`].
+//!   What an OCTET STRING holds isn't: [`Node::parse_content`] reads it.
+//! - Rules that need the ASN.1 type aren't checked: the order of a SET, default values, named bits. Nor is by BER that
+//!   the parts of a string are of its type.
 //! - Readers don't join the parts of a constructed string. [`write_der`] does.
 //! - A [`Writer`] doesn't sort a SET OF, and leaves out no default value. Only [`Writer::finish`] and [`to_vec`] tell
 //!   that a buffer is too small.
-//! - An error of an input that is cut short counts the octets that are missing, by BER and by DER. In
-//!   `dm_parse_der` and in der-parser, it is the whole length of a content by DER.
-//! - SEQUENCE and SET nest to [`DEFAULT_DEPTH`], or to [`MAX_DEPTH`] at most: [`Rules::with_max_depth`].
+//! - Elements are [`MAX_DEPTH`] deep at most: [`Rules::with_max_depth`] allows less.
 //!
 //! # Features
 //!
@@ -75,7 +74,7 @@ mod write;
 mod writer;
 
 pub use any::Any;
-pub use element::{check_ber, check_der, list_ber, list_der, Found, Rules, DEFAULT_DEPTH, MAX_DEPTH};
+pub use element::{check_ber, check_der, list_ber, list_der, Found, Rules, MAX_DEPTH};
 pub use error::{Error, ErrorKind, Reason, Result};
 pub use ffi::Element;
 pub use reader::Reader;

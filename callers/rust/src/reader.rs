@@ -8,8 +8,7 @@ use crate::{Any, Class, Element, Error, Tag};
 ///
 /// Each call reads the next element, checks it with all that is inside it, and compares its tag. After an
 /// error the reader is where it was. A reader keeps no list, and allocates in [`implicit`](Reader::implicit) alone.
-/// What is inside a SEQUENCE or a SET is checked with it, so when its fields are read, only their headers are read
-/// once more.
+/// What is inside an element is checked with it, so when its fields are read, only their headers are read once more.
 ///
 /// ```
 /// use dumarewhi::{Reader, Tag};
@@ -33,11 +32,9 @@ pub struct Reader<'a> {
     position: usize,
     /// Where the input begins in the outermost one.
     base: usize,
-    /// Whether the input is the content of an element, so that no more of it can come.
+    /// Whether the input is the content of an element, so that no more of it can come, and its elements were checked.
     nested: bool,
     rules: Rules,
-    /// Whether all its elements were checked with the one around them.
-    is_checked: bool,
     /// The next element, if it has been looked at.
     next: Option<Any<'a>>,
 }
@@ -53,7 +50,7 @@ impl<'a> Reader<'a> {
     /// ```
     /// use dumarewhi::{Reader, Rules};
     ///
-    /// let input = [0x30, 0x80, 0x02, 0x02, 0x00, 0x05, 0x00, 0x00];
+    /// let input = [0x30, 0x80, 0x02, 0x01, 0x05, 0x00, 0x00];
     /// let mut reader = Reader::with_rules(&input, Rules::BER);
     /// assert_eq!(reader.sequence(|r| r.i64())?, 5);
     /// # Ok::<(), dumarewhi::Error>(())
@@ -65,13 +62,11 @@ impl<'a> Reader<'a> {
             base: 0,
             nested: false,
             rules,
-            is_checked: false,
             next: None,
         }
     }
 
-    /// A reader of the elements that the content octets of an element are. The content of a SEQUENCE or a SET was
-    /// checked with it, and that of an element of another class was kept as octets.
+    /// A reader of the elements that the content octets of a constructed element are. They were checked with it.
     pub(crate) fn inside(any: &Any<'a>) -> Reader<'a> {
         Reader {
             input: any.content(),
@@ -79,7 +74,6 @@ impl<'a> Reader<'a> {
             base: any.content_offset(),
             nested: true,
             rules: any.rules().inside(),
-            is_checked: matches!(any.tag(), Tag::SEQUENCE | Tag::SET),
             next: None,
         }
     }
@@ -140,17 +134,22 @@ impl<'a> Reader<'a> {
         if rest.is_empty() && self.nested {
             return Err(Error::new(ErrorKind::MissingElement, offset));
         }
-        let found = if self.is_checked {
-            self.rules.first(rest)
-        } else {
-            let mut element = [Element::default()];
-            self.rules.list(rest, &mut element).map(|_| element[0])
-        };
-        match found {
+        match self.first_of(rest) {
             Ok(element) => Ok(Any::new(rest, &element, offset, self.rules)),
             Err(error) if self.nested => Err(error.inside(offset)),
             Err(error) => Err(error.after(offset)),
         }
+    }
+
+    /// The first element. One that was checked is framed, unless more indefinite lengths are inside one another than
+    /// can be framed.
+    fn first_of(&self, rest: &[u8]) -> Result<Element> {
+        if self.nested {
+            if let Ok(element) = self.rules.first(rest) {
+                return Ok(element);
+            }
+        }
+        self.rules.list_first(rest)
     }
 
     /// Reads the next element, and takes it if the function returns Ok.

@@ -1,5 +1,5 @@
 //! Trees of elements.
-use crate::element::{whole, Found, Rules};
+use crate::element::{found, whole, Found, Rules};
 use crate::error::{ErrorKind, Result};
 use crate::ffi;
 use crate::value::{BitString, Integer, ObjectIdentifier, Time};
@@ -134,7 +134,7 @@ impl Rules {
 
     fn list_in_vec(self, input: &[u8], elements: &mut Vec<Element>) -> Result<Found> {
         let outcome = ffi::list_in_vec(self.is_der(), input, self.max_depth(), elements);
-        self.found(outcome, input)
+        found(outcome, input)
     }
 }
 
@@ -162,13 +162,16 @@ fn likely_length(input: &[u8]) -> usize {
 /// ```
 /// use dumarewhi::Tree;
 ///
-/// // [0] EXPLICIT: nothing inside it is in the tree, and its content is read by itself.
-/// let tree = Tree::parse_der(&[0x30, 0x05, 0xa0, 0x03, 0x02, 0x01, 0x02])?;
+/// // [0] EXPLICIT INTEGER
+/// let tree = Tree::parse_der(&[0xa0, 0x03, 0x02, 0x01, 0x02])?;
 /// let version = tree.root().children().next().unwrap();
-/// assert_eq!(version.children().count(), 0);
-/// let inner = version.parse_content()?;
-/// assert_eq!(inner.root().as_u64()?, 2);
-/// assert_eq!(inner.root().offset(), 4);
+/// assert_eq!((version.as_u64()?, version.offset()), (2, 2));
+///
+/// // An OCTET STRING that holds an INTEGER: its content isn't in the tree, and is read by itself.
+/// let tree = Tree::parse_der(&[0x04, 0x03, 0x02, 0x01, 0x02])?;
+/// assert_eq!(tree.root().children().count(), 0);
+/// let held = tree.root().parse_content()?;
+/// assert_eq!((held.root().as_u64()?, held.root().offset()), (2, 2));
 /// # Ok::<(), dumarewhi::Error>(())
 /// ```
 #[derive(Clone, Copy)]
@@ -187,7 +190,7 @@ impl<'t, 'a> Node<'t, 'a> {
         Any::new(self.tree.input, self.element(), self.tree.base, self.tree.rules)
     }
 
-    /// The elements of a SEQUENCE or SET. Of any other element none: see
+    /// The elements that the content of a constructed element is (X.690 8.1.4). Of a primitive one none: see
     /// [`parse_content`](Node::parse_content).
     pub fn children(&self) -> Children<'t, 'a> {
         Children {
@@ -208,8 +211,8 @@ impl<'t, 'a> Node<'t, 'a> {
         self.index + 1..self.index + 1 + self.element().inside
     }
 
-    /// Reads the one element that the content octets are, by the same rules: that of an explicit tag, or of an
-    /// OCTET STRING that holds an encoding. Offsets are those of the outermost input.
+    /// Reads the one element that the content octets are, by the same rules: that of an OCTET STRING that holds an
+    /// encoding, or of an explicit tag. Offsets are those of the outermost input.
     pub fn parse_content(&self) -> Result<Tree<'a>> {
         let any = self.any();
         let content = any.content();
@@ -324,7 +327,7 @@ impl fmt::Debug for Node<'_, '_> {
     }
 }
 
-/// The elements of a SEQUENCE or SET, in order.
+/// The elements of a constructed element, in order.
 #[derive(Clone, Debug)]
 pub struct Children<'t, 'a> {
     tree: &'t Tree<'a>,

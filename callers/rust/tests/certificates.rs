@@ -115,7 +115,7 @@ fn line(text: &str) -> Line {
     }
 }
 
-/// The lines of a node and of all that is in it. `asn1parse` goes into constructed elements of any class.
+/// The lines of a node and of all that is in it.
 fn lines(node: Node<'_, '_>, into: &mut Vec<Line>) {
     into.push(Line {
         offset: node.offset(),
@@ -124,9 +124,6 @@ fn lines(node: Node<'_, '_>, into: &mut Vec<Line>) {
         constructed: node.is_constructed(),
     });
     node.children().for_each(|child| lines(child, into));
-    if node.is_constructed() && !matches!(node.tag(), Tag::SEQUENCE | Tag::SET) {
-        lines(node.parse_content().unwrap().root(), into);
-    }
 }
 
 #[test]

@@ -1,7 +1,7 @@
 //! Lists in buffers of any room.
 use dumarewhi::{list_ber, list_der, Element, Rules};
 
-/// A SEQUENCE of a SEQUENCE of two INTEGERs, a NULL, and [0] with an element that isn't listed.
+/// A SEQUENCE of a SEQUENCE of two INTEGERs, a NULL, and [0] with a BOOLEAN.
 const DER: &[u8] = &[
     0x30, 0x0f, 0x30, 0x06, 0x02, 0x01, 0x05, 0x02, 0x01, 0x07, 0x05, 0x00, 0xa0, 0x03, 0x01, 0x01, 0xff,
 ];
@@ -16,7 +16,7 @@ const BER: &[u8] = &[
 fn each_room_has_the_first_elements() {
     for (rules, input) in [(Rules::DER, DER), (Rules::BER, DER), (Rules::BER, BER)] {
         let count = rules.check(input).unwrap().elements;
-        assert_eq!(count, 6);
+        assert_eq!(count, 7);
         let mut whole = vec![Element::default(); count];
         assert_eq!(rules.list(input, &mut whole).unwrap().elements, count);
         for room in 0..=count + 2 {
@@ -34,16 +34,17 @@ fn each_room_has_the_first_elements() {
 
 #[test]
 fn places_of_definite_lengths() {
-    let mut elements = [Element::default(); 6];
+    let mut elements = [Element::default(); 7];
     list_der(DER, &mut elements).unwrap();
     let ranges = elements.map(|it| (it.range(), it.content_range(), it.descendants()));
     let expected = [
-        (0..17, 2..17, 5),
+        (0..17, 2..17, 6),
         (2..10, 4..10, 2),
         (4..7, 6..7, 0),
         (7..10, 9..10, 0),
         (10..12, 12..12, 0),
-        (12..17, 14..17, 0),
+        (12..17, 14..17, 1),
+        (14..17, 16..17, 0),
     ];
     assert_eq!(ranges, expected);
     assert!(elements.iter().all(Element::is_definite));
@@ -51,21 +52,22 @@ fn places_of_definite_lengths() {
 
 #[test]
 fn places_of_indefinite_lengths() {
-    let mut elements = [Element::default(); 6];
+    let mut elements = [Element::default(); 7];
     list_ber(BER, &mut elements).unwrap();
     let ranges = elements.map(|it| (it.range(), it.content_range(), it.descendants()));
     let expected = [
-        (0..23, 2..21, 5),
+        (0..23, 2..21, 6),
         (2..12, 4..10, 2),
         (4..7, 6..7, 0),
         (7..10, 9..10, 0),
         (12..14, 14..14, 0),
-        (14..21, 16..19, 0),
+        (14..21, 16..19, 1),
+        (16..19, 18..19, 0),
     ];
     assert_eq!(ranges, expected);
     assert_eq!(
         elements.map(|it| it.is_definite()),
-        [false, false, true, true, true, false]
+        [false, false, true, true, true, false, true]
     );
 }
 

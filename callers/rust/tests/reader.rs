@@ -1,5 +1,5 @@
 //! Fields, one after the other.
-use dumarewhi::{Error, ErrorKind, Reader, Rules, Tag};
+use dumarewhi::{Error, ErrorKind, Reader, Reason, Rules, Tag};
 
 #[test]
 fn every_type() {
@@ -100,8 +100,19 @@ fn content_that_is_cut_is_no_incomplete_input() {
     let error = Reader::new(&[0xa0, 2, 2, 1])
         .tagged(Tag::context(0), |r| r.u64())
         .unwrap_err();
-    assert!(matches!(error.kind(), ErrorKind::Overrun { .. }), "{error}");
-    assert_eq!(error.offset(), 4);
+    assert_eq!(error, Error::new(ErrorKind::Malformed(Reason::OVERRUN), 2));
+}
+
+/// More indefinite lengths inside one another than are framed.
+#[test]
+fn deep_indefinite_lengths_are_read() {
+    let levels = dumarewhi::MAX_DEPTH;
+    let input = [[0x30, 0x80].repeat(levels), [0, 0].repeat(levels)].concat();
+    let mut r = Reader::with_rules(&input, Rules::BER);
+    assert_eq!(
+        r.sequence(|r| r.any().map(|any| any.octets().len())),
+        Ok(4 * (levels - 1))
+    );
 }
 
 #[test]
@@ -187,7 +198,7 @@ fn offsets_are_those_of_the_outermost_input() {
         .sequence(|r| r.tagged(Tag::context(0), |r| r.sequence(|r| Ok((r.null()?, r.u64()?)))))
         .unwrap_err();
     assert_eq!(error.offset(), 8);
-    assert!(error.to_string().contains("integer empty"), "{error}");
+    assert!(error.to_string().contains("a number has no octets"), "{error}");
 }
 
 #[test]

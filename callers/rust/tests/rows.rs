@@ -1,5 +1,5 @@
-//! Inputs whose outcomes X.690 gives, by DER and by BER.
-use dumarewhi::{check_ber, check_der, Error, ErrorKind, Rules};
+//! Inputs whose outcomes X.690 gives, by DER and by BER: the clause that decides is named first.
+use dumarewhi::{check_ber, check_der, Error, ErrorKind, Reason, Rules};
 
 /// What a row expects.
 #[derive(Clone, Copy)]
@@ -33,8 +33,12 @@ const fn row(clause: &'static str, input: &'static str, der: Expected, ber: Expe
 
 const NOT_MINIMAL: &str = "length not minimal";
 const INDEFINITE: &str = "indefinite length";
-const CONSTRUCTED: &str = "constructed";
-const NO_TIME: &str = "invalid date or time";
+const PRIMITIVE: &str = "primitive encoding expected";
+const CONSTRUCTED: &str = "constructed encoding expected";
+const STRING: &str = "DER constraint failed: constructed";
+const OVERRUN: &str = "item runs past the end of its container";
+const OUTSIDE: &str = "outside of the character set";
+const NO_ELEMENT: &str = "end-of-contents octets, and no indefinite length ends here";
 
 #[rustfmt::skip]
 const ROWS: &[Row] = &[
@@ -53,74 +57,90 @@ const ROWS: &[Row] = &[
     row("8.1.3.5", "02 8a ff ff ff ff ff ff ff ff ff ff 00", E("invalid length", 0), E("invalid length", 0)),
     row("10.1", "02 81 01 05", E(NOT_MINIMAL, 0), O(1, 4)),
     row("10.1", "04 82 00 01 61", E(NOT_MINIMAL, 0), O(1, 5)),
-    row("10.1", "04 80", E(INDEFINITE, 0), E("constructed encoding expected", 0)),
+    row("10.1", "04 80", E(INDEFINITE, 0), E(CONSTRUCTED, 0)),
     row("10.1", "30 80 04 03 56 78 90 00 00", E(INDEFINITE, 0), O(2, 9)),
     row("8.1.3.6", "30 80 80 00 00 00", E(INDEFINITE, 0), O(2, 6)),
-    row("8.1.3.6", "30 80 00 81 00 00 00", E(INDEFINITE, 0), O(2, 7)),
-    row("8.1.3.6", "24 80 04 01 61 00 00", E(INDEFINITE, 0), O(1, 7)),
+    row("8.1.3.6", "24 80 04 01 61 00 00", E(INDEFINITE, 0), O(2, 7)),
     row("8.1.3.6", "30 80", E(INDEFINITE, 0), I),
     row("8.1.3.6", "30 80 04 01 61 00", E(INDEFINITE, 0), I),
-    row("8.1.3.2", "02 80", E(INDEFINITE, 0), E("constructed encoding expected", 0)),
+    row("8.1.3.6", "30 04 30 80 05 00", E(INDEFINITE, 2), E("no end-of-contents octets", 2)),
+    row("8.1.3.2", "02 80", E(INDEFINITE, 0), E(CONSTRUCTED, 0)),
+    // End-of-contents octets are no element, and universal 0 has no other.
+    row("8.1.5", "00 00", E(NO_ELEMENT, 0), E(NO_ELEMENT, 0)),
+    row("8.1.5", "30 02 00 00", E(NO_ELEMENT, 2), E(NO_ELEMENT, 2)),
+    row("8.1.5", "30 80 00 81 00 00 00", E(INDEFINITE, 0), E(NO_ELEMENT, 2)),
     // What follows the element is left.
     row("8.1.1", "02 01 05 05 00", O(1, 3), O(1, 3)),
     row("8.1.1", "02 02 00", I, I),
     // Lists.
     row("8.9", "30 00", O(1, 2), O(1, 2)),
-    row("8.9", "10 00", E("constructed encoding expected", 0), E("constructed encoding expected", 0)),
+    row("8.9.1", "10 00", E("a SEQUENCE is primitive", 0), E("a SEQUENCE is primitive", 0)),
+    row("8.11.1", "11 00", E("a SET is primitive", 0), E("a SET is primitive", 0)),
     row("8.9", "30 0a 02 03 01 00 01 02 03 01 00 00", O(3, 12), O(3, 12)),
     row("8.9.3", "30 0a 16 05 53 6d 69 74 68 01 01 ff", O(3, 12), O(3, 12)),
     row("8.11", "31 05 30 03 01 01 00", O(3, 7), O(3, 7)),
-    row("8.9", "30 04 02 03 01 00", E("", 2), E("", 2)),
-    row("8.1.2.2", "a0 03 02 01 05", O(1, 5), O(1, 5)),
+    row("8.1.3", "30 04 02 03 01 00", E(OVERRUN, 2), E(OVERRUN, 2)),
+    // The content of a constructed element of any class is elements.
+    row("8.1.4", "a0 03 02 01 05", O(2, 5), O(2, 5)),
+    row("8.1.4", "a0 03 02 02 05", E(OVERRUN, 2), E(OVERRUN, 2)),
+    row("8.1.4", "a0 05 30 03 01 01 7f", E("neither 00 nor ff", 4), O(3, 7)),
     // Values.
-    row("8.2.1", "01 02 00 00", E("invalid length", 0), E("invalid length", 0)),
-    row("8.2.1", "01 00", E("invalid length", 0), E("invalid length", 0)),
-    row("8.2.1", "21 01 ff", E(CONSTRUCTED, 0), E("primitive encoding expected", 0)),
-    row("11.1", "01 01 7f", E("invalid boolean", 0), O(1, 3)),
-    row("11.1", "30 03 01 01 7f", E("invalid boolean", 2), O(2, 5)),
-    row("8.3.1", "02 00", E("integer empty", 0), O(1, 2)),
-    row("8.3.2", "02 02 00 7f", E("integer with leading zeroes", 0), O(1, 4)),
-    row("8.3.2", "02 02 ff 80", E("integer with leading ff", 0), O(1, 4)),
+    row("8.2.1", "01 02 00 00", E("a BOOLEAN isn't one octet", 0), E("a BOOLEAN isn't one octet", 0)),
+    row("8.2.1", "01 00", E("a BOOLEAN isn't one octet", 0), E("a BOOLEAN isn't one octet", 0)),
+    row("8.2.1", "21 01 ff", E(PRIMITIVE, 0), E(PRIMITIVE, 0)),
+    row("11.1", "01 01 7f", E("neither 00 nor ff", 0), O(1, 3)),
+    row("11.1", "30 03 01 01 7f", E("neither 00 nor ff", 2), O(2, 5)),
+    row("8.3.1", "02 00", E("a number has no octets", 0), E("a number has no octets", 0)),
+    row("8.3.2", "02 02 00 7f", E("first nine bits", 0), E("first nine bits", 0)),
+    row("8.3.2", "02 02 ff 80", E("first nine bits", 0), E("first nine bits", 0)),
     row("8.3.2", "02 02 00 80", O(1, 4), O(1, 4)),
     row("8.3.2", "02 02 ff 7f", O(1, 4), O(1, 4)),
-    row("8.3.1", "22 01 05", E(CONSTRUCTED, 0), O(1, 3)),
+    row("8.3.1", "22 03 02 01 05", E(PRIMITIVE, 0), E(PRIMITIVE, 0)),
     row("8.4", "0a 01 05", O(1, 3), O(1, 3)),
-    row("8.4", "0a 01 80", E("integer negative", 0), E("integer negative", 0)),
-    row("8.4", "0a 02 00 05", E("integer with leading zeroes", 0), O(1, 4)),
-    row("8.4", "0a 09 00 ff ff ff ff ff ff ff ff", O(1, 11), O(1, 11)),
-    row("8.4", "0a 09 01 00 00 00 00 00 00 00 00", E("integer too large", 0), E("integer too large", 0)),
-    row("8.6.2", "03 00", E("invalid length", 0), E("wrong value", 0)),
+    row("8.4", "0a 01 80", O(1, 3), O(1, 3)),
+    row("8.4", "0a 02 00 05", E("first nine bits", 0), E("first nine bits", 0)),
+    row("8.4", "0a 09 01 00 00 00 00 00 00 00 00", O(1, 11), O(1, 11)),
+    row("8.5.9", "09 01 43", O(1, 3), O(1, 3)),
+    row("8.5.9", "09 01 44", E("a special value of a REAL", 0), E("a special value of a REAL", 0)),
+    row("8.6.2", "03 00", E("a BIT STRING has no octets", 0), E("a BIT STRING has no octets", 0)),
     row("11.2.1", "03 02 00 80", O(1, 4), O(1, 4)),
     row("11.2.1", "03 02 07 80", O(1, 4), O(1, 4)),
-    row("11.2.1", "03 02 07 81", E("unused bits not zero", 0), O(1, 4)),
-    row("11.2.1", "03 01 03", E("unused bits not zero", 0), O(1, 3)),
-    row("8.6.2.2", "03 02 08 00", E("invalid value", 0), O(1, 4)),
-    row("10.2", "24 03 04 01 61", E(CONSTRUCTED, 0), O(1, 5)),
+    row("11.2.1", "03 02 07 81", E("an unused bit isn't 0", 0), O(1, 4)),
+    row("8.6.2.3", "03 01 03", E("without bits has unused ones", 0), E("without bits has unused ones", 0)),
+    row("8.6.2.2", "03 02 08 00", E("more than seven bits", 0), E("more than seven bits", 0)),
+    row("10.2", "24 03 04 01 61", E(STRING, 0), O(2, 5)),
     row("8.8.2", "05 00", O(1, 2), O(1, 2)),
-    row("8.8.2", "05 01 00", E("invalid length", 0), O(1, 3)),
+    row("8.8.2", "05 01 00", E("a NULL has octets", 0), E("a NULL has octets", 0)),
+    row("8.18.1", "08 00", E("an EXTERNAL is primitive", 0), E("an EXTERNAL is primitive", 0)),
     row("8.19", "06 03 55 04 03", O(1, 5), O(1, 5)),
-    row("8.19.1", "26 03 55 04 03", E(CONSTRUCTED, 0), E("primitive encoding expected", 0)),
+    row("8.19.1", "26 05 06 03 55 04 03", E(PRIMITIVE, 0), E(PRIMITIVE, 0)),
+    row("8.19.2", "06 00", E("an identifier has no octets", 0), E("an identifier has no octets", 0)),
+    row("8.19.2", "06 03 55 04 83", E("the last arc has no end", 0), E("the last arc has no end", 0)),
+    row("8.19.2", "06 03 80 55 04", E("an arc begins with 80", 0), E("an arc begins with 80", 0)),
     row("8.20", "0d 04 c2 7b 03 02", O(1, 6), O(1, 6)),
     row("8.23", "0c 02 c3 a9", O(1, 4), O(1, 4)),
-    row("8.23", "0c 01 ff", E("invalid character in string", 0), E("invalid character in string", 0)),
-    row("8.23", "12 04 01 02 03 04", E("invalid character in string", 0), E("invalid character in string", 0)),
-    row("8.23", "13 01 2a", E("invalid character in string", 0), E("invalid character in string", 0)),
-    row("8.23", "16 01 80", E("invalid character in string", 0), E("invalid character in string", 0)),
-    row("8.23", "1a 01 0a", E("invalid character in string", 0), E("invalid character in string", 0)),
-    row("8.23.8", "1c 04 00 00 00 41", O(1, 6), O(1, 6)),
-    row("8.23.7", "1e 04 00 4c 00 65", O(1, 6), O(1, 6)),
-    row("8.23.7", "1e 04 d8 00 00 41", E("invalid character in string", 0), E("invalid character in string", 0)),
-    row("8.23.7", "1e 03 00 41 00", E("unsupported", 0), E("unsupported", 0)),
-    // "200101000000Z", "2001010000Z", "201301000000Z"
+    row("8.23.10", "0c 01 ff", E("a UTF8String isn't UTF-8", 0), E("a UTF8String isn't UTF-8", 0)),
+    row("8.23", "12 04 01 02 03 04", E(OUTSIDE, 0), E(OUTSIDE, 0)),
+    row("8.23", "13 01 2a", E(OUTSIDE, 0), E(OUTSIDE, 0)),
+    row("8.23", "16 01 80", E(OUTSIDE, 0), E(OUTSIDE, 0)),
+    row("8.23", "1a 01 0a", E(OUTSIDE, 0), E(OUTSIDE, 0)),
+    row("8.23.5", "14 01 e9", O(1, 3), O(1, 3)),
+    row("8.23.7", "1c 04 00 00 00 41", O(1, 6), O(1, 6)),
+    row("8.23.7", "1c 03 00 00 00", E("groups of four octets", 0), E("groups of four octets", 0)),
+    row("8.23.9", "1e 04 00 4c 00 65", O(1, 6), O(1, 6)),
+    row("8.23.9", "1e 04 d8 00 00 41", O(1, 6), O(1, 6)),
+    row("8.23.9", "1e 03 00 41 00", E("a BMPString isn't pairs", 0), E("a BMPString isn't pairs", 0)),
+    // "200101000000Z", "2001010000Z", "201301000000Z", "161231235960Z"
     row("11.8", "17 0d 32 30 30 31 30 31 30 30 30 30 30 30 5a", O(1, 15), O(1, 15)),
-    row("11.8.2", "17 0b 32 30 30 31 30 31 30 30 30 30 5a", E("missing seconds", 0), O(1, 13)),
-    row("8.25", "17 0d 32 30 31 33 30 31 30 30 30 30 30 30 5a", E(NO_TIME, 0), E(NO_TIME, 0)),
+    row("11.8.2", "17 0b 32 30 30 31 30 31 30 30 30 30 5a", E("a time has no seconds", 0), O(1, 13)),
+    row("8.25", "17 0d 32 30 31 33 30 31 30 30 30 30 30 30 5a", E("isn't a text of its type", 0), E("isn't a text of its type", 0)),
+    row("X.680 47", "17 0d 31 36 31 32 33 31 32 33 35 39 36 30 5a", O(1, 15), O(1, 15)),
     // "200101000000-0000"
-    row("11.8.1", "17 11 32 30 30 31 30 31 30 30 30 30 30 30 2d 30 30 30 30", E("missing time zone", 0), O(1, 19)),
+    row("11.8.1", "17 11 32 30 30 31 30 31 30 30 30 30 30 30 2d 30 30 30 30", E("a time doesn't end in Z", 0), O(1, 19)),
     // "20200101000000.5Z", "20200101000000.0Z", "20200101000000,5Z"
     row("11.7.3", "18 11 32 30 32 30 30 31 30 31 30 30 30 30 30 30 2e 35 5a", O(1, 19), O(1, 19)),
-    row("11.7.3", "18 11 32 30 32 30 30 31 30 31 30 30 30 30 30 30 2e 30 5a", E("fraction not minimal", 0), O(1, 19)),
-    row("11.7.4", "18 11 32 30 32 30 30 31 30 31 30 30 30 30 30 30 2c 35 5a", E("fraction not minimal", 0), O(1, 19)),
+    row("11.7.3", "18 11 32 30 32 30 30 31 30 31 30 30 30 30 30 30 2e 30 5a", E("a fraction ends in 0", 0), O(1, 19)),
+    row("11.7.4", "18 11 32 30 32 30 30 31 30 31 30 30 30 30 30 30 2c 35 5a", E("a fraction has a comma", 0), O(1, 19)),
 ];
 
 fn octets(hex: &str) -> Vec<u8> {
@@ -226,22 +246,27 @@ fn greater_depths_are_taken_as_the_greatest() {
     let deepest = dumarewhi::MAX_DEPTH;
     for rules in [Rules::DER, Rules::BER] {
         let unbounded = rules.with_max_depth(usize::MAX);
-        assert_eq!(unbounded.check(&nested(deepest)).unwrap().elements, deepest);
-        assert!(unbounded.check(&nested(deepest + 1)).is_err());
-        assert_eq!(rules.check(&nested(50)).unwrap().elements, 50);
-        assert!(rules.check(&nested(51)).is_err());
+        for rules in [rules, unbounded] {
+            assert_eq!(rules.check(&nested(deepest)).unwrap().elements, deepest);
+            assert!(rules.check(&nested(deepest + 1)).is_err());
+        }
     }
 }
 
-/// Indefinite lengths nest 49 deep (there is a budget of 50, and each end marker is read within it).
+/// Indefinite lengths are as deep as definite ones. 49 of them are framed inside one another.
 #[test]
 fn indefinite_lengths_are_bounded() {
     let input = |levels: usize| [[0x30, 0x80].repeat(levels), [0, 0].repeat(levels)].concat();
-    assert_eq!(check_ber(&input(49)), Ok(49));
-    assert!(check_ber(&input(50))
-        .unwrap_err()
-        .to_string()
-        .contains("maximum depth reached"));
+    let deepest = dumarewhi::MAX_DEPTH;
+    assert_eq!(check_ber(&input(deepest)), Ok(deepest));
+    let too_deep = check_ber(&input(deepest + 1)).unwrap_err();
+    assert_eq!(
+        too_deep,
+        Error::new(ErrorKind::Malformed(Reason::MAX_DEPTH), 2 * deepest)
+    );
+    assert_eq!(Rules::BER.first_length(&input(49)), Ok(4 * 49));
+    let unframed = Rules::BER.first_length(&input(50)).unwrap_err();
+    assert_eq!(unframed.kind(), ErrorKind::Malformed(Reason::MAX_DEPTH));
 }
 
 #[test]

@@ -1,75 +1,27 @@
-//! The rows of the library's tests, as far as its full readers answer them: `parse_ber`, `parse_der`, these with
-//! `_recursive` and a depth, and the header of an item that they read.
+//! The rows of the library's tests that say what X.690 has of elements: `are_elements` and `is_element` with a depth,
+//! and `refused` with the rules, whose answer is the first fault.
 #![cfg(feature = "std")]
-use dumarewhi::{Class, ErrorKind, Node, Reason, Result, Rules, Tag};
+use dumarewhi::{write_der, ErrorKind, Reason, Result, Rules};
 use std::path::{Path, PathBuf};
 use std::{fs, io};
 
-/// What a row states.
-#[derive(Debug, PartialEq)]
-enum Stated {
-    Ok {
-        elements: usize,
-        length: usize,
-    },
-    Error(Reason),
-    Incomplete {
-        missing: usize,
-    },
-    /// The header of an element that a path leads to.
-    Header(Header),
-}
-
-/// The parts of a header, with the length if that is definite.
-#[derive(Debug, PartialEq)]
-struct Header {
-    tag: Tag,
-    constructed: bool,
-    length: Option<usize>,
-    identifier: Vec<u8>,
-}
-
-/// A call of a full reader, and the path of the item whose header it answers.
-struct Call {
-    rules: Rules,
-    path: Vec<usize>,
-    is_header: bool,
-}
-
-struct Row {
-    call: Call,
-    stated: Stated,
-    octets: Vec<u8>,
-}
-
-/// The errors by their names in rows.
-const REASONS: &[(&str, Reason)] = &[
-    ("BerTypeError", Reason::WRONG_TYPE),
-    ("BerValueError", Reason::WRONG_VALUE),
-    ("BerMaxDepth", Reason::MAX_DEPTH),
-    ("InvalidLength", Reason::INVALID_LENGTH),
-    ("InvalidTag", Reason::INVALID_TAG),
-    ("ConstructExpected", Reason::CONSTRUCTED_EXPECTED),
-    ("ConstructUnexpected", Reason::PRIMITIVE_EXPECTED),
-    ("IntegerTooLarge", Reason::INTEGER_TOO_LARGE),
-    ("IntegerNegative", Reason::INTEGER_NEGATIVE),
-    ("InvalidValue", Reason::INVALID_VALUE),
-    ("StringInvalidCharset", Reason::INVALID_CHARACTER),
-    ("InvalidDateTime", Reason::INVALID_TIME),
-    ("Unsupported", Reason::UNSUPPORTED),
-    ("Incomplete", Reason::OVERRUN),
-    ("IndefiniteLength", Reason::INDEFINITE_LENGTH),
-    ("LengthNotMinimal", Reason::LENGTH_NOT_MINIMAL),
-    ("Constructed", Reason::CONSTRUCTED),
-    ("InvalidBoolean", Reason::INVALID_BOOLEAN),
-    ("IntegerEmpty", Reason::INTEGER_EMPTY),
-    ("IntegerLeadingZeroes", Reason::INTEGER_LEADING_ZEROES),
-    ("IntegerLeadingFF", Reason::INTEGER_LEADING_FF),
-    ("MissingTimeZone", Reason::MISSING_TIME_ZONE),
-    ("MissingSeconds", Reason::MISSING_SECONDS),
-    ("FractionNotMinimal", Reason::FRACTION_NOT_MINIMAL),
-    ("UnusedBitsNotZero", Reason::UNUSED_BITS_NOT_ZERO),
-    ("SetOfOrder", Reason::SET_OUT_OF_ORDER),
+/// The errors whose texts in rows are those of causes, by how these begin.
+const CAUSES: &[(&str, Reason)] = &[
+    ("it ends ", Reason::OVERRUN),
+    ("the tag number isn't in the fewest octets", Reason::INVALID_TAG),
+    ("the first length octet is ff", Reason::INVALID_LENGTH),
+    (
+        "a primitive element has an indefinite length",
+        Reason::CONSTRUCTED_EXPECTED,
+    ),
+    ("a length is indefinite", Reason::INDEFINITE_LENGTH),
+    ("a length isn't in the fewest octets", Reason::LENGTH_NOT_MINIMAL),
+    (
+        "the encoding of this type must be primitive",
+        Reason::PRIMITIVE_EXPECTED,
+    ),
+    ("a string is constructed", Reason::CONSTRUCTED),
+    ("elements are nested more than 100 deep", Reason::MAX_DEPTH),
 ];
 
 /// The files of rows.
@@ -88,167 +40,114 @@ fn files() -> io::Result<Vec<PathBuf>> {
     Ok(files)
 }
 
+/// A call whose answers are compared.
+enum Call {
+    AreElements { depth: usize },
+    IsElement { depth: usize },
+    Refused(Rules),
+}
+
 impl Call {
-    /// The call of these words, if it is one of a full reader.
     fn new(words: &str) -> Option<Call> {
-        let (asked, reader) = match words.split_once(" of ") {
-            Some((asked, reader)) => (Some(asked.strip_prefix("header")?), reader),
-            None => (None, words),
-        };
-        let (name, depth) = reader.split_once(' ').unwrap_or((reader, "50"));
-        let rules = match name.strip_suffix("_recursive").unwrap_or(name) {
-            "parse_ber" => Rules::BER,
-            "parse_der" => Rules::DER,
-            _ => return None,
-        };
-        let places = asked.unwrap_or("").split_whitespace();
-        Some(Call {
-            rules: rules.with_max_depth(depth.parse().unwrap()),
-            path: places.map(|place| place.parse().unwrap()).collect(),
-            is_header: asked.is_some(),
-        })
+        let (name, word) = words.split_once(' ')?;
+        let depth = || word.parse().unwrap();
+        match (name, word) {
+            ("are_elements", _) => Some(Call::AreElements { depth: depth() }),
+            ("is_element", _) => Some(Call::IsElement { depth: depth() }),
+            ("refused", "BER") => Some(Call::Refused(Rules::BER)),
+            ("refused", "DER") => Some(Call::Refused(Rules::DER)),
+            _ => None,
+        }
     }
-}
 
-impl Stated {
-    /// What an answer on so many octets states.
-    fn new(call: &Call, answer: &str, length: usize) -> Stated {
-        let words: Vec<_> = answer.split_whitespace().collect();
-        match words.as_slice() {
-            _ if call.is_header => Stated::Header(Header::new(&words)),
-            ["read", words @ ..] => Stated::read(words, length),
-            ["incomplete", missing] => Stated::Incomplete {
-                missing: missing.parse().unwrap(),
-            },
-            ["refused" | "broken", name, ..] => {
-                let reason = REASONS.iter().find(|(known, _)| known == name);
-                Stated::Error(reason.unwrap_or_else(|| panic!("{answer}")).1)
+    fn compare(&self, octets: &[u8], answer: &str) {
+        match self {
+            Call::AreElements { depth } => {
+                let are = |rules: Rules| check_all(rules.with_max_depth(*depth), octets).is_ok();
+                assert_eq!(answer, rules_named(are));
             }
-            _ => panic!("{answer}"),
-        }
-    }
-
-    /// The words of a value: each that begins with a capital letter is an element, and the octets of the rest are
-    /// behind them.
-    fn read(words: &[&str], length: usize) -> Stated {
-        let end = words.iter().position(|word| *word == "rest");
-        let (value, rest) = words.split_at(end.unwrap_or(words.len()));
-        let is_element = |word: &&&str| word.starts_with(|letter: char| letter.is_ascii_uppercase());
-        let rest = rest.get(1..).unwrap_or(&[]);
-        Stated::Ok {
-            elements: value.iter().filter(is_element).count(),
-            length: length - octets(rest).len(),
-        }
-    }
-}
-
-impl Header {
-    /// The header of these words: class, form, number, length and identifier octets.
-    fn new(words: &[&str]) -> Header {
-        let (class, form, number, length, identifier) = match words {
-            [class, form, number, length, "raw", identifier @ ..] => {
-                (class, form, number, length, identifier)
-            }
-            _ => panic!("{words:?}"),
-        };
-        let class = match *class {
-            "universal" => Class::Universal,
-            "application" => Class::Application,
-            "context-specific" => Class::ContextSpecific,
-            "private" => Class::Private,
-            _ => panic!("{class}"),
-        };
-        assert!(["constructed", "primitive"].contains(form), "{form}");
-        Header {
-            tag: Tag {
-                class,
-                number: number.parse().unwrap(),
-            },
-            constructed: *form == "constructed",
-            length: (*length != "indefinite").then(|| length.parse().unwrap()),
-            identifier: octets(identifier),
-        }
-    }
-}
-
-impl Row {
-    /// How many octets are missing, where a row states a number. If the content of a universal type is cut short, it
-    /// is the whole length by DER, and this crate counts what is missing.
-    fn missing_here(&self, stated: usize) -> usize {
-        match self.octets.as_slice() {
-            [identifier @ 0..=0x3f, first, ..] if self.call.rules.is_der() && identifier & 0x1f != 0x1f => {
-                let header = 2 + if *first < 0x80 {
-                    0
-                } else {
-                    usize::from(first & 0x7f)
+            Call::IsElement { depth } => {
+                let is = |rules: Rules| {
+                    let found = rules.with_max_depth(*depth).check(octets);
+                    found.map_or(false, |found| found.length == octets.len())
                 };
-                stated - self.octets.len().saturating_sub(header)
+                assert_eq!(answer, rules_named(is));
             }
-            _ => stated,
+            Call::Refused(rules) => compare_fault(check_all(*rules, octets), answer),
         }
-    }
-
-    fn expect(&self, result: Result<(usize, usize)>) {
-        match (&self.stated, result.map_err(|error| error.kind())) {
-            (Stated::Ok { elements, length }, Ok(found)) => assert_eq!((*elements, *length), found),
-            (Stated::Header(_), Ok(_)) => (),
-            (Stated::Error(stated), Err(ErrorKind::Malformed(reason))) => {
-                assert_eq!(*stated, reason)
-            }
-            (Stated::Incomplete { missing: stated }, Err(ErrorKind::Incomplete { missing })) => {
-                assert_eq!(self.missing_here(*stated), missing);
-            }
-            (stated, result) => panic!("{stated:?}, and not {result:?}"),
-        }
-    }
-
-    fn expect_header(&self, root: Node<'_, '_>) {
-        if let Stated::Header(header) = &self.stated {
-            let path = self.call.path.iter();
-            let node = path.fold(root, |node, place| node.children().nth(*place).unwrap());
-            assert_eq!(node.tag(), header.tag);
-            assert_eq!(node.is_constructed(), header.constructed);
-            assert!(!header.identifier.is_empty() && node.header().starts_with(&header.identifier));
-            assert_eq!(
-                node.header().get(header.identifier.len()) != Some(&0x80),
-                header.length.is_some()
-            );
-            assert_eq!(
-                header.length.unwrap_or(node.content().len()),
-                node.content().len()
-            );
-        }
-    }
-
-    /// Compares the row with what this crate returns.
-    fn compare(&self) {
-        let checked = self.call.rules.check(&self.octets);
-        self.expect(checked.map(|found| (found.elements, found.length)));
-        let parsed = self.call.rules.parse(&self.octets);
-        if let Ok((_, tree)) = &parsed {
-            self.expect_header(tree.root());
-        }
-        self.expect(parsed.map(|(rest, tree)| (tree.len(), self.octets.len() - rest.len())));
     }
 }
 
-/// The octets that words spell, as `02`, or repeated ones as `30.80*2`.
-fn octets(words: &[&str]) -> Vec<u8> {
+/// Checks elements that follow one another. The offset of an error is that in all octets.
+fn check_all(rules: Rules, octets: &[u8]) -> Result<()> {
+    let mut at = 0;
+    while at < octets.len() {
+        let found = rules.check(&octets[at..]);
+        let found = found.map_err(|error| dumarewhi::Error::new(error.kind(), at + error.offset()))?;
+        at += found.length;
+    }
+    Ok(())
+}
+
+/// By which rules this is so.
+fn rules_named(is_so: impl Fn(Rules) -> bool) -> &'static str {
+    match (is_so(Rules::BER), is_so(Rules::DER)) {
+        (true, true) => "BER and DER",
+        (true, false) => "BER",
+        (false, true) => "DER",
+        (false, false) => "none",
+    }
+}
+
+/// Compares the first fault with `1 at 5, PATH: TEXT`, or with `end` if there is none.
+fn compare_fault(checked: Result<()>, answer: &str) {
+    let (place, text) = match answer.split_once(": ") {
+        Some(stated) => stated,
+        None => return assert_eq!((checked, answer), (Ok(()), "end")),
+    };
+    let error = checked.unwrap_err();
+    let offset = place.split_once(" at ").unwrap().1.split(',').next().unwrap();
+    let reason = match error.kind() {
+        ErrorKind::Malformed(reason) => reason,
+        ErrorKind::Incomplete { missing } => {
+            let stated = text.strip_prefix("the input is cut, at least ").unwrap();
+            return assert_eq!(stated.split_once(' ').unwrap().0.parse(), Ok(missing));
+        }
+        kind => panic!("{kind}"),
+    };
+    assert_eq!(offset.parse(), Ok(error.offset()));
+    match CAUSES.iter().find(|(front, _)| text.starts_with(front)) {
+        Some((_, stated)) => assert_eq!(*stated, reason),
+        None => assert_eq!(text, reason.to_string()),
+    }
+}
+
+/// What is checked as elements is written, and what is DER as it is.
+fn compare_written(octets: &[u8]) {
+    let mut out = vec![0; octets.len()];
+    let written = write_der(octets, &mut out);
+    if check_all(Rules::DER, octets).is_ok() {
+        assert_eq!((written, &out[..]), (Ok(octets.len()), octets));
+    } else if check_all(Rules::BER, octets).is_err() {
+        assert!(written.is_err());
+    }
+}
+
+/// The octets that words spell, as `02`, or repeated ones as `30.80*2`. None if they spell others.
+fn octets(words: &str) -> Option<Vec<u8>> {
     let mut octets = Vec::new();
-    for word in words {
+    for word in words.split_whitespace() {
         let (numbers, count) = word.split_once('*').unwrap_or((word, "1"));
-        for _ in 0..count.parse().unwrap() {
-            octets.extend(
-                numbers
-                    .split('.')
-                    .map(|number| u8::from_str_radix(number, 16).unwrap()),
-            );
-        }
+        let numbers: std::result::Result<Vec<_>, _> = numbers
+            .split('.')
+            .map(|number| u8::from_str_radix(number, 16))
+            .collect();
+        octets.extend(numbers.ok()?.repeat(count.parse().ok()?));
     }
-    octets
+    Some(octets)
 }
 
-/// Compares the rows of a file. Returns how many answers those of full readers were.
+/// Compares the rows of a file. Returns how many answers there were.
 fn compare(file: &Path) -> usize {
     let (mut calls, mut count) = ("", 0);
     let text = fs::read_to_string(file).unwrap();
@@ -262,13 +161,16 @@ fn compare(file: &Path) -> usize {
         }
         let fields: Vec<_> = line.splitn(3, '|').collect();
         assert_eq!(fields.len(), 3, "{}: {line}", file.display());
+        println!("{}: {line}", file.display());
+        let octets = match octets(fields[0]) {
+            Some(octets) => octets,
+            None => continue,
+        };
         for call in calls.split(',').filter_map(|call| Call::new(call.trim())) {
-            println!("{}: {line}", file.display());
-            let octets = octets(&fields[0].split_whitespace().collect::<Vec<_>>());
-            let stated = Stated::new(&call, fields[1], octets.len());
-            Row { call, stated, octets }.compare();
+            call.compare(&octets, fields[1].trim());
             count += 1;
         }
+        compare_written(&octets);
     }
     count
 }

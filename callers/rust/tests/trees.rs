@@ -85,6 +85,8 @@ fn content_of_a_tag_has_the_offsets_of_the_input() {
     // [1] { OCTET STRING that holds SEQUENCE { BOOLEAN } }
     let input = [0xa1, 0x07, 0x04, 0x05, 0x30, 0x03, 0x01, 0x01, 0xff];
     let tree = Tree::parse_der(&input).unwrap();
+    let tags: Vec<_> = tree.nodes().map(|node| node.tag()).collect();
+    assert_eq!(tags, [Tag::context(1), Tag::OCTET_STRING]);
     let octet_string = tree.root().parse_content().unwrap();
     assert_eq!(
         (octet_string.root().tag(), octet_string.root().offset()),
@@ -95,10 +97,10 @@ fn content_of_a_tag_has_the_offsets_of_the_input() {
     assert_eq!((last.as_bool(), last.offset()), (Ok(true), 6));
 }
 
-/// No further input mends an element that runs past its tag's content.
+/// No further input mends an element that runs past the content that it is in.
 #[test]
 fn content_that_is_cut_is_no_incomplete_input() {
-    let input = [0x30, 0x05, 0xa1, 0x03, 0x04, 0x05, 0x30];
+    let input = [0x30, 0x05, 0x04, 0x03, 0x04, 0x05, 0x30];
     let tree = Tree::parse_der(&input).unwrap();
     let error = tree
         .root()
@@ -124,19 +126,21 @@ fn content_with_two_elements_is_no_tree() {
 
 #[test]
 fn errors_inside_a_tag_have_their_place() {
-    let tree = Tree::parse_der(&[0xa1, 0x05, 0x30, 0x03, 0x01, 0x01, 0x07]).unwrap();
-    let error = tree.root().parse_content().unwrap_err();
+    let error = Tree::parse_der(&[0xa1, 0x05, 0x30, 0x03, 0x01, 0x01, 0x07]).unwrap_err();
     assert_eq!(error.offset(), 4);
-    assert!(error.to_string().contains("invalid boolean"));
+    assert!(error.to_string().contains("a BOOLEAN is neither 00 nor ff"));
 }
 
-/// The depth of what is in a tag is less than that around it.
+/// The depth of what is in a tag, or held by a string, is less than that around it.
 #[test]
 fn tags_count_as_depth() {
-    let input = [0xa1, 0x02, 0x30, 0x00];
-    let (_, tree) = Rules::DER.with_max_depth(1).parse(&input).unwrap();
+    let tagged = [0xa1, 0x02, 0x30, 0x00];
+    assert!(Rules::DER.with_max_depth(1).parse(&tagged).is_err());
+    assert!(Rules::DER.with_max_depth(2).parse(&tagged).is_ok());
+    let held = [0x04, 0x02, 0x30, 0x00];
+    let (_, tree) = Rules::DER.with_max_depth(1).parse(&held).unwrap();
     assert!(tree.root().parse_content().is_err());
-    let (_, tree) = Rules::DER.with_max_depth(2).parse(&input).unwrap();
+    let (_, tree) = Rules::DER.with_max_depth(2).parse(&held).unwrap();
     assert!(tree.root().parse_content().is_ok());
 }
 

@@ -1,5 +1,5 @@
 //! Values of elements. Expected ones are from X.690, X.680 and RFC 5280, or are arithmetic.
-use dumarewhi::{Any, ErrorKind, ObjectIdentifier, Tag, Zone};
+use dumarewhi::{Any, ErrorKind, ObjectIdentifier, Reason, Tag, Zone};
 use std::fmt::Write;
 
 /// A primitive element of a universal type.
@@ -35,16 +35,16 @@ fn integers() {
     }
 }
 
-/// BER allows padding, and this profile an empty INTEGER.
+/// X.690 8.3.1 and 8.3.2, by BER too: one octet at least, and the fewest.
 #[test]
 fn padded_integers() {
-    let read = |content: &[u8]| Any::from_ber(&element(2, content)).unwrap().as_i64().unwrap();
-    assert_eq!(read(&[0, 0, 0, 0, 0, 0, 0, 0, 0, 0, 5]), 5);
+    let reason = |content: &[u8]| Any::from_ber(&element(2, content)).unwrap_err().kind();
+    assert_eq!(reason(&[0, 5]), ErrorKind::Malformed(Reason::NUMBER_PADDED));
     assert_eq!(
-        read(&[255, 255, 255, 255, 255, 255, 255, 255, 255, 255, 0x7f]),
-        -129
+        reason(&[255, 255, 0x7f]),
+        ErrorKind::Malformed(Reason::NUMBER_PADDED)
     );
-    assert_eq!(read(&[]), 0);
+    assert_eq!(reason(&[]), ErrorKind::Malformed(Reason::NUMBER_EMPTY));
 }
 
 #[test]
@@ -130,8 +130,8 @@ fn identifiers_that_are_cut_have_no_text() {
     assert!(ObjectIdentifier::from_content(&content).is_err());
     content[1] = 0x83;
     assert!(ObjectIdentifier::from_content(&content).is_ok());
-    let any = Any::from_der(&[6, 2, 0x55, 0x84]).unwrap();
-    assert!(matches!(any.as_oid().unwrap_err().kind(), ErrorKind::Value(_)));
+    let error = Any::from_der(&[6, 2, 0x55, 0x84]).unwrap_err();
+    assert_eq!(error.kind(), ErrorKind::Malformed(Reason::ARC_OPEN));
 }
 
 #[test]
@@ -182,12 +182,27 @@ fn bit_strings() {
     assert_eq!(empty.as_bytes(), Some(&[][..]));
 }
 
+/// X.690 8.6.2, by BER too.
 #[test]
 fn bit_strings_with_wrong_counts() {
-    for input in [&[3, 2, 8, 0][..], &[3, 1, 1], &[3, 2, 255, 0]] {
-        let error = Any::from_ber(input).unwrap().as_bit_string().unwrap_err();
-        assert_eq!(error.kind(), ErrorKind::UnusedBits, "{input:?}");
+    let rows: &[(&[u8], Reason)] = &[
+        (&[3, 2, 8, 0], Reason::UNUSED_BITS_ABOVE_SEVEN),
+        (&[3, 2, 255, 0], Reason::UNUSED_BITS_ABOVE_SEVEN),
+        (&[3, 1, 1], Reason::UNUSED_BITS_OF_NONE),
+        (&[3, 0], Reason::UNUSED_BITS_MISSING),
+    ];
+    for (input, reason) in rows {
+        let error = Any::from_ber(input).unwrap_err();
+        assert_eq!(error.kind(), ErrorKind::Malformed(*reason), "{input:?}");
     }
+}
+
+/// X.690 8.23.5: the octets of a TeletexString needn't be UTF-8, and then they are no `&str`.
+#[test]
+fn texts_that_are_not_utf8() {
+    let any = Any::from_der(&[20, 1, 0xe9]).unwrap();
+    assert!(matches!(any.as_str().unwrap_err().kind(), ErrorKind::Value(_)));
+    assert_eq!(any.content(), [0xe9]);
 }
 
 #[test]

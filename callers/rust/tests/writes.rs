@@ -30,13 +30,14 @@ fn errors_have_their_place_in_the_input() {
     assert_eq!(error.offset(), 4);
     assert_eq!(
         error.to_string(),
-        "DER constraint failed: missing seconds at offset 4"
+        "a time has no seconds (X.690 11.7.2, 11.8.2) at offset 4"
     );
     // An INTEGER as a part of an OCTET STRING (8.7.3.2).
     let error = write_der(&[0x24, 0x80, 2, 1, 5, 0, 0], &mut [0; 32]).unwrap_err();
     assert_eq!(
         error.to_string(),
-        "part of a constructed string has another type at offset 2"
+        "a part of a constructed string isn't an OCTET STRING, or of a BIT STRING no BIT STRING \
+         (X.690 8.6.4 and 8.7.3) at offset 2"
     );
     let error = write_der(&SMITH[..5], &mut [0; 32]).unwrap_err();
     assert_eq!(error, Error::new(ErrorKind::Incomplete { missing: 4 }, 5));

@@ -54,46 +54,46 @@ abbrev pub number_of_result : {V : Type 0} → Result V BerError → ℕ
 number_of_result (Ok v) = 0
 number_of_result (Err e) = refusal_number (refusal e)
 
--- of a rule that content octets break: that of the nearest error of a reader
+-- of a rule that content octets break
 abbrev pub content_number : ContentError → ℕ
-content_number contents.BooleanLength = 4
-content_number contents.BooleanValue = 35
-content_number contents.NumberEmpty = 4
-content_number contents.NumberPadded = 2
-content_number contents.UnusedBitsMissing = 4
-content_number contents.UnusedBitsAboveSeven = 13
-content_number contents.UnusedBitsOfNone = 13
-content_number contents.UnusedBitsNotZero = 42
-content_number contents.NullNotEmpty = 4
-content_number contents.IdentifierEmpty = 2
-content_number contents.ArcOpen = 2
-content_number contents.ArcPadded = 2
-content_number contents.RealBaseReserved = 2
-content_number contents.RealExponentMissing = 2
-content_number contents.RealMantissaMissing = 2
-content_number contents.RealExponentPadded = 2
-content_number contents.RealBaseOrScale = 2
-content_number contents.RealExponentNotFewest = 2
-content_number contents.RealMantissaNotFewest = 2
-content_number contents.RealSpecial = 2
-content_number contents.RealDecimal = 2
-content_number contents.RealDecimalNotStrict = 2
-content_number contents.NotUtf8 = 14
-content_number contents.CharacterOutside = 14
-content_number contents.UniversalStringLength = 4
-content_number contents.BmpStringLength = 4
-content_number contents.TimeText = 15
-content_number contents.TimeNotInZ = 39
-content_number contents.TimeWithoutSeconds = 40
-content_number contents.TimeComma = 41
-content_number contents.TimeLastZero = 41
-content_number contents.SequencePrimitive = 9
-content_number contents.SetPrimitive = 9
-content_number contents.EmbeddedPdvPrimitive = 9
-content_number contents.ExternalPrimitive = 9
-content_number contents.CharacterStringPrimitive = 9
+content_number contents.BooleanLength = 64
+content_number contents.BooleanValue = 65
+content_number contents.NumberEmpty = 66
+content_number contents.NumberPadded = 67
+content_number contents.UnusedBitsMissing = 68
+content_number contents.UnusedBitsAboveSeven = 69
+content_number contents.UnusedBitsOfNone = 70
+content_number contents.UnusedBitsNotZero = 71
+content_number contents.NullNotEmpty = 72
+content_number contents.IdentifierEmpty = 73
+content_number contents.ArcOpen = 74
+content_number contents.ArcPadded = 75
+content_number contents.RealBaseReserved = 76
+content_number contents.RealExponentMissing = 77
+content_number contents.RealMantissaMissing = 78
+content_number contents.RealExponentPadded = 79
+content_number contents.RealBaseOrScale = 80
+content_number contents.RealExponentNotFewest = 81
+content_number contents.RealMantissaNotFewest = 82
+content_number contents.RealSpecial = 83
+content_number contents.RealDecimal = 84
+content_number contents.RealDecimalNotStrict = 85
+content_number contents.NotUtf8 = 86
+content_number contents.CharacterOutside = 87
+content_number contents.UniversalStringLength = 88
+content_number contents.BmpStringLength = 89
+content_number contents.TimeText = 90
+content_number contents.TimeNotInZ = 91
+content_number contents.TimeWithoutSeconds = 92
+content_number contents.TimeComma = 93
+content_number contents.TimeLastZero = 94
+content_number contents.SequencePrimitive = 95
+content_number contents.SetPrimitive = 96
+content_number contents.EmbeddedPdvPrimitive = 97
+content_number contents.ExternalPrimitive = 98
+content_number contents.CharacterStringPrimitive = 99
 
--- Of the cause why elements aren't written. An input that is cut short is no error.
+-- Of the cause of a fault. An input that is cut short is no error.
 abbrev pub cause_number : Cause → ℕ
 cause_number (causes.Cut n) = 0
 cause_number (causes.PastEnd n) = 17

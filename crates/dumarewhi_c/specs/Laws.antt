@@ -1,16 +1,15 @@
 -- Statements of the laws in `src/laws.rt`.
 use Rattle.std.specs.Prelude.{◌≡◌, ℕ, ◌^◌, ◌<◌, ◌≤◌, IsTrue, List, length, take, All, Result}
+use Rattle.der_base.specs.declared.rules.Rules.{Rules}
 use Rattle.der_base.specs.Leaf.{IsDerLeaf}
 use Rattle.der_base.specs.Tree.{time}
-use Rattle.der_nodes.specs.NodesReading.{KeepsBerNodes, KeepsDerNodes}
 use Rattle.der_writer.specs.declared.writer.WriteError.{WriteError}
 use Rattle.der_writer.specs.Written.{Puts, Returns, StartsAt, Wrote}
 use Rattle.dumarewhi_c.specs.declared.element.DmElement.{DmElement}
 use Rattle.dumarewhi_c.specs.declared.outcome.DmOutcome.{DmOutcome}
-use Rattle.dumarewhi_c.specs.Elements.{slot_of}
 use Rattle.dumarewhi_c.specs.declared.state.DmWriter.{DmWriter}
 use Rattle.dumarewhi_c.specs.declared.time.DmTime.{DmTime}
-use Rattle.dumarewhi_c.specs.Outcomes.{FindsBer, FindsDer}
+use Rattle.dumarewhi_c.specs.Outcomes.{FindsBer, FindsDer, Lists}
 use Rattle.dumarewhi_c.specs.Tested.{has_time, time_of}
 use Rattle.dumarewhi_c.specs.Writers.{writer_of}
 
@@ -18,14 +17,10 @@ use Rattle.dumarewhi_c.specs.Writers.{writer_of}
 abbrev pub IsWithin : ℕ → DmElement → Type 0
 IsWithin n e = (e.header ≤ e.content) × (e.content ≤ e.end) × (e.end ≤ n)
 
--- each element that was written is
-abbrev pub DerElementsLieWithin : Type 0
-DerElementsLieWithin = (d : ℕ) (i rest : List ℕ) (n : ℕ) (old new : List DmElement)
-    → KeepsDerNodes slot_of d i rest n old new → All (IsWithin (length i)) (take n new)
-
-abbrev pub BerElementsLieWithin : Type 0
-BerElementsLieWithin = (d : ℕ) (i rest : List ℕ) (n : ℕ) (old new : List DmElement)
-    → KeepsBerNodes slot_of d i rest n old new → All (IsWithin (length i)) (take n new)
+-- each element that a call lists is
+abbrev pub ElementsLieWithin : Type 0
+ElementsLieWithin = (r : Rules) (d : ℕ) (i : List ℕ) (old new : List DmElement) (o : DmOutcome)
+    → Lists r d i old new o → o.status ≡ 0 → All (IsWithin (length i)) (take o.elements new)
 
 -- so is the first one
 abbrev pub FirstLiesWithin : (List ℕ → DmElement → DmElement → DmOutcome → Type 0) → Type 0

@@ -1,5 +1,5 @@
 -- What a reader of elements returns to C.
-use Rattle.std.specs.Prelude.{◌≡◌, ℕ, ◌-◌, nat_le, if◌then◌else◌, List, length, Result, Ok, Err, IfErr}
+use Rattle.std.specs.Prelude.{◌≡◌, ℕ, ◌-◌, nat_le, if◌then◌else◌, List, [], length, Result, Ok, Err, IfErr}
 use Rattle.std.specs.Prelude.{MatchResult}
 use Rattle.der_base.specs.declared.any.Any.{Any}
 use Rattle.der_base.specs.declared.error.Err.{Err as Refused}
@@ -7,16 +7,19 @@ use Rattle.der_base.specs.declared.error.Err.TheVariants.{Incomplete, Error, Fai
 use Rattle.der_base.specs.declared.error.Error.{Error as BerError}
 use Rattle.der_base.specs.declared.error.Needed.TheVariants.{Unknown, Size}
 use Rattle.der_base.specs.declared.header.Header.{Header}
-use Rattle.der_base.specs.declared.rules.Rules.TheVariants.{Ber, Der}
+use Rattle.der_base.specs.declared.rules.Rules.{Rules}
 use Rattle.der_base.specs.Any.{AnyAnswer, AnswersAny, AnswersDerAny}
 use Rattle.der_base.specs.Headers.{ReadsDerHeader, ReadsHeader}
 use Rattle.der_base.specs.Refusal.{refusal}
 use Rattle.der_canon.specs.declared.error.NotCanonical.{NotCanonical}
 use Rattle.der_canon.specs.Errors.{IsErrorOf}
 use Rattle.der_canon.specs.Written.{KeepsDer, WritesDer}
-use Rattle.der_nodes.specs.NodesReading.{AnswersNodes, IsPlaced, PlacedResult, ReadsNodes, unplaced}
+use Rattle.der_check.specs.Listing.{ListsElement}
+use Rattle.der_check.specs.Readers.{BeginsWithElement}
 use Rattle.der_walk.specs.declared.cause.Cause.{Cause}
 use Rattle.der_walk.specs.declared.cause.Cause.TheVariants.{Cut}
+use Rattle.der_walk.specs.declared.refusal.Refusal.{Refusal}
+use Rattle.der_walk.specs.FirstFault.{IsFirstFaultOf}
 use Rattle.dumarewhi_c.specs.declared.element.DmElement.{DmElement}
 use Rattle.dumarewhi_c.specs.declared.outcome.DmOutcome.{DmOutcome}
 use Rattle.dumarewhi_c.specs.Elements.{first_slot, slot_of}
@@ -42,29 +45,26 @@ refused_outcome (Incomplete Unknown) at = error_outcome 0 at
 refused_outcome (Failure e) at = error_outcome 0 at
 refused_outcome OutOfMemory at = error_outcome 0 at
 
--- the outcome of a reader of elements, where the input has n octets
-abbrev pub outcome_of : ℕ → PlacedResult → DmOutcome
-outcome_of n (Ok x) = read_outcome x.1 (n - length x.0.now)
-outcome_of n (Err e) = refused_outcome e.error e.offset
+-- of a fault: of its cause, and the offset of the element that shows it
+abbrev pub fault_outcome : Cause → ℕ → DmOutcome
+fault_outcome (Cut n) at = incomplete_outcome n
+fault_outcome cause at = error_outcome (cause_number cause) at
 
--- The outcome is that of a result which is exactly what i shows by DER, to depth d, and an Error has its place.
-abbrev pub ChecksDer : ℕ → List ℕ → DmOutcome → Type 0
-ChecksDer d i o = (found : PlacedResult) × AnswersNodes Der d i (unplaced found) × IfErr found (IsPlaced Der d i)
-    × (o ≡ outcome_of (length i) found)
+-- Elements are read to this depth at most. It counts an element and those around it.
+abbrev pub greatest_depth : ℕ
+greatest_depth = 101
 
--- And where it is Ok, the buffer keeps the elements, as far as there is room.
-abbrev pub ListsDer : ℕ → List ℕ → List DmElement → List DmElement → DmOutcome → Type 0
-ListsDer d i old new o = (found : PlacedResult) × ReadsNodes Der slot_of d i found old new
-    × (o ≡ outcome_of (length i) found)
+-- By the rules and to this depth, i begins with an element: the outcome counts it and those inside it, and the buffer
+-- keeps them in preorder, as far as there is room. Or i begins with none, and the outcome is that of its first fault.
+pub data Lists (r : Rules) (d : ℕ) (i : List ℕ) (old new : List DmElement) (o : DmOutcome) : Type 0 where
+  read : (rest : List ℕ) (n : ℕ) → ListsElement r slot_of d i rest n old new
+      → o ≡ read_outcome n (length i - length rest) → Lists r d i old new o
+  refused : (f : Refusal) → ((rest : List ℕ) → ¬ BeginsWithElement r d i rest) → IsFirstFaultOf r d i f
+      → o ≡ fault_outcome f.cause f.offset → Lists r d i old new o
 
--- The same by BER.
-abbrev pub ChecksBer : ℕ → List ℕ → DmOutcome → Type 0
-ChecksBer d i o = (found : PlacedResult) × AnswersNodes Ber d i (unplaced found) × IfErr found (IsPlaced Ber d i)
-    × (o ≡ outcome_of (length i) found)
-
-abbrev pub ListsBer : ℕ → List ℕ → List DmElement → List DmElement → DmOutcome → Type 0
-ListsBer d i old new o = (found : PlacedResult) × ReadsNodes Ber slot_of d i found old new
-    × (o ≡ outcome_of (length i) found)
+-- the same where there is no room
+abbrev pub Checks : Rules → ℕ → List ℕ → DmOutcome → Type 0
+Checks r d i o = (new : List DmElement) × Lists r d i [] new o
 
 -- The outcome is that of the first element, of which only the header is read, and by BER the framing.
 abbrev pub outcome_of_first : ℕ → AnyAnswer → DmOutcome
@@ -89,15 +89,10 @@ FindsBer i old new o = (found : AnyAnswer) × AnswersAny i found × (o ≡ outco
 abbrev pub no_room_outcome : ℕ → DmOutcome
 no_room_outcome size = record { elements = 0; length = size; place = 0; missing = 0; status = 3; error = 0 }
 
--- an input that is cut short, or an error of this cause at a place
-abbrev pub unwritten_outcome : Cause → ℕ → DmOutcome
-unwritten_outcome (Cut n) at = incomplete_outcome n
-unwritten_outcome cause at = error_outcome (cause_number cause) at
-
 -- the outcome of elements that were written to a buffer with room for so many octets
 abbrev pub outcome_of_written : ℕ → Result ℕ NotCanonical → DmOutcome
 outcome_of_written room (Ok n) = if nat_le n room then read_outcome 0 n else no_room_outcome n
-outcome_of_written room (Err e) = unwritten_outcome e.cause e.offset
+outcome_of_written room (Err e) = fault_outcome e.cause e.offset
 
 -- If there is room for what is written, it is the input as DER writes it. What is DER already is written as it is, as
 -- far as there is room. An error is the first fault of the input, where it has one.

@@ -1,12 +1,11 @@
 //! Laws of what C sees. Each function's contract is a law, and its body is empty.
-ghost use Rattle.dumarewhi_c.specs.Laws.{BerElementsLieWithin, BerFirstLiesWithin};
-ghost use Rattle.dumarewhi_c.specs.Laws.{DerElementsLieWithin, DerFirstLiesWithin, FinishedIsWritten, TimesAreDer};
+ghost use Rattle.dumarewhi_c.specs.Laws.{BerFirstLiesWithin, DerFirstLiesWithin};
+ghost use Rattle.dumarewhi_c.specs.Laws.{ElementsLieWithin, FinishedIsWritten, TimesAreDer};
 
 /// The offsets of the elements that a call writes are within the input: the header begins no later than
 /// the content, this begins no later than it ends, and it ends within the input.
 pub fn elements_lie_within()
-    ensures der { DerElementsLieWithin }
-    ensures ber { BerElementsLieWithin }
+    ensures { ElementsLieWithin }
 {}
 
 /// So is the first element that a call writes.

@@ -4,6 +4,7 @@
 
 mod close;
 pub mod element;
+pub mod error_text;
 mod errors;
 pub mod fields;
 pub mod laws;

@@ -1,16 +1,14 @@
 //! Outcomes of readers as C sees them.
 ghost use Rattle.std.specs.Prelude.{◌≡◌, ◌≤◌, IfOk, MatchResult, length as length_of};
 ghost use Rattle.dumarewhi_c.specs.Elements.{kept_slot};
-ghost use Rattle.dumarewhi_c.specs.Outcomes.{error_outcome, incomplete_outcome, no_room_outcome, outcome_of};
+ghost use Rattle.dumarewhi_c.specs.Outcomes.{error_outcome, fault_outcome, incomplete_outcome, no_room_outcome};
 ghost use Rattle.dumarewhi_c.specs.Outcomes.{outcome_of_first, outcome_of_written, read_outcome, refused_outcome};
-ghost use Rattle.dumarewhi_c.specs.Outcomes.{unwritten_outcome};
 
 use crate::element::{DmElement, first_element};
 use crate::errors::{cause_number, refusal_number};
 use der_base::any::Any;
 use der_base::error::{BerError, Err, IResult, Needed};
 use der_canon::NotCanonical;
-use der_nodes::{PlacedError, PlacedResult};
 use der_walk::Cause;
 
 /// What a reader of elements found. Fields that the status does not name are 0.
@@ -23,7 +21,7 @@ pub struct DmOutcome {
     pub length: usize,
     /// Status 1: where the innermost element begins that shows the error.
     pub place: usize,
-    /// Status 2: how many octets are missing.
+    /// Status 2: how many octets are missing, as far as the input shows.
     pub missing: usize,
     /// 0 if the input begins with an element, 1 for an error, 2 if the input is cut short, 3 if the buffer
     /// that elements are written to has less room than they need.
@@ -33,7 +31,7 @@ pub struct DmOutcome {
 }
 
 /// The outcome of so many elements in so many octets.
-fn read_outcome(elements: usize, length: usize) -> DmOutcome
+pub(crate) fn read_outcome(elements: usize, length: usize) -> DmOutcome
     ensures { result ≡ read_outcome elements length }
 {
     DmOutcome {
@@ -102,14 +100,13 @@ fn no_room_outcome(length: usize) -> DmOutcome
     }
 }
 
-/// The outcome of what a reader of elements found in an input of this size.
-pub(crate) fn outcome_of(size: usize, found: PlacedResult<'_>) -> DmOutcome
-    requires { IfOk found (λ x. length_of x.0.now ≤ size) }
-    ensures { result ≡ outcome_of size found.entry }
+/// The outcome of a fault: of its cause, and the offset of the element that shows it.
+pub(crate) fn fault_outcome(cause: Cause, offset: usize) -> DmOutcome
+    ensures { result ≡ fault_outcome cause offset }
 {
-    match found {
-        Ok((rest, elements)) => read_outcome(elements, size - rest.len()),
-        Err(PlacedError { error, offset }) => refused_outcome(error, offset),
+    match cause {
+        Cause::Cut(missing) => incomplete_outcome(missing),
+        _ => error_outcome(cause_number(cause), offset),
     }
 }
 
@@ -140,16 +137,6 @@ pub(crate) fn outcome_of_written(room: usize, found: Result<usize, NotCanonical>
     match found {
         Ok(length) if length <= room => read_outcome(0, length),
         Ok(length) => no_room_outcome(length),
-        Err(refused) => unwritten_outcome(refused.cause, refused.offset),
-    }
-}
-
-/// The outcome of elements that aren't written.
-fn unwritten_outcome(cause: Cause, place: usize) -> DmOutcome
-    ensures { result ≡ unwritten_outcome cause place }
-{
-    match cause {
-        Cause::Cut(missing) => incomplete_outcome(missing),
-        _ => error_outcome(cause_number(cause), place),
+        Err(refused) => fault_outcome(refused.cause, refused.offset),
     }
 }

@@ -1,17 +1,34 @@
 //! Elements of an input, by DER and by BER.
 ghost use Rattle.std.specs.Prelude.{◌≡◌, min};
-ghost use Rattle.dumarewhi_c.specs.Outcomes.{ChecksBer, ChecksDer, FindsBer, FindsDer, ListsBer, ListsDer};
+ghost use Rattle.der_base.specs.declared.rules.Rules.TheVariants.{Ber, Der};
+ghost use Rattle.dumarewhi_c.specs.Outcomes.{Checks, FindsBer, FindsDer, Lists, greatest_depth};
 
 use crate::element::DmElement;
-use crate::outcome::{DmOutcome, outcome_of, outcome_of_first};
+use crate::outcome::{DmOutcome, fault_outcome, outcome_of_first, read_outcome};
 use der_base::any::Any;
-use der_nodes::{parse_ber_nodes_into, parse_der_nodes_into};
+use der_base::rules::Rules;
+use der_check::list_element;
+use der_walk::{MAX_DEPTH, first_fault};
 
-/// Lists are read to this depth at most, since each level takes a frame of the stack.
-const GREATEST_DEPTH: usize = 250;
+/// Elements are read to this depth at most. It counts an element and those around it.
+const GREATEST_DEPTH: usize = MAX_DEPTH + 1;
 
-/// Reads an element by DER, and writes it and those inside it to the buffer, as far as there is room.
-/// Returns the outcome's status.
+/// Reads the element at the start of an input, and writes it and those inside it to the buffer, as far as there is
+/// room. If there is none, the outcome is that of the first fault.
+fn list(input: &[u8], rules: Rules, max_depth: usize, elements: &mut [DmElement]) -> DmOutcome
+    ensures { Lists rules (min max_depth greatest_depth) input.now elements.old elements.new result }
+{
+    let depth = max_depth.min(GREATEST_DEPTH);
+    match list_element(input, rules, depth, elements) {
+        Some(listed) => read_outcome(listed.elements, input.len() - listed.rest.len()),
+        None => {
+            let fault = first_fault(input, rules, depth);
+            fault_outcome(fault.cause, fault.offset)
+        }
+    }
+}
+
+/// Lists the first element by DER. Returns the outcome's status.
 #[unsafe(no_mangle)]
 pub extern "C" fn dm_parse_der(
     input: &[u8],
@@ -19,11 +36,10 @@ pub extern "C" fn dm_parse_der(
     elements: &mut [DmElement],
     outcome: &mut DmOutcome,
 ) -> u32
-    ensures exactly { ListsDer (min max_depth 250) input.now elements.old elements.new outcome.new }
+    ensures exactly { Lists Der (min max_depth greatest_depth) input.now elements.old elements.new outcome.new }
     ensures status { result ≡ outcome.new.status }
 {
-    let found = parse_der_nodes_into(input, max_depth.min(GREATEST_DEPTH), elements);
-    *outcome = outcome_of(input.len(), found);
+    *outcome = list(input, Rules::Der, max_depth, elements);
     outcome.status
 }
 
@@ -35,35 +51,30 @@ pub extern "C" fn dm_parse_ber(
     elements: &mut [DmElement],
     outcome: &mut DmOutcome,
 ) -> u32
-    ensures exactly { ListsBer (min max_depth 250) input.now elements.old elements.new outcome.new }
+    ensures exactly { Lists Ber (min max_depth greatest_depth) input.now elements.old elements.new outcome.new }
     ensures status { result ≡ outcome.new.status }
 {
-    let found = parse_ber_nodes_into(input, max_depth.min(GREATEST_DEPTH), elements);
-    *outcome = outcome_of(input.len(), found);
+    *outcome = list(input, Rules::Ber, max_depth, elements);
     outcome.status
 }
 
-/// Reads an element by DER, and writes none. Returns the outcome's status.
+/// Reads the first element by DER, and writes none. Returns the outcome's status.
 #[unsafe(no_mangle)]
 pub extern "C" fn dm_check_der(input: &[u8], max_depth: usize, outcome: &mut DmOutcome) -> u32
-    ensures exactly { ChecksDer (min max_depth 250) input.now outcome.new }
+    ensures exactly { Checks Der (min max_depth greatest_depth) input.now outcome.new }
     ensures status { result ≡ outcome.new.status }
 {
-    let none: &mut [DmElement] = &mut [];
-    let found = parse_der_nodes_into(input, max_depth.min(GREATEST_DEPTH), none);
-    *outcome = outcome_of(input.len(), found);
+    *outcome = list(input, Rules::Der, max_depth, &mut []);
     outcome.status
 }
 
 /// The same by BER.
 #[unsafe(no_mangle)]
 pub extern "C" fn dm_check_ber(input: &[u8], max_depth: usize, outcome: &mut DmOutcome) -> u32
-    ensures exactly { ChecksBer (min max_depth 250) input.now outcome.new }
+    ensures exactly { Checks Ber (min max_depth greatest_depth) input.now outcome.new }
     ensures status { result ≡ outcome.new.status }
 {
-    let none: &mut [DmElement] = &mut [];
-    let found = parse_ber_nodes_into(input, max_depth.min(GREATEST_DEPTH), none);
-    *outcome = outcome_of(input.len(), found);
+    *outcome = list(input, Rules::Ber, max_depth, &mut []);
     outcome.status
 }
 

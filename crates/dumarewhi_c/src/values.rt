@@ -13,8 +13,8 @@ ghost use Rattle.dumarewhi_c.specs.Texts.{PutsText, ReturnsText};
 ghost use Rattle.dumarewhi_c.specs.Values.{AnswersBoolean, AnswersText, AnswersTime, Returns, written};
 
 use crate::element::bit;
-use crate::errors::{error_text, number_of_result, refusal_number};
-use crate::text::{put_arcs, put_text};
+use crate::errors::{number_of_result, refusal_number};
+use crate::text::put_arcs;
 use crate::time::{DmTime, read_fields};
 use der_base::error::BerError;
 use der_base::header::Tag;
@@ -138,12 +138,4 @@ pub extern "C" fn dm_read_time(number: u32, content: &[u8], time: &mut DmTime) -
     ensures { Returns (AnswersTime number content.now) time.old time.new result }
 {
     write(read_fields(Tag(number), content), time)
-}
-
-/// Writes the text of an error. Returns its length.
-#[unsafe(no_mangle)]
-pub extern "C" fn dm_error_text(error: u32, text: &mut [u8]) -> usize
-    ensures { (words : List ℕ) × PutsText text.old 0 words text.new result }
-{
-    put_text(text, 0, error_text(error))
 }
