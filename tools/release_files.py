@@ -32,15 +32,14 @@ def tar_gz(folder, files, seconds):
 
 
 def write_files(folder, files):
-    """Writes the files to an empty folder."""
+    """Writes the files to an empty folder. For a link it has a copy: `rt ci` takes no links in the repository."""
     for path, file in sorted(files.items()):
         at = folder / path
+        while file.target:
+            file = files[f"{path.rpartition('/')[0]}/{file.target}"]
         at.parent.mkdir(parents=True, exist_ok=True)
-        if file.target:
-            at.symlink_to(file.target)
-        else:
-            at.write_bytes(file.octets)
-            at.chmod(file.mode)
+        at.write_bytes(file.octets)
+        at.chmod(file.mode)
 
 
 def sums_of(files):
