@@ -50,14 +50,13 @@ class Reader:
         max_depth: How many elements may be one inside another, at most 250.
     """
 
-    __slots__ = ("_nodes", "_next", "_begin", "_end", "_last")
+    __slots__ = ("_nodes", "_next", "_outer", "_last")
 
     _nodes: Iterator[Node]
     # The next element, if it has been looked at.
     _next: Optional[Node]
-    # Where the elements begin, and end.
-    _begin: int
-    _end: int
+    # The element that they are inside, if there is one.
+    _outer: Optional[Node]
     # The element that was read last.
     _last: Optional[Node]
 
@@ -66,9 +65,7 @@ class Reader:
             raise ValueError(f"the rules are 'der' or 'ber', and not {rules!r}")
         source = Source(data)
         self._nodes = _Outermost(source, rules, _depth(max_depth))
-        self._next = self._last = None
-        self._begin = 0
-        self._end = source.length
+        self._next = self._outer = self._last = None
 
     @classmethod
     def _inside(cls, node: Node) -> Reader:
@@ -78,14 +75,15 @@ class Reader:
         reader = cls.__new__(cls)
         reader._nodes = iter(node.children)
         reader._next = reader._last = None
-        reader._begin = node.content_offset
-        reader._end = node.content_end
+        reader._outer = node
         return reader
 
     @property
     def offset(self) -> int:
         """Where the next element begins, in octets from the start of the outermost input."""
-        return self._begin if self._last is None else self._last.end
+        if self._last is not None:
+            return self._last.end
+        return 0 if self._outer is None else self._outer.content_offset
 
     @property
     def at_end(self) -> bool:
@@ -98,7 +96,10 @@ class Reader:
         >>> numbers
         [5, 7]
         """
-        return self.offset >= self._end
+        if self._next is not None:
+            return False
+        nodes = self._nodes
+        return nodes.at_end if isinstance(nodes, _Outermost) else self._look() is None
 
     def end(self) -> None:
         """Raises an error unless all elements are read."""
@@ -256,7 +257,7 @@ class Reader:
         """Reads a value. The element has this tag, unless ``read`` looks at it."""
         node = self._must() if key is None else self._expect(key)
         value = read(node)
-        self._take(node)
+        self._last, self._next = node, None
         return value
 
     def _open(self, key: int) -> Reader:
@@ -272,10 +273,10 @@ class Reader:
 
     def _must(self) -> Node:
         """The next element, which stays the next one."""
-        node = self._look()
+        node = self._next or self._look()
         if node is not None:
             return node
-        if isinstance(self._nodes, _Outermost):
+        if self._outer is None:
             raise Incomplete(1, self.offset)
         raise DerError("an element is missing", self.offset)
 
@@ -302,6 +303,10 @@ class _Outermost:
         self._rules = rules
         self._max_depth = max_depth
         self._begin = 0
+
+    @property
+    def at_end(self) -> bool:
+        return self._begin == self._source.length
 
     def __iter__(self) -> _Outermost:
         return self

@@ -314,7 +314,8 @@ class Node:
         words = tree._words
         inside = words[at + 3]
         if inside == 0:
-            return self._unlisted() if self.constructed and self.content_offset < self.content_end else ()
+            is_empty = words[at + 1] == words[at + 2]
+            return () if is_empty or not words[at + 4] & _CONSTRUCTED else self._unlisted()
         depth = self.depth + 1
         children = []
         at += WORDS
@@ -332,7 +333,7 @@ class Node:
         if known is not None:
             return known
         copy = Source(self._copy(_SEQUENCE))
-        begin = self.content_end - copy.length
+        begin = tree._begin + tree._words[self._at + 2] - copy.length
         try:
             listing = copy.list_first(tree._rules, 0, copy.length, tree._max_depth - self.depth, True)
         except DerError as error:
@@ -398,21 +399,30 @@ class Node:
         >>> parse_der(bytes.fromhex("3008 0603550403 0c0161")).root.value
         [ObjectIdentifier('2.5.4.3'), 'a']
         """
+        tree, at = self._tree, self._at
+        words = tree._words
+        read = _LEAVES.get(words[at + 4])
+        if read is not None:
+            try:
+                return read(tree._source.data[tree._begin + words[at + 1] : tree._begin + words[at + 2]])
+            except ValueError:
+                return self._exact_value()
+        return _values_inside(tree, at, self.depth) if words[at + 3] else self._exact_value()
+
+    def _exact_value(self) -> Value:
         read = _READERS.get(self._key)
         if read is not None:
             return read(self)
-        if self.constructed:
-            return [child.value for child in self.children]
-        return bytes(self.content)
+        return [child.value for child in self.children] if self.constructed else bytes(self.content)
 
     def as_bool(self) -> bool:
         """A BOOLEAN (X.690 8.2)."""
-        return self._primitive(_BOOLEAN) != b"\0"
+        return _boolean(self._primitive(_BOOLEAN))
 
     def as_int(self) -> int:
         """An INTEGER or an ENUMERATED, of any size (X.690 8.3)."""
         key = _ENUMERATED if self._key == _ENUMERATED else _INTEGER
-        return int.from_bytes(self._primitive(key), "big", signed=True)
+        return _integer(self._primitive(key))
 
     def as_bytes(self) -> bytes:
         """An OCTET STRING (X.690 8.7). In BER, the parts of a constructed one are joined."""
@@ -432,9 +442,9 @@ class Node:
 
     def as_oid(self) -> ObjectIdentifier:
         """An OBJECT IDENTIFIER (X.690 8.19)."""
-        content = bytes(self._primitive(_OBJECT_IDENTIFIER))
+        content = self._primitive(_OBJECT_IDENTIFIER)
         try:
-            return ObjectIdentifier.from_content(content)
+            return _identifier(content)
         except ValueError:
             raise self._error(Rule.WRONG_VALUE) from None
 
@@ -497,8 +507,11 @@ class Node:
 
     def _copy(self, key: int) -> bytes:
         """The content behind a header with this universal tag, of a number below 31."""
-        identifier = key | (0x20 if self.constructed else 0)
-        return _header(identifier, self.content_end - self.content_offset) + self.content
+        tree, at = self._tree, self._at
+        words = tree._words
+        begin, end = words[at + 1], words[at + 2]
+        header = _header(key | (0x20 if words[at + 4] & _CONSTRUCTED else 0), end - begin)
+        return header + tree._source.data[tree._begin + begin : tree._begin + end]
 
     def _with_tag(self, key: int) -> Node:
         """The same element with this universal tag. The content is checked as of that type, in a copy."""
@@ -531,6 +544,61 @@ class Node:
         content = bytes(self.content[:17])
         shown = content.hex(" ") if len(content) < 17 else content[:16].hex(" ") + " .."
         return f"<Node {self.tag} at {self.offset}: {shown}>"
+
+
+def _boolean(content: Union[bytes, memoryview]) -> bool:
+    return content != b"\0"
+
+
+def _integer(content: Union[bytes, memoryview]) -> int:
+    return int.from_bytes(content, "big", signed=True)
+
+
+def _nothing(_: Union[bytes, memoryview]) -> None:
+    return None
+
+
+def _identifier(content: Union[bytes, memoryview]) -> ObjectIdentifier:
+    return ObjectIdentifier.from_content(bytes(content))
+
+
+def _text(codec: str) -> Callable[[Union[bytes, memoryview]], str]:
+    return lambda content: str(content, codec)
+
+
+# The values of primitive elements of definite length, by the fifth words of elements. For some octets there is a
+# `ValueError`, which the calls of a node turn into an error with offset and rule.
+_LEAVES: Dict[int, Callable[[Union[bytes, memoryview]], Value]] = {
+    _BOOLEAN | _DEFINITE: _boolean,
+    _INTEGER | _DEFINITE: _integer,
+    _ENUMERATED | _DEFINITE: _integer,
+    _OCTET_STRING | _DEFINITE: bytes,
+    _NULL | _DEFINITE: _nothing,
+    _OBJECT_IDENTIFIER | _DEFINITE: _identifier,
+    **{key | _DEFINITE: _text(codec) for key, codec in _CODECS.items()},
+}
+
+
+def _values_inside(tree: Tree, at: int, depth: int) -> List[Value]:
+    """The values of the elements that are listed inside an element, which is so deep. No nodes are made of most."""
+    words, data, begin = tree._words, tree._source.data, tree._begin
+    values: List[Value] = []
+    stop = at + WORDS * (1 + words[at + 3])
+    at += WORDS
+    while at < stop:
+        inside = words[at + 3]
+        read = _LEAVES.get(words[at + 4])
+        if inside:
+            values.append(_values_inside(tree, at, depth + 1))
+        elif read is None:
+            values.append(Node(tree, at, depth + 1).value)
+        else:
+            try:
+                values.append(read(data[begin + words[at + 1] : begin + words[at + 2]]))
+            except ValueError:
+                values.append(Node(tree, at, depth + 1)._exact_value())
+        at += WORDS * (1 + inside)
+    return values
 
 
 _READERS: Dict[int, Callable[[Node], Value]] = {
