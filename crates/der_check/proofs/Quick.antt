@@ -81,20 +81,20 @@ list_number : (r : Rules) (first : ℕ) → IsListOctet first → (first - 32 < 
 list_number r first (inl e) = let n : first - 32 ≡ 16 = omega (arith, e) in (omega (arith, n), omega (arith, e), subst (λ t. MayBeConstructed r Universal t) (sym n) (may_be_list r).0)
 list_number r first (inr e) = let n : first - 32 ≡ 17 = omega (arith, e) in (omega (arith, n), omega (arith, e), subst (λ t. MayBeConstructed r Universal t) (sym n) (may_be_list r).1)
 
-pub short_list_listed : {N : Type 0} {slot : Element → N} (r : Rules) (d : ℕ) (i : List ℕ) (first : ℕ) (w rest : List ℕ) (end k : ℕ) (e : Element) (old begun mid new : Tape N) → 1 ≤ d → length i ≤ end
-    → IsListOctet first → IsShort i first w rest → e ≡ universal_element true (first - 32) (length w) (end - length rest) 0 → KeepsElements r slot (d - 1) w (end - length rest) begun mid
+pub short_list_listed : {N : Type 0} {slot : Element → N} (r : Rules) (d : ℕ) (i : List ℕ) (first : ℕ) (w rest : List ℕ) (end after k : ℕ) (e : Element) (old begun mid new : Tape N) → 1 ≤ d → length i ≤ end
+    → after ≡ end - length rest → IsListOctet first → IsShort i first w rest → e ≡ universal_element true (first - 32) (length w) after 0 → KeepsElements r slot (d - 1) w after begun mid
     → Writes slot e k old begun mid new → KeepsElement r slot d i end old rest new
-short_list_listed r d i first w rest end k e old begun mid new deep room is short made inside writes =
+short_list_listed {slot = slot} r d i first w rest end after k e old begun mid new deep room ea is short made inside writes =
     let t = first - 32 in
     let (small, octet, may) = list_number r first is in
     let within : length (w ++ rest) ≤ end = omega (arith, short_octets i first w rest short, room, length-append w rest) in
     element_listed r d i rest (universal_header true t w rest) true (Definite (length w)) end k e old begun mid new deep room refl refl (spelled r i true t first w rest small octet short)
-    (may, (w, refl, refl, inside.0)) (content_listed r (d - 1) (length w) (w ++ rest) w rest end begun mid within refl refl inside)
-    (made ∙ short_element true t i first w rest end room short) writes
+    (may, (w, refl, refl, inside.0)) (content_listed r (d - 1) (length w) (w ++ rest) w rest end after begun mid within ea refl refl inside)
+    (subst (λ z. e ≡ universal_element true t (length w) z 0) ea made ∙ short_element true t i first w rest end room short) writes
 
-pub short_plain_listed : {N : Type 0} {slot : Element → N} (r : Rules) (d : ℕ) (i : List ℕ) (t : ℕ) (w rest : List ℕ) (end k : ℕ) (e : Element) (old begun new : Tape N) → 1 ≤ d → length i ≤ end
-    → IsShort i t w rest → IsPlain r t w → e ≡ universal_element false t (length w) (end - length rest) 0 → Writes slot e k old begun begun new → KeepsElement r slot d i end old rest new
-short_plain_listed r d i t w rest end k e old begun new deep room short (some, small, is) made writes =
+pub short_plain_listed : {N : Type 0} {slot : Element → N} (r : Rules) (d : ℕ) (i : List ℕ) (t : ℕ) (w rest : List ℕ) (end after k : ℕ) (e : Element) (old begun new : Tape N) → 1 ≤ d → length i ≤ end
+    → after ≡ end - length rest → IsShort i t w rest → IsPlain r t w → e ≡ universal_element false t (length w) after 0 → Writes slot e k old begun begun new → KeepsElement r slot d i end old rest new
+short_plain_listed r d i t w rest end after k e old begun new deep room ea short (some, small, is) made writes =
     element_listed r d i rest (universal_header false t w rest) false (Definite (length w)) end k e old begun begun new deep room refl refl (spelled r i false t t w rest small (omega arith) short)
     (w, refl, refl, λ u. (λ z. absurd (omega (arith, some, z)), is)) (keeps_none begun begun refl refl)
-    (made ∙ short_element false t i t w rest end room short) writes
+    (subst (λ z. e ≡ universal_element false t (length w) z 0) ea made ∙ short_element false t i t w rest end room short) writes

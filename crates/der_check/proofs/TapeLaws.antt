@@ -202,10 +202,10 @@ pub marker_left : {N : Type 0} {slot : Element → N} (r : Rules) (d : ℕ) (res
 marker_left r d rest behind end now e = ([], e, none, keeps_none now now refl refl)
 
 -- the content of a definite length
-pub content_listed : {N : Type 0} {slot : Element → N} (r : Rules) (d n : ℕ) (i w rest : List ℕ) (end : ℕ) (old new : Tape N) → length i ≤ end → length w ≡ n → i ≡ w ++ rest
-    → KeepsElements r slot d w (end - length rest) old new → KeepsContent r slot d (Definite n) i end old rest new
-content_listed {slot = slot} r d n i w rest end old new room en e (are, h) =
-    let at : end - length rest - length w ≡ end - length i = omega (arith, ap length e, length-append w rest, room) in
+pub content_listed : {N : Type 0} {slot : Element → N} (r : Rules) (d n : ℕ) (i w rest : List ℕ) (end after : ℕ) (old new : Tape N) → length i ≤ end → after ≡ end - length rest → length w ≡ n
+    → i ≡ w ++ rest → KeepsElements r slot d w after old new → KeepsContent r slot d (Definite n) i end old rest new
+content_listed {slot = slot} r d n i w rest end after old new room ea en e (are, h) =
+    let at : after - length w ≡ end - length i = omega (arith, ea, ap length e, length-append w rest, room) in
     (w, en, e, are, subst (λ q. Keeps slot (listed are q) old new) at h)
 
 -- from an empty tape on

@@ -30,7 +30,8 @@ pub(crate) fn read_elements<N: Slot, const LISTS: bool>(
     ensures exactly { IsTrue result ↔ AreElements rules max_depth octets.now }
     ensures listed { IsTrue LISTS → IsTrue result →
         KeepsElements rules N.slot max_depth octets.now end tape.old tape.new }
-    ensures within { IsTrue result → (tape.old.count ≤ tape.new.count) × (tape.new.count ≤ end) }
+    ensures within { IsTrue result →
+        (tape.old.count ≤ tape.new.count) × (tape.new.count ≤ tape.old.count + length octets.now) }
 {
     let mut rest = octets;
     while !rest.is_empty() {
@@ -59,13 +60,13 @@ pub(crate) fn read_element<'a, N: Slot, const LISTS: bool>(
         KeepsElement rules N.slot max_depth i.now end tape.old rest.now tape.new) }
     ensures shorter { IfSome result (λ rest. length rest.now < length i.now) }
     ensures within { IfSome result (λ rest.
-        (tape.old.count ≤ tape.new.count) × (tape.new.count + length rest.now ≤ end)) }
+        (tape.old.count ≤ tape.new.count) × (tape.new.count + length rest.now ≤ tape.old.count + length i.now)) }
 {
     if max_depth == 0 {
         return None;
     }
     if let Some(short) = read_short(i) {
-        let after = end - short.rest.len();
+        let after = end_before::<LISTS>(short.rest, end);
         let size = short.content.len();
         if is_list_octet(short.first) {
             let number = begin::<N, LISTS>(tape);
@@ -84,6 +85,17 @@ pub(crate) fn read_element<'a, N: Slot, const LISTS: bool>(
         }
     }
     read_any::<N, LISTS>(i, end, rules, max_depth, tape)
+}
+
+/// The offset before octets that end at one. Where nothing is listed it isn't computed: so it is an argument of no call
+/// in the compiled code.
+#[inline(always)]
+fn end_before<const LISTS: bool>(rest: &[u8], end: usize) -> usize
+    requires { length rest.now ≤ end }
+    ensures exactly { IsTrue LISTS → result ≡ end - length rest.now }
+    ensures within { (end - length rest.now ≤ result) × (result ≤ end) }
+{
+    if LISTS { end - rest.len() } else { end }
 }
 
 /// Whether an identifier octet and a content are those of a primitive element of a universal type. The
@@ -123,7 +135,7 @@ fn read_any<'a, N: Slot, const LISTS: bool>(
         KeepsElement rules N.slot max_depth i.now end tape.old rest.now tape.new) }
     ensures shorter { IfSome result (λ rest. length rest.now < length i.now) }
     ensures within { IfSome result (λ rest.
-        (tape.old.count ≤ tape.new.count) × (tape.new.count + length rest.now ≤ end)) }
+        (tape.old.count ≤ tape.new.count) × (tape.new.count + length rest.now ≤ tape.old.count + length i.now)) }
 {
     let Ok((behind, header)) = rules.read_header(i) else {
         return None;
@@ -155,7 +167,7 @@ fn read_content<'a, N: Slot, const LISTS: bool>(
         rules N.slot (max_depth - 1) (length_of h) i.now end tape.old rest.now tape.new) }
     ensures shorter { IfSome result (λ rest. length rest.now ≤ length i.now) }
     ensures within { IfSome result (λ rest.
-        (tape.old.count ≤ tape.new.count) × (tape.new.count + length rest.now ≤ end)) }
+        (tape.old.count ≤ tape.new.count) × (tape.new.count + length rest.now ≤ tape.old.count + length i.now)) }
 {
     if !header.constructed() {
         return after_content(i, header, rules);
@@ -201,13 +213,19 @@ fn read_constructed_content<'a, N: Slot, const LISTS: bool>(
         KeepsContent rules N.slot max_depth size i.now end tape.old rest.now tape.new) }
     ensures shorter { IfSome result (λ rest. length rest.now ≤ length i.now) }
     ensures within { IfSome result (λ rest.
-        (tape.old.count ≤ tape.new.count) × (tape.new.count + length rest.now ≤ end)) }
+        (tape.old.count ≤ tape.new.count) × (tape.new.count + length rest.now ≤ tape.old.count + length i.now)) }
 {
     let Length::Definite(count) = size else {
         return read_open_content::<N, LISTS>(i, end, rules, max_depth, tape);
     };
     let (content, rest) = i.split_at_checked(count)?;
-    if read_elements::<N, LISTS>(content, end - rest.len(), rules, max_depth, tape) {
+    if read_elements::<N, LISTS>(
+        content,
+        end_before::<LISTS>(rest, end),
+        rules,
+        max_depth,
+        tape,
+    ) {
         Some(rest)
     } else {
         None
@@ -230,7 +248,7 @@ fn read_open_content<'a, N: Slot, const LISTS: bool>(
         KeepsContent rules N.slot max_depth Length.Indefinite i.now end tape.old rest.now tape.new) }
     ensures shorter { IfSome result (λ rest. length rest.now ≤ length i.now) }
     ensures within { IfSome result (λ rest.
-        (tape.old.count ≤ tape.new.count) × (tape.new.count + length rest.now ≤ end)) }
+        (tape.old.count ≤ tape.new.count) × (tape.new.count + length rest.now ≤ tape.old.count + length i.now)) }
 {
     let mut rest = i;
     loop {

@@ -104,6 +104,13 @@ read_any-returns-clause-listed g t c =
       slots = c.list.ensures.slots on;
     })
 
+pub read_any-returns-clause-within : goal.read_any-returns-clause-within
+read_any-returns-clause-within g t c =
+    let s = header_shorter c.args.rules c.args.i.now (leading_header (c.in-Ok.behind, c.in-Ok.header)) (header_read c.args.rules c.args.i.now (c.in-Ok.behind, c.in-Ok.header) c.in-Ok.ensures) in
+    let begun = c.begin-number.ensures.within in
+    let inside = c.in_ok-rest.ensures.within in
+    (omega (arith, c.list.ensures.count, begun, inside), omega (arith, s, c.list.ensures.count, begun, inside))
+
 pub read_any-returns-clause-shorter : goal.read_any-returns-clause-shorter
 read_any-returns-clause-shorter g t c = shorter c.args.rules c.args.i.now (c.in-Ok.behind, c.in-Ok.header) (Some c.in_ok-rest.rest) c.in-Ok.ensures c.in_ok-rest.ensures.shorter
 
@@ -113,7 +120,7 @@ pub read_element-read_elements-requires : goal.read_element-read_elements-requir
 read_element-read_elements-requires g t c =
     let x = c.in-Some.short in
     let size = short_octets c.args.i.now x.first x.content.now x.rest.now c.in-Some.ensures in
-    λ lifetimes lives. (omega arith, (lives, (search rules, omega (arith, size, c.requires, c.begin-number.ensures.within))))
+    λ lifetimes lives. (omega arith, (lives, (search rules, omega (arith, size, c.requires, c.begin-number.ensures.within, c.end_before-after.ensures.within))))
 
 pub read_element-returns-then-not-read_elements-clause-exactly : goal.read_element-returns-then-not-read_elements-clause-exactly
 read_element-returns-then-not-read_elements-clause-exactly g t c =
@@ -132,8 +139,8 @@ read_element-returns-then-is_list_octet-clause-listed g t c =
     let x = c.in-Some.short in
     let yes : IsTrue c.read_elements.result = search rules in
     let is : IsListOctet x.first = c.if-is_list_octet.ensures.0 (search rules) in
-    λ on. short_list_listed c.args.rules c.args.max_depth c.args.i.now x.first x.content.now x.rest.now c.args.end c.begin-number.result c.universal_element-element.result
-    c.args.tape.now c.begin-number.new.tape c.read_elements.new.tape c.list.new.tape (omega arith) (omega (arith, c.requires)) is c.in-Some.ensures c.universal_element-element.ensures
+    λ on. short_list_listed c.args.rules c.args.max_depth c.args.i.now x.first x.content.now x.rest.now c.args.end c.end_before-after.result c.begin-number.result c.universal_element-element.result
+    c.args.tape.now c.begin-number.new.tape c.read_elements.new.tape c.list.new.tape (omega arith) (omega (arith, c.requires)) (c.end_before-after.ensures.exactly on) is c.in-Some.ensures c.universal_element-element.ensures
     (c.read_elements.ensures.listed on yes)
     (record {
       number = c.begin-number.ensures.number;
@@ -151,8 +158,8 @@ read_element-returns-then-is_plain-clause-exactly g t c =
 pub read_element-returns-then-is_plain-clause-listed : goal.read_element-returns-then-is_plain-clause-listed
 read_element-returns-then-is_plain-clause-listed g t c =
     let x = c.in-Some.short in
-    λ on. short_plain_listed c.args.rules c.args.max_depth c.args.i.now x.first x.content.now x.rest.now c.args.end c.begin-number-then-is_plain.result c.universal_element-element-then-is_plain.result
-    c.args.tape.now c.begin-number-then-is_plain.new.tape c.list-then-is_plain.new.tape (omega arith) (omega (arith, c.requires)) c.in-Some.ensures (c.if-is_plain.ensures (search rules))
+    λ on. short_plain_listed c.args.rules c.args.max_depth c.args.i.now x.first x.content.now x.rest.now c.args.end c.end_before-after.result c.begin-number-then-is_plain.result c.universal_element-element-then-is_plain.result
+    c.args.tape.now c.begin-number-then-is_plain.new.tape c.list-then-is_plain.new.tape (omega arith) (omega (arith, c.requires)) (c.end_before-after.ensures.exactly on) c.in-Some.ensures (c.if-is_plain.ensures (search rules))
     c.universal_element-element-then-is_plain.ensures
     (record {
       number = c.begin-number-then-is_plain.ensures.number;
@@ -172,7 +179,7 @@ read_constructed_content-returns-then-read_elements-clause-listed g t c =
     let n = c.in-Definite.count in
     let size = c.in-Definite.is in
     λ on. subst (λ l. KeepsContent c.args.rules g.N.Slot.slot c.args.max_depth l c.args.i.now c.args.end c.args.tape.now rest.now c.read_elements.new.tape) (sym size)
-    (content_listed c.args.rules c.args.max_depth n c.args.i.now w.now rest.now c.args.end c.args.tape.now c.read_elements.new.tape (omega (arith, c.requires)) parts.3
+    (content_listed c.args.rules c.args.max_depth n c.args.i.now w.now rest.now c.args.end c.end_before.result c.args.tape.now c.read_elements.new.tape (omega (arith, c.requires)) (c.end_before.ensures.exactly on) parts.3
     (split n c.args.i.now w.now rest.now parts.1 parts.2) (c.if-read_elements.ensures.listed on (search rules)))
 
 -- elements before an end marker
@@ -184,7 +191,7 @@ read_open_content-loop-after-init g t c = record {
   listed = λ on r new p. p;
   shorter = omega arith;
   counted = omega arith;
-  within = c.requires;
+  within = omega arith;
   same = refl;
 }
 
@@ -211,10 +218,10 @@ read_open_content-loop-after-preserved g t c =
     record {
       left = λ r p. open_left c.args.rules c.args.max_depth i r x c.in_default.ensures f.exactly (k.left r p);
       before = λ r p. k.before r (open_before c.args.rules c.args.max_depth i r x f.exactly p);
-      listed = λ on r new p. k.listed on r new (one_before_marker c.args.rules c.args.max_depth i x.now r c.args.end c.loop-after.tape mid new (omega (arith, k.within)) (f.listed on) p);
+      listed = λ on r new p. k.listed on r new (one_before_marker c.args.rules c.args.max_depth i x.now r c.args.end c.loop-after.tape mid new (omega (arith, k.within, c.requires)) (f.listed on) p);
       shorter = omega (arith, f.shorter, k.shorter);
       counted = omega (arith, k.counted, f.within);
-      within = f.within.1;
+      within = omega (arith, k.within, f.within);
       same = c.read_element.ensures.same ∙ k.same;
     }
 
@@ -232,7 +239,7 @@ read_elements-loop-rest-init g t c = record {
   before = λ a. a;
   listed = λ on new p. p;
   counted = omega arith;
-  within = c.requires;
+  within = omega arith;
   same = refl;
 }
 
@@ -247,9 +254,9 @@ read_elements-loop-rest-preserved g t c =
     record {
       left = λ a. left c.args.rules c.args.max_depth i x some f.exactly (k.left a);
       before = λ a. k.before (before c.args.rules c.args.max_depth i x f.exactly a);
-      listed = λ on new p. k.listed on new (one_before c.args.rules c.args.max_depth i x.now c.args.end c.loop-rest.tape mid new (omega (arith, k.within)) (f.listed on) p);
+      listed = λ on new p. k.listed on new (one_before c.args.rules c.args.max_depth i x.now c.args.end c.loop-rest.tape mid new (omega (arith, k.within, c.requires)) (f.listed on) p);
       counted = omega (arith, k.counted, f.within);
-      within = f.within.1;
+      within = omega (arith, k.within, f.within);
       same = c.read_element.ensures.same ∙ k.same;
     }
 

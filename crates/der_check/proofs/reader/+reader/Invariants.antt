@@ -29,7 +29,7 @@ invariant-read_elements-loop-rest g l = record {
   before : AreElements l.rules l.max_depth l.rest → AreElements l.rules l.max_depth l.octets;
   listed : IsTrue (not (eqb g.row.LISTS 0)) → ListsBefore l.rules g.N.Slot.slot l.max_depth l.octets l.end l.fn.tape l.rest l.tape;
   counted : l.fn.tape.count ≤ l.tape.count;
-  within : l.tape.count + length l.rest ≤ l.end;
+  within : l.tape.count + length l.rest ≤ l.fn.tape.count + length l.octets;
   same : l.tape.slots.ghost_name ≡ l.fn.tape.slots.ghost_name;
 }
 
@@ -44,7 +44,7 @@ invariant-read_open_content-loop-after g l = record {
   listed : IsTrue (not (eqb g.row.LISTS 0)) → ListsBeforeMarker l.rules g.N.Slot.slot l.max_depth l.i l.end l.fn.tape l.rest l.tape;
   shorter : length l.rest ≤ length l.i;
   counted : l.fn.tape.count ≤ l.tape.count;
-  within : l.tape.count + length l.rest ≤ l.end;
+  within : l.tape.count + length l.rest ≤ l.fn.tape.count + length l.i;
   same : l.tape.slots.ghost_name ≡ l.fn.tape.slots.ghost_name;
 }
 
