@@ -38,7 +38,7 @@ def build_wheel(
     info = f"dumarewhi-{version}.dist-info"
     files = {f"dumarewhi/{path.name}": path.read_bytes() for path in sorted(SOURCES.glob("*.py"))}
     files["dumarewhi/py.typed"] = (SOURCES / "py.typed").read_bytes()
-    files["dumarewhi/_rules.py"] = rules_of(HEADER.read_text()).encode()
+    files["dumarewhi/_header.py"] = module_of(HEADER.read_text()).encode()
     files["dumarewhi/libdumarewhi.so"] = _shared_library()
     files[f"{info}/METADATA"] = _metadata(version).encode()
     files[f"{info}/WHEEL"] = WHEEL.encode()
@@ -53,20 +53,24 @@ def build_sdist(sdist_directory: str, config_settings: Optional[Dict[str, str]] 
     raise NotImplementedError("build a wheel: there is no source distribution")
 
 
-def rules_of(header: str) -> str:
-    """The module with the numbers of errors, from the header of C."""
-    numbers = re.findall(r"^ *DM_ERROR_(\w+) = (\d+)", header, re.MULTILINE)
-    if not numbers:
-        raise ValueError("the header has no numbers of errors")
+def module_of(header: str) -> str:
+    """The module with the numbers of the header of C."""
+    depth = re.findall(r"^#define DM_MAX_DEPTH (\d+)$", header, re.MULTILINE)
+    rules = re.findall(r"^ *DM_ERROR_(\w+) = (\d+)", header, re.MULTILINE)
+    if len(depth) != 1 or not rules:
+        raise ValueError("the header has no numbers")
     lines = [
-        '"""The numbers of errors, from dumarewhi.h."""',
+        '"""Numbers of dumarewhi.h, from which this module is made."""',
         "import enum",
+        "",
+        f"MAX_DEPTH = {depth[0]}",
+        '"""The largest value of ``max_depth``. Larger ones are taken as this one."""',
         "",
         "",
         "class Rule(enum.IntEnum):",
         '    """The number of an error: the rule that an input breaks. ``rule_text`` returns its text."""',
         "",
-        *(f"    {name} = {number}" for name, number in numbers),
+        *(f"    {name} = {number}" for name, number in rules),
     ]
     return "\n".join(lines) + "\n"
 

@@ -85,7 +85,7 @@ class Row(NamedTuple):
 
     call: str
     input: str
-    answer: str
+    expected: str
     name: str
 
     @property
@@ -101,9 +101,9 @@ def rows() -> Iterator[Row]:
             if line.startswith("["):
                 calls = [call.strip() for call in line.strip("[]").split(",")]
             elif line and not line.startswith("#"):
-                text, answer, name = line.split("|", 2)
+                text, expected, name = line.split("|", 2)
                 for call in calls:
-                    yield Row(call, text, answer.strip(), name.strip())
+                    yield Row(call, text, expected.strip(), name.strip())
 
 
 def certificates() -> List[bytes]:

@@ -76,5 +76,4 @@ def test_errors_of_the_header() -> None:
     names = dict(re.findall(r"^ *DM_ERROR_(\w+) = (\d+)", text, re.MULTILINE))
     assert {rule.name: str(rule.value) for rule in Rule} == names
     for rule in Rule:
-        assert len(rule_text(rule)) >= 8 and rule_text(rule) != "unknown error", rule
-    assert rule_text(0) == "no error" and rule_text(4_000_000_000) == "unknown error"
+        assert len(rule_text(rule)) >= 8 and rule_text(rule) != rule_text(4_000_000_000), rule

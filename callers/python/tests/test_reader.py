@@ -7,7 +7,7 @@ from typing import Callable, List, Tuple
 import pytest
 from conftest import octets_of
 
-from dumarewhi import BitString, DerError, Incomplete, Reader, Rule, Tag
+from dumarewhi import BitString, DerError, Incomplete, Reader, Rule, Tag, check_der
 
 
 def fields(octets: bytes) -> Tuple[int, str, bool]:
@@ -53,8 +53,8 @@ def test_errors(octets: str, reason: str, offset: int) -> None:
 
 def test_errors_of_the_library() -> None:
     with pytest.raises(DerError) as caught:
-        fields(octets_of("30 07 0c 02 68 69 01 01 07"))
-    assert (caught.value.rule, caught.value.offset) == (Rule.INVALID_BOOLEAN, 6)
+        fields(octets_of("30 07 0c 02 68 69 04 81 00"))
+    assert (caught.value.rule, caught.value.offset) == (Rule.LENGTH_NOT_MINIMAL, 6)
     # An error under a tag, and after an element that was read
     reader = Reader(octets_of("05 00 a0 06 02 01 05 02 02 01"))
     reader.null()
@@ -131,7 +131,7 @@ def test_sets_and_iteration() -> None:
 
 
 def test_by_ber() -> None:
-    octets = octets_of("30 80 02 02 00 05 a0 80 24 80 04 01 61 00 00 00 00 00 00")
+    octets = octets_of("30 80 02 81 01 05 a0 80 24 80 04 01 61 00 00 00 00 00 00")
     with Reader(octets, rules="ber") as reader, reader.sequence() as r:
         assert r.integer() == 5 and r.explicit(0, Reader.octet_string) == b"a"
     with pytest.raises(DerError):
@@ -170,18 +170,20 @@ def test_implicit_by_ber() -> None:
 
 
 @pytest.mark.parametrize(
-    "octets, universal, rule",
+    "octets, universal, plain",
     [
-        ("81 02 00 05", Tag.INTEGER, Rule.INTEGER_LEADING_ZEROES),
-        ("81 01 80", Tag.IA5_STRING, Rule.INVALID_CHARACTER),
-        ("a1 03 02 02 05", Tag.SEQUENCE, Rule.OVERRUN),
-        ("a1 03 02 01 05", Tag.INTEGER, Rule.CONSTRUCTED),
+        ("81 02 00 05", Tag.INTEGER, "02 02 00 05"),
+        ("81 01 80", Tag.IA5_STRING, "16 01 80"),
+        ("a1 03 02 01 05", Tag.INTEGER, "22 03 02 01 05"),
+        ("81 02 05 00", Tag.SEQUENCE, "10 02 05 00"),
     ],
 )
-def test_implicit_errors(octets: str, universal: Tag, rule: Rule) -> None:
+def test_implicit_errors(octets: str, universal: Tag, plain: str) -> None:
     with pytest.raises(DerError) as caught:
         Reader(octets_of(octets)).implicit(1, universal)
-    assert (caught.value.rule, caught.value.offset) == (rule, 0)
+    with pytest.raises(DerError) as of_plain:
+        check_der(octets_of(plain))
+    assert (caught.value.rule, caught.value.offset) == (of_plain.value.rule, 0)
 
 
 def test_no_implicit_tag() -> None:

@@ -6,23 +6,18 @@ from typing import Callable, Iterator, List
 import pytest
 from conftest import Outcome, damaged
 
-from dumarewhi import DerError, Incomplete, Node, Tag, Tree, check_ber, check_der, parse_ber, parse_der, to_der
+from dumarewhi import DerError, Incomplete, Node, Tree, _library, check_ber, check_der, parse_ber, parse_der, to_der
 
 DAMAGED = 10_000
 
 
-def listed(node: Node) -> Iterator[Node]:
-    """The elements that C lists: what is inside another class than universal isn't."""
-    yield node
-    if node.tag in (Tag.SEQUENCE, Tag.SET):
-        for child in node:
-            yield from listed(child)
-
-
-def shown(node: Node) -> str:
-    inside = sum(1 for _ in listed(node)) - 1
-    numbers = [node.offset, node.content_offset, node.content_end, inside, node.number, node.tag_class]
-    return ".".join(str(int(number)) for number in [*numbers, node.constructed, node.definite])
+def listed(tree: Tree) -> Iterator[str]:
+    """The elements that are listed, each as its node has it."""
+    for at in range(0, len(tree._words), _library.WORDS):
+        node = Node(tree, at, 0)
+        inside = tree._words[at + 3]
+        numbers = [node.offset, node.content_offset, node.content_end, inside, node.number, node.tag_class]
+        yield ".".join(str(int(number)) for number in [*numbers, node.constructed, node.definite])
 
 
 def parsed(parse: Callable[..., Tree], octets: bytes, depth: int) -> str:
@@ -34,8 +29,8 @@ def parsed(parse: Callable[..., Tree], octets: bytes, depth: int) -> str:
         return f"missing {error.missing}"
     except DerError as error:
         return f"error {error.rule} at {error.offset}"
-    nodes = list(listed(tree.root))
-    return f"{len(nodes)} elements in {tree.end}: {' '.join(map(shown, nodes))}"
+    elements = list(listed(tree))
+    return f"{len(elements)} elements in {tree.end}: {' '.join(elements)}"
 
 
 def checked(check: Callable[..., int], octets: bytes, depth: int) -> str:
@@ -57,14 +52,6 @@ def written(octets: bytes) -> str:
         return f"error {error.rule} at {error.offset}"
 
 
-def missing_here(line: str, octets: bytes) -> str:
-    """By DER, C counts the whole content of a universal type as missing, and the package what is missing of it."""
-    if not line.startswith("missing") or len(octets) < 2 or octets[0] >= 0x40 or octets[0] & 0x1F == 0x1F:
-        return line
-    header = 2 + (octets[1] & 0x7F if octets[1] >= 0x80 else 0)
-    return f"missing {int(line.split()[1]) - max(0, len(octets) - header)}"
-
-
 @pytest.fixture(scope="module")
 def cases(outcomes: Callable[..., List[Outcome]]) -> List[Outcome]:
     return outcomes(damaged(DAMAGED))
@@ -74,7 +61,7 @@ def test_parse(cases: List[Outcome]) -> None:
     kinds = set()
     for case in cases:
         assert parsed(parse_ber, case.octets, case.depth) == case.ber, case
-        assert parsed(parse_der, case.octets, case.depth) == missing_here(case.der, case.octets), case
+        assert parsed(parse_der, case.octets, case.depth) == case.der, case
         kinds.update((case.der.split(" at ")[0], case.ber.split(" at ")[0]))
     errors = {kind for kind in kinds if kind.startswith("error")}
     assert len(errors) > 10 and len(kinds) > len(errors) + 50
@@ -82,7 +69,7 @@ def test_parse(cases: List[Outcome]) -> None:
 
 def test_check(cases: List[Outcome]) -> None:
     for case in cases:
-        for check, line in ((check_der, missing_here(case.der, case.octets)), (check_ber, case.ber)):
+        for check, line in ((check_der, case.der), (check_ber, case.ber)):
             found = line.split(":")[0]
             if " in " in found and not found.endswith(f" in {len(case.octets)}"):
                 found = f"error 0 at {found.split(' in ')[1]}"

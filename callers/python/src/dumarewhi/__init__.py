@@ -15,9 +15,9 @@ type, one after the other. :class:`Writer` writes them. :func:`to_der` writes BE
 Any thread may read any tree at any time. A :class:`Reader` or :class:`Writer` is for one thread at a time.
 """
 from ._errors import DerError, Incomplete
-from ._library import DEFAULT_DEPTH, MAX_DEPTH, Rules, rule_text
+from ._header import MAX_DEPTH, Rule
+from ._library import DEFAULT_DEPTH, Rules, rule_text
 from ._reader import Reader
-from ._rules import Rule
 from ._tag import AnyTag, Tag, TagClass
 from ._tree import Node, Tree, Value, check_ber, check_der, parse_ber, parse_der, to_der
 from ._values import BitString, ObjectIdentifier

@@ -7,9 +7,9 @@ class DerError(ValueError):
 
     >>> import dumarewhi
     >>> try:
-    ...     dumarewhi.parse_der(b"\\x30\\x03\\x01\\x01\\x7f")
+    ...     dumarewhi.parse_der(b"\\x30\\x03\\x04\\x81\\x00")
     ... except dumarewhi.DerError as error:
-    ...     print(error.offset, error.rule == dumarewhi.Rule.INVALID_BOOLEAN)
+    ...     print(error.offset, error.rule == dumarewhi.Rule.LENGTH_NOT_MINIMAL)
     2 True
 
     Attributes:

@@ -12,7 +12,7 @@ from pathlib import Path
 from typing import TYPE_CHECKING, Any, Callable, Dict, Literal, NamedTuple, Tuple, Type, Union
 
 from ._errors import DerError, Incomplete
-from ._rules import Rule
+from ._header import Rule
 
 if TYPE_CHECKING:
     from _typeshed import ReadableBuffer
@@ -22,9 +22,6 @@ Rules = Literal["der", "ber"]
 
 DEFAULT_DEPTH = 50
 """How many elements may be one inside another, unless ``max_depth`` is given."""
-
-MAX_DEPTH = 250
-"""The largest value of ``max_depth``. Larger ones are taken as this one."""
 
 # enum dm_status
 OK = 0

@@ -6,8 +6,8 @@ from types import TracebackType
 from typing import TYPE_CHECKING, Callable, Iterator, Optional, Type, TypeVar, Union, overload
 
 from ._errors import DerError, Incomplete
+from ._header import Rule
 from ._library import DEFAULT_DEPTH, Rules, Source
-from ._rules import Rule
 from ._tag import AnyTag, Tag, TagClass, key_of, tag_of
 from ._tree import Node, Tree, _depth
 from ._values import BitString, ObjectIdentifier
@@ -47,7 +47,7 @@ class Reader:
     Args:
         data: Any object with octets, as ``bytes`` or ``mmap``. They aren't copied: the reader keeps the object.
         rules: ``"der"`` or ``"ber"``.
-        max_depth: How many elements may be one inside another, at most 250.
+        max_depth: How many elements may be one inside another, at most ``MAX_DEPTH``.
     """
 
     __slots__ = ("_nodes", "_next", "_outer", "_last")

@@ -7,8 +7,8 @@ from typing import TYPE_CHECKING, Callable, Dict, Iterator, List, Optional, Tupl
 
 from . import _library
 from ._errors import DerError
-from ._library import DEFAULT_DEPTH, MAX_DEPTH, WORDS, Listing, Rules, Source
-from ._rules import Rule
+from ._header import MAX_DEPTH, Rule
+from ._library import DEFAULT_DEPTH, WORDS, Listing, Rules, Source
 from ._tag import KEY_MASK, NUMBER_MASK, Tag, TagClass, key_of, tag_of
 from ._values import BitString, ObjectIdentifier
 
@@ -62,7 +62,7 @@ def parse_der(data: ReadableBuffer, *, max_depth: int = DEFAULT_DEPTH, allow_tra
 
     Args:
         data: Any object with octets, as ``bytes`` or ``mmap``. They aren't copied: the tree keeps the object.
-        max_depth: How many elements may be one inside another, at most 250.
+        max_depth: How many elements may be one inside another, at most ``MAX_DEPTH``.
         allow_trailing: Whether octets may follow the element. :attr:`Tree.end` is where they begin.
 
     Raises:
@@ -84,7 +84,7 @@ def parse_ber(data: ReadableBuffer, *, max_depth: int = DEFAULT_DEPTH, allow_tra
 def check_der(data: ReadableBuffer, *, max_depth: int = DEFAULT_DEPTH) -> int:
     """Checks that the octets are one element in DER. Returns how many elements are in it, itself among them.
 
-    It keeps nothing. The content of an element of another class than universal isn't looked at.
+    It keeps nothing. It checks what ``dm_check_der`` of ``dumarewhi.h`` checks.
 
     >>> check_der(bytes.fromhex("3006 020105 0101ff"))
     3
@@ -210,8 +210,9 @@ class Node:
     >>> node[0].as_int(), node[0].offset
     (5, 2)
 
-    The content of a constructed element is elements, of any class (X.690 8.1.4). Under a tag of another class than
-    universal they are listed when they are asked for. So :attr:`children`, and all that uses it, may raise an error.
+    The content of a constructed element is elements, of any class (X.690 8.1.4). Where the library doesn't list them
+    with the element, they are listed when they are asked for. So :attr:`children`, and all that uses it, may raise an
+    error.
     """
 
     __slots__ = ("_tree", "_at", "depth")
@@ -308,7 +309,7 @@ class Node:
         """The elements directly inside it, in order.
 
         Raises:
-            DerError: It has another class than universal, and its content isn't elements.
+            DerError: Its content isn't elements.
         """
         tree, at = self._tree, self._at
         words = tree._words
@@ -407,12 +408,14 @@ class Node:
                 return read(tree._source.data[tree._begin + words[at + 1] : tree._begin + words[at + 2]])
             except ValueError:
                 return self._exact_value()
-        return _values_inside(tree, at, self.depth) if words[at + 3] else self._exact_value()
+        return self._exact_value()
 
     def _exact_value(self) -> Value:
         read = _READERS.get(self._key)
         if read is not None:
             return read(self)
+        if self._tree._words[self._at + 3]:
+            return _values_inside(self._tree, self._at, self.depth)
         return [child.value for child in self.children] if self.constructed else bytes(self.content)
 
     def as_bool(self) -> bool:
@@ -586,12 +589,12 @@ def _values_inside(tree: Tree, at: int, depth: int) -> List[Value]:
     stop = at + WORDS * (1 + words[at + 3])
     at += WORDS
     while at < stop:
-        inside = words[at + 3]
-        read = _LEAVES.get(words[at + 4])
-        if inside:
+        inside, word = words[at + 3], words[at + 4]
+        read = _LEAVES.get(word)
+        if inside and word & KEY_MASK not in _READERS:
             values.append(_values_inside(tree, at, depth + 1))
         elif read is None:
-            values.append(Node(tree, at, depth + 1).value)
+            values.append(Node(tree, at, depth + 1)._exact_value())
         else:
             try:
                 values.append(read(data[begin + words[at + 1] : begin + words[at + 2]]))
