@@ -8,7 +8,7 @@ made=$(realpath -m "$1")
 cd "$root/crates/dumarewhi_c"
 set -- --crate-name dumarewhi_c src/lib.rt --extern "std=$kit/rlibs/std.rlib" -L "dependency=$kit/rlibs"
 set -- "$@" --extern "arrayvec=$kit/rlibs/arrayvec.rlib" --extern "itoa=$kit/rlibs/itoa.rlib"
-for library in der_base der_octets der_values der_contents der_nodes der_check der_walk der_canon der_writer; do
+for library in der_base der_values der_contents der_nodes der_check der_walk der_canon der_writer; do
     set -- "$@" --extern "$library=$root/crates/$library/out/rlib/$library.rlib"
 done
 for library in der_base der_laws der_octets der_values der_contents der_nodes der_check der_walk der_canon \

@@ -198,6 +198,10 @@ static void test_numbers(void) {
     EXPECT_OCTETS(dm_put_u64(&w, 256), "\x02\x02\x01\x00");
     EXPECT_OCTETS(dm_put_u64(&w, UINT64_MAX), "\x02\x09\x00\xff\xff\xff\xff\xff\xff\xff\xff");
     EXPECT_OCTETS(dm_put_enumerated(&w, 3), "\x0a\x01\x03");
+    EXPECT_OCTETS(dm_put_enumerated_i64(&w, 128), "\x0a\x02\x00\x80");
+    EXPECT_OCTETS(dm_put_enumerated_i64(&w, -1), "\x0a\x01\xff");
+    EXPECT_OCTETS(dm_put_enumerated_i64(&w, -129), "\x0a\x02\xff\x7f");
+    EXPECT_OCTETS(dm_put_enumerated_i64(&w, INT64_MIN), "\x0a\x08\x80\x00\x00\x00\x00\x00\x00\x00");
     EXPECT_OCTETS(dm_put_magnitude(&w, octets_of("\0\0\xff"), 3), "\x02\x02\x00\xff");
     EXPECT_OCTETS(dm_put_magnitude(&w, octets_of("\0\x7f"), 2), "\x02\x01\x7f");
     EXPECT_OCTETS(dm_put_magnitude(&w, octets_of(""), 0), "\x02\x01\x00");
@@ -220,6 +224,9 @@ static void test_strings(void) {
     EXPECT_OCTETS(dm_put_text(&w, 12, octets_of("\xc3\xa9"), 2), "\x0c\x02\xc3\xa9");
     EXPECT_OCTETS(dm_put_text(&w, 19, octets_of("NZ"), 2), "\x13\x02NZ");
     EXPECT_OCTETS(dm_put_text(&w, 22, octets_of("a@b"), 3), "\x16\x03" "a@b");
+    EXPECT_OCTETS(dm_put_text(&w, 30, octets_of("\0A\0b"), 4), "\x1e\x04\x00\x41\x00\x62");
+    EXPECT_OCTETS(dm_put_text(&w, 30, octets_of("\0\xe9\x20\xac"), 4), "\x1e\x04\x00\xe9\x20\xac");
+    EXPECT_OCTETS(dm_put_text(&w, 30, octets_of(""), 0), "\x1e\x00");
     EXPECT_OCTETS(dm_put_elements(&w, octets_of("\x05\x00\x05\x00"), 4), "\x05\x00\x05\x00");
     EXPECT_OCTETS((dm_implicit(&w, DM_CONTEXT_SPECIFIC, 2), dm_put_null(&w), dm_put_null(&w)), "\x82\x00\x05\x00");
     EXPECT_OCTETS((dm_implicit(&w, DM_PRIVATE, 31), dm_put_null(&w)), "\xdf\x1f\x00");
@@ -263,7 +270,8 @@ static void test_refused(void) {
     EXPECT_REFUSED(dm_put_arcs(&w, large, 2), DM_ERROR_WRONG_VALUE);
     EXPECT_REFUSED(dm_put_text(&w, 19, octets_of("a@b"), 3), DM_ERROR_INVALID_CHARACTER);
     EXPECT_REFUSED(dm_put_text(&w, 12, octets_of("\xc3"), 1), DM_ERROR_INVALID_CHARACTER);
-    EXPECT_REFUSED(dm_put_text(&w, 30, octets_of("\0A"), 2), DM_ERROR_WRONG_TYPE);
+    EXPECT_REFUSED(dm_put_text(&w, 30, octets_of("\0A\0"), 3), DM_ERROR_INVALID_CHARACTER);
+    EXPECT_REFUSED(dm_put_text(&w, 30, octets_of("\xd8\0"), 2), DM_ERROR_INVALID_CHARACTER);
     EXPECT_REFUSED(dm_put_text(&w, 4, octets_of("A"), 1), DM_ERROR_WRONG_TYPE);
     dm_time good = {2026, 0, 11, 27, 9, 5, 0, DM_UTC, 0, 0}, time = good;
     EXPECT_REFUSED(dm_put_time(&w, 22, &time), DM_ERROR_INVALID_TIME);
@@ -310,6 +318,27 @@ static void test_marks(void) {
     EXPECT_OCTETS(dm_close(&w, dm_open(&w, DM_APPLICATION, 0, 4096)), "\x5f\xa0\x00\x00");
 }
 
+/* A SET OF elements, which openssl asn1parse -genconf writes in this order. */
+static void put_set_of(dm_writer *w) {
+    dm_mark set = dm_open_set(w);
+    dm_put_i64(w, 5);
+    dm_put_i64(w, 3);
+    dm_put_bool(w, 1);
+    dm_put_octets(w, octets_of("a"), 1);
+    dm_close_set_of(w, set);
+}
+
+static void test_sets_of(void) {
+    EXPECT_OCTETS(put_set_of(&w), "\x31\x0c\x01\x01\xff\x02\x01\x03\x02\x01\x05\x04\x01" "a");
+    EXPECT_OCTETS(dm_close_set_of(&w, dm_open_set(&w)), "\x31\x00");
+    dm_writer w = start();
+    dm_mark outer = dm_open_set(&w);
+    (void)dm_open_set(&w);
+    dm_writer before = w;
+    dm_close_set_of(&w, outer);
+    expect(memcmp(&w, &before, sizeof w) == 0, "the outer SET OF is closed first");
+}
+
 /* Any numbers in a writer and a mark are safe: nothing outside the buffer is touched. */
 static void test_any_state(void) {
     static const size_t numbers[] = {0, 1, 2, 5, 30, 31, 32, 33, 34, 200, SIZE_MAX / 2, SIZE_MAX - 1, SIZE_MAX};
@@ -324,6 +353,8 @@ static void test_any_state(void) {
         mark = dm_open(&w, 255, 255, UINT32_MAX);
         dm_put_octets(&w, octets_of("abc"), 3);
         dm_close(&w, mark);
+        mark.start = numbers[i % count], mark.outer = w.innermost = numbers[i / count % count];
+        dm_close_set_of(&w, mark);
         (void)dm_finish(&w, &length);
         buffers++;
         free(buffer);
@@ -420,6 +451,7 @@ int main(int count, char **words) {
     test_times();
     test_refused();
     test_marks();
+    test_sets_of();
     test_any_state();
     for (int i = 0; i < 2000; i++) test_random();
     printf("writer: %lu buffers, %lu passed, %lu failed\n", buffers, passed, failed);

@@ -265,18 +265,23 @@ dm_mark dm_open_octet_string(dm_writer *writer);
 dm_mark dm_open_tagged(dm_writer *writer, uint32_t number);
 dm_mark dm_open(dm_writer *writer, uint8_t tag_class, uint8_t constructed, uint32_t number);
 
-/* Closes an element. Those that were opened in it have to be closed before: otherwise nothing is closed. */
+/* Closes an element. Those that were opened in it have to be closed before: otherwise nothing is closed.
+ * dm_close_set_of closes a SET OF, and sorts the elements that were put in it, in the buffer (11.6): of n elements it
+ * takes up to n^2/2 comparisons. */
 void dm_close(dm_writer *writer, dm_mark mark);
+void dm_close_set_of(dm_writer *writer, dm_mark mark);
 
 /* Puts the next element, which has to be primitive, under an implicit tag (8.14.3). A call that puts nothing leaves it
  * for the next. */
 void dm_implicit(dm_writer *writer, uint8_t tag_class, uint32_t number);
 
-/* Each puts one element. A BOOLEAN is true unless the value is 0. */
+/* Each puts one element. A BOOLEAN is true unless the value is 0. dm_put_enumerated_i64 puts an ENUMERATED that may be
+ * negative. */
 void dm_put_bool(dm_writer *writer, uint8_t value);
 void dm_put_i64(dm_writer *writer, int64_t value);
 void dm_put_u64(dm_writer *writer, uint64_t value);
 void dm_put_enumerated(dm_writer *writer, uint64_t value);
+void dm_put_enumerated_i64(dm_writer *writer, int64_t value);
 void dm_put_octets(dm_writer *writer, const uint8_t *octets, size_t length);
 void dm_put_null(dm_writer *writer);
 
@@ -302,8 +307,8 @@ uint32_t dm_put_integer(dm_writer *writer, const uint8_t *content, size_t length
  * is above 2, the second above 39 after 0 or 1, or 80 and the second are 2^64 or more. */
 uint32_t dm_put_arcs(dm_writer *writer, const uint64_t *arcs, size_t count);
 
-/* A string type, by its tag number, with these octets: the types and character sets of dm_check_text, but for
- * BMPString. */
+/* A string type, by its tag number, with these octets: the types and character sets of dm_check_text. Octets of a
+ * BMPString (30) that aren't pairs are DM_ERROR_INVALID_CHARACTER. */
 uint32_t dm_put_text(dm_writer *writer, uint32_t number, const uint8_t *octets, size_t length);
 
 /* A UTCTime (23) of the years 1950 to 2049 with no fraction, or a GeneralizedTime (24) of the years 0 to 9999. The zone

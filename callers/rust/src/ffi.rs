@@ -134,11 +134,13 @@ extern "C" {
     fn dm_open_tagged(writer: *mut WriterState, number: u32) -> Mark;
     fn dm_open(writer: *mut WriterState, tag_class: u8, constructed: u8, number: u32) -> Mark;
     fn dm_close(writer: *mut WriterState, mark: Mark);
+    fn dm_close_set_of(writer: *mut WriterState, mark: Mark);
     fn dm_implicit(writer: *mut WriterState, tag_class: u8, number: u32);
     fn dm_put_bool(writer: *mut WriterState, value: u8);
     fn dm_put_i64(writer: *mut WriterState, value: i64);
     fn dm_put_u64(writer: *mut WriterState, value: u64);
     fn dm_put_enumerated(writer: *mut WriterState, value: u64);
+    fn dm_put_enumerated_i64(writer: *mut WriterState, value: i64);
     fn dm_put_octets(writer: *mut WriterState, octets: *const u8, length: usize);
     fn dm_put_null(writer: *mut WriterState);
     fn dm_put_magnitude(writer: *mut WriterState, octets: *const u8, length: usize);
@@ -372,9 +374,24 @@ impl<'b> Fields<'b> {
         }
     }
 
+    /// Opens a primitive element with the implicit tag that the next element has, or else this tag.
+    pub(crate) fn open_primitive(&mut self, tag: Tag) -> Mark {
+        let (class, number) = match self.state.implicit {
+            0 => (tag.class as u8, tag.number),
+            implicit => ((implicit - 1) as u8, self.state.number),
+        };
+        // SAFETY: see above.
+        unsafe { dm_open(&mut self.state, class, 0, number) }
+    }
+
     pub(crate) fn close(&mut self, mark: Mark) {
         // SAFETY: see above.
         unsafe { dm_close(&mut self.state, mark) }
+    }
+
+    pub(crate) fn close_set_of(&mut self, mark: Mark) {
+        // SAFETY: see above.
+        unsafe { dm_close_set_of(&mut self.state, mark) }
     }
 
     pub(crate) fn implicit(&mut self, tag: Tag) {
@@ -400,6 +417,11 @@ impl<'b> Fields<'b> {
     pub(crate) fn put_enumerated(&mut self, value: u64) {
         // SAFETY: see above.
         unsafe { dm_put_enumerated(&mut self.state, value) }
+    }
+
+    pub(crate) fn put_enumerated_i64(&mut self, value: i64) {
+        // SAFETY: see above.
+        unsafe { dm_put_enumerated_i64(&mut self.state, value) }
     }
 
     pub(crate) fn put_octets(&mut self, octets: &[u8]) {

@@ -110,11 +110,34 @@ impl<'b> Writer<'b> {
         self.inside(mark, function)
     }
 
-    /// Writes a SET of what the function writes, in that order. A SET OF has to be in ascending order by DER (X.690
-    /// 11.6), which the caller owes.
+    /// Writes a SET of what the function writes, in that order. [`set_of`](Writer::set_of) sorts elements.
     pub fn set<T>(&mut self, function: impl FnOnce(&mut Writer<'b>) -> T) -> T {
         let mark = self.fields.open_set();
         self.inside(mark, function)
+    }
+
+    /// Writes a SET OF the elements that the function writes, and sorts them in the buffer as DER demands (X.690 11.6).
+    /// For n of them that takes up to n²/2 comparisons.
+    ///
+    /// ```
+    /// use dumarewhi::to_vec;
+    ///
+    /// let octets = to_vec(|w| {
+    ///     w.set_of(|w| {
+    ///         w.u64(5);
+    ///         w.boolean(true);
+    ///         w.u64(3);
+    ///     });
+    ///     Ok(())
+    /// })?;
+    /// assert_eq!(octets, [0x31, 0x09, 0x01, 0x01, 0xff, 0x02, 0x01, 0x03, 0x02, 0x01, 0x05]);
+    /// # Ok::<(), dumarewhi::Error>(())
+    /// ```
+    pub fn set_of<T>(&mut self, function: impl FnOnce(&mut Writer<'b>) -> T) -> T {
+        let mark = self.fields.open_set();
+        let value = function(self);
+        self.fields.close_set_of(mark);
+        value
     }
 
     /// Writes a constructed element with this tag around what the function writes: an EXPLICIT tag, or an IMPLICIT one
@@ -208,9 +231,14 @@ impl<'b> Writer<'b> {
         self.fields.put_magnitude(octets);
     }
 
-    /// Writes an ENUMERATED.
+    /// Writes an ENUMERATED that isn't negative.
     pub fn enumerated(&mut self, value: u64) {
         self.fields.put_enumerated(value);
+    }
+
+    /// Writes an ENUMERATED that may be negative.
+    pub fn enumerated_i64(&mut self, value: i64) {
+        self.fields.put_enumerated_i64(value);
     }
 
     /// Writes a NULL.
@@ -257,6 +285,28 @@ impl<'b> Writer<'b> {
     /// Writes an IA5String. An error if a character isn't in its set.
     pub fn ia5_string(&mut self, text: &str) -> Result<()> {
         self.string(Tag::IA5_STRING, text)
+    }
+
+    /// Writes a BMPString, two octets for each character. An error if a character has a number above 0xffff.
+    ///
+    /// ```
+    /// use dumarewhi::to_vec;
+    ///
+    /// let octets = to_vec(|w| w.bmp_string("é€"))?;
+    /// assert_eq!(octets, [0x1e, 0x04, 0x00, 0xe9, 0x20, 0xac]);
+    /// assert!(to_vec(|w| w.bmp_string("\u{1f600}")).is_err());
+    /// # Ok::<(), dumarewhi::Error>(())
+    /// ```
+    pub fn bmp_string(&mut self, text: &str) -> Result<()> {
+        if text.chars().any(|character| u32::from(character) > 0xffff) {
+            return Err(self.error(ErrorKind::Value(Reason::INVALID_CHARACTER)));
+        }
+        let mark = self.fields.open_primitive(Tag::BMP_STRING);
+        for unit in text.encode_utf16() {
+            self.fields.put_elements(&unit.to_be_bytes());
+        }
+        self.fields.close(mark);
+        Ok(())
     }
 
     /// Writes a character string of any type that [`Any::as_str`] has. An error if a character isn't in its set.

@@ -102,6 +102,32 @@ fn each_size_of_a_length() {
     }
 }
 
+/// A SET OF in order, texts of two octets a character, and negative numbers. The octets are those of
+/// `openssl asn1parse -genconf`.
+#[test]
+fn values_of_openssl() {
+    let octets = to_vec(|w| {
+        w.set_of(|w| {
+            w.i64(5);
+            w.i64(3);
+            w.boolean(true);
+            w.octet_string(b"a");
+        });
+        w.enumerated_i64(-129);
+        w.enumerated_i64(128);
+        w.bmp_string("Ab")?;
+        w.implicit(Tag::context(5)).bmp_string("é€")?;
+        w.null();
+        Ok(())
+    });
+    let set = b"\x31\x0c\x01\x01\xff\x02\x01\x03\x02\x01\x05\x04\x01a".as_slice();
+    let numbers = b"\x0a\x02\xff\x7f\x0a\x02\x00\x80";
+    let texts = b"\x1e\x04\0A\0b\x85\x04\x00\xe9\x20\xac\x05\x00";
+    assert_eq!(octets.unwrap(), [set, numbers, texts].concat());
+    let beyond = to_vec(|w| w.bmp_string("\u{10000}")).unwrap_err();
+    assert_eq!(beyond.kind(), ErrorKind::Value(Reason::INVALID_CHARACTER));
+}
+
 /// What is read of one value is written as the same octets.
 #[test]
 fn values_that_were_read() {

@@ -1,5 +1,5 @@
 -- Fields that are put one after another, and inside one another.
-use Rattle.std.proofs.Common.{◌≡◌, ◌≢◌, ℕ, ◌⊎◌, inl, inr, All, ◌+◌, ◌-◌, ◌^◌, ◌<◌, ◌≤◌, Bool, true, false, Option, Some, None, List, [], ◌++◌, length, take, drop, min, refl, ap, sym, subst, ◌∙◌, arith, append_assoc, length-append, Result}
+use Rattle.std.proofs.Common.{◌≡◌, ◌≢◌, ℕ, ◌⊎◌, inl, inr, All, ◌+◌, ◌-◌, ◌^◌, ◌<◌, ◌≤◌, Bool, true, false, Option, Some, None, List, [], ◌++◌, length, take, drop, get_or, min, refl, ap, sym, subst, ◌∙◌, arith, append_assoc, length-append, Result}
 use Rattle.std.specs.Borrow.{MutBor}
 use Rattle.std.specs.Prelude.{Ok, Err}
 use Rattle.std.proofs.Math.Seq.{drop-drop}
@@ -13,7 +13,8 @@ use Rattle.der_writer.specs.declared.writer.WriteError.TheVariants.{NoRoom, NotC
 use Rattle.der_writer.specs.declared.writer.Writer.{Writer}
 use Rattle.der_base.specs.Encoding.{element}
 use Rattle.der_base.specs.Octets.{identifier, shortest_length}
-use Rattle.std.specs.List.{concat}
+use Rattle.std.specs.List.{concat, flat_map}
+use Rattle.std.proofs.lemmas.Grind.{common_steps}
 use Rattle.der_writer.specs.Fields.{primitive, constructed}
 use Rattle.der_writer.specs.SetsOf.{IsElement, IsInOrder, ClosesSetOf}
 use Rattle.der_writer.specs.Written.{HasWritten, IsClosed, IsInnermost, StartsAt, KeepsBuffer, Puts, Opens, EndsContent, Closes, IsTagged, Returns, Finishes, Wrote, PutsOptional, PutsUnless, if_some, class_put, number_put, leaf, reserved}
@@ -95,6 +96,19 @@ wrapped_in {a = a} {b = b} {c = c} {d = d} k p t {m = m} w l h o =
           (l.written (before ++ front) w inner opened.0 (h.written (before ++ front ++ reserved) opened.1));
     }
 
+-- the same octets
+pub puts_same : {a b : Writer} {x y : List ℕ} → x ≡ y → Puts x a b → Puts y a b
+puts_same {a = a} {b = b} e h = let P : List ℕ → Type 0 = λ l. Puts l a b in subst P e h
+
+next_item : {X A : Type 0} (f : X → List A) (xs : List X) (i : ℕ) (d : X) → i < length xs
+    → flat_map f (take i xs) ++ f (get_or xs i d) ≡ flat_map f (take (i + 1) xs)
+next_item f xs i d within = grind (arith, common_steps)
+
+-- the items of a list before an index are put, and so is the one at it
+pub item_put : {X : Type 0} {a b c : Writer} (f : X → List ℕ) (xs : List X) (i : ℕ) (d : X) → i < length xs
+    → Puts (flat_map f (take i xs)) a b → Puts (f (get_or xs i d)) b c → Puts (flat_map f (take (i + 1) xs)) a c
+item_put f xs i d within h k = puts_same (next_item f xs i d within) (puts_both k h)
+
 -- the fields of an element between its begin and its end
 pub puts_inside : {a b c d : Writer} {k : Class} {t : ℕ} {m : Mark} {w : List ℕ} → Closes m c d → Puts w b c → Opens k true t m a b → Puts (constructed k t w) a d
 unfolding constructed
@@ -113,10 +127,6 @@ leaf_within {a = a} {d = d} t k w class number o h l =
     let P : Class → Type 0 = λ x. Puts (element x false (number_put a.implicit t) w) a d in
     let Q : ℕ → Type 0 = λ n. Puts (element k.0 false n w) a d in
     subst P class (subst Q number (wrapped_in k.0 false k.1.0 w l h o))
-
--- the same octets
-pub puts_same : {a b : Writer} {x y : List ℕ} → x ≡ y → Puts x a b → Puts y a b
-puts_same {a = a} {b = b} e h = let P : List ℕ → Type 0 = λ l. Puts l a b in subst P e h
 
 -- a field without an implicit tag
 pub puts_plain : {a b : Writer} (t : ℕ) (x : List ℕ) → Puts (leaf a.implicit t x) a b → a.implicit ≡ None → Puts (primitive Universal t x) a b
@@ -165,7 +175,7 @@ pub wrote : {a b : Writer} {out : MutBor (List ℕ)} {e new : List ℕ} {r : Res
 wrote {a = a} {b = b} {out = out} {e = e} {new = new} {r = r} f s h =
     let none : HasWritten [] a = record { counted = omega (arith, s.count); held = λ room. refl } in
     let same : drop b.count a.out.now ≡ drop b.count out.now = ap (drop b.count) s.octets in
-    finished e out.now new b r (h.written [] none) (h.keeps.behind ∙ same) (h.keeps.size ∙ ap length s.octets) (h.level ∙ s.closed)
+    finished e out.now new b r (h.written [] none) (h.keeps.behind ∙ same) (h.keeps.size ∙ ap length s.octets) (h.level ∙ s.innermost)
     f.small f.kept f.returned
 
 -- the same of a buffer that is the writer's

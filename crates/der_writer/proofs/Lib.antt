@@ -8,6 +8,7 @@ pub mod Magnitudes
 pub mod Measuring
 pub mod Moves
 pub mod NamedBits
+pub mod SameBits
 pub mod Signed
 pub mod Sorting
 pub mod Trees

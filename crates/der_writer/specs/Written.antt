@@ -1,7 +1,7 @@
 -- What a writer has written.
 use Rattle.std.specs.Borrow.{MutBor}
-use Rattle.std.specs.Prelude.{◌≡◌, ◌≢◌, ℕ, ◌-◌, ◌^◌, ◌<◌, ◌≤◌, Bool, false, Option, Some, None, min, take, drop}
-use Rattle.std.specs.Prelude.{List, [], ◌∷◌, ◌++◌, length, Result, Ok, Err, MatchResult}
+use Rattle.std.specs.Prelude.{◌≡◌, ◌≢◌, ℕ, ◌-◌, ◌%◌, ◌^◌, ◌<◌, ◌≤◌, Bool, false, Option, Some, None, min, take, drop}
+use Rattle.std.specs.Prelude.{List, [], ◌∷◌, ◌++◌, length, Result, Ok, Err, IsOk, MatchResult}
 use Rattle.der_base.specs.declared.error.Error.{Error as BerError}
 use Rattle.der_base.specs.declared.error.OidParseError.{OidParseError}
 use Rattle.der_base.specs.declared.header.Class.{Class}
@@ -10,7 +10,9 @@ use Rattle.der_base.specs.declared.header.Tag.{Tag}
 use Rattle.der_base.specs.Encoding.{element}
 use Rattle.der_base.specs.Octets.{identifier, shortest_length}
 use Rattle.der_base.specs.Refusal.{refusal, invalid_charset}
-use Rattle.der_base.specs.Text.{IsTextOf}
+use Rattle.der_base.specs.Text.{IsTextOf, IsUtf16}
+use Rattle.der_values.specs.declared.identifier.ObjectIdentifier.{ObjectIdentifier}
+use Rattle.der_writer.specs.Octets.{identifier_octets, identifier_type}
 use Rattle.der_writer.specs.declared.writer.Writer.{Writer}
 use Rattle.der_writer.specs.declared.writer.Mark.{Mark}
 use Rattle.der_writer.specs.declared.writer.WriteError.{WriteError}
@@ -43,17 +45,17 @@ IsClosed s = s.innermost ≡ 0
 abbrev pub IsInnermost : Mark → Writer → Type 0
 IsInnermost m s = s.innermost ≡ m.start
 
--- a writer over this buffer, with so many octets
-pub record Resumes (out : MutBor (List ℕ)) (n : ℕ) (s : Writer) : Type 0 where
+-- a writer over this buffer, with n octets, and with the innermost open element whose length stands at k
+pub record Resumes (out : MutBor (List ℕ)) (n k : ℕ) (s : Writer) : Type 0 where
   pub over : s.out.ghost_name ≡ out.ghost_name
   pub octets : s.out.now ≡ out.now
   pub count : s.count ≡ n
+  pub innermost : s.innermost ≡ k
   pub plain : IsPlain s
-  pub closed : IsClosed s
 
 -- a writer at the start of the buffer
 abbrev pub StartsAt : MutBor (List ℕ) → Writer → Type 0
-StartsAt out s = Resumes out 0 s
+StartsAt out s = Resumes out 0 0 s
 
 -- it is the same buffer, where octets that aren't counted stay
 pub record Keeps (old : MutBor (List ℕ)) (before : ℕ) (new : MutBor (List ℕ)) (count : ℕ) : Type 0 where
@@ -100,6 +102,11 @@ if_some octets (Some v) = octets v
 abbrev pub PutsOptional : {V : Type 0} → ℕ → (V → List ℕ) → Option V → Writer → Writer → Type 0
 PutsOptional t content v old new = Puts (if_some (λ x. leaf old.implicit t (content x)) v) old new
 
+-- the same of an identifier, as the type that it has
+abbrev pub PutsOptionalIdentifier : Option ObjectIdentifier → Writer → Writer → Type 0
+PutsOptionalIdentifier v old new =
+    Puts (if_some (λ x. leaf old.implicit (identifier_type x) (identifier_octets x)) v) old new
+
 -- it is put with the content octets of the value, unless that is the default (11.5)
 pub record PutsUnless {V : Type 0} (default : V) (t : ℕ) (content : V → List ℕ) (v : V) (old new : Writer)
     : Type 0 where
@@ -111,6 +118,27 @@ abbrev pub PutsText : ℕ → List ℕ → Writer → Result (Unit {0}) BerError
 PutsText t x old result new = MatchResult result
     (λ v. IsTextOf t x × PutsLeaf t x old new)
     (λ e. (¬ IsTextOf t x) × (refusal e ≡ invalid_charset) × (new ≡ old))
+
+-- pairs of octets that are UTF-16, as those of a BMPString (8.23.9)
+abbrev pub IsBmp : List ℕ → Type 0
+IsBmp x = (length x % 2 ≡ 0) × IsUtf16 x
+
+-- it is put, with such octets; or they are others, and nothing is put
+abbrev pub PutsBmp : List ℕ → Writer → Result (Unit {0}) BerError → Writer → Type 0
+PutsBmp x old result new = MatchResult result
+    (λ v. IsBmp x × PutsLeaf 30 x old new)
+    (λ e. (¬ IsBmp x) × (refusal e ≡ invalid_charset) × (new ≡ old))
+
+-- a text of its character set is put, if there is one
+abbrev pub PutsOptionalText : ℕ → Option (List ℕ) → Writer → Result (Unit {0}) BerError → Writer → Type 0
+PutsOptionalText t None old result new = IsOk result × Puts [] old new
+PutsOptionalText t (Some x) old result new = PutsText t x old result new
+
+-- and one with a default, unless it is the default (11.5)
+pub record PutsTextUnless (default : List ℕ) (t : ℕ) (x : List ℕ) (old : Writer) (result : Result (Unit {0}) BerError)
+    (new : Writer) : Type 0 where
+  pub same : x ≡ default → IsOk result × Puts [] old new
+  pub other : x ≢ default → PutsText t x old result new
 
 -- the content octets of arcs are put, or it is refused why there are none, and nothing is put
 abbrev pub PutsArcs : Result (List ℕ) OidParseError → Writer → Result (Unit {0}) OidParseError → Writer → Type 0

@@ -7,12 +7,12 @@ ghost use Rattle.der_base.specs.Text.{is_text_type};
 ghost use Rattle.der_base.specs.Time.{text_from_year};
 ghost use Rattle.der_base.specs.Tree.{boolean, enumerated, time};
 ghost use Rattle.der_writer.specs.Octets.{bit_octets, signed_integer};
-ghost use Rattle.der_writer.specs.Written.{PutsLeaf, PutsText};
+ghost use Rattle.der_writer.specs.Written.{PutsBmp, PutsLeaf, PutsText};
 
 use crate::writer::{Writer, tag_put};
 use der_base::error::BerError;
 use der_base::header::Tag;
-use der_base::text::read_text;
+use der_base::text::{is_utf16, read_text};
 use der_base::time::ASN1DateTime;
 use der_octets::header::{integer_octet_count, write_integer};
 use der_octets::time::{GENERALIZED_YEAR, UTC_YEAR, time_length, write_time};
@@ -59,13 +59,7 @@ impl<'b> Writer<'b> {
     pub fn put_i64(&mut self, value: i64)
         ensures { PutsLeaf 2 (signed_integer value) self.old self.new }
     {
-        if value < 0 {
-            let mut room = [0; 9];
-            let octets = negative_octets(&mut room, ones_complement(value));
-            self.put_primitive(Tag::Integer, octets);
-        } else {
-            self.put_number(Tag::Integer, value as u64);
-        }
+        self.put_signed(Tag::Integer, value);
     }
 
     /// An INTEGER of any size that isn't negative, with these octets, the highest first. Zeros in front are left out.
@@ -81,11 +75,31 @@ impl<'b> Writer<'b> {
         }
     }
 
-    /// An ENUMERATED (8.4).
+    /// An ENUMERATED (8.4) that isn't negative.
     pub fn put_enumerated(&mut self, value: u64)
         ensures { PutsLeaf 10 (content_octets (enumerated value)) self.old self.new }
     {
         self.put_number(Tag::Enumerated, value);
+    }
+
+    /// An ENUMERATED that may be negative.
+    pub fn put_enumerated_i64(&mut self, value: i64)
+        ensures { PutsLeaf 10 (signed_integer value) self.old self.new }
+    {
+        self.put_signed(Tag::Enumerated, value);
+    }
+
+    /// A number in the fewest octets of two's complement (8.3.2).
+    fn put_signed(&mut self, tag: Tag, value: i64)
+        ensures { PutsLeaf tag.0 (signed_integer value) self.old self.new }
+    {
+        if value < 0 {
+            let mut room = [0; 9];
+            let octets = negative_octets(&mut room, ones_complement(value));
+            self.put_primitive(tag, octets);
+        } else {
+            self.put_number(tag, value as u64);
+        }
     }
 
     /// A number in the fewest octets (8.3.2).
@@ -174,6 +188,18 @@ impl<'b> Writer<'b> {
         ensures { PutsText 22 text.now self.old result self.new }
     {
         self.put_text(Tag::Ia5String, text.as_bytes())
+    }
+
+    /// A BMPString (8.23.9) of these octets: two for each character, the high one first. StringInvalidCharset if they
+    /// aren't pairs of UTF-16: then nothing is put.
+    pub fn put_bmp(&mut self, octets: &[u8]) -> Result<(), BerError>
+        ensures { PutsBmp octets.now self.old result self.new }
+    {
+        if octets.len() % 2 != 0 || !is_utf16(octets) {
+            return Err(BerError::StringInvalidCharset);
+        }
+        self.put_primitive(Tag::BmpString, octets);
+        Ok(())
     }
 
     /// A UTCTime (11.8).
@@ -270,7 +296,7 @@ fn needs_zero(octets: &[u8]) -> bool
 }
 
 /// An octet with its last bits 0.
-fn clear_bits(octet: u8, count: u8) -> u8
+pub(crate) fn clear_bits(octet: u8, count: u8) -> u8
     requires { count ≤ 7 }
     ensures { result ≡ octet - octet % 2 ^ count }
 {

@@ -1,6 +1,7 @@
 //! Writing DER field after field into a buffer of the caller's (X.690 8, 10 and 11). Only `to_vec` takes memory.
 #![tactic(auto)]
 
+mod defaults;
 mod element;
 mod fields;
 mod identifier;

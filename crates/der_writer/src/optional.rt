@@ -1,47 +1,19 @@
-//! Values that may be absent (X.680 25.8 and 25.9, X.690 11.5).
+//! Values that may be absent (X.680 25.8).
+ghost use Rattle.std.specs.Prelude.{IsTrue};
 ghost use Rattle.std.specs.Option.{option_copied};
 ghost use Rattle.der_base.specs.Encoding.{content_octets};
 ghost use Rattle.der_base.specs.Octets.{shortest_integer};
+ghost use Rattle.der_base.specs.Text.{is_text_type};
 ghost use Rattle.der_base.specs.Tree.{boolean};
-ghost use Rattle.der_writer.specs.Octets.{signed_integer};
-ghost use Rattle.der_writer.specs.Written.{PutsOptional, PutsUnless};
+ghost use Rattle.der_writer.specs.Octets.{bit_octets, signed_integer};
+ghost use Rattle.der_writer.specs.Written.{PutsOptional, PutsOptionalIdentifier, PutsOptionalText};
 
 use crate::writer::Writer;
+use der_base::error::BerError;
+use der_base::header::Tag;
+use der_values::ObjectIdentifier;
 
 impl<'b> Writer<'b> {
-    /// A BOOLEAN with a default, which isn't put (11.5).
-    pub fn put_default_bool(&mut self, value: bool, default: bool)
-        ensures { PutsUnless default 1 (λ v. content_octets (boolean v)) value self.old self.new }
-    {
-        if value == default {
-            self.put_elements(&[]);
-        } else {
-            self.put_bool(value);
-        }
-    }
-
-    /// An INTEGER that isn't negative, with a default, which isn't put.
-    pub fn put_default_u64(&mut self, value: u64, default: u64)
-        ensures { PutsUnless default 2 shortest_integer value self.old self.new }
-    {
-        if value == default {
-            self.put_elements(&[]);
-        } else {
-            self.put_u64(value);
-        }
-    }
-
-    /// An INTEGER with a default, which isn't put.
-    pub fn put_default_i64(&mut self, value: i64, default: i64)
-        ensures { PutsUnless default 2 signed_integer value self.old self.new }
-    {
-        if value == default {
-            self.put_elements(&[]);
-        } else {
-            self.put_i64(value);
-        }
-    }
-
     /// A BOOLEAN, if there is one.
     pub fn put_optional_bool(&mut self, value: Option<bool>)
         ensures { PutsOptional 1 (λ v. content_octets (boolean v)) value self.old self.new }
@@ -72,6 +44,16 @@ impl<'b> Writer<'b> {
         }
     }
 
+    /// A BIT STRING of the unused bits and the octets, as `put_bits`, if there is one.
+    pub fn put_optional_bits(&mut self, bits: Option<(u8, &[u8])>)
+        ensures { PutsOptional 3 (λ v. bit_octets v.0 v.1.now) bits.entry self.old self.new }
+    {
+        match bits {
+            Some((unused, octets)) => self.put_bits(unused, octets),
+            None => self.put_elements(&[]),
+        }
+    }
+
     /// An OCTET STRING, if there is one.
     pub fn put_optional_octets(&mut self, octets: Option<&[u8]>)
         ensures { PutsOptional 4 (λ w. w) (option_copied octets.entry) self.old self.new }
@@ -79,6 +61,50 @@ impl<'b> Writer<'b> {
         match octets {
             Some(octets) => self.put_octets(octets),
             None => self.put_elements(&[]),
+        }
+    }
+
+    /// An OBJECT IDENTIFIER with these content octets, if there is one.
+    pub fn put_optional_oid(&mut self, octets: Option<&[u8]>)
+        ensures { PutsOptional 6 (λ w. w) (option_copied octets.entry) self.old self.new }
+    {
+        match octets {
+            Some(octets) => self.put_oid(octets),
+            None => self.put_elements(&[]),
+        }
+    }
+
+    /// An OBJECT IDENTIFIER or a RELATIVE-OID, as `put_identifier`, if there is one.
+    pub fn put_optional_identifier(&mut self, value: Option<ObjectIdentifier<'_>>)
+        ensures { PutsOptionalIdentifier value.entry self.old self.new }
+    {
+        match value {
+            Some(value) => self.put_identifier(value),
+            None => self.put_elements(&[]),
+        }
+    }
+
+    /// A UTF8String, if there is one.
+    pub fn put_optional_utf8(&mut self, text: Option<&str>)
+        ensures { PutsOptional 12 (λ w. w) (option_copied text.entry) self.old self.new }
+    {
+        match text {
+            Some(text) => self.put_utf8(text),
+            None => self.put_elements(&[]),
+        }
+    }
+
+    /// A text with these octets, as `put_text`, if there is one.
+    pub fn put_optional_text(&mut self, tag: Tag, octets: Option<&[u8]>) -> Result<(), BerError>
+        requires { IsTrue (is_text_type tag.0) }
+        ensures { PutsOptionalText tag.0 (option_copied octets.entry) self.old result self.new }
+    {
+        match octets {
+            Some(octets) => self.put_text(tag, octets),
+            None => {
+                self.put_elements(&[]);
+                Ok(())
+            }
         }
     }
 }

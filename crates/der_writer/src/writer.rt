@@ -33,13 +33,13 @@ pub struct Writer<'b> {
     pub(crate) implicit: Option<(Class, Tag)>,
 }
 
-/// An element that is open, which `close` closes.
+/// An element that is open, which `close` closes. A mark of the same numbers is the same mark.
 #[derive(Drop)]
 pub struct Mark {
-    // Where its length stands.
-    start: usize,
-    // Where that of the element around it stands. 0 if there is none.
-    outer: usize,
+    /// Where its length stands.
+    pub start: usize,
+    /// Where that of the element around it stands. 0 if there is none.
+    pub outer: usize,
 }
 
 /// Why the octets aren't all in the buffer.
@@ -58,17 +58,18 @@ impl<'b> Writer<'b> {
     pub fn new(out: &'b mut [u8]) -> Writer<'b>
         ensures { StartsAt out.entry result }
     {
-        Writer::at(out, 0)
+        Writer::resume(out, 0, 0)
     }
 
-    /// A writer that goes on after so many octets in a buffer, as `count` returned them. No element is open.
-    pub fn at(out: &'b mut [u8], count: usize) -> Writer<'b>
-        ensures { Resumes out.entry count result }
+    /// A writer that goes on in a buffer where another one was, whose `count` and `innermost` these are. The next
+    /// element has no implicit tag.
+    pub fn resume(out: &'b mut [u8], count: usize, innermost: usize) -> Writer<'b>
+        ensures { Resumes out.entry count innermost result }
     {
         Writer {
             out,
             count,
-            innermost: 0,
+            innermost,
             implicit: None,
         }
     }
@@ -78,6 +79,13 @@ impl<'b> Writer<'b> {
         ensures { result ≡ self.now.count }
     {
         self.count
+    }
+
+    /// Where the length of the innermost open element stands. 0 if no element is open.
+    pub fn innermost(&self) -> usize
+        ensures { result ≡ self.now.innermost }
+    {
+        self.innermost
     }
 
     /// Puts the next element, which has to be primitive, under an implicit tag (X.690 8.14.3): it has the class

@@ -3,4 +3,5 @@ pub mod Firsts
 pub mod Moments
 pub mod Puts
 pub mod TextTests
+pub mod TextsPut
 pub mod Within

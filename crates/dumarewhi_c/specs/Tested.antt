@@ -1,6 +1,6 @@
 -- Values that are tested before they are put. If one isn't put, the writer stays as it was.
-use Rattle.std.specs.Prelude.{◌≡◌, ℕ, ◌%◌, ◌⊎◌, ◌&&◌, ◌==◌, nat_le, if◌then◌else◌, Bool, false, IsTrue, Some, None}
-use Rattle.std.specs.Prelude.{List, Result, Ok, Err, MatchResult}
+use Rattle.std.specs.Prelude.{◌≡◌, ℕ, ◌%◌, ◌⊎◌, ◌&&◌, ◌||◌, ◌==◌, nat_le, if◌then◌else◌, Bool, false, IsTrue}
+use Rattle.std.specs.Prelude.{Some, None, List, Result, Ok, Err, MatchResult}
 use Rattle.der_base.specs.declared.error.Error.{Error as BerError}
 use Rattle.der_base.specs.declared.error.OidParseError.{OidParseError}
 use Rattle.der_base.specs.declared.error.OidParseError.TheVariants.{TooShort}
@@ -13,7 +13,7 @@ use Rattle.der_base.specs.Refusal.{refusal, invalid_charset, invalid_date_time, 
 use Rattle.der_base.specs.Text.{IsTextOf, is_text_type, is_within}
 use Rattle.der_base.specs.Tree.{time}
 use Rattle.der_writer.specs.declared.writer.Writer.{Writer}
-use Rattle.der_writer.specs.Written.{PutsLeaf}
+use Rattle.der_writer.specs.Written.{IsBmp, PutsLeaf}
 use Rattle.dumarewhi_c.specs.declared.time.DmTime.{DmTime}
 use Rattle.dumarewhi_c.specs.ErrorNumbers.{refusal_number}
 
@@ -23,15 +23,23 @@ PutsInteger w old found new = MatchResult found
     (λ _. IsMinimalInteger w × PutsLeaf 2 w old new)
     (λ e. IsFirstRefusal (integer_tests w) (refusal e) × (new ≡ old))
 
+-- a string type that is kept as a text (8.23), or a BMPString (30)
+abbrev pub is_string_type : ℕ → Bool
+is_string_type t = t == 30 || is_text_type t
+
+-- the octets are in its character set
+abbrev pub IsStringOf : ℕ → List ℕ → Type 0
+IsStringOf t w = IsTextOf t w × (t ≡ 30 → IsBmp w)
+
 -- why octets are no text of the type with this number
 abbrev pub IsNoText : ℕ → List ℕ → BerError → Type 0
-IsNoText t w e = ((is_text_type t ≡ false) × (refusal e ≡ wrong_type))
-    ⊎ (IsTrue (is_text_type t) × (¬ IsTextOf t w) × (refusal e ≡ invalid_charset))
+IsNoText t w e = ((is_string_type t ≡ false) × (refusal e ≡ wrong_type))
+    ⊎ (IsTrue (is_string_type t) × (¬ IsStringOf t w) × (refusal e ≡ invalid_charset))
 
--- a string type that is kept as a text (8.23), if the octets are in its character set
+-- one of these types, if the octets are in its character set
 abbrev pub PutsAnyText : ℕ → List ℕ → Writer → Result (Unit {0}) BerError → Writer → Type 0
 PutsAnyText t w old found new = MatchResult found
-    (λ _. IsTrue (is_text_type t) × IsTextOf t w × PutsLeaf t w old new)
+    (λ _. IsTrue (is_string_type t) × IsStringOf t w × PutsLeaf t w old new)
     (λ e. IsNoText t w e × (new ≡ old))
 
 -- why arcs have no octets

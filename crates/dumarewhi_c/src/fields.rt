@@ -57,7 +57,7 @@ pub extern "C" fn dm_put_magnitude(writer: &mut DmWriter<'_>, octets: &[u8])
     writer.implicit = 0;
 }
 
-/// An ENUMERATED (8.4).
+/// An ENUMERATED (8.4) that isn't negative.
 #[unsafe(no_mangle)]
 pub extern "C" fn dm_put_enumerated(writer: &mut DmWriter<'_>, value: u64)
     ensures { PutsLeaf 10 (content_octets (enumerated value)) (writer_of writer.old) (writer_of writer.new) }
@@ -65,6 +65,18 @@ pub extern "C" fn dm_put_enumerated(writer: &mut DmWriter<'_>, value: u64)
     let implicit = implicit_of(writer.implicit, writer.number);
     let mut fields = resume(writer.octets, writer.count, implicit);
     fields.put_enumerated(value);
+    writer.count = fields.count();
+    writer.implicit = 0;
+}
+
+/// An ENUMERATED that may be negative.
+#[unsafe(no_mangle)]
+pub extern "C" fn dm_put_enumerated_i64(writer: &mut DmWriter<'_>, value: i64)
+    ensures { PutsLeaf 10 (signed_integer value) (writer_of writer.old) (writer_of writer.new) }
+{
+    let implicit = implicit_of(writer.implicit, writer.number);
+    let mut fields = resume(writer.octets, writer.count, implicit);
+    fields.put_enumerated_i64(value);
     writer.count = fields.count();
     writer.implicit = 0;
 }

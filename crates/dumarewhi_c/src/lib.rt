@@ -2,7 +2,6 @@
 //! `callers/c/include/dumarewhi.h` declares it all.
 #![tactic(auto)]
 
-mod close;
 pub mod element;
 pub mod error_text;
 mod errors;

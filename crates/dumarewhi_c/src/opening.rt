@@ -2,14 +2,13 @@
 ghost use Rattle.std.specs.Prelude.{◌≡◌, Result, true, false, ℕ};
 ghost use Rattle.der_base.specs.declared.header.Class.{Class};
 ghost use Rattle.der_writer.specs.declared.writer.WriteError.{WriteError};
+ghost use Rattle.der_writer.specs.SetsOf.{ClosesSetOf};
 ghost use Rattle.der_writer.specs.Written.{Closes, IsTagged, Opens, Puts, Returns};
 ghost use Rattle.dumarewhi_c.specs.Writers.{class_of, finished_length, finished_status, is_set, mark_of, writer_of};
 
-use crate::close::end_content;
 use crate::state::{DmMark, DmWriter, class_of};
 use der_base::header::{Class, Tag};
-use der_octets::header::identifier_octet_count;
-use der_writer::Writer;
+use der_writer::{Mark, Writer};
 
 /// What `dm_finish` returns.
 const FINISHED: u32 = 0;
@@ -69,14 +68,15 @@ pub extern "C" fn dm_open_tagged(writer: &mut DmWriter<'_>, number: u32) -> DmMa
 fn open(writer: &mut DmWriter<'_>, class: Class, constructed: bool, tag: Tag) -> DmMark
     ensures { Opens class constructed tag.0 (mark_of result) (writer_of writer.old) (writer_of writer.new) }
 {
-    let start = writer.count.saturating_add(identifier_octet_count(tag));
-    let mut fields = Writer::at(writer.octets, writer.count);
-    let _ = fields.open(class, constructed, tag);
+    let mut fields = Writer::resume(writer.octets, writer.count, writer.innermost);
+    let mark = fields.open(class, constructed, tag);
     writer.count = fields.count();
+    writer.innermost = fields.innermost();
     writer.implicit = 0;
-    let outer = writer.innermost;
-    writer.innermost = start;
-    DmMark { start, outer }
+    DmMark {
+        start: mark.start,
+        outer: mark.outer,
+    }
 }
 
 /// Closes an element. Those that were opened in it have to be closed before: otherwise nothing is closed, and
@@ -85,12 +85,29 @@ fn open(writer: &mut DmWriter<'_>, class: Class, constructed: bool, tag: Tag) ->
 pub extern "C" fn dm_close(writer: &mut DmWriter<'_>, mark: DmMark)
     ensures { Closes (mark_of mark) (writer_of writer.old) (writer_of writer.new) }
 {
+    let mut fields = Writer::resume(writer.octets, writer.count, writer.innermost);
+    fields.close(Mark {
+        start: mark.start,
+        outer: mark.outer,
+    });
+    writer.count = fields.count();
+    writer.innermost = fields.innermost();
     writer.implicit = 0;
-    if mark.start != writer.innermost {
-        return;
-    }
-    writer.innermost = mark.outer;
-    end_content(writer, mark.start);
+}
+
+/// Closes a SET OF, as `dm_close`, and sorts the elements that were put in it (11.6), in the buffer.
+#[unsafe(no_mangle)]
+pub extern "C" fn dm_close_set_of(writer: &mut DmWriter<'_>, mark: DmMark)
+    ensures { ClosesSetOf (mark_of mark) (writer_of writer.old) (writer_of writer.new) }
+{
+    let mut fields = Writer::resume(writer.octets, writer.count, writer.innermost);
+    fields.close_set_of(Mark {
+        start: mark.start,
+        outer: mark.outer,
+    });
+    writer.count = fields.count();
+    writer.innermost = fields.innermost();
+    writer.implicit = 0;
 }
 
 /// Puts the next element, which has to be primitive, under an implicit tag (8.14.3): it has this class and number in
@@ -108,7 +125,7 @@ pub extern "C" fn dm_implicit(writer: &mut DmWriter<'_>, tag_class: u8, number: 
 pub extern "C" fn dm_put_elements(writer: &mut DmWriter<'_>, octets: &[u8])
     ensures { Puts octets.now (writer_of writer.old) (writer_of writer.new) }
 {
-    let mut fields = Writer::at(writer.octets, writer.count);
+    let mut fields = Writer::resume(writer.octets, writer.count, 0);
     fields.put_elements(octets);
     writer.count = fields.count();
     writer.implicit = 0;

@@ -30,11 +30,12 @@ pub struct DmMark {
     pub outer: usize,
 }
 
-/// A writer that goes on after so many octets in a buffer, before an element with this implicit tag.
+/// A writer that goes on after so many octets in a buffer, before an element with this implicit tag. No element is open
+/// for it.
 pub(crate) fn resume(out: &mut [u8], count: usize, implicit: Option<(Class, Tag)>) -> Writer<'_>
     ensures { Continues out.entry count implicit result }
 {
-    let mut fields = Writer::at(out, count);
+    let mut fields = Writer::resume(out, count, 0);
     if let Some((class, tag)) = implicit {
         let _ = fields.implicit_of(class, tag.0);
     }

@@ -16,6 +16,7 @@ use crate::time::DmTime;
 use der_base::error::{BerError, OidParseError};
 use der_base::header::Tag;
 use der_base::integer::check_fewest_octets;
+use der_writer::Writer;
 
 /// An INTEGER with these content octets, in two's complement (X.690 8.3), if they are the fewest for their number.
 #[unsafe(no_mangle)]
@@ -72,7 +73,7 @@ fn number_of_arcs(found: Result<(), OidParseError>) -> u32
     }
 }
 
-/// A string type that is kept as a text (8.23), with these octets, if they are in its character set.
+/// A string type that is kept as a text (8.23), or a BMPString, with these octets, if they are in its character set.
 #[unsafe(no_mangle)]
 pub extern "C" fn dm_put_text(writer: &mut DmWriter<'_>, number: u32, octets: &[u8]) -> u32
     ensures { (found : Result (Unit {0}) BerError)
@@ -85,15 +86,25 @@ pub extern "C" fn dm_put_text(writer: &mut DmWriter<'_>, number: u32, octets: &[
 fn put_text(writer: &mut DmWriter<'_>, tag: Tag, octets: &[u8]) -> Result<(), BerError>
     ensures { PutsAnyText tag.0 octets.now (writer_of writer.old) result (writer_of writer.new) }
 {
-    if !has_text(tag) {
-        return Err(BerError::BerTypeError);
-    }
     let implicit = implicit_of(writer.implicit, writer.number);
     let mut fields = resume(writer.octets, writer.count, implicit);
-    fields.put_text(tag, octets)?;
+    put_text_of(&mut fields, tag, octets)?;
     writer.count = fields.count();
     writer.implicit = 0;
     Ok(())
+}
+
+/// The same to a writer of DER.
+fn put_text_of(fields: &mut Writer<'_>, tag: Tag, octets: &[u8]) -> Result<(), BerError>
+    ensures { PutsAnyText tag.0 octets.now fields.old result fields.new }
+{
+    if tag == Tag::BmpString {
+        fields.put_bmp(octets)
+    } else if has_text(tag) {
+        fields.put_text(tag, octets)
+    } else {
+        Err(BerError::BerTypeError)
+    }
 }
 
 /// Whether the type is kept as a text.

@@ -3,7 +3,7 @@ use der_base::error::{BerError, OidParseError};
 use der_base::header::Tag;
 use der_base::time::{ASN1DateTime, ASN1TimeZone};
 use der_values::ObjectIdentifier;
-use der_writer::Writer;
+use der_writer::{Mark, WriteError, Writer};
 
 /// Whether exactly these octets are put.
 fn puts<F>(put: F, expected: &[u8]) -> bool
@@ -58,6 +58,9 @@ fn unsigned_numbers(rt: HostRuntime) {
     assert!(rt; puts(|fields| fields.put_u32(200), b"\x02\x02\x00\xc8"));
     assert!(rt; puts(|fields| fields.put_u64(u64::MAX), b"\x02\x09\x00\xff\xff\xff\xff\xff\xff\xff\xff"));
     assert!(rt; puts(|fields| fields.put_enumerated(128), b"\x0a\x02\x00\x80"));
+    assert!(rt; puts(|fields| fields.put_enumerated_i64(128), b"\x0a\x02\x00\x80"));
+    assert!(rt; puts(|fields| fields.put_enumerated_i64(-1), b"\x0a\x01\xff"));
+    assert!(rt; puts(|fields| fields.put_enumerated_i64(-129), b"\x0a\x02\xff\x7f"));
     assert!(rt; puts(|fields| fields.put_integer(b"\xff\x7f"), b"\x02\x02\xff\x7f"));
 }
 
@@ -134,6 +137,10 @@ fn texts(rt: HostRuntime) {
     assert!(rt; puts(|fields| fields.put_utf8("\u{e9}"), b"\x0c\x02\xc3\xa9"));
     assert!(rt; puts(|fields| drop_result(fields.put_printable("a b")), b"\x13\x03a b"));
     assert!(rt; puts(|fields| drop_result(fields.put_ia5("a@b")), b"\x16\x03a@b"));
+    assert!(rt; puts(|fields| drop_result(fields.put_bmp(b"\x00A\x00b")), b"\x1e\x04\x00A\x00b"));
+    assert!(rt; puts(|fields| drop_result(fields.put_bmp(b"\x00\xe9\x20\xac")), b"\x1e\x04\x00\xe9\x20\xac"));
+    assert!(rt; is_refused(|fields| fields.put_bmp(b"\x00A\x00")));
+    assert!(rt; is_refused(|fields| fields.put_bmp(b"\xd8\x00")));
     assert!(rt; is_refused(|fields| fields.put_printable("a@b")));
     assert!(rt; is_refused(|fields| fields.put_ia5("\u{e9}")));
     assert!(rt; is_refused(|fields| fields.put_text(Tag::Utf8String, b"\xc3")));
@@ -200,6 +207,54 @@ fn values_that_may_be_absent(rt: HostRuntime) {
     assert!(rt; puts(|fields| fields.put_optional_u64(Some(128)), b"\x02\x02\x00\x80"));
     assert!(rt; puts(|fields| fields.put_optional_i64(Some(-128)), b"\x02\x01\x80"));
     assert!(rt; puts(|fields| fields.implicit(3).put_optional_octets(Some(b"a")), b"\x83\x01a"));
+}
+
+#[test]
+fn bits_identifiers_and_texts_that_may_be_absent(rt: HostRuntime) {
+    assert!(rt; puts(|fields| fields.put_optional_bits(None), b""));
+    assert!(rt; puts(|fields| fields.put_optional_bits(Some((4, b"\xab"))), b"\x03\x02\x04\xa0"));
+    assert!(rt; puts(|fields| fields.put_default_bits(4, b"\xab", (4, b"\xa0")), b""));
+    assert!(rt; puts(|fields| fields.put_default_bits(3, b"\xa0", (4, b"\xa0")), b"\x03\x02\x03\xa0"));
+    assert!(rt; puts(|fields| fields.put_default_bits(9, b"\xff", (7, b"\x80")), b""));
+    assert!(rt; puts(|fields| fields.put_default_bits(3, b"", (0, b"")), b""));
+    assert!(rt; puts(|fields| fields.put_default_bits(0, b"", (0, b"\x00")), b"\x03\x01\x00"));
+    assert!(rt; puts(|fields| fields.put_default_octets(b"a", b"a"), b""));
+    assert!(rt; puts(|fields| fields.put_default_octets(b"a", b""), b"\x04\x01a"));
+    assert!(rt; puts(|fields| fields.put_optional_oid(Some(b"\x2a")), b"\x06\x01\x2a"));
+    assert!(rt; puts(|fields| fields.put_default_oid(b"\x2a", b"\x2a"), b""));
+    assert!(rt; puts(|fields| fields.put_default_oid(b"\x2a", b"\x2b"), b"\x06\x01\x2a"));
+    let relative = ObjectIdentifier::new_relative(b"\x05");
+    assert!(rt; puts(|fields| fields.put_optional_identifier(Some(relative)), b"\x0d\x01\x05"));
+    assert!(rt; puts(|fields| fields.put_optional_utf8(Some("")), b"\x0c\x00"));
+    assert!(rt; puts(|fields| fields.put_default_utf8("a", "a"), b""));
+    assert!(rt; puts(|fields| fields.put_default_utf8("a", "b"), b"\x0c\x01a"));
+    let tag = Tag::Ia5String;
+    assert!(rt; puts(|fields| drop_result(fields.put_optional_text(tag, None)), b""));
+    assert!(rt; puts(|fields| drop_result(fields.put_optional_text(tag, Some(b"a"))), b"\x16\x01a"));
+    assert!(rt; is_refused(|fields| fields.put_optional_text(tag, Some(b"\xe9"))));
+    assert!(rt; puts(|fields| drop_result(fields.put_default_text(tag, b"a", b"a")), b""));
+    assert!(rt; is_refused(|fields| fields.put_default_text(tag, b"\xe9", b"a")));
+}
+
+/// Closes an element by a writer that goes on where another one was.
+fn resumed(out: &mut [u8]) -> Result<usize, WriteError> {
+    let mut fields = Writer::new(out);
+    let outer = fields.open_sequence();
+    let inner = fields.open_set();
+    fields.put_null();
+    let (count, innermost) = (fields.count(), fields.innermost());
+    let (first, second) = ((inner.start, inner.outer), (outer.start, outer.outer));
+    let mut fields = Writer::resume(out, count, innermost);
+    fields.close(Mark { start: first.0, outer: first.1 });
+    fields.close(Mark { start: second.0, outer: second.1 });
+    fields.finish()
+}
+
+#[test]
+fn a_writer_goes_on(rt: HostRuntime) {
+    let mut out = [0; 6];
+    assert!(rt; resumed(&mut out) == Ok(6) && &out == b"\x30\x04\x31\x02\x05\x00");
+    assert!(rt; resumed(&mut []) == Err(WriteError::NoRoom(6)));
 }
 
 /// Puts a NULL behind a value that is absent.

@@ -1,10 +1,12 @@
-use Rattle.std.proofs.Common.{sym}
-use Rattle.der_writer.proofs.Composing.{closes_none, closes_ended}
-use Rattle.dumarewhi_c.specs.Writers.{mark_of, writer_of}
+use Rattle.std.proofs.Common.{rules, refl, sym, ◌∙◌}
+use Rattle.dumarewhi_c.specs.Writers.{writer_of}
+use Rattle.dumarewhi_c.proofs.Alike.{closes_alike}
 use Rattle.dumarewhi_c.proofs.opening.dm_close.Goals as goal
 
-pub returns-then-mark-writer : goal.returns-then-mark-writer
-returns-then-mark-writer c = closes_none _ _ (λ e. c.if-mark-writer.true (sym e))
-
 pub returns : goal.returns
-returns c = closes_ended (mark_of c.args.mark) (writer_of c.args.writer.now) _ (sym c.if-mark-writer.false) c.end_content.ensures
+returns c =
+    let begin = c.resume-fields.ensures in
+    let closes = c.close.ensures in
+    let same = sym (closes.keeps.same ∙ begin.over) in
+    closes_alike (writer_of c.args.writer.now) _ closes (record { octets = begin.octets; count = begin.count; innermost = begin.innermost })
+    (record { octets = search (rules, same); count = sym c.count-writer.ensures; innermost = sym c.innermost-writer.ensures }) refl refl
