@@ -66,6 +66,11 @@ pub record IsContentWrittenAs {V : Type 0} (C : Content V) (f : V → List ℕ) 
 pub record IsWrittenAs {V : Type 0} (F : Field V) (f : V → List ℕ) : Type 0 where
   pub written : (i : List ℕ) (v : V) (rest : List ℕ) → AreOctets i → F Der i v rest → i ≡ f v ++ rest
 
+-- no other octets are the value: what the field reads as it by DER begins with these
+pub record EncodesOnly {V : Type 0} (F : Field V) (v : V) (e : List ℕ) : Type 0 where
+  pub only : AreOctets e → length e ≤ max_object_size
+      → (i rest : List ℕ) → AreOctets i → F Der i v rest → i ≡ e ++ rest
+
 -- the year of a UTCTime in two digits
 abbrev pub short_year : ASN1DateTime → ASN1DateTime
 short_year x = record x { year = x.year % 100 }

@@ -1,3 +1,3 @@
-pub mod Lists
 pub mod Numbers
+pub mod Read
 pub mod Searches

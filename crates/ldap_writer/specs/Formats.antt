@@ -4,7 +4,7 @@ use Rattle.der_base.specs.declared.header.Class.TheVariants.{Application}
 use Rattle.der_base.specs.Numbers.{unsigned}
 use Rattle.der_cursor.specs.Formats.{Field, Format, Required, ◌⨾◌, End, Each, Constructed, Sequence, Implicit, Boolean}
 use Rattle.der_cursor.specs.Formats.{Number, Enumerated, OctetString}
-use Rattle.der_written.specs.Encodings.{Encodes}
+use Rattle.der_written.specs.Encodings.{Encodes, EncodesOnly}
 use Rattle.ldap_writer.specs.declared.search.Filter.{Filter}
 use Rattle.ldap_writer.specs.declared.search.Filter.TheVariants.{Present, EqualityMatch}
 use Rattle.ldap_writer.specs.declared.search.Search.{Search}
@@ -95,3 +95,8 @@ pub record AreWithinLimits (id : ℕ) (s : Search) : Type 0 where
 abbrev pub SearchesEncode : Type 0
 SearchesEncode = (message_id : ℕ) (s : Search) → AreWithinLimits message_id s
     → Encodes (Required Message) (pos message_id, (request_of s, tt)) (search_octets message_id s)
+
+-- what is read with these values is what is written
+abbrev pub SearchesAreWritten : Type 0
+SearchesAreWritten = (message_id : ℕ) (s : Search) → AreWithinLimits message_id s
+    → EncodesOnly (Required Message) (pos message_id, (request_of s, tt)) (search_octets message_id s)

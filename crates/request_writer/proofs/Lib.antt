@@ -1,4 +1,5 @@
 pub mod Fields
 pub mod Keys
-pub mod Lists
+pub mod Read
 pub mod Requests
+pub mod Strict

@@ -11,7 +11,7 @@ use Rattle.der_cursor.specs.Formats.{Format, Required, Default, IfLeft, AnyEleme
 use Rattle.der_cursor.specs.Formats.{Each, Sequence, Set, Implicit, Limited, Element, Boolean, Number, BitString}
 use Rattle.der_cursor.specs.Formats.{OctetStringOf, ObjectIdentifier, Text}
 use Rattle.der_values.specs.Kinds.{EndsSubidentifier, HasPaddedArc}
-use Rattle.der_written.specs.Encodings.{Encodes}
+use Rattle.der_written.specs.Encodings.{Encodes, EncodesOnly}
 use Rattle.request_writer.specs.declared.algorithm.AlgorithmIdentifier.{AlgorithmIdentifier}
 use Rattle.request_writer.specs.declared.algorithm.Parameters.{Parameters}
 use Rattle.request_writer.specs.declared.algorithm.Parameters.TheVariants as parameters
@@ -184,3 +184,8 @@ AlternativeNamesEncode = (ns : List (Bor (List ℕ))) → ns ≢ [] → All IsDn
 abbrev pub RequestsEncode : Type 0
 RequestsEncode = (r : RequestInfo) (key : KeyValue) → All IsAttribute r.subject.now → IsKey r.key_info key
     → All IsDnsName r.dns_names.now → Encodes (Required Request) (request_of r key) (request_octets r)
+
+-- what is read with these values is what is written
+abbrev pub RequestsAreWritten : Type 0
+RequestsAreWritten = (r : RequestInfo) (key : KeyValue) → All IsAttribute r.subject.now → IsKey r.key_info key
+    → All IsDnsName r.dns_names.now → EncodesOnly (Required Request) (request_of r key) (request_octets r)

@@ -4,13 +4,16 @@ use Rattle.std.specs.Prelude.{◌<ℤ◌}
 use Rattle.std.proofs.lemmas.Int.{ints}
 use Rattle.der_base.specs.declared.header.Class.TheVariants.{Universal, ContextSpecific}
 use Rattle.der_base.specs.Numbers.{signed, least, greatest}
+use Rattle.der_values.specs.Kinds.{identifiers, numbers, nulls, octet_strings}
 use Rattle.der_writer.specs.Fields as put
 use Rattle.der_written.proofs.Encoded.{constructed_encodes, last_encodes, before_encodes, one_encodes, regrouped}
 use Rattle.der_written.proofs.Values.{signed_encodes, octets_encode, identifier_encodes, null_encodes}
 use Rattle.der_cursor.specs.Formats.{Format, Required, OctetString, Null}
 use Rattle.der_values.specs.Kinds.{EndsSubidentifier, HasPaddedArc}
-use Rattle.der_written.specs.Encodings.{Encodes}
-use Rattle.snmp_writer.specs.Formats.{IsRequestId, Message, RequestsEncode, ResponsesEncode, value_of}
+use Rattle.der_written.specs.Encodings.{Encodes, EncodesOnly, IsWrittenAs}
+use Rattle.der_written.proofs.Read.{constructed_written, primitive_written, then_written, end_written, each_written, encodes_only}
+use Rattle.der_written.proofs.ReadValues.{identifier_written, null_written, number_written, octets_written}
+use Rattle.snmp_writer.specs.Formats.{IsRequestId, Message, RequestsEncode, RequestsAreWritten, ResponsesEncode, ResponsesAreWritten, value_of}
 use Rattle.snmp_writer.specs.Messages.{binding, message}
 
 -- a number of one digit fits
@@ -43,3 +46,26 @@ request_encodes = message_encodes 0 Null tt put.Null (lit< tt) null_encodes
 
 pub response_encodes : ResponsesEncode
 response_encodes community id name value = message_encodes 2 OctetString value (put.OctetString value) (lit< tt) (octets_encode value) community id name
+
+-- What is read as a message.
+
+message_only : {V : Type 0} (operation : ℕ) (T : Format V) {f : V → List ℕ} (v : V) (e : List ℕ) → IsWrittenAs (Required T) f
+    → (community : List ℕ) (id : ℤ) (name : List ℕ) → Encodes (Required (Message operation T)) (value_of community id name v) (message operation community id (binding name e))
+    → EncodesOnly (Required (Message operation T)) (value_of community id name v) (message operation community id (binding name e))
+message_only operation T v e value community id name encodes =
+    let number = primitive_written (λ r. numbers r (signed 32)) 2 (number_written (signed 32)) in
+    let octets = primitive_written (λ r. octet_strings) 4 octets_written in
+    let identifier = primitive_written (λ r. identifiers) 6 identifier_written in
+    let bound = constructed_written Universal 16 (then_written identifier (then_written value end_written)) in
+    let bindings = constructed_written Universal 16 (each_written bound) in
+    let fields = then_written number (then_written number (then_written number (then_written bindings end_written))) in
+    let pdu = constructed_written ContextSpecific operation fields in
+    encodes_only (constructed_written Universal 16 (then_written number (then_written octets (then_written pdu end_written)))) encodes
+
+pub requests_only : RequestsAreWritten
+requests_only community id name fits ends plain =
+    message_only 0 Null tt put.Null (primitive_written nulls 5 null_written) community id name (request_encodes community id name fits ends plain)
+
+pub responses_only : ResponsesAreWritten
+responses_only community id name value fits ends plain =
+    message_only 2 OctetString value (put.OctetString value) (primitive_written (λ r. octet_strings) 4 octets_written) community id name (response_encodes community id name value fits ends plain)

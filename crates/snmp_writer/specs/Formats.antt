@@ -5,7 +5,7 @@ use Rattle.der_base.specs.Numbers.{signed, least, greatest}
 use Rattle.der_cursor.specs.Formats.{Format, Required, ◌⨾◌, End, Each, Constructed, Sequence, Number}
 use Rattle.der_cursor.specs.Formats.{OctetString, ObjectIdentifier, Null}
 use Rattle.der_values.specs.Kinds.{EndsSubidentifier, HasPaddedArc}
-use Rattle.der_written.specs.Encodings.{Encodes}
+use Rattle.der_written.specs.Encodings.{Encodes, EncodesOnly}
 use Rattle.snmp_writer.specs.Messages.{get_request, response}
 
 abbrev pub BindingValue : Type 0 → Type 0
@@ -54,4 +54,17 @@ abbrev pub ResponsesEncode : Type 0
 ResponsesEncode = (community : List ℕ) (request_id : ℤ) (name value : List ℕ)
     → IsRequestId request_id → EndsSubidentifier name → ¬ HasPaddedArc name
     → Encodes (Required (Message 2 OctetString)) (value_of community request_id name value)
+    (response community request_id name value)
+
+-- what is read with these values is what is written
+abbrev pub RequestsAreWritten : Type 0
+RequestsAreWritten = (community : List ℕ) (request_id : ℤ) (name : List ℕ)
+    → IsRequestId request_id → EndsSubidentifier name → ¬ HasPaddedArc name
+    → EncodesOnly (Required (Message 0 Null)) (value_of community request_id name tt)
+    (get_request community request_id name)
+
+abbrev pub ResponsesAreWritten : Type 0
+ResponsesAreWritten = (community : List ℕ) (request_id : ℤ) (name value : List ℕ)
+    → IsRequestId request_id → EndsSubidentifier name → ¬ HasPaddedArc name
+    → EncodesOnly (Required (Message 2 OctetString)) (value_of community request_id name value)
     (response community request_id name value)

@@ -1,6 +1,5 @@
 use Rattle.der_writer.specs.Fields.{OctetString}
-use Rattle.der_writer.proofs.Composing.{puts_plain}
-use Rattle.ldap_writer.proofs.Lists.{item_put}
+use Rattle.der_writer.proofs.Composing.{item_put, puts_plain}
 use Rattle.ldap_writer.proofs.writer.put_texts.Goals as goal
 
 pub loop-text-preserved : goal.loop-text-preserved

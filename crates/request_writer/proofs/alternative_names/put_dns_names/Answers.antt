@@ -1,5 +1,5 @@
 use Rattle.request_writer.specs.Octets.{dns_name_octets}
-use Rattle.request_writer.proofs.Lists.{item_put}
+use Rattle.der_writer.proofs.Composing.{item_put}
 use Rattle.request_writer.proofs.alternative_names.put_dns_names.Goals as goal
 
 pub loop-name-preserved : goal.loop-name-preserved

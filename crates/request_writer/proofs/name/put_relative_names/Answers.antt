@@ -1,5 +1,5 @@
 use Rattle.request_writer.specs.Octets.{relative_name_octets}
-use Rattle.request_writer.proofs.Lists.{item_put}
+use Rattle.der_writer.proofs.Composing.{item_put}
 use Rattle.request_writer.proofs.name.put_relative_names.Goals as goal
 
 pub loop-attribute-preserved : goal.loop-attribute-preserved
