@@ -1,9 +1,11 @@
 -- Numbers of any size by their octets.
-use Rattle.std.proofs.Common.{◌≡◌, ◌≢◌, ℕ, zero, suc, ◌+◌, ◌*◌, ◌<◌, ◌≤◌, nat_lt, true, false, List, [], ◌∷◌, length, get_or, drop, refl, sym, arith}
+use Rattle.std.proofs.Common.{◌≡◌, ◌≢◌, ℕ, zero, suc, ◌+◌, ◌*◌, ◌/◌, ◌%◌, ◌<◌, ◌≤◌, pos, ap, ◌∙◌, nat_lt, true, false, List, [], ◌∷◌, length, get_or, drop, refl, sym, arith}
 use Rattle.std.proofs.lemmas.Bool.Decides.{nat_tests}
+use Rattle.der_base.specs.Leaf.{IsMinimalInteger}
 use Rattle.der_base.specs.Octets.{needs_zero, number, octets, shortest_integer}
 use Rattle.der_base.proofs.AllByRecursion.{Each}
-use Rattle.der_base.proofs.Octets.Shortest.{IsOctet, octets_of_number}
+use Rattle.der_base.proofs.Octets.MinimalIntegers.{low_value}
+use Rattle.der_base.proofs.Octets.Shortest.{IsOctet, octets_of_number, shortest_of_value}
 
 -- octets with a 0 in front, if they need one
 pub with_zero : (n : ℕ) (w : List ℕ) → w ≡ octets n → needs_zero w ≡ true → 0 ∷ w ≡ shortest_integer n
@@ -47,3 +49,10 @@ small_integer (suc n) few =
     let own : octets (suc n) ≡ suc n ∷ [] = rw k at (octets_of_number (suc n) [] (omega arith) (omega arith) tt) in
     let high : nat_lt 127 (suc n) ≡ false = grind (arith, nat_tests) in
     rw (own, high) refl
+
+-- and of two
+pub two_octets : (n : ℕ) → 128 ≤ n → n < 32768 → n / 256 ∷ n % 256 ∷ [] ≡ shortest_integer n
+two_octets n least few =
+    let value : number (n / 256 ∷ n % 256 ∷ []) ≡ n = omega arith in
+    let minimal : IsMinimalInteger (n / 256 ∷ n % 256 ∷ []) = ((λ e. omega (arith, e, least)), (λ e. omega (arith, e, few))) in
+    shortest_of_value (n / 256 ∷ n % 256 ∷ []) n (omega arith, (omega arith, tt)) minimal (low_value (n / 256) (n % 256 ∷ []) (omega (arith, few)) ∙ ap pos value)

@@ -22,7 +22,7 @@ impl<'b> Writer<'b> {
     pub fn put_bool(&mut self, value: bool)
         ensures { PutsLeaf 1 (content_octets (boolean value)) self.old self.new }
     {
-        self.put_primitive(Tag::Boolean, &[if value { 0xff } else { 0 }]);
+        self.put_octet(Tag::Boolean, if value { 0xff } else { 0 });
     }
 
     /// An INTEGER with these content octets, in two's complement (8.3). They are the fewest for their number, as
@@ -103,17 +103,19 @@ impl<'b> Writer<'b> {
     }
 
     /// A number in the fewest octets (8.3.2).
-    #[tactic(auto, using(crate::proofs::Magnitudes::small_integer))]
+    #[tactic(auto, using(crate::proofs::Magnitudes::small_integer, crate::proofs::Magnitudes::two_octets))]
     fn put_number(&mut self, tag: Tag, value: u64)
         ensures { PutsLeaf tag.0 (shortest_integer value) self.old self.new }
     {
-        if value < 128 {
-            self.put_primitive(tag, &[value as u8]);
-            return;
+        if value < 0x80 {
+            self.put_octet(tag, value as u8);
+        } else if value < 0x8000 {
+            self.put_two_octets(tag, (value / 256) as u8, (value % 256) as u8);
+        } else {
+            let mut room = [0; 9];
+            let octets = number_octets(&mut room, value);
+            self.put_primitive(tag, octets);
         }
-        let mut room = [0; 9];
-        let octets = number_octets(&mut room, value);
-        self.put_primitive(tag, octets);
     }
 
     /// A BIT STRING (8.6, 11.2) of octets whose last bits aren't used, so many, at most seven. They are put as 0.

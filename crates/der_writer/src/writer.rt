@@ -1,13 +1,15 @@
 //! The writer.
-ghost use Rattle.std.specs.Prelude.{◌≡◌, ◌+◌, ◌≤◌, ◌++◌, [], drop, false, length, take, true};
+ghost use Rattle.std.specs.Prelude.{◌≡◌, ◌+◌, ◌≤◌, ◌++◌, [], ◌∷◌, drop, false, length, take, true};
 ghost use Rattle.der_base.specs.declared.header.Class.{Class};
 ghost use Rattle.der_base.specs.Encoding.{element};
-ghost use Rattle.der_base.specs.Octets.{shortest_length};
+ghost use Rattle.der_base.specs.Octets.{identifier, shortest_length};
 ghost use Rattle.der_writer.specs.SetsOf.{ClosesSetOf};
 ghost use Rattle.der_writer.specs.Written.{Closes, EndsContent, FillsTo, Finishes, IsTagged, Opens, Puts, PutsLeaf};
-ghost use Rattle.der_writer.specs.Written.{Resumes, StartsAt, class_put, number_put};
+ghost use Rattle.der_writer.specs.Written.{Resumes, StartsAt, class_put, number_put, reserved};
 
-use crate::element::{fill_length, header_size, identifier_octets, write_primitive};
+use crate::element::{
+    LONG_TAG, fill_length, header_size, identifier_octet, identifier_octets, write_primitive,
+};
 use crate::set_of::sort_between;
 use der_base::header::{Class, Tag};
 use der_octets::header::{identifier_octet_count, length_octet_count};
@@ -107,6 +109,7 @@ impl<'b> Writer<'b> {
     }
 
     /// Puts octets as they are: elements of DER that were written before.
+    #[inline]
     pub fn put_elements(&mut self, octets: &[u8])
         ensures { Puts octets.now self.old self.new }
     {
@@ -126,6 +129,30 @@ impl<'b> Writer<'b> {
         let end = self.count.saturating_add(size);
         put_between(self.out, self.count, end, class, tag, octets);
         self.count = end;
+    }
+
+    /// The same of one octet. A header of two octets and the content are written at once.
+    pub(crate) fn put_octet(&mut self, tag: Tag, octet: u8)
+        ensures { PutsLeaf tag.0 (octet ∷ []) self.old self.new }
+    {
+        let (class, number) = tag_put(self.implicit, tag);
+        if number.0 < LONG_TAG {
+            self.put_elements(&[identifier_octet(class, false, number), 1, octet]);
+        } else {
+            self.put_primitive(tag, &[octet]);
+        }
+    }
+
+    /// The same of two octets.
+    pub(crate) fn put_two_octets(&mut self, tag: Tag, first: u8, second: u8)
+        ensures { PutsLeaf tag.0 (first ∷ second ∷ []) self.old self.new }
+    {
+        let (class, number) = tag_put(self.implicit, tag);
+        if number.0 < LONG_TAG {
+            self.put_elements(&[identifier_octet(class, false, number), 2, first, second]);
+        } else {
+            self.put_primitive(tag, &[first, second]);
+        }
     }
 
     /// The same of a content in two parts.
@@ -173,12 +200,23 @@ impl<'b> Writer<'b> {
         ensures { Opens class constructed tag.0 result self.old self.new }
     {
         let start = self.count.saturating_add(identifier_octet_count(tag));
-        let mut room = [0; 8];
-        let octets = identifier_octets(&mut room, class, constructed, tag);
-        self.put_elements(octets);
+        self.put_opening(class, constructed, tag);
         let outer = self.innermost;
         self.innermost = start;
         Mark { start, outer }
+    }
+
+    /// Puts identifier octets, and a 0 that is reserved for the length.
+    fn put_opening(&mut self, class: Class, constructed: bool, tag: Tag)
+        ensures { Puts (identifier class constructed tag.0 ++ reserved) self.old self.new }
+    {
+        if tag.0 < LONG_TAG {
+            self.put_elements(&[identifier_octet(class, constructed, tag), 0]);
+        } else {
+            let mut room = [0; 8];
+            let octets = identifier_octets(&mut room, class, constructed, tag);
+            self.put_elements(octets);
+        }
     }
 
     /// Closes an element. Those that were opened in it have to be closed before: otherwise nothing is closed, and
@@ -236,6 +274,7 @@ impl<'b> Writer<'b> {
 }
 
 /// Writes octets between two offsets, if the buffer has room.
+#[inline]
 fn fill(out: &mut [u8], begin: usize, end: usize, octets: &[u8])
     requires { end ≤ length out.old → begin + length octets.now ≡ end }
     ensures { FillsTo end out.old out.new begin octets.now }
