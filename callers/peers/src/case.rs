@@ -37,8 +37,8 @@ impl<'a> Case<'a> {
         self.rules.is_der() && self.reason.map_or(false, |reason| breaks(reason, element))
     }
 
-    /// Whether a list that this element is in is refused for the same reason, or because the element, or its end marker,
-    /// is past the list's end.
+    /// Whether a list that this element is in is refused for the same reason, or because the element, or its end
+    /// marker, is past the list's end.
     pub fn refuses(&self, list: &Case<'_>) -> bool {
         let is_past = self
             .header

@@ -4,8 +4,8 @@ use crate::ffi::{self, Element, Outcome};
 use crate::{Class, Error, Tag};
 use core::ops::Range;
 
-/// How deep elements may be, unless [`Rules::with_max_depth`] changes it: the outermost one is 1 deep, and one inside it
-/// 2. Larger values are clamped to this one. A level takes 1024 octets of the stack at most, which is measured.
+/// How deep elements may be, unless [`Rules::with_max_depth`] changes it: the outermost one is 1 deep, one inside it 2.
+/// Larger values are clamped to this one. A level takes 1024 octets of the stack at most, which is measured.
 pub const MAX_DEPTH: usize = ffi::MAX_DEPTH;
 
 /// The rules of an encoding, and how deep elements may be.

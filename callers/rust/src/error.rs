@@ -37,8 +37,8 @@ pub enum ErrorKind {
         /// its header gives its length.
         missing: usize,
     },
-    /// An element runs past the end of a content that is read by itself, as [`Node::parse_content`] reads that of an OCTET
-    /// STRING. No further input mends that. In any other content it is [`Reason::OVERRUN`].
+    /// An element runs past the end of a content that is read by itself, as [`Node::parse_content`] reads that of an
+    /// OCTET STRING. No further input mends that. In any other content it is [`Reason::OVERRUN`].
     ///
     /// [`Node::parse_content`]: crate::Node::parse_content
     Overrun {

@@ -36,8 +36,8 @@
 //!
 //! # What you might not expect
 //!
-//! - The content of a constructed element of any class, as `[0]`, is elements (X.690 8.1.4), and they are in a [`Tree`].
-//!   What an OCTET STRING holds isn't: [`Node::parse_content`] reads it.
+//! - The content of a constructed element of any class, as `[0]`, is elements (X.690 8.1.4), and they are in a
+//!   [`Tree`]. What an OCTET STRING holds isn't: [`Node::parse_content`] reads it.
 //! - Rules that need the ASN.1 type aren't checked: the order of a SET, default values, named bits. Nor is by BER that
 //!   the parts of a string are of its type.
 //! - Readers don't join the parts of a constructed string. [`write_der`] does.
