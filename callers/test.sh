@@ -1,5 +1,5 @@
 #!/usr/bin/env bash
-# Tests what C and Rust call, over the libraries that `rt ci` leaves built. What the machine has no tool for is said
+# Tests what C, Rust and Python call, over the libraries that `rt ci` leaves built. What the machine has no tool for is said
 # and left out. DUMAREWHI_LIB=FOLDER takes libdumarewhi_c.a from there, in place of building it.
 set -uo pipefail
 cd "$(dirname "$0")"
