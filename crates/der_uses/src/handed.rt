@@ -1,4 +1,14 @@
 //! Functions of the library that are handed to others of it by their own names.
+ghost use Rattle.std.specs.Prelude.{◌≡◌, map, pos};
+ghost use Rattle.der_parser.specs.declared.Rules.{Rules};
+ghost use Rattle.der_parser.specs.declared.error.Err.TheVariants.{OutOfMemory};
+ghost use Rattle.der_parser.specs.Formats.{Each, Never, NoMemory, ObjectIdentifier as Identifier, ReadsField};
+ghost use Rattle.der_parser.specs.Formats.{ReadsWhole, Required, Sequence};
+ghost use Rattle.der_parser.specs.Kinds.{borrowed_octets};
+ghost use Rattle.der_parser.specs.Numbers.{unsigned};
+ghost use Rattle.der_parser.specs.View.{tree};
+ghost use Rattle.der_uses.specs.Uses.{Begins, BeginsWithElementOf, IsSequenceOf, NumberOf, TicketFields, ticket_of};
+
 use der_parser::ber::Any;
 use der_parser::cursor::{Cursor, Refusal};
 use der_parser::der::{
@@ -19,7 +29,9 @@ pub struct Ticket<'a> {
 }
 
 /// Reads field after field by the readers of the library.
-pub fn read_ticket(input: &[u8]) -> Result<Ticket<'_>, Refusal<BerError>> {
+pub fn read_ticket(input: &[u8]) -> Result<Ticket<'_>, Refusal<BerError>>
+    ensures { ReadsWhole (Begins (Required (Sequence TicketFields)) input.now) ticket_of Never result }
+{
     let mut fields = Cursor::new(input).open_sequence()?;
     let identifier = fields.oid()?;
     let flags = fields.bits()?;
@@ -37,7 +49,10 @@ pub fn read_ticket(input: &[u8]) -> Result<Ticket<'_>, Refusal<BerError>> {
 pub fn read_identifiers(
     alloc: Global,
     input: &[u8],
-) -> Result<Vec<ObjectIdentifier<'_>>, Refusal<BerError>> {
+) -> Result<Vec<ObjectIdentifier<'_>>, Refusal<BerError>>
+    ensures { ReadsWhole (Begins (Required (Sequence (Each (Required Identifier)))) input.now)
+        (λ v. map borrowed_octets v.items) NoMemory result }
+{
     Cursor::new(input)
         .open_sequence()?
         .read_all(alloc, read_identifier)
@@ -46,16 +61,24 @@ pub fn read_identifiers(
 fn read_identifier<'a>(
     _alloc: Global,
     list: &mut Cursor<'a>,
-) -> Result<ObjectIdentifier<'a>, Refusal<BerError>> {
+) -> Result<ObjectIdentifier<'a>, Refusal<BerError>>
+    ensures { ReadsField (Required Identifier) borrowed_octets Never list.old result list.new }
+{
     list.oid()
 }
 
 /// Reads a SEQUENCE OF numbers.
-pub fn read_numbers(alloc: Global, input: &[u8]) -> IResult<&[u8], Vec<u32>, BerError> {
+pub fn read_numbers(alloc: Global, input: &[u8]) -> IResult<&[u8], Vec<u32>, BerError>
+    ensures { ReadsWhole (BeginsWithElementOf 16 (Each (NumberOf (unsigned 32)) Rules.Der) input.now)
+        (λ x. (map pos x.1.items, x.0.now)) (λ e. e ≡ OutOfMemory) result }
+{
     parse_der_sequence_of_v(alloc, parse_der_u32).parse(input)
 }
 
 /// Reads a SEQUENCE OF INTEGER as an object.
-pub fn read_objects(alloc: Global, input: &[u8]) -> BerResult<'_> {
+pub fn read_objects(alloc: Global, input: &[u8]) -> BerResult<'_>
+    ensures { ReadsWhole (BeginsWithElementOf 16 (IsSequenceOf 2) input.now) (λ x. (tree x.1, x.0.now))
+        (λ e. e ≡ OutOfMemory) result }
+{
     parse_der_sequence_of(alloc, parse_der_integer).parse(input)
 }

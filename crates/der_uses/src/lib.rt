@@ -1,4 +1,4 @@
-//! Uses of `der_parser`, one a function, from a crate that names `der_parser` alone. The doc comments of the
+//! Uses of `der_parser`, one a function, from a crate whose code names `der_parser` alone. The doc comments of the
 //! library's calls show these bodies, and `handed` hands the library's functions on by their own names.
 #![tactic(auto)]
 

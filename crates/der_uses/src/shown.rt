@@ -1,4 +1,21 @@
 //! The examples of the doc comments.
+ghost use Rattle.std.specs.Prelude.{◌≡◌, ◌∷◌, ◌≤◌, ◌^◌, ◌↔◌, [], length, map, pos, IfErr, IfOk, IsTrue, MatchResult};
+ghost use Rattle.std.specs.Result.{IsErrOf};
+ghost use Rattle.der_parser.specs.declared.Rules.{Rules};
+ghost use Rattle.der_parser.specs.declared.error.Err.TheVariants.{OutOfMemory};
+ghost use Rattle.der_parser.specs.Answer.{MatchAnswer};
+ghost use Rattle.der_parser.specs.Encoding.{encoding};
+ghost use Rattle.der_parser.specs.Fault.{DerShowsFault};
+ghost use Rattle.der_parser.specs.Formats.{Each, Never, ReadsWhole, Required};
+ghost use Rattle.der_parser.specs.Listing.{object_count};
+ghost use Rattle.der_parser.specs.Numbers.{AnswersDerNumber, signed, unsigned};
+ghost use Rattle.der_parser.specs.Oids.{octets_of};
+ghost use Rattle.der_parser.specs.Stable.{DerIsCut};
+ghost use Rattle.der_parser.specs.View.{tree};
+ghost use Rattle.der_uses.specs.Uses.{Begins, BeginsWithElementOf, BeginsWithTagged, CertificateNumber, CountsItems};
+ghost use Rattle.der_uses.specs.Uses.{FindsObject, HasNoNumber, HoldsElements, IsFound};
+ghost use Rattle.der_uses.specs.Uses.{IsNotRewritten, IsPair, IsRewritten, NumberOf, TellsMissing, request_tree};
+
 use der_parser::ber::{
     BerObject, BerObjectContent, FaultWriter, Visit, ber_encode_object, parse_ber,
 };
@@ -25,12 +42,16 @@ pub enum Found {
 }
 
 /// `parse_der`: the first object of an input.
-pub fn first_object(alloc: Global, input: &[u8]) -> Result<Found, Err<BerError>> {
+pub fn first_object(alloc: Global, input: &[u8]) -> Result<Found, Err<BerError>>
+    ensures { FindsObject input.now result }
+{
     let (_rest, object) = parse_der(alloc, input)?;
     kind_of(&object)
 }
 
-fn kind_of(object: &BerObject<'_>) -> Result<Found, Err<BerError>> {
+fn kind_of(object: &BerObject<'_>) -> Result<Found, Err<BerError>>
+    ensures { MatchResult result (IsFound (tree object.now)) (HasNoNumber (tree object.now)) }
+{
     match &object.content {
         BerObjectContent::Sequence(items) => Ok(Found::List(items.len())),
         BerObjectContent::Integer(_) => Ok(Found::Number(object.as_i64()?)),
@@ -39,7 +60,9 @@ fn kind_of(object: &BerObject<'_>) -> Result<Found, Err<BerError>> {
 }
 
 /// `Err::Incomplete`: how many octets a client still has to wait for.
-pub fn missing_octets(alloc: Global, input: &[u8]) -> Option<usize> {
+pub fn missing_octets(alloc: Global, input: &[u8]) -> Option<usize>
+    ensures { TellsMissing input.now result }
+{
     match parse_ber(alloc, input) {
         Err(Err::Incomplete(Needed::Size(n))) => Some(n),
         _ => None,
@@ -47,7 +70,10 @@ pub fn missing_octets(alloc: Global, input: &[u8]) -> Option<usize> {
 }
 
 /// `to_vec`: what BER reads, written with DER's lengths.
-pub fn rewrite_by_der(alloc: Global, input: &[u8]) -> Result<Vec<u8>, GenError> {
+pub fn rewrite_by_der(alloc: Global, input: &[u8]) -> Result<Vec<u8>, GenError>
+    ensures written { IfOk result (λ v. IsRewritten input.now v.items) }
+    ensures refused { IfErr result (IsNotRewritten input.now) }
+{
     match parse_ber(alloc, input) {
         Ok((_rest, object)) => object.to_vec(alloc),
         Err(_) => Ok(Vec::new(alloc)),
@@ -55,21 +81,31 @@ pub fn rewrite_by_der(alloc: Global, input: &[u8]) -> Result<Vec<u8>, GenError> 
 }
 
 /// `parse_der_sequence_of_v`: a SEQUENCE OF numbers.
-pub fn item_numbers(alloc: Global, input: &[u8]) -> IResult<&[u8], Vec<i32>, BerError> {
+pub fn item_numbers(alloc: Global, input: &[u8]) -> IResult<&[u8], Vec<i32>, BerError>
+    ensures { ReadsWhole (BeginsWithElementOf 16 (Each (NumberOf (signed 32)) Rules.Der) input.now)
+        (λ x. (map (λ n. n) x.1.items, x.0.now)) (λ e. e ≡ OutOfMemory) result }
+{
     parse_der_sequence_of_v(alloc, parse_der_i32).parse(input)
 }
 
 /// `parse_der_tagged_explicit_g`: a number inside the explicit tag [0].
-pub fn tagged_number(input: &[u8]) -> IResult<&[u8], u32, BerError> {
+pub fn tagged_number(input: &[u8]) -> IResult<&[u8], u32, BerError>
+    ensures { ReadsWhole (BeginsWithTagged 0 (NumberOf (unsigned 32)) input.now) (λ x. (pos x.1, x.0.now)) Never
+        result }
+{
     parse_der_tagged_explicit_g(Tag(0), number_inside).parse(input)
 }
 
-fn number_inside<'a>(content: &'a [u8], _header: Header<'a>) -> IResult<&'a [u8], u32, BerError> {
+fn number_inside<'a>(content: &'a [u8], _header: Header<'a>) -> IResult<&'a [u8], u32, BerError>
+    ensures { AnswersDerNumber pos (unsigned 32) content.now result }
+{
     parse_der_u32(content)
 }
 
 /// `Cursor`: the serial number of a certificate. An error has its offset.
-pub fn read_serial_number(certificate: &[u8]) -> Result<u64, Refusal<BerError>> {
+pub fn read_serial_number(certificate: &[u8]) -> Result<u64, Refusal<BerError>>
+    ensures { ReadsWhole (Begins (Required CertificateNumber) certificate.now) (λ n. (pos n, tt)) Never result }
+{
     let mut fields = Cursor::new(certificate).open_sequence()?.open_sequence()?;
     fields.open_tagged(0)?; // the version
     fields.u64()
@@ -80,7 +116,9 @@ pub fn make_request<'a>(
     alloc: Global,
     number: &'a [u8],
     text: &'a str,
-) -> Result<BerObject<'a>, AllocError> {
+) -> Result<BerObject<'a>, AllocError>
+    ensures { IfOk result (λ x. tree x ≡ request_tree number.now text.now) }
+{
     let mut items = Vec::new(alloc);
     items.push(BerObject::from_int_slice(number))?;
     items.push(BerObject::from_obj(BerObjectContent::UTF8String(text)))?;
@@ -88,7 +126,10 @@ pub fn make_request<'a>(
 }
 
 /// `ber_encode_object`: an object written to a writer. The encoder takes no memory.
-pub fn write_object(alloc: Global, object: &BerObject<'_>) -> Result<Vec<u8>, GenError> {
+pub fn write_object(alloc: Global, object: &BerObject<'_>) -> Result<Vec<u8>, GenError>
+    ensures octets { IfOk result (λ v. v.items ≡ encoding (tree object.now)) }
+    ensures too_large { IsErrOf result GenError.TooLarge ↔ (2 ^ 64 ≤ length (encoding (tree object.now))) }
+{
     let mut out = FaultWriter::new(Vec::<u8>::new(alloc));
     ber_encode_object(&mut out, object)?;
     Ok(out.into_inner())
@@ -101,7 +142,11 @@ pub fn print_object(alloc: Global, object: &BerObject<'_>) -> Result<String, All
 }
 
 /// `Oid::from_dotted`: whether an identifier is that of commonName.
-pub fn is_common_name(alloc: Global, oid: &Oid<'_>) -> Result<bool, OidParseError> {
+pub fn is_common_name(alloc: Global, oid: &Oid<'_>) -> Result<bool, OidParseError>
+    ensures { MatchResult result
+        (λ b. IsTrue b ↔ (octets_of oid.now ≡ 0x55 ∷ 0x04 ∷ 0x03 ∷ []))
+        (λ e. e ≡ OidParseError.OutOfMemory) }
+{
     let common_name = Oid::from_dotted(alloc, "2.5.4.3")?;
     Ok(oid.as_bytes() == common_name.as_bytes())
 }
@@ -123,15 +168,20 @@ impl Visit for Depths {
     }
 }
 
-/// `Visit`: how many objects are in an object, itself among them.
-pub fn object_count(object: &BerObject<'_>) -> u64 {
+/// `Visit`: how many objects are in an object, itself among them. That it is no fewer the clause of `run` doesn't say,
+/// since a function of a visitor may be left empty.
+pub fn object_count(object: &BerObject<'_>) -> u64
+    ensures { result ≤ object_count (tree object.now) }
+{
     let mut counter = Depths { objects: 0 };
     counter.run(object);
     counter.objects
 }
 
 /// `check_der`: whether an input is two objects, one inside the other, and nothing more.
-pub fn is_pair(input: &[u8]) -> bool {
+pub fn is_pair(input: &[u8]) -> bool
+    ensures { IsTrue result ↔ IsPair input.now }
+{
     matches!(check_der(input, 50), Ok((&[], 2)))
 }
 
@@ -139,7 +189,13 @@ pub fn is_pair(input: &[u8]) -> bool {
 pub fn elements_in<'b>(
     input: &[u8],
     nodes: &'b mut [Element],
-) -> Result<Option<&'b [Element]>, Err<BerError>> {
+) -> Result<Option<&'b [Element]>, Err<BerError>>
+    ensures { MatchAnswer result
+        (λ x. HoldsElements input.now (length nodes.old) x)
+        (DerShowsFault 50 input.now)
+        (DerIsCut 50 input.now)
+        ⊥ }
+{
     let (_rest, count) = parse_der_nodes(input, 50, nodes)?;
     Ok(nodes.get(..count))
 }
@@ -158,12 +214,22 @@ pub enum NoLargest {
 }
 
 impl From<Err<BerError>> for NoLargest {
+    ghost use Rattle.std.specs.Prelude.{◌≡◌};
+    ghost use Rattle.der_uses.specs.declared.shown.NoLargest.TheVariants.{Refused};
+
+    ghost from_gives = { λ e r. r ≡ Refused e };
+
     fn from(e: Err<BerError>) -> NoLargest {
         NoLargest::Refused(e)
     }
 }
 
 impl From<BerError> for NoLargest {
+    ghost use Rattle.std.specs.Prelude.{◌≡◌};
+    ghost use Rattle.der_uses.specs.declared.shown.NoLargest.TheVariants.{Item};
+
+    ghost from_gives = { λ e r. r ≡ Item e };
+
     fn from(e: BerError) -> NoLargest {
         NoLargest::Item(e)
     }
@@ -181,8 +247,13 @@ pub fn largest_item(input: &[u8], elements: &mut [Element]) -> Result<u64, NoLar
 }
 
 /// `read_der_nodes`: how many items a list has.
-pub fn item_count(alloc: Global, input: &[u8]) -> Result<Option<usize>, Err<BerError>> {
+pub fn item_count(alloc: Global, input: &[u8]) -> Result<Option<usize>, Err<BerError>>
+    ensures { CountsItems input.now result }
+{
     let (_rest, elements) = read_der_nodes(alloc, input, 50)?;
     let nodes = Nodes::new(input, &elements);
-    Ok(nodes.root().map(|root| root.items().count()))
+    match nodes.root() {
+        Some(root) => Ok(Some(root.items().count())),
+        None => Ok(None),
+    }
 }

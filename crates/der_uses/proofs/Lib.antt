@@ -1,0 +1,4 @@
+pub mod ListLaws
+pub mod ObjectLaws
+pub mod TicketLaws
+pub mod UseLaws
