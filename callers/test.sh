@@ -89,7 +89,7 @@ octets "30 5e 02 01 01 04 06 70 75 62 6c 69 63 a2 51 02 04 71 68 2a 51 02 01 00 
 run_reply() { "$1" < "$room/ask" > "$room/reply" && cmp "$room/reply" "$room/answer"; }
 
 run_c() {
-    for name in first tree certificate snmp count layout rows errors tables csr snmp_reply writer; do
+    for name in first tree certificate snmp count layout rows errors tables csr snmp_reply writer agreement; do
         says "$name.c compiles" compile $name $name
     done
     says "stack.c compiles" compile stack stack -pthread
@@ -259,6 +259,17 @@ if [ -d rust ]; then
         fi
         shown=
     fi
+fi
+
+# The page is compared with the same program, in page/test.
+programs=()
+for program in "$room/agreement" "$room/target/debug/examples/agreement"; do
+    [ -x "$program" ] && programs+=("$program")
+done
+if [ "${#programs[@]}" -gt 0 ]; then
+    shown=yes
+    says "damaged inputs beside \`der check\`" ../tools/agreement.py 100000 "${programs[@]}"
+    shown=
 fi
 
 shown=yes says "Python" env "DUMAREWHI_LIB=$(dirname "$archive")" python/test && grep "^left out" "$room/log"
