@@ -87,7 +87,8 @@ uint32_t dm_first_ber(const uint8_t *input, size_t length, dm_element *element, 
 /* Writes the elements of an input in BER, all of them, as DER writes them: lengths in the fewest octets (10.1),
  * strings primitive (10.2), BOOLEANs as 00 or ff (11.1), unused bits as 0 (11.2.1). The content of a constructed
  * element of any class is elements (8.1.4), at most DM_MAX_DEPTH deep. The order of a SET OF, default values and the
- * types of elements of other classes are not known here, so they stay as they are. Another value that DER does not have, as a time without seconds, is an error.
+ * types of elements of other classes are not known here, so they stay as they are. Another value that DER does not
+ * have, as a time without seconds, is an error.
  *
  * With DM_OK the buffer begins with `length` octets that DER has for the input, to the last one: each element with its
  * class, number and value, in order, and a string in parts as one. `elements` is 0. This is proved. So is that an input
@@ -95,8 +96,7 @@ uint32_t dm_first_ber(const uint8_t *input, size_t length, dm_element *element, 
  * `length` octets. With 0 the call counts. An error is the first fault of the input, whatever follows and whatever the
  * capacity; only the content of a string in parts is checked last, and only if the capacity suffices: then the error is
  * the first rule of its type that it breaks, at the string's offset. With another status than DM_OK the buffer's
- * contents are unspecified.
- * Elements that are DER already are copied. Returns the status. */
+ * contents are unspecified. Elements that are DER already are copied. Returns the status. */
 uint32_t dm_write_der(const uint8_t *input, size_t length, uint8_t *out, size_t room, dm_outcome *outcome);
 
 /* The numbers of errors. 0 is no error. Not all of them are returned by a call of this header. */
