@@ -186,7 +186,7 @@ fn calls_are_those_of_the_header() {
     let results = ["uint32_t dm_", "size_t dm_", "void dm_", "dm_mark dm_"];
     let mut declared: Vec<_> = results.iter().flat_map(|it| names(&header, it)).collect();
     declared.sort();
-    assert_eq!(declared.len(), 36);
+    assert_eq!(declared.len(), 38);
     assert_eq!(declared, names(own, "fn dm_"));
 }
 
