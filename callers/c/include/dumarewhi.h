@@ -63,11 +63,12 @@ typedef struct dm_outcome {
 #define DM_LEVEL_OCTETS 1024
 
 /* Lists the first element of the input and those inside it in preorder, by DER or by BER. The content of a constructed
- * element of any class is elements (8.1.4), at most max_depth deep. The content octets of a primitive element are those
- * of its universal type (8.2 to 8.26, and by DER 10 and 11); another class has any. Rules that need the ASN.1 type
- * aren't checked, as the order of a SET, nor that the parts of a constructed string are of its type (8.6.4, 8.7.3).
- * `room` is the buffer's capacity: the first elements that fit are written, and the call reads on. With 0 it counts.
- * With another status than DM_OK the buffer's contents are unspecified. Returns the status. */
+ * element of any class is elements (8.1.4), at most max_depth deep. The content octets of a primitive element keep the
+ * rules of its universal type that have numbers from 64 on below (8.2 to 8.25, and by DER 11); another type or class
+ * has any. Rules that need the ASN.1 type aren't checked, as the order of a SET, nor that the parts of a constructed
+ * string are of its type (8.6.4, 8.7.3). `room` is the buffer's capacity: the first elements that fit are written, and
+ * the call reads on. With 0 it counts. With another status than DM_OK the buffer's contents are unspecified. Returns
+ * the status. */
 uint32_t dm_parse_der(const uint8_t *input, size_t length, size_t max_depth, dm_element *elements, size_t room,
                       dm_outcome *outcome);
 uint32_t dm_parse_ber(const uint8_t *input, size_t length, size_t max_depth, dm_element *elements, size_t room,
@@ -91,12 +92,13 @@ uint32_t dm_first_ber(const uint8_t *input, size_t length, dm_element *element, 
  * have, as a time without seconds, is an error.
  *
  * With DM_OK the buffer begins with `length` octets that DER has for the input, to the last one: each element with its
- * class, number and value, in order, and a string in parts as one. `elements` is 0. This is proved. So is that an input
- * which has such octets is no error, unless it has 2^60 octets or more. With DM_NO_ROOM call again with a capacity of
- * `length` octets. With 0 the call counts. An error is the first fault of the input, whatever follows and whatever the
- * capacity; only the content of a string in parts is checked last, and only if the capacity suffices: then the error is
- * the first rule of its type that it breaks, at the string's offset. With another status than DM_OK the buffer's
- * contents are unspecified. Elements that are DER already are copied. Returns the status. */
+ * class, number and value, in order, and a string in parts as one. `elements` is 0. This is proved. So is why an input
+ * is DM_ERROR or DM_INCOMPLETE: it isn't elements by BER, an element of it or a string in parts has no form in DER, or
+ * it has 2^60 octets or more (DM_ERROR_NOT_DER). With DM_NO_ROOM call again with a capacity of `length` octets. With 0
+ * the call counts. An error is the first fault of the input, whatever follows and whatever the capacity; only the
+ * content of a string in parts is checked last, and only if the capacity suffices: then the error is the first rule of
+ * its type that it breaks, at the string's offset. With another status than DM_OK the buffer's contents are
+ * unspecified. Elements that are DER already are copied. Returns the status. */
 uint32_t dm_write_der(const uint8_t *input, size_t length, uint8_t *out, size_t room, dm_outcome *outcome);
 
 /* The numbers of errors. 0 is no error. Not all of them are returned by a call of this header. */
@@ -119,7 +121,7 @@ enum dm_error {
     DM_ERROR_UNSUPPORTED = 16,
     DM_ERROR_OVERRUN = 17, /* an element runs past the end of the one that it is in: more octets don't help */
     DM_ERROR_PARSER_FAULT = 18,
-    /* rules of DER beyond those of BER (X.690 10 and 11) */
+    /* rules of DER (X.690 8.3, 10 and 11) */
     DM_ERROR_INDEFINITE_LENGTH = 32,
     DM_ERROR_LENGTH_NOT_MINIMAL = 33,
     DM_ERROR_CONSTRUCTED = 34,
@@ -240,15 +242,15 @@ typedef struct dm_writer {
     uint8_t *octets;    /* the buffer. Not NULL, not even with capacity 0 */
     size_t capacity;    /* how many octets it has room for */
     size_t count;       /* how many octets there are, room or not */
-    size_t innermost;   /* where the length of the innermost open element stands; 0 if none is open */
+    size_t innermost;   /* where the length of the innermost open element is; 0 if none is open */
     uint32_t implicit;  /* whether the next element has an implicit tag: 0 if not, else 1 + its enum dm_class */
     uint32_t number;    /* the number of that tag */
 } dm_writer;
 
 /* An element that is open. */
 typedef struct dm_mark {
-    size_t start; /* where its length stands */
-    size_t outer; /* where that of the element around it stands; 0 if there is none */
+    size_t start; /* where its length is */
+    size_t outer; /* where that of the element around it is; 0 if there is none */
 } dm_mark;
 
 /* A writer at the start of a buffer. */
@@ -286,7 +288,7 @@ void dm_put_enumerated_i64(dm_writer *writer, int64_t value);
 void dm_put_octets(dm_writer *writer, const uint8_t *octets, size_t length);
 void dm_put_null(dm_writer *writer);
 
-/* An INTEGER of any size that isn't negative: its octets, the highest first. Zeros in front are left out. */
+/* An INTEGER of any size that isn't negative: its octets, the highest first. Leading zeros are left out. */
 void dm_put_magnitude(dm_writer *writer, const uint8_t *octets, size_t length);
 
 /* A BIT STRING of octets whose last `unused` bits aren't used, at most seven (8.6). They are put as 0 (11.2). */
@@ -316,7 +318,7 @@ uint32_t dm_put_text(dm_writer *writer, uint32_t number, const uint8_t *octets, 
  * has to be DM_UTC. The zone's hours and minutes aren't read. Any other number or value is an error. */
 uint32_t dm_put_time(dm_writer *writer, uint32_t number, const dm_time *time);
 
-/* DM_OK, and the number of octets, which are at the front of the buffer. DM_NO_ROOM, and how many are needed: then the
+/* DM_OK, and the number of octets, with which the buffer begins. DM_NO_ROOM, and how many are needed: then the
  * buffer's first `count` octets are unspecified. DM_NOT_CLOSED, and 0: an element is open, or marks were closed in the
  * wrong order. Writing may go on after each of them. */
 uint32_t dm_finish(const dm_writer *writer, size_t *length);

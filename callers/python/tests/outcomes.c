@@ -22,7 +22,7 @@ static void print_failure(const dm_outcome *outcome) {
     else printf("missing %zu\n", outcome->missing);
 }
 
-/* By DER dm_parse_der may count a whole content as missing, and dm_first_der finds what is missing of it. */
+/* By DER the package takes from dm_first_der what is missing. */
 static void correct_missing(const uint8_t *input, size_t length, dm_outcome *outcome) {
     dm_element element;
     dm_outcome first;

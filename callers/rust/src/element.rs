@@ -83,7 +83,7 @@ impl Rules {
     }
 
     /// Finds how many octets the first element has, by its header alone (and by its framing, if its length is
-    /// indefinite). Nothing inside it is checked.
+    /// indefinite). Nothing inside it is checked. More than 49 indefinite lengths inside one another are an error.
     ///
     /// ```
     /// use dumarewhi::Rules;

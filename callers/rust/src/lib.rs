@@ -27,12 +27,13 @@
 //!
 //! The work is done by `libdumarewhi_c.a`, which is written in Rattle and proved: which inputs it reads, which
 //! elements it lists and where, which error a reader reports, which values it gives, which octets a [`Writer`] writes,
-//! and that what [`write_der`] writes is DER with the values of the input. The texts of errors are tested. Its header
+//! and that what [`write_der`] writes is the input as DER writes it. The texts of errors are tested. Its header
 //! `dumarewhi.h` has the calls. This crate passes slices to them, and makes safe types of what they return.
 //!
 //! It computes little itself: slices of the input by the offsets that are listed, the steps from an element to
-//! the next, the split of a BIT STRING's first octet, what is kept of an input that comes in pieces, and the
-//! header of the copy that [`Reader::implicit`] checks. That is tested, and not proved.
+//! the next, the split of a BIT STRING's first octet, what is kept of an input that comes in pieces, the header of
+//! the copy that [`Reader::implicit`] checks, and the octets of a BMPString that is written. That is tested, and not
+//! proved.
 //!
 //! # What you might not expect
 //!
@@ -41,8 +42,8 @@
 //! - Rules that need the ASN.1 type aren't checked: the order of a SET, default values, named bits. Nor is by BER that
 //!   the parts of a string are of its type.
 //! - Readers don't join the parts of a constructed string. [`write_der`] does.
-//! - A [`Writer`] doesn't sort a SET OF, and leaves out no default value. Only [`Writer::finish`] and [`to_vec`] tell
-//!   that a buffer is too small.
+//! - [`Writer::set`] keeps the order of its elements; [`Writer::set_of`] sorts them. A [`Writer`] leaves out no default
+//!   value. Only [`Writer::finish`] and [`to_vec`] return that a buffer is too small.
 //! - Elements are [`MAX_DEPTH`] deep at most: [`Rules::with_max_depth`] allows less.
 //!
 //! # Features

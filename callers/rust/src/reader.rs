@@ -8,7 +8,7 @@ use crate::{Any, Class, Element, Error, Tag};
 ///
 /// Each call reads the next element, checks it with all that is inside it, and compares its tag. After an
 /// error the reader is where it was. A reader keeps no list, and allocates in [`implicit`](Reader::implicit) alone.
-/// What is inside an element is checked with it, so when its fields are read, only their headers are read once more.
+/// What is inside an element is checked with it, so when its fields are read, only headers are read once more.
 ///
 /// ```
 /// use dumarewhi::{Reader, Tag};

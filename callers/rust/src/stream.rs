@@ -8,7 +8,7 @@ use alloc::vec::Vec;
 ///
 /// [`next_tree`](Buffer::next_tree) and [`next_octets`](Buffer::next_octets) return `Ok(None)` if more input is
 /// needed, and an error only if no more input mends it. Offsets of errors count from the start of their
-/// element.
+/// element. More than 49 indefinite lengths inside one another are an error.
 ///
 /// ```
 /// use dumarewhi::{Buffer, Rules};

@@ -10,11 +10,10 @@ use alloc::vec::Vec;
 /// Writes all elements of an input in BER to a buffer, as DER writes them. Returns how many octets they have. If
 /// that is more than the buffer has, the buffer's contents are unspecified: call again with as many.
 ///
-/// Lengths are in the fewest octets (X.690 10.1), strings primitive (10.2), BOOLEANs 00 or ff (11.1), unused bits 0
-/// (11.2.1), and numbers in the fewest octets (8.3.2), also inside elements of other classes than universal. The
-/// order of a SET OF, default values and the types of elements of other classes aren't known here, so they stay as
-/// they are. Another value that DER doesn't have, as a time without seconds, is an error. Elements may be nested 101
-/// deep.
+/// Lengths are in the fewest octets (X.690 10.1), strings primitive (10.2), BOOLEANs 00 or ff (11.1), and unused bits 0
+/// (11.2.1), also inside elements of other classes than universal. The order of a SET OF, default values and the types
+/// of elements of other classes aren't known here, so they stay as they are. Another value that DER doesn't have, as a
+/// time without seconds, is an error. Elements may be nested 101 deep.
 ///
 /// ```
 /// use dumarewhi::write_der;

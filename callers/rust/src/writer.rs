@@ -60,7 +60,7 @@ impl<'b> Writer<'b> {
         self.fields.count()
     }
 
-    /// How many octets there are, at the front of the buffer. What is behind them stays as it was. An error if the
+    /// How many octets there are, with which the buffer begins. What is behind them stays as it was. An error if the
     /// buffer has no room for them, with how many are needed.
     ///
     /// ```
@@ -217,7 +217,7 @@ impl<'b> Writer<'b> {
         self.put(put)
     }
 
-    /// Writes an INTEGER of any size that isn't negative, with these octets, the highest first. Zeros in front are left
+    /// Writes an INTEGER of any size that isn't negative, with these octets, the highest first. Leading zeros are left
     /// out.
     ///
     /// ```

@@ -361,7 +361,7 @@ class Source:
         return Incomplete(missing, end)
 
     def _missing_by_der(self, begin: int, end: int, missing: int) -> int:
-        """How many octets are missing. ``dm_parse_der`` may count the whole content that is cut short."""
+        """How many octets are missing, as ``dm_first_der`` says: up to the end of the first element, by its header."""
         element, outcome = ElementStruct(), OutcomeStruct()
         status = _first_der(self._address + begin, end - begin, ctypes.byref(element), ctypes.byref(outcome))
         return outcome.missing if status == INCOMPLETE else missing

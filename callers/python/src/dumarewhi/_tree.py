@@ -158,7 +158,7 @@ class Tree:
     _depth: int
     _words: Words
     _length: int
-    # What is inside the elements whose content isn't listed, once it is asked for, by the places of their words.
+    # What is inside the elements whose content isn't listed, once it is asked for, by the indexes of their words.
     _inner: Dict[int, Tuple[Node, ...]]
 
     def __init__(self) -> None:
@@ -210,9 +210,9 @@ class Node:
     >>> node[0].as_int(), node[0].offset
     (5, 2)
 
-    The content of a constructed element is elements, of any class (X.690 8.1.4). Where the library doesn't list them
-    with the element, they are listed when they are asked for. So :attr:`children`, and all that uses it, may raise an
-    error.
+    The content of a constructed element of any class is elements (X.690 8.1.4), which are listed with it. Those of a
+    node that :meth:`Reader.implicit` returned are listed when they are asked for. If its octets were changed meanwhile,
+    :attr:`children`, and all that uses it, may raise an error.
     """
 
     __slots__ = ("_tree", "_at", "depth")
@@ -309,7 +309,8 @@ class Node:
         """The elements directly inside it, in order.
 
         Raises:
-            DerError: Its content isn't elements.
+            DerError: Its content isn't elements any more, since its octets were changed. It was read by
+                :meth:`Reader.implicit`.
         """
         tree, at = self._tree, self._at
         words = tree._words
@@ -327,8 +328,8 @@ class Node:
         return tuple(children)
 
     def _unlisted(self) -> Tuple[Node, ...]:
-        """The elements of a content that isn't listed with the element. They are listed as those of a SEQUENCE, of a
-        copy that lives as long as the call."""
+        """The elements of a content that isn't listed with the element, as under an implicit tag. They are listed as
+        those of a SEQUENCE, of a copy that lives as long as the call."""
         tree = self._tree
         known = tree._inner.get(self._at)
         if known is not None:
