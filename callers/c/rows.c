@@ -98,11 +98,19 @@ static const struct row rows[] = {
     {"08 00", BER, 50, FAULT(98, 0)},
     {"0b 00", BER, 50, FAULT(97, 0)},
     {"1d 00", BER, 50, FAULT(99, 0)},
-    /* 8.19.5 and 8.20.5: identifiers; 8.19.2: one arc at least, with its last octet, and no padding */
+    /* 8.19.5 and 8.20.5: identifiers; 8.19.2: one arc at least, with its last octet, and no padding; so 8.20.2 */
     {"06 03 88 37 03", DER, 50, OK(1, 5)},
     {"0d 04 c2 7b 03 02", DER, 50, OK(1, 6)},
     {"06 00", DER, 50, FAULT(73, 0)},
+    {"06 00", BER, 50, FAULT(73, 0)},
+    {"0d 00", DER, 50, FAULT(73, 0)},
+    {"0d 00", BER, 50, FAULT(73, 0)},
+    {"06 01 ff", DER, 50, FAULT(74, 0)},
+    {"06 01 ff", BER, 50, FAULT(74, 0)},
+    {"06 03 55 04 83", DER, 50, FAULT(74, 0)},
     {"06 03 55 04 83", BER, 50, FAULT(74, 0)},
+    {"06 01 80", DER, 50, FAULT(74, 0)},
+    {"06 01 80", BER, 50, FAULT(74, 0)},
     {"06 03 80 55 04", BER, 50, FAULT(75, 0)},
     /* 8.23: the VisibleString "Jones", and its constructed form */
     {"1a 05 4a 6f 6e 65 73", DER, 50, OK(1, 7)},
@@ -135,6 +143,7 @@ static const struct row rows[] = {
     {"30 02 00 00", BER, 50, FAULT(49, 2)},
     {"30 80 00 81 00 00 00", BER, 50, FAULT(49, 2)},
     {"30 04 30 80 05 00", BER, 50, FAULT(48, 2)},
+    {"30 04 30 80 02 00", BER, 50, FAULT(66, 4)}, /* 8.3.1: the INTEGER comes first */
     /* depth */
     {"30 04 30 02 05 00", DER, 3, OK(3, 6)},
     {"30 04 30 02 05 00", DER, 2, FAULT(3, 4)},
@@ -151,6 +160,17 @@ static const struct row rows[] = {
     {"30 0a 02 01 05", DER, 50, CUT(7)},
     {"30 80", BER, 50, CUT(2)},
     {"30 82 01", DER, 50, CUT(1)},
+    /* 8.1.3: no end limits a length, up to 2^64-1: all content octets are missing */
+    {"02 88 ff ff ff ff ff ff ff f6", DER, 50, CUT(0xfffffffffffffff6)},
+    {"02 88 ff ff ff ff ff ff ff f6", BER, 50, CUT(0xfffffffffffffff6)},
+    {"02 88 ff ff ff ff ff ff ff f5", DER, 50, CUT(0xfffffffffffffff5)},
+    {"02 88 ff ff ff ff ff ff ff f5", BER, 50, CUT(0xfffffffffffffff5)},
+    {"02 88 ff ff ff ff ff ff ff ff", DER, 50, CUT(0xffffffffffffffff)},
+    {"02 88 ff ff ff ff ff ff ff ff", BER, 50, CUT(0xffffffffffffffff)},
+    {"30 88 ff ff ff ff ff ff ff f5", DER, 50, CUT(0xfffffffffffffff5)},
+    {"30 88 ff ff ff ff ff ff ff f5", BER, 50, CUT(0xfffffffffffffff5)},
+    /* 8.1.3.6: an outermost indefinite length says no more than its end marker, so not how long the inner list is */
+    {"30 80 30 05", BER, 50, CUT(2)},
     /* what follows is left */
     {"05 00 05 00 ff", DER, 50, OK(1, 2)},
 };
@@ -261,6 +281,21 @@ static const struct {
     {"00 00", NULL, DM_ERROR, 49, 0},
     {"30 06 30 80 02 01 05 07", NULL, DM_ERROR, 17, 7},
     {"30 05 30 80 02 01 05", NULL, DM_ERROR, 48, 2},
+    {"30 04 30 80 05 00", NULL, DM_ERROR, 48, 2},
+    {"30 04 30 80 02 00", NULL, DM_ERROR, 66, 4},
+    /* The first fault, whatever follows: 8.4 as 8.3.1, no octets; 11.8.2, no seconds; 8.25, one octet of seconds */
+    {"0a 00", NULL, DM_ERROR, 66, 0},
+    {"0a 00 00", NULL, DM_ERROR, 66, 0},
+    {"17 0b 30 34 30 33 30 38 30 33 31 36 5a", NULL, DM_ERROR, 92, 0},
+    {"17 0b 30 34 30 33 30 38 30 33 31 36 5a 01 02 00 00", NULL, DM_ERROR, 92, 0},
+    {"17 0b 30 34 30 33 30 38 30 33 31 36 33 35 5a", NULL, DM_ERROR, 90, 0},
+    {"17 0b 30 34 30 33 30 38 30 33 31 36 33 35 5a 01 02 00 00", NULL, DM_ERROR, 90, 0},
+    /* 8.19.2, 8.20.2 */
+    {"06 00", NULL, DM_ERROR, 73, 0},
+    {"0d 00", NULL, DM_ERROR, 73, 0},
+    {"06 01 ff", NULL, DM_ERROR, 74, 0},
+    {"06 03 55 04 83", NULL, DM_ERROR, 74, 0},
+    {"06 01 80", NULL, DM_ERROR, 74, 0},
     /* 8.3.1, 8.1.2.4, 8.1.3.5, 8.23 and 8.1.3 */
     {"22 03 02 01 05", NULL, DM_ERROR, 10, 0},
     {"02 03 00 00 80", NULL, DM_ERROR, 67, 0},
@@ -275,7 +310,12 @@ static const struct {
     {"30 80 05 00", NULL, DM_INCOMPLETE, 0, 2},
     {"04 05 61 62", NULL, DM_INCOMPLETE, 0, 3},
     {"02", NULL, DM_INCOMPLETE, 0, 1},
+    /* 8.1.3.6: an outermost indefinite length says no more than its end marker */
+    {"30 80 30 05", NULL, DM_INCOMPLETE, 0, 2},
+    /* 8.1.3: all content octets, of lengths up to 2^64-1 */
     {"02 88 ff ff ff ff ff ff ff f6", NULL, DM_INCOMPLETE, 0, 0xfffffffffffffff6},
+    {"02 88 ff ff ff ff ff ff ff f5", NULL, DM_INCOMPLETE, 0, 0xfffffffffffffff5},
+    {"02 88 ff ff ff ff ff ff ff ff", NULL, DM_INCOMPLETE, 0, 0xffffffffffffffff},
     {"30 88 ff ff ff ff ff ff ff f5", NULL, DM_INCOMPLETE, 0, 0xfffffffffffffff5},
 };
 

@@ -64,6 +64,7 @@ const ROWS: &[Row] = &[
     row("8.1.3.6", "30 80", E(INDEFINITE, 0), I),
     row("8.1.3.6", "30 80 04 01 61 00", E(INDEFINITE, 0), I),
     row("8.1.3.6", "30 04 30 80 05 00", E(INDEFINITE, 2), E("no end-of-contents octets", 2)),
+    row("8.3.1", "30 04 30 80 02 00", E(INDEFINITE, 2), E("a number has no octets", 4)),
     row("8.1.3.2", "02 80", E(INDEFINITE, 0), E(CONSTRUCTED, 0)),
     // End-of-contents octets are no element, and universal 0 has no other.
     row("8.1.5", "00 00", E(NO_ELEMENT, 0), E(NO_ELEMENT, 0)),
@@ -115,9 +116,12 @@ const ROWS: &[Row] = &[
     row("8.19", "06 03 55 04 03", O(1, 5), O(1, 5)),
     row("8.19.1", "26 05 06 03 55 04 03", E(PRIMITIVE, 0), E(PRIMITIVE, 0)),
     row("8.19.2", "06 00", E("an identifier has no octets", 0), E("an identifier has no octets", 0)),
+    row("8.19.2", "06 01 ff", E("the last arc has no end", 0), E("the last arc has no end", 0)),
+    row("8.19.2", "06 01 80", E("the last arc has no end", 0), E("the last arc has no end", 0)),
     row("8.19.2", "06 03 55 04 83", E("the last arc has no end", 0), E("the last arc has no end", 0)),
     row("8.19.2", "06 03 80 55 04", E("an arc begins with 80", 0), E("an arc begins with 80", 0)),
     row("8.20", "0d 04 c2 7b 03 02", O(1, 6), O(1, 6)),
+    row("8.20.2", "0d 00", E("an identifier has no octets", 0), E("an identifier has no octets", 0)),
     row("8.23", "0c 02 c3 a9", O(1, 4), O(1, 4)),
     row("8.23.10", "0c 01 ff", E("a UTF8String isn't UTF-8", 0), E("a UTF8String isn't UTF-8", 0)),
     row("8.23", "12 04 01 02 03 04", E(OUTSIDE, 0), E(OUTSIDE, 0)),
@@ -214,6 +218,30 @@ fn fronts_are_incomplete() {
             }
         }
     }
+}
+
+/// No end limits a length (8.1.3), up to 2^64-1: all content octets are missing.
+#[test]
+fn missing_octets_of_long_lengths() {
+    for (input, missing) in [
+        ("02 88 ff ff ff ff ff ff ff f6", usize::MAX - 9),
+        ("02 88 ff ff ff ff ff ff ff f5", usize::MAX - 10),
+        ("02 88 ff ff ff ff ff ff ff ff", usize::MAX),
+        ("30 88 ff ff ff ff ff ff ff f5", usize::MAX - 10),
+    ] {
+        let expected = Error::new(ErrorKind::Incomplete { missing }, 10);
+        for rules in [Rules::DER, Rules::BER] {
+            assert_eq!(rules.check(&octets(input)), Err(expected), "{input}");
+            assert_eq!(rules.first_length(&octets(input)), Err(expected), "{input}");
+        }
+    }
+}
+
+/// An outermost indefinite length says no more than its end marker (8.1.3.6), so not how long the inner list is.
+#[test]
+fn missing_octets_of_indefinite_lengths() {
+    let expected = Error::new(ErrorKind::Incomplete { missing: 2 }, 4);
+    assert_eq!(Rules::BER.check(&octets("30 80 30 05")), Err(expected));
 }
 
 #[test]

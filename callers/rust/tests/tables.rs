@@ -1,11 +1,11 @@
 //! The rows of the library's tests that say what X.690 has of elements: `are_elements` and `is_element` with a depth,
-//! and `refused` with the rules, whose answer is the first fault.
+//! and `refused` and `walk` with the rules, whose answer ends with the first fault.
 #![cfg(feature = "std")]
 use dumarewhi::{write_der, ErrorKind, Reason, Result, Rules};
 use std::path::{Path, PathBuf};
 use std::{fs, io};
 
-/// The errors whose texts in rows are those of causes, by how these begin.
+/// The errors whose texts in rows are those of causes, by how these begin, or which rows name.
 const CAUSES: &[(&str, Reason)] = &[
     ("it ends ", Reason::OVERRUN),
     ("the tag number isn't in the fewest octets", Reason::INVALID_TAG),
@@ -22,7 +22,17 @@ const CAUSES: &[(&str, Reason)] = &[
     ),
     ("a string is constructed", Reason::CONSTRUCTED),
     ("elements are nested more than 100 deep", Reason::MAX_DEPTH),
+    ("PastEnd ", Reason::OVERRUN),
+    ("NoEndMarker", Reason::NO_END_MARKER),
+    ("ConstructedString", Reason::CONSTRUCTED),
+    ("ArcPadded", Reason::ARC_PADDED),
+    ("CharacterOutside", Reason::CHARACTER_OUTSIDE),
+    ("BmpStringLength", Reason::BMP_STRING_LENGTH),
+    ("TimeText", Reason::TIME_TEXT),
 ];
+
+/// How the text of cut input begins, before the number of octets that are missing.
+const CUT: &[&str] = &["the input is cut, at least ", "Cut "];
 
 /// The files of rows.
 fn files() -> io::Result<Vec<PathBuf>> {
@@ -54,8 +64,8 @@ impl Call {
         match (name, word) {
             ("are_elements", _) => Some(Call::AreElements { depth: depth() }),
             ("is_element", _) => Some(Call::IsElement { depth: depth() }),
-            ("refused", "BER") => Some(Call::Refused(Rules::BER)),
-            ("refused", "DER") => Some(Call::Refused(Rules::DER)),
+            ("refused" | "walk", "BER") => Some(Call::Refused(Rules::BER)),
+            ("refused", "DER") | ("walk", "DER keeping") => Some(Call::Refused(Rules::DER)),
             _ => None,
         }
     }
@@ -99,23 +109,30 @@ fn rules_named(is_so: impl Fn(Rules) -> bool) -> &'static str {
     }
 }
 
-/// Compares the first fault with `1 at 5, PATH: TEXT`, or with `end` if there is none.
+/// Compares the first fault with `1 at 5, PATH: TEXT` or with `0 2 CAUSE at 2`, and none with an answer that ends in
+/// `end`.
 fn compare_fault(checked: Result<()>, answer: &str) {
-    let (place, text) = match answer.split_once(": ") {
+    let (front, place) = match answer.split_once(" at ") {
         Some(stated) => stated,
-        None => return assert_eq!((checked, answer), (Ok(()), "end")),
+        None => return assert_eq!((checked, answer.ends_with("end")), (Ok(()), true)),
+    };
+    let (place, text) = match place.split_once(": ") {
+        Some(stated) => stated,
+        None => (
+            place,
+            front.trim_start_matches(|c: char| c == ' ' || c.is_ascii_digit()),
+        ),
     };
     let error = checked.unwrap_err();
-    let offset = place.split_once(" at ").unwrap().1.split(',').next().unwrap();
     let reason = match error.kind() {
         ErrorKind::Malformed(reason) => reason,
         ErrorKind::Incomplete { missing } => {
-            let stated = text.strip_prefix("the input is cut, at least ").unwrap();
-            return assert_eq!(stated.split_once(' ').unwrap().0.parse(), Ok(missing));
+            let stated = CUT.iter().find_map(|front| text.strip_prefix(front)).unwrap();
+            return assert_eq!(stated.split(' ').next().unwrap().parse(), Ok(missing));
         }
         kind => panic!("{kind}"),
     };
-    assert_eq!(offset.parse(), Ok(error.offset()));
+    assert_eq!(place.split(',').next().unwrap().parse(), Ok(error.offset()));
     match CAUSES.iter().find(|(front, _)| text.starts_with(front)) {
         Some((_, stated)) => assert_eq!(*stated, reason),
         None => assert_eq!(text, reason.to_string()),
