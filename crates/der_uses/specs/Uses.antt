@@ -17,7 +17,8 @@ use Rattle.der_parser.specs.BerReading.{FramingNeedsMemory, NeedsMemory}
 use Rattle.der_parser.specs.Elements.{Element as AnyValue, SpellsAny, element_of}
 use Rattle.der_parser.specs.Encoding.{encoding}
 use Rattle.der_parser.specs.Fault.{DerShowsFault}
-use Rattle.der_parser.specs.Formats.{As, Content, Each, Field, Format, Ignored, Number, Octets, OptionalTagged, Required}
+use Rattle.der_parser.specs.Formats.{As, Content, Each, Field, Format, Ignored, Number, Octets, OptionalTagged}
+use Rattle.der_parser.specs.Formats.{Required}
 use Rattle.der_parser.specs.Formats.{BitString, ObjectIdentifier, Only, Sequence, ◌⨾◌}
 use Rattle.der_parser.specs.Headers.{BeginsWithDerHeader}
 use Rattle.der_parser.specs.Kinds.{borrowed_octets}
@@ -109,8 +110,8 @@ IsPair i = (o : Node) × BeginsWithDer depth i o [] × (object_count o ≡ 2)
 
 -- an input begins with an element of this number, of any class, whose content is the value, and what follows it
 abbrev pub BeginsWithElementOf : {V : Type 0} → ℕ → (List ℕ → V → Type 0) → List ℕ → V × List ℕ → Type 0
-BeginsWithElementOf n C i v = (c : Class) × (p : Bool) × (w : List ℕ) × BeginsWithDerHeader i c p n (length w) (w ++ v.1)
-    × C w v.0
+BeginsWithElementOf n C i v = (c : Class) × (p : Bool) × (w : List ℕ)
+    × BeginsWithDerHeader i c p n (length w) (w ++ v.1) × C w v.0
 
 -- an input begins with the explicit tag of this number, of any class but Universal, whose content begins with a value,
 -- and what follows the tag
