@@ -29,7 +29,7 @@ export class Details {
     const isCut = !isFull && value !== elements.valueOf(number, true).trim();
     if (value !== "") lines.push(["Value", value, isIdentifier(row) ? "identifier" : "value"]);
     for (const line of otherForms(elements, number, row, content, isFull)) lines.push(line);
-    if (row.holdsDer) lines.push(["Content", "an element of DER, which is shown inside"]);
+    if (row.holds) lines.push(["Content", `an element of ${row.holds}, which is shown inside`]);
     if (row.isMarked) lines.push(["Remark", elements.remarkOf(number), "fault"]);
     this.fill(lines);
     if (!isCut) return;

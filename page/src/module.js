@@ -137,7 +137,7 @@ export class Elements {
       tagClass: view.getUint8(at + 52),
       isConstructed: view.getUint8(at + 53) === 1,
       isDefinite: view.getUint8(at + 54) === 1,
-      holdsDer: view.getUint8(at + 55) === 1,
+      holds: ["", "DER", "BER"][view.getUint8(at + 55)],
       isMarked: view.getUint8(at + 56) === 1,
     };
   }

@@ -180,7 +180,7 @@ function elementParts(elements, number, hasInside) {
     place: row.offset,
     sizes: `${row.header}+${row.isDefinite ? row.length : "∞"}`,
     type: elements.nameOf(number),
-    mark: row.holdsDer ? "holds DER" : row.isConstructed && !hasInside ? "empty" : "",
+    mark: row.holds ? `holds ${row.holds}` : row.isConstructed && !hasInside ? "empty" : "",
     value: elements.valueOf(number, false).trim(),
     isIdentifier: row.tagClass === 0 && row.number === 6,
     remark: row.isMarked ? elements.remarkOf(number) : "",

@@ -74,7 +74,7 @@ mutual
   costs_one (primitive c t h w is e may out ev) =
       omega (arith, header_costs c false t (Some (length w)) h is, ap length e, length-append h w, ap costs ev)
   costs_one (broken t h w is e keeps er it never ev) = absurd (cc)
-  costs_one (string t h w u v us is e value enters holds vis ev) = absurd (cc)
+  costs_one (string m t h w u v us is e value enters holds first vis ev) = absurd (cc)
   costs_one (constructed c t h w us is e may vis ev) =
       omega (arith, header_costs c true t (Some (length w)) h is, ap length e, length-append h w, ap costs ev, costs_within vis)
   costs_one {b = b} (indefinite c t h w us is e may vis ev) =

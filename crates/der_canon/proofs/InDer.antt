@@ -104,7 +104,7 @@ mutual
       let content : content_of i v ≡ w = between_front i (a + length h) w r (inner i r a b h w at eb) in
       subst (λ (m : Contents). HasPart b s m) q.2 (p.0, p.1, primitive_part c u h w is eb (p.2 ∙ ap (λ z. with_part u z s.here) content), p.3)
   part_one i r n s t (broken u h w is eb keeps er it never ev) at l e all = absurd (cc)
-  part_one i r n s t (string u h w x y us is eb value enters holds vis ev) at l e all = absurd (cc)
+  part_one i r n s t (string m u h w x y us is eb value enters holds first vis ev) at l e all = absurd (cc)
   part_one {k = k} {a = a} {b = b} i r n s t (constructed c u h w us is eb may vis ev) at l e all =
       let q = subst (λ vs. WritesAll KeepsString i s vs t) ev all in
       let p = part_of i n s (visited a k c true u h (Some (length w))) q.0 e l q.1 in
@@ -164,7 +164,7 @@ as_string d k b c u w xs x m t len is parts es ea eh en (js, ja, jh, jn) = (
 first_deep : {d k a : ℕ} {b : List ℕ} {us : List Visited} → VisitsOne no_extras Ber d k a b us → (v : Visited) × (vs : List Visited) × (us ≡ v ∷ vs) × (k ≡ v.depth)
 first_deep {k = k} {a = a} (primitive c u h w is eb may never ev) = (visited a k c false u h (Some (length w)), [], ev, refl)
 first_deep (broken u h w is eb keeps er it never ev) = absurd (cc)
-first_deep (string u h w y z us is eb value enters holds vis ev) = absurd (cc)
+first_deep (string m u h w y z us is eb value enters holds first vis ev) = absurd (cc)
 first_deep {k = k} {a = a} (constructed c u h w us is eb may vis ev) = (visited a k c true u h (Some (length w)), us, ev, refl)
 first_deep {k = k} {a = a} (indefinite c u h w us is eb may vis ev) = (visited a k c true u h None, us, ev, refl)
 
@@ -214,7 +214,7 @@ mutual
         subst (λ z. IsOutside k z) (sym p.0) tt,
       )
   element_one i r s t xs x (broken u h w is eb keeps er it never ev) at out all len done = absurd (cc)
-  element_one i r s t xs x (string u h w y z us is eb value enters holds vis ev) at out all len done = absurd (cc)
+  element_one i r s t xs x (string m u h w y z us is eb value enters holds first vis ev) at out all len done = absurd (cc)
   element_one {k = k} {a = a} {b = b} i r s t xs x (constructed {d = d} c u h w us is eb may vis ev) at out all len done =
       let q = subst (λ vs. WritesAll KeepsString i s vs t) ev all in
       let m = q.0 in

@@ -1,9 +1,10 @@
 -- One line after others, and the content of an element.
-use Rattle.std.proofs.Common.{◌≡◌, ℕ, ◌+◌, Bool, true, false, Option, Some, None, IfSome, IsSome, List, [], ◌∷◌, ◌++◌, codes, length, MatchBool, refl, sym, ap, ◌∙◌, subst, append_assoc, append-nil}
+use Rattle.std.proofs.Common.{◌≡◌, ℕ, ◌+◌, Bool, true, false, Option, Some, None, IfSome, IsSome, List, [], ◌∷◌, ◌++◌, codes, length, MatchBool, MatchOption, refl, sym, ap, ◌∙◌, subst, append_assoc, append-nil}
 use Rattle.std.specs.Borrow.{Bor}
 use Rattle.std.specs.Option.{unwrap_or}
+use Rattle.der_base.specs.declared.rules.Rules.{Rules}
 use Rattle.der_print.specs.declared.style.Style.{Style}
-use Rattle.der_print.specs.Lines.{AreLines, IsLine, IsValueSaid, content_in, limit_of, no_lines, one_more_line}
+use Rattle.der_print.specs.Lines.{AreLines, IsLine, IsValueSaid, content_in, holding_text, limit_of, no_lines, one_more_line}
 use Rattle.der_print.specs.Texts.{content_of, octets_or_none}
 use Rattle.der_walk.specs.declared.element.Element.{Element}
 use Rattle.der_walk.specs.Ends.{between}
@@ -17,16 +18,16 @@ lines_more {style} {i} v line (one_more_line {v = u} {vs = vs} first rest k ks) 
     subst (AreLines style i (u ∷ vs ++ v ∷ [])) (sym (append_assoc first rest line)) (one_more_line first (rest ++ line) k (lines_more v line ks l))
 
 -- a constructed element's content isn't looked at
-ending_of : (A P : Type 0) (h p : Bool) (B : List ℕ → Type 0) (w w' : List ℕ) → (p ≡ false → w ≡ w') → MatchBool h A (MatchBool p P (B w)) → MatchBool h A (MatchBool p P (B w'))
-ending_of A P true p B w w' same x = x
-ending_of A P false true B w w' same x = x
-ending_of A P false false B w w' same x = subst B (same refl) x
+ending_of : (P : Type 0) (h : Option Rules) (Q : Rules → Type 0) (p : Bool) (B : List ℕ → Type 0) (w w' : List ℕ) → (p ≡ false → w ≡ w') → MatchOption h (MatchBool p P (B w)) Q → MatchOption h (MatchBool p P (B w')) Q
+ending_of P (Some s) Q p B w w' same x = x
+ending_of P None Q true B w w' same x = x
+ending_of P None Q false B w w' same x = subst B (same refl) x
 
 pub line_of : (style : Style) (v : Visited) (w w' line : List ℕ) → (v.constructed ≡ false → w ≡ w') → IsLine style v w line → IsLine style v w' line
 line_of style v w w' line same l = record {
   value = l.value;
   shown = l.shown;
-  ending = ending_of (l.value ≡ codes " holding DER") (l.value ≡ []) v.holds_der v.constructed (λ u. IsValueSaid (limit_of style v) v u l.value) w w' same l.ending;
+  ending = ending_of (l.value ≡ []) v.holds (λ s. l.value ≡ holding_text s) v.constructed (λ u. IsValueSaid (limit_of style v) v u l.value) w w' same l.ending;
   whole = l.whole;
 }
 

@@ -19,7 +19,7 @@ use Rattle.der_walk.specs.Visits.{Visited}
 
 abbrev visited : ℕ → ℕ → Option ℕ → Class → Bool → ℕ → ℕ → Visited
 visited offset header l c p t depth =
-    record { offset = offset; header = header; length = l; class = c; constructed = p; number = t; depth = depth; holds_der = false; breaks_its_type = false }
+    record { offset = offset; header = header; length = l; class = c; constructed = p; number = t; depth = depth; holds = None; breaks_its_type = false }
 
 certificate : front_text false (visited 0 4 (Some 515) Universal true 16 0) ≡ codes "      0  4+515     SEQUENCE"
 unfolding digits

@@ -1,8 +1,10 @@
 -- The line that is printed of an element.
-use Rattle.std.specs.Prelude.{◌≡◌, ℕ, ◌+◌, ◌-◌, Bool, false, if◌then◌else◌, MatchBool, Option, Some, None}
+use Rattle.std.specs.Prelude.{◌≡◌, ℕ, ◌+◌, ◌-◌, Bool, false, if◌then◌else◌, MatchBool, MatchOption, Option, Some, None}
 use Rattle.std.specs.Prelude.{List, [], ◌∷◌, ◌++◌, codes, decimal, length}
 use Rattle.std.specs.Option.{unwrap_or}
 use Rattle.std.specs.Io.KnownBytes.{Appends}
+use Rattle.der_base.specs.declared.rules.Rules.{Rules}
+use Rattle.der_base.specs.declared.rules.Rules.TheVariants.{Ber, Der}
 use Rattle.der_base.specs.Pretty.{spaces}
 use Rattle.der_print.specs.declared.style.Limit.{Limit}
 use Rattle.der_print.specs.declared.style.Style.{Style}
@@ -60,8 +62,8 @@ limit_of style v = limit_without style.limit (length (front_text false v))
 
 -- the value of an element with this content, and nothing where the content is elements
 abbrev pub IsValueAlone : Limit → Visited → List ℕ → List ℕ → Type 0
-IsValueAlone limit v w text = MatchBool v.holds_der (text ≡ [])
-    (MatchBool v.constructed (text ≡ []) (IsValue limit v.class v.number w text))
+IsValueAlone limit v w text =
+    MatchOption v.holds (MatchBool v.constructed (text ≡ []) (IsValue limit v.class v.number w text)) (λ s. text ≡ [])
 
 -- a remark after two spaces
 abbrev pub after_spaces : Option (List ℕ) → List ℕ
@@ -76,11 +78,16 @@ pub record IsValueSaid (limit : Limit) (v : Visited) (w text : List ℕ) : Type 
   pub is_remark : IsRemark v w remark
   pub whole : text ≡ value ++ after_spaces remark
 
+-- by which rules a string holds an element
+abbrev pub holding_text : Rules → List ℕ
+holding_text Ber = codes " holding BER"
+holding_text Der = codes " holding DER"
+
 -- what follows that, of an element with this content: nothing for a constructed one, or the value; the element inside
 -- a string has a line of its own
 abbrev pub IsEnding : Limit → Visited → List ℕ → List ℕ → Type 0
-IsEnding limit v w text = MatchBool v.holds_der (text ≡ codes " holding DER")
-    (MatchBool v.constructed (text ≡ []) (IsValueSaid limit v w text))
+IsEnding limit v w text =
+    MatchOption v.holds (MatchBool v.constructed (text ≡ []) (IsValueSaid limit v w text)) (λ s. text ≡ holding_text s)
 
 -- the line of an element with this content: that and the line's end
 pub record IsLine (style : Style) (v : Visited) (w line : List ℕ) : Type 0 where

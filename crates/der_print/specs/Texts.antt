@@ -1,10 +1,10 @@
 -- The octets of texts that are made.
-use Rattle.std.specs.Borrow.{Bor}
-use Rattle.std.specs.Prelude.{ℕ, List, [], Option, Some, None, drop}
+use Rattle.std.specs.Prelude.{ℕ, List, drop}
 use Rattle.der_print.specs.declared.line_octets.LineOctets.{LineOctets}
 use Rattle.der_print.specs.declared.row.Row.{Row}
 use Rattle.der_print.specs.declared.shown.ShownText.{ShownText}
 use Rattle.der_walk.specs.declared.element.Element.{Element}
+pub use Rattle.der_walk.specs.Reading.{octets_or_none}
 
 -- those of a line
 abbrev pub octets_in : LineOctets → List ℕ
@@ -19,9 +19,5 @@ abbrev pub row_text : Row → List ℕ
 row_text r = drop r.start r.octets
 
 -- the content octets of an element, or none
-abbrev pub octets_or_none : Option (Bor (List ℕ)) → List ℕ
-octets_or_none (Some w) = w.now
-octets_or_none None = []
-
 abbrev pub content_of : Element → List ℕ
 content_of e = octets_or_none e.content

@@ -13,7 +13,7 @@ use Rattle.der_base.specs.declared.time.ASN1TimeZone.TheVariants.{Undefined, Z, 
 use Rattle.der_base.specs.Octets.{integer_value}
 use Rattle.der_base.specs.Pretty.{dotted, hex_pair}
 use Rattle.der_base.specs.Text.{is_one_of, is_text_type, is_visible, is_within}
-use Rattle.der_base.specs.Time.{IsTimeText, at_least_digits, rfc5280_year}
+use Rattle.der_base.specs.Time.{IsTimeText, at_least_digits, fraction_text, rfc5280_year}
 use Rattle.der_values.specs.ArcNumbers.{u128_arcs}
 use Rattle.oid_names.specs.Tables.{HasLine}
 use Rattle.oid_names.specs.declared.table.TheConstants.{NAMES}
@@ -92,11 +92,6 @@ abbrev pub bits_text : Limit → List ℕ → List ℕ
 bits_text limit [] = []
 bits_text limit (u ∷ w) = hex_text (limit_without limit 16) w ++ unused_text u
 
--- a moment, with nine digits of a fraction
-abbrev pub nanosecond_text : Option ℕ → List ℕ
-nanosecond_text None = []
-nanosecond_text (Some n) = codes "." ++ at_least_digits 9 n
-
 abbrev pub minutes_text : ℕ → List ℕ
 minutes_text n = codes ":" ++ at_least_digits 2 n
 
@@ -110,10 +105,11 @@ zone_text (Offset h m) = (if int_lt h (pos 0) || int_lt m (pos 0) then codes " -
 abbrev pub full_year : Bool → ASN1DateTime → ℕ
 full_year is_utc_time t = if is_utc_time then rfc5280_year t.year else t.year
 
+-- a moment, without zeros at the end of a fraction
 abbrev pub moment_text : Bool → ASN1DateTime → List ℕ
 moment_text is_utc_time t = at_least_digits 4 (full_year is_utc_time t) ++ codes "-" ++ at_least_digits 2 t.month
     ++ codes "-" ++ at_least_digits 2 t.day ++ codes " " ++ at_least_digits 2 t.hour ++ codes ":"
-    ++ at_least_digits 2 t.minute ++ codes ":" ++ at_least_digits 2 t.second ++ nanosecond_text t.nanosecond
+    ++ at_least_digits 2 t.minute ++ codes ":" ++ at_least_digits 2 t.second ++ fraction_text t.nanosecond
     ++ zone_text t.tz
 
 -- octets that are printed as a text: at least two printable characters of ASCII

@@ -11,6 +11,7 @@ ghost use Rattle.der_print.specs.Writes.{WritesOne};
 use crate::remark::Remark;
 use crate::style::Limit;
 use crate::value::write_value;
+use der_base::rules::Rules;
 use der_walk::Element;
 use std::fmt;
 
@@ -23,13 +24,12 @@ pub(crate) fn write_ending<W: fmt::Write>(
     ensures { let v = visited_of element.now in let w = content_of element.now in
         WritesOne W.Write.write_str_gives f.old result (IsEnding limit v w) f.new }
 {
-    if element.holds_der {
-        return write!(f, " holding DER");
+    match element.holds {
+        Some(Rules::Ber) => write!(f, " holding BER"),
+        Some(Rules::Der) => write!(f, " holding DER"),
+        None if element.constructed => Ok(()),
+        None => write_value_said(f, element, limit),
     }
-    if element.constructed {
-        return Ok(());
-    }
-    write_value_said(f, element, limit)
 }
 
 /// Writes a value, and what is said of one that breaks its type.

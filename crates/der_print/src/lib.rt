@@ -27,7 +27,7 @@ pub use line::write_line;
 pub use number::Number;
 pub use octets::Hex;
 pub use real::Real;
-pub use remark::Remark;
+pub use remark::{BrokenRule, Remark};
 pub use room::Room;
 pub use style::{Limit, Style};
 pub use text::{Quoted, Unquoted, is_printable_ascii};

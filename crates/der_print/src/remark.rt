@@ -1,20 +1,32 @@
 //! A value that breaks its type.
-ghost use Rattle.std.specs.Prelude.{◌≡◌, Some, find, not};
+ghost use Rattle.std.specs.Prelude.{◌≡◌, Some, find, not, true};
 ghost use Rattle.std.specs.Fmt.{DisplaysOnOk};
 ghost use Rattle.der_base.specs.Text.{is_printable};
-ghost use Rattle.der_print.specs.Remarks.{fault_text, is_of_type};
+ghost use Rattle.std.specs.Option.{option_map};
+ghost use Rattle.der_print.specs.Remarks.{IsRemark, fault_text, is_of_type, remark_text};
+ghost use Rattle.der_print.specs.Texts.{content_of};
+ghost use Rattle.der_walk.specs.Walked.{visited_of};
 
 use crate::characters::write_octet;
 use crate::value::octets_or_none;
 use der_base::rules::Rules;
 use der_contents::{ContentError, check_content};
-use der_walk::Element;
+use der_walk::{Element, fault_inside};
 use std::fmt;
+
+/// What is said of an element besides its value.
+#[derive(Clone, Copy)]
+pub enum Remark<'a> {
+    /// The value breaks its type.
+    Rule(BrokenRule<'a>),
+    /// The content of a string is a SEQUENCE or SET by its header, and isn't one: where in the input the fault is.
+    Inside(usize),
+}
 
 /// What is said of a value that breaks its type: the rule, and of a text also the first octet outside of the type's
 /// character set.
 #[derive(Clone, Copy)]
-pub struct Remark<'a> {
+pub struct BrokenRule<'a> {
     error: ContentError,
     /// The number of the type.
     number: u32,
@@ -23,28 +35,38 @@ pub struct Remark<'a> {
 }
 
 impl<'a> Remark<'a> {
-    ghost use Rattle.std.specs.Option.{option_map};
-    ghost use Rattle.der_print.specs.Remarks.{IsRemark, remark_text};
-    ghost use Rattle.der_print.specs.Texts.{content_of};
-    ghost use Rattle.der_walk.specs.Walked.{visited_of};
-
-    /// What is said of an element: the first rule of BER that its content breaks, if it is one that breaks its type.
+    /// What is said of an element: the first rule of BER that its content breaks, if it is one that breaks its type,
+    /// and else where the list inside a string is at fault, if none of it is visited.
     pub fn on(element: &Element<'a>) -> Option<Remark<'a>>
         ensures { IsRemark (visited_of element.now) (content_of element.now) (option_map remark_text result) }
     {
-        if !element.breaks_its_type {
+        if element.breaks_its_type {
+            return on_content(element);
+        }
+        if element.holds.is_some() {
             return None;
         }
-        let number = element.number;
-        let octets = octets_or_none(element.content);
-        match check_content(Rules::Ber, number, octets) {
-            Ok(()) => None,
-            Err(error) => Some(Remark {
-                error,
-                number,
-                octets,
-            }),
+        match fault_inside(element) {
+            Some(offset) => Some(Remark::Inside(offset)),
+            None => None,
         }
+    }
+}
+
+/// The first rule of BER that the content of an element breaks.
+fn on_content<'a>(element: &Element<'a>) -> Option<Remark<'a>>
+    requires { element.now.breaks_its_type ≡ true }
+    ensures { IsRemark (visited_of element.now) (content_of element.now) (option_map remark_text result) }
+{
+    let number = element.number;
+    let octets = octets_or_none(element.content);
+    match check_content(Rules::Ber, number, octets) {
+        Ok(()) => None,
+        Err(error) => Some(Remark::Rule(BrokenRule {
+            error,
+            number,
+            octets,
+        })),
     }
 }
 
@@ -53,6 +75,20 @@ impl fmt::Display for Remark<'_> {
     ghost use Rattle.der_print.specs.Remarks.{remark_text};
 
     ghost output = { λ x. Some (remark_text x) };
+
+    fn fmt<W: fmt::Write>(&self, f: &mut fmt::Formatter<W>) -> fmt::Result {
+        match self {
+            Remark::Rule(rule) => write!(f, "{rule}"),
+            Remark::Inside(offset) => write!(f, "holding BER broken at {offset}"),
+        }
+    }
+}
+
+impl fmt::Display for BrokenRule<'_> {
+    ghost use Rattle.std.specs.Prelude.{Some};
+    ghost use Rattle.der_print.specs.Remarks.{rule_of};
+
+    ghost output = { λ x. Some (rule_of x) };
 
     fn fmt<W: fmt::Write>(&self, f: &mut fmt::Formatter<W>) -> fmt::Result {
         f.write_str(self.error.found())?;

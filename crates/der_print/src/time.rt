@@ -1,8 +1,8 @@
 //! UTCTime and GeneralizedTime as people write them.
 ghost use Rattle.std.specs.Prelude.{◌≡◌, ◌||◌, Some, codes, if◌then◌else◌, int_lt, pos};
 ghost use Rattle.std.specs.Fmt.{DisplaysOnOk};
-ghost use Rattle.der_base.specs.Time.{at_least_digits};
-ghost use Rattle.der_print.specs.Values.{full_year, nanosecond_text, zone_text};
+ghost use Rattle.der_base.specs.Time.{at_least_digits, fraction_text, or_zero, without_last_zeros};
+ghost use Rattle.der_print.specs.Values.{full_year, zone_text};
 
 use der_base::time::{ASN1DateTime, ASN1TimeZone};
 use std::fmt;
@@ -34,7 +34,7 @@ impl fmt::Display for Moment {
         let minute = two_digits(time.minute);
         let second = two_digits(time.second);
         write!(f, " {hour}:{minute}:{second}")?;
-        write_nanosecond(f, time.nanosecond)?;
+        write_fraction(f, time.nanosecond)?;
         write_zone(f, time.tz)
     }
 }
@@ -80,17 +80,36 @@ fn full_year(time: ASN1DateTime, is_utc_time: bool) -> u32
     }
 }
 
-/// Writes nine digits of a fraction, if there is one.
-fn write_nanosecond<W: fmt::Write>(
-    f: &mut fmt::Formatter<W>,
-    nanosecond: Option<u32>,
-) -> fmt::Result
-    ensures { DisplaysOnOk W.Write.write_str_gives f.old result (Some (nanosecond_text nanosecond)) f.new }
+/// Writes the fraction of a second, if there is one.
+fn write_fraction<W: fmt::Write>(f: &mut fmt::Formatter<W>, nanosecond: Option<u32>) -> fmt::Result
+    ensures { DisplaysOnOk W.Write.write_str_gives f.old result (Some (fraction_text nanosecond)) f.new }
 {
     match nanosecond {
-        Some(number) => write!(f, ".{}", Digits { number, least: 9 }),
+        Some(nanosecond) => {
+            let digits = shortest_fraction(nanosecond);
+            write!(f, ".{digits}")
+        }
         None => Ok(()),
     }
+}
+
+/// The digits after the point, without zeros at the end.
+fn shortest_fraction(nanosecond: u32) -> Digits
+    ensures { at_least_digits result.least result.number ≡ or_zero (without_last_zeros (at_least_digits 9 nanosecond)) }
+{
+    if nanosecond == 0 {
+        return Digits {
+            number: 0,
+            least: 1,
+        };
+    }
+    let mut number = nanosecond;
+    let mut least = 9;
+    while number % 10 == 0 {
+        number /= 10;
+        least -= 1;
+    }
+    Digits { number, least }
 }
 
 /// Writes the zone.

@@ -50,10 +50,11 @@ fn write_value_alone<W: fmt::Write>(
     ensures { let v = visited_of element.now in let w = content_of element.now in
         WritesOne W.Write.write_str_gives f.old result (IsValueAlone limit v w) f.new }
 {
-    if element.holds_der || element.constructed {
-        return Ok(());
+    match element.holds {
+        Some(_) => Ok(()),
+        None if element.constructed => Ok(()),
+        None => write_value(f, element, limit),
     }
-    write_value(f, element, limit)
 }
 
 /// Writes the value of a primitive element.

@@ -17,18 +17,18 @@ use Rattle.der_contents.specs.ContentRules.{Rule, AllHold, IsContent, IsFirstBro
 use Rattle.der_contents.specs.declared.content_error.ContentError.{ContentError}
 use Rattle.der_walk.specs.declared.element.Element.{Element}
 use Rattle.der_walk.specs.declared.walk.Walk.{Walk}
-use Rattle.der_walk.specs.Visits.{Extras, IsHeaderBy, HoldsElement, primitive, broken, visited}
+use Rattle.der_walk.specs.Visits.{Extras, IsHeaderBy, HoldsElement, IsFirstOf, primitive, broken, visited}
 use Rattle.der_walk.specs.Ends.{end_of, IsWithin}
 use Rattle.der_walk.specs.Walked.{visited_of}
-use Rattle.der_walk.specs.Reading.{StartsWith, FindsContent, IsChecked, Holds, IsRead, whole, string, list, definite_of, extras_of, octets_or_none, OctetsHere, ReadsHere}
+use Rattle.der_walk.specs.Reading.{StartsWith, FindsContent, IsChecked, Holds, IsHeld, IsRead, whole, string, list, definite_of, extras_of, octets_or_none, OctetsHere, ReadsHere}
 use Rattle.der_walk.proofs.Headers.{Parts, header_parts, header_two, raw_tag_read}
 
 -- what is visited, where only the header matters
-visited_plain : (e : Element) (h : List ℕ) (p : Bool) (n : Option ℕ) → e.header ≡ length h → e.length ≡ n → e.constructed ≡ p → e.holds_der ≡ false → e.breaks_its_type ≡ false
+visited_plain : (e : Element) (h : List ℕ) (p : Bool) (n : Option ℕ) → e.header ≡ length h → e.length ≡ n → e.constructed ≡ p → e.holds ≡ None → e.breaks_its_type ≡ false
     → visited_of e ≡ visited e.offset e.depth e.class p e.number h n
 visited_plain e h p n eh el ep ed eo = cc
 
-visited_broken : (e : Element) (h : List ℕ) (n : Option ℕ) → e.header ≡ length h → e.length ≡ n → e.class ≡ Universal → e.constructed ≡ false → e.holds_der ≡ false → e.breaks_its_type ≡ true
+visited_broken : (e : Element) (h : List ℕ) (n : Option ℕ) → e.header ≡ length h → e.length ≡ n → e.class ≡ Universal → e.constructed ≡ false → e.holds ≡ None → e.breaks_its_type ≡ true
     → visited_of e ≡ record (visited e.offset e.depth Universal false e.number h n) { breaks_its_type = true }
 visited_broken e h n eh el ec ep ed eo = cc
 
@@ -103,26 +103,38 @@ all_bits Der [] = (omega arith, (λ e. refl, (refl, tt)))
 all_bits Der (b ∷ v) = (omega arith, (λ e. refl, ((omega arith, omega arith), tt)))
 
 -- what holds an element doesn't break its type
-holds_content : (r : Rules) (t d : ℕ) (w u v : List ℕ) → HoldsElement d t w u v → IsContent r t w
-holds_content r t d w u v h = ⊎_elim
+holds_content : (s r : Rules) (t d : ℕ) (w u v : List ℕ) → HoldsElement s d t w u v → IsContent r t w
+holds_content s r t d w u v h = ⊎_elim
     (λ z. subst (λ n. IsContent r n w) (sym z.0) tt)
     (λ z. subst (λ n. IsContent r n w) (sym z.0) (subst (λ l. IsContent r 3 l) (sym (h.parts ∙ ap (λ l. l ++ v) z.1)) (all_bits r v)))
     h.front
 
 -- what a string holds, by its content
-holds_in : (e : Element) (w : Bor (List ℕ)) → e.content ≡ Some w → Holds e → (u v : List ℕ) × HoldsElement (100 - e.depth) e.number w.now u v
-holds_in e w q h = subst (λ c. MatchOption c ⊥ (λ w. (u v : List ℕ) × HoldsElement (100 - e.depth) e.number w.now u v)) q h.2
+holds_in : (s : Rules) (e : Element) (w : Bor (List ℕ)) → e.content ≡ Some w → Holds s e → (u v : List ℕ) × HoldsElement s (100 - e.depth) e.number w.now u v
+holds_in s e w q h = subst (λ c. MatchOption c ⊥ (λ w. (u v : List ℕ) × HoldsElement s (100 - e.depth) e.number w.now u v)) q h.2
 
-in_holds : (e : Element) (w : Bor (List ℕ)) → e.content ≡ Some w → e.constructed ≡ false → e.class ≡ Universal → (u v : List ℕ) → HoldsElement (100 - e.depth) e.number w.now u v → Holds e
-in_holds e w q ep ec u v h = (ep, ec, subst (λ c. MatchOption c ⊥ (λ w. (u v : List ℕ) × HoldsElement (100 - e.depth) e.number w.now u v)) (sym q) (u, v, h))
+in_holds : (s : Rules) (e : Element) (w : Bor (List ℕ)) → e.content ≡ Some w → e.constructed ≡ false → e.class ≡ Universal → (u v : List ℕ) → HoldsElement s (100 - e.depth) e.number w.now u v → Holds s e
+in_holds s e w q ep ec u v h = (ep, ec, subst (λ c. MatchOption c ⊥ (λ w. (u v : List ℕ) × HoldsElement s (100 - e.depth) e.number w.now u v)) (sym q) (u, v, h))
+
+-- by which rules, if by any
+by_rules : (o : Option Rules) → (o ≡ None) ⊎ ((s : Rules) × (o ≡ Some s))
+by_rules None = inl refl
+by_rules (Some s) = inr (s, refl)
+
+held_none : (enters : Bool) (e : Element) → e.holds ≡ None → IsHeld enters e e.holds → enters ≡ true → (s : Rules) → Holds s e → ⊥
+held_none enters e q h = subst (λ o. IsHeld enters e o) q h
+
+held_some : (enters : Bool) (e : Element) (s : Rules) → e.holds ≡ Some s → IsHeld enters e e.holds → (enters ≡ true) × Holds s e × (s ≡ Ber → Holds Der e → ⊥)
+held_some enters e s q h = subst (λ o. IsHeld enters e o) q h
 
 pub reads : (x : Extras) (r : Rules) (i : List ℕ) (y : Bor (List ℕ) × Header) (at k j : ℕ) (e : Element) → AnswersHeader r i (Ok y) → StartsWith y.1 (length i - length y.0.now) at k j e
-    → FindsContent e y.0.now e.content → IsChecked x.keeps_values r e e.breaks_its_type → IsTrue e.holds_der ↔ ((x.enters_strings ≡ true) × Holds e) → IsRead x r (100 - e.depth) i e
-reads x r i y at k j e a s f (inl (ep, may, eo)) holds =
+    → FindsContent e y.0.now e.content → IsChecked x.keeps_values r e e.breaks_its_type → IsHeld x.enters_strings e e.holds → IsRead x r (100 - e.depth) i e
+reads x r i y at k j e a s f (inl (ep, may, eo)) held =
     let g = parts_of r i y _ at k j e a s in
-    let no : e.holds_der ≡ false = ⊎_elim (λ t. absurd (let q = (holds.0 t).1.0 in cc)) (λ n. n) (bool_cases e.holds_der) in
+    let some : (m : Rules) → e.holds ≡ Some m → ⊥ = λ m t. let q = (held_some x.enters_strings e m t held).1.0 in absurd (cc) in
+    let no : e.holds ≡ None = ⊎_elim (λ n. n) (λ t. absurd (some t.0 t.1)) (by_rules e.holds) in
     list g.octets y.0.now g.split (header_length i g.octets y.0.now e.header s.header g.split) ep no eo (subst (λ p. IsHeaderBy r e.class p e.number e.length g.octets) ep g.is) may
-reads x r i y at k j e a s f (inr (inl (ep, has, eo))) holds = ⊎_elim entered plain (bool_cases e.holds_der)
+reads x r i y at k j e a s f (inr (inl (ep, has, eo))) held = ⊎_elim plain (λ t. entered t.0 t.1) (by_rules e.holds)
   where
     g : Leaf r i y.0.now e
     g = leaf_of r i y at k j e a s f ep
@@ -130,18 +142,20 @@ reads x r i y at k j e a s f (inr (inl (ep, has, eo))) holds = ⊎_elim entered 
     content : MayHaveContent r e.class e.number g.content.now
     content = subst (λ l. MayHaveContent r e.class e.number l) (ap octets_or_none g.content_is) has
 
-    entered : e.holds_der ≡ true → IsRead x r (100 - e.depth) i e
-    entered t =
-        let h = holds.0 t in
-        let (u, v, in_it) = holds_in e g.content g.content_is h.1 in
-        string g.octets g.content.now g.rest u v g.split g.header_is g.length_is ep t eo h.1.1 (subst (λ q. IsHeaderBy r q false e.number (Some (length g.content.now)) g.octets) h.1.1 g.is) (content h.1.1).1 h.0 in_it
+    entered : (m : Rules) → e.holds ≡ Some m → IsRead x r (100 - e.depth) i e
+    entered m t =
+        let h = held_some x.enters_strings e m t held in
+        let ec : e.class ≡ Universal = h.1.1 in
+        let (u, v, in_it) = holds_in m e g.content g.content_is h.1 in
+        let first : IsFirstOf m (100 - e.depth) e.number g.content.now = λ q u v k. h.2 q (in_holds Der e g.content g.content_is ep ec u v k) in
+        string m g.octets g.content.now g.rest u v g.split g.header_is g.length_is ep t eo ec (subst (λ q. IsHeaderBy r q false e.number (Some (length g.content.now)) g.octets) ec g.is) (content ec).1 h.0 in_it first
 
-    plain : e.holds_der ≡ false → IsRead x r (100 - e.depth) i e
+    plain : e.holds ≡ None → IsRead x r (100 - e.depth) i e
     plain t =
         whole g.octets g.content.now g.rest g.split g.header_is g.length_is ep t
-        (primitive e.class e.number g.octets g.content.now g.is refl content (λ en ec u v h. absurd (let q = holds.1 (en, in_holds e g.content g.content_is ep ec u v h) in cc))
+        (primitive e.class e.number g.octets g.content.now g.is refl content (λ en ec m u v h. held_none x.enters_strings e t held en m (in_holds m e g.content g.content_is ep ec u v h))
         (ap (λ v. v ∷ []) (visited_plain e g.octets false (Some (length g.content.now)) g.header_is g.length_is ep t eo)))
-reads x r i y at k j e a s f (inr (inr (ep, eo, kt, er, ec, it, never))) holds =
+reads x r i y at k j e a s f (inr (inr (ep, eo, kt, er, ec, it, never))) held =
     whole g.octets g.content.now g.rest g.split g.header_is g.length_is ep no_holds
     (broken e.number g.octets g.content.now (subst (λ c. IsHeaderBy r c false e.number (Some (length g.content.now)) g.octets) ec g.is) refl kt er it
     (λ has. never (subst (λ l. IsContent r e.number l) (sym (ap octets_or_none g.content_is)) has))
@@ -150,13 +164,13 @@ reads x r i y at k j e a s f (inr (inr (ep, eo, kt, er, ec, it, never))) holds =
     g : Leaf r i y.0.now e
     g = leaf_of r i y at k j e a s f ep
 
-    strange : e.holds_der ≡ true → ⊥
-    strange t =
-        let (u, v, in_it) = holds_in e g.content g.content_is (holds.0 t).1 in
-        never (subst (λ l. IsContent r e.number l) (sym (ap octets_or_none g.content_is)) (holds_content r e.number (100 - e.depth) g.content.now u v in_it))
+    strange : (m : Rules) → e.holds ≡ Some m → ⊥
+    strange m t =
+        let (u, v, in_it) = holds_in m e g.content g.content_is (held_some x.enters_strings e m t held).1 in
+        never (subst (λ l. IsContent r e.number l) (sym (ap octets_or_none g.content_is)) (holds_content m r e.number (100 - e.depth) g.content.now u v in_it))
 
-    no_holds : e.holds_der ≡ false
-    no_holds = ⊎_elim (λ t. absurd (strange t)) (λ n. n) (bool_cases e.holds_der)
+    no_holds : e.holds ≡ None
+    no_holds = ⊎_elim (λ n. n) (λ t. absurd (strange t.0 t.1)) (by_rules e.holds)
 
 -- the octets of the element
 octets_here : (r : Rules) (i : List ℕ) (y : Bor (List ℕ) × Header) (at k j : ℕ) (e : Element) → AnswersHeader r i (Ok y) → StartsWith y.1 (length i - length y.0.now) at k j e → FindsContent e y.0.now e.content → OctetsHere i e
@@ -175,8 +189,8 @@ octets_here r i y at k j e a s f = record { identifier = named; content = conten
     contents (Some w) (rest, split, len) = (g.octets, rest, g.split ∙ ap (λ l. g.octets ++ l) split, header_length i g.octets y.0.now e.header s.header g.split, len)
 
 -- another content and other marks leave the header
-pub starts_again : (h : Header) (o at k j : ℕ) (e : Element) (c : Option (Bor (List ℕ))) (holds other : Bool) → StartsWith h o at k j e → StartsWith h o at k j (record e { content = c; holds_der = holds; breaks_its_type = other })
-starts_again h o at k j e c holds other s = record {
+pub starts_again : (h : Header) (o at k j : ℕ) (e : Element) (c : Option (Bor (List ℕ))) (held : Option Rules) (other : Bool) → StartsWith h o at k j e → StartsWith h o at k j (record e { content = c; holds = held; breaks_its_type = other })
+starts_again h o at k j e c held other s = record {
   class = s.class;
   constructed = s.constructed;
   number = s.number;
@@ -190,8 +204,8 @@ starts_again h o at k j e c holds other s = record {
 
 pub reads_here : (w : Walk) (i : List ℕ) (y : Bor (List ℕ) × Header) (e : Element) → AnswersHeader w.content.rules i (Ok y) → StartsWith y.1 (length i - length y.0.now) w.at (length w.opened.items) w.content.visited e
     → FindsContent e y.0.now e.content → IfSome e.length (λ n. IsWithin (e.offset + e.header + n) (end_of w)) → IsChecked w.keeps_values w.content.rules e e.breaks_its_type
-    → IsTrue e.holds_der ↔ ((w.enters_strings ≡ true) × Holds e) → e.depth ≤ 100 → ReadsHere w i e
-reads_here w i y e a s f room checks holds shallow = record {
+    → IsHeld w.enters_strings e e.holds → e.depth ≤ 100 → ReadsHere w i e
+reads_here w i y e a s f room checks held shallow = record {
   offset = s.offset;
   depth = s.depth;
   shallow = shallow;
@@ -199,6 +213,6 @@ reads_here w i y e a s f room checks holds shallow = record {
   some = (let h = header_two w.content.rules i (leading_header y) (header_read w.content.rules i y a) in omega (arith, s.header, h));
   room = room;
   index = s.index;
-  read = reads (extras_of w) w.content.rules i y w.at (length w.opened.items) w.content.visited e a s f checks holds;
+  read = reads (extras_of w) w.content.rules i y w.at (length w.opened.items) w.content.visited e a s f checks held;
   octets = octets_here w.content.rules i y w.at (length w.opened.items) w.content.visited e a s f;
 }

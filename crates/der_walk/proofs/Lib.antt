@@ -5,6 +5,7 @@ pub mod ElementReads
 pub mod Ends
 pub mod FirstFaults
 pub mod Headers
+pub mod ListFaults
 pub mod Next
 pub mod OneVisit
 pub mod Opening

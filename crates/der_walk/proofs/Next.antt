@@ -4,19 +4,18 @@ use Rattle.std.proofs.lemmas.List.{append_cancel_left}
 use Rattle.der_base.specs.declared.header.Class.TheVariants.{Universal}
 use Rattle.der_base.specs.Spelling.{end_marker}
 use Rattle.der_base.specs.declared.rules.Rules.{Rules}
-use Rattle.der_base.specs.declared.rules.Rules.TheVariants.{Der}
 use Rattle.der_check.specs.Elements.{MayBeConstructed}
 use Rattle.der_contents.specs.ContentRules.{IsContent}
 use Rattle.der_walk.specs.declared.content.Open.{Open}
 use Rattle.der_walk.specs.declared.element.Element.{Element}
 use Rattle.der_walk.specs.declared.walk.Walk.{Walk}
-use Rattle.der_walk.specs.Visits.{Visited, Extras, IsHeaderBy, HoldsElement, Visits, VisitsOne, string, constructed, indefinite, visited}
-use Rattle.std.specs.Prelude.{IfSome}
+use Rattle.der_walk.specs.Visits.{Visited, Extras, IsHeaderBy, HoldsElement, IsFirstOf, Visits, VisitsOne, string, constructed, indefinite, visited}
+use Rattle.std.specs.Prelude.{IfSome, is_some, unwrap_or}
 use Rattle.der_walk.specs.declared.content.End.{End}
 use Rattle.der_walk.specs.Ends.{end_from, ends_at_marker, between, end_in, end_of, here_of, limit_of, EndsWithin, IsEndOf, IsWithin}
 use Rattle.der_walk.specs.Faults.{IsStep}
 use Rattle.der_walk.specs.Walked.{visited_of, index_in, BeginsAt, EndsAt, IsOpen, HasWalked, HasVisited}
-use Rattle.der_walk.specs.Reading.{IsRead, whole, list, Passes, GoesInto, GoesOn, count_one, front_of, rules_inside}
+use Rattle.der_walk.specs.Reading.{IsRead, whole, list, Passes, GoesInto, GoesOn, count_one, front_of, rules_inside, string_front_of}
 use Rattle.der_walk.specs.Reading.{string as read_string}
 use Rattle.der_walk.proofs.Between.{between_drop, between_front, between_more, drop_front, front_between, front_within, length-between}
 use Rattle.der_walk.proofs.Counts.{index_around, index_few, index_inside, index_same, split_last}
@@ -26,7 +25,7 @@ use Rattle.der_walk.proofs.VisitedElements.{string_not_zero}
 use Rattle.der_walk.proofs.Steps.{advance, go_into, open_depth, within}
 
 -- a list is opened whose header is h
-module _ (i : List ℕ) (r : Rules) (e : Element) (h : List ℕ) (l : Option ℕ) (el : e.length ≡ l) (eh : e.header ≡ length h) (ep : e.constructed ≡ true) (ed : e.holds_der ≡ false) (eo : e.breaks_its_type ≡ false)
+module _ (i : List ℕ) (r : Rules) (e : Element) (h : List ℕ) (l : Option ℕ) (el : e.length ≡ l) (eh : e.header ≡ length h) (ep : e.constructed ≡ true) (ed : e.holds ≡ None) (eo : e.breaks_its_type ≡ false)
     (is : IsHeaderBy r e.class true e.number l h) (there : drop e.offset i ≡ h ++ drop (e.offset + e.header) i) where
   list_header : between i e.offset (e.offset + e.header) ≡ h
   list_header =
@@ -42,7 +41,7 @@ module _ (i : List ℕ) (r : Rules) (e : Element) (h : List ℕ) (l : Option ℕ
     header = eh;
     offset = refl;
     depth = refl;
-    holds = ed ∙ sym (ap (λ b. not b) ep);
+    holds = ap is_some ed ∙ sym (ap (λ b. not b) ep);
     whole = eo;
   }
 
@@ -50,7 +49,7 @@ module _ (i : List ℕ) (r : Rules) (e : Element) (h : List ℕ) (l : Option ℕ
   list_no_marker z q = header_no_marker r e.class true e.number l h (drop (e.offset + e.header) i) z is (λ t. absurd (cc)) (sym there ∙ q)
 
 -- a list that is opened
-open_list : (x : Extras) (r : Rules) (i : List ℕ) (d : ℕ) (e : Element) (h : List ℕ) (l end : Option ℕ) → e.length ≡ l → e.header ≡ length h → e.constructed ≡ true → e.holds_der ≡ false → e.breaks_its_type ≡ false
+open_list : (x : Extras) (r : Rules) (i : List ℕ) (d : ℕ) (e : Element) (h : List ℕ) (l end : Option ℕ) → e.length ≡ l → e.header ≡ length h → e.constructed ≡ true → e.holds ≡ None → e.breaks_its_type ≡ false
     → IsHeaderBy r e.class true e.number l h → MayBeConstructed r e.class e.number → drop e.offset i ≡ h ++ drop (e.offset + e.header) i
     → IsOpen x i r d e.depth e.offset (e.offset + e.header) r (end_from (e.offset + e.header) end l) (ends_at_marker l) (visited_of e)
 open_list x r i d e h (Some n) end el eh ep ed eo is may there = record {
@@ -122,11 +121,11 @@ open_list x r i d e h None end el eh ep ed eo is may there = record {
         same = cc
 
 -- a string that is opened
-open_string : (x : Extras) (r : Rules) (i : List ℕ) (d : ℕ) (e : Element) (h w u v : List ℕ) (first end : ℕ) → e.header ≡ length h → e.length ≡ Some (length w) → e.constructed ≡ false → e.holds_der ≡ true
+open_string : (x : Extras) (r s : Rules) (i : List ℕ) (d : ℕ) (e : Element) (h w u v : List ℕ) (first end : ℕ) → e.header ≡ length h → e.length ≡ Some (length w) → e.constructed ≡ false → e.holds ≡ Some s
     → e.breaks_its_type ≡ false → e.class ≡ Universal → IsHeaderBy r Universal false e.number (Some (length w)) h → IsContent r e.number w → x.enters_strings ≡ true
-    → HoldsElement d e.number w u v → drop e.offset i ≡ (h ++ w) ++ drop end i → end ≡ e.offset + length (h ++ w) → end ≤ length i → first ≡ e.offset + length h + length u
-    → IsOpen x i r d e.depth e.offset first Der (Some end) false (visited_of e)
-open_string x r i d e h w u v first end eh el ep ed eo ec is content en holds there ee hl ef = record { closes = closes; opens = opens; header = header_is; begins = omega (arith, ef, header_some r Universal false e.number (Some (length w)) h is); no_marker = no_marker }
+    → HoldsElement s d e.number w u v → IsFirstOf s d e.number w → drop e.offset i ≡ (h ++ w) ++ drop end i → end ≡ e.offset + length (h ++ w) → end ≤ length i → first ≡ e.offset + length h + length u
+    → IsOpen x i r d e.depth e.offset first s (Some end) false (visited_of e)
+open_string x r s i d e h w u v first end eh el ep ed eo ec is content en holds only there ee hl ef = record { closes = closes; opens = opens; header = header_is; begins = omega (arith, ef, header_some r Universal false e.number (Some (length w)) h is); no_marker = no_marker }
   where
     total : length (h ++ w) ≡ length h + (length u + length v)
     total = omega (arith, length-append h w, ap length holds.parts, length-append u v)
@@ -146,7 +145,7 @@ open_string x r i d e h w u v first end eh el ep ed eo ec is content en holds th
           header = eh;
           offset = refl;
           depth = refl;
-          holds = ed ∙ sym (ap (λ b. not b) ep);
+          holds = ap is_some ed ∙ sym (ap (λ b. not b) ep);
           whole = eo;
         }
 
@@ -162,13 +161,13 @@ open_string x r i d e h w u v first end eh el ep ed eo ec is content en holds th
         ap (λ n. drop n i) q ∙ drop_front i e.offset (h ++ u) (v ++ drop end i) (there ∙ parts)
 
     opens : (b z : List ℕ) (us : List Visited) → drop e.offset i ≡ b ++ z → VisitsOne x r (suc d) e.depth e.offset b us
-        → (w1 z1 : List ℕ) × (ws : List Visited) × (drop first i ≡ w1 ++ z1) × Visits x Der d (suc e.depth) first w1 ws × EndsAt i (Some end) false (first + length w1) (e.offset + length b)
+        → (w1 z1 : List ℕ) × (ws : List Visited) × (drop first i ≡ w1 ++ z1) × Visits x s d (suc e.depth) first w1 ws × EndsAt i (Some end) false (first + length w1) (e.offset + length b)
     opens b z us q one =
-        let g = into_string e.number h w u v z (drop end i) is content en holds one (sym q ∙ there) in
+        let g = into_string s e.number h w u v z (drop end i) is content en holds only one (sym q ∙ there) in
         let last : end ≡ first + length v = omega (arith, ee, ef, total) in
-        (v, drop end i, g.visited, rest, subst (λ m. Visits x Der d (suc e.depth) m v g.visited) (sym ef) g.visits, inl (refl, ap Some last, omega (arith, last, ee, ap length g.whole)))
+        (v, drop end i, g.visited, rest, subst (λ m. Visits x s d (suc e.depth) m v g.visited) (sym ef) g.visits, inl (refl, ap Some last, omega (arith, last, ee, ap length g.whole)))
 
-    same : visited_of e ≡ record (visited e.offset e.depth Universal false e.number h (Some (length w))) { holds_der = true }
+    same : visited_of e ≡ record (visited e.offset e.depth Universal false e.number h (Some (length w))) { holds = Some s }
     same = cc
 
     front : between i e.offset first ≡ h ++ u
@@ -182,22 +181,22 @@ open_string x r i d e h w u v first end eh el ep ed eo ec is content en holds th
         ap (λ l. l ++ between i first end) (sym front) ∙ between_more i e.offset first end (omega arith) (omega (arith, total)) ∙ here ∙ ap (λ l. h ++ l) holds.parts ∙ sym (append_assoc h u v) in
         append_cancel_left (h ++ u) (between i first end) v split
 
-    closes : (at after : ℕ) (us : List Visited) → EndsAt i (Some end) false at after → first ≤ at → after ≤ length i → Visits x Der d (suc e.depth) first (between i first at) us
+    closes : (at after : ℕ) (us : List Visited) → EndsAt i (Some end) false at after → first ≤ at → after ≤ length i → Visits x s d (suc e.depth) first (between i first at) us
         → VisitsOne x r (suc d) e.depth e.offset (between i e.offset after) (visited_of e ∷ us)
     closes at after us (inr (m, ea, eb)) hp ha vis = absurd (cc)
     closes at after us (inl (m, es, eb)) hp ha vis =
         let ea : at ≡ end = (cc) in
         let all : between i e.offset after ≡ h ++ w = ap (λ n. between i e.offset n) (eb ∙ ea) ∙ here in
-        string e.number h w u v us is all content en holds
-        (subst (λ n. Visits x Der d (suc e.depth) n v us) ef (subst (λ l. Visits x Der d (suc e.depth) first l us) (ap (λ n. between i first n) ea ∙ inner) vis))
+        string s e.number h w u v us is all content en holds only
+        (subst (λ n. Visits x s d (suc e.depth) n v us) ef (subst (λ l. Visits x s d (suc e.depth) first l us) (ap (λ n. between i first n) ea ∙ inner) vis))
         (ap (λ q. q ∷ us) same)
 
 -- the octets in front of what is visited in a string
-pub front_length : (e : Element) (d : ℕ) (w u v : List ℕ) → e.holds_der ≡ true → HoldsElement d e.number w u v → front_of e ≡ length u
-front_length e d w u v t h =
+pub front_length : (e : Element) (s : Rules) (d : ℕ) (w u v : List ℕ) → e.holds ≡ Some s → HoldsElement s d e.number w u v → front_of e ≡ length u
+front_length e s d w u v t h =
     ⊎_elim
-    (λ z. ap (λ b. if (b && (e.number == 3)) then 1 else 0) t ∙ ap (λ n. if (true && (n == 3)) then 1 else 0) z.0 ∙ sym (ap length z.1))
-    (λ z. ap (λ b. if (b && (e.number == 3)) then 1 else 0) t ∙ ap (λ n. if (true && (n == 3)) then 1 else 0) z.0 ∙ sym (ap length z.1))
+    (λ z. ap (λ b. if is_some b then string_front_of e.number else 0) t ∙ ap string_front_of z.0 ∙ sym (ap length z.1))
+    (λ z. ap (λ b. if is_some b then string_front_of e.number else 0) t ∙ ap string_front_of z.0 ∙ sym (ap length z.1))
     h.front
 
 end_at_least : (p : ℕ) (end l : Option ℕ) → IsWithin p end → IsWithin p (end_from p end l)
@@ -342,16 +341,16 @@ passes x r w w' vs e size has reads pass = of reads.read pass
 
     of : IsRead x w.content.rules (100 - e.depth) (here_of w) e → Passes w e w' → HasVisited x r i w' (vs ++ visited_of e ∷ [])
     of (whole h b rest split eh el ep ed one) (end, te, ee, inl (inl t, g)) = absurd (cc)
-    of (whole h b rest split eh el ep ed one) (end, te, ee, inl (inr t, g)) = absurd (cc)
+    of (whole h b rest split eh el ep ed one) (end, te, ee, inl (inr t, g)) = absurd (let q = sym t ∙ ap is_some ed in cc)
     of (whole h b rest split eh el ep ed one) (end, te, ee, inr (p, d, g)) = on g h b rest (split ∙ sym (append_assoc h b rest)) eh el one
-    of (read_string h b rest u v split eh el ep ed eo ec is content en holds) (end, te, ee, inr (p, d, g)) = absurd (cc)
-    of (read_string h b rest u v split eh el ep ed eo ec is content en holds) (end, te, ee, inl (t, g)) =
+    of (read_string s h b rest u v split eh el ep ed eo ec is content en holds only) (end, te, ee, inr (p, d, g)) = absurd (cc)
+    of (read_string s h b rest u v split eh el ep ed eo ec is content en holds only) (end, te, ee, inl (t, g)) =
         let all : here_of w ≡ (h ++ b) ++ rest = split ∙ sym (append_assoc h b rest) in
         let inside : w.at + length (h ++ b) ≤ limit = front_within i w.at limit (h ++ b) rest there short all in
         let p = e.offset + e.header in
         let first = p + front_of e in
         let last = p + length b in
-        let fl = front_length e (100 - e.depth) b u v ed holds in
+        let fl = front_length e s (100 - e.depth) b u v ed holds in
         let lb = length-append h b in
         let lu = ap length holds.parts ∙ length-append u v in
         let n : w.at + length (h ++ b) ≡ last = omega (arith, eh, lb, reads.offset) in
@@ -360,10 +359,10 @@ passes x r w w' vs e size has reads pass = of reads.read pass
         let to_end : drop e.offset i ≡ (h ++ b) ++ drop last i =
         ap (λ n. drop n i) reads.offset ∙ sym (between_drop i w.at (w.at + length (h ++ b)) (omega arith)) ∙ ap (λ l. l ++ drop (w.at + length (h ++ b)) i) (front_between i w.at limit (h ++ b) rest all)
         ∙ ap (λ n. (h ++ b) ++ drop n i) n in
-        let is_open = open_string x w.content.rules i (100 - e.depth) e h b u v first last eh el ep ed eo ec is content en holds to_end (omega (arith, lb, eh)) (omega (arith, n, inside, short)) ef in
-        let is1 = subst (λ q. IsOpen x i w.content.rules (100 - e.depth) e.depth e.offset first Der q false (visited_of e)) (sym from) is_open in
-        let is2 = subst (λ q. IsOpen x i w.content.rules (100 - e.depth) e.depth e.offset first Der (end_from p (end_of w) e.length) q (visited_of e)) (sym (ap ends_at_marker el)) is1 in
-        let is3 = subst (λ q. IsOpen x i w.content.rules (100 - e.depth) e.depth e.offset first q (end_from p (end_of w) e.length) (ends_at_marker e.length) (visited_of e)) (sym (ap (λ z. if z then Der else w.content.rules) ed)) is2 in
+        let is_open = open_string x w.content.rules s i (100 - e.depth) e h b u v first last eh el ep ed eo ec is content en holds only to_end (omega (arith, lb, eh)) (omega (arith, n, inside, short)) ef in
+        let is1 = subst (λ q. IsOpen x i w.content.rules (100 - e.depth) e.depth e.offset first s q false (visited_of e)) (sym from) is_open in
+        let is2 = subst (λ q. IsOpen x i w.content.rules (100 - e.depth) e.depth e.offset first s (end_from p (end_of w) e.length) q (visited_of e)) (sym (ap ends_at_marker el)) is1 in
+        let is3 = subst (λ q. IsOpen x i w.content.rules (100 - e.depth) e.depth e.offset first q (end_from p (end_of w) e.length) (ends_at_marker e.length) (visited_of e)) (sym (ap (λ z. unwrap_or z w.content.rules) ed)) is2 in
         into first end (te has.end) g ee is3 (subst (λ q. IsWithin first q) (sym from) (let z : first ≤ last = omega (arith, fl, lu) in z)) (omega (arith, fl, lu, n, inside, short)) (omega (arith, reads.some, reads.offset))
     of (list h rest split eh ep ed eo is may) (end, te, ee, inr (p, d, g)) = absurd (cc)
     of (list h rest split eh ep ed eo is may) (end, te, ee, inl (t, g)) =
@@ -373,8 +372,8 @@ passes x r w w' vs e size has reads pass = of reads.read pass
         let to_end : drop e.offset i ≡ h ++ drop p i =
         ap (λ n. drop n i) reads.offset ∙ sym (between_drop i w.at (w.at + length h) (omega arith)) ∙ ap (λ l. l ++ drop (w.at + length h) i) (front_between i w.at limit h rest split) ∙ ap (λ n. h ++ drop n i) n in
         let is_open = open_list x w.content.rules i (100 - e.depth) e h e.length (end_of w) refl eh ep ed eo is may to_end in
-        let no_front : p + front_of e ≡ p = ap (λ z. p + (if (z && (e.number == 3)) then 1 else 0)) ed ∙ omega arith in
+        let no_front : p + front_of e ≡ p = ap (λ z. p + (if is_some z then string_front_of e.number else 0)) ed ∙ omega arith in
         let g1 = subst (λ q. GoesInto (record w { content = count_one w.content }) e q end w') no_front g in
-        let is1 = subst (λ q. IsOpen x i w.content.rules (100 - e.depth) e.depth e.offset p q (end_from p (end_of w) e.length) (ends_at_marker e.length) (visited_of e)) (sym (ap (λ z. if z then Der else w.content.rules) ed)) is_open in
+        let is1 = subst (λ q. IsOpen x i w.content.rules (100 - e.depth) e.depth e.offset p q (end_from p (end_of w) e.length) (ends_at_marker e.length) (visited_of e)) (sym (ap (λ z. unwrap_or z w.content.rules) ed)) is_open in
         let fits : p ≤ limit = omega (arith, n, inside) in
         into p end (te has.end) g1 ee is1 (end_at_least p (end_of w) e.length (limit_within p (length i) (end_of w) fits)) (omega (arith, fits, short)) (omega (arith, reads.some, reads.offset))

@@ -9,10 +9,10 @@ use Rattle.der_base.proofs.Framing.Elements.{identifier_some}
 use Rattle.der_base.proofs.Headers.BerHeaders.{ber_header_same}
 use Rattle.der_base.proofs.Octets.Identifiers.{fronts_same}
 use Rattle.der_base.specs.declared.rules.Rules.{Rules}
-use Rattle.der_base.specs.declared.rules.Rules.TheVariants.{Der}
+use Rattle.der_base.specs.declared.rules.Rules.TheVariants.{Ber, Der}
 use Rattle.der_check.proofs.FirstOctets.{zero_first, constructed_first}
 use Rattle.der_contents.specs.ContentRules.{IsContent}
-use Rattle.der_walk.specs.Visits.{Visited, Extras, IsHeaderBy, IsStringFront, HoldsElement, Visits, VisitsOne, none, one_more, primitive, broken, string, constructed, indefinite, visited}
+use Rattle.der_walk.specs.Visits.{Visited, Extras, IsHeaderBy, IsStringFront, HoldsElement, IsFirstOf, Visits, VisitsOne, none, one_more, primitive, broken, string, constructed, indefinite, visited}
 use Rattle.der_walk.proofs.Headers.{header_begins, length_from}
 use Rattle.der_walk.proofs.VisitedElements.{string_not_zero}
 
@@ -81,7 +81,7 @@ pub one_front : {x : Extras} {r : Rules} {d k a : ℕ} {b : List ℕ} {us : List
     → (c : Class) × (p : Bool) × (t : ℕ) × (s : List ℕ) × (i ≡ identifier c p t ++ s) × (p ≡ false → c ≡ Universal → t ≡ 0 → ⊥)
 one_front {r = r} {b = b} y i (primitive c t h w is e has out ev) q = let f = front_at r c false t (Some (length w)) b h w y i is e q in (c, false, t, f.0, f.1, λ p ec. (has ec).0)
 one_front {r = r} {b = b} y i (broken t h w is e keeps er it never ev) q = let f = front_at r Universal false t (Some (length w)) b h w y i is e q in (Universal, false, t, f.0, f.1, λ p c. it)
-one_front {r = r} {b = b} y i (string t h w u v us is e has en holds vis ev) q = let f = front_at r Universal false t (Some (length w)) b h w y i is e q in (Universal, false, t, f.0, f.1, λ p c. string_not_zero t u holds.front)
+one_front {r = r} {b = b} y i (string m t h w u v us is e has en holds first vis ev) q = let f = front_at r Universal false t (Some (length w)) b h w y i is e q in (Universal, false, t, f.0, f.1, λ p c. string_not_zero t u holds.front)
 one_front {r = r} {b = b} y i (constructed c t h w us is e may vis ev) q = let f = front_at r c true t (Some (length w)) b h w y i is e q in (c, true, t, f.0, f.1, λ p. absurd (cc))
 one_front {r = r} {b = b} y i (indefinite c t h w us is e may vis ev) q = let f = front_at r c true t None b h (w ++ end_marker) y i is (e ∙ append_assoc h w end_marker) q in (c, true, t, f.0, f.1, λ p. absurd (cc))
 
@@ -111,6 +111,13 @@ plain_same : (a k : ℕ) (c c' : Class) (p : Bool) (t t' : ℕ) (h h' : List ℕ
 plain_same a k c c' p t t' h h' n n' e1 e2 e3 e4 =
     ap (λ z. visited a k z p t h n) e1 ∙ ap (λ z. visited a k c' p z h n) e2 ∙ ap (λ z. visited a k c' p t' z n) e3 ∙ ap (λ z. visited a k c' p t' h' z) e4
 
+-- a string holds an element by one of the rules
+pub rules_same : (m m' : Rules) (d t t' : ℕ) (w w' u v u' v' : List ℕ) → t ≡ t' → w ≡ w' → HoldsElement m d t w u v → HoldsElement m' d t' w' u' v' → IsFirstOf m d t w → IsFirstOf m' d t' w' → m ≡ m'
+rules_same Ber Ber d t t' w w' u v u' v' et ew h h' f f' = refl
+rules_same Der Der d t t' w w' u v u' v' et ew h h' f f' = refl
+rules_same Ber Der d t t' w w' u v u' v' et ew h h' f f' = absurd (f refl u' v' (subst (λ l. HoldsElement Der d t l u' v') (sym ew) (subst (λ n. HoldsElement Der d n w' u' v') (sym et) h')))
+rules_same Der Ber d t t' w w' u v u' v' et ew h h' f f' = absurd (f' refl u v (subst (λ l. HoldsElement Der d t' l u v) ew (subst (λ n. HoldsElement Der d n w u v) et h)))
+
 mutual
   pub one_same : {x : Extras} {r : Rules} {d k a : ℕ} {b b' : List ℕ} {us us' : List Visited} (y y' : List ℕ) → VisitsOne x r d k a b us → VisitsOne x r d k a b' us' → b ++ y ≡ b' ++ y' → (b ≡ b') × (us ≡ us') × (y ≡ y')
   -- primitive
@@ -120,9 +127,9 @@ mutual
   one_same {r = r} {b = b} {b' = b'} y y' (primitive c t h w is e has out ev) (broken t' h' w' is' e' keeps er it never ev') q =
       let s = same_parts r c Universal false false t t' b b' h h' w w' y y' is is' e e' q in
       absurd (never (content_same r t t' w w' s.number s.content (has s.class).1))
-  one_same {x = x} {r = r} {b = b} {b' = b'} y y' (primitive {d = d} c t h w is e has out ev) (string t' h' w' u v vs is' e' has' en holds vis ev') q =
+  one_same {x = x} {r = r} {b = b} {b' = b'} y y' (primitive {d = d} c t h w is e has out ev) (string m' t' h' w' u v vs is' e' has' en holds first vis ev') q =
       let s = same_parts r c Universal false false t t' b b' h h' w w' y y' is is' e e' q in
-      absurd (out en s.class u v (subst (λ l. HoldsElement d t l u v) (sym s.content) (subst (λ m. HoldsElement d m w' u v) (sym s.number) holds)))
+      absurd (out en s.class m' u v (subst (λ l. HoldsElement m' d t l u v) (sym s.content) (subst (λ n. HoldsElement m' d n w' u v) (sym s.number) holds)))
   one_same {r = r} {b = b} {b' = b'} y y' (primitive c t h w is e has out ev) (constructed c' t' h' w' vs is' e' may vis ev') q = absurd (not_both r c c' t t' (Some (length w)) (Some (length w')) b b' h h' w w' y y' is is' e e' q)
   one_same {r = r} {b = b} {b' = b'} y y' (primitive c t h w is e has out ev) (indefinite c' t' h' w' vs is' e' may vis ev') q =
       absurd (not_both r c c' t t' (Some (length w)) None b b' h h' w (w' ++ end_marker) y y' is is' e (e' ∙ append_assoc h' w' end_marker) q)
@@ -134,34 +141,36 @@ mutual
       let s = same_parts r Universal Universal false false t t' b b' h h' w w' y y' is is' e e' q in
       let same = plain_same a k Universal Universal false t t' h h' (Some (length w)) (Some (length w')) s.class s.number s.octets (ap (λ l. Some (length l)) s.content) in
       (whole_same b b' h h' w w' e e' s.octets s.content, ev ∙ ap (λ (v : Visited). record v { breaks_its_type = true } ∷ []) same ∙ sym ev', s.rest)
-  one_same {r = r} {b = b} {b' = b'} y y' (broken t h w is e keeps er it never ev) (string t' h' w' u v vs is' e' has' en holds vis ev') q =
+  one_same {r = r} {b = b} {b' = b'} y y' (broken t h w is e keeps er it never ev) (string m' t' h' w' u v vs is' e' has' en holds first vis ev') q =
       let s = same_parts r Universal Universal false false t t' b b' h h' w w' y y' is is' e e' q in
       absurd (never (content_same r t' t w' w (sym s.number) (sym s.content) has'))
   one_same {r = r} {b = b} {b' = b'} y y' (broken t h w is e keeps er it never ev) (constructed c' t' h' w' vs is' e' may vis ev') q = absurd (not_both r Universal c' t t' (Some (length w)) (Some (length w')) b b' h h' w w' y y' is is' e e' q)
   one_same {r = r} {b = b} {b' = b'} y y' (broken t h w is e keeps er it never ev) (indefinite c' t' h' w' vs is' e' may vis ev') q =
       absurd (not_both r Universal c' t t' (Some (length w)) None b b' h h' w (w' ++ end_marker) y y' is is' e (e' ∙ append_assoc h' w' end_marker) q)
   -- a string that is entered
-  one_same {r = r} {b = b} {b' = b'} y y' (string {d = d} t h w u v us is e has en holds vis ev) (primitive c' t' h' w' is' e' has' out' ev') q =
+  one_same {r = r} {b = b} {b' = b'} y y' (string {d = d} m t h w u v us is e has en holds first vis ev) (primitive c' t' h' w' is' e' has' out' ev') q =
       let s = same_parts r Universal c' false false t t' b b' h h' w w' y y' is is' e e' q in
-      absurd (out' en (sym s.class) u v (subst (λ l. HoldsElement d t' l u v) s.content (subst (λ m. HoldsElement d m w u v) s.number holds)))
-  one_same {r = r} {b = b} {b' = b'} y y' (string t h w u v us is e has en holds vis ev) (broken t' h' w' is' e' keeps er it never ev') q =
+      absurd (out' en (sym s.class) m u v (subst (λ l. HoldsElement m d t' l u v) s.content (subst (λ n. HoldsElement m d n w u v) s.number holds)))
+  one_same {r = r} {b = b} {b' = b'} y y' (string m t h w u v us is e has en holds first vis ev) (broken t' h' w' is' e' keeps er it never ev') q =
       let s = same_parts r Universal Universal false false t t' b b' h h' w w' y y' is is' e e' q in
       absurd (never (content_same r t t' w w' s.number s.content has))
-  one_same {x = x} {r = r} {k = k} {a = a} {b = b} {b' = b'} y y' (string {d = d} t h w u v us is e has en holds vis ev) (string t' h' w' u' v' us' is' e' has' en' holds' vis' ev') q =
+  one_same {x = x} {r = r} {k = k} {a = a} {b = b} {b' = b'} y y' (string {d = d} m t h w u v us is e has en holds first vis ev) (string m' t' h' w' u' v' us' is' e' has' en' holds' first' vis' ev') q =
       let s = same_parts r Universal Universal false false t t' b b' h h' w w' y y' is is' e e' q in
       let fronts : u ≡ u' = front_same t u u' holds.front (subst (λ m. IsStringFront m u') (sym s.number) holds'.front) in
       let inner : v ≡ v' = append_cancel_left u v v' (sym holds.parts ∙ s.content ∙ holds'.parts ∙ ap (λ l. l ++ v') (sym fronts)) in
       let begins : a + length h' + length u' ≡ a + length h + length u = (let m = ap length s.octets in let f = ap length fronts in omega (arith, m, f)) in
-      let more : us ≡ us' = visits_same vis (subst (λ m. Visits x Der d (suc k) m v' us') begins vis') inner in
+      let by : m ≡ m' = rules_same m m' d t t' w w' u v u' v' s.number s.content holds holds' first first' in
+      let more : us ≡ us' = visits_same vis (subst (λ q. Visits x q d (suc k) (a + length h + length u) v' us') (sym by) (subst (λ n. Visits x m' d (suc k) n v' us') begins vis')) inner in
       let same = plain_same a k Universal Universal false t t' h h' (Some (length w)) (Some (length w')) s.class s.number s.octets (ap (λ l. Some (length l)) s.content) in
-      (whole_same b b' h h' w w' e e' s.octets s.content, ev ∙ ap (λ (m : Visited). record m { holds_der = true } ∷ us) same ∙ ap (λ l. record (visited a k Universal false t' h' (Some (length w'))) { holds_der = true } ∷ l) more ∙ sym ev', s.rest)
-  one_same {r = r} {b = b} {b' = b'} y y' (string t h w u v us is e has en holds vis ev) (constructed c' t' h' w' vs is' e' may vis' ev') q = absurd (not_both r Universal c' t t' (Some (length w)) (Some (length w')) b b' h h' w w' y y' is is' e e' q)
-  one_same {r = r} {b = b} {b' = b'} y y' (string t h w u v us is e has en holds vis ev) (indefinite c' t' h' w' vs is' e' may vis' ev') q =
+      let marked : Rules → Visited = λ q. record (visited a k Universal false t' h' (Some (length w'))) { holds = Some q } in
+      (whole_same b b' h h' w w' e e' s.octets s.content, ev ∙ ap (λ (z : Visited). record z { holds = Some m } ∷ us) same ∙ ap (λ q. marked q ∷ us) by ∙ ap (λ l. marked m' ∷ l) more ∙ sym ev', s.rest)
+  one_same {r = r} {b = b} {b' = b'} y y' (string m t h w u v us is e has en holds first vis ev) (constructed c' t' h' w' vs is' e' may vis' ev') q = absurd (not_both r Universal c' t t' (Some (length w)) (Some (length w')) b b' h h' w w' y y' is is' e e' q)
+  one_same {r = r} {b = b} {b' = b'} y y' (string m t h w u v us is e has en holds first vis ev) (indefinite c' t' h' w' vs is' e' may vis' ev') q =
       absurd (not_both r Universal c' t t' (Some (length w)) None b b' h h' w (w' ++ end_marker) y y' is is' e (e' ∙ append_assoc h' w' end_marker) q)
   -- constructed
   one_same {r = r} {b = b} {b' = b'} y y' (constructed c t h w us is e may vis ev) (primitive c' t' h' w' is' e' has' out' ev') q = absurd (not_both r c' c t' t (Some (length w')) (Some (length w)) b' b h' h w' w y' y is' is e' e (sym q))
   one_same {r = r} {b = b} {b' = b'} y y' (constructed c t h w us is e may vis ev) (broken t' h' w' is' e' keeps er it never ev') q = absurd (not_both r Universal c t' t (Some (length w')) (Some (length w)) b' b h' h w' w y' y is' is e' e (sym q))
-  one_same {r = r} {b = b} {b' = b'} y y' (constructed c t h w us is e may vis ev) (string t' h' w' u v vs is' e' has' en holds vis' ev') q = absurd (not_both r Universal c t' t (Some (length w')) (Some (length w)) b' b h' h w' w y' y is' is e' e (sym q))
+  one_same {r = r} {b = b} {b' = b'} y y' (constructed c t h w us is e may vis ev) (string m' t' h' w' u v vs is' e' has' en holds first vis' ev') q = absurd (not_both r Universal c t' t (Some (length w')) (Some (length w)) b' b h' h w' w y' y is' is e' e (sym q))
   one_same {x = x} {r = r} {k = k} {a = a} {b = b} {b' = b'} y y' (constructed {d = d} c t h w us is e may vis ev) (constructed c' t' h' w' us' is' e' may' vis' ev') q =
       let s = same_parts r c c' true true t t' b b' h h' w w' y y' is is' e e' q in
       let begins : a + length h' ≡ a + length h = (let m = ap length s.octets in omega (arith, m)) in
@@ -176,7 +185,7 @@ mutual
       absurd (not_both r c' c t' t (Some (length w')) None b' b h' h w' (w ++ end_marker) y' y is' is e' (e ∙ append_assoc h w end_marker) (sym q))
   one_same {r = r} {b = b} {b' = b'} y y' (indefinite c t h w us is e may vis ev) (broken t' h' w' is' e' keeps er it never ev') q =
       absurd (not_both r Universal c t' t (Some (length w')) None b' b h' h w' (w ++ end_marker) y' y is' is e' (e ∙ append_assoc h w end_marker) (sym q))
-  one_same {r = r} {b = b} {b' = b'} y y' (indefinite c t h w us is e may vis ev) (string t' h' w' u v vs is' e' has' en holds vis' ev') q =
+  one_same {r = r} {b = b} {b' = b'} y y' (indefinite c t h w us is e may vis ev) (string m' t' h' w' u v vs is' e' has' en holds first vis' ev') q =
       absurd (not_both r Universal c t' t (Some (length w')) None b' b h' h w' (w ++ end_marker) y' y is' is e' (e ∙ append_assoc h w end_marker) (sym q))
   one_same {r = r} {b = b} {b' = b'} y y' (indefinite c t h w us is e may vis ev) (constructed c' t' h' w' us' is' e' may' vis' ev') q =
       let s = same_start r c c' true true t t' None (Some (length w')) h h' (w ++ end_marker ++ y) (w' ++ y') is is' (in_two b b' h h' (w ++ end_marker) w' y y' (e ∙ append_assoc h w end_marker) e' q) in

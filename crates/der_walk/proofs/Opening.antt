@@ -4,13 +4,12 @@ use Rattle.std.proofs.lemmas.List.{append-nil, append_cancel_left, nil_from_leng
 use Rattle.der_base.specs.declared.header.Class.{Class}
 use Rattle.der_base.specs.declared.header.Class.TheVariants.{Universal}
 use Rattle.der_base.specs.declared.rules.Rules.{Rules}
-use Rattle.der_base.specs.declared.rules.Rules.TheVariants.{Der}
 use Rattle.der_base.specs.Octets.{identifier}
 use Rattle.der_base.specs.Spelling.{end_marker}
 use Rattle.der_base.proofs.Framing.Elements.{identifier_some}
 use Rattle.der_contents.specs.ContentRules.{IsContent}
-use Rattle.der_walk.specs.Visits.{Visited, Extras, IsHeaderBy, IsStringFront, HoldsElement, Visits, VisitsOne, none, one_more, primitive, broken, string, constructed, indefinite}
-use Rattle.der_walk.proofs.OneVisit.{content_same, front_same, header_front, no_zero, not_both, one_no_marker, one_nonempty, one_same, same_parts, same_start}
+use Rattle.der_walk.specs.Visits.{Visited, Extras, IsHeaderBy, IsStringFront, HoldsElement, IsFirstOf, Visits, VisitsOne, none, one_more, primitive, broken, string, constructed, indefinite}
+use Rattle.der_walk.proofs.OneVisit.{content_same, front_same, header_front, no_zero, not_both, one_no_marker, one_nonempty, one_same, rules_same, same_parts, same_start}
 
 some_length : (h : List ℕ) → ([] ≡ h → ⊥) → 0 < length h
 some_length [] f = absurd (f refl)
@@ -39,7 +38,7 @@ pub into_definite : {x : Extras} {r : Rules} {d k a : ℕ} {b : List ℕ} {us : 
     → InDefinite x r d k a n b h z
 into_definite {r = r} {b = b} c t n h y z is (primitive c' t' h' w' is' e' has out ev) q = absurd (not_both r c' c t' t (Some (length w')) (Some n) b h h' h w' [] y z is' is e' (sym (append-nil h)) q)
 into_definite {r = r} {b = b} c t n h y z is (broken t' h' w' is' e' keeps er it never ev) q = absurd (not_both r Universal c t' t (Some (length w')) (Some n) b h h' h w' [] y z is' is e' (sym (append-nil h)) q)
-into_definite {r = r} {b = b} c t n h y z is (string t' h' w' u v us' is' e' has en holds vis ev) q = absurd (not_both r Universal c t' t (Some (length w')) (Some n) b h h' h w' [] y z is' is e' (sym (append-nil h)) q)
+into_definite {r = r} {b = b} c t n h y z is (string m' t' h' w' u v us' is' e' has en holds first vis ev) q = absurd (not_both r Universal c t' t (Some (length w')) (Some n) b h h' h w' [] y z is' is e' (sym (append-nil h)) q)
 into_definite {x = x} {r = r} {k = k} {a = a} {b = b} c t n h y z is (constructed {d = d} c' t' h' w' us' is' e' may vis ev) q =
     let s = same_start r c' c true true t' t (Some (length w')) (Some n) h' h (w' ++ y) z is' is (sym (ap (λ l. l ++ y) e' ∙ append_assoc h' w' y) ∙ q) in
     let len : length w' ≡ n = (let l = s.length in cc) in
@@ -70,7 +69,7 @@ pub into_indefinite : {x : Extras} {r : Rules} {d k a : ℕ} {b : List ℕ} {us 
     → InIndefinite x r d k a b h z
 into_indefinite {r = r} {b = b} c t h y z is (primitive c' t' h' w' is' e' has out ev) q = absurd (not_both r c' c t' t (Some (length w')) None b h h' h w' [] y z is' is e' (sym (append-nil h)) q)
 into_indefinite {r = r} {b = b} c t h y z is (broken t' h' w' is' e' keeps er it never ev) q = absurd (not_both r Universal c t' t (Some (length w')) None b h h' h w' [] y z is' is e' (sym (append-nil h)) q)
-into_indefinite {r = r} {b = b} c t h y z is (string t' h' w' u v us' is' e' has en holds vis ev) q = absurd (not_both r Universal c t' t (Some (length w')) None b h h' h w' [] y z is' is e' (sym (append-nil h)) q)
+into_indefinite {r = r} {b = b} c t h y z is (string m' t' h' w' u v us' is' e' has en holds first vis ev) q = absurd (not_both r Universal c t' t (Some (length w')) None b h h' h w' [] y z is' is e' (sym (append-nil h)) q)
 into_indefinite {r = r} {b = b} c t h y z is (constructed c' t' h' w' us' is' e' may vis ev) q =
     let s = same_start r c' c true true t' t (Some (length w')) None h' h (w' ++ y) z is' is (sym (ap (λ l. l ++ y) e' ∙ append_assoc h' w' y) ∙ q) in
     absurd (let l = s.length in cc)
@@ -87,32 +86,33 @@ into_indefinite {x = x} {r = r} {k = k} {a = a} {b = b} c t h y z is (indefinite
     }
 
 -- inside a string
-pub record InString (x : Extras) (d k a : ℕ) (b h w u v : List ℕ) : Type 0 where
+pub record InString (x : Extras) (m : Rules) (d k a : ℕ) (b h w u v : List ℕ) : Type 0 where
   pub visited : List Visited
   pub whole : b ≡ h ++ w
-  pub visits : Visits x Der d (suc k) (a + length h + length u) v visited
+  pub visits : Visits x m d (suc k) (a + length h + length u) v visited
 
-pub into_string : {x : Extras} {r : Rules} {d k a : ℕ} {b : List ℕ} {us : List Visited} (t : ℕ) (h w u v y z : List ℕ) → IsHeaderBy r Universal false t (Some (length w)) h → IsContent r t w
-    → x.enters_strings ≡ true → HoldsElement d t w u v → VisitsOne x r (suc d) k a b us → b ++ y ≡ (h ++ w) ++ z → InString x d k a b h w u v
-into_string {r = r} {d = d} {b = b} t h w u v y z is has en holds (primitive c' t' h' w' is' e' has' out ev) q =
+pub into_string : {x : Extras} {r : Rules} {d k a : ℕ} {b : List ℕ} {us : List Visited} (m : Rules) (t : ℕ) (h w u v y z : List ℕ) → IsHeaderBy r Universal false t (Some (length w)) h → IsContent r t w
+    → x.enters_strings ≡ true → HoldsElement m d t w u v → IsFirstOf m d t w → VisitsOne x r (suc d) k a b us → b ++ y ≡ (h ++ w) ++ z → InString x m d k a b h w u v
+into_string {r = r} {d = d} {b = b} m t h w u v y z is has en holds first (primitive c' t' h' w' is' e' has' out ev) q =
     let s = same_parts r c' Universal false false t' t b (h ++ w) h' h w' w y z is' is e' refl q in
-    absurd (out en s.class u v (subst (λ l. HoldsElement d t' l u v) (sym s.content) (subst (λ m. HoldsElement d m w u v) (sym s.number) holds)))
-into_string {r = r} {b = b} t h w u v y z is has en holds (broken t' h' w' is' e' keeps er it never ev) q =
+    absurd (out en s.class m u v (subst (λ l. HoldsElement m d t' l u v) (sym s.content) (subst (λ n. HoldsElement m d n w u v) (sym s.number) holds)))
+into_string {r = r} {b = b} m t h w u v y z is has en holds first (broken t' h' w' is' e' keeps er it never ev) q =
     let s = same_parts r Universal Universal false false t' t b (h ++ w) h' h w' w y z is' is e' refl q in
     absurd (never (content_same r t t' w w' (sym s.number) (sym s.content) has))
-into_string {x = x} {r = r} {k = k} {a = a} {b = b} t h w u v y z is has en holds (string {d = d} t' h' w' u' v' us' is' e' has' en' holds' vis ev) q =
+into_string {x = x} {r = r} {k = k} {a = a} {b = b} m t h w u v y z is has en holds first (string {d = d} m' t' h' w' u' v' us' is' e' has' en' holds' first' vis ev) q =
     let s = same_parts r Universal Universal false false t' t b (h ++ w) h' h w' w y z is' is e' refl q in
-    let fronts : u' ≡ u = front_same t' u' u holds'.front (subst (λ m. IsStringFront m u) (sym s.number) holds.front) in
+    let fronts : u' ≡ u = front_same t' u' u holds'.front (subst (λ n. IsStringFront n u) (sym s.number) holds.front) in
     let inner : v' ≡ v = append_cancel_left u' v' v (sym holds'.parts ∙ s.content ∙ holds.parts ∙ ap (λ l. l ++ v) (sym fronts)) in
-    let begins : a + length h' + length u' ≡ a + length h + length u = (let m = ap length s.octets in let f = ap length fronts in omega (arith, m, f)) in
+    let begins : a + length h' + length u' ≡ a + length h + length u = (let n = ap length s.octets in let f = ap length fronts in omega (arith, n, f)) in
+    let by : m' ≡ m = rules_same m' m d t' t w' w u' v' u v s.number s.content holds' holds first' first in
     record {
       visited = us';
       whole = e' ∙ ap (λ l. l ++ w') s.octets ∙ ap (λ l. h ++ l) s.content;
-      visits = subst (λ l. Visits x Der d (suc k) (a + length h + length u) l us') inner (subst (λ m. Visits x Der d (suc k) m v' us') begins vis);
+      visits = subst (λ l. Visits x m d (suc k) (a + length h + length u) l us') inner (subst (λ q. Visits x q d (suc k) (a + length h + length u) v' us') by (subst (λ n. Visits x m' d (suc k) n v' us') begins vis));
     }
-into_string {r = r} {b = b} t h w u v y z is has en holds (constructed c' t' h' w' us' is' e' may vis ev) q =
+into_string {r = r} {b = b} m t h w u v y z is has en holds first (constructed c' t' h' w' us' is' e' may vis ev) q =
     absurd (not_both r Universal c' t t' (Some (length w)) (Some (length w')) (h ++ w) b h h' w w' z y is is' refl e' (sym q))
-into_string {r = r} {b = b} t h w u v y z is has en holds (indefinite c' t' h' w' us' is' e' may vis ev) q =
+into_string {r = r} {b = b} m t h w u v y z is has en holds first (indefinite c' t' h' w' us' is' e' may vis ev) q =
     absurd (not_both r Universal c' t t' (Some (length w)) None (h ++ w) b h h' w (w' ++ end_marker) z y is is' refl (e' ∙ append_assoc h' w' end_marker) (sym q))
 
 -- what is left of octets that are visited, after some that were

@@ -82,7 +82,7 @@ one_fits {x = x} {r = r} {b = b} here rest e (broken t h w is eb keeps er it nev
   spells_parts r here Universal false t (length w) h (w ++ rest) is (split_of here b h w rest e eb),
   record { room = λ m q. room_of (length w) m w rest refl q; kind = inr (refl, length w, refl, inr (keeps, er, refl, it)) },
 )
-one_fits {x = x} {r = r} {b = b} here rest e (visits_string t h w u v us is eb has en holds vis ev) = (
+one_fits {x = x} {r = r} {b = b} here rest e (visits_string m t h w u v us is eb has en holds first vis ev) = (
   record { class = Universal; constructed = false; number = t; length = Definite (length w); rest = w ++ rest },
   spells_parts r here Universal false t (length w) h (w ++ rest) is (split_of here b h w rest e eb),
   record { room = λ m q. room_of (length w) m w rest refl q; kind = inr (refl, length w, refl, inl (λ q. (string_not_zero t u holds.front, subst (λ l. IsContent r t l) (sym (take-append_seam w rest)) has))) },
@@ -101,7 +101,7 @@ one_fits {x = x} {r = r} {b = b} here rest e (indefinite c t h w us is eb may vi
 deep_enough : {x : Extras} {r : Rules} {d k a : ℕ} {b : List ℕ} {us : List Visited} → VisitsOne x r d k a b us → 0 < d
 deep_enough (primitive c t h w is eb has out ev) = omega arith
 deep_enough (broken t h w is eb keeps er it never ev) = omega arith
-deep_enough (visits_string t h w u v us is eb has en holds vis ev) = omega arith
+deep_enough (visits_string m t h w u v us is eb has en holds first vis ev) = omega arith
 deep_enough (visits_constructed c t h w us is eb may vis ev) = omega arith
 deep_enough (indefinite c t h w us is eb may vis ev) = omega arith
 

@@ -62,7 +62,7 @@ mutual
   one_within : {x : Extras} {r : Rules} {d k a : ℕ} {b : List ℕ} {vs : List Visited} → VisitsOne x r d k a b vs → All (IsWithin a (a + length b) k d) vs
   one_within {k = k} {a = a} {b = b} {vs = vs} (primitive {d = d} c t h w is e has out ev) = alone a k d b h w vs _ ev refl refl refl refl (ap length e ∙ length-append h w)
   one_within {k = k} {a = a} {b = b} {vs = vs} (broken {d = d} t h w is e keeps er it never ev) = alone a k d b h w vs _ ev refl refl refl refl (ap length e ∙ length-append h w)
-  one_within {k = k} {a = a} {b = b} {vs = vs} (string {d = d} t h w u v us is e has en holds vis ev) =
+  one_within {k = k} {a = a} {b = b} {vs = vs} (string {d = d} m t h w u v us is e has en holds first vis ev) =
       around a k d b h vs us _ ev refl refl (omega (arith, ap length e ∙ length-append h w)) (omega (arith, ap length e ∙ length-append h w)) refl (a + length h + length u) (a + length h + length u + length v) (omega arith)
       (omega (arith, ap length e ∙ length-append h w, ap length holds.parts ∙ length-append u v)) (visits_within vis)
   one_within {k = k} {a = a} {b = b} {vs = vs} (constructed {d = d} c t h w us is e may vis ev) =
@@ -95,7 +95,7 @@ not_shallow k vs us v e own h = let p : v.depth < k + 0 = All-head (IsShallow (k
 no_depth : {P : Type 0} {x : Extras} {r : Rules} {n k a : ℕ} {b : List ℕ} {vs : List Visited} → All (IsShallow (k + 0)) vs → VisitsOne x r n k a b vs → P
 no_depth {k = k} {vs = vs} h (primitive c t o w is e has out ev) = not_shallow k vs [] _ ev refl h
 no_depth {k = k} {vs = vs} h (broken t o w is e keeps er it never ev) = not_shallow k vs [] _ ev refl h
-no_depth {k = k} {vs = vs} h (string t o w u v us is e has en holds vis ev) = not_shallow k vs us _ ev refl h
+no_depth {k = k} {vs = vs} h (string m t o w u v us is e has en holds first vis ev) = not_shallow k vs us _ ev refl h
 no_depth {k = k} {vs = vs} h (constructed c t o w us is e may vis ev) = not_shallow k vs us _ ev refl h
 no_depth {k = k} {vs = vs} h (indefinite c t o w us is e may vis ev) = not_shallow k vs us _ ev refl h
 
@@ -111,7 +111,7 @@ mutual
   shallow_element zero f h one = no_depth h one
   shallow_element (suc d) f h (primitive c t o w is e has out ev) = primitive_element c t is.1 w is.0 is.2 (e ∙ ap (λ l. l ++ w) is.3) has
   shallow_element (suc d) f h (broken t o w is e keeps er it never ev) = absurd (f keeps er)
-  shallow_element (suc d) f h (string t o w u v us is e has en holds vis ev) = primitive_element Universal t is.1 w is.0 is.2 (e ∙ ap (λ l. l ++ w) is.3) (λ q. (string_not_zero t u holds.front, has))
+  shallow_element (suc d) f h (string m t o w u v us is e has en holds first vis ev) = primitive_element Universal t is.1 w is.0 is.2 (e ∙ ap (λ l. l ++ w) is.3) (λ q. (string_not_zero t u holds.front, has))
   shallow_element {k = k} {vs = vs} (suc d) f h (constructed c t o w us is e may vis ev) =
       constructed_element c t is.1 w is.0 is.2 (e ∙ ap (λ l. l ++ w) is.3) may (shallow_elements d f (all_inside k d vs us _ ev h) vis)
   shallow_element {k = k} {vs = vs} (suc d) f h (indefinite c t o w us is e may vis ev) =

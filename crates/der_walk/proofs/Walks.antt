@@ -1,7 +1,7 @@
 -- What the functions of the walk keep of what was visited.
 use Rattle.std.proofs.Common.{◌≡◌, ℕ, suc, ◌+◌, ◌-◌, ◌^◌, ◌<◌, ◌≤◌, Bool, false, ◌&&◌, ◌==◌, if◌then◌else◌, List, [], ◌∷◌, ◌++◌, length, Option, Some, None, refl, sym, ap, subst, ◌∙◌, arith, append_assoc, length-append, inl, inr}
 use Rattle.std.specs.Borrow.{Bor}
-use Rattle.std.specs.Prelude.{IfSome}
+use Rattle.std.specs.Prelude.{IfSome, is_some}
 use Rattle.std.proofs.lemmas.List.{nil_from_length}
 use Rattle.der_base.specs.declared.rules.Rules.{Rules}
 use Rattle.der_walk.specs.declared.content.Open.{Open}
@@ -11,7 +11,7 @@ use Rattle.der_walk.specs.Visits.{Visited, Extras, Visits, VisitsOne, none, one_
 use Rattle.std.specs.Prelude.{IsSomeAnd}
 use Rattle.der_walk.specs.Ends.{between, end_in, end_of, here_of, limit_of, IsEndOf, IsWithin}
 use Rattle.der_walk.specs.Walked.{visited_of, index_in, EndsAt, HasWalked, outermost, inside, HasVisited, HasOctets}
-use Rattle.der_walk.specs.Reading.{extras_of, front_of, EndsHere, IsRead, whole, list, Passes, ReadsHere}
+use Rattle.der_walk.specs.Reading.{extras_of, front_of, string_front_of, EndsHere, IsRead, whole, list, Passes, ReadsHere}
 use Rattle.der_walk.specs.Reading.{string as read_string}
 use Rattle.der_walk.proofs.Between.{between_none, between_all, length-between, middle_between}
 use Rattle.der_walk.proofs.Ends.{limit_size, reached}
@@ -27,7 +27,7 @@ first_walked x r i opens s e m at eo es he ea =
 one_some : {x : Extras} {r : Rules} {d k a : ℕ} {b : List ℕ} {vs : List Visited} → VisitsOne x r d k a b vs → 1 ≤ length vs
 one_some (primitive c t h w is e has out ev) = omega (arith, ap length ev)
 one_some (broken t h w is e keeps er it never ev) = omega (arith, ap length ev)
-one_some (string t h w u v us is e has en holds vis ev) = omega (arith, ap length ev)
+one_some (string m t h w u v us is e has en holds first vis ev) = omega (arith, ap length ev)
 one_some (constructed c t h w us is e may vis ev) = omega (arith, ap length ev)
 one_some (indefinite c t h w us is e may vis ev) = omega (arith, ap length ev)
 
@@ -115,16 +115,16 @@ fits_front w here e eh reads some size = of reads.read
     within : e.offset + e.header ≤ length w.input.now
     within = here_within w here e eh reads some
 
-    no_front : e.holds_der ≡ false → e.offset + e.header + front_of e < 2 ^ 64
+    no_front : e.holds ≡ None → e.offset + e.header + front_of e < 2 ^ 64
     no_front t =
-        let z : front_of e ≡ 0 = ap (λ b. if (b && (e.number == 3)) then 1 else 0) t in
+        let z : front_of e ≡ 0 = ap (λ b. if is_some b then string_front_of e.number else 0) t in
         omega (arith, z, within, size)
 
     of : IsRead (extras_of w) w.content.rules (100 - e.depth) here e → e.offset + e.header + front_of e < 2 ^ 64
     of (whole h b rest split eh el ep ed one) = no_front ed
     of (list h rest split eh ep ed eo is may) = no_front ed
-    of (read_string h b rest u v split eb el ep ed eo ec is has en holds) =
-        let fl = front_length e (100 - e.depth) b u v ed holds in
+    of (read_string s h b rest u v split eb el ep ed eo ec is has en holds first) =
+        let fl = front_length e s (100 - e.depth) b u v ed holds in
         let total = ap length holds.parts ∙ length-append u v in
         let short = limit_size (length w.input.now) (end_of w) in
         omega (arith, fl, total, ap length split, length-append h (b ++ rest), length-append b rest, eb, ap length eh, length-here w, some, reads.offset, short, size)

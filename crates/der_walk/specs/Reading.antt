@@ -1,7 +1,8 @@
 -- What the private functions of the walk find and do.
 use Rattle.std.specs.Borrow.{Bor}
 use Rattle.std.specs.Prelude.{◌≡◌, ℕ, suc, ◌+◌, ◌-◌, ◌≤◌, ◌⊎◌, Bool, true, false, ◌&&◌, ◌==◌, if◌then◌else◌}
-use Rattle.std.specs.Prelude.{IsTrue, Option, Some, None, MatchOption, IfSome, IsSome, IsSomeAnd, ◌≢◌, ◌<◌, ◌^◌}
+use Rattle.std.specs.Prelude.{IsTrue, Option, Some, None, is_some, unwrap_or}
+use Rattle.std.specs.Prelude.{MatchOption, IfSome, IsSome, IsSomeAnd, ◌≢◌, ◌<◌, ◌^◌}
 use Rattle.std.specs.Prelude.{List, [], ◌∷◌, ◌++◌, length, min}
 use Rattle.der_base.specs.declared.header.Class.TheVariants.{Universal}
 use Rattle.der_base.specs.declared.header.Header.{Header}
@@ -21,7 +22,7 @@ use Rattle.der_walk.specs.declared.content.Content.{Content}
 use Rattle.der_walk.specs.declared.content.Open.{Open}
 use Rattle.der_walk.specs.declared.element.Element.{Element}
 use Rattle.der_walk.specs.declared.walk.Walk.{Walk}
-use Rattle.der_walk.specs.Visits.{Visited, Extras, VisitsOne, IsHeaderBy, IsStringFront, HoldsElement}
+use Rattle.der_walk.specs.Visits.{Visited, Extras, VisitsOne, IsHeaderBy, IsStringFront, HoldsElement, IsFirstOf}
 use Rattle.der_walk.specs.declared.content.End.{End}
 use Rattle.der_walk.specs.declared.refusal.Refusal.{Refusal}
 use Rattle.der_walk.specs.Ends.{between, end_from, end_in, end_of, ends_at_marker, limit_of, overrun, IsEndOf, IsWithin}
@@ -69,21 +70,27 @@ FindsString e None = e.constructed ≡ false → e.class ≡ Universal
 FindsString e (Some v) = (e.constructed ≡ false) × (e.class ≡ Universal)
     × MatchOption e.content ⊥ (λ w. (u : List ℕ) × IsStringFront e.number u × (w.now ≡ u ++ v.now))
 
--- it is a primitive string whose content is an element of DER
-abbrev pub Holds : Element → Type 0
-Holds e = (e.constructed ≡ false) × (e.class ≡ Universal)
-    × MatchOption e.content ⊥ (λ w. (u v : List ℕ) × HoldsElement (100 - e.depth) e.number w.now u v)
+-- it is a primitive string whose content is an element by these rules
+abbrev pub Holds : Rules → Element → Type 0
+Holds s e = (e.constructed ≡ false) × (e.class ≡ Universal)
+    × MatchOption e.content ⊥ (λ w. (u v : List ℕ) × HoldsElement s (100 - e.depth) e.number w.now u v)
+
+-- the rules by which it holds an element that is visited, where strings are entered: DER, or else BER
+abbrev pub IsHeld : Bool → Element → Option Rules → Type 0
+IsHeld enters e held = MatchOption held (enters ≡ true → (s : Rules) → ¬ Holds s e)
+    (λ s. (enters ≡ true) × Holds s e × (s ≡ Ber → ¬ Holds Der e))
 
 -- Octets begin with the element e, which is a whole one, or of which the header was read.
 pub data IsRead (x : Extras) (r : Rules) (d : ℕ) (here : List ℕ) (e : Element) : Type 0 where
   whole : (h w rest : List ℕ) → here ≡ h ++ (w ++ rest) → e.header ≡ length h → e.length ≡ Some (length w)
-      → e.constructed ≡ false → e.holds_der ≡ false
+      → e.constructed ≡ false → e.holds ≡ None
       → VisitsOne x r (suc d) e.depth e.offset (h ++ w) (visited_of e ∷ []) → IsRead x r d here e
-  string : (h w rest u v : List ℕ) → here ≡ h ++ (w ++ rest) → e.header ≡ length h
-      → e.length ≡ Some (length w) → e.constructed ≡ false → e.holds_der ≡ true → e.breaks_its_type ≡ false
+  string : (s : Rules) (h w rest u v : List ℕ) → here ≡ h ++ (w ++ rest) → e.header ≡ length h
+      → e.length ≡ Some (length w) → e.constructed ≡ false → e.holds ≡ Some s → e.breaks_its_type ≡ false
       → e.class ≡ Universal → IsHeaderBy r Universal false e.number (Some (length w)) h
-      → IsContent r e.number w → x.enters_strings ≡ true → HoldsElement d e.number w u v → IsRead x r d here e
-  list : (h rest : List ℕ) → here ≡ h ++ rest → e.header ≡ length h → e.constructed ≡ true → e.holds_der ≡ false
+      → IsContent r e.number w → x.enters_strings ≡ true → HoldsElement s d e.number w u v → IsFirstOf s d e.number w
+      → IsRead x r d here e
+  list : (h rest : List ℕ) → here ≡ h ++ rest → e.header ≡ length h → e.constructed ≡ true → e.holds ≡ None
       → e.breaks_its_type ≡ false → IsHeaderBy r e.class true e.number e.length h
       → MayBeConstructed r e.class e.number → IsRead x r d here e
 
@@ -123,13 +130,17 @@ pub record ReadsHere (w : Walk) (here : List ℕ) (e : Element) : Type 0 where
   pub read : IsRead (extras_of w) w.content.rules (100 - e.depth) here e
   pub octets : OctetsHere here e
 
--- the octets in front of what is visited in a string
+-- the octets in front of what a string of this type holds
+abbrev pub string_front_of : ℕ → ℕ
+string_front_of t = if t == 3 then 1 else 0
+
+-- those in front of what is visited in it
 abbrev pub front_of : Element → ℕ
-front_of e = if (e.holds_der && (e.number == 3)) then 1 else 0
+front_of e = if is_some e.holds then string_front_of e.number else 0
 
 -- the rules of what is inside an element
 abbrev pub rules_inside : Rules → Element → Rules
-rules_inside r e = if e.holds_der then Der else r
+rules_inside r e = unwrap_or e.holds r
 
 -- a content in which one more element was visited
 abbrev pub count_one : Content → Content
@@ -165,9 +176,9 @@ abbrev pub Passes : Walk → Element → Walk → Type 0
 Passes w e w' = let p = e.offset + e.header in
     (end : End) × (IsEndOf (length w.input.now) w.content.end → IsEndOf (length w.input.now) end)
     × (end_in (length w.input.now) end ≡ end_from p (end_of w) e.length)
-    × ((((e.constructed ≡ true) ⊎ (e.holds_der ≡ true))
+    × ((((e.constructed ≡ true) ⊎ IsSome e.holds)
     × GoesInto (record w { content = count_one w.content }) e (p + front_of e) end w')
-    ⊎ ((e.constructed ≡ false) × (e.holds_der ≡ false)
+    ⊎ ((e.constructed ≡ false) × (e.holds ≡ None)
     × GoesOn w (limit_of (length w.input.now) (end_from p (end_of w) e.length)) w'))
 
 -- no element that is visited next begins these octets, which are here

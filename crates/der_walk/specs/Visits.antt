@@ -23,14 +23,14 @@ pub record Visited : Type 0 where
   pub number : ℕ
   -- how many elements are around it
   pub depth : ℕ
-  -- it is a string, whose content is an element that is visited next
-  pub holds_der : Bool
+  -- the rules by which its content, that of a string, is an element, which is visited next
+  pub holds : Option Rules
   -- its content octets break a rule of its type
   pub breaks_its_type : Bool
 
 -- what a walk visits besides the elements of X.690
 pub record Extras : Type 0 where
-  -- the element of DER that is the whole content of a string
+  -- the element of DER or BER that is the whole content of a string
   pub enters_strings : Bool
   -- by BER, a primitive element whose content breaks its type
   pub keeps_values : Bool
@@ -50,7 +50,7 @@ visited at k c p t h n = record {
   constructed = p;
   number = t;
   depth = k;
-  holds_der = false;
+  holds = None;
   breaks_its_type = false;
 }
 
@@ -59,21 +59,31 @@ visited at k c p t h n = record {
 abbrev pub IsStringFront : ℕ → List ℕ → Type 0
 IsStringFront t u = ((t ≡ 4) × (u ≡ [])) ⊎ ((t ≡ 3) × (u ≡ 0 ∷ []))
 
--- there is a first octet, that of an identifier which is universal or constructed and no end marker's (8.1.2.2,
--- 8.1.2.5)
-abbrev pub begins_like_element : List ℕ → Bool
-begins_like_element v = let b = slice_index v 0 in not (b == 0) && (nat_lt b 64 || b / 32 % 2 == 1)
+-- an identifier octet says that the element is constructed (8.1.2.5)
+abbrev pub is_constructed_octet : ℕ → Bool
+is_constructed_octet b = b / 32 % 2 == 1
 
--- w is the content of a string of this type: some octets, and then v, which is one element of DER to this depth
-pub record HoldsElement (d t : ℕ) (w u v : List ℕ) : Type 0 where
+-- the first octet is that of an identifier which is constructed, or by DER universal and no end marker's (8.1.2.2,
+-- 8.1.2.5)
+abbrev pub begins_like_element : Rules → List ℕ → Bool
+begins_like_element Ber v = is_constructed_octet (slice_index v 0)
+begins_like_element Der v = let b = slice_index v 0 in not (b == 0) && (nat_lt b 64 || is_constructed_octet b)
+
+-- w is the content of a string of this type: some octets, and then v, which is one element by these rules to this depth
+pub record HoldsElement (s : Rules) (d t : ℕ) (w u v : List ℕ) : Type 0 where
   pub parts : w ≡ u ++ v
   pub front : IsStringFront t u
-  pub begins : IsTrue (begins_like_element v)
-  pub element : IsElement Der d v
+  pub begins : IsTrue (begins_like_element s v)
+  pub element : IsElement s d v
+
+-- an element of BER in a string is none of DER
+abbrev pub IsFirstOf : Rules → ℕ → ℕ → List ℕ → Type 0
+IsFirstOf s d t w = s ≡ Ber → (u v : List ℕ) → ¬ HoldsElement Der d t w u v
 
 -- a primitive element of this class, type and content isn't entered
 abbrev pub IsNotEntered : Extras → ℕ → Class → ℕ → List ℕ → Type 0
-IsNotEntered x d c t w = x.enters_strings ≡ true → c ≡ Universal → (u v : List ℕ) → ¬ HoldsElement d t w u v
+IsNotEntered x d c t w = x.enters_strings ≡ true → c ≡ Universal → (s : Rules) (u v : List ℕ)
+    → ¬ HoldsElement s d t w u v
 
 mutual
   -- The octets i are elements by these rules to depth d, one after another. They begin at the offset a, with k elements
@@ -95,11 +105,13 @@ mutual
         → t ≢ 0 → ¬ IsContent r t w
         → vs ≡ record (visited a k Universal false t h (Some (length w))) { breaks_its_type = true } ∷ []
         → VisitsOne x r (suc d) k a b vs
-    string : {r : Rules} {d k a : ℕ} {b : List ℕ} {vs : List Visited} (t : ℕ) (h w u v : List ℕ) (us : List Visited)
+    -- a string that holds an element, of DER or else of BER
+    string : {r : Rules} {d k a : ℕ} {b : List ℕ} {vs : List Visited} (s : Rules) (t : ℕ) (h w u v : List ℕ)
+        (us : List Visited)
         → IsHeaderBy r Universal false t (Some (length w)) h → b ≡ h ++ w → IsContent r t w
-        → x.enters_strings ≡ true → HoldsElement d t w u v
-        → Visits x Der d (suc k) (a + length h + length u) v us
-        → vs ≡ record (visited a k Universal false t h (Some (length w))) { holds_der = true } ∷ us
+        → x.enters_strings ≡ true → HoldsElement s d t w u v → IsFirstOf s d t w
+        → Visits x s d (suc k) (a + length h + length u) v us
+        → vs ≡ record (visited a k Universal false t h (Some (length w))) { holds = Some s } ∷ us
         → VisitsOne x r (suc d) k a b vs
     constructed : {r : Rules} {d k a : ℕ} {b : List ℕ} {vs : List Visited} (c : Class) (t : ℕ) (h w : List ℕ)
         (us : List Visited)

@@ -1,6 +1,6 @@
 -- How far a walk has come.
 use Rattle.std.specs.Prelude.{◌≡◌, ◌≢◌, ℕ, suc, ◌+◌, ◌<◌, ◌≤◌, ◌⊎◌, nat_lt, ◌==◌, if◌then◌else◌, Bool, true, false, not}
-use Rattle.std.specs.Prelude.{Option, Some, None, IfSome, IsSome, Result, Ok, Err}
+use Rattle.std.specs.Prelude.{Option, Some, None, is_some, IfSome, IsSome, Result, Ok, Err}
 use Rattle.std.specs.Prelude.{List, [], ◌∷◌, ◌++◌, length, map, drop}
 use Rattle.der_base.specs.Octets.{identifier}
 use Rattle.der_base.specs.Spelling.{end_marker}
@@ -25,7 +25,7 @@ visited_of e = record {
   constructed = e.constructed;
   number = e.number;
   depth = e.depth;
-  holds_der = e.holds_der;
+  holds = e.holds;
   breaks_its_type = e.breaks_its_type;
 }
 
@@ -59,7 +59,7 @@ pub record BeginsAt (i : List ℕ) (r : Rules) (k start : ℕ) (v : Visited) : T
   pub header : v.header ≡ length octets
   pub offset : v.offset ≡ start
   pub depth : v.depth ≡ k
-  pub holds : v.holds_der ≡ not v.constructed
+  pub holds : is_some v.holds ≡ not v.constructed
   pub whole : v.breaks_its_type ≡ false
 
 -- The element v begins at an offset, by the rules r and with k elements around it. Its content begins at `first` and is

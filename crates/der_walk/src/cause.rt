@@ -1,7 +1,13 @@
 //! Why an input is refused, and which rule says so.
+ghost use Rattle.std.specs.Prelude.{◌≡◌, ◌↔◌, IsTrue};
+ghost use Rattle.der_walk.specs.Reasons.{IsPaddedTag, begins_none, has_reserved_length, is_reserved_behind};
+
 use der_base::error::{BerError, DerConstraint};
 use der_contents::ContentError;
 use std::fmt;
+
+/// The first length octet that is reserved (X.690 8.1.3.5).
+const RESERVED: u8 = 0xff;
 
 /// Why a walk ends before its input does.
 #[derive(Clone, Copy, Debug, PartialEq)]
@@ -68,7 +74,7 @@ impl fmt::Display for Cause {
                 )
             }
             Cause::PastEnd(missing) => {
-                let noun = octets(*missing);
+                let noun = octets_noun(*missing);
                 write!(
                     f,
                     "it ends {missing} {noun} after the element around it (X.690 8.1.3)"
@@ -80,7 +86,7 @@ impl fmt::Display for Cause {
 }
 
 /// The noun after a number of octets.
-fn octets(number: usize) -> &'static str {
+pub(crate) fn octets_noun(number: usize) -> &'static str {
     if number == 1 { "octet" } else { "octets" }
 }
 
@@ -94,6 +100,13 @@ fn octets_are(number: usize) -> &'static str {
 }
 
 impl Cause {
+    /// Whether no element begins where this is the cause.
+    pub(crate) fn begins_none(self) -> bool
+        ensures { result ≡ begins_none self }
+    {
+        matches!(self, Cause::Cut(_) | Cause::EndMarker | Cause::Header(_))
+    }
+
     /// The rule that is broken.
     fn rule(self) -> Rule {
         match self {
@@ -131,7 +144,61 @@ impl Cause {
     }
 }
 
-/// The rule that a header breaks.
+/// The rule that the header at the start of these octets breaks.
+pub(crate) fn header_rule_of(e: BerError, octets: &[u8]) -> Rule {
+    match e {
+        BerError::InvalidTag if is_padded_tag(octets) => {
+            Rule::new("the tag number isn't in the fewest octets", "8.1.2.4")
+        }
+        BerError::InvalidTag => Rule::new("the tag number is above 4294967295, the limit here", ""),
+        BerError::InvalidLength if has_reserved_length(octets) => Rule::new(
+            "the first length octet is ff, which is reserved",
+            "8.1.3.5",
+        ),
+        BerError::InvalidLength => Rule::new(
+            "the length is above 18446744073709551615, the limit here",
+            "",
+        ),
+        other => header_rule(other),
+    }
+}
+
+/// Whether the tag number in these identifier octets of the long form is below 31 or begins with zeros.
+fn is_padded_tag(octets: &[u8]) -> bool
+    ensures { IsTrue result ↔ IsPaddedTag octets.now }
+{
+    match octets {
+        [_, second, ..] => *second < 31 || *second == 128,
+        _ => false,
+    }
+}
+
+/// Whether the first length octet behind these identifier octets is the reserved one.
+fn has_reserved_length(octets: &[u8]) -> bool
+    ensures { result ≡ has_reserved_length octets.now }
+{
+    match octets {
+        [first, second, ..] if *first % 32 != 31 => *second == RESERVED,
+        [_, others @ ..] => is_reserved_behind(others),
+        [] => false,
+    }
+}
+
+/// Whether the octet behind the last one of a tag number is the reserved length octet.
+fn is_reserved_behind(octets: &[u8]) -> bool
+    ensures { result ≡ is_reserved_behind octets.now }
+{
+    let mut rest = octets;
+    while let [octet, others @ ..] = rest {
+        if *octet < 128 {
+            return matches!(others, [RESERVED, ..]);
+        }
+        rest = others;
+    }
+    false
+}
+
+/// The rule that a header breaks, of which the octets aren't known.
 fn header_rule(e: BerError) -> Rule {
     match e {
         BerError::InvalidTag => Rule::new(

@@ -1,6 +1,6 @@
 //! An element that a walk visits.
-ghost use Rattle.std.specs.Prelude.{◌≡◌, ◌↔◌, ℕ, IsTrue, List, MatchOption, ◌∷◌};
-ghost use Rattle.der_walk.specs.Visits.{begins_like_element};
+ghost use Rattle.std.specs.Prelude.{◌≡◌, ◌↔◌, ℕ, IsTrue, List, MatchOption, ◌∷◌, true};
+ghost use Rattle.der_walk.specs.Visits.{begins_like_element, is_constructed_octet};
 
 use crate::name::TypeName;
 use crate::path::Step;
@@ -30,15 +30,15 @@ pub struct Element<'a> {
     pub depth: usize,
     /// Its index among the elements of the same content, from 0.
     pub index: usize,
-    /// Whether it is a string whose content is an element of DER, which is visited next.
-    pub holds_der: bool,
+    /// The rules by which its content, that of a string, is an element, which is visited next: DER, or else BER.
+    pub holds: Option<Rules>,
     /// Whether its content octets break a rule of its type: a text (X.690 8.23), a time (8.25) or an identifier (8.19,
     /// 8.20).
     pub breaks_its_type: bool,
 }
 
 impl<'a> Element<'a> {
-    ghost use Rattle.der_walk.specs.Reading.{FindsString, Holds, front_of};
+    ghost use Rattle.der_walk.specs.Reading.{FindsString, Holds, IsHeld, front_of, string_front_of};
 
     /// The name of its type or tag.
     pub fn name(&self) -> TypeName
@@ -70,15 +70,28 @@ impl<'a> Element<'a> {
         self.class == Class::Universal && self.number == number
     }
 
-    /// Whether it is a string whose octets are one element of DER. A primitive element of another class than
-    /// Universal doesn't count, since most octets look like one.
-    pub(crate) fn holds_element(&self) -> bool
-        ensures { IsTrue result ↔ Holds self.now }
+    /// The rules by which it is a string whose octets are one element: DER, or else BER.
+    pub(crate) fn held(&self) -> Option<Rules>
+        ensures { IsHeld true self.now result }
+    {
+        if self.holds_by(Rules::Der) {
+            return Some(Rules::Der);
+        }
+        if self.holds_by(Rules::Ber) {
+            return Some(Rules::Ber);
+        }
+        None
+    }
+
+    /// Whether it is a string whose octets are one element by these rules. A primitive element of another class than
+    /// Universal doesn't count, and by BER no primitive element does, since many octets look like one.
+    fn holds_by(&self, rules: Rules) -> bool
+        ensures { IsTrue result ↔ Holds rules self.now }
     {
         match self.string_octets() {
             Some(octets) => {
                 let depth = MAX_DEPTH.saturating_sub(self.depth);
-                begins_like_element(octets) && is_element(octets, Rules::Der, depth)
+                begins_like_element(octets, rules) && is_element(octets, rules, depth)
             }
             None => false,
         }
@@ -86,7 +99,7 @@ impl<'a> Element<'a> {
 
     /// The octets of a primitive string that may hold an element: those of an OCTET STRING, and those of a
     /// BIT STRING without unused bits.
-    fn string_octets(&self) -> Option<&'a [u8]>
+    pub(crate) fn string_octets(&self) -> Option<&'a [u8]>
         ensures { FindsString self.now result }
     {
         if self.constructed || self.class != Class::Universal {
@@ -102,16 +115,22 @@ impl<'a> Element<'a> {
         }
     }
 
-    /// How many octets are in front of the element that is visited next inside a string: the one of a BIT STRING
-    /// that says that no bit is unused.
+    /// How many octets are in front of the element that is visited next inside a string.
     pub(crate) fn front(&self) -> usize
         ensures { result ≡ front_of self.now }
     {
-        if self.holds_der && self.number == 3 {
-            1
+        if self.holds.is_some() {
+            self.string_front()
         } else {
             0
         }
+    }
+
+    /// How many octets are in front of what a string holds: the one of a BIT STRING that says that no bit is unused.
+    pub(crate) fn string_front(&self) -> usize
+        ensures { result ≡ string_front_of self.now.number }
+    {
+        if self.number == 3 { 1 } else { 0 }
     }
 }
 
@@ -127,12 +146,23 @@ fn after_zero(octets: &[u8]) -> Option<&[u8]>
     if *first == 0 { Some(rest) } else { None }
 }
 
-/// Whether octets begin with an identifier octet that is universal or constructed, and not that of an end marker.
-fn begins_like_element(octets: &[u8]) -> bool
-    ensures { IsTrue result ↔ IsTrue (begins_like_element octets.now) }
+/// Whether octets begin with an identifier octet that is constructed, or by DER universal and not that of an end
+/// marker.
+fn begins_like_element(octets: &[u8], rules: Rules) -> bool
+    ensures { IsTrue result ↔ IsTrue (begins_like_element rules octets.now) }
 {
     match octets {
-        [first, ..] => *first != 0 && (*first < 64 || *first / 32 % 2 == 1),
+        [first, ..] => match rules {
+            Rules::Ber => is_constructed_octet(*first),
+            Rules::Der => *first != 0 && (*first < 64 || is_constructed_octet(*first)),
+        },
         [] => false,
     }
+}
+
+/// Whether an identifier octet is that of a constructed element (X.690 8.1.2.5).
+fn is_constructed_octet(octet: u8) -> bool
+    ensures { result ≡ is_constructed_octet octet }
+{
+    octet / 32 % 2 == 1
 }

@@ -1,13 +1,14 @@
 //! The walk.
 ghost use Rattle.der_base.specs.Header.{length_of as length_in};
 ghost use Rattle.der_walk.specs.Reading.{definite_of};
-ghost use Rattle.std.specs.Prelude.{◌≡◌, ◌≢◌, ◌+◌, ◌^◌, ◌<◌, ◌≤◌, ◌↔◌, ◌++◌, ℕ, List, length, [], false, true};
+ghost use Rattle.std.specs.Prelude.{◌≡◌, ◌≢◌, ◌+◌, ◌^◌, ◌<◌, ◌≤◌, ◌↔◌, ◌++◌, ℕ, List, drop, length, [], false, true};
 ghost use Rattle.std.specs.Prelude.{IfErr, IfOk, IfSome, IsSome, IsTrue, MatchOption, None};
 
 use crate::cause::Cause;
 use crate::content::{Content, End, Open};
 use crate::element::Element;
 use crate::path::Path;
+use crate::reason::Reason;
 use crate::refusal::Refusal;
 use arrayvec::ArrayVec;
 use der_base::error::{BerError, Err as Refused, Needed};
@@ -47,12 +48,13 @@ impl<'a> Walk<'a> {
     ghost use Rattle.der_walk.specs.Faults.{cause_of_end, cause_of_header, cause_of_lack, innermost_of};
     ghost use Rattle.der_walk.specs.Faults.{missing_in, outermost_end, place_of};
     ghost use Rattle.der_walk.specs.Walked.{HasVisited, IsRefused, KeepsVisited, VisitsNext, steps_of};
-    ghost use Rattle.der_walk.specs.Reading.{EndsHere, EndsNowhere, FindsContent, IsChecked, Passes, ReadsHere};
+    ghost use Rattle.der_walk.specs.Reading.{EndsHere, EndsNowhere, FindsContent, IsChecked, IsHeld, Passes, ReadsHere};
+    ghost use Rattle.der_walk.specs.Reasons.{octets_after_end, octets_beyond};
     ghost use Rattle.der_walk.specs.Reading.{FailsCheck, Keeps, LacksContent, Refuses, StartsWith, StaysOpen, GoesInto};
     ghost use Rattle.der_walk.specs.Reading.{front_of};
 
     /// A walk from the start of an input. If it enters strings, it visits the element that is the whole
-    /// content of an OCTET STRING or a BIT STRING by DER.
+    /// content of an OCTET STRING or a BIT STRING by DER, or a constructed one by BER.
     pub fn new(input: &'a [u8], rules: Rules, enters_strings: bool) -> Walk<'a>
         ensures { HasVisited (record { enters_strings = enters_strings; keeps_values = false })
             rules input.now result [] }
@@ -128,6 +130,53 @@ impl<'a> Walk<'a> {
             path.push(step);
         }
         path
+    }
+
+    /// Why the walk ends at an element that is refused, with what else is known of the input.
+    pub fn reason(&self, refusal: &Refusal) -> Reason<'a>
+        ensures cause { result.cause ≡ refusal.now.cause }
+        ensures octets { result.octets.now ≡ drop refusal.now.offset self.now.input.now }
+        ensures after_end { result.after_end ≡ octets_after_end self.now refusal.now.cause }
+        ensures beyond { result.beyond ≡ octets_beyond self.now }
+    {
+        Reason {
+            cause: refusal.cause,
+            octets: self.octets_from(refusal.offset),
+            after_end: self.octets_after_end(refusal.cause),
+            beyond: self.octets_beyond(),
+        }
+    }
+
+    /// The octets of the input from an offset on.
+    fn octets_from(&self, offset: usize) -> &'a [u8]
+        ensures { result.now ≡ drop offset self.now.input.now }
+    {
+        if offset < self.input.len() {
+            &self.input[offset..]
+        } else {
+            &[]
+        }
+    }
+
+    /// How many octets follow the last element of the input, if no element begins there.
+    fn octets_after_end(&self, cause: Cause) -> usize
+        ensures { result ≡ octets_after_end self.now cause }
+    {
+        if self.opened.is_empty() && self.at > 0 && cause.begins_none() {
+            self.input.len().saturating_sub(self.at)
+        } else {
+            0
+        }
+    }
+
+    /// How many octets more than there are the outermost element claims.
+    fn octets_beyond(&self) -> usize
+        ensures { result ≡ octets_beyond self.now }
+    {
+        match self.outermost_end() {
+            End::After(missing) => missing,
+            End::At(_) | End::Unlimited => 0,
+        }
     }
 
     /// How many elements are open where the walk ends: those around an element that is refused, and the element itself
@@ -218,12 +267,22 @@ impl<'a> Walk<'a> {
             Ok(breaks) => breaks,
             Err(refusal) => return Err(refusal),
         };
-        let holds_der = self.enters_strings && element.holds_element();
         Ok(Element {
-            holds_der,
+            holds: self.held_in(&element),
             breaks_its_type,
             ..element
         })
+    }
+
+    /// The rules by which an element is a string that holds an element, if strings are entered.
+    fn held_in(&self, element: &Element<'a>) -> Option<Rules>
+        ensures { IsHeld self.now.enters_strings element.now result }
+    {
+        if self.enters_strings {
+            element.held()
+        } else {
+            None
+        }
     }
 
     /// The element here, which has this header of so many octets.
@@ -242,7 +301,7 @@ impl<'a> Walk<'a> {
             content: None,
             depth: self.opened.len(),
             index: self.content.visited,
-            holds_der: false,
+            holds: None,
             breaks_its_type: false,
         }
     }
@@ -336,7 +395,7 @@ impl<'a> Walk<'a> {
             None => self.content.end,
         };
         self.content.visited = self.content.visited.saturating_add(1);
-        if element.constructed || element.holds_der {
+        if element.constructed || element.holds.is_some() {
             self.open_content(element, begin + element.front(), end);
         } else {
             self.at = end.limit(self.input.len());
@@ -355,11 +414,7 @@ impl<'a> Walk<'a> {
             around,
         });
         self.content = Content {
-            rules: if element.holds_der {
-                Rules::Der
-            } else {
-                around.rules
-            },
+            rules: element.holds.unwrap_or(around.rules),
             end,
             has_marker: element.length.is_none(),
             visited: 0,

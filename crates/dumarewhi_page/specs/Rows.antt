@@ -1,8 +1,10 @@
 -- What a row stands for.
-use Rattle.std.specs.Prelude.{◌≡◌, ℕ, suc, ◌-◌, ◌==◌, if◌then◌else◌, Some, None}
+use Rattle.std.specs.Prelude.{◌≡◌, ℕ, suc, ◌-◌, ◌==◌, if◌then◌else◌, Option, Some, None}
 use Rattle.std.specs.Prelude.{List, [], ◌∷◌, ◌++◌, length, map, take}
 use Rattle.der_base.specs.declared.header.Class.{Class}
 use Rattle.der_base.specs.declared.header.Class.TheVariants.{Universal, Application, ContextSpecific, Private}
+use Rattle.der_base.specs.declared.rules.Rules.{Rules}
+use Rattle.der_base.specs.declared.rules.Rules.TheVariants.{Ber, Der}
 use Rattle.der_walk.specs.Visits.{Visited}
 use Rattle.der_walk.specs.Walked.{index_in}
 use Rattle.dumarewhi_page.specs.declared.row.PageRow.{PageRow}
@@ -11,6 +13,10 @@ use Rattle.dumarewhi_page.specs.declared.row.PageRow.{PageRow}
 abbrev pub class_numbered : ℕ → Class
 class_numbered n =
     if n == 0 then Universal else (if n == 1 then Application else (if n == 2 then ContextSpecific else Private))
+
+-- the rules with this number, by which a string holds an element
+abbrev pub holds_numbered : ℕ → Option Rules
+holds_numbered n = if n == 0 then None else (if n == 1 then Some Der else Some Ber)
 
 -- the element that a row stands for
 abbrev pub visited_in : PageRow → Visited
@@ -22,7 +28,7 @@ visited_in r = record {
   constructed = r.constructed == 1;
   number = r.number;
   depth = r.depth;
-  holds_der = r.holds_der == 1;
+  holds = holds_numbered r.holds;
   breaks_its_type = r.breaks_its_type == 1;
 }
 

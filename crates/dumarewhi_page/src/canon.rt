@@ -4,6 +4,7 @@ ghost use Rattle.dumarewhi_page.specs.Written.{WritesInput};
 use crate::fault::Fault;
 use crate::room::put;
 use der_canon::canonical_into;
+use der_walk::Reason;
 
 /// Writes the elements of an input as DER writes them, if there is room for them. `needed` is then how many octets they
 /// have, room or not. Returns 0, or 1 if DER doesn't have a value.
@@ -29,7 +30,7 @@ pub extern "C" fn page_canonical_fault(input: &[u8], out: &mut [u8], text: &mut 
             let fault = Fault {
                 offset: refused.offset,
                 path: &refused.path,
-                cause: refused.cause,
+                reason: Reason::of(refused.cause, input.get(refused.offset..).unwrap_or(&[])),
             };
             put(text, fault)
         }

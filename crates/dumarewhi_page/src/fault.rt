@@ -1,5 +1,5 @@
 //! Why elements are refused.
-use der_walk::{Cause, Path};
+use der_walk::{Path, Reason};
 use std::fmt;
 
 /// Where and why an element is refused, as `at 13, SEQUENCE[0].INTEGER[1]: a number has no octets (X.690 8.3.1)`.
@@ -8,18 +8,18 @@ pub(crate) struct Fault<'a> {
     /// Where the element begins.
     pub offset: usize,
     pub path: &'a Path,
-    pub cause: Cause,
+    pub reason: Reason<'a>,
 }
 
 impl fmt::Display for Fault<'_> {
     fn fmt<W: fmt::Write>(&self, f: &mut fmt::Formatter<W>) -> fmt::Result {
         let offset = self.offset;
         let path = self.path;
-        let cause = self.cause;
+        let reason = self.reason;
         write!(f, "at {offset}")?;
         if !path.is_empty() {
             write!(f, ", {path}")?;
         }
-        write!(f, ": {cause}")
+        write!(f, ": {reason}")
     }
 }

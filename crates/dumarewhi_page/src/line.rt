@@ -1,6 +1,6 @@
 //! The line of a row.
 use der_print::{Limit, Remark, Value};
-use der_walk::Element;
+use der_walk::{Element, Rules};
 use std::fmt;
 
 /// The line of an element as `der tree` prints it: where it begins, how many octets its header and its content have,
@@ -17,10 +17,11 @@ impl fmt::Display for Line<'_> {
         let element = self.element;
         let limit = self.limit;
         write_front(f, &element)?;
-        if element.holds_der {
-            return f.write_str(" holding DER");
+        match element.holds {
+            Some(Rules::Ber) => return f.write_str(" holding BER"),
+            Some(Rules::Der) => return f.write_str(" holding DER"),
+            None => write!(f, "{}", Value { element, limit })?,
         }
-        write!(f, "{}", Value { element, limit })?;
         match Remark::on(&element) {
             Some(remark) => write!(f, "  {remark}"),
             None => Ok(()),

@@ -1,9 +1,9 @@
 //! Elements as rows of numbers.
 ghost use Rattle.std.specs.Prelude.{◌≡◌, ◌==◌};
-ghost use Rattle.dumarewhi_page.specs.Rows.{class_numbered};
+ghost use Rattle.dumarewhi_page.specs.Rows.{class_numbered, holds_numbered};
 
 use der_base::header::Class;
-use der_walk::{Element, Step, TypeName};
+use der_walk::{Element, Rules, Step, TypeName};
 
 /// An element of an input.
 #[repr(C)]
@@ -29,8 +29,8 @@ pub struct PageRow {
     pub constructed: u8,
     /// Whether its length is definite, 0 or 1.
     pub definite: u8,
-    /// Whether it is a string whose content is an element of DER, 0 or 1.
-    pub holds_der: u8,
+    /// Whether it is a string whose content is an element: of DER 1, of BER 2. Else 0.
+    pub holds: u8,
     /// Whether its octets are no value of its type, 0 or 1.
     pub breaks_its_type: u8,
 }
@@ -58,7 +58,7 @@ impl PageRow {
             tag_class: class_number(element.class),
             constructed: bit(element.constructed),
             definite: bit(element.length.is_some()),
-            holds_der: bit(element.holds_der),
+            holds: holds_number(element.holds),
             breaks_its_type: bit(element.breaks_its_type),
         }
     }
@@ -84,7 +84,7 @@ impl PageRow {
             content: content_at(input, begin, length),
             depth: self.depth,
             index: self.index,
-            holds_der: self.holds_der == 1,
+            holds: holds_numbered(self.holds),
             breaks_its_type: self.breaks_its_type == 1,
         }
     }
@@ -132,6 +132,28 @@ fn class_numbered(number: u8) -> Class
         1 => Class::Application,
         2 => Class::ContextSpecific,
         _ => Class::Private,
+    }
+}
+
+/// The number of the rules by which a string holds an element.
+fn holds_number(holds: Option<Rules>) -> u8
+    ensures { holds_numbered result ≡ holds }
+{
+    match holds {
+        None => 0,
+        Some(Rules::Der) => 1,
+        Some(Rules::Ber) => 2,
+    }
+}
+
+/// The rules with this number.
+fn holds_numbered(number: u8) -> Option<Rules>
+    ensures { result ≡ holds_numbered number }
+{
+    match number {
+        0 => None,
+        1 => Some(Rules::Der),
+        _ => Some(Rules::Ber),
     }
 }
 

@@ -82,7 +82,7 @@ fn part_numbered(number: u32) -> Part {
 
 fn put_refusal(walk: &Walk<'_>, refusal: Refusal, part: Part, text: &mut [u8]) -> usize {
     let path = &walk.path(&refusal);
-    let cause = refusal.cause;
+    let reason = walk.reason(&refusal);
     match part {
         Part::Whole => {
             let offset = refusal.offset;
@@ -91,11 +91,11 @@ fn put_refusal(walk: &Walk<'_>, refusal: Refusal, part: Part, text: &mut [u8]) -
                 Fault {
                     offset,
                     path,
-                    cause,
+                    reason,
                 },
             )
         }
-        Part::Cause => put(text, cause),
+        Part::Cause => put(text, reason),
         Part::Path => put(text, path),
     }
 }

@@ -1,17 +1,12 @@
-use Rattle.std.proofs.Common.{arith, ◌∙◌, sym}
+use Rattle.std.proofs.Common.{arith}
 use Rattle.der_walk.proofs.ElementReads.{reads_here, starts_again}
-use Rattle.der_walk.proofs.walk.Walk.read_element.Goals.{then-self, else-self}
 use Rattle.der_walk.proofs.Refusals.{refuses_check, refuses_content, refuses_depth, refuses_header}
 use Rattle.der_walk.proofs.walk.Walk.read_element.Goals as goal
 
 pub returns-clause-read : goal.returns-clause-read
 returns-clause-read c =
-    reads_here c.args.self.now c.args.here.now c.in-Ok.found _ c.in-Ok.ensures (starts_again c.in-Ok.found.1 _ _ _ _ c.element_of-element.result c.in-Ok-content_of.content c.if-self.holds_der c.in-Ok-check.breaks c.element_of-element.ensures)
-    c.in-Ok-content_of.ensures.content c.in-Ok-content_of.ensures.room c.in-Ok-check.ensures.checked
-    (elim c.if-self.branch [
-      | then-self w ↦ (λ t. (w.if-self.true, w.holds_element-holds_der.ensures.0 (sym w.holds_der-is ∙ t)), λ h. w.holds_der-is ∙ w.holds_element-holds_der.ensures.1 h.1)
-      | else-self w ↦ (λ t. absurd (let f = w.holds_der-is in cc), λ h. absurd (let f = w.if-self.false in let g = h.0 in cc))
-    ]) (omega arith)
+    reads_here c.args.self.now c.args.here.now c.in-Ok.found _ c.in-Ok.ensures (starts_again c.in-Ok.found.1 _ _ _ _ c.element_of-element.result c.in-Ok-content_of.content c.held_in.result c.in-Ok-check.breaks c.element_of-element.ensures)
+    c.in-Ok-content_of.ensures.content c.in-Ok-content_of.ensures.room c.in-Ok-check.ensures.checked c.held_in.ensures (omega arith)
 
 pub returns-in-Err-clause-refused : goal.returns-in-Err-clause-refused
 returns-in-Err-clause-refused c = refuses_header c.args.self.now c.args.here.now c.in-Err.e c.refuse_header.result c.requires.some c.in-Err.ensures c.refuse_header.ensures.cause c.refuse_header.ensures.place c.refuse_header.ensures.step
@@ -23,11 +18,11 @@ returns-in-Err-content_of-clause-refused c =
 pub returns-then-element-gt-MAX_DEPTH-clause-refused : goal.returns-then-element-gt-MAX_DEPTH-clause-refused
 returns-then-element-gt-MAX_DEPTH-clause-refused c =
     let e = c.element_of-element.result in
-    refuses_depth c.args.self.now c.args.here.now c.in-Ok.found _ c.of.result c.in-Ok.ensures (starts_again c.in-Ok.found.1 _ _ _ _ e c.in-Ok-content_of.content e.holds_der e.breaks_its_type c.element_of-element.ensures)
+    refuses_depth c.args.self.now c.args.here.now c.in-Ok.found _ c.of.result c.in-Ok.ensures (starts_again c.in-Ok.found.1 _ _ _ _ e c.in-Ok-content_of.content e.holds e.breaks_its_type c.element_of-element.ensures)
     c.in-Ok-content_of.content c.in-Ok-content_of.ensures.content c.in-Ok-content_of.ensures.room c.if-element-gt-MAX_DEPTH.true c.of.ensures.cause c.of.ensures.offset c.of.ensures.step
 
 pub returns-in-Err-check-clause-refused : goal.returns-in-Err-check-clause-refused
 returns-in-Err-check-clause-refused c =
     let e = c.element_of-element.result in
-    refuses_check c.args.self.now c.args.here.now c.in-Ok.found _ c.in-Err-check.refusal c.in-Ok.ensures (starts_again c.in-Ok.found.1 _ _ _ _ e c.in-Ok-content_of.content e.holds_der e.breaks_its_type c.element_of-element.ensures)
+    refuses_check c.args.self.now c.args.here.now c.in-Ok.found _ c.in-Err-check.refusal c.in-Ok.ensures (starts_again c.in-Ok.found.1 _ _ _ _ e c.in-Ok-content_of.content e.holds e.breaks_its_type c.element_of-element.ensures)
     c.in-Ok-content_of.ensures.content c.in-Ok-content_of.ensures.room (omega arith) c.in-Err-check.ensures.refused

@@ -4,7 +4,7 @@ use Rattle.std.proofs.Output.{has_written_append, has_written_of_eq}
 use Rattle.der_contents.specs.ContentErrors.{rule_text}
 use Rattle.der_contents.specs.declared.content_error.ContentError.{ContentError}
 use Rattle.der_print.specs.Remarks.{fault_text, is_of_type, rule_of_content}
-use Rattle.der_print.proofs.remark.RemarkDisplay.fmt.Goals as goal
+use Rattle.der_print.proofs.remark.BrokenRuleDisplay.fmt.Goals as goal
 
 remark_shown : (e : ContentError) (t : ℕ) (w found clause : List ℕ) (fault : Option ℕ) → found ≡ (rule_text e).0 → fault ≡ find (λ b. not (is_of_type t b)) w → clause ≡ (rule_text e).1
     → found ++ (fault_text fault ++ (codes " (X.690 " ++ (clause ++ codes ")"))) ≡ rule_of_content e t w

@@ -1,0 +1,55 @@
+//! Where a list inside a string is at fault.
+ghost use Rattle.std.specs.Prelude.{◌↔◌, ℕ, IsTrue, MatchOption};
+ghost use Rattle.der_walk.specs.Inside.{IsFaultInside, IsListFrame, IsListOf};
+ghost use Rattle.der_walk.specs.Reading.{octets_or_none};
+ghost use Rattle.der_walk.specs.Walked.{visited_of};
+
+use crate::element::Element;
+use crate::fault::first_fault;
+use der_base::header::{Class, Header, Length, Tag};
+use der_base::rules::Rules;
+use der_check::is_element;
+
+/// How many elements may be one in another in a list.
+const MOST_INSIDE: usize = 101;
+
+/// Where a list inside a string is at fault by BER: the offset in the input of the first element that isn't one. None
+/// if the content of a string isn't a SEQUENCE or SET by its header and length, or if it is an element.
+///
+/// An offset above `usize::MAX` is that.
+pub fn fault_inside(element: &Element<'_>) -> Option<usize>
+    ensures { let v = visited_of element.now in let w = octets_or_none element.now.content in
+        MatchOption result ((n : ℕ) → ¬ IsFaultInside v w n) (λ n. IsFaultInside v w n) }
+{
+    let Some(octets) = element.string_octets() else {
+        return None;
+    };
+    if !is_list_frame(octets) || is_element(octets, Rules::Ber, MOST_INSIDE) {
+        return None;
+    }
+    let fault = first_fault(octets, Rules::Ber, MOST_INSIDE);
+    let content = element.offset.saturating_add(element.header);
+    let list = content.saturating_add(element.string_front());
+    Some(list.saturating_add(fault.offset))
+}
+
+/// Whether octets are a SEQUENCE or SET by their header and its definite length.
+fn is_list_frame(octets: &[u8]) -> bool
+    ensures { IsTrue result ↔ IsListFrame octets.now }
+{
+    match Rules::Ber.read_header(octets) {
+        Ok(found) => is_list_of(&found.1, found.0.len()),
+        Err(_) => false,
+    }
+}
+
+/// Whether a header is that of a SEQUENCE or SET with so many content octets.
+fn is_list_of(header: &Header<'_>, length: usize) -> bool
+    ensures { IsTrue result ↔ IsListOf header.now length }
+{
+    let tag = header.tag();
+    header.class() == Class::Universal
+        && header.constructed()
+        && (tag == Tag::Sequence || tag == Tag::Set)
+        && header.length() == Length::Definite(length)
+}
