@@ -1,15 +1,26 @@
 -- How an input is written, as a look at it finds.
 use Rattle.std.specs.Prelude.{◌≡◌, ℕ, ◌<◌, ◌==◌, ◌&&◌, ◌||◌, ◌⊎◌, not, Bool, true, false, Option, Some, None}
-use Rattle.std.specs.Prelude.{List, [], ◌∷◌, ◌++◌, length, codes, find}
+use Rattle.std.specs.Prelude.{List, [], ◌∷◌, ◌++◌, length, take, codes, find}
 use Rattle.std.specs.Char.{is_ascii_alphanumeric, is_ascii_control, is_ascii_hexdigit, is_ascii_whitespace}
-use Rattle.std.specs.List.{list_all, list_any, starts_with}
-use Rattle.std.specs.Option.{option_map}
+use Rattle.std.specs.List.{list_all, list_any}
+use Rattle.std.specs.Option.{option_map, option_map_or}
 use Rattle.std.specs.Str.{IsUtf8}
-use Rattle.bstr.specs.Text.{Contains}
+use Rattle.der_base.specs.declared.header.Class.{Class}
+use Rattle.der_base.specs.declared.header.Length.TheVariants.{Definite}
+use Rattle.der_base.specs.Headers.{BeginsWithHeader}
 use Rattle.der_input.specs.declared.error.FormError.{FormError}
 use Rattle.der_input.specs.declared.error.FormError.TheVariants.{LooksLike}
 use Rattle.der_input.specs.declared.form.Form.{Form}
 use Rattle.der_input.specs.declared.form.Form.TheVariants.{Der, Pem, Hex, Base64}
+use Rattle.der_input.specs.Blocks.{first_begin}
+use Rattle.der_input.specs.Plain.{begins_with, in_braces, is_dump, is_mark, is_separator, without_address}
+
+-- what an input of a form is called in a sentence
+abbrev pub form_name : Form → List ℕ
+form_name Der = codes "octets"
+form_name Pem = codes "PEM"
+form_name Hex = codes "hexadecimal digits"
+form_name Base64 = codes "base64"
 
 -- a control character of ASCII that isn't white space
 abbrev pub is_control : ℕ → Bool
@@ -19,16 +30,39 @@ is_control c = is_ascii_control c && not (c == 0x09 || c == 0x0a || c == 0x0d)
 abbrev pub IsText : List ℕ → Type 0
 IsText i = (0 < length i) × (list_any is_control i ≡ false) × IsUtf8 i
 
--- what may be in hexadecimal digits, and in base64 (RFC 4648 4)
-abbrev pub is_hex : ℕ → Bool
-is_hex c = is_ascii_hexdigit c || is_ascii_whitespace c || c == 0x3a
+-- one element of a definite length and nothing after it: a header, and as many octets as it says (X.690 8.1.1, 8.1.3)
+abbrev pub IsOneElement : List ℕ → Type 0
+IsOneElement i = (c : Class) × (p : Bool) × (t : ℕ) × (w : List ℕ)
+    × BeginsWithHeader i c p t (Definite (length w)) w
 
-abbrev pub is_base64 : ℕ → Bool
-is_base64 c = is_ascii_alphanumeric c || is_ascii_whitespace c || (c == 0x2b || c == 0x2f || c == 0x3d)
+-- It is octets, whatever it contains. But a text may look like one: fifty hexadecimal digits from 30 on do.
+abbrev pub IsBinary : List ℕ → Type 0
+IsBinary i = IsOneElement i × ¬ IsText i
 
--- no block of PEM begins (RFC 7468 2)
+-- no block of PEM begins
 abbrev pub HasNoBlock : List ℕ → Type 0
-HasNoBlock i = ¬ Contains i (codes "-----BEGIN ")
+HasNoBlock i = first_begin i ≡ None
+
+-- whether one begins, and no control characters are before it (RFC 7468 2)
+abbrev pub begins_after_text : List ℕ → Bool
+begins_after_text i = option_map_or (λ k. not (list_any is_control (take k i))) (first_begin i) false
+
+-- a hex dump, or hexadecimal digits and what may be between them
+abbrev pub is_hex : ℕ → Bool
+is_hex c = is_ascii_hexdigit c || is_separator c || is_mark (codes "xX") c
+
+abbrev pub are_digits : List ℕ → Bool
+are_digits i = list_any is_ascii_hexdigit i && list_all is_hex i
+
+abbrev pub is_hex_text : List ℕ → Bool
+is_hex_text i = is_dump i || are_digits (in_braces i)
+
+-- base64 of either alphabet (RFC 4648 4, 5), and what may be between its characters
+abbrev pub is_base64 : ℕ → Bool
+is_base64 c = is_ascii_alphanumeric c || is_ascii_whitespace c || is_mark (codes "+/-_=\"'") c
+
+abbrev pub is_base64_text : List ℕ → Bool
+is_base64_text i = list_all is_base64 (without_address i)
 
 -- the first octets of other kinds of files, and the kinds
 abbrev pub other_kinds : List (List ℕ × List ℕ)
@@ -43,31 +77,31 @@ other_kinds =
     ∷ (codes "ssh-", codes "a public key of SSH")
     ∷ (0xff ∷ 0xfe ∷ [], codes "a text file in UTF-16") ∷ []
 
--- whether an input begins with these octets
-abbrev pub begins_with : List ℕ → List ℕ → Bool
-begins_with i octets = starts_with (λ a b. a == b) i octets
-
 -- the kind of another file whose first octets an input begins with
 abbrev pub other_kind : List ℕ → Option (List ℕ)
 other_kind i = option_map (λ row. row.1) (find (λ row. begins_with i row.0) other_kinds)
 
--- the form of an input of no other kind: text is PEM, hexadecimal digits or base64, the first of these that it may be
+-- A text without a block is hexadecimal digits or base64, the first of these that it may be.
+abbrev pub IsPlain : List ℕ → Type 0
+IsPlain i = (begins_after_text i ≡ false) × IsText i
+
+-- the form of an input that isn't one element, and of no other kind
 abbrev pub IsWritten : List ℕ → Form → Type 0
-IsWritten i Pem = Contains i (codes "-----BEGIN ")
-IsWritten i Der = HasNoBlock i × ¬ IsText i
-IsWritten i Hex = HasNoBlock i × IsText i × (list_all is_hex i ≡ true)
-IsWritten i Base64 = HasNoBlock i × IsText i × (list_all is_hex i ≡ false) × (list_all is_base64 i ≡ true)
+IsWritten i Pem = begins_after_text i ≡ true
+IsWritten i Der = (begins_after_text i ≡ false) × ¬ IsText i
+IsWritten i Hex = IsPlain i × (is_hex_text i ≡ true)
+IsWritten i Base64 = IsPlain i × (is_hex_text i ≡ false) × (is_base64_text i ≡ true)
 
 -- the form that is found
 abbrev pub FindsForm : List ℕ → Form → Type 0
-FindsForm i form = (other_kind i ≡ None) × IsWritten i form
+FindsForm i form = (IsBinary i × (form ≡ Der)) ⊎ (¬ IsBinary i × (other_kind i ≡ None) × IsWritten i form)
 
 -- a text of none of these forms
 abbrev pub IsOtherText : List ℕ → Type 0
-IsOtherText i = HasNoBlock i × IsText i × (list_all is_hex i ≡ false) × (list_all is_base64 i ≡ false)
+IsOtherText i = IsPlain i × (is_hex_text i ≡ false) × (is_base64_text i ≡ false)
 
 -- why no form is found: the input is a file of another kind, or another text
 abbrev pub FindsNoForm : List ℕ → FormError → Type 0
-FindsNoForm i (LooksLike kind) = (other_kind i ≡ Some kind.now)
-    ⊎ ((other_kind i ≡ None) × IsOtherText i × (kind.now ≡ codes "a text file"))
+FindsNoForm i (LooksLike kind) = ¬ IsBinary i × ((other_kind i ≡ Some kind.now)
+    ⊎ ((other_kind i ≡ None) × IsOtherText i × (kind.now ≡ codes "a text file")))
 FindsNoForm i e = ⊥

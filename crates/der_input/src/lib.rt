@@ -5,8 +5,10 @@ mod error;
 mod form;
 mod pem;
 mod plain;
+mod slices;
 
 pub use error::FormError;
 pub use form::{Form, form_of};
-pub use pem::{Block, next_block};
+pub use pem::{Block, first_begin, next_block};
 pub use plain::{decode_base64, decode_hex};
+pub use slices::{decode_base64_into, decode_hex_into};

@@ -1,14 +1,16 @@
 //! Blocks of PEM (RFC 7468), with text around them.
-ghost use Rattle.std.specs.Prelude.{◌≡◌, ◌⊎◌, IfErr, IfOk, IsErr, MatchOption, filter};
-ghost use Rattle.base64.specs.Engines.{standard};
-ghost use Rattle.base64.specs.GeneralPurpose.{decode_of as base64_decode_of};
+ghost use Rattle.std.specs.Prelude.{◌≡◌, ◌↔◌, ◌+◌, ◌≤◌, length, drop, take, codes};
+ghost use Rattle.std.specs.Prelude.{IfErr, IfOk, IfSome, IsTrue, MatchOption};
+ghost use Rattle.bstr.specs.Find.{FindsNeedle};
 ghost use Rattle.bstr.specs.Text.{Contains};
-ghost use Rattle.der_input.specs.Blocks.{BeginsWithBlock, BreaksBlock, IsEncrypted, SplitsRound, label_of, lines_of};
+ghost use Rattle.der_input.specs.Blocks.{BeginsWithBlock, BreaksBlock, IsEncrypted, OpensBlock, RefusesLines};
+ghost use Rattle.der_input.specs.Blocks.{SpellsLines, SplitsRound};
+ghost use Rattle.der_input.specs.Blocks.{begins_line, first_begin, is_indent, label_of, lines_of};
 ghost use Rattle.der_input.specs.Forms.{HasNoBlock};
-ghost use Rattle.der_input.specs.Plain.{is_character};
 
 use crate::error::FormError;
-use crate::plain::decode_base64;
+use crate::plain::{decode_base64, is_mark};
+use crate::slices::decode_base64_into;
 use bstr::ByteSlice;
 use std::alloc::Global;
 
@@ -34,28 +36,45 @@ pub struct Block<'a> {
 impl Block<'_> {
     /// The octets that its lines encode. An error if they are encrypted or no base64.
     pub fn decode(&self, alloc: Global) -> Result<Vec<u8>, FormError>
-        ensures ok { IfOk result (λ v. ¬ IsEncrypted (lines_of self.now)
-            × (base64_decode_of standard (filter is_character (lines_of self.now)) ≡ Ok v.items)) }
-        ensures err { IfErr result (λ e. (e ≡ FormError.OutOfMemory)
-            ⊎ ((e ≡ FormError.Encrypted) × IsEncrypted (lines_of self.now))
-            ⊎ ((e ≡ FormError.Base64) × IsErr (base64_decode_of standard (filter is_character (lines_of self.now))))) }
+        ensures ok { IfOk result (λ v. SpellsLines (lines_of self.now) v.items) }
+        ensures err { IfErr result (RefusesLines (lines_of self.now)) }
     {
-        if self.lines.contains_str(ENCRYPTED) {
+        if self.is_encrypted() {
             return Err(FormError::Encrypted);
         }
         decode_base64(alloc, self.lines)
     }
+
+    /// Writes the octets that its lines encode, as `decode` returns them, and returns how many there are.
+    /// `room` and OutOfMemory are those of `decode_base64_into`.
+    pub fn decode_into(&self, room: &mut [u8], octets: &mut [u8]) -> Result<usize, FormError>
+        ensures ok { IfOk result (λ n. SpellsLines (lines_of self.now) (take n octets.new)) }
+        ensures err { IfErr result (RefusesLines (lines_of self.now)) }
+    {
+        if self.is_encrypted() {
+            return Err(FormError::Encrypted);
+        }
+        decode_base64_into(self.lines, room, octets)
+    }
+
+    /// Whether its lines have the header of encrypted ones.
+    fn is_encrypted(&self) -> bool
+        ensures { IsTrue result ↔ IsEncrypted (lines_of self.now) }
+    {
+        self.lines.contains_str(ENCRYPTED)
+    }
 }
 
-/// The first block of a text, and the text after it. None if no block begins. Octets before the block may
-/// be of any encoding. An error if a block begins and doesn't end, or ends with another label.
+/// The first block of a text, and the text after it. None if no block begins at the start of a line. Octets
+/// before the block may be of any encoding. An error if a block begins and doesn't end before another one, or
+/// ends with another label.
 pub fn next_block(text: &[u8]) -> Result<Option<(Block<'_>, &[u8])>, FormError>
     ensures ok { IfOk result (λ found. MatchOption found
         (HasNoBlock text.now)
         (λ x. BeginsWithBlock text.now (label_of x.0) (lines_of x.0) x.1.now)) }
     ensures err { IfErr result (BreaksBlock text.now) }
 {
-    let Some((_, block)) = split_round(text, BEGIN) else {
+    let Some(block) = open_block(text) else {
         return Ok(None);
     };
     let Some((label, opened)) = split_round(block, DASHES) else {
@@ -64,11 +83,78 @@ pub fn next_block(text: &[u8]) -> Result<Option<(Block<'_>, &[u8])>, FormError>
     let Some((lines, end)) = split_round(opened, END) else {
         return Err(FormError::NoEnd);
     };
+    if lines.contains_str(DASHES) {
+        return Err(FormError::NoEnd);
+    }
     match split_round(end, DASHES) {
         Some((last, rest)) if last == label => Ok(Some((Block { label, lines }, rest))),
         Some(_) => Err(FormError::LabelsDiffer),
         None => Err(FormError::NoEnd),
     }
+}
+
+/// What follows the first octets of the first block.
+fn open_block(text: &[u8]) -> Option<&[u8]>
+    ensures { MatchOption result (HasNoBlock text.now) (λ x. OpensBlock text.now x.now) }
+{
+    let begin = first_begin(text)?;
+    Some(&text[begin + BEGIN.len()..])
+}
+
+/// Where the first block begins: at the start of a line, or after an indent.
+pub fn first_begin(text: &[u8]) -> Option<usize>
+    ensures first { result ≡ first_begin text.now }
+    ensures within { IfSome result (λ k. k + 11 ≤ length text.now) }
+{
+    let mut from = 0;
+    'occurrences: while let Some(begin) = next_begin(text, from) {
+        if begins_line(&text[..begin]) {
+            return Some(begin);
+        }
+        from = begin + 1;
+    }
+    None
+}
+
+/// Where the first octets of a block occur next.
+fn next_begin(text: &[u8], from: usize) -> Option<usize>
+    requires { from ≤ length text.now }
+    ensures { FindsNeedle text.now (codes "-----BEGIN ") from result }
+{
+    let rest = rest_from(text, from);
+    let distance = rest.find(BEGIN)?;
+    Some(from + distance)
+}
+
+/// What is left of a text from an offset on.
+fn rest_from(text: &[u8], from: usize) -> &[u8]
+    requires { from ≤ length text.now }
+    ensures { result.now ≡ drop from text.now }
+{
+    let (_, rest) = text.split_at(from);
+    rest
+}
+
+/// Whether a line begins after these octets, or nothing but an indent is on it yet.
+fn begins_line(before: &[u8]) -> bool
+    ensures { result ≡ begins_line before.now }
+{
+    let mut end = before.len();
+    'octets: while end > 0 {
+        let octet = before[end - 1];
+        if !is_indent(octet) {
+            return octet == b'\n' || octet == b'\r';
+        }
+        end -= 1;
+    }
+    true
+}
+
+/// Whether an octet may be before a block on its line: white space, quotes, and the mark that a mail has there.
+fn is_indent(octet: u8) -> bool
+    ensures { result ≡ is_indent octet }
+{
+    is_mark(b" \t>\"'", octet)
 }
 
 /// What is before and after the first offset where a needle occurs.

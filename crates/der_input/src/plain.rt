@@ -1,66 +1,382 @@
-//! Hexadecimal digits and base64 with separators between them.
-ghost use Rattle.std.specs.Prelude.{◌≡◌, ◌⊎◌, IfErr, IfOk, IsErr, filter};
-ghost use Rattle.base64.specs.Engines.{standard};
+//! Hexadecimal digits and base64, with what people have between them.
+ghost use Rattle.std.specs.Prelude.{◌≡◌, ◌⊎◌, ◌≤◌, ◌==◌, ◌∷◌, ◌+◌, [], not, length, map, filter, take, drop};
+ghost use Rattle.std.specs.Prelude.{IfErr, IfOk, IfSome, IsErr, count_by, find, unwrap_or};
+ghost use Rattle.std.specs.List.{flat_map, list_all, position_or_len, range_with_len, slice_split};
+ghost use Rattle.std.specs.Char.{is_ascii_hexdigit, is_ascii_whitespace};
+ghost use Rattle.base64.specs.Engines.{standard_pad_indifferent};
 ghost use Rattle.base64.specs.GeneralPurpose.{decode_of as base64_decode_of};
 ghost use Rattle.hex.specs.Hex.{decode_of as hex_decode_of};
-ghost use Rattle.der_input.specs.Plain.{is_character, is_digit};
+ghost use Rattle.der_input.specs.Plain.{Puts, before_characters, begins_characters, begins_with_zero, behind_offset};
+ghost use Rattle.der_input.specs.Plain.{characters_of, digits_of, digits_of_line, digits_of_word, ends_offset};
+ghost use Rattle.der_input.specs.Plain.{in_braces, is_character, is_dump, is_mark, is_separator, standard_character};
+ghost use Rattle.der_input.specs.Plain.{without_address, without_margin, without_prefix};
 
 use crate::error::FormError;
 use base64::DecodeAllocError;
-use base64::engine::general_purpose::STANDARD;
+use base64::engine::general_purpose::STANDARD_PAD_INDIFFERENT;
 use hex::FromHexError;
-use std::alloc::{AllocError, Global};
+use std::alloc::Global;
 
-/// Decodes pairs of hexadecimal digits. White space and colons are passed over.
+/// The fewest digits of the offset that a hex dump begins with.
+const OFFSET_DIGITS: usize = 4;
+
+/// Decodes hexadecimal digits. White space, marks, brackets and quotes may be between them, `0x` before
+/// a word, and a word of one digit is an octet. Of an array in C what is in braces is read, and of a hex
+/// dump what is between its offsets and its characters.
 pub fn decode_hex(alloc: Global, text: &[u8]) -> Result<Vec<u8>, FormError>
-    ensures ok { IfOk result (λ v. hex_decode_of (filter is_digit text.now) ≡ Ok v.items) }
+    ensures ok { IfOk result (λ v. hex_decode_of (digits_of text.now) ≡ Ok v.items) }
     ensures err { IfErr result (λ e. (e ≡ FormError.OutOfMemory)
-        ⊎ ((e ≡ FormError.Hex) × IsErr (hex_decode_of (filter is_digit text.now)))) }
+        ⊎ ((e ≡ FormError.Hex) × IsErr (hex_decode_of (digits_of text.now)))) }
 {
-    let digits = match digits_of(alloc, text) {
-        Ok(digits) => digits,
-        Err(AllocError) => return Err(FormError::OutOfMemory),
+    let Some(mut room) = room_for(alloc, text) else {
+        return Err(FormError::OutOfMemory);
     };
-    match hex::decode(alloc, digits.as_slice()) {
+    let Some(end) = put_digits(text, &mut room) else {
+        return Err(FormError::OutOfMemory);
+    };
+    match hex::decode(alloc, &room[..end]) {
         Ok(octets) => Ok(octets),
         Err(FromHexError::OutOfMemory) => Err(FormError::OutOfMemory),
         Err(_) => Err(FormError::Hex),
     }
 }
 
-/// Decodes base64 (RFC 4648 4). White space is passed over.
+/// Decodes base64 of either alphabet, with or without padding (RFC 4648 4, 5). White space, quotes and the
+/// begin of a `data:` address are passed over.
 pub fn decode_base64(alloc: Global, text: &[u8]) -> Result<Vec<u8>, FormError>
-    ensures ok { IfOk result (λ v. base64_decode_of standard (filter is_character text.now) ≡ Ok v.items) }
-    ensures err { IfErr result (λ e. (e ≡ FormError.OutOfMemory)
-        ⊎ ((e ≡ FormError.Base64) × IsErr (base64_decode_of standard (filter is_character text.now)))) }
+    ensures ok { IfOk result (λ v. base64_decode_of standard_pad_indifferent (characters_of text.now) ≡ Ok v.items) }
+    ensures err { IfErr result (λ e. (e ≡ FormError.OutOfMemory) ⊎ ((e ≡ FormError.Base64)
+        × IsErr (base64_decode_of standard_pad_indifferent (characters_of text.now)))) }
 {
-    let characters = match characters_of(alloc, text) {
-        Ok(characters) => characters,
-        Err(AllocError) => return Err(FormError::OutOfMemory),
+    let Some(mut room) = room_for(alloc, text) else {
+        return Err(FormError::OutOfMemory);
     };
-    match STANDARD.decode(alloc, &characters) {
+    let Some(end) = put_characters(text, &mut room) else {
+        return Err(FormError::OutOfMemory);
+    };
+    match STANDARD_PAD_INDIFFERENT.decode(alloc, &room[..end]) {
         Ok(octets) => Ok(octets),
         Err(DecodeAllocError::OutOfMemory) => Err(FormError::OutOfMemory),
         Err(_) => Err(FormError::Base64),
     }
 }
 
-/// The octets that aren't white space or colons.
-fn digits_of(alloc: Global, text: &[u8]) -> Result<Vec<u8>, AllocError>
-    ensures { IfOk result (λ v. v.items ≡ filter is_digit text.now) }
-{
-    text.iter()
-        .copied()
-        .filter(|octet| !octet.is_ascii_whitespace() && *octet != b':')
-        .collect(alloc)
+/// Room for the digits of a text: each octet of it is a word of one digit at most.
+fn room_for(alloc: Global, text: &[u8]) -> Option<Vec<u8>> {
+    let size = text.len().checked_mul(2)?;
+    vec![in alloc; 0; size].ok()
 }
 
-/// The octets that aren't white space.
-fn characters_of(alloc: Global, text: &[u8]) -> Result<Vec<u8>, AllocError>
-    ensures { IfOk result (λ v. v.items ≡ filter is_character text.now) }
+/// Writes the hexadecimal digits of a text, and returns how many there are. None if there is no room.
+pub fn put_digits(text: &[u8], room: &mut [u8]) -> Option<usize>
+    ensures { Puts room.old 0 (digits_of text.now) room.new result }
+{
+    if is_dump(text) {
+        put_lines(text, room)
+    } else {
+        put_words(in_braces(text), room)
+    }
+}
+
+/// Writes the digits of each line of a hex dump.
+fn put_lines(text: &[u8], room: &mut [u8]) -> Option<usize>
+    ensures { Puts room.old 0 (flat_map digits_of_line (slice_split (λ c. c == 0x0a) text.now)) room.new result }
+{
+    let mut at = 0;
+    'lines: for line in text.split(|octet| *octet == b'\n') {
+        at = put_line(line, room, at)?;
+    }
+    Some(at)
+}
+
+/// Writes the digits of each word.
+fn put_words(text: &[u8], room: &mut [u8]) -> Option<usize>
+    ensures { Puts room.old 0 (flat_map digits_of_word (slice_split is_separator text.now)) room.new result }
+{
+    let mut at = 0;
+    'words: for word in text.split(|octet| is_separator(*octet)) {
+        at = put_word(word, room, at)?;
+    }
+    Some(at)
+}
+
+/// Writes the digits of a word from an offset on, and returns where they end.
+fn put_word(word: &[u8], room: &mut [u8], at: usize) -> Option<usize>
+    requires { at ≤ length room.old }
+    ensures { Puts room.old at (digits_of_word word.now) room.new result }
+{
+    let digits = without_prefix(word);
+    let begin = if digits.len() == 1 {
+        put(room, at, b'0')?
+    } else {
+        at
+    };
+    put_all(room, begin, digits)
+}
+
+/// A word without `0x` before it.
+fn without_prefix(word: &[u8]) -> &[u8]
+    ensures { result.now ≡ without_prefix word.now }
+{
+    if word.starts_with(b"0x") || word.starts_with(b"0X") {
+        return &word[2..];
+    }
+    word
+}
+
+/// Writes the digits of a line of a hex dump from an offset on, and returns where they end.
+fn put_line(line: &[u8], room: &mut [u8], at: usize) -> Option<usize>
+    requires { at ≤ length room.old }
+    ensures { Puts room.old at (digits_of_line line.now) room.new result }
+{
+    let digits = before_characters(behind_offset(without_margin(line)));
+    put_digits_among(digits, room, at)
+}
+
+/// Writes what isn't a separator from an offset on, and returns where it ends.
+fn put_digits_among(octets: &[u8], room: &mut [u8], at: usize) -> Option<usize>
+    requires { at ≤ length room.old }
+    ensures { Puts room.old at (filter (λ c. not (is_separator c)) octets.now) room.new result }
+{
+    let mut end = at;
+    'octets: for octet in octets {
+        if !is_separator(*octet) {
+            end = put(room, end, *octet)?;
+        }
+    }
+    Some(end)
+}
+
+/// Writes octets from an offset on, and returns where they end.
+fn put_all(room: &mut [u8], at: usize, octets: &[u8]) -> Option<usize>
+    requires { at ≤ length room.old }
+    ensures { Puts room.old at octets.now room.new result }
+{
+    let mut end = at;
+    'octets: for octet in octets {
+        end = put(room, end, *octet)?;
+    }
+    Some(end)
+}
+
+/// Writes an octet at an offset, and returns the next one.
+fn put(room: &mut [u8], at: usize, octet: u8) -> Option<usize>
+    ensures { Puts room.old at (octet ∷ []) room.new result }
+{
+    if at >= room.len() {
+        return None;
+    }
+    room[at] = octet;
+    Some(at + 1)
+}
+
+/// Whether a text is a hex dump: it begins with the offset 0.
+pub(crate) fn is_dump(text: &[u8]) -> bool
+    ensures { result ≡ is_dump text.now }
+{
+    begins_with_zero(without_margin(text))
+}
+
+fn begins_with_zero(text: &[u8]) -> bool
+    ensures { result ≡ begins_with_zero text.now }
+{
+    let zeros = zeros_before(text);
+    zeros >= OFFSET_DIGITS && zeros < text.len() && ends_offset(text[zeros])
+}
+
+/// How many zeros a text begins with.
+fn zeros_before(text: &[u8]) -> usize
+    ensures first { result ≡ position_or_len (λ c. not (c == 0x30)) text.now }
+    ensures within { result ≤ length text.now }
 {
     text.iter()
-        .copied()
-        .filter(|octet| !octet.is_ascii_whitespace())
-        .collect(alloc)
+        .position(|octet| *octet != b'0')
+        .unwrap_or(text.len())
+}
+
+/// What follows the white space at the begin of a line.
+fn without_margin(line: &[u8]) -> &[u8]
+    ensures { result.now ≡ without_margin line.now }
+{
+    &line[margin_of(line)..]
+}
+
+/// How much white space is at the begin of a line.
+fn margin_of(line: &[u8]) -> usize
+    ensures first { result ≡ position_or_len (λ c. not (is_ascii_whitespace c)) line.now }
+    ensures within { result ≤ length line.now }
+{
+    line.iter()
+        .position(|octet| !octet.is_ascii_whitespace())
+        .unwrap_or(line.len())
+}
+
+/// A line of a hex dump behind its offset, or the line itself where another word begins it.
+fn behind_offset(line: &[u8]) -> &[u8]
+    ensures { result.now ≡ behind_offset line.now }
+{
+    let end = offset_end(line);
+    if !are_hexadecimal(&line[..end]) {
+        return line;
+    }
+    after(line, end)
+}
+
+/// Where the offset at the begin of a line ends.
+fn offset_end(line: &[u8]) -> usize
+    ensures first { result ≡ position_or_len ends_offset line.now }
+    ensures within { result ≤ length line.now }
+{
+    line.iter()
+        .position(|octet| ends_offset(*octet))
+        .unwrap_or(line.len())
+}
+
+fn are_hexadecimal(octets: &[u8]) -> bool
+    ensures { result ≡ list_all is_ascii_hexdigit octets.now }
+{
+    octets.iter().all(|octet| octet.is_ascii_hexdigit())
+}
+
+/// What follows the octet at an offset.
+fn after(text: &[u8], offset: usize) -> &[u8]
+    requires { offset ≤ length text.now }
+    ensures { result.now ≡ drop (offset + 1) text.now }
+{
+    if offset == text.len() {
+        return &[];
+    }
+    &text[offset + 1..]
+}
+
+/// What is before the octets as characters on a line of a hex dump.
+fn before_characters(line: &[u8]) -> &[u8]
+    ensures { result.now ≡ before_characters line.now }
+{
+    let end = characters_begin(line);
+    if end >= line.len() {
+        return line;
+    }
+    &line[..end]
+}
+
+/// Where the octets as characters begin on a line of a hex dump, or its length.
+fn characters_begin(line: &[u8]) -> usize
+    ensures { result ≡ unwrap_or (find (begins_characters line.now) (range_with_len 0 (length line.now)))
+        (length line.now) }
+{
+    (0..line.len())
+        .find(|offset| begins_characters(line, *offset))
+        .unwrap_or(line.len())
+}
+
+/// Whether the octets as characters begin at an offset of a line: after digits and a gap of two spaces, if no more
+/// characters follow than there are pairs of digits, and a bar on either side.
+fn begins_characters(line: &[u8], offset: usize) -> bool
+    ensures { result ≡ begins_characters line.now offset }
+{
+    let rest = line.get(offset..).unwrap_or(&[]);
+    if !rest.starts_with(b"  ") {
+        return false;
+    }
+    let digits = digits_in(line.get(..offset).unwrap_or(line));
+    digits > 0 && without_margin(rest).len() <= digits / 2 + 2
+}
+
+/// How many octets are hexadecimal digits.
+fn digits_in(octets: &[u8]) -> usize
+    ensures { result ≡ count_by is_ascii_hexdigit octets.now }
+{
+    octets
+        .iter()
+        .filter(|octet| octet.is_ascii_hexdigit())
+        .count()
+}
+
+/// The part of a text in braces, as of an array in C, or all of it where there are none.
+pub(crate) fn in_braces(text: &[u8]) -> &[u8]
+    ensures { result.now ≡ in_braces text.now }
+{
+    let open = offset_of(text, b'{');
+    if open == text.len() {
+        return text;
+    }
+    let inner = after(text, open);
+    &inner[..offset_of(inner, b'}')]
+}
+
+/// Where an octet is first, or the length.
+fn offset_of(text: &[u8], octet: u8) -> usize
+    ensures first { result ≡ position_or_len (λ c. c == octet) text.now }
+    ensures within { result ≤ length text.now }
+{
+    text.iter()
+        .position(|it| *it == octet)
+        .unwrap_or(text.len())
+}
+
+pub(crate) fn is_separator(octet: u8) -> bool
+    ensures { result ≡ is_separator octet }
+{
+    octet.is_ascii_whitespace() || is_mark(b":,;.-_()[]<>\"'|", octet)
+}
+
+fn ends_offset(octet: u8) -> bool
+    ensures { result ≡ ends_offset octet }
+{
+    octet.is_ascii_whitespace() || octet == b':'
+}
+
+/// Writes the characters of base64 of a text, and returns how many there are. None if there is no room.
+pub fn put_characters(text: &[u8], room: &mut [u8]) -> Option<usize>
+    ensures { Puts room.old 0 (characters_of text.now) room.new result }
+{
+    put_characters_among(without_address(text), room)
+}
+
+/// Writes the characters of base64 among octets, and returns how many there are.
+fn put_characters_among(octets: &[u8], room: &mut [u8]) -> Option<usize>
+    ensures { Puts room.old 0 (map standard_character (filter is_character octets.now)) room.new result }
+{
+    let mut end = 0;
+    'octets: for octet in octets {
+        if is_character(*octet) {
+            end = put(room, end, standard_character(*octet))?;
+        }
+    }
+    Some(end)
+}
+
+/// What follows `data:` and a comma, or else all of a text.
+pub(crate) fn without_address(text: &[u8]) -> &[u8]
+    ensures { result.now ≡ without_address text.now }
+{
+    if !text.starts_with(b"data:") {
+        return text;
+    }
+    after(text, offset_of(text, b','))
+}
+
+pub(crate) fn is_character(octet: u8) -> bool
+    ensures { result ≡ is_character octet }
+{
+    !octet.is_ascii_whitespace() && !is_mark(b"\"'>", octet)
+}
+
+/// The character of the standard alphabet with the same value (RFC 4648 4, 5).
+fn standard_character(octet: u8) -> u8
+    ensures { result ≡ standard_character octet }
+{
+    match octet {
+        b'-' => b'+',
+        b'_' => b'/',
+        _ => octet,
+    }
+}
+
+/// Whether an octet is one of these marks.
+pub(crate) fn is_mark(marks: &[u8], octet: u8) -> bool
+    ensures { result ≡ is_mark marks.now octet }
+{
+    marks.iter().any(|mark| *mark == octet)
 }

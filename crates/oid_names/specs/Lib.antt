@@ -1,1 +1,2 @@
+pub mod OwnNames
 pub mod Tables

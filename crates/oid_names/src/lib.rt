@@ -5,9 +5,11 @@ ghost use Rattle.std.specs.Prelude.{◌≡◌, ◌≤◌, ◌++◌, ◌∷◌, I
 ghost use Rattle.hex.specs.Hex.{encode_lower};
 ghost use Rattle.oid_names.specs.Tables.{EndsLine, HasLine, Splits};
 
+mod own;
 mod table;
 
 use memchr::{memchr, memrchr};
+pub use own::{NamesError, OwnNames, name_among};
 use std::str;
 pub use table::NAMES;
 

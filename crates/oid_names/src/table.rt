@@ -24,6 +24,43 @@ pub const NAMES: &str = "\
 03a231050301092f camellia-256-ccm\n\
 03a2310503010931 camellia-256-ctr\n\
 03a2310503010932 camellia-256-cmac\n\
+04007f00070101040101 ecdsa-plain-SHA1\n\
+04007f00070101040102 ecdsa-plain-SHA224\n\
+04007f00070101040103 ecdsa-plain-SHA256\n\
+04007f00070101040104 ecdsa-plain-SHA384\n\
+04007f00070101040105 ecdsa-plain-SHA512\n\
+04007f00070101040106 ecdsa-plain-RIPEMD160\n\
+04008198270101 psp-as\n\
+04008198270102 psp-pi\n\
+04008198270103 psp-ai\n\
+04008198270104 psp-ic\n\
+040081982702 etsi-psd2-qcStatement\n\
+04008198270301 qcp-web-psd2\n\
+04008bec400100 qcp-natural\n\
+04008bec400101 qcp-legal\n\
+04008bec400102 qcp-natural-qscd\n\
+04008bec400103 qcp-legal-qscd\n\
+04008bec400104 qcp-web\n\
+04008bec400105 qncp-web\n\
+04008bec400106 qncp-web-gen\n\
+04008e4601 etsi-qcs\n\
+04008e460101 etsi-qcs-QcCompliance\n\
+04008e460102 etsi-qcs-QcLimitValue\n\
+04008e460103 etsi-qcs-QcRetentionPeriod\n\
+04008e460104 etsi-qcs-QcSSCD\n\
+04008e460105 etsi-qcs-QcPDS\n\
+04008e460106 etsi-qcs-QcType\n\
+04008e46010601 etsi-qct-esign\n\
+04008e46010602 etsi-qct-eseal\n\
+04008e46010603 etsi-qct-web\n\
+04008e460107 etsi-qcs-QcCClegislation\n\
+04008f7a0101 ncp\n\
+04008f7a0102 ncpplus\n\
+04008f7a0103 lcp\n\
+04008f7a0104 evcp\n\
+04008f7a0105 evcpplus\n\
+04008f7a0106 dvcp\n\
+04008f7a0107 ovcp\n\
 09 data\n\
 099226 pss\n\
 0992268993f22c ucl\n\
@@ -51,7 +88,7 @@ pub const NAMES: &str = "\
 0992268993f22c640118 lastModifiedBy\n\
 0992268993f22c640119 domainComponent\n\
 0992268993f22c64011a aRecord\n\
-0992268993f22c64011b pilotAttributeType27\n\
+0992268993f22c64011b mDRecord\n\
 0992268993f22c64011c mXRecord\n\
 0992268993f22c64011d nSRecord\n\
 0992268993f22c64011e sOARecord\n\
@@ -76,6 +113,7 @@ pub const NAMES: &str = "\
 0992268993f22c640136 dITRedirect\n\
 0992268993f22c640137 audio\n\
 0992268993f22c640138 documentPublisher\n\
+0992268993f22c64013c jpegPhoto\n\
 0992268993f22c6403 pilotAttributeSyntax\n\
 0992268993f22c640304 iA5StringSyntax\n\
 0992268993f22c640305 caseIgnoreIA5StringSyntax\n\
@@ -86,7 +124,7 @@ pub const NAMES: &str = "\
 0992268993f22c640406 document\n\
 0992268993f22c640407 room\n\
 0992268993f22c640409 documentSeries\n\
-0992268993f22c64040d Domain\n\
+0992268993f22c64040d domain\n\
 0992268993f22c64040e rFC822localPart\n\
 0992268993f22c64040f dNSDomain\n\
 0992268993f22c640411 domainRelatedObject\n\
@@ -98,8 +136,8 @@ pub const NAMES: &str = "\
 0992268993f22c640a pilotGroups\n\
 28cc450304 gmac\n\
 28cf06030037 whirlpool\n\
-2a ISO Member Body\n\
-2a811c ISO CN Member Body\n\
+2a member-body\n\
+2a811c ISO-CN\n\
 2a811ccf55 oscca\n\
 2a811ccf5501 sm-scheme\n\
 2a811ccf55016801 sm4-ecb\n\
@@ -116,9 +154,9 @@ pub const NAMES: &str = "\
 2a83088c9a4b3d01010102 camellia-128-cbc\n\
 2a83088c9a4b3d01010103 camellia-192-cbc\n\
 2a83088c9a4b3d01010104 camellia-256-cbc\n\
-2a83088c9a4b3d01010302 id-camellia128-wrap\n\
-2a83088c9a4b3d01010303 id-camellia192-wrap\n\
-2a83088c9a4b3d01010304 id-camellia256-wrap\n\
+2a83088c9a4b3d01010302 camellia128-wrap\n\
+2a83088c9a4b3d01010303 camellia192-wrap\n\
+2a83088c9a4b3d01010304 camellia256-wrap\n\
 2a831a8c9a44 kisa\n\
 2a831a8c9a440103 seed-ecb\n\
 2a831a8c9a440104 seed-cbc\n\
@@ -146,128 +184,130 @@ pub const NAMES: &str = "\
 2a831a8c9a6e010126 aria-192-ccm\n\
 2a831a8c9a6e010127 aria-256-ccm\n\
 2a85030202 cryptopro\n\
-2a8503020203 GOST R 34.11-94 with GOST R 34.10-2001\n\
-2a8503020204 GOST R 34.11-94 with GOST R 34.10-94\n\
-2a8503020209 GOST R 34.11-94\n\
-2a850302020a HMAC GOST 34.11-94\n\
-2a850302020e00 id-Gost28147-89-None-KeyMeshing\n\
-2a850302020e01 id-Gost28147-89-CryptoPro-KeyMeshing\n\
-2a8503020213 GOST R 34.10-2001\n\
-2a8503020214 GOST R 34.10-94\n\
-2a850302021401 id-GostR3410-94-a\n\
-2a850302021402 id-GostR3410-94-aBis\n\
-2a850302021403 id-GostR3410-94-b\n\
-2a850302021404 id-GostR3410-94-bBis\n\
-2a8503020215 GOST 28147-89\n\
-2a8503020216 GOST 28147-89 MAC\n\
-2a8503020217 GOST R 34.11-94 PRF\n\
-2a850302021e00 id-GostR3411-94-TestParamSet\n\
-2a850302021e01 id-GostR3411-94-CryptoProParamSet\n\
-2a850302021f00 id-Gost28147-89-TestParamSet\n\
-2a850302021f01 id-Gost28147-89-CryptoPro-A-ParamSet\n\
-2a850302021f02 id-Gost28147-89-CryptoPro-B-ParamSet\n\
-2a850302021f03 id-Gost28147-89-CryptoPro-C-ParamSet\n\
-2a850302021f04 id-Gost28147-89-CryptoPro-D-ParamSet\n\
-2a850302021f05 id-Gost28147-89-CryptoPro-Oscar-1-1-ParamSet\n\
-2a850302021f06 id-Gost28147-89-CryptoPro-Oscar-1-0-ParamSet\n\
-2a850302021f07 id-Gost28147-89-CryptoPro-RIC-1-ParamSet\n\
-2a850302022000 id-GostR3410-94-TestParamSet\n\
-2a850302022002 id-GostR3410-94-CryptoPro-A-ParamSet\n\
-2a850302022003 id-GostR3410-94-CryptoPro-B-ParamSet\n\
-2a850302022004 id-GostR3410-94-CryptoPro-C-ParamSet\n\
-2a850302022005 id-GostR3410-94-CryptoPro-D-ParamSet\n\
-2a850302022101 id-GostR3410-94-CryptoPro-XchA-ParamSet\n\
-2a850302022102 id-GostR3410-94-CryptoPro-XchB-ParamSet\n\
-2a850302022103 id-GostR3410-94-CryptoPro-XchC-ParamSet\n\
-2a850302022300 id-GostR3410-2001-TestParamSet\n\
-2a850302022301 id-GostR3410-2001-CryptoPro-A-ParamSet\n\
-2a850302022302 id-GostR3410-2001-CryptoPro-B-ParamSet\n\
-2a850302022303 id-GostR3410-2001-CryptoPro-C-ParamSet\n\
-2a850302022400 id-GostR3410-2001-CryptoPro-XchA-ParamSet\n\
-2a850302022401 id-GostR3410-2001-CryptoPro-XchB-ParamSet\n\
-2a8503020262 GOST R 34.10-2001 DH\n\
-2a8503020263 GOST R 34.10-94 DH\n\
+2a8503020203 GostR3411-94-with-GostR3410-2001\n\
+2a8503020204 GostR3411-94-with-GostR3410-94\n\
+2a8503020209 GostR3411-94\n\
+2a850302020a HMACGostR3411-94\n\
+2a850302020e00 Gost28147-89-None-KeyMeshing\n\
+2a850302020e01 Gost28147-89-CryptoPro-KeyMeshing\n\
+2a8503020213 GostR3410-2001\n\
+2a8503020214 GostR3410-94\n\
+2a850302021401 GostR3410-94-a\n\
+2a850302021402 GostR3410-94-aBis\n\
+2a850302021403 GostR3410-94-b\n\
+2a850302021404 GostR3410-94-bBis\n\
+2a8503020215 Gost28147-89\n\
+2a8503020216 Gost28147-89-MAC\n\
+2a8503020217 GostR3411-94-prf\n\
+2a850302021e00 GostR3411-94-TestParamSet\n\
+2a850302021e01 GostR3411-94-CryptoProParamSet\n\
+2a850302021f00 Gost28147-89-TestParamSet\n\
+2a850302021f01 Gost28147-89-CryptoPro-A-ParamSet\n\
+2a850302021f02 Gost28147-89-CryptoPro-B-ParamSet\n\
+2a850302021f03 Gost28147-89-CryptoPro-C-ParamSet\n\
+2a850302021f04 Gost28147-89-CryptoPro-D-ParamSet\n\
+2a850302021f05 Gost28147-89-CryptoPro-Oscar-1-1-ParamSet\n\
+2a850302021f06 Gost28147-89-CryptoPro-Oscar-1-0-ParamSet\n\
+2a850302021f07 Gost28147-89-CryptoPro-RIC-1-ParamSet\n\
+2a850302022000 GostR3410-94-TestParamSet\n\
+2a850302022002 GostR3410-94-CryptoPro-A-ParamSet\n\
+2a850302022003 GostR3410-94-CryptoPro-B-ParamSet\n\
+2a850302022004 GostR3410-94-CryptoPro-C-ParamSet\n\
+2a850302022005 GostR3410-94-CryptoPro-D-ParamSet\n\
+2a850302022101 GostR3410-94-CryptoPro-XchA-ParamSet\n\
+2a850302022102 GostR3410-94-CryptoPro-XchB-ParamSet\n\
+2a850302022103 GostR3410-94-CryptoPro-XchC-ParamSet\n\
+2a850302022300 GostR3410-2001-TestParamSet\n\
+2a850302022301 GostR3410-2001-CryptoPro-A-ParamSet\n\
+2a850302022302 GostR3410-2001-CryptoPro-B-ParamSet\n\
+2a850302022303 GostR3410-2001-CryptoPro-C-ParamSet\n\
+2a850302022400 GostR3410-2001-CryptoPro-XchA-ParamSet\n\
+2a850302022401 GostR3410-2001-CryptoPro-XchB-ParamSet\n\
+2a8503020262 GostR3410-2001DH\n\
+2a8503020263 GostR3410-94DH\n\
 2a85030209 cryptocom\n\
-2a85030209010303 GOST R 34.11-94 with GOST R 34.10-94 Cryptocom\n\
-2a85030209010304 GOST R 34.11-94 with GOST R 34.10-2001 Cryptocom\n\
-2a85030209010503 GOST 34.10-94 Cryptocom\n\
-2a85030209010504 GOST 34.10-2001 Cryptocom\n\
-2a85030209010601 GOST 28147-89 Cryptocom ParamSet\n\
-2a85030209010801 GOST R 3410-2001 Parameter Set Cryptocom\n\
+2a85030209010303 GostR3411-94-with-GostR3410-94-cc\n\
+2a85030209010304 GostR3411-94-with-GostR3410-2001-cc\n\
+2a85030209010503 gost94cc\n\
+2a85030209010504 gost2001cc\n\
+2a85030209010601 Gost28147-89-cc\n\
+2a85030209010801 GostR3410-2001-ParamSet-cc\n\
 2a85030381030101 INN\n\
-2a85030701 id-tc26\n\
-2a8503070101 id-tc26-algorithms\n\
-2a850307010101 id-tc26-sign\n\
-2a85030701010101 GOST R 34.10-2012 with 256 bit modulus\n\
-2a85030701010102 GOST R 34.10-2012 with 512 bit modulus\n\
-2a850307010102 id-tc26-digest\n\
-2a85030701010202 GOST R 34.11-2012 with 256 bit hash\n\
-2a85030701010203 GOST R 34.11-2012 with 512 bit hash\n\
-2a850307010103 id-tc26-signwithdigest\n\
-2a85030701010302 GOST R 34.10-2012 with GOST R 34.11-2012 (256 bit)\n\
-2a85030701010303 GOST R 34.10-2012 with GOST R 34.11-2012 (512 bit)\n\
-2a850307010104 id-tc26-mac\n\
-2a85030701010401 HMAC GOST 34.11-2012 256 bit\n\
-2a85030701010402 HMAC GOST 34.11-2012 512 bit\n\
-2a850307010105 id-tc26-cipher\n\
-2a85030701010501 id-tc26-cipher-gostr3412-2015-magma\n\
+2a85030701 tc26\n\
+2a8503070101 tc26-algorithms\n\
+2a850307010101 tc26-sign\n\
+2a85030701010101 tc26-gost3410-12-256\n\
+2a85030701010102 tc26-gost3410-12-512\n\
+2a850307010102 tc26-digest\n\
+2a85030701010202 tc26-gost3411-12-256\n\
+2a85030701010203 tc26-gost3411-12-512\n\
+2a850307010103 tc26-signwithdigest\n\
+2a85030701010302 tc26-signwithdigest-gost3410-12-256\n\
+2a85030701010303 tc26-signwithdigest-gost3410-12-512\n\
+2a850307010104 tc26-mac\n\
+2a85030701010401 tc26-hmac-gost-3411-2012-256\n\
+2a85030701010402 tc26-hmac-gost-3411-2012-512\n\
+2a850307010105 tc26-cipher\n\
+2a85030701010501 tc26-cipher-gostr3412-2015-magma\n\
 2a8503070101050101 magma-ctr-acpkm\n\
 2a8503070101050102 magma-ctr-acpkm-omac\n\
-2a85030701010502 id-tc26-cipher-gostr3412-2015-kuznyechik\n\
+2a85030701010502 tc26-cipher-gostr3412-2015-kuznyechik\n\
 2a8503070101050201 kuznyechik-ctr-acpkm\n\
 2a8503070101050202 kuznyechik-ctr-acpkm-omac\n\
-2a850307010106 id-tc26-agreement\n\
-2a85030701010601 id-tc26-agreement-gost-3410-2012-256\n\
-2a85030701010602 id-tc26-agreement-gost-3410-2012-512\n\
-2a850307010107 id-tc26-wrap\n\
-2a85030701010701 id-tc26-wrap-gostr3412-2015-magma\n\
+2a850307010106 tc26-agreement\n\
+2a85030701010601 tc26-agreement-gost-3410-2012-256\n\
+2a85030701010602 tc26-agreement-gost-3410-2012-512\n\
+2a850307010107 tc26-wrap\n\
+2a85030701010701 tc26-wrap-gostr3412-2015-magma\n\
 2a8503070101070101 magma-kexp15\n\
-2a85030701010702 id-tc26-wrap-gostr3412-2015-kuznyechik\n\
+2a85030701010702 tc26-wrap-gostr3412-2015-kuznyechik\n\
 2a8503070101070201 kuznyechik-kexp15\n\
-2a8503070102 id-tc26-constants\n\
-2a850307010201 id-tc26-sign-constants\n\
-2a85030701020101 id-tc26-gost-3410-2012-256-constants\n\
-2a8503070102010101 GOST R 34.10-2012 (256 bit) ParamSet A\n\
-2a8503070102010102 GOST R 34.10-2012 (256 bit) ParamSet B\n\
-2a8503070102010103 GOST R 34.10-2012 (256 bit) ParamSet C\n\
-2a8503070102010104 GOST R 34.10-2012 (256 bit) ParamSet D\n\
-2a85030701020102 id-tc26-gost-3410-2012-512-constants\n\
-2a8503070102010200 GOST R 34.10-2012 (512 bit) testing parameter set\n\
-2a8503070102010201 GOST R 34.10-2012 (512 bit) ParamSet A\n\
-2a8503070102010202 GOST R 34.10-2012 (512 bit) ParamSet B\n\
-2a8503070102010203 GOST R 34.10-2012 (512 bit) ParamSet C\n\
-2a850307010202 id-tc26-digest-constants\n\
-2a850307010205 id-tc26-cipher-constants\n\
-2a85030701020501 id-tc26-gost-28147-constants\n\
-2a8503070102050101 GOST 28147-89 TC26 parameter set\n\
+2a8503070102 tc26-constants\n\
+2a850307010201 tc26-sign-constants\n\
+2a85030701020101 tc26-gost-3410-2012-256-constants\n\
+2a8503070102010101 tc26-gost-3410-2012-256-paramSetA\n\
+2a8503070102010102 tc26-gost-3410-2012-256-paramSetB\n\
+2a8503070102010103 tc26-gost-3410-2012-256-paramSetC\n\
+2a8503070102010104 tc26-gost-3410-2012-256-paramSetD\n\
+2a85030701020102 tc26-gost-3410-2012-512-constants\n\
+2a8503070102010200 tc26-gost-3410-2012-512-paramSetTest\n\
+2a8503070102010201 tc26-gost-3410-2012-512-paramSetA\n\
+2a8503070102010202 tc26-gost-3410-2012-512-paramSetB\n\
+2a8503070102010203 tc26-gost-3410-2012-512-paramSetC\n\
+2a850307010202 tc26-digest-constants\n\
+2a850307010205 tc26-cipher-constants\n\
+2a85030701020501 tc26-gost-28147-constants\n\
+2a8503070102050101 tc26-gost-28147-param-Z\n\
 2a85036401 OGRN\n\
 2a85036403 SNILS\n\
 2a85036405 OGRNIP\n\
-2a8503646f Signing Tool of Subject\n\
-2a85036470 Signing Tool of Issuer\n\
-2a85036471 Class of Signing Tool\n\
-2a8503647101 Class of Signing Tool KC1\n\
-2a8503647102 Class of Signing Tool KC2\n\
-2a8503647103 Class of Signing Tool KC3\n\
-2a8503647104 Class of Signing Tool KB1\n\
-2a8503647105 Class of Signing Tool KB2\n\
-2a8503647106 Class of Signing Tool KA1\n\
+2a8503646f subjectSignTool\n\
+2a85036470 issuerSignTool\n\
+2a85036471 classSignTool\n\
+2a8503647101 classSignToolKC1\n\
+2a8503647102 classSignToolKC2\n\
+2a8503647103 classSignToolKC3\n\
+2a8503647104 classSignToolKB1\n\
+2a8503647105 classSignToolKB2\n\
+2a8503647106 classSignToolKA1\n\
 2a8624 ISO-UA\n\
 2a862402010101 ua-pki\n\
-2a862402010101010101 DSTU Gost 28147-2009\n\
-2a86240201010101010102 DSTU Gost 28147-2009 OFB mode\n\
-2a86240201010101010103 DSTU Gost 28147-2009 CFB mode\n\
-2a86240201010101010105 DSTU Gost 28147-2009 key wrap\n\
-2a862402010101010102 HMAC DSTU Gost 34311-95\n\
-2a862402010101010201 DSTU Gost 34311-95\n\
-2a86240201010101030101 DSTU 4145-2002 little endian\n\
-2a8648 ISO US Member Body\n\
+2a862402010101010101 dstu28147\n\
+2a86240201010101010102 dstu28147-ofb\n\
+2a86240201010101010103 dstu28147-cfb\n\
+2a86240201010101010105 dstu28147-wrap\n\
+2a862402010101010102 hmacWithDstu34311\n\
+2a862402010101010201 dstu34311\n\
+2a86240201010101030101 dstu4145le\n\
+2a8648 ISO-US\n\
+2a864882f712010202 ms-krb5\n\
+2a864886f67d074100 entrustVersInfo\n\
 2a864886f67d07420a cast5-cbc\n\
 2a864886f67d07420c pbeWithMD5AndCast5CBC\n\
-2a864886f67d07420d password based MAC\n\
-2a864886f67d07421e Diffie-Hellman based MAC\n\
-2a864886f70d RSA Data Security, Inc.\n\
-2a864886f70d01 RSA Data Security, Inc. PKCS\n\
+2a864886f67d07420d PasswordBasedMac\n\
+2a864886f67d07421e DHBasedMac\n\
+2a864886f70d rsadsi\n\
+2a864886f70d01 pkcs\n\
 2a864886f70d0101 pkcs1\n\
 2a864886f70d010101 rsaEncryption\n\
 2a864886f70d010102 md2WithRSAEncryption\n\
@@ -314,96 +354,115 @@ pub const NAMES: &str = "\
 2a864886f70d010907 challengePassword\n\
 2a864886f70d010908 unstructuredAddress\n\
 2a864886f70d010909 extendedCertificateAttributes\n\
-2a864886f70d01090e Extension Request\n\
-2a864886f70d01090f S/MIME Capabilities\n\
-2a864886f70d010910 S/MIME\n\
-2a864886f70d01091000 id-smime-mod\n\
-2a864886f70d0109100001 id-smime-mod-cms\n\
-2a864886f70d0109100002 id-smime-mod-ess\n\
-2a864886f70d0109100003 id-smime-mod-oid\n\
-2a864886f70d0109100004 id-smime-mod-msg-v3\n\
-2a864886f70d0109100005 id-smime-mod-ets-eSignature-88\n\
-2a864886f70d0109100006 id-smime-mod-ets-eSignature-97\n\
-2a864886f70d0109100007 id-smime-mod-ets-eSigPolicy-88\n\
-2a864886f70d0109100008 id-smime-mod-ets-eSigPolicy-97\n\
-2a864886f70d01091001 id-smime-ct\n\
-2a864886f70d0109100101 id-smime-ct-receipt\n\
-2a864886f70d0109100102 id-smime-ct-authData\n\
-2a864886f70d0109100103 id-smime-ct-publishCert\n\
-2a864886f70d0109100104 id-smime-ct-TSTInfo\n\
-2a864886f70d0109100105 id-smime-ct-TDTInfo\n\
-2a864886f70d0109100106 id-smime-ct-contentInfo\n\
-2a864886f70d0109100107 id-smime-ct-DVCSRequestData\n\
-2a864886f70d0109100108 id-smime-ct-DVCSResponseData\n\
-2a864886f70d0109100109 id-smime-ct-compressedData\n\
-2a864886f70d0109100113 id-smime-ct-contentCollection\n\
-2a864886f70d0109100117 id-smime-ct-authEnvelopedData\n\
-2a864886f70d0109100118 id-ct-routeOriginAuthz\n\
-2a864886f70d010910011a id-ct-rpkiManifest\n\
-2a864886f70d010910011b id-ct-asciiTextWithCRLF\n\
-2a864886f70d010910011c id-ct-xml\n\
-2a864886f70d0109100123 id-ct-rpkiGhostbusters\n\
-2a864886f70d0109100124 id-ct-resourceTaggedAttest\n\
-2a864886f70d010910012f id-ct-geofeedCSVwithCRLF\n\
-2a864886f70d0109100130 id-ct-signedChecklist\n\
-2a864886f70d01091002 id-smime-aa\n\
-2a864886f70d0109100201 id-smime-aa-receiptRequest\n\
-2a864886f70d0109100202 id-smime-aa-securityLabel\n\
-2a864886f70d0109100203 id-smime-aa-mlExpandHistory\n\
-2a864886f70d0109100204 id-smime-aa-contentHint\n\
-2a864886f70d0109100205 id-smime-aa-msgSigDigest\n\
-2a864886f70d0109100206 id-smime-aa-encapContentType\n\
-2a864886f70d0109100207 id-smime-aa-contentIdentifier\n\
-2a864886f70d0109100208 id-smime-aa-macValue\n\
-2a864886f70d0109100209 id-smime-aa-equivalentLabels\n\
-2a864886f70d010910020a id-smime-aa-contentReference\n\
-2a864886f70d010910020b id-smime-aa-encrypKeyPref\n\
-2a864886f70d010910020c id-smime-aa-signingCertificate\n\
-2a864886f70d010910020d id-smime-aa-smimeEncryptCerts\n\
-2a864886f70d010910020e id-smime-aa-timeStampToken\n\
-2a864886f70d010910020f id-smime-aa-ets-sigPolicyId\n\
-2a864886f70d0109100210 id-smime-aa-ets-commitmentType\n\
-2a864886f70d0109100211 id-smime-aa-ets-signerLocation\n\
-2a864886f70d0109100212 id-smime-aa-ets-signerAttr\n\
-2a864886f70d0109100213 id-smime-aa-ets-otherSigCert\n\
-2a864886f70d0109100214 id-smime-aa-ets-contentTimestamp\n\
-2a864886f70d0109100215 id-smime-aa-ets-CertificateRefs\n\
-2a864886f70d0109100216 id-smime-aa-ets-RevocationRefs\n\
-2a864886f70d0109100217 id-smime-aa-ets-certValues\n\
-2a864886f70d0109100218 id-smime-aa-ets-revocationValues\n\
-2a864886f70d0109100219 id-smime-aa-ets-escTimeStamp\n\
-2a864886f70d010910021a id-smime-aa-ets-certCRLTimestamp\n\
-2a864886f70d010910021b id-smime-aa-ets-archiveTimeStamp\n\
-2a864886f70d010910021c id-smime-aa-signatureType\n\
-2a864886f70d010910021d id-smime-aa-dvcs-dvc\n\
-2a864886f70d010910022f id-smime-aa-signingCertificateV2\n\
-2a864886f70d01091003 id-smime-alg\n\
-2a864886f70d0109100301 id-smime-alg-ESDHwith3DES\n\
-2a864886f70d0109100302 id-smime-alg-ESDHwithRC2\n\
-2a864886f70d0109100303 id-smime-alg-3DESwrap\n\
-2a864886f70d0109100304 id-smime-alg-RC2wrap\n\
-2a864886f70d0109100305 id-smime-alg-ESDH\n\
-2a864886f70d0109100306 id-smime-alg-CMS3DESwrap\n\
-2a864886f70d0109100307 id-smime-alg-CMSRC2wrap\n\
-2a864886f70d0109100308 zlib compression\n\
-2a864886f70d0109100309 id-alg-PWRI-KEK\n\
-2a864886f70d01091004 id-smime-cd\n\
-2a864886f70d0109100401 id-smime-cd-ldap\n\
-2a864886f70d01091005 id-smime-spq\n\
-2a864886f70d0109100501 id-smime-spq-ets-sqt-uri\n\
-2a864886f70d0109100502 id-smime-spq-ets-sqt-unotice\n\
-2a864886f70d01091006 id-smime-cti\n\
-2a864886f70d0109100601 id-smime-cti-ets-proofOfOrigin\n\
-2a864886f70d0109100602 id-smime-cti-ets-proofOfReceipt\n\
-2a864886f70d0109100603 id-smime-cti-ets-proofOfDelivery\n\
-2a864886f70d0109100604 id-smime-cti-ets-proofOfSender\n\
-2a864886f70d0109100605 id-smime-cti-ets-proofOfApproval\n\
-2a864886f70d0109100606 id-smime-cti-ets-proofOfCreation\n\
+2a864886f70d01090d signingDescription\n\
+2a864886f70d01090e extensionRequest\n\
+2a864886f70d01090f smimeCapabilities\n\
+2a864886f70d010910 smime\n\
+2a864886f70d01091000 smime-mod\n\
+2a864886f70d0109100001 smime-mod-cms\n\
+2a864886f70d0109100002 smime-mod-ess\n\
+2a864886f70d0109100003 smime-mod-oid\n\
+2a864886f70d0109100004 smime-mod-msg-v3\n\
+2a864886f70d0109100005 smime-mod-ets-eSignature-88\n\
+2a864886f70d0109100006 smime-mod-ets-eSignature-97\n\
+2a864886f70d0109100007 smime-mod-ets-eSigPolicy-88\n\
+2a864886f70d0109100008 smime-mod-ets-eSigPolicy-97\n\
+2a864886f70d01091001 smime-ct\n\
+2a864886f70d0109100101 receipt\n\
+2a864886f70d0109100102 authData\n\
+2a864886f70d0109100103 publishCert\n\
+2a864886f70d0109100104 TSTInfo\n\
+2a864886f70d0109100105 TDTInfo\n\
+2a864886f70d0109100106 contentInfo\n\
+2a864886f70d0109100107 DVCSRequestData\n\
+2a864886f70d0109100108 DVCSResponseData\n\
+2a864886f70d0109100109 compressedData\n\
+2a864886f70d0109100113 contentCollection\n\
+2a864886f70d0109100117 authEnvelopedData\n\
+2a864886f70d0109100118 routeOriginAuthz\n\
+2a864886f70d010910011a rpkiManifest\n\
+2a864886f70d010910011b asciiTextWithCRLF\n\
+2a864886f70d010910011c xml\n\
+2a864886f70d0109100123 rpkiGhostbusters\n\
+2a864886f70d0109100124 resourceTaggedAttest\n\
+2a864886f70d010910012f geofeedCSVwithCRLF\n\
+2a864886f70d0109100130 signedChecklist\n\
+2a864886f70d0109100131 ASPA\n\
+2a864886f70d01091002 smime-aa\n\
+2a864886f70d0109100201 receiptRequest\n\
+2a864886f70d0109100202 securityLabel\n\
+2a864886f70d0109100203 mlExpandHistory\n\
+2a864886f70d0109100204 contentHint\n\
+2a864886f70d0109100205 msgSigDigest\n\
+2a864886f70d0109100206 encapContentType\n\
+2a864886f70d0109100207 contentIdentifier\n\
+2a864886f70d0109100208 macValue\n\
+2a864886f70d0109100209 equivalentLabels\n\
+2a864886f70d010910020a contentReference\n\
+2a864886f70d010910020b encrypKeyPref\n\
+2a864886f70d010910020c signingCertificate\n\
+2a864886f70d010910020d smimeEncryptCerts\n\
+2a864886f70d010910020e timeStampToken\n\
+2a864886f70d010910020f sigPolicyId\n\
+2a864886f70d0109100210 commitmentType\n\
+2a864886f70d0109100211 signerLocation\n\
+2a864886f70d0109100212 signerAttr\n\
+2a864886f70d0109100213 otherSigCert\n\
+2a864886f70d0109100214 contentTimestamp\n\
+2a864886f70d0109100215 CertificateRefs\n\
+2a864886f70d0109100216 RevocationRefs\n\
+2a864886f70d0109100217 certValues\n\
+2a864886f70d0109100218 revocationValues\n\
+2a864886f70d0109100219 escTimeStamp\n\
+2a864886f70d010910021a certCRLTimestamp\n\
+2a864886f70d010910021b archiveTimeStamp\n\
+2a864886f70d010910021c signatureType\n\
+2a864886f70d010910021d dvcs-dvc\n\
+2a864886f70d010910022f signingCertificateV2\n\
+2a864886f70d01091003 smime-alg\n\
+2a864886f70d0109100301 ESDHwith3DES\n\
+2a864886f70d0109100302 ESDHwithRC2\n\
+2a864886f70d0109100303 3DESwrap\n\
+2a864886f70d0109100304 RC2wrap\n\
+2a864886f70d0109100305 ESDH\n\
+2a864886f70d0109100306 CMS3DESwrap\n\
+2a864886f70d0109100307 CMSRC2wrap\n\
+2a864886f70d0109100308 zlibCompress\n\
+2a864886f70d0109100309 PWRI-KEK\n\
+2a864886f70d0109100311 hss-lms-hashsig\n\
+2a864886f70d0109100312 AEADChaCha20Poly1305\n\
+2a864886f70d010910031c hkdf-with-sha256\n\
+2a864886f70d010910031d hkdf-with-sha384\n\
+2a864886f70d010910031e hkdf-with-sha512\n\
+2a864886f70d01091004 smime-cd\n\
+2a864886f70d0109100401 ldap\n\
+2a864886f70d01091005 smime-spq\n\
+2a864886f70d0109100501 ets-sqt-uri\n\
+2a864886f70d0109100502 ets-sqt-unotice\n\
+2a864886f70d01091006 smime-cti\n\
+2a864886f70d0109100601 ets-proofOfOrigin\n\
+2a864886f70d0109100602 ets-proofOfReceipt\n\
+2a864886f70d0109100603 ets-proofOfDelivery\n\
+2a864886f70d0109100604 ets-proofOfSender\n\
+2a864886f70d0109100605 ets-proofOfApproval\n\
+2a864886f70d0109100606 ets-proofOfCreation\n\
 2a864886f70d010914 friendlyName\n\
-2a864886f70d010915 localKeyID\n\
+2a864886f70d010915 localKeyId\n\
 2a864886f70d01091601 x509Certificate\n\
 2a864886f70d01091602 sdsiCertificate\n\
 2a864886f70d01091701 x509Crl\n\
+2a864886f70d010918 pkcs-9-oc\n\
+2a864886f70d01091801 pkcsEntity\n\
+2a864886f70d01091802 naturalPerson\n\
+2a864886f70d010919 pkcs-9-at\n\
+2a864886f70d01091901 pkcs15Token\n\
+2a864886f70d01091902 encryptedPrivateKeyInfo\n\
+2a864886f70d01091903 randomNonce\n\
+2a864886f70d01091904 sequenceNumber\n\
+2a864886f70d01091905 pkcs7PDU\n\
+2a864886f70d01091a pkcs-9-sx\n\
+2a864886f70d01091b pkcs-9-mr\n\
+2a864886f70d010934 CMSAlgorithmProtection\n\
 2a864886f70d010c0101 pbeWithSHA1And128BitRC4\n\
 2a864886f70d010c0102 pbeWithSHA1And40BitRC4\n\
 2a864886f70d010c0103 pbeWithSHA1And3-KeyTripleDES-CBC\n\
@@ -432,21 +491,28 @@ pub const NAMES: &str = "\
 2a864886f70d0307 des-ede3-cbc\n\
 2a864886f70d0308 rc5-cbc\n\
 2a864886f70d030a des-cdmf\n\
-2a8648ce38 X9.57\n\
-2a8648ce380201 Hold Instruction None\n\
-2a8648ce380202 Hold Instruction Call Issuer\n\
-2a8648ce380203 Hold Instruction Reject\n\
-2a8648ce3804 X9.57 CM ?\n\
+2a864886f712010202 krb5\n\
+2a864886f71201020201 krb5-name\n\
+2a864886f71201020203 krb5-user-to-user\n\
+2a864886f7140104823f pagedResults\n\
+2a864886f71401048359 sortRequest\n\
+2a864886f7140104835a sortResponse\n\
+2a8648ce38 x9-57\n\
+2a8648ce3802 holdInstruction\n\
+2a8648ce380201 holdinstruction-none\n\
+2a8648ce380202 holdinstruction-callissuer\n\
+2a8648ce380203 holdinstruction-reject\n\
+2a8648ce3804 x9cm\n\
 2a8648ce380401 dsaEncryption\n\
 2a8648ce380403 dsaWithSHA1\n\
-2a8648ce3d ANSI X9.62\n\
+2a8648ce3d ansi-X9-62\n\
 2a8648ce3d0101 prime-field\n\
 2a8648ce3d0102 characteristic-two-field\n\
-2a8648ce3d010203 id-characteristic-two-basis\n\
+2a8648ce3d010203 characteristic-two-basis\n\
 2a8648ce3d01020301 onBasis\n\
 2a8648ce3d01020302 tpBasis\n\
 2a8648ce3d01020303 ppBasis\n\
-2a8648ce3d0201 id-ecPublicKey\n\
+2a8648ce3d0201 ecPublicKey\n\
 2a8648ce3d030001 c2pnb163v1\n\
 2a8648ce3d030002 c2pnb163v2\n\
 2a8648ce3d030003 c2pnb163v3\n\
@@ -481,65 +547,151 @@ pub const NAMES: &str = "\
 2a8648ce3d040302 ecdsa-with-SHA256\n\
 2a8648ce3d040303 ecdsa-with-SHA384\n\
 2a8648ce3d040304 ecdsa-with-SHA512\n\
-2a8648ce3e0201 X9.42 DH\n\
+2a8648ce3e0201 dhpublicnumber\n\
 2b org\n\
 2b06 dod\n\
 2b0601 iana\n\
-2b060101 Directory\n\
-2b060102 Management\n\
-2b060103 Experimental\n\
-2b060104 Private\n\
-2b06010401 Enterprises\n\
+2b060101 directory\n\
+2b06010108 cancel\n\
+2b0601010c assertion\n\
+2b0601010d01 preRead\n\
+2b0601010d02 postRead\n\
+2b060102 mgmt\n\
+2b060103 experimental\n\
+2b060104 private\n\
+2b06010401 enterprises\n\
 2b06010401813c07010102 idea-cbc\n\
-2b06010401823702010e Microsoft Extension Request\n\
-2b060104018237020115 Microsoft Individual Code Signing\n\
-2b060104018237020116 Microsoft Commercial Code Signing\n\
-2b0601040182370a0301 Microsoft Trust List Signing\n\
-2b0601040182370a0303 Microsoft Server Gated Crypto\n\
-2b0601040182370a0304 Microsoft Encrypted File System\n\
-2b0601040182371101 Microsoft CSP Name\n\
-2b0601040182371102 Microsoft Local Key set\n\
-2b060104018237140202 Microsoft Smartcard Login\n\
-2b060104018237140203 Microsoft User Principal Name\n\
+2b060104018237 microsoft\n\
+2b060104018237020104 spcIndirectData\n\
+2b06010401823702010a spcSpAgencyInfo\n\
+2b06010401823702010b spcStatementType\n\
+2b06010401823702010c spcSpOpusInfo\n\
+2b06010401823702010e certExtensions\n\
+2b06010401823702010f spcPeImageData\n\
+2b060104018237020115 individualCodeSigning\n\
+2b060104018237020116 commercialCodeSigning\n\
+2b06010401823702020a ntlmssp\n\
+2b060104018237020401 nestedSignature\n\
+2b060104018237030301 rfc3161CounterSign\n\
+2b0601040182370a01 ctl\n\
+2b0601040182370a0301 kpCtlUsageSigning\n\
+2b0601040182370a0302 kpTimeStampSigning\n\
+2b0601040182370a0303 serverGatedCrypto\n\
+2b0601040182370a0304 kpEfs\n\
+2b0601040182370a030401 efsRecovery\n\
+2b0601040182370a0305 whqlCrypto\n\
+2b0601040182370a0306 nt5Crypto\n\
+2b0601040182370a0309 rootListSigner\n\
+2b0601040182370a030a kpQualifiedSubordination\n\
+2b0601040182370a030b kpKeyRecovery\n\
+2b0601040182370a030c kpDocumentSigning\n\
+2b0601040182370a030d kpLifetimeSigning\n\
+2b0601040182370a0c01 anyApplicationPolicy\n\
+2b0601040182370d01 renewalCertificate\n\
+2b0601040182370d0201 enrollmentNameValuePair\n\
+2b0601040182370d0202 enrollmentCspProvider\n\
+2b0601040182370d0203 osVersion\n\
+2b0601040182371101 keyProviderName\n\
+2b0601040182371102 localMachineKeyset\n\
+2b0601040182371402 enrollCerttypeExtension\n\
+2b060104018237140201 enrollmentAgent\n\
+2b060104018237140202 kpSmartcardLogon\n\
+2b060104018237140203 ntPrincipalName\n\
+2b0601040182371501 certsrvCaVersion\n\
+2b0601040182371502 certsrvPreviousCertHash\n\
+2b0601040182371503 crlVirtualBase\n\
+2b0601040182371504 crlNextPublish\n\
+2b0601040182371505 kpCaExchange\n\
+2b0601040182371506 kpKeyRecoveryAgent\n\
+2b0601040182371507 certificateTemplate\n\
+2b060104018237150a applicationCertPolicies\n\
+2b060104018237150b applicationPolicyMappings\n\
+2b060104018237150c applicationPolicyConstraints\n\
+2b060104018237150d archivedKeyAttr\n\
+2b060104018237150e crlSelfCdp\n\
+2b060104018237150f requireCertChainPolicy\n\
+2b0601040182371510 archivedKeyCertHash\n\
+2b0601040182371511 issuedCertHash\n\
+2b0601040182371513 dsEmailReplication\n\
+2b0601040182371514 requestClientInfo\n\
+2b0601040182371515 encryptedKeyHash\n\
+2b0601040182371516 certsrvCrossCaVersion\n\
+2b0601040182371901 ntdsReplication\n\
+2b0601040182371902 ntdsCaSecurityExt\n\
+2b060104018237190201 ntdsObjectSid\n\
 2b0601040182373c020101 jurisdictionLocalityName\n\
 2b0601040182373c020102 jurisdictionStateOrProvinceName\n\
 2b0601040182373c020103 jurisdictionCountryName\n\
+2b0601040182df13 isrg\n\
+2b0601040182df13010101 isrgDomainValidated\n\
+2b060104018b3a657805 namingContexts\n\
+2b060104018b3a657806 altServer\n\
+2b060104018b3a657807 supportedExtension\n\
+2b060104018b3a65780d supportedControl\n\
+2b060104018b3a65780e supportedSASLMechanisms\n\
+2b060104018b3a65780f supportedLDAPVersion\n\
+2b060104018b3a657810 ldapSyntaxes\n\
+2b060104018b3a65786f extensibleObject\n\
+2b060104018b3a819c44 noticeOfDisconnection\n\
+2b060104018b3a819c45 startTLS\n\
 2b060104018b3a8258 dcObject\n\
 2b060104018d3a0c0201 blake2bmac\n\
 2b060104018d3a0c020110 blake2b512\n\
 2b060104018d3a0c0202 blake2smac\n\
 2b060104018d3a0c020208 blake2s256\n\
 2b0601040197550102 bf-cbc\n\
-2b06010401d679020402 CT Precertificate SCTs\n\
-2b06010401d679020403 CT Precertificate Poison\n\
-2b06010401d679020404 CT Precertificate Signer\n\
-2b06010401d679020405 CT Certificate SCTs\n\
+2b06010401a06b010305 supportedFeatures\n\
+2b06010401a06b01090101 syncRequest\n\
+2b06010401a06b01090102 syncState\n\
+2b06010401a06b01090103 syncDone\n\
+2b06010401a06b01090104 syncInfo\n\
+2b06010401a06b010a01 subentries\n\
+2b06010401a06b010b01 passwdModify\n\
+2b06010401a06b010b03 whoAmI\n\
+2b06010401d679 google\n\
+2b06010401d679020111 androidKeyDescription\n\
+2b06010401d679020402 signedCertificateTimestampList\n\
+2b06010401d679020403 precertificatePoison\n\
+2b06010401d679020404 precertificateSigning\n\
+2b06010401d679020405 ocspSignedCertificateTimestampList\n\
+2b06010401d679020503 googleTrustServices\n\
 2b06010401da47040b scrypt\n\
-2b060105 Security\n\
-2b0601050203 id-pkinit\n\
-2b060105020304 PKINIT Client Auth\n\
-2b060105020305 Signing KDC Response\n\
-2b0601050507 PKIX\n\
-2b060105050700 id-pkix-mod\n\
-2b06010505070001 id-pkix1-explicit-88\n\
-2b06010505070002 id-pkix1-implicit-88\n\
-2b06010505070003 id-pkix1-explicit-93\n\
-2b06010505070004 id-pkix1-implicit-93\n\
-2b06010505070005 id-mod-crmf\n\
-2b06010505070006 id-mod-cmc\n\
-2b06010505070007 id-mod-kea-profile-88\n\
-2b06010505070008 id-mod-kea-profile-93\n\
-2b06010505070009 id-mod-cmp\n\
-2b0601050507000a id-mod-qualified-cert-88\n\
-2b0601050507000b id-mod-qualified-cert-93\n\
-2b0601050507000c id-mod-attribute-cert\n\
-2b0601050507000d id-mod-timestamp-protocol\n\
-2b0601050507000e id-mod-ocsp\n\
-2b0601050507000f id-mod-dvcs\n\
-2b06010505070010 id-mod-cmp2000\n\
-2b060105050701 id-pe\n\
-2b06010505070101 Authority Information Access\n\
-2b06010505070102 Biometric Info\n\
+2b060105 security\n\
+2b06010502 krb5\n\
+2b0601050202 pkinit-san\n\
+2b0601050203 pkinit\n\
+2b060105020301 pkinit-authData\n\
+2b060105020302 pkinit-DHKeyData\n\
+2b060105020303 pkinit-rkeyData\n\
+2b060105020304 pkinit-KPClientAuth\n\
+2b060105020305 pkinit-KPKdc\n\
+2b060105020306 pkinit-kdf\n\
+2b06010502030601 pkinit-kdf-ah-sha1\n\
+2b06010502030602 pkinit-kdf-ah-sha256\n\
+2b06010502030603 pkinit-kdf-ah-sha512\n\
+2b06010502030604 pkinit-kdf-ah-sha384\n\
+2b0601050502 snego\n\
+2b0601050507 pkix\n\
+2b060105050700 pkix-mod\n\
+2b06010505070001 pkix1-explicit-88\n\
+2b06010505070002 pkix1-implicit-88\n\
+2b06010505070003 pkix1-explicit-93\n\
+2b06010505070004 pkix1-implicit-93\n\
+2b06010505070005 mod-crmf\n\
+2b06010505070006 mod-cmc\n\
+2b06010505070007 mod-kea-profile-88\n\
+2b06010505070008 mod-kea-profile-93\n\
+2b06010505070009 mod-cmp\n\
+2b0601050507000a mod-qualified-cert-88\n\
+2b0601050507000b mod-qualified-cert-93\n\
+2b0601050507000c mod-attribute-cert\n\
+2b0601050507000d mod-timestamp-protocol\n\
+2b0601050507000e mod-ocsp\n\
+2b0601050507000f mod-dvcs\n\
+2b06010505070010 mod-cmp2000\n\
+2b060105050701 pe\n\
+2b06010505070101 authorityInfoAccess\n\
+2b06010505070102 biometricInfo\n\
 2b06010505070103 qcStatements\n\
 2b06010505070104 ac-auditEntity\n\
 2b06010505070105 ac-targeting\n\
@@ -548,159 +700,196 @@ pub const NAMES: &str = "\
 2b06010505070108 sbgp-autonomousSysNum\n\
 2b06010505070109 sbgp-routerIdentifier\n\
 2b0601050507010a ac-proxying\n\
-2b0601050507010b Subject Information Access\n\
-2b0601050507010e Proxy Certificate Information\n\
-2b06010505070118 TLS Feature\n\
-2b0601050507011c sbgp-ipAddrBlockv2\n\
-2b0601050507011d sbgp-autonomousSysNumv2\n\
-2b060105050702 id-qt\n\
-2b06010505070201 Policy Qualifier CPS\n\
-2b06010505070202 Policy Qualifier User Notice\n\
+2b0601050507010b subjectInfoAccess\n\
+2b0601050507010c logotype\n\
+2b0601050507010d wlanSSID\n\
+2b0601050507010e proxyCertInfo\n\
+2b0601050507010f acPolicies\n\
+2b06010505070115 clearanceConstraints\n\
+2b06010505070118 tlsfeature\n\
+2b06010505070119 mud-url\n\
+2b0601050507011a TNAuthList\n\
+2b0601050507011b JWTClaimConstraints\n\
+2b0601050507011c ipAddrBlocks-v2\n\
+2b0601050507011d autonomousSysIds-v2\n\
+2b0601050507011e mudsigner\n\
+2b0601050507011f acmeIdentifier\n\
+2b060105050702 qt\n\
+2b06010505070201 qt-cps\n\
+2b06010505070202 qt-unotice\n\
 2b06010505070203 textNotice\n\
-2b060105050703 id-kp\n\
-2b06010505070301 TLS Web Server Authentication\n\
-2b06010505070302 TLS Web Client Authentication\n\
-2b06010505070303 Code Signing\n\
-2b06010505070304 E-mail Protection\n\
-2b06010505070305 IPSec End System\n\
-2b06010505070306 IPSec Tunnel\n\
-2b06010505070307 IPSec User\n\
-2b06010505070308 Time Stamping\n\
-2b06010505070309 OCSP Signing\n\
+2b060105050703 kp\n\
+2b06010505070301 serverAuth\n\
+2b06010505070302 clientAuth\n\
+2b06010505070303 codeSigning\n\
+2b06010505070304 emailProtection\n\
+2b06010505070305 ipsecEndSystem\n\
+2b06010505070306 ipsecTunnel\n\
+2b06010505070307 ipsecUser\n\
+2b06010505070308 timeStamping\n\
+2b06010505070309 OCSPSigning\n\
 2b0601050507030a dvcs\n\
-2b06010505070311 ipsec Internet Key Exchange\n\
-2b06010505070312 Ctrl/provision WAP Access\n\
-2b06010505070313 Ctrl/Provision WAP Termination\n\
-2b06010505070315 SSH Client\n\
-2b06010505070316 SSH Server\n\
-2b06010505070317 Send Router\n\
-2b06010505070318 Send Proxied Router\n\
-2b06010505070319 Send Owner\n\
-2b0601050507031a Send Proxied Owner\n\
-2b0601050507031b CMC Certificate Authority\n\
-2b0601050507031c CMC Registration Authority\n\
-2b0601050507031d CMC Archive Server\n\
-2b0601050507031e BGPsec Router\n\
-2b0601050507031f Brand Indicator for Message Identification\n\
-2b06010505070320 Certificate Management Key Generation Authority\n\
-2b060105050704 id-it\n\
-2b06010505070401 id-it-caProtEncCert\n\
-2b06010505070402 id-it-signKeyPairTypes\n\
-2b06010505070403 id-it-encKeyPairTypes\n\
-2b06010505070404 id-it-preferredSymmAlg\n\
-2b06010505070405 id-it-caKeyUpdateInfo\n\
-2b06010505070406 id-it-currentCRL\n\
-2b06010505070407 id-it-unsupportedOIDs\n\
-2b06010505070408 id-it-subscriptionRequest\n\
-2b06010505070409 id-it-subscriptionResponse\n\
-2b0601050507040a id-it-keyPairParamReq\n\
-2b0601050507040b id-it-keyPairParamRep\n\
-2b0601050507040c id-it-revPassphrase\n\
-2b0601050507040d id-it-implicitConfirm\n\
-2b0601050507040e id-it-confirmWaitTime\n\
-2b0601050507040f id-it-origPKIMessage\n\
-2b06010505070410 id-it-suppLangTags\n\
-2b06010505070411 id-it-caCerts\n\
-2b06010505070412 id-it-rootCaKeyUpdate\n\
-2b06010505070413 id-it-certReqTemplate\n\
-2b060105050705 id-pkip\n\
-2b06010505070501 id-regCtrl\n\
-2b0601050507050101 id-regCtrl-regToken\n\
-2b0601050507050102 id-regCtrl-authenticator\n\
-2b0601050507050103 id-regCtrl-pkiPublicationInfo\n\
-2b0601050507050104 id-regCtrl-pkiArchiveOptions\n\
-2b0601050507050105 id-regCtrl-oldCertID\n\
-2b0601050507050106 id-regCtrl-protocolEncrKey\n\
-2b06010505070502 id-regInfo\n\
-2b0601050507050201 id-regInfo-utf8Pairs\n\
-2b0601050507050202 id-regInfo-certReq\n\
-2b060105050706 id-alg\n\
-2b06010505070601 id-alg-des40\n\
-2b06010505070602 id-alg-noSignature\n\
-2b06010505070603 id-alg-dh-sig-hmac-sha1\n\
-2b06010505070604 id-alg-dh-pop\n\
-2b060105050707 id-cmc\n\
-2b06010505070701 id-cmc-statusInfo\n\
-2b06010505070702 id-cmc-identification\n\
-2b06010505070703 id-cmc-identityProof\n\
-2b06010505070704 id-cmc-dataReturn\n\
-2b06010505070705 id-cmc-transactionId\n\
-2b06010505070706 id-cmc-senderNonce\n\
-2b06010505070707 id-cmc-recipientNonce\n\
-2b06010505070708 id-cmc-addExtensions\n\
-2b06010505070709 id-cmc-encryptedPOP\n\
-2b0601050507070a id-cmc-decryptedPOP\n\
-2b0601050507070b id-cmc-lraPOPWitness\n\
-2b0601050507070f id-cmc-getCert\n\
-2b06010505070710 id-cmc-getCRL\n\
-2b06010505070711 id-cmc-revokeRequest\n\
-2b06010505070712 id-cmc-regInfo\n\
-2b06010505070713 id-cmc-responseInfo\n\
-2b06010505070715 id-cmc-queryPending\n\
-2b06010505070716 id-cmc-popLinkRandom\n\
-2b06010505070717 id-cmc-popLinkWitness\n\
-2b06010505070718 id-cmc-confirmCertAcceptance\n\
-2b060105050708 id-on\n\
-2b06010505070801 id-on-personalData\n\
-2b06010505070803 Permanent Identifier\n\
-2b06010505070805 XmppAddr\n\
-2b06010505070807 SRVName\n\
-2b06010505070808 NAIRealm\n\
-2b06010505070809 Smtp UTF8 Mailbox\n\
-2b060105050709 id-pda\n\
-2b06010505070901 id-pda-dateOfBirth\n\
-2b06010505070902 id-pda-placeOfBirth\n\
-2b06010505070903 id-pda-gender\n\
-2b06010505070904 id-pda-countryOfCitizenship\n\
-2b06010505070905 id-pda-countryOfResidence\n\
-2b06010505070a id-aca\n\
-2b06010505070a01 id-aca-authenticationInfo\n\
-2b06010505070a02 id-aca-accessIdentity\n\
-2b06010505070a03 id-aca-chargingIdentity\n\
-2b06010505070a04 id-aca-group\n\
-2b06010505070a05 id-aca-role\n\
-2b06010505070a06 id-aca-encAttrs\n\
-2b06010505070b id-qcs\n\
-2b06010505070b01 id-qcs-pkixQCSyntax-v1\n\
-2b06010505070c id-cct\n\
-2b06010505070c01 id-cct-crs\n\
-2b06010505070c02 id-cct-PKIData\n\
-2b06010505070c03 id-cct-PKIResponse\n\
-2b06010505070e id-cp\n\
+2b0601050507030d eapOverPPP\n\
+2b0601050507030e eapOverLAN\n\
+2b0601050507030f scvpServer\n\
+2b06010505070310 scvpClient\n\
+2b06010505070311 ipsecIKE\n\
+2b06010505070312 capwapAC\n\
+2b06010505070313 capwapWTP\n\
+2b06010505070314 sipDomain\n\
+2b06010505070315 secureShellClient\n\
+2b06010505070316 secureShellServer\n\
+2b06010505070317 sendRouter\n\
+2b06010505070318 sendProxiedRouter\n\
+2b06010505070319 sendOwner\n\
+2b0601050507031a sendProxiedOwner\n\
+2b0601050507031b cmcCA\n\
+2b0601050507031c cmcRA\n\
+2b0601050507031d cmcArchive\n\
+2b0601050507031e bgpsec-router\n\
+2b0601050507031f BrandIndicatorforMessageIdentification\n\
+2b06010505070320 cmKGA\n\
+2b06010505070321 rpcTLSClient\n\
+2b06010505070322 rpcTLSServer\n\
+2b06010505070323 bundleSecurity\n\
+2b06010505070324 documentSigning\n\
+2b06010505070325 jwt\n\
+2b06010505070326 httpContentEncrypt\n\
+2b06010505070327 oauthAccessTokenSigning\n\
+2b06010505070328 imUri\n\
+2b060105050704 it\n\
+2b06010505070401 caProtEncCert\n\
+2b06010505070402 signKeyPairTypes\n\
+2b06010505070403 encKeyPairTypes\n\
+2b06010505070404 preferredSymmAlg\n\
+2b06010505070405 caKeyUpdateInfo\n\
+2b06010505070406 currentCRL\n\
+2b06010505070407 unsupportedOIDs\n\
+2b06010505070408 subscriptionRequest\n\
+2b06010505070409 subscriptionResponse\n\
+2b0601050507040a keyPairParamReq\n\
+2b0601050507040b keyPairParamRep\n\
+2b0601050507040c revPassphrase\n\
+2b0601050507040d implicitConfirm\n\
+2b0601050507040e confirmWaitTime\n\
+2b0601050507040f origPKIMessage\n\
+2b06010505070410 suppLangTags\n\
+2b06010505070411 caCerts\n\
+2b06010505070412 rootCaKeyUpdate\n\
+2b06010505070413 certReqTemplate\n\
+2b060105050705 pkip\n\
+2b06010505070501 regCtrl\n\
+2b0601050507050101 regToken\n\
+2b0601050507050102 authenticator\n\
+2b0601050507050103 pkiPublicationInfo\n\
+2b0601050507050104 pkiArchiveOptions\n\
+2b0601050507050105 oldCertID\n\
+2b0601050507050106 protocolEncrKey\n\
+2b06010505070502 regInfo\n\
+2b0601050507050201 utf8Pairs\n\
+2b0601050507050202 certReq\n\
+2b060105050706 alg\n\
+2b06010505070601 des40\n\
+2b06010505070602 noSignature\n\
+2b06010505070603 dh-sig-hmac-sha1\n\
+2b06010505070604 dh-pop\n\
+2b0601050507061e RSASSA-PSS-SHAKE128\n\
+2b0601050507061f RSASSA-PSS-SHAKE256\n\
+2b06010505070620 ecdsa-with-shake128\n\
+2b06010505070621 ecdsa-with-shake256\n\
+2b06010505070622 xmss-hashsig\n\
+2b06010505070623 xmssmt-hashsig\n\
+2b060105050707 cmc\n\
+2b06010505070701 statusInfo\n\
+2b06010505070702 identification\n\
+2b06010505070703 identityProof\n\
+2b06010505070704 dataReturn\n\
+2b06010505070705 transactionId\n\
+2b06010505070706 senderNonce\n\
+2b06010505070707 recipientNonce\n\
+2b06010505070708 addExtensions\n\
+2b06010505070709 encryptedPOP\n\
+2b0601050507070a decryptedPOP\n\
+2b0601050507070b lraPOPWitness\n\
+2b0601050507070f getCert\n\
+2b06010505070710 getCRL\n\
+2b06010505070711 revokeRequest\n\
+2b06010505070712 regInfo\n\
+2b06010505070713 responseInfo\n\
+2b06010505070715 queryPending\n\
+2b06010505070716 popLinkRandom\n\
+2b06010505070717 popLinkWitness\n\
+2b06010505070718 confirmCertAcceptance\n\
+2b060105050708 on\n\
+2b06010505070801 personalData\n\
+2b06010505070803 permanentIdentifier\n\
+2b06010505070804 hardwareModuleName\n\
+2b06010505070805 xmppAddr\n\
+2b06010505070807 dnsSRV\n\
+2b06010505070808 naiRealm\n\
+2b06010505070809 SmtpUTF8Mailbox\n\
+2b0601050507080a AcpNodeName\n\
+2b0601050507080b bundleEID\n\
+2b060105050709 pda\n\
+2b06010505070901 dateOfBirth\n\
+2b06010505070902 placeOfBirth\n\
+2b06010505070903 gender\n\
+2b06010505070904 countryOfCitizenship\n\
+2b06010505070905 countryOfResidence\n\
+2b06010505070a aca\n\
+2b06010505070a01 authenticationInfo\n\
+2b06010505070a02 accessIdentity\n\
+2b06010505070a03 chargingIdentity\n\
+2b06010505070a04 group\n\
+2b06010505070a05 role\n\
+2b06010505070a06 encAttrs\n\
+2b06010505070b qcs\n\
+2b06010505070b01 pkixQCSyntax-v1\n\
+2b06010505070b02 pkixQCSyntax-v2\n\
+2b06010505070c cct\n\
+2b06010505070c01 crs\n\
+2b06010505070c02 PKIData\n\
+2b06010505070c03 PKIResponse\n\
+2b06010505070e cp\n\
 2b06010505070e02 ipAddr-asNumber\n\
 2b06010505070e03 ipAddr-asNumberv2\n\
-2b060105050715 id-ppl\n\
-2b06010505071500 Any language\n\
-2b06010505071501 Inherit all\n\
-2b06010505071502 Independent\n\
-2b060105050730 id-ad\n\
-2b06010505073001 OCSP\n\
-2b0601050507300101 Basic OCSP Response\n\
-2b0601050507300102 OCSP Nonce\n\
-2b0601050507300103 OCSP CRL ID\n\
-2b0601050507300104 Acceptable OCSP Responses\n\
-2b0601050507300105 OCSP No Check\n\
-2b0601050507300106 OCSP Archive Cutoff\n\
-2b0601050507300107 OCSP Service Locator\n\
-2b0601050507300108 Extended OCSP Status\n\
-2b0601050507300109 valid\n\
+2b060105050715 ppl\n\
+2b06010505071500 anyLanguage\n\
+2b06010505071501 inheritAll\n\
+2b06010505071502 independent\n\
+2b060105050730 ad\n\
+2b06010505073001 ocsp\n\
+2b0601050507300101 ocsp-basic\n\
+2b0601050507300102 ocsp-nonce\n\
+2b0601050507300103 ocsp-crl\n\
+2b0601050507300104 ocsp-response\n\
+2b0601050507300105 ocsp-nocheck\n\
+2b0601050507300106 ocsp-archive-cutoff\n\
+2b0601050507300107 ocsp-service-locator\n\
+2b0601050507300108 ocsp-pref-sig-algs\n\
+2b0601050507300109 ocsp-extended-revoke\n\
 2b060105050730010a path\n\
-2b060105050730010b Trust Root\n\
-2b06010505073002 CA Issuers\n\
-2b06010505073003 AD Time Stamping\n\
-2b06010505073004 ad dvcs\n\
-2b06010505073005 CA Repository\n\
-2b0601050507300a RPKI Manifest\n\
-2b0601050507300b Signed Object\n\
-2b0601050507300d RPKI Notify\n\
+2b060105050730010b trustRoot\n\
+2b06010505073002 caIssuers\n\
+2b06010505073003 timeStamping\n\
+2b06010505073004 dvcs\n\
+2b06010505073005 caRepository\n\
+2b0601050507300a rpkiManifest\n\
+2b0601050507300b signedObject\n\
+2b0601050507300c cmc\n\
+2b0601050507300d rpkiNotify\n\
+2b0601050507300e stirTNList\n\
 2b06010505080101 hmac-md5\n\
 2b06010505080102 hmac-sha1\n\
-2b060106 SNMPv2\n\
+2b0601050602 gss-host-based-services\n\
+2b0601050603 gss-anonymous-name\n\
+2b0601050604 gss-api-exported-name\n\
+2b060106 snmpv2\n\
 2b060107 Mail\n\
-2b06010701 MIME MHS\n\
+2b06010701 mime-mhs\n\
 2b0601070101 mime-mhs-headings\n\
-2b060107010101 id-hex-partial-message\n\
-2b060107010102 id-hex-multipart-message\n\
+2b060107010101 hex-partial-message\n\
+2b060107010102 hex-multipart-message\n\
 2b0601070102 mime-mhs-bodies\n\
 2b0e0302 algorithm\n\
 2b0e030203 md5WithRSA\n\
@@ -733,14 +922,14 @@ pub const NAMES: &str = "\
 2b240303020801010c brainpoolP384t1\n\
 2b240303020801010d brainpoolP512r1\n\
 2b240303020801010e brainpoolP512t1\n\
-2b24080303 Professional Information or basis for Admission\n\
-2b65010401 Strong Extranet ID\n\
+2b24080303 x509ExtAdmission\n\
+2b65010401 SXNetID\n\
 2b656e X25519\n\
 2b656f X448\n\
-2b6570 ED25519\n\
-2b6571 ED448\n\
+2b6570 Ed25519\n\
+2b6571 Ed448\n\
 2b6f ieee\n\
-2b6f028c53 IEEE Security in Storage Working Group\n\
+2b6f028c53 ieee-siswg\n\
 2b6f028c53000101 aes-128-xts\n\
 2b6f028c53000102 aes-256-xts\n\
 2b8104 certicom-arc\n\
@@ -785,10 +974,13 @@ pub const NAMES: &str = "\
 2b8104010e03 dhSinglePass-cofactorDH-sha512kdf-scheme\n\
 2b81051086483f0002 dhSinglePass-stdDH-sha1kdf-scheme\n\
 2b81051086483f0003 dhSinglePass-cofactorDH-sha1kdf-scheme\n\
-55 directory services (X.500)\n\
-550105 Selected Attribute Types\n\
+55 ds\n\
+550105 selected-attribute-types\n\
 55010537 clearance\n\
-5504 X509\n\
+5504 at\n\
+550400 objectClass\n\
+550401 aliasedEntryName\n\
+550402 knowledgeInformation\n\
 550403 commonName\n\
 550404 surname\n\
 550405 serialNumber\n\
@@ -842,67 +1034,155 @@ pub const NAMES: &str = "\
 550435 deltaRevocationList\n\
 550436 dmdName\n\
 550441 pseudonym\n\
+550442 communicationsService\n\
+550443 communicationsNetwork\n\
+550444 certificationPractice\n\
+550445 certificatePolicy\n\
+550446 pKIPath\n\
+550447 privPolicy\n\
 550448 role\n\
+550449 delegationPath\n\
+55044a protPrivPolicy\n\
+55044b xMLPrivilegeInfo\n\
+55044c xMLPrivPolicy\n\
+55044e tagOid\n\
+55044f uiiFormat\n\
+550450 uiiInUrh\n\
+550451 contentUrl\n\
+550452 permission\n\
+550453 uri\n\
+550454 pwdAttribute\n\
+550455 userPwd\n\
+550456 urn\n\
+550457 url\n\
 550461 organizationIdentifier\n\
 550462 countryCode3c\n\
 550463 countryCode3n\n\
 550464 dnsName\n\
-5508 directory services - algorithms\n\
+5506 oc\n\
+550600 top\n\
+550601 alias\n\
+550602 country\n\
+550603 locality\n\
+550604 organization\n\
+550605 organizationalUnit\n\
+550606 person\n\
+550607 organizationalPerson\n\
+550608 organizationalRole\n\
+550609 groupOfNames\n\
+55060a residentialPerson\n\
+55060b applicationProcess\n\
+55060c applicationEntity\n\
+55060d dSA\n\
+55060e device\n\
+55060f strongAuthenticationUser\n\
+550610 certificationAuthority\n\
+550611 groupOfUniqueNames\n\
+550612 userSecurityInformation\n\
+550613 cRLDistributionPoint\n\
+550614 dmd\n\
+550615 pkiUser\n\
+550616 pkiCA\n\
+550617 deltaCRL\n\
+5508 X500algorithms\n\
 55080101 rsa\n\
 55080364 mdc2WithRSA\n\
 55080365 mdc2\n\
-551d id-ce\n\
-551d09 X509v3 Subject Directory Attributes\n\
-551d0e X509v3 Subject Key Identifier\n\
-551d0f X509v3 Key Usage\n\
-551d10 X509v3 Private Key Usage Period\n\
-551d11 X509v3 Subject Alternative Name\n\
-551d12 X509v3 Issuer Alternative Name\n\
-551d13 X509v3 Basic Constraints\n\
-551d14 X509v3 CRL Number\n\
-551d15 X509v3 CRL Reason Code\n\
-551d17 Hold Instruction Code\n\
-551d18 Invalidity Date\n\
-551d1b X509v3 Delta CRL Indicator\n\
-551d1c X509v3 Issuing Distribution Point\n\
-551d1d X509v3 Certificate Issuer\n\
-551d1e X509v3 Name Constraints\n\
-551d1f X509v3 CRL Distribution Points\n\
-551d20 X509v3 Certificate Policies\n\
-551d2000 X509v3 Any Policy\n\
-551d21 X509v3 Policy Mappings\n\
-551d23 X509v3 Authority Key Identifier\n\
-551d24 X509v3 Policy Constraints\n\
-551d25 X509v3 Extended Key Usage\n\
-551d2500 Any Extended Key Usage\n\
-551d2e X509v3 Freshest CRL\n\
-551d36 X509v3 Inhibit Any Policy\n\
-551d37 X509v3 AC Targeting\n\
-551d38 X509v3 No Revocation Available\n\
+550d00 objectIdentifierMatch\n\
+550d01 distinguishedNameMatch\n\
+550d02 caseIgnoreMatch\n\
+550d03 caseIgnoreOrderingMatch\n\
+550d04 caseIgnoreSubstringsMatch\n\
+550d05 caseExactMatch\n\
+550d06 caseExactOrderingMatch\n\
+550d07 caseExactSubstringsMatch\n\
+550d08 numericStringMatch\n\
+550d09 numericStringOrderingMatch\n\
+550d0a numericStringSubstringsMatch\n\
+550d0b caseIgnoreListMatch\n\
+550d0c caseIgnoreListSubstringsMatch\n\
+550d0d booleanMatch\n\
+550d0e integerMatch\n\
+550d0f integerOrderingMatch\n\
+550d10 bitStringMatch\n\
+550d11 octetStringMatch\n\
+550d12 octetStringOrderingMatch\n\
+550d14 telephoneNumberMatch\n\
+550d15 telephoneNumberSubstringsMatch\n\
+550d17 uniqueMemberMatch\n\
+550d1b generalizedTimeMatch\n\
+550d1c generalizedTimeOrderingMatch\n\
+550d1d integerFirstComponentMatch\n\
+550d1e objectIdentifierFirstComponentMatch\n\
+550d1f directoryStringFirstComponentMatch\n\
+550d20 wordMatch\n\
+550d21 keywordMatch\n\
+551201 createTimestamp\n\
+551202 modifyTimestamp\n\
+551203 creatorsName\n\
+551204 modifiersName\n\
+55120a subschemaSubentry\n\
+551501 dITStructureRules\n\
+551502 dITContentRules\n\
+551504 matchingRules\n\
+551505 attributeTypes\n\
+551506 objectClasses\n\
+551507 nameForms\n\
+551508 matchingRuleUse\n\
+551509 structuralObjectClass\n\
+55150a governingStructureRule\n\
+551d ce\n\
+551d09 subjectDirectoryAttributes\n\
+551d0e subjectKeyIdentifier\n\
+551d0f keyUsage\n\
+551d10 privateKeyUsagePeriod\n\
+551d11 subjectAltName\n\
+551d12 issuerAltName\n\
+551d13 basicConstraints\n\
+551d14 cRLNumber\n\
+551d15 cRLReasons\n\
+551d17 holdInstructionCode\n\
+551d18 invalidityDate\n\
+551d1b deltaCRLIndicator\n\
+551d1c issuingDistributionPoint\n\
+551d1d certificateIssuer\n\
+551d1e nameConstraints\n\
+551d1f cRLDistributionPoints\n\
+551d20 certificatePolicies\n\
+551d2000 anyPolicy\n\
+551d21 policyMappings\n\
+551d23 authorityKeyIdentifier\n\
+551d24 policyConstraints\n\
+551d25 extKeyUsage\n\
+551d2500 anyExtendedKeyUsage\n\
+551d2e freshestCRL\n\
+551d36 inhibitAnyPolicy\n\
+551d37 targetInformation\n\
+551d38 noRevAvail\n\
 608648016503040101 aes-128-ecb\n\
 608648016503040102 aes-128-cbc\n\
 608648016503040103 aes-128-ofb\n\
 608648016503040104 aes-128-cfb\n\
-608648016503040105 id-aes128-wrap\n\
+608648016503040105 aes128-wrap\n\
 608648016503040106 aes-128-gcm\n\
 608648016503040107 aes-128-ccm\n\
-608648016503040108 id-aes128-wrap-pad\n\
+608648016503040108 aes128-wrap-pad\n\
 608648016503040115 aes-192-ecb\n\
 608648016503040116 aes-192-cbc\n\
 608648016503040117 aes-192-ofb\n\
 608648016503040118 aes-192-cfb\n\
-608648016503040119 id-aes192-wrap\n\
+608648016503040119 aes192-wrap\n\
 60864801650304011a aes-192-gcm\n\
 60864801650304011b aes-192-ccm\n\
-60864801650304011c id-aes192-wrap-pad\n\
+60864801650304011c aes192-wrap-pad\n\
 608648016503040129 aes-256-ecb\n\
 60864801650304012a aes-256-cbc\n\
 60864801650304012b aes-256-ofb\n\
 60864801650304012c aes-256-cfb\n\
-60864801650304012d id-aes256-wrap\n\
+60864801650304012d aes256-wrap\n\
 60864801650304012e aes-256-gcm\n\
 60864801650304012f aes-256-ccm\n\
-608648016503040130 id-aes256-wrap-pad\n\
+608648016503040130 aes256-wrap-pad\n\
 608648016503040201 sha256\n\
 608648016503040202 sha384\n\
 608648016503040203 sha512\n\
@@ -919,40 +1199,85 @@ pub const NAMES: &str = "\
 60864801650304020e hmac-sha3-256\n\
 60864801650304020f hmac-sha3-384\n\
 608648016503040210 hmac-sha3-512\n\
-608648016503040213 kmac128\n\
-608648016503040214 kmac256\n\
-608648016503040301 dsa_with_SHA224\n\
-608648016503040302 dsa_with_SHA256\n\
-608648016503040303 dsa_with_SHA384\n\
-608648016503040304 dsa_with_SHA512\n\
-608648016503040305 dsa_with_SHA3-224\n\
-608648016503040306 dsa_with_SHA3-256\n\
-608648016503040307 dsa_with_SHA3-384\n\
-608648016503040308 dsa_with_SHA3-512\n\
-608648016503040309 ecdsa_with_SHA3-224\n\
-60864801650304030a ecdsa_with_SHA3-256\n\
-60864801650304030b ecdsa_with_SHA3-384\n\
-60864801650304030c ecdsa_with_SHA3-512\n\
-60864801650304030d RSA-SHA3-224\n\
-60864801650304030e RSA-SHA3-256\n\
-60864801650304030f RSA-SHA3-384\n\
-608648016503040310 RSA-SHA3-512\n\
-6086480186f842 Netscape Communications Corp.\n\
-6086480186f84201 Netscape Certificate Extension\n\
-6086480186f8420101 Netscape Cert Type\n\
-6086480186f8420102 Netscape Base Url\n\
-6086480186f8420103 Netscape Revocation Url\n\
-6086480186f8420104 Netscape CA Revocation Url\n\
-6086480186f8420107 Netscape Renewal Url\n\
-6086480186f8420108 Netscape CA Policy Url\n\
-6086480186f842010c Netscape SSL Server Name\n\
-6086480186f842010d Netscape Comment\n\
-6086480186f84202 Netscape Data Type\n\
-6086480186f8420205 Netscape Certificate Sequence\n\
-6086480186f8420401 Netscape Server Gated Crypto\n\
-67 International Organizations\n\
-672a Secure Electronic Transactions\n\
-672a00 content types\n\
+608648016503040213 KMACWithSHAKE128\n\
+608648016503040214 KMACWithSHAKE256\n\
+608648016503040301 dsa-with-sha224\n\
+608648016503040302 dsa-with-sha256\n\
+608648016503040303 dsa-with-sha384\n\
+608648016503040304 dsa-with-sha512\n\
+608648016503040305 dsa-with-sha3-224\n\
+608648016503040306 dsa-with-sha3-256\n\
+608648016503040307 dsa-with-sha3-384\n\
+608648016503040308 dsa-with-sha3-512\n\
+608648016503040309 ecdsa-with-sha3-224\n\
+60864801650304030a ecdsa-with-sha3-256\n\
+60864801650304030b ecdsa-with-sha3-384\n\
+60864801650304030c ecdsa-with-sha3-512\n\
+60864801650304030d rsassa-pkcs1-v1-5-with-sha3-224\n\
+60864801650304030e rsassa-pkcs1-v1-5-with-sha3-256\n\
+60864801650304030f rsassa-pkcs1-v1-5-with-sha3-384\n\
+608648016503040310 rsassa-pkcs1-v1-5-with-sha3-512\n\
+608648016503040311 ml-dsa-44\n\
+608648016503040312 ml-dsa-65\n\
+608648016503040313 ml-dsa-87\n\
+608648016503040314 slh-dsa-sha2-128s\n\
+608648016503040315 slh-dsa-sha2-128f\n\
+608648016503040316 slh-dsa-sha2-192s\n\
+608648016503040317 slh-dsa-sha2-192f\n\
+608648016503040318 slh-dsa-sha2-256s\n\
+608648016503040319 slh-dsa-sha2-256f\n\
+60864801650304031a slh-dsa-shake-128s\n\
+60864801650304031b slh-dsa-shake-128f\n\
+60864801650304031c slh-dsa-shake-192s\n\
+60864801650304031d slh-dsa-shake-192f\n\
+60864801650304031e slh-dsa-shake-256s\n\
+60864801650304031f slh-dsa-shake-256f\n\
+608648016503040320 hash-ml-dsa-44-with-sha512\n\
+608648016503040321 hash-ml-dsa-65-with-sha512\n\
+608648016503040322 hash-ml-dsa-87-with-sha512\n\
+608648016503040323 hash-slh-dsa-sha2-128s-with-sha256\n\
+608648016503040324 hash-slh-dsa-sha2-128f-with-sha256\n\
+608648016503040325 hash-slh-dsa-sha2-192s-with-sha512\n\
+608648016503040326 hash-slh-dsa-sha2-192f-with-sha512\n\
+608648016503040327 hash-slh-dsa-sha2-256s-with-sha512\n\
+608648016503040328 hash-slh-dsa-sha2-256f-with-sha512\n\
+608648016503040329 hash-slh-dsa-shake-128s-with-shake128\n\
+60864801650304032a hash-slh-dsa-shake-128f-with-shake128\n\
+60864801650304032b hash-slh-dsa-shake-192s-with-shake256\n\
+60864801650304032c hash-slh-dsa-shake-192f-with-shake256\n\
+60864801650304032d hash-slh-dsa-shake-256s-with-shake256\n\
+60864801650304032e hash-slh-dsa-shake-256f-with-shake256\n\
+608648016503040401 ml-kem-512\n\
+608648016503040402 ml-kem-768\n\
+608648016503040403 ml-kem-1024\n\
+6086480186f842 netscape\n\
+6086480186f84201 netscape-cert-extension\n\
+6086480186f8420101 netscape-cert-type\n\
+6086480186f8420102 netscape-base-url\n\
+6086480186f8420103 netscape-revocation-url\n\
+6086480186f8420104 netscape-ca-revocation-url\n\
+6086480186f8420107 netscape-cert-renewal-url\n\
+6086480186f8420108 netscape-ca-policy-url\n\
+6086480186f842010c netscape-ssl-server-name\n\
+6086480186f842010d netscape-comment\n\
+6086480186f84202 netscape-data-type\n\
+6086480186f8420205 netscape-cert-sequence\n\
+6086480186f842030101 carLicense\n\
+6086480186f842030102 departmentNumber\n\
+6086480186f842030103 employeeNumber\n\
+6086480186f842030104 employeeType\n\
+6086480186f842030122 ref\n\
+6086480186f842030127 preferredLanguage\n\
+6086480186f842030128 userSMIMECertificate\n\
+6086480186f84203018158 userPKCS12\n\
+6086480186f84203018171 displayName\n\
+6086480186f842030202 inetOrgPerson\n\
+6086480186f842030402 manageDsaIT\n\
+6086480186f842030412 proxiedAuthorization\n\
+6086480186f8420401 serverGatedCrypto\n\
+67 international-organizations\n\
+672a set\n\
+672a00 set-ctype\n\
 672a0000 setct-PANData\n\
 672a0001 setct-PANToken\n\
 672a0002 setct-PANOnly\n\
@@ -1035,33 +1360,33 @@ pub const NAMES: &str = "\
 672a0050 setct-CRLNotificationTBS\n\
 672a0051 setct-CRLNotificationResTBS\n\
 672a0052 setct-BCIDistributionTBS\n\
-672a01 message extensions\n\
-672a0101 generic cryptogram\n\
-672a0103 merchant initiated auth\n\
+672a01 set-msgExt\n\
+672a0101 setext-genCrypt\n\
+672a0103 setext-miAuth\n\
 672a0104 setext-pinSecure\n\
 672a0105 setext-pinAny\n\
 672a0107 setext-track2\n\
-672a0108 additional verification\n\
+672a0108 setext-cv\n\
 672a03 set-attr\n\
 672a0300 setAttr-Cert\n\
 672a030000 set-rootKeyThumb\n\
 672a030001 set-addPolicy\n\
-672a0301 payment gateway capabilities\n\
+672a0301 setAttr-PGWYcap\n\
 672a0302 setAttr-TokenType\n\
 672a030201 setAttr-Token-EMV\n\
 672a030202 setAttr-Token-B0Prime\n\
-672a0303 issuer capabilities\n\
+672a0303 setAttr-IssCap\n\
 672a030303 setAttr-IssCap-CVM\n\
-672a03030301 generate cryptogram\n\
+672a03030301 setAttr-GenCryptgrm\n\
 672a030304 setAttr-IssCap-T2\n\
-672a03030401 encrypted track 2\n\
-672a03030402 cleartext track 2\n\
+672a03030401 setAttr-T2Enc\n\
+672a03030402 setAttr-T2cleartxt\n\
 672a030305 setAttr-IssCap-Sig\n\
-672a03030501 ICC or token signature\n\
-672a03030502 secure device signature\n\
+672a03030501 setAttr-TokICCsig\n\
+672a03030502 setAttr-SecDevSig\n\
 672a05 set-policy\n\
 672a0500 set-policy-root\n\
-672a07 certificate extensions\n\
+672a07 set-certExt\n\
 672a0700 setCext-hashedRoot\n\
 672a0701 setCext-certType\n\
 672a0702 setCext-merchData\n\
@@ -1095,4 +1420,46 @@ pub const NAMES: &str = "\
 672b01040a wap-wsg-idm-ecid-wtls10\n\
 672b01040b wap-wsg-idm-ecid-wtls11\n\
 672b01040c wap-wsg-idm-ecid-wtls12\n\
+6781050201 tpmManufacturer\n\
+6781050202 tpmModel\n\
+6781050203 tpmVersion\n\
+6781050210 tpmSpecification\n\
+6781050801 kp-EKCertificate\n\
+6781050802 kp-PlatformCertificate\n\
+6781050803 kp-AIKCertificate\n\
+678108010101 ldsSecurityObject\n\
+678108010102 cscaMasterList\n\
+678108010103 cscaMasterListSigningKey\n\
+67810c ca-browser-forum\n\
+67810c01 certificate-policies\n\
+67810c0101 ev-guidelines\n\
+67810c0102 baseline-requirements\n\
+67810c010201 domain-validated\n\
+67810c010202 organization-validated\n\
+67810c010203 individual-validated\n\
+67810c0103 extended-validation-codesigning\n\
+67810c0104 code-signing-requirements\n\
+67810c010401 code-signing\n\
+67810c010402 timestamping\n\
+67810c0105 smime-baseline\n\
+67810c010501 mailbox-validated\n\
+67810c01050101 mailbox-validated-legacy\n\
+67810c01050102 mailbox-validated-multipurpose\n\
+67810c01050103 mailbox-validated-strict\n\
+67810c010502 smime-organization-validated\n\
+67810c01050201 organization-validated-legacy\n\
+67810c01050202 organization-validated-multipurpose\n\
+67810c01050203 organization-validated-strict\n\
+67810c010503 sponsor-validated\n\
+67810c01050301 sponsor-validated-legacy\n\
+67810c01050302 sponsor-validated-multipurpose\n\
+67810c01050303 sponsor-validated-strict\n\
+67810c010504 smime-individual-validated\n\
+67810c01050401 individual-validated-legacy\n\
+67810c01050402 individual-validated-multipurpose\n\
+67810c01050403 individual-validated-strict\n\
+67810c011f torServiceDescriptor\n\
+67810c0301 cabfOrganizationIdentifier\n\
+67810c29 caSigningNonce\n\
+67810c2a applicantSigningNonce\n\
 ";

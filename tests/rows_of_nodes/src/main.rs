@@ -16,7 +16,7 @@ mod words;
 use crate::canonical::{in_each_capacity, written};
 use crate::checked::{checked_list, checked_one};
 use crate::elements::answer_of_elements;
-use crate::names::{are_found, name};
+use crate::names::{are_found, name, own_names};
 use crate::views::{made_by_hand, view};
 use crate::walks::walk;
 use std::alloc::Global;
@@ -41,6 +41,7 @@ impl Calls for ElementCalls {
             "is_element" => checked_one(alloc, &octets, words),
             "name_of" => name(alloc, &octets),
             "each_line_is_found" => are_found(alloc),
+            "own_names" => own_names(alloc, &octets),
             "walk" => walk(alloc, &octets, words),
             "refused" => walks::refused(alloc, &octets, words),
             "first_fault" => walks::first_fault_in(alloc, &octets, words),

@@ -1,6 +1,7 @@
 //! Names of identifiers.
-use oid_names::{NAMES, name_of};
+use oid_names::{NAMES, OwnNames, name_among, name_of};
 use std::alloc::Global;
+use std::str;
 use test_tables::fault::Fault;
 
 /// The table is longer than this.
@@ -29,4 +30,19 @@ fn is_found(alloc: Global, line: &str) -> bool {
         return false;
     };
     name_of(&octets) == Some(name)
+}
+
+/// The names of 1.2.3 and 2.5.4.3 by a table of one's own, or why it is none.
+pub fn own_names(alloc: Global, text: &[u8]) -> Result<String, Fault> {
+    let Ok(text) = str::from_utf8(text) else {
+        return Err(Fault::Input);
+    };
+    match OwnNames::read(alloc, text) {
+        Ok(names) => {
+            let ours = name_among(Some(&names), b"\x2a\x03").unwrap_or("none");
+            let common = name_among(Some(&names), b"\x55\x04\x03").unwrap_or("none");
+            Ok(format!(in alloc; "{ours}, {common}")?)
+        }
+        Err(e) => Ok(format!(in alloc; "{e}")?),
+    }
 }

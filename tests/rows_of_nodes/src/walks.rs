@@ -1,13 +1,14 @@
 //! Walks over elements.
 use der_contents::ContentError;
 use test_words::{push_number, push_refusal};
-use der_walk::{Cause, Element, Path, Refusal, Rules, Walk, first_fault};
+use der_walk::{Cause, Element, Path, Refusal, Rules, Walk, fault_inside, first_fault};
 use std::alloc::{AllocError, Global};
 use test_tables::fault::Fault;
 use test_tables::octets::push_word;
 
-/// The offsets of the elements that a walk visits, with the word `breaks` at one that breaks its type, and why the walk
-/// ends before the last one. Behind the call stand the rules, and the word `keeping` where values are kept that break
+/// The offsets of the elements that a walk visits, and why the walk ends before the last one. The word `breaks` is behind
+/// one that breaks its type, the rules behind a string that holds an element, and `inside` and an offset behind one that
+/// holds a list which is at fault there. Behind the call stand the rules, and the word `keeping` where values are kept that break
 /// their type.
 pub fn walk(alloc: Global, input: &[u8], words: &str) -> Result<String, Fault> {
     let mut walk = match words {
@@ -34,7 +35,7 @@ pub fn refused(alloc: Global, input: &[u8], words: &str) -> Result<String, Fault
     };
     let mut text = format!(in alloc; "{} at {}", walk.depth(), refusal.offset)?;
     push_path(&mut text, &walk.path(&refusal))?;
-    write!(text, ": {}", refusal.cause)?;
+    write!(text, ": {}", walk.reason(&refusal))?;
     Ok(text)
 }
 
@@ -90,7 +91,23 @@ fn push_element(text: &mut String, element: &Element<'_>) -> Result<(), AllocErr
     if element.breaks_its_type {
         push_word(text, "breaks")?;
     }
-    Ok(())
+    match element.holds {
+        Some(Rules::Ber) => push_word(text, "BER")?,
+        Some(Rules::Der) => push_word(text, "DER")?,
+        None => {}
+    }
+    push_inside(text, fault_inside(element))
+}
+
+/// Adds where a list inside a string is at fault, if it is.
+fn push_inside(text: &mut String, offset: Option<usize>) -> Result<(), AllocError> {
+    match offset {
+        Some(offset) => {
+            push_word(text, "inside")?;
+            push_number(text, offset)
+        }
+        None => Ok(()),
+    }
 }
 
 /// Adds the name of a cause and its parts, or of the rule that a content breaks.

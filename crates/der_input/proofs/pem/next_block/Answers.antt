@@ -1,6 +1,6 @@
-use Rattle.std.proofs.Common.{◌++◌, ◌∙◌, ap, refl, subst, codes}
+use Rattle.std.proofs.Common.{◌++◌, ◌∙◌, ap, refl, subst, codes, rules}
 use Rattle.std.specs.Cmp.Lexicographic.{other_text, same_text}
-use Rattle.der_input.specs.Blocks.{SplitsRound, endless_end, endless_label, endless_lines, other_label}
+use Rattle.der_input.specs.Blocks.{OpensBlock, SplitsRound, endless_end, endless_label, endless_lines, other_label, other_lines}
 use Rattle.der_input.proofs.pem.next_block.Goals as goal
 
 pub returns-in-Some-split_round-3-clause-ok : goal.returns-in-Some-split_round-3-clause-ok
@@ -12,26 +12,30 @@ returns-in-Some-split_round-3-clause-ok c =
     let label = c.in-Some-split_round.ensures in
     let last = c.in-Some-split_round-3.ensures in
     record {
-      before = c.in-Some.field-0-0.now;
       opened = opened;
-      begin = subst (SplitsRound c.args.text.now (codes "-----BEGIN ") c.in-Some.field-0-0.now) label.whole c.in-Some.ensures;
+      begin = subst (OpensBlock c.args.text.now) label.whole c.in-Some.ensures;
       end = subst (SplitsRound opened (codes "-----END ") lines) (last.whole ∙ ap (λ w. w ++ (codes "-----" ++ rest)) same) c.in-Some-split_round-2.ensures;
+      inside = search rules;
     }
 
 pub returns-in_default-split_round-clause-err : goal.returns-in_default-split_round-clause-err
-returns-in_default-split_round-clause-err c = endless_label _ _ refl c.in-Some.ensures c.in_default-split_round.ensures
+returns-in_default-split_round-clause-err c = endless_label _ refl c.in-Some.ensures c.in_default-split_round.ensures
 
 pub returns-in_default-split_round-2-clause-err : goal.returns-in_default-split_round-2-clause-err
 returns-in_default-split_round-2-clause-err c =
-    endless_lines _ _ _ _ refl c.in-Some.ensures c.in-Some-split_round.ensures c.in_default-split_round-2.ensures
+    endless_lines _ _ _ refl c.in-Some.ensures c.in-Some-split_round.ensures c.in_default-split_round-2.ensures
 
 pub returns-in-Some-2-clause-err : goal.returns-in-Some-2-clause-err
 returns-in-Some-2-clause-err c =
     let last = c.in-Some-split_round-3.last.now in
     let label = c.in-Some-split_round.label.now in
-    other_label _ _ _ _ _ _ _ _ refl c.in-Some.ensures c.in-Some-split_round.ensures c.in-Some-split_round-2.ensures
+    other_label _ _ _ _ _ _ _ refl c.in-Some.ensures c.in-Some-split_round.ensures c.in-Some-split_round-2.ensures
     c.in-Some-split_round-3.ensures (other_text last label c.if-eq.ensures)
 
 pub returns-in-None-clause-err : goal.returns-in-None-clause-err
 returns-in-None-clause-err c =
-    endless_end _ _ _ _ _ _ refl c.in-Some.ensures c.in-Some-split_round.ensures c.in-Some-split_round-2.ensures c.in-None.ensures
+    endless_end _ _ _ _ _ refl c.in-Some.ensures c.in-Some-split_round.ensures c.in-Some-split_round-2.ensures c.in-None.ensures
+
+pub returns-then-contains_str-clause-err : goal.returns-then-contains_str-clause-err
+returns-then-contains_str-clause-err c =
+    other_lines _ _ _ _ _ refl c.in-Some.ensures c.in-Some-split_round.ensures c.in-Some-split_round-2.ensures (search rules)

@@ -1,0 +1,59 @@
+-- Where blocks begin.
+use Rattle.std.proofs.Common.{◌≡◌, ℕ, zero, suc, ◌+◌, ◌-◌, ◌<◌, ◌≤◌, ◌&&◌, Bool, true, false, cond, List, length, take, drop, Some, None, refl, sym, ap, ◌∙◌, arith, codes, inl, inr}
+use Rattle.std.specs.Prelude.{find, slice_index}
+use Rattle.std.proofs.lemmas.Bool.{cases_order, cases_Bool}
+use Rattle.std.proofs.lemmas.List.{get_or-drop, length-drop}
+use Rattle.std.specs.List.{range_with_len}
+use Rattle.bstr.specs.Find.{OccursAt, occurs_at}
+use Rattle.memchr.proofs.lemmas.MatchLemmas.{OccursAt-true, occurs_at-true}
+use Rattle.der_input.specs.Blocks.{begins_block, begins_line}
+
+-- what a search of a rest finds, as offsets of the whole
+pub in_rest : (text needle : List ℕ) (from k : ℕ) → from ≤ k → OccursAt text needle k → OccursAt (drop from text) needle (k - from)
+in_rest text needle from k low h = record {
+  fits = omega (arith, length-drop {A = ℕ}, h.fits);
+  reads = λ j small. get_or-drop from text (k - from + j) 0 ∙ ap (λ n. slice_index text n) (omega arith) ∙ h.reads j small;
+}
+
+pub in_whole : (text needle : List ℕ) (from j : ℕ) → from ≤ length text → OccursAt (drop from text) needle j → OccursAt text needle (from + j)
+in_whole text needle from j low h = record {
+  fits = omega (arith, length-drop {A = ℕ}, h.fits);
+  reads = λ i small. ap (λ n. slice_index text n) (omega arith) ∙ sym (get_or-drop from text (j + i) 0) ∙ h.reads i small;
+}
+
+-- the first number of a range that passes
+pub found_none : (p : ℕ → Bool) (a n : ℕ) → ((k : ℕ) → a ≤ k → k < a + n → p k ≡ false) → find p (range_with_len a n) ≡ None
+found_none p a zero h = refl
+found_none p a (suc n) h =
+    ap (λ b. cond b (Some a) (find p (range_with_len (a + 1) n))) (h a (omega arith) (omega arith))
+    ∙ found_none p (a + 1) n (λ k low high. h k (omega arith) (omega arith))
+
+pub found_at : (p : ℕ → Bool) (a n k : ℕ) → a ≤ k → k < a + n → p k ≡ true → ((j : ℕ) → a ≤ j → j < k → p j ≡ false) → find p (range_with_len a n) ≡ Some k
+found_at p a zero k low high here before = absurd (omega arith)
+found_at p a (suc n) k low high here before = elim (cases_order a k) [
+  | inl same ↦ (ap (λ b. cond b (Some a) (find p (range_with_len (a + 1) n))) (ap p same ∙ here) ∙ ap Some same)
+  | inr (inl more) ↦ (
+      ap (λ b. cond b (Some a) (find p (range_with_len (a + 1) n))) (before a (omega arith) more)
+      ∙ found_at p (a + 1) n k (omega arith) (omega arith) here (λ j l h. before j (omega arith) h)
+      )
+  | inr (inr less) ↦ absurd (omega arith)
+]
+
+not_there : (text needle : List ℕ) (k : ℕ) → ¬ OccursAt text needle k → occurs_at text needle k ≡ false
+not_there text needle k h = elim (cases_Bool (occurs_at text needle k)) [
+  | inl there ↦ absurd (h (OccursAt-true text needle k there))
+  | inr none ↦ none
+]
+
+-- no block begins where its first octets don't occur, or no line begins
+pub no_octets : (text : List ℕ) (k : ℕ) → ¬ OccursAt text (codes "-----BEGIN ") k → begins_block text k ≡ false
+no_octets text k h = ap (λ b. b && begins_line (take k text)) (not_there text (codes "-----BEGIN ") k h)
+
+pub no_line : (text : List ℕ) (k : ℕ) → begins_line (take k text) ≡ false → begins_block text k ≡ false
+no_line text k h = elim (cases_Bool (occurs_at text (codes "-----BEGIN ") k)) [
+  | inl there ↦ (ap (λ b. b && begins_line (take k text)) there ∙ h)
+  | inr none ↦ ap (λ b. b && begins_line (take k text)) none
+]
+
+pub octets_and_line : (text : List ℕ) (k : ℕ) → OccursAt text (codes "-----BEGIN ") k → begins_line (take k text) ≡ true → begins_block text k ≡ true
+octets_and_line text k there h = ap (λ b. b && begins_line (take k text)) (occurs_at-true text (codes "-----BEGIN ") k there) ∙ h

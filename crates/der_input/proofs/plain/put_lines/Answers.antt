@@ -1,0 +1,16 @@
+use Rattle.std.proofs.Common.{◌∙◌, ap, sym, rules, tests}
+use Rattle.std.specs.Prelude.{◌==◌}
+use Rattle.std.specs.List.{flat_map}
+use Rattle.std.proofs.lemmas.Iterator.Consumers.{YieldsList-at, YieldsList-end}
+use Rattle.std.proofs.lemmas.Iterator.Splits.{YieldsList-from_slice_split}
+use Rattle.std.proofs.lemmas.List.Folds.{flat_map-map}
+use Rattle.der_input.specs.Plain.{digits_of_line}
+use Rattle.der_input.proofs.plain.put_lines.Goals as goal
+
+pub returns : goal.returns
+returns c =
+    let split = c.split-line-items.ensures in
+    let all = YieldsList-end
+    (YieldsList-at c.into_iter-line-iterator.ensures.into_iter_gives (YieldsList-from_slice_split _ (λ o. o == 10) c.args.text.now split.rest split.done split.closure (λ x b q k. search (rules, tests))))
+    c.lines.yielded _ c.lines.yielded_by _ _ c.in-None.is c.next.ensures.steps in
+    (c.lines.invariant.within, c.lines.invariant.written ∙ sym (flat_map-map digits_of_line (λ x. x.now) c.lines.yielded) ∙ ap (flat_map digits_of_line) all.0)
