@@ -15,9 +15,9 @@ use Rattle.der_base.specs.Encoding.{element}
 use Rattle.der_base.specs.Octets.{identifier, shortest_length}
 use Rattle.std.specs.List.{concat, flat_map}
 use Rattle.std.proofs.lemmas.Grind.{common_steps}
-use Rattle.der_writer.specs.Fields.{primitive, constructed}
+use Rattle.der_writer.specs.Fields.{primitive, constructed, BitString}
 use Rattle.der_writer.specs.SetsOf.{IsElement, IsInOrder, ClosesSetOf}
-use Rattle.der_writer.specs.Written.{HasWritten, IsClosed, IsInnermost, StartsAt, KeepsBuffer, Puts, Opens, EndsContent, Closes, IsTagged, Returns, Finishes, Wrote, PutsOptional, PutsUnless, if_some, class_put, number_put, leaf, reserved}
+use Rattle.der_writer.specs.Written.{HasWritten, IsClosed, IsInnermost, StartsAt, KeepsBuffer, Puts, Opens, OpensBits, EndsContent, Closes, IsTagged, Returns, Finishes, Wrote, PutsOptional, PutsUnless, if_some, class_put, number_put, leaf, reserved}
 
 -- what stays behind a place stays behind a further one
 further : (m n : ℕ) (x y : List ℕ) → m ≤ n → drop m x ≡ drop m y → drop n x ≡ drop n y
@@ -118,6 +118,10 @@ puts_inside {a = a} {b = b} {c = c} {d = d} {k = k} {t = t} {w = w} l h o = wrap
 pub puts_within : {a b c d : Writer} {k : Class} {t : ℕ} {m : Mark} {w : List ℕ} → Closes m c d → Puts w b c → Opens k false t m a b → Puts (primitive k t w) a d
 unfolding primitive
 puts_within {a = a} {b = b} {c = c} {d = d} {k = k} {t = t} {w = w} l h o = wrapped_in k false t w l h o
+
+-- the same of a BIT STRING
+pub puts_within_bits : {a b c d : Writer} {m : Mark} {w : List ℕ} → Closes m c d → Puts w b c → OpensBits m a b → Puts (BitString 0 w) a d
+puts_within_bits l h o = puts_within l (puts_both h o.2) o.1
 
 -- the same of a universal type, or of the implicit tag that it has
 pub leaf_within : {a b c d : Writer} {m : Mark} (t : ℕ) (k : Class × Tag) (w : List ℕ) → k.0 ≡ class_put a.implicit → k.1.0 ≡ number_put a.implicit t

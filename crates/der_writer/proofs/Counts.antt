@@ -1,11 +1,13 @@
 -- Counts that stop, and what a buffer holds where it has room.
-use Rattle.std.proofs.Common.{◌≡◌, ℕ, ◌+◌, ◌-◌, ◌^◌, ◌<◌, ◌≤◌, List, ◌++◌, length, drop, take, min, refl, ⊎_elim, sym, ap, ◌∙◌, arith, append_assoc, length-append}
+use Rattle.std.proofs.Common.{◌≡◌, ℕ, ◌+◌, ◌-◌, ◌^◌, ◌<◌, ◌≤◌, List, [], ◌∷◌, ◌++◌, length, drop, take, min, refl, ⊎_elim, sym, ap, subst, ◌∙◌, arith, append_assoc, length-append}
 use Rattle.std.proofs.lemmas.Bool.{cases_lt}
 use Rattle.std.proofs.lemmas.List.{take_at, drop_at, take-take, drop-take}
 use Rattle.der_base.specs.Octets.{shortest_length}
 use Rattle.der_writer.specs.declared.writer.Writer.{Writer}
 use Rattle.der_writer.specs.Written.{IsCount, IsPlain, HasWritten, Puts, EndsContent, FillsTo, reserved}
+use Rattle.der_base.proofs.Octets.Shortest.{length_short}
 use Rattle.der_writer.proofs.Headers.{length_some}
+use Rattle.der_writer.proofs.Moves.{headed}
 
 -- octets after those that were written
 pub puts_filled : (old new : Writer) (e : List ℕ) (size : ℕ) → new.out.ghost_name ≡ old.out.ghost_name → IsPlain new → new.innermost ≡ old.innermost
@@ -107,3 +109,16 @@ ends_filled start old new size n h same tag level few sized contents headed coun
         (λ few. within before content after held few)
         (λ many. beyond before content held many)
         (cases_lt (length before + 1 + length content) (2 ^ 64 - 1))
+
+-- the same of a content whose length has one octet, which is set in place
+pub ends_short : (start : ℕ) (old new : Writer) (n : ℕ) → new.out.ghost_name ≡ old.out.ghost_name → new.implicit ≡ old.implicit → new.innermost ≡ old.innermost
+    → new.count ≡ old.count → old.count < 2 ^ 64 → old.count ≡ start + 1 + n → n < 128
+    → FillsTo (start + 1) old.out.now new.out.now start (n ∷ []) → EndsContent start old new
+ends_short start old new n same tag level stays few at short fills =
+    let begin : old.count - (n + 1) ≡ start = omega (arith, at) in
+    let one : 1 ≡ length (shortest_length n) = ap length (sym (length_short n short)) in
+    let P : List ℕ → Type 0 = λ l. FillsTo new.count old.out.now new.out.now start (l ++ take n (drop (start + 1) old.out.now)) in
+    let filled : FillsTo new.count old.out.now new.out.now start (shortest_length n ++ take n (drop (start + 1) old.out.now)) =
+    subst P (sym (length_short n short)) (headed start (start + 1) n new.count old.out.now new.out.now (n ∷ []) (omega (arith, stays, at)) fills) in
+    let Q : ℕ → Type 0 = λ j. FillsTo new.count old.out.now new.out.now j (shortest_length n ++ take n (drop (j + 1) old.out.now)) in
+    ends_filled start old new (n + 1) n 1 same tag level few (omega (arith, at)) (omega arith) one (omega (arith, stays, few, at)) (subst Q (sym begin) filled)

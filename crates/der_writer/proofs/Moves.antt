@@ -1,6 +1,6 @@
 -- Octets that are moved up, and a header in front of them.
-use Rattle.std.proofs.Common.{◌≡◌, ℕ, zero, suc, refl, map, get_or, [], ◌∷◌, ◌+◌, ◌-◌, ◌^◌, ◌<◌, ◌≤◌, List, ◌++◌, length, drop, take, sym, ap, subst, ◌∙◌, arith, length-append, length-drop}
-use Rattle.std.proofs.Math.Seq.{take-append-add, drop-drop}
+use Rattle.std.proofs.Common.{◌≡◌, ℕ, zero, suc, refl, map, get_or, [], ◌∷◌, ◌+◌, ◌-◌, ◌^◌, ◌<◌, ◌≤◌, List, ◌++◌, length, drop, take, sym, ap, subst, ◌∙◌, arith, append_assoc, length-append, length-drop}
+use Rattle.std.proofs.Math.Seq.{take-add, take-append-add, drop-drop}
 use Rattle.std.proofs.lemmas.List.{length-take-le, drop_at}
 use Rattle.std.proofs.lemmas.Slice.{take-put_mid, drop-put_mid}
 use Rattle.std.proofs.Math.ListN.{set}
@@ -58,3 +58,17 @@ pub behind_wrapped : (begin content n end : ℕ) (old mid hdr : List ℕ) → be
 behind_wrapped begin content n end old mid hdr e at within behind =
     let P : ℕ → Type 0 = λ j. drop j mid ≡ drop j old in
     drop-put_mid begin (content - begin) mid hdr end (omega arith) (omega arith) (omega arith) ∙ subst P (sym at) behind
+
+-- a header that is written alone in front of a content, which stays
+pub headed : (begin content n end : ℕ) (old new hdr : List ℕ) → end ≡ content + n → FillsTo content old new begin hdr
+    → FillsTo end old new begin (hdr ++ take n (drop content old))
+headed begin content n end old new hdr at h = record {
+  small = h.small;
+  size = h.size;
+  filled = λ within.
+      ap (λ j. take j new) at ∙ take-add content n new ∙ ap (λ l. l ++ take n (drop content new)) (h.filled (omega (arith, at, within)))
+      ∙ ap (λ l. take begin old ++ hdr ++ take n l) h.behind ∙ append_assoc (take begin old) hdr (take n (drop content old));
+  behind =
+      ap (λ j. drop j new) at ∙ sym (drop-drop n content new) ∙ ap (drop n) h.behind ∙ drop-drop n content old
+      ∙ ap (λ j. drop j old) (sym at);
+}

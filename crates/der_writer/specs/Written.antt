@@ -168,6 +168,10 @@ pub record Opens (k : Class) (p : Bool) (t : ℕ) (m : Mark) (old new : Writer) 
   pub written : (w : List ℕ) → HasWritten w old
       → IsAfter (w ++ identifier k p t) m × HasWritten (w ++ identifier k p t ++ reserved) new
 
+-- a BIT STRING is open, and its first content octet, by which no bits are unused, is put (8.6.2.2)
+abbrev pub OpensBits : Mark → Writer → Writer → Type 0
+OpensBits m old new = (between : Writer) × Opens Universal false 3 m old between × Puts (0 ∷ []) between new
+
 -- all from an offset on is the content of one element
 pub record EndsContent (start : ℕ) (old new : Writer) : Type 0 where
   pub keeps : KeepsBuffer old new

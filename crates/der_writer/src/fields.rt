@@ -1,5 +1,6 @@
 //! Calls of a writer that put the value of one type.
 ghost use Rattle.std.specs.Prelude.{◌≡◌, ◌-◌, ◌%◌, ◌^◌, ◌≤◌, ◌<ℤ◌, [], IsTrue, map, negsuc, pos};
+ghost use Rattle.std.specs.Int.{to_be_bytes, w64};
 ghost use Rattle.der_base.specs.Encoding.{content_octets};
 ghost use Rattle.der_base.specs.Leaf.{IsMinimalInteger};
 ghost use Rattle.der_base.specs.Octets.{needs_zero, number, octets, shortest_integer};
@@ -112,8 +113,21 @@ impl<'b> Writer<'b> {
         } else if value < 0x8000 {
             self.put_two_octets(tag, (value / 256) as u8, (value % 256) as u8);
         } else {
-            let mut room = [0; 9];
-            let octets = number_octets(&mut room, value);
+            self.put_large_number(tag, value);
+        }
+    }
+
+    /// A number in the fewest octets, however many.
+    #[inline(never)]
+    #[tactic(auto, using(crate::proofs::Magnitudes::with_zero, crate::proofs::Magnitudes::without_zero))]
+    fn put_large_number(&mut self, tag: Tag, value: u64)
+        ensures { PutsLeaf tag.0 (shortest_integer value) self.old self.new }
+    {
+        let bytes = value.to_be_bytes();
+        let octets = number_octets(&bytes, value);
+        if needs_zero(octets) {
+            self.put_parts(tag, &[0], octets);
+        } else {
             self.put_primitive(tag, octets);
         }
     }
@@ -223,14 +237,13 @@ impl<'b> Writer<'b> {
     }
 }
 
-/// The fewest octets of a number.
-#[tactic(auto, using(der_octets::proofs::Room::puts_tail))]
-fn number_octets(room: &mut [u8; 9], value: u64) -> &[u8]
-    ensures { result.now ≡ shortest_integer value }
+/// The octets of a number without the zeros in front.
+#[tactic(auto, using(der_base::proofs::Octets::Numbers::octets_from_bytes))]
+fn number_octets(bytes: &[u8; 8], value: u64) -> &[u8]
+    requires { bytes.now ≡ to_be_bytes w64 value }
+    ensures { result.now ≡ octets value }
 {
-    let begin = 9 - integer_octet_count(value);
-    write_integer(room, 9, value);
-    &room[begin..]
+    &bytes[value.leading_zeros() as usize / 8..]
 }
 
 /// The fewest octets of -1 - n.

@@ -1,14 +1,15 @@
 //! The writer.
-ghost use Rattle.std.specs.Prelude.{◌≡◌, ◌+◌, ◌≤◌, ◌++◌, [], ◌∷◌, drop, false, length, take, true};
+ghost use Rattle.std.specs.Prelude.{◌≡◌, ◌+◌, ◌<◌, ◌≤◌, ◌++◌, ◌↔◌, [], ◌∷◌, IsTrue, drop, false, length, take, true};
 ghost use Rattle.der_base.specs.declared.header.Class.{Class};
 ghost use Rattle.der_base.specs.Encoding.{element};
 ghost use Rattle.der_base.specs.Octets.{identifier, shortest_length};
 ghost use Rattle.der_writer.specs.SetsOf.{ClosesSetOf};
-ghost use Rattle.der_writer.specs.Written.{Closes, EndsContent, FillsTo, Finishes, IsTagged, Opens, Puts, PutsLeaf};
-ghost use Rattle.der_writer.specs.Written.{Resumes, StartsAt, class_put, number_put, reserved};
+ghost use Rattle.der_writer.specs.Written.{Closes, EndsContent, FillsTo, Finishes, IsPlain, IsTagged, Opens, OpensBits};
+ghost use Rattle.der_writer.specs.Written.{Puts, PutsLeaf, Resumes, StartsAt, class_put, number_put, reserved};
 
 use crate::element::{
-    LONG_TAG, fill_length, header_size, identifier_octet, identifier_octets, write_primitive,
+    LONG_LENGTH, LONG_TAG, fill_length, header_size, identifier_octet, identifier_octets,
+    write_primitive,
 };
 use crate::set_of::sort_between;
 use der_base::header::{Class, Tag};
@@ -120,7 +121,44 @@ impl<'b> Writer<'b> {
     }
 
     /// Puts a primitive element of a universal type, or of the implicit tag that it has.
+    #[inline]
     pub(crate) fn put_primitive(&mut self, tag: Tag, octets: &[u8])
+        ensures { PutsLeaf tag.0 octets.now self.old self.new }
+    {
+        if self.has_short_header(tag, octets.len()) {
+            self.put_elements(&[tag.0 as u8, octets.len() as u8]);
+            self.put_elements(octets);
+        } else {
+            self.put_tagged(tag, octets);
+        }
+    }
+
+    /// Whether a primitive element of a universal type has a header of two octets: it has no implicit tag.
+    #[inline]
+    fn has_short_header(&self, tag: Tag, content_size: usize) -> bool
+        ensures { IsTrue result ↔ (IsPlain self.now × (tag.0 < 31) × (content_size < 128)) }
+    {
+        self.implicit.is_none() && tag.0 < LONG_TAG && content_size < LONG_LENGTH
+    }
+
+    /// Puts a primitive element of any tag and size.
+    #[inline(never)]
+    fn put_tagged(&mut self, tag: Tag, octets: &[u8])
+        ensures { PutsLeaf tag.0 octets.now self.old self.new }
+    {
+        let (class, number) = tag_put(self.implicit, tag);
+        if number.0 < LONG_TAG && octets.len() < LONG_LENGTH {
+            let identifier = identifier_octet(class, false, number);
+            self.put_elements(&[identifier, octets.len() as u8]);
+            self.put_elements(octets);
+        } else {
+            self.put_long(tag, octets);
+        }
+    }
+
+    /// Puts a primitive element with any header, from its last octet to the first.
+    #[inline(never)]
+    fn put_long(&mut self, tag: Tag, octets: &[u8])
         ensures { PutsLeaf tag.0 octets.now self.old self.new }
     {
         let (class, tag) = tag_put(self.implicit, tag);
@@ -131,27 +169,40 @@ impl<'b> Writer<'b> {
         self.count = end;
     }
 
-    /// The same of one octet. A header of two octets and the content are written at once.
+    /// Puts a primitive element of one octet. A header of two octets and the content are written at once.
+    #[inline]
     pub(crate) fn put_octet(&mut self, tag: Tag, octet: u8)
+        ensures { PutsLeaf tag.0 (octet ∷ []) self.old self.new }
+    {
+        if self.has_short_header(tag, 1) {
+            self.put_elements(&[tag.0 as u8, 1, octet]);
+        } else {
+            self.put_tagged_octet(tag, octet);
+        }
+    }
+
+    /// The same under any tag.
+    #[inline(never)]
+    fn put_tagged_octet(&mut self, tag: Tag, octet: u8)
         ensures { PutsLeaf tag.0 (octet ∷ []) self.old self.new }
     {
         let (class, number) = tag_put(self.implicit, tag);
         if number.0 < LONG_TAG {
             self.put_elements(&[identifier_octet(class, false, number), 1, octet]);
         } else {
-            self.put_primitive(tag, &[octet]);
+            self.put_long(tag, &[octet]);
         }
     }
 
-    /// The same of two octets.
+    /// Puts a primitive element of two octets, as `put_octet`.
+    #[inline]
     pub(crate) fn put_two_octets(&mut self, tag: Tag, first: u8, second: u8)
         ensures { PutsLeaf tag.0 (first ∷ second ∷ []) self.old self.new }
     {
-        let (class, number) = tag_put(self.implicit, tag);
-        if number.0 < LONG_TAG {
-            self.put_elements(&[identifier_octet(class, false, number), 2, first, second]);
+        if self.has_short_header(tag, 2) {
+            self.put_elements(&[tag.0 as u8, 2, first, second]);
         } else {
-            self.put_primitive(tag, &[first, second]);
+            self.put_tagged(tag, &[first, second]);
         }
     }
 
@@ -185,6 +236,15 @@ impl<'b> Writer<'b> {
         ensures { Opens Class.Universal false 4 result self.old self.new }
     {
         self.open(Class::Universal, false, Tag::OctetString)
+    }
+
+    /// Opens a BIT STRING whose bits are elements, as a key of RSA. All bits of its last octet are used (8.6.2.2).
+    pub fn open_bit_string(&mut self) -> Mark
+        ensures { OpensBits result self.old self.new }
+    {
+        let bits = self.open(Class::Universal, false, Tag::BitString);
+        self.put_elements(&[0]);
+        bits
     }
 
     /// Opens an element of the class context-specific: an explicit tag around what is put (8.14.2), or a SEQUENCE or
@@ -245,7 +305,21 @@ impl<'b> Writer<'b> {
 
     /// Makes all from an offset on the content of one element: its length is written there, in place of the octet that
     /// is reserved for it.
+    #[inline]
     fn end_content(&mut self, start: usize)
+        ensures { EndsContent start self.old self.new }
+    {
+        let size = self.count.saturating_sub(start);
+        if size > 0 && size <= LONG_LENGTH {
+            fill(self.out, start, start + 1, &[(size - 1) as u8]);
+        } else {
+            self.end_long_content(start);
+        }
+    }
+
+    /// The same of a content that is moved, since its length has more octets.
+    #[inline(never)]
+    fn end_long_content(&mut self, start: usize)
         ensures { EndsContent start self.old self.new }
     {
         let size = self.count.saturating_sub(start);

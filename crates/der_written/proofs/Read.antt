@@ -10,7 +10,7 @@ use Rattle.der_base.specs.declared.time.ASN1DateTime.{ASN1DateTime}
 use Rattle.der_base.specs.Encoding.{element}
 use Rattle.der_base.specs.Octets.{identifier, shortest_length}
 use Rattle.der_cursor.specs.Elements.{SpellsElement}
-use Rattle.der_cursor.specs.Formats.{Content, Field, Format, Required, Optional, Default, OptionalTagged, DefaultTagged, IfLeft, AnyElement, Choice, ◌⨟◌, ◌⨾◌, End, Each, Only, As, Octets, Constructed, Primitive, Tagged, Limited, OctetStringOf, Time, Value}
+use Rattle.der_cursor.specs.Formats.{Content, Field, Format, Required, Optional, Default, OptionalTagged, DefaultTagged, IfLeft, AnyElement, Choice, ◌⨟◌, ◌⨾◌, End, Each, Only, As, Octets, Constructed, Primitive, Tagged, Limited, OctetStringOf, Time, OptionalTime, Value}
 use Rattle.der_values.specs.Kinds.{Kind, times}
 use Rattle.der_writer.specs.Fields as put
 use Rattle.der_writer.specs.Fields.{primitive, constructed}
@@ -173,6 +173,13 @@ time_written i v rest octets r =
     (λ k. inl ((primitive_written (λ r. times r 23) 23 utc_written).written i v rest octets k))
     (λ k. inr ((primitive_written (λ r. times r 24) 24 generalized_written).written i v rest octets k))
     r
+
+-- and one that may be absent
+pub optional_time_written : (i : List ℕ) (v : Option ASN1DateTime) (rest : List ℕ) → AreOctets i → OptionalTime Der i v rest
+    → (i ≡ if_some (λ x. put.UtcTime (short_year x)) v ++ rest) ⊎ (i ≡ if_some put.GeneralizedTime v ++ rest)
+unfolding OptionalTime
+optional_time_written i None rest octets r = inl r.1
+optional_time_written i (Some v) rest octets r = time_written i v rest octets r
 
 -- Contents.
 

@@ -3,3 +3,4 @@ pub mod Keys
 pub mod Read
 pub mod Requests
 pub mod Strict
+pub mod StrictlyRead

@@ -1,22 +1,23 @@
 -- What is written encodes its values.
 use Rattle.std.proofs.Common.{◌≡◌, ◌≢◌, ℕ, true, false, Option, pos, List, [], ◌∷◌, ◌++◌, All, length, refl, ap, sym, subst, ◌∙◌, arith, lit<, append_assoc}
 use Rattle.std.specs.Borrow.{Bor}
+use Rattle.std.specs.List.{flat_map}
 use Rattle.der_base.specs.declared.header.Class.TheVariants.{Universal, ContextSpecific}
 use Rattle.der_base.specs.Leaf.{HasZeroUnusedBits}
 use Rattle.der_cursor.specs.Formats.{Required, Text, AnyElement, ◌⨾◌, End, Each, IfLeft, Boolean, Element}
 use Rattle.der_values.specs.Kinds.{texts, EndsSubidentifier, HasPaddedArc}
 use Rattle.der_writer.specs.Fields as put
 use Rattle.der_written.specs.Encodings.{Encodes, EncodesContent}
-use Rattle.der_written.proofs.Encoded.{constructed_encodes, implicit_encodes, choice_encodes, last_encodes, before_encodes, default_encodes, only_encodes, one_encodes, none_encode, regrouped}
+use Rattle.der_written.proofs.Encoded.{constructed_encodes, implicit_encodes, choice_encodes, last_encodes, before_encodes, default_encodes, only_encodes, one_encodes, none_encode, left_encodes, none_left, octets_of_encode, regrouped}
 use Rattle.der_written.proofs.Values.{identifier_encodes, bits_encode, text_encodes, text_value, unsigned_encodes}
 use Rattle.request_writer.specs.declared.algorithm.Parameters.{Parameters}
 use Rattle.request_writer.specs.declared.algorithm.Parameters.TheVariants as parameters
 use Rattle.request_writer.specs.declared.algorithm.PublicKeyInfo.TheVariants as key_info
 use Rattle.request_writer.specs.declared.name.NameAttribute.{NameAttribute}
 use Rattle.request_writer.specs.Formats.{AlgorithmsEncode, KeysEncode, NamesEncode, AlternativeNamesEncode, RequestsEncode, AreParameters, IsAttribute, IsDnsName}
-use Rattle.request_writer.specs.Formats.{DnsName, Algorithm, PublicKey, RelativeName, Extension, RequestAttribute, attribute_of, dns_names_of, extension_of, attributes_of}
+use Rattle.request_writer.specs.Formats.{DnsName, Algorithm, PublicKey, RelativeName, Extension, RequestAttribute, attribute_of, name_of, dns_names_of, extension_of, attributes_of}
 use Rattle.request_writer.specs.Octets.{parameter_octets, algorithm_octets, key_octets, public_key_octets, relative_name_octets, name_octets, dns_name_octets, alternative_name_octets, extension_octets, extension_request_octets, attribute_octets, extension_request, subject_alternative_name}
-use Rattle.request_writer.proofs.Fields.{null_filled, filled_encodes, octets_of_encode, null_any, left_encodes, none_left, no_boolean, each_encodes}
+use Rattle.request_writer.proofs.Fields.{null_filled, filled_encodes, null_any, no_boolean, each_encodes}
 
 -- Algorithms and keys.
 
@@ -38,7 +39,7 @@ algorithm_encodes a v h =
     subst P (sym h.identifier) (constructed_encodes Universal 16 (lit< tt) fields)
 
 -- no bit is left over
-all_used : (w : List ℕ) → HasZeroUnusedBits 0 w
+pub all_used : (w : List ℕ) → HasZeroUnusedBits 0 w
 all_used [] = refl
 all_used (b ∷ w) = (omega arith, omega arith)
 
@@ -61,10 +62,12 @@ relative_name_encodes a h =
     let attribute = constructed_encodes Universal 16 (lit< tt) fields in
     filled_encodes Universal 17 (lit< tt) cons_filled (one_encodes attribute)
 
+pub relative_names_encode : (xs : List NameAttribute) → All IsAttribute xs → EncodesContent (Each (Required RelativeName)) (name_of xs) (flat_map relative_name_octets xs)
+relative_names_encode xs all =
+    each_encodes (Required RelativeName) IsAttribute relative_name_octets (λ a. attribute_of a ∷ []) relative_name_encodes xs all
+
 pub name_encodes : NamesEncode
-name_encodes xs all =
-    constructed_encodes Universal 16 (lit< tt)
-    (each_encodes (Required RelativeName) IsAttribute relative_name_octets (λ a. attribute_of a ∷ []) relative_name_encodes xs all)
+name_encodes xs all = constructed_encodes Universal 16 (lit< tt) (relative_names_encode xs all)
 
 -- Alternative names.
 
@@ -108,7 +111,7 @@ attribute_encodes n ns all =
     let fields = before_encodes (identifier_encodes extension_request request_ends request_plain) (last_encodes values) in
     one_encodes (constructed_encodes Universal 16 (lit< tt) fields)
 
-attributes_encode : (ns : List (Bor (List ℕ))) → All IsDnsName ns
+pub attributes_encode : (ns : List (Bor (List ℕ))) → All IsDnsName ns
     → EncodesContent (Each (Required RequestAttribute)) (attributes_of ns) (attribute_octets ns)
 attributes_encode [] all = none_encode (Required RequestAttribute)
 attributes_encode (n ∷ ns) all = attribute_encodes n ns all

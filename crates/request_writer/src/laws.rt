@@ -1,7 +1,7 @@
 //! Laws of what is written. Each function's contract is a law, and its body is empty.
 ghost use Rattle.request_writer.specs.Formats.{AlgorithmsEncode, AlternativeNamesEncode, KeysEncode, NamesEncode};
 ghost use Rattle.request_writer.specs.Formats.{RequestsAreWritten, RequestsEncode};
-ghost use Rattle.request_writer.specs.Strict.{InfosAreWritten};
+ghost use Rattle.request_writer.specs.Strict.{InfosAreRead, InfosAreWritten, SignedAreRead};
 
 /// Algorithms, keys, names and requests that are written are read with the values that were put.
 pub fn requests_encode()
@@ -16,4 +16,10 @@ pub fn requests_encode()
 pub fn requests_are_written()
     ensures values { RequestsAreWritten }
     ensures strict { InfosAreWritten }
+{}
+
+/// der_request reads a request that is written with the values that were put, and so a signed one.
+pub fn requests_are_read()
+    ensures infos { InfosAreRead }
+    ensures signed { SignedAreRead }
 {}

@@ -8,4 +8,6 @@ mod records;
 #[cfg(test)]
 mod sizes;
 #[cfg(test)]
+mod trees;
+#[cfg(test)]
 mod values;

@@ -83,6 +83,22 @@ fn bits(rt: HostRuntime) {
     assert!(rt; puts(|fields| fields.implicit(0).put_bits(1, b"\xff"), b"\x80\x02\x01\xfe"));
 }
 
+/// Puts an INTEGER in a BIT STRING, and one in an OCTET STRING.
+fn put_wrapped(fields: &mut Writer<'_>) {
+    let bits = fields.open_bit_string();
+    fields.put_u32(5);
+    fields.close(bits);
+    let octets = fields.open_octet_string();
+    fields.put_u32(5);
+    fields.close(octets);
+}
+
+#[test]
+fn elements_in_strings(rt: HostRuntime) {
+    // `openssl asn1parse -genstr BITWRAP,INTEGER:5` and `OCTWRAP,INTEGER:5`
+    assert!(rt; puts(put_wrapped, b"\x03\x04\x00\x02\x01\x05\x04\x03\x02\x01\x05"));
+}
+
 #[test]
 fn identifiers_and_octets(rt: HostRuntime) {
     // X.690 8.19.5, 8.20.5

@@ -1,13 +1,8 @@
-use Rattle.std.proofs.Common.{refl, arith}
-use Rattle.der_writer.proofs.Counts.{ends_filled}
+use Rattle.std.proofs.Common.{◌-◌, refl, arith}
+use Rattle.der_writer.proofs.Counts.{ends_short}
 use Rattle.der_writer.proofs.writer.Writer.end_content.Goals as goal
 
-pub wrap-requires : goal.wrap-requires
-wrap-requires c = λ room. omega (arith, c.length_octet_count.ensures.count)
-
-pub returns : goal.returns
-returns c =
-    ends_filled c.args.start c.args.self.now _ c.saturating_sub-size.result c.saturating_sub-content_size.result
-    c.length_octet_count.result refl refl refl (omega arith)
-    c.saturating_sub-size.ensures c.saturating_sub-content_size.ensures c.length_octet_count.ensures.count
-    (rw (← c.saturating_add.ensures) c.saturating_add-end.ensures) c.wrap.ensures
+pub returns-then-size-le-LONG_LENGTH : goal.returns-then-size-le-LONG_LENGTH
+returns-then-size-le-LONG_LENGTH c =
+    ends_short c.args.start c.args.self.now _ (c.saturating_sub-size.result - 1) refl refl refl refl (omega arith)
+    (omega (arith, c.saturating_sub-size.ensures)) (omega arith) c.fill.ensures

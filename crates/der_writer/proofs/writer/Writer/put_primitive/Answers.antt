@@ -1,15 +1,9 @@
-use Rattle.std.proofs.Common.{false, refl, arith}
-use Rattle.der_writer.specs.Written.{leaf}
-use Rattle.der_writer.proofs.Counts.{puts_filled}
-use Rattle.der_writer.proofs.Headers.{element_size}
+use Rattle.der_writer.proofs.Composing.{puts_both, puts_same}
+use Rattle.der_writer.proofs.Headers.{plain_leaf}
 use Rattle.der_writer.proofs.writer.Writer.put_primitive.Goals as goal
 
-pub returns : goal.returns
-unfolding leaf
-returns c =
-    let x = c.args.octets.now in
-    let k = c.tag_put-class.result in
-    let size = element_size k.0 false k.1.0 x _ c.header_size.result refl (c.header_size.ensures.count k.0 false) in
-    rw (← c.tag_put-class.ensures.class, ← c.tag_put-class.ensures.number)
-    (puts_filled c.args.self.now _ _ c.saturating_add-size.result refl refl refl (omega arith)
-    (omega (arith, c.saturating_add-size.ensures, size)) c.saturating_add-end.ensures c.put_between.ensures)
+pub returns-then-has_short_header : goal.returns-then-has_short_header
+returns-then-has_short_header c =
+    puts_same
+    (plain_leaf c.args.self.now.implicit c.args.tag.0 c.args.octets.now (c.has_short_header.ensures.0 c.if-has_short_header.true))
+    (puts_both c.put_elements-then-has_short_header.ensures c.put_elements.ensures)

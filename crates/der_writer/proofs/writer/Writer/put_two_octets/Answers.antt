@@ -1,10 +1,10 @@
-use Rattle.std.proofs.Common.{arith}
+use Rattle.std.proofs.Common.{[], ◌∷◌}
 use Rattle.der_writer.proofs.Composing.{puts_same}
-use Rattle.der_writer.proofs.Headers.{short_leaf}
+use Rattle.der_writer.proofs.Headers.{plain_leaf}
 use Rattle.der_writer.proofs.writer.Writer.put_two_octets.Goals as goal
 
-pub returns-then-number-lt-LONG_TAG : goal.returns-then-number-lt-LONG_TAG
-returns-then-number-lt-LONG_TAG c =
+pub returns-then-has_short_header : goal.returns-then-has_short_header
+returns-then-has_short_header c =
     puts_same
-    (short_leaf c.args.self.now.implicit c.args.tag.0 c.tag_put-class.result _ _ c.tag_put-class.ensures.class c.tag_put-class.ensures.number c.identifier_octet.ensures (omega arith))
+    (plain_leaf c.args.self.now.implicit c.args.tag.0 (c.args.first ∷ c.args.second ∷ []) (c.has_short_header.ensures.0 c.if-has_short_header.true))
     c.put_elements.ensures
