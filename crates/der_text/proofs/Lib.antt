@@ -1,0 +1,6 @@
+pub mod Delimiters
+pub mod Identifiers
+pub mod Numbers
+pub mod Printed
+pub mod Sequences
+pub mod Skips

@@ -1,0 +1,6 @@
+use Rattle.std.proofs.Common.{[]}
+use Rattle.der_text.specs.Printed.{Puts}
+use Rattle.der_text.proofs.write.write_spaces.Given as goal
+
+abbrev pub invariant-spaces : goal.invariant-spaces
+invariant-spaces l = Puts l.initial.out.items l.out.items []

@@ -1,0 +1,5 @@
+pub mod Encoded
+pub mod Words
+pub mod Lexemes
+pub mod Texts
+pub mod Printed

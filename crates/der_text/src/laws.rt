@@ -1,0 +1,18 @@
+//! What is written is read again.
+ghost use Rattle.std.specs.Prelude.{◌≡◌, MatchResult};
+
+use crate::error::{Problem, TextError};
+use crate::octets::octets_of;
+use crate::printer::text_of;
+use std::alloc::Global;
+
+/// The octets of the text of octets are these octets.
+pub fn texts_have_their_octets(alloc: Global, octets: &[u8]) -> Result<Vec<u8>, Problem>
+    ensures { MatchResult result (λ v. v.items ≡ octets.now) (λ e. e ≡ Problem.OutOfMemory) }
+{
+    let text = text_of(alloc, octets)?;
+    match octets_of(alloc, &text) {
+        Ok(octets) => Ok(octets),
+        Err(error) => Err(error.problem),
+    }
+}

@@ -1,0 +1,72 @@
+//! Words for the contents of primitive elements. Whether they have the octets is tested where they are written.
+use crate::element::Element;
+use der_base::header::{Class, Header, Tag};
+use der_base::integer::{read_i64, read_u64};
+use der_base::oid::Oid;
+use std::alloc::{AllocError, Global};
+use std::borrow::CowSlice;
+
+/// The tag of a header as it is written in brackets.
+pub(crate) fn tag_text(alloc: Global, header: &Header<'_>) -> Result<String, AllocError> {
+    let class = match header.class() {
+        Class::Universal => "UNIVERSAL ",
+        Class::Application => "APPLICATION ",
+        Class::ContextSpecific => "",
+        Class::Private => "PRIVATE ",
+    };
+    let form = if header.constructed() {
+        ""
+    } else {
+        " PRIMITIVE"
+    };
+    let number = header.tag().0;
+    format!(in alloc; "{class}{number}{form}")
+}
+
+/// A word for the content of a primitive element, if its type has some.
+pub(crate) fn value_word(
+    alloc: Global,
+    element: &Element<'_>,
+) -> Result<Option<String>, AllocError> {
+    if !element.header.is_universal() {
+        return Ok(None);
+    }
+    match element.header.tag() {
+        Tag::Boolean => boolean_word(alloc, element.content),
+        Tag::Integer | Tag::Enumerated => integer_word(alloc, element.content),
+        Tag::Oid => identifier_word(alloc, element.content),
+        _ => Ok(None),
+    }
+}
+
+fn boolean_word(alloc: Global, content: &[u8]) -> Result<Option<String>, AllocError> {
+    let word = match content {
+        [0] => "FALSE",
+        [0xff] => "TRUE",
+        _ => return Ok(None),
+    };
+    let word = format!(in alloc; "{word}")?;
+    Ok(Some(word))
+}
+
+fn integer_word(alloc: Global, content: &[u8]) -> Result<Option<String>, AllocError> {
+    if let Ok(number) = read_i64(content) {
+        let word = format!(in alloc; "{number}")?;
+        return Ok(Some(word));
+    }
+    if let Ok(number) = read_u64(content) {
+        let word = format!(in alloc; "{number}")?;
+        return Ok(Some(word));
+    }
+    Ok(None)
+}
+
+fn identifier_word(alloc: Global, content: &[u8]) -> Result<Option<String>, AllocError> {
+    let identifier = known_identifier(content);
+    let word = format!(in alloc; "{identifier}")?;
+    Ok(Some(word))
+}
+
+fn known_identifier(content: &[u8]) -> Oid<'_> {
+    Oid::new(CowSlice::Borrowed(content))
+}
