@@ -1,0 +1,6 @@
+pub mod OfType
+pub mod Passed
+pub mod Prefix
+pub mod Preorder
+pub mod Readings
+pub mod Trees

@@ -1,0 +1,18 @@
+use Rattle.std.proofs.Common.{◌≡◌, true, false, sym, subst}
+use Rattle.der_schema.specs.declared.known.KnownType.{KnownType}
+use Rattle.der_schema.specs.Known.{IsOfType, root_at}
+use Rattle.der_schema.specs.Meaning.{Root, all_types}
+use Rattle.der_schema.proofs.OfType.{searched_one}
+use Rattle.der_schema.proofs.known.first_of.Goals as goal
+
+pub loop-one-preserved : goal.loop-one-preserved
+loop-one-preserved c =
+    searched_one (λ (k : KnownType). IsOfType (root_at (all_types c.args.types.now) k) c.args.rules c.args.input.now)
+    c.args.known.now c.loop-one.ahead.now c.in-Some.rest.now c.in-Some.one.now c.loop-one.invariant
+    c.in-Some.ensures.cases.0
+    (λ t.
+    let it : c.is_of_type.result ≡ true =
+    c.is_of_type.ensures.1
+    (subst (λ (z : Root). IsOfType z c.args.rules c.args.input.now) (sym c.schema_of-schema.ensures.root) t) in
+    let other : c.is_of_type.result ≡ false = c.if-is_of_type.false in
+    absurd (cc))

@@ -1,0 +1,9 @@
+pub mod Encodings
+pub mod Ends
+pub mod Known
+pub mod Levels
+pub mod Meaning
+pub mod Named
+pub mod Opened
+pub mod Readings
+pub mod Steps

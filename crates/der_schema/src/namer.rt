@@ -1,0 +1,71 @@
+//! The names of elements in preorder.
+ghost use Rattle.std.specs.Prelude.{◌≡◌, ◌≤◌, [], List, ℕ};
+
+use crate::item::item_of;
+use crate::level::Level;
+use crate::levels::Levels;
+use crate::matching::Name;
+use crate::schema::{Component, Inside, Schema};
+use der_walk::Element;
+
+/// Names the elements of an input by a schema, one after another in preorder. It takes no memory.
+///
+/// # Examples
+///
+/// ```
+/// let mut walk = Walk::new(input, Rules::Der, true);
+/// let mut namer = Namer::new(input, schema);
+/// while let Some(element) = walk.next_element()? {
+///     let name = namer.name_of(&element);
+///     println!("{:?} {:?}", element.offset, name);
+/// }
+/// ```
+#[derive(Drop)]
+pub struct Namer<'a> {
+    input: &'a [u8],
+    /// The types of the schema that have an index.
+    types: &'a [&'static Component],
+    levels: Levels,
+}
+
+impl<'a> Namer<'a> {
+    ghost use Rattle.der_walk.specs.Visits.{Visited};
+    ghost use Rattle.der_walk.specs.Walked.{visited_of};
+    ghost use Rattle.der_schema.specs.Meaning.{Root, root_of};
+    ghost use Rattle.der_schema.specs.Ends.{is_whole_after};
+    ghost use Rattle.der_schema.specs.Encodings.{all_seen};
+    ghost use Rattle.der_schema.specs.Named.{HasNamed, NamesNext};
+
+    /// A namer of the elements of an input that is to be of this type.
+    pub fn new(input: &'a [u8], schema: Schema<'a>) -> Namer<'a>
+        ensures { HasNamed (root_of schema.entry) input.now [] result }
+    {
+        let level = Level {
+            expected: Inside::Components(schema.components),
+            selected: None,
+        };
+        Namer {
+            input,
+            types: schema.types,
+            levels: Levels::new(level),
+        }
+    }
+
+    /// The name of the next element that a walk through the input visits. None if the element isn't in the schema:
+    /// then none inside it has a name, and none after it in the same content.
+    pub fn name_of(&mut self, element: &Element<'_>) -> Option<Name>
+        ensures { (sc : Root) (i : List ℕ) (vs : List Visited) → HasNamed sc i vs self.old → element.now.depth ≤ 100
+            → NamesNext sc i vs (visited_of element.now) self.new result }
+    {
+        self.levels
+            .pass(element.depth, self.types, item_of(self.input, element))
+    }
+
+    /// Whether each content of the elements so far has all its mandatory components, if they end here.
+    pub fn is_whole(&self) -> bool
+        ensures { (sc : Root) (i : List ℕ) (vs : List Visited) → HasNamed sc i vs self.now
+            → result ≡ is_whole_after sc (all_seen i vs) }
+    {
+        self.levels.is_whole()
+    }
+}
