@@ -7,14 +7,17 @@ root=$(cd "$(dirname "$0")/.." && pwd)
 made=$(realpath -m "$1")
 cd "$root/crates/dumarewhi_c"
 set -- --crate-name dumarewhi_c src/lib.rt --extern "std=$kit/rlibs/std.rlib" -L "dependency=$kit/rlibs"
-set -- "$@" --extern "arrayvec=$kit/rlibs/arrayvec.rlib" --extern "itoa=$kit/rlibs/itoa.rlib"
-for library in der_base der_values der_contents der_nodes der_check der_walk der_canon der_writer; do
+for library in arrayvec itoa sha2; do
+    set -- "$@" --extern "$library=$kit/rlibs/$library.rlib"
+done
+for library in der_base der_octets der_values der_contents der_cursor der_nodes der_check der_walk der_canon \
+    der_writer der_x509 der_extensions der_request crl_reader; do
     set -- "$@" --extern "$library=$root/crates/$library/out/rlib/$library.rlib"
 done
-for library in der_base der_laws der_octets der_values der_contents der_nodes der_check der_walk der_canon \
-    der_writer; do
+for library in der_base der_laws der_octets der_values der_contents der_cursor der_nodes der_check der_walk der_canon \
+    der_writer der_x509 der_extensions der_request crl_reader; do
     if [ ! -e "$root/crates/$library/out/rlib/$library.rlib" ]; then
-        echo "archive.sh: $library isn't built: run 'rt ci', or 'rt lib' in crates/der_canon and der_writer" >&2
+        echo "archive.sh: $library isn't built: run 'rt ci', or 'rt lib' in crates/$library" >&2
         exit 1
     fi
     set -- "$@" -L "dependency=$root/crates/$library/out/rlib"

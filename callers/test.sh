@@ -70,6 +70,16 @@ run_sized() {
     done
 }
 
+# openssl lists the elements of random trees as they were put.
+run_trees() {
+    "$room/trees" "$room" 100000 || return
+    openssl asn1parse -inform DER -in "$room/trees.der" | LC_ALL=C sed -nE \
+        -e 's/^ *([0-9]+:d=[0-9]+) +(hl=[0-9]+) +l= *([0-9]+ (prim|cons): )/\1 \2 l=\3/; T' \
+        -e 's/: (INTEGER|ENUMERATED) *:/: \1:/; t named' -e 's/: ([A-Z0-9 ]*[A-Z0-9]) *[:[].*/: \1/' \
+        -e ': named; s/ *$//; p' > "$room/trees.parsed" || return
+    cmp "$room/trees.parsed" "$room/trees.lines"
+}
+
 # run_csr PROGRAM: openssl signs what is written, and verifies the request that is written of it.
 run_csr() (
     cd "$room" && openssl genpkey -algorithm EC -pkeyopt ec_paramgen_curve:P-256 -out private.pem \
@@ -89,14 +99,18 @@ octets "30 5e 02 01 01 04 06 70 75 62 6c 69 63 a2 51 02 04 71 68 2a 51 02 01 00 
 run_reply() { "$1" < "$room/ask" > "$room/reply" && cmp "$room/reply" "$room/answer"; }
 
 run_c() {
-    for name in first tree certificate snmp count layout rows errors tables csr snmp_reply writer agreement; do
+    for name in first tree certificate snmp count layout rows errors tables csr snmp_reply writer trees agreement \
+        certificate_rows openssl_fields fields; do
         says "$name.c compiles" compile $name $name
     done
+    says "examples/certificate.c compiles" compile examples/certificate example
+    says "the header is C99 and C++11" run_header
     says "stack.c compiles" compile stack stack -pthread
     shown=yes
-    for name in layout rows errors stack; do says "$name" "$room/$name"; done
+    for name in layout rows errors stack fields; do says "$name" "$room/$name"; done
     says "writer" "$room/writer" "$room"
     says "rows of the library's tests" "$room/tables" ../tests/*/data/*.rows
+    says "rows about certificates" "$room/certificate_rows" ../tests/rows_of_certificates/data/*.rows
     shown=
 
     prints "first" 0 "$(printf 'type 16, octets 2 to 8\ntype 2, octets 4 to 5\ntype 1, octets 7 to 8')" "$room/first"
@@ -131,8 +145,55 @@ version 1, community public: get-next 43 1.3.6.1.2.1.1.3.0" "$room/snmp"
     says "SNMP that is answered" run_reply "$room/snmp_reply"
     if has openssl "elements and requests that openssl reads"; then
         says "elements as openssl reads them" run_sized
+        shown=yes says "random trees as openssl reads them" run_trees
+        prints "a certificate" 0 "$(example_certificate)" "$room/example" ../crates/der/data/certificate.der
         says "a request that openssl verifies" run_csr "$room/csr"
     fi
+}
+
+# The header compiles without a warning, as C and as C++ where there is a compiler for it.
+run_header() {
+    printf '#include "dumarewhi.h"\nint main(void) { return (int)(dm_version() - DM_VERSION); }\n' > "$room/header.c"
+    cp "$room/header.c" "$room/header.cpp"
+    cc -std=c99 -Wall -Wextra -pedantic -Werror -Ic/include "$room/header.c" "$archive" -o "$room/header" || return
+    "$room/header" || return
+    ! command -v c++ > /dev/null && return
+    c++ -std=c++11 -Wall -Wextra -pedantic -Werror -Ic/include "$room/header.cpp" "$archive" -o "$room/header"
+}
+
+# What examples/certificate.c prints of a certificate, by openssl.
+example_certificate() {
+    local file=../crates/der/data/certificate.der
+    openssl x509 -inform DER -in $file -noout -subject -issuer -dates -nameopt RFC2253 -dateopt iso_8601 \
+        | sed 's/^subject=/subject: /; s/^issuer=/issuer: /; s/^notBefore=/from: /; s/^notAfter=/to: /'
+    openssl x509 -inform DER -in $file -noout -ext subjectAltName 2> /dev/null \
+        | grep -o 'DNS:[^,]*' | sed 's/^DNS:/name: /'
+}
+
+# The fields that openssl_fields.c prints are those that openssl prints. Names with types that have no short name in RFC
+# 4514, and alternative names of other kinds than texts, are printed in other words, and aren't compared. Nor are
+# certificates with the value of an extension that isn't by DER, with which the program ends with status 3.
+run_openssl_fields() {
+    local same=0 others=0 wrong=0 name status
+    local words="-noout -serial -subject -issuer -dates -fingerprint -sha256 -nameopt RFC2253 -dateopt iso_8601"
+    words="$words -ext basicConstraints,keyUsage,subjectKeyIdentifier,authorityKeyIdentifier,subjectAltName"
+    local unnamed="emailAddress=|serialNumber=|organizationIdentifier=|DirName:|othername:"
+    for name in $(find /etc/ssl/certs /usr/share/ca-certificates -name '*.crt' 2> /dev/null | head -n "$1"); do
+        openssl x509 -in "$name" -outform DER -out "$room/field.der" || continue
+        openssl x509 -inform DER -in "$room/field.der" $words > "$room/wanted" 2> /dev/null
+        "$room/openssl_fields" < "$room/field.der" > "$room/fields"
+        status=$?
+        if [ "$status" = 0 ] && cmp -s "$room/wanted" "$room/fields"; then
+            same=$((same + 1))
+        elif [ "$status" = 3 ] || { [ "$status" = 0 ] && grep -qE "$unnamed" "$room/wanted"; }; then
+            others=$((others + 1))
+        else
+            wrong=$((wrong + 1))
+            echo "$name"
+        fi
+    done
+    echo "$same certificates with the fields that openssl prints, $wrong not, $others that aren't compared"
+    [ "$wrong" = 0 ] && [ "$same" -gt 0 ]
 }
 
 # The serial number, the dates and how many of the machine's certificates were read are compared with openssl's.
@@ -165,12 +226,22 @@ run_hostile() {
     if [ -f "$room/certificate.der" ]; then "$room/$2" "$room/certificate.der" "$inputs" || return 1; fi
 }
 
+# A certificate, a list of revoked ones, a request that was signed before, and a certificate of the machine's, damaged.
+run_damaged() {
+    local file
+    for file in ../crates/der/data/certificate.der ../crates/der/data/revoked.crl "$room/request" \
+        "$room/certificate.der"; do
+        if [ -f "$file" ]; then "$room/$2" "$file" "$1" || return 1; fi
+    done
+}
+
 if has cc "all of C"; then
     run_c
     if [ -n "$(find /usr/share/ca-certificates -name '*.crt' 2> /dev/null | head -n 1)" ]; then
         if has openssl "certificates"; then
             shown=yes
             says "certificates" run_certificates 100
+            says "fields of certificates" run_openssl_fields 100
             shown=
         fi
     else
@@ -181,6 +252,9 @@ if has cc "all of C"; then
         says "hostile.c compiles" compile hostile hostile -g -fsanitize=address,undefined -fno-sanitize-recover=all
         shown=yes
         says "damaged inputs" run_hostile 40000 hostile
+        says "hostile_certificate.c compiles" \
+            compile hostile_certificate damaged -g -fsanitize=address,undefined -fno-sanitize-recover=all
+        says "damaged certificates" run_damaged 40000 damaged
         says "writer.c compiles" compile writer sanitized -g -fsanitize=address,undefined -fno-sanitize-recover=all
         says "writer under sanitizers" "$room/sanitized" "$room"
         shown=
@@ -195,12 +269,25 @@ if has cc "all of C"; then
         printf '#!/bin/sh\nexec valgrind -q --error-exitcode=9 "%s/plain" "$@"\n' "$room" > "$room/checked"
         chmod +x "$room/checked"
         says "damaged inputs under valgrind" run_valgrind
+        says "hostile_certificate.c compiles" compile hostile_certificate plain -g
+        run_valgrind_certificates() { run_damaged 250 "checked"; }
+        says "damaged certificates under valgrind" run_valgrind_certificates
         says "writer.c compiles" compile writer plain_writer -g
         says "writer under valgrind" valgrind -q --error-exitcode=9 "$room/plain_writer" "$room"
         shown=
     fi
     awk '/^```c$/ {on = 1; next} /^```$/ {on = 0} on' ../README.md > "$room/readme.c"
     says "README has the lines of first.c" diff "$room/readme.c" c/first.c
+    # The command that README gives, for the example beside the header.
+    run_command() (
+        command=$(sed -n 's|^    \(cc .*\)$|\1|p' ../README.md)
+        mkdir "$room/of_readme" && cp c/examples/certificate.c "$room/of_readme" && [ -n "$command" ] || return
+        cd "$room/of_readme" || return
+        command=${command//DUMAREWHI\/crates\/dumarewhi_c\/out/$(dirname "$archive")}
+        sh -ec "${command//DUMAREWHI/$root}" && ./a.out "$root/crates/der/data/certificate.der"
+    )
+    has openssl "the command of README" \
+        && prints "the command of README" 0 "$(example_certificate)" run_command
 fi
 
 # The numbers of errors in the header are those of the specification, where 0 is no error.
@@ -209,6 +296,10 @@ numbers_of_errors() { sed -n 's/^[a-z]*_number [^:]* = \([0-9]*\)$/\1/p' "$numbe
 numbers=../crates/dumarewhi_c/specs/ErrorNumbers.antt
 run_numbers() { [ -n "$(numbers_of_errors)" ] && diff <(numbers_of_header | sort) <(numbers_of_errors | sort -u); }
 says "the header has a name for each error" run_numbers
+
+version_of_header() { sed -n 's/^#define DM_VERSION_[A-Z]* \([0-9]*\)$/\1/p' c/include/dumarewhi.h | paste -sd.; }
+version_of_crate() { sed -n 's/^version = "\(.*\)"$/\1/p' rust/Cargo.toml; }
+says "the header has the version of the crate" [ "$(version_of_header)" = "$(version_of_crate)" ]
 
 # prints the first block of Rust in a page
 rust_lines() { awk '/^```rust$/ && !seen {on = 1; seen = 1; next} /^```$/ {on = 0} on' "$1"; }
@@ -220,6 +311,9 @@ if [ -d rust ]; then
         shown=yes
         run_cargo() { DUMAREWHI_LIB=$(dirname "$archive") CARGO_TARGET_DIR=$room/target cargo "$@" 2>&1; }
         says "cargo test" run_cargo test --offline --quiet --manifest-path rust/Cargo.toml
+        checked=(--config 'target."cfg(all())".runner=["valgrind","-q","--error-exitcode=9"]')
+        has valgrind "the writer of Rust under valgrind" && says "the writer of Rust under valgrind" \
+            run_cargo test --offline --quiet --manifest-path rust/Cargo.toml --test writer "${checked[@]}"
         examples=$room/target/debug/examples
         says "SNMP that Rust answers" run_reply "$examples/snmp_reply"
         has openssl "a request of Rust" && says "a request of Rust that openssl verifies" run_csr "$examples/csr"

@@ -85,12 +85,24 @@ static const struct {
     {DM_ERROR_EMBEDDED_PDV_PRIMITIVE, "an EMBEDDED PDV is primitive (X.690 8.17)"},
     {DM_ERROR_EXTERNAL_PRIMITIVE, "an EXTERNAL is primitive (X.690 8.18.1)"},
     {DM_ERROR_CHARACTER_STRING_PRIMITIVE, "a CHARACTER STRING is primitive (X.690 8.24)"},
+    {DM_ERROR_ALGORITHMS_DIFFER, "the signature algorithms differ"},
+    {DM_ERROR_SERIAL_NUMBER_NOT_POSITIVE, "the serial number is not positive"},
+    {DM_ERROR_SERIAL_NUMBER_TOO_LONG, "the serial number has more than 20 octets"},
+    {DM_ERROR_ISSUER_EMPTY, "the issuer has no name"},
+    {DM_ERROR_ATTRIBUTES_OUT_OF_ORDER, "attributes of a relative name are out of order"},
+    {DM_ERROR_EARLY_GENERALIZED_TIME, "a time before 2050 is a GeneralizedTime"},
+    {DM_ERROR_TIME_WITH_FRACTION, "a time has a fraction of a second"},
+    {DM_ERROR_UNIQUE_ID_IN_VERSION_1, "a unique identifier in version 1"},
+    {DM_ERROR_EXTENSIONS_BEFORE_VERSION_3, "extensions before version 3"},
+    {DM_ERROR_EXTENSION_REPEATED, "an extension is repeated"},
+    {DM_ERROR_SUBJECT_WITHOUT_NAME, "the subject has no name"},
+    {DM_ERROR_VALUE_NOT_DER, "a value of any type is not DER"},
 };
 
 static void expect_text(uint32_t error, const char *text) {
     uint8_t found[DM_TEXT_OCTETS];
     size_t size = dm_error_text(error, found, sizeof found);
-    if (size == strlen(text) && memcmp(found, text, size) == 0) {
+    if (size == strlen(text) && memcmp(found, text, size) == 0 && strcmp(dm_error_string(error), text) == 0) {
         passed++;
     } else {
         failed++;

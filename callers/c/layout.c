@@ -146,11 +146,114 @@ static void test_writers(void) {
     expect(sizeof(dm_writer) == 40 && sizeof(dm_mark) == 16, "a writer has 40 octets, a mark 16");
 }
 
+/* Whether a part has this offset and length in the input. */
+static int is_at(dm_octets part, const uint8_t *input, size_t offset, size_t length) {
+    return part.octets == input + offset && part.length == length;
+}
+
+static int has_bits(dm_bits bits, const uint8_t *input, size_t offset, size_t length, uint32_t unused) {
+    return is_at(bits.octets, input, offset, length) && bits.unused == unused && bits.is_present == 1;
+}
+
+static void test_certificates(void) {
+    /* Fields of different lengths: version 3, serial number 258, unique identifiers, and an extension. */
+    static const uint8_t input[] = {
+        0x30, 0x81, 0x8f, 0x30, 0x7b, 0xa0, 0x03, 0x02, 0x01, 0x02, 0x02, 0x02, 0x01, 0x02, 0x30, 0x06, 0x06, 0x02,
+        0x2a, 0x03, 0x05, 0x00, 0x30, 0x0c, 0x31, 0x0a, 0x30, 0x08, 0x06, 0x03, 0x55, 0x04, 0x03, 0x0c, 0x01, 0x61,
+        0x30, 0x20, 0x17, 0x0d, 0x32, 0x36, 0x30, 0x31, 0x30, 0x32, 0x30, 0x33, 0x30, 0x34, 0x30, 0x35, 0x5a, 0x18,
+        0x0f, 0x32, 0x30, 0x35, 0x31, 0x30, 0x32, 0x30, 0x33, 0x30, 0x34, 0x30, 0x35, 0x30, 0x36, 0x5a, 0x30, 0x0e,
+        0x31, 0x0c, 0x30, 0x0a, 0x06, 0x03, 0x55, 0x04, 0x03, 0x0c, 0x03, 0x62, 0x62, 0x62, 0x30, 0x0b, 0x30, 0x05,
+        0x06, 0x03, 0x2a, 0x04, 0x04, 0x03, 0x02, 0x01, 0x02, 0x81, 0x03, 0x02, 0x11, 0x04, 0x82, 0x04, 0x03, 0x11,
+        0x12, 0x08, 0xa3, 0x10, 0x30, 0x0e, 0x30, 0x0c, 0x06, 0x03, 0x55, 0x1d, 0x13, 0x01, 0x01, 0xff, 0x04, 0x02,
+        0x30, 0x00, 0x30, 0x09, 0x06, 0x04, 0x2a, 0x05, 0x05, 0x05, 0x04, 0x01, 0x00, 0x03, 0x05, 0x04, 0x21, 0x22,
+        0x23, 0x10};
+    struct {
+        dm_certificate certificate;
+        uint8_t after[16];
+    } memory;
+    struct {
+        dm_fault fault;
+        uint8_t after[16];
+    } fault;
+    memset(&memory, 0xaa, sizeof memory);
+    memset(&fault, 0xaa, sizeof fault);
+    dm_certificate *c = &memory.certificate;
+    dm_fault *f = &fault.fault;
+    expect(dm_read_certificate(input, sizeof input, c, f) == DM_OK, "a certificate is read");
+    expect(is_at(c->tbs, input, 3, 125), "tbs");
+    expect(is_at(c->serial_number, input, 12, 2), "serial number");
+    expect(is_at(c->signature.identifier, input, 18, 2), "signature");
+    expect(is_at(c->signature.parameters, input, 20, 2), "its parameters");
+    expect(is_at(c->issuer, input, 24, 12) && is_at(c->subject, input, 72, 14), "names");
+    expect(is_at(c->key_algorithm.identifier, input, 92, 3), "the key's algorithm");
+    expect(c->key_algorithm.parameters.octets != NULL && c->key_algorithm.parameters.length == 0, "no parameters");
+    expect(has_bits(c->key, input, 98, 1, 1), "the key");
+    expect(has_bits(c->issuer_unique_id, input, 102, 2, 2), "the issuer's unique identifier");
+    expect(has_bits(c->subject_unique_id, input, 107, 3, 3), "the subject's");
+    expect(is_at(c->extensions, input, 114, 14), "extensions");
+    expect(is_at(c->signature_algorithm.identifier, input, 132, 4), "the algorithm");
+    expect(is_at(c->signature_algorithm.parameters, input, 136, 3), "its parameters");
+    expect(has_bits(c->signature_value, input, 142, 4, 4), "the signature");
+    expect(c->not_before.number == DM_UTC_TIME && c->not_after.number == DM_GENERALIZED_TIME, "types of times");
+    expect(c->not_before.time.year == 2026 && c->not_before.time.second == 5, "from");
+    expect(c->not_after.time.year == 2051 && c->not_after.time.second == 6 && c->not_after.time.zone == DM_UTC, "to");
+    expect(c->version == 3 && c->reserved == 0, "the version");
+    expect(is_untouched(memory.after, 0, 16) && is_untouched(fault.after, 0, 16), "nothing after is written");
+    expect(f->status == 0 && f->error == 0 && f->field == 0 && f->needed == 0,
+           "no fault");
+    expect(sizeof(dm_certificate) == 320 && sizeof(dm_fault) == 40, "a certificate has 320 octets, a fault 40");
+    expect(sizeof(dm_octets) == 16 && sizeof(dm_algorithm) == 32 && sizeof(dm_bits) == 24, "sizes of parts");
+    expect(sizeof(dm_moment) == 20 && sizeof(dm_digest) == 32, "and of times and digests");
+
+    expect(dm_read_certificate(input, sizeof input - 1, c, f) == DM_INCOMPLETE, "cut short");
+    expect(f->needed == 1 && f->is_in_list == 0 && f->offset == 0, "one octet is missing");
+    expect(f->field == DM_FIELD_CERTIFICATE && f->error == 0, "of the certificate");
+    uint8_t wrong[sizeof input];
+    memcpy(wrong, input, sizeof input);
+    wrong[10] = DM_OCTET_STRING;
+    expect(dm_read_certificate(wrong, sizeof wrong, c, f) == DM_ERROR, "an error");
+    expect(f->offset == 10 && f->list_end == 128 && f->is_in_list == 1, "its offset and list");
+    expect(f->error == DM_ERROR_UNEXPECTED_TAG && f->field == DM_FIELD_SERIAL_NUMBER, "its number and field");
+    expect(c->version == 3 && is_at(c->tbs, input, 3, 125), "the certificate stays");
+
+    dm_octets list = c->extensions;
+    struct {
+        dm_extension extension;
+        uint8_t after[16];
+    } extension;
+    memset(&extension, 0xaa, sizeof extension);
+    expect(dm_next_extension(&list, &extension.extension) == 1 && list.length == 0, "an extension");
+    expect(is_at(extension.extension.identifier, input, 118, 3), "its identifier");
+    expect(is_at(extension.extension.value, input, 126, 2), "its value");
+    expect(extension.extension.critical == 1 && extension.extension.kind == DM_BASIC_CONSTRAINTS, "its last fields");
+    expect(is_untouched(extension.after, 0, 16) && sizeof(dm_extension) == 40, "its size");
+    expect(dm_next_extension(&list, &extension.extension) == 0, "there is no other");
+
+    dm_octets attributes;
+    struct {
+        dm_attribute attribute;
+        uint8_t after[16];
+    } attribute;
+    memset(&attribute, 0xaa, sizeof attribute);
+    list = c->subject;
+    expect(dm_next_relative_name(&list, &attributes) == 1 && list.length == 0, "a relative name");
+    expect(is_at(attributes, input, 74, 12), "its attributes");
+    expect(dm_next_attribute(&attributes, &attribute.attribute) == 1 && attributes.length == 0, "an attribute");
+    expect(is_at(attribute.attribute.identifier, input, 78, 3), "its type");
+    expect(is_at(attribute.attribute.value, input, 83, 3), "its value");
+    expect(attribute.attribute.number == DM_UTF8_STRING && attribute.attribute.tag_class == DM_UNIVERSAL, "its tag");
+    expect(attribute.attribute.constructed == 0 && attribute.attribute.reserved == 0, "its last fields");
+    expect(is_untouched(attribute.after, 0, 16) && sizeof(dm_attribute) == 40, "its size");
+    expect(sizeof(dm_general_name) == 40 && sizeof(dm_basic_constraints) == 12, "sizes of names and constraints");
+    expect(sizeof(dm_authority_key_identifier) == 64, "and of an authority key identifier");
+}
+
 int main(void) {
     test_elements();
     test_outcomes();
     test_times();
     test_writers();
+    test_certificates();
     printf("layout: %d passed, %d failed\n", passed, failed);
     return failed != 0;
 }

@@ -575,7 +575,41 @@ static void test_error_texts(void) {
     expect_text(66, "a number has no octets (X.690 8.3.1)");
 }
 
+/* NULL is taken with length 0, as an empty std::vector has it. */
+static void test_none(void) {
+    static const uint8_t digest_of_none[] = {0xe3, 0xb0, 0xc4, 0x42, 0x98, 0xfc, 0x1c, 0x14, 0x9a, 0xfb, 0xf4,
+                                             0xc8, 0x99, 0x6f, 0xb9, 0x24, 0x27, 0xae, 0x41, 0xe4, 0x64, 0x9b,
+                                             0x93, 0x4c, 0xa4, 0x95, 0x99, 0x1b, 0x78, 0x52, 0xb8, 0x55};
+    dm_outcome outcome;
+    dm_certificate certificate;
+    dm_extension extension;
+    dm_octets none = {NULL, 0}, item;
+    dm_attribute attribute;
+    dm_general_name name;
+    dm_digest digest;
+    dm_fault fault;
+    uint64_t number = 7;
+    size_t length = 7;
+    expect(dm_check_der(NULL, 0, 9, &outcome) == DM_INCOMPLETE && outcome.missing > 0, "check", "NULL");
+    expect(dm_parse_ber(NULL, 0, 9, NULL, 0, &outcome) == DM_INCOMPLETE, "parse", "NULL");
+    expect(dm_write_der(NULL, 0, NULL, 0, &outcome) == DM_OK && outcome.length == 0, "write", "NULL");
+    expect(dm_read_u64(NULL, 0, &number) == 0 && number == 0, "read_u64", "NULL");
+    expect(dm_read_oid(NULL, 0, NULL, 0, &length) == 0 && length == 0, "read_oid", "NULL");
+    expect(dm_error_text(0, NULL, 0) == 8, "error_text", "NULL");
+    expect(dm_read_certificate(NULL, 0, &certificate, &fault) == DM_INCOMPLETE && fault.needed == 1, "certificate",
+           "NULL");
+    expect(dm_name_text(NULL, 0, NULL, 0) == 0, "name_text", "NULL");
+    expect(dm_next_extension(&none, &extension) == 0 && dm_next_relative_name(&none, &item) == 0, "lists", "NULL");
+    expect(dm_next_attribute(&none, &attribute) == 0 && dm_next_general_name(&none, &name) == 0, "lists", "NULL");
+    dm_sha256(NULL, 0, &digest);
+    expect(memcmp(digest.octets, digest_of_none, sizeof digest_of_none) == 0, "sha256", "NULL");
+    dm_writer writer = dm_writer_over(NULL, 0);
+    dm_put_octets(&writer, NULL, 0);
+    expect(dm_finish(&writer, &length) == DM_NO_ROOM && length == 2, "writer", "NULL");
+}
+
 int main(void) {
+    test_none();
     test_rows();
     test_firsts();
     test_writings();

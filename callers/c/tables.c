@@ -25,6 +25,8 @@ static const struct {
     {"it ends ", DM_ERROR_OVERRUN},
     {"the tag number isn't in the fewest octets", DM_ERROR_INVALID_TAG},
     {"the first length octet is ff", DM_ERROR_INVALID_LENGTH},
+    {"the tag number is above ", DM_ERROR_INVALID_TAG},
+    {"the length is above ", DM_ERROR_INVALID_LENGTH},
     {"a primitive element has an indefinite length", DM_ERROR_CONSTRUCTED_EXPECTED},
     {"a length is indefinite", DM_ERROR_INDEFINITE_LENGTH},
     {"a length isn't in the fewest octets", DM_ERROR_LENGTH_NOT_MINIMAL},
@@ -113,11 +115,13 @@ static int is_checked(const char *call, const char *answer, const uint8_t *input
     return strcmp(answer, are[BER] ? are[DER] ? "BER and DER" : "BER" : are[DER] ? "DER" : "none") == 0;
 }
 
-/* Whether an error has this text, or is of a cause that has it. */
+/* Whether an error has this text, or is of a cause that has it. What `der` says of the outermost element isn't in it. */
 static int has_text(uint32_t error, const char *text) {
     uint8_t own[DM_TEXT_OCTETS];
     size_t size = dm_error_text(error, own, sizeof own);
-    if (size == strlen(text) && memcmp(own, text, size) == 0) return 1;
+    const char *outermost = strstr(text, "; the outermost element claims ");
+    size_t length = outermost == NULL ? strlen(text) : (size_t)(outermost - text);
+    if (size == length && memcmp(own, text, size) == 0) return 1;
     for (size_t i = 0; i < sizeof causes / sizeof *causes; i++) {
         if (begins(text, causes[i].text)) return causes[i].number == error;
     }
@@ -138,8 +142,11 @@ static int is_fault(enum rules rules, const char *answer, const uint8_t *input, 
         if (missing != NULL) missing += strlen("at least ");
     }
     if (missing != NULL) return outcome.status == DM_INCOMPLETE && outcome.missing == strtoull(missing, NULL, 10);
-    return outcome.status == DM_ERROR && outcome.place == strtoull(at + strlen(" at "), NULL, 10)
-           && has_text(outcome.error, text);
+    size_t place = strtoull(at + strlen(" at "), NULL, 10);
+    /* (what follows the last element is read as one here, which may be cut) */
+    if (strstr(text, " after the end") != NULL && outcome.status == DM_INCOMPLETE) return place < length;
+    return outcome.status == DM_ERROR && outcome.place == place
+           && (strstr(text, " after the end") != NULL || has_text(outcome.error, text));
 }
 
 /* Whether the octets are written as DER if they are elements, and as they are if they are DER. */
@@ -205,7 +212,7 @@ static int try_line(void) {
     line[strcspn(line, "\r\n")] = 0;
     char *bracket = strrchr(line, ']');
     if (line[0] == 0 || line[0] == '#') return 1;
-    if (line[0] == '[' && bracket != NULL) {
+    if (line[0] == '[' && bracket != NULL && bracket[1] == 0) {
         *bracket = 0;
         strcpy(calls, line + 1);
         return 1;

@@ -1,15 +1,15 @@
-/* Reads BER and DER (ITU-T X.690), and writes DER. What is proved of each call is in the repository's
- * docs/GUARANTEES.md.
+/* Reads BER and DER (ITU-T X.690), and certificates (RFC 5280), and writes DER. What is proved of each call is in the
+ * repository's docs/GUARANTEES.md.
  *
- * No call allocates, keeps a pointer or has a state but that of a dm_writer, which is the caller's. So calls may run in
- * several threads at a time, each with writers of its own.
+ * No call allocates, keeps a pointer or has a state but that of a dm_writer or a list, which are the caller's. So calls
+ * may run in several threads at a time, each with writers and lists of its own.
  *
  * The caller owes this, and nothing checks it: each pointer may be read or written for the length that is
- * passed beside it, is aligned for its type and is not NULL, not even with length 0; what is written does
+ * passed beside it, is aligned for its type and is not NULL, unless that length is 0; what is written does
  * not overlap anything else that is passed; and the stack has space for DM_MAX_DEPTH levels of
  * DM_LEVEL_OCTETS each. What is written to may be uninitialised.
  *
- * Offsets (`place`) are numbers of octets from the start of the input. */
+ * Offsets (`place`, `offset`) are numbers of octets from the start of the input. */
 #ifndef DUMAREWHI_H
 #define DUMAREWHI_H
 
@@ -19,6 +19,23 @@
 #ifdef __cplusplus
 extern "C" {
 #endif
+
+/* The version of this header and of the library, by https://semver.org: 10000 * major + 100 * minor + patch. */
+#define DM_VERSION_MAJOR 0
+#define DM_VERSION_MINOR 1
+#define DM_VERSION_PATCH 0
+#define DM_VERSION (DM_VERSION_MAJOR * 10000 + DM_VERSION_MINOR * 100 + DM_VERSION_PATCH)
+uint32_t dm_version(void);
+
+/* The tag numbers of universal types (X.680 8.6, table 1). */
+enum dm_universal {
+    DM_BOOLEAN = 1, DM_INTEGER = 2, DM_BIT_STRING = 3, DM_OCTET_STRING = 4, DM_NULL = 5, DM_OBJECT_IDENTIFIER = 6,
+    DM_OBJECT_DESCRIPTOR = 7, DM_EXTERNAL = 8, DM_REAL = 9, DM_ENUMERATED = 10, DM_EMBEDDED_PDV = 11,
+    DM_UTF8_STRING = 12, DM_RELATIVE_OID = 13, DM_SEQUENCE = 16, DM_SET = 17, DM_NUMERIC_STRING = 18,
+    DM_PRINTABLE_STRING = 19, DM_T61_STRING = 20, DM_VIDEOTEX_STRING = 21, DM_IA5_STRING = 22, DM_UTC_TIME = 23,
+    DM_GENERALIZED_TIME = 24, DM_GRAPHIC_STRING = 25, DM_VISIBLE_STRING = 26, DM_GENERAL_STRING = 27,
+    DM_UNIVERSAL_STRING = 28, DM_CHARACTER_STRING = 29, DM_BMP_STRING = 30
+};
 
 /* One element of the input: its identifier octets (X.690 8.1.2), and where it is. */
 typedef struct dm_element {
@@ -177,7 +194,20 @@ enum dm_error {
     DM_ERROR_SET_PRIMITIVE = 96, /* 8.11.1 */
     DM_ERROR_EMBEDDED_PDV_PRIMITIVE = 97, /* 8.17 */
     DM_ERROR_EXTERNAL_PRIMITIVE = 98, /* 8.18.1 */
-    DM_ERROR_CHARACTER_STRING_PRIMITIVE = 99 /* 8.24 */
+    DM_ERROR_CHARACTER_STRING_PRIMITIVE = 99, /* 8.24 */
+    /* rules of RFC 5280 that its ASN.1 doesn't say, of dm_read_strict_certificate */
+    DM_ERROR_ALGORITHMS_DIFFER = 128, /* 4.1.1.2 */
+    DM_ERROR_SERIAL_NUMBER_NOT_POSITIVE = 129, /* 4.1.2.2 */
+    DM_ERROR_SERIAL_NUMBER_TOO_LONG = 130, /* 4.1.2.2: more than 20 octets */
+    DM_ERROR_ISSUER_EMPTY = 131, /* 4.1.2.4 */
+    DM_ERROR_ATTRIBUTES_OUT_OF_ORDER = 132, /* 4.1, X.690 11.6 */
+    DM_ERROR_EARLY_GENERALIZED_TIME = 133, /* 4.1.2.5: a time to the end of 2049 is a UTCTime */
+    DM_ERROR_TIME_WITH_FRACTION = 134, /* 4.1.2.5.2 */
+    DM_ERROR_UNIQUE_ID_IN_VERSION_1 = 135, /* 4.1.2.8 */
+    DM_ERROR_EXTENSIONS_BEFORE_VERSION_3 = 136, /* 4.1.2.9 */
+    DM_ERROR_EXTENSION_REPEATED = 137, /* 4.2 */
+    DM_ERROR_SUBJECT_WITHOUT_NAME = 138, /* 4.1.2.6, 4.2.1.6 */
+    DM_ERROR_VALUE_NOT_DER = 139 /* X.690 10 */
 };
 
 /* Writes the text of an error, without a 0 after it: its first `room` octets, if it is longer. Returns the length
@@ -185,6 +215,100 @@ enum dm_error {
 size_t dm_error_text(uint32_t error, uint8_t *text, size_t room);
 
 #define DM_TEXT_OCTETS 160
+
+/* The text of an error, with a 0 after it: the same as dm_error_text has. "unknown error" for another number. */
+static inline const char *dm_error_string(uint32_t error) {
+    switch (error) {
+    case 0: return "no error";
+    case DM_ERROR_WRONG_TYPE: return "wrong type";
+    case DM_ERROR_WRONG_VALUE: return "wrong value";
+    case DM_ERROR_MAX_DEPTH: return "maximum depth reached";
+    case DM_ERROR_INVALID_LENGTH: return "invalid length";
+    case DM_ERROR_INVALID_TAG: return "invalid tag";
+    case DM_ERROR_UNKNOWN_TAG: return "unknown tag";
+    case DM_ERROR_UNEXPECTED_TAG: return "unexpected tag";
+    case DM_ERROR_UNEXPECTED_CLASS: return "unexpected class";
+    case DM_ERROR_CONSTRUCTED_EXPECTED: return "constructed encoding expected";
+    case DM_ERROR_PRIMITIVE_EXPECTED: return "primitive encoding expected";
+    case DM_ERROR_INTEGER_TOO_LARGE: return "integer too large";
+    case DM_ERROR_INTEGER_NEGATIVE: return "integer negative";
+    case DM_ERROR_INVALID_VALUE: return "invalid value";
+    case DM_ERROR_INVALID_CHARACTER: return "invalid character in string";
+    case DM_ERROR_INVALID_TIME: return "invalid date or time";
+    case DM_ERROR_UNSUPPORTED: return "unsupported";
+    case DM_ERROR_OVERRUN: return "item runs past the end of its container";
+    case DM_ERROR_PARSER_FAULT: return "parser fault";
+    case DM_ERROR_INDEFINITE_LENGTH: return "DER constraint failed: indefinite length";
+    case DM_ERROR_LENGTH_NOT_MINIMAL: return "DER constraint failed: length not minimal";
+    case DM_ERROR_CONSTRUCTED: return "DER constraint failed: constructed";
+    case DM_ERROR_INVALID_BOOLEAN: return "DER constraint failed: invalid boolean";
+    case DM_ERROR_INTEGER_EMPTY: return "DER constraint failed: integer empty";
+    case DM_ERROR_INTEGER_LEADING_ZEROES: return "DER constraint failed: integer with leading zeroes";
+    case DM_ERROR_INTEGER_LEADING_FF: return "DER constraint failed: integer with leading ff";
+    case DM_ERROR_MISSING_TIME_ZONE: return "DER constraint failed: missing time zone";
+    case DM_ERROR_MISSING_SECONDS: return "DER constraint failed: missing seconds";
+    case DM_ERROR_FRACTION_NOT_MINIMAL: return "DER constraint failed: fraction not minimal";
+    case DM_ERROR_UNUSED_BITS_NOT_ZERO: return "DER constraint failed: unused bits not zero";
+    case DM_ERROR_SET_OUT_OF_ORDER: return "DER constraint failed: set out of order";
+    case DM_ERROR_NO_END_MARKER: return "an indefinite length has no end-of-contents octets (X.690 8.1.3.6)";
+    case DM_ERROR_STRAY_END_MARKER: return "end-of-contents octets, and no indefinite length ends here (X.690 8.1.5)";
+    case DM_ERROR_PART_OF_ANOTHER_TYPE:
+        return "a part of a constructed string isn't an OCTET STRING, or of a BIT STRING no BIT STRING "
+               "(X.690 8.6.4 and 8.7.3)";
+    case DM_ERROR_UNUSED_BITS_INSIDE:
+        return "a part of a BIT STRING has unused bits, and another part follows (X.690 8.6.4)";
+    case DM_ERROR_NOT_DER: return "these are no elements of DER (X.690 10)";
+    case DM_ERROR_BOOLEAN_LENGTH: return "a BOOLEAN isn't one octet (X.690 8.2.1)";
+    case DM_ERROR_BOOLEAN_VALUE: return "a BOOLEAN is neither 00 nor ff (X.690 11.1)";
+    case DM_ERROR_NUMBER_EMPTY: return "a number has no octets (X.690 8.3.1)";
+    case DM_ERROR_NUMBER_PADDED: return "the first nine bits of a number are alike (X.690 8.3.2)";
+    case DM_ERROR_UNUSED_BITS_MISSING: return "a BIT STRING has no octets (X.690 8.6.2.1)";
+    case DM_ERROR_UNUSED_BITS_ABOVE_SEVEN: return "more than seven bits are unused (X.690 8.6.2.2)";
+    case DM_ERROR_UNUSED_BITS_OF_NONE: return "a BIT STRING without bits has unused ones (X.690 8.6.2.3)";
+    case DM_ERROR_UNUSED_BIT_IS_SET: return "an unused bit isn't 0 (X.690 11.2.1)";
+    case DM_ERROR_NULL_NOT_EMPTY: return "a NULL has octets (X.690 8.8.2)";
+    case DM_ERROR_IDENTIFIER_EMPTY: return "an identifier has no octets (X.690 8.19.2, 8.20.2)";
+    case DM_ERROR_ARC_OPEN: return "the last arc has no end (X.690 8.19.2, 8.20.2)";
+    case DM_ERROR_ARC_PADDED: return "an arc begins with 80 (X.690 8.19.2, 8.20.2)";
+    case DM_ERROR_REAL_BASE_RESERVED: return "the base of a REAL is a reserved one (X.690 8.5.7.2)";
+    case DM_ERROR_REAL_EXPONENT_MISSING: return "a REAL has no exponent (X.690 8.5.7.4)";
+    case DM_ERROR_REAL_MANTISSA_MISSING: return "a REAL has no mantissa (X.690 8.5.7.5)";
+    case DM_ERROR_REAL_EXPONENT_PADDED: return "the first nine bits of an exponent are alike (X.690 8.5.7.4)";
+    case DM_ERROR_REAL_BASE_OR_SCALE: return "a REAL has a base other than 2 or a scaling factor (X.690 11.3.1)";
+    case DM_ERROR_REAL_EXPONENT_NOT_FEWEST: return "an exponent isn't in its fewest octets (X.690 11.3.1)";
+    case DM_ERROR_REAL_MANTISSA_NOT_FEWEST: return "a mantissa is even or begins with 00 (X.690 11.3.1)";
+    case DM_ERROR_REAL_SPECIAL: return "a special value of a REAL isn't known (X.690 8.5.9)";
+    case DM_ERROR_REAL_DECIMAL: return "a decimal REAL isn't in its form of ISO 6093 (X.690 8.5.8)";
+    case DM_ERROR_REAL_DECIMAL_NOT_STRICT: return "a decimal REAL has needless characters (X.690 11.3.2)";
+    case DM_ERROR_NOT_UTF8: return "a UTF8String isn't UTF-8 (X.690 8.23.10)";
+    case DM_ERROR_CHARACTER_OUTSIDE: return "an octet is outside of the character set (X.690 8.23)";
+    case DM_ERROR_UNIVERSAL_STRING_LENGTH: return "a UniversalString isn't groups of four octets (X.690 8.23.7)";
+    case DM_ERROR_BMP_STRING_LENGTH: return "a BMPString isn't pairs of octets (X.690 8.23.9)";
+    case DM_ERROR_TIME_TEXT: return "a time isn't a text of its type (X.690 8.25)";
+    case DM_ERROR_TIME_NOT_IN_Z: return "a time doesn't end in Z (X.690 11.7.1, 11.8.1)";
+    case DM_ERROR_TIME_WITHOUT_SECONDS: return "a time has no seconds (X.690 11.7.2, 11.8.2)";
+    case DM_ERROR_TIME_COMMA: return "a fraction has a comma (X.690 11.7.4)";
+    case DM_ERROR_TIME_LAST_ZERO: return "a fraction ends in 0 (X.690 11.7.3)";
+    case DM_ERROR_SEQUENCE_PRIMITIVE: return "a SEQUENCE is primitive (X.690 8.9.1)";
+    case DM_ERROR_SET_PRIMITIVE: return "a SET is primitive (X.690 8.11.1)";
+    case DM_ERROR_EMBEDDED_PDV_PRIMITIVE: return "an EMBEDDED PDV is primitive (X.690 8.17)";
+    case DM_ERROR_EXTERNAL_PRIMITIVE: return "an EXTERNAL is primitive (X.690 8.18.1)";
+    case DM_ERROR_CHARACTER_STRING_PRIMITIVE: return "a CHARACTER STRING is primitive (X.690 8.24)";
+    case DM_ERROR_ALGORITHMS_DIFFER: return "the signature algorithms differ";
+    case DM_ERROR_SERIAL_NUMBER_NOT_POSITIVE: return "the serial number is not positive";
+    case DM_ERROR_SERIAL_NUMBER_TOO_LONG: return "the serial number has more than 20 octets";
+    case DM_ERROR_ISSUER_EMPTY: return "the issuer has no name";
+    case DM_ERROR_ATTRIBUTES_OUT_OF_ORDER: return "attributes of a relative name are out of order";
+    case DM_ERROR_EARLY_GENERALIZED_TIME: return "a time before 2050 is a GeneralizedTime";
+    case DM_ERROR_TIME_WITH_FRACTION: return "a time has a fraction of a second";
+    case DM_ERROR_UNIQUE_ID_IN_VERSION_1: return "a unique identifier in version 1";
+    case DM_ERROR_EXTENSIONS_BEFORE_VERSION_3: return "extensions before version 3";
+    case DM_ERROR_EXTENSION_REPEATED: return "an extension is repeated";
+    case DM_ERROR_SUBJECT_WITHOUT_NAME: return "the subject has no name";
+    case DM_ERROR_VALUE_NOT_DER: return "a value of any type is not DER";
+    default: return "unknown error";
+    }
+}
 
 /* Values of content octets. Each returns 0 and writes the value, or returns the number of an error (one of
  * enum dm_error) and writes nothing. */
@@ -239,7 +363,7 @@ uint32_t dm_read_time(uint32_t number, const uint8_t *content, size_t length, dm
  * only dm_finish returns whether all have room. With a capacity of 0 a writer counts. What is behind the octets that
  * were counted stays as it was. The buffer is the caller's, and no call frees or moves it. */
 typedef struct dm_writer {
-    uint8_t *octets;    /* the buffer. Not NULL, not even with capacity 0 */
+    uint8_t *octets;    /* the buffer */
     size_t capacity;    /* how many octets it has room for */
     size_t count;       /* how many octets there are, room or not */
     size_t innermost;   /* where the length of the innermost open element is; 0 if none is open */
@@ -322,6 +446,380 @@ uint32_t dm_put_time(dm_writer *writer, uint32_t number, const dm_time *time);
  * buffer's first `count` octets are unspecified. DM_NOT_CLOSED, and 0: an element is open, or marks were closed in the
  * wrong order. Writing may go on after each of them. */
 uint32_t dm_finish(const dm_writer *writer, size_t *length);
+
+/* Octets: a part of an input. Nothing is copied: it lies in the input, and lives as long as that. An empty one may
+ * point anywhere. */
+typedef struct dm_octets {
+    const uint8_t *octets;
+    size_t length;
+} dm_octets;
+
+/* A field or a list that is kept as the encodings of its items, one after another, is a dm_octets too. A list is read
+ * by calls dm_next_..: each writes the item that the dm_octets begins with, leaves those after it, and returns 1; or it
+ * returns 0, and then both stay as they were. That is at the end, and where the octets begin with no such item: in a
+ * list that was read with the certificate there are none but these. */
+
+/* Why an input isn't what a call reads. All fields are 0 with DM_OK. */
+typedef struct dm_fault {
+    size_t offset;    /* the number of octets of the input before the element that shows it */
+    size_t list_end;  /* the number of octets before the end of the element that this one is in, if is_in_list is 1 */
+    size_t needed;    /* DM_INCOMPLETE, DM_ERROR_OVERRUN: how many octets the element needs, as far as the input shows:
+                       * those that are missing, or for a value of a universal type its length. 0 if that isn't known */
+    uint32_t status;  /* DM_OK, DM_ERROR or DM_INCOMPLETE */
+    uint32_t error;   /* DM_ERROR: one of enum dm_error */
+    uint32_t field;   /* one of enum dm_field: the first field that is wrong */
+    uint32_t is_in_list; /* 1 if the element is in another, 0 if it is outermost */
+} dm_fault;
+
+/* The fields of certificates (RFC 5280 4.1), lists of revoked certificates (5.1) and requests (RFC 2986 4). */
+enum dm_field {
+    DM_FIELD_NONE = 0, /* of a call that reads one value */
+    DM_FIELD_CERTIFICATE = 1, /* the outermost SEQUENCE, octets after it, or a rule of dm_read_strict_certificate */
+    DM_FIELD_TBS_CERTIFICATE = 2,
+    DM_FIELD_VERSION = 3,
+    DM_FIELD_SERIAL_NUMBER = 4,
+    DM_FIELD_SIGNATURE = 5,
+    DM_FIELD_ISSUER = 6,
+    DM_FIELD_VALIDITY = 7,
+    DM_FIELD_SUBJECT = 8,
+    DM_FIELD_SUBJECT_PUBLIC_KEY_INFO = 9,
+    DM_FIELD_ISSUER_UNIQUE_ID = 10,
+    DM_FIELD_SUBJECT_UNIQUE_ID = 11,
+    DM_FIELD_EXTENSIONS = 12,
+    DM_FIELD_SIGNATURE_ALGORITHM = 13,
+    DM_FIELD_SIGNATURE_VALUE = 14,
+    DM_FIELD_LIST = 32, /* CertificateList */
+    DM_FIELD_TBS_LIST = 33,
+    DM_FIELD_LIST_VERSION = 34,
+    DM_FIELD_LIST_SIGNATURE = 35,
+    DM_FIELD_LIST_ISSUER = 36,
+    DM_FIELD_THIS_UPDATE = 37,
+    DM_FIELD_NEXT_UPDATE = 38,
+    DM_FIELD_REVOKED_CERTIFICATES = 39,
+    DM_FIELD_LIST_EXTENSIONS = 40,
+    DM_FIELD_LIST_SIGNATURE_ALGORITHM = 41,
+    DM_FIELD_LIST_SIGNATURE_VALUE = 42,
+    DM_FIELD_REQUEST = 64, /* CertificationRequest */
+    DM_FIELD_REQUEST_INFO = 65,
+    DM_FIELD_REQUEST_VERSION = 66,
+    DM_FIELD_REQUEST_SUBJECT = 67,
+    DM_FIELD_REQUEST_KEY = 68,
+    DM_FIELD_REQUEST_ATTRIBUTES = 69,
+    DM_FIELD_REQUEST_SIGNATURE_ALGORITHM = 70,
+    DM_FIELD_REQUEST_SIGNATURE = 71
+};
+
+/* Writes the text of a fault, such as "tbsCertificate.version at 9: wrong value", without a 0 after it: its first
+ * `room` octets, if it is longer. Returns the length of the whole text, which is at most DM_TEXT_OCTETS. The texts
+ * are tested, not proved. */
+size_t dm_fault_text(const dm_fault *fault, uint8_t *text, size_t room);
+
+/* An algorithm (RFC 5280 4.1.1.2). */
+typedef struct dm_algorithm {
+    dm_octets identifier; /* the content octets of the OBJECT IDENTIFIER: dm_read_oid writes its text */
+    dm_octets parameters; /* one element of any type, with its header; empty if there is none */
+} dm_algorithm;
+
+/* A BIT STRING. */
+typedef struct dm_bits {
+    dm_octets octets;
+    uint32_t unused;     /* how many of the last bits aren't used */
+    uint32_t is_present; /* 1; or 0 for an optional one that is absent, and then the other fields are empty and 0 */
+} dm_bits;
+
+/* A Time (4.1.2.5). By DER it is in UTC. */
+typedef struct dm_moment {
+    dm_time time;
+    uint32_t number; /* the type that it is encoded as: DM_UTC_TIME or DM_GENERALIZED_TIME; 0 for an optional time
+                      * that is absent, and then all fields are 0 */
+} dm_moment;
+
+/* A certificate (4.1). */
+typedef struct dm_certificate {
+    dm_octets tbs;              /* the encoding of TBSCertificate: the octets that are signed */
+    dm_octets serial_number;    /* the content octets of the INTEGER, in two's complement */
+    dm_algorithm signature;     /* the algorithm that is signed with the rest */
+    dm_octets issuer;           /* the relative names: dm_next_relative_name */
+    dm_octets subject;          /* the same */
+    dm_algorithm key_algorithm; /* of the subject's key */
+    dm_bits key;
+    dm_bits issuer_unique_id;
+    dm_bits subject_unique_id;
+    dm_octets extensions;       /* dm_next_extension. Empty if there are none */
+    dm_algorithm signature_algorithm;
+    dm_bits signature_value;    /* it isn't verified */
+    dm_moment not_before;
+    dm_moment not_after;
+    uint32_t version;           /* 1, 2 or 3 */
+    uint32_t reserved;          /* 0 */
+} dm_certificate;
+
+/* Reads a certificate by DER, exactly as the ASN.1 of RFC 5280 has it, and nothing after it. The signature isn't
+ * verified. Of values of any type (parameters, attributes' values) the header is read. With another status than DM_OK
+ * the certificate stays as it was. The fault is written in any case. Returns its status. */
+uint32_t dm_read_certificate(const uint8_t *input, size_t length, dm_certificate *certificate, dm_fault *fault);
+
+/* Reads one that keeps the rules of the errors 128 to 139 too. The fault of a broken rule is the first in that order,
+ * with DM_FIELD_CERTIFICATE and offset 0. DM_ERROR_EXTENSION_REPEATED compares each extension with all that follow
+ * it, so the time grows with the square of their number. */
+uint32_t dm_read_strict_certificate(const uint8_t *input, size_t length, dm_certificate *certificate, dm_fault *fault);
+
+/* Names (4.1.2.4): the next relative name of a name, as its attributes, and the next attribute of a relative name. */
+typedef struct dm_attribute {
+    dm_octets identifier; /* the content octets of its type, an OBJECT IDENTIFIER */
+    dm_octets value;      /* the content octets of its value */
+    uint32_t number;      /* the tag number of the value, such as DM_UTF8_STRING */
+    uint8_t tag_class;    /* its class, one of enum dm_class */
+    uint8_t constructed;  /* its constructed bit, 0 or 1 */
+    uint16_t reserved;    /* 0 */
+} dm_attribute;
+
+uint32_t dm_next_relative_name(dm_octets *names, dm_octets *attributes);
+uint32_t dm_next_attribute(dm_octets *attributes, dm_attribute *attribute);
+
+/* Writes a name, which a certificate has, by RFC 4514, such as CN=example.org,O=Example\, Inc.: all of it printable
+ * ASCII or UTF-8. Writes the first `room` octets of the text, with no 0 after it, and returns the length of the whole
+ * text. The texts are tested, not proved. */
+size_t dm_name_text(const uint8_t *name, size_t length, uint8_t *text, size_t room);
+
+/* The next extension of a list (4.1.2.9). */
+typedef struct dm_extension {
+    dm_octets identifier; /* the content octets of the OBJECT IDENTIFIER */
+    dm_octets value;      /* the octets of the OCTET STRING: the encoding of a type that the identifier names */
+    uint32_t critical;    /* 0 or 1 */
+    uint32_t kind;        /* one of enum dm_extension_kind */
+} dm_extension;
+
+uint32_t dm_next_extension(dm_octets *extensions, dm_extension *extension);
+
+/* Which extension an identifier names (4.2). The numbers are the last arcs: of 2.5.29 (id-ce), but those of the access
+ * descriptions, of 1.3.6.1.5.5.7.1 (id-pe). */
+enum dm_extension_kind {
+    DM_EXTENSION_OTHER = 0,
+    DM_AUTHORITY_INFO_ACCESS = 1,
+    DM_SUBJECT_INFO_ACCESS = 11,
+    DM_SUBJECT_KEY_IDENTIFIER = 14,
+    DM_KEY_USAGE = 15,
+    DM_SUBJECT_ALT_NAME = 17,
+    DM_ISSUER_ALT_NAME = 18,
+    DM_BASIC_CONSTRAINTS = 19,
+    DM_NAME_CONSTRAINTS = 30,
+    DM_CRL_DISTRIBUTION_POINTS = 31,
+    DM_CERTIFICATE_POLICIES = 32,
+    DM_AUTHORITY_KEY_IDENTIFIER = 35,
+    DM_EXTENDED_KEY_USAGE = 37,
+    DM_FRESHEST_CRL = 46
+};
+
+/* Values of extensions (4.2.1). Each call reads the value of a dm_extension, by DER, and nothing after it. The value
+ * is an input of its own: offsets count from its start. With another status than DM_OK what is read stays as it was.
+ * The fault is written in any case, with DM_FIELD_NONE. Returns its status. */
+
+typedef struct dm_basic_constraints {
+    uint32_t ca;              /* 0 or 1 */
+    uint32_t has_path_length; /* 0 or 1 */
+    uint32_t path_length;     /* 0 if there is none. Above 2^32-1 is an error */
+} dm_basic_constraints;
+
+uint32_t dm_read_basic_constraints(const uint8_t *value, size_t length, dm_basic_constraints *constraints,
+                                   dm_fault *fault);
+
+/* The bits of a KeyUsage, by enum dm_key_usage. */
+uint32_t dm_read_key_usage(const uint8_t *value, size_t length, uint32_t *usage, dm_fault *fault);
+
+enum dm_key_usage {
+    DM_USAGE_DIGITAL_SIGNATURE = 1,
+    DM_USAGE_CONTENT_COMMITMENT = 2,
+    DM_USAGE_KEY_ENCIPHERMENT = 4,
+    DM_USAGE_DATA_ENCIPHERMENT = 8,
+    DM_USAGE_KEY_AGREEMENT = 16,
+    DM_USAGE_KEY_CERT_SIGN = 32,
+    DM_USAGE_CRL_SIGN = 64,
+    DM_USAGE_ENCIPHER_ONLY = 128,
+    DM_USAGE_DECIPHER_ONLY = 256
+};
+
+/* The names of a SubjectAltName or an IssuerAltName, one at least, and the next one of them. */
+uint32_t dm_read_general_names(const uint8_t *value, size_t length, dm_octets *names, dm_fault *fault);
+
+typedef struct dm_general_name {
+    dm_octets octets;     /* the text, the address, the identifier's content octets, the relative names, or content
+                           * octets that aren't looked into; of DM_OTHER_NAME the content octets of its value */
+    dm_octets identifier; /* DM_OTHER_NAME: the content octets of its type, an OBJECT IDENTIFIER. Else empty */
+    uint32_t kind;        /* one of enum dm_general_name_kind */
+    uint32_t reserved;    /* 0 */
+} dm_general_name;
+
+enum dm_general_name_kind { /* the numbers of the tags */
+    DM_OTHER_NAME = 0,
+    DM_RFC822_NAME = 1,   /* text of IA5String (ASCII) */
+    DM_DNS_NAME = 2,      /* the same */
+    DM_X400_ADDRESS = 3,
+    DM_DIRECTORY_NAME = 4,
+    DM_EDI_PARTY_NAME = 5,
+    DM_URI = 6,           /* text of IA5String */
+    DM_IP_ADDRESS = 7,    /* 4 octets of IPv4, 16 of IPv6; their number isn't asked */
+    DM_REGISTERED_ID = 8
+};
+
+uint32_t dm_next_general_name(dm_octets *names, dm_general_name *name);
+
+/* The identifiers of the purposes of an ExtendedKeyUsage, one at least, and the content octets of the next one. */
+uint32_t dm_read_extended_key_usage(const uint8_t *value, size_t length, dm_octets *purposes, dm_fault *fault);
+uint32_t dm_next_key_purpose(dm_octets *purposes, dm_octets *identifier);
+
+/* A SubjectKeyIdentifier: its octets. */
+uint32_t dm_read_subject_key_identifier(const uint8_t *value, size_t length, dm_octets *identifier, dm_fault *fault);
+
+/* An AuthorityKeyIdentifier. A field that is absent is empty. */
+typedef struct dm_authority_key_identifier {
+    dm_octets key_identifier;
+    dm_octets issuer;        /* general names: dm_next_general_name */
+    dm_octets serial_number; /* the content octets of the INTEGER, in two's complement */
+    uint32_t has_key_identifier; /* 0 or 1, and so on */
+    uint32_t has_issuer;
+    uint32_t has_serial_number;
+    uint32_t reserved;       /* 0 */
+} dm_authority_key_identifier;
+
+uint32_t dm_read_authority_key_identifier(const uint8_t *value, size_t length, dm_authority_key_identifier *identifier,
+                                          dm_fault *fault);
+
+/* Lists of revoked certificates (RFC 5280 5.1). */
+typedef struct dm_certificate_list {
+    dm_octets tbs;            /* the encoding of TBSCertList: the octets that are signed */
+    dm_algorithm signature;   /* the algorithm that is signed with the rest */
+    dm_octets issuer;         /* the relative names: dm_next_relative_name */
+    dm_octets revoked;        /* dm_next_revoked. Empty if there are none */
+    dm_octets extensions;     /* dm_next_extension. Empty if there are none */
+    dm_algorithm signature_algorithm;
+    dm_bits signature_value;  /* it isn't verified */
+    dm_moment this_update;
+    dm_moment next_update;    /* its number is 0 if it is absent */
+    uint32_t version;         /* 1 or 2 */
+    uint32_t has_revoked;     /* whether the list of entries is there, 0 or 1 */
+} dm_certificate_list;
+
+/* Reads a list by DER, exactly as the ASN.1 has it, and nothing after it, as dm_read_certificate. */
+uint32_t dm_read_certificate_list(const uint8_t *input, size_t length, dm_certificate_list *list, dm_fault *fault);
+
+/* The next entry (5.1.2.6). */
+typedef struct dm_revoked {
+    dm_octets serial_number; /* the content octets of the INTEGER, in two's complement */
+    dm_octets extensions;    /* dm_next_extension. Empty if there are none */
+    dm_moment date;
+    uint32_t reserved;       /* 0 */
+} dm_revoked;
+
+uint32_t dm_next_revoked(dm_octets *revoked, dm_revoked *entry);
+
+/* Certification requests (RFC 2986 4). Their version is 0. */
+typedef struct dm_request {
+    dm_octets info;             /* the encoding of CertificationRequestInfo: the octets that are signed */
+    dm_octets subject;          /* the relative names: dm_next_relative_name */
+    dm_algorithm key_algorithm; /* of the subject's key */
+    dm_bits key;
+    dm_octets attributes;       /* dm_next_request_attribute. Empty if there are none */
+    dm_algorithm signature_algorithm;
+    dm_bits signature;          /* it isn't verified */
+} dm_request;
+
+/* Reads a request by DER, exactly as the ASN.1 has it, and nothing after it, as dm_read_certificate. */
+uint32_t dm_read_request(const uint8_t *input, size_t length, dm_request *request, dm_fault *fault);
+
+/* The next attribute (4.1). */
+typedef struct dm_request_attribute {
+    dm_octets identifier; /* the content octets of its type, an OBJECT IDENTIFIER */
+    dm_octets values;     /* the encodings of its values, one after another */
+} dm_request_attribute;
+
+uint32_t dm_next_request_attribute(dm_octets *attributes, dm_request_attribute *attribute);
+
+/* The extensions that the values of the attribute extensionRequest (RFC 2985 5.4.2), 1.2.840.113549.1.9.14, ask for.
+ * Offsets count from the start of the values. */
+uint32_t dm_read_extension_request(const uint8_t *values, size_t length, dm_octets *extensions, dm_fault *fault);
+
+/* The SHA-256 digest (FIPS 180-4) of an input or a part of it, such as a certificate's fingerprint. */
+typedef struct dm_digest {
+    uint8_t octets[32];
+} dm_digest;
+
+void dm_sha256(const uint8_t *input, size_t length, dm_digest *digest);
+
+/* Reads field after field of a format, by DER or by BER:
+ *
+ *     dm_cursor input = dm_cursor_over(octets, length, DM_DER), fields;
+ *     if (dm_next_sequence(&input, &fields, &fault) == DM_OK && dm_next_u64(&fields, &version, &fault) == DM_OK
+ *         && dm_next_octets(&fields, &key, &fault) == DM_OK && dm_end(&fields, &fault) == DM_OK
+ *         && dm_end(&input, &fault) == DM_OK) ..
+ *
+ * A cursor is the octets of an input, or of the content of an element, that aren't read yet. With another status than
+ * DM_OK it stays where it is, and the value stays as it was. */
+typedef struct dm_cursor {
+    dm_octets left;     /* what isn't read yet. It is empty at the end */
+    size_t offset;      /* the number of octets of the input before it */
+    uint32_t rules;     /* one of enum dm_rules */
+    uint32_t is_inside; /* 1 if it is the content of an element: there an element that is cut short is
+                         * DM_ERROR_OVERRUN, since no further octets mend it; 0 if it is the input */
+    uint32_t implicit;  /* whether the next element has an implicit tag: 0 if not, else 1 + its enum dm_class */
+    uint32_t number;    /* the number of that tag */
+} dm_cursor;
+
+enum dm_rules { DM_BER = 0, DM_DER = 1 };
+
+/* A cursor at the start of an input. */
+static inline dm_cursor dm_cursor_over(const uint8_t *input, size_t length, uint32_t rules) {
+    dm_cursor cursor = {{input, length}, 0, rules, 0, 0, 0};
+    return cursor;
+}
+
+/* The next element has this implicit tag in place of that of its type (8.14.3). A call that reads nothing leaves it. */
+static inline void dm_expect_implicit(dm_cursor *cursor, uint32_t tag_class, uint32_t number) {
+    cursor->implicit = 1 + tag_class;
+    cursor->number = number;
+}
+
+/* Whether an element of this class and tag number is next, constructed or not: 1 or 0. An optional field is read if it
+ * is. */
+uint32_t dm_is_next(const dm_cursor *cursor, uint8_t tag_class, uint32_t number);
+
+/* Each reads the next element as one of this type, and by the cursor's rules. The fault is written in any case, with
+ * DM_FIELD_NONE. Returns its status. The errors come in this order: those of the header, and by BER of the framing of
+ * an indefinite length; DM_ERROR_UNEXPECTED_CLASS, DM_ERROR_UNEXPECTED_TAG, DM_ERROR_PRIMITIVE_EXPECTED or
+ * DM_ERROR_CONSTRUCTED_EXPECTED; those of the content octets. A string in parts is DM_ERROR_PRIMITIVE_EXPECTED. */
+uint32_t dm_next_bool(dm_cursor *cursor, uint8_t *value, dm_fault *fault);
+uint32_t dm_next_u64(dm_cursor *cursor, uint64_t *value, dm_fault *fault);
+uint32_t dm_next_i64(dm_cursor *cursor, int64_t *value, dm_fault *fault);
+uint32_t dm_next_enumerated(dm_cursor *cursor, uint64_t *value, dm_fault *fault);
+uint32_t dm_next_integer(dm_cursor *cursor, dm_octets *content, dm_fault *fault); /* in two's complement, of any size */
+uint32_t dm_next_octets(dm_cursor *cursor, dm_octets *octets, dm_fault *fault);   /* an OCTET STRING */
+uint32_t dm_next_oid(dm_cursor *cursor, dm_octets *content, dm_fault *fault);     /* dm_read_oid writes its text */
+uint32_t dm_next_bits(dm_cursor *cursor, dm_bits *bits, dm_fault *fault);
+uint32_t dm_next_null(dm_cursor *cursor, dm_fault *fault);
+uint32_t dm_next_utc_time(dm_cursor *cursor, dm_time *time, dm_fault *fault);
+uint32_t dm_next_generalized_time(dm_cursor *cursor, dm_time *time, dm_fault *fault);
+
+/* Cursors over the items of the next element, a SEQUENCE (8.9) or a SET (8.11), and over the content of one of this
+ * class, constructed bit and tag number, such as an explicit tag (8.14.2) or a string type: there `left` has its
+ * content octets, which aren't tested. */
+uint32_t dm_next_sequence(dm_cursor *cursor, dm_cursor *items, dm_fault *fault);
+uint32_t dm_next_set(dm_cursor *cursor, dm_cursor *items, dm_fault *fault);
+uint32_t dm_next_content(dm_cursor *cursor, uint8_t tag_class, uint8_t constructed, uint32_t number, dm_cursor *content,
+                         dm_fault *fault);
+
+/* An element of any type. Its content isn't read. */
+typedef struct dm_any {
+    dm_octets content;   /* its content octets */
+    uint32_t number;     /* the tag number */
+    uint8_t tag_class;   /* one of enum dm_class */
+    uint8_t constructed; /* the constructed bit, 0 or 1 */
+    uint16_t reserved;   /* 0 */
+} dm_any;
+
+uint32_t dm_next_any(dm_cursor *cursor, dm_any *element, dm_fault *fault);
+
+/* DM_OK if all octets are read, else DM_ERROR_PARSER_FAULT. */
+uint32_t dm_end(const dm_cursor *cursor, dm_fault *fault);
 
 #ifdef __cplusplus
 }

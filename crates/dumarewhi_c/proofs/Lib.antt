@@ -1,3 +1,4 @@
+pub mod AfterSequence
 pub mod Alike
 pub mod Firsts
 pub mod Moments

@@ -12,6 +12,8 @@ use Rattle.der_contents.specs.declared.content_error.ContentError.{ContentError}
 use Rattle.der_contents.specs.declared.content_error.ContentError.TheVariants as contents
 use Rattle.der_walk.specs.declared.cause.Cause.{Cause}
 use Rattle.der_walk.specs.declared.cause.Cause.TheVariants as causes
+use Rattle.der_x509.specs.declared.rules.Rule.{Rule}
+use Rattle.der_x509.specs.declared.rules.Rule.TheVariants as rules
 
 -- of a rule of DER beyond those of BER
 abbrev pub constraint_number : DerConstraint → ℕ
@@ -107,3 +109,18 @@ cause_number causes.OtherPart = 50
 cause_number causes.UnusedBitsInside = 51
 cause_number causes.NotDer = 52
 cause_number causes.TooDeep = 3
+
+-- of a rule that a certificate breaks
+abbrev pub rule_number : Rule → ℕ
+rule_number rules.SameAlgorithms = 128
+rule_number rules.PositiveSerialNumber = 129
+rule_number rules.ShortSerialNumber = 130
+rule_number rules.NamedIssuer = 131
+rule_number rules.OrderedAttributes = 132
+rule_number rules.UtcTimeTo2049 = 133
+rule_number rules.WholeSeconds = 134
+rule_number rules.UniqueIdVersion = 135
+rule_number rules.ExtensionsVersion = 136
+rule_number rules.DistinctExtensions = 137
+rule_number rules.NamedSubject = 138
+rule_number rules.DerValues = 139

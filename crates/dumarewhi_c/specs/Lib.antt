@@ -1,8 +1,16 @@
+pub mod Certificates
+pub mod Cursors
 pub mod Elements
 pub mod ErrorNumbers
+pub mod ExtensionValues
+pub mod Faults
+pub mod FieldNumbers
+pub mod Items
+pub mod Laws
 pub mod Outcomes
+pub mod Requests
+pub mod RevokedLists
 pub mod Tested
 pub mod Texts
 pub mod Values
 pub mod Writers
-pub mod Laws

@@ -91,7 +91,7 @@ fn is_definite(header: &Header<'_>) -> bool
 
 /// The number of a class, as in the first two bits of an identifier octet (X.690 8.1.2.2).
 #[inline(always)]
-fn class_number(class: Class) -> u8
+pub(crate) fn class_number(class: Class) -> u8
     ensures { result ≡ class_number class }
 {
     match class {

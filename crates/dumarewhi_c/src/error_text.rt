@@ -2,17 +2,27 @@
 ghost use Rattle.std.specs.Prelude.{List, ℕ};
 ghost use Rattle.dumarewhi_c.specs.Texts.{PutsText};
 
-use crate::errors::{FIRST_CONSTRAINT, FIRST_CONTENT};
+use crate::errors::{FIRST_CONSTRAINT, FIRST_CONTENT, FIRST_RULE};
+use crate::fault::{CERTIFICATE, DmFault, FIRST_LIST_FIELD, FIRST_REQUEST_FIELD};
 use crate::text::put_text;
 use arrayvec::ArrayString;
+use crl_reader::Field as ListField;
 use der_base::error::{BerError, DerConstraint};
 use der_contents::ContentError;
+use der_request::Field as RequestField;
 use der_walk::Cause;
+use der_x509::Field;
 use std::fmt;
 use std::fmt::Write;
 
 /// How many octets a text has at most.
 const LONGEST: usize = 160;
+
+/// The number of the error of an element that runs past the end of its list.
+const PAST_END: u32 = 17;
+
+/// That of octets left over or missing.
+const PARSER_FAULT: u32 = 18;
 
 /// An error by its number.
 #[derive(Clone, Copy)]
@@ -29,6 +39,59 @@ pub extern "C" fn dm_error_text(error: u32, text: &mut [u8]) -> usize
     put_text(text, 0, words.as_str().as_bytes())
 }
 
+/// Writes the text of a fault: its field, its offset and its error. Returns its length.
+#[unsafe(no_mangle)]
+pub extern "C" fn dm_fault_text(fault: &DmFault, text: &mut [u8]) -> usize
+    ensures { (words : List ℕ) × PutsText text.old 0 words text.new result }
+{
+    let mut words = ArrayString::<LONGEST>::new();
+    let _ = write!(words, "{fault}");
+    put_text(text, 0, words.as_str().as_bytes())
+}
+
+/// "tbsCertificate.version at 9: wrong value". A rule of certificates has no offset.
+impl fmt::Display for DmFault {
+    fn fmt<W: fmt::Write>(&self, f: &mut fmt::Formatter<W>) -> fmt::Result {
+        if self.status == 0 || self.error >= FIRST_RULE {
+            return write!(f, "{}", NumberedError(self.error));
+        }
+        write_field(f, self.field)?;
+        write!(f, "at {}: ", self.offset)?;
+        write_reason(f, self)
+    }
+}
+
+/// Writes what is wrong.
+fn write_reason<W: fmt::Write>(f: &mut fmt::Formatter<W>, fault: &DmFault) -> fmt::Result {
+    match fault.error {
+        0 => f.write_str("the input is cut short")?,
+        PAST_END if fault.is_in_list == 1 && fault.offset == fault.list_end => {
+            return f.write_str("an element is missing at the end of its list");
+        }
+        PAST_END => f.write_str("an element runs past the end of its list")?,
+        PARSER_FAULT => f.write_str("octets left over or missing")?,
+        error => write!(f, "{}", NumberedError(error))?,
+    }
+    if fault.needed == 0 {
+        return Ok(());
+    }
+    write!(f, ", needs {}", fault.needed)
+}
+
+/// Writes the name of the field with a number, if there is one.
+fn write_field<W: fmt::Write>(f: &mut fmt::Formatter<W>, number: u32) -> fmt::Result {
+    if let Some(field) = item(&FIELDS, CERTIFICATE, number) {
+        return write!(f, "{field} ");
+    }
+    if let Some(field) = item(&LIST_FIELDS, FIRST_LIST_FIELD, number) {
+        return write!(f, "{field} ");
+    }
+    match item(&REQUEST_FIELDS, FIRST_REQUEST_FIELD, number) {
+        Some(field) => write!(f, "{field} "),
+        None => Ok(()),
+    }
+}
+
 impl fmt::Display for NumberedError {
     fn fmt<W: fmt::Write>(&self, f: &mut fmt::Formatter<W>) -> fmt::Result {
         let number = self.0;
@@ -37,6 +100,9 @@ impl fmt::Display for NumberedError {
         }
         if let Some(cause) = cause_with(number) {
             return write!(f, "{cause}");
+        }
+        if let Some(text) = item(&RULES, FIRST_RULE, number) {
+            return f.write_str(text);
         }
         f.write_str(text_without_values(number))
     }
@@ -147,4 +213,65 @@ const CONTENT_ERRORS: [ContentError; 36] = [
     ContentError::EmbeddedPdvPrimitive,
     ContentError::ExternalPrimitive,
     ContentError::CharacterStringPrimitive,
+];
+
+/// The rules of certificates that are broken, in the order of their numbers.
+const RULES: [&str; 12] = [
+    "the signature algorithms differ",
+    "the serial number is not positive",
+    "the serial number has more than 20 octets",
+    "the issuer has no name",
+    "attributes of a relative name are out of order",
+    "a time before 2050 is a GeneralizedTime",
+    "a time has a fraction of a second",
+    "a unique identifier in version 1",
+    "extensions before version 3",
+    "an extension is repeated",
+    "the subject has no name",
+    "a value of any type is not DER",
+];
+
+/// The fields of a certificate, in the order of their numbers.
+const FIELDS: [Field; 14] = [
+    Field::Certificate,
+    Field::TbsCertificate,
+    Field::Version,
+    Field::SerialNumber,
+    Field::Signature,
+    Field::Issuer,
+    Field::Validity,
+    Field::Subject,
+    Field::SubjectPublicKeyInfo,
+    Field::IssuerUniqueId,
+    Field::SubjectUniqueId,
+    Field::Extensions,
+    Field::SignatureAlgorithm,
+    Field::SignatureValue,
+];
+
+/// Those of a list of revoked certificates.
+const LIST_FIELDS: [ListField; 11] = [
+    ListField::CertificateList,
+    ListField::TbsCertList,
+    ListField::Version,
+    ListField::Signature,
+    ListField::Issuer,
+    ListField::ThisUpdate,
+    ListField::NextUpdate,
+    ListField::RevokedCertificates,
+    ListField::CrlExtensions,
+    ListField::SignatureAlgorithm,
+    ListField::SignatureValue,
+];
+
+/// Those of a request.
+const REQUEST_FIELDS: [RequestField; 8] = [
+    RequestField::CertificationRequest,
+    RequestField::CertificationRequestInfo,
+    RequestField::Version,
+    RequestField::Subject,
+    RequestField::SubjectPublicKeyInfo,
+    RequestField::Attributes,
+    RequestField::SignatureAlgorithm,
+    RequestField::Signature,
 ];

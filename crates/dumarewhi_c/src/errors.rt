@@ -2,17 +2,21 @@
 ghost use Rattle.std.specs.Prelude.{◌≡◌};
 ghost use Rattle.der_base.specs.Refusal.{refusal};
 ghost use Rattle.dumarewhi_c.specs.ErrorNumbers.{cause_number, constraint_number, content_number};
-ghost use Rattle.dumarewhi_c.specs.ErrorNumbers.{number_of_result, refusal_number};
+ghost use Rattle.dumarewhi_c.specs.ErrorNumbers.{number_of_result, refusal_number, rule_number};
 
 use der_base::error::{BerError, DerConstraint};
 use der_contents::ContentError;
 use der_walk::Cause;
+use der_x509::Rule;
 
 /// The number of the first rule of DER beyond those of BER. The others follow in the order of `DerConstraint`.
 pub(crate) const FIRST_CONSTRAINT: u32 = 32;
 
 /// The number of the first rule of content octets. The others follow in the order of `ContentError`.
 pub(crate) const FIRST_CONTENT: u32 = 64;
+
+/// The number of the first rule of certificates. The others follow in the order of `Rule`.
+pub(crate) const FIRST_RULE: u32 = 128;
 
 /// The number of an error.
 pub(crate) fn refusal_number(e: BerError) -> u32
@@ -53,6 +57,13 @@ fn content_number(e: ContentError) -> u32
     ensures { result ≡ content_number e }
 {
     FIRST_CONTENT + e as u32
+}
+
+/// The number of a rule that a certificate breaks.
+pub(crate) fn rule_number(rule: Rule) -> u32
+    ensures { result ≡ rule_number rule }
+{
+    FIRST_RULE + rule as u32
 }
 
 /// The number of the cause of a fault. An input that is cut short is no error, and has 0.

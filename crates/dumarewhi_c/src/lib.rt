@@ -2,18 +2,33 @@
 //! `callers/c/include/dumarewhi.h` declares it all.
 #![tactic(auto)]
 
+pub mod certificate;
+pub mod cursor;
+pub mod digest;
 pub mod element;
 pub mod error_text;
 mod errors;
+pub mod extension;
+pub mod fault;
 pub mod fields;
+pub mod items;
 pub mod laws;
+pub mod lists;
 mod moment;
+pub mod name_text;
+pub mod next;
+pub mod octets;
 pub mod opening;
 pub mod outcome;
+pub mod parts;
 pub mod readers;
+pub mod request;
+pub mod revoked;
+mod sequences;
 pub mod state;
 pub mod tested;
 mod text;
 pub mod time;
 pub mod values;
+pub mod version;
 pub mod writer;

@@ -9,13 +9,13 @@ use der_values::U128Arcs;
 use itoa::Buffer;
 
 /// Writes arcs with points between them. Returns the length of the text.
-pub(crate) fn put_arcs(room: &mut [u8], mut arcs: U128Arcs<'_>) -> usize
-    ensures { PutsText room.old 0 (dotted (u128_arcs_left arcs.entry)) room.new result }
+pub(crate) fn put_arcs(room: &mut [u8], at: usize, mut arcs: U128Arcs<'_>) -> usize
+    ensures { PutsText room.old at (dotted (u128_arcs_left arcs.entry)) room.new result }
 {
     let Some(first) = arcs.next() else {
-        return 0;
+        return at;
     };
-    let end = put_number(room, 0, first);
+    let end = put_number(room, at, first);
     put_further_arcs(room, end, arcs)
 }
 

@@ -44,7 +44,7 @@ pub(crate) fn read_fields(tag: Tag, content: &[u8]) -> Result<DmTime, BerError>
 }
 
 /// The fields of a time of this type.
-fn time_fields(tag: Tag, time: ASN1DateTime) -> DmTime
+pub(crate) fn time_fields(tag: Tag, time: ASN1DateTime) -> DmTime
     ensures { result ≡ time_fields tag.0 time }
 {
     let (zone, zone_hours, zone_minutes) = zone_fields(time.tz);

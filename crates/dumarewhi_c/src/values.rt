@@ -80,7 +80,7 @@ pub extern "C" fn dm_read_oid(content: &[u8], text: &mut [u8], needed: &mut usiz
     let identifier = ObjectIdentifier::new(content);
     match identifier.u128_arcs() {
         Some(arcs) => {
-            *needed = put_arcs(text, arcs);
+            *needed = put_arcs(text, 0, arcs);
             0
         }
         None => refusal_number(BerError::BerValueError),

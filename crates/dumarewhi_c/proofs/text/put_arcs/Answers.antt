@@ -9,7 +9,8 @@ pub returns-in_default : goal.returns-in_default
 returns-in_default c =
     let room = c.args.room.now in
     let none : u128_arcs_left c.args.arcs ≡ [] = search rules in
-    subst (λ l. PutsText room 0 (dotted l) room 0) (sym none) (puts_none room 0 (omega arith))
+    let at = c.args.at in
+    subst (λ l. PutsText room at (dotted l) room at) (sym none) (puts_none room at c.ranges.at.fits)
 
 pub returns : goal.returns
 returns c =
@@ -19,5 +20,5 @@ returns c =
     let others = u128_arcs_left c.next.new.self in
     let some : u128_arcs_left c.args.arcs ≡ c.in-Some.first ∷ others = search rules in
     let short : length room ≤ 2 ^ 64 - 1 = omega arith in
-    let both = puts_more room before after (decimal c.in-Some.first) (pointed others) 0 c.put_number-end.result c.put_further_arcs.result short c.put_number-end.ensures c.put_further_arcs.ensures in
-    subst (λ l. PutsText room 0 (dotted l) after c.put_further_arcs.result) (sym some) both
+    let both = puts_more room before after (decimal c.in-Some.first) (pointed others) c.args.at c.put_number-end.result c.put_further_arcs.result short c.put_number-end.ensures c.put_further_arcs.ensures in
+    subst (λ l. PutsText room c.args.at (dotted l) after c.put_further_arcs.result) (sym some) both

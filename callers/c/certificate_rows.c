@@ -1,0 +1,334 @@
+/* Reads the files of rows about certificates, and compares what they say with what the library returns:
+ * certificate_rows FILE..
+ *
+ * A row has octets, a result and a remark, with bars between them. The calls that return it are in brackets above it:
+ * strict_certificate, certification_request, those of a value of an extension, and `certificate of` octets (or of those
+ * of a request or a list), whose rows are changes of them. Rows of other calls are passed over. */
+#include "dumarewhi.h"
+
+#include <stdio.h>
+#include <stdlib.h>
+#include <string.h>
+
+static char line[1 << 14], calls[1 << 14], found[1 << 12];
+static uint8_t octets[1 << 14];
+static size_t compared, failed;
+
+static int begins(const char *text, const char *prefix) { return strncmp(text, prefix, strlen(prefix)) == 0; }
+
+/* Adds to the result. */
+static void add(const char *text) { strncat(found, text, sizeof found - strlen(found) - 1); }
+
+/* The octets in digits, with a space before each but the first of the result. */
+static void add_octets(const char *title, dm_octets part) {
+    char digits[4];
+    add(title);
+    for (size_t i = 0; i < part.length; i++) {
+        sprintf(digits, found[0] == 0 ? "%02x" : " %02x", part.octets[i]);
+        add(digits);
+    }
+}
+
+static void add_text(const char *title, dm_octets part) {
+    add(title);
+    snprintf(found + strlen(found), sizeof found - strlen(found), "%.*s", (int)part.length, (const char *)part.octets);
+}
+
+static void add_fault(const dm_fault *fault) {
+    uint8_t text[DM_TEXT_OCTETS];
+    dm_octets whole = {text, dm_fault_text(fault, text, sizeof text)};
+    add_text("", whole);
+}
+
+/* The octets of numbers of two digits, in a block of their own size, so that a tool for memory sees each access past
+ * them. */
+static uint8_t *octets_of(const char *text, size_t *length) {
+    unsigned octet;
+    *length = 0;
+    for (; *text != 0 && *text != '|'; text++) {
+        if (*text == ' ') continue;
+        if (sscanf(text++, "%2x", &octet) == 1) octets[(*length)++] = (uint8_t)octet;
+    }
+    uint8_t *block = malloc(*length + (*length == 0));
+    if (block == NULL) exit(2);
+    memcpy(block, octets, *length);
+    return block;
+}
+
+static void read_strictly(const uint8_t *input, size_t length) {
+    static const char *const rules[] = {
+        "SameAlgorithms", "PositiveSerialNumber", "ShortSerialNumber", "NamedIssuer", "OrderedAttributes",
+        "UtcTimeTo2049", "WholeSeconds", "UniqueIdVersion", "ExtensionsVersion", "DistinctExtensions", "NamedSubject",
+        "DerValues"};
+    dm_certificate certificate;
+    dm_fault fault;
+    if (dm_read_certificate(input, length, &certificate, &fault) != DM_OK) {
+        add_fault(&fault);
+        return;
+    }
+    add("read");
+    if (dm_read_strict_certificate(input, length, &certificate, &fault) == DM_OK) return;
+    add(" breaks ");
+    if (fault.field == DM_FIELD_CERTIFICATE && fault.error - 128 < 12) add(rules[fault.error - 128]);
+}
+
+static void read_certificate(const uint8_t *input, size_t length) {
+    dm_certificate certificate;
+    dm_fault fault;
+    if (dm_read_certificate(input, length, &certificate, &fault) != DM_OK) {
+        add_fault(&fault);
+        return;
+    }
+    add("read");
+}
+
+static void read_constraints(const uint8_t *value, size_t length) {
+    dm_basic_constraints constraints;
+    dm_fault fault;
+    char path[24];
+    if (dm_read_basic_constraints(value, length, &constraints, &fault) != DM_OK) {
+        add_fault(&fault);
+        return;
+    }
+    add(constraints.ca == 1 ? "ca true" : "ca false");
+    sprintf(path, " path %u", (unsigned)constraints.path_length);
+    if (constraints.has_path_length == 1) add(path);
+}
+
+static void read_usage(const uint8_t *value, size_t length) {
+    static const char *const names[] = {
+        "digital_signature", "content_commitment", "key_encipherment", "data_encipherment", "key_agreement",
+        "key_cert_sign", "crl_sign", "encipher_only", "decipher_only"};
+    uint32_t usage;
+    dm_fault fault;
+    if (dm_read_key_usage(value, length, &usage, &fault) != DM_OK) {
+        add_fault(&fault);
+        return;
+    }
+    for (size_t i = 0; i < 9; i++) {
+        if ((usage >> i & 1) == 0) continue;
+        if (found[0] != 0) add(" ");
+        add(names[i]);
+    }
+}
+
+static void read_names(const uint8_t *value, size_t length) {
+    static const char *const kinds[] = {"otherName", "email", "DNS", "x400", "dirName", "edi", "URI", "IP", "RID"};
+    dm_octets names;
+    dm_general_name name;
+    dm_fault fault;
+    if (dm_read_general_names(value, length, &names, &fault) != DM_OK) {
+        add_fault(&fault);
+        return;
+    }
+    while (dm_next_general_name(&names, &name)) {
+        if (found[0] != 0) add(" ");
+        add_octets(kinds[name.kind], name.octets);
+    }
+}
+
+static void read_purposes(const uint8_t *value, size_t length) {
+    dm_octets purposes, identifier;
+    dm_fault fault;
+    unsigned count = 0;
+    if (dm_read_extended_key_usage(value, length, &purposes, &fault) != DM_OK) {
+        add_fault(&fault);
+        return;
+    }
+    while (dm_next_key_purpose(&purposes, &identifier)) count++;
+    sprintf(found, "%u values", count);
+}
+
+static void read_subject_key(const uint8_t *value, size_t length) {
+    dm_octets identifier;
+    dm_fault fault;
+    if (dm_read_subject_key_identifier(value, length, &identifier, &fault) != DM_OK) {
+        add_fault(&fault);
+        return;
+    }
+    add_octets("", identifier);
+}
+
+static void read_authority_key(const uint8_t *value, size_t length) {
+    dm_authority_key_identifier identifier;
+    dm_fault fault;
+    if (dm_read_authority_key_identifier(value, length, &identifier, &fault) != DM_OK) {
+        add_fault(&fault);
+        return;
+    }
+    if (identifier.has_key_identifier == 1) add_octets("key", identifier.key_identifier);
+    if (identifier.has_issuer == 1) add_octets(" issuer", identifier.issuer);
+    if (identifier.has_serial_number == 1) add_octets(" serial", identifier.serial_number);
+}
+
+static void add_identifier(const char *title, dm_octets identifier) {
+    uint8_t text[256];
+    size_t needed = 0;
+    if (found[0] != 0) add(" ");
+    (void)dm_read_oid(identifier.octets, identifier.length, text, sizeof text, &needed);
+    dm_octets whole = {text, needed};
+    add_text(title, whole);
+}
+
+static void add_extensions(dm_octets values) {
+    dm_octets extensions;
+    dm_extension extension;
+    dm_fault fault;
+    if (dm_read_extension_request(values.octets, values.length, &extensions, &fault) != DM_OK) {
+        add(" no extensions");
+        return;
+    }
+    while (dm_next_extension(&extensions, &extension)) {
+        add_identifier("extension ", extension.identifier);
+        if (extension.critical == 1) add(" critical");
+    }
+}
+
+static void read_request(const uint8_t *input, size_t length) {
+    static const uint8_t extension_request[] = {0x2a, 0x86, 0x48, 0x86, 0xf7, 0x0d, 0x01, 0x09, 0x0e};
+    dm_request request;
+    dm_octets relative_name;
+    dm_attribute attribute;
+    dm_request_attribute asked;
+    dm_fault fault;
+    if (dm_read_request(input, length, &request, &fault) != DM_OK) {
+        add_fault(&fault);
+        return;
+    }
+    while (dm_next_relative_name(&request.subject, &relative_name)) {
+        while (dm_next_attribute(&relative_name, &attribute)) {
+            add_identifier("subject ", attribute.identifier);
+            add_text("=", attribute.value);
+        }
+    }
+    add_identifier("key ", request.key_algorithm.identifier);
+    while (dm_next_request_attribute(&request.attributes, &asked)) {
+        int is_asked = asked.identifier.length == sizeof extension_request
+                       && memcmp(asked.identifier.octets, extension_request, sizeof extension_request) == 0;
+        if (is_asked) add_extensions(asked.values);
+    }
+    add_identifier("signature ", request.signature_algorithm.identifier);
+    add_octets("", request.signature.octets);
+}
+
+static void read_list(const uint8_t *input, size_t length) {
+    dm_certificate_list list;
+    dm_fault fault;
+    if (dm_read_certificate_list(input, length, &list, &fault) != DM_OK) {
+        add_fault(&fault);
+        return;
+    }
+    add("read");
+}
+
+typedef void reader(const uint8_t *, size_t);
+
+static const struct {
+    const char *name;
+    reader *read;
+} readers[] = {
+    {"certification_request", read_request},
+    {"strict_certificate", read_strictly},
+    {"basic_constraints", read_constraints},
+    {"key_usage", read_usage},
+    {"general_names", read_names},
+    {"extended_key_usage", read_purposes},
+    {"subject_key_identifier", read_subject_key},
+    {"authority_key_identifier", read_authority_key},
+};
+
+/* The text without spaces around it. */
+static char *trimmed(char *text) {
+    text += strspn(text, " ");
+    size_t length = strlen(text);
+    while (length > 0 && text[length - 1] == ' ') text[--length] = 0;
+    return text;
+}
+
+/* Whether the result is the row's, whose texts of errors have values too, after the text. */
+static void compare(const char *call, const char *wanted) {
+    size_t length = strlen(found);
+    const char *more = begins(wanted, found) ? wanted + length : "no";
+    int is_text = strstr(found, "at ") != NULL && (begins(more, " (") || begins(more, " for "));
+    compared++;
+    if (more[0] == 0 || is_text) return;
+    failed++;
+    printf("certificate_rows: %s: %s, and not %s\n", call, found, wanted);
+}
+
+/* A change of the octets above: `to 9` cuts them, `8=03` sets one or adds it, and nothing leaves them. */
+static void try_change(reader *read, const char *base, const char *change, const char *wanted) {
+    size_t length;
+    uint8_t *block = octets_of(base, &length);
+    int is_cut = begins(change, "to ");
+    unsigned long at = strtoul(is_cut ? change + 3 : change, NULL, 10);
+    const char *value = strchr(change, '=');
+    if (is_cut) {
+        length = at;
+    } else if (value != NULL) {
+        block = realloc(block, length + 1);
+        if (block == NULL) exit(2);
+        if (at == length) length++;
+        if (at < length) block[at] = (uint8_t)strtoul(value + 1, NULL, 16);
+    }
+    uint8_t *own = malloc(length + (length == 0));
+    if (own == NULL) exit(2);
+    memcpy(own, block, length);
+    found[0] = 0;
+    read(own, length);
+    compare(change, wanted);
+    free(own);
+    free(block);
+}
+
+static void try_row(const char *input, const char *wanted) {
+    static char copy[sizeof calls];
+    const char *base = strstr(calls, " of ");
+    if (base != NULL) {
+        if (begins(calls, "certificate of ")) try_change(read_certificate, base + 4, input, wanted);
+        if (begins(calls, "certification_request of ")) try_change(read_request, base + 4, input, wanted);
+        if (begins(calls, "certificate_list of ")) try_change(read_list, base + 4, input, wanted);
+        return;
+    }
+    strcpy(copy, calls);
+    for (char *call = strtok(copy, ","); call != NULL; call = strtok(NULL, ",")) {
+        for (size_t i = 0; i < sizeof readers / sizeof *readers; i++) {
+            if (strcmp(trimmed(call), readers[i].name) != 0) continue;
+            size_t length;
+            uint8_t *block = octets_of(input, &length);
+            found[0] = 0;
+            readers[i].read(block, length);
+            compare(readers[i].name, wanted);
+            free(block);
+        }
+    }
+}
+
+/* A remark, calls or a row. */
+static void try_line(void) {
+    line[strcspn(line, "\r\n")] = 0;
+    char *bracket = strrchr(line, ']'), *wanted = strchr(line, '|');
+    if (line[0] == '#' || line[0] == 0) return;
+    if (line[0] == '[' && bracket != NULL) {
+        *bracket = 0;
+        strcpy(calls, line + 1);
+    } else if (wanted != NULL) {
+        *wanted++ = 0;
+        wanted[strcspn(wanted, "|")] = 0;
+        try_row(line, trimmed(wanted));
+    }
+}
+
+int main(int count, char **files) {
+    for (int i = 1; i < count; i++) {
+        FILE *rows = fopen(files[i], "r");
+        calls[0] = 0;
+        while (rows != NULL && fgets(line, sizeof line, rows) != NULL) try_line();
+        if (rows == NULL || fclose(rows) != 0) {
+            failed++;
+            printf("certificate_rows: %s isn't read\n", files[i]);
+        }
+    }
+    printf("certificate_rows: %zu rows in %d files, %zu failed\n", compared, count - 1, failed);
+    return compared == 0 || failed != 0;
+}

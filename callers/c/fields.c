@@ -1,0 +1,129 @@
+/* Reads fields with a cursor, by the rules of X.690: what is read, where the cursor goes on, and each error. */
+#include "dumarewhi.h"
+
+#include <stdio.h>
+#include <string.h>
+
+static int passed, failed;
+
+static void expect(int is_so, const char *what) {
+    if (is_so) {
+        passed++;
+    } else {
+        failed++;
+        printf("fields: %s\n", what);
+    }
+}
+
+static int is_at(dm_octets part, const uint8_t *input, size_t offset, size_t length) {
+    return part.octets == input + offset && part.length == length;
+}
+
+/* The cursor has this offset, and so much is left. */
+static int is_left(const dm_cursor *cursor, size_t offset, size_t left) {
+    return cursor->offset == offset && cursor->left.length == left;
+}
+
+static int has_fault(const dm_fault *fault, uint32_t error, size_t offset) {
+    return fault->status == DM_ERROR && fault->error == error && fault->offset == offset
+           && fault->field == DM_FIELD_NONE;
+}
+
+/* A value of each type in a SEQUENCE, by DER. */
+static void test_types(void) {
+    static const uint8_t input[] = {
+        0x30, 0x51, 0x01, 0x01, 0xff, 0x02, 0x02, 0x01, 0x02, 0x02, 0x01, 0xfe, 0x0a, 0x01, 0x03, 0x02, 0x01,
+        0x7f, 0x04, 0x02, 0xaa, 0xbb, 0x06, 0x02, 0x2a, 0x03, 0x03, 0x02, 0x04, 0xf0, 0x05, 0x00, 0x17, 0x0d,
+        0x32, 0x36, 0x30, 0x31, 0x30, 0x32, 0x30, 0x33, 0x30, 0x34, 0x30, 0x35, 0x5a, 0x18, 0x0f, 0x32, 0x30,
+        0x35, 0x31, 0x30, 0x32, 0x30, 0x33, 0x30, 0x34, 0x30, 0x35, 0x30, 0x36, 0x5a, 0x31, 0x03, 0x02, 0x01,
+        0x05, 0xa1, 0x03, 0x80, 0x01, 0x09, 0x82, 0x01, 0x07, 0x9f, 0x21, 0x01, 0xcc, 0x0c, 0x00};
+    dm_cursor whole = dm_cursor_over(input, sizeof input, DM_DER), fields, inner;
+    dm_fault f;
+    uint8_t truth;
+    uint64_t number;
+    int64_t integer;
+    dm_octets octets;
+    dm_bits bits;
+    dm_time time;
+    dm_any any;
+    expect(dm_next_sequence(&whole, &fields, &f) == DM_OK && is_left(&whole, 83, 0) && is_left(&fields, 2, 81),
+           "SEQUENCE");
+    expect(fields.is_inside == 1 && fields.rules == DM_DER && fields.implicit == 0 && fields.number == 0, "its cursor");
+    expect(dm_next_bool(&fields, &truth, &f) == DM_OK && truth == 1 && is_left(&fields, 5, 78), "BOOLEAN");
+    expect(dm_next_u64(&fields, &number, &f) == DM_OK && number == 258 && is_left(&fields, 9, 74), "INTEGER");
+    expect(dm_next_u64(&fields, &number, &f) == DM_ERROR && has_fault(&f, DM_ERROR_INTEGER_NEGATIVE, 9)
+               && f.list_end == 83 && f.is_in_list == 1 && number == 258 && is_left(&fields, 9, 74),
+           "a negative one");
+    expect(dm_next_i64(&fields, &integer, &f) == DM_OK && integer == -2 && is_left(&fields, 12, 71), "the same");
+    expect(dm_next_enumerated(&fields, &number, &f) == DM_OK && number == 3, "ENUMERATED");
+    expect(dm_next_integer(&fields, &octets, &f) == DM_OK && is_at(octets, input, 17, 1), "INTEGER as octets");
+    expect(dm_next_oid(&fields, &octets, &f) == DM_ERROR && has_fault(&f, DM_ERROR_UNEXPECTED_TAG, 18), "another type");
+    expect(dm_next_octets(&fields, &octets, &f) == DM_OK && is_at(octets, input, 20, 2), "OCTET STRING");
+    expect(dm_next_oid(&fields, &octets, &f) == DM_OK && is_at(octets, input, 24, 2), "OBJECT IDENTIFIER");
+    expect(dm_next_bits(&fields, &bits, &f) == DM_OK && is_at(bits.octets, input, 29, 1) && bits.unused == 4
+               && bits.is_present == 1,
+           "BIT STRING");
+    expect(dm_next_null(&fields, &f) == DM_OK && is_left(&fields, 32, 51), "NULL");
+    expect(dm_next_utc_time(&fields, &time, &f) == DM_OK && time.year == 2026 && time.second == 5, "UTCTime");
+    expect(dm_next_generalized_time(&fields, &time, &f) == DM_OK && time.year == 2051 && time.second == 6, "its twin");
+    expect(dm_next_set(&fields, &inner, &f) == DM_OK && is_left(&inner, 66, 3) && is_left(&fields, 69, 14), "SET");
+    expect(dm_is_next(&fields, DM_CONTEXT_SPECIFIC, 1) == 1 && dm_is_next(&fields, DM_CONTEXT_SPECIFIC, 2) == 0
+               && dm_is_next(&fields, DM_PRIVATE, 1) == 0,
+           "which is next");
+    expect(dm_next_content(&fields, DM_CONTEXT_SPECIFIC, 1, 1, &inner, &f) == DM_OK && is_left(&inner, 71, 3), "[1]");
+    dm_expect_implicit(&inner, DM_CONTEXT_SPECIFIC, 0);
+    expect(dm_next_u64(&inner, &number, &f) == DM_OK && number == 9 && dm_end(&inner, &f) == DM_OK, "an implicit tag");
+    dm_expect_implicit(&fields, DM_CONTEXT_SPECIFIC, 3);
+    expect(dm_next_octets(&fields, &octets, &f) == DM_ERROR && has_fault(&f, DM_ERROR_UNEXPECTED_TAG, 74)
+               && fields.implicit == 3 && fields.number == 3,
+           "another one");
+    dm_expect_implicit(&fields, DM_CONTEXT_SPECIFIC, 2);
+    expect(dm_next_octets(&fields, &octets, &f) == DM_OK && is_at(octets, input, 76, 1) && fields.implicit == 0, "[2]");
+    expect(dm_end(&fields, &f) == DM_ERROR && has_fault(&f, DM_ERROR_PARSER_FAULT, 77), "octets left over");
+    expect(dm_next_any(&fields, &any, &f) == DM_OK && is_at(any.content, input, 80, 1) && any.number == 33
+               && any.tag_class == DM_CONTEXT_SPECIFIC && any.constructed == 0 && any.reserved == 0,
+           "any element");
+    expect(dm_next_any(&fields, &any, &f) == DM_OK && any.number == DM_UTF8_STRING && any.content.length == 0,
+           "a text");
+    expect(dm_end(&fields, &f) == DM_OK && f.error == 0 && dm_end(&whole, &f) == DM_OK, "the end");
+    expect(dm_next_any(&fields, &any, &f) == DM_ERROR && has_fault(&f, DM_ERROR_OVERRUN, 83) && f.list_end == 83,
+           "nothing is left in a list");
+    expect(dm_next_any(&whole, &any, &f) == DM_INCOMPLETE && f.offset == 83 && f.is_in_list == 0 && f.needed == 1,
+           "nor in the input");
+}
+
+/* What BER has and DER doesn't, and elements that are cut short. */
+static void test_rules(void) {
+    static const uint8_t indefinite[] = {0x30, 0x80, 0x01, 0x01, 0x07, 0x00, 0x00, 0x05, 0x00};
+    static const uint8_t cut[] = {0x30, 0x05, 0x04, 0x06, 0xaa, 0xbb, 0xcc};
+    dm_cursor whole = dm_cursor_over(indefinite, sizeof indefinite, DM_BER), fields;
+    dm_fault f;
+    uint8_t truth;
+    dm_octets octets;
+    expect(dm_next_sequence(&whole, &fields, &f) == DM_OK && is_left(&whole, 7, 2) && is_left(&fields, 2, 3), "by BER");
+    expect(fields.rules == DM_BER && dm_next_bool(&fields, &truth, &f) == DM_OK && truth == 1, "TRUE is 07 by BER");
+    expect(dm_next_null(&whole, &f) == DM_OK && dm_end(&whole, &f) == DM_OK, "what follows an end marker");
+    whole = dm_cursor_over(indefinite, sizeof indefinite, DM_DER);
+    expect(dm_next_sequence(&whole, &fields, &f) == DM_ERROR && has_fault(&f, DM_ERROR_INDEFINITE_LENGTH, 0)
+               && f.is_in_list == 0 && is_left(&whole, 0, 9),
+           "not by DER");
+    whole = dm_cursor_over(indefinite + 2, 3, DM_DER);
+    expect(dm_next_bool(&whole, &truth, &f) == DM_ERROR && has_fault(&f, DM_ERROR_INVALID_BOOLEAN, 0), "nor is 07");
+    whole = dm_cursor_over(cut, sizeof cut, DM_DER);
+    expect(dm_next_sequence(&whole, &fields, &f) == DM_OK, "a list");
+    expect(dm_next_octets(&fields, &octets, &f) == DM_ERROR && has_fault(&f, DM_ERROR_OVERRUN, 2) && f.list_end == 7,
+           "an element runs past the end of its list");
+    whole = dm_cursor_over(cut, 4, DM_DER);
+    expect(dm_next_sequence(&whole, &fields, &f) == DM_INCOMPLETE && f.needed == 3 && f.error == 0,
+           "an input cut short");
+    whole = dm_cursor_over(NULL, 0, DM_DER);
+    expect(dm_next_sequence(&whole, &fields, &f) == DM_INCOMPLETE && dm_end(&whole, &f) == DM_OK, "no octets");
+}
+
+int main(void) {
+    test_types();
+    test_rules();
+    expect(sizeof(dm_cursor) == 40 && sizeof(dm_any) == 24, "a cursor has 40 octets, an element 24");
+    printf("fields: %d passed, %d failed\n", passed, failed);
+    return failed != 0;
+}

@@ -1,0 +1,50 @@
+-- The numbers of fields.
+use Rattle.std.specs.Prelude.{ℕ}
+use Rattle.crl_reader.specs.declared.refusal.Field.{Field as ListField}
+use Rattle.crl_reader.specs.declared.refusal.Field.TheVariants as list
+use Rattle.der_request.specs.declared.refusal.Field.{Field as RequestField}
+use Rattle.der_request.specs.declared.refusal.Field.TheVariants as request
+use Rattle.der_x509.specs.declared.refusal.Field.{Field}
+use Rattle.der_x509.specs.declared.refusal.Field.TheVariants as field
+
+-- of a certificate (RFC 5280 4.1)
+abbrev pub certificate_field_number : Field → ℕ
+certificate_field_number field.Certificate = 1
+certificate_field_number field.TbsCertificate = 2
+certificate_field_number field.Version = 3
+certificate_field_number field.SerialNumber = 4
+certificate_field_number field.Signature = 5
+certificate_field_number field.Issuer = 6
+certificate_field_number field.Validity = 7
+certificate_field_number field.Subject = 8
+certificate_field_number field.SubjectPublicKeyInfo = 9
+certificate_field_number field.IssuerUniqueId = 10
+certificate_field_number field.SubjectUniqueId = 11
+certificate_field_number field.Extensions = 12
+certificate_field_number field.SignatureAlgorithm = 13
+certificate_field_number field.SignatureValue = 14
+
+-- of a list of revoked certificates (5.1)
+abbrev pub list_field_number : ListField → ℕ
+list_field_number list.CertificateList = 32
+list_field_number list.TbsCertList = 33
+list_field_number list.Version = 34
+list_field_number list.Signature = 35
+list_field_number list.Issuer = 36
+list_field_number list.ThisUpdate = 37
+list_field_number list.NextUpdate = 38
+list_field_number list.RevokedCertificates = 39
+list_field_number list.CrlExtensions = 40
+list_field_number list.SignatureAlgorithm = 41
+list_field_number list.SignatureValue = 42
+
+-- of a request (RFC 2986 4)
+abbrev pub request_field_number : RequestField → ℕ
+request_field_number request.CertificationRequest = 64
+request_field_number request.CertificationRequestInfo = 65
+request_field_number request.Version = 66
+request_field_number request.Subject = 67
+request_field_number request.SubjectPublicKeyInfo = 68
+request_field_number request.Attributes = 69
+request_field_number request.SignatureAlgorithm = 70
+request_field_number request.Signature = 71

@@ -1,0 +1,498 @@
+//! Calls of C that read the next field of a cursor. With another status than 0 the cursor and the value stay.
+ghost use Rattle.std.specs.Prelude.{◌≡◌, ◌≤◌, ◌↔◌, Result, pos, true};
+ghost use Rattle.der_base.specs.declared.error.Error.{Error as BerError};
+ghost use Rattle.der_base.specs.Numbers.{signed, unsigned};
+ghost use Rattle.der_cursor.specs.declared.refusal.Refusal.{Refusal};
+ghost use Rattle.der_cursor.specs.declared.cursor.Cursor.{Cursor};
+ghost use Rattle.der_cursor.specs.Cursors.{EndsAt, OpensAt, OpensType, ReadsAnyAt, ReadsValue};
+ghost use Rattle.der_cursor.specs.Elements.{IsNext};
+ghost use Rattle.der_values.specs.Kinds.{bit_strings, booleans, borrowed_octets, enumerated_numbers, identifiers};
+ghost use Rattle.der_values.specs.Kinds.{integers, nulls, numbers, octet_strings, times};
+ghost use Rattle.dumarewhi_c.specs.Cursors.{Continues, Finishes, IsAny, IsBit, IsBits, IsIdentifier};
+ghost use Rattle.dumarewhi_c.specs.Cursors.{HasAny, IsInner, IsNull, IsOctets, IsSame, IsTime, ReadsField};
+ghost use Rattle.dumarewhi_c.specs.Cursors.{end_fault, rules_in};
+ghost use Rattle.dumarewhi_c.specs.Writers.{class_of, is_set};
+
+use crate::cursor::{DmCursor, advance, finish, moved_fault, resume};
+use crate::element::{bit, class_number};
+use crate::fault::{DmFault, no_fault};
+use crate::octets::DmOctets;
+use crate::parts::{DmBits, bits, identifier_octets};
+use crate::state::class_of;
+use crate::time::{DmTime, time_fields};
+use der_base::any::Any;
+use der_base::error::BerError;
+use der_base::header::Tag;
+use der_base::time::ASN1DateTime;
+use der_cursor::{Cursor, Refusal};
+use der_values::{BitString, ObjectIdentifier};
+
+/// An element of any type. Its content isn't read.
+#[repr(C)]
+#[derive(Clone, Copy)]
+pub struct DmAny<'a> {
+    /// Its content octets.
+    pub content: &'a [u8],
+    /// The tag number.
+    pub number: u32,
+    /// The class, from 0 to 3.
+    pub tag_class: u8,
+    /// Whether it is constructed, 0 or 1.
+    pub constructed: u8,
+    /// 0.
+    pub reserved: u16,
+}
+
+/// A BOOLEAN (X.690 8.2, 11.1), 0 or 1.
+#[unsafe(no_mangle)]
+pub extern "C" fn dm_next_bool(
+    cursor: &mut DmCursor<'_>,
+    value: &mut u8,
+    fault: &mut DmFault,
+) -> u32
+    ensures exactly { ReadsField (ReadsValue (λ v. v) (booleans (rules_in cursor.old.rules)) 1) IsBit
+        cursor.old cursor.new value.old value.new fault.new }
+    ensures status { result ≡ fault.new.status }
+{
+    let mut fields = resume(cursor);
+    let found = fields.boolean();
+    *fault = finish_bool(cursor, fields, found, value);
+    fault.status
+}
+
+fn finish_bool<'a>(
+    cursor: &mut DmCursor<'a>,
+    after: Cursor<'a>,
+    found: Result<bool, Refusal<BerError>>,
+    value: &mut u8,
+) -> DmFault
+    ensures { Finishes IsBit cursor.old after.entry found cursor.new value.old value.new result }
+{
+    match found {
+        Ok(found) => {
+            *value = bit(found);
+            advance(cursor, after);
+            no_fault()
+        }
+        Err(e) => moved_fault(cursor, e),
+    }
+}
+
+/// The number of an INTEGER from 0 to 2^64-1 (8.3).
+#[unsafe(no_mangle)]
+pub extern "C" fn dm_next_u64(
+    cursor: &mut DmCursor<'_>,
+    value: &mut u64,
+    fault: &mut DmFault,
+) -> u32
+    ensures exactly { ReadsField (ReadsValue pos (numbers (rules_in cursor.old.rules) (unsigned 64)) 2) IsSame
+        cursor.old cursor.new value.old value.new fault.new }
+    ensures status { result ≡ fault.new.status }
+{
+    let mut fields = resume(cursor);
+    let found = fields.u64();
+    *fault = finish(cursor, fields, found, value);
+    fault.status
+}
+
+/// The number of an INTEGER from -2^63 to 2^63-1.
+#[unsafe(no_mangle)]
+pub extern "C" fn dm_next_i64(
+    cursor: &mut DmCursor<'_>,
+    value: &mut i64,
+    fault: &mut DmFault,
+) -> u32
+    ensures exactly { ReadsField (ReadsValue (λ v. v) (numbers (rules_in cursor.old.rules) (signed 64)) 2)
+        IsSame cursor.old cursor.new value.old value.new fault.new }
+    ensures status { result ≡ fault.new.status }
+{
+    let mut fields = resume(cursor);
+    let found = fields.i64();
+    *fault = finish(cursor, fields, found, value);
+    fault.status
+}
+
+/// The number of an ENUMERATED from 0 to 2^64-1 (8.4).
+#[unsafe(no_mangle)]
+pub extern "C" fn dm_next_enumerated(
+    cursor: &mut DmCursor<'_>,
+    value: &mut u64,
+    fault: &mut DmFault,
+) -> u32
+    ensures exactly { ReadsField (ReadsValue (λ v. v) (enumerated_numbers (rules_in cursor.old.rules)) 10)
+        IsSame cursor.old cursor.new value.old value.new fault.new }
+    ensures status { result ≡ fault.new.status }
+{
+    let mut fields = resume(cursor);
+    let found = fields.enumerated();
+    *fault = finish(cursor, fields, found, value);
+    fault.status
+}
+
+/// The content octets of an INTEGER, in two's complement.
+#[unsafe(no_mangle)]
+pub extern "C" fn dm_next_integer<'a>(
+    cursor: &mut DmCursor<'a>,
+    octets: &mut DmOctets<'a>,
+    fault: &mut DmFault,
+) -> u32
+    ensures exactly { ReadsField (ReadsValue (λ v. v.now) (integers (rules_in cursor.old.rules)) 2) IsOctets
+        cursor.old cursor.new octets.old octets.new fault.new }
+    ensures status { result ≡ fault.new.status }
+{
+    let mut fields = resume(cursor);
+    let found = fields.integer();
+    *fault = finish_octets(cursor, fields, found, octets);
+    fault.status
+}
+
+/// The octets of an OCTET STRING (8.7).
+#[unsafe(no_mangle)]
+pub extern "C" fn dm_next_octets<'a>(
+    cursor: &mut DmCursor<'a>,
+    octets: &mut DmOctets<'a>,
+    fault: &mut DmFault,
+) -> u32
+    ensures exactly { ReadsField (ReadsValue (λ v. v.now) octet_strings 4) IsOctets
+        cursor.old cursor.new octets.old octets.new fault.new }
+    ensures status { result ≡ fault.new.status }
+{
+    let mut fields = resume(cursor);
+    let found = fields.octets();
+    *fault = finish_octets(cursor, fields, found, octets);
+    fault.status
+}
+
+fn finish_octets<'a>(
+    cursor: &mut DmCursor<'a>,
+    after: Cursor<'a>,
+    found: Result<&'a [u8], Refusal<BerError>>,
+    octets: &mut DmOctets<'a>,
+) -> DmFault
+    ensures { Finishes IsOctets cursor.old after.entry found.entry cursor.new octets.old octets.new result }
+{
+    match found {
+        Ok(found) => {
+            octets.octets = found;
+            advance(cursor, after);
+            no_fault()
+        }
+        Err(e) => moved_fault(cursor, e),
+    }
+}
+
+/// The content octets of an OBJECT IDENTIFIER (8.19). Padded arcs are an error.
+#[unsafe(no_mangle)]
+pub extern "C" fn dm_next_oid<'a>(
+    cursor: &mut DmCursor<'a>,
+    octets: &mut DmOctets<'a>,
+    fault: &mut DmFault,
+) -> u32
+    ensures exactly { ReadsField (ReadsValue borrowed_octets identifiers 6) IsIdentifier
+        cursor.old cursor.new octets.old octets.new fault.new }
+    ensures status { result ≡ fault.new.status }
+{
+    let mut fields = resume(cursor);
+    let found = fields.oid();
+    *fault = finish_oid(cursor, fields, found, octets);
+    fault.status
+}
+
+fn finish_oid<'a>(
+    cursor: &mut DmCursor<'a>,
+    after: Cursor<'a>,
+    found: Result<ObjectIdentifier<'a>, Refusal<BerError>>,
+    octets: &mut DmOctets<'a>,
+) -> DmFault
+    ensures { Finishes IsIdentifier cursor.old after.entry found.entry cursor.new octets.old octets.new result }
+{
+    match found {
+        Ok(found) => {
+            octets.octets = identifier_octets(found);
+            advance(cursor, after);
+            no_fault()
+        }
+        Err(e) => moved_fault(cursor, e),
+    }
+}
+
+/// The bits of a BIT STRING (8.6, 11.2).
+#[unsafe(no_mangle)]
+pub extern "C" fn dm_next_bits<'a>(
+    cursor: &mut DmCursor<'a>,
+    value: &mut DmBits<'a>,
+    fault: &mut DmFault,
+) -> u32
+    ensures exactly { ReadsField
+        (ReadsValue (λ v. (v.unused, v.octets.now)) (bit_strings (rules_in cursor.old.rules)) 3) IsBits
+        cursor.old cursor.new value.old value.new fault.new }
+    ensures status { result ≡ fault.new.status }
+{
+    let mut fields = resume(cursor);
+    let found = fields.bits();
+    *fault = finish_bits(cursor, fields, found, value);
+    fault.status
+}
+
+fn finish_bits<'a>(
+    cursor: &mut DmCursor<'a>,
+    after: Cursor<'a>,
+    found: Result<BitString<'a>, Refusal<BerError>>,
+    value: &mut DmBits<'a>,
+) -> DmFault
+    ensures { Finishes IsBits cursor.old after.entry found.entry cursor.new value.old value.new result }
+{
+    match found {
+        Ok(found) => {
+            *value = bits(found);
+            advance(cursor, after);
+            no_fault()
+        }
+        Err(e) => moved_fault(cursor, e),
+    }
+}
+
+/// A cursor over the items of the next element, which has to be a SEQUENCE (8.9).
+#[unsafe(no_mangle)]
+pub extern "C" fn dm_next_sequence<'a>(
+    cursor: &mut DmCursor<'a>,
+    items: &mut DmCursor<'a>,
+    fault: &mut DmFault,
+) -> u32
+    ensures exactly { ReadsField (OpensType true 16) (IsInner cursor.old)
+        cursor.old cursor.new items.old items.new fault.new }
+    ensures status { result ≡ fault.new.status }
+{
+    let mut fields = resume(cursor);
+    let found = fields.open_sequence();
+    *fault = finish_opening(cursor, fields, found, items);
+    fault.status
+}
+
+/// The same of a SET (8.11).
+#[unsafe(no_mangle)]
+pub extern "C" fn dm_next_set<'a>(
+    cursor: &mut DmCursor<'a>,
+    items: &mut DmCursor<'a>,
+    fault: &mut DmFault,
+) -> u32
+    ensures exactly { ReadsField (OpensType true 17) (IsInner cursor.old)
+        cursor.old cursor.new items.old items.new fault.new }
+    ensures status { result ≡ fault.new.status }
+{
+    let mut fields = resume(cursor);
+    let found = fields.open_set();
+    *fault = finish_opening(cursor, fields, found, items);
+    fault.status
+}
+
+/// A cursor over the content of the next element, which has to have this class, constructed bit and tag number.
+#[unsafe(no_mangle)]
+pub extern "C" fn dm_next_content<'a>(
+    cursor: &mut DmCursor<'a>,
+    tag_class: u8,
+    constructed: u8,
+    number: u32,
+    content: &mut DmCursor<'a>,
+    fault: &mut DmFault,
+) -> u32
+    ensures exactly { ReadsField (OpensAt (class_of tag_class) (is_set constructed) number) (IsInner cursor.old)
+        cursor.old cursor.new content.old content.new fault.new }
+    ensures status { result ≡ fault.new.status }
+{
+    let mut fields = resume(cursor);
+    let found = fields.open(class_of(tag_class), constructed != 0, Tag(number));
+    *fault = finish_opening(cursor, fields, found, content);
+    fault.status
+}
+
+fn finish_opening<'a>(
+    cursor: &mut DmCursor<'a>,
+    after: Cursor<'a>,
+    found: Result<Cursor<'a>, Refusal<BerError>>,
+    inner: &mut DmCursor<'a>,
+) -> DmFault
+    ensures { Finishes (IsInner cursor.old) cursor.old after.entry found.entry cursor.new inner.old inner.new result }
+{
+    match found {
+        Ok(found) => {
+            *inner = inner_cursor(cursor, found);
+            advance(cursor, after);
+            no_fault()
+        }
+        Err(e) => moved_fault(cursor, e),
+    }
+}
+
+/// A cursor over the content of an element of the octets that are left.
+fn inner_cursor<'a>(cursor: &DmCursor<'a>, inner: Cursor<'a>) -> DmCursor<'a>
+    ensures { IsInner cursor.now inner.entry result }
+{
+    DmCursor {
+        left: inner.remaining(),
+        offset: cursor.offset.saturating_add(inner.offset()),
+        rules: cursor.rules,
+        is_inside: 1,
+        implicit: 0,
+        number: 0,
+    }
+}
+
+/// The time of a UTCTime (8.25, 11.8), of a year from 1950 to 2049.
+#[unsafe(no_mangle)]
+pub extern "C" fn dm_next_utc_time(
+    cursor: &mut DmCursor<'_>,
+    time: &mut DmTime,
+    fault: &mut DmFault,
+) -> u32
+    ensures exactly { ReadsField (ReadsValue (λ v. v) (times (rules_in cursor.old.rules) 23) 23) IsTime
+        cursor.old cursor.new time.old time.new fault.new }
+    ensures status { result ≡ fault.new.status }
+{
+    let mut fields = resume(cursor);
+    let found = fields.utc_time();
+    *fault = finish_time(cursor, fields, found, time);
+    fault.status
+}
+
+/// The time of a GeneralizedTime (8.25, 11.7).
+#[unsafe(no_mangle)]
+pub extern "C" fn dm_next_generalized_time(
+    cursor: &mut DmCursor<'_>,
+    time: &mut DmTime,
+    fault: &mut DmFault,
+) -> u32
+    ensures exactly { ReadsField (ReadsValue (λ v. v) (times (rules_in cursor.old.rules) 24) 24) IsTime
+        cursor.old cursor.new time.old time.new fault.new }
+    ensures status { result ≡ fault.new.status }
+{
+    let mut fields = resume(cursor);
+    let found = fields.generalized_time();
+    *fault = finish_time(cursor, fields, found, time);
+    fault.status
+}
+
+fn finish_time<'a>(
+    cursor: &mut DmCursor<'a>,
+    after: Cursor<'a>,
+    found: Result<ASN1DateTime, Refusal<BerError>>,
+    time: &mut DmTime,
+) -> DmFault
+    ensures { Finishes IsTime cursor.old after.entry found cursor.new time.old time.new result }
+{
+    match found {
+        Ok(found) => {
+            *time = time_fields(Tag::GeneralizedTime, found);
+            advance(cursor, after);
+            no_fault()
+        }
+        Err(e) => moved_fault(cursor, e),
+    }
+}
+
+/// A NULL (8.8).
+#[unsafe(no_mangle)]
+pub extern "C" fn dm_next_null(cursor: &mut DmCursor<'_>, fault: &mut DmFault) -> u32
+    ensures exactly { ReadsField (ReadsValue (λ v. v) (nulls (rules_in cursor.old.rules)) 5) IsNull
+        cursor.old cursor.new tt tt fault.new }
+    ensures status { result ≡ fault.new.status }
+{
+    let mut fields = resume(cursor);
+    let found = fields.null();
+    *fault = finish_null(cursor, fields, found);
+    fault.status
+}
+
+fn finish_null<'a>(
+    cursor: &mut DmCursor<'a>,
+    after: Cursor<'a>,
+    found: Result<(), Refusal<BerError>>,
+) -> DmFault
+    ensures { Finishes IsNull cursor.old after.entry found cursor.new tt tt result }
+{
+    match found {
+        Ok(()) => {
+            advance(cursor, after);
+            no_fault()
+        }
+        Err(e) => moved_fault(cursor, e),
+    }
+}
+
+/// An element of any type: its content isn't read.
+#[unsafe(no_mangle)]
+pub extern "C" fn dm_next_any<'a>(
+    cursor: &mut DmCursor<'a>,
+    element: &mut DmAny<'a>,
+    fault: &mut DmFault,
+) -> u32
+    ensures exactly { ReadsField ReadsAnyAt IsAny cursor.old cursor.new element.old element.new fault.new }
+    ensures status { result ≡ fault.new.status }
+{
+    let mut fields = resume(cursor);
+    let found = fields.any();
+    *fault = finish_any(cursor, fields, found, element);
+    fault.status
+}
+
+fn finish_any<'a>(
+    cursor: &mut DmCursor<'a>,
+    after: Cursor<'a>,
+    found: Result<Any<'a>, Refusal<BerError>>,
+    element: &mut DmAny<'a>,
+) -> DmFault
+    ensures { Finishes IsAny cursor.old after.entry found.entry cursor.new element.old element.new result }
+{
+    match found {
+        Ok(found) => {
+            *element = any_fields(&found);
+            advance(cursor, after);
+            no_fault()
+        }
+        Err(e) => moved_fault(cursor, e),
+    }
+}
+
+/// An element as C sees it.
+fn any_fields<'a>(found: &Any<'a>) -> DmAny<'a>
+    ensures { HasAny found.now result }
+{
+    DmAny {
+        content: found.bytes,
+        number: found.header.tag().0,
+        tag_class: class_number(found.header.class()),
+        constructed: bit(found.header.constructed()),
+        reserved: 0,
+    }
+}
+
+/// Whether an element of this class and tag number is next, constructed or not.
+#[unsafe(no_mangle)]
+pub extern "C" fn dm_is_next(cursor: &DmCursor<'_>, tag_class: u8, number: u32) -> u32
+    ensures exactly { (result ≡ 1) ↔ IsNext (class_of tag_class) number cursor.now.left.now }
+    ensures most { result ≤ 1 }
+{
+    let fields = Cursor::new(cursor.left);
+    bit(fields.is_next(class_of(tag_class), Tag(number))).into()
+}
+
+/// Ends a list: an error if octets are left over.
+#[unsafe(no_mangle)]
+pub extern "C" fn dm_end(cursor: &DmCursor<'_>, fault: &mut DmFault) -> u32
+    ensures exactly { (c : Cursor) × (found : Result (Unit {0}) (Refusal BerError)) × Continues cursor.now c
+        × EndsAt c found × (fault.new ≡ end_fault cursor.now found) }
+    ensures status { result ≡ fault.new.status }
+{
+    *fault = end_fault(cursor, resume(cursor).end());
+    fault.status
+}
+
+/// The fault of a list that doesn't end.
+fn end_fault(cursor: &DmCursor<'_>, found: Result<(), Refusal<BerError>>) -> DmFault
+    ensures { result ≡ end_fault cursor.now found }
+{
+    match found {
+        Ok(()) => no_fault(),
+        Err(e) => moved_fault(cursor, e),
+    }
+}
