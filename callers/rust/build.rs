@@ -11,6 +11,11 @@ fn main() {
     let folder = folder();
     let archive = folder.join(ARCHIVE);
     println!("cargo:rerun-if-changed={}", archive.display());
+    println!("cargo:rustc-env=DUMAREWHI_ARCHIVE={}", archive.display());
+    // Documentation links no program.
+    if env::var_os("DOCS_RS").is_some() {
+        return;
+    }
     if !archive.is_file() {
         missing(&folder);
     }

@@ -57,7 +57,8 @@ def module_of(header: str) -> str:
     """The module with the numbers of the header of C."""
     depth = re.findall(r"^#define DM_MAX_DEPTH (\d+)$", header, re.MULTILINE)
     rules = re.findall(r"^ *DM_ERROR_(\w+) = (\d+)", header, re.MULTILINE)
-    if len(depth) != 1 or not rules:
+    fields = re.findall(r"^ *DM_FIELD_(\w+) = (\d+)", header, re.MULTILINE)
+    if len(depth) != 1 or not rules or not fields:
         raise ValueError("the header has no numbers")
     lines = [
         '"""Numbers of dumarewhi.h, from which this module is made."""',
@@ -71,6 +72,12 @@ def module_of(header: str) -> str:
         '    """The number of an error: the rule that an input breaks. ``rule_text`` returns its text."""',
         "",
         *(f"    {name} = {number}" for name, number in rules),
+        "",
+        "",
+        "class Field(enum.IntEnum):",
+        '    """A field of a certificate (RFC 5280 4.1), of a list of revoked certificates (5.1) or of a request."""',
+        "",
+        *(f"    {name} = {number}" for name, number in fields),
     ]
     return "\n".join(lines) + "\n"
 

@@ -22,18 +22,10 @@ static void print_failure(const dm_outcome *outcome) {
     else printf("missing %zu\n", outcome->missing);
 }
 
-/* By DER the package takes from dm_first_der what is missing. */
-static void correct_missing(const uint8_t *input, size_t length, dm_outcome *outcome) {
-    dm_element element;
-    dm_outcome first;
-    if (dm_first_der(input, length, &element, &first) == DM_INCOMPLETE) outcome->missing = first.missing;
-}
-
 static void print_elements(const uint8_t *input, size_t length, size_t depth, parse *parse) {
     dm_outcome outcome;
     dm_element *elements = room_for((length / 2 + 1) * sizeof *elements);
     if (parse(input, length, depth, elements, length / 2 + 1, &outcome) != DM_OK) {
-        if (outcome.status == DM_INCOMPLETE && parse == dm_parse_der) correct_missing(input, length, &outcome);
         print_failure(&outcome);
     } else {
         printf("%zu elements in %zu:", outcome.elements, outcome.length);

@@ -9,7 +9,8 @@ from typing import Callable, Dict, List
 
 from conftest import HEADERS
 
-from dumarewhi import MAX_DEPTH, Rule, TagClass, _library, rule_text
+from dumarewhi import MAX_DEPTH, Rule, TagClass, _certificate_calls, _library, rule_text
+from dumarewhi.x509 import Field, GeneralNameKind, KeyUsage
 
 CONSTANTS = {
     "DM_OK": _library.OK,
@@ -24,13 +25,25 @@ CONSTANTS = {
     "DM_CONTEXT_SPECIFIC": TagClass.CONTEXT,
     "DM_PRIVATE": TagClass.PRIVATE,
     **{f"DM_ERROR_{rule.name}": rule for rule in Rule},
+    **{f"DM_FIELD_{field.name}": field for field in Field},
+    **{f"DM_USAGE_{usage.name}": usage for usage in KeyUsage},
+    **{f"DM_{kind.name}": kind for kind in GeneralNameKind},
+    "DM_SUBJECT_KEY_IDENTIFIER": _certificate_calls.SUBJECT_KEY_IDENTIFIER,
+    "DM_KEY_USAGE": _certificate_calls.KEY_USAGE,
+    "DM_SUBJECT_ALT_NAME": _certificate_calls.SUBJECT_ALT_NAME,
+    "DM_ISSUER_ALT_NAME": _certificate_calls.ISSUER_ALT_NAME,
+    "DM_BASIC_CONSTRAINTS": _certificate_calls.BASIC_CONSTRAINTS,
+    "DM_AUTHORITY_KEY_IDENTIFIER": _certificate_calls.AUTHORITY_KEY_IDENTIFIER,
+    "DM_EXTENDED_KEY_USAGE": _certificate_calls.EXTENDED_KEY_USAGE,
 }
+
+STRUCTS = {**_library.STRUCTS, **_certificate_calls.STRUCTS}
 
 
 def source() -> str:
     """A program that prints a name and numbers on each line."""
     lines: List[str] = []
-    for name, struct in _library.STRUCTS.items():
+    for name, struct in STRUCTS.items():
         lines.append(f'printf("{name} %zu\\n", sizeof({name}));')
         for field, *_ in struct._fields_:
             size = f"sizeof((({name} *)0)->{field})"
@@ -49,7 +62,7 @@ def of_c(compiled: Callable[[Path], Path], folder: Path) -> Dict[str, List[int]]
 
 def test_layout(compiled: Callable[[Path], Path], tmp_path: Path) -> None:
     numbers = of_c(compiled, tmp_path)
-    for name, struct in _library.STRUCTS.items():
+    for name, struct in STRUCTS.items():
         assert numbers[name] == [ctypes.sizeof(struct)], name
         sizes = 0
         for field, *_ in struct._fields_:

@@ -48,6 +48,24 @@ def test_standard_input() -> None:
     assert shown.stdout.decode() == "     0 SEQUENCE\n     2   BOOLEAN True\n     7 NULL None\n"
 
 
+DUMP = """\
+     0 30 80
+     2   04 12 30 30 30 30 30 30 30 30 30 30 30 30 30 30
+    18   30 30 30 30
+    22   a0 02
+    24     05 00
+    26 00 00
+"""
+
+
+def test_dump() -> None:
+    octets = octets_of("30 80 04 12 30*18 a0 02 05 00 00 00")
+    shown = run("dump", "--ber", "-", octets=octets)
+    assert (shown.stdout.decode(), shown.returncode) == (DUMP, 0)
+    lines = shown.stdout.decode().splitlines()
+    assert bytes.fromhex("".join(line[7:] for line in lines)) == octets
+
+
 def test_check(tmp_path: Path) -> None:
     assert run("check", str(DATA / "certificate.der"), str(DATA / "key.p8")).returncode == 0
     wrong = tmp_path / "wrong"

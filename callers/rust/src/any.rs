@@ -1,14 +1,14 @@
 //! One element and its value.
 use crate::element::{whole, Rules};
 use crate::error::{ErrorKind, Reason, Result};
-use crate::value::{BitString, Integer, ObjectIdentifier, Time};
-use crate::{ffi, Class, Element, Error, Reader, Tag};
+use crate::{ffi, BitString, Class, Element, Error, Integer, ObjectIdentifier, Reader, Tag, Time};
 use core::fmt;
+use core::hash::{Hash, Hasher};
 
 /// An element of any type.
 ///
 /// Its `as_` calls give the value of a type, if the element has the tag of that type. Its parts are slices of
-/// the input that it was read from.
+/// the input that it was read from. Two of them are equal if their tags and octets are, wherever they begin.
 ///
 /// ```
 /// use dumarewhi::{Any, Tag};
@@ -20,7 +20,7 @@ use core::fmt;
 /// assert!(any.as_u64().is_err());
 /// # Ok::<(), dumarewhi::Error>(())
 /// ```
-#[derive(Clone, Copy, PartialEq, Eq)]
+#[derive(Clone, Copy)]
 pub struct Any<'a> {
     tag: Tag,
     constructed: bool,
@@ -225,7 +225,7 @@ impl<'a> Any<'a> {
         Error::new(kind, self.offset)
     }
 
-    fn value<T>(&self, value: Result<T, Reason>) -> Result<T> {
+    pub(crate) fn value<T>(&self, value: Result<T, Reason>) -> Result<T> {
         value.map_err(|reason| self.error(ErrorKind::Value(reason)))
     }
 }
@@ -250,6 +250,29 @@ impl Rules {
         let mut element = [Element::default()];
         self.list(input, &mut element)?;
         Ok(element[0])
+    }
+}
+
+/// As [`from_der`](Any::from_der).
+impl<'a> TryFrom<&'a [u8]> for Any<'a> {
+    type Error = Error;
+
+    fn try_from(input: &'a [u8]) -> Result<Any<'a>> {
+        Any::from_der(input)
+    }
+}
+
+impl PartialEq for Any<'_> {
+    fn eq(&self, other: &Self) -> bool {
+        (self.tag, self.octets) == (other.tag, other.octets)
+    }
+}
+
+impl Eq for Any<'_> {}
+
+impl Hash for Any<'_> {
+    fn hash<H: Hasher>(&self, state: &mut H) {
+        (self.tag, self.octets).hash(state);
     }
 }
 

@@ -231,10 +231,22 @@ reasons! {
     EMBEDDED_PDV_PRIMITIVE = 97, "an EMBEDDED PDV is primitive (X.690 8.17)";
     EXTERNAL_PRIMITIVE = 98, "an EXTERNAL is primitive (X.690 8.18.1)";
     CHARACTER_STRING_PRIMITIVE = 99, "a CHARACTER STRING is primitive (X.690 8.24)";
+    ALGORITHMS_DIFFER = 128, "the signature algorithms differ";
+    SERIAL_NUMBER_NOT_POSITIVE = 129, "the serial number is not positive";
+    SERIAL_NUMBER_TOO_LONG = 130, "the serial number has more than 20 octets";
+    ISSUER_EMPTY = 131, "the issuer has no name";
+    ATTRIBUTES_OUT_OF_ORDER = 132, "attributes of a relative name are out of order";
+    EARLY_GENERALIZED_TIME = 133, "a time before 2050 is a GeneralizedTime";
+    TIME_WITH_FRACTION = 134, "a time has a fraction of a second";
+    UNIQUE_ID_IN_VERSION_1 = 135, "a unique identifier in version 1";
+    EXTENSIONS_BEFORE_VERSION_3 = 136, "extensions before version 3";
+    EXTENSION_REPEATED = 137, "an extension is repeated";
+    SUBJECT_WITHOUT_NAME = 138, "the subject has no name";
+    VALUE_NOT_DER = 139, "a value of any type is not DER";
 }
 
 /// How many octets the text of an error has at most.
-const LONGEST_TEXT: usize = 160;
+pub(crate) const LONGEST_TEXT: usize = 160;
 
 impl Reason {
     /// The number.
@@ -296,6 +308,9 @@ impl fmt::Display for Error {
 
 #[cfg(feature = "std")]
 impl std::error::Error for Error {}
+
+#[cfg(feature = "std")]
+impl std::error::Error for Reason {}
 
 /// An input that is cut short is `UnexpectedEof`, memory that runs out is `OutOfMemory`, and the others are
 /// `InvalidData`.

@@ -1,10 +1,17 @@
 //! The calls of `dumarewhi.h`. All `unsafe` of this crate is here.
 #![allow(unsafe_code)]
 
+mod certificates;
+mod cursor;
+mod lists;
+
 use crate::{Class, Tag};
 #[cfg(feature = "alloc")]
 use alloc::vec::Vec;
+pub(crate) use certificates::*;
 use core::marker::PhantomData;
+pub(crate) use cursor::*;
+pub(crate) use lists::*;
 
 /// The offsets of one element in an input, and its identifier octets (X.690 8.1.2).
 ///
@@ -24,7 +31,7 @@ use core::marker::PhantomData;
 /// # Ok::<(), dumarewhi::Error>(())
 /// ```
 #[repr(C)]
-#[derive(Clone, Copy, Debug, Default, PartialEq, Eq)]
+#[derive(Clone, Copy, Debug, Default, PartialEq, Eq, Hash)]
 pub struct Element {
     pub(crate) header: usize,
     pub(crate) content: usize,
@@ -91,7 +98,59 @@ pub(crate) struct Mark {
     outer: usize,
 }
 
+/// A part of an input.
+#[repr(C)]
+#[derive(Clone, Copy, Debug)]
+pub(crate) struct Octets {
+    octets: *const u8,
+    length: usize,
+}
+
+impl Octets {
+    fn of(octets: &[u8]) -> Octets {
+        Octets {
+            octets: octets.as_ptr(),
+            length: octets.len(),
+        }
+    }
+
+    /// The part of an input that it is. An empty one may point anywhere.
+    pub(crate) fn within(self, input: &[u8]) -> &[u8] {
+        if self.length == 0 {
+            return &[];
+        }
+        let start = (self.octets as usize).wrapping_sub(input.as_ptr() as usize);
+        &input[start..][..self.length]
+    }
+}
+
+impl Default for Octets {
+    fn default() -> Octets {
+        Octets::of(&[])
+    }
+}
+
+/// Why an input isn't what a call reads.
+#[repr(C)]
+#[derive(Clone, Copy, Debug, Default, PartialEq, Eq, Hash)]
+pub(crate) struct Fault {
+    pub offset: usize,
+    pub list_end: usize,
+    pub needed: usize,
+    pub status: u32,
+    pub error: u32,
+    pub field: u32,
+    pub is_in_list: u32,
+}
+
 pub(crate) const MAX_DEPTH: usize = 101;
+pub(crate) const SUBJECT_KEY_IDENTIFIER: u32 = 14;
+pub(crate) const KEY_USAGE: u32 = 15;
+pub(crate) const SUBJECT_ALT_NAME: u32 = 17;
+pub(crate) const ISSUER_ALT_NAME: u32 = 18;
+pub(crate) const BASIC_CONSTRAINTS: u32 = 19;
+pub(crate) const AUTHORITY_KEY_IDENTIFIER: u32 = 35;
+pub(crate) const EXTENDED_KEY_USAGE: u32 = 37;
 pub(crate) const ZONE_LOCAL: u8 = 0;
 pub(crate) const ZONE_UTC: u8 = 1;
 pub(crate) const ZONE_OFFSET: u8 = 2;
@@ -365,13 +424,17 @@ impl<'b> Fields<'b> {
 
     /// Opens a constructed element with this tag.
     pub(crate) fn open(&mut self, tag: Tag) -> Mark {
-        // SAFETY: see above.
-        unsafe {
-            match tag.class {
-                Class::ContextSpecific => dm_open_tagged(&mut self.state, tag.number),
-                class => dm_open(&mut self.state, class as u8, 1, tag.number),
-            }
+        match tag.class {
+            // SAFETY: see above.
+            Class::ContextSpecific => unsafe { dm_open_tagged(&mut self.state, tag.number) },
+            _ => self.open_as(tag, true),
         }
+    }
+
+    /// Opens an element with this tag.
+    pub(crate) fn open_as(&mut self, tag: Tag, constructed: bool) -> Mark {
+        // SAFETY: see above.
+        unsafe { dm_open(&mut self.state, tag.class as u8, constructed.into(), tag.number) }
     }
 
     /// Opens a primitive element with the implicit tag that the next element has, or else this tag.

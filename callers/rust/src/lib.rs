@@ -16,24 +16,30 @@
 //! | To | use |
 //! |---|---|
 //! | read a whole input, and look at its elements | [`Tree`], [`Node`] |
-//! | read the fields of a type, one after the other | [`Reader`] |
+//! | read the fields of a type, one after the other | [`Reader`], or [`Cursor`], whose calls are proved |
 //! | take input in pieces, as from a socket | [`Buffer`] |
 //! | check, list or count without allocating | [`check_der`], [`list_der`], [`Rules`] |
 //! | read one element | [`Any`] |
-//! | write DER, element after element | [`Writer`], [`to_vec`], [`Encode`] |
+//! | read certificates | [`x509::Certificate`] |
+//! | read and write types of your own | [`Decode`], [`Encode`] |
+//! | write DER, element after element | [`Writer`], [`to_vec`] |
 //! | write BER as DER | [`write_der`], [`to_der`] |
+//!
+//! [`guide`] is for users of der-parser, der and asn1.
 //!
 //! # What is proved
 //!
 //! The work is done by `libdumarewhi_c.a`, which is written in Rattle and proved: which inputs it reads, which
-//! elements it lists and where, which error a reader reports, which values it gives, which octets a [`Writer`] writes,
-//! and that what [`write_der`] writes is the input as DER writes it. The texts of errors are tested. Its header
-//! `dumarewhi.h` has the calls. This crate passes slices to them, and makes safe types of what they return.
+//! elements it lists and where, which error it reports, which values it gives, which fields a [`Cursor`] and [`x509`]
+//! read, which octets a [`Writer`] writes, and that what [`write_der`] writes is the input as DER writes it. The texts
+//! of errors and names are tested. Its header `dumarewhi.h` has the calls. This crate passes slices to them, and makes
+//! safe types of what they return.
 //!
-//! It computes little itself: slices of the input by the offsets that are listed, the steps from an element to
-//! the next, the split of a BIT STRING's first octet, what is kept of an input that comes in pieces, the header of
-//! the copy that [`Reader::implicit`] checks, and the octets of a BMPString that is written. That is tested, and not
-//! proved.
+//! It computes little itself: slices of the input by the offsets that are listed, the steps from an element to the
+//! next, what a [`Reader`] does with the elements that it reads, the header of the short copy that
+//! [`Reader::implicit`] checks, the split of a BIT STRING's first octet, what is kept of an input that comes in
+//! pieces, the octets of a BMPString that is written, those of [`oid!`] and the arcs of an [`ObjectIdentifier`],
+//! and the days of a calendar. That is tested, and not proved.
 //!
 //! # What you might not expect
 //!
@@ -48,8 +54,8 @@
 //!
 //! # Features
 //!
-//! `std` (by default) implements [`std::error::Error`]. `alloc` has [`Tree`], [`Buffer`] and [`to_vec`]. Without
-//! them, the crate is `no_std` and never allocates.
+//! `std` (by default) implements [`std::error::Error`], and has `SystemTime` and `IpAddr`. `alloc` has [`Tree`],
+//! [`Buffer`], [`to_vec`] and [`ObjectIdentifierBuf`]. Without them, the crate is `no_std` and never allocates.
 #![no_std]
 #![deny(missing_docs)]
 #![deny(unsafe_code)]
@@ -61,36 +67,53 @@ extern crate alloc;
 extern crate std;
 
 mod any;
+mod cursor;
+mod decode;
 mod element;
+mod encode;
 mod error;
 mod ffi;
+mod identifier;
 mod reader;
 #[cfg(feature = "alloc")]
 mod stream;
 mod tag;
+mod time;
 #[cfg(feature = "alloc")]
 mod tree;
 mod value;
 mod write;
 mod writer;
+pub mod x509;
 
 pub use any::Any;
+pub use cursor::Cursor;
+pub use decode::Decode;
 pub use element::{check_ber, check_der, list_ber, list_der, Found, Rules, MAX_DEPTH};
+pub use encode::Encode;
 pub use error::{Error, ErrorKind, Reason, Result};
 pub use ffi::Element;
+#[cfg(feature = "alloc")]
+pub use identifier::ObjectIdentifierBuf;
+pub use identifier::{oid_length, oid_octets, oid_of, Arcs, ObjectIdentifier};
 pub use reader::Reader;
 #[cfg(feature = "alloc")]
 pub use stream::Buffer;
 pub use tag::{Class, Tag};
+pub use time::{Time, Zone};
 #[cfg(feature = "alloc")]
 pub use tree::{Children, Descendants, Node, Tree};
-pub use value::{BitString, Integer, ObjectIdentifier, Time, Zone};
+pub use value::{BitString, Bits, Integer};
 #[cfg(feature = "alloc")]
 pub use write::to_der;
 pub use write::write_der;
 #[cfg(feature = "alloc")]
 pub use writer::to_vec;
-pub use writer::{Encode, Writer};
+pub use writer::Writer;
+
+#[cfg(doc)]
+#[doc = include_str!("guide.md")]
+pub mod guide {}
 
 #[cfg(all(doctest, feature = "std"))]
 #[doc = include_str!("../README.md")]

@@ -1,8 +1,9 @@
 //! Field after field.
 use crate::element::Rules;
 use crate::error::{ErrorKind, Result};
-use crate::value::{BitString, Integer, ObjectIdentifier, Time};
-use crate::{Any, Class, Element, Error, Tag};
+#[cfg(feature = "alloc")]
+use crate::ffi::Fields;
+use crate::{Any, BitString, Class, Decode, Element, Error, Integer, ObjectIdentifier, Tag, Time};
 
 /// Reads the fields of a type, one after the other.
 ///
@@ -162,11 +163,48 @@ impl<'a> Reader<'a> {
     }
 
     /// Reads the next element with this tag.
-    fn typed<T>(&mut self, tag: Tag, function: impl FnOnce(Any<'a>) -> Result<T>) -> Result<T> {
+    pub(crate) fn typed<T>(&mut self, tag: Tag, function: impl FnOnce(Any<'a>) -> Result<T>) -> Result<T> {
         self.take(|any| {
             any.expect(tag)?;
             function(any)
         })
+    }
+
+    /// Reads a value.
+    ///
+    /// ```
+    /// use dumarewhi::Reader;
+    ///
+    /// let mut reader = Reader::new(&[0x01, 0x01, 0xff, 0x02, 0x01, 0x07]);
+    /// assert!(reader.value::<bool>()?);
+    /// assert_eq!(reader.value::<Option<&str>>()?, None);
+    /// assert_eq!(reader.value::<u64>()?, 7);
+    /// # Ok::<(), dumarewhi::Error>(())
+    /// ```
+    pub fn value<T: Decode<'a>>(&mut self) -> Result<T> {
+        T::decode(self)
+    }
+
+    /// Reads a value with a default, which is returned if there is none. By DER an error if the default is written
+    /// (X.690 11.5).
+    ///
+    /// ```
+    /// use dumarewhi::Reader;
+    ///
+    /// assert!(!Reader::new(&[]).value_or(false)?);
+    /// assert!(Reader::new(&[0x01, 0x01, 0xff]).value_or(false)?);
+    /// assert!(Reader::new(&[0x01, 0x01, 0x00]).value_or(false).is_err());
+    /// # Ok::<(), dumarewhi::Error>(())
+    /// ```
+    pub fn value_or<T: Decode<'a> + PartialEq>(&mut self, default: T) -> Result<T> {
+        let offset = self.offset();
+        match self.value::<Option<T>>()? {
+            Some(value) if self.rules.is_der() && value == default => {
+                let text = "a default value is written (X.690 11.5)";
+                Err(Error::new(ErrorKind::Other(text), offset))
+            }
+            value => Ok(value.unwrap_or(default)),
+        }
     }
 
     /// Reads an element of any type.
@@ -236,8 +274,8 @@ impl<'a> Reader<'a> {
     /// content is checked by the rules of that type.
     ///
     /// The check needs a copy of the content, except that of an OCTET STRING. It is allocated if it is longer
-    /// than 127 octets. Without the feature `alloc`, that is an error. [`tagged`](Reader::tagged) reads a
-    /// SEQUENCE or SET without a copy.
+    /// than 127 octets. Without the feature `alloc`, that is an error.
+    /// [`tagged`](Reader::tagged) reads a SEQUENCE or SET without a copy.
     ///
     /// ```
     /// use dumarewhi::{Reader, Tag};
@@ -357,7 +395,7 @@ impl<'a> Reader<'a> {
     }
 }
 
-/// How many octets an element has whose length has the short form (X.690 8.1.3.4).
+/// How many octets an element has whose length has the short form (X.690 8.1.3.4). A longer copy is allocated.
 const SHORT: usize = 2 + 127;
 
 /// Checks an element as one of the universal type that its tag is set to: a copy of its content after a header with
@@ -374,37 +412,40 @@ fn check_as(any: &Any<'_>) -> Result<()> {
         return Ok(());
     }
     let content = any.content();
-    let identifier = number | u8::from(any.is_constructed()) << 5;
     let mut short = [0; SHORT];
     match short.get_mut(..content.len() + 2) {
         Some(copy) => {
-            copy[0] = identifier;
+            copy[0] = number | u8::from(any.is_constructed()) << 5;
             copy[1] = content.len() as u8;
             copy[2..].copy_from_slice(content);
             check_copy(any, copy)
         }
-        None => check_long(any, identifier),
+        None => check_long(any),
     }
 }
 
+/// How many octets a header has at most that has this tag: one, and nine of a length.
 #[cfg(feature = "alloc")]
-fn check_long(any: &Any<'_>, identifier: u8) -> Result<()> {
-    let content = any.content();
-    let length = content.len().to_be_bytes();
-    let spelled = &length[length.iter().take_while(|octet| **octet == 0).count()..];
+const LONGEST_HEADER: usize = 10;
+
+/// Checks a copy that a writer writes.
+#[cfg(feature = "alloc")]
+fn check_long(any: &Any<'_>) -> Result<()> {
     let mut copy = alloc::vec::Vec::new();
-    let reserved = copy.try_reserve_exact(content.len() + 2 + length.len());
+    let capacity = any.content().len() + LONGEST_HEADER;
+    let reserved = copy.try_reserve_exact(capacity);
     reserved.map_err(|_| any.error(ErrorKind::OutOfMemory))?;
-    copy.push(identifier);
-    // The long form (X.690 8.1.3.5).
-    copy.push(0x80 | spelled.len() as u8);
-    copy.extend_from_slice(spelled);
-    copy.extend_from_slice(content);
-    check_copy(any, &copy)
+    copy.resize(capacity, 0);
+    let mut fields = Fields::new(&mut copy);
+    let mark = fields.open_as(any.tag(), any.is_constructed());
+    fields.put_elements(any.content());
+    fields.close(mark);
+    let (_, length) = fields.finish();
+    check_copy(any, &copy[..length])
 }
 
 #[cfg(not(feature = "alloc"))]
-fn check_long(any: &Any<'_>, _: u8) -> Result<()> {
+fn check_long(any: &Any<'_>) -> Result<()> {
     Err(any.error(ErrorKind::OutOfMemory))
 }
 

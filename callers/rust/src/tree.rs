@@ -2,8 +2,7 @@
 use crate::element::{found, whole, Found, Rules};
 use crate::error::{ErrorKind, Result};
 use crate::ffi;
-use crate::value::{BitString, Integer, ObjectIdentifier, Time};
-use crate::{Any, Class, Element, Error, Reader, Tag};
+use crate::{Any, BitString, Class, Element, Error, Integer, ObjectIdentifier, Reader, Tag, Time};
 use alloc::vec::Vec;
 use core::fmt;
 use core::iter::FusedIterator;
@@ -77,6 +76,16 @@ impl<'a> Tree<'a> {
     /// The list of elements, for [`Rules::parse_with`].
     pub fn into_elements(self) -> Vec<Element> {
         self.elements
+    }
+}
+
+/// All elements in preorder, as [`Tree::nodes`].
+impl<'t, 'a> IntoIterator for &'t Tree<'a> {
+    type Item = Node<'t, 'a>;
+    type IntoIter = Descendants<'t, 'a>;
+
+    fn into_iter(self) -> Descendants<'t, 'a> {
+        self.nodes()
     }
 }
 
@@ -318,6 +327,16 @@ impl<'t, 'a> Node<'t, 'a> {
     /// Whether it is a NULL (X.690 8.8).
     pub fn is_null(&self) -> bool {
         self.any().is_null()
+    }
+}
+
+/// The elements directly inside it, as [`Node::children`].
+impl<'t, 'a> IntoIterator for Node<'t, 'a> {
+    type Item = Node<'t, 'a>;
+    type IntoIter = Children<'t, 'a>;
+
+    fn into_iter(self) -> Children<'t, 'a> {
+        self.children()
     }
 }
 

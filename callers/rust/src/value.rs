@@ -1,22 +1,36 @@
-//! Values of content octets.
+//! Numbers and bits.
 use crate::error::Reason;
-use crate::ffi;
-use core::fmt;
+use crate::ffi::{self, Fields};
+use core::cmp::Ordering;
+use core::iter::FusedIterator;
 
-/// An INTEGER or an ENUMERATED: its content octets, in two's complement (X.690 8.3).
+/// An INTEGER or an ENUMERATED: its content octets, in two's complement and the fewest (X.690 8.3). It sorts by its
+/// number.
 ///
 /// ```
-/// use dumarewhi::Any;
+/// use dumarewhi::{Any, Integer};
 ///
 /// let number = Any::from_der(&[0x02, 0x02, 0x01, 0x00])?.as_integer()?;
 /// assert_eq!(number.to_u64(), Ok(256));
 /// assert_eq!(number.as_bytes(), [0x01, 0x00]);
+/// assert!(number > Integer::from_content(&[0x80]).unwrap());
 /// # Ok::<(), dumarewhi::Error>(())
 /// ```
 #[derive(Clone, Copy, Debug, PartialEq, Eq, Hash)]
 pub struct Integer<'a>(pub(crate) &'a [u8]);
 
 impl<'a> Integer<'a> {
+    /// The number with these content octets. An error unless they are the fewest for it (X.690 8.3.2).
+    pub fn from_content(content: &'a [u8]) -> Result<Integer<'a>, Reason> {
+        Fields::new(&mut []).put_integer(content).map_err(Reason)?;
+        Ok(Integer(content))
+    }
+
+    /// Whether it is below 0.
+    pub fn is_negative(self) -> bool {
+        self.0.first().map_or(false, |first| first & 0x80 != 0)
+    }
+
     /// The content octets: two's complement, the highest octet first.
     pub fn as_bytes(self) -> &'a [u8] {
         self.0
@@ -33,86 +47,64 @@ impl<'a> Integer<'a> {
     }
 }
 
-/// An OBJECT IDENTIFIER (X.690 8.19). It displays as its arcs with points, and compares with such a text.
-///
-/// Two of them are equal if their content octets are. No octets have no arcs, and an empty text.
-///
-/// ```
-/// use dumarewhi::{Any, ObjectIdentifier};
-///
-/// let common_name = Any::from_der(&[0x06, 0x03, 0x55, 0x04, 0x03])?.as_oid()?;
-/// assert_eq!(common_name.to_string(), "2.5.4.3");
-/// assert!(common_name == "2.5.4.3");
-/// assert_eq!(ObjectIdentifier::from_content(&[0x55, 0x04, 0x03]), Ok(common_name));
-/// # Ok::<(), dumarewhi::Error>(())
-/// ```
-#[derive(Clone, Copy, PartialEq, Eq, Hash)]
-pub struct ObjectIdentifier<'a>(&'a [u8]);
+/// As [`from_content`](Integer::from_content).
+impl<'a> TryFrom<&'a [u8]> for Integer<'a> {
+    type Error = Reason;
 
-/// An identifier with a longer text is written in memory that is allocated for it.
-const SHORT_TEXT: usize = 256;
-
-impl<'a> ObjectIdentifier<'a> {
-    /// The identifier with these content octets. An error if the last octet isn't the end of an arc, or if
-    /// a subidentifier is 2^128 or more.
-    pub fn from_content(content: &'a [u8]) -> Result<ObjectIdentifier<'a>, Reason> {
-        ffi::read_oid(content, &mut []).map_err(Reason)?;
-        Ok(ObjectIdentifier(content))
+    fn try_from(content: &'a [u8]) -> Result<Integer<'a>, Reason> {
+        Integer::from_content(content)
     }
+}
 
-    /// The content octets.
-    pub fn as_bytes(self) -> &'a [u8] {
+/// The content octets.
+impl AsRef<[u8]> for Integer<'_> {
+    fn as_ref(&self) -> &[u8] {
         self.0
     }
+}
 
-    /// What the function makes of the text, if there is memory to write it: without the feature `alloc`, only a
-    /// text of at most 256 octets has it.
-    fn with_text<T>(self, function: impl FnOnce(&str) -> T) -> Option<T> {
-        let mut short = [0; SHORT_TEXT];
-        let length = ffi::read_oid(self.0, &mut short).ok()?;
-        if let Some(text) = short.get(..length) {
-            return core::str::from_utf8(text).ok().map(function);
+/// Since the octets are the fewest, more of them are further from 0.
+impl Ord for Integer<'_> {
+    fn cmp(&self, other: &Self) -> Ordering {
+        let (own, others) = (self.0, other.0);
+        match (self.is_negative(), other.is_negative()) {
+            (false, false) => (own.len(), own).cmp(&(others.len(), others)),
+            (true, true) => others.len().cmp(&own.len()).then_with(|| own.cmp(others)),
+            (own, others) => others.cmp(&own),
         }
-        self.with_long_text(length, function)
-    }
-
-    #[cfg(feature = "alloc")]
-    fn with_long_text<T>(self, length: usize, function: impl FnOnce(&str) -> T) -> Option<T> {
-        let mut text = alloc::vec![0; length];
-        ffi::read_oid(self.0, &mut text).ok()?;
-        core::str::from_utf8(&text).ok().map(function)
-    }
-
-    #[cfg(not(feature = "alloc"))]
-    fn with_long_text<T>(self, _: usize, _: impl FnOnce(&str) -> T) -> Option<T> {
-        None
     }
 }
 
-/// Without the feature `alloc`, a text of more than 256 octets is an error.
-impl fmt::Display for ObjectIdentifier<'_> {
-    fn fmt(&self, f: &mut fmt::Formatter<'_>) -> fmt::Result {
-        self.with_text(|text| f.pad(text)).unwrap_or(Err(fmt::Error))
+impl PartialOrd for Integer<'_> {
+    fn partial_cmp(&self, other: &Self) -> Option<Ordering> {
+        Some(self.cmp(other))
     }
 }
 
-impl fmt::Debug for ObjectIdentifier<'_> {
-    fn fmt(&self, f: &mut fmt::Formatter<'_>) -> fmt::Result {
-        let shown = self.with_text(|text| write!(f, "ObjectIdentifier({text})"));
-        shown.unwrap_or_else(|| write!(f, "ObjectIdentifier({:?})", self.0))
-    }
+macro_rules! numbers {
+    ($($type:ty: $read:ident,)*) => {
+        $(/// The number, if the type has it.
+        impl TryFrom<Integer<'_>> for $type {
+            type Error = Reason;
+
+            fn try_from(number: Integer<'_>) -> Result<$type, Reason> {
+                number.$read().and_then(|it| <$type>::try_from(it).map_err(|_| Reason::INTEGER_TOO_LARGE))
+            }
+        })*
+    };
 }
 
-impl PartialEq<str> for ObjectIdentifier<'_> {
-    fn eq(&self, text: &str) -> bool {
-        self.with_text(|own| own == text) == Some(true)
-    }
-}
-
-impl PartialEq<&str> for ObjectIdentifier<'_> {
-    fn eq(&self, text: &&str) -> bool {
-        *self == **text
-    }
+numbers! {
+    u8: to_u64,
+    u16: to_u64,
+    u32: to_u64,
+    u64: to_u64,
+    usize: to_u64,
+    i8: to_i64,
+    i16: to_i64,
+    i32: to_i64,
+    i64: to_i64,
+    isize: to_i64,
 }
 
 /// A BIT STRING (X.690 8.6).
@@ -135,15 +127,32 @@ pub struct BitString<'a> {
 }
 
 impl<'a> BitString<'a> {
+    /// The bits of these octets, of whose last some don't count, 0 to 7. An error if there are more, or if there is no
+    /// octet that has them (X.690 8.6.2).
+    ///
+    /// ```
+    /// use dumarewhi::BitString;
+    ///
+    /// assert_eq!(BitString::new(4, &[0xf0]).unwrap().len(), 4);
+    /// assert!(BitString::new(8, &[0]).is_err());
+    /// ```
+    pub fn new(unused: u8, bytes: &'a [u8]) -> Result<BitString<'a>, Reason> {
+        match unused {
+            8.. => Err(Reason::UNUSED_BITS_ABOVE_SEVEN),
+            1.. if bytes.is_empty() => Err(Reason::UNUSED_BITS_OF_NONE),
+            _ => Ok(BitString { unused, bytes }),
+        }
+    }
+
+    /// Bits that the library has read.
+    pub(crate) fn unchecked(unused: u8, bytes: &'a [u8]) -> BitString<'a> {
+        BitString { unused, bytes }
+    }
+
     /// Content octets begin with the number of unused bits, 0 to 7 and 0 if no octets follow (X.690 8.6.2).
     pub(crate) fn from_content(content: &'a [u8]) -> Option<BitString<'a>> {
-        match content {
-            [unused @ 0..=7, bytes @ ..] if *unused == 0 || !bytes.is_empty() => Some(BitString {
-                unused: *unused,
-                bytes,
-            }),
-            _ => None,
-        }
+        let (unused, bytes) = content.split_first()?;
+        BitString::new(*unused, bytes).ok()
     }
 
     /// How many of the last octet's bits don't count, 0 to 7.
@@ -181,117 +190,51 @@ impl<'a> BitString<'a> {
         }
         Some(self.bytes[index / 8] & (0x80 >> (index % 8)) != 0)
     }
-}
 
-/// A UTCTime or a GeneralizedTime.
-///
-/// ```
-/// use dumarewhi::{Any, Zone};
-///
-/// let time = Any::from_der(b"\x17\x0d491231235959Z")?.as_time()?;
-/// assert_eq!((time.year, time.month, time.day), (2049, 12, 31));
-/// assert_eq!(time.zone, Zone::Utc);
-/// assert_eq!(time.to_string(), "2049-12-31T23:59:59Z");
-/// # Ok::<(), dumarewhi::Error>(())
-/// ```
-#[derive(Clone, Copy, Debug, PartialEq, Eq, Hash)]
-pub struct Time {
-    /// The year. Of a UTCTime 1950 to 2049 (RFC 5280 4.1.2.5.1).
-    pub year: u32,
-    /// The month, 1 to 12.
-    pub month: u8,
-    /// The day, 1 to 31, whatever the month.
-    pub day: u8,
-    /// The hour, 0 to 23.
-    pub hour: u8,
-    /// The minute, 0 to 59.
-    pub minute: u8,
-    /// The second, 0 to 59.
-    pub second: u8,
-    /// The fraction of a second, in nanoseconds.
-    pub nanosecond: u32,
-    /// The zone.
-    pub zone: Zone,
-}
-
-/// The zone of a time.
-#[derive(Clone, Copy, Debug, PartialEq, Eq, Hash)]
-pub enum Zone {
-    /// Local time, wherever that is.
-    Local,
-    /// UTC.
-    Utc,
-    /// An offset from UTC. Both numbers are negative to the west.
-    Offset {
-        /// Whole hours.
-        hours: i8,
-        /// And minutes.
-        minutes: i8,
-    },
-}
-
-impl Time {
-    pub(crate) fn from_content(number: u32, content: &[u8]) -> Result<Time, Reason> {
-        let fields = ffi::read_time(number, content).map_err(Reason)?;
-        let zone = match fields.zone {
-            ffi::ZONE_LOCAL => Zone::Local,
-            ffi::ZONE_UTC => Zone::Utc,
-            _ => Zone::Offset {
-                hours: fields.zone_hours,
-                minutes: fields.zone_minutes,
-            },
-        };
-        Ok(Time {
-            year: fields.year,
-            month: fields.month,
-            day: fields.day,
-            hour: fields.hour,
-            minute: fields.minute,
-            second: fields.second,
-            nanosecond: fields.nanosecond,
-            zone,
-        })
+    /// The bits, the first ones first.
+    ///
+    /// ```
+    /// use dumarewhi::BitString;
+    ///
+    /// let bits = BitString::new(5, &[0xa0]).unwrap();
+    /// assert!(bits.iter().eq([true, false, true]));
+    /// ```
+    pub fn iter(self) -> Bits<'a> {
+        Bits { bits: self, index: 0 }
     }
 }
 
-/// As RFC 3339 writes it. A fraction has nine digits.
-impl fmt::Display for Time {
-    fn fmt(&self, f: &mut fmt::Formatter<'_>) -> fmt::Result {
-        let Time {
-            year,
-            month,
-            day,
-            hour,
-            minute,
-            second,
-            ..
-        } = self;
-        write!(
-            f,
-            "{year:04}-{month:02}-{day:02}T{hour:02}:{minute:02}:{second:02}"
-        )?;
-        if self.nanosecond != 0 {
-            write!(f, ".{:09}", self.nanosecond)?;
-        }
-        self.zone.fmt(f)
+impl<'a> IntoIterator for BitString<'a> {
+    type Item = bool;
+    type IntoIter = Bits<'a>;
+
+    fn into_iter(self) -> Bits<'a> {
+        self.iter()
     }
 }
 
-/// Nothing, `Z`, or an offset as `+01:00`.
-impl fmt::Display for Zone {
-    fn fmt(&self, f: &mut fmt::Formatter<'_>) -> fmt::Result {
-        match self {
-            Zone::Local => Ok(()),
-            Zone::Utc => f.write_str("Z"),
-            Zone::Offset { hours, minutes } => {
-                let sign = if *hours < 0 || *minutes < 0 { '-' } else { '+' };
-                write!(
-                    f,
-                    "{sign}{:02}:{:02}",
-                    hours.unsigned_abs(),
-                    minutes.unsigned_abs()
-                )
-            }
-        }
+/// The bits of a [`BitString`].
+#[derive(Clone, Debug)]
+pub struct Bits<'a> {
+    bits: BitString<'a>,
+    index: usize,
+}
+
+impl Iterator for Bits<'_> {
+    type Item = bool;
+
+    fn next(&mut self) -> Option<bool> {
+        let bit = self.bits.bit(self.index)?;
+        self.index += 1;
+        Some(bit)
+    }
+
+    fn size_hint(&self) -> (usize, Option<usize>) {
+        let left = self.bits.len() - self.index;
+        (left, Some(left))
     }
 }
+
+impl ExactSizeIterator for Bits<'_> {}
+
+impl FusedIterator for Bits<'_> {}

@@ -1,8 +1,7 @@
 //! Element after element.
 use crate::error::{ErrorKind, Reason, Result};
 use crate::ffi::{self, Fields};
-use crate::value::{BitString, Integer, ObjectIdentifier, Time, Zone};
-use crate::{Any, Error, Tag};
+use crate::{Error, Integer, ObjectIdentifier, Tag, Time};
 #[cfg(feature = "alloc")]
 use alloc::vec::Vec;
 
@@ -85,23 +84,6 @@ impl<'b> Writer<'b> {
 
     fn put(&self, put: Result<(), u32>) -> Result<()> {
         put.map_err(|number| self.error(ErrorKind::Value(Reason(number))))
-    }
-
-    /// Writes a value.
-    ///
-    /// ```
-    /// use dumarewhi::to_vec;
-    ///
-    /// let octets = to_vec(|w| {
-    ///     w.value(&true)?;
-    ///     w.value(&Some(7_u64))?;
-    ///     w.value(&None::<u64>)
-    /// })?;
-    /// assert_eq!(octets, [0x01, 0x01, 0xff, 0x02, 0x01, 0x07]);
-    /// # Ok::<(), dumarewhi::Error>(())
-    /// ```
-    pub fn value(&mut self, value: &(impl Encode + ?Sized)) -> Result<()> {
-        value.encode(self)
     }
 
     /// Writes a SEQUENCE of what the function writes.
@@ -261,6 +243,19 @@ impl<'b> Writer<'b> {
         self.put(put)
     }
 
+    /// Writes an OBJECT IDENTIFIER, with the octets that it has.
+    ///
+    /// ```
+    /// use dumarewhi::{oid, to_vec};
+    ///
+    /// let octets = to_vec(|w| Ok(w.identifier(oid!(2, 5, 4, 3))))?;
+    /// assert_eq!(octets, [0x06, 0x03, 0x55, 0x04, 0x03]);
+    /// # Ok::<(), dumarewhi::Error>(())
+    /// ```
+    pub fn identifier(&mut self, identifier: ObjectIdentifier<'_>) {
+        self.fields.put_oid(identifier.as_bytes());
+    }
+
     /// Writes an OCTET STRING.
     pub fn octet_string(&mut self, octets: &[u8]) {
         self.fields.put_octets(octets);
@@ -309,7 +304,8 @@ impl<'b> Writer<'b> {
         Ok(())
     }
 
-    /// Writes a character string of any type that [`Any::as_str`] has. An error if a character isn't in its set.
+    /// Writes a character string of any type that [`Any::as_str`](crate::Any::as_str) has. An error if a character
+    /// isn't in its set.
     pub fn string(&mut self, tag: Tag, text: &str) -> Result<()> {
         if !tag.is_text() {
             return Err(self.error(ErrorKind::Other("the tag is of no type of text")));
@@ -329,116 +325,8 @@ impl<'b> Writer<'b> {
     }
 
     fn time(&mut self, tag: Tag, time: Time) -> Result<()> {
-        let put = self.fields.put_time(tag.number, &fields_of(time));
+        let put = self.fields.put_time(tag.number, &time.into());
         self.put(put)
-    }
-}
-
-fn fields_of(time: Time) -> ffi::TimeFields {
-    let (zone, zone_hours, zone_minutes) = match time.zone {
-        Zone::Local => (ffi::ZONE_LOCAL, 0, 0),
-        Zone::Utc => (ffi::ZONE_UTC, 0, 0),
-        Zone::Offset { hours, minutes } => (ffi::ZONE_OFFSET, hours, minutes),
-    };
-    ffi::TimeFields {
-        year: time.year,
-        nanosecond: time.nanosecond,
-        month: time.month,
-        day: time.day,
-        hour: time.hour,
-        minute: time.minute,
-        second: time.second,
-        zone,
-        zone_hours,
-        zone_minutes,
-    }
-}
-
-/// A value that a [`Writer`] writes, as [`Writer::value`] does. A type of the caller's own is written by its fields.
-///
-/// ```
-/// use dumarewhi::{to_vec, Encode, Result, Writer};
-///
-/// /// SEQUENCE { number INTEGER, name PrintableString }
-/// struct Entry {
-///     number: u64,
-///     name: &'static str,
-/// }
-///
-/// impl Encode for Entry {
-///     fn encode(&self, w: &mut Writer<'_>) -> Result<()> {
-///         w.sequence(|w| {
-///             w.u64(self.number);
-///             w.printable_string(self.name)
-///         })
-///     }
-/// }
-///
-/// let octets = to_vec(|w| w.value(&Entry { number: 5, name: "hi" }))?;
-/// assert_eq!(octets, [0x30, 0x07, 0x02, 0x01, 0x05, 0x13, 0x02, b'h', b'i']);
-/// # Ok::<(), dumarewhi::Error>(())
-/// ```
-pub trait Encode {
-    /// Writes the elements of the value.
-    fn encode(&self, w: &mut Writer<'_>) -> Result<()>;
-}
-
-macro_rules! encodes {
-    ($($(#[$doc:meta])* $type:ty: |$w:ident, $value:ident| $call:expr;)*) => {
-        $($(#[$doc])* impl Encode for $type {
-            fn encode(&self, $w: &mut Writer<'_>) -> Result<()> {
-                let $value = self;
-                $call;
-                Ok(())
-            }
-        })*
-    };
-}
-
-encodes! {
-    /// A BOOLEAN.
-    bool: |w, value| w.boolean(*value);
-    /// An INTEGER.
-    u32: |w, value| w.u64((*value).into());
-    /// An INTEGER.
-    u64: |w, value| w.u64(*value);
-    /// An INTEGER.
-    i32: |w, value| w.i64((*value).into());
-    /// An INTEGER.
-    i64: |w, value| w.i64(*value);
-    /// An INTEGER, as [`Writer::integer`].
-    Integer<'_>: |w, value| w.integer(*value)?;
-    /// An OBJECT IDENTIFIER.
-    ObjectIdentifier<'_>: |w, value| w.fields.put_oid(value.as_bytes());
-    /// A BIT STRING.
-    BitString<'_>: |w, value| w.bit_string(value.unused_bits(), value.raw_bytes());
-    /// A UTF8String.
-    str: |w, value| w.utf8_string(value);
-    /// An element that was read by DER, as it is. One that was read by BER stays in BER: [`write_der`] writes it as
-    /// DER.
-    ///
-    /// [`write_der`]: crate::write_der
-    Any<'_>: |w, value| w.elements(value.octets());
-}
-
-/// As the value that it refers to.
-impl<T: Encode + ?Sized> Encode for &T {
-    fn encode(&self, w: &mut Writer<'_>) -> Result<()> {
-        (**self).encode(w)
-    }
-}
-
-/// The value, or nothing: an OPTIONAL field.
-impl<T: Encode> Encode for Option<T> {
-    fn encode(&self, w: &mut Writer<'_>) -> Result<()> {
-        self.as_ref().map_or(Ok(()), |value| value.encode(w))
-    }
-}
-
-/// A SEQUENCE OF.
-impl<T: Encode> Encode for [T] {
-    fn encode(&self, w: &mut Writer<'_>) -> Result<()> {
-        w.sequence(|w| self.iter().try_for_each(|value| value.encode(w)))
     }
 }
 

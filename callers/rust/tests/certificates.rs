@@ -1,90 +1,22 @@
 //! Certificates of the machine, and some that openssl makes, beside what `openssl asn1parse` prints.
 #![cfg(feature = "std")]
 use dumarewhi::{Node, Reader, Tag, Tree};
-use std::io::Write;
-use std::process::{Command, Stdio};
-use std::sync::atomic::{AtomicUsize, Ordering};
-use std::{env, fs, thread};
+use shared::{made, openssl, store};
 
-const STORE: &str = "/etc/ssl/certs/ca-certificates.crt";
+mod shared;
 
-/// Runs openssl with this input, if the machine has it.
-fn openssl(arguments: &[&str], input: &[u8]) -> Option<Vec<u8>> {
-    let mut command = Command::new("openssl");
-    command
-        .args(arguments)
-        .stdin(Stdio::piped())
-        .stdout(Stdio::piped())
-        .stderr(Stdio::null());
-    let mut child = command.spawn().ok()?;
-    let mut stdin = child.stdin.take()?;
-    let input = input.to_vec();
-    let writer = thread::spawn(move || stdin.write_all(&input));
-    let output = child.wait_with_output().ok()?;
-    let _ = writer.join();
-    output.status.success().then_some(output.stdout)
-}
-
-/// The octets of each certificate in a text with PEM (RFC 7468).
-fn from_pem(text: &str) -> Vec<Vec<u8>> {
-    let end = "-----END CERTIFICATE-----";
-    let parts = text.split("-----BEGIN CERTIFICATE-----").skip(1);
-    parts
-        .filter_map(|part| part.split(end).next())
-        .map(from_base64)
-        .collect()
-}
-
-fn from_base64(text: &str) -> Vec<u8> {
-    const DIGITS: &str = "ABCDEFGHIJKLMNOPQRSTUVWXYZabcdefghijklmnopqrstuvwxyz0123456789+/";
-    let digits: Vec<_> = text.chars().filter_map(|it| DIGITS.find(it)).collect();
-    let octets = |group: &[usize]| {
-        let number = group.iter().fold(0, |number, digit| number << 6 | digit) << (6 * (4 - group.len()));
-        (1..group.len())
-            .map(move |at| (number >> (24 - 8 * at)) as u8)
-            .collect::<Vec<_>>()
-    };
-    digits.chunks(4).flat_map(octets).collect()
-}
-
-/// A certificate that openssl makes, with a key of this kind.
-fn made(key: &[&str]) -> Option<Vec<u8>> {
-    static FOLDERS: AtomicUsize = AtomicUsize::new(0);
-    let number = FOLDERS.fetch_add(1, Ordering::Relaxed);
-    let folder = env::temp_dir().join(format!("dumarewhi-{}-{number}", std::process::id()));
-    fs::create_dir_all(&folder).ok()?;
-    let file = folder.join("key.pem");
-    let subject = ["-subj", "/C=NZ/O=Dūmarewhi/CN=example.org", "-utf8"];
-    let mut arguments = vec![
-        "req", "-x509", "-nodes", "-days", "36500", "-outform", "DER", "-newkey",
-    ];
-    arguments.extend(key);
-    arguments.extend(subject);
-    arguments.extend([
-        "-addext",
-        "subjectAltName=DNS:example.org,IP:192.0.2.1",
-        "-keyout",
-        file.to_str()?,
-    ]);
-    let made = openssl(&arguments, b"");
-    let _ = fs::remove_dir_all(&folder);
-    made
-}
-
+/// Those of the machine, and some with keys of several kinds.
 fn certificates() -> Vec<Vec<u8>> {
-    let mut certificates = match fs::read_to_string(STORE) {
-        Ok(text) => from_pem(&text),
-        Err(_) => {
-            println!("left out: there is no {STORE} (the package ca-certificates has it)");
-            Vec::new()
-        }
-    };
+    let mut certificates = store();
     for key in [
         &["rsa:2048"][..],
         &["ec", "-pkeyopt", "ec_paramgen_curve:prime256v1"],
         &["ed25519"],
     ] {
-        match made(key) {
+        let mut words = vec!["-subj", "/C=NZ/O=Dūmarewhi/CN=example.org", "-utf8", "-newkey"];
+        words.extend(key);
+        words.extend(["-addext", "subjectAltName=DNS:example.org,IP:192.0.2.1"]);
+        match made(&words) {
             Some(certificate) => certificates.push(certificate),
             None => println!("left out: openssl makes no certificate with {}", key[0]),
         }

@@ -5,6 +5,8 @@ use std::io::Write;
 use std::path::PathBuf;
 use std::process::{Command, Output, Stdio};
 
+mod shared;
+
 /// The program of an example, beside this test's.
 fn program(name: &str) -> Option<PathBuf> {
     let test = env::current_exe().ok()?;
@@ -61,6 +63,21 @@ const PRINTED: [&str; 2] = [
 #[test]
 fn snmp_prints_requests() {
     prints("snmp", &REQUEST.repeat(2), &[PRINTED, PRINTED].concat(), true);
+}
+
+/// What is written is the message, which was DER.
+#[test]
+fn snmp_types_are_written_as_they_were() {
+    let file = env::temp_dir().join(format!("dumarewhi-snmp-{}", std::process::id()));
+    if let Some(output) = run_with("snmp_types", &[file.to_str().unwrap()], REQUEST) {
+        let text = String::from_utf8(output.stdout).unwrap();
+        let expected =
+            "version 1, community \"public\"\n[0] 1902651985, status 0\n1.3.6.1.2.1.1.1.0 = Unspecified\n";
+        assert_eq!(text, expected, "{}", String::from_utf8_lossy(&output.stderr));
+        let written = std::fs::read(&file).unwrap();
+        std::fs::remove_file(&file).unwrap();
+        assert_eq!(written, REQUEST);
+    }
 }
 
 /// A message that isn't one is said, and the next one is read.
@@ -186,4 +203,73 @@ fn csr_writes_what_is_signed() {
         assert_eq!(output.stdout, expected);
     }
     std::fs::remove_file(&key).unwrap();
+}
+
+/// A certificate for a name, which openssl makes, in PEM.
+fn certificate_of(name: &str) -> Option<Vec<u8>> {
+    let (subject, names) = (
+        format!("/O=Example, Inc./CN={name}"),
+        format!("subjectAltName=DNS:www.{name}"),
+    );
+    let made = shared::made(&[
+        "-newkey",
+        "ed25519",
+        "-set_serial",
+        "258",
+        "-subj",
+        &subject,
+        "-addext",
+        &names,
+    ])?;
+    shared::openssl(&["x509", "-inform", "DER", "-outform", "PEM"], &made)
+}
+
+/// Those of a bundle whose common name, or name of DNS, is the one that is asked for.
+#[test]
+fn x509_prints_certificates_of_a_name() {
+    let made = certificate_of("one.example").zip(certificate_of("two.example"));
+    let bundle = match made {
+        Some((one, two)) => [one, two].concat(),
+        None => return println!("left out: openssl makes no certificate"),
+    };
+    let folder = shared::folder();
+    let file = folder.join("bundle.pem");
+    std::fs::write(&file, bundle).unwrap();
+    let file = file.to_str().unwrap();
+    for (words, names) in [
+        (&[file][..], &["one.example", "two.example"][..]),
+        (&["--named", "two.example", file], &["two.example"]),
+        (&["--named", "www.one.example", file], &["one.example"]),
+        (&[file, "--named", "three.example"], &[]),
+    ] {
+        let output = match run_with("x509", words, &[]) {
+            Some(output) => output,
+            None => return,
+        };
+        let text = String::from_utf8(output.stdout).unwrap();
+        let found: Vec<_> = text
+            .lines()
+            .filter(|line| line.starts_with("subject: "))
+            .collect();
+        let expected: Vec<_> = names
+            .iter()
+            .map(|name| format!(r"subject: CN={name},O=Example\, Inc."))
+            .collect();
+        assert_eq!(
+            found,
+            expected,
+            "{words:?}: {}",
+            String::from_utf8_lossy(&output.stderr)
+        );
+        for name in names {
+            let line = format!("extension: 2.5.29.17: DNS:www.{name}");
+            assert!(text.lines().any(|it| it == line), "{line} in {text}");
+        }
+        assert_eq!(text.matches("serial: 0102\n").count(), names.len());
+        assert_eq!(
+            text.matches("extension: 2.5.29.19 critical: CA true\n").count(),
+            names.len()
+        );
+    }
+    std::fs::remove_dir_all(&folder).unwrap();
 }

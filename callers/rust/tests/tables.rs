@@ -10,6 +10,8 @@ const CAUSES: &[(&str, Reason)] = &[
     ("it ends ", Reason::OVERRUN),
     ("the tag number isn't in the fewest octets", Reason::INVALID_TAG),
     ("the first length octet is ff", Reason::INVALID_LENGTH),
+    ("the tag number is above ", Reason::INVALID_TAG),
+    ("the length is above ", Reason::INVALID_LENGTH),
     (
         "a primitive element has an indefinite length",
         Reason::CONSTRUCTED_EXPECTED,
@@ -123,9 +125,14 @@ fn compare_fault(checked: Result<()>, answer: &str) {
             front.trim_start_matches(|c: char| c == ' ' || c.is_ascii_digit()),
         ),
     };
+    // What `der` says of the outermost element isn't in the text of an error.
+    let text = text.split("; the outermost element claims ").next().unwrap();
     let error = checked.unwrap_err();
+    let follows = text.ends_with(" after the end");
     let reason = match error.kind() {
         ErrorKind::Malformed(reason) => reason,
+        // What follows the last element is read as one here, which may be cut.
+        ErrorKind::Incomplete { .. } if follows => return,
         ErrorKind::Incomplete { missing } => {
             let stated = CUT.iter().find_map(|front| text.strip_prefix(front)).unwrap();
             return assert_eq!(stated.split(' ').next().unwrap().parse(), Ok(missing));
@@ -135,6 +142,7 @@ fn compare_fault(checked: Result<()>, answer: &str) {
     assert_eq!(place.split(',').next().unwrap().parse(), Ok(error.offset()));
     match CAUSES.iter().find(|(front, _)| text.starts_with(front)) {
         Some((_, stated)) => assert_eq!(*stated, reason),
+        None if follows => {}
         None => assert_eq!(text, reason.to_string()),
     }
 }
@@ -172,8 +180,8 @@ fn compare(file: &Path) -> usize {
         .lines()
         .filter(|line| !line.is_empty() && !line.starts_with('#'))
     {
-        if let Some(named) = line.strip_prefix('[') {
-            calls = named.strip_suffix(']').unwrap();
+        if let Some(named) = line.strip_prefix('[').and_then(|it| it.strip_suffix(']')) {
+            calls = named;
             continue;
         }
         let fields: Vec<_> = line.splitn(3, '|').collect();

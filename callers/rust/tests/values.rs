@@ -1,6 +1,5 @@
 //! Values of elements. Expected ones are from X.690, X.680 and RFC 5280, or are arithmetic.
 use dumarewhi::{Any, ErrorKind, ObjectIdentifier, Reason, Tag, Zone};
-use std::fmt::Write;
 
 /// A primitive element of a universal type.
 fn element(number: u8, content: &[u8]) -> Vec<u8> {
@@ -113,11 +112,13 @@ fn long_identifiers() {
         let content = vec![127; arcs];
         let text = format!("2.47{}", ".127".repeat(arcs - 1));
         let identifier = ObjectIdentifier::from_content(&content).unwrap();
-        let mut shown = String::new();
-        let written = write!(shown, "{identifier}").is_ok();
-        assert_eq!(written, arcs <= 64 || cfg!(feature = "alloc"));
-        assert_eq!(shown == text, written);
-        assert_eq!(identifier == text.as_str(), written);
+        let has_text = arcs <= 64 || cfg!(feature = "alloc");
+        let digits = format!("#{}", "7f".repeat(arcs));
+        assert_eq!(
+            identifier.to_string(),
+            if has_text { text.clone() } else { digits }
+        );
+        assert_eq!(identifier == text.as_str(), has_text);
     }
 }
 

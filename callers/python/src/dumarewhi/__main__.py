@@ -1,4 +1,4 @@
-"""Shows and checks files: ``python -m dumarewhi tree FILE``, ``python -m dumarewhi check FILE..``."""
+"""Shows and checks files: ``python -m dumarewhi tree FILE``, ``dump FILE``, ``check FILE..``."""
 from __future__ import annotations
 
 import argparse
@@ -8,7 +8,7 @@ import re
 import signal
 import sys
 from pathlib import Path
-from typing import Callable, Iterator, List, Optional
+from typing import Callable, Dict, Iterator, List, NamedTuple, Optional
 
 from . import BitString, DerError, Node, ObjectIdentifier, Reader, Rules, __version__
 
@@ -19,7 +19,7 @@ def main(words: Optional[List[str]] = None) -> int:
     """Runs the command. Returns 0, or 1 if a file has an error."""
     options = _options().parse_args(words)
     rules: Rules = "ber" if options.ber else "der"
-    show: Callable[[Node], None] = _show if options.command == "tree" else _check
+    show = _COMMANDS[options.command].run
     failed = False
     for name in options.files:
         try:
@@ -36,7 +36,7 @@ def _options() -> argparse.ArgumentParser:
     parser = argparse.ArgumentParser(prog="python -m dumarewhi", description="Shows and checks files in DER or BER.")
     parser.add_argument("--version", action="version", version=__version__)
     commands = parser.add_subparsers(dest="command", required=True)
-    for name, text in (("tree", "print a line for each element"), ("check", "print what isn't DER, and nothing else")):
+    for name, (text, _) in _COMMANDS.items():
         command = commands.add_parser(name, help=text, description=text)
         command.add_argument("--ber", action="store_true", help="read by BER, and not by DER")
         command.add_argument("files", nargs="+", metavar="FILE", help="octets or PEM; - is standard input")
@@ -84,6 +84,39 @@ def _text(node: Node) -> str:
 
 def _octets(octets: bytes) -> str:
     return octets[:32].hex() + (f".. ({len(octets)} octets)" if len(octets) > 32 else "")
+
+
+# How many octets a line of `dump` has.
+_LINE = 16
+
+
+def _dump(node: Node) -> None:
+    """Prints all octets, those of a header and of a primitive content in lines of their own."""
+    if not node.constructed:
+        _print_octets(node, node.offset, bytes(node.octets))
+        return
+    _print_octets(node, node.offset, bytes(node.header))
+    for child in node:
+        _dump(child)
+    if not node.definite:
+        _print_octets(node, node.content_end, b"\0\0")
+
+
+def _print_octets(node: Node, offset: int, octets: bytes) -> None:
+    for at in range(0, len(octets), _LINE):
+        print(f"{offset + at:6} {'  ' * node.depth}{octets[at : at + _LINE].hex(' ')}")
+
+
+class _Command(NamedTuple):
+    help: str
+    run: Callable[[Node], None]
+
+
+_COMMANDS: Dict[str, _Command] = {
+    "tree": _Command("print a line for each element, with its value", _show),
+    "dump": _Command("print the octets of each element in hexadecimal", _dump),
+    "check": _Command("print what isn't DER, and nothing else", _check),
+}
 
 
 if __name__ == "__main__":

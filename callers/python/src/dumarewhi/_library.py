@@ -173,7 +173,6 @@ def _reading_calls(library: ctypes.CDLL) -> _Calls:
 
 _SHORT_CALLS = _reading_calls(_holding)
 _LONG_CALLS = _reading_calls(_releasing)
-_first_der = _call("dm_first_der", c_uint32, c_void_p, c_size_t, c_void_p, c_void_p)
 
 _error_text = _call("dm_error_text", c_size_t, c_uint32, c_char_p, c_size_t)
 read_oid = _call("dm_read_oid", c_uint32, c_char_p, c_size_t, c_void_p, c_size_t, c_void_p)
@@ -323,7 +322,7 @@ class Source:
             address, _ = words.buffer_info()
             status = parse(self._address + begin, end - begin, max_depth, address, room, ctypes.byref(outcome))
             if status != OK:
-                raise self._error(rules, begin, end, outcome, nested)
+                raise self._error(begin, end, outcome, nested)
             if outcome.elements <= room:
                 del words[WORDS * outcome.elements :]
                 return Listing(words, outcome.length)
@@ -333,7 +332,7 @@ class Source:
         """Checks the first element. Returns how many elements and how many octets there are."""
         outcome = OutcomeStruct()
         if self._calls(self.length).check[rules](self._address, self.length, max_depth, ctypes.byref(outcome)) != OK:
-            raise self._error(rules, 0, self.length, outcome, False)
+            raise self._error(0, self.length, outcome, False)
         return outcome
 
     def to_der(self) -> bytes:
@@ -348,23 +347,17 @@ class Source:
             if status == OK:
                 return bytes(memoryview(octets)[: outcome.length])
             if status != NO_ROOM:
-                raise self._error("ber", 0, self.length, outcome, False)
+                raise self._error(0, self.length, outcome, False)
             room = outcome.length
 
-    def _error(self, rules: Rules, begin: int, end: int, outcome: OutcomeStruct, nested: bool) -> DerError:
+    @staticmethod
+    def _error(begin: int, end: int, outcome: OutcomeStruct, nested: bool) -> DerError:
         """The error of an outcome. What is nested can't be completed by more octets."""
         if outcome.status == ERROR:
             return rule_error(outcome.error, begin + outcome.place)
         if nested:
             return rule_error(Rule.OVERRUN, begin)
-        missing = outcome.missing if rules == "ber" else self._missing_by_der(begin, end, outcome.missing)
-        return Incomplete(missing, end)
-
-    def _missing_by_der(self, begin: int, end: int, missing: int) -> int:
-        """How many octets are missing, as ``dm_first_der`` says: up to the end of the first element, by its header."""
-        element, outcome = ElementStruct(), OutcomeStruct()
-        status = _first_der(self._address + begin, end - begin, ctypes.byref(element), ctypes.byref(outcome))
-        return outcome.missing if status == INCOMPLETE else missing
+        return Incomplete(outcome.missing, end)
 
 
 def _likely_length(data: Union[bytes, memoryview], begin: int, end: int) -> int:

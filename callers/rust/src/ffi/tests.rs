@@ -78,6 +78,7 @@ fn own_rows() -> Vec<Row> {
         [octets, capacity, count, innermost, implicit, number]
     ));
     rows.extend(layout!(Mark, Mark::default(), "dm_mark", [start, outer]));
+    rows.extend(rows_of_certificates());
     let constants = [
         ("DM_OK", OK as usize),
         ("DM_ERROR", ERROR as usize),
@@ -88,9 +89,160 @@ fn own_rows() -> Vec<Row> {
         ("DM_LOCAL", ZONE_LOCAL.into()),
         ("DM_UTC", ZONE_UTC.into()),
         ("DM_OFFSET", ZONE_OFFSET.into()),
+        ("DM_SUBJECT_KEY_IDENTIFIER", SUBJECT_KEY_IDENTIFIER as usize),
+        ("DM_KEY_USAGE", KEY_USAGE as usize),
+        ("DM_SUBJECT_ALT_NAME", SUBJECT_ALT_NAME as usize),
+        ("DM_ISSUER_ALT_NAME", ISSUER_ALT_NAME as usize),
+        ("DM_BASIC_CONSTRAINTS", BASIC_CONSTRAINTS as usize),
+        ("DM_AUTHORITY_KEY_IDENTIFIER", AUTHORITY_KEY_IDENTIFIER as usize),
+        ("DM_EXTENDED_KEY_USAGE", EXTENDED_KEY_USAGE as usize),
     ];
     rows.extend(constants.map(|(name, number)| (name.to_string(), number)));
     rows
+}
+
+fn rows_of_certificates() -> Vec<Row> {
+    [
+        layout!(Octets, Octets::default(), "dm_octets", [octets, length]),
+        layout!(
+            Fault,
+            Fault::default(),
+            "dm_fault",
+            [offset, list_end, needed, status, error, field, is_in_list]
+        ),
+        layout!(
+            AlgorithmFields,
+            AlgorithmFields::default(),
+            "dm_algorithm",
+            [identifier, parameters]
+        ),
+        layout!(
+            BitsFields,
+            BitsFields::default(),
+            "dm_bits",
+            [octets, unused, is_present]
+        ),
+        layout!(MomentFields, MomentFields::default(), "dm_moment", [time, number]),
+        layout!(
+            CertificateFields,
+            CertificateFields::default(),
+            "dm_certificate",
+            [
+                tbs,
+                serial_number,
+                signature,
+                issuer,
+                subject,
+                key_algorithm,
+                key,
+                issuer_unique_id,
+                subject_unique_id,
+                extensions,
+                signature_algorithm,
+                signature_value,
+                not_before,
+                not_after,
+                version,
+                reserved
+            ]
+        ),
+        layout!(
+            AttributeFields,
+            AttributeFields::default(),
+            "dm_attribute",
+            [identifier, value, number, tag_class, constructed, reserved]
+        ),
+        layout!(
+            ExtensionFields,
+            ExtensionFields::default(),
+            "dm_extension",
+            [identifier, value, critical, kind]
+        ),
+        layout!(
+            BasicConstraintsFields,
+            BasicConstraintsFields::default(),
+            "dm_basic_constraints",
+            [ca, has_path_length, path_length]
+        ),
+        layout!(
+            GeneralNameFields,
+            GeneralNameFields::default(),
+            "dm_general_name",
+            [octets, identifier, kind, reserved]
+        ),
+        layout!(
+            AuthorityKeyIdentifierFields,
+            AuthorityKeyIdentifierFields::default(),
+            "dm_authority_key_identifier",
+            [
+                key_identifier,
+                issuer,
+                serial_number,
+                has_key_identifier,
+                has_issuer,
+                has_serial_number,
+                reserved
+            ]
+        ),
+        layout!(Digest, Digest::default(), "dm_digest", [octets]),
+        layout!(
+            CursorState,
+            CursorState::default(),
+            "dm_cursor",
+            [left, offset, rules, is_inside, implicit, number]
+        ),
+        layout!(
+            AnyFields,
+            AnyFields::default(),
+            "dm_any",
+            [content, number, tag_class, constructed, reserved]
+        ),
+        layout!(
+            CertificateListFields,
+            CertificateListFields::default(),
+            "dm_certificate_list",
+            [
+                tbs,
+                signature,
+                issuer,
+                revoked,
+                extensions,
+                signature_algorithm,
+                signature_value,
+                this_update,
+                next_update,
+                version,
+                has_revoked
+            ]
+        ),
+        layout!(
+            RevokedFields,
+            RevokedFields::default(),
+            "dm_revoked",
+            [serial_number, extensions, date, reserved]
+        ),
+        layout!(
+            RequestFields,
+            RequestFields::default(),
+            "dm_request",
+            [
+                info,
+                subject,
+                key_algorithm,
+                key,
+                attributes,
+                signature_algorithm,
+                signature
+            ]
+        ),
+        layout!(
+            RequestAttributeFields,
+            RequestAttributeFields::default(),
+            "dm_request_attribute",
+            [identifier, values]
+        ),
+    ]
+    .concat()
 }
 
 /// The number of fields that a struct has in the header: each ends with a semicolon.
@@ -167,13 +319,41 @@ fn structs_have_no_other_field() {
     assert_eq!(fields_in(&header, "dm_time"), 10);
     assert_eq!(fields_in(&header, "dm_writer"), 6);
     assert_eq!(fields_in(&header, "dm_mark"), 2);
+    let certificates = [
+        ("dm_octets", 2),
+        ("dm_fault", 7),
+        ("dm_algorithm", 2),
+        ("dm_bits", 3),
+        ("dm_moment", 2),
+        ("dm_certificate", 16),
+        ("dm_attribute", 6),
+        ("dm_extension", 4),
+        ("dm_basic_constraints", 3),
+        ("dm_general_name", 4),
+        ("dm_authority_key_identifier", 7),
+        ("dm_digest", 1),
+        ("dm_cursor", 6),
+        ("dm_any", 5),
+        ("dm_certificate_list", 11),
+        ("dm_revoked", 4),
+        ("dm_request", 7),
+        ("dm_request_attribute", 2),
+    ];
+    for (name, fields) in certificates {
+        assert_eq!(fields_in(&header, name), fields, "{name}");
+    }
 }
 
 /// Each call that is declared in the header is declared here, and none other.
 #[test]
 fn calls_are_those_of_the_header() {
     let header = fs::read_to_string(include().join("dumarewhi.h")).unwrap();
-    let own = include_str!("../ffi.rs");
+    let own = concat!(
+        include_str!("../ffi.rs"),
+        include_str!("certificates.rs"),
+        include_str!("cursor.rs"),
+        include_str!("lists.rs")
+    );
     let names = |text: &str, opening: &str| -> Vec<String> {
         let mut names: Vec<_> = text
             .lines()
@@ -186,7 +366,9 @@ fn calls_are_those_of_the_header() {
     let results = ["uint32_t dm_", "size_t dm_", "void dm_", "dm_mark dm_"];
     let mut declared: Vec<_> = results.iter().flat_map(|it| names(&header, it)).collect();
     declared.sort();
-    assert_eq!(declared.len(), 38);
+    // The version is that of the header, and this crate has its own.
+    declared.retain(|name| name != "dm_version");
+    assert_eq!(declared.len(), 76);
     assert_eq!(declared, names(own, "fn dm_"));
 }
 

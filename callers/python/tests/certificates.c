@@ -1,0 +1,173 @@
+/* Prints what each input of a file is as a certificate:  certificates FILE
+ *
+ * An input is the number of its octets, in four octets, the lowest first, and then its octets. For each there are two
+ * lines: of dm_read_certificate and of dm_read_strict_certificate. */
+#include "dumarewhi.h"
+
+#include <inttypes.h>
+#include <stdio.h>
+#include <stdlib.h>
+
+typedef uint32_t read_certificate(const uint8_t *, size_t, dm_certificate *, dm_fault *);
+
+static void *room_for(size_t size) {
+    void *room = malloc(size + 1);
+    if (room == NULL) exit(2);
+    return room;
+}
+
+static void print_octets(dm_octets part) {
+    printf(part.length == 0 ? " -" : " ");
+    for (size_t i = 0; i < part.length; i++) printf("%02x", part.octets[i]);
+}
+
+static void print_bits(dm_bits bits) {
+    if (bits.is_present) printf(" %" PRIu32, bits.unused);
+    print_octets(bits.octets);
+}
+
+static void print_algorithm(dm_algorithm algorithm) {
+    print_octets(algorithm.identifier);
+    print_octets(algorithm.parameters);
+}
+
+static void print_moment(dm_moment moment) {
+    dm_time t = moment.time;
+    printf(" %04" PRIu32 "-%02u-%02uT%02u:%02u:%02u", t.year, t.month, t.day, t.hour, t.minute, t.second);
+    printf(".%06" PRIu32, t.nanosecond / 1000);
+}
+
+static void print_fault(const dm_fault *fault) {
+    uint8_t text[DM_TEXT_OCTETS];
+    size_t length = dm_fault_text(fault, text, sizeof text);
+    printf(" fault %" PRIu32 " %zu %" PRIu32 " %zu (%.*s)", fault->field, fault->offset, fault->error, fault->needed,
+           (int)length, (const char *)text);
+}
+
+static void print_name(dm_octets names) {
+    uint8_t *text = room_for(16 * names.length);
+    size_t length = dm_name_text(names.octets, names.length, text, 16 * names.length);
+    dm_octets whole = {text, length}, attributes;
+    dm_attribute it;
+    print_octets(whole);
+    while (dm_next_relative_name(&names, &attributes)) {
+        printf(" {");
+        while (dm_next_attribute(&attributes, &it)) {
+            print_octets(it.identifier);
+            printf(" %u.%" PRIu32 ".%u", it.tag_class, it.number, it.constructed);
+            print_octets(it.value);
+        }
+        printf(" }");
+    }
+    free(text);
+}
+
+static void print_general_names(dm_octets names) {
+    dm_general_name it;
+    while (dm_next_general_name(&names, &it)) {
+        printf(" %" PRIu32, it.kind);
+        if (it.kind == DM_OTHER_NAME) print_octets(it.identifier);
+        if (it.kind == DM_DIRECTORY_NAME) print_name(it.octets);
+        else print_octets(it.octets);
+    }
+}
+
+static void print_authority(const dm_authority_key_identifier *it) {
+    printf(" key");
+    if (it->has_key_identifier) print_octets(it->key_identifier);
+    printf(" issuer");
+    if (it->has_issuer) print_general_names(it->issuer);
+    printf(" serial");
+    if (it->has_serial_number) print_octets(it->serial_number);
+}
+
+static void print_value(const dm_extension *extension) {
+    const uint8_t *value = extension->value.octets;
+    size_t length = extension->value.length;
+    dm_fault fault = {0};
+    dm_basic_constraints constraints;
+    dm_authority_key_identifier authority;
+    dm_octets part, purpose;
+    uint32_t usage;
+    switch (extension->kind) {
+    case DM_BASIC_CONSTRAINTS:
+        if (dm_read_basic_constraints(value, length, &constraints, &fault) != DM_OK) break;
+        printf(" ca %" PRIu32, constraints.ca);
+        if (constraints.has_path_length) printf(" %" PRIu32, constraints.path_length);
+        break;
+    case DM_KEY_USAGE:
+        if (dm_read_key_usage(value, length, &usage, &fault) == DM_OK) printf(" usage %" PRIu32, usage);
+        break;
+    case DM_SUBJECT_ALT_NAME:
+    case DM_ISSUER_ALT_NAME:
+        if (dm_read_general_names(value, length, &part, &fault) == DM_OK) print_general_names(part);
+        break;
+    case DM_EXTENDED_KEY_USAGE:
+        if (dm_read_extended_key_usage(value, length, &part, &fault) != DM_OK) break;
+        while (dm_next_key_purpose(&part, &purpose)) print_octets(purpose);
+        break;
+    case DM_SUBJECT_KEY_IDENTIFIER:
+        if (dm_read_subject_key_identifier(value, length, &part, &fault) == DM_OK) print_octets(part);
+        break;
+    case DM_AUTHORITY_KEY_IDENTIFIER:
+        if (dm_read_authority_key_identifier(value, length, &authority, &fault) == DM_OK) print_authority(&authority);
+        break;
+    default: print_octets(extension->value);
+    }
+    if (fault.status != DM_OK) print_fault(&fault);
+}
+
+static void print_certificate(const dm_certificate *it) {
+    dm_octets extensions = it->extensions;
+    dm_extension extension;
+    printf(" version %" PRIu32, it->version);
+    print_octets(it->tbs);
+    print_octets(it->serial_number);
+    print_algorithm(it->signature);
+    print_name(it->issuer);
+    print_moment(it->not_before);
+    print_moment(it->not_after);
+    print_name(it->subject);
+    print_algorithm(it->key_algorithm);
+    print_bits(it->key);
+    print_bits(it->issuer_unique_id);
+    print_bits(it->subject_unique_id);
+    print_algorithm(it->signature_algorithm);
+    print_bits(it->signature_value);
+    while (dm_next_extension(&extensions, &extension)) {
+        printf(" extension");
+        print_octets(extension.identifier);
+        printf(" %" PRIu32, extension.critical);
+        print_value(&extension);
+    }
+}
+
+static void print_line(read_certificate *read, const uint8_t *input, size_t length) {
+    dm_certificate certificate;
+    dm_fault fault;
+    if (read(input, length, &certificate, &fault) == DM_OK) print_certificate(&certificate);
+    else print_fault(&fault);
+    putchar('\n');
+}
+
+/* A number of four octets. Returns whether there is one. */
+static int read_number(FILE *file, size_t *number) {
+    uint8_t octets[4];
+    if (fread(octets, 1, 4, file) != 4) return 0;
+    *number = (size_t)octets[0] | (size_t)octets[1] << 8 | (size_t)octets[2] << 16 | (size_t)octets[3] << 24;
+    return 1;
+}
+
+int main(int count, char **words) {
+    FILE *file = count == 2 ? fopen(words[1], "rb") : NULL;
+    size_t length;
+    if (file == NULL) return 2;
+    while (read_number(file, &length)) {
+        uint8_t *input = room_for(length);
+        if (fread(input, 1, length, file) != length) return 2;
+        print_line(dm_read_certificate, input, length);
+        print_line(dm_read_strict_certificate, input, length);
+        free(input);
+    }
+    return 0;
+}

@@ -1,0 +1,374 @@
+"""Certificates beside C, asn1crypto, cryptography, and the rows of the library's tests."""
+from __future__ import annotations
+
+import datetime
+import random
+import struct
+import subprocess
+from pathlib import Path
+from typing import Any, Callable, Dict, Iterator, List, Tuple
+
+import pytest
+from conftest import DATA, REPOSITORY, TESTS, certificates, octets_of, rows, tool
+
+from dumarewhi import BitString, DerError, ObjectIdentifier, Rule
+from dumarewhi import x509
+from dumarewhi.x509 import Certificate, CertificateError, Extension, Field, GeneralName, GeneralNameKind, Name
+
+DAMAGED = 10_000
+
+
+def sound() -> List[bytes]:
+    """The certificates of the machine, those of `der`, and the rows of certificates."""
+    files = [DATA / "certificate.der", *sorted(DATA.parents[1].glob("x509/data/*.der"))]
+    strict = [row.octets for row in rows() if row.call == "strict_certificate"]
+    return [*certificates(), *(file.read_bytes() for file in files), *strict]
+
+
+def damaged(inputs: List[bytes]) -> Iterator[bytes]:
+    """Inputs with some octets changed, left out, put in or cut off. They are the same at each run."""
+    chance = random.Random(5280)
+    likely = bytes.fromhex("0001020304050506080a0c1316171e30318081828384858687a0a1a3ff")
+    for _ in range(DAMAGED):
+        octets = bytearray(chance.choice(inputs))
+        for _ in range(chance.randrange(1, 4)):
+            at = chance.randrange(len(octets) + 1)
+            octet = chance.choice(likely) if chance.randrange(3) else chance.randrange(256)
+            kind = chance.randrange(8)
+            if kind == 0:
+                del octets[at:]
+            elif kind == 1:
+                del octets[at : at + 1]
+            elif kind == 2:
+                octets[at:at] = bytes((octet,))
+            else:
+                octets[at : at + 1] = bytes((octet,))
+        yield bytes(octets)
+
+
+# What `certificates.c` prints.
+
+
+def shown(octets: bytes) -> str:
+    return octets.hex() or "-"
+
+
+def shown_identifier(identifier: ObjectIdentifier) -> str:
+    return shown(identifier.content)
+
+
+def shown_bits(bits: "BitString | None") -> str:
+    return "-" if bits is None else f"{bits.unused_bits} {shown(bytes(bits))}"
+
+
+def shown_algorithm(algorithm: x509.Algorithm) -> str:
+    return f"{shown_identifier(algorithm.identifier)} {shown(algorithm.parameters or b'')}"
+
+
+def shown_time(moment: Tuple[int, ...]) -> str:
+    return "{:04}-{:02}-{:02}T{:02}:{:02}:{:02}.{:06}".format(*moment)
+
+
+def shown_error(error: CertificateError) -> str:
+    return f"fault {error.field} {error.offset} {error.rule} {error.needed or 0} ({error})"
+
+
+def shown_name(name: Name) -> str:
+    words = [shown(str(name).encode())]
+    for part in name.relative_names:
+        words.append("{")
+        for it in part:
+            tag = f"{int(it.tag.tag_class)}.{it.tag.number}.{int(it.constructed)}"
+            words += [shown_identifier(it.identifier), tag, shown(it.value)]
+        words.append("}")
+    return " ".join(words)
+
+
+def shown_general_name(name: GeneralName) -> str:
+    value = name.value
+    if isinstance(value, Name):
+        return f"{int(name.kind)} {shown_name(value)}"
+    if isinstance(value, ObjectIdentifier):
+        return f"{int(name.kind)} {shown_identifier(value)}"
+    if isinstance(value, str):
+        return f"{int(name.kind)} {shown(value.encode())}"
+    octets = value if isinstance(value, bytes) else value.packed
+    kind = f"0 {shown_identifier(name.identifier)}" if name.identifier is not None else str(int(name.kind))
+    return f"{kind} {shown(octets)}"
+
+
+def number_octets(number: int) -> bytes:
+    magnitude = number if number >= 0 else ~number
+    return number.to_bytes(magnitude.bit_length() // 8 + 1, "big", signed=True)
+
+
+def shown_value(extension: Extension) -> List[str]:
+    try:
+        value = extension.value
+    except CertificateError as error:
+        return [shown_error(error)]
+    if isinstance(value, x509.BasicConstraints):
+        return [f"ca {int(value.ca)}", *([] if value.path_length is None else [str(value.path_length)])]
+    if isinstance(value, x509.KeyUsage):
+        return [f"usage {int(value)}"]
+    if isinstance(value, x509.AuthorityKeyIdentifier):
+        return [
+            "key",
+            *([] if value.key_identifier is None else [shown(value.key_identifier)]),
+            "issuer",
+            *([shown_general_name(name) for name in value.issuer or ()]),
+            "serial",
+            *([] if value.serial_number is None else [shown(number_octets(value.serial_number))]),
+        ]
+    if isinstance(value, bytes):
+        return [shown(value)]
+    return [shown_general_name(it) if isinstance(it, GeneralName) else shown_identifier(it) for it in value]
+
+
+def line_of(octets: bytes, strict: bool) -> str:
+    try:
+        it = Certificate.from_der(octets, strict=strict)
+    except CertificateError as error:
+        return " " + shown_error(error)
+    words = [f" version {it.version}", shown(it.tbs), shown(number_octets(it.serial_number))]
+    words += [shown_algorithm(it.signature), shown_name(it.issuer)]
+    words += [shown_time(moment) for moment in it._validity]
+    words += [shown_name(it.subject), shown_algorithm(it.public_key.algorithm), shown_bits(it.public_key.bits)]
+    words += [shown_bits(it.issuer_unique_id), shown_bits(it.subject_unique_id)]
+    words += [shown_algorithm(it.signature_algorithm), shown_bits(it.signature_value)]
+    for extension in it.extensions:
+        words += [f"extension {shown_identifier(extension.identifier)} {int(extension.critical)}"]
+        words += shown_value(extension)
+    return " ".join(words)
+
+
+def test_same_as_c(compiled: Callable[[Path], Path], tmp_path: Path) -> None:
+    inputs = sound()
+    inputs += damaged(inputs)
+    file = tmp_path / "inputs"
+    file.write_bytes(b"".join(struct.pack("<I", len(octets)) + octets for octets in inputs))
+    program = compiled(TESTS / "certificates.c")
+    lines = subprocess.run([program, file], check=True, capture_output=True).stdout.decode().splitlines()
+    assert len(lines) == 2 * len(inputs)
+    fields = set()
+    for at, octets in enumerate(inputs):
+        own = [line_of(octets, False), line_of(octets, True)]
+        assert own == lines[2 * at : 2 * at + 2], octets.hex()
+        fields.add(own[0].split(" ")[2])
+    assert len(fields) > 8
+
+
+def test_beside_cryptography() -> None:
+    others = pytest.importorskip("cryptography.x509", reason="there is no cryptography")
+    hashes = pytest.importorskip("cryptography.hazmat.primitives.hashes")
+    names = 0
+    for octets in certificates():
+        try:
+            other = others.load_der_x509_certificate(octets)
+            texts = [part.value for name in other.subject.rdns for part in name]
+            extensions = list(other.extensions)
+        except ValueError:
+            continue
+        it = Certificate.from_der(octets)
+        assert it.version == other.version.value + 1 and it.serial_number == other.serial_number
+        assert it.not_before.replace(tzinfo=None) == other.not_valid_before
+        assert it.not_after.replace(tzinfo=None) == other.not_valid_after
+        assert [part.text for part in it.subject] == texts
+        assert it.tbs == other.tbs_certificate_bytes and bytes(it.signature_value) == other.signature
+        assert str(it.signature_algorithm.identifier) == other.signature_algorithm_oid.dotted_string
+        assert it.fingerprint == other.fingerprint(hashes.SHA256())
+        own = [(str(extension.identifier), extension.critical) for extension in it.extensions]
+        assert own == [(extension.oid.dotted_string, extension.critical) for extension in extensions]
+        for extension in extensions:
+            names += compare_value(it, extension.oid.dotted_string, extension.value)
+    assert names > 300
+
+
+def compare_value(it: Certificate, identifier: str, other: Any) -> bool:
+    """Compares a value with that of cryptography, if it is of a type that both read."""
+    extension = it.extension(identifier)
+    assert extension is not None
+    if identifier == "2.5.29.15" and extension.octets.endswith(b"\0"):
+        return False  # by DER the last bit isn't 0 (X.690 11.2.2)
+    value = extension.value
+    if isinstance(value, x509.BasicConstraints):
+        assert (value.ca, value.path_length) == (other.ca, other.path_length)
+    elif isinstance(value, x509.KeyUsage):
+        named = {"key_cert_sign": x509.KeyUsage.KEY_CERT_SIGN, "crl_sign": x509.KeyUsage.CRL_SIGN}
+        named["digital_signature"] = x509.KeyUsage.DIGITAL_SIGNATURE
+        for name, bit in named.items():
+            assert bool(value & bit) == getattr(other, name), name
+    elif isinstance(value, x509.AuthorityKeyIdentifier):
+        assert (value.key_identifier, value.serial_number) == (other.key_identifier, other.authority_cert_serial_number)
+    elif identifier == "2.5.29.14":
+        assert value == other.digest
+    elif identifier == "2.5.29.37":
+        assert isinstance(value, tuple)
+        assert [str(purpose) for purpose in value] == [purpose.dotted_string for purpose in other]
+    else:
+        return False
+    return True
+
+
+def test_beside_asn1crypto() -> None:
+    others = pytest.importorskip("asn1crypto.x509", reason="there is no asn1crypto")
+    for octets in certificates():
+        other = others.Certificate.load(octets, strict=True)
+        it = Certificate.from_der(octets)
+        assert it.serial_number == other.serial_number and it.subject.octets in other.subject.dump()
+        assert (it.not_before, it.not_after) == (other.not_valid_before, other.not_valid_after)
+        assert it.fingerprint == other.sha256 and bytes(it.signature_value) == other.signature
+        key = other.public_key
+        assert str(it.public_key.algorithm.identifier) == key["algorithm"]["algorithm"].dotted
+        assert bytes(it.public_key.bits) == key["public_key"].contents[1:]
+        kinds = [extension["extn_id"].dotted for extension in other["tbs_certificate"]["extensions"]]
+        assert [str(extension.identifier) for extension in it.extensions] == kinds
+        own = [extension.value for extension in it.extensions if str(extension.identifier) == "2.5.29.14"]
+        assert own == ([other.key_identifier] if other.key_identifier else [])
+
+
+def test_names() -> None:
+    def general(octets: str) -> Tuple[GeneralName, ...]:
+        return x509._read_general_names(octets_of(octets))
+
+    assert general("30 05 82 03 61 2e 62") == (GeneralName(GeneralNameKind.DNS_NAME, "a.b"),)
+    (four,) = general("30 06 87 04 c0 00 02 01")
+    assert str(four.value) == "192.0.2.1"
+    (identifier,) = general("30 04 88 02 2a 03")
+    assert identifier.value == ObjectIdentifier("1.2.3")
+    (directory,) = general("30 0f a4 0d 30 0b 31 09 30 07 06 03 55 04 03 0c 00")
+    assert isinstance(directory.value, Name) and str(directory.value) == "CN="
+    (other,) = general("30 0a a0 08 06 02 2a 03 a0 02 05 00")
+    assert (other.identifier, other.value) == (ObjectIdentifier("1.2.3"), b"")
+
+
+RULES = [
+    "SameAlgorithms",
+    "PositiveSerialNumber",
+    "ShortSerialNumber",
+    "NamedIssuer",
+    "OrderedAttributes",
+    "UtcTimeTo2049",
+    "WholeSeconds",
+    "UniqueIdVersion",
+    "ExtensionsVersion",
+    "DistinctExtensions",
+    "NamedSubject",
+    "DerValues",
+]
+
+
+def test_rows_of_strict_certificates() -> None:
+    found = [row for row in rows() if row.call == "strict_certificate"]
+    assert len(found) > 20
+    for row in found:
+        Certificate.from_der(row.octets)
+        try:
+            Certificate.from_der(row.octets, strict=True)
+            assert row.expected == "read", row
+        except CertificateError as error:
+            assert row.expected == f"read breaks {RULES[error.rule - Rule.ALGORITHMS_DIFFER]}", row
+            assert (error.field, error.offset) == (Field.CERTIFICATE, 0)
+
+
+def test_errors() -> None:
+    with pytest.raises(CertificateError) as caught:
+        Certificate.from_der(b"\x30\x05")
+    assert (caught.value.incomplete, caught.value.needed, caught.value.rule) == (True, 5, 0)
+    with pytest.raises(DerError) as other:
+        Certificate.from_der(memoryview(b"\x30\x02\x30\x00"))
+    assert "serialNumber" in str(other.value)
+
+
+def test_dates_that_are_none() -> None:
+    """The library takes the day 30 of February, for which Python has no datetime."""
+    octets = next(row.octets for row in rows() if row.call == "strict_certificate")
+    changed = octets.replace(b"260101000000Z", b"260230000000Z", 1)
+    assert changed != octets
+    it = Certificate.from_der(changed)
+    with pytest.raises(DerError):
+        it.not_before
+    assert it.not_after == datetime.datetime(2027, 1, 1, tzinfo=datetime.timezone.utc)
+
+
+def test_certificate_of_the_repository() -> None:
+    it = Certificate.from_der((REPOSITORY / "crates/der/data/certificate.der").read_bytes())
+    assert repr(it).startswith("<Certificate of ") and hash(it.subject) == hash(it.subject)
+    assert it.subject.get("2.5.4.3") == it.subject.get(ObjectIdentifier("2.5.4.3"))
+    assert it.extension("1.2.3") is None
+
+
+def openssl(*words: str, octets: bytes = b"") -> bytes:
+    return subprocess.run([tool("openssl"), *words], input=octets, check=True, capture_output=True).stdout
+
+
+def test_requests(tmp_path: Path) -> None:
+    """A request that openssl makes, and as cryptography reads it."""
+    key = str(tmp_path / "key")
+    words = ["-newkey", "ed25519", "-nodes", "-keyout", key, "-subj", "/O=A, B/CN=a.example", "-outform", "DER"]
+    octets = openssl("req", "-new", *words, "-addext", "subjectAltName=DNS:b.example")
+    it = x509.CertificationRequest.from_der(octets)
+    assert str(it.subject) == "CN=a.example,O=A\\, B" and str(it.public_key.algorithm.identifier) == "1.3.101.112"
+    (extension,) = it.extensions
+    assert extension.value == (GeneralName(GeneralNameKind.DNS_NAME, "b.example"),)
+    assert [str(attribute.identifier) for attribute in it.attributes] == ["1.2.840.113549.1.9.14"]
+    assert it.info in it.octets and len(it.signature) == 512
+    others = pytest.importorskip("cryptography.x509", reason="there is no cryptography")
+    other = others.load_der_x509_csr(octets)
+    assert (it.info, bytes(it.signature)) == (other.tbs_certrequest_bytes, other.signature)
+
+
+def test_lists(tmp_path: Path) -> None:
+    """A list that cryptography makes."""
+    others = pytest.importorskip("cryptography.x509", reason="there is no cryptography")
+    ed25519 = pytest.importorskip("cryptography.hazmat.primitives.asymmetric.ed25519")
+    serialization = pytest.importorskip("cryptography.hazmat.primitives.serialization")
+    begin, end = datetime.datetime(2026, 1, 2, 3, 4, 5), datetime.datetime(2056, 1, 2)
+    name = others.Name([others.NameAttribute(others.NameOID.COMMON_NAME, "an issuer")])
+    made = others.CertificateRevocationListBuilder().issuer_name(name).last_update(begin).next_update(end)
+    made = made.add_extension(others.CRLNumber(7), critical=False)
+    for number in (5, 1 << 100):
+        entry = others.RevokedCertificateBuilder().serial_number(number).revocation_date(begin)
+        reason = others.CRLReason(others.ReasonFlags.key_compromise)
+        made = made.add_revoked_certificate(entry.add_extension(reason, critical=False).build())
+    signed = made.sign(ed25519.Ed25519PrivateKey.generate(), None)
+    octets = signed.public_bytes(serialization.Encoding.DER)
+    it = x509.CertificateList.from_der(octets)
+    assert (it.version, str(it.issuer)) == (2, "CN=an issuer")
+    utc = datetime.timezone.utc
+    assert (it.this_update, it.next_update) == (begin.replace(tzinfo=utc), end.replace(tzinfo=utc))
+    assert it.revoked_certificates is not None
+    assert [entry.serial_number for entry in it.revoked_certificates] == [5, 1 << 100]
+    entry = it.find(1 << 100)
+    assert entry is not None and entry.date == begin.replace(tzinfo=utc)
+    assert [(str(part.identifier), part.octets) for part in entry.extensions] == [("2.5.29.21", b"\x0a\x01\x01")]
+    assert [(str(part.identifier), part.octets) for part in it.extensions] == [("2.5.29.20", b"\x02\x01\x07")]
+    assert (it.tbs, bytes(it.signature_value)) == (signed.tbs_certlist_bytes, signed.signature)
+    assert it.find(6) is None
+
+
+def test_rows_of_requests_and_lists() -> None:
+    """Rows that are read, and changes of them with a text for each error."""
+    reads: Dict[str, Callable[[bytes], object]] = {
+        "certification_request": x509.CertificationRequest.from_der,
+        "certificate_list": x509.CertificateList.from_der,
+    }
+    count = 0
+    for row in rows():
+        call, _, base = row.call.partition(" of ")
+        if call not in reads:
+            continue
+        octets = bytearray(octets_of(base or row.input))
+        change = row.input.strip()
+        if base and change.startswith("to "):
+            del octets[int(change[3:]) :]
+        elif base and "=" in change:
+            at, octet = change.split("=")
+            octets[int(at) : int(at) + 1] = bytes.fromhex(octet)
+        try:
+            reads[call](bytes(octets))
+            assert " at " not in row.expected, row
+        except CertificateError as error:
+            assert row.expected.startswith(str(error)), (row, str(error))
+        count += 1
+    assert count > 20

@@ -1,0 +1,397 @@
+//! Object identifiers.
+use crate::error::Reason;
+use crate::ffi;
+#[cfg(feature = "alloc")]
+use alloc::vec::Vec;
+use core::cmp::Ordering;
+use core::fmt;
+use core::iter::FusedIterator;
+#[cfg(feature = "alloc")]
+use core::str::FromStr;
+
+/// An OBJECT IDENTIFIER (X.690 8.19), over its content octets. It displays as its arcs with points.
+///
+/// [`oid!`](crate::oid!) makes one of arcs while a program is compiled. `ObjectIdentifierBuf` makes one of a text.
+/// Two of them are equal if their content octets are, and they sort by their arcs. No octets have no arcs, and an empty
+/// text.
+///
+/// ```
+/// use dumarewhi::{oid, Any, ObjectIdentifier};
+///
+/// const COMMON_NAME: ObjectIdentifier<'static> = oid!(2, 5, 4, 3);
+///
+/// let read = Any::from_der(&[0x06, 0x03, 0x55, 0x04, 0x03])?.as_oid()?;
+/// assert_eq!(read, COMMON_NAME);
+/// assert_eq!(read.to_string(), "2.5.4.3");
+/// assert!(read.arcs().eq([2, 5, 4, 3]));
+/// assert_eq!(ObjectIdentifier::from_content(&[0x55, 0x04, 0x03]), Ok(COMMON_NAME));
+/// # Ok::<(), dumarewhi::Error>(())
+/// ```
+#[derive(Clone, Copy, PartialEq, Eq, Hash)]
+pub struct ObjectIdentifier<'a>(&'a [u8]);
+
+/// An identifier with a longer text is written in memory that is allocated for it.
+const SHORT_TEXT: usize = 256;
+
+impl<'a> ObjectIdentifier<'a> {
+    /// The identifier with these content octets. An error if the last octet isn't the end of an arc, or if
+    /// a subidentifier is 2^128 or more.
+    pub fn from_content(content: &'a [u8]) -> Result<ObjectIdentifier<'a>, Reason> {
+        ffi::read_oid(content, &mut []).map_err(Reason)?;
+        Ok(ObjectIdentifier(content))
+    }
+
+    /// An identifier that the library has read. It may have an arc of 2^128 or more.
+    pub(crate) fn unchecked(content: &'a [u8]) -> ObjectIdentifier<'a> {
+        ObjectIdentifier(content)
+    }
+
+    /// The content octets.
+    pub fn as_bytes(self) -> &'a [u8] {
+        self.0
+    }
+
+    /// The arcs, the first ones first. The first subidentifier has two of them (X.690 8.19.4). One of 2^128 or more, as
+    /// an identifier of a certificate may have, counts as 2^128-1.
+    ///
+    /// ```
+    /// use dumarewhi::oid;
+    ///
+    /// assert!(oid!(1, 2, 840, 113549).arcs().eq([1, 2, 840, 113549]));
+    /// ```
+    pub fn arcs(self) -> Arcs<'a> {
+        Arcs {
+            rest: self.0,
+            second: None,
+            started: false,
+        }
+    }
+
+    /// Whether its arcs begin with those of another one.
+    ///
+    /// ```
+    /// use dumarewhi::oid;
+    ///
+    /// assert!(oid!(2, 5, 29, 17).starts_with(oid!(2, 5, 29)));
+    /// assert!(!oid!(2, 5, 4, 3).starts_with(oid!(2, 5, 29)));
+    /// ```
+    pub fn starts_with(self, other: ObjectIdentifier<'_>) -> bool {
+        self.0.starts_with(other.0)
+    }
+
+    /// What the function makes of the text, if there is memory to write it: without the feature `alloc`, only a
+    /// text of at most 256 octets has it.
+    fn with_text<T>(self, function: impl FnOnce(&str) -> T) -> Option<T> {
+        let mut short = [0; SHORT_TEXT];
+        let length = ffi::read_oid(self.0, &mut short).ok()?;
+        if let Some(text) = short.get(..length) {
+            return core::str::from_utf8(text).ok().map(function);
+        }
+        self.with_long_text(length, function)
+    }
+
+    #[cfg(feature = "alloc")]
+    fn with_long_text<T>(self, length: usize, function: impl FnOnce(&str) -> T) -> Option<T> {
+        let mut text = alloc::vec![0; length];
+        ffi::read_oid(self.0, &mut text).ok()?;
+        core::str::from_utf8(&text).ok().map(function)
+    }
+
+    #[cfg(not(feature = "alloc"))]
+    fn with_long_text<T>(self, _: usize, _: impl FnOnce(&str) -> T) -> Option<T> {
+        None
+    }
+}
+
+/// As [`from_content`](ObjectIdentifier::from_content).
+impl<'a> TryFrom<&'a [u8]> for ObjectIdentifier<'a> {
+    type Error = Reason;
+
+    fn try_from(content: &'a [u8]) -> Result<ObjectIdentifier<'a>, Reason> {
+        ObjectIdentifier::from_content(content)
+    }
+}
+
+/// The content octets.
+impl AsRef<[u8]> for ObjectIdentifier<'_> {
+    fn as_ref(&self) -> &[u8] {
+        self.0
+    }
+}
+
+/// By their arcs. Spellings of the same arcs sort by their octets.
+impl Ord for ObjectIdentifier<'_> {
+    fn cmp(&self, other: &Self) -> Ordering {
+        self.arcs().cmp(other.arcs()).then_with(|| self.0.cmp(other.0))
+    }
+}
+
+impl PartialOrd for ObjectIdentifier<'_> {
+    fn partial_cmp(&self, other: &Self) -> Option<Ordering> {
+        Some(self.cmp(other))
+    }
+}
+
+/// Arcs with points. An identifier of a certificate may have an arc of 2^128 or more: then it is `#` and its content
+/// octets in hexadecimal digits. Without the feature `alloc`, so is one whose text has more than 256 octets.
+impl fmt::Display for ObjectIdentifier<'_> {
+    fn fmt(&self, f: &mut fmt::Formatter<'_>) -> fmt::Result {
+        if let Some(shown) = self.with_text(|text| f.pad(text)) {
+            return shown;
+        }
+        f.write_str("#")?;
+        self.0.iter().try_for_each(|octet| write!(f, "{octet:02x}"))
+    }
+}
+
+impl fmt::Debug for ObjectIdentifier<'_> {
+    fn fmt(&self, f: &mut fmt::Formatter<'_>) -> fmt::Result {
+        write!(f, "ObjectIdentifier({self})")
+    }
+}
+
+impl PartialEq<str> for ObjectIdentifier<'_> {
+    fn eq(&self, text: &str) -> bool {
+        self.with_text(|own| own == text) == Some(true)
+    }
+}
+
+impl PartialEq<&str> for ObjectIdentifier<'_> {
+    fn eq(&self, text: &&str) -> bool {
+        *self == **text
+    }
+}
+
+/// The arcs of an [`ObjectIdentifier`].
+#[derive(Clone, Debug)]
+pub struct Arcs<'a> {
+    /// The subidentifiers that aren't read.
+    rest: &'a [u8],
+    /// The second arc, which the first subidentifier has too.
+    second: Option<u128>,
+    started: bool,
+}
+
+impl Iterator for Arcs<'_> {
+    type Item = u128;
+
+    fn next(&mut self) -> Option<u128> {
+        if let Some(second) = self.second.take() {
+            return Some(second);
+        }
+        let last = self.rest.iter().position(|octet| octet & 0x80 == 0)?;
+        let (subidentifier, rest) = self.rest.split_at(last + 1);
+        self.rest = rest;
+        let digits = subidentifier.iter().map(|octet| u128::from(octet & 0x7f));
+        let number = digits.fold(0_u128, |number, digit| number.saturating_mul(128) | digit);
+        if self.started {
+            return Some(number);
+        }
+        self.started = true;
+        let first = (number / 40).min(2);
+        self.second = Some(number - 40 * first);
+        Some(first)
+    }
+}
+
+impl FusedIterator for Arcs<'_> {}
+
+/// An [`ObjectIdentifier`] while a program is compiled, of its arcs. Arcs that no identifier has (X.690 8.19.4) don't
+/// compile.
+///
+/// ```
+/// use dumarewhi::{oid, ObjectIdentifier};
+///
+/// const SUBJECT_ALT_NAME: ObjectIdentifier<'static> = oid!(2, 5, 29, 17);
+/// assert_eq!(SUBJECT_ALT_NAME.as_bytes(), [0x55, 0x1d, 0x11]);
+/// ```
+///
+/// ```compile_fail
+/// let identifier = dumarewhi::oid!(1, 40);
+/// ```
+#[macro_export]
+macro_rules! oid {
+    ($($arc:expr),+ $(,)?) => {{
+        const ARCS: &[u128] = &[$($arc),+];
+        const OCTETS: &[u8] = &$crate::oid_octets::<{ $crate::oid_length(ARCS) }>(ARCS);
+        $crate::oid_of(OCTETS)
+    }};
+}
+
+/// What [`oid!`](crate::oid!) has at its end.
+#[doc(hidden)]
+pub const fn oid_of(octets: &'static [u8]) -> ObjectIdentifier<'static> {
+    ObjectIdentifier(octets)
+}
+
+/// How many content octets an identifier with these arcs has.
+#[doc(hidden)]
+pub const fn oid_length(arcs: &[u128]) -> usize {
+    assert!(
+        are_arcs(arcs),
+        "no object identifier has these arcs (X.690 8.19.4)"
+    );
+    let mut length = 0;
+    let mut index = 1;
+    while index < arcs.len() {
+        length += DIGITS - spelled(subidentifier(arcs, index)).1;
+        index += 1;
+    }
+    length
+}
+
+/// The content octets of an identifier with these arcs.
+#[doc(hidden)]
+pub const fn oid_octets<const N: usize>(arcs: &[u128]) -> [u8; N] {
+    let mut octets = [0; N];
+    let mut length = 0;
+    let mut index = 1;
+    while index < arcs.len() {
+        let (digits, mut start) = spelled(subidentifier(arcs, index));
+        while start < DIGITS {
+            octets[length] = digits[start];
+            start += 1;
+            length += 1;
+        }
+        index += 1;
+    }
+    octets
+}
+
+/// Whether an identifier can have these arcs: two at least, whose first subidentifier is below 2^128 (X.690 8.19.4).
+const fn are_arcs(arcs: &[u128]) -> bool {
+    match arcs {
+        [0 | 1, second, ..] => *second < 40,
+        [2, second, ..] => *second <= u128::MAX - 80,
+        _ => false,
+    }
+}
+
+/// The subidentifier that ends with this arc, one but the first: the first two arcs have one.
+const fn subidentifier(arcs: &[u128], index: usize) -> u128 {
+    match index {
+        1 => 40 * arcs[0] + arcs[1],
+        _ => arcs[index],
+    }
+}
+
+/// How many digits in base 128 a number has at most.
+const DIGITS: usize = 19;
+
+/// A number in base 128, where all octets but the last have the highest bit (X.690 8.19.2), and where it begins.
+const fn spelled(number: u128) -> ([u8; DIGITS], usize) {
+    let mut octets = [0; DIGITS];
+    let mut start = DIGITS - 1;
+    octets[start] = (number & 0x7f) as u8;
+    let mut rest = number >> 7;
+    while rest > 0 {
+        start -= 1;
+        octets[start] = 0x80 | (rest & 0x7f) as u8;
+        rest >>= 7;
+    }
+    (octets, start)
+}
+
+/// An [`ObjectIdentifier`] with octets of its own.
+///
+/// ```
+/// use dumarewhi::{oid, ObjectIdentifierBuf};
+///
+/// let identifier: ObjectIdentifierBuf = "2.5.4.3".parse()?;
+/// assert_eq!(identifier.as_oid(), oid!(2, 5, 4, 3));
+/// assert!("2.5.04.3".parse::<ObjectIdentifierBuf>().is_err());
+/// # Ok::<(), dumarewhi::Reason>(())
+/// ```
+#[cfg(feature = "alloc")]
+#[derive(Clone, PartialEq, Eq, Hash)]
+pub struct ObjectIdentifierBuf(Vec<u8>);
+
+#[cfg(feature = "alloc")]
+impl ObjectIdentifierBuf {
+    /// The identifier with these arcs. An error if there are fewer than two, or if the first two can't be (X.690
+    /// 8.19.4).
+    pub fn from_arcs(arcs: &[u128]) -> Result<ObjectIdentifierBuf, Reason> {
+        if arcs.len() < 2 {
+            return Err(Reason::INVALID_LENGTH);
+        }
+        if !are_arcs(arcs) {
+            return Err(Reason::WRONG_VALUE);
+        }
+        let mut content = Vec::new();
+        for index in 1..arcs.len() {
+            let (digits, start) = spelled(subidentifier(arcs, index));
+            content.extend_from_slice(&digits[start..]);
+        }
+        Ok(ObjectIdentifierBuf(content))
+    }
+
+    /// The identifier that borrows these octets.
+    pub fn as_oid(&self) -> ObjectIdentifier<'_> {
+        ObjectIdentifier(&self.0)
+    }
+}
+
+/// Arcs with points, without leading zeros, each below 2^128. What is returned displays as the text.
+#[cfg(feature = "alloc")]
+impl FromStr for ObjectIdentifierBuf {
+    type Err = Reason;
+
+    fn from_str(text: &str) -> Result<ObjectIdentifierBuf, Reason> {
+        let arcs: Result<Vec<_>, _> = text.split('.').map(str::parse).collect();
+        let identifier = ObjectIdentifierBuf::from_arcs(&arcs.map_err(|_| Reason::INVALID_VALUE)?)?;
+        match identifier.as_oid() == *text {
+            true => Ok(identifier),
+            false => Err(Reason::INVALID_VALUE),
+        }
+    }
+}
+
+#[cfg(feature = "alloc")]
+impl From<ObjectIdentifier<'_>> for ObjectIdentifierBuf {
+    fn from(identifier: ObjectIdentifier<'_>) -> ObjectIdentifierBuf {
+        ObjectIdentifierBuf(identifier.0.to_vec())
+    }
+}
+
+#[cfg(feature = "alloc")]
+impl PartialEq<ObjectIdentifier<'_>> for ObjectIdentifierBuf {
+    fn eq(&self, other: &ObjectIdentifier<'_>) -> bool {
+        self.as_oid() == *other
+    }
+}
+
+#[cfg(feature = "alloc")]
+impl PartialEq<ObjectIdentifierBuf> for ObjectIdentifier<'_> {
+    fn eq(&self, other: &ObjectIdentifierBuf) -> bool {
+        *self == other.as_oid()
+    }
+}
+
+/// As an [`ObjectIdentifier`].
+#[cfg(feature = "alloc")]
+impl Ord for ObjectIdentifierBuf {
+    fn cmp(&self, other: &Self) -> Ordering {
+        self.as_oid().cmp(&other.as_oid())
+    }
+}
+
+#[cfg(feature = "alloc")]
+impl PartialOrd for ObjectIdentifierBuf {
+    fn partial_cmp(&self, other: &Self) -> Option<Ordering> {
+        Some(self.cmp(other))
+    }
+}
+
+#[cfg(feature = "alloc")]
+impl fmt::Display for ObjectIdentifierBuf {
+    fn fmt(&self, f: &mut fmt::Formatter<'_>) -> fmt::Result {
+        fmt::Display::fmt(&self.as_oid(), f)
+    }
+}
+
+#[cfg(feature = "alloc")]
+impl fmt::Debug for ObjectIdentifierBuf {
+    fn fmt(&self, f: &mut fmt::Formatter<'_>) -> fmt::Result {
+        fmt::Debug::fmt(&self.as_oid(), f)
+    }
+}

@@ -1,0 +1,301 @@
+//! Times.
+use crate::error::Reason;
+use crate::ffi;
+use core::cmp::Ordering;
+use core::fmt;
+#[cfg(feature = "std")]
+use std::time::{Duration, SystemTime};
+
+/// A UTCTime or a GeneralizedTime.
+///
+/// Times sort by their moment, where a local one counts as UTC. Two of the same moment sort by their fields.
+///
+/// ```
+/// use dumarewhi::{Any, Zone};
+///
+/// let time = Any::from_der(b"\x17\x0d491231235959Z")?.as_time()?;
+/// assert_eq!((time.year, time.month, time.day), (2049, 12, 31));
+/// assert_eq!(time.zone, Zone::Utc);
+/// assert_eq!(time.to_string(), "2049-12-31T23:59:59Z");
+/// assert!(time > Any::from_der(b"\x18\x0f20491231235958Z")?.as_time()?);
+/// # Ok::<(), dumarewhi::Error>(())
+/// ```
+#[derive(Clone, Copy, Debug, PartialEq, Eq, Hash)]
+pub struct Time {
+    /// The year. Of a UTCTime 1950 to 2049 (RFC 5280 4.1.2.5.1).
+    pub year: u32,
+    /// The month, 1 to 12.
+    pub month: u8,
+    /// The day, 1 to 31, whatever the month.
+    pub day: u8,
+    /// The hour, 0 to 23.
+    pub hour: u8,
+    /// The minute, 0 to 59.
+    pub minute: u8,
+    /// The second, 0 to 59.
+    pub second: u8,
+    /// The fraction of a second, in nanoseconds.
+    pub nanosecond: u32,
+    /// The zone.
+    pub zone: Zone,
+}
+
+/// The zone of a time.
+#[derive(Clone, Copy, Debug, PartialEq, Eq, PartialOrd, Ord, Hash)]
+pub enum Zone {
+    /// Local time, wherever that is.
+    Local,
+    /// UTC.
+    Utc,
+    /// An offset from UTC. Both numbers are negative to the west.
+    Offset {
+        /// Whole hours.
+        hours: i8,
+        /// And minutes.
+        minutes: i8,
+    },
+}
+
+const SECONDS_OF_A_DAY: i64 = 86_400;
+
+/// The days of 400 years, after which the calendar repeats.
+const DAYS_OF_400_YEARS: i64 = 146_097;
+
+/// The days from the 1st of March of the year 0 to the 1st of January of 1970.
+const DAYS_TO_1970: i64 = 719_468;
+
+impl Time {
+    pub(crate) fn from_content(number: u32, content: &[u8]) -> Result<Time, Reason> {
+        ffi::read_time(number, content).map(Time::from).map_err(Reason)
+    }
+
+    /// The seconds from 1970-01-01T00:00:00Z to it, without leap seconds and its fraction. A local time counts as UTC,
+    /// and a day that its month doesn't have as one of the next month.
+    ///
+    /// ```
+    /// use dumarewhi::Any;
+    ///
+    /// let time = Any::from_der(b"\x17\x0d700102000001Z")?.as_time()?;
+    /// assert_eq!(time.unix_seconds(), 86_401);
+    /// # Ok::<(), dumarewhi::Error>(())
+    /// ```
+    pub fn unix_seconds(&self) -> i64 {
+        let (hours, minutes) = match self.zone {
+            Zone::Offset { hours, minutes } => (i64::from(hours), i64::from(minutes)),
+            _ => (0, 0),
+        };
+        let minutes = (i64::from(self.hour) - hours) * 60 + i64::from(self.minute) - minutes;
+        self.days() * SECONDS_OF_A_DAY + minutes * 60 + i64::from(self.second)
+    }
+
+    /// The days from 1970-01-01. A year is counted from March on, so that a leap day is its last.
+    fn days(&self) -> i64 {
+        let year = i64::from(self.year) - i64::from(self.month <= 2);
+        let month = (i64::from(self.month) + 9) % 12;
+        let leap_days = year.div_euclid(4) - year.div_euclid(100) + year.div_euclid(400);
+        year * 365 + leap_days + (153 * month + 2) / 5 + i64::from(self.day) - 1 - DAYS_TO_1970
+    }
+
+    /// The date that is so many days from 1970-01-01, at 0 o'clock in UTC. `None` unless its year is 0 to 9999.
+    fn from_days(days: i64) -> Option<Time> {
+        let days = days + DAYS_TO_1970;
+        let (era, day) = (
+            days.div_euclid(DAYS_OF_400_YEARS),
+            days.rem_euclid(DAYS_OF_400_YEARS),
+        );
+        let year = (day - day / 1460 + day / 36_524 - day / 146_096) / 365;
+        let day = day - (365 * year + year / 4 - year / 100);
+        let month = (5 * day + 2) / 153;
+        let year = era * 400 + year + i64::from(month >= 10);
+        if !(0..=9999).contains(&year) {
+            return None;
+        }
+        Some(Time {
+            year: year as u32,
+            month: ((month + 2) % 12 + 1) as u8,
+            day: (day - (153 * month + 2) / 5 + 1) as u8,
+            hour: 0,
+            minute: 0,
+            second: 0,
+            nanosecond: 0,
+            zone: Zone::Utc,
+        })
+    }
+
+    /// Whether its month has its day.
+    pub fn is_date(&self) -> bool {
+        let found = Time::from_days(self.days());
+        found.map_or(false, |found| {
+            (found.year, found.month, found.day) == (self.year, self.month, self.day)
+        })
+    }
+
+    /// What it sorts by.
+    fn key(&self) -> impl Ord {
+        let date = (self.year, self.month, self.day);
+        let clock = (self.hour, self.minute, self.second);
+        (self.unix_seconds(), self.nanosecond, date, clock, self.zone)
+    }
+}
+
+impl Ord for Time {
+    fn cmp(&self, other: &Self) -> Ordering {
+        self.key().cmp(&other.key())
+    }
+}
+
+impl PartialOrd for Time {
+    fn partial_cmp(&self, other: &Self) -> Option<Ordering> {
+        Some(self.cmp(other))
+    }
+}
+
+/// An error if the time is a local one, if its month doesn't have its day, or if the system has no such time.
+///
+/// ```
+/// use dumarewhi::Any;
+/// use std::time::{Duration, SystemTime};
+///
+/// let time = Any::from_der(b"\x17\x0d700102000001Z")?.as_time()?;
+/// assert_eq!(SystemTime::try_from(time), Ok(SystemTime::UNIX_EPOCH + Duration::from_secs(86_401)));
+/// # Ok::<(), dumarewhi::Error>(())
+/// ```
+#[cfg(feature = "std")]
+impl TryFrom<Time> for SystemTime {
+    type Error = Reason;
+
+    fn try_from(time: Time) -> Result<SystemTime, Reason> {
+        if time.zone == Zone::Local {
+            return Err(Reason::MISSING_TIME_ZONE);
+        }
+        if !time.is_date() {
+            return Err(Reason::INVALID_TIME);
+        }
+        let seconds = time.unix_seconds();
+        let whole = Duration::from_secs(seconds.unsigned_abs());
+        let moment = match seconds < 0 {
+            true => SystemTime::UNIX_EPOCH.checked_sub(whole),
+            false => SystemTime::UNIX_EPOCH.checked_add(whole),
+        };
+        let fraction = Duration::from_nanos(time.nanosecond.into());
+        let moment = moment.and_then(|moment| moment.checked_add(fraction));
+        moment.ok_or(Reason::INVALID_TIME)
+    }
+}
+
+/// In UTC. An error unless the year is 0 to 9999.
+///
+/// ```
+/// use dumarewhi::Time;
+/// use std::time::SystemTime;
+///
+/// assert_eq!(Time::try_from(SystemTime::UNIX_EPOCH).unwrap().to_string(), "1970-01-01T00:00:00Z");
+/// ```
+#[cfg(feature = "std")]
+impl TryFrom<SystemTime> for Time {
+    type Error = Reason;
+
+    fn try_from(moment: SystemTime) -> Result<Time, Reason> {
+        let nanoseconds = match moment.duration_since(SystemTime::UNIX_EPOCH) {
+            Ok(after) => after.as_nanos() as i128,
+            Err(before) => -(before.duration().as_nanos() as i128),
+        };
+        let seconds = nanoseconds.div_euclid(1_000_000_000) as i64;
+        let date = Time::from_days(seconds.div_euclid(SECONDS_OF_A_DAY)).ok_or(Reason::INVALID_TIME)?;
+        let clock = seconds.rem_euclid(SECONDS_OF_A_DAY);
+        Ok(Time {
+            hour: (clock / 3600) as u8,
+            minute: (clock / 60 % 60) as u8,
+            second: (clock % 60) as u8,
+            nanosecond: nanoseconds.rem_euclid(1_000_000_000) as u32,
+            ..date
+        })
+    }
+}
+
+impl From<ffi::TimeFields> for Time {
+    fn from(fields: ffi::TimeFields) -> Time {
+        let zone = match fields.zone {
+            ffi::ZONE_LOCAL => Zone::Local,
+            ffi::ZONE_UTC => Zone::Utc,
+            _ => Zone::Offset {
+                hours: fields.zone_hours,
+                minutes: fields.zone_minutes,
+            },
+        };
+        Time {
+            year: fields.year,
+            month: fields.month,
+            day: fields.day,
+            hour: fields.hour,
+            minute: fields.minute,
+            second: fields.second,
+            nanosecond: fields.nanosecond,
+            zone,
+        }
+    }
+}
+
+impl From<Time> for ffi::TimeFields {
+    fn from(time: Time) -> ffi::TimeFields {
+        let (zone, zone_hours, zone_minutes) = match time.zone {
+            Zone::Local => (ffi::ZONE_LOCAL, 0, 0),
+            Zone::Utc => (ffi::ZONE_UTC, 0, 0),
+            Zone::Offset { hours, minutes } => (ffi::ZONE_OFFSET, hours, minutes),
+        };
+        ffi::TimeFields {
+            year: time.year,
+            nanosecond: time.nanosecond,
+            month: time.month,
+            day: time.day,
+            hour: time.hour,
+            minute: time.minute,
+            second: time.second,
+            zone,
+            zone_hours,
+            zone_minutes,
+        }
+    }
+}
+
+/// As RFC 3339 writes it. A fraction has nine digits.
+impl fmt::Display for Time {
+    fn fmt(&self, f: &mut fmt::Formatter<'_>) -> fmt::Result {
+        let Time {
+            year,
+            month,
+            day,
+            hour,
+            minute,
+            second,
+            ..
+        } = self;
+        write!(
+            f,
+            "{year:04}-{month:02}-{day:02}T{hour:02}:{minute:02}:{second:02}"
+        )?;
+        if self.nanosecond != 0 {
+            write!(f, ".{:09}", self.nanosecond)?;
+        }
+        self.zone.fmt(f)
+    }
+}
+
+/// Nothing, `Z`, or an offset as `+01:00`.
+impl fmt::Display for Zone {
+    fn fmt(&self, f: &mut fmt::Formatter<'_>) -> fmt::Result {
+        match self {
+            Zone::Local => Ok(()),
+            Zone::Utc => f.write_str("Z"),
+            Zone::Offset { hours, minutes } => {
+                let sign = if *hours < 0 || *minutes < 0 { '-' } else { '+' };
+                write!(
+                    f,
+                    "{sign}{:02}:{:02}",
+                    hours.unsigned_abs(),
+                    minutes.unsigned_abs()
+                )
+            }
+        }
+    }
+}

@@ -1,0 +1,711 @@
+//! Certificates beside openssl, the rows of the library's tests, and C.
+#![cfg(feature = "std")]
+use dumarewhi::x509::{
+    Attribute, AuthorityKeyIdentifier, BasicConstraints, Certificate, CertificateList, CertificationRequest,
+    Error, Extension, Field, GeneralName, GeneralNames, KeyPurposes, KeyUsage, Name, Value,
+};
+use dumarewhi::{oid, BitString, Class, Integer, ObjectIdentifier, Reason, Tag, Time};
+use shared::{damaged, made, openssl, run_c, store, Random};
+use std::fmt::Write;
+use std::net::{IpAddr, Ipv4Addr, Ipv6Addr};
+
+mod shared;
+
+const DAMAGED: usize = 10_000;
+
+const COMMON_NAME: ObjectIdentifier<'static> = oid!(2, 5, 4, 3);
+
+/// A certificate whose fields are those of the command that makes it.
+fn known() -> Option<Vec<u8>> {
+    let names = "subjectAltName=critical,DNS:example.org,IP:192.0.2.1,IP:2001:db8::1,email:a@example.org,\
+                 URI:https://example.org/,RID:1.2.3";
+    let made = made(&[
+        "-newkey",
+        "ed25519",
+        "-set_serial",
+        "0x80fe",
+        "-subj",
+        "/C=NZ/O=Example, Inc./CN=example.org",
+        "-addext",
+        names,
+        "-addext",
+        "keyUsage=critical,digitalSignature,keyCertSign,decipherOnly",
+        "-addext",
+        "extendedKeyUsage=serverAuth,1.2.3.4",
+        "-addext",
+        "basicConstraints=critical,CA:TRUE,pathlen:3",
+        "-addext",
+        "nsComment=a comment",
+    ]);
+    if made.is_none() {
+        println!("left out: openssl makes no certificate");
+    }
+    made
+}
+
+fn value_of<'a>(certificate: &Certificate<'a>, identifier: ObjectIdentifier<'_>) -> (bool, Value<'a>) {
+    let extension = certificate.extensions().find(identifier).unwrap();
+    (extension.is_critical(), extension.value().unwrap())
+}
+
+#[test]
+fn fields() {
+    let octets = match known() {
+        Some(it) => it,
+        None => return,
+    };
+    let it = Certificate::from_der(&octets).unwrap();
+    assert_eq!(it.version(), 3);
+    assert_eq!(it.serial_number().as_bytes(), [0, 0x80, 0xfe]);
+    assert_eq!(it.subject().to_string(), r"CN=example.org,O=Example\, Inc.,C=NZ");
+    assert_eq!(it.subject(), it.issuer());
+    let texts: Vec<_> = it.subject().attributes().map(|it| it.as_str().unwrap()).collect();
+    assert_eq!(texts, ["NZ", "Example, Inc.", "example.org"]);
+    assert_eq!(it.subject().relative_names().count(), 3);
+    let common_name = it.subject().find(COMMON_NAME).unwrap();
+    assert_eq!(
+        (common_name.tag(), common_name.value()),
+        (Tag::UTF8_STRING, &b"example.org"[..])
+    );
+    assert_eq!(it.public_key().algorithm().identifier(), oid!(1, 3, 101, 112));
+    assert_eq!(it.public_key().algorithm().parameters(), None);
+    assert_eq!(
+        (it.public_key().bits().len(), it.signature_value().len()),
+        (256, 512)
+    );
+    assert_eq!(it.signature(), it.signature_algorithm());
+    assert_eq!((it.issuer_unique_id(), it.subject_unique_id()), (None, None));
+    assert!(it.not_before() < it.not_after());
+    assert!(it.as_bytes() == octets && octets[4..].starts_with(it.tbs()));
+    assert_eq!(Certificate::try_from(&octets[..]), Ok(it));
+    assert!(Certificate::from_strict_der(&octets).is_ok());
+}
+
+#[test]
+fn extensions() {
+    let octets = match known() {
+        Some(it) => it,
+        None => return,
+    };
+    let it = Certificate::from_der(&octets).unwrap();
+    let (critical, names) = value_of(&it, oid!(2, 5, 29, 17));
+    let names = match names {
+        Value::SubjectAltName(it) => it,
+        other => panic!("{other:?}"),
+    };
+    let names: Vec<_> = names.iter().collect();
+    let expected = [
+        GeneralName::DnsName("example.org"),
+        GeneralName::IpAddress(&[192, 0, 2, 1]),
+        GeneralName::IpAddress(&[0x20, 0x01, 0x0d, 0xb8, 0, 0, 0, 0, 0, 0, 0, 0, 0, 0, 0, 1]),
+        GeneralName::Rfc822Name("a@example.org"),
+        GeneralName::Uri("https://example.org/"),
+        GeneralName::RegisteredId(oid!(1, 2, 3)),
+    ];
+    assert_eq!((critical, &names[..]), (true, &expected[..]));
+    assert_eq!(
+        names[1].ip_addr(),
+        Some(IpAddr::from(Ipv4Addr::new(192, 0, 2, 1)))
+    );
+    assert_eq!(
+        names[2].ip_addr(),
+        "2001:db8::1".parse::<Ipv6Addr>().ok().map(IpAddr::from)
+    );
+    let (critical, usage) = value_of(&it, oid!(2, 5, 29, 15));
+    let usage = match usage {
+        Value::KeyUsage(it) => it,
+        other => panic!("{other:?}"),
+    };
+    assert!(
+        critical
+            && usage
+                .names()
+                .eq(["digitalSignature", "keyCertSign", "decipherOnly"])
+    );
+    let (critical, purposes) = value_of(&it, oid!(2, 5, 29, 37));
+    let purposes = match purposes {
+        Value::ExtendedKeyUsage(it) => it,
+        other => panic!("{other:?}"),
+    };
+    assert!(
+        !critical
+            && purposes
+                .into_iter()
+                .eq([oid!(1, 3, 6, 1, 5, 5, 7, 3, 1), oid!(1, 2, 3, 4)])
+    );
+    let constraints = Value::BasicConstraints(BasicConstraints {
+        ca: true,
+        path_length: Some(3),
+    });
+    assert_eq!(value_of(&it, oid!(2, 5, 29, 19)), (true, constraints));
+    // An IA5String.
+    assert_eq!(
+        value_of(&it, oid!(2, 16, 840, 1, 113730, 1, 13)),
+        (false, Value::Other(b"\x16\x09a comment"))
+    );
+    assert_eq!(it.extensions().find(oid!(2, 5, 29, 18)), None);
+}
+
+/// What openssl prints of a certificate, after a name and `=`.
+fn printed<'t>(text: &'t str, name: &str) -> &'t str {
+    let line = text.lines().find(|line| line.starts_with(name)).unwrap();
+    line[name.len()..].trim_start_matches('=')
+}
+
+/// As openssl writes the time with `-dateopt iso_8601`.
+fn shown(time: Time) -> String {
+    time.to_string().replace('T', " ")
+}
+
+fn hex(octets: &[u8]) -> String {
+    octets.iter().map(|octet| format!("{octet:02X}")).collect()
+}
+
+#[test]
+fn beside_openssl() {
+    let words = [
+        "x509",
+        "-inform",
+        "DER",
+        "-noout",
+        "-serial",
+        "-dates",
+        "-dateopt",
+        "iso_8601",
+        "-fingerprint",
+        "-sha256",
+        "-subject",
+        "-issuer",
+        "-nameopt",
+        "RFC2253",
+    ];
+    let mut names = 0;
+    for octets in store() {
+        let text = match openssl(&words, &octets) {
+            Some(text) => text,
+            None => return println!("left out: there is no openssl"),
+        };
+        let text = String::from_utf8(text).unwrap();
+        let it = Certificate::from_der(&octets).unwrap();
+        let serial = hex(it.serial_number().as_bytes());
+        let digits = serial.trim_start_matches('0');
+        assert_eq!(digits, printed(&text, "serial").trim_start_matches('0'));
+        assert_eq!(shown(it.not_before()), printed(&text, "notBefore"));
+        assert_eq!(shown(it.not_after()), printed(&text, "notAfter"));
+        let digest = printed(&text, "sha256 Fingerprint").replace(':', "");
+        assert_eq!(hex(&it.fingerprint()), digest);
+        for (name, title) in [(it.subject(), "subject"), (it.issuer(), "issuer")] {
+            // openssl has names for more types than RFC 4514 has.
+            let own = name.to_string();
+            if !own
+                .split(',')
+                .any(|part| part.starts_with(|it: char| it.is_ascii_digit()))
+            {
+                assert_eq!(own, printed(&text, title));
+                names += 1;
+            }
+        }
+    }
+    println!("{names} names as openssl writes them");
+}
+
+/// The rows of the library's tests of a call.
+fn rows(file: &str, call: &str) -> Vec<(String, String)> {
+    let path = format!(
+        "{}/../../tests/rows_of_certificates/data/{file}.rows",
+        env!("CARGO_MANIFEST_DIR")
+    );
+    let text = std::fs::read_to_string(path).unwrap();
+    let mut within = false;
+    let mut rows = Vec::new();
+    for line in text.lines().filter(|line| !line.starts_with('#')) {
+        if let Some(calls) = line.strip_prefix('[') {
+            within = calls.trim_end_matches(']').split(',').any(|it| it.trim() == call);
+        } else if within && line.contains('|') {
+            let mut parts = line.split('|').map(str::trim);
+            rows.push((parts.next().unwrap().into(), parts.next().unwrap().into()));
+        }
+    }
+    assert!(!rows.is_empty(), "{file} {call}");
+    rows
+}
+
+fn octets(hex: &str) -> Vec<u8> {
+    hex.split_whitespace()
+        .map(|pair| u8::from_str_radix(pair, 16).unwrap())
+        .collect()
+}
+
+/// The names of the library's tests, in the order of the numbers.
+const RULES: [&str; 12] = [
+    "SameAlgorithms",
+    "PositiveSerialNumber",
+    "ShortSerialNumber",
+    "NamedIssuer",
+    "OrderedAttributes",
+    "UtcTimeTo2049",
+    "WholeSeconds",
+    "UniqueIdVersion",
+    "ExtensionsVersion",
+    "DistinctExtensions",
+    "NamedSubject",
+    "DerValues",
+];
+
+#[test]
+fn rows_of_strict_certificates() {
+    for (input, expected) in rows("strict", "strict_certificate") {
+        let octets = octets(&input);
+        let found = match Certificate::from_strict_der(&octets) {
+            Ok(_) => String::from("read"),
+            Err(error) => {
+                assert!(Certificate::from_der(&octets).is_ok(), "{input}");
+                let rule = error.reason().unwrap().number() - Reason::ALGORITHMS_DIFFER.number();
+                assert_eq!((error.field(), error.offset()), (Field::Certificate, 0));
+                format!("read breaks {}", RULES[rule as usize])
+            }
+        };
+        assert_eq!(found, expected, "{input}");
+    }
+}
+
+/// The text of an error is that of the row, which may have the values of the error after it.
+fn compare(found: Result<String, Error>, expected: &str, input: &str) {
+    match found {
+        Ok(found) => assert_eq!(found, expected, "{input}"),
+        Err(error) => assert!(
+            expected.starts_with(&error.to_string()),
+            "{input}: {error}, and not {expected}"
+        ),
+    }
+}
+
+fn spaced(octets: &[u8]) -> String {
+    octets.iter().map(|octet| format!(" {octet:02x}")).collect()
+}
+
+#[test]
+fn rows_of_extensions() {
+    for (input, expected) in rows("extensions", "basic_constraints") {
+        let found = BasicConstraints::from_der(&octets(&input)).map(|it| match it.path_length {
+            Some(length) => format!("ca {} path {length}", it.ca),
+            None => format!("ca {}", it.ca),
+        });
+        compare(found, &expected, &input);
+    }
+    for (input, expected) in rows("extensions", "key_usage") {
+        let found = KeyUsage::from_der(&octets(&input)).map(|usage| {
+            let names = [
+                ("digital_signature", usage.digital_signature()),
+                ("content_commitment", usage.content_commitment()),
+                ("key_encipherment", usage.key_encipherment()),
+                ("data_encipherment", usage.data_encipherment()),
+                ("key_agreement", usage.key_agreement()),
+                ("key_cert_sign", usage.key_cert_sign()),
+                ("crl_sign", usage.crl_sign()),
+                ("encipher_only", usage.encipher_only()),
+                ("decipher_only", usage.decipher_only()),
+            ];
+            let names = names.iter().filter(|(_, has)| *has).map(|(name, _)| *name);
+            names.collect::<Vec<_>>().join(" ")
+        });
+        compare(found, &expected, &input);
+    }
+    for (input, expected) in rows("extensions", "extended_key_usage") {
+        let found = KeyPurposes::from_der(&octets(&input)).map(|it| format!("{} values", it.iter().count()));
+        compare(found, &expected, &input);
+    }
+    for (input, expected) in rows("extensions", "authority_key_identifier") {
+        let octets = octets(&input);
+        let found = AuthorityKeyIdentifier::from_der(&octets).map(|it| {
+            let key = it
+                .key_identifier
+                .map_or_else(String::new, |key| format!("key{}", spaced(key)));
+            let number = |it: dumarewhi::Integer<'_>| format!(" serial{}", spaced(it.as_bytes()));
+            (
+                key,
+                it.issuer.is_some(),
+                it.serial_number.map_or_else(String::new, number),
+            )
+        });
+        match found {
+            Ok((key, has_issuer, number)) => {
+                assert!(
+                    expected.starts_with(&key) && expected.ends_with(&number),
+                    "{input}"
+                );
+                assert_eq!(expected.contains("issuer"), has_issuer, "{input}");
+            }
+            Err(error) => compare(Err(error), &expected, &input),
+        }
+    }
+}
+
+/// Rows that change an input: `to 9` cuts it, and `8=03` sets an octet or adds one.
+fn try_changes(file: &str, call: &str, read: impl Fn(&[u8]) -> Result<(), Error>) {
+    let path = format!(
+        "{}/../../tests/rows_of_certificates/data/{file}.rows",
+        env!("CARGO_MANIFEST_DIR")
+    );
+    let text = std::fs::read_to_string(path).unwrap();
+    let (mut base, mut count) = (None, 0);
+    for line in text.lines() {
+        if line.starts_with('[') {
+            let after = line.strip_prefix(&format!("[{call} of "));
+            base = after.map(|it| octets(it.trim_end_matches(']')));
+        }
+        let parts: Vec<_> = line.split('|').map(str::trim).collect();
+        let (base, change, expected) = match (&base, &parts[..]) {
+            (Some(base), [change, expected, ..]) => (base, *change, *expected),
+            _ => continue,
+        };
+        let mut octets = base.clone();
+        match (change.strip_prefix("to "), change.split_once('=')) {
+            (Some(length), _) => octets.truncate(length.parse().unwrap()),
+            (None, Some((at, octet))) => {
+                let at: usize = at.parse().unwrap();
+                octets.resize(octets.len().max(at + 1), 0);
+                octets[at] = u8::from_str_radix(octet, 16).unwrap();
+            }
+            _ => {}
+        }
+        match read(&octets) {
+            Ok(()) => assert!(!expected.contains(" at "), "{change}: {expected}"),
+            Err(error) => compare(Err(error), expected, change),
+        }
+        count += 1;
+    }
+    assert!(count > 5, "{call}");
+}
+
+#[test]
+fn rows_of_changes() {
+    try_changes("certificates", "certificate", |octets| {
+        Certificate::from_der(octets).map(drop)
+    });
+    try_changes("requests_and_lists", "certificate_list", |octets| {
+        CertificateList::from_der(octets).map(drop)
+    });
+    try_changes("requests_and_lists", "certification_request", |octets| {
+        CertificationRequest::from_der(octets).map(drop)
+    });
+}
+
+/// The list that rows are changes of: with the entry 5, and crlNumber 7.
+#[test]
+fn lists() {
+    let octets = octets(
+        "30 73 30 68 02 01 01 30 03 06 01 2a 30 0c 31 0a 30 08 06 03 55 04 03 0c 01 61 17 0d 32 36 30 31 30 31 30 30 \
+         30 30 30 30 5a 17 0d 32 37 30 31 30 31 30 30 30 30 30 30 5a 30 22 30 20 02 01 05 17 0d 32 36 30 31 30 31 30 \
+         30 30 30 30 30 5a 30 0c 30 0a 06 03 55 1d 15 04 03 0a 01 01 a0 0e 30 0c 30 0a 06 03 55 1d 14 04 03 02 01 07 \
+         30 03 06 01 2a 03 02 00 01",
+    );
+    let it = CertificateList::from_der(&octets).unwrap();
+    assert_eq!((it.version(), it.issuer().to_string()), (2, String::from("CN=a")));
+    assert_eq!(it.this_update().to_string(), "2026-01-01T00:00:00Z");
+    assert_eq!(it.next_update().unwrap().to_string(), "2027-01-01T00:00:00Z");
+    let entries: Vec<_> = it.revoked_certificates().unwrap().iter().collect();
+    assert_eq!(entries.len(), 1);
+    let five = Integer::from_content(&[5]).unwrap();
+    assert_eq!(
+        (entries[0].serial_number(), entries[0].date()),
+        (five, it.this_update())
+    );
+    assert_eq!(it.find(five), Some(entries[0]));
+    assert_eq!(it.find(Integer::from_content(&[6]).unwrap()), None);
+    let reason = entries[0].extensions().find(oid!(2, 5, 29, 21)).unwrap();
+    assert_eq!(
+        (reason.octets(), reason.is_critical()),
+        (&[0x0a, 1, 1][..], false)
+    );
+    assert_eq!(
+        it.extensions().find(oid!(2, 5, 29, 20)).unwrap().octets(),
+        [2, 1, 7]
+    );
+    assert_eq!((it.tbs(), it.as_bytes()), (&octets[2..108], &octets[..]));
+    assert_eq!(
+        (it.signature(), it.signature_value().len()),
+        (it.signature_algorithm(), 8)
+    );
+}
+
+/// A request that openssl makes.
+#[test]
+fn requests() {
+    let folder = shared::folder();
+    let key = folder.join("key");
+    let words = [
+        "req",
+        "-new",
+        "-newkey",
+        "ed25519",
+        "-nodes",
+        "-keyout",
+        key.to_str().unwrap(),
+        "-subj",
+        "/O=A, B/CN=a.example",
+        "-addext",
+        "subjectAltName=DNS:b.example",
+        "-outform",
+        "DER",
+    ];
+    let made = openssl(&words, &[]);
+    std::fs::remove_dir_all(&folder).unwrap();
+    let octets = match made {
+        Some(it) => it,
+        None => return println!("left out: openssl makes no request"),
+    };
+    let it = CertificationRequest::from_der(&octets).unwrap();
+    assert_eq!(it.subject().to_string(), r"CN=a.example,O=A\, B");
+    assert_eq!(it.public_key().algorithm().identifier(), oid!(1, 3, 101, 112));
+    let kinds: Vec<_> = it
+        .attributes()
+        .into_iter()
+        .map(|attribute| attribute.identifier())
+        .collect();
+    assert_eq!(kinds, [oid!(1, 2, 840, 113549, 1, 9, 14)]);
+    let names = it
+        .extensions()
+        .unwrap()
+        .find(oid!(2, 5, 29, 17))
+        .unwrap()
+        .value()
+        .unwrap();
+    let names = match names {
+        Value::SubjectAltName(it) => it,
+        other => panic!("{other:?}"),
+    };
+    assert!(names.iter().eq([GeneralName::DnsName("b.example")]));
+    assert_eq!((it.signature().len(), it.as_bytes()), (512, &octets[..]));
+    assert!(it.info().len() < octets.len());
+}
+
+#[test]
+fn errors() {
+    let error = Certificate::from_der(&[0x30, 0x05]).unwrap_err();
+    assert!(error.is_incomplete() && error.reason().is_none());
+    assert_eq!(
+        (error.field(), error.offset(), error.needed()),
+        (Field::Certificate, 0, Some(5))
+    );
+    let error = Certificate::from_der(&[0x30, 0x02, 0x30, 0x00]).unwrap_err();
+    assert_eq!(
+        (error.field(), error.is_incomplete(), error.list_end()),
+        (Field::SerialNumber, false, Some(4))
+    );
+    assert!(error.to_string().contains("serialNumber"), "{error}");
+    let plain = dumarewhi::Error::from(error);
+    assert_eq!(plain.offset(), error.offset());
+}
+
+// What `callers/python/tests/certificates.c` prints.
+
+fn put_octets(line: &mut String, octets: &[u8]) {
+    let digits: String = octets.iter().map(|octet| format!("{octet:02x}")).collect();
+    write!(line, " {}", if digits.is_empty() { "-" } else { &digits }).unwrap();
+}
+
+fn put_bits(line: &mut String, bits: Option<BitString<'_>>) {
+    if let Some(bits) = bits {
+        write!(line, " {}", bits.unused_bits()).unwrap();
+    }
+    put_octets(line, bits.map_or(&[], |bits| bits.raw_bytes()));
+}
+
+fn put_algorithm(line: &mut String, algorithm: dumarewhi::x509::Algorithm<'_>) {
+    put_octets(line, algorithm.identifier().as_bytes());
+    put_octets(line, algorithm.parameters().unwrap_or(&[]));
+}
+
+fn put_time(line: &mut String, it: Time) {
+    let (date, clock) = ((it.year, it.month, it.day), (it.hour, it.minute, it.second));
+    write!(line, " {:04}-{:02}-{:02}", date.0, date.1, date.2).unwrap();
+    write!(
+        line,
+        "T{:02}:{:02}:{:02}.{:06}",
+        clock.0,
+        clock.1,
+        clock.2,
+        it.nanosecond / 1000
+    )
+    .unwrap();
+}
+
+fn put_error(line: &mut String, error: Error) {
+    let (field, rule) = (
+        error.field() as u32,
+        error.reason().map_or(0, |reason| reason.number()),
+    );
+    write!(
+        line,
+        " fault {field} {} {rule} {} ({error})",
+        error.offset(),
+        error.needed().unwrap_or(0)
+    )
+    .unwrap();
+}
+
+fn put_attribute(line: &mut String, it: Attribute<'_>) {
+    put_octets(line, it.identifier().as_bytes());
+    let class = [
+        Class::Universal,
+        Class::Application,
+        Class::ContextSpecific,
+        Class::Private,
+    ]
+    .iter()
+    .position(|class| *class == it.tag().class);
+    write!(
+        line,
+        " {}.{}.{}",
+        class.unwrap(),
+        it.tag().number,
+        u8::from(it.is_constructed())
+    )
+    .unwrap();
+    put_octets(line, it.value());
+}
+
+fn put_name(line: &mut String, name: Name<'_>) {
+    put_octets(line, name.to_string().as_bytes());
+    for part in name {
+        line.push_str(" {");
+        part.into_iter().for_each(|it| put_attribute(line, it));
+        line.push_str(" }");
+    }
+}
+
+fn put_general_name(line: &mut String, name: GeneralName<'_>) {
+    let (kind, octets) = match name {
+        GeneralName::OtherName { identifier, value } => {
+            line.push_str(" 0");
+            put_octets(line, identifier.as_bytes());
+            return put_octets(line, value);
+        }
+        GeneralName::DirectoryName(name) => {
+            line.push_str(" 4");
+            return put_name(line, name);
+        }
+        GeneralName::Rfc822Name(text) => (1, text.as_bytes()),
+        GeneralName::DnsName(text) => (2, text.as_bytes()),
+        GeneralName::X400Address(octets) => (3, octets),
+        GeneralName::EdiPartyName(octets) => (5, octets),
+        GeneralName::Uri(text) => (6, text.as_bytes()),
+        GeneralName::IpAddress(octets) => (7, octets),
+        GeneralName::RegisteredId(identifier) => (8, identifier.as_bytes()),
+        other => panic!("{other:?}"),
+    };
+    write!(line, " {kind}").unwrap();
+    put_octets(line, octets);
+}
+
+fn put_general_names(line: &mut String, names: GeneralNames<'_>) {
+    names.iter().for_each(|name| put_general_name(line, name));
+}
+
+fn put_value(line: &mut String, extension: &Extension<'_>) {
+    match extension.value() {
+        Ok(Value::BasicConstraints(it)) => {
+            write!(line, " ca {}", u8::from(it.ca)).unwrap();
+            it.path_length
+                .iter()
+                .for_each(|length| write!(line, " {length}").unwrap());
+        }
+        Ok(Value::KeyUsage(usage)) => write!(line, " usage {}", usage.bits()).unwrap(),
+        Ok(Value::SubjectAltName(names) | Value::IssuerAltName(names)) => put_general_names(line, names),
+        Ok(Value::ExtendedKeyUsage(it)) => it.iter().for_each(|purpose| put_octets(line, purpose.as_bytes())),
+        Ok(Value::SubjectKeyIdentifier(octets) | Value::Other(octets)) => put_octets(line, octets),
+        Ok(Value::AuthorityKeyIdentifier(it)) => {
+            line.push_str(" key");
+            it.key_identifier.iter().for_each(|key| put_octets(line, key));
+            line.push_str(" issuer");
+            it.issuer.iter().for_each(|names| put_general_names(line, *names));
+            line.push_str(" serial");
+            it.serial_number
+                .iter()
+                .for_each(|number| put_octets(line, number.as_bytes()));
+        }
+        Ok(other) => panic!("{other:?}"),
+        Err(error) => put_error(line, error),
+    }
+}
+
+fn put_certificate(line: &mut String, it: &Certificate<'_>) {
+    write!(line, " version {}", it.version()).unwrap();
+    put_octets(line, it.tbs());
+    put_octets(line, it.serial_number().as_bytes());
+    put_algorithm(line, it.signature());
+    put_name(line, it.issuer());
+    put_time(line, it.not_before());
+    put_time(line, it.not_after());
+    put_name(line, it.subject());
+    put_algorithm(line, it.public_key().algorithm());
+    put_bits(line, Some(it.public_key().bits()));
+    put_bits(line, it.issuer_unique_id());
+    put_bits(line, it.subject_unique_id());
+    put_algorithm(line, it.signature_algorithm());
+    put_bits(line, Some(it.signature_value()));
+    for extension in it.extensions() {
+        line.push_str(" extension");
+        put_octets(line, extension.identifier().as_bytes());
+        write!(line, " {}", u8::from(extension.is_critical())).unwrap();
+        put_value(line, &extension);
+    }
+}
+
+fn line_of(found: Result<Certificate<'_>, Error>) -> String {
+    let mut line = String::new();
+    match found {
+        Ok(it) => put_certificate(&mut line, &it),
+        Err(error) => put_error(&mut line, error),
+    }
+    line
+}
+
+/// Sound certificates, and damaged ones.
+fn inputs() -> Vec<Vec<u8>> {
+    let mut sound = store();
+    sound.extend(known());
+    for (input, _) in rows("strict", "strict_certificate") {
+        sound.push(octets(&input));
+    }
+    let mut random = Random(0x9e3779b97f4a7c15);
+    let mut inputs = sound.clone();
+    for _ in 0..DAMAGED {
+        let input = &sound[random.below(sound.len())];
+        inputs.push(damaged(input, &mut random));
+    }
+    inputs
+}
+
+#[test]
+fn damaged_certificates_as_in_c() {
+    let inputs = inputs();
+    let mut file = Vec::new();
+    for input in &inputs {
+        file.extend((input.len() as u32).to_le_bytes());
+        file.extend(input);
+    }
+    let text = match run_c("python/tests/certificates.c", &file) {
+        Some(it) => it,
+        None => return,
+    };
+    let lines: Vec<_> = text.lines().collect();
+    assert_eq!(lines.len(), 2 * inputs.len());
+    let (mut read, mut faults) = (0, std::collections::BTreeSet::new());
+    for (input, lines) in inputs.iter().zip(lines.chunks(2)) {
+        let own = [
+            line_of(Certificate::from_der(input)),
+            line_of(Certificate::from_strict_der(input)),
+        ];
+        assert_eq!(own, lines, "{input:02x?}");
+        read += usize::from(lines[0].starts_with(" version"));
+        faults.insert(own[0].split(' ').nth(2).map(String::from));
+    }
+    println!(
+        "{read} of {} are read, faults in {} fields",
+        inputs.len(),
+        faults.len()
+    );
+    assert!(read > 200 && faults.len() > 8);
+}
