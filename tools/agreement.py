@@ -68,7 +68,8 @@ def damaged(octets, of):
             made.insert(at, of.choice(MARKS))
         else:
             del made[max(at, 2) :]
-    return bytes(made)
+    # (of no octets the elements are none, which `der check` refuses)
+    return bytes(made) or octets
 
 
 def inputs(count):

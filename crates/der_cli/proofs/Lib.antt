@@ -1,2 +1,7 @@
+pub mod Choosing
+pub mod Collecting
+pub mod Looking
+pub mod Octets
 pub mod Printing
 pub mod Refusing
+pub mod Trails

@@ -1,6 +1,6 @@
 -- Refusals of inputs and of their blocks.
 use Rattle.std.proofs.Common.{◌≡◌, ◌≢◌, ◌⊎◌, ◌+◌, ◌<◌, ◌≤◌, ℕ, suc, Bool, Err, IfErr, IfOk, IsErr, MatchResult, Ok, Result, false, inl, inr, List, ◌++◌, ap, arith, codes, length, refl, subst, sym, true}
-use Rattle.std.proofs.lemmas.List.{length-append}
+use Rattle.std.proofs.lemmas.List.{length-append, length-drop}
 use Rattle.der_input.specs.declared.error.FormError.{FormError}
 use Rattle.der_input.specs.declared.error.FormError.TheVariants.{OutOfMemory}
 use Rattle.der_input.specs.Blocks.{BeginsWithBlock}
@@ -31,25 +31,22 @@ behind a b = let e = length-append a b in omega (arith, e)
 
 -- a block has an octet at least
 shorter : {j label lines rest : List ℕ} → BeginsWithBlock j label lines rest → length rest < length j
-shorter {label = label} {lines = lines} {rest = rest} b =
+shorter {j = j} {label = label} {lines = lines} {rest = rest} b =
     let last = codes "-----" ++ rest in
     let end = codes "-----END " ++ (label ++ last) in
-    let first = label ++ (codes "-----" ++ b.opened) in
-    let begin = codes "-----BEGIN " ++ first in
-    let some : length (codes "-----BEGIN ") ≡ 11 = refl in
+    let some : length (codes "-----") ≡ 5 = refl in
     omega (
       arith,
       some,
-      behind (codes "-----") rest,
+      length-append (codes "-----") rest,
       behind label last,
       behind (codes "-----END ") (label ++ last),
       behind lines end,
       ap length b.end.whole,
       behind (codes "-----") b.opened,
       behind label (codes "-----" ++ b.opened),
-      length-append (codes "-----BEGIN ") first,
-      behind b.before begin,
-      ap length b.begin.whole,
+      ap length b.begin.2,
+      length-drop (b.begin.0 + 11) j,
     )
 
 -- there are no more blocks than octets

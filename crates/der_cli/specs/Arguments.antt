@@ -5,7 +5,7 @@ use Rattle.der_base.specs.declared.header.Class.TheVariants.{Universal, Applicat
 use Rattle.der_input.specs.declared.form.Form.{Form}
 use Rattle.der_input.specs.declared.form.Form.TheVariants.{Der, Pem, Hex, Base64}
 use Rattle.der_cli.specs.declared.options.Action.{Action}
-use Rattle.der_cli.specs.declared.options.Action.TheVariants.{Tree, Check, Json, Canon}
+use Rattle.der_cli.specs.declared.options.Action.TheVariants.{Tree, Check, Json, Canon, Get}
 
 -- the subcommand of an action
 abbrev pub action_word : Action → List ℕ
@@ -13,6 +13,7 @@ action_word Tree = codes "tree"
 action_word Check = codes "check"
 action_word Json = codes "json"
 action_word Canon = codes "canon"
+action_word Get = codes "get"
 
 -- the argument of --from
 abbrev pub form_word : Form → List ℕ

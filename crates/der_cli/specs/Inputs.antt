@@ -1,6 +1,6 @@
 -- What is read from an input, and what is written of it.
-use Rattle.std.specs.Prelude.{◌≡◌, ◌≢◌, ◌<◌, ℕ, suc, Option, Some, None, List, Ok, IsErr, filter}
-use Rattle.base64.specs.Engines.{standard}
+use Rattle.std.specs.Prelude.{◌≡◌, ◌≢◌, ◌<◌, ℕ, suc, Option, Some, None, List, Ok, IsErr}
+use Rattle.base64.specs.Engines.{standard_pad_indifferent}
 use Rattle.base64.specs.GeneralPurpose.{decode_of as base64_decode_of}
 use Rattle.hex.specs.Hex.{decode_of as hex_decode_of}
 use Rattle.der_input.specs.declared.error.FormError.{FormError}
@@ -8,7 +8,7 @@ use Rattle.der_input.specs.declared.form.Form.{Form}
 use Rattle.der_input.specs.declared.form.Form.TheVariants.{Der, Pem, Hex, Base64}
 use Rattle.der_input.specs.Blocks.{BeginsWithBlock, BreaksBlock, IsEncrypted}
 use Rattle.der_input.specs.Forms.{FindsForm, FindsNoForm, HasNoBlock}
-use Rattle.der_input.specs.Plain.{is_character, is_digit}
+use Rattle.der_input.specs.Plain.{characters_of, digits_of}
 use Rattle.der_cli.specs.declared.options.Options.{Options}
 use Rattle.der_cli.specs.Outputs.{IsRefusedBy, RefusesFile, WritesFile, WritesHeading, WritesInside}
 
@@ -20,15 +20,15 @@ IsFormOf None i form = FindsForm i form
 -- the octets that an input is, in a form that has no blocks
 abbrev pub Spells : Form → List ℕ → List ℕ → Type 0
 Spells Der i w = w ≡ i
-Spells Hex i w = hex_decode_of (filter is_digit i) ≡ Ok w
-Spells Base64 i w = base64_decode_of standard (filter is_character i) ≡ Ok w
+Spells Hex i w = hex_decode_of (digits_of i) ≡ Ok w
+Spells Base64 i w = base64_decode_of standard_pad_indifferent (characters_of i) ≡ Ok w
 Spells Pem i w = ⊥
 
 -- a block with these lines is read, and this is written of it
 pub record ReadsBlock (o : Options) (name label lines : List ℕ) (old new : Option (List ℕ)) : Type 0 where
   pub octets : List ℕ
   pub readable : ¬ IsEncrypted lines
-  pub spells : base64_decode_of standard (filter is_character lines) ≡ Ok octets
+  pub spells : base64_decode_of standard_pad_indifferent (characters_of lines) ≡ Ok octets
   pub between : Option (List ℕ)
   pub heading : WritesHeading o.action name label old between
   pub writes : WritesInside o.action o label octets between new
@@ -49,8 +49,8 @@ pub data ReadsInput (o : Options) (name i : List ℕ) (old new : Option (List �
 -- a block with these lines is refused: they are encrypted or no base64, or an action refuses its octets
 pub data RefusesBlock (o : Options) (lines : List ℕ) : Type 0 where
   encrypted : IsEncrypted lines → RefusesBlock o lines
-  no_base64 : IsErr (base64_decode_of standard (filter is_character lines)) → RefusesBlock o lines
-  refused : (w : List ℕ) (old new : Option (List ℕ)) → base64_decode_of standard (filter is_character lines) ≡ Ok w
+  no_base64 : IsErr (base64_decode_of standard_pad_indifferent (characters_of lines)) → RefusesBlock o lines
+  refused : (w : List ℕ) (old new : Option (List ℕ)) → base64_decode_of standard_pad_indifferent (characters_of lines) ≡ Ok w
       → IsRefusedBy o.action o w old new → RefusesBlock o lines
 
 -- what is left of a text after n blocks

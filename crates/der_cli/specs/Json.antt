@@ -1,7 +1,8 @@
 -- What is written of an element as JSON.
-use Rattle.std.specs.Prelude.{◌≡◌, ◌⊎◌, ◌==◌, ◌^◌, ◌||◌, ℕ, not, nat_lt, Bool, true, false, if◌then◌else◌, IsTrue}
-use Rattle.std.specs.Prelude.{IfSome, MatchBool, ℤ, pos, negsuc, Option, Some, None, option_map}
-use Rattle.std.specs.Prelude.{List, [], ◌∷◌, ◌++◌, codes, string_bytes}
+use Rattle.std.specs.Prelude.{◌≡◌, ◌⊎◌, ◌==◌, ◌^◌, ◌||◌, ◌<◌, ◌≤◌, ◌+◌, ◌*◌, ℕ, suc, not, nat_lt, Bool, true, false}
+use Rattle.std.specs.Prelude.{if◌then◌else◌, IsTrue, IfSome, MatchBool, MatchOption, ℤ, pos, negsuc}
+use Rattle.std.specs.Prelude.{Option, Some, None, is_some, option_map, List, [], ◌∷◌, ◌++◌, codes, drop, length}
+use Rattle.std.specs.Prelude.{string_bytes}
 use Rattle.std.specs.Io.KnownBytes.{Appends}
 use Rattle.serde.specs.Event.{Log}
 use Rattle.serde_json.specs.Data.{Data, boolean, negative, null, number, string, unsigned}
@@ -16,13 +17,16 @@ use Rattle.der_base.specs.Time.{IsTimeText}
 use Rattle.der_print.specs.Quotes.{unquoted_text}
 use Rattle.der_print.specs.Remarks.{IsRemark}
 use Rattle.der_print.specs.declared.style.Limit.TheVariants.{Whole}
-use Rattle.der_print.specs.Values.{IsNameOf, bits_text, identifier_text, is_other_type, is_quoted_type, moment_text}
+use Rattle.der_print.specs.Values.{IsNameOf, identifier_text, is_other_type, is_quoted_type, moment_text}
 use Rattle.der_print.specs.Values.{real_text}
 use Rattle.der_cli.specs.declared.json.Object.{Object}
 use Rattle.der_cli.specs.declared.options.Options.{Options}
 use Rattle.der_cli.specs.declared.origin.Origin.{Origin}
 use Rattle.der_cli.specs.Arguments.{class_word}
 use Rattle.der_cli.specs.Labels.{label_text}
+use Rattle.der_cli.specs.Parts.{AreOctetsOf}
+use Rattle.der_cli.specs.Timestamps.{HasTimestamp, timestamp_text}
+use Rattle.der_values.specs.Decimal.{integer_text}
 use Rattle.der_walk.specs.TypeNames.{type_text}
 use Rattle.der_walk.specs.Visits.{Visited}
 
@@ -36,10 +40,11 @@ pub record AddsJson (old new : Option (List ℕ)) : Type 0 where
   pub is_json : IsJson text
   pub adds : Appends old new (text ++ codes "\n")
 
--- a number of 64 bits, or the digits of a larger one
-abbrev pub json_number : List ℕ → ℤ → Data
-json_number w (pos n) = if nat_lt n (2 ^ 64) then number (unsigned n) else string (encode_lower w)
-json_number w (negsuc n) = if nat_lt n (2 ^ 63) then number (negative (negsuc n)) else string (encode_lower w)
+-- a number from -(2^53-1) to 2^53-1, or the decimal digits of another one (RFC 8259 6)
+abbrev pub json_number : ℤ → Data
+json_number (pos n) = if nat_lt n (2 ^ 53) then number (unsigned n) else string (integer_text (pos n))
+json_number (negsuc n) =
+    if nat_lt (suc n) (2 ^ 53) then number (negative (negsuc n)) else string (integer_text (negsuc n))
 
 -- the octet of FALSE (X.690 8.2.2)
 abbrev pub is_false : List ℕ → Bool
@@ -50,13 +55,14 @@ is_false w = false
 pub data IsUniversalJson (t : ℕ) (w : List ℕ) (d : Data) : Type 0 where
   no_value : (t ≡ 0) ⊎ (t ≡ 5) → d ≡ null → IsUniversalJson t w d
   truth : t ≡ 1 → d ≡ boolean (not (is_false w)) → IsUniversalJson t w d
-  json_integer : (t ≡ 2) ⊎ (t ≡ 10) → d ≡ json_number w (integer_value w) → IsUniversalJson t w d
+  json_integer : (t ≡ 2) ⊎ (t ≡ 10) → d ≡ json_number (integer_value w) → IsUniversalJson t w d
   identifier : t ≡ 6 → d ≡ string (identifier_text false w) → IsUniversalJson t w d
   relative : t ≡ 13 → d ≡ string (identifier_text true w) → IsUniversalJson t w d
   real : t ≡ 9 → d ≡ string (real_text Whole w) → IsUniversalJson t w d
   -- the characters of a string; octets that are none are escaped
   text : IsTrue (is_quoted_type t) → d ≡ string (unquoted_text t w) → IsUniversalJson t w d
-  bits : t ≡ 3 → d ≡ string (bits_text Whole w) → IsUniversalJson t w d
+  -- a BIT STRING without the octet that says how many bits aren't used
+  bits : t ≡ 3 → d ≡ string (encode_lower (drop 1 w)) → IsUniversalJson t w d
   -- UTCTime and GeneralizedTime; as a text where there is no such moment, as one with 60 seconds
   moment : (x : ASN1DateTime) → IsTimeText t w x → d ≡ string (moment_text (t == 23) x) → IsUniversalJson t w d
   no_moment : (t ≡ 23) ⊎ (t ≡ 24) → ((x : ASN1DateTime) → ¬ IsTimeText t w x) → d ≡ string (unquoted_text t w)
@@ -72,7 +78,38 @@ IsPrimitiveJson Private t w d = d ≡ string (encode_lower w)
 
 -- the value of an element: none if its content is elements, which have objects of their own
 abbrev pub IsJsonValue : Visited → List ℕ → Data → Type 0
-IsJsonValue v w d = MatchBool (v.constructed || v.holds_der) (d ≡ null) (IsPrimitiveJson v.class v.number w d)
+IsJsonValue v w d = MatchBool (v.constructed || is_some v.holds) (d ≡ null) (IsPrimitiveJson v.class v.number w d)
+
+-- a primitive element of a universal type
+abbrev pub IsPrimitive : Visited → Type 0
+IsPrimitive v = (v.class ≡ Universal) × (v.constructed ≡ false)
+
+-- a BIT STRING with this content has so many bits (X.690 8.6.2)
+abbrev pub IsBitCount : List ℕ → ℕ → Type 0
+IsBitCount [] n = ⊥
+IsBitCount (unused ∷ w) n = (unused ≤ 7) × (n + unused ≡ 8 * length w)
+
+-- the count of the bits of an element whose value is a BIT STRING; none where there is no such count
+abbrev pub AreBitsOf : Visited → List ℕ → Option ℕ → Type 0
+AreBitsOf v w count = MatchOption count
+    (IsPrimitive v → is_some v.holds ≡ false → v.number ≡ 3 → (n : ℕ) → n < 2 ^ 60 → ¬ IsBitCount w n)
+    (λ n. IsPrimitive v × (v.number ≡ 3) × IsBitCount w n)
+
+-- a time type's text as RFC 3339 writes it, or none where it can't
+abbrev pub IsTimestamp : ℕ → List ℕ → Option (List ℕ) → Type 0
+IsTimestamp t w time = MatchOption time
+    ((x : ASN1DateTime) → IsTimeText t w x → ¬ HasTimestamp (t == 23) x)
+    (λ y. (x : ASN1DateTime) × IsTimeText t w x × HasTimestamp (t == 23) x × (y ≡ timestamp_text (t == 23) x))
+
+abbrev pub IsTimestampOf : Visited → List ℕ → Option (List ℕ) → Type 0
+IsTimestampOf v w (Some x) = IsPrimitive v × IsTimestamp v.number w (Some x)
+IsTimestampOf v w None = IsPrimitive v → IsTimestamp v.number w None
+
+-- all octets of an element in hexadecimal digits, if they are asked for and are there
+abbrev pub AreHexOf : Options → List ℕ → Visited → Option (List ℕ) → Type 0
+AreHexOf o i v hex = MatchOption hex
+    (o.has_octets ≡ true → (w : List ℕ) → ¬ AreOctetsOf i v w)
+    (λ x. (o.has_octets ≡ true) × (w : List ℕ) × AreOctetsOf i v w × (x ≡ encode_lower w))
 
 -- the members that an element with this content determines
 pub record IsObjectOf (v : Visited) (w : List ℕ) (o : Object) : Type 0 where
@@ -85,6 +122,8 @@ pub record IsObjectOf (v : Visited) (w : List ℕ) (o : Object) : Type 0 where
   pub constructed : o.constructed ≡ v.constructed
   pub kind : string_bytes o.kind ≡ type_text v.class v.number
   pub value : IsJsonValue v w (view o.value)
+  pub bits : AreBitsOf v w o.bits
+  pub time : IsTimestampOf v w (option_map string_bytes o.time)
   -- the name of an OBJECT IDENTIFIER, if it has one
   pub name : IfSome o.name (λ name. (v.class ≡ Universal) × (v.number ≡ 6) × IsNameOf w name.now)
   -- what is said of a value that breaks its type

@@ -1,6 +1,7 @@
 -- What is written of octets: of those that are read to their end, and of those that are refused.
-use Rattle.std.specs.Prelude.{◌≡◌, ℕ, true, MatchBool, Option, List, ◌++◌, codes}
+use Rattle.std.specs.Prelude.{◌≡◌, ◌≢◌, ◌⊎◌, ℕ, true, MatchBool, Option, List, [], ◌∷◌, ◌++◌, codes}
 use Rattle.std.specs.Io.KnownBytes.{Appends, Keeps}
+use Rattle.der_base.specs.declared.rules.Rules.{Rules}
 use Rattle.der_canon.specs.declared.error.CanonError.TheVariants as canon
 use Rattle.der_canon.specs.declared.error.NotCanonical.{NotCanonical}
 use Rattle.der_canon.specs.Errors.{IsCanonErrorOf}
@@ -8,26 +9,36 @@ use Rattle.der_canon.specs.Same.{IsDerOf}
 use Rattle.der_check.specs.Elements.{AreElements}
 use Rattle.der_print.specs.Lines.{AreLines}
 use Rattle.der_cli.specs.declared.options.Action.{Action}
-use Rattle.der_cli.specs.declared.options.Action.TheVariants.{Tree, Check, Json, Canon}
+use Rattle.der_cli.specs.declared.options.Action.TheVariants.{Tree, Check, Json, Canon, Get}
 use Rattle.der_cli.specs.declared.options.Options.{Options}
+use Rattle.der_cli.specs.Choices.{AreListed}
 use Rattle.der_cli.specs.Json.{AreJsonLines}
-use Rattle.der_cli.specs.Labels.{heading_text}
+use Rattle.der_cli.specs.Labels.{heading_text, name_text}
+use Rattle.der_cli.specs.Parts.{AreOctetsOf, AreWrittenOf}
 use Rattle.der_cli.specs.Pem.{IsPem}
+use Rattle.der_cli.specs.Places.{AreNotAsked, IsAsked}
 use Rattle.der_walk.specs.declared.refusal.Refusal.{Refusal}
 use Rattle.der_walk.specs.declared.walk.Walk.{Walk}
 use Rattle.der_walk.specs.Visits.{Extras, Visited, Visits}
-use Rattle.der_walk.specs.Walked.{IsRefused}
+use Rattle.der_walk.specs.Walked.{HasVisited, IsRefused}
 
 -- with the elements inside strings or without them, and with values that break their type
 abbrev pub extras_of : Options → Extras
 extras_of o = record { enters_strings = o.enters_strings; keeps_values = true }
 
--- known octets grew by a line for each of the elements that the input is, in preorder
+-- octets are elements, one at least
+abbrev pub AreSomeElements : Rules → List ℕ → Type 0
+AreSomeElements r i = AreElements r 101 i × (i ≢ [])
+
+-- known octets grew by a line for each listed one, one at least, of the elements that the input is, in preorder
 pub record WritesTree (o : Options) (i : List ℕ) (old new : Option (List ℕ)) : Type 0 where
   pub elements : List Visited
   pub visits : Visits (extras_of o) o.rules 101 0 0 i elements
+  pub listed : List Visited
+  pub are_listed : AreListed o elements listed
+  pub some : listed ≢ []
   pub text : List ℕ
-  pub lines : AreLines o.style i elements text
+  pub lines : AreLines o.style i listed text
   pub adds : Appends old new text
 
 -- known octets grew by the input as DER writes it
@@ -44,18 +55,34 @@ pub record WritesPem (label i : List ℕ) (old new : Option (List ℕ)) : Type 0
   pub is_pem : IsPem label octets text
   pub adds : Appends old new text
 
--- known octets grew by a line of JSON for each of the elements that the input is, in preorder
+-- known octets grew by a line of JSON for each listed one of them
 pub record WritesJson (o : Options) (i : List ℕ) (old new : Option (List ℕ)) : Type 0 where
   pub elements : List Visited
   pub visits : Visits (extras_of o) o.rules 101 0 0 i elements
+  pub listed : List Visited
+  pub are_listed : AreListed o elements listed
+  pub some : listed ≢ []
   pub text : List ℕ
-  pub lines : AreJsonLines elements text
+  pub lines : AreJsonLines listed text
   pub adds : Appends old new text
 
 -- nothing is written of an input that is elements
 pub record WritesNothing (o : Options) (i : List ℕ) (old new : Option (List ℕ)) : Type 0 where
-  pub elements : AreElements o.rules 101 i
-  pub keeps : Keeps old new
+  pub elements : AreSomeElements o.rules i
+  pub keeps : new ≡ old
+
+-- these elements are visited first
+abbrev pub VisitsFirst : Options → List ℕ → List Visited → Type 0
+VisitsFirst o i vs = (w : Walk) × HasVisited (extras_of o) o.rules i w vs
+
+-- known octets grew by those of the first element at the place
+pub record WritesPart (o : Options) (i : List ℕ) (old new : Option (List ℕ)) : Type 0 where
+  pub before : List Visited
+  pub element : Visited
+  pub visits : VisitsFirst o i (before ++ element ∷ [])
+  pub not_asked : AreNotAsked o.place before
+  pub asked : IsAsked o.place before element
+  pub writes : AreWrittenOf o i element old new
 
 -- what an action writes of octets
 abbrev pub Writes : Action → Options → List ℕ → Option (List ℕ) → Option (List ℕ) → Type 0
@@ -63,6 +90,7 @@ Writes Tree o i old new = WritesTree o i old new
 Writes Check o i old new = WritesNothing o i old new
 Writes Json o i old new = WritesJson o i old new
 Writes Canon o i old new = WritesDer i old new
+Writes Get o i old new = WritesPart o i old new
 
 -- the same of the octets of a block with this label: what is written as DER is in PEM again
 abbrev pub WritesInside : Action → Options → List ℕ → List ℕ → Option (List ℕ) → Option (List ℕ) → Type 0
@@ -70,26 +98,43 @@ WritesInside Tree o label i old new = WritesTree o i old new
 WritesInside Check o label i old new = WritesNothing o i old new
 WritesInside Json o label i old new = WritesJson o i old new
 WritesInside Canon o label i old new = WritesPem label i old new
+WritesInside Get o label i old new = WritesPart o i old new
 
 -- after these elements octets are refused
 abbrev pub IsRefusedAfter : Options → List ℕ → List Visited → Type 0
 IsRefusedAfter o i vs = (w : Walk) × (f : Refusal) × IsRefused (extras_of o) o.rules i vs w f
 
--- octets are refused, and known octets grew by a line for each of the elements before
+-- after these elements octets are refused, or these are all and none is listed
+abbrev pub EndsAfter : Options → List ℕ → List Visited → List Visited → Type 0
+EndsAfter o i vs us = IsRefusedAfter o i vs ⊎ (Visits (extras_of o) o.rules 101 0 0 i vs × (us ≡ []))
+
+-- octets are refused, and known octets grew by a line for each listed element before
 pub record RefusesTree (o : Options) (i : List ℕ) (old new : Option (List ℕ)) : Type 0 where
   pub elements : List Visited
-  pub refused : IsRefusedAfter o i elements
+  pub listed : List Visited
+  pub ends : EndsAfter o i elements listed
+  pub are_listed : AreListed o elements listed
   pub text : List ℕ
-  pub lines : AreLines o.style i elements text
+  pub lines : AreLines o.style i listed text
   pub adds : Appends old new text
 
 -- the same by lines of JSON
 pub record RefusesJson (o : Options) (i : List ℕ) (old new : Option (List ℕ)) : Type 0 where
   pub elements : List Visited
-  pub refused : IsRefusedAfter o i elements
+  pub listed : List Visited
+  pub ends : EndsAfter o i elements listed
+  pub are_listed : AreListed o elements listed
   pub text : List ℕ
-  pub lines : AreJsonLines elements text
+  pub lines : AreJsonLines listed text
   pub adds : Appends old new text
+
+-- Nothing is written: no element is at the place, before octets that are refused or in all. Or the first one there has
+-- no octets.
+pub data RefusesPart (o : Options) (i : List ℕ) (old new : Option (List ℕ)) : Type 0 where
+  no_element : (vs : List Visited) → AreNotAsked o.place vs → EndsAfter o i vs [] → new ≡ old
+      → RefusesPart o i old new
+  no_octets : (vs : List Visited) (v : Visited) → VisitsFirst o i (vs ++ v ∷ []) → AreNotAsked o.place vs
+      → IsAsked o.place vs v → ((w : List ℕ) → ¬ AreOctetsOf i v w) → new ≡ old → RefusesPart o i old new
 
 -- octets aren't elements by BER, or one of these has no form in DER, and nothing is written
 abbrev pub RefusesDer : List ℕ → Option (List ℕ) → Option (List ℕ) → Type 0
@@ -98,9 +143,10 @@ RefusesDer i old new = (e : NotCanonical) × IsCanonErrorOf i (canon.NotCanonica
 -- octets are refused by an action, and this is written: of what a check reports nothing is said
 abbrev pub IsRefusedBy : Action → Options → List ℕ → Option (List ℕ) → Option (List ℕ) → Type 0
 IsRefusedBy Tree o i old new = RefusesTree o i old new
-IsRefusedBy Check o i old new = ¬ AreElements o.rules 101 i
+IsRefusedBy Check o i old new = ¬ AreSomeElements o.rules i
 IsRefusedBy Json o i old new = RefusesJson o i old new
 IsRefusedBy Canon o i old new = RefusesDer i old new
+IsRefusedBy Get o i old new = RefusesPart o i old new
 
 -- what precedes that of a block with this label: a heading of a tree
 abbrev pub WritesHeading : Action → List ℕ → List ℕ → Option (List ℕ) → Option (List ℕ) → Type 0
@@ -108,13 +154,15 @@ WritesHeading Tree name label old new = Appends old new (heading_text name label
 WritesHeading Check name label old new = new ≡ old
 WritesHeading Json name label old new = new ≡ old
 WritesHeading Canon name label old new = new ≡ old
+WritesHeading Get name label old new = new ≡ old
 
 -- what precedes that of a file without blocks, if there are several: before a tree its name
 abbrev pub WritesName : Action → List ℕ → Option (List ℕ) → Option (List ℕ) → Type 0
-WritesName Tree name old new = Appends old new (name ++ codes ":\n")
+WritesName Tree name old new = Appends old new (name_text name ++ codes ":\n")
 WritesName Check name old new = new ≡ old
 WritesName Json name old new = new ≡ old
 WritesName Canon name old new = new ≡ old
+WritesName Get name old new = new ≡ old
 
 -- what is written of a file without blocks, which is these octets
 pub record WritesFile (o : Options) (name i : List ℕ) (old new : Option (List ℕ)) : Type 0 where

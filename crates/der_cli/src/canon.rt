@@ -10,6 +10,7 @@ use crate::origin::Origin;
 use crate::report::report_place;
 use base64::engine::general_purpose::STANDARD;
 use der_canon::{CanonError, canonical};
+use der_walk::Reason;
 use std::alloc::Global;
 use std::io;
 use std::io::{ErrorKind, Write};
@@ -44,7 +45,9 @@ pub(crate) fn write_canonical<W: Write, X: Write>(
         }
         Err(CanonError::NotCanonical(refused)) => {
             out.flush()?;
-            report_place(origin, refused.offset, &refused.path, refused.cause, err)?;
+            let here = octets.get(refused.offset..).unwrap_or(&[]);
+            let reason = Reason::of(refused.cause, here);
+            report_place(origin, refused.offset, &refused.path, reason, err)?;
             Ok(false)
         }
         Err(CanonError::OutOfMemory) => Err(io::Error::from(ErrorKind::OutOfMemory)),

@@ -1,4 +1,5 @@
 //! What is to be done.
+use crate::place::Place;
 use der_input::Form;
 use der_print::Style;
 use der_walk::Rules;
@@ -14,11 +15,13 @@ pub enum Action {
     Json,
     /// Writes the elements as DER writes them.
     Canon,
+    /// Writes the octets of an element.
+    Get,
 }
 
 /// What is to be done with each input.
 #[derive(Clone, Copy, Debug, PartialEq)]
-pub struct Options {
+pub struct Options<'a> {
     pub action: Action,
     /// The rules of the elements.
     pub rules: Rules,
@@ -27,6 +30,16 @@ pub struct Options {
     /// How the inputs are written. None if each is looked at.
     pub form: Option<Form>,
     pub style: Style,
+    /// Where the element is that is listed or written. None for the outermost elements.
+    pub place: Option<Place<'a>>,
+    /// How many elements may be around a listed one, besides those around the place. None for any number.
+    pub depth: Option<usize>,
+    /// Whether an object of JSON has the octets of its element.
+    pub has_octets: bool,
+    /// Whether the content of an element is written, without its header.
+    pub is_content: bool,
+    /// Whether nothing is printed of an input that a check refuses.
+    pub is_quiet: bool,
     /// Whether there are several files. The tree of each begins with its name, and JSON has it.
     pub has_several_files: bool,
 }

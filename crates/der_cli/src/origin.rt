@@ -1,5 +1,6 @@
 //! Where octets are from.
 use crate::label::Label;
+use crate::name::Name;
 use std::fmt;
 
 /// Where octets are from: a file, or a block of PEM in it.
@@ -22,7 +23,7 @@ pub(crate) struct BlockName<'a> {
 
 impl fmt::Display for Origin<'_> {
     fn fmt<W: fmt::Write>(&self, f: &mut fmt::Formatter<W>) -> fmt::Result {
-        let name = self.name;
+        let name = Name(self.name);
         match self.block {
             Some(block) => {
                 let number = block.number;

@@ -1,18 +1,21 @@
 //! What is said of an input that is refused.
-ghost use Rattle.std.specs.Prelude.{◌≡◌, ◌≢◌, IfOk, OnOk, false};
+ghost use Rattle.std.specs.Prelude.{◌≡◌, ◌≢◌, IfOk, OnOk, false, true};
 ghost use Rattle.std.specs.Io.KnownBytes.{Keeps};
 ghost use Rattle.der_cli.specs.declared.options.Action.{Action};
 
+use crate::listing::Listing;
 use crate::options::{Action, Options};
 use crate::origin::Origin;
+use crate::place::Place;
 use der_input::FormError;
-use der_walk::{Cause, Path, Refusal, Walk};
+use der_walk::{Path, Reason, Refusal, Walk};
 use std::io;
 use std::io::Write;
 
-/// Reports the first element that is refused, if there is one.
+/// Reports the first element that is refused, or that the input is empty. An element that breaks a rule inside a string
+/// is neither.
 pub(crate) fn report_first<W: Write>(
-    options: &Options,
+    options: &Options<'_>,
     origin: Origin<'_>,
     octets: &[u8],
     out: &mut W,
@@ -20,13 +23,14 @@ pub(crate) fn report_first<W: Write>(
     let mut walk = Walk::new(octets, options.rules, false);
     match walk.find_fault() {
         Some(refusal) => report(origin, &walk, &refusal, out),
-        None => Ok(()),
+        None if octets.is_empty() => report_missing(None, origin, out),
+        None => writeln!(out, "der: {origin}: an element has no end"),
     }
 }
 
 /// Reports an input or a block whose octets aren't found.
 pub(crate) fn refuse_form<W: Write, X: Write>(
-    options: &Options,
+    options: &Options<'_>,
     origin: Origin<'_>,
     e: FormError,
     out: &mut W,
@@ -36,14 +40,48 @@ pub(crate) fn refuse_form<W: Write, X: Write>(
     ensures quiet { options.now.action ≢ Action.Check
         → OnOk result (Keeps (W.contents out.old) (W.contents out.new)) }
     ensures loud { options.now.action ≡ Action.Check → err.new ≡ err.old }
+    ensures none { options.now.action ≡ Action.Check → options.now.is_quiet ≡ true → out.new ≡ out.old }
 {
     if options.action == Action::Check {
-        writeln!(out, "der: {origin}: {e}")?;
+        if !options.is_quiet {
+            writeln!(out, "der: {origin}: {e}")?;
+        }
     } else {
         out.flush()?;
         writeln!(err, "der: {origin}: {e}")?;
     }
     Ok(false)
+}
+
+/// Reports at the end of a walk that no element was listed. Returns whether one was.
+pub(crate) fn report_end<W: Write, X: Write>(
+    place: Option<Place<'_>>,
+    origin: Origin<'_>,
+    listing: &Listing<'_>,
+    out: &mut W,
+    err: &mut X,
+) -> io::Result<bool>
+    ensures some { IfOk result (λ ok. ok ≡ listing.now.has_some) }
+    ensures keeps { OnOk result (Keeps (W.contents out.old) (W.contents out.new)) }
+{
+    if listing.has_some() {
+        return Ok(true);
+    }
+    out.flush()?;
+    report_missing(place, origin, err)?;
+    Ok(false)
+}
+
+/// Reports that no element is at a place, or that the input is empty.
+pub(crate) fn report_missing<X: Write>(
+    place: Option<Place<'_>>,
+    origin: Origin<'_>,
+    err: &mut X,
+) -> io::Result<()> {
+    match place {
+        Some(place) => writeln!(err, "der: {origin}: {place}"),
+        None => writeln!(err, "der: {origin}: the input is empty"),
+    }
 }
 
 /// Reports where and why a walk refuses an input.
@@ -57,7 +95,7 @@ pub(crate) fn report<X: Write>(
         origin,
         refusal.offset,
         &walk.path(refusal),
-        refusal.cause,
+        walk.reason(refusal),
         err,
     )
 }
@@ -67,11 +105,11 @@ pub(crate) fn report_place<X: Write>(
     origin: Origin<'_>,
     offset: usize,
     path: &Path,
-    cause: Cause,
+    reason: Reason<'_>,
     err: &mut X,
 ) -> io::Result<()> {
     if path.is_empty() {
-        return writeln!(err, "der: {origin}: at {offset}: {cause}");
+        return writeln!(err, "der: {origin}: at {offset}: {reason}");
     }
-    writeln!(err, "der: {origin}: at {offset}, {path}: {cause}")
+    writeln!(err, "der: {origin}: at {offset}, {path}: {reason}")
 }

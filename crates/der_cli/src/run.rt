@@ -1,22 +1,22 @@
 //! What is done with an input.
 ghost use Rattle.std.specs.Prelude.{◌≡◌, ◌≢◌, ◌<◌, ◌↔◌, ℕ, IfErr, IfOk, IsOkAnd, IsTrue, MatchBool, MatchResult};
-ghost use Rattle.std.specs.Prelude.{None, Ok, OnOk, Some, false};
-ghost use Rattle.std.specs.Io.KnownBytes.{Keeps};
-ghost use Rattle.der_check.specs.Elements.{AreElements};
+ghost use Rattle.std.specs.Prelude.{None, Ok, OnOk, Some, false, true};
 ghost use Rattle.der_input.specs.declared.error.FormError.{FormError};
 ghost use Rattle.der_input.specs.declared.form.Form.{Form};
 ghost use Rattle.der_input.specs.Blocks.{label_of, lines_of};
 ghost use Rattle.der_input.specs.Forms.{FindsNoForm};
 ghost use Rattle.der_cli.specs.Inputs.{IsFormOf, ReadsBlock, ReadsBlocks, ReadsInput};
 ghost use Rattle.der_cli.specs.Inputs.{RefusesBlock, RefusesBlocks, RefusesInput};
-ghost use Rattle.der_cli.specs.Outputs.{IsRefusedBy, RefusesFile, Writes, WritesFile, WritesHeading};
+ghost use Rattle.der_cli.specs.Outputs.{AreSomeElements, IsRefusedBy, RefusesFile, Writes, WritesFile, WritesHeading};
 ghost use Rattle.der_cli.specs.Outputs.{WritesInside, WritesName};
 ghost use Rattle.der_cli.specs.declared.options.Action.{Action};
 ghost use Rattle.der_cli.specs.declared.origin.BlockName.{BlockName};
 
 use crate::canon::write_canonical;
+use crate::get::write_part;
 use crate::json::print_json;
 use crate::label::Label;
+use crate::name::Name;
 use crate::options::{Action, Options};
 use crate::origin::{BlockName, Origin};
 use crate::report::{refuse_form, report_first};
@@ -32,14 +32,14 @@ use std::io::{ErrorKind, Write};
 /// read: of a check whether it is elements and nothing else.
 pub fn run<W: Write, X: Write>(
     alloc: Global,
-    options: &Options,
+    options: &Options<'_>,
     name: &str,
     input: &[u8],
     out: &mut W,
     err: &mut X,
 ) -> io::Result<bool>
     ensures checked { options.now.action ≡ Action.Check → options.now.form ≡ Some Form.Der
-        → IfOk result (λ ok. IsTrue ok ↔ AreElements options.now.rules 101 input.now) }
+        → IfOk result (λ ok. IsTrue ok ↔ AreSomeElements options.now.rules input.now) }
     ensures read { IfOk result (λ ok. IsTrue ok
         → ReadsInput options.now name.now input.now (W.contents out.old) (W.contents out.new)) }
     ensures refused { IfOk result (λ ok. ok ≡ false
@@ -62,7 +62,7 @@ pub fn run<W: Write, X: Write>(
 }
 
 /// How an input is written: as is asked for, or as a look at it finds.
-fn form_in(asked: Option<Form>, input: &[u8]) -> Result<Form, FormError>
+pub(crate) fn form_in(asked: Option<Form>, input: &[u8]) -> Result<Form, FormError>
     ensures found { IfOk result (IsFormOf asked input.now) }
     ensures asked { (form : Form) → asked ≡ Some form → result ≡ Ok form }
     ensures none { IfErr result (λ e. (asked ≡ None) × FindsNoForm input.now e) }
@@ -75,7 +75,7 @@ fn form_in(asked: Option<Form>, input: &[u8]) -> Result<Form, FormError>
 
 /// Does it with octets that are decoded, or reports why they aren't.
 fn act_on_decoded<W: Write, X: Write>(
-    options: &Options,
+    options: &Options<'_>,
     name: &str,
     decoded: Result<Vec<u8>, FormError>,
     alloc: Global,
@@ -98,14 +98,14 @@ fn act_on_decoded<W: Write, X: Write>(
 /// Does it with the octets of an input that has no blocks. A tree follows the name, if there are several inputs.
 fn act_on_file<W: Write, X: Write>(
     alloc: Global,
-    options: &Options,
+    options: &Options<'_>,
     name: &str,
     octets: &[u8],
     out: &mut W,
     err: &mut X,
 ) -> io::Result<bool>
     ensures checked { options.now.action ≡ Action.Check
-        → IfOk result (λ ok. IsTrue ok ↔ AreElements options.now.rules 101 octets.now) }
+        → IfOk result (λ ok. IsTrue ok ↔ AreSomeElements options.now.rules octets.now) }
     ensures written { IfOk result (λ ok. IsTrue ok
         → WritesFile options.now name.now octets.now (W.contents out.old) (W.contents out.new)) }
     ensures refused { IfOk result (λ ok. ok ≡ false
@@ -123,7 +123,7 @@ fn act_on_file<W: Write, X: Write>(
 }
 
 /// Writes the name of a file, before its tree if there are several.
-fn write_heading<W: Write>(options: &Options, name: &str, out: &mut W) -> io::Result<()>
+fn write_heading<W: Write>(options: &Options<'_>, name: &str, out: &mut W) -> io::Result<()>
     ensures { OnOk result (MatchBool options.now.has_several_files
         (WritesName options.now.action name.now (W.contents out.old) (W.contents out.new))
         (W.contents out.new ≡ W.contents out.old)) }
@@ -135,26 +135,26 @@ fn write_heading<W: Write>(options: &Options, name: &str, out: &mut W) -> io::Re
 }
 
 /// Writes the name of a file, before its tree.
-fn write_name<W: Write>(options: &Options, name: &str, out: &mut W) -> io::Result<()>
+fn write_name<W: Write>(options: &Options<'_>, name: &str, out: &mut W) -> io::Result<()>
     ensures { OnOk result (WritesName options.now.action name.now (W.contents out.old) (W.contents out.new)) }
 {
     match options.action {
-        Action::Tree => writeln!(out, "{name}:"),
-        Action::Check | Action::Json | Action::Canon => Ok(()),
+        Action::Tree => writeln!(out, "{}:", Name(name)),
+        Action::Check | Action::Json | Action::Canon | Action::Get => Ok(()),
     }
 }
 
 /// Does it with octets.
 fn act<W: Write, X: Write>(
     alloc: Global,
-    options: &Options,
+    options: &Options<'_>,
     origin: Origin<'_>,
     octets: &[u8],
     out: &mut W,
     err: &mut X,
 ) -> io::Result<bool>
     ensures checked { options.now.action ≡ Action.Check
-        → IfOk result (λ ok. IsTrue ok ↔ AreElements options.now.rules 101 octets.now) }
+        → IfOk result (λ ok. IsTrue ok ↔ AreSomeElements options.now.rules octets.now) }
     ensures written { origin.entry.block ≡ None → IfOk result (λ ok. IsTrue ok
         → Writes options.now.action options.now octets.now (W.contents out.old) (W.contents out.new)) }
     ensures inside { (block : BlockName) → origin.entry.block ≡ Some block → IfOk result (λ ok. IsTrue ok
@@ -168,30 +168,34 @@ fn act<W: Write, X: Write>(
         Action::Canon => write_canonical(alloc, origin, octets, out, err),
         Action::Tree => print_tree(alloc, options, origin, octets, out, err),
         Action::Json => print_json(alloc, options, origin, octets, out, err),
+        Action::Get => write_part(alloc, options, origin, octets, out, err),
     }
 }
 
-/// Checks whether octets are elements and nothing else, and reports where and why they aren't.
+/// Checks whether octets are elements, one at least, and nothing else, and reports where and why they aren't.
 fn check<W: Write>(
-    options: &Options,
+    options: &Options<'_>,
     origin: Origin<'_>,
     octets: &[u8],
     out: &mut W,
 ) -> io::Result<bool>
-    ensures checked { IfOk result (λ ok. IsTrue ok ↔ AreElements options.now.rules 101 octets.now) }
-    ensures quiet { IfOk result (λ ok. IsTrue ok → Keeps (W.contents out.old) (W.contents out.new)) }
+    ensures checked { IfOk result (λ ok. IsTrue ok ↔ AreSomeElements options.now.rules octets.now) }
+    ensures none { IfOk result (λ ok. IsTrue ok → out.new ≡ out.old) }
+    ensures quiet { options.now.is_quiet ≡ true → out.new ≡ out.old }
 {
-    if are_elements(octets, options.rules, MAX_DEPTH + 1) {
+    if !octets.is_empty() && are_elements(octets, options.rules, MAX_DEPTH + 1) {
         return Ok(true);
     }
-    report_first(options, origin, octets, out)?;
+    if !options.is_quiet {
+        report_first(options, origin, octets, out)?;
+    }
     Ok(false)
 }
 
 /// Does it with the blocks of a text in PEM.
 fn act_on_blocks<W: Write, X: Write>(
     alloc: Global,
-    options: &Options,
+    options: &Options<'_>,
     name: &str,
     text: &[u8],
     out: &mut W,
@@ -222,7 +226,7 @@ fn act_on_blocks<W: Write, X: Write>(
 /// Does it with a block that so many are before. The tree of a block follows its label.
 fn act_on_block<W: Write, X: Write>(
     alloc: Global,
-    options: &Options,
+    options: &Options<'_>,
     name: &str,
     before: usize,
     block: &Block<'_>,
@@ -250,19 +254,24 @@ fn act_on_block<W: Write, X: Write>(
 }
 
 /// Writes the name of a file and the label of a block, before its tree.
-fn write_label<W: Write>(options: &Options, name: &str, label: &[u8], out: &mut W) -> io::Result<()>
+fn write_label<W: Write>(
+    options: &Options<'_>,
+    name: &str,
+    label: &[u8],
+    out: &mut W,
+) -> io::Result<()>
     ensures { OnOk result (WritesHeading options.now.action name.now label.now
         (W.contents out.old) (W.contents out.new)) }
 {
     match options.action {
-        Action::Tree => writeln!(out, "{name}: {}", Label(label)),
-        Action::Check | Action::Json | Action::Canon => Ok(()),
+        Action::Tree => writeln!(out, "{}: {}", Name(name), Label(label)),
+        Action::Check | Action::Json | Action::Canon | Action::Get => Ok(()),
     }
 }
 
 /// Reports a file whose octets aren't found.
 fn refuse_file<W: Write, X: Write>(
-    options: &Options,
+    options: &Options<'_>,
     name: &str,
     e: FormError,
     out: &mut W,

@@ -65,7 +65,7 @@ an indefinite length has no end-of-contents octets (X.690 8.1.3.6)\n",
 ];
 
 /// How the tool reads: a tree, by these rules.
-fn options(rules: Rules) -> Options {
+fn options(rules: Rules) -> Options<'static> {
     Options {
         action: Action::Tree,
         rules,
@@ -75,6 +75,11 @@ fn options(rules: Rules) -> Options {
             limit: Limit::Front,
             colours: false,
         },
+        place: None,
+        depth: None,
+        has_octets: false,
+        is_content: false,
+        is_quiet: false,
         has_several_files: false,
     }
 }

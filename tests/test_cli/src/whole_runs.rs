@@ -22,6 +22,16 @@ struct Machine<'a, R> {
     variables: &'a [Variable],
 }
 
+impl<R> Clone for Machine<'_, R> {
+    fn clone(&self) -> Result<Self, AllocError> {
+        Ok(Machine {
+            rt: self.rt,
+            arguments: self.arguments,
+            variables: self.variables,
+        })
+    }
+}
+
 /// Writes a text to the front of a buffer.
 fn fill(text: Option<&str>, buf: &mut [u8]) -> Result<usize, FillError> {
     match text {
@@ -188,7 +198,7 @@ const FORMS: &[u8] = b"\
 BQA=
 -----END A-----
 -----BEGIN B-----
-BQA
+AgEF=
 -----END B-----
 -----BEGIN C-----
 BQA=
@@ -199,14 +209,14 @@ const ROWS: [Row; 6] = [
         arguments: &["der", "tree"],
         input: CUT,
         screen: "      0  2+0       NULL\n\
-der: standard input: at 2: the input is cut, at least 1 octet is missing (X.690 8.1.1)\n",
+der: standard input: at 2: 1 octet after the end\n",
     },
     Row {
         arguments: &["der", "json"],
         input: CUT,
         screen: "{\"offset\":0,\"depth\":0,\"header\":2,\"length\":0,\"class\":\"universal\",\"tag\":5,\
-\"constructed\":false,\"type\":\"NULL\",\"value\":null}\n\
-der: standard input: at 2: the input is cut, at least 1 octet is missing (X.690 8.1.1)\n",
+\"constructed\":false,\"type\":\"NULL\",\"path\":\"NULL[0]\",\"value\":null}\n\
+der: standard input: at 2: 1 octet after the end\n",
     },
     Row {
         arguments: &["der", "canon"],
@@ -225,12 +235,14 @@ der: standard input: a block without its line -----END ..-----\n",
     Row {
         arguments: &["der", "tree", "/dev/null", "nothing.der"],
         input: b"",
-        screen: "/dev/null:\nder: nothing.der: No such file or directory (os error 2)\n",
+        screen: "/dev/null:\nder: /dev/null: the input is empty\n\
+der: nothing.der: No such file or directory (os error 2)\n",
     },
     Row {
         arguments: &["der", "tree", "nothing.der", "/dev/null"],
         input: b"",
-        screen: "der: nothing.der: No such file or directory (os error 2)\n/dev/null:\n",
+        screen: "der: nothing.der: No such file or directory (os error 2)\n\
+/dev/null:\nder: /dev/null: the input is empty\n",
     },
 ];
 
@@ -295,55 +307,61 @@ fn a_failed_read_is_reported(rt: HostRuntime) {
     assert_eq!(rt; status, ExitCode::FAILURE);
 }
 
-/// An output, the variables, and whether a long text is cut there and lines have colours.
+/// An output, the variables, how many characters of a long text are shown there, and whether lines have colours.
 struct Output {
     is_terminal: bool,
     variables: &'static [Variable],
-    is_cut: bool,
+    shown: usize,
     has_colours: bool,
 }
 
-const OUTPUTS: [Output; 7] = [
+const OUTPUTS: [Output; 8] = [
     Output {
         is_terminal: true,
         variables: &[],
-        is_cut: true,
+        shown: 31,
         has_colours: true,
     },
     Output {
         is_terminal: true,
         variables: &[("NO_COLOR", ""), ("COLUMNS", "")],
-        is_cut: true,
+        shown: 31,
         has_colours: true,
     },
     Output {
         is_terminal: true,
         variables: &[("NO_COLOR", "0"), ("COLUMNS", "wide")],
-        is_cut: true,
+        shown: 31,
         has_colours: false,
     },
     Output {
         is_terminal: true,
         variables: &[("COLUMNS", "200"), ("NO_COLOR", "1")],
-        is_cut: false,
+        shown: 121,
         has_colours: false,
     },
     Output {
         is_terminal: true,
         variables: &[("COLUMNS", " 200 ")],
-        is_cut: false,
+        shown: 121,
         has_colours: true,
     },
     Output {
         is_terminal: false,
         variables: &[("COLUMNS", "200")],
-        is_cut: true,
+        shown: 120,
+        has_colours: false,
+    },
+    Output {
+        is_terminal: true,
+        variables: &[("TERM", "dumb"), ("COLUMNS", "200")],
+        shown: 121,
         has_colours: false,
     },
     Output {
         is_terminal: false,
         variables: &[],
-        is_cut: true,
+        shown: 120,
         has_colours: false,
     },
 ];
@@ -358,12 +376,13 @@ fn long_text(alloc: Global) -> Result<Vec<u8>, AllocError> {
     Ok(octets)
 }
 
-/// Its line: a text is cut to 120 octets, and in colours the numbers are dim and the type is bold.
+/// Its line: a text is cut to 120 octets, or to the 80 columns of a terminal. In colours the numbers are dim and the type
+/// is bold.
 fn line_of_long_text(alloc: Global, output: &Output) -> Result<String, AllocError> {
-    let (count, end) = if output.is_cut {
-        (120, "...\" (121 octets)\n")
+    let end = if output.shown < 121 {
+        "...\" (121 octets)\n"
     } else {
-        (121, "\"\n")
+        "\"\n"
     };
     let start = if output.has_colours {
         "\x1b[2m      0  2+121     \x1b[0m\x1b[1mUTF8String\x1b[0m \""
@@ -372,7 +391,7 @@ fn line_of_long_text(alloc: Global, output: &Output) -> Result<String, AllocErro
     };
     let mut line = String::new(alloc);
     line.push_str(start)?;
-    for _ in 0..count {
+    for _ in 0..output.shown {
         line.push('x')?;
     }
     line.push_str(end)?;

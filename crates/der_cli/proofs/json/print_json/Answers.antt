@@ -1,25 +1,42 @@
-use Rattle.std.proofs.KnownBytes.{Appends-kept}
-use Rattle.der_cli.specs.Outputs.{extras_of}
-use Rattle.der_cli.proofs.Printing.{listed_all, listed_more, listed_none}
+use Rattle.std.proofs.Common.{inl, inr}
+use Rattle.std.specs.Io.KnownBytes.{Keeps}
+use Rattle.der_cli.specs.Outputs.{RefusesJson, WritesJson, extras_of}
+use Rattle.der_cli.proofs.Printing.{end_reads, end_refuses, listed_all, listed_before, listed_more, listed_none}
 use Rattle.der_cli.proofs.json.print_json.Goals as goal
 
 pub elements-init : goal.elements-init
-elements-init g c = record { listed = listed_none _ (c.keeping_values-walk.ensures _ _ _ c.new.ensures) }
+elements-init g c = record { listed = listed_none _ (c.keeping_values-walk.ensures _ _ _ c.new.ensures) c.new-listing.ensures }
 
 pub elements-preserved : goal.elements-preserved
 elements-preserved g c =
     let p = c.elements.invariant.listed in
-    let next = rw c.in-Ok-Some.field-0-is at (c.in-Ok-Some.ensures.visits (extras_of c.args.options.now) c.args.options.now.rules c.args.octets.now p.elements p.visited) in
-    record { listed = listed_more _ p next.0 c.in_ok-write_json-in-Ok-Some.ensures }
+    let o = c.args.options.now in
+    let next = rw c.in-Ok-Some.field-0-is at (c.in-Ok-Some.ensures.visits (extras_of o) o.rules c.args.octets.now p.elements p.visited) in
+    record { listed = listed_more _ _ p next.0 (c.in_ok-taken-in-Ok-Some.ensures o p.elements p.listed p.chosen next.2) c.in_ok-write_taken-in-Ok-Some.ensures }
 
 pub returns-in-Ok-None-clause-read : goal.returns-in-Ok-None-clause-read
 returns-in-Ok-None-clause-read g c =
     let p = c.elements.invariant.listed in
-    let all = rw c.in-Ok-None.field-0-is at (c.in-Ok-None.ensures.visits (extras_of c.args.options.now) c.args.options.now.rules c.args.octets.now p.elements p.visited) in
-    λ ok. listed_all p all
+    let o = c.args.options.now in
+    let i = c.args.octets.now in
+    let all = rw c.in-Ok-None.field-0-is at (c.in-Ok-None.ensures.visits (extras_of o) o.rules i p.elements p.visited) in
+    end_reads c.report_end.result _ (Keeps (g.W.Write.contents c.elements.out) (g.W.Write.contents c.report_end.new.out))
+    (WritesJson o i (g.W.Write.contents c.args.out.now) (g.W.Write.contents c.report_end.new.out)) (λ some keeps. listed_all p all some keeps) c.report_end.ensures.some
+    c.report_end.ensures.keeps
+
+pub returns-in-Ok-None-clause-refused : goal.returns-in-Ok-None-clause-refused
+returns-in-Ok-None-clause-refused g c =
+    let p = c.elements.invariant.listed in
+    let o = c.args.options.now in
+    let i = c.args.octets.now in
+    let all = rw c.in-Ok-None.field-0-is at (c.in-Ok-None.ensures.visits (extras_of o) o.rules i p.elements p.visited) in
+    end_refuses c.report_end.result _ (Keeps (g.W.Write.contents c.elements.out) (g.W.Write.contents c.report_end.new.out))
+    (RefusesJson o i (g.W.Write.contents c.args.out.now) (g.W.Write.contents c.report_end.new.out))
+    (λ none keeps. listed_before p (inr (all, p.chosen.none none)) keeps) c.report_end.ensures.some c.report_end.ensures.keeps
 
 pub returns-in-Err-clause-refused : goal.returns-in-Err-clause-refused
 returns-in-Err-clause-refused g c =
     let p = c.elements.invariant.listed in
-    let refused = c.in-Err.ensures.visits (extras_of c.args.options.now) c.args.options.now.rules c.args.octets.now p.elements p.visited in
-    λ no. record { elements = p.elements; refused = (_, _, refused); text = p.text; lines = p.lines; adds = Appends-kept _ _ _ p.text p.adds c.in_ok-flush-in-Err.ensures.bytes }
+    let o = c.args.options.now in
+    let refused = c.in-Err.ensures.visits (extras_of o) o.rules c.args.octets.now p.elements p.visited in
+    λ no. listed_before p (inl (_, _, refused)) c.in_ok-flush-in-Err.ensures.bytes

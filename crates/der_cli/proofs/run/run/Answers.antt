@@ -1,10 +1,10 @@
-use Rattle.std.proofs.Common.{◌≡◌, ◌≢◌, ◌<◌, Bool, Err, IfOk, IsErr, IsOkAnd, IsTrue, MatchResult, Ok, Result, filter, refl, ℕ}
-use Rattle.base64.specs.Engines.{standard}
+use Rattle.std.proofs.Common.{◌≡◌, ◌≢◌, ◌<◌, Bool, Err, IfOk, IsErr, IsOkAnd, IsTrue, MatchResult, Ok, Result, refl, ℕ}
+use Rattle.base64.specs.Engines.{standard_pad_indifferent}
 use Rattle.base64.specs.GeneralPurpose.{decode_of as base64_decode_of}
 use Rattle.hex.specs.Hex.{decode_of as hex_decode_of}
 use Rattle.der_input.specs.declared.error.FormError.TheVariants as error
 use Rattle.der_input.specs.declared.form.Form.TheVariants.{Base64, Der, Hex, Pem}
-use Rattle.der_input.specs.Plain.{is_character, is_digit}
+use Rattle.der_input.specs.Plain.{characters_of, digits_of}
 use Rattle.der_cli.specs.Inputs.{ReadsBlocks, ReadsInput, RefusesBlocks, RefusesInput, blocks, octets, refused_blocks, refused_octets, without_form, without_octets}
 use Rattle.der_cli.specs.Outputs.{RefusesFile, WritesFile}
 use Rattle.der_cli.proofs.Printing.{then_reads, then_refuses}
@@ -48,7 +48,7 @@ returns-in-Ok-Hex-clause-read g c =
     let r = c.decode_hex.result in
     let form = rw c.in-Ok-Hex.field-0-is at c.in-Ok-Hex.ensures.found in
     then_reads c.act_on_decoded.result (IsOkAnd r (λ v. WritesFile o c.args.name.now v.items old new)) (ReadsInput o c.args.name.now i old new)
-    (λ written. let k = both r (λ v. WritesFile o c.args.name.now v.items old new) (λ v. hex_decode_of (filter is_digit i) ≡ Ok v.items) written c.decode_hex.ensures.ok in octets Hex k.0.items form k.2 k.1)
+    (λ written. let k = both r (λ v. WritesFile o c.args.name.now v.items old new) (λ v. hex_decode_of (digits_of i) ≡ Ok v.items) written c.decode_hex.ensures.ok in octets Hex k.0.items form k.2 k.1)
     c.act_on_decoded.ensures.read
 
 pub returns-in-Ok-Base64-clause-read : goal.returns-in-Ok-Base64-clause-read
@@ -61,7 +61,7 @@ returns-in-Ok-Base64-clause-read g c =
     let form = rw c.in-Ok-Base64.field-0-is at c.in-Ok-Base64.ensures.found in
     then_reads c.act_on_decoded-in-Ok-Base64.result (IsOkAnd r (λ v. WritesFile o c.args.name.now v.items old new)) (ReadsInput o c.args.name.now i old new)
     (λ written.
-    let k = both r (λ v. WritesFile o c.args.name.now v.items old new) (λ v. base64_decode_of standard (filter is_character i) ≡ Ok v.items) written c.decode_base64.ensures.ok in
+    let k = both r (λ v. WritesFile o c.args.name.now v.items old new) (λ v. base64_decode_of standard_pad_indifferent (characters_of i) ≡ Ok v.items) written c.decode_base64.ensures.ok in
     octets Base64 k.0.items form k.2 k.1)
     c.act_on_decoded-in-Ok-Base64.ensures.read
 
@@ -103,7 +103,7 @@ returns-in-Ok-Hex-clause-refused g c =
     let new = g.W.Write.contents c.act_on_decoded.new.out in
     let r = c.decode_hex.result in
     let form = rw c.in-Ok-Hex.field-0-is at c.in-Ok-Hex.ensures.found in
-    let spelled = hex_decode_of (filter is_digit i) in
+    let spelled = hex_decode_of (digits_of i) in
     then_refuses c.act_on_decoded.result (MatchResult r (λ v. RefusesFile o name v.items old new) (λ e. e ≢ error.OutOfMemory)) (RefusesInput o name i old new)
     (λ h.
     of_digits r (λ v. RefusesFile o name v.items old new) (λ v. spelled ≡ Ok v.items) error.Hex (IsErr spelled) (RefusesInput o name i old new) h c.decode_hex.ensures.ok c.decode_hex.ensures.err
@@ -119,7 +119,7 @@ returns-in-Ok-Base64-clause-refused g c =
     let new = g.W.Write.contents c.act_on_decoded-in-Ok-Base64.new.out in
     let r = c.decode_base64.result in
     let form = rw c.in-Ok-Base64.field-0-is at c.in-Ok-Base64.ensures.found in
-    let spelled = base64_decode_of standard (filter is_character i) in
+    let spelled = base64_decode_of standard_pad_indifferent (characters_of i) in
     then_refuses c.act_on_decoded-in-Ok-Base64.result (MatchResult r (λ v. RefusesFile o name v.items old new) (λ e. e ≢ error.OutOfMemory)) (RefusesInput o name i old new)
     (λ h.
     of_digits r (λ v. RefusesFile o name v.items old new) (λ v. spelled ≡ Ok v.items) error.Base64 (IsErr spelled) (RefusesInput o name i old new) h c.decode_base64.ensures.ok c.decode_base64.ensures.err

@@ -2,9 +2,11 @@ use Rattle.der_walk.specs.Ends.{octets_ahead}
 use Rattle.der_cli.proofs.Printing.{HasPrinted}
 use Rattle.der_cli.proofs.tree.print_tree.Given as goal
 
--- the lines of the elements that were visited are written
+-- the lines of the listed elements that were visited are written
 abbrev pub invariant-elements : goal.invariant-elements
-invariant-elements g l = record { printed : HasPrinted l.options l.octets l.walk (g.W.Write.contents l.fn.out) (g.W.Write.contents l.out) }
+invariant-elements g l = record {
+  printed : HasPrinted l.options l.octets l.walk l.listing (g.W.Write.contents l.fn.out) (g.W.Write.contents l.out);
+}
 
 abbrev pub decreases-elements : goal.decreases-elements
 decreases-elements g l = octets_ahead l.walk

@@ -1,0 +1,61 @@
+//! How many files a check refuses.
+use der_walk::Rules;
+use std::io;
+use std::io::Write;
+
+/// How many files are read, and how many of them are refused or can't be read.
+#[derive(Clone, Copy)]
+pub(crate) struct Summary {
+    files: usize,
+    refused: usize,
+    unread: usize,
+}
+
+impl Summary {
+    /// Before the first file.
+    pub(crate) fn new() -> Summary {
+        Summary {
+            files: 0,
+            refused: 0,
+            unread: 0,
+        }
+    }
+
+    /// Counts a file, which was read or refused.
+    pub(crate) fn add(&mut self, is_read: bool) {
+        self.files = self.files.saturating_add(1);
+        if !is_read {
+            self.refused = self.refused.saturating_add(1);
+        }
+    }
+
+    /// Counts a file that can't be read.
+    pub(crate) fn add_unread(&mut self) {
+        self.files = self.files.saturating_add(1);
+        self.unread = self.unread.saturating_add(1);
+    }
+
+    /// Whether all files were read.
+    pub(crate) fn is_good(&self) -> bool {
+        self.refused == 0 && self.unread == 0
+    }
+
+    /// Writes it, as `12 files, 2 aren't DER`.
+    pub(crate) fn write<W: Write>(&self, rules: Rules, out: &mut W) -> io::Result<()> {
+        let rules = match rules {
+            Rules::Ber => "BER",
+            Rules::Der => "DER",
+        };
+        write!(out, "{} files", self.files)?;
+        match self.refused {
+            0 if self.unread == 0 => write!(out, ", all are {rules}")?,
+            0 => {}
+            1 => write!(out, ", 1 isn't {rules}")?,
+            refused => write!(out, ", {refused} aren't {rules}")?,
+        }
+        if self.unread > 0 {
+            write!(out, ", {} can't be read", self.unread)?;
+        }
+        writeln!(out, "")
+    }
+}
