@@ -7,7 +7,8 @@ import sys
 HEADINGS = ("Commands", "Arguments", "Options")
 # A line of a list: the term, and what is said of it
 LINE = re.compile(r" {2,}(\S.*?) {2,}(\S.*)")
-VALUES = re.compile(r" \[possible values: (.*)\]$")
+# The values of an option, as `Read as der, pem or hex, not ..` names them
+VALUES = re.compile(r"^Read as ((?:\w+, )*\w+) or (\w+)\b")
 
 
 @dataclasses.dataclass
@@ -44,10 +45,9 @@ def rows_of(lines):
 
 def option_of(term, text):
     names, _, value = term.partition(" <")
-    values = VALUES.search(text)
-    return Option(
-        names.split(", "), value.rstrip(">"), values[1].split(", ") if values else [], VALUES.sub("", text)
-    )
+    found = VALUES.search(text)
+    values = [*found[1].split(", "), found[2]] if found else []
+    return Option(names.split(", "), value.rstrip(">"), values, text)
 
 
 def read_help(name, text):
@@ -87,8 +87,7 @@ def roff_list(rows):
 def roff_options(options):
     rows = []
     for it in options:
-        values = f" One of {', '.join(it.values)}." if it.values else ""
-        rows.append((", ".join(it.names) + (f" {it.value}" if it.value else ""), sentence(it.text) + values))
+        rows.append((", ".join(it.names) + (f" {it.value}" if it.value else ""), sentence(it.text)))
     return roff_list(rows)
 
 
