@@ -1,3 +1,4 @@
 pub mod Elements
 pub mod Lines
 pub mod Positions
+pub mod Searches

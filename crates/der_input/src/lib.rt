@@ -5,6 +5,7 @@ mod error;
 mod form;
 mod pem;
 mod plain;
+mod search;
 mod slices;
 
 pub use error::FormError;

@@ -1,5 +1,5 @@
 //! Blocks of PEM (RFC 7468), with text around them.
-ghost use Rattle.std.specs.Prelude.{◌≡◌, ◌↔◌, ◌+◌, ◌≤◌, length, drop, take, codes};
+ghost use Rattle.std.specs.Prelude.{◌≡◌, ◌↔◌, ◌+◌, ◌≤◌, length, take, codes};
 ghost use Rattle.std.specs.Prelude.{IfErr, IfOk, IfSome, IsTrue, MatchOption};
 ghost use Rattle.bstr.specs.Find.{FindsNeedle};
 ghost use Rattle.bstr.specs.Text.{Contains};
@@ -10,8 +10,8 @@ ghost use Rattle.der_input.specs.Forms.{HasNoBlock};
 
 use crate::error::FormError;
 use crate::plain::{decode_base64, is_mark};
+use crate::search::{contains, find, rest_from};
 use crate::slices::decode_base64_into;
-use bstr::ByteSlice;
 use std::alloc::Global;
 
 /// Begins a block, before its label.
@@ -61,7 +61,7 @@ impl Block<'_> {
     fn is_encrypted(&self) -> bool
         ensures { IsTrue result ↔ IsEncrypted (lines_of self.now) }
     {
-        self.lines.contains_str(ENCRYPTED)
+        contains(self.lines, ENCRYPTED)
     }
 }
 
@@ -83,7 +83,7 @@ pub fn next_block(text: &[u8]) -> Result<Option<(Block<'_>, &[u8])>, FormError>
     let Some((lines, end)) = split_round(opened, END) else {
         return Err(FormError::NoEnd);
     };
-    if lines.contains_str(DASHES) {
+    if contains(lines, DASHES) {
         return Err(FormError::NoEnd);
     }
     match split_round(end, DASHES) {
@@ -122,17 +122,8 @@ fn next_begin(text: &[u8], from: usize) -> Option<usize>
     ensures { FindsNeedle text.now (codes "-----BEGIN ") from result }
 {
     let rest = rest_from(text, from);
-    let distance = rest.find(BEGIN)?;
+    let distance = find(rest, BEGIN)?;
     Some(from + distance)
-}
-
-/// What is left of a text from an offset on.
-fn rest_from(text: &[u8], from: usize) -> &[u8]
-    requires { from ≤ length text.now }
-    ensures { result.now ≡ drop from text.now }
-{
-    let (_, rest) = text.split_at(from);
-    rest
 }
 
 /// Whether a line begins after these octets, or nothing but an indent is on it yet.
@@ -162,7 +153,7 @@ fn split_round<'a>(text: &'a [u8], needle: &[u8]) -> Option<(&'a [u8], &'a [u8])
     ensures { MatchOption result (¬ Contains text.now needle.now)
         (λ x. SplitsRound text.now needle.now x.0.now x.1.now) }
 {
-    let place = text.find(needle)?;
+    let place = find(text, needle)?;
     let (before, rest) = text.split_at(place);
     let (_, after) = rest.split_at(needle.len());
     Some((before, after))

@@ -1,2 +1,1 @@
 pub mod OwnLaws
-pub mod TableLaws

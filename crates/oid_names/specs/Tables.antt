@@ -8,7 +8,3 @@ EndsLine w = (w ≡ []) ⊎ ((front : List ℕ) × (w ≡ front ++ 10 ∷ []))
 -- one of the lines of the table is this line
 abbrev pub HasLine : List ℕ → List ℕ → Type 0
 HasLine table line = (before : List ℕ) × (after : List ℕ) × (table ≡ before ++ line ++ 10 ∷ after) × EndsLine before
-
--- lines are others, a line and further ones
-abbrev pub Splits : List ℕ → List ℕ → List ℕ → List ℕ → Type 0
-Splits lines before line after = (lines ≡ before ++ line ++ 10 ∷ after) × EndsLine before

@@ -1,20 +1,21 @@
 //! The names of object identifiers.
 #![tactic(auto)]
 
-ghost use Rattle.std.specs.Prelude.{◌≡◌, ◌≤◌, ◌++◌, ◌∷◌, IfSome, length, take};
+ghost use Rattle.std.specs.Prelude.{◌≡◌, ◌++◌, ◌∷◌, IfSome, IsTrue, List, ℕ};
 ghost use Rattle.hex.specs.Hex.{encode_lower};
-ghost use Rattle.oid_names.specs.Tables.{EndsLine, HasLine, Splits};
+ghost use Rattle.oid_names.specs.Tables.{EndsLine, HasLine};
 
 mod own;
 mod table;
 
-use memchr::{memchr, memrchr};
+use memchr::memchr;
 pub use own::{NamesError, OwnNames, name_among};
 use std::str;
 pub use table::NAMES;
+use table::{LINES, SMALLER};
 
-/// The most halvings of the table.
-const HALVINGS: u32 = 32;
+/// How many hashes there are.
+const HASHES: u64 = 1024;
 
 /// The most hexadecimal digits of an identifier that has a name.
 const DIGITS: usize = 128;
@@ -26,26 +27,76 @@ pub fn name_of(octets: &[u8]) -> Option<&'static str>
     let mut room = [0; DIGITS];
     let digits = room.get_mut(..octets.len().checked_mul(2)?)?;
     match hex::encode_to_slice(octets, digits) {
-        Ok(()) => find_name(NAMES.as_bytes(), digits),
+        Ok(()) => find_name(NAMES.as_bytes(), lines_with(hash_of(octets)), digits),
         Err(_) => None,
     }
 }
 
-/// The name on the line of a table that begins with these digits and a space, if there is one. The lines are
-/// in ascending order.
-fn find_name<'a>(table: &'a [u8], digits: &[u8]) -> Option<&'a str>
+/// A number for content octets, by which the lines are found.
+fn hash_of(octets: &[u8]) -> usize {
+    let mut hash: u64 = 0;
+    for octet in octets {
+        hash = hash.wrapping_mul(31).wrapping_add(u64::from(*octet));
+    }
+    (hash % HASHES) as usize
+}
+
+/// Where the lines begin whose octets have this hash.
+fn lines_with(hash: usize) -> &'static [u16] {
+    match (SMALLER.get(hash), SMALLER.get(hash.saturating_add(1))) {
+        (Some(first), Some(end)) => LINES
+            .get(usize::from(*first)..usize::from(*end))
+            .unwrap_or(&[]),
+        _ => &[],
+    }
+}
+
+/// The name on one of the lines of a table that begin at these offsets: the first that begins with these digits and a
+/// space.
+fn find_name<'a>(table: &'a [u8], begins: &[u16], digits: &[u8]) -> Option<&'a str>
     ensures { IfSome result (λ name. HasLine table.now (digits.now ++ 0x20 ∷ name.now)) }
 {
-    let mut lines = table;
-    'halvings: for _ in 0..HALVINGS {
-        let (before, line, after) = middle_line(lines)?;
-        let (first, name) = split_once(line, b' ')?;
-        if first == digits {
-            return text_of(name);
+    for begin in begins {
+        if let Some(name) = name_at(table, usize::from(*begin), digits) {
+            return Some(name);
         }
-        lines = if first < digits { after } else { before };
     }
     None
+}
+
+/// The name on the line of a table that begins at an offset, if it begins with these digits and a space.
+fn name_at<'a>(table: &'a [u8], begin: usize, digits: &[u8]) -> Option<&'a str>
+    ensures { IfSome result (λ name. HasLine table.now (digits.now ++ 0x20 ∷ name.now)) }
+{
+    let (before, line) = table.split_at_checked(begin)?;
+    let (first, rest) = line.split_at_checked(digits.len())?;
+    if first == digits && ends_line(before) {
+        name_behind(rest)
+    } else {
+        None
+    }
+}
+
+/// The name on a line behind its digits, after a space.
+fn name_behind(rest: &[u8]) -> Option<&str>
+    ensures { IfSome result (λ name. (after : List ℕ) × (rest.now ≡ 0x20 ∷ (name.now ++ 0x0a ∷ after))) }
+{
+    let (digits, behind) = split_once(rest, b' ')?;
+    if !digits.is_empty() {
+        return None;
+    }
+    let (name, _) = split_once(behind, b'\n')?;
+    text_of(name)
+}
+
+/// Whether a line begins after these octets.
+fn ends_line(octets: &[u8]) -> bool
+    ensures { IsTrue result → EndsLine octets.now }
+{
+    match octets.split_last() {
+        Some((last, _)) => *last == b'\n',
+        None => true,
+    }
 }
 
 /// The text, if octets are UTF-8.
@@ -53,27 +104,6 @@ fn text_of(octets: &[u8]) -> Option<&str>
     ensures { IfSome result (λ text. text.now ≡ octets.now) }
 {
     str::from_utf8(octets).ok()
-}
-
-/// The line in the middle, and the lines before and after it. None if there is no line.
-fn middle_line(lines: &[u8]) -> Option<(&[u8], &[u8], &[u8])>
-    ensures { IfSome result (λ x. Splits lines.now x.0.now x.1.now x.2.now) }
-{
-    let begin = last_begin(&lines[..lines.len() / 2]);
-    let (before, rest) = lines.split_at(begin);
-    let (line, after) = split_once(rest, b'\n')?;
-    Some((before, line, after))
-}
-
-/// Where the last line begins.
-fn last_begin(lines: &[u8]) -> usize
-    ensures within { result ≤ length lines.now }
-    ensures begins { EndsLine (take result lines.now) }
-{
-    match memrchr(b'\n', lines) {
-        Some(place) => place + 1,
-        None => 0,
-    }
 }
 
 /// What is before and after an octet, where it is first.

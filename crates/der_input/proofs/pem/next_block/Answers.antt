@@ -36,6 +36,6 @@ pub returns-in-None-clause-err : goal.returns-in-None-clause-err
 returns-in-None-clause-err c =
     endless_end _ _ _ _ _ refl c.in-Some.ensures c.in-Some-split_round.ensures c.in-Some-split_round-2.ensures c.in-None.ensures
 
-pub returns-then-contains_str-clause-err : goal.returns-then-contains_str-clause-err
-returns-then-contains_str-clause-err c =
+pub returns-then-contains-clause-err : goal.returns-then-contains-clause-err
+returns-then-contains-clause-err c =
     other_lines _ _ _ _ _ refl c.in-Some.ensures c.in-Some-split_round.ensures c.in-Some-split_round-2.ensures (search rules)
