@@ -10,11 +10,11 @@ use Rattle.der_walk.specs.declared.content.End.TheVariants.{At, After, Unlimited
 use Rattle.der_walk.specs.declared.walk.Walk.{Walk}
 use Rattle.der_walk.specs.Faults.{outermost_end}
 
--- no element begins where this is the cause
+-- no element begins where this is the cause, nor a header that breaks a rule
 abbrev pub begins_none : Cause → Bool
 begins_none (Cut n) = true
 begins_none EndMarker = true
-begins_none (Header e) = true
+begins_none (Header e) = false
 begins_none (PastEnd n) = false
 begins_none NoEndMarker = false
 begins_none (Value e) = false

@@ -100,11 +100,11 @@ fn octets_are(number: usize) -> &'static str {
 }
 
 impl Cause {
-    /// Whether no element begins where this is the cause.
+    /// Whether no element begins where this is the cause, not even a header that breaks a rule.
     pub(crate) fn begins_none(self) -> bool
         ensures { result ≡ begins_none self }
     {
-        matches!(self, Cause::Cut(_) | Cause::EndMarker | Cause::Header(_))
+        matches!(self, Cause::Cut(_) | Cause::EndMarker)
     }
 
     /// The rule that is broken.
