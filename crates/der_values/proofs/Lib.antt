@@ -2,10 +2,11 @@ mod ContentLaws
 mod DecimalDigits
 pub mod DecodedContents
 pub mod Identifiers
-mod OctetNumbers
+mod LimbNumbers
 mod PaddedArcs
 mod SmallArcs
 pub mod Subidentifiers
 mod TimeTests
+mod TurnedBits
 mod UnusedBits
 mod WideArcs
