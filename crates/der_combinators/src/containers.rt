@@ -3,7 +3,7 @@ ghost use Rattle.std.specs.Prelude.{◌≡◌};
 ghost use Rattle.der_base.specs.declared.rules.Rules.TheVariants.{Ber, Der};
 ghost use Rattle.der_base.specs.Containers.{ElementRun, Keeps, NumberRun};
 
-use crate::opened::{open_element, open_number, parse_content};
+use crate::opening::{open_element, open_number, parse_content};
 use der_base::error::{BerError, IResult, ParseError};
 use der_base::header::{Header, Tag};
 use der_base::rules::Rules;

@@ -9,7 +9,7 @@ ghost use Rattle.der_combinators.specs.Lists.{ItemSteps, OnItems};
 
 use crate::item::{compared_octets, take_item};
 use crate::list_type::ListType;
-use crate::opened::Opened;
+use crate::opening::Opened;
 use der_base::error::{BerError, Err, IResult, ParseError};
 use der_base::rules::Rules;
 use der_object::BerObject;

@@ -7,10 +7,10 @@ mod item;
 mod items;
 mod list_type;
 pub mod lists;
-mod made;
-mod opened;
+mod opening;
 pub mod slice;
 pub mod tagged;
+mod wrapping;
 
 pub use containers::{
     Container, NumberedContainer, parse_ber_container, parse_ber_sequence_defined_g,

@@ -7,8 +7,8 @@ ghost use Rattle.der_combinators.specs.Lists.{IsListOf, OnItems, list_number};
 
 use crate::items::{parse_items, parse_objects};
 use crate::list_type::ListType;
-use crate::made::with_list;
-use crate::opened::{open_number, parse_list_content};
+use crate::opening::{open_number, parse_list_content};
+use crate::wrapping::with_list;
 use der_base::error::{BerError, IResult, ParseError};
 use der_base::rules::Rules;
 use der_object::BerObject;

@@ -5,7 +5,7 @@ ghost use Rattle.der_base.specs.Answer.{MatchAnswer};
 ghost use Rattle.der_base.specs.Containers.{OpeningLacks};
 ghost use Rattle.der_combinators.specs.Slices.{AnswersSlice, ReadsSlice, SliceRefuses};
 
-use crate::opened::open_element;
+use crate::opening::open_element;
 use der_base::error::{BerError, IResult};
 use der_base::header::Tag;
 use der_base::rules::Rules;

@@ -6,8 +6,8 @@ ghost use Rattle.der_base.specs.Containers.{ExplicitRun, Keeps, LetsGo, MadeInMe
 ghost use Rattle.der_base.specs.Containers.{OnContent, OnImplicit};
 ghost use Rattle.der_object.specs.Combined.{IsTagged, MakesObject, OptionalRun};
 
-use crate::made::{may_be_absent, parse_object_content, parse_tagged_content};
-use crate::opened::{open_explicit, open_number, parse_content, parse_implicit_content};
+use crate::opening::{open_explicit, open_number, parse_content, parse_implicit_content};
+use crate::wrapping::{may_be_absent, parse_object_content, parse_tagged_content};
 use der_base::error::{BerError, IResult, ParseError};
 use der_base::header::{Header, Tag};
 use der_base::rules::Rules;

@@ -4,8 +4,8 @@ use Rattle.std.specs.Char.{encode_utf8}
 use Rattle.std.specs.Char.Utf16.{utf16_chars}
 use Rattle.der_base.specs.Pretty.{utf32_chars}
 use Rattle.der_base.specs.Text.{units}
-use Rattle.der_object.specs.declared.characters.Coding.{Coding}
-use Rattle.der_object.specs.declared.characters.Coding.TheVariants.{Utf16, Utf32}
+use Rattle.der_object.specs.declared.wide_strings.Coding.{Coding}
+use Rattle.der_object.specs.declared.wide_strings.Coding.TheVariants.{Utf16, Utf32}
 
 -- the characters, of which each may be none
 abbrev pub chars_of : Coding → List ℕ → List (Option ℕ)

@@ -3,23 +3,23 @@
 #![tactic(auto)]
 
 pub mod bit_string;
-mod characters;
+mod content_accessors;
 mod copies;
 mod encode;
 mod equality;
 pub mod error;
 pub mod growth;
+mod header_accessors;
 mod hex;
 mod iterators;
 pub mod laws;
 mod length;
 pub mod number;
 pub mod object;
-mod parts;
 pub mod print;
-mod questions;
 mod serialize;
 mod text;
+mod wide_strings;
 mod writer;
 
 pub use bit_string::BitStringObject;

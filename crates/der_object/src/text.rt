@@ -16,10 +16,10 @@ ghost use Rattle.der_object.specs.Layouts.{style};
 ghost use Rattle.der_object.specs.View.{content_tree, tree, trees};
 ghost use Rattle.der_object.specs.Writing.{Wrote};
 
-use crate::characters::{Coding, are_characters, send_characters};
 use crate::encode::send_time;
 use crate::hex::send_hex;
 use crate::object::{BerObject, BerObjectContent};
+use crate::wide_strings::{Coding, are_characters, send_characters};
 use crate::writer::{FaultWriter, send};
 use der_base::error::GenError;
 use der_base::header::{Class, Header, Length, Tag};

@@ -3,7 +3,7 @@
 
 mod accessors;
 mod encoder;
-mod made;
+mod objects_from_words;
 mod pairs;
 mod printer;
 mod question;
@@ -47,8 +47,8 @@ fn answer_of_object(alloc: Global, call: &str, input: &str) -> Result<String, Fa
 
 fn answer_of_made(alloc: Global, question: Question, text: &str) -> Result<String, Fault> {
     let words: Vec<&str> = text.split_ascii_whitespace().collect(alloc)?;
-    let octets = made::octets_of(alloc, &words)?;
-    question.answer(alloc, made::object(alloc, &words, &octets)?)
+    let octets = objects_from_words::octets_of(alloc, &words)?;
+    question.answer(alloc, objects_from_words::object(alloc, &words, &octets)?)
 }
 
 fn answer_of_octets(alloc: Global, question: Question, input: &[u8]) -> Result<String, Fault> {

@@ -1,7 +1,7 @@
 //! What is asked of an object.
 use crate::encoder::{Encoder, written_in_rooms};
 use crate::printer::{Layout, shown, written};
-use crate::{accessors, made, pairs, visits};
+use crate::{accessors, objects_from_words, pairs, visits};
 use der_parser::ber::{BerObject, Class, Header, Length, Tag};
 use std::alloc::Global;
 use test_tables::fault::Fault;
@@ -77,7 +77,7 @@ impl Question {
             Question::Copy => pairs::copied(alloc, object),
             Question::ReadBack => pairs::read_back(alloc, object),
             Question::Header => accessors::header(alloc, object),
-            Question::Made => made::answer(alloc, object),
+            Question::Made => objects_from_words::answer(alloc, object),
             Question::Written(layout) => written(alloc, layout, object),
             Question::Shown(layout) => shown(alloc, layout, object),
             Question::Encoded(encoder) => written_in_rooms(alloc, encoder, object),

@@ -5,11 +5,11 @@
 #[cfg(test)]
 mod accessors;
 #[cfg(test)]
+mod constructors;
+#[cfg(test)]
 mod errors;
 #[cfg(test)]
 mod from_any;
-#[cfg(test)]
-mod made;
 #[cfg(test)]
 mod printer;
 #[cfg(test)]
