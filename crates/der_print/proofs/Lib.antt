@@ -1,5 +1,6 @@
 pub mod FrontLaws
 pub mod LineLaws
+pub mod NameLaws
 pub mod NumberLaws
 pub mod PieceLaws
 pub mod QuoteLaws

@@ -4,18 +4,19 @@ use Rattle.std.specs.Borrow.{Bor}
 use Rattle.std.specs.Option.{unwrap_or}
 use Rattle.der_base.specs.declared.rules.Rules.{Rules}
 use Rattle.der_print.specs.declared.style.Style.{Style}
-use Rattle.der_print.specs.Lines.{AreLines, IsLine, IsValueSaid, content_in, holding_text, limit_of, no_lines, one_more_line}
+use Rattle.der_print.specs.Lines.{AreNamedLines, IsLineOf, IsNamedLine, IsValueSaid, content_in, holding_text, limit_of, no_lines, one_more_line}
 use Rattle.der_print.specs.Texts.{content_of, octets_or_none}
 use Rattle.der_walk.specs.declared.element.Element.{Element}
 use Rattle.der_walk.specs.Ends.{between}
 use Rattle.der_walk.specs.Visits.{Visited}
 use Rattle.der_walk.specs.Walked.{HasOctets, visited_of}
+use Rattle.oid_names.specs.OwnNames.{Named}
 
-pub lines_more : {style : Style} {i : List ℕ} {vs : List Visited} {text : List ℕ} (v : Visited) (line : List ℕ) → AreLines style i vs text → IsLine style v (content_in i v) line
-    → AreLines style i (vs ++ v ∷ []) (text ++ line)
-lines_more {style} {i} v line no_lines l = subst (AreLines style i (v ∷ [])) (append-nil line) (one_more_line line [] l no_lines)
-lines_more {style} {i} v line (one_more_line {v = u} {vs = vs} first rest k ks) l =
-    subst (AreLines style i (u ∷ vs ++ v ∷ [])) (sym (append_assoc first rest line)) (one_more_line first (rest ++ line) k (lines_more v line ks l))
+pub lines_more : {own : Option (List Named)} {style : Style} {i : List ℕ} {vs : List Visited} {text : List ℕ} (v : Visited) (line : List ℕ) → AreNamedLines own style i vs text
+    → IsNamedLine own style v (content_in i v) line → AreNamedLines own style i (vs ++ v ∷ []) (text ++ line)
+lines_more {own} {style} {i} v line no_lines l = subst (AreNamedLines own style i (v ∷ [])) (append-nil line) (one_more_line line [] l no_lines)
+lines_more {own} {style} {i} v line (one_more_line {v = u} {vs = vs} first rest k ks) l =
+    subst (AreNamedLines own style i (u ∷ vs ++ v ∷ [])) (sym (append_assoc first rest line)) (one_more_line first (rest ++ line) k (lines_more v line ks l))
 
 -- a constructed element's content isn't looked at
 ending_of : (P : Type 0) (h : Option Rules) (Q : Rules → Type 0) (p : Bool) (B : List ℕ → Type 0) (w w' : List ℕ) → (p ≡ false → w ≡ w') → MatchOption h (MatchBool p P (B w)) Q → MatchOption h (MatchBool p P (B w')) Q
@@ -23,11 +24,11 @@ ending_of P (Some s) Q p B w w' same x = x
 ending_of P None Q true B w w' same x = x
 ending_of P None Q false B w w' same x = subst B (same refl) x
 
-pub line_of : (style : Style) (v : Visited) (w w' line : List ℕ) → (v.constructed ≡ false → w ≡ w') → IsLine style v w line → IsLine style v w' line
-line_of style v w w' line same l = record {
+pub line_of : {own : Option (List Named)} {field : List ℕ} (style : Style) (v : Visited) (w w' line : List ℕ) → (v.constructed ≡ false → w ≡ w') → IsLineOf own field style v w line → IsLineOf own field style v w' line
+line_of {own} {field} style v w w' line same l = record {
   value = l.value;
   shown = l.shown;
-  ending = ending_of (l.value ≡ []) v.holds (λ s. l.value ≡ holding_text s) v.constructed (λ u. IsValueSaid (limit_of style v) v u l.value) w w' same l.ending;
+  ending = ending_of (l.value ≡ []) v.holds (λ s. l.value ≡ holding_text s) v.constructed (λ u. IsValueSaid own (limit_of style field v) v u l.value) w w' same l.ending;
   whole = l.whole;
 }
 

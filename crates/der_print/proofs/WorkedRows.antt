@@ -21,30 +21,40 @@ abbrev visited : ℕ → ℕ → Option ℕ → Class → Bool → ℕ → ℕ �
 visited offset header l c p t depth =
     record { offset = offset; header = header; length = l; class = c; constructed = p; number = t; depth = depth; holds = None; breaks_its_type = false }
 
-certificate : front_text false (visited 0 4 (Some 515) Universal true 16 0) ≡ codes "      0  4+515     SEQUENCE"
+certificate : front_text false [] (visited 0 4 (Some 515) Universal true 16 0) ≡ codes "      0  4+515     SEQUENCE"
 unfolding digits
 certificate = refl
 
-version : front_text false (visited 10 2 (Some 1) Universal false 2 3) ≡ codes "     10  2+1             INTEGER"
+version : front_text false [] (visited 10 2 (Some 1) Universal false 2 3) ≡ codes "     10  2+1             INTEGER"
 unfolding digits
 version = refl
 
-extensions : front_text false (visited 271 3 (Some 158) ContextSpecific true 3 2) ≡ codes "    271  3+158         [3]"
+extensions : front_text false [] (visited 271 3 (Some 158) ContextSpecific true 3 2) ≡ codes "    271  3+158         [3]"
 unfolding digits
 extensions = refl
 
-indefinite : front_text false (visited 123456789 2 None Application true 1 1) ≡ codes "123456789  2+inf       [APPLICATION 1]"
+indefinite : front_text false [] (visited 123456789 2 None Application true 1 1) ≡ codes "123456789  2+inf       [APPLICATION 1]"
 unfolding digits
 indefinite = refl
 
-type_without_name : front_text false (visited 7 3 (Some 0) Universal false 99 0) ≡ codes "      7  3+0       [UNIVERSAL 99]"
+field : front_text false (codes "extensions") (visited 271 3 (Some 158) ContextSpecific true 3 2)
+    ≡ codes "    271  3+158         extensions [3]"
+unfolding digits
+field = refl
+
+type_without_name : front_text false [] (visited 7 3 (Some 0) Universal false 99 0) ≡ codes "      7  3+0       [UNIVERSAL 99]"
 unfolding digits
 type_without_name = refl
 
-in_colours : front_text true (visited 2 2 (Some 1) Private false 7 0)
+in_colours : front_text true [] (visited 2 2 (Some 1) Private false 7 0)
     ≡ 0x1b ∷ codes "[2m      2  2+1       " ++ 0x1b ∷ codes "[0m" ++ 0x1b ∷ codes "[1m[PRIVATE 7]" ++ 0x1b ∷ codes "[0m"
 unfolding digits
 in_colours = refl
+
+field_in_colours : front_text true (codes "version") (visited 2 2 (Some 1) Private false 7 0)
+    ≡ 0x1b ∷ codes "[2m      2  2+1       " ++ 0x1b ∷ codes "[0mversion " ++ 0x1b ∷ codes "[1m[PRIVATE 7]" ++ 0x1b ∷ codes "[0m"
+unfolding digits
+field_in_colours = refl
 
 -- values: a number above 64 bits, the arcs of a relative identifier, half an hour west
 large : number_text Whole (0x01 ∷ 0 ∷ 0 ∷ 0 ∷ 0 ∷ 0 ∷ 0 ∷ 0 ∷ 0 ∷ []) ≡ codes "0x010000000000000000"

@@ -1,4 +1,5 @@
 pub mod Lines
+pub mod Names
 pub mod Pieces
 pub mod Quotes
 pub mod Remarks

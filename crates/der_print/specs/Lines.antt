@@ -14,6 +14,7 @@ use Rattle.der_print.specs.Values.{IsValue, limit_without}
 use Rattle.der_walk.specs.Ends.{between}
 use Rattle.der_walk.specs.TypeNames.{type_text}
 use Rattle.der_walk.specs.Visits.{Visited}
+use Rattle.oid_names.specs.OwnNames.{Named}
 
 -- a text with spaces before it, up to so many columns, and one with spaces after it
 abbrev pub at_right : ℕ → List ℕ → List ℕ
@@ -50,20 +51,25 @@ bold colours = letters colours (codes "[1m")
 abbrev pub plain : Bool → List ℕ
 plain colours = letters colours (codes "[0m")
 
--- what precedes the value: the place, the indentation, the type or tag
-abbrev pub front_text : Bool → Visited → List ℕ
-front_text colours v =
-    dim colours ++ place_text v.offset v.header v.length ++ plain colours ++ indentation v.depth
+-- the name of a field and a space, or nothing where the name is empty
+abbrev pub field_text : List ℕ → List ℕ
+field_text [] = []
+field_text (c ∷ cs) = (c ∷ cs) ++ codes " "
+
+-- what precedes the value: the place, the indentation, the name of the field, the type or tag
+abbrev pub front_text : Bool → List ℕ → Visited → List ℕ
+front_text colours field v =
+    dim colours ++ place_text v.offset v.header v.length ++ plain colours ++ indentation v.depth ++ field_text field
     ++ bold colours ++ type_text v.class v.number ++ plain colours
 
 -- how much is printed of the value: the limit of a line is one of the whole line
-abbrev pub limit_of : Style → Visited → Limit
-limit_of style v = limit_without style.limit (length (front_text false v))
+abbrev pub limit_of : Style → List ℕ → Visited → Limit
+limit_of style field v = limit_without style.limit (length (front_text false field v))
 
 -- the value of an element with this content, and nothing where the content is elements
 abbrev pub IsValueAlone : Limit → Visited → List ℕ → List ℕ → Type 0
-IsValueAlone limit v w text =
-    MatchOption v.holds (MatchBool v.constructed (text ≡ []) (IsValue limit v.class v.number w text)) (λ s. text ≡ [])
+IsValueAlone limit v w text = MatchOption v.holds
+    (MatchBool v.constructed (text ≡ []) (IsValue None limit v.class v.number w text)) (λ s. text ≡ [])
 
 -- a remark after two spaces
 abbrev pub after_spaces : Option (List ℕ) → List ℕ
@@ -71,9 +77,9 @@ after_spaces (Some remark) = codes "  " ++ remark
 after_spaces None = []
 
 -- the value of a primitive element with this content, and what is said of one that breaks its type
-pub record IsValueSaid (limit : Limit) (v : Visited) (w text : List ℕ) : Type 0 where
+pub record IsValueSaid (own : Option (List Named)) (limit : Limit) (v : Visited) (w text : List ℕ) : Type 0 where
   pub value : List ℕ
-  pub is_value : IsValue limit v.class v.number w value
+  pub is_value : IsValue own limit v.class v.number w value
   pub remark : Option (List ℕ)
   pub is_remark : IsRemark v w remark
   pub whole : text ≡ value ++ after_spaces remark
@@ -85,29 +91,63 @@ holding_text Der = codes " holding DER"
 
 -- what follows that, of an element with this content: nothing for a constructed one, or the value; the element inside
 -- a string has a line of its own
-abbrev pub IsEnding : Limit → Visited → List ℕ → List ℕ → Type 0
-IsEnding limit v w text =
-    MatchOption v.holds (MatchBool v.constructed (text ≡ []) (IsValueSaid limit v w text)) (λ s. text ≡ holding_text s)
+abbrev pub IsEnding : Option (List Named) → Limit → Visited → List ℕ → List ℕ → Type 0
+IsEnding own limit v w text = MatchOption v.holds
+    (MatchBool v.constructed (text ≡ []) (IsValueSaid own limit v w text)) (λ s. text ≡ holding_text s)
 
--- the line of an element with this content: that and the line's end
-pub record IsLine (style : Style) (v : Visited) (w line : List ℕ) : Type 0 where
+-- a text grew by that, which is on one line
+abbrev pub AddsEnding : Option (List Named) → Limit → Visited → List ℕ → List ℕ → List ℕ → Type 0
+AddsEnding own limit v w old new =
+    (value : List ℕ) × IsShown value × IsEnding own limit v w value × (new ≡ old ++ value)
+
+-- the line of an element with this content, which is a field of this name: that and the line's end
+pub record IsLineOf (own : Option (List Named)) (field : List ℕ) (style : Style) (v : Visited) (w line : List ℕ)
+    : Type 0 where
   pub value : List ℕ
   pub shown : IsShown value
-  pub ending : IsEnding (limit_of style v) v w value
-  pub whole : line ≡ front_text style.colours v ++ value ++ codes "\n"
+  pub ending : IsEnding own (limit_of style field v) v w value
+  pub whole : line ≡ front_text style.colours field v ++ value ++ codes "\n"
 
 -- known octets grew by the line of an element
-pub record AddsLine (style : Style) (v : Visited) (w : List ℕ) (old new : Option (List ℕ)) : Type 0 where
+pub record AddsLineOf (own : Option (List Named)) (field : List ℕ) (style : Style) (v : Visited) (w : List ℕ)
+    (old new : Option (List ℕ)) : Type 0 where
   pub line : List ℕ
-  pub is_line : IsLine style v w line
+  pub is_line : IsLineOf own field style v w line
   pub adds : Appends old new line
+
+-- the same without the name of a field
+abbrev pub IsNamedLine : Option (List Named) → Style → Visited → List ℕ → List ℕ → Type 0
+IsNamedLine own style v w line = IsLineOf own [] style v w line
+
+abbrev pub AddsNamedLine : Option (List Named) → Style → Visited → List ℕ → Option (List ℕ) → Option (List ℕ)
+    → Type 0
+AddsNamedLine own style v w old new = AddsLineOf own [] style v w old new
+
+-- the same without a table of one's own
+abbrev pub IsFieldLine : List ℕ → Style → Visited → List ℕ → List ℕ → Type 0
+IsFieldLine field style v w line = IsLineOf None field style v w line
+
+abbrev pub AddsFieldLine : List ℕ → Style → Visited → List ℕ → Option (List ℕ) → Option (List ℕ) → Type 0
+AddsFieldLine field style v w old new = AddsLineOf None field style v w old new
+
+-- the same without both
+abbrev pub IsLine : Style → Visited → List ℕ → List ℕ → Type 0
+IsLine style v w line = IsLineOf None [] style v w line
+
+abbrev pub AddsLine : Style → Visited → List ℕ → Option (List ℕ) → Option (List ℕ) → Type 0
+AddsLine style v w old new = AddsLineOf None [] style v w old new
 
 -- the content octets of an element in an input
 abbrev pub content_in : List ℕ → Visited → List ℕ
 content_in i v = let p = v.offset + v.header in between i p (p + unwrap_or v.length 0)
 
 -- a line for each of some elements in an input, in their order
-pub data AreLines (style : Style) (i : List ℕ) : List Visited → List ℕ → Type 0 where
-  no_lines : AreLines style i [] []
-  one_more_line : {v : Visited} {vs : List Visited} (line rest : List ℕ) → IsLine style v (content_in i v) line
-      → AreLines style i vs rest → AreLines style i (v ∷ vs) (line ++ rest)
+pub data AreNamedLines (own : Option (List Named)) (style : Style) (i : List ℕ)
+    : List Visited → List ℕ → Type 0 where
+  no_lines : AreNamedLines own style i [] []
+  one_more_line : {v : Visited} {vs : List Visited} (line rest : List ℕ)
+      → IsNamedLine own style v (content_in i v) line → AreNamedLines own style i vs rest
+      → AreNamedLines own style i (v ∷ vs) (line ++ rest)
+
+abbrev pub AreLines : Style → List ℕ → List Visited → List ℕ → Type 0
+AreLines style i vs text = AreNamedLines None style i vs text

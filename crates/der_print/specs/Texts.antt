@@ -2,17 +2,12 @@
 use Rattle.std.specs.Prelude.{ℕ, List, drop}
 use Rattle.der_print.specs.declared.line_octets.LineOctets.{LineOctets}
 use Rattle.der_print.specs.declared.row.Row.{Row}
-use Rattle.der_print.specs.declared.shown.ShownText.{ShownText}
 use Rattle.der_walk.specs.declared.element.Element.{Element}
 pub use Rattle.der_walk.specs.Reading.{octets_or_none}
 
 -- those of a line
 abbrev pub octets_in : LineOctets → List ℕ
 octets_in l = l.octets.items
-
--- a text on one line, in UTF-8
-abbrev pub octets_of : ShownText → List ℕ
-octets_of t = t.octets.items
 
 -- a text that is written from its end, which is that of its octets
 abbrev pub row_text : Row → List ℕ

@@ -1,6 +1,6 @@
 -- What is printed of the value of a primitive element.
 use Rattle.std.specs.Prelude.{◌≡◌, ℕ, ◌-◌, ◌/◌, ◌^◌, min, max, ◌⊎◌, ◌==◌, ◌||◌, ◌&&◌, nat_le, nat_lt, if◌then◌else◌}
-use Rattle.std.specs.Prelude.{Bool, true, false, IsTrue, ℤ, pos, negsuc, int_lt, nat_abs, Option, Some, None, IfSome}
+use Rattle.std.specs.Prelude.{Bool, true, false, IsTrue, ℤ, pos, negsuc, int_lt, nat_abs, Option, Some, None}
 use Rattle.std.specs.Prelude.{List, [], ◌∷◌, ◌++◌, codes, decimal, length, take}
 use Rattle.std.specs.Fmt.{signed_decimal}
 use Rattle.hex.specs.Hex.{encode_lower}
@@ -15,10 +15,12 @@ use Rattle.der_base.specs.Pretty.{dotted, hex_pair}
 use Rattle.der_base.specs.Text.{is_one_of, is_text_type, is_visible, is_within}
 use Rattle.der_base.specs.Time.{IsTimeText, at_least_digits, fraction_text, rfc5280_year}
 use Rattle.der_values.specs.ArcNumbers.{u128_arcs}
+use Rattle.oid_names.specs.OwnNames.{Named, IsNameAmong}
 use Rattle.oid_names.specs.Tables.{HasLine}
 use Rattle.oid_names.specs.declared.table.TheConstants.{NAMES}
 use Rattle.der_print.specs.declared.style.Limit.{Limit}
 use Rattle.der_print.specs.declared.style.Limit.TheVariants.{Whole, Front, Columns}
+use Rattle.der_print.specs.Names.{name_text}
 use Rattle.der_print.specs.Quotes.{quoted_text}
 
 -- how much is printed where so many columns are needed for something else
@@ -75,13 +77,13 @@ text_of_arcs None relative w = codes "octets " ++ encode_lower w
 abbrev pub identifier_text : Bool → List ℕ → List ℕ
 identifier_text relative w = text_of_arcs (u128_arcs relative w) relative w
 
--- the name of the identifier with these content octets
+-- the built-in name of the identifier with these content octets
 abbrev pub IsNameOf : List ℕ → List ℕ → Type 0
 IsNameOf w name = HasLine NAMES.now (encode_lower w ++ 0x20 ∷ name)
 
-abbrev pub name_text : Option (List ℕ) → List ℕ
-name_text (Some name) = codes " " ++ name
-name_text None = []
+-- how much is printed behind the identifier, which has a space before it
+abbrev pub limit_behind : Limit → List ℕ → Limit
+limit_behind limit w = limit_without (limit_without limit 1) (length (identifier_text false w))
 
 -- the unused bits of the last octet of a BIT STRING (8.6.2)
 abbrev pub unused_text : ℕ → List ℕ
@@ -151,33 +153,34 @@ is_quoted_type t = is_text_type t || is_one_of (28 ∷ 30 ∷ []) t
 abbrev pub is_other_type : ℕ → Bool
 is_other_type t = is_one_of (0 ∷ 1 ∷ 2 ∷ 3 ∷ 5 ∷ 6 ∷ 9 ∷ 10 ∷ 13 ∷ 23 ∷ 24 ∷ []) t
 
--- The text of a content after the name of its universal type, by the type's number.
-pub data IsUniversalValue (limit : Limit) (t : ℕ) (w text : List ℕ) : Type 0 where
+-- The text of a content after the name of its universal type, by the type's number, with names of a table of one's own.
+pub data IsUniversalValue (own : Option (List Named)) (limit : Limit) (t : ℕ) (w text : List ℕ) : Type 0 where
   -- NULL, and end-of-contents octets: octets, if there are any
-  no_value : (t ≡ 0) ⊎ (t ≡ 5) → text ≡ octets_text limit w → IsUniversalValue limit t w text
-  boolean : t ≡ 1 → text ≡ boolean_text limit w → IsUniversalValue limit t w text
+  no_value : (t ≡ 0) ⊎ (t ≡ 5) → text ≡ octets_text limit w → IsUniversalValue own limit t w text
+  boolean : t ≡ 1 → text ≡ boolean_text limit w → IsUniversalValue own limit t w text
   -- INTEGER and ENUMERATED
-  number : (t ≡ 2) ⊎ (t ≡ 10) → text ≡ codes " " ++ number_text limit w → IsUniversalValue limit t w text
-  bits : t ≡ 3 → text ≡ codes " " ++ bits_text limit w → IsUniversalValue limit t w text
+  number : (t ≡ 2) ⊎ (t ≡ 10) → text ≡ codes " " ++ number_text limit w → IsUniversalValue own limit t w text
+  bits : t ≡ 3 → text ≡ codes " " ++ bits_text limit w → IsUniversalValue own limit t w text
   -- OBJECT IDENTIFIER, and its name
-  identifier : t ≡ 6 → (name : Option (List ℕ)) → IfSome name (IsNameOf w)
-      → text ≡ codes " " ++ identifier_text false w ++ name_text name → IsUniversalValue limit t w text
-  relative : t ≡ 13 → text ≡ codes " " ++ identifier_text true w → IsUniversalValue limit t w text
-  real : t ≡ 9 → text ≡ codes " " ++ real_text limit w → IsUniversalValue limit t w text
+  identifier : t ≡ 6 → (name : Option (List ℕ)) → IsNameAmong own w name
+      → text ≡ codes " " ++ identifier_text false w ++ name_text (limit_behind limit w) name
+      → IsUniversalValue own limit t w text
+  relative : t ≡ 13 → text ≡ codes " " ++ identifier_text true w → IsUniversalValue own limit t w text
+  real : t ≡ 9 → text ≡ codes " " ++ real_text limit w → IsUniversalValue own limit t w text
   -- UTCTime and GeneralizedTime; as a text where there is no such moment, as one with 60 seconds
   moment : (x : ASN1DateTime) → IsTimeText t w x → text ≡ codes " " ++ moment_text (t == 23) x
-      → IsUniversalValue limit t w text
+      → IsUniversalValue own limit t w text
   no_moment : (t ≡ 23) ⊎ (t ≡ 24) → ((x : ASN1DateTime) → ¬ IsTimeText t w x)
-      → text ≡ codes " " ++ quoted_text limit t w → IsUniversalValue limit t w text
+      → text ≡ codes " " ++ quoted_text limit t w → IsUniversalValue own limit t w text
   -- strings of characters
-  string : IsTrue (is_quoted_type t) → text ≡ codes " " ++ quoted_text limit t w → IsUniversalValue limit t w text
+  string : IsTrue (is_quoted_type t) → text ≡ codes " " ++ quoted_text limit t w → IsUniversalValue own limit t w text
   -- OCTET STRING, and types without a notation here
   octets : is_quoted_type t ≡ false → is_other_type t ≡ false → text ≡ octets_text limit w
-      → IsUniversalValue limit t w text
+      → IsUniversalValue own limit t w text
 
 -- the text of a content after the name of its type or its tag: outside the universal types it is octets
-abbrev pub IsValue : Limit → Class → ℕ → List ℕ → List ℕ → Type 0
-IsValue limit Universal t w text = IsUniversalValue limit t w text
-IsValue limit Application t w text = text ≡ octets_text limit w
-IsValue limit ContextSpecific t w text = text ≡ octets_text limit w
-IsValue limit Private t w text = text ≡ octets_text limit w
+abbrev pub IsValue : Option (List Named) → Limit → Class → ℕ → List ℕ → List ℕ → Type 0
+IsValue own limit Universal t w text = IsUniversalValue own limit t w text
+IsValue own limit Application t w text = text ≡ octets_text limit w
+IsValue own limit ContextSpecific t w text = text ≡ octets_text limit w
+IsValue own limit Private t w text = text ≡ octets_text limit w

@@ -4,6 +4,7 @@ ghost use Rattle.std.specs.Fmt.{DisplaysOnOk};
 ghost use Rattle.std.specs.Option.{option_map};
 ghost use Rattle.der_walk.specs.Walked.{visited_of};
 ghost use Rattle.der_print.specs.Lines.{IsEnding, IsValueSaid, after_spaces};
+ghost use Rattle.der_print.specs.Names.{table_of};
 ghost use Rattle.der_print.specs.Remarks.{remark_text};
 ghost use Rattle.der_print.specs.Texts.{content_of};
 ghost use Rattle.der_print.specs.Writes.{WritesOne};
@@ -13,35 +14,38 @@ use crate::style::Limit;
 use crate::value::write_value;
 use der_base::rules::Rules;
 use der_walk::Element;
+use oid_names::OwnNames;
 use std::fmt;
 
 /// Writes what follows the type on the line of an element: its value, and what is said of one that breaks its type.
-pub(crate) fn write_ending<W: fmt::Write>(
+pub(crate) fn write_ending<'n, W: fmt::Write>(
     f: &mut fmt::Formatter<W>,
     element: &Element<'_>,
     limit: Limit,
+    own: Option<&'n OwnNames<'n>>,
 ) -> fmt::Result
     ensures { let v = visited_of element.now in let w = content_of element.now in
-        WritesOne W.Write.write_str_gives f.old result (IsEnding limit v w) f.new }
+        WritesOne W.Write.write_str_gives f.old result (IsEnding (table_of own.entry) limit v w) f.new }
 {
     match element.holds {
         Some(Rules::Ber) => write!(f, " holding BER"),
         Some(Rules::Der) => write!(f, " holding DER"),
         None if element.constructed => Ok(()),
-        None => write_value_said(f, element, limit),
+        None => write_value_said(f, element, limit, own),
     }
 }
 
 /// Writes a value, and what is said of one that breaks its type.
-fn write_value_said<W: fmt::Write>(
+fn write_value_said<'n, W: fmt::Write>(
     f: &mut fmt::Formatter<W>,
     element: &Element<'_>,
     limit: Limit,
+    own: Option<&'n OwnNames<'n>>,
 ) -> fmt::Result
     ensures { let v = visited_of element.now in let w = content_of element.now in
-        WritesOne W.Write.write_str_gives f.old result (IsValueSaid limit v w) f.new }
+        WritesOne W.Write.write_str_gives f.old result (IsValueSaid (table_of own.entry) limit v w) f.new }
 {
-    write_value(f, element, limit)?;
+    write_value(f, element, limit, own)?;
     write_remark(f, Remark::on(element))
 }
 

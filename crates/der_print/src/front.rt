@@ -1,7 +1,8 @@
 //! What precedes the value on the line of an element.
 ghost use Rattle.std.specs.Prelude.{◌≡◌, ◌+◌, ◌≤◌, ◌++◌, IfOk, OnOk};
 ghost use Rattle.der_walk.specs.Walked.{visited_of};
-ghost use Rattle.der_print.specs.Lines.{at_left, front_text, indentation, length_text, letters, place_text};
+ghost use Rattle.der_print.specs.Lines.{at_left, field_text, front_text, indentation, length_text, letters};
+ghost use Rattle.der_print.specs.Lines.{place_text};
 ghost use Rattle.der_print.specs.Texts.{octets_in, row_text};
 
 use crate::line_octets::LineOctets;
@@ -29,19 +30,22 @@ const HEADER: usize = 2;
 const LENGTH: usize = 7;
 
 /// A line that goes on with where an element begins, how many octets its header and its content have, two spaces
-/// for each element around it, and its type or tag.
+/// for each element around it, the name of its field, and its type or tag.
 pub(crate) fn with_front(
     line: LineOctets,
     element: &Element<'_>,
+    field: &str,
     colours: bool,
 ) -> Result<LineOctets, AllocError>
-    ensures { IfOk result (λ l. octets_in l ≡ octets_in line ++ front_text colours (visited_of element.now)) }
+    ensures { IfOk result (λ l. octets_in l
+        ≡ octets_in line ++ front_text colours field.now (visited_of element.now)) }
 {
     let mut line = line;
     put_letters(&mut line, colours, DIM)?;
     put_place(&mut line, element)?;
     put_letters(&mut line, colours, PLAIN)?;
     put_indentation(&mut line, element.depth)?;
+    put_field(&mut line, field)?;
     put_letters(&mut line, colours, BOLD)?;
     let mut line = line.with(element.name())?;
     put_letters(&mut line, colours, PLAIN)?;
@@ -97,4 +101,15 @@ fn put_indentation(line: &mut LineOctets, depth: usize) -> Result<(), AllocError
         Some(columns) => line.put_spaces(columns),
         None => Err(AllocError),
     }
+}
+
+/// Puts the name of a field and a space, or nothing if the name is empty.
+fn put_field(line: &mut LineOctets, field: &str) -> Result<(), AllocError>
+    ensures { OnOk result (octets_in line.new ≡ octets_in line.old ++ field_text field.now) }
+{
+    if field.is_empty() {
+        return Ok(());
+    }
+    line.put(field.as_bytes())?;
+    line.put(b" ")
 }

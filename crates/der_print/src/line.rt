@@ -1,7 +1,8 @@
 //! The line of an element.
 ghost use Rattle.std.specs.Prelude.{◌≡◌, ◌-◌, OnOk, if◌then◌else◌, length};
 ghost use Rattle.der_walk.specs.Walked.{visited_of};
-ghost use Rattle.der_print.specs.Lines.{AddsLine};
+ghost use Rattle.der_print.specs.Lines.{AddsFieldLine, AddsLine, AddsLineOf, AddsNamedLine};
+ghost use Rattle.der_print.specs.Names.{table_of};
 ghost use Rattle.der_print.specs.Texts.{content_of, octets_in};
 
 use crate::front::with_front;
@@ -9,6 +10,7 @@ use crate::line_octets::LineOctets;
 use crate::room::Room;
 use crate::style::Style;
 use der_walk::Element;
+use oid_names::OwnNames;
 use std::io;
 use std::io::Write;
 
@@ -16,8 +18,8 @@ use std::io::Write;
 const LETTERS: usize = 16;
 
 /// Writes the line of an element: where it begins, how many octets its header and its content have, its type, two
-/// columns further in for each element around it, and its value. Its texts are made in `room`, which is returned for
-/// the next line.
+/// columns further in for each element around it, and its value. It is made in `room`, which is returned for the next
+/// line.
 pub fn write_line<W: Write>(
     out: &mut W,
     room: Room,
@@ -27,13 +29,58 @@ pub fn write_line<W: Write>(
     ensures { OnOk result (AddsLine style (visited_of element.now) (content_of element.now)
         (W.contents out.old) (W.contents out.new)) }
 {
-    let mut line = with_front(room.line.cleared(), element, style.colours)?;
-    let limit = style.limit.without(columns_of(&line, style.colours));
-    let value = room.value.ending(element, limit)?;
-    line.put(value.as_bytes())?;
+    write_line_of(out, room, element, "", style, None)
+}
+
+/// Writes the line of an element as `write_line` does, with the name of its field and a space before its type. An empty
+/// name adds nothing. The name has no line end: it is written as it is.
+pub fn write_field_line<W: Write>(
+    out: &mut W,
+    room: Room,
+    element: &Element<'_>,
+    field: &str,
+    style: Style,
+) -> io::Result<Room>
+    ensures { OnOk result (AddsFieldLine field.now style (visited_of element.now) (content_of element.now)
+        (W.contents out.old) (W.contents out.new)) }
+{
+    write_line_of(out, room, element, field, style, None)
+}
+
+/// Writes the line of an element as `write_line` does. The name of an OBJECT IDENTIFIER is that of a table of one's
+/// own, if there is one and it has the identifier, or else the built-in one.
+pub fn write_named_line<'n, W: Write>(
+    out: &mut W,
+    room: Room,
+    element: &Element<'_>,
+    style: Style,
+    own: Option<&'n OwnNames<'n>>,
+) -> io::Result<Room>
+    ensures { OnOk result (AddsNamedLine (table_of own.entry) style (visited_of element.now) (content_of element.now)
+        (W.contents out.old) (W.contents out.new)) }
+{
+    write_line_of(out, room, element, "", style, own)
+}
+
+/// Writes the line of an element with the name of its field, and the name of an OBJECT IDENTIFIER by a table of one's
+/// own.
+fn write_line_of<'n, W: Write>(
+    out: &mut W,
+    room: Room,
+    element: &Element<'_>,
+    field: &str,
+    style: Style,
+    own: Option<&'n OwnNames<'n>>,
+) -> io::Result<Room>
+    ensures { OnOk result (AddsLineOf (table_of own.entry) field.now style (visited_of element.now)
+        (content_of element.now) (W.contents out.old) (W.contents out.new)) }
+{
+    let front = with_front(room.line.cleared(), element, field, style.colours)?;
+    let limit = style.limit.without(columns_of(&front, style.colours));
+    let mut line = front.with_ending(element, limit, own)?;
     line.put(b"\n")?;
     out.write_all(line.as_bytes())?;
-    Ok(Room { line, value })
+    Ok(Room { line })
 }
 
 /// How many columns the line has so far, without what begins and ends special letters.

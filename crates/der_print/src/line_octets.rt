@@ -1,8 +1,16 @@
 //! The octets of a line, which grow at their end.
-ghost use Rattle.std.specs.Prelude.{◌≡◌, [], ◌++◌, IfOk, IfSome, OnOk, length};
+ghost use Rattle.std.specs.Prelude.{◌≡◌, [], ◌++◌, IfOk, IfSome, OnOk, drop, length};
 ghost use Rattle.der_base.specs.Pretty.{spaces};
-ghost use Rattle.der_print.specs.Texts.{octets_in};
+ghost use Rattle.der_print.specs.Lines.{AddsEnding};
+ghost use Rattle.der_print.specs.Names.{table_of};
+ghost use Rattle.der_print.specs.Texts.{content_of, octets_in};
+ghost use Rattle.der_walk.specs.Walked.{visited_of};
 
+use crate::ending::write_ending;
+use crate::shown::are_shown;
+use crate::style::Limit;
+use der_walk::Element;
+use oid_names::OwnNames;
 use std::alloc::{AllocError, Global};
 use std::fmt;
 
@@ -70,6 +78,44 @@ impl LineOctets {
         match f.write(value) {
             Ok(()) => Ok(f.into_inner()),
             Err(_) => Err(AllocError),
+        }
+    }
+
+    /// The octets, and after them what follows the type on the line of an element. An error if there is no memory, or
+    /// if a control character of ASCII is in that: so it is on one line.
+    pub(crate) fn with_ending<'n>(
+        self,
+        element: &Element<'_>,
+        limit: Limit,
+        own: Option<&'n OwnNames<'n>>,
+    ) -> Result<LineOctets, AllocError>
+        ensures { let v = visited_of element.now in let w = content_of element.now in
+            IfOk result (λ l. AddsEnding (table_of own.entry) limit v w (octets_in self) (octets_in l)) }
+    {
+        let front = self.len();
+        let mut f = fmt::Formatter::new(self);
+        match write_ending(&mut f, element, limit, own) {
+            Ok(()) => {
+                let line = f.into_inner();
+                if are_shown(line.octets_from(front)) {
+                    Ok(line)
+                } else {
+                    Err(AllocError)
+                }
+            }
+            Err(_) => Err(AllocError),
+        }
+    }
+
+    /// The octets from an offset on.
+    fn octets_from(&self, offset: usize) -> &[u8]
+        ensures { result.now ≡ drop offset (octets_in self.now) }
+    {
+        let octets = self.octets.as_slice();
+        if offset < octets.len() {
+            &octets[offset..]
+        } else {
+            &[]
         }
     }
 }

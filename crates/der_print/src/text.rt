@@ -16,10 +16,10 @@ use crate::style::Limit;
 use std::fmt;
 
 /// The most characters that are printed where long values are cut.
-const MOST: usize = 120;
+pub(crate) const MOST: usize = 120;
 
 /// The least characters that are printed where there are few columns.
-const LEAST: usize = 10;
+pub(crate) const LEAST: usize = 10;
 
 /// The columns of the space before a text, and of its quotes.
 const QUOTES: usize = 3;
@@ -131,7 +131,7 @@ fn write_first<W: fmt::Write>(
 }
 
 /// Writes the first characters of a text. Returns whether those are all.
-fn write_text<W: fmt::Write>(
+pub(crate) fn write_text<W: fmt::Write>(
     f: &mut fmt::Formatter<W>,
     text: &str,
     most: usize,

@@ -1,17 +1,20 @@
 //! The values of primitive elements.
-ghost use Rattle.std.specs.Prelude.{◌≡◌, ◌⊎◌, ◌++◌, ℕ, IfSome, List, Option, Some, codes, false, true};
+ghost use Rattle.std.specs.Prelude.{◌≡◌, ◌⊎◌, ◌++◌, ℕ, List, Option, Some, codes, false, true};
 ghost use Rattle.std.specs.Fmt.{DisplaysOnOk};
 ghost use Rattle.der_print.specs.Lines.{IsValueAlone};
+ghost use Rattle.der_print.specs.Names.{name_text, table_of};
 ghost use Rattle.der_print.specs.Quotes.{quoted_text};
 ghost use Rattle.der_print.specs.Texts.{content_of, octets_or_none};
-ghost use Rattle.der_print.specs.Values.{IsNameOf, IsUniversalValue, IsValue, boolean_text, identifier_text};
-ghost use Rattle.der_print.specs.Values.{is_quoted_type, name_text, octets_text, truth_text};
+ghost use Rattle.der_print.specs.Values.{IsUniversalValue, IsValue, boolean_text, identifier_text};
+ghost use Rattle.der_print.specs.Values.{is_quoted_type, limit_behind, octets_text, truth_text};
 ghost use Rattle.der_print.specs.Writes.{WritesOne};
 ghost use Rattle.der_walk.specs.Walked.{visited_of};
+ghost use Rattle.oid_names.specs.OwnNames.{IsNameAmong, Named};
 
 use crate::bits::Bits;
 use crate::characters::write_pair;
 use crate::identifier::Arcs;
+use crate::name::{Name, limit_behind};
 use crate::number::Number;
 use crate::octets::Hex;
 use crate::real::Real;
@@ -21,7 +24,7 @@ use crate::time::Moment;
 use der_base::header::{Class, Tag};
 use der_base::time::read_time;
 use der_walk::Element;
-use oid_names::name_of;
+use oid_names::{OwnNames, name_among};
 use std::fmt;
 
 /// The octet of TRUE by DER (X.690 11.1).
@@ -53,24 +56,25 @@ fn write_value_alone<W: fmt::Write>(
     match element.holds {
         Some(_) => Ok(()),
         None if element.constructed => Ok(()),
-        None => write_value(f, element, limit),
+        None => write_value(f, element, limit, None),
     }
 }
 
-/// Writes the value of a primitive element.
-pub(crate) fn write_value<W: fmt::Write>(
+/// Writes the value of a primitive element, with names from a table of one's own, if there is one.
+pub(crate) fn write_value<'n, W: fmt::Write>(
     f: &mut fmt::Formatter<W>,
     element: &Element<'_>,
     limit: Limit,
+    own: Option<&'n OwnNames<'n>>,
 ) -> fmt::Result
     ensures { let w = content_of element.now in WritesOne W.Write.write_str_gives f.old result
-        (IsValue limit element.now.class element.now.number w) f.new }
+        (IsValue (table_of own.entry) limit element.now.class element.now.number w) f.new }
 {
     let octets = octets_or_none(element.content);
     if element.class != Class::Universal {
         return write_octets(f, octets, limit);
     }
-    write_universal(f, element.number, octets, limit)
+    write_universal(f, element.number, octets, limit, own)
 }
 
 /// The content octets, or none.
@@ -84,20 +88,22 @@ pub fn octets_or_none(content: Option<&[u8]>) -> &[u8]
 }
 
 /// Writes a value of a universal type.
-fn write_universal<W: fmt::Write>(
+fn write_universal<'n, W: fmt::Write>(
     f: &mut fmt::Formatter<W>,
     number: u32,
     octets: &[u8],
     limit: Limit,
+    own: Option<&'n OwnNames<'n>>,
 ) -> fmt::Result
-    ensures { WritesOne W.Write.write_str_gives f.old result (IsUniversalValue limit number octets.now) f.new }
+    ensures { WritesOne W.Write.write_str_gives f.old result
+        (IsUniversalValue (table_of own.entry) limit number octets.now) f.new }
 {
     match number {
         0 | 5 => write_octets(f, octets, limit),
         1 => write_boolean(f, octets, limit),
         2 | 10 => write!(f, " {}", Number { octets, limit }),
         3 => write!(f, " {}", Bits { octets, limit }),
-        6 => write_identifier(f, octets),
+        6 => write_identifier(f, octets, limit, own),
         9 => write!(f, " {}", Real { octets, limit }),
         13 => write_relative(f, octets),
         23 => write_time(f, number, octets, limit),
@@ -185,17 +191,25 @@ fn write_truth<W: fmt::Write>(f: &mut fmt::Formatter<W>, octet: u8) -> fmt::Resu
 }
 
 /// Writes an identifier and its name.
-fn write_identifier<W: fmt::Write>(f: &mut fmt::Formatter<W>, octets: &[u8]) -> fmt::Result
-    ensures { WritesOne W.Write.write_str_gives f.old result (λ text. (name : Option (List ℕ))
-        × IfSome name (IsNameOf octets.now)
-        × (text ≡ codes " " ++ identifier_text false octets.now ++ name_text name)) f.new }
+fn write_identifier<'n, W: fmt::Write>(
+    f: &mut fmt::Formatter<W>,
+    octets: &[u8],
+    limit: Limit,
+    own: Option<&'n OwnNames<'n>>,
+) -> fmt::Result
+    ensures { let w = octets.now in WritesOne W.Write.write_str_gives f.old result (λ text. (name : Option (List ℕ))
+        × IsNameAmong (table_of own.entry) w name
+        × (text ≡ codes " " ++ identifier_text false w ++ name_text (limit_behind limit w) name)) f.new }
 {
     let arcs = Arcs {
         octets,
         relative: false,
     };
-    match name_of(octets) {
-        Some(name) => write!(f, " {arcs} {name}"),
+    match name_among(own, octets) {
+        Some(text) => {
+            let limit = limit_behind(limit, arcs)?;
+            write!(f, " {arcs} {}", Name { text, limit })
+        }
         None => write!(f, " {arcs}"),
     }
 }
@@ -219,8 +233,8 @@ fn write_time<W: fmt::Write>(
     octets: &[u8],
     limit: Limit,
 ) -> fmt::Result
-    ensures { (number ≡ 23) ⊎ (number ≡ 24)
-        → WritesOne W.Write.write_str_gives f.old result (IsUniversalValue limit number octets.now) f.new }
+    ensures { (own : Option (List Named)) → (number ≡ 23) ⊎ (number ≡ 24)
+        → WritesOne W.Write.write_str_gives f.old result (IsUniversalValue own limit number octets.now) f.new }
 {
     match read_time(Tag(number), octets) {
         Some(time) => {

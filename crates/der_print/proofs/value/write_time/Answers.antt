@@ -8,10 +8,10 @@ none_is_none e = cc
 
 pub returns-in-Some : goal.returns-in-Some
 returns-in-Some g c =
-    λ kind plain ok.
+    λ own kind plain ok.
     (codes " " ++ moment_text (c.args.number == 23) c.in-Some.time, moment c.in-Some.time c.in-Some.ensures.found refl, c.write.ensures.writes plain ok)
 
 pub returns-in-None : goal.returns-in-None
 returns-in-None g c =
-    λ kind plain ok.
+    λ own kind plain ok.
     (codes " " ++ quoted_text c.args.limit c.args.number c.args.octets.now, no_moment kind (λ x is. none_is_none (c.in-None.ensures.only x is)) refl, c.write_quoted.ensures plain ok)
