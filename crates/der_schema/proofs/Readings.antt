@@ -5,12 +5,11 @@ use Rattle.std.specs.List.{list_all}
 use Rattle.std.proofs.lemmas.List.Folds.{list_all-append}
 use Rattle.der_schema.specs.declared.schema.Component.{Component}
 use Rattle.der_schema.specs.Meaning.{Around, Encoding, Expected, Field, free, nothing, components, members, each}
-use Rattle.der_schema.specs.Meaning.{holds, chosen, selects, begins}
 use Rattle.der_schema.specs.Meaning.{or_else, found_in, next_or, next_in, member_in, State}
-use Rattle.der_schema.specs.Meaning.{passed_or, next_or_none, past_in, past}
+use Rattle.der_schema.specs.Meaning.{passed_or, place_in, past, with_rest, with_same}
 use Rattle.der_schema.specs.Opened.{no_elements, one_more, names}
-use Rattle.der_schema.specs.Readings.{IsNext, first, behind, IsAmong, here, further, Reads, any_element, component, member}
-use Rattle.der_schema.specs.Readings.{item, no_more, one_named, NamedIsExpected}
+use Rattle.der_schema.specs.Readings.{IsNext, first, behind, IsAmong, here, further, Reads, any_element, component}
+use Rattle.der_schema.specs.Readings.{member, item, no_more, one_named, NamedIsExpected}
 
 -- a component that an element is, next
 record HasNext (cs : List Component) (x : Encoding) (s : Around) (p : Field × List Component) : Type 0 where
@@ -57,33 +56,30 @@ member_of [] x s f e = absurd (cc)
 member_of (c ∷ cs) x s f e = member_by c cs x s f (found_in c x s) refl (member_of cs x s f) e
 
 reads_next : (cs : List Component) (s : State) (x : Encoding) (o : Option (Field × List Component))
-    → s.expected ≡ components cs → next_in cs x s.around ≡ o → is_some (next_or_none s x o).name ≡ true
-    → Reads s x (next_or_none s x o)
+    → s.expected ≡ components cs → next_in cs x s.around ≡ o → is_some (passed_or s x (with_rest o)).name ≡ true
+    → Reads s x (passed_or s x (with_rest o))
 reads_next cs s x (Some p) e found _ =
     let n = next_of cs x s.around p found in component cs p.1 n.c p.0 e n.next n.found refl
 reads_next cs s x None _ _ h = absurd (cc)
 
 reads_member : (cs : List Component) (s : State) (x : Encoding) (o : Option Field)
-    → s.expected ≡ members cs → member_in cs x s.around ≡ o → is_some (passed_or s x o (members cs)).name ≡ true
-    → Reads s x (passed_or s x o (members cs))
+    → s.expected ≡ members cs → member_in cs x s.around ≡ o
+    → is_some (passed_or s x (with_same o (members cs))).name ≡ true
+    → Reads s x (passed_or s x (with_same o (members cs)))
 reads_member cs s x (Some f) e found _ =
     let n = member_of cs x s.around f found in member cs n.c f e n.among n.found refl
 reads_member cs s x None _ _ h = absurd (cc)
 
 reads_item : (c : Component) (s : State) (x : Encoding) (o : Option Field)
-    → s.expected ≡ each c → found_in c x s.around ≡ o → is_some (passed_or s x o (each c)).name ≡ true
-    → Reads s x (passed_or s x o (each c))
+    → s.expected ≡ each c → found_in c x s.around ≡ o → is_some (passed_or s x (with_same o (each c))).name ≡ true
+    → Reads s x (passed_or s x (with_same o (each c)))
 reads_item c s x (Some f) e found _ = item c f e found refl
 reads_item c s x None _ _ h = absurd (cc)
 
-reads_by : (e : Expected) (s : State) (x : Encoding) → s.expected ≡ e → is_some (past_in e s x).name ≡ true
-    → Reads s x (past_in e s x)
+reads_by : (e : Expected) (s : State) (x : Encoding) → s.expected ≡ e
+    → is_some (passed_or s x (place_in e x s.around)).name ≡ true → Reads s x (passed_or s x (place_in e x s.around))
 reads_by free s x e h = any_element e refl
-reads_by chosen s x e h = absurd (cc)
-reads_by (holds _) s x e h = absurd (cc)
-reads_by (begins _ _) s x e h = absurd (cc)
 reads_by nothing s x e h = absurd (cc)
-reads_by (selects _) s x e h = absurd (cc)
 reads_by (components cs) s x e h = reads_next cs s x (next_in cs x s.around) e refl h
 reads_by (members cs) s x e h = reads_member cs s x (member_in cs x s.around) e refl h
 reads_by (each c) s x e h = reads_item c s x (found_in c x s.around) e refl h

@@ -3,8 +3,7 @@ use Rattle.std.specs.Prelude.{◌≡◌, ℕ, ◌+◌, Bool, true, ◌&&◌, Opt
 use Rattle.std.specs.List.{list_all}
 use Rattle.der_schema.specs.declared.level.Level.{Level}
 use Rattle.der_schema.specs.declared.schema.Component.{Component}
-use Rattle.der_schema.specs.Meaning.{Expected, free, nothing, components, members, each, holds, chosen, selects, begins}
-use Rattle.der_schema.specs.Meaning.{Root, State, expected_of, past}
+use Rattle.der_schema.specs.Meaning.{Expected, free, nothing, components, members, each, Root, State, expected_of, past}
 use Rattle.der_schema.specs.Opened.{Forest, no_elements, one_more, of_input, Seen, preorder, opened_past, opened_by}
 
 abbrev pub is_optional : Component → Bool
@@ -16,10 +15,6 @@ may_end_in nothing = true
 may_end_in (components cs) = list_all is_optional cs
 may_end_in (members _) = true
 may_end_in (each _) = true
-may_end_in (holds _) = true
-may_end_in chosen = true
-may_end_in (selects _) = true
-may_end_in (begins _ _) = true
 
 abbrev pub level_ends : Level → Bool
 level_ends l = may_end_in (expected_of l.expected)

@@ -3,6 +3,7 @@ pub mod Ends
 pub mod Known
 pub mod Levels
 pub mod Meaning
+pub mod NamePaths
 pub mod Named
 pub mod Opened
 pub mod Readings

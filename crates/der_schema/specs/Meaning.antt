@@ -4,6 +4,8 @@ use Rattle.std.specs.Prelude.{Option, Some, None, List, [], ◌∷◌, map, take
 use Rattle.std.specs.Borrow.{Bor}
 use Rattle.der_base.specs.TreeEquality.{same_class, same_octets}
 use Rattle.der_base.specs.declared.header.Class.{Class}
+use Rattle.der_schema.specs.declared.level.Content.{Content}
+use Rattle.der_schema.specs.declared.level.Content.TheVariants.{NoElement, Anything, Ordered, Unordered, Repeated}
 use Rattle.der_schema.specs.declared.level.Level.{Level}
 use Rattle.der_schema.specs.declared.matching.Found.{Found}
 use Rattle.der_schema.specs.declared.matching.Item.{Item}
@@ -15,6 +17,7 @@ use Rattle.der_schema.specs.declared.schema.Inside.{Inside, out-Inside}
 use Rattle.der_schema.specs.declared.schema.Inside.TheOpen.{Free, Nothing, Components, Members, Each}
 use Rattle.der_schema.specs.declared.schema.Inside.TheOpen.{Holds, Chosen, Selects, Begins}
 use Rattle.der_schema.specs.declared.schema.Inside.TheOpen.{Any, Tagged, Choice, Selected, Numbered}
+use Rattle.der_schema.specs.declared.schema.Inside.TheVariants.{Free as AnyElements}
 use Rattle.der_schema.specs.declared.schema.Schema.{Schema}
 use Rattle.der_schema.specs.declared.schema.Selection.{Selection, out-Selection}
 use Rattle.der_schema.specs.declared.schema.Type.{out-Type}
@@ -36,42 +39,30 @@ pub data Expected : Type 0 where
   components : List Component → Expected
   members : List Component → Expected
   each : Component → Expected
-  holds : List Component → Expected
-  chosen : Expected
-  selects : List Selection → Expected
-  begins : List Component → List Selection → Expected
 
-abbrev pub expected_of : Inside → Expected
-expected_of i =
-    elim (out-Inside i) [
-      | Free ↦ free
-      | Nothing ↦ nothing
-      | Components w ↦ components w.now
-      | Members w ↦ members w.now
-      | Each w ↦ each w.now
-      | Holds w ↦ holds w.now
-      | Chosen ↦ chosen
-      | Selects w ↦ selects w.now
-      | Begins w z ↦ begins w.now z.now
-    ]
+abbrev pub expected_of : Content → Expected
+expected_of NoElement = nothing
+expected_of Anything = free
+expected_of (Ordered w) = components w.now
+expected_of (Unordered w) = members w.now
+expected_of (Repeated w) = each w.now
 
 -- the types that have an index, in their order
 abbrev pub all_types : List (Bor Component) → List Component
 all_types ts = map (λ w. w.now) ts
 
--- what the last identifier selects
-abbrev pub selected_in : Option (Bor (List Component)) → Option (List Component)
-selected_in None = None
-selected_in (Some w) = Some w.now
+-- what an identifier selects: no component if it is nothing
+abbrev pub components_of : Selection → List Component
+components_of s = (out-Selection s).components.now
 
 -- what the types of elements depend on besides their components: what the last identifier selects, and the types that
 -- have an index
 pub record Around : Type 0 where
-  pub selected : Option (List Component)
+  pub selected : List Component
   pub types : List Component
 
 abbrev pub known_of : Known → Around
-known_of k = record { selected = selected_in k.selected; types = all_types k.types.now }
+known_of k = record { selected = k.selected.now; types = all_types k.types.now }
 
 -- what is expected in a content
 pub record State : Type 0 where
@@ -81,7 +72,7 @@ pub record State : Type 0 where
 abbrev pub state_of : List Component → Level → State
 state_of ts l = record {
   expected = expected_of l.expected;
-  around = record { selected = selected_in l.selected; types = ts };
+  around = record { selected = components_of l.selected.now; types = ts };
 }
 
 -- what the elements of an input are to be, and the types that have an index
@@ -92,17 +83,21 @@ pub record Root : Type 0 where
 abbrev pub root_of : Schema → Root
 root_of sc = record { components = sc.components.now; types = all_types sc.types.now }
 
+-- any elements are inside
+abbrev pub any_elements : Inside
+any_elements = AnyElements
+
 -- an element that is in a schema: its name, and what is inside
 pub record Field : Type 0 where
   pub name : List ℕ
-  pub inside : Expected
+  pub inside : Inside
 
-abbrev pub field : List ℕ → Expected → Field
-field name e = record { name = name; inside = e }
+abbrev pub field : List ℕ → Inside → Field
+field name i = record { name = name; inside = i }
 
 abbrev pub field_of : Option Found → Option Field
 field_of None = None
-field_of (Some f) = Some (field f.name.now (expected_of f.inside))
+field_of (Some f) = Some (field f.name.now f.inside.now)
 
 abbrev pub or_else : {A : Type 0} → Option A → Option A → Option A
 or_else (Some a) _ = Some a
@@ -118,7 +113,7 @@ abbrev pub has_tag : Class → ℕ → Form → Encoding → Bool
 has_tag c n f x = same_class c x.class && ((n == x.number) && fits f x.constructed)
 
 abbrev pub tagged_field : Class → ℕ → Form → Encoding → List ℕ → Inside → Option Field
-tagged_field c n f x name i = if has_tag c n f x then Some (field name (expected_of i)) else None
+tagged_field c n f x name i = if has_tag c n f x then Some (field name i) else None
 
 -- the first name, or the second if the first is empty
 abbrev pub name_or : List ℕ → List ℕ → List ℕ
@@ -144,7 +139,7 @@ alternative_in (c ∷ cs) x choice = or_else (as_alternative c x choice) (altern
 abbrev pub as_plain : Component → Encoding → List ℕ → Option Field
 as_plain c x name =
     elim (out-Type c.kind) [
-      | Any ↦ Some (field name free)
+      | Any ↦ Some (field name any_elements)
       | Tagged k n f i ↦ tagged_field k n f x name i
       | Choice w ↦ alternative_in w.now x name
       | Selected ↦ None
@@ -168,10 +163,9 @@ as_referred c ts x name =
     ]
 
 -- an element of the selected type, or any
-abbrev pub as_selected_by : Option (List Component) → List Component → Encoding → List ℕ → Option Field
-as_selected_by None ts x name = Some (field name free)
-as_selected_by (Some []) ts x name = None
-as_selected_by (Some (c ∷ _)) ts x name = as_referred c ts x (name_or c.name.now name)
+abbrev pub as_selected_by : List Component → List Component → Encoding → List ℕ → Option Field
+as_selected_by [] ts x name = Some (field name any_elements)
+as_selected_by (c ∷ _) ts x name = as_referred c ts x (name_or c.name.now name)
 
 abbrev pub as_selected : Around → Encoding → List ℕ → Option Field
 as_selected a x name = as_selected_by a.selected a.types x name
@@ -204,11 +198,9 @@ member_in [] x a = None
 member_in (c ∷ cs) x a = or_else (found_in c x a) (member_in cs x a)
 
 -- what an identifier selects
-abbrev pub selected_by : List Selection → List ℕ → Option (List Component)
-selected_by [] o = None
-selected_by (s ∷ ss) o =
-    if same_octets (out-Selection s).identifier.now o then Some (out-Selection s).components.now
-    else selected_by ss o
+abbrev pub selected_by : List Selection → List ℕ → List Component
+selected_by [] o = []
+selected_by (s ∷ ss) o = if same_octets (out-Selection s).identifier.now o then components_of s else selected_by ss o
 
 -- the content octets of the first element in these octets, if its header has two octets (X.690 8.1.2.2, 8.1.3.4)
 abbrev pub first_content : List ℕ → List ℕ
@@ -217,49 +209,52 @@ first_content (t ∷ []) = []
 first_content (t ∷ n ∷ rest) = if nat_lt n 128 then take n rest else []
 
 -- what is selected after an element
-abbrev pub selected_past : Expected → Encoding → Option (List Component) → Option (List Component)
-selected_past free x o = o
-selected_past nothing x o = o
-selected_past (components _) x o = o
-selected_past (members _) x o = o
-selected_past (each _) x o = o
-selected_past (holds _) x o = o
-selected_past chosen x o = o
-selected_past (selects ss) x o = selected_by ss x.content
-selected_past (begins _ ss) x o = selected_by ss (first_content x.content)
+abbrev pub selected_past : Inside → Encoding → List Component → List Component
+selected_past i x cs =
+    elim (out-Inside i) [
+      | Free ↦ cs
+      | Nothing ↦ cs
+      | Components w ↦ cs
+      | Members w ↦ cs
+      | Each w ↦ cs
+      | Holds w ↦ cs
+      | Chosen ↦ cs
+      | Selects w ↦ selected_by w.now x.content
+      | Begins w z ↦ selected_by z.now (first_content x.content)
+    ]
 
 -- the selected component in a string, or any elements
-abbrev pub chosen_in : Option (List Component) → Expected
-chosen_in None = free
-chosen_in (Some cs) = components cs
+abbrev pub chosen_in : List Component → Expected
+chosen_in [] = free
+chosen_in (c ∷ cs) = components (c ∷ cs)
 
 -- what is expected inside an element of this form
-abbrev pub opened : Expected → Bool → Option (List Component) → Expected
-opened free p o = free
-opened nothing p o = nothing
-opened (components cs) p o = components cs
-opened (members cs) p o = members cs
-opened (each c) p o = each c
-opened (holds cs) p o = if p then free else components cs
-opened chosen p o = if p then free else chosen_in o
-opened (selects _) p o = nothing
-opened (begins cs _) p o = components cs
+abbrev pub opened : Inside → Bool → List Component → Expected
+opened i p cs =
+    elim (out-Inside i) [
+      | Free ↦ free
+      | Nothing ↦ nothing
+      | Components w ↦ components w.now
+      | Members w ↦ members w.now
+      | Each w ↦ each w.now
+      | Holds w ↦ if p then free else components w.now
+      | Chosen ↦ if p then free else chosen_in cs
+      | Selects w ↦ nothing
+      | Begins w z ↦ components w.now
+    ]
 
--- the name of an element, and whether it is an item of a list
+-- the name of an element, and whether it is an item
 pub record Label : Type 0 where
   pub text : List ℕ
   pub is_item : Bool
 
-abbrev pub is_each : Expected → Bool
-is_each free = false
-is_each nothing = false
-is_each (components _) = false
-is_each (members _) = false
-is_each (each _) = true
-is_each (holds _) = false
-is_each chosen = false
-is_each (selects _) = false
-is_each (begins _ _) = false
+-- the elements of a content are items, which no component tells apart: those of a list, or any
+abbrev pub has_items : Expected → Bool
+has_items free = true
+has_items nothing = false
+has_items (components _) = false
+has_items (members _) = false
+has_items (each _) = true
 
 -- what a schema says of an element: its name, what is expected inside it and after it
 pub record Passed : Type 0 where
@@ -270,7 +265,7 @@ pub record Passed : Type 0 where
 -- it is this field, and this is expected after it; what is selected around it is selected inside it
 abbrev pub passed : State → Encoding → Field → Expected → Passed
 passed s x f e = record {
-  name = Some (record { text = f.name; is_item = is_each s.expected });
+  name = Some (record { text = f.name; is_item = has_items s.expected });
   inside = record { expected = opened f.inside x.constructed s.around.selected; around = s.around };
   after = record {
     expected = e;
@@ -286,25 +281,26 @@ unnamed s = record {
   after = record { expected = nothing; around = s.around };
 }
 
-abbrev pub passed_or : State → Encoding → Option Field → Expected → Passed
-passed_or s x (Some f) e = passed s x f e
-passed_or s x None e = unnamed s
+abbrev pub with_rest : Option (Field × List Component) → Option (Field × Expected)
+with_rest None = None
+with_rest (Some p) = Some (p.0, components p.1)
 
-abbrev pub next_or_none : State → Encoding → Option (Field × List Component) → Passed
-next_or_none s x (Some p) = passed s x p.0 (components p.1)
-next_or_none s x None = unnamed s
+abbrev pub with_same : Option Field → Expected → Option (Field × Expected)
+with_same None e = None
+with_same (Some f) e = Some (f, e)
 
-abbrev pub past_in : Expected → State → Encoding → Passed
-past_in free s x = passed s x (field [] free) free
-past_in nothing s x = unnamed s
-past_in (components cs) s x = next_or_none s x (next_in cs x s.around)
-past_in (members cs) s x = passed_or s x (member_in cs x s.around) (members cs)
-past_in (each c) s x = passed_or s x (found_in c x s.around) (each c)
-past_in (holds _) s x = unnamed s
-past_in chosen s x = unnamed s
-past_in (selects _) s x = unnamed s
-past_in (begins _ _) s x = unnamed s
+-- what an element is in a content, and what is expected after it
+abbrev pub place_in : Expected → Encoding → Around → Option (Field × Expected)
+place_in free x a = Some (field [] any_elements, free)
+place_in nothing x a = None
+place_in (components cs) x a = with_rest (next_in cs x a)
+place_in (members cs) x a = with_same (member_in cs x a) (members cs)
+place_in (each c) x a = with_same (found_in c x a) (each c)
+
+abbrev pub passed_or : State → Encoding → Option (Field × Expected) → Passed
+passed_or s x (Some p) = passed s x p.0 p.1
+passed_or s x None = unnamed s
 
 -- what a schema says of the next element in a content
 abbrev pub past : State → Encoding → Passed
-past s x = past_in s.expected s x
+past s x = passed_or s x (place_in s.expected x s.around)

@@ -17,7 +17,7 @@ names s (one_more x inside after) =
 abbrev pub of_input : Root → State
 of_input sc = record {
   expected = components sc.components;
-  around = record { selected = None; types = sc.types };
+  around = record { selected = []; types = sc.types };
 }
 
 -- an element with so many around it

@@ -1,24 +1,53 @@
 //! What is expected in a content.
-ghost use Rattle.std.specs.Prelude.{◌≡◌};
+ghost use Rattle.std.specs.Prelude.{◌≡◌, []};
 ghost use Rattle.std.specs.List.{list_all};
 ghost use Rattle.der_schema.specs.Ends.{is_optional, level_ends};
+ghost use Rattle.der_schema.specs.Meaning.{components_of};
 
-use crate::schema::{Component, Inside};
+use crate::schema::{Component, Selection};
+
+/// What the elements of a content are, from an offset on.
+#[derive(Clone, Copy)]
+pub(crate) enum Content {
+    /// None is in the schema.
+    NoElement,
+    /// They are any elements.
+    Anything,
+    /// These components, in their order.
+    Ordered(&'static [Component]),
+    /// These components, in any order.
+    Unordered(&'static [Component]),
+    /// Items, each of them this.
+    Repeated(&'static Component),
+}
 
 /// What is expected in a content, from an offset on.
 #[derive(Clone, Copy)]
 pub(crate) struct Level {
     /// The elements that are still to come.
-    pub expected: Inside,
+    pub expected: Content,
     /// What the last identifier selects.
-    pub selected: Option<&'static [Component]>,
+    pub selected: &'static Selection,
+}
+
+/// What an identifier selects that no schema knows.
+const NOTHING_SELECTED: &Selection = &Selection {
+    identifier: &[],
+    components: &[],
+};
+
+/// What is selected where no identifier is.
+pub(crate) fn nothing_selected() -> &'static Selection
+    ensures { components_of result.now ≡ [] }
+{
+    NOTHING_SELECTED
 }
 
 impl Level {
     /// A content of no elements, which fills what isn't used.
     pub(crate) const NOTHING: Level = Level {
-        expected: Inside::Nothing,
-        selected: None,
+        expected: Content::NoElement,
+        selected: NOTHING_SELECTED,
     };
 
     /// Whether the content may end here: all components that are still to come may be absent.
@@ -26,7 +55,7 @@ impl Level {
         ensures { result ≡ level_ends self.now }
     {
         match self.expected {
-            Inside::Components(components) => are_optional(components),
+            Content::Ordered(components) => are_optional(components),
             _ => true,
         }
     }

@@ -50,15 +50,15 @@ impl Levels {
         &mut self,
         depth: usize,
         types: &[&'static Component],
-        item: Item<'_>,
+        item: &Item<'_>,
     ) -> Option<Name>
         ensures opened { depth ≤ 100 → states_in (all_types types.now) self.new
-            ≡ opened_past (states_in (all_types types.now) self.old) (seen depth (encoding_of item.entry)) }
+            ≡ opened_past (states_in (all_types types.now) self.old) (seen depth (encoding_of item.now)) }
         ensures whole { depth ≤ 100 → self.new.whole
             ≡ whole_past self.old.whole (states_in (all_types types.now) self.old)
-            (seen depth (encoding_of item.entry)) }
+            (seen depth (encoding_of item.now)) }
         ensures name { depth ≤ 100 → label_of result
-            ≡ name_in (states_in (all_types types.now) self.old) (seen depth (encoding_of item.entry)) }
+            ≡ name_in (states_in (all_types types.now) self.old) (seen depth (encoding_of item.now)) }
     {
         if depth > MAX_DEPTH {
             return None;
@@ -66,7 +66,7 @@ impl Levels {
         let Some(level) = self.level_at(depth) else {
             return None;
         };
-        let step = step_past(level, types, item);
+        let step = step_past(&level, types, item);
         self.whole = self.is_whole_inside(depth);
         self.put(depth, step.after, step.inside);
         step.name

@@ -1,14 +1,13 @@
 //! Which component of a schema an element is.
 ghost use Rattle.std.specs.Prelude.{◌≡◌, Option, Some, None, slice_get};
-ghost use Rattle.der_schema.specs.Meaning.{encoding_of, expected_of, field, field_of, fits, known_of};
 ghost use Rattle.der_schema.specs.Meaning.{all_types, alternative_in, as_alternative, as_plain, as_numbered};
-ghost use Rattle.der_schema.specs.Meaning.{as_referred, as_selected};
-ghost use Rattle.der_schema.specs.Meaning.{first_content, found_in, is_each, member_in, name_or, next_in, opened};
-ghost use Rattle.der_schema.specs.Meaning.{passed, past};
-ghost use Rattle.der_schema.specs.Meaning.{selected_by, selected_in, selected_past, state_of, tagged_field, unnamed};
-ghost use Rattle.der_schema.specs.Steps.{component_in, next_found, passed_of};
+ghost use Rattle.der_schema.specs.Meaning.{as_referred, as_selected, chosen_in, components_of, encoding_of};
+ghost use Rattle.der_schema.specs.Meaning.{expected_of, field, field_of, first_content, fits, found_in, has_items};
+ghost use Rattle.der_schema.specs.Meaning.{known_of, member_in, name_or, next_in, opened, passed, past, place_in};
+ghost use Rattle.der_schema.specs.Meaning.{selected_by, selected_past, state_of, tagged_field, unnamed};
+ghost use Rattle.der_schema.specs.Steps.{component_in, next_found, passed_of, place_found, selection_in};
 
-use crate::level::Level;
+use crate::level::{Content, Level, nothing_selected};
 use crate::schema::{Class, Component, Form, Inside, Selection, Type};
 
 /// What a schema sees of an element.
@@ -27,15 +26,16 @@ pub(crate) struct Item<'a> {
 pub struct Name {
     /// The identifier in the definition of the type. It is empty where that has none, as inside an explicit tag.
     pub text: &'static str,
-    /// Whether the element is an item of a SEQUENCE OF or SET OF.
+    /// Whether the element is an item, which its index tells apart: of a SEQUENCE OF or SET OF, or of a content that no
+    /// type describes.
     pub is_item: bool,
 }
 
 /// What the types of elements depend on besides their components.
 #[derive(Clone, Copy)]
 pub(crate) struct Known<'a> {
-    /// What the last identifier selects.
-    pub selected: Option<&'static [Component]>,
+    /// What the last identifier selects: no component if it is nothing.
+    pub selected: &'static [Component],
     /// The types of the schema that have an index.
     pub types: &'a [&'static Component],
 }
@@ -44,7 +44,7 @@ pub(crate) struct Known<'a> {
 #[derive(Clone, Copy)]
 pub(crate) struct Found {
     pub name: &'static str,
-    pub inside: Inside,
+    pub inside: &'static Inside,
 }
 
 /// What a schema says of an element: its name, what is expected inside it, and after it.
@@ -56,70 +56,79 @@ pub(crate) struct Step {
 }
 
 /// What a level says of the next element in its content.
-pub(crate) fn step_past(level: Level, types: &[&'static Component], item: Item<'_>) -> Step
+pub(crate) fn step_past(level: &Level, types: &[&'static Component], item: &Item<'_>) -> Step
     ensures { passed_of (all_types types.now) result
-        ≡ past (state_of (all_types types.now) level) (encoding_of item.entry) }
+        ≡ past (state_of (all_types types.now) level.now) (encoding_of item.now) }
 {
     let known = Known {
-        selected: level.selected,
+        selected: level.selected.components,
         types,
     };
-    match level.expected {
-        Inside::Free => step_to(level, types, item, Found::any(""), Inside::Free),
-        Inside::Components(components) => match next_of(components, item, known) {
-            Some((found, rest)) => step_to(level, types, item, found, Inside::Components(rest)),
-            None => step_out(level, types),
-        },
-        Inside::Members(components) => match member_of(components, item, known) {
-            Some(found) => step_to(level, types, item, found, level.expected),
-            None => step_out(level, types),
-        },
-        Inside::Each(component) => match found_as(component, item, known) {
-            Some(found) => step_to(level, types, item, found, level.expected),
-            None => step_out(level, types),
-        },
-        Inside::Nothing
-        | Inside::Holds(_)
-        | Inside::Chosen
-        | Inside::Selects(_)
-        | Inside::Begins(_, _) => step_out(level, types),
+    match place_of(level.expected, item, &known) {
+        Some((found, expected)) => step_to(level, types, item, found, expected),
+        None => step_out(level, types),
     }
 }
 
+/// What an element is in a content, and what is expected after it.
+fn place_of(expected: Content, item: &Item<'_>, known: &Known<'_>) -> Option<(Found, Content)>
+    ensures { place_found result ≡ place_in (expected_of expected) (encoding_of item.now) (known_of known.now) }
+{
+    match expected {
+        Content::NoElement => None,
+        Content::Anything => Some((Found::any(""), expected)),
+        Content::Ordered(components) => match next_of(components, item, known) {
+            Some((found, rest)) => Some((found, Content::Ordered(rest))),
+            None => None,
+        },
+        Content::Unordered(components) => match member_of(components, item, known) {
+            Some(found) => Some((found, expected)),
+            None => None,
+        },
+        Content::Repeated(component) => match found_as(component, item, known) {
+            Some(found) => Some((found, expected)),
+            None => None,
+        },
+    }
+}
+
+/// What is inside any element.
+static ANY_ELEMENTS: Inside = Inside::Free;
+
 impl Found {
     ghost use Rattle.std.specs.Prelude.{[]};
-    ghost use Rattle.der_schema.specs.Meaning.{field, free};
+    ghost use Rattle.der_schema.specs.Meaning.{any_elements, field};
 
     /// Any element, with this name.
     fn any(name: &'static str) -> Found
-        ensures { field_of (Some result) ≡ Some (field name.now free) }
+        ensures { field_of (Some result) ≡ Some (field name.now any_elements) }
     {
         Found {
             name,
-            inside: Inside::Free,
+            inside: &ANY_ELEMENTS,
         }
     }
 }
 
 /// The step past an element that is in the schema.
 fn step_to(
-    level: Level,
+    level: &Level,
     types: &[&'static Component],
-    item: Item<'_>,
+    item: &Item<'_>,
     found: Found,
-    expected: Inside,
+    expected: Content,
 ) -> Step
     ensures { passed_of (all_types types.now) result
-        ≡ passed (state_of (all_types types.now) level) (encoding_of item.entry)
-        (field found.name.now (expected_of found.inside)) (expected_of expected) }
+        ≡ passed (state_of (all_types types.now) level.now) (encoding_of item.now)
+        (field found.name.now found.inside.now) (expected_of expected) }
 {
     Step {
         name: Some(Name {
             text: found.name,
-            is_item: is_list(level.expected),
+            is_item: has_items(level.expected),
         }),
         inside: Level {
-            expected: opened(found.inside, item.constructed, level.selected),
+            expected: opened(found.inside, item.constructed, level.selected.components),
             selected: level.selected,
         },
         after: Level {
@@ -130,11 +139,11 @@ fn step_to(
 }
 
 /// The step past an element that isn't in the schema: no element in it, or after it in the content, has a name.
-fn step_out(level: Level, types: &[&'static Component]) -> Step
-    ensures { passed_of (all_types types.now) result ≡ unnamed (state_of (all_types types.now) level) }
+fn step_out(level: &Level, types: &[&'static Component]) -> Step
+    ensures { passed_of (all_types types.now) result ≡ unnamed (state_of (all_types types.now) level.now) }
 {
     let nothing = Level {
-        expected: Inside::Nothing,
+        expected: Content::NoElement,
         selected: level.selected,
     };
     Step {
@@ -144,56 +153,80 @@ fn step_out(level: Level, types: &[&'static Component]) -> Step
     }
 }
 
-/// Whether the elements are items of a list.
-fn is_list(expected: Inside) -> bool
-    ensures { result ≡ is_each (expected_of expected) }
+/// Whether the elements are items, which their index tells apart.
+fn has_items(expected: Content) -> bool
+    ensures { result ≡ has_items (expected_of expected) }
 {
     match expected {
-        Inside::Each(_) => true,
-        _ => false,
+        Content::Anything | Content::Repeated(_) => true,
+        Content::NoElement | Content::Ordered(_) | Content::Unordered(_) => false,
     }
 }
 
 /// What is expected inside an element of this form.
-fn opened(inside: Inside, constructed: bool, selected: Option<&'static [Component]>) -> Inside
-    ensures { expected_of result ≡ opened (expected_of inside) constructed (selected_in selected.entry) }
+fn opened(inside: &'static Inside, constructed: bool, selected: &'static [Component]) -> Content
+    ensures { expected_of result ≡ opened inside.now constructed selected.now }
 {
-    match inside {
-        Inside::Holds(_) | Inside::Chosen if constructed => Inside::Free,
-        Inside::Holds(components) | Inside::Begins(components, _) => Inside::Components(components),
-        Inside::Chosen => match selected {
-            Some(components) => Inside::Components(components),
-            None => Inside::Free,
-        },
-        Inside::Selects(_) => Inside::Nothing,
-        other => other,
+    match *inside {
+        Inside::Free => Content::Anything,
+        Inside::Nothing | Inside::Selects(_) => Content::NoElement,
+        Inside::Components(components) | Inside::Begins(components, _) => Content::Ordered(
+            components,
+        ),
+        Inside::Members(components) => Content::Unordered(components),
+        Inside::Each(component) => Content::Repeated(component),
+        Inside::Holds(_) | Inside::Chosen if constructed => Content::Anything,
+        Inside::Holds(components) => Content::Ordered(components),
+        Inside::Chosen => chosen(selected),
+    }
+}
+
+/// What is expected in a primitive string that holds what is selected.
+fn chosen(selected: &'static [Component]) -> Content
+    ensures { expected_of result ≡ chosen_in selected.now }
+{
+    match selected {
+        [] => Content::Anything,
+        [_, ..] => Content::Ordered(selected),
     }
 }
 
 /// What is selected after an element.
 fn selected_after(
-    inside: Inside,
-    item: Item<'_>,
-    selected: Option<&'static [Component]>,
-) -> Option<&'static [Component]>
-    ensures { selected_in result ≡ selected_past (expected_of inside) (encoding_of item.entry)
-        (selected_in selected.entry) }
+    inside: &'static Inside,
+    item: &Item<'_>,
+    selected: &'static Selection,
+) -> &'static Selection
+    ensures { components_of result.now
+        ≡ selected_past inside.now (encoding_of item.now) (components_of selected.now) }
 {
-    match inside {
-        Inside::Selects(selections) => selected_by(selections, item.content),
-        Inside::Begins(_, selections) => selected_by(selections, first_content(item.content)),
+    match *inside {
+        Inside::Selects(selections) => selected_or_none(selected_by(selections, item.content)),
+        Inside::Begins(_, selections) => {
+            selected_or_none(selected_by(selections, first_content(item.content)))
+        }
         _ => selected,
     }
 }
 
+/// A selection, or that of nothing.
+fn selected_or_none(selection: Option<&'static Selection>) -> &'static Selection
+    ensures { components_of result.now ≡ selection_in selection.entry }
+{
+    match selection {
+        Some(selection) => selection,
+        None => nothing_selected(),
+    }
+}
+
 /// What an identifier selects.
-fn selected_by(selections: &'static [Selection], identifier: &[u8]) -> Option<&'static [Component]>
-    ensures { selected_in result ≡ selected_by selections.now identifier.now }
+fn selected_by(selections: &'static [Selection], identifier: &[u8]) -> Option<&'static Selection>
+    ensures { selection_in result ≡ selected_by selections.now identifier.now }
 {
     let mut ahead = selections;
     while let Some((selection, rest)) = ahead.split_first() {
         if selection.identifier == identifier {
-            return Some(selection.components);
+            return Some(selection);
         }
         ahead = rest;
     }
@@ -216,10 +249,10 @@ fn first_content(octets: &[u8]) -> &[u8]
 /// The first component that an element is, where those before it may be absent, and the components after it.
 fn next_of(
     components: &'static [Component],
-    item: Item<'_>,
-    known: Known<'_>,
+    item: &Item<'_>,
+    known: &Known<'_>,
 ) -> Option<(Found, &'static [Component])>
-    ensures { next_found result ≡ next_in components.now (encoding_of item.entry) (known_of known.entry) }
+    ensures { next_found result ≡ next_in components.now (encoding_of item.now) (known_of known.now) }
 {
     let mut ahead = components;
     while let Some((component, rest)) = ahead.split_first() {
@@ -235,8 +268,8 @@ fn next_of(
 }
 
 /// The first component that an element is.
-fn member_of(components: &'static [Component], item: Item<'_>, known: Known<'_>) -> Option<Found>
-    ensures { field_of result ≡ member_in components.now (encoding_of item.entry) (known_of known.entry) }
+fn member_of(components: &'static [Component], item: &Item<'_>, known: &Known<'_>) -> Option<Found>
+    ensures { field_of result ≡ member_in components.now (encoding_of item.now) (known_of known.now) }
 {
     let mut ahead = components;
     while let Some((component, rest)) = ahead.split_first() {
@@ -249,8 +282,8 @@ fn member_of(components: &'static [Component], item: Item<'_>, known: Known<'_>)
 }
 
 /// An element as this component, if it may be that.
-fn found_as(component: &'static Component, item: Item<'_>, known: Known<'_>) -> Option<Found>
-    ensures { field_of result ≡ found_in component.now (encoding_of item.entry) (known_of known.entry) }
+fn found_as(component: &'static Component, item: &Item<'_>, known: &Known<'_>) -> Option<Found>
+    ensures { field_of result ≡ found_in component.now (encoding_of item.now) (known_of known.now) }
 {
     match component.kind {
         Type::Selected => selected_as(known, item, component.name),
@@ -259,15 +292,12 @@ fn found_as(component: &'static Component, item: Item<'_>, known: Known<'_>) -> 
 }
 
 /// An element as what the last identifier selects, or any element if it selects nothing.
-fn selected_as(known: Known<'_>, item: Item<'_>, name: &'static str) -> Option<Found>
-    ensures { field_of result ≡ as_selected (known_of known.entry) (encoding_of item.entry) name.now }
+fn selected_as(known: &Known<'_>, item: &Item<'_>, name: &'static str) -> Option<Found>
+    ensures { field_of result ≡ as_selected (known_of known.now) (encoding_of item.now) name.now }
 {
     match known.selected {
-        Some([selected, ..]) => {
-            referred_as(selected, known.types, item, name_or(selected.name, name))
-        }
-        Some([]) => None,
-        None => Some(Found::any(name)),
+        [selected, ..] => referred_as(selected, known.types, item, name_or(selected.name, name)),
+        [] => Some(Found::any(name)),
     }
 }
 
@@ -275,10 +305,10 @@ fn selected_as(known: Known<'_>, item: Item<'_>, name: &'static str) -> Option<F
 fn referred_as(
     component: &'static Component,
     types: &[&'static Component],
-    item: Item<'_>,
+    item: &Item<'_>,
     name: &'static str,
 ) -> Option<Found>
-    ensures { field_of result ≡ as_referred component.now (all_types types.now) (encoding_of item.entry) name.now }
+    ensures { field_of result ≡ as_referred component.now (all_types types.now) (encoding_of item.now) name.now }
 {
     match component.kind {
         Type::Numbered(index) => numbered_as(types, index, item, name),
@@ -290,10 +320,10 @@ fn referred_as(
 fn numbered_as(
     types: &[&'static Component],
     index: usize,
-    item: Item<'_>,
+    item: &Item<'_>,
     name: &'static str,
 ) -> Option<Found>
-    ensures { field_of result ≡ as_numbered (slice_get (all_types types.now) index) (encoding_of item.entry) name.now }
+    ensures { field_of result ≡ as_numbered (slice_get (all_types types.now) index) (encoding_of item.now) name.now }
 {
     match type_at(types, index) {
         Some(numbered) => plain_as(numbered, item, name_or(name, numbered.name)),
@@ -309,13 +339,13 @@ fn type_at(types: &[&'static Component], index: usize) -> Option<&'static Compon
 }
 
 /// An element as this component, which nothing else says, under this name.
-fn plain_as(component: &'static Component, item: Item<'_>, name: &'static str) -> Option<Found>
-    ensures { field_of result ≡ as_plain component.now (encoding_of item.entry) name.now }
+fn plain_as(component: &'static Component, item: &Item<'_>, name: &'static str) -> Option<Found>
+    ensures { field_of result ≡ as_plain component.now (encoding_of item.now) name.now }
 {
-    match component.kind {
+    match &component.kind {
         Type::Any => Some(Found::any(name)),
         Type::Tagged(class, number, form, inside) => {
-            tagged_as(class, number, form, item, Found { name, inside })
+            tagged_as(*class, *number, *form, item, Found { name, inside })
         }
         Type::Choice(alternatives) => alternative_of(alternatives, item, name),
         Type::Selected | Type::Numbered(_) => None,
@@ -325,10 +355,10 @@ fn plain_as(component: &'static Component, item: Item<'_>, name: &'static str) -
 /// An element as the first alternative with its tag. It is named as that, or as the choice if that has no name.
 fn alternative_of(
     alternatives: &'static [Component],
-    item: Item<'_>,
+    item: &Item<'_>,
     choice: &'static str,
 ) -> Option<Found>
-    ensures { field_of result ≡ alternative_in alternatives.now (encoding_of item.entry) choice.now }
+    ensures { field_of result ≡ alternative_in alternatives.now (encoding_of item.now) choice.now }
 {
     let mut ahead = alternatives;
     while let Some((alternative, rest)) = ahead.split_first() {
@@ -343,15 +373,15 @@ fn alternative_of(
 /// An element as this alternative, if it has its tag.
 fn as_alternative(
     alternative: &'static Component,
-    item: Item<'_>,
+    item: &Item<'_>,
     choice: &'static str,
 ) -> Option<Found>
-    ensures { field_of result ≡ as_alternative alternative.now (encoding_of item.entry) choice.now }
+    ensures { field_of result ≡ as_alternative alternative.now (encoding_of item.now) choice.now }
 {
-    match alternative.kind {
+    match &alternative.kind {
         Type::Tagged(class, number, form, inside) => {
             let name = name_or(alternative.name, choice);
-            tagged_as(class, number, form, item, Found { name, inside })
+            tagged_as(*class, *number, *form, item, Found { name, inside })
         }
         _ => None,
     }
@@ -365,8 +395,8 @@ fn name_or(name: &'static str, other: &'static str) -> &'static str
 }
 
 /// What is found, if an element has this tag and form.
-fn tagged_as(class: Class, number: u32, form: Form, item: Item<'_>, found: Found) -> Option<Found>
-    ensures { field_of result ≡ tagged_field class number form (encoding_of item.entry) found.name.now found.inside }
+fn tagged_as(class: Class, number: u32, form: Form, item: &Item<'_>, found: Found) -> Option<Found>
+    ensures { field_of result ≡ tagged_field class number form (encoding_of item.now) found.name.now found.inside.now }
 {
     if class == item.class && number == item.number && fits(form, item.constructed) {
         Some(found)

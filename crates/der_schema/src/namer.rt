@@ -2,10 +2,10 @@
 ghost use Rattle.std.specs.Prelude.{◌≡◌, ◌≤◌, [], List, ℕ};
 
 use crate::item::item_of;
-use crate::level::Level;
+use crate::level::{Content, Level, nothing_selected};
 use crate::levels::Levels;
 use crate::matching::Name;
-use crate::schema::{Component, Inside, Schema};
+use crate::schema::{Component, Schema};
 use der_walk::Element;
 
 /// Names the elements of an input by a schema, one after another in preorder. It takes no memory.
@@ -41,8 +41,8 @@ impl<'a> Namer<'a> {
         ensures { HasNamed (root_of schema.entry) input.now [] result }
     {
         let level = Level {
-            expected: Inside::Components(schema.components),
-            selected: None,
+            expected: Content::Ordered(schema.components),
+            selected: nothing_selected(),
         };
         Namer {
             input,
@@ -58,7 +58,7 @@ impl<'a> Namer<'a> {
             → NamesNext sc i vs (visited_of element.now) self.new result }
     {
         self.levels
-            .pass(element.depth, self.types, item_of(self.input, element))
+            .pass(element.depth, self.types, &item_of(self.input, element))
     }
 
     /// Whether each content of the elements so far has all its mandatory components, if they end here.

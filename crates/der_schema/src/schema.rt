@@ -60,7 +60,7 @@ pub enum Inside {
     Nothing,
     /// These components, in their order.
     Components(&'static [Component]),
-    /// These components, in any order.
+    /// These components, in any order, as BER has them in a SET. They may repeat or lack.
     Members(&'static [Component]),
     /// Items, each of them this.
     Each(&'static Component),
@@ -125,6 +125,14 @@ macro_rules! string {
 macro_rules! sequence {
     ($($component:expr),* $(,)?) => {
         $crate::tagged!(Universal 16 Constructed $crate::schema::Inside::Components(&[$($component),*]))
+    };
+}
+
+/// A SET of these components, in the order of their tags, as DER has them (X.690 10.3).
+#[macro_export]
+macro_rules! set {
+    ($($component:expr),* $(,)?) => {
+        $crate::tagged!(Universal 17 Constructed $crate::schema::Inside::Components(&[$($component),*]))
     };
 }
 

@@ -1,0 +1,90 @@
+-- The lines of an input whose elements are named by a type, and how the input fits the type.
+use Rattle.std.specs.Prelude.{◌≡◌, ℕ, true, false, MatchOption, Option, Some, None, List, [], ◌∷◌, ◌++◌}
+use Rattle.std.specs.Option.{is_some}
+use Rattle.std.specs.Io.KnownBytes.{Appends}
+use Rattle.der_base.specs.declared.rules.Rules.{Rules}
+use Rattle.der_fields.specs.declared.named.Named.{Named}
+use Rattle.der_fields.specs.declared.named.Named.TheVariants.{Whole, Lacks, Left, Refused}
+use Rattle.der_print.specs.declared.style.Style.{Style}
+use Rattle.der_print.specs.Lines.{IsFieldLine, content_in}
+use Rattle.der_schema.specs.Encodings.{all_seen, seen_in}
+use Rattle.der_schema.specs.Ends.{is_whole_after}
+use Rattle.der_schema.specs.Known.{all_extras}
+use Rattle.der_schema.specs.Meaning.{Label, Root}
+use Rattle.der_schema.specs.Opened.{name_after}
+use Rattle.der_walk.specs.Visits.{Visited, Visits}
+use Rattle.der_walk.specs.Walked.{IsRefused}
+
+-- what a type says of an element after others of an input: its name, or that it isn't in the type
+abbrev pub label_after : Root → List ℕ → List Visited → Visited → Option Label
+label_after sc i before v = name_after sc (all_seen i before) (seen_in i v)
+
+-- the text of a name, and nothing where there is none
+abbrev pub label_text : Option Label → List ℕ
+label_text (Some l) = l.text
+label_text None = []
+
+-- a line for each of some elements that follow others in an input, in their order, with the names of their fields
+pub data AreFieldLinesAfter (sc : Root) (style : Style) (i : List ℕ)
+    : List Visited → List Visited → List ℕ → Type 0 where
+  no_lines : {before : List Visited} → AreFieldLinesAfter sc style i before [] []
+  one_more_line : {before vs : List Visited} {v : Visited} (line rest : List ℕ)
+      → IsFieldLine (label_text (label_after sc i before v)) style v (content_in i v) line
+      → AreFieldLinesAfter sc style i (before ++ v ∷ []) vs rest
+      → AreFieldLinesAfter sc style i before (v ∷ vs) (line ++ rest)
+
+-- the same of the first elements of an input
+abbrev pub AreFieldLines : Root → Style → List ℕ → List Visited → List ℕ → Type 0
+AreFieldLines sc style i vs text = AreFieldLinesAfter sc style i [] vs text
+
+-- each of the first elements of an input is in the type
+abbrev pub AreInType : Root → List ℕ → List Visited → Type 0
+AreInType sc i vs = (before after : List Visited) (v : Visited) → vs ≡ before ++ v ∷ after
+    → is_some (label_after sc i before v) ≡ true
+
+-- the first of them that isn't in the type begins at this offset
+pub record LeavesAt (sc : Root) (i : List ℕ) (vs : List Visited) (offset : ℕ) : Type 0 where
+  pub before : List Visited
+  pub element : Visited
+  pub after : List Visited
+  pub parts : vs ≡ before ++ element ∷ after
+  pub in_type : AreInType sc i before
+  pub not_in_type : is_some (label_after sc i before element) ≡ false
+  pub here : offset ≡ element.offset
+
+abbrev pub LeavesOrNot : Root → List ℕ → List Visited → Option ℕ → Type 0
+LeavesOrNot sc i vs left = MatchOption left (AreInType sc i vs) (LeavesAt sc i vs)
+
+-- where the type is left after one more element, which has this name and offset
+abbrev pub left_past : Option ℕ → Option Label → ℕ → Option ℕ
+left_past left (Some l) offset = left
+left_past (Some p) None offset = Some p
+left_past None None offset = Some offset
+
+-- how an input fits a type: it is these elements, or is refused after them
+abbrev pub Fits : Root → Rules → List ℕ → List Visited → Named → Type 0
+Fits sc r i vs Whole = Visits all_extras r 101 0 0 i vs × AreInType sc i vs
+    × (is_whole_after sc (all_seen i vs) ≡ true)
+Fits sc r i vs Lacks = Visits all_extras r 101 0 0 i vs × AreInType sc i vs
+    × (is_whole_after sc (all_seen i vs) ≡ false)
+Fits sc r i vs (Left offset) = Visits all_extras r 101 0 0 i vs × LeavesAt sc i vs offset
+Fits sc r i vs (Refused end) = IsRefused all_extras r i vs end.walk end.refusal × LeavesOrNot sc i vs end.left
+
+-- two answers are the same, or both say that the input is refused
+abbrev pub AreSame : Named → Named → Type 0
+AreSame (Refused _) (Refused _) = Unit {0}
+AreSame n m = n ≡ m
+
+-- Law: an input fits a type in one way.
+abbrev pub FitsInOneWay : Type 0
+FitsInOneWay = (sc : Root) (r : Rules) (i : List ℕ) (vs us : List Visited) (n m : Named) → Fits sc r i vs n
+    → Fits sc r i us m → AreSame n m
+
+-- known octets grew by a line for each element of an input, up to its end or to what is refused
+pub record WritesFields (sc : Root) (r : Rules) (style : Style) (i : List ℕ) (named : Named)
+    (old new : Option (List ℕ)) : Type 0 where
+  pub elements : List Visited
+  pub fits : Fits sc r i elements named
+  pub text : List ℕ
+  pub lines : AreFieldLines sc style i elements text
+  pub adds : Appends old new text

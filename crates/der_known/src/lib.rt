@@ -1,0 +1,21 @@
+//! Types of X.509, PKCS, CMS, OCSP, SNMP, LDAP and Kerberos as constants, by which der_schema names elements.
+#![tactic(auto)]
+
+mod algorithms;
+mod attributes;
+mod certificates;
+mod cms;
+mod extensions;
+mod kerberos;
+mod keys;
+mod known;
+mod ldap;
+mod names;
+mod numbered;
+mod ocsp;
+mod pkcs12;
+mod snmp;
+mod time_stamps;
+mod universal;
+
+pub use known::KnownTypes;
