@@ -1,24 +1,25 @@
--- A number with a default under an implicit tag.
-use Rattle.std.proofs.Common.{◌≡◌, ℕ, List, None, Result, Ok, Err, sym, ap, subst, ◌∙◌, inl, inr}
-use Rattle.std.specs.Prelude.{ℤ, pos}
+-- A value with a default under an implicit tag.
+use Rattle.std.proofs.Common.{◌≡◌, ℕ, Bool, List, None, Result, Ok, Err, sym, ap, subst, ◌∙◌, inl, inr}
+use Rattle.std.specs.Prelude.{pos}
 use Rattle.der_base.specs.declared.error.Error.{Error as BerError}
 use Rattle.der_base.specs.declared.header.Class.TheVariants.{ContextSpecific}
+use Rattle.der_base.specs.declared.rules.Rules.{Rules}
 use Rattle.der_base.specs.Numbers.{unsigned}
-use Rattle.der_values.specs.Kinds.{numbers}
+use Rattle.der_values.specs.Kinds.{Kind, booleans, numbers}
 use Rattle.der_cursor.specs.declared.cursor.Cursor.{Cursor}
 use Rattle.der_cursor.specs.declared.refusal.Refusal.{Refusal}
 use Rattle.der_cursor.specs.Cursors.{octets_left, rules_of, advanced, IsTagged, IsNextType, ReadsOr, ReadsValue}
 use Rattle.der_cursor.specs.Elements.{IsNext}
-use Rattle.der_cursor.specs.Formats.{Default, Format, Implicit, Never, Number, ReadsField, ReadsNext, Required}
+use Rattle.der_cursor.specs.Formats.{Boolean, Default, Format, Implicit, Never, Number, Primitive, ReadsField, ReadsNext, Required, Value}
 use Rattle.der_cursor.proofs.FormatLaws.{implicit_read}
 use Rattle.der_extensions.proofs.NameLaws.{next_of}
 
 -- the cursor asks for the tag that was said
-wanted : (n : ℕ) (old tagged : Cursor) → IsTagged ContextSpecific n old tagged → IsNextType 2 tagged → IsNext ContextSpecific n (octets_left old)
-wanted n old tagged q h = subst (λ c. IsNextType 2 c → IsNext ContextSpecific n (octets_left old)) (sym q) (λ z. z) h
+wanted : (t n : ℕ) (old tagged : Cursor) → IsTagged ContextSpecific n old tagged → IsNextType t tagged → IsNext ContextSpecific n (octets_left old)
+wanted t n old tagged q h = subst (λ c. IsNextType t c → IsNext ContextSpecific n (octets_left old)) (sym q) (λ z. z) h
 
-unwanted : (n : ℕ) (old tagged : Cursor) → IsTagged ContextSpecific n old tagged → IsNext ContextSpecific n (octets_left old) → IsNextType 2 tagged
-unwanted n old tagged q h = subst (λ c. IsNextType 2 c) (sym q) h
+unwanted : (t n : ℕ) (old tagged : Cursor) → IsTagged ContextSpecific n old tagged → IsNext ContextSpecific n (octets_left old) → IsNextType t tagged
+unwanted t n old tagged q h = subst (λ c. IsNextType t c) (sym q) h
 
 stays : (n : ℕ) (old tagged new : Cursor) → IsTagged ContextSpecific n old tagged → new ≡ advanced tagged tagged.left → (octets_left old ≡ octets_left new) × (new ≡ advanced old new.left)
 stays n old tagged new q m =
@@ -28,35 +29,45 @@ stays n old tagged new q m =
 same_rules : (n : ℕ) (old tagged : Cursor) → IsTagged ContextSpecific n old tagged → rules_of tagged ≡ rules_of old
 same_rules n old tagged q = ap rules_of q
 
-module _ (d n : ℕ) (old tagged new : Cursor) (q : IsTagged ContextSpecific n old tagged) where
-  abbrev T : Format ℤ
-  T = Implicit n (Number (unsigned 32))
+-- values of one kind, of which no two of the code stand for one
+module _ {X V : Type 0} (value : X → V) (one : (a b : X) → value a ≡ value b → a ≡ b) (k : Rules → Kind V) (t : ℕ) (d : X) (n : ℕ) (old tagged new : Cursor)
+    (q : IsTagged ContextSpecific n old tagged) where
+  abbrev T : Format V
+  T = Implicit n (Primitive t (Value k))
 
-  next : (v : ℤ) (rest : List ℕ) → Required T (rules_of old) (octets_left old) v rest → IsNextType 2 tagged
-  next v rest z = unwanted n old tagged q (next_of T (rules_of old) (octets_left old) v rest z)
+  next : (v : V) (rest : List ℕ) → Required T (rules_of old) (octets_left old) v rest → IsNextType t tagged
+  next v rest z = unwanted t n old tagged q (next_of T (rules_of old) (octets_left old) v rest z)
 
-  read : {after : Cursor} (result : Result ℕ (Refusal BerError)) → ReadsValue pos (numbers (rules_of tagged) (unsigned 32)) 2 tagged result after → ReadsField (Required T) pos Never old result after
-  read result h = implicit_read (λ r. numbers r (unsigned 32)) q h
+  read : {after : Cursor} (result : Result X (Refusal BerError)) → ReadsValue value (k (rules_of tagged)) t tagged result after → ReadsField (Required T) value Never old result after
+  read result h = implicit_read k q h
 
-  number_next : (result : Result ℕ (Refusal BerError)) → old.implicit ≡ None → ReadsOr pos (numbers (rules_of tagged) (unsigned 32)) 2 d tagged result new → ReadsNext (Default T (pos d)) pos Never old result new
+  value_next : (result : Result X (Refusal BerError)) → old.implicit ≡ None → ReadsOr value (k (rules_of tagged)) t d tagged result new → ReadsNext (Default T (value d)) value Never old result new
   unfolding Default
-  number_next (Ok x) fresh (inl (absent, same, moved)) = let s = stays n old tagged new q moved in record {
-    found = (inl ((λ z. absent (unwanted n old tagged q z)), ap pos same, s.0), s.1);
-    only = λ v rest z. elim z [ inl y ↦ (ap pos same ∙ sym y.1, sym s.0 ∙ y.2) | inr y ↦ absurd (absent (next v rest y.0)) ];
+  value_next (Ok x) fresh (inl (absent, same, moved)) = let s = stays n old tagged new q moved in record {
+    found = (inl ((λ z. absent (unwanted t n old tagged q z)), ap value same, s.0), s.1);
+    only = λ v rest z. elim z [ inl y ↦ (ap value same ∙ sym y.1, sym s.0 ∙ y.2) | inr y ↦ absurd (absent (next v rest y.0)) ];
   }
-  number_next (Ok x) fresh (inr (present, h, other)) = let r = read (Ok x) h fresh in record {
-    found = (inr (r.found.0, λ e. λ z. other (same_rules n old tagged q ∙ e) cc), r.found.1);
-    only = λ v rest z. elim z [ inl y ↦ absurd (y.0 (wanted n old tagged q present)) | inr y ↦ r.only v rest y.0 ];
+  value_next (Ok x) fresh (inr (present, h, other)) = let r = read (Ok x) h fresh in record {
+    found = (inr (r.found.0, λ e. λ z. other (same_rules n old tagged q ∙ e) (one x d z)), r.found.1);
+    only = λ v rest z. elim z [ inl y ↦ absurd (y.0 (wanted t n old tagged q present)) | inr y ↦ r.only v rest y.0 ];
   }
-  number_next (Err e) fresh (present, inl h) = let r = read (Err e) h fresh in record {
+  value_next (Err e) fresh (present, inl h) = let r = read (Err e) h fresh in record {
     found = tt;
-    only = λ v rest z. elim z [ inl y ↦ absurd (y.0 (wanted n old tagged q present)) | inr y ↦ r.only v rest y.0 ];
+    only = λ v rest z. elim z [ inl y ↦ absurd (y.0 (wanted t n old tagged q present)) | inr y ↦ r.only v rest y.0 ];
   }
-  number_next (Err e) fresh (present, inr (der, later, h, told, moved)) = let r = read (Ok d) h fresh in record {
+  value_next (Err e) fresh (present, inr (der, later, h, told, moved)) = let r = read (Ok d) h fresh in record {
     found = tt;
-    only = λ v rest z. elim z [ inl y ↦ absurd (y.0 (wanted n old tagged q present)) | inr y ↦ absurd (y.1 (sym (same_rules n old tagged q) ∙ der) (sym (r.only v rest y.0).0)) ];
+    only = λ v rest z. elim z [ inl y ↦ absurd (y.0 (wanted t n old tagged q present)) | inr y ↦ absurd (y.1 (sym (same_rules n old tagged q) ∙ der) (sym (r.only v rest y.0).0)) ];
   }
+
+one_number : (a b : ℕ) → pos a ≡ pos b → a ≡ b
+one_number a b e = cc
 
 pub implicit_number_or_read : (d : ℕ) {n : ℕ} {old tagged new : Cursor} {result : Result ℕ (Refusal BerError)} → IsTagged ContextSpecific n old tagged
     → ReadsOr pos (numbers (rules_of tagged) (unsigned 32)) 2 d tagged result new → ReadsField (Default (Implicit n (Number (unsigned 32))) (pos d)) pos Never old result new
-implicit_number_or_read d {n = n} {old = old} {tagged = tagged} {new = new} {result = result} q h fresh = number_next d n old tagged new q result fresh h
+implicit_number_or_read d {n = n} {old = old} {tagged = tagged} {new = new} {result = result} q h fresh =
+    value_next pos one_number (λ r. numbers r (unsigned 32)) 2 d n old tagged new q result fresh h
+
+pub implicit_boolean_or_read : (d : Bool) {n : ℕ} {old tagged new : Cursor} {result : Result Bool (Refusal BerError)} → IsTagged ContextSpecific n old tagged
+    → ReadsOr (λ v. v) (booleans (rules_of tagged)) 1 d tagged result new → ReadsField (Default (Implicit n Boolean) d) (λ v. v) Never old result new
+implicit_boolean_or_read d {n = n} {old = old} {tagged = tagged} {new = new} {result = result} q h fresh = value_next (λ v. v) (λ a b e. e) booleans 1 d n old tagged new q result fresh h

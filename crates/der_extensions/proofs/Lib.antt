@@ -1,7 +1,9 @@
 pub mod CertificateNames
 pub mod DefaultLaws
 pub mod ExtensionLaws
+pub mod KindLaws
 pub mod ListLaws
 pub mod NameLaws
 pub mod PointLaws
-pub mod ValueLaws
+pub mod UnknownLaws
+pub mod VectorLaws

@@ -18,12 +18,12 @@ pub reaches_start : {V : Type 0} {F : Field V} {c : Cursor} → c.implicit ≡ N
 reaches_start fresh = record { fresh = fresh; same = refl; back = λ z. z; only = λ z. z }
 
 -- what the octets begin with, where some are left
-begins : {V : Type 0} (F : Field V) (r : Rules) (w : List ℕ) → w ≢ [] → IsListOf F r w → (v : V) × (rest : List ℕ) × F r w v rest × IsListOf F r rest
+pub begins : {V : Type 0} (F : Field V) (r : Rules) (w : List ℕ) → w ≢ [] → IsListOf F r w → (v : V) × (rest : List ℕ) × F r w v rest × IsListOf F r rest
 unfolding Each
 begins F r w n ([], z) = absurd (n z)
 begins F r w n (v ∷ vs, z) = (v, z.0, z.1, (vs, z.2))
 
-more : {V : Type 0} (F : Field V) (r : Rules) (w rest : List ℕ) (v : V) → F r w v rest → IsListOf F r rest → IsListOf F r w
+pub more : {V : Type 0} (F : Field V) (r : Rules) (w rest : List ℕ) (v : V) → F r w v rest → IsListOf F r rest → IsListOf F r w
 unfolding Each
 more F r w rest v h (vs, z) = (v ∷ vs, (rest, h, z))
 

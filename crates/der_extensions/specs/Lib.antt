@@ -1,6 +1,11 @@
 pub mod Extensions
 pub mod GeneralNames
+pub mod Kinds
 pub mod Laws
 pub mod Lists
+pub mod PolicyExtensions
+pub mod Revocation
 pub mod Takes
+pub mod Unknown
 pub mod Values
+pub mod WebExtensions

@@ -1,15 +1,13 @@
--- What an extension says, by its identifier (RFC 5280 4.2).
-use Rattle.std.specs.Prelude.{◌≡◌, ◌≢◌, ℕ, List, [], ◌∷◌, Some, Result, Ok}
+-- What an extension says, by its identifier (RFC 5280 4.2, 5.2, 5.3, and those of the web).
+use Rattle.std.specs.Prelude.{◌≡◌, ℕ, List, pos, Result, Ok}
 use Rattle.std.specs.Result.{result_map_both}
 use Rattle.der_base.specs.declared.error.Error.{Error as BerError}
 use Rattle.der_base.specs.declared.rules.Rules.TheVariants.{Der}
 use Rattle.der_cursor.specs.declared.refusal.Refusal.{Refusal}
-use Rattle.der_cursor.specs.Formats.{Format, Never, OctetString, ReadsInput}
-use Rattle.der_values.specs.declared.identifier.ObjectIdentifier.{ObjectIdentifier}
-use Rattle.der_values.specs.Kinds.{borrowed_arcs}
+use Rattle.der_cursor.specs.Formats.{Format, GeneralizedTime, Never, Null, OctetString, ReadsInput}
 use Rattle.der_x509.specs.declared.extension.Extension.{Extension}
-use Rattle.der_extensions.specs.declared.value.Kind.{Kind}
-use Rattle.der_extensions.specs.declared.value.Kind.TheVariants as kind
+use Rattle.der_extensions.specs.declared.kind.Kind.{Kind}
+use Rattle.der_extensions.specs.declared.kind.Kind.TheVariants as kind
 use Rattle.der_extensions.specs.declared.value.ExtensionValue.{ExtensionValue}
 use Rattle.der_extensions.specs.declared.value.ExtensionValue.TheVariants as value
 use Rattle.der_extensions.specs.Extensions.{AuthorityInfoAccessSyntax, AuthorityKeyIdentifier, BasicConstraints}
@@ -17,49 +15,13 @@ use Rattle.der_extensions.specs.Extensions.{CRLDistributionPoints, CertificatePo
 use Rattle.der_extensions.specs.Extensions.{KeyUsage, NameConstraints, authority_of, constraints_of}
 use Rattle.der_extensions.specs.Extensions.{name_constraints_of, usage_of}
 use Rattle.der_extensions.specs.GeneralNames.{GeneralNames}
+use Rattle.der_extensions.specs.Kinds.{IsKindIn, every_kind}
 use Rattle.der_extensions.specs.Lists.{list_octets}
-
--- the arcs of the identifier (A.2): 2.5.29.n, id-ce, or 1.3.6.1.5.5.7.1.n, id-pe
-abbrev pub id_ce : ℕ → List ℕ
-id_ce n = 2 ∷ 5 ∷ 29 ∷ n ∷ []
-
-abbrev pub id_pe : ℕ → List ℕ
-id_pe n = 1 ∷ 3 ∷ 6 ∷ 1 ∷ 5 ∷ 5 ∷ 7 ∷ 1 ∷ n ∷ []
-
-abbrev pub arcs_of : Kind → List ℕ
-arcs_of kind.SubjectKeyIdentifier = id_ce 14
-arcs_of kind.KeyUsage = id_ce 15
-arcs_of kind.SubjectAltName = id_ce 17
-arcs_of kind.IssuerAltName = id_ce 18
-arcs_of kind.BasicConstraints = id_ce 19
-arcs_of kind.NameConstraints = id_ce 30
-arcs_of kind.CrlDistributionPoints = id_ce 31
-arcs_of kind.CertificatePolicies = id_ce 32
-arcs_of kind.AuthorityKeyIdentifier = id_ce 35
-arcs_of kind.ExtendedKeyUsage = id_ce 37
-arcs_of kind.FreshestCrl = id_ce 46
-arcs_of kind.AuthorityInfoAccess = id_pe 1
-arcs_of kind.SubjectInfoAccess = id_pe 11
-arcs_of kind.Other = []
-
-abbrev pub further_kinds : List Kind
-further_kinds =
-    kind.NameConstraints ∷ kind.ExtendedKeyUsage ∷ kind.CrlDistributionPoints ∷ kind.FreshestCrl
-    ∷ kind.AuthorityInfoAccess ∷ kind.SubjectInfoAccess ∷ []
-
-abbrev pub every_kind : List Kind
-every_kind =
-    kind.AuthorityKeyIdentifier ∷ kind.SubjectKeyIdentifier ∷ kind.KeyUsage ∷ kind.CertificatePolicies
-    ∷ kind.SubjectAltName ∷ kind.IssuerAltName ∷ kind.BasicConstraints ∷ further_kinds
-
-abbrev pub IsNone : List Kind → ObjectIdentifier → Type 0
-IsNone [] x = Unit {0}
-IsNone (k ∷ ks) x = (borrowed_arcs x ≢ Some (arcs_of k)) × IsNone ks x
-
--- the identifier has the arcs of this kind; Other is one that has those of none of the kinds
-abbrev pub IsKindIn : List Kind → ObjectIdentifier → Kind → Type 0
-IsKindIn ks x kind.Other = IsNone ks x
-IsKindIn ks x k = borrowed_arcs x ≡ Some (arcs_of k)
+use Rattle.der_extensions.specs.PolicyExtensions.{PolicyConstraints, PolicyMappings, SkipCerts}
+use Rattle.der_extensions.specs.PolicyExtensions.{SubjectDirectoryAttributes, policy_constraints_of}
+use Rattle.der_extensions.specs.Revocation.{CRLNumber, IssuingDistributionPoint, issuing_point_of}
+use Rattle.der_extensions.specs.WebExtensions.{CABFOrganizationIdentifier, Features, QCStatements, Timestamps}
+use Rattle.der_extensions.specs.WebExtensions.{organization_identifier_of, timestamps_octets}
 
 -- the value of the extension is read as one of this format
 module _ (w : List ℕ) (result : Result ExtensionValue (Refusal BerError)) where
@@ -81,6 +43,25 @@ module _ (w : List ℕ) (result : Result ExtensionValue (Refusal BerError)) wher
   ReadsAs kind.FreshestCrl = IsRead value.FreshestCrl CRLDistributionPoints list_octets
   ReadsAs kind.AuthorityInfoAccess = IsRead value.AuthorityInfoAccess AuthorityInfoAccessSyntax list_octets
   ReadsAs kind.SubjectInfoAccess = IsRead value.SubjectInfoAccess AuthorityInfoAccessSyntax list_octets
+  ReadsAs kind.PolicyMappings = IsRead value.PolicyMappings PolicyMappings list_octets
+  ReadsAs kind.SubjectDirectoryAttributes =
+      IsRead value.SubjectDirectoryAttributes SubjectDirectoryAttributes list_octets
+  ReadsAs kind.PolicyConstraints = IsRead value.PolicyConstraints PolicyConstraints policy_constraints_of
+  ReadsAs kind.InhibitAnyPolicy = IsRead value.InhibitAnyPolicy SkipCerts pos
+  ReadsAs kind.CrlNumber = IsRead value.CrlNumber CRLNumber (λ x. x.now)
+  ReadsAs kind.DeltaCrlIndicator = IsRead value.DeltaCrlIndicator CRLNumber (λ x. x.now)
+  ReadsAs kind.IssuingDistributionPoint =
+      IsRead value.IssuingDistributionPoint IssuingDistributionPoint issuing_point_of
+  ReadsAs kind.ReasonCode = result ≡ Ok value.ReasonCode
+  ReadsAs kind.InvalidityDate = IsRead value.InvalidityDate GeneralizedTime (λ x. x)
+  ReadsAs kind.CertificateIssuer = IsRead value.CertificateIssuer GeneralNames list_octets
+  ReadsAs kind.SignedCertificateTimestamps = IsRead value.SignedCertificateTimestamps Timestamps timestamps_octets
+  ReadsAs kind.PrecertificatePoison = IsRead (λ u. value.PrecertificatePoison) Null (λ x. x)
+  ReadsAs kind.TlsFeatures = IsRead value.TlsFeatures Features list_octets
+  ReadsAs kind.OcspNoCheck = IsRead (λ u. value.OcspNoCheck) Null (λ x. x)
+  ReadsAs kind.QcStatements = IsRead value.QcStatements QCStatements list_octets
+  ReadsAs kind.OrganizationIdentifier =
+      IsRead value.OrganizationIdentifier CABFOrganizationIdentifier organization_identifier_of
   ReadsAs kind.Other = result ≡ Ok value.Other
 
 -- the value is read as the type that the identifier names

@@ -82,7 +82,7 @@ fn read_distribution_point<'a>(
 {
     let mut fields = points.open_sequence()?;
     let distribution_point = read_tagged_point_name(&mut fields)?;
-    let reasons = read_reasons(&mut fields)?;
+    let reasons = read_reasons(&mut fields, 1)?;
     let crl_issuer = read_crl_issuer(&mut fields)?;
     fields.end()?;
     Ok(DistributionPoint {
@@ -93,7 +93,7 @@ fn read_distribution_point<'a>(
 }
 
 /// Reads a DistributionPointName in an explicit tag [0], if that is next.
-fn read_tagged_point_name<'a>(
+pub(crate) fn read_tagged_point_name<'a>(
     fields: &mut Cursor<'a>,
 ) -> Result<Option<DistributionPointName<'a>>, Refusal<BerError>>
     ensures { ReadsField (OptionalTagged 0 (Only PointNameFormat)) (λ x. option_map point_name_of x) Never
@@ -145,13 +145,16 @@ fn read_relative_name<'a>(
     Ok(DistributionPointName::NameRelativeToCrlIssuer(name))
 }
 
-/// Reads ReasonFlags under the implicit tag [1], if they are next. A last bit that is 0 is refused.
-fn read_reasons<'a>(fields: &mut Cursor<'a>) -> Result<Option<BitString<'a>>, Refusal<BerError>>
-    ensures { ReadsField (Optional (Implicit 1 ReasonsFormat)) (λ x. option_map bits_of x) Never
+/// Reads ReasonFlags under an implicit tag of this number, if they are next. A last bit that is 0 is refused.
+pub(crate) fn read_reasons<'a>(
+    fields: &mut Cursor<'a>,
+    number: u32,
+) -> Result<Option<BitString<'a>>, Refusal<BerError>>
+    ensures { ReadsField (Optional (Implicit number ReasonsFormat)) (λ x. option_map bits_of x) Never
         fields.old result fields.new }
 {
     let before = *fields;
-    let Some(bits) = read_bits(fields)? else {
+    let Some(bits) = read_bits(fields, number)? else {
         return Ok(None);
     };
     if !is_shortest(bits) {
@@ -160,11 +163,14 @@ fn read_reasons<'a>(fields: &mut Cursor<'a>) -> Result<Option<BitString<'a>>, Re
     Ok(Some(bits))
 }
 
-fn read_bits<'a>(fields: &mut Cursor<'a>) -> Result<Option<BitString<'a>>, Refusal<BerError>>
-    ensures { ReadsField (Optional (Implicit 1 BitsFormat)) (λ x. option_map bits_of x) Never
+fn read_bits<'a>(
+    fields: &mut Cursor<'a>,
+    number: u32,
+) -> Result<Option<BitString<'a>>, Refusal<BerError>>
+    ensures { ReadsField (Optional (Implicit number BitsFormat)) (λ x. option_map bits_of x) Never
         fields.old result fields.new }
 {
-    fields.implicit(1).optional_bits()
+    fields.implicit(number).optional_bits()
 }
 
 /// Whether there is no bit, or the last one is 1.

@@ -162,3 +162,20 @@ pub(crate) fn read_list<'a, T: Item<'a, E>, E: FromRefusal>(
         Err(e) => Err(E::from_refusal(e)),
     }
 }
+
+/// The same of a SEQUENCE OF values, of which there may be none.
+pub(crate) fn read_list_of_any<'a, T: Item<'a, E>, E: FromRefusal>(
+    octets: &'a [u8],
+) -> Result<SequenceOf<'a, T>, Refusal<E>>
+    ensures { ReadsWhole (Only (Required (Sequence (ListOf T.field))) Rules.Der octets.now) list_octets Never result }
+{
+    let mut input = Cursor::new(octets);
+    let octets = read_items::<T, E>(&mut input, Class::Universal, Tag::Sequence)?;
+    match input.end() {
+        Ok(()) => Ok(SequenceOf {
+            octets,
+            kind: PhantomData,
+        }),
+        Err(e) => Err(E::from_refusal(e)),
+    }
+}

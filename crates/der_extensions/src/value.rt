@@ -1,51 +1,47 @@
-//! What an extension says, by its identifier (RFC 5280 4.2).
-ghost use Rattle.der_extensions.specs.Values.{IsKindIn, ReadsExtension, every_kind, further_kinds};
+//! What an extension says, by its identifier (RFC 5280 4.2, 5.2, 5.3, and those of the web).
+ghost use Rattle.der_extensions.specs.Values.{ReadsAs, ReadsExtension};
 
 use crate::basic_constraints::{BasicConstraints, read_basic_constraints};
 use crate::certificate_policies::{CertificatePolicies, read_certificate_policies};
+use crate::crl_number::read_crl_number;
+use crate::directory_attributes::{
+    SubjectDirectoryAttributes, read_subject_directory_attributes as read_attributes,
+};
 use crate::distribution_points::{CrlDistributionPoints, read_crl_distribution_points};
 use crate::extended_key_usage::{ExtendedKeyUsage, read_extended_key_usage};
-use crate::extension_identifiers::{
-    AUTHORITY_INFO_ACCESS, AUTHORITY_KEY_IDENTIFIER, BASIC_CONSTRAINTS, CERTIFICATE_POLICIES,
-    CRL_DISTRIBUTION_POINTS, EXTENDED_KEY_USAGE, FRESHEST_CRL, ISSUER_ALT_NAME, KEY_USAGE,
-    NAME_CONSTRAINTS, SUBJECT_ALT_NAME, SUBJECT_INFO_ACCESS, SUBJECT_KEY_IDENTIFIER,
-};
 use crate::general_name::{GeneralNames, read_general_names};
 use crate::information_access::{InformationAccess, read_information_access};
+use crate::invalidity_date::read_invalidity_date;
+use crate::issuing_distribution_point::{
+    IssuingDistributionPoint, read_issuing_distribution_point,
+};
 use crate::key_identifiers::{
     AuthorityKeyIdentifier, read_authority_key_identifier, read_subject_key_identifier,
 };
 use crate::key_usage::{KeyUsage, read_key_usage};
+use crate::kind::{Kind, kind_of};
 use crate::name_constraints::{NameConstraints, read_name_constraints};
+use crate::null::{read_ocsp_no_check, read_precertificate_poison};
+use crate::organization_identifier::{OrganizationIdentifier, read_organization_identifier};
+use crate::policy_constraints::{
+    PolicyConstraints, read_inhibit_any_policy, read_policy_constraints,
+};
+use crate::policy_mappings::{PolicyMappings, read_policy_mappings};
+use crate::qc_statements::{QcStatements, read_qc_statements};
+use crate::timestamps::{
+    SignedCertificateTimestamps, read_signed_certificate_timestamps as read_timestamps,
+};
+use crate::tls_feature::{TlsFeatures, read_tls_features};
 use crate::value::ExtensionValue as Value;
 use der_base::error::BerError;
+use der_base::time::ASN1DateTime;
 use der_cursor::Refusal;
-use der_values::{HasArcs, ObjectIdentifier};
 use der_x509::Extension;
-
-/// The extensions whose values are read.
-#[derive(Clone, Copy)]
-pub(crate) enum Kind {
-    AuthorityKeyIdentifier,
-    SubjectKeyIdentifier,
-    KeyUsage,
-    CertificatePolicies,
-    SubjectAltName,
-    IssuerAltName,
-    BasicConstraints,
-    NameConstraints,
-    ExtendedKeyUsage,
-    CrlDistributionPoints,
-    FreshestCrl,
-    AuthorityInfoAccess,
-    SubjectInfoAccess,
-    Other,
-}
 
 /// What an extension says.
 #[derive(Debug, Drop)]
 pub enum ExtensionValue<'a> {
-    /// Which key signed the certificate (4.2.1.1).
+    /// Which key signed the certificate or the list of revoked ones (4.2.1.1, 5.2.1).
     AuthorityKeyIdentifier(AuthorityKeyIdentifier<'a>),
     /// Which key the certificate has (4.2.1.2).
     SubjectKeyIdentifier(&'a [u8]),
@@ -55,7 +51,7 @@ pub enum ExtensionValue<'a> {
     CertificatePolicies(CertificatePolicies<'a>),
     /// Other names of the subject (4.2.1.6).
     SubjectAltName(GeneralNames<'a>),
-    /// Other names of the issuer (4.2.1.7).
+    /// Other names of the issuer (4.2.1.7, 5.2.2).
     IssuerAltName(GeneralNames<'a>),
     /// Whether the subject is an authority (4.2.1.9).
     BasicConstraints(BasicConstraints),
@@ -65,12 +61,44 @@ pub enum ExtensionValue<'a> {
     ExtendedKeyUsage(ExtendedKeyUsage<'a>),
     /// Where lists of revoked certificates are (4.2.1.13).
     CrlDistributionPoints(CrlDistributionPoints<'a>),
-    /// Where the changes of these lists are (4.2.1.15).
+    /// Where the changes of these lists are (4.2.1.15, 5.2.6).
     FreshestCrl(CrlDistributionPoints<'a>),
-    /// Where there is more about the issuer (4.2.2.1).
+    /// Where there is more about the issuer (4.2.2.1, 5.2.7).
     AuthorityInfoAccess(InformationAccess<'a>),
     /// Where there is more about the subject (4.2.2.2).
     SubjectInfoAccess(InformationAccess<'a>),
+    /// Which policies of the issuer stand for those of the subject (4.2.1.5).
+    PolicyMappings(PolicyMappings<'a>),
+    /// What else is said of the subject (4.2.1.8).
+    SubjectDirectoryAttributes(SubjectDirectoryAttributes<'a>),
+    /// From where on in a path policies are asked for, or no longer mapped (4.2.1.11).
+    PolicyConstraints(PolicyConstraints),
+    /// How many certificates may follow before anyPolicy no longer counts (4.2.1.14).
+    InhibitAnyPolicy(u32),
+    /// The content octets of the number of a list of revoked certificates (5.2.3).
+    CrlNumber(&'a [u8]),
+    /// Those of the number of the list that this one changes (5.2.4).
+    DeltaCrlIndicator(&'a [u8]),
+    /// Which certificates the list is about (5.2.5).
+    IssuingDistributionPoint(IssuingDistributionPoint<'a>),
+    /// Why a certificate is revoked (5.3.1). `read_reason` of `crl_reader` reads the value.
+    ReasonCode,
+    /// Since when the key is known to be invalid (5.3.2).
+    InvalidityDate(ASN1DateTime),
+    /// Who issued the certificates from this entry on (5.3.3).
+    CertificateIssuer(GeneralNames<'a>),
+    /// Promises of logs to show the certificate (RFC 6962 3.3).
+    SignedCertificateTimestamps(SignedCertificateTimestamps<'a>),
+    /// It isn't to be accepted as a certificate (RFC 6962 3.1).
+    PrecertificatePoison,
+    /// What the server speaks (RFC 7633).
+    TlsFeatures(TlsFeatures<'a>),
+    /// Its status isn't asked for (RFC 6960 4.2.2.2.1).
+    OcspNoCheck,
+    /// What is stated of a qualified certificate (RFC 3739 3.2.6).
+    QcStatements(QcStatements<'a>),
+    /// In which register the organization is (CA/B Forum, EV Guidelines 9.8.2).
+    OrganizationIdentifier(OrganizationIdentifier<'a>),
     /// Another extension, whose value isn't read.
     Other,
 }
@@ -85,12 +113,20 @@ pub enum ExtensionValue<'a> {
 ///     }
 /// }
 /// ```
-#[rattlefmt::skip]
-pub fn read_extension_value<'a>(extension: &Extension<'a>) -> Result<ExtensionValue<'a>, Refusal<BerError>>
+pub fn read_extension_value<'a>(
+    extension: &Extension<'a>,
+) -> Result<ExtensionValue<'a>, Refusal<BerError>>
     ensures { ReadsExtension extension.now result }
 {
-    let value = extension.value;
-    match kind_of(&extension.identifier) {
+    read_as(kind_of(&extension.identifier), extension.value)
+}
+
+/// Reads the value of an extension of this kind.
+#[rattlefmt::skip]
+fn read_as(kind: Kind, value: &[u8]) -> Result<ExtensionValue<'_>, Refusal<BerError>>
+    ensures { ReadsAs value.now result kind }
+{
+    match kind {
         Kind::AuthorityKeyIdentifier => Ok(Value::AuthorityKeyIdentifier(read_authority_key_identifier(value)?)),
         Kind::SubjectKeyIdentifier => Ok(Value::SubjectKeyIdentifier(read_subject_key_identifier(value)?)),
         Kind::KeyUsage => Ok(Value::KeyUsage(read_key_usage(value)?)),
@@ -104,59 +140,28 @@ pub fn read_extension_value<'a>(extension: &Extension<'a>) -> Result<ExtensionVa
         Kind::FreshestCrl => Ok(Value::FreshestCrl(read_crl_distribution_points(value)?)),
         Kind::AuthorityInfoAccess => Ok(Value::AuthorityInfoAccess(read_information_access(value)?)),
         Kind::SubjectInfoAccess => Ok(Value::SubjectInfoAccess(read_information_access(value)?)),
+        Kind::PolicyMappings => Ok(Value::PolicyMappings(read_policy_mappings(value)?)),
+        Kind::SubjectDirectoryAttributes => Ok(Value::SubjectDirectoryAttributes(read_attributes(value)?)),
+        Kind::PolicyConstraints => Ok(Value::PolicyConstraints(read_policy_constraints(value)?)),
+        Kind::InhibitAnyPolicy => Ok(Value::InhibitAnyPolicy(read_inhibit_any_policy(value)?)),
+        Kind::CrlNumber => Ok(Value::CrlNumber(read_crl_number(value)?)),
+        Kind::DeltaCrlIndicator => Ok(Value::DeltaCrlIndicator(read_crl_number(value)?)),
+        Kind::IssuingDistributionPoint => Ok(Value::IssuingDistributionPoint(read_issuing_distribution_point(value)?)),
+        Kind::ReasonCode => Ok(Value::ReasonCode),
+        Kind::InvalidityDate => Ok(Value::InvalidityDate(read_invalidity_date(value)?)),
+        Kind::CertificateIssuer => Ok(Value::CertificateIssuer(read_general_names(value)?)),
+        Kind::SignedCertificateTimestamps => Ok(Value::SignedCertificateTimestamps(read_timestamps(value)?)),
+        Kind::PrecertificatePoison => {
+            read_precertificate_poison(value)?;
+            Ok(Value::PrecertificatePoison)
+        }
+        Kind::TlsFeatures => Ok(Value::TlsFeatures(read_tls_features(value)?)),
+        Kind::OcspNoCheck => {
+            read_ocsp_no_check(value)?;
+            Ok(Value::OcspNoCheck)
+        }
+        Kind::QcStatements => Ok(Value::QcStatements(read_qc_statements(value)?)),
+        Kind::OrganizationIdentifier => Ok(Value::OrganizationIdentifier(read_organization_identifier(value)?)),
         Kind::Other => Ok(Value::Other),
     }
-}
-
-/// Which extension an identifier names.
-fn kind_of(identifier: &ObjectIdentifier<'_>) -> Kind
-    ensures { IsKindIn every_kind identifier.now result }
-{
-    if identifier.is(AUTHORITY_KEY_IDENTIFIER) {
-        return Kind::AuthorityKeyIdentifier;
-    }
-    if identifier.is(SUBJECT_KEY_IDENTIFIER) {
-        return Kind::SubjectKeyIdentifier;
-    }
-    if identifier.is(KEY_USAGE) {
-        return Kind::KeyUsage;
-    }
-    if identifier.is(CERTIFICATE_POLICIES) {
-        return Kind::CertificatePolicies;
-    }
-    if identifier.is(SUBJECT_ALT_NAME) {
-        return Kind::SubjectAltName;
-    }
-    if identifier.is(ISSUER_ALT_NAME) {
-        return Kind::IssuerAltName;
-    }
-    if identifier.is(BASIC_CONSTRAINTS) {
-        return Kind::BasicConstraints;
-    }
-    further_kind_of(identifier)
-}
-
-/// Which of the further extensions an identifier names.
-fn further_kind_of(identifier: &ObjectIdentifier<'_>) -> Kind
-    ensures { IsKindIn further_kinds identifier.now result }
-{
-    if identifier.is(NAME_CONSTRAINTS) {
-        return Kind::NameConstraints;
-    }
-    if identifier.is(EXTENDED_KEY_USAGE) {
-        return Kind::ExtendedKeyUsage;
-    }
-    if identifier.is(CRL_DISTRIBUTION_POINTS) {
-        return Kind::CrlDistributionPoints;
-    }
-    if identifier.is(FRESHEST_CRL) {
-        return Kind::FreshestCrl;
-    }
-    if identifier.is(AUTHORITY_INFO_ACCESS) {
-        return Kind::AuthorityInfoAccess;
-    }
-    if identifier.is(SUBJECT_INFO_ACCESS) {
-        return Kind::SubjectInfoAccess;
-    }
-    Kind::Other
 }

@@ -1,5 +1,5 @@
 //! Values of extensions that are no lists. Each reader's refusal is answered as it is printed.
-use crate::lists_of_extensions::list;
+use crate::further_values::further_value;
 use der_base::error::BerError;
 use der_cursor::Refusal;
 use der_extensions::{
@@ -23,7 +23,7 @@ pub fn extension_value(alloc: Global, call: &str, octets: &[u8]) -> Result<Strin
             authority_key_identifier(alloc, read_authority_key_identifier(octets))
         }
         "name_constraints" => name_constraints(alloc, read_name_constraints(octets)),
-        _ => return list(alloc, call, octets),
+        _ => return further_value(alloc, call, octets),
     };
     Ok(text?)
 }

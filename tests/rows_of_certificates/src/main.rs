@@ -7,10 +7,14 @@ mod certificates;
 mod damage;
 mod extension_values;
 mod extensions;
+mod further_values;
 mod lists_of_extensions;
 mod reasons;
 mod requests;
+mod revocation_values;
 mod times;
+mod unknown;
+mod web_values;
 
 use crate::certificates::{certificate, fields, lists, reason, relative_names, strict_certificate};
 use crate::damage::damaged_text;
@@ -19,6 +23,7 @@ use crate::extensions::extension;
 use crate::reasons::{reason_code, reasons};
 use crate::requests::{certificate_list, certification_request};
 use crate::times::{compared, contained};
+use crate::unknown::unknown_critical;
 use test_damage::octets_of;
 use std::alloc::Global;
 use std::io;
@@ -59,6 +64,7 @@ fn answer_of_octets(alloc: Global, call: &str, octets: &[u8]) -> Result<String, 
         "certification_request" => certification_request(alloc, octets),
         "reason_code" => reason_code(alloc, octets),
         "reasons" => reasons(alloc, octets),
+        "has_unknown_critical" => unknown_critical(alloc, octets),
         _ => extension_value(alloc, call, octets),
     }
 }

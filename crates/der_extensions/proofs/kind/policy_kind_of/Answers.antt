@@ -1,0 +1,10 @@
+use Rattle.std.proofs.Common.{[], ◌∷◌}
+use Rattle.der_x509.proofs.RuleLaws.{passed}
+use Rattle.der_extensions.specs.declared.kind.Kind.TheVariants as kind
+use Rattle.der_extensions.specs.Kinds.{revocation_kinds}
+use Rattle.der_extensions.proofs.KindLaws.{none_before}
+use Rattle.der_extensions.proofs.kind.policy_kind_of.Goals as goal
+
+pub returns : goal.returns
+returns c = none_before (kind.PolicyMappings ∷ kind.SubjectDirectoryAttributes ∷ kind.PolicyConstraints ∷ kind.InhibitAnyPolicy ∷ []) revocation_kinds c.args.identifier.now c.revocation_kind_of.result
+    (passed c.if-is.ensures, (passed c.if-is-2.ensures, (passed c.if-is-3.ensures, (passed c.if-is-4.ensures, tt)))) c.revocation_kind_of.ensures

@@ -1,0 +1,92 @@
+//! What else is said of the subject (RFC 5280 4.2.1.8).
+ghost use Rattle.der_base.specs.declared.rules.Rules.{Rules};
+ghost use Rattle.der_cursor.specs.Formats.{Never, ReadsField, ReadsInput, Required};
+ghost use Rattle.der_extensions.specs.Lists.{list_octets};
+ghost use Rattle.der_extensions.specs.PolicyExtensions.{AttributeValues, DirectoryAttribute as AttributeFormat};
+ghost use Rattle.der_extensions.specs.PolicyExtensions.{SubjectDirectoryAttributes as AttributesFormat};
+ghost use Rattle.der_extensions.specs.PolicyExtensions.{directory_attribute_of};
+
+use crate::list::{Item, SequenceOf, read_list, read_some};
+use der_base::any::Any;
+use der_base::error::BerError;
+use der_base::header::{Class, Tag};
+use der_cursor::{Cursor, Refusal};
+use der_values::ObjectIdentifier;
+
+/// Attributes, one at least.
+pub type SubjectDirectoryAttributes<'a> = SequenceOf<'a, DirectoryAttribute<'a>>;
+
+/// An attribute of the subject, as its nationality.
+#[derive(Debug, Drop)]
+pub struct DirectoryAttribute<'a> {
+    pub identifier: ObjectIdentifier<'a>,
+    /// Of a type that the identifier names, one at least. Their contents aren't looked into, and their
+    /// order isn't asked.
+    pub values: SequenceOf<'a, Any<'a>>,
+}
+
+/// Reads the value of a SubjectDirectoryAttributes by DER: attributes, of which there is one at least.
+/// Octets left over are refused. An attribute that comes twice is read.
+pub fn read_subject_directory_attributes(
+    octets: &[u8],
+) -> Result<SubjectDirectoryAttributes<'_>, Refusal<BerError>>
+    ensures { ReadsInput Rules.Der AttributesFormat list_octets Never octets.now result }
+{
+    match read_list::<DirectoryAttribute<'_>, BerError>(octets) {
+        Ok(attributes) => Ok(attributes),
+        Err(e) => Err(e.of_element(Cursor::new(octets), Class::Universal, true, Tag::Sequence)),
+    }
+}
+
+impl<'a> Item<'a, BerError> for DirectoryAttribute<'a> {
+    ghost use Rattle.der_cursor.specs.Formats.{Required};
+    ghost use Rattle.der_cursor.proofs.FormatLaws.{required_takes};
+    ghost use Rattle.der_extensions.specs.PolicyExtensions.{DirectoryAttribute as AttributeFormat};
+    ghost use Rattle.der_extensions.specs.PolicyExtensions.{DirectoryAttributeValue, directory_attribute_of};
+
+    ghost Value = { DirectoryAttributeValue };
+
+    ghost field = { Required AttributeFormat };
+
+    ghost view = { directory_attribute_of };
+
+    fn read(list: &mut Cursor<'a>) -> Result<DirectoryAttribute<'a>, Refusal<BerError>> {
+        read_attribute(list)
+    }
+
+    ghost takes = { required_takes AttributeFormat };
+}
+
+fn read_attribute<'a>(list: &mut Cursor<'a>) -> Result<DirectoryAttribute<'a>, Refusal<BerError>>
+    ensures { ReadsField (Required AttributeFormat) directory_attribute_of Never list.old result list.new }
+{
+    let mut fields = list.open_sequence()?;
+    let identifier = fields.oid()?;
+    let values = read_values(&mut fields)?;
+    fields.end()?;
+    Ok(DirectoryAttribute { identifier, values })
+}
+
+/// Reads a SET OF values, of which there is one at least.
+fn read_values<'a>(fields: &mut Cursor<'a>) -> Result<SequenceOf<'a, Any<'a>>, Refusal<BerError>>
+    ensures { ReadsField (Required AttributeValues) list_octets Never fields.old result fields.new }
+{
+    read_some(fields, Class::Universal, Tag::Set)
+}
+
+impl<'a> Item<'a, BerError> for Any<'a> {
+    ghost use Rattle.der_cursor.specs.Formats.{AnyElement, Element, element_of};
+    ghost use Rattle.der_extensions.specs.Takes.{any_takes};
+
+    ghost Value = { Element };
+
+    ghost field = { AnyElement };
+
+    ghost view = { element_of };
+
+    fn read(values: &mut Cursor<'a>) -> Result<Any<'a>, Refusal<BerError>> {
+        values.any()
+    }
+
+    ghost takes = { any_takes };
+}

@@ -1,0 +1,64 @@
+//! Which policies of other authorities stand for one's own (RFC 5280 4.2.1.5).
+ghost use Rattle.der_base.specs.declared.rules.Rules.{Rules};
+ghost use Rattle.der_cursor.specs.Formats.{Never, ReadsField, ReadsInput, Required};
+ghost use Rattle.der_extensions.specs.Lists.{list_octets};
+ghost use Rattle.der_extensions.specs.PolicyExtensions.{PolicyMapping as MappingFormat, mapping_of};
+ghost use Rattle.der_extensions.specs.PolicyExtensions.{PolicyMappings as MappingsFormat};
+
+use crate::list::{Item, SequenceOf, read_list};
+use der_base::error::BerError;
+use der_base::header::{Class, Tag};
+use der_cursor::{Cursor, Refusal};
+use der_values::ObjectIdentifier;
+
+/// Pairs of policies, one at least.
+pub type PolicyMappings<'a> = SequenceOf<'a, PolicyMapping<'a>>;
+
+/// A policy of the issuer, and the one of the subject that is equivalent to it.
+#[derive(Debug, Drop)]
+pub struct PolicyMapping<'a> {
+    pub issuer_domain_policy: ObjectIdentifier<'a>,
+    pub subject_domain_policy: ObjectIdentifier<'a>,
+}
+
+/// Reads the value of a PolicyMappings by DER: pairs of policies, of which there is one at least. Octets
+/// left over are refused. A pair with anyPolicy is read.
+pub fn read_policy_mappings(octets: &[u8]) -> Result<PolicyMappings<'_>, Refusal<BerError>>
+    ensures { ReadsInput Rules.Der MappingsFormat list_octets Never octets.now result }
+{
+    match read_list::<PolicyMapping<'_>, BerError>(octets) {
+        Ok(mappings) => Ok(mappings),
+        Err(e) => Err(e.of_element(Cursor::new(octets), Class::Universal, true, Tag::Sequence)),
+    }
+}
+
+impl<'a> Item<'a, BerError> for PolicyMapping<'a> {
+    ghost use Rattle.der_cursor.specs.Formats.{Required};
+    ghost use Rattle.der_cursor.proofs.FormatLaws.{required_takes};
+    ghost use Rattle.der_extensions.specs.PolicyExtensions.{MappingValue, PolicyMapping as MappingFormat, mapping_of};
+
+    ghost Value = { MappingValue };
+
+    ghost field = { Required MappingFormat };
+
+    ghost view = { mapping_of };
+
+    fn read(list: &mut Cursor<'a>) -> Result<PolicyMapping<'a>, Refusal<BerError>> {
+        read_mapping(list)
+    }
+
+    ghost takes = { required_takes MappingFormat };
+}
+
+fn read_mapping<'a>(list: &mut Cursor<'a>) -> Result<PolicyMapping<'a>, Refusal<BerError>>
+    ensures { ReadsField (Required MappingFormat) mapping_of Never list.old result list.new }
+{
+    let mut fields = list.open_sequence()?;
+    let issuer_domain_policy = fields.oid()?;
+    let subject_domain_policy = fields.oid()?;
+    fields.end()?;
+    Ok(PolicyMapping {
+        issuer_domain_policy,
+        subject_domain_policy,
+    })
+}

@@ -1,0 +1,57 @@
+//! What a server with this certificate speaks (RFC 7633).
+ghost use Rattle.der_base.specs.declared.rules.Rules.{Rules};
+ghost use Rattle.der_cursor.specs.Formats.{Never, ReadsField, ReadsInput, Required};
+ghost use Rattle.der_extensions.specs.Lists.{list_octets};
+ghost use Rattle.der_extensions.specs.WebExtensions.{Feature, Features, feature_of};
+
+use crate::list::{Item, SequenceOf, read_list_of_any};
+use der_base::error::BerError;
+use der_base::header::{Class, Tag};
+use der_cursor::{Cursor, Refusal};
+
+/// Features, of which there may be none.
+pub type TlsFeatures<'a> = SequenceOf<'a, TlsFeature>;
+
+/// An extension of TLS that the server has to speak, as status_request, which is 5.
+#[derive(Clone, Copy, Debug, PartialEq)]
+pub struct TlsFeature {
+    /// Its number, which TLS has in 16 bits. That isn't asked.
+    pub number: u32,
+}
+
+/// Reads the value of a TLS feature by DER (RFC 7633 4.1): numbers. Octets left over are refused, and so is
+/// a number that is negative or above 2^32-1.
+pub fn read_tls_features(octets: &[u8]) -> Result<TlsFeatures<'_>, Refusal<BerError>>
+    ensures { ReadsInput Rules.Der Features list_octets Never octets.now result }
+{
+    match read_list_of_any::<TlsFeature, BerError>(octets) {
+        Ok(features) => Ok(features),
+        Err(e) => Err(e.of_element(Cursor::new(octets), Class::Universal, true, Tag::Sequence)),
+    }
+}
+
+impl<'a> Item<'a, BerError> for TlsFeature {
+    ghost use Rattle.std.specs.Prelude.{ℤ};
+    ghost use Rattle.der_cursor.specs.Formats.{Required};
+    ghost use Rattle.der_cursor.proofs.FormatLaws.{required_takes};
+    ghost use Rattle.der_extensions.specs.WebExtensions.{Feature, feature_of};
+
+    ghost Value = { ℤ };
+
+    ghost field = { Required Feature };
+
+    ghost view = { feature_of };
+
+    fn read(features: &mut Cursor<'a>) -> Result<TlsFeature, Refusal<BerError>> {
+        read_feature(features)
+    }
+
+    ghost takes = { required_takes Feature };
+}
+
+fn read_feature(features: &mut Cursor<'_>) -> Result<TlsFeature, Refusal<BerError>>
+    ensures { ReadsField (Required Feature) feature_of Never features.old result features.new }
+{
+    let number = features.u32()?;
+    Ok(TlsFeature { number })
+}
