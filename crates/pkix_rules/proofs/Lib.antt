@@ -1,0 +1,4 @@
+pub mod AmongLaws
+pub mod FirstLaws
+pub mod SaidLaws
+pub mod SchemeLaws

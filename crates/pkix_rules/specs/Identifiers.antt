@@ -1,0 +1,37 @@
+-- The extensions of RFC 5280, and the content octets of their identifiers (A.2).
+use Rattle.std.specs.Prelude.{ℕ, List, [], ◌∷◌}
+use Rattle.pkix_rules.specs.declared.known.KnownExtension.{KnownExtension}
+use Rattle.pkix_rules.specs.declared.known.KnownExtension.TheVariants as known
+
+-- id-ce OBJECT IDENTIFIER ::= { joint-iso-ccitt(2) ds(5) 29 }
+abbrev pub id_ce : ℕ → List ℕ
+id_ce n = 85 ∷ 29 ∷ n ∷ []
+
+-- id-pe OBJECT IDENTIFIER ::= { id-pkix 1 }, where id-pkix is 1.3.6.1.5.5.7
+abbrev pub id_pe : ℕ → List ℕ
+id_pe n = 43 ∷ 6 ∷ 1 ∷ 5 ∷ 5 ∷ 7 ∷ 1 ∷ n ∷ []
+
+abbrev pub octets_of : KnownExtension → List ℕ
+octets_of known.AuthorityKeyIdentifier = id_ce 35
+octets_of known.SubjectKeyIdentifier = id_ce 14
+octets_of known.KeyUsage = id_ce 15
+octets_of known.CertificatePolicies = id_ce 32
+octets_of known.PolicyMappings = id_ce 33
+octets_of known.SubjectAltName = id_ce 17
+octets_of known.IssuerAltName = id_ce 18
+octets_of known.SubjectDirectoryAttributes = id_ce 9
+octets_of known.BasicConstraints = id_ce 19
+octets_of known.NameConstraints = id_ce 30
+octets_of known.PolicyConstraints = id_ce 36
+octets_of known.ExtendedKeyUsage = id_ce 37
+octets_of known.CrlDistributionPoints = id_ce 31
+octets_of known.InhibitAnyPolicy = id_ce 54
+octets_of known.FreshestCrl = id_ce 46
+octets_of known.AuthorityInfoAccess = id_pe 1
+octets_of known.SubjectInfoAccess = id_pe 11
+octets_of known.CrlNumber = id_ce 20
+octets_of known.DeltaCrlIndicator = id_ce 27
+octets_of known.IssuingDistributionPoint = id_ce 28
+octets_of known.ReasonCode = id_ce 21
+octets_of known.InvalidityDate = id_ce 24
+octets_of known.CertificateIssuer = id_ce 29

@@ -1,0 +1,39 @@
+-- What RFC 5280 asks of certificate policies (4.2.1.4).
+use Rattle.std.specs.Prelude.{◌≡◌, ◌≢◌, ℕ, ◌<◌, Option, Some, None, List, [], ◌∷◌, length, MatchOption}
+use Rattle.der_cursor.specs.Formats.{Required}
+use Rattle.der_extensions.specs.Extensions.{PolicyQualifierInfo, PolicyValue, QualifierValue}
+use Rattle.der_x509.specs.Formats.{Fault, Format, spells, with_octets}
+use Rattle.der_x509.specs.Lists.{BeginsWithNone}
+use Rattle.pkix_rules.specs.declared.repetition.FirstItem.{FirstItem}
+use Rattle.pkix_rules.specs.Lists.{Among}
+
+-- The octets begin with a value of a format, which is found with its own octets and those after it. None where they
+-- begin with none.
+abbrev pub FindsFirst : Format Fault (List ℕ) → List ℕ → Option FirstItem → Type 0
+FindsFirst f i r = MatchOption r (BeginsWithNone f i)
+    (λ x. spells (with_octets f) i (x.octets.now, x.content.now) x.rest.now × (length x.rest.now < length i))
+
+-- anyPolicy OBJECT IDENTIFIER ::= { id-ce-certificatePolicies 0 }, which is 2.5.29.32.0
+abbrev pub any_policy : List ℕ
+any_policy = 85 ∷ 29 ∷ 32 ∷ 0 ∷ []
+
+-- id-qt-cps OBJECT IDENTIFIER ::= { id-qt 1 }, where id-qt is 1.3.6.1.5.5.7.2
+abbrev pub cps : List ℕ
+cps = 43 ∷ 6 ∷ 1 ∷ 5 ∷ 5 ∷ 7 ∷ 2 ∷ 1 ∷ []
+
+-- id-qt-unotice OBJECT IDENTIFIER ::= { id-qt 2 }
+abbrev pub user_notice : List ℕ
+user_notice = 43 ∷ 6 ∷ 1 ∷ 5 ∷ 5 ∷ 7 ∷ 2 ∷ 2 ∷ []
+
+-- a qualifier that is neither a CPS pointer nor a user notice
+abbrev pub IsOtherQualifier : QualifierValue → Type 0
+IsOtherQualifier v = (v.0 ≢ cps) × (v.0 ≢ user_notice)
+
+-- one of the qualifiers is such a one, if there are any
+abbrev pub HasOtherQualifier : Option (List ℕ) → Type 0
+HasOtherQualifier None = ⊥
+HasOtherQualifier (Some w) = Among (Required PolicyQualifierInfo) IsOtherQualifier w
+
+-- anyPolicy with such a qualifier
+abbrev pub IsAnyWithOther : PolicyValue → Type 0
+IsAnyWithOther v = (v.0 ≡ any_policy) × HasOtherQualifier v.1.0

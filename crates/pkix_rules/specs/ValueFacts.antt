@@ -1,0 +1,43 @@
+-- What the values of extensions say, by their ASN.1 in `der_extensions` and `crl_reader`.
+use Rattle.std.specs.Prelude.{◌≡◌, ◌≢◌, ℕ, true, None, List, [], ◌∷◌}
+use Rattle.der_base.specs.declared.rules.Rules.TheVariants.{Der}
+use Rattle.crl_reader.specs.declared.reason.Reason.TheVariants as reason
+use Rattle.crl_reader.specs.Reasons.{CRLReason}
+use Rattle.der_cursor.specs.Formats.{Format, ObjectIdentifier, Only, Required}
+use Rattle.der_extensions.specs.Extensions.{AuthorityKeyIdentifier, BasicConstraints, ExtKeyUsageSyntax, KeyUsage}
+use Rattle.der_values.specs.Kinds.{is_bit_set}
+use Rattle.pkix_rules.specs.declared.known.KnownExtension.{KnownExtension}
+use Rattle.pkix_rules.specs.declared.known.KnownExtension.TheVariants as known
+use Rattle.pkix_rules.specs.declared.value_facts.ValueFact.{ValueFact}
+use Rattle.pkix_rules.specs.declared.value_facts.ValueFact.TheVariants.{Authority, PathLength, KeyCertSign, CrlSign}
+use Rattle.pkix_rules.specs.declared.value_facts.ValueFact.TheVariants.{KeyIdentifier, AnyPurpose, RemoveFromCrl}
+use Rattle.pkix_rules.specs.Lists.{Among}
+
+-- the octets are a value of the type, of which P holds
+abbrev pub Says : {V : Type 0} → Format V → (V → Type 0) → List ℕ → Type 0
+Says {V} F P w = (v : V) × Only (Required F) Der w v × P v
+
+-- anyExtendedKeyUsage OBJECT IDENTIFIER ::= { id-ce-extKeyUsage 0 }, which is 2.5.29.37.0
+abbrev pub any_extended_key_usage : List ℕ
+any_extended_key_usage = 85 ∷ 29 ∷ 37 ∷ 0 ∷ []
+
+-- the extension that it is about
+abbrev pub extension_of_fact : ValueFact → KnownExtension
+extension_of_fact Authority = known.BasicConstraints
+extension_of_fact PathLength = known.BasicConstraints
+extension_of_fact KeyCertSign = known.KeyUsage
+extension_of_fact CrlSign = known.KeyUsage
+extension_of_fact KeyIdentifier = known.AuthorityKeyIdentifier
+extension_of_fact AnyPurpose = known.ExtendedKeyUsage
+extension_of_fact RemoveFromCrl = known.ReasonCode
+
+-- the value says so
+abbrev pub ValueSays : ValueFact → List ℕ → Type 0
+ValueSays Authority w = Says BasicConstraints (λ v. v.0 ≡ true) w
+ValueSays PathLength w = Says BasicConstraints (λ v. v.1.0 ≢ None) w
+ValueSays KeyCertSign w = Says KeyUsage (λ v. is_bit_set 5 v.1 ≡ true) w
+ValueSays CrlSign w = Says KeyUsage (λ v. is_bit_set 6 v.1 ≡ true) w
+ValueSays KeyIdentifier w = Says AuthorityKeyIdentifier (λ v. v.0 ≢ None) w
+ValueSays AnyPurpose w =
+    Says ExtKeyUsageSyntax (λ v. Among (Required ObjectIdentifier) (λ x. x ≡ any_extended_key_usage) v) w
+ValueSays RemoveFromCrl w = Says CRLReason (λ v. v ≡ reason.RemoveFromCrl) w

@@ -1,0 +1,59 @@
+-- What RFC 5280 asks of the values of extensions. One that isn't of its type breaks none of the other rules.
+use Rattle.std.specs.Prelude.{◌≡◌, ◌≢◌, ℕ, ◌<◌, ◌⊎◌, pos, ◌<ℤ◌, None, List, [], ◌∷◌, length}
+use Rattle.der_base.specs.Octets.{integer_value}
+use Rattle.crl_reader.specs.declared.reason.Reason.TheVariants.{Unspecified}
+use Rattle.crl_reader.specs.Reasons.{CRLReason}
+use Rattle.der_cursor.specs.Formats.{GeneralizedTime, Integer, Required}
+use Rattle.der_extensions.specs.Extensions.{AccessDescription, AccessValue, AuthorityInfoAccessSyntax}
+use Rattle.der_extensions.specs.Extensions.{AuthorityKeyIdentifier, AuthorityValue, CRLDistributionPoints}
+use Rattle.der_extensions.specs.Extensions.{CertificatePolicies, DistributionPoint, NameConstraints, PolicyInformation}
+use Rattle.der_extensions.specs.GeneralNames.{GeneralName, GeneralNames}
+use Rattle.der_x509.specs.Rules.{HasRepetition}
+use Rattle.pkix_rules.specs.declared.value_rules.ValueRule.{ValueRule}
+use Rattle.pkix_rules.specs.declared.value_rules.ValueRule.TheVariants.{OfType, IssuerAndSerial, Names, NotEmpty}
+use Rattle.pkix_rules.specs.declared.value_rules.ValueRule.TheVariants.{AnyPolicyQualifiers, DistinctPolicies, Subtrees}
+use Rattle.pkix_rules.specs.declared.value_rules.ValueRule.TheVariants.{CaIssuers, Points, PointForAllReasons}
+use Rattle.pkix_rules.specs.declared.value_rules.ValueRule.TheVariants.{ShortNumber, NaturalNumber, WholeSeconds}
+use Rattle.pkix_rules.specs.declared.value_rules.ValueRule.TheVariants.{SpecifiedReason}
+use Rattle.pkix_rules.specs.Lists.{Among}
+use Rattle.pkix_rules.specs.Names.{BreaksName}
+use Rattle.pkix_rules.specs.Policies.{IsAnyWithOther}
+use Rattle.pkix_rules.specs.Points.{BreaksPoint, IsForAllReasons}
+use Rattle.pkix_rules.specs.Subtrees.{HasBrokenSubtree}
+use Rattle.pkix_rules.specs.Types.{IsOfType}
+use Rattle.pkix_rules.specs.ValueFacts.{Says}
+
+-- authorityCertIssuer is there without authorityCertSerialNumber, or that without it
+abbrev pub IsHalf : AuthorityValue → Type 0
+IsHalf v = ((v.1.0 ≢ None) × (v.1.1.0 ≡ None)) ⊎ ((v.1.1.0 ≢ None) × (v.1.0 ≡ None))
+
+-- a SEQUENCE of no octets
+abbrev pub empty_sequence : List ℕ
+empty_sequence = 0x30 ∷ 0 ∷ []
+
+-- id-ad-caIssuers OBJECT IDENTIFIER ::= { id-ad 2 }, which is 1.3.6.1.5.5.7.48.2
+abbrev pub ca_issuers : List ℕ
+ca_issuers = 43 ∷ 6 ∷ 1 ∷ 5 ∷ 5 ∷ 7 ∷ 48 ∷ 2 ∷ []
+
+-- an accessMethod is another one
+abbrev pub IsOtherMethod : AccessValue → Type 0
+IsOtherMethod v = v.0 ≢ ca_issuers
+
+-- the value breaks the rule
+abbrev pub BreaksValue : ValueRule → List ℕ → Type 0
+BreaksValue (OfType t) w = ¬ IsOfType t w
+BreaksValue IssuerAndSerial w = Says AuthorityKeyIdentifier IsHalf w
+BreaksValue DistinctPolicies w = Says CertificatePolicies (λ v. HasRepetition v) w
+BreaksValue AnyPolicyQualifiers w =
+    Says CertificatePolicies (λ v. Among (Required PolicyInformation) IsAnyWithOther v) w
+BreaksValue (Names r) w = Says GeneralNames (λ v. Among GeneralName (BreaksName r) v) w
+BreaksValue NotEmpty w = w ≡ empty_sequence
+BreaksValue (Subtrees r) w = Says NameConstraints (HasBrokenSubtree r) w
+BreaksValue (Points r) w = Says CRLDistributionPoints (λ v. Among (Required DistributionPoint) (BreaksPoint r) v) w
+BreaksValue PointForAllReasons w =
+    Says CRLDistributionPoints (λ v. ¬ Among (Required DistributionPoint) IsForAllReasons v) w
+BreaksValue CaIssuers w = Says AuthorityInfoAccessSyntax (λ v. Among (Required AccessDescription) IsOtherMethod v) w
+BreaksValue ShortNumber w = Says Integer (λ v. 20 < length v) w
+BreaksValue NaturalNumber w = Says Integer (λ v. integer_value v <ℤ pos 0) w
+BreaksValue WholeSeconds w = Says GeneralizedTime (λ v. v.nanosecond ≢ None) w
+BreaksValue SpecifiedReason w = Says CRLReason (λ v. v ≡ Unspecified) w

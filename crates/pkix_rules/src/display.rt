@@ -1,0 +1,306 @@
+//! The texts of rules: what is wrong where one is broken, and the section of RFC 5280.
+use crate::attributes::AttributeKind;
+use crate::certificate::Rule;
+use crate::entries::EntryRule;
+use crate::facts::Fact;
+use crate::known::KnownExtension;
+use crate::names::NameRule;
+use crate::points::PointRule;
+use crate::revoked::ListRule;
+use crate::subtrees::SubtreeRule;
+use crate::value_rules::ValueRule;
+use crate::whole::WholeRule;
+use crate::whole_list::WholeListRule;
+use der_x509::Rule as FieldRule;
+use std::fmt;
+
+/// What is wrong where the rule is broken, and the section: "nameConstraints isn't critical (RFC 5280 4.2.1.10)".
+impl fmt::Display for Rule {
+    fn fmt<W: fmt::Write>(&self, f: &mut fmt::Formatter<W>) -> fmt::Result {
+        match self {
+            Rule::Fields(rule) => f.write_str(field_text(*rule)),
+            Rule::Attribute(kind) => {
+                write!(
+                    f,
+                    "{} isn't of its type (RFC 5280 A.1)",
+                    attribute_name(*kind)
+                )
+            }
+            Rule::Critical(known) => {
+                write!(f, "{known} isn't critical (RFC 5280 {})", section(*known))
+            }
+            Rule::NotCritical(known) => {
+                write!(f, "{known} is critical (RFC 5280 {})", section(*known))
+            }
+            Rule::Value(known, rule) => write!(f, "{known}: {}", value_text(*rule)),
+            Rule::Whole(rule) => f.write_str(whole_text(*rule)),
+        }
+    }
+}
+
+/// The same of a list of revoked certificates.
+impl fmt::Display for ListRule {
+    fn fmt<W: fmt::Write>(&self, f: &mut fmt::Formatter<W>) -> fmt::Result {
+        match self {
+            ListRule::Critical(known) => {
+                write!(
+                    f,
+                    "{known} isn't critical (RFC 5280 {})",
+                    list_section(*known)
+                )
+            }
+            ListRule::NotCritical(known) => {
+                write!(f, "{known} is critical (RFC 5280 {})", list_section(*known))
+            }
+            ListRule::Value(known, rule) => write!(f, "{known}: {}", value_text(*rule)),
+            ListRule::Entry(rule) => write!(f, "an entry: {rule}"),
+            ListRule::Whole(rule) => f.write_str(whole_list_text(*rule)),
+        }
+    }
+}
+
+/// What is wrong with an entry where the rule is broken.
+impl fmt::Display for EntryRule {
+    fn fmt<W: fmt::Write>(&self, f: &mut fmt::Formatter<W>) -> fmt::Result {
+        match self {
+            EntryRule::PositiveSerialNumber => {
+                f.write_str("its serial number isn't positive (RFC 5280 4.1.2.2)")
+            }
+            EntryRule::ShortSerialNumber => {
+                f.write_str("its serial number has more than 20 octets (RFC 5280 4.1.2.2)")
+            }
+            EntryRule::UtcTimeTo2049 => {
+                f.write_str("its date before 2050 is a GeneralizedTime (RFC 5280 5.1.2.6)")
+            }
+            EntryRule::WholeSeconds => {
+                f.write_str("its date has a fraction of a second (RFC 5280 5.1.2.6)")
+            }
+            EntryRule::Without(known, fact) => {
+                write!(f, "{known} {fact} (RFC 5280 {})", section(*known))
+            }
+        }
+    }
+}
+
+/// What an extension shows, after its name: "is critical".
+impl fmt::Display for Fact {
+    fn fmt<W: fmt::Write>(&self, f: &mut fmt::Formatter<W>) -> fmt::Result {
+        match self {
+            Fact::Present => f.write_str("is there"),
+            Fact::Critical => f.write_str("is critical"),
+            Fact::NotCritical => f.write_str("isn't critical"),
+            Fact::Says(fact) => write!(f, "says {fact:?}"),
+            Fact::Breaks(rule) => write!(f, "breaks a rule: {}", value_text(*rule)),
+        }
+    }
+}
+
+/// The name that the ASN.1 of RFC 5280 gives the extension.
+impl fmt::Display for KnownExtension {
+    fn fmt<W: fmt::Write>(&self, f: &mut fmt::Formatter<W>) -> fmt::Result {
+        f.write_str(match self {
+            KnownExtension::AuthorityKeyIdentifier => "authorityKeyIdentifier",
+            KnownExtension::SubjectKeyIdentifier => "subjectKeyIdentifier",
+            KnownExtension::KeyUsage => "keyUsage",
+            KnownExtension::CertificatePolicies => "certificatePolicies",
+            KnownExtension::PolicyMappings => "policyMappings",
+            KnownExtension::SubjectAltName => "subjectAltName",
+            KnownExtension::IssuerAltName => "issuerAltName",
+            KnownExtension::SubjectDirectoryAttributes => "subjectDirectoryAttributes",
+            KnownExtension::BasicConstraints => "basicConstraints",
+            KnownExtension::NameConstraints => "nameConstraints",
+            KnownExtension::PolicyConstraints => "policyConstraints",
+            KnownExtension::ExtendedKeyUsage => "extKeyUsage",
+            KnownExtension::CrlDistributionPoints => "cRLDistributionPoints",
+            KnownExtension::InhibitAnyPolicy => "inhibitAnyPolicy",
+            KnownExtension::FreshestCrl => "freshestCRL",
+            KnownExtension::AuthorityInfoAccess => "authorityInfoAccess",
+            KnownExtension::SubjectInfoAccess => "subjectInfoAccess",
+            KnownExtension::CrlNumber => "cRLNumber",
+            KnownExtension::DeltaCrlIndicator => "deltaCRLIndicator",
+            KnownExtension::IssuingDistributionPoint => "issuingDistributionPoint",
+            KnownExtension::ReasonCode => "reasonCode",
+            KnownExtension::InvalidityDate => "invalidityDate",
+            KnownExtension::CertificateIssuer => "certificateIssuer",
+        })
+    }
+}
+
+/// The section of RFC 5280 that the extension is in.
+fn section(known: KnownExtension) -> &'static str {
+    match known {
+        KnownExtension::AuthorityKeyIdentifier => "4.2.1.1",
+        KnownExtension::SubjectKeyIdentifier => "4.2.1.2",
+        KnownExtension::KeyUsage => "4.2.1.3",
+        KnownExtension::CertificatePolicies => "4.2.1.4",
+        KnownExtension::PolicyMappings => "4.2.1.5",
+        KnownExtension::SubjectAltName => "4.2.1.6",
+        KnownExtension::IssuerAltName => "4.2.1.7",
+        KnownExtension::SubjectDirectoryAttributes => "4.2.1.8",
+        KnownExtension::BasicConstraints => "4.2.1.9",
+        KnownExtension::NameConstraints => "4.2.1.10",
+        KnownExtension::PolicyConstraints => "4.2.1.11",
+        KnownExtension::ExtendedKeyUsage => "4.2.1.12",
+        KnownExtension::CrlDistributionPoints => "4.2.1.13",
+        KnownExtension::InhibitAnyPolicy => "4.2.1.14",
+        KnownExtension::FreshestCrl => "4.2.1.15",
+        KnownExtension::AuthorityInfoAccess => "4.2.2.1",
+        KnownExtension::SubjectInfoAccess => "4.2.2.2",
+        KnownExtension::CrlNumber => "5.2.3",
+        KnownExtension::DeltaCrlIndicator => "5.2.4",
+        KnownExtension::IssuingDistributionPoint => "5.2.5",
+        KnownExtension::ReasonCode => "5.3.1",
+        KnownExtension::InvalidityDate => "5.3.2",
+        KnownExtension::CertificateIssuer => "5.3.3",
+    }
+}
+
+/// The same of an extension of a list of revoked certificates.
+fn list_section(known: KnownExtension) -> &'static str {
+    match known {
+        KnownExtension::AuthorityKeyIdentifier => "5.2.1",
+        KnownExtension::IssuerAltName => "5.2.2",
+        KnownExtension::FreshestCrl => "5.2.6",
+        KnownExtension::AuthorityInfoAccess => "5.2.7",
+        _ => section(known),
+    }
+}
+
+/// The name that the ASN.1 gives the attribute.
+fn attribute_name(kind: AttributeKind) -> &'static str {
+    match kind {
+        AttributeKind::CountryName => "countryName",
+        AttributeKind::SerialNumber => "serialNumber",
+        AttributeKind::DnQualifier => "dnQualifier",
+        AttributeKind::DomainComponent => "domainComponent",
+        AttributeKind::EmailAddress => "emailAddress",
+        AttributeKind::CommonName => "commonName",
+        AttributeKind::OrganizationName => "organizationName",
+        AttributeKind::OrganizationalUnitName => "organizationalUnitName",
+        AttributeKind::Title => "title",
+        AttributeKind::LocalityName => "localityName",
+        AttributeKind::StateOrProvinceName => "stateOrProvinceName",
+        AttributeKind::Pseudonym => "pseudonym",
+        AttributeKind::Name => "name",
+        AttributeKind::Surname => "surname",
+        AttributeKind::GivenName => "givenName",
+        AttributeKind::Initials => "initials",
+        AttributeKind::GenerationQualifier => "generationQualifier",
+    }
+}
+
+fn field_text(rule: FieldRule) -> &'static str {
+    match rule {
+        FieldRule::SameAlgorithms => "the signature algorithms differ (RFC 5280 4.1.1.2)",
+        FieldRule::PositiveSerialNumber => "the serial number isn't positive (RFC 5280 4.1.2.2)",
+        FieldRule::ShortSerialNumber =>
+            "the serial number has more than 20 octets (RFC 5280 4.1.2.2)",
+        FieldRule::NamedIssuer => "the issuer has no name (RFC 5280 4.1.2.4)",
+        FieldRule::OrderedAttributes =>
+            "attributes of a relative name are out of order (X.690 11.6)",
+        FieldRule::UtcTimeTo2049 => "a time before 2050 is a GeneralizedTime (RFC 5280 4.1.2.5)",
+        FieldRule::WholeSeconds => "a time has a fraction of a second (RFC 5280 4.1.2.5.2)",
+        FieldRule::UniqueIdVersion => "a unique identifier in version 1 (RFC 5280 4.1.2.8)",
+        FieldRule::ExtensionsVersion => "extensions before version 3 (RFC 5280 4.1.2.9)",
+        FieldRule::DistinctExtensions => "an extension comes twice (RFC 5280 4.2)",
+        FieldRule::NamedSubject =>
+            "the subject has no name, and no critical subjectAltName (RFC 5280 4.1.2.6)",
+        FieldRule::DerValues => "a value of any type isn't in DER (X.690 10)",
+    }
+}
+
+fn value_text(rule: ValueRule) -> &'static str {
+    match rule {
+        ValueRule::OfType(_) => "it isn't of its type (RFC 5280 4.2, 5.2, 5.3)",
+        ValueRule::IssuerAndSerial => "an issuer or a serial number alone (RFC 5280 4.2.1.1)",
+        ValueRule::DistinctPolicies => "a policy comes twice (RFC 5280 4.2.1.4)",
+        ValueRule::AnyPolicyQualifiers => "another qualifier of anyPolicy (RFC 5280 4.2.1.4)",
+        ValueRule::Names(rule) => name_text(rule),
+        ValueRule::NotEmpty => "it is an empty sequence (RFC 5280 4.2.1.10, 4.2.1.11, 5.2.5)",
+        ValueRule::Subtrees(rule) => subtree_text(rule),
+        ValueRule::Points(rule) => point_text(rule),
+        ValueRule::PointForAllReasons => "no point is for all reasons (RFC 5280 4.2.1.13)",
+        ValueRule::CaIssuers => "a method isn't id-ad-caIssuers (RFC 5280 5.2.7)",
+        ValueRule::ShortNumber => "the number has more than 20 octets (RFC 5280 5.2.3)",
+        ValueRule::NaturalNumber => "the number is negative (RFC 5280 4.2.1.14, 5.2.3, 5.2.4)",
+        ValueRule::WholeSeconds => "the date has a fraction of a second (RFC 5280 5.3.2)",
+        ValueRule::SpecifiedReason => "the reason is unspecified (RFC 5280 5.3.1)",
+    }
+}
+
+fn name_text(rule: NameRule) -> &'static str {
+    match rule {
+        NameRule::NotEmpty => "a name is empty (RFC 5280 4.2.1.6)",
+        NameRule::AddressOctets => "an address hasn't 4 or 16 octets (RFC 5280 4.2.1.6)",
+        NameRule::NotBlank => "a dNSName is a space (RFC 5280 4.2.1.6)",
+        NameRule::Scheme => "a resource identifier has no scheme (RFC 5280 4.2.1.6)",
+    }
+}
+
+fn subtree_text(rule: SubtreeRule) -> &'static str {
+    match rule {
+        SubtreeRule::NoDistance => "a subtree has a minimum or a maximum (RFC 5280 4.2.1.10)",
+        SubtreeRule::NetworkOctets => "an address hasn't 8 or 32 octets (RFC 5280 4.2.1.10)",
+        SubtreeRule::UsualName => "a subtree of an unusual kind of name (RFC 5280 4.2.1.10)",
+    }
+}
+
+fn point_text(rule: PointRule) -> &'static str {
+    match rule {
+        PointRule::Named => "a point has neither a name nor an issuer (RFC 5280 4.2.1.13)",
+        PointRule::FullName => "the name of a point is relative (RFC 5280 4.2.1.13)",
+        PointRule::NameAlone => "a point has reasons or an issuer (RFC 5280 5.2.6)",
+    }
+}
+
+fn whole_text(rule: WholeRule) -> &'static str {
+    match rule {
+        WholeRule::NoUniqueIdentifier => "there is a unique identifier (RFC 5280 4.1.2.8)",
+        WholeRule::NamedAuthority =>
+            "the subject is an authority, and has no name (RFC 5280 4.1.2.6)",
+        WholeRule::NamedCrlIssuer =>
+            "the subject signs lists of revoked certificates, and has no name (RFC 5280 4.1.2.6)",
+        WholeRule::KeyIdentifierOfIssuer =>
+            "no authorityKeyIdentifier has a keyIdentifier (RFC 5280 4.2.1.1)",
+        WholeRule::KeyIdentifierOfAuthority =>
+            "an authority without a subjectKeyIdentifier (RFC 5280 4.2.1.2)",
+        WholeRule::KeyIdentifierOfEndEntity =>
+            "there is no subjectKeyIdentifier (RFC 5280 4.2.1.2)",
+        WholeRule::KeyUsageOfAuthority => "an authority without a keyUsage (RFC 5280 4.2.1.3)",
+        WholeRule::CertSignOfAuthority =>
+            "a keyUsage has keyCertSign, and the subject is no authority (RFC 5280 4.2.1.3)",
+        WholeRule::AltNameNotCritical =>
+            "the subject has a name, and subjectAltName is critical (RFC 5280 4.2.1.6)",
+        WholeRule::CriticalConstraints =>
+            "the basicConstraints of an authority isn't critical (RFC 5280 4.2.1.9)",
+        WholeRule::PathLengthOfAuthority =>
+            "a pathLenConstraint, and the subject is no authority (RFC 5280 4.2.1.9)",
+        WholeRule::PathLengthOfCertSign =>
+            "a pathLenConstraint, and no keyUsage has keyCertSign (RFC 5280 4.2.1.9)",
+        WholeRule::NameConstraintsOfAuthority =>
+            "nameConstraints, and the subject is no authority (RFC 5280 4.2.1.10)",
+        WholeRule::AnyPurposeNotCritical =>
+            "extKeyUsage has anyExtendedKeyUsage, and is critical (RFC 5280 4.2.1.12)",
+    }
+}
+
+fn whole_list_text(rule: WholeListRule) -> &'static str {
+    match rule {
+        WholeListRule::SameAlgorithms => "the signature algorithms differ (RFC 5280 5.1.1.2)",
+        WholeListRule::SecondVersion => "extensions before version 2 (RFC 5280 5.1.2.1)",
+        WholeListRule::NamedIssuer => "the issuer has no name (RFC 5280 5.1.2.3)",
+        WholeListRule::UtcTimeTo2049 =>
+            "a date before 2050 is a GeneralizedTime (RFC 5280 5.1.2.4)",
+        WholeListRule::WholeSeconds => "a date has a fraction of a second (RFC 5280 5.1.2.4)",
+        WholeListRule::NextUpdate => "there is no nextUpdate (RFC 5280 5.1.2.5)",
+        WholeListRule::SomeEntries => "revokedCertificates is empty (RFC 5280 5.1.2.6)",
+        WholeListRule::KeyIdentifierOfIssuer => {
+            "no authorityKeyIdentifier has a keyIdentifier (RFC 5280 5.2.1)"
+        }
+        WholeListRule::Number => "there is no cRLNumber (RFC 5280 5.2.3)",
+        WholeListRule::FreshestOfComplete => "a freshestCRL in a list of changes (RFC 5280 5.2.6)",
+        WholeListRule::RemovalOfDelta => {
+            "removeFromCRL in a list that is none of changes (RFC 5280 5.3.1)"
+        }
+    }
+}

@@ -1,0 +1,64 @@
+//! What an extension shows. Each rule about extensions is made of these.
+ghost use Rattle.std.specs.Prelude.{◌≡◌, ◌↔◌, IsTrue};
+ghost use Rattle.der_x509.specs.Certificates.{certificate_of, extension_of};
+ghost use Rattle.pkix_rules.specs.Facts.{Has, Holds, IsShownBy, Shows};
+
+use crate::identifier::has_octets;
+use crate::known::KnownExtension;
+use crate::value_facts::{ValueFact, says};
+use crate::value_rules::{ValueRule, breaks_value};
+use der_x509::{Certificate, Extension, Extensions};
+
+/// What an extension may show.
+#[derive(Clone, Copy, Debug, PartialEq)]
+pub enum Fact {
+    /// It is there.
+    Present,
+    /// It is critical.
+    Critical,
+    /// It isn't critical.
+    NotCritical,
+    /// Its value, which is of its type, says this.
+    Says(ValueFact),
+    /// Its value, which is of its type, breaks the rule.
+    Breaks(ValueRule),
+}
+
+/// Returns whether an extension of the certificate, one with the identifier of `known`, shows the fact.
+pub(crate) fn has(certificate: &Certificate<'_>, known: KnownExtension, fact: Fact) -> bool
+    ensures { IsTrue result ↔ Has known fact (certificate_of certificate.now) }
+{
+    shows(certificate.tbs_certificate.extensions, known, fact)
+}
+
+/// Returns whether one of the extensions, one with the identifier of `known`, shows the fact.
+pub(crate) fn shows(extensions: Extensions<'_>, known: KnownExtension, fact: Fact) -> bool
+    ensures { IsTrue result ↔ Shows known fact extensions.entry.octets.now }
+{
+    for extension in extensions.iter() {
+        if is_shown_by(known, fact, &extension) {
+            return true;
+        }
+    }
+    false
+}
+
+/// Returns whether the extension has the identifier of `known`, and shows the fact.
+fn is_shown_by(known: KnownExtension, fact: Fact, extension: &Extension<'_>) -> bool
+    ensures { IsTrue result ↔ IsShownBy known fact (extension_of extension.now) }
+{
+    has_octets(&extension.identifier, known.identifier()) && holds(fact, extension)
+}
+
+/// Returns whether the extension shows the fact.
+fn holds(fact: Fact, extension: &Extension<'_>) -> bool
+    ensures { IsTrue result ↔ Holds fact (extension_of extension.now) }
+{
+    match fact {
+        Fact::Present => true,
+        Fact::Critical => extension.critical,
+        Fact::NotCritical => !extension.critical,
+        Fact::Says(fact) => says(fact, extension.value),
+        Fact::Breaks(rule) => breaks_value(rule, extension.value),
+    }
+}

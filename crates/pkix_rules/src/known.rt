@@ -1,0 +1,133 @@
+//! The extensions of RFC 5280 (4.2, 5.2 and 5.3).
+ghost use Rattle.std.specs.Prelude.{◌≡◌};
+ghost use Rattle.pkix_rules.specs.Identifiers.{octets_of};
+
+/// An extension of RFC 5280, of a certificate, of a list of revoked certificates or of an entry of one.
+#[derive(Clone, Copy, Debug, PartialEq)]
+pub enum KnownExtension {
+    /// 4.2.1.1.
+    AuthorityKeyIdentifier,
+    /// 4.2.1.2.
+    SubjectKeyIdentifier,
+    /// 4.2.1.3.
+    KeyUsage,
+    /// 4.2.1.4.
+    CertificatePolicies,
+    /// 4.2.1.5.
+    PolicyMappings,
+    /// 4.2.1.6.
+    SubjectAltName,
+    /// 4.2.1.7.
+    IssuerAltName,
+    /// 4.2.1.8.
+    SubjectDirectoryAttributes,
+    /// 4.2.1.9.
+    BasicConstraints,
+    /// 4.2.1.10.
+    NameConstraints,
+    /// 4.2.1.11.
+    PolicyConstraints,
+    /// 4.2.1.12.
+    ExtendedKeyUsage,
+    /// 4.2.1.13.
+    CrlDistributionPoints,
+    /// 4.2.1.14.
+    InhibitAnyPolicy,
+    /// 4.2.1.15, 5.2.6.
+    FreshestCrl,
+    /// 4.2.2.1, 5.2.7.
+    AuthorityInfoAccess,
+    /// 4.2.2.2.
+    SubjectInfoAccess,
+    /// 5.2.3.
+    CrlNumber,
+    /// 5.2.4.
+    DeltaCrlIndicator,
+    /// 5.2.5.
+    IssuingDistributionPoint,
+    /// 5.3.1.
+    ReasonCode,
+    /// 5.3.2.
+    InvalidityDate,
+    /// 5.3.3.
+    CertificateIssuer,
+}
+
+impl KnownExtension {
+    /// The content octets of its identifier (A.2): 2.5.29.n, or 1.3.6.1.5.5.7.1.n.
+    pub fn identifier(self) -> &'static [u8]
+        ensures { result.now ≡ octets_of self }
+    {
+        match self {
+            KnownExtension::AuthorityKeyIdentifier => AUTHORITY_KEY_IDENTIFIER,
+            KnownExtension::SubjectKeyIdentifier => SUBJECT_KEY_IDENTIFIER,
+            KnownExtension::KeyUsage => KEY_USAGE,
+            KnownExtension::CertificatePolicies => CERTIFICATE_POLICIES,
+            KnownExtension::PolicyMappings => POLICY_MAPPINGS,
+            KnownExtension::SubjectAltName => SUBJECT_ALT_NAME,
+            KnownExtension::IssuerAltName => ISSUER_ALT_NAME,
+            KnownExtension::SubjectDirectoryAttributes => SUBJECT_DIRECTORY_ATTRIBUTES,
+            KnownExtension::BasicConstraints => BASIC_CONSTRAINTS,
+            KnownExtension::NameConstraints => NAME_CONSTRAINTS,
+            KnownExtension::PolicyConstraints => POLICY_CONSTRAINTS,
+            KnownExtension::ExtendedKeyUsage => EXTENDED_KEY_USAGE,
+            KnownExtension::CrlDistributionPoints => CRL_DISTRIBUTION_POINTS,
+            KnownExtension::InhibitAnyPolicy => INHIBIT_ANY_POLICY,
+            KnownExtension::FreshestCrl => FRESHEST_CRL,
+            KnownExtension::AuthorityInfoAccess => AUTHORITY_INFO_ACCESS,
+            KnownExtension::SubjectInfoAccess => SUBJECT_INFO_ACCESS,
+            KnownExtension::CrlNumber => CRL_NUMBER,
+            KnownExtension::DeltaCrlIndicator => DELTA_CRL_INDICATOR,
+            KnownExtension::IssuingDistributionPoint => ISSUING_DISTRIBUTION_POINT,
+            KnownExtension::ReasonCode => REASON_CODE,
+            KnownExtension::InvalidityDate => INVALIDITY_DATE,
+            KnownExtension::CertificateIssuer => CERTIFICATE_ISSUER,
+        }
+    }
+}
+
+const AUTHORITY_KEY_IDENTIFIER: &[u8] = b"\x55\x1d\x23";
+
+const SUBJECT_KEY_IDENTIFIER: &[u8] = b"\x55\x1d\x0e";
+
+const KEY_USAGE: &[u8] = b"\x55\x1d\x0f";
+
+const CERTIFICATE_POLICIES: &[u8] = b"\x55\x1d\x20";
+
+const POLICY_MAPPINGS: &[u8] = b"\x55\x1d\x21";
+
+const SUBJECT_ALT_NAME: &[u8] = b"\x55\x1d\x11";
+
+const ISSUER_ALT_NAME: &[u8] = b"\x55\x1d\x12";
+
+const SUBJECT_DIRECTORY_ATTRIBUTES: &[u8] = b"\x55\x1d\x09";
+
+const BASIC_CONSTRAINTS: &[u8] = b"\x55\x1d\x13";
+
+const NAME_CONSTRAINTS: &[u8] = b"\x55\x1d\x1e";
+
+const POLICY_CONSTRAINTS: &[u8] = b"\x55\x1d\x24";
+
+const EXTENDED_KEY_USAGE: &[u8] = b"\x55\x1d\x25";
+
+const CRL_DISTRIBUTION_POINTS: &[u8] = b"\x55\x1d\x1f";
+
+const INHIBIT_ANY_POLICY: &[u8] = b"\x55\x1d\x36";
+
+const FRESHEST_CRL: &[u8] = b"\x55\x1d\x2e";
+
+const AUTHORITY_INFO_ACCESS: &[u8] = b"\x2b\x06\x01\x05\x05\x07\x01\x01";
+
+const SUBJECT_INFO_ACCESS: &[u8] = b"\x2b\x06\x01\x05\x05\x07\x01\x0b";
+
+const CRL_NUMBER: &[u8] = b"\x55\x1d\x14";
+
+const DELTA_CRL_INDICATOR: &[u8] = b"\x55\x1d\x1b";
+
+const ISSUING_DISTRIBUTION_POINT: &[u8] = b"\x55\x1d\x1c";
+
+const REASON_CODE: &[u8] = b"\x55\x1d\x15";
+
+const INVALIDITY_DATE: &[u8] = b"\x55\x1d\x18";
+
+const CERTIFICATE_ISSUER: &[u8] = b"\x55\x1d\x1d";

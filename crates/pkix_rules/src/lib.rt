@@ -1,0 +1,43 @@
+//! The rules of RFC 5280 that the octets of a certificate or of a list of revoked certificates show.
+//! `der_x509` and `crl_reader` read them by their ASN.1; here each rule of the text is asked.
+#![tactic(auto)]
+
+mod attributes;
+mod broken;
+mod certificate;
+mod display;
+mod entries;
+mod facts;
+mod fields;
+mod identifier;
+mod known;
+mod names;
+mod points;
+mod policies;
+mod readers;
+mod repetition;
+mod revoked;
+mod subtrees;
+mod types;
+mod value_facts;
+mod value_rules;
+mod whole;
+mod whole_list;
+
+pub use attributes::{AttributeKind, StringKind};
+pub use broken::{BrokenRules, broken_rules};
+pub use certificate::{MUST_RULES, Rule, SHOULD_RULES, breaks};
+pub use entries::EntryRule;
+pub use facts::Fact;
+pub use known::KnownExtension;
+pub use names::NameRule;
+pub use points::PointRule;
+pub use revoked::{
+    BrokenListRules, ListRule, MUST_LIST_RULES, SHOULD_LIST_RULES, broken_list_rules, list_breaks,
+};
+pub use subtrees::SubtreeRule;
+pub use types::ValueType;
+pub use value_facts::ValueFact;
+pub use value_rules::ValueRule;
+pub use whole::WholeRule;
+pub use whole_list::WholeListRule;

@@ -1,0 +1,118 @@
+//! Rules of distribution points (RFC 5280 4.2.1.13).
+ghost use Rattle.std.specs.Prelude.{◌≡◌, ◌↔◌, IsTrue};
+ghost use Rattle.der_cursor.specs.Formats.{Required};
+ghost use Rattle.der_extensions.specs.Extensions.{DistributionPoint as PointFormat, point_name_of, point_of};
+ghost use Rattle.pkix_rules.specs.Lists.{Among};
+ghost use Rattle.pkix_rules.specs.Points.{BreaksPoint, HasMoreThanName, HasRelativeName, IsForAllReasons};
+ghost use Rattle.pkix_rules.specs.Points.{IsRelative, IsUnnamed};
+ghost use Rattle.pkix_rules.specs.ValueRules.{BreaksValue};
+
+use crate::value_rules::ValueRule;
+use der_extensions::{
+    CrlDistributionPoints, DistributionPoint, DistributionPointName, read_crl_distribution_points,
+};
+
+/// A rule of RFC 5280 about a distribution point.
+#[derive(Clone, Copy, Debug, PartialEq)]
+pub enum PointRule {
+    /// It has a distributionPoint or a cRLIssuer (4.2.1.13, MUST).
+    Named,
+    /// Its name isn't relative to that of the issuer (4.2.1.13, SHOULD NOT).
+    FullName,
+    /// It has neither reasons nor a cRLIssuer (5.2.6 of a list of revoked certificates, MUST).
+    NameAlone,
+}
+
+/// Returns whether the octets are distribution points, one of which breaks the rule.
+pub(crate) fn breaks_points(rule: PointRule, value: &[u8]) -> bool
+    ensures { IsTrue result ↔ BreaksValue (ValueRule.Points rule) value.now }
+{
+    match read_crl_distribution_points(value) {
+        Ok(points) => has_broken_point(rule, &points),
+        Err(_) => false,
+    }
+}
+
+/// Returns whether one of the points breaks the rule.
+fn has_broken_point(rule: PointRule, points: &CrlDistributionPoints<'_>) -> bool
+    ensures { IsTrue result ↔ Among (Required PointFormat) (BreaksPoint rule) points.now.octets.now }
+{
+    for point in points.iter() {
+        if breaks_point(rule, &point) {
+            return true;
+        }
+    }
+    false
+}
+
+/// Returns whether the point breaks the rule.
+fn breaks_point(rule: PointRule, point: &DistributionPoint<'_>) -> bool
+    ensures { IsTrue result ↔ BreaksPoint rule (point_of point.now) }
+{
+    match rule {
+        PointRule::Named => is_unnamed(point),
+        PointRule::FullName => has_relative_name(point),
+        PointRule::NameAlone => has_more_than_name(point),
+    }
+}
+
+/// Returns whether the point has neither a name nor an issuer of lists.
+fn is_unnamed(point: &DistributionPoint<'_>) -> bool
+    ensures { IsTrue result ↔ IsUnnamed (point_of point.now) }
+{
+    point.distribution_point.is_none() && point.crl_issuer.is_none()
+}
+
+/// Returns whether the point has reasons or an issuer of lists.
+fn has_more_than_name(point: &DistributionPoint<'_>) -> bool
+    ensures { IsTrue result ↔ HasMoreThanName (point_of point.now) }
+{
+    point.reasons.is_some() || point.crl_issuer.is_some()
+}
+
+/// Returns whether the name of the point is relative to that of the issuer.
+fn has_relative_name(point: &DistributionPoint<'_>) -> bool
+    ensures { IsTrue result ↔ HasRelativeName (point_of point.now) }
+{
+    match &point.distribution_point {
+        Some(name) => is_relative(name),
+        None => false,
+    }
+}
+
+fn is_relative(name: &DistributionPointName<'_>) -> bool
+    ensures { IsTrue result ↔ IsRelative (point_name_of name.now) }
+{
+    match name {
+        DistributionPointName::FullName(_) => false,
+        DistributionPointName::NameRelativeToCrlIssuer(_) => true,
+    }
+}
+
+/// Returns whether the octets are distribution points, none of which is for all reasons.
+pub(crate) fn is_without_whole_point(value: &[u8]) -> bool
+    ensures { IsTrue result ↔ BreaksValue ValueRule.PointForAllReasons value.now }
+{
+    match read_crl_distribution_points(value) {
+        Ok(points) => !has_whole_point(&points),
+        Err(_) => false,
+    }
+}
+
+/// Returns whether one of the points is for all reasons.
+fn has_whole_point(points: &CrlDistributionPoints<'_>) -> bool
+    ensures { IsTrue result ↔ Among (Required PointFormat) IsForAllReasons points.now.octets.now }
+{
+    for point in points.iter() {
+        if is_whole(&point) {
+            return true;
+        }
+    }
+    false
+}
+
+fn is_whole(point: &DistributionPoint<'_>) -> bool
+    ensures { IsTrue result ↔ IsForAllReasons (point_of point.now) }
+{
+    point.reasons.is_none()
+}

@@ -1,0 +1,107 @@
+//! Rules of the subtrees of name constraints (RFC 5280 4.2.1.10).
+ghost use Rattle.std.specs.Prelude.{◌≡◌, ◌↔◌, IsTrue};
+ghost use Rattle.der_cursor.specs.Formats.{Required};
+ghost use Rattle.der_extensions.specs.Extensions.{GeneralSubtree as SubtreeFormat, name_constraints_of, subtree_of};
+ghost use Rattle.der_extensions.specs.GeneralNames.{name_of};
+ghost use Rattle.der_extensions.specs.Lists.{list_octets};
+ghost use Rattle.std.specs.Option.{option_map};
+ghost use Rattle.pkix_rules.specs.Lists.{Among};
+ghost use Rattle.pkix_rules.specs.Subtrees.{BreaksSubtree, HasDistance, HasBrokenSubtree, IsOddNetwork, IsUnusual};
+ghost use Rattle.pkix_rules.specs.Subtrees.{SomeBroken};
+ghost use Rattle.pkix_rules.specs.ValueRules.{BreaksValue};
+
+use crate::value_rules::ValueRule;
+use der_extensions::{
+    GeneralName, GeneralSubtree, NameConstraints, SequenceOf, read_name_constraints,
+};
+
+/// A rule of RFC 5280 about a subtree of name constraints.
+#[derive(Clone, Copy, Debug, PartialEq)]
+pub enum SubtreeRule {
+    /// The minimum is 0, and there is no maximum (4.2.1.10, MUST).
+    NoDistance,
+    /// An iPAddress is one of IPv4 or IPv6 with a mask: it has 8 or 32 octets (4.2.1.10, MUST).
+    NetworkOctets,
+    /// It isn't one of an x400Address, an ediPartyName or a registeredID (4.2.1.10, SHOULD NOT).
+    UsualName,
+}
+
+/// Returns whether the octets are name constraints with a subtree that breaks the rule.
+pub(crate) fn breaks_subtrees(rule: SubtreeRule, value: &[u8]) -> bool
+    ensures { IsTrue result ↔ BreaksValue (ValueRule.Subtrees rule) value.now }
+{
+    match read_name_constraints(value) {
+        Ok(constraints) => has_broken_subtree(rule, &constraints),
+        Err(_) => false,
+    }
+}
+
+/// Returns whether a permitted or an excluded subtree breaks the rule.
+fn has_broken_subtree(rule: SubtreeRule, constraints: &NameConstraints<'_>) -> bool
+    ensures { IsTrue result ↔ HasBrokenSubtree rule (name_constraints_of constraints.now) }
+{
+    has_broken(rule, &constraints.permitted_subtrees)
+        || has_broken(rule, &constraints.excluded_subtrees)
+}
+
+/// Returns whether there are subtrees, one of which breaks the rule.
+fn has_broken<'a>(rule: SubtreeRule, subtrees: &Option<SequenceOf<'a, GeneralSubtree<'a>>>) -> bool
+    ensures { IsTrue result ↔ SomeBroken rule (option_map list_octets subtrees.now) }
+{
+    match subtrees {
+        Some(subtrees) => is_one_broken(rule, subtrees),
+        None => false,
+    }
+}
+
+/// Returns whether one of the subtrees breaks the rule.
+fn is_one_broken<'a>(rule: SubtreeRule, subtrees: &SequenceOf<'a, GeneralSubtree<'a>>) -> bool
+    ensures { IsTrue result ↔ Among (Required SubtreeFormat) (BreaksSubtree rule) subtrees.now.octets.now }
+{
+    for subtree in subtrees.iter() {
+        if breaks_subtree(rule, &subtree) {
+            return true;
+        }
+    }
+    false
+}
+
+/// Returns whether the subtree breaks the rule.
+fn breaks_subtree(rule: SubtreeRule, subtree: &GeneralSubtree<'_>) -> bool
+    ensures { IsTrue result ↔ BreaksSubtree rule (subtree_of subtree.now) }
+{
+    match rule {
+        SubtreeRule::NoDistance => has_distance(subtree),
+        SubtreeRule::NetworkOctets => is_odd_network(&subtree.base),
+        SubtreeRule::UsualName => is_unusual(&subtree.base),
+    }
+}
+
+/// Returns whether the minimum isn't 0, or there is a maximum.
+fn has_distance(subtree: &GeneralSubtree<'_>) -> bool
+    ensures { IsTrue result ↔ HasDistance (subtree_of subtree.now) }
+{
+    subtree.minimum != 0 || subtree.maximum.is_some()
+}
+
+/// Returns whether it is an address without a mask, or none.
+fn is_odd_network(name: &GeneralName<'_>) -> bool
+    ensures { IsTrue result ↔ IsOddNetwork (name_of name.now) }
+{
+    match name {
+        GeneralName::IpAddress(octets) => octets.len() != 8 && octets.len() != 32,
+        _ => false,
+    }
+}
+
+/// Returns whether it is an x400Address, an ediPartyName or a registeredID.
+fn is_unusual(name: &GeneralName<'_>) -> bool
+    ensures { IsTrue result ↔ IsUnusual (name_of name.now) }
+{
+    match name {
+        GeneralName::X400Address(_) => true,
+        GeneralName::EdiPartyName(_) => true,
+        GeneralName::RegisteredId(_) => true,
+        _ => false,
+    }
+}

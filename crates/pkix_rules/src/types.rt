@@ -1,0 +1,180 @@
+//! Which type the value of an extension is of.
+ghost use Rattle.std.specs.Prelude.{◌≡◌, ◌↔◌, IsTrue};
+ghost use Rattle.pkix_rules.specs.Types.{IsOfType};
+
+use crate::readers::{read_date, read_number};
+use crl_reader::read_reason;
+use der_extensions::{
+    read_authority_key_identifier, read_basic_constraints, read_certificate_policies,
+    read_crl_distribution_points, read_extended_key_usage, read_general_names,
+    read_information_access, read_key_usage, read_name_constraints, read_subject_key_identifier,
+};
+
+/// A type of ASN.1 that the value of an extension is of, by DER, with nothing after it.
+#[derive(Clone, Copy, Debug, PartialEq)]
+pub enum ValueType {
+    /// AuthorityKeyIdentifier (4.2.1.1).
+    KeyIdentifiers,
+    /// OCTET STRING, of a subjectKeyIdentifier (4.2.1.2).
+    Octets,
+    /// KeyUsage: there is a bit 1, and it is the last one (4.2.1.3).
+    KeyUsage,
+    /// CertificatePolicies: there is a policy (4.2.1.4).
+    Policies,
+    /// GeneralNames: there is a name (4.2.1.6, 4.2.1.7, 5.3.3).
+    Names,
+    /// BasicConstraints (4.2.1.9).
+    Constraints,
+    /// NameConstraints (4.2.1.10).
+    NameConstraints,
+    /// ExtKeyUsageSyntax: there is a purpose (4.2.1.12).
+    Purposes,
+    /// CRLDistributionPoints: there is a point (4.2.1.13, 4.2.1.15).
+    Points,
+    /// AuthorityInfoAccessSyntax: there is a description (4.2.2.1, 4.2.2.2).
+    Descriptions,
+    /// INTEGER, of an inhibitAnyPolicy, a cRLNumber or a deltaCRLIndicator (4.2.1.14, 5.2.3, 5.2.4).
+    Number,
+    /// CRLReason (5.3.1).
+    Reason,
+    /// GeneralizedTime, of an invalidityDate (5.3.2).
+    Date,
+}
+
+/// Returns whether the octets are a value of the type.
+pub(crate) fn is_of_type(kind: ValueType, value: &[u8]) -> bool
+    ensures { IsTrue result ↔ IsOfType kind value.now }
+{
+    match kind {
+        ValueType::KeyIdentifiers => is_of_key_identifiers(value),
+        ValueType::Octets => is_of_octets(value),
+        ValueType::KeyUsage => is_of_key_usage(value),
+        ValueType::Policies => is_of_policies(value),
+        ValueType::Names => is_of_names(value),
+        ValueType::Constraints => is_of_constraints(value),
+        ValueType::NameConstraints => is_of_name_constraints(value),
+        ValueType::Purposes => is_of_purposes(value),
+        ValueType::Points => is_of_points(value),
+        ValueType::Descriptions => is_of_descriptions(value),
+        ValueType::Number => is_of_number(value),
+        ValueType::Reason => is_of_reason(value),
+        ValueType::Date => is_of_date(value),
+    }
+}
+
+fn is_of_key_identifiers(value: &[u8]) -> bool
+    ensures { IsTrue result ↔ IsOfType ValueType.KeyIdentifiers value.now }
+{
+    match read_authority_key_identifier(value) {
+        Ok(_) => true,
+        Err(_) => false,
+    }
+}
+
+fn is_of_octets(value: &[u8]) -> bool
+    ensures { IsTrue result ↔ IsOfType ValueType.Octets value.now }
+{
+    match read_subject_key_identifier(value) {
+        Ok(_) => true,
+        Err(_) => false,
+    }
+}
+
+fn is_of_key_usage(value: &[u8]) -> bool
+    ensures { IsTrue result ↔ IsOfType ValueType.KeyUsage value.now }
+{
+    match read_key_usage(value) {
+        Ok(_) => true,
+        Err(_) => false,
+    }
+}
+
+fn is_of_policies(value: &[u8]) -> bool
+    ensures { IsTrue result ↔ IsOfType ValueType.Policies value.now }
+{
+    match read_certificate_policies(value) {
+        Ok(_) => true,
+        Err(_) => false,
+    }
+}
+
+fn is_of_names(value: &[u8]) -> bool
+    ensures { IsTrue result ↔ IsOfType ValueType.Names value.now }
+{
+    match read_general_names(value) {
+        Ok(_) => true,
+        Err(_) => false,
+    }
+}
+
+fn is_of_constraints(value: &[u8]) -> bool
+    ensures { IsTrue result ↔ IsOfType ValueType.Constraints value.now }
+{
+    match read_basic_constraints(value) {
+        Ok(_) => true,
+        Err(_) => false,
+    }
+}
+
+fn is_of_name_constraints(value: &[u8]) -> bool
+    ensures { IsTrue result ↔ IsOfType ValueType.NameConstraints value.now }
+{
+    match read_name_constraints(value) {
+        Ok(_) => true,
+        Err(_) => false,
+    }
+}
+
+fn is_of_purposes(value: &[u8]) -> bool
+    ensures { IsTrue result ↔ IsOfType ValueType.Purposes value.now }
+{
+    match read_extended_key_usage(value) {
+        Ok(_) => true,
+        Err(_) => false,
+    }
+}
+
+fn is_of_points(value: &[u8]) -> bool
+    ensures { IsTrue result ↔ IsOfType ValueType.Points value.now }
+{
+    match read_crl_distribution_points(value) {
+        Ok(_) => true,
+        Err(_) => false,
+    }
+}
+
+fn is_of_descriptions(value: &[u8]) -> bool
+    ensures { IsTrue result ↔ IsOfType ValueType.Descriptions value.now }
+{
+    match read_information_access(value) {
+        Ok(_) => true,
+        Err(_) => false,
+    }
+}
+
+fn is_of_number(value: &[u8]) -> bool
+    ensures { IsTrue result ↔ IsOfType ValueType.Number value.now }
+{
+    match read_number(value) {
+        Ok(_) => true,
+        Err(_) => false,
+    }
+}
+
+fn is_of_reason(value: &[u8]) -> bool
+    ensures { IsTrue result ↔ IsOfType ValueType.Reason value.now }
+{
+    match read_reason(value) {
+        Ok(_) => true,
+        Err(_) => false,
+    }
+}
+
+fn is_of_date(value: &[u8]) -> bool
+    ensures { IsTrue result ↔ IsOfType ValueType.Date value.now }
+{
+    match read_date(value) {
+        Ok(_) => true,
+        Err(_) => false,
+    }
+}

@@ -1,0 +1,160 @@
+//! What the value of an extension says. One that isn't of its type says nothing.
+ghost use Rattle.std.specs.Prelude.{◌≡◌, ◌≢◌, ◌↔◌, IsTrue, None};
+ghost use Rattle.der_cursor.specs.Formats.{ObjectIdentifier as IdentifierFormat, Required};
+ghost use Rattle.der_extensions.specs.Extensions.{authority_of, constraints_of};
+ghost use Rattle.pkix_rules.specs.Lists.{Among};
+ghost use Rattle.pkix_rules.specs.ValueFacts.{ValueSays, any_extended_key_usage, extension_of_fact};
+
+use crate::identifier::has_octets;
+use crate::known::KnownExtension;
+use crl_reader::{Reason, read_reason};
+use der_extensions::{
+    AuthorityKeyIdentifier, BasicConstraints, ExtendedKeyUsage, read_authority_key_identifier,
+    read_basic_constraints, read_extended_key_usage, read_key_usage,
+};
+
+/// What the value of an extension may say, for rules to be made of.
+#[derive(Clone, Copy, Debug, PartialEq)]
+pub enum ValueFact {
+    /// basicConstraints: the subject is a certification authority (RFC 5280 4.2.1.9).
+    Authority,
+    /// basicConstraints: there is a pathLenConstraint (4.2.1.9).
+    PathLength,
+    /// keyUsage: the key verifies signatures of certificates (4.2.1.3).
+    KeyCertSign,
+    /// keyUsage: it verifies signatures of lists of revoked certificates (4.2.1.3).
+    CrlSign,
+    /// authorityKeyIdentifier: there is a keyIdentifier (4.2.1.1).
+    KeyIdentifier,
+    /// extKeyUsage: anyExtendedKeyUsage is among the purposes (4.2.1.12).
+    AnyPurpose,
+    /// reasonCode: removeFromCRL (5.3.1).
+    RemoveFromCrl,
+}
+
+impl ValueFact {
+    /// The extension that it is about.
+    pub fn extension(self) -> KnownExtension
+        ensures { result ≡ extension_of_fact self }
+    {
+        match self {
+            ValueFact::Authority | ValueFact::PathLength => KnownExtension::BasicConstraints,
+            ValueFact::KeyCertSign | ValueFact::CrlSign => KnownExtension::KeyUsage,
+            ValueFact::KeyIdentifier => KnownExtension::AuthorityKeyIdentifier,
+            ValueFact::AnyPurpose => KnownExtension::ExtendedKeyUsage,
+            ValueFact::RemoveFromCrl => KnownExtension::ReasonCode,
+        }
+    }
+}
+
+/// anyExtendedKeyUsage: 2.5.29.37.0.
+const ANY_EXTENDED_KEY_USAGE: &[u8] = b"\x55\x1d\x25\x00";
+
+/// Returns whether the value of the extension that the fact is about says so.
+pub(crate) fn says(fact: ValueFact, value: &[u8]) -> bool
+    ensures { IsTrue result ↔ ValueSays fact value.now }
+{
+    match fact {
+        ValueFact::Authority => says_authority(value),
+        ValueFact::PathLength => says_path_length(value),
+        ValueFact::KeyCertSign => says_key_cert_sign(value),
+        ValueFact::CrlSign => says_crl_sign(value),
+        ValueFact::KeyIdentifier => says_key_identifier(value),
+        ValueFact::AnyPurpose => says_any_purpose(value),
+        ValueFact::RemoveFromCrl => says_remove_from_crl(value),
+    }
+}
+
+fn says_authority(value: &[u8]) -> bool
+    ensures { IsTrue result ↔ ValueSays ValueFact.Authority value.now }
+{
+    match read_basic_constraints(value) {
+        Ok(constraints) => constraints.ca,
+        Err(_) => false,
+    }
+}
+
+fn says_path_length(value: &[u8]) -> bool
+    ensures { IsTrue result ↔ ValueSays ValueFact.PathLength value.now }
+{
+    match read_basic_constraints(value) {
+        Ok(constraints) => has_path_length(&constraints),
+        Err(_) => false,
+    }
+}
+
+fn has_path_length(constraints: &BasicConstraints) -> bool
+    ensures { IsTrue result ↔ ((constraints_of constraints.now).1.0 ≢ None) }
+{
+    constraints.path_length.is_some()
+}
+
+fn says_key_cert_sign(value: &[u8]) -> bool
+    ensures { IsTrue result ↔ ValueSays ValueFact.KeyCertSign value.now }
+{
+    match read_key_usage(value) {
+        Ok(usage) => usage.key_cert_sign(),
+        Err(_) => false,
+    }
+}
+
+fn says_crl_sign(value: &[u8]) -> bool
+    ensures { IsTrue result ↔ ValueSays ValueFact.CrlSign value.now }
+{
+    match read_key_usage(value) {
+        Ok(usage) => usage.crl_sign(),
+        Err(_) => false,
+    }
+}
+
+fn says_key_identifier(value: &[u8]) -> bool
+    ensures { IsTrue result ↔ ValueSays ValueFact.KeyIdentifier value.now }
+{
+    match read_authority_key_identifier(value) {
+        Ok(authority) => has_key_identifier(&authority),
+        Err(_) => false,
+    }
+}
+
+fn has_key_identifier(authority: &AuthorityKeyIdentifier<'_>) -> bool
+    ensures { IsTrue result ↔ ((authority_of authority.now).0 ≢ None) }
+{
+    authority.key_identifier.is_some()
+}
+
+fn says_any_purpose(value: &[u8]) -> bool
+    ensures { IsTrue result ↔ ValueSays ValueFact.AnyPurpose value.now }
+{
+    match read_extended_key_usage(value) {
+        Ok(purposes) => has_any_purpose(&purposes),
+        Err(_) => false,
+    }
+}
+
+/// Returns whether one of the purposes is anyExtendedKeyUsage.
+fn has_any_purpose(purposes: &ExtendedKeyUsage<'_>) -> bool
+    ensures { IsTrue result
+        ↔ Among (Required IdentifierFormat) (λ x. x ≡ any_extended_key_usage) purposes.now.octets.now }
+{
+    for purpose in purposes.iter() {
+        if has_octets(&purpose, ANY_EXTENDED_KEY_USAGE) {
+            return true;
+        }
+    }
+    false
+}
+
+fn says_remove_from_crl(value: &[u8]) -> bool
+    ensures { IsTrue result ↔ ValueSays ValueFact.RemoveFromCrl value.now }
+{
+    match read_reason(value) {
+        Ok(reason) => is_removal(reason),
+        Err(_) => false,
+    }
+}
+
+fn is_removal(reason: Reason) -> bool
+    ensures { IsTrue result ↔ (reason ≡ Reason.RemoveFromCrl) }
+{
+    reason == Reason::RemoveFromCrl
+}

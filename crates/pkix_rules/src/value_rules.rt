@@ -1,0 +1,192 @@
+//! Rules of the values of extensions. A value that isn't of its type breaks none.
+ghost use Rattle.std.specs.Prelude.{◌≡◌, ◌≢◌, ◌<◌, ◌<ℤ◌, ◌↔◌, IsTrue, None, length, pos};
+ghost use Rattle.der_base.specs.Octets.{integer_value};
+ghost use Rattle.der_cursor.specs.Formats.{Required};
+ghost use Rattle.der_extensions.specs.Extensions.{AccessDescription as AccessFormat, access_of, authority_of};
+ghost use Rattle.pkix_rules.specs.Lists.{Among};
+ghost use Rattle.pkix_rules.specs.ValueRules.{BreaksValue, IsHalf, IsOtherMethod};
+
+use crate::identifier::has_octets;
+use crate::names::{NameRule, breaks_names};
+use crate::points::{PointRule, breaks_points, is_without_whole_point};
+use crate::policies::{breaks_any_policy_qualifiers, breaks_distinct_policies};
+use crate::readers::{read_date, read_number};
+use crate::subtrees::{SubtreeRule, breaks_subtrees};
+use crate::types::{ValueType, is_of_type};
+use crl_reader::{Reason, read_reason};
+use der_base::integer::is_negative;
+use der_base::time::ASN1DateTime;
+use der_extensions::{
+    AccessDescription, AuthorityKeyIdentifier, InformationAccess, read_authority_key_identifier,
+    read_information_access,
+};
+
+/// A rule of RFC 5280 about the value of an extension.
+#[derive(Clone, Copy, Debug, PartialEq)]
+pub enum ValueRule {
+    /// It is of this type (4.2, 5.2, 5.3). One that isn't breaks none of the other rules.
+    OfType(ValueType),
+    /// authorityKeyIdentifier: issuer and serial number are both there, or neither (4.2.1.1, A.2, MUST).
+    IssuerAndSerial,
+    /// certificatePolicies: no policy comes twice (4.2.1.4, MUST NOT). Each is compared with all that follow it.
+    DistinctPolicies,
+    /// certificatePolicies: anyPolicy has no qualifiers but CPS pointers and user notices (4.2.1.4, MUST).
+    AnyPolicyQualifiers,
+    /// subjectAltName, issuerAltName, certificateIssuer: each name keeps the rule (4.2.1.6).
+    Names(NameRule),
+    /// nameConstraints, policyConstraints, issuingDistributionPoint: it isn't an empty sequence (4.2.1.10, 4.2.1.11,
+    /// 5.2.5, MUST NOT).
+    NotEmpty,
+    /// nameConstraints: each subtree keeps the rule (4.2.1.10).
+    Subtrees(SubtreeRule),
+    /// cRLDistributionPoints, freshestCRL: each point keeps the rule (4.2.1.13).
+    Points(PointRule),
+    /// cRLDistributionPoints: the lists of one point at least are for all reasons (4.2.1.13, MUST).
+    PointForAllReasons,
+    /// authorityInfoAccess of such a list: each method is id-ad-caIssuers (5.2.7, MUST NOT).
+    CaIssuers,
+    /// cRLNumber, deltaCRLIndicator: the number has at most 20 octets (5.2.3, MUST NOT).
+    ShortNumber,
+    /// inhibitAnyPolicy, cRLNumber, deltaCRLIndicator: the number isn't negative (4.2.1.14, 5.2.3, 5.2.4).
+    NaturalNumber,
+    /// invalidityDate: it has no fraction of a second (5.3.2, MUST NOT).
+    WholeSeconds,
+    /// reasonCode: it isn't unspecified, since then there should be none (5.3.1, SHOULD).
+    SpecifiedReason,
+}
+
+/// A SEQUENCE of no octets.
+const EMPTY_SEQUENCE: &[u8] = b"\x30\x00";
+
+/// id-ad-caIssuers: 1.3.6.1.5.5.7.48.2.
+const CA_ISSUERS: &[u8] = b"\x2b\x06\x01\x05\x05\x07\x30\x02";
+
+/// The most octets of a number of a list.
+const LONGEST_NUMBER: usize = 20;
+
+/// Returns whether the value of an extension breaks the rule.
+pub(crate) fn breaks_value(rule: ValueRule, value: &[u8]) -> bool
+    ensures { IsTrue result ↔ BreaksValue rule value.now }
+{
+    match rule {
+        ValueRule::OfType(kind) => !is_of_type(kind, value),
+        ValueRule::IssuerAndSerial => breaks_issuer_and_serial(value),
+        ValueRule::DistinctPolicies => breaks_distinct_policies(value),
+        ValueRule::AnyPolicyQualifiers => breaks_any_policy_qualifiers(value),
+        ValueRule::Names(rule) => breaks_names(rule, value),
+        ValueRule::NotEmpty => value == EMPTY_SEQUENCE,
+        ValueRule::Subtrees(rule) => breaks_subtrees(rule, value),
+        ValueRule::Points(rule) => breaks_points(rule, value),
+        ValueRule::PointForAllReasons => is_without_whole_point(value),
+        ValueRule::CaIssuers => breaks_ca_issuers(value),
+        ValueRule::ShortNumber => breaks_short_number(value),
+        ValueRule::NaturalNumber => breaks_natural_number(value),
+        ValueRule::WholeSeconds => breaks_whole_seconds(value),
+        ValueRule::SpecifiedReason => breaks_specified_reason(value),
+    }
+}
+
+fn breaks_issuer_and_serial(value: &[u8]) -> bool
+    ensures { IsTrue result ↔ BreaksValue ValueRule.IssuerAndSerial value.now }
+{
+    match read_authority_key_identifier(value) {
+        Ok(authority) => is_half(&authority),
+        Err(_) => false,
+    }
+}
+
+/// Returns whether there is an issuer without a serial number, or a serial number without an issuer.
+fn is_half(authority: &AuthorityKeyIdentifier<'_>) -> bool
+    ensures { IsTrue result ↔ IsHalf (authority_of authority.now) }
+{
+    let has_issuer = authority.authority_cert_issuer.is_some();
+    let has_serial = authority.authority_cert_serial_number.is_some();
+    (has_issuer && !has_serial) || (has_serial && !has_issuer)
+}
+
+fn breaks_ca_issuers(value: &[u8]) -> bool
+    ensures { IsTrue result ↔ BreaksValue ValueRule.CaIssuers value.now }
+{
+    match read_information_access(value) {
+        Ok(descriptions) => has_other_method(&descriptions),
+        Err(_) => false,
+    }
+}
+
+/// Returns whether one of the methods isn't id-ad-caIssuers.
+fn has_other_method(descriptions: &InformationAccess<'_>) -> bool
+    ensures { IsTrue result ↔ Among (Required AccessFormat) IsOtherMethod descriptions.now.octets.now }
+{
+    for description in descriptions.iter() {
+        if is_other_method(&description) {
+            return true;
+        }
+    }
+    false
+}
+
+fn is_other_method(description: &AccessDescription<'_>) -> bool
+    ensures { IsTrue result ↔ IsOtherMethod (access_of description.now) }
+{
+    !has_octets(&description.access_method, CA_ISSUERS)
+}
+
+fn breaks_short_number(value: &[u8]) -> bool
+    ensures { IsTrue result ↔ BreaksValue ValueRule.ShortNumber value.now }
+{
+    match read_number(value) {
+        Ok(number) => is_long(number),
+        Err(_) => false,
+    }
+}
+
+fn is_long(number: &[u8]) -> bool
+    ensures { IsTrue result ↔ (20 < length number.now) }
+{
+    number.len() > LONGEST_NUMBER
+}
+
+fn breaks_natural_number(value: &[u8]) -> bool
+    ensures { IsTrue result ↔ BreaksValue ValueRule.NaturalNumber value.now }
+{
+    match read_number(value) {
+        Ok(number) => is_below_zero(number),
+        Err(_) => false,
+    }
+}
+
+fn is_below_zero(number: &[u8]) -> bool
+    ensures { IsTrue result ↔ (integer_value number.now <ℤ pos 0) }
+{
+    is_negative(number)
+}
+
+fn breaks_whole_seconds(value: &[u8]) -> bool
+    ensures { IsTrue result ↔ BreaksValue ValueRule.WholeSeconds value.now }
+{
+    match read_date(value) {
+        Ok(date) => has_fraction(date),
+        Err(_) => false,
+    }
+}
+
+fn has_fraction(date: ASN1DateTime) -> bool
+    ensures { IsTrue result ↔ (date.nanosecond ≢ None) }
+{
+    date.nanosecond.is_some()
+}
+
+fn breaks_specified_reason(value: &[u8]) -> bool
+    ensures { IsTrue result ↔ BreaksValue ValueRule.SpecifiedReason value.now }
+{
+    match read_reason(value) {
+        Ok(reason) => is_unspecified(reason),
+        Err(_) => false,
+    }
+}
+
+fn is_unspecified(reason: Reason) -> bool
+    ensures { IsTrue result ↔ (reason ≡ Reason.Unspecified) }
+{
+    reason == Reason::Unspecified
+}

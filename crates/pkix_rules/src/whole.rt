@@ -1,0 +1,225 @@
+//! Rules of a certificate as a whole: which fields and extensions are there, and which go together.
+ghost use Rattle.std.specs.Prelude.{◌≡◌, ◌↔◌, IsTrue};
+ghost use Rattle.der_x509.specs.Certificates.{Signed, certificate_of};
+ghost use Rattle.pkix_rules.specs.Facts.{Has, IsAuthority, MaySignCertificates, Tells};
+ghost use Rattle.pkix_rules.specs.Whole.{BreaksWhole, HasNoName, IsSelfIssued};
+
+use crate::facts::{Fact, has};
+use crate::known::KnownExtension;
+use crate::value_facts::ValueFact;
+use der_x509::Certificate;
+
+/// A rule of RFC 5280 about a certificate as a whole. An authority is a certificate whose basicConstraints has
+/// cA TRUE (4.2.1.9).
+#[derive(Clone, Copy, Debug, PartialEq)]
+pub enum WholeRule {
+    /// There is no unique identifier (4.1.2.8, MUST NOT).
+    NoUniqueIdentifier,
+    /// An authority has a subject with a name (4.1.2.6, MUST).
+    NamedAuthority,
+    /// So has an issuer of lists of revoked certificates, whose keyUsage has cRLSign (4.1.2.6, MUST).
+    NamedCrlIssuer,
+    /// There is an authorityKeyIdentifier with a keyIdentifier, unless issuer and subject are the same octets
+    /// (4.2.1.1, MUST).
+    KeyIdentifierOfIssuer,
+    /// An authority has a subjectKeyIdentifier (4.2.1.2, MUST).
+    KeyIdentifierOfAuthority,
+    /// Who is no authority has a subjectKeyIdentifier (4.2.1.2, SHOULD).
+    KeyIdentifierOfEndEntity,
+    /// An authority has a keyUsage (4.2.1.3, MUST).
+    KeyUsageOfAuthority,
+    /// A keyUsage has keyCertSign only in an authority (4.2.1.3, 4.2.1.9, MUST).
+    CertSignOfAuthority,
+    /// A subjectAltName beside a subject with a name isn't critical (4.2.1.6, SHOULD).
+    AltNameNotCritical,
+    /// The basicConstraints of an authority is critical, unless a keyUsage without keyCertSign says that its key
+    /// verifies no certificates (4.2.1.9, MUST).
+    CriticalConstraints,
+    /// There is a pathLenConstraint only in an authority (4.2.1.9, MUST).
+    PathLengthOfAuthority,
+    /// There is one only beside a keyUsage with keyCertSign (4.2.1.9, MUST).
+    PathLengthOfCertSign,
+    /// There is a nameConstraints only in an authority (4.2.1.10, MUST).
+    NameConstraintsOfAuthority,
+    /// An extKeyUsage with anyExtendedKeyUsage isn't critical (4.2.1.12, SHOULD NOT).
+    AnyPurposeNotCritical,
+}
+
+impl WholeRule {
+    /// Whether only the certificate of an authority breaks the rule.
+    pub fn is_of_authority(self) -> bool
+        ensures { IsTrue result → (c : Signed) → BreaksWhole self c → IsAuthority c }
+    {
+        match self {
+            WholeRule::NamedAuthority => true,
+            WholeRule::KeyIdentifierOfAuthority => true,
+            WholeRule::KeyUsageOfAuthority => true,
+            WholeRule::CriticalConstraints => true,
+            _ => false,
+        }
+    }
+}
+
+/// Returns whether the certificate breaks the rule.
+pub(crate) fn breaks_whole(rule: WholeRule, certificate: &Certificate<'_>) -> bool
+    ensures { IsTrue result ↔ BreaksWhole rule (certificate_of certificate.now) }
+{
+    match rule {
+        WholeRule::NoUniqueIdentifier => breaks_no_unique_identifier(certificate),
+        WholeRule::NamedAuthority => breaks_named_authority(certificate),
+        WholeRule::NamedCrlIssuer => breaks_named_crl_issuer(certificate),
+        WholeRule::KeyIdentifierOfIssuer => breaks_key_identifier_of_issuer(certificate),
+        WholeRule::KeyIdentifierOfAuthority => breaks_key_identifier_of_authority(certificate),
+        WholeRule::KeyIdentifierOfEndEntity => breaks_key_identifier_of_end_entity(certificate),
+        WholeRule::KeyUsageOfAuthority => breaks_key_usage_of_authority(certificate),
+        WholeRule::CertSignOfAuthority => breaks_cert_sign_of_authority(certificate),
+        WholeRule::AltNameNotCritical => breaks_alt_name_not_critical(certificate),
+        WholeRule::CriticalConstraints => breaks_critical_constraints(certificate),
+        WholeRule::PathLengthOfAuthority => breaks_path_length_of_authority(certificate),
+        WholeRule::PathLengthOfCertSign => breaks_path_length_of_cert_sign(certificate),
+        WholeRule::NameConstraintsOfAuthority => breaks_name_constraints_of_authority(certificate),
+        WholeRule::AnyPurposeNotCritical => breaks_any_purpose_not_critical(certificate),
+    }
+}
+
+fn breaks_no_unique_identifier(certificate: &Certificate<'_>) -> bool
+    ensures { IsTrue result ↔ BreaksWhole WholeRule.NoUniqueIdentifier (certificate_of certificate.now) }
+{
+    let fields = &certificate.tbs_certificate;
+    fields.issuer_unique_id.is_some() || fields.subject_unique_id.is_some()
+}
+
+fn breaks_named_authority(certificate: &Certificate<'_>) -> bool
+    ensures { IsTrue result ↔ BreaksWhole WholeRule.NamedAuthority (certificate_of certificate.now) }
+{
+    has_no_name(certificate) && is_authority(certificate)
+}
+
+fn breaks_named_crl_issuer(certificate: &Certificate<'_>) -> bool
+    ensures { IsTrue result ↔ BreaksWhole WholeRule.NamedCrlIssuer (certificate_of certificate.now) }
+{
+    has_no_name(certificate) && tells(certificate, ValueFact::CrlSign)
+}
+
+fn breaks_key_identifier_of_issuer(certificate: &Certificate<'_>) -> bool
+    ensures { IsTrue result ↔ BreaksWhole WholeRule.KeyIdentifierOfIssuer (certificate_of certificate.now) }
+{
+    !is_self_issued(certificate) && !tells(certificate, ValueFact::KeyIdentifier)
+}
+
+fn breaks_key_identifier_of_authority(certificate: &Certificate<'_>) -> bool
+    ensures { IsTrue result ↔ BreaksWhole WholeRule.KeyIdentifierOfAuthority (certificate_of certificate.now) }
+{
+    is_authority(certificate) && !is_there(certificate, KnownExtension::SubjectKeyIdentifier)
+}
+
+fn breaks_key_identifier_of_end_entity(certificate: &Certificate<'_>) -> bool
+    ensures { IsTrue result ↔ BreaksWhole WholeRule.KeyIdentifierOfEndEntity (certificate_of certificate.now) }
+{
+    !is_there(certificate, KnownExtension::SubjectKeyIdentifier) && !is_authority(certificate)
+}
+
+fn breaks_key_usage_of_authority(certificate: &Certificate<'_>) -> bool
+    ensures { IsTrue result ↔ BreaksWhole WholeRule.KeyUsageOfAuthority (certificate_of certificate.now) }
+{
+    is_authority(certificate) && !is_there(certificate, KnownExtension::KeyUsage)
+}
+
+fn breaks_cert_sign_of_authority(certificate: &Certificate<'_>) -> bool
+    ensures { IsTrue result ↔ BreaksWhole WholeRule.CertSignOfAuthority (certificate_of certificate.now) }
+{
+    tells(certificate, ValueFact::KeyCertSign) && !is_authority(certificate)
+}
+
+fn breaks_alt_name_not_critical(certificate: &Certificate<'_>) -> bool
+    ensures { IsTrue result ↔ BreaksWhole WholeRule.AltNameNotCritical (certificate_of certificate.now) }
+{
+    !has_no_name(certificate) && is_critical(certificate, KnownExtension::SubjectAltName)
+}
+
+fn breaks_critical_constraints(certificate: &Certificate<'_>) -> bool
+    ensures { IsTrue result ↔ BreaksWhole WholeRule.CriticalConstraints (certificate_of certificate.now) }
+{
+    may_sign_certificates(certificate)
+        && has(
+            certificate,
+            KnownExtension::BasicConstraints,
+            Fact::NotCritical,
+        )
+}
+
+fn breaks_path_length_of_authority(certificate: &Certificate<'_>) -> bool
+    ensures { IsTrue result ↔ BreaksWhole WholeRule.PathLengthOfAuthority (certificate_of certificate.now) }
+{
+    tells(certificate, ValueFact::PathLength) && !is_authority(certificate)
+}
+
+fn breaks_path_length_of_cert_sign(certificate: &Certificate<'_>) -> bool
+    ensures { IsTrue result ↔ BreaksWhole WholeRule.PathLengthOfCertSign (certificate_of certificate.now) }
+{
+    tells(certificate, ValueFact::PathLength) && !tells(certificate, ValueFact::KeyCertSign)
+}
+
+fn breaks_name_constraints_of_authority(certificate: &Certificate<'_>) -> bool
+    ensures { IsTrue result ↔ BreaksWhole WholeRule.NameConstraintsOfAuthority (certificate_of certificate.now) }
+{
+    is_there(certificate, KnownExtension::NameConstraints) && !is_authority(certificate)
+}
+
+fn breaks_any_purpose_not_critical(certificate: &Certificate<'_>) -> bool
+    ensures { IsTrue result ↔ BreaksWhole WholeRule.AnyPurposeNotCritical (certificate_of certificate.now) }
+{
+    is_critical(certificate, KnownExtension::ExtendedKeyUsage)
+        && tells(certificate, ValueFact::AnyPurpose)
+}
+
+/// Returns whether the subject has no name.
+fn has_no_name(certificate: &Certificate<'_>) -> bool
+    ensures { IsTrue result ↔ HasNoName (certificate_of certificate.now) }
+{
+    certificate.tbs_certificate.subject.octets.is_empty()
+}
+
+/// Returns whether the subject is a certification authority.
+fn is_authority(certificate: &Certificate<'_>) -> bool
+    ensures { IsTrue result ↔ IsAuthority (certificate_of certificate.now) }
+{
+    tells(certificate, ValueFact::Authority)
+}
+
+/// Returns whether the extension is there.
+fn is_there(certificate: &Certificate<'_>, known: KnownExtension) -> bool
+    ensures { IsTrue result ↔ Has known Fact.Present (certificate_of certificate.now) }
+{
+    has(certificate, known, Fact::Present)
+}
+
+/// Returns whether the extension is there, and critical.
+fn is_critical(certificate: &Certificate<'_>, known: KnownExtension) -> bool
+    ensures { IsTrue result ↔ Has known Fact.Critical (certificate_of certificate.now) }
+{
+    has(certificate, known, Fact::Critical)
+}
+
+/// Returns whether the value of the extension that the fact is about says it.
+fn tells(certificate: &Certificate<'_>, fact: ValueFact) -> bool
+    ensures { IsTrue result ↔ Tells fact (certificate_of certificate.now) }
+{
+    has(certificate, fact.extension(), Fact::Says(fact))
+}
+
+/// Returns whether the key may verify signatures of certificates, as far as the certificate says.
+fn may_sign_certificates(certificate: &Certificate<'_>) -> bool
+    ensures { IsTrue result ↔ MaySignCertificates (certificate_of certificate.now) }
+{
+    is_authority(certificate)
+        && (!is_there(certificate, KnownExtension::KeyUsage)
+            || tells(certificate, ValueFact::KeyCertSign))
+}
+
+/// Returns whether issuer and subject are the same octets.
+fn is_self_issued(certificate: &Certificate<'_>) -> bool
+    ensures { IsTrue result ↔ IsSelfIssued (certificate_of certificate.now) }
+{
+    certificate.tbs_certificate.issuer.octets == certificate.tbs_certificate.subject.octets
+}
