@@ -99,7 +99,10 @@ pub(crate) fn read_version(fields: &mut Cursor<'_>) -> Result<u32, Refusal<BerEr
     Ok(version)
 }
 
-fn read_algorithm<'a>(fields: &mut Cursor<'a>) -> Result<Algorithm<'a>, Refusal<BerError>>
+/// Reads an algorithm and its parameters.
+pub(crate) fn read_algorithm<'a>(
+    fields: &mut Cursor<'a>,
+) -> Result<Algorithm<'a>, Refusal<BerError>>
     ensures { ReadsField (Required AlgorithmIdentifier) algorithm_of Never fields.old result fields.new }
 {
     let mut inside = fields.open_sequence()?;
