@@ -1,0 +1,4 @@
+pub mod BackLaws
+pub mod LengthLaws
+pub mod LoopLaws
+pub mod WriteLaws

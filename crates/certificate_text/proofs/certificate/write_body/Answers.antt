@@ -1,0 +1,6 @@
+use Rattle.std.proofs.Common.{refl}
+use Rattle.certificate_text.proofs.WriteLaws.{next, one}
+use Rattle.certificate_text.proofs.certificate.write_body.Goals as goal
+
+pub returns : goal.returns
+returns g c = next c.in_ok-write_identity.ensures refl (next c.in_ok-write_holder.ensures refl (next c.in_ok-write_key.ensures refl (next (one c.in_ok-write_unique_ids.ensures) refl c.write_extensions.ensures)))

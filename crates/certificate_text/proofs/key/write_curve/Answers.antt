@@ -1,0 +1,10 @@
+use Rattle.std.proofs.Common.{inl, inr}
+use Rattle.der_values.specs.Kinds.{borrowed_octets}
+use Rattle.certificate_text.proofs.WriteLaws.{one, restated}
+use Rattle.certificate_text.proofs.key.write_curve.Goals as goal
+
+pub returns-in-Ok : goal.returns-in-Ok
+returns-in-Ok g c = restated (λ t x. inl (borrowed_octets c.in-Ok.curve, c.in-Ok.ensures.found, x)) c.write_identifier_line.ensures
+
+pub returns-in-Err : goal.returns-in-Err
+returns-in-Err g c = restated (λ t x. inr ((λ k so. c.in-Err.ensures.only k so), x)) (one c.write_octets.ensures)

@@ -1,0 +1,16 @@
+use Rattle.std.proofs.Common.{List, ℕ}
+use Rattle.std.specs.Fmt.{HasWritten, IsPlainFormatter}
+use Rattle.der_extensions.specs.Lists.{items_left}
+use Rattle.der_base.specs.declared.rules.Rules.TheVariants.{Der}
+use Rattle.der_cursor.specs.Formats.{Required}
+use Rattle.der_extensions.specs.Extensions.{DistributionPoint}
+use Rattle.certificate_text.specs.Extensions.{IsPoint}
+use Rattle.certificate_text.proofs.LoopLaws.{Goes}
+use Rattle.certificate_text.proofs.lists.write_points.Given as goal
+
+-- what was sent goes before the texts of the values that are left
+abbrev pub invariant-loop-point : goal.invariant-loop-point
+invariant-loop-point g l = record {
+  done : IsPlainFormatter l.fn.f → (sent : List ℕ) × Goes (Required DistributionPoint Der) IsPoint l.fn.points.octets.now sent (items_left l.point-iterator)
+      × HasWritten g.W.Write.write_str_gives l.fn.f sent l.f;
+}

@@ -1,0 +1,16 @@
+use Rattle.std.proofs.Common.{List, ℕ}
+use Rattle.std.specs.Fmt.{HasWritten, IsPlainFormatter}
+use Rattle.der_extensions.specs.Lists.{items_left}
+use Rattle.der_base.specs.declared.rules.Rules.TheVariants.{Der}
+use Rattle.der_cursor.specs.Formats.{Required}
+use Rattle.der_extensions.specs.Extensions.{GeneralSubtree}
+use Rattle.certificate_text.specs.Extensions.{IsSubtree}
+use Rattle.certificate_text.proofs.LoopLaws.{Goes}
+use Rattle.certificate_text.proofs.lists.write_subtrees.Given as goal
+
+-- what was sent goes before the texts of the values that are left
+abbrev pub invariant-loop-subtree : goal.invariant-loop-subtree
+invariant-loop-subtree g l = record {
+  done : IsPlainFormatter l.fn.f → (sent : List ℕ) × Goes (Required GeneralSubtree Der) IsSubtree l.fn.subtrees.octets.now sent (items_left l.subtree-iterator)
+      × HasWritten g.W.Write.write_str_gives l.fn.f sent l.f;
+}

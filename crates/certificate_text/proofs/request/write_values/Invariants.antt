@@ -1,0 +1,16 @@
+use Rattle.std.proofs.Common.{List, ℕ}
+use Rattle.std.specs.Fmt.{HasWritten, IsPlainFormatter}
+use Rattle.der_request.specs.Lists.{values_left}
+use Rattle.der_x509.specs.Formats.{spells}
+use Rattle.der_x509.specs.Formats.{any}
+use Rattle.certificate_text.specs.Pieces.{Exactly}
+use Rattle.certificate_text.specs.Requests.{value_line}
+use Rattle.certificate_text.proofs.LoopLaws.{Goes}
+use Rattle.certificate_text.proofs.request.write_values.Given as goal
+
+-- what was sent goes before the texts of the values that are left
+abbrev pub invariant-loop-value : goal.invariant-loop-value
+invariant-loop-value g l = record {
+  done : IsPlainFormatter l.fn.f → (sent : List ℕ) × Goes (spells any) (λ e. Exactly (value_line e)) l.fn.values.octets.now sent (values_left l.value-iterator)
+      × HasWritten g.W.Write.write_str_gives l.fn.f sent l.f;
+}

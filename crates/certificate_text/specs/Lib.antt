@@ -1,0 +1,14 @@
+pub mod Certificates
+pub mod Escapes
+pub mod Expiry
+pub mod Extensions
+pub mod GeneralNames
+pub mod Identifiers
+pub mod Keys
+pub mod Lists
+pub mod Names
+pub mod Pieces
+pub mod Requests
+pub mod Rules
+pub mod Usage
+pub mod Values

@@ -1,0 +1,47 @@
+-- Certification requests in words (RFC 2986).
+use Rattle.std.specs.Prelude.{◌≡◌, ◌≢◌, ℕ, ◌⊎◌, List, [], ◌∷◌, codes}
+use Rattle.der_cursor.specs.Elements.{Element}
+use Rattle.der_request.specs.Requests.{Attribute, Info, Signed, attribute, extension_request}
+use Rattle.der_x509.specs.Formats.{any, spells}
+use Rattle.certificate_text.specs.Extensions.{IsExtensionList}
+use Rattle.certificate_text.specs.Identifiers.{IsIdentifierLine}
+use Rattle.certificate_text.specs.Keys.{IsKey}
+use Rattle.certificate_text.specs.Names.{IsNameLine}
+use Rattle.certificate_text.specs.Pieces.{Each, Exactly, ◌⨾◌}
+use Rattle.certificate_text.specs.Values.{any_text, line, signature_text}
+
+abbrev pub value_line : Element → List ℕ
+value_line e = line (codes "    Value: ") (any_text e)
+
+abbrev pub AreValues : List ℕ → List ℕ → Type 0
+AreValues i = Each (spells any) (λ e. Exactly (value_line e)) i
+
+abbrev pub IsOtherAttribute : Attribute → List ℕ → Type 0
+IsOtherAttribute a = IsIdentifierLine (codes "  Attribute: ") a.identifier ⨾ AreValues a.values
+
+-- the extensions that are requested, or the values that are none
+abbrev pub IsRequested : Attribute → List ℕ → Type 0
+IsRequested a text = ((e : List ℕ) × spells extension_request a.values e []
+    × IsExtensionList (codes "  Requested extensions\n") e text)
+    ⊎ (((e : List ℕ) → ¬ spells extension_request a.values e []) × IsOtherAttribute a text)
+
+-- extensionRequest, 1.2.840.113549.1.9.14 (RFC 2985 5.4.2)
+abbrev pub extension_request_octets : List ℕ
+extension_request_octets = 0x2a ∷ 0x86 ∷ 0x48 ∷ 0x86 ∷ 0xf7 ∷ 0x0d ∷ 1 ∷ 9 ∷ 14 ∷ []
+
+abbrev pub IsRequestAttribute : Attribute → List ℕ → Type 0
+IsRequestAttribute a text = ((a.identifier ≡ extension_request_octets) × IsRequested a text)
+    ⊎ ((a.identifier ≢ extension_request_octets) × IsOtherAttribute a text)
+
+abbrev pub AreAttributes : List ℕ → List ℕ → Type 0
+AreAttributes i = Each (spells attribute) IsRequestAttribute i
+
+-- the fields that are signed; the version is the only one
+abbrev pub IsRequestBody : Info → List ℕ → Type 0
+IsRequestBody t = Exactly (codes "  Version: 1\n") ⨾ (IsNameLine (codes "  Subject: ") t.subject
+    ⨾ (IsKey t.key_info ⨾ AreAttributes t.attributes))
+
+abbrev pub IsRequestText : Signed → List ℕ → Type 0
+IsRequestText c = Exactly (codes "Certification request\n") ⨾ (IsRequestBody c.info
+    ⨾ (IsIdentifierLine (codes "  Signature algorithm: ") c.algorithm.algorithm
+    ⨾ Exactly (signature_text c.signature.1)))

@@ -1,0 +1,83 @@
+-- The texts of values.
+use Rattle.std.specs.Prelude.{ℕ, ◌==◌, ◌&&◌, not, nat_le, Bool, true, false, if◌then◌else◌}
+use Rattle.std.specs.Prelude.{List, [], ◌∷◌, ◌++◌, codes, decimal, length, Option}
+use Rattle.std.specs.Net.Addr.{segments_of}
+use Rattle.std.specs.Net.Text.{ipv4_text, ipv6_text}
+use Rattle.der_base.specs.declared.header.Class.{Class}
+use Rattle.der_base.specs.declared.header.Class.TheVariants.{Universal, Application, ContextSpecific, Private}
+use Rattle.der_base.specs.declared.time.ASN1DateTime.{ASN1DateTime}
+use Rattle.der_cursor.specs.Elements.{Element}
+use Rattle.der_print.specs.declared.style.Limit.TheVariants.{Whole}
+use Rattle.der_print.specs.Quotes.{quoted_text}
+use Rattle.der_print.specs.Values.{hex_text, is_ascii_text, is_quoted_type, moment_text, without_leading_zero}
+use Rattle.der_x509.specs.declared.time.Validity.{Validity}
+use Rattle.der_x509.specs.Certificates.{moment_of}
+use Rattle.certificate_text.specs.Expiry.{optional_expiry}
+use Rattle.sha1.specs.Sha1.{sha1}
+use Rattle.sha2.specs.Sha256.{sha256}
+
+-- a line of a label and a value
+abbrev pub line : List ℕ → List ℕ → List ℕ
+line label value = label ++ (value ++ codes "\n")
+
+-- octets in hexadecimal digits
+abbrev pub hex : List ℕ → List ℕ
+hex w = hex_text Whole w
+
+-- the content octets of an INTEGER (X.690 8.3)
+abbrev pub serial_text : List ℕ → List ℕ
+serial_text [] = hex (without_leading_zero [])
+serial_text (a ∷ w) =
+    if nat_le 0x80 a then hex (a ∷ w) ++ codes " (negative, in two's complement)"
+    else hex (without_leading_zero (a ∷ w))
+
+-- a primitive string of characters
+abbrev pub is_universal : Class → Bool
+is_universal Universal = true
+is_universal Application = false
+is_universal ContextSpecific = false
+is_universal Private = false
+
+abbrev pub is_string : Element → Bool
+is_string e = is_universal e.0 && (not e.1 && is_quoted_type e.2)
+
+-- a value of any type: a string in quotes, and the content octets of any other
+abbrev pub any_text : Element → List ℕ
+any_text e = if is_string e then quoted_text Whole e.2 e.3 else hex e.3
+
+-- a text of ASCII: as it is if it has two characters or more and all can be printed
+abbrev pub plain_text : List ℕ → List ℕ
+plain_text w = if is_ascii_text w then w else quoted_text Whole 22 w
+
+-- addresses (RFC 791, RFC 4291)
+abbrev pub longer_text : List ℕ → List ℕ
+longer_text w = if length w == 16 then ipv6_text (segments_of w) else hex w
+
+abbrev pub address_text : List ℕ → List ℕ
+address_text w = if length w == 4 then ipv4_text w else longer_text w
+
+-- times, whose years are complete
+abbrev pub time_line : List ℕ → ASN1DateTime → List ℕ
+time_line label t = line label (moment_text false t)
+
+abbrev pub validity_text : Option ℕ → Validity → List ℕ
+validity_text now v = time_line (codes "  Not before: ") (moment_of v.not_before)
+    ++ (time_line (codes "  Not after: ") (moment_of v.not_after) ++ optional_expiry now (moment_of v.not_after))
+
+abbrev pub octets_line : List ℕ → List ℕ → List ℕ
+octets_line label w = line label (hex w)
+
+-- the value of an extension that isn't of its type: where in it that shows, and its octets
+abbrev pub unread_text : List ℕ → ℕ → List ℕ
+unread_text w offset = line (codes "      Wrong at octet: ") (decimal offset) ++ octets_line (codes "      Octets: ") w
+
+abbrev pub critical_text : Bool → List ℕ
+critical_text true = codes ", critical"
+critical_text false = []
+
+abbrev pub signature_text : List ℕ → List ℕ
+signature_text w = codes "  Signature: " ++ (decimal (length w) ++ codes " octets\n")
+
+-- the digests of a whole input (FIPS 180-4)
+abbrev pub digests_text : List ℕ → List ℕ
+digests_text i = line (codes "  SHA-256: ") (hex (sha256 i)) ++ line (codes "  SHA-1: ") (hex (sha1 i))

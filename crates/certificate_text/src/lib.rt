@@ -1,0 +1,29 @@
+//! Certificates, lists of revoked certificates and requests in words: a line for each field, with its name and its
+//! value, two columns further in for each thing around it. No call takes memory.
+#![tactic(auto)]
+
+mod address;
+mod authority;
+mod certificate;
+mod element;
+mod escaped;
+mod expiry;
+mod extension;
+mod general_name;
+mod identifier;
+mod key;
+mod lists;
+mod name;
+mod reason;
+mod request;
+mod revoked;
+mod rules;
+mod seal;
+mod serial;
+mod usage;
+mod validity;
+mod value;
+
+pub use certificate::{CertificateText, write_certificate};
+pub use request::{RequestText, write_request};
+pub use revoked::{ListText, write_list};

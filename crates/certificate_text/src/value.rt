@@ -1,0 +1,66 @@
+//! The values of extensions (RFC 5280 4.2).
+ghost use Rattle.std.specs.Prelude.{Some};
+ghost use Rattle.std.specs.Fmt.{DisplaysOnOk};
+ghost use Rattle.der_print.specs.Writes.{WritesOne};
+ghost use Rattle.certificate_text.specs.Values.{unread_text};
+ghost use Rattle.certificate_text.specs.Extensions.{IsRead, IsValue};
+
+use crate::authority::{write_authority, write_constraints};
+use crate::general_name::{write_general_names, write_octets};
+use crate::lists::{
+    write_access, write_name_constraints, write_points, write_policies, write_purposes,
+};
+use crate::usage::write_usage;
+use der_extensions::{ExtensionValue, read_extension_value};
+use der_x509::Extension;
+use std::fmt;
+
+/// Writes the value of an extension: what it says, or its octets.
+pub(crate) fn write_extension_value<W: fmt::Write>(
+    f: &mut fmt::Formatter<W>,
+    extension: &Extension<'_>,
+) -> fmt::Result
+    ensures { WritesOne W.Write.write_str_gives f.old result (IsRead extension.now) f.new }
+{
+    match read_extension_value(extension) {
+        Ok(value) => write_value(f, extension.value, &value),
+        Err(e) => write_unread(f, extension.value, e.offset),
+    }
+}
+
+/// Writes the octets of a value that isn't of its type, and where in it that shows.
+fn write_unread<W: fmt::Write>(
+    f: &mut fmt::Formatter<W>,
+    octets: &[u8],
+    offset: usize,
+) -> fmt::Result
+    ensures { DisplaysOnOk W.Write.write_str_gives f.old result (Some (unread_text octets.now offset)) f.new }
+{
+    write!(f, "      Wrong at octet: {offset}\n")?;
+    write_octets(f, "      Octets: ", octets)
+}
+
+fn write_value<W: fmt::Write>(
+    f: &mut fmt::Formatter<W>,
+    octets: &[u8],
+    value: &ExtensionValue<'_>,
+) -> fmt::Result
+    ensures { WritesOne W.Write.write_str_gives f.old result (IsValue octets.now value.now) f.new }
+{
+    match value {
+        ExtensionValue::AuthorityKeyIdentifier(authority) => write_authority(f, authority),
+        ExtensionValue::SubjectKeyIdentifier(key) => write_octets(f, "      Key identifier: ", key),
+        ExtensionValue::KeyUsage(usage) => write_usage(f, usage),
+        ExtensionValue::CertificatePolicies(policies) => write_policies(f, policies),
+        ExtensionValue::SubjectAltName(names) => write_general_names(f, "      ", names),
+        ExtensionValue::IssuerAltName(names) => write_general_names(f, "      ", names),
+        ExtensionValue::BasicConstraints(constraints) => write_constraints(f, constraints),
+        ExtensionValue::NameConstraints(constraints) => write_name_constraints(f, constraints),
+        ExtensionValue::ExtendedKeyUsage(purposes) => write_purposes(f, purposes),
+        ExtensionValue::CrlDistributionPoints(points) => write_points(f, points),
+        ExtensionValue::FreshestCrl(points) => write_points(f, points),
+        ExtensionValue::AuthorityInfoAccess(access) => write_access(f, access),
+        ExtensionValue::SubjectInfoAccess(access) => write_access(f, access),
+        _ => write_octets(f, "      Octets: ", octets),
+    }
+}

@@ -1,0 +1,31 @@
+-- The texts of items, one after another.
+use Rattle.std.proofs.Common.{◌≡◌, ℕ, ◌+◌, ◌<◌, List, [], ◌∷◌, ◌++◌, length, take, get_or, ap, append_assoc, refl, sym, ◌∙◌}
+use Rattle.std.specs.List.{flat_map}
+use Rattle.std.proofs.lemmas.List.{flat_map_more, take_more}
+
+-- one item more
+pub each_more : {X : Type 0} (f : X → List ℕ) (w : List X) (i : ℕ) (x : X) → i < length w → flat_map f (take (i + 1) w) ≡ flat_map f (take i w) ++ f (get_or w i x)
+each_more f w i x h = ap (flat_map f) (take_more w i x h) ∙ sym (flat_map_more f [] (take i w) (get_or w i x))
+
+-- texts that are grouped to the right, and to the left
+pub three : (a b c : List ℕ) → a ++ (b ++ c) ≡ a ++ b ++ c
+three a b c = simp append_assoc refl
+
+pub four : (a b c d : List ℕ) → a ++ (b ++ (c ++ d)) ≡ a ++ b ++ c ++ d
+four a b c d = simp append_assoc refl
+
+pub five : (a b c d e : List ℕ) → a ++ (b ++ (c ++ (d ++ e))) ≡ a ++ b ++ c ++ d ++ e
+five a b c d e = simp append_assoc refl
+
+pub six : (a b c d e x : List ℕ) → a ++ (b ++ (c ++ (d ++ (e ++ x)))) ≡ a ++ b ++ c ++ d ++ e ++ x
+six a b c d e x = simp append_assoc refl
+
+-- the first five of them, or three, in one write
+pub five_first : (a b c d e x : List ℕ) → (a ++ (b ++ (c ++ (d ++ e)))) ++ x ≡ a ++ b ++ c ++ d ++ e ++ x
+five_first a b c d e x = simp append_assoc refl
+
+pub five_and_three : (a b c d e x y z r : List ℕ) → (a ++ (b ++ (c ++ (d ++ e)))) ++ ((x ++ (y ++ z)) ++ r) ≡ a ++ b ++ c ++ d ++ e ++ x ++ y ++ z ++ r
+five_and_three a b c d e x y z r = simp append_assoc refl
+
+pub three_one : (a b c d : List ℕ) → (a ++ (b ++ c)) ++ d ≡ a ++ b ++ c ++ d
+three_one a b c d = simp append_assoc refl

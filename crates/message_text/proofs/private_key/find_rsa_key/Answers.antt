@@ -1,0 +1,7 @@
+use Rattle.message_text.proofs.private_key.find_rsa_key.Goals as goal
+
+pub returns-in-Ok : goal.returns-in-Ok
+returns-in-Ok c = c.in-Ok.ensures.value.found
+
+pub returns-in-Err : goal.returns-in-Err
+returns-in-Err c = λ v h. c.in-Err.ensures.value.only v h

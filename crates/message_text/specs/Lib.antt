@@ -1,0 +1,10 @@
+pub mod Algorithms
+pub mod CurveKeys
+pub mod Kerberos
+pub mod Ldap
+pub mod LdapResults
+pub mod PrivateKeys
+pub mod PublicKeys
+pub mod RsaKeys
+pub mod Snmp
+pub mod Words

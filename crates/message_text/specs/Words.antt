@@ -1,0 +1,45 @@
+-- Texts of octets, identifiers and numbers.
+use Rattle.std.specs.Prelude.{◌≡◌, ℕ, ◌==◌, false, if◌then◌else◌, IfSome, Option, Some, None}
+use Rattle.std.specs.Prelude.{List, [], ◌∷◌, ◌++◌, codes, decimal}
+use Rattle.std.specs.Borrow.{Bor}
+use Rattle.std.specs.List.{flat_map}
+use Rattle.std.specs.Option.{option_copied}
+use Rattle.der_print.specs.declared.style.Limit.TheVariants.{Whole}
+use Rattle.der_print.specs.Quotes.{quoted_text}
+use Rattle.der_print.specs.Values.{IsNameOf, hex_text, identifier_text, is_ascii_text}
+use Rattle.message_text.specs.declared.identifier.NamedIdentifier.{NamedIdentifier}
+
+-- a space and a name, if there is one
+abbrev pub name_text : Option (List ℕ) → List ℕ
+name_text (Some name) = codes " " ++ name
+name_text None = []
+
+-- an identifier, and its name if it has one
+abbrev pub named_text : NamedIdentifier → List ℕ
+named_text x = identifier_text false x.octets.now ++ name_text (option_copied x.name)
+
+-- the identifier with these content octets, and its name in the table if it has one there
+pub record IsNamed (w : List ℕ) (x : NamedIdentifier) : Type 0 where
+  pub octets : x.octets.now ≡ w
+  pub name : IfSome x.name (λ name. IsNameOf w name.now)
+
+-- a text in quotes, by UTF-8 or by its octets
+abbrev pub text_of : List ℕ → List ℕ
+text_of w = quoted_text Whole 12 w
+
+-- octets: as a text if they are printable ASCII, else in hexadecimal digits
+abbrev pub octets_text : List ℕ → List ℕ
+octets_text [] = codes "\"\""
+octets_text (b ∷ w) = if is_ascii_text (b ∷ w) then text_of (b ∷ w) else hex_text Whole (b ∷ w)
+
+-- how many octets there are
+abbrev pub count_text : ℕ → List ℕ
+count_text n = if n == 1 then codes "1 octet" else decimal n ++ codes " octets"
+
+-- the line of a field that is a text, after its label
+abbrev pub field_text : List ℕ → List ℕ → List ℕ
+field_text label w = codes "  " ++ label ++ codes ": " ++ text_of w ++ codes "\n"
+
+-- a line for each text, with the same label
+abbrev pub fields_text : List ℕ → List (Bor (List ℕ)) → List ℕ
+fields_text label texts = flat_map (λ t. field_text label t.now) texts

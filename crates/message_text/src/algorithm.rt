@@ -1,0 +1,135 @@
+//! Algorithms (RFC 5280 4.1.1.2), and keys of which only the algorithm is in the open.
+ghost use Rattle.std.specs.Prelude.{◌≡◌, length};
+ghost use Rattle.std.specs.Option.{option_map};
+ghost use Rattle.der_cursor.specs.Formats.{element_of};
+ghost use Rattle.pkcs8_reader.specs.Keys.{algorithm_of};
+ghost use Rattle.pkcs8_reader.specs.OtherKeys.{encrypted_of};
+ghost use Rattle.message_text.specs.Algorithms.{IsAlgorithm, IsEncrypted, IsParameters, is_identifier};
+
+use crate::identifier::NamedIdentifier;
+use crate::octets::Count;
+use der_base::any::Any;
+use der_base::header::{Class, Tag};
+use pkcs8_reader::{Algorithm, EncryptedPrivateKeyInfo};
+use std::fmt;
+
+/// The parameters of an algorithm.
+#[derive(Clone, Copy)]
+pub enum ParametersText<'a> {
+    /// There are none.
+    Absent,
+    /// A curve by its identifier (RFC 5480 2.1.1).
+    Curve(NamedIdentifier<'a>),
+    /// Another element, and how many content octets it has.
+    Other(usize),
+}
+
+impl<'a> ParametersText<'a> {
+    /// The text of parameters.
+    pub fn of(parameters: Option<Any<'a>>) -> ParametersText<'a>
+        ensures { IsParameters (option_map element_of parameters.entry) result }
+    {
+        match parameters {
+            None => ParametersText::Absent,
+            Some(element) if is_identifier(element) => {
+                ParametersText::Curve(NamedIdentifier::of(element.bytes))
+            }
+            Some(element) => ParametersText::Other(element.bytes.len()),
+        }
+    }
+}
+
+/// Whether an element is an OBJECT IDENTIFIER.
+fn is_identifier(element: Any<'_>) -> bool
+    ensures { result ≡ is_identifier (element_of element.entry) }
+{
+    let is_primitive = !element.header.is_constructed();
+    element.class() == Class::Universal && is_primitive && element.tag() == Tag::Oid
+}
+
+/// A line for a curve. For other parameters a line if they have octets, which those of NULL don't.
+impl fmt::Display for ParametersText<'_> {
+    ghost use Rattle.std.specs.Prelude.{Some};
+    ghost use Rattle.message_text.specs.Algorithms.{parameters_text};
+
+    ghost output = { λ x. Some (parameters_text x) };
+
+    fn fmt<W: fmt::Write>(&self, f: &mut fmt::Formatter<W>) -> fmt::Result {
+        match self {
+            ParametersText::Absent => Ok(()),
+            ParametersText::Curve(curve) => write!(f, "  Curve: {curve}\n"),
+            ParametersText::Other(0) => Ok(()),
+            ParametersText::Other(number) => {
+                let count = Count(*number);
+                write!(f, "  Parameters: {count}\n")
+            }
+        }
+    }
+}
+
+/// The lines of an algorithm.
+#[derive(Clone, Copy)]
+pub struct AlgorithmText<'a> {
+    identifier: NamedIdentifier<'a>,
+    parameters: ParametersText<'a>,
+}
+
+impl<'a> AlgorithmText<'a> {
+    /// The text of an algorithm.
+    pub fn of(algorithm: &Algorithm<'a>) -> AlgorithmText<'a>
+        ensures { IsAlgorithm algorithm.now result }
+    {
+        AlgorithmText {
+            identifier: NamedIdentifier::of(algorithm.identifier.as_bytes()),
+            parameters: ParametersText::of(algorithm.parameters),
+        }
+    }
+}
+
+impl fmt::Display for AlgorithmText<'_> {
+    ghost use Rattle.std.specs.Prelude.{Some};
+    ghost use Rattle.message_text.specs.Algorithms.{algorithm_text};
+
+    ghost output = { λ x. Some (algorithm_text x) };
+
+    fn fmt<W: fmt::Write>(&self, f: &mut fmt::Formatter<W>) -> fmt::Result {
+        let identifier = self.identifier;
+        let parameters = self.parameters;
+        write!(f, "  Algorithm: {identifier}\n{parameters}")
+    }
+}
+
+/// The lines of an encrypted private key (RFC 5958 3): how it is encrypted, and how many octets that are.
+#[derive(Clone, Copy)]
+pub struct EncryptedKeyText<'a> {
+    algorithm: AlgorithmText<'a>,
+    size: usize,
+}
+
+impl<'a> EncryptedKeyText<'a> {
+    /// The text of an encrypted key.
+    pub fn of(key: &EncryptedPrivateKeyInfo<'a>) -> EncryptedKeyText<'a>
+        ensures { IsEncrypted key.now result }
+    {
+        EncryptedKeyText {
+            algorithm: AlgorithmText::of(&key.algorithm),
+            size: key.encrypted_data.len(),
+        }
+    }
+}
+
+impl fmt::Display for EncryptedKeyText<'_> {
+    ghost use Rattle.std.specs.Prelude.{Some};
+    ghost use Rattle.message_text.specs.Algorithms.{encrypted_text};
+
+    ghost output = { λ x. Some (encrypted_text x) };
+
+    fn fmt<W: fmt::Write>(&self, f: &mut fmt::Formatter<W>) -> fmt::Result {
+        let algorithm = self.algorithm;
+        let count = Count(self.size);
+        write!(
+            f,
+            "Encrypted private key (PKCS #8):\n{algorithm}  Encrypted data: {count}\n"
+        )
+    }
+}

@@ -1,0 +1,103 @@
+//! Keys of elliptic curves (SEC 1 C.4, RFC 5915).
+ghost use Rattle.std.specs.Prelude.{◌≡◌, Some};
+ghost use Rattle.std.specs.Fmt.{DisplaysOnOk};
+ghost use Rattle.std.specs.Option.{option_copied, option_map};
+ghost use Rattle.message_text.specs.CurveKeys.{IsCurveKey, key_octets, public_text};
+ghost use Rattle.pkcs8_reader.specs.Keys.{bits_of};
+
+use crate::algorithm::ParametersText;
+use crate::octets::{Count, digits};
+use der_values::BitString;
+use pkcs8_reader::EcPrivateKey;
+use std::fmt;
+
+/// The lines of a private key of a curve, but its secret number.
+#[derive(Clone, Copy)]
+pub(crate) struct CurveFields<'a> {
+    parameters: ParametersText<'a>,
+    /// How many octets the key has.
+    size: usize,
+    public_key: Option<&'a [u8]>,
+}
+
+impl<'a> CurveFields<'a> {
+    pub(crate) fn of(key: &EcPrivateKey<'a>) -> CurveFields<'a>
+        ensures { IsCurveKey key.now result }
+    {
+        CurveFields {
+            parameters: ParametersText::of(key.parameters),
+            size: key.private_key.len(),
+            public_key: octets_of(key.public_key),
+        }
+    }
+}
+
+/// The octets of bits, if there are bits.
+pub(crate) fn octets_of(bits: Option<BitString<'_>>) -> Option<&[u8]>
+    ensures { option_copied result ≡ key_octets (option_map bits_of bits.entry) }
+{
+    match bits {
+        Some(bits) => Some(bits.octets),
+        None => None,
+    }
+}
+
+impl fmt::Display for CurveFields<'_> {
+    ghost use Rattle.std.specs.Prelude.{Some};
+    ghost use Rattle.message_text.specs.CurveKeys.{curve_fields_text};
+
+    ghost output = { λ x. Some (curve_fields_text x) };
+
+    fn fmt<W: fmt::Write>(&self, f: &mut fmt::Formatter<W>) -> fmt::Result {
+        let parameters = self.parameters;
+        let count = Count(self.size);
+        write!(f, "{parameters}  Private key: {count}\n")?;
+        write_public(f, self.public_key)
+    }
+}
+
+/// Writes the line of a public key, if there is one.
+pub(crate) fn write_public<W: fmt::Write>(
+    f: &mut fmt::Formatter<W>,
+    public_key: Option<&[u8]>,
+) -> fmt::Result
+    ensures { DisplaysOnOk W.Write.write_str_gives f.old result
+        (Some (public_text (option_copied public_key.entry))) f.new }
+{
+    match public_key {
+        Some(octets) => {
+            let hex = digits(octets);
+            write!(f, "  Public key: {hex}\n")
+        }
+        None => Ok(()),
+    }
+}
+
+/// The lines of a private key of a curve that stands alone (SEC 1).
+#[derive(Clone, Copy)]
+pub struct EcKeyText<'a> {
+    fields: CurveFields<'a>,
+}
+
+impl<'a> EcKeyText<'a> {
+    /// The text of a key.
+    pub fn of(key: &EcPrivateKey<'a>) -> EcKeyText<'a>
+        ensures { IsCurveKey key.now result.fields }
+    {
+        EcKeyText {
+            fields: CurveFields::of(key),
+        }
+    }
+}
+
+impl fmt::Display for EcKeyText<'_> {
+    ghost use Rattle.std.specs.Prelude.{Some};
+    ghost use Rattle.message_text.specs.CurveKeys.{ec_key_text};
+
+    ghost output = { λ x. Some (ec_key_text x) };
+
+    fn fmt<W: fmt::Write>(&self, f: &mut fmt::Formatter<W>) -> fmt::Result {
+        let fields = self.fields;
+        write!(f, "EC private key (SEC 1):\n{fields}")
+    }
+}

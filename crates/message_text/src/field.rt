@@ -1,0 +1,62 @@
+//! Lines of fields.
+ghost use Rattle.std.specs.Prelude.{Some};
+ghost use Rattle.std.specs.Fmt.{DisplaysOnOk};
+ghost use Rattle.message_text.specs.Words.{fields_text};
+
+use crate::octets::quoted;
+use std::fmt;
+
+/// The line of a field that is a text: its label, and the text in quotes.
+#[derive(Clone, Copy)]
+pub(crate) struct TextField<'l, 'a> {
+    pub label: &'l str,
+    pub octets: &'a [u8],
+}
+
+impl fmt::Display for TextField<'_, '_> {
+    ghost use Rattle.std.specs.Prelude.{Some};
+    ghost use Rattle.message_text.specs.Words.{field_text};
+
+    ghost output = { λ x. Some (field_text x.label.now x.octets.now) };
+
+    fn fmt<W: fmt::Write>(&self, f: &mut fmt::Formatter<W>) -> fmt::Result {
+        let label = self.label;
+        let text = quoted(self.octets);
+        write!(f, "  {label}: {text}\n")
+    }
+}
+
+/// Writes a line for each text, with this label.
+pub(crate) fn write_fields<W: fmt::Write>(
+    f: &mut fmt::Formatter<W>,
+    label: &str,
+    texts: &[&[u8]],
+) -> fmt::Result
+    ensures { DisplaysOnOk W.Write.write_str_gives f.old result (Some (fields_text label.now texts.now)) f.new }
+{
+    for text in texts {
+        let octets = *text;
+        let field = TextField { label, octets };
+        write!(f, "{field}")?;
+    }
+    Ok(())
+}
+
+/// A name after a space, if there is one.
+#[derive(Clone, Copy)]
+pub(crate) struct Name(pub Option<&'static str>);
+
+impl fmt::Display for Name {
+    ghost use Rattle.std.specs.Prelude.{Some};
+    ghost use Rattle.std.specs.Option.{option_copied};
+    ghost use Rattle.message_text.specs.Words.{name_text};
+
+    ghost output = { λ x. Some (name_text (option_copied x.0)) };
+
+    fn fmt<W: fmt::Write>(&self, f: &mut fmt::Formatter<W>) -> fmt::Result {
+        match self.0 {
+            Some(name) => write!(f, " {name}"),
+            None => Ok(()),
+        }
+    }
+}

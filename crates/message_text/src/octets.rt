@@ -1,0 +1,74 @@
+//! Octets, and how many they are.
+ghost use Rattle.std.specs.Prelude.{◌≡◌, None, Some};
+ghost use Rattle.der_print.specs.declared.style.Limit.{Limit};
+
+use der_base::header::Tag;
+use der_print::{Hex, Limit, Quoted, is_printable_ascii};
+use std::fmt;
+
+/// A text in quotes, by UTF-8 or by its octets.
+pub(crate) fn quoted(octets: &[u8]) -> Quoted<'_>
+    ensures octets { result.octets.now ≡ octets.now }
+    ensures number { result.number ≡ 12 }
+    ensures limit { result.limit ≡ Limit.Whole }
+{
+    Quoted {
+        octets,
+        number: Tag::Utf8String.0,
+        limit: Limit::Whole,
+    }
+}
+
+/// Octets in hexadecimal digits.
+pub(crate) fn digits(octets: &[u8]) -> Hex<'_>
+    ensures octets { result.octets.now ≡ octets.now }
+    ensures limit { result.limit ≡ Limit.Whole }
+{
+    Hex {
+        octets,
+        limit: Limit::Whole,
+    }
+}
+
+/// The octets of an OCTET STRING: a text in quotes if they are printable ASCII, else hexadecimal digits.
+#[derive(Clone, Copy)]
+pub(crate) struct Octets<'a>(pub &'a [u8]);
+
+impl fmt::Display for Octets<'_> {
+    ghost use Rattle.std.specs.Prelude.{Some};
+    ghost use Rattle.message_text.specs.Words.{octets_text};
+
+    ghost output = { λ x. Some (octets_text x.0.now) };
+
+    fn fmt<W: fmt::Write>(&self, f: &mut fmt::Formatter<W>) -> fmt::Result {
+        let octets = self.0;
+        if octets.is_empty() {
+            return write!(f, "\"\"");
+        }
+        if is_printable_ascii(octets) {
+            let text = quoted(octets);
+            return write!(f, "{text}");
+        }
+        let hex = digits(octets);
+        write!(f, "{hex}")
+    }
+}
+
+/// How many octets there are, as `1 octet`.
+#[derive(Clone, Copy)]
+pub(crate) struct Count(pub usize);
+
+impl fmt::Display for Count {
+    ghost use Rattle.std.specs.Prelude.{Some};
+    ghost use Rattle.message_text.specs.Words.{count_text};
+
+    ghost output = { λ x. Some (count_text x.0) };
+
+    fn fmt<W: fmt::Write>(&self, f: &mut fmt::Formatter<W>) -> fmt::Result {
+        let number = self.0;
+        if number == 1 {
+            return write!(f, "1 octet");
+        }
+        write!(f, "{number} octets")
+    }
+}
