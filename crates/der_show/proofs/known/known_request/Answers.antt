@@ -1,0 +1,5 @@
+use Rattle.std.proofs.Common.{inr, refl}
+use Rattle.der_show.proofs.known.known_request.Goals as goal
+
+pub returns-in-Err : goal.returns-in-Err
+returns-in-Err c = inr ((λ v h. c.in-Err.ensures.only v h), refl)

@@ -1,0 +1,43 @@
+-- Which of the structures around keys octets are (RFC 5280, RFC 2986).
+use Rattle.std.specs.Prelude.{◌≡◌, ◌⊎◌, ℕ, Option, Some, None, List, []}
+use Rattle.crl_reader.specs.declared.list.CertificateList.{CertificateList as ListStruct}
+use Rattle.crl_reader.specs.Lists.{certificate_list_of, whole_list}
+use Rattle.der_request.specs.declared.request.CertificationRequest.{CertificationRequest as RequestStruct}
+use Rattle.der_request.specs.Requests.{request_of, whole_request}
+use Rattle.der_x509.specs.declared.certificate.Certificate.{Certificate as CertificateStruct}
+use Rattle.der_x509.specs.Certificates.{certificate_of, whole_certificate}
+use Rattle.der_x509.specs.Formats.{Format, spells}
+use Rattle.der_x509.specs.Rules.{NoneBroken, every_rule}
+use Rattle.der_show.specs.declared.known.Known.{Known}
+use Rattle.der_show.specs.declared.known.Known.TheVariants.{Certificate, CertificateList, CertificationRequest}
+
+-- all the octets are this
+abbrev pub Is : List ℕ → Known → Type 0
+Is i (Certificate c) = spells whole_certificate i (certificate_of c) []
+Is i (CertificateList l) = spells whole_list i (certificate_list_of l) []
+Is i (CertificationRequest r) = spells whole_request i (request_of r) []
+
+-- the octets are no value of the format
+abbrev pub IsNo : {E V : Type 0} → Format E V → List ℕ → Type 0
+IsNo {E} {V} f i = (v : V) → ¬ spells f i v []
+
+-- the request that the octets are, if they are one
+abbrev pub IsKnownRequest : List ℕ → Option Known → Type 0
+IsKnownRequest i known = ((r : RequestStruct) × Is i (CertificationRequest r) × (known ≡ Some (CertificationRequest r)))
+    ⊎ (IsNo whole_request i × (known ≡ None))
+
+-- the list that they are, or else the request
+abbrev pub IsKnownList : List ℕ → Option Known → Type 0
+IsKnownList i known = ((l : ListStruct) × Is i (CertificateList l) × (known ≡ Some (CertificateList l)))
+    ⊎ (IsNo whole_list i × IsKnownRequest i known)
+
+-- the certificate that they are, or else the list or the request
+abbrev pub IsKnown : List ℕ → Option Known → Type 0
+IsKnown i known = ((c : CertificateStruct) × Is i (Certificate c) × (known ≡ Some (Certificate c)))
+    ⊎ (IsNo whole_certificate i × IsKnownList i known)
+
+-- a certificate breaks no rule beyond its ASN.1
+abbrev pub KeepsRules : Known → Type 0
+KeepsRules (Certificate c) = NoneBroken every_rule (certificate_of c)
+KeepsRules (CertificateList l) = Unit {0}
+KeepsRules (CertificationRequest r) = Unit {0}

@@ -1,0 +1,5 @@
+pub mod Described
+pub mod Known
+pub mod Messages
+pub mod Shown
+pub mod Unread

@@ -1,0 +1,25 @@
+//! Messages of LDAP (RFC 4511), by BER.
+ghost use Rattle.std.specs.Prelude.{IfOk};
+ghost use Rattle.der_show.specs.Messages.{IsLdap, text_in};
+
+use crate::message::{Found, none_after};
+use crate::text::text_of;
+use ldap_reader::read_message;
+use message_text::LdapText;
+use std::alloc::Global;
+
+/// The text of a message of LDAP.
+pub(crate) fn ldap_text(alloc: Global, octets: &[u8]) -> Found
+    ensures { IfOk result (λ found. IsLdap octets.now (text_in found)) }
+{
+    match read_message(alloc, octets) {
+        Ok((rest, message)) => {
+            if rest.is_empty() {
+                Ok(Some(text_of(alloc, LdapText { message: &message })?))
+            } else {
+                Ok(None)
+            }
+        }
+        Err(e) => none_after(&e),
+    }
+}

@@ -1,0 +1,30 @@
+//! What octets are, in words: a certificate, a list of revoked certificates, a certification request, a key, or a
+//! message of Kerberos, SNMP or LDAP. The first of these that all the octets are is written, a line for each field.
+//!
+//! ```
+//! match words_of(alloc, octets, Some(now))? {
+//!     Some(words) => out.write_all(words.text.as_slice())?,
+//!     None => match why_unread(octets) {
+//!         Some(unread) => write!(out, "{unread}\n")?,
+//!         None => {}
+//!     },
+//! }
+//! ```
+#![tactic(auto)]
+
+mod kerberos;
+mod key;
+mod known;
+mod ldap;
+mod message;
+mod shown;
+mod snmp;
+mod text;
+mod unread;
+mod words;
+
+pub use known::{Known, keeps_rules, what_is};
+pub use message::text_of_message;
+pub use shown::{Shown, write_known};
+pub use unread::{Unread, why_unread};
+pub use words::{Words, words_of};

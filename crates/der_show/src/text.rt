@@ -1,0 +1,67 @@
+//! Texts in memory.
+ghost use Rattle.std.specs.Prelude.{◌≡◌, [], IfOk, IfSome};
+ghost use Rattle.der_show.specs.Shown.{IsShown};
+
+use crate::known::Known;
+use crate::shown::write_known;
+use std::alloc::{AllocError, Global};
+use std::fmt;
+
+/// The octets of a text, which grow at their end.
+#[derive(Drop)]
+pub(crate) struct Text {
+    octets: Vec<u8>,
+}
+
+impl Text {
+    fn new(alloc: Global) -> Text
+        ensures { result.octets.items ≡ [] }
+    {
+        Text {
+            octets: Vec::new(alloc),
+        }
+    }
+}
+
+impl fmt::Write for Text {
+    ghost use Rattle.std.specs.Prelude.{◌++◌};
+
+    ghost write_str_gives = { λ t text u. u.octets.items ≡ t.octets.items ++ text };
+
+    fn write_str(&mut self, text: &str) -> fmt::Result {
+        match self.octets.extend_from_slice(text.as_bytes()) {
+            Ok(()) => Ok(()),
+            Err(_) => Err(fmt::Error),
+        }
+    }
+}
+
+/// The text of a value.
+pub(crate) fn text_of<D: fmt::Display + Drop>(
+    alloc: Global,
+    value: D,
+) -> Result<Vec<u8>, AllocError>
+    ensures { IfOk result (λ v. IfSome (D.output value) (λ text. v.items ≡ text)) }
+{
+    let mut f = fmt::Formatter::new(Text::new(alloc));
+    match f.write(value) {
+        Ok(()) => Ok(f.into_inner().octets),
+        Err(_) => Err(AllocError),
+    }
+}
+
+/// The text of what octets are.
+pub(crate) fn text_of_known(
+    alloc: Global,
+    octets: &[u8],
+    known: &Known<'_>,
+    now: Option<u64>,
+) -> Result<Vec<u8>, AllocError>
+    ensures { IfOk result (λ v. IsShown now octets.now known.now v.items) }
+{
+    let mut f = fmt::Formatter::new(Text::new(alloc));
+    match write_known(&mut f, octets, known, now) {
+        Ok(()) => Ok(f.into_inner().octets),
+        Err(_) => Err(AllocError),
+    }
+}

@@ -1,0 +1,58 @@
+//! What octets are, in words.
+ghost use Rattle.std.specs.Prelude.{IfOk};
+ghost use Rattle.der_show.specs.Described.{AreWordsOf, AreWordsOfMessage, IsDescribed};
+
+use crate::known::{Known, keeps_rules, what_is};
+use crate::message::text_of_message;
+use crate::text::text_of_known;
+use std::alloc::{AllocError, Global};
+
+/// What octets are, in words.
+#[derive(Drop)]
+pub struct Words {
+    /// A line for each field, with its name and its value.
+    pub text: Vec<u8>,
+    /// False for a certificate that breaks a rule of RFC 5280 beyond its ASN.1, and true for anything else.
+    pub keeps_rules: bool,
+}
+
+/// The words of the first of these that all the octets are: a certificate, a list of revoked certificates, a
+/// certification request, or what `text_of_message` knows. None if they are none of these, and an error if there is no
+/// memory. `now` is the present, in seconds since 1970-01-01 00:00:00 UTC: with none, nothing is said of how long a
+/// certificate is valid.
+pub fn words_of(alloc: Global, octets: &[u8], now: Option<u64>) -> Result<Option<Words>, AllocError>
+    ensures { IfOk result (λ words. IsDescribed now octets.now words) }
+{
+    match what_is(octets) {
+        Some(known) => words_of_known(alloc, octets, &known, now),
+        None => words_of_message(alloc, octets),
+    }
+}
+
+/// The words of what was read from the octets.
+fn words_of_known(
+    alloc: Global,
+    octets: &[u8],
+    known: &Known<'_>,
+    now: Option<u64>,
+) -> Result<Option<Words>, AllocError>
+    ensures { IfOk result (λ words. AreWordsOf now octets.now known.now words) }
+{
+    let text = text_of_known(alloc, octets, known, now)?;
+    let keeps_rules = keeps_rules(known);
+    Ok(Some(Words { text, keeps_rules }))
+}
+
+/// The words of a key or a message.
+fn words_of_message(alloc: Global, octets: &[u8]) -> Result<Option<Words>, AllocError>
+    ensures { IfOk result (λ words. AreWordsOfMessage octets.now words) }
+{
+    match text_of_message(alloc, octets) {
+        Ok(Some(text)) => Ok(Some(Words {
+            text,
+            keeps_rules: true,
+        })),
+        Ok(None) => Ok(None),
+        Err(e) => Err(e),
+    }
+}
