@@ -2,11 +2,11 @@ pub mod Arguments
 pub mod Choices
 pub mod Differences
 pub mod Inputs
-pub mod Json
 pub mod Labels
 pub mod Outputs
 pub mod Parts
 pub mod Pem
 pub mod Places
+pub mod Shown
+pub mod Sources
 pub mod Statuses
-pub mod Timestamps

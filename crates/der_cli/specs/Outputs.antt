@@ -1,5 +1,5 @@
 -- What is written of octets: of those that are read to their end, and of those that are refused.
-use Rattle.std.specs.Prelude.{◌≡◌, ◌≢◌, ◌⊎◌, ℕ, true, MatchBool, Option, List, [], ◌∷◌, ◌++◌, codes}
+use Rattle.std.specs.Prelude.{◌≡◌, ◌≢◌, ◌⊎◌, ℕ, Bool, true, false, MatchBool, Option, List, [], ◌∷◌, ◌++◌, codes}
 use Rattle.std.specs.Io.KnownBytes.{Appends, Keeps}
 use Rattle.der_base.specs.declared.rules.Rules.{Rules}
 use Rattle.der_canon.specs.declared.error.CanonError.TheVariants as canon
@@ -7,16 +7,20 @@ use Rattle.der_canon.specs.declared.error.NotCanonical.{NotCanonical}
 use Rattle.der_canon.specs.Errors.{IsCanonErrorOf}
 use Rattle.der_canon.specs.Same.{IsDerOf}
 use Rattle.der_check.specs.Elements.{AreElements}
-use Rattle.der_print.specs.Lines.{AreLines}
+use Rattle.der_json.specs.Json.{AddsJson, AreJsonLines}
+use Rattle.der_print.specs.declared.style.Style.{Style}
+use Rattle.der_print.specs.Lines.{AddsLine, AreLines}
 use Rattle.der_cli.specs.declared.options.Action.{Action}
-use Rattle.der_cli.specs.declared.options.Action.TheVariants.{Tree, Check, Json, Canon, Get}
+use Rattle.der_cli.specs.declared.options.Action.TheVariants.{Tree, Check, Json, Canon, Get, Show}
 use Rattle.der_cli.specs.declared.options.Options.{Options}
+use Rattle.der_cli.specs.declared.print.Lines.{Lines}
+use Rattle.der_cli.specs.declared.print.Lines.TheVariants as kind
 use Rattle.der_cli.specs.Choices.{AreListed}
-use Rattle.der_cli.specs.Json.{AreJsonLines}
 use Rattle.der_cli.specs.Labels.{heading_text, name_text}
 use Rattle.der_cli.specs.Parts.{AreOctetsOf, AreWrittenOf}
 use Rattle.der_cli.specs.Pem.{IsPem}
 use Rattle.der_cli.specs.Places.{AreNotAsked, IsAsked}
+use Rattle.der_cli.specs.Shown.{RefusesShown, ShowsWords}
 use Rattle.der_walk.specs.declared.refusal.Refusal.{Refusal}
 use Rattle.der_walk.specs.declared.walk.Walk.{Walk}
 use Rattle.der_walk.specs.Visits.{Extras, Visited, Visits}
@@ -30,15 +34,25 @@ extras_of o = record { enters_strings = o.enters_strings; keeps_values = true }
 abbrev pub AreSomeElements : Rules → List ℕ → Type 0
 AreSomeElements r i = AreElements r 101 i × (i ≢ [])
 
+-- a line for each of some elements of an input
+abbrev pub AreLinesOf : Lines → Style → List ℕ → List Visited → List ℕ → Type 0
+AreLinesOf kind.Tree style i vs text = AreLines style i vs text
+AreLinesOf kind.Json style i vs text = AreJsonLines vs text
+
+-- known octets grew by the line of an element with this content
+abbrev pub AddsLineOf : Lines → Style → Visited → List ℕ → Option (List ℕ) → Option (List ℕ) → Type 0
+AddsLineOf kind.Tree style v w old new = AddsLine style v w old new
+AddsLineOf kind.Json style v w old new = AddsJson old new
+
 -- known octets grew by a line for each listed one, one at least, of the elements that the input is, in preorder
-pub record WritesTree (o : Options) (i : List ℕ) (old new : Option (List ℕ)) : Type 0 where
+pub record WritesLines (k : Lines) (o : Options) (i : List ℕ) (old new : Option (List ℕ)) : Type 0 where
   pub elements : List Visited
   pub visits : Visits (extras_of o) o.rules 101 0 0 i elements
   pub listed : List Visited
   pub are_listed : AreListed o elements listed
   pub some : listed ≢ []
   pub text : List ℕ
-  pub lines : AreLines o.style i listed text
+  pub lines : AreLinesOf k o.style i listed text
   pub adds : Appends old new text
 
 -- known octets grew by the input as DER writes it
@@ -53,17 +67,6 @@ pub record WritesPem (label i : List ℕ) (old new : Option (List ℕ)) : Type 0
   pub same : IsDerOf i octets
   pub text : List ℕ
   pub is_pem : IsPem label octets text
-  pub adds : Appends old new text
-
--- known octets grew by a line of JSON for each listed one of them
-pub record WritesJson (o : Options) (i : List ℕ) (old new : Option (List ℕ)) : Type 0 where
-  pub elements : List Visited
-  pub visits : Visits (extras_of o) o.rules 101 0 0 i elements
-  pub listed : List Visited
-  pub are_listed : AreListed o elements listed
-  pub some : listed ≢ []
-  pub text : List ℕ
-  pub lines : AreJsonLines listed text
   pub adds : Appends old new text
 
 -- nothing is written of an input that is elements
@@ -86,19 +89,21 @@ pub record WritesPart (o : Options) (i : List ℕ) (old new : Option (List ℕ))
 
 -- what an action writes of octets
 abbrev pub Writes : Action → Options → List ℕ → Option (List ℕ) → Option (List ℕ) → Type 0
-Writes Tree o i old new = WritesTree o i old new
+Writes Tree o i old new = WritesLines kind.Tree o i old new
 Writes Check o i old new = WritesNothing o i old new
-Writes Json o i old new = WritesJson o i old new
+Writes Json o i old new = WritesLines kind.Json o i old new
 Writes Canon o i old new = WritesDer i old new
 Writes Get o i old new = WritesPart o i old new
+Writes Show o i old new = ShowsWords o i old new
 
 -- the same of the octets of a block with this label: what is written as DER is in PEM again
 abbrev pub WritesInside : Action → Options → List ℕ → List ℕ → Option (List ℕ) → Option (List ℕ) → Type 0
-WritesInside Tree o label i old new = WritesTree o i old new
+WritesInside Tree o label i old new = WritesLines kind.Tree o i old new
 WritesInside Check o label i old new = WritesNothing o i old new
-WritesInside Json o label i old new = WritesJson o i old new
+WritesInside Json o label i old new = WritesLines kind.Json o i old new
 WritesInside Canon o label i old new = WritesPem label i old new
 WritesInside Get o label i old new = WritesPart o i old new
+WritesInside Show o label i old new = ShowsWords o i old new
 
 -- after these elements octets are refused
 abbrev pub IsRefusedAfter : Options → List ℕ → List Visited → Type 0
@@ -109,23 +114,13 @@ abbrev pub EndsAfter : Options → List ℕ → List Visited → List Visited �
 EndsAfter o i vs us = IsRefusedAfter o i vs ⊎ (Visits (extras_of o) o.rules 101 0 0 i vs × (us ≡ []))
 
 -- octets are refused, and known octets grew by a line for each listed element before
-pub record RefusesTree (o : Options) (i : List ℕ) (old new : Option (List ℕ)) : Type 0 where
+pub record RefusesLines (k : Lines) (o : Options) (i : List ℕ) (old new : Option (List ℕ)) : Type 0 where
   pub elements : List Visited
   pub listed : List Visited
   pub ends : EndsAfter o i elements listed
   pub are_listed : AreListed o elements listed
   pub text : List ℕ
-  pub lines : AreLines o.style i listed text
-  pub adds : Appends old new text
-
--- the same by lines of JSON
-pub record RefusesJson (o : Options) (i : List ℕ) (old new : Option (List ℕ)) : Type 0 where
-  pub elements : List Visited
-  pub listed : List Visited
-  pub ends : EndsAfter o i elements listed
-  pub are_listed : AreListed o elements listed
-  pub text : List ℕ
-  pub lines : AreJsonLines listed text
+  pub lines : AreLinesOf k o.style i listed text
   pub adds : Appends old new text
 
 -- Nothing is written: no element is at the place, before octets that are refused or in all. Or the first one there has
@@ -142,27 +137,31 @@ RefusesDer i old new = (e : NotCanonical) × IsCanonErrorOf i (canon.NotCanonica
 
 -- octets are refused by an action, and this is written: of what a check reports nothing is said
 abbrev pub IsRefusedBy : Action → Options → List ℕ → Option (List ℕ) → Option (List ℕ) → Type 0
-IsRefusedBy Tree o i old new = RefusesTree o i old new
+IsRefusedBy Tree o i old new = RefusesLines kind.Tree o i old new
 IsRefusedBy Check o i old new = ¬ AreSomeElements o.rules i
-IsRefusedBy Json o i old new = RefusesJson o i old new
+IsRefusedBy Json o i old new = RefusesLines kind.Json o i old new
 IsRefusedBy Canon o i old new = RefusesDer i old new
 IsRefusedBy Get o i old new = RefusesPart o i old new
+IsRefusedBy Show o i old new = RefusesShown o i old new
 
--- what precedes that of a block with this label: a heading of a tree
+-- what an action writes has a line with the name before it
+abbrev pub has_heading : Action → Bool
+has_heading Tree = true
+has_heading Check = false
+has_heading Json = false
+has_heading Canon = false
+has_heading Get = false
+has_heading Show = true
+
+-- what precedes that of a block with this label: the name and the label
 abbrev pub WritesHeading : Action → List ℕ → List ℕ → Option (List ℕ) → Option (List ℕ) → Type 0
-WritesHeading Tree name label old new = Appends old new (heading_text name label)
-WritesHeading Check name label old new = new ≡ old
-WritesHeading Json name label old new = new ≡ old
-WritesHeading Canon name label old new = new ≡ old
-WritesHeading Get name label old new = new ≡ old
+WritesHeading action name label old new =
+    MatchBool (has_heading action) (Appends old new (heading_text name label)) (new ≡ old)
 
--- what precedes that of a file without blocks, if there are several: before a tree its name
+-- what precedes that of a file without blocks, if there are several: its name
 abbrev pub WritesName : Action → List ℕ → Option (List ℕ) → Option (List ℕ) → Type 0
-WritesName Tree name old new = Appends old new (name_text name ++ codes ":\n")
-WritesName Check name old new = new ≡ old
-WritesName Json name old new = new ≡ old
-WritesName Canon name old new = new ≡ old
-WritesName Get name old new = new ≡ old
+WritesName action name old new =
+    MatchBool (has_heading action) (Appends old new (name_text name ++ codes ":\n")) (new ≡ old)
 
 -- what is written of a file without blocks, which is these octets
 pub record WritesFile (o : Options) (name i : List ℕ) (old new : Option (List ℕ)) : Type 0 where

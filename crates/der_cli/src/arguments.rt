@@ -19,8 +19,9 @@ pub(crate) fn options_of<'a>(
     terminal: Style,
 ) -> Options<'a>
     ensures action { result.action ≡ action }
-    ensures rules { action ≡ Action.Canon → result.rules ≡ Rules.Ber }
-    ensures strings { (action ≡ Action.Check) ⊎ (action ≡ Action.Canon) → result.enters_strings ≡ false }
+    ensures rules { (action ≡ Action.Canon) ⊎ (action ≡ Action.Show) → result.rules ≡ Rules.Ber }
+    ensures strings { (action ≡ Action.Check) ⊎ (action ≡ Action.Canon) ⊎ (action ≡ Action.Show)
+        → result.enters_strings ≡ false }
     ensures limit { action ≢ Action.Tree → result.style.limit ≡ terminal.limit }
     ensures colours { action ≡ Action.Tree → result.style.colours ≡ terminal.colours }
     ensures several { result.has_several_files ≡ false }
@@ -43,13 +44,15 @@ pub(crate) fn options_of<'a>(
         has_octets: matches.get_flag("octets"),
         is_content: matches.get_flag("content"),
         is_quiet: matches.get_flag("quiet"),
+        is_strict: matches.get_flag("strict"),
+        present: matches.get_one::<u64>("now"),
         has_several_files: false,
     }
 }
 
 /// The rules that are asked for: DER for a check, and BER for all else.
 fn rules_of(action: Action, matches: &ArgMatches<'_>) -> Rules
-    ensures { action ≡ Action.Canon → result ≡ Rules.Ber }
+    ensures { (action ≡ Action.Canon) ⊎ (action ≡ Action.Show) → result ≡ Rules.Ber }
 {
     match action {
         Action::Check if !matches.get_flag("ber") => Rules::Der,
@@ -60,12 +63,12 @@ fn rules_of(action: Action, matches: &ArgMatches<'_>) -> Rules
 
 /// Whether the elements inside strings are visited.
 fn enters_strings(action: Action, matches: &ArgMatches<'_>) -> bool
-    ensures { (action ≡ Action.Check) ⊎ (action ≡ Action.Canon) → result ≡ false }
+    ensures { (action ≡ Action.Check) ⊎ (action ≡ Action.Canon) ⊎ (action ≡ Action.Show) → result ≡ false }
 {
     match action {
         Action::Tree | Action::Json => !matches.get_flag("no-inside"),
         Action::Get => true,
-        Action::Check | Action::Canon => false,
+        Action::Check | Action::Canon | Action::Show => false,
     }
 }
 
@@ -103,6 +106,7 @@ pub(crate) fn action_named(word: &str) -> Action
         "canon" => Action::Canon,
         "json" => Action::Json,
         "get" => Action::Get,
+        "show" => Action::Show,
         _ => Action::Tree,
     }
 }

@@ -1,21 +1,23 @@
 //! The files that are read, and the standard input.
 ghost use Rattle.std.specs.Prelude.{◌≤◌, IfOk};
+ghost use Rattle.der_cli.specs.Statuses.{IsStatusOf};
 
 use crate::arguments::{form_named, limit_of};
 use crate::decode::octets_in;
-use crate::diff::{Difference, Sides, compare};
+use crate::diff::{Sides, compare};
 use crate::folders::with_folders;
 use crate::name::Name;
 use crate::options::{Action, Options};
 use crate::origin::Origin;
 use crate::run::run;
-use crate::streams::REFUSED;
+use crate::status::{TROUBLE, status_of_comparison};
 use crate::summary::Summary;
 use crate::text::{write_octets, write_text};
 use clap::ArgMatches;
 use der_input::Form;
 use der_print::Style;
 use der_walk::Rules;
+use std::alloc::Global;
 use std::io::{ErrorKind, Read, Write};
 use std::rt::Files;
 use std::{fs, io};
@@ -104,13 +106,6 @@ pub(crate) fn report_unread<X: Write>(name: &str, e: &io::Error, err: &mut X) ->
     writeln!(err, "der: {name}: {e}")
 }
 
-/// The status if two files have the same elements, if elements differ, and if a file isn't read.
-const SAME: u8 = 0;
-
-const DIFFERENT: u8 = 1;
-
-const TROUBLE: u8 = 2;
-
 /// Compares two files. Returns the status.
 pub(crate) fn run_diff<R: Files + AllocGlobal, I: Read, W: Write, X: Write>(
     rt: &R,
@@ -123,25 +118,78 @@ pub(crate) fn run_diff<R: Files + AllocGlobal, I: Read, W: Write, X: Write>(
     ensures { IfOk result (λ status. status ≤ 2) }
 {
     let options = diff_options(matches, terminal);
-    let (Some(first), Some(second)) = (matches.get_str("first"), matches.get_str("second")) else {
-        return Ok(TROUBLE);
-    };
-    let Some(old) = side(rt, options.form, first, input, err)? else {
-        return Ok(TROUBLE);
-    };
-    let Some(new) = side(rt, options.form, second, input, err)? else {
-        return Ok(TROUBLE);
-    };
-    let sides = Sides {
-        names: (shown(first), shown(second)),
-        old: &old,
-        new: &new,
-    };
-    match compare(rt.alloc(), &options, sides, out, err)? {
-        Some(Difference::Same) => Ok(SAME),
-        Some(Difference::Different) => Ok(DIFFERENT),
+    match (matches.get_str("first"), matches.get_str("second")) {
+        (Some(first), Some(second)) => diff_files(rt, &options, (first, second), input, out, err),
+        _ => Ok(TROUBLE),
+    }
+}
+
+/// Compares two files. Returns the status.
+fn diff_files<R: Files + AllocGlobal, I: Read, W: Write, X: Write>(
+    rt: &R,
+    options: &Options<'_>,
+    names: (&str, &str),
+    input: &mut I,
+    out: &mut W,
+    err: &mut X,
+) -> io::Result<u8>
+    ensures { IfOk result (λ status. status ≤ 2) }
+{
+    match both_sides(rt, options.form, names, input, err)? {
+        Some(both) => status_of_both(rt.alloc(), options, names, both, out, err),
         None => Ok(TROUBLE),
     }
+}
+
+/// The status of a comparison of the octets of two files.
+fn status_of_both<W: Write, X: Write>(
+    alloc: Global,
+    options: &Options<'_>,
+    names: (&str, &str),
+    both: (Vec<u8>, Vec<u8>),
+    out: &mut W,
+    err: &mut X,
+) -> io::Result<u8>
+    ensures { IfOk result (λ status. status ≤ 2) }
+{
+    let sides = Sides {
+        names: (shown(names.0), shown(names.1)),
+        old: &both.0,
+        new: &both.1,
+    };
+    status_of_sides(alloc, options, sides, out, err)
+}
+
+/// The octets of two files. None if one has none, which is reported.
+fn both_sides<R: Files + AllocGlobal, I: Read, X: Write>(
+    rt: &R,
+    form: Option<Form>,
+    names: (&str, &str),
+    input: &mut I,
+    err: &mut X,
+) -> io::Result<Option<(Vec<u8>, Vec<u8>)>> {
+    let Some(old) = side(rt, form, names.0, input, err)? else {
+        return Ok(None);
+    };
+    match side(rt, form, names.1, input, err)? {
+        Some(new) => Ok(Some((old, new))),
+        None => Ok(None),
+    }
+}
+
+/// The status of a comparison.
+fn status_of_sides<W: Write, X: Write>(
+    alloc: Global,
+    options: &Options<'_>,
+    sides: Sides<'_>,
+    out: &mut W,
+    err: &mut X,
+) -> io::Result<u8>
+    ensures status { IfOk result (IsStatusOf options.now sides.entry.old.now sides.entry.new.now) }
+    ensures bounded { IfOk result (λ status. status ≤ 2) }
+{
+    let found = compare(alloc, options, sides, out, err)?;
+    Ok(status_of_comparison(found))
 }
 
 /// What is asked of a comparison.
@@ -164,6 +212,8 @@ fn diff_options<'a>(matches: &ArgMatches<'a>, terminal: Style) -> Options<'a> {
         has_octets: false,
         is_content: false,
         is_quiet: false,
+        is_strict: false,
+        present: None,
         has_several_files: false,
     }
 }
@@ -176,12 +226,8 @@ fn side<R: Files + AllocGlobal, I: Read, X: Write>(
     input: &mut I,
     err: &mut X,
 ) -> io::Result<Option<Vec<u8>>> {
-    let octets = match read_file(rt, name, input) {
-        Ok(octets) => octets,
-        Err(e) => {
-            report_unread(name, &e, err)?;
-            return Ok(None);
-        }
+    let Some(octets) = read_or_report(rt, name, input, err)? else {
+        return Ok(None);
     };
     let origin = Origin {
         name: shown(name),
@@ -190,49 +236,54 @@ fn side<R: Files + AllocGlobal, I: Read, X: Write>(
     octets_in(rt.alloc(), form, origin, &octets, err)
 }
 
-/// The status if a text or its octets were written.
-const WRITTEN: u8 = 0;
+/// The octets of a file. None if it can't be read, which is reported.
+fn read_or_report<R: Files + AllocGlobal, I: Read, X: Write>(
+    rt: &R,
+    name: &str,
+    input: &mut I,
+    err: &mut X,
+) -> io::Result<Option<Vec<u8>>> {
+    match read_file(rt, name, input) {
+        Ok(octets) => Ok(Some(octets)),
+        Err(e) => {
+            report_unread(name, &e, err)?;
+            Ok(None)
+        }
+    }
+}
 
-/// Writes a text of the octets of a file. Returns the status.
+/// Writes a text of the octets of a file. Returns whether they were read.
 pub(crate) fn run_text<R: Files + AllocGlobal, I: Read, W: Write, X: Write>(
     rt: &R,
     matches: &ArgMatches<'_>,
     input: &mut I,
     out: &mut W,
     err: &mut X,
-) -> io::Result<u8>
-    ensures { IfOk result (λ status. status ≤ 2) }
-{
+) -> io::Result<bool> {
     let form = matches.get_str("from").and_then(form_named);
-    let name = matches.get_str("file").unwrap_or(DASH);
-    match side(rt, form, name, input, err)? {
-        Some(octets) => {
-            write_text(rt.alloc(), &octets, out)?;
-            Ok(WRITTEN)
-        }
-        None => Ok(REFUSED),
-    }
+    let Some(octets) = side(rt, form, file_of(matches), input, err)? else {
+        return Ok(false);
+    };
+    write_text(rt.alloc(), &octets, out)?;
+    Ok(true)
 }
 
-/// Writes the octets of a text. Returns the status.
+/// Writes the octets of a text. Returns whether they were written.
 pub(crate) fn run_octets<R: Files + AllocGlobal, I: Read, W: Write, X: Write>(
     rt: &R,
     matches: &ArgMatches<'_>,
     input: &mut I,
     out: &mut W,
     err: &mut X,
-) -> io::Result<u8>
-    ensures { IfOk result (λ status. status ≤ 2) }
-{
-    let name = matches.get_str("file").unwrap_or(DASH);
-    match read_file(rt, name, input) {
-        Ok(text) => {
-            let are_written = write_octets(rt.alloc(), shown(name), &text, out, err)?;
-            Ok(if are_written { WRITTEN } else { REFUSED })
-        }
-        Err(e) => {
-            report_unread(name, &e, err)?;
-            Ok(REFUSED)
-        }
-    }
+) -> io::Result<bool> {
+    let name = file_of(matches);
+    let Some(text) = read_or_report(rt, name, input, err)? else {
+        return Ok(false);
+    };
+    write_octets(rt.alloc(), shown(name), &text, out, err)
+}
+
+/// The file that is named, or else the standard input.
+fn file_of<'a>(matches: &ArgMatches<'a>) -> &'a str {
+    matches.get_str("file").unwrap_or(DASH)
 }

@@ -1,9 +1,10 @@
 //! The label of a block as it is printed.
-ghost use Rattle.std.specs.Prelude.{◌≡◌, Some};
+ghost use Rattle.std.specs.Prelude.{◌≡◌, IfOk, Some, string_bytes};
 ghost use Rattle.std.specs.Fmt.{DisplaysOnOk};
 ghost use Rattle.der_base.specs.Pretty.{hex_pair};
-ghost use Rattle.der_cli.specs.Labels.{is_plain, octet_text};
+ghost use Rattle.der_cli.specs.Labels.{is_plain, label_text, octet_text};
 
+use std::alloc::{AllocError, Global};
 use std::fmt;
 
 /// The label of a block, as `CERTIFICATE`. An octet that isn't printable ASCII, and a backslash, is printed by its
@@ -24,6 +25,13 @@ impl fmt::Display for Label<'_> {
         }
         Ok(())
     }
+}
+
+/// The text of a label.
+pub(crate) fn shown_label(alloc: Global, label: &[u8]) -> Result<String, AllocError>
+    ensures { IfOk result (λ text. string_bytes text ≡ label_text label.now) }
+{
+    format!(in alloc; "{}", Label(label))
 }
 
 /// Writes an octet of a label.

@@ -59,13 +59,6 @@ impl<'a> Listing<'a> {
     {
         self.has_some
     }
-
-    /// The path to the element that was visited last.
-    pub(crate) fn trail(&self) -> &Trail
-        ensures { result.now ≡ self.now.trail }
-    {
-        &self.trail
-    }
 }
 
 /// How many elements are around the one at the place, while the walk is inside it.

@@ -17,6 +17,8 @@ pub enum Action {
     Canon,
     /// Writes the octets of an element.
     Get,
+    /// Prints what the octets are, in words.
+    Show,
 }
 
 /// What is to be done with each input.
@@ -40,6 +42,11 @@ pub struct Options<'a> {
     pub is_content: bool,
     /// Whether nothing is printed of an input that a check refuses.
     pub is_quiet: bool,
+    /// Whether an input that breaks a rule of RFC 5280 is refused, after it is shown.
+    pub is_strict: bool,
+    /// The present, in seconds since 1970-01-01 00:00:00 UTC. With none, nothing is said of how long something is
+    /// valid.
+    pub present: Option<u64>,
     /// Whether there are several files. The tree of each begins with its name, and JSON has it.
     pub has_several_files: bool,
 }

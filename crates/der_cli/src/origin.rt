@@ -1,5 +1,4 @@
 //! Where octets are from.
-use crate::label::Label;
 use crate::name::Name;
 use std::fmt;
 
@@ -19,6 +18,8 @@ pub(crate) struct BlockName<'a> {
     pub number: usize,
     /// Its label, as `CERTIFICATE`.
     pub label: &'a [u8],
+    /// The label as it is printed.
+    pub shown: &'a str,
 }
 
 impl fmt::Display for Origin<'_> {
@@ -27,8 +28,8 @@ impl fmt::Display for Origin<'_> {
         match self.block {
             Some(block) => {
                 let number = block.number;
-                let label = Label(block.label);
-                write!(f, "{name}, block {number} ({label})")
+                let shown = block.shown;
+                write!(f, "{name}, block {number} ({shown})")
             }
             None => write!(f, "{name}"),
         }

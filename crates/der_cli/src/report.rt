@@ -8,7 +8,7 @@ use crate::options::{Action, Options};
 use crate::origin::Origin;
 use crate::place::Place;
 use der_input::FormError;
-use der_walk::{Path, Reason, Refusal, Walk};
+use der_walk::{Path, Reason, Refusal, Rules, Walk};
 use std::io;
 use std::io::Write;
 
@@ -20,12 +20,26 @@ pub(crate) fn report_first<W: Write>(
     octets: &[u8],
     out: &mut W,
 ) -> io::Result<()> {
-    let mut walk = Walk::new(octets, options.rules, false);
-    match walk.find_fault() {
-        Some(refusal) => report(origin, &walk, &refusal, out),
-        None if octets.is_empty() => report_missing(None, origin, out),
-        None => writeln!(out, "der: {origin}: an element has no end"),
+    if report_fault(options.rules, origin, octets, out)? {
+        return Ok(());
     }
+    writeln!(out, "der: {origin}: an element has no end")
+}
+
+/// Reports the first element that these rules refuse, or that the input is empty. Returns whether one of these is so.
+pub(crate) fn report_fault<W: Write>(
+    rules: Rules,
+    origin: Origin<'_>,
+    octets: &[u8],
+    out: &mut W,
+) -> io::Result<bool> {
+    let mut walk = Walk::new(octets, rules, false);
+    match walk.find_fault() {
+        Some(refusal) => report(origin, &walk, &refusal, out)?,
+        None if octets.is_empty() => report_missing(None, origin, out)?,
+        None => return Ok(false),
+    }
+    Ok(true)
 }
 
 /// Reports an input or a block whose octets aren't found.

@@ -8,19 +8,19 @@ ghost use Rattle.der_input.specs.Forms.{FindsNoForm};
 ghost use Rattle.der_cli.specs.Inputs.{IsFormOf, ReadsBlock, ReadsBlocks, ReadsInput};
 ghost use Rattle.der_cli.specs.Inputs.{RefusesBlock, RefusesBlocks, RefusesInput};
 ghost use Rattle.der_cli.specs.Outputs.{AreSomeElements, IsRefusedBy, RefusesFile, Writes, WritesFile, WritesHeading};
-ghost use Rattle.der_cli.specs.Outputs.{WritesInside, WritesName};
+ghost use Rattle.der_cli.specs.Outputs.{WritesInside, WritesName, has_heading};
 ghost use Rattle.der_cli.specs.declared.options.Action.{Action};
 ghost use Rattle.der_cli.specs.declared.origin.BlockName.{BlockName};
 
 use crate::canon::write_canonical;
 use crate::get::write_part;
-use crate::json::print_json;
-use crate::label::Label;
+use crate::label::{Label, shown_label};
 use crate::name::Name;
 use crate::options::{Action, Options};
 use crate::origin::{BlockName, Origin};
+use crate::print::{Lines, print_lines};
 use crate::report::{refuse_form, report_first};
-use crate::tree::print_tree;
+use crate::show::show;
 use der_check::are_elements;
 use der_input::{Block, Form, FormError, decode_base64, decode_hex, form_of, next_block};
 use der_walk::MAX_DEPTH;
@@ -95,7 +95,7 @@ fn act_on_decoded<W: Write, X: Write>(
     }
 }
 
-/// Does it with the octets of an input that has no blocks. A tree follows the name, if there are several inputs.
+/// Does it with the octets of an input that has no blocks. A tree or words follow the name, if there are several.
 fn act_on_file<W: Write, X: Write>(
     alloc: Global,
     options: &Options<'_>,
@@ -122,7 +122,7 @@ fn act_on_file<W: Write, X: Write>(
     )
 }
 
-/// Writes the name of a file, before its tree if there are several.
+/// Writes the name of a file, before its tree or words if there are several.
 fn write_heading<W: Write>(options: &Options<'_>, name: &str, out: &mut W) -> io::Result<()>
     ensures { OnOk result (MatchBool options.now.has_several_files
         (WritesName options.now.action name.now (W.contents out.old) (W.contents out.new))
@@ -134,14 +134,21 @@ fn write_heading<W: Write>(options: &Options<'_>, name: &str, out: &mut W) -> io
     Ok(())
 }
 
-/// Writes the name of a file, before its tree.
+/// Writes the name of a file, before its tree or words.
 fn write_name<W: Write>(options: &Options<'_>, name: &str, out: &mut W) -> io::Result<()>
     ensures { OnOk result (WritesName options.now.action name.now (W.contents out.old) (W.contents out.new)) }
 {
-    match options.action {
-        Action::Tree => writeln!(out, "{}:", Name(name)),
-        Action::Check | Action::Json | Action::Canon | Action::Get => Ok(()),
+    if !has_heading(options.action) {
+        return Ok(());
     }
+    writeln!(out, "{}:", Name(name))
+}
+
+/// Whether a line with the name is before what an action writes.
+fn has_heading(action: Action) -> bool
+    ensures { result ≡ has_heading action }
+{
+    matches!(action, Action::Tree | Action::Show)
 }
 
 /// Does it with octets.
@@ -166,9 +173,10 @@ fn act<W: Write, X: Write>(
     match options.action {
         Action::Check => check(options, origin, octets, out),
         Action::Canon => write_canonical(alloc, origin, octets, out, err),
-        Action::Tree => print_tree(alloc, options, origin, octets, out, err),
-        Action::Json => print_json(alloc, options, origin, octets, out, err),
+        Action::Tree => print_lines(alloc, options, Lines::Tree, origin, octets, out, err),
+        Action::Json => print_lines(alloc, options, Lines::Json, origin, octets, out, err),
         Action::Get => write_part(alloc, options, origin, octets, out, err),
+        Action::Show => show(alloc, options, origin, octets, out, err),
     }
 }
 
@@ -223,13 +231,13 @@ fn act_on_blocks<W: Write, X: Write>(
     Ok(false)
 }
 
-/// Does it with a block that so many are before. The tree of a block follows its label.
-fn act_on_block<W: Write, X: Write>(
+/// Does it with a block that so many are before. The tree or the words of a block follow its label.
+fn act_on_block<'x, W: Write, X: Write>(
     alloc: Global,
     options: &Options<'_>,
-    name: &str,
+    name: &'x str,
     before: usize,
-    block: &Block<'_>,
+    block: &Block<'x>,
     out: &mut W,
     err: &mut X,
 ) -> io::Result<bool>
@@ -240,8 +248,14 @@ fn act_on_block<W: Write, X: Write>(
 {
     let label = block.label;
     write_label(options, name, label, out)?;
+    let text = shown_label(alloc, label)?;
+    let shown = text.as_str();
     let number = before.saturating_add(1);
-    let block_name = Some(BlockName { number, label });
+    let block_name = Some(BlockName {
+        number,
+        label,
+        shown,
+    });
     let origin = Origin {
         name,
         block: block_name,
@@ -253,7 +267,7 @@ fn act_on_block<W: Write, X: Write>(
     }
 }
 
-/// Writes the name of a file and the label of a block, before its tree.
+/// Writes the name of a file and the label of a block, before its tree or words.
 fn write_label<W: Write>(
     options: &Options<'_>,
     name: &str,
@@ -263,10 +277,10 @@ fn write_label<W: Write>(
     ensures { OnOk result (WritesHeading options.now.action name.now label.now
         (W.contents out.old) (W.contents out.new)) }
 {
-    match options.action {
-        Action::Tree => writeln!(out, "{}: {}", Name(name), Label(label)),
-        Action::Check | Action::Json | Action::Canon | Action::Get => Ok(()),
+    if !has_heading(options.action) {
+        return Ok(());
     }
+    writeln!(out, "{}: {}", Name(name), Label(label))
 }
 
 /// Reports a file whose octets aren't found.

@@ -14,7 +14,9 @@ use crate::arguments::{action_named, options_of};
 use crate::command::command;
 use crate::inputs::{STANDARD_INPUT, run_diff, run_files, run_octets, run_text};
 use crate::options::Options;
+use crate::present::at_present;
 use crate::run::run;
+use crate::status::{CLOSED_PIPE, DONE, REFUSED, USAGE, status_of};
 use crate::terminal::style_of;
 use clap::ArgMatches;
 use der_print::Style;
@@ -23,21 +25,13 @@ use std::env::Env;
 use std::io::{BufWriter, ErrorKind, Read, Write};
 use std::process::ExitCode;
 use std::rt::Files;
+use std::time::Clock;
 use std::{env, io};
-
-/// The status after an input that is refused, or that can't be read.
-pub(crate) const REFUSED: u8 = 1;
-
-/// The status after a command line that is refused.
-const USAGE: u8 = 2;
-
-/// The status of programs that a closed pipe ends: 128 and the number of the signal.
-const CLOSED_PIPE: u8 = 141;
 
 /// Does what the arguments ask for. Returns 0 if each input was read to its end, 1 if one is refused or can't
 /// be read or written, 2 for other arguments, and 141 if what reads the output was closed.
 pub fn program<
-    R: Env + Files + AllocGlobal + Clone + Drop,
+    R: Env + Files + Clock + AllocGlobal + Clone + Drop,
     I: Read + Drop,
     W: Write + Drop,
     X: Write + Drop,
@@ -65,37 +59,62 @@ fn status_after<X: Write>(e: io::Error, err: &mut X) -> u8
 }
 
 /// Reads the arguments.
-fn start<R: Env + Files + AllocGlobal + Clone + Drop, I: Read + Drop, W: Write + Drop, X: Write>(
+fn start<
+    R: Env + Files + Clock + AllocGlobal + Clone + Drop,
+    I: Read + Drop,
+    W: Write + Drop,
+    X: Write,
+>(rt: &R, input: I, out: W, err: &mut X, is_terminal: bool) -> io::Result<u8>
+    ensures { IfOk result (λ status. status ≤ 2) }
+{
+    let words: Vec<String> = env::args(rt)?.collect(rt.alloc())?;
+    let command = command(rt.alloc())?;
+    let found = command.try_get_matches_from(words.as_slice());
+    run_found(rt, found, input, out, err, is_terminal)
+}
+
+/// Does what is asked for, or says what is wrong with the command line.
+fn run_found<
+    R: Env + Files + Clock + AllocGlobal + Clone + Drop,
+    I: Read + Drop,
+    W: Write + Drop,
+    X: Write,
+>(
     rt: &R,
+    found: Result<ArgMatches<'_>, clap::Error>,
     input: I,
-    mut out: W,
+    out: W,
     err: &mut X,
     is_terminal: bool,
 ) -> io::Result<u8>
     ensures { IfOk result (λ status. status ≤ 2) }
 {
-    let alloc = rt.alloc();
-    let words: Vec<String> = env::args(rt)?.collect(alloc)?;
-    let command = command(alloc)?;
-    match command.try_get_matches_from(words.as_slice()) {
-        Ok(matches) => {
-            let terminal = style_of(rt, is_terminal);
-            run_subcommand(rt, &matches, terminal, input, out, err)
-        }
-        Err(e) if e.use_stderr() => {
-            write!(err, "{e}")?;
-            Ok(USAGE)
-        }
-        Err(e) => {
-            write!(out, "{e}")?;
-            out.flush()?;
-            Ok(0)
-        }
+    match found {
+        Ok(matches) => run_subcommand(rt, &matches, style_of(rt, is_terminal), input, out, err),
+        Err(e) => tell(&e, out, err),
     }
 }
 
+/// Says what is wrong with a command line, or what help it asks for.
+fn tell<W: Write + Drop, X: Write>(e: &clap::Error, mut out: W, err: &mut X) -> io::Result<u8>
+    ensures { IfOk result (λ status. status ≤ 2) }
+{
+    if e.use_stderr() {
+        write!(err, "{e}")?;
+        return Ok(USAGE);
+    }
+    write!(out, "{e}")?;
+    out.flush()?;
+    Ok(DONE)
+}
+
 /// Runs the subcommand.
-fn run_subcommand<R: Files + AllocGlobal + Clone + Drop, I: Read + Drop, W: Write + Drop, X: Write>(
+fn run_subcommand<
+    R: Files + Clock + AllocGlobal + Clone + Drop,
+    I: Read + Drop,
+    W: Write + Drop,
+    X: Write,
+>(
     rt: &R,
     matches: &ArgMatches<'_>,
     terminal: Style,
@@ -109,49 +128,64 @@ fn run_subcommand<R: Files + AllocGlobal + Clone + Drop, I: Read + Drop, W: Writ
         return Ok(USAGE);
     };
     let mut out = BufWriter::new(rt.alloc(), out)?;
-    let status = match name {
-        "diff" => run_diff(rt, matches, terminal, &mut input, &mut out, err)?,
-        "text" => run_text(rt, matches, &mut input, &mut out, err)?,
-        "octets" => run_octets(rt, matches, &mut input, &mut out, err)?,
-        _ => {
-            let options = options_of(action_named(name), matches, terminal);
-            let are_read = run_inputs(rt, &options, matches, input, &mut out, err)?;
-            if are_read { 0 } else { REFUSED }
-        }
-    };
+    let status = run_named(rt, name, matches, terminal, &mut input, &mut out, err)?;
     out.flush()?;
     Ok(status)
 }
 
+/// Runs the subcommand with this name.
+fn run_named<R: Files + Clock + AllocGlobal + Clone + Drop, I: Read, W: Write, X: Write>(
+    rt: &R,
+    name: &str,
+    matches: &ArgMatches<'_>,
+    terminal: Style,
+    input: &mut I,
+    out: &mut W,
+    err: &mut X,
+) -> io::Result<u8>
+    ensures { IfOk result (λ status. status ≤ 2) }
+{
+    let are_read = match name {
+        "diff" => return run_diff(rt, matches, terminal, input, out, err),
+        "text" => run_text(rt, matches, input, out, err)?,
+        "octets" => run_octets(rt, matches, input, out, err)?,
+        _ => {
+            let options = at_present(rt, options_of(action_named(name), matches, terminal));
+            run_inputs(rt, &options, matches, input, out, err)?
+        }
+    };
+    Ok(status_of(are_read))
+}
+
 /// Runs over the files of a subcommand, or over the standard input.
-fn run_inputs<R: Files + AllocGlobal + Clone + Drop, I: Read + Drop, W: Write, X: Write>(
+fn run_inputs<R: Files + AllocGlobal + Clone + Drop, I: Read, W: Write, X: Write>(
     rt: &R,
     options: &Options<'_>,
     matches: &ArgMatches<'_>,
-    mut input: I,
+    input: &mut I,
     out: &mut W,
     err: &mut X,
 ) -> io::Result<bool> {
     match matches.get_strs("file") {
         Some(files) => {
             let is_recursive = matches.get_flag("recursive");
-            run_files(rt, options, files, is_recursive, &mut input, out, err)
+            run_files(rt, options, files, is_recursive, input, out, err)
         }
         None => run_reader(rt.alloc(), options, input, out, err),
     }
 }
 
 /// Runs over what a reader gives.
-fn run_reader<I: Read + Drop, W: Write, X: Write>(
+fn run_reader<I: Read, W: Write, X: Write>(
     alloc: Global,
     options: &Options<'_>,
-    mut input: I,
+    input: &mut I,
     out: &mut W,
     err: &mut X,
 ) -> io::Result<bool>
     ensures checked { options.now.action ≡ Action.Check → options.now.form ≡ Some Form.Der → IfOk result
-        (λ ok. IfSome (I.remaining input) (λ octets. IsTrue ok ↔ AreSomeElements options.now.rules octets)) }
-    ensures read { IfOk result (λ ok. IsTrue ok → IfSome (I.remaining input) (λ octets.
+        (λ ok. IfSome (I.remaining input.old) (λ octets. IsTrue ok ↔ AreSomeElements options.now.rules octets)) }
+    ensures read { IfOk result (λ ok. IsTrue ok → IfSome (I.remaining input.old) (λ octets.
         ReadsInput options.now (codes "standard input") octets (W.contents out.old) (W.contents out.new))) }
 {
     let mut octets = Vec::new(alloc);

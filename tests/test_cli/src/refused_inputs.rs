@@ -80,6 +80,8 @@ fn options(rules: Rules) -> Options<'static> {
         has_octets: false,
         is_content: false,
         is_quiet: false,
+        is_strict: false,
+        present: None,
         has_several_files: false,
     }
 }

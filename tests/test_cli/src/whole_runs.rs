@@ -9,17 +9,20 @@ use std::io::{ErrorKind, Read, Write};
 use std::process::ExitCode;
 use std::rt::Files;
 use std::test::Fail;
+use std::time::{Clock, Duration};
 use std::{io, str};
 
 /// A variable of the environment: its name and its value.
 type Variable = (&'static str, &'static str);
 
-/// Arguments, the program's name first, and variables, with the files of another runtime.
+/// Arguments, the program's name first, variables, and what the clock reads, with the files of another runtime.
 #[derive(Drop)]
 struct Machine<'a, R> {
     rt: &'a R,
     arguments: &'a [&'static str],
     variables: &'a [Variable],
+    /// The seconds since 1970. None if the clock can't be read.
+    clock: Option<u64>,
 }
 
 impl<R> Clone for Machine<'_, R> {
@@ -28,6 +31,7 @@ impl<R> Clone for Machine<'_, R> {
             rt: self.rt,
             arguments: self.arguments,
             variables: self.variables,
+            clock: self.clock,
         })
     }
 }
@@ -56,6 +60,19 @@ impl<R> Env for Machine<'_, R> {
 
     fn var_at(&self, _i: usize, _buf: &mut [u8]) -> Result<usize, FillError> {
         Err(FillError::NotPresent)
+    }
+}
+
+impl<R> Clock for Machine<'_, R> {
+    fn monotonic(&self) -> io::Result<Duration> {
+        self.since_1970()
+    }
+
+    fn since_1970(&self) -> io::Result<Duration> {
+        match self.clock {
+            Some(seconds) => Ok(Duration::from_secs(seconds)),
+            None => Err(io::Error::from(ErrorKind::Unsupported)),
+        }
     }
 }
 
@@ -153,14 +170,24 @@ fn on_screen(
     input: &[u8],
     is_terminal: bool,
 ) -> (Vec<u8>, ExitCode) {
-    let screen = RefCell::new(Vec::new(rt.alloc()));
     let machine = Machine {
         rt,
         arguments,
         variables,
+        clock: None,
     };
+    screen_of(&(machine, rt.alloc()), input, is_terminal)
+}
+
+/// What a run on a machine shows, and its status.
+fn screen_of<R: Files>(
+    machine: &(Machine<'_, R>, Global),
+    input: &[u8],
+    is_terminal: bool,
+) -> (Vec<u8>, ExitCode) {
+    let screen = RefCell::new(Vec::new(machine.1));
     let status = program(
-        &(machine, rt.alloc()),
+        machine,
         input,
         ToScreen(&screen),
         ToScreen(&screen),
@@ -272,6 +299,7 @@ fn a_failed_write_ends_it(rt: HostRuntime) {
             rt: &rt,
             arguments: &["der", "tree"],
             variables: &[],
+            clock: None,
         };
         let input: &[u8] = b"\x05\x00";
         let status = program(
@@ -294,6 +322,7 @@ fn a_failed_read_is_reported(rt: HostRuntime) {
         rt: &rt,
         arguments: &["der", "tree"],
         variables: &[],
+        clock: None,
     };
     let status = program(
         &(machine, rt.alloc()),
@@ -415,4 +444,65 @@ fn lines_are_those_of_their_output(rt: HostRuntime) -> Result<(), Fail> {
         assert_eq!(rt; status, ExitCode::SUCCESS);
     }
     Ok(())
+}
+
+/// A list of revoked certificates in hexadecimal digits, whose next update is on 2026-12-24 at 23:15:42.
+const LIST: &[u8] = b"\
+3081ee308194020101300a06082a8648ce3d0403023030310b300906035504061302444531123010060355040a0c095a6fc3ab20476d62\
+48310d300b06035504030c04726f6f74170d3236313132343233313534325a170d3236313232343233313534325a302330210202123417\
+0d3236313030313030303030305a300c300a0603551d1504030a0101a00e300c300a0603551d140403020101300a06082a8648ce3d0403\
+0203490030460221008702ec80e7c3ebc48431bae125306d676f5e1901d4c646c72d7c632f323d9805022100d8fee3d1187791ec4576e9\
+4c671d1d3438db9a2a371dce6435ae7566e079feda";
+
+/// Noon on 2026-12-12, in seconds since 1970: `date -u -d '2026-12-12 12:00:00' +%s`.
+const NOON: u64 = 1797076800;
+
+/// What a clock reads, the arguments, and the line about the validity of the list, if there is one.
+struct Validity {
+    clock: Option<u64>,
+    arguments: &'static [&'static str],
+    line: Option<&'static str>,
+}
+
+const VALIDITIES: [Validity; 4] = [
+    Validity {
+        clock: Some(NOON),
+        arguments: &["der", "show"],
+        line: Some("  Expires: in 12 days"),
+    },
+    // A day later: --now is in place of the clock.
+    Validity {
+        clock: Some(NOON),
+        arguments: &["der", "show", "--now", "1797163200"],
+        line: Some("  Expires: in 11 days"),
+    },
+    Validity {
+        clock: None,
+        arguments: &["der", "show", "--now", "1797163200"],
+        line: Some("  Expires: in 11 days"),
+    },
+    Validity {
+        clock: None,
+        arguments: &["der", "show"],
+        line: None,
+    },
+];
+
+/// The present is that of --now, or of the clock. Without one, nothing is said of it.
+#[test]
+fn words_are_of_the_present(rt: HostRuntime) {
+    for validity in &VALIDITIES {
+        let machine = Machine {
+            rt: &rt,
+            arguments: validity.arguments,
+            variables: &[],
+            clock: validity.clock,
+        };
+        let (screen, status) = screen_of(&(machine, rt.alloc()), LIST, false);
+        let text = str::from_utf8(&screen).unwrap_or("");
+        let mut lines = text.lines();
+        let line = lines.find(|line| line.starts_with("  Expire"));
+        assert_eq!(rt; line, validity.line);
+        assert_eq!(rt; status, ExitCode::SUCCESS);
+    }
 }

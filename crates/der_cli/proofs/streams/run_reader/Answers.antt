@@ -12,4 +12,4 @@ of_reader (Err y) known old buf octets P none same e h = tt
 pub returns-clause-read : goal.returns-clause-read
 returns-clause-read g c =
     let P = λ (octets : List ℕ). ReadsInput c.args.options.now (codes "standard input") octets (g.W.Write.contents c.args.out.now) (g.W.Write.contents c.run.new.out) in
-    of_reader c.run.result (g.I.Read.remaining c.args.input) _ _ c.deref.result.now P c.new-octets.ensures.items c.deref.ensures.value c.in_ok-read_to_end.ensures.bytes c.run.ensures.read
+    of_reader c.run.result (g.I.Read.remaining c.args.input.now) _ _ c.deref.result.now P c.new-octets.ensures.items c.deref.ensures.value c.in_ok-read_to_end.ensures.bytes c.run.ensures.read

@@ -1,0 +1,174 @@
+//! The elements of an input as lines.
+ghost use Rattle.std.specs.Prelude.{◌≡◌, IfOk, IsTrue, MatchBool, OnOk, false};
+ghost use Rattle.der_json.specs.Json.{AddsJson};
+ghost use Rattle.der_cli.specs.Outputs.{AddsLineOf, RefusesLines, WritesLines};
+ghost use Rattle.der_print.specs.Lines.{AddsLine};
+ghost use Rattle.der_print.specs.Texts.{content_of};
+ghost use Rattle.der_walk.specs.Walked.{visited_of};
+
+use crate::listing::Listing;
+use crate::options::Options;
+use crate::origin::Origin;
+use crate::report::{report, report_end};
+use crate::source::source_of;
+use der_json::{Paths, write_json};
+use der_print::{Room, Style, write_line};
+use der_walk::{Element, Walk};
+use std::alloc::Global;
+use std::io;
+use std::io::Write;
+
+/// What the line of an element is.
+#[derive(Clone, Copy, Debug, PartialEq)]
+pub(crate) enum Lines {
+    /// A line of a tree.
+    Tree,
+    /// An object of JSON.
+    Json,
+}
+
+/// Octets whose elements are printed.
+#[derive(Clone, Copy)]
+struct Printed<'a> {
+    lines: Lines,
+    origin: Origin<'a>,
+    octets: &'a [u8],
+}
+
+/// What is kept from line to line.
+#[derive(Drop)]
+struct Kept {
+    /// The memory of a line of a tree.
+    room: Room,
+    /// The paths in lines of JSON.
+    paths: Paths,
+}
+
+/// Writes a line for each element of octets that is listed, and reports on `err` why they are refused. Returns whether
+/// they were elements to their end, and one is listed.
+pub(crate) fn print_lines<W: Write, X: Write>(
+    alloc: Global,
+    options: &Options<'_>,
+    lines: Lines,
+    origin: Origin<'_>,
+    octets: &[u8],
+    out: &mut W,
+    err: &mut X,
+) -> io::Result<bool>
+    ensures read { IfOk result (λ ok. IsTrue ok
+        → WritesLines lines options.now octets.now (W.contents out.old) (W.contents out.new)) }
+    ensures refused { IfOk result (λ ok. ok ≡ false
+        → RefusesLines lines options.now octets.now (W.contents out.old) (W.contents out.new)) }
+{
+    let printed = Printed {
+        lines,
+        origin,
+        octets,
+    };
+    let mut walk = Walk::new(octets, options.rules, options.enters_strings).keeping_values();
+    let mut listing = Listing::new(alloc, options);
+    let mut kept = Kept::new(alloc);
+    'elements: loop {
+        match walk.next_element() {
+            Ok(Some(element)) => {
+                let taken = listing.takes(alloc, &element)?;
+                kept = pass(alloc, options, printed, taken, kept, &element, out)?;
+            }
+            Ok(None) => return report_end(options.place, origin, &listing, out, err),
+            Err(refusal) => {
+                out.flush()?;
+                report(origin, &walk, &refusal, err)?;
+                return Ok(false);
+            }
+        }
+    }
+}
+
+impl Kept {
+    /// Before the first element.
+    fn new(alloc: Global) -> Kept {
+        Kept {
+            room: Room::new(alloc),
+            paths: Paths::new(alloc),
+        }
+    }
+}
+
+/// Goes on to the next element, and writes its line if it is taken.
+fn pass<W: Write>(
+    alloc: Global,
+    options: &Options<'_>,
+    printed: Printed<'_>,
+    taken: bool,
+    kept: Kept,
+    element: &Element<'_>,
+    out: &mut W,
+) -> io::Result<Kept>
+    ensures { OnOk result (MatchBool taken
+        (AddsLineOf printed.entry.lines options.now.style (visited_of element.now) (content_of element.now)
+        (W.contents out.old) (W.contents out.new))
+        (W.contents out.new ≡ W.contents out.old)) }
+{
+    match printed.lines {
+        Lines::Tree => pass_in_tree(options.style, taken, kept, element, out),
+        Lines::Json => pass_in_json(alloc, options, printed, taken, kept, element, out),
+    }
+}
+
+/// Writes the line of an element in a tree if it is taken.
+fn pass_in_tree<W: Write>(
+    style: Style,
+    taken: bool,
+    kept: Kept,
+    element: &Element<'_>,
+    out: &mut W,
+) -> io::Result<Kept>
+    ensures { OnOk result (MatchBool taken
+        (AddsLine style (visited_of element.now) (content_of element.now) (W.contents out.old) (W.contents out.new))
+        (W.contents out.new ≡ W.contents out.old)) }
+{
+    if !taken {
+        return Ok(kept);
+    }
+    let Kept { room, paths } = kept;
+    let room = write_line(out, room, element, style)?;
+    Ok(Kept { room, paths })
+}
+
+/// Goes on to the path of an element, and writes its object of JSON if it is taken.
+fn pass_in_json<W: Write>(
+    alloc: Global,
+    options: &Options<'_>,
+    printed: Printed<'_>,
+    taken: bool,
+    kept: Kept,
+    element: &Element<'_>,
+    out: &mut W,
+) -> io::Result<Kept>
+    ensures { OnOk result (MatchBool taken (AddsJson (W.contents out.old) (W.contents out.new))
+        (W.contents out.new ≡ W.contents out.old)) }
+{
+    let Kept { room, paths } = kept;
+    let mut paths = paths;
+    paths.enter(alloc, element)?;
+    if taken {
+        write_object(alloc, options, printed, paths.last(), element, out)?;
+        return Ok(Kept { room, paths });
+    }
+    Ok(Kept { room, paths })
+}
+
+/// Writes an element as an object of JSON.
+fn write_object<W: Write>(
+    alloc: Global,
+    options: &Options<'_>,
+    printed: Printed<'_>,
+    path: &str,
+    element: &Element<'_>,
+    out: &mut W,
+) -> io::Result<()>
+    ensures { OnOk result (AddsJson (W.contents out.old) (W.contents out.new)) }
+{
+    let source = source_of(options, printed.origin, path, printed.octets, element);
+    write_json(alloc, source, element, out)
+}

@@ -1,0 +1,88 @@
+//! What octets are, in words.
+ghost use Rattle.std.specs.Prelude.{◌≡◌, IfOk, IsTrue, OnOk, false, not};
+ghost use Rattle.std.specs.Io.KnownBytes.{Appends, Keeps};
+ghost use Rattle.der_cli.specs.Shown.{RefusesShown, ShowsWords, is_broken};
+
+use crate::options::Options;
+use crate::origin::Origin;
+use crate::report::report_fault;
+use der_show::{Words, why_unread, words_of};
+use der_walk::Rules;
+use std::alloc::Global;
+use std::io;
+use std::io::Write;
+
+/// Writes what octets are in words, or reports on `err` why they are nothing that is known. Returns whether they are
+/// known, and break no rule of RFC 5280 if that is an error.
+pub(crate) fn show<W: Write, X: Write>(
+    alloc: Global,
+    options: &Options<'_>,
+    origin: Origin<'_>,
+    octets: &[u8],
+    out: &mut W,
+    err: &mut X,
+) -> io::Result<bool>
+    ensures read { IfOk result (λ ok. IsTrue ok
+        → ShowsWords options.now octets.now (W.contents out.old) (W.contents out.new)) }
+    ensures refused { IfOk result (λ ok. ok ≡ false
+        → RefusesShown options.now octets.now (W.contents out.old) (W.contents out.new)) }
+{
+    let found = words_of(alloc, octets, options.present)?;
+    match found {
+        Some(words) => write_words(options, origin, &words, out, err),
+        None => refuse(origin, octets, out, err),
+    }
+}
+
+/// Writes words, and reports that a rule of RFC 5280 is broken if that is an error. Returns whether there is none.
+fn write_words<W: Write, X: Write>(
+    options: &Options<'_>,
+    origin: Origin<'_>,
+    words: &Words,
+    out: &mut W,
+    err: &mut X,
+) -> io::Result<bool>
+    ensures written { OnOk result (Appends (W.contents out.old) (W.contents out.new) words.now.text.items) }
+    ensures broken { IfOk result (λ ok. is_broken options.now words.now ≡ not ok) }
+{
+    out.write_all(&words.text)?;
+    if !is_broken(options, words) {
+        return Ok(true);
+    }
+    out.flush()?;
+    writeln!(err, "der: {origin}: it breaks a rule of RFC 5280")?;
+    Ok(false)
+}
+
+/// Whether a rule of RFC 5280 is broken, and that is an error.
+fn is_broken(options: &Options<'_>, words: &Words) -> bool
+    ensures { result ≡ is_broken options.now words.now }
+{
+    options.is_strict && !words.keeps_rules
+}
+
+/// Reports that octets are nothing that is known.
+fn refuse<W: Write, X: Write>(
+    origin: Origin<'_>,
+    octets: &[u8],
+    out: &mut W,
+    err: &mut X,
+) -> io::Result<bool>
+    ensures refused { IfOk result (λ ok. ok ≡ false) }
+    ensures keeps { OnOk result (Keeps (W.contents out.old) (W.contents out.new)) }
+{
+    out.flush()?;
+    report_unknown(origin, octets, err)?;
+    Ok(false)
+}
+
+/// Reports where octets aren't elements, or else why they are no certificate, list of revoked certificates or request.
+fn report_unknown<X: Write>(origin: Origin<'_>, octets: &[u8], err: &mut X) -> io::Result<()> {
+    if report_fault(Rules::Ber, origin, octets, err)? {
+        return Ok(());
+    }
+    match why_unread(octets) {
+        Some(unread) => writeln!(err, "der: {origin}: {unread}"),
+        None => writeln!(err, "der: {origin}: it is nothing that is known"),
+    }
+}

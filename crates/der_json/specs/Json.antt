@@ -1,0 +1,152 @@
+-- What is written of an element as JSON.
+use Rattle.std.specs.Prelude.{◌≡◌, ◌⊎◌, ◌==◌, ◌^◌, ◌||◌, ◌<◌, ◌≤◌, ◌+◌, ◌*◌, ℕ, suc, not, nat_lt, Bool, true, false}
+use Rattle.std.specs.Prelude.{if◌then◌else◌, IsTrue, IfSome, MatchBool, MatchOption, ℤ, pos, negsuc}
+use Rattle.std.specs.Prelude.{Option, Some, None, is_some, option_map, List, [], ◌∷◌, ◌++◌, codes, drop, length}
+use Rattle.std.specs.Prelude.{string_bytes}
+use Rattle.std.specs.Io.KnownBytes.{Appends}
+use Rattle.serde.specs.Event.{Log}
+use Rattle.serde_json.specs.Data.{Data, boolean, negative, null, number, string, unsigned}
+use Rattle.serde_json.specs.Sent.{IsTextOf}
+use Rattle.serde_json.specs.View.{view}
+use Rattle.hex.specs.Hex.{encode_lower}
+use Rattle.der_base.specs.declared.header.Class.{Class}
+use Rattle.der_base.specs.declared.header.Class.TheVariants.{Universal, Application, ContextSpecific, Private}
+use Rattle.der_base.specs.declared.time.ASN1DateTime.{ASN1DateTime}
+use Rattle.der_base.specs.Octets.{integer_value}
+use Rattle.der_base.specs.Time.{IsTimeText}
+use Rattle.der_print.specs.Quotes.{unquoted_text}
+use Rattle.der_print.specs.Remarks.{IsRemark}
+use Rattle.der_print.specs.declared.style.Limit.TheVariants.{Whole}
+use Rattle.der_print.specs.Values.{IsNameOf, identifier_text, is_other_type, is_quoted_type, moment_text}
+use Rattle.der_print.specs.Values.{real_text}
+use Rattle.der_json.specs.declared.members.Members.{Members}
+use Rattle.der_json.specs.declared.object.Object.{Object}
+use Rattle.der_json.specs.declared.object.Source.{Source}
+use Rattle.der_json.specs.Timestamps.{HasTimestamp, timestamp_text}
+use Rattle.der_values.specs.Decimal.{integer_text}
+use Rattle.der_walk.specs.TypeNames.{type_text}
+use Rattle.der_walk.specs.Visits.{Visited}
+
+-- a text is JSON without spaces
+abbrev pub IsJson : List ℕ → Type 0
+IsJson text = (log : Log) × IsTextOf log text
+
+-- known octets grew by a line of JSON
+pub record AddsJson (old new : Option (List ℕ)) : Type 0 where
+  pub text : List ℕ
+  pub is_json : IsJson text
+  pub adds : Appends old new (text ++ codes "\n")
+
+-- a number from -(2^53-1) to 2^53-1, or the decimal digits of another one (RFC 8259 6)
+abbrev pub json_number : ℤ → Data
+json_number (pos n) = if nat_lt n (2 ^ 53) then number (unsigned n) else string (integer_text (pos n))
+json_number (negsuc n) =
+    if nat_lt (suc n) (2 ^ 53) then number (negative (negsuc n)) else string (integer_text (negsuc n))
+
+-- the octet of FALSE (X.690 8.2.2)
+abbrev pub is_false : List ℕ → Bool
+is_false (b ∷ []) = b == 0
+is_false w = false
+
+-- The value of a content by the number of its universal type.
+pub data IsUniversalJson (t : ℕ) (w : List ℕ) (d : Data) : Type 0 where
+  no_value : (t ≡ 0) ⊎ (t ≡ 5) → d ≡ null → IsUniversalJson t w d
+  truth : t ≡ 1 → d ≡ boolean (not (is_false w)) → IsUniversalJson t w d
+  json_integer : (t ≡ 2) ⊎ (t ≡ 10) → d ≡ json_number (integer_value w) → IsUniversalJson t w d
+  identifier : t ≡ 6 → d ≡ string (identifier_text false w) → IsUniversalJson t w d
+  relative : t ≡ 13 → d ≡ string (identifier_text true w) → IsUniversalJson t w d
+  real : t ≡ 9 → d ≡ string (real_text Whole w) → IsUniversalJson t w d
+  -- the characters of a string; octets that are none are escaped
+  text : IsTrue (is_quoted_type t) → d ≡ string (unquoted_text t w) → IsUniversalJson t w d
+  -- a BIT STRING without the octet that says how many bits aren't used
+  bits : t ≡ 3 → d ≡ string (encode_lower (drop 1 w)) → IsUniversalJson t w d
+  -- UTCTime and GeneralizedTime; as a text where there is no such moment, as one with 60 seconds
+  moment : (x : ASN1DateTime) → IsTimeText t w x → d ≡ string (moment_text (t == 23) x) → IsUniversalJson t w d
+  no_moment : (t ≡ 23) ⊎ (t ≡ 24) → ((x : ASN1DateTime) → ¬ IsTimeText t w x) → d ≡ string (unquoted_text t w)
+      → IsUniversalJson t w d
+  octets : is_quoted_type t ≡ false → is_other_type t ≡ false → d ≡ string (encode_lower w) → IsUniversalJson t w d
+
+-- the value of a primitive element
+abbrev pub IsPrimitiveJson : Class → ℕ → List ℕ → Data → Type 0
+IsPrimitiveJson Universal t w d = IsUniversalJson t w d
+IsPrimitiveJson Application t w d = d ≡ string (encode_lower w)
+IsPrimitiveJson ContextSpecific t w d = d ≡ string (encode_lower w)
+IsPrimitiveJson Private t w d = d ≡ string (encode_lower w)
+
+-- the value of an element: none if its content is elements, which have objects of their own
+abbrev pub IsJsonValue : Visited → List ℕ → Data → Type 0
+IsJsonValue v w d = MatchBool (v.constructed || is_some v.holds) (d ≡ null) (IsPrimitiveJson v.class v.number w d)
+
+-- a primitive element of a universal type
+abbrev pub IsPrimitive : Visited → Type 0
+IsPrimitive v = (v.class ≡ Universal) × (v.constructed ≡ false)
+
+-- a BIT STRING with this content has so many bits (X.690 8.6.2)
+abbrev pub IsBitCount : List ℕ → ℕ → Type 0
+IsBitCount [] n = ⊥
+IsBitCount (unused ∷ w) n = (unused ≤ 7) × (n + unused ≡ 8 * length w)
+
+-- the count of the bits of an element whose value is a BIT STRING; none where there is no such count
+abbrev pub AreBitsOf : Visited → List ℕ → Option ℕ → Type 0
+AreBitsOf v w count = MatchOption count
+    (IsPrimitive v → is_some v.holds ≡ false → v.number ≡ 3 → (n : ℕ) → n < 2 ^ 60 → ¬ IsBitCount w n)
+    (λ n. IsPrimitive v × (v.number ≡ 3) × IsBitCount w n)
+
+-- a time type's text as RFC 3339 writes it, or none where it can't
+abbrev pub IsTimestamp : ℕ → List ℕ → Option (List ℕ) → Type 0
+IsTimestamp t w time = MatchOption time
+    ((x : ASN1DateTime) → IsTimeText t w x → ¬ HasTimestamp (t == 23) x)
+    (λ y. (x : ASN1DateTime) × IsTimeText t w x × HasTimestamp (t == 23) x × (y ≡ timestamp_text (t == 23) x))
+
+abbrev pub IsTimestampOf : Visited → List ℕ → Option (List ℕ) → Type 0
+IsTimestampOf v w (Some x) = IsPrimitive v × IsTimestamp v.number w (Some x)
+IsTimestampOf v w None = IsPrimitive v → IsTimestamp v.number w None
+
+-- what is said of the content of an element
+pub record AreMembersOf (v : Visited) (w : List ℕ) (m : Members) : Type 0 where
+  pub value : IsJsonValue v w (view m.value)
+  pub bits : AreBitsOf v w m.bits
+  pub time : IsTimestampOf v w (option_map string_bytes m.time)
+  -- the name of an OBJECT IDENTIFIER, if it has one
+  pub name : IfSome m.name (λ name. (v.class ≡ Universal) × (v.number ≡ 6) × IsNameOf w name.now)
+  -- what is said of a value that breaks its type
+  pub fault : IsRemark v w (option_map string_bytes m.fault)
+
+-- a class as a word
+abbrev pub class_word : Class → List ℕ
+class_word Universal = codes "universal"
+class_word Application = codes "application"
+class_word ContextSpecific = codes "context-specific"
+class_word Private = codes "private"
+
+-- the members that an element with this content determines
+pub record IsObjectOf (v : Visited) (w : List ℕ) (o : Object) : Type 0 where
+  pub offset : o.offset ≡ v.offset
+  pub depth : o.depth ≡ v.depth
+  pub header : o.header ≡ v.header
+  pub length : o.length ≡ v.length
+  pub class : o.class.now ≡ class_word v.class
+  pub tag : o.tag ≡ v.number
+  pub constructed : o.constructed ≡ v.constructed
+  pub kind : string_bytes o.kind ≡ type_text v.class v.number
+  pub value : IsJsonValue v w (view o.value)
+  pub bits : AreBitsOf v w o.bits
+  pub time : IsTimestampOf v w (option_map string_bytes o.time)
+  -- the name of an OBJECT IDENTIFIER, if it has one
+  pub name : IfSome o.name (λ name. (v.class ≡ Universal) × (v.number ≡ 6) × IsNameOf w name.now)
+  -- what is said of a value that breaks its type
+  pub fault : IsRemark v w (option_map string_bytes o.fault)
+
+-- the members that say where it is from, and its octets
+pub record IsFrom (s : Source) (o : Object) : Type 0 where
+  pub file : option_map (λ x. x.now) o.file ≡ option_map (λ x. x.now) s.file
+  pub block : o.block ≡ s.block
+  pub label : option_map (λ x. x.now) o.label ≡ option_map (λ x. x.now) s.label
+  pub path : o.path.now ≡ s.path.now
+  pub octets : option_map string_bytes o.octets ≡ option_map (λ w. encode_lower w.now) s.octets
+
+-- one line of JSON for each of some elements
+pub data AreJsonLines : List Visited → List ℕ → Type 0 where
+  no_lines : AreJsonLines [] []
+  one_more_line : {v : Visited} {vs : List Visited} (text rest : List ℕ) → IsJson text → AreJsonLines vs rest
+      → AreJsonLines (v ∷ vs) (text ++ codes "\n" ++ rest)

@@ -1,0 +1,11 @@
+//! The elements of ASN.1 as lines of JSON. docs/der-json.schema.json says what the members of a line are.
+#![tactic(auto)]
+
+mod members;
+mod moment;
+mod object;
+mod paths;
+mod value;
+
+pub use object::{Source, write_json};
+pub use paths::Paths;

@@ -1,0 +1,124 @@
+//! What the content of an element determines of its object.
+ghost use Rattle.std.specs.Prelude.{◌≡◌, ◌<◌, ◌^◌, ℕ, IfOk, IfSome, Some, option_map, string_bytes};
+ghost use Rattle.der_base.specs.declared.header.Class.{Class};
+ghost use Rattle.der_json.specs.Json.{AreBitsOf, AreMembersOf, IsBitCount, IsTimestamp, IsTimestampOf};
+ghost use Rattle.der_print.specs.Remarks.{IsRemark};
+ghost use Rattle.der_print.specs.Texts.{content_of};
+ghost use Rattle.der_print.specs.Values.{IsNameOf};
+ghost use Rattle.der_walk.specs.Walked.{visited_of};
+
+use crate::moment::timestamp_of;
+use crate::value::value_of;
+use der_base::header::{Class, Tag};
+use der_base::time::read_time;
+use der_print::{Remark, octets_or_none};
+use der_walk::Element;
+use oid_names::name_of;
+use serde_json::Value;
+use std::alloc::{AllocError, Global};
+
+/// The members of an object that the content of its element determines.
+#[derive(Drop)]
+pub(crate) struct Members {
+    pub value: Value,
+    /// How many bits a BIT STRING has.
+    pub bits: Option<usize>,
+    /// A time as RFC 3339 writes it.
+    pub time: Option<String>,
+    /// The name of an OBJECT IDENTIFIER.
+    pub name: Option<&'static str>,
+    /// What is said of a value that breaks its type.
+    pub fault: Option<String>,
+}
+
+/// The members of an element's object.
+pub(crate) fn members_of(alloc: Global, element: &Element<'_>) -> Result<Members, AllocError>
+    ensures { IfOk result (AreMembersOf (visited_of element.now) (content_of element.now)) }
+{
+    let value = value_of(alloc, element)?;
+    let time = time_in(alloc, element)?;
+    let fault = fault_in(alloc, element)?;
+    Ok(Members {
+        value,
+        bits: bits_in(element),
+        time,
+        name: name_in(element),
+        fault,
+    })
+}
+
+/// How many bits a BIT STRING has.
+fn bits_in(element: &Element<'_>) -> Option<usize>
+    ensures { AreBitsOf (visited_of element.now) (content_of element.now) result }
+{
+    if element.constructed || element.holds.is_some() || !element.is_universal(3) {
+        return None;
+    }
+    bit_count(octets_or_none(element.content))
+}
+
+/// How many bits there are, by the content octets of a BIT STRING (X.690 8.6.2).
+fn bit_count(content: &[u8]) -> Option<usize>
+    ensures some { IfSome result (IsBitCount content.now) }
+    ensures only { (n : ℕ) → IsBitCount content.now n → n < 2 ^ 60 → result ≡ Some n }
+{
+    let [unused, octets @ ..] = content else {
+        return None;
+    };
+    if *unused > 7 {
+        return None;
+    }
+    octets
+        .len()
+        .checked_mul(8)?
+        .checked_sub(usize::from(*unused))
+}
+
+/// A time as RFC 3339 writes it. None for another type, and where it can't.
+fn time_in(alloc: Global, element: &Element<'_>) -> Result<Option<String>, AllocError>
+    ensures { IfOk result (λ time. IsTimestampOf (visited_of element.now) (content_of element.now)
+        (option_map string_bytes time)) }
+{
+    if element.constructed || element.class != Class::Universal {
+        return Ok(None);
+    }
+    timestamp(alloc, element.number, octets_or_none(element.content))
+}
+
+/// The time of a universal type as RFC 3339 writes it.
+fn timestamp(alloc: Global, number: u32, octets: &[u8]) -> Result<Option<String>, AllocError>
+    ensures { IfOk result (λ time. IsTimestamp number octets.now (option_map string_bytes time)) }
+{
+    if number != Tag::UtcTime.0 && number != Tag::GeneralizedTime.0 {
+        return Ok(None);
+    }
+    let Some(time) = read_time(Tag(number), octets) else {
+        return Ok(None);
+    };
+    match timestamp_of(time, number == Tag::UtcTime.0) {
+        Some(timestamp) => Ok(Some(format!(in alloc; "{timestamp}")?)),
+        None => Ok(None),
+    }
+}
+
+/// The name of an object identifier.
+fn name_in(element: &Element<'_>) -> Option<&'static str>
+    ensures { IfSome result (λ name. (element.now.class ≡ Class.Universal) × (element.now.number ≡ 6)
+        × IsNameOf (content_of element.now) name.now) }
+{
+    if element.constructed || !element.is_universal(6) {
+        return None;
+    }
+    name_of(octets_or_none(element.content))
+}
+
+/// What is said of a value that breaks its type.
+fn fault_in(alloc: Global, element: &Element<'_>) -> Result<Option<String>, AllocError>
+    ensures { IfOk result (λ fault.
+        IsRemark (visited_of element.now) (content_of element.now) (option_map string_bytes fault)) }
+{
+    match Remark::on(element) {
+        Some(remark) => Ok(Some(format!(in alloc; "{remark}")?)),
+        None => Ok(None),
+    }
+}

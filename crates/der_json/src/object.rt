@@ -1,0 +1,161 @@
+//! An element as an object of JSON.
+ghost use Rattle.std.specs.Prelude.{◌≡◌, IfOk, OnOk, option_map, string_bytes};
+ghost use Rattle.hex.specs.Hex.{encode_lower};
+ghost use Rattle.der_json.specs.Json.{AddsJson, IsFrom, IsJson, IsObjectOf, class_word};
+ghost use Rattle.der_print.specs.Texts.{content_of};
+ghost use Rattle.der_walk.specs.TypeNames.{type_text};
+ghost use Rattle.der_walk.specs.Walked.{visited_of};
+
+use crate::members::{Members, members_of};
+use der_base::header::Class;
+use der_print::{Hex, Limit};
+use der_walk::Element;
+use serde::Serialize;
+use serde_json::Value;
+use std::alloc::{AllocError, Global};
+use std::io;
+use std::io::{ErrorKind, Write};
+
+/// Where an element is from, and what of it is asked for.
+#[derive(Clone, Copy)]
+pub struct Source<'a> {
+    /// The name of the file, if there are several.
+    pub file: Option<&'a str>,
+    /// The number of the block, if the file has blocks.
+    pub block: Option<usize>,
+    /// The label of the block as it is printed.
+    pub label: Option<&'a str>,
+    /// The path to the element, as errors print it.
+    pub path: &'a str,
+    /// All octets of the element, if they are asked for.
+    pub octets: Option<&'a [u8]>,
+}
+
+/// An element as an object of JSON.
+#[derive(Drop, Serialize)]
+struct Object<'a> {
+    #[serde(skip_serializing_if = "Option::is_none")]
+    file: Option<&'a str>,
+    #[serde(skip_serializing_if = "Option::is_none")]
+    block: Option<usize>,
+    #[serde(skip_serializing_if = "Option::is_none")]
+    label: Option<&'a str>,
+    offset: usize,
+    depth: usize,
+    header: usize,
+    length: Option<usize>,
+    class: &'static str,
+    tag: u32,
+    constructed: bool,
+    #[serde(rename = "type")]
+    kind: String,
+    path: &'a str,
+    value: Value,
+    #[serde(skip_serializing_if = "Option::is_none")]
+    bits: Option<usize>,
+    #[serde(skip_serializing_if = "Option::is_none")]
+    time: Option<String>,
+    #[serde(skip_serializing_if = "Option::is_none")]
+    name: Option<&'static str>,
+    #[serde(skip_serializing_if = "Option::is_none")]
+    fault: Option<String>,
+    #[serde(skip_serializing_if = "Option::is_none")]
+    octets: Option<String>,
+}
+
+/// Writes an element as a line of JSON.
+pub fn write_json<W: Write>(
+    alloc: Global,
+    source: Source<'_>,
+    element: &Element<'_>,
+    out: &mut W,
+) -> io::Result<()>
+    ensures { OnOk result (AddsJson (W.contents out.old) (W.contents out.new)) }
+{
+    let object = object_of(alloc, source, element)?;
+    let text = json_of(alloc, object)?;
+    out.write_all(text.as_bytes())?;
+    out.write_all(b"\n")
+}
+
+/// The text of an object, which is one line.
+fn json_of(alloc: Global, object: Object<'_>) -> io::Result<String>
+    ensures { IfOk result (λ text. IsJson (string_bytes text)) }
+{
+    match serde_json::to_string(alloc, &object) {
+        Ok(text) => Ok(text),
+        Err(_) => Err(io::Error::from(ErrorKind::OutOfMemory)),
+    }
+}
+
+/// An element as an object.
+fn object_of<'a>(
+    alloc: Global,
+    source: Source<'a>,
+    element: &Element<'_>,
+) -> Result<Object<'a>, AllocError>
+    ensures element { IfOk result (IsObjectOf (visited_of element.now) (content_of element.now)) }
+    ensures source { IfOk result (IsFrom source.entry) }
+{
+    let kind = kind_of(alloc, element)?;
+    let octets = hex_of(alloc, source.octets)?;
+    let Members {
+        value,
+        bits,
+        time,
+        name,
+        fault,
+    } = members_of(alloc, element)?;
+    Ok(Object {
+        file: source.file,
+        block: source.block,
+        label: source.label,
+        offset: element.offset,
+        depth: element.depth,
+        header: element.header,
+        length: element.length,
+        class: class_name(element.class),
+        tag: element.number,
+        constructed: element.constructed,
+        kind,
+        path: source.path,
+        value,
+        bits,
+        time,
+        name,
+        fault,
+        octets,
+    })
+}
+
+/// The name of the type or tag of an element.
+fn kind_of(alloc: Global, element: &Element<'_>) -> Result<String, AllocError>
+    ensures { IfOk result (λ kind. string_bytes kind ≡ type_text element.now.class element.now.number) }
+{
+    format!(in alloc; "{}", element.name())
+}
+
+/// Octets in hexadecimal digits, if there are any.
+fn hex_of(alloc: Global, octets: Option<&[u8]>) -> Result<Option<String>, AllocError>
+    ensures { IfOk result (λ digits. option_map string_bytes digits ≡ option_map (λ w. encode_lower w.now) octets.entry) }
+{
+    match octets {
+        Some(octets) => {
+            let limit = Limit::Whole;
+            Ok(Some(format!(in alloc; "{}", Hex { octets, limit })?))
+        }
+        None => Ok(None),
+    }
+}
+
+/// The word of a class.
+fn class_name(class: Class) -> &'static str
+    ensures { result.now ≡ class_word class }
+{
+    match class {
+        Class::Universal => "universal",
+        Class::Application => "application",
+        Class::ContextSpecific => "context-specific",
+        Class::Private => "private",
+    }
+}
