@@ -11,11 +11,11 @@ for library in arrayvec itoa sha2; do
     set -- "$@" --extern "$library=$kit/rlibs/$library.rlib"
 done
 for library in der_base der_octets der_values der_contents der_cursor der_nodes der_check der_walk der_canon \
-    der_writer der_x509 der_extensions der_request crl_reader; do
+    der_writer der_x509 der_extensions der_request crl_reader pkcs8_reader der_input; do
     set -- "$@" --extern "$library=$root/crates/$library/out/rlib/$library.rlib"
 done
 for library in der_base der_laws der_octets der_values der_contents der_cursor der_nodes der_check der_walk der_canon \
-    der_writer der_x509 der_extensions der_request crl_reader; do
+    der_writer der_x509 der_extensions der_request crl_reader pkcs8_reader der_input; do
     if [ ! -e "$root/crates/$library/out/rlib/$library.rlib" ]; then
         echo "archive.sh: $library isn't built: run 'rt ci', or 'rt lib' in crates/$library" >&2
         exit 1

@@ -2,8 +2,8 @@
  * certificate_rows FILE..
  *
  * A row has octets, a result and a remark, with bars between them. The calls that return it are in brackets above it:
- * strict_certificate, certification_request, those of a value of an extension, and `certificate of` octets (or of those
- * of a request or a list), whose rows are changes of them. Rows of other calls are passed over. */
+ * strict_certificate, certification_request, those of a value of an extension, reasons, and `certificate of` octets (or
+ * of those of a request, a list or a key), whose rows are changes of them. Rows of other calls are passed over. */
 #include "dumarewhi.h"
 
 #include <stdio.h>
@@ -127,6 +127,11 @@ static void read_names(const uint8_t *value, size_t length) {
     }
 }
 
+/* How many items a list has. */
+static void add_count(unsigned count) {
+    sprintf(found, "%u values", count);
+}
+
 static void read_purposes(const uint8_t *value, size_t length) {
     dm_octets purposes, identifier;
     dm_fault fault;
@@ -136,7 +141,7 @@ static void read_purposes(const uint8_t *value, size_t length) {
         return;
     }
     while (dm_next_key_purpose(&purposes, &identifier)) count++;
-    sprintf(found, "%u values", count);
+    add_count(count);
 }
 
 static void read_subject_key(const uint8_t *value, size_t length) {
@@ -211,6 +216,121 @@ static void read_request(const uint8_t *input, size_t length) {
     add_octets("", request.signature.octets);
 }
 
+static void read_policies(const uint8_t *value, size_t length) {
+    dm_octets policies;
+    dm_policy policy;
+    dm_fault fault;
+    unsigned count = 0;
+    if (dm_read_certificate_policies(value, length, &policies, &fault) != DM_OK) {
+        add_fault(&fault);
+        return;
+    }
+    while (dm_next_policy(&policies, &policy)) count++;
+    add_count(count);
+}
+
+static void read_access(const uint8_t *value, size_t length) {
+    dm_octets descriptions;
+    dm_access_description description;
+    dm_fault fault;
+    unsigned count = 0;
+    if (dm_read_information_access(value, length, &descriptions, &fault) != DM_OK) {
+        add_fault(&fault);
+        return;
+    }
+    while (dm_next_access_description(&descriptions, &description)) count++;
+    add_count(count);
+}
+
+/* The points, with the numbers of the reasons of each. */
+static void read_points(const uint8_t *value, size_t length) {
+    dm_octets points;
+    dm_distribution_point point;
+    dm_fault fault;
+    char number[8];
+    if (dm_read_distribution_points(value, length, &points, &fault) != DM_OK) {
+        add_fault(&fault);
+        return;
+    }
+    while (dm_next_distribution_point(&points, &point)) {
+        add(found[0] == 0 ? "point" : " point");
+        if (point.reasons.is_present == 1) add(" reasons");
+        for (size_t i = 0; i < 8 * point.reasons.octets.length; i++) {
+            if ((point.reasons.octets.octets[i / 8] >> (7 - i % 8) & 1) == 0) continue;
+            sprintf(number, " %u", (unsigned)i);
+            add(number);
+        }
+    }
+}
+
+static void read_name_constraints(const uint8_t *value, size_t length) {
+    dm_name_constraints constraints;
+    dm_fault fault;
+    if (dm_read_name_constraints(value, length, &constraints, &fault) != DM_OK) {
+        add_fault(&fault);
+        return;
+    }
+    if (constraints.permitted.length > 0) add_octets("permitted", constraints.permitted);
+    if (constraints.excluded.length > 0) {
+        add_octets(found[0] == 0 ? "excluded" : " excluded", constraints.excluded);
+    }
+}
+
+static void add_reason(const uint8_t *value, size_t length) {
+    uint32_t reason = 99;
+    dm_fault fault;
+    char text[24];
+    if (found[0] != 0) add(" ");
+    if (dm_read_reason(value, length, &reason, &fault) != DM_OK) {
+        add("refused ");
+        add_fault(&fault);
+        return;
+    }
+    sprintf(text, "reason %u", (unsigned)reason);
+    add(text);
+}
+
+/* The serial numbers of a list, each with the first reason of its entry. */
+static void read_reasons(const uint8_t *input, size_t length) {
+    dm_certificate_list list;
+    dm_revoked entry;
+    dm_extension extension;
+    dm_fault fault;
+    if (dm_read_certificate_list(input, length, &list, &fault) != DM_OK || list.has_revoked == 0) {
+        add(fault.status == DM_OK ? "none" : "no list");
+        return;
+    }
+    while (dm_next_revoked(&list.revoked, &entry)) {
+        int has_reason = 0;
+        add_octets("", entry.serial_number);
+        while (!has_reason && dm_next_extension(&entry.extensions, &extension)) {
+            has_reason = extension.kind == DM_REASON_CODE;
+            if (has_reason) add_reason(extension.value.octets, extension.value.length);
+        }
+        if (!has_reason) add(" no reason");
+    }
+}
+
+static void read_key(const uint8_t *input, size_t length) {
+    dm_private_key key;
+    dm_fault fault;
+    if (dm_read_private_key(input, length, &key, &fault) != DM_OK) {
+        add_fault(&fault);
+        return;
+    }
+    add("read");
+}
+
+static void read_rsa_key(const uint8_t *input, size_t length) {
+    dm_rsa_private_key key;
+    dm_fault fault;
+    if (dm_read_rsa_private_key(input, length, &key, &fault) != DM_OK) {
+        add_fault(&fault);
+        return;
+    }
+    add("read");
+}
+
 static void read_list(const uint8_t *input, size_t length) {
     dm_certificate_list list;
     dm_fault fault;
@@ -235,6 +355,22 @@ static const struct {
     {"extended_key_usage", read_purposes},
     {"subject_key_identifier", read_subject_key},
     {"authority_key_identifier", read_authority_key},
+    {"certificate_policies", read_policies},
+    {"information_access", read_access},
+    {"crl_distribution_points", read_points},
+    {"name_constraints", read_name_constraints},
+    {"reason_code", add_reason},
+    {"reasons", read_reasons},
+};
+
+/* Those whose rows are changes of the octets above. */
+static const struct {
+    const char *name;
+    reader *read;
+} readers_of_changes[] = {
+    {"certificate of ", read_certificate},    {"certification_request of ", read_request},
+    {"certificate_list of ", read_list},      {"reasons of ", read_reasons},
+    {"private_key of ", read_key},            {"rsa_private_key of ", read_rsa_key},
 };
 
 /* The text without spaces around it. */
@@ -285,9 +421,10 @@ static void try_row(const char *input, const char *wanted) {
     static char copy[sizeof calls];
     const char *base = strstr(calls, " of ");
     if (base != NULL) {
-        if (begins(calls, "certificate of ")) try_change(read_certificate, base + 4, input, wanted);
-        if (begins(calls, "certification_request of ")) try_change(read_request, base + 4, input, wanted);
-        if (begins(calls, "certificate_list of ")) try_change(read_list, base + 4, input, wanted);
+        for (size_t i = 0; i < sizeof readers_of_changes / sizeof *readers_of_changes; i++) {
+            if (!begins(calls, readers_of_changes[i].name)) continue;
+            try_change(readers_of_changes[i].read, base + 4, input, wanted);
+        }
         return;
     }
     strcpy(copy, calls);

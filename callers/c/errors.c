@@ -6,8 +6,8 @@
 
 static int passed, failed;
 
-/* The texts are those of the errors of der_base, without the values that an error keeps, and of der_walk and
- * der_contents. */
+/* The texts are those of the errors of der_base, without the values that an error keeps, of der_walk, der_contents and
+ * der_input. */
 static const struct {
     enum dm_error error;
     const char *text;
@@ -97,6 +97,12 @@ static const struct {
     {DM_ERROR_EXTENSION_REPEATED, "an extension is repeated"},
     {DM_ERROR_SUBJECT_WITHOUT_NAME, "the subject has no name"},
     {DM_ERROR_VALUE_NOT_DER, "a value of any type is not DER"},
+    {DM_ERROR_PEM_NO_BLOCK, "no line -----BEGIN ..-----"},
+    {DM_ERROR_PEM_NO_END, "a block without its line -----END ..-----"},
+    {DM_ERROR_PEM_LABELS_DIFFER, "a block whose first and last line have other labels"},
+    {DM_ERROR_PEM_ENCRYPTED, "the block is encrypted"},
+    {DM_ERROR_PEM_BASE64, "invalid base64"},
+    {DM_ERROR_PEM_NO_ROOM, "a buffer is too small for the block"},
 };
 
 static void expect_text(uint32_t error, const char *text) {
@@ -118,8 +124,32 @@ static int has_name(uint32_t error) {
     return 0;
 }
 
+/* The text of a fault behind a name, in buffers of each capacity. */
+static void expect_named(void) {
+    static const uint8_t input[] = {0x30, 0x03, 0x02, 0x01, 0xff};
+    static const char wanted[] = "request.serial at 2: integer negative", name[] = "request.serial";
+    uint8_t found[sizeof wanted];
+    dm_cursor whole = dm_cursor_over(input, sizeof input, DM_DER), fields;
+    uint64_t number;
+    dm_fault fault;
+    int is_refused = dm_next_sequence(&whole, &fields, &fault) == DM_OK
+                     && dm_next_u64(&fields, &number, &fault) == DM_ERROR;
+    if (!is_refused) failed++;
+    for (size_t room = 0; room < sizeof wanted; room++) {
+        memset(found, 0, sizeof found);
+        size_t size = dm_named_fault_text(&fault, (const uint8_t *)name, strlen(name), found, room);
+        if (size == strlen(wanted) && memcmp(found, wanted, room) == 0 && found[room] == 0) {
+            passed++;
+        } else {
+            failed++;
+            printf("errors: in %zu octets %.*s\n", room, (int)room, (const char *)found);
+        }
+    }
+}
+
 /* Each name has its text, and each number with a text has a name. */
 int main(void) {
+    expect_named();
     for (size_t i = 0; i < sizeof names / sizeof *names; i++) expect_text(names[i].error, names[i].text);
     expect_text(0, "no error");
     for (uint32_t error = 1; error < 1000; error++) {

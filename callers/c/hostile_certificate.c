@@ -1,4 +1,5 @@
-/* Damaged certificates, lists of revoked ones and requests, for the sanitizers:  hostile_certificate FILE INPUTS
+/* Damaged certificates, lists of revoked ones, requests, private keys and texts in PEM, for the sanitizers:
+ * hostile_certificate FILE INPUTS
  *
  * Each input is a part of the file with octets changed, removed or cut, in a block of memory of its own size. Whatever
  * is read has to lie in the input, and lists have to end. */
@@ -18,7 +19,7 @@ static size_t below(size_t bound) {
     return bound == 0 ? 0 : (size_t)(state % bound);
 }
 
-static unsigned long failed, statuses[3], rules, others, extensions, values[3], names, attributes;
+static unsigned long failed, statuses[3], rules, others, extensions, values[3], items, keys, blocks, names, attributes;
 static const uint8_t *begin, *end;
 
 static void expect(int is_so, const char *what) {
@@ -93,9 +94,91 @@ static void test_fault(const dm_fault *fault, size_t length, int has_fields) {
     expect(size > 0 && size <= sizeof text, "the text of a fault");
 }
 
+static void test_general_name(const dm_general_name *name) {
+    test_part(name->octets, "a name outside");
+    test_part(name->identifier, "a name's type outside");
+    expect(name->kind <= DM_REGISTERED_ID && name->reserved == 0, "a name");
+}
+
+static void test_any(const dm_any *any) {
+    test_part(any->content, "an element outside");
+    expect(any->tag_class <= 3 && any->constructed <= 1 && any->reserved == 0, "an element");
+}
+
+static void test_policies(dm_octets list) {
+    dm_policy policy;
+    dm_policy_qualifier qualifier;
+    for (; dm_next_policy(&list, &policy); items++) {
+        test_part(policy.identifier, "a policy outside");
+        test_part(policy.qualifiers, "qualifiers outside");
+        while (dm_next_policy_qualifier(&policy.qualifiers, &qualifier)) {
+            test_part(qualifier.identifier, "a qualifier outside");
+            test_any(&qualifier.value);
+        }
+        expect(policy.qualifiers.length == 0, "qualifiers are left");
+    }
+    expect(list.length == 0, "policies are left");
+}
+
+static void test_points(dm_octets list) {
+    dm_distribution_point point;
+    dm_general_name name;
+    dm_attribute attribute;
+    for (; dm_next_distribution_point(&list, &point); items++) {
+        test_part(point.full_name, "a point's name outside");
+        test_part(point.relative_name, "its relative name outside");
+        test_part(point.crl_issuer, "its issuer outside");
+        test_bits(&point.reasons, 0);
+        expect(point.full_name.length == 0 || point.relative_name.length == 0, "two names of a point");
+        while (dm_next_general_name(&point.full_name, &name)) test_general_name(&name);
+        while (dm_next_attribute(&point.relative_name, &attribute)) test_part(attribute.value, "its value outside");
+        while (dm_next_general_name(&point.crl_issuer, &name)) test_general_name(&name);
+        expect(point.full_name.length == 0 && point.relative_name.length == 0 && point.crl_issuer.length == 0,
+               "names of a point are left");
+    }
+    expect(list.length == 0, "points are left");
+}
+
+static void test_subtrees(dm_octets list) {
+    dm_subtree subtree;
+    for (; dm_next_subtree(&list, &subtree); items++) {
+        test_general_name(&subtree.base);
+        expect(subtree.has_maximum == 1 || (subtree.has_maximum == 0 && subtree.maximum == 0), "a maximum");
+        expect(subtree.reserved == 0, "a subtree");
+    }
+    expect(list.length == 0, "subtrees are left");
+}
+
+static void test_access(dm_octets list) {
+    dm_access_description description;
+    for (; dm_next_access_description(&list, &description); items++) {
+        test_part(description.method, "a method outside");
+        test_general_name(&description.location);
+    }
+    expect(list.length == 0, "descriptions are left");
+}
+
+/* Reads octets as the value of each kind of extension that is a list, and as a reason. */
+static void test_list_value(dm_octets value, dm_fault *fault) {
+    dm_octets list;
+    dm_name_constraints constraints;
+    uint32_t reason = 99;
+    const uint8_t *octets = value.octets;
+    size_t length = value.length;
+    if (dm_read_certificate_policies(octets, length, &list, &fault[0]) == DM_OK) test_policies(list);
+    if (dm_read_distribution_points(octets, length, &list, &fault[1]) == DM_OK) test_points(list);
+    if (dm_read_information_access(octets, length, &list, &fault[2]) == DM_OK) test_access(list);
+    if (dm_read_name_constraints(octets, length, &constraints, &fault[3]) == DM_OK) {
+        test_subtrees(constraints.permitted);
+        test_subtrees(constraints.excluded);
+    }
+    uint32_t status = dm_read_reason(octets, length, &reason, &fault[4]);
+    expect(status == DM_OK ? reason <= DM_REASON_AA_COMPROMISE && reason != 7 : reason == 99, "a reason");
+}
+
 /* Reads octets as the value of each kind of extension. */
 static void test_value(dm_octets value) {
-    dm_fault fault[6];
+    dm_fault fault[11];
     dm_basic_constraints constraints;
     dm_authority_key_identifier authority;
     dm_octets list, identifier, part;
@@ -110,9 +193,7 @@ static void test_value(dm_octets value) {
     if (dm_read_general_names(octets, length, &list, &fault[2]) == DM_OK) {
         while (dm_next_general_name(&list, &name)) {
             names++;
-            test_part(name.octets, "a name outside");
-            test_part(name.identifier, "a name's type outside");
-            expect(name.kind <= DM_REGISTERED_ID && name.reserved == 0, "a name");
+            test_general_name(&name);
         }
         expect(list.length == 0, "names are left");
     }
@@ -128,7 +209,8 @@ static void test_value(dm_octets value) {
         test_part(authority.issuer, "an issuer outside");
         test_part(authority.serial_number, "a serial number outside");
     }
-    for (size_t i = 0; i < 6; i++) {
+    test_list_value(value, &fault[6]);
+    for (size_t i = 0; i < sizeof fault / sizeof *fault; i++) {
         test_fault(&fault[i], length, 0);
         values[fault[i].status]++;
     }
@@ -172,6 +254,11 @@ static void test_lists(dm_octets octets) {
     dm_general_name name;
     dm_revoked entry;
     dm_request_attribute asked;
+    dm_policy policy;
+    dm_policy_qualifier qualifier;
+    dm_distribution_point point;
+    dm_subtree subtree;
+    dm_access_description access;
     while (dm_next_relative_name(&list, &item)) test_part(item, "an item outside");
     for (list = octets; dm_next_attribute(&list, &attribute);) test_part(attribute.value, "an item outside");
     for (list = octets; dm_next_extension(&list, &extension);) test_part(extension.value, "an item outside");
@@ -179,6 +266,11 @@ static void test_lists(dm_octets octets) {
     for (list = octets; dm_next_key_purpose(&list, &item);) test_part(item, "an item outside");
     for (list = octets; dm_next_revoked(&list, &entry);) test_part(entry.serial_number, "an item outside");
     for (list = octets; dm_next_request_attribute(&list, &asked);) test_part(asked.values, "an item outside");
+    for (list = octets; dm_next_policy(&list, &policy);) test_part(policy.qualifiers, "an item outside");
+    for (list = octets; dm_next_policy_qualifier(&list, &qualifier);) test_any(&qualifier.value);
+    for (list = octets; dm_next_distribution_point(&list, &point);) test_part(point.full_name, "an item outside");
+    for (list = octets; dm_next_subtree(&list, &subtree);) test_general_name(&subtree.base);
+    for (list = octets; dm_next_access_description(&list, &access);) test_general_name(&access.location);
     test_text(octets);
     test_value(octets);
 }
@@ -224,6 +316,71 @@ static void test_others(const uint8_t *input, size_t length) {
     }
 }
 
+/* Reads octets as a private key, and as one of RSA. */
+static void test_keys(dm_octets octets) {
+    dm_private_key key;
+    dm_rsa_private_key rsa;
+    dm_fault fault;
+    if (dm_read_private_key(octets.octets, octets.length, &key, &fault) == DM_OK) {
+        keys++;
+        test_part(key.algorithm, "an algorithm outside");
+        test_any(&key.parameters);
+        test_part(key.private_key, "a private key outside");
+        test_part(key.attributes, "attributes outside");
+        test_bits(&key.public_key, 0);
+        expect(key.version == key.public_key.is_present && key.reserved == 0, "the version of a key");
+        expect(key.has_attributes <= 1 && (key.has_attributes == 1 || key.attributes.length == 0), "attributes");
+        expect(key.has_parameters <= 1 && (key.has_parameters == 1 || key.parameters.number == 0), "parameters");
+        test_keys(key.private_key);
+    }
+    test_fault(&fault, octets.length, 1);
+    if (dm_read_rsa_private_key(octets.octets, octets.length, &rsa, &fault) == DM_OK) {
+        keys++;
+        const dm_octets numbers[] = {rsa.modulus, rsa.public_exponent, rsa.private_exponent, rsa.prime1,
+                                     rsa.prime2,  rsa.exponent1,       rsa.exponent2,        rsa.coefficient};
+        for (size_t i = 0; i < sizeof numbers / sizeof *numbers; i++) {
+            test_part(numbers[i], "a number outside");
+            expect(numbers[i].length > 0, "a number of no octets");
+        }
+        test_part(rsa.other_primes, "primes outside");
+        expect(rsa.version == rsa.has_other_primes && rsa.version <= 1, "the version of a key of RSA");
+    }
+    test_fault(&fault, octets.length, 1);
+}
+
+/* Takes the blocks of a text, in buffers that suffice and in others. */
+static void test_text_of_blocks(dm_octets text) {
+    size_t room = text.length, offset = text.length, small = below(room + 1);
+    uint8_t *characters = malloc(room + (room == 0)), *octets = malloc(room + (room == 0));
+    if (characters == NULL || octets == NULL) exit(2);
+    dm_pem block = {{NULL, 0}, 99};
+    uint32_t error = 0, is_found = dm_find_pem(text.octets, text.length, &offset);
+    expect(is_found <= 1 && (is_found == 1 ? offset + 11 <= text.length : offset == text.length), "where PEM begins");
+    while (error == 0 || error >= DM_ERROR_PEM_ENCRYPTED) {
+        dm_octets before = text, other = text;
+        dm_pem by_less = block;
+        error = dm_next_pem(&text, characters, room, octets, room, &block);
+        expect(error != DM_ERROR_PEM_NO_ROOM, "room for a block");
+        uint32_t less = dm_next_pem(&other, characters, small, octets, small, &by_less);
+        expect(less == error || (less == DM_ERROR_PEM_NO_ROOM && error != DM_ERROR_PEM_ENCRYPTED), "in less room");
+        expect(other.octets == text.octets && other.length == text.length, "the text after a block");
+        if (error == 0 || error >= DM_ERROR_PEM_ENCRYPTED) {
+            blocks++;
+            test_part(text, "the text after a block outside");
+            test_part(block.label, "a label outside");
+            expect(text.length < before.length && block.length <= room, "a block");
+            expect(error == 0 || block.length == 0, "octets of a block that isn't decoded");
+        } else {
+            expect(text.octets == before.octets && text.length == before.length, "a text without a block");
+            is_found = dm_find_pem(text.octets, text.length, &offset);
+            expect((error == DM_ERROR_PEM_NO_BLOCK) == (is_found == 0), "no block");
+        }
+    }
+    expect(error >= DM_ERROR_PEM_NO_BLOCK && error <= DM_ERROR_PEM_LABELS_DIFFER, "the last error of a text");
+    free(characters);
+    free(octets);
+}
+
 static void test_input(const uint8_t *input, size_t length) {
     dm_certificate certificate, strict, before;
     dm_fault fault, strict_fault;
@@ -253,6 +410,8 @@ static void test_input(const uint8_t *input, size_t length) {
     }
     test_others(input, length);
     dm_octets part = {input, length};
+    test_keys(part);
+    test_text_of_blocks(part);
     part.octets += below(length + 1);
     part.length = below((size_t)(end - part.octets) + 1);
     test_lists(part);
@@ -281,7 +440,8 @@ int main(int count, char **words) {
     for (unsigned long i = strtoul(words[2], NULL, 10); i > 0; i--) damage(octets, length);
     printf("hostile_certificate: %lu read, %lu errors, %lu cut short, %lu break a rule, %lu of other types; ",
            statuses[0], statuses[1], statuses[2], rules, others);
-    printf("%lu attributes, %lu extensions, %lu values, %lu errors of values, %lu names; %lu failed\n", attributes,
-           extensions, values[0], values[1] + values[2], names, failed);
+    printf("%lu attributes, %lu extensions, %lu values, %lu errors of values, %lu names, %lu items; ", attributes,
+           extensions, values[0], values[1] + values[2], names, items);
+    printf("%lu keys, %lu blocks; %lu failed\n", keys, blocks, failed);
     return failed != 0;
 }

@@ -248,12 +248,177 @@ static void test_certificates(void) {
     expect(sizeof(dm_authority_key_identifier) == 64, "and of an authority key identifier");
 }
 
+/* A policy with a qualifier: a value of the class private. */
+static void test_policies(void) {
+    static const uint8_t input[] = {0x30, 0x13, 0x30, 0x11, 0x06, 0x02, 0x2a, 0x03, 0x30, 0x0b, 0x30,
+                                    0x09, 0x06, 0x03, 0x2a, 0x04, 0x05, 0xf7, 0x02, 0x05, 0x00};
+    dm_octets policies;
+    dm_fault fault;
+    struct {
+        dm_policy policy;
+        uint8_t after[16];
+    } policy;
+    struct {
+        dm_policy_qualifier qualifier;
+        uint8_t after[16];
+    } qualifier;
+    memset(&policy, 0xaa, sizeof policy);
+    memset(&qualifier, 0xaa, sizeof qualifier);
+    expect(dm_read_certificate_policies(input, sizeof input, &policies, &fault) == DM_OK, "policies");
+    expect(is_at(policies, input, 2, 19), "their octets");
+    expect(dm_next_policy(&policies, &policy.policy) == 1 && policies.length == 0, "a policy");
+    dm_octets list = policy.policy.qualifiers;
+    expect(is_at(policy.policy.identifier, input, 6, 2) && is_at(list, input, 10, 11), "its fields");
+    dm_policy_qualifier *q = &qualifier.qualifier;
+    expect(dm_next_policy_qualifier(&list, q) == 1 && list.length == 0, "a qualifier");
+    expect(is_at(q->identifier, input, 14, 3) && is_at(q->value.content, input, 19, 2), "its identifier and value");
+    expect(q->value.number == 23 && q->value.tag_class == DM_PRIVATE && q->value.constructed == 1, "the value's tag");
+    expect(q->value.reserved == 0, "its last field");
+    expect(is_untouched(policy.after, 0, 16) && is_untouched(qualifier.after, 0, 16), "nothing after is written");
+    expect(sizeof(dm_policy) == 32 && sizeof(dm_policy_qualifier) == 40, "sizes of policies and qualifiers");
+}
+
+/* A point with a full name, reasons and an issuer, and one with a relative name. */
+static void test_points(void) {
+    static const uint8_t input[] = {0x30, 0x26, 0x30, 0x14, 0xa0, 0x07, 0xa0, 0x05, 0x86, 0x03, 0x75, 0x3a, 0x61, 0x81,
+                                    0x02, 0x05, 0x60, 0xa2, 0x05, 0x82, 0x03, 0x65, 0x2e, 0x6f, 0x30, 0x0e, 0xa0, 0x0c,
+                                    0xa1, 0x0a, 0x30, 0x08, 0x06, 0x03, 0x55, 0x04, 0x03, 0x0c, 0x01, 0x61};
+    dm_octets points;
+    dm_fault fault;
+    struct {
+        dm_distribution_point point;
+        uint8_t after[16];
+    } memory;
+    memset(&memory, 0xaa, sizeof memory);
+    dm_distribution_point *p = &memory.point;
+    expect(dm_read_distribution_points(input, sizeof input, &points, &fault) == DM_OK, "points");
+    expect(is_at(points, input, 2, 38), "their octets");
+    expect(dm_next_distribution_point(&points, p) == 1 && is_at(points, input, 24, 16), "a point");
+    expect(is_at(p->full_name, input, 8, 5) && p->relative_name.length == 0, "its name");
+    expect(has_bits(p->reasons, input, 16, 1, 5) && is_at(p->crl_issuer, input, 19, 5), "its reasons and issuer");
+    expect(dm_next_distribution_point(&points, p) == 1 && points.length == 0, "the other");
+    expect(p->full_name.length == 0 && is_at(p->relative_name, input, 30, 10), "its relative name");
+    expect(p->reasons.is_present == 0 && p->reasons.octets.length == 0 && p->crl_issuer.length == 0, "and no more");
+    expect(is_untouched(memory.after, 0, 16) && sizeof(dm_distribution_point) == 72, "the size of a point");
+}
+
+/* A subtree with both distances, and one of addresses. */
+static void test_name_constraints(void) {
+    static const uint8_t input[] = {0x30, 0x1f, 0xa0, 0x0f, 0x30, 0x0d, 0x82, 0x05, 0x65, 0x2e, 0x6f,
+                                    0x72, 0x67, 0x80, 0x01, 0x03, 0x81, 0x01, 0x09, 0xa1, 0x0c, 0x30,
+                                    0x0a, 0x87, 0x08, 0xc0, 0x00, 0x02, 0x00, 0xff, 0xff, 0xff, 0x00};
+    dm_fault fault;
+    struct {
+        dm_name_constraints constraints;
+        uint8_t after[16];
+    } memory;
+    struct {
+        dm_subtree subtree;
+        uint8_t after[16];
+    } subtree;
+    memset(&memory, 0xaa, sizeof memory);
+    memset(&subtree, 0xaa, sizeof subtree);
+    dm_name_constraints *c = &memory.constraints;
+    dm_subtree *s = &subtree.subtree;
+    expect(dm_read_name_constraints(input, sizeof input, c, &fault) == DM_OK, "name constraints");
+    expect(is_at(c->permitted, input, 4, 15) && is_at(c->excluded, input, 21, 12), "their subtrees");
+    expect(dm_next_subtree(&c->permitted, s) == 1 && c->permitted.length == 0, "a subtree");
+    expect(s->base.kind == DM_DNS_NAME && is_at(s->base.octets, input, 8, 5), "its name");
+    expect(s->minimum == 3 && s->maximum == 9 && s->has_maximum == 1 && s->reserved == 0, "its distances");
+    expect(dm_next_subtree(&c->excluded, s) == 1 && s->base.kind == DM_IP_ADDRESS, "the other");
+    expect(s->minimum == 0 && s->maximum == 0 && s->has_maximum == 0 && s->base.octets.length == 8, "its fields");
+    expect(is_untouched(memory.after, 0, 16) && is_untouched(subtree.after, 0, 16), "nothing after is written");
+    expect(sizeof(dm_name_constraints) == 32 && sizeof(dm_subtree) == 56, "sizes of constraints and subtrees");
+}
+
+static void test_access(void) {
+    static const uint8_t input[] = {0x30, 0x0c, 0x30, 0x0a, 0x06, 0x03, 0x2a,
+                                    0x03, 0x04, 0x86, 0x03, 0x75, 0x3a, 0x61};
+    static const uint8_t code[] = {0x0a, 0x01, 0x0a};
+    dm_octets descriptions;
+    dm_fault fault;
+    struct {
+        dm_access_description description;
+        uint8_t after[16];
+    } memory;
+    struct {
+        uint32_t reason;
+        uint8_t after[16];
+    } reason;
+    memset(&memory, 0xaa, sizeof memory);
+    memset(&reason, 0xaa, sizeof reason);
+    dm_access_description *d = &memory.description;
+    expect(dm_read_information_access(input, sizeof input, &descriptions, &fault) == DM_OK, "descriptions");
+    expect(dm_next_access_description(&descriptions, d) == 1 && descriptions.length == 0, "a description");
+    expect(is_at(d->method, input, 6, 3) && is_at(d->location.octets, input, 11, 3), "its method and location");
+    expect(d->location.kind == DM_URI && d->location.identifier.length == 0 && d->location.reserved == 0, "its kind");
+    expect(is_untouched(memory.after, 0, 16) && sizeof(dm_access_description) == 56, "the size of a description");
+    expect(dm_read_reason(code, sizeof code, &reason.reason, &fault) == DM_OK
+               && reason.reason == DM_REASON_AA_COMPROMISE && is_untouched(reason.after, 0, 16),
+           "a reason");
+}
+
+static void test_keys(void) {
+    /* RFC 5958 2, with parameters, attributes and a public key; RFC 8017 A.1.2, with further primes */
+    static const uint8_t input[] = {0x30, 0x25, 0x02, 0x01, 0x01, 0x30, 0x05, 0x06, 0x01, 0x2a, 0x05, 0x00, 0x04,
+                                    0x04, 0x02, 0x02, 0x01, 0x02, 0xa0, 0x0b, 0x30, 0x09, 0x06, 0x01, 0x2a, 0x31,
+                                    0x04, 0x0c, 0x02, 0x61, 0x62, 0x81, 0x06, 0x00, 0x01, 0x02, 0x03, 0x04, 0x05};
+    static const uint8_t rsa_input[] = {
+        0x30, 0x3b, 0x02, 0x01, 0x01, 0x02, 0x01, 0x10, 0x02, 0x02, 0x11, 0x11, 0x02, 0x03, 0x12, 0x12,
+        0x12, 0x02, 0x04, 0x13, 0x13, 0x13, 0x13, 0x02, 0x05, 0x14, 0x14, 0x14, 0x14, 0x14, 0x02, 0x06,
+        0x15, 0x15, 0x15, 0x15, 0x15, 0x15, 0x02, 0x07, 0x16, 0x16, 0x16, 0x16, 0x16, 0x16, 0x16, 0x02,
+        0x08, 0x17, 0x17, 0x17, 0x17, 0x17, 0x17, 0x17, 0x17, 0x30, 0x02, 0x05, 0x00};
+    static const uint8_t plain[] = {0x30, 0x0a, 0x02, 0x01, 0x00, 0x30, 0x03, 0x06, 0x01, 0x2a, 0x04, 0x00};
+    struct {
+        dm_private_key key;
+        uint8_t after[16];
+    } memory;
+    struct {
+        dm_rsa_private_key key;
+        uint8_t after[16];
+    } rsa;
+    dm_fault fault;
+    memset(&memory, 0xaa, sizeof memory);
+    memset(&rsa, 0xaa, sizeof rsa);
+    dm_private_key *k = &memory.key;
+    dm_rsa_private_key *r = &rsa.key;
+    expect(dm_read_private_key(input, sizeof input, k, &fault) == DM_OK, "a private key");
+    expect(is_at(k->algorithm, input, 9, 1) && is_at(k->private_key, input, 14, 4), "its algorithm and octets");
+    expect(k->has_parameters == 1 && k->parameters.number == DM_NULL && is_at(k->parameters.content, input, 12, 0),
+           "its parameters");
+    expect(k->parameters.tag_class == DM_UNIVERSAL && k->parameters.constructed == 0 && k->parameters.reserved == 0,
+           "their tag");
+    expect(k->has_attributes == 1 && is_at(k->attributes, input, 20, 11), "its attributes");
+    expect(has_bits(k->public_key, input, 34, 5, 0) && k->version == 1 && k->reserved == 0, "its public key");
+    expect(dm_read_private_key(plain, sizeof plain, k, &fault) == DM_OK && k->version == 0, "one without parts");
+    expect(k->has_parameters == 0 && k->parameters.content.length == 0 && k->parameters.number == 0
+               && k->parameters.tag_class == 0 && k->parameters.constructed == 0,
+           "no parameters");
+    expect(k->has_attributes == 0 && k->attributes.length == 0 && k->public_key.is_present == 0, "and no more");
+    expect(dm_read_private_key(plain, sizeof plain - 1, k, &fault) == DM_INCOMPLETE && fault.field == DM_FIELD_KEY,
+           "one that is cut short");
+    expect(is_untouched(memory.after, 0, 16) && sizeof(dm_private_key) == 112, "the size of a key");
+
+    expect(dm_read_rsa_private_key(rsa_input, sizeof rsa_input, r, &fault) == DM_OK, "a key of RSA");
+    expect(is_at(r->modulus, rsa_input, 7, 1) && is_at(r->public_exponent, rsa_input, 10, 2), "modulus and exponent");
+    expect(is_at(r->private_exponent, rsa_input, 14, 3) && is_at(r->prime1, rsa_input, 19, 4), "the private one");
+    expect(is_at(r->prime2, rsa_input, 25, 5) && is_at(r->exponent1, rsa_input, 32, 6), "prime and exponent");
+    expect(is_at(r->exponent2, rsa_input, 40, 7) && is_at(r->coefficient, rsa_input, 49, 8), "and coefficient");
+    expect(r->has_other_primes == 1 && is_at(r->other_primes, rsa_input, 59, 2) && r->version == 1, "further primes");
+    expect(is_untouched(rsa.after, 0, 16) && sizeof(dm_rsa_private_key) == 152, "the size of a key of RSA");
+}
+
 int main(void) {
     test_elements();
     test_outcomes();
     test_times();
     test_writers();
     test_certificates();
+    test_policies();
+    test_points();
+    test_name_constraints();
+    test_access();
+    test_keys();
     printf("layout: %d passed, %d failed\n", passed, failed);
     return failed != 0;
 }

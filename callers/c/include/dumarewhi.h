@@ -207,7 +207,14 @@ enum dm_error {
     DM_ERROR_EXTENSIONS_BEFORE_VERSION_3 = 136, /* 4.1.2.9 */
     DM_ERROR_EXTENSION_REPEATED = 137, /* 4.2 */
     DM_ERROR_SUBJECT_WITHOUT_NAME = 138, /* 4.1.2.6, 4.2.1.6 */
-    DM_ERROR_VALUE_NOT_DER = 139 /* X.690 10 */
+    DM_ERROR_VALUE_NOT_DER = 139, /* X.690 10 */
+    /* of dm_next_pem (RFC 7468 2, 3) */
+    DM_ERROR_PEM_NO_BLOCK = 192, /* no line that begins a block follows */
+    DM_ERROR_PEM_NO_END = 193, /* no line ends the block, or another one begins before */
+    DM_ERROR_PEM_LABELS_DIFFER = 194,
+    DM_ERROR_PEM_ENCRYPTED = 195, /* RFC 1421 4.6.1.1 */
+    DM_ERROR_PEM_BASE64 = 196, /* RFC 4648 4 */
+    DM_ERROR_PEM_NO_ROOM = 197
 };
 
 /* Writes the text of an error, without a 0 after it: its first `room` octets, if it is longer. Returns the length
@@ -306,6 +313,12 @@ static inline const char *dm_error_string(uint32_t error) {
     case DM_ERROR_EXTENSION_REPEATED: return "an extension is repeated";
     case DM_ERROR_SUBJECT_WITHOUT_NAME: return "the subject has no name";
     case DM_ERROR_VALUE_NOT_DER: return "a value of any type is not DER";
+    case DM_ERROR_PEM_NO_BLOCK: return "no line -----BEGIN ..-----";
+    case DM_ERROR_PEM_NO_END: return "a block without its line -----END ..-----";
+    case DM_ERROR_PEM_LABELS_DIFFER: return "a block whose first and last line have other labels";
+    case DM_ERROR_PEM_ENCRYPTED: return "the block is encrypted";
+    case DM_ERROR_PEM_BASE64: return "invalid base64";
+    case DM_ERROR_PEM_NO_ROOM: return "a buffer is too small for the block";
     default: return "unknown error";
     }
 }
@@ -471,7 +484,8 @@ typedef struct dm_fault {
     uint32_t is_in_list; /* 1 if the element is in another, 0 if it is outermost */
 } dm_fault;
 
-/* The fields of certificates (RFC 5280 4.1), lists of revoked certificates (5.1) and requests (RFC 2986 4). */
+/* The fields of certificates (RFC 5280 4.1), lists of revoked certificates (5.1), requests (RFC 2986 4), private keys
+ * (RFC 5958 2) and those of RSA (RFC 8017 A.1.2). */
 enum dm_field {
     DM_FIELD_NONE = 0, /* of a call that reads one value */
     DM_FIELD_CERTIFICATE = 1, /* the outermost SEQUENCE, octets after it, or a rule of dm_read_strict_certificate */
@@ -506,13 +520,35 @@ enum dm_field {
     DM_FIELD_REQUEST_KEY = 68,
     DM_FIELD_REQUEST_ATTRIBUTES = 69,
     DM_FIELD_REQUEST_SIGNATURE_ALGORITHM = 70,
-    DM_FIELD_REQUEST_SIGNATURE = 71
+    DM_FIELD_REQUEST_SIGNATURE = 71,
+    DM_FIELD_KEY = 96, /* PrivateKeyInfo */
+    DM_FIELD_KEY_VERSION = 97,
+    DM_FIELD_KEY_ALGORITHM = 98,
+    DM_FIELD_KEY_OCTETS = 99,
+    DM_FIELD_KEY_ATTRIBUTES = 100,
+    DM_FIELD_KEY_PUBLIC_KEY = 101,
+    DM_FIELD_RSA_KEY = 112, /* RSAPrivateKey */
+    DM_FIELD_RSA_VERSION = 113,
+    DM_FIELD_RSA_MODULUS = 114,
+    DM_FIELD_RSA_PUBLIC_EXPONENT = 115,
+    DM_FIELD_RSA_PRIVATE_EXPONENT = 116,
+    DM_FIELD_RSA_PRIME1 = 117,
+    DM_FIELD_RSA_PRIME2 = 118,
+    DM_FIELD_RSA_EXPONENT1 = 119,
+    DM_FIELD_RSA_EXPONENT2 = 120,
+    DM_FIELD_RSA_COEFFICIENT = 121,
+    DM_FIELD_RSA_OTHER_PRIMES = 122
 };
 
 /* Writes the text of a fault, such as "tbsCertificate.version at 9: wrong value", without a 0 after it: its first
  * `room` octets, if it is longer. Returns the length of the whole text, which is at most DM_TEXT_OCTETS. The texts
  * are tested, not proved. */
 size_t dm_fault_text(const dm_fault *fault, uint8_t *text, size_t room);
+
+/* Writes the same after a name of the caller's and a space, such as "request.serial at 9: wrong value": for a fault of
+ * a cursor, which knows no names of fields. The whole text has at most DM_TEXT_OCTETS more octets than the name, and
+ * one for the space. */
+size_t dm_named_fault_text(const dm_fault *fault, const uint8_t *name, size_t length, uint8_t *text, size_t room);
 
 /* An algorithm (RFC 5280 4.1.1.2). */
 typedef struct dm_algorithm {
@@ -526,6 +562,15 @@ typedef struct dm_bits {
     uint32_t unused;     /* how many of the last bits aren't used */
     uint32_t is_present; /* 1; or 0 for an optional one that is absent, and then the other fields are empty and 0 */
 } dm_bits;
+
+/* An element of any type. Its content isn't read. */
+typedef struct dm_any {
+    dm_octets content;   /* its content octets */
+    uint32_t number;     /* the tag number */
+    uint8_t tag_class;   /* one of enum dm_class */
+    uint8_t constructed; /* the constructed bit, 0 or 1 */
+    uint16_t reserved;   /* 0 */
+} dm_any;
 
 /* A Time (4.1.2.5). By DER it is in UTC. */
 typedef struct dm_moment {
@@ -603,6 +648,7 @@ enum dm_extension_kind {
     DM_SUBJECT_ALT_NAME = 17,
     DM_ISSUER_ALT_NAME = 18,
     DM_BASIC_CONSTRAINTS = 19,
+    DM_REASON_CODE = 21, /* of an entry of a list of revoked certificates */
     DM_NAME_CONSTRAINTS = 30,
     DM_CRL_DISTRIBUTION_POINTS = 31,
     DM_CERTIFICATE_POLICIES = 32,
@@ -685,6 +731,61 @@ typedef struct dm_authority_key_identifier {
 uint32_t dm_read_authority_key_identifier(const uint8_t *value, size_t length, dm_authority_key_identifier *identifier,
                                           dm_fault *fault);
 
+/* The policies of a CertificatePolicies (4.2.1.4), one at least, the next one of them, and the next qualifier of a
+ * policy. That a policy comes once isn't asked. */
+typedef struct dm_policy {
+    dm_octets identifier; /* the content octets of the OBJECT IDENTIFIER */
+    dm_octets qualifiers; /* dm_next_policy_qualifier. Empty if there are none */
+} dm_policy;
+
+typedef struct dm_policy_qualifier {
+    dm_octets identifier; /* the content octets of its type, an OBJECT IDENTIFIER */
+    dm_any value;
+} dm_policy_qualifier;
+
+uint32_t dm_read_certificate_policies(const uint8_t *value, size_t length, dm_octets *policies, dm_fault *fault);
+uint32_t dm_next_policy(dm_octets *policies, dm_policy *policy);
+uint32_t dm_next_policy_qualifier(dm_octets *qualifiers, dm_policy_qualifier *qualifier);
+
+/* The points of a CRLDistributionPoints (4.2.1.13) or a FreshestCRL (4.2.1.15), one at least, and the next one. A point
+ * with neither a name nor an issuer is read. */
+typedef struct dm_distribution_point {
+    dm_octets full_name;     /* general names: dm_next_general_name. Empty if there are none */
+    dm_octets relative_name; /* what follows the name of the issuer: dm_next_attribute. Empty if there is none */
+    dm_bits reasons;         /* a bit for each reason, from keyCompromise (1) to aACompromise (8). Absent for all */
+    dm_octets crl_issuer;    /* general names. Empty if there are none */
+} dm_distribution_point;
+
+uint32_t dm_read_distribution_points(const uint8_t *value, size_t length, dm_octets *points, dm_fault *fault);
+uint32_t dm_next_distribution_point(dm_octets *points, dm_distribution_point *point);
+
+/* A NameConstraints (4.2.1.10), and the next one of its subtrees. */
+typedef struct dm_name_constraints {
+    dm_octets permitted; /* dm_next_subtree. Empty if there are none */
+    dm_octets excluded;  /* the same */
+} dm_name_constraints;
+
+typedef struct dm_subtree {
+    dm_general_name base; /* of DM_IP_ADDRESS the address and the mask: 8 octets of IPv4, 32 of IPv6 */
+    uint32_t minimum;     /* 0 by RFC 5280, which isn't asked. Above 2^32-1 is an error */
+    uint32_t maximum;     /* 0 if there is none. Above 2^32-1 is an error */
+    uint32_t has_maximum; /* 0 by RFC 5280, which isn't asked; or 1 */
+    uint32_t reserved;    /* 0 */
+} dm_subtree;
+
+uint32_t dm_read_name_constraints(const uint8_t *value, size_t length, dm_name_constraints *constraints,
+                                  dm_fault *fault);
+uint32_t dm_next_subtree(dm_octets *subtrees, dm_subtree *subtree);
+
+/* The descriptions of an AuthorityInfoAccess or a SubjectInfoAccess (4.2.2), one at least, and the next one. */
+typedef struct dm_access_description {
+    dm_octets method;         /* the content octets of the OBJECT IDENTIFIER */
+    dm_general_name location;
+} dm_access_description;
+
+uint32_t dm_read_information_access(const uint8_t *value, size_t length, dm_octets *descriptions, dm_fault *fault);
+uint32_t dm_next_access_description(dm_octets *descriptions, dm_access_description *description);
+
 /* Lists of revoked certificates (RFC 5280 5.1). */
 typedef struct dm_certificate_list {
     dm_octets tbs;            /* the encoding of TBSCertList: the octets that are signed */
@@ -703,7 +804,10 @@ typedef struct dm_certificate_list {
 /* Reads a list by DER, exactly as the ASN.1 has it, and nothing after it, as dm_read_certificate. */
 uint32_t dm_read_certificate_list(const uint8_t *input, size_t length, dm_certificate_list *list, dm_fault *fault);
 
-/* The next entry (5.1.2.6). */
+/* The number of a list (5.2.3), the value of its extension 2.5.29.20, is an INTEGER: dm_next_integer of a cursor over
+ * the value reads it.
+ *
+ * The next entry (5.1.2.6). */
 typedef struct dm_revoked {
     dm_octets serial_number; /* the content octets of the INTEGER, in two's complement */
     dm_octets extensions;    /* dm_next_extension. Empty if there are none */
@@ -712,6 +816,23 @@ typedef struct dm_revoked {
 } dm_revoked;
 
 uint32_t dm_next_revoked(dm_octets *revoked, dm_revoked *entry);
+
+/* The reason of a revocation (5.3.1): the value of an entry's extension of the kind DM_REASON_CODE, read as those of
+ * certificates. A number without a name, as 7, is an error. */
+uint32_t dm_read_reason(const uint8_t *value, size_t length, uint32_t *reason, dm_fault *fault);
+
+enum dm_reason {
+    DM_REASON_UNSPECIFIED = 0,
+    DM_REASON_KEY_COMPROMISE = 1,
+    DM_REASON_CA_COMPROMISE = 2,
+    DM_REASON_AFFILIATION_CHANGED = 3,
+    DM_REASON_SUPERSEDED = 4,
+    DM_REASON_CESSATION_OF_OPERATION = 5,
+    DM_REASON_CERTIFICATE_HOLD = 6,
+    DM_REASON_REMOVE_FROM_CRL = 8,
+    DM_REASON_PRIVILEGE_WITHDRAWN = 9,
+    DM_REASON_AA_COMPROMISE = 10
+};
 
 /* Certification requests (RFC 2986 4). Their version is 0. */
 typedef struct dm_request {
@@ -738,6 +859,66 @@ uint32_t dm_next_request_attribute(dm_octets *attributes, dm_request_attribute *
 /* The extensions that the values of the attribute extensionRequest (RFC 2985 5.4.2), 1.2.840.113549.1.9.14, ask for.
  * Offsets count from the start of the values. */
 uint32_t dm_read_extension_request(const uint8_t *values, size_t length, dm_octets *extensions, dm_fault *fault);
+
+/* Private keys (PKCS #8: RFC 5208 5, RFC 5958 2). */
+typedef struct dm_private_key {
+    dm_octets algorithm;     /* the content octets of the OBJECT IDENTIFIER */
+    dm_any parameters;       /* of the algorithm. Its content isn't read */
+    dm_octets private_key;   /* the octets of the OCTET STRING: the key, as its algorithm encodes it */
+    dm_octets attributes;    /* the content octets of the attributes, which aren't read. Empty if there are none */
+    dm_bits public_key;      /* its is_present is 0 if there is none */
+    uint32_t version;        /* 1 if there is a public key, else 0: the number that is encoded */
+    uint32_t has_parameters; /* 0 or 1. With 0 the fields of `parameters` are empty and 0 */
+    uint32_t has_attributes; /* 0 or 1 */
+    uint32_t reserved;       /* 0 */
+} dm_private_key;
+
+/* Reads a private key by DER, exactly as the ASN.1 has it, and nothing after it, as dm_read_certificate. An encrypted
+ * one (EncryptedPrivateKeyInfo) is an error. */
+uint32_t dm_read_private_key(const uint8_t *input, size_t length, dm_private_key *key, dm_fault *fault);
+
+/* The private key of RSA (RFC 8017 A.1.2), as `private_key` has it: its numbers, each as the content octets of the
+ * INTEGER, in two's complement. */
+typedef struct dm_rsa_private_key {
+    dm_octets modulus;
+    dm_octets public_exponent;
+    dm_octets private_exponent;
+    dm_octets prime1;
+    dm_octets prime2;
+    dm_octets exponent1;
+    dm_octets exponent2;
+    dm_octets coefficient;
+    dm_octets other_primes;    /* the content octets of further primes, which aren't read. Empty if there are none */
+    uint32_t version;          /* 1 if there are further primes, else 0 */
+    uint32_t has_other_primes; /* 0 or 1 */
+} dm_rsa_private_key;
+
+uint32_t dm_read_rsa_private_key(const uint8_t *input, size_t length, dm_rsa_private_key *key, dm_fault *fault);
+
+/* Blocks of PEM (RFC 7468), with any text around them:
+ *
+ *     dm_octets text = {file, length};
+ *     while ((error = dm_next_pem(&text, characters, length, octets, length, &block)) == 0) ..
+ *     if (error != DM_ERROR_PEM_NO_BLOCK) ..
+ *
+ * A block begins at the start of a line, or after white space, quotes or a mark >. */
+typedef struct dm_pem {
+    dm_octets label; /* its label, such as CERTIFICATE: a part of the text */
+    size_t length;   /* how many octets it has, with which the buffer `octets` begins */
+} dm_pem;
+
+/* Finds the next block of a text, and decodes its lines, base64 (RFC 4648 4, 5), in buffers of the caller's:
+ * `characters` is for their characters, and `octets` has what they encode. Neither is too small if it has as many
+ * octets as the text. Returns 0, and the text goes on after the block.
+ *
+ * Or it returns the number of an error. With DM_ERROR_PEM_NO_BLOCK, DM_ERROR_PEM_NO_END or DM_ERROR_PEM_LABELS_DIFFER
+ * there is no further block, and the text and the block stay as they were. With another error there is one, its label
+ * is written, its length is 0, and the text goes on after it. What the buffers have behind `length` is unspecified. */
+uint32_t dm_next_pem(dm_octets *text, uint8_t *characters, size_t room, uint8_t *octets, size_t capacity,
+                     dm_pem *block);
+
+/* Where the first block of a text begins, an offset. Returns 1, or 0 if there is none, and then nothing is written. */
+uint32_t dm_find_pem(const uint8_t *text, size_t length, size_t *offset);
 
 /* The SHA-256 digest (FIPS 180-4) of an input or a part of it, such as a certificate's fingerprint. */
 typedef struct dm_digest {
@@ -808,14 +989,6 @@ uint32_t dm_next_content(dm_cursor *cursor, uint8_t tag_class, uint8_t construct
                          dm_fault *fault);
 
 /* An element of any type. Its content isn't read. */
-typedef struct dm_any {
-    dm_octets content;   /* its content octets */
-    uint32_t number;     /* the tag number */
-    uint8_t tag_class;   /* one of enum dm_class */
-    uint8_t constructed; /* the constructed bit, 0 or 1 */
-    uint16_t reserved;   /* 0 */
-} dm_any;
-
 uint32_t dm_next_any(dm_cursor *cursor, dm_any *element, dm_fault *fault);
 
 /* DM_OK if all octets are read, else DM_ERROR_PARSER_FAULT. */

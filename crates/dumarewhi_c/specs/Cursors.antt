@@ -7,22 +7,23 @@ use Rattle.der_base.specs.declared.error.Error.{Error as BerError}
 use Rattle.der_base.specs.declared.rules.Rules.{Rules}
 use Rattle.der_base.specs.declared.rules.Rules.TheVariants.{Ber, Der}
 use Rattle.der_base.specs.declared.time.ASN1DateTime.{ASN1DateTime}
-use Rattle.der_base.specs.Header.{class_of, is_constructed, number_of}
 use Rattle.der_cursor.specs.declared.cursor.Cursor.{Cursor}
 use Rattle.der_cursor.specs.declared.refusal.Refusal.{Refusal}
 use Rattle.der_cursor.specs.Cursors.{end_of, is_inside, octets_left, place_of, rules_of}
+use Rattle.der_cursor.specs.Elements.{element_of}
 use Rattle.der_values.specs.declared.bits.BitString.{BitString}
 use Rattle.der_values.specs.declared.identifier.ObjectIdentifier.{ObjectIdentifier}
 use Rattle.der_values.specs.Kinds.{borrowed_octets}
 use Rattle.der_x509.specs.Certificates.{bits_of}
+use Rattle.dumarewhi_c.specs.declared.any.DmAny.{DmAny}
 use Rattle.dumarewhi_c.specs.declared.cursor.DmCursor.{DmCursor}
 use Rattle.dumarewhi_c.specs.declared.fault.DmFault.{DmFault}
-use Rattle.dumarewhi_c.specs.declared.next.DmAny.{DmAny}
 use Rattle.dumarewhi_c.specs.declared.octets.DmOctets.{DmOctets}
 use Rattle.dumarewhi_c.specs.declared.parts.DmBits.{DmBits}
 use Rattle.dumarewhi_c.specs.declared.time.DmTime.{DmTime}
+use Rattle.dumarewhi_c.specs.AnyElements.{HasAny}
 use Rattle.dumarewhi_c.specs.Certificates.{bits_in, bits_numbers}
-use Rattle.dumarewhi_c.specs.Elements.{bit, class_number}
+use Rattle.dumarewhi_c.specs.Elements.{bit}
 use Rattle.dumarewhi_c.specs.Faults.{Written, no_fault, value_fault}
 use Rattle.dumarewhi_c.specs.Values.{time_fields}
 use Rattle.dumarewhi_c.specs.Writers.{implicit_of}
@@ -113,15 +114,8 @@ pub record IsInner (old : DmCursor) (c : Cursor) (d : DmCursor) : Type 0 where
   pub implicit : d.implicit ≡ 0
   pub number : d.number ≡ 0
 
-pub record HasAny (a : Any) (d : DmAny) : Type 0 where
-  pub content : d.content.now ≡ a.bytes.now
-  pub number : d.number ≡ number_of a.header
-  pub class : d.tag_class ≡ class_number (class_of a.header)
-  pub constructed : d.constructed ≡ bit (is_constructed a.header)
-  pub reserved : d.reserved ≡ 0
-
 abbrev pub IsAny : Any → DmAny → Type 0
-IsAny a d = HasAny a d
+IsAny a d = HasAny (element_of a) d
 
 abbrev pub end_fault : DmCursor → Result (Unit {0}) (Refusal BerError) → DmFault
 end_fault d (Ok u) = no_fault

@@ -10,6 +10,8 @@ use Rattle.der_base.specs.Refusal.{invalid_charset, invalid_date_time, unsupport
 use Rattle.der_base.specs.Refusal.{parser_fault}
 use Rattle.der_contents.specs.declared.content_error.ContentError.{ContentError}
 use Rattle.der_contents.specs.declared.content_error.ContentError.TheVariants as contents
+use Rattle.der_input.specs.declared.error.FormError.{FormError}
+use Rattle.der_input.specs.declared.error.FormError.TheVariants as forms
 use Rattle.der_walk.specs.declared.cause.Cause.{Cause}
 use Rattle.der_walk.specs.declared.cause.Cause.TheVariants as causes
 use Rattle.der_x509.specs.declared.rules.Rule.{Rule}
@@ -124,3 +126,14 @@ rule_number rules.ExtensionsVersion = 136
 rule_number rules.DistinctExtensions = 137
 rule_number rules.NamedSubject = 138
 rule_number rules.DerValues = 139
+
+-- of a text without a block of PEM, or with one that isn't read; the others are none of those
+abbrev pub form_number : FormError → ℕ
+form_number forms.NoBlock = 192
+form_number forms.NoEnd = 193
+form_number forms.LabelsDiffer = 194
+form_number forms.Encrypted = 195
+form_number forms.Base64 = 196
+form_number forms.OutOfMemory = 197
+form_number forms.Hex = 0
+form_number (forms.LooksLike kind) = 0

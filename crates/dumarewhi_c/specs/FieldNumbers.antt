@@ -1,5 +1,6 @@
 -- The numbers of fields.
-use Rattle.std.specs.Prelude.{ℕ}
+use Rattle.std.specs.Borrow.{Bor}
+use Rattle.std.specs.Prelude.{ℕ, if◌then◌else◌, List, [], ◌∷◌, bytes_eq, codes}
 use Rattle.crl_reader.specs.declared.refusal.Field.{Field as ListField}
 use Rattle.crl_reader.specs.declared.refusal.Field.TheVariants as list
 use Rattle.der_request.specs.declared.refusal.Field.{Field as RequestField}
@@ -48,3 +49,38 @@ request_field_number request.SubjectPublicKeyInfo = 68
 request_field_number request.Attributes = 69
 request_field_number request.SignatureAlgorithm = 70
 request_field_number request.Signature = 71
+
+-- of a private key (RFC 5958 2), by its name
+abbrev pub key_field_number : List ℕ → ℕ
+key_field_number name = if bytes_eq name (codes "version") then 97
+    else if bytes_eq name (codes "privateKeyAlgorithm") then 98
+    else if bytes_eq name (codes "privateKey") then 99
+    else if bytes_eq name (codes "attributes") then 100
+    else if bytes_eq name (codes "publicKey") then 101
+    else 96
+
+-- of one of RSA (RFC 8017 A.1.2)
+abbrev pub prime_number : List ℕ → ℕ
+prime_number name = if bytes_eq name (codes "prime1") then 117
+    else if bytes_eq name (codes "prime2") then 118
+    else if bytes_eq name (codes "exponent1") then 119
+    else if bytes_eq name (codes "exponent2") then 120
+    else if bytes_eq name (codes "coefficient") then 121
+    else 112
+
+abbrev pub rsa_field_number : List ℕ → ℕ
+rsa_field_number name = if bytes_eq name (codes "version") then 113
+    else if bytes_eq name (codes "modulus") then 114
+    else if bytes_eq name (codes "publicExponent") then 115
+    else if bytes_eq name (codes "privateExponent") then 116
+    else if bytes_eq name (codes "otherPrimeInfos") then 122
+    else prime_number name
+
+-- of the field that a refusal names: each has one name
+abbrev pub key_field : List (Bor (List ℕ)) → ℕ
+key_field (name ∷ []) = key_field_number name.now
+key_field _ = 96
+
+abbrev pub rsa_field : List (Bor (List ℕ)) → ℕ
+rsa_field (name ∷ []) = rsa_field_number name.now
+rsa_field _ = 112

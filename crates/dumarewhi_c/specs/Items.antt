@@ -52,8 +52,8 @@ IsAttribute a d = HasAttribute a d
 -- The extensions whose values are read, by the last arcs of their identifiers (A.2): of id-ce, 2.5.29, and of id-pe,
 -- 1.3.6.1.5.5.7.1. Another has the number 0.
 abbrev pub certificate_kind : ℕ → ℕ
-certificate_kind n = if n == 14 || n == 15 || is_within 17 19 n || is_within 30 32 n || n == 35 || n == 37 || n == 46
-    then n else 0
+certificate_kind n = if n == 14 || n == 15 || is_within 17 19 n || n == 21 || is_within 30 32 n || n == 35 || n == 37
+    || n == 46 then n else 0
 
 abbrev pub access_kind : ℕ → ℕ
 access_kind n = if n == 1 || n == 11 then n else 0

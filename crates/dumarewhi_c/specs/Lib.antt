@@ -1,13 +1,17 @@
+pub mod AnyElements
 pub mod Certificates
 pub mod Cursors
 pub mod Elements
 pub mod ErrorNumbers
+pub mod ExtensionLists
 pub mod ExtensionValues
 pub mod Faults
 pub mod FieldNumbers
 pub mod Items
+pub mod Keys
 pub mod Laws
 pub mod Outcomes
+pub mod Pem
 pub mod Requests
 pub mod RevokedLists
 pub mod Tested

@@ -1,10 +1,12 @@
 -- Lists of revoked certificates as C sees them.
-use Rattle.std.specs.Prelude.{◌≡◌, is_some, Some, []}
+use Rattle.std.specs.Prelude.{◌≡◌, ℕ, is_some, Some, []}
 use Rattle.std.specs.Option.{unwrap_or}
 use Rattle.crl_reader.specs.declared.entry.RevokedCertificate.{RevokedCertificate}
 use Rattle.crl_reader.specs.declared.list.CertificateList.{CertificateList}
+use Rattle.crl_reader.specs.declared.reason.Reason.{Reason}
 use Rattle.crl_reader.specs.declared.refusal.ListRefusal.{ListRefusal}
 use Rattle.crl_reader.specs.Lists.{Revoked, Signed, certificate_list_of, revoked_of}
+use Rattle.crl_reader.specs.Reasons.{number_of}
 use Rattle.dumarewhi_c.specs.declared.fault.DmFault.{DmFault}
 use Rattle.dumarewhi_c.specs.declared.revoked.DmCertificateList.{DmCertificateList}
 use Rattle.dumarewhi_c.specs.declared.revoked.DmRevoked.{DmRevoked}
@@ -43,3 +45,7 @@ pub record HasRevoked (r : Revoked) (d : DmRevoked) : Type 0 where
 
 abbrev pub IsRevoked : RevokedCertificate → DmRevoked → Type 0
 IsRevoked r d = HasRevoked (revoked_of r) d
+
+-- the number of a reason (5.3.1)
+abbrev pub IsReason : Reason → ℕ → Type 0
+IsReason r n = n ≡ number_of r

@@ -1,9 +1,11 @@
 //! Texts of errors: those that the errors themselves have, without the values that they keep.
-ghost use Rattle.std.specs.Prelude.{List, ℕ};
+ghost use Rattle.std.specs.Prelude.{List, ℕ, ◌++◌, codes};
 ghost use Rattle.dumarewhi_c.specs.Texts.{PutsText};
 
-use crate::errors::{FIRST_CONSTRAINT, FIRST_CONTENT, FIRST_RULE};
-use crate::fault::{CERTIFICATE, DmFault, FIRST_LIST_FIELD, FIRST_REQUEST_FIELD};
+use crate::errors::{FIRST_CONSTRAINT, FIRST_CONTENT, FIRST_FORM, FIRST_RULE};
+use crate::fault::{
+    CERTIFICATE, DmFault, FIRST_KEY_FIELD, FIRST_LIST_FIELD, FIRST_REQUEST_FIELD, FIRST_RSA_FIELD,
+};
 use crate::text::put_text;
 use arrayvec::ArrayString;
 use crl_reader::Field as ListField;
@@ -44,9 +46,25 @@ pub extern "C" fn dm_error_text(error: u32, text: &mut [u8]) -> usize
 pub extern "C" fn dm_fault_text(fault: &DmFault, text: &mut [u8]) -> usize
     ensures { (words : List ℕ) × PutsText text.old 0 words text.new result }
 {
+    put_text(text, 0, words_of(fault).as_str().as_bytes())
+}
+
+/// Writes a name of the caller's, a space and the text of a fault. Returns the length.
+#[unsafe(no_mangle)]
+pub extern "C" fn dm_named_fault_text(fault: &DmFault, name: &[u8], text: &mut [u8]) -> usize
+    ensures { (words : List ℕ) × PutsText text.old 0 (name.now ++ codes " " ++ words) text.new result }
+{
+    let words = words_of(fault);
+    let end = put_text(text, 0, name);
+    let end = put_text(text, end, b" ");
+    put_text(text, end, words.as_str().as_bytes())
+}
+
+/// The text of a fault.
+fn words_of(fault: &DmFault) -> ArrayString<LONGEST> {
     let mut words = ArrayString::<LONGEST>::new();
     let _ = write!(words, "{fault}");
-    put_text(text, 0, words.as_str().as_bytes())
+    words
 }
 
 /// "tbsCertificate.version at 9: wrong value". A rule of certificates has no offset.
@@ -86,9 +104,20 @@ fn write_field<W: fmt::Write>(f: &mut fmt::Formatter<W>, number: u32) -> fmt::Re
     if let Some(field) = item(&LIST_FIELDS, FIRST_LIST_FIELD, number) {
         return write!(f, "{field} ");
     }
-    match item(&REQUEST_FIELDS, FIRST_REQUEST_FIELD, number) {
+    if let Some(field) = item(&REQUEST_FIELDS, FIRST_REQUEST_FIELD, number) {
+        return write!(f, "{field} ");
+    }
+    match key_field(number) {
         Some(field) => write!(f, "{field} "),
         None => Ok(()),
+    }
+}
+
+/// The name of the field of a private key with a number.
+fn key_field(number: u32) -> Option<&'static str> {
+    match item(&KEY_FIELDS, FIRST_KEY_FIELD, number) {
+        Some(field) => Some(field),
+        None => item(&RSA_FIELDS, FIRST_RSA_FIELD, number),
     }
 }
 
@@ -102,6 +131,9 @@ impl fmt::Display for NumberedError {
             return write!(f, "{cause}");
         }
         if let Some(text) = item(&RULES, FIRST_RULE, number) {
+            return f.write_str(text);
+        }
+        if let Some(text) = item(&FORMS, FIRST_FORM, number) {
             return f.write_str(text);
         }
         f.write_str(text_without_values(number))
@@ -231,6 +263,16 @@ const RULES: [&str; 12] = [
     "a value of any type is not DER",
 ];
 
+/// Why a text has no further block of PEM, or what is wrong with one, in the order of their numbers.
+const FORMS: [&str; 6] = [
+    "no line -----BEGIN ..-----",
+    "a block without its line -----END ..-----",
+    "a block whose first and last line have other labels",
+    "the block is encrypted",
+    "invalid base64",
+    "a buffer is too small for the block",
+];
+
 /// The fields of a certificate, in the order of their numbers.
 const FIELDS: [Field; 14] = [
     Field::Certificate,
@@ -274,4 +316,29 @@ const REQUEST_FIELDS: [RequestField; 8] = [
     RequestField::Attributes,
     RequestField::SignatureAlgorithm,
     RequestField::Signature,
+];
+
+/// Those of a private key.
+const KEY_FIELDS: [&str; 6] = [
+    "PrivateKeyInfo",
+    "version",
+    "privateKeyAlgorithm",
+    "privateKey",
+    "attributes",
+    "publicKey",
+];
+
+/// Those of one of RSA.
+const RSA_FIELDS: [&str; 11] = [
+    "RSAPrivateKey",
+    "version",
+    "modulus",
+    "publicExponent",
+    "privateExponent",
+    "prime1",
+    "prime2",
+    "exponent1",
+    "exponent2",
+    "coefficient",
+    "otherPrimeInfos",
 ];

@@ -1,11 +1,12 @@
 //! Errors by numbers.
 ghost use Rattle.std.specs.Prelude.{◌≡◌};
 ghost use Rattle.der_base.specs.Refusal.{refusal};
-ghost use Rattle.dumarewhi_c.specs.ErrorNumbers.{cause_number, constraint_number, content_number};
+ghost use Rattle.dumarewhi_c.specs.ErrorNumbers.{cause_number, constraint_number, content_number, form_number};
 ghost use Rattle.dumarewhi_c.specs.ErrorNumbers.{number_of_result, refusal_number, rule_number};
 
 use der_base::error::{BerError, DerConstraint};
 use der_contents::ContentError;
+use der_input::FormError;
 use der_walk::Cause;
 use der_x509::Rule;
 
@@ -17,6 +18,9 @@ pub(crate) const FIRST_CONTENT: u32 = 64;
 
 /// The number of the first rule of certificates. The others follow in the order of `Rule`.
 pub(crate) const FIRST_RULE: u32 = 128;
+
+/// The number of the first error of a text in PEM.
+pub(crate) const FIRST_FORM: u32 = 192;
 
 /// The number of an error.
 pub(crate) fn refusal_number(e: BerError) -> u32
@@ -64,6 +68,22 @@ pub(crate) fn rule_number(rule: Rule) -> u32
     ensures { result ≡ rule_number rule }
 {
     FIRST_RULE + rule as u32
+}
+
+/// The number of an error of a text in PEM.
+pub(crate) fn form_number(e: FormError) -> u32
+    ensures { result ≡ form_number e }
+{
+    match e {
+        FormError::NoBlock => FIRST_FORM,
+        FormError::NoEnd => FIRST_FORM + 1,
+        FormError::LabelsDiffer => FIRST_FORM + 2,
+        FormError::Encrypted => FIRST_FORM + 3,
+        FormError::Base64 => FIRST_FORM + 4,
+        FormError::OutOfMemory => FIRST_FORM + 5,
+        // No reader of PEM returns one of these.
+        FormError::LooksLike(_) | FormError::Hex => 0,
+    }
 }
 
 /// The number of the cause of a fault. An input that is cut short is no error, and has 0.

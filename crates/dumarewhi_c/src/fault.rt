@@ -37,6 +37,12 @@ pub(crate) const FIRST_LIST_FIELD: u32 = 32;
 /// The number of the first field of a request.
 pub(crate) const FIRST_REQUEST_FIELD: u32 = 64;
 
+/// That of a private key, which is the key itself.
+pub(crate) const FIRST_KEY_FIELD: u32 = 96;
+
+/// That of one of RSA.
+pub(crate) const FIRST_RSA_FIELD: u32 = 112;
+
 /// All is read.
 pub(crate) fn no_fault() -> DmFault
     ensures { result ≡ no_fault }

@@ -101,7 +101,7 @@ fn certificate_kind(arc: u8) -> u32
     ensures { result ≡ certificate_kind arc }
 {
     match arc {
-        14 | 15 | 17..=19 | 30..=32 | 35 | 37 | 46 => arc.into(),
+        14 | 15 | 17..=19 | 21 | 30..=32 | 35 | 37 | 46 => arc.into(),
         _ => 0,
     }
 }

@@ -2,6 +2,8 @@
 //! `callers/c/include/dumarewhi.h` declares it all.
 #![tactic(auto)]
 
+pub mod access;
+pub mod any;
 pub mod certificate;
 pub mod cursor;
 pub mod digest;
@@ -12,6 +14,7 @@ pub mod extension;
 pub mod fault;
 pub mod fields;
 pub mod items;
+pub mod key;
 pub mod laws;
 pub mod lists;
 mod moment;
@@ -21,11 +24,15 @@ pub mod octets;
 pub mod opening;
 pub mod outcome;
 pub mod parts;
+pub mod pem;
+pub mod point;
+pub mod policy;
 pub mod readers;
 pub mod request;
 pub mod revoked;
 mod sequences;
 pub mod state;
+pub mod subtree;
 pub mod tested;
 mod text;
 pub mod time;

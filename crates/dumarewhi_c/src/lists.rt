@@ -1,7 +1,9 @@
 //! Lists of a certificate, item after item. A call reads the item that the octets begin with, and leaves the others.
+ghost use Rattle.std.specs.Prelude.{◌≡◌, []};
+ghost use Rattle.std.specs.Option.{option_map, unwrap_or};
 ghost use Rattle.der_extensions.specs.GeneralNames.{AttributeTypeAndValue as AttributeFormat, GeneralName as AnyName};
 ghost use Rattle.der_extensions.specs.GeneralNames.{RelativeDistinguishedName as RelativeFormat, attribute_of, name_of};
-ghost use Rattle.der_extensions.specs.Lists.{YieldsNext as YieldsItem};
+ghost use Rattle.der_extensions.specs.Lists.{YieldsNext as YieldsItem, list_octets};
 ghost use Rattle.der_cursor.specs.Formats.{ObjectIdentifier as IdentifierFormat, Required};
 ghost use Rattle.der_values.specs.Kinds.{borrowed_octets};
 ghost use Rattle.der_x509.specs.Certificates.{extension as extension_format, extension_of};
@@ -14,7 +16,7 @@ use crate::octets::DmOctets;
 use crate::parts::identifier_octets;
 use der_base::error::BerError;
 use der_cursor::Cursor;
-use der_extensions::{FromRefusal, GeneralName, Item};
+use der_extensions::{FromRefusal, GeneralName, Item, SequenceOf};
 use der_values::ObjectIdentifier;
 use der_x509::parts::read_extension;
 use der_x509::{AttributeTypeAndValue, Extension, RelativeDistinguishedName};
@@ -166,8 +168,18 @@ fn write_purpose<'a>(found: Option<ObjectIdentifier<'a>>, identifier: &mut DmOct
     }
 }
 
+/// The octets of a list, or none.
+pub(crate) fn list_or_none<'a, T: Drop>(list: Option<SequenceOf<'a, T>>) -> &'a [u8]
+    ensures { result.now ≡ unwrap_or (option_map list_octets list.entry) [] }
+{
+    match list {
+        Some(list) => list.octets,
+        None => &[],
+    }
+}
+
 /// Takes the next value of a list.
-fn next_item<'a, T: Item<'a, E>, E: FromRefusal>(list: &mut DmOctets<'a>) -> Option<T>
+pub(crate) fn next_item<'a, T: Item<'a, E>, E: FromRefusal>(list: &mut DmOctets<'a>) -> Option<T>
     ensures { YieldsItem left T.view T.field list.old result list.new }
 {
     let mut items = Cursor::new(list.octets);

@@ -9,12 +9,13 @@ ghost use Rattle.der_cursor.specs.Elements.{IsNext};
 ghost use Rattle.der_values.specs.Kinds.{bit_strings, booleans, borrowed_octets, enumerated_numbers, identifiers};
 ghost use Rattle.der_values.specs.Kinds.{integers, nulls, numbers, octet_strings, times};
 ghost use Rattle.dumarewhi_c.specs.Cursors.{Continues, Finishes, IsAny, IsBit, IsBits, IsIdentifier};
-ghost use Rattle.dumarewhi_c.specs.Cursors.{HasAny, IsInner, IsNull, IsOctets, IsSame, IsTime, ReadsField};
+ghost use Rattle.dumarewhi_c.specs.Cursors.{IsInner, IsNull, IsOctets, IsSame, IsTime, ReadsField};
 ghost use Rattle.dumarewhi_c.specs.Cursors.{end_fault, rules_in};
 ghost use Rattle.dumarewhi_c.specs.Writers.{class_of, is_set};
 
+use crate::any::{DmAny, any_fields};
 use crate::cursor::{DmCursor, advance, finish, moved_fault, resume};
-use crate::element::{bit, class_number};
+use crate::element::bit;
 use crate::fault::{DmFault, no_fault};
 use crate::octets::DmOctets;
 use crate::parts::{DmBits, bits, identifier_octets};
@@ -26,22 +27,6 @@ use der_base::header::Tag;
 use der_base::time::ASN1DateTime;
 use der_cursor::{Cursor, Refusal};
 use der_values::{BitString, ObjectIdentifier};
-
-/// An element of any type. Its content isn't read.
-#[repr(C)]
-#[derive(Clone, Copy)]
-pub struct DmAny<'a> {
-    /// Its content octets.
-    pub content: &'a [u8],
-    /// The tag number.
-    pub number: u32,
-    /// The class, from 0 to 3.
-    pub tag_class: u8,
-    /// Whether it is constructed, 0 or 1.
-    pub constructed: u8,
-    /// 0.
-    pub reserved: u16,
-}
 
 /// A BOOLEAN (X.690 8.2, 11.1), 0 or 1.
 #[unsafe(no_mangle)]
@@ -450,19 +435,6 @@ fn finish_any<'a>(
             no_fault()
         }
         Err(e) => moved_fault(cursor, e),
-    }
-}
-
-/// An element as C sees it.
-fn any_fields<'a>(found: &Any<'a>) -> DmAny<'a>
-    ensures { HasAny found.now result }
-{
-    DmAny {
-        content: found.bytes,
-        number: found.header.tag().0,
-        tag_class: class_number(found.header.class()),
-        constructed: bit(found.header.constructed()),
-        reserved: 0,
     }
 }
 

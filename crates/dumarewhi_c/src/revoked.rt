@@ -3,12 +3,15 @@ ghost use Rattle.std.specs.Prelude.{◌≡◌, []};
 ghost use Rattle.std.specs.Option.{option_map, unwrap_or};
 ghost use Rattle.crl_reader.specs.Lists.{certificate_list_of, field_fault as crl_fault, revoked_certificate};
 ghost use Rattle.crl_reader.specs.Lists.{revoked_of, whole_list};
+ghost use Rattle.crl_reader.specs.Reasons.{CRLReason};
+ghost use Rattle.der_base.specs.declared.rules.Rules.TheVariants.{Der};
+ghost use Rattle.der_cursor.specs.Formats.{Never, ReadsInput};
 ghost use Rattle.der_x509.specs.Lists.{YieldsNext};
 ghost use Rattle.der_x509.specs.Readers.{ReadsExactly};
-ghost use Rattle.dumarewhi_c.specs.Faults.{Reads, Written};
+ghost use Rattle.dumarewhi_c.specs.Faults.{Reads, Written, value_fault};
 ghost use Rattle.dumarewhi_c.specs.FieldNumbers.{list_field_number};
 ghost use Rattle.dumarewhi_c.specs.Items.{Taken, Takes, left};
-ghost use Rattle.dumarewhi_c.specs.RevokedLists.{HasList, IsList, IsRevoked, list_fault};
+ghost use Rattle.dumarewhi_c.specs.RevokedLists.{HasList, IsList, IsReason, IsRevoked, list_fault};
 
 use crate::element::bit;
 use crate::fault::{DmFault, FIRST_LIST_FIELD, field_fault, no_fault};
@@ -18,9 +21,11 @@ use crate::parts::{
 };
 use crate::sequences::after_sequence;
 use crl_reader::{
-    CertificateList, Field, ListRefusal, RevokedCertificate, RevokedCertificates,
-    read_certificate_list,
+    CertificateList, Field, ListRefusal, Reason, RevokedCertificate, RevokedCertificates,
+    read_certificate_list, read_reason,
 };
+use der_base::error::BerError;
+use der_cursor::Refusal;
 
 /// A list of revoked certificates. Octets are slices of the input.
 #[repr(C)]
@@ -129,6 +134,29 @@ fn field_number(field: Field) -> u32
     ensures { result ≡ list_field_number field }
 {
     FIRST_LIST_FIELD + field as u32
+}
+
+/// Reads the value of a reason code (5.3.1) by DER: its number. Returns the fault's status.
+#[unsafe(no_mangle)]
+pub extern "C" fn dm_read_reason(value: &[u8], reason: &mut u32, fault: &mut DmFault) -> u32
+    ensures exactly { Reads (ReadsInput Der CRLReason (λ v. v) Never value.now) IsReason value_fault
+        reason.old reason.new fault.new }
+    ensures status { result ≡ fault.new.status }
+{
+    *fault = write_reason(read_reason(value), reason);
+    fault.status
+}
+
+fn write_reason(found: Result<Reason, Refusal<BerError>>, reason: &mut u32) -> DmFault
+    ensures { Written IsReason value_fault found reason.old reason.new result }
+{
+    match found {
+        Ok(found) => {
+            *reason = found.number().into();
+            no_fault()
+        }
+        Err(e) => field_fault(0, e),
+    }
 }
 
 /// Takes the next entry of a list.
