@@ -22,6 +22,7 @@ export class Details {
     const content = elements.contentOf(row, end);
     const lines = [];
     lines.push(["Type", `${elements.nameOf(number)} (${CLASSES[row.tagClass]} ${row.number}, ${form(row)})`]);
+    if (elements.fieldOf(number) !== "") lines.push(["Field", elements.fieldOf(number)]);
     lines.push(["Path", elements.pathOf(number), "path"]);
     lines.push(["Place", placeOf(row, end)]);
     lines.push(["Header", headerOf(elements, row), "digits"]);

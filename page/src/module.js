@@ -178,6 +178,26 @@ export class Elements {
     return this.reader.text((at, room) => this.reader.calls.page_path(...rows, BigInt(number), at, room));
   }
 
+  /** What the input is, in words, at a time in seconds since 1970: of a certificate, a list or a request, else nothing. */
+  wordsAt(seconds) {
+    return this.reader.text((at, room) => this.reader.calls.page_shown(...this.input, BigInt(seconds), at, room));
+  }
+
+  /** The known type that the input is of, and the names of the elements in it. Empty if it is of none. */
+  get fields() {
+    if (!this.lastFields) {
+      const text = this.reader.text((at, room) => this.reader.calls.page_fields(...this.input, at, room));
+      const [type, ...names] = text.split("\n");
+      this.lastFields = { type, names };
+    }
+    return this.lastFields;
+  }
+
+  /** The name of the field that a row is, or nothing. */
+  fieldOf(number) {
+    return this.fields.names[number] ?? "";
+  }
+
   /** Why these rules refuse the input: all that `der` says of it, the cause, or the path. */
   refusalOf(rules, part) {
     return this.reader.text((at, room) => this.reader.calls.page_refusal(...this.input, rules, part, at, room));

@@ -63,6 +63,7 @@ class Page {
     document.body.classList.toggle("loaded", documents.length > 0);
     byId("clear").hidden = documents.length === 0;
     byId("canon").hidden = true;
+    byId("words").hidden = true;
     byId("copied").textContent = "";
     this.tree.show(this.items);
     this.details.clear();
@@ -80,6 +81,14 @@ class Page {
     if (elements) this.view.mark(placesOf(elements));
     byId("canon").hidden = true;
     this.sayOutcome(number);
+    this.sayWords(elements);
+  }
+
+  /** Has what a document is in words, for who opens it: a certificate, a list of revoked ones or a request. */
+  sayWords(elements) {
+    const words = elements?.wordsAt(Math.floor(Date.now() / 1000)) ?? "";
+    byId("words").hidden = words === "";
+    byId("words-text").textContent = words;
   }
 
   select(item) {
@@ -129,7 +138,8 @@ class Page {
       this.say("refused", several + error);
       return;
     }
-    const sizes = `${counted(elements.count, "element")} in ${counted(octets.length, "octet")}`;
+    const { type } = elements.fields;
+    const sizes = `${counted(elements.count, "element")} in ${counted(octets.length, "octet")}${type && `, of the type ${type}`}`;
     if (elements.isDer) {
       this.say("der", `${several}This is DER: ${sizes}.`);
     } else if (elements.outcome.isRefused) {

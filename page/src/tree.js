@@ -131,7 +131,7 @@ export class Tree {
 
   make(row) {
     row.setAttribute("role", "treeitem");
-    for (const name of ["place", "sizes", "twist", "type", "mark", "value", "remark"]) {
+    for (const name of ["place", "sizes", "twist", "field", "type", "mark", "value", "remark"]) {
       const part = document.createElement("span");
       part.className = name;
       row.append(part);
@@ -139,15 +139,16 @@ export class Tree {
   }
 
   fill(row, parts) {
-    const [place, sizes, , type, mark, value, remark] = row.children;
+    const [place, sizes, , field, type, mark, value, remark] = row.children;
     row.classList.add(parts.kind);
     place.textContent = parts.place ?? "";
     sizes.textContent = parts.sizes ?? "";
+    field.textContent = parts.field ?? "";
     type.textContent = parts.type;
     mark.textContent = parts.mark ?? "";
     fillValue(value, parts.value ?? "", parts.isIdentifier);
     remark.textContent = parts.remark ?? "";
-    const label = [parts.type, parts.mark, parts.value, parts.remark, parts.at];
+    const label = [parts.field, parts.type, parts.mark, parts.value, parts.remark, parts.at];
     row.setAttribute("aria-label", label.filter(Boolean).join(", "));
   }
 
@@ -179,6 +180,7 @@ function elementParts(elements, number, hasInside) {
     kind,
     place: row.offset,
     sizes: `${row.header}+${row.isDefinite ? row.length : "∞"}`,
+    field: elements.fieldOf(number),
     type: elements.nameOf(number),
     mark: row.holds ? `holds ${row.holds}` : row.isConstructed && !hasInside ? "empty" : "",
     value: elements.valueOf(number, false).trim(),
