@@ -128,14 +128,8 @@ impl<'a> Decode<'a> for Value<'a> {
                 r.null()?;
                 Value::Unspecified
             }
-            Some(TIME_TICKS) => {
-                let ticks = r.implicit(TIME_TICKS, Tag::INTEGER)?;
-                let number = u32::try_from(ticks.as_integer()?);
-                Value::TimeTicks(
-                    number.map_err(|reason| Error::new(ErrorKind::Value(reason), ticks.offset()))?,
-                )
-            }
-            Some(COUNTER_64) => Value::Counter64(r.implicit(COUNTER_64, Tag::INTEGER)?.as_u64()?),
+            Some(TIME_TICKS) => Value::TimeTicks(r.expect_implicit(TIME_TICKS).value()?),
+            Some(COUNTER_64) => Value::Counter64(r.expect_implicit(COUNTER_64).value()?),
             _ => Value::Other(r.value()?),
         })
     }

@@ -1,7 +1,7 @@
-//! Prints the fields of certificates (RFC 5280), in DER or PEM: `cargo run --example x509 FILE..`. With `--named TEXT`,
-//! of those alone whose subject has a commonName, or a name of DNS, that is the text.
+//! Prints the fields of certificates (RFC 5280), in DER or PEM: `cargo run --features pem --example x509 FILE..`. With
+//! `--named TEXT`, of those alone whose subject has a commonName, or a name of DNS, that is the text.
 use dumarewhi::x509::{Certificate, Extension, GeneralName, GeneralNames, Value};
-use dumarewhi::{oid, ObjectIdentifier};
+use dumarewhi::{oid, pem, ObjectIdentifier};
 use std::process::exit;
 use std::{env, fs, io};
 
@@ -15,7 +15,7 @@ fn main() -> io::Result<()> {
     };
     let mut wrong = words.is_empty();
     for path in words {
-        for octets in encodings(fs::read(&path)?) {
+        for octets in encodings(fs::read(&path)?)? {
             match Certificate::from_der(&octets) {
                 Ok(it) if named.as_ref().map_or(true, |name| has_name(&it, name)) => print(&it),
                 Ok(_) => {}
@@ -29,29 +29,14 @@ fn main() -> io::Result<()> {
     exit(wrong.into())
 }
 
-/// The octets of each certificate in PEM (RFC 7468), or all of them if it is none.
-fn encodings(file: Vec<u8>) -> Vec<Vec<u8>> {
-    let text = String::from_utf8_lossy(&file);
-    let blocks: Vec<_> = text.split("-----BEGIN CERTIFICATE-----").skip(1).collect();
+/// The octets of each certificate in PEM (RFC 7468), or all octets if there is no PEM.
+fn encodings(file: Vec<u8>) -> dumarewhi::Result<Vec<Vec<u8>>> {
+    let blocks = pem::blocks(&file).collect::<Result<Vec<_>, _>>()?;
     if blocks.is_empty() {
-        return vec![file];
+        return Ok(vec![file]);
     }
-    let lines = |block: &str| from_base64(block.split("-----END").next().unwrap_or(""));
-    blocks.into_iter().map(lines).collect()
-}
-
-fn from_base64(text: &str) -> Vec<u8> {
-    const DIGITS: &str = "ABCDEFGHIJKLMNOPQRSTUVWXYZabcdefghijklmnopqrstuvwxyz0123456789+/";
-    let (mut octets, mut bits, mut count) = (Vec::new(), 0_u32, 0);
-    for digit in text.chars().filter_map(|it| DIGITS.find(it)) {
-        bits = bits << 6 | digit as u32;
-        count += 6;
-        if count >= 8 {
-            count -= 8;
-            octets.push((bits >> count) as u8);
-        }
-    }
-    octets
+    let certificates = blocks.into_iter().filter(|it| it.label() == "CERTIFICATE");
+    Ok(certificates.map(pem::Block::into_octets).collect())
 }
 
 fn has_name(it: &Certificate<'_>, name: &str) -> bool {

@@ -1,7 +1,7 @@
 //! One element and its value.
 use crate::element::{whole, Rules};
-use crate::error::{ErrorKind, Reason, Result};
-use crate::{ffi, BitString, Class, Element, Error, Integer, ObjectIdentifier, Reader, Tag, Time};
+use crate::error::{ErrorKind, Result};
+use crate::{BitString, Class, Element, Error, Integer, ObjectIdentifier, Reader, Tag, Time};
 use core::fmt;
 use core::hash::{Hash, Hasher};
 
@@ -22,45 +22,39 @@ use core::hash::{Hash, Hasher};
 /// ```
 #[derive(Clone, Copy)]
 pub struct Any<'a> {
-    tag: Tag,
-    constructed: bool,
-    /// The header, the content, and an end marker.
-    octets: &'a [u8],
-    header: usize,
-    content: usize,
-    offset: usize,
+    input: &'a [u8],
+    /// Where it is in the input.
+    element: Element,
+    /// Where the input begins in the outermost one.
+    base: usize,
     rules: Rules,
+    /// The tag of its type, unless an implicit one is in its place.
+    tag: Tag,
 }
 
 impl<'a> Any<'a> {
     /// Reads the one element that the input is in DER, and checks what is inside it.
     pub fn from_der(input: &'a [u8]) -> Result<Any<'a>> {
-        let (rest, any) = Rules::DER.any(input)?;
-        whole(input.len() - rest.len(), input)?;
-        Ok(any)
+        whole(input, Rules::DER.any(input)?)
     }
 
     /// Reads as [`from_der`](Any::from_der), by BER.
     pub fn from_ber(input: &'a [u8]) -> Result<Any<'a>> {
-        let (rest, any) = Rules::BER.any(input)?;
-        whole(input.len() - rest.len(), input)?;
-        Ok(any)
+        whole(input, Rules::BER.any(input)?)
     }
 
     /// The element at its offset in an input that begins at `base` of the outermost one.
-    pub(crate) fn new(input: &'a [u8], element: &Element, base: usize, rules: Rules) -> Any<'a> {
+    pub(crate) fn new(input: &'a [u8], element: Element, base: usize, rules: Rules) -> Any<'a> {
         Any {
-            tag: element.tag(),
-            constructed: element.is_constructed(),
-            octets: &input[element.range()],
-            header: element.content - element.header,
-            content: element.end - element.content,
-            offset: base + element.header,
+            input,
+            element,
+            base,
             rules,
+            tag: element.tag(),
         }
     }
 
-    /// The same element with another tag.
+    /// The same element as one of the type with this tag.
     pub(crate) fn with_tag(self, tag: Tag) -> Any<'a> {
         Any { tag, ..self }
     }
@@ -70,46 +64,75 @@ impl<'a> Any<'a> {
         self.tag
     }
 
-    /// The class of the tag.
-    pub fn class(&self) -> Class {
-        self.tag.class
-    }
-
     /// Whether it is constructed, by its identifier octets (X.690 8.1.2.5).
     pub fn is_constructed(&self) -> bool {
-        self.constructed
-    }
-
-    /// Where the element begins, in octets from the start of the input.
-    pub fn offset(&self) -> usize {
-        self.offset
+        self.element.is_constructed()
     }
 
     /// Where the content octets begin, in octets from the start of the input.
     pub fn content_offset(&self) -> usize {
-        self.offset + self.header
-    }
-
-    /// The identifier and length octets.
-    pub fn header(&self) -> &'a [u8] {
-        &self.octets[..self.header]
-    }
-
-    /// The content octets, without an end marker.
-    pub fn content(&self) -> &'a [u8] {
-        &self.octets[self.header..][..self.content]
-    }
-
-    /// All octets: the header, the content, and an end marker (X.690 8.1.5) after an indefinite length.
-    pub fn octets(&self) -> &'a [u8] {
-        self.octets
+        self.base + self.element.content
     }
 
     /// The rules that the element was read by.
+    #[cfg(feature = "alloc")]
     pub(crate) fn rules(&self) -> Rules {
         self.rules
     }
 
+    /// Reads it as a value of a type with this tag.
+    fn read<T>(&self, tag: Tag, read: impl FnOnce(&mut Reader<'a>) -> Result<T>) -> Result<T> {
+        if self.tag != tag {
+            return Err(self.unexpected(Some(tag)));
+        }
+        let mut reader = Reader::inside(self.octets(), self.offset(), self.rules);
+        read(reader.expect_implicit(self.element.tag()))
+    }
+
+    fn unexpected(&self, expected: Option<Tag>) -> Error {
+        let actual = self.tag;
+        Error::new(ErrorKind::UnexpectedTag { expected, actual }, self.offset())
+    }
+
+    /// Reads an INTEGER, or an ENUMERATED, which is one but for its tag (X.690 8.4).
+    fn read_number<T>(&self, read: impl FnOnce(&mut Reader<'a>) -> Result<T>) -> Result<T> {
+        match self.tag {
+            Tag::ENUMERATED => self.read(Tag::ENUMERATED, read),
+            _ => self.read(Tag::INTEGER, read),
+        }
+    }
+}
+
+/// Calls of an [`Any`], which a [`Node`](crate::Node) has too.
+macro_rules! calls {
+    ($($(#[$doc:meta])* $name:ident: $type:ty = |$it:ident| $value:expr;)*) => {
+        impl<'a> Any<'a> {
+            $($(#[$doc])* pub fn $name(&self) -> $type {
+                let $it = self;
+                $value
+            })*
+        }
+
+        #[cfg(feature = "alloc")]
+        impl<'a> crate::Node<'_, 'a> {
+            $($(#[$doc])* pub fn $name(&self) -> $type {
+                self.any().$name()
+            })*
+        }
+    };
+}
+
+calls! {
+    /// The class of the tag.
+    class: Class = |it| it.tag.class;
+    /// Where the element begins, in octets from the start of the input.
+    offset: usize = |it| it.base + it.element.header;
+    /// The identifier and length octets.
+    header: &'a [u8] = |it| &it.input[it.element.header_range()];
+    /// The content octets, without an end marker.
+    content: &'a [u8] = |it| &it.input[it.element.content_range()];
+    /// All octets: the header, the content, and an end marker (X.690 8.1.5) after an indefinite length.
+    octets: &'a [u8] = |it| &it.input[it.element.range()];
     /// A reader of the elements that a constructed element's content octets are, by the same rules.
     ///
     /// ```
@@ -121,113 +144,38 @@ impl<'a> Any<'a> {
     /// reader.finish()?;
     /// # Ok::<(), dumarewhi::Error>(())
     /// ```
-    pub fn reader(&self) -> Result<Reader<'a>> {
-        if !self.constructed {
-            return Err(self.error(ErrorKind::ConstructedExpected(self.tag)));
-        }
-        Ok(Reader::inside(self))
-    }
-
+    reader: Result<Reader<'a>> = |it| match it.is_constructed() {
+        true => Ok(Reader::inside(it.content(), it.content_offset(), it.rules.inside())),
+        false => Err(Error::new(ErrorKind::ConstructedExpected(it.tag), it.offset())),
+    };
     /// A BOOLEAN (X.690 8.2).
-    pub fn as_bool(&self) -> Result<bool> {
-        self.value(ffi::read_bool(self.primitive(Tag::BOOLEAN)?).map_err(Reason))
-    }
-
+    as_bool: Result<bool> = |it| it.read(Tag::BOOLEAN, Reader::boolean);
     /// An INTEGER or an ENUMERATED from 0 to 2^64-1.
-    pub fn as_u64(&self) -> Result<u64> {
-        self.value(self.as_integer()?.to_u64())
-    }
-
+    as_u64: Result<u64> = |it| it.read_number(Reader::u64);
     /// An INTEGER or an ENUMERATED from -2^63 to 2^63-1.
-    pub fn as_i64(&self) -> Result<i64> {
-        self.value(self.as_integer()?.to_i64())
-    }
-
+    as_i64: Result<i64> = |it| it.read_number(Reader::i64);
     /// An INTEGER or an ENUMERATED of any size.
-    pub fn as_integer(&self) -> Result<Integer<'a>> {
-        match self.tag {
-            Tag::ENUMERATED => self.primitive(Tag::ENUMERATED).map(Integer),
-            _ => self.primitive(Tag::INTEGER).map(Integer),
-        }
-    }
-
+    as_integer: Result<Integer<'a>> = |it| it.read_number(Reader::integer);
     /// An OBJECT IDENTIFIER (X.690 8.19).
-    pub fn as_oid(&self) -> Result<ObjectIdentifier<'a>> {
-        self.value(ObjectIdentifier::from_content(
-            self.primitive(Tag::OBJECT_IDENTIFIER)?,
-        ))
-    }
-
+    as_oid: Result<ObjectIdentifier<'a>> = |it| it.read(Tag::OBJECT_IDENTIFIER, Reader::oid);
     /// A character string (X.690 8.23): UTF8String, NumericString, PrintableString, IA5String, VisibleString,
     /// TeletexString, VideotexString, GraphicString, GeneralString or ObjectDescriptor. The octets of the
     /// last five are taken as UTF-8. A BMPString or UniversalString is no `&str`: its octets are the content.
-    pub fn as_str(&self) -> Result<&'a str> {
-        if !self.tag.is_text() {
-            return Err(self.error(ErrorKind::UnexpectedTag {
-                expected: None,
-                actual: self.tag,
-            }));
-        }
-        let content = self.primitive(self.tag)?;
-        self.value(ffi::check_text(self.tag.number, content).map_err(Reason))?;
-        core::str::from_utf8(content).map_err(|_| self.error(ErrorKind::Other("the text isn't UTF-8")))
-    }
-
-    /// An OCTET STRING (X.690 8.7). The parts of a constructed one aren't joined:
-    /// [`reader`](Any::reader) reads them.
-    pub fn as_bytes(&self) -> Result<&'a [u8]> {
-        self.primitive(Tag::OCTET_STRING)
-    }
-
+    as_str: Result<&'a str> = |it| match it.tag.is_text() {
+        true => it.read(it.tag, |reader| reader.text(it.tag)),
+        false => Err(it.unexpected(None)),
+    };
+    /// An OCTET STRING (X.690 8.7). The parts of a constructed one aren't joined: [`reader`](Any::reader) reads them.
+    as_bytes: Result<&'a [u8]> = |it| it.read(Tag::OCTET_STRING, Reader::octet_string);
     /// A BIT STRING (X.690 8.6).
-    pub fn as_bit_string(&self) -> Result<BitString<'a>> {
-        let content = self.primitive(Tag::BIT_STRING)?;
-        BitString::from_content(content).ok_or_else(|| self.error(ErrorKind::UnusedBits))
-    }
-
+    as_bit_string: Result<BitString<'a>> = |it| it.read(Tag::BIT_STRING, Reader::bit_string);
     /// A UTCTime or a GeneralizedTime (X.690 11.7 and 11.8).
-    pub fn as_time(&self) -> Result<Time> {
-        let tag = match self.tag {
-            Tag::UTC_TIME => Tag::UTC_TIME,
-            _ => Tag::GENERALIZED_TIME,
-        };
-        let content = self.primitive(tag)?;
-        self.value(Time::from_content(tag.number, content))
-    }
-
+    as_time: Result<Time> = |it| match it.tag {
+        Tag::UTC_TIME => it.read(Tag::UTC_TIME, Reader::utc_time),
+        _ => it.read(Tag::GENERALIZED_TIME, Reader::generalized_time),
+    };
     /// Whether it is a NULL (X.690 8.8).
-    pub fn is_null(&self) -> bool {
-        self.tag == Tag::NULL
-    }
-
-    /// The content octets, if the element has this tag and is primitive.
-    fn primitive(&self, tag: Tag) -> Result<&'a [u8]> {
-        self.expect(tag)?;
-        if self.constructed {
-            return Err(self.error(ErrorKind::PrimitiveExpected(tag)));
-        }
-        Ok(self.content())
-    }
-
-    /// An error unless the element has this tag.
-    pub(crate) fn expect(&self, tag: Tag) -> Result<()> {
-        if self.tag == tag {
-            return Ok(());
-        }
-        Err(self.error(ErrorKind::UnexpectedTag {
-            expected: Some(tag),
-            actual: self.tag,
-        }))
-    }
-
-    /// An error at this element.
-    pub(crate) fn error(&self, kind: ErrorKind) -> Error {
-        Error::new(kind, self.offset)
-    }
-
-    pub(crate) fn value<T>(&self, value: Result<T, Reason>) -> Result<T> {
-        value.map_err(|reason| self.error(ErrorKind::Value(reason)))
-    }
+    is_null: bool = |it| it.tag == Tag::NULL;
 }
 
 impl Rules {
@@ -242,7 +190,7 @@ impl Rules {
     /// ```
     pub fn any(self, input: &[u8]) -> Result<(&[u8], Any<'_>)> {
         let element = self.list_first(input)?;
-        Ok((&input[element.range().end..], Any::new(input, &element, 0, self)))
+        Ok((&input[element.range().end..], Any::new(input, element, 0, self)))
     }
 
     /// The first element, with what is inside it checked.
@@ -253,18 +201,12 @@ impl Rules {
     }
 }
 
-/// As [`from_der`](Any::from_der).
-impl<'a> TryFrom<&'a [u8]> for Any<'a> {
-    type Error = Error;
-
-    fn try_from(input: &'a [u8]) -> Result<Any<'a>> {
-        Any::from_der(input)
-    }
-}
+forward!(TryFrom by from_der for Any, Error);
+forward!(AsRef by octets for Any<'_>);
 
 impl PartialEq for Any<'_> {
     fn eq(&self, other: &Self) -> bool {
-        (self.tag, self.octets) == (other.tag, other.octets)
+        (self.tag, self.octets()) == (other.tag, other.octets())
     }
 }
 
@@ -272,7 +214,7 @@ impl Eq for Any<'_> {}
 
 impl Hash for Any<'_> {
     fn hash<H: Hasher>(&self, state: &mut H) {
-        (self.tag, self.octets).hash(state);
+        (self.tag, self.octets()).hash(state);
     }
 }
 
@@ -280,8 +222,8 @@ impl fmt::Debug for Any<'_> {
     fn fmt(&self, f: &mut fmt::Formatter<'_>) -> fmt::Result {
         f.debug_struct("Any")
             .field("tag", &self.tag)
-            .field("constructed", &self.constructed)
-            .field("offset", &self.offset)
+            .field("constructed", &self.is_constructed())
+            .field("offset", &self.offset())
             .field("content", &self.content())
             .finish()
     }

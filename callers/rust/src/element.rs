@@ -1,7 +1,7 @@
 //! Elements in a buffer of the caller's, without allocating.
 use crate::error::{ErrorKind, Reason, Result};
 use crate::ffi::{self, Element, Outcome};
-use crate::{Class, Error, Tag};
+use crate::{Error, Tag};
 use core::ops::Range;
 
 /// How deep elements may be, unless [`Rules::with_max_depth`] changes it: the outermost one is 1 deep, one inside it 2.
@@ -139,24 +139,17 @@ pub(crate) fn found(outcome: Outcome, input: &[u8]) -> Result<Found> {
     }
 }
 
-/// An error if octets follow an element of this length.
-pub(crate) fn whole(length: usize, input: &[u8]) -> Result<()> {
-    if length < input.len() {
-        return Err(Error::new(ErrorKind::TrailingData, length));
+/// What is read of an input, if no octets are left of it.
+pub(crate) fn whole<T>(input: &[u8], (rest, value): (&[u8], T)) -> Result<T> {
+    match rest.len() {
+        0 => Ok(value),
+        left => Err(Error::new(ErrorKind::TrailingData, input.len() - left)),
     }
-    Ok(())
 }
 
-fn check(rules: Rules, input: &[u8]) -> Result<usize> {
-    let found = rules.check(input)?;
-    whole(found.length, input)?;
-    Ok(found.elements)
-}
-
-fn list(rules: Rules, input: &[u8], elements: &mut [Element]) -> Result<usize> {
-    let found = rules.list(input, elements)?;
-    whole(found.length, input)?;
-    Ok(found.elements)
+/// How many elements an input is, if no octets follow them.
+fn count(input: &[u8], found: Found) -> Result<usize> {
+    whole(input, (&input[found.length..], found.elements))
 }
 
 /// Checks that the input is one element in DER and nothing else. Returns how many elements there are: itself
@@ -169,7 +162,7 @@ fn list(rules: Rules, input: &[u8], elements: &mut [Element]) -> Result<usize> {
 /// assert!(check_der(&[0x30, 0x03, 0x02, 0x01, 0x05, 0x00]).is_err());
 /// ```
 pub fn check_der(input: &[u8]) -> Result<usize> {
-    check(Rules::DER, input)
+    count(input, Rules::DER.check(input)?)
 }
 
 /// Checks as [`check_der`], by BER.
@@ -180,7 +173,7 @@ pub fn check_der(input: &[u8]) -> Result<usize> {
 /// assert_eq!(check_ber(&[0x30, 0x80, 0x02, 0x01, 0x05, 0x00, 0x00]), Ok(2));
 /// ```
 pub fn check_ber(input: &[u8]) -> Result<usize> {
-    check(Rules::BER, input)
+    count(input, Rules::BER.check(input)?)
 }
 
 /// Lists the one element that the input is in DER and those inside it, in preorder. The first of them are
@@ -197,7 +190,7 @@ pub fn check_ber(input: &[u8]) -> Result<usize> {
 /// # Ok::<(), dumarewhi::Error>(())
 /// ```
 pub fn list_der(input: &[u8], elements: &mut [Element]) -> Result<usize> {
-    list(Rules::DER, input, elements)
+    count(input, Rules::DER.list(input, elements)?)
 }
 
 /// Lists as [`list_der`], by BER.
@@ -213,16 +206,13 @@ pub fn list_der(input: &[u8], elements: &mut [Element]) -> Result<usize> {
 /// # Ok::<(), dumarewhi::Error>(())
 /// ```
 pub fn list_ber(input: &[u8], elements: &mut [Element]) -> Result<usize> {
-    list(Rules::BER, input, elements)
+    count(input, Rules::BER.list(input, elements)?)
 }
 
 impl Element {
     /// Its tag.
     pub fn tag(&self) -> Tag {
-        Tag {
-            class: Class::from_number(self.tag_class),
-            number: self.number,
-        }
+        Tag::of(self.tag_class, self.number)
     }
 
     /// Whether it is constructed, by its identifier octets (X.690 8.1.2.5).

@@ -1,8 +1,11 @@
 //! Why an input isn't read, or a value isn't written.
-use crate::{ffi, Tag};
+use crate::ffi::{self, Fault};
+use crate::x509::Field;
+use crate::Tag;
 use core::fmt;
 
-/// Why an input isn't read, or has no value of the type that is asked for, and where.
+/// Why an input isn't read, or has no value of the type that is asked for, and where. One of a certificate also has the
+/// field, and displays with it.
 ///
 /// ```
 /// use dumarewhi::{check_der, ErrorKind};
@@ -19,7 +22,8 @@ use core::fmt;
 #[derive(Clone, Copy, Debug, PartialEq, Eq, Hash)]
 pub struct Error {
     kind: ErrorKind,
-    offset: usize,
+    /// What the library has of a certificate. Of another input the offset alone.
+    fault: Fault,
 }
 
 /// What is wrong.
@@ -60,8 +64,6 @@ pub enum ErrorKind {
     ConstructedExpected(Tag),
     /// An element with this tag is constructed, and a primitive one is expected.
     PrimitiveExpected(Tag),
-    /// The first octet of a BIT STRING isn't a number of unused bits of the others (X.690 8.6.2).
-    UnusedBits,
     /// An element is longer than the limit of a [`Buffer`](crate::Buffer).
     TooLong {
         /// The limit in octets.
@@ -103,7 +105,28 @@ impl Error {
     /// assert_eq!(error.to_string(), "the version isn't 3 at offset 4");
     /// ```
     pub const fn new(kind: ErrorKind, offset: usize) -> Error {
-        Error { kind, offset }
+        let fault = Fault {
+            offset,
+            list_end: 0,
+            needed: 0,
+            status: ffi::OK,
+            error: 0,
+            field: 0,
+            is_in_list: 0,
+        };
+        Error { kind, fault }
+    }
+
+    /// What the library says of a certificate, or of a field.
+    pub(crate) fn of_fault(fault: Fault) -> Error {
+        let kind = match (fault.status, Reason(fault.error)) {
+            (ffi::INCOMPLETE, _) => ErrorKind::Incomplete {
+                missing: fault.needed,
+            },
+            (_, reason @ (Reason::INTEGER_TOO_LARGE | Reason::INTEGER_NEGATIVE)) => ErrorKind::Value(reason),
+            (_, reason) => ErrorKind::Malformed(reason),
+        };
+        Error { kind, fault }
     }
 
     /// What is wrong.
@@ -111,10 +134,29 @@ impl Error {
         self.kind
     }
 
-    /// Where it is wrong, in octets from the start of the input: where the innermost element begins that
-    /// shows the error. For an input that is cut short, its end.
+    /// Where it is wrong, in octets from the start of the input: where the innermost element begins that shows the
+    /// error. For an input that is cut short, its end, or from a [`Reader`](crate::Reader) or of a certificate where
+    /// the element begins that isn't whole.
     pub const fn offset(&self) -> usize {
-        self.offset
+        self.fault.offset
+    }
+
+    /// The first field that is wrong of a certificate. [`Field::None`] of another input.
+    pub fn field(&self) -> Field {
+        Field::from_number(self.fault.field)
+    }
+
+    /// Of a certificate: where the element ends that this one is in. `None` if it is outermost.
+    pub fn list_end(&self) -> Option<usize> {
+        (self.fault.is_in_list != 0).then_some(self.fault.list_end)
+    }
+
+    /// Which rule is broken, if it is one that has a number.
+    pub const fn reason(&self) -> Option<Reason> {
+        match self.kind {
+            ErrorKind::Malformed(reason) | ErrorKind::Value(reason) => Some(reason),
+            _ => None,
+        }
     }
 
     /// Whether more input may mend the error.
@@ -130,18 +172,25 @@ impl Error {
         }
     }
 
+    /// Of a certificate: how many octets the element needs, as far as the input shows, if it is cut short or runs past
+    /// the end of the element around it.
+    pub fn needed(&self) -> Option<usize> {
+        (self.fault.needed != 0).then_some(self.fault.needed)
+    }
+
     /// The same error of an input that begins at this offset of another one, and has no octets after it there.
+    #[cfg(feature = "alloc")]
     pub(crate) fn inside(self, offset: usize) -> Error {
         let kind = match self.kind {
             ErrorKind::Incomplete { missing } => ErrorKind::Overrun { missing },
             kind => kind,
         };
-        Error::new(kind, self.offset).after(offset)
+        Error::new(kind, self.offset()).after(offset)
     }
 
     /// The same error of an input that begins at this offset of another one.
     pub(crate) fn after(self, offset: usize) -> Error {
-        Error::new(self.kind, self.offset.saturating_add(offset))
+        Error::new(self.kind, self.offset().saturating_add(offset))
     }
 }
 
@@ -243,10 +292,56 @@ reasons! {
     EXTENSION_REPEATED = 137, "an extension is repeated";
     SUBJECT_WITHOUT_NAME = 138, "the subject has no name";
     VALUE_NOT_DER = 139, "a value of any type is not DER";
+    PEM_NO_BLOCK = 192, "no line -----BEGIN ..-----";
+    PEM_NO_END = 193, "a block without its line -----END ..-----";
+    PEM_LABELS_DIFFER = 194, "a block whose first and last line have other labels";
+    PEM_ENCRYPTED = 195, "the block is encrypted";
+    PEM_BASE64 = 196, "invalid base64";
+    PEM_NO_ROOM = 197, "a buffer is too small for the block";
 }
 
 /// How many octets the text of an error has at most.
-pub(crate) const LONGEST_TEXT: usize = 160;
+const LONGEST_TEXT: usize = 160;
+
+/// What the function makes of a text that is written to a slice, and whose length is returned. One of more than `N`
+/// octets is written in memory that is allocated for it: without the feature `alloc` there is none.
+pub(crate) fn with_text<const N: usize, T>(
+    write: impl Fn(&mut [u8]) -> Option<usize>,
+    function: impl FnOnce(&str) -> T,
+) -> Option<T> {
+    let mut short = [0; N];
+    let length = write(&mut short)?;
+    match short.get(..length) {
+        Some(text) => core::str::from_utf8(text).ok().map(function),
+        None => with_long_text(length, write, function),
+    }
+}
+
+#[cfg(feature = "alloc")]
+fn with_long_text<T>(
+    length: usize,
+    write: impl Fn(&mut [u8]) -> Option<usize>,
+    function: impl FnOnce(&str) -> T,
+) -> Option<T> {
+    let mut text = alloc::vec![0; length];
+    write(&mut text)?;
+    core::str::from_utf8(&text).ok().map(function)
+}
+
+#[cfg(not(feature = "alloc"))]
+fn with_long_text<T>(
+    _: usize,
+    _: impl Fn(&mut [u8]) -> Option<usize>,
+    _: impl FnOnce(&str) -> T,
+) -> Option<T> {
+    None
+}
+
+/// Shows the text of an error that is written to a slice.
+fn show(f: &mut fmt::Formatter<'_>, write: impl Fn(&mut [u8]) -> usize) -> fmt::Result {
+    with_text::<LONGEST_TEXT, _>(|text| Some(write(text)), |text| f.write_str(text))
+        .unwrap_or(Err(fmt::Error))
+}
 
 impl Reason {
     /// The number.
@@ -257,12 +352,7 @@ impl Reason {
 
 impl fmt::Display for Reason {
     fn fmt(&self, f: &mut fmt::Formatter<'_>) -> fmt::Result {
-        let mut text = [0; LONGEST_TEXT];
-        let length = ffi::error_text(self.0, &mut text).min(text.len());
-        match core::str::from_utf8(&text[..length]) {
-            Ok(text) => f.write_str(text),
-            Err(_) => write!(f, "error {}", self.0),
-        }
+        show(f, |text| ffi::error_text(self.0, text))
     }
 }
 
@@ -271,27 +361,17 @@ impl fmt::Display for ErrorKind {
         match self {
             ErrorKind::Malformed(reason) | ErrorKind::Value(reason) => reason.fmt(f),
             ErrorKind::Incomplete { missing } => write!(f, "incomplete, needs {missing}"),
-            ErrorKind::Overrun { missing } => {
-                write!(
-                    f,
-                    "an element runs {missing} past the end of the content around it"
-                )
+            ErrorKind::Overrun { missing: past } => {
+                write!(f, "an element runs {past} past the end of the content around it")
             }
             ErrorKind::TrailingData => f.write_str("octets are left"),
             ErrorKind::MissingElement => f.write_str("an element is missing"),
-            ErrorKind::UnexpectedTag {
-                expected: Some(expected),
-                actual,
-            } => {
-                write!(f, "unexpected tag (expected {expected}, actual {actual})")
-            }
-            ErrorKind::UnexpectedTag {
-                expected: None,
-                actual,
-            } => write!(f, "unexpected tag {actual}"),
+            ErrorKind::UnexpectedTag { expected, actual } => match expected {
+                Some(expected) => write!(f, "unexpected tag (expected {expected}, actual {actual})"),
+                None => write!(f, "unexpected tag {actual}"),
+            },
             ErrorKind::ConstructedExpected(tag) => write!(f, "constructed encoding expected for {tag}"),
             ErrorKind::PrimitiveExpected(tag) => write!(f, "primitive encoding expected for {tag}"),
-            ErrorKind::UnusedBits => f.write_str("invalid number of unused bits"),
             ErrorKind::TooLong { limit } => write!(f, "an element is longer than {limit} octets"),
             ErrorKind::NoRoom { needed } => write!(f, "no room, needs {needed}"),
             ErrorKind::OutOfMemory => f.write_str("out of memory"),
@@ -302,7 +382,10 @@ impl fmt::Display for ErrorKind {
 
 impl fmt::Display for Error {
     fn fmt(&self, f: &mut fmt::Formatter<'_>) -> fmt::Result {
-        write!(f, "{} at offset {}", self.kind, self.offset)
+        if self.fault.status == ffi::OK {
+            return write!(f, "{} at offset {}", self.kind, self.offset());
+        }
+        show(f, |text| ffi::fault_text(&self.fault, text))
     }
 }
 

@@ -1,13 +1,14 @@
 //! Object identifiers.
-use crate::error::Reason;
-use crate::ffi;
 #[cfg(feature = "alloc")]
-use alloc::vec::Vec;
+mod buf;
+
+use crate::error::{with_text, Reason};
+use crate::ffi::{self, Octets};
+#[cfg(feature = "alloc")]
+pub use buf::ObjectIdentifierBuf;
 use core::cmp::Ordering;
 use core::fmt;
 use core::iter::FusedIterator;
-#[cfg(feature = "alloc")]
-use core::str::FromStr;
 
 /// An OBJECT IDENTIFIER (X.690 8.19), over its content octets. It displays as its arcs with points.
 ///
@@ -30,7 +31,7 @@ use core::str::FromStr;
 #[derive(Clone, Copy, PartialEq, Eq, Hash)]
 pub struct ObjectIdentifier<'a>(&'a [u8]);
 
-/// An identifier with a longer text is written in memory that is allocated for it.
+/// An identifier with a longer text is written in memory that is allocated for it, if the feature `alloc` is on.
 const SHORT_TEXT: usize = 256;
 
 impl<'a> ObjectIdentifier<'a> {
@@ -41,18 +42,13 @@ impl<'a> ObjectIdentifier<'a> {
         Ok(ObjectIdentifier(content))
     }
 
-    /// An identifier that the library has read. It may have an arc of 2^128 or more.
-    pub(crate) fn unchecked(content: &'a [u8]) -> ObjectIdentifier<'a> {
-        ObjectIdentifier(content)
-    }
-
     /// The content octets.
     pub fn as_bytes(self) -> &'a [u8] {
         self.0
     }
 
     /// The arcs, the first ones first. The first subidentifier has two of them (X.690 8.19.4). One of 2^128 or more, as
-    /// an identifier of a certificate may have, counts as 2^128-1.
+    /// an identifier may have that a [`Reader`](crate::Reader) read or that is of a certificate, counts as 2^128-1.
     ///
     /// ```
     /// use dumarewhi::oid;
@@ -79,45 +75,22 @@ impl<'a> ObjectIdentifier<'a> {
         self.0.starts_with(other.0)
     }
 
-    /// What the function makes of the text, if there is memory to write it: without the feature `alloc`, only a
-    /// text of at most 256 octets has it.
+    /// What the function makes of the text, if there is memory to write it.
     fn with_text<T>(self, function: impl FnOnce(&str) -> T) -> Option<T> {
-        let mut short = [0; SHORT_TEXT];
-        let length = ffi::read_oid(self.0, &mut short).ok()?;
-        if let Some(text) = short.get(..length) {
-            return core::str::from_utf8(text).ok().map(function);
-        }
-        self.with_long_text(length, function)
-    }
-
-    #[cfg(feature = "alloc")]
-    fn with_long_text<T>(self, length: usize, function: impl FnOnce(&str) -> T) -> Option<T> {
-        let mut text = alloc::vec![0; length];
-        ffi::read_oid(self.0, &mut text).ok()?;
-        core::str::from_utf8(&text).ok().map(function)
-    }
-
-    #[cfg(not(feature = "alloc"))]
-    fn with_long_text<T>(self, _: usize, _: impl FnOnce(&str) -> T) -> Option<T> {
-        None
+        with_text::<SHORT_TEXT, _>(|text| ffi::read_oid(self.0, text).ok(), function)
     }
 }
 
-/// As [`from_content`](ObjectIdentifier::from_content).
-impl<'a> TryFrom<&'a [u8]> for ObjectIdentifier<'a> {
-    type Error = Reason;
-
-    fn try_from(content: &'a [u8]) -> Result<ObjectIdentifier<'a>, Reason> {
-        ObjectIdentifier::from_content(content)
+/// One that the library has read. It may have an arc of 2^128 or more.
+impl<'a> From<Octets<'a>> for ObjectIdentifier<'a> {
+    fn from(content: Octets<'a>) -> ObjectIdentifier<'a> {
+        ObjectIdentifier(content.get())
     }
 }
 
-/// The content octets.
-impl AsRef<[u8]> for ObjectIdentifier<'_> {
-    fn as_ref(&self) -> &[u8] {
-        self.0
-    }
-}
+forward!(TryFrom by from_content for ObjectIdentifier, Reason);
+forward!(AsRef by as_bytes for ObjectIdentifier<'_>);
+forward!(PartialOrd for ObjectIdentifier<'_>);
 
 /// By their arcs. Spellings of the same arcs sort by their octets.
 impl Ord for ObjectIdentifier<'_> {
@@ -126,14 +99,8 @@ impl Ord for ObjectIdentifier<'_> {
     }
 }
 
-impl PartialOrd for ObjectIdentifier<'_> {
-    fn partial_cmp(&self, other: &Self) -> Option<Ordering> {
-        Some(self.cmp(other))
-    }
-}
-
-/// Arcs with points. An identifier of a certificate may have an arc of 2^128 or more: then it is `#` and its content
-/// octets in hexadecimal digits. Without the feature `alloc`, so is one whose text has more than 256 octets.
+/// Arcs with points. An identifier that has an arc of 2^128 or more is `#` and its content octets in hexadecimal
+/// digits. Without the feature `alloc`, so is one whose text has more than 256 octets.
 impl fmt::Display for ObjectIdentifier<'_> {
     fn fmt(&self, f: &mut fmt::Formatter<'_>) -> fmt::Result {
         if let Some(shown) = self.with_text(|text| f.pad(text)) {
@@ -290,108 +257,4 @@ const fn spelled(number: u128) -> ([u8; DIGITS], usize) {
         rest >>= 7;
     }
     (octets, start)
-}
-
-/// An [`ObjectIdentifier`] with octets of its own.
-///
-/// ```
-/// use dumarewhi::{oid, ObjectIdentifierBuf};
-///
-/// let identifier: ObjectIdentifierBuf = "2.5.4.3".parse()?;
-/// assert_eq!(identifier.as_oid(), oid!(2, 5, 4, 3));
-/// assert!("2.5.04.3".parse::<ObjectIdentifierBuf>().is_err());
-/// # Ok::<(), dumarewhi::Reason>(())
-/// ```
-#[cfg(feature = "alloc")]
-#[derive(Clone, PartialEq, Eq, Hash)]
-pub struct ObjectIdentifierBuf(Vec<u8>);
-
-#[cfg(feature = "alloc")]
-impl ObjectIdentifierBuf {
-    /// The identifier with these arcs. An error if there are fewer than two, or if the first two can't be (X.690
-    /// 8.19.4).
-    pub fn from_arcs(arcs: &[u128]) -> Result<ObjectIdentifierBuf, Reason> {
-        if arcs.len() < 2 {
-            return Err(Reason::INVALID_LENGTH);
-        }
-        if !are_arcs(arcs) {
-            return Err(Reason::WRONG_VALUE);
-        }
-        let mut content = Vec::new();
-        for index in 1..arcs.len() {
-            let (digits, start) = spelled(subidentifier(arcs, index));
-            content.extend_from_slice(&digits[start..]);
-        }
-        Ok(ObjectIdentifierBuf(content))
-    }
-
-    /// The identifier that borrows these octets.
-    pub fn as_oid(&self) -> ObjectIdentifier<'_> {
-        ObjectIdentifier(&self.0)
-    }
-}
-
-/// Arcs with points, without leading zeros, each below 2^128. What is returned displays as the text.
-#[cfg(feature = "alloc")]
-impl FromStr for ObjectIdentifierBuf {
-    type Err = Reason;
-
-    fn from_str(text: &str) -> Result<ObjectIdentifierBuf, Reason> {
-        let arcs: Result<Vec<_>, _> = text.split('.').map(str::parse).collect();
-        let identifier = ObjectIdentifierBuf::from_arcs(&arcs.map_err(|_| Reason::INVALID_VALUE)?)?;
-        match identifier.as_oid() == *text {
-            true => Ok(identifier),
-            false => Err(Reason::INVALID_VALUE),
-        }
-    }
-}
-
-#[cfg(feature = "alloc")]
-impl From<ObjectIdentifier<'_>> for ObjectIdentifierBuf {
-    fn from(identifier: ObjectIdentifier<'_>) -> ObjectIdentifierBuf {
-        ObjectIdentifierBuf(identifier.0.to_vec())
-    }
-}
-
-#[cfg(feature = "alloc")]
-impl PartialEq<ObjectIdentifier<'_>> for ObjectIdentifierBuf {
-    fn eq(&self, other: &ObjectIdentifier<'_>) -> bool {
-        self.as_oid() == *other
-    }
-}
-
-#[cfg(feature = "alloc")]
-impl PartialEq<ObjectIdentifierBuf> for ObjectIdentifier<'_> {
-    fn eq(&self, other: &ObjectIdentifierBuf) -> bool {
-        *self == other.as_oid()
-    }
-}
-
-/// As an [`ObjectIdentifier`].
-#[cfg(feature = "alloc")]
-impl Ord for ObjectIdentifierBuf {
-    fn cmp(&self, other: &Self) -> Ordering {
-        self.as_oid().cmp(&other.as_oid())
-    }
-}
-
-#[cfg(feature = "alloc")]
-impl PartialOrd for ObjectIdentifierBuf {
-    fn partial_cmp(&self, other: &Self) -> Option<Ordering> {
-        Some(self.cmp(other))
-    }
-}
-
-#[cfg(feature = "alloc")]
-impl fmt::Display for ObjectIdentifierBuf {
-    fn fmt(&self, f: &mut fmt::Formatter<'_>) -> fmt::Result {
-        fmt::Display::fmt(&self.as_oid(), f)
-    }
-}
-
-#[cfg(feature = "alloc")]
-impl fmt::Debug for ObjectIdentifierBuf {
-    fn fmt(&self, f: &mut fmt::Formatter<'_>) -> fmt::Result {
-        fmt::Debug::fmt(&self.as_oid(), f)
-    }
 }

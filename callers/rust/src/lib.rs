@@ -16,7 +16,7 @@
 //! | To | use |
 //! |---|---|
 //! | read a whole input, and look at its elements | [`Tree`], [`Node`] |
-//! | read the fields of a type, one after the other | [`Reader`], or [`Cursor`], whose calls are proved |
+//! | read the fields of a type, one after the other | [`Reader`] |
 //! | take input in pieces, as from a socket | [`Buffer`] |
 //! | check, list or count without allocating | [`check_der`], [`list_der`], [`Rules`] |
 //! | read one element | [`Any`] |
@@ -30,16 +30,15 @@
 //! # What is proved
 //!
 //! The work is done by `libdumarewhi_c.a`, which is written in Rattle and proved: which inputs it reads, which
-//! elements it lists and where, which error it reports, which values it gives, which fields a [`Cursor`] and [`x509`]
+//! elements it lists and where, which error it reports, which values it gives, which fields a [`Reader`] and [`x509`]
 //! read, which octets a [`Writer`] writes, and that what [`write_der`] writes is the input as DER writes it. The texts
 //! of errors and names are tested. Its header `dumarewhi.h` has the calls. This crate passes slices to them, and makes
 //! safe types of what they return.
 //!
-//! It computes little itself: slices of the input by the offsets that are listed, the steps from an element to the
-//! next, what a [`Reader`] does with the elements that it reads, the header of the short copy that
-//! [`Reader::implicit`] checks, the split of a BIT STRING's first octet, what is kept of an input that comes in
-//! pieces, the octets of a BMPString that is written, those of [`oid!`] and the arcs of an [`ObjectIdentifier`],
-//! and the days of a calendar. That is tested, and not proved.
+//! It computes little itself: slices of the input by the offsets that are listed, the steps from an element of a
+//! [`Tree`] to the next, how deep the elements of a [`Reader`] may be and whether a default value is written, what is
+//! kept of an input that comes in pieces, the octets of a BMPString that is written, those of [`oid!`] and the arcs of
+//! an [`ObjectIdentifier`], the order of numbers, and the days of a calendar. That is tested, and not proved.
 //!
 //! # What you might not expect
 //!
@@ -55,25 +54,28 @@
 //! # Features
 //!
 //! `std` (by default) implements [`std::error::Error`], and has `SystemTime` and `IpAddr`. `alloc` has [`Tree`],
-//! [`Buffer`], [`to_vec`] and [`ObjectIdentifierBuf`]. Without them, the crate is `no_std` and never allocates.
+//! [`Buffer`], [`to_vec`] and [`ObjectIdentifierBuf`]. `pem` has the blocks of a text (RFC 7468). Without them, the
+//! crate is `no_std` and never allocates.
 #![no_std]
 #![deny(missing_docs)]
 #![deny(unsafe_code)]
 #![cfg_attr(feature = "std", deny(rustdoc::broken_intra_doc_links))]
+#![cfg_attr(docsrs, feature(doc_cfg))]
 
 #[cfg(feature = "alloc")]
 extern crate alloc;
 #[cfg(any(feature = "std", test))]
 extern crate std;
 
+#[macro_use]
+mod forward;
 mod any;
-mod cursor;
-mod decode;
 mod element;
-mod encode;
 mod error;
 mod ffi;
 mod identifier;
+#[cfg(feature = "pem")]
+pub mod pem;
 mod reader;
 #[cfg(feature = "alloc")]
 mod stream;
@@ -81,16 +83,14 @@ mod tag;
 mod time;
 #[cfg(feature = "alloc")]
 mod tree;
+mod types;
 mod value;
 mod write;
 mod writer;
 pub mod x509;
 
 pub use any::Any;
-pub use cursor::Cursor;
-pub use decode::Decode;
 pub use element::{check_ber, check_der, list_ber, list_der, Found, Rules, MAX_DEPTH};
-pub use encode::Encode;
 pub use error::{Error, ErrorKind, Reason, Result};
 pub use ffi::Element;
 #[cfg(feature = "alloc")]
@@ -103,6 +103,7 @@ pub use tag::{Class, Tag};
 pub use time::{Time, Zone};
 #[cfg(feature = "alloc")]
 pub use tree::{Children, Descendants, Node, Tree};
+pub use types::{Decode, Encode};
 pub use value::{BitString, Bits, Integer};
 #[cfg(feature = "alloc")]
 pub use write::to_der;

@@ -1,15 +1,14 @@
 //! Field after field.
-use crate::element::Rules;
 use crate::error::{ErrorKind, Result};
-#[cfg(feature = "alloc")]
-use crate::ffi::Fields;
-use crate::{Any, BitString, Class, Decode, Element, Error, Integer, ObjectIdentifier, Tag, Time};
+use crate::ffi::{self, Cursor, Fault};
+use crate::{Any, BitString, Decode, Error, Integer, ObjectIdentifier, Reason, Rules, Tag, Time};
 
-/// Reads the fields of a type, one after the other.
+/// Reads the fields of a type, one after the other, by calls that are proved.
 ///
-/// Each call reads the next element, checks it with all that is inside it, and compares its tag. After an
-/// error the reader is where it was. A reader keeps no list, and allocates in [`implicit`](Reader::implicit) alone.
-/// What is inside an element is checked with it, so when its fields are read, only headers are read once more.
+/// Each call reads the next element, and compares its tag. What is inside a list is read by the calls that follow, all
+/// of it, and [`any`](Reader::any) checks what is inside the element that it returns. After an error the reader is
+/// where it was. It keeps no list, and never allocates. By BER, more than 49 indefinite lengths inside one another are
+/// an error.
 ///
 /// ```
 /// use dumarewhi::{Reader, Tag};
@@ -29,15 +28,51 @@ use crate::{Any, BitString, Class, Decode, Element, Error, Integer, ObjectIdenti
 /// ```
 #[derive(Clone, Debug)]
 pub struct Reader<'a> {
-    input: &'a [u8],
-    position: usize,
-    /// Where the input begins in the outermost one.
-    base: usize,
-    /// Whether the input is the content of an element, so that no more of it can come, and its elements were checked.
-    nested: bool,
-    rules: Rules,
-    /// The next element, if it has been looked at.
-    next: Option<Any<'a>>,
+    cursor: Cursor<'a>,
+    /// How deep the elements may be.
+    max_depth: usize,
+}
+
+/// Calls that read a value of one type: what it is, its tag, the call of the cursor, and the value of what that reads.
+macro_rules! values {
+    ($($(#[$doc:meta])* $name:ident: $type:ty = $tag:ident, |$value:pat_param| $of:expr;)*) => {
+        impl<'a> Reader<'a> {
+            $($(#[$doc])* pub fn $name(&mut self) -> Result<$type> {
+                self.next(Tag::$tag, Cursor::$name).map(|$value| $of)
+            })*
+        }
+    };
+}
+
+values! {
+    /// Reads a BOOLEAN.
+    boolean: bool = BOOLEAN, |value| value != 0;
+    /// Reads an INTEGER of any size.
+    integer: Integer<'a> = INTEGER, |octets| octets.into();
+    /// Reads an INTEGER from 0 to 2^64-1.
+    u64: u64 = INTEGER, |number| number;
+    /// Reads an INTEGER from -2^63 to 2^63-1.
+    i64: i64 = INTEGER, |number| number;
+    /// Reads a NULL.
+    null: () = NULL, |()| ();
+    /// Reads an OBJECT IDENTIFIER.
+    ///
+    /// ```
+    /// use dumarewhi::Reader;
+    ///
+    /// let mut reader = Reader::new(&[0x06, 0x03, 0x55, 0x04, 0x03]);
+    /// assert!(reader.oid()? == "2.5.4.3");
+    /// # Ok::<(), dumarewhi::Error>(())
+    /// ```
+    oid: ObjectIdentifier<'a> = OBJECT_IDENTIFIER, |octets| octets.into();
+    /// Reads an OCTET STRING.
+    octet_string: &'a [u8] = OCTET_STRING, |octets| octets.into();
+    /// Reads a BIT STRING.
+    bit_string: BitString<'a> = BIT_STRING, |bits| bits.into();
+    /// Reads a UTCTime.
+    utc_time: Time = UTC_TIME, |time| time.into();
+    /// Reads a GeneralizedTime.
+    generalized_time: Time = GENERALIZED_TIME, |time| time.into();
 }
 
 impl<'a> Reader<'a> {
@@ -57,36 +92,40 @@ impl<'a> Reader<'a> {
     /// # Ok::<(), dumarewhi::Error>(())
     /// ```
     pub fn with_rules(input: &'a [u8], rules: Rules) -> Reader<'a> {
+        let cursor = Cursor {
+            left: ffi::Octets::of(input),
+            rules: rules.is_der().into(),
+            ..Cursor::default()
+        };
         Reader {
-            input,
-            position: 0,
-            base: 0,
-            nested: false,
-            rules,
-            next: None,
+            cursor,
+            max_depth: rules.max_depth(),
         }
     }
 
-    /// A reader of the elements that the content octets of a constructed element are. They were checked with it.
-    pub(crate) fn inside(any: &Any<'a>) -> Reader<'a> {
-        Reader {
-            input: any.content(),
-            position: 0,
-            base: any.content_offset(),
-            nested: true,
-            rules: any.rules().inside(),
-            next: None,
+    /// A reader of octets that an element has, which begin at this offset of the outermost input.
+    pub(crate) fn inside(octets: &'a [u8], offset: usize, rules: Rules) -> Reader<'a> {
+        let mut reader = Reader::with_rules(octets, rules);
+        reader.cursor.offset = offset;
+        reader.cursor.is_inside = 1;
+        reader
+    }
+
+    fn rules(&self) -> Rules {
+        match self.cursor.rules {
+            0 => Rules::BER.with_max_depth(self.max_depth),
+            _ => Rules::DER.with_max_depth(self.max_depth),
         }
     }
 
     /// Where the next element begins, in octets from the start of the outermost input.
     pub fn offset(&self) -> usize {
-        self.base + self.position
+        self.cursor.offset
     }
 
     /// The octets that aren't read yet.
     pub fn remaining(&self) -> &'a [u8] {
-        &self.input[self.position..]
+        self.cursor.left.get()
     }
 
     /// Whether all octets are read.
@@ -96,10 +135,13 @@ impl<'a> Reader<'a> {
 
     /// An error unless all octets are read.
     pub fn finish(self) -> Result<()> {
-        if self.is_finished() {
-            return Ok(());
-        }
-        Err(Error::new(ErrorKind::TrailingData, self.offset()))
+        let left = |fault: Fault| Error::new(ErrorKind::TrailingData, fault.offset);
+        self.cursor.end().map_err(left)
+    }
+
+    /// Whether an element with this tag is next, primitive or constructed.
+    pub fn is_next(&self, tag: Tag) -> bool {
+        self.cursor.is_next(tag)
     }
 
     /// The tag of the next element, or `None` at the end.
@@ -113,61 +155,62 @@ impl<'a> Reader<'a> {
     /// assert_eq!(reader.peek_tag()?, None);
     /// # Ok::<(), dumarewhi::Error>(())
     /// ```
-    pub fn peek_tag(&mut self) -> Result<Option<Tag>> {
-        if self.is_finished() {
-            return Ok(None);
-        }
-        self.peek().map(|any| Some(any.tag()))
-    }
-
-    /// The next element, which stays the next one.
-    fn peek(&mut self) -> Result<Any<'a>> {
-        if let Some(next) = self.next {
-            return Ok(next);
-        }
-        let next = self.look()?;
-        self.next = Some(next);
-        Ok(next)
-    }
-
-    fn look(&self) -> Result<Any<'a>> {
-        let (rest, offset) = (self.remaining(), self.offset());
-        if rest.is_empty() && self.nested {
-            return Err(Error::new(ErrorKind::MissingElement, offset));
-        }
-        match self.first_of(rest) {
-            Ok(element) => Ok(Any::new(rest, &element, offset, self.rules)),
-            Err(error) if self.nested => Err(error.inside(offset)),
-            Err(error) => Err(error.after(offset)),
+    pub fn peek_tag(&self) -> Result<Option<Tag>> {
+        match self.is_finished() {
+            true => Ok(None),
+            false => self.clone().header().map(Some),
         }
     }
 
-    /// The first element. One that was checked is framed, unless more indefinite lengths are inside one another than
-    /// can be framed.
-    fn first_of(&self, rest: &[u8]) -> Result<Element> {
-        if self.nested {
-            if let Ok(element) = self.rules.first(rest) {
-                return Ok(element);
-            }
-        }
-        self.rules.list_first(rest)
+    /// Reads an element of any type, whose content isn't checked, and returns its tag.
+    fn header(&mut self) -> Result<Tag> {
+        let fields = self.cursor.any().map_err(|fault| self.error(fault, None))?;
+        Ok(Tag::of(fields.tag_class, fields.number))
     }
 
-    /// Reads the next element, and takes it if the function returns Ok.
-    fn take<T>(&mut self, function: impl FnOnce(Any<'a>) -> Result<T>) -> Result<T> {
-        let any = self.peek()?;
-        let value = function(any)?;
-        self.position += any.octets().len();
-        self.next = None;
+    /// Reads by a call for the type with this tag, or for the implicit tag in its place.
+    fn next<T>(&mut self, tag: Tag, call: impl FnOnce(&mut Cursor<'a>) -> Result<T, Fault>) -> Result<T> {
+        if self.max_depth == 0 {
+            return Err(Error::new(ErrorKind::Malformed(Reason::MAX_DEPTH), self.offset()));
+        }
+        call(&mut self.cursor).map_err(|fault| self.error(fault, Some(tag)))
+    }
+
+    /// The error of the next element, which should have the implicit tag that is expected, or else this one.
+    #[cold]
+    fn error(&self, fault: Fault, tag: Option<Tag>) -> Error {
+        let expected = self.cursor.implicit_tag().or(tag);
+        let kind = match (Reason(fault.error), expected) {
+            _ if self.is_finished() && self.cursor.is_inside != 0 => ErrorKind::MissingElement,
+            (Reason::UNEXPECTED_TAG | Reason::UNEXPECTED_CLASS, expected) => match self.peek_tag() {
+                Ok(Some(actual)) => ErrorKind::UnexpectedTag { expected, actual },
+                _ => Error::of_fault(fault).kind(),
+            },
+            (Reason::CONSTRUCTED_EXPECTED, Some(tag)) => ErrorKind::ConstructedExpected(tag),
+            (Reason::PRIMITIVE_EXPECTED, Some(tag)) => ErrorKind::PrimitiveExpected(tag),
+            _ => Error::of_fault(fault).kind(),
+        };
+        Error::new(kind, fault.offset)
+    }
+
+    /// Whether the value that is next may begin with such a tag, or has the implicit tag. If not, that is forgotten.
+    pub(crate) fn has(&mut self, begins_with: impl FnOnce(Tag) -> bool) -> Result<bool> {
+        let has = match self.cursor.implicit_tag() {
+            Some(tag) => self.is_next(tag),
+            None => self.peek_tag()?.map_or(false, begins_with),
+        };
+        if !has {
+            self.cursor.implicit = 0;
+        }
+        Ok(has)
+    }
+
+    /// Reads by the function, and stays where it was if that returns an error.
+    pub(crate) fn attempt<T>(&mut self, function: impl FnOnce(&mut Reader<'a>) -> Result<T>) -> Result<T> {
+        let mut after = self.clone();
+        let value = function(&mut after)?;
+        *self = after;
         Ok(value)
-    }
-
-    /// Reads the next element with this tag.
-    pub(crate) fn typed<T>(&mut self, tag: Tag, function: impl FnOnce(Any<'a>) -> Result<T>) -> Result<T> {
-        self.take(|any| {
-            any.expect(tag)?;
-            function(any)
-        })
     }
 
     /// Reads a value.
@@ -198,16 +241,16 @@ impl<'a> Reader<'a> {
     /// ```
     pub fn value_or<T: Decode<'a> + PartialEq>(&mut self, default: T) -> Result<T> {
         let offset = self.offset();
-        match self.value::<Option<T>>()? {
-            Some(value) if self.rules.is_der() && value == default => {
+        self.attempt(|r| match r.value::<Option<T>>()? {
+            Some(value) if r.rules().is_der() && value == default => {
                 let text = "a default value is written (X.690 11.5)";
                 Err(Error::new(ErrorKind::Other(text), offset))
             }
             value => Ok(value.unwrap_or(default)),
-        }
+        })
     }
 
-    /// Reads an element of any type.
+    /// Reads an element of any type, and checks what is inside it.
     ///
     /// ```
     /// use dumarewhi::Reader;
@@ -218,12 +261,21 @@ impl<'a> Reader<'a> {
     /// # Ok::<(), dumarewhi::Error>(())
     /// ```
     pub fn any(&mut self) -> Result<Any<'a>> {
-        self.take(Ok)
+        self.attempt(|r| {
+            let (octets, offset) = (r.remaining(), r.offset());
+            r.header()?;
+            let octets = &octets[..octets.len() - r.remaining().len()];
+            let element = r
+                .rules()
+                .list_first(octets)
+                .map_err(|error| error.after(offset))?;
+            Ok(Any::new(octets, element, offset, r.rules()))
+        })
     }
 
     /// Reads a SEQUENCE: the function reads its elements, all of them.
     pub fn sequence<T>(&mut self, function: impl FnOnce(&mut Reader<'a>) -> Result<T>) -> Result<T> {
-        self.tagged(Tag::SEQUENCE, function)
+        self.list(Tag::SEQUENCE, Cursor::sequence, function)
     }
 
     /// Reads a SET: the function reads its elements, all of them.
@@ -244,7 +296,7 @@ impl<'a> Reader<'a> {
     /// # Ok::<(), dumarewhi::Error>(())
     /// ```
     pub fn set<T>(&mut self, function: impl FnOnce(&mut Reader<'a>) -> Result<T>) -> Result<T> {
-        self.tagged(Tag::SET, function)
+        self.list(Tag::SET, Cursor::set, function)
     }
 
     /// Reads a constructed element with this tag: the function reads the elements that its content octets are,
@@ -262,20 +314,48 @@ impl<'a> Reader<'a> {
     /// # Ok::<(), dumarewhi::Error>(())
     /// ```
     pub fn tagged<T>(&mut self, tag: Tag, function: impl FnOnce(&mut Reader<'a>) -> Result<T>) -> Result<T> {
-        self.typed(tag, |any| {
-            let mut inner = any.reader()?;
-            let value = function(&mut inner)?;
-            inner.finish()?;
+        self.list(tag, |cursor| cursor.content(tag, true), function)
+    }
+
+    fn list<T>(
+        &mut self,
+        tag: Tag,
+        call: impl FnOnce(&mut Cursor<'a>) -> Result<Cursor<'a>, Fault>,
+        function: impl FnOnce(&mut Reader<'a>) -> Result<T>,
+    ) -> Result<T> {
+        self.attempt(|r| {
+            let mut items = Reader {
+                cursor: r.next(tag, call)?,
+                max_depth: r.rules().inside().max_depth(),
+            };
+            let value = function(&mut items)?;
+            items.finish()?;
             Ok(value)
         })
     }
 
-    /// Reads an element with this tag as one of a universal type, whose tag it replaces: an IMPLICIT tag. The
-    /// content is checked by the rules of that type.
+    /// Gives the next element this tag in place of that of its type: an IMPLICIT tag. [`tagged`](Reader::tagged) reads
+    /// that of a SEQUENCE or SET.
     ///
-    /// The check needs a copy of the content, except that of an OCTET STRING. It is allocated if it is longer
-    /// than 127 octets. Without the feature `alloc`, that is an error.
-    /// [`tagged`](Reader::tagged) reads a SEQUENCE or SET without a copy.
+    /// ```
+    /// use dumarewhi::{Reader, Tag};
+    ///
+    /// // dNSName [2] IMPLICIT IA5String
+    /// let mut reader = Reader::new(&[0x82, 0x03, b'a', b'.', b'b', 0x81, 0x02, 0x00, 0x05]);
+    /// assert_eq!(reader.expect_implicit(Tag::context(2)).ia5_string()?, "a.b");
+    /// // [1] IMPLICIT INTEGER, with a leading zero that DER doesn't allow
+    /// assert!(reader.expect_implicit(Tag::context(1)).u64().is_err());
+    /// # Ok::<(), dumarewhi::Error>(())
+    /// ```
+    pub fn expect_implicit(&mut self, tag: Tag) -> &mut Reader<'a> {
+        self.cursor.implicit = 1 + tag.class as u32;
+        self.cursor.number = tag.number;
+        self
+    }
+
+    /// Reads an element with this tag as one of a universal type, whose tag it replaces: an IMPLICIT tag. The content
+    /// is checked by the rules of that type, which is one that a call of this reader reads.
+    /// [`expect_implicit`](Reader::expect_implicit) gives the value at once.
     ///
     /// ```
     /// use dumarewhi::{Reader, Tag};
@@ -288,11 +368,24 @@ impl<'a> Reader<'a> {
     /// # Ok::<(), dumarewhi::Error>(())
     /// ```
     pub fn implicit(&mut self, tag: Tag, universal: Tag) -> Result<Any<'a>> {
-        self.typed(tag, |any| {
-            let any = any.with_tag(universal);
-            check_as(&any)?;
-            Ok(any)
-        })
+        self.clone().expect_implicit(tag).skip(universal)?;
+        self.any().map(|any| any.with_tag(universal))
+    }
+
+    /// Reads a value of a universal type by the call for it.
+    fn skip(&mut self, universal: Tag) -> Result<()> {
+        match universal {
+            Tag::BOOLEAN => self.boolean().map(drop),
+            Tag::INTEGER | Tag::ENUMERATED => self.integer().map(drop),
+            Tag::BIT_STRING => self.bit_string().map(drop),
+            Tag::OCTET_STRING => self.octet_string().map(drop),
+            Tag::NULL => self.null(),
+            Tag::OBJECT_IDENTIFIER => self.oid().map(drop),
+            Tag::SEQUENCE | Tag::SET => self.next(universal, Cursor::sequence).map(drop),
+            Tag::UTC_TIME => self.utc_time().map(drop),
+            Tag::GENERALIZED_TIME => self.generalized_time().map(drop),
+            tag => self.text(tag).map(drop),
+        }
     }
 
     /// Reads with the function if the next element has this tag.
@@ -301,9 +394,9 @@ impl<'a> Reader<'a> {
         tag: Tag,
         function: impl FnOnce(&mut Reader<'a>) -> Result<T>,
     ) -> Result<Option<T>> {
-        match self.peek_tag()? {
-            Some(actual) if actual == tag => function(self).map(Some),
-            _ => Ok(None),
+        match self.is_next(tag) {
+            true => function(self).map(Some),
+            false => Ok(None),
         }
     }
 
@@ -316,142 +409,53 @@ impl<'a> Reader<'a> {
         self.optional(tag, |reader| reader.tagged(tag, function))
     }
 
-    /// Reads a BOOLEAN.
-    pub fn boolean(&mut self) -> Result<bool> {
-        self.take(|any| any.as_bool())
-    }
-
-    /// Reads an INTEGER of any size.
-    pub fn integer(&mut self) -> Result<Integer<'a>> {
-        self.typed(Tag::INTEGER, |any| any.as_integer())
-    }
-
-    /// Reads an INTEGER from 0 to 2^64-1.
-    pub fn u64(&mut self) -> Result<u64> {
-        self.typed(Tag::INTEGER, |any| any.as_u64())
-    }
-
-    /// Reads an INTEGER from -2^63 to 2^63-1.
-    pub fn i64(&mut self) -> Result<i64> {
-        self.typed(Tag::INTEGER, |any| any.as_i64())
-    }
-
-    /// Reads an ENUMERATED from -2^63 to 2^63-1.
+    /// Reads an ENUMERATED from -2^63 to 2^63-1: an INTEGER but for its tag (X.690 8.4).
     pub fn enumerated(&mut self) -> Result<i64> {
-        self.typed(Tag::ENUMERATED, |any| any.as_i64())
-    }
-
-    /// Reads a NULL.
-    pub fn null(&mut self) -> Result<()> {
-        self.typed(Tag::NULL, |_| Ok(()))
-    }
-
-    /// Reads an OBJECT IDENTIFIER.
-    ///
-    /// ```
-    /// use dumarewhi::Reader;
-    ///
-    /// let mut reader = Reader::new(&[0x06, 0x03, 0x55, 0x04, 0x03]);
-    /// assert!(reader.oid()? == "2.5.4.3");
-    /// # Ok::<(), dumarewhi::Error>(())
-    /// ```
-    pub fn oid(&mut self) -> Result<ObjectIdentifier<'a>> {
-        self.take(|any| any.as_oid())
-    }
-
-    /// Reads an OCTET STRING.
-    pub fn octet_string(&mut self) -> Result<&'a [u8]> {
-        self.take(|any| any.as_bytes())
-    }
-
-    /// Reads a BIT STRING.
-    pub fn bit_string(&mut self) -> Result<BitString<'a>> {
-        self.take(|any| any.as_bit_string())
+        let tag = self.cursor.implicit_tag().unwrap_or(Tag::ENUMERATED);
+        self.attempt(|r| r.expect_implicit(tag).i64())
     }
 
     /// Reads a UTF8String.
     pub fn utf8_string(&mut self) -> Result<&'a str> {
-        self.typed(Tag::UTF8_STRING, |any| any.as_str())
+        self.text(Tag::UTF8_STRING)
     }
 
     /// Reads a PrintableString.
     pub fn printable_string(&mut self) -> Result<&'a str> {
-        self.typed(Tag::PRINTABLE_STRING, |any| any.as_str())
+        self.text(Tag::PRINTABLE_STRING)
     }
 
     /// Reads an IA5String.
     pub fn ia5_string(&mut self) -> Result<&'a str> {
-        self.typed(Tag::IA5_STRING, |any| any.as_str())
+        self.text(Tag::IA5_STRING)
     }
 
     /// Reads a character string of any type that [`Any::as_str`] has.
     pub fn string(&mut self) -> Result<&'a str> {
-        self.take(|any| any.as_str())
+        let tag = self.peek_tag()?.unwrap_or(Tag::UTF8_STRING);
+        self.text(tag)
     }
 
-    /// Reads a UTCTime or a GeneralizedTime.
-    pub fn time(&mut self) -> Result<Time> {
-        self.take(|any| any.as_time())
-    }
-}
-
-/// How many octets an element has whose length has the short form (X.690 8.1.3.4). A longer copy is allocated.
-const SHORT: usize = 2 + 127;
-
-/// Checks an element as one of the universal type that its tag is set to: a copy of its content after a header with
-/// that tag.
-fn check_as(any: &Any<'_>) -> Result<()> {
-    let number = match any.tag() {
-        Tag {
-            class: Class::Universal,
-            number: number @ 1..=30,
-        } => number as u8,
-        _ => return Err(any.error(ErrorKind::Other("an implicit tag is for a universal type"))),
-    };
-    if any.tag() == Tag::OCTET_STRING && !any.is_constructed() {
-        return Ok(());
-    }
-    let content = any.content();
-    let mut short = [0; SHORT];
-    match short.get_mut(..content.len() + 2) {
-        Some(copy) => {
-            copy[0] = number | u8::from(any.is_constructed()) << 5;
-            copy[1] = content.len() as u8;
-            copy[2..].copy_from_slice(content);
-            check_copy(any, copy)
+    /// Reads a character string of the type with this tag.
+    pub(crate) fn text(&mut self, tag: Tag) -> Result<&'a str> {
+        let offset = self.offset();
+        if !tag.is_text() {
+            let (expected, actual) = (None, tag);
+            return Err(Error::new(ErrorKind::UnexpectedTag { expected, actual }, offset));
         }
-        None => check_long(any),
+        let actual = self.cursor.implicit_tag().unwrap_or(tag);
+        self.attempt(|r| {
+            let content = r.next(actual, |cursor| cursor.content(actual, false))?;
+            tag.text_of(content.left.get())
+                .map_err(|kind| Error::new(kind, offset))
+        })
     }
-}
 
-/// How many octets a header has at most that has this tag: one, and nine of a length.
-#[cfg(feature = "alloc")]
-const LONGEST_HEADER: usize = 10;
-
-/// Checks a copy that a writer writes.
-#[cfg(feature = "alloc")]
-fn check_long(any: &Any<'_>) -> Result<()> {
-    let mut copy = alloc::vec::Vec::new();
-    let capacity = any.content().len() + LONGEST_HEADER;
-    let reserved = copy.try_reserve_exact(capacity);
-    reserved.map_err(|_| any.error(ErrorKind::OutOfMemory))?;
-    copy.resize(capacity, 0);
-    let mut fields = Fields::new(&mut copy);
-    let mark = fields.open_as(any.tag(), any.is_constructed());
-    fields.put_elements(any.content());
-    fields.close(mark);
-    let (_, length) = fields.finish();
-    check_copy(any, &copy[..length])
-}
-
-#[cfg(not(feature = "alloc"))]
-fn check_long(any: &Any<'_>) -> Result<()> {
-    Err(any.error(ErrorKind::OutOfMemory))
-}
-
-fn check_copy(any: &Any<'_>, copy: &[u8]) -> Result<()> {
-    match any.rules().check(copy) {
-        Ok(_) => Ok(()),
-        Err(error) => Err(any.error(error.kind())),
+    /// Reads a UTCTime or a GeneralizedTime. Under an implicit tag it is the latter.
+    pub fn time(&mut self) -> Result<Time> {
+        match self.is_next(Tag::UTC_TIME) {
+            true => self.utc_time(),
+            false => self.generalized_time(),
+        }
     }
 }

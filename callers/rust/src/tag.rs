@@ -1,28 +1,20 @@
 //! Tags.
+use crate::error::{ErrorKind, Reason};
+use crate::ffi;
 use core::fmt;
 
-/// The class of a tag (X.690 8.1.2.2).
-#[derive(Clone, Copy, Debug, PartialEq, Eq, PartialOrd, Ord, Hash)]
-pub enum Class {
+numbered! {
+    /// The class of a tag (X.690 8.1.2.2).
+    #[derive(Clone, Copy, Debug, PartialEq, Eq, PartialOrd, Ord, Hash)]
+    Class or Private:
     /// The types of X.680.
-    Universal,
+    Universal = 0,
     /// Tags that mean one thing throughout an application.
-    Application,
+    Application = 1,
     /// Tags that mean one thing in the type around them.
-    ContextSpecific,
+    ContextSpecific = 2,
     /// Tags of an enterprise.
-    Private,
-}
-
-impl Class {
-    pub(crate) fn from_number(number: u8) -> Class {
-        match number {
-            0 => Class::Universal,
-            1 => Class::Application,
-            2 => Class::ContextSpecific,
-            _ => Class::Private,
-        }
-    }
+    Private = 3,
 }
 
 /// A tag: its class and its number. Whether an element is constructed is no part of it.
@@ -90,37 +82,33 @@ universal! {
     BMP_STRING = 30, "BMPString";
 }
 
-impl Tag {
+/// A call for each class.
+macro_rules! classes {
+    ($($(#[$doc:meta])* $name:ident: $class:ident;)*) => {
+        impl Tag {
+            $($(#[$doc])* pub const fn $name(number: u32) -> Tag {
+                Tag { class: Class::$class, number }
+            })*
+        }
+    };
+}
+
+classes! {
     /// A universal tag.
-    pub const fn universal(number: u32) -> Tag {
-        Tag {
-            class: Class::Universal,
-            number,
-        }
-    }
-
+    universal: Universal;
     /// A tag of the class application, as `[APPLICATION 3]`.
-    pub const fn application(number: u32) -> Tag {
-        Tag {
-            class: Class::Application,
-            number,
-        }
-    }
-
+    application: Application;
     /// A tag of the class context-specific, as `[0]`.
-    pub const fn context(number: u32) -> Tag {
-        Tag {
-            class: Class::ContextSpecific,
-            number,
-        }
-    }
-
+    context: ContextSpecific;
     /// A tag of the class private, as `[PRIVATE 1]`.
-    pub const fn private(number: u32) -> Tag {
-        Tag {
-            class: Class::Private,
-            number,
-        }
+    private: Private;
+}
+
+impl Tag {
+    /// The tag with this class, as a number.
+    pub(crate) fn of(class: u8, number: u32) -> Tag {
+        let class = Class::from_number(class.into());
+        Tag { class, number }
     }
 
     /// Whether the tag is that of a string type whose content this crate gives as `&str`.
@@ -129,6 +117,12 @@ impl Tag {
             (self.class, self.number),
             (Class::Universal, 7 | 12 | 18..=22 | 25..=27)
         )
+    }
+
+    /// The text that content octets are of the string type with this tag.
+    pub(crate) fn text_of(self, content: &[u8]) -> Result<&str, ErrorKind> {
+        ffi::check_text(self.number, content).map_err(|number| ErrorKind::Value(Reason(number)))?;
+        core::str::from_utf8(content).map_err(|_| ErrorKind::Other("the text isn't UTF-8"))
     }
 }
 

@@ -1,6 +1,7 @@
 //! Times.
+#[cfg(feature = "std")]
 use crate::error::Reason;
-use crate::ffi;
+use crate::ffi::{self, MomentFields, TimeFields};
 use core::cmp::Ordering;
 use core::fmt;
 #[cfg(feature = "std")]
@@ -65,10 +66,6 @@ const DAYS_OF_400_YEARS: i64 = 146_097;
 const DAYS_TO_1970: i64 = 719_468;
 
 impl Time {
-    pub(crate) fn from_content(number: u32, content: &[u8]) -> Result<Time, Reason> {
-        ffi::read_time(number, content).map(Time::from).map_err(Reason)
-    }
-
     /// The seconds from 1970-01-01T00:00:00Z to it, without leap seconds and its fraction. A local time counts as UTC,
     /// and a day that its month doesn't have as one of the next month.
     ///
@@ -144,11 +141,7 @@ impl Ord for Time {
     }
 }
 
-impl PartialOrd for Time {
-    fn partial_cmp(&self, other: &Self) -> Option<Ordering> {
-        Some(self.cmp(other))
-    }
-}
+forward!(PartialOrd for Time);
 
 /// An error if the time is a local one, if its month doesn't have its day, or if the system has no such time.
 ///
@@ -213,48 +206,54 @@ impl TryFrom<SystemTime> for Time {
     }
 }
 
-impl From<ffi::TimeFields> for Time {
-    fn from(fields: ffi::TimeFields) -> Time {
+/// The fields that a [`Time`] and the library's have alike, and then others.
+macro_rules! time {
+    ($type:ident of $it:ident, $($other:ident),*) => {
+        $type {
+            year: $it.year,
+            month: $it.month,
+            day: $it.day,
+            hour: $it.hour,
+            minute: $it.minute,
+            second: $it.second,
+            nanosecond: $it.nanosecond,
+            $($other,)*
+        }
+    };
+}
+
+impl From<TimeFields> for Time {
+    fn from(fields: TimeFields) -> Time {
+        let (hours, minutes) = (fields.zone_hours, fields.zone_minutes);
         let zone = match fields.zone {
             ffi::ZONE_LOCAL => Zone::Local,
             ffi::ZONE_UTC => Zone::Utc,
-            _ => Zone::Offset {
-                hours: fields.zone_hours,
-                minutes: fields.zone_minutes,
-            },
+            _ => Zone::Offset { hours, minutes },
         };
-        Time {
-            year: fields.year,
-            month: fields.month,
-            day: fields.day,
-            hour: fields.hour,
-            minute: fields.minute,
-            second: fields.second,
-            nanosecond: fields.nanosecond,
-            zone,
-        }
+        time!(Time of fields, zone)
     }
 }
 
-impl From<Time> for ffi::TimeFields {
-    fn from(time: Time) -> ffi::TimeFields {
+impl From<MomentFields> for Time {
+    fn from(fields: MomentFields) -> Time {
+        fields.time.into()
+    }
+}
+
+impl From<MomentFields> for Option<Time> {
+    fn from(fields: MomentFields) -> Option<Time> {
+        (fields.number != 0).then(|| fields.time.into())
+    }
+}
+
+impl From<Time> for TimeFields {
+    fn from(time: Time) -> TimeFields {
         let (zone, zone_hours, zone_minutes) = match time.zone {
             Zone::Local => (ffi::ZONE_LOCAL, 0, 0),
             Zone::Utc => (ffi::ZONE_UTC, 0, 0),
             Zone::Offset { hours, minutes } => (ffi::ZONE_OFFSET, hours, minutes),
         };
-        ffi::TimeFields {
-            year: time.year,
-            nanosecond: time.nanosecond,
-            month: time.month,
-            day: time.day,
-            hour: time.hour,
-            minute: time.minute,
-            second: time.second,
-            zone,
-            zone_hours,
-            zone_minutes,
-        }
+        time!(TimeFields of time, zone, zone_hours, zone_minutes)
     }
 }
 

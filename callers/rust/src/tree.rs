@@ -2,7 +2,7 @@
 use crate::element::{found, whole, Found, Rules};
 use crate::error::{ErrorKind, Result};
 use crate::ffi;
-use crate::{Any, BitString, Class, Element, Error, Integer, ObjectIdentifier, Reader, Tag, Time};
+use crate::{Any, Element, Error, Tag};
 use alloc::vec::Vec;
 use core::fmt;
 use core::iter::FusedIterator;
@@ -23,7 +23,7 @@ use core::ops::Range;
 /// assert!(items[1].as_bool()?);
 /// # Ok::<(), dumarewhi::Error>(())
 /// ```
-#[derive(Clone)]
+#[derive(Clone, PartialEq, Eq, Hash)]
 pub struct Tree<'a> {
     input: &'a [u8],
     elements: Vec<Element>,
@@ -35,18 +35,12 @@ pub struct Tree<'a> {
 impl<'a> Tree<'a> {
     /// Reads the one element that the input is in DER.
     pub fn parse_der(input: &'a [u8]) -> Result<Tree<'a>> {
-        Tree::parse_whole(Rules::DER, input)
+        whole(input, Rules::DER.parse(input)?)
     }
 
     /// Reads the one element that the input is in BER, with lengths that are definite or indefinite.
     pub fn parse_ber(input: &'a [u8]) -> Result<Tree<'a>> {
-        Tree::parse_whole(Rules::BER, input)
-    }
-
-    fn parse_whole(rules: Rules, input: &'a [u8]) -> Result<Tree<'a>> {
-        let (rest, tree) = rules.parse(input)?;
-        whole(input.len() - rest.len(), input)?;
-        Ok(tree)
+        whole(input, Rules::BER.parse(input)?)
     }
 
     /// The outermost element.
@@ -78,6 +72,8 @@ impl<'a> Tree<'a> {
         self.elements
     }
 }
+
+forward!(TryFrom by parse_der for Tree, Error);
 
 /// All elements in preorder, as [`Tree::nodes`].
 impl<'t, 'a> IntoIterator for &'t Tree<'a> {
@@ -147,21 +143,11 @@ impl Rules {
     }
 }
 
-/// How many elements there are likely to be at most: an element that isn't empty has three octets. No more than 65,536,
-/// which have 2.5 MiB: an element may be one long string.
+/// How many elements there are likely to be at most: an element that isn't empty has three octets. What follows the
+/// first one needs no memory. No more than 65,536, which have 2.5 MiB: an element may be one long string.
 fn likely_elements(input: &[u8]) -> usize {
-    (likely_length(input) / 3 + 2).min(1 << 16)
-}
-
-/// How many octets the first element is likely to have after its header. What follows it needs no memory.
-fn likely_length(input: &[u8]) -> usize {
-    let length = match *input {
-        [_, length @ 0..=0x7f, ..] => usize::from(length),
-        [_, 0x81, length, ..] => usize::from(length),
-        [_, 0x82, high, low, ..] => usize::from(high) << 8 | usize::from(low),
-        _ => input.len(),
-    };
-    length.min(input.len())
+    let length = Rules::DER.first_length(input).unwrap_or(input.len());
+    (length / 3 + 2).min(1 << 16)
 }
 
 /// An element of a tree.
@@ -196,7 +182,7 @@ impl<'t, 'a> Node<'t, 'a> {
 
     /// The element by itself, which outlives the tree.
     pub fn any(&self) -> Any<'a> {
-        Any::new(self.tree.input, self.element(), self.tree.base, self.tree.rules)
+        Any::new(self.tree.input, *self.element(), self.tree.base, self.tree.rules)
     }
 
     /// The elements that the content of a constructed element is (X.690 8.1.4). Of a primitive one none: see
@@ -224,23 +210,11 @@ impl<'t, 'a> Node<'t, 'a> {
     /// encoding, or of an explicit tag. Offsets are those of the outermost input.
     pub fn parse_content(&self) -> Result<Tree<'a>> {
         let any = self.any();
-        let content = any.content();
-        let read = any.rules().inside().parse(content).and_then(|(rest, tree)| {
-            whole(content.len() - rest.len(), content)?;
-            Ok(tree)
-        });
-        match read {
-            Ok(tree) => Ok(Tree {
-                base: any.content_offset(),
-                ..tree
-            }),
-            Err(error) => Err(error.inside(any.content_offset())),
-        }
-    }
-
-    /// A reader of the elements that a constructed element's content octets are, by the same rules.
-    pub fn reader(&self) -> Result<Reader<'a>> {
-        self.any().reader()
+        let (content, base) = (any.content(), any.content_offset());
+        let read = any.rules().inside().parse(content);
+        let tree = read.and_then(|read| whole(content, read));
+        tree.map(|tree| Tree { base, ..tree })
+            .map_err(|error| error.inside(base))
     }
 
     /// The tag.
@@ -248,85 +222,9 @@ impl<'t, 'a> Node<'t, 'a> {
         self.element().tag()
     }
 
-    /// The class of the tag.
-    pub fn class(&self) -> Class {
-        self.tag().class
-    }
-
     /// Whether it is constructed, by its identifier octets (X.690 8.1.2.5).
     pub fn is_constructed(&self) -> bool {
         self.element().is_constructed()
-    }
-
-    /// Where the element begins, in octets from the start of the input.
-    pub fn offset(&self) -> usize {
-        self.any().offset()
-    }
-
-    /// The identifier and length octets.
-    pub fn header(&self) -> &'a [u8] {
-        self.any().header()
-    }
-
-    /// The content octets, without an end marker.
-    pub fn content(&self) -> &'a [u8] {
-        self.any().content()
-    }
-
-    /// All octets: the header, the content, and an end marker (X.690 8.1.5) after an indefinite length.
-    pub fn octets(&self) -> &'a [u8] {
-        self.any().octets()
-    }
-
-    /// A BOOLEAN (X.690 8.2).
-    pub fn as_bool(&self) -> Result<bool> {
-        self.any().as_bool()
-    }
-
-    /// An INTEGER or an ENUMERATED from 0 to 2^64-1.
-    pub fn as_u64(&self) -> Result<u64> {
-        self.any().as_u64()
-    }
-
-    /// An INTEGER or an ENUMERATED from -2^63 to 2^63-1.
-    pub fn as_i64(&self) -> Result<i64> {
-        self.any().as_i64()
-    }
-
-    /// An INTEGER or an ENUMERATED of any size.
-    pub fn as_integer(&self) -> Result<Integer<'a>> {
-        self.any().as_integer()
-    }
-
-    /// An OBJECT IDENTIFIER (X.690 8.19).
-    pub fn as_oid(&self) -> Result<ObjectIdentifier<'a>> {
-        self.any().as_oid()
-    }
-
-    /// A character string, as [`Any::as_str`] has them.
-    pub fn as_str(&self) -> Result<&'a str> {
-        self.any().as_str()
-    }
-
-    /// An OCTET STRING (X.690 8.7). The parts of a constructed one aren't joined:
-    /// [`reader`](Node::reader) reads them.
-    pub fn as_bytes(&self) -> Result<&'a [u8]> {
-        self.any().as_bytes()
-    }
-
-    /// A BIT STRING (X.690 8.6).
-    pub fn as_bit_string(&self) -> Result<BitString<'a>> {
-        self.any().as_bit_string()
-    }
-
-    /// A UTCTime or a GeneralizedTime (X.690 11.7 and 11.8).
-    pub fn as_time(&self) -> Result<Time> {
-        self.any().as_time()
-    }
-
-    /// Whether it is a NULL (X.690 8.8).
-    pub fn is_null(&self) -> bool {
-        self.any().is_null()
     }
 }
 

@@ -1,6 +1,6 @@
 //! Numbers and bits.
 use crate::error::Reason;
-use crate::ffi::{self, Fields};
+use crate::ffi::{self, BitsFields, Fields, Octets};
 use core::cmp::Ordering;
 use core::iter::FusedIterator;
 
@@ -17,13 +17,15 @@ use core::iter::FusedIterator;
 /// # Ok::<(), dumarewhi::Error>(())
 /// ```
 #[derive(Clone, Copy, Debug, PartialEq, Eq, Hash)]
-pub struct Integer<'a>(pub(crate) &'a [u8]);
+pub struct Integer<'a>(&'a [u8]);
 
 impl<'a> Integer<'a> {
     /// The number with these content octets. An error unless they are the fewest for it (X.690 8.3.2).
     pub fn from_content(content: &'a [u8]) -> Result<Integer<'a>, Reason> {
-        Fields::new(&mut []).put_integer(content).map_err(Reason)?;
-        Ok(Integer(content))
+        match Fields::new(&mut []).put_integer(content) {
+            0 => Ok(Integer(content)),
+            number => Err(Reason(number)),
+        }
     }
 
     /// Whether it is below 0.
@@ -47,21 +49,15 @@ impl<'a> Integer<'a> {
     }
 }
 
-/// As [`from_content`](Integer::from_content).
-impl<'a> TryFrom<&'a [u8]> for Integer<'a> {
-    type Error = Reason;
-
-    fn try_from(content: &'a [u8]) -> Result<Integer<'a>, Reason> {
-        Integer::from_content(content)
+impl<'a> From<Octets<'a>> for Integer<'a> {
+    fn from(content: Octets<'a>) -> Integer<'a> {
+        Integer(content.get())
     }
 }
 
-/// The content octets.
-impl AsRef<[u8]> for Integer<'_> {
-    fn as_ref(&self) -> &[u8] {
-        self.0
-    }
-}
+forward!(TryFrom by from_content for Integer, Reason);
+forward!(AsRef by as_bytes for Integer<'_>);
+forward!(PartialOrd for Integer<'_>);
 
 /// Since the octets are the fewest, more of them are further from 0.
 impl Ord for Integer<'_> {
@@ -72,12 +68,6 @@ impl Ord for Integer<'_> {
             (true, true) => others.len().cmp(&own.len()).then_with(|| own.cmp(others)),
             (own, others) => others.cmp(&own),
         }
-    }
-}
-
-impl PartialOrd for Integer<'_> {
-    fn partial_cmp(&self, other: &Self) -> Option<Ordering> {
-        Some(self.cmp(other))
     }
 }
 
@@ -144,17 +134,6 @@ impl<'a> BitString<'a> {
         }
     }
 
-    /// Bits that the library has read.
-    pub(crate) fn unchecked(unused: u8, bytes: &'a [u8]) -> BitString<'a> {
-        BitString { unused, bytes }
-    }
-
-    /// Content octets begin with the number of unused bits, 0 to 7 and 0 if no octets follow (X.690 8.6.2).
-    pub(crate) fn from_content(content: &'a [u8]) -> Option<BitString<'a>> {
-        let (unused, bytes) = content.split_first()?;
-        BitString::new(*unused, bytes).ok()
-    }
-
     /// How many of the last octet's bits don't count, 0 to 7.
     pub fn unused_bits(self) -> u8 {
         self.unused
@@ -201,6 +180,21 @@ impl<'a> BitString<'a> {
     /// ```
     pub fn iter(self) -> Bits<'a> {
         Bits { bits: self, index: 0 }
+    }
+}
+
+impl<'a> From<BitsFields<'a>> for BitString<'a> {
+    fn from(fields: BitsFields<'a>) -> BitString<'a> {
+        BitString {
+            unused: fields.unused as u8,
+            bytes: fields.octets.get(),
+        }
+    }
+}
+
+impl<'a> From<BitsFields<'a>> for Option<BitString<'a>> {
+    fn from(fields: BitsFields<'a>) -> Option<BitString<'a>> {
+        (fields.is_present != 0).then(|| fields.into())
     }
 }
 

@@ -49,14 +49,21 @@ pub fn to_der(input: &[u8]) -> Result<Vec<u8>> {
     // They are seldom more octets than before.
     let mut length = input.len();
     loop {
-        let mut out = Vec::new();
-        let reserved = out.try_reserve_exact(length);
-        reserved.map_err(|_| Error::new(ErrorKind::OutOfMemory, 0))?;
-        out.resize(length, 0);
+        let mut out = zeros(length)?;
         length = write_der(input, &mut out)?;
         if length <= out.len() {
             out.truncate(length);
             return Ok(out);
         }
     }
+}
+
+/// So many octets, unless there is no memory for them.
+#[cfg(feature = "alloc")]
+pub(crate) fn zeros(length: usize) -> Result<Vec<u8>> {
+    let mut octets = Vec::new();
+    let reserved = octets.try_reserve_exact(length);
+    reserved.map_err(|_| Error::new(ErrorKind::OutOfMemory, 0))?;
+    octets.resize(length, 0);
+    Ok(octets)
 }

@@ -1,9 +1,9 @@
 //! Element after element.
 use crate::error::{ErrorKind, Reason, Result};
 use crate::ffi::{self, Fields};
-use crate::{Error, Integer, ObjectIdentifier, Tag, Time};
+use crate::{Class, Error, Integer, ObjectIdentifier, Tag, Time};
 #[cfg(feature = "alloc")]
-use alloc::vec::Vec;
+use {crate::write::zeros, alloc::vec::Vec};
 
 /// Writes DER, element after element, into a buffer.
 ///
@@ -46,6 +46,59 @@ pub struct Writer<'b> {
     fields: Fields<'b>,
 }
 
+/// Calls that write a value of one type: the arguments, and the call of the library with what it takes.
+macro_rules! values {
+    ($($(#[$doc:meta])* $name:ident($($it:ident: $type:ty),*) = $put:ident($($value:expr),*);)*) => {
+        impl Writer<'_> {
+            $($(#[$doc])* pub fn $name(&mut self, $($it: $type),*) {
+                self.fields.$put($($value),*);
+            })*
+        }
+    };
+}
+
+values! {
+    /// Writes elements as they are: octets of DER that were written before. They aren't checked.
+    elements(octets: &[u8]) = put_elements(octets);
+    /// Writes a BOOLEAN.
+    boolean(value: bool) = put_bool(value.into());
+    /// Writes an INTEGER that isn't negative.
+    u64(value: u64) = put_u64(value);
+    /// Writes an INTEGER.
+    i64(value: i64) = put_i64(value);
+    /// Writes an INTEGER of any size that isn't negative, with these octets, the highest first. Leading zeros are left
+    /// out.
+    ///
+    /// ```
+    /// use dumarewhi::to_vec;
+    ///
+    /// let octets = to_vec(|w| Ok(w.magnitude(&[0x00, 0x00, 0xff])))?;
+    /// assert_eq!(octets, [0x02, 0x02, 0x00, 0xff]);
+    /// # Ok::<(), dumarewhi::Error>(())
+    /// ```
+    magnitude(octets: &[u8]) = put_magnitude(octets);
+    /// Writes an ENUMERATED that isn't negative.
+    enumerated(value: u64) = put_enumerated(value);
+    /// Writes an ENUMERATED that may be negative.
+    enumerated_i64(value: i64) = put_enumerated_i64(value);
+    /// Writes a NULL.
+    null() = put_null();
+    /// Writes an OBJECT IDENTIFIER, with the octets that it has.
+    ///
+    /// ```
+    /// use dumarewhi::{oid, to_vec};
+    ///
+    /// let octets = to_vec(|w| Ok(w.identifier(oid!(2, 5, 4, 3))))?;
+    /// assert_eq!(octets, [0x06, 0x03, 0x55, 0x04, 0x03]);
+    /// # Ok::<(), dumarewhi::Error>(())
+    /// ```
+    identifier(identifier: ObjectIdentifier<'_>) = put_oid(identifier.as_bytes());
+    /// Writes an OCTET STRING.
+    octet_string(octets: &[u8]) = put_octets(octets);
+    /// Writes a BIT STRING of octets, whose last bits aren't used, so many, at most seven. They are written as 0.
+    bit_string(unused: u8, octets: &[u8]) = put_bits(unused, octets);
+}
+
 impl<'b> Writer<'b> {
     /// A writer at the start of a buffer.
     pub fn new(buffer: &'b mut [u8]) -> Writer<'b> {
@@ -82,8 +135,12 @@ impl<'b> Writer<'b> {
         Error::new(kind, self.offset())
     }
 
-    fn put(&self, put: Result<(), u32>) -> Result<()> {
-        put.map_err(|number| self.error(ErrorKind::Value(Reason(number))))
+    /// The error with this number, if it isn't 0.
+    fn put(&self, number: u32) -> Result<()> {
+        match number {
+            0 => Ok(()),
+            number => Err(self.error(ErrorKind::Value(Reason(number)))),
+        }
     }
 
     /// Writes a SEQUENCE of what the function writes.
@@ -140,7 +197,10 @@ impl<'b> Writer<'b> {
     /// # Ok::<(), dumarewhi::Error>(())
     /// ```
     pub fn tagged<T>(&mut self, tag: Tag, function: impl FnOnce(&mut Writer<'b>) -> T) -> T {
-        let mark = self.fields.open(tag);
+        let mark = match tag.class {
+            Class::ContextSpecific => self.fields.open_tagged(tag.number),
+            class => self.fields.open(class as u8, 1, tag.number),
+        };
         self.inside(mark, function)
     }
 
@@ -168,28 +228,8 @@ impl<'b> Writer<'b> {
     /// # Ok::<(), dumarewhi::Error>(())
     /// ```
     pub fn implicit(&mut self, tag: Tag) -> &mut Writer<'b> {
-        self.fields.implicit(tag);
+        self.fields.implicit(tag.class as u8, tag.number);
         self
-    }
-
-    /// Writes elements as they are: octets of DER that were written before. They aren't checked.
-    pub fn elements(&mut self, octets: &[u8]) {
-        self.fields.put_elements(octets);
-    }
-
-    /// Writes a BOOLEAN.
-    pub fn boolean(&mut self, value: bool) {
-        self.fields.put_bool(value);
-    }
-
-    /// Writes an INTEGER that isn't negative.
-    pub fn u64(&mut self, value: u64) {
-        self.fields.put_u64(value);
-    }
-
-    /// Writes an INTEGER.
-    pub fn i64(&mut self, value: i64) {
-        self.fields.put_i64(value);
     }
 
     /// Writes an INTEGER of any size. An error if its octets aren't the fewest (X.690 8.3.2), as of one that was read
@@ -197,35 +237,6 @@ impl<'b> Writer<'b> {
     pub fn integer(&mut self, value: Integer<'_>) -> Result<()> {
         let put = self.fields.put_integer(value.as_bytes());
         self.put(put)
-    }
-
-    /// Writes an INTEGER of any size that isn't negative, with these octets, the highest first. Leading zeros are left
-    /// out.
-    ///
-    /// ```
-    /// use dumarewhi::to_vec;
-    ///
-    /// let octets = to_vec(|w| Ok(w.magnitude(&[0x00, 0x00, 0xff])))?;
-    /// assert_eq!(octets, [0x02, 0x02, 0x00, 0xff]);
-    /// # Ok::<(), dumarewhi::Error>(())
-    /// ```
-    pub fn magnitude(&mut self, octets: &[u8]) {
-        self.fields.put_magnitude(octets);
-    }
-
-    /// Writes an ENUMERATED that isn't negative.
-    pub fn enumerated(&mut self, value: u64) {
-        self.fields.put_enumerated(value);
-    }
-
-    /// Writes an ENUMERATED that may be negative.
-    pub fn enumerated_i64(&mut self, value: i64) {
-        self.fields.put_enumerated_i64(value);
-    }
-
-    /// Writes a NULL.
-    pub fn null(&mut self) {
-        self.fields.put_null();
     }
 
     /// Writes an OBJECT IDENTIFIER with these arcs. An error if there are fewer than two, or the first two can't be
@@ -241,29 +252,6 @@ impl<'b> Writer<'b> {
     pub fn oid(&mut self, arcs: &[u64]) -> Result<()> {
         let put = self.fields.put_arcs(arcs);
         self.put(put)
-    }
-
-    /// Writes an OBJECT IDENTIFIER, with the octets that it has.
-    ///
-    /// ```
-    /// use dumarewhi::{oid, to_vec};
-    ///
-    /// let octets = to_vec(|w| Ok(w.identifier(oid!(2, 5, 4, 3))))?;
-    /// assert_eq!(octets, [0x06, 0x03, 0x55, 0x04, 0x03]);
-    /// # Ok::<(), dumarewhi::Error>(())
-    /// ```
-    pub fn identifier(&mut self, identifier: ObjectIdentifier<'_>) {
-        self.fields.put_oid(identifier.as_bytes());
-    }
-
-    /// Writes an OCTET STRING.
-    pub fn octet_string(&mut self, octets: &[u8]) {
-        self.fields.put_octets(octets);
-    }
-
-    /// Writes a BIT STRING of octets, whose last bits aren't used, so many, at most seven. They are written as 0.
-    pub fn bit_string(&mut self, unused: u8, octets: &[u8]) {
-        self.fields.put_bits(unused, octets);
     }
 
     /// Writes a UTF8String.
@@ -296,7 +284,9 @@ impl<'b> Writer<'b> {
         if text.chars().any(|character| u32::from(character) > 0xffff) {
             return Err(self.error(ErrorKind::Value(Reason::INVALID_CHARACTER)));
         }
-        let mark = self.fields.open_primitive(Tag::BMP_STRING);
+        let of_type = (Class::Universal as u8, Tag::BMP_STRING.number);
+        let (class, number) = self.fields.implicit_tag().unwrap_or(of_type);
+        let mark = self.fields.open(class, 0, number);
         for unit in text.encode_utf16() {
             self.fields.put_elements(&unit.to_be_bytes());
         }
@@ -352,11 +342,7 @@ impl<'b> Writer<'b> {
 pub fn to_vec(mut function: impl FnMut(&mut Writer<'_>) -> Result<()>) -> Result<Vec<u8>> {
     let mut counter = Writer::new(&mut []);
     function(&mut counter)?;
-    let length = counter.offset();
-    let mut octets = Vec::new();
-    let reserved = octets.try_reserve_exact(length);
-    reserved.map_err(|_| Error::new(ErrorKind::OutOfMemory, 0))?;
-    octets.resize(length, 0);
+    let mut octets = zeros(counter.offset())?;
     let mut writer = Writer::new(&mut octets);
     function(&mut writer)?;
     let written = writer.finish()?;

@@ -1,10 +1,11 @@
 //! Certificates beside openssl, the rows of the library's tests, and C.
 #![cfg(feature = "std")]
 use dumarewhi::x509::{
-    Attribute, AuthorityKeyIdentifier, BasicConstraints, Certificate, CertificateList, CertificationRequest,
-    Error, Extension, Field, GeneralName, GeneralNames, KeyPurposes, KeyUsage, Name, Value,
+    AccessDescription, Attribute, AuthorityKeyIdentifier, BasicConstraints, Certificate, CertificateList,
+    CertificationRequest, DistributionPoint, Error, Extension, Field, GeneralName, GeneralNames, KeyPurposes,
+    KeyUsage, Name, Policy, PrivateKey, RelativeName, RsaPrivateKey, Subtrees, Value,
 };
-use dumarewhi::{oid, BitString, Class, Integer, ObjectIdentifier, Reason, Tag, Time};
+use dumarewhi::{oid, BitString, ErrorKind, Integer, ObjectIdentifier, Reason, Tag, Time};
 use shared::{damaged, made, openssl, run_c, store, Random};
 use std::fmt::Write;
 use std::net::{IpAddr, Ipv4Addr, Ipv6Addr};
@@ -144,6 +145,121 @@ fn extensions() {
         (false, Value::Other(b"\x16\x09a comment"))
     );
     assert_eq!(it.extensions().find(oid!(2, 5, 29, 18)), None);
+}
+
+/// Values of further extensions, as they go in.
+#[test]
+fn further_extensions() {
+    let made = made(&[
+        "-newkey",
+        "ed25519",
+        "-subj",
+        "/CN=a.example",
+        "-addext",
+        "certificatePolicies=1.2.3.4,2.5.29.32.0",
+        "-addext",
+        "crlDistributionPoints=URI:http://a.example/crl,URI:http://b.example/crl",
+        "-addext",
+        "nameConstraints=permitted;DNS:a.example,excluded;IP:192.0.2.0/255.255.255.0",
+        "-addext",
+        "authorityInfoAccess=OCSP;URI:http://a.example/ocsp",
+    ]);
+    let octets = match made {
+        Some(it) => it,
+        None => return println!("left out: openssl makes no certificate"),
+    };
+    let it = Certificate::from_der(&octets).unwrap();
+    match value_of(&it, oid!(2, 5, 29, 32)).1 {
+        Value::CertificatePolicies(policies) => {
+            let identifiers = policies.iter().map(|policy| policy.identifier());
+            assert!(identifiers.eq([oid!(1, 2, 3, 4), oid!(2, 5, 29, 32, 0)]));
+            assert!(policies.iter().all(|policy| policy.qualifiers().is_empty()));
+        }
+        other => panic!("{other:?}"),
+    }
+    match value_of(&it, oid!(2, 5, 29, 31)).1 {
+        Value::CrlDistributionPoints(points) => {
+            let names: Vec<_> = points.iter().flat_map(|point| point.full_name()).collect();
+            let expected = ["http://a.example/crl", "http://b.example/crl"].map(GeneralName::Uri);
+            assert_eq!(names, expected);
+            assert!(points
+                .iter()
+                .all(|point| point.reasons().is_none() && point.crl_issuer().is_empty()));
+        }
+        other => panic!("{other:?}"),
+    }
+    match value_of(&it, oid!(2, 5, 29, 30)).1 {
+        Value::NameConstraints(constraints) => {
+            let names = |trees: Subtrees<'_>| {
+                trees
+                    .iter()
+                    .map(|it| format!("{:?}", it.base()))
+                    .collect::<Vec<_>>()
+            };
+            assert_eq!(names(constraints.permitted()), [r#"DnsName("a.example")"#]);
+            assert_eq!(
+                names(constraints.excluded()),
+                ["IpAddress([192, 0, 2, 0, 255, 255, 255, 0])"]
+            );
+            let tree = constraints.permitted().iter().next().unwrap();
+            assert_eq!((tree.minimum(), tree.maximum()), (0, None));
+        }
+        other => panic!("{other:?}"),
+    }
+    match value_of(&it, oid!(1, 3, 6, 1, 5, 5, 7, 1, 1)).1 {
+        Value::AuthorityInfoAccess(descriptions) => {
+            let found: Vec<_> = descriptions
+                .iter()
+                .map(|it| (it.method(), it.location()))
+                .collect();
+            let expected = GeneralName::Uri("http://a.example/ocsp");
+            assert_eq!(found, [(oid!(1, 3, 6, 1, 5, 5, 7, 48, 1), expected)]);
+        }
+        other => panic!("{other:?}"),
+    }
+}
+
+/// A key that openssl makes, and its modulus as openssl prints it.
+#[test]
+fn private_keys() {
+    let words = [
+        "genpkey",
+        "-algorithm",
+        "RSA",
+        "-pkeyopt",
+        "rsa_keygen_bits:1024",
+        "-outform",
+        "DER",
+    ];
+    let as_pkcs8 = ["pkcs8", "-topk8", "-nocrypt", "-inform", "DER", "-outform", "DER"];
+    let octets = match openssl(&words, &[]).and_then(|made| openssl(&as_pkcs8, &made)) {
+        Some(it) => it,
+        None => return println!("left out: openssl makes no key"),
+    };
+    let key = PrivateKey::from_der(&octets).unwrap();
+    assert_eq!(
+        (key.version(), key.algorithm()),
+        (0, oid!(1, 2, 840, 113549, 1, 1, 1))
+    );
+    assert_eq!(key.parameters(), Some((Tag::NULL, &[][..])));
+    assert_eq!((key.attributes(), key.public_key()), (None, None));
+    let rsa = RsaPrivateKey::from_der(key.private_key()).unwrap();
+    let printed = openssl(&["rsa", "-inform", "DER", "-noout", "-modulus"], &octets).unwrap();
+    let modulus = hex(rsa.modulus().as_bytes());
+    assert_eq!(
+        printed,
+        format!("Modulus={}\n", modulus.strip_prefix("00").unwrap()).into_bytes()
+    );
+    assert_eq!(rsa.public_exponent().to_u64(), Ok(65_537));
+    assert_eq!((rsa.version(), rsa.other_primes()), (0, None));
+    // What is secret isn't shown.
+    let shown = format!("{key:?} {rsa:?}");
+    assert!(
+        shown.ends_with(".. }") && !shown.contains(&format!("{:?}", rsa.prime1())),
+        "{shown}"
+    );
+    let error = PrivateKey::from_der(&octets[..9]).unwrap_err();
+    assert!(error.is_incomplete() && error.field() == Field::Key, "{error}");
 }
 
 /// What openssl prints of a certificate, after a name and `=`.
@@ -494,8 +610,10 @@ fn errors() {
         (Field::SerialNumber, false, Some(4))
     );
     assert!(error.to_string().contains("serialNumber"), "{error}");
-    let plain = dumarewhi::Error::from(error);
-    assert_eq!(plain.offset(), error.offset());
+    assert_eq!(
+        (error.kind(), error.reason()),
+        (ErrorKind::Malformed(Reason::OVERRUN), Some(Reason::OVERRUN))
+    );
 }
 
 // What `callers/python/tests/certificates.c` prints.
@@ -547,32 +665,20 @@ fn put_error(line: &mut String, error: Error) {
 
 fn put_attribute(line: &mut String, it: Attribute<'_>) {
     put_octets(line, it.identifier().as_bytes());
-    let class = [
-        Class::Universal,
-        Class::Application,
-        Class::ContextSpecific,
-        Class::Private,
-    ]
-    .iter()
-    .position(|class| *class == it.tag().class);
-    write!(
-        line,
-        " {}.{}.{}",
-        class.unwrap(),
-        it.tag().number,
-        u8::from(it.is_constructed())
-    )
-    .unwrap();
+    let (tag, constructed) = (it.tag(), u8::from(it.is_constructed()));
+    write!(line, " {}.{}.{constructed}", tag.class as u8, tag.number).unwrap();
     put_octets(line, it.value());
+}
+
+fn put_relative_name(line: &mut String, name: RelativeName<'_>) {
+    line.push_str(" {");
+    name.into_iter().for_each(|it| put_attribute(line, it));
+    line.push_str(" }");
 }
 
 fn put_name(line: &mut String, name: Name<'_>) {
     put_octets(line, name.to_string().as_bytes());
-    for part in name {
-        line.push_str(" {");
-        part.into_iter().for_each(|it| put_attribute(line, it));
-        line.push_str(" }");
-    }
+    name.iter().for_each(|part| put_relative_name(line, part));
 }
 
 fn put_general_name(line: &mut String, name: GeneralName<'_>) {
@@ -603,6 +709,44 @@ fn put_general_names(line: &mut String, names: GeneralNames<'_>) {
     names.iter().for_each(|name| put_general_name(line, name));
 }
 
+fn put_policy(line: &mut String, policy: Policy<'_>) {
+    line.push_str(" policy");
+    put_octets(line, policy.identifier().as_bytes());
+    for qualifier in policy.qualifiers() {
+        line.push_str(" qualifier");
+        put_octets(line, qualifier.identifier().as_bytes());
+        let (tag, content) = qualifier.value();
+        write!(line, " {}.{}", tag.class as u8, tag.number).unwrap();
+        put_octets(line, content);
+    }
+}
+
+fn put_point(line: &mut String, point: DistributionPoint<'_>) {
+    line.push_str(" point");
+    put_general_names(line, point.full_name());
+    put_relative_name(line, point.relative_name());
+    put_bits(line, point.reasons());
+    line.push_str(" of");
+    put_general_names(line, point.crl_issuer());
+}
+
+fn put_subtrees(line: &mut String, title: &str, subtrees: Subtrees<'_>) {
+    line.push_str(title);
+    for tree in subtrees {
+        put_general_name(line, tree.base());
+        write!(line, " from {}", tree.minimum()).unwrap();
+        tree.maximum()
+            .iter()
+            .for_each(|it| write!(line, " to {it}").unwrap());
+    }
+}
+
+fn put_access(line: &mut String, description: AccessDescription<'_>) {
+    line.push_str(" access");
+    put_octets(line, description.method().as_bytes());
+    put_general_name(line, description.location());
+}
+
 fn put_value(line: &mut String, extension: &Extension<'_>) {
     match extension.value() {
         Ok(Value::BasicConstraints(it)) => {
@@ -625,6 +769,18 @@ fn put_value(line: &mut String, extension: &Extension<'_>) {
                 .iter()
                 .for_each(|number| put_octets(line, number.as_bytes()));
         }
+        Ok(Value::CertificatePolicies(it)) => it.iter().for_each(|policy| put_policy(line, policy)),
+        Ok(Value::CrlDistributionPoints(it) | Value::FreshestCrl(it)) => {
+            it.iter().for_each(|point| put_point(line, point));
+        }
+        Ok(Value::NameConstraints(it)) => {
+            put_subtrees(line, " permitted", it.permitted());
+            put_subtrees(line, " excluded", it.excluded());
+        }
+        Ok(Value::AuthorityInfoAccess(it) | Value::SubjectInfoAccess(it)) => {
+            it.iter().for_each(|description| put_access(line, description));
+        }
+        Ok(Value::ReasonCode(_)) => write!(line, " reason {}", extension.octets()[2]).unwrap(),
         Ok(other) => panic!("{other:?}"),
         Err(error) => put_error(line, error),
     }

@@ -1,84 +1,104 @@
 //! The structs and constants beside those of `dumarewhi.h`, as the C compiler sees them.
 use super::*;
-use crate::Class;
-use core::mem::{align_of, size_of};
+use crate::x509::{fields::*, AlgorithmFields};
 use std::path::{Path, PathBuf};
 use std::process::Command;
 use std::string::{String, ToString};
 use std::vec::Vec;
-use std::{env, format, fs, println, vec};
+use std::{env, format, fs, println};
 
 /// A line of this program's output: a name, and the number that C has for it.
 type Row = (String, usize);
 
-/// The offset of each field of a struct.
+/// The size and the alignment of a struct, and the offset and the size of each field.
 macro_rules! layout {
-    ($type:ty, $value:expr, $name:literal, [$($field:ident),*]) => {{
-        let value: $type = $value;
-        let start = &value as *const $type as usize;
-        vec![
-            (format!("sizeof(struct {})", $name), size_of::<$type>()),
-            (format!("_Alignof(struct {})", $name), align_of::<$type>()),
+    ($value:expr, $name:ident, [$($field:ident),*]) => {{
+        let value = $value;
+        let name = stringify!($name);
+        let start = &value as *const _ as usize;
+        std::vec![
+            (std::format!("sizeof({name})"), core::mem::size_of_val(&value)),
+            (std::format!("_Alignof({name})"), core::mem::align_of_val(&value)),
             $((
-                format!("offsetof(struct {}, {})", $name, stringify!($field)),
+                std::format!("offsetof({name}, {})", stringify!($field)),
                 &value.$field as *const _ as usize - start,
             ),
             (
-                format!("sizeof(((struct {} *)0)->{})", $name, stringify!($field)),
+                std::format!("sizeof((({name} *)0)->{})", stringify!($field)),
                 core::mem::size_of_val(&value.$field),
             ),)*
         ]
     }};
 }
+pub(crate) use layout;
+
+#[cfg(not(feature = "pem"))]
+fn rows_of_pem() -> Vec<Row> {
+    Vec::new()
+}
+
+#[cfg(feature = "pem")]
+fn rows_of_pem() -> Vec<Row> {
+    PemFields::rows()
+}
+
+fn rows_of_structs() -> Vec<Row> {
+    [
+        layout!(
+            Element::default(),
+            dm_element,
+            [
+                header,
+                content,
+                end,
+                inside,
+                number,
+                tag_class,
+                constructed,
+                definite,
+                reserved
+            ]
+        ),
+        layout!(Octets::default(), dm_octets, [octets, length]),
+        layout!(
+            Fields::new(&mut []).state,
+            dm_writer,
+            [octets, capacity, count, innermost, implicit, number]
+        ),
+        Outcome::rows(),
+        TimeFields::rows(),
+        Fault::rows(),
+        Cursor::rows(),
+        AnyFields::rows(),
+        Mark::rows(),
+        BitsFields::rows(),
+        MomentFields::rows(),
+        BasicConstraintsFields::rows(),
+        GeneralNameFields::rows(),
+        AuthorityKeyIdentifierFields::rows(),
+        Digest::rows(),
+        AlgorithmFields::rows(),
+        CertificateFields::rows(),
+        AttributeFields::rows(),
+        ExtensionFields::rows(),
+        CertificateListFields::rows(),
+        RevokedFields::rows(),
+        RequestFields::rows(),
+        RequestAttributeFields::rows(),
+        PolicyFields::rows(),
+        PolicyQualifierFields::rows(),
+        DistributionPointFields::rows(),
+        NameConstraintsFields::rows(),
+        SubtreeFields::rows(),
+        AccessDescriptionFields::rows(),
+        PrivateKeyFields::rows(),
+        RsaPrivateKeyFields::rows(),
+        rows_of_pem(),
+    ]
+    .concat()
+}
 
 fn own_rows() -> Vec<Row> {
-    let mut rows = layout!(
-        Element,
-        Element::default(),
-        "dm_element",
-        [
-            header,
-            content,
-            end,
-            inside,
-            number,
-            tag_class,
-            constructed,
-            definite,
-            reserved
-        ]
-    );
-    rows.extend(layout!(
-        Outcome,
-        Outcome::default(),
-        "dm_outcome",
-        [elements, length, place, missing, status, error]
-    ));
-    rows.extend(layout!(
-        TimeFields,
-        TimeFields::default(),
-        "dm_time",
-        [
-            year,
-            nanosecond,
-            month,
-            day,
-            hour,
-            minute,
-            second,
-            zone,
-            zone_hours,
-            zone_minutes
-        ]
-    ));
-    rows.extend(layout!(
-        WriterState,
-        Fields::new(&mut []).state,
-        "dm_writer",
-        [octets, capacity, count, innermost, implicit, number]
-    ));
-    rows.extend(layout!(Mark, Mark::default(), "dm_mark", [start, outer]));
-    rows.extend(rows_of_certificates());
     let constants = [
         ("DM_OK", OK as usize),
         ("DM_ERROR", ERROR as usize),
@@ -89,160 +109,10 @@ fn own_rows() -> Vec<Row> {
         ("DM_LOCAL", ZONE_LOCAL.into()),
         ("DM_UTC", ZONE_UTC.into()),
         ("DM_OFFSET", ZONE_OFFSET.into()),
-        ("DM_SUBJECT_KEY_IDENTIFIER", SUBJECT_KEY_IDENTIFIER as usize),
-        ("DM_KEY_USAGE", KEY_USAGE as usize),
-        ("DM_SUBJECT_ALT_NAME", SUBJECT_ALT_NAME as usize),
-        ("DM_ISSUER_ALT_NAME", ISSUER_ALT_NAME as usize),
-        ("DM_BASIC_CONSTRAINTS", BASIC_CONSTRAINTS as usize),
-        ("DM_AUTHORITY_KEY_IDENTIFIER", AUTHORITY_KEY_IDENTIFIER as usize),
-        ("DM_EXTENDED_KEY_USAGE", EXTENDED_KEY_USAGE as usize),
     ];
+    let mut rows = rows_of_structs();
     rows.extend(constants.map(|(name, number)| (name.to_string(), number)));
     rows
-}
-
-fn rows_of_certificates() -> Vec<Row> {
-    [
-        layout!(Octets, Octets::default(), "dm_octets", [octets, length]),
-        layout!(
-            Fault,
-            Fault::default(),
-            "dm_fault",
-            [offset, list_end, needed, status, error, field, is_in_list]
-        ),
-        layout!(
-            AlgorithmFields,
-            AlgorithmFields::default(),
-            "dm_algorithm",
-            [identifier, parameters]
-        ),
-        layout!(
-            BitsFields,
-            BitsFields::default(),
-            "dm_bits",
-            [octets, unused, is_present]
-        ),
-        layout!(MomentFields, MomentFields::default(), "dm_moment", [time, number]),
-        layout!(
-            CertificateFields,
-            CertificateFields::default(),
-            "dm_certificate",
-            [
-                tbs,
-                serial_number,
-                signature,
-                issuer,
-                subject,
-                key_algorithm,
-                key,
-                issuer_unique_id,
-                subject_unique_id,
-                extensions,
-                signature_algorithm,
-                signature_value,
-                not_before,
-                not_after,
-                version,
-                reserved
-            ]
-        ),
-        layout!(
-            AttributeFields,
-            AttributeFields::default(),
-            "dm_attribute",
-            [identifier, value, number, tag_class, constructed, reserved]
-        ),
-        layout!(
-            ExtensionFields,
-            ExtensionFields::default(),
-            "dm_extension",
-            [identifier, value, critical, kind]
-        ),
-        layout!(
-            BasicConstraintsFields,
-            BasicConstraintsFields::default(),
-            "dm_basic_constraints",
-            [ca, has_path_length, path_length]
-        ),
-        layout!(
-            GeneralNameFields,
-            GeneralNameFields::default(),
-            "dm_general_name",
-            [octets, identifier, kind, reserved]
-        ),
-        layout!(
-            AuthorityKeyIdentifierFields,
-            AuthorityKeyIdentifierFields::default(),
-            "dm_authority_key_identifier",
-            [
-                key_identifier,
-                issuer,
-                serial_number,
-                has_key_identifier,
-                has_issuer,
-                has_serial_number,
-                reserved
-            ]
-        ),
-        layout!(Digest, Digest::default(), "dm_digest", [octets]),
-        layout!(
-            CursorState,
-            CursorState::default(),
-            "dm_cursor",
-            [left, offset, rules, is_inside, implicit, number]
-        ),
-        layout!(
-            AnyFields,
-            AnyFields::default(),
-            "dm_any",
-            [content, number, tag_class, constructed, reserved]
-        ),
-        layout!(
-            CertificateListFields,
-            CertificateListFields::default(),
-            "dm_certificate_list",
-            [
-                tbs,
-                signature,
-                issuer,
-                revoked,
-                extensions,
-                signature_algorithm,
-                signature_value,
-                this_update,
-                next_update,
-                version,
-                has_revoked
-            ]
-        ),
-        layout!(
-            RevokedFields,
-            RevokedFields::default(),
-            "dm_revoked",
-            [serial_number, extensions, date, reserved]
-        ),
-        layout!(
-            RequestFields,
-            RequestFields::default(),
-            "dm_request",
-            [
-                info,
-                subject,
-                key_algorithm,
-                key,
-                attributes,
-                signature_algorithm,
-                signature
-            ]
-        ),
-        layout!(
-            RequestAttributeFields,
-            RequestAttributeFields::default(),
-            "dm_request_attribute",
-            [identifier, values]
-        ),
-    ]
-    .concat()
 }
 
 /// The number of fields that a struct has in the header: each ends with a semicolon.
@@ -314,75 +184,48 @@ fn structs_are_as_in_c() {
 #[test]
 fn structs_have_no_other_field() {
     let header = fs::read_to_string(include().join("dumarewhi.h")).unwrap();
-    assert_eq!(fields_in(&header, "dm_element"), 9);
-    assert_eq!(fields_in(&header, "dm_outcome"), 6);
-    assert_eq!(fields_in(&header, "dm_time"), 10);
-    assert_eq!(fields_in(&header, "dm_writer"), 6);
-    assert_eq!(fields_in(&header, "dm_mark"), 2);
-    let certificates = [
-        ("dm_octets", 2),
-        ("dm_fault", 7),
-        ("dm_algorithm", 2),
-        ("dm_bits", 3),
-        ("dm_moment", 2),
-        ("dm_certificate", 16),
-        ("dm_attribute", 6),
-        ("dm_extension", 4),
-        ("dm_basic_constraints", 3),
-        ("dm_general_name", 4),
-        ("dm_authority_key_identifier", 7),
-        ("dm_digest", 1),
-        ("dm_cursor", 6),
-        ("dm_any", 5),
-        ("dm_certificate_list", 11),
-        ("dm_revoked", 4),
-        ("dm_request", 7),
-        ("dm_request_attribute", 2),
-    ];
-    for (name, fields) in certificates {
-        assert_eq!(fields_in(&header, name), fields, "{name}");
+    let names: Vec<_> = rows_of_structs().into_iter().map(|(name, _)| name).collect();
+    let structs: Vec<_> = names
+        .iter()
+        .filter_map(|name| name.strip_prefix("_Alignof(")?.strip_suffix(')'))
+        .collect();
+    assert!(structs.len() > 30);
+    for name in structs {
+        let prefix = format!("offsetof({name}, ");
+        let own = names.iter().filter(|row| row.starts_with(&prefix)).count();
+        assert_eq!(fields_in(&header, name), own, "{name}");
     }
 }
 
-/// Each call that is declared in the header is declared here, and none other.
+/// Each call that is declared here is declared in the header, and once.
 #[test]
 fn calls_are_those_of_the_header() {
     let header = fs::read_to_string(include().join("dumarewhi.h")).unwrap();
     let own = concat!(
         include_str!("../ffi.rs"),
-        include_str!("certificates.rs"),
         include_str!("cursor.rs"),
-        include_str!("lists.rs")
+        include_str!("pem.rs"),
+        include_str!("writer.rs"),
+        include_str!("x509.rs")
     );
     let names = |text: &str, opening: &str| -> Vec<String> {
         let mut names: Vec<_> = text
             .lines()
             .filter_map(|line| line.trim().strip_prefix(opening))
-            .filter_map(|line| line.split_once('(').map(|(name, _)| format!("dm_{name}")))
+            .filter_map(|rest| {
+                rest.split(&['(', '<'][..])
+                    .next()
+                    .map(|name| format!("dm_{name}"))
+            })
             .collect();
         names.sort();
         names
     };
     let results = ["uint32_t dm_", "size_t dm_", "void dm_", "dm_mark dm_"];
-    let mut declared: Vec<_> = results.iter().flat_map(|it| names(&header, it)).collect();
-    declared.sort();
-    // The version is that of the header, and this crate has its own.
-    declared.retain(|name| name != "dm_version");
-    assert_eq!(declared.len(), 76);
-    assert_eq!(declared, names(own, "fn dm_"));
-}
-
-#[test]
-fn classes_are_as_in_c() {
-    let header = fs::read_to_string(include().join("dumarewhi.h")).unwrap();
-    let line =
-        "enum dm_class { DM_UNIVERSAL = 0, DM_APPLICATION = 1, DM_CONTEXT_SPECIFIC = 2, DM_PRIVATE = 3 };";
-    assert!(header.contains(line));
-    let classes = [
-        Class::Universal,
-        Class::Application,
-        Class::ContextSpecific,
-        Class::Private,
-    ];
-    assert_eq!([0, 1, 2, 3].map(Class::from_number), classes);
+    let declared: Vec<_> = results.iter().flat_map(|it| names(&header, it)).collect();
+    let own = names(own, "fn dm_");
+    assert!(own.len() > 70 && own.windows(2).all(|pair| pair[0] < pair[1]));
+    for name in own {
+        assert!(declared.contains(&name), "{name}");
+    }
 }

@@ -1,129 +1,105 @@
 //! Extensions, and what their values are.
-use super::{Error, Name};
-use crate::ffi;
+use super::{
+    AccessDescriptions, DistributionPoints, Error, Name, NameConstraints, Policies, RevocationReason,
+};
+use crate::ffi::{self, Octets};
 use crate::{Integer, ObjectIdentifier};
-use core::iter::FusedIterator;
 
-/// The extensions of a certificate (RFC 5280 4.1.2.9).
-#[derive(Clone, Copy, Debug, PartialEq, Eq, Hash)]
-pub struct Extensions<'a>(pub(super) &'a [u8]);
+list! {
+    /// The extensions of a certificate (RFC 5280 4.1.2.9).
+    Extensions, ExtensionsIter of Extension by next_extension
+}
 
 impl<'a> Extensions<'a> {
-    /// The encodings of the extensions, one after the other.
-    pub fn as_bytes(self) -> &'a [u8] {
-        self.0
-    }
-
-    /// Whether there are none.
-    pub fn is_empty(self) -> bool {
-        self.0.is_empty()
-    }
-
-    /// The extensions, in order.
-    pub fn iter(self) -> ExtensionsIter<'a> {
-        ExtensionsIter(self.0)
-    }
-
     /// The first extension of a type.
     pub fn find(self, identifier: ObjectIdentifier<'_>) -> Option<Extension<'a>> {
-        self.iter().find(|extension| extension.identifier == identifier)
+        self.iter().find(|extension| extension.identifier() == identifier)
     }
 }
 
-impl<'a> IntoIterator for Extensions<'a> {
-    type Item = Extension<'a>;
-    type IntoIter = ExtensionsIter<'a>;
-
-    fn into_iter(self) -> ExtensionsIter<'a> {
-        self.iter()
-    }
-}
-
-/// The extensions of a certificate, one after the other.
-#[derive(Clone, Debug)]
-pub struct ExtensionsIter<'a>(&'a [u8]);
-
-impl<'a> Iterator for ExtensionsIter<'a> {
-    type Item = Extension<'a>;
-
-    fn next(&mut self) -> Option<Extension<'a>> {
-        let (fields, all) = ffi::next_extension(&mut self.0)?;
-        Some(Extension {
-            identifier: ObjectIdentifier::unchecked(fields.identifier.within(all)),
-            critical: fields.critical != 0,
-            octets: fields.value.within(all),
-            kind: fields.kind,
-        })
-    }
-}
-
-impl FusedIterator for ExtensionsIter<'_> {}
-
-/// An extension (RFC 5280 4.2).
-#[derive(Clone, Copy, Debug, PartialEq, Eq, Hash)]
-pub struct Extension<'a> {
-    identifier: ObjectIdentifier<'a>,
-    critical: bool,
-    octets: &'a [u8],
+parts! {
+    /// An extension (RFC 5280 4.2).
+    Extension: ExtensionFields as dm_extension;
+    /// Its type.
+    identifier: Octets<'a> as ObjectIdentifier<'a>,
+    value: Octets<'a>,
+    critical: u32,
     kind: u32,
 }
 
 impl<'a> Extension<'a> {
-    /// Its type.
-    pub fn identifier(&self) -> ObjectIdentifier<'a> {
-        self.identifier
-    }
-
     /// Whether who doesn't know it has to reject the certificate.
     pub fn is_critical(&self) -> bool {
-        self.critical
+        self.0.critical != 0
     }
 
     /// The octets of its value: the encoding of a type that the identifier names.
     pub fn octets(&self) -> &'a [u8] {
-        self.octets
-    }
-
-    /// Its value, by DER. Offsets of an error count from the start of [`octets`](Extension::octets).
-    pub fn value(&self) -> Result<Value<'a>, Error> {
-        let octets = self.octets;
-        Ok(match self.kind {
-            ffi::AUTHORITY_KEY_IDENTIFIER => {
-                Value::AuthorityKeyIdentifier(AuthorityKeyIdentifier::from_der(octets)?)
-            }
-            ffi::SUBJECT_KEY_IDENTIFIER => {
-                Value::SubjectKeyIdentifier(ffi::read_subject_key_identifier(octets).map_err(Error)?)
-            }
-            ffi::KEY_USAGE => Value::KeyUsage(KeyUsage::from_der(octets)?),
-            ffi::SUBJECT_ALT_NAME => Value::SubjectAltName(GeneralNames::from_der(octets)?),
-            ffi::ISSUER_ALT_NAME => Value::IssuerAltName(GeneralNames::from_der(octets)?),
-            ffi::BASIC_CONSTRAINTS => Value::BasicConstraints(BasicConstraints::from_der(octets)?),
-            ffi::EXTENDED_KEY_USAGE => Value::ExtendedKeyUsage(KeyPurposes::from_der(octets)?),
-            _ => Value::Other(octets),
-        })
+        self.0.value.get()
     }
 }
 
-/// The value of an extension.
-#[derive(Clone, Copy, Debug, PartialEq, Eq, Hash)]
-#[non_exhaustive]
-pub enum Value<'a> {
+/// Values of extensions: what each is, the number of its kind in `dumarewhi.h`, and what reads it.
+macro_rules! values {
+    ($($(#[$doc:meta])* $name:ident($type:ty) = $kind:literal by $read:expr;)*) => {
+        impl<'a> Extension<'a> {
+            /// Its value, by DER. Offsets of an error count from the start of [`octets`](Extension::octets).
+            pub fn value(&self) -> Result<Value<'a>, Error> {
+                let octets = self.octets();
+                match self.0.kind {
+                    $($kind => $read(octets).map(Value::$name),)*
+                    _ => Ok(Value::Other(octets)),
+                }
+            }
+        }
+
+        /// The value of an extension.
+        #[derive(Clone, Copy, Debug, PartialEq, Eq, Hash)]
+        #[non_exhaustive]
+        pub enum Value<'a> {
+            $($(#[$doc])* $name($type),)*
+            /// Another extension. Its octets aren't read.
+            Other(&'a [u8]),
+        }
+
+        #[cfg(test)]
+        pub(crate) const KINDS: &[(&str, u32)] = &[$((stringify!($name), $kind)),*];
+    };
+}
+
+values! {
     /// 4.2.1.1
-    AuthorityKeyIdentifier(AuthorityKeyIdentifier<'a>),
+    AuthorityKeyIdentifier(AuthorityKeyIdentifier<'a>) = 35 by AuthorityKeyIdentifier::from_der;
     /// 4.2.1.2: its octets.
-    SubjectKeyIdentifier(&'a [u8]),
+    SubjectKeyIdentifier(&'a [u8]) = 14 by subject_key_identifier;
     /// 4.2.1.3
-    KeyUsage(KeyUsage),
+    KeyUsage(KeyUsage) = 15 by KeyUsage::from_der;
+    /// 4.2.1.4
+    CertificatePolicies(Policies<'a>) = 32 by Policies::from_der;
     /// 4.2.1.6
-    SubjectAltName(GeneralNames<'a>),
+    SubjectAltName(GeneralNames<'a>) = 17 by GeneralNames::from_der;
     /// 4.2.1.7
-    IssuerAltName(GeneralNames<'a>),
+    IssuerAltName(GeneralNames<'a>) = 18 by GeneralNames::from_der;
     /// 4.2.1.9
-    BasicConstraints(BasicConstraints),
+    BasicConstraints(BasicConstraints) = 19 by BasicConstraints::from_der;
+    /// 4.2.1.10
+    NameConstraints(NameConstraints<'a>) = 30 by NameConstraints::from_der;
     /// 4.2.1.12
-    ExtendedKeyUsage(KeyPurposes<'a>),
-    /// Another extension. Its octets aren't read.
-    Other(&'a [u8]),
+    ExtendedKeyUsage(KeyPurposes<'a>) = 37 by KeyPurposes::from_der;
+    /// 4.2.1.13
+    CrlDistributionPoints(DistributionPoints<'a>) = 31 by DistributionPoints::from_der;
+    /// 4.2.1.15
+    FreshestCrl(DistributionPoints<'a>) = 46 by DistributionPoints::from_der;
+    /// 4.2.2.1
+    AuthorityInfoAccess(AccessDescriptions<'a>) = 1 by AccessDescriptions::from_der;
+    /// 4.2.2.2
+    SubjectInfoAccess(AccessDescriptions<'a>) = 11 by AccessDescriptions::from_der;
+    /// 5.3.1, of an entry of a list of revoked certificates.
+    ReasonCode(RevocationReason) = 21 by RevocationReason::from_der;
+}
+
+fn subject_key_identifier(octets: &[u8]) -> Result<&[u8], Error> {
+    ffi::read_subject_key_identifier(octets).map(Octets::get)
 }
 
 /// Whether the subject is a certification authority (RFC 5280 4.2.1.9).
@@ -146,7 +122,7 @@ impl BasicConstraints {
     /// # Ok::<(), dumarewhi::x509::Error>(())
     /// ```
     pub fn from_der(octets: &[u8]) -> Result<BasicConstraints, Error> {
-        let fields = ffi::read_basic_constraints(octets).map_err(Error)?;
+        let fields = ffi::read_basic_constraints(octets)?;
         Ok(BasicConstraints {
             ca: fields.ca != 0,
             path_length: (fields.has_path_length != 0).then_some(fields.path_length),
@@ -187,7 +163,7 @@ impl KeyUsage {
     /// # Ok::<(), dumarewhi::x509::Error>(())
     /// ```
     pub fn from_der(octets: &[u8]) -> Result<KeyUsage, Error> {
-        ffi::read_key_usage(octets).map(KeyUsage).map_err(Error)
+        ffi::read_key_usage(octets).map(KeyUsage)
     }
 
     /// The bits, where bit 0 of RFC 5280 is the lowest one.
@@ -212,46 +188,10 @@ usages! {
     decipher_only = 8, "decipherOnly";
 }
 
-/// The purposes of a key (RFC 5280 4.2.1.12), one at least.
-#[derive(Clone, Copy, Debug, PartialEq, Eq, Hash)]
-pub struct KeyPurposes<'a>(&'a [u8]);
-
-impl<'a> KeyPurposes<'a> {
-    /// Reads the value of an extension.
-    pub fn from_der(octets: &'a [u8]) -> Result<KeyPurposes<'a>, Error> {
-        ffi::read_extended_key_usage(octets)
-            .map(KeyPurposes)
-            .map_err(Error)
-    }
-
-    /// Their identifiers.
-    pub fn iter(self) -> KeyPurposesIter<'a> {
-        KeyPurposesIter(self.0)
-    }
+list! {
+    /// The purposes of a key (RFC 5280 4.2.1.12), one at least: their identifiers.
+    KeyPurposes, KeyPurposesIter of ObjectIdentifier by next_key_purpose, read_extended_key_usage
 }
-
-impl<'a> IntoIterator for KeyPurposes<'a> {
-    type Item = ObjectIdentifier<'a>;
-    type IntoIter = KeyPurposesIter<'a>;
-
-    fn into_iter(self) -> KeyPurposesIter<'a> {
-        self.iter()
-    }
-}
-
-/// The identifiers of purposes.
-#[derive(Clone, Debug)]
-pub struct KeyPurposesIter<'a>(&'a [u8]);
-
-impl<'a> Iterator for KeyPurposesIter<'a> {
-    type Item = ObjectIdentifier<'a>;
-
-    fn next(&mut self) -> Option<ObjectIdentifier<'a>> {
-        ffi::next_key_purpose(&mut self.0).map(ObjectIdentifier::unchecked)
-    }
-}
-
-impl FusedIterator for KeyPurposesIter<'_> {}
 
 /// Which key signed the certificate (RFC 5280 4.2.1.1).
 #[derive(Clone, Copy, Debug, PartialEq, Eq, Hash)]
@@ -267,22 +207,18 @@ pub struct AuthorityKeyIdentifier<'a> {
 impl<'a> AuthorityKeyIdentifier<'a> {
     /// Reads the value of an extension.
     pub fn from_der(octets: &'a [u8]) -> Result<AuthorityKeyIdentifier<'a>, Error> {
-        let fields = ffi::read_authority_key_identifier(octets).map_err(Error)?;
-        let present = |has: u32, part: ffi::Octets| (has != 0).then(|| part.within(octets));
+        let fields = ffi::read_authority_key_identifier(octets)?;
+        let present = |has: u32, part: Octets<'a>| (has != 0).then_some(part);
         Ok(AuthorityKeyIdentifier {
-            key_identifier: present(fields.has_key_identifier, fields.key_identifier),
+            key_identifier: present(fields.has_key_identifier, fields.key_identifier).map(Octets::get),
             issuer: present(fields.has_issuer, fields.issuer).map(GeneralNames),
-            serial_number: present(fields.has_serial_number, fields.serial_number).map(Integer),
+            serial_number: present(fields.has_serial_number, fields.serial_number).map(Integer::from),
         })
     }
 }
 
-/// Names of a subject or an issuer (RFC 5280 4.2.1.6), one at least.
-#[derive(Clone, Copy, Debug, PartialEq, Eq, Hash)]
-pub struct GeneralNames<'a>(&'a [u8]);
-
-impl<'a> GeneralNames<'a> {
-    /// Reads the value of an extension.
+list! {
+    /// Names of a subject or an issuer (RFC 5280 4.2.1.6), one at least.
     ///
     /// ```
     /// use dumarewhi::x509::{GeneralName, GeneralNames};
@@ -291,38 +227,8 @@ impl<'a> GeneralNames<'a> {
     /// assert!(names.iter().eq([GeneralName::DnsName("a.b")]));
     /// # Ok::<(), dumarewhi::x509::Error>(())
     /// ```
-    pub fn from_der(octets: &'a [u8]) -> Result<GeneralNames<'a>, Error> {
-        ffi::read_general_names(octets).map(GeneralNames).map_err(Error)
-    }
-
-    /// The names, in order.
-    pub fn iter(self) -> GeneralNamesIter<'a> {
-        GeneralNamesIter(self.0)
-    }
+    GeneralNames, GeneralNamesIter of GeneralName by next_general_name, read_general_names
 }
-
-impl<'a> IntoIterator for GeneralNames<'a> {
-    type Item = GeneralName<'a>;
-    type IntoIter = GeneralNamesIter<'a>;
-
-    fn into_iter(self) -> GeneralNamesIter<'a> {
-        self.iter()
-    }
-}
-
-/// Names of a subject or an issuer, one after the other.
-#[derive(Clone, Debug)]
-pub struct GeneralNamesIter<'a>(&'a [u8]);
-
-impl<'a> Iterator for GeneralNamesIter<'a> {
-    type Item = GeneralName<'a>;
-
-    fn next(&mut self) -> Option<GeneralName<'a>> {
-        ffi::next_general_name(&mut self.0).map(|(fields, all)| GeneralName::new(&fields, all))
-    }
-}
-
-impl FusedIterator for GeneralNamesIter<'_> {}
 
 /// A name (RFC 5280 4.2.1.6).
 #[derive(Clone, Copy, Debug, PartialEq, Eq, Hash)]
@@ -353,27 +259,29 @@ pub enum GeneralName<'a> {
     RegisteredId(ObjectIdentifier<'a>),
 }
 
-impl<'a> GeneralName<'a> {
-    fn new(fields: &ffi::GeneralNameFields, all: &'a [u8]) -> GeneralName<'a> {
-        let octets = fields.octets.within(all);
+impl<'a> From<ffi::GeneralNameFields<'a>> for GeneralName<'a> {
+    fn from(fields: ffi::GeneralNameFields<'a>) -> GeneralName<'a> {
+        let octets = fields.octets.get();
         // An IA5String was read, so it is ASCII.
         let text = core::str::from_utf8(octets).unwrap_or_default();
         match fields.kind {
             1 => GeneralName::Rfc822Name(text),
             2 => GeneralName::DnsName(text),
             3 => GeneralName::X400Address(octets),
-            4 => GeneralName::DirectoryName(Name(octets)),
+            4 => GeneralName::DirectoryName(fields.octets.into()),
             5 => GeneralName::EdiPartyName(octets),
             6 => GeneralName::Uri(text),
             7 => GeneralName::IpAddress(octets),
-            8 => GeneralName::RegisteredId(ObjectIdentifier::unchecked(octets)),
+            8 => GeneralName::RegisteredId(fields.octets.into()),
             _ => GeneralName::OtherName {
-                identifier: ObjectIdentifier::unchecked(fields.identifier.within(all)),
+                identifier: fields.identifier.into(),
                 value: octets,
             },
         }
     }
+}
 
+impl GeneralName<'_> {
     /// The address, if it is one of four or sixteen octets.
     #[cfg(feature = "std")]
     pub fn ip_addr(&self) -> Option<std::net::IpAddr> {

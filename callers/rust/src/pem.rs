@@ -1,0 +1,99 @@
+//! Blocks of PEM (RFC 7468), by calls that are proved. This is the feature `pem`.
+//!
+//! ```
+//! use dumarewhi::pem;
+//!
+//! let text = b"A NULL:\n-----BEGIN NULL-----\nBQA=\n-----END NULL-----\nand more.";
+//! let blocks = pem::blocks(text).collect::<Result<Vec<_>, _>>()?;
+//! assert_eq!(blocks.len(), 1);
+//! assert_eq!((blocks[0].label(), blocks[0].offset()), ("NULL", 8));
+//! assert_eq!(blocks[0].octets(), [0x05, 0x00]);
+//! # Ok::<(), dumarewhi::Error>(())
+//! ```
+use crate::ffi::{self, Octets};
+use crate::{Error, ErrorKind, Reason, Result};
+use alloc::vec::Vec;
+use core::iter::FusedIterator;
+
+/// The blocks of a text, and any text around them. A block begins at the start of a line, or after white space, quotes
+/// or a mark `>`. What they are isn't checked.
+///
+/// Each block is `Ok`, or an error at the offset where it begins: its base64 (RFC 4648) isn't right, or it is encrypted
+/// (RFC 1421). A block without an end, or with another label at its end, is an error and the last one.
+pub fn blocks(text: &[u8]) -> Blocks<'_> {
+    Blocks {
+        text: Octets::of(text),
+        offset: 0,
+        characters: alloc::vec![0; text.len()],
+        octets: alloc::vec![0; text.len()],
+    }
+}
+
+/// A block of a text.
+#[derive(Clone, Debug, PartialEq, Eq, Hash)]
+pub struct Block<'t> {
+    label: &'t [u8],
+    offset: usize,
+    octets: Vec<u8>,
+}
+
+impl<'t> Block<'t> {
+    /// Its label, such as `CERTIFICATE`. An empty text if that isn't UTF-8.
+    pub fn label(&self) -> &'t str {
+        core::str::from_utf8(self.label).unwrap_or_default()
+    }
+
+    /// Where it begins, in octets from the start of the text.
+    pub fn offset(&self) -> usize {
+        self.offset
+    }
+
+    /// What it encodes.
+    pub fn octets(&self) -> &[u8] {
+        &self.octets
+    }
+
+    /// What it encodes.
+    pub fn into_octets(self) -> Vec<u8> {
+        self.octets
+    }
+}
+
+forward!(AsRef by octets for Block<'_>);
+
+/// The blocks of a text, as [`blocks`] has them.
+#[derive(Clone, Debug)]
+pub struct Blocks<'t> {
+    /// What is left of it.
+    text: Octets<'t>,
+    /// How many octets were before that.
+    offset: usize,
+    /// The buffers of a block, which has no more octets than the text.
+    characters: Vec<u8>,
+    octets: Vec<u8>,
+}
+
+impl<'t> Iterator for Blocks<'t> {
+    type Item = Result<Block<'t>>;
+
+    fn next(&mut self) -> Option<Result<Block<'t>>> {
+        let text = self.text.get();
+        let offset = self.offset + ffi::find_pem(text)?;
+        let found = ffi::next_pem(&mut self.text, &mut self.characters, &mut self.octets);
+        let taken = text.len() - self.text.get().len();
+        self.offset += taken;
+        let error = |number| Error::new(ErrorKind::Malformed(Reason(number)), offset);
+        let block = |fields: ffi::PemFields<'t>| Block {
+            label: fields.label.get(),
+            offset,
+            octets: self.octets[..fields.length].to_vec(),
+        };
+        let found = found.map(block).map_err(error);
+        if taken == 0 {
+            self.text = Octets::default();
+        }
+        Some(found)
+    }
+}
+
+impl FusedIterator for Blocks<'_> {}

@@ -1,0 +1,349 @@
+//! Types that are read and written.
+#[cfg(feature = "alloc")]
+use crate::{to_vec, ObjectIdentifierBuf};
+use crate::{
+    Any, BitString, Error, ErrorKind, Integer, ObjectIdentifier, Reader, Reason, Result, Rules, Tag, Time,
+    Writer,
+};
+#[cfg(feature = "alloc")]
+use alloc::{string::String, vec::Vec};
+
+/// A value that a [`Reader`] reads, as [`Reader::value`] does. A type of the caller's own is read by its fields.
+///
+/// ```
+/// use dumarewhi::{Decode, Reader, Result};
+///
+/// /// SEQUENCE { number INTEGER, names SEQUENCE OF UTF8String, critical BOOLEAN DEFAULT FALSE,
+/// ///     note UTF8String OPTIONAL }
+/// struct Entry<'a> {
+///     number: u64,
+///     names: Vec<&'a str>,
+///     critical: bool,
+///     note: Option<&'a str>,
+/// }
+///
+/// impl<'a> Decode<'a> for Entry<'a> {
+///     fn decode(r: &mut Reader<'a>) -> Result<Entry<'a>> {
+///         r.sequence(|r| {
+///             Ok(Entry {
+///                 number: r.value()?,
+///                 names: r.value()?,
+///                 critical: r.value_or(false)?,
+///                 note: r.value()?,
+///             })
+///         })
+///     }
+/// }
+///
+/// let entry = Entry::from_der(&[0x30, 0x08, 0x02, 0x01, 0x05, 0x30, 0x03, 0x0c, 0x01, b'a'])?;
+/// assert_eq!((entry.number, &entry.names[..]), (5, &["a"][..]));
+/// assert_eq!((entry.critical, entry.note), (false, None));
+/// # Ok::<(), dumarewhi::Error>(())
+/// ```
+pub trait Decode<'a>: Sized {
+    /// Reads the elements of the value.
+    fn decode(r: &mut Reader<'a>) -> Result<Self>;
+
+    /// Whether a value may begin with an element that has this tag: so it is known whether an OPTIONAL one is there.
+    /// Unless a type says otherwise, it is a SEQUENCE.
+    fn begins_with(tag: Tag) -> bool {
+        tag == Tag::SEQUENCE
+    }
+
+    /// Reads the one value that the input is in DER.
+    fn from_der(input: &'a [u8]) -> Result<Self> {
+        read_whole(Reader::new(input))
+    }
+
+    /// Reads the one value that the input is in BER.
+    fn from_ber(input: &'a [u8]) -> Result<Self> {
+        read_whole(Reader::with_rules(input, Rules::BER))
+    }
+}
+
+fn read_whole<'a, T: Decode<'a>>(mut reader: Reader<'a>) -> Result<T> {
+    let value = reader.value()?;
+    reader.finish()?;
+    Ok(value)
+}
+
+/// A value that a [`Writer`] writes, as [`Writer::value`] does. A type of the caller's own is written by its fields.
+///
+/// ```
+/// use dumarewhi::{Encode, Result, Writer};
+///
+/// /// SEQUENCE { number INTEGER, names SEQUENCE OF UTF8String, critical BOOLEAN DEFAULT FALSE,
+/// ///     note UTF8String OPTIONAL }
+/// struct Entry {
+///     number: u64,
+///     names: Vec<String>,
+///     critical: bool,
+///     note: Option<String>,
+/// }
+///
+/// impl Encode for Entry {
+///     fn encode(&self, w: &mut Writer<'_>) -> Result<()> {
+///         w.sequence(|w| {
+///             w.value(&self.number)?;
+///             w.value(&self.names)?;
+///             w.value_unless(&self.critical, &false)?;
+///             w.value(&self.note)
+///         })
+///     }
+/// }
+///
+/// let entry = Entry { number: 5, names: vec!["a".into()], critical: false, note: None };
+/// assert_eq!(entry.to_der()?, [0x30, 0x08, 0x02, 0x01, 0x05, 0x30, 0x03, 0x0c, 0x01, b'a']);
+/// # Ok::<(), dumarewhi::Error>(())
+/// ```
+pub trait Encode {
+    /// Writes the elements of the value.
+    fn encode(&self, w: &mut Writer<'_>) -> Result<()>;
+
+    /// The octets of the value.
+    #[cfg(feature = "alloc")]
+    fn to_der(&self) -> Result<Vec<u8>> {
+        to_vec(|w| self.encode(w))
+    }
+}
+
+impl Writer<'_> {
+    /// Writes a value.
+    ///
+    /// ```
+    /// use dumarewhi::to_vec;
+    ///
+    /// let octets = to_vec(|w| {
+    ///     w.value(&true)?;
+    ///     w.value(&Some(7_u64))?;
+    ///     w.value(&None::<u64>)
+    /// })?;
+    /// assert_eq!(octets, [0x01, 0x01, 0xff, 0x02, 0x01, 0x07]);
+    /// # Ok::<(), dumarewhi::Error>(())
+    /// ```
+    pub fn value(&mut self, value: &(impl Encode + ?Sized)) -> Result<()> {
+        value.encode(self)
+    }
+
+    /// Writes a value, unless it is its default (X.690 11.5).
+    ///
+    /// ```
+    /// use dumarewhi::to_vec;
+    ///
+    /// let octets = to_vec(|w| {
+    ///     w.value_unless(&false, &false)?;
+    ///     w.value_unless(&2_u64, &0)
+    /// })?;
+    /// assert_eq!(octets, [0x02, 0x01, 0x02]);
+    /// # Ok::<(), dumarewhi::Error>(())
+    /// ```
+    pub fn value_unless<T: Encode + PartialEq>(&mut self, value: &T, default: &T) -> Result<()> {
+        if value == default {
+            return Ok(());
+        }
+        value.encode(self)
+    }
+}
+
+/// A type that has one tag, and how it is read.
+macro_rules! decodes {
+    ($(#[$meta:meta])* $type:ty: $tag:ident, |$r:ident| $read:expr) => {
+        $(#[$meta])*
+        impl<'a> Decode<'a> for $type {
+            fn decode($r: &mut Reader<'a>) -> Result<$type> {
+                $read
+            }
+
+            fn begins_with(tag: Tag) -> bool {
+                tag == Tag::$tag
+            }
+        }
+    };
+}
+
+/// Such types, and how they are written.
+macro_rules! types {
+    ($($(#[$meta:meta])* $type:ty: $tag:ident, |$r:ident| $read:expr, |$w:ident, $it:ident| $write:expr;)*) => {
+        $(decodes! { $(#[$meta])* $type: $tag, |$r| $read }
+
+        $(#[$meta])*
+        #[allow(clippy::needless_lifetimes)]
+        impl<'a> Encode for $type {
+            fn encode(&self, $w: &mut Writer<'_>) -> Result<()> {
+                let $it = self;
+                $write;
+                Ok(())
+            }
+        })*
+    };
+}
+
+types! {
+    /// A BOOLEAN.
+    bool: BOOLEAN, |r| r.boolean(), |w, it| w.boolean(*it);
+    /// An INTEGER that the type has.
+    u16: INTEGER, |r| number(r), |w, it| w.u64((*it).into());
+    /// An INTEGER that the type has.
+    u32: INTEGER, |r| number(r), |w, it| w.u64((*it).into());
+    /// An INTEGER that the type has.
+    u64: INTEGER, |r| r.u64(), |w, it| w.u64(*it);
+    /// An INTEGER that the type has.
+    i16: INTEGER, |r| number(r), |w, it| w.i64((*it).into());
+    /// An INTEGER that the type has.
+    i32: INTEGER, |r| number(r), |w, it| w.i64((*it).into());
+    /// An INTEGER that the type has.
+    i64: INTEGER, |r| r.i64(), |w, it| w.i64(*it);
+    /// An INTEGER, as [`Writer::integer`].
+    Integer<'a>: INTEGER, |r| r.integer(), |w, it| w.integer(*it)?;
+    /// A NULL.
+    (): NULL, |r| r.null(), |w, _it| w.null();
+    /// An OBJECT IDENTIFIER.
+    ObjectIdentifier<'a>: OBJECT_IDENTIFIER, |r| r.oid(), |w, it| w.identifier(*it);
+    /// An OBJECT IDENTIFIER.
+    #[cfg(feature = "alloc")]
+    ObjectIdentifierBuf: OBJECT_IDENTIFIER, |r| r.oid().map(Self::from), |w, it| w.identifier(it.as_oid());
+    /// A BIT STRING.
+    BitString<'a>: BIT_STRING, |r| r.bit_string(), |w, it| w.bit_string(it.unused_bits(), it.raw_bytes());
+    /// A UTF8String.
+    #[cfg(feature = "alloc")]
+    String: UTF8_STRING, |r| r.utf8_string().map(String::from), |w, it| w.utf8_string(it);
+}
+
+fn number<'a, T: TryFrom<Integer<'a>, Error = Reason>>(r: &mut Reader<'a>) -> Result<T> {
+    let offset = r.offset();
+    let error = |reason| Error::new(ErrorKind::Value(reason), offset);
+    r.attempt(|r| T::try_from(r.integer()?).map_err(error))
+}
+
+decodes! {
+    /// An OCTET STRING.
+    &'a [u8]: OCTET_STRING, |r| r.octet_string()
+}
+
+/// An OCTET STRING.
+impl Encode for [u8] {
+    fn encode(&self, w: &mut Writer<'_>) -> Result<()> {
+        w.octet_string(self);
+        Ok(())
+    }
+}
+
+decodes! {
+    /// A UTF8String.
+    &'a str: UTF8_STRING, |r| r.utf8_string()
+}
+
+/// A UTF8String.
+impl Encode for str {
+    fn encode(&self, w: &mut Writer<'_>) -> Result<()> {
+        w.utf8_string(self);
+        Ok(())
+    }
+}
+
+/// A UTCTime or a GeneralizedTime.
+impl<'a> Decode<'a> for Time {
+    fn decode(r: &mut Reader<'a>) -> Result<Time> {
+        r.time()
+    }
+
+    fn begins_with(tag: Tag) -> bool {
+        matches!(tag, Tag::UTC_TIME | Tag::GENERALIZED_TIME)
+    }
+}
+
+/// A UTCTime of the years 1950 to 2049 without a fraction, or else a GeneralizedTime (RFC 5280 4.1.2.5).
+impl Encode for Time {
+    fn encode(&self, w: &mut Writer<'_>) -> Result<()> {
+        match (self.year, self.nanosecond) {
+            (1950..=2049, 0) => w.utc_time(*self),
+            _ => w.generalized_time(*self),
+        }
+    }
+}
+
+/// An element of any type.
+impl<'a> Decode<'a> for Any<'a> {
+    fn decode(r: &mut Reader<'a>) -> Result<Any<'a>> {
+        r.any()
+    }
+
+    fn begins_with(_: Tag) -> bool {
+        true
+    }
+}
+
+/// An element that was read by DER, as it is. One that was read by BER stays in BER: [`write_der`] writes it as DER.
+///
+/// [`write_der`]: crate::write_der
+impl Encode for Any<'_> {
+    fn encode(&self, w: &mut Writer<'_>) -> Result<()> {
+        w.elements(self.octets());
+        Ok(())
+    }
+}
+
+/// The value, or nothing: an OPTIONAL field.
+impl<'a, T: Decode<'a>> Decode<'a> for Option<T> {
+    fn decode(r: &mut Reader<'a>) -> Result<Option<T>> {
+        match r.has(T::begins_with)? {
+            true => r.value().map(Some),
+            false => Ok(None),
+        }
+    }
+
+    fn begins_with(tag: Tag) -> bool {
+        T::begins_with(tag)
+    }
+}
+
+/// The value, or nothing: an OPTIONAL field.
+impl<T: Encode> Encode for Option<T> {
+    fn encode(&self, w: &mut Writer<'_>) -> Result<()> {
+        self.as_ref().map_or(Ok(()), |value| value.encode(w))
+    }
+}
+
+/// A SEQUENCE OF.
+#[cfg(feature = "alloc")]
+impl<'a, T: Decode<'a>> Decode<'a> for Vec<T> {
+    fn decode(r: &mut Reader<'a>) -> Result<Vec<T>> {
+        r.sequence(|r| {
+            let mut values = Vec::new();
+            while !r.is_finished() {
+                let offset = r.offset();
+                values.push(r.value()?);
+                if r.offset() == offset {
+                    let text = "a value of no octets is in a list";
+                    return Err(Error::new(ErrorKind::Other(text), offset));
+                }
+            }
+            Ok(values)
+        })
+    }
+}
+
+/// A SEQUENCE OF.
+impl<T: Encode> Encode for [T] {
+    fn encode(&self, w: &mut Writer<'_>) -> Result<()> {
+        w.sequence(|w| self.iter().try_for_each(|value| value.encode(w)))
+    }
+}
+
+/// As a slice.
+#[cfg(feature = "alloc")]
+impl<T> Encode for Vec<T>
+where
+    [T]: Encode,
+{
+    fn encode(&self, w: &mut Writer<'_>) -> Result<()> {
+        self[..].encode(w)
+    }
+}
+
+/// As the value that it refers to.
+impl<T: Encode + ?Sized> Encode for &T {
+    fn encode(&self, w: &mut Writer<'_>) -> Result<()> {
+        (**self).encode(w)
+    }
+}

@@ -1,0 +1,114 @@
+//! The fields of certificates and the like, as errors have them.
+
+numbered! {
+    /// A field of a certificate (RFC 5280 4.1), of a list of revoked certificates (5.1), of a request (RFC 2986 4), or
+    /// of a private key (RFC 5958 2, RFC 8017 A.1.2).
+    #[derive(Clone, Copy, Debug, PartialEq, Eq, PartialOrd, Ord, Hash)]
+    #[non_exhaustive]
+    Field or None:
+    /// None: one value was read.
+    None = 0,
+    /// The outermost SEQUENCE, trailing data, or a rule of [`from_strict_der`](super::Certificate::from_strict_der).
+    Certificate = 1,
+    /// tbsCertificate.
+    TbsCertificate = 2,
+    /// version.
+    Version = 3,
+    /// serialNumber.
+    SerialNumber = 4,
+    /// signature.
+    Signature = 5,
+    /// issuer.
+    Issuer = 6,
+    /// validity.
+    Validity = 7,
+    /// subject.
+    Subject = 8,
+    /// subjectPublicKeyInfo.
+    SubjectPublicKeyInfo = 9,
+    /// issuerUniqueID.
+    IssuerUniqueId = 10,
+    /// subjectUniqueID.
+    SubjectUniqueId = 11,
+    /// extensions.
+    Extensions = 12,
+    /// signatureAlgorithm.
+    SignatureAlgorithm = 13,
+    /// signatureValue.
+    SignatureValue = 14,
+    /// The outermost SEQUENCE of a list of revoked certificates.
+    List = 32,
+    /// tbsCertList.
+    TbsList = 33,
+    /// version of a list.
+    ListVersion = 34,
+    /// signature of a list.
+    ListSignature = 35,
+    /// issuer of a list.
+    ListIssuer = 36,
+    /// thisUpdate.
+    ThisUpdate = 37,
+    /// nextUpdate.
+    NextUpdate = 38,
+    /// revokedCertificates.
+    RevokedCertificates = 39,
+    /// crlExtensions.
+    ListExtensions = 40,
+    /// signatureAlgorithm of a list.
+    ListSignatureAlgorithm = 41,
+    /// signatureValue of a list.
+    ListSignatureValue = 42,
+    /// The outermost SEQUENCE of a request.
+    Request = 64,
+    /// certificationRequestInfo.
+    RequestInfo = 65,
+    /// version of a request.
+    RequestVersion = 66,
+    /// subject of a request.
+    RequestSubject = 67,
+    /// subjectPKInfo.
+    RequestKey = 68,
+    /// attributes of a request.
+    RequestAttributes = 69,
+    /// signatureAlgorithm of a request.
+    RequestSignatureAlgorithm = 70,
+    /// signature of a request.
+    RequestSignature = 71,
+    /// The outermost SEQUENCE of a private key.
+    Key = 96,
+    /// version of a private key.
+    KeyVersion = 97,
+    /// privateKeyAlgorithm.
+    KeyAlgorithm = 98,
+    /// privateKey.
+    KeyOctets = 99,
+    /// attributes of a private key.
+    KeyAttributes = 100,
+    /// publicKey of a private key.
+    KeyPublicKey = 101,
+    /// The outermost SEQUENCE of a private key of RSA.
+    RsaKey = 112,
+    /// version of a private key of RSA.
+    RsaVersion = 113,
+    /// modulus.
+    RsaModulus = 114,
+    /// publicExponent.
+    RsaPublicExponent = 115,
+    /// privateExponent.
+    RsaPrivateExponent = 116,
+    /// prime1.
+    RsaPrime1 = 117,
+    /// prime2.
+    RsaPrime2 = 118,
+    /// exponent1.
+    RsaExponent1 = 119,
+    /// exponent2.
+    RsaExponent2 = 120,
+    /// coefficient.
+    RsaCoefficient = 121,
+    /// otherPrimeInfos.
+    RsaOtherPrimes = 122,
+}
+
+#[cfg(test)]
+mod tests;

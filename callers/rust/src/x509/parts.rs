@@ -1,0 +1,161 @@
+//! What types of certificates have in common: they are structs of the library, or lists of its items.
+
+/// A struct of the library, with its name in `dumarewhi.h`, and a call for each part that has a type behind `as`. One
+/// that is read `by` a call has all octets of the input too. What is secret isn't shown: then one part is.
+macro_rules! parts {
+    (
+        $(#[$meta:meta])* $name:ident: $fields:ident as $of_c:ident
+        $(by $kept:ident)? $(from $read:ident)? $(showing $shown:ident)?;
+        $($(#[$doc:meta])* $part:ident: $raw:ty $(as $type:ty)?,)*
+    ) => {
+        structs! {
+            struct $fields<'a> as $of_c {
+                $($part: $raw,)*
+            }
+        }
+
+        parts! { @type [$(#[$meta])*] $name $fields $($kept)? }
+        $(parts! { @from $name $read })?
+        parts! { @calls $name {} $([[$(#[$doc])*] $part $($type)?])* }
+
+        impl core::fmt::Debug for $name<'_> {
+            fn fmt(&self, f: &mut core::fmt::Formatter<'_>) -> core::fmt::Result {
+                let mut shown = f.debug_struct(stringify!($name));
+                $(return shown.field(stringify!($shown), &self.$shown()).finish_non_exhaustive();)?
+                #[allow(unreachable_code)]
+                {
+                    $($(parts! { @show shown, self, $part $type })?)*
+                    shown.finish()
+                }
+            }
+        }
+    };
+    (@calls $name:ident {$($calls:tt)*}) => {
+        impl<'a> $name<'a> {
+            $($calls)*
+        }
+    };
+    (@calls $name:ident {$($calls:tt)*} [[$($doc:tt)*] $part:ident] $($rest:tt)*) => {
+        parts! { @calls $name {$($calls)*} $($rest)* }
+    };
+    (@calls $name:ident {$($calls:tt)*} [[$($doc:tt)*] $part:ident $type:ty] $($rest:tt)*) => {
+        parts! { @calls $name {
+            $($calls)*
+
+            $($doc)*
+            pub fn $part(&self) -> $type {
+                self.0.$part.into()
+            }
+        } $($rest)* }
+    };
+    (@show $shown:ident, $self:ident, $part:ident $type:ty) => {
+        $shown.field(stringify!($part), &$self.$part());
+    };
+    (@type [$($meta:tt)*] $name:ident $fields:ident) => {
+        $($meta)*
+        #[derive(Clone, Copy, PartialEq, Eq, Hash)]
+        pub struct $name<'a>($fields<'a>);
+
+        impl<'a> From<$fields<'a>> for $name<'a> {
+            fn from(fields: $fields<'a>) -> $name<'a> {
+                $name(fields)
+            }
+        }
+    };
+    (@from $name:ident $read:ident) => {
+        impl<'a> $name<'a> {
+            /// Reads the one that the octets are in DER, exactly as its ASN.1 has it.
+            pub fn from_der(octets: &'a [u8]) -> crate::Result<$name<'a>> {
+                crate::ffi::$read(octets).map($name)
+            }
+        }
+    };
+    (@type [$($meta:tt)*] $name:ident $fields:ident $read:ident) => {
+        $($meta)*
+        #[derive(Clone, Copy, PartialEq, Eq, Hash)]
+        pub struct $name<'a>($fields<'a>, &'a [u8]);
+
+        impl<'a> $name<'a> {
+            /// Reads the one that the input is in DER, exactly as its ASN.1 has it.
+            pub fn from_der(input: &'a [u8]) -> crate::Result<$name<'a>> {
+                Ok($name(crate::ffi::$read(input)?, input))
+            }
+
+            /// All octets.
+            pub fn as_bytes(&self) -> &'a [u8] {
+                self.1
+            }
+        }
+
+        forward!(TryFrom by from_der for $name, crate::Error);
+        forward!(AsRef by as_bytes for $name<'_>);
+    };
+}
+
+/// A list that is kept as the encodings of its items, and its iterator. One that is the value of an extension is read.
+macro_rules! list {
+    ($(#[$meta:meta])* $name:ident, $iter:ident of $item:ident by $next:ident $(, $read:ident)?) => {
+        $(#[$meta])*
+        #[derive(Clone, Copy, PartialEq, Eq, Hash)]
+        pub struct $name<'a>(crate::ffi::Octets<'a>);
+
+        impl<'a> $name<'a> {
+            $(/// Reads the value of an extension.
+            pub fn from_der(octets: &'a [u8]) -> crate::Result<$name<'a>> {
+                crate::ffi::$read(octets).map($name)
+            })?
+
+            /// The encodings of the items, one after the other.
+            pub fn as_bytes(self) -> &'a [u8] {
+                self.0.get()
+            }
+
+            /// Whether there are none.
+            pub fn is_empty(self) -> bool {
+                self.as_bytes().is_empty()
+            }
+
+            /// The items, in order.
+            pub fn iter(self) -> $iter<'a> {
+                $iter(self.0)
+            }
+        }
+
+        forward!(AsRef by as_bytes for $name<'_>);
+
+        impl<'a> From<crate::ffi::Octets<'a>> for $name<'a> {
+            fn from(octets: crate::ffi::Octets<'a>) -> $name<'a> {
+                $name(octets)
+            }
+        }
+
+        impl core::fmt::Debug for $name<'_> {
+            fn fmt(&self, f: &mut core::fmt::Formatter<'_>) -> core::fmt::Result {
+                f.debug_list().entries(self.iter()).finish()
+            }
+        }
+
+        impl<'a> IntoIterator for $name<'a> {
+            type Item = $item<'a>;
+            type IntoIter = $iter<'a>;
+
+            fn into_iter(self) -> $iter<'a> {
+                self.iter()
+            }
+        }
+
+        #[doc = concat!("The items of [`", stringify!($name), "`].")]
+        #[derive(Clone, Debug)]
+        pub struct $iter<'a>(crate::ffi::Octets<'a>);
+
+        impl<'a> Iterator for $iter<'a> {
+            type Item = $item<'a>;
+
+            fn next(&mut self) -> Option<$item<'a>> {
+                crate::ffi::$next(&mut self.0).map($item::from)
+            }
+        }
+
+        impl core::iter::FusedIterator for $iter<'_> {}
+    };
+}
