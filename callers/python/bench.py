@@ -1,9 +1,11 @@
-"""Times reading beside pyasn1 and asn1crypto, and prints a table of microseconds an element:  python bench.py
+"""Times reading beside pyasn1, asn1crypto and cryptography, and prints two tables:  python bench.py
 
-The inputs are the certificates of the machine, and an SNMP response with ten variables. Each task reads all values of
-all elements, so that nothing is left for later: asn1crypto and this package read a value when it is asked for. pyasn1
-and asn1crypto have a schema of SNMP, since they don't read what is under its tags without one. The time is the least
-of several rounds over all inputs, and that of the processor, which other programs change less.
+The inputs are the certificates of the machine, and an SNMP response with ten variables. In the first table, of
+microseconds an element, each task reads all values of all elements, so that nothing is left for later: asn1crypto and
+this package read a value when it is asked for. pyasn1 and asn1crypto have a schema of SNMP, since they don't read what
+is under its tags without one. The second table has microseconds a certificate, with its names and extensions, of those
+whose extensions are all in DER. The time is the least of several rounds over all inputs, and that of the processor,
+which other programs change less.
 """
 from __future__ import annotations
 
@@ -14,7 +16,7 @@ import time
 from pathlib import Path
 from typing import Any, Callable, List, Optional, Tuple
 
-from dumarewhi import Reader, Writer, check_der, parse_der
+from dumarewhi import DerError, Reader, Writer, check_der, parse_der, x509
 
 ROUNDS = 9
 SECONDS = 0.1  # of a round, at least
@@ -63,6 +65,39 @@ def message(octets: bytes) -> object:
                     with variables.sequence() as pair:
                         pairs.append((pair.oid(), pair.integer()))
     return version, community, numbers, pairs
+
+
+def fields(octets: bytes) -> object:
+    it = x509.Certificate.from_der(octets)
+    names = [[(attribute.identifier, attribute.text) for attribute in name] for name in (it.issuer, it.subject)]
+    times = it.not_before, it.not_after
+    values = [(extension.identifier, extension.critical, extension.value) for extension in it.extensions]
+    return it.version, it.serial_number, names, times, it.public_key, values, it.signature_algorithm, it.signature_value
+
+
+def has_fields(octets: bytes) -> bool:
+    """Whether the values of all its extensions are DER."""
+    try:
+        fields(octets)
+    except DerError:
+        return False
+    return True
+
+
+def of_cryptography() -> Optional[Task]:
+    try:
+        from cryptography.x509 import load_der_x509_certificate
+    except ImportError:
+        return None
+
+    def certificate(octets: bytes) -> object:
+        it = load_der_x509_certificate(octets)
+        names = [[(attribute.oid, attribute.value) for attribute in name] for name in (it.issuer, it.subject)]
+        times = it.not_valid_before, it.not_valid_after
+        values = [(extension.oid, extension.critical, extension.value) for extension in it.extensions]
+        return it.version, it.serial_number, names, times, values, it.signature_algorithm_oid, it.signature
+
+    return certificate
 
 
 def of_asn1crypto() -> Optional[Tuple[Task, Task]]:
@@ -121,9 +156,12 @@ def of_pyasn1() -> Optional[Tuple[Task, Task]]:
     return certificate, snmp
 
 
-def microseconds(task: Task, inputs: List[bytes]) -> float:
-    """The least time of a round, for each element."""
-    elements = sum(1 for octets in inputs for _ in parse_der(octets).root.walk())
+def elements_in(inputs: List[bytes]) -> int:
+    return sum(1 for octets in inputs for _ in parse_der(octets).root.walk())
+
+
+def microseconds(task: Task, inputs: List[bytes], items: int) -> float:
+    """The least time of a round, for each of so many items."""
     best = float("inf")
     for _ in range(ROUNDS):
         times, begin, taken = 0, time.process_time(), 0.0
@@ -133,7 +171,7 @@ def microseconds(task: Task, inputs: List[bytes]) -> float:
             times += 1
             taken = time.process_time() - begin
         best = min(best, taken / times)
-    return best * 1e6 / elements
+    return best * 1e6 / items
 
 
 def main() -> None:
@@ -152,10 +190,22 @@ def main() -> None:
     print("| microseconds an element | certificates | SNMP |\n|---|---|---|")
     for name, certificate, snmp in tasks:
         shown = [
-            f"{microseconds(task, inputs):.2f}" if task and inputs else "-"
+            f"{microseconds(task, inputs, elements_in(inputs)):.2f}" if task and inputs else "-"
             for task, inputs in ((certificate, of_certificates), (snmp, messages))
         ]
         print(f"| {name} | {shown[0]} | {shown[1]} |")
+    whole: List[Tuple[str, Optional[Task]]] = [
+        ("`x509.Certificate.from_der`, all fields", fields),
+        ("`x509.Certificate.from_der`", x509.Certificate.from_der),
+        ("cryptography, the same fields", of_cryptography()),
+        ("asn1crypto, `.native`", asn1crypto and asn1crypto[0]),
+        ("pyasn1, `decode`", pyasn1 and pyasn1[0]),
+    ]
+    print("\n| microseconds a certificate | |\n|---|---|")
+    inputs = list(filter(has_fields, of_certificates))
+    for name, task in whole:
+        if task and inputs:
+            print(f"| {name} | {microseconds(task, inputs, len(inputs)):.0f} |")
 
 
 if __name__ == "__main__":

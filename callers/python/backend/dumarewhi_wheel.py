@@ -75,7 +75,8 @@ def module_of(header: str) -> str:
         "",
         "",
         "class Field(enum.IntEnum):",
-        '    """A field of a certificate (RFC 5280 4.1), of a list of revoked certificates (5.1) or of a request."""',
+        '    """A field of a certificate (RFC 5280 4.1), a list of revoked certificates (5.1), a request (RFC 2986 4)',
+        '    or a private key (RFC 5958 2, RFC 8017 A.1.2)."""',
         "",
         *(f"    {name} = {number}" for name, number in fields),
     ]

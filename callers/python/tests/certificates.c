@@ -44,32 +44,36 @@ static void print_fault(const dm_fault *fault) {
            (int)length, (const char *)text);
 }
 
+static void print_attributes(dm_octets attributes) {
+    dm_attribute it;
+    printf(" {");
+    while (dm_next_attribute(&attributes, &it)) {
+        print_octets(it.identifier);
+        printf(" %u.%" PRIu32 ".%u", it.tag_class, it.number, it.constructed);
+        print_octets(it.value);
+    }
+    printf(" }");
+}
+
 static void print_name(dm_octets names) {
     uint8_t *text = room_for(16 * names.length);
     size_t length = dm_name_text(names.octets, names.length, text, 16 * names.length);
     dm_octets whole = {text, length}, attributes;
-    dm_attribute it;
     print_octets(whole);
-    while (dm_next_relative_name(&names, &attributes)) {
-        printf(" {");
-        while (dm_next_attribute(&attributes, &it)) {
-            print_octets(it.identifier);
-            printf(" %u.%" PRIu32 ".%u", it.tag_class, it.number, it.constructed);
-            print_octets(it.value);
-        }
-        printf(" }");
-    }
+    while (dm_next_relative_name(&names, &attributes)) print_attributes(attributes);
     free(text);
+}
+
+static void print_general_name(const dm_general_name *it) {
+    printf(" %" PRIu32, it->kind);
+    if (it->kind == DM_OTHER_NAME) print_octets(it->identifier);
+    if (it->kind == DM_DIRECTORY_NAME) print_name(it->octets);
+    else print_octets(it->octets);
 }
 
 static void print_general_names(dm_octets names) {
     dm_general_name it;
-    while (dm_next_general_name(&names, &it)) {
-        printf(" %" PRIu32, it.kind);
-        if (it.kind == DM_OTHER_NAME) print_octets(it.identifier);
-        if (it.kind == DM_DIRECTORY_NAME) print_name(it.octets);
-        else print_octets(it.octets);
-    }
+    while (dm_next_general_name(&names, &it)) print_general_name(&it);
 }
 
 static void print_authority(const dm_authority_key_identifier *it) {
@@ -81,14 +85,67 @@ static void print_authority(const dm_authority_key_identifier *it) {
     if (it->has_serial_number) print_octets(it->serial_number);
 }
 
+static void print_policies(dm_octets policies) {
+    dm_policy it;
+    dm_policy_qualifier qualifier;
+    while (dm_next_policy(&policies, &it)) {
+        printf(" policy");
+        print_octets(it.identifier);
+        while (dm_next_policy_qualifier(&it.qualifiers, &qualifier)) {
+            printf(" qualifier");
+            print_octets(qualifier.identifier);
+            printf(" %u.%" PRIu32, qualifier.value.tag_class, qualifier.value.number);
+            print_octets(qualifier.value.content);
+        }
+    }
+}
+
+static void print_points(dm_octets points) {
+    dm_distribution_point it;
+    while (dm_next_distribution_point(&points, &it)) {
+        printf(" point");
+        print_general_names(it.full_name);
+        print_attributes(it.relative_name);
+        print_bits(it.reasons);
+        printf(" of");
+        print_general_names(it.crl_issuer);
+    }
+}
+
+static void print_subtrees(dm_octets subtrees) {
+    dm_subtree it;
+    while (dm_next_subtree(&subtrees, &it)) {
+        print_general_name(&it.base);
+        printf(" from %" PRIu32, it.minimum);
+        if (it.has_maximum) printf(" to %" PRIu32, it.maximum);
+    }
+}
+
+static void print_constraints(const dm_name_constraints *it) {
+    printf(" permitted");
+    print_subtrees(it->permitted);
+    printf(" excluded");
+    print_subtrees(it->excluded);
+}
+
+static void print_access(dm_octets descriptions) {
+    dm_access_description it;
+    while (dm_next_access_description(&descriptions, &it)) {
+        printf(" access");
+        print_octets(it.method);
+        print_general_name(&it.location);
+    }
+}
+
 static void print_value(const dm_extension *extension) {
     const uint8_t *value = extension->value.octets;
     size_t length = extension->value.length;
     dm_fault fault = {0};
     dm_basic_constraints constraints;
     dm_authority_key_identifier authority;
+    dm_name_constraints names;
     dm_octets part, purpose;
-    uint32_t usage;
+    uint32_t number;
     switch (extension->kind) {
     case DM_BASIC_CONSTRAINTS:
         if (dm_read_basic_constraints(value, length, &constraints, &fault) != DM_OK) break;
@@ -96,7 +153,24 @@ static void print_value(const dm_extension *extension) {
         if (constraints.has_path_length) printf(" %" PRIu32, constraints.path_length);
         break;
     case DM_KEY_USAGE:
-        if (dm_read_key_usage(value, length, &usage, &fault) == DM_OK) printf(" usage %" PRIu32, usage);
+        if (dm_read_key_usage(value, length, &number, &fault) == DM_OK) printf(" usage %" PRIu32, number);
+        break;
+    case DM_REASON_CODE:
+        if (dm_read_reason(value, length, &number, &fault) == DM_OK) printf(" reason %" PRIu32, number);
+        break;
+    case DM_CERTIFICATE_POLICIES:
+        if (dm_read_certificate_policies(value, length, &part, &fault) == DM_OK) print_policies(part);
+        break;
+    case DM_CRL_DISTRIBUTION_POINTS:
+    case DM_FRESHEST_CRL:
+        if (dm_read_distribution_points(value, length, &part, &fault) == DM_OK) print_points(part);
+        break;
+    case DM_NAME_CONSTRAINTS:
+        if (dm_read_name_constraints(value, length, &names, &fault) == DM_OK) print_constraints(&names);
+        break;
+    case DM_AUTHORITY_INFO_ACCESS:
+    case DM_SUBJECT_INFO_ACCESS:
+        if (dm_read_information_access(value, length, &part, &fault) == DM_OK) print_access(part);
         break;
     case DM_SUBJECT_ALT_NAME:
     case DM_ISSUER_ALT_NAME:

@@ -26,6 +26,12 @@ def tool(name: str) -> str:
     return path
 
 
+def openssl(*words: object, octets: bytes = b"") -> bytes:
+    """What openssl prints for octets."""
+    command = [tool("openssl"), *map(str, words)]
+    return subprocess.run(command, input=octets, check=True, capture_output=True).stdout
+
+
 @pytest.fixture(scope="session")
 def compiled(tmp_path_factory: pytest.TempPathFactory) -> Callable[[Path], Path]:
     """Compiles a program of C over the archive that the package was built of."""
@@ -104,6 +110,24 @@ def rows() -> Iterator[Row]:
                 text, expected, name = line.split("|", 2)
                 for call in calls:
                     yield Row(call, text, expected.strip(), name.strip())
+
+
+def inputs_of(call: str) -> Iterator[Tuple[Row, bytes]]:
+    """The rows of a call with their inputs, which may be changes of other octets, as ``to 9``, ``8=03`` or nothing."""
+    for row in rows():
+        name, _, base = row.call.partition(" of ")
+        if name != call:
+            continue
+        if not base:
+            yield row, row.octets
+            continue
+        octets, change = bytearray(octets_of(base)), row.input.strip()
+        if change.startswith("to "):
+            del octets[int(change[3:]) :]
+        elif change:
+            at, octet = change.split("=")
+            octets[int(at) : int(at) + 1] = bytes.fromhex(octet)
+        yield row, bytes(octets)
 
 
 def certificates() -> List[bytes]:

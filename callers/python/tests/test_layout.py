@@ -10,7 +10,7 @@ from typing import Callable, Dict, List
 from conftest import HEADERS
 
 from dumarewhi import MAX_DEPTH, Rule, TagClass, _certificate_calls, _library, rule_text
-from dumarewhi.x509 import Field, GeneralNameKind, KeyUsage
+from dumarewhi.x509 import Field, GeneralNameKind, KeyUsage, RevocationReason
 
 CONSTANTS = {
     "DM_OK": _library.OK,
@@ -28,13 +28,8 @@ CONSTANTS = {
     **{f"DM_FIELD_{field.name}": field for field in Field},
     **{f"DM_USAGE_{usage.name}": usage for usage in KeyUsage},
     **{f"DM_{kind.name}": kind for kind in GeneralNameKind},
-    "DM_SUBJECT_KEY_IDENTIFIER": _certificate_calls.SUBJECT_KEY_IDENTIFIER,
-    "DM_KEY_USAGE": _certificate_calls.KEY_USAGE,
-    "DM_SUBJECT_ALT_NAME": _certificate_calls.SUBJECT_ALT_NAME,
-    "DM_ISSUER_ALT_NAME": _certificate_calls.ISSUER_ALT_NAME,
-    "DM_BASIC_CONSTRAINTS": _certificate_calls.BASIC_CONSTRAINTS,
-    "DM_AUTHORITY_KEY_IDENTIFIER": _certificate_calls.AUTHORITY_KEY_IDENTIFIER,
-    "DM_EXTENDED_KEY_USAGE": _certificate_calls.EXTENDED_KEY_USAGE,
+    **{f"DM_REASON_{reason.name}": reason for reason in RevocationReason},
+    **{f"DM_{kind.name}": kind for kind in _certificate_calls.ExtensionKind},
 }
 
 STRUCTS = {**_library.STRUCTS, **_certificate_calls.STRUCTS}
@@ -73,6 +68,15 @@ def test_layout(compiled: Callable[[Path], Path], tmp_path: Path) -> None:
         assert sizes == ctypes.sizeof(struct), name
     for name, value in CONSTANTS.items():
         assert numbers[name] == [value], name
+
+
+# Structs of the header that the package has no use for.
+OTHERS = {"dm_cursor", "dm_digest"}
+
+
+def test_structs_of_the_header() -> None:
+    text = (HEADERS / "dumarewhi.h").read_text()
+    assert set(re.findall(r"^typedef struct (\w+)", text, re.MULTILINE)) == STRUCTS.keys() | OTHERS
 
 
 def test_words_of_elements() -> None:

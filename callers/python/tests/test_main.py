@@ -9,7 +9,7 @@ from pathlib import Path
 import pytest
 from conftest import DATA, octets_of
 
-from dumarewhi import __version__
+from dumarewhi import Rule, __version__, rule_text
 
 MESSAGE = octets_of(
     "30 26 02 01 00 04 06 70 75 62 6c 69 63 a0 19 02 01 2a 02 01 00 02 01 00 30 0e 30 0c 06 08 2b 06 01 02 01 01"
@@ -46,6 +46,18 @@ def test_standard_input() -> None:
     assert run("tree", "-", octets=text).stdout.decode() == TREE
     shown = run("tree", "--ber", "-", octets=octets_of("30 80 01 01 ff 00 00 05 00"))
     assert shown.stdout.decode() == "     0 SEQUENCE\n     2   BOOLEAN True\n     7 NULL None\n"
+
+
+def test_pem(tmp_path: Path) -> None:
+    """Each block is shown, to one that can't be read."""
+    null = b"-----BEGIN A-----\nBQA=\n-----END A-----\n"
+    file = tmp_path / "text"
+    file.write_bytes(b"a text\n" + null + null.replace(b"=", b"!"))
+    shown = run("tree", str(file))
+    assert (shown.stdout.decode(), shown.returncode) == ("     0 NULL None\n", 1)
+    assert shown.stderr.decode() == f"{file}: invalid base64 at offset {7 + len(null)}\n"
+    file.write_bytes(null[:-9])
+    assert run("check", str(file)).stderr.decode() == f"{file}: {rule_text(Rule.PEM_NO_END)} at offset 0\n"
 
 
 DUMP = """\

@@ -2,12 +2,13 @@
 from __future__ import annotations
 
 import datetime
+import pickle
 from typing import Callable, List, Tuple
 
 import pytest
 from conftest import octets_of
 
-from dumarewhi import BitString, DerError, Incomplete, Reader, Rule, Tag, check_der
+from dumarewhi import BitString, DerError, Incomplete, Reader, Rule, Tag, check_der, named
 
 
 def fields(octets: bytes) -> Tuple[int, str, bool]:
@@ -201,3 +202,22 @@ def test_depth() -> None:
     with pytest.raises(DerError) as caught:
         Reader(octets, max_depth=2).sequence()
     assert (caught.value.rule, caught.value.offset) == (Rule.MAX_DEPTH, 4)
+
+
+def test_names_of_fields() -> None:
+    with pytest.raises(DerError) as caught:
+        with named("request"), Reader(octets_of("30 03 01 01 ff")) as reader, reader.sequence() as fields:
+            with named("serial"):
+                fields.integer()
+    error = caught.value
+    assert (error.names, error.offset, error.rule) == (("request", "serial"), 2, Rule.UNEXPECTED_TAG)
+    assert str(error) == "request.serial at 2: expected INTEGER, found BOOLEAN"
+    assert str(pickle.loads(pickle.dumps(error))) == str(error)
+    with pytest.raises(Incomplete) as cut:
+        with named("request"):
+            Reader(octets_of("30 03 01")).sequence()
+    assert str(cut.value) == "request at 3: the input is cut short, 2 or more octets are missing"
+    with pytest.raises(KeyError), named("request"):
+        raise KeyError("another error")
+    with named("request"):
+        assert Reader(octets_of("02 01 05")).integer() == 5

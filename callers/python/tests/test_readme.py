@@ -2,9 +2,11 @@
 from __future__ import annotations
 
 import re
+from pathlib import Path
+from typing import Any
 
 import pytest
-from conftest import TESTS
+from conftest import TESTS, openssl
 
 README = (TESTS.parent / "README.md").read_text()
 PROGRAMS = re.findall(r"^```python\n(.*?)^```", README, re.MULTILINE | re.DOTALL)
@@ -17,3 +19,31 @@ def test_program(program: str) -> None:
 
 def test_programs() -> None:
     assert len(PROGRAMS) >= 5
+
+
+def function(name: str) -> Any:
+    """A function of the programs."""
+    (program,) = [program for program in PROGRAMS if f"def {name}(" in program]
+    names: "dict[str, Any]" = {}
+    exec(compile(program, "README.md", "exec"), names)
+    return names[name]
+
+
+def test_hosts(tmp_path: Path) -> None:
+    key, file = tmp_path / "key", tmp_path / "certificate"
+    words = ["-subj", "/CN=a", "-addext", "subjectAltName=DNS:a.example,IP:192.0.2.1,DNS:b.example"]
+    openssl("req", "-x509", "-newkey", "ed25519", "-nodes", "-keyout", key, "-out", file, *words)
+    file.write_bytes(b"a text\n" + 2 * file.read_bytes())
+    assert list(function("hosts")(file)) == 2 * ["a.example", "b.example"]
+
+
+def test_secret() -> None:
+    serialization = pytest.importorskip(
+        "cryptography.hazmat.primitives.serialization", reason="there is no cryptography"
+    )
+    kinds = [["RSA", "-pkeyopt", "rsa_keygen_bits:2048"], ["EC", "-pkeyopt", "ec_paramgen_curve:P-384"]]
+    for kind in kinds:
+        text = openssl("genpkey", "-algorithm", *kind)
+        octets = openssl("pkcs8", "-topk8", "-nocrypt", "-outform", "DER", octets=text)
+        numbers = serialization.load_der_private_key(octets, None).private_numbers()
+        assert function("secret")(octets) == (numbers.d if kind[0] == "RSA" else numbers.private_value)

@@ -2,20 +2,81 @@
 from __future__ import annotations
 
 import datetime
+import pickle
 import random
 import struct
 import subprocess
+from itertools import islice
 from pathlib import Path
-from typing import Any, Callable, Dict, Iterator, List, Tuple
+from typing import Callable, Dict, Iterator, List, Sequence, Tuple
 
 import pytest
-from conftest import DATA, REPOSITORY, TESTS, certificates, octets_of, rows, tool
+from conftest import DATA, REPOSITORY, TESTS, certificates, inputs_of, octets_of, openssl, rows
+from test_extensions import compare_with_cryptography
 
-from dumarewhi import BitString, DerError, ObjectIdentifier, Rule
+from dumarewhi import BitString, DerError, ObjectIdentifier, Rule, Tag, Writer, named
 from dumarewhi import x509
-from dumarewhi.x509 import Certificate, CertificateError, Extension, Field, GeneralName, GeneralNameKind, Name
+from dumarewhi._extensions import read_general_names
+from dumarewhi.x509 import (
+    Attribute,
+    Certificate,
+    CertificateError,
+    Extension,
+    Field,
+    GeneralName,
+    GeneralNameKind,
+    Name,
+)
 
 DAMAGED = 10_000
+DAMAGED_VALUES = 700  # of each extension
+
+# The extensions that rows have values of.
+IDENTIFIERS = {
+    "authority_key_identifier": ["2.5.29.35"],
+    "basic_constraints": ["2.5.29.19"],
+    "certificate_policies": ["2.5.29.32"],
+    "crl_distribution_points": ["2.5.29.31", "2.5.29.46"],
+    "extended_key_usage": ["2.5.29.37"],
+    "general_names": ["2.5.29.17", "2.5.29.18"],
+    "information_access": ["1.3.6.1.5.5.7.1.1", "1.3.6.1.5.5.7.1.11"],
+    "key_usage": ["2.5.29.15"],
+    "name_constraints": ["2.5.29.30"],
+    "reason_code": ["2.5.29.21"],
+    "subject_key_identifier": ["2.5.29.14"],
+}
+
+
+def with_extensions(identifiers: List[str], value: bytes) -> bytes:
+    """A certificate with these extensions, all of one value."""
+    w = Writer()
+    with w.sequence():
+        with w.sequence():
+            with w.tagged(0):
+                w.integer(2)
+            w.integer(5)
+            with w.sequence():
+                w.oid("1.2")
+            with w.sequence():
+                pass
+            with w.sequence():
+                for year in (2026, 2027):
+                    w.time(datetime.datetime(year, 1, 1, tzinfo=datetime.timezone.utc))
+            with w.sequence():
+                pass
+            with w.sequence():
+                with w.sequence():
+                    w.oid("1.2")
+                w.bit_string(BitString(b"\1"))
+            with w.tagged(3), w.sequence():
+                for identifier in identifiers:
+                    with w.sequence():
+                        w.oid(identifier)
+                        w.octet_string(value)
+        with w.sequence():
+            w.oid("1.2")
+        w.bit_string(BitString(b"\1"))
+    return w.to_bytes()
 
 
 def sound() -> List[bytes]:
@@ -23,6 +84,14 @@ def sound() -> List[bytes]:
     files = [DATA / "certificate.der", *sorted(DATA.parents[1].glob("x509/data/*.der"))]
     strict = [row.octets for row in rows() if row.call == "strict_certificate"]
     return [*certificates(), *(file.read_bytes() for file in files), *strict]
+
+
+def values() -> Iterator[bytes]:
+    """Certificates with the values of extensions that rows have, and with damaged ones."""
+    for call, identifiers in IDENTIFIERS.items():
+        inputs = [octets for _, octets in inputs_of(call)]
+        for octets in [*inputs, *islice(damaged(inputs), DAMAGED_VALUES)]:
+            yield with_extensions(identifiers, octets)
 
 
 def damaged(inputs: List[bytes]) -> Iterator[bytes]:
@@ -73,15 +142,19 @@ def shown_error(error: CertificateError) -> str:
     return f"fault {error.field} {error.offset} {error.rule} {error.needed or 0} ({error})"
 
 
+def shown_tag(tag: Tag) -> str:
+    return f"{int(tag.tag_class)}.{tag.number}"
+
+
+def shown_attributes(attributes: Sequence[Attribute]) -> str:
+    words = ["{"]
+    for it in attributes:
+        words.append(f"{shown_identifier(it.identifier)} {shown_tag(it.tag)}.{int(it.constructed)} {shown(it.value)}")
+    return " ".join([*words, "}"])
+
+
 def shown_name(name: Name) -> str:
-    words = [shown(str(name).encode())]
-    for part in name.relative_names:
-        words.append("{")
-        for it in part:
-            tag = f"{int(it.tag.tag_class)}.{it.tag.number}.{int(it.constructed)}"
-            words += [shown_identifier(it.identifier), tag, shown(it.value)]
-        words.append("}")
-    return " ".join(words)
+    return " ".join([shown(str(name).encode()), *map(shown_attributes, name.relative_names)])
 
 
 def shown_general_name(name: GeneralName) -> str:
@@ -120,9 +193,42 @@ def shown_value(extension: Extension) -> List[str]:
             "serial",
             *([] if value.serial_number is None else [shown(number_octets(value.serial_number))]),
         ]
+    if isinstance(value, x509.NameConstraints):
+        permitted, excluded = map(shown_subtrees, (value.permitted, value.excluded))
+        return ["permitted", *permitted, "excluded", *excluded]
+    if isinstance(value, x509.RevocationReason):
+        return [f"reason {int(value)}"]
     if isinstance(value, bytes):
         return [shown(value)]
-    return [shown_general_name(it) if isinstance(it, GeneralName) else shown_identifier(it) for it in value]
+    return [word for it in value for word in shown_item(it)]
+
+
+def shown_item(it: object) -> List[str]:
+    """An item of a value that is a list."""
+    if isinstance(it, GeneralName):
+        return [shown_general_name(it)]
+    if isinstance(it, x509.Policy):
+        words = [f"policy {shown_identifier(it.identifier)}"]
+        for qualifier in it.qualifiers:
+            words.append(f"qualifier {shown_identifier(qualifier.identifier)} {shown_tag(qualifier.value.tag)}")
+            words.append(shown(qualifier.value.content))
+        return words
+    if isinstance(it, x509.DistributionPoint):
+        names = map(shown_general_name, it.full_name)
+        issuers = map(shown_general_name, it.crl_issuer)
+        return ["point", *names, shown_attributes(it.relative_name), shown_bits(it.reasons), "of", *issuers]
+    if isinstance(it, x509.AccessDescription):
+        return [f"access {shown_identifier(it.method)}", shown_general_name(it.location)]
+    assert isinstance(it, ObjectIdentifier)
+    return [shown_identifier(it)]
+
+
+def shown_subtrees(subtrees: Sequence[x509.Subtree]) -> List[str]:
+    words = []
+    for it in subtrees:
+        words += [shown_general_name(it.base), f"from {it.minimum}"]
+        words += [] if it.maximum is None else [f"to {it.maximum}"]
+    return words
 
 
 def line_of(octets: bytes, strict: bool) -> str:
@@ -144,7 +250,7 @@ def line_of(octets: bytes, strict: bool) -> str:
 
 def test_same_as_c(compiled: Callable[[Path], Path], tmp_path: Path) -> None:
     inputs = sound()
-    inputs += damaged(inputs)
+    inputs += [*damaged(inputs), *values()]
     file = tmp_path / "inputs"
     file.write_bytes(b"".join(struct.pack("<I", len(octets)) + octets for octets in inputs))
     program = compiled(TESTS / "certificates.c")
@@ -180,34 +286,8 @@ def test_beside_cryptography() -> None:
         own = [(str(extension.identifier), extension.critical) for extension in it.extensions]
         assert own == [(extension.oid.dotted_string, extension.critical) for extension in extensions]
         for extension in extensions:
-            names += compare_value(it, extension.oid.dotted_string, extension.value)
+            names += compare_with_cryptography(it.extension(extension.oid.dotted_string), extension.value)
     assert names > 300
-
-
-def compare_value(it: Certificate, identifier: str, other: Any) -> bool:
-    """Compares a value with that of cryptography, if it is of a type that both read."""
-    extension = it.extension(identifier)
-    assert extension is not None
-    if identifier == "2.5.29.15" and extension.octets.endswith(b"\0"):
-        return False  # by DER the last bit isn't 0 (X.690 11.2.2)
-    value = extension.value
-    if isinstance(value, x509.BasicConstraints):
-        assert (value.ca, value.path_length) == (other.ca, other.path_length)
-    elif isinstance(value, x509.KeyUsage):
-        named = {"key_cert_sign": x509.KeyUsage.KEY_CERT_SIGN, "crl_sign": x509.KeyUsage.CRL_SIGN}
-        named["digital_signature"] = x509.KeyUsage.DIGITAL_SIGNATURE
-        for name, bit in named.items():
-            assert bool(value & bit) == getattr(other, name), name
-    elif isinstance(value, x509.AuthorityKeyIdentifier):
-        assert (value.key_identifier, value.serial_number) == (other.key_identifier, other.authority_cert_serial_number)
-    elif identifier == "2.5.29.14":
-        assert value == other.digest
-    elif identifier == "2.5.29.37":
-        assert isinstance(value, tuple)
-        assert [str(purpose) for purpose in value] == [purpose.dotted_string for purpose in other]
-    else:
-        return False
-    return True
 
 
 def test_beside_asn1crypto() -> None:
@@ -229,7 +309,7 @@ def test_beside_asn1crypto() -> None:
 
 def test_names() -> None:
     def general(octets: str) -> Tuple[GeneralName, ...]:
-        return x509._read_general_names(octets_of(octets))
+        return read_general_names(octets_of(octets))
 
     assert general("30 05 82 03 61 2e 62") == (GeneralName(GeneralNameKind.DNS_NAME, "a.b"),)
     (four,) = general("30 06 87 04 c0 00 02 01")
@@ -275,9 +355,12 @@ def test_errors() -> None:
     with pytest.raises(CertificateError) as caught:
         Certificate.from_der(b"\x30\x05")
     assert (caught.value.incomplete, caught.value.needed, caught.value.rule) == (True, 5, 0)
-    with pytest.raises(DerError) as other:
+    with pytest.raises(DerError) as other, named("file"):
         Certificate.from_der(memoryview(b"\x30\x02\x30\x00"))
-    assert "serialNumber" in str(other.value)
+    error = other.value
+    assert str(error).startswith("file tbsCertificate.serialNumber at 4: ")
+    again = pickle.loads(pickle.dumps(error))
+    assert (str(again), again.field, again.list_end) == (str(error), Field.SERIAL_NUMBER, 4)
 
 
 def test_dates_that_are_none() -> None:
@@ -296,10 +379,6 @@ def test_certificate_of_the_repository() -> None:
     assert repr(it).startswith("<Certificate of ") and hash(it.subject) == hash(it.subject)
     assert it.subject.get("2.5.4.3") == it.subject.get(ObjectIdentifier("2.5.4.3"))
     assert it.extension("1.2.3") is None
-
-
-def openssl(*words: str, octets: bytes = b"") -> bytes:
-    return subprocess.run([tool("openssl"), *words], input=octets, check=True, capture_output=True).stdout
 
 
 def test_requests(tmp_path: Path) -> None:
@@ -354,21 +433,12 @@ def test_rows_of_requests_and_lists() -> None:
         "certificate_list": x509.CertificateList.from_der,
     }
     count = 0
-    for row in rows():
-        call, _, base = row.call.partition(" of ")
-        if call not in reads:
-            continue
-        octets = bytearray(octets_of(base or row.input))
-        change = row.input.strip()
-        if base and change.startswith("to "):
-            del octets[int(change[3:]) :]
-        elif base and "=" in change:
-            at, octet = change.split("=")
-            octets[int(at) : int(at) + 1] = bytes.fromhex(octet)
-        try:
-            reads[call](bytes(octets))
-            assert " at " not in row.expected, row
-        except CertificateError as error:
-            assert row.expected.startswith(str(error)), (row, str(error))
-        count += 1
+    for call, read in reads.items():
+        for row, octets in inputs_of(call):
+            try:
+                read(octets)
+                assert " at " not in row.expected, row
+            except CertificateError as error:
+                assert row.expected.startswith(str(error)), (row, str(error))
+            count += 1
     assert count > 20

@@ -6,7 +6,7 @@ import mmap
 from typing import List, Optional, Tuple
 
 import dumarewhi
-from dumarewhi import BitString, Node, ObjectIdentifier, Reader, Tag, TagClass, Tree, Writer
+from dumarewhi import BitString, Node, ObjectIdentifier, Reader, Tag, TagClass, Tree, Writer, pem, x509
 
 
 def trees(data: bytes, mapped: mmap.mmap) -> Tuple[Tree, Node, List[Node], memoryview]:
@@ -61,3 +61,28 @@ def errors(octets: bytes) -> Tuple[int, int, str]:
     except dumarewhi.DerError as error:
         return error.rule, error.offset, dumarewhi.rule_text(dumarewhi.Rule.MAX_DEPTH)
     return 0, 0, ""
+
+
+def certificate(octets: bytearray) -> Tuple[int, List[str]]:
+    it = x509.Certificate.from_der(octets, strict=True)
+    points = it.extension("2.5.29.31")
+    value: x509.ExtensionValue = b"" if points is None else points.value
+    texts: List[str] = []
+    for point in value if isinstance(value, tuple) else ():
+        if isinstance(point, x509.DistributionPoint):
+            texts += [name.value for name in point.full_name if isinstance(name.value, str)]
+    return it.serial_number, texts
+
+
+def keys(text: str) -> List[Tuple[str, int, Optional[bytes]]]:
+    found = []
+    for block in pem.blocks(text):
+        key = x509.PrivateKey.from_der(block.octets)
+        modulus: int = x509.RsaPrivateKey.from_der(key.private_key).modulus
+        found.append((block.label, modulus, None if key.parameters is None else key.parameters.content))
+    return found
+
+
+def reasons(octets: memoryview) -> List[x509.RevocationReason]:
+    entries = x509.CertificateList.from_der(octets).revoked_certificates or ()
+    return [entry.reason for entry in entries if entry.reason is not None]

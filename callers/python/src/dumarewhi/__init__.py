@@ -10,11 +10,12 @@ The work is done by a library that is proved. This package is a way to call it, 
 [(2, 2), (1, 5)]
 
 :func:`parse_der` and :func:`parse_ber` return a :class:`Tree` of :class:`Node`. :class:`Reader` reads the fields of a
-type, one after the other. :class:`Writer` writes them. :func:`to_der` writes BER as DER.
+type, one after the other. :class:`Writer` writes them. :func:`to_der` writes BER as DER. ``dumarewhi.x509`` has
+certificates and keys, and ``dumarewhi.pem`` the blocks of a text.
 
 Any thread may read any tree at any time. A :class:`Reader` or :class:`Writer` is for one thread at a time.
 """
-from ._errors import DerError, Incomplete
+from ._errors import DerError, Incomplete, named
 from ._header import MAX_DEPTH, Rule
 from ._library import DEFAULT_DEPTH, Rules, rule_text
 from ._reader import Reader
@@ -46,6 +47,7 @@ __all__ = [
     "__version__",
     "check_ber",
     "check_der",
+    "named",
     "parse_ber",
     "parse_der",
     "rule_text",

@@ -2,17 +2,13 @@
 from __future__ import annotations
 
 import argparse
-import binascii
 import datetime
-import re
 import signal
 import sys
 from pathlib import Path
 from typing import Callable, Dict, Iterator, List, NamedTuple, Optional
 
-from . import BitString, DerError, Node, ObjectIdentifier, Reader, Rules, __version__
-
-_BLOCK = re.compile(rb"-----BEGIN ([^\r\n-]*)-----\r?\n(.*?)-----END \1-----", re.DOTALL)
+from . import BitString, DerError, Node, ObjectIdentifier, Reader, Rules, __version__, pem
 
 
 def main(words: Optional[List[str]] = None) -> int:
@@ -26,7 +22,7 @@ def main(words: Optional[List[str]] = None) -> int:
             for octets in _encodings(sys.stdin.buffer.read() if name == "-" else Path(name).read_bytes()):
                 for node in Reader(octets, rules=rules):
                     show(node)
-        except (DerError, OSError, binascii.Error) as error:
+        except (DerError, OSError) as error:
             print(f"{name}: {error}", file=sys.stderr)
             failed = True
     return 1 if failed else 0
@@ -45,11 +41,12 @@ def _options() -> argparse.ArgumentParser:
 
 def _encodings(data: bytes) -> Iterator[bytes]:
     """The octets of each block of PEM (RFC 7468), or all of them if there is none."""
-    blocks = _BLOCK.findall(data)
-    if not blocks:
+    has_blocks = False
+    for block in pem.blocks(data):
+        has_blocks = True
+        yield block.octets
+    if not has_blocks:
         yield data
-    for _, text in blocks:
-        yield binascii.a2b_base64(text)
 
 
 def _check(node: Node) -> None:

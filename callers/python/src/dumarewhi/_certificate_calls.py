@@ -1,73 +1,95 @@
-"""The calls of the shared library that read certificates, and their structs, as ``dumarewhi.h`` declares them."""
+"""The calls of the shared library that read certificates, keys and PEM, and their structs, as ``dumarewhi.h`` declares
+them."""
 from __future__ import annotations
 
 import ctypes
+import enum
 from ctypes import c_size_t, c_uint8, c_uint16, c_uint32, c_void_p
-from typing import Any, Callable, Dict, Iterator, Tuple, Type, TypeVar, Union
+from typing import TYPE_CHECKING, Any, Callable, Dict, Iterator, Tuple, Type, TypeVar, Union
 
 from ._library import Call, TimeStruct, _bytes_address, _call
+
+if TYPE_CHECKING:
+    Address = int
+    Size = int
+    U8 = int
+    U16 = int
+    U32 = int
 
 S = TypeVar("S", bound=ctypes.Structure)
 V = TypeVar("V", bound="Union[ctypes.Structure, c_uint32]")
 
+STRUCTS: Dict[str, Type[ctypes.Structure]] = {}
 
+# What a field of a struct is, by the word that it is declared with.
+_TYPES: Dict[str, Any] = {
+    "Address": c_void_p,
+    "Size": c_size_t,
+    "U8": c_uint8,
+    "U16": c_uint16,
+    "U32": c_uint32,
+    "TimeStruct": TimeStruct,
+}
+
+
+def _struct_of(name: str) -> Callable[[Type[S]], Type[S]]:
+    """A struct of the header, whose fields are those that the class declares."""
+
+    def declare(struct: Type[S]) -> Type[S]:
+        struct._fields_ = [(field, _TYPES[word]) for field, word in struct.__annotations__.items()]
+        STRUCTS[name] = _TYPES[struct.__name__] = struct
+        return struct
+
+    return declare
+
+
+@_struct_of("dm_octets")
 class OctetsStruct(ctypes.Structure):
-    """``dm_octets``."""
-
-    octets: int
-    length: int
-    _fields_ = [("octets", c_void_p), ("length", c_size_t)]
+    octets: Address
+    length: Size
 
 
+@_struct_of("dm_fault")
 class FaultStruct(ctypes.Structure):
-    """``dm_fault``."""
-
-    offset: int
-    list_end: int
-    needed: int
-    status: int
-    error: int
-    field: int
-    is_in_list: int
-    _fields_ = [
-        ("offset", c_size_t),
-        ("list_end", c_size_t),
-        ("needed", c_size_t),
-        ("status", c_uint32),
-        ("error", c_uint32),
-        ("field", c_uint32),
-        ("is_in_list", c_uint32),
-    ]
+    offset: Size
+    list_end: Size
+    needed: Size
+    status: U32
+    error: U32
+    field: U32
+    is_in_list: U32
 
 
+@_struct_of("dm_algorithm")
 class AlgorithmStruct(ctypes.Structure):
-    """``dm_algorithm``."""
-
     identifier: OctetsStruct
     parameters: OctetsStruct
-    _fields_ = [("identifier", OctetsStruct), ("parameters", OctetsStruct)]
 
 
+@_struct_of("dm_bits")
 class BitsStruct(ctypes.Structure):
-    """``dm_bits``."""
-
     octets: OctetsStruct
-    unused: int
-    is_present: int
-    _fields_ = [("octets", OctetsStruct), ("unused", c_uint32), ("is_present", c_uint32)]
+    unused: U32
+    is_present: U32
 
 
+@_struct_of("dm_any")
+class AnyStruct(ctypes.Structure):
+    content: OctetsStruct
+    number: U32
+    tag_class: U8
+    constructed: U8
+    reserved: U16
+
+
+@_struct_of("dm_moment")
 class MomentStruct(ctypes.Structure):
-    """``dm_moment``."""
-
     time: TimeStruct
-    number: int
-    _fields_ = [("time", TimeStruct), ("number", c_uint32)]
+    number: U32
 
 
+@_struct_of("dm_certificate")
 class CertificateStruct(ctypes.Structure):
-    """``dm_certificate``."""
-
     tbs: OctetsStruct
     serial_number: OctetsStruct
     signature: AlgorithmStruct
@@ -82,101 +104,97 @@ class CertificateStruct(ctypes.Structure):
     signature_value: BitsStruct
     not_before: MomentStruct
     not_after: MomentStruct
-    version: int
-    _fields_ = [
-        ("tbs", OctetsStruct),
-        ("serial_number", OctetsStruct),
-        ("signature", AlgorithmStruct),
-        ("issuer", OctetsStruct),
-        ("subject", OctetsStruct),
-        ("key_algorithm", AlgorithmStruct),
-        ("key", BitsStruct),
-        ("issuer_unique_id", BitsStruct),
-        ("subject_unique_id", BitsStruct),
-        ("extensions", OctetsStruct),
-        ("signature_algorithm", AlgorithmStruct),
-        ("signature_value", BitsStruct),
-        ("not_before", MomentStruct),
-        ("not_after", MomentStruct),
-        ("version", c_uint32),
-        ("reserved", c_uint32),
-    ]
+    version: U32
+    reserved: U32
 
 
+@_struct_of("dm_attribute")
 class AttributeStruct(ctypes.Structure):
-    """``dm_attribute``."""
-
     identifier: OctetsStruct
     value: OctetsStruct
-    number: int
-    tag_class: int
-    constructed: int
-    _fields_ = [
-        ("identifier", OctetsStruct),
-        ("value", OctetsStruct),
-        ("number", c_uint32),
-        ("tag_class", c_uint8),
-        ("constructed", c_uint8),
-        ("reserved", c_uint16),
-    ]
+    number: U32
+    tag_class: U8
+    constructed: U8
+    reserved: U16
 
 
+@_struct_of("dm_extension")
 class ExtensionStruct(ctypes.Structure):
-    """``dm_extension``."""
-
     identifier: OctetsStruct
     value: OctetsStruct
-    critical: int
-    kind: int
-    _fields_ = [("identifier", OctetsStruct), ("value", OctetsStruct), ("critical", c_uint32), ("kind", c_uint32)]
+    critical: U32
+    kind: U32
 
 
+@_struct_of("dm_basic_constraints")
 class BasicConstraintsStruct(ctypes.Structure):
-    """``dm_basic_constraints``."""
-
-    ca: int
-    has_path_length: int
-    path_length: int
-    _fields_ = [("ca", c_uint32), ("has_path_length", c_uint32), ("path_length", c_uint32)]
+    ca: U32
+    has_path_length: U32
+    path_length: U32
 
 
+@_struct_of("dm_general_name")
 class GeneralNameStruct(ctypes.Structure):
-    """``dm_general_name``."""
-
     octets: OctetsStruct
     identifier: OctetsStruct
-    kind: int
-    _fields_ = [
-        ("octets", OctetsStruct),
-        ("identifier", OctetsStruct),
-        ("kind", c_uint32),
-        ("reserved", c_uint32),
-    ]
+    kind: U32
+    reserved: U32
 
 
+@_struct_of("dm_authority_key_identifier")
 class AuthorityKeyIdentifierStruct(ctypes.Structure):
-    """``dm_authority_key_identifier``."""
-
     key_identifier: OctetsStruct
     issuer: OctetsStruct
     serial_number: OctetsStruct
-    has_key_identifier: int
-    has_issuer: int
-    has_serial_number: int
-    _fields_ = [
-        ("key_identifier", OctetsStruct),
-        ("issuer", OctetsStruct),
-        ("serial_number", OctetsStruct),
-        ("has_key_identifier", c_uint32),
-        ("has_issuer", c_uint32),
-        ("has_serial_number", c_uint32),
-        ("reserved", c_uint32),
-    ]
+    has_key_identifier: U32
+    has_issuer: U32
+    has_serial_number: U32
+    reserved: U32
 
 
+@_struct_of("dm_policy")
+class PolicyStruct(ctypes.Structure):
+    identifier: OctetsStruct
+    qualifiers: OctetsStruct
+
+
+@_struct_of("dm_policy_qualifier")
+class PolicyQualifierStruct(ctypes.Structure):
+    identifier: OctetsStruct
+    value: AnyStruct
+
+
+@_struct_of("dm_distribution_point")
+class DistributionPointStruct(ctypes.Structure):
+    full_name: OctetsStruct
+    relative_name: OctetsStruct
+    reasons: BitsStruct
+    crl_issuer: OctetsStruct
+
+
+@_struct_of("dm_name_constraints")
+class NameConstraintsStruct(ctypes.Structure):
+    permitted: OctetsStruct
+    excluded: OctetsStruct
+
+
+@_struct_of("dm_subtree")
+class SubtreeStruct(ctypes.Structure):
+    base: GeneralNameStruct
+    minimum: U32
+    maximum: U32
+    has_maximum: U32
+    reserved: U32
+
+
+@_struct_of("dm_access_description")
+class AccessDescriptionStruct(ctypes.Structure):
+    method: OctetsStruct
+    location: GeneralNameStruct
+
+
+@_struct_of("dm_certificate_list")
 class CertificateListStruct(ctypes.Structure):
-    """``dm_certificate_list``."""
-
     tbs: OctetsStruct
     signature: AlgorithmStruct
     issuer: OctetsStruct
@@ -186,40 +204,20 @@ class CertificateListStruct(ctypes.Structure):
     signature_value: BitsStruct
     this_update: MomentStruct
     next_update: MomentStruct
-    version: int
-    has_revoked: int
-    _fields_ = [
-        ("tbs", OctetsStruct),
-        ("signature", AlgorithmStruct),
-        ("issuer", OctetsStruct),
-        ("revoked", OctetsStruct),
-        ("extensions", OctetsStruct),
-        ("signature_algorithm", AlgorithmStruct),
-        ("signature_value", BitsStruct),
-        ("this_update", MomentStruct),
-        ("next_update", MomentStruct),
-        ("version", c_uint32),
-        ("has_revoked", c_uint32),
-    ]
+    version: U32
+    has_revoked: U32
 
 
+@_struct_of("dm_revoked")
 class RevokedStruct(ctypes.Structure):
-    """``dm_revoked``."""
-
     serial_number: OctetsStruct
     extensions: OctetsStruct
     date: MomentStruct
-    _fields_ = [
-        ("serial_number", OctetsStruct),
-        ("extensions", OctetsStruct),
-        ("date", MomentStruct),
-        ("reserved", c_uint32),
-    ]
+    reserved: U32
 
 
+@_struct_of("dm_request")
 class RequestStruct(ctypes.Structure):
-    """``dm_request``."""
-
     info: OctetsStruct
     subject: OctetsStruct
     key_algorithm: AlgorithmStruct
@@ -227,51 +225,67 @@ class RequestStruct(ctypes.Structure):
     attributes: OctetsStruct
     signature_algorithm: AlgorithmStruct
     signature: BitsStruct
-    _fields_ = [
-        ("info", OctetsStruct),
-        ("subject", OctetsStruct),
-        ("key_algorithm", AlgorithmStruct),
-        ("key", BitsStruct),
-        ("attributes", OctetsStruct),
-        ("signature_algorithm", AlgorithmStruct),
-        ("signature", BitsStruct),
-    ]
 
 
+@_struct_of("dm_request_attribute")
 class RequestAttributeStruct(ctypes.Structure):
-    """``dm_request_attribute``."""
-
     identifier: OctetsStruct
     values: OctetsStruct
-    _fields_ = [("identifier", OctetsStruct), ("values", OctetsStruct)]
 
 
-STRUCTS: Dict[str, Type[ctypes.Structure]] = {
-    "dm_octets": OctetsStruct,
-    "dm_fault": FaultStruct,
-    "dm_algorithm": AlgorithmStruct,
-    "dm_bits": BitsStruct,
-    "dm_moment": MomentStruct,
-    "dm_certificate": CertificateStruct,
-    "dm_attribute": AttributeStruct,
-    "dm_extension": ExtensionStruct,
-    "dm_basic_constraints": BasicConstraintsStruct,
-    "dm_general_name": GeneralNameStruct,
-    "dm_authority_key_identifier": AuthorityKeyIdentifierStruct,
-    "dm_certificate_list": CertificateListStruct,
-    "dm_revoked": RevokedStruct,
-    "dm_request": RequestStruct,
-    "dm_request_attribute": RequestAttributeStruct,
-}
+@_struct_of("dm_private_key")
+class PrivateKeyStruct(ctypes.Structure):
+    algorithm: OctetsStruct
+    parameters: AnyStruct
+    private_key: OctetsStruct
+    attributes: OctetsStruct
+    public_key: BitsStruct
+    version: U32
+    has_parameters: U32
+    has_attributes: U32
+    reserved: U32
 
-# enum dm_extension_kind
-SUBJECT_KEY_IDENTIFIER = 14
-KEY_USAGE = 15
-SUBJECT_ALT_NAME = 17
-ISSUER_ALT_NAME = 18
-BASIC_CONSTRAINTS = 19
-AUTHORITY_KEY_IDENTIFIER = 35
-EXTENDED_KEY_USAGE = 37
+
+@_struct_of("dm_rsa_private_key")
+class RsaPrivateKeyStruct(ctypes.Structure):
+    modulus: OctetsStruct
+    public_exponent: OctetsStruct
+    private_exponent: OctetsStruct
+    prime1: OctetsStruct
+    prime2: OctetsStruct
+    exponent1: OctetsStruct
+    exponent2: OctetsStruct
+    coefficient: OctetsStruct
+    other_primes: OctetsStruct
+    version: U32
+    has_other_primes: U32
+
+
+@_struct_of("dm_pem")
+class PemStruct(ctypes.Structure):
+    label: OctetsStruct
+    length: Size
+
+
+class ExtensionKind(enum.IntEnum):
+    """``enum dm_extension_kind``."""
+
+    EXTENSION_OTHER = 0
+    AUTHORITY_INFO_ACCESS = 1
+    SUBJECT_INFO_ACCESS = 11
+    SUBJECT_KEY_IDENTIFIER = 14
+    KEY_USAGE = 15
+    SUBJECT_ALT_NAME = 17
+    ISSUER_ALT_NAME = 18
+    BASIC_CONSTRAINTS = 19
+    REASON_CODE = 21
+    NAME_CONSTRAINTS = 30
+    CRL_DISTRIBUTION_POINTS = 31
+    CERTIFICATE_POLICIES = 32
+    AUTHORITY_KEY_IDENTIFIER = 35
+    EXTENDED_KEY_USAGE = 37
+    FRESHEST_CRL = 46
+
 
 DIGEST_OCTETS = 32
 
@@ -292,17 +306,32 @@ read_general_names = _reader("dm_read_general_names")
 read_extended_key_usage = _reader("dm_read_extended_key_usage")
 read_subject_key_identifier = _reader("dm_read_subject_key_identifier")
 read_authority_key_identifier = _reader("dm_read_authority_key_identifier")
+read_certificate_policies = _reader("dm_read_certificate_policies")
+read_distribution_points = _reader("dm_read_distribution_points")
+read_name_constraints = _reader("dm_read_name_constraints")
+read_information_access = _reader("dm_read_information_access")
 read_certificate_list = _reader("dm_read_certificate_list")
+read_reason = _reader("dm_read_reason")
 read_request = _reader("dm_read_request")
 read_extension_request = _reader("dm_read_extension_request")
+read_private_key = _reader("dm_read_private_key")
+read_rsa_private_key = _reader("dm_read_rsa_private_key")
 
 next_relative_name = _stepper("dm_next_relative_name")
 next_attribute = _stepper("dm_next_attribute")
 next_extension = _stepper("dm_next_extension")
 next_general_name = _stepper("dm_next_general_name")
 next_key_purpose = _stepper("dm_next_key_purpose")
+next_policy = _stepper("dm_next_policy")
+next_policy_qualifier = _stepper("dm_next_policy_qualifier")
+next_distribution_point = _stepper("dm_next_distribution_point")
+next_subtree = _stepper("dm_next_subtree")
+next_access_description = _stepper("dm_next_access_description")
 next_revoked = _stepper("dm_next_revoked")
 next_request_attribute = _stepper("dm_next_request_attribute")
+
+find_pem = _call("dm_find_pem", c_uint32, c_void_p, c_size_t, c_void_p)
+next_pem = _call("dm_next_pem", c_uint32, c_void_p, c_void_p, c_size_t, c_void_p, c_size_t, c_void_p)
 
 _name_text = _call("dm_name_text", c_size_t, c_void_p, c_size_t, c_void_p, c_size_t)
 _fault_text = _call("dm_fault_text", c_size_t, c_void_p, c_void_p, c_size_t)

@@ -1,6 +1,9 @@
 """Why an input isn't read, or a value isn't written."""
 from __future__ import annotations
 
+from types import TracebackType
+from typing import Optional, Tuple, Type
+
 
 class DerError(ValueError):
     """An input breaks a rule, or has no value of the type that is asked for.
@@ -18,6 +21,7 @@ class DerError(ValueError):
             :class:`Writer`, how many octets were written before.
         rule: The number of the rule, one of :class:`Rule`. It is 0 if the library has no number for it, as for octets
             that follow an element.
+        names: The names of the fields that it is in, the outermost first, as :class:`named` gives them.
     """
 
     def __init__(self, reason: str, offset: int, rule: int = 0) -> None:
@@ -25,8 +29,11 @@ class DerError(ValueError):
         self.reason = reason
         self.offset = offset
         self.rule = rule
+        self.names: Tuple[str, ...] = ()
 
     def __str__(self) -> str:
+        if self.names:
+            return f"{'.'.join(self.names)} at {self.offset}: {self.reason}"
         return f"{self.reason} at offset {self.offset}"
 
 
@@ -49,3 +56,29 @@ class Incomplete(DerError):
         super().__init__(f"the input is cut short, {missing} or more octets are missing", offset)
         self.args = (missing, offset)
         self.missing = missing
+
+
+class named:
+    """Gives a field a name, which an error in the block then has before those that it has.
+
+    >>> import dumarewhi
+    >>> with named("request"), dumarewhi.Reader(bytes.fromhex("3003 020105")) as reader, reader.sequence() as fields:
+    ...     with named("serial"):
+    ...         fields.boolean()
+    Traceback (most recent call last):
+    dumarewhi._errors.DerError: request.serial at 2: expected BOOLEAN, found INTEGER
+    """
+
+    __slots__ = ("_name",)
+
+    def __init__(self, name: str) -> None:
+        self._name = name
+
+    def __enter__(self) -> None:
+        pass
+
+    def __exit__(
+        self, kind: Optional[Type[BaseException]], error: Optional[BaseException], trace: Optional[TracebackType]
+    ) -> None:
+        if isinstance(error, DerError):
+            error.names = (self._name, *error.names)

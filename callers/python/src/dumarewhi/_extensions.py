@@ -1,0 +1,297 @@
+"""Extensions, and what their values are (RFC 5280 4.2, 5.3)."""
+from __future__ import annotations
+
+import ctypes
+import enum
+from dataclasses import dataclass
+from typing import Callable, Dict, Iterable, Optional, Tuple, Union
+
+from . import _certificate_calls as _calls
+from . import _parts
+from ._certificate_calls import ExtensionKind, OctetsStruct, Within
+from ._names import Attribute, GeneralName, attributes_of, general_name, general_names
+from ._parts import AnyElement
+from ._values import BitString, ObjectIdentifier
+
+
+@dataclass(frozen=True)
+class BasicConstraints:
+    """Whether the subject is a certification authority (4.2.1.9)."""
+
+    ca: bool
+    path_length: Optional[int]
+    """How many certificates of authorities may follow in a path."""
+
+
+class KeyUsage(enum.IntFlag):
+    """What a key is for (4.2.1.3): the bits that have names there, which may be none."""
+
+    DIGITAL_SIGNATURE = 1
+    CONTENT_COMMITMENT = 2
+    KEY_ENCIPHERMENT = 4
+    DATA_ENCIPHERMENT = 8
+    KEY_AGREEMENT = 16
+    KEY_CERT_SIGN = 32
+    CRL_SIGN = 64
+    ENCIPHER_ONLY = 128
+    DECIPHER_ONLY = 256
+
+
+@dataclass(frozen=True)
+class AuthorityKeyIdentifier:
+    """Which key signed the certificate (4.2.1.1)."""
+
+    key_identifier: Optional[bytes]
+    issuer: Optional[Tuple[GeneralName, ...]]
+    serial_number: Optional[int]
+
+
+@dataclass(frozen=True)
+class PolicyQualifier:
+    """A qualifier of a policy (4.2.1.4)."""
+
+    identifier: ObjectIdentifier
+    """Its type."""
+    value: AnyElement
+
+
+@dataclass(frozen=True)
+class Policy:
+    """A policy that a certificate was issued under (4.2.1.4)."""
+
+    identifier: ObjectIdentifier
+    qualifiers: Tuple[PolicyQualifier, ...]
+
+
+@dataclass(frozen=True)
+class DistributionPoint:
+    """Where a list of revoked certificates is (4.2.1.13)."""
+
+    full_name: Tuple[GeneralName, ...]
+    """Its names, or none if it has no such field."""
+    relative_name: Tuple[Attribute, ...]
+    """What follows the name of the issuer, or nothing if it is absent."""
+    reasons: Optional[BitString]
+    """A bit for each reason, from keyCompromise (1) to aACompromise (8). ``None`` for all."""
+    crl_issuer: Tuple[GeneralName, ...]
+    """Who signs the list, or nobody if it has no such field."""
+
+
+@dataclass(frozen=True)
+class Subtree:
+    """A name, and those below it (4.2.1.10)."""
+
+    base: GeneralName
+    """The name. The value of an address is octets with a mask behind it: 8 of IPv4, 32 of IPv6."""
+    minimum: int
+    """0 by RFC 5280, which isn't asked."""
+    maximum: Optional[int]
+    """``None`` by RFC 5280, which isn't asked."""
+
+
+@dataclass(frozen=True)
+class NameConstraints:
+    """Which names certificates may have (4.2.1.10)."""
+
+    permitted: Tuple[Subtree, ...]
+    """Names that they may have, or none if it has no such field."""
+    excluded: Tuple[Subtree, ...]
+    """Names that they may not have, or none if it has no such field."""
+
+
+@dataclass(frozen=True)
+class AccessDescription:
+    """Where information is (4.2.2)."""
+
+    method: ObjectIdentifier
+    """How it is read."""
+    location: GeneralName
+
+
+class RevocationReason(enum.IntEnum):
+    """Why a certificate is revoked (5.3.1)."""
+
+    UNSPECIFIED = 0
+    KEY_COMPROMISE = 1
+    CA_COMPROMISE = 2
+    AFFILIATION_CHANGED = 3
+    SUPERSEDED = 4
+    CESSATION_OF_OPERATION = 5
+    CERTIFICATE_HOLD = 6
+    REMOVE_FROM_CRL = 8
+    PRIVILEGE_WITHDRAWN = 9
+    AA_COMPROMISE = 10
+
+
+ExtensionValue = Union[
+    BasicConstraints,
+    KeyUsage,
+    AuthorityKeyIdentifier,
+    NameConstraints,
+    RevocationReason,
+    Tuple[GeneralName, ...],
+    Tuple[ObjectIdentifier, ...],
+    Tuple[Policy, ...],
+    Tuple[DistributionPoint, ...],
+    Tuple[AccessDescription, ...],
+    bytes,
+]
+"""What :attr:`Extension.value` returns."""
+
+
+@dataclass(frozen=True)
+class Extension:
+    """An extension (4.2)."""
+
+    identifier: ObjectIdentifier
+    critical: bool
+    octets: bytes
+    """The octets of its value: the encoding of a type that the identifier names."""
+    _kind: int
+
+    @property
+    def value(self) -> ExtensionValue:
+        """Its value, by DER.
+
+        | extension | value |
+        |---|---|
+        | AuthorityKeyIdentifier | :class:`AuthorityKeyIdentifier` |
+        | SubjectKeyIdentifier | its octets |
+        | KeyUsage | :class:`KeyUsage` |
+        | CertificatePolicies | a tuple of :class:`Policy` |
+        | SubjectAltName, IssuerAltName | a tuple of :class:`GeneralName` |
+        | BasicConstraints | :class:`BasicConstraints` |
+        | NameConstraints | :class:`NameConstraints` |
+        | ExtendedKeyUsage | a tuple of :class:`ObjectIdentifier`, the purposes |
+        | CRLDistributionPoints, FreshestCRL | a tuple of :class:`DistributionPoint` |
+        | AuthorityInfoAccess, SubjectInfoAccess | a tuple of :class:`AccessDescription` |
+        | CRLReason, of an entry of a list | :class:`RevocationReason` |
+        | another, which isn't read | :attr:`octets` |
+
+        Raises:
+            CertificateError: The octets are no such value. Offsets count from their start.
+        """
+        read = _VALUES.get(self._kind)
+        return self.octets if read is None else read(self.octets)
+
+
+def read_basic_constraints(octets: bytes) -> BasicConstraints:
+    found = _parts.read(_calls.read_basic_constraints, _calls.BasicConstraintsStruct(), octets)
+    return BasicConstraints(found.ca != 0, found.path_length if found.has_path_length else None)
+
+
+def read_key_usage(octets: bytes) -> KeyUsage:
+    return KeyUsage(_parts.read(_calls.read_key_usage, ctypes.c_uint32(), octets).value)
+
+
+def read_general_names(octets: bytes) -> Tuple[GeneralName, ...]:
+    return general_names(_parts.read_part(_calls.read_general_names, octets))
+
+
+def read_purposes(octets: bytes) -> Tuple[ObjectIdentifier, ...]:
+    purposes = _parts.read_part(_calls.read_extended_key_usage, octets)
+    found = _calls.items(_calls.next_key_purpose, OctetsStruct, purposes)
+    return tuple(ObjectIdentifier.from_content(part(purpose)) for purpose, part in found)
+
+
+def read_subject_key_identifier(octets: bytes) -> bytes:
+    return _parts.read_part(_calls.read_subject_key_identifier, octets)
+
+
+def read_authority_key_identifier(octets: bytes) -> AuthorityKeyIdentifier:
+    found = _parts.read(_calls.read_authority_key_identifier, _calls.AuthorityKeyIdentifierStruct(), octets)
+    part = _calls.within(octets)
+    return AuthorityKeyIdentifier(
+        part(found.key_identifier) if found.has_key_identifier else None,
+        general_names(part(found.issuer)) if found.has_issuer else None,
+        _parts.number(part(found.serial_number)) if found.has_serial_number else None,
+    )
+
+
+def read_policies(octets: bytes) -> Tuple[Policy, ...]:
+    policies = _parts.read_part(_calls.read_certificate_policies, octets)
+    return tuple(
+        Policy(ObjectIdentifier.from_content(part(item.identifier)), _qualifiers(part(item.qualifiers)))
+        for item, part in _calls.items(_calls.next_policy, _calls.PolicyStruct, policies)
+    )
+
+
+def _qualifiers(octets: bytes) -> Tuple[PolicyQualifier, ...]:
+    return tuple(
+        PolicyQualifier(ObjectIdentifier.from_content(part(item.identifier)), _parts.any_element(item.value, part))
+        for item, part in _calls.items(_calls.next_policy_qualifier, _calls.PolicyQualifierStruct, octets)
+    )
+
+
+def read_distribution_points(octets: bytes) -> Tuple[DistributionPoint, ...]:
+    points = _parts.read_part(_calls.read_distribution_points, octets)
+    return tuple(
+        DistributionPoint(
+            general_names(part(item.full_name)),
+            attributes_of(part(item.relative_name)),
+            _parts.optional_bits(item.reasons, part),
+            general_names(part(item.crl_issuer)),
+        )
+        for item, part in _calls.items(_calls.next_distribution_point, _calls.DistributionPointStruct, points)
+    )
+
+
+def read_name_constraints(octets: bytes) -> NameConstraints:
+    found = _parts.read(_calls.read_name_constraints, _calls.NameConstraintsStruct(), octets)
+    part = _calls.within(octets)
+    return NameConstraints(_subtrees(part(found.permitted)), _subtrees(part(found.excluded)))
+
+
+def _subtrees(octets: bytes) -> Tuple[Subtree, ...]:
+    found = _calls.items(_calls.next_subtree, _calls.SubtreeStruct, octets)
+    return tuple(_subtree(item, part) for item, part in found)
+
+
+def _subtree(found: _calls.SubtreeStruct, part: Within) -> Subtree:
+    return Subtree(general_name(found.base, part), found.minimum, found.maximum if found.has_maximum else None)
+
+
+def read_information_access(octets: bytes) -> Tuple[AccessDescription, ...]:
+    descriptions = _parts.read_part(_calls.read_information_access, octets)
+    return tuple(
+        AccessDescription(ObjectIdentifier.from_content(part(item.method)), general_name(item.location, part))
+        for item, part in _calls.items(_calls.next_access_description, _calls.AccessDescriptionStruct, descriptions)
+    )
+
+
+def read_reason(octets: bytes) -> RevocationReason:
+    return RevocationReason(_parts.read(_calls.read_reason, ctypes.c_uint32(), octets).value)
+
+
+_VALUES: Dict[int, Callable[[bytes], ExtensionValue]] = {
+    ExtensionKind.AUTHORITY_KEY_IDENTIFIER: read_authority_key_identifier,
+    ExtensionKind.SUBJECT_KEY_IDENTIFIER: read_subject_key_identifier,
+    ExtensionKind.KEY_USAGE: read_key_usage,
+    ExtensionKind.CERTIFICATE_POLICIES: read_policies,
+    ExtensionKind.SUBJECT_ALT_NAME: read_general_names,
+    ExtensionKind.ISSUER_ALT_NAME: read_general_names,
+    ExtensionKind.BASIC_CONSTRAINTS: read_basic_constraints,
+    ExtensionKind.NAME_CONSTRAINTS: read_name_constraints,
+    ExtensionKind.EXTENDED_KEY_USAGE: read_purposes,
+    ExtensionKind.CRL_DISTRIBUTION_POINTS: read_distribution_points,
+    ExtensionKind.FRESHEST_CRL: read_distribution_points,
+    ExtensionKind.AUTHORITY_INFO_ACCESS: read_information_access,
+    ExtensionKind.SUBJECT_INFO_ACCESS: read_information_access,
+    ExtensionKind.REASON_CODE: read_reason,
+}
+
+
+def extensions_of(octets: bytes) -> Tuple[Extension, ...]:
+    """The extensions of a list."""
+    return tuple(
+        Extension(
+            ObjectIdentifier.from_content(part(item.identifier)), item.critical != 0, part(item.value), item.kind
+        )
+        for item, part in _calls.items(_calls.next_extension, _calls.ExtensionStruct, octets)
+    )
+
+
+def find(extensions: Iterable[Extension], identifier: Union[ObjectIdentifier, str]) -> Optional[Extension]:
+    """The first extension of a type."""
+    wanted = identifier if isinstance(identifier, ObjectIdentifier) else ObjectIdentifier(identifier)
+    return next((it for it in extensions if it.identifier == wanted), None)

@@ -1,0 +1,151 @@
+"""Names of subjects and issuers, and general names (RFC 5280 4.1.2.4, 4.2.1.6)."""
+from __future__ import annotations
+
+import enum
+import ipaddress
+from dataclasses import dataclass
+from typing import Iterator, Optional, Tuple, Union
+
+from . import _certificate_calls as _calls
+from . import _library, _parts
+from ._certificate_calls import AttributeStruct, GeneralNameStruct, OctetsStruct, Within
+from ._tag import Tag, key_of
+from ._tree import _CODECS
+from ._values import ObjectIdentifier
+
+
+@dataclass(frozen=True)
+class Attribute:
+    """An attribute of a name: a type and a value."""
+
+    identifier: ObjectIdentifier
+    tag: Tag
+    constructed: bool
+    value: bytes
+    """The content octets of the value."""
+
+    @property
+    def text(self) -> Optional[str]:
+        """The value, if it is a character string of a type that :meth:`Node.as_str` has."""
+        codec = _CODECS.get(key_of(self.tag))
+        if codec is None or self.constructed:
+            return None
+        if self.tag != Tag.UNIVERSAL_STRING and _library.check_text(self.tag.number, self.value, len(self.value)):
+            return None
+        try:
+            return self.value.decode(codec)
+        except UnicodeDecodeError:
+            return None
+
+
+class Name:
+    """The name of an issuer or a subject (4.1.2.4). As a text it is that of RFC 4514, the last part first, where a
+    character outside of ASCII is its octets in UTF-8, such as ``\\C3\\A9``.
+
+    Two of them are equal if their octets are. RFC 5280 7.1 also takes names as equal that differ in case or spaces.
+    """
+
+    __slots__ = ("octets",)
+
+    octets: bytes
+    """The encodings of its parts, one after the other."""
+
+    def __init__(self, octets: bytes) -> None:
+        self.octets = octets
+
+    @property
+    def relative_names(self) -> Tuple[Tuple[Attribute, ...], ...]:
+        """Its parts, the first ones first: each is a set of attributes, and mostly of one."""
+        parts = _calls.items(_calls.next_relative_name, OctetsStruct, self.octets)
+        return tuple(attributes_of(part(attributes)) for attributes, part in parts)
+
+    @property
+    def attributes(self) -> Tuple[Attribute, ...]:
+        """The attributes of all its parts, in order."""
+        return tuple(attribute for part in self.relative_names for attribute in part)
+
+    def get(self, identifier: Union[ObjectIdentifier, str]) -> Optional[str]:
+        """The text of the first attribute of a type, such as ``"2.5.4.3"``, commonName."""
+        wanted = identifier if isinstance(identifier, ObjectIdentifier) else ObjectIdentifier(identifier)
+        return next((it.text for it in self.attributes if it.identifier == wanted), None)
+
+    def __iter__(self) -> Iterator[Attribute]:
+        return iter(self.attributes)
+
+    def __str__(self) -> str:
+        return _calls.name_text(self.octets)
+
+    def __repr__(self) -> str:
+        return f"<Name {self}>"
+
+    def __eq__(self, other: object) -> bool:
+        if not isinstance(other, Name):
+            return NotImplemented
+        return self.octets == other.octets
+
+    def __hash__(self) -> int:
+        return hash(self.octets)
+
+
+def attributes_of(octets: bytes) -> Tuple[Attribute, ...]:
+    """The attributes of a relative name."""
+    return tuple(
+        Attribute(
+            ObjectIdentifier.from_content(part(item.identifier)),
+            _parts.tag(item),
+            item.constructed != 0,
+            part(item.value),
+        )
+        for item, part in _calls.items(_calls.next_attribute, AttributeStruct, octets)
+    )
+
+
+class GeneralNameKind(enum.IntEnum):
+    """The kind of a name. The numbers are those of the tags."""
+
+    OTHER_NAME = 0
+    RFC822_NAME = 1
+    DNS_NAME = 2
+    X400_ADDRESS = 3
+    DIRECTORY_NAME = 4
+    EDI_PARTY_NAME = 5
+    URI = 6
+    IP_ADDRESS = 7
+    REGISTERED_ID = 8
+
+
+Address = Union[ipaddress.IPv4Address, ipaddress.IPv6Address]
+
+_TEXTS = (GeneralNameKind.RFC822_NAME, GeneralNameKind.DNS_NAME, GeneralNameKind.URI)
+
+
+@dataclass(frozen=True)
+class GeneralName:
+    """A name of a subject or an issuer (4.2.1.6)."""
+
+    kind: GeneralNameKind
+    value: Union[str, Name, ObjectIdentifier, Address, bytes]
+    """A ``str``, a :class:`Name`, an :class:`ObjectIdentifier`, an address of 4 or 16 octets, or content octets."""
+    identifier: Optional[ObjectIdentifier] = None
+    """The type of an otherName."""
+
+
+def general_names(octets: bytes) -> Tuple[GeneralName, ...]:
+    """The names of a list."""
+    found = _calls.items(_calls.next_general_name, GeneralNameStruct, octets)
+    return tuple(general_name(item, part) for item, part in found)
+
+
+def general_name(found: GeneralNameStruct, part: Within) -> GeneralName:
+    kind, octets = GeneralNameKind(found.kind), part(found.octets)
+    if kind in _TEXTS:
+        return GeneralName(kind, octets.decode("ascii"))
+    if kind == GeneralNameKind.DIRECTORY_NAME:
+        return GeneralName(kind, Name(octets))
+    if kind == GeneralNameKind.REGISTERED_ID:
+        return GeneralName(kind, ObjectIdentifier.from_content(octets))
+    if kind == GeneralNameKind.IP_ADDRESS and len(octets) in (4, 16):
+        return GeneralName(kind, ipaddress.ip_address(octets))
+    if kind == GeneralNameKind.OTHER_NAME:
+        return GeneralName(kind, octets, ObjectIdentifier.from_content(part(found.identifier)))
+    return GeneralName(kind, octets)

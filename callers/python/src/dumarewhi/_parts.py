@@ -1,0 +1,142 @@
+"""What certificates, lists, requests and keys have in common: how they are read, and the types of their fields."""
+from __future__ import annotations
+
+import ctypes
+import datetime
+from dataclasses import dataclass
+from typing import Optional, Tuple, Union
+
+from . import _certificate_calls as _calls
+from . import _library
+from ._certificate_calls import (
+    AlgorithmStruct,
+    AnyStruct,
+    AttributeStruct,
+    BitsStruct,
+    FaultStruct,
+    MomentStruct,
+    OctetsStruct,
+    Within,
+)
+from ._errors import DerError
+from ._header import Field, Rule
+from ._library import Call
+from ._tag import Tag, TagClass
+from ._values import BitString, ObjectIdentifier
+
+
+class CertificateError(DerError):
+    """An input isn't a certificate, a list, a request or a key, or an extension has no value.
+
+    >>> from dumarewhi.x509 import Certificate
+    >>> try:
+    ...     Certificate.from_der(b"\\x30\\x02\\x05\\x00")
+    ... except CertificateError as error:
+    ...     print(error.field.name, error.offset)
+    TBS_CERTIFICATE 2
+
+    Attributes:
+        reason: What is wrong and where, as a text with the field.
+        field: The first field that is wrong.
+        offset: Where the element begins that shows it, in octets from the start of what was read.
+        rule: The number of the rule, one of :class:`Rule`, or 0 if the input is cut short.
+        incomplete: Whether more octets may complete the input.
+        list_end: Where the element ends that this one is in, or ``None``.
+        needed: How many octets the element needs, as far as the input shows, or ``None``.
+    """
+
+    def __init__(self, fault: FaultStruct) -> None:
+        super().__init__(_calls.fault_text(fault), fault.offset, fault.error)
+        self._fault = fault
+        self.field = Field(fault.field)
+        self.incomplete = fault.status == _library.INCOMPLETE
+        self.list_end = fault.list_end if fault.is_in_list else None
+        self.needed = fault.needed or None
+
+    def __str__(self) -> str:
+        return f"{'.'.join(self.names)} {self.reason}" if self.names else self.reason
+
+    def __reduce__(self) -> Tuple[object, ...]:
+        return CertificateError, (self._fault,), {"names": self.names}
+
+
+@dataclass(frozen=True)
+class Algorithm:
+    """An algorithm (4.1.1.2)."""
+
+    identifier: ObjectIdentifier
+    parameters: Optional[bytes]
+    """The encoding of its parameters, one element of any type."""
+
+
+@dataclass(frozen=True)
+class PublicKey:
+    """A key (4.1.2.7)."""
+
+    algorithm: Algorithm
+    bits: BitString
+    """The key, in the form of its algorithm."""
+
+
+@dataclass(frozen=True)
+class AnyElement:
+    """An element of any type. Its content isn't read."""
+
+    tag: Tag
+    constructed: bool
+    content: bytes
+    """The content octets."""
+
+
+def read(call: Call, found: _calls.V, octets: bytes) -> _calls.V:
+    """What a call reads of an input."""
+    fault = FaultStruct()
+    if call(_library._bytes_address(octets), len(octets), ctypes.byref(found), ctypes.byref(fault)) != _library.OK:
+        raise CertificateError(fault)
+    return found
+
+
+def read_part(call: Call, octets: bytes) -> bytes:
+    """The part of an input that a call finds."""
+    return _calls.within(octets)(read(call, OctetsStruct(), octets))
+
+
+def number(content: bytes) -> int:
+    """An INTEGER (X.690 8.3)."""
+    return int.from_bytes(content, "big", signed=True)
+
+
+def algorithm(found: AlgorithmStruct, part: Within) -> Algorithm:
+    return Algorithm(ObjectIdentifier.from_content(part(found.identifier)), part(found.parameters) or None)
+
+
+def bits(found: BitsStruct, part: Within) -> BitString:
+    return BitString(part(found.octets), found.unused)
+
+
+def optional_bits(found: BitsStruct, part: Within) -> Optional[BitString]:
+    return bits(found, part) if found.is_present else None
+
+
+def tag(found: Union[AnyStruct, AttributeStruct]) -> Tag:
+    return Tag(TagClass(found.tag_class), found.number)
+
+
+def any_element(found: AnyStruct, part: Within) -> AnyElement:
+    return AnyElement(tag(found), found.constructed != 0, part(found.content))
+
+
+# Year, month, day, hour, minute, second and microsecond, in UTC
+Moment = Tuple[int, int, int, int, int, int, int]
+
+
+def moment(found: MomentStruct) -> Moment:
+    time = found.time
+    return time.year, time.month, time.day, time.hour, time.minute, time.second, time.nanosecond // 1000
+
+
+def datetime_of(moment: Moment) -> datetime.datetime:
+    try:
+        return datetime.datetime(*moment, tzinfo=datetime.timezone.utc)
+    except ValueError:
+        raise _library.rule_error(Rule.INVALID_TIME, 0) from None

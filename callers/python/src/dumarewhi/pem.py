@@ -1,0 +1,105 @@
+"""Blocks of PEM (RFC 7468), by calls of the library that are proved.
+
+>>> text = "A NULL:\\n-----BEGIN NULL-----\\nBQA=\\n-----END NULL-----\\nand more."
+>>> for block in blocks(text):
+...     print(block.label, block.offset, block.octets.hex())
+NULL 8 0500
+"""
+from __future__ import annotations
+
+import ctypes
+from dataclasses import dataclass, field
+from typing import TYPE_CHECKING, Union
+
+from . import _certificate_calls as _calls
+from ._certificate_calls import OctetsStruct, PemStruct
+from ._library import Source, rule_error
+
+if TYPE_CHECKING:
+    from _typeshed import ReadableBuffer
+
+__all__ = ["Block", "Blocks", "blocks"]
+
+
+@dataclass(frozen=True)
+class Block:
+    """A block of a text. What it encodes, which may be a private key, isn't shown."""
+
+    label: str
+    """Its label, such as ``CERTIFICATE``. Octets that aren't UTF-8 are ``\\ufffd``."""
+    offset: int
+    """Where it begins, in octets from the start of the text."""
+    octets: bytes = field(repr=False)
+    """What it encodes."""
+
+
+def blocks(text: Union[str, ReadableBuffer]) -> Blocks:
+    """The blocks of a text, and any text around them. A block begins at the start of a line, or after white space,
+    quotes or a mark ``>``. What they are isn't checked.
+
+    Args:
+        text: A text, whose octets are those of UTF-8, or any object with octets, which aren't copied.
+    """
+    return Blocks(text)
+
+
+class Blocks:
+    """The blocks of a text, one after the other, as :func:`blocks` has them. It is for one thread at a time.
+
+    A block that can't be decoded is an error. The next one is read after that:
+
+    >>> found = blocks("-----BEGIN A-----\\nBQ!=\\n-----END A-----\\n-----BEGIN B-----\\nBQA=\\n-----END B-----\\n")
+    >>> try:
+    ...     next(found)
+    ... except ValueError as error:
+    ...     print(error)
+    invalid base64 at offset 0
+    >>> next(found).label
+    'B'
+    """
+
+    __slots__ = ("_source", "_rest", "_characters", "_octets")
+
+    # What the text is read from, and what is left of it.
+    _source: Source
+    _rest: OctetsStruct
+    # The buffers of a block, which has no more octets than the text.
+    _characters: ctypes.Array[ctypes.c_char]
+    _octets: ctypes.Array[ctypes.c_char]
+
+    def __init__(self, text: Union[str, ReadableBuffer]) -> None:
+        self._source = Source(text.encode() if isinstance(text, str) else text)
+        length = self._source.length
+        self._rest = OctetsStruct(self._source._address, length)
+        self._characters = ctypes.create_string_buffer(length + 1)
+        self._octets = ctypes.create_string_buffer(length + 1)
+
+    def __iter__(self) -> Blocks:
+        return self
+
+    def __next__(self) -> Block:
+        """The next block.
+
+        Raises:
+            DerError: There is one that is encrypted (RFC 1421 4.6.1.1), or whose base64 (RFC 4648 4) isn't right: the
+                next call goes on after it. Or it has no end, or another label there: then it is the last one.
+        """
+        rest, found, offset = self._rest, PemStruct(), ctypes.c_size_t()
+        before, length = rest.length, self._source.length
+        if not _calls.find_pem(rest.octets, before, ctypes.byref(offset)):
+            raise StopIteration
+        begin = length - before + offset.value
+        buffers = self._characters, length, self._octets, length
+        rule = _calls.next_pem(ctypes.byref(rest), *buffers, ctypes.byref(found))
+        if rest.length == before:
+            rest.length = 0
+        if rule:
+            raise rule_error(rule, begin)
+        return Block(self._text(found.label), begin, ctypes.string_at(self._octets, found.length))
+
+    def _text(self, part: OctetsStruct) -> str:
+        """The text of a part, which may be anywhere if it is empty."""
+        if part.length == 0:
+            return ""
+        at = part.octets - self._source._address
+        return str(self._source.view[at : at + part.length], "utf-8", "replace")
