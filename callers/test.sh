@@ -1,6 +1,6 @@
 #!/usr/bin/env bash
-# Tests what C, Rust and Python call, over the libraries that `rt ci` leaves built. What the machine has no tool for is said
-# and left out. DUMAREWHI_LIB=FOLDER takes libdumarewhi_c.a from there, in place of building it.
+# Tests what C, Rust and Python call, over the libraries that `rt ci` leaves built. What the machine has no tool for is
+# said and left out. DUMAREWHI_LIB=FOLDER takes libdumarewhi_c.a from there, in place of building it.
 set -uo pipefail
 cd "$(dirname "$0")"
 room=$(mktemp -d)
@@ -90,6 +90,50 @@ run_csr() (
         && openssl req -inform DER -in request -noout -text | grep -q "DNS:example.org"
 )
 
+# Lists in extensions that openssl makes, in its words. Where it ends lines isn't compared.
+run_extensions() (
+    cd "$room" && openssl req -x509 -newkey ec -pkeyopt ec_paramgen_curve:P-256 -nodes -keyout ec.pem -days 30 \
+        -out extensions.pem -config "$root/callers/c/extensions.cnf" \
+        && openssl x509 -in extensions.pem -outform DER -out extensions.der || return
+    local kinds=certificatePolicies,crlDistributionPoints,nameConstraints,authorityInfoAccess,subjectInfoAccess
+    openssl x509 -in extensions.pem -noout -ext "$kinds" | tr -s ' \n' '\n' > wanted \
+        && "$room/openssl_extensions" < extensions.der | tr -s ' \n' '\n' > words \
+        && grep -q "http://l.org/" words && cmp wanted words
+)
+
+# The octets of a key in PKCS #8, and the numbers of one of RSA, as openssl lists its elements.
+run_key() {
+    local inside
+    "$room/private_key" < "$1" > fields && [ "$(head -n 1 fields)" = "$2" ] || return
+    "$room/private_key" octets < "$1" > octets || return
+    inside=$(openssl asn1parse -inform DER -in "$1" | sed -n 's/^ *\([0-9]*\):d=1 .*OCTET STRING.*/\1/p')
+    openssl asn1parse -inform DER -in "$1" -strparse "$inside" -out wanted > parsed && cmp octets wanted || return
+    case $2 in 1.2.840.113549.1.1.1*) sed -n 's/.*INTEGER *://p' parsed | diff - <(tail -n +2 fields) ;; esac
+}
+
+run_keys() (
+    cd "$room" && openssl genpkey -algorithm RSA -pkeyopt rsa_keygen_bits:2048 -out rsa.pem \
+        && openssl genpkey -algorithm ED25519 -out ed25519.pem || return
+    for name in rsa ec ed25519; do
+        openssl pkcs8 -topk8 -nocrypt -in $name.pem -outform DER -out $name.key || return
+    done
+    run_key rsa.key "1.2.840.113549.1.1.1, parameters of tag 5" \
+        && run_key ec.key "1.2.840.10045.2.1, parameters of tag 6" && run_key ed25519.key "1.3.101.112" \
+        && echo "3 private keys"
+)
+
+# Texts that openssl writes, and what it says they encode.
+run_pem() (
+    cd "$room" || return
+    { echo "a text"; cat extensions.pem rsa.pem; sed 's/^/  > /' extensions.pem; cat ec.pem ed25519.pem; } > bundle
+    row() { echo "$1 $(wc -c < "$2") $(sha256sum < "$2" | cut -d' ' -f1)"; }
+    {
+        row CERTIFICATE extensions.der && row "PRIVATE KEY" rsa.key && row CERTIFICATE extensions.der \
+            && row "PRIVATE KEY" ec.key && row "PRIVATE KEY" ed25519.key
+    } > wanted
+    "$room/pem" < bundle > blocks && cmp wanted blocks && echo "$(wc -l < blocks) blocks"
+)
+
 # A GetRequest for three objects, and the answer: the name, the time, and that there is no third.
 octets "30 45 02 01 01 04 06 70 75 62 6c 69 63 a0 38 02 04 71 68 2a 51 02 01 00 02 01 00 30 2a 30 0c 06 08 2b 06 01 02
     01 01 01 00 05 00 30 0c 06 08 2b 06 01 02 01 01 03 00 05 00 30 0c 06 08 2b 06 01 02 01 01 09 00 05 00" > "$room/ask"
@@ -100,7 +144,7 @@ run_reply() { "$1" < "$room/ask" > "$room/reply" && cmp "$room/reply" "$room/ans
 
 run_c() {
     for name in first tree certificate snmp count layout rows errors tables csr snmp_reply writer trees agreement \
-        certificate_rows openssl_fields fields; do
+        certificate_rows openssl_fields openssl_extensions fields private_key pem; do
         says "$name.c compiles" compile $name $name
     done
     says "examples/certificate.c compiles" compile examples/certificate example
@@ -110,7 +154,8 @@ run_c() {
     for name in layout rows errors stack fields; do says "$name" "$room/$name"; done
     says "writer" "$room/writer" "$room"
     says "rows of the library's tests" "$room/tables" ../tests/*/data/*.rows
-    says "rows about certificates" "$room/certificate_rows" ../tests/rows_of_certificates/data/*.rows
+    says "rows about certificates" "$room/certificate_rows" ../tests/rows_of_certificates/data/*.rows \
+        ../tests/rows_of_messages/data/messages.rows
     shown=
 
     prints "first" 0 "$(printf 'type 16, octets 2 to 8\ntype 2, octets 4 to 5\ntype 1, octets 7 to 8')" "$room/first"
@@ -148,7 +193,25 @@ version 1, community public: get-next 43 1.3.6.1.2.1.1.3.0" "$room/snmp"
         shown=yes says "random trees as openssl reads them" run_trees
         prints "a certificate" 0 "$(example_certificate)" "$room/example" ../crates/der/data/certificate.der
         says "a request that openssl verifies" run_csr "$room/csr"
+        says "extensions in the words of openssl" run_extensions
+        shown=yes
+        says "private keys as openssl writes them" run_keys
+        says "PEM as openssl writes it" run_pem
+        shown=
     fi
+
+    # RFC 7468 2 and 3; RFC 1421 4.6.1.1
+    printf '%s\n' "a text" "-----BEGIN A-----" "Proc-Type: 4,ENCRYPTED" "" "AAAA" "-----END A-----" \
+        "-----BEGIN B-----" "AQI=" "-----END B-----" "> -----BEGIN C-----" "> !" "> -----END C-----" \
+        "in a line -----BEGIN X-----" "-----BEGIN D-----" "-----END E-----" > "$room/in"
+    prints "blocks of PEM" 1 "the block is encrypted
+B 2 a12871fee210fb8619291eaea194581cbd2531e4b23759d225f6806923f63222
+invalid base64
+a block whose first and last line have other labels" "$room/pem"
+    printf '%s\n' "-----BEGIN A-----" "AQI=" "-----BEGIN B-----" "AQI=" "-----END B-----" > "$room/in"
+    prints "a block of PEM without an end" 1 "a block without its line -----END ..-----" "$room/pem"
+    : > "$room/in"
+    prints "PEM of no octets" 0 "" "$room/pem"
 }
 
 # The header compiles without a warning, as C and as C++ where there is a compiler for it.
@@ -226,13 +289,69 @@ run_hostile() {
     if [ -f "$room/certificate.der" ]; then "$room/$2" "$room/certificate.der" "$inputs" || return 1; fi
 }
 
-# A certificate, a list of revoked ones, a request that was signed before, and a certificate of the machine's, damaged.
+# A certificate, a list of revoked ones, a request that was signed before, a certificate of the machine's, one with
+# lists in its extensions, private keys and a text in PEM, damaged.
 run_damaged() {
     local file
     for file in ../crates/der/data/certificate.der ../crates/der/data/revoked.crl "$room/request" \
-        "$room/certificate.der"; do
+        "$room/extensions.pem" "$room/rsa.key" "$room/ec.key" "$room/certificate.der" "$room/extensions.der"; do
         if [ -f "$file" ]; then "$room/$2" "$file" "$1" || return 1; fi
     done
+}
+
+compile_target() {
+    clang -std=c99 -Wall -Wextra -Werror -g -O1 -fsanitize=fuzzer,address,undefined -fno-sanitize-recover=all \
+        -Ic/include -Ic/fuzz "$1" "$archive" -o "$2"
+}
+
+# The inputs that targets begin with, in a folder: files of the repository, and the octets of rows about certificates
+# and messages.
+make_seeds() {
+    local number=0 row
+    mkdir "$1" && cp ../crates/der/data/* "$1" || return
+    for row in ber messages; do [ -f "$room/$row" ] && cp "$room/$row" "$1"; done
+    while read -r row; do
+        number=$((number + 1))
+        octets "$row" > "$1/row.$number"
+    done < <(grep -hoE '^([0-9a-f]{2} )+\|' ../tests/rows_of_{certificates,messages}/data/*.rows | tr -d '|' \
+        | LC_ALL=C sort -u)
+    [ "$number" -gt 0 ]
+}
+
+# As many runs of a target as take about ten seconds.
+runs_of() {
+    case $1 in
+        writer) echo 200000 ;;
+        fields) echo 600000 ;;
+        keys | lists | values) echo 3000000 ;;
+        *) echo 1200000 ;;
+    esac
+}
+
+# Each target, all side by side. With the same seed, and the same addresses of memory, they try the same each time.
+run_targets() {
+    local file name pids=() wrong=0 fixed=()
+    setarch -R true 2> /dev/null && fixed=(setarch -R)
+    make_seeds "$room/seeds" || return
+    for file in c/fuzz/*.c; do
+        name=$(basename "$file" .c)
+        compile_target "$file" "$room/target_$name" && cp -r "$room/seeds" "$room/corpus_$name" || return
+    done
+    for file in c/fuzz/*.c; do
+        name=$(basename "$file" .c)
+        (cd "$room" && "${fixed[@]}" "./target_$name" -seed=1 -runs="$(runs_of "$name")" -reload=0 -max_len=4096 \
+            -artifact_prefix="$name." "corpus_$name") > "$room/target_$name.log" 2>&1 &
+        pids+=($!)
+    done
+    for name in "${pids[@]}"; do wait "$name" || wrong=1; done
+    for file in c/fuzz/*.c; do
+        name=$(basename "$file" .c)
+        grep -q "^Done" "$room/target_$name.log" || grep -A 12 ERROR "$room/target_$name.log" \
+            || tail -n 3 "$room/target_$name.log"
+        printf '%s %s, ' "$name" "$(sed -n 's/^Done \([0-9]*\) runs.*/\1/p' "$room/target_$name.log")"
+    done
+    echo "runs from the seed 1"
+    return "$wrong"
 }
 
 if has cc "all of C"; then
@@ -276,6 +395,14 @@ if has cc "all of C"; then
         says "writer under valgrind" valgrind -q --error-exitcode=9 "$room/plain_writer" "$room"
         shown=
     fi
+    echo '#include "fuzz.h"
+int LLVMFuzzerTestOneInput(const uint8_t *input, size_t length) { return input == NULL && length > 0; }' \
+        > "$room/empty.c"
+    if compile_target "$room/empty.c" "$room/empty" 2> /dev/null; then
+        shown=yes says "targets for libFuzzer" run_targets
+    else
+        echo "left out: targets for libFuzzer (there is no clang with -fsanitize=fuzzer)"
+    fi
     awk '/^```c$/ {on = 1; next} /^```$/ {on = 0} on' ../README.md > "$room/readme.c"
     says "README has the lines of first.c" diff "$room/readme.c" c/first.c
     # The command that README gives, for the example beside the header.
@@ -310,7 +437,12 @@ if [ -d rust ]; then
     if has cargo "all of Rust"; then
         shown=yes
         run_cargo() { DUMAREWHI_LIB=$(dirname "$archive") CARGO_TARGET_DIR=$room/target cargo "$@" 2>&1; }
-        says "cargo test" run_cargo test --offline --quiet --manifest-path rust/Cargo.toml
+        says "cargo test" run_cargo test --offline --quiet --features pem --manifest-path rust/Cargo.toml
+        says "cargo check without features" \
+            run_cargo check --offline --quiet --no-default-features --manifest-path rust/Cargo.toml
+        says "cargo doc" env RUSTDOCFLAGS="-D warnings" DUMAREWHI_LIB="$(dirname "$archive")" \
+            cargo doc --offline --quiet --no-deps --all-features --manifest-path rust/Cargo.toml \
+            --target-dir "$room/target"
         checked=(--config 'target."cfg(all())".runner=["valgrind","-q","--error-exitcode=9"]')
         has valgrind "the writer of Rust under valgrind" && says "the writer of Rust under valgrind" \
             run_cargo test --offline --quiet --manifest-path rust/Cargo.toml --test writer "${checked[@]}"
@@ -318,7 +450,9 @@ if [ -d rust ]; then
         says "SNMP that Rust answers" run_reply "$examples/snmp_reply"
         has openssl "a request of Rust" && says "a request of Rust that openssl verifies" run_csr "$examples/csr"
         if cargo clippy --version > /dev/null 2>&1; then
-            run_clippy() { run_cargo clippy --offline --quiet --all-targets --manifest-path "$1" -- -D warnings; }
+            run_clippy() {
+                run_cargo clippy --offline --quiet --all-targets --all-features --manifest-path "$1" -- -D warnings
+            }
             says "cargo clippy" run_clippy rust/Cargo.toml
         else
             echo "left out: cargo clippy (there is no clippy)"

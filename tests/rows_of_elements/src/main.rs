@@ -1,21 +1,24 @@
-//! The rows of elements: inputs, and what readers answer on them. With the word `trials` in front of the files, what
-//! holds of any octets is tried on those of each row.
+//! The rows of elements: inputs, and what readers answer on them. The rows of readers: lists, numbers, DER, counts of
+//! headers, and each public name. With the word `trials` in front of the files, what holds of any octets is tried on
+//! those of each row.
 
 mod any;
 mod containers;
 mod contents;
 mod headers;
+mod numbers;
 mod said;
 
 use any::AnyReader;
 use containers::ContainerCall;
 use contents::ContentReader;
-use test_support::calls::answer_of_call;
-use test_support::trials::{are_asked_for, run_trials};
 use headers::HeaderReader;
+use numbers::NumberCall;
 use std::alloc::Global;
 use std::io;
 use std::process::ExitCode;
+use test_support::calls::answer_of_call;
+use test_support::trials::{are_asked_for, run_trials};
 use test_tables::fault::Fault;
 use test_tables::run::{Calls, run};
 
@@ -33,8 +36,11 @@ impl Calls for Elements {
         if let Some(reader) = ContentReader::named(call) {
             return reader.answer(alloc, input);
         }
-        match ContainerCall::of_call(call) {
-            Some(container) => container.answer(alloc, input),
+        if let Some(container) = ContainerCall::of_call(call) {
+            return container.answer(alloc, input);
+        }
+        match NumberCall::of_call(call) {
+            Some(number) => number.answer(alloc, input),
             None => answer_of_call(alloc, call, input),
         }
     }

@@ -7,6 +7,7 @@ mod canonical;
 mod checked;
 mod elements;
 mod inputs;
+mod lines;
 mod names;
 mod slots;
 mod views;
@@ -42,6 +43,7 @@ impl Calls for ElementCalls {
             "name_of" => name(alloc, &octets),
             "each_line_is_found" => are_found(alloc),
             "own_names" => own_names(alloc, &octets),
+            "named_line" => lines::named_line(alloc, &octets, words),
             "walk" => walk(alloc, &octets, words),
             "refused" => walks::refused(alloc, &octets, words),
             "first_fault" => walks::first_fault_in(alloc, &octets, words),

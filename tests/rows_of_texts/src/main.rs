@@ -1,5 +1,6 @@
-//! The rows of texts: of errors, classes, tags and times, and of identifiers with their arcs.
+//! The rows of texts: of errors, classes, tags and times, of identifiers with their arcs, and of elements.
 
+mod elements;
 mod errors;
 mod identifiers;
 mod times;
@@ -15,6 +16,9 @@ struct Texts;
 
 impl Calls for Texts {
     fn answer(&self, alloc: Global, call: &str, input: &str) -> Result<String, Fault> {
+        if let Some(answer) = elements::answer(alloc, call, input)? {
+            return Ok(answer);
+        }
         let words: Vec<&str> = input.split_ascii_whitespace().collect(alloc)?;
         match call {
             "BerError" => text_of(alloc, errors::ber_error(&words)),

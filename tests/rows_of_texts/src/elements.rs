@@ -1,29 +1,22 @@
-//! The rows of texts of elements: the octets of a text, the text of octets, and the texts of damaged octets. In a row
-//! `/` is the end of a line.
+//! Texts of elements: the octets of a text, the text of octets, and the texts of damaged octets. In a row `/` is the
+//! end of a line.
 
 use der_text::{octets_of, text_of};
 use std::alloc::{AllocError, Global};
-use std::io;
-use std::process::ExitCode;
 use test_tables::fault::Fault;
 use test_tables::octets::{octets, push_octets};
-use test_tables::run::{Calls, run};
 
 /// How many damaged copies are tried of an input.
 const COPIES: usize = 100;
 
-/// The calls on texts.
-struct TextCalls;
-
-impl Calls for TextCalls {
-    fn answer(&self, alloc: Global, call: &str, input: &str) -> Result<String, Fault> {
-        match call {
-            "octets_of" => octets_text(alloc, input),
-            "text_of" => shown_text(alloc, &octets(alloc, input)?),
-            "damaged" => damaged(alloc, &octets(alloc, input)?),
-            _ => Err(Fault::NoSuchCall),
-        }
-    }
+/// What a call on the text of elements answers, if it is one.
+pub fn answer(alloc: Global, call: &str, input: &str) -> Result<Option<String>, Fault> {
+    Ok(Some(match call {
+        "octets_of" => octets_text(alloc, input)?,
+        "text_of" => shown_text(alloc, &octets(alloc, input)?)?,
+        "damaged" => damaged(alloc, &octets(alloc, input)?)?,
+        _ => return Ok(None),
+    }))
 }
 
 /// The octets of a text, or the error.
@@ -104,8 +97,4 @@ fn damaged_copy(
         _ => {}
     }
     Ok(copy)
-}
-
-fn main(rt: HostRuntime) -> io::Result<ExitCode> {
-    run(&rt, &TextCalls)
 }
