@@ -13,7 +13,8 @@ Leaves text s = (items_of text >>= λ is. all_before is (following [] [])) ≡ O
 
 -- a text has these octets, whatever follows it
 pub record Means (text w : List ℕ) : Type 0 where
-  pub leaves : (rest : List ℕ) (s : Following) → Leaves rest s → Leaves (text ++ rest) (following (w ++ s.octets) s.ends)
+  pub leaves : (rest : List ℕ) (s : Following) → Leaves rest s
+      → Leaves (text ++ rest) (following (w ++ s.octets) s.ends)
 
 -- a text that has these octets is appended
 pub record Puts (old new w : List ℕ) : Type 0 where

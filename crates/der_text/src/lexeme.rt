@@ -1,5 +1,6 @@
 //! What a text begins with: white space, a comment, a brace, octets or a word.
-ghost use Rattle.std.specs.Prelude.{◌≡◌, ◌+◌, ◌^◌, ◌<◌, ◌≤◌, ◌==◌, [], ◌∷◌, IfOk, IfSome, Ok, Some, drop, length, not, position, take};
+ghost use Rattle.std.specs.Prelude.{◌≡◌, ◌+◌, ◌^◌, ◌<◌, ◌≤◌, ◌==◌, [], ◌∷◌, IfOk, IfSome, Ok, Some};
+ghost use Rattle.std.specs.Prelude.{drop, length, not, position, take};
 ghost use Rattle.std.specs.List.{prefix_len};
 ghost use Rattle.std.specs.Option.{option_copied, option_map};
 ghost use Rattle.hex.specs.Hex.{decode_of};
