@@ -2,7 +2,7 @@
 //! length.
 #![tactic(auto)]
 
-use der_distinguished_name::{read_name, read_name_nodes};
+use der_distinguished_name::read_name;
 use der_extensions::read_extension_value;
 use der_nodes::{Element, parse_ber_nodes, parse_der_nodes};
 use der_parser::ber::{
@@ -10,7 +10,8 @@ use der_parser::ber::{
 };
 use der_parser::cursor::Cursor;
 use der_parser::der::{Class, parse_der};
-use der_x509::{Certificate, read_certificate};
+use der_x509::parts::read_name as read_certificate_name;
+use der_x509::{Certificate, Name, read_certificate};
 use std::alloc::Global;
 
 /// What one pass does with each element.
@@ -163,30 +164,6 @@ fn count_attributes(alloc: Global, s: &[u8]) -> u64 {
     count
 }
 
-/// The same of names that are read over elements.
-fn count_node_attributes(alloc: Global, s: &[u8]) -> u64 {
-    let mut elements = Vec::new(alloc);
-    let mut names = Vec::new(alloc);
-    let mut left = s;
-    for _ in 0..u64::MAX {
-        if left.is_empty() {
-            break;
-        }
-        let Ok((rest, attributes)) = read_name_nodes(alloc, left, &mut elements) else {
-            return 0;
-        };
-        if names.push(attributes).is_err() {
-            return 0;
-        }
-        left = rest;
-    }
-    let mut count: u64 = 0;
-    for attributes in &names {
-        count = count.wrapping_add(attributes.len() as u64);
-    }
-    count
-}
-
 /// The same of names that are read with a cursor.
 fn count_cursor_attributes(alloc: Global, s: &[u8]) -> u64 {
     let mut names = Vec::new(alloc);
@@ -195,7 +172,7 @@ fn count_cursor_attributes(alloc: Global, s: &[u8]) -> u64 {
         if left.is_empty() {
             break;
         }
-        let Ok(name) = names_reader::read_name(alloc, &mut left) else {
+        let Ok(name) = read_certificate_name(&mut left) else {
             return 0;
         };
         if names.push(name).is_err() {
@@ -204,7 +181,16 @@ fn count_cursor_attributes(alloc: Global, s: &[u8]) -> u64 {
     }
     let mut count: u64 = 0;
     for name in &names {
-        count = count.wrapping_add(name.attributes.len() as u64);
+        count = count.wrapping_add(count_attributes_of(name));
+    }
+    count
+}
+
+/// How many attributes a name has.
+fn count_attributes_of(name: &Name<'_>) -> u64 {
+    let mut count: u64 = 0;
+    for relative in name.relative_names() {
+        count = count.wrapping_add(relative.attributes().count() as u64);
     }
     count
 }
@@ -315,10 +301,10 @@ fn count_in_buffer(alloc: Global, s: &[u8], is_der: bool) -> u64 {
 /// as DER does, 3 by BER and writes the text of each, 4 reads the outermost elements alone, 5 reads
 /// names (X.501 9.2), 6 reads elements by BER and counts them by a visitor, 7 reads names and keeps
 /// their attributes as octets, 8 reads certificates (RFC 5280), 9 writes the elements of each to a
-/// buffer by DER, 10 does so without a buffer, 11 and 12 do these by BER, 13 reads names as 5 over
-/// elements, 14 reads certificates and the values of their extensions. It keeps the objects that it reads
-/// until its end, and returns how many objects or elements it read, those inside lists among them, or how
-/// many attributes, certificates or extensions; 0 where an element is refused, and for another mode.
+/// buffer by DER, 10 does so without a buffer, 11 and 12 do these by BER, 14 reads certificates and the
+/// values of their extensions. It keeps the objects that it reads until its end, and returns how many
+/// objects or elements it read, those inside lists among them, or how many attributes, certificates or
+/// extensions; 0 where an element is refused, and for another mode.
 #[unsafe(no_mangle)]
 pub extern "C" fn der_bench_pass(alloc: Global, s: &[u8], mode: u64) -> u64 {
     match mode {
@@ -335,7 +321,6 @@ pub extern "C" fn der_bench_pass(alloc: Global, s: &[u8], mode: u64) -> u64 {
         10 => count_nodes(s, &mut [], true),
         11 => count_in_buffer(alloc, s, false),
         12 => count_nodes(s, &mut [], false),
-        13 => count_node_attributes(alloc, s),
         14 => count_certificate_values(s),
         _ => 0,
     }

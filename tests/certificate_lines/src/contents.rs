@@ -2,25 +2,21 @@
 use crate::values::{Value, read_values};
 use anyhow::Result;
 use der_x509::{Certificate, read_certificate};
-use names_reader::{Names, read_names};
 use std::alloc::Global;
 
-/// A certificate, its names, and the values of its extensions in their order.
+/// A certificate, and the values of its extensions in their order.
 #[derive(Drop)]
 pub struct Contents<'a> {
     pub certificate: Certificate<'a>,
-    pub names: Names<'a>,
     pub values: Vec<Value<'a>>,
 }
 
 /// Reads a certificate. Octets left over are refused. The signature isn't verified.
 pub fn read_contents(alloc: Global, octets: &[u8]) -> Result<Contents<'_>> {
     let certificate = read_certificate(octets)?;
-    let names = read_names(alloc, octets)?;
     let values = read_values(alloc, &certificate.tbs_certificate.extensions)?;
     Ok(Contents {
         certificate,
-        names,
         values,
     })
 }

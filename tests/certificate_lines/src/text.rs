@@ -1,6 +1,7 @@
 //! The lines that describe a certificate.
 use crate::contents::Contents;
 use crate::values::Value;
+use certificate_text::NameText;
 use der_extensions::{BasicConstraints, GeneralName, GeneralNames};
 use der_parser::ber::ASN1DateTime;
 use der_parser::values::BitString;
@@ -49,14 +50,14 @@ impl fmt::Display for Certified<'_, '_> {
         writeln!(f, "version={}", number_of(fields.version))?;
         writeln!(f, "serial={}", Serial(fields.serial_number))?;
         writeln!(f, "signatureAlgorithm={}", fields.signature.algorithm)?;
-        writeln!(f, "issuer={}", contents.names.issuer)?;
+        writeln!(f, "issuer={}", NameText { name: fields.issuer })?;
         writeln!(
             f,
             "notBefore={}",
             Moment(fields.validity.not_before.moment())
         )?;
         writeln!(f, "notAfter={}", Moment(fields.validity.not_after.moment()))?;
-        writeln!(f, "subject={}", contents.names.subject)?;
+        writeln!(f, "subject={}", NameText { name: fields.subject })?;
         writeln!(f, "keyAlgorithm={}", key_info.algorithm.algorithm)?;
         writeln!(f, "keyOctets={}", key_info.subject_public_key.octets.len())?;
         for (extension, value) in fields.extensions.iter().zip(&contents.values) {

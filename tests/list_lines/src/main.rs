@@ -6,11 +6,7 @@ mod text;
 use anyhow::{Result, ensure};
 use bstr::ByteSlice;
 use crl_reader::read_certificate_list;
-use der_base::error::BerError;
-use der_base::header::{Class, Tag};
-use der_cursor::{Cursor, Named, Refusal};
 use der_input::next_block;
-use names_reader::{Name, read_name};
 use std::alloc::Global;
 use std::io::Read;
 use text::Listed;
@@ -22,7 +18,7 @@ fn main(rt: HostRuntime) -> Result<()> {
     let mut input = Vec::new(rt.alloc());
     rt.stdin().read_to_end(&mut input)?;
     if input.first() == Some(&SEQUENCE) {
-        return print_list(&rt, rt.alloc(), &input);
+        return print_list(&rt, &input);
     }
     print_blocks(&rt, rt.alloc(), &input)
 }
@@ -44,7 +40,7 @@ fn print_blocks(rt: &(impl Print + Eprint), alloc: Global, input: &[u8]) -> Resu
         }
         number = number.saturating_add(1);
         let octets = block.decode(alloc)?;
-        if let Err(e) = print_list(rt, alloc, &octets) {
+        if let Err(e) = print_list(rt, &octets) {
             eprintln!(rt; "list {number}: {e}")?;
             refused = refused.saturating_add(1);
         }
@@ -55,19 +51,8 @@ fn print_blocks(rt: &(impl Print + Eprint), alloc: Global, input: &[u8]) -> Resu
 }
 
 /// Prints a list and an empty line.
-fn print_list(rt: &impl Print, alloc: Global, octets: &[u8]) -> Result<()> {
+fn print_list(rt: &impl Print, octets: &[u8]) -> Result<()> {
     let list = read_certificate_list(octets)?;
-    let issuer = read_issuer(alloc, octets).named("issuer")?;
-    println!(rt; "{}", Listed(&list, &issuer))?;
+    println!(rt; "{}", Listed(&list))?;
     Ok(())
-}
-
-/// Reads the issuer of a list, which follows the version, if that is there, and an algorithm.
-fn read_issuer(alloc: Global, octets: &[u8]) -> Result<Name<'_>, Refusal<BerError>> {
-    let mut fields = Cursor::new(octets).open_sequence()?.open_sequence()?;
-    if fields.is_next(Class::Universal, Tag::Integer) {
-        fields.any()?;
-    }
-    fields.any()?;
-    read_name(alloc, &mut fields)
 }

@@ -1,13 +1,13 @@
 //! The lines that describe a list.
+use certificate_text::NameText;
 use crl_reader::{CertificateList, RevokedCertificate, reason_of};
 use der_base::time::ASN1DateTime;
 use der_x509::{Extensions, Version};
-use names_reader::Name;
 use std::fmt;
 
-/// The lines of a list with this issuer. Octets are in hexadecimal digits.
+/// The lines of a list. Octets are in hexadecimal digits.
 #[derive(Clone, Copy)]
-pub struct Listed<'r, 'a>(pub &'r CertificateList<'a>, pub &'r Name<'a>);
+pub struct Listed<'r, 'a>(pub &'r CertificateList<'a>);
 
 impl fmt::Display for Listed<'_, '_> {
     fn fmt<W: fmt::Write>(&self, f: &mut fmt::Formatter<W>) -> fmt::Result {
@@ -16,7 +16,7 @@ impl fmt::Display for Listed<'_, '_> {
         let is_first = list.version == Version::V1;
         writeln!(f, "version={}", if is_first { 1 } else { 2 })?;
         writeln!(f, "signatureAlgorithm={}", list.signature.algorithm)?;
-        writeln!(f, "issuer={}", self.1)?;
+        writeln!(f, "issuer={}", NameText { name: list.issuer })?;
         writeln!(f, "thisUpdate={}", Moment(list.this_update.moment()))?;
         if let Some(time) = list.next_update {
             writeln!(f, "nextUpdate={}", Moment(time.moment()))?;

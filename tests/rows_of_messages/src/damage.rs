@@ -27,7 +27,7 @@ enum Kind {
     KerberosRequest,
     SnmpMessage,
     LdapMessage,
-    /// By a cursor, as names_reader does.
+    /// With a cursor, as der_x509 does.
     Name,
     /// As der_distinguished_name does, which reports no offset.
     PlainName,
@@ -56,7 +56,7 @@ impl Reader for Kind {
             Kind::KerberosRequest => kerberos_request(alloc, octets),
             Kind::SnmpMessage => snmp_message(alloc, octets),
             Kind::LdapMessage => ldap_message(alloc, octets),
-            Kind::Name => name(alloc, octets),
+            Kind::Name => name(octets),
             Kind::PlainName => plain_name(alloc, octets),
         }
     }
@@ -103,9 +103,9 @@ fn ldap_message(alloc: Global, octets: &[u8]) -> Outcome {
     }
 }
 
-fn name(alloc: Global, octets: &[u8]) -> Outcome {
+fn name(octets: &[u8]) -> Outcome {
     let mut input = Cursor::new(octets);
-    match names_reader::read_name(alloc, &mut input).err() {
+    match der_x509::parts::read_name(&mut input).err() {
         None => Outcome::Read,
         Some(refusal) => Outcome::RefusedAt(refusal.offset),
     }

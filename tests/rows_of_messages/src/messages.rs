@@ -1,7 +1,6 @@
 //! Messages, by the names of their readers: `read`, or the refusal as it is printed.
-use crate::names::{certificate_names, elements, name_text, plain_name};
+use crate::names::{name_text, plain_name};
 use kerberos_reader::read_request;
-use names_reader::read_names;
 use pkcs8_reader::{read_private_key, read_rsa_private_key};
 use snmp_reader::read_message;
 use std::alloc::Global;
@@ -16,11 +15,8 @@ pub fn message(alloc: Global, call: &str, octets: &[u8]) -> Result<String, Fault
         "kerberos_request" => refusal(alloc, read_request(alloc, octets).err()),
         "snmp_message" => refusal(alloc, read_message(alloc, octets).err()),
         "ldap_message" => refusal(alloc, ldap_reader::read_message(alloc, octets).err()),
-        "certificate_names" => refusal(alloc, read_names(alloc, octets).err()),
         "written_name" => name_text(alloc, octets),
-        "names_of_certificate" => certificate_names(alloc, octets),
         "name" => plain_name(alloc, octets),
-        "name_elements" => elements(alloc, octets),
         _ => Err(Fault::NoSuchCall),
     }
 }

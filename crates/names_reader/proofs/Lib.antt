@@ -1,2 +1,0 @@
-pub mod CertificateLaws
-pub mod NameLaws
