@@ -16,7 +16,7 @@ still_start {F = F} {P = P} e = record { on = λ s. subst (Among F P) (sym e) s;
 
 module _ {V : Type 0} (F : Field V) {P : V → Type 0} {v : V} {left rest : List ℕ} (b : BeginsWith F left v rest) where
   -- it is where octets begin, or further on
-  further : ¬ P v → Among F P left → Among F P rest
+  pub further : ¬ P v → Among F P left → Among F P rest
   further n (here w s p) = absurd (n (subst P (sym (b.only w _ s).0) p))
   further n (later w s p) = subst (Among F P) (sym (b.only w _ s).1) p
 
@@ -26,7 +26,7 @@ module _ {V : Type 0} (F : Field V) {P : V → Type 0} {v : V} {left rest : List
   pub found_here : {i : List ℕ} → IsStill F P i left → P v → IsTrue true ↔ Among F P i
   found_here t p = (λ h. t.back (here v b.found p), λ h. refl)
 
-nowhere : {V : Type 0} {F : Field V} {P : V → Type 0} {left : List ℕ} → BeginsWithNone F left → Among F P left → ⊥
+pub nowhere : {V : Type 0} {F : Field V} {P : V → Type 0} {left : List ℕ} → BeginsWithNone F left → Among F P left → ⊥
 nowhere n (here w s p) = n w _ s
 nowhere n (later w s p) = n w _ s
 

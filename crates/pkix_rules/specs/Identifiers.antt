@@ -1,4 +1,4 @@
--- The extensions of RFC 5280, and the content octets of their identifiers (A.2).
+-- The extensions that rules are about, and the content octets of their identifiers (RFC 5280 A.2).
 use Rattle.std.specs.Prelude.{ℕ, List, [], ◌∷◌}
 use Rattle.pkix_rules.specs.declared.known.KnownExtension.{KnownExtension}
 use Rattle.pkix_rules.specs.declared.known.KnownExtension.TheVariants as known
@@ -10,6 +10,14 @@ id_ce n = 85 ∷ 29 ∷ n ∷ []
 -- id-pe OBJECT IDENTIFIER ::= { id-pkix 1 }, where id-pkix is 1.3.6.1.5.5.7
 abbrev pub id_pe : ℕ → List ℕ
 id_pe n = 43 ∷ 6 ∷ 1 ∷ 5 ∷ 5 ∷ 7 ∷ 1 ∷ n ∷ []
+
+-- id-pkix-ocsp-nocheck OBJECT IDENTIFIER ::= { id-pkix-ocsp 5 }, where id-pkix-ocsp is 1.3.6.1.5.5.7.48.1 (RFC 6960)
+abbrev pub ocsp_nocheck : List ℕ
+ocsp_nocheck = 43 ∷ 6 ∷ 1 ∷ 5 ∷ 5 ∷ 7 ∷ 48 ∷ 1 ∷ 5 ∷ []
+
+-- 1.3.6.1.4.1.11129.2.4.n (RFC 6962 3.1, 3.3)
+abbrev pub transparency : ℕ → List ℕ
+transparency n = 43 ∷ 6 ∷ 1 ∷ 4 ∷ 1 ∷ 214 ∷ 121 ∷ 2 ∷ 4 ∷ n ∷ []
 
 abbrev pub octets_of : KnownExtension → List ℕ
 octets_of known.AuthorityKeyIdentifier = id_ce 35
@@ -35,3 +43,8 @@ octets_of known.IssuingDistributionPoint = id_ce 28
 octets_of known.ReasonCode = id_ce 21
 octets_of known.InvalidityDate = id_ce 24
 octets_of known.CertificateIssuer = id_ce 29
+octets_of known.QcStatements = id_pe 3
+octets_of known.OcspNoCheck = ocsp_nocheck
+octets_of known.PrecertificatePoison = transparency 3
+octets_of known.SignedCertificateTimestamps = transparency 2
+octets_of known.TlsFeature = id_pe 24

@@ -1,12 +1,17 @@
+pub mod Algorithms
 pub mod Attributes
 pub mod Broken
 pub mod Entries
 pub mod Facts
 pub mod Firsts
+pub mod HostNames
 pub mod Identifiers
+pub mod IssuingPoints
 pub mod ListRules
 pub mod Lists
+pub mod Mailboxes
 pub mod Names
+pub mod Notices
 pub mod Points
 pub mod Policies
 pub mod Rules

@@ -1,11 +1,18 @@
 -- What RFC 5280 asks of general names (4.2.1.6).
-use Rattle.std.specs.Prelude.{◌≡◌, ◌≢◌, ℕ, ◌||◌, ◌==◌, Bool, IsTrue, List, [], ◌∷◌, ◌++◌, length}
+use Rattle.std.specs.Prelude.{◌≡◌, ◌≢◌, ℕ, ◌||◌, ◌==◌, nat_le, Bool, false, IsTrue, IsUtf8, List, [], ◌∷◌, ◌++◌, length}
 use Rattle.std.specs.Char.{is_ascii_alphabetic, is_ascii_alphanumeric}
+use Rattle.std.specs.List.{list_any}
+use Rattle.der_base.specs.declared.header.Class.TheVariants.{Universal}
+use Rattle.der_cursor.specs.Elements.{Element}
 use Rattle.der_extensions.specs.GeneralNames.{NameValue, other_name, rfc822_name, dns_name, x400_address}
 use Rattle.der_extensions.specs.GeneralNames.{directory_name, edi_party_name, ip_address, registered_id}
 use Rattle.der_extensions.specs.GeneralNames.{uniform_resource_identifier}
 use Rattle.pkix_rules.specs.declared.names.NameRule.{NameRule}
-use Rattle.pkix_rules.specs.declared.names.NameRule.TheVariants.{NotEmpty, AddressOctets, NotBlank, Scheme}
+use Rattle.pkix_rules.specs.declared.mailbox.LocalCharacters.TheVariants.{Ascii, Utf8}
+use Rattle.pkix_rules.specs.declared.names.NameRule.TheVariants.{NotEmpty, AddressOctets, NotBlank, Scheme, Mailbox}
+use Rattle.pkix_rules.specs.declared.names.NameRule.TheVariants.{InternationalMailbox, PreferredName}
+use Rattle.pkix_rules.specs.HostNames.{IsPreferredName}
+use Rattle.pkix_rules.specs.Mailboxes.{IsMailbox}
 
 -- a text, an address or a distinguished name of no octets
 abbrev pub IsEmptyName : NameValue → Type 0
@@ -52,9 +59,46 @@ abbrev pub IsRelativeName : NameValue → Type 0
 IsRelativeName (uniform_resource_identifier w) = ¬ HasScheme w
 IsRelativeName _ = ⊥
 
+-- an rfc822Name that isn't a mailbox
+abbrev pub IsNoMailbox : NameValue → Type 0
+IsNoMailbox (rfc822_name w) = ¬ IsMailbox Ascii w
+IsNoMailbox _ = ⊥
+
+-- a dNSName that isn't in the preferred name syntax
+abbrev pub IsOtherHost : NameValue → Type 0
+IsOtherHost (dns_name w) = ¬ IsPreferredName w
+IsOtherHost _ = ⊥
+
+-- id-on-SmtpUTF8Mailbox OBJECT IDENTIFIER ::= { id-on 9 }, where id-on is 1.3.6.1.5.5.7.8 (RFC 9598 3)
+abbrev pub smtp_utf8_mailbox : List ℕ
+smtp_utf8_mailbox = 43 ∷ 6 ∷ 1 ∷ 5 ∷ 5 ∷ 7 ∷ 8 ∷ 9 ∷ []
+
+-- the byte order mark in UTF-8
+abbrev pub BeginsWithMark : List ℕ → Type 0
+BeginsWithMark w = (rest : List ℕ) × (w ≡ 0xEF ∷ 0xBB ∷ 0xBF ∷ rest)
+
+-- A mailbox with a character beyond ASCII, without a byte order mark. Its domain is of ASCII, so its local part isn't.
+abbrev pub IsMailboxBeyondAscii : List ℕ → Type 0
+IsMailboxBeyondAscii w = IsMailbox Utf8 w × IsTrue (list_any (λ b. nat_le 0x80 b) w) × (¬ BeginsWithMark w)
+
+abbrev pub IsInternationalText : List ℕ → Type 0
+IsInternationalText w = IsUtf8 w × IsMailboxBeyondAscii w
+
+-- SmtpUTF8Mailbox ::= UTF8String (SIZE (1..MAX))                        (RFC 9598 3)
+abbrev pub IsInternationalMailbox : Element → Type 0
+IsInternationalMailbox e = (e.0 ≡ Universal) × (e.1 ≡ false) × (e.2 ≡ 12) × IsInternationalText e.3
+
+-- an SmtpUTF8Mailbox that isn't so
+abbrev pub IsNoInternationalMailbox : NameValue → Type 0
+IsNoInternationalMailbox (other_name n) = (n.0 ≡ smtp_utf8_mailbox) × (¬ IsInternationalMailbox n.1.0)
+IsNoInternationalMailbox _ = ⊥
+
 -- the name breaks the rule
 abbrev pub BreaksName : NameRule → NameValue → Type 0
 BreaksName NotEmpty n = IsEmptyName n
 BreaksName AddressOctets n = IsOddAddress n
 BreaksName NotBlank n = IsBlankName n
 BreaksName Scheme n = IsRelativeName n
+BreaksName Mailbox n = IsNoMailbox n
+BreaksName PreferredName n = IsOtherHost n
+BreaksName InternationalMailbox n = IsNoInternationalMailbox n

@@ -1,9 +1,12 @@
 -- What RFC 5280 asks of distribution points (4.2.1.13).
-use Rattle.std.specs.Prelude.{◌≡◌, ◌≢◌, ◌⊎◌, None}
+use Rattle.std.specs.Prelude.{◌≡◌, ◌≢◌, ℕ, ◌⊎◌, Option, Some, None, List}
 use Rattle.std.specs.Option.{IsSomeAnd}
 use Rattle.der_extensions.specs.Extensions.{PointNameValue, PointValue, full_name, name_relative_to_issuer}
+use Rattle.der_extensions.specs.GeneralNames.{GeneralName, NameValue, directory_name}
 use Rattle.pkix_rules.specs.declared.points.PointRule.{PointRule}
-use Rattle.pkix_rules.specs.declared.points.PointRule.TheVariants.{Named, FullName, NameAlone}
+use Rattle.pkix_rules.specs.declared.points.PointRule.TheVariants.{Named, FullName, NameAlone, NamedIssuers}
+use Rattle.pkix_rules.specs.declared.points.PointRule.TheVariants.{RelativeToOneIssuer}
+use Rattle.pkix_rules.specs.Lists.{Among, Twice}
 
 -- neither distributionPoint nor cRLIssuer is there
 abbrev pub IsUnnamed : PointValue → Type 0
@@ -25,8 +28,25 @@ HasMoreThanName p = (p.1.0 ≢ None) ⊎ (p.1.1.0 ≢ None)
 abbrev pub IsForAllReasons : PointValue → Type 0
 IsForAllReasons p = p.1.0 ≡ None
 
+-- a directoryName, which is a distinguished name
+abbrev pub IsDistinguished : NameValue → Type 0
+IsDistinguished (directory_name w) = Unit {0}
+IsDistinguished _ = ⊥
+
+-- of the names of cRLIssuer, if it is there, two are
+abbrev pub HasSeveralIssuers : Option (List ℕ) → Type 0
+HasSeveralIssuers None = ⊥
+HasSeveralIssuers (Some w) = Twice GeneralName IsDistinguished w
+
+-- one of them isn't
+abbrev pub HasOtherIssuer : Option (List ℕ) → Type 0
+HasOtherIssuer None = ⊥
+HasOtherIssuer (Some w) = Among GeneralName (λ n. ¬ IsDistinguished n) w
+
 -- the point breaks the rule
 abbrev pub BreaksPoint : PointRule → PointValue → Type 0
 BreaksPoint Named p = IsUnnamed p
 BreaksPoint FullName p = HasRelativeName p
 BreaksPoint NameAlone p = HasMoreThanName p
+BreaksPoint NamedIssuers p = HasOtherIssuer p.1.1.0
+BreaksPoint RelativeToOneIssuer p = HasRelativeName p × HasSeveralIssuers p.1.1.0

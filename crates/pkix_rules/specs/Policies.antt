@@ -1,7 +1,8 @@
--- What RFC 5280 asks of certificate policies (4.2.1.4).
-use Rattle.std.specs.Prelude.{◌≡◌, ◌≢◌, ℕ, ◌<◌, Option, Some, None, List, [], ◌∷◌, length, MatchOption}
+-- What RFC 5280 asks of certificate policies (4.2.1.4) and of policy mappings (4.2.1.5).
+use Rattle.std.specs.Prelude.{◌≡◌, ◌≢◌, ℕ, ◌<◌, ◌⊎◌, Option, Some, None, List, [], ◌∷◌, length, MatchOption}
 use Rattle.der_cursor.specs.Formats.{Required}
 use Rattle.der_extensions.specs.Extensions.{PolicyQualifierInfo, PolicyValue, QualifierValue}
+use Rattle.der_extensions.specs.PolicyExtensions.{MappingValue}
 use Rattle.der_x509.specs.Formats.{Fault, Format, spells, with_octets}
 use Rattle.der_x509.specs.Lists.{BeginsWithNone}
 use Rattle.pkix_rules.specs.declared.repetition.FirstItem.{FirstItem}
@@ -37,3 +38,7 @@ HasOtherQualifier (Some w) = Among (Required PolicyQualifierInfo) IsOtherQualifi
 -- anyPolicy with such a qualifier
 abbrev pub IsAnyWithOther : PolicyValue → Type 0
 IsAnyWithOther v = (v.0 ≡ any_policy) × HasOtherQualifier v.1.0
+
+-- anyPolicy is mapped, or mapped to
+abbrev pub HasAnyPolicy : MappingValue → Type 0
+HasAnyPolicy v = (v.0 ≡ any_policy) ⊎ (v.1.0 ≡ any_policy)

@@ -2,11 +2,14 @@
 use Rattle.std.specs.Prelude.{ℕ, List}
 use Rattle.der_base.specs.declared.rules.Rules.TheVariants.{Der}
 use Rattle.crl_reader.specs.Reasons.{CRLReason}
-use Rattle.der_cursor.specs.Formats.{Format, GeneralizedTime, Integer, OctetString, Only, Required}
+use Rattle.der_cursor.specs.Formats.{Format, GeneralizedTime, Integer, Null, OctetString, Only, Required}
 use Rattle.der_extensions.specs.Extensions.{AuthorityInfoAccessSyntax, AuthorityKeyIdentifier, BasicConstraints}
 use Rattle.der_extensions.specs.Extensions.{CRLDistributionPoints, CertificatePolicies, ExtKeyUsageSyntax, KeyUsage}
 use Rattle.der_extensions.specs.Extensions.{NameConstraints}
 use Rattle.der_extensions.specs.GeneralNames.{GeneralNames}
+use Rattle.der_extensions.specs.PolicyExtensions.{PolicyConstraints, PolicyMappings, SubjectDirectoryAttributes}
+use Rattle.der_extensions.specs.Revocation.{IssuingDistributionPoint}
+use Rattle.der_extensions.specs.WebExtensions.{Features, QCStatements, Timestamps}
 use Rattle.pkix_rules.specs.declared.types.ValueType.{ValueType}
 use Rattle.pkix_rules.specs.declared.types.ValueType.TheVariants as kind
 
@@ -28,3 +31,12 @@ IsOfType kind.Descriptions w = IsValueOf AuthorityInfoAccessSyntax w
 IsOfType kind.Number w = IsValueOf Integer w
 IsOfType kind.Reason w = IsValueOf CRLReason w
 IsOfType kind.Date w = IsValueOf GeneralizedTime w
+IsOfType kind.Mappings w = IsValueOf PolicyMappings w
+IsOfType kind.DirectoryAttributes w = IsValueOf SubjectDirectoryAttributes w
+IsOfType kind.PolicyConstraints w = IsValueOf PolicyConstraints w
+IsOfType kind.IssuingPoint w = IsValueOf IssuingDistributionPoint w
+IsOfType kind.Statements w = IsValueOf QCStatements w
+IsOfType kind.NoCheck w = IsValueOf Null w
+IsOfType kind.Poison w = IsValueOf Null w
+IsOfType kind.Timestamps w = IsValueOf Timestamps w
+IsOfType kind.Features w = IsValueOf Features w

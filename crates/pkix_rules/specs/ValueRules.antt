@@ -8,16 +8,21 @@ use Rattle.der_extensions.specs.Extensions.{AccessDescription, AccessValue, Auth
 use Rattle.der_extensions.specs.Extensions.{AuthorityKeyIdentifier, AuthorityValue, CRLDistributionPoints}
 use Rattle.der_extensions.specs.Extensions.{CertificatePolicies, DistributionPoint, NameConstraints, PolicyInformation}
 use Rattle.der_extensions.specs.GeneralNames.{GeneralName, GeneralNames}
+use Rattle.der_extensions.specs.PolicyExtensions.{PolicyMapping, PolicyMappings}
+use Rattle.der_extensions.specs.Revocation.{IssuingDistributionPoint}
 use Rattle.der_x509.specs.Rules.{HasRepetition}
 use Rattle.pkix_rules.specs.declared.value_rules.ValueRule.{ValueRule}
 use Rattle.pkix_rules.specs.declared.value_rules.ValueRule.TheVariants.{OfType, IssuerAndSerial, Names, NotEmpty}
 use Rattle.pkix_rules.specs.declared.value_rules.ValueRule.TheVariants.{AnyPolicyQualifiers, DistinctPolicies, Subtrees}
 use Rattle.pkix_rules.specs.declared.value_rules.ValueRule.TheVariants.{CaIssuers, Points, PointForAllReasons}
 use Rattle.pkix_rules.specs.declared.value_rules.ValueRule.TheVariants.{ShortNumber, NaturalNumber, WholeSeconds}
-use Rattle.pkix_rules.specs.declared.value_rules.ValueRule.TheVariants.{SpecifiedReason}
+use Rattle.pkix_rules.specs.declared.value_rules.ValueRule.TheVariants.{SpecifiedReason, UnmappedAnyPolicy}
+use Rattle.pkix_rules.specs.declared.value_rules.ValueRule.TheVariants.{IssuingPoint, Qualifiers}
+use Rattle.pkix_rules.specs.IssuingPoints.{BreaksIssuingPoint}
 use Rattle.pkix_rules.specs.Lists.{Among}
 use Rattle.pkix_rules.specs.Names.{BreaksName}
-use Rattle.pkix_rules.specs.Policies.{IsAnyWithOther}
+use Rattle.pkix_rules.specs.Notices.{IsBadlyQualified}
+use Rattle.pkix_rules.specs.Policies.{HasAnyPolicy, IsAnyWithOther}
 use Rattle.pkix_rules.specs.Points.{BreaksPoint, IsForAllReasons}
 use Rattle.pkix_rules.specs.Subtrees.{HasBrokenSubtree}
 use Rattle.pkix_rules.specs.Types.{IsOfType}
@@ -46,12 +51,16 @@ BreaksValue IssuerAndSerial w = Says AuthorityKeyIdentifier IsHalf w
 BreaksValue DistinctPolicies w = Says CertificatePolicies (λ v. HasRepetition v) w
 BreaksValue AnyPolicyQualifiers w =
     Says CertificatePolicies (λ v. Among (Required PolicyInformation) IsAnyWithOther v) w
+BreaksValue (Qualifiers r) w =
+    Says CertificatePolicies (λ v. Among (Required PolicyInformation) (IsBadlyQualified r) v) w
+BreaksValue UnmappedAnyPolicy w = Says PolicyMappings (λ v. Among (Required PolicyMapping) HasAnyPolicy v) w
 BreaksValue (Names r) w = Says GeneralNames (λ v. Among GeneralName (BreaksName r) v) w
 BreaksValue NotEmpty w = w ≡ empty_sequence
 BreaksValue (Subtrees r) w = Says NameConstraints (HasBrokenSubtree r) w
 BreaksValue (Points r) w = Says CRLDistributionPoints (λ v. Among (Required DistributionPoint) (BreaksPoint r) v) w
 BreaksValue PointForAllReasons w =
     Says CRLDistributionPoints (λ v. ¬ Among (Required DistributionPoint) IsForAllReasons v) w
+BreaksValue (IssuingPoint r) w = Says IssuingDistributionPoint (BreaksIssuingPoint r) w
 BreaksValue CaIssuers w = Says AuthorityInfoAccessSyntax (λ v. Among (Required AccessDescription) IsOtherMethod v) w
 BreaksValue ShortNumber w = Says Integer (λ v. 20 < length v) w
 BreaksValue NaturalNumber w = Says Integer (λ v. integer_value v <ℤ pos 0) w

@@ -238,7 +238,7 @@ fn fits_kind(kind: AttributeKind, count: usize) -> bool
 }
 
 /// Returns how many characters the octets of a string are.
-fn count_characters(tag: Tag, octets: &[u8]) -> usize
+pub(crate) fn count_characters(tag: Tag, octets: &[u8]) -> usize
     ensures { result ≡ character_count tag.0 octets.now }
 {
     match tag.0 {

@@ -4,10 +4,12 @@ ghost use Rattle.der_x509.specs.Certificates.{Signed, certificate_of};
 ghost use Rattle.pkix_rules.specs.Facts.{IsAuthority};
 ghost use Rattle.pkix_rules.specs.Rules.{Breaks};
 
+use crate::algorithms::{AlgorithmRule, breaks_algorithm};
 use crate::attributes::{AttributeKind, breaks_attribute};
 use crate::facts::{Fact, has};
 use crate::known::KnownExtension;
 use crate::names::NameRule;
+use crate::notices::{NoticeRule, QualifierRule};
 use crate::points::PointRule;
 use crate::subtrees::SubtreeRule;
 use crate::types::ValueType;
@@ -20,6 +22,8 @@ use der_x509::{Certificate, Rule as FieldRule};
 pub enum Rule {
     /// A rule of the fields, which `der_x509` asks.
     Fields(FieldRule),
+    /// The algorithms of the signature and of the key have the parameters that they are to have.
+    Algorithm(AlgorithmRule),
     /// The attributes of the issuer and the subject that are of the kind have values of its type (A.1).
     Attribute(AttributeKind),
     /// The extension is critical, if it is there.
@@ -35,6 +39,11 @@ pub enum Rule {
 /// The rules that RFC 5280 says by MUST or MUST NOT, in the order of its sections.
 pub const MUST_RULES: &[Rule] = &[
     Rule::Fields(FieldRule::SameAlgorithms),
+    Rule::Algorithm(AlgorithmRule::NullOfRsa),
+    Rule::Algorithm(AlgorithmRule::NoneOfSignature),
+    Rule::Algorithm(AlgorithmRule::NoneOfEdwards),
+    Rule::Algorithm(AlgorithmRule::NamedCurve),
+    Rule::Algorithm(AlgorithmRule::SomeOfPss),
     Rule::Fields(FieldRule::PositiveSerialNumber),
     Rule::Fields(FieldRule::ShortSerialNumber),
     Rule::Fields(FieldRule::NamedIssuer),
@@ -122,6 +131,18 @@ pub const MUST_RULES: &[Rule] = &[
         KnownExtension::SubjectInfoAccess,
         ValueRule::OfType(ValueType::Descriptions),
     ),
+    Rule::Value(
+        KnownExtension::PolicyMappings,
+        ValueRule::OfType(ValueType::Mappings),
+    ),
+    Rule::Value(
+        KnownExtension::SubjectDirectoryAttributes,
+        ValueRule::OfType(ValueType::DirectoryAttributes),
+    ),
+    Rule::Value(
+        KnownExtension::PolicyConstraints,
+        ValueRule::OfType(ValueType::PolicyConstraints),
+    ),
     Rule::Whole(WholeRule::KeyIdentifierOfIssuer),
     Rule::NotCritical(KnownExtension::AuthorityKeyIdentifier),
     Rule::Value(
@@ -141,6 +162,23 @@ pub const MUST_RULES: &[Rule] = &[
         ValueRule::AnyPolicyQualifiers,
     ),
     Rule::Value(
+        KnownExtension::CertificatePolicies,
+        ValueRule::Qualifiers(QualifierRule::PointerOfType),
+    ),
+    Rule::Value(
+        KnownExtension::CertificatePolicies,
+        ValueRule::Qualifiers(QualifierRule::NoticeOfType),
+    ),
+    Rule::Value(
+        KnownExtension::CertificatePolicies,
+        ValueRule::Qualifiers(QualifierRule::Notice(NoticeRule::TextSize)),
+    ),
+    Rule::Value(
+        KnownExtension::CertificatePolicies,
+        ValueRule::Qualifiers(QualifierRule::Notice(NoticeRule::NoIa5Text)),
+    ),
+    Rule::Value(KnownExtension::PolicyMappings, ValueRule::UnmappedAnyPolicy),
+    Rule::Value(
         KnownExtension::SubjectAltName,
         ValueRule::Names(NameRule::NotEmpty),
     ),
@@ -157,6 +195,18 @@ pub const MUST_RULES: &[Rule] = &[
         ValueRule::Names(NameRule::Scheme),
     ),
     Rule::Value(
+        KnownExtension::SubjectAltName,
+        ValueRule::Names(NameRule::Mailbox),
+    ),
+    Rule::Value(
+        KnownExtension::SubjectAltName,
+        ValueRule::Names(NameRule::PreferredName),
+    ),
+    Rule::Value(
+        KnownExtension::SubjectAltName,
+        ValueRule::Names(NameRule::InternationalMailbox),
+    ),
+    Rule::Value(
         KnownExtension::IssuerAltName,
         ValueRule::Names(NameRule::NotEmpty),
     ),
@@ -171,6 +221,18 @@ pub const MUST_RULES: &[Rule] = &[
     Rule::Value(
         KnownExtension::IssuerAltName,
         ValueRule::Names(NameRule::Scheme),
+    ),
+    Rule::Value(
+        KnownExtension::IssuerAltName,
+        ValueRule::Names(NameRule::Mailbox),
+    ),
+    Rule::Value(
+        KnownExtension::IssuerAltName,
+        ValueRule::Names(NameRule::PreferredName),
+    ),
+    Rule::Value(
+        KnownExtension::IssuerAltName,
+        ValueRule::Names(NameRule::InternationalMailbox),
     ),
     Rule::NotCritical(KnownExtension::SubjectDirectoryAttributes),
     Rule::Whole(WholeRule::CriticalConstraints),
@@ -195,6 +257,14 @@ pub const MUST_RULES: &[Rule] = &[
     ),
     Rule::Value(
         KnownExtension::CrlDistributionPoints,
+        ValueRule::Points(PointRule::NamedIssuers),
+    ),
+    Rule::Value(
+        KnownExtension::CrlDistributionPoints,
+        ValueRule::Points(PointRule::RelativeToOneIssuer),
+    ),
+    Rule::Value(
+        KnownExtension::CrlDistributionPoints,
         ValueRule::PointForAllReasons,
     ),
     Rule::Critical(KnownExtension::InhibitAnyPolicy),
@@ -204,14 +274,51 @@ pub const MUST_RULES: &[Rule] = &[
         KnownExtension::FreshestCrl,
         ValueRule::Points(PointRule::Named),
     ),
+    Rule::Value(
+        KnownExtension::FreshestCrl,
+        ValueRule::Points(PointRule::NamedIssuers),
+    ),
+    Rule::Value(
+        KnownExtension::FreshestCrl,
+        ValueRule::Points(PointRule::RelativeToOneIssuer),
+    ),
     Rule::NotCritical(KnownExtension::AuthorityInfoAccess),
     Rule::NotCritical(KnownExtension::SubjectInfoAccess),
+    Rule::Value(
+        KnownExtension::QcStatements,
+        ValueRule::OfType(ValueType::Statements),
+    ),
+    Rule::Value(
+        KnownExtension::OcspNoCheck,
+        ValueRule::OfType(ValueType::NoCheck),
+    ),
+    Rule::Value(
+        KnownExtension::PrecertificatePoison,
+        ValueRule::OfType(ValueType::Poison),
+    ),
+    Rule::Value(
+        KnownExtension::SignedCertificateTimestamps,
+        ValueRule::OfType(ValueType::Timestamps),
+    ),
+    Rule::Value(
+        KnownExtension::TlsFeature,
+        ValueRule::OfType(ValueType::Features),
+    ),
+    Rule::Critical(KnownExtension::PrecertificatePoison),
 ];
 
 /// Those that it says by SHOULD or SHOULD NOT.
 pub const SHOULD_RULES: &[Rule] = &[
     Rule::Whole(WholeRule::KeyIdentifierOfEndEntity),
     Rule::Critical(KnownExtension::KeyUsage),
+    Rule::Value(
+        KnownExtension::CertificatePolicies,
+        ValueRule::Qualifiers(QualifierRule::Notice(NoticeRule::Utf8Text)),
+    ),
+    Rule::Value(
+        KnownExtension::CertificatePolicies,
+        ValueRule::Qualifiers(QualifierRule::Notice(NoticeRule::NoReference)),
+    ),
     Rule::Critical(KnownExtension::PolicyMappings),
     Rule::Whole(WholeRule::AltNameNotCritical),
     Rule::NotCritical(KnownExtension::IssuerAltName),
@@ -229,6 +336,7 @@ pub const SHOULD_RULES: &[Rule] = &[
         KnownExtension::FreshestCrl,
         ValueRule::Points(PointRule::FullName),
     ),
+    Rule::NotCritical(KnownExtension::OcspNoCheck),
 ];
 
 impl Rule {
@@ -249,6 +357,7 @@ pub fn breaks(rule: Rule, certificate: &Certificate<'_>) -> bool
 {
     match rule {
         Rule::Fields(rule) => certificate.breaks(rule),
+        Rule::Algorithm(rule) => breaks_algorithm(rule, certificate),
         Rule::Attribute(kind) => breaks_attribute(kind, certificate),
         Rule::Critical(known) => has(certificate, known, Fact::NotCritical),
         Rule::NotCritical(known) => has(certificate, known, Fact::Critical),

@@ -1,10 +1,13 @@
 //! The texts of rules: what is wrong where one is broken, and the section of RFC 5280.
+use crate::algorithms::AlgorithmRule;
 use crate::attributes::AttributeKind;
 use crate::certificate::Rule;
 use crate::entries::EntryRule;
 use crate::facts::Fact;
+use crate::issuing_point::IssuingPointRule;
 use crate::known::KnownExtension;
 use crate::names::NameRule;
+use crate::notices::{NoticeRule, QualifierRule};
 use crate::points::PointRule;
 use crate::revoked::ListRule;
 use crate::subtrees::SubtreeRule;
@@ -19,6 +22,7 @@ impl fmt::Display for Rule {
     fn fmt<W: fmt::Write>(&self, f: &mut fmt::Formatter<W>) -> fmt::Result {
         match self {
             Rule::Fields(rule) => f.write_str(field_text(*rule)),
+            Rule::Algorithm(rule) => f.write_str(algorithm_text(*rule)),
             Rule::Attribute(kind) => {
                 write!(
                     f,
@@ -26,15 +30,27 @@ impl fmt::Display for Rule {
                     attribute_name(*kind)
                 )
             }
-            Rule::Critical(known) => {
-                write!(f, "{known} isn't critical (RFC 5280 {})", section(*known))
-            }
-            Rule::NotCritical(known) => {
-                write!(f, "{known} is critical (RFC 5280 {})", section(*known))
-            }
+            Rule::Critical(known) => { write!(f, "{known} isn't critical ({})", section(*known)) }
+            Rule::NotCritical(known) => { write!(f, "{known} is critical ({})", section(*known)) }
             Rule::Value(known, rule) => write!(f, "{known}: {}", value_text(*rule)),
             Rule::Whole(rule) => f.write_str(whole_text(*rule)),
         }
+    }
+}
+
+/// What is wrong where the rule is broken.
+fn algorithm_text(rule: AlgorithmRule) -> &'static str {
+    match rule {
+        AlgorithmRule::NullOfRsa =>
+            "the parameters of RSA aren't NULL (RFC 3279 2.2.1, RFC 4055 5)",
+        AlgorithmRule::NoneOfSignature => {
+            "a signature of DSA or ECDSA has parameters (RFC 3279 2.2, RFC 5758 3)"
+        }
+        AlgorithmRule::NoneOfEdwards => {
+            "X25519, X448, Ed25519 or Ed448 has parameters (RFC 8410 3)"
+        }
+        AlgorithmRule::NamedCurve => "the key's curve has no name (RFC 5480 2.1.1)",
+        AlgorithmRule::SomeOfPss => "a signature of RSASSA-PSS has no parameters (RFC 4055 3.1)",
     }
 }
 
@@ -43,14 +59,10 @@ impl fmt::Display for ListRule {
     fn fmt<W: fmt::Write>(&self, f: &mut fmt::Formatter<W>) -> fmt::Result {
         match self {
             ListRule::Critical(known) => {
-                write!(
-                    f,
-                    "{known} isn't critical (RFC 5280 {})",
-                    list_section(*known)
-                )
+                write!(f, "{known} isn't critical ({})", list_section(*known))
             }
             ListRule::NotCritical(known) => {
-                write!(f, "{known} is critical (RFC 5280 {})", list_section(*known))
+                write!(f, "{known} is critical ({})", list_section(*known))
             }
             ListRule::Value(known, rule) => write!(f, "{known}: {}", value_text(*rule)),
             ListRule::Entry(rule) => write!(f, "an entry: {rule}"),
@@ -75,9 +87,10 @@ impl fmt::Display for EntryRule {
             EntryRule::WholeSeconds => {
                 f.write_str("its date has a fraction of a second (RFC 5280 5.1.2.6)")
             }
-            EntryRule::Without(known, fact) => {
-                write!(f, "{known} {fact} (RFC 5280 {})", section(*known))
+            EntryRule::DistinctExtensions => {
+                f.write_str("an extension of it comes twice (RFC 5280 5.3, 4.2)")
             }
+            EntryRule::Without(known, fact) => { write!(f, "{known} {fact} ({})", section(*known)) }
         }
     }
 }
@@ -95,7 +108,7 @@ impl fmt::Display for Fact {
     }
 }
 
-/// The name that the ASN.1 of RFC 5280 gives the extension.
+/// The name that the ASN.1 of RFC 5280 gives the extension, or the one that its own document gives it.
 impl fmt::Display for KnownExtension {
     fn fmt<W: fmt::Write>(&self, f: &mut fmt::Formatter<W>) -> fmt::Result {
         f.write_str(match self {
@@ -122,46 +135,57 @@ impl fmt::Display for KnownExtension {
             KnownExtension::ReasonCode => "reasonCode",
             KnownExtension::InvalidityDate => "invalidityDate",
             KnownExtension::CertificateIssuer => "certificateIssuer",
+            KnownExtension::QcStatements => "qcStatements",
+            KnownExtension::OcspNoCheck => "OCSP no-check",
+            KnownExtension::PrecertificatePoison => "the poison of a precertificate",
+            KnownExtension::SignedCertificateTimestamps =>
+                "the list of signed certificate timestamps",
+            KnownExtension::TlsFeature => "TLS feature",
         })
     }
 }
 
-/// The section of RFC 5280 that the extension is in.
+/// The document and the section that the extension is in.
 fn section(known: KnownExtension) -> &'static str {
     match known {
-        KnownExtension::AuthorityKeyIdentifier => "4.2.1.1",
-        KnownExtension::SubjectKeyIdentifier => "4.2.1.2",
-        KnownExtension::KeyUsage => "4.2.1.3",
-        KnownExtension::CertificatePolicies => "4.2.1.4",
-        KnownExtension::PolicyMappings => "4.2.1.5",
-        KnownExtension::SubjectAltName => "4.2.1.6",
-        KnownExtension::IssuerAltName => "4.2.1.7",
-        KnownExtension::SubjectDirectoryAttributes => "4.2.1.8",
-        KnownExtension::BasicConstraints => "4.2.1.9",
-        KnownExtension::NameConstraints => "4.2.1.10",
-        KnownExtension::PolicyConstraints => "4.2.1.11",
-        KnownExtension::ExtendedKeyUsage => "4.2.1.12",
-        KnownExtension::CrlDistributionPoints => "4.2.1.13",
-        KnownExtension::InhibitAnyPolicy => "4.2.1.14",
-        KnownExtension::FreshestCrl => "4.2.1.15",
-        KnownExtension::AuthorityInfoAccess => "4.2.2.1",
-        KnownExtension::SubjectInfoAccess => "4.2.2.2",
-        KnownExtension::CrlNumber => "5.2.3",
-        KnownExtension::DeltaCrlIndicator => "5.2.4",
-        KnownExtension::IssuingDistributionPoint => "5.2.5",
-        KnownExtension::ReasonCode => "5.3.1",
-        KnownExtension::InvalidityDate => "5.3.2",
-        KnownExtension::CertificateIssuer => "5.3.3",
+        KnownExtension::AuthorityKeyIdentifier => "RFC 5280 4.2.1.1",
+        KnownExtension::SubjectKeyIdentifier => "RFC 5280 4.2.1.2",
+        KnownExtension::KeyUsage => "RFC 5280 4.2.1.3",
+        KnownExtension::CertificatePolicies => "RFC 5280 4.2.1.4",
+        KnownExtension::PolicyMappings => "RFC 5280 4.2.1.5",
+        KnownExtension::SubjectAltName => "RFC 5280 4.2.1.6",
+        KnownExtension::IssuerAltName => "RFC 5280 4.2.1.7",
+        KnownExtension::SubjectDirectoryAttributes => "RFC 5280 4.2.1.8",
+        KnownExtension::BasicConstraints => "RFC 5280 4.2.1.9",
+        KnownExtension::NameConstraints => "RFC 5280 4.2.1.10",
+        KnownExtension::PolicyConstraints => "RFC 5280 4.2.1.11",
+        KnownExtension::ExtendedKeyUsage => "RFC 5280 4.2.1.12",
+        KnownExtension::CrlDistributionPoints => "RFC 5280 4.2.1.13",
+        KnownExtension::InhibitAnyPolicy => "RFC 5280 4.2.1.14",
+        KnownExtension::FreshestCrl => "RFC 5280 4.2.1.15",
+        KnownExtension::AuthorityInfoAccess => "RFC 5280 4.2.2.1",
+        KnownExtension::SubjectInfoAccess => "RFC 5280 4.2.2.2",
+        KnownExtension::CrlNumber => "RFC 5280 5.2.3",
+        KnownExtension::DeltaCrlIndicator => "RFC 5280 5.2.4",
+        KnownExtension::IssuingDistributionPoint => "RFC 5280 5.2.5",
+        KnownExtension::ReasonCode => "RFC 5280 5.3.1",
+        KnownExtension::InvalidityDate => "RFC 5280 5.3.2",
+        KnownExtension::CertificateIssuer => "RFC 5280 5.3.3",
+        KnownExtension::QcStatements => "RFC 3739 3.2.6",
+        KnownExtension::OcspNoCheck => "RFC 6960 4.2.2.2.1",
+        KnownExtension::PrecertificatePoison => "RFC 6962 3.1",
+        KnownExtension::SignedCertificateTimestamps => "RFC 6962 3.3",
+        KnownExtension::TlsFeature => "RFC 7633 4",
     }
 }
 
 /// The same of an extension of a list of revoked certificates.
 fn list_section(known: KnownExtension) -> &'static str {
     match known {
-        KnownExtension::AuthorityKeyIdentifier => "5.2.1",
-        KnownExtension::IssuerAltName => "5.2.2",
-        KnownExtension::FreshestCrl => "5.2.6",
-        KnownExtension::AuthorityInfoAccess => "5.2.7",
+        KnownExtension::AuthorityKeyIdentifier => "RFC 5280 5.2.1",
+        KnownExtension::IssuerAltName => "RFC 5280 5.2.2",
+        KnownExtension::FreshestCrl => "RFC 5280 5.2.6",
+        KnownExtension::AuthorityInfoAccess => "RFC 5280 5.2.7",
         _ => section(known),
     }
 }
@@ -215,16 +239,37 @@ fn value_text(rule: ValueRule) -> &'static str {
         ValueRule::IssuerAndSerial => "an issuer or a serial number alone (RFC 5280 4.2.1.1)",
         ValueRule::DistinctPolicies => "a policy comes twice (RFC 5280 4.2.1.4)",
         ValueRule::AnyPolicyQualifiers => "another qualifier of anyPolicy (RFC 5280 4.2.1.4)",
+        ValueRule::Qualifiers(rule) => qualifier_text(rule),
+        ValueRule::UnmappedAnyPolicy => "anyPolicy is in a mapping (RFC 5280 4.2.1.5)",
         ValueRule::Names(rule) => name_text(rule),
         ValueRule::NotEmpty => "it is an empty sequence (RFC 5280 4.2.1.10, 4.2.1.11, 5.2.5)",
         ValueRule::Subtrees(rule) => subtree_text(rule),
         ValueRule::Points(rule) => point_text(rule),
         ValueRule::PointForAllReasons => "no point is for all reasons (RFC 5280 4.2.1.13)",
+        ValueRule::IssuingPoint(rule) => issuing_point_text(rule),
         ValueRule::CaIssuers => "a method isn't id-ad-caIssuers (RFC 5280 5.2.7)",
         ValueRule::ShortNumber => "the number has more than 20 octets (RFC 5280 5.2.3)",
         ValueRule::NaturalNumber => "the number is negative (RFC 5280 4.2.1.14, 5.2.3, 5.2.4)",
         ValueRule::WholeSeconds => "the date has a fraction of a second (RFC 5280 5.3.2)",
         ValueRule::SpecifiedReason => "the reason is unspecified (RFC 5280 5.3.1)",
+    }
+}
+
+fn qualifier_text(rule: QualifierRule) -> &'static str {
+    match rule {
+        QualifierRule::PointerOfType => "a CPS pointer isn't an IA5String (RFC 5280 4.2.1.4)",
+        QualifierRule::NoticeOfType => "a user notice isn't of its type (RFC 5280 4.2.1.4)",
+        QualifierRule::Notice(rule) => notice_text(rule),
+    }
+}
+
+fn notice_text(rule: NoticeRule) -> &'static str {
+    match rule {
+        NoticeRule::TextSize =>
+            "a text of a user notice hasn't 1 to 200 characters (RFC 5280 4.2.1.4)",
+        NoticeRule::NoIa5Text => "an explicitText is an IA5String (RFC 6818 3)",
+        NoticeRule::Utf8Text => "an explicitText isn't a UTF8String (RFC 6818 3)",
+        NoticeRule::NoReference => "a user notice has a noticeRef (RFC 5280 4.2.1.4)",
     }
 }
 
@@ -234,6 +279,11 @@ fn name_text(rule: NameRule) -> &'static str {
         NameRule::AddressOctets => "an address hasn't 4 or 16 octets (RFC 5280 4.2.1.6)",
         NameRule::NotBlank => "a dNSName is a space (RFC 5280 4.2.1.6)",
         NameRule::Scheme => "a resource identifier has no scheme (RFC 5280 4.2.1.6)",
+        NameRule::Mailbox => "an rfc822Name is no mailbox (RFC 5280 4.2.1.6)",
+        NameRule::PreferredName =>
+            "a dNSName isn't in the preferred name syntax (RFC 5280 4.2.1.6)",
+        NameRule::InternationalMailbox =>
+            "an SmtpUTF8Mailbox is no mailbox beyond ASCII (RFC 9598 3)",
     }
 }
 
@@ -250,6 +300,17 @@ fn point_text(rule: PointRule) -> &'static str {
         PointRule::Named => "a point has neither a name nor an issuer (RFC 5280 4.2.1.13)",
         PointRule::FullName => "the name of a point is relative (RFC 5280 4.2.1.13)",
         PointRule::NameAlone => "a point has reasons or an issuer (RFC 5280 5.2.6)",
+        PointRule::NamedIssuers => "a cRLIssuer isn't a directoryName (RFC 5280 4.2.1.13)",
+        PointRule::RelativeToOneIssuer =>
+            "a name is relative to more than one cRLIssuer (RFC 5280 4.2.1.13)",
+    }
+}
+
+fn issuing_point_text(rule: IssuingPointRule) -> &'static str {
+    match rule {
+        IssuingPointRule::OneKind => "it contains only certificates of two kinds (RFC 5280 5.2.5)",
+        IssuingPointRule::NoAttributeCertificates =>
+            "it contains only attribute certificates (RFC 5280 5.2.5)",
     }
 }
 
@@ -293,6 +354,7 @@ fn whole_list_text(rule: WholeListRule) -> &'static str {
             "a date before 2050 is a GeneralizedTime (RFC 5280 5.1.2.4)",
         WholeListRule::WholeSeconds => "a date has a fraction of a second (RFC 5280 5.1.2.4)",
         WholeListRule::NextUpdate => "there is no nextUpdate (RFC 5280 5.1.2.5)",
+        WholeListRule::DistinctExtensions => "an extension comes twice (RFC 5280 5.2, 4.2)",
         WholeListRule::SomeEntries => "revokedCertificates is empty (RFC 5280 5.1.2.6)",
         WholeListRule::KeyIdentifierOfIssuer => {
             "no authorityKeyIdentifier has a keyIdentifier (RFC 5280 5.2.1)"

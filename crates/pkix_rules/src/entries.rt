@@ -8,6 +8,7 @@ ghost use Rattle.pkix_rules.specs.Entries.{BreaksEntry, SomeEntry};
 use crate::facts::{Fact, shows};
 use crate::fields::{has_fraction, is_early, is_positive};
 use crate::known::KnownExtension;
+use crate::repetition::has_repetition;
 use crl_reader::{RevokedCertificate, RevokedCertificates};
 
 /// A rule of RFC 5280 about an entry of a list of revoked certificates.
@@ -21,6 +22,8 @@ pub enum EntryRule {
     UtcTimeTo2049,
     /// A date has no fraction of a second (5.1.2.6, 4.1.2.5.2, MUST NOT).
     WholeSeconds,
+    /// No extension of the entry comes twice (5.3, 4.2, MUST NOT).
+    DistinctExtensions,
     /// No extension of the entry shows the fact.
     Without(KnownExtension, Fact),
 }
@@ -60,6 +63,7 @@ fn breaks_entry(rule: EntryRule, entry: &RevokedCertificate<'_>) -> bool
         EntryRule::ShortSerialNumber => entry.user_certificate.len() > LONGEST_SERIAL_NUMBER,
         EntryRule::UtcTimeTo2049 => is_early(entry.revocation_date),
         EntryRule::WholeSeconds => has_fraction(entry.revocation_date),
+        EntryRule::DistinctExtensions => has_repetition(entry.crl_entry_extensions.octets),
         EntryRule::Without(known, fact) => shows(entry.crl_entry_extensions, known, fact),
     }
 }

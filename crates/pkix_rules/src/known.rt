@@ -1,8 +1,9 @@
-//! The extensions of RFC 5280 (4.2, 5.2 and 5.3).
+//! The extensions of RFC 5280 (4.2, 5.2 and 5.3), and others whose documents have rules that octets show.
 ghost use Rattle.std.specs.Prelude.{◌≡◌};
 ghost use Rattle.pkix_rules.specs.Identifiers.{octets_of};
 
-/// An extension of RFC 5280, of a certificate, of a list of revoked certificates or of an entry of one.
+/// An extension of a certificate, of a list of revoked certificates or of an entry of one. The section is one of
+/// RFC 5280 where it names no other document.
 #[derive(Clone, Copy, Debug, PartialEq)]
 pub enum KnownExtension {
     /// 4.2.1.1.
@@ -51,10 +52,20 @@ pub enum KnownExtension {
     InvalidityDate,
     /// 5.3.3.
     CertificateIssuer,
+    /// RFC 3739 3.2.6.
+    QcStatements,
+    /// RFC 6960 4.2.2.2.1.
+    OcspNoCheck,
+    /// RFC 6962 3.1.
+    PrecertificatePoison,
+    /// RFC 6962 3.3.
+    SignedCertificateTimestamps,
+    /// RFC 7633 4.
+    TlsFeature,
 }
 
 impl KnownExtension {
-    /// The content octets of its identifier (A.2): 2.5.29.n, or 1.3.6.1.5.5.7.1.n.
+    /// The content octets of its identifier: of RFC 5280 2.5.29.n, or 1.3.6.1.5.5.7.1.n (A.2).
     pub fn identifier(self) -> &'static [u8]
         ensures { result.now ≡ octets_of self }
     {
@@ -82,6 +93,11 @@ impl KnownExtension {
             KnownExtension::ReasonCode => REASON_CODE,
             KnownExtension::InvalidityDate => INVALIDITY_DATE,
             KnownExtension::CertificateIssuer => CERTIFICATE_ISSUER,
+            KnownExtension::QcStatements => QC_STATEMENTS,
+            KnownExtension::OcspNoCheck => OCSP_NO_CHECK,
+            KnownExtension::PrecertificatePoison => PRECERTIFICATE_POISON,
+            KnownExtension::SignedCertificateTimestamps => SIGNED_CERTIFICATE_TIMESTAMPS,
+            KnownExtension::TlsFeature => TLS_FEATURE,
         }
     }
 }
@@ -131,3 +147,13 @@ const REASON_CODE: &[u8] = b"\x55\x1d\x15";
 const INVALIDITY_DATE: &[u8] = b"\x55\x1d\x18";
 
 const CERTIFICATE_ISSUER: &[u8] = b"\x55\x1d\x1d";
+
+const QC_STATEMENTS: &[u8] = b"\x2b\x06\x01\x05\x05\x07\x01\x03";
+
+const OCSP_NO_CHECK: &[u8] = b"\x2b\x06\x01\x05\x05\x07\x30\x01\x05";
+
+const PRECERTIFICATE_POISON: &[u8] = b"\x2b\x06\x01\x04\x01\xd6\x79\x02\x04\x03";
+
+const SIGNED_CERTIFICATE_TIMESTAMPS: &[u8] = b"\x2b\x06\x01\x04\x01\xd6\x79\x02\x04\x02";
+
+const TLS_FEATURE: &[u8] = b"\x2b\x06\x01\x05\x05\x07\x01\x18";

@@ -2,6 +2,7 @@
 //! `der_x509` and `crl_reader` read them by their ASN.1; here each rule of the text is asked.
 #![tactic(auto)]
 
+mod algorithms;
 mod attributes;
 mod broken;
 mod certificate;
@@ -9,9 +10,15 @@ mod display;
 mod entries;
 mod facts;
 mod fields;
+mod host_name;
 mod identifier;
+mod issuers;
+mod issuing_point;
 mod known;
+mod mailbox;
+mod mappings;
 mod names;
+mod notices;
 mod points;
 mod policies;
 mod readers;
@@ -19,18 +26,22 @@ mod repetition;
 mod revoked;
 mod subtrees;
 mod types;
+mod user_notice;
 mod value_facts;
 mod value_rules;
 mod whole;
 mod whole_list;
 
+pub use algorithms::AlgorithmRule;
 pub use attributes::{AttributeKind, StringKind};
 pub use broken::{BrokenRules, broken_rules};
 pub use certificate::{MUST_RULES, Rule, SHOULD_RULES, breaks};
 pub use entries::EntryRule;
 pub use facts::Fact;
+pub use issuing_point::IssuingPointRule;
 pub use known::KnownExtension;
 pub use names::NameRule;
+pub use notices::{NoticeRule, QualifierRule};
 pub use points::PointRule;
 pub use revoked::{
     BrokenListRules, ListRule, MUST_LIST_RULES, SHOULD_LIST_RULES, broken_list_rules, list_breaks,

@@ -1,13 +1,22 @@
 //! Rules of general names (RFC 5280 4.2.1.6).
-ghost use Rattle.std.specs.Prelude.{◌≡◌, ◌≢◌, ◌↔◌, [], IsTrue};
+ghost use Rattle.std.specs.Prelude.{◌≡◌, ◌≢◌, ◌↔◌, [], nat_le, IsTrue};
+ghost use Rattle.std.specs.List.{list_any};
 ghost use Rattle.std.specs.Char.{is_ascii_alphabetic};
+ghost use Rattle.der_cursor.specs.Elements.{element_of};
 ghost use Rattle.der_extensions.specs.GeneralNames.{GeneralName as AnyName, name_of};
 ghost use Rattle.pkix_rules.specs.Lists.{Among};
 ghost use Rattle.pkix_rules.specs.Names.{BreaksName, HasScheme, IsOddAddress, IsBlankName, IsEmptyName};
+ghost use Rattle.pkix_rules.specs.Names.{BeginsWithMark, IsInternationalMailbox, IsInternationalText};
+ghost use Rattle.pkix_rules.specs.Names.{IsMailboxBeyondAscii, IsNoInternationalMailbox, IsNoMailbox, IsOtherHost};
 ghost use Rattle.pkix_rules.specs.Names.{IsRelativeName, SchemeFollows, is_scheme_character};
 ghost use Rattle.pkix_rules.specs.ValueRules.{BreaksValue};
 
+use crate::host_name::is_preferred_name;
+use crate::identifier::has_octets;
+use crate::mailbox::{LocalCharacters, is_mailbox};
 use crate::value_rules::ValueRule;
+use der_base::any::Any;
+use der_base::header::{Class, Tag};
 use der_extensions::{GeneralName, GeneralNames, read_general_names};
 
 /// A rule of RFC 5280 about a general name.
@@ -23,7 +32,18 @@ pub enum NameRule {
     /// A uniformResourceIdentifier begins with a scheme, a colon and something behind it (4.2.1.6, RFC 3986 3.1,
     /// MUST).
     Scheme,
+    /// An rfc822Name is a mailbox, as "a@a.example" (4.2.1.6, RFC 5321 4.1.2, MUST).
+    Mailbox,
+    /// A dNSName is in the preferred name syntax (4.2.1.6, RFC 1034 3.5, RFC 1123 2.1, MUST). A name behind a leading
+    /// "*." is let in, as 4.2.1.6 says.
+    PreferredName,
+    /// An otherName that is an SmtpUTF8Mailbox is a UTF8String with a mailbox, whose local part isn't of ASCII alone and
+    /// whose domain is (RFC 9598 3, MUST). It doesn't begin with a byte order mark.
+    InternationalMailbox,
 }
+
+/// id-on-SmtpUTF8Mailbox: 1.3.6.1.5.5.7.8.9.
+const SMTP_UTF8_MAILBOX: &[u8] = b"\x2b\x06\x01\x05\x05\x07\x08\x09";
 
 /// A dNSName that says that there is no name.
 const BLANK: &[u8] = b" ";
@@ -59,6 +79,85 @@ fn breaks_name(rule: NameRule, name: &GeneralName<'_>) -> bool
         NameRule::AddressOctets => is_odd_address(name),
         NameRule::NotBlank => is_blank_name(name),
         NameRule::Scheme => is_relative_name(name),
+        NameRule::Mailbox => is_no_mailbox(name),
+        NameRule::PreferredName => is_other_host(name),
+        NameRule::InternationalMailbox => is_no_international_mailbox(name),
+    }
+}
+
+/// Returns whether it is an rfc822Name that isn't a mailbox.
+fn is_no_mailbox(name: &GeneralName<'_>) -> bool
+    ensures { IsTrue result ↔ IsNoMailbox (name_of name.now) }
+{
+    match name {
+        GeneralName::Rfc822Name(text) => !is_mailbox(LocalCharacters::Ascii, text),
+        _ => false,
+    }
+}
+
+/// Returns whether it is a dNSName that isn't in the preferred name syntax.
+fn is_other_host(name: &GeneralName<'_>) -> bool
+    ensures { IsTrue result ↔ IsOtherHost (name_of name.now) }
+{
+    match name {
+        GeneralName::DnsName(text) => !is_preferred_name(text.as_bytes()),
+        _ => false,
+    }
+}
+
+/// Returns whether it is an SmtpUTF8Mailbox that isn't as RFC 9598 3 says.
+fn is_no_international_mailbox(name: &GeneralName<'_>) -> bool
+    ensures { IsTrue result ↔ IsNoInternationalMailbox (name_of name.now) }
+{
+    match name {
+        GeneralName::OtherName(other) => {
+            has_octets(&other.type_id, SMTP_UTF8_MAILBOX) && !is_international_mailbox(&other.value)
+        }
+        _ => false,
+    }
+}
+
+/// Returns whether the value is a UTF8String with such a mailbox.
+fn is_international_mailbox(value: &Any<'_>) -> bool
+    ensures { IsTrue result ↔ IsInternationalMailbox (element_of value.now) }
+{
+    value.class() == Class::Universal
+        && value.header.is_primitive()
+        && value.tag() == Tag::Utf8String
+        && is_international_text(value.bytes)
+}
+
+fn is_international_text(octets: &[u8]) -> bool
+    ensures { IsTrue result ↔ IsInternationalText octets.now }
+{
+    match str::from_utf8(octets) {
+        Ok(text) => is_local_beyond_ascii(text),
+        Err(_) => false,
+    }
+}
+
+/// Returns whether the text is a mailbox that has characters beyond ASCII, and begins with no byte order mark.
+fn is_local_beyond_ascii(text: &str) -> bool
+    ensures { IsTrue result ↔ IsMailboxBeyondAscii text.now }
+{
+    is_mailbox(LocalCharacters::Utf8, text)
+        && has_beyond_ascii(text.as_bytes())
+        && !begins_with_mark(text.as_bytes())
+}
+
+/// Returns whether an octet isn't one of ASCII.
+fn has_beyond_ascii(octets: &[u8]) -> bool
+    ensures { result ≡ list_any (λ b. nat_le 0x80 b) octets.now }
+{
+    octets.iter().any(|octet| *octet >= 0x80)
+}
+
+fn begins_with_mark(octets: &[u8]) -> bool
+    ensures { IsTrue result ↔ BeginsWithMark octets.now }
+{
+    match octets {
+        [0xef, 0xbb, 0xbf, ..] => true,
+        _ => false,
     }
 }
 

@@ -7,6 +7,7 @@ ghost use Rattle.pkix_rules.specs.Points.{BreaksPoint, HasMoreThanName, HasRelat
 ghost use Rattle.pkix_rules.specs.Points.{IsRelative, IsUnnamed};
 ghost use Rattle.pkix_rules.specs.ValueRules.{BreaksValue};
 
+use crate::issuers::{has_other_issuer, has_several_issuers};
 use crate::value_rules::ValueRule;
 use der_extensions::{
     CrlDistributionPoints, DistributionPoint, DistributionPointName, read_crl_distribution_points,
@@ -21,6 +22,10 @@ pub enum PointRule {
     FullName,
     /// It has neither reasons nor a cRLIssuer (5.2.6 of a list of revoked certificates, MUST).
     NameAlone,
+    /// Its cRLIssuer has no names but directoryNames (4.2.1.13, MUST).
+    NamedIssuers,
+    /// Its name isn't relative where its cRLIssuer has more than one directoryName (4.2.1.13, MUST NOT).
+    RelativeToOneIssuer,
 }
 
 /// Returns whether the octets are distribution points, one of which breaks the rule.
@@ -53,6 +58,10 @@ fn breaks_point(rule: PointRule, point: &DistributionPoint<'_>) -> bool
         PointRule::Named => is_unnamed(point),
         PointRule::FullName => has_relative_name(point),
         PointRule::NameAlone => has_more_than_name(point),
+        PointRule::NamedIssuers => has_other_issuer(&point.crl_issuer),
+        PointRule::RelativeToOneIssuer => {
+            has_relative_name(point) && has_several_issuers(&point.crl_issuer)
+        }
     }
 }
 

@@ -18,13 +18,13 @@ use der_extensions::{
 };
 
 /// anyPolicy: 2.5.29.32.0.
-const ANY_POLICY: &[u8] = b"\x55\x1d\x20\x00";
+pub(crate) const ANY_POLICY: &[u8] = b"\x55\x1d\x20\x00";
 
 /// id-qt-cps: 1.3.6.1.5.5.7.2.1.
-const CPS: &[u8] = b"\x2b\x06\x01\x05\x05\x07\x02\x01";
+pub(crate) const CPS: &[u8] = b"\x2b\x06\x01\x05\x05\x07\x02\x01";
 
 /// id-qt-unotice: 1.3.6.1.5.5.7.2.2.
-const USER_NOTICE: &[u8] = b"\x2b\x06\x01\x05\x05\x07\x02\x02";
+pub(crate) const USER_NOTICE: &[u8] = b"\x2b\x06\x01\x05\x05\x07\x02\x02";
 
 /// Returns whether the octets are certificate policies, one of which comes twice.
 pub(crate) fn breaks_distinct_policies(value: &[u8]) -> bool

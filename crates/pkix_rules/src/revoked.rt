@@ -7,6 +7,7 @@ ghost use Rattle.pkix_rules.specs.ListRules.{list_rules_left};
 
 use crate::entries::{EntryRule, is_entry_broken};
 use crate::facts::Fact;
+use crate::issuing_point::IssuingPointRule;
 use crate::known::KnownExtension;
 use crate::names::NameRule;
 use crate::points::PointRule;
@@ -43,6 +44,8 @@ pub const MUST_LIST_RULES: &[ListRule] = &[
     ListRule::Entry(EntryRule::ShortSerialNumber),
     ListRule::Entry(EntryRule::UtcTimeTo2049),
     ListRule::Entry(EntryRule::WholeSeconds),
+    ListRule::Whole(WholeListRule::DistinctExtensions),
+    ListRule::Entry(EntryRule::DistinctExtensions),
     ListRule::Whole(WholeListRule::KeyIdentifierOfIssuer),
     ListRule::Value(
         KnownExtension::AuthorityKeyIdentifier,
@@ -68,6 +71,10 @@ pub const MUST_LIST_RULES: &[ListRule] = &[
         KnownExtension::AuthorityInfoAccess,
         ValueRule::OfType(ValueType::Descriptions),
     ),
+    ListRule::Value(
+        KnownExtension::IssuingDistributionPoint,
+        ValueRule::OfType(ValueType::IssuingPoint),
+    ),
     ListRule::NotCritical(KnownExtension::AuthorityKeyIdentifier),
     ListRule::Value(
         KnownExtension::AuthorityKeyIdentifier,
@@ -89,6 +96,18 @@ pub const MUST_LIST_RULES: &[ListRule] = &[
         KnownExtension::IssuerAltName,
         ValueRule::Names(NameRule::Scheme),
     ),
+    ListRule::Value(
+        KnownExtension::IssuerAltName,
+        ValueRule::Names(NameRule::Mailbox),
+    ),
+    ListRule::Value(
+        KnownExtension::IssuerAltName,
+        ValueRule::Names(NameRule::PreferredName),
+    ),
+    ListRule::Value(
+        KnownExtension::IssuerAltName,
+        ValueRule::Names(NameRule::InternationalMailbox),
+    ),
     ListRule::Whole(WholeListRule::Number),
     ListRule::NotCritical(KnownExtension::CrlNumber),
     ListRule::Value(KnownExtension::CrlNumber, ValueRule::ShortNumber),
@@ -100,6 +119,14 @@ pub const MUST_LIST_RULES: &[ListRule] = &[
     ListRule::Value(
         KnownExtension::IssuingDistributionPoint,
         ValueRule::NotEmpty,
+    ),
+    ListRule::Value(
+        KnownExtension::IssuingDistributionPoint,
+        ValueRule::IssuingPoint(IssuingPointRule::OneKind),
+    ),
+    ListRule::Value(
+        KnownExtension::IssuingDistributionPoint,
+        ValueRule::IssuingPoint(IssuingPointRule::NoAttributeCertificates),
     ),
     ListRule::NotCritical(KnownExtension::FreshestCrl),
     ListRule::Whole(WholeListRule::FreshestOfComplete),

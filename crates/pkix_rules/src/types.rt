@@ -7,7 +7,10 @@ use crl_reader::read_reason;
 use der_extensions::{
     read_authority_key_identifier, read_basic_constraints, read_certificate_policies,
     read_crl_distribution_points, read_extended_key_usage, read_general_names,
-    read_information_access, read_key_usage, read_name_constraints, read_subject_key_identifier,
+    read_information_access, read_issuing_distribution_point, read_key_usage,
+    read_name_constraints, read_ocsp_no_check, read_policy_constraints, read_policy_mappings,
+    read_precertificate_poison, read_qc_statements, read_signed_certificate_timestamps,
+    read_subject_directory_attributes, read_subject_key_identifier, read_tls_features,
 };
 
 /// A type of ASN.1 that the value of an extension is of, by DER, with nothing after it.
@@ -39,6 +42,24 @@ pub enum ValueType {
     Reason,
     /// GeneralizedTime, of an invalidityDate (5.3.2).
     Date,
+    /// PolicyMappings: there is a mapping (4.2.1.5).
+    Mappings,
+    /// SubjectDirectoryAttributes: there is an attribute, and it has a value (4.2.1.8).
+    DirectoryAttributes,
+    /// PolicyConstraints, of numbers to 2^32-1 (4.2.1.11).
+    PolicyConstraints,
+    /// IssuingDistributionPoint (5.2.5).
+    IssuingPoint,
+    /// QCStatements (RFC 3739 3.2.6).
+    Statements,
+    /// NULL, of an OCSP no-check (RFC 6960 4.2.2.2.1).
+    NoCheck,
+    /// NULL, of the poison of a precertificate (RFC 6962 3.1).
+    Poison,
+    /// SignedCertificateTimestampList: there is a timestamp (RFC 6962 3.3).
+    Timestamps,
+    /// Features, of numbers from 0 to 2^32-1 (RFC 7633 4.1).
+    Features,
 }
 
 /// Returns whether the octets are a value of the type.
@@ -59,6 +80,15 @@ pub(crate) fn is_of_type(kind: ValueType, value: &[u8]) -> bool
         ValueType::Number => is_of_number(value),
         ValueType::Reason => is_of_reason(value),
         ValueType::Date => is_of_date(value),
+        ValueType::Mappings => is_of_mappings(value),
+        ValueType::DirectoryAttributes => is_of_directory_attributes(value),
+        ValueType::PolicyConstraints => is_of_policy_constraints(value),
+        ValueType::IssuingPoint => is_of_issuing_point(value),
+        ValueType::Statements => is_of_statements(value),
+        ValueType::NoCheck => is_of_no_check(value),
+        ValueType::Poison => is_of_poison(value),
+        ValueType::Timestamps => is_of_timestamps(value),
+        ValueType::Features => is_of_features(value),
     }
 }
 
@@ -174,6 +204,87 @@ fn is_of_date(value: &[u8]) -> bool
     ensures { IsTrue result ↔ IsOfType ValueType.Date value.now }
 {
     match read_date(value) {
+        Ok(_) => true,
+        Err(_) => false,
+    }
+}
+
+fn is_of_mappings(value: &[u8]) -> bool
+    ensures { IsTrue result ↔ IsOfType ValueType.Mappings value.now }
+{
+    match read_policy_mappings(value) {
+        Ok(_) => true,
+        Err(_) => false,
+    }
+}
+
+fn is_of_directory_attributes(value: &[u8]) -> bool
+    ensures { IsTrue result ↔ IsOfType ValueType.DirectoryAttributes value.now }
+{
+    match read_subject_directory_attributes(value) {
+        Ok(_) => true,
+        Err(_) => false,
+    }
+}
+
+fn is_of_policy_constraints(value: &[u8]) -> bool
+    ensures { IsTrue result ↔ IsOfType ValueType.PolicyConstraints value.now }
+{
+    match read_policy_constraints(value) {
+        Ok(_) => true,
+        Err(_) => false,
+    }
+}
+
+fn is_of_issuing_point(value: &[u8]) -> bool
+    ensures { IsTrue result ↔ IsOfType ValueType.IssuingPoint value.now }
+{
+    match read_issuing_distribution_point(value) {
+        Ok(_) => true,
+        Err(_) => false,
+    }
+}
+
+fn is_of_statements(value: &[u8]) -> bool
+    ensures { IsTrue result ↔ IsOfType ValueType.Statements value.now }
+{
+    match read_qc_statements(value) {
+        Ok(_) => true,
+        Err(_) => false,
+    }
+}
+
+fn is_of_no_check(value: &[u8]) -> bool
+    ensures { IsTrue result ↔ IsOfType ValueType.NoCheck value.now }
+{
+    match read_ocsp_no_check(value) {
+        Ok(_) => true,
+        Err(_) => false,
+    }
+}
+
+fn is_of_poison(value: &[u8]) -> bool
+    ensures { IsTrue result ↔ IsOfType ValueType.Poison value.now }
+{
+    match read_precertificate_poison(value) {
+        Ok(_) => true,
+        Err(_) => false,
+    }
+}
+
+fn is_of_timestamps(value: &[u8]) -> bool
+    ensures { IsTrue result ↔ IsOfType ValueType.Timestamps value.now }
+{
+    match read_signed_certificate_timestamps(value) {
+        Ok(_) => true,
+        Err(_) => false,
+    }
+}
+
+fn is_of_features(value: &[u8]) -> bool
+    ensures { IsTrue result ↔ IsOfType ValueType.Features value.now }
+{
+    match read_tls_features(value) {
         Ok(_) => true,
         Err(_) => false,
     }

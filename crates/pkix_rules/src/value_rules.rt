@@ -7,7 +7,10 @@ ghost use Rattle.pkix_rules.specs.Lists.{Among};
 ghost use Rattle.pkix_rules.specs.ValueRules.{BreaksValue, IsHalf, IsOtherMethod};
 
 use crate::identifier::has_octets;
+use crate::issuing_point::{IssuingPointRule, breaks_issuing_point};
+use crate::mappings::breaks_unmapped_any_policy;
 use crate::names::{NameRule, breaks_names};
+use crate::notices::{QualifierRule, breaks_qualifiers};
 use crate::points::{PointRule, breaks_points, is_without_whole_point};
 use crate::policies::{breaks_any_policy_qualifiers, breaks_distinct_policies};
 use crate::readers::{read_date, read_number};
@@ -32,6 +35,10 @@ pub enum ValueRule {
     DistinctPolicies,
     /// certificatePolicies: anyPolicy has no qualifiers but CPS pointers and user notices (4.2.1.4, MUST).
     AnyPolicyQualifiers,
+    /// certificatePolicies: each qualifier keeps the rule (4.2.1.4).
+    Qualifiers(QualifierRule),
+    /// policyMappings: no policy of a mapping is anyPolicy (4.2.1.5, MUST NOT).
+    UnmappedAnyPolicy,
     /// subjectAltName, issuerAltName, certificateIssuer: each name keeps the rule (4.2.1.6).
     Names(NameRule),
     /// nameConstraints, policyConstraints, issuingDistributionPoint: it isn't an empty sequence (4.2.1.10, 4.2.1.11,
@@ -43,6 +50,8 @@ pub enum ValueRule {
     Points(PointRule),
     /// cRLDistributionPoints: the lists of one point at least are for all reasons (4.2.1.13, MUST).
     PointForAllReasons,
+    /// issuingDistributionPoint: it keeps the rule (5.2.5).
+    IssuingPoint(IssuingPointRule),
     /// authorityInfoAccess of such a list: each method is id-ad-caIssuers (5.2.7, MUST NOT).
     CaIssuers,
     /// cRLNumber, deltaCRLIndicator: the number has at most 20 octets (5.2.3, MUST NOT).
@@ -73,11 +82,14 @@ pub(crate) fn breaks_value(rule: ValueRule, value: &[u8]) -> bool
         ValueRule::IssuerAndSerial => breaks_issuer_and_serial(value),
         ValueRule::DistinctPolicies => breaks_distinct_policies(value),
         ValueRule::AnyPolicyQualifiers => breaks_any_policy_qualifiers(value),
+        ValueRule::Qualifiers(rule) => breaks_qualifiers(rule, value),
+        ValueRule::UnmappedAnyPolicy => breaks_unmapped_any_policy(value),
         ValueRule::Names(rule) => breaks_names(rule, value),
         ValueRule::NotEmpty => value == EMPTY_SEQUENCE,
         ValueRule::Subtrees(rule) => breaks_subtrees(rule, value),
         ValueRule::Points(rule) => breaks_points(rule, value),
         ValueRule::PointForAllReasons => is_without_whole_point(value),
+        ValueRule::IssuingPoint(rule) => breaks_issuing_point(rule, value),
         ValueRule::CaIssuers => breaks_ca_issuers(value),
         ValueRule::ShortNumber => breaks_short_number(value),
         ValueRule::NaturalNumber => breaks_natural_number(value),

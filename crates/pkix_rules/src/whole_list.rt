@@ -9,6 +9,7 @@ use crate::entries::{EntryRule, is_entry_broken};
 use crate::facts::{Fact, shows};
 use crate::fields::{has_fraction, is_early, is_same};
 use crate::known::KnownExtension;
+use crate::repetition::has_repetition;
 use crate::value_facts::ValueFact;
 use crl_reader::{CertificateList, RevokedCertificates};
 use der_x509::{Time, Version};
@@ -29,6 +30,8 @@ pub enum WholeListRule {
     WholeSeconds,
     /// There is a nextUpdate (5.1.2.5, MUST).
     NextUpdate,
+    /// No extension comes twice (5.2, 4.2, MUST NOT).
+    DistinctExtensions,
     /// There are entries, or no list of them (5.1.2.6, MUST).
     SomeEntries,
     /// There is an authorityKeyIdentifier with a keyIdentifier (5.2.1, MUST).
@@ -52,6 +55,7 @@ pub(crate) fn breaks_whole_list(rule: WholeListRule, list: &CertificateList<'_>)
         WholeListRule::UtcTimeTo2049 => breaks_utc_time_to_2049(list),
         WholeListRule::WholeSeconds => breaks_whole_seconds(list),
         WholeListRule::NextUpdate => breaks_next_update(list),
+        WholeListRule::DistinctExtensions => breaks_distinct_extensions(list),
         WholeListRule::SomeEntries => breaks_some_entries(list),
         WholeListRule::KeyIdentifierOfIssuer => breaks_key_identifier_of_issuer(list),
         WholeListRule::Number => breaks_number(list),
@@ -96,6 +100,12 @@ fn breaks_next_update(list: &CertificateList<'_>) -> bool
     ensures { IsTrue result ↔ BreaksWholeList WholeListRule.NextUpdate (certificate_list_of list.now) }
 {
     list.tbs_cert_list.next_update.is_none()
+}
+
+fn breaks_distinct_extensions(list: &CertificateList<'_>) -> bool
+    ensures { IsTrue result ↔ BreaksWholeList WholeListRule.DistinctExtensions (certificate_list_of list.now) }
+{
+    has_repetition(list.tbs_cert_list.crl_extensions.octets)
 }
 
 fn breaks_some_entries(list: &CertificateList<'_>) -> bool

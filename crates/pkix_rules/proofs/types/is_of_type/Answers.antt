@@ -38,3 +38,30 @@ returns-in-Reason c = rw c.in-Reason.is c.is_of_reason.ensures
 
 pub returns-in-Date : goal.returns-in-Date
 returns-in-Date c = rw c.in-Date.is c.is_of_date.ensures
+
+pub returns-in-Mappings : goal.returns-in-Mappings
+returns-in-Mappings c = rw c.in-Mappings.is c.is_of_mappings.ensures
+
+pub returns-in-DirectoryAttributes : goal.returns-in-DirectoryAttributes
+returns-in-DirectoryAttributes c = rw c.in-DirectoryAttributes.is c.is_of_directory_attributes.ensures
+
+pub returns-in-PolicyConstraints : goal.returns-in-PolicyConstraints
+returns-in-PolicyConstraints c = rw c.in-PolicyConstraints.is c.is_of_policy_constraints.ensures
+
+pub returns-in-IssuingPoint : goal.returns-in-IssuingPoint
+returns-in-IssuingPoint c = rw c.in-IssuingPoint.is c.is_of_issuing_point.ensures
+
+pub returns-in-Statements : goal.returns-in-Statements
+returns-in-Statements c = rw c.in-Statements.is c.is_of_statements.ensures
+
+pub returns-in-NoCheck : goal.returns-in-NoCheck
+returns-in-NoCheck c = rw c.in-NoCheck.is c.is_of_no_check.ensures
+
+pub returns-in-Poison : goal.returns-in-Poison
+returns-in-Poison c = rw c.in-Poison.is c.is_of_poison.ensures
+
+pub returns-in-Timestamps : goal.returns-in-Timestamps
+returns-in-Timestamps c = rw c.in-Timestamps.is c.is_of_timestamps.ensures
+
+pub returns-in-Features : goal.returns-in-Features
+returns-in-Features c = rw c.in-Features.is c.is_of_features.ensures

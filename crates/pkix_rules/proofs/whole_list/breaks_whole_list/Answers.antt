@@ -32,3 +32,6 @@ returns-in-FreshestOfComplete c = rw c.in-FreshestOfComplete.is c.breaks_freshes
 
 pub returns-in-RemovalOfDelta : goal.returns-in-RemovalOfDelta
 returns-in-RemovalOfDelta c = rw c.in-RemovalOfDelta.is c.breaks_removal_of_delta.ensures
+
+pub returns-in-DistinctExtensions : goal.returns-in-DistinctExtensions
+returns-in-DistinctExtensions c = rw c.in-DistinctExtensions.is c.breaks_distinct_extensions.ensures
