@@ -1,4 +1,7 @@
 pub mod BackLaws
 pub mod LengthLaws
 pub mod LoopLaws
+pub mod NoticeLaws
+pub mod RuleLaws
+pub mod WideLaws
 pub mod WriteLaws

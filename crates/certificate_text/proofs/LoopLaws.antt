@@ -2,7 +2,7 @@
 use Rattle.std.proofs.Common.{◌≡◌, ◌≢◌, ◌++◌, ◌∷◌, ◌<◌, [], List, ℕ, None, Option, Some, append-nil, append_assoc, arith, length, pos, refl, subst, sym}
 use Rattle.std.specs.Option.{option_map}
 use Rattle.certificate_text.specs.Extensions.{natural}
-use Rattle.certificate_text.specs.Pieces.{Each, no_more, one_more}
+use Rattle.certificate_text.specs.Pieces.{Each, IsTextOf, no_more, one_more}
 
 -- with any texts of the values that are left, what was sent makes texts of all of them
 abbrev pub Goes : {V : Type 0} (Next : List ℕ → V → List ℕ → Type 0) (IsText : V → List ℕ → Type 0) → List ℕ → List ℕ → List ℕ → Type 0
@@ -17,6 +17,11 @@ module _ {V : Type 0} {Next : List ℕ → V → List ℕ → Type 0} {IsText : 
 
   pub goes_end : {all sent left : List ℕ} → ((v : V) (rest : List ℕ) → ¬ Next left v rest) → Goes Next IsText all sent left → Each Next IsText all sent
   goes_end {all} {sent} none goes = subst (Each Next IsText all) (append-nil sent) (goes [] (no_more none))
+
+-- texts of what stands for values are texts of the values
+pub of_values : {X V : Type 0} {Next : List ℕ → V → List ℕ → Type 0} {view : X → V} {IsText : V → List ℕ → Type 0} {i text : List ℕ} → Each Next (IsTextOf view (λ x. IsText (view x))) i text → Each Next IsText i text
+of_values (no_more none) = no_more none
+of_values {IsText = IsText} (one_more v rest text others n x more) = one_more v rest text others n (subst (λ u. IsText u text) x.1 x.2) (of_values more)
 
 pub not_nil : (w : List ℕ) → 0 < length w → w ≢ []
 not_nil [] some e = omega (arith, some)

@@ -10,35 +10,25 @@ use Rattle.der_cursor.specs.Formats.{ObjectIdentifier, Required}
 use Rattle.der_extensions.specs.declared.basic_constraints.BasicConstraints.{BasicConstraints}
 use Rattle.der_extensions.specs.declared.value.ExtensionValue.{ExtensionValue}
 use Rattle.der_extensions.specs.declared.value.ExtensionValue.TheVariants as value
-use Rattle.der_extensions.specs.Extensions.{AccessDescription, AccessValue, AuthorityValue, DistributionPoint}
-use Rattle.der_extensions.specs.Extensions.{GeneralSubtree, NameConstraintsValue, PointNameValue, PointValue}
-use Rattle.der_extensions.specs.Extensions.{PolicyInformation, PolicyQualifierInfo, PolicyValue, QualifierValue}
-use Rattle.der_extensions.specs.Extensions.{SubtreeValue, authority_of, full_name, name_constraints_of}
-use Rattle.der_extensions.specs.Extensions.{name_relative_to_issuer}
+use Rattle.der_extensions.specs.Extensions.{AccessDescription, AccessValue, AuthorityValue, GeneralSubtree}
+use Rattle.der_extensions.specs.Extensions.{NameConstraintsValue, SubtreeValue, authority_of, name_constraints_of}
 use Rattle.der_extensions.specs.Lists.{list_octets}
+use Rattle.der_extensions.specs.Revocation.{issuing_point_of}
 use Rattle.der_extensions.specs.Values.{ReadsExtension}
+use Rattle.der_extensions.specs.WebExtensions.{organization_identifier_of, timestamps_octets}
 use Rattle.der_x509.specs.declared.extension.Extension.{Extension}
 use Rattle.der_x509.specs.Certificates.{ExtensionValue as ExtensionFields, extension, extension_of}
 use Rattle.der_x509.specs.Formats.{spells}
 use Rattle.certificate_text.specs.GeneralNames.{AreGeneralNames, IsGeneralName}
 use Rattle.certificate_text.specs.Identifiers.{IsIdentifier, IsIdentifierLine}
-use Rattle.certificate_text.specs.Names.{IsRelativeName}
 use Rattle.certificate_text.specs.Pieces.{Each, Exactly, ◌⨾◌}
-use Rattle.certificate_text.specs.Usage.{reasons_text, usage_text}
-use Rattle.certificate_text.specs.Values.{any_text, critical_text, line, octets_line, serial_text, unread_text}
-
--- lines of values that may be absent
-abbrev pub optional_number : List ℕ → Option ℕ → List ℕ
-optional_number label (Some n) = line label (decimal n)
-optional_number label None = []
-
-abbrev pub optional_octets : List ℕ → Option (List ℕ) → List ℕ
-optional_octets label (Some w) = octets_line label w
-optional_octets label None = []
-
-abbrev pub optional_serial : Option (List ℕ) → List ℕ
-optional_serial (Some w) = line (codes "      Serial number: ") (serial_text w)
-optional_serial None = []
+use Rattle.certificate_text.specs.Points.{ArePoints, IsIssuingPoint}
+use Rattle.certificate_text.specs.Policies.{AreMappings, ArePolicies, policy_constraints_text}
+use Rattle.certificate_text.specs.Timestamps.{AreTimestamps}
+use Rattle.certificate_text.specs.Usage.{usage_text}
+use Rattle.certificate_text.specs.Values.{critical_text, line, number_line, octets_line, optional_number}
+use Rattle.certificate_text.specs.Values.{optional_octets, optional_serial, time_line, unread_text}
+use Rattle.certificate_text.specs.Web.{AreDirectoryAttributes, AreFeatures, AreStatements, organization_text}
 
 -- BasicConstraints (4.2.1.9)
 abbrev pub constraints_text : BasicConstraints → List ℕ
@@ -61,57 +51,12 @@ IsPurpose w = IsIdentifierLine (codes "      Purpose: ") w
 abbrev pub ArePurposes : List ℕ → List ℕ → Type 0
 ArePurposes i = Each (Required ObjectIdentifier Der) IsPurpose i
 
--- CertificatePolicies (4.2.1.4)
-abbrev pub IsQualifier : QualifierValue → List ℕ → Type 0
-IsQualifier q = Exactly (codes "        Qualifier: ")
-    ⨾ (IsIdentifier q.0 ⨾ Exactly (codes ", " ++ (any_text q.1.0 ++ codes "\n")))
-
-abbrev pub AreQualifiers : List ℕ → List ℕ → Type 0
-AreQualifiers i = Each (Required PolicyQualifierInfo Der) IsQualifier i
-
-abbrev pub AreOptionalQualifiers : Option (List ℕ) → List ℕ → Type 0
-AreOptionalQualifiers (Some i) = AreQualifiers i
-AreOptionalQualifiers None = Exactly []
-
-abbrev pub IsPolicy : PolicyValue → List ℕ → Type 0
-IsPolicy p = IsIdentifierLine (codes "      Policy: ") p.0 ⨾ AreOptionalQualifiers p.1.0
-
-abbrev pub ArePolicies : List ℕ → List ℕ → Type 0
-ArePolicies i = Each (Required PolicyInformation Der) IsPolicy i
-
 -- AuthorityInfoAccessSyntax (4.2.2.1)
 abbrev pub IsDescription : AccessValue → List ℕ → Type 0
 IsDescription a = IsIdentifierLine (codes "      Method: ") a.0 ⨾ IsGeneralName (codes "        ") a.1.0
 
 abbrev pub AreDescriptions : List ℕ → List ℕ → Type 0
 AreDescriptions i = Each (Required AccessDescription Der) IsDescription i
-
--- CRLDistributionPoints (4.2.1.13)
-abbrev pub IsRelativeLine : List ℕ → List ℕ → Type 0
-IsRelativeLine i = Exactly (codes "        Name after the issuer's: ") ⨾ (IsRelativeName i ⨾ Exactly (codes "\n"))
-
-abbrev pub IsPointName : PointNameValue → List ℕ → Type 0
-IsPointName (full_name i) = AreGeneralNames (codes "        ") i
-IsPointName (name_relative_to_issuer i) = IsRelativeLine i
-
-abbrev pub IsOptionalPointName : Option PointNameValue → List ℕ → Type 0
-IsOptionalPointName (Some v) = IsPointName v
-IsOptionalPointName None = Exactly []
-
-abbrev pub optional_reasons : Option (ℕ × List ℕ) → List ℕ
-optional_reasons (Some v) = reasons_text v.1
-optional_reasons None = []
-
-abbrev pub AreOptionalNames : Option (List ℕ) → List ℕ → Type 0
-AreOptionalNames (Some i) = Exactly (codes "        Issuer of the list:\n") ⨾ AreGeneralNames (codes "          ") i
-AreOptionalNames None = Exactly []
-
-abbrev pub IsPoint : PointValue → List ℕ → Type 0
-IsPoint p = Exactly (codes "      Distribution point:\n")
-    ⨾ (IsOptionalPointName p.0 ⨾ (Exactly (optional_reasons p.1.0) ⨾ AreOptionalNames p.1.1.0))
-
-abbrev pub ArePoints : List ℕ → List ℕ → Type 0
-ArePoints i = Each (Required DistributionPoint Der) IsPoint i
 
 -- NameConstraints (4.2.1.10); a minimum of 0 is that of each certificate
 abbrev pub minimum_text : ℕ → List ℕ
@@ -140,7 +85,7 @@ abbrev pub IsNameConstraints : NameConstraintsValue → List ℕ → Type 0
 IsNameConstraints c = AreOptionalSubtrees (codes "      Permitted:\n") c.0
     ⨾ AreOptionalSubtrees (codes "      Excluded:\n") c.1.0
 
--- what a value says; w has the octets of one that isn't shown otherwise
+-- What a value says; w has the octets of one that isn't shown otherwise. A NULL says nothing.
 abbrev pub IsValue : List ℕ → ExtensionValue → List ℕ → Type 0
 IsValue w (value.AuthorityKeyIdentifier x) = IsAuthority (authority_of x)
 IsValue w (value.SubjectKeyIdentifier x) = Exactly (octets_line (codes "      Key identifier: ") x.now)
@@ -155,6 +100,21 @@ IsValue w (value.CrlDistributionPoints x) = ArePoints (list_octets x)
 IsValue w (value.FreshestCrl x) = ArePoints (list_octets x)
 IsValue w (value.AuthorityInfoAccess x) = AreDescriptions (list_octets x)
 IsValue w (value.SubjectInfoAccess x) = AreDescriptions (list_octets x)
+IsValue w (value.PolicyMappings x) = AreMappings (list_octets x)
+IsValue w (value.SubjectDirectoryAttributes x) = AreDirectoryAttributes (list_octets x)
+IsValue w (value.PolicyConstraints x) = Exactly (policy_constraints_text x)
+IsValue w (value.InhibitAnyPolicy n) = Exactly (line (codes "      Skip certificates: ") (decimal n))
+IsValue w (value.CrlNumber x) = Exactly (number_line (codes "      Number: ") x.now)
+IsValue w (value.DeltaCrlIndicator x) = Exactly (number_line (codes "      Base number: ") x.now)
+IsValue w (value.IssuingDistributionPoint x) = IsIssuingPoint (issuing_point_of x)
+IsValue w (value.InvalidityDate t) = Exactly (time_line (codes "      Invalid since: ") t)
+IsValue w (value.CertificateIssuer x) = AreGeneralNames (codes "      ") (list_octets x)
+IsValue w (value.SignedCertificateTimestamps x) = AreTimestamps (timestamps_octets x)
+IsValue w value.PrecertificatePoison = Exactly []
+IsValue w (value.TlsFeatures x) = AreFeatures (list_octets x)
+IsValue w value.OcspNoCheck = Exactly []
+IsValue w (value.QcStatements x) = AreStatements (list_octets x)
+IsValue w (value.OrganizationIdentifier x) = Exactly (organization_text (organization_identifier_of x))
 IsValue w x = Exactly (octets_line (codes "      Octets: ") w)
 
 -- the value as the type that the identifier names, or that it isn't of this type

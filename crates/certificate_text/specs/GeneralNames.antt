@@ -7,10 +7,7 @@ use Rattle.der_extensions.specs.GeneralNames.{uniform_resource_identifier, x400_
 use Rattle.certificate_text.specs.Identifiers.{IsIdentifier, IsIdentifierLine}
 use Rattle.certificate_text.specs.Names.{IsNameLine}
 use Rattle.certificate_text.specs.Pieces.{Each, Exactly, ◌⨾◌}
-use Rattle.certificate_text.specs.Values.{address_text, any_text, line, octets_line, plain_text}
-
-abbrev pub plain_line : List ℕ → List ℕ → List ℕ
-plain_line label w = line label (plain_text w)
+use Rattle.certificate_text.specs.Values.{address_text, any_text, octets_line, plain_line}
 
 abbrev pub address_line : List ℕ → List ℕ
 address_line w = codes "IP address: " ++ (address_text w ++ codes "\n")

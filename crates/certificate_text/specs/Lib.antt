@@ -7,8 +7,14 @@ pub mod Identifiers
 pub mod Keys
 pub mod Lists
 pub mod Names
+pub mod Notices
 pub mod Pieces
+pub mod Points
+pub mod Policies
 pub mod Requests
 pub mod Rules
+pub mod Timestamps
 pub mod Usage
 pub mod Values
+pub mod Web
+pub mod Wide

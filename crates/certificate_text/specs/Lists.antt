@@ -1,21 +1,31 @@
 -- Lists of revoked certificates in words (RFC 5280 5.1).
-use Rattle.std.specs.Prelude.{◌≡◌, ℕ, Option, Some, None, List, [], ◌++◌, codes}
+use Rattle.std.specs.Prelude.{◌≡◌, ℕ, ◌⊎◌, Option, Some, None, List, [], ◌++◌, codes, Result, Ok}
 use Rattle.crl_reader.specs.declared.reason.Reason.{Reason}
 use Rattle.crl_reader.specs.declared.reason.Reason.TheVariants.{Unspecified, KeyCompromise, CaCompromise}
 use Rattle.crl_reader.specs.declared.reason.Reason.TheVariants.{AffiliationChanged, Superseded, CessationOfOperation}
 use Rattle.crl_reader.specs.declared.reason.Reason.TheVariants.{CertificateHold, RemoveFromCrl, PrivilegeWithdrawn}
 use Rattle.crl_reader.specs.declared.reason.Reason.TheVariants.{AaCompromise}
 use Rattle.crl_reader.specs.Lists.{Revoked, Signed, Tbs, revoked_certificate}
-use Rattle.crl_reader.specs.Reasons.{IsReasonOf}
+use Rattle.crl_reader.specs.Reasons.{ReasonCode}
+use Rattle.der_base.specs.declared.error.Error.{Error as BerError}
+use Rattle.der_base.specs.declared.rules.Rules.TheVariants.{Der}
+use Rattle.der_cursor.specs.declared.refusal.Refusal.{Refusal}
+use Rattle.der_extensions.specs.declared.value.ExtensionValue.{ExtensionValue}
+use Rattle.der_extensions.specs.declared.value.ExtensionValue.TheVariants as value
+use Rattle.der_extensions.specs.Lists.{list_octets}
+use Rattle.der_extensions.specs.Values.{ReadsExtension}
+use Rattle.der_x509.specs.declared.extension.Extension.{Extension}
 use Rattle.der_x509.specs.declared.time.Time.{Time}
-use Rattle.der_x509.specs.Certificates.{ExtensionValue, extension, moment_of}
+use Rattle.der_x509.specs.Certificates.{ExtensionValue as ExtensionFields, extension, extension_of, moment_of}
 use Rattle.der_x509.specs.Formats.{spells}
 use Rattle.certificate_text.specs.Certificates.{version_text}
 use Rattle.certificate_text.specs.Expiry.{optional_expiry}
 use Rattle.certificate_text.specs.Extensions.{IsExtensionList, IsHeading}
+use Rattle.certificate_text.specs.GeneralNames.{AreGeneralNames}
 use Rattle.certificate_text.specs.Identifiers.{IsIdentifierLine}
 use Rattle.certificate_text.specs.Names.{IsNameLine}
 use Rattle.certificate_text.specs.Pieces.{Each, Exactly, ◌⨾◌}
+use Rattle.certificate_text.specs.Rules.{AreListRules}
 use Rattle.certificate_text.specs.Values.{digests_text, line, octets_line, serial_text, signature_text, time_line}
 
 -- CRLReason (5.3.1)
@@ -34,17 +44,26 @@ reason_name AaCompromise = codes "aACompromise"
 abbrev pub reason_line : Reason → List ℕ
 reason_line r = line (codes "        Reason: ") (reason_name r)
 
-abbrev pub entry_value_text : List ℕ → Option Reason → List ℕ
-entry_value_text w (Some r) = reason_line r
-entry_value_text w None = octets_line (codes "        Octets: ") w
+-- the octets are a reason, or none
+abbrev pub IsReason : List ℕ → List ℕ → Type 0
+IsReason w text = ((r : Reason) × ReasonCode Der w r × (text ≡ reason_line r))
+    ⊎ (((r : Reason) → ¬ ReasonCode Der w r) × (text ≡ octets_line (codes "        Octets: ") w))
 
--- the value of an extension of an entry: a reason, or the octets of another one or of a reason code that isn't one
-pub data IsEntryValue (v : ExtensionValue) (text : List ℕ) : Type 0 where
-  reason : (r : Reason) → IsReasonOf v (Some r) → text ≡ reason_line r → IsEntryValue v text
-  other : ((r : Reason) → ¬ IsReasonOf v (Some r)) → text ≡ octets_line (codes "        Octets: ") v.value
-      → IsEntryValue v text
+-- what the value of an extension of an entry says; w has the octets of one that isn't shown otherwise
+abbrev pub IsEntryResult : List ℕ → Result ExtensionValue (Refusal BerError) → List ℕ → Type 0
+IsEntryResult w (Ok value.ReasonCode) = IsReason w
+IsEntryResult w (Ok (value.InvalidityDate t)) = Exactly (time_line (codes "        Invalid since: ") t)
+IsEntryResult w (Ok (value.CertificateIssuer x)) = AreGeneralNames (codes "        ") (list_octets x)
+IsEntryResult w r = Exactly (octets_line (codes "        Octets: ") w)
 
-abbrev pub IsEntryExtension : ExtensionValue → List ℕ → Type 0
+abbrev pub IsEntryRead : Extension → List ℕ → Type 0
+IsEntryRead e text =
+    (r : Result ExtensionValue (Refusal BerError)) × ReadsExtension e r × IsEntryResult e.value.now r text
+
+abbrev pub IsEntryValue : ExtensionFields → List ℕ → Type 0
+IsEntryValue v text = (e : Extension) × (extension_of e ≡ v) × IsEntryRead e text
+
+abbrev pub IsEntryExtension : ExtensionFields → List ℕ → Type 0
 IsEntryExtension v = IsHeading (codes "      ") v ⨾ IsEntryValue v
 
 abbrev pub AreEntryExtensions : List ℕ → List ℕ → Type 0
@@ -82,4 +101,5 @@ IsListBody now t = Exactly (version_text t.version)
 -- a list that was read from i
 abbrev pub IsListText : Option ℕ → List ℕ → Signed → List ℕ → Type 0
 IsListText now i c = Exactly (codes "Certificate revocation list\n")
-    ⨾ (IsListBody now c.tbs_cert_list ⨾ (Exactly (signature_text c.signature.1) ⨾ Exactly (digests_text i)))
+    ⨾ (IsListBody now c.tbs_cert_list ⨾ (Exactly (signature_text c.signature.1) ⨾ (Exactly (digests_text i)
+    ⨾ AreListRules c)))

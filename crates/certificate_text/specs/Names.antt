@@ -14,6 +14,9 @@ use Rattle.certificate_text.specs.declared.escaped.Coding.TheVariants.{Utf8, Lat
 use Rattle.certificate_text.specs.Escapes.{escaped}
 use Rattle.certificate_text.specs.Pieces.{Each, Exactly, ◌⨾◌}
 use Rattle.certificate_text.specs.Values.{hex, is_universal}
+use Rattle.certificate_text.specs.Wide.{characters, wide_text}
+use Rattle.certificate_text.specs.declared.wide.Width.{Width}
+use Rattle.certificate_text.specs.declared.wide.Width.TheVariants.{Two, Four}
 
 -- the short names of the types 2.5.4.n (RFC 4514 3, RFC 4519)
 abbrev pub x520_name : ℕ → Option (List ℕ)
@@ -65,9 +68,31 @@ header_hex e = hex (unwrap_or e.5 []) ++ hex (shortest_length (length e.3))
 abbrev pub element_hex : Element → List ℕ
 element_hex e = codes "#" ++ (header_hex e ++ hex e.3)
 
+-- the strings of characters of four octets, UniversalString, and of two, BMPString
+abbrev pub width_of_type : ℕ → Option Width
+width_of_type t = if t == 28 then Some Four else if t == 30 then Some Two else None
+
+abbrev pub width_of_primitive : Bool → ℕ → Option Width
+width_of_primitive true t = None
+width_of_primitive false t = width_of_type t
+
+abbrev pub width_of : Element → Option Width
+width_of e = if is_universal e.0 then width_of_primitive e.1 e.2 else None
+
+abbrev pub text_of_characters : Option (List ℕ) → Element → List ℕ
+text_of_characters (Some cs) e = wide_text true cs
+text_of_characters None e = element_hex e
+
+abbrev pub text_by_width : Option Width → Element → List ℕ
+text_by_width (Some width) e = text_of_characters (characters width e.3) e
+text_by_width None e = element_hex e
+
+abbrev pub other_value_text : Element → List ℕ
+other_value_text e = text_by_width (width_of e) e
+
 abbrev pub text_by_coding : Option Coding → Element → List ℕ
 text_by_coding (Some coding) e = escaped coding true e.3
-text_by_coding None e = element_hex e
+text_by_coding None e = other_value_text e
 
 abbrev pub value_text : Element → List ℕ
 value_text e = text_by_coding (coding_of e) e

@@ -1,5 +1,5 @@
 -- Texts of which more than one may be right, as one with a name from a table: which ones are.
-use Rattle.std.specs.Prelude.{◌≡◌, ℕ, List, [], ◌++◌}
+use Rattle.std.specs.Prelude.{◌≡◌, ℕ, List, [], ◌∷◌, ◌++◌}
 
 -- this text
 abbrev pub Exactly : List ℕ → List ℕ → Type 0
@@ -24,3 +24,12 @@ pub data Each {V : Type 0} (Next : List ℕ → V → List ℕ → Type 0) (IsTe
   no_more : {i : List ℕ} → ((v : V) (rest : List ℕ) → ¬ Next i v rest) → Each Next IsText i []
   one_more : {i : List ℕ} (v : V) (rest text others : List ℕ) → Next i v rest → IsText v text
       → Each Next IsText rest others → Each Next IsText i (text ++ others)
+
+-- a text of something that stands for the value
+abbrev pub IsTextOf : {X V : Type 0} → (X → V) → (X → List ℕ → Type 0) → V → List ℕ → Type 0
+IsTextOf {X} view IsText v text = (x : X) × (view x ≡ v) × IsText x text
+
+-- a text of each of some, one after another
+abbrev pub InOrder : {X : Type 0} → (X → List ℕ → Type 0) → List X → List ℕ → Type 0
+InOrder IsText [] = Exactly []
+InOrder IsText (x ∷ xs) = IsText x ⨾ InOrder IsText xs

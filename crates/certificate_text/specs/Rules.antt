@@ -1,42 +1,41 @@
--- The rules of RFC 5280 that a certificate breaks, in words.
-use Rattle.std.specs.Prelude.{◌≡◌, ℕ, ◌⊎◌, List, [], codes}
-use Rattle.der_x509.specs.declared.rules.Rule.{Rule}
-use Rattle.der_x509.specs.declared.rules.Rule.TheVariants.{SameAlgorithms, PositiveSerialNumber, ShortSerialNumber}
-use Rattle.der_x509.specs.declared.rules.Rule.TheVariants.{NamedIssuer, OrderedAttributes, UtcTimeTo2049}
-use Rattle.der_x509.specs.declared.rules.Rule.TheVariants.{WholeSeconds, UniqueIdVersion, ExtensionsVersion}
-use Rattle.der_x509.specs.declared.rules.Rule.TheVariants.{DistinctExtensions, NamedSubject, DerValues}
+-- The rules of RFC 5280 that a certificate or a list of revoked certificates breaks, in words.
+use Rattle.std.specs.Prelude.{◌≡◌, ℕ, ◌⊎◌, List, [], codes, Option, IfSome}
+use Rattle.crl_reader.specs.Lists.{Signed as SignedList}
 use Rattle.der_x509.specs.Certificates.{Signed}
-use Rattle.der_x509.specs.Rules.{Breaks}
-use Rattle.certificate_text.specs.Pieces.{◌⨾◌}
+use Rattle.pkix_rules.specs.declared.certificate.TheConstants.{MUST_RULES, SHOULD_RULES}
+use Rattle.pkix_rules.specs.declared.revoked.TheConstants.{MUST_LIST_RULES, SHOULD_LIST_RULES}
+use Rattle.pkix_rules.specs.ListRules.{BreaksList}
+use Rattle.pkix_rules.specs.Rules.{Breaks}
+use Rattle.certificate_text.specs.Pieces.{InOrder, ◌⨾◌}
 use Rattle.certificate_text.specs.Values.{line}
 
--- what a rule asks, and where it stands
-abbrev pub rule_text : Rule → List ℕ
-rule_text SameAlgorithms = codes "both algorithms of the signature are the same (RFC 5280 4.1.1.2)"
-rule_text PositiveSerialNumber = codes "the serial number is positive (RFC 5280 4.1.2.2)"
-rule_text ShortSerialNumber = codes "the serial number has at most 20 octets (RFC 5280 4.1.2.2)"
-rule_text NamedIssuer = codes "the issuer has a name (RFC 5280 4.1.2.4)"
-rule_text OrderedAttributes = codes "the attributes of a relative name ascend (X.690 11.6)"
-rule_text UtcTimeTo2049 = codes "a time to the end of 2049 is a UTCTime (RFC 5280 4.1.2.5)"
-rule_text WholeSeconds = codes "a time has no fraction of a second (RFC 5280 4.1.2.5.2)"
-rule_text UniqueIdVersion = codes "a unique identifier is not in version 1 (RFC 5280 4.1.2.8)"
-rule_text ExtensionsVersion = codes "extensions are in version 3 alone (RFC 5280 4.1.2.9)"
-rule_text DistinctExtensions = codes "an extension comes once (RFC 5280 4.2)"
-rule_text NamedSubject = codes "the subject has a name, or a critical other one (RFC 5280 4.1.2.6)"
-rule_text DerValues = codes "the values of any type are in DER (X.690 10)"
+-- the text that a `Display` writes, which is `said` where it says that
+abbrev pub IsDisplayed : Option (List ℕ) → List ℕ → Type 0
+IsDisplayed said t = IfSome said (λ s. t ≡ s)
 
--- a line of a rule that is broken, and nothing of one that isn't
-abbrev pub IsRule : Signed → Rule → List ℕ → Type 0
-IsRule c r text = (Breaks r c × (text ≡ line (codes "  Broken rule: ") (rule_text r)))
-    ⊎ ((¬ Breaks r c) × (text ≡ []))
+-- a line of a label and that text
+abbrev pub IsLineOf : List ℕ → Option (List ℕ) → List ℕ → Type 0
+IsLineOf label said text = (t : List ℕ) × IsDisplayed said t × (text ≡ line label t)
 
-abbrev pub AreFieldRules : Signed → List ℕ → Type 0
-AreFieldRules c = IsRule c SameAlgorithms ⨾ (IsRule c PositiveSerialNumber ⨾ (IsRule c ShortSerialNumber
-    ⨾ (IsRule c NamedIssuer ⨾ (IsRule c OrderedAttributes ⨾ (IsRule c UtcTimeTo2049 ⨾ IsRule c WholeSeconds)))))
+-- a line of a label and a text
+abbrev pub IsLine : List ℕ → List ℕ → Type 0
+IsLine label text = (t : List ℕ) × (text ≡ line label t)
 
-abbrev pub AreListRules : Signed → List ℕ → Type 0
-AreListRules c = IsRule c UniqueIdVersion ⨾ (IsRule c ExtensionsVersion ⨾ (IsRule c DistinctExtensions
-    ⨾ (IsRule c NamedSubject ⨾ IsRule c DerValues)))
+-- A line of a rule that is broken, and nothing of one that isn't. pkix_rules promises no text of a rule.
+abbrev pub IsRule : {R : Type 0} → (R → Type 0) → List ℕ → R → List ℕ → Type 0
+IsRule IsBroken label r text = (IsBroken r × IsLine label text) ⊎ ((¬ IsBroken r) × (text ≡ []))
+
+-- those that are broken, of some rules, in their order
+abbrev pub AreBroken : {R : Type 0} → (R → Type 0) → List ℕ → List R → List ℕ → Type 0
+AreBroken IsBroken label rules = InOrder (IsRule IsBroken label) rules
+
+-- what is said by MUST, and then what is said by SHOULD
+abbrev pub AreBrokenOf : {R : Type 0} → (R → Type 0) → List R → List R → List ℕ → Type 0
+AreBrokenOf IsBroken must should = AreBroken IsBroken (codes "  Broken rule: ") must
+    ⨾ AreBroken IsBroken (codes "  Broken recommendation: ") should
 
 abbrev pub AreRules : Signed → List ℕ → Type 0
-AreRules c = AreFieldRules c ⨾ AreListRules c
+AreRules c = AreBrokenOf (λ r. Breaks r c) MUST_RULES.now SHOULD_RULES.now
+
+abbrev pub AreListRules : SignedList → List ℕ → Type 0
+AreListRules l = AreBrokenOf (λ r. BreaksList r l) MUST_LIST_RULES.now SHOULD_LIST_RULES.now

@@ -34,5 +34,5 @@ flags_text w =
     ++ (use_text (is_bit_set 7 w) (codes "privilegeWithdrawn")
     ++ use_text (is_bit_set 8 w) (codes "aACompromise")))))))
 
-abbrev pub reasons_text : List ℕ → List ℕ
-reasons_text w = codes "        Reasons:" ++ (flags_text w ++ codes "\n")
+abbrev pub reasons_text : List ℕ → List ℕ → List ℕ
+reasons_text label w = label ++ (flags_text w ++ codes "\n")

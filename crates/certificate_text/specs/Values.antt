@@ -1,6 +1,6 @@
 -- The texts of values.
 use Rattle.std.specs.Prelude.{ℕ, ◌==◌, ◌&&◌, not, nat_le, Bool, true, false, if◌then◌else◌}
-use Rattle.std.specs.Prelude.{List, [], ◌∷◌, ◌++◌, codes, decimal, length, Option}
+use Rattle.std.specs.Prelude.{List, [], ◌∷◌, ◌++◌, codes, decimal, length, Option, Some, None}
 use Rattle.std.specs.Net.Addr.{segments_of}
 use Rattle.std.specs.Net.Text.{ipv4_text, ipv6_text}
 use Rattle.der_base.specs.declared.header.Class.{Class}
@@ -9,7 +9,8 @@ use Rattle.der_base.specs.declared.time.ASN1DateTime.{ASN1DateTime}
 use Rattle.der_cursor.specs.Elements.{Element}
 use Rattle.der_print.specs.declared.style.Limit.TheVariants.{Whole}
 use Rattle.der_print.specs.Quotes.{quoted_text}
-use Rattle.der_print.specs.Values.{hex_text, is_ascii_text, is_quoted_type, moment_text, without_leading_zero}
+use Rattle.der_print.specs.Values.{hex_text, is_ascii_text, is_quoted_type, moment_text, number_text}
+use Rattle.der_print.specs.Values.{without_leading_zero}
 use Rattle.der_x509.specs.declared.time.Validity.{Validity}
 use Rattle.der_x509.specs.Certificates.{moment_of}
 use Rattle.certificate_text.specs.Expiry.{optional_expiry}
@@ -45,9 +46,12 @@ is_string e = is_universal e.0 && (not e.1 && is_quoted_type e.2)
 abbrev pub any_text : Element → List ℕ
 any_text e = if is_string e then quoted_text Whole e.2 e.3 else hex e.3
 
--- a text of ASCII: as it is if it has two characters or more and all can be printed
+-- a text: as it is if it has two characters or more and all are ASCII that can be printed, and else in quotes
 abbrev pub plain_text : List ℕ → List ℕ
-plain_text w = if is_ascii_text w then w else quoted_text Whole 22 w
+plain_text w = if is_ascii_text w then w else quoted_text Whole 12 w
+
+abbrev pub plain_line : List ℕ → List ℕ → List ℕ
+plain_line label w = line label (plain_text w)
 
 -- addresses (RFC 791, RFC 4291)
 abbrev pub longer_text : List ℕ → List ℕ
@@ -81,3 +85,32 @@ signature_text w = codes "  Signature: " ++ (decimal (length w) ++ codes " octet
 -- the digests of a whole input (FIPS 180-4)
 abbrev pub digests_text : List ℕ → List ℕ
 digests_text i = line (codes "  SHA-256: ") (hex (sha256 i)) ++ line (codes "  SHA-1: ") (hex (sha1 i))
+
+-- lines of values that may be absent
+abbrev pub optional_number : List ℕ → Option ℕ → List ℕ
+optional_number label (Some n) = line label (decimal n)
+optional_number label None = []
+
+abbrev pub optional_octets : List ℕ → Option (List ℕ) → List ℕ
+optional_octets label (Some w) = octets_line label w
+optional_octets label None = []
+
+abbrev pub optional_serial : Option (List ℕ) → List ℕ
+optional_serial (Some w) = line (codes "      Serial number: ") (serial_text w)
+optional_serial None = []
+
+abbrev pub optional_plain : List ℕ → Option (List ℕ) → List ℕ
+optional_plain label (Some w) = plain_line label w
+optional_plain label None = []
+
+abbrev pub optional_any : List ℕ → Option Element → List ℕ
+optional_any label (Some e) = line label (any_text e)
+optional_any label None = []
+
+-- a line of something that is true
+abbrev pub true_line : List ℕ → Bool → List ℕ
+true_line label truth = if truth then line label (codes "true") else []
+
+-- a number of any size, with its content octets
+abbrev pub number_line : List ℕ → List ℕ → List ℕ
+number_line label w = line label (number_text Whole w)

@@ -6,10 +6,11 @@ ghost use Rattle.der_base.specs.Pretty.{boolean_text};
 ghost use Rattle.der_extensions.specs.Extensions.{authority_of};
 ghost use Rattle.der_extensions.specs.Lists.{list_octets};
 ghost use Rattle.der_print.specs.Writes.{WritesOne};
-ghost use Rattle.certificate_text.specs.Extensions.{AreIssuerNames, IsAuthority, constraints_text, optional_number};
-ghost use Rattle.certificate_text.specs.Extensions.{optional_octets, optional_serial};
+ghost use Rattle.certificate_text.specs.Extensions.{AreIssuerNames, IsAuthority, constraints_text};
+ghost use Rattle.certificate_text.specs.Values.{optional_serial};
 
-use crate::general_name::{write_general_names, write_octets};
+use crate::general_name::write_general_names;
+use crate::lines::{write_optional_number, write_optional_octets};
 use crate::serial::Serial;
 use der_extensions::{AuthorityKeyIdentifier, BasicConstraints, GeneralNames};
 use std::fmt;
@@ -31,20 +32,6 @@ fn truth_word(truth: bool) -> &'static str
     if truth { "true" } else { "false" }
 }
 
-/// Writes a line of a number, if there is one.
-pub(crate) fn write_optional_number<W: fmt::Write>(
-    f: &mut fmt::Formatter<W>,
-    label: &str,
-    number: Option<u32>,
-) -> fmt::Result
-    ensures { DisplaysOnOk W.Write.write_str_gives f.old result (Some (optional_number label.now number)) f.new }
-{
-    match number {
-        Some(number) => write!(f, "{label}{number}\n"),
-        None => Ok(()),
-    }
-}
-
 /// Writes an AuthorityKeyIdentifier.
 pub(crate) fn write_authority<W: fmt::Write>(
     f: &mut fmt::Formatter<W>,
@@ -55,21 +42,6 @@ pub(crate) fn write_authority<W: fmt::Write>(
     write_optional_octets(f, "      Key identifier: ", authority.key_identifier)?;
     write_issuer_names(f, &authority.authority_cert_issuer)?;
     write_optional_serial(f, authority.authority_cert_serial_number)
-}
-
-/// Writes a line of octets, if there are any.
-pub(crate) fn write_optional_octets<W: fmt::Write>(
-    f: &mut fmt::Formatter<W>,
-    label: &str,
-    octets: Option<&[u8]>,
-) -> fmt::Result
-    ensures { DisplaysOnOk W.Write.write_str_gives f.old result
-        (Some (optional_octets label.now (option_map (λ w. w.now) octets.entry))) f.new }
-{
-    match octets {
-        Some(octets) => write_octets(f, label, octets),
-        None => Ok(()),
-    }
 }
 
 /// Writes the names of the issuer's issuer, if there are any.

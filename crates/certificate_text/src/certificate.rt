@@ -8,9 +8,9 @@ ghost use Rattle.certificate_text.specs.Certificates.{IsBody, IsCertificateText,
 ghost use Rattle.certificate_text.specs.Certificates.{optional_id, unique_ids, version_number, version_text};
 
 use crate::extension::write_extensions;
-use crate::general_name::write_octets;
 use crate::identifier::write_identifier_line;
 use crate::key::write_key;
+use crate::lines::write_octets;
 use crate::name::write_name_line;
 use crate::rules::write_rules;
 use crate::seal::{write_digests, write_signature};

@@ -49,7 +49,7 @@ fn is_string(element: &Any<'_>) -> bool
         && is_quoted_type(element.tag().0)
 }
 
-/// A text of ASCII: as it is if it has two characters or more and all can be printed, and else in quotes.
+/// A text: as it is if it has two characters or more and all are ASCII that can be printed, and else in quotes.
 #[derive(Clone, Copy)]
 pub(crate) struct Plain<'a> {
     pub text: &'a str,
@@ -66,7 +66,7 @@ impl fmt::Display for Plain<'_> {
         if is_printable_ascii(octets) {
             return f.write_str(self.text);
         }
-        let number = Tag::Ia5String.0;
+        let number = Tag::Utf8String.0;
         let limit = Limit::Whole;
         write!(
             f,

@@ -36,14 +36,14 @@ pub(crate) fn write_escaped<W: fmt::Write>(
 }
 
 /// Whether an octet is at the start or the end of a string.
-fn is_outermost(first: bool, rest: &[u8]) -> bool
+pub(crate) fn is_outermost(first: bool, rest: &[u8]) -> bool
     ensures { result ≡ (first || length rest.now == 0) }
 {
     first || rest.is_empty()
 }
 
 /// Writes an octet, which may be at the start or the end of a string, or at its start.
-fn write_octet<W: fmt::Write>(
+pub(crate) fn write_octet<W: fmt::Write>(
     f: &mut fmt::Formatter<W>,
     coding: Coding,
     octet: u8,
@@ -87,7 +87,7 @@ fn write_other<W: fmt::Write>(f: &mut fmt::Formatter<W>, coding: Coding, octet: 
 }
 
 /// Writes a backslash and an octet as a hexadecimal number of two digits.
-fn write_pair<W: fmt::Write>(f: &mut fmt::Formatter<W>, octet: u8) -> fmt::Result
+pub(crate) fn write_pair<W: fmt::Write>(f: &mut fmt::Formatter<W>, octet: u8) -> fmt::Result
     ensures { DisplaysOnOk W.Write.write_str_gives f.old result (Some (pair_text octet)) f.new }
 {
     f.write_str("\\")?;

@@ -4,15 +4,14 @@ ghost use Rattle.std.specs.Fmt.{DisplaysOnOk};
 ghost use Rattle.der_extensions.specs.GeneralNames.{name_of, other_name_of};
 ghost use Rattle.der_print.specs.Writes.{WritesOne};
 ghost use Rattle.certificate_text.specs.GeneralNames.{AreGeneralNames, IsGeneralName, IsNameByKind, IsOtherName};
-ghost use Rattle.certificate_text.specs.GeneralNames.{address_line, plain_line};
-ghost use Rattle.certificate_text.specs.Values.{octets_line};
+ghost use Rattle.certificate_text.specs.GeneralNames.{address_line};
 
 use crate::address::write_address;
-use crate::element::{AnyValue, Plain};
+use crate::element::AnyValue;
 use crate::identifier::{write_identifier, write_identifier_line};
+use crate::lines::{write_octets, write_plain};
 use crate::name::write_name_line;
 use der_extensions::{GeneralName, GeneralNames, OtherName};
-use der_print::{Hex, Limit};
 use std::fmt;
 
 /// Writes a line for each of some names, so far in.
@@ -69,29 +68,6 @@ fn write_other_name<W: fmt::Write>(f: &mut fmt::Formatter<W>, name: &OtherName<'
     write_identifier(f, &name.type_id)?;
     let element = name.value;
     write!(f, ", {}\n", AnyValue { element })
-}
-
-/// Writes a line of a text.
-pub(crate) fn write_plain<W: fmt::Write>(
-    f: &mut fmt::Formatter<W>,
-    label: &str,
-    text: &str,
-) -> fmt::Result
-    ensures { DisplaysOnOk W.Write.write_str_gives f.old result (Some (plain_line label.now text.now)) f.new }
-{
-    write!(f, "{label}{}\n", Plain { text })
-}
-
-/// Writes a line of octets.
-pub(crate) fn write_octets<W: fmt::Write>(
-    f: &mut fmt::Formatter<W>,
-    label: &str,
-    octets: &[u8],
-) -> fmt::Result
-    ensures { DisplaysOnOk W.Write.write_str_gives f.old result (Some (octets_line label.now octets.now)) f.new }
-{
-    let limit = Limit::Whole;
-    write!(f, "{label}{}\n", Hex { octets, limit })
 }
 
 /// Writes a line of an address.

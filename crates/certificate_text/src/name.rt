@@ -11,10 +11,13 @@ ghost use Rattle.certificate_text.specs.Names.{AreFurther, IsAttribute, IsComma,
 ghost use Rattle.certificate_text.specs.Names.{IsAfterPlus, IsRelativeName, IsShortName, coding_of, element_hex};
 ghost use Rattle.certificate_text.specs.Names.{header_hex};
 ghost use Rattle.certificate_text.specs.Names.{value_text, x520_name};
+ghost use Rattle.certificate_text.specs.Names.{other_value_text, text_of_characters, width_of};
 ghost use Rattle.certificate_text.specs.Values.{hex};
+ghost use Rattle.certificate_text.specs.Wide.{characters};
 
 use crate::escaped::{Coding, write_escaped};
 use crate::identifier::octets_of;
+use crate::wide::{Width, are_characters, write_characters};
 use der_base::any::Any;
 use der_base::header::{Class, Tag};
 use der_octets::header::{length_octet_count, write_length};
@@ -37,6 +40,18 @@ const USER_ID: &[u8] = b"\x09\x92\x26\x89\x93\xf2\x2c\x64\x01\x01";
 /// emailAddress: 1.2.840.113549.1.9.1.
 const EMAIL_ADDRESS: &[u8] = b"\x2a\x86\x48\x86\xf7\x0d\x01\x09\x01";
 
+/// A name as text (RFC 4514): the last relative name first. Of more than 64 relative names the others are left out.
+#[derive(Clone, Copy)]
+pub struct NameText<'a> {
+    pub name: Name<'a>,
+}
+
+impl fmt::Display for NameText<'_> {
+    fn fmt<W: fmt::Write>(&self, f: &mut fmt::Formatter<W>) -> fmt::Result {
+        write_name(f, self.name)
+    }
+}
+
 /// Writes a line of a name.
 pub(crate) fn write_name_line<W: fmt::Write>(
     f: &mut fmt::Formatter<W>,
@@ -51,7 +66,7 @@ pub(crate) fn write_name_line<W: fmt::Write>(
 }
 
 /// Writes a name, the last relative name first. Of more than 64 relative names the others are left out.
-pub(crate) fn write_name<W: fmt::Write>(f: &mut fmt::Formatter<W>, name: Name<'_>) -> fmt::Result
+pub fn write_name<W: fmt::Write>(f: &mut fmt::Formatter<W>, name: Name<'_>) -> fmt::Result
     ensures { WritesOne W.Write.write_str_gives f.old result (IsName name.entry.octets.now) f.new }
 {
     write_backwards(f, name.relative_names(), MOST)
@@ -197,7 +212,46 @@ fn write_value<W: fmt::Write>(f: &mut fmt::Formatter<W>, value: &Any<'_>) -> fmt
 {
     match coding_of(value) {
         Some(coding) => write_escaped(f, coding, value.bytes),
+        None => write_other_value(f, value),
+    }
+}
+
+/// Writes a value that is no string of octets.
+fn write_other_value<W: fmt::Write>(f: &mut fmt::Formatter<W>, value: &Any<'_>) -> fmt::Result
+    ensures { DisplaysOnOk W.Write.write_str_gives f.old result (Some (other_value_text (element_of value.now))) f.new }
+{
+    match width_of(value) {
+        Some(width) => write_wide(f, width, value),
         None => write_element(f, value),
+    }
+}
+
+/// Writes a string of wide characters, or the element if its content is none.
+fn write_wide<W: fmt::Write>(
+    f: &mut fmt::Formatter<W>,
+    width: Width,
+    value: &Any<'_>,
+) -> fmt::Result
+    ensures { let e = element_of value.now in
+        DisplaysOnOk W.Write.write_str_gives f.old result (Some (text_of_characters (characters width e.3) e)) f.new }
+{
+    if are_characters(width, value.bytes) {
+        return write_characters(f, width, value.bytes);
+    }
+    write_element(f, value)
+}
+
+/// How many octets the characters of a value have, if it is a string of wide ones.
+fn width_of(value: &Any<'_>) -> Option<Width>
+    ensures { result ≡ width_of (element_of value.now) }
+{
+    if value.class() != Class::Universal || value.header.constructed() {
+        return None;
+    }
+    match value.tag().0 {
+        28 => Some(Width::Four),
+        30 => Some(Width::Two),
+        _ => None,
     }
 }
 

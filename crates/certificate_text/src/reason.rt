@@ -1,46 +1,52 @@
-//! Reasons of revocation (RFC 5280 5.3.1).
-ghost use Rattle.std.specs.Prelude.{◌≡◌, Some};
-ghost use Rattle.std.specs.Fmt.{DisplaysOnOk};
+//! Extensions of entries of a list of revoked certificates (RFC 5280 5.3).
+ghost use Rattle.std.specs.Prelude.{◌≡◌, Ok};
 ghost use Rattle.der_print.specs.Writes.{WritesOne};
-ghost use Rattle.der_x509.specs.Certificates.{extension_of};
-ghost use Rattle.certificate_text.specs.Lists.{IsEntryValue, entry_value_text, reason_line, reason_name};
+ghost use Rattle.certificate_text.specs.Lists.{IsEntryRead, IsEntryResult, IsReason, reason_name};
 
-use crate::general_name::write_octets;
-use crl_reader::{Reason, reason_of};
+use crate::general_name::write_general_names;
+use crate::lines::write_octets;
+use crate::validity::write_moment;
+use crl_reader::{Reason, read_reason};
+use der_extensions::{ExtensionValue, read_extension_value};
 use der_x509::Extension;
 use std::fmt;
 
-/// Writes the value of an extension of an entry: the reason, or its octets.
+/// Writes the value of an extension of an entry: what it says, or its octets.
 pub(crate) fn write_entry_value<W: fmt::Write>(
     f: &mut fmt::Formatter<W>,
     extension: &Extension<'_>,
 ) -> fmt::Result
-    ensures { WritesOne W.Write.write_str_gives f.old result (IsEntryValue (extension_of extension.now)) f.new }
+    ensures { WritesOne W.Write.write_str_gives f.old result (IsEntryRead extension.now) f.new }
 {
-    match reason_of(extension) {
-        Ok(reason) => write_read_value(f, extension.value, reason),
+    match read_extension_value(extension) {
+        Ok(value) => write_read_value(f, extension.value, &value),
         Err(_) => write_octets(f, "        Octets: ", extension.value),
     }
 }
 
-/// Writes a reason, or the octets of another extension.
 fn write_read_value<W: fmt::Write>(
     f: &mut fmt::Formatter<W>,
     octets: &[u8],
-    reason: Option<Reason>,
+    value: &ExtensionValue<'_>,
 ) -> fmt::Result
-    ensures { DisplaysOnOk W.Write.write_str_gives f.old result (Some (entry_value_text octets.now reason)) f.new }
+    ensures { WritesOne W.Write.write_str_gives f.old result (IsEntryResult octets.now (Ok value.now)) f.new }
 {
-    match reason {
-        Some(reason) => write_reason(f, reason),
-        None => write_octets(f, "        Octets: ", octets),
+    match value {
+        ExtensionValue::ReasonCode => write_reason(f, octets),
+        ExtensionValue::InvalidityDate(date) => write_moment(f, "        Invalid since: ", *date),
+        ExtensionValue::CertificateIssuer(names) => write_general_names(f, "        ", names),
+        _ => write_octets(f, "        Octets: ", octets),
     }
 }
 
-fn write_reason<W: fmt::Write>(f: &mut fmt::Formatter<W>, reason: Reason) -> fmt::Result
-    ensures { DisplaysOnOk W.Write.write_str_gives f.old result (Some (reason_line reason)) f.new }
+/// Writes a reason (5.3.1), or the octets that are none.
+fn write_reason<W: fmt::Write>(f: &mut fmt::Formatter<W>, octets: &[u8]) -> fmt::Result
+    ensures { WritesOne W.Write.write_str_gives f.old result (IsReason octets.now) f.new }
 {
-    write!(f, "        Reason: {}\n", reason_name(reason))
+    match read_reason(octets) {
+        Ok(reason) => write!(f, "        Reason: {}\n", reason_name(reason)),
+        Err(_) => write_octets(f, "        Octets: ", octets),
+    }
 }
 
 /// The name of a reason in its ASN.1.

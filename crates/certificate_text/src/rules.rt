@@ -1,11 +1,30 @@
-//! The rules of RFC 5280 that a certificate breaks.
-ghost use Rattle.std.specs.Prelude.{◌≡◌};
+//! The rules of RFC 5280 that a certificate or a list of revoked certificates breaks.
+ghost use Rattle.std.specs.Prelude.{IfOk};
+ghost use Rattle.crl_reader.specs.Lists.{certificate_list_of};
 ghost use Rattle.der_print.specs.Writes.{WritesOne};
 ghost use Rattle.der_x509.specs.Certificates.{certificate_of};
-ghost use Rattle.certificate_text.specs.Rules.{AreFieldRules, AreListRules, AreRules, IsRule, rule_text};
+ghost use Rattle.pkix_rules.specs.ListRules.{BreaksList};
+ghost use Rattle.pkix_rules.specs.Rules.{Breaks};
+ghost use Rattle.certificate_text.specs.Rules.{AreBroken, AreListRules, AreRules, IsDisplayed, IsLineOf};
 
-use der_x509::{Certificate, Rule};
+use arrayvec::ArrayString;
+use crl_reader::CertificateList;
+use der_x509::Certificate;
+use pkix_rules::{
+    ListRule, MUST_LIST_RULES, MUST_RULES, Rule, SHOULD_LIST_RULES, SHOULD_RULES,
+    broken_list_rules, broken_rules,
+};
 use std::fmt;
+use std::fmt::Write;
+
+/// The most octets that the text of a rule has.
+const LONGEST_RULE: usize = 256;
+
+/// What stands before a rule that RFC 5280 says by MUST.
+const RULE: &str = "  Broken rule: ";
+
+/// What stands before one that it says by SHOULD.
+const RECOMMENDATION: &str = "  Broken recommendation: ";
 
 /// Writes a line for each rule that a certificate breaks.
 pub(crate) fn write_rules<W: fmt::Write>(
@@ -14,68 +33,70 @@ pub(crate) fn write_rules<W: fmt::Write>(
 ) -> fmt::Result
     ensures { WritesOne W.Write.write_str_gives f.old result (AreRules (certificate_of certificate.now)) f.new }
 {
-    write_field_rules(f, certificate)?;
-    write_list_rules(f, certificate)
+    write_broken(f, RULE, certificate, MUST_RULES)?;
+    write_broken(f, RECOMMENDATION, certificate, SHOULD_RULES)
 }
 
-fn write_field_rules<W: fmt::Write>(
+/// Writes those of some rules that a certificate breaks.
+fn write_broken<W: fmt::Write>(
     f: &mut fmt::Formatter<W>,
+    label: &str,
     certificate: &Certificate<'_>,
+    rules: &[Rule],
 ) -> fmt::Result
-    ensures { WritesOne W.Write.write_str_gives f.old result (AreFieldRules (certificate_of certificate.now)) f.new }
+    ensures { WritesOne W.Write.write_str_gives f.old result
+        (AreBroken (λ r. Breaks r (certificate_of certificate.now)) label.now rules.now) f.new }
 {
-    write_rule(f, certificate, Rule::SameAlgorithms)?;
-    write_rule(f, certificate, Rule::PositiveSerialNumber)?;
-    write_rule(f, certificate, Rule::ShortSerialNumber)?;
-    write_rule(f, certificate, Rule::NamedIssuer)?;
-    write_rule(f, certificate, Rule::OrderedAttributes)?;
-    write_rule(f, certificate, Rule::UtcTimeTo2049)?;
-    write_rule(f, certificate, Rule::WholeSeconds)
-}
-
-fn write_list_rules<W: fmt::Write>(
-    f: &mut fmt::Formatter<W>,
-    certificate: &Certificate<'_>,
-) -> fmt::Result
-    ensures { WritesOne W.Write.write_str_gives f.old result (AreListRules (certificate_of certificate.now)) f.new }
-{
-    write_rule(f, certificate, Rule::UniqueIdVersion)?;
-    write_rule(f, certificate, Rule::ExtensionsVersion)?;
-    write_rule(f, certificate, Rule::DistinctExtensions)?;
-    write_rule(f, certificate, Rule::NamedSubject)?;
-    write_rule(f, certificate, Rule::DerValues)
-}
-
-/// Writes a line of a rule, if the certificate breaks it.
-fn write_rule<W: fmt::Write>(
-    f: &mut fmt::Formatter<W>,
-    certificate: &Certificate<'_>,
-    rule: Rule,
-) -> fmt::Result
-    ensures { WritesOne W.Write.write_str_gives f.old result (IsRule (certificate_of certificate.now) rule) f.new }
-{
-    if certificate.breaks(rule) {
-        return write!(f, "  Broken rule: {}\n", sentence_of(rule));
+    for rule in broken_rules(certificate, rules) {
+        write_rule(f, label, &rule)?;
     }
     Ok(())
 }
 
-/// What a rule asks, and where it stands.
-fn sentence_of(rule: Rule) -> &'static str
-    ensures { result.now ≡ rule_text rule }
+/// Writes a line for each rule that a list of revoked certificates breaks.
+pub(crate) fn write_list_rules<W: fmt::Write>(
+    f: &mut fmt::Formatter<W>,
+    list: &CertificateList<'_>,
+) -> fmt::Result
+    ensures { WritesOne W.Write.write_str_gives f.old result (AreListRules (certificate_list_of list.now)) f.new }
 {
-    match rule {
-        Rule::SameAlgorithms => "both algorithms of the signature are the same (RFC 5280 4.1.1.2)",
-        Rule::PositiveSerialNumber => "the serial number is positive (RFC 5280 4.1.2.2)",
-        Rule::ShortSerialNumber => "the serial number has at most 20 octets (RFC 5280 4.1.2.2)",
-        Rule::NamedIssuer => "the issuer has a name (RFC 5280 4.1.2.4)",
-        Rule::OrderedAttributes => "the attributes of a relative name ascend (X.690 11.6)",
-        Rule::UtcTimeTo2049 => "a time to the end of 2049 is a UTCTime (RFC 5280 4.1.2.5)",
-        Rule::WholeSeconds => "a time has no fraction of a second (RFC 5280 4.1.2.5.2)",
-        Rule::UniqueIdVersion => "a unique identifier is not in version 1 (RFC 5280 4.1.2.8)",
-        Rule::ExtensionsVersion => "extensions are in version 3 alone (RFC 5280 4.1.2.9)",
-        Rule::DistinctExtensions => "an extension comes once (RFC 5280 4.2)",
-        Rule::NamedSubject => "the subject has a name, or a critical other one (RFC 5280 4.1.2.6)",
-        Rule::DerValues => "the values of any type are in DER (X.690 10)",
+    write_broken_of_list(f, RULE, list, MUST_LIST_RULES)?;
+    write_broken_of_list(f, RECOMMENDATION, list, SHOULD_LIST_RULES)
+}
+
+/// Writes those of some rules that a list breaks.
+fn write_broken_of_list<W: fmt::Write>(
+    f: &mut fmt::Formatter<W>,
+    label: &str,
+    list: &CertificateList<'_>,
+    rules: &[ListRule],
+) -> fmt::Result
+    ensures { WritesOne W.Write.write_str_gives f.old result
+        (AreBroken (λ r. BreaksList r (certificate_list_of list.now)) label.now rules.now) f.new }
+{
+    for rule in broken_list_rules(list, rules) {
+        write_rule(f, label, &rule)?;
     }
+    Ok(())
+}
+
+/// Writes a line of a rule that is broken. Its text is written apart first, because nothing is promised of it.
+fn write_rule<W: fmt::Write, R: fmt::Display>(
+    f: &mut fmt::Formatter<W>,
+    label: &str,
+    rule: &R,
+) -> fmt::Result
+    ensures { WritesOne W.Write.write_str_gives f.old result (IsLineOf label.now (R.output rule.now)) f.new }
+{
+    let text = text_of(rule)?;
+    write!(f, "{label}{text}\n")
+}
+
+/// What a rule displays.
+fn text_of<R: fmt::Display>(rule: &R) -> Result<ArrayString<LONGEST_RULE>, fmt::Error>
+    ensures { IfOk result (λ text. IsDisplayed (R.output rule.now) text.bytes) }
+{
+    let mut text = ArrayString::new();
+    write!(text, "{rule}")?;
+    Ok(text)
 }

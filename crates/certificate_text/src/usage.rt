@@ -53,11 +53,13 @@ fn write_use<W: fmt::Write>(
 /// Writes the reasons of revocation that a list has.
 pub(crate) fn write_reasons<W: fmt::Write>(
     f: &mut fmt::Formatter<W>,
+    label: &str,
     bits: BitString<'_>,
 ) -> fmt::Result
-    ensures { DisplaysOnOk W.Write.write_str_gives f.old result (Some (reasons_text bits.entry.octets.now)) f.new }
+    ensures { DisplaysOnOk W.Write.write_str_gives f.old result
+        (Some (reasons_text label.now bits.entry.octets.now)) f.new }
 {
-    write!(f, "        Reasons:")?;
+    f.write_str(label)?;
     write_flags(f, bits)?;
     write!(f, "\n")
 }

@@ -5,6 +5,7 @@ ghost use Rattle.der_x509.specs.Certificates.{moment_of};
 ghost use Rattle.certificate_text.specs.Values.{time_line, validity_text};
 
 use crate::expiry::write_optional_expiry;
+use der_base::time::ASN1DateTime;
 use der_print::Moment;
 use der_x509::{Time, Validity};
 use std::fmt;
@@ -18,8 +19,19 @@ pub(crate) fn write_time<W: fmt::Write>(
     ensures { DisplaysOnOk W.Write.write_str_gives f.old result
         (Some (time_line label.now (moment_of time))) f.new }
 {
+    write_moment(f, label, time.moment())
+}
+
+/// Writes a line of a moment whose year is complete.
+pub(crate) fn write_moment<W: fmt::Write>(
+    f: &mut fmt::Formatter<W>,
+    label: &str,
+    time: ASN1DateTime,
+) -> fmt::Result
+    ensures { DisplaysOnOk W.Write.write_str_gives f.old result (Some (time_line label.now time)) f.new }
+{
     let moment = Moment {
-        time: time.moment(),
+        time,
         is_utc_time: false,
     };
     write!(f, "{label}{moment}\n")

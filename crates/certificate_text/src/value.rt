@@ -6,11 +6,16 @@ ghost use Rattle.certificate_text.specs.Values.{unread_text};
 ghost use Rattle.certificate_text.specs.Extensions.{IsRead, IsValue};
 
 use crate::authority::{write_authority, write_constraints};
-use crate::general_name::{write_general_names, write_octets};
-use crate::lists::{
-    write_access, write_name_constraints, write_points, write_policies, write_purposes,
-};
+use crate::general_name::write_general_names;
+use crate::items::write_items;
+use crate::lines::{write_number, write_octets};
+use crate::lists::write_name_constraints;
+use crate::points::write_issuing_point;
+use crate::policies::write_policy_constraints;
+use crate::timestamps::write_timestamps;
 use crate::usage::write_usage;
+use crate::validity::write_moment;
+use crate::web::write_organization;
 use der_extensions::{ExtensionValue, read_extension_value};
 use der_x509::Extension;
 use std::fmt;
@@ -51,16 +56,31 @@ fn write_value<W: fmt::Write>(
         ExtensionValue::AuthorityKeyIdentifier(authority) => write_authority(f, authority),
         ExtensionValue::SubjectKeyIdentifier(key) => write_octets(f, "      Key identifier: ", key),
         ExtensionValue::KeyUsage(usage) => write_usage(f, usage),
-        ExtensionValue::CertificatePolicies(policies) => write_policies(f, policies),
+        ExtensionValue::CertificatePolicies(policies) => write_items(f, policies),
         ExtensionValue::SubjectAltName(names) => write_general_names(f, "      ", names),
         ExtensionValue::IssuerAltName(names) => write_general_names(f, "      ", names),
         ExtensionValue::BasicConstraints(constraints) => write_constraints(f, constraints),
         ExtensionValue::NameConstraints(constraints) => write_name_constraints(f, constraints),
-        ExtensionValue::ExtendedKeyUsage(purposes) => write_purposes(f, purposes),
-        ExtensionValue::CrlDistributionPoints(points) => write_points(f, points),
-        ExtensionValue::FreshestCrl(points) => write_points(f, points),
-        ExtensionValue::AuthorityInfoAccess(access) => write_access(f, access),
-        ExtensionValue::SubjectInfoAccess(access) => write_access(f, access),
+        ExtensionValue::ExtendedKeyUsage(purposes) => write_items(f, purposes),
+        ExtensionValue::CrlDistributionPoints(points) => write_items(f, points),
+        ExtensionValue::FreshestCrl(points) => write_items(f, points),
+        ExtensionValue::AuthorityInfoAccess(access) => write_items(f, access),
+        ExtensionValue::SubjectInfoAccess(access) => write_items(f, access),
+        ExtensionValue::PolicyMappings(mappings) => write_items(f, mappings),
+        ExtensionValue::SubjectDirectoryAttributes(attributes) => write_items(f, attributes),
+        ExtensionValue::PolicyConstraints(constraints) => write_policy_constraints(f, *constraints),
+        ExtensionValue::InhibitAnyPolicy(count) => write!(f, "      Skip certificates: {count}\n"),
+        ExtensionValue::CrlNumber(number) => write_number(f, "      Number: ", number),
+        ExtensionValue::DeltaCrlIndicator(number) => write_number(f, "      Base number: ", number),
+        ExtensionValue::IssuingDistributionPoint(point) => write_issuing_point(f, point),
+        ExtensionValue::InvalidityDate(date) => write_moment(f, "      Invalid since: ", *date),
+        ExtensionValue::CertificateIssuer(names) => write_general_names(f, "      ", names),
+        ExtensionValue::SignedCertificateTimestamps(timestamps) => write_timestamps(f, timestamps),
+        ExtensionValue::PrecertificatePoison => Ok(()),
+        ExtensionValue::TlsFeatures(features) => write_items(f, features),
+        ExtensionValue::OcspNoCheck => Ok(()),
+        ExtensionValue::QcStatements(statements) => write_items(f, statements),
+        ExtensionValue::OrganizationIdentifier(organization) => write_organization(f, organization),
         _ => write_octets(f, "      Octets: ", octets),
     }
 }

@@ -3,4 +3,4 @@ use Rattle.certificate_text.proofs.WriteLaws.{next}
 use Rattle.certificate_text.proofs.rules.write_list_rules.Goals as goal
 
 pub returns : goal.returns
-returns g c = next c.in_ok-write_rule.ensures refl (next c.in_ok-write_rule-2.ensures refl (next c.in_ok-write_rule-3.ensures refl (next c.in_ok-write_rule-4.ensures refl c.write_rule-5.ensures)))
+returns g c = next c.in_ok-write_broken_of_list.ensures refl c.write_broken_of_list-2.ensures
