@@ -1,13 +1,17 @@
 -- Which of the structures around keys octets are (RFC 5280, RFC 2986).
 use Rattle.std.specs.Prelude.{◌≡◌, ◌⊎◌, ℕ, Option, Some, None, List, []}
+use Rattle.std.specs.List.{All}
 use Rattle.crl_reader.specs.declared.list.CertificateList.{CertificateList as ListStruct}
-use Rattle.crl_reader.specs.Lists.{certificate_list_of, whole_list}
+use Rattle.crl_reader.specs.Lists.{Signed as SignedList, certificate_list_of, whole_list}
 use Rattle.der_request.specs.declared.request.CertificationRequest.{CertificationRequest as RequestStruct}
 use Rattle.der_request.specs.Requests.{request_of, whole_request}
 use Rattle.der_x509.specs.declared.certificate.Certificate.{Certificate as CertificateStruct}
-use Rattle.der_x509.specs.Certificates.{certificate_of, whole_certificate}
+use Rattle.der_x509.specs.Certificates.{Signed as SignedCertificate, certificate_of, whole_certificate}
 use Rattle.der_x509.specs.Formats.{Format, spells}
-use Rattle.der_x509.specs.Rules.{NoneBroken, every_rule}
+use Rattle.pkix_rules.specs.declared.certificate.TheConstants.{MUST_RULES}
+use Rattle.pkix_rules.specs.declared.revoked.TheConstants.{MUST_LIST_RULES}
+use Rattle.pkix_rules.specs.ListRules.{BreaksList}
+use Rattle.pkix_rules.specs.Rules.{Breaks}
 use Rattle.der_show.specs.declared.known.Known.{Known}
 use Rattle.der_show.specs.declared.known.Known.TheVariants.{Certificate, CertificateList, CertificationRequest}
 
@@ -36,8 +40,16 @@ abbrev pub IsKnown : List ℕ → Option Known → Type 0
 IsKnown i known = ((c : CertificateStruct) × Is i (Certificate c) × (known ≡ Some (Certificate c)))
     ⊎ (IsNo whole_certificate i × IsKnownList i known)
 
--- a certificate breaks no rule beyond its ASN.1
+-- a certificate breaks no rule that RFC 5280 says by MUST or MUST NOT beyond its ASN.1
+abbrev pub NoRuleBroken : SignedCertificate → Type 0
+NoRuleBroken c = All (λ r. ¬ Breaks r c) MUST_RULES.now
+
+-- nor does a list of revoked certificates
+abbrev pub NoListRuleBroken : SignedList → Type 0
+NoListRuleBroken l = All (λ r. ¬ BreaksList r l) MUST_LIST_RULES.now
+
+-- what octets are breaks no such rule; of a request none is asked
 abbrev pub KeepsRules : Known → Type 0
-KeepsRules (Certificate c) = NoneBroken every_rule (certificate_of c)
-KeepsRules (CertificateList l) = Unit {0}
+KeepsRules (Certificate c) = NoRuleBroken (certificate_of c)
+KeepsRules (CertificateList l) = NoListRuleBroken (certificate_list_of l)
 KeepsRules (CertificationRequest r) = Unit {0}

@@ -1,4 +1,5 @@
 pub mod Described
+pub mod Fields
 pub mod Known
 pub mod Messages
 pub mod Shown

@@ -1,12 +1,14 @@
 //! Which of the structures around keys octets are.
 ghost use Rattle.std.specs.Prelude.{◌↔◌, IsTrue};
+ghost use Rattle.crl_reader.specs.Lists.{certificate_list_of};
 ghost use Rattle.der_x509.specs.Certificates.{certificate_of};
-ghost use Rattle.der_x509.specs.Rules.{NoneBroken, every_rule};
-ghost use Rattle.der_show.specs.Known.{IsKnown, IsKnownList, IsKnownRequest, KeepsRules};
+ghost use Rattle.der_show.specs.Known.{IsKnown, IsKnownList, IsKnownRequest, KeepsRules, NoRuleBroken};
+ghost use Rattle.der_show.specs.Known.{NoListRuleBroken};
 
 use crl_reader::{CertificateList, read_certificate_list};
 use der_request::{CertificationRequest, read_request};
 use der_x509::{Certificate, read_certificate};
+use pkix_rules::{MUST_LIST_RULES, MUST_RULES, broken_list_rules, broken_rules};
 
 /// What octets are. Texts are slices of them.
 #[derive(Drop)]
@@ -49,20 +51,26 @@ fn known_request(octets: &[u8]) -> Option<Known<'_>>
     }
 }
 
-/// Whether a certificate breaks none of the rules that RFC 5280 has beyond its ASN.1 (`Rule` of der_x509). These are
-/// rules of certificates alone: of a list and of a request none is asked.
+/// Whether a certificate or a list of revoked certificates breaks none of the rules that RFC 5280 says by MUST or MUST
+/// NOT beyond its ASN.1 (`MUST_RULES` and `MUST_LIST_RULES` of pkix_rules). Of a request no rule is asked.
 pub fn keeps_rules(known: &Known<'_>) -> bool
     ensures { IsTrue result ↔ KeepsRules known.now }
 {
     match known {
         Known::Certificate(certificate) => breaks_no_rule(certificate),
-        Known::CertificateList(_) => true,
+        Known::CertificateList(list) => breaks_no_list_rule(list),
         Known::CertificationRequest(_) => true,
     }
 }
 
 fn breaks_no_rule(certificate: &Certificate<'_>) -> bool
-    ensures { IsTrue result ↔ NoneBroken every_rule (certificate_of certificate.now) }
+    ensures { IsTrue result ↔ NoRuleBroken (certificate_of certificate.now) }
 {
-    certificate.first_broken_rule().is_none()
+    broken_rules(certificate, MUST_RULES).next().is_none()
+}
+
+fn breaks_no_list_rule(list: &CertificateList<'_>) -> bool
+    ensures { IsTrue result ↔ NoListRuleBroken (certificate_list_of list.now) }
+{
+    broken_list_rules(list, MUST_LIST_RULES).next().is_none()
 }

@@ -1,5 +1,6 @@
 //! What octets are, in words: a certificate, a list of revoked certificates, a certification request, a key, or a
 //! message of Kerberos, SNMP or LDAP. The first of these that all the octets are is written, a line for each field.
+//! What is of another known type is written by its elements, each with the name of its field.
 //!
 //! ```
 //! match words_of(alloc, octets, Some(now))? {
@@ -12,6 +13,7 @@
 //! ```
 #![tactic(auto)]
 
+mod fields;
 mod kerberos;
 mod key;
 mod known;
@@ -23,6 +25,7 @@ mod text;
 mod unread;
 mod words;
 
+pub use fields::text_by_fields;
 pub use known::{Known, keeps_rules, what_is};
 pub use message::text_of_message;
 pub use shown::{Shown, write_known};

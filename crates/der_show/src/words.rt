@@ -1,10 +1,13 @@
 //! What octets are, in words.
 ghost use Rattle.std.specs.Prelude.{IfOk};
-ghost use Rattle.der_show.specs.Described.{AreWordsOf, AreWordsOfMessage, IsDescribed};
+ghost use Rattle.der_show.specs.Described.{AreOtherWords, AreWordsOf, IsDescribed, IsOther};
+ghost use Rattle.der_show.specs.Messages.{text_in};
 
+use crate::fields::text_by_fields;
 use crate::known::{Known, keeps_rules, what_is};
-use crate::message::text_of_message;
+use crate::message::{Found, text_of_message};
 use crate::text::text_of_known;
+use der_known::KnownTypes;
 use std::alloc::{AllocError, Global};
 
 /// What octets are, in words.
@@ -12,20 +15,24 @@ use std::alloc::{AllocError, Global};
 pub struct Words {
     /// A line for each field, with its name and its value.
     pub text: Vec<u8>,
-    /// False for a certificate that breaks a rule of RFC 5280 beyond its ASN.1, and true for anything else.
+    /// False for a certificate or a list of revoked certificates that breaks a rule of RFC 5280 beyond its ASN.1, and
+    /// true for anything else.
     pub keeps_rules: bool,
 }
 
 /// The words of the first of these that all the octets are: a certificate, a list of revoked certificates, a
-/// certification request, or what `text_of_message` knows. None if they are none of these, and an error if there is no
-/// memory. `now` is the present, in seconds since 1970-01-01 00:00:00 UTC: with none, nothing is said of how long a
-/// certificate is valid.
+/// certification request, what `text_of_message` knows, or of a type that der_known knows (`text_by_fields`). None if
+/// they are none of these, and an error if there is no memory. `now` is the present, in seconds since 1970-01-01
+/// 00:00:00 UTC: with none, nothing is said of how long a certificate is valid.
 pub fn words_of(alloc: Global, octets: &[u8], now: Option<u64>) -> Result<Option<Words>, AllocError>
     ensures { IfOk result (λ words. IsDescribed now octets.now words) }
 {
     match what_is(octets) {
         Some(known) => words_of_known(alloc, octets, &known, now),
-        None => words_of_message(alloc, octets),
+        None => {
+            let types = KnownTypes::new();
+            other_words(alloc, octets, &types)
+        }
     }
 }
 
@@ -43,16 +50,31 @@ fn words_of_known(
     Ok(Some(Words { text, keeps_rules }))
 }
 
-/// The words of a key or a message.
-fn words_of_message(alloc: Global, octets: &[u8]) -> Result<Option<Words>, AllocError>
-    ensures { IfOk result (λ words. AreWordsOfMessage octets.now words) }
+/// The words of a key, a message, or octets of a known type.
+fn other_words(
+    alloc: Global,
+    octets: &[u8],
+    types: &KnownTypes,
+) -> Result<Option<Words>, AllocError>
+    ensures { IfOk result (λ words. AreOtherWords types.now octets.now words) }
 {
-    match text_of_message(alloc, octets) {
+    match other_text(alloc, octets, types) {
         Ok(Some(text)) => Ok(Some(Words {
             text,
             keeps_rules: true,
         })),
         Ok(None) => Ok(None),
+        Err(e) => Err(e),
+    }
+}
+
+/// The text of a key, a message, or octets of a known type.
+fn other_text(alloc: Global, octets: &[u8], types: &KnownTypes) -> Found
+    ensures { IfOk result (λ found. IsOther types.now octets.now (text_in found)) }
+{
+    match text_of_message(alloc, octets) {
+        Ok(Some(text)) => Ok(Some(text)),
+        Ok(None) => text_by_fields(alloc, octets, types),
         Err(e) => Err(e),
     }
 }

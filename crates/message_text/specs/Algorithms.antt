@@ -3,7 +3,7 @@ use Rattle.std.specs.Prelude.{◌≡◌, ℕ, ◌==◌, ◌&&◌, not, Bool, tru
 use Rattle.std.specs.Prelude.{List, [], ◌++◌, codes, length}
 use Rattle.std.specs.Option.{option_map}
 use Rattle.der_base.specs.declared.header.Class.{Class}
-use Rattle.der_base.specs.declared.header.Class.TheVariants.{Universal, Application, ContextSpecific, Private}
+use Rattle.der_base.specs.declared.header.Class.TheVariants.{Universal}
 use Rattle.der_cursor.specs.Formats.{Element, element_of}
 use Rattle.pkcs8_reader.specs.declared.encrypted.EncryptedPrivateKeyInfo.{EncryptedPrivateKeyInfo}
 use Rattle.pkcs8_reader.specs.declared.key.Algorithm.{Algorithm}

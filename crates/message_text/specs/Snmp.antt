@@ -18,7 +18,7 @@ use Rattle.snmp_reader.specs.declared.message.Operation.TheVariants.{Trap}
 use Rattle.snmp_reader.specs.declared.message.Operation.TheVariants.{GetBulkRequest, InformRequest, TrapOfVersion2}
 use Rattle.snmp_reader.specs.declared.message.Operation.TheVariants.{Report}
 use Rattle.snmp_reader.specs.declared.message.Value.{Value}
-use Rattle.snmp_reader.specs.declared.message.Value.TheVariants.{Integer, OctetString as Octets, Null, Identifier}
+use Rattle.snmp_reader.specs.declared.message.Value.TheVariants.{Integer, OctetString as Octets, Identifier}
 use Rattle.snmp_reader.specs.declared.message.Value.TheVariants.{Address}
 use Rattle.snmp_reader.specs.declared.message.Value.TheVariants.{Counter32, Gauge32, TimeTicks, Opaque, Counter64}
 use Rattle.snmp_reader.specs.declared.message.Value.TheVariants.{NoSuchObject, NoSuchInstance, EndOfMibView}

@@ -14,9 +14,14 @@ abbrev pub name_text : Option (List ℕ) → List ℕ
 name_text (Some name) = codes " " ++ name
 name_text None = []
 
--- an identifier, and its name if it has one
+-- a name, if there is one, and the arcs of its identifier
+abbrev pub text_with_name : Option (List ℕ) → List ℕ → List ℕ
+text_with_name (Some name) arcs = name ++ codes " (" ++ arcs ++ codes ")"
+text_with_name None arcs = arcs
+
+-- an identifier by its name, if it has one, and its arcs
 abbrev pub named_text : NamedIdentifier → List ℕ
-named_text x = identifier_text false x.octets.now ++ name_text (option_copied x.name)
+named_text x = text_with_name (option_copied x.name) (identifier_text false x.octets.now)
 
 -- the identifier with these content octets, and its name in the table if it has one there
 pub record IsNamed (w : List ℕ) (x : NamedIdentifier) : Type 0 where

@@ -1,9 +1,7 @@
 //! Algorithms (RFC 5280 4.1.1.2), and keys of which only the algorithm is in the open.
-ghost use Rattle.std.specs.Prelude.{◌≡◌, length};
+ghost use Rattle.std.specs.Prelude.{◌≡◌};
 ghost use Rattle.std.specs.Option.{option_map};
 ghost use Rattle.der_cursor.specs.Formats.{element_of};
-ghost use Rattle.pkcs8_reader.specs.Keys.{algorithm_of};
-ghost use Rattle.pkcs8_reader.specs.OtherKeys.{encrypted_of};
 ghost use Rattle.message_text.specs.Algorithms.{IsAlgorithm, IsEncrypted, IsParameters, is_identifier};
 
 use crate::identifier::NamedIdentifier;

@@ -5,7 +5,7 @@ use der_print::Arcs;
 use oid_names::name_of;
 use std::fmt;
 
-/// An OBJECT IDENTIFIER, and its name if it has one, as `1.2.840.10045.2.1 id-ecPublicKey`.
+/// An OBJECT IDENTIFIER by its name, if it has one, and its arcs, as `ecPublicKey (1.2.840.10045.2.1)`.
 #[derive(Clone, Copy)]
 pub struct NamedIdentifier<'a> {
     /// The content octets.
@@ -37,7 +37,7 @@ impl fmt::Display for NamedIdentifier<'_> {
             relative: false,
         };
         match self.name {
-            Some(name) => write!(f, "{arcs} {name}"),
+            Some(name) => write!(f, "{name} ({arcs})"),
             None => write!(f, "{arcs}"),
         }
     }

@@ -1,5 +1,5 @@
 //! Octets, and how many they are.
-ghost use Rattle.std.specs.Prelude.{◌≡◌, None, Some};
+ghost use Rattle.std.specs.Prelude.{◌≡◌, Some};
 ghost use Rattle.der_print.specs.declared.style.Limit.{Limit};
 
 use der_base::header::Tag;

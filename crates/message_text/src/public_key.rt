@@ -1,5 +1,4 @@
 //! Public keys (RFC 5280 4.1.2.7).
-ghost use Rattle.std.specs.Prelude.{◌≡◌};
 ghost use Rattle.std.specs.Option.{option_map};
 ghost use Rattle.message_text.specs.PrivateKeys.{Finds};
 ghost use Rattle.message_text.specs.PublicKeys.{IsPublicInside, IsPublicKey};

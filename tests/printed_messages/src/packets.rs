@@ -2,15 +2,16 @@
 use crate::keys::Printed;
 use crate::request_fields::Requested;
 use anyhow::{Result, anyhow};
+use certificate_text::NameText;
+use der_x509::read_certificate;
 use kerberos_reader::read_request;
 use message_text::{LdapText, RequestText, SnmpText};
-use names_reader::read_names;
 use test_ldap_stream::print_messages;
 
 /// Prints the issuer and the subject of a certificate.
 pub fn print_names(rt: &HostRuntime, input: &[u8]) -> Result<()> {
-    let names = read_names(rt.alloc(), input).map_err(|e| anyhow!("{e}"))?;
-    let (issuer, subject) = (names.issuer, names.subject);
+    let fields = read_certificate(input).map_err(|e| anyhow!("{e}"))?.tbs_certificate;
+    let (issuer, subject) = (NameText { name: fields.issuer }, NameText { name: fields.subject });
     let text = format!(in rt.alloc(); "issuer={issuer}\nsubject={subject}")?;
     println!(rt; "{text}")?;
     Ok(())

@@ -1,7 +1,9 @@
 use Rattle.der_x509.specs.Certificates.{certificate_of}
-use Rattle.der_x509.specs.Rules.{every_rule}
-use Rattle.der_show.proofs.RuleLaws.{none_found}
+use Rattle.pkix_rules.specs.declared.certificate.TheConstants.{MUST_RULES}
+use Rattle.der_show.proofs.RuleLaws.{none_broken}
 use Rattle.der_show.proofs.known.breaks_no_rule.Goals as goal
 
 pub returns : goal.returns
-returns c = none_found every_rule (certificate_of c.args.certificate.now) _ _ c.is_none.ensures c.first_broken_rule.ensures
+returns c =
+    none_broken c.broken_rules.result c.next.new.self (certificate_of c.args.certificate.now) MUST_RULES.now c.next.result
+    c.is_none.result c.broken_rules.ensures.certificate c.broken_rules.ensures.rules c.next.ensures.steps c.is_none.ensures

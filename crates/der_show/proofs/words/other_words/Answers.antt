@@ -1,5 +1,5 @@
 use Rattle.std.proofs.Common.{refl}
-use Rattle.der_show.proofs.words.words_of_message.Goals as goal
+use Rattle.der_show.proofs.words.other_words.Goals as goal
 
 pub returns-in-Ok-Some : goal.returns-in-Ok-Some
 returns-in-Ok-Some c = (rw c.in-Ok-Some.field-0-is at c.in-Ok-Some.ensures, refl)
