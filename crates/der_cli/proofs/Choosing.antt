@@ -4,7 +4,7 @@ use Rattle.std.specs.Prelude.{◌↔◌, ◌||◌}
 use Rattle.der_walk.specs.Visits.{Visited}
 use Rattle.der_cli.specs.declared.listing.Listing.{Listing}
 use Rattle.der_cli.specs.declared.options.Options.{Options}
-use Rattle.der_cli.specs.Choices.{HasChosen, Lists, listed, passed}
+use Rattle.der_cli.specs.Choices.{HasChosen, Listed, Lists, listed, listed_after, passed}
 use Rattle.der_cli.specs.Places.{IsAsked, around_after, is_listed, path_of}
 
 or_true : (b : Bool) → (b || true) ≡ true
@@ -23,18 +23,18 @@ some_last [] v e = cc
 some_last (u ∷ us) v e = cc
 
 -- one more element
-pub chosen_more : (o : Options) (l l' : Listing) (vs us : List Visited) (v : Visited) (asked taken : Bool) → HasChosen o l vs us
+pub chosen_more : (o : Options) (l l' : Listing) (vs : List Visited) (us : List Listed) (v : Visited) (asked taken : Bool) → HasChosen o l vs us
     → l'.place ≡ l.place → l'.depth ≡ l.depth → l'.around ≡ around_after l.around asked v.depth → l'.trail.steps.items ≡ path_of (vs ++ v ∷ [])
     → (IsTrue asked ↔ IsAsked o.place vs v) → taken ≡ is_listed (around_after l.around asked v.depth) l.depth v.depth → l'.has_some ≡ (l.has_some || taken)
-    → MatchBool taken (HasChosen o l' (vs ++ v ∷ []) (us ++ v ∷ [])) (HasChosen o l' (vs ++ v ∷ []) us)
+    → MatchBool taken (HasChosen o l' (vs ++ v ∷ []) (us ++ listed_after vs v ∷ [])) (HasChosen o l' (vs ++ v ∷ []) us)
 chosen_more o l l' vs us v asked true h place depth around path asks is some = record {
   place = place ∙ h.place;
   depth = depth ∙ h.depth;
   lists =
-      subst (λ a. Lists o.place o.depth (vs ++ v ∷ []) a (us ++ v ∷ [])) (sym around)
+      subst (λ a. Lists o.place o.depth (vs ++ v ∷ []) a (us ++ listed_after vs v ∷ [])) (sym around)
       (listed v asked h.lists asks (sym (is ∙ ap (λ most. is_listed (around_after l.around asked v.depth) most v.depth) h.depth)));
   trail = path;
-  some = λ e. some_last us v;
+  some = λ e. some_last us (listed_after vs v);
   none = λ e. not_both (some ∙ or_true l.has_some) e;
 }
 chosen_more o l l' vs us v asked false h place depth around path asks is some = record {

@@ -1,5 +1,6 @@
 pub mod Choosing
 pub mod Collecting
+pub mod Fielding
 pub mod Looking
 pub mod Octets
 pub mod Printing

@@ -6,23 +6,33 @@ use Rattle.der_cli.specs.declared.options.Options.{Options}
 use Rattle.der_cli.specs.declared.place.Place.{Place}
 use Rattle.der_walk.specs.Visits.{Visited}
 
+-- an element that is listed, and those that were visited before it
+pub record Listed : Type 0 where
+  pub before : List Visited
+  pub element : Visited
+
+abbrev pub listed_after : List Visited → Visited → Listed
+listed_after before v = record { before = before; element = v }
+
 -- Of the elements that were visited some are listed: those at the place and inside them, to a depth. So many are
 -- around the one that the walk is inside.
-pub data Lists (place : Option Place) (most : Option ℕ) : List Visited → Option ℕ → List Visited → Type 0 where
+pub data Lists (place : Option Place) (most : Option ℕ) : List Visited → Option ℕ → List Listed → Type 0 where
   start : Lists place most [] None []
-  listed : {vs us : List Visited} {around : Option ℕ} (v : Visited) (asked : Bool) → Lists place most vs around us
+  listed : {vs : List Visited} {us : List Listed} {around : Option ℕ} (v : Visited) (asked : Bool)
+      → Lists place most vs around us
       → (IsTrue asked ↔ IsAsked place vs v) → is_listed (around_after around asked v.depth) most v.depth ≡ true
-      → Lists place most (vs ++ v ∷ []) (around_after around asked v.depth) (us ++ v ∷ [])
-  passed : {vs us : List Visited} {around : Option ℕ} (v : Visited) (asked : Bool) → Lists place most vs around us
+      → Lists place most (vs ++ v ∷ []) (around_after around asked v.depth) (us ++ listed_after vs v ∷ [])
+  passed : {vs : List Visited} {us : List Listed} {around : Option ℕ} (v : Visited) (asked : Bool)
+      → Lists place most vs around us
       → (IsTrue asked ↔ IsAsked place vs v) → is_listed (around_after around asked v.depth) most v.depth ≡ false
       → Lists place most (vs ++ v ∷ []) (around_after around asked v.depth) us
 
 -- of the elements vs, after which the walk ends, us are listed
-abbrev pub AreListed : Options → List Visited → List Visited → Type 0
+abbrev pub AreListed : Options → List Visited → List Listed → Type 0
 AreListed o vs us = (around : Option ℕ) × Lists o.place o.depth vs around us
 
 -- so far
-pub record HasChosen (o : Options) (l : Listing) (vs us : List Visited) : Type 0 where
+pub record HasChosen (o : Options) (l : Listing) (vs : List Visited) (us : List Listed) : Type 0 where
   pub place : l.place ≡ o.place
   pub depth : l.depth ≡ o.depth
   pub lists : Lists o.place o.depth vs l.around us

@@ -1,8 +1,10 @@
 pub mod Arguments
 pub mod Choices
 pub mod Differences
+pub mod FieldNames
 pub mod Inputs
 pub mod Labels
+pub mod Namings
 pub mod Outputs
 pub mod Parts
 pub mod Pem

@@ -7,16 +7,18 @@ use Rattle.der_canon.specs.declared.error.NotCanonical.{NotCanonical}
 use Rattle.der_canon.specs.Errors.{IsCanonErrorOf}
 use Rattle.der_canon.specs.Same.{IsDerOf}
 use Rattle.der_check.specs.Elements.{AreElements}
-use Rattle.der_json.specs.Json.{AddsJson, AreJsonLines}
+use Rattle.der_json.specs.Json.{AddsJson, IsJson}
 use Rattle.der_print.specs.declared.style.Style.{Style}
-use Rattle.der_print.specs.Lines.{AddsLine, AreLines}
+use Rattle.der_print.specs.Lines.{AddsFieldLine, IsFieldLine, content_in}
+use Rattle.der_schema.specs.declared.schema.Schema.{Schema}
 use Rattle.der_cli.specs.declared.options.Action.{Action}
 use Rattle.der_cli.specs.declared.options.Action.TheVariants.{Tree, Check, Json, Canon, Get, Show}
 use Rattle.der_cli.specs.declared.options.Options.{Options}
 use Rattle.der_cli.specs.declared.print.Lines.{Lines}
 use Rattle.der_cli.specs.declared.print.Lines.TheVariants as kind
-use Rattle.der_cli.specs.Choices.{AreListed}
+use Rattle.der_cli.specs.Choices.{AreListed, Listed}
 use Rattle.der_cli.specs.Labels.{heading_text, name_text}
+use Rattle.der_cli.specs.Namings.{IsAsAsked, IsNamedBy, field_in}
 use Rattle.der_cli.specs.Parts.{AreOctetsOf, AreWrittenOf}
 use Rattle.der_cli.specs.Pem.{IsPem}
 use Rattle.der_cli.specs.Places.{AreNotAsked, IsAsked}
@@ -34,25 +36,45 @@ extras_of o = record { enters_strings = o.enters_strings; keeps_values = true }
 abbrev pub AreSomeElements : Rules → List ℕ → Type 0
 AreSomeElements r i = AreElements r 101 i × (i ≢ [])
 
--- a line for each of some elements of an input
-abbrev pub AreLinesOf : Lines → Style → List ℕ → List Visited → List ℕ → Type 0
-AreLinesOf kind.Tree style i vs text = AreLines style i vs text
-AreLinesOf kind.Json style i vs text = AreJsonLines vs text
+-- what a check asks of octets: that they are elements, and of the type that is asked for, if one is
+abbrev pub IsChecked : Options → List ℕ → Type 0
+IsChecked o i = AreSomeElements o.rules i × IsAsAsked o.naming o.rules i
 
--- known octets grew by the line of an element with this content
-abbrev pub AddsLineOf : Lines → Style → Visited → List ℕ → Option (List ℕ) → Option (List ℕ) → Type 0
-AddsLineOf kind.Tree style v w old new = AddsLine style v w old new
-AddsLineOf kind.Json style v w old new = AddsJson old new
+-- an object of JSON and the line's end
+abbrev pub IsJsonLine : List ℕ → Type 0
+IsJsonLine line = (text : List ℕ) × IsJson text × (line ≡ text ++ codes "\n")
 
--- known octets grew by a line for each listed one, one at least, of the elements that the input is, in preorder
+-- the line of a listed element of an input; in a tree with the name of its field by a type, if there is one
+abbrev pub IsLineOf : Lines → Option Schema → Style → List ℕ → Listed → List ℕ → Type 0
+IsLineOf kind.Tree s style i l line =
+    IsFieldLine (field_in s i l.before l.element) style l.element (content_in i l.element) line
+IsLineOf kind.Json s style i l line = IsJsonLine line
+
+-- a line for each of the listed elements of an input, in their order
+pub data AreLinesOf (k : Lines) (s : Option Schema) (style : Style) (i : List ℕ)
+    : List Listed → List ℕ → Type 0 where
+  no_lines : AreLinesOf k s style i [] []
+  one_more_line : {us : List Listed} {text : List ℕ} (l : Listed) (line : List ℕ) → AreLinesOf k s style i us text
+      → IsLineOf k s style i l line → AreLinesOf k s style i (us ++ l ∷ []) (text ++ line)
+
+-- known octets grew by the line of an element with this content, which is a field of this name
+abbrev pub AddsLineOf : Lines → List ℕ → Style → Visited → List ℕ → Option (List ℕ) → Option (List ℕ) → Type 0
+AddsLineOf kind.Tree field style v w old new = AddsFieldLine field style v w old new
+AddsLineOf kind.Json field style v w old new = AddsJson old new
+
+-- known octets grew by a line for each listed one, one at least, of the elements that the input is, in preorder; it is
+-- of the type that is asked for, if one is
 pub record WritesLines (k : Lines) (o : Options) (i : List ℕ) (old new : Option (List ℕ)) : Type 0 where
   pub elements : List Visited
   pub visits : Visits (extras_of o) o.rules 101 0 0 i elements
-  pub listed : List Visited
+  pub listed : List Listed
   pub are_listed : AreListed o elements listed
   pub some : listed ≢ []
+  pub as_asked : IsAsAsked o.naming o.rules i
+  pub schema : Option Schema
+  pub named_by : IsNamedBy o.naming o.rules i schema
   pub text : List ℕ
-  pub lines : AreLinesOf k o.style i listed text
+  pub lines : AreLinesOf k schema o.style i listed text
   pub adds : Appends old new text
 
 -- known octets grew by the input as DER writes it
@@ -69,9 +91,9 @@ pub record WritesPem (label i : List ℕ) (old new : Option (List ℕ)) : Type 0
   pub is_pem : IsPem label octets text
   pub adds : Appends old new text
 
--- nothing is written of an input that is elements
+-- nothing is written of an input that is as a check asks
 pub record WritesNothing (o : Options) (i : List ℕ) (old new : Option (List ℕ)) : Type 0 where
-  pub elements : AreSomeElements o.rules i
+  pub checked : IsChecked o i
   pub keeps : new ≡ old
 
 -- these elements are visited first
@@ -109,18 +131,22 @@ WritesInside Show o label i old new = ShowsWords o i old new
 abbrev pub IsRefusedAfter : Options → List ℕ → List Visited → Type 0
 IsRefusedAfter o i vs = (w : Walk) × (f : Refusal) × IsRefused (extras_of o) o.rules i vs w f
 
--- after these elements octets are refused, or these are all and none is listed
-abbrev pub EndsAfter : Options → List ℕ → List Visited → List Visited → Type 0
-EndsAfter o i vs us = IsRefusedAfter o i vs ⊎ (Visits (extras_of o) o.rules 101 0 0 i vs × (us ≡ []))
+-- after these elements octets are refused, or these are all, and none is listed or they aren't of the type that is
+-- asked for
+abbrev pub EndsAfter : Options → List ℕ → List Visited → List Listed → Type 0
+EndsAfter o i vs us = IsRefusedAfter o i vs
+    ⊎ (Visits (extras_of o) o.rules 101 0 0 i vs × ((us ≡ []) ⊎ (¬ IsAsAsked o.naming o.rules i)))
 
 -- octets are refused, and known octets grew by a line for each listed element before
 pub record RefusesLines (k : Lines) (o : Options) (i : List ℕ) (old new : Option (List ℕ)) : Type 0 where
   pub elements : List Visited
-  pub listed : List Visited
+  pub listed : List Listed
   pub ends : EndsAfter o i elements listed
   pub are_listed : AreListed o elements listed
+  pub schema : Option Schema
+  pub named_by : IsNamedBy o.naming o.rules i schema
   pub text : List ℕ
-  pub lines : AreLinesOf k o.style i listed text
+  pub lines : AreLinesOf k schema o.style i listed text
   pub adds : Appends old new text
 
 -- Nothing is written: no element is at the place, before octets that are refused or in all. Or the first one there has
@@ -138,7 +164,7 @@ RefusesDer i old new = (e : NotCanonical) × IsCanonErrorOf i (canon.NotCanonica
 -- octets are refused by an action, and this is written: of what a check reports nothing is said
 abbrev pub IsRefusedBy : Action → Options → List ℕ → Option (List ℕ) → Option (List ℕ) → Type 0
 IsRefusedBy Tree o i old new = RefusesLines kind.Tree o i old new
-IsRefusedBy Check o i old new = ¬ AreSomeElements o.rules i
+IsRefusedBy Check o i old new = ¬ IsChecked o i
 IsRefusedBy Json o i old new = RefusesLines kind.Json o i old new
 IsRefusedBy Canon o i old new = RefusesDer i old new
 IsRefusedBy Get o i old new = RefusesPart o i old new

@@ -5,14 +5,15 @@ ghost use Rattle.der_cli.specs.Arguments.{action_word, form_word};
 ghost use Rattle.der_cli.specs.declared.options.Action.{Action};
 ghost use Rattle.der_base.specs.declared.rules.Rules.{Rules};
 
-use crate::options::{Action, Options};
+use crate::options::{Action, Naming, Options};
 use crate::place::{Place, place_named};
 use clap::ArgMatches;
 use der_input::Form;
 use der_print::{Limit, Style};
 use der_walk::Rules;
 
-/// What the arguments after a subcommand ask for. The style of lines is that of the terminal, unless they say it.
+/// What the arguments after a subcommand ask for, but by which type elements are named. The style of lines is that of
+/// the terminal, unless they say it.
 pub(crate) fn options_of<'a>(
     action: Action,
     matches: &ArgMatches<'a>,
@@ -39,6 +40,7 @@ pub(crate) fn options_of<'a>(
             },
             colours: terminal.colours && action == Action::Tree,
         },
+        naming: Naming::Unnamed,
         place: place_of(matches),
         depth: matches.get_one::<usize>("depth"),
         has_octets: matches.get_flag("octets"),

@@ -7,7 +7,7 @@ use crate::decode::octets_in;
 use crate::diff::{Sides, compare};
 use crate::folders::with_folders;
 use crate::name::Name;
-use crate::options::{Action, Options};
+use crate::options::{Action, Naming, Options};
 use crate::origin::Origin;
 use crate::run::run;
 use crate::status::{TROUBLE, status_of_comparison};
@@ -46,7 +46,7 @@ pub(crate) fn run_files<R: Files + AllocGlobal + Clone + Drop, I: Read, W: Write
     };
     let summary = run_each(rt, &options, &names, input, out, err)?;
     if options.action == Action::Check && options.has_several_files && !options.is_quiet {
-        summary.write(options.rules, out)?;
+        summary.write(&options, out)?;
     }
     Ok(are_listed && summary.is_good())
 }
@@ -207,6 +207,7 @@ fn diff_options<'a>(matches: &ArgMatches<'a>, terminal: Style) -> Options<'a> {
             limit: limit_of(matches, terminal.limit),
             colours: terminal.colours,
         },
+        naming: Naming::Unnamed,
         place: None,
         depth: None,
         has_octets: false,

@@ -1,7 +1,7 @@
 //! Which elements are listed.
 ghost use Rattle.std.specs.Prelude.{◌≡◌, ◌||◌, ◌∷◌, ◌++◌, IfOk, List, MatchBool, [], false};
 ghost use Rattle.der_cli.specs.Places.{around_after, is_listed};
-ghost use Rattle.der_cli.specs.Choices.{HasChosen};
+ghost use Rattle.der_cli.specs.Choices.{HasChosen, Listed, listed_after};
 ghost use Rattle.der_walk.specs.Visits.{Visited};
 ghost use Rattle.der_walk.specs.Walked.{index_in, visited_of};
 
@@ -40,10 +40,11 @@ impl<'a> Listing<'a> {
 
     /// Whether the element is listed that is visited next.
     pub(crate) fn takes(&mut self, alloc: Global, element: &Element<'_>) -> Result<bool, AllocError>
-        ensures { (o : Options) (vs us : List Visited) → HasChosen o self.old vs us
+        ensures { (o : Options) (vs : List Visited) (us : List Listed) → HasChosen o self.old vs us
             → element.now.index ≡ index_in element.now.depth vs
             → let v = visited_of element.now in IfOk result (λ taken. MatchBool taken
-            (HasChosen o self.new (vs ++ v ∷ []) (us ++ v ∷ [])) (HasChosen o self.new (vs ++ v ∷ []) us)) }
+            (HasChosen o self.new (vs ++ v ∷ []) (us ++ listed_after vs v ∷ []))
+            (HasChosen o self.new (vs ++ v ∷ []) us)) }
     {
         self.trail.enter(element)?;
         let asked = is_asked(alloc, self.place, element, &self.trail)?;

@@ -1,7 +1,9 @@
 //! What is to be done.
 use crate::place::Place;
 use der_input::Form;
+use der_known::KnownTypes;
 use der_print::Style;
+use der_schema::Schema;
 use der_walk::Rules;
 
 /// What is done with the elements of an input.
@@ -21,8 +23,19 @@ pub enum Action {
     Show,
 }
 
+/// By which type the elements of an input are named.
+#[derive(Clone, Copy)]
+pub enum Naming<'a> {
+    /// By none.
+    Unnamed,
+    /// By the first of these types that the input is of, if it is of one.
+    ByFirst(&'a KnownTypes),
+    /// By this type. An input that isn't of it is refused.
+    By(Schema<'a>),
+}
+
 /// What is to be done with each input.
-#[derive(Clone, Copy, Debug, PartialEq)]
+#[derive(Clone, Copy)]
 pub struct Options<'a> {
     pub action: Action,
     /// The rules of the elements.
@@ -32,6 +45,9 @@ pub struct Options<'a> {
     /// How the inputs are written. None if each is looked at.
     pub form: Option<Form>,
     pub style: Style,
+    /// By which type the elements of a tree are named, and of which the input of a tree, of JSON or of a check has to
+    /// be.
+    pub naming: Naming<'a>,
     /// Where the element is that is listed or written. None for the outermost elements.
     pub place: Option<Place<'a>>,
     /// How many elements may be around a listed one, besides those around the place. None for any number.

@@ -2,17 +2,19 @@
 ghost use Rattle.std.specs.Prelude.{◌≡◌, IfOk, IsTrue, MatchBool, OnOk, false};
 ghost use Rattle.der_json.specs.Json.{AddsJson};
 ghost use Rattle.der_cli.specs.Outputs.{AddsLineOf, RefusesLines, WritesLines};
-ghost use Rattle.der_print.specs.Lines.{AddsLine};
+ghost use Rattle.der_print.specs.Lines.{AddsFieldLine};
 ghost use Rattle.der_print.specs.Texts.{content_of};
 ghost use Rattle.der_walk.specs.Walked.{visited_of};
 
+use crate::fields::Fields;
 use crate::listing::Listing;
+use crate::naming::schema_of;
 use crate::options::Options;
 use crate::origin::Origin;
-use crate::report::{report, report_end};
+use crate::report::{report_end, report_refusal};
 use crate::source::source_of;
 use der_json::{Paths, write_json};
-use der_print::{Room, Style, write_line};
+use der_print::{Room, Style, write_field_line};
 use der_walk::{Element, Walk};
 use std::alloc::Global;
 use std::io;
@@ -25,6 +27,15 @@ pub(crate) enum Lines {
     Tree,
     /// An object of JSON.
     Json,
+}
+
+/// An element that is visited.
+#[derive(Clone, Copy)]
+struct Visit {
+    /// Whether it is listed.
+    is_listed: bool,
+    /// The name of the field that it is. It is empty if no type has one for it.
+    field: &'static str,
 }
 
 /// Octets whose elements are printed.
@@ -44,8 +55,9 @@ struct Kept {
     paths: Paths,
 }
 
-/// Writes a line for each element of octets that is listed, and reports on `err` why they are refused. Returns whether
-/// they were elements to their end, and one is listed.
+/// Writes a line for each element of octets that is listed, in a tree with the name of its field, and reports on `err`
+/// why they are refused. Returns whether they were elements to their end, one is listed, and they are of the type that
+/// is asked for, if one is.
 pub(crate) fn print_lines<W: Write, X: Write>(
     alloc: Global,
     options: &Options<'_>,
@@ -67,19 +79,18 @@ pub(crate) fn print_lines<W: Write, X: Write>(
     };
     let mut walk = Walk::new(octets, options.rules, options.enters_strings).keeping_values();
     let mut listing = Listing::new(alloc, options);
+    let mut fields = Fields::new(octets, schema_of(options.naming, options.rules, octets));
     let mut kept = Kept::new(alloc);
     'elements: loop {
         match walk.next_element() {
             Ok(Some(element)) => {
-                let taken = listing.takes(alloc, &element)?;
-                kept = pass(alloc, options, printed, taken, kept, &element, out)?;
+                let field = fields.name_of(&element);
+                let is_listed = listing.takes(alloc, &element)?;
+                let visit = Visit { is_listed, field };
+                kept = pass(alloc, options, printed, visit, kept, &element, out)?;
             }
-            Ok(None) => return report_end(options.place, origin, &listing, out, err),
-            Err(refusal) => {
-                out.flush()?;
-                report(origin, &walk, &refusal, err)?;
-                return Ok(false);
-            }
+            Ok(None) => return report_end(options, origin, octets, &listing, out, err),
+            Err(refusal) => return report_refusal(origin, &walk, &refusal, out, err),
         }
     }
 }
@@ -94,64 +105,65 @@ impl Kept {
     }
 }
 
-/// Goes on to the next element, and writes its line if it is taken.
+/// Goes on to the next element, and writes its line if it is listed.
 fn pass<W: Write>(
     alloc: Global,
     options: &Options<'_>,
     printed: Printed<'_>,
-    taken: bool,
+    visit: Visit,
     kept: Kept,
     element: &Element<'_>,
     out: &mut W,
 ) -> io::Result<Kept>
-    ensures { OnOk result (MatchBool taken
-        (AddsLineOf printed.entry.lines options.now.style (visited_of element.now) (content_of element.now)
-        (W.contents out.old) (W.contents out.new))
+    ensures { OnOk result (MatchBool visit.is_listed
+        (AddsLineOf printed.entry.lines visit.field.now options.now.style (visited_of element.now)
+        (content_of element.now) (W.contents out.old) (W.contents out.new))
         (W.contents out.new ≡ W.contents out.old)) }
 {
     match printed.lines {
-        Lines::Tree => pass_in_tree(options.style, taken, kept, element, out),
-        Lines::Json => pass_in_json(alloc, options, printed, taken, kept, element, out),
+        Lines::Tree => pass_in_tree(options.style, visit, kept, element, out),
+        Lines::Json => pass_in_json(alloc, options, printed, visit.is_listed, kept, element, out),
     }
 }
 
-/// Writes the line of an element in a tree if it is taken.
+/// Writes the line of an element in a tree if it is listed.
 fn pass_in_tree<W: Write>(
     style: Style,
-    taken: bool,
+    visit: Visit,
     kept: Kept,
     element: &Element<'_>,
     out: &mut W,
 ) -> io::Result<Kept>
-    ensures { OnOk result (MatchBool taken
-        (AddsLine style (visited_of element.now) (content_of element.now) (W.contents out.old) (W.contents out.new))
+    ensures { OnOk result (MatchBool visit.is_listed
+        (AddsFieldLine visit.field.now style (visited_of element.now) (content_of element.now)
+        (W.contents out.old) (W.contents out.new))
         (W.contents out.new ≡ W.contents out.old)) }
 {
-    if !taken {
+    if !visit.is_listed {
         return Ok(kept);
     }
     let Kept { room, paths } = kept;
-    let room = write_line(out, room, element, style)?;
+    let room = write_field_line(out, room, element, visit.field, style)?;
     Ok(Kept { room, paths })
 }
 
-/// Goes on to the path of an element, and writes its object of JSON if it is taken.
+/// Goes on to the path of an element, and writes its object of JSON if it is listed.
 fn pass_in_json<W: Write>(
     alloc: Global,
     options: &Options<'_>,
     printed: Printed<'_>,
-    taken: bool,
+    is_listed: bool,
     kept: Kept,
     element: &Element<'_>,
     out: &mut W,
 ) -> io::Result<Kept>
-    ensures { OnOk result (MatchBool taken (AddsJson (W.contents out.old) (W.contents out.new))
+    ensures { OnOk result (MatchBool is_listed (AddsJson (W.contents out.old) (W.contents out.new))
         (W.contents out.new ≡ W.contents out.old)) }
 {
     let Kept { room, paths } = kept;
     let mut paths = paths;
     paths.enter(alloc, element)?;
-    if taken {
+    if is_listed {
         write_object(alloc, options, printed, paths.last(), element, out)?;
         return Ok(Kept { room, paths });
     }

@@ -1,16 +1,45 @@
 //! What is said of an input that is refused.
-ghost use Rattle.std.specs.Prelude.{◌≡◌, ◌≢◌, IfOk, OnOk, false, true};
+ghost use Rattle.std.specs.Prelude.{◌≡◌, ◌≢◌, ◌↔◌, ◌⊎◌, IfOk, IsTrue, OnOk, false, true};
 ghost use Rattle.std.specs.Io.KnownBytes.{Keeps};
+ghost use Rattle.der_cli.specs.Namings.{IsAsAsked};
+ghost use Rattle.der_cli.specs.Outputs.{AreSomeElements};
 ghost use Rattle.der_cli.specs.declared.options.Action.{Action};
 
 use crate::listing::Listing;
-use crate::options::{Action, Options};
+use crate::name::Name;
+use crate::naming::is_as_asked;
+use crate::options::{Action, Naming, Options};
 use crate::origin::Origin;
 use crate::place::Place;
+use der_check::are_elements;
+use der_fields::{Named, fit_of};
 use der_input::FormError;
-use der_walk::{Path, Reason, Refusal, Rules, Walk};
+use der_known::KnownTypes;
+use der_schema::Schema;
+use der_walk::{MAX_DEPTH, Path, Reason, Refusal, Rules, Walk};
 use std::io;
 use std::io::Write;
+
+/// Whether octets are elements by these rules, one at least, and nothing else.
+pub(crate) fn are_some_elements(octets: &[u8], rules: Rules) -> bool
+    ensures { IsTrue result ↔ AreSomeElements rules octets.now }
+{
+    !octets.is_empty() && are_elements(octets, rules, MAX_DEPTH + 1)
+}
+
+/// Reports the first element that is refused, or that the input is empty, or else that it isn't of the type that it has
+/// to be of.
+pub(crate) fn report_check<W: Write>(
+    options: &Options<'_>,
+    origin: Origin<'_>,
+    octets: &[u8],
+    out: &mut W,
+) -> io::Result<()> {
+    if are_some_elements(octets, options.rules) {
+        return report_type(options, origin, octets, out);
+    }
+    report_first(options, origin, octets, out)
+}
 
 /// Reports the first element that is refused, or that the input is empty. An element that breaks a rule inside a string
 /// is neither.
@@ -67,22 +96,107 @@ pub(crate) fn refuse_form<W: Write, X: Write>(
     Ok(false)
 }
 
-/// Reports at the end of a walk that no element was listed. Returns whether one was.
+/// Reports at the end of a walk that no element was listed, or that the input isn't of the type that it has to be of.
+/// Returns whether one was, and it is.
 pub(crate) fn report_end<W: Write, X: Write>(
-    place: Option<Place<'_>>,
+    options: &Options<'_>,
     origin: Origin<'_>,
+    octets: &[u8],
     listing: &Listing<'_>,
     out: &mut W,
     err: &mut X,
 ) -> io::Result<bool>
-    ensures some { IfOk result (λ ok. ok ≡ listing.now.has_some) }
+    ensures read { IfOk result (λ ok. IsTrue ok → (listing.now.has_some ≡ true)
+        × IsAsAsked options.now.naming options.now.rules octets.now) }
+    ensures refused { IfOk result (λ ok. ok ≡ false → (listing.now.has_some ≡ false)
+        ⊎ (IsAsAsked options.now.naming options.now.rules octets.now → ⊥)) }
     ensures keeps { OnOk result (Keeps (W.contents out.old) (W.contents out.new)) }
 {
-    if listing.has_some() {
+    if !listing.has_some() {
+        out.flush()?;
+        report_missing(options.place, origin, err)?;
+        return Ok(false);
+    }
+    if is_as_asked(options.naming, options.rules, octets) {
         return Ok(true);
     }
     out.flush()?;
-    report_missing(place, origin, err)?;
+    report_type(options, origin, octets, err)?;
+    Ok(false)
+}
+
+/// Reports where an input isn't of the type that it has to be of.
+pub(crate) fn report_type<X: Write>(
+    options: &Options<'_>,
+    origin: Origin<'_>,
+    octets: &[u8],
+    err: &mut X,
+) -> io::Result<()> {
+    match options.naming {
+        Naming::By(schema) => report_fit(
+            origin,
+            schema,
+            fit_of(octets, schema, options.rules),
+            err,
+        ),
+        Naming::Unnamed | Naming::ByFirst(_) => Ok(()),
+    }
+}
+
+/// Reports how an input doesn't fit a type.
+fn report_fit<X: Write>(
+    origin: Origin<'_>,
+    schema: Schema<'_>,
+    named: Named<'_>,
+    err: &mut X,
+) -> io::Result<()> {
+    let name = schema.name;
+    match named {
+        Named::Whole => Ok(()),
+        Named::Lacks => writeln!(
+            err,
+            "der: {origin}: a mandatory component of {name} is missing"
+        ),
+        Named::Left(offset) => {
+            writeln!(
+                err,
+                "der: {origin}: at {offset}: {name} has no such element here"
+            )
+        }
+        Named::Refused(end) => report(origin, &end.walk, &end.refusal, err),
+    }
+}
+
+/// Reports that no known type has this name, and the names of those that are known.
+pub(crate) fn report_unknown_type<X: Write>(
+    name: Option<&str>,
+    types: &KnownTypes,
+    err: &mut X,
+) -> io::Result<()> {
+    let name = Name(name.unwrap_or(""));
+    write!(
+        err,
+        "der: no known type has the name {name}. These are known:"
+    )?;
+    for known in types.known() {
+        write!(err, " {}", known.name)?;
+    }
+    writeln!(err, "")
+}
+
+/// Reports where and why a walk refuses an input, after what is written of it.
+pub(crate) fn report_refusal<W: Write, X: Write>(
+    origin: Origin<'_>,
+    walk: &Walk<'_>,
+    refusal: &Refusal,
+    out: &mut W,
+    err: &mut X,
+) -> io::Result<bool>
+    ensures refused { IfOk result (λ ok. ok ≡ false) }
+    ensures keeps { OnOk result (Keeps (W.contents out.old) (W.contents out.new)) }
+{
+    out.flush()?;
+    report(origin, walk, refusal, err)?;
     Ok(false)
 }
 

@@ -7,7 +7,7 @@ ghost use Rattle.der_input.specs.Blocks.{label_of, lines_of};
 ghost use Rattle.der_input.specs.Forms.{FindsNoForm};
 ghost use Rattle.der_cli.specs.Inputs.{IsFormOf, ReadsBlock, ReadsBlocks, ReadsInput};
 ghost use Rattle.der_cli.specs.Inputs.{RefusesBlock, RefusesBlocks, RefusesInput};
-ghost use Rattle.der_cli.specs.Outputs.{AreSomeElements, IsRefusedBy, RefusesFile, Writes, WritesFile, WritesHeading};
+ghost use Rattle.der_cli.specs.Outputs.{IsChecked, IsRefusedBy, RefusesFile, Writes, WritesFile, WritesHeading};
 ghost use Rattle.der_cli.specs.Outputs.{WritesInside, WritesName, has_heading};
 ghost use Rattle.der_cli.specs.declared.options.Action.{Action};
 ghost use Rattle.der_cli.specs.declared.origin.BlockName.{BlockName};
@@ -16,14 +16,13 @@ use crate::canon::write_canonical;
 use crate::get::write_part;
 use crate::label::{Label, shown_label};
 use crate::name::Name;
+use crate::naming::is_as_asked;
 use crate::options::{Action, Options};
 use crate::origin::{BlockName, Origin};
 use crate::print::{Lines, print_lines};
-use crate::report::{refuse_form, report_first};
+use crate::report::{are_some_elements, refuse_form, report_check};
 use crate::show::show;
-use der_check::are_elements;
 use der_input::{Block, Form, FormError, decode_base64, decode_hex, form_of, next_block};
-use der_walk::MAX_DEPTH;
 use std::alloc::Global;
 use std::io;
 use std::io::{ErrorKind, Write};
@@ -39,7 +38,7 @@ pub fn run<W: Write, X: Write>(
     err: &mut X,
 ) -> io::Result<bool>
     ensures checked { options.now.action ≡ Action.Check → options.now.form ≡ Some Form.Der
-        → IfOk result (λ ok. IsTrue ok ↔ AreSomeElements options.now.rules input.now) }
+        → IfOk result (λ ok. IsTrue ok ↔ IsChecked options.now input.now) }
     ensures read { IfOk result (λ ok. IsTrue ok
         → ReadsInput options.now name.now input.now (W.contents out.old) (W.contents out.new)) }
     ensures refused { IfOk result (λ ok. ok ≡ false
@@ -105,7 +104,7 @@ fn act_on_file<W: Write, X: Write>(
     err: &mut X,
 ) -> io::Result<bool>
     ensures checked { options.now.action ≡ Action.Check
-        → IfOk result (λ ok. IsTrue ok ↔ AreSomeElements options.now.rules octets.now) }
+        → IfOk result (λ ok. IsTrue ok ↔ IsChecked options.now octets.now) }
     ensures written { IfOk result (λ ok. IsTrue ok
         → WritesFile options.now name.now octets.now (W.contents out.old) (W.contents out.new)) }
     ensures refused { IfOk result (λ ok. ok ≡ false
@@ -161,7 +160,7 @@ fn act<W: Write, X: Write>(
     err: &mut X,
 ) -> io::Result<bool>
     ensures checked { options.now.action ≡ Action.Check
-        → IfOk result (λ ok. IsTrue ok ↔ AreSomeElements options.now.rules octets.now) }
+        → IfOk result (λ ok. IsTrue ok ↔ IsChecked options.now octets.now) }
     ensures written { origin.entry.block ≡ None → IfOk result (λ ok. IsTrue ok
         → Writes options.now.action options.now octets.now (W.contents out.old) (W.contents out.new)) }
     ensures inside { (block : BlockName) → origin.entry.block ≡ Some block → IfOk result (λ ok. IsTrue ok
@@ -180,24 +179,32 @@ fn act<W: Write, X: Write>(
     }
 }
 
-/// Checks whether octets are elements, one at least, and nothing else, and reports where and why they aren't.
+/// Checks whether octets are elements, one at least, and nothing else, of the type that is asked for, if one is, and
+/// reports where and why they aren't.
 fn check<W: Write>(
     options: &Options<'_>,
     origin: Origin<'_>,
     octets: &[u8],
     out: &mut W,
 ) -> io::Result<bool>
-    ensures checked { IfOk result (λ ok. IsTrue ok ↔ AreSomeElements options.now.rules octets.now) }
+    ensures checked { IfOk result (λ ok. IsTrue ok ↔ IsChecked options.now octets.now) }
     ensures none { IfOk result (λ ok. IsTrue ok → out.new ≡ out.old) }
     ensures quiet { options.now.is_quiet ≡ true → out.new ≡ out.old }
 {
-    if !octets.is_empty() && are_elements(octets, options.rules, MAX_DEPTH + 1) {
+    if is_checked(options, octets) {
         return Ok(true);
     }
     if !options.is_quiet {
-        report_first(options, origin, octets, out)?;
+        report_check(options, origin, octets, out)?;
     }
     Ok(false)
+}
+
+/// Whether octets are elements, one at least, and nothing else, of the type that is asked for, if one is.
+fn is_checked(options: &Options<'_>, octets: &[u8]) -> bool
+    ensures { IsTrue result ↔ IsChecked options.now octets.now }
+{
+    are_some_elements(octets, options.rules) && is_as_asked(options.naming, options.rules, octets)
 }
 
 /// Does it with the blocks of a text in PEM.

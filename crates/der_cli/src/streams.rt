@@ -6,19 +6,22 @@ ghost use Rattle.std.specs.Process.{exit_status};
 ghost use Rattle.std.specs.declared.io.ErrorKind.{ErrorKind};
 ghost use Rattle.der_input.specs.declared.form.Form.{Form};
 ghost use Rattle.der_cli.specs.Inputs.{ReadsInput};
-ghost use Rattle.der_cli.specs.Outputs.{AreSomeElements};
+ghost use Rattle.der_cli.specs.Outputs.{IsChecked};
 ghost use Rattle.der_cli.specs.Statuses.{IsStatus};
 ghost use Rattle.der_cli.specs.declared.options.Action.{Action};
 
 use crate::arguments::{action_named, options_of};
 use crate::command::command;
 use crate::inputs::{STANDARD_INPUT, run_diff, run_files, run_octets, run_text};
-use crate::options::Options;
+use crate::naming::naming_of;
+use crate::options::{Action, Options};
 use crate::present::at_present;
+use crate::report::report_unknown_type;
 use crate::run::run;
 use crate::status::{CLOSED_PIPE, DONE, REFUSED, USAGE, status_of};
 use crate::terminal::style_of;
 use clap::ArgMatches;
+use der_known::KnownTypes;
 use der_print::Style;
 use std::alloc::Global;
 use std::env::Env;
@@ -149,11 +152,32 @@ fn run_named<R: Files + Clock + AllocGlobal + Clone + Drop, I: Read, W: Write, X
         "diff" => return run_diff(rt, matches, terminal, input, out, err),
         "text" => run_text(rt, matches, input, out, err)?,
         "octets" => run_octets(rt, matches, input, out, err)?,
-        _ => {
-            let options = at_present(rt, options_of(action_named(name), matches, terminal));
-            run_inputs(rt, &options, matches, input, out, err)?
-        }
+        _ => return run_action(rt, action_named(name), matches, terminal, input, out, err),
     };
+    Ok(status_of(are_read))
+}
+
+/// Runs an action over the files of its subcommand, or reports that a type that is asked for isn't known.
+fn run_action<R: Files + Clock + AllocGlobal + Clone + Drop, I: Read, W: Write, X: Write>(
+    rt: &R,
+    action: Action,
+    matches: &ArgMatches<'_>,
+    terminal: Style,
+    input: &mut I,
+    out: &mut W,
+    err: &mut X,
+) -> io::Result<u8>
+    ensures { IfOk result (λ status. status ≤ 2) }
+{
+    let types = KnownTypes::new();
+    let word = matches.get_str("as");
+    let Some(naming) = naming_of(action, word, &types) else {
+        report_unknown_type(word, &types, err)?;
+        return Ok(USAGE);
+    };
+    let asked = at_present(rt, options_of(action, matches, terminal));
+    let options = Options { naming, ..asked };
+    let are_read = run_inputs(rt, &options, matches, input, out, err)?;
     Ok(status_of(are_read))
 }
 
@@ -184,7 +208,7 @@ fn run_reader<I: Read, W: Write, X: Write>(
     err: &mut X,
 ) -> io::Result<bool>
     ensures checked { options.now.action ≡ Action.Check → options.now.form ≡ Some Form.Der → IfOk result
-        (λ ok. IfSome (I.remaining input.old) (λ octets. IsTrue ok ↔ AreSomeElements options.now.rules octets)) }
+        (λ ok. IfSome (I.remaining input.old) (λ octets. IsTrue ok ↔ IsChecked options.now octets)) }
     ensures read { IfOk result (λ ok. IsTrue ok → IfSome (I.remaining input.old) (λ octets.
         ReadsInput options.now (codes "standard input") octets (W.contents out.old) (W.contents out.new))) }
 {

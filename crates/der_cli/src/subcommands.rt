@@ -51,7 +51,7 @@ pub(crate) static SUBCOMMANDS: [Subcommand; 9] = [
         about: "Print a line for each element, with its offset, lengths, type and value",
         notes: None,
         arguments: &[
-            DER, FULL, WIDTH, DEPTH, OFFSET, PATH, NO_INSIDE, RECURSIVE, FROM, FILES,
+            DER, AS, FULL, WIDTH, DEPTH, OFFSET, PATH, NO_INSIDE, RECURSIVE, FROM, FILES,
         ],
     },
     Subcommand {
@@ -64,7 +64,7 @@ pub(crate) static SUBCOMMANDS: [Subcommand; 9] = [
         name: "check",
         about: "Print a line for each file that isn't DER",
         notes: None,
-        arguments: &[BER, QUIET, RECURSIVE, FROM, FILES],
+        arguments: &[BER, AS_TYPE, QUIET, RECURSIVE, FROM, FILES],
     },
     Subcommand {
         name: "canon",
@@ -144,6 +144,19 @@ const BER: Argument = Argument {
     name: "ber",
     help: "Read by BER, not by DER",
     ..FLAG
+};
+
+const AS: Argument = Argument {
+    name: "as",
+    value: Some("TYPE"),
+    help: "Name fields by this type, as Certificate; or auto, or none",
+    kind: Kind::Word,
+    ..FLAG
+};
+
+const AS_TYPE: Argument = Argument {
+    help: "Check that it is of this type too, as Certificate",
+    ..AS
 };
 
 const QUIET: Argument = Argument {

@@ -1,7 +1,28 @@
 //! How many files a check refuses.
+use crate::options::{Naming, Options};
 use der_walk::Rules;
-use std::io;
 use std::io::Write;
+use std::{fmt, io};
+
+/// What a check asks of files, as `DER`, or as `DER of Certificate`.
+#[derive(Clone, Copy)]
+struct Asked<'a> {
+    rules: Rules,
+    naming: Naming<'a>,
+}
+
+impl fmt::Display for Asked<'_> {
+    fn fmt<W: fmt::Write>(&self, f: &mut fmt::Formatter<W>) -> fmt::Result {
+        match self.rules {
+            Rules::Ber => write!(f, "BER")?,
+            Rules::Der => write!(f, "DER")?,
+        }
+        match self.naming {
+            Naming::By(schema) => write!(f, " of {}", schema.name),
+            Naming::Unnamed | Naming::ByFirst(_) => Ok(()),
+        }
+    }
+}
 
 /// How many files are read, and how many of them are refused or can't be read.
 #[derive(Clone, Copy)]
@@ -41,17 +62,17 @@ impl Summary {
     }
 
     /// Writes it, as `12 files, 2 aren't DER`.
-    pub(crate) fn write<W: Write>(&self, rules: Rules, out: &mut W) -> io::Result<()> {
-        let rules = match rules {
-            Rules::Ber => "BER",
-            Rules::Der => "DER",
+    pub(crate) fn write<W: Write>(&self, options: &Options<'_>, out: &mut W) -> io::Result<()> {
+        let asked = Asked {
+            rules: options.rules,
+            naming: options.naming,
         };
         write!(out, "{} files", self.files)?;
         match self.refused {
-            0 if self.unread == 0 => write!(out, ", all are {rules}")?,
+            0 if self.unread == 0 => write!(out, ", all are {asked}")?,
             0 => {}
-            1 => write!(out, ", 1 isn't {rules}")?,
-            refused => write!(out, ", {refused} aren't {rules}")?,
+            1 => write!(out, ", 1 isn't {asked}")?,
+            refused => write!(out, ", {refused} aren't {asked}")?,
         }
         if self.unread > 0 {
             write!(out, ", {} can't be read", self.unread)?;

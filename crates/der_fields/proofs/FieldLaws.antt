@@ -92,10 +92,10 @@ pub record HasLeft (sc : Root) (r : Rules) (i : List ℕ) (vs : List Visited) (l
   pub leaves : LeavesOrNot sc i vs left
   pub names : MatchOption left (AllNamed sc i vs) (λ p. IsOfType sc r i → ⊥)
 
-left_none : (sc : Root) (r : Rules) (i : List ℕ) → HasLeft sc r i [] None
+pub left_none : (sc : Root) (r : Rules) (i : List ℕ) → HasLeft sc r i [] None
 left_none sc r i = record { leaves = in_type_none sc i; names = none_named sc i }
 
-left_more : (sc : Root) (r : Rules) (i : List ℕ) (w : Walk) (vs : List Visited) (v : Visited) (left : Option ℕ)
+pub left_more : (sc : Root) (r : Rules) (i : List ℕ) (w : Walk) (vs : List Visited) (v : Visited) (left : Option ℕ)
     (l : Option Label) → l ≡ label_after sc i vs v → HasVisited all_extras r i w (vs ++ v ∷ [])
     → HasLeft sc r i vs left → HasLeft sc r i (vs ++ v ∷ []) (left_past left l v.offset)
 left_more sc r i w vs v None (Some l) e has h =

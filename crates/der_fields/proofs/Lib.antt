@@ -1,2 +1,3 @@
 pub mod FieldLaws
+pub mod Fitting
 pub mod OneFit

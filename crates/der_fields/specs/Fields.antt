@@ -70,6 +70,10 @@ Fits sc r i vs Lacks = Visits all_extras r 101 0 0 i vs × AreInType sc i vs
 Fits sc r i vs (Left offset) = Visits all_extras r 101 0 0 i vs × LeavesAt sc i vs offset
 Fits sc r i vs (Refused end) = IsRefused all_extras r i vs end.walk end.refusal × LeavesOrNot sc i vs end.left
 
+-- the same of some elements
+abbrev pub FitsSomehow : Root → Rules → List ℕ → Named → Type 0
+FitsSomehow sc r i named = (vs : List Visited) × Fits sc r i vs named
+
 -- two answers are the same, or both say that the input is refused
 abbrev pub AreSame : Named → Named → Type 0
 AreSame (Refused _) (Refused _) = Unit {0}

@@ -2,10 +2,12 @@
 #![tactic(auto)]
 
 mod asked;
+mod fit;
 pub mod laws;
 mod named;
 mod write;
 
 pub use asked::schema_named;
+pub use fit::fit_of;
 pub use named::{Named, RefusedInput};
 pub use write::write_fields;

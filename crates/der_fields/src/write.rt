@@ -71,7 +71,7 @@ fn text_of(name: Option<Name>) -> &'static str
 }
 
 /// The offset of the first element that isn't in the type, after one more with this name and offset.
-fn left_past(left: Option<usize>, name: Option<Name>, offset: usize) -> Option<usize>
+pub(crate) fn left_past(left: Option<usize>, name: Option<Name>, offset: usize) -> Option<usize>
     ensures { result ≡ left_past left (label_of name) offset }
 {
     match name {

@@ -74,7 +74,7 @@ returns-in-Ok-None-clause-refused g c =
     let p = c.elements.invariant.looked in
     let o = c.args.options.now in
     let all = rw c.in-Ok-None.field-0-is at (c.in-Ok-None.ensures.visits (extras_of o) o.rules c.args.octets.now p.elements p.visited) in
-    λ none. no_element p.elements p.not_asked (inr (all, refl)) c.elements.invariant.same
+    λ none. no_element p.elements p.not_asked (inr (all, inl refl)) c.elements.invariant.same
 
 pub returns-in-Err-clause-refused : goal.returns-in-Err-clause-refused
 returns-in-Err-clause-refused g c =

@@ -1,5 +1,5 @@
 use Rattle.std.proofs.KnownBytes.{Keeps-refl}
 use Rattle.der_cli.proofs.report.report_end.Goals as goal
 
-pub returns-then-has_some-clause-keeps : goal.returns-then-has_some-clause-keeps
-returns-then-has_some-clause-keeps g c = Keeps-refl _
+pub returns-then-is_as_asked-clause-keeps : goal.returns-then-is_as_asked-clause-keeps
+returns-then-is_as_asked-clause-keeps g c = Keeps-refl _

@@ -1,0 +1,86 @@
+//! By which type the elements of an input are named.
+ghost use Rattle.std.specs.Prelude.{◌≡◌, ◌≢◌, ◌↔◌, ◌⊎◌, IsTrue, Some, codes, false};
+ghost use Rattle.der_cli.specs.Namings.{IsAsAsked, IsByName, IsNamedBy};
+ghost use Rattle.der_cli.specs.declared.options.Action.{Action};
+ghost use Rattle.der_cli.specs.declared.options.Naming.{Naming};
+
+use crate::options::{Action, Naming};
+use der_known::KnownTypes;
+use der_schema::{Schema, is_of_type};
+use der_walk::Rules;
+
+/// The word for the first known type that an input is of.
+const AUTO: &str = "auto";
+
+/// The word for no type.
+const NONE: &str = "none";
+
+/// The naming that an action has, by the word that is said of it, if one is. None if no type has the word as its name.
+pub(crate) fn naming_of<'a>(
+    action: Action,
+    word: Option<&str>,
+    types: &'a KnownTypes,
+) -> Option<Naming<'a>> {
+    match word {
+        Some(word) => naming_said(action, word, types),
+        None => Some(naming_unsaid(action, types)),
+    }
+}
+
+/// The naming where no word says it: that of a tree is by the first known type that the input is of.
+fn naming_unsaid<'a>(action: Action, types: &'a KnownTypes) -> Naming<'a>
+    ensures tree { action ≡ Action.Tree → result ≡ Naming.ByFirst types.entry }
+    ensures others { action ≢ Action.Tree → result ≡ Naming.Unnamed }
+{
+    if action == Action::Tree {
+        return Naming::ByFirst(types);
+    }
+    Naming::Unnamed
+}
+
+/// The naming that a word says. None if no type has it as its name. `auto` and `none` are words of a tree alone.
+fn naming_said<'a>(action: Action, word: &str, types: &'a KnownTypes) -> Option<Naming<'a>>
+    ensures auto { action ≡ Action.Tree → word.now ≡ codes "auto" → result ≡ Some (Naming.ByFirst types.entry) }
+    ensures none { action ≡ Action.Tree → word.now ≡ codes "none" → result ≡ Some Naming.Unnamed }
+    ensures named { (action ≢ Action.Tree) ⊎ ((word.now ≢ codes "auto") × (word.now ≢ codes "none"))
+        → IsByName types.now word.now result }
+{
+    if action == Action::Tree && word == AUTO {
+        return Some(Naming::ByFirst(types));
+    }
+    if action == Action::Tree && word == NONE {
+        return Some(Naming::Unnamed);
+    }
+    naming_by(types, word)
+}
+
+/// The naming by the known type with this name, if there is one.
+fn naming_by<'a>(types: &'a KnownTypes, name: &str) -> Option<Naming<'a>>
+    ensures { IsByName types.now name.now result }
+{
+    match types.type_named(name) {
+        Some(schema) => Some(Naming::By(schema)),
+        None => None,
+    }
+}
+
+/// The type by which the elements of an input are named, if there is one.
+pub(crate) fn schema_of<'a>(naming: Naming<'a>, rules: Rules, octets: &[u8]) -> Option<Schema<'a>>
+    ensures { IsNamedBy naming.entry rules octets.now result }
+{
+    match naming {
+        Naming::Unnamed => None,
+        Naming::ByFirst(types) => types.type_of(octets, rules),
+        Naming::By(schema) => Some(schema),
+    }
+}
+
+/// Whether an input is of the type that it has to be of, if there is one.
+pub(crate) fn is_as_asked(naming: Naming<'_>, rules: Rules, octets: &[u8]) -> bool
+    ensures { IsTrue result ↔ IsAsAsked naming.entry rules octets.now }
+{
+    match naming {
+        Naming::By(schema) => is_of_type(octets, rules, schema),
+        Naming::Unnamed | Naming::ByFirst(_) => true,
+    }
+}
