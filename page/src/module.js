@@ -2,9 +2,22 @@
 // numbers: each pointer and each length crosses as a BigInt.
 
 const PAGE = 65536;
-/** The octets of a row and of an outcome, and where their fields are (crates/dumarewhi_page/src). */
+/** The octets of a row, of an outcome and of a block, and where their fields are (crates/dumarewhi_page/src). */
 const ROW = 64;
 const OUTCOME = 32;
+const BLOCK = 40;
+/** The forms of inputs, and why there is none, by their numbers (crates/dumarewhi_page/src/input.rt). */
+export const FORMS = { octets: 0, pem: 1, digits: 2 };
+export const ERRORS = {
+  looksLike: 10,
+  digits: 11,
+  base64: 12,
+  noBlock: 13,
+  noEnd: 14,
+  labelsDiffer: 15,
+  encrypted: 16,
+  outOfMemory: 17,
+};
 export const BER = 0;
 export const DER = 1;
 /** The parts of a refusal. */
@@ -74,6 +87,64 @@ export class Reader {
     return Number(this.view.getBigUint64(at, true));
   }
 
+  /** Copies octets to memory, and returns where they are and how many, as a call takes them. */
+  put(octets) {
+    const at = this.take(octets.length);
+    new Uint8Array(this.memory.buffer).set(octets, at);
+    return [BigInt(at), BigInt(octets.length)];
+  }
+
+  /** A copy of octets in memory. */
+  copy(at, length) {
+    return new Uint8Array(this.memory.buffer, at, length).slice();
+  }
+
+  /** The number of the form of an input, or of why it has none. */
+  formOf(octets) {
+    return this.calls.page_form(...this.put(octets));
+  }
+
+  /** What an input of another kind is, as `a zip file`. */
+  kindOf(octets) {
+    const input = this.put(octets);
+    return this.text((at, room) => this.calls.page_kind(...input, at, room));
+  }
+
+  /** Buffers for the digits or the characters of a text, and for its octets. */
+  buffersFor(length) {
+    const size = 2 * length + 16;
+    return [0, 1].flatMap(() => [BigInt(this.take(size)), BigInt(size)]);
+  }
+
+  /** The octets of digits or of base64, or the number of the error. */
+  decode(text, isDigits) {
+    const call = isDigits ? this.calls.page_digits : this.calls.page_base64;
+    const buffers = this.buffersFor(text.length);
+    const fault = call(...this.put(text), ...buffers, BigInt(this.outcome));
+    return fault === 0 ? { octets: this.copy(Number(buffers[2]), this.size(this.outcome)) } : { fault };
+  }
+
+  /** The blocks of PEM in a text: the label of each, and its octets or the number of the error. */
+  blocksOf(text) {
+    const blocks = [];
+    const block = this.take(BLOCK);
+    const buffers = this.buffersFor(text.length);
+    let rest = this.put(text);
+    for (;;) {
+      // Empty slices, which a call without a block leaves.
+      for (const at of [block, block + 16]) {
+        this.view.setBigUint64(at, rest[0], true);
+        this.view.setBigUint64(at + 8, 0n, true);
+      }
+      const fault = this.calls.page_block(...rest, ...buffers, BigInt(block));
+      if (fault === ERRORS.noBlock) return blocks;
+      const label = decoder.decode(this.copy(this.size(block), this.size(block + 8)));
+      const found = fault === 0 ? { octets: this.copy(Number(buffers[2]), this.size(block + 32)) } : { fault };
+      blocks.push({ label, ...found });
+      rest = [BigInt(this.size(block + 16)), BigInt(this.size(block + 24))];
+    }
+  }
+
   /** Reads the elements of octets. */
   read(octets) {
     return new Elements(this, octets);
@@ -95,9 +166,7 @@ export class Elements {
   constructor(reader, octets) {
     this.reader = reader;
     this.octets = octets;
-    this.at = reader.take(octets.length);
-    new Uint8Array(reader.memory.buffer).set(octets, this.at);
-    this.input = [BigInt(this.at), BigInt(octets.length)];
+    this.input = reader.put(octets);
     this.rows = 0;
     const counted = this.list(BER, 0);
     this.rows = reader.take(counted.rows * ROW);

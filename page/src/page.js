@@ -34,12 +34,12 @@ class Page {
 
   /** Reads a text. */
   openText(text, name) {
-    this.open(() => documentsOfText(text, name));
+    this.open(() => documentsOfText(this.reader, text, name));
   }
 
   /** Reads octets, as those of a file. */
   openOctets(name, octets) {
-    this.open(() => documentsOfFile(name, octets));
+    this.open(() => documentsOfFile(this.reader, name, octets));
   }
 
   open(find) {
@@ -348,13 +348,13 @@ function addExamples(page) {
 async function openFiles(page, files) {
   const read = await Promise.all([...files].map(async (file) => [file.name, new Uint8Array(await file.arrayBuffer())]));
   byId("text").value = "";
-  page.open(() => read.flatMap(([name, octets]) => documentsOrFault(name, octets, read.length)));
+  page.open(() => read.flatMap(([name, octets]) => documentsOrFault(page.reader, name, octets, read.length)));
 }
 
 /** Of one file the fault is a sentence, and of several it is shown at that file. */
-function documentsOrFault(name, octets, count) {
+function documentsOrFault(reader, name, octets, count) {
   try {
-    return documentsOfFile(name, octets);
+    return documentsOfFile(reader, name, octets);
   } catch (fault) {
     if (count === 1 || !(fault instanceof FormError)) throw fault;
     return [{ name, label: "", error: fault.message }];

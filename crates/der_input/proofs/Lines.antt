@@ -1,12 +1,15 @@
 -- Where blocks begin.
-use Rattle.std.proofs.Common.{◌≡◌, ℕ, zero, suc, ◌+◌, ◌-◌, ◌<◌, ◌≤◌, ◌&&◌, Bool, true, false, cond, List, length, take, drop, Some, None, refl, sym, ap, ◌∙◌, arith, codes, inl, inr}
-use Rattle.std.specs.Prelude.{find, slice_index}
+use Rattle.std.proofs.Common.{◌≡◌, ℕ, zero, suc, ◌+◌, ◌-◌, ◌<◌, ◌≤◌, ◌&&◌, Bool, true, false, cond, List, length, take, drop, Option, Some, None, ◌++◌, refl, subst, sym, ap, ◌∙◌, arith, codes, inl, inr}
+use Rattle.std.specs.Borrow.{Bor}
+use Rattle.std.specs.Prelude.{MatchOption, find, slice_index}
 use Rattle.std.proofs.lemmas.Bool.{cases_order, cases_Bool}
 use Rattle.std.proofs.lemmas.List.{get_or-drop, length-drop}
 use Rattle.std.specs.List.{range_with_len}
-use Rattle.bstr.specs.Find.{OccursAt, occurs_at}
+use Rattle.bstr.specs.Find.{FindsNeedle, OccursAt, occurs_at}
+use Rattle.bstr.specs.Text.{Contains}
 use Rattle.memchr.proofs.lemmas.MatchLemmas.{OccursAt-true, occurs_at-true}
-use Rattle.der_input.specs.Blocks.{begins_block, begins_line}
+use Rattle.der_input.specs.Blocks.{HasNoLabel, OpensBlock, SplitsRound, begins_block, begins_here}
+use Rattle.der_input.specs.Marks.{first_place}
 
 -- what a search of a rest finds, as offsets of the whole
 pub in_rest : (text needle : List ℕ) (from k : ℕ) → from ≤ k → OccursAt text needle k → OccursAt (drop from text) needle (k - from)
@@ -45,15 +48,38 @@ not_there text needle k h = elim (cases_Bool (occurs_at text needle k)) [
   | inr none ↦ none
 ]
 
--- no block begins where its first octets don't occur, or no line begins
+-- no block begins where its first octets don't occur, or neither a line nor a string begins
 pub no_octets : (text : List ℕ) (k : ℕ) → ¬ OccursAt text (codes "-----BEGIN ") k → begins_block text k ≡ false
-no_octets text k h = ap (λ b. b && begins_line (take k text)) (not_there text (codes "-----BEGIN ") k h)
+no_octets text k h = ap (λ b. b && begins_here text k) (not_there text (codes "-----BEGIN ") k h)
 
-pub no_line : (text : List ℕ) (k : ℕ) → begins_line (take k text) ≡ false → begins_block text k ≡ false
+pub no_line : (text : List ℕ) (k : ℕ) → begins_here text k ≡ false → begins_block text k ≡ false
 no_line text k h = elim (cases_Bool (occurs_at text (codes "-----BEGIN ") k)) [
-  | inl there ↦ (ap (λ b. b && begins_line (take k text)) there ∙ h)
-  | inr none ↦ ap (λ b. b && begins_line (take k text)) none
+  | inl there ↦ (ap (λ b. b && begins_here text k) there ∙ h)
+  | inr none ↦ ap (λ b. b && begins_here text k) none
 ]
 
-pub octets_and_line : (text : List ℕ) (k : ℕ) → OccursAt text (codes "-----BEGIN ") k → begins_line (take k text) ≡ true → begins_block text k ≡ true
-octets_and_line text k there h = ap (λ b. b && begins_line (take k text)) (occurs_at-true text (codes "-----BEGIN ") k there) ∙ h
+pub octets_and_line : (text : List ℕ) (k : ℕ) → OccursAt text (codes "-----BEGIN ") k → begins_here text k ≡ true → begins_block text k ≡ true
+octets_and_line text k there h = ap (λ b. b && begins_here text k) (occurs_at-true text (codes "-----BEGIN ") k there) ∙ h
+
+-- where a needle occurs first
+pub place_some : (text needle : List ℕ) (k : ℕ) → 0 < length needle → OccursAt text needle k → ((j : ℕ) → j < k → ¬ OccursAt text needle j)
+    → first_place text needle ≡ Some k
+place_some text needle k some here before =
+    found_at (occurs_at text needle) 0 (length text) k (omega arith) (omega (arith, here.fits, some)) (occurs_at-true text needle k here)
+    (λ j low high. not_there text needle j (before j high))
+
+pub place_none : (text needle : List ℕ) → ((j : ℕ) → ¬ OccursAt text needle j) → first_place text needle ≡ None
+place_none text needle h = found_none (occurs_at text needle) 0 (length text) (λ j low high. not_there text needle j (h j))
+
+pub place_is : (text needle : List ℕ) (r : Option ℕ) → 0 < length needle → FindsNeedle text needle 0 r → r ≡ first_place text needle
+place_is text needle (Some k) some found =
+    sym (place_some text needle k some found.1 (λ j less. found.0.before j (omega arith) less))
+place_is text needle None some found =
+    sym (place_none text needle (λ j h. found j (omega arith) (omega (arith, h.fits)) h))
+
+-- a block's label ends with dashes, or there are none
+pub labelled : (text block : List ℕ) (r : Option (Bor (List ℕ) × Bor (List ℕ))) → OpensBlock text block
+    → MatchOption r (¬ Contains block (codes "-----")) (λ x. SplitsRound block (codes "-----") x.0.now x.1.now)
+    → MatchOption r (HasNoLabel text) (λ x. OpensBlock text (x.0.now ++ (codes "-----" ++ x.1.now)))
+labelled text block None opens none = inr (block, opens, none)
+labelled text block (Some x) opens split = subst (OpensBlock text) split.whole opens

@@ -1,7 +1,8 @@
 -- Blocks of PEM with text around them (RFC 7468).
-use Rattle.std.specs.Prelude.{◌≡◌, ◌≢◌, ℕ, ◌+◌, ◌<◌, ◌==◌, ◌&&◌, ◌||◌, Bool, true, if◌then◌else◌, Option, Some}
+use Rattle.std.specs.Prelude.{◌≡◌, ◌≢◌, ℕ, ◌+◌, ◌<◌, ◌==◌, ◌&&◌, ◌||◌, Bool, true, if◌then◌else◌, Option, Some, None}
 use Rattle.std.specs.Prelude.{List, [], ◌∷◌, ◌++◌, length, take, drop, reverse, codes, find, ◌⊎◌, Ok, IsErr}
-use Rattle.std.specs.List.{range_with_len}
+use Rattle.std.specs.Prelude.{nat_lt, slice_index}
+use Rattle.std.specs.List.{position_or_len, range_with_len}
 use Rattle.base64.specs.Engines.{standard_pad_indifferent}
 use Rattle.base64.specs.GeneralPurpose.{decode_of as base64_decode_of}
 use Rattle.bstr.specs.Find.{OccursAt, occurs_at}
@@ -9,23 +10,38 @@ use Rattle.bstr.specs.Text.{Contains}
 use Rattle.der_input.specs.declared.error.FormError.{FormError}
 use Rattle.der_input.specs.declared.error.FormError.TheVariants.{Base64, Encrypted, LabelsDiffer, NoEnd, OutOfMemory}
 use Rattle.der_input.specs.declared.pem.Block.{Block}
-use Rattle.der_input.specs.Plain.{characters_of, is_mark}
+use Rattle.der_input.specs.Marks.{ends_in, is_mark}
+use Rattle.der_input.specs.Plain.{characters_of}
 
--- what may be before a block on its line: white space, quotes, and the mark that a mail has there
+-- what may be before a block on its line: white space, quotes, the mark that a mail has there, and the mark at the
+-- begin of a file of UTF-8
 abbrev pub is_indent : ℕ → Bool
-is_indent c = is_mark (codes " \t>\"'") c
+is_indent c = is_mark (codes " \t>\"'" ++ 0xef ∷ 0xbb ∷ 0xbf ∷ []) c
+
+-- a text ends in the end of a line, which may be an escape, as in JSON
+abbrev pub ends_line : List ℕ → Bool
+ends_line before = ends_in before (codes "\n") || ends_in before (codes "\r")
+    || ends_in before (codes "\\n") || ends_in before (codes "\\r")
 
 -- whether a line begins, or nothing but an indent is on it yet, by the octets before, the last of them first
 abbrev pub begins_line_after : List ℕ → Bool
 begins_line_after [] = true
-begins_line_after (c ∷ before) = if is_indent c then begins_line_after before else c == 0x0a || c == 0x0d
+begins_line_after (c ∷ before) = if is_indent c then begins_line_after before else ends_line (reverse (c ∷ before))
 
 abbrev pub begins_line : List ℕ → Bool
 begins_line before = begins_line_after (reverse before)
 
--- a block begins at the start of a line (RFC 7468 2, 3)
+-- a string of JSON begins in which a line ends, by the octets before and behind its begin
+abbrev pub begins_string : List ℕ → List ℕ → Bool
+begins_string before behind = ends_in before (codes "\"")
+    && nat_lt (position_or_len (λ c. c == 0x5c) behind) (position_or_len (λ c. c == 0x22) behind)
+
+-- a block begins at the start of a line (RFC 7468 2, 3), or of such a string
+abbrev pub begins_here : List ℕ → ℕ → Bool
+begins_here i k = begins_line (take k i) || begins_string (take k i) (drop k i)
+
 abbrev pub begins_block : List ℕ → ℕ → Bool
-begins_block i k = occurs_at i (codes "-----BEGIN ") k && begins_line (take k i)
+begins_block i k = occurs_at i (codes "-----BEGIN ") k && begins_here i k
 
 -- where the first one does
 abbrev pub first_begin : List ℕ → Option ℕ
@@ -34,6 +50,13 @@ first_begin i = find (begins_block i) (range_with_len 0 (length i))
 -- what follows its first octets, which are eleven
 abbrev pub OpensBlock : List ℕ → List ℕ → Type 0
 OpensBlock text opened = (k : ℕ) × (first_begin text ≡ Some k) × (opened ≡ drop (k + 11) text)
+
+-- no block begins, or no dashes follow its begin
+abbrev pub HasNoBegin : List ℕ → Type 0
+HasNoBegin text = first_begin text ≡ None
+
+abbrev pub HasNoLabel : List ℕ → Type 0
+HasNoLabel text = HasNoBegin text ⊎ ((block : List ℕ) × OpensBlock text block × ¬ Contains block (codes "-----"))
 
 -- text is split round the first place where a needle occurs
 pub record SplitsRound (text needle before after : List ℕ) : Type 0 where

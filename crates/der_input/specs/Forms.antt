@@ -1,8 +1,8 @@
 -- How an input is written, as a look at it finds.
 use Rattle.std.specs.Prelude.{◌≡◌, ℕ, ◌<◌, ◌==◌, ◌&&◌, ◌||◌, ◌⊎◌, not, Bool, true, false, Option, Some, None}
 use Rattle.std.specs.Prelude.{List, [], ◌∷◌, ◌++◌, length, take, codes, find}
-use Rattle.std.specs.Char.{is_ascii_alphanumeric, is_ascii_control, is_ascii_hexdigit, is_ascii_whitespace}
-use Rattle.std.specs.List.{list_all, list_any}
+use Rattle.std.specs.Char.{is_ascii_control}
+use Rattle.std.specs.List.{list_any}
 use Rattle.std.specs.Option.{option_map, option_map_or}
 use Rattle.std.specs.Str.{IsUtf8}
 use Rattle.der_base.specs.declared.header.Class.{Class}
@@ -13,7 +13,10 @@ use Rattle.der_input.specs.declared.error.FormError.TheVariants.{LooksLike}
 use Rattle.der_input.specs.declared.form.Form.{Form}
 use Rattle.der_input.specs.declared.form.Form.TheVariants.{Der, Pem, Hex, Base64}
 use Rattle.der_input.specs.Blocks.{first_begin}
-use Rattle.der_input.specs.Plain.{begins_with, in_braces, is_dump, is_mark, is_separator, without_address}
+use Rattle.der_input.specs.declared.notation.Notation.{Notation}
+use Rattle.der_input.specs.declared.notation.Notation.TheVariants as notation
+use Rattle.der_input.specs.Marks.{begins_with}
+use Rattle.der_input.specs.Plain.{notation_of}
 
 -- what an input of a form is called in a sentence
 abbrev pub form_name : Form → List ℕ
@@ -47,23 +50,6 @@ HasNoBlock i = first_begin i ≡ None
 abbrev pub begins_after_text : List ℕ → Bool
 begins_after_text i = option_map_or (λ k. not (list_any is_control (take k i))) (first_begin i) false
 
--- a hex dump, or hexadecimal digits and what may be between them
-abbrev pub is_hex : ℕ → Bool
-is_hex c = is_ascii_hexdigit c || is_separator c || is_mark (codes "xX") c
-
-abbrev pub are_digits : List ℕ → Bool
-are_digits i = list_any is_ascii_hexdigit i && list_all is_hex i
-
-abbrev pub is_hex_text : List ℕ → Bool
-is_hex_text i = is_dump i || are_digits (in_braces i)
-
--- base64 of either alphabet (RFC 4648 4, 5), and what may be between its characters
-abbrev pub is_base64 : ℕ → Bool
-is_base64 c = is_ascii_alphanumeric c || is_ascii_whitespace c || is_mark (codes "+/-_=\"'") c
-
-abbrev pub is_base64_text : List ℕ → Bool
-is_base64_text i = list_all is_base64 (without_address i)
-
 -- the first octets of other kinds of files, and the kinds
 abbrev pub other_kinds : List (List ℕ × List ℕ)
 other_kinds =
@@ -81,16 +67,22 @@ other_kinds =
 abbrev pub other_kind : List ℕ → Option (List ℕ)
 other_kind i = option_map (λ row. row.1) (find (λ row. begins_with i row.0) other_kinds)
 
--- A text without a block is hexadecimal digits or base64, the first of these that it may be.
+-- A text without a block is in a notation: hexadecimal digits, of which there are several, or base64.
 abbrev pub IsPlain : List ℕ → Type 0
 IsPlain i = (begins_after_text i ≡ false) × IsText i
+
+abbrev pub form_of_notation : Notation → Form
+form_of_notation notation.Base64 = Base64
+form_of_notation n = Hex
+
+abbrev pub plain_form : List ℕ → Option Form
+plain_form i = option_map form_of_notation (notation_of i)
 
 -- the form of an input that isn't one element, and of no other kind
 abbrev pub IsWritten : List ℕ → Form → Type 0
 IsWritten i Pem = begins_after_text i ≡ true
 IsWritten i Der = (begins_after_text i ≡ false) × ¬ IsText i
-IsWritten i Hex = IsPlain i × (is_hex_text i ≡ true)
-IsWritten i Base64 = IsPlain i × (is_hex_text i ≡ false) × (is_base64_text i ≡ true)
+IsWritten i form = IsPlain i × (plain_form i ≡ Some form)
 
 -- the form that is found
 abbrev pub FindsForm : List ℕ → Form → Type 0
@@ -98,7 +90,7 @@ FindsForm i form = (IsBinary i × (form ≡ Der)) ⊎ (¬ IsBinary i × (other_k
 
 -- a text of none of these forms
 abbrev pub IsOtherText : List ℕ → Type 0
-IsOtherText i = IsPlain i × (is_hex_text i ≡ false) × (is_base64_text i ≡ false)
+IsOtherText i = IsPlain i × (plain_form i ≡ None)
 
 -- why no form is found: the input is a file of another kind, or another text
 abbrev pub FindsNoForm : List ℕ → FormError → Type 0

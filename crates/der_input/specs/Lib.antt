@@ -1,3 +1,6 @@
 pub mod Blocks
+pub mod Escapes
 pub mod Forms
+pub mod Marks
+pub mod Numbers
 pub mod Plain

@@ -1,17 +1,15 @@
 //! How an input is written, found by a look at it.
 ghost use Rattle.std.specs.Prelude.{◌≡◌, ◌↔◌, IfErr, IfOk, IsTrue, find, length, option_copied};
-ghost use Rattle.std.specs.Char.{is_ascii_hexdigit};
-ghost use Rattle.std.specs.List.{list_all, list_any};
+ghost use Rattle.std.specs.List.{list_any};
 ghost use Rattle.std.specs.Option.{option_map};
 ghost use Rattle.der_input.specs.Forms.{FindsForm, FindsNoForm, IsBinary, IsOneElement, IsText, begins_after_text};
-ghost use Rattle.der_input.specs.Forms.{are_digits, form_name, is_base64, is_base64_text, is_control, is_hex};
-ghost use Rattle.der_input.specs.Forms.{is_hex_text, other_kind};
-ghost use Rattle.der_input.specs.Plain.{begins_with};
+ghost use Rattle.der_input.specs.Forms.{form_name, form_of_notation, is_control, other_kind};
+ghost use Rattle.der_input.specs.Marks.{begins_with};
 ghost use Rattle.der_base.specs.declared.header.Length.{Length};
 
 use crate::error::FormError;
+use crate::notation::{Notation, notation_of};
 use crate::pem::first_begin;
-use crate::plain::{in_braces, is_dump, is_mark, is_separator, without_address};
 use der_base::header::{Length, ber_read_element_header};
 use std::str;
 
@@ -58,8 +56,9 @@ const OTHER_KINDS: [(&[u8], &str); 9] = [
 /// How an input is written: as octets, or as text that is PEM, hexadecimal digits or base64.
 ///
 /// One element of a definite length that ends where the input ends is octets, whatever it contains, if the input isn't
-/// all text. PEM begins at the start of a line, and only text is before it. Text that may be hexadecimal digits isn't
-/// base64. An error if the input begins as a file of another kind does, or is another text.
+/// all text. PEM begins at the start of a line, and only text is before it. Other text is in the first notation that it
+/// may be in: a dump, a string with escapes, numbers in decimal, hexadecimal digits, base64, numbers with `0x` among
+/// words. An error if the input begins as a file of another kind does, or is another text.
 pub fn form_of(input: &[u8]) -> Result<Form, FormError>
     ensures form { IfOk result (FindsForm input.now) }
     ensures none { IfErr result (FindsNoForm input.now) }
@@ -76,13 +75,20 @@ pub fn form_of(input: &[u8]) -> Result<Form, FormError>
     if !is_text(input) {
         return Ok(Form::Der);
     }
-    if is_hex_text(input) {
-        return Ok(Form::Hex);
+    match notation_of(input) {
+        Some(notation) => Ok(form_of_notation(notation)),
+        None => Err(FormError::LooksLike("a text file")),
     }
-    if is_base64_text(input) {
-        return Ok(Form::Base64);
+}
+
+/// The form of a text in a notation.
+fn form_of_notation(notation: Notation) -> Form
+    ensures { result ≡ form_of_notation notation }
+{
+    match notation {
+        Notation::Base64 => Form::Base64,
+        _ => Form::Hex,
     }
-    Err(FormError::LooksLike("a text file"))
 }
 
 /// Whether octets are one element, and no text.
@@ -160,58 +166,8 @@ fn has_controls(input: &[u8]) -> bool
     input.iter().any(|octet| is_control(*octet))
 }
 
-/// Whether a text is a hex dump, or hexadecimal digits and what may be between them.
-fn is_hex_text(text: &[u8]) -> bool
-    ensures { result ≡ is_hex_text text.now }
-{
-    is_dump(text) || are_digits(in_braces(text))
-}
-
-fn are_digits(octets: &[u8]) -> bool
-    ensures { result ≡ are_digits octets.now }
-{
-    has_digit(octets) && are_hex(octets)
-}
-
-fn has_digit(octets: &[u8]) -> bool
-    ensures { result ≡ list_any is_ascii_hexdigit octets.now }
-{
-    octets.iter().any(|octet| octet.is_ascii_hexdigit())
-}
-
-fn are_hex(octets: &[u8]) -> bool
-    ensures { result ≡ list_all is_hex octets.now }
-{
-    octets.iter().all(|octet| is_hex(*octet))
-}
-
-/// Whether a text is characters of base64 and what may be between them.
-fn is_base64_text(text: &[u8]) -> bool
-    ensures { result ≡ is_base64_text text.now }
-{
-    are_base64(without_address(text))
-}
-
-fn are_base64(octets: &[u8]) -> bool
-    ensures { result ≡ list_all is_base64 octets.now }
-{
-    octets.iter().all(|octet| is_base64(*octet))
-}
-
 fn is_control(octet: u8) -> bool
     ensures { result ≡ is_control octet }
 {
     octet.is_ascii_control() && !matches!(octet, b'\t' | b'\n' | b'\r')
-}
-
-fn is_hex(octet: u8) -> bool
-    ensures { result ≡ is_hex octet }
-{
-    octet.is_ascii_hexdigit() || is_separator(octet) || is_mark(b"xX", octet)
-}
-
-fn is_base64(octet: u8) -> bool
-    ensures { result ≡ is_base64 octet }
-{
-    octet.is_ascii_alphanumeric() || octet.is_ascii_whitespace() || is_mark(b"+/-_=\"'", octet)
 }

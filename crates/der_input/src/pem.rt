@@ -1,15 +1,17 @@
 //! Blocks of PEM (RFC 7468), with text around them.
-ghost use Rattle.std.specs.Prelude.{◌≡◌, ◌↔◌, ◌+◌, ◌≤◌, length, take, codes};
+ghost use Rattle.std.specs.Prelude.{◌≡◌, ◌↔◌, ◌+◌, ◌≤◌, ◌++◌, ◌||◌, length, take, drop, codes};
 ghost use Rattle.std.specs.Prelude.{IfErr, IfOk, IfSome, IsTrue, MatchOption};
 ghost use Rattle.bstr.specs.Find.{FindsNeedle};
 ghost use Rattle.bstr.specs.Text.{Contains};
-ghost use Rattle.der_input.specs.Blocks.{BeginsWithBlock, BreaksBlock, IsEncrypted, OpensBlock, RefusesLines};
-ghost use Rattle.der_input.specs.Blocks.{SpellsLines, SplitsRound};
-ghost use Rattle.der_input.specs.Blocks.{begins_line, first_begin, is_indent, label_of, lines_of};
+ghost use Rattle.der_input.specs.Blocks.{BeginsWithBlock, BreaksBlock, HasNoLabel, IsEncrypted, OpensBlock};
+ghost use Rattle.der_input.specs.Blocks.{RefusesLines, SpellsLines, SplitsRound};
+ghost use Rattle.der_input.specs.Blocks.{begins_here, begins_line, begins_string, ends_line, first_begin, is_indent};
+ghost use Rattle.der_input.specs.Blocks.{label_of, lines_of};
 ghost use Rattle.der_input.specs.Forms.{HasNoBlock};
 
 use crate::error::FormError;
-use crate::plain::{decode_base64, is_mark};
+use crate::marks::{is_mark, offset_of};
+use crate::plain::decode_base64;
 use crate::search::{contains, find, rest_from};
 use crate::slices::decode_base64_into;
 use std::alloc::Global;
@@ -93,6 +95,16 @@ pub fn next_block(text: &[u8]) -> Result<Option<(Block<'_>, &[u8])>, FormError>
     }
 }
 
+/// The label of the first block of a text, and what follows its dashes, even if the block doesn't end. None if no block
+/// begins, or no dashes follow.
+pub fn first_label(text: &[u8]) -> Option<(&[u8], &[u8])>
+    ensures { MatchOption result (HasNoLabel text.now)
+        (λ x. OpensBlock text.now (x.0.now ++ (codes "-----" ++ x.1.now))) }
+{
+    let block = open_block(text)?;
+    split_round(block, DASHES)
+}
+
 /// What follows the first octets of the first block.
 fn open_block(text: &[u8]) -> Option<&[u8]>
     ensures { MatchOption result (HasNoBlock text.now) (λ x. OpensBlock text.now x.now) }
@@ -108,7 +120,7 @@ pub fn first_begin(text: &[u8]) -> Option<usize>
 {
     let mut from = 0;
     'occurrences: while let Some(begin) = next_begin(text, from) {
-        if begins_line(&text[..begin]) {
+        if begins_here(text, begin) {
             return Some(begin);
         }
         from = begin + 1;
@@ -126,6 +138,15 @@ fn next_begin(text: &[u8], from: usize) -> Option<usize>
     Some(from + distance)
 }
 
+/// Whether a line begins at an offset of a text, or a string in which a line ends.
+fn begins_here(text: &[u8], begin: usize) -> bool
+    requires { begin ≤ length text.now }
+    ensures { result ≡ begins_here text.now begin }
+{
+    let (before, behind) = text.split_at(begin);
+    begins_line(before) || begins_string(before, behind)
+}
+
 /// Whether a line begins after these octets, or nothing but an indent is on it yet.
 fn begins_line(before: &[u8]) -> bool
     ensures { result ≡ begins_line before.now }
@@ -134,18 +155,36 @@ fn begins_line(before: &[u8]) -> bool
     'octets: while end > 0 {
         let octet = before[end - 1];
         if !is_indent(octet) {
-            return octet == b'\n' || octet == b'\r';
+            return ends_line(&before[..end]);
         }
         end -= 1;
     }
     true
 }
 
-/// Whether an octet may be before a block on its line: white space, quotes, and the mark that a mail has there.
+/// Whether an octet may be before a block on its line: white space, quotes, the mark that a mail has there, and the
+/// mark at the begin of a file of UTF-8.
 fn is_indent(octet: u8) -> bool
     ensures { result ≡ is_indent octet }
 {
-    is_mark(b" \t>\"'", octet)
+    is_mark(b" \t>\"'\xef\xbb\xbf", octet)
+}
+
+/// Whether a line ends with these octets: it may end in an escape, as in JSON.
+fn ends_line(before: &[u8]) -> bool
+    ensures { result ≡ ends_line before.now }
+{
+    before.ends_with(b"\n")
+        || before.ends_with(b"\r")
+        || before.ends_with(b"\\n")
+        || before.ends_with(b"\\r")
+}
+
+/// Whether a string of JSON begins in which a line ends, by the octets before and behind its begin.
+fn begins_string(before: &[u8], behind: &[u8]) -> bool
+    ensures { result ≡ begins_string before.now behind.now }
+{
+    before.ends_with(b"\"") && offset_of(behind, b'\\') < offset_of(behind, b'"')
 }
 
 /// What is before and after the first offset where a needle occurs.

@@ -1,17 +1,23 @@
 //! Hexadecimal digits and base64, with what people have between them.
-ghost use Rattle.std.specs.Prelude.{◌≡◌, ◌⊎◌, ◌≤◌, ◌==◌, ◌∷◌, ◌+◌, [], not, length, map, filter, take, drop};
-ghost use Rattle.std.specs.Prelude.{IfErr, IfOk, IfSome, IsErr, count_by, find, unwrap_or};
+ghost use Rattle.std.specs.Prelude.{◌≡◌, ◌⊎◌, ◌≤◌, ◌==◌, ◌+◌, not, length, filter, take};
+ghost use Rattle.std.specs.Prelude.{IfErr, IfOk, IsErr, count_by, find, unwrap_or};
 ghost use Rattle.std.specs.List.{flat_map, list_all, position_or_len, range_with_len, slice_split};
 ghost use Rattle.std.specs.Char.{is_ascii_hexdigit, is_ascii_whitespace};
 ghost use Rattle.base64.specs.Engines.{standard_pad_indifferent};
 ghost use Rattle.base64.specs.GeneralPurpose.{decode_of as base64_decode_of};
 ghost use Rattle.hex.specs.Hex.{decode_of as hex_decode_of};
-ghost use Rattle.der_input.specs.Plain.{Puts, before_characters, begins_characters, begins_with_zero, behind_offset};
-ghost use Rattle.der_input.specs.Plain.{characters_of, digits_of, digits_of_line, digits_of_word, ends_offset};
-ghost use Rattle.der_input.specs.Plain.{in_braces, is_character, is_dump, is_mark, is_separator, standard_character};
-ghost use Rattle.der_input.specs.Plain.{without_address, without_margin, without_prefix};
+ghost use Rattle.der_input.specs.Marks.{Puts, is_separator};
+ghost use Rattle.der_input.specs.Numbers.{ends_word};
+ghost use Rattle.der_input.specs.Plain.{before_characters, begins_characters, begins_with_zero, behind_offset};
+ghost use Rattle.der_input.specs.Plain.{characters_of, digits_of, digits_of_line, digits_of_source, digits_of_word};
+ghost use Rattle.der_input.specs.Plain.{ends_offset, is_dump, padded, without_margin, without_prefix};
 
+use crate::characters::put_characters;
 use crate::error::FormError;
+use crate::escapes::put_escaped;
+use crate::marks::{after, behind, is_separator, put, put_all};
+use crate::notation::{Notation, in_braces, notation_of};
+use crate::numbers::{ends_word, has_prefix, is_prefixed, prefixed_digits, put_numbers};
 use base64::DecodeAllocError;
 use base64::engine::general_purpose::STANDARD_PAD_INDIFFERENT;
 use hex::FromHexError;
@@ -71,10 +77,12 @@ fn room_for(alloc: Global, text: &[u8]) -> Option<Vec<u8>> {
 pub fn put_digits(text: &[u8], room: &mut [u8]) -> Option<usize>
     ensures { Puts room.old 0 (digits_of text.now) room.new result }
 {
-    if is_dump(text) {
-        put_lines(text, room)
-    } else {
-        put_words(in_braces(text), room)
+    match notation_of(text) {
+        Some(Notation::Dump) => put_lines(text, room),
+        Some(Notation::Escapes) => put_escaped(text, room),
+        Some(Notation::Decimal) => put_numbers(in_braces(text), room),
+        Some(Notation::Prefixed) => put_source(text, room),
+        _ => put_words(in_braces(text), room),
     }
 }
 
@@ -100,12 +108,41 @@ fn put_words(text: &[u8], room: &mut [u8]) -> Option<usize>
     Some(at)
 }
 
+/// Writes the digits of each number with `0x` in the source of a program.
+fn put_source(text: &[u8], room: &mut [u8]) -> Option<usize>
+    ensures { Puts room.old 0 (flat_map digits_of_source (slice_split ends_word text.now)) room.new result }
+{
+    let mut at = 0;
+    'words: for word in text.split(|octet| ends_word(*octet)) {
+        at = put_source_word(word, room, at)?;
+    }
+    Some(at)
+}
+
+/// Writes the digits of a word in the source of a program, if it is a number with `0x`.
+fn put_source_word(word: &[u8], room: &mut [u8], at: usize) -> Option<usize>
+    requires { at ≤ length room.old }
+    ensures { Puts room.old at (digits_of_source word.now) room.new result }
+{
+    if is_prefixed(word) {
+        return put_padded(prefixed_digits(word), room, at);
+    }
+    Some(at)
+}
+
 /// Writes the digits of a word from an offset on, and returns where they end.
 fn put_word(word: &[u8], room: &mut [u8], at: usize) -> Option<usize>
     requires { at ≤ length room.old }
     ensures { Puts room.old at (digits_of_word word.now) room.new result }
 {
-    let digits = without_prefix(word);
+    put_padded(without_prefix(word), room, at)
+}
+
+/// Writes digits from an offset on, with a zero before a single one.
+fn put_padded(digits: &[u8], room: &mut [u8], at: usize) -> Option<usize>
+    requires { at ≤ length room.old }
+    ensures { Puts room.old at (padded digits.now) room.new result }
+{
     let begin = if digits.len() == 1 {
         put(room, at, b'0')?
     } else {
@@ -118,8 +155,8 @@ fn put_word(word: &[u8], room: &mut [u8], at: usize) -> Option<usize>
 fn without_prefix(word: &[u8]) -> &[u8]
     ensures { result.now ≡ without_prefix word.now }
 {
-    if word.starts_with(b"0x") || word.starts_with(b"0X") {
-        return &word[2..];
+    if has_prefix(word) {
+        return behind(word, 2);
     }
     word
 }
@@ -145,29 +182,6 @@ fn put_digits_among(octets: &[u8], room: &mut [u8], at: usize) -> Option<usize>
         }
     }
     Some(end)
-}
-
-/// Writes octets from an offset on, and returns where they end.
-fn put_all(room: &mut [u8], at: usize, octets: &[u8]) -> Option<usize>
-    requires { at ≤ length room.old }
-    ensures { Puts room.old at octets.now room.new result }
-{
-    let mut end = at;
-    'octets: for octet in octets {
-        end = put(room, end, *octet)?;
-    }
-    Some(end)
-}
-
-/// Writes an octet at an offset, and returns the next one.
-fn put(room: &mut [u8], at: usize, octet: u8) -> Option<usize>
-    ensures { Puts room.old at (octet ∷ []) room.new result }
-{
-    if at >= room.len() {
-        return None;
-    }
-    room[at] = octet;
-    Some(at + 1)
 }
 
 /// Whether a text is a hex dump: it begins with the offset 0.
@@ -238,17 +252,6 @@ fn are_hexadecimal(octets: &[u8]) -> bool
     octets.iter().all(|octet| octet.is_ascii_hexdigit())
 }
 
-/// What follows the octet at an offset.
-fn after(text: &[u8], offset: usize) -> &[u8]
-    requires { offset ≤ length text.now }
-    ensures { result.now ≡ drop (offset + 1) text.now }
-{
-    if offset == text.len() {
-        return &[];
-    }
-    &text[offset + 1..]
-}
-
 /// What is before the octets as characters on a line of a hex dump.
 fn before_characters(line: &[u8]) -> &[u8]
     ensures { result.now ≡ before_characters line.now }
@@ -293,90 +296,8 @@ fn digits_in(octets: &[u8]) -> usize
         .count()
 }
 
-/// The part of a text in braces, as of an array in C, or all of it where there are none.
-pub(crate) fn in_braces(text: &[u8]) -> &[u8]
-    ensures { result.now ≡ in_braces text.now }
-{
-    let open = offset_of(text, b'{');
-    if open == text.len() {
-        return text;
-    }
-    let inner = after(text, open);
-    &inner[..offset_of(inner, b'}')]
-}
-
-/// Where an octet is first, or the length.
-fn offset_of(text: &[u8], octet: u8) -> usize
-    ensures first { result ≡ position_or_len (λ c. c == octet) text.now }
-    ensures within { result ≤ length text.now }
-{
-    text.iter()
-        .position(|it| *it == octet)
-        .unwrap_or(text.len())
-}
-
-pub(crate) fn is_separator(octet: u8) -> bool
-    ensures { result ≡ is_separator octet }
-{
-    octet.is_ascii_whitespace() || is_mark(b":,;.-_()[]<>\"'|", octet)
-}
-
 fn ends_offset(octet: u8) -> bool
     ensures { result ≡ ends_offset octet }
 {
     octet.is_ascii_whitespace() || octet == b':'
-}
-
-/// Writes the characters of base64 of a text, and returns how many there are. None if there is no room.
-pub fn put_characters(text: &[u8], room: &mut [u8]) -> Option<usize>
-    ensures { Puts room.old 0 (characters_of text.now) room.new result }
-{
-    put_characters_among(without_address(text), room)
-}
-
-/// Writes the characters of base64 among octets, and returns how many there are.
-fn put_characters_among(octets: &[u8], room: &mut [u8]) -> Option<usize>
-    ensures { Puts room.old 0 (map standard_character (filter is_character octets.now)) room.new result }
-{
-    let mut end = 0;
-    'octets: for octet in octets {
-        if is_character(*octet) {
-            end = put(room, end, standard_character(*octet))?;
-        }
-    }
-    Some(end)
-}
-
-/// What follows `data:` and a comma, or else all of a text.
-pub(crate) fn without_address(text: &[u8]) -> &[u8]
-    ensures { result.now ≡ without_address text.now }
-{
-    if !text.starts_with(b"data:") {
-        return text;
-    }
-    after(text, offset_of(text, b','))
-}
-
-pub(crate) fn is_character(octet: u8) -> bool
-    ensures { result ≡ is_character octet }
-{
-    !octet.is_ascii_whitespace() && !is_mark(b"\"'>", octet)
-}
-
-/// The character of the standard alphabet with the same value (RFC 4648 4, 5).
-fn standard_character(octet: u8) -> u8
-    ensures { result ≡ standard_character octet }
-{
-    match octet {
-        b'-' => b'+',
-        b'_' => b'/',
-        _ => octet,
-    }
-}
-
-/// Whether an octet is one of these marks.
-pub(crate) fn is_mark(marks: &[u8], octet: u8) -> bool
-    ensures { result ≡ is_mark marks.now octet }
-{
-    marks.iter().any(|mark| *mark == octet)
 }

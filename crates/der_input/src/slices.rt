@@ -5,8 +5,9 @@ ghost use Rattle.base64.specs.GeneralPurpose.{decode_of as base64_decode_of};
 ghost use Rattle.hex.specs.Hex.{decode_of as hex_decode_of};
 ghost use Rattle.der_input.specs.Plain.{characters_of, digits_of};
 
+use crate::characters::put_characters;
 use crate::error::FormError;
-use crate::plain::{put_characters, put_digits};
+use crate::plain::put_digits;
 use base64::engine::general_purpose::STANDARD_PAD_INDIFFERENT;
 
 /// Decodes hexadecimal digits as `decode_hex` does, and returns how many octets it writes. It writes the digits to

@@ -5,6 +5,7 @@
 pub mod canon;
 mod fault;
 pub mod fields;
+pub mod input;
 mod line;
 pub mod lists;
 mod path;

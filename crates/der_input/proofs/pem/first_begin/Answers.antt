@@ -4,12 +4,12 @@ use Rattle.der_input.specs.Blocks.{begins_block}
 use Rattle.der_input.proofs.Lines.{found_at, found_none, no_line, no_octets, octets_and_line}
 use Rattle.der_input.proofs.pem.first_begin.Goals as goal
 
-pub returns-then-begins_line-clause-first : goal.returns-then-begins_line-clause-first
-returns-then-begins_line-clause-first c =
+pub returns-then-begins_here-clause-first : goal.returns-then-begins_here-clause-first
+returns-then-begins_here-clause-first c =
     let text = c.args.text.now in
     let begin = c.in-Some.begin in
     let found = c.in-Some.ensures in
-    let here = octets_and_line text begin found.1 (sym c.begins_line.ensures ∙ c.if-begins_line.true) in
+    let here = octets_and_line text begin found.1 (sym c.begins_here.ensures ∙ c.if-begins_here.true) in
     sym (found_at (begins_block text) 0 (length text) begin (omega arith) (omega (arith, found.1.fits)) here
     (λ j low high. elim (cases_lt j c.occurrences.from) [
       | inl less ↦ c.occurrences.invariant.none j less
@@ -21,7 +21,7 @@ occurrences-preserved c =
     let text = c.args.text.now in
     let begin = c.in-Some.begin in
     let found = c.in-Some.ensures in
-    let line = sym c.begins_line.ensures ∙ c.if-begins_line.false in
+    let line = sym c.begins_here.ensures ∙ c.if-begins_here.false in
     record {
       within = omega (arith, found.1.fits);
       none = λ j small. elim (cases_lt j c.occurrences.from) [

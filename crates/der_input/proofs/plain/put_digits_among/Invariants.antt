@@ -1,5 +1,5 @@
 use Rattle.std.proofs.Common.{◌≡◌, ◌≤◌, ◌++◌, length, take, filter, not}
-use Rattle.der_input.specs.Plain.{is_separator}
+use Rattle.der_input.specs.Marks.{is_separator}
 use Rattle.der_input.proofs.plain.put_digits_among.Given as goal
 
 abbrev pub invariant-octets : goal.invariant-octets

@@ -3,7 +3,8 @@ use Rattle.std.specs.List.{flat_map}
 use Rattle.std.proofs.lemmas.Iterator.Consumers.{YieldsList-at, YieldsList-end}
 use Rattle.std.proofs.lemmas.Iterator.Splits.{YieldsList-from_slice_split}
 use Rattle.std.proofs.lemmas.List.Folds.{flat_map-map}
-use Rattle.der_input.specs.Plain.{digits_of_word, is_separator}
+use Rattle.der_input.specs.Marks.{is_separator}
+use Rattle.der_input.specs.Plain.{digits_of_word}
 use Rattle.der_input.proofs.plain.put_words.Goals as goal
 
 pub returns : goal.returns

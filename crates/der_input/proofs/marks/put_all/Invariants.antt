@@ -1,5 +1,5 @@
 use Rattle.std.proofs.Common.{◌≡◌, ◌≤◌, ◌++◌, length, take}
-use Rattle.der_input.proofs.plain.put_all.Given as goal
+use Rattle.der_input.proofs.marks.put_all.Given as goal
 
 abbrev pub invariant-octets : goal.invariant-octets
 invariant-octets l = record {

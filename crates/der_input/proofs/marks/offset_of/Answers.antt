@@ -2,7 +2,7 @@ use Rattle.std.proofs.Common.{◌∙◌, rules, tests}
 use Rattle.std.proofs.lemmas.Iterator.{YieldsList-from_slice}
 use Rattle.std.proofs.lemmas.Iterator.Search.{position_from_yields_List}
 use Rattle.der_input.proofs.Positions.{first_or_length, within_length}
-use Rattle.der_input.proofs.plain.offset_of.Goals as goal
+use Rattle.der_input.proofs.marks.offset_of.Goals as goal
 
 pub returns-clause-first : goal.returns-clause-first
 returns-clause-first c =

@@ -1,0 +1,151 @@
+//! The characters of base64 (RFC 4648), with what people have between them.
+ghost use Rattle.std.specs.Prelude.{◌≡◌, ◌≤◌, ◌<◌, ◌+◌, true, length};
+ghost use Rattle.std.specs.Prelude.{IfSome};
+ghost use Rattle.std.specs.List.{list_all};
+ghost use Rattle.std.specs.Option.{option_map};
+ghost use Rattle.der_input.specs.Marks.{Puts, first_place};
+ghost use Rattle.der_input.specs.Plain.{begins_break, behind_headers, behind_line, character_of, characters_from};
+ghost use Rattle.der_input.specs.Plain.{characters_of, is_base64, is_base64_text, is_character, standard_character};
+ghost use Rattle.der_input.specs.Plain.{without_address, without_headers};
+
+use crate::marks::{after, behind, is_mark, offset_of, put};
+use crate::search::find;
+
+/// How many octets the end of a line has in an escape, as JSON has it.
+const BREAK: usize = 2;
+
+/// Whether a text is characters of base64 and what may be between them.
+pub(crate) fn is_base64_text(text: &[u8]) -> bool
+    ensures { result ≡ is_base64_text text.now }
+{
+    are_base64(without_address(text))
+}
+
+fn are_base64(octets: &[u8]) -> bool
+    ensures { result ≡ list_all is_base64 octets.now }
+{
+    octets.iter().all(|octet| is_base64(*octet))
+}
+
+fn is_base64(octet: u8) -> bool
+    ensures { result ≡ is_base64 octet }
+{
+    octet.is_ascii_alphanumeric() || octet.is_ascii_whitespace() || is_mark(b"+/-_=\"',;\\", octet)
+}
+
+/// Writes the characters of base64 of a text, and returns how many there are. None if there is no room.
+pub fn put_characters(text: &[u8], room: &mut [u8]) -> Option<usize>
+    ensures { Puts room.old 0 (characters_of text.now) room.new result }
+{
+    put_characters_among(without_headers(without_address(text)), room)
+}
+
+/// Writes the characters of base64 among octets, and returns how many there are.
+fn put_characters_among(octets: &[u8], room: &mut [u8]) -> Option<usize>
+    ensures { Puts room.old 0 (characters_from 0 octets.now) room.new result }
+{
+    let mut rest = octets;
+    let mut end = 0;
+    'octets: while !rest.is_empty() {
+        if begins_break(rest) {
+            rest = &rest[BREAK..];
+        } else {
+            end = put_character(rest[0], room, end)?;
+            rest = &rest[1..];
+        }
+    }
+    Some(end)
+}
+
+/// Whether a text begins with the end of a line in an escape, as JSON has it.
+fn begins_break(text: &[u8]) -> bool
+    ensures is { result ≡ begins_break text.now }
+    ensures long { result ≡ true → 2 ≤ length text.now }
+{
+    text.starts_with(b"\\n") || text.starts_with(b"\\r")
+}
+
+/// Writes an octet at an offset, if it is a character of base64, and returns the next one.
+fn put_character(octet: u8, room: &mut [u8], at: usize) -> Option<usize>
+    requires { at ≤ length room.old }
+    ensures { Puts room.old at (character_of octet) room.new result }
+{
+    if is_character(octet) {
+        return put(room, at, standard_character(octet));
+    }
+    Some(at)
+}
+
+/// What follows `data:` and a comma, or else all of a text.
+fn without_address(text: &[u8]) -> &[u8]
+    ensures { result.now ≡ without_address text.now }
+{
+    if !text.starts_with(b"data:") {
+        return text;
+    }
+    after(text, offset_of(text, b','))
+}
+
+/// What follows the headers of a block of PEM (RFC 1421 4.4), or else all of a text.
+fn without_headers(text: &[u8]) -> &[u8]
+    ensures { result.now ≡ without_headers text.now }
+{
+    if let Some(rest) = behind_line(text, b"\n\n") {
+        return rest;
+    }
+    if let Some(rest) = behind_line(text, b"\n\r\n") {
+        return rest;
+    }
+    if let Some(rest) = behind_line(text, b"\\n\\n") {
+        return rest;
+    }
+    text
+}
+
+/// What follows the first empty line, if headers are before it.
+fn behind_line<'t>(text: &'t [u8], line: &[u8]) -> Option<&'t [u8]>
+    requires { 0 < length line.now }
+    ensures { option_map (λ x. x.now) result ≡ behind_line text.now line.now }
+{
+    match place_of(text, line) {
+        Some(place) => behind_headers(text, place, place + line.len()),
+        None => None,
+    }
+}
+
+/// What is behind an end, if headers are before a place.
+fn behind_headers(text: &[u8], place: usize, end: usize) -> Option<&[u8]>
+    requires { place ≤ length text.now }
+    ensures { option_map (λ x. x.now) result ≡ behind_headers text.now place end }
+{
+    if place_of(&text[..place], b": ").is_some() {
+        return Some(behind(text, end));
+    }
+    None
+}
+
+/// Where a needle occurs first.
+fn place_of(text: &[u8], needle: &[u8]) -> Option<usize>
+    requires { 0 < length needle.now }
+    ensures place { result ≡ first_place text.now needle.now }
+    ensures within { IfSome result (λ k. k + length needle.now ≤ length text.now) }
+{
+    find(text, needle)
+}
+
+fn is_character(octet: u8) -> bool
+    ensures { result ≡ is_character octet }
+{
+    !octet.is_ascii_whitespace() && !is_mark(b"\"'>,;", octet)
+}
+
+/// The character of the standard alphabet with the same value (RFC 4648 4, 5).
+fn standard_character(octet: u8) -> u8
+    ensures { result ≡ standard_character octet }
+{
+    match octet {
+        b'-' => b'+',
+        b'_' => b'/',
+        _ => octet,
+    }
+}
