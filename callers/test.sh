@@ -96,6 +96,8 @@ run_extensions() (
         -out extensions.pem -config "$root/callers/c/extensions.cnf" \
         && openssl x509 -in extensions.pem -outform DER -out extensions.der || return
     local kinds=certificatePolicies,crlDistributionPoints,nameConstraints,authorityInfoAccess,subjectInfoAccess
+    kinds=$kinds,policyMappings,policyConstraints,inhibitAnyPolicy,tlsfeature,noCheck,issuingDistributionPoint
+    kinds=$kinds,crlNumber,deltaCRL,invalidityDate,certificateIssuer,freshestCRL
     openssl x509 -in extensions.pem -noout -ext "$kinds" | tr -s ' \n' '\n' > wanted \
         && "$room/openssl_extensions" < extensions.der | tr -s ' \n' '\n' > words \
         && grep -q "http://l.org/" words && cmp wanted words
@@ -111,6 +113,30 @@ run_key() {
     case $2 in 1.2.840.113549.1.1.1*) sed -n 's/.*INTEGER *://p' parsed | diff - <(tail -n +2 fields) ;; esac
 }
 
+# A key of a curve in a file of its own, a public key of RSA, and an encrypted key, as openssl lists their elements.
+run_other_keys() {
+    openssl ec -in ec.pem -outform DER -out ec.sec1 && openssl asn1parse -inform DER -in ec.sec1 > parsed || return
+    {
+        sed -n 's/.*INTEGER *://p; s/.*OCTET STRING.*DUMP\]://p' parsed
+        echo "parameters of tag 6"
+        openssl pkey -in ec.pem -pubout -outform DER | tail -c 65 | od -An -tx1 | tr -d ' \n' | tr a-f A-F
+        echo
+    } > wanted
+    "$room/private_key" curve < ec.sec1 > fields && cmp fields wanted || return
+    openssl pkey -in rsa.pem -pubout -outform DER -out rsa.pub || return
+    {
+        echo "1.2.840.113549.1.1.1, parameters of tag 5"
+        openssl asn1parse -inform DER -in rsa.pub -strparse 19 | sed -n 's/.*INTEGER *://p'
+    } > wanted
+    "$room/private_key" public < rsa.pub > fields && cmp fields wanted || return
+    openssl pkcs8 -topk8 -in ec.pem -outform DER -passout pass:secret -out encrypted.key || return
+    {
+        echo "1.2.840.113549.1.5.13, parameters of tag 16"
+        openssl asn1parse -inform DER -in encrypted.key | sed -n 's/.*:d=1 .*OCTET STRING.*DUMP\]://p'
+    } > wanted
+    "$room/private_key" encrypted < encrypted.key > fields && cmp fields wanted
+}
+
 run_keys() (
     cd "$room" && openssl genpkey -algorithm RSA -pkeyopt rsa_keygen_bits:2048 -out rsa.pem \
         && openssl genpkey -algorithm ED25519 -out ed25519.pem || return
@@ -119,7 +145,7 @@ run_keys() (
     done
     run_key rsa.key "1.2.840.113549.1.1.1, parameters of tag 5" \
         && run_key ec.key "1.2.840.10045.2.1, parameters of tag 6" && run_key ed25519.key "1.3.101.112" \
-        && echo "3 private keys"
+        && run_other_keys && echo "3 private keys, one of a curve by itself, a public one and an encrypted one"
 )
 
 # Texts that openssl writes, and what it says they encode.
@@ -290,11 +316,12 @@ run_hostile() {
 }
 
 # A certificate, a list of revoked ones, a request that was signed before, a certificate of the machine's, one with
-# lists in its extensions, private keys and a text in PEM, damaged.
+# many extensions, keys and a text in PEM, damaged.
 run_damaged() {
     local file
     for file in ../crates/der/data/certificate.der ../crates/der/data/revoked.crl "$room/request" \
-        "$room/extensions.pem" "$room/rsa.key" "$room/ec.key" "$room/certificate.der" "$room/extensions.der"; do
+        "$room/extensions.pem" "$room/rsa.key" "$room/ec.key" "$room/certificate.der" "$room/extensions.der" \
+        "$room/ec.sec1" "$room/rsa.pub" "$room/encrypted.key"; do
         if [ -f "$file" ]; then "$room/$2" "$file" "$1" || return 1; fi
     done
 }

@@ -40,14 +40,21 @@ static void add_fault(const dm_fault *fault) {
     add_text("", whole);
 }
 
-/* The octets of numbers of two digits, in a block of their own size, so that a tool for memory sees each access past
- * them. */
+/* The octets of numbers of two digits, where 61*258 is one so many times, in a block of their own size, so that a tool
+ * for memory sees each access past them. */
 static uint8_t *octets_of(const char *text, size_t *length) {
     unsigned octet;
     *length = 0;
     for (; *text != 0 && *text != '|'; text++) {
         if (*text == ' ') continue;
-        if (sscanf(text++, "%2x", &octet) == 1) octets[(*length)++] = (uint8_t)octet;
+        if (sscanf(text++, "%2x", &octet) != 1) continue;
+        unsigned long count = 1;
+        if (text[0] != 0 && text[1] == '*') {
+            char *after;
+            count = strtoul(text + 2, &after, 10);
+            text = after - 1;
+        }
+        for (; count > 0 && *length < sizeof octets; count--) octets[(*length)++] = (uint8_t)octet;
     }
     uint8_t *block = malloc(*length + (*length == 0));
     if (block == NULL) exit(2);
@@ -242,12 +249,24 @@ static void read_access(const uint8_t *value, size_t length) {
     add_count(count);
 }
 
+static void add_number(const char *title, uint32_t number) {
+    char text[48];
+    snprintf(text, sizeof text, "%s%u", title, (unsigned)number);
+    add(text);
+}
+
+/* The numbers of the bits that are 1. */
+static void add_bits(dm_bits bits) {
+    for (size_t i = 0; i < 8 * bits.octets.length; i++) {
+        if (bits.octets.octets[i / 8] >> (7 - i % 8) & 1) add_number(" ", (uint32_t)i);
+    }
+}
+
 /* The points, with the numbers of the reasons of each. */
 static void read_points(const uint8_t *value, size_t length) {
     dm_octets points;
     dm_distribution_point point;
     dm_fault fault;
-    char number[8];
     if (dm_read_distribution_points(value, length, &points, &fault) != DM_OK) {
         add_fault(&fault);
         return;
@@ -255,11 +274,7 @@ static void read_points(const uint8_t *value, size_t length) {
     while (dm_next_distribution_point(&points, &point)) {
         add(found[0] == 0 ? "point" : " point");
         if (point.reasons.is_present == 1) add(" reasons");
-        for (size_t i = 0; i < 8 * point.reasons.octets.length; i++) {
-            if ((point.reasons.octets.octets[i / 8] >> (7 - i % 8) & 1) == 0) continue;
-            sprintf(number, " %u", (unsigned)i);
-            add(number);
-        }
+        add_bits(point.reasons);
     }
 }
 
@@ -274,6 +289,166 @@ static void read_name_constraints(const uint8_t *value, size_t length) {
     if (constraints.excluded.length > 0) {
         add_octets(found[0] == 0 ? "excluded" : " excluded", constraints.excluded);
     }
+}
+
+static void read_mappings(const uint8_t *value, size_t length) {
+    dm_octets mappings;
+    dm_policy_mapping mapping;
+    dm_fault fault;
+    if (dm_read_policy_mappings(value, length, &mappings, &fault) != DM_OK) {
+        add_fault(&fault);
+        return;
+    }
+    while (dm_next_policy_mapping(&mappings, &mapping)) {
+        add_octets("", mapping.issuer_policy);
+        add_octets(" is", mapping.subject_policy);
+    }
+}
+
+static void read_policy_constraints(const uint8_t *value, size_t length) {
+    dm_policy_constraints constraints;
+    dm_fault fault;
+    if (dm_read_policy_constraints(value, length, &constraints, &fault) != DM_OK) {
+        add_fault(&fault);
+        return;
+    }
+    add("constraints");
+    if (constraints.has_require_explicit_policy == 1) add_number(" explicit ", constraints.require_explicit_policy);
+    if (constraints.has_inhibit_policy_mapping == 1) add_number(" mapping ", constraints.inhibit_policy_mapping);
+}
+
+static void read_any_policy(const uint8_t *value, size_t length) {
+    uint32_t number;
+    dm_fault fault;
+    if (dm_read_inhibit_any_policy(value, length, &number, &fault) != DM_OK) {
+        add_fault(&fault);
+        return;
+    }
+    add_number("", number);
+}
+
+static void read_directory_attributes(const uint8_t *value, size_t length) {
+    dm_octets attributes;
+    dm_request_attribute attribute;
+    dm_any element;
+    dm_fault fault;
+    if (dm_read_directory_attributes(value, length, &attributes, &fault) != DM_OK) {
+        add_fault(&fault);
+        return;
+    }
+    while (dm_next_directory_attribute(&attributes, &attribute)) {
+        dm_cursor values = dm_cursor_over(attribute.values.octets, attribute.values.length, DM_DER);
+        add_octets("", attribute.identifier);
+        while (values.left.length > 0 && dm_next_any(&values, &element, &fault) == DM_OK) {
+            add_octets(" value", element.content);
+        }
+    }
+}
+
+static void read_crl_number(const uint8_t *value, size_t length) {
+    dm_octets number;
+    dm_fault fault;
+    if (dm_read_crl_number(value, length, &number, &fault) != DM_OK) {
+        add_fault(&fault);
+        return;
+    }
+    add_octets("", number);
+}
+
+static void read_issuing_point(const uint8_t *value, size_t length) {
+    dm_issuing_distribution_point point;
+    dm_fault fault;
+    if (dm_read_issuing_distribution_point(value, length, &point, &fault) != DM_OK) {
+        add_fault(&fault);
+        return;
+    }
+    add("point");
+    if (point.full_name.length > 0) add_octets(" full", point.full_name);
+    if (point.relative_name.length > 0) add_octets(" relative", point.relative_name);
+    if (point.only_contains_user_certs == 1) add(" users");
+    if (point.only_contains_ca_certs == 1) add(" authorities");
+    if (point.reasons.is_present == 1) add(" reasons");
+    add_bits(point.reasons);
+    if (point.indirect_crl == 1) add(" indirect");
+    if (point.only_contains_attribute_certs == 1) add(" attributes");
+}
+
+static void read_date(const uint8_t *value, size_t length) {
+    dm_time date;
+    dm_fault fault;
+    char text[24];
+    if (dm_read_invalidity_date(value, length, &date, &fault) != DM_OK) {
+        add_fault(&fault);
+        return;
+    }
+    snprintf(text, sizeof text, "%04u%02d%02d%02d%02d%02dZ", (unsigned)date.year, date.month, date.day, date.hour,
+             date.minute, date.second);
+    add(text);
+}
+
+static void read_null(const uint8_t *value, size_t length) {
+    dm_fault fault;
+    if (dm_read_null_extension(value, length, &fault) != DM_OK) {
+        add_fault(&fault);
+        return;
+    }
+    add("null");
+}
+
+static void read_features(const uint8_t *value, size_t length) {
+    dm_octets features;
+    uint32_t number;
+    dm_fault fault;
+    if (dm_read_tls_features(value, length, &features, &fault) != DM_OK) {
+        add_fault(&fault);
+        return;
+    }
+    add("features");
+    while (dm_next_tls_feature(&features, &number)) add_number(" ", number);
+}
+
+static void read_timestamps(const uint8_t *value, size_t length) {
+    dm_octets timestamps, timestamp;
+    dm_fault fault;
+    if (dm_read_signed_certificate_timestamps(value, length, &timestamps, &fault) != DM_OK) {
+        add_fault(&fault);
+        return;
+    }
+    while (dm_next_timestamp(&timestamps, &timestamp)) {
+        add_octets(found[0] == 0 ? "timestamp" : " timestamp", timestamp);
+    }
+}
+
+static void read_statements(const uint8_t *value, size_t length) {
+    dm_octets statements;
+    dm_qc_statement statement;
+    dm_fault fault;
+    if (dm_read_qc_statements(value, length, &statements, &fault) != DM_OK) {
+        add_fault(&fault);
+        return;
+    }
+    add("statements");
+    while (dm_next_qc_statement(&statements, &statement)) {
+        add_octets("", statement.identifier);
+        if (statement.has_info == 1) add_octets(" info", statement.info.content);
+    }
+}
+
+static void read_organization(const uint8_t *value, size_t length) {
+    dm_organization_identifier identifier;
+    dm_fault fault;
+    if (dm_read_organization_identifier(value, length, &identifier, &fault) != DM_OK) {
+        add_fault(&fault);
+        return;
+    }
+    add_text("", identifier.scheme);
+    add_text(" ", identifier.country);
+    if (identifier.has_state_or_province == 1) add_text(" state ", identifier.state_or_province);
+    add_text(" ", identifier.reference);
+}
+
+static void read_unknown(const uint8_t *extensions, size_t length) {
+    add(dm_has_unknown_critical(extensions, length) == 1 ? "true" : "false");
 }
 
 static void add_reason(const uint8_t *value, size_t length) {
@@ -359,6 +534,20 @@ static const struct {
     {"information_access", read_access},
     {"crl_distribution_points", read_points},
     {"name_constraints", read_name_constraints},
+    {"policy_mappings", read_mappings},
+    {"policy_constraints", read_policy_constraints},
+    {"inhibit_any_policy", read_any_policy},
+    {"subject_directory_attributes", read_directory_attributes},
+    {"crl_number", read_crl_number},
+    {"issuing_distribution_point", read_issuing_point},
+    {"invalidity_date", read_date},
+    {"ocsp_no_check", read_null},
+    {"precertificate_poison", read_null},
+    {"tls_features", read_features},
+    {"signed_certificate_timestamps", read_timestamps},
+    {"qc_statements", read_statements},
+    {"organization_identifier", read_organization},
+    {"has_unknown_critical", read_unknown},
     {"reason_code", add_reason},
     {"reasons", read_reasons},
 };

@@ -176,9 +176,96 @@ static void test_list_value(dm_octets value, dm_fault *fault) {
     expect(status == DM_OK ? reason <= DM_REASON_AA_COMPROMISE && reason != 7 : reason == 99, "a reason");
 }
 
+/* Reads octets as the value of an extension about policies in a path or about a list of revoked certificates. */
+static void test_value_of_list(dm_octets value, dm_fault *fault) {
+    dm_octets list;
+    dm_policy_mapping mapping;
+    dm_policy_constraints constraints;
+    dm_request_attribute attribute;
+    dm_issuing_distribution_point point;
+    dm_time date;
+    uint32_t number = 99;
+    const uint8_t *octets = value.octets;
+    size_t length = value.length;
+    if (dm_read_policy_mappings(octets, length, &list, &fault[0]) == DM_OK) {
+        for (; dm_next_policy_mapping(&list, &mapping); items++) {
+            test_part(mapping.issuer_policy, "an issuer's policy outside");
+            test_part(mapping.subject_policy, "a subject's policy outside");
+        }
+        expect(list.length == 0, "mappings are left");
+    }
+    if (dm_read_policy_constraints(octets, length, &constraints, &fault[1]) == DM_OK) {
+        expect(constraints.has_require_explicit_policy <= 1 && constraints.has_inhibit_policy_mapping <= 1, "numbers");
+    }
+    uint32_t status = dm_read_inhibit_any_policy(octets, length, &number, &fault[2]);
+    expect(status == DM_OK || number == 99, "a number that isn't read is written");
+    if (dm_read_directory_attributes(octets, length, &list, &fault[3]) == DM_OK) {
+        for (; dm_next_directory_attribute(&list, &attribute); items++) {
+            test_part(attribute.identifier, "an attribute outside");
+            test_part(attribute.values, "its values outside");
+            expect(attribute.values.length > 0, "an attribute without values");
+        }
+        expect(list.length == 0, "attributes are left");
+    }
+    if (dm_read_crl_number(octets, length, &list, &fault[4]) == DM_OK) {
+        test_part(list, "the number of a list outside");
+        expect(list.length > 0 && list.octets[0] < 0x80, "the number of a list");
+    }
+    if (dm_read_issuing_distribution_point(octets, length, &point, &fault[5]) == DM_OK) {
+        test_part(point.full_name, "a point's name outside");
+        test_part(point.relative_name, "its relative name outside");
+        test_bits(&point.reasons, 0);
+        expect(point.full_name.length == 0 || point.relative_name.length == 0, "two names of a point");
+        expect(point.only_contains_user_certs <= 1 && point.only_contains_ca_certs <= 1 && point.indirect_crl <= 1
+                   && point.only_contains_attribute_certs <= 1,
+               "flags of a point");
+    }
+    if (dm_read_invalidity_date(octets, length, &date, &fault[6]) == DM_OK) {
+        expect(date.year <= 9999 && date.month >= 1 && date.month <= 12 && date.zone == DM_UTC, "a date");
+    }
+}
+
+/* Reads octets as the value of an extension of the web. */
+static void test_value_of_web(dm_octets value, dm_fault *fault) {
+    dm_octets list, timestamp;
+    dm_qc_statement statement;
+    dm_organization_identifier identifier;
+    uint32_t number;
+    const uint8_t *octets = value.octets;
+    size_t length = value.length;
+    if (dm_read_signed_certificate_timestamps(octets, length, &list, &fault[0]) == DM_OK) {
+        for (; dm_next_timestamp(&list, &timestamp); items++) {
+            test_part(timestamp, "a timestamp outside");
+            expect(timestamp.length > 0, "a timestamp of no octets");
+        }
+        expect(list.length == 0, "timestamps are left");
+    }
+    if (dm_read_null_extension(octets, length, &fault[1]) == DM_OK) expect(length == 2, "a NULL");
+    if (dm_read_tls_features(octets, length, &list, &fault[2]) == DM_OK) {
+        while (dm_next_tls_feature(&list, &number)) items++;
+        expect(list.length == 0, "features are left");
+    }
+    if (dm_read_qc_statements(octets, length, &list, &fault[3]) == DM_OK) {
+        for (; dm_next_qc_statement(&list, &statement); items++) {
+            test_part(statement.identifier, "a statement outside");
+            test_any(&statement.info);
+            expect(statement.has_info <= 1 && statement.reserved == 0, "a statement");
+        }
+        expect(list.length == 0, "statements are left");
+    }
+    if (dm_read_organization_identifier(octets, length, &identifier, &fault[4]) == DM_OK) {
+        test_part(identifier.scheme, "a register outside");
+        test_part(identifier.country, "a country outside");
+        test_part(identifier.state_or_province, "a state outside");
+        test_part(identifier.reference, "a reference outside");
+        expect(identifier.scheme.length == 3 && identifier.country.length == 2, "a register");
+        expect(identifier.state_or_province.length <= 128 && identifier.reserved == 0, "a state");
+    }
+}
+
 /* Reads octets as the value of each kind of extension. */
 static void test_value(dm_octets value) {
-    dm_fault fault[11];
+    dm_fault fault[23];
     dm_basic_constraints constraints;
     dm_authority_key_identifier authority;
     dm_octets list, identifier, part;
@@ -210,6 +297,8 @@ static void test_value(dm_octets value) {
         test_part(authority.serial_number, "a serial number outside");
     }
     test_list_value(value, &fault[6]);
+    test_value_of_list(value, &fault[11]);
+    test_value_of_web(value, &fault[18]);
     for (size_t i = 0; i < sizeof fault / sizeof *fault; i++) {
         test_fault(&fault[i], length, 0);
         values[fault[i].status]++;
@@ -218,6 +307,7 @@ static void test_value(dm_octets value) {
 
 static void test_extensions(dm_octets list) {
     dm_extension extension;
+    expect(dm_has_unknown_critical(list.octets, list.length) <= 1, "whether one isn't known");
     while (dm_next_extension(&list, &extension)) {
         extensions++;
         test_part(extension.identifier, "an extension's identifier outside");
@@ -259,7 +349,15 @@ static void test_lists(dm_octets octets) {
     dm_distribution_point point;
     dm_subtree subtree;
     dm_access_description access;
+    dm_policy_mapping mapping;
+    dm_qc_statement statement;
+    uint32_t number;
     while (dm_next_relative_name(&list, &item)) test_part(item, "an item outside");
+    for (list = octets; dm_next_policy_mapping(&list, &mapping);) test_part(mapping.subject_policy, "an item outside");
+    for (list = octets; dm_next_directory_attribute(&list, &asked);) test_part(asked.values, "an item outside");
+    for (list = octets; dm_next_timestamp(&list, &item);) test_part(item, "an item outside");
+    for (list = octets; dm_next_tls_feature(&list, &number);) test_part(list, "what follows an item outside");
+    for (list = octets; dm_next_qc_statement(&list, &statement);) test_any(&statement.info);
     for (list = octets; dm_next_attribute(&list, &attribute);) test_part(attribute.value, "an item outside");
     for (list = octets; dm_next_extension(&list, &extension);) test_part(extension.value, "an item outside");
     for (list = octets; dm_next_general_name(&list, &name);) test_part(name.octets, "an item outside");
@@ -316,7 +414,44 @@ static void test_others(const uint8_t *input, size_t length) {
     }
 }
 
-/* Reads octets as a private key, and as one of RSA. */
+/* Reads octets as a key of each other kind. */
+static void test_other_keys(dm_octets octets) {
+    dm_ec_private_key curve;
+    dm_encrypted_private_key encrypted;
+    dm_public_key key;
+    dm_rsa_public_key rsa;
+    dm_fault fault[4];
+    if (dm_read_ec_private_key(octets.octets, octets.length, &curve, &fault[0]) == DM_OK) {
+        keys++;
+        test_part(curve.private_key, "the key of a curve outside");
+        test_any(&curve.parameters);
+        test_bits(&curve.public_key, 0);
+        expect(curve.version == 1 && curve.has_parameters <= 1, "the version of the key of a curve");
+    }
+    if (dm_read_encrypted_private_key(octets.octets, octets.length, &encrypted, &fault[1]) == DM_OK) {
+        keys++;
+        test_part(encrypted.algorithm, "an algorithm outside");
+        test_any(&encrypted.parameters);
+        test_part(encrypted.encrypted_data, "encrypted octets outside");
+        expect(encrypted.has_parameters <= 1 && encrypted.reserved == 0, "an encrypted key");
+    }
+    if (dm_read_public_key(octets.octets, octets.length, &key, &fault[2]) == DM_OK) {
+        keys++;
+        test_part(key.algorithm, "an algorithm outside");
+        test_any(&key.parameters);
+        test_bits(&key.public_key, 1);
+        expect(key.has_parameters <= 1 && key.reserved == 0, "a public key");
+    }
+    if (dm_read_rsa_public_key(octets.octets, octets.length, &rsa, &fault[3]) == DM_OK) {
+        keys++;
+        test_part(rsa.modulus, "a modulus outside");
+        test_part(rsa.public_exponent, "an exponent outside");
+        expect(rsa.modulus.length > 0 && rsa.public_exponent.length > 0, "a number of no octets");
+    }
+    for (size_t i = 0; i < sizeof fault / sizeof *fault; i++) test_fault(&fault[i], octets.length, 1);
+}
+
+/* Reads octets as a key of each kind. */
 static void test_keys(dm_octets octets) {
     dm_private_key key;
     dm_rsa_private_key rsa;
@@ -346,6 +481,7 @@ static void test_keys(dm_octets octets) {
         expect(rsa.version == rsa.has_other_primes && rsa.version <= 1, "the version of a key of RSA");
     }
     test_fault(&fault, octets.length, 1);
+    test_other_keys(octets);
 }
 
 /* Takes the blocks of a text, in buffers that suffice and in others. */

@@ -408,6 +408,149 @@ static void test_keys(void) {
     expect(is_untouched(rsa.after, 0, 16) && sizeof(dm_rsa_private_key) == 152, "the size of a key of RSA");
 }
 
+/* Each field of the further values of extensions. */
+static void test_further_values(void) {
+    static const uint8_t mapping_input[] = {
+        0x30, 0x0b, 0x30, 0x09, 0x06, 0x02, 0x2a, 0x03, 0x06, 0x03, 0x2a, 0x04, 0x05};
+    static const uint8_t constraints_input[] = {0x30, 0x06, 0x80, 0x01, 0x03, 0x81, 0x01, 0x07};
+    static const uint8_t issuing_input[] = {
+        0x30, 0x16, 0xa0, 0x07, 0xa0, 0x05, 0x86, 0x03, 0x75, 0x3a, 0x61, 0x81, 0x01, 0xff, 0x83, 0x02, 0x05, 0x60,
+        0x84, 0x01, 0xff, 0x85, 0x01, 0xff};
+    static const uint8_t statement_input[] = {
+        0x30, 0x0d, 0x30, 0x0b, 0x06, 0x03, 0x2a, 0x03, 0x04, 0xf7, 0x04, 0x05, 0x00, 0x05, 0x00};
+    static const uint8_t organization_input[] = {
+        0x30, 0x13, 0x13, 0x03, 0x56, 0x41, 0x54, 0x13, 0x02, 0x42, 0x45, 0x80, 0x04, 0x53, 0x54, 0x41, 0x54, 0x0c,
+        0x02, 0x31, 0x32};
+    struct {
+        dm_policy_mapping mapping;
+        uint8_t after[16];
+    } mapping;
+    struct {
+        dm_policy_constraints constraints;
+        uint8_t after[16];
+    } constraints;
+    struct {
+        dm_issuing_distribution_point point;
+        uint8_t after[16];
+    } issuing;
+    struct {
+        dm_qc_statement statement;
+        uint8_t after[16];
+    } statement;
+    struct {
+        dm_organization_identifier identifier;
+        uint8_t after[16];
+    } organization;
+    dm_octets list;
+    dm_fault fault;
+    memset(&mapping, 0xaa, sizeof mapping);
+    memset(&constraints, 0xaa, sizeof constraints);
+    memset(&issuing, 0xaa, sizeof issuing);
+    memset(&statement, 0xaa, sizeof statement);
+    memset(&organization, 0xaa, sizeof organization);
+    const dm_policy_mapping *m = &mapping.mapping;
+    expect(dm_read_policy_mappings(mapping_input, sizeof mapping_input, &list, &fault) == DM_OK, "mappings");
+    expect(dm_next_policy_mapping(&list, &mapping.mapping) == 1 && list.length == 0, "a mapping");
+    expect(is_at(m->issuer_policy, mapping_input, 6, 2) && is_at(m->subject_policy, mapping_input, 10, 3), "policies");
+    expect(is_untouched(mapping.after, 0, 16) && sizeof *m == 32, "the size of a mapping");
+
+    const dm_policy_constraints *c = &constraints.constraints;
+    expect(dm_read_policy_constraints(constraints_input, sizeof constraints_input, &constraints.constraints, &fault)
+               == DM_OK,
+           "policy constraints");
+    expect(c->has_require_explicit_policy == 1 && c->require_explicit_policy == 3, "the first number");
+    expect(c->has_inhibit_policy_mapping == 1 && c->inhibit_policy_mapping == 7, "the second number");
+    expect(is_untouched(constraints.after, 0, 16) && sizeof *c == 16, "the size of policy constraints");
+
+    const dm_issuing_distribution_point *p = &issuing.point;
+    expect(dm_read_issuing_distribution_point(issuing_input, sizeof issuing_input, &issuing.point, &fault) == DM_OK,
+           "an issuing distribution point");
+    expect(is_at(p->full_name, issuing_input, 6, 5) && p->relative_name.length == 0, "its name");
+    expect(has_bits(p->reasons, issuing_input, 17, 1, 5), "its reasons");
+    expect(p->only_contains_user_certs == 1 && p->only_contains_ca_certs == 0, "its first flags");
+    expect(p->indirect_crl == 1 && p->only_contains_attribute_certs == 1, "its last flags");
+    expect(is_untouched(issuing.after, 0, 16) && sizeof *p == 72, "the size of an issuing distribution point");
+
+    const dm_qc_statement *s = &statement.statement;
+    expect(dm_read_qc_statements(statement_input, sizeof statement_input, &list, &fault) == DM_OK, "statements");
+    expect(dm_next_qc_statement(&list, &statement.statement) == 1 && list.length == 0, "a statement");
+    expect(is_at(s->identifier, statement_input, 6, 3) && is_at(s->info.content, statement_input, 11, 4), "its parts");
+    expect(s->info.number == 23 && s->info.tag_class == DM_PRIVATE && s->has_info == 1 && s->reserved == 0, "its tag");
+    expect(is_untouched(statement.after, 0, 16) && sizeof *s == 48, "the size of a statement");
+
+    const dm_organization_identifier *o = &organization.identifier;
+    expect(dm_read_organization_identifier(organization_input, sizeof organization_input, &organization.identifier,
+                                           &fault) == DM_OK,
+           "an organization identifier");
+    expect(is_at(o->scheme, organization_input, 4, 3) && is_at(o->country, organization_input, 9, 2), "its register");
+    expect(is_at(o->state_or_province, organization_input, 13, 4) && o->has_state_or_province == 1, "its state");
+    expect(is_at(o->reference, organization_input, 19, 2) && o->reserved == 0, "its number");
+    expect(is_untouched(organization.after, 0, 16) && sizeof *o == 72, "the size of an organization identifier");
+}
+
+/* Keys beside those of PKCS #8 (RFC 5915 3, RFC 5958 3, RFC 5280 4.1.2.7, RFC 8017 A.1.1). */
+static void test_other_keys(void) {
+    static const uint8_t curve_input[] = {
+        0x30, 0x19, 0x02, 0x01, 0x01, 0x04, 0x03, 0x01, 0x02, 0x03, 0xa0, 0x06, 0x06, 0x04, 0x2a, 0x03, 0x04, 0x05,
+        0xa1, 0x07, 0x03, 0x05, 0x02, 0x11, 0x12, 0x13, 0x14};
+    static const uint8_t encrypted_input[] = {
+        0x30, 0x10, 0x30, 0x08, 0x06, 0x03, 0x2a, 0x03, 0x04, 0x04, 0x01, 0x09, 0x04, 0x04, 0x05, 0x06, 0x07, 0x08};
+    static const uint8_t public_input[] = {
+        0x30, 0x10, 0x30, 0x08, 0x06, 0x03, 0x2a, 0x03, 0x04, 0x04, 0x01, 0x09, 0x03, 0x04, 0x02, 0x11, 0x12, 0x10};
+    static const uint8_t rsa_input[] = {0x30, 0x07, 0x02, 0x01, 0x21, 0x02, 0x02, 0x01, 0x01};
+    struct {
+        dm_ec_private_key key;
+        uint8_t after[16];
+    } curve;
+    struct {
+        dm_encrypted_private_key key;
+        uint8_t after[16];
+    } encrypted;
+    struct {
+        dm_public_key key;
+        uint8_t after[16];
+    } public_key;
+    struct {
+        dm_rsa_public_key key;
+        uint8_t after[16];
+    } rsa;
+    dm_fault fault;
+    memset(&curve, 0xaa, sizeof curve);
+    memset(&encrypted, 0xaa, sizeof encrypted);
+    memset(&public_key, 0xaa, sizeof public_key);
+    memset(&rsa, 0xaa, sizeof rsa);
+    const dm_ec_private_key *c = &curve.key;
+    expect(dm_read_ec_private_key(curve_input, sizeof curve_input, &curve.key, &fault) == DM_OK, "a key of a curve");
+    expect(is_at(c->private_key, curve_input, 7, 3) && c->version == 1, "its octets");
+    expect(c->has_parameters == 1 && c->parameters.number == DM_OBJECT_IDENTIFIER, "its parameters");
+    expect(is_at(c->parameters.content, curve_input, 14, 4), "their octets");
+    expect(has_bits(c->public_key, curve_input, 23, 4, 2), "its public key");
+    expect(is_untouched(curve.after, 0, 16) && sizeof *c == 72, "the size of a key of a curve");
+
+    const dm_encrypted_private_key *e = &encrypted.key;
+    expect(dm_read_encrypted_private_key(encrypted_input, sizeof encrypted_input, &encrypted.key, &fault) == DM_OK,
+           "an encrypted key");
+    expect(is_at(e->algorithm, encrypted_input, 6, 3) && is_at(e->encrypted_data, encrypted_input, 14, 4), "its parts");
+    expect(e->has_parameters == 1 && e->parameters.number == DM_OCTET_STRING && e->reserved == 0, "its parameters");
+    expect(is_at(e->parameters.content, encrypted_input, 11, 1), "their octets");
+    expect(is_untouched(encrypted.after, 0, 16) && sizeof *e == 64, "the size of an encrypted key");
+
+    const dm_public_key *k = &public_key.key;
+    expect(dm_read_public_key(public_input, sizeof public_input, &public_key.key, &fault) == DM_OK, "a public key");
+    expect(is_at(k->algorithm, public_input, 6, 3) && has_bits(k->public_key, public_input, 15, 3, 2), "its parts");
+    expect(k->has_parameters == 1 && is_at(k->parameters.content, public_input, 11, 1), "its parameters");
+    expect(k->parameters.number == DM_OCTET_STRING && k->reserved == 0, "their tag");
+    expect(is_untouched(public_key.after, 0, 16) && sizeof *k == 72, "the size of a public key");
+
+    const dm_rsa_public_key *r = &rsa.key;
+    expect(dm_read_rsa_public_key(rsa_input, sizeof rsa_input, &rsa.key, &fault) == DM_OK, "a public key of RSA");
+    expect(is_at(r->modulus, rsa_input, 4, 1) && is_at(r->public_exponent, rsa_input, 7, 2), "its numbers");
+    expect(is_untouched(rsa.after, 0, 16) && sizeof *r == 32, "the size of a public key of RSA");
+    expect(dm_read_rsa_public_key(public_input, sizeof public_input, &rsa.key, &fault) == DM_ERROR
+               && fault.field == DM_FIELD_PUBLIC_RSA_MODULUS && is_at(r->modulus, rsa_input, 4, 1),
+           "another key");
+}
+
 int main(void) {
     test_elements();
     test_outcomes();
@@ -419,6 +562,8 @@ int main(void) {
     test_name_constraints();
     test_access();
     test_keys();
+    test_further_values();
+    test_other_keys();
     printf("layout: %d passed, %d failed\n", passed, failed);
     return failed != 0;
 }

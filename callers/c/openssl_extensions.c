@@ -1,8 +1,5 @@
-/* Prints values of extensions of a certificate in DER on standard input in the words of openssl:
- *
- *     openssl x509 -noout
- *         -ext certificatePolicies,crlDistributionPoints,nameConstraints,authorityInfoAccess,subjectInfoAccess
- */
+/* Prints values of extensions of a certificate in DER on standard input in the words of `openssl x509 -noout -ext` with
+ * the names of these extensions. */
 #include "dumarewhi.h"
 
 #include <stdio.h>
@@ -153,6 +150,141 @@ static int print_access(dm_octets value) {
     return 1;
 }
 
+static int print_mappings(dm_octets value) {
+    dm_octets mappings;
+    dm_policy_mapping mapping;
+    dm_fault fault;
+    const char *before = "";
+    if (dm_read_policy_mappings(value.octets, value.length, &mappings, &fault) != DM_OK) return 0;
+    while (dm_next_policy_mapping(&mappings, &mapping)) {
+        printf("%s", before);
+        print_identifier(mapping.issuer_policy);
+        printf(":");
+        print_identifier(mapping.subject_policy);
+        before = ", ";
+    }
+    printf("\n");
+    return 1;
+}
+
+static int print_policy_constraints(dm_octets value) {
+    dm_policy_constraints constraints;
+    dm_fault fault;
+    if (dm_read_policy_constraints(value.octets, value.length, &constraints, &fault) != DM_OK) return 0;
+    if (constraints.has_require_explicit_policy) {
+        printf("Require Explicit Policy:%u", (unsigned)constraints.require_explicit_policy);
+    }
+    if (constraints.has_inhibit_policy_mapping) {
+        printf("%sInhibit Policy Mapping:%u", constraints.has_require_explicit_policy ? ", " : "",
+               (unsigned)constraints.inhibit_policy_mapping);
+    }
+    printf("\n");
+    return 1;
+}
+
+static int print_any_policy(dm_octets value) {
+    uint32_t number;
+    dm_fault fault;
+    if (dm_read_inhibit_any_policy(value.octets, value.length, &number, &fault) != DM_OK) return 0;
+    printf("%u\n", (unsigned)number);
+    return 1;
+}
+
+/* RFC 6066 8, RFC 6961 2.1 */
+static int print_features(dm_octets value) {
+    dm_octets features;
+    uint32_t number;
+    dm_fault fault;
+    const char *before = "";
+    if (dm_read_tls_features(value.octets, value.length, &features, &fault) != DM_OK) return 0;
+    for (; dm_next_tls_feature(&features, &number); before = ", ") {
+        if (number == 5 || number == 17) {
+            printf("%sstatus_request%s", before, number == 5 ? "" : "_v2");
+        } else {
+            printf("%s%u", before, (unsigned)number);
+        }
+    }
+    printf("\n");
+    return 1;
+}
+
+static int print_no_check(dm_octets value) {
+    dm_fault fault;
+    return dm_read_null_extension(value.octets, value.length, &fault) == DM_OK;
+}
+
+static int print_issuing_point(dm_octets value) {
+    dm_issuing_distribution_point point;
+    dm_fault fault;
+    if (dm_read_issuing_distribution_point(value.octets, value.length, &point, &fault) != DM_OK) return 0;
+    if (point.full_name.length > 0) printf("Full Name:\n");
+    print_names(point.full_name);
+    if (point.only_contains_user_certs) printf("Only User Certificates\n");
+    if (point.indirect_crl) printf("Indirect CRL\n");
+    if (point.only_contains_ca_certs) printf("Only CA Certificates\n");
+    if (point.only_contains_attribute_certs) printf("Only Attribute Certificates\n");
+    if (point.reasons.is_present) {
+        printf("Only Some ");
+        print_reasons(&point.reasons);
+    }
+    return 1;
+}
+
+/* A number of up to eight octets. */
+static int print_list_number(dm_octets value) {
+    dm_octets content;
+    uint64_t number;
+    dm_fault fault;
+    if (dm_read_crl_number(value.octets, value.length, &content, &fault) != DM_OK
+        || dm_read_u64(content.octets, content.length, &number) != 0) {
+        return 0;
+    }
+    printf("%llu\n", (unsigned long long)number);
+    return 1;
+}
+
+static int print_date(dm_octets value) {
+    static const char *const months[] = {"Jan", "Feb", "Mar", "Apr", "May", "Jun",
+                                         "Jul", "Aug", "Sep", "Oct", "Nov", "Dec"};
+    dm_time date;
+    dm_fault fault;
+    if (dm_read_invalidity_date(value.octets, value.length, &date, &fault) != DM_OK) return 0;
+    printf("%s %2d %02d:%02d:%02d %u GMT\n", months[date.month - 1], date.day, date.hour, date.minute, date.second,
+           (unsigned)date.year);
+    return 1;
+}
+
+static int print_issuer(dm_octets value) {
+    dm_octets names;
+    dm_fault fault;
+    if (dm_read_general_names(value.octets, value.length, &names, &fault) != DM_OK) return 0;
+    print_names(names);
+    return 1;
+}
+
+static const struct {
+    uint32_t kind;
+    const char *title;
+    int (*print)(dm_octets);
+} printers[] = {
+    {DM_CERTIFICATE_POLICIES, "X509v3 Certificate Policies", print_policies},
+    {DM_CRL_DISTRIBUTION_POINTS, "X509v3 CRL Distribution Points", print_points},
+    {DM_NAME_CONSTRAINTS, "X509v3 Name Constraints", print_constraints},
+    {DM_AUTHORITY_INFO_ACCESS, "Authority Information Access", print_access},
+    {DM_SUBJECT_INFO_ACCESS, "Subject Information Access", print_access},
+    {DM_POLICY_MAPPINGS, "X509v3 Policy Mappings", print_mappings},
+    {DM_POLICY_CONSTRAINTS, "X509v3 Policy Constraints", print_policy_constraints},
+    {DM_INHIBIT_ANY_POLICY, "X509v3 Inhibit Any Policy", print_any_policy},
+    {DM_TLS_FEATURES, "TLS Feature", print_features},
+    {DM_OCSP_NO_CHECK, "OCSP No Check", print_no_check},
+    {DM_ISSUING_DISTRIBUTION_POINT, "X509v3 Issuing Distribution Point", print_issuing_point},
+    {DM_CRL_NUMBER, "X509v3 CRL Number", print_list_number},
+    {DM_DELTA_CRL_INDICATOR, "X509v3 Delta CRL Indicator", print_list_number},
+    {DM_INVALIDITY_DATE, "Invalidity Date", print_date},
+    {DM_CERTIFICATE_ISSUER, "X509v3 Certificate Issuer", print_issuer},
+    {DM_FRESHEST_CRL, "X509v3 Freshest CRL", print_points},
+};
+
 static int print_extension(const char *title, const dm_extension *extension, int (*print)(dm_octets)) {
     printf("%s: %s\n", title, extension->critical ? "critical" : "");
     return print(extension->value);
@@ -166,24 +298,11 @@ int main(void) {
     size_t length = fread(input, 1, sizeof input, stdin);
     if (dm_read_certificate(input, length, &certificate, &fault) != DM_OK) return 1;
     while (is_read && dm_next_extension(&certificate.extensions, &extension)) {
-        switch (extension.kind) {
-        case DM_CERTIFICATE_POLICIES:
-            is_read = print_extension("X509v3 Certificate Policies", &extension, print_policies);
-            break;
-        case DM_CRL_DISTRIBUTION_POINTS:
-            is_read = print_extension("X509v3 CRL Distribution Points", &extension, print_points);
-            break;
-        case DM_NAME_CONSTRAINTS:
-            is_read = print_extension("X509v3 Name Constraints", &extension, print_constraints);
-            break;
-        case DM_AUTHORITY_INFO_ACCESS:
-            is_read = print_extension("Authority Information Access", &extension, print_access);
-            break;
-        case DM_SUBJECT_INFO_ACCESS:
-            is_read = print_extension("Subject Information Access", &extension, print_access);
-            break;
-        default: break;
+        for (size_t i = 0; i < sizeof printers / sizeof *printers; i++) {
+            if (extension.kind != printers[i].kind) continue;
+            is_read = is_read && print_extension(printers[i].title, &extension, printers[i].print);
         }
     }
-    return !is_read;
+    /* All critical ones have a kind. */
+    return !is_read || dm_has_unknown_critical(certificate.extensions.octets, certificate.extensions.length) != 0;
 }

@@ -1,6 +1,8 @@
-/* Prints the fields of a private key in DER on standard input (RFC 5958 2), and those of RSA (RFC 8017 A.1.2): the
- * algorithm, the tag of the parameters, and the numbers as `openssl asn1parse` prints them. With the word `octets` it
- * writes the octets of the key itself. */
+/* Prints the fields of a private key in DER on standard input (RFC 5958 2), and those of RSA (RFC 8017 A.1.2) or of a
+ * curve (RFC 5915 3): the algorithm, the tag of the parameters, and the numbers as `openssl asn1parse` prints them.
+ * With the word `octets` it writes the octets of the key itself. With `curve` it prints those of a key of a curve in a
+ * file of its own, with `public` those of a public key (RFC 5280 4.1.2.7, RFC 8017 A.1.1), and with `encrypted` those
+ * of an encrypted private one (RFC 5958 3). */
 #include "dumarewhi.h"
 
 #include <stdio.h>
@@ -35,20 +37,74 @@ static int print_numbers(dm_octets octets) {
     return 0;
 }
 
+static int print_octets(dm_octets octets) {
+    for (size_t i = 0; i < octets.length; i++) printf("%02X", octets.octets[i]);
+    printf("\n");
+    return 0;
+}
+
+static int print_curve(dm_octets octets) {
+    dm_ec_private_key key;
+    dm_fault fault;
+    if (dm_read_ec_private_key(octets.octets, octets.length, &key, &fault) != DM_OK) return print_fault(&fault);
+    printf("%02X\n", (unsigned)key.version);
+    print_octets(key.private_key);
+    if (key.has_parameters) printf("parameters of tag %u\n", (unsigned)key.parameters.number);
+    return key.public_key.is_present ? print_octets(key.public_key.octets) : 0;
+}
+
+static int print_algorithm(dm_octets algorithm, const dm_any *parameters, uint32_t has_parameters) {
+    uint8_t text[128];
+    size_t needed = 0;
+    if (dm_read_oid(algorithm.octets, algorithm.length, text, sizeof text, &needed) != 0) return 2;
+    printf("%.*s", (int)needed, (const char *)text);
+    if (has_parameters) printf(", parameters of tag %u", (unsigned)parameters->number);
+    printf("\n");
+    return 0;
+}
+
+static const uint8_t of_rsa[] = {0x2a, 0x86, 0x48, 0x86, 0xf7, 0x0d, 0x01, 0x01, 0x01};
+static const uint8_t of_curve[] = {0x2a, 0x86, 0x48, 0xce, 0x3d, 0x02, 0x01};
+
+static int is(dm_octets identifier, const uint8_t *octets, size_t length) {
+    return identifier.length == length && memcmp(identifier.octets, octets, length) == 0;
+}
+
+static int print_public(size_t length) {
+    dm_public_key key;
+    dm_rsa_public_key rsa;
+    dm_fault fault;
+    if (dm_read_public_key(input, length, &key, &fault) != DM_OK) return print_fault(&fault);
+    if (print_algorithm(key.algorithm, &key.parameters, key.has_parameters) != 0) return 2;
+    dm_octets octets = key.public_key.octets;
+    if (!is(key.algorithm, of_rsa, sizeof of_rsa)) return print_octets(octets);
+    if (dm_read_rsa_public_key(octets.octets, octets.length, &rsa, &fault) != DM_OK) return print_fault(&fault);
+    print_number(rsa.modulus);
+    print_number(rsa.public_exponent);
+    return 0;
+}
+
+static int print_encrypted(size_t length) {
+    dm_encrypted_private_key key;
+    dm_fault fault;
+    if (dm_read_encrypted_private_key(input, length, &key, &fault) != DM_OK) return print_fault(&fault);
+    if (print_algorithm(key.algorithm, &key.parameters, key.has_parameters) != 0) return 2;
+    return print_octets(key.encrypted_data);
+}
+
 int main(int count, char **words) {
-    static const uint8_t rsa[] = {0x2a, 0x86, 0x48, 0x86, 0xf7, 0x0d, 0x01, 0x01, 0x01};
     dm_private_key key;
     dm_fault fault;
-    uint8_t text[128];
-    size_t needed = 0, length = fread(input, 1, sizeof input, stdin);
+    size_t length = fread(input, 1, sizeof input, stdin);
+    dm_octets whole = {input, length};
+    if (count == 2 && strcmp(words[1], "curve") == 0) return print_curve(whole);
+    if (count == 2 && strcmp(words[1], "public") == 0) return print_public(length);
+    if (count == 2 && strcmp(words[1], "encrypted") == 0) return print_encrypted(length);
     if (dm_read_private_key(input, length, &key, &fault) != DM_OK) return print_fault(&fault);
     if (count == 2 && strcmp(words[1], "octets") == 0) {
         return fwrite(key.private_key.octets, 1, key.private_key.length, stdout) != key.private_key.length;
     }
-    if (dm_read_oid(key.algorithm.octets, key.algorithm.length, text, sizeof text, &needed) != 0) return 2;
-    printf("%.*s", (int)needed, (const char *)text);
-    if (key.has_parameters) printf(", parameters of tag %u", (unsigned)key.parameters.number);
-    printf("\n");
-    int is_rsa = key.algorithm.length == sizeof rsa && memcmp(key.algorithm.octets, rsa, sizeof rsa) == 0;
-    return is_rsa ? print_numbers(key.private_key) : 0;
+    if (print_algorithm(key.algorithm, &key.parameters, key.has_parameters) != 0) return 2;
+    if (is(key.algorithm, of_curve, sizeof of_curve)) return print_curve(key.private_key);
+    return is(key.algorithm, of_rsa, sizeof of_rsa) ? print_numbers(key.private_key) : 0;
 }

@@ -53,12 +53,78 @@ static void test_subtrees(dm_octets list, const uint8_t *input, size_t length) {
     expect(list.length == 0);
 }
 
+/* The extensions about policies in a path and about lists of revoked certificates. */
+static void test_further(const uint8_t *input, size_t length) {
+    dm_fault fault;
+    dm_octets list;
+    dm_policy_mapping mapping;
+    dm_policy_constraints constraints;
+    dm_request_attribute attribute;
+    dm_issuing_distribution_point point;
+    dm_time date;
+    uint32_t number;
+    expect_fault(&fault, dm_read_policy_mappings(input, length, &list, &fault), length);
+    while (fault.status == DM_OK && dm_next_policy_mapping(&list, &mapping)) {
+        expect_part(mapping.issuer_policy, input, length);
+        expect_part(mapping.subject_policy, input, length);
+    }
+    expect(fault.status != DM_OK || list.length == 0);
+    expect_fault(&fault, dm_read_policy_constraints(input, length, &constraints, &fault), length);
+    expect(fault.status != DM_OK || constraints.has_require_explicit_policy <= 1);
+    expect_fault(&fault, dm_read_inhibit_any_policy(input, length, &number, &fault), length);
+    expect_fault(&fault, dm_read_directory_attributes(input, length, &list, &fault), length);
+    while (fault.status == DM_OK && dm_next_directory_attribute(&list, &attribute)) {
+        expect_part(attribute.values, input, length);
+    }
+    expect(fault.status != DM_OK || list.length == 0);
+    expect_fault(&fault, dm_read_crl_number(input, length, &list, &fault), length);
+    if (fault.status == DM_OK) expect_part(list, input, length);
+    expect_fault(&fault, dm_read_issuing_distribution_point(input, length, &point, &fault), length);
+    if (fault.status == DM_OK) {
+        test_names(point.full_name, input, length);
+        expect_part(point.relative_name, input, length);
+        expect_bits(&point.reasons, input, length);
+    }
+    expect_fault(&fault, dm_read_invalidity_date(input, length, &date, &fault), length);
+    expect(fault.status != DM_OK || (date.year <= 9999 && date.zone == DM_UTC));
+}
+
+/* Those of the web. */
+static void test_web(const uint8_t *input, size_t length) {
+    dm_fault fault;
+    dm_octets list, timestamp;
+    dm_qc_statement statement;
+    dm_organization_identifier identifier;
+    uint32_t number;
+    expect_fault(&fault, dm_read_signed_certificate_timestamps(input, length, &list, &fault), length);
+    while (fault.status == DM_OK && dm_next_timestamp(&list, &timestamp)) expect_part(timestamp, input, length);
+    expect(fault.status != DM_OK || list.length == 0);
+    expect_fault(&fault, dm_read_null_extension(input, length, &fault), length);
+    expect_fault(&fault, dm_read_tls_features(input, length, &list, &fault), length);
+    while (fault.status == DM_OK && dm_next_tls_feature(&list, &number)) expect_part(list, input, length);
+    expect(fault.status != DM_OK || list.length == 0);
+    expect_fault(&fault, dm_read_qc_statements(input, length, &list, &fault), length);
+    while (fault.status == DM_OK && dm_next_qc_statement(&list, &statement)) {
+        expect_part(statement.identifier, input, length);
+        expect_any(&statement.info, input, length);
+    }
+    expect(fault.status != DM_OK || list.length == 0);
+    expect_fault(&fault, dm_read_organization_identifier(input, length, &identifier, &fault), length);
+    if (fault.status == DM_OK) {
+        expect_part(identifier.reference, input, length);
+        expect(identifier.scheme.length == 3 && identifier.country.length == 2);
+    }
+    expect(dm_has_unknown_critical(input, length) <= 1);
+}
+
 int LLVMFuzzerTestOneInput(const uint8_t *input, size_t length) {
     dm_fault fault;
     dm_octets list, item;
     dm_name_constraints constraints;
     dm_access_description description;
     test_simple(input, length);
+    test_further(input, length);
+    test_web(input, length);
     expect_fault(&fault, dm_read_general_names(input, length, &list, &fault), length);
     if (fault.status == DM_OK) test_names(list, input, length);
     expect_fault(&fault, dm_read_extended_key_usage(input, length, &list, &fault), length);

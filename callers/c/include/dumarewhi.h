@@ -485,7 +485,8 @@ typedef struct dm_fault {
 } dm_fault;
 
 /* The fields of certificates (RFC 5280 4.1), lists of revoked certificates (5.1), requests (RFC 2986 4), private keys
- * (RFC 5958 2) and those of RSA (RFC 8017 A.1.2). */
+ * (RFC 5958 2), those of RSA (RFC 8017 A.1.2) and of curves (RFC 5915 3), encrypted ones (RFC 5958 3), and public keys
+ * (RFC 5280 4.1.2.7, RFC 8017 A.1.1). */
 enum dm_field {
     DM_FIELD_NONE = 0, /* of a call that reads one value */
     DM_FIELD_CERTIFICATE = 1, /* the outermost SEQUENCE, octets after it, or a rule of dm_read_strict_certificate */
@@ -537,7 +538,21 @@ enum dm_field {
     DM_FIELD_RSA_EXPONENT1 = 119,
     DM_FIELD_RSA_EXPONENT2 = 120,
     DM_FIELD_RSA_COEFFICIENT = 121,
-    DM_FIELD_RSA_OTHER_PRIMES = 122
+    DM_FIELD_RSA_OTHER_PRIMES = 122,
+    DM_FIELD_EC_KEY = 128, /* ECPrivateKey */
+    DM_FIELD_EC_VERSION = 129,
+    DM_FIELD_EC_OCTETS = 130,
+    DM_FIELD_EC_PARAMETERS = 131,
+    DM_FIELD_EC_PUBLIC_KEY = 132,
+    DM_FIELD_ENCRYPTED_KEY = 144, /* EncryptedPrivateKeyInfo */
+    DM_FIELD_ENCRYPTED_ALGORITHM = 145,
+    DM_FIELD_ENCRYPTED_DATA = 146,
+    DM_FIELD_PUBLIC_KEY = 160, /* SubjectPublicKeyInfo */
+    DM_FIELD_PUBLIC_ALGORITHM = 161,
+    DM_FIELD_PUBLIC_BITS = 162,
+    DM_FIELD_PUBLIC_RSA_KEY = 176, /* RSAPublicKey */
+    DM_FIELD_PUBLIC_RSA_MODULUS = 177,
+    DM_FIELD_PUBLIC_RSA_EXPONENT = 178
 };
 
 /* Writes the text of a fault, such as "tbsCertificate.version at 9: wrong value", without a 0 after it: its first
@@ -637,29 +652,49 @@ typedef struct dm_extension {
 
 uint32_t dm_next_extension(dm_octets *extensions, dm_extension *extension);
 
-/* Which extension an identifier names (4.2). The numbers are the last arcs: of 2.5.29 (id-ce), but those of the access
- * descriptions, of 1.3.6.1.5.5.7.1 (id-pe). */
+/* Which extension an identifier names (4.2, 5.2, 5.3). The numbers below 256 are the last arcs: of 2.5.29 (id-ce), but
+ * those of the access descriptions and of DM_QC_STATEMENTS, of 1.3.6.1.5.5.7.1 (id-pe). */
 enum dm_extension_kind {
     DM_EXTENSION_OTHER = 0,
     DM_AUTHORITY_INFO_ACCESS = 1,
+    DM_QC_STATEMENTS = 3, /* RFC 3739 3.2.6 */
+    DM_SUBJECT_DIRECTORY_ATTRIBUTES = 9,
     DM_SUBJECT_INFO_ACCESS = 11,
     DM_SUBJECT_KEY_IDENTIFIER = 14,
     DM_KEY_USAGE = 15,
     DM_SUBJECT_ALT_NAME = 17,
     DM_ISSUER_ALT_NAME = 18,
     DM_BASIC_CONSTRAINTS = 19,
-    DM_REASON_CODE = 21, /* of an entry of a list of revoked certificates */
+    DM_CRL_NUMBER = 20,                  /* of a list of revoked certificates */
+    DM_REASON_CODE = 21,                 /* of an entry of one */
+    DM_INVALIDITY_DATE = 24,             /* of an entry */
+    DM_DELTA_CRL_INDICATOR = 27,         /* of a list */
+    DM_ISSUING_DISTRIBUTION_POINT = 28,  /* of a list */
+    DM_CERTIFICATE_ISSUER = 29,          /* of an entry */
     DM_NAME_CONSTRAINTS = 30,
     DM_CRL_DISTRIBUTION_POINTS = 31,
     DM_CERTIFICATE_POLICIES = 32,
+    DM_POLICY_MAPPINGS = 33,
     DM_AUTHORITY_KEY_IDENTIFIER = 35,
+    DM_POLICY_CONSTRAINTS = 36,
     DM_EXTENDED_KEY_USAGE = 37,
-    DM_FRESHEST_CRL = 46
+    DM_FRESHEST_CRL = 46,
+    DM_INHIBIT_ANY_POLICY = 54,
+    DM_TLS_FEATURES = 256,                 /* 1.3.6.1.5.5.7.1.24 (RFC 7633 6) */
+    DM_OCSP_NO_CHECK = 257,                /* 1.3.6.1.5.5.7.48.1.5 (RFC 6960 4.2.2.2.1) */
+    DM_SIGNED_CERTIFICATE_TIMESTAMPS = 258, /* 1.3.6.1.4.1.11129.2.4.2 (RFC 6962 3.3) */
+    DM_PRECERTIFICATE_POISON = 259,        /* 1.3.6.1.4.1.11129.2.4.3 (RFC 6962 3.1) */
+    DM_ORGANIZATION_IDENTIFIER = 260       /* 2.23.140.3.1 (CA/B Forum, EV Guidelines 9.8.2) */
 };
 
-/* Values of extensions (4.2.1). Each call reads the value of a dm_extension, by DER, and nothing after it. The value
- * is an input of its own: offsets count from its start. With another status than DM_OK what is read stays as it was.
- * The fault is written in any case, with DM_FIELD_NONE. Returns its status. */
+/* Whether one of the extensions of a list is critical and has another identifier than those above: 1 or 0. Who knows no
+ * other extensions has to refuse what it is in (4.2, 5.2, 5.3). Extensions behind the first that isn't one aren't
+ * looked at: in a list that was read with a certificate there is none. */
+uint32_t dm_has_unknown_critical(const uint8_t *extensions, size_t length);
+
+/* Values of extensions (4.2, 5.2, 5.3). Each call reads the value of a dm_extension, by DER, and nothing after it. The
+ * value is an input of its own: offsets count from its start. With another status than DM_OK what is read stays as it
+ * was. The fault is written in any case, with DM_FIELD_NONE. Returns its status. */
 
 typedef struct dm_basic_constraints {
     uint32_t ca;              /* 0 or 1 */
@@ -685,7 +720,8 @@ enum dm_key_usage {
     DM_USAGE_DECIPHER_ONLY = 256
 };
 
-/* The names of a SubjectAltName or an IssuerAltName, one at least, and the next one of them. */
+/* The names of a SubjectAltName, an IssuerAltName or a CertificateIssuer (5.3.3), one at least, and the next one of
+ * them. */
 uint32_t dm_read_general_names(const uint8_t *value, size_t length, dm_octets *names, dm_fault *fault);
 
 typedef struct dm_general_name {
@@ -786,6 +822,80 @@ typedef struct dm_access_description {
 uint32_t dm_read_information_access(const uint8_t *value, size_t length, dm_octets *descriptions, dm_fault *fault);
 uint32_t dm_next_access_description(dm_octets *descriptions, dm_access_description *description);
 
+/* The pairs of a PolicyMappings (4.2.1.5), one at least, and the next one. A pair with anyPolicy is read. */
+typedef struct dm_policy_mapping {
+    dm_octets issuer_policy;  /* the content octets of the OBJECT IDENTIFIER issuerDomainPolicy */
+    dm_octets subject_policy; /* those of subjectDomainPolicy */
+} dm_policy_mapping;
+
+uint32_t dm_read_policy_mappings(const uint8_t *value, size_t length, dm_octets *mappings, dm_fault *fault);
+uint32_t dm_next_policy_mapping(dm_octets *mappings, dm_policy_mapping *mapping);
+
+/* A PolicyConstraints (4.2.1.11): how many certificates may follow in a path before each needs an acceptable policy,
+ * and before policies are no longer mapped. A number above 2^32-1 is an error. One with neither is read. */
+typedef struct dm_policy_constraints {
+    uint32_t has_require_explicit_policy; /* 0 or 1 */
+    uint32_t require_explicit_policy;     /* 0 if there is none */
+    uint32_t has_inhibit_policy_mapping;  /* 0 or 1 */
+    uint32_t inhibit_policy_mapping;      /* 0 if there is none */
+} dm_policy_constraints;
+
+uint32_t dm_read_policy_constraints(const uint8_t *value, size_t length, dm_policy_constraints *constraints,
+                                    dm_fault *fault);
+
+/* An InhibitAnyPolicy (4.2.1.14): how many certificates may follow in a path before anyPolicy counts no longer. A
+ * number above 2^32-1 is an error. */
+uint32_t dm_read_inhibit_any_policy(const uint8_t *value, size_t length, uint32_t *number, dm_fault *fault);
+
+/* The attributes of a SubjectDirectoryAttributes (4.2.1.8), one at least, and the next one. The order of values isn't
+ * asked. */
+typedef struct dm_request_attribute {
+    dm_octets identifier; /* the content octets of its type, an OBJECT IDENTIFIER */
+    dm_octets values;     /* the encodings of its values, one after another */
+} dm_request_attribute;
+
+uint32_t dm_read_directory_attributes(const uint8_t *value, size_t length, dm_octets *attributes, dm_fault *fault);
+uint32_t dm_next_directory_attribute(dm_octets *attributes, dm_request_attribute *attribute);
+
+/* The signed certificate timestamps of an SCT list (RFC 6962 3.3), one at least, and the octets of the next one (3.2),
+ * which aren't looked into. */
+uint32_t dm_read_signed_certificate_timestamps(const uint8_t *value, size_t length, dm_octets *timestamps,
+                                               dm_fault *fault);
+uint32_t dm_next_timestamp(dm_octets *timestamps, dm_octets *timestamp);
+
+/* An OCSP no-check or the poison of a precertificate: a NULL, which has no value. */
+uint32_t dm_read_null_extension(const uint8_t *value, size_t length, dm_fault *fault);
+
+/* The features of TLS that a server has to speak (RFC 7633 4.1), maybe none, and the number of the next one, such as 5,
+ * status_request. A number above 2^32-1 is an error. */
+uint32_t dm_read_tls_features(const uint8_t *value, size_t length, dm_octets *features, dm_fault *fault);
+uint32_t dm_next_tls_feature(dm_octets *features, uint32_t *number);
+
+/* What is stated of a qualified certificate (RFC 3739 3.2.6), maybe nothing, and the next statement. */
+typedef struct dm_qc_statement {
+    dm_octets identifier; /* the content octets of the OBJECT IDENTIFIER */
+    dm_any info;          /* what it says. With has_info 0 its fields are empty and 0 */
+    uint32_t has_info;    /* 0 or 1 */
+    uint32_t reserved;    /* 0 */
+} dm_qc_statement;
+
+uint32_t dm_read_qc_statements(const uint8_t *value, size_t length, dm_octets *statements, dm_fault *fault);
+uint32_t dm_next_qc_statement(dm_octets *statements, dm_qc_statement *statement);
+
+/* In which register an organization is (EV Guidelines 9.8.2). Which characters a country or a register has isn't
+ * asked. */
+typedef struct dm_organization_identifier {
+    dm_octets scheme;               /* the kind of the register, such as VAT: three characters of PrintableString */
+    dm_octets country;              /* two characters */
+    dm_octets state_or_province;    /* at most 128 characters. Empty if there is none */
+    dm_octets reference;            /* the number of the organization in it: UTF-8 */
+    uint32_t has_state_or_province; /* 0 or 1 */
+    uint32_t reserved;              /* 0 */
+} dm_organization_identifier;
+
+uint32_t dm_read_organization_identifier(const uint8_t *value, size_t length, dm_organization_identifier *identifier,
+                                         dm_fault *fault);
+
 /* Lists of revoked certificates (RFC 5280 5.1). */
 typedef struct dm_certificate_list {
     dm_octets tbs;            /* the encoding of TBSCertList: the octets that are signed */
@@ -804,10 +914,7 @@ typedef struct dm_certificate_list {
 /* Reads a list by DER, exactly as the ASN.1 has it, and nothing after it, as dm_read_certificate. */
 uint32_t dm_read_certificate_list(const uint8_t *input, size_t length, dm_certificate_list *list, dm_fault *fault);
 
-/* The number of a list (5.2.3), the value of its extension 2.5.29.20, is an INTEGER: dm_next_integer of a cursor over
- * the value reads it.
- *
- * The next entry (5.1.2.6). */
+/* The next entry (5.1.2.6). */
 typedef struct dm_revoked {
     dm_octets serial_number; /* the content octets of the INTEGER, in two's complement */
     dm_octets extensions;    /* dm_next_extension. Empty if there are none */
@@ -834,6 +941,28 @@ enum dm_reason {
     DM_REASON_AA_COMPROMISE = 10
 };
 
+/* When the key of an entry became invalid (5.3.2): the value of its extension of the kind DM_INVALIDITY_DATE, a
+ * GeneralizedTime. A fraction of a second is read. */
+uint32_t dm_read_invalidity_date(const uint8_t *value, size_t length, dm_time *date, dm_fault *fault);
+
+/* The number of a list (5.2.3), or of the list that this one changes (5.2.4): the value of an extension of the kind
+ * DM_CRL_NUMBER or DM_DELTA_CRL_INDICATOR, as the content octets of the INTEGER, which isn't negative. */
+uint32_t dm_read_crl_number(const uint8_t *value, size_t length, dm_octets *number, dm_fault *fault);
+
+/* Which certificates a list is about (5.2.5). A value with no field, or with two that exclude each other, is read. */
+typedef struct dm_issuing_distribution_point {
+    dm_octets full_name;               /* general names: dm_next_general_name. Empty if there are none */
+    dm_octets relative_name;           /* dm_next_attribute. Empty if there is none */
+    dm_bits reasons;                   /* as of a dm_distribution_point */
+    uint32_t only_contains_user_certs; /* only those of end entities, 0 or 1 */
+    uint32_t only_contains_ca_certs;   /* only those of authorities, 0 or 1 */
+    uint32_t indirect_crl;             /* those of other issuers too, 0 or 1 */
+    uint32_t only_contains_attribute_certs; /* only attribute certificates, 0 or 1 */
+} dm_issuing_distribution_point;
+
+uint32_t dm_read_issuing_distribution_point(const uint8_t *value, size_t length, dm_issuing_distribution_point *point,
+                                            dm_fault *fault);
+
 /* Certification requests (RFC 2986 4). Their version is 0. */
 typedef struct dm_request {
     dm_octets info;             /* the encoding of CertificationRequestInfo: the octets that are signed */
@@ -849,11 +978,6 @@ typedef struct dm_request {
 uint32_t dm_read_request(const uint8_t *input, size_t length, dm_request *request, dm_fault *fault);
 
 /* The next attribute (4.1). */
-typedef struct dm_request_attribute {
-    dm_octets identifier; /* the content octets of its type, an OBJECT IDENTIFIER */
-    dm_octets values;     /* the encodings of its values, one after another */
-} dm_request_attribute;
-
 uint32_t dm_next_request_attribute(dm_octets *attributes, dm_request_attribute *attribute);
 
 /* The extensions that the values of the attribute extensionRequest (RFC 2985 5.4.2), 1.2.840.113549.1.9.14, ask for.
@@ -874,7 +998,7 @@ typedef struct dm_private_key {
 } dm_private_key;
 
 /* Reads a private key by DER, exactly as the ASN.1 has it, and nothing after it, as dm_read_certificate. An encrypted
- * one (EncryptedPrivateKeyInfo) is an error. */
+ * one is an error: dm_read_encrypted_private_key reads it. */
 uint32_t dm_read_private_key(const uint8_t *input, size_t length, dm_private_key *key, dm_fault *fault);
 
 /* The private key of RSA (RFC 8017 A.1.2), as `private_key` has it: its numbers, each as the content octets of the
@@ -894,6 +1018,49 @@ typedef struct dm_rsa_private_key {
 } dm_rsa_private_key;
 
 uint32_t dm_read_rsa_private_key(const uint8_t *input, size_t length, dm_rsa_private_key *key, dm_fault *fault);
+
+/* The private key of a curve (SEC 1 C.4, RFC 5915 3), as `private_key` has it, or as a file of its own. */
+typedef struct dm_ec_private_key {
+    dm_octets private_key;   /* a number in as many octets as the order of the curve has */
+    dm_any parameters;       /* the curve: mostly an OBJECT IDENTIFIER (RFC 5480 2.1.1). Its content isn't read */
+    dm_bits public_key;      /* its is_present is 0 if there is none */
+    uint32_t version;        /* 1 */
+    uint32_t has_parameters; /* 0 or 1. With 0 the fields of `parameters` are empty and 0 */
+} dm_ec_private_key;
+
+uint32_t dm_read_ec_private_key(const uint8_t *input, size_t length, dm_ec_private_key *key, dm_fault *fault);
+
+/* A private key that is encrypted (RFC 5958 3). It isn't decrypted here. */
+typedef struct dm_encrypted_private_key {
+    dm_octets algorithm;      /* the content octets of the OBJECT IDENTIFIER: how it is encrypted */
+    dm_any parameters;        /* of the algorithm. Its content isn't read */
+    dm_octets encrypted_data; /* the octets of the OCTET STRING */
+    uint32_t has_parameters;  /* 0 or 1. With 0 the fields of `parameters` are empty and 0 */
+    uint32_t reserved;        /* 0 */
+} dm_encrypted_private_key;
+
+uint32_t dm_read_encrypted_private_key(const uint8_t *input, size_t length, dm_encrypted_private_key *key,
+                                       dm_fault *fault);
+
+/* A public key (RFC 5280 4.1.2.7), such as a file PUBLIC KEY has. */
+typedef struct dm_public_key {
+    dm_octets algorithm;     /* the content octets of the OBJECT IDENTIFIER */
+    dm_any parameters;       /* of the algorithm. Its content isn't read */
+    dm_bits public_key;      /* the key, as its algorithm encodes it */
+    uint32_t has_parameters; /* 0 or 1. With 0 the fields of `parameters` are empty and 0 */
+    uint32_t reserved;       /* 0 */
+} dm_public_key;
+
+uint32_t dm_read_public_key(const uint8_t *input, size_t length, dm_public_key *key, dm_fault *fault);
+
+/* The public key of RSA (RFC 8017 A.1.1), as the octets of `public_key` have it: the content octets of its numbers, in
+ * two's complement. */
+typedef struct dm_rsa_public_key {
+    dm_octets modulus;
+    dm_octets public_exponent;
+} dm_rsa_public_key;
+
+uint32_t dm_read_rsa_public_key(const uint8_t *input, size_t length, dm_rsa_public_key *key, dm_fault *fault);
 
 /* Blocks of PEM (RFC 7468), with any text around them:
  *

@@ -31,11 +31,12 @@ static void print_algorithm(dm_algorithm algorithm) {
     print_octets(algorithm.parameters);
 }
 
-static void print_moment(dm_moment moment) {
-    dm_time t = moment.time;
+static void print_time(dm_time t) {
     printf(" %04" PRIu32 "-%02u-%02uT%02u:%02u:%02u", t.year, t.month, t.day, t.hour, t.minute, t.second);
     printf(".%06" PRIu32, t.nanosecond / 1000);
 }
+
+static void print_moment(dm_moment moment) { print_time(moment.time); }
 
 static void print_fault(const dm_fault *fault) {
     uint8_t text[DM_TEXT_OCTETS];
@@ -85,6 +86,11 @@ static void print_authority(const dm_authority_key_identifier *it) {
     if (it->has_serial_number) print_octets(it->serial_number);
 }
 
+static void print_any(const dm_any *it) {
+    printf(" %u.%" PRIu32, it->tag_class, it->number);
+    print_octets(it->content);
+}
+
 static void print_policies(dm_octets policies) {
     dm_policy it;
     dm_policy_qualifier qualifier;
@@ -94,8 +100,7 @@ static void print_policies(dm_octets policies) {
         while (dm_next_policy_qualifier(&it.qualifiers, &qualifier)) {
             printf(" qualifier");
             print_octets(qualifier.identifier);
-            printf(" %u.%" PRIu32, qualifier.value.tag_class, qualifier.value.number);
-            print_octets(qualifier.value.content);
+            print_any(&qualifier.value);
         }
     }
 }
@@ -137,6 +142,127 @@ static void print_access(dm_octets descriptions) {
     }
 }
 
+static void print_mappings(dm_octets mappings) {
+    dm_policy_mapping it;
+    while (dm_next_policy_mapping(&mappings, &it)) {
+        printf(" mapping");
+        print_octets(it.issuer_policy);
+        print_octets(it.subject_policy);
+    }
+}
+
+static void print_path(const dm_policy_constraints *it) {
+    printf(" constraints");
+    if (it->has_require_explicit_policy) printf(" explicit %" PRIu32, it->require_explicit_policy);
+    if (it->has_inhibit_policy_mapping) printf(" mapping %" PRIu32, it->inhibit_policy_mapping);
+}
+
+static void print_directory(dm_octets attributes) {
+    dm_request_attribute it;
+    while (dm_next_directory_attribute(&attributes, &it)) {
+        printf(" attribute");
+        print_octets(it.identifier);
+        print_octets(it.values);
+    }
+}
+
+static void print_issuing_point(const dm_issuing_distribution_point *it) {
+    printf(" issuing");
+    print_general_names(it->full_name);
+    print_attributes(it->relative_name);
+    print_bits(it->reasons);
+    printf(" %" PRIu32 "%" PRIu32 "%" PRIu32 "%" PRIu32, it->only_contains_user_certs, it->only_contains_ca_certs,
+           it->indirect_crl, it->only_contains_attribute_certs);
+}
+
+static void print_timestamps(dm_octets timestamps) {
+    dm_octets it;
+    while (dm_next_timestamp(&timestamps, &it)) {
+        printf(" timestamp");
+        print_octets(it);
+    }
+}
+
+static void print_features(dm_octets features) {
+    uint32_t number;
+    printf(" features");
+    while (dm_next_tls_feature(&features, &number)) printf(" %" PRIu32, number);
+}
+
+static void print_statements(dm_octets statements) {
+    dm_qc_statement it;
+    printf(" statements");
+    while (dm_next_qc_statement(&statements, &it)) {
+        print_octets(it.identifier);
+        if (it.has_info) print_any(&it.info);
+    }
+}
+
+static void print_organization(const dm_organization_identifier *it) {
+    printf(" organization");
+    print_octets(it->scheme);
+    print_octets(it->country);
+    if (it->has_state_or_province) printf(" of");
+    if (it->has_state_or_province) print_octets(it->state_or_province);
+    print_octets(it->reference);
+}
+
+/* Values of the further extensions. */
+static void print_further_value(const dm_extension *extension) {
+    const uint8_t *value = extension->value.octets;
+    size_t length = extension->value.length;
+    dm_fault fault = {0};
+    dm_policy_constraints constraints;
+    dm_issuing_distribution_point point;
+    dm_organization_identifier organization;
+    dm_octets part;
+    dm_time date;
+    uint32_t number;
+    switch (extension->kind) {
+    case DM_POLICY_MAPPINGS:
+        if (dm_read_policy_mappings(value, length, &part, &fault) == DM_OK) print_mappings(part);
+        break;
+    case DM_POLICY_CONSTRAINTS:
+        if (dm_read_policy_constraints(value, length, &constraints, &fault) == DM_OK) print_path(&constraints);
+        break;
+    case DM_INHIBIT_ANY_POLICY:
+        if (dm_read_inhibit_any_policy(value, length, &number, &fault) == DM_OK) printf(" any %" PRIu32, number);
+        break;
+    case DM_SUBJECT_DIRECTORY_ATTRIBUTES:
+        if (dm_read_directory_attributes(value, length, &part, &fault) == DM_OK) print_directory(part);
+        break;
+    case DM_CRL_NUMBER:
+    case DM_DELTA_CRL_INDICATOR:
+        if (dm_read_crl_number(value, length, &part, &fault) == DM_OK) print_octets(part);
+        break;
+    case DM_ISSUING_DISTRIBUTION_POINT:
+        if (dm_read_issuing_distribution_point(value, length, &point, &fault) == DM_OK) print_issuing_point(&point);
+        break;
+    case DM_INVALIDITY_DATE:
+        if (dm_read_invalidity_date(value, length, &date, &fault) == DM_OK) print_time(date);
+        break;
+    case DM_SIGNED_CERTIFICATE_TIMESTAMPS:
+        if (dm_read_signed_certificate_timestamps(value, length, &part, &fault) == DM_OK) print_timestamps(part);
+        break;
+    case DM_TLS_FEATURES:
+        if (dm_read_tls_features(value, length, &part, &fault) == DM_OK) print_features(part);
+        break;
+    case DM_QC_STATEMENTS:
+        if (dm_read_qc_statements(value, length, &part, &fault) == DM_OK) print_statements(part);
+        break;
+    case DM_ORGANIZATION_IDENTIFIER:
+        if (dm_read_organization_identifier(value, length, &organization, &fault) != DM_OK) break;
+        print_organization(&organization);
+        break;
+    case DM_OCSP_NO_CHECK:
+    case DM_PRECERTIFICATE_POISON:
+        if (dm_read_null_extension(value, length, &fault) == DM_OK) printf(" null");
+        break;
+    default: print_octets(extension->value);
+    }
+    if (fault.status != DM_OK) print_fault(&fault);
+}
+
 static void print_value(const dm_extension *extension) {
     const uint8_t *value = extension->value.octets;
     size_t length = extension->value.length;
@@ -174,6 +300,7 @@ static void print_value(const dm_extension *extension) {
         break;
     case DM_SUBJECT_ALT_NAME:
     case DM_ISSUER_ALT_NAME:
+    case DM_CERTIFICATE_ISSUER:
         if (dm_read_general_names(value, length, &part, &fault) == DM_OK) print_general_names(part);
         break;
     case DM_EXTENDED_KEY_USAGE:
@@ -186,7 +313,7 @@ static void print_value(const dm_extension *extension) {
     case DM_AUTHORITY_KEY_IDENTIFIER:
         if (dm_read_authority_key_identifier(value, length, &authority, &fault) == DM_OK) print_authority(&authority);
         break;
-    default: print_octets(extension->value);
+    default: print_further_value(extension);
     }
     if (fault.status != DM_OK) print_fault(&fault);
 }
@@ -214,6 +341,7 @@ static void print_certificate(const dm_certificate *it) {
         printf(" %" PRIu32, extension.critical);
         print_value(&extension);
     }
+    printf(" unknown %" PRIu32, dm_has_unknown_critical(it->extensions.octets, it->extensions.length));
 }
 
 static void print_line(read_certificate *read, const uint8_t *input, size_t length) {

@@ -9,7 +9,7 @@ from typing import Any, Callable, Dict, List, Optional, Tuple
 import pytest
 from conftest import REPOSITORY, inputs_of, octets_of, openssl
 
-from dumarewhi import ObjectIdentifier, Tag, _extensions, parse_der, x509
+from dumarewhi import ObjectIdentifier, Reader, Tag, _extensions, parse_der, x509
 from dumarewhi.x509 import Certificate, CertificateError, Extension, GeneralName, GeneralNameKind, Name
 
 CONFIGURATION = REPOSITORY / "callers" / "c" / "extensions.cnf"
@@ -74,14 +74,27 @@ REASONS = [
 
 
 def compare_point(own: x509.DistributionPoint, other: Any) -> None:
-    compare_names(own.full_name, other.full_name)
     compare_names(own.crl_issuer, other.crl_issuer)
+    compare_place(own, other, other.reasons)
+
+
+def compare_place(own: Any, other: Any, known: Any) -> None:
+    """The names of a point, and its reasons."""
+    compare_names(own.full_name, other.full_name)
     relative = [] if other.relative_name is None else list(other.relative_name)
     assert [(str(it.identifier), it.text) for it in own.relative_name] == [
         (it.oid.dotted_string, it.value) for it in relative
     ]
     reasons = None if own.reasons is None else {REASONS[at] for at, bit in enumerate(own.reasons) if bit}
-    assert reasons == (None if other.reasons is None else {reason.name for reason in other.reasons})
+    assert reasons == (None if known is None else {reason.name for reason in known})
+
+
+def compare_issuing_point(own: x509.IssuingDistributionPoint, other: Any) -> None:
+    compare_place(own, other, other.only_some_reasons)
+    flags = (own.only_contains_user_certs, own.only_contains_ca_certs)
+    assert flags == (other.only_contains_user_certs, other.only_contains_ca_certs)
+    flags = (own.indirect_crl, own.only_contains_attribute_certs)
+    assert flags == (other.indirect_crl, other.only_contains_attribute_certs)
 
 
 def compare_subtrees(own: Tuple[x509.Subtree, ...], others: Any) -> None:
@@ -116,6 +129,12 @@ def compare_list(own: Any, other: Any) -> None:
             compare_names((it.location,), (item.access_location,))
         elif isinstance(it, GeneralName):
             compare_names((it,), (item,))
+        elif isinstance(it, int):
+            assert it == item.value
+        elif isinstance(it, bytes):
+            # RFC 6962 3.2: the version, the identifier of the log, and milliseconds since 1970
+            since = (item.timestamp - datetime.datetime(1970, 1, 1)) // datetime.timedelta(milliseconds=1)
+            assert it[:41] == b"\0" + item.log_id + since.to_bytes(8, "big")
         else:
             assert str(it) == item.dotted_string
 
@@ -123,6 +142,9 @@ def compare_list(own: Any, other: Any) -> None:
 def compare_with_cryptography(extension: Optional[Extension], other: Any) -> bool:
     """Compares a value with that of cryptography, if it is of a type that both read."""
     assert extension is not None
+    others = pytest.importorskip("cryptography.x509")
+    if isinstance(other, others.UnrecognizedExtension):
+        return False
     identifier = str(extension.identifier)
     if identifier == "2.5.29.15" and extension.octets.endswith(b"\0"):
         return False  # by DER the last bit isn't 0 (X.690 11.2.2)
@@ -139,6 +161,17 @@ def compare_with_cryptography(extension: Optional[Extension], other: Any) -> boo
         compare_subtrees(value.excluded, other.excluded_subtrees)
     elif isinstance(value, x509.RevocationReason):
         assert value.name.lower() == other.reason.name
+    elif isinstance(value, x509.PolicyConstraints):
+        numbers = (value.require_explicit_policy, value.inhibit_policy_mapping)
+        assert numbers == (other.require_explicit_policy, other.inhibit_policy_mapping)
+    elif isinstance(value, x509.IssuingDistributionPoint):
+        compare_issuing_point(value, other)
+    elif isinstance(value, int):
+        assert value == (other.skip_certs if identifier == "2.5.29.54" else other.crl_number)
+    elif isinstance(value, datetime.datetime):
+        assert value.replace(tzinfo=None) == other.invalidity_date
+    elif value is None:
+        assert isinstance(other, (others.OCSPNoCheck, others.PrecertPoison))
     elif identifier == "2.5.29.14":
         assert value == other.digest
     elif isinstance(value, tuple):
@@ -169,6 +202,74 @@ def test_lists_in_extensions(tmp_path: Path) -> None:
     first, second = value_of(it, "2.5.29.32")
     assert (str(first.identifier), first.qualifiers) == ("1.2.3", ())
     assert (str(second.identifier), len(second.qualifiers)) == ("1.2.4", 3)
+    assert {"2.5.29.36", "2.5.29.54", "1.3.6.1.5.5.7.1.24", "1.3.6.1.5.5.7.48.1.5"} <= set(compared)
+    assert not it.has_unknown_critical
+
+
+def test_extensions_of_a_list() -> None:
+    """A list of revoked certificates that cryptography makes."""
+    others = pytest.importorskip("cryptography.x509", reason="there is no cryptography")
+    ed25519 = pytest.importorskip("cryptography.hazmat.primitives.asymmetric.ed25519")
+    serialization = pytest.importorskip("cryptography.hazmat.primitives.serialization")
+    begin = datetime.datetime(2026, 1, 2, 3, 4, 5)
+    name = others.Name([others.NameAttribute(others.NameOID.COMMON_NAME, "an issuer")])
+    link = others.UniformResourceIdentifier("http://l.org/")
+    reasons = frozenset([others.ReasonFlags.key_compromise, others.ReasonFlags.ca_compromise])
+    issuing = others.IssuingDistributionPoint([link], None, False, False, reasons, True, False)
+    values = [
+        others.CRLNumber(2**159 - 1),
+        others.DeltaCRLIndicator(128),
+        issuing,
+        others.FreshestCRL([others.DistributionPoint([link], None, None, None)]),
+        others.IssuerAlternativeName([others.DNSName("i.org")]),
+    ]
+    of_entry = [others.InvalidityDate(begin), others.CertificateIssuer([others.DirectoryName(name)])]
+    made = others.CertificateRevocationListBuilder().issuer_name(name).last_update(begin).next_update(begin)
+    for value in values:
+        made = made.add_extension(value, critical=value is issuing)
+    entry = others.RevokedCertificateBuilder().serial_number(5).revocation_date(begin)
+    for value in of_entry:
+        entry = entry.add_extension(value, critical=True)
+    made = made.add_revoked_certificate(entry.build())
+    octets = made.sign(ed25519.Ed25519PrivateKey.generate(), None).public_bytes(serialization.Encoding.DER)
+    it = x509.CertificateList.from_der(octets)
+    assert it.revoked_certificates is not None
+    (revoked,) = it.revoked_certificates
+    assert not it.has_unknown_critical and not revoked.has_unknown_critical
+    for value in values:
+        assert compare_with_cryptography(it.extension(value.oid.dotted_string), value)
+    for value in of_entry:
+        assert compare_with_cryptography(revoked.extension(value.oid.dotted_string), value)
+    number = it.extension("2.5.29.20")
+    assert number is not None and number.value == 2**159 - 1
+
+
+def test_unknown_critical(tmp_path: Path) -> None:
+    for identifier, unknown in [("2.5.29.99", True), ("1.3.6.1.4.1.11129.2.4.3", False)]:
+        words = ["-subj", "/CN=a", "-addext", f"{identifier}=critical,DER:05:00"]
+        assert Certificate.from_der(made(tmp_path, *words)).has_unknown_critical == unknown
+    assert not Certificate.from_der(made(tmp_path, "-subj", "/CN=a", "-addext", "1.2.3=DER:05:00")).has_unknown_critical
+
+
+def test_attributes_of_a_subject(tmp_path: Path) -> None:
+    """Attributes, statements and a register (RFC 5280 4.2.1.8, RFC 3739 3.2.6, EV Guidelines 9.8.2), in the octets of
+    the library's rows."""
+    words = {
+        "2.5.29.9": "30 16 30 14 06 08 2b 06 01 05 05 07 09 04 31 08 13 02 44 45 13 02 46 52",
+        "1.3.6.1.5.5.7.1.3": "30 17 30 08 06 06 04 00 8e 46 01 01 30 0b 06 06 04 00 8e 46 01 03 02 01 0a",
+        "2.23.140.3.1": "30 10 13 03 4e 54 52 13 02 55 53 80 02 43 41 0c 01 31",
+    }
+    options = [word for name, it in words.items() for word in ("-addext", f"{name}=DER:{it.replace(' ', ':')}")]
+    it = Certificate.from_der(made(tmp_path, "-subj", "/CN=a", *options))
+    (attribute,) = value_of(it, "2.5.29.9")
+    assert str(attribute.identifier) == "1.3.6.1.5.5.7.9.4"  # countryOfCitizenship (RFC 3739 3.2.2)
+    with Reader(attribute.values) as reader:
+        assert [reader.printable_string(), reader.printable_string()] == ["DE", "FR"]
+    compliance, years = value_of(it, "1.3.6.1.5.5.7.1.3")
+    assert (str(compliance.identifier), compliance.info) == ("0.4.0.1862.1.1", None)
+    assert (str(years.identifier), years.info) == ("0.4.0.1862.1.3", x509.AnyElement(Tag.INTEGER, False, b"\x0a"))
+    assert value_of(it, "2.23.140.3.1") == x509.OrganizationIdentifier("NTR", "US", "CA", "1")
+    assert hash((attribute, compliance, years))
 
 
 def value_of(it: Certificate, identifier: str) -> Any:
@@ -217,15 +318,30 @@ READS: Dict[str, Callable[[bytes], Any]] = {
     "authority_key_identifier": _extensions.read_authority_key_identifier,
     "basic_constraints": _extensions.read_basic_constraints,
     "certificate_policies": _extensions.read_policies,
+    "crl_number": _extensions.read_crl_number,
     "crl_distribution_points": _extensions.read_distribution_points,
     "extended_key_usage": _extensions.read_purposes,
     "general_names": _extensions.read_general_names,
     "information_access": _extensions.read_information_access,
+    "inhibit_any_policy": _extensions.read_inhibit_any_policy,
+    "invalidity_date": _extensions.read_invalidity_date,
+    "issuing_distribution_point": _extensions.read_issuing_distribution_point,
     "key_usage": _extensions.read_key_usage,
     "name_constraints": _extensions.read_name_constraints,
+    "ocsp_no_check": _extensions.read_null,
+    "organization_identifier": _extensions.read_organization_identifier,
+    "policy_constraints": _extensions.read_policy_constraints,
+    "policy_mappings": _extensions.read_policy_mappings,
+    "qc_statements": _extensions.read_qc_statements,
     "reason_code": _extensions.read_reason,
+    "signed_certificate_timestamps": _extensions.read_timestamps,
+    "subject_directory_attributes": _extensions.read_directory_attributes,
     "subject_key_identifier": _extensions.read_subject_key_identifier,
+    "tls_features": _extensions.read_tls_features,
 }
+
+# Rows of these have the encodings of parts, which a value doesn't have.
+OTHER_WORDS = ("authority_key_identifier", "general_names", "issuing_distribution_point", "name_constraints")
 
 
 def words_of(value: Any) -> List[str]:
@@ -240,11 +356,34 @@ def words_of(value: Any) -> List[str]:
         length = "" if value.path_length is None else f" path {value.path_length}"
         return [f"ca {str(value.ca).lower()}{length}"]
     if isinstance(value, tuple):
-        return [f"{len(value)} values", " ".join(map(word_of_item, value))]
-    return []
+        words = " ".join(map(word_of_item, value))
+        return [f"{len(value)} values", words, f"features {words}".strip(), f"statements {words}".strip()]
+    if isinstance(value, x509.PolicyConstraints):
+        explicit = "" if value.require_explicit_policy is None else f" explicit {value.require_explicit_policy}"
+        mapping = "" if value.inhibit_policy_mapping is None else f" mapping {value.inhibit_policy_mapping}"
+        return [f"constraints{explicit}{mapping}"]
+    if isinstance(value, x509.OrganizationIdentifier):
+        state = "" if value.state_or_province is None else f" state {value.state_or_province}"
+        return [f"{value.scheme} {value.country}{state} {value.reference}"]
+    if isinstance(value, datetime.datetime):
+        return [value.strftime("%Y%m%d%H%M%SZ")]
+    if isinstance(value, int):
+        return [str(value), value.to_bytes(value.bit_length() // 8 + 1, "big").hex(" ")]
+    return ["null"] if value is None else []
 
 
 def word_of_item(it: object) -> str:
+    if isinstance(it, x509.PolicyMapping):
+        return f"{it.issuer_policy.content.hex(' ')} is {it.subject_policy.content.hex(' ')}"
+    if isinstance(it, x509.DirectoryAttribute):
+        values = [f"value {bytes(node.content).hex(' ')}" for node in Reader(it.values)]
+        return " ".join([it.identifier.content.hex(" "), *values])
+    if isinstance(it, x509.QcStatement):
+        return it.identifier.content.hex(" ") + ("" if it.info is None else f" info {it.info.content.hex(' ')}")
+    if isinstance(it, bytes):
+        return f"timestamp {it.hex(' ')}"
+    if isinstance(it, int):
+        return str(it)
     if not isinstance(it, x509.DistributionPoint):
         return ""
     numbers = [str(at) for at, bit in enumerate(it.reasons or ()) if bit]
@@ -258,8 +397,7 @@ def test_rows(call: str) -> None:
         try:
             words = words_of(READS[call](octets))
             assert " at " not in f" {row.expected}", row
-            # Rows have octets of other values.
-            assert row.expected in words or call in ("authority_key_identifier", "general_names", "name_constraints")
+            assert row.expected in words or call in OTHER_WORDS, (row, words)
         except CertificateError as error:
             assert row.expected.replace("refused ", "").startswith(str(error)), (row, str(error))
         compared += 1

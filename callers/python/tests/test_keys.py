@@ -10,7 +10,17 @@ from conftest import DATA, inputs_of, openssl
 from test_x509 import damaged
 
 from dumarewhi import BitString, ObjectIdentifier, Reader, Rule, Tag, parse_der, pem
-from dumarewhi.x509 import AnyElement, CertificateError, Field, PrivateKey, RsaPrivateKey
+from dumarewhi.x509 import (
+    AnyElement,
+    CertificateError,
+    EcPrivateKey,
+    EncryptedPrivateKey,
+    Field,
+    PrivateKey,
+    RsaPrivateKey,
+    RsaPublicKey,
+    SubjectPublicKeyInfo,
+)
 
 PKCS8 = ["pkcs8", "-topk8", "-outform", "DER"]
 RSA = ["-algorithm", "RSA", "-pkeyopt", "rsa_keygen_bits:2048"]
@@ -55,7 +65,7 @@ def test_rsa() -> None:
 
 
 def test_elliptic_curve() -> None:
-    """An ECPrivateKey (SEC 1, RFC 5915 3), which is read field after field."""
+    """An ECPrivateKey (SEC 1, RFC 5915 3), also field after field."""
     octets = plain(generated(*P_256))
     key = PrivateKey.from_der(octets)
     assert (key.version, str(key.algorithm)) == (0, "1.2.840.10045.2.1")
@@ -71,6 +81,44 @@ def test_elliptic_curve() -> None:
     assert point == BitString(b"\4" + public.x.to_bytes(32, "big") + public.y.to_bytes(32, "big"))
     with pytest.raises(CertificateError):
         RsaPrivateKey.from_der(key.private_key)
+    inside = EcPrivateKey.from_der(key.private_key)
+    assert (inside.version, inside.private_key, inside.public_key) == (1, secret, point)
+    assert inside.parameters is None and repr(inside) == "<EcPrivateKey of 32 octets>"
+
+
+def test_elliptic_curve_in_a_file_of_its_own() -> None:
+    """A file EC PRIVATE KEY, which has the curve too."""
+    text = generated(*P_256)
+    octets = openssl("ec", "-outform", "DER", octets=text)
+    it = EcPrivateKey.from_der(octets)
+    inside = EcPrivateKey.from_der(PrivateKey.from_der(plain(text)).private_key)
+    assert (it.private_key, it.public_key) == (inside.private_key, inside.public_key)
+    assert it.parameters is not None and it.parameters.tag == Tag.OBJECT_IDENTIFIER
+    assert str(ObjectIdentifier.from_content(it.parameters.content)) == "1.2.840.10045.3.1.7"
+    with pytest.raises(CertificateError) as caught:
+        EcPrivateKey.from_der(octets.replace(b"\2\1\1", b"\2\1\2", 1))
+    assert caught.value.field == Field.EC_VERSION and str(caught.value) == "version at 2: wrong value"
+
+
+def test_public_keys() -> None:
+    """Public keys of RSA and of a curve, as openssl writes them and cryptography reads."""
+    serialization = pytest.importorskip("cryptography.hazmat.primitives.serialization")
+    octets = openssl("pkey", "-pubout", "-outform", "DER", octets=generated(*RSA))
+    key = SubjectPublicKeyInfo.from_der(octets)
+    assert (str(key.algorithm), key.parameters) == ("1.2.840.113549.1.1.1", AnyElement(Tag.NULL, False, b""))
+    numbers = serialization.load_der_public_key(octets).public_numbers()
+    assert RsaPublicKey.from_der(bytes(key.public_key)) == RsaPublicKey(numbers.n, numbers.e)
+    octets = openssl("pkey", "-pubout", "-outform", "DER", octets=generated(*P_256))
+    key = SubjectPublicKeyInfo.from_der(octets)
+    numbers = serialization.load_der_public_key(octets).public_numbers()
+    assert bytes(key.public_key) == b"\4" + numbers.x.to_bytes(32, "big") + numbers.y.to_bytes(32, "big")
+    assert key.parameters is not None and hash(key) == hash(SubjectPublicKeyInfo.from_der(bytearray(octets)))
+    with pytest.raises(CertificateError) as caught:
+        RsaPublicKey.from_der(bytes(key.public_key))
+    assert caught.value.field == Field.PUBLIC_RSA_KEY
+    with pytest.raises(CertificateError) as caught:
+        SubjectPublicKeyInfo.from_der(octets + b"\0")
+    assert (caught.value.field, caught.value.offset) == (Field.PUBLIC_KEY, len(octets))
 
 
 @pytest.mark.parametrize("name, identifier", [("ED25519", "1.3.101.112"), ("X448", "1.3.101.111")])
@@ -123,6 +171,14 @@ def test_encrypted() -> None:
     error = caught.value
     assert (error.field, error.incomplete) == (Field.KEY_VERSION, False) and error.rule == Rule.UNEXPECTED_TAG
     assert str(error).startswith("version at ")
+    key = EncryptedPrivateKey.from_der(octets)
+    assert str(key.algorithm) == "1.2.840.113549.1.5.13"  # PBES2 (RFC 8018 A.4)
+    assert key.parameters is not None and key.parameters.tag == Tag.SEQUENCE
+    printed = openssl("asn1parse", "-inform", "DER", octets=octets).decode()
+    assert f":d=1 " in printed and f"[HEX DUMP]:{key.encrypted_data.hex().upper()}\n" in printed
+    with pytest.raises(CertificateError) as caught:
+        EncryptedPrivateKey.from_der(plain(text))
+    assert caught.value.field == Field.ENCRYPTED_ALGORITHM
 
 
 def test_cut_keys() -> None:

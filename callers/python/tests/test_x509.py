@@ -15,8 +15,10 @@ from conftest import DATA, REPOSITORY, TESTS, certificates, inputs_of, octets_of
 from test_extensions import compare_with_cryptography
 
 from dumarewhi import BitString, DerError, ObjectIdentifier, Rule, Tag, Writer, named
-from dumarewhi import x509
+from dumarewhi import _certificate_calls as _calls
+from dumarewhi import _parts, x509
 from dumarewhi._extensions import read_general_names
+from dumarewhi._library import TimeStruct
 from dumarewhi.x509 import (
     Attribute,
     Certificate,
@@ -36,14 +38,26 @@ IDENTIFIERS = {
     "authority_key_identifier": ["2.5.29.35"],
     "basic_constraints": ["2.5.29.19"],
     "certificate_policies": ["2.5.29.32"],
+    "crl_number": ["2.5.29.20", "2.5.29.27"],
     "crl_distribution_points": ["2.5.29.31", "2.5.29.46"],
     "extended_key_usage": ["2.5.29.37"],
-    "general_names": ["2.5.29.17", "2.5.29.18"],
+    "general_names": ["2.5.29.17", "2.5.29.18", "2.5.29.29"],
     "information_access": ["1.3.6.1.5.5.7.1.1", "1.3.6.1.5.5.7.1.11"],
+    "inhibit_any_policy": ["2.5.29.54"],
+    "invalidity_date": ["2.5.29.24"],
+    "issuing_distribution_point": ["2.5.29.28"],
     "key_usage": ["2.5.29.15"],
     "name_constraints": ["2.5.29.30"],
+    "ocsp_no_check": ["1.3.6.1.5.5.7.48.1.5", "1.3.6.1.4.1.11129.2.4.3"],
+    "organization_identifier": ["2.23.140.3.1"],
+    "policy_constraints": ["2.5.29.36"],
+    "policy_mappings": ["2.5.29.33"],
+    "qc_statements": ["1.3.6.1.5.5.7.1.3"],
     "reason_code": ["2.5.29.21"],
+    "signed_certificate_timestamps": ["1.3.6.1.4.1.11129.2.4.2"],
+    "subject_directory_attributes": ["2.5.29.9"],
     "subject_key_identifier": ["2.5.29.14"],
+    "tls_features": ["1.3.6.1.5.5.7.1.24"],
 }
 
 
@@ -180,6 +194,9 @@ def shown_value(extension: Extension) -> List[str]:
         value = extension.value
     except CertificateError as error:
         return [shown_error(error)]
+    except DerError:
+        # A date that isn't in the calendar.
+        return [shown_time(_parts.moment_of(_parts.read(_calls.read_invalidity_date, TimeStruct(), extension.octets)))]
     if isinstance(value, x509.BasicConstraints):
         return [f"ca {int(value.ca)}", *([] if value.path_length is None else [str(value.path_length)])]
     if isinstance(value, x509.KeyUsage):
@@ -200,7 +217,43 @@ def shown_value(extension: Extension) -> List[str]:
         return [f"reason {int(value)}"]
     if isinstance(value, bytes):
         return [shown(value)]
+    if not isinstance(value, tuple):
+        return shown_further(extension, value)
+    if str(extension.identifier) in TITLES:
+        return [TITLES[str(extension.identifier)], *(word for it in value for word in shown_item(it))]
     return [word for it in value for word in shown_item(it)]
+
+
+# The words before the items of lists that may be empty.
+TITLES = {"1.3.6.1.5.5.7.1.24": "features", "1.3.6.1.5.5.7.1.3": "statements"}
+
+
+def shown_further(extension: Extension, value: object) -> List[str]:
+    """A value of the further extensions that is no list."""
+    if isinstance(value, x509.PolicyConstraints):
+        words = ["constraints"]
+        words += [] if value.require_explicit_policy is None else [f"explicit {value.require_explicit_policy}"]
+        return words + ([] if value.inhibit_policy_mapping is None else [f"mapping {value.inhibit_policy_mapping}"])
+    if isinstance(value, x509.IssuingDistributionPoint):
+        flags = (
+            value.only_contains_user_certs,
+            value.only_contains_ca_certs,
+            value.indirect_crl,
+            value.only_contains_attribute_certs,
+        )
+        names = map(shown_general_name, value.full_name)
+        parts = [shown_attributes(value.relative_name), shown_bits(value.reasons)]
+        return ["issuing", *names, *parts, "".join(str(int(flag)) for flag in flags)]
+    if isinstance(value, x509.OrganizationIdentifier):
+        state = [] if value.state_or_province is None else ["of", shown(value.state_or_province.encode())]
+        texts = [shown(text.encode()) for text in (value.scheme, value.country, value.reference)]
+        return ["organization", *texts[:2], *state, texts[2]]
+    if isinstance(value, datetime.datetime):
+        return [shown_time((*value.timetuple()[:6], value.microsecond))]
+    if isinstance(value, int):
+        return [f"any {value}" if str(extension.identifier) == "2.5.29.54" else shown(number_octets(value))]
+    assert value is None
+    return ["null"]
 
 
 def shown_item(it: object) -> List[str]:
@@ -219,6 +272,17 @@ def shown_item(it: object) -> List[str]:
         return ["point", *names, shown_attributes(it.relative_name), shown_bits(it.reasons), "of", *issuers]
     if isinstance(it, x509.AccessDescription):
         return [f"access {shown_identifier(it.method)}", shown_general_name(it.location)]
+    if isinstance(it, x509.PolicyMapping):
+        return ["mapping", shown_identifier(it.issuer_policy), shown_identifier(it.subject_policy)]
+    if isinstance(it, x509.DirectoryAttribute):
+        return ["attribute", shown_identifier(it.identifier), shown(it.values)]
+    if isinstance(it, x509.QcStatement):
+        info = [] if it.info is None else [shown_tag(it.info.tag), shown(it.info.content)]
+        return [shown_identifier(it.identifier), *info]
+    if isinstance(it, bytes):
+        return [f"timestamp {shown(it)}"]
+    if isinstance(it, int):
+        return [str(it)]
     assert isinstance(it, ObjectIdentifier)
     return [shown_identifier(it)]
 
@@ -245,7 +309,7 @@ def line_of(octets: bytes, strict: bool) -> str:
     for extension in it.extensions:
         words += [f"extension {shown_identifier(extension.identifier)} {int(extension.critical)}"]
         words += shown_value(extension)
-    return " ".join(words)
+    return " ".join([*words, f"unknown {int(it.has_unknown_critical)}"])
 
 
 def test_same_as_c(compiled: Callable[[Path], Path], tmp_path: Path) -> None:

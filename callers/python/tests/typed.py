@@ -83,6 +83,26 @@ def keys(text: str) -> List[Tuple[str, int, Optional[bytes]]]:
     return found
 
 
+def of_lists(octets: bytes) -> Tuple[int, List[str]]:
+    it = x509.CertificateList.from_der(octets)
+    found = it.extension("2.5.29.20")
+    value: x509.ExtensionValue = 0 if found is None else found.value
+    assert isinstance(value, int) and not it.has_unknown_critical
+    texts: List[str] = []
+    point = it.extension("2.5.29.28")
+    if point is not None and isinstance(point.value, x509.IssuingDistributionPoint):
+        texts += [name.value for name in point.value.full_name if isinstance(name.value, str)]
+    return value, texts
+
+
+def public(octets: bytes) -> Tuple[int, int, Optional[bytes]]:
+    key = x509.SubjectPublicKeyInfo.from_der(octets)
+    rsa = x509.RsaPublicKey.from_der(bytes(key.public_key))
+    curve: x509.EcPrivateKey = x509.EcPrivateKey.from_der(octets)
+    encrypted: bytes = x509.EncryptedPrivateKey.from_der(octets).encrypted_data
+    return rsa.modulus, rsa.public_exponent, encrypted if curve.parameters is None else curve.parameters.content
+
+
 def reasons(octets: memoryview) -> List[x509.RevocationReason]:
     entries = x509.CertificateList.from_der(octets).revoked_certificates or ()
     return [entry.reason for entry in entries if entry.reason is not None]

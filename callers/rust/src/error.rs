@@ -311,30 +311,15 @@ pub(crate) fn with_text<const N: usize, T>(
 ) -> Option<T> {
     let mut short = [0; N];
     let length = write(&mut short)?;
-    match short.get(..length) {
-        Some(text) => core::str::from_utf8(text).ok().map(function),
-        None => with_long_text(length, write, function),
+    if let Some(text) = short.get(..length) {
+        return core::str::from_utf8(text).ok().map(function);
     }
-}
-
-#[cfg(feature = "alloc")]
-fn with_long_text<T>(
-    length: usize,
-    write: impl Fn(&mut [u8]) -> Option<usize>,
-    function: impl FnOnce(&str) -> T,
-) -> Option<T> {
-    let mut text = alloc::vec![0; length];
-    write(&mut text)?;
-    core::str::from_utf8(&text).ok().map(function)
-}
-
-#[cfg(not(feature = "alloc"))]
-fn with_long_text<T>(
-    _: usize,
-    _: impl Fn(&mut [u8]) -> Option<usize>,
-    _: impl FnOnce(&str) -> T,
-) -> Option<T> {
-    None
+    #[cfg(feature = "alloc")]
+    let mut long = alloc::vec![0; length];
+    #[cfg(not(feature = "alloc"))]
+    let mut long = [];
+    write(&mut long)?;
+    core::str::from_utf8(long.get(..length)?).ok().map(function)
 }
 
 /// Shows the text of an error that is written to a slice.

@@ -163,6 +163,13 @@ impl<'a> From<Octets<'a>> for &'a [u8] {
     }
 }
 
+/// Of a string type that the library has read: its octets are UTF-8.
+impl<'a> From<Octets<'a>> for &'a str {
+    fn from(octets: Octets<'a>) -> &'a str {
+        core::str::from_utf8(octets.get()).unwrap_or_default()
+    }
+}
+
 pub(crate) const MAX_DEPTH: usize = 101;
 pub(crate) const ZONE_LOCAL: u8 = 0;
 pub(crate) const ZONE_UTC: u8 = 1;
@@ -190,10 +197,8 @@ extern "C" {
 /// Lists the first element and those inside it: as many as there is room for.
 fn list_at(der: bool, i: &[u8], depth: usize, elements: *mut Element, room: usize) -> Outcome {
     let call = if der { dm_parse_der } else { dm_parse_ber };
-    let mut outcome = Outcome::default();
     // SAFETY: see above. There is room for so many elements, and the callee only writes there.
-    unsafe { call(i.as_ptr(), i.len(), depth, elements, room, &mut outcome) };
-    outcome
+    written(|to| unsafe { call(i.as_ptr(), i.len(), depth, elements, room, to) }).0
 }
 
 /// Lists the first element and those inside it in a slice.
@@ -217,27 +222,23 @@ pub(crate) fn list_in_vec(der: bool, input: &[u8], max_depth: usize, elements: &
 /// Checks the first element and counts those inside it.
 pub(crate) fn check(der: bool, input: &[u8], max_depth: usize) -> Outcome {
     let call = if der { dm_check_der } else { dm_check_ber };
-    let mut outcome = Outcome::default();
     // SAFETY: see above.
-    unsafe { call(input.as_ptr(), input.len(), max_depth, &mut outcome) };
-    outcome
+    written(|to| unsafe { call(input.as_ptr(), input.len(), max_depth, to) }).0
 }
 
 /// Finds the first element by its header.
 pub(crate) fn first(der: bool, input: &[u8]) -> (Outcome, Element) {
     let call = if der { dm_first_der } else { dm_first_ber };
-    let (mut outcome, mut element) = (Outcome::default(), Element::default());
+    let mut element = Element::default();
     // SAFETY: see above.
-    unsafe { call(input.as_ptr(), input.len(), &mut element, &mut outcome) };
+    let (outcome, _) = written(|to| unsafe { call(input.as_ptr(), input.len(), &mut element, to) });
     (outcome, element)
 }
 
 /// Writes the elements of the input to a slice as DER writes them.
 pub(crate) fn write_der(i: &[u8], out: &mut [u8]) -> Outcome {
-    let mut outcome = Outcome::default();
     // SAFETY: see above.
-    unsafe { dm_write_der(i.as_ptr(), i.len(), out.as_mut_ptr(), out.len(), &mut outcome) };
-    outcome
+    written(|to| unsafe { dm_write_der(i.as_ptr(), i.len(), out.as_mut_ptr(), out.len(), to) }).0
 }
 
 // Each of these writes a text to a slice, and returns the length of the whole text.
@@ -259,20 +260,16 @@ pub(crate) fn name_text(name: &[u8], text: &mut [u8]) -> usize {
 
 /// The dotted text of an identifier, or the number of an error.
 pub(crate) fn read_oid(i: &[u8], text: &mut [u8]) -> Result<usize, u32> {
-    let mut needed = 0;
     // SAFETY: see above.
-    let error = unsafe { dm_read_oid(i.as_ptr(), i.len(), text.as_mut_ptr(), text.len(), &mut needed) };
-    value_or(error, needed)
+    value_or_error(|to| unsafe { dm_read_oid(i.as_ptr(), i.len(), text.as_mut_ptr(), text.len(), to) })
 }
 
 /// The number that content octets spell, or the number of an error.
 macro_rules! numbers {
     ($($name:ident: $call:ident, $type:ty;)*) => {
         $(pub(crate) fn $name(content: &[u8]) -> Result<$type, u32> {
-            let mut value = 0;
             // SAFETY: see above.
-            let error = unsafe { $call(content.as_ptr(), content.len(), &mut value) };
-            value_or(error, value)
+            value_or_error(|to| unsafe { $call(content.as_ptr(), content.len(), to) })
         })*
     };
 }
@@ -285,21 +282,35 @@ numbers! {
 /// Whether content octets are a text of a string type, or the number of an error.
 pub(crate) fn check_text(number: u32, content: &[u8]) -> Result<(), u32> {
     // SAFETY: see above.
-    let error = unsafe { dm_check_text(number, content.as_ptr(), content.len()) };
-    value_or(error, ())
+    value_or_error(|_: *mut ()| unsafe { dm_check_text(number, content.as_ptr(), content.len()) })
 }
 
 pub(crate) fn sha256(input: &[u8]) -> [u8; 32] {
-    let mut digest = Digest::default();
     // SAFETY: see above.
-    unsafe { dm_sha256(input.as_ptr(), input.len(), &mut digest) };
+    let (digest, ()) = written(|to| unsafe { dm_sha256(input.as_ptr(), input.len(), to) });
     digest.octets
 }
 
-fn value_or<T>(error: u32, value: T) -> Result<T, u32> {
-    match error {
-        0 => Ok(value),
-        error => Err(error),
+/// What a call writes, and what it returns.
+fn written<T: Default, R>(call: impl FnOnce(*mut T) -> R) -> (T, R) {
+    let mut value = T::default();
+    let returned = call(&mut value);
+    (value, returned)
+}
+
+/// What a call writes, or the number of an error that it returns.
+fn value_or_error<T: Default>(call: impl FnOnce(*mut T) -> u32) -> Result<T, u32> {
+    match written(call) {
+        (value, 0) => Ok(value),
+        (_, error) => Err(error),
+    }
+}
+
+/// What a call writes, or its fault.
+fn value_or_fault<T: Default>(call: impl FnOnce(*mut T, *mut Fault) -> u32) -> Result<T, Fault> {
+    match written(|to| written(|fault| call(to, fault))) {
+        (value, (_, OK)) => Ok(value),
+        (_, (fault, _)) => Err(fault),
     }
 }
 

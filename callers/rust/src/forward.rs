@@ -8,6 +8,17 @@ macro_rules! forward {
             }
         })*
     };
+    ($(#[$doc:meta])* IntoIterator by $call:ident for [$($lifetime:lifetime),*] $type:ty as $iter:ty) => {
+        $(#[$doc])*
+        impl<$($lifetime),*> IntoIterator for $type {
+            type Item = <$iter as Iterator>::Item;
+            type IntoIter = $iter;
+
+            fn into_iter(self) -> $iter {
+                self.$call()
+            }
+        }
+    };
     (AsRef by $call:ident for $type:ty) => {
         #[doc = concat!("As `", stringify!($call), "`.")]
         impl AsRef<[u8]> for $type {

@@ -21,6 +21,7 @@
 //! | check, list or count without allocating | [`check_der`], [`list_der`], [`Rules`] |
 //! | read one element | [`Any`] |
 //! | read certificates | [`x509::Certificate`] |
+//! | read lists of revoked certificates, requests, keys | [`x509`] |
 //! | read and write types of your own | [`Decode`], [`Encode`] |
 //! | write DER, element after element | [`Writer`], [`to_vec`] |
 //! | write BER as DER | [`write_der`], [`to_der`] |

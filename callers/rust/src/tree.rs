@@ -75,14 +75,9 @@ impl<'a> Tree<'a> {
 
 forward!(TryFrom by parse_der for Tree, Error);
 
-/// All elements in preorder, as [`Tree::nodes`].
-impl<'t, 'a> IntoIterator for &'t Tree<'a> {
-    type Item = Node<'t, 'a>;
-    type IntoIter = Descendants<'t, 'a>;
-
-    fn into_iter(self) -> Descendants<'t, 'a> {
-        self.nodes()
-    }
+forward! {
+    /// All elements in preorder, as [`Tree::nodes`].
+    IntoIterator by nodes for ['t, 'a] &'t Tree<'a> as Descendants<'t, 'a>
 }
 
 impl fmt::Debug for Tree<'_> {
@@ -228,14 +223,9 @@ impl<'t, 'a> Node<'t, 'a> {
     }
 }
 
-/// The elements directly inside it, as [`Node::children`].
-impl<'t, 'a> IntoIterator for Node<'t, 'a> {
-    type Item = Node<'t, 'a>;
-    type IntoIter = Children<'t, 'a>;
-
-    fn into_iter(self) -> Children<'t, 'a> {
-        self.children()
-    }
+forward! {
+    /// The elements directly inside it, as [`Node::children`].
+    IntoIterator by children for ['t, 'a] Node<'t, 'a> as Children<'t, 'a>
 }
 
 impl fmt::Debug for Node<'_, '_> {

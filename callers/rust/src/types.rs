@@ -161,11 +161,9 @@ macro_rules! decodes {
     };
 }
 
-/// Such types, and how they are written.
-macro_rules! types {
-    ($($(#[$meta:meta])* $type:ty: $tag:ident, |$r:ident| $read:expr, |$w:ident, $it:ident| $write:expr;)*) => {
-        $(decodes! { $(#[$meta])* $type: $tag, |$r| $read }
-
+/// A type, and how it is written.
+macro_rules! encodes {
+    ($(#[$meta:meta])* $type:ty: |$w:ident, $it:ident| $write:expr) => {
         $(#[$meta])*
         #[allow(clippy::needless_lifetimes)]
         impl<'a> Encode for $type {
@@ -174,7 +172,15 @@ macro_rules! types {
                 $write;
                 Ok(())
             }
-        })*
+        }
+    };
+}
+
+/// Types that have one tag, and how they are read and written.
+macro_rules! types {
+    ($($(#[$meta:meta])* $type:ty: $tag:ident, |$r:ident| $read:expr, |$w:ident, $it:ident| $write:expr;)*) => {
+        $(decodes! { $(#[$meta])* $type: $tag, |$r| $read }
+        encodes! { $(#[$meta])* $type: |$w, $it| $write })*
     };
 }
 
@@ -220,12 +226,9 @@ decodes! {
     &'a [u8]: OCTET_STRING, |r| r.octet_string()
 }
 
-/// An OCTET STRING.
-impl Encode for [u8] {
-    fn encode(&self, w: &mut Writer<'_>) -> Result<()> {
-        w.octet_string(self);
-        Ok(())
-    }
+encodes! {
+    /// An OCTET STRING.
+    [u8]: |w, it| w.octet_string(it)
 }
 
 decodes! {
@@ -233,12 +236,9 @@ decodes! {
     &'a str: UTF8_STRING, |r| r.utf8_string()
 }
 
-/// A UTF8String.
-impl Encode for str {
-    fn encode(&self, w: &mut Writer<'_>) -> Result<()> {
-        w.utf8_string(self);
-        Ok(())
-    }
+encodes! {
+    /// A UTF8String.
+    str: |w, it| w.utf8_string(it)
 }
 
 /// A UTCTime or a GeneralizedTime.
@@ -273,14 +273,12 @@ impl<'a> Decode<'a> for Any<'a> {
     }
 }
 
-/// An element that was read by DER, as it is. One that was read by BER stays in BER: [`write_der`] writes it as DER.
-///
-/// [`write_der`]: crate::write_der
-impl Encode for Any<'_> {
-    fn encode(&self, w: &mut Writer<'_>) -> Result<()> {
-        w.elements(self.octets());
-        Ok(())
-    }
+encodes! {
+    /// An element that was read by DER, as it is. One that was read by BER stays in BER: [`write_der`] writes it as
+    /// DER.
+    ///
+    /// [`write_der`]: crate::write_der
+    Any<'a>: |w, it| w.elements(it.octets())
 }
 
 /// The value, or nothing: an OPTIONAL field.

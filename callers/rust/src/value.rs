@@ -198,14 +198,7 @@ impl<'a> From<BitsFields<'a>> for Option<BitString<'a>> {
     }
 }
 
-impl<'a> IntoIterator for BitString<'a> {
-    type Item = bool;
-    type IntoIter = Bits<'a>;
-
-    fn into_iter(self) -> Bits<'a> {
-        self.iter()
-    }
-}
+forward!(IntoIterator by iter for ['a] BitString<'a> as Bits<'a>);
 
 /// The bits of a [`BitString`].
 #[derive(Clone, Debug)]

@@ -1,5 +1,5 @@
-//! Certificates, lists of revoked ones (RFC 5280), requests (RFC 2986) and private keys (RFC 5958), by calls that are
-//! proved.
+//! Certificates, lists of revoked ones (RFC 5280), requests (RFC 2986) and keys (RFC 5958, RFC 5915, RFC 8017), by
+//! calls that are proved.
 //!
 //! ```no_run
 //! use dumarewhi::x509::{Certificate, GeneralName, Value};
@@ -29,20 +29,13 @@ mod request;
 mod values;
 
 pub use crate::Error;
-pub use extension::{
-    AuthorityKeyIdentifier, BasicConstraints, Extension, Extensions, ExtensionsIter, GeneralName,
-    GeneralNames, GeneralNamesIter, KeyPurposes, KeyPurposesIter, KeyUsage, Value,
-};
+pub use extension::*;
 pub use field::Field;
-pub use key::{PrivateKey, RsaPrivateKey};
-pub use list::{CertificateList, RevokedCertificate, RevokedCertificates, RevokedCertificatesIter};
-pub use name::{Attribute, Attributes, Name, RelativeName, RelativeNames};
-pub use request::{CertificationRequest, RequestAttribute, RequestAttributes, RequestAttributesIter};
-pub use values::{
-    AccessDescription, AccessDescriptions, AccessDescriptionsIter, DistributionPoint, DistributionPoints,
-    DistributionPointsIter, NameConstraints, Policies, PoliciesIter, Policy, PolicyQualifier,
-    PolicyQualifiers, PolicyQualifiersIter, RevocationReason, Subtree, Subtrees, SubtreesIter,
-};
+pub use key::*;
+pub use list::*;
+pub use name::*;
+pub use request::*;
+pub use values::*;
 
 use crate::ffi::{self, BitsFields, MomentFields, Octets};
 use crate::{BitString, Integer, ObjectIdentifier, Time};
@@ -143,14 +136,6 @@ impl<'a> PublicKey<'a> {
 
 /// The structs of the library that these types have.
 pub(crate) mod fields {
-    pub(crate) use super::extension::ExtensionFields;
-    pub(crate) use super::key::{PrivateKeyFields, RsaPrivateKeyFields};
-    pub(crate) use super::list::{CertificateListFields, RevokedFields};
-    pub(crate) use super::name::AttributeFields;
-    pub(crate) use super::request::{RequestAttributeFields, RequestFields};
-    pub(crate) use super::values::{
-        AccessDescriptionFields, DistributionPointFields, NameConstraintsFields, PolicyFields,
-        PolicyQualifierFields, SubtreeFields,
-    };
     pub(crate) use super::CertificateFields;
+    pub(crate) use super::{extension::*, key::*, list::*, name::*, request::*, values::*};
 }

@@ -2,8 +2,11 @@
 #![cfg(feature = "std")]
 use dumarewhi::x509::{
     AccessDescription, Attribute, AuthorityKeyIdentifier, BasicConstraints, Certificate, CertificateList,
-    CertificationRequest, DistributionPoint, Error, Extension, Field, GeneralName, GeneralNames, KeyPurposes,
-    KeyUsage, Name, Policy, PrivateKey, RelativeName, RsaPrivateKey, Subtrees, Value,
+    CertificationRequest, DirectoryAttributes, DistributionPoint, EcPrivateKey, EncryptedPrivateKey, Error,
+    Extension, Field, GeneralName, GeneralNames, IssuingDistributionPoint, KeyPurposes, KeyUsage, Name,
+    OrganizationIdentifier, Policy, PolicyConstraints, PolicyMappings, PrivateKey, QcStatements,
+    RelativeName, RsaPrivateKey, RsaPublicKey, SubjectPublicKeyInfo, Subtrees, Timestamps, TlsFeatures,
+    Value,
 };
 use dumarewhi::{oid, BitString, ErrorKind, Integer, ObjectIdentifier, Reason, Tag, Time};
 use shared::{damaged, made, openssl, run_c, store, Random};
@@ -217,6 +220,163 @@ fn further_extensions() {
         }
         other => panic!("{other:?}"),
     }
+}
+
+/// A certificate with extensions about policies in a path, lists of revoked certificates and the web.
+fn with_further_extensions() -> Option<Vec<u8>> {
+    made(&[
+        "-newkey",
+        "ed25519",
+        "-subj",
+        "/CN=a.example",
+        "-addext",
+        "policyMappings=critical,1.2.3:1.2.4,1.2.5:1.2.6",
+        "-addext",
+        "policyConstraints=requireExplicitPolicy:3",
+        "-addext",
+        "inhibitAnyPolicy=2",
+        "-addext",
+        "tlsfeature=status_request,9",
+        "-addext",
+        "noCheck=ignored",
+        "-addext",
+        "issuingDistributionPoint=critical,fullname:URI:http://l.example/,onlyuser:TRUE,indirectCRL:TRUE,\
+         onlysomereasons:keyCompromise",
+        "-addext",
+        "crlNumber=DER:02:02:00:80",
+        "-addext",
+        "deltaCRL=DER:02:01:03",
+        "-addext",
+        "invalidityDate=DER:18:0f:32:30:32:36:30:31:30:32:30:33:30:34:30:35:5a",
+        "-addext",
+        "certificateIssuer=DER:30:07:82:05:69:2e:6f:72:67",
+        "-addext",
+        "1.3.6.1.4.1.11129.2.4.3=critical,DER:05:00",
+    ])
+}
+
+/// Their values, as they go in.
+#[test]
+fn extensions_of_lists_and_the_web() {
+    let octets = match with_further_extensions() {
+        Some(it) => it,
+        None => return println!("left out: openssl makes no certificate"),
+    };
+    let it = Certificate::from_der(&octets).unwrap();
+    assert!(!it.extensions().has_unknown_critical());
+    match value_of(&it, oid!(2, 5, 29, 33)) {
+        (true, Value::PolicyMappings(mappings)) => {
+            let pairs = mappings
+                .iter()
+                .map(|it| (it.issuer_policy(), it.subject_policy()));
+            let (first, second) = ((oid!(1, 2, 3), oid!(1, 2, 4)), (oid!(1, 2, 5), oid!(1, 2, 6)));
+            assert!(pairs.eq([first, second]));
+        }
+        other => panic!("{other:?}"),
+    }
+    let constraints = PolicyConstraints {
+        require_explicit_policy: Some(3),
+        inhibit_policy_mapping: None,
+    };
+    assert_eq!(
+        value_of(&it, oid!(2, 5, 29, 36)).1,
+        Value::PolicyConstraints(constraints)
+    );
+    assert_eq!(value_of(&it, oid!(2, 5, 29, 54)).1, Value::InhibitAnyPolicy(2));
+    match value_of(&it, oid!(1, 3, 6, 1, 5, 5, 7, 1, 24)).1 {
+        Value::TlsFeatures(features) => assert!(features.iter().eq([5, 9])),
+        other => panic!("{other:?}"),
+    }
+    assert_eq!(
+        value_of(&it, oid!(1, 3, 6, 1, 5, 5, 7, 48, 1, 5)).1,
+        Value::OcspNoCheck
+    );
+    match value_of(&it, oid!(2, 5, 29, 28)) {
+        (true, Value::IssuingDistributionPoint(point)) => {
+            assert!(point
+                .full_name()
+                .iter()
+                .eq([GeneralName::Uri("http://l.example/")]));
+            assert!(point.only_contains_user_certs() && point.is_indirect());
+            assert!(!point.only_contains_ca_certs() && !point.only_contains_attribute_certs());
+            assert!(point.reasons().unwrap().iter().eq([false, true]));
+            assert_eq!(point.relative_name().attributes().count(), 0);
+        }
+        other => panic!("{other:?}"),
+    }
+    for (identifier, number) in [(oid!(2, 5, 29, 20), 128), (oid!(2, 5, 29, 27), 3)] {
+        match value_of(&it, identifier).1 {
+            Value::CrlNumber(it) | Value::DeltaCrlIndicator(it) => assert_eq!(it.to_u64(), Ok(number)),
+            other => panic!("{other:?}"),
+        }
+    }
+    match value_of(&it, oid!(2, 5, 29, 24)).1 {
+        Value::InvalidityDate(date) => assert_eq!(date.to_string(), "2026-01-02T03:04:05Z"),
+        other => panic!("{other:?}"),
+    }
+    match value_of(&it, oid!(2, 5, 29, 29)).1 {
+        Value::CertificateIssuer(names) => assert!(names.iter().eq([GeneralName::DnsName("i.org")])),
+        other => panic!("{other:?}"),
+    }
+    assert_eq!(
+        value_of(&it, oid!(1, 3, 6, 1, 4, 1, 11129, 2, 4, 3)),
+        (true, Value::PrecertificatePoison)
+    );
+}
+
+/// A private key of a curve in a file of its own, a public key of RSA, and an encrypted key, that openssl makes.
+#[test]
+fn other_keys() {
+    let of_curve = [
+        "genpkey",
+        "-algorithm",
+        "EC",
+        "-pkeyopt",
+        "ec_paramgen_curve:P-256",
+    ];
+    let made = match openssl(&of_curve, &[]) {
+        Some(it) => it,
+        None => return println!("left out: openssl makes no key"),
+    };
+    let octets = openssl(&["ec", "-outform", "DER"], &made).unwrap();
+    let curve = EcPrivateKey::from_der(&octets).unwrap();
+    let public = openssl(&["pkey", "-pubout", "-outform", "DER"], &made).unwrap();
+    let key = SubjectPublicKeyInfo::from_der(&public).unwrap();
+    assert_eq!((curve.version(), curve.private_key().len()), (1, 32));
+    assert_eq!(curve.public_key(), Some(key.public_key()));
+    assert_eq!(curve.parameters(), key.parameters());
+    let (tag, content) = curve.parameters().unwrap();
+    let identifier = ObjectIdentifier::from_content(content).unwrap();
+    assert_eq!(
+        (tag, identifier),
+        (Tag::OBJECT_IDENTIFIER, oid!(1, 2, 840, 10045, 3, 1, 7))
+    );
+    assert_eq!(key.algorithm(), oid!(1, 2, 840, 10045, 2, 1));
+    assert!(format!("{curve:?}").ends_with(".. }"));
+    let error = RsaPublicKey::from_der(key.public_key().raw_bytes()).unwrap_err();
+    assert_eq!(error.field(), Field::PublicRsaKey);
+
+    let words = ["pkcs8", "-topk8", "-outform", "DER", "-passout", "pass:secret"];
+    let octets = openssl(&words, &made).unwrap();
+    let encrypted = EncryptedPrivateKey::from_der(&octets).unwrap();
+    assert_eq!(encrypted.algorithm(), oid!(1, 2, 840, 113549, 1, 5, 13));
+    assert_eq!(encrypted.parameters().map(|(tag, _)| tag), Some(Tag::SEQUENCE));
+    assert!(octets.ends_with(encrypted.encrypted_data()));
+    let error = PrivateKey::from_der(&octets).unwrap_err();
+    assert_eq!(error.field(), Field::KeyVersion);
+
+    let of_rsa = ["genpkey", "-algorithm", "RSA", "-pkeyopt", "rsa_keygen_bits:1024"];
+    let made = openssl(&of_rsa, &[]).unwrap();
+    let public = openssl(&["pkey", "-pubout", "-outform", "DER"], &made).unwrap();
+    let key = SubjectPublicKeyInfo::from_der(&public).unwrap();
+    let rsa = RsaPublicKey::from_der(key.public_key().raw_bytes()).unwrap();
+    let printed = openssl(&["rsa", "-noout", "-modulus"], &made).unwrap();
+    let modulus = hex(rsa.modulus().as_bytes());
+    assert_eq!(
+        printed,
+        format!("Modulus={}\n", modulus.strip_prefix("00").unwrap()).into_bytes()
+    );
+    assert_eq!(rsa.public_exponent().to_u64(), Ok(65_537));
 }
 
 /// A key that openssl makes, and its modulus as openssl prints it.
@@ -455,6 +615,63 @@ fn rows_of_extensions() {
             Err(error) => compare(Err(error), &expected, &input),
         }
     }
+}
+
+/// The rows of a call say whether the octets are such a value, and with what error.
+fn try_values<T>(call: &str, read: impl Fn(&[u8]) -> Result<T, Error>) {
+    for (input, expected) in rows("extensions", call) {
+        match read(&repeated(&input)) {
+            Ok(_) => assert!(!expected.starts_with("at "), "{input}: {expected}"),
+            Err(error) => compare(Err(error), &expected, &input),
+        }
+    }
+}
+
+/// Octets of a row, where `61*258` is one so many times.
+fn repeated(input: &str) -> Vec<u8> {
+    let parts = input.split_whitespace().map(|part| match part.split_once('*') {
+        Some((octet, count)) => octets(octet).repeat(count.parse().unwrap()),
+        None => octets(part),
+    });
+    parts.collect::<Vec<_>>().concat()
+}
+
+#[test]
+fn rows_of_further_extensions() {
+    try_values("policy_mappings", |octets| {
+        PolicyMappings::from_der(octets).map(drop)
+    });
+    try_values("policy_constraints", PolicyConstraints::from_der);
+    try_values("subject_directory_attributes", |octets| {
+        DirectoryAttributes::from_der(octets).map(drop)
+    });
+    try_values("issuing_distribution_point", |octets| {
+        IssuingDistributionPoint::from_der(octets).map(drop)
+    });
+    try_values("tls_features", |octets| TlsFeatures::from_der(octets).map(drop));
+    try_values("signed_certificate_timestamps", |octets| {
+        Timestamps::from_der(octets).map(drop)
+    });
+    try_values("qc_statements", |octets| QcStatements::from_der(octets).map(drop));
+    try_values("organization_identifier", |octets| {
+        OrganizationIdentifier::from_der(octets).map(drop)
+    });
+    let list = octets("04 09 00 07 00 02 61 62 00 01 63");
+    let timestamps = Timestamps::from_der(&list).unwrap();
+    assert!(timestamps.iter().eq([&b"ab"[..], &b"c"[..]]));
+    let register = octets("30 10 13 03 4e 54 52 13 02 55 53 80 02 43 41 0c 01 31");
+    let register = OrganizationIdentifier::from_der(&register).unwrap();
+    let place = (
+        register.scheme(),
+        register.country(),
+        register.state_or_province(),
+    );
+    assert_eq!((place, register.reference()), (("NTR", "US", Some("CA")), "1"));
+    let list = octets("30 17 30 08 06 06 04 00 8e 46 01 01 30 0b 06 06 04 00 8e 46 01 03 02 01 0a");
+    let statements = QcStatements::from_der(&list).unwrap().iter();
+    let found: Vec<_> = statements.map(|it| (it.identifier(), it.info())).collect();
+    let (first, second) = (oid!(0, 4, 0, 1862, 1, 1), oid!(0, 4, 0, 1862, 1, 3));
+    assert_eq!(found, [(first, None), (second, Some((Tag::INTEGER, &[10][..])))]);
 }
 
 /// Rows that change an input: `to 9` cuts it, and `8=03` sets an octet or adds one.
@@ -715,9 +932,7 @@ fn put_policy(line: &mut String, policy: Policy<'_>) {
     for qualifier in policy.qualifiers() {
         line.push_str(" qualifier");
         put_octets(line, qualifier.identifier().as_bytes());
-        let (tag, content) = qualifier.value();
-        write!(line, " {}.{}", tag.class as u8, tag.number).unwrap();
-        put_octets(line, content);
+        put_any(line, qualifier.value());
     }
 }
 
@@ -745,6 +960,84 @@ fn put_access(line: &mut String, description: AccessDescription<'_>) {
     line.push_str(" access");
     put_octets(line, description.method().as_bytes());
     put_general_name(line, description.location());
+}
+
+fn put_any(line: &mut String, (tag, content): (Tag, &[u8])) {
+    write!(line, " {}.{}", tag.class as u8, tag.number).unwrap();
+    put_octets(line, content);
+}
+
+fn put_issuing_point(line: &mut String, point: IssuingDistributionPoint<'_>) {
+    line.push_str(" issuing");
+    put_general_names(line, point.full_name());
+    put_relative_name(line, point.relative_name());
+    put_bits(line, point.reasons());
+    line.push(' ');
+    for flag in [
+        point.only_contains_user_certs(),
+        point.only_contains_ca_certs(),
+        point.is_indirect(),
+        point.only_contains_attribute_certs(),
+    ] {
+        line.push(if flag { '1' } else { '0' });
+    }
+}
+
+fn put_organization(line: &mut String, it: OrganizationIdentifier<'_>) {
+    line.push_str(" organization");
+    put_octets(line, it.scheme().as_bytes());
+    put_octets(line, it.country().as_bytes());
+    if let Some(state) = it.state_or_province() {
+        line.push_str(" of");
+        put_octets(line, state.as_bytes());
+    }
+    put_octets(line, it.reference().as_bytes());
+}
+
+/// A value of the further extensions.
+fn put_further_value(line: &mut String, value: Value<'_>) {
+    match value {
+        Value::PolicyMappings(it) => it.iter().for_each(|mapping| {
+            line.push_str(" mapping");
+            put_octets(line, mapping.issuer_policy().as_bytes());
+            put_octets(line, mapping.subject_policy().as_bytes());
+        }),
+        Value::PolicyConstraints(it) => {
+            line.push_str(" constraints");
+            let explicit = it.require_explicit_policy.iter();
+            explicit.for_each(|number| write!(line, " explicit {number}").unwrap());
+            let mapping = it.inhibit_policy_mapping.iter();
+            mapping.for_each(|number| write!(line, " mapping {number}").unwrap());
+        }
+        Value::InhibitAnyPolicy(number) => write!(line, " any {number}").unwrap(),
+        Value::SubjectDirectoryAttributes(it) => it.iter().for_each(|attribute| {
+            line.push_str(" attribute");
+            put_octets(line, attribute.identifier().as_bytes());
+            put_octets(line, attribute.values());
+        }),
+        Value::CrlNumber(number) | Value::DeltaCrlIndicator(number) => put_octets(line, number.as_bytes()),
+        Value::IssuingDistributionPoint(it) => put_issuing_point(line, it),
+        Value::InvalidityDate(date) => put_time(line, date),
+        Value::CertificateIssuer(names) => put_general_names(line, names),
+        Value::SignedCertificateTimestamps(it) => it.iter().for_each(|timestamp| {
+            line.push_str(" timestamp");
+            put_octets(line, timestamp);
+        }),
+        Value::TlsFeatures(it) => {
+            line.push_str(" features");
+            it.iter().for_each(|number| write!(line, " {number}").unwrap());
+        }
+        Value::QcStatements(it) => {
+            line.push_str(" statements");
+            for statement in it {
+                put_octets(line, statement.identifier().as_bytes());
+                statement.info().into_iter().for_each(|info| put_any(line, info));
+            }
+        }
+        Value::OrganizationIdentifier(it) => put_organization(line, it),
+        Value::OcspNoCheck | Value::PrecertificatePoison => line.push_str(" null"),
+        other => panic!("{other:?}"),
+    }
 }
 
 fn put_value(line: &mut String, extension: &Extension<'_>) {
@@ -781,7 +1074,7 @@ fn put_value(line: &mut String, extension: &Extension<'_>) {
             it.iter().for_each(|description| put_access(line, description));
         }
         Ok(Value::ReasonCode(_)) => write!(line, " reason {}", extension.octets()[2]).unwrap(),
-        Ok(other) => panic!("{other:?}"),
+        Ok(other) => put_further_value(line, other),
         Err(error) => put_error(line, error),
     }
 }
@@ -807,6 +1100,8 @@ fn put_certificate(line: &mut String, it: &Certificate<'_>) {
         write!(line, " {}", u8::from(extension.is_critical())).unwrap();
         put_value(line, &extension);
     }
+    let unknown = it.extensions().has_unknown_critical();
+    write!(line, " unknown {}", u8::from(unknown)).unwrap();
 }
 
 fn line_of(found: Result<Certificate<'_>, Error>) -> String {
@@ -822,6 +1117,7 @@ fn line_of(found: Result<Certificate<'_>, Error>) -> String {
 fn inputs() -> Vec<Vec<u8>> {
     let mut sound = store();
     sound.extend(known());
+    sound.extend(with_further_extensions());
     for (input, _) in rows("strict", "strict_certificate") {
         sound.push(octets(&input));
     }

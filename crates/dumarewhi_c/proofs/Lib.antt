@@ -1,4 +1,5 @@
 pub mod AfterSequence
+pub mod AfterTimestamp
 pub mod Alike
 pub mod Firsts
 pub mod Moments

@@ -25,24 +25,19 @@ use Rattle.dumarewhi_c.specs.Certificates.{bits_in, bits_numbers}
 use Rattle.dumarewhi_c.specs.Elements.{bit}
 use Rattle.dumarewhi_c.specs.Items.{name_in, name_parts}
 
--- the encodings of policies, one after another, of points and of descriptions
+-- the encodings of the items of a list, one after another
+abbrev pub HasItems : {T : Type 0} → SequenceOf T → DmOctets → Type 0
+HasItems x d = d.octets.now ≡ list_octets x
+
+-- those of policies, of points and of descriptions
 abbrev pub policies_octets : SequenceOf PolicyInformation → List ℕ
 policies_octets x = list_octets x
-
-abbrev pub IsPolicies : SequenceOf PolicyInformation → DmOctets → Type 0
-IsPolicies x d = d.octets.now ≡ policies_octets x
 
 abbrev pub points_octets : SequenceOf DistributionPoint → List ℕ
 points_octets x = list_octets x
 
-abbrev pub IsPoints : SequenceOf DistributionPoint → DmOctets → Type 0
-IsPoints x d = d.octets.now ≡ points_octets x
-
 abbrev pub descriptions_octets : SequenceOf AccessDescription → List ℕ
 descriptions_octets x = list_octets x
-
-abbrev pub IsDescriptions : SequenceOf AccessDescription → DmOctets → Type 0
-IsDescriptions x d = d.octets.now ≡ descriptions_octets x
 
 -- the fields are those of the policy (4.2.1.4); without qualifiers there are no octets
 pub record HasPolicy (x : PolicyValue) (d : DmPolicy) : Type 0 where

@@ -42,14 +42,8 @@ IsUsage x n = n ≡ usage_number x.bits.octets.now
 abbrev pub names_octets : SequenceOf GeneralName → List ℕ
 names_octets x = list_octets x
 
-abbrev pub IsNames : SequenceOf GeneralName → DmOctets → Type 0
-IsNames x d = d.octets.now ≡ names_octets x
-
 abbrev pub purposes_octets : SequenceOf ObjectIdentifier → List ℕ
 purposes_octets x = list_octets x
-
-abbrev pub IsPurposes : SequenceOf ObjectIdentifier → DmOctets → Type 0
-IsPurposes x d = d.octets.now ≡ purposes_octets x
 
 abbrev pub IsOctets : Bor (List ℕ) → DmOctets → Type 0
 IsOctets x d = d.octets.now ≡ x.now

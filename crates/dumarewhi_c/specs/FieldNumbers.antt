@@ -76,11 +76,33 @@ rsa_field_number name = if bytes_eq name (codes "version") then 113
     else if bytes_eq name (codes "otherPrimeInfos") then 122
     else prime_number name
 
--- of the field that a refusal names: each has one name
-abbrev pub key_field : List (Bor (List ℕ)) → ℕ
-key_field (name ∷ []) = key_field_number name.now
-key_field _ = 96
+-- of one of a curve (RFC 5915 3)
+abbrev pub ec_field_number : List ℕ → ℕ
+ec_field_number name = if bytes_eq name (codes "version") then 129
+    else if bytes_eq name (codes "privateKey") then 130
+    else if bytes_eq name (codes "parameters") then 131
+    else if bytes_eq name (codes "publicKey") then 132
+    else 128
 
-abbrev pub rsa_field : List (Bor (List ℕ)) → ℕ
-rsa_field (name ∷ []) = rsa_field_number name.now
-rsa_field _ = 112
+-- of an encrypted private key (RFC 5958 3)
+abbrev pub encrypted_field_number : List ℕ → ℕ
+encrypted_field_number name = if bytes_eq name (codes "encryptionAlgorithm") then 145
+    else if bytes_eq name (codes "encryptedData") then 146
+    else 144
+
+-- of a public key (RFC 5280 4.1.2.7)
+abbrev pub public_field_number : List ℕ → ℕ
+public_field_number name = if bytes_eq name (codes "algorithm") then 161
+    else if bytes_eq name (codes "subjectPublicKey") then 162
+    else 160
+
+-- of one of RSA (RFC 8017 A.1.1)
+abbrev pub rsa_public_field_number : List ℕ → ℕ
+rsa_public_field_number name = if bytes_eq name (codes "modulus") then 177
+    else if bytes_eq name (codes "publicExponent") then 178
+    else 176
+
+-- the name of the field that a refusal of a key names: each has one
+abbrev pub only_name : List (Bor (List ℕ)) → List ℕ
+only_name (name ∷ []) = name.now
+only_name _ = []

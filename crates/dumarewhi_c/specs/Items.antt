@@ -52,16 +52,28 @@ IsAttribute a d = HasAttribute a d
 -- The extensions whose values are read, by the last arcs of their identifiers (A.2): of id-ce, 2.5.29, and of id-pe,
 -- 1.3.6.1.5.5.7.1. Another has the number 0.
 abbrev pub certificate_kind : ℕ → ℕ
-certificate_kind n = if n == 14 || n == 15 || is_within 17 19 n || n == 21 || is_within 30 32 n || n == 35 || n == 37
-    || n == 46 then n else 0
+certificate_kind n = if n == 9 || n == 14 || n == 15 || is_within 17 21 n || n == 24 || is_within 27 33 n
+    || is_within 35 37 n || n == 46 || n == 54 then n else 0
 
+-- id-pe-tlsfeature (RFC 7633 6) has the last arc 24, as id-ce-invalidityDate
 abbrev pub access_kind : ℕ → ℕ
-access_kind n = if n == 1 || n == 11 then n else 0
+access_kind n = if n == 1 || n == 3 || n == 11 then n else if n == 24 then 256 else 0
+
+-- The extensions of the web with other identifiers: 1.3.6.1.5.5.7.48.1.5 (RFC 6960 4.2.2.2.1), 1.3.6.1.4.1.11129.2.4.n
+-- (RFC 6962 3.1, 3.3), and 2.23.140.3.1 (EV Guidelines 9.8.2).
+abbrev pub transparency_kind : ℕ → ℕ
+transparency_kind n = if n == 2 then 258 else if n == 3 then 259 else 0
 
 abbrev pub extension_kind : List ℕ → ℕ
 extension_kind (a ∷ b ∷ n ∷ []) = if a == 0x55 && b == 0x1D then certificate_kind n else 0
 extension_kind (a ∷ b ∷ c ∷ d ∷ e ∷ f ∷ g ∷ n ∷ []) =
     if a == 0x2B && b == 6 && c == 1 && d == 5 && e == 5 && f == 7 && g == 1 then access_kind n else 0
+extension_kind (a ∷ b ∷ c ∷ d ∷ e ∷ f ∷ g ∷ h ∷ n ∷ []) =
+    if a == 0x2B && b == 6 && c == 1 && d == 5 && e == 5 && f == 7 && g == 48 && h == 1 && n == 5 then 257 else 0
+extension_kind (a ∷ b ∷ c ∷ d ∷ e ∷ f ∷ g ∷ h ∷ i ∷ n ∷ []) =
+    if a == 0x2B && b == 6 && c == 1 && d == 4 && e == 1 && f == 0xD6 && g == 0x79 && h == 2 && i == 4
+    then transparency_kind n else 0
+extension_kind (a ∷ b ∷ c ∷ d ∷ n ∷ []) = if a == 0x67 && b == 0x81 && c == 0x0C && d == 3 && n == 1 then 260 else 0
 extension_kind _ = 0
 
 -- the fields are those of the extension (4.1.2.9)

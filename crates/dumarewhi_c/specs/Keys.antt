@@ -14,7 +14,7 @@ use Rattle.dumarewhi_c.specs.AnyElements.{HasAnyOrNone}
 use Rattle.dumarewhi_c.specs.Certificates.{bits_in, bits_numbers}
 use Rattle.dumarewhi_c.specs.Elements.{bit}
 use Rattle.dumarewhi_c.specs.Faults.{field_fault}
-use Rattle.dumarewhi_c.specs.FieldNumbers.{key_field, rsa_field}
+use Rattle.dumarewhi_c.specs.FieldNumbers.{key_field_number, only_name, rsa_field_number}
 use Rattle.pkcs8_reader.specs.declared.key.PrivateKeyInfo.{PrivateKeyInfo}
 use Rattle.pkcs8_reader.specs.declared.rsa.RsaPrivateKey.{RsaPrivateKey}
 
@@ -34,7 +34,7 @@ abbrev pub IsKey : PrivateKeyInfo → DmPrivateKey → Type 0
 IsKey k d = HasKey k d
 
 abbrev pub key_fault : FieldRefusal → DmFault
-key_fault e = field_fault (key_field (names_of e)) e.refusal
+key_fault e = field_fault (key_field_number (only_name (names_of e))) e.refusal
 
 -- the numbers are those of the key (RFC 8017 A.1.2)
 pub record HasRsaKey (k : RsaPrivateKey) (d : DmRsaPrivateKey) : Type 0 where
@@ -54,4 +54,4 @@ abbrev pub IsRsaKey : RsaPrivateKey → DmRsaPrivateKey → Type 0
 IsRsaKey k d = HasRsaKey k d
 
 abbrev pub rsa_fault : FieldRefusal → DmFault
-rsa_fault e = field_fault (rsa_field (names_of e)) e.refusal
+rsa_fault e = field_fault (rsa_field_number (only_name (names_of e))) e.refusal

@@ -1,6 +1,7 @@
 pub mod AnyElements
 pub mod Certificates
 pub mod Cursors
+pub mod Directory
 pub mod Elements
 pub mod ErrorNumbers
 pub mod ExtensionLists
@@ -10,11 +11,14 @@ pub mod FieldNumbers
 pub mod Items
 pub mod Keys
 pub mod Laws
+pub mod OtherKeys
 pub mod Outcomes
+pub mod PathExtensions
 pub mod Pem
 pub mod Requests
 pub mod RevokedLists
 pub mod Tested
 pub mod Texts
 pub mod Values
+pub mod Web
 pub mod Writers

@@ -7,12 +7,16 @@ use Rattle.crl_reader.specs.declared.reason.Reason.{Reason}
 use Rattle.crl_reader.specs.declared.refusal.ListRefusal.{ListRefusal}
 use Rattle.crl_reader.specs.Lists.{Revoked, Signed, certificate_list_of, revoked_of}
 use Rattle.crl_reader.specs.Reasons.{number_of}
+use Rattle.der_extensions.specs.declared.issuing_distribution_point.IssuingDistributionPoint as issuing
+use Rattle.der_extensions.specs.Revocation.{IssuingPointValue, issuing_point_of}
 use Rattle.dumarewhi_c.specs.declared.fault.DmFault.{DmFault}
+use Rattle.dumarewhi_c.specs.declared.revocation.DmIssuingDistributionPoint.{DmIssuingDistributionPoint}
 use Rattle.dumarewhi_c.specs.declared.revoked.DmCertificateList.{DmCertificateList}
 use Rattle.dumarewhi_c.specs.declared.revoked.DmRevoked.{DmRevoked}
 use Rattle.dumarewhi_c.specs.Certificates.{algorithm_in, bits_in, bits_numbers, moment_fields, optional_moment_fields}
 use Rattle.dumarewhi_c.specs.Certificates.{version_number}
 use Rattle.dumarewhi_c.specs.Elements.{bit}
+use Rattle.dumarewhi_c.specs.ExtensionLists.{HasPointName}
 use Rattle.dumarewhi_c.specs.Faults.{field_fault}
 use Rattle.dumarewhi_c.specs.FieldNumbers.{list_field_number}
 
@@ -49,3 +53,15 @@ IsRevoked r d = HasRevoked (revoked_of r) d
 -- the number of a reason (5.3.1)
 abbrev pub IsReason : Reason → ℕ → Type 0
 IsReason r n = n ≡ number_of r
+
+-- the fields are those of the point (5.2.5)
+pub record HasIssuingPoint (x : IssuingPointValue) (d : DmIssuingDistributionPoint) : Type 0 where
+  pub name : HasPointName x.0 d.full_name.now d.relative_name.now
+  pub only_contains_user_certs : d.only_contains_user_certs ≡ bit x.1.0
+  pub only_contains_ca_certs : d.only_contains_ca_certs ≡ bit x.1.1.0
+  pub reasons : bits_in d.reasons ≡ bits_numbers x.1.1.1.0
+  pub indirect_crl : d.indirect_crl ≡ bit x.1.1.1.1.0
+  pub only_contains_attribute_certs : d.only_contains_attribute_certs ≡ bit x.1.1.1.1.1.0
+
+abbrev pub IsIssuingPoint : issuing.IssuingDistributionPoint → DmIssuingDistributionPoint → Type 0
+IsIssuingPoint x d = HasIssuingPoint (issuing_point_of x) d

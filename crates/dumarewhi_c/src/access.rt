@@ -5,18 +5,18 @@ ghost use Rattle.der_cursor.specs.Formats.{Never, ReadsInput, Required};
 ghost use Rattle.der_extensions.specs.Extensions.{AccessDescription as AccessFormat, AuthorityInfoAccessSyntax};
 ghost use Rattle.der_extensions.specs.Extensions.{access_of};
 ghost use Rattle.der_extensions.specs.Lists.{YieldsNext};
-ghost use Rattle.dumarewhi_c.specs.ExtensionLists.{HasAccess, IsAccess, IsDescriptions, descriptions_octets};
-ghost use Rattle.dumarewhi_c.specs.Faults.{Reads, Written, value_fault};
+ghost use Rattle.dumarewhi_c.specs.ExtensionLists.{HasAccess, HasItems, IsAccess, descriptions_octets};
+ghost use Rattle.dumarewhi_c.specs.Faults.{Reads, value_fault};
 ghost use Rattle.dumarewhi_c.specs.Items.{Taken, Takes, left};
 
-use crate::fault::{DmFault, field_fault, no_fault};
+use crate::fault::DmFault;
 use crate::items::{DmGeneralName, general_name};
 use crate::lists::next_item;
 use crate::octets::DmOctets;
 use crate::parts::identifier_octets;
+use crate::writing::write_list;
 use der_base::error::BerError;
-use der_cursor::Refusal;
-use der_extensions::{AccessDescription, InformationAccess, read_information_access};
+use der_extensions::{AccessDescription, read_information_access};
 
 /// Which information it is, and where. Octets are slices of the value.
 #[repr(C)]
@@ -36,26 +36,11 @@ pub extern "C" fn dm_read_information_access<'a>(
     fault: &mut DmFault,
 ) -> u32
     ensures exactly { Reads (ReadsInput Der AuthorityInfoAccessSyntax descriptions_octets Never value.now)
-        IsDescriptions value_fault descriptions.old descriptions.new fault.new }
+        HasItems value_fault descriptions.old descriptions.new fault.new }
     ensures status { result ≡ fault.new.status }
 {
-    *fault = write_descriptions(read_information_access(value), descriptions);
+    *fault = write_list(read_information_access(value), descriptions);
     fault.status
-}
-
-fn write_descriptions<'a>(
-    found: Result<InformationAccess<'a>, Refusal<BerError>>,
-    descriptions: &mut DmOctets<'a>,
-) -> DmFault
-    ensures { Written IsDescriptions value_fault found.entry descriptions.old descriptions.new result }
-{
-    match found {
-        Ok(found) => {
-            descriptions.octets = found.octets;
-            no_fault()
-        }
-        Err(e) => field_fault(0, e),
-    }
 }
 
 /// Takes the next description.

@@ -4,7 +4,8 @@ ghost use Rattle.dumarewhi_c.specs.Texts.{PutsText};
 
 use crate::errors::{FIRST_CONSTRAINT, FIRST_CONTENT, FIRST_FORM, FIRST_RULE};
 use crate::fault::{
-    CERTIFICATE, DmFault, FIRST_KEY_FIELD, FIRST_LIST_FIELD, FIRST_REQUEST_FIELD, FIRST_RSA_FIELD,
+    CERTIFICATE, DmFault, FIRST_EC_FIELD, FIRST_ENCRYPTED_FIELD, FIRST_KEY_FIELD, FIRST_LIST_FIELD,
+    FIRST_PUBLIC_FIELD, FIRST_REQUEST_FIELD, FIRST_RSA_FIELD, FIRST_RSA_PUBLIC_FIELD,
 };
 use crate::text::put_text;
 use arrayvec::ArrayString;
@@ -113,11 +114,31 @@ fn write_field<W: fmt::Write>(f: &mut fmt::Formatter<W>, number: u32) -> fmt::Re
     }
 }
 
-/// The name of the field of a private key with a number.
+/// The name of the field of a key with a number.
 fn key_field(number: u32) -> Option<&'static str> {
     match item(&KEY_FIELDS, FIRST_KEY_FIELD, number) {
         Some(field) => Some(field),
-        None => item(&RSA_FIELDS, FIRST_RSA_FIELD, number),
+        None => match item(&RSA_FIELDS, FIRST_RSA_FIELD, number) {
+            Some(field) => Some(field),
+            None => other_key_field(number),
+        },
+    }
+}
+
+fn other_key_field(number: u32) -> Option<&'static str> {
+    match item(&EC_FIELDS, FIRST_EC_FIELD, number) {
+        Some(field) => Some(field),
+        None => match item(&ENCRYPTED_FIELDS, FIRST_ENCRYPTED_FIELD, number) {
+            Some(field) => Some(field),
+            None => public_key_field(number),
+        },
+    }
+}
+
+fn public_key_field(number: u32) -> Option<&'static str> {
+    match item(&PUBLIC_FIELDS, FIRST_PUBLIC_FIELD, number) {
+        Some(field) => Some(field),
+        None => item(&RSA_PUBLIC_FIELDS, FIRST_RSA_PUBLIC_FIELD, number),
     }
 }
 
@@ -342,3 +363,25 @@ const RSA_FIELDS: [&str; 11] = [
     "coefficient",
     "otherPrimeInfos",
 ];
+
+/// Those of one of a curve.
+const EC_FIELDS: [&str; 5] = [
+    "ECPrivateKey",
+    "version",
+    "privateKey",
+    "parameters",
+    "publicKey",
+];
+
+/// Those of an encrypted private key.
+const ENCRYPTED_FIELDS: [&str; 3] = [
+    "EncryptedPrivateKeyInfo",
+    "encryptionAlgorithm",
+    "encryptedData",
+];
+
+/// Those of a public key.
+const PUBLIC_FIELDS: [&str; 3] = ["SubjectPublicKeyInfo", "algorithm", "subjectPublicKey"];
+
+/// Those of a public key of RSA.
+const RSA_PUBLIC_FIELDS: [&str; 3] = ["RSAPublicKey", "modulus", "publicExponent"];

@@ -8,18 +8,20 @@ ghost use Rattle.der_extensions.specs.Extensions.{BasicConstraints as Constraint
 ghost use Rattle.der_extensions.specs.Extensions.{KeyUsage as UsageFormat, constraints_of, usage_of};
 ghost use Rattle.der_extensions.specs.GeneralNames.{GeneralNames as NamesFormat};
 ghost use Rattle.der_extensions.specs.Lists.{list_octets};
-ghost use Rattle.dumarewhi_c.specs.ExtensionValues.{HasAuthority, IsAuthority, IsConstraints, IsNames};
-ghost use Rattle.dumarewhi_c.specs.ExtensionValues.{IsOctets, IsPurposes, IsUsage, constraints_fields, flag};
-ghost use Rattle.dumarewhi_c.specs.ExtensionValues.{names_octets, purposes_octets, usage_number};
+ghost use Rattle.dumarewhi_c.specs.ExtensionLists.{HasItems};
+ghost use Rattle.dumarewhi_c.specs.ExtensionValues.{HasAuthority, IsAuthority, IsConstraints, IsOctets, IsUsage};
+ghost use Rattle.dumarewhi_c.specs.ExtensionValues.{constraints_fields, flag, names_octets, purposes_octets};
+ghost use Rattle.dumarewhi_c.specs.ExtensionValues.{usage_number};
 ghost use Rattle.dumarewhi_c.specs.Faults.{Reads, Written, value_fault};
 
 use crate::element::bit;
 use crate::fault::{DmFault, field_fault, no_fault};
 use crate::octets::DmOctets;
+use crate::writing::{write_list, write_octets};
 use der_base::error::BerError;
 use der_cursor::Refusal;
 use der_extensions::{
-    AuthorityKeyIdentifier, BasicConstraints, ExtendedKeyUsage, GeneralNames, KeyUsage,
+    AuthorityKeyIdentifier, BasicConstraints, GeneralNames, KeyUsage,
     read_authority_key_identifier, read_basic_constraints, read_extended_key_usage,
     read_general_names, read_key_usage, read_subject_key_identifier,
 };
@@ -153,27 +155,12 @@ pub extern "C" fn dm_read_general_names<'a>(
     names: &mut DmOctets<'a>,
     fault: &mut DmFault,
 ) -> u32
-    ensures exactly { Reads (ReadsInput Der NamesFormat names_octets Never value.now) IsNames value_fault
+    ensures exactly { Reads (ReadsInput Der NamesFormat names_octets Never value.now) HasItems value_fault
         names.old names.new fault.new }
     ensures status { result ≡ fault.new.status }
 {
-    *fault = write_names(read_general_names(value), names);
+    *fault = write_list(read_general_names(value), names);
     fault.status
-}
-
-fn write_names<'a>(
-    found: Result<GeneralNames<'a>, Refusal<BerError>>,
-    names: &mut DmOctets<'a>,
-) -> DmFault
-    ensures { Written IsNames value_fault found.entry names.old names.new result }
-{
-    match found {
-        Ok(found) => {
-            names.octets = found.octets;
-            no_fault()
-        }
-        Err(e) => value_fault(e),
-    }
 }
 
 /// Reads the purposes of an ExtendedKeyUsage by DER.
@@ -183,27 +170,12 @@ pub extern "C" fn dm_read_extended_key_usage<'a>(
     purposes: &mut DmOctets<'a>,
     fault: &mut DmFault,
 ) -> u32
-    ensures exactly { Reads (ReadsInput Der ExtKeyUsageSyntax purposes_octets Never value.now) IsPurposes value_fault
+    ensures exactly { Reads (ReadsInput Der ExtKeyUsageSyntax purposes_octets Never value.now) HasItems value_fault
         purposes.old purposes.new fault.new }
     ensures status { result ≡ fault.new.status }
 {
-    *fault = write_purposes(read_extended_key_usage(value), purposes);
+    *fault = write_list(read_extended_key_usage(value), purposes);
     fault.status
-}
-
-fn write_purposes<'a>(
-    found: Result<ExtendedKeyUsage<'a>, Refusal<BerError>>,
-    purposes: &mut DmOctets<'a>,
-) -> DmFault
-    ensures { Written IsPurposes value_fault found.entry purposes.old purposes.new result }
-{
-    match found {
-        Ok(found) => {
-            purposes.octets = found.octets;
-            no_fault()
-        }
-        Err(e) => value_fault(e),
-    }
 }
 
 /// Reads the value of a SubjectKeyIdentifier by DER.
@@ -217,23 +189,8 @@ pub extern "C" fn dm_read_subject_key_identifier<'a>(
         identifier.old identifier.new fault.new }
     ensures status { result ≡ fault.new.status }
 {
-    *fault = write_identifier(read_subject_key_identifier(value), identifier);
+    *fault = write_octets(read_subject_key_identifier(value), identifier);
     fault.status
-}
-
-fn write_identifier<'a>(
-    found: Result<&'a [u8], Refusal<BerError>>,
-    identifier: &mut DmOctets<'a>,
-) -> DmFault
-    ensures { Written IsOctets value_fault found.entry identifier.old identifier.new result }
-{
-    match found {
-        Ok(found) => {
-            identifier.octets = found;
-            no_fault()
-        }
-        Err(e) => value_fault(e),
-    }
 }
 
 /// Reads the value of an AuthorityKeyIdentifier by DER.

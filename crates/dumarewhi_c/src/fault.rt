@@ -43,6 +43,18 @@ pub(crate) const FIRST_KEY_FIELD: u32 = 96;
 /// That of one of RSA.
 pub(crate) const FIRST_RSA_FIELD: u32 = 112;
 
+/// That of one of a curve.
+pub(crate) const FIRST_EC_FIELD: u32 = 128;
+
+/// That of an encrypted private key.
+pub(crate) const FIRST_ENCRYPTED_FIELD: u32 = 144;
+
+/// That of a public key.
+pub(crate) const FIRST_PUBLIC_FIELD: u32 = 160;
+
+/// That of a public key of RSA.
+pub(crate) const FIRST_RSA_PUBLIC_FIELD: u32 = 176;
+
 /// All is read.
 pub(crate) fn no_fault() -> DmFault
     ensures { result ≡ no_fault }

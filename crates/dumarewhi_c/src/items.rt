@@ -3,12 +3,27 @@ ghost use Rattle.std.specs.Prelude.{◌≡◌, []};
 ghost use Rattle.der_extensions.specs.GeneralNames.{name_of};
 ghost use Rattle.der_x509.specs.Certificates.{extension_of};
 ghost use Rattle.dumarewhi_c.specs.Items.{HasAttribute, HasExtension, access_kind, certificate_kind, extension_kind};
-ghost use Rattle.dumarewhi_c.specs.Items.{name_in, name_parts};
+ghost use Rattle.dumarewhi_c.specs.Items.{name_in, name_parts, transparency_kind};
 
 use crate::element::{bit, class_number};
 use crate::parts::identifier_octets;
 use der_extensions::GeneralName;
 use der_x509::{AttributeTypeAndValue, Extension};
+
+/// The number of the TLS feature (RFC 7633 6). Its last arc, 24, is that of an invalidityDate too.
+const TLS_FEATURES: u32 = 256;
+
+/// That of the OCSP no-check (RFC 6960 4.2.2.2.1).
+const OCSP_NO_CHECK: u32 = 257;
+
+/// That of the SCT list (RFC 6962 3.3).
+const SIGNED_CERTIFICATE_TIMESTAMPS: u32 = 258;
+
+/// That of the poison of a precertificate (3.1).
+const PRECERTIFICATE_POISON: u32 = 259;
+
+/// That of cabfOrganizationIdentifier (EV Guidelines 9.8.2).
+const ORGANIZATION_IDENTIFIER: u32 = 260;
 
 /// An attribute of a name (RFC 5280 4.1.2.4).
 #[repr(C)]
@@ -38,7 +53,7 @@ pub struct DmExtension<'a> {
     pub value: &'a [u8],
     /// Whether a certificate has to be rejected by who doesn't know it, 0 or 1.
     pub critical: u32,
-    /// Which extension it is: the last arc of its identifier, or 0.
+    /// Which extension it is: the last arc of its identifier, a number from 256 on, or 0.
     pub kind: u32,
 }
 
@@ -84,14 +99,28 @@ pub(crate) fn extension<'a>(found: &Extension<'a>) -> DmExtension<'a>
     }
 }
 
-/// Which extension has the identifier with these content octets: its last arc, or 0 if it is none of those whose
-/// values are read.
+/// Which extension has the identifier with these content octets: its last arc, a number from 256 on, or 0 if it is none
+/// of those whose values are read.
 fn extension_kind(identifier: &[u8]) -> u32
     ensures { result ≡ extension_kind identifier.now }
 {
     match identifier {
         [0x55, 0x1d, arc] => certificate_kind(*arc),
         [0x2b, 6, 1, 5, 5, 7, 1, arc] => access_kind(*arc),
+        [0x2b, 6, 1, 5, 5, 7, 48, 1, 5] => OCSP_NO_CHECK,
+        [0x2b, 6, 1, 4, 1, 0xd6, 0x79, 2, 4, arc] => transparency_kind(*arc),
+        [0x67, 0x81, 0x0c, 3, 1] => ORGANIZATION_IDENTIFIER,
+        _ => 0,
+    }
+}
+
+/// The kind of one that begins with 1.3.6.1.4.1.11129.2.4 (RFC 6962 3.1, 3.3), by its last arc.
+fn transparency_kind(arc: u8) -> u32
+    ensures { result ≡ transparency_kind arc }
+{
+    match arc {
+        2 => SIGNED_CERTIFICATE_TIMESTAMPS,
+        3 => PRECERTIFICATE_POISON,
         _ => 0,
     }
 }
@@ -101,17 +130,18 @@ fn certificate_kind(arc: u8) -> u32
     ensures { result ≡ certificate_kind arc }
 {
     match arc {
-        14 | 15 | 17..=19 | 21 | 30..=32 | 35 | 37 | 46 => arc.into(),
+        9 | 14 | 15 | 17..=21 | 24 | 27..=33 | 35..=37 | 46 | 54 => arc.into(),
         _ => 0,
     }
 }
 
-/// The last arc of one that begins with 1.3.6.1.5.5.7.1.
+/// The kind of one that begins with 1.3.6.1.5.5.7.1: its last arc, but not that of the TLS feature.
 fn access_kind(arc: u8) -> u32
     ensures { result ≡ access_kind arc }
 {
     match arc {
-        1 | 11 => arc.into(),
+        1 | 3 | 11 => arc.into(),
+        24 => TLS_FEATURES,
         _ => 0,
     }
 }

@@ -5,8 +5,7 @@ ghost use Rattle.der_base.specs.declared.rules.Rules.TheVariants.{Der};
 ghost use Rattle.der_cursor.specs.Cursors.{octets_left};
 ghost use Rattle.der_cursor.specs.Formats.{Never, ReadsNamedInput};
 ghost use Rattle.dumarewhi_c.specs.Faults.{Reads, Written};
-ghost use Rattle.dumarewhi_c.specs.FieldNumbers.{key_field, key_field_number, prime_number, rsa_field};
-ghost use Rattle.dumarewhi_c.specs.FieldNumbers.{rsa_field_number};
+ghost use Rattle.dumarewhi_c.specs.FieldNumbers.{key_field_number, only_name, prime_number, rsa_field_number};
 ghost use Rattle.dumarewhi_c.specs.Keys.{HasKey, HasRsaKey, IsKey, IsRsaKey, key_fault, rsa_fault};
 ghost use Rattle.pkcs8_reader.specs.Keys.{PrivateKeyInfo as KeyFormat, RsaPrivateKey as RsaFormat, key_of, rsa_of};
 
@@ -119,20 +118,21 @@ fn octets_left<'a>(cursor: Option<Cursor<'a>>) -> &'a [u8]
 fn key_fault(e: FieldRefusal) -> DmFault
     ensures { result ≡ key_fault e }
 {
-    let field = key_field(e.names());
+    let field = key_field_number(only_name(e.names()));
     field_fault(field, e.refusal)
 }
 
-/// The number of the field with this name.
-fn key_field(names: &[&'static str]) -> u32
-    ensures { result ≡ key_field names.now }
+/// The one name of a field. The names of the readers of keys have no others before them.
+pub(crate) fn only_name(names: &[&'static str]) -> &'static str
+    ensures { result.now ≡ only_name names.now }
 {
     match names {
-        [name] => key_field_number(name),
-        _ => FIRST_KEY_FIELD,
+        [name] => name,
+        _ => "",
     }
 }
 
+/// The number of the field with this name.
 fn key_field_number(name: &str) -> u32
     ensures { result ≡ key_field_number name.now }
 {
@@ -204,20 +204,11 @@ fn rsa_fields<'a>(found: &RsaPrivateKey<'a>) -> DmRsaPrivateKey<'a>
 fn rsa_fault(e: FieldRefusal) -> DmFault
     ensures { result ≡ rsa_fault e }
 {
-    let field = rsa_field(e.names());
+    let field = rsa_field_number(only_name(e.names()));
     field_fault(field, e.refusal)
 }
 
 /// The number of the field with this name.
-fn rsa_field(names: &[&'static str]) -> u32
-    ensures { result ≡ rsa_field names.now }
-{
-    match names {
-        [name] => rsa_field_number(name),
-        _ => FIRST_RSA_FIELD,
-    }
-}
-
 fn rsa_field_number(name: &str) -> u32
     ensures { result ≡ rsa_field_number name.now }
 {

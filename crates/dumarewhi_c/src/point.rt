@@ -6,19 +6,17 @@ ghost use Rattle.der_cursor.specs.Formats.{Never, ReadsInput, Required};
 ghost use Rattle.der_extensions.specs.Extensions.{CRLDistributionPoints as PointsFormat};
 ghost use Rattle.der_extensions.specs.Extensions.{DistributionPoint as PointFormat, point_name_of, point_of};
 ghost use Rattle.der_extensions.specs.Lists.{YieldsNext};
-ghost use Rattle.dumarewhi_c.specs.ExtensionLists.{HasPoint, HasPointName, IsPoint, IsPoints, points_octets};
-ghost use Rattle.dumarewhi_c.specs.Faults.{Reads, Written, value_fault};
+ghost use Rattle.dumarewhi_c.specs.ExtensionLists.{HasItems, HasPoint, HasPointName, IsPoint, points_octets};
+ghost use Rattle.dumarewhi_c.specs.Faults.{Reads, value_fault};
 ghost use Rattle.dumarewhi_c.specs.Items.{Taken, Takes, left};
 
-use crate::fault::{DmFault, field_fault, no_fault};
+use crate::fault::DmFault;
 use crate::lists::{list_or_none, next_item};
 use crate::octets::DmOctets;
 use crate::parts::{DmBits, optional_bits};
+use crate::writing::write_list;
 use der_base::error::BerError;
-use der_cursor::Refusal;
-use der_extensions::{
-    CrlDistributionPoints, DistributionPoint, DistributionPointName, read_crl_distribution_points,
-};
+use der_extensions::{DistributionPoint, DistributionPointName, read_crl_distribution_points};
 
 /// A place of lists. Octets are slices of the value. One of the two names is empty, or both are.
 #[repr(C)]
@@ -41,27 +39,12 @@ pub extern "C" fn dm_read_distribution_points<'a>(
     points: &mut DmOctets<'a>,
     fault: &mut DmFault,
 ) -> u32
-    ensures exactly { Reads (ReadsInput Der PointsFormat points_octets Never value.now) IsPoints value_fault
+    ensures exactly { Reads (ReadsInput Der PointsFormat points_octets Never value.now) HasItems value_fault
         points.old points.new fault.new }
     ensures status { result ≡ fault.new.status }
 {
-    *fault = write_points(read_crl_distribution_points(value), points);
+    *fault = write_list(read_crl_distribution_points(value), points);
     fault.status
-}
-
-fn write_points<'a>(
-    found: Result<CrlDistributionPoints<'a>, Refusal<BerError>>,
-    points: &mut DmOctets<'a>,
-) -> DmFault
-    ensures { Written IsPoints value_fault found.entry points.old points.new result }
-{
-    match found {
-        Ok(found) => {
-            points.octets = found.octets;
-            no_fault()
-        }
-        Err(e) => field_fault(0, e),
-    }
 }
 
 /// Takes the next point.
@@ -102,7 +85,7 @@ fn point_fields<'a>(found: DistributionPoint<'a>) -> DmDistributionPoint<'a>
 }
 
 /// The general names of a point, and the attributes of its relative name.
-fn name_octets<'a>(name: Option<DistributionPointName<'a>>) -> (&'a [u8], &'a [u8])
+pub(crate) fn name_octets<'a>(name: Option<DistributionPointName<'a>>) -> (&'a [u8], &'a [u8])
     ensures { HasPointName (option_map point_name_of name.entry) result.0.now result.1.now }
 {
     match name {

@@ -6,20 +6,18 @@ ghost use Rattle.der_extensions.specs.Extensions.{CertificatePolicies as Policie
 ghost use Rattle.der_extensions.specs.Extensions.{PolicyInformation as PolicyFormat};
 ghost use Rattle.der_extensions.specs.Extensions.{PolicyQualifierInfo as QualifierFormat, policy_of, qualifier_of};
 ghost use Rattle.der_extensions.specs.Lists.{YieldsNext};
-ghost use Rattle.dumarewhi_c.specs.ExtensionLists.{HasPolicy, IsPolicies, IsPolicy, IsQualifier, policies_octets};
-ghost use Rattle.dumarewhi_c.specs.Faults.{Reads, Written, value_fault};
+ghost use Rattle.dumarewhi_c.specs.ExtensionLists.{HasItems, HasPolicy, IsPolicy, IsQualifier, policies_octets};
+ghost use Rattle.dumarewhi_c.specs.Faults.{Reads, value_fault};
 ghost use Rattle.dumarewhi_c.specs.Items.{Taken, Takes, left};
 
 use crate::any::{DmAny, any_fields};
-use crate::fault::{DmFault, field_fault, no_fault};
+use crate::fault::DmFault;
 use crate::lists::{list_or_none, next_item};
 use crate::octets::DmOctets;
 use crate::parts::identifier_octets;
+use crate::writing::write_list;
 use der_base::error::BerError;
-use der_cursor::Refusal;
-use der_extensions::{
-    CertificatePolicies, PolicyInformation, PolicyQualifierInfo, read_certificate_policies,
-};
+use der_extensions::{PolicyInformation, PolicyQualifierInfo, read_certificate_policies};
 
 /// A policy. Octets are slices of the value.
 #[repr(C)]
@@ -48,27 +46,12 @@ pub extern "C" fn dm_read_certificate_policies<'a>(
     policies: &mut DmOctets<'a>,
     fault: &mut DmFault,
 ) -> u32
-    ensures exactly { Reads (ReadsInput Der PoliciesFormat policies_octets Never value.now) IsPolicies value_fault
+    ensures exactly { Reads (ReadsInput Der PoliciesFormat policies_octets Never value.now) HasItems value_fault
         policies.old policies.new fault.new }
     ensures status { result ≡ fault.new.status }
 {
-    *fault = write_policies(read_certificate_policies(value), policies);
+    *fault = write_list(read_certificate_policies(value), policies);
     fault.status
-}
-
-fn write_policies<'a>(
-    found: Result<CertificatePolicies<'a>, Refusal<BerError>>,
-    policies: &mut DmOctets<'a>,
-) -> DmFault
-    ensures { Written IsPolicies value_fault found.entry policies.old policies.new result }
-{
-    match found {
-        Ok(found) => {
-            policies.octets = found.octets;
-            no_fault()
-        }
-        Err(e) => field_fault(0, e),
-    }
 }
 
 /// Takes the next policy.

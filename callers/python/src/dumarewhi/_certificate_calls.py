@@ -193,6 +193,49 @@ class AccessDescriptionStruct(ctypes.Structure):
     location: GeneralNameStruct
 
 
+@_struct_of("dm_policy_mapping")
+class PolicyMappingStruct(ctypes.Structure):
+    issuer_policy: OctetsStruct
+    subject_policy: OctetsStruct
+
+
+@_struct_of("dm_policy_constraints")
+class PolicyConstraintsStruct(ctypes.Structure):
+    has_require_explicit_policy: U32
+    require_explicit_policy: U32
+    has_inhibit_policy_mapping: U32
+    inhibit_policy_mapping: U32
+
+
+@_struct_of("dm_issuing_distribution_point")
+class IssuingDistributionPointStruct(ctypes.Structure):
+    full_name: OctetsStruct
+    relative_name: OctetsStruct
+    reasons: BitsStruct
+    only_contains_user_certs: U32
+    only_contains_ca_certs: U32
+    indirect_crl: U32
+    only_contains_attribute_certs: U32
+
+
+@_struct_of("dm_qc_statement")
+class QcStatementStruct(ctypes.Structure):
+    identifier: OctetsStruct
+    info: AnyStruct
+    has_info: U32
+    reserved: U32
+
+
+@_struct_of("dm_organization_identifier")
+class OrganizationIdentifierStruct(ctypes.Structure):
+    scheme: OctetsStruct
+    country: OctetsStruct
+    state_or_province: OctetsStruct
+    reference: OctetsStruct
+    has_state_or_province: U32
+    reserved: U32
+
+
 @_struct_of("dm_certificate_list")
 class CertificateListStruct(ctypes.Structure):
     tbs: OctetsStruct
@@ -261,6 +304,39 @@ class RsaPrivateKeyStruct(ctypes.Structure):
     has_other_primes: U32
 
 
+@_struct_of("dm_ec_private_key")
+class EcPrivateKeyStruct(ctypes.Structure):
+    private_key: OctetsStruct
+    parameters: AnyStruct
+    public_key: BitsStruct
+    version: U32
+    has_parameters: U32
+
+
+@_struct_of("dm_encrypted_private_key")
+class EncryptedPrivateKeyStruct(ctypes.Structure):
+    algorithm: OctetsStruct
+    parameters: AnyStruct
+    encrypted_data: OctetsStruct
+    has_parameters: U32
+    reserved: U32
+
+
+@_struct_of("dm_public_key")
+class PublicKeyStruct(ctypes.Structure):
+    algorithm: OctetsStruct
+    parameters: AnyStruct
+    public_key: BitsStruct
+    has_parameters: U32
+    reserved: U32
+
+
+@_struct_of("dm_rsa_public_key")
+class RsaPublicKeyStruct(ctypes.Structure):
+    modulus: OctetsStruct
+    public_exponent: OctetsStruct
+
+
 @_struct_of("dm_pem")
 class PemStruct(ctypes.Structure):
     label: OctetsStruct
@@ -272,19 +348,34 @@ class ExtensionKind(enum.IntEnum):
 
     EXTENSION_OTHER = 0
     AUTHORITY_INFO_ACCESS = 1
+    QC_STATEMENTS = 3
+    SUBJECT_DIRECTORY_ATTRIBUTES = 9
     SUBJECT_INFO_ACCESS = 11
     SUBJECT_KEY_IDENTIFIER = 14
     KEY_USAGE = 15
     SUBJECT_ALT_NAME = 17
     ISSUER_ALT_NAME = 18
     BASIC_CONSTRAINTS = 19
+    CRL_NUMBER = 20
     REASON_CODE = 21
+    INVALIDITY_DATE = 24
+    DELTA_CRL_INDICATOR = 27
+    ISSUING_DISTRIBUTION_POINT = 28
+    CERTIFICATE_ISSUER = 29
     NAME_CONSTRAINTS = 30
     CRL_DISTRIBUTION_POINTS = 31
     CERTIFICATE_POLICIES = 32
+    POLICY_MAPPINGS = 33
     AUTHORITY_KEY_IDENTIFIER = 35
+    POLICY_CONSTRAINTS = 36
     EXTENDED_KEY_USAGE = 37
     FRESHEST_CRL = 46
+    INHIBIT_ANY_POLICY = 54
+    TLS_FEATURES = 256
+    OCSP_NO_CHECK = 257
+    SIGNED_CERTIFICATE_TIMESTAMPS = 258
+    PRECERTIFICATE_POISON = 259
+    ORGANIZATION_IDENTIFIER = 260
 
 
 DIGEST_OCTETS = 32
@@ -316,6 +407,22 @@ read_request = _reader("dm_read_request")
 read_extension_request = _reader("dm_read_extension_request")
 read_private_key = _reader("dm_read_private_key")
 read_rsa_private_key = _reader("dm_read_rsa_private_key")
+read_ec_private_key = _reader("dm_read_ec_private_key")
+read_encrypted_private_key = _reader("dm_read_encrypted_private_key")
+read_public_key = _reader("dm_read_public_key")
+read_rsa_public_key = _reader("dm_read_rsa_public_key")
+read_policy_mappings = _reader("dm_read_policy_mappings")
+read_policy_constraints = _reader("dm_read_policy_constraints")
+read_inhibit_any_policy = _reader("dm_read_inhibit_any_policy")
+read_directory_attributes = _reader("dm_read_directory_attributes")
+read_crl_number = _reader("dm_read_crl_number")
+read_issuing_distribution_point = _reader("dm_read_issuing_distribution_point")
+read_invalidity_date = _reader("dm_read_invalidity_date")
+read_signed_certificate_timestamps = _reader("dm_read_signed_certificate_timestamps")
+read_tls_features = _reader("dm_read_tls_features")
+read_qc_statements = _reader("dm_read_qc_statements")
+read_organization_identifier = _reader("dm_read_organization_identifier")
+read_null_extension = _call("dm_read_null_extension", c_uint32, c_void_p, c_size_t, c_void_p)
 
 next_relative_name = _stepper("dm_next_relative_name")
 next_attribute = _stepper("dm_next_attribute")
@@ -329,6 +436,11 @@ next_subtree = _stepper("dm_next_subtree")
 next_access_description = _stepper("dm_next_access_description")
 next_revoked = _stepper("dm_next_revoked")
 next_request_attribute = _stepper("dm_next_request_attribute")
+next_policy_mapping = _stepper("dm_next_policy_mapping")
+next_directory_attribute = _stepper("dm_next_directory_attribute")
+next_timestamp = _stepper("dm_next_timestamp")
+next_tls_feature = _stepper("dm_next_tls_feature")
+next_qc_statement = _stepper("dm_next_qc_statement")
 
 find_pem = _call("dm_find_pem", c_uint32, c_void_p, c_size_t, c_void_p)
 next_pem = _call("dm_next_pem", c_uint32, c_void_p, c_void_p, c_size_t, c_void_p, c_size_t, c_void_p)
@@ -336,6 +448,7 @@ next_pem = _call("dm_next_pem", c_uint32, c_void_p, c_void_p, c_size_t, c_void_p
 _name_text = _call("dm_name_text", c_size_t, c_void_p, c_size_t, c_void_p, c_size_t)
 _fault_text = _call("dm_fault_text", c_size_t, c_void_p, c_void_p, c_size_t)
 _sha256 = _call("dm_sha256", None, c_void_p, c_size_t, c_void_p)
+_has_unknown_critical = _call("dm_has_unknown_critical", c_uint32, c_void_p, c_size_t)
 
 Within = Callable[[OctetsStruct], bytes]
 """Takes the octets of a part of an input."""
@@ -362,6 +475,13 @@ def items(call: Call, struct: Type[S], data: bytes) -> Iterator[Tuple[S, Within]
         yield item, part
 
 
+def numbers(call: Call, data: bytes) -> Iterator[int]:
+    """The items of a list of numbers."""
+    rest, item = OctetsStruct(_bytes_address(data), len(data)), c_uint32()
+    while call(ctypes.byref(rest), ctypes.byref(item)):
+        yield item.value
+
+
 def name_text(name: bytes) -> str:
     """The text of a name by RFC 4514."""
     return _text(_name_text, _bytes_address(name), len(name))
@@ -380,6 +500,12 @@ def _text(call: Call, *arguments: Any) -> str:
         if length <= room:
             return text.raw[:length].decode()
         room = length
+
+
+def has_unknown_critical(extensions: bytes) -> bool:
+    """Whether one of the extensions is critical and of none of the kinds."""
+    found: int = _has_unknown_critical(_bytes_address(extensions), len(extensions))
+    return found != 0
 
 
 def sha256(data: bytes) -> bytes:

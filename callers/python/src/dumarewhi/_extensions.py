@@ -2,6 +2,7 @@
 from __future__ import annotations
 
 import ctypes
+import datetime
 import enum
 from dataclasses import dataclass
 from typing import Callable, Dict, Iterable, Optional, Tuple, Union
@@ -9,6 +10,7 @@ from typing import Callable, Dict, Iterable, Optional, Tuple, Union
 from . import _certificate_calls as _calls
 from . import _parts
 from ._certificate_calls import ExtensionKind, OctetsStruct, Within
+from ._library import TimeStruct
 from ._names import Attribute, GeneralName, attributes_of, general_name, general_names
 from ._parts import AnyElement
 from ._values import BitString, ObjectIdentifier
@@ -108,6 +110,75 @@ class AccessDescription:
     location: GeneralName
 
 
+@dataclass(frozen=True)
+class PolicyMapping:
+    """A policy of the issuer, and the one of the subject that it stands for (4.2.1.5)."""
+
+    issuer_policy: ObjectIdentifier
+    subject_policy: ObjectIdentifier
+
+
+@dataclass(frozen=True)
+class PolicyConstraints:
+    """From where on in a path policies are asked for, or no longer mapped (4.2.1.11)."""
+
+    require_explicit_policy: Optional[int]
+    """How many certificates may follow before each needs an acceptable policy."""
+    inhibit_policy_mapping: Optional[int]
+    """How many may follow before policies are no longer mapped."""
+
+
+@dataclass(frozen=True)
+class DirectoryAttribute:
+    """What else is said of a subject (4.2.1.8)."""
+
+    identifier: ObjectIdentifier
+    values: bytes
+    """The encodings of its values, one after the other."""
+
+
+@dataclass(frozen=True)
+class IssuingDistributionPoint:
+    """Which certificates a list of revoked ones is about (5.2.5)."""
+
+    full_name: Tuple[GeneralName, ...]
+    """Where the list is found, or no names if it has no such field."""
+    relative_name: Tuple[Attribute, ...]
+    """What follows the name of the issuer, or nothing if it is absent."""
+    reasons: Optional[BitString]
+    """A bit for each reason that the list has, from keyCompromise (1) to aACompromise (8). ``None`` for all."""
+    only_contains_user_certs: bool
+    """Whether it has only certificates of end entities."""
+    only_contains_ca_certs: bool
+    """Whether it has only certificates of authorities."""
+    indirect_crl: bool
+    """Whether it has certificates of other issuers."""
+    only_contains_attribute_certs: bool
+    """Whether it has only attribute certificates."""
+
+
+@dataclass(frozen=True)
+class QcStatement:
+    """What is stated of a qualified certificate (RFC 3739 3.2.6)."""
+
+    identifier: ObjectIdentifier
+    info: Optional[AnyElement]
+    """What it says."""
+
+
+@dataclass(frozen=True)
+class OrganizationIdentifier:
+    """In which register an organization is (CA/B Forum, EV Guidelines 9.8.2)."""
+
+    scheme: str
+    """The kind of the register, such as VAT: three characters."""
+    country: str
+    """Its country, two characters."""
+    state_or_province: Optional[str]
+    reference: str
+    """The number of the organization in it."""
+
+
 class RevocationReason(enum.IntEnum):
     """Why a certificate is revoked (5.3.1)."""
 
@@ -128,13 +199,24 @@ ExtensionValue = Union[
     KeyUsage,
     AuthorityKeyIdentifier,
     NameConstraints,
+    PolicyConstraints,
+    IssuingDistributionPoint,
+    OrganizationIdentifier,
     RevocationReason,
     Tuple[GeneralName, ...],
     Tuple[ObjectIdentifier, ...],
     Tuple[Policy, ...],
     Tuple[DistributionPoint, ...],
     Tuple[AccessDescription, ...],
+    Tuple[PolicyMapping, ...],
+    Tuple[DirectoryAttribute, ...],
+    Tuple[QcStatement, ...],
+    Tuple[bytes, ...],
+    Tuple[int, ...],
+    datetime.datetime,
+    int,
     bytes,
+    None,
 ]
 """What :attr:`Extension.value` returns."""
 
@@ -159,17 +241,30 @@ class Extension:
         | SubjectKeyIdentifier | its octets |
         | KeyUsage | :class:`KeyUsage` |
         | CertificatePolicies | a tuple of :class:`Policy` |
-        | SubjectAltName, IssuerAltName | a tuple of :class:`GeneralName` |
+        | SubjectAltName, IssuerAltName, CertificateIssuer | a tuple of :class:`GeneralName` |
         | BasicConstraints | :class:`BasicConstraints` |
         | NameConstraints | :class:`NameConstraints` |
         | ExtendedKeyUsage | a tuple of :class:`ObjectIdentifier`, the purposes |
         | CRLDistributionPoints, FreshestCRL | a tuple of :class:`DistributionPoint` |
         | AuthorityInfoAccess, SubjectInfoAccess | a tuple of :class:`AccessDescription` |
+        | PolicyMappings | a tuple of :class:`PolicyMapping` |
+        | SubjectDirectoryAttributes | a tuple of :class:`DirectoryAttribute` |
+        | PolicyConstraints | :class:`PolicyConstraints` |
+        | InhibitAnyPolicy | ``int``: how many certificates may follow before anyPolicy no longer counts |
+        | CRLNumber, deltaCRLIndicator, of a list | ``int`` |
+        | IssuingDistributionPoint, of a list | :class:`IssuingDistributionPoint` |
         | CRLReason, of an entry of a list | :class:`RevocationReason` |
+        | InvalidityDate, of an entry | ``datetime`` in UTC |
+        | SCT list (RFC 6962 3.3) | a tuple of the octets of each timestamp |
+        | TLS feature (RFC 7633) | a tuple of ``int``, such as 5, status_request |
+        | qcStatements (RFC 3739 3.2.6) | a tuple of :class:`QcStatement` |
+        | cabfOrganizationIdentifier | :class:`OrganizationIdentifier` |
+        | OCSP no-check, the poison of a precertificate | ``None`` |
         | another, which isn't read | :attr:`octets` |
 
         Raises:
             CertificateError: The octets are no such value. Offsets count from their start.
+            DerError: The month of an InvalidityDate doesn't have its day, or its year is 0.
         """
         read = _VALUES.get(self._kind)
         return self.octets if read is None else read(self.octets)
@@ -259,6 +354,96 @@ def read_information_access(octets: bytes) -> Tuple[AccessDescription, ...]:
     )
 
 
+def read_policy_mappings(octets: bytes) -> Tuple[PolicyMapping, ...]:
+    mappings = _parts.read_part(_calls.read_policy_mappings, octets)
+    return tuple(
+        PolicyMapping(
+            ObjectIdentifier.from_content(part(item.issuer_policy)),
+            ObjectIdentifier.from_content(part(item.subject_policy)),
+        )
+        for item, part in _calls.items(_calls.next_policy_mapping, _calls.PolicyMappingStruct, mappings)
+    )
+
+
+def read_policy_constraints(octets: bytes) -> PolicyConstraints:
+    found = _parts.read(_calls.read_policy_constraints, _calls.PolicyConstraintsStruct(), octets)
+    return PolicyConstraints(
+        found.require_explicit_policy if found.has_require_explicit_policy else None,
+        found.inhibit_policy_mapping if found.has_inhibit_policy_mapping else None,
+    )
+
+
+def read_inhibit_any_policy(octets: bytes) -> int:
+    return _parts.read(_calls.read_inhibit_any_policy, ctypes.c_uint32(), octets).value
+
+
+def read_directory_attributes(octets: bytes) -> Tuple[DirectoryAttribute, ...]:
+    attributes = _parts.read_part(_calls.read_directory_attributes, octets)
+    return tuple(
+        DirectoryAttribute(ObjectIdentifier.from_content(part(item.identifier)), part(item.values))
+        for item, part in _calls.items(_calls.next_directory_attribute, _calls.RequestAttributeStruct, attributes)
+    )
+
+
+def read_crl_number(octets: bytes) -> int:
+    return _parts.number(_parts.read_part(_calls.read_crl_number, octets))
+
+
+def read_issuing_distribution_point(octets: bytes) -> IssuingDistributionPoint:
+    found = _parts.read(_calls.read_issuing_distribution_point, _calls.IssuingDistributionPointStruct(), octets)
+    part = _calls.within(octets)
+    return IssuingDistributionPoint(
+        general_names(part(found.full_name)),
+        attributes_of(part(found.relative_name)),
+        _parts.optional_bits(found.reasons, part),
+        found.only_contains_user_certs != 0,
+        found.only_contains_ca_certs != 0,
+        found.indirect_crl != 0,
+        found.only_contains_attribute_certs != 0,
+    )
+
+
+def read_invalidity_date(octets: bytes) -> datetime.datetime:
+    found = _parts.read(_calls.read_invalidity_date, TimeStruct(), octets)
+    return _parts.datetime_of(_parts.moment_of(found))
+
+
+def read_timestamps(octets: bytes) -> Tuple[bytes, ...]:
+    timestamps = _parts.read_part(_calls.read_signed_certificate_timestamps, octets)
+    return tuple(part(item) for item, part in _calls.items(_calls.next_timestamp, OctetsStruct, timestamps))
+
+
+def read_tls_features(octets: bytes) -> Tuple[int, ...]:
+    features = _parts.read_part(_calls.read_tls_features, octets)
+    return tuple(_calls.numbers(_calls.next_tls_feature, features))
+
+
+def read_qc_statements(octets: bytes) -> Tuple[QcStatement, ...]:
+    statements = _parts.read_part(_calls.read_qc_statements, octets)
+    return tuple(
+        QcStatement(
+            ObjectIdentifier.from_content(part(item.identifier)),
+            _parts.any_element(item.info, part) if item.has_info else None,
+        )
+        for item, part in _calls.items(_calls.next_qc_statement, _calls.QcStatementStruct, statements)
+    )
+
+
+def read_organization_identifier(octets: bytes) -> OrganizationIdentifier:
+    found = _parts.read(_calls.read_organization_identifier, _calls.OrganizationIdentifierStruct(), octets)
+    part = _calls.within(octets)
+    return OrganizationIdentifier(
+        part(found.scheme).decode(),
+        part(found.country).decode(),
+        part(found.state_or_province).decode() if found.has_state_or_province else None,
+        part(found.reference).decode(),
+    )
+
+
+def read_null(octets: bytes) -> None:
+    _parts.read_null(_calls.read_null_extension, octets)
+
+
 def read_reason(octets: bytes) -> RevocationReason:
     return RevocationReason(_parts.read(_calls.read_reason, ctypes.c_uint32(), octets).value)
 
@@ -277,7 +462,22 @@ _VALUES: Dict[int, Callable[[bytes], ExtensionValue]] = {
     ExtensionKind.FRESHEST_CRL: read_distribution_points,
     ExtensionKind.AUTHORITY_INFO_ACCESS: read_information_access,
     ExtensionKind.SUBJECT_INFO_ACCESS: read_information_access,
+    ExtensionKind.POLICY_MAPPINGS: read_policy_mappings,
+    ExtensionKind.SUBJECT_DIRECTORY_ATTRIBUTES: read_directory_attributes,
+    ExtensionKind.POLICY_CONSTRAINTS: read_policy_constraints,
+    ExtensionKind.INHIBIT_ANY_POLICY: read_inhibit_any_policy,
+    ExtensionKind.CRL_NUMBER: read_crl_number,
+    ExtensionKind.DELTA_CRL_INDICATOR: read_crl_number,
+    ExtensionKind.ISSUING_DISTRIBUTION_POINT: read_issuing_distribution_point,
     ExtensionKind.REASON_CODE: read_reason,
+    ExtensionKind.INVALIDITY_DATE: read_invalidity_date,
+    ExtensionKind.CERTIFICATE_ISSUER: read_general_names,
+    ExtensionKind.SIGNED_CERTIFICATE_TIMESTAMPS: read_timestamps,
+    ExtensionKind.TLS_FEATURES: read_tls_features,
+    ExtensionKind.QC_STATEMENTS: read_qc_statements,
+    ExtensionKind.ORGANIZATION_IDENTIFIER: read_organization_identifier,
+    ExtensionKind.OCSP_NO_CHECK: read_null,
+    ExtensionKind.PRECERTIFICATE_POISON: read_null,
 }
 
 

@@ -1,4 +1,4 @@
-"""Private keys. What is secret of them isn't shown."""
+"""Keys. What is secret of them isn't shown."""
 from __future__ import annotations
 
 from dataclasses import dataclass
@@ -25,8 +25,8 @@ class PrivateKey:
     parameters: Optional[AnyElement]
     """The parameters of the algorithm."""
     private_key: bytes
-    """The key, in the form of its algorithm: of RSA as :class:`RsaPrivateKey` reads it, of elliptic curves (SEC 1) an
-    ECPrivateKey (RFC 5915 3), which a :class:`Reader` reads."""
+    """The key, in the form of its algorithm: of RSA as :class:`RsaPrivateKey` reads it, of elliptic curves (SEC 1) as
+    :class:`EcPrivateKey` does."""
     attributes: Optional[bytes]
     """The content octets of the attributes, which aren't read."""
     public_key: Optional[BitString]
@@ -39,7 +39,7 @@ class PrivateKey:
             data: Any object with octets. They are copied.
 
         Raises:
-            CertificateError: The octets aren't a key, or it is encrypted (EncryptedPrivateKeyInfo).
+            CertificateError: The octets aren't a key, or it is encrypted: :class:`EncryptedPrivateKey` reads that.
         """
         octets = bytes(data)
         found = _parts.read(_calls.read_private_key, _calls.PrivateKeyStruct(), octets)
@@ -103,3 +103,112 @@ class RsaPrivateKey:
 
     def __repr__(self) -> str:
         return f"<RsaPrivateKey of {self.modulus.bit_length()} bits>"
+
+
+@dataclass(frozen=True, repr=False)
+class EcPrivateKey:
+    """A private key of an elliptic curve (SEC 1 C.4, RFC 5915 3), as :attr:`PrivateKey.private_key` or a file of its
+    own has it."""
+
+    version: int
+    """Always 1."""
+    private_key: bytes
+    """The key, a number in as many octets as the order of the curve has."""
+    parameters: Optional[AnyElement]
+    """The curve, mostly by its identifier (RFC 5480 2.1.1)."""
+    public_key: Optional[BitString]
+
+    @classmethod
+    def from_der(cls: Type[EcPrivateKey], data: ReadableBuffer) -> EcPrivateKey:
+        """Reads the one key that the octets are in DER, exactly as its ASN.1 has it.
+
+        Raises:
+            CertificateError: The octets aren't a key.
+        """
+        octets = bytes(data)
+        found = _parts.read(_calls.read_ec_private_key, _calls.EcPrivateKeyStruct(), octets)
+        part = _calls.within(octets)
+        return cls(
+            version=found.version,
+            private_key=part(found.private_key),
+            parameters=_parts.any_element(found.parameters, part) if found.has_parameters else None,
+            public_key=_parts.optional_bits(found.public_key, part),
+        )
+
+    def __repr__(self) -> str:
+        return f"<EcPrivateKey of {len(self.private_key)} octets>"
+
+
+@dataclass(frozen=True)
+class EncryptedPrivateKey:
+    """A private key that is encrypted (RFC 5958 3). It isn't decrypted here."""
+
+    algorithm: ObjectIdentifier
+    """How it is encrypted."""
+    parameters: Optional[AnyElement]
+    """The parameters of the algorithm."""
+    encrypted_data: bytes
+
+    @classmethod
+    def from_der(cls: Type[EncryptedPrivateKey], data: ReadableBuffer) -> EncryptedPrivateKey:
+        """Reads the one key that the octets are in DER, exactly as its ASN.1 has it.
+
+        Raises:
+            CertificateError: The octets aren't an encrypted key.
+        """
+        octets = bytes(data)
+        found = _parts.read(_calls.read_encrypted_private_key, _calls.EncryptedPrivateKeyStruct(), octets)
+        part = _calls.within(octets)
+        return cls(
+            algorithm=ObjectIdentifier.from_content(part(found.algorithm)),
+            parameters=_parts.any_element(found.parameters, part) if found.has_parameters else None,
+            encrypted_data=part(found.encrypted_data),
+        )
+
+
+@dataclass(frozen=True)
+class SubjectPublicKeyInfo:
+    """A public key on its own (RFC 5280 4.1.2.7), as files PUBLIC KEY have it."""
+
+    algorithm: ObjectIdentifier
+    """What it is a key of."""
+    parameters: Optional[AnyElement]
+    """The parameters of the algorithm."""
+    public_key: BitString
+    """The key, in the form of its algorithm: of RSA as :class:`RsaPublicKey` reads its octets."""
+
+    @classmethod
+    def from_der(cls: Type[SubjectPublicKeyInfo], data: ReadableBuffer) -> SubjectPublicKeyInfo:
+        """Reads the one key that the octets are in DER, exactly as its ASN.1 has it.
+
+        Raises:
+            CertificateError: The octets aren't a key.
+        """
+        octets = bytes(data)
+        found = _parts.read(_calls.read_public_key, _calls.PublicKeyStruct(), octets)
+        part = _calls.within(octets)
+        return cls(
+            algorithm=ObjectIdentifier.from_content(part(found.algorithm)),
+            parameters=_parts.any_element(found.parameters, part) if found.has_parameters else None,
+            public_key=_parts.bits(found.public_key, part),
+        )
+
+
+@dataclass(frozen=True)
+class RsaPublicKey:
+    """A public key of RSA (RFC 8017 A.1.1)."""
+
+    modulus: int
+    public_exponent: int
+
+    @classmethod
+    def from_der(cls: Type[RsaPublicKey], data: ReadableBuffer) -> RsaPublicKey:
+        """Reads the one key that the octets are in DER, exactly as its ASN.1 has it.
+
+        Raises:
+            CertificateError: The octets aren't a key.
+        """
+        octets = bytes(data)
+        found = _parts.read(_calls.read_rsa_public_key, _calls.RsaPublicKeyStruct(), octets)
+        part = _calls.within(octets)
+        return cls(_parts.number(part(found.modulus)), _parts.number(part(found.public_exponent)))

@@ -20,7 +20,7 @@ from ._certificate_calls import (
 )
 from ._errors import DerError
 from ._header import Field, Rule
-from ._library import Call
+from ._library import Call, TimeStruct
 from ._tag import Tag, TagClass
 from ._values import BitString, ObjectIdentifier
 
@@ -96,6 +96,13 @@ def read(call: Call, found: _calls.V, octets: bytes) -> _calls.V:
     return found
 
 
+def read_null(call: Call, octets: bytes) -> None:
+    """Reads an input that has no value."""
+    fault = FaultStruct()
+    if call(_library._bytes_address(octets), len(octets), ctypes.byref(fault)) != _library.OK:
+        raise CertificateError(fault)
+
+
 def read_part(call: Call, octets: bytes) -> bytes:
     """The part of an input that a call finds."""
     return _calls.within(octets)(read(call, OctetsStruct(), octets))
@@ -131,7 +138,10 @@ Moment = Tuple[int, int, int, int, int, int, int]
 
 
 def moment(found: MomentStruct) -> Moment:
-    time = found.time
+    return moment_of(found.time)
+
+
+def moment_of(time: TimeStruct) -> Moment:
     return time.year, time.month, time.day, time.hour, time.minute, time.second, time.nanosecond // 1000
 
 

@@ -1,5 +1,5 @@
-"""Certificates, lists of revoked ones (RFC 5280), requests (RFC 2986) and private keys (RFC 5958), by calls of the
-library that are proved.
+"""Certificates, lists of revoked ones (RFC 5280), requests (RFC 2986) and keys (RFC 5958, RFC 5915, RFC 8017), by calls
+of the library that are proved.
 
     certificate = Certificate.from_der(octets)
     print(certificate.subject, certificate.not_after)
@@ -21,20 +21,33 @@ from ._extensions import (
     AccessDescription,
     AuthorityKeyIdentifier,
     BasicConstraints,
+    DirectoryAttribute,
     DistributionPoint,
     Extension,
     ExtensionValue,
+    IssuingDistributionPoint,
     KeyUsage,
     NameConstraints,
+    OrganizationIdentifier,
     Policy,
+    PolicyConstraints,
+    PolicyMapping,
     PolicyQualifier,
+    QcStatement,
     RevocationReason,
     Subtree,
     extensions_of,
     read_reason,
 )
 from ._header import Field
-from ._keys import PrivateKey, RsaPrivateKey
+from ._keys import (
+    EcPrivateKey,
+    EncryptedPrivateKey,
+    PrivateKey,
+    RsaPrivateKey,
+    RsaPublicKey,
+    SubjectPublicKeyInfo,
+)
 from ._names import Attribute, GeneralName, GeneralNameKind, Name
 from ._parts import Algorithm, AnyElement, CertificateError, Moment, PublicKey
 from ._values import BitString, ObjectIdentifier
@@ -53,23 +66,33 @@ __all__ = [
     "CertificateError",
     "CertificateList",
     "CertificationRequest",
+    "DirectoryAttribute",
     "DistributionPoint",
+    "EcPrivateKey",
+    "EncryptedPrivateKey",
     "Extension",
     "ExtensionValue",
     "Field",
     "GeneralName",
     "GeneralNameKind",
+    "IssuingDistributionPoint",
     "KeyUsage",
     "Name",
     "NameConstraints",
+    "OrganizationIdentifier",
     "Policy",
+    "PolicyConstraints",
+    "PolicyMapping",
     "PolicyQualifier",
     "PrivateKey",
     "PublicKey",
+    "QcStatement",
     "RequestAttribute",
     "RevocationReason",
     "RevokedCertificate",
     "RsaPrivateKey",
+    "RsaPublicKey",
+    "SubjectPublicKeyInfo",
     "Subtree",
 ]
 
@@ -93,6 +116,9 @@ class Certificate:
     issuer_unique_id: Optional[BitString]
     subject_unique_id: Optional[BitString]
     extensions: Tuple[Extension, ...]
+    has_unknown_critical: bool
+    """Whether an extension is critical and isn't one that :attr:`Extension.value` reads. Who knows no others has to
+    refuse the certificate (4.2)."""
     signature_algorithm: Algorithm
     signature_value: BitString
     """The signature. It isn't verified."""
@@ -127,6 +153,7 @@ class Certificate:
             issuer_unique_id=_parts.optional_bits(found.issuer_unique_id, part),
             subject_unique_id=_parts.optional_bits(found.subject_unique_id, part),
             extensions=extensions_of(part(found.extensions)),
+            has_unknown_critical=_calls.has_unknown_critical(part(found.extensions)),
             signature_algorithm=_parts.algorithm(found.signature_algorithm, part),
             signature_value=_parts.bits(found.signature_value, part),
             _validity=(_parts.moment(found.not_before), _parts.moment(found.not_after)),
@@ -169,6 +196,9 @@ class RevokedCertificate:
     serial_number: int
     extensions: Tuple[Extension, ...]
     """The extensions of the entry (5.3), such as its reason."""
+    has_unknown_critical: bool
+    """Whether an extension is critical and isn't one that :attr:`Extension.value` reads. Who knows no others has to
+    refuse the list (5.3)."""
     _date: Moment
 
     @property
@@ -207,6 +237,9 @@ class CertificateList:
     revoked_certificates: Optional[Tuple[RevokedCertificate, ...]]
     """``None`` if the field is absent, as it is if there are none (5.1.2.6)."""
     extensions: Tuple[Extension, ...]
+    has_unknown_critical: bool
+    """Whether an extension is critical and isn't one that :attr:`Extension.value` reads. Who knows no others has to
+    refuse the list (5.2)."""
     signature_algorithm: Algorithm
     signature_value: BitString
     """The signature. It isn't verified."""
@@ -231,6 +264,7 @@ class CertificateList:
             issuer=Name(part(found.issuer)),
             revoked_certificates=_revoked(part(found.revoked)) if found.has_revoked else None,
             extensions=extensions_of(part(found.extensions)),
+            has_unknown_critical=_calls.has_unknown_critical(part(found.extensions)),
             signature_algorithm=_parts.algorithm(found.signature_algorithm, part),
             signature_value=_parts.bits(found.signature_value, part),
             _this_update=_parts.moment(found.this_update),
@@ -325,7 +359,10 @@ class CertificationRequest:
 def _revoked(octets: bytes) -> Tuple[RevokedCertificate, ...]:
     return tuple(
         RevokedCertificate(
-            _parts.number(part(item.serial_number)), extensions_of(part(item.extensions)), _parts.moment(item.date)
+            _parts.number(part(item.serial_number)),
+            extensions_of(part(item.extensions)),
+            _calls.has_unknown_critical(part(item.extensions)),
+            _parts.moment(item.date),
         )
         for item, part in _calls.items(_calls.next_revoked, _calls.RevokedStruct, octets)
     )

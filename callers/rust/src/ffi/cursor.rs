@@ -1,5 +1,5 @@
 //! The calls that read field after field.
-use super::{BitsFields, Fault, Octets, TimeFields, OK};
+use super::{value_or_fault, BitsFields, Fault, Octets, TimeFields};
 use crate::Tag;
 
 structs! {
@@ -44,10 +44,8 @@ macro_rules! fields {
 
         impl<'a> Cursor<'a> {
             $(pub(crate) fn $name(&mut self) -> Result<$type, Fault> {
-                let (mut value, mut fault) = (<$type>::default(), Fault::default());
                 // SAFETY: as in the module above.
-                let status = unsafe { $call(self, &mut value, &mut fault) };
-                read_or(status, fault, value)
+                value_or_fault(|to, fault| unsafe { $call(self, to, fault) })
             })*
         }
     };
@@ -68,13 +66,6 @@ fields! {
     fn dm_next_any() as any -> AnyFields<'a>;
 }
 
-pub(super) fn read_or<T>(status: u32, fault: Fault, value: T) -> Result<T, Fault> {
-    match status {
-        OK => Ok(value),
-        _ => Err(fault),
-    }
-}
-
 impl<'a> Cursor<'a> {
     /// The implicit tag that the next element has.
     pub(crate) fn implicit_tag(&self) -> Option<Tag> {
@@ -87,26 +78,21 @@ impl<'a> Cursor<'a> {
     }
 
     pub(crate) fn null(&mut self) -> Result<(), Fault> {
-        let mut fault = Fault::default();
         // SAFETY: as in the module above.
-        let status = unsafe { dm_next_null(self, &mut fault) };
-        read_or(status, fault, ())
+        value_or_fault(|_, fault| unsafe { dm_next_null(self, fault) })
     }
 
     /// A cursor over the content of an element with this tag.
     pub(crate) fn content(&mut self, tag: Tag, constructed: bool) -> Result<Cursor<'a>, Fault> {
-        let (mut content, mut fault) = (Cursor::default(), Fault::default());
         let (class, constructed) = (tag.class as u8, constructed.into());
         // SAFETY: as in the module above.
-        let status =
-            unsafe { dm_next_content(self, class, constructed, tag.number, &mut content, &mut fault) };
-        read_or(status, fault, content)
+        value_or_fault(|to, fault| unsafe {
+            dm_next_content(self, class, constructed, tag.number, to, fault)
+        })
     }
 
     pub(crate) fn end(&self) -> Result<(), Fault> {
-        let mut fault = Fault::default();
         // SAFETY: as in the module above.
-        let status = unsafe { dm_end(self, &mut fault) };
-        read_or(status, fault, ())
+        value_or_fault(|_, fault| unsafe { dm_end(self, fault) })
     }
 }

@@ -93,6 +93,15 @@ fn rows_of_structs() -> Vec<Row> {
         AccessDescriptionFields::rows(),
         PrivateKeyFields::rows(),
         RsaPrivateKeyFields::rows(),
+        EcPrivateKeyFields::rows(),
+        EncryptedPrivateKeyFields::rows(),
+        PublicKeyFields::rows(),
+        RsaPublicKeyFields::rows(),
+        PolicyMappingFields::rows(),
+        PolicyConstraintsFields::rows(),
+        IssuingDistributionPointFields::rows(),
+        QcStatementFields::rows(),
+        OrganizationIdentifierFields::rows(),
         rows_of_pem(),
     ]
     .concat()

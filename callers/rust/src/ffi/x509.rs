@@ -1,6 +1,5 @@
-//! The calls that read certificates, lists of revoked ones, and requests.
-use super::cursor::read_or;
-use super::{Fault, Octets, TimeFields};
+//! The calls that read certificates, lists of revoked ones, requests and keys.
+use super::{value_or_fault, written, Fault, Octets, TimeFields};
 use crate::x509::fields::*;
 use crate::{Error, Result};
 
@@ -39,6 +38,13 @@ structs! {
         reserved: u32,
     }
 
+    struct PolicyConstraintsFields as dm_policy_constraints {
+        has_require_explicit_policy: u32,
+        require_explicit_policy: u32,
+        has_inhibit_policy_mapping: u32,
+        inhibit_policy_mapping: u32,
+    }
+
     struct Digest as dm_digest {
         octets: [u8; 32],
     }
@@ -53,10 +59,9 @@ macro_rules! reads {
 
         $(#[allow(clippy::needless_lifetimes)]
         pub(crate) fn $name<'a>(input: &'a [u8]) -> Result<$type> {
-            let (mut value, mut fault) = (<$type>::default(), Fault::default());
             // SAFETY: as in the module above.
-            let status = unsafe { $call(input.as_ptr(), input.len(), &mut value, &mut fault) };
-            read_or(status, fault, value).map_err(Error::of_fault)
+            value_or_fault(|to, fault| unsafe { $call(input.as_ptr(), input.len(), to, fault) })
+                .map_err(Error::of_fault)
         })*
     };
 }
@@ -80,6 +85,37 @@ reads! {
     fn dm_read_reason() as read_reason -> u32;
     fn dm_read_private_key() as read_private_key -> PrivateKeyFields<'a>;
     fn dm_read_rsa_private_key() as read_rsa_private_key -> RsaPrivateKeyFields<'a>;
+    fn dm_read_ec_private_key() as read_ec_private_key -> EcPrivateKeyFields<'a>;
+    fn dm_read_encrypted_private_key() as read_encrypted_private_key -> EncryptedPrivateKeyFields<'a>;
+    fn dm_read_public_key() as read_public_key -> PublicKeyFields<'a>;
+    fn dm_read_rsa_public_key() as read_rsa_public_key -> RsaPublicKeyFields<'a>;
+    fn dm_read_policy_mappings() as read_policy_mappings -> Octets<'a>;
+    fn dm_read_policy_constraints() as read_policy_constraints -> PolicyConstraintsFields;
+    fn dm_read_inhibit_any_policy() as read_inhibit_any_policy -> u32;
+    fn dm_read_directory_attributes() as read_directory_attributes -> Octets<'a>;
+    fn dm_read_crl_number() as read_crl_number -> Octets<'a>;
+    fn dm_read_issuing_distribution_point() as read_issuing_distribution_point -> IssuingDistributionPointFields<'a>;
+    fn dm_read_invalidity_date() as read_invalidity_date -> TimeFields;
+    fn dm_read_signed_certificate_timestamps() as read_signed_certificate_timestamps -> Octets<'a>;
+    fn dm_read_tls_features() as read_tls_features -> Octets<'a>;
+    fn dm_read_qc_statements() as read_qc_statements -> Octets<'a>;
+    fn dm_read_organization_identifier() as read_organization_identifier -> OrganizationIdentifierFields<'a>;
+}
+
+extern "C" {
+    fn dm_read_null_extension(i: *const u8, n: usize, fault: *mut Fault) -> u32;
+    fn dm_has_unknown_critical(i: *const u8, n: usize) -> u32;
+}
+
+pub(crate) fn read_null_extension(input: &[u8]) -> Result<()> {
+    // SAFETY: as in the module above.
+    value_or_fault(|_, fault| unsafe { dm_read_null_extension(input.as_ptr(), input.len(), fault) })
+        .map_err(Error::of_fault)
+}
+
+pub(crate) fn has_unknown_critical(extensions: &[u8]) -> bool {
+    // SAFETY: as in the module above.
+    unsafe { dm_has_unknown_critical(extensions.as_ptr(), extensions.len()) != 0 }
 }
 
 /// Calls that take the next item of a list: one for each line, with its name here and what an item is.
@@ -90,9 +126,8 @@ macro_rules! items {
         }
 
         $(pub(crate) fn $name<'a>(list: &mut Octets<'a>) -> Option<$type> {
-            let mut item = <$type>::default();
             // SAFETY: as in the module above.
-            let found = unsafe { $call(list, &mut item) };
+            let (item, found) = written(|to| unsafe { $call(list, to) });
             (found != 0).then_some(item)
         })*
     };
@@ -111,4 +146,9 @@ items! {
     fn dm_next_distribution_point() as next_distribution_point -> DistributionPointFields<'a>;
     fn dm_next_subtree() as next_subtree -> SubtreeFields<'a>;
     fn dm_next_access_description() as next_access_description -> AccessDescriptionFields<'a>;
+    fn dm_next_policy_mapping() as next_policy_mapping -> PolicyMappingFields<'a>;
+    fn dm_next_directory_attribute() as next_directory_attribute -> RequestAttributeFields<'a>;
+    fn dm_next_timestamp() as next_timestamp -> Octets<'a>;
+    fn dm_next_tls_feature() as next_tls_feature -> u32;
+    fn dm_next_qc_statement() as next_qc_statement -> QcStatementFields<'a>;
 }

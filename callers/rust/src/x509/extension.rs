@@ -1,19 +1,27 @@
 //! Extensions, and what their values are.
 use super::{
-    AccessDescriptions, DistributionPoints, Error, Name, NameConstraints, Policies, RevocationReason,
+    AccessDescriptions, DirectoryAttributes, DistributionPoints, Error, IssuingDistributionPoint, Name,
+    NameConstraints, OrganizationIdentifier, Policies, PolicyConstraints, PolicyMappings, QcStatements,
+    RevocationReason, Timestamps, TlsFeatures,
 };
 use crate::ffi::{self, Octets};
-use crate::{Integer, ObjectIdentifier};
+use crate::{Integer, ObjectIdentifier, Time};
 
 list! {
-    /// The extensions of a certificate (RFC 5280 4.1.2.9).
-    Extensions, ExtensionsIter of Extension by next_extension
+    /// The extensions of a certificate (RFC 5280 4.1.2.9), of a list of revoked certificates, or of an entry of one.
+    Extensions, ExtensionsIter of Extension<'a> => next_extension
 }
 
 impl<'a> Extensions<'a> {
     /// The first extension of a type.
     pub fn find(self, identifier: ObjectIdentifier<'_>) -> Option<Extension<'a>> {
         self.iter().find(|extension| extension.identifier() == identifier)
+    }
+
+    /// Whether one of them is critical and is another than those that [`Value`] has. Who knows no others has to refuse
+    /// the certificate, the list of revoked certificates or its entry (RFC 5280 4.2, 5.2, 5.3).
+    pub fn has_unknown_critical(self) -> bool {
+        ffi::has_unknown_critical(self.as_bytes())
     }
 }
 
@@ -23,31 +31,32 @@ parts! {
     /// Its type.
     identifier: Octets<'a> as ObjectIdentifier<'a>,
     value: Octets<'a>,
-    critical: u32,
+    /// Whether who doesn't know it has to reject the certificate.
+    critical: u32 => is_critical,
     kind: u32,
 }
 
 impl<'a> Extension<'a> {
-    /// Whether who doesn't know it has to reject the certificate.
-    pub fn is_critical(&self) -> bool {
-        self.0.critical != 0
-    }
-
     /// The octets of its value: the encoding of a type that the identifier names.
     pub fn octets(&self) -> &'a [u8] {
         self.0.value.get()
     }
 }
 
-/// Values of extensions: what each is, the number of its kind in `dumarewhi.h`, and what reads it.
+/// Values of extensions: what each is, the number of its kind in `dumarewhi.h`, and what reads it; and those that are a
+/// NULL.
 macro_rules! values {
-    ($($(#[$doc:meta])* $name:ident($type:ty) = $kind:literal by $read:expr;)*) => {
+    (
+        $($(#[$doc:meta])* $name:ident($type:ty) = $kind:literal by $read:expr;)*
+        @null $($(#[$null_doc:meta])* $null:ident = $null_kind:literal;)*
+    ) => {
         impl<'a> Extension<'a> {
             /// Its value, by DER. Offsets of an error count from the start of [`octets`](Extension::octets).
             pub fn value(&self) -> Result<Value<'a>, Error> {
                 let octets = self.octets();
                 match self.0.kind {
-                    $($kind => $read(octets).map(Value::$name),)*
+                    $($kind => $read(octets).map(|value| Value::$name(value.into())),)*
+                    $($null_kind => ffi::read_null_extension(octets).map(|()| Value::$null),)*
                     _ => Ok(Value::Other(octets)),
                 }
             }
@@ -58,12 +67,14 @@ macro_rules! values {
         #[non_exhaustive]
         pub enum Value<'a> {
             $($(#[$doc])* $name($type),)*
+            $($(#[$null_doc])* $null,)*
             /// Another extension. Its octets aren't read.
             Other(&'a [u8]),
         }
 
         #[cfg(test)]
-        pub(crate) const KINDS: &[(&str, u32)] = &[$((stringify!($name), $kind)),*];
+        pub(crate) const KINDS: &[(&str, u32)] =
+            &[$((stringify!($name), $kind),)* $((stringify!($null), $null_kind),)*];
     };
 }
 
@@ -71,7 +82,7 @@ values! {
     /// 4.2.1.1
     AuthorityKeyIdentifier(AuthorityKeyIdentifier<'a>) = 35 by AuthorityKeyIdentifier::from_der;
     /// 4.2.1.2: its octets.
-    SubjectKeyIdentifier(&'a [u8]) = 14 by subject_key_identifier;
+    SubjectKeyIdentifier(&'a [u8]) = 14 by ffi::read_subject_key_identifier;
     /// 4.2.1.3
     KeyUsage(KeyUsage) = 15 by KeyUsage::from_der;
     /// 4.2.1.4
@@ -94,12 +105,39 @@ values! {
     AuthorityInfoAccess(AccessDescriptions<'a>) = 1 by AccessDescriptions::from_der;
     /// 4.2.2.2
     SubjectInfoAccess(AccessDescriptions<'a>) = 11 by AccessDescriptions::from_der;
+    /// 4.2.1.5
+    PolicyMappings(PolicyMappings<'a>) = 33 by PolicyMappings::from_der;
+    /// 4.2.1.8
+    SubjectDirectoryAttributes(DirectoryAttributes<'a>) = 9 by DirectoryAttributes::from_der;
+    /// 4.2.1.11
+    PolicyConstraints(PolicyConstraints) = 36 by PolicyConstraints::from_der;
+    /// 4.2.1.14: how many certificates may follow in a path before anyPolicy no longer counts.
+    InhibitAnyPolicy(u32) = 54 by ffi::read_inhibit_any_policy;
+    /// 5.2.3: the number of a list of revoked certificates, which isn't negative.
+    CrlNumber(Integer<'a>) = 20 by ffi::read_crl_number;
+    /// 5.2.4: the number of the list that this one changes.
+    DeltaCrlIndicator(Integer<'a>) = 27 by ffi::read_crl_number;
+    /// 5.2.5
+    IssuingDistributionPoint(IssuingDistributionPoint<'a>) = 28 by IssuingDistributionPoint::from_der;
     /// 5.3.1, of an entry of a list of revoked certificates.
     ReasonCode(RevocationReason) = 21 by RevocationReason::from_der;
-}
-
-fn subject_key_identifier(octets: &[u8]) -> Result<&[u8], Error> {
-    ffi::read_subject_key_identifier(octets).map(Octets::get)
+    /// 5.3.2, of an entry: since when the key is known to be invalid.
+    InvalidityDate(Time) = 24 by ffi::read_invalidity_date;
+    /// 5.3.3, of an entry: who issued the certificates from it on.
+    CertificateIssuer(GeneralNames<'a>) = 29 by GeneralNames::from_der;
+    /// RFC 6962 3.3
+    SignedCertificateTimestamps(Timestamps<'a>) = 258 by Timestamps::from_der;
+    /// RFC 7633
+    TlsFeatures(TlsFeatures<'a>) = 256 by TlsFeatures::from_der;
+    /// RFC 3739 3.2.6
+    QcStatements(QcStatements<'a>) = 3 by QcStatements::from_der;
+    /// CA/B Forum, EV Guidelines 9.8.2
+    OrganizationIdentifier(OrganizationIdentifier<'a>) = 260 by OrganizationIdentifier::from_der;
+    @null
+    /// RFC 6962 3.1: it isn't to be accepted as a certificate.
+    PrecertificatePoison = 259;
+    /// RFC 6960 4.2.2.2.1: its status isn't asked for.
+    OcspNoCheck = 257;
 }
 
 /// Whether the subject is a certification authority (RFC 5280 4.2.1.9).
@@ -190,7 +228,7 @@ usages! {
 
 list! {
     /// The purposes of a key (RFC 5280 4.2.1.12), one at least: their identifiers.
-    KeyPurposes, KeyPurposesIter of ObjectIdentifier by next_key_purpose, read_extended_key_usage
+    KeyPurposes, KeyPurposesIter of ObjectIdentifier<'a> => next_key_purpose, read_extended_key_usage
 }
 
 /// Which key signed the certificate (RFC 5280 4.2.1.1).
@@ -227,7 +265,7 @@ list! {
     /// assert!(names.iter().eq([GeneralName::DnsName("a.b")]));
     /// # Ok::<(), dumarewhi::x509::Error>(())
     /// ```
-    GeneralNames, GeneralNamesIter of GeneralName by next_general_name, read_general_names
+    GeneralNames, GeneralNamesIter of GeneralName<'a> => next_general_name, read_general_names
 }
 
 /// A name (RFC 5280 4.2.1.6).
@@ -262,15 +300,13 @@ pub enum GeneralName<'a> {
 impl<'a> From<ffi::GeneralNameFields<'a>> for GeneralName<'a> {
     fn from(fields: ffi::GeneralNameFields<'a>) -> GeneralName<'a> {
         let octets = fields.octets.get();
-        // An IA5String was read, so it is ASCII.
-        let text = core::str::from_utf8(octets).unwrap_or_default();
         match fields.kind {
-            1 => GeneralName::Rfc822Name(text),
-            2 => GeneralName::DnsName(text),
+            1 => GeneralName::Rfc822Name(fields.octets.into()),
+            2 => GeneralName::DnsName(fields.octets.into()),
             3 => GeneralName::X400Address(octets),
             4 => GeneralName::DirectoryName(fields.octets.into()),
             5 => GeneralName::EdiPartyName(octets),
-            6 => GeneralName::Uri(text),
+            6 => GeneralName::Uri(fields.octets.into()),
             7 => GeneralName::IpAddress(octets),
             8 => GeneralName::RegisteredId(fields.octets.into()),
             _ => GeneralName::OtherName {

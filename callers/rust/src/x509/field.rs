@@ -1,8 +1,9 @@
 //! The fields of certificates and the like, as errors have them.
 
 numbered! {
-    /// A field of a certificate (RFC 5280 4.1), of a list of revoked certificates (5.1), of a request (RFC 2986 4), or
-    /// of a private key (RFC 5958 2, RFC 8017 A.1.2).
+    /// A field of a certificate (RFC 5280 4.1), of a list of revoked certificates (5.1), of a request (RFC 2986 4), of
+    /// a private key (RFC 5958 2, RFC 8017 A.1.2, RFC 5915 3, RFC 5958 3), or of a public one (RFC 5280 4.1.2.7, RFC
+    /// 8017 A.1.1).
     #[derive(Clone, Copy, Debug, PartialEq, Eq, PartialOrd, Ord, Hash)]
     #[non_exhaustive]
     Field or None:
@@ -108,6 +109,34 @@ numbered! {
     RsaCoefficient = 121,
     /// otherPrimeInfos.
     RsaOtherPrimes = 122,
+    /// The outermost SEQUENCE of a private key of a curve.
+    EcKey = 128,
+    /// version of a private key of a curve.
+    EcVersion = 129,
+    /// privateKey of one of a curve.
+    EcOctets = 130,
+    /// parameters.
+    EcParameters = 131,
+    /// publicKey of a private key of a curve.
+    EcPublicKey = 132,
+    /// The outermost SEQUENCE of an encrypted private key.
+    EncryptedKey = 144,
+    /// encryptionAlgorithm.
+    EncryptedAlgorithm = 145,
+    /// encryptedData.
+    EncryptedData = 146,
+    /// The outermost SEQUENCE of a public key.
+    PublicKey = 160,
+    /// algorithm of a public key.
+    PublicAlgorithm = 161,
+    /// subjectPublicKey.
+    PublicBits = 162,
+    /// The outermost SEQUENCE of a public key of RSA.
+    PublicRsaKey = 176,
+    /// modulus of a public key.
+    PublicRsaModulus = 177,
+    /// publicExponent of a public key.
+    PublicRsaExponent = 178,
 }
 
 #[cfg(test)]

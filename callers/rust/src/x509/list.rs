@@ -43,7 +43,7 @@ impl<'a> CertificateList<'a> {
 
 list! {
     /// The entries of a [`CertificateList`].
-    RevokedCertificates, RevokedCertificatesIter of RevokedCertificate by next_revoked
+    RevokedCertificates, RevokedCertificatesIter of RevokedCertificate<'a> => next_revoked
 }
 
 parts! {

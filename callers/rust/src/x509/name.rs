@@ -11,7 +11,7 @@ list! {
     /// of one.
     ///
     /// Two of them are equal if their octets are. RFC 5280 7.1 also takes names as equal that differ in case or spaces.
-    Name, RelativeNames of RelativeName by next_relative_name
+    Name, RelativeNames of RelativeName<'a> => next_relative_name
 }
 
 impl<'a> Name<'a> {
@@ -73,14 +73,7 @@ impl fmt::Debug for RelativeName<'_> {
     }
 }
 
-impl<'a> IntoIterator for RelativeName<'a> {
-    type Item = Attribute<'a>;
-    type IntoIter = Attributes<'a>;
-
-    fn into_iter(self) -> Attributes<'a> {
-        self.attributes()
-    }
-}
+forward!(IntoIterator by attributes for ['a] RelativeName<'a> as Attributes<'a>);
 
 /// The attributes of a [`Name`] or of a part of it.
 #[derive(Clone, Debug)]

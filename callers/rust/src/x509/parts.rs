@@ -1,12 +1,14 @@
 //! What types of certificates have in common: they are structs of the library, or lists of its items.
 
-/// A struct of the library, with its name in `dumarewhi.h`, and a call for each part that has a type behind `as`. One
-/// that is read `by` a call has all octets of the input too. What is secret isn't shown: then one part is.
+/// A struct of the library, with its name in `dumarewhi.h`, and a call for each part that has a type behind `as`. A
+/// part that may be absent has the name of the field `where` that is said. A number that is 0 or 1 has the name of its
+/// call behind `=>`. A struct that is read `by` a call has all octets of the input too. What is secret isn't shown:
+/// then one part is.
 macro_rules! parts {
     (
         $(#[$meta:meta])* $name:ident: $fields:ident as $of_c:ident
         $(by $kept:ident)? $(from $read:ident)? $(showing $shown:ident)?;
-        $($(#[$doc:meta])* $part:ident: $raw:ty $(as $type:ty)?,)*
+        $($(#[$doc:meta])* $part:ident: $raw:ty $(as $type:ty $(where $has:ident)?)? $(=> $flag:ident)?,)*
     ) => {
         structs! {
             struct $fields<'a> as $of_c {
@@ -16,7 +18,7 @@ macro_rules! parts {
 
         parts! { @type [$(#[$meta])*] $name $fields $($kept)? }
         $(parts! { @from $name $read })?
-        parts! { @calls $name {} $([[$(#[$doc])*] $part $($type)?])* }
+        parts! { @calls $name {} $([[$(#[$doc])*] $part $($type $(where $has)?)? $(=> $flag)?])* }
 
         impl core::fmt::Debug for $name<'_> {
             fn fmt(&self, f: &mut core::fmt::Formatter<'_>) -> core::fmt::Result {
@@ -24,7 +26,7 @@ macro_rules! parts {
                 $(return shown.field(stringify!($shown), &self.$shown()).finish_non_exhaustive();)?
                 #[allow(unreachable_code)]
                 {
-                    $($(parts! { @show shown, self, $part $type })?)*
+                    $($(parts! { @show shown, self, $part $type })? $(parts! { @show shown, self, $flag u32 })?)*
                     shown.finish()
                 }
             }
@@ -37,6 +39,26 @@ macro_rules! parts {
     };
     (@calls $name:ident {$($calls:tt)*} [[$($doc:tt)*] $part:ident] $($rest:tt)*) => {
         parts! { @calls $name {$($calls)*} $($rest)* }
+    };
+    (@calls $name:ident {$($calls:tt)*} [[$($doc:tt)*] $part:ident => $flag:ident] $($rest:tt)*) => {
+        parts! { @calls $name {
+            $($calls)*
+
+            $($doc)*
+            pub fn $flag(&self) -> bool {
+                self.0.$part != 0
+            }
+        } $($rest)* }
+    };
+    (@calls $name:ident {$($calls:tt)*} [[$($doc:tt)*] $part:ident $type:ty where $has:ident] $($rest:tt)*) => {
+        parts! { @calls $name {
+            $($calls)*
+
+            $($doc)*
+            pub fn $part(&self) -> Option<$type> {
+                (self.0.$has != 0).then(|| self.0.$part.into())
+            }
+        } $($rest)* }
     };
     (@calls $name:ident {$($calls:tt)*} [[$($doc:tt)*] $part:ident $type:ty] $($rest:tt)*) => {
         parts! { @calls $name {
@@ -94,7 +116,7 @@ macro_rules! parts {
 
 /// A list that is kept as the encodings of its items, and its iterator. One that is the value of an extension is read.
 macro_rules! list {
-    ($(#[$meta:meta])* $name:ident, $iter:ident of $item:ident by $next:ident $(, $read:ident)?) => {
+    ($(#[$meta:meta])* $name:ident, $iter:ident of $item:ty => $next:ident $(, $read:ident)?) => {
         $(#[$meta])*
         #[derive(Clone, Copy, PartialEq, Eq, Hash)]
         pub struct $name<'a>(crate::ffi::Octets<'a>);
@@ -135,24 +157,17 @@ macro_rules! list {
             }
         }
 
-        impl<'a> IntoIterator for $name<'a> {
-            type Item = $item<'a>;
-            type IntoIter = $iter<'a>;
-
-            fn into_iter(self) -> $iter<'a> {
-                self.iter()
-            }
-        }
+        forward!(IntoIterator by iter for ['a] $name<'a> as $iter<'a>);
 
         #[doc = concat!("The items of [`", stringify!($name), "`].")]
         #[derive(Clone, Debug)]
         pub struct $iter<'a>(crate::ffi::Octets<'a>);
 
         impl<'a> Iterator for $iter<'a> {
-            type Item = $item<'a>;
+            type Item = $item;
 
-            fn next(&mut self) -> Option<$item<'a>> {
-                crate::ffi::$next(&mut self.0).map($item::from)
+            fn next(&mut self) -> Option<$item> {
+                crate::ffi::$next(&mut self.0).map(<$item>::from)
             }
         }
 

@@ -42,11 +42,11 @@ impl<'a> CertificationRequest<'a> {
 
 list! {
     /// The attributes of a [`CertificationRequest`].
-    RequestAttributes, RequestAttributesIter of RequestAttribute by next_request_attribute
+    RequestAttributes, RequestAttributesIter of RequestAttribute<'a> => next_request_attribute
 }
 
 parts! {
-    /// An attribute of a request (RFC 2986 4.1).
+    /// An attribute of a request (RFC 2986 4.1) or of a subject (RFC 5280 4.2.1.8).
     RequestAttribute: RequestAttributeFields as dm_request_attribute;
     /// Its type.
     identifier: Octets<'a> as ObjectIdentifier<'a>,

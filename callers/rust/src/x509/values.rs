@@ -1,11 +1,11 @@
 //! Further values of extensions.
-use super::{Error, GeneralName, GeneralNames, RelativeName};
+use super::{Error, GeneralName, GeneralNames, RelativeName, RequestAttribute};
 use crate::ffi::{self, AnyFields, BitsFields, GeneralNameFields, Octets};
 use crate::{BitString, ObjectIdentifier, Tag};
 
 list! {
     /// The policies of a CertificatePolicies (RFC 5280 4.2.1.4), one at least. That a policy comes once isn't asked.
-    Policies, PoliciesIter of Policy by next_policy, read_certificate_policies
+    Policies, PoliciesIter of Policy<'a> => next_policy, read_certificate_policies
 }
 
 parts! {
@@ -19,7 +19,7 @@ parts! {
 
 list! {
     /// The qualifiers of a [`Policy`].
-    PolicyQualifiers, PolicyQualifiersIter of PolicyQualifier by next_policy_qualifier
+    PolicyQualifiers, PolicyQualifiersIter of PolicyQualifier<'a> => next_policy_qualifier
 }
 
 parts! {
@@ -39,7 +39,8 @@ impl<'a> From<AnyFields<'a>> for (Tag, &'a [u8]) {
 
 list! {
     /// The points of a CRLDistributionPoints (RFC 5280 4.2.1.13) or a FreshestCRL (4.2.1.15), one at least.
-    DistributionPoints, DistributionPointsIter of DistributionPoint by next_distribution_point, read_distribution_points
+    DistributionPoints, DistributionPointsIter of DistributionPoint<'a> => next_distribution_point,
+    read_distribution_points
 }
 
 parts! {
@@ -66,7 +67,7 @@ parts! {
 
 list! {
     /// Names of [`NameConstraints`].
-    Subtrees, SubtreesIter of Subtree by next_subtree
+    Subtrees, SubtreesIter of Subtree<'a> => next_subtree
 }
 
 parts! {
@@ -76,21 +77,16 @@ parts! {
     base: GeneralNameFields<'a> as GeneralName<'a>,
     /// 0 by RFC 5280, which isn't asked.
     minimum: u32 as u32,
-    maximum: u32,
+    /// `None` by RFC 5280, which isn't asked.
+    maximum: u32 as u32 where has_maximum,
     has_maximum: u32,
     reserved: u32,
 }
 
-impl Subtree<'_> {
-    /// `None` by RFC 5280, which isn't asked.
-    pub fn maximum(&self) -> Option<u32> {
-        (self.0.has_maximum != 0).then_some(self.0.maximum)
-    }
-}
-
 list! {
     /// The descriptions of an AuthorityInfoAccess or a SubjectInfoAccess (RFC 5280 4.2.2), one at least.
-    AccessDescriptions, AccessDescriptionsIter of AccessDescription by next_access_description, read_information_access
+    AccessDescriptions, AccessDescriptionsIter of AccessDescription<'a> => next_access_description,
+    read_information_access
 }
 
 parts! {
@@ -100,6 +96,114 @@ parts! {
     method: Octets<'a> as ObjectIdentifier<'a>,
     /// Where it is.
     location: GeneralNameFields<'a> as GeneralName<'a>,
+}
+
+list! {
+    /// The pairs of a PolicyMappings (RFC 5280 4.2.1.5), one at least.
+    PolicyMappings, PolicyMappingsIter of PolicyMapping<'a> => next_policy_mapping, read_policy_mappings
+}
+
+parts! {
+    /// A policy of the issuer, and the one of the subject that it stands for (RFC 5280 4.2.1.5).
+    PolicyMapping: PolicyMappingFields as dm_policy_mapping;
+    /// issuerDomainPolicy
+    issuer_policy: Octets<'a> as ObjectIdentifier<'a>,
+    /// subjectDomainPolicy
+    subject_policy: Octets<'a> as ObjectIdentifier<'a>,
+}
+
+/// From where on in a path policies are asked for, or no longer mapped (RFC 5280 4.2.1.11).
+#[derive(Clone, Copy, Debug, PartialEq, Eq, Hash)]
+pub struct PolicyConstraints {
+    /// How many certificates may follow before each needs an acceptable policy.
+    pub require_explicit_policy: Option<u32>,
+    /// How many may follow before policies are no longer mapped.
+    pub inhibit_policy_mapping: Option<u32>,
+}
+
+impl PolicyConstraints {
+    /// Reads the value of an extension.
+    pub fn from_der(octets: &[u8]) -> Result<PolicyConstraints, Error> {
+        let fields = ffi::read_policy_constraints(octets)?;
+        let (explicit, mapping) = (
+            fields.has_require_explicit_policy,
+            fields.has_inhibit_policy_mapping,
+        );
+        Ok(PolicyConstraints {
+            require_explicit_policy: (explicit != 0).then_some(fields.require_explicit_policy),
+            inhibit_policy_mapping: (mapping != 0).then_some(fields.inhibit_policy_mapping),
+        })
+    }
+}
+
+list! {
+    /// The attributes of a SubjectDirectoryAttributes (RFC 5280 4.2.1.8), one at least.
+    DirectoryAttributes, DirectoryAttributesIter of RequestAttribute<'a> => next_directory_attribute,
+    read_directory_attributes
+}
+
+parts! {
+    /// Which certificates a list of revoked ones is about (RFC 5280 5.2.5).
+    IssuingDistributionPoint: IssuingDistributionPointFields as dm_issuing_distribution_point
+        from read_issuing_distribution_point;
+    /// Where the list is found. There are no names if it has no such field.
+    full_name: Octets<'a> as GeneralNames<'a>,
+    /// What follows the name of the issuer. It has no attribute if it is absent.
+    relative_name: Octets<'a> as RelativeName<'a>,
+    /// A bit for each reason that the list has, as of a [`DistributionPoint`]. `None` for all.
+    reasons: BitsFields<'a> as Option<BitString<'a>>,
+    /// Whether it has only certificates of end entities.
+    only_contains_user_certs: u32 => only_contains_user_certs,
+    /// Whether it has only certificates of authorities.
+    only_contains_ca_certs: u32 => only_contains_ca_certs,
+    /// Whether it has certificates of other issuers.
+    indirect_crl: u32 => is_indirect,
+    /// Whether it has only attribute certificates.
+    only_contains_attribute_certs: u32 => only_contains_attribute_certs,
+}
+
+list! {
+    /// The signed certificate timestamps of an SCT list (RFC 6962 3.3), one at least: the octets of each (3.2), which
+    /// aren't looked into.
+    Timestamps, TimestampsIter of &'a [u8] => next_timestamp, read_signed_certificate_timestamps
+}
+
+list! {
+    /// The extensions of TLS that a server has to speak (RFC 7633 4.1), by their numbers, such as 5, status_request.
+    /// There may be none.
+    TlsFeatures, TlsFeaturesIter of u32 => next_tls_feature, read_tls_features
+}
+
+list! {
+    /// What is stated of a qualified certificate (RFC 3739 3.2.6), maybe nothing.
+    QcStatements, QcStatementsIter of QcStatement<'a> => next_qc_statement, read_qc_statements
+}
+
+parts! {
+    /// A statement of a qualified certificate (RFC 3739 3.2.6).
+    QcStatement: QcStatementFields as dm_qc_statement;
+    /// Which one it is.
+    identifier: Octets<'a> as ObjectIdentifier<'a>,
+    /// What it says: the tag, and the content octets, which aren't read.
+    info: AnyFields<'a> as (Tag, &'a [u8]) where has_info,
+    has_info: u32,
+    reserved: u32,
+}
+
+parts! {
+    /// In which register an organization is (CA/B Forum, EV Guidelines 9.8.2).
+    OrganizationIdentifier: OrganizationIdentifierFields as dm_organization_identifier
+        from read_organization_identifier;
+    /// The kind of the register, such as VAT: three characters.
+    scheme: Octets<'a> as &'a str,
+    /// Its country, two characters.
+    country: Octets<'a> as &'a str,
+    /// Its state or province.
+    state_or_province: Octets<'a> as &'a str where has_state_or_province,
+    /// The number of the organization in it.
+    reference: Octets<'a> as &'a str,
+    has_state_or_province: u32,
+    reserved: u32,
 }
 
 numbered! {
