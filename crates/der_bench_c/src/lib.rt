@@ -11,7 +11,7 @@ use der_parser::ber::{
 use der_parser::cursor::Cursor;
 use der_parser::der::{Class, parse_der};
 use der_x509::parts::read_name as read_certificate_name;
-use der_x509::{Certificate, Name, read_certificate};
+use der_x509::{Certificate, Name, RelativeDistinguishedName, read_certificate};
 use std::alloc::Global;
 
 /// What one pass does with each element.
@@ -189,8 +189,17 @@ fn count_cursor_attributes(alloc: Global, s: &[u8]) -> u64 {
 /// How many attributes a name has.
 fn count_attributes_of(name: &Name<'_>) -> u64 {
     let mut count: u64 = 0;
-    for relative in name.relative_names() {
-        count = count.wrapping_add(relative.attributes().count() as u64);
+    for relative_name in name.relative_names() {
+        count = count.wrapping_add(count_in_relative_name(relative_name));
+    }
+    count
+}
+
+/// How many attributes a relative name has.
+fn count_in_relative_name(name: RelativeDistinguishedName<'_>) -> u64 {
+    let mut count: u64 = 0;
+    for _attribute in name.attributes() {
+        count = count.wrapping_add(1);
     }
     count
 }
