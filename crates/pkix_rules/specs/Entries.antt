@@ -5,7 +5,8 @@ use Rattle.der_x509.specs.Lists.{Somewhere}
 use Rattle.der_x509.specs.Rules.{HasFraction, HasRepetition, IsEarly, IsPositive}
 use Rattle.pkix_rules.specs.declared.entries.EntryRule.{EntryRule}
 use Rattle.pkix_rules.specs.declared.entries.EntryRule.TheVariants.{PositiveSerialNumber, ShortSerialNumber}
-use Rattle.pkix_rules.specs.declared.entries.EntryRule.TheVariants.{DistinctExtensions, UtcTimeTo2049, WholeSeconds, Without}
+use Rattle.pkix_rules.specs.declared.entries.EntryRule.TheVariants.{DistinctExtensions, UtcTimeTo2049}
+use Rattle.pkix_rules.specs.declared.entries.EntryRule.TheVariants.{WholeSeconds, Without}
 use Rattle.pkix_rules.specs.Facts.{Shows}
 
 -- the entry breaks the rule

@@ -37,8 +37,8 @@ pub enum NameRule {
     /// A dNSName is in the preferred name syntax (4.2.1.6, RFC 1034 3.5, RFC 1123 2.1, MUST). A name behind a leading
     /// "*." is let in, as 4.2.1.6 says.
     PreferredName,
-    /// An otherName that is an SmtpUTF8Mailbox is a UTF8String with a mailbox, whose local part isn't of ASCII alone and
-    /// whose domain is (RFC 9598 3, MUST). It doesn't begin with a byte order mark.
+    /// An otherName that is an SmtpUTF8Mailbox is a UTF8String with a mailbox, whose local part isn't of ASCII alone
+    /// and whose domain is (RFC 9598 3, MUST). It doesn't begin with a byte order mark.
     InternationalMailbox,
 }
 
