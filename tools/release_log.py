@@ -7,7 +7,9 @@ LAST = re.compile(r"(\d+) passed, 0 failed")
 HEADING = re.compile(r"== (.*)")
 PROVED = re.compile(r"logic=proved (?:.* )?functions=(\d+) (?:axioms=(\d+) )?(?:.* )?sum=(\w+) .*")
 KEPT = re.compile(r"rt: (\w+) is kept: .*")
-EDITS = re.compile(r"rt: ok; .*must-fail edits: (\d+) refused.*")
+OK = re.compile(r"rt: ok; .*?(?:must-fail edits: (\d+) refused.*)?")
+# A kit that doesn't count the edits in that line has a line for each
+EDIT = re.compile(r"rt: .*: refused, as it must be.*")
 # What .ci/run prints of itself: the commit first, and last how many passed of each part
 COMMIT = re.compile(r"commit ([0-9a-f]{40})")
 PART = re.compile(r"of ([a-z -]+): (\d+)")
@@ -35,8 +37,8 @@ def read_log(text):
     if not last:
         raise ValueError(f"its last line isn't 'N passed, 0 failed', but {lines[-1]!r}")
     found = lambda pattern: [it for it in map(pattern.fullmatch, lines) if it]
-    edits = found(EDITS)
-    if not edits:
+    passed = found(OK)
+    if not passed:
         raise ValueError("it has no line 'rt: ok' of a whole rt ci")
     functions, axioms, logics = proofs_in(lines)
     commits = [it[1] for it in found(COMMIT)]
@@ -45,7 +47,7 @@ def read_log(text):
         raise ValueError("its parts don't add up to its last line")
     kept = [it[1] for it in found(KEPT)]
     commit = commits[0] if commits else None
-    return Gate(int(last[1]), commit, parts, functions, axioms, kept, int(edits[-1][1]), logics)
+    return Gate(int(last[1]), commit, parts, functions, axioms, kept, int(passed[-1][1] or len(found(EDIT))), logics)
 
 
 def proofs_in(lines):

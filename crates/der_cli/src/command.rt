@@ -3,8 +3,8 @@ use crate::subcommands::{Argument, Kind, SUBCOMMANDS, Subcommand};
 use clap::{Arg, ArgAction, Command, value_parser};
 use std::alloc::{AllocError, Global};
 
-/// The version of the program, and of the kit that it is proved with.
-const VERSION: &str = "0.1.0 (rattle-kit-13f logic dac8208d650f15bf)";
+/// The version of the program, and of the program logic in which it is proved.
+const VERSION: &str = "0.1.0 (logic dac8208d650f15bf)";
 
 const EXAMPLES: &str = "\
 Examples:
