@@ -1,13 +1,13 @@
 //! Private keys (RFC 5208 5, RFC 5958 2), and those of RSA (RFC 8017 A.1.2).
 ghost use Rattle.std.specs.Prelude.{◌≡◌, []};
 ghost use Rattle.std.specs.Option.{option_map, unwrap_or};
-ghost use Rattle.der_base.specs.declared.rules.Rules.TheVariants.{Der};
 ghost use Rattle.der_cursor.specs.Cursors.{octets_left};
-ghost use Rattle.der_cursor.specs.Formats.{Never, ReadsNamedInput};
+ghost use Rattle.der_x509.specs.Readers.{ReadsExactly};
 ghost use Rattle.dumarewhi_c.specs.Faults.{Reads, Written};
 ghost use Rattle.dumarewhi_c.specs.FieldNumbers.{key_field_number, only_name, prime_number, rsa_field_number};
 ghost use Rattle.dumarewhi_c.specs.Keys.{HasKey, HasRsaKey, IsKey, IsRsaKey, key_fault, rsa_fault};
-ghost use Rattle.pkcs8_reader.specs.Keys.{PrivateKeyInfo as KeyFormat, RsaPrivateKey as RsaFormat, key_of, rsa_of};
+ghost use Rattle.pkcs8_reader.specs.Fields.{key_fault as named_fault};
+ghost use Rattle.pkcs8_reader.specs.Keys.{key_of, rsa_of, whole_key, whole_rsa_key};
 
 use crate::any::{DmAny, optional_any};
 use crate::element::bit;
@@ -67,7 +67,7 @@ pub extern "C" fn dm_read_private_key<'a>(
     key: &mut DmPrivateKey<'a>,
     fault: &mut DmFault,
 ) -> u32
-    ensures exactly { Reads (ReadsNamedInput Der KeyFormat key_of Never input.now) IsKey key_fault
+    ensures exactly { Reads (ReadsExactly named_fault key_of whole_key input.now) IsKey key_fault
         key.old key.new fault.new }
     ensures status { result ≡ fault.new.status }
 {
@@ -158,7 +158,7 @@ pub extern "C" fn dm_read_rsa_private_key<'a>(
     key: &mut DmRsaPrivateKey<'a>,
     fault: &mut DmFault,
 ) -> u32
-    ensures exactly { Reads (ReadsNamedInput Der RsaFormat rsa_of Never input.now) IsRsaKey rsa_fault
+    ensures exactly { Reads (ReadsExactly named_fault rsa_of whole_rsa_key input.now) IsRsaKey rsa_fault
         key.old key.new fault.new }
     ensures status { result ≡ fault.new.status }
 {

@@ -1,17 +1,16 @@
 //! Keys beside those of PKCS #8: private ones of elliptic curves (RFC 5915 3), encrypted ones (RFC 5958 3), and public
 //! ones (RFC 5280 4.1.2.7, RFC 8017 A.1.1).
 ghost use Rattle.std.specs.Prelude.{◌≡◌};
-ghost use Rattle.der_base.specs.declared.rules.Rules.TheVariants.{Der};
-ghost use Rattle.der_cursor.specs.Formats.{Never, ReadsNamedInput};
+ghost use Rattle.der_x509.specs.Readers.{ReadsExactly};
 ghost use Rattle.dumarewhi_c.specs.Faults.{Reads, Written};
 ghost use Rattle.dumarewhi_c.specs.FieldNumbers.{ec_field_number, encrypted_field_number, public_field_number};
 ghost use Rattle.dumarewhi_c.specs.FieldNumbers.{rsa_public_field_number};
 ghost use Rattle.dumarewhi_c.specs.OtherKeys.{HasEcKey, HasEncryptedKey, HasPublicKey, HasRsaPublicKey, IsEcKey};
 ghost use Rattle.dumarewhi_c.specs.OtherKeys.{IsEncryptedKey, IsPublicKey, IsRsaPublicKey, ec_fault, encrypted_fault};
 ghost use Rattle.dumarewhi_c.specs.OtherKeys.{public_fault, rsa_public_fault};
-ghost use Rattle.pkcs8_reader.specs.OtherKeys.{EcPrivateKey as EcFormat, EncryptedPrivateKeyInfo as EncryptedFormat};
-ghost use Rattle.pkcs8_reader.specs.OtherKeys.{RsaPublicKey as RsaFormat, SubjectPublicKeyInfo as KeyFormat, ec_of};
-ghost use Rattle.pkcs8_reader.specs.OtherKeys.{encrypted_of, key_info_of, rsa_public_of};
+ghost use Rattle.pkcs8_reader.specs.Fields.{key_fault};
+ghost use Rattle.pkcs8_reader.specs.OtherKeys.{ec_of, encrypted_of, key_info_of, rsa_public_of, whole_ec_key};
+ghost use Rattle.pkcs8_reader.specs.OtherKeys.{whole_encrypted_key, whole_public_key, whole_rsa_public_key};
 
 use crate::any::{DmAny, optional_any};
 use crate::element::bit;
@@ -90,7 +89,7 @@ pub extern "C" fn dm_read_ec_private_key<'a>(
     key: &mut DmEcPrivateKey<'a>,
     fault: &mut DmFault,
 ) -> u32
-    ensures exactly { Reads (ReadsNamedInput Der EcFormat ec_of Never input.now) IsEcKey ec_fault
+    ensures exactly { Reads (ReadsExactly key_fault ec_of whole_ec_key input.now) IsEcKey ec_fault
         key.old key.new fault.new }
     ensures status { result ≡ fault.new.status }
 {
@@ -158,7 +157,7 @@ pub extern "C" fn dm_read_encrypted_private_key<'a>(
     key: &mut DmEncryptedPrivateKey<'a>,
     fault: &mut DmFault,
 ) -> u32
-    ensures exactly { Reads (ReadsNamedInput Der EncryptedFormat encrypted_of Never input.now) IsEncryptedKey
+    ensures exactly { Reads (ReadsExactly key_fault encrypted_of whole_encrypted_key input.now) IsEncryptedKey
         encrypted_fault key.old key.new fault.new }
     ensures status { result ≡ fault.new.status }
 {
@@ -222,7 +221,7 @@ pub extern "C" fn dm_read_public_key<'a>(
     key: &mut DmPublicKey<'a>,
     fault: &mut DmFault,
 ) -> u32
-    ensures exactly { Reads (ReadsNamedInput Der KeyFormat key_info_of Never input.now) IsPublicKey public_fault
+    ensures exactly { Reads (ReadsExactly key_fault key_info_of whole_public_key input.now) IsPublicKey public_fault
         key.old key.new fault.new }
     ensures status { result ≡ fault.new.status }
 {
@@ -286,7 +285,7 @@ pub extern "C" fn dm_read_rsa_public_key<'a>(
     key: &mut DmRsaPublicKey<'a>,
     fault: &mut DmFault,
 ) -> u32
-    ensures exactly { Reads (ReadsNamedInput Der RsaFormat rsa_public_of Never input.now) IsRsaPublicKey
+    ensures exactly { Reads (ReadsExactly key_fault rsa_public_of whole_rsa_public_key input.now) IsRsaPublicKey
         rsa_public_fault key.old key.new fault.new }
     ensures status { result ≡ fault.new.status }
 {

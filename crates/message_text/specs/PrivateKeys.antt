@@ -1,14 +1,14 @@
 -- The texts of private keys (RFC 5208 5, RFC 5958 2), without their secret numbers.
 use Rattle.std.specs.Prelude.{◌≡◌, ◌≢◌, ℕ, Option, Some, None, List, [], ◌∷◌, ◌++◌, codes, decimal, length}
 use Rattle.std.specs.Option.{option_copied, option_map}
-use Rattle.der_base.specs.declared.rules.Rules.TheVariants.{Der}
 use Rattle.der_cursor.specs.declared.cursor.Cursor.{Cursor}
 use Rattle.der_cursor.specs.Cursors.{octets_left}
-use Rattle.der_cursor.specs.Formats.{Format, Only, Required}
+use Rattle.der_x509.specs.Formats.{Format, spells}
 use Rattle.pkcs8_reader.specs.declared.curve.EcPrivateKey.{EcPrivateKey as EcStruct}
 use Rattle.pkcs8_reader.specs.declared.key.PrivateKeyInfo.{PrivateKeyInfo}
-use Rattle.pkcs8_reader.specs.Keys.{RsaPrivateKey, bits_of, rsa_of}
-use Rattle.pkcs8_reader.specs.OtherKeys.{EcPrivateKey, ec_of}
+use Rattle.pkcs8_reader.specs.Fields.{KeyFault}
+use Rattle.pkcs8_reader.specs.Keys.{bits_of, rsa_of, whole_rsa_key}
+use Rattle.pkcs8_reader.specs.OtherKeys.{ec_of, whole_ec_key}
 use Rattle.message_text.specs.declared.private_key.Inside.{Inside}
 use Rattle.message_text.specs.declared.private_key.Inside.TheVariants.{Rsa, Curve, Other}
 use Rattle.message_text.specs.declared.private_key.PrivateKeyText.{PrivateKeyText}
@@ -25,26 +25,26 @@ rsa_encryption = 0x2a ∷ 0x86 ∷ 0x48 ∷ 0x86 ∷ 0xf7 ∷ 0x0d ∷ 0x01 ∷ 
 abbrev pub ec_public_key : List ℕ
 ec_public_key = 0x2a ∷ 0x86 ∷ 0x48 ∷ 0xce ∷ 0x3d ∷ 0x02 ∷ 0x01 ∷ []
 
--- octets are a value of this type by DER, all of them
-abbrev pub Is : {V : Type 0} → Format V → List ℕ → V → Type 0
-Is T w v = Only (Required T) Der w v
+-- octets are a value of this format, all of them
+abbrev pub Is : {V : Type 0} → Format KeyFault V → List ℕ → V → Type 0
+Is f w v = spells f w v []
 
 -- the value that octets are, if they are one
-abbrev pub Finds : {V : Type 0} → Format V → List ℕ → Option V → Type 0
-Finds T w (Some v) = Is T w v
-Finds {V} T w None = (v : V) → ¬ Is T w v
+abbrev pub Finds : {V : Type 0} → Format KeyFault V → List ℕ → Option V → Type 0
+Finds f w (Some v) = Is f w v
+Finds {V} f w None = (v : V) → ¬ Is f w v
 
 -- the key of RSA that octets are, or how many they are
 abbrev pub IsRsaInside : List ℕ → Inside → Type 0
-IsRsaInside w (Rsa k) = Finds RsaPrivateKey w (Some (rsa_of k))
+IsRsaInside w (Rsa k) = Finds whole_rsa_key w (Some (rsa_of k))
 IsRsaInside w (Curve k) = ⊥
-IsRsaInside w (Other n) = Finds RsaPrivateKey w None × (n ≡ length w)
+IsRsaInside w (Other n) = Finds whole_rsa_key w None × (n ≡ length w)
 
 -- the same of a key of a curve
 abbrev pub IsCurveInside : List ℕ → Inside → Type 0
 IsCurveInside w (Rsa k) = ⊥
-IsCurveInside w (Curve x) = (k : EcStruct) × Finds EcPrivateKey w (Some (ec_of k)) × IsCurveKey k x
-IsCurveInside w (Other n) = Finds EcPrivateKey w None × (n ≡ length w)
+IsCurveInside w (Curve x) = (k : EcStruct) × Finds whole_ec_key w (Some (ec_of k)) × IsCurveKey k x
+IsCurveInside w (Other n) = Finds whole_ec_key w None × (n ≡ length w)
 
 -- what the octets of a private key are, by the identifier of its algorithm
 pub record IsInside (a w : List ℕ) (x : Inside) : Type 0 where

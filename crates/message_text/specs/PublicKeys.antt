@@ -3,7 +3,7 @@ use Rattle.std.specs.Prelude.{◌≡◌, ◌≢◌, ℕ, Some, None, List, ◌++
 use Rattle.der_print.specs.declared.style.Limit.TheVariants.{Whole}
 use Rattle.der_print.specs.Values.{hex_text}
 use Rattle.pkcs8_reader.specs.declared.public.SubjectPublicKeyInfo.{SubjectPublicKeyInfo}
-use Rattle.pkcs8_reader.specs.OtherKeys.{RsaPublicKey}
+use Rattle.pkcs8_reader.specs.OtherKeys.{whole_rsa_public_key}
 use Rattle.message_text.specs.declared.public_key.PublicInside.{PublicInside}
 use Rattle.message_text.specs.declared.public_key.PublicInside.TheVariants.{Rsa, Other}
 use Rattle.message_text.specs.declared.public_key.PublicKeyText.{PublicKeyText}
@@ -13,8 +13,8 @@ use Rattle.message_text.specs.RsaKeys.{public_numbers_text}
 
 -- the key of RSA that octets are, or the octets
 abbrev pub IsRsaPublic : List ℕ → PublicInside → Type 0
-IsRsaPublic w (Rsa k) = Finds RsaPublicKey w (Some (k.modulus.now, (k.exponent.now, tt)))
-IsRsaPublic w (Other v) = Finds RsaPublicKey w None × (v.now ≡ w)
+IsRsaPublic w (Rsa k) = Finds whole_rsa_public_key w (Some (k.modulus.now, (k.exponent.now, tt)))
+IsRsaPublic w (Other v) = Finds whole_rsa_public_key w None × (v.now ≡ w)
 
 -- octets that aren't looked into
 abbrev pub AreOctets : List ℕ → PublicInside → Type 0

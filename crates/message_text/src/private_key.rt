@@ -3,8 +3,8 @@ ghost use Rattle.std.specs.Prelude.{◌≡◌, Some};
 ghost use Rattle.std.specs.Fmt.{DisplaysOnOk};
 ghost use Rattle.std.specs.Option.{option_map};
 ghost use Rattle.message_text.specs.PrivateKeys.{Finds, IsInside, IsPrivateKey, attributes_size, attributes_text};
-ghost use Rattle.pkcs8_reader.specs.Keys.{RsaPrivateKey as RsaFormat, rsa_of};
-ghost use Rattle.pkcs8_reader.specs.OtherKeys.{EcPrivateKey as EcFormat, ec_of};
+ghost use Rattle.pkcs8_reader.specs.Keys.{rsa_of, whole_rsa_key};
+ghost use Rattle.pkcs8_reader.specs.OtherKeys.{ec_of, whole_ec_key};
 
 use crate::algorithm::AlgorithmText;
 use crate::curve_key::{CurveFields, octets_of, write_public};
@@ -71,7 +71,7 @@ impl<'a> Inside<'a> {
 
 /// The key of RSA that octets are, if they are one.
 fn find_rsa_key(octets: &[u8]) -> Option<RsaPrivateKey<'_>>
-    ensures { Finds RsaFormat octets.now (option_map rsa_of result) }
+    ensures { Finds whole_rsa_key octets.now (option_map rsa_of result) }
 {
     match read_rsa_private_key(octets) {
         Ok(key) => Some(key),
@@ -81,7 +81,7 @@ fn find_rsa_key(octets: &[u8]) -> Option<RsaPrivateKey<'_>>
 
 /// The key of a curve that octets are, if they are one.
 fn find_curve_key(octets: &[u8]) -> Option<EcPrivateKey<'_>>
-    ensures { Finds EcFormat octets.now (option_map ec_of result) }
+    ensures { Finds whole_ec_key octets.now (option_map ec_of result) }
 {
     match read_ec_private_key(octets) {
         Ok(key) => Some(key),

@@ -2,7 +2,7 @@
 ghost use Rattle.std.specs.Option.{option_map};
 ghost use Rattle.message_text.specs.PrivateKeys.{Finds};
 ghost use Rattle.message_text.specs.PublicKeys.{IsPublicInside, IsPublicKey};
-ghost use Rattle.pkcs8_reader.specs.OtherKeys.{RsaPublicKey as RsaFormat, rsa_public_of};
+ghost use Rattle.pkcs8_reader.specs.OtherKeys.{rsa_public_of, whole_rsa_public_key};
 
 use crate::algorithm::AlgorithmText;
 use crate::octets::digits;
@@ -39,7 +39,7 @@ impl<'a> PublicInside<'a> {
 
 /// The key of RSA that octets are, if they are one.
 fn find_rsa_key(octets: &[u8]) -> Option<RsaPublicKey<'_>>
-    ensures { Finds RsaFormat octets.now (option_map rsa_public_of result) }
+    ensures { Finds whole_rsa_public_key octets.now (option_map rsa_public_of result) }
 {
     match read_rsa_public_key(octets) {
         Ok(key) => Some(key),

@@ -1,22 +1,37 @@
--- Contents whose values are limited, and the versions of keys.
-use Rattle.std.proofs.Common.{◌≡◌, ◌≢◌, ℕ, pos, Bool, Option, Some, None, Result, Ok, Err, refl, sym, ap, subst, ◌∙◌, arith}
+-- Keys show one value or one fault; the versions of keys.
+use Rattle.std.proofs.Common.{◌≡◌, ◌≢◌, ℕ, pos, Bool, Option, Some, None, refl, sym, ap, ◌∙◌, arith}
 use Rattle.std.specs.Prelude.{is_some}
 use Rattle.std.specs.Option.{option_map}
-use Rattle.std.specs.Result.{IsErrAnd}
 use Rattle.std.proofs.lemmas.Int.{ints}
-use Rattle.der_cursor.specs.Formats.{ReadsWhole}
-use Rattle.pkcs8_reader.specs.Keys.{version_with}
+use Rattle.der_base.specs.declared.rules.Rules.TheVariants.{Der}
+use Rattle.der_base.specs.Numbers.{unsigned}
+use Rattle.der_cursor.proofs.KindLaws.{bits_one, identifier_one, integer_one, number_one, octets_one}
+use Rattle.der_x509.proofs.FormatLaws.{IsExact}
+use Rattle.pkcs8_reader.specs.Keys.{algorithm_identifier, private_key_info, rsa_private_key, version_with}
+use Rattle.pkcs8_reader.specs.OtherKeys.{ec_private_key, encrypted_private_key_info, rsa_public_key, subject_public_key_info}
 
-module _ {V : Type 0} {C P : V → Type 0} where
-  pub limits : {T E : Type 0} {view : T → V} {May : E → Type 0} (e : E) (result : Result T E) → IsErrAnd result (λ y. y ≡ e) → ReadsWhole C view May result → ReadsWhole (λ v. C v × P v) view May result
-  limits e (Ok x) n h = absurd n
-  limits e (Err y) n h = record { found = tt; only = λ v z. h.only v z.0 }
+algorithm_exact : IsExact algorithm_identifier
+algorithm_exact = (tt, λ c. (identifier_one, λ a. (((tt, λ v. tt), tt), λ p. (tt, λ u. tt))))
 
-  pub limited : {T E : Type 0} {view : T → V} {May : E → Type 0} {x : T} → P (view x) → ReadsWhole {E = E} C view May (Ok x) → ReadsWhole (λ v. C v × P v) view May (Ok x)
-  limited p h = record { found = (h.found, p); only = λ v z. h.only v z.0 }
+pub key_exact : IsExact private_key_info
+key_exact = (tt, λ c. (number_one Der (unsigned 32), λ v. (algorithm_exact, λ a. (octets_one, λ k. (((tt, λ v. tt), tt), λ t. (((bits_one Der, λ v. tt), tt), λ p. (tt, λ u. tt)))))))
 
-  pub not_limited : {T E : Type 0} {view : T → V} {May : E → Type 0} (x : T) {e : E} → ¬ P (view x) → ReadsWhole {E = E} C view May (Ok x) → ReadsWhole {T = T} (λ v. C v × P v) view May (Err e)
-  not_limited x p h = record { found = tt; only = λ v z. absurd (p (subst P (sym (h.only v z.0)) z.1)) }
+pub rsa_exact : IsExact rsa_private_key
+rsa_exact =
+    let one = integer_one Der in
+    (tt, λ c. (number_one Der (unsigned 32), λ v. (one, λ n. (one, λ e. (one, λ d. (one, λ p. (one, λ q. (one, λ x. (one, λ y. (one, λ c. (((tt, λ v. tt), tt), λ o. (tt, λ u. tt))))))))))))
+
+pub encrypted_exact : IsExact encrypted_private_key_info
+encrypted_exact = (tt, λ c. (algorithm_exact, λ a. (octets_one, λ d. (tt, λ u. tt))))
+
+pub ec_exact : IsExact ec_private_key
+ec_exact = (tt, λ c. (number_one Der (unsigned 32), λ v. (octets_one, λ k. (((( tt, λ w. (tt, λ v. (tt, λ u. tt))), λ v. tt), tt), λ p. ((((tt, λ w. (bits_one Der, λ v. (tt, λ u. tt))), λ v. tt), tt), λ b. (tt, λ u. tt))))))
+
+pub public_exact : IsExact subject_public_key_info
+public_exact = (tt, λ c. (algorithm_exact, λ a. (bits_one Der, λ k. (tt, λ u. tt))))
+
+pub rsa_public_exact : IsExact rsa_public_key
+rsa_public_exact = (tt, λ c. (integer_one Der, λ n. (integer_one Der, λ e. (tt, λ u. tt))))
 
 -- a part is there where its view is
 part : {A B : Type 0} (f : A → B) (x : Option A) → is_some (option_map f x) ≡ is_some x

@@ -1,16 +1,15 @@
 //! Private keys of elliptic curves (SEC 1 C.4, RFC 5915 3).
 ghost use Rattle.std.specs.Option.{option_map};
 ghost use Rattle.std.specs.Prelude.{pos};
-ghost use Rattle.der_base.specs.declared.rules.Rules.{Rules};
-ghost use Rattle.der_cursor.specs.Formats.{AnyElement, BitString as BitFormat, Never, Only, OptionalTagged};
-ghost use Rattle.der_cursor.specs.Formats.{ReadsContent, ReadsField, ReadsNamedInput, ReadsWhole, Required};
-ghost use Rattle.der_cursor.specs.Formats.{element_of};
+ghost use Rattle.der_cursor.specs.Elements.{element_of};
+ghost use Rattle.der_x509.specs.Formats.{any};
+ghost use Rattle.der_x509.specs.Readers.{ReadsBy, ReadsExactly, ReadsToEnd, fault_of};
+ghost use Rattle.pkcs8_reader.specs.Fields.{alone, key_fault, optional_explicit};
 ghost use Rattle.pkcs8_reader.specs.Keys.{bits_of};
-ghost use Rattle.pkcs8_reader.specs.OtherKeys.{EcPrivateKey as EcFormat, EcVersion, ec_of};
+ghost use Rattle.pkcs8_reader.specs.OtherKeys.{bit_string, ec_of, ec_private_key, ec_version, whole_ec_key};
 
 use der_base::any::Any;
 use der_base::error::BerError;
-use der_base::header::{Class, Tag};
 use der_cursor::{Cursor, FieldRefusal, Named, Refusal};
 use der_values::BitString;
 
@@ -29,22 +28,10 @@ pub struct EcPrivateKey<'a> {
     pub public_key: Option<BitString<'a>>,
 }
 
-/// Reads a private key of a curve by DER. Octets left over are refused. Incomplete exactly where the input ends within
-/// the key.
+/// Reads a private key of a curve by DER. Octets left over are refused. An error is the first one, with its field.
+/// Incomplete exactly where the input ends within the key.
 pub fn read_ec_private_key(octets: &[u8]) -> Result<EcPrivateKey<'_>, FieldRefusal>
-    ensures { ReadsNamedInput Rules.Der EcFormat ec_of Never octets.now result }
-{
-    match read_whole_key(octets) {
-        Ok(key) => Ok(key),
-        Err(e) => {
-            let input = Cursor::new(octets);
-            Err(e.of_element(input, Class::Universal, true, Tag::Sequence))
-        }
-    }
-}
-
-fn read_whole_key(octets: &[u8]) -> Result<EcPrivateKey<'_>, FieldRefusal>
-    ensures { ReadsWhole (Only (Required EcFormat) Rules.Der octets.now) ec_of Never result }
+    ensures { ReadsExactly key_fault ec_of whole_ec_key octets.now result }
 {
     let mut input = Cursor::new(octets);
     let key = read_fields(&mut input)?;
@@ -53,7 +40,7 @@ fn read_whole_key(octets: &[u8]) -> Result<EcPrivateKey<'_>, FieldRefusal>
 }
 
 fn read_fields<'a>(input: &mut Cursor<'a>) -> Result<EcPrivateKey<'a>, FieldRefusal>
-    ensures { ReadsField (Required EcFormat) ec_of Never input.old result input.new }
+    ensures { ReadsBy key_fault ec_of ec_private_key input.old result input.new }
 {
     let mut fields = input.open_sequence().named("ECPrivateKey")?;
     let version = read_version(&mut fields).named("version")?;
@@ -71,7 +58,7 @@ fn read_fields<'a>(input: &mut Cursor<'a>) -> Result<EcPrivateKey<'a>, FieldRefu
 
 /// Reads the version, which is 1.
 fn read_version(fields: &mut Cursor<'_>) -> Result<u32, Refusal<BerError>>
-    ensures { ReadsField (Required EcVersion) pos Never fields.old result fields.new }
+    ensures { ReadsBy fault_of pos ec_version fields.old result fields.new }
 {
     let before = *fields;
     let version = fields.u32()?;
@@ -82,8 +69,7 @@ fn read_version(fields: &mut Cursor<'_>) -> Result<u32, Refusal<BerError>>
 }
 
 fn read_parameters<'a>(fields: &mut Cursor<'a>) -> Result<Option<Any<'a>>, Refusal<BerError>>
-    ensures { ReadsField (OptionalTagged 0 (Only AnyElement)) (λ x. option_map element_of x) Never
-        fields.old result fields.new }
+    ensures { ReadsBy fault_of (option_map element_of) (optional_explicit 0 any) fields.old result fields.new }
 {
     match fields.open_tagged(0)? {
         Some(field) => Ok(Some(read_last_element(field)?)),
@@ -92,7 +78,7 @@ fn read_parameters<'a>(fields: &mut Cursor<'a>) -> Result<Option<Any<'a>>, Refus
 }
 
 fn read_last_element<'a>(mut field: Cursor<'a>) -> Result<Any<'a>, Refusal<BerError>>
-    ensures { ReadsContent (Only AnyElement) element_of Never field.entry result }
+    ensures { ReadsToEnd fault_of element_of (alone any) field.entry result }
 {
     let element = field.any()?;
     field.end()?;
@@ -100,8 +86,7 @@ fn read_last_element<'a>(mut field: Cursor<'a>) -> Result<Any<'a>, Refusal<BerEr
 }
 
 fn read_public_key<'a>(fields: &mut Cursor<'a>) -> Result<Option<BitString<'a>>, Refusal<BerError>>
-    ensures { ReadsField (OptionalTagged 1 (Only (Required BitFormat))) (λ x. option_map bits_of x) Never
-        fields.old result fields.new }
+    ensures { ReadsBy fault_of (option_map bits_of) (optional_explicit 1 bit_string) fields.old result fields.new }
 {
     match fields.open_tagged(1)? {
         Some(field) => Ok(Some(read_last_bits(field)?)),
@@ -110,7 +95,7 @@ fn read_public_key<'a>(fields: &mut Cursor<'a>) -> Result<Option<BitString<'a>>,
 }
 
 fn read_last_bits<'a>(mut field: Cursor<'a>) -> Result<BitString<'a>, Refusal<BerError>>
-    ensures { ReadsContent (Only (Required BitFormat)) bits_of Never field.entry result }
+    ensures { ReadsToEnd fault_of bits_of (alone bit_string) field.entry result }
 {
     let bits = field.bits()?;
     field.end()?;

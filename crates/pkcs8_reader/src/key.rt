@@ -1,15 +1,17 @@
 //! Private keys (RFC 5208 5, RFC 5958 2).
-ghost use Rattle.std.specs.Prelude.{◌≡◌, pos};
+ghost use Rattle.std.specs.Prelude.{◌≡◌, ◌≢◌, [], pos};
 ghost use Rattle.std.specs.Option.{option_map};
 ghost use Rattle.der_base.specs.declared.rules.Rules.{Rules};
-ghost use Rattle.der_cursor.specs.Formats.{AnyElement, BitString as BitFormat, IfLeft, Implicit, Never, Only};
-ghost use Rattle.der_cursor.specs.Formats.{Optional, ReadsField, ReadsNamedInput, ReadsWhole, Required, element_of};
-ghost use Rattle.pkcs8_reader.specs.Keys.{AlgorithmIdentifier, PrivateKeyInfo as KeyFormat, Version};
-ghost use Rattle.pkcs8_reader.specs.Keys.{algorithm_of, bits_of, key_of, version_with};
+ghost use Rattle.der_cursor.specs.Elements.{element_of};
+ghost use Rattle.der_values.specs.Kinds.{bit_strings};
+ghost use Rattle.der_x509.specs.Formats.{any, optional_implicit};
+ghost use Rattle.der_x509.specs.Readers.{ReadsBy, ReadsExactly, fault_of};
+ghost use Rattle.pkcs8_reader.specs.Fields.{key_fault, optional};
+ghost use Rattle.pkcs8_reader.specs.Keys.{algorithm_identifier, algorithm_of, bits_of, key_of, private_key_info};
+ghost use Rattle.pkcs8_reader.specs.Keys.{version, version_with, whole_key};
 
 use der_base::any::Any;
 use der_base::error::BerError;
-use der_base::header::{Class, Tag};
 use der_cursor::{Cursor, FieldRefusal, Named, Refusal};
 use der_values::{BitString, ObjectIdentifier};
 
@@ -35,21 +37,10 @@ pub struct Algorithm<'a> {
 }
 
 /// Reads a private key by DER. Octets left over are refused. The version is 1 where there is a public key,
-/// and else 0 (RFC 5958 2). Incomplete exactly where the input ends within the key.
+/// and else 0 (RFC 5958 2). An error is the first one, with its field; the version is asked last. Incomplete exactly
+/// where the input ends within the key.
 pub fn read_private_key(octets: &[u8]) -> Result<PrivateKeyInfo<'_>, FieldRefusal>
-    ensures { ReadsNamedInput Rules.Der KeyFormat key_of Never octets.now result }
-{
-    match read_whole_key(octets) {
-        Ok(key) => Ok(key),
-        Err(e) => {
-            let input = Cursor::new(octets);
-            Err(e.of_element(input, Class::Universal, true, Tag::Sequence))
-        }
-    }
-}
-
-fn read_whole_key(octets: &[u8]) -> Result<PrivateKeyInfo<'_>, FieldRefusal>
-    ensures { ReadsWhole (Only (Required KeyFormat) Rules.Der octets.now) key_of Never result }
+    ensures { ReadsExactly key_fault key_of whole_key octets.now result }
 {
     let mut input = Cursor::new(octets);
     let key = read_fields(&mut input)?;
@@ -58,7 +49,7 @@ fn read_whole_key(octets: &[u8]) -> Result<PrivateKeyInfo<'_>, FieldRefusal>
 }
 
 fn read_fields<'a>(input: &mut Cursor<'a>) -> Result<PrivateKeyInfo<'a>, FieldRefusal>
-    ensures { ReadsField (Required KeyFormat) key_of Never input.old result input.new }
+    ensures { ReadsBy key_fault key_of private_key_info input.old result input.new }
 {
     let mut fields = input.open_sequence().named("PrivateKeyInfo")?;
     let first = fields;
@@ -89,7 +80,7 @@ pub(crate) fn version_of(further: bool) -> u32
 
 /// Reads a version, which is 0 or 1.
 pub(crate) fn read_version(fields: &mut Cursor<'_>) -> Result<u32, Refusal<BerError>>
-    ensures { ReadsField (Required Version) pos Never fields.old result fields.new }
+    ensures { ReadsBy fault_of pos version fields.old result fields.new }
 {
     let before = *fields;
     let version = fields.u32()?;
@@ -103,7 +94,7 @@ pub(crate) fn read_version(fields: &mut Cursor<'_>) -> Result<u32, Refusal<BerEr
 pub(crate) fn read_algorithm<'a>(
     fields: &mut Cursor<'a>,
 ) -> Result<Algorithm<'a>, Refusal<BerError>>
-    ensures { ReadsField (Required AlgorithmIdentifier) algorithm_of Never fields.old result fields.new }
+    ensures { ReadsBy fault_of algorithm_of algorithm_identifier fields.old result fields.new }
 {
     let mut inside = fields.open_sequence()?;
     let identifier = inside.oid()?;
@@ -116,14 +107,14 @@ pub(crate) fn read_algorithm<'a>(
 }
 
 fn read_public_key<'a>(fields: &mut Cursor<'a>) -> Result<Option<BitString<'a>>, Refusal<BerError>>
-    ensures { ReadsField (Optional (Implicit 1 BitFormat)) (λ x. option_map bits_of x) Never
+    ensures { ReadsBy fault_of (option_map bits_of) (optional_implicit 1 (bit_strings Rules.Der))
         fields.old result fields.new }
 {
     fields.implicit(1).optional_bits()
 }
 
 fn read_parameters<'a>(inside: &mut Cursor<'a>) -> Result<Option<Any<'a>>, Refusal<BerError>>
-    ensures { ReadsField (IfLeft AnyElement) (λ x. option_map element_of x) Never inside.old result inside.new }
+    ensures { ReadsBy fault_of (option_map element_of) (optional (λ i. i ≢ []) any) inside.old result inside.new }
 {
     if inside.is_empty() {
         return Ok(None);

@@ -1,11 +1,10 @@
 //! Public keys (RFC 5280 4.1.2.7), and those of RSA (RFC 8017 A.1.1).
-ghost use Rattle.der_base.specs.declared.rules.Rules.{Rules};
-ghost use Rattle.der_cursor.specs.Formats.{Never, Only, ReadsField, ReadsNamedInput, ReadsWhole, Required};
-ghost use Rattle.pkcs8_reader.specs.OtherKeys.{RsaPublicKey as RsaFormat, SubjectPublicKeyInfo as KeyFormat};
-ghost use Rattle.pkcs8_reader.specs.OtherKeys.{key_info_of, rsa_public_of};
+ghost use Rattle.der_x509.specs.Readers.{ReadsBy, ReadsExactly};
+ghost use Rattle.pkcs8_reader.specs.Fields.{key_fault};
+ghost use Rattle.pkcs8_reader.specs.OtherKeys.{key_info_of, rsa_public_key, rsa_public_of, subject_public_key_info};
+ghost use Rattle.pkcs8_reader.specs.OtherKeys.{whole_public_key, whole_rsa_public_key};
 
 use crate::key::{Algorithm, read_algorithm};
-use der_base::header::{Class, Tag};
 use der_cursor::{Cursor, FieldRefusal, Named};
 use der_values::BitString;
 
@@ -24,21 +23,10 @@ pub struct RsaPublicKey<'a> {
     pub public_exponent: &'a [u8],
 }
 
-/// Reads a public key by DER. Octets left over are refused. Incomplete exactly where the input ends within the key.
+/// Reads a public key by DER. An error is the first one, with its field. Incomplete exactly where the input ends within
+/// the key.
 pub fn read_public_key(octets: &[u8]) -> Result<SubjectPublicKeyInfo<'_>, FieldRefusal>
-    ensures { ReadsNamedInput Rules.Der KeyFormat key_info_of Never octets.now result }
-{
-    match read_whole_key(octets) {
-        Ok(key) => Ok(key),
-        Err(e) => {
-            let input = Cursor::new(octets);
-            Err(e.of_element(input, Class::Universal, true, Tag::Sequence))
-        }
-    }
-}
-
-fn read_whole_key(octets: &[u8]) -> Result<SubjectPublicKeyInfo<'_>, FieldRefusal>
-    ensures { ReadsWhole (Only (Required KeyFormat) Rules.Der octets.now) key_info_of Never result }
+    ensures { ReadsExactly key_fault key_info_of whole_public_key octets.now result }
 {
     let mut input = Cursor::new(octets);
     let key = read_fields(&mut input)?;
@@ -47,7 +35,7 @@ fn read_whole_key(octets: &[u8]) -> Result<SubjectPublicKeyInfo<'_>, FieldRefusa
 }
 
 fn read_fields<'a>(input: &mut Cursor<'a>) -> Result<SubjectPublicKeyInfo<'a>, FieldRefusal>
-    ensures { ReadsField (Required KeyFormat) key_info_of Never input.old result input.new }
+    ensures { ReadsBy key_fault key_info_of subject_public_key_info input.old result input.new }
 {
     let mut fields = input.open_sequence().named("SubjectPublicKeyInfo")?;
     let algorithm = read_algorithm(&mut fields).named("algorithm")?;
@@ -61,19 +49,7 @@ fn read_fields<'a>(input: &mut Cursor<'a>) -> Result<SubjectPublicKeyInfo<'a>, F
 
 /// Reads a public key of RSA by DER, as `read_public_key`.
 pub fn read_rsa_public_key(octets: &[u8]) -> Result<RsaPublicKey<'_>, FieldRefusal>
-    ensures { ReadsNamedInput Rules.Der RsaFormat rsa_public_of Never octets.now result }
-{
-    match read_whole_rsa_key(octets) {
-        Ok(key) => Ok(key),
-        Err(e) => {
-            let input = Cursor::new(octets);
-            Err(e.of_element(input, Class::Universal, true, Tag::Sequence))
-        }
-    }
-}
-
-fn read_whole_rsa_key(octets: &[u8]) -> Result<RsaPublicKey<'_>, FieldRefusal>
-    ensures { ReadsWhole (Only (Required RsaFormat) Rules.Der octets.now) rsa_public_of Never result }
+    ensures { ReadsExactly key_fault rsa_public_of whole_rsa_public_key octets.now result }
 {
     let mut input = Cursor::new(octets);
     let key = read_numbers(&mut input)?;
@@ -82,7 +58,7 @@ fn read_whole_rsa_key(octets: &[u8]) -> Result<RsaPublicKey<'_>, FieldRefusal>
 }
 
 fn read_numbers<'a>(input: &mut Cursor<'a>) -> Result<RsaPublicKey<'a>, FieldRefusal>
-    ensures { ReadsField (Required RsaFormat) rsa_public_of Never input.old result input.new }
+    ensures { ReadsBy key_fault rsa_public_of rsa_public_key input.old result input.new }
 {
     let mut numbers = input.open_sequence().named("RSAPublicKey")?;
     let modulus = numbers.integer().named("modulus")?;

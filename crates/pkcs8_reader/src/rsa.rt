@@ -1,10 +1,12 @@
 //! Private keys of RSA (RFC 8017 A.1.2).
 ghost use Rattle.std.specs.Option.{option_map};
-ghost use Rattle.der_base.specs.declared.rules.Rules.{Rules};
+ghost use Rattle.der_base.specs.declared.header.Class.{Class};
 ghost use Rattle.der_cursor.specs.Cursors.{octets_left};
-ghost use Rattle.der_cursor.specs.Formats.{Never, Octets, Only, Optional, ReadsField, ReadsNamedInput, ReadsWhole};
-ghost use Rattle.der_cursor.specs.Formats.{Required, Sequence};
-ghost use Rattle.pkcs8_reader.specs.Keys.{RsaPrivateKey as RsaFormat, rsa_of};
+ghost use Rattle.der_cursor.specs.Elements.{IsNext};
+ghost use Rattle.der_x509.specs.Formats.{sequence};
+ghost use Rattle.der_x509.specs.Readers.{ReadsBy, ReadsExactly, fault_of};
+ghost use Rattle.pkcs8_reader.specs.Fields.{key_fault, optional};
+ghost use Rattle.pkcs8_reader.specs.Keys.{rsa_of, rsa_private_key, whole_rsa_key};
 
 use crate::key::{read_version, version_of};
 use der_base::error::BerError;
@@ -29,21 +31,10 @@ pub struct RsaPrivateKey<'a> {
 }
 
 /// Reads a private key of RSA by DER. Octets left over are refused. The version is 1 where there are further
-/// primes, and else 0. Incomplete exactly where the input ends within the key.
+/// primes, and else 0. An error is the first one, with its field; the version is asked last. Incomplete exactly where
+/// the input ends within the key.
 pub fn read_rsa_private_key(octets: &[u8]) -> Result<RsaPrivateKey<'_>, FieldRefusal>
-    ensures { ReadsNamedInput Rules.Der RsaFormat rsa_of Never octets.now result }
-{
-    match read_whole_key(octets) {
-        Ok(key) => Ok(key),
-        Err(e) => {
-            let input = Cursor::new(octets);
-            Err(e.of_element(input, Class::Universal, true, Tag::Sequence))
-        }
-    }
-}
-
-fn read_whole_key(octets: &[u8]) -> Result<RsaPrivateKey<'_>, FieldRefusal>
-    ensures { ReadsWhole (Only (Required RsaFormat) Rules.Der octets.now) rsa_of Never result }
+    ensures { ReadsExactly key_fault rsa_of whole_rsa_key octets.now result }
 {
     let mut input = Cursor::new(octets);
     let key = read_numbers(&mut input)?;
@@ -52,7 +43,7 @@ fn read_whole_key(octets: &[u8]) -> Result<RsaPrivateKey<'_>, FieldRefusal>
 }
 
 fn read_numbers<'a>(input: &mut Cursor<'a>) -> Result<RsaPrivateKey<'a>, FieldRefusal>
-    ensures { ReadsField (Required RsaFormat) rsa_of Never input.old result input.new }
+    ensures { ReadsBy key_fault rsa_of rsa_private_key input.old result input.new }
 {
     let mut numbers = input.open_sequence().named("RSAPrivateKey")?;
     let first = numbers;
@@ -85,7 +76,7 @@ fn read_numbers<'a>(input: &mut Cursor<'a>) -> Result<RsaPrivateKey<'a>, FieldRe
 }
 
 fn open_other_primes<'a>(numbers: &mut Cursor<'a>) -> Result<Option<Cursor<'a>>, Refusal<BerError>>
-    ensures { ReadsField (Optional (Sequence Octets)) (λ x. option_map octets_left x) Never
+    ensures { ReadsBy fault_of (option_map octets_left) (optional (IsNext Class.Universal 16) sequence)
         numbers.old result numbers.new }
 {
     if numbers.is_next(Class::Universal, Tag::Sequence) {

@@ -1,7 +1,7 @@
 use Rattle.message_text.proofs.private_key.find_curve_key.Goals as goal
 
 pub returns-in-Ok : goal.returns-in-Ok
-returns-in-Ok c = c.in-Ok.ensures.value.found
+returns-in-Ok c = c.in-Ok.ensures.found
 
 pub returns-in-Err : goal.returns-in-Err
-returns-in-Err c = λ v h. c.in-Err.ensures.value.only v h
+returns-in-Err c = λ v h. c.in-Err.ensures.only v h

@@ -1,17 +1,14 @@
-use Rattle.std.proofs.lemmas.Result.{err_from_is_err_and}
-use Rattle.der_cursor.proofs.FormatLaws.{value_read}
-use Rattle.der_cursor.proofs.Sequences.{only_left, only_read, only_stops}
+use Rattle.std.proofs.Common.{refl}
+use Rattle.der_values.specs.Kinds.{bit_strings}
+use Rattle.der_x509.proofs.ReaderLaws.{end_read, finished, step, stop, value_read, whole}
+use Rattle.pkcs8_reader.proofs.NameLaws.{passed}
 use Rattle.pkcs8_reader.proofs.curve.read_last_bits.Goals as goal
 
 pub returns-in_err-bits : goal.returns-in_err-bits
-returns-in_err-bits c =
-    let q = err_from_is_err_and c.from_residual.result c.from_residual.ensures.1 in
-    rw (q.1, q.2) (only_stops (value_read _ c.in_err-bits.ensures))
+returns-in_err-bits c = whole (passed c.from_residual.ensures.1 (stop (value_read bit_strings 3 c.in_err-bits.ensures)))
 
 pub returns-in_err-end : goal.returns-in_err-end
-returns-in_err-end c =
-    let q = err_from_is_err_and c.from_residual-in_err-end.result c.from_residual-in_err-end.ensures.1 in
-    rw q.1 (only_left (value_read _ c.in_ok-bits.ensures) c.in_err-end.ensures.0)
+returns-in_err-end c = whole (passed c.from_residual-in_err-end.ensures.1 (step (value_read bit_strings 3 c.in_ok-bits.ensures) (stop (end_read c.in_err-end.ensures))))
 
 pub returns : goal.returns
-returns c = only_read (value_read _ c.in_ok-bits.ensures) c.in_ok-end.ensures
+returns c = whole (step (value_read bit_strings 3 c.in_ok-bits.ensures) (step (end_read c.in_ok-end.ensures) (finished refl)))

@@ -1,17 +1,13 @@
-use Rattle.std.proofs.lemmas.Result.{err_from_is_err_and}
-use Rattle.der_cursor.proofs.FormatLaws.{any_read}
-use Rattle.der_cursor.proofs.Sequences.{only_left, only_read, only_stops}
+use Rattle.std.proofs.Common.{refl}
+use Rattle.der_x509.proofs.ReaderLaws.{any_read, end_read, finished, step, stop, whole}
+use Rattle.pkcs8_reader.proofs.NameLaws.{passed}
 use Rattle.pkcs8_reader.proofs.curve.read_last_element.Goals as goal
 
 pub returns-in_err-element : goal.returns-in_err-element
-returns-in_err-element c =
-    let q = err_from_is_err_and c.from_residual.result c.from_residual.ensures.1 in
-    rw (q.1, q.2) (only_stops (any_read c.in_err-element.ensures))
+returns-in_err-element c = whole (passed c.from_residual.ensures.1 (stop (any_read c.in_err-element.ensures)))
 
 pub returns-in_err-end : goal.returns-in_err-end
-returns-in_err-end c =
-    let q = err_from_is_err_and c.from_residual-in_err-end.result c.from_residual-in_err-end.ensures.1 in
-    rw q.1 (only_left (any_read c.in_ok-element.ensures) c.in_err-end.ensures.0)
+returns-in_err-end c = whole (passed c.from_residual-in_err-end.ensures.1 (step (any_read c.in_ok-element.ensures) (stop (end_read c.in_err-end.ensures))))
 
 pub returns : goal.returns
-returns c = only_read (any_read c.in_ok-element.ensures) c.in_ok-end.ensures
+returns c = whole (step (any_read c.in_ok-element.ensures) (step (end_read c.in_ok-end.ensures) (finished refl)))

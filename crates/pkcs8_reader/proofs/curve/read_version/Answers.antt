@@ -1,16 +1,17 @@
-use Rattle.std.proofs.Common.{arith}
+use Rattle.std.proofs.Common.{ap, arith}
 use Rattle.std.proofs.lemmas.Int.{ints}
-use Rattle.std.proofs.lemmas.Result.{err_from_is_err_and}
-use Rattle.der_cursor.proofs.FormatLaws.{limited_read, limited_stops, not_limited, value_read}
+use Rattle.der_base.specs.Numbers.{unsigned}
+use Rattle.der_values.specs.Kinds.{numbers}
+use Rattle.der_x509.specs.Readers.{fault_of}
+use Rattle.der_x509.proofs.ReaderLaws.{not_so, required_read, required_refused, value_read}
+use Rattle.pkcs8_reader.proofs.NameLaws.{passed}
 use Rattle.pkcs8_reader.proofs.curve.read_version.Goals as goal
 
 pub returns-in_err-version : goal.returns-in_err-version
-returns-in_err-version c =
-    let q = err_from_is_err_and c.from_residual.result c.from_residual.ensures.1 in
-    rw (q.1, q.2) (limited_stops _ _ (value_read _ c.in_err-version.ensures))
+returns-in_err-version c = passed c.from_residual.ensures.1 (required_refused (value_read (λ r. numbers r (unsigned 32)) 2 c.in_err-version.ensures))
 
 pub returns-then-version-ne-VERSION : goal.returns-then-version-ne-VERSION
-returns-then-version-ne-VERSION c = not_limited _ _ (λ h. absurd (omega (arith, ints))) (value_read _ c.in_ok-version.ensures)
+returns-then-version-ne-VERSION c = not_so (value_read (λ r. numbers r (unsigned 32)) 2 c.in_ok-version.ensures) (λ h. absurd (omega (arith, ints))) (ap (λ x. fault_of x) c.refuse.ensures)
 
 pub returns : goal.returns
-returns c = limited_read _ _ (omega (arith, ints)) (value_read _ c.in_ok-version.ensures)
+returns c = required_read (value_read (λ r. numbers r (unsigned 32)) 2 c.in_ok-version.ensures) (omega (arith, ints))

@@ -1,9 +1,12 @@
-use Rattle.der_cursor.proofs.FrontLaws.{framed, named_alone, never_kept_in, refused_named}
-use Rattle.pkcs8_reader.specs.OtherKeys.{EncryptedPrivateKeyInfo}
+use Rattle.pkcs8_reader.proofs.KeyLaws.{encrypted_exact}
+use Rattle.pkcs8_reader.proofs.NameLaws.{input_left, input_read, input_stops}
 use Rattle.pkcs8_reader.proofs.encrypted.read_encrypted_key.Goals as goal
 
-pub returns-in-Ok : goal.returns-in-Ok
-returns-in-Ok c = named_alone (framed EncryptedPrivateKeyInfo) c.in-Ok.ensures
+pub returns-in_err-key : goal.returns-in_err-key
+returns-in_err-key c = input_stops encrypted_exact c.new-input.ensures c.in_err-key.ensures c.from_residual.ensures.1
 
-pub returns-in-Err : goal.returns-in-Err
-returns-in-Err c = refused_named (framed EncryptedPrivateKeyInfo) c.new-input.ensures never_kept_in c.in-Err.ensures c.of_element.ensures
+pub returns-in_err-named : goal.returns-in_err-named
+returns-in_err-named c = input_left encrypted_exact c.new-input.ensures _ _ _ c.in_ok-key.ensures c.end.ensures c.in_err-named.ensures c.from_residual-in_err-named.ensures.1
+
+pub returns : goal.returns
+returns c = input_read encrypted_exact c.new-input.ensures _ _ c.in_ok-key.ensures c.end.ensures c.in_ok-named.ensures

@@ -1,19 +1,20 @@
-use Rattle.std.proofs.Common.{refl}
-use Rattle.der_cursor.proofs.FormatLaws.{inside, value_read}
-use Rattle.der_cursor.proofs.Sequences.{after, finish, left_over, refused_open, start, stops}
+use Rattle.std.proofs.Common.{true, refl}
+use Rattle.der_values.specs.Kinds.{identifiers}
+use Rattle.der_x509.proofs.ReaderLaws.{end_read, finished, opened, step, stop, type_read, value_read, within}
+use Rattle.pkcs8_reader.proofs.NameLaws.{passed}
 use Rattle.pkcs8_reader.proofs.key.read_algorithm.Goals as goal
 
 pub returns-in_err-inside : goal.returns-in_err-inside
-returns-in_err-inside c = refused_open _ _ c.in_err-inside.ensures c.from_residual.ensures.1
+returns-in_err-inside c = passed c.from_residual.ensures.1 (stop (type_read true 16 c.in_err-inside.ensures))
 
 pub returns-in_err-identifier : goal.returns-in_err-identifier
-returns-in_err-identifier c = inside _ _ c.in_ok-inside.ensures (λ fresh. stops _ (start _ fresh) (value_read _ c.in_err-identifier.ensures) c.from_residual-in_err-identifier.ensures.1)
+returns-in_err-identifier c = passed c.from_residual-in_err-identifier.ensures.1 (opened true 16 c.in_ok-inside.ensures (λ i. within i (stop (value_read (λ r. identifiers) 6 c.in_err-identifier.ensures))))
 
 pub returns-in_err-parameters : goal.returns-in_err-parameters
-returns-in_err-parameters c = inside _ _ c.in_ok-inside.ensures (λ fresh. stops _ (after (start _ fresh) (value_read _ c.in_ok-identifier.ensures)) (c.in_err-parameters.ensures) c.from_residual-in_err-parameters.ensures.1)
+returns-in_err-parameters c = passed c.from_residual-in_err-parameters.ensures.1 (opened true 16 c.in_ok-inside.ensures (λ i. within i (step (value_read (λ r. identifiers) 6 c.in_ok-identifier.ensures) (stop c.in_err-parameters.ensures))))
 
 pub returns-in_err-end : goal.returns-in_err-end
-returns-in_err-end c = inside _ _ c.in_ok-inside.ensures (λ fresh. left_over _ (after (after (start _ fresh) (value_read _ c.in_ok-identifier.ensures)) (c.in_ok-parameters.ensures)) (c.in_err-end.ensures.0) c.from_residual-in_err-end.ensures.1)
+returns-in_err-end c = passed c.from_residual-in_err-end.ensures.1 (opened true 16 c.in_ok-inside.ensures (λ i. within i (step (value_read (λ r. identifiers) 6 c.in_ok-identifier.ensures) (step c.in_ok-parameters.ensures (stop (end_read c.in_err-end.ensures))))))
 
 pub returns : goal.returns
-returns c = inside _ _ c.in_ok-inside.ensures (λ fresh. finish (after (after (start _ fresh) (value_read _ c.in_ok-identifier.ensures)) (c.in_ok-parameters.ensures)) (c.in_ok-end.ensures) refl)
+returns c = opened true 16 c.in_ok-inside.ensures (λ i. within i (step (value_read (λ r. identifiers) 6 c.in_ok-identifier.ensures) (step c.in_ok-parameters.ensures (step (end_read c.in_ok-end.ensures) (finished refl)))))

@@ -1,14 +1,13 @@
-use Rattle.std.proofs.lemmas.Result.{err_from_is_err_and}
-use Rattle.der_cursor.proofs.FormatLaws.{any_read, left_stops, none_left, some_left}
+use Rattle.std.proofs.Common.{refl}
+use Rattle.der_x509.proofs.ReaderLaws.{any_read, finished, first, second, step, stop}
+use Rattle.pkcs8_reader.proofs.NameLaws.{passed}
 use Rattle.pkcs8_reader.proofs.key.read_parameters.Goals as goal
 
 pub returns-then-is_empty : goal.returns-then-is_empty
-returns-then-is_empty c = none_left _ (c.is_empty.ensures.0 c.if-is_empty.true)
+returns-then-is_empty c = second (λ n. n (c.is_empty.ensures.0 c.if-is_empty.true)) (finished refl)
 
 pub returns-in_err-any : goal.returns-in_err-any
-returns-in_err-any c =
-    let q = err_from_is_err_and c.from_residual.result c.from_residual.ensures.1 in
-    rw (q.1, q.2) (left_stops _ (λ e. let h = c.is_empty.ensures.1 e in cc) (any_read c.in_err-any.ensures))
+returns-in_err-any c = passed c.from_residual.ensures.1 (first (λ e. let h = c.is_empty.ensures.1 e in cc) (stop (any_read c.in_err-any.ensures)))
 
 pub returns : goal.returns
-returns c = some_left _ (λ e. let h = c.is_empty.ensures.1 e in cc) (any_read c.in_ok-any.ensures)
+returns c = first (λ e. let h = c.is_empty.ensures.1 e in cc) (step (any_read c.in_ok-any.ensures) (finished refl))
