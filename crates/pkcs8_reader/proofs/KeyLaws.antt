@@ -25,7 +25,7 @@ pub encrypted_exact : IsExact encrypted_private_key_info
 encrypted_exact = (tt, λ c. (algorithm_exact, λ a. (octets_one, λ d. (tt, λ u. tt))))
 
 pub ec_exact : IsExact ec_private_key
-ec_exact = (tt, λ c. (number_one Der (unsigned 32), λ v. (octets_one, λ k. (((( tt, λ w. (tt, λ v. (tt, λ u. tt))), λ v. tt), tt), λ p. ((((tt, λ w. (bits_one Der, λ v. (tt, λ u. tt))), λ v. tt), tt), λ b. (tt, λ u. tt))))))
+ec_exact = (tt, λ c. (number_one Der (unsigned 32), λ v. (octets_one, λ k. ((((tt, λ w. (tt, λ v. (tt, λ u. tt))), λ v. tt), tt), λ p. ((((tt, λ w. (bits_one Der, λ v. (tt, λ u. tt))), λ v. tt), tt), λ b. (tt, λ u. tt))))))
 
 pub public_exact : IsExact subject_public_key_info
 public_exact = (tt, λ c. (algorithm_exact, λ a. (bits_one Der, λ k. (tt, λ u. tt))))

@@ -62,16 +62,16 @@ HasVersion k = k.0 ≡ pos (version_with (is_some k.1.1.1.1.0))
 abbrev pub private_key_info : Format KeyFault KeyValue
 private_key_info = field (codes "PrivateKeyInfo") sequence >>= λ content.
     inside content (requiring HasVersion wrong_version (do
-  v ← field (codes "version") version  -- version              Version,
-  -- privateKeyAlgorithm  AlgorithmIdentifier,
-  algorithm ← field (codes "privateKeyAlgorithm") algorithm_identifier
-  key ← field (codes "privateKey") octet_string  -- privateKey           OCTET STRING,
-  -- attributes           [0] IMPLICIT SET OF Attribute OPTIONAL,
-  attributes ← field (codes "attributes") (optional (BeginsWithTag 0) (element ContextSpecific true 0))
-  -- publicKey            [1] IMPLICIT BIT STRING OPTIONAL }
-  public ← field (codes "publicKey") (optional_implicit 1 (bit_strings Der))
-  _ ← field (codes "PrivateKeyInfo") end_of_content
-  done (v, (algorithm, (key, (attributes, (public, tt)))))))
+      v ← field (codes "version") version  -- version              Version,
+      -- privateKeyAlgorithm  AlgorithmIdentifier,
+      algorithm ← field (codes "privateKeyAlgorithm") algorithm_identifier
+      key ← field (codes "privateKey") octet_string  -- privateKey           OCTET STRING,
+      -- attributes           [0] IMPLICIT SET OF Attribute OPTIONAL,
+      attributes ← field (codes "attributes") (optional (BeginsWithTag 0) (element ContextSpecific true 0))
+      -- publicKey            [1] IMPLICIT BIT STRING OPTIONAL }
+      public ← field (codes "publicKey") (optional_implicit 1 (bit_strings Der))
+      _ ← field (codes "PrivateKeyInfo") end_of_content
+      done (v, (algorithm, (key, (attributes, (public, tt)))))))
 
 -- a key, and nothing after it
 abbrev pub whole_key : Format KeyFault KeyValue
@@ -90,19 +90,19 @@ HasRsaVersion k = k.0 ≡ pos (version_with (is_some k.1.1.1.1.1.1.1.1.1.0))
 abbrev pub rsa_private_key : Format KeyFault RsaValue
 rsa_private_key = field (codes "RSAPrivateKey") sequence >>= λ content.
     inside content (requiring HasRsaVersion wrong_version (do
-  v ← field (codes "version") version  -- version              Version,
-  n ← field (codes "modulus") integer  -- modulus              INTEGER,
-  e ← field (codes "publicExponent") integer  -- publicExponent       INTEGER,
-  d ← field (codes "privateExponent") integer  -- privateExponent      INTEGER,
-  p ← field (codes "prime1") integer  -- prime1               INTEGER,
-  q ← field (codes "prime2") integer  -- prime2               INTEGER,
-  x ← field (codes "exponent1") integer  -- exponent1            INTEGER,
-  y ← field (codes "exponent2") integer  -- exponent2            INTEGER,
-  c ← field (codes "coefficient") integer  -- coefficient          INTEGER,
-  -- otherPrimeInfos      SEQUENCE OF OtherPrimeInfo OPTIONAL }
-  others ← field (codes "otherPrimeInfos") (optional (IsNext Universal 16) sequence)
-  _ ← field (codes "RSAPrivateKey") end_of_content
-  done (v, (n, (e, (d, (p, (q, (x, (y, (c, (others, tt))))))))))))
+      v ← field (codes "version") version  -- version              Version,
+      n ← field (codes "modulus") integer  -- modulus              INTEGER,
+      e ← field (codes "publicExponent") integer  -- publicExponent       INTEGER,
+      d ← field (codes "privateExponent") integer  -- privateExponent      INTEGER,
+      p ← field (codes "prime1") integer  -- prime1               INTEGER,
+      q ← field (codes "prime2") integer  -- prime2               INTEGER,
+      x ← field (codes "exponent1") integer  -- exponent1            INTEGER,
+      y ← field (codes "exponent2") integer  -- exponent2            INTEGER,
+      c ← field (codes "coefficient") integer  -- coefficient          INTEGER,
+      -- otherPrimeInfos      SEQUENCE OF OtherPrimeInfo OPTIONAL }
+      others ← field (codes "otherPrimeInfos") (optional (IsNext Universal 16) sequence)
+      _ ← field (codes "RSAPrivateKey") end_of_content
+      done (v, (n, (e, (d, (p, (q, (x, (y, (c, (others, tt))))))))))))
 
 abbrev pub whole_rsa_key : Format KeyFault RsaValue
 whole_rsa_key = whole (codes "RSAPrivateKey") rsa_private_key
