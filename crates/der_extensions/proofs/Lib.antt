@@ -1,3 +1,4 @@
+pub mod ArcOctets
 pub mod CertificateNames
 pub mod DefaultLaws
 pub mod ExtensionLaws

@@ -1,6 +1,7 @@
 -- Critical extensions of no kind.
-use Rattle.std.proofs.Common.{◌≡◌, ℕ, List, refl, sym, subst}
-use Rattle.std.specs.Prelude.{◌↔◌}
+use Rattle.std.proofs.Common.{◌≡◌, ℕ, Bool, true, false, List, refl, sym, subst}
+use Rattle.std.specs.Prelude.{◌↔◌, IsTrue}
+use Rattle.std.proofs.lemmas.Bool.{false≢true}
 use Rattle.der_values.specs.declared.identifier.ObjectIdentifier.{ObjectIdentifier}
 use Rattle.der_values.specs.Kinds.{borrowed_arcs}
 use Rattle.der_x509.specs.declared.extension.Extension.{Extension}
@@ -44,6 +45,11 @@ of_one x kind.ReasonCode e o n = n.1.1.1.1.1.1.1.1.1.1.1.1.1.1.1.1.1.1.1.1.1.1.1
 of_one x kind.InvalidityDate e o n = n.1.1.1.1.1.1.1.1.1.1.1.1.1.1.1.1.1.1.1.1.1.1.1.1.1.1.1.0 e
 of_one x kind.CertificateIssuer e o n = n.1.1.1.1.1.1.1.1.1.1.1.1.1.1.1.1.1.1.1.1.1.1.1.1.1.1.1.1.0 e
 of_one x kind.Other e o n = o refl
+
+-- whether it is one of none is whether its kind is Other
+pub unknown_told : (x : ObjectIdentifier) (k : Kind) (b : Bool) → IsKindIn every_kind x k → IsTrue b ↔ (k ≡ kind.Other) → IsTrue b ↔ IsNoneOf every_kind (borrowed_arcs x)
+unknown_told x k true h e = ((λ t. subst (IsKindIn every_kind x) (e.0 t) h), (λ n. refl))
+unknown_told x k false h e = ((λ t. absurd (false≢true t)), (λ n. absurd (of_one x k h (λ q. false≢true (e.1 q)) n)))
 
 -- the code's words for it are those of its octets
 pub same_words : {i rest : List ℕ} (e : Extension) → spells extension i (extension_of e) rest → IsUnknownCriticalOne e ↔ IsUnknownCritical (extension_of e)

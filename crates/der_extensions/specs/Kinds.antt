@@ -1,5 +1,8 @@
 -- The extensions that have a name here, and their identifiers (RFC 5280 A.2, and those of the web).
-use Rattle.std.specs.Prelude.{◌≡◌, ◌≢◌, ℕ, Option, List, [], ◌∷◌, Some}
+use Rattle.std.specs.Prelude.{◌≡◌, ◌≢◌, ℕ, false, Option, List, [], ◌∷◌, Some}
+use Rattle.std.specs.List.{flat_map}
+use Rattle.der_base.specs.Octets.{groups}
+use Rattle.der_base.specs.OidArcs.{values_of_arcs}
 use Rattle.der_values.specs.declared.identifier.ObjectIdentifier.{ObjectIdentifier}
 use Rattle.der_values.specs.Kinds.{borrowed_arcs}
 use Rattle.der_extensions.specs.declared.kind.Kind.{Kind}
@@ -58,38 +61,47 @@ arcs_of kind.PrecertificatePoison = transparency 3
 arcs_of kind.OrganizationIdentifier = cabf_organization_identifier
 arcs_of kind.Other = []
 
--- those of lists of revoked certificates and of their entries (5.2, 5.3)
-abbrev pub revocation_kinds : List Kind
-revocation_kinds =
-    kind.CrlNumber ∷ kind.DeltaCrlIndicator ∷ kind.IssuingDistributionPoint ∷ kind.ReasonCode
-    ∷ kind.InvalidityDate ∷ kind.CertificateIssuer ∷ []
-
-abbrev pub policy_kinds : List Kind
-policy_kinds =
-    kind.PolicyMappings ∷ kind.SubjectDirectoryAttributes ∷ kind.PolicyConstraints
-    ∷ kind.InhibitAnyPolicy ∷ revocation_kinds
-
-abbrev pub web_kinds : List Kind
-web_kinds =
-    kind.SignedCertificateTimestamps ∷ kind.PrecertificatePoison ∷ kind.TlsFeatures ∷ kind.OcspNoCheck
-    ∷ kind.QcStatements ∷ kind.OrganizationIdentifier ∷ policy_kinds
-
-abbrev pub further_kinds : List Kind
-further_kinds =
-    kind.NameConstraints ∷ kind.ExtendedKeyUsage ∷ kind.CrlDistributionPoints ∷ kind.FreshestCrl
-    ∷ kind.AuthorityInfoAccess ∷ kind.SubjectInfoAccess ∷ web_kinds
-
 abbrev pub every_kind : List Kind
 every_kind =
     kind.AuthorityKeyIdentifier ∷ kind.SubjectKeyIdentifier ∷ kind.KeyUsage ∷ kind.CertificatePolicies
-    ∷ kind.SubjectAltName ∷ kind.IssuerAltName ∷ kind.BasicConstraints ∷ further_kinds
+    ∷ kind.SubjectAltName ∷ kind.IssuerAltName ∷ kind.BasicConstraints ∷ kind.NameConstraints
+    ∷ kind.ExtendedKeyUsage ∷ kind.CrlDistributionPoints ∷ kind.FreshestCrl ∷ kind.AuthorityInfoAccess
+    ∷ kind.SubjectInfoAccess ∷ kind.SignedCertificateTimestamps ∷ kind.PrecertificatePoison ∷ kind.TlsFeatures
+    ∷ kind.OcspNoCheck ∷ kind.QcStatements ∷ kind.OrganizationIdentifier ∷ kind.PolicyMappings
+    ∷ kind.SubjectDirectoryAttributes ∷ kind.PolicyConstraints ∷ kind.InhibitAnyPolicy ∷ kind.CrlNumber
+    ∷ kind.DeltaCrlIndicator ∷ kind.IssuingDistributionPoint ∷ kind.ReasonCode ∷ kind.InvalidityDate
+    ∷ kind.CertificateIssuer ∷ []
 
 -- the arcs are those of none of the kinds
 abbrev pub IsNoneOf : List Kind → Option (List ℕ) → Type 0
 IsNoneOf [] arcs = Unit {0}
 IsNoneOf (k ∷ ks) arcs = (arcs ≢ Some (arcs_of k)) × IsNoneOf ks arcs
 
--- the identifier has the arcs of this kind; Other is one that has those of none of the kinds
+-- the arcs are those of this kind; Other has those of none of the kinds
+abbrev pub IsKindOf : List Kind → Option (List ℕ) → Kind → Type 0
+IsKindOf ks arcs kind.Other = IsNoneOf ks arcs
+IsKindOf ks arcs k = arcs ≡ Some (arcs_of k)
+
+-- the identifier has the arcs of this kind
 abbrev pub IsKindIn : List Kind → ObjectIdentifier → Kind → Type 0
-IsKindIn ks x kind.Other = IsNoneOf ks (borrowed_arcs x)
-IsKindIn ks x k = borrowed_arcs x ≡ Some (arcs_of k)
+IsKindIn ks x k = IsKindOf ks (borrowed_arcs x) k
+
+-- the content octets of an identifier with the arcs of a kind, none of them padded (X.690 8.19)
+abbrev pub octets_of : Kind → List ℕ
+octets_of k = flat_map groups (values_of_arcs false (arcs_of k))
+
+abbrev pub AreNoneOf : List Kind → List ℕ → Type 0
+AreNoneOf [] w = Unit {0}
+AreNoneOf (k ∷ ks) w = (w ≢ octets_of k) × AreNoneOf ks w
+
+-- the octets are those of this kind; Other has those of none of the kinds
+abbrev pub IsKindOfOctets : List Kind → List ℕ → Kind → Type 0
+IsKindOfOctets ks w kind.Other = AreNoneOf ks w
+IsKindOfOctets ks w k = w ≡ octets_of k
+
+-- the octets of id_ce n and of id_pe n, where n is below 128
+abbrev pub id_ce_octets : ℕ → List ℕ
+id_ce_octets n = 85 ∷ 29 ∷ n ∷ []
+
+abbrev pub id_pe_octets : ℕ → List ℕ
+id_pe_octets n = 43 ∷ 6 ∷ 1 ∷ 5 ∷ 5 ∷ 7 ∷ 1 ∷ n ∷ []

@@ -4,7 +4,7 @@ ghost use Rattle.der_values.specs.Kinds.{borrowed_arcs};
 ghost use Rattle.der_extensions.specs.Kinds.{IsNoneOf, every_kind};
 ghost use Rattle.der_extensions.specs.Unknown.{HasUnknownCritical, IsUnknownCriticalOne};
 
-use crate::kind::{Kind, kind_of};
+use crate::kind::kind_of;
 use der_values::ObjectIdentifier;
 use der_x509::{Extension, Extensions};
 
@@ -31,8 +31,5 @@ fn is_unknown_critical(extension: &Extension<'_>) -> bool
 fn is_unknown(identifier: &ObjectIdentifier<'_>) -> bool
     ensures { IsTrue result ↔ IsNoneOf every_kind (borrowed_arcs identifier.now) }
 {
-    match kind_of(identifier) {
-        Kind::Other => true,
-        _ => false,
-    }
+    kind_of(identifier).is_other()
 }

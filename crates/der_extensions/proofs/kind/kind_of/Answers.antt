@@ -1,10 +1,7 @@
-use Rattle.std.proofs.Common.{[], ◌∷◌}
-use Rattle.der_x509.proofs.RuleLaws.{passed}
-use Rattle.der_extensions.specs.declared.kind.Kind.TheVariants as kind
-use Rattle.der_extensions.specs.Kinds.{further_kinds}
-use Rattle.der_extensions.proofs.KindLaws.{none_before}
+use Rattle.std.proofs.Common.{sym, ◌∙◌}
+use Rattle.der_extensions.proofs.KindLaws.{absolute_told}
 use Rattle.der_extensions.proofs.kind.kind_of.Goals as goal
 
-pub returns : goal.returns
-returns c = none_before (kind.AuthorityKeyIdentifier ∷ kind.SubjectKeyIdentifier ∷ kind.KeyUsage ∷ kind.CertificatePolicies ∷ kind.SubjectAltName ∷ kind.IssuerAltName ∷ kind.BasicConstraints ∷ []) further_kinds c.args.identifier.now c.further_kind_of.result
-    (passed c.if-is.ensures, (passed c.if-is-2.ensures, (passed c.if-is-3.ensures, (passed c.if-is-4.ensures, (passed c.if-is-5.ensures, (passed c.if-is-6.ensures, (passed c.if-is-7.ensures, tt))))))) c.further_kind_of.ensures
+pub returns-in-Some : goal.returns-in-Some
+returns-in-Some c =
+    absolute_told c.args.identifier.now c.as_bytes.result.now c.in-Some.kind (sym c.is_relative.ensures ∙ c.if-is_relative.false) c.as_bytes.ensures c.in-Some.ensures
