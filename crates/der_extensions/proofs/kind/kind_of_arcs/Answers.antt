@@ -1,4 +1,4 @@
-use Rattle.std.proofs.Common.{◌≡◌, ◌≢◌, ℕ, Some, add-one, arith, get_or, subst, sym, take, ap, ◌∙◌}
+use Rattle.std.proofs.Common.{◌≡◌, ◌≢◌, Some, add-one, get_or, subst, sym, take, ap, ◌∙◌}
 use Rattle.der_values.specs.Kinds.{borrowed_arcs}
 use Rattle.der_x509.proofs.RuleLaws.{passed}
 use Rattle.der_extensions.specs.declared.kind.Kind.TheVariants as kind
