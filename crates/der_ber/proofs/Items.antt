@@ -15,7 +15,7 @@ use Rattle.der_base.specs.Headers.{BeginsWithHeader, ReadsHeader}
 use Rattle.der_base.proofs.Framing.FramingAny.{any_lacks_content}
 use Rattle.der_base.proofs.Framing.FramingAny as framing
 use Rattle.der_base.proofs.Framing.FramingLists.{element_from}
-use Rattle.der_base.specs.Any.{AnyRefuses, AnyLacks}
+use Rattle.der_base.specs.Any.{AnyRefuses}
 use Rattle.der_base.specs.Fault.{ShowsFault}
 use Rattle.der_base.specs.Inner.Framed.{HasContent}
 use Rattle.der_base.specs.Header.{class_of, is_constructed, number_of, length_of}
@@ -23,7 +23,7 @@ use Rattle.der_base.specs.Leaf.{is_list, IsLeafContent}
 use Rattle.der_base.specs.Refusal.{Refusal}
 use Rattle.der_base.specs.Spelling.{BeginsWithElement, form, Forms, no_forms, Joins, framing_budget}
 use Rattle.der_base.specs.Tree.{Content, sequence, set}
-use Rattle.der_laws.proofs.Spellings.BerFaults.{any_shows, content_shows, cut_shows_nothing}
+use Rattle.der_laws.proofs.Spellings.BerFaults.{any_shows, content_shows}
 use Rattle.der_base.proofs.Framing.FramingLaws.{framed_begins}
 use Rattle.der_base.proofs.Framing.FramedIsSpelling.{joins_now, spells_then}
 use Rattle.der_object.specs.declared.object.BerObject.{BerObject}
@@ -37,7 +37,7 @@ use Rattle.der_object.proofs.HeaderFacts.{sequence_each, set_each, sequence_form
 use Rattle.der_object.proofs.HeaderFacts.{leaf_keeps, each_push}
 use Rattle.der_object.proofs.Trees.{sequence_tree, set_tree}
 use Rattle.der_base.specs.Stable.{BerIsCut}
-use Rattle.der_forms.proofs.BerReadings.{any_cut}
+use Rattle.der_laws.proofs.Spellings.BerReadings.{any_cut}
 use Rattle.der_ber.specs.BerReading.{ReadsBer, NeedsMemory, ContentRefuses}
 use Rattle.der_ber.specs.Inner.ElementParts.{AreItems, IsContentOf, BehindRefuses, BehindNeedsMemory}
 

@@ -1,14 +1,12 @@
 -- An object that begins the input, a refusal, and an input that is cut short: one of them holds at most, and each in one way.
-use Rattle.std.proofs.Common.{◌≡◌, ℕ, true, List, ◌++◌, refl, sym, ap, ◌∙◌, inl, inr}
+use Rattle.std.proofs.Common.{ℕ, true, List, ap, ◌∙◌, inl, inr}
 use Rattle.der_base.specs.declared.header.Class.TheVariants.{Universal}
-use Rattle.der_base.specs.Spelling.{BeginsWithBer, BerSpells, framing_budget}
-use Rattle.der_base.specs.Tree.{Node}
+use Rattle.der_base.specs.Spelling.{BeginsWithBer, framing_budget}
 use Rattle.der_laws.proofs.Spellings.BerFaults as faults
-use Rattle.der_base.proofs.Framing.Cuts.{lacks_same}
 use Rattle.der_base.proofs.Framing.FramingLaws.{begins_not_cut}
 use Rattle.der_base.proofs.Answers.Exactness.{ShowsOne}
 use Rattle.der_base.specs.Fault.{ShowsFault}
-use Rattle.der_forms.proofs.BerReadings.{spelled_same, spelled_not_cut, cut_same}
+use Rattle.der_laws.proofs.Spellings.BerReadings.{spelled_same, spelled_not_cut, cut_same}
 use Rattle.der_object.specs.HeaderFacts.{form_of}
 use Rattle.der_object.specs.Readings.{value_of}
 use Rattle.der_base.specs.Stable.{BerIsCut}

@@ -19,8 +19,8 @@ use Rattle.der_object.specs.Readings.{Answer}
 use Rattle.der_object.specs.View.{tree, content_tree, trees}
 use Rattle.der_object.proofs.Counting.{item_count_push}
 use Rattle.der_der.specs.DerReading.{ReadsDer}
-use Rattle.der_forms.proofs.Contents.{joins_encoded}
-use Rattle.der_forms.proofs.DerReadings.{length_octets}
+use Rattle.der_laws.proofs.Spellings.DerContents.{joins_encoded}
+use Rattle.der_laws.proofs.Spellings.DerReadings.{length_octets}
 use Rattle.der_der.proofs.Items.{Read}
 
 element_octets : (c : Class) (p : Bool) (t : ℕ) (w : List ℕ) → 2 + length w ≤ length (element c p t w)

@@ -33,8 +33,8 @@ use Rattle.der_object.specs.View.{content_tree, trees}
 use Rattle.der_object.proofs.Joins.{der_joins_push}
 use Rattle.der_object.proofs.HeaderFacts.{sequence_each, set_each, leaf_each, leaf_keeps, each_push}
 use Rattle.der_object.proofs.Trees.{sequence_tree, set_tree}
-use Rattle.der_forms.specs.Contents.{IsDerContentOf}
-use Rattle.der_forms.proofs.Contents.{joins_encoded, leaf_height, leaf_valid}
+use Rattle.der_values.specs.Contents.{IsDerContentOf}
+use Rattle.der_laws.proofs.Spellings.DerContents.{joins_encoded, leaf_height, leaf_valid}
 use Rattle.der_der.specs.DerReading.{ReadsDer, BeginsWithItems, ContentRefuses}
 use Rattle.der_der.specs.Inner.DerItems.{AreItems, IsContentOf}
 

@@ -15,7 +15,7 @@ use Rattle.der_laws.proofs.Spellings.DerWithinBer.{der_spelling_same, der_spelle
 use Rattle.der_laws.proofs.Spellings.DerFaults.{spelled_shows_nothing, shows_one}
 use Rattle.der_base.proofs.Answers.Exactness.{ShowsOne}
 use Rattle.der_base.specs.Fault.{DerShowsFault}
-use Rattle.der_forms.proofs.DerReadings.{spelled_same, spelled_not_cut, cut_same}
+use Rattle.der_laws.proofs.Spellings.DerReadings.{spelled_same, spelled_not_cut, cut_same}
 use Rattle.der_object.specs.Readings.{value_of}
 use Rattle.der_der.specs.DerReading.{NeedsMemory, ReadsDer}
 

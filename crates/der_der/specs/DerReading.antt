@@ -9,7 +9,7 @@ use Rattle.der_base.specs.Leaf.{is_list, is_mapped}
 use Rattle.der_base.specs.Refusal.{Refusal}
 use Rattle.der_base.specs.Spelling.{BeginsWithDer, DerSpells}
 use Rattle.der_base.specs.Stable.{DerIsCut, AnswerStays}
-pub use Rattle.der_forms.specs.Contents.{IsDerContentOf}
+pub use Rattle.der_values.specs.Contents.{IsDerContentOf}
 use Rattle.der_object.specs.declared.object.BerObject.{BerObject}
 use Rattle.der_object.specs.HeaderFacts.{EachHasDerHeader}
 use Rattle.der_object.specs.Readings.{Answer, value_of}

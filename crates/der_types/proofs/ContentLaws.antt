@@ -33,8 +33,8 @@ use Rattle.der_object.specs.Readings.{content_value_of}
 use Rattle.der_object.specs.View.{tree}
 use Rattle.der_object.proofs.TypedLaws.{shows_read}
 use Rattle.der_ber.proofs.Items as ber_items
-use Rattle.der_forms.specs.Contents.{IsDerContentOf}
-use Rattle.der_forms.proofs.DerReadings.{universal_or_not}
+use Rattle.der_values.specs.Contents.{IsDerContentOf}
+use Rattle.der_laws.proofs.Spellings.DerReadings.{universal_or_not}
 use Rattle.der_der.proofs.Items as der_items
 use Rattle.der_types.specs.TypedReading.{FramesContent, FrameRefuses, FrameLacks, IsContentBy, ContentRefusesBy, SpellsContent, ReadingRefuses, ReadingNeedsMemory, FramingNeedsMemory}
 use Rattle.der_types.specs.TypedReading.{ReadsContentAs, ReadsContentOf, inner_value_of, length_of_octets, ReadsObjectOf, SpellsObjectOf, ObjectOfRefuses}

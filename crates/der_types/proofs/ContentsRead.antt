@@ -22,8 +22,8 @@ use Rattle.der_object.specs.View.{content_tree}
 use Rattle.der_object.proofs.HeaderFacts.{leaf_forms, leaf_each}
 use Rattle.der_ber.specs.Inner.ElementParts.{ReadsBehind, BehindRefuses, BehindNeedsMemory}
 use Rattle.der_ber.proofs.Items.{leaf_has}
-use Rattle.der_forms.proofs.Contents.{leaf_valid, leaf_height}
-use Rattle.der_forms.specs.Contents.{IsDerContentOf}
+use Rattle.der_laws.proofs.Spellings.DerContents.{leaf_valid, leaf_height}
+use Rattle.der_values.specs.Contents.{IsDerContentOf}
 use Rattle.der_types.specs.TypedReading.{FramesContent, FrameRefuses, FrameLacks, FramingNeedsMemory, HasOwnHeader, ReadsContent, ReadsContentAs, ReadsContentOf, ReadingRefuses, ReadingNeedsMemory}
 use Rattle.der_types.specs.Inner.Framing.{MayFollow}
 use Rattle.der_types.proofs.ContentLaws.{content_by_ber}

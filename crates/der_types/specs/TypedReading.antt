@@ -33,7 +33,7 @@ use Rattle.der_object.specs.Readings.{Answer, value_of, ContentAnswer, content_v
 use Rattle.der_object.specs.View.{tree, content_tree}
 use Rattle.der_ber.specs.BerReading.{ContentRefuses as BerContentRefuses}
 use Rattle.der_der.specs.DerReading.{ContentRefuses as DerContentRefuses}
-use Rattle.der_forms.specs.Contents.{IsDerContentOf}
+use Rattle.der_values.specs.Contents.{IsDerContentOf}
 
 -- content octets
 

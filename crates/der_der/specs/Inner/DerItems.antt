@@ -10,7 +10,7 @@ use Rattle.der_object.specs.declared.object.BerObject.{BerObject}
 use Rattle.der_object.specs.declared.object.BerObjectContent.{BerObjectContent}
 use Rattle.der_object.specs.HeaderFacts.{EachInside, KeepsHeader, HasDerHeader, EachHasDerHeader}
 use Rattle.der_object.specs.View.{content_tree, trees}
-use Rattle.der_forms.specs.Contents.{IsDerContentOf}
+use Rattle.der_values.specs.Contents.{IsDerContentOf}
 
 -- the octets w join the objects, to depth d
 pub record AreItems (w : List ℕ) (os : List BerObject) (d : ℕ) : Type 0 where

@@ -1,16 +1,5 @@
-use Rattle.std.proofs.Common.{rules, refl, inr}
-use Rattle.der_base.specs.Text.{IsTextOf}
-use Rattle.der_forms.proofs.Contents.{text_refused}
+use Rattle.der_ber.proofs.Leaves.{text_read}
 use Rattle.der_ber.proofs.leaf.read_string.Goals as goal
 
-pub returns-in-None : goal.returns-in-None
-returns-in-None c =
-    let t = c.args.tag.0 in
-    let w = c.args.content.now in
-    let wrong : ¬ IsTextOf t w = search rules in
-    text_refused c.args.constructed t w c.if-constructed.false c.requires wrong
-
-pub returns-in-Some : goal.returns-in-Some
-returns-in-Some c =
-    let h = c.in-Some.ensures in
-    rw (c.text_content.ensures, h.2) (refl, inr (inr (inr (h.0, c.if-constructed.false, h.1))), refl)
+pub returns : goal.returns
+returns c = λ r. text_read r c.args.tag.0 c.args.octets.now _ _ c.requires c.text_content.ensures c.in_ok-read_text.ensures

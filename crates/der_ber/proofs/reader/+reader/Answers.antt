@@ -16,7 +16,7 @@ use Rattle.der_object.specs.HeaderFacts.{forms_of}
 use Rattle.der_object.proofs.Counting.{sequence_content_count, set_content_count, item_count_push}
 use Rattle.der_ber.proofs.Items.{sequence_content, set_content, content_refused, content_memory, object_read}
 use Rattle.der_ber.proofs.Items.{leaf_content, read_none, read_more, read_all, memory_deep, begins_behind, any_refused}
-use Rattle.der_forms.proofs.BerReadings.{any_cut}
+use Rattle.der_laws.proofs.Spellings.BerReadings.{any_cut}
 use Rattle.der_ber.proofs.Items.{framing_cut, behind_refused, behind_memory}
 use Rattle.der_base.specs.declared.header.Length.TheVariants.{Definite}
 use Rattle.der_base.specs.Content.{BeginsWithContent, ContentLacks}

@@ -8,7 +8,7 @@ use Rattle.der_base.proofs.Framing.FramingAny.{any_lacks_header}
 use Rattle.der_base.proofs.Framing.FramingAny as framing
 use Rattle.der_base.proofs.Framing.FramingLaws.{element_shorter}
 use Rattle.der_base.proofs.Framing.Recording.{inside_more}
-use Rattle.der_forms.proofs.BerReadings.{any_cut}
+use Rattle.der_laws.proofs.Spellings.BerReadings.{any_cut}
 use Rattle.der_ber.proofs.Items.{any_refused, framing_cut, begins_behind, content_refused, object_read}
 use Rattle.der_ber.proofs.WantedTagNumbers.{not_other, refused_not_other, framing_needs, content_needs}
 use Rattle.der_ber.proofs.reader.read_element_with_tag.Goals as goal

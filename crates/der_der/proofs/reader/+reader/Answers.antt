@@ -20,7 +20,7 @@ use Rattle.der_base.proofs.Spellings.Counted.{leaf_counted}
 use Rattle.der_object.proofs.Counting.{sequence_content_count, set_content_count}
 use Rattle.der_object.specs.View.{tree, content_tree, trees}
 use Rattle.der_der.proofs.Counts.{none_counted, bounded_behind, counted_more, counted_around}
-use Rattle.der_forms.proofs.DerReadings.{header_cut, content_cut, header_shorter}
+use Rattle.der_laws.proofs.Spellings.DerReadings.{header_cut, content_cut, header_shorter}
 use Rattle.der_der.proofs.Items.{sequence_content, set_content, header_refused, size_refused, content_refused}
 use Rattle.der_der.proofs.Items.{content_memory, object_read, leaf_content, read_none, read_more, read_all}
 use Rattle.der_der.proofs.reader.+reader.Goals as goal

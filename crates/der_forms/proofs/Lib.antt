@@ -1,4 +1,0 @@
-pub mod BerReadings
-pub mod Contents
-pub mod DerReadings
-pub mod Forms

@@ -1,2 +1,0 @@
--- Content octets by DER.
-pub use Rattle.der_values.specs.Contents.{IsDerContentOf}
