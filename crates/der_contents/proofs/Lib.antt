@@ -1,3 +1,4 @@
+mod Booleans
 pub mod FormLaws
 pub mod GrammarLaws
 pub mod RuleLaws

@@ -1,6 +1,5 @@
 //! The content octets of primitive elements by X.690, as far as that needs no ASN.1 type.
 ghost use Rattle.std.specs.Prelude.{◌≡◌, ◌≤◌, ◌%◌, [], ◌∷◌, IsTrue, IsUtf8, length};
-ghost use Rattle.der_base.specs.declared.rules.Rules.{Rules};
 ghost use Rattle.der_base.specs.Text.{is_text_type};
 ghost use Rattle.der_contents.specs.declared.content_error.ContentError.TheVariants.{NotUtf8, NullNotEmpty};
 ghost use Rattle.der_contents.specs.ContentRules.{Checks, bit_string_rules, boolean_rules, content_rules};
@@ -10,10 +9,11 @@ use crate::content_error::ContentError;
 use crate::grammar::is_end;
 use crate::real_forms::{check_real, is_fewest};
 use crate::time_forms::{check_generalized_time, check_utc_time};
+use der_base::error::BerError;
 use der_base::header::Tag;
 use der_base::rules::Rules;
 use der_base::text::read_text;
-use der_values::{are_last_bits_zero, ends_subidentifier, has_padded_arc};
+use der_values::{are_last_bits_zero, ends_subidentifier, has_padded_arc, read_bool, read_null};
 use std::str;
 
 /// The type CHARACTER STRING (X.680 44).
@@ -63,24 +63,14 @@ fn check_tag(rules: Rules, tag: Tag, octets: &[u8]) -> Result<(), ContentError>
     }
 }
 
+#[tactic(auto, using(crate::proofs::Booleans::holds, crate::proofs::Booleans::size, crate::proofs::Booleans::value))]
 fn check_boolean(rules: Rules, octets: &[u8]) -> Result<(), ContentError>
     ensures { Checks (boolean_rules rules octets.now) result }
 {
-    let [octet] = octets else {
-        return Err(ContentError::BooleanLength);
-    };
-    match rules {
-        Rules::Ber => Ok(()),
-        Rules::Der => check_strict_boolean(*octet),
-    }
-}
-
-fn check_strict_boolean(octet: u8) -> Result<(), ContentError>
-    ensures { Checks (boolean_rules Rules.Der (octet ∷ [])) result }
-{
-    match octet {
-        0x00 | 0xff => Ok(()),
-        _ => Err(ContentError::BooleanValue),
+    match read_bool(rules, octets) {
+        Ok(_) => Ok(()),
+        Err(BerError::InvalidLength) => Err(ContentError::BooleanLength),
+        Err(_) => Err(ContentError::BooleanValue),
     }
 }
 
@@ -122,13 +112,14 @@ fn check_unused_bits(rules: Rules, unused: u8, bits: &[u8]) -> Result<(), Conten
     }
 }
 
+/// Checks that a NULL has no octets, as DER reads one.
 fn check_null(octets: &[u8]) -> Result<(), ContentError>
     ensures { Checks (need (octets.now ≡ []) NullNotEmpty ∷ []) result }
 {
-    if is_end(octets) {
-        return Ok(());
+    match read_null(Rules::Der, octets) {
+        Ok(()) => Ok(()),
+        Err(_) => Err(ContentError::NullNotEmpty),
     }
-    Err(ContentError::NullNotEmpty)
 }
 
 /// Checks the octets of an OBJECT IDENTIFIER or RELATIVE-OID.
