@@ -1,5 +1,6 @@
 pub mod Arcs
 pub mod Bits
+pub mod BmpStrings
 pub mod ClosingSets
 pub mod Composing
 pub mod Counts

@@ -13,10 +13,12 @@ ghost use Rattle.der_writer.specs.Written.{PutsBmp, PutsLeaf, PutsText};
 use crate::writer::{Writer, tag_put};
 use der_base::error::BerError;
 use der_base::header::Tag;
-use der_base::text::{is_utf16, read_text};
+use der_base::rules::Rules;
+use der_base::text::read_text;
 use der_base::time::ASN1DateTime;
 use der_octets::header::{integer_octet_count, write_integer};
 use der_octets::time::{GENERALIZED_YEAR, UTC_YEAR, time_length, write_time};
+use der_values::check_value;
 
 impl<'b> Writer<'b> {
     /// A BOOLEAN (X.690 8.2, 11.1).
@@ -208,14 +210,17 @@ impl<'b> Writer<'b> {
 
     /// A BMPString (8.23.9) of these octets: two for each character, the high one first. StringInvalidCharset if they
     /// aren't pairs of UTF-16: then nothing is put.
+    #[tactic(auto, using(crate::proofs::BmpStrings::passes, crate::proofs::BmpStrings::refused))]
     pub fn put_bmp(&mut self, octets: &[u8]) -> Result<(), BerError>
         ensures { PutsBmp octets.now self.old result self.new }
     {
-        if octets.len() % 2 != 0 || !is_utf16(octets) {
-            return Err(BerError::StringInvalidCharset);
+        match check_value(Rules::Der, false, Tag::BmpString, octets) {
+            Ok(()) => {
+                self.put_primitive(Tag::BmpString, octets);
+                Ok(())
+            }
+            Err(_) => Err(BerError::StringInvalidCharset),
         }
-        self.put_primitive(Tag::BmpString, octets);
-        Ok(())
     }
 
     /// A UTCTime (11.8).
