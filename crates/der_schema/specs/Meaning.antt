@@ -8,8 +8,6 @@ use Rattle.der_schema.specs.declared.level.Content.{Content}
 use Rattle.der_schema.specs.declared.level.Content.TheVariants.{NoElement, Anything, Ordered, Unordered, Repeated}
 use Rattle.der_schema.specs.declared.level.Level.{Level}
 use Rattle.der_schema.specs.declared.matching.Found.{Found}
-use Rattle.der_schema.specs.declared.matching.Item.{Item}
-use Rattle.der_schema.specs.declared.matching.Known.{Known}
 use Rattle.der_schema.specs.declared.schema.Component.{Component}
 use Rattle.der_schema.specs.declared.schema.Form.{Form}
 use Rattle.der_schema.specs.declared.schema.Form.TheVariants.{Primitive, Constructed, Either}
@@ -28,9 +26,6 @@ pub record Encoding : Type 0 where
   pub constructed : Bool
   pub number : ℕ
   pub content : List ℕ
-
-abbrev pub encoding_of : Item → Encoding
-encoding_of x = record { class = x.class; constructed = x.constructed; number = x.number; content = x.content.now }
 
 -- what the elements of a content are, from an offset on
 pub data Expected : Type 0 where
@@ -60,9 +55,6 @@ components_of s = (out-Selection s).components.now
 pub record Around : Type 0 where
   pub selected : List Component
   pub types : List Component
-
-abbrev pub known_of : Known → Around
-known_of k = record { selected = k.selected.now; types = all_types k.types.now }
 
 -- what is expected in a content
 pub record State : Type 0 where

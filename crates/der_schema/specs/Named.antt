@@ -12,8 +12,8 @@ use Rattle.der_schema.specs.Steps.{label_of}
 
 -- a namer has named these elements of the input i by a schema
 pub record HasNamed (sc : Root) (i : List ℕ) (vs : List Visited) (n : Namer) : Type 0 where
-  pub input : n.input.now ≡ i
-  pub types : all_types n.types.now ≡ sc.types
+  pub input : n.known.input.now ≡ i
+  pub types : all_types n.known.types.now ≡ sc.types
   pub opened : states_in sc.types n.levels ≡ opened_by (of_input sc ∷ []) (all_seen i vs)
   pub whole : n.levels.whole ≡ whole_by true (of_input sc ∷ []) (all_seen i vs)
 

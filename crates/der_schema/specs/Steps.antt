@@ -1,13 +1,26 @@
 -- What the private functions of a namer find, as values of the definitions.
 use Rattle.std.specs.Prelude.{Option, Some, None, List, []}
 use Rattle.std.specs.Borrow.{Bor}
+use Rattle.der_walk.specs.declared.element.Element.{Element}
+use Rattle.der_walk.specs.Walked.{visited_of}
 use Rattle.der_schema.specs.declared.level.Content.{Content}
 use Rattle.der_schema.specs.declared.matching.Found.{Found}
+use Rattle.der_schema.specs.declared.matching.Known.{Known}
 use Rattle.der_schema.specs.declared.matching.Name.{Name}
 use Rattle.der_schema.specs.declared.matching.Step.{Step}
 use Rattle.der_schema.specs.declared.schema.Component.{Component}
 use Rattle.der_schema.specs.declared.schema.Selection.{Selection}
-use Rattle.der_schema.specs.Meaning.{Expected, Field, Label, Passed, components_of, expected_of, field, state_of}
+use Rattle.der_schema.specs.Encodings.{encoding_in}
+use Rattle.der_schema.specs.Meaning.{Around, Encoding, Expected, Field, Label, Passed, all_types, components_of}
+use Rattle.der_schema.specs.Meaning.{expected_of, field, state_of}
+
+-- what a schema sees of an element of the input
+abbrev pub encoding_of : Known → Element → Encoding
+encoding_of k e = encoding_in k.input.now (visited_of e)
+
+-- what the types of elements depend on, where this is selected
+abbrev pub around : Selection → Known → Around
+around s k = record { selected = components_of s; types = all_types k.types.now }
 
 abbrev pub label_of : Option Name → Option Label
 label_of None = None
@@ -20,9 +33,10 @@ abbrev pub next_found : Option (Found × Bor (List Component)) → Option (Field
 next_found None = None
 next_found (Some p) = Some (field p.0.name.now p.0.inside.now, p.1.now)
 
-abbrev pub place_found : Option (Found × Content) → Option (Field × Expected)
-place_found None = None
-place_found (Some p) = Some (field p.0.name.now p.0.inside.now, expected_of p.1)
+-- what is found, after which this is expected
+abbrev pub place_found : Option Found → Content → Option (Field × Expected)
+place_found None c = None
+place_found (Some f) c = Some (field f.name.now f.inside.now, expected_of c)
 
 abbrev pub selection_in : Option (Bor Selection) → List Component
 selection_in None = []

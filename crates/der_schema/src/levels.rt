@@ -1,14 +1,14 @@
 //! What is expected in the contents that are open.
-ghost use Rattle.std.specs.Prelude.{◌≡◌, ◌+◌, ◌<◌, ◌≤◌, [], ◌∷◌, ◌++◌, ◌&&◌, drop, length, take, slice_get, true};
+ghost use Rattle.std.specs.Prelude.{◌≡◌, ◌+◌, ◌≤◌, [], ◌∷◌, ◌&&◌, drop, length, slice_get, true};
 ghost use Rattle.std.specs.List.{list_all};
 ghost use Rattle.der_schema.specs.Ends.{level_ends, whole_past};
-ghost use Rattle.der_schema.specs.Meaning.{all_types, encoding_of};
+ghost use Rattle.der_schema.specs.Meaning.{all_types};
 ghost use Rattle.der_schema.specs.Opened.{name_in, opened_past, seen};
-ghost use Rattle.der_schema.specs.Steps.{label_of};
+ghost use Rattle.der_schema.specs.Steps.{encoding_of, label_of};
 
 use crate::level::{Level, may_all_end};
-use crate::matching::{Item, Name, step_past};
-use crate::schema::Component;
+use crate::matching::{Known, Name, Step};
+use der_walk::Element;
 
 /// How many contents are open at most: the input, and that of each element around one and of itself.
 const MAX_LEVELS: usize = 102;
@@ -16,16 +16,48 @@ const MAX_LEVELS: usize = 102;
 /// How many elements may be around an element.
 const MAX_DEPTH: usize = 100;
 
+/// What the places hold that aren't used. A constant is copied at once.
+const NO_LEVELS: [Level; MAX_LEVELS] = [Level::NOTHING; MAX_LEVELS];
+
+/// Places for what is expected in contents, the outermost first.
+#[derive(Drop)]
+struct Cells {
+    levels: [Level; MAX_LEVELS],
+}
+
+impl Cells {
+    ghost use Rattle.std.specs.Prelude.{◌≡◌, ◌+◌, ◌≤◌, Some, length, set, slice_get};
+    ghost use Rattle.der_schema.specs.Meaning.{all_types, past, state_of};
+    ghost use Rattle.der_schema.specs.Steps.{encoding_of, passed_of};
+
+    /// Goes past an element, in the content around it, and begins that in it.
+    #[inline(always)]
+    fn pass(&mut self, element: &Element<'_>, known: &Known<'_>) -> Step
+        requires shallow { element.now.depth ≤ 100 }
+        requires sized { length self.old.levels ≡ 102 }
+        ensures cells { self.new.levels ≡ set (set self.old.levels element.now.depth result.after)
+            (element.now.depth + 1) result.inside }
+        ensures step { (l : Level) → slice_get self.old.levels element.now.depth ≡ Some l
+            → passed_of (all_types known.now.types.now) result
+            ≡ past (state_of (all_types known.now.types.now) l) (encoding_of known.now element.now) }
+    {
+        let depth = element.depth;
+        let step = self.levels[depth].go_past(element, known);
+        self.levels[depth + 1] = step.inside;
+        step
+    }
+}
+
 /// What is expected in each content that is open, the outermost first.
 #[derive(Drop)]
 pub(crate) struct Levels {
-    cells: [Level; MAX_LEVELS],
+    cells: Cells,
     /// How many are open.
     len: usize,
     /// Whether each content that has ended had all its components.
     whole: bool,
     ghost bounded: { len ≤ 102 },
-    ghost sized: { length cells ≡ 102 },
+    ghost sized: { length cells.levels ≡ 102 },
 }
 
 impl Levels {
@@ -36,39 +68,34 @@ impl Levels {
         ensures levels { levels_of result ≡ level ∷ [] }
         ensures whole { result.whole ≡ true }
     {
-        let mut cells = [Level::NOTHING; MAX_LEVELS];
-        cells[0] = level;
+        let mut levels = NO_LEVELS;
+        levels[0] = level;
         Levels {
-            cells,
+            cells: Cells { levels },
             len: 1,
             whole: true,
         }
     }
 
-    /// Goes past an element that so many are around, and returns its name.
-    pub(crate) fn pass(
-        &mut self,
-        depth: usize,
-        types: &[&'static Component],
-        item: &Item<'_>,
-    ) -> Option<Name>
-        ensures opened { depth ≤ 100 → states_in (all_types types.now) self.new
-            ≡ opened_past (states_in (all_types types.now) self.old) (seen depth (encoding_of item.now)) }
-        ensures whole { depth ≤ 100 → self.new.whole
-            ≡ whole_past self.old.whole (states_in (all_types types.now) self.old)
-            (seen depth (encoding_of item.now)) }
-        ensures name { depth ≤ 100 → label_of result
-            ≡ name_in (states_in (all_types types.now) self.old) (seen depth (encoding_of item.now)) }
+    /// Goes past an element, and returns its name.
+    pub(crate) fn pass(&mut self, element: &Element<'_>, known: &Known<'_>) -> Option<Name>
+        ensures opened { element.now.depth ≤ 100 → states_in (all_types known.now.types.now) self.new
+            ≡ opened_past (states_in (all_types known.now.types.now) self.old)
+            (seen element.now.depth (encoding_of known.now element.now)) }
+        ensures whole { element.now.depth ≤ 100 → self.new.whole
+            ≡ whole_past self.old.whole (states_in (all_types known.now.types.now) self.old)
+            (seen element.now.depth (encoding_of known.now element.now)) }
+        ensures name { element.now.depth ≤ 100 → label_of result
+            ≡ name_in (states_in (all_types known.now.types.now) self.old)
+            (seen element.now.depth (encoding_of known.now element.now)) }
     {
-        if depth > MAX_DEPTH {
+        let depth = element.depth;
+        if depth > MAX_DEPTH || self.level_at(depth).is_none() {
             return None;
         }
-        let Some(level) = self.level_at(depth) else {
-            return None;
-        };
-        let step = step_past(&level, types, item);
         self.whole = self.is_whole_inside(depth);
-        self.put(depth, step.after, step.inside);
+        let step = self.cells.pass(element, known);
+        self.len = depth + 2;
         step.name
     }
 
@@ -96,22 +123,10 @@ impl Levels {
         self.as_slice().get(depth).copied()
     }
 
-    /// Puts what is expected after an element and inside it in the place of what was expected there.
-    fn put(&mut self, depth: usize, after: Level, inside: Level)
-        requires within { depth < self.old.len }
-        requires shallow { depth ≤ 100 }
-        ensures levels { levels_of self.new ≡ take depth (levels_of self.old) ++ after ∷ inside ∷ [] }
-        ensures whole { self.new.whole ≡ self.old.whole }
-    {
-        self.cells[depth] = after;
-        self.cells[depth + 1] = inside;
-        self.len = depth + 2;
-    }
-
     /// The contents that are open.
     fn as_slice(&self) -> &[Level]
         ensures { result.now ≡ levels_of self.now }
     {
-        &self.cells[..self.len]
+        &self.cells.levels[..self.len]
     }
 }

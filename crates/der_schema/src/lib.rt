@@ -1,7 +1,6 @@
 //! Names of the fields of an input, element after element, from types of ASN.1 that are constant data.
 #![tactic(auto)]
 
-mod item;
 mod known;
 pub mod laws;
 mod level;

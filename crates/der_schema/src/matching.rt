@@ -1,25 +1,16 @@
 //! Which component of a schema an element is.
-ghost use Rattle.std.specs.Prelude.{◌≡◌, Option, Some, None, slice_get};
+ghost use Rattle.std.specs.Prelude.{◌≡◌, ◌+◌, Option, Some, None, slice_get};
+ghost use Rattle.der_base.specs.TreeEquality.{same_octets};
+ghost use Rattle.der_schema.specs.Encodings.{octets_at};
 ghost use Rattle.der_schema.specs.Meaning.{all_types, alternative_in, as_alternative, as_plain, as_numbered};
-ghost use Rattle.der_schema.specs.Meaning.{as_referred, as_selected, chosen_in, components_of, encoding_of};
-ghost use Rattle.der_schema.specs.Meaning.{expected_of, field, field_of, first_content, fits, found_in, has_items};
-ghost use Rattle.der_schema.specs.Meaning.{known_of, member_in, name_or, next_in, opened, passed, past, place_in};
-ghost use Rattle.der_schema.specs.Meaning.{selected_by, selected_past, state_of, tagged_field, unnamed};
-ghost use Rattle.der_schema.specs.Steps.{component_in, next_found, passed_of, place_found, selection_in};
+ghost use Rattle.der_schema.specs.Meaning.{as_referred, as_selected, chosen_in, components_of};
+ghost use Rattle.der_schema.specs.Meaning.{expected_of, field_of, first_content, fits, found_in, has_items, member_in};
+ghost use Rattle.der_schema.specs.Meaning.{name_or, next_in, opened, selected_by, selected_past, tagged_field};
+ghost use Rattle.der_schema.specs.Steps.{around, component_in, encoding_of, next_found, selection_in};
 
 use crate::level::{Content, Level, nothing_selected};
 use crate::schema::{Class, Component, Form, Inside, Selection, Type};
-
-/// What a schema sees of an element.
-#[derive(Clone, Copy)]
-pub(crate) struct Item<'a> {
-    pub class: Class,
-    pub constructed: bool,
-    /// The tag number.
-    pub number: u32,
-    /// The content octets. If the length is indefinite, all octets after the header.
-    pub content: &'a [u8],
-}
+use der_walk::Element;
 
 /// The name of an element.
 #[derive(Clone, Copy, Debug, PartialEq)]
@@ -31,11 +22,11 @@ pub struct Name {
     pub is_item: bool,
 }
 
-/// What the types of elements depend on besides their components.
+/// What the types of elements depend on besides their components and the last identifier.
 #[derive(Clone, Copy)]
 pub(crate) struct Known<'a> {
-    /// What the last identifier selects: no component if it is nothing.
-    pub selected: &'static [Component],
+    /// The input, where identifiers are read.
+    pub input: &'a [u8],
     /// The types of the schema that have an index.
     pub types: &'a [&'static Component],
 }
@@ -55,40 +46,67 @@ pub(crate) struct Step {
     pub after: Level,
 }
 
-/// What a level says of the next element in its content.
-pub(crate) fn step_past(level: &Level, types: &[&'static Component], item: &Item<'_>) -> Step
-    ensures { passed_of (all_types types.now) result
-        ≡ past (state_of (all_types types.now) level.now) (encoding_of item.now) }
-{
-    let known = Known {
-        selected: level.selected.components,
-        types,
-    };
-    match place_of(level.expected, item, &known) {
-        Some((found, expected)) => step_to(level, types, item, found, expected),
-        None => step_out(level, types),
-    }
-}
+impl Level {
+    ghost use Rattle.std.specs.Prelude.{◌≡◌};
+    ghost use Rattle.der_schema.specs.Meaning.{all_types, expected_of, past, place_in, state_of};
+    ghost use Rattle.der_schema.specs.Steps.{around, encoding_of, passed_of, place_found};
 
-/// What an element is in a content, and what is expected after it.
-fn place_of(expected: Content, item: &Item<'_>, known: &Known<'_>) -> Option<(Found, Content)>
-    ensures { place_found result ≡ place_in (expected_of expected) (encoding_of item.now) (known_of known.now) }
-{
-    match expected {
-        Content::NoElement => None,
-        Content::Anything => Some((Found::any(""), expected)),
-        Content::Ordered(components) => match next_of(components, item, known) {
-            Some((found, rest)) => Some((found, Content::Ordered(rest))),
-            None => None,
-        },
-        Content::Unordered(components) => match member_of(components, item, known) {
-            Some(found) => Some((found, expected)),
-            None => None,
-        },
-        Content::Repeated(component) => match found_as(component, item, known) {
-            Some(found) => Some((found, expected)),
-            None => None,
-        },
+    /// Goes past the next element of the content: what is expected is then what is expected after it.
+    #[inline(always)]
+    pub(crate) fn go_past(&mut self, element: &Element<'_>, known: &Known<'_>) -> Step
+        ensures step { passed_of (all_types known.now.types.now) result
+            ≡ past (state_of (all_types known.now.types.now) self.old) (encoding_of known.now element.now) }
+        ensures after { self.new ≡ result.after }
+    {
+        let is_item = has_items(self.expected);
+        let selected = self.selected;
+        match self.find(element, known) {
+            Some(found) => {
+                self.selected = selected_after(found.inside, element, known, selected);
+                Step {
+                    name: Some(Name {
+                        text: found.name,
+                        is_item,
+                    }),
+                    inside: Level {
+                        expected: opened(found.inside, element.constructed, selected.components),
+                        selected,
+                    },
+                    after: *self,
+                }
+            }
+            None => {
+                self.expected = Content::NoElement;
+                Step {
+                    name: None,
+                    inside: *self,
+                    after: *self,
+                }
+            }
+        }
+    }
+
+    /// What the next element is. If it is something, what is expected is then what follows that.
+    #[inline(always)]
+    fn find(&mut self, element: &Element<'_>, known: &Known<'_>) -> Option<Found>
+        ensures place { place_found result self.new.expected
+            ≡ place_in (expected_of self.old.expected) (encoding_of known.now element.now)
+            (around self.old.selected.now known.now) }
+        ensures selected { self.new.selected ≡ self.old.selected }
+    {
+        match self.expected {
+            Content::NoElement => None,
+            Content::Anything => Some(Found::any("")),
+            Content::Ordered(components) => {
+                let (found, rest) = next_of(components, element, self.selected, known)?;
+                self.expected = Content::Ordered(rest);
+                Some(found)
+            }
+            Content::Unordered(components) => {
+                member_of(components, element, self.selected, known)
+            }
+            Content::Repeated(component) => found_as(component, element, self.selected, known),
+        }
     }
 }
 
@@ -107,49 +125,6 @@ impl Found {
             name,
             inside: &ANY_ELEMENTS,
         }
-    }
-}
-
-/// The step past an element that is in the schema.
-fn step_to(
-    level: &Level,
-    types: &[&'static Component],
-    item: &Item<'_>,
-    found: Found,
-    expected: Content,
-) -> Step
-    ensures { passed_of (all_types types.now) result
-        ≡ passed (state_of (all_types types.now) level.now) (encoding_of item.now)
-        (field found.name.now found.inside.now) (expected_of expected) }
-{
-    Step {
-        name: Some(Name {
-            text: found.name,
-            is_item: has_items(level.expected),
-        }),
-        inside: Level {
-            expected: opened(found.inside, item.constructed, level.selected.components),
-            selected: level.selected,
-        },
-        after: Level {
-            expected,
-            selected: selected_after(found.inside, item, level.selected),
-        },
-    }
-}
-
-/// The step past an element that isn't in the schema: no element in it, or after it in the content, has a name.
-fn step_out(level: &Level, types: &[&'static Component]) -> Step
-    ensures { passed_of (all_types types.now) result ≡ unnamed (state_of (all_types types.now) level.now) }
-{
-    let nothing = Level {
-        expected: Content::NoElement,
-        selected: level.selected,
-    };
-    Step {
-        name: None,
-        inside: nothing,
-        after: nothing,
     }
 }
 
@@ -194,18 +169,44 @@ fn chosen(selected: &'static [Component]) -> Content
 /// What is selected after an element.
 fn selected_after(
     inside: &'static Inside,
-    item: &Item<'_>,
+    element: &Element<'_>,
+    known: &Known<'_>,
     selected: &'static Selection,
 ) -> &'static Selection
     ensures { components_of result.now
-        ≡ selected_past inside.now (encoding_of item.now) (components_of selected.now) }
+        ≡ selected_past inside.now (encoding_of known.now element.now) (components_of selected.now) }
 {
     match *inside {
-        Inside::Selects(selections) => selected_or_none(selected_by(selections, item.content)),
+        Inside::Selects(selections) => {
+            selected_or_none(selected_by(selections, content_of(known.input, element)))
+        }
         Inside::Begins(_, selections) => {
-            selected_or_none(selected_by(selections, first_content(item.content)))
+            let identifier = first_content(content_of(known.input, element));
+            selected_or_none(selected_by(selections, identifier))
         }
         _ => selected,
+    }
+}
+
+/// The content octets of an element of an input. If the length is indefinite, all octets after the header.
+fn content_of<'a>(input: &'a [u8], element: &Element<'_>) -> &'a [u8]
+    ensures { result.now ≡ octets_at input.now (element.now.offset + element.now.header) element.now.length }
+{
+    octets_of(
+        input,
+        element.offset.saturating_add(element.header),
+        element.length,
+    )
+}
+
+/// The octets from an offset on: so many, or all that follow.
+fn octets_of(input: &[u8], begin: usize, length: Option<usize>) -> &[u8]
+    ensures { result.now ≡ octets_at input.now begin length }
+{
+    let here = &input[begin.min(input.len())..];
+    match length {
+        Some(length) => &here[..length.min(here.len())],
+        None => here,
     }
 }
 
@@ -225,12 +226,22 @@ fn selected_by(selections: &'static [Selection], identifier: &[u8]) -> Option<&'
 {
     let mut ahead = selections;
     while let Some((selection, rest)) = ahead.split_first() {
-        if selection.identifier == identifier {
+        if is_same(selection.identifier, identifier) {
             return Some(selection);
         }
         ahead = rest;
     }
     None
+}
+
+/// Whether two identifiers are the same. Those of a table differ mostly in their last octet.
+fn is_same(one: &[u8], other: &[u8]) -> bool
+    ensures { result ≡ same_octets one.now other.now }
+{
+    match (one, other) {
+        ([.., a], [.., b]) if *a != *b => false,
+        _ => one == other,
+    }
 }
 
 /// The content octets of the first element in these octets, if its header has two octets.
@@ -249,14 +260,16 @@ fn first_content(octets: &[u8]) -> &[u8]
 /// The first component that an element is, where those before it may be absent, and the components after it.
 fn next_of(
     components: &'static [Component],
-    item: &Item<'_>,
+    element: &Element<'_>,
+    selected: &'static Selection,
     known: &Known<'_>,
 ) -> Option<(Found, &'static [Component])>
-    ensures { next_found result ≡ next_in components.now (encoding_of item.now) (known_of known.now) }
+    ensures { next_found result
+        ≡ next_in components.now (encoding_of known.now element.now) (around selected.now known.now) }
 {
     let mut ahead = components;
     while let Some((component, rest)) = ahead.split_first() {
-        if let Some(found) = found_as(component, item, known) {
+        if let Some(found) = found_as(component, element, selected, known) {
             return Some((found, rest));
         }
         if !component.optional {
@@ -268,12 +281,19 @@ fn next_of(
 }
 
 /// The first component that an element is.
-fn member_of(components: &'static [Component], item: &Item<'_>, known: &Known<'_>) -> Option<Found>
-    ensures { field_of result ≡ member_in components.now (encoding_of item.now) (known_of known.now) }
+#[inline(never)]
+fn member_of(
+    components: &'static [Component],
+    element: &Element<'_>,
+    selected: &'static Selection,
+    known: &Known<'_>,
+) -> Option<Found>
+    ensures { field_of result
+        ≡ member_in components.now (encoding_of known.now element.now) (around selected.now known.now) }
 {
     let mut ahead = components;
     while let Some((component, rest)) = ahead.split_first() {
-        if let Some(found) = found_as(component, item, known) {
+        if let Some(found) = found_as(component, element, selected, known) {
             return Some(found);
         }
         ahead = rest;
@@ -282,51 +302,76 @@ fn member_of(components: &'static [Component], item: &Item<'_>, known: &Known<'_
 }
 
 /// An element as this component, if it may be that.
-fn found_as(component: &'static Component, item: &Item<'_>, known: &Known<'_>) -> Option<Found>
-    ensures { field_of result ≡ found_in component.now (encoding_of item.now) (known_of known.now) }
+#[inline(always)]
+fn found_as(
+    component: &'static Component,
+    element: &Element<'_>,
+    selected: &'static Selection,
+    known: &Known<'_>,
+) -> Option<Found>
+    ensures { field_of result
+        ≡ found_in component.now (encoding_of known.now element.now) (around selected.now known.now) }
 {
-    match component.kind {
-        Type::Selected => selected_as(known, item, component.name),
-        _ => referred_as(component, known.types, item, component.name),
+    match &component.kind {
+        Type::Tagged(class, number, form, inside) => {
+            let found = Found {
+                name: component.name,
+                inside,
+            };
+            tagged_as(*class, *number, *form, element, known, found)
+        }
+        Type::Selected => selected_as(selected, element, known, component.name),
+        _ => referred_as(component, element, known, component.name),
     }
 }
 
 /// An element as what the last identifier selects, or any element if it selects nothing.
-fn selected_as(known: &Known<'_>, item: &Item<'_>, name: &'static str) -> Option<Found>
-    ensures { field_of result ≡ as_selected (known_of known.now) (encoding_of item.now) name.now }
+#[inline(always)]
+fn selected_as(
+    selected: &'static Selection,
+    element: &Element<'_>,
+    known: &Known<'_>,
+    name: &'static str,
+) -> Option<Found>
+    ensures { field_of result
+        ≡ as_selected (around selected.now known.now) (encoding_of known.now element.now) name.now }
 {
-    match known.selected {
-        [selected, ..] => referred_as(selected, known.types, item, name_or(selected.name, name)),
+    match selected.components {
+        [selected, ..] => referred_as(selected, element, known, name_or(selected.name, name)),
         [] => Some(Found::any(name)),
     }
 }
 
 /// An element as this component, which may be a type by its index, under this name.
+#[inline(always)]
 fn referred_as(
     component: &'static Component,
-    types: &[&'static Component],
-    item: &Item<'_>,
+    element: &Element<'_>,
+    known: &Known<'_>,
     name: &'static str,
 ) -> Option<Found>
-    ensures { field_of result ≡ as_referred component.now (all_types types.now) (encoding_of item.now) name.now }
+    ensures { field_of result ≡ as_referred component.now (all_types known.now.types.now)
+        (encoding_of known.now element.now) name.now }
 {
     match component.kind {
-        Type::Numbered(index) => numbered_as(types, index, item, name),
-        _ => plain_as(component, item, name),
+        Type::Numbered(index) => numbered_as(index, element, known, name),
+        _ => plain_as(component, element, known, name),
     }
 }
 
 /// An element of the type with this index, under this name or else that of the type.
+#[inline(always)]
 fn numbered_as(
-    types: &[&'static Component],
     index: usize,
-    item: &Item<'_>,
+    element: &Element<'_>,
+    known: &Known<'_>,
     name: &'static str,
 ) -> Option<Found>
-    ensures { field_of result ≡ as_numbered (slice_get (all_types types.now) index) (encoding_of item.now) name.now }
+    ensures { field_of result ≡ as_numbered (slice_get (all_types known.now.types.now) index)
+        (encoding_of known.now element.now) name.now }
 {
-    match type_at(types, index) {
-        Some(numbered) => plain_as(numbered, item, name_or(name, numbered.name)),
+    match type_at(known.types, index) {
+        Some(numbered) => plain_as(numbered, element, known, name_or(name, numbered.name)),
         None => None,
     }
 }
@@ -339,30 +384,46 @@ fn type_at(types: &[&'static Component], index: usize) -> Option<&'static Compon
 }
 
 /// An element as this component, which nothing else says, under this name.
-fn plain_as(component: &'static Component, item: &Item<'_>, name: &'static str) -> Option<Found>
-    ensures { field_of result ≡ as_plain component.now (encoding_of item.now) name.now }
+#[inline(always)]
+fn plain_as(
+    component: &'static Component,
+    element: &Element<'_>,
+    known: &Known<'_>,
+    name: &'static str,
+) -> Option<Found>
+    ensures { field_of result ≡ as_plain component.now (encoding_of known.now element.now) name.now }
 {
     match &component.kind {
         Type::Any => Some(Found::any(name)),
         Type::Tagged(class, number, form, inside) => {
-            tagged_as(*class, *number, *form, item, Found { name, inside })
+            tagged_as(
+                *class,
+                *number,
+                *form,
+                element,
+                known,
+                Found { name, inside },
+            )
         }
-        Type::Choice(alternatives) => alternative_of(alternatives, item, name),
+        Type::Choice(alternatives) => alternative_of(alternatives, element, known, name),
         Type::Selected | Type::Numbered(_) => None,
     }
 }
 
 /// An element as the first alternative with its tag. It is named as that, or as the choice if that has no name.
+#[inline(always)]
 fn alternative_of(
     alternatives: &'static [Component],
-    item: &Item<'_>,
+    element: &Element<'_>,
+    known: &Known<'_>,
     choice: &'static str,
 ) -> Option<Found>
-    ensures { field_of result ≡ alternative_in alternatives.now (encoding_of item.now) choice.now }
+    ensures { field_of result
+        ≡ alternative_in alternatives.now (encoding_of known.now element.now) choice.now }
 {
     let mut ahead = alternatives;
     while let Some((alternative, rest)) = ahead.split_first() {
-        if let Some(found) = as_alternative(alternative, item, choice) {
+        if let Some(found) = as_alternative(alternative, element, known, choice) {
             return Some(found);
         }
         ahead = rest;
@@ -371,17 +432,26 @@ fn alternative_of(
 }
 
 /// An element as this alternative, if it has its tag.
+#[inline(always)]
 fn as_alternative(
     alternative: &'static Component,
-    item: &Item<'_>,
+    element: &Element<'_>,
+    known: &Known<'_>,
     choice: &'static str,
 ) -> Option<Found>
-    ensures { field_of result ≡ as_alternative alternative.now (encoding_of item.now) choice.now }
+    ensures { field_of result ≡ as_alternative alternative.now (encoding_of known.now element.now) choice.now }
 {
     match &alternative.kind {
         Type::Tagged(class, number, form, inside) => {
             let name = name_or(alternative.name, choice);
-            tagged_as(*class, *number, *form, item, Found { name, inside })
+            tagged_as(
+                *class,
+                *number,
+                *form,
+                element,
+                known,
+                Found { name, inside },
+            )
         }
         _ => None,
     }
@@ -395,10 +465,18 @@ fn name_or(name: &'static str, other: &'static str) -> &'static str
 }
 
 /// What is found, if an element has this tag and form.
-fn tagged_as(class: Class, number: u32, form: Form, item: &Item<'_>, found: Found) -> Option<Found>
-    ensures { field_of result ≡ tagged_field class number form (encoding_of item.now) found.name.now found.inside.now }
+fn tagged_as(
+    class: Class,
+    number: u32,
+    form: Form,
+    element: &Element<'_>,
+    known: &Known<'_>,
+    found: Found,
+) -> Option<Found>
+    ensures { field_of result ≡ tagged_field class number form (encoding_of known.now element.now)
+        found.name.now found.inside.now }
 {
-    if class == item.class && number == item.number && fits(form, item.constructed) {
+    if class == element.class && number == element.number && fits(form, element.constructed) {
         Some(found)
     } else {
         None

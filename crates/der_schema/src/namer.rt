@@ -1,11 +1,10 @@
 //! The names of elements in preorder.
 ghost use Rattle.std.specs.Prelude.{◌≡◌, ◌≤◌, [], List, ℕ};
 
-use crate::item::item_of;
 use crate::level::{Content, Level, nothing_selected};
 use crate::levels::Levels;
-use crate::matching::Name;
-use crate::schema::{Component, Schema};
+use crate::matching::{Known, Name};
+use crate::schema::Schema;
 use der_walk::Element;
 
 /// Names the elements of an input by a schema, one after another in preorder. It takes no memory.
@@ -22,9 +21,7 @@ use der_walk::Element;
 /// ```
 #[derive(Drop)]
 pub struct Namer<'a> {
-    input: &'a [u8],
-    /// The types of the schema that have an index.
-    types: &'a [&'static Component],
+    known: Known<'a>,
     levels: Levels,
 }
 
@@ -45,8 +42,10 @@ impl<'a> Namer<'a> {
             selected: nothing_selected(),
         };
         Namer {
-            input,
-            types: schema.types,
+            known: Known {
+                input,
+                types: schema.types,
+            },
             levels: Levels::new(level),
         }
     }
@@ -57,8 +56,7 @@ impl<'a> Namer<'a> {
         ensures { (sc : Root) (i : List ℕ) (vs : List Visited) → HasNamed sc i vs self.old → element.now.depth ≤ 100
             → NamesNext sc i vs (visited_of element.now) self.new result }
     {
-        self.levels
-            .pass(element.depth, self.types, &item_of(self.input, element))
+        self.levels.pass(element, &self.known)
     }
 
     /// Whether each content of the elements so far has all its mandatory components, if they end here.
