@@ -1,8 +1,12 @@
 pub mod AmongLaws
 pub mod BelowLaws
 pub mod FirstLaws
+pub mod IdentifierLaws
 pub mod KeptLaws
 pub mod MailboxLaws
+pub mod MarkLaws
 pub mod SaidLaws
 pub mod SchemeLaws
+pub mod SortedLaws
+pub mod SoundLaws
 pub mod TwiceLaws

@@ -1,6 +1,6 @@
 -- Attributes of names, and the strings that their values are (RFC 5280 A.1).
-use Rattle.std.specs.Prelude.{◌≡◌, ℕ, ◌≤◌, ◌/◌, ◌⊎◌, Bool, false, ◌||◌, nat_lt, nat_le, ◌==◌, if◌then◌else◌, IfSome}
-use Rattle.std.specs.Prelude.{Option, Some, None, List, [], ◌∷◌, length}
+use Rattle.std.specs.Prelude.{◌≡◌, ℕ, ◌≤◌, ◌/◌, ◌⊎◌, ◌↔◌, Bool, false, true, ◌||◌, nat_lt, nat_le, ◌==◌, if◌then◌else◌, IfSome}
+use Rattle.std.specs.Prelude.{Option, Some, None, List, [], ◌∷◌, length, slice_index_or}
 use Rattle.std.specs.List.{count_by}
 use Rattle.der_base.specs.declared.header.Class.TheVariants.{Universal}
 use Rattle.der_cursor.specs.Elements.{Element}
@@ -35,6 +35,29 @@ kind_octets kind.Surname = id_at 4
 kind_octets kind.GivenName = id_at 42
 kind_octets kind.Initials = id_at 43
 kind_octets kind.GenerationQualifier = id_at 44
+
+-- their places in that order
+abbrev pub kind_number : AttributeKind → ℕ
+kind_number kind.CountryName = 0
+kind_number kind.SerialNumber = 1
+kind_number kind.DnQualifier = 2
+kind_number kind.DomainComponent = 3
+kind_number kind.EmailAddress = 4
+kind_number kind.CommonName = 5
+kind_number kind.OrganizationName = 6
+kind_number kind.OrganizationalUnitName = 7
+kind_number kind.Title = 8
+kind_number kind.LocalityName = 9
+kind_number kind.StateOrProvinceName = 10
+kind_number kind.Pseudonym = 11
+kind_number kind.Name = 12
+kind_number kind.Surname = 13
+kind_number kind.GivenName = 14
+kind_number kind.Initials = 15
+kind_number kind.GenerationQualifier = 16
+
+abbrev pub kind_count : ℕ
+kind_count = 17
 
 -- the strings that the value may be
 abbrev pub string_of : AttributeKind → StringKind
@@ -128,3 +151,17 @@ HasBadAttribute k i = Somewhere set (λ w _. Somewhere attribute (λ a _. IsBad 
 -- the issuer or the subject has one
 abbrev pub BreaksAttribute : AttributeKind → Signed → Type 0
 BreaksAttribute k c = let t = c.tbs_certificate in HasBadAttribute k t.issuer ⊎ HasBadAttribute k t.subject
+
+-- Which kinds are bad, one after another in their order.
+abbrev pub IsMarked : List Bool → AttributeKind → Type 0
+IsMarked bad k = slice_index_or bad (kind_number k) false ≡ true
+
+-- those of which P holds are marked, and the others stay as they are
+pub record Marks (P : AttributeKind → Type 0) (old new : List Bool) : Type 0 where
+  pub all : length new ≡ kind_count
+  pub each : (k : AttributeKind) → IsMarked new k ↔ (IsMarked old k ⊎ P k)
+
+-- those whose rule the certificate breaks are marked
+pub record AreBadKinds (c : Signed) (bad : List Bool) : Type 0 where
+  pub all : length bad ≡ kind_count
+  pub each : (k : AttributeKind) → IsMarked bad k ↔ BreaksAttribute k c

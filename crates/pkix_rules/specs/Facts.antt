@@ -1,5 +1,5 @@
 -- What the extensions of a certificate show.
-use Rattle.std.specs.Prelude.{◌≡◌, ℕ, ◌⊎◌, false, true, List}
+use Rattle.std.specs.Prelude.{◌≡◌, ℕ, ◌⊎◌, Bool, false, true, List}
 use Rattle.der_x509.specs.Certificates.{ExtensionValue, Signed, extension}
 use Rattle.der_x509.specs.Lists.{Somewhere}
 use Rattle.pkix_rules.specs.declared.facts.Fact.{Fact}
@@ -12,16 +12,17 @@ use Rattle.pkix_rules.specs.Identifiers.{octets_of}
 use Rattle.pkix_rules.specs.ValueFacts.{ValueSays, extension_of_fact}
 use Rattle.pkix_rules.specs.ValueRules.{BreaksValue}
 
-abbrev pub Holds : Fact → ExtensionValue → Type 0
-Holds Present e = Unit {0}
-Holds Critical e = e.critical ≡ true
-Holds NotCritical e = e.critical ≡ false
-Holds (Says f) e = ValueSays f e.value
-Holds (Breaks r) e = BreaksValue r e.value
+-- an extension that is critical or not, with this value, shows the fact
+abbrev pub Holds : Fact → Bool → List ℕ → Type 0
+Holds Present c w = Unit {0}
+Holds Critical c w = c ≡ true
+Holds NotCritical c w = c ≡ false
+Holds (Says f) c w = ValueSays f w
+Holds (Breaks r) c w = BreaksValue r w
 
 -- the extension is this one, and shows the fact
 abbrev pub IsShownBy : KnownExtension → Fact → ExtensionValue → Type 0
-IsShownBy k f e = (e.identifier ≡ octets_of k) × Holds f e
+IsShownBy k f e = (e.identifier ≡ octets_of k) × Holds f e.critical e.value
 
 -- one of the extensions does
 unfoldable pub Shows : KnownExtension → Fact → List ℕ → Type 0

@@ -48,3 +48,37 @@ octets_of known.OcspNoCheck = ocsp_nocheck
 octets_of known.PrecertificatePoison = transparency 3
 octets_of known.SignedCertificateTimestamps = transparency 2
 octets_of known.TlsFeature = id_pe 24
+
+-- their places in that order
+abbrev pub known_number : KnownExtension → ℕ
+known_number known.AuthorityKeyIdentifier = 0
+known_number known.SubjectKeyIdentifier = 1
+known_number known.KeyUsage = 2
+known_number known.CertificatePolicies = 3
+known_number known.PolicyMappings = 4
+known_number known.SubjectAltName = 5
+known_number known.IssuerAltName = 6
+known_number known.SubjectDirectoryAttributes = 7
+known_number known.BasicConstraints = 8
+known_number known.NameConstraints = 9
+known_number known.PolicyConstraints = 10
+known_number known.ExtendedKeyUsage = 11
+known_number known.CrlDistributionPoints = 12
+known_number known.InhibitAnyPolicy = 13
+known_number known.FreshestCrl = 14
+known_number known.AuthorityInfoAccess = 15
+known_number known.SubjectInfoAccess = 16
+known_number known.CrlNumber = 17
+known_number known.DeltaCrlIndicator = 18
+known_number known.IssuingDistributionPoint = 19
+known_number known.ReasonCode = 20
+known_number known.InvalidityDate = 21
+known_number known.CertificateIssuer = 22
+known_number known.QcStatements = 23
+known_number known.OcspNoCheck = 24
+known_number known.PrecertificatePoison = 25
+known_number known.SignedCertificateTimestamps = 26
+known_number known.TlsFeature = 27
+
+abbrev pub known_count : ℕ
+known_count = 28

@@ -2,9 +2,11 @@ pub mod Algorithms
 pub mod Attributes
 pub mod Broken
 pub mod Entries
+pub mod Examined
 pub mod Facts
 pub mod Firsts
 pub mod HostNames
+pub mod Identified
 pub mod Identifiers
 pub mod IssuingPoints
 pub mod ListRules
@@ -15,6 +17,8 @@ pub mod Notices
 pub mod Points
 pub mod Policies
 pub mod Rules
+pub mod Sorted
+pub mod Sound
 pub mod Subtrees
 pub mod Types
 pub mod ValueFacts

@@ -1,14 +1,15 @@
 //! Attributes of names, and the strings that their values are (RFC 5280 A.1).
-ghost use Rattle.std.specs.Prelude.{◌≡◌, ◌↔◌, IsTrue, true};
+ghost use Rattle.std.specs.Prelude.{◌≡◌, ◌<◌, ◌↔◌, IsTrue, length, true};
 ghost use Rattle.std.specs.List.{count_by};
 ghost use Rattle.der_cursor.specs.Elements.{element_of};
 ghost use Rattle.der_x509.specs.Certificates.{attribute, attribute_of, certificate_of};
 ghost use Rattle.der_x509.specs.Lists.{Somewhere};
-ghost use Rattle.pkix_rules.specs.Attributes.{BreaksAttribute, FitsKind, HasBadAttribute, IsBad, IsOfKind, IsString};
-ghost use Rattle.pkix_rules.specs.Attributes.{begins_character, character_count, kind_octets, least_of, most_of};
-ghost use Rattle.pkix_rules.specs.Attributes.{string_of};
+ghost use Rattle.pkix_rules.specs.Attributes.{AreBadKinds, FitsKind, HasBadAttribute, IsBad, IsMarked, IsOfKind};
+ghost use Rattle.pkix_rules.specs.Attributes.{IsString, Marks, begins_character, character_count, kind_count};
+ghost use Rattle.pkix_rules.specs.Attributes.{kind_number, kind_octets, least_of, most_of, string_of};
 
-use crate::identifier::has_octets;
+use crate::identified::attribute_kind;
+use crate::identifier::absolute_octets;
 use der_base::any::Any;
 use der_base::header::{Class, Tag};
 use der_x509::{AttributeTypeAndValue, Certificate, Name, RelativeDistinguishedName};
@@ -62,6 +63,9 @@ pub enum StringKind {
     /// UTF8String, PrintableString, TeletexString, UniversalString or BMPString.
     Directory,
 }
+
+/// How many kinds there are.
+pub(crate) const ATTRIBUTE_KINDS: usize = 17;
 
 impl AttributeKind {
     /// The content octets of its identifier.
@@ -163,45 +167,83 @@ impl AttributeKind {
             AttributeKind::GenerationQualifier => Some(32768),
         }
     }
+
+    /// Its place in the order above, from 0.
+    pub(crate) fn number(self) -> usize
+        ensures number { result ≡ kind_number self }
+        ensures few { result < kind_count }
+    {
+        match self {
+            AttributeKind::CountryName => 0,
+            AttributeKind::SerialNumber => 1,
+            AttributeKind::DnQualifier => 2,
+            AttributeKind::DomainComponent => 3,
+            AttributeKind::EmailAddress => 4,
+            AttributeKind::CommonName => 5,
+            AttributeKind::OrganizationName => 6,
+            AttributeKind::OrganizationalUnitName => 7,
+            AttributeKind::Title => 8,
+            AttributeKind::LocalityName => 9,
+            AttributeKind::StateOrProvinceName => 10,
+            AttributeKind::Pseudonym => 11,
+            AttributeKind::Name => 12,
+            AttributeKind::Surname => 13,
+            AttributeKind::GivenName => 14,
+            AttributeKind::Initials => 15,
+            AttributeKind::GenerationQualifier => 16,
+        }
+    }
 }
 
-/// Returns whether the issuer or the subject has an attribute of the kind whose value isn't of its type.
-pub(crate) fn breaks_attribute(kind: AttributeKind, certificate: &Certificate<'_>) -> bool
-    ensures { IsTrue result ↔ BreaksAttribute kind (certificate_of certificate.now) }
+/// Returns of which kinds the issuer or the subject has an attribute whose value isn't of its type.
+pub(crate) fn bad_kinds(certificate: &Certificate<'_>) -> [bool; ATTRIBUTE_KINDS]
+    ensures { AreBadKinds (certificate_of certificate.now) result }
 {
-    let fields = &certificate.tbs_certificate;
-    has_bad_attribute(kind, fields.issuer) || has_bad_attribute(kind, fields.subject)
+    let mut bad = [false; ATTRIBUTE_KINDS];
+    mark_name(&mut bad, certificate.tbs_certificate.issuer);
+    mark_name(&mut bad, certificate.tbs_certificate.subject);
+    bad
 }
 
-/// Returns whether the name has such an attribute.
-fn has_bad_attribute(kind: AttributeKind, name: Name<'_>) -> bool
-    ensures { IsTrue result ↔ HasBadAttribute kind name.entry.octets.now }
+/// Marks the kinds of which the name has such an attribute.
+fn mark_name(bad: &mut [bool; ATTRIBUTE_KINDS], name: Name<'_>)
+    requires { length bad.old ≡ kind_count }
+    ensures { Marks (λ k. HasBadAttribute k name.entry.octets.now) bad.old bad.new }
 {
     for relative_name in name.relative_names() {
-        if is_one_bad(kind, relative_name) {
-            return true;
-        }
+        mark_relative_name(bad, relative_name);
     }
-    false
 }
 
-/// Returns whether the relative name has such an attribute.
-fn is_one_bad(kind: AttributeKind, name: RelativeDistinguishedName<'_>) -> bool
-    ensures { IsTrue result ↔ Somewhere attribute (λ a _. IsBad kind a) name.entry.octets.now }
+/// Marks the kinds of which the relative name has such an attribute.
+fn mark_relative_name(bad: &mut [bool; ATTRIBUTE_KINDS], name: RelativeDistinguishedName<'_>)
+    requires { length bad.old ≡ kind_count }
+    ensures { Marks (λ k. Somewhere attribute (λ a _. IsBad k a) name.entry.octets.now) bad.old bad.new }
 {
     for attribute in name.attributes() {
-        if is_bad(kind, &attribute) {
-            return true;
-        }
+        mark_attribute(bad, &attribute);
     }
-    false
 }
 
-/// Returns whether the attribute is of the kind, and its value isn't of the type.
-fn is_bad(kind: AttributeKind, attribute: &AttributeTypeAndValue<'_>) -> bool
-    ensures { IsTrue result ↔ IsBad kind (attribute_of attribute.now) }
+/// Marks the kind of the attribute, if its value isn't of the type.
+fn mark_attribute(bad: &mut [bool; ATTRIBUTE_KINDS], attribute: &AttributeTypeAndValue<'_>)
+    requires { length bad.old ≡ kind_count }
+    ensures { Marks (λ k. IsBad k (attribute_of attribute.now)) bad.old bad.new }
 {
-    has_octets(&attribute.identifier, kind.identifier()) && !is_of_kind(kind, &attribute.value)
+    let Some(kind) = attribute_kind(absolute_octets(&attribute.identifier)) else {
+        return;
+    };
+    if !is_of_kind(kind, &attribute.value) {
+        bad[kind.number()] = true;
+    }
+}
+
+/// Returns whether the kind is marked.
+pub(crate) fn is_marked(bad: &[bool; ATTRIBUTE_KINDS], kind: AttributeKind) -> bool
+    requires { length bad.now ≡ kind_count }
+    ensures { IsTrue result ↔ IsMarked bad.now kind }
+{
+    bad[kind.number()]
 }
 
 /// Returns whether the value is of the type of the kind.

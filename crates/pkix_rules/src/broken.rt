@@ -4,7 +4,8 @@ ghost use Rattle.std.specs.Iterator.{at_most};
 ghost use Rattle.der_x509.specs.Certificates.{certificate_of};
 ghost use Rattle.pkix_rules.specs.Broken.{FindsBroken, YieldsBroken, certificate_in, rules_left};
 
-use crate::certificate::{Rule, breaks};
+use crate::certificate::{Rule, breaks_examined};
+use crate::examined::examine;
 use der_x509::Certificate;
 
 /// The rules that a certificate breaks, of some, in their order.
@@ -59,13 +60,15 @@ impl<'r, 'a> Iterator for BrokenRules<'r, 'a> {
     }
 }
 
-/// Returns the first of the rules that the certificate breaks.
+/// Returns the first of the rules that the certificate breaks. It is examined once for all of them.
 fn first_broken<'r>(certificate: &Certificate<'_>, rules: &'r [Rule]) -> Option<FirstBroken<'r>>
     ensures { FindsBroken (certificate_of certificate.now) rules.now result }
 {
+    let asks_attributes = rules.iter().any(|rule| matches!(rule, Rule::Attribute(_)));
+    let examined = examine(certificate, asks_attributes);
     let mut left = rules;
     while let Some((rule, rest)) = left.split_first() {
-        if breaks(*rule, certificate) {
+        if breaks_examined(*rule, &examined) {
             return Some(FirstBroken { rule: *rule, rest });
         }
         left = rest;

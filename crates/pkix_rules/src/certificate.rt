@@ -1,12 +1,14 @@
 //! The rules of certificates, and which of them one breaks.
 ghost use Rattle.std.specs.Prelude.{◌≡◌, ◌↔◌, IsTrue};
 ghost use Rattle.der_x509.specs.Certificates.{Signed, certificate_of};
+ghost use Rattle.pkix_rules.specs.Examined.{IsExamined, signed_of};
 ghost use Rattle.pkix_rules.specs.Facts.{IsAuthority};
 ghost use Rattle.pkix_rules.specs.Rules.{Breaks};
 
 use crate::algorithms::{AlgorithmRule, breaks_algorithm};
-use crate::attributes::{AttributeKind, breaks_attribute};
-use crate::facts::{Fact, has};
+use crate::attributes::AttributeKind;
+use crate::examined::{Examined, breaks_attribute, has, unexamined};
+use crate::facts::Fact;
 use crate::known::KnownExtension;
 use crate::names::NameRule;
 use crate::notices::{NoticeRule, QualifierRule};
@@ -355,9 +357,17 @@ impl Rule {
 pub fn breaks(rule: Rule, certificate: &Certificate<'_>) -> bool
     ensures { IsTrue result ↔ Breaks rule (certificate_of certificate.now) }
 {
+    breaks_examined(rule, &unexamined(certificate))
+}
+
+/// Returns whether the certificate that was examined breaks the rule.
+pub(crate) fn breaks_examined(rule: Rule, certificate: &Examined<'_, '_>) -> bool
+    requires { IsExamined certificate.now }
+    ensures { IsTrue result ↔ Breaks rule (signed_of certificate.now) }
+{
     match rule {
-        Rule::Fields(rule) => certificate.breaks(rule),
-        Rule::Algorithm(rule) => breaks_algorithm(rule, certificate),
+        Rule::Fields(rule) => certificate.signed.breaks(rule),
+        Rule::Algorithm(rule) => breaks_algorithm(rule, certificate.signed),
         Rule::Attribute(kind) => breaks_attribute(kind, certificate),
         Rule::Critical(known) => has(certificate, known, Fact::NotCritical),
         Rule::NotCritical(known) => has(certificate, known, Fact::Critical),

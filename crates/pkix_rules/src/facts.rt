@@ -1,13 +1,13 @@
 //! What an extension shows. Each rule about extensions is made of these.
 ghost use Rattle.std.specs.Prelude.{◌≡◌, ◌↔◌, IsTrue};
-ghost use Rattle.der_x509.specs.Certificates.{certificate_of, extension_of};
-ghost use Rattle.pkix_rules.specs.Facts.{Has, Holds, IsShownBy, Shows};
+ghost use Rattle.der_x509.specs.Certificates.{extension_of};
+ghost use Rattle.pkix_rules.specs.Facts.{Holds, IsShownBy, Shows};
 
 use crate::identifier::has_octets;
 use crate::known::KnownExtension;
 use crate::value_facts::{ValueFact, says};
 use crate::value_rules::{ValueRule, breaks_value};
-use der_x509::{Certificate, Extension, Extensions};
+use der_x509::{Extension, Extensions};
 
 /// What an extension may show.
 #[derive(Clone, Copy, Debug, PartialEq)]
@@ -22,13 +22,6 @@ pub enum Fact {
     Says(ValueFact),
     /// Its value, which is of its type, breaks the rule.
     Breaks(ValueRule),
-}
-
-/// Returns whether an extension of the certificate, one with the identifier of `known`, shows the fact.
-pub(crate) fn has(certificate: &Certificate<'_>, known: KnownExtension, fact: Fact) -> bool
-    ensures { IsTrue result ↔ Has known fact (certificate_of certificate.now) }
-{
-    shows(certificate.tbs_certificate.extensions, known, fact)
 }
 
 /// Returns whether one of the extensions, one with the identifier of `known`, shows the fact.
@@ -47,18 +40,19 @@ pub(crate) fn shows(extensions: Extensions<'_>, known: KnownExtension, fact: Fac
 fn is_shown_by(known: KnownExtension, fact: Fact, extension: &Extension<'_>) -> bool
     ensures { IsTrue result ↔ IsShownBy known fact (extension_of extension.now) }
 {
-    has_octets(&extension.identifier, known.identifier()) && holds(fact, extension)
+    has_octets(&extension.identifier, known.identifier())
+        && holds(fact, extension.critical, extension.value)
 }
 
-/// Returns whether the extension shows the fact.
-fn holds(fact: Fact, extension: &Extension<'_>) -> bool
-    ensures { IsTrue result ↔ Holds fact (extension_of extension.now) }
+/// Returns whether an extension that is critical or not, with this value, shows the fact.
+pub(crate) fn holds(fact: Fact, critical: bool, value: &[u8]) -> bool
+    ensures { IsTrue result ↔ Holds fact critical value.now }
 {
     match fact {
         Fact::Present => true,
-        Fact::Critical => extension.critical,
-        Fact::NotCritical => !extension.critical,
-        Fact::Says(fact) => says(fact, extension.value),
-        Fact::Breaks(rule) => breaks_value(rule, extension.value),
+        Fact::Critical => critical,
+        Fact::NotCritical => !critical,
+        Fact::Says(fact) => says(fact, value),
+        Fact::Breaks(rule) => breaks_value(rule, value),
     }
 }

@@ -1,6 +1,6 @@
 //! The extensions of RFC 5280 (4.2, 5.2 and 5.3), and others whose documents have rules that octets show.
-ghost use Rattle.std.specs.Prelude.{◌≡◌};
-ghost use Rattle.pkix_rules.specs.Identifiers.{octets_of};
+ghost use Rattle.std.specs.Prelude.{◌≡◌, ◌<◌};
+ghost use Rattle.pkix_rules.specs.Identifiers.{known_count, known_number, octets_of};
 
 /// An extension of a certificate, of a list of revoked certificates or of an entry of one. The section is one of
 /// RFC 5280 where it names no other document.
@@ -64,6 +64,9 @@ pub enum KnownExtension {
     TlsFeature,
 }
 
+/// How many there are.
+pub(crate) const KNOWN_EXTENSIONS: usize = 28;
+
 impl KnownExtension {
     /// The content octets of its identifier: of RFC 5280 2.5.29.n, or 1.3.6.1.5.5.7.1.n (A.2).
     pub fn identifier(self) -> &'static [u8]
@@ -98,6 +101,43 @@ impl KnownExtension {
             KnownExtension::PrecertificatePoison => PRECERTIFICATE_POISON,
             KnownExtension::SignedCertificateTimestamps => SIGNED_CERTIFICATE_TIMESTAMPS,
             KnownExtension::TlsFeature => TLS_FEATURE,
+        }
+    }
+
+    /// Its place in the order above, from 0.
+    pub(crate) fn number(self) -> usize
+        ensures number { result ≡ known_number self }
+        ensures few { result < known_count }
+    {
+        match self {
+            KnownExtension::AuthorityKeyIdentifier => 0,
+            KnownExtension::SubjectKeyIdentifier => 1,
+            KnownExtension::KeyUsage => 2,
+            KnownExtension::CertificatePolicies => 3,
+            KnownExtension::PolicyMappings => 4,
+            KnownExtension::SubjectAltName => 5,
+            KnownExtension::IssuerAltName => 6,
+            KnownExtension::SubjectDirectoryAttributes => 7,
+            KnownExtension::BasicConstraints => 8,
+            KnownExtension::NameConstraints => 9,
+            KnownExtension::PolicyConstraints => 10,
+            KnownExtension::ExtendedKeyUsage => 11,
+            KnownExtension::CrlDistributionPoints => 12,
+            KnownExtension::InhibitAnyPolicy => 13,
+            KnownExtension::FreshestCrl => 14,
+            KnownExtension::AuthorityInfoAccess => 15,
+            KnownExtension::SubjectInfoAccess => 16,
+            KnownExtension::CrlNumber => 17,
+            KnownExtension::DeltaCrlIndicator => 18,
+            KnownExtension::IssuingDistributionPoint => 19,
+            KnownExtension::ReasonCode => 20,
+            KnownExtension::InvalidityDate => 21,
+            KnownExtension::CertificateIssuer => 22,
+            KnownExtension::QcStatements => 23,
+            KnownExtension::OcspNoCheck => 24,
+            KnownExtension::PrecertificatePoison => 25,
+            KnownExtension::SignedCertificateTimestamps => 26,
+            KnownExtension::TlsFeature => 27,
         }
     }
 }

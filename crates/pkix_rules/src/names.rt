@@ -9,11 +9,13 @@ ghost use Rattle.pkix_rules.specs.Names.{BreaksName, HasScheme, IsOddAddress, Is
 ghost use Rattle.pkix_rules.specs.Names.{BeginsWithMark, IsInternationalMailbox, IsInternationalText};
 ghost use Rattle.pkix_rules.specs.Names.{IsMailboxBeyondAscii, IsNoInternationalMailbox, IsNoMailbox, IsOtherHost};
 ghost use Rattle.pkix_rules.specs.Names.{IsRelativeName, SchemeFollows, is_scheme_character};
+ghost use Rattle.pkix_rules.specs.Sound.{IsBadName, IsSound};
 ghost use Rattle.pkix_rules.specs.ValueRules.{BreaksValue};
 
 use crate::host_name::is_preferred_name;
 use crate::identifier::has_octets;
 use crate::mailbox::{LocalCharacters, is_mailbox};
+use crate::types::ValueType;
 use crate::value_rules::ValueRule;
 use der_base::any::Any;
 use der_base::header::{Class, Tag};
@@ -68,6 +70,41 @@ fn has_broken_name(rule: NameRule, names: &GeneralNames<'_>) -> bool
         }
     }
     false
+}
+
+/// Returns whether the octets are general names, none of which breaks a rule.
+pub(crate) fn are_sound_names(value: &[u8]) -> bool
+    ensures { IsTrue result → IsSound ValueType.Names value.now }
+{
+    match read_general_names(value) {
+        Ok(names) => !has_bad_name(&names),
+        Err(_) => false,
+    }
+}
+
+/// Returns whether one of the names breaks a rule.
+fn has_bad_name(names: &GeneralNames<'_>) -> bool
+    ensures { IsTrue result ↔ Among AnyName IsBadName names.now.octets.now }
+{
+    for name in names.iter() {
+        if is_bad_name(&name) {
+            return true;
+        }
+    }
+    false
+}
+
+/// Returns whether the name breaks a rule.
+fn is_bad_name(name: &GeneralName<'_>) -> bool
+    ensures { IsTrue result ↔ IsBadName (name_of name.now) }
+{
+    is_empty_name(name)
+        || is_odd_address(name)
+        || is_blank_name(name)
+        || is_relative_name(name)
+        || is_no_mailbox(name)
+        || is_other_host(name)
+        || is_no_international_mailbox(name)
 }
 
 /// Returns whether the name breaks the rule.

@@ -8,11 +8,14 @@ ghost use Rattle.der_extensions.specs.Lists.{list_octets};
 ghost use Rattle.pkix_rules.specs.Lists.{Among};
 ghost use Rattle.pkix_rules.specs.Notices.{BreaksNotice, BreaksQualifier, HasBrokenQualifier, IsBadlyQualified};
 ghost use Rattle.pkix_rules.specs.Notices.{IsNotice, IsOddSize, IsPointer, NoticeValue, notice_of, reference_of};
+ghost use Rattle.pkix_rules.specs.Sound.{HasRemark, IsRemark, IsRemarked, IsSound};
 ghost use Rattle.pkix_rules.specs.ValueRules.{BreaksValue};
 
 use crate::attributes::count_characters;
 use crate::identifier::has_octets;
 use crate::policies::{CPS, USER_NOTICE};
+use crate::repetition::has_repetition;
+use crate::types::ValueType;
 use crate::user_notice::{NoticeReference, UserNotice, is_text_of, read_notice};
 use crate::value_rules::ValueRule;
 use der_base::any::Any;
@@ -58,6 +61,58 @@ pub(crate) fn breaks_qualifiers(rule: QualifierRule, value: &[u8]) -> bool
         Ok(policies) => has_badly_qualified(rule, &policies),
         Err(_) => false,
     }
+}
+
+/// Returns whether the octets are certificate policies that are all different, with no qualifiers but CPS pointers that
+/// are of their type.
+pub(crate) fn are_sound_policies(value: &[u8]) -> bool
+    ensures { IsTrue result → IsSound ValueType.Policies value.now }
+{
+    match read_certificate_policies(value) {
+        Ok(policies) => !has_remark(&policies) && !has_repetition(policies.octets),
+        Err(_) => false,
+    }
+}
+
+/// Returns whether one of the policies has another qualifier.
+fn has_remark(policies: &CertificatePolicies<'_>) -> bool
+    ensures { IsTrue result ↔ Among (Required PolicyFormat) HasRemark policies.now.octets.now }
+{
+    for policy in policies.iter() {
+        if is_remarked(&policy.policy_qualifiers) {
+            return true;
+        }
+    }
+    false
+}
+
+/// Returns whether there are qualifiers, one of which is another one.
+fn is_remarked<'a>(qualifiers: &Option<SequenceOf<'a, PolicyQualifierInfo<'a>>>) -> bool
+    ensures { IsTrue result ↔ IsRemarked (option_map list_octets qualifiers.now) }
+{
+    match qualifiers {
+        Some(qualifiers) => is_one_remark(qualifiers),
+        None => false,
+    }
+}
+
+/// Returns whether one of the qualifiers is another one.
+fn is_one_remark<'a>(qualifiers: &SequenceOf<'a, PolicyQualifierInfo<'a>>) -> bool
+    ensures { IsTrue result ↔ Among (Required QualifierFormat) IsRemark qualifiers.now.octets.now }
+{
+    for qualifier in qualifiers.iter() {
+        if is_remark(&qualifier) {
+            return true;
+        }
+    }
+    false
+}
+
+/// Returns whether the qualifier is anything but a CPS pointer that is of its type.
+fn is_remark(qualifier: &PolicyQualifierInfo<'_>) -> bool
+    ensures { IsTrue result ↔ IsRemark (qualifier_of qualifier.now) }
+{
+    !has_octets(&qualifier.policy_qualifier_id, CPS) || !is_pointer(&qualifier.qualifier)
 }
 
 /// Returns whether one of the policies has such a qualifier.

@@ -5,9 +5,11 @@ ghost use Rattle.der_extensions.specs.Extensions.{DistributionPoint as PointForm
 ghost use Rattle.pkix_rules.specs.Lists.{Among};
 ghost use Rattle.pkix_rules.specs.Points.{BreaksPoint, HasMoreThanName, HasRelativeName, IsForAllReasons};
 ghost use Rattle.pkix_rules.specs.Points.{IsRelative, IsUnnamed};
+ghost use Rattle.pkix_rules.specs.Sound.{IsBadPoint, IsSound};
 ghost use Rattle.pkix_rules.specs.ValueRules.{BreaksValue};
 
 use crate::issuers::{has_other_issuer, has_several_issuers};
+use crate::types::ValueType;
 use crate::value_rules::ValueRule;
 use der_extensions::{
     CrlDistributionPoints, DistributionPoint, DistributionPointName, read_crl_distribution_points,
@@ -48,6 +50,35 @@ fn has_broken_point(rule: PointRule, points: &CrlDistributionPoints<'_>) -> bool
         }
     }
     false
+}
+
+/// Returns whether the octets are distribution points, none of which breaks a rule, and one is for all reasons.
+pub(crate) fn are_sound_points(value: &[u8]) -> bool
+    ensures { IsTrue result → IsSound ValueType.Points value.now }
+{
+    match read_crl_distribution_points(value) {
+        Ok(points) => has_whole_point(&points) && !has_bad_point(&points),
+        Err(_) => false,
+    }
+}
+
+/// Returns whether one of the points breaks a rule.
+fn has_bad_point(points: &CrlDistributionPoints<'_>) -> bool
+    ensures { IsTrue result ↔ Among (Required PointFormat) IsBadPoint points.now.octets.now }
+{
+    for point in points.iter() {
+        if is_bad_point(&point) {
+            return true;
+        }
+    }
+    false
+}
+
+/// Returns whether the point has anything but a name that isn't relative. So it keeps all rules or breaks one.
+fn is_bad_point(point: &DistributionPoint<'_>) -> bool
+    ensures { IsTrue result ↔ IsBadPoint (point_of point.now) }
+{
+    is_unnamed(point) || has_relative_name(point) || has_more_than_name(point)
 }
 
 /// Returns whether the point breaks the rule.

@@ -2,10 +2,12 @@
 ghost use Rattle.std.specs.Prelude.{◌≡◌, ◌<◌, ◌^◌, ◌↔◌, IsTrue, length};
 ghost use Rattle.std.specs.Iterator.{at_most};
 ghost use Rattle.crl_reader.specs.Lists.{certificate_list_of};
+ghost use Rattle.pkix_rules.specs.Examined.{IsExaminedList, signed_list_of};
 ghost use Rattle.pkix_rules.specs.ListRules.{BreaksList, FindsBrokenOfList, YieldsBrokenOfList, list_in};
 ghost use Rattle.pkix_rules.specs.ListRules.{list_rules_left};
 
 use crate::entries::{EntryRule, is_entry_broken};
+use crate::examined::{ExaminedList, examine_list, list_has, unexamined_list};
 use crate::facts::Fact;
 use crate::issuing_point::IssuingPointRule;
 use crate::known::KnownExtension;
@@ -13,7 +15,7 @@ use crate::names::NameRule;
 use crate::points::PointRule;
 use crate::types::ValueType;
 use crate::value_rules::ValueRule;
-use crate::whole_list::{WholeListRule, breaks_whole_list, list_has};
+use crate::whole_list::{WholeListRule, breaks_whole_list};
 use crl_reader::CertificateList;
 
 /// A rule of RFC 5280 that a list of revoked certificates may break and still be one by its ASN.1.
@@ -179,11 +181,21 @@ pub const SHOULD_LIST_RULES: &[ListRule] = &[
 pub fn list_breaks(rule: ListRule, list: &CertificateList<'_>) -> bool
     ensures { IsTrue result ↔ BreaksList rule (certificate_list_of list.now) }
 {
+    examined_list_breaks(rule, &unexamined_list(list))
+}
+
+/// Returns whether the list that was examined breaks the rule.
+fn examined_list_breaks(rule: ListRule, list: &ExaminedList<'_, '_>) -> bool
+    requires { IsExaminedList list.now }
+    ensures { IsTrue result ↔ BreaksList rule (signed_list_of list.now) }
+{
     match rule {
         ListRule::Critical(known) => list_has(list, known, Fact::NotCritical),
         ListRule::NotCritical(known) => list_has(list, known, Fact::Critical),
         ListRule::Value(known, rule) => list_has(list, known, Fact::Breaks(rule)),
-        ListRule::Entry(rule) => is_entry_broken(rule, &list.tbs_cert_list.revoked_certificates),
+        ListRule::Entry(rule) => {
+            is_entry_broken(rule, &list.signed.tbs_cert_list.revoked_certificates)
+        }
         ListRule::Whole(rule) => breaks_whole_list(rule, list),
     }
 }
@@ -231,16 +243,17 @@ impl<'r, 'a> Iterator for BrokenListRules<'r, 'a> {
     }
 }
 
-/// Returns the first of the rules that the list breaks.
+/// Returns the first of the rules that the list breaks. It is examined once for all of them.
 fn first_broken_of_list<'r>(
     list: &CertificateList<'_>,
     rules: &'r [ListRule],
 ) -> Option<FirstBrokenOfList<'r>>
     ensures { FindsBrokenOfList (certificate_list_of list.now) rules.now result }
 {
+    let examined = examine_list(list);
     let mut left = rules;
     while let Some((rule, rest)) = left.split_first() {
-        if list_breaks(*rule, list) {
+        if examined_list_breaks(*rule, &examined) {
             return Some(FirstBrokenOfList { rule: *rule, rest });
         }
         left = rest;

@@ -4,6 +4,7 @@ ghost use Rattle.der_base.specs.Octets.{integer_value};
 ghost use Rattle.der_cursor.specs.Formats.{Required};
 ghost use Rattle.der_extensions.specs.Extensions.{AccessDescription as AccessFormat, access_of, authority_of};
 ghost use Rattle.pkix_rules.specs.Lists.{Among};
+ghost use Rattle.pkix_rules.specs.Sound.{type_of_rule};
 ghost use Rattle.pkix_rules.specs.ValueRules.{BreaksValue, IsHalf, IsOtherMethod};
 
 use crate::identifier::has_octets;
@@ -62,6 +63,33 @@ pub enum ValueRule {
     WholeSeconds,
     /// reasonCode: it isn't unspecified, since then there should be none (5.3.1, SHOULD).
     SpecifiedReason,
+}
+
+impl ValueRule {
+    /// The type that it is about, if it is about one.
+    pub(crate) fn value_type(self) -> Option<ValueType>
+        ensures { result ≡ type_of_rule self }
+    {
+        match self {
+            ValueRule::OfType(kind) => Some(kind),
+            ValueRule::IssuerAndSerial => Some(ValueType::KeyIdentifiers),
+            ValueRule::DistinctPolicies => Some(ValueType::Policies),
+            ValueRule::AnyPolicyQualifiers => Some(ValueType::Policies),
+            ValueRule::Qualifiers(_) => Some(ValueType::Policies),
+            ValueRule::UnmappedAnyPolicy => Some(ValueType::Mappings),
+            ValueRule::Names(_) => Some(ValueType::Names),
+            ValueRule::NotEmpty => None,
+            ValueRule::Subtrees(_) => Some(ValueType::NameConstraints),
+            ValueRule::Points(_) => Some(ValueType::Points),
+            ValueRule::PointForAllReasons => Some(ValueType::Points),
+            ValueRule::IssuingPoint(_) => Some(ValueType::IssuingPoint),
+            ValueRule::CaIssuers => Some(ValueType::Descriptions),
+            ValueRule::ShortNumber => Some(ValueType::Number),
+            ValueRule::NaturalNumber => Some(ValueType::Number),
+            ValueRule::WholeSeconds => Some(ValueType::Date),
+            ValueRule::SpecifiedReason => Some(ValueType::Reason),
+        }
+    }
 }
 
 /// A SEQUENCE of no octets.

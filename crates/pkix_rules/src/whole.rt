@@ -1,10 +1,12 @@
 //! Rules of a certificate as a whole: which fields and extensions are there, and which go together.
 ghost use Rattle.std.specs.Prelude.{◌≡◌, ◌↔◌, IsTrue};
 ghost use Rattle.der_x509.specs.Certificates.{Signed, certificate_of};
+ghost use Rattle.pkix_rules.specs.Examined.{IsExamined, signed_of};
 ghost use Rattle.pkix_rules.specs.Facts.{Has, IsAuthority, MaySignCertificates, Tells};
 ghost use Rattle.pkix_rules.specs.Whole.{BreaksWhole, HasNoName, IsSelfIssued};
 
-use crate::facts::{Fact, has};
+use crate::examined::{Examined, has};
+use crate::facts::Fact;
 use crate::known::KnownExtension;
 use crate::value_facts::ValueFact;
 use der_x509::Certificate;
@@ -61,11 +63,12 @@ impl WholeRule {
 }
 
 /// Returns whether the certificate breaks the rule.
-pub(crate) fn breaks_whole(rule: WholeRule, certificate: &Certificate<'_>) -> bool
-    ensures { IsTrue result ↔ BreaksWhole rule (certificate_of certificate.now) }
+pub(crate) fn breaks_whole(rule: WholeRule, certificate: &Examined<'_, '_>) -> bool
+    requires { IsExamined certificate.now }
+    ensures { IsTrue result ↔ BreaksWhole rule (signed_of certificate.now) }
 {
     match rule {
-        WholeRule::NoUniqueIdentifier => breaks_no_unique_identifier(certificate),
+        WholeRule::NoUniqueIdentifier => breaks_no_unique_identifier(certificate.signed),
         WholeRule::NamedAuthority => breaks_named_authority(certificate),
         WholeRule::NamedCrlIssuer => breaks_named_crl_issuer(certificate),
         WholeRule::KeyIdentifierOfIssuer => breaks_key_identifier_of_issuer(certificate),
@@ -89,56 +92,65 @@ fn breaks_no_unique_identifier(certificate: &Certificate<'_>) -> bool
     fields.issuer_unique_id.is_some() || fields.subject_unique_id.is_some()
 }
 
-fn breaks_named_authority(certificate: &Certificate<'_>) -> bool
-    ensures { IsTrue result ↔ BreaksWhole WholeRule.NamedAuthority (certificate_of certificate.now) }
+fn breaks_named_authority(certificate: &Examined<'_, '_>) -> bool
+    requires { IsExamined certificate.now }
+    ensures { IsTrue result ↔ BreaksWhole WholeRule.NamedAuthority (signed_of certificate.now) }
 {
-    has_no_name(certificate) && is_authority(certificate)
+    has_no_name(certificate.signed) && is_authority(certificate)
 }
 
-fn breaks_named_crl_issuer(certificate: &Certificate<'_>) -> bool
-    ensures { IsTrue result ↔ BreaksWhole WholeRule.NamedCrlIssuer (certificate_of certificate.now) }
+fn breaks_named_crl_issuer(certificate: &Examined<'_, '_>) -> bool
+    requires { IsExamined certificate.now }
+    ensures { IsTrue result ↔ BreaksWhole WholeRule.NamedCrlIssuer (signed_of certificate.now) }
 {
-    has_no_name(certificate) && tells(certificate, ValueFact::CrlSign)
+    has_no_name(certificate.signed) && tells(certificate, ValueFact::CrlSign)
 }
 
-fn breaks_key_identifier_of_issuer(certificate: &Certificate<'_>) -> bool
-    ensures { IsTrue result ↔ BreaksWhole WholeRule.KeyIdentifierOfIssuer (certificate_of certificate.now) }
+fn breaks_key_identifier_of_issuer(certificate: &Examined<'_, '_>) -> bool
+    requires { IsExamined certificate.now }
+    ensures { IsTrue result ↔ BreaksWhole WholeRule.KeyIdentifierOfIssuer (signed_of certificate.now) }
 {
-    !is_self_issued(certificate) && !tells(certificate, ValueFact::KeyIdentifier)
+    !is_self_issued(certificate.signed) && !tells(certificate, ValueFact::KeyIdentifier)
 }
 
-fn breaks_key_identifier_of_authority(certificate: &Certificate<'_>) -> bool
-    ensures { IsTrue result ↔ BreaksWhole WholeRule.KeyIdentifierOfAuthority (certificate_of certificate.now) }
+fn breaks_key_identifier_of_authority(certificate: &Examined<'_, '_>) -> bool
+    requires { IsExamined certificate.now }
+    ensures { IsTrue result ↔ BreaksWhole WholeRule.KeyIdentifierOfAuthority (signed_of certificate.now) }
 {
     is_authority(certificate) && !is_there(certificate, KnownExtension::SubjectKeyIdentifier)
 }
 
-fn breaks_key_identifier_of_end_entity(certificate: &Certificate<'_>) -> bool
-    ensures { IsTrue result ↔ BreaksWhole WholeRule.KeyIdentifierOfEndEntity (certificate_of certificate.now) }
+fn breaks_key_identifier_of_end_entity(certificate: &Examined<'_, '_>) -> bool
+    requires { IsExamined certificate.now }
+    ensures { IsTrue result ↔ BreaksWhole WholeRule.KeyIdentifierOfEndEntity (signed_of certificate.now) }
 {
     !is_there(certificate, KnownExtension::SubjectKeyIdentifier) && !is_authority(certificate)
 }
 
-fn breaks_key_usage_of_authority(certificate: &Certificate<'_>) -> bool
-    ensures { IsTrue result ↔ BreaksWhole WholeRule.KeyUsageOfAuthority (certificate_of certificate.now) }
+fn breaks_key_usage_of_authority(certificate: &Examined<'_, '_>) -> bool
+    requires { IsExamined certificate.now }
+    ensures { IsTrue result ↔ BreaksWhole WholeRule.KeyUsageOfAuthority (signed_of certificate.now) }
 {
     is_authority(certificate) && !is_there(certificate, KnownExtension::KeyUsage)
 }
 
-fn breaks_cert_sign_of_authority(certificate: &Certificate<'_>) -> bool
-    ensures { IsTrue result ↔ BreaksWhole WholeRule.CertSignOfAuthority (certificate_of certificate.now) }
+fn breaks_cert_sign_of_authority(certificate: &Examined<'_, '_>) -> bool
+    requires { IsExamined certificate.now }
+    ensures { IsTrue result ↔ BreaksWhole WholeRule.CertSignOfAuthority (signed_of certificate.now) }
 {
     tells(certificate, ValueFact::KeyCertSign) && !is_authority(certificate)
 }
 
-fn breaks_alt_name_not_critical(certificate: &Certificate<'_>) -> bool
-    ensures { IsTrue result ↔ BreaksWhole WholeRule.AltNameNotCritical (certificate_of certificate.now) }
+fn breaks_alt_name_not_critical(certificate: &Examined<'_, '_>) -> bool
+    requires { IsExamined certificate.now }
+    ensures { IsTrue result ↔ BreaksWhole WholeRule.AltNameNotCritical (signed_of certificate.now) }
 {
-    !has_no_name(certificate) && is_critical(certificate, KnownExtension::SubjectAltName)
+    !has_no_name(certificate.signed) && is_critical(certificate, KnownExtension::SubjectAltName)
 }
 
-fn breaks_critical_constraints(certificate: &Certificate<'_>) -> bool
-    ensures { IsTrue result ↔ BreaksWhole WholeRule.CriticalConstraints (certificate_of certificate.now) }
+fn breaks_critical_constraints(certificate: &Examined<'_, '_>) -> bool
+    requires { IsExamined certificate.now }
+    ensures { IsTrue result ↔ BreaksWhole WholeRule.CriticalConstraints (signed_of certificate.now) }
 {
     may_sign_certificates(certificate)
         && has(
@@ -148,26 +160,30 @@ fn breaks_critical_constraints(certificate: &Certificate<'_>) -> bool
         )
 }
 
-fn breaks_path_length_of_authority(certificate: &Certificate<'_>) -> bool
-    ensures { IsTrue result ↔ BreaksWhole WholeRule.PathLengthOfAuthority (certificate_of certificate.now) }
+fn breaks_path_length_of_authority(certificate: &Examined<'_, '_>) -> bool
+    requires { IsExamined certificate.now }
+    ensures { IsTrue result ↔ BreaksWhole WholeRule.PathLengthOfAuthority (signed_of certificate.now) }
 {
     tells(certificate, ValueFact::PathLength) && !is_authority(certificate)
 }
 
-fn breaks_path_length_of_cert_sign(certificate: &Certificate<'_>) -> bool
-    ensures { IsTrue result ↔ BreaksWhole WholeRule.PathLengthOfCertSign (certificate_of certificate.now) }
+fn breaks_path_length_of_cert_sign(certificate: &Examined<'_, '_>) -> bool
+    requires { IsExamined certificate.now }
+    ensures { IsTrue result ↔ BreaksWhole WholeRule.PathLengthOfCertSign (signed_of certificate.now) }
 {
     tells(certificate, ValueFact::PathLength) && !tells(certificate, ValueFact::KeyCertSign)
 }
 
-fn breaks_name_constraints_of_authority(certificate: &Certificate<'_>) -> bool
-    ensures { IsTrue result ↔ BreaksWhole WholeRule.NameConstraintsOfAuthority (certificate_of certificate.now) }
+fn breaks_name_constraints_of_authority(certificate: &Examined<'_, '_>) -> bool
+    requires { IsExamined certificate.now }
+    ensures { IsTrue result ↔ BreaksWhole WholeRule.NameConstraintsOfAuthority (signed_of certificate.now) }
 {
     is_there(certificate, KnownExtension::NameConstraints) && !is_authority(certificate)
 }
 
-fn breaks_any_purpose_not_critical(certificate: &Certificate<'_>) -> bool
-    ensures { IsTrue result ↔ BreaksWhole WholeRule.AnyPurposeNotCritical (certificate_of certificate.now) }
+fn breaks_any_purpose_not_critical(certificate: &Examined<'_, '_>) -> bool
+    requires { IsExamined certificate.now }
+    ensures { IsTrue result ↔ BreaksWhole WholeRule.AnyPurposeNotCritical (signed_of certificate.now) }
 {
     is_critical(certificate, KnownExtension::ExtendedKeyUsage)
         && tells(certificate, ValueFact::AnyPurpose)
@@ -181,36 +197,41 @@ fn has_no_name(certificate: &Certificate<'_>) -> bool
 }
 
 /// Returns whether the subject is a certification authority.
-fn is_authority(certificate: &Certificate<'_>) -> bool
-    ensures { IsTrue result ↔ IsAuthority (certificate_of certificate.now) }
+fn is_authority(certificate: &Examined<'_, '_>) -> bool
+    requires { IsExamined certificate.now }
+    ensures { IsTrue result ↔ IsAuthority (signed_of certificate.now) }
 {
     tells(certificate, ValueFact::Authority)
 }
 
 /// Returns whether the extension is there.
-fn is_there(certificate: &Certificate<'_>, known: KnownExtension) -> bool
-    ensures { IsTrue result ↔ Has known Fact.Present (certificate_of certificate.now) }
+fn is_there(certificate: &Examined<'_, '_>, known: KnownExtension) -> bool
+    requires { IsExamined certificate.now }
+    ensures { IsTrue result ↔ Has known Fact.Present (signed_of certificate.now) }
 {
     has(certificate, known, Fact::Present)
 }
 
 /// Returns whether the extension is there, and critical.
-fn is_critical(certificate: &Certificate<'_>, known: KnownExtension) -> bool
-    ensures { IsTrue result ↔ Has known Fact.Critical (certificate_of certificate.now) }
+fn is_critical(certificate: &Examined<'_, '_>, known: KnownExtension) -> bool
+    requires { IsExamined certificate.now }
+    ensures { IsTrue result ↔ Has known Fact.Critical (signed_of certificate.now) }
 {
     has(certificate, known, Fact::Critical)
 }
 
 /// Returns whether the value of the extension that the fact is about says it.
-fn tells(certificate: &Certificate<'_>, fact: ValueFact) -> bool
-    ensures { IsTrue result ↔ Tells fact (certificate_of certificate.now) }
+fn tells(certificate: &Examined<'_, '_>, fact: ValueFact) -> bool
+    requires { IsExamined certificate.now }
+    ensures { IsTrue result ↔ Tells fact (signed_of certificate.now) }
 {
     has(certificate, fact.extension(), Fact::Says(fact))
 }
 
 /// Returns whether the key may verify signatures of certificates, as far as the certificate says.
-fn may_sign_certificates(certificate: &Certificate<'_>) -> bool
-    ensures { IsTrue result ↔ MaySignCertificates (certificate_of certificate.now) }
+fn may_sign_certificates(certificate: &Examined<'_, '_>) -> bool
+    requires { IsExamined certificate.now }
+    ensures { IsTrue result ↔ MaySignCertificates (signed_of certificate.now) }
 {
     is_authority(certificate)
         && (!is_there(certificate, KnownExtension::KeyUsage)

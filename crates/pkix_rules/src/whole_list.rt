@@ -3,10 +3,12 @@ ghost use Rattle.std.specs.Prelude.{◌≡◌, ◌↔◌, IsTrue, Some, []};
 ghost use Rattle.std.specs.Option.{IsSomeAnd, option_map};
 ghost use Rattle.crl_reader.specs.Lists.{certificate_list_of};
 ghost use Rattle.der_x509.specs.Rules.{HasFraction, IsEarly};
-ghost use Rattle.pkix_rules.specs.WholeLists.{BreaksWholeList, HasRemoval, IsDelta, ListHas, ListTells};
+ghost use Rattle.pkix_rules.specs.Examined.{IsExaminedList, signed_list_of};
+ghost use Rattle.pkix_rules.specs.WholeLists.{BreaksWholeList, HasRemoval, IsDelta, ListTells};
 
 use crate::entries::{EntryRule, is_entry_broken};
-use crate::facts::{Fact, shows};
+use crate::examined::{ExaminedList, list_has};
+use crate::facts::Fact;
 use crate::fields::{has_fraction, is_early, is_same};
 use crate::known::KnownExtension;
 use crate::repetition::has_repetition;
@@ -45,18 +47,19 @@ pub enum WholeListRule {
 }
 
 /// Returns whether the list breaks the rule.
-pub(crate) fn breaks_whole_list(rule: WholeListRule, list: &CertificateList<'_>) -> bool
-    ensures { IsTrue result ↔ BreaksWholeList rule (certificate_list_of list.now) }
+pub(crate) fn breaks_whole_list(rule: WholeListRule, list: &ExaminedList<'_, '_>) -> bool
+    requires { IsExaminedList list.now }
+    ensures { IsTrue result ↔ BreaksWholeList rule (signed_list_of list.now) }
 {
     match rule {
-        WholeListRule::SameAlgorithms => breaks_same_algorithms(list),
-        WholeListRule::SecondVersion => breaks_second_version(list),
-        WholeListRule::NamedIssuer => breaks_named_issuer(list),
-        WholeListRule::UtcTimeTo2049 => breaks_utc_time_to_2049(list),
-        WholeListRule::WholeSeconds => breaks_whole_seconds(list),
-        WholeListRule::NextUpdate => breaks_next_update(list),
-        WholeListRule::DistinctExtensions => breaks_distinct_extensions(list),
-        WholeListRule::SomeEntries => breaks_some_entries(list),
+        WholeListRule::SameAlgorithms => breaks_same_algorithms(list.signed),
+        WholeListRule::SecondVersion => breaks_second_version(list.signed),
+        WholeListRule::NamedIssuer => breaks_named_issuer(list.signed),
+        WholeListRule::UtcTimeTo2049 => breaks_utc_time_to_2049(list.signed),
+        WholeListRule::WholeSeconds => breaks_whole_seconds(list.signed),
+        WholeListRule::NextUpdate => breaks_next_update(list.signed),
+        WholeListRule::DistinctExtensions => breaks_distinct_extensions(list.signed),
+        WholeListRule::SomeEntries => breaks_some_entries(list.signed),
         WholeListRule::KeyIdentifierOfIssuer => breaks_key_identifier_of_issuer(list),
         WholeListRule::Number => breaks_number(list),
         WholeListRule::FreshestOfComplete => breaks_freshest_of_complete(list),
@@ -114,28 +117,32 @@ fn breaks_some_entries(list: &CertificateList<'_>) -> bool
     is_empty_list(&list.tbs_cert_list.revoked_certificates)
 }
 
-fn breaks_key_identifier_of_issuer(list: &CertificateList<'_>) -> bool
-    ensures { IsTrue result ↔ BreaksWholeList WholeListRule.KeyIdentifierOfIssuer (certificate_list_of list.now) }
+fn breaks_key_identifier_of_issuer(list: &ExaminedList<'_, '_>) -> bool
+    requires { IsExaminedList list.now }
+    ensures { IsTrue result ↔ BreaksWholeList WholeListRule.KeyIdentifierOfIssuer (signed_list_of list.now) }
 {
     !list_tells(list, ValueFact::KeyIdentifier)
 }
 
-fn breaks_number(list: &CertificateList<'_>) -> bool
-    ensures { IsTrue result ↔ BreaksWholeList WholeListRule.Number (certificate_list_of list.now) }
+fn breaks_number(list: &ExaminedList<'_, '_>) -> bool
+    requires { IsExaminedList list.now }
+    ensures { IsTrue result ↔ BreaksWholeList WholeListRule.Number (signed_list_of list.now) }
 {
     !list_has(list, KnownExtension::CrlNumber, Fact::Present)
 }
 
-fn breaks_freshest_of_complete(list: &CertificateList<'_>) -> bool
-    ensures { IsTrue result ↔ BreaksWholeList WholeListRule.FreshestOfComplete (certificate_list_of list.now) }
+fn breaks_freshest_of_complete(list: &ExaminedList<'_, '_>) -> bool
+    requires { IsExaminedList list.now }
+    ensures { IsTrue result ↔ BreaksWholeList WholeListRule.FreshestOfComplete (signed_list_of list.now) }
 {
     is_delta(list) && list_has(list, KnownExtension::FreshestCrl, Fact::Present)
 }
 
-fn breaks_removal_of_delta(list: &CertificateList<'_>) -> bool
-    ensures { IsTrue result ↔ BreaksWholeList WholeListRule.RemovalOfDelta (certificate_list_of list.now) }
+fn breaks_removal_of_delta(list: &ExaminedList<'_, '_>) -> bool
+    requires { IsExaminedList list.now }
+    ensures { IsTrue result ↔ BreaksWholeList WholeListRule.RemovalOfDelta (signed_list_of list.now) }
 {
-    has_removal(list) && !is_delta(list)
+    has_removal(list.signed) && !is_delta(list)
 }
 
 fn is_next_early(next: Option<Time>) -> bool
@@ -167,8 +174,9 @@ fn is_empty_list(entries: &Option<RevokedCertificates<'_>>) -> bool
 }
 
 /// Returns whether it is a list of changes.
-fn is_delta(list: &CertificateList<'_>) -> bool
-    ensures { IsTrue result ↔ IsDelta (certificate_list_of list.now) }
+fn is_delta(list: &ExaminedList<'_, '_>) -> bool
+    requires { IsExaminedList list.now }
+    ensures { IsTrue result ↔ IsDelta (signed_list_of list.now) }
 {
     list_has(list, KnownExtension::DeltaCrlIndicator, Fact::Present)
 }
@@ -184,16 +192,10 @@ fn has_removal(list: &CertificateList<'_>) -> bool
     is_entry_broken(removal, &list.tbs_cert_list.revoked_certificates)
 }
 
-/// Returns whether an extension of the list, one with the identifier of `known`, shows the fact.
-pub(crate) fn list_has(list: &CertificateList<'_>, known: KnownExtension, fact: Fact) -> bool
-    ensures { IsTrue result ↔ ListHas known fact (certificate_list_of list.now) }
-{
-    shows(list.tbs_cert_list.crl_extensions, known, fact)
-}
-
 /// Returns whether the value of the extension that the fact is about says it.
-fn list_tells(list: &CertificateList<'_>, fact: ValueFact) -> bool
-    ensures { IsTrue result ↔ ListTells fact (certificate_list_of list.now) }
+fn list_tells(list: &ExaminedList<'_, '_>, fact: ValueFact) -> bool
+    requires { IsExaminedList list.now }
+    ensures { IsTrue result ↔ ListTells fact (signed_list_of list.now) }
 {
     list_has(list, fact.extension(), Fact::Says(fact))
 }

@@ -1,16 +1,17 @@
-use Rattle.std.proofs.Common.{refl}
+use Rattle.std.proofs.Common.{refl, subst, sym}
 use Rattle.std.proofs.lemmas.Bool.{false≢true}
+use Rattle.pkix_rules.specs.Rules.{Breaks}
 use Rattle.pkix_rules.proofs.FirstLaws.{found_first, found_none, nothing_searched, searched_one}
 use Rattle.pkix_rules.proofs.broken.first_broken.Goals as goal
 
 pub loop-rule-init : goal.loop-rule-init
 loop-rule-init c = nothing_searched
 
-pub returns-then-breaks : goal.returns-then-breaks
-returns-then-breaks c = found_first c.loop-rule.invariant c.in-Some.ensures.cases (c.if-breaks.ensures.0 refl)
+pub returns-then-breaks_examined : goal.returns-then-breaks_examined
+returns-then-breaks_examined c = found_first c.loop-rule.invariant c.in-Some.ensures.cases (subst (Breaks c.in-Some.rule.now) c.examine-examined.ensures.certificate (c.if-breaks_examined.ensures.0 refl))
 
 pub loop-rule-preserved : goal.loop-rule-preserved
-loop-rule-preserved c = searched_one c.loop-rule.invariant c.in-Some.ensures.cases (λ h. false≢true (c.if-breaks.ensures.1 h))
+loop-rule-preserved c = searched_one c.loop-rule.invariant c.in-Some.ensures.cases (λ h. false≢true (c.if-breaks_examined.ensures.1 (subst (Breaks c.in-Some.rule.now) (sym c.examine-examined.ensures.certificate) h)))
 
 pub returns : goal.returns
 returns c = found_none c.loop-rule.invariant c.in_default.ensures.cases

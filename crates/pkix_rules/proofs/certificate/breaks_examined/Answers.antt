@@ -1,4 +1,4 @@
-use Rattle.pkix_rules.proofs.certificate.breaks.Goals as goal
+use Rattle.pkix_rules.proofs.certificate.breaks_examined.Goals as goal
 
 pub returns-in-Fields : goal.returns-in-Fields
 returns-in-Fields c = rw c.in-Fields.is c.breaks.ensures

@@ -1,4 +1,4 @@
-use Rattle.pkix_rules.proofs.revoked.list_breaks.Goals as goal
+use Rattle.pkix_rules.proofs.revoked.examined_list_breaks.Goals as goal
 
 pub returns-in-Critical : goal.returns-in-Critical
 returns-in-Critical c = rw c.in-Critical.is c.list_has.ensures

@@ -1,0 +1,166 @@
+-- Values that break no rule of their type.
+use Rattle.std.proofs.Common.{◌≡◌, ◌≢◌, ℕ, Option, Some, None, Ok, List, [], ◌∷◌, sym, ap, ◌∙◌, arith, subst, inl, inr}
+use Rattle.der_base.specs.declared.rules.Rules.TheVariants.{Der}
+use Rattle.der_cursor.specs.Formats.{Field, Never, Only, ReadsWhole, Required}
+use Rattle.der_extensions.specs.Extensions.{CRLDistributionPoints, CertificatePolicies, DistributionPoint, PointValue, PolicyInformation, QualifierValue}
+use Rattle.der_extensions.specs.GeneralNames.{GeneralName, GeneralNames, NameValue}
+use Rattle.der_x509.specs.Rules.{HasRepetition}
+use Rattle.pkix_rules.specs.declared.names.NameRule.{NameRule}
+use Rattle.pkix_rules.specs.declared.names.NameRule.TheVariants as name
+use Rattle.pkix_rules.specs.declared.notices.QualifierRule.{QualifierRule}
+use Rattle.pkix_rules.specs.declared.notices.QualifierRule.TheVariants.{Notice, NoticeOfType, PointerOfType}
+use Rattle.pkix_rules.specs.declared.points.PointRule.{PointRule}
+use Rattle.pkix_rules.specs.declared.points.PointRule.TheVariants as point
+use Rattle.pkix_rules.specs.declared.types.ValueType.{ValueType}
+use Rattle.pkix_rules.specs.declared.types.ValueType.TheVariants as kind
+use Rattle.pkix_rules.specs.declared.value_rules.ValueRule.{ValueRule}
+use Rattle.pkix_rules.specs.declared.value_rules.ValueRule.TheVariants as rule
+use Rattle.pkix_rules.specs.Lists.{Among, here, later}
+use Rattle.pkix_rules.specs.Names.{BreaksName}
+use Rattle.pkix_rules.specs.Notices.{BreaksQualifier, HasBrokenQualifier, IsBadlyQualified}
+use Rattle.pkix_rules.specs.Points.{BreaksPoint, HasOtherIssuer, IsForAllReasons}
+use Rattle.pkix_rules.specs.Policies.{HasOtherQualifier, IsAnyWithOther, IsOtherQualifier, cps, user_notice}
+use Rattle.pkix_rules.specs.Sound.{HasRemark, IsBadName, IsBadPoint, IsRemark, IsRemarked, type_of_rule}
+use Rattle.pkix_rules.specs.Types.{IsOfType}
+use Rattle.pkix_rules.specs.ValueRules.{BreaksValue}
+
+-- other words for an item
+pub among_more : {V : Type 0} {F : Field V} {P Q : V → Type 0} {i : List ℕ} → ((v : V) → P v → Q v) → Among F P i → Among F Q i
+among_more g (here v s p) = here v s (g v p)
+among_more g (later v s a) = later v s (among_more g a)
+
+unwrap : ValueType → Option ValueType → ValueType
+unwrap d (Some t) = t
+unwrap d None = d
+
+same_type : {s t : ValueType} → Some s ≡ Some t → t ≡ s
+unfolding unwrap
+same_type {t = t} e = sym (ap (unwrap t) e)
+
+OfNames : Option ValueType → Type 0
+OfNames (Some kind.Names) = Unit {0}
+OfNames _ = ⊥
+
+OfPoints : Option ValueType → Type 0
+OfPoints (Some kind.Points) = Unit {0}
+OfPoints _ = ⊥
+
+OfPolicies : Option ValueType → Type 0
+OfPolicies (Some kind.Policies) = Unit {0}
+OfPolicies _ = ⊥
+
+-- names
+bad_name : (q : NameRule) (n : NameValue) → BreaksName q n → IsBadName n
+bad_name name.NotEmpty n b = inl b
+bad_name name.AddressOctets n b = inr (inl b)
+bad_name name.NotBlank n b = inr (inr (inl b))
+bad_name name.Scheme n b = inr (inr (inr (inl b)))
+bad_name name.Mailbox n b = inr (inr (inr (inr (inl b))))
+bad_name name.PreferredName n b = inr (inr (inr (inr (inr (inl b)))))
+bad_name name.InternationalMailbox n b = inr (inr (inr (inr (inr (inr b)))))
+
+module _ {T E : Type 0} {view : T → List ℕ} (w : List ℕ) {x : T} (r : ReadsWhole {E = E} (Only (Required GeneralNames) Der w) view Never (Ok x)) (n : ¬ Among GeneralName IsBadName (view x)) where
+  pub sound_names : (q : ValueRule) → type_of_rule q ≡ Some kind.Names → BreaksValue q w → ⊥
+  unfolding OfNames
+  sound_names (rule.OfType s) e never = never (subst (λ z. IsOfType z w) (same_type e) (view x, r.found))
+  sound_names (rule.Names q) e s = n (among_more (bad_name q) (subst (Among GeneralName (BreaksName q)) (sym (r.only s.0 s.1)) s.2))
+  sound_names rule.IssuerAndSerial e s = absurd (subst OfNames (sym e) tt)
+  sound_names rule.DistinctPolicies e s = absurd (subst OfNames (sym e) tt)
+  sound_names rule.AnyPolicyQualifiers e s = absurd (subst OfNames (sym e) tt)
+  sound_names (rule.Qualifiers q) e s = absurd (subst OfNames (sym e) tt)
+  sound_names rule.UnmappedAnyPolicy e s = absurd (subst OfNames (sym e) tt)
+  sound_names rule.NotEmpty e s = absurd (subst OfNames (sym e) tt)
+  sound_names (rule.Subtrees q) e s = absurd (subst OfNames (sym e) tt)
+  sound_names (rule.Points q) e s = absurd (subst OfNames (sym e) tt)
+  sound_names rule.PointForAllReasons e s = absurd (subst OfNames (sym e) tt)
+  sound_names (rule.IssuingPoint q) e s = absurd (subst OfNames (sym e) tt)
+  sound_names rule.CaIssuers e s = absurd (subst OfNames (sym e) tt)
+  sound_names rule.ShortNumber e s = absurd (subst OfNames (sym e) tt)
+  sound_names rule.NaturalNumber e s = absurd (subst OfNames (sym e) tt)
+  sound_names rule.WholeSeconds e s = absurd (subst OfNames (sym e) tt)
+  sound_names rule.SpecifiedReason e s = absurd (subst OfNames (sym e) tt)
+
+-- points
+IsThere : {X : Type 0} → Option X → Type 0
+IsThere None = ⊥
+IsThere (Some x) = Unit {0}
+
+other_issuer : (o : Option (List ℕ)) → HasOtherIssuer o → o ≢ None
+unfolding IsThere
+other_issuer None h = absurd h
+other_issuer (Some w) h = λ e. absurd (subst IsThere e tt)
+
+bad_point : (q : PointRule) (p : PointValue) → BreaksPoint q p → IsBadPoint p
+bad_point point.Named p b = inl b
+bad_point point.FullName p b = inr (inl b)
+bad_point point.NameAlone p b = inr (inr b)
+bad_point point.NamedIssuers p b = inr (inr (inr (other_issuer p.1.1.0 b)))
+bad_point point.RelativeToOneIssuer p b = inr (inl b.0)
+
+module _ {T E : Type 0} {view : T → List ℕ} (w : List ℕ) {x : T} (r : ReadsWhole {E = E} (Only (Required CRLDistributionPoints) Der w) view Never (Ok x)) (a : Among (Required DistributionPoint) IsForAllReasons (view x)) (n : ¬ Among (Required DistributionPoint) IsBadPoint (view x)) where
+  pub sound_points : (q : ValueRule) → type_of_rule q ≡ Some kind.Points → BreaksValue q w → ⊥
+  unfolding OfPoints
+  sound_points (rule.OfType s) e never = never (subst (λ z. IsOfType z w) (same_type e) (view x, r.found))
+  sound_points (rule.Points q) e s = n (among_more (bad_point q) (subst (Among (Required DistributionPoint) (BreaksPoint q)) (sym (r.only s.0 s.1)) s.2))
+  sound_points rule.PointForAllReasons e s = s.2 (subst (Among (Required DistributionPoint) IsForAllReasons) (r.only s.0 s.1) a)
+  sound_points rule.IssuerAndSerial e s = absurd (subst OfPoints (sym e) tt)
+  sound_points rule.DistinctPolicies e s = absurd (subst OfPoints (sym e) tt)
+  sound_points rule.AnyPolicyQualifiers e s = absurd (subst OfPoints (sym e) tt)
+  sound_points (rule.Qualifiers q) e s = absurd (subst OfPoints (sym e) tt)
+  sound_points rule.UnmappedAnyPolicy e s = absurd (subst OfPoints (sym e) tt)
+  sound_points (rule.Names q) e s = absurd (subst OfPoints (sym e) tt)
+  sound_points rule.NotEmpty e s = absurd (subst OfPoints (sym e) tt)
+  sound_points (rule.Subtrees q) e s = absurd (subst OfPoints (sym e) tt)
+  sound_points (rule.IssuingPoint q) e s = absurd (subst OfPoints (sym e) tt)
+  sound_points rule.CaIssuers e s = absurd (subst OfPoints (sym e) tt)
+  sound_points rule.ShortNumber e s = absurd (subst OfPoints (sym e) tt)
+  sound_points rule.NaturalNumber e s = absurd (subst OfPoints (sym e) tt)
+  sound_points rule.WholeSeconds e s = absurd (subst OfPoints (sym e) tt)
+  sound_points rule.SpecifiedReason e s = absurd (subst OfPoints (sym e) tt)
+
+-- policies
+other_is_remark : (q : QualifierValue) → IsOtherQualifier q → IsRemark q
+other_is_remark q o = inl o.0
+
+last_octet : List ℕ → ℕ
+last_octet [] = 0
+last_octet (x ∷ []) = x
+last_octet (x ∷ y ∷ ys) = last_octet (y ∷ ys)
+
+cps_is_no_notice : cps ≡ user_notice → ⊥
+unfolding last_octet
+cps_is_no_notice e = let h : 1 ≡ 2 = ap last_octet e in omega (arith, h)
+
+broken_is_remark : (t : QualifierRule) (q : QualifierValue) → BreaksQualifier t q → IsRemark q
+broken_is_remark PointerOfType q b = inr b.1
+broken_is_remark NoticeOfType q b = inl (λ e. cps_is_no_notice (sym e ∙ b.0))
+broken_is_remark (Notice t) q b = inl (λ e. cps_is_no_notice (sym e ∙ b.0))
+
+all_others : (q : Option (List ℕ)) → HasOtherQualifier q → IsRemarked q
+all_others (Some w) a = among_more other_is_remark a
+all_others None a = a
+
+all_broken : (t : QualifierRule) (q : Option (List ℕ)) → HasBrokenQualifier t q → IsRemarked q
+all_broken t (Some w) a = among_more (broken_is_remark t) a
+all_broken t None a = a
+
+module _ {T E : Type 0} {view : T → List ℕ} (w : List ℕ) {x : T} (r : ReadsWhole {E = E} (Only (Required CertificatePolicies) Der w) view Never (Ok x)) (n : ¬ Among (Required PolicyInformation) HasRemark (view x)) (d : ¬ HasRepetition (view x)) where
+  pub sound_policies : (q : ValueRule) → type_of_rule q ≡ Some kind.Policies → BreaksValue q w → ⊥
+  unfolding OfPolicies
+  sound_policies (rule.OfType s) e never = never (subst (λ z. IsOfType z w) (same_type e) (view x, r.found))
+  sound_policies rule.DistinctPolicies e s = d (subst HasRepetition (sym (r.only s.0 s.1)) s.2)
+  sound_policies rule.AnyPolicyQualifiers e s = n (among_more (λ v p. all_others v.1.0 p.1) (subst (Among (Required PolicyInformation) IsAnyWithOther) (sym (r.only s.0 s.1)) s.2))
+  sound_policies (rule.Qualifiers q) e s = n (among_more (λ v p. all_broken q v.1.0 p) (subst (Among (Required PolicyInformation) (IsBadlyQualified q)) (sym (r.only s.0 s.1)) s.2))
+  sound_policies rule.IssuerAndSerial e s = absurd (subst OfPolicies (sym e) tt)
+  sound_policies rule.UnmappedAnyPolicy e s = absurd (subst OfPolicies (sym e) tt)
+  sound_policies (rule.Names q) e s = absurd (subst OfPolicies (sym e) tt)
+  sound_policies rule.NotEmpty e s = absurd (subst OfPolicies (sym e) tt)
+  sound_policies (rule.Subtrees q) e s = absurd (subst OfPolicies (sym e) tt)
+  sound_policies (rule.Points q) e s = absurd (subst OfPolicies (sym e) tt)
+  sound_policies rule.PointForAllReasons e s = absurd (subst OfPolicies (sym e) tt)
+  sound_policies (rule.IssuingPoint q) e s = absurd (subst OfPolicies (sym e) tt)
+  sound_policies rule.CaIssuers e s = absurd (subst OfPolicies (sym e) tt)
+  sound_policies rule.ShortNumber e s = absurd (subst OfPolicies (sym e) tt)
+  sound_policies rule.NaturalNumber e s = absurd (subst OfPolicies (sym e) tt)
+  sound_policies rule.WholeSeconds e s = absurd (subst OfPolicies (sym e) tt)
+  sound_policies rule.SpecifiedReason e s = absurd (subst OfPolicies (sym e) tt)

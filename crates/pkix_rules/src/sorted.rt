@@ -1,0 +1,112 @@
+//! Extensions, sorted by which they are, so that rules about them need not walk them.
+ghost use Rattle.std.specs.Prelude.{◌≡◌, ◌↔◌, IfSome, IsTrue, length};
+ghost use Rattle.pkix_rules.specs.Facts.{Holds, Shows};
+ghost use Rattle.pkix_rules.specs.Identifiers.{known_count};
+ghost use Rattle.pkix_rules.specs.Sound.{IsSound};
+ghost use Rattle.pkix_rules.specs.Sorted.{AreSlotsOf, IsAfter, IsSorted, Puts};
+
+use crate::facts::{Fact, holds, shows};
+use crate::identified::known_extension;
+use crate::identifier::absolute_octets;
+use crate::known::{KNOWN_EXTENSIONS, KnownExtension};
+use crate::sound::{is_kept, sound_type};
+use crate::types::ValueType;
+use der_x509::Extensions;
+
+/// What is known of the extensions with one identifier.
+#[derive(Clone, Copy)]
+pub(crate) enum Slot<'a> {
+    /// There is none.
+    Absent,
+    /// There is one: whether it is critical, its value, and the type of which that breaks no rule, if that was found.
+    Once(bool, &'a [u8], Option<ValueType>),
+    /// There are several, or nobody has looked. Each question walks the extensions.
+    Unsorted,
+}
+
+/// Extensions, and a slot for each that is known.
+#[derive(Drop)]
+pub(crate) struct SortedExtensions<'a> {
+    pub extensions: Extensions<'a>,
+    pub slots: [Slot<'a>; KNOWN_EXTENSIONS],
+}
+
+impl<'a> SortedExtensions<'a> {
+    /// Sorts them, in one walk.
+    pub fn sort(extensions: Extensions<'a>) -> SortedExtensions<'a>
+        ensures extensions { result.extensions.octets.now ≡ extensions.entry.octets.now }
+        ensures sorted { IsSorted result }
+    {
+        let slots = slots_of(extensions);
+        SortedExtensions { extensions, slots }
+    }
+
+    /// Leaves them as they are, for who asks once.
+    pub fn unsorted(extensions: Extensions<'a>) -> SortedExtensions<'a>
+        ensures extensions { result.extensions.octets.now ≡ extensions.entry.octets.now }
+        ensures sorted { IsSorted result }
+    {
+        let slots = [Slot::Unsorted; KNOWN_EXTENSIONS];
+        SortedExtensions { extensions, slots }
+    }
+
+    /// Returns whether one of them, one with the identifier of `known`, shows the fact.
+    pub fn show(&self, known: KnownExtension, fact: Fact) -> bool
+        requires { IsSorted self.now }
+        ensures { IsTrue result ↔ Shows known fact self.now.extensions.octets.now }
+    {
+        match self.slots[known.number()] {
+            Slot::Absent => false,
+            Slot::Once(critical, value, sound) => holds_once(fact, critical, value, sound),
+            Slot::Unsorted => shows(self.extensions, known, fact),
+        }
+    }
+}
+
+/// Returns whether the one extension of a slot shows the fact.
+fn holds_once(fact: Fact, critical: bool, value: &[u8], sound: Option<ValueType>) -> bool
+    requires { IfSome sound (λ t. IsSound t value.now) }
+    ensures { IsTrue result ↔ Holds fact critical value.now }
+{
+    !is_kept(sound, fact) && holds(fact, critical, value)
+}
+
+/// Returns what the slots of the extensions hold.
+fn slots_of<'a>(extensions: Extensions<'a>) -> [Slot<'a>; KNOWN_EXTENSIONS]
+    ensures { AreSlotsOf extensions.entry.octets.now result }
+{
+    let mut slots = [Slot::Absent; KNOWN_EXTENSIONS];
+    for extension in extensions.iter() {
+        if let Some(known) = known_extension(absolute_octets(&extension.identifier)) {
+            put(&mut slots, known, extension.critical, extension.value);
+        }
+    }
+    slots
+}
+
+/// Puts an extension into its slot.
+fn put<'a>(
+    slots: &mut [Slot<'a>; KNOWN_EXTENSIONS],
+    known: KnownExtension,
+    critical: bool,
+    value: &'a [u8],
+)
+    requires { length slots.old ≡ known_count }
+    ensures { Puts known critical value.now slots.old slots.new }
+{
+    let number = known.number();
+    slots[number] = slots[number].after(critical, value, sound_type(known, value));
+}
+
+impl<'a> Slot<'a> {
+    /// What it is after one more extension.
+    fn after(self, critical: bool, value: &'a [u8], sound: Option<ValueType>) -> Slot<'a>
+        requires { IfSome sound (λ t. IsSound t value.now) }
+        ensures { IsAfter self.entry critical value.now result }
+    {
+        match self {
+            Slot::Absent => Slot::Once(critical, value, sound),
+            Slot::Once(_, _, _) | Slot::Unsorted => Slot::Unsorted,
+        }
+    }
+}
