@@ -11,7 +11,8 @@ use crate::points::are_sound_points;
 use crate::types::ValueType;
 use crate::value_rules::ValueRule;
 
-/// Returns the type of the value of an extension, if it is found that the value breaks no rule of it. None says nothing.
+/// Returns the type of the value of an extension, if it is found that the value breaks no rule of it. None says
+/// nothing.
 pub(crate) fn sound_type(known: KnownExtension, value: &[u8]) -> Option<ValueType>
     ensures { IfSome result (λ t. IsSound t value.now) }
 {
