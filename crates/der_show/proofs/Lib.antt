@@ -1,3 +1,4 @@
 pub mod Found
 pub mod RuleLaws
+pub mod SecretLaws
 pub mod UnreadLaws

@@ -1,27 +1,43 @@
 -- Octets that are of a known type, by the names of their fields.
-use Rattle.std.specs.Prelude.{◌≡◌, ◌⊎◌, ℕ, false, Option, Some, None, List, ◌++◌, codes, map}
+use Rattle.std.specs.Prelude.{◌≡◌, ◌⊎◌, ℕ, false, Option, Some, None, List, [], ◌∷◌, ◌++◌, codes, map}
 use Rattle.der_base.specs.declared.rules.Rules.TheVariants.{Ber}
-use Rattle.der_fields.specs.declared.named.Named.TheVariants.{Whole}
-use Rattle.der_fields.specs.Fields.{AreFieldLines, Fits}
 use Rattle.der_known.specs.declared.known.KnownTypes.{KnownTypes}
 use Rattle.der_known.specs.Names.{known_names}
 use Rattle.der_print.specs.declared.style.Limit.TheVariants.{Front}
 use Rattle.der_print.specs.declared.style.Style.{Style}
+use Rattle.der_print.specs.Lines.{IsFieldLine, content_in}
 use Rattle.der_schema.specs.declared.schema.Schema.{Schema}
-use Rattle.der_schema.specs.Known.{IsFirstSchema, IsOfType, root_at}
-use Rattle.der_schema.specs.Meaning.{all_types, root_of}
-use Rattle.der_walk.specs.Visits.{Visited}
+use Rattle.der_schema.specs.Known.{IsFirstSchema, IsOfType, all_extras, root_at}
+use Rattle.der_schema.specs.Meaning.{all_types}
+use Rattle.der_walk.specs.Visits.{Visited, Visits}
+use Rattle.der_show.specs.Secrets.{IsInSecret, IsSecret, field_of, secret_line}
 
 -- of a long value its first octets or characters are written, without colours
 abbrev pub fields_style : Style
 fields_style = record { limit = Front; colours = false }
 
--- the text of octets that are of a type, by BER: its name, and a line for each element, with the name of its field
+-- what is written of an element after others of an input: nothing in a secret one, no value of a secret one, or its
+-- line, with the name of its field
+pub data IsShownLine (sc : Schema) (i : List ℕ) (before : List Visited) (v : Visited) : List ℕ → Type 0 where
+  in_secret : {line : List ℕ} → IsInSecret sc i before v → line ≡ [] → IsShownLine sc i before v line
+  secret : {line : List ℕ} → ¬ IsInSecret sc i before v → IsSecret sc i before v
+      → line ≡ secret_line (field_of sc i before v) v → IsShownLine sc i before v line
+  plain : {line : List ℕ} → ¬ IsInSecret sc i before v → ¬ IsSecret sc i before v
+      → IsFieldLine (field_of sc i before v) fields_style v (content_in i v) line → IsShownLine sc i before v line
+
+-- what is written of the first elements of an input, in their order
+pub data AreShownLines (sc : Schema) (i : List ℕ) : List Visited → List ℕ → Type 0 where
+  no_lines : {vs : List Visited} {text : List ℕ} → vs ≡ [] → text ≡ [] → AreShownLines sc i vs text
+  one_more : {vs : List Visited} {text : List ℕ} (before : List Visited) (v : Visited) (lines line : List ℕ)
+      → vs ≡ before ++ v ∷ [] → AreShownLines sc i before lines → IsShownLine sc i before v line
+      → text ≡ lines ++ line → AreShownLines sc i vs text
+
+-- the text of octets that are of a type, by BER: its name, and the lines of their elements
 pub record IsTextByFields (sc : Schema) (i text : List ℕ) : Type 0 where
   pub elements : List Visited
-  pub fits : Fits (root_of sc) Ber i elements Whole
+  pub visits : Visits all_extras Ber 101 0 0 i elements
   pub lines : List ℕ
-  pub are_lines : AreFieldLines (root_of sc) fields_style i elements lines
+  pub are_lines : AreShownLines sc i elements lines
   pub whole : text ≡ sc.name.now ++ codes "\n" ++ lines
 
 -- the first of some types that octets are of, by BER; there is none if they are of no one

@@ -5,23 +5,17 @@ ghost use Rattle.der_schema.specs.Meaning.{root_of};
 ghost use Rattle.der_show.specs.Fields.{IsByFields, IsReadAlone, IsTextByFields};
 ghost use Rattle.der_show.specs.Messages.{text_in};
 
+use crate::field_lines::with_lines;
 use der_base::rules::Rules;
-use der_fields::write_fields;
 use der_known::KnownTypes;
-use der_print::{Limit, Style};
 use der_schema::Schema;
 use std::alloc::{AllocError, Global};
 
-/// Of a long value its first octets or characters are written.
-const STYLE: Style = Style {
-    limit: Limit::Front,
-    colours: false,
-};
-
 /// The text of octets by the first of these types that they are of, by BER: the name of the type, and then a line for
-/// each element, as `write_fields` of der_fields writes it. None if they are of none of these types, and an error if
-/// there is no memory. None too if it is a certificate, a list of revoked certificates or a request, since those that
-/// aren't DER break a rule, which `why_unread` says, or a private key, since that is a secret.
+/// each element, with the name of its field. Of a field that is secret no value is written. None if they are of none of
+/// these types, and an error if there is no memory. None too if it is a certificate, a list of revoked certificates or
+/// a request, since those that aren't DER break a rule, which `why_unread` says, or a private key, since that is a
+/// secret.
 pub fn text_by_fields(
     alloc: Global,
     octets: &[u8],
@@ -64,8 +58,5 @@ fn fields_text(alloc: Global, octets: &[u8], schema: Schema<'_>) -> Result<Vec<u
     let mut text = Vec::new(alloc);
     text.extend_from_slice(schema.name.as_bytes())?;
     text.push(b'\n')?;
-    match write_fields(alloc, octets, schema, Rules::Ber, STYLE, &mut text) {
-        Ok(_) => Ok(text),
-        Err(_) => Err(AllocError),
-    }
+    with_lines(alloc, text, octets, schema)
 }

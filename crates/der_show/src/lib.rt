@@ -13,12 +13,14 @@
 //! ```
 #![tactic(auto)]
 
+mod field_lines;
 mod fields;
 mod kerberos;
 mod key;
 mod known;
 mod ldap;
 mod message;
+mod secret;
 mod shown;
 mod snmp;
 mod text;

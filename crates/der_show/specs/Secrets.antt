@@ -1,0 +1,48 @@
+-- Fields whose values aren't shown.
+use Rattle.std.specs.Prelude.{◌≡◌, ◌⊎◌, ℕ, ◌<◌, Bool, true, false, List, ◌∷◌, [], ◌++◌, codes}
+use Rattle.der_fields.specs.Fields.{label_after, label_text}
+use Rattle.der_print.specs.Lines.{front_text}
+use Rattle.der_schema.specs.declared.schema.Schema.{Schema}
+use Rattle.der_schema.specs.Meaning.{root_of}
+use Rattle.der_walk.specs.Visits.{Visited}
+
+-- the fields of the numbers of a private key of RSA that are secret (RFC 8017 A.1.2)
+abbrev pub IsSecretNumber : List ℕ → Type 0
+IsSecretNumber name = (name ≡ codes "privateExponent") ⊎ (name ≡ codes "prime1") ⊎ (name ≡ codes "prime2")
+    ⊎ (name ≡ codes "exponent1") ⊎ (name ≡ codes "exponent2") ⊎ (name ≡ codes "coefficient")
+    ⊎ (name ≡ codes "otherPrimeInfos")
+
+-- the fields that hold a secret: a private key (RFC 5958 2, RFC 5915 3, RFC 8410 7), or one in a store (RFC 7292
+-- 4.2.5)
+abbrev pub IsSecretName : List ℕ → Type 0
+IsSecretName name = (name ≡ codes "privateKey") ⊎ (name ≡ codes "curvePrivateKey") ⊎ (name ≡ codes "dsaPrivateKey")
+    ⊎ (name ≡ codes "secretValue") ⊎ IsSecretNumber name
+
+-- An element of a type is secret: it is such a field. In a store of keys (RFC 7292) content in pieces is too, since
+-- a piece may be one of a private key.
+abbrev pub IsSecretField : List ℕ → List ℕ → Bool → Type 0
+IsSecretField type field constructed =
+    IsSecretName field ⊎ ((type ≡ codes "PFX") × (field ≡ codes "data") × (constructed ≡ true))
+
+-- the name of the field that an element after others of an input is
+abbrev pub field_of : Schema → List ℕ → List Visited → Visited → List ℕ
+field_of sc i before v = label_text (label_after (root_of sc) i before v)
+
+abbrev pub IsSecret : Schema → List ℕ → List Visited → Visited → Type 0
+IsSecret sc i before v = IsSecretField sc.name.now (field_of sc i before v) v.constructed
+
+-- after these elements of an input a secret one, with so many elements around it, goes on: it is the last, or it went
+-- on before the last, which is in it
+pub data IsOpen (sc : Schema) (i : List ℕ) : List Visited → ℕ → Type 0 where
+  begins : {us : List Visited} {depth : ℕ} (before : List Visited) (v : Visited) → us ≡ before ++ v ∷ []
+      → IsSecret sc i before v → depth ≡ v.depth → IsOpen sc i us depth
+  goes_on : {us : List Visited} {depth : ℕ} (before : List Visited) (v : Visited) → us ≡ before ++ v ∷ []
+      → IsOpen sc i before depth → depth < v.depth → IsOpen sc i us depth
+
+-- an element after others is in a secret one
+abbrev pub IsInSecret : Schema → List ℕ → List Visited → Visited → Type 0
+IsInSecret sc i before v = (depth : ℕ) × IsOpen sc i before depth × (depth < v.depth)
+
+-- the line of an element that is secret, which has no value
+abbrev pub secret_line : List ℕ → Visited → List ℕ
+secret_line field v = front_text false field v ++ codes " (secret)\n"
