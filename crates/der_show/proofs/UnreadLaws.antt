@@ -8,35 +8,36 @@ use Rattle.der_request.specs.Requests.{field_fault as request_fault, whole_reque
 use Rattle.der_x509.specs.declared.refusal.CertificateRefusal.{CertificateRefusal}
 use Rattle.der_x509.specs.Certificates.{whole_certificate}
 use Rattle.der_x509.specs.Readers.{field_fault as certificate_fault}
-use Rattle.der_show.specs.declared.unread.Unread.{Unread}
-use Rattle.der_show.specs.declared.unread.Unread.TheVariants.{Certificate, CertificateList, CertificationRequest}
-use Rattle.der_show.specs.Unread.{ComesFirst, IsFurthest, IsWhyNo, IsWhyNoCertificate, IsWhyNoList, IsWhyNoRequest, Refuses, further, offset_of, order_of}
+use Rattle.der_show.specs.declared.refused.Refused.{Refused}
+use Rattle.der_show.specs.declared.refused.Refused.TheVariants.{Certificate, CertificateList, CertificationRequest}
+use Rattle.der_show.specs.Refused.{ComesFirst, Refuses, further, offset_of, order_of}
+use Rattle.der_show.specs.Unread.{IsFurthest, IsWhyNo, IsWhyNoCertificate, IsWhyNoList, IsWhyNoRequest}
 
 -- what comes after the first of two comes after the further one
-old_first : (e f x : Unread) (b : Bool) → nat_le (offset_of f) (offset_of e) ≡ b → ComesFirst e x → ComesFirst (if b then e else f) x
+old_first : (e f x : Refused) (b : Bool) → nat_le (offset_of f) (offset_of e) ≡ b → ComesFirst e x → ComesFirst (if b then e else f) x
 old_first e f x true is h = h
 old_first e f x false is (inl h) = inl (grind (arith, nat_tests, is, h))
 old_first e f x false is (inr h) = inl (grind (arith, nat_tests, is, h.0))
 
-pub keeps_first : (e f x : Unread) → ComesFirst e x → ComesFirst (further e f) x
+pub keeps_first : (e f x : Refused) → ComesFirst e x → ComesFirst (further e f) x
 keeps_first e f x h = old_first e f x _ refl h
 
 -- and so does what has the offset of the second, whose format is no earlier one
-new_first : (e f x : Unread) (b : Bool) → nat_le (offset_of f) (offset_of e) ≡ b → order_of e ≤ order_of f → order_of x ≡ order_of f → offset_of x ≡ offset_of f → ComesFirst (if b then e else f) x
+new_first : (e f x : Refused) (b : Bool) → nat_le (offset_of f) (offset_of e) ≡ b → order_of e ≤ order_of f → order_of x ≡ order_of f → offset_of x ≡ offset_of f → ComesFirst (if b then e else f) x
 new_first e f x true is up k o = below (offset_of x) (offset_of e) (grind (arith, nat_tests, is, o)) (grind (arith, up, k))
   where
     below : (m n : ℕ) → m ≤ n → order_of e ≤ order_of x → (m < n) ⊎ ((m ≡ n) × (order_of e ≤ order_of x))
     below m n le q = grind (arith, le, q)
 new_first e f x false is up k o = inr (o, grind (arith, k))
 
-pub takes_first : (e f x : Unread) → order_of e ≤ order_of f → order_of x ≡ order_of f → offset_of x ≡ offset_of f → ComesFirst (further e f) x
+pub takes_first : (e f x : Refused) → order_of e ≤ order_of f → order_of x ≡ order_of f → offset_of x ≡ offset_of f → ComesFirst (further e f) x
 takes_first e f x up k o = new_first e f x _ refl up k o
 
-one_of_both : (P : Unread → Type 0) (e f : Unread) (b : Bool) → P e → P f → P (if b then e else f)
+one_of_both : (P : Refused → Type 0) (e f : Refused) (b : Bool) → P e → P f → P (if b then e else f)
 one_of_both P e f true p q = p
 one_of_both P e f false p q = q
 
-last_order : (e : Unread) → order_of e ≤ 2
+last_order : (e : Refused) → order_of e ≤ 2
 last_order (Certificate e) = omega arith
 last_order (CertificateList e) = omega arith
 last_order (CertificationRequest e) = omega arith
@@ -45,10 +46,10 @@ module _ (i : List ℕ) (a : CertificateRefusal) (b : ListRefusal) (c : RequestR
     (p : IsWhyNo certificate_fault (λ y. y.refusal.offset) whole_certificate i a)
     (q : IsWhyNo list_fault (λ y. y.refusal.offset) whole_list i b)
     (r : IsWhyNo request_fault (λ y. y.refusal.offset) whole_request i c) where
-  abbrev pub of_two : Unread
+  abbrev pub of_two : Refused
   of_two = further (Certificate a) (CertificateList b)
 
-  comes_first : (x : Unread) → Refuses i x → ComesFirst (further of_two (CertificationRequest c)) x
+  comes_first : (x : Refused) → Refuses i x → ComesFirst (further of_two (CertificationRequest c)) x
   comes_first (Certificate x) h =
       let same : order_of (Certificate a) ≤ order_of (Certificate x) = omega arith in
       keeps_first of_two (CertificationRequest c) (Certificate x) (keeps_first (Certificate a) (CertificateList b) (Certificate x) (inr (p.only x h, same)))
@@ -65,5 +66,5 @@ module _ (i : List ℕ) (a : CertificateRefusal) (b : ListRefusal) (c : RequestR
   }
 
 -- the furthest of three
-pub furthest_of : (i : List ℕ) (a b c e f : Unread) → IsWhyNoCertificate i (Some a) → IsWhyNoList i (Some b) → IsWhyNoRequest i (Some c) → e ≡ further a b → f ≡ further e c → IsFurthest i f
+pub furthest_of : (i : List ℕ) (a b c e f : Refused) → IsWhyNoCertificate i (Some a) → IsWhyNoList i (Some b) → IsWhyNoRequest i (Some c) → e ≡ further a b → f ≡ further e c → IsFurthest i f
 furthest_of i a b c e f p q r s t = rw (t, s, p.1, q.1, r.1) (furthest i p.0 q.0 r.0 p.2 q.2 r.2)

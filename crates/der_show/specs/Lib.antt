@@ -1,8 +1,14 @@
+pub mod Around
 pub mod Described
 pub mod FieldLines
 pub mod Fields
 pub mod Known
 pub mod Messages
+pub mod Places
+pub mod PlaceTexts
+pub mod Refused
 pub mod Secrets
 pub mod Shown
+pub mod Trees
 pub mod Unread
+pub mod Why

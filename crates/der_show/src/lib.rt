@@ -13,6 +13,7 @@
 //! ```
 #![tactic(auto)]
 
+mod extension;
 mod field_lines;
 mod fields;
 mod kerberos;
@@ -20,16 +21,25 @@ mod key;
 mod known;
 mod ldap;
 mod message;
+mod place;
+mod place_text;
+mod refused;
 mod secret;
 mod shown;
 mod snmp;
 mod text;
+mod tree;
 mod unread;
+mod why;
 mod words;
 
 pub use fields::text_by_fields;
 pub use known::{Known, keeps_rules, what_is};
 pub use message::text_of_message;
+pub use place::Place;
+pub use refused::Refused;
 pub use shown::{Shown, write_known};
+pub use tree::text_of_refused;
 pub use unread::{Unread, why_unread};
+pub use why::Why;
 pub use words::{Words, words_of};

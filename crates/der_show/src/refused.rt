@@ -1,0 +1,107 @@
+//! The errors of the readers of certificates, lists of revoked certificates and requests.
+ghost use Rattle.std.specs.Prelude.{◌≡◌, ◌↔◌, IsTrue};
+ghost use Rattle.der_cursor.specs.Cursors.{is_at_end};
+ghost use Rattle.der_show.specs.Refused.{IsVersion, further, offset_of, refusal_of, type_name};
+
+use crl_reader::ListRefusal;
+use der_base::error::BerError;
+use der_cursor::Refusal;
+use der_request::RequestRefusal;
+use der_x509::{CertificateRefusal, Field};
+use std::fmt;
+
+/// Why octets are none of these: the error of one of the readers.
+#[derive(Debug, Drop)]
+pub enum Refused {
+    /// The error as a certificate.
+    Certificate(CertificateRefusal),
+    /// The error as a list of revoked certificates.
+    CertificateList(ListRefusal),
+    /// The error as a certification request.
+    CertificationRequest(RequestRefusal),
+}
+
+impl Refused {
+    /// The offset and the reason.
+    pub fn refusal(&self) -> &Refusal<BerError>
+        ensures { result.now ≡ refusal_of self.now }
+    {
+        match self {
+            Refused::Certificate(e) => &e.refusal,
+            Refused::CertificateList(e) => &e.refusal,
+            Refused::CertificationRequest(e) => &e.refusal,
+        }
+    }
+
+    /// The number of octets before the element that is refused.
+    pub fn offset(&self) -> usize
+        ensures { result ≡ offset_of self.now }
+    {
+        match self {
+            Refused::Certificate(e) => e.refusal.offset,
+            Refused::CertificateList(e) => e.refusal.offset,
+            Refused::CertificationRequest(e) => e.refusal.offset,
+        }
+    }
+
+    /// The name of the type that the reader reads, in the document that defines it.
+    pub(crate) fn type_name(&self) -> &'static str
+        ensures { result.now ≡ type_name self.now }
+    {
+        match self {
+            Refused::Certificate(_) => "Certificate",
+            Refused::CertificateList(_) => "CertificateList",
+            Refused::CertificationRequest(_) => "CertificationRequest",
+        }
+    }
+
+    /// What octets are not, in words.
+    pub(crate) fn kind(&self) -> &'static str {
+        match self {
+            Refused::Certificate(_) => "certificate",
+            Refused::CertificateList(_) => "list of revoked certificates",
+            Refused::CertificationRequest(_) => "certification request",
+        }
+    }
+
+    /// Whether the refused element is where its list ends, so that there is none.
+    pub(crate) fn is_at_end(&self) -> bool
+        ensures { result ≡ is_at_end (refusal_of self.now).list_end (refusal_of self.now).offset }
+    {
+        let refusal = self.refusal();
+        match refusal.list_end {
+            Some(end) => end == refusal.offset,
+            None => false,
+        }
+    }
+
+    /// Whether the version of a certificate is refused.
+    pub(crate) fn is_version(&self) -> bool
+        ensures { IsTrue result ↔ IsVersion self.now }
+    {
+        match self {
+            Refused::Certificate(e) => e.field == Field::Version,
+            _ => false,
+        }
+    }
+
+    /// The one with the greater offset, and of two with the same offset this one.
+    pub(crate) fn or_further(self, other: Refused) -> Refused
+        ensures { result ≡ further self other }
+    {
+        if other.offset() <= self.offset() {
+            self
+        } else {
+            other
+        }
+    }
+
+    /// Writes the field that is refused.
+    pub(crate) fn write_field<W: fmt::Write>(&self, f: &mut fmt::Formatter<W>) -> fmt::Result {
+        match self {
+            Refused::Certificate(e) => write!(f, "{}", e.field),
+            Refused::CertificateList(e) => write!(f, "{}", e.field),
+            Refused::CertificationRequest(e) => write!(f, "{}", e.field),
+        }
+    }
+}
