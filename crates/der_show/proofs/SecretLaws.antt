@@ -5,7 +5,7 @@ use Rattle.std.proofs.Common.{MatchOption, codes, length, ◌+◌}
 use Rattle.std.proofs.lemmas.Bool.Decides.{nat_tests}
 use Rattle.std.proofs.lemmas.List.{length-append}
 use Rattle.std.specs.Bool.{MatchBool}
-use Rattle.std.specs.Option.{option_to_list}
+use Rattle.std.specs.Option.{is_some, option_to_list}
 use Rattle.der_base.specs.declared.rules.Rules.{Rules}
 use Rattle.der_base.specs.declared.rules.Rules.TheVariants.{Ber}
 use Rattle.der_fields.specs.Fields.{label_text}
@@ -206,14 +206,14 @@ pub shown_more : {sc : Schema} {i : List ℕ} {w w' : Walk} {n n' : Namer} {o o'
     (e : Element) (said : Option Name) (field : List ℕ) (b : Bool) (s : Secrecy) (p : HasShown sc i w n o old mid)
     → HasVisited all_extras Ber i w' (p.elements ++ visited_of e ∷ []) → HasOctets i e
     → NamesNext (root_of sc) i p.elements (visited_of e) n' said → field ≡ label_text (label_of said)
-    → IsTrue b ↔ IsSecretField sc.name.now field e.constructed → s ≡ secrecy_of o e.depth b
+    → IsTrue b ↔ IsSecretField sc.name.now field (is_some e.holds) → s ≡ secrecy_of o e.depth b
     → AddsShown s field e mid new → o' ≡ open_past s o e.depth → HasShown sc i w' n' o' old new
 shown_more {sc} {i} {o = o} {o' = o'} {old = old} {mid = mid} {new = new} e said field b s p visited octets next text t is adds after =
     let vs = p.elements in
     let v = visited_of e in
     let named : field ≡ field_of sc i vs v = text ∙ ap label_text next.name in
     let one = shown_by sc i vs e o (is_inside o e.depth) b mid new p.opened refl
-    (subst (λ f. IsTrue b ↔ IsSecretField sc.name.now f e.constructed) named t) octets
+    (subst (λ f. IsTrue b ↔ IsSecretField sc.name.now f (is_some e.holds)) named t) octets
     (subst (λ f. AddsShown (secrecy_of o e.depth b) f e mid new) named (subst (λ x. AddsShown x field e mid new) is adds)) in
     record {
       elements = vs ++ v ∷ [];

@@ -1,5 +1,5 @@
 -- Fields whose values aren't shown.
-use Rattle.std.specs.Prelude.{◌≡◌, ◌⊎◌, ℕ, ◌<◌, Bool, true, false, List, ◌∷◌, [], ◌++◌, codes}
+use Rattle.std.specs.Prelude.{◌≡◌, ◌⊎◌, ℕ, ◌<◌, Bool, false, is_some, List, ◌∷◌, [], ◌++◌, codes}
 use Rattle.der_fields.specs.Fields.{label_after, label_text}
 use Rattle.der_print.specs.Lines.{front_text}
 use Rattle.der_schema.specs.declared.schema.Schema.{Schema}
@@ -18,18 +18,18 @@ abbrev pub IsSecretName : List ℕ → Type 0
 IsSecretName name = (name ≡ codes "privateKey") ⊎ (name ≡ codes "curvePrivateKey") ⊎ (name ≡ codes "dsaPrivateKey")
     ⊎ (name ≡ codes "secretValue") ⊎ IsSecretNumber name
 
--- An element of a type is secret: it is such a field. In a store of keys (RFC 7292) content in pieces is too, since
--- a piece may be one of a private key.
+-- An element of a type is secret: it is such a field. In a store of keys (RFC 7292) content whose elements aren't
+-- visited is too, as that in pieces, since there may be a private key in it.
 abbrev pub IsSecretField : List ℕ → List ℕ → Bool → Type 0
-IsSecretField type field constructed =
-    IsSecretName field ⊎ ((type ≡ codes "PFX") × (field ≡ codes "data") × (constructed ≡ true))
+IsSecretField type field entered =
+    IsSecretName field ⊎ ((type ≡ codes "PFX") × (field ≡ codes "data") × (entered ≡ false))
 
 -- the name of the field that an element after others of an input is
 abbrev pub field_of : Schema → List ℕ → List Visited → Visited → List ℕ
 field_of sc i before v = label_text (label_after (root_of sc) i before v)
 
 abbrev pub IsSecret : Schema → List ℕ → List Visited → Visited → Type 0
-IsSecret sc i before v = IsSecretField sc.name.now (field_of sc i before v) v.constructed
+IsSecret sc i before v = IsSecretField sc.name.now (field_of sc i before v) (is_some v.holds)
 
 -- after these elements of an input a secret one, with so many elements around it, goes on: it is the last, or it went
 -- on before the last, which is in it

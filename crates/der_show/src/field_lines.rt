@@ -48,7 +48,7 @@ pub(crate) fn with_lines(
         match walk.next_element() {
             Ok(Some(element)) => {
                 let field = text_of(namer.name_of(&element));
-                let is_secret = is_secret(schema.name, field, element.constructed);
+                let is_secret = is_secret(schema.name, field, element.holds.is_some());
                 let secrecy = Secrecy::of(secret, element.depth, is_secret);
                 room = add_line(&mut text, room, &element, field, secrecy)?;
                 secret = secrecy.open_past(secret, element.depth);

@@ -52,11 +52,11 @@ fn is_inside(outer: Option<usize>, depth: usize) -> bool
 }
 
 /// Whether an element of a type is secret: it is a field that holds a secret, or in a store of keys (RFC 7292) content
-/// in pieces, since a piece may be one of a private key.
-pub(crate) fn is_secret(type_name: &str, field: &str, constructed: bool) -> bool
-    ensures { IsTrue result ↔ IsSecretField type_name.now field.now constructed }
+/// whose elements aren't visited, as that in pieces, since there may be a private key in it.
+pub(crate) fn is_secret(type_name: &str, field: &str, is_entered: bool) -> bool
+    ensures { IsTrue result ↔ IsSecretField type_name.now field.now is_entered }
 {
-    is_secret_name(field) || (type_name == "PFX" && field == "data" && constructed)
+    is_secret_name(field) || (type_name == "PFX" && field == "data" && !is_entered)
 }
 
 /// Whether a field with this name holds a secret: a private key (RFC 5958 2, RFC 5915 3, RFC 8410 7), one in a store

@@ -1,8 +1,9 @@
-use Rattle.std.proofs.Common.{true, false}
+use Rattle.std.proofs.Common.{◌↔◌, IsTrue, false, subst, true}
 use Rattle.der_base.specs.declared.rules.Rules.TheVariants.{Ber}
 use Rattle.der_schema.specs.Known.{all_extras}
 use Rattle.der_schema.specs.Meaning.{root_of}
 use Rattle.der_schema.proofs.OfType.{no_elements}
+use Rattle.der_show.specs.Secrets.{IsSecretField}
 use Rattle.der_show.proofs.SecretLaws.{shown_more, shown_none}
 use Rattle.der_show.proofs.field_lines.with_lines.Goals as goal
 
@@ -20,9 +21,11 @@ elements-preserved c =
     let next = rw c.in-Ok-Some.field-0-is
     at (c.in-Ok-Some.ensures.visits all_extras Ber i p.elements p.visited) in
     let named = c.name_of.ensures (root_of c.args.schema) i p.elements p.named next.3 in
+    let is_secret = subst (λ z. IsTrue c.is_secret-is_secret.result
+    ↔ IsSecretField c.args.schema.name.now c.text_of-field.result.now z) c.is_some.ensures c.is_secret-is_secret.ensures in
     record {
       so = shown_more c.in-Ok-Some.element c.name_of.result c.text_of-field.result.now c.is_secret-is_secret.result
-          c.of-secrecy.result p next.0 next.1 named c.text_of-field.ensures c.is_secret-is_secret.ensures
+          c.of-secrecy.result p next.0 next.1 named c.text_of-field.ensures is_secret
           c.of-secrecy.ensures c.in_ok-room-in-Ok-Some.ensures c.open_past-secret.ensures;
     }
 
