@@ -12,9 +12,10 @@ ghost use Rattle.der_walk.specs.Walked.{visited_of};
 
 use der_base::header::{Class, Tag};
 use der_base::integer::read_i64;
+use der_base::rules::Rules;
 use der_base::time::read_time;
 use der_print::{Arcs, Hex, Limit, Moment, Real, Unquoted, is_quoted_type, octets_or_none};
-use der_values::to_decimal;
+use der_values::{read_bool, to_decimal};
 use der_walk::Element;
 use serde_json::Value;
 use std::alloc::{AllocError, Global};
@@ -55,13 +56,13 @@ fn universal_value(alloc: Global, number: u32, octets: &[u8]) -> Result<Value, A
     }
 }
 
-/// Whether octets are those of FALSE.
+/// Whether octets are those of FALSE. By BER a BOOLEAN may have any octet, and one of another length is shown as true.
 fn is_false(octets: &[u8]) -> bool
     ensures { result ≡ is_false octets.now }
 {
-    match octets {
-        [octet] => *octet == 0,
-        _ => false,
+    match read_bool(Rules::Ber, octets) {
+        Ok(truth) => !truth,
+        Err(_) => false,
     }
 }
 
