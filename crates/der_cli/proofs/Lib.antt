@@ -2,6 +2,7 @@ pub mod Choosing
 pub mod Collecting
 pub mod Fielding
 pub mod Looking
+pub mod NamePaths
 pub mod Octets
 pub mod Printing
 pub mod Refusing

@@ -87,17 +87,17 @@ one_more kind.Json s style i us vs e field text mid new octets same lines l = re
 pub record HasPrinted (k : Lines) (o : Options) (i : List ℕ) (w : Walk) (l : Listing) (f : Fields) (old new : Option (List ℕ)) : Type 0 where
   pub elements : List Visited
   pub visited : HasVisited (extras_of o) o.rules i w elements
-  pub listed : List Listed
-  pub chosen : HasChosen o l elements listed
   pub schema : Option Schema
   pub named_by : IsNamedBy o.naming o.rules i schema
   pub named : HasNamedBy schema i elements f
+  pub listed : List Listed
+  pub chosen : HasChosen schema i o l elements listed
   pub text : List ℕ
   pub lines : AreLinesOf k schema o.style i listed text
   pub adds : Appends old new text
 
 pub printed_none : {o : Options} {i : List ℕ} {w : Walk} {l : Listing} {f : Fields} (k : Lines) (s : Option Schema) (old : Option (List ℕ))
-    → HasVisited (extras_of o) o.rules i w [] → HasChosen o l [] [] → IsNamedBy o.naming o.rules i s → HasNamedBy s i [] f
+    → HasVisited (extras_of o) o.rules i w [] → HasChosen s i o l [] [] → IsNamedBy o.naming o.rules i s → HasNamedBy s i [] f
     → HasPrinted k o i w l f old old
 printed_none k s old v h by n = record {
   elements = [];
@@ -116,8 +116,8 @@ pub printed_more : {o : Options} {i : List ℕ} {w w' : Walk} {l l' : Listing} {
     (taken : Bool) (field : List ℕ) (p : HasPrinted k o i w l f old mid)
     → HasVisited (extras_of o) o.rules i w' (p.elements ++ visited_of e ∷ []) → HasOctets i e
     → HasNamedBy p.schema i (p.elements ++ visited_of e ∷ []) f' → field ≡ field_in p.schema i p.elements (visited_of e)
-    → MatchBool taken (HasChosen o l' (p.elements ++ visited_of e ∷ []) (p.listed ++ listed_after p.elements (visited_of e) ∷ []))
-    (HasChosen o l' (p.elements ++ visited_of e ∷ []) p.listed)
+    → MatchBool taken (HasChosen p.schema i o l' (p.elements ++ visited_of e ∷ []) (p.listed ++ listed_after p.elements (visited_of e) ∷ []))
+    (HasChosen p.schema i o l' (p.elements ++ visited_of e ∷ []) p.listed)
     → MatchBool taken (AddsLineOf k field o.style (visited_of e) (content_of e) mid new) (new ≡ mid) → HasPrinted k o i w' l' f' old new
 printed_more {o = o} {i = i} {old = old} {mid = mid} {new = new} k e true field p visited octets named same chosen l =
     let m = one_more k p.schema o.style i p.listed p.elements e field p.text mid new octets same p.lines l in

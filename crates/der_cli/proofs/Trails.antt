@@ -3,7 +3,7 @@ use Rattle.std.proofs.Common.{◌≡◌, ◌∙◌, List, [], ◌∷◌, ◌++�
 use Rattle.der_walk.specs.declared.path.Step.{Step}
 use Rattle.der_walk.specs.Visits.{Visited}
 use Rattle.der_walk.specs.Walked.{index_in}
-use Rattle.der_cli.specs.Places.{path_from, path_of, step_at}
+use Rattle.der_cli.specs.Paths.{path_from, path_of, step_at}
 
 abbrev one_more : List Visited → List Step → Visited → List Step
 one_more before path v = take v.depth path ++ step_at (index_in v.depth before) v ∷ []

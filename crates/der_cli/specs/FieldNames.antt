@@ -1,6 +1,8 @@
 -- How far the fields of a walk are named.
-use Rattle.std.specs.Prelude.{◌≡◌, ℕ, Option, Some, None, List}
+use Rattle.std.specs.Prelude.{◌≡◌, ℕ, Option, Some, None, List, map}
 use Rattle.der_cli.specs.declared.fields.Fields.{Fields}
+use Rattle.der_cli.specs.Paths.{labelled, labels_of}
+use Rattle.der_schema.specs.declared.name_path.NameStep.{NameStep}
 use Rattle.der_schema.specs.declared.namer.Namer.{Namer}
 use Rattle.der_schema.specs.declared.schema.Schema.{Schema}
 use Rattle.der_schema.specs.Meaning.{root_of}
@@ -14,5 +16,11 @@ HasNamedSo None (Some n) i vs = ⊥
 HasNamedSo (Some schema) None i vs = ⊥
 HasNamedSo (Some schema) (Some n) i vs = HasNamed (root_of schema) i vs n
 
-abbrev pub HasNamedBy : Option Schema → List ℕ → List Visited → Fields → Type 0
-HasNamedBy s i vs f = HasNamedSo s f.namer i vs
+-- these are the steps of the path to the last of them, where there is a type
+abbrev pub HasStepsSo : Option Schema → List ℕ → List Visited → List NameStep → Type 0
+HasStepsSo None i vs steps = Unit {0}
+HasStepsSo (Some schema) i vs steps = map labelled steps ≡ labels_of (root_of schema) i vs
+
+pub record HasNamedBy (s : Option Schema) (i : List ℕ) (vs : List Visited) (f : Fields) : Type 0 where
+  pub named : HasNamedSo s f.namer i vs
+  pub steps : HasStepsSo s i vs f.path.steps.items

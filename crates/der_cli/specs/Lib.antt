@@ -7,6 +7,7 @@ pub mod Labels
 pub mod Namings
 pub mod Outputs
 pub mod Parts
+pub mod Paths
 pub mod Pem
 pub mod Places
 pub mod Shown

@@ -1,6 +1,8 @@
 -- By which type the elements of an input are named, and whether the input is of it.
-use Rattle.std.specs.Prelude.{◌≡◌, ℕ, Option, Some, None, List, []}
+use Rattle.std.specs.Prelude.{◌≡◌, ℕ, Bool, true, false, Option, Some, None, List, [], ◌∷◌}
 use Rattle.der_base.specs.declared.rules.Rules.{Rules}
+use Rattle.der_cli.specs.declared.options.Action.{Action}
+use Rattle.der_cli.specs.declared.options.Action.TheVariants.{Tree, Check, Json, Canon, Get, Show}
 use Rattle.der_cli.specs.declared.options.Naming.{Naming}
 use Rattle.der_cli.specs.declared.options.Naming.TheVariants.{Unnamed, ByFirst, By}
 use Rattle.der_fields.specs.Fields.{label_after, label_text}
@@ -37,6 +39,20 @@ IsAsAsked (By schema) r i = IsOfType (root_of schema) r i
 abbrev pub field_in : Option Schema → List ℕ → List Visited → Visited → List ℕ
 field_in None i before v = []
 field_in (Some schema) i before v = label_text (label_after (root_of schema) i before v)
+
+-- a name that is a member of JSON: none if it is empty
+abbrev pub field_member : List ℕ → Option (List ℕ)
+field_member [] = None
+field_member (b ∷ bs) = Some (b ∷ bs)
+
+-- an action names elements, by the first known type that an input is of if nothing else is said
+abbrev pub names_elements : Action → Bool
+names_elements Tree = true
+names_elements Check = false
+names_elements Json = true
+names_elements Canon = false
+names_elements Get = true
+names_elements Show = false
 
 -- the naming by the known type with a name
 abbrev pub by_type : Option Schema → Option Naming

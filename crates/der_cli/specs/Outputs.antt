@@ -67,12 +67,12 @@ AddsLineOf kind.Json field style v w old new = AddsJson old new
 pub record WritesLines (k : Lines) (o : Options) (i : List ℕ) (old new : Option (List ℕ)) : Type 0 where
   pub elements : List Visited
   pub visits : Visits (extras_of o) o.rules 101 0 0 i elements
-  pub listed : List Listed
-  pub are_listed : AreListed o elements listed
-  pub some : listed ≢ []
   pub as_asked : IsAsAsked o.naming o.rules i
   pub schema : Option Schema
   pub named_by : IsNamedBy o.naming o.rules i schema
+  pub listed : List Listed
+  pub are_listed : AreListed schema i o elements listed
+  pub some : listed ≢ []
   pub text : List ℕ
   pub lines : AreLinesOf k schema o.style i listed text
   pub adds : Appends old new text
@@ -100,13 +100,16 @@ pub record WritesNothing (o : Options) (i : List ℕ) (old new : Option (List �
 abbrev pub VisitsFirst : Options → List ℕ → List Visited → Type 0
 VisitsFirst o i vs = (w : Walk) × HasVisited (extras_of o) o.rules i w vs
 
--- known octets grew by those of the first element at the place
+-- known octets grew by those of the first element at the place; the input is of the type that is asked for, if one is
 pub record WritesPart (o : Options) (i : List ℕ) (old new : Option (List ℕ)) : Type 0 where
+  pub as_asked : IsAsAsked o.naming o.rules i
+  pub schema : Option Schema
+  pub named_by : IsNamedBy o.naming o.rules i schema
   pub before : List Visited
   pub element : Visited
   pub visits : VisitsFirst o i (before ++ element ∷ [])
-  pub not_asked : AreNotAsked o.place before
-  pub asked : IsAsked o.place before element
+  pub not_asked : AreNotAsked schema i o.place before
+  pub asked : IsAsked schema i o.place before element
   pub writes : AreWrittenOf o i element old new
 
 -- what an action writes of octets
@@ -142,20 +145,26 @@ pub record RefusesLines (k : Lines) (o : Options) (i : List ℕ) (old new : Opti
   pub elements : List Visited
   pub listed : List Listed
   pub ends : EndsAfter o i elements listed
-  pub are_listed : AreListed o elements listed
   pub schema : Option Schema
   pub named_by : IsNamedBy o.naming o.rules i schema
+  pub are_listed : AreListed schema i o elements listed
   pub text : List ℕ
   pub lines : AreLinesOf k schema o.style i listed text
   pub adds : Appends old new text
 
--- Nothing is written: no element is at the place, before octets that are refused or in all. Or the first one there has
--- no octets.
+-- octets are refused after these elements, or these are all
+abbrev pub HasNoMore : Options → List ℕ → List Visited → Type 0
+HasNoMore o i vs = IsRefusedAfter o i vs ⊎ Visits (extras_of o) o.rules 101 0 0 i vs
+
+-- Nothing is written: the input isn't of the type that is asked for. Or no element is at the place, before octets that
+-- are refused or in all. Or the first one there has no octets.
 pub data RefusesPart (o : Options) (i : List ℕ) (old new : Option (List ℕ)) : Type 0 where
-  no_element : (vs : List Visited) → AreNotAsked o.place vs → EndsAfter o i vs [] → new ≡ old
-      → RefusesPart o i old new
-  no_octets : (vs : List Visited) (v : Visited) → VisitsFirst o i (vs ++ v ∷ []) → AreNotAsked o.place vs
-      → IsAsked o.place vs v → ((w : List ℕ) → ¬ AreOctetsOf i v w) → new ≡ old → RefusesPart o i old new
+  other_type : ¬ IsAsAsked o.naming o.rules i → new ≡ old → RefusesPart o i old new
+  no_element : (s : Option Schema) (vs : List Visited) → IsNamedBy o.naming o.rules i s → AreNotAsked s i o.place vs
+      → HasNoMore o i vs → new ≡ old → RefusesPart o i old new
+  no_octets : (s : Option Schema) (vs : List Visited) (v : Visited) → IsNamedBy o.naming o.rules i s
+      → VisitsFirst o i (vs ++ v ∷ []) → AreNotAsked s i o.place vs → IsAsked s i o.place vs v
+      → ((w : List ℕ) → ¬ AreOctetsOf i v w) → new ≡ old → RefusesPart o i old new
 
 -- octets aren't elements by BER, or one of these has no form in DER, and nothing is written
 abbrev pub RefusesDer : List ℕ → Option (List ℕ) → Option (List ℕ) → Type 0

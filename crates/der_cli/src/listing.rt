@@ -1,10 +1,13 @@
 //! Which elements are listed.
-ghost use Rattle.std.specs.Prelude.{◌≡◌, ◌||◌, ◌∷◌, ◌++◌, IfOk, List, MatchBool, [], false};
-ghost use Rattle.der_cli.specs.Places.{around_after, is_listed};
+ghost use Rattle.std.specs.Prelude.{◌≡◌, ◌||◌, ◌∷◌, ◌++◌, IfOk, List, MatchBool, Option, [], false, ℕ};
+ghost use Rattle.der_cli.specs.Places.{around_after, is_listed, still_around};
 ghost use Rattle.der_cli.specs.Choices.{HasChosen, Listed, listed_after};
+ghost use Rattle.der_cli.specs.FieldNames.{HasNamedBy};
+ghost use Rattle.der_schema.specs.declared.schema.Schema.{Schema};
 ghost use Rattle.der_walk.specs.Visits.{Visited};
 ghost use Rattle.der_walk.specs.Walked.{index_in, visited_of};
 
+use crate::fields::Fields;
 use crate::options::Options;
 use crate::place::{Place, is_asked};
 use crate::trail::Trail;
@@ -16,7 +19,7 @@ use std::alloc::{AllocError, Global};
 pub(crate) struct Listing<'a> {
     place: Option<Place<'a>>,
     depth: Option<usize>,
-    /// How many elements are around the one at the place, while the walk is inside it.
+    /// How many elements are around the outermost one at the place, while the walk is inside it.
     around: Option<usize>,
     /// Whether an element was listed.
     has_some: bool,
@@ -27,7 +30,7 @@ pub(crate) struct Listing<'a> {
 impl<'a> Listing<'a> {
     /// Before a walk.
     pub(crate) fn new(alloc: Global, options: &Options<'a>) -> Listing<'a>
-        ensures { HasChosen options.now result [] [] }
+        ensures { (s : Option Schema) (i : List ℕ) → HasChosen s i options.now result [] [] }
     {
         Listing {
             place: options.place,
@@ -38,16 +41,22 @@ impl<'a> Listing<'a> {
         }
     }
 
-    /// Whether the element is listed that is visited next.
-    pub(crate) fn takes(&mut self, alloc: Global, element: &Element<'_>) -> Result<bool, AllocError>
-        ensures { (o : Options) (vs : List Visited) (us : List Listed) → HasChosen o self.old vs us
-            → element.now.index ≡ index_in element.now.depth vs
-            → let v = visited_of element.now in IfOk result (λ taken. MatchBool taken
-            (HasChosen o self.new (vs ++ v ∷ []) (us ++ listed_after vs v ∷ []))
-            (HasChosen o self.new (vs ++ v ∷ []) us)) }
+    /// Whether the element is listed that is visited next. The fields are those after it is named.
+    pub(crate) fn takes(
+        &mut self,
+        alloc: Global,
+        element: &Element<'_>,
+        fields: &Fields<'_>,
+    ) -> Result<bool, AllocError>
+        ensures { (s : Option Schema) (i : List ℕ) (o : Options) (vs : List Visited) (us : List Listed)
+            → HasChosen s i o self.old vs us → element.now.index ≡ index_in element.now.depth vs
+            → let v = visited_of element.now in HasNamedBy s i (vs ++ v ∷ []) fields.now
+            → IfOk result (λ taken. MatchBool taken
+            (HasChosen s i o self.new (vs ++ v ∷ []) (us ++ listed_after vs v ∷ []))
+            (HasChosen s i o self.new (vs ++ v ∷ []) us)) }
     {
         self.trail.enter(element)?;
-        let asked = is_asked(alloc, self.place, element, &self.trail)?;
+        let asked = is_asked(alloc, self.place, element, &self.trail, fields)?;
         self.around = around_after(self.around, asked, element.depth);
         let taken = is_listed(self.around, self.depth, element.depth);
         self.has_some = either(self.has_some, taken);
@@ -62,13 +71,21 @@ impl<'a> Listing<'a> {
     }
 }
 
-/// How many elements are around the one at the place, while the walk is inside it.
+/// How many elements are around the outermost one at the place, while the walk is inside it.
 fn around_after(around: Option<usize>, asked: bool, depth: usize) -> Option<usize>
     ensures { result ≡ around_after around asked depth }
 {
-    if asked {
-        return Some(depth);
+    match still_around(around, depth) {
+        Some(before) => Some(before),
+        None if asked => Some(depth),
+        None => None,
     }
+}
+
+/// How many elements are around the one that the walk is still inside, before an element with this depth.
+fn still_around(around: Option<usize>, depth: usize) -> Option<usize>
+    ensures { result ≡ still_around around depth }
+{
     match around {
         Some(before) if before < depth => Some(before),
         _ => None,

@@ -1,6 +1,7 @@
 //! By which type the elements of an input are named.
-ghost use Rattle.std.specs.Prelude.{◌≡◌, ◌≢◌, ◌↔◌, ◌⊎◌, IsTrue, Some, codes, false};
-ghost use Rattle.der_cli.specs.Namings.{IsAsAsked, IsByName, IsNamedBy};
+ghost use Rattle.std.specs.Prelude.{◌≡◌, ◌≢◌, ◌↔◌, ◌⊎◌, IsTrue, Some, codes, false, true};
+ghost use Rattle.std.specs.Prelude.{if◌then◌else◌};
+ghost use Rattle.der_cli.specs.Namings.{IsAsAsked, IsByName, IsNamedBy, names_elements};
 ghost use Rattle.der_cli.specs.declared.options.Action.{Action};
 ghost use Rattle.der_cli.specs.declared.options.Naming.{Naming};
 
@@ -27,28 +28,36 @@ pub(crate) fn naming_of<'a>(
     }
 }
 
-/// The naming where no word says it: that of a tree is by the first known type that the input is of.
+/// The naming where no word says it: by the first known type that the input is of, if the action names elements.
 fn naming_unsaid<'a>(action: Action, types: &'a KnownTypes) -> Naming<'a>
-    ensures tree { action ≡ Action.Tree → result ≡ Naming.ByFirst types.entry }
-    ensures others { action ≢ Action.Tree → result ≡ Naming.Unnamed }
+    ensures { result ≡ (if names_elements action then Naming.ByFirst types.entry else Naming.Unnamed) }
 {
-    if action == Action::Tree {
+    if names_elements(action) {
         return Naming::ByFirst(types);
     }
     Naming::Unnamed
 }
 
-/// The naming that a word says. None if no type has it as its name. `auto` and `none` are words of a tree alone.
+/// Whether an action names elements. A check only asks for a type.
+fn names_elements(action: Action) -> bool
+    ensures { result ≡ names_elements action }
+{
+    matches!(action, Action::Tree | Action::Json | Action::Get)
+}
+
+/// The naming that a word says. None if no type has it as its name. `auto` and `none` are words of actions that name
+/// elements.
 fn naming_said<'a>(action: Action, word: &str, types: &'a KnownTypes) -> Option<Naming<'a>>
-    ensures auto { action ≡ Action.Tree → word.now ≡ codes "auto" → result ≡ Some (Naming.ByFirst types.entry) }
-    ensures none { action ≡ Action.Tree → word.now ≡ codes "none" → result ≡ Some Naming.Unnamed }
-    ensures named { (action ≢ Action.Tree) ⊎ ((word.now ≢ codes "auto") × (word.now ≢ codes "none"))
+    ensures auto { names_elements action ≡ true → word.now ≡ codes "auto"
+        → result ≡ Some (Naming.ByFirst types.entry) }
+    ensures none { names_elements action ≡ true → word.now ≡ codes "none" → result ≡ Some Naming.Unnamed }
+    ensures named { (names_elements action ≡ false) ⊎ ((word.now ≢ codes "auto") × (word.now ≢ codes "none"))
         → IsByName types.now word.now result }
 {
-    if action == Action::Tree && word == AUTO {
+    if names_elements(action) && word == AUTO {
         return Some(Naming::ByFirst(types));
     }
-    if action == Action::Tree && word == NONE {
+    if names_elements(action) && word == NONE {
         return Some(Naming::Unnamed);
     }
     naming_by(types, word)

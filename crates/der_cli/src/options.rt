@@ -45,8 +45,7 @@ pub struct Options<'a> {
     /// How the inputs are written. None if each is looked at.
     pub form: Option<Form>,
     pub style: Style,
-    /// By which type the elements of a tree are named, and of which the input of a tree, of JSON or of a check has to
-    /// be.
+    /// By which type elements are named, and of which an input has to be.
     pub naming: Naming<'a>,
     /// Where the element is that is listed or written. None for the outermost elements.
     pub place: Option<Place<'a>>,

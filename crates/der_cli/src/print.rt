@@ -12,7 +12,7 @@ use crate::naming::schema_of;
 use crate::options::Options;
 use crate::origin::Origin;
 use crate::report::{report_end, report_refusal};
-use crate::source::source_of;
+use crate::source::{Names, source_of};
 use der_json::{Paths, write_json};
 use der_print::{Room, Style, write_field_line};
 use der_walk::{Element, Walk};
@@ -55,9 +55,9 @@ struct Kept {
     paths: Paths,
 }
 
-/// Writes a line for each element of octets that is listed, in a tree with the name of its field, and reports on `err`
-/// why they are refused. Returns whether they were elements to their end, one is listed, and they are of the type that
-/// is asked for, if one is.
+/// Writes a line for each element of octets that is listed, with the name of its field, and reports on `err` why they
+/// are refused. Returns whether they were elements to their end, one is listed, and they are of the type that is asked
+/// for, if one is.
 pub(crate) fn print_lines<W: Write, X: Write>(
     alloc: Global,
     options: &Options<'_>,
@@ -85,9 +85,9 @@ pub(crate) fn print_lines<W: Write, X: Write>(
         match walk.next_element() {
             Ok(Some(element)) => {
                 let field = fields.name_of(&element);
-                let is_listed = listing.takes(alloc, &element)?;
+                let is_listed = listing.takes(alloc, &element, &fields)?;
                 let visit = Visit { is_listed, field };
-                kept = pass(alloc, options, printed, visit, kept, &element, out)?;
+                kept = pass(alloc, options, printed, visit, &fields, kept, &element, out)?;
             }
             Ok(None) => return report_end(options, origin, octets, &listing, out, err),
             Err(refusal) => return report_refusal(origin, &walk, &refusal, out, err),
@@ -111,6 +111,7 @@ fn pass<W: Write>(
     options: &Options<'_>,
     printed: Printed<'_>,
     visit: Visit,
+    fields: &Fields<'_>,
     kept: Kept,
     element: &Element<'_>,
     out: &mut W,
@@ -122,7 +123,7 @@ fn pass<W: Write>(
 {
     match printed.lines {
         Lines::Tree => pass_in_tree(options.style, visit, kept, element, out),
-        Lines::Json => pass_in_json(alloc, options, printed, visit.is_listed, kept, element, out),
+        Lines::Json => pass_in_json(alloc, options, printed, visit, fields, kept, element, out),
     }
 }
 
@@ -152,19 +153,26 @@ fn pass_in_json<W: Write>(
     alloc: Global,
     options: &Options<'_>,
     printed: Printed<'_>,
-    is_listed: bool,
+    visit: Visit,
+    fields: &Fields<'_>,
     kept: Kept,
     element: &Element<'_>,
     out: &mut W,
 ) -> io::Result<Kept>
-    ensures { OnOk result (MatchBool is_listed (AddsJson (W.contents out.old) (W.contents out.new))
+    ensures { OnOk result (MatchBool visit.is_listed (AddsJson (W.contents out.old) (W.contents out.new))
         (W.contents out.new ≡ W.contents out.old)) }
 {
     let Kept { room, paths } = kept;
     let mut paths = paths;
     paths.enter(alloc, element)?;
-    if is_listed {
-        write_object(alloc, options, printed, paths.last(), element, out)?;
+    if visit.is_listed {
+        let field_path = fields.path(alloc)?;
+        let names = Names {
+            path: paths.last(),
+            field: visit.field,
+            field_path: &field_path,
+        };
+        write_object(alloc, options, printed, names, element, out)?;
         return Ok(Kept { room, paths });
     }
     Ok(Kept { room, paths })
@@ -175,12 +183,12 @@ fn write_object<W: Write>(
     alloc: Global,
     options: &Options<'_>,
     printed: Printed<'_>,
-    path: &str,
+    names: Names<'_>,
     element: &Element<'_>,
     out: &mut W,
 ) -> io::Result<()>
     ensures { OnOk result (AddsJson (W.contents out.old) (W.contents out.new)) }
 {
-    let source = source_of(options, printed.origin, path, printed.octets, element);
+    let source = source_of(options, printed.origin, names, printed.octets, element);
     write_json(alloc, source, element, out)
 }

@@ -1,5 +1,6 @@
 //! Where an element is from, as its object of JSON says it.
-ghost use Rattle.std.specs.Prelude.{◌≡◌, Some, None, if◌then◌else◌, option_map};
+ghost use Rattle.std.specs.Prelude.{◌≡◌, Some, None, if◌then◌else◌, option_map, string_bytes};
+ghost use Rattle.der_cli.specs.Namings.{field_member};
 ghost use Rattle.der_cli.specs.Sources.{AreAskedOctets};
 ghost use Rattle.der_walk.specs.Walked.{visited_of};
 
@@ -9,11 +10,22 @@ use crate::part::octets_of;
 use der_json::Source;
 use der_walk::Element;
 
+/// What an element is called.
+#[derive(Clone, Copy)]
+pub(crate) struct Names<'a> {
+    /// The path to it, as errors print it.
+    pub path: &'a str,
+    /// The name of the field that it is. It is empty if no type has one for it.
+    pub field: &'a str,
+    /// The path to it made of names. None if the input is named by no type.
+    pub field_path: &'a Option<String>,
+}
+
 /// Where an element is from, and its octets if they are asked for.
 pub(crate) fn source_of<'a>(
     options: &Options<'_>,
     origin: Origin<'a>,
-    path: &'a str,
+    names: Names<'a>,
     octets: &'a [u8],
     element: &Element<'_>,
 ) -> Source<'a>
@@ -21,7 +33,10 @@ pub(crate) fn source_of<'a>(
         ≡ (if options.now.has_several_files then Some origin.entry.name.now else None) }
     ensures block { result.block ≡ option_map (λ b. b.number) origin.entry.block }
     ensures label { option_map (λ x. x.now) result.label ≡ option_map (λ b. b.shown.now) origin.entry.block }
-    ensures path { result.path.now ≡ path.now }
+    ensures path { result.path.now ≡ names.entry.path.now }
+    ensures field { option_map (λ x. x.now) result.field ≡ field_member names.entry.field.now }
+    ensures field_path { option_map (λ x. x.now) result.field_path
+        ≡ option_map string_bytes names.entry.field_path.now }
     ensures octets { AreAskedOctets options.now octets.now (visited_of element.now)
         (option_map (λ x. x.now) result.octets) }
 {
@@ -35,8 +50,30 @@ pub(crate) fn source_of<'a>(
         file,
         block,
         label,
-        path,
+        path: names.path,
+        field: field_member(names.field),
+        field_path: text_in(names.field_path),
         octets: asked_octets(options, octets, element),
+    }
+}
+
+/// The name of a field as a member of JSON: none if it is empty.
+fn field_member(field: &str) -> Option<&str>
+    ensures { option_map (λ x. x.now) result ≡ field_member field.now }
+{
+    if field.is_empty() {
+        return None;
+    }
+    Some(field)
+}
+
+/// The text that is there, if one is.
+fn text_in<'a>(text: &'a Option<String>) -> Option<&'a str>
+    ensures { option_map (λ x. x.now) result ≡ option_map string_bytes text.now }
+{
+    match text {
+        Some(text) => Some(text.as_str()),
+        None => None,
     }
 }
 

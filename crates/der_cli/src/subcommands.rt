@@ -49,7 +49,7 @@ pub(crate) static SUBCOMMANDS: [Subcommand; 9] = [
     Subcommand {
         name: "tree",
         about: "Print a line for each element, with its offset, lengths, type and value",
-        notes: None,
+        notes: Some(PATH_NOTES),
         arguments: &[
             DER, AS, FULL, WIDTH, DEPTH, OFFSET, PATH, NO_INSIDE, RECURSIVE, FROM, FILES,
         ],
@@ -77,14 +77,14 @@ pub(crate) static SUBCOMMANDS: [Subcommand; 9] = [
         about: "Print a line of JSON for each element",
         notes: Some(JSON_NOTES),
         arguments: &[
-            DER, OCTETS, DEPTH, OFFSET, PATH, NO_INSIDE, RECURSIVE, FROM, FILES,
+            DER, AS, OCTETS, DEPTH, OFFSET, PATH, NO_INSIDE, RECURSIVE, FROM, FILES,
         ],
     },
     Subcommand {
         name: "get",
         about: "Write the octets of an element, of the first one with the path",
-        notes: None,
-        arguments: &[CONTENT, DER, FROM, GIVEN_FILE, PLACE],
+        notes: Some(PATH_NOTES),
+        arguments: &[CONTENT, DER, AS, FROM, GIVEN_FILE, PLACE],
     },
     Subcommand {
         name: "diff",
@@ -115,7 +115,13 @@ PEM stays PEM. What depends on types that the file doesn't name stays as it is:
 the order of a SET OF, default values, strings under a tag of their own.
 What has no form in DER is an error, and nothing is written.";
 
-const JSON_NOTES: &str = "docs/der-json.schema.json says what the members are.";
+const PATH_NOTES: &str = "\
+A path has names of fields, as tbsCertificate.extensions[2].extnValue,
+or types, as SEQUENCE[0].INTEGER[1].";
+
+const JSON_NOTES: &str = "\
+docs/der-json.schema.json says what the members are: path and field_path
+are paths that --path takes.";
 
 const DIFF_NOTES: &str = "\
 Elements are paired by their path. Offsets and the octets of headers aren't compared.
@@ -286,6 +292,6 @@ const SECOND: Argument = Argument {
 const PLACE: Argument = Argument {
     name: "place",
     value: Some("PATH|@OFFSET"),
-    help: "Its path, as errors and JSON print it, or where it begins",
+    help: "Its path, or where it begins",
     ..GIVEN_FILE
 };

@@ -1,8 +1,8 @@
 //! The path to the element that a walk visited last.
-ghost use Rattle.std.specs.Prelude.{◌≡◌, ◌∷◌, ◌++◌, [], OnOk, Some, take};
+ghost use Rattle.std.specs.Prelude.{◌≡◌, ◌↔◌, ◌∷◌, ◌++◌, [], IfOk, IsTrue, OnOk, Some, take};
 ghost use Rattle.std.specs.Fmt.{DisplaysOnOk};
-ghost use Rattle.der_cli.specs.Places.{step_at};
-ghost use Rattle.der_walk.specs.Paths.{further_text};
+ghost use Rattle.der_cli.specs.Paths.{step_at};
+ghost use Rattle.der_walk.specs.Paths.{further_text, path_text};
 ghost use Rattle.der_walk.specs.Walked.{visited_of};
 
 use der_walk::{Element, Step};
@@ -33,6 +33,14 @@ impl Trail {
         self.steps.truncate(element.depth);
         self.steps.push(element.step())?;
         Ok(())
+    }
+
+    /// Whether its text is this one.
+    pub(crate) fn has_path(&self, alloc: Global, text: &str) -> Result<bool, AllocError>
+        ensures { IfOk result (λ has. IsTrue has ↔ (path_text self.now.steps.items ≡ text.now)) }
+    {
+        let path = format!(in alloc; "{self}")?;
+        Ok(path.as_str() == text)
     }
 }
 

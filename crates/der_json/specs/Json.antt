@@ -143,6 +143,8 @@ pub record IsFrom (s : Source) (o : Object) : Type 0 where
   pub block : o.block ≡ s.block
   pub label : option_map (λ x. x.now) o.label ≡ option_map (λ x. x.now) s.label
   pub path : o.path.now ≡ s.path.now
+  pub field : option_map (λ x. x.now) o.field ≡ option_map (λ x. x.now) s.field
+  pub field_path : option_map (λ x. x.now) o.field_path ≡ option_map (λ x. x.now) s.field_path
   pub octets : option_map string_bytes o.octets ≡ option_map (λ w. encode_lower w.now) s.octets
 
 -- one line of JSON for each of some elements

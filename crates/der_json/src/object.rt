@@ -27,6 +27,10 @@ pub struct Source<'a> {
     pub label: Option<&'a str>,
     /// The path to the element, as errors print it.
     pub path: &'a str,
+    /// The name of the field that the element is, if a type has one for it.
+    pub field: Option<&'a str>,
+    /// The path to the element made of the names of fields, if the input is named by a type.
+    pub field_path: Option<&'a str>,
     /// All octets of the element, if they are asked for.
     pub octets: Option<&'a [u8]>,
 }
@@ -50,6 +54,10 @@ struct Object<'a> {
     #[serde(rename = "type")]
     kind: String,
     path: &'a str,
+    #[serde(skip_serializing_if = "Option::is_none")]
+    field: Option<&'a str>,
+    #[serde(skip_serializing_if = "Option::is_none")]
+    field_path: Option<&'a str>,
     value: Value,
     #[serde(skip_serializing_if = "Option::is_none")]
     bits: Option<usize>,
@@ -119,6 +127,8 @@ fn object_of<'a>(
         constructed: element.constructed,
         kind,
         path: source.path,
+        field: source.field,
+        field_path: source.field_path,
         value,
         bits,
         time,

@@ -8,7 +8,7 @@ use Rattle.der_cli.proofs.print.print_lines.Goals as goal
 pub elements-init : goal.elements-init
 elements-init g c = record {
   printed =
-      printed_none c.args.lines _ _ (c.keeping_values-walk.ensures _ _ _ c.new.ensures) c.new-listing.ensures c.schema_of.ensures c.new-fields.ensures;
+      printed_none c.args.lines _ _ (c.keeping_values-walk.ensures _ _ _ c.new.ensures) (c.new-listing.ensures _ _) c.schema_of.ensures c.new-fields.ensures;
 }
 
 pub elements-preserved : goal.elements-preserved
@@ -17,10 +17,10 @@ elements-preserved g c =
     let o = c.args.options.now in
     let i = c.args.octets.now in
     let next = rw c.in-Ok-Some.field-0-is at (c.in-Ok-Some.ensures.visits (extras_of o) o.rules i p.elements p.visited) in
-    let named = c.name_of-field.ensures p.schema i p.elements p.named next.3 in
+    let named = c.name_of-field.ensures p.schema i p.elements p.named next.3 next.2 in
     record {
       printed =
-          printed_more c.args.lines _ _ _ p next.0 next.1 named.0 named.1 (c.in_ok-is_listed-in-Ok-Some.ensures o p.elements p.listed p.chosen next.2)
+          printed_more c.args.lines _ _ _ p next.0 next.1 named.0 named.1 (c.in_ok-is_listed-in-Ok-Some.ensures p.schema i o p.elements p.listed p.chosen next.2 named.0)
           c.in_ok-kept-in-Ok-Some.ensures;
     }
 

@@ -7,4 +7,4 @@ no_truth : {P : Type 0} → false ≡ true → P
 no_truth e = cc
 
 pub returns : goal.returns
-returns c = record { place = refl; depth = refl; lists = start; trail = c.new.ensures ∙ sym path_none; some = λ e. no_truth e; none = λ e. refl }
+returns c = λ s i. record { place = refl; depth = refl; lists = start; trail = c.new.ensures ∙ sym path_none; some = λ e. no_truth e; none = λ e. refl }

@@ -1,12 +1,12 @@
 use Rattle.std.proofs.Common.{◌≡◌}
 use Rattle.der_walk.specs.Ends.{octets_ahead}
 use Rattle.der_cli.proofs.Looking.{HasLooked}
-use Rattle.der_cli.proofs.get.write_part.Given as goal
+use Rattle.der_cli.proofs.get.write_first.Given as goal
 
 -- the element at the place wasn't visited yet, and nothing is written
 abbrev pub invariant-elements : goal.invariant-elements
 invariant-elements g l = record {
-  looked : HasLooked l.options l.octets l.walk l.trail;
+  looked : HasLooked l.options l.octets l.walk l.trail l.fields;
   same : g.W.Write.contents l.out ≡ g.W.Write.contents l.fn.out;
 }
 

@@ -6,7 +6,7 @@ use Rattle.der_cli.specs.Parts.{AreOctetsOf, AreWrittenOf}
 use Rattle.der_cli.proofs.Looking.{looked_more, looked_none}
 use Rattle.der_cli.proofs.Printing.{then_reads, then_refuses}
 use Rattle.der_cli.proofs.Trails.{path_entered}
-use Rattle.der_cli.proofs.get.write_part.Goals as goal
+use Rattle.der_cli.proofs.get.write_first.Goals as goal
 
 no_truth : {P : Type 0} {b : Bool} → b ≡ false → b ≡ true → P
 no_truth p q = cc
@@ -15,18 +15,25 @@ not_so : (b : Bool) (P : Type 0) → b ≡ false → (IsTrue b ↔ P) → ¬ P
 not_so b P e h = λ p. no_truth e (h.1 p)
 
 pub elements-init : goal.elements-init
-elements-init g c = record { looked = looked_none (c.keeping_values-walk.ensures _ _ _ c.new.ensures) c.new-trail.ensures; same = refl }
+elements-init g c = record {
+  looked = looked_none _ (c.keeping_values-walk.ensures _ _ _ c.new.ensures) c.new-trail.ensures c.schema_of.ensures c.new-fields.ensures;
+  same = refl;
+}
 
 pub elements-preserved : goal.elements-preserved
 elements-preserved g c =
     let p = c.elements.invariant.looked in
     let o = c.args.options.now in
+    let i = c.args.octets.now in
     let e = c.in-Ok-Some.element in
-    let next = rw c.in-Ok-Some.field-0-is at (c.in-Ok-Some.ensures.visits (extras_of o) o.rules c.args.octets.now p.elements p.visited) in
+    let next = rw c.in-Ok-Some.field-0-is at (c.in-Ok-Some.ensures.visits (extras_of o) o.rules i p.elements p.visited) in
     let entered = c.in_ok-enter-in-Ok-Some.ensures in
     let path = path_entered p.elements (visited_of e) c.elements.trail.steps.items c.enter.new.self.steps.items e.index p.path next.2 entered in
+    let named = (c.name_of.ensures p.schema i p.elements p.named next.3 next.2).0 in
     record {
-      looked = looked_more (visited_of e) e.index p next.0 next.2 entered (not_so _ _ c.if-asked.false (c.in_ok-asked-in-Ok-Some.ensures p.elements path));
+      looked =
+          looked_more (visited_of e) e.index p next.0 next.2 entered named
+          (not_so _ _ c.if-asked.false (c.in_ok-asked-in-Ok-Some.ensures p.schema i p.elements path named));
       same = c.elements.invariant.same;
     }
 
@@ -42,9 +49,13 @@ returns-then-asked-clause-read g c =
     let new = g.W.Write.contents c.write_octets.new.out in
     let next = rw c.in-Ok-Some.field-0-is at (c.in-Ok-Some.ensures.visits (extras_of o) o.rules i p.elements p.visited) in
     let path = path_entered p.elements v c.elements.trail.steps.items c.enter.new.self.steps.items e.index p.path next.2 c.in_ok-enter-in-Ok-Some.ensures in
-    let asked = (c.in_ok-asked-in-Ok-Some.ensures p.elements path).0 c.if-asked.true in
-    then_reads c.write_octets.result (AreWrittenOf o i v mid new) (WritesPart o i old new)
+    let named = (c.name_of.ensures p.schema i p.elements p.named next.3 next.2).0 in
+    let asked = (c.in_ok-asked-in-Ok-Some.ensures p.schema i p.elements path named).0 c.if-asked.true in
+    λ as_asked. then_reads c.write_octets.result (AreWrittenOf o i v mid new) (WritesPart o i old new)
     (λ w. record {
+      as_asked = as_asked;
+      schema = p.schema;
+      named_by = p.named_by;
       before = p.elements;
       element = v;
       visits = (_, next.0);
@@ -65,20 +76,21 @@ returns-then-asked-clause-refused g c =
     let new = g.W.Write.contents c.write_octets.new.out in
     let next = rw c.in-Ok-Some.field-0-is at (c.in-Ok-Some.ensures.visits (extras_of o) o.rules i p.elements p.visited) in
     let path = path_entered p.elements v c.elements.trail.steps.items c.enter.new.self.steps.items e.index p.path next.2 c.in_ok-enter-in-Ok-Some.ensures in
-    let asked = (c.in_ok-asked-in-Ok-Some.ensures p.elements path).0 c.if-asked.true in
+    let named = (c.name_of.ensures p.schema i p.elements p.named next.3 next.2).0 in
+    let asked = (c.in_ok-asked-in-Ok-Some.ensures p.schema i p.elements path named).0 c.if-asked.true in
     then_refuses c.write_octets.result (((w : List ℕ) → ¬ AreOctetsOf i v w) × (new ≡ mid)) (RefusesPart o i old new)
-    (λ h. no_octets p.elements v (_, next.0) p.not_asked asked h.0 (h.1 ∙ c.elements.invariant.same)) c.write_octets.ensures.refused
+    (λ h. no_octets p.schema p.elements v p.named_by (_, next.0) p.not_asked asked h.0 (h.1 ∙ c.elements.invariant.same)) c.write_octets.ensures.refused
 
 pub returns-in-Ok-None-clause-refused : goal.returns-in-Ok-None-clause-refused
 returns-in-Ok-None-clause-refused g c =
     let p = c.elements.invariant.looked in
     let o = c.args.options.now in
     let all = rw c.in-Ok-None.field-0-is at (c.in-Ok-None.ensures.visits (extras_of o) o.rules c.args.octets.now p.elements p.visited) in
-    λ none. no_element p.elements p.not_asked (inr (all, inl refl)) c.elements.invariant.same
+    λ none. no_element p.schema p.elements p.named_by p.not_asked (inr all) c.elements.invariant.same
 
 pub returns-in-Err-clause-refused : goal.returns-in-Err-clause-refused
 returns-in-Err-clause-refused g c =
     let p = c.elements.invariant.looked in
     let o = c.args.options.now in
     let refused = c.in-Err.ensures.visits (extras_of o) o.rules c.args.octets.now p.elements p.visited in
-    λ none. no_element p.elements p.not_asked (inl (_, _, refused)) c.elements.invariant.same
+    λ none. no_element p.schema p.elements p.named_by p.not_asked (inl (_, _, refused)) c.elements.invariant.same
