@@ -9,6 +9,5 @@ pub mod PlaceTexts
 pub mod Refused
 pub mod Secrets
 pub mod Shown
-pub mod Trees
 pub mod Unread
 pub mod Why
