@@ -1,3 +1,5 @@
+pub mod FilterKinds
+pub mod Filters
 pub mod Messages
 pub mod Operations
 pub mod Words

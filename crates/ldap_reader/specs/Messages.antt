@@ -2,14 +2,20 @@
 -- the limits that the RFC sets to lengths and to TRUE (5.1) aren't asked. An INTEGER is read up to 2^32-1, lists may be
 -- empty, texts are whatever their octets are, and elements after the last field of a SEQUENCE are passed over (4).
 use Rattle.std.specs.Borrow.{Bor}
-use Rattle.std.specs.Prelude.{ℕ, ℤ, pos, Bool, true, false, List, map}
+use Rattle.std.specs.Prelude.{ℕ, ℤ, pos, Bool, true, false, Option, List, map}
+use Rattle.std.specs.Option.{option_map}
 use Rattle.der_base.specs.declared.header.Class.TheVariants.{Application}
 use Rattle.der_base.specs.Numbers.{unsigned}
 use Rattle.der_cursor.specs.Formats.{As, Boolean, Choice, Content, Each, Enumerated, Field, Format, Ignored}
-use Rattle.der_cursor.specs.Formats.{Null, Number, OctetString, Others, Passed, Required, Sequence, Set, ◌⨾◌}
+use Rattle.der_cursor.specs.Formats.{Null, Number, OctetString, Optional, OptionalTagged, Others, Passed, Required}
+use Rattle.der_cursor.specs.Formats.{Sequence, Set, ◌⨾◌}
+use Rattle.ldap_reader.specs.declared.message.Attribute.{Attribute as AttributeStruct}
+use Rattle.ldap_reader.specs.declared.message.Change.{Change as ChangeStruct}
 use Rattle.ldap_reader.specs.declared.message.Content.{Content as ContentStruct}
-use Rattle.ldap_reader.specs.declared.message.Content.TheVariants.{Nothing, Name, Rename, Entry, Comparison, References}
+use Rattle.ldap_reader.specs.declared.message.Content.TheVariants.{Nothing, Name, Rename, Search, Entry, Modification}
+use Rattle.ldap_reader.specs.declared.message.Content.TheVariants.{Comparison, References}
 use Rattle.ldap_reader.specs.declared.message.Content.TheVariants.{Result as Outcome}
+use Rattle.ldap_reader.specs.declared.message.Control.{Control as ControlStruct}
 use Rattle.ldap_reader.specs.declared.message.Message.{Message as MessageStruct}
 use Rattle.ldap_reader.specs.declared.message.Operation.{Operation}
 use Rattle.ldap_reader.specs.declared.message.Operation.TheVariants.{AbandonRequest, AddRequest, BindRequest}
@@ -18,18 +24,34 @@ use Rattle.ldap_reader.specs.declared.message.Operation.TheVariants.{DelRequest,
 use Rattle.ldap_reader.specs.declared.message.Operation.TheVariants.{ModifyDNRequest, ModifyRequest, SearchRequest}
 use Rattle.ldap_reader.specs.declared.message.Operation.TheVariants.{SearchResultEntry, SearchResultReference}
 use Rattle.ldap_reader.specs.declared.message.Operation.TheVariants.{UnbindRequest}
+use Rattle.ldap_reader.specs.declared.message.Search.{Search as SearchStruct}
+use Rattle.ldap_reader.specs.Filters.{FilterField, Part, filter_of, option_now}
 use Rattle.ldap_reader.specs.Operations.{number_of}
 use Rattle.ldap_reader.specs.Words.{AnyChoice}
 
--- the names and texts of an operation
+-- a type, and its values
+abbrev pub AttributeValue : Type 0
+AttributeValue = List ℕ × List (List ℕ)
+
+-- the fields of a search, in their order
+abbrev pub SearchValue : Type 0
+SearchValue = List ℕ × (ℕ × (ℕ × (ℤ × (ℤ × (Bool × (List Part × (List (List ℕ) × Unit {0})))))))
+
+-- the identifier of a control, its criticality and its value
+abbrev pub ControlValue : Type 0
+ControlValue = List ℕ × (Option Bool × (Option (List ℕ) × Unit {0}))
+
+-- the names, texts and values of an operation
 pub data Parts : Type 0 where
   nothing : Parts
   name : List ℕ → Parts
   rename : List ℕ → List ℕ → Parts
-  entry : List ℕ → List (List ℕ) → Parts
+  search : SearchValue → Parts
+  entry : List ℕ → List AttributeValue → Parts
+  modification : List ℕ → List (ℕ × AttributeValue) → Parts
   comparison : List ℕ → List ℕ → List ℕ → Parts
   references : List (List ℕ) → Parts
-  outcome : ℕ → List ℕ → List ℕ → Parts
+  outcome : ℕ → List ℕ → List ℕ → Option (List (List ℕ)) → Parts
 
 abbrev pub Natural : Format ℤ
 Natural = Number (unsigned 32)
@@ -39,26 +61,27 @@ abbrev pub Texts : Content (List (List ℕ))
 Texts = Each (Required OctetString)
 
 -- PartialAttribute ::= SEQUENCE {                                             (4.1.7)
-abbrev pub Attribute : Format (List ℕ)
-Attribute = Sequence (As (λ v. v.0) (
+abbrev pub Attribute : Format AttributeValue
+Attribute = Sequence (As (λ v. (v.0, v.1.0)) (
     Required OctetString  -- type       AttributeDescription,
-    ⨾ (Passed (Required (Set Texts))  -- vals       SET OF value AttributeValue }
+    ⨾ (Required (Set Texts)  -- vals       SET OF value AttributeValue }
     ⨾ Others)))
 
 -- SEQUENCE {                                                                  (4.6)
-abbrev pub Change : Format (List ℕ)
-Change = Sequence (As (λ v. v.1.0) (
-    Passed (Required Enumerated)  -- operation       ENUMERATED,
+abbrev pub Change : Format (ℕ × AttributeValue)
+Change = Sequence (As (λ v. (v.0, v.1.0)) (
+    Required Enumerated  -- operation       ENUMERATED,
     ⨾ (Required Attribute  -- modification    PartialAttribute }
     ⨾ Others)))
 
 -- LDAPResult ::= SEQUENCE {                                                   (4.1.9)
 abbrev pub ResultContent : Content Parts
-ResultContent = As (λ v. outcome v.0 v.1.0 v.1.1.0) (
+ResultContent = As (λ v. outcome v.0 v.1.0 v.1.1.0 v.1.1.1.0) (
     Required Enumerated  -- resultCode         ENUMERATED,
     ⨾ (Required OctetString  -- matchedDN          LDAPDN,
-    ⨾ (Required OctetString  -- diagnosticMessage  LDAPString, .. }
-    ⨾ Others)))
+    ⨾ (Required OctetString  -- diagnosticMessage  LDAPString,
+    ⨾ (OptionalTagged 3 Texts  -- referral           [3] SEQUENCE OF uri URI OPTIONAL, .. }
+    ⨾ Others))))
 
 -- BindRequest ::= [APPLICATION 0] SEQUENCE {                                  (4.2)
 abbrev pub BindContent : Content Parts
@@ -70,14 +93,14 @@ BindContent = As (λ v. name v.1.0) (
 
 -- SearchRequest ::= [APPLICATION 3] SEQUENCE {                                (4.5.1)
 abbrev pub SearchContent : Content Parts
-SearchContent = As (λ v. entry v.0 v.1.1.1.1.1.1.1.0) (
+SearchContent = As (λ v. search v) (
     Required OctetString  -- baseObject    LDAPDN,
-    ⨾ (Passed (Required Enumerated)  -- scope         ENUMERATED,
-    ⨾ (Passed (Required Enumerated)  -- derefAliases  ENUMERATED,
-    ⨾ (Passed (Required Natural)  -- sizeLimit     INTEGER,
-    ⨾ (Passed (Required Natural)  -- timeLimit     INTEGER,
-    ⨾ (Passed (Required Boolean)  -- typesOnly     BOOLEAN,
-    ⨾ (AnyChoice  -- filter        Filter,
+    ⨾ (Required Enumerated  -- scope         ENUMERATED,
+    ⨾ (Required Enumerated  -- derefAliases  ENUMERATED,
+    ⨾ (Required Natural  -- sizeLimit     INTEGER,
+    ⨾ (Required Natural  -- timeLimit     INTEGER,
+    ⨾ (Required Boolean  -- typesOnly     BOOLEAN,
+    ⨾ (FilterField 32  -- filter        Filter,
     ⨾ (Required (Sequence Texts)  -- attributes    SEQUENCE OF selector LDAPString }
     ⨾ Others))))))))
 
@@ -95,7 +118,7 @@ ReferenceContent = As (λ v. references v) Texts
 
 -- ModifyRequest ::= [APPLICATION 6] SEQUENCE {                                (4.6)
 abbrev pub ModifyContent : Content Parts
-ModifyContent = As (λ v. entry v.0 v.1.0) (
+ModifyContent = As (λ v. modification v.0 v.1.0) (
     Required OctetString  -- object     LDAPDN,
     ⨾ (Required (Sequence (Each (Required Change)))  -- changes    SEQUENCE OF change SEQUENCE }
     ⨾ Others))
@@ -166,15 +189,24 @@ OperationValue = Operation × Parts
 abbrev pub AnyOperation : Field OperationValue
 AnyOperation = Choice ProtocolOp
 
+-- Control ::= SEQUENCE {                                                      (4.1.11)
+abbrev pub Control : Format ControlValue
+Control = Sequence (
+    Required OctetString  -- controlType   LDAPOID,
+    ⨾ (Optional Boolean  -- criticality   BOOLEAN DEFAULT FALSE,
+    ⨾ (Optional OctetString  -- controlValue  OCTET STRING OPTIONAL }
+    ⨾ Others)))
+
 abbrev pub MessageValue : Type 0
-MessageValue = ℤ × (OperationValue × Unit {0})
+MessageValue = ℤ × (OperationValue × (Option (List ControlValue) × Unit {0}))
 
 -- LDAPMessage ::= SEQUENCE {                                                  (4.1.1)
 abbrev pub MessageContent : Content MessageValue
 MessageContent =
     Required Natural  -- messageID   MessageID,
     ⨾ (AnyOperation  -- protocolOp  CHOICE { .. },
-    ⨾ Others)  -- controls    [0] Controls OPTIONAL }
+    ⨾ (OptionalTagged 0 (Each (Required Control))  -- controls    [0] SEQUENCE OF control Control OPTIONAL }
+    ⨾ Others))
 
 abbrev pub Message : Format MessageValue
 Message = Sequence MessageContent
@@ -184,14 +216,61 @@ Message = Sequence MessageContent
 abbrev pub texts_of : List (Bor (List ℕ)) → List (List ℕ)
 texts_of v = map (λ x. x.now) v
 
+abbrev pub attribute_of : AttributeStruct → AttributeValue
+attribute_of x = (x.name.now, texts_of x.values.items)
+
+abbrev pub attributes_of : List AttributeStruct → List AttributeValue
+attributes_of v = map attribute_of v
+
+abbrev pub change_of : ChangeStruct → ℕ × AttributeValue
+change_of x = (x.operation, attribute_of x.attribute)
+
+abbrev pub changes_of : List ChangeStruct → List (ℕ × AttributeValue)
+changes_of v = map change_of v
+
+abbrev pub search_of : SearchStruct → SearchValue
+search_of x = (
+  x.base.now,
+  (
+    x.scope,
+    (
+      x.aliases,
+      (
+        pos x.size_limit,
+        (
+          pos x.time_limit,
+          (
+            x.types_only,
+            (filter_of x.filter.items, (texts_of x.attributes.items, tt)),
+          ),
+        ),
+      ),
+    ),
+  ),
+)
+
+abbrev pub control_of : ControlStruct → ControlValue
+control_of x = (x.kind.now, (x.criticality, (option_now x.value, tt)))
+
+abbrev pub controls_of : List ControlStruct → List ControlValue
+controls_of v = map control_of v
+
 abbrev pub parts_of : ContentStruct → Parts
 parts_of Nothing = nothing
 parts_of (Name x) = name x.now
 parts_of (Rename x y) = rename x.now y.now
-parts_of (Entry x v) = entry x.now (texts_of v.items)
+parts_of (Search s) = search (search_of s)
+parts_of (Entry x v) = entry x.now (attributes_of v.items)
+parts_of (Modification x v) = modification x.now (changes_of v.items)
 parts_of (Comparison x y z) = comparison x.now y.now z.now
 parts_of (References v) = references (texts_of v.items)
-parts_of (Outcome n x y) = outcome n x.now y.now
+parts_of (Outcome n x y v) = outcome n x.now y.now (option_map (λ t. texts_of t.items) v)
 
 abbrev pub message_of : MessageStruct → MessageValue
-message_of m = (pos m.id, ((m.operation, parts_of m.content), tt))
+message_of m = (
+  pos m.id,
+  (
+    (m.operation, parts_of m.content),
+    (option_map (λ v. controls_of v.items) m.controls, tt),
+  ),
+)

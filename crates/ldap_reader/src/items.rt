@@ -1,9 +1,11 @@
 //! Items of lists, and fields that aren't looked into (RFC 4511 4.1).
 ghost use Rattle.der_cursor.specs.Formats.{AnyElement, Each, Never, NoMemory, OctetString, Others, Passed};
 ghost use Rattle.der_cursor.specs.Formats.{ReadsContent, ReadsField, Required, Sequence, Set};
-ghost use Rattle.ldap_reader.specs.Messages.{Attribute, Change, Texts, texts_of};
+ghost use Rattle.ldap_reader.specs.Messages.{Attribute as AttributeFormat, Change as ChangeFormat, Texts};
+ghost use Rattle.ldap_reader.specs.Messages.{attribute_of, attributes_of, change_of, changes_of, texts_of};
 ghost use Rattle.ldap_reader.specs.Words.{AnyChoice};
 
+use crate::message::{Attribute, Change};
 use der_base::error::BerError;
 use der_base::header::Class;
 use der_cursor::{Cursor, Refusal};
@@ -32,45 +34,48 @@ fn read_values<'a>(alloc: Global, list: &mut Cursor<'a>) -> Read<Vec<&'a [u8]>>
     list.open_set()?.read_all(alloc, read_text)
 }
 
-/// Reads the attributes of an entry, and returns their types.
-pub fn read_attributes<'a>(alloc: Global, list: &mut Cursor<'a>) -> Read<Vec<&'a [u8]>>
-    ensures { ReadsField (Required (Sequence (Each (Required Attribute)))) (λ x. texts_of x.items) NoMemory
+/// Reads the attributes of an entry.
+pub fn read_attributes<'a>(alloc: Global, list: &mut Cursor<'a>) -> Read<Vec<Attribute<'a>>>
+    ensures { ReadsField (Required (Sequence (Each (Required AttributeFormat)))) (λ x. attributes_of x.items) NoMemory
         list.old result list.new }
 {
     list.open_sequence()?.read_all(alloc, read_attribute)
 }
 
-/// Reads changes of an entry, and returns the types of the attributes.
-pub fn read_changes<'a>(alloc: Global, list: &mut Cursor<'a>) -> Read<Vec<&'a [u8]>>
-    ensures { ReadsField (Required (Sequence (Each (Required Change)))) (λ x. texts_of x.items) NoMemory
+/// Reads changes of an entry.
+pub fn read_changes<'a>(alloc: Global, list: &mut Cursor<'a>) -> Read<Vec<Change<'a>>>
+    ensures { ReadsField (Required (Sequence (Each (Required ChangeFormat)))) (λ x. changes_of x.items) NoMemory
         list.old result list.new }
 {
     list.open_sequence()?.read_all(alloc, read_change)
 }
 
-/// Reads an attribute, and returns its type (4.1.7). Its values are read, and aren't kept.
-fn read_attribute<'a>(alloc: Global, list: &mut Cursor<'a>) -> Read<&'a [u8]>
-    ensures { ReadsField (Required Attribute) (λ x. x.now) NoMemory list.old result list.new }
+/// Reads an attribute and its values (4.1.7).
+fn read_attribute<'a>(alloc: Global, list: &mut Cursor<'a>) -> Read<Attribute<'a>>
+    ensures { ReadsField (Required AttributeFormat) attribute_of NoMemory list.old result list.new }
 {
     let mut fields = list.open_sequence()?;
     let name = fields.octets()?;
-    read_values(alloc, &mut fields)?;
+    let values = read_values(alloc, &mut fields)?;
     pass_over(alloc, fields)?;
-    Ok(name)
+    Ok(Attribute { name, values })
 }
 
-/// Reads a change of an attribute, and returns its type (4.6).
-fn read_change<'a>(alloc: Global, list: &mut Cursor<'a>) -> Read<&'a [u8]>
-    ensures { ReadsField (Required Change) (λ x. x.now) NoMemory list.old result list.new }
+/// Reads a change of an attribute (4.6).
+fn read_change<'a>(alloc: Global, list: &mut Cursor<'a>) -> Read<Change<'a>>
+    ensures { ReadsField (Required ChangeFormat) change_of NoMemory list.old result list.new }
 {
     let mut fields = list.open_sequence()?;
-    fields.enumerated()?;
-    let name = read_attribute(alloc, &mut fields)?;
+    let operation = fields.enumerated()?;
+    let attribute = read_attribute(alloc, &mut fields)?;
     pass_over(alloc, fields)?;
-    Ok(name)
+    Ok(Change {
+        operation,
+        attribute,
+    })
 }
 
-/// Passes over a filter (4.5.1.7) or what authenticates a client (4.2), which are context-specific.
+/// Passes over what authenticates a client (4.2), which is context-specific.
 pub fn read_choice(list: &mut Cursor<'_>) -> Read<()>
     ensures { ReadsField AnyChoice (λ x. x) Never list.old result list.new }
 {

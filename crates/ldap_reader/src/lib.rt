@@ -1,10 +1,16 @@
 //! Reads messages of LDAP (RFC 4511), field by field.
 #![tactic(auto)]
 
+mod controls;
+mod filter;
+mod filter_items;
+mod filters;
 mod items;
 mod message;
 mod reader;
 mod text;
 
-pub use message::{Content, Message, Operation};
+pub use filter::{Connective, FilterPart, Piece, Place, Relation};
+pub use filters::DEEPEST_FILTER;
+pub use message::{Attribute, Change, Content, Control, Message, Operation, Search};
 pub use reader::read_message;

@@ -2,6 +2,7 @@
 ghost use Rattle.std.specs.Prelude.{◌≡◌};
 ghost use Rattle.ldap_reader.specs.Operations.{IsOperationAt, number_of};
 
+use crate::filter::FilterPart;
 use der_base::header::Tag;
 
 /// A message. Names and texts are slices of the input.
@@ -10,6 +11,18 @@ pub struct Message<'a> {
     pub id: u32,
     pub operation: Operation,
     pub content: Content<'a>,
+    /// The controls (4.1.11), if there is a field for them.
+    pub controls: Option<Vec<Control<'a>>>,
+}
+
+/// A control, by which an operation is done otherwise (4.1.11).
+#[derive(Clone, Copy, Debug)]
+pub struct Control<'a> {
+    /// The text of its identifier, as `1.2.840.113556.1.4.319`.
+    pub kind: &'a [u8],
+    /// Whether the operation isn't to be done without it. None stands for false.
+    pub criticality: Option<bool>,
+    pub value: Option<&'a [u8]>,
 }
 
 /// The operations, with the numbers of their tags. `Debug` writes the name that the RFC gives each.
@@ -38,7 +51,7 @@ pub enum Operation {
     IntermediateResponse,
 }
 
-/// The names and texts of an operation. Passwords and values aren't kept.
+/// The names, texts and values of an operation. Passwords aren't kept.
 #[derive(Debug, Drop)]
 pub enum Content<'a> {
     Nothing,
@@ -47,10 +60,17 @@ pub enum Content<'a> {
         name: &'a [u8],
         new_name: &'a [u8],
     },
-    /// An entry, or the base of a search, and the types of attributes.
+    /// A search.
+    Search(Search<'a>),
+    /// An entry that was found, or is to be added.
     Entry {
         name: &'a [u8],
-        attributes: Vec<&'a [u8]>,
+        attributes: Vec<Attribute<'a>>,
+    },
+    /// An entry, and what is to be changed of it.
+    Modification {
+        name: &'a [u8],
+        changes: Vec<Change<'a>>,
     },
     Comparison {
         name: &'a [u8],
@@ -63,7 +83,39 @@ pub enum Content<'a> {
         code: u64,
         matched_name: &'a [u8],
         diagnostic_message: &'a [u8],
+        /// Where else the operation may be done, if there is a field for it.
+        referral: Option<Vec<&'a [u8]>>,
     },
+}
+
+/// What a search asks for (4.5.1).
+#[derive(Debug, Drop)]
+pub struct Search<'a> {
+    /// The name of the entry where it begins.
+    pub base: &'a [u8],
+    pub scope: u64,
+    pub aliases: u64,
+    pub size_limit: u32,
+    pub time_limit: u32,
+    pub types_only: bool,
+    /// The parts of its filter.
+    pub filter: Vec<FilterPart<'a>>,
+    /// The attributes that it asks for.
+    pub attributes: Vec<&'a [u8]>,
+}
+
+/// An attribute and its values (4.1.7).
+#[derive(Debug, Drop)]
+pub struct Attribute<'a> {
+    pub name: &'a [u8],
+    pub values: Vec<&'a [u8]>,
+}
+
+/// A change of an attribute (4.6).
+#[derive(Debug, Drop)]
+pub struct Change<'a> {
+    pub operation: u64,
+    pub attribute: Attribute<'a>,
 }
 
 impl Operation {

@@ -7,8 +7,10 @@ ghost use Rattle.ldap_reader.specs.Messages.{Message as MessageFormat, MessageCo
 ghost use Rattle.ldap_reader.specs.Messages.{ModifyContent, ProtocolOp, ReferenceContent, RenameContent, ResultContent};
 ghost use Rattle.ldap_reader.specs.Messages.{SearchContent, list_content, message_of, nothing, parts_of};
 
+use crate::controls::{read_controls, read_referral};
+use crate::filters::read_search_filter;
 use crate::items::{pass_over, read_attributes, read_changes, read_choice, read_text, read_texts};
-use crate::message::{Content, Message, Operation};
+use crate::message::{Content, Message, Operation, Search};
 use der_base::error::BerError;
 use der_base::header::Class;
 use der_base::rules::Rules;
@@ -35,11 +37,13 @@ fn read_fields<'a>(alloc: Global, mut fields: Cursor<'a>) -> Result<Message<'a>,
 {
     let id = fields.u32().named("messageID")?;
     let (operation, content) = read_operation(alloc, &mut fields)?;
-    pass_over(alloc, fields).named("controls")?;
+    let controls = read_controls(alloc, &mut fields).named("controls")?;
+    pass_over(alloc, fields).named("extensions")?;
     Ok(Message {
         id,
         operation,
         content,
+        controls,
     })
 }
 
@@ -128,16 +132,25 @@ fn read_bind<'a>(alloc: Global, mut list: Cursor<'a>) -> Result<Content<'a>, Fie
 fn read_search<'a>(alloc: Global, mut list: Cursor<'a>) -> Result<Content<'a>, FieldRefusal>
     ensures { ReadsContent SearchContent parts_of NoMemoryIn list.entry result }
 {
-    let name = list.octets().named("baseObject")?;
-    list.enumerated().named("scope")?;
-    list.enumerated().named("derefAliases")?;
-    list.u32().named("sizeLimit")?;
-    list.u32().named("timeLimit")?;
-    list.boolean().named("typesOnly")?;
-    read_choice(&mut list).named("filter")?;
+    let base = list.octets().named("baseObject")?;
+    let scope = list.enumerated().named("scope")?;
+    let aliases = list.enumerated().named("derefAliases")?;
+    let size_limit = list.u32().named("sizeLimit")?;
+    let time_limit = list.u32().named("timeLimit")?;
+    let types_only = list.boolean().named("typesOnly")?;
+    let filter = read_search_filter(alloc, &mut list).named("filter")?;
     let attributes = read_texts(alloc, &mut list).named("attributes")?;
     pass_over(alloc, list).named("extensions")?;
-    Ok(Content::Entry { name, attributes })
+    Ok(Content::Search(Search {
+        base,
+        scope,
+        aliases,
+        size_limit,
+        time_limit,
+        types_only,
+        filter,
+        attributes,
+    }))
 }
 
 fn read_entry<'a>(alloc: Global, mut list: Cursor<'a>) -> Result<Content<'a>, FieldRefusal>
@@ -153,9 +166,9 @@ fn read_modification<'a>(alloc: Global, mut list: Cursor<'a>) -> Result<Content<
     ensures { ReadsContent ModifyContent parts_of NoMemoryIn list.entry result }
 {
     let name = list.octets().named("object")?;
-    let attributes = read_changes(alloc, &mut list).named("changes")?;
+    let changes = read_changes(alloc, &mut list).named("changes")?;
     pass_over(alloc, list).named("extensions")?;
-    Ok(Content::Entry { name, attributes })
+    Ok(Content::Modification { name, changes })
 }
 
 fn read_rename<'a>(alloc: Global, mut list: Cursor<'a>) -> Result<Content<'a>, FieldRefusal>
@@ -209,10 +222,12 @@ fn read_result<'a>(alloc: Global, mut list: Cursor<'a>) -> Result<Content<'a>, F
     let code = list.enumerated().named("resultCode")?;
     let matched_name = list.octets().named("matchedDN")?;
     let diagnostic_message = list.octets().named("diagnosticMessage")?;
+    let referral = read_referral(alloc, &mut list).named("referral")?;
     pass_over(alloc, list).named("extensions")?;
     Ok(Content::Result {
         code,
         matched_name,
         diagnostic_message,
+        referral,
     })
 }

@@ -1,5 +1,5 @@
 //! The line that describes a message.
-use crate::message::{Content, Message};
+use crate::message::{Attribute, Change, Content, Message};
 use std::fmt;
 
 impl fmt::Display for Message<'_> {
@@ -15,9 +15,17 @@ impl fmt::Display for Content<'_> {
             Content::Nothing => Ok(()),
             Content::Name(name) => write_text(f, name),
             Content::Rename { name, new_name } => write_texts(f, &[name, new_name]),
+            Content::Search(search) => {
+                write_text(f, search.base)?;
+                write_texts(f, &search.attributes)
+            }
             Content::Entry { name, attributes } => {
                 write_text(f, name)?;
-                write_texts(f, attributes)
+                write_attributes(f, attributes)
+            }
+            Content::Modification { name, changes } => {
+                write_text(f, name)?;
+                write_changes(f, changes)
             }
             Content::Comparison {
                 name,
@@ -29,12 +37,30 @@ impl fmt::Display for Content<'_> {
                 code,
                 matched_name,
                 diagnostic_message,
+                ..
             } => {
                 write!(f, " {code}")?;
                 write_texts(f, &[matched_name, diagnostic_message])
             }
         }
     }
+}
+
+fn write_attributes<W: fmt::Write>(
+    f: &mut fmt::Formatter<W>,
+    attributes: &[Attribute<'_>],
+) -> fmt::Result {
+    for attribute in attributes {
+        write_text(f, attribute.name)?;
+    }
+    Ok(())
+}
+
+fn write_changes<W: fmt::Write>(f: &mut fmt::Formatter<W>, changes: &[Change<'_>]) -> fmt::Result {
+    for change in changes {
+        write_text(f, change.attribute.name)?;
+    }
+    Ok(())
 }
 
 fn write_texts<W: fmt::Write>(f: &mut fmt::Formatter<W>, texts: &[&[u8]]) -> fmt::Result {

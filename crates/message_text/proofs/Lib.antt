@@ -1,1 +1,2 @@
+pub mod FilterTexts
 pub mod Texts

@@ -20,9 +20,16 @@ five a b c d e = simp append_assoc refl
 pub six : (a b c d e x : List ℕ) → a ++ (b ++ (c ++ (d ++ (e ++ x)))) ≡ a ++ b ++ c ++ d ++ e ++ x
 six a b c d e x = simp append_assoc refl
 
+pub seven : (a b c d e x y : List ℕ) → a ++ (b ++ (c ++ (d ++ (e ++ (x ++ y))))) ≡ a ++ b ++ c ++ d ++ e ++ x ++ y
+seven a b c d e x y = simp append_assoc refl
+
+-- two of them in one
+pub six_in_five : (a b c d e x : List ℕ) → a ++ (b ++ (c ++ ((d ++ e) ++ x))) ≡ a ++ b ++ c ++ d ++ e ++ x
+six_in_five a b c d e x = simp append_assoc refl
+
 -- the first five of them, or three, in one write
-pub five_first : (a b c d e x : List ℕ) → (a ++ (b ++ (c ++ (d ++ e)))) ++ x ≡ a ++ b ++ c ++ d ++ e ++ x
-five_first a b c d e x = simp append_assoc refl
+pub five_and_two : (a b c d e x y : List ℕ) → (a ++ (b ++ (c ++ (d ++ e)))) ++ (x ++ y) ≡ a ++ b ++ c ++ d ++ e ++ x ++ y
+five_and_two a b c d e x y = simp append_assoc refl
 
 pub five_and_three : (a b c d e x y z r : List ℕ) → (a ++ (b ++ (c ++ (d ++ e)))) ++ ((x ++ (y ++ z)) ++ r) ≡ a ++ b ++ c ++ d ++ e ++ x ++ y ++ z ++ r
 five_and_three a b c d e x y z r = simp append_assoc refl

@@ -26,6 +26,29 @@ impl fmt::Display for TextField<'_, '_> {
     }
 }
 
+/// The line of a number: its label, the number, and its name if it has one.
+#[derive(Clone, Copy)]
+pub(crate) struct NumberField<'l> {
+    pub label: &'l str,
+    pub number: u64,
+    pub name: Option<&'static str>,
+}
+
+impl fmt::Display for NumberField<'_> {
+    ghost use Rattle.std.specs.Prelude.{Some};
+    ghost use Rattle.std.specs.Option.{option_copied};
+    ghost use Rattle.message_text.specs.Words.{number_text};
+
+    ghost output = { λ x. Some (number_text x.label.now x.number (option_copied x.name)) };
+
+    fn fmt<W: fmt::Write>(&self, f: &mut fmt::Formatter<W>) -> fmt::Result {
+        let label = self.label;
+        let number = self.number;
+        let name = Name(self.name);
+        write!(f, "  {label}: {number}{name}\n")
+    }
+}
+
 /// Writes a line for each text, with this label.
 pub(crate) fn write_fields<W: fmt::Write>(
     f: &mut fmt::Formatter<W>,

@@ -1,11 +1,15 @@
 //! Messages of LDAP (RFC 4511).
 ghost use Rattle.std.specs.Prelude.{◌≡◌, Some, codes};
 ghost use Rattle.std.specs.Fmt.{DisplaysOnOk};
-ghost use Rattle.message_text.specs.Ldap.{comparison_text, operation_name, outcome_text, parts_text, rename_text};
+ghost use Rattle.message_text.specs.Ldap.{comparison_text, operation_name, outcome_text, parts_text, referral_text};
+ghost use Rattle.message_text.specs.Ldap.{rename_text};
 ghost use Rattle.message_text.specs.Words.{field_text};
 
 use crate::field::{Name, TextField, write_fields};
+use crate::ldap_control::write_controls;
+use crate::ldap_entry::{write_attributes, write_changes};
 use crate::ldap_result::result_name;
+use crate::ldap_search::write_search;
 use ldap_reader::{Content, Message, Operation};
 use std::fmt;
 
@@ -29,7 +33,8 @@ impl fmt::Display for LdapText<'_, '_> {
             f,
             "LDAP message:\n  Message: {id}\n  Operation: {operation}\n"
         )?;
-        write_content(f, &message.content)
+        write_content(f, &message.content)?;
+        write_controls(f, &message.controls)
     }
 }
 
@@ -70,9 +75,14 @@ fn write_content<W: fmt::Write>(f: &mut fmt::Formatter<W>, content: &Content<'_>
         Content::Nothing => Ok(()),
         Content::Name(name) => write_name(f, name),
         Content::Rename { name, new_name } => write_rename(f, name, new_name),
+        Content::Search(search) => write_search(f, search),
         Content::Entry { name, attributes } => {
             write_name(f, name)?;
-            write_fields(f, "Attribute", attributes.as_slice())
+            write_attributes(f, attributes.as_slice())
+        }
+        Content::Modification { name, changes } => {
+            write_name(f, name)?;
+            write_changes(f, changes.as_slice())
         }
         Content::Comparison {
             name,
@@ -84,7 +94,11 @@ fn write_content<W: fmt::Write>(f: &mut fmt::Formatter<W>, content: &Content<'_>
             code,
             matched_name,
             diagnostic_message,
-        } => write_outcome(f, *code, matched_name, diagnostic_message),
+            referral,
+        } => {
+            write_outcome(f, *code, matched_name, diagnostic_message)?;
+            write_referral(f, referral)
+        }
     }
 }
 
@@ -155,6 +169,19 @@ fn write_outcome<W: fmt::Write>(
         octets: diagnostic_message,
     };
     write!(f, "{outcome}{matched}{message}")
+}
+
+/// Writes where else an operation may be done, if that is said (4.1.10).
+fn write_referral<W: fmt::Write>(
+    f: &mut fmt::Formatter<W>,
+    referral: &Option<Vec<&[u8]>>,
+) -> fmt::Result
+    ensures { DisplaysOnOk W.Write.write_str_gives f.old result (Some (referral_text referral.now)) f.new }
+{
+    match referral {
+        Some(uris) => write_fields(f, "Referral", uris.as_slice()),
+        None => Ok(()),
+    }
 }
 
 /// The line of a result.

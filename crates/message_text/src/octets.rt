@@ -1,10 +1,13 @@
 //! Octets, and how many they are.
 ghost use Rattle.std.specs.Prelude.{◌≡◌, Some};
+ghost use Rattle.std.specs.List.{list_all};
+ghost use Rattle.std.specs.Str.{is_utf8};
 ghost use Rattle.der_print.specs.declared.style.Limit.{Limit};
+ghost use Rattle.message_text.specs.Words.{is_no_control, is_shown};
 
 use der_base::header::Tag;
 use der_print::{Hex, Limit, Quoted, is_printable_ascii};
-use std::fmt;
+use std::{fmt, str};
 
 /// A text in quotes, by UTF-8 or by its octets.
 pub(crate) fn quoted(octets: &[u8]) -> Quoted<'_>
@@ -52,6 +55,51 @@ impl fmt::Display for Octets<'_> {
         let hex = digits(octets);
         write!(f, "{hex}")
     }
+}
+
+/// Octets: a text in quotes if they are UTF-8 without control characters, else hexadecimal digits.
+#[derive(Clone, Copy)]
+pub(crate) struct Shown<'a>(pub &'a [u8]);
+
+impl fmt::Display for Shown<'_> {
+    ghost use Rattle.std.specs.Prelude.{Some};
+    ghost use Rattle.message_text.specs.Words.{shown_text};
+
+    ghost output = { λ x. Some (shown_text x.0.now) };
+
+    fn fmt<W: fmt::Write>(&self, f: &mut fmt::Formatter<W>) -> fmt::Result {
+        let octets = self.0;
+        if is_shown(octets) {
+            let text = quoted(octets);
+            return write!(f, "{text}");
+        }
+        let hex = digits(octets);
+        write!(f, "{hex}")
+    }
+}
+
+/// Whether octets are UTF-8 without control characters.
+fn is_shown(octets: &[u8]) -> bool
+    ensures { result ≡ is_shown octets.now }
+{
+    has_no_control(octets) && is_utf8(octets)
+}
+
+/// Whether octets are UTF-8.
+fn is_utf8(octets: &[u8]) -> bool
+    ensures { result ≡ is_utf8 octets.now }
+{
+    match str::from_utf8(octets) {
+        Ok(_) => true,
+        Err(_) => false,
+    }
+}
+
+/// Whether no octet is a control character of ASCII.
+fn has_no_control(octets: &[u8]) -> bool
+    ensures { result ≡ list_all is_no_control octets.now }
+{
+    octets.iter().all(|octet| *octet >= b' ' && *octet != 0x7f)
 }
 
 /// How many octets there are, as `1 octet`.

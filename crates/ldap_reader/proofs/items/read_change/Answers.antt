@@ -1,24 +1,23 @@
 use Rattle.std.proofs.Common.{refl}
 use Rattle.der_cursor.proofs.FormatLaws.{inside, value_read}
 use Rattle.der_cursor.proofs.Sequences.{after, finish_with, refused_open, start_as, stops, stops_never, stops_with}
-use Rattle.der_cursor.proofs.FieldLaws.{passed}
 use Rattle.ldap_reader.proofs.items.read_change.Goals as goal
 
 pub returns-in_err-fields : goal.returns-in_err-fields
 returns-in_err-fields c = refused_open _ _ c.in_err-fields.ensures c.from_residual.ensures.1
 
-pub returns-in_err-enumerated : goal.returns-in_err-enumerated
-returns-in_err-enumerated c = inside _ _ c.in_ok-fields.ensures (λ fresh. stops_never _ (start_as _ _ fresh)
-    (passed (value_read _ c.in_err-enumerated.ensures)) c.from_residual-in_err-enumerated.ensures.1)
+pub returns-in_err-operation : goal.returns-in_err-operation
+returns-in_err-operation c = inside _ _ c.in_ok-fields.ensures (λ fresh. stops_never _ (start_as _ _ fresh)
+    (value_read _ c.in_err-operation.ensures) c.from_residual-in_err-operation.ensures.1)
 
-pub returns-in_err-name : goal.returns-in_err-name
-returns-in_err-name c = inside _ _ c.in_ok-fields.ensures (λ fresh. stops _ (after (start_as _ _ fresh)
-    (passed (value_read _ c.in_ok-enumerated.ensures))) (c.in_err-name.ensures) c.from_residual-in_err-name.ensures.1)
+pub returns-in_err-attribute : goal.returns-in_err-attribute
+returns-in_err-attribute c = inside _ _ c.in_ok-fields.ensures (λ fresh. stops _ (after (start_as _ _ fresh) (value_read _ c.in_ok-operation.ensures))
+    (c.in_err-attribute.ensures) c.from_residual-in_err-attribute.ensures.1)
 
 pub returns-in_err-pass_over : goal.returns-in_err-pass_over
-returns-in_err-pass_over c = inside _ _ c.in_ok-fields.ensures (λ fresh. stops_with _ (after (after (start_as _ _ fresh)
-    (passed (value_read _ c.in_ok-enumerated.ensures))) (c.in_ok-name.ensures)) c.in_err-pass_over.ensures c.from_residual-in_err-pass_over.ensures.1)
+returns-in_err-pass_over c = inside _ _ c.in_ok-fields.ensures (λ fresh. stops_with _ (after (after (start_as _ _ fresh) (value_read _ c.in_ok-operation.ensures)) (c.in_ok-attribute.ensures))
+    c.in_err-pass_over.ensures c.from_residual-in_err-pass_over.ensures.1)
 
 pub returns : goal.returns
-returns c = inside _ _ c.in_ok-fields.ensures (λ fresh. finish_with (after (after (start_as _ _ fresh)
-    (passed (value_read _ c.in_ok-enumerated.ensures))) (c.in_ok-name.ensures)) c.in_ok-pass_over.ensures refl)
+returns c = inside _ _ c.in_ok-fields.ensures (λ fresh. finish_with (after (after (start_as _ _ fresh) (value_read _ c.in_ok-operation.ensures)) (c.in_ok-attribute.ensures))
+    c.in_ok-pass_over.ensures refl)

@@ -1,0 +1,14 @@
+use Rattle.std.proofs.Common.{List, ℕ, refl, sym, take}
+use Rattle.std.proofs.lemmas.Grind.{put_two}
+use Rattle.message_text.specs.LdapFilters.{assertion_text, octet_text}
+use Rattle.message_text.proofs.Texts.{each_more}
+use Rattle.message_text.proofs.ldap_filter.write_assertion.Goals as goal
+
+pub loop-octet-preserved : goal.loop-octet-preserved
+loop-octet-preserved g c = record {
+  done = λ plain.
+      let done = c.loop-octet.invariant.done plain in
+      let i = c.loop-octet.octet-index in
+      let w = c.args.octets.now in
+      put_two _ _ _ _ (assertion_text (take i w)) _ _ done (c.in_ok-write_octet.ensures done.plain refl) (sym (each_more octet_text w i _ c.loop-octet-test.true));
+}
