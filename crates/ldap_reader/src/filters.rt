@@ -123,8 +123,8 @@ fn read_filters<'a>(
 
 /// Whether a reader read no octets.
 fn is_stuck(before: Cursor<'_>, after: Cursor<'_>) -> bool
-    ensures stuck { IsTrue result → length (octets_left before) ≤ length (octets_left after) }
-    ensures goes_on { IsFalse result → length (octets_left after) < length (octets_left before) }
+    ensures stuck { IsTrue result → length (octets_left before.entry) ≤ length (octets_left after.entry) }
+    ensures goes_on { IsFalse result → length (octets_left after.entry) < length (octets_left before.entry) }
 {
     after.remaining().len() >= before.remaining().len()
 }

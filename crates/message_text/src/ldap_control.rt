@@ -36,7 +36,7 @@ fn write_each<W: fmt::Write>(f: &mut fmt::Formatter<W>, controls: &[Control<'_>]
 
 /// Writes a control.
 fn write_control<W: fmt::Write>(f: &mut fmt::Formatter<W>, control: Control<'_>) -> fmt::Result
-    ensures { DisplaysOnOk W.Write.write_str_gives f.old result (Some (control_text control)) f.new }
+    ensures { DisplaysOnOk W.Write.write_str_gives f.old result (Some (control_text control.entry)) f.new }
 {
     let kind = TextField {
         label: "Control",

@@ -114,7 +114,7 @@ fn write_extensible<W: fmt::Write>(
     flag: Option<bool>,
 ) -> fmt::Result
     ensures { DisplaysOnOk W.Write.write_str_gives f.old result
-        (Some (extensible_text rule attribute value.now flag)) f.new }
+        (Some (extensible_text rule.entry attribute.entry value.now flag)) f.new }
 {
     let attribute = NameText(attribute);
     let flag = flag_text(flag);
