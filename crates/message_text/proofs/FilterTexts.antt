@@ -1,11 +1,11 @@
 -- The first piece of a value.
-use Rattle.std.proofs.Common.{◌≡◌, ◌<◌, ◌≤◌, List, [], ◌∷◌, codes, length, slice_index, refl, arith}
+use Rattle.std.proofs.Common.{◌≡◌, ◌<◌, ◌≤◌, List, [], ◌∷◌, codes, get_or, length, refl, arith}
 use Rattle.ldap_reader.specs.declared.filter.Piece.{Piece}
 use Rattle.message_text.specs.LdapFilters.{star_before, star_unless_initial}
 
-pub first_star : (w : List Piece) → 1 ≤ length w → star_unless_initial (slice_index w 0).place ≡ star_before w
-first_star [] some = absurd (omega (arith, some))
-first_star (x ∷ w) some = refl
+pub first_star : (w : List Piece) (x : Piece) → 1 ≤ length w → star_unless_initial (get_or w 0 x).place ≡ star_before w
+first_star [] x some = absurd (omega (arith, some))
+first_star (y ∷ w) x some = refl
 
 pub no_first : (w : List Piece) → length w < 1 → codes "*" ≡ star_before w
 no_first [] none = refl

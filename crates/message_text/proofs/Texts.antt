@@ -7,6 +7,10 @@ use Rattle.std.proofs.lemmas.List.{flat_map_more, take_more}
 pub each_more : {X : Type 0} (f : X → List ℕ) (w : List X) (i : ℕ) (x : X) → i < length w → flat_map f (take (i + 1) w) ≡ flat_map f (take i w) ++ f (get_or w i x)
 each_more f w i x h = ap (flat_map f) (take_more w i x h) ∙ sym (flat_map_more f [] (take i w) (get_or w i x))
 
+-- one item more, that a loop has taken from the list
+pub item_more : {X : Type 0} (f : X → List ℕ) (w : List X) (i : ℕ) (x : X) → i < length w → x ≡ get_or w i x → flat_map f (take i w) ++ f x ≡ flat_map f (take (i + 1) w)
+item_more f w i x h is = ap (λ y. flat_map f (take i w) ++ f y) is ∙ sym (each_more f w i x h)
+
 -- texts that are grouped to the right, and to the left
 pub three : (a b c : List ℕ) → a ++ (b ++ c) ≡ a ++ b ++ c
 three a b c = simp append_assoc refl

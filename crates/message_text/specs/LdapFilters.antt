@@ -12,7 +12,7 @@ use Rattle.ldap_reader.specs.declared.filter.FilterPart.TheVariants.{Open, Close
 use Rattle.ldap_reader.specs.declared.filter.FilterPart.TheVariants.{Extensible}
 use Rattle.ldap_reader.specs.declared.filter.Piece.{Piece}
 use Rattle.ldap_reader.specs.declared.filter.Place.{Place}
-use Rattle.ldap_reader.specs.declared.filter.Place.TheVariants.{Initial, Any, Final}
+use Rattle.ldap_reader.specs.declared.filter.Place.TheVariants.{Initial, Final}
 use Rattle.ldap_reader.specs.declared.filter.Relation.{Relation}
 use Rattle.ldap_reader.specs.declared.filter.Relation.TheVariants.{Equal, GreaterOrEqual, LessOrEqual, Approximate}
 

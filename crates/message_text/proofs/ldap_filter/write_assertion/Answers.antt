@@ -1,4 +1,4 @@
-use Rattle.std.proofs.Common.{List, ℕ, refl, sym, take}
+use Rattle.std.proofs.Common.{refl, sym, take}
 use Rattle.std.proofs.lemmas.Grind.{put_two}
 use Rattle.message_text.specs.LdapFilters.{assertion_text, octet_text}
 use Rattle.message_text.proofs.Texts.{each_more}

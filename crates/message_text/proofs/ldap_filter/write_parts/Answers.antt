@@ -1,7 +1,7 @@
-use Rattle.std.proofs.Common.{List, ℕ, refl, sym, take}
+use Rattle.std.proofs.Common.{refl, take}
 use Rattle.std.proofs.lemmas.Grind.{put_two}
 use Rattle.message_text.specs.LdapFilters.{filter_text, part_text}
-use Rattle.message_text.proofs.Texts.{each_more}
+use Rattle.message_text.proofs.Texts.{item_more}
 use Rattle.message_text.proofs.ldap_filter.write_parts.Goals as goal
 
 pub loop-part-preserved : goal.loop-part-preserved
@@ -10,5 +10,5 @@ loop-part-preserved g c = record {
       let done = c.loop-part.invariant.done plain in
       let i = c.loop-part.part-index in
       let w = c.args.parts.now in
-      put_two _ _ _ _ (filter_text (take i w)) _ _ done (c.in_ok-write_part.ensures done.plain refl) (sym (each_more part_text w i _ c.loop-part-test.true));
+      put_two _ _ _ _ (filter_text (take i w)) _ _ done (c.in_ok-write_part.ensures done.plain refl) (item_more part_text w i c.part-item.result c.loop-part-test.true c.part-item.is);
 }
