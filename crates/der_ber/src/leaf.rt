@@ -6,19 +6,17 @@ ghost use Rattle.der_base.specs.Leaf.{is_list, is_mapped, is_time};
 ghost use Rattle.der_base.specs.Text.{is_text_type};
 ghost use Rattle.der_base.specs.Tree.{string, time};
 ghost use Rattle.der_object.specs.View.{content_tree};
-ghost use Rattle.der_values.specs.Kinds.{Decodes, contents, primitives};
+ghost use Rattle.der_values.specs.Kinds.{Decodes, contents, enumerated_numbers, moments, primitives};
 ghost use Rattle.der_ber.specs.Inner.BerLeaves.{ReadsLeaf};
 
 use der_base::error::BerError;
 use der_base::header::Tag;
+use der_base::integer::read_u64;
 use der_base::oid::Oid;
 use der_base::rules::Rules;
-use der_base::time::ASN1DateTime;
+use der_base::time::{ASN1DateTime, read_der_time, read_time};
 use der_object::{BerObjectContent, BitStringObject};
-use der_values::{
-    check_value, read_bits, read_bool, read_enumerated, read_integer, read_null, read_text,
-    read_value,
-};
+use der_values::{check_value, read_bits, read_bool, read_integer, read_null, read_text};
 use std::borrow::CowSlice;
 
 /// Reads the content octets of a universal type that is no list, in an element that is constructed
@@ -57,6 +55,7 @@ pub fn read_content<'a>(
 }
 
 /// The content of a constructed element. The types that aren't refused keep their octets, or have none.
+#[cold]
 #[inline(never)]
 fn read_constructed<'a>(
     rules: Rules,
@@ -121,6 +120,16 @@ fn read_bit_string(rules: Rules, octets: &[u8]) -> Result<BerObjectContent<'_>, 
     Ok(BerObjectContent::BitString(bits.unused, BitStringObject { bytes: bits.octets }))
 }
 
+/// The number of an ENUMERATED from 0 to 2^64-1, whose octets are those of an INTEGER (8.4).
+#[inline(always)]
+fn read_enumerated(rules: Rules, octets: &[u8]) -> Result<u64, BerError>
+    ensures { Decodes (λ v. v) (enumerated_numbers rules) octets.now result }
+{
+    // The reader of der_values is a call.
+    read_integer(rules, octets)?;
+    read_u64(octets)
+}
+
 /// A UTCTime or a GeneralizedTime (8.25; by DER 11.7, 11.8).
 #[inline(never)]
 fn read_time_content(
@@ -131,8 +140,30 @@ fn read_time_content(
     requires { IsTrue (is_time tag.0) }
     ensures { Decodes content_tree (primitives rules tag.0) octets.now result }
 {
-    let moment = read_value(rules, false, tag, octets)?.as_datetime()?;
-    Ok(time_content(tag, moment))
+    Ok(time_content(tag, read_moment(rules, tag, octets)?))
+}
+
+/// The fields of a time, with the two digits of a UTCTime's year.
+#[inline(always)]
+fn read_moment(rules: Rules, tag: Tag, octets: &[u8]) -> Result<ASN1DateTime, BerError>
+    requires { IsTrue (is_time tag.0) }
+    ensures { Decodes (λ v. v) (moments rules tag.0) octets.now result }
+{
+    match rules {
+        Rules::Ber => read_ber_time(tag, octets),
+        Rules::Der => read_der_time(tag, octets),
+    }
+}
+
+#[inline(always)]
+fn read_ber_time(tag: Tag, octets: &[u8]) -> Result<ASN1DateTime, BerError>
+    requires { IsTrue (is_time tag.0) }
+    ensures { Decodes (λ v. v) (moments Rules.Ber tag.0) octets.now result }
+{
+    match read_time(tag, octets) {
+        Some(moment) => Ok(moment),
+        None => Err(BerError::InvalidDateTime),
+    }
 }
 
 /// The content of a time type.

@@ -1,30 +1,25 @@
 -- Items that are read one after another, and the elements around them.
-use Rattle.std.proofs.Common.{◌≡◌, ◌≢◌, ℕ, zero, suc, ◌+◌, ◌-◌, ◌<◌, ◌≤◌, Bool, true, false, nat_lt, if◌then◌else◌, IsTrue, List}
-use Rattle.std.proofs.Common.{[], ◌∷◌, ◌++◌, length, refl, sym, ap, subst, ◌∙◌, arith, append_assoc, length-append, inl, inr, ◌⊎◌, All}
+use Rattle.std.proofs.Common.{◌≡◌, ◌≢◌, ℕ, zero, suc, ◌-◌, ◌<◌, ◌≤◌, Bool, true, false, IsTrue, List}
+use Rattle.std.proofs.Common.{[], ◌∷◌, ◌++◌, length, refl, sym, ap, subst, ◌∙◌, arith, append_assoc, inr, All}
 use Rattle.std.proofs.lemmas.List.Elements.{All-nil}
 use Rattle.std.proofs.lemmas.List.{append-nil}
 use Rattle.der_base.specs.declared.header.Class.{Class}
-use Rattle.der_base.specs.declared.header.Class.TheVariants.{Universal, Application, ContextSpecific, Private}
+use Rattle.der_base.specs.declared.header.Class.TheVariants.{Universal}
 use Rattle.std.specs.declared.vec.Vec.{Vec}
 use Rattle.std.specs.declared.alloc.Global.{Global}
 use Rattle.der_base.specs.declared.header.Header.{Header}
 use Rattle.der_base.specs.declared.header.Length.TheVariants.{Definite}
-use Rattle.der_base.specs.Cut.{DerLacks}
-use Rattle.der_base.specs.Encoding.{encoding, encodings, element, content_octets}
+use Rattle.der_base.specs.Encoding.{element, content_octets}
 use Rattle.der_base.specs.Fault.{DerHeaderRefuses, DerJoins, DerShowsFault}
-use Rattle.der_base.specs.Headers.{BeginsWithDerHeader, DerHeaderLacks}
+use Rattle.der_base.specs.Headers.{BeginsWithDerHeader}
 use Rattle.der_base.specs.Header.{class_of, is_constructed, number_of, length_of}
 use Rattle.der_base.specs.Leaf.{is_list, IsDerLeaf}
-use Rattle.der_base.specs.Octets.{identifier, shortest_length, octets}
+use Rattle.der_base.specs.Octets.{identifier, shortest_length}
 use Rattle.der_base.specs.Refusal.{Refusal, invalid_length}
-use Rattle.der_base.specs.Spelling.{IsDerContent, AreDerValid, max_object_size}
-use Rattle.der_base.specs.Tree.{Content, end_of_content, boolean, integer, bit_string, string, null, enumerated, object_identifier, relative_oid, time}
-use Rattle.der_base.specs.Tree.{sequence, set, absent, present, tagged, unknown, Nodes, no_nodes, nodes, content_height, list_height}
-use Rattle.der_base.specs.Stable.{DerIsCut}
-use Rattle.der_laws.proofs.Spellings.DerFaults.{header_shows, size_shows, behind_shows, header_cut_shows_nothing, content_cut_shows_nothing}
-use Rattle.der_laws.proofs.Spellings.DerLacking.{der_header_cut, der_content_cut}
+use Rattle.der_base.specs.Spelling.{max_object_size}
+use Rattle.der_base.specs.Tree.{sequence, set}
+use Rattle.der_laws.proofs.Spellings.DerFaults.{header_shows, size_shows, behind_shows}
 use Rattle.der_laws.proofs.Spellings.DerWithinBer.{valid_element}
-use Rattle.der_base.proofs.Octets.Identifiers.{identifier_octets}
 use Rattle.der_object.specs.declared.object.BerObject.{BerObject}
 use Rattle.der_object.specs.declared.object.BerObjectContent.{BerObjectContent}
 use Rattle.der_object.specs.declared.object.BerObjectContent.TheVariants.{Sequence, Set}

@@ -1,17 +1,14 @@
 -- An object that begins the input, and an input that is cut short: one of them holds at most, and each in one way.
-use Rattle.std.proofs.Common.{◌≡◌, ℕ, ◌≤◌, Bool, true, List, ◌++◌, length, sym, ap, ◌∙◌, arith, append_assoc, inl}
+use Rattle.std.proofs.Common.{ℕ, ◌≤◌, Bool, true, List, ◌++◌, length, sym, ap, ◌∙◌, arith, append_assoc, inl}
 use Rattle.der_base.specs.declared.header.Class.{Class}
 use Rattle.der_base.specs.declared.header.Class.TheVariants.{Universal}
 use Rattle.der_base.specs.Cut.{IsCut}
 use Rattle.der_base.specs.Headers.{BeginsWithDerHeader}
 use Rattle.der_base.specs.Octets.{identifier, shortest_length}
-use Rattle.der_base.specs.Spelling.{BeginsWithDer, DerSpells}
+use Rattle.der_base.specs.Spelling.{BeginsWithDer}
 use Rattle.der_base.specs.Stable.{DerIsCut}
-use Rattle.der_base.specs.Tree.{Node}
 use Rattle.der_base.proofs.Framing.Shapes.{cut_is_none}
 use Rattle.der_base.proofs.Octets.ShortestLengths.{shortest_spells}
-use Rattle.der_laws.proofs.Spellings.DerLacking.{der_lacks_same}
-use Rattle.der_laws.proofs.Spellings.DerWithinBer.{der_spelling_same, der_spelled_not_cut}
 use Rattle.der_laws.proofs.Spellings.DerFaults.{spelled_shows_nothing, shows_one}
 use Rattle.der_base.proofs.Answers.Exactness.{ShowsOne}
 use Rattle.der_base.specs.Fault.{DerShowsFault}
