@@ -104,7 +104,7 @@ fn read_primitive<'a>(
             octets,
         )))),
         Tag::Enumerated => Ok(BerObjectContent::Enum(read_enumerated(rules, octets)?)),
-        Tag::UtcTime | Tag::GeneralizedTime => Ok(read_time_content(rules, tag, octets)?),
+        Tag::UtcTime | Tag::GeneralizedTime => read_time_content(rules, tag, octets),
         Tag::UniversalString => Ok(BerObjectContent::UniversalString(octets)),
         Tag::BmpString => read_bmp_string(rules, octets),
         _ => Ok(read_string(tag, octets)?),
@@ -130,8 +130,8 @@ fn read_enumerated(rules: Rules, octets: &[u8]) -> Result<u64, BerError>
     read_u64(octets)
 }
 
-/// A UTCTime or a GeneralizedTime (8.25; by DER 11.7, 11.8).
-#[inline(never)]
+/// A UTCTime or a GeneralizedTime (8.25; by DER 11.7, 11.8): a call for each of the rules.
+#[inline(always)]
 fn read_time_content(
     rules: Rules,
     tag: Tag,
@@ -140,7 +140,26 @@ fn read_time_content(
     requires { IsTrue (is_time tag.0) }
     ensures { Decodes content_tree (primitives rules tag.0) octets.now result }
 {
-    Ok(time_content(tag, read_moment(rules, tag, octets)?))
+    match rules {
+        Rules::Ber => Ok(read_ber_time_content(tag, octets)?),
+        Rules::Der => Ok(read_der_time_content(tag, octets)?),
+    }
+}
+
+#[inline(never)]
+fn read_ber_time_content(tag: Tag, octets: &[u8]) -> Result<BerObjectContent<'_>, BerError>
+    requires { IsTrue (is_time tag.0) }
+    ensures { Decodes content_tree (primitives Rules.Ber tag.0) octets.now result }
+{
+    Ok(time_content(tag, read_moment(Rules::Ber, tag, octets)?))
+}
+
+#[inline(never)]
+fn read_der_time_content(tag: Tag, octets: &[u8]) -> Result<BerObjectContent<'_>, BerError>
+    requires { IsTrue (is_time tag.0) }
+    ensures { Decodes content_tree (primitives Rules.Der tag.0) octets.now result }
+{
+    Ok(time_content(tag, read_moment(Rules::Der, tag, octets)?))
 }
 
 /// The fields of a time, with the two digits of a UTCTime's year.
