@@ -24,8 +24,9 @@ pub fn text_of_message(alloc: Global, octets: &[u8]) -> Result<Option<Vec<u8>>, 
     ensures { IfOk result (λ found. IsMessage octets.now (text_in found)) }
 {
     match private_key_text(alloc, octets) {
+        Ok(Some(text)) => Ok(Some(text)),
         Ok(None) => from_encrypted_key(alloc, octets),
-        found => found,
+        Err(e) => Err(e),
     }
 }
 
@@ -42,8 +43,9 @@ fn from_rsa_key(alloc: Global, octets: &[u8]) -> Found
     ensures { IfOk result (λ found. FromRsaKey octets.now (text_in found)) }
 {
     match rsa_key_text(alloc, octets) {
+        Ok(Some(text)) => Ok(Some(text)),
         Ok(None) => from_curve_key(alloc, octets),
-        found => found,
+        Err(e) => Err(e),
     }
 }
 
