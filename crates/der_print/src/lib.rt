@@ -24,7 +24,7 @@ mod value;
 
 pub use bits::Bits;
 pub use identifier::Arcs;
-pub use line::{write_field_line, write_line, write_named_line};
+pub use line::{write_field_line, write_line, write_line_of, write_named_line};
 pub use number::Number;
 pub use octets::Hex;
 pub use real::Real;

@@ -62,9 +62,9 @@ pub fn write_named_line<'n, W: Write>(
     write_line_of(out, room, element, "", style, own)
 }
 
-/// Writes the line of an element with the name of its field, and the name of an OBJECT IDENTIFIER by a table of one's
-/// own.
-fn write_line_of<'n, W: Write>(
+/// Writes the line of an element with the name of its field as `write_field_line` does, and the name of an OBJECT
+/// IDENTIFIER by a table of one's own as `write_named_line` does.
+pub fn write_line_of<'n, W: Write>(
     out: &mut W,
     room: Room,
     element: &Element<'_>,
