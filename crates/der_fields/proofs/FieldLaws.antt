@@ -11,7 +11,7 @@ use Rattle.der_fields.specs.Fields.{Fits, label_text, left_past, no_lines, one_m
 use Rattle.der_fields.specs.declared.named.Named.{Named}
 use Rattle.der_fields.specs.declared.named.Named.TheVariants.{Whole, Lacks, Left, Refused}
 use Rattle.der_print.specs.declared.style.Style.{Style}
-use Rattle.der_print.specs.Lines.{AddsFieldLine, IsFieldLine, content_in}
+use Rattle.der_print.specs.Lines.{AddsLineOf, IsLineOf, content_in}
 use Rattle.der_print.specs.Texts.{content_of}
 use Rattle.der_print.proofs.LineLaws.{content_is, line_of}
 use Rattle.der_schema.specs.declared.matching.Name.{Name}
@@ -29,22 +29,23 @@ use Rattle.der_walk.specs.declared.refusal.Refusal.{Refusal}
 use Rattle.der_walk.specs.declared.walk.Walk.{Walk}
 use Rattle.der_walk.specs.Visits.{Visited, Visits}
 use Rattle.der_walk.specs.Walked.{HasOctets, HasVisited, IsRefused, visited_of}
+use Rattle.oid_names.specs.OwnNames.{Named as NamedOctets}
 
 -- one more line
-lines_more : {sc : Root} {style : Style} {i : List ℕ} {before vs : List Visited} {text : List ℕ} (v : Visited)
-    (line : List ℕ) → AreFieldLinesAfter sc style i before vs text
-    → IsFieldLine (label_text (label_after sc i (before ++ vs) v)) style v (content_in i v) line
-    → AreFieldLinesAfter sc style i before (vs ++ v ∷ []) (text ++ line)
-lines_more {sc} {style} {i} {before} v line no_lines l =
-    subst (AreFieldLinesAfter sc style i before (v ∷ [])) (append-nil line)
+lines_more : {sc : Root} {own : Option (List NamedOctets)} {style : Style} {i : List ℕ} {before vs : List Visited} {text : List ℕ} (v : Visited)
+    (line : List ℕ) → AreFieldLinesAfter sc own style i before vs text
+    → IsLineOf own (label_text (label_after sc i (before ++ vs) v)) style v (content_in i v) line
+    → AreFieldLinesAfter sc own style i before (vs ++ v ∷ []) (text ++ line)
+lines_more {sc} {own} {style} {i} {before} v line no_lines l =
+    subst (AreFieldLinesAfter sc own style i before (v ∷ [])) (append-nil line)
     (one_more_line line []
-    (subst (λ us. IsFieldLine (label_text (label_after sc i us v)) style v (content_in i v) line) (append-nil before) l)
+    (subst (λ us. IsLineOf own (label_text (label_after sc i us v)) style v (content_in i v) line) (append-nil before) l)
     no_lines)
-lines_more {sc} {style} {i} {before} v line (one_more_line {vs = vs} {v = u} first rest k ks) l =
-    subst (AreFieldLinesAfter sc style i before (u ∷ vs ++ v ∷ [])) (sym (append_assoc first rest line))
+lines_more {sc} {own} {style} {i} {before} v line (one_more_line {vs = vs} {v = u} first rest k ks) l =
+    subst (AreFieldLinesAfter sc own style i before (u ∷ vs ++ v ∷ [])) (sym (append_assoc first rest line))
     (one_more_line first (rest ++ line) k
     (lines_more v line ks
-    (subst (λ us. IsFieldLine (label_text (label_after sc i us v)) style v (content_in i v) line)
+    (subst (λ us. IsLineOf own (label_text (label_after sc i us v)) style v (content_in i v) line)
     (sym (append_assoc before (u ∷ []) vs)) l)))
 
 -- what holds of each element after those before it, and of one more
@@ -110,19 +111,19 @@ left_more sc r i w vs v (Some p) None e has h =
     record { leaves = leaves_before sc i vs v p h.leaves; names = h.names }
 
 -- known octets grew by a line for each element that the walk has visited
-pub record HasWritten (sc : Root) (r : Rules) (style : Style) (i : List ℕ) (w : Walk) (n : Namer) (left : Option ℕ)
+pub record HasWritten (sc : Root) (r : Rules) (own : Option (List NamedOctets)) (style : Style) (i : List ℕ) (w : Walk) (n : Namer) (left : Option ℕ)
     (old new : Option (List ℕ)) : Type 0 where
   pub elements : List Visited
   pub visited : HasVisited all_extras r i w elements
   pub named : HasNamed sc i elements n
   pub has_left : HasLeft sc r i elements left
   pub text : List ℕ
-  pub lines : AreFieldLines sc style i elements text
+  pub lines : AreFieldLines sc own style i elements text
   pub adds : Appends old new text
 
-pub written_none : {sc : Root} {r : Rules} {i : List ℕ} {w : Walk} {n : Namer} (style : Style) (old : Option (List ℕ))
-    → HasVisited all_extras r i w [] → HasNamed sc i [] n → HasWritten sc r style i w n None old old
-written_none {sc} {r} {i} style old v h = record {
+pub written_none : {sc : Root} {r : Rules} {i : List ℕ} {w : Walk} {n : Namer} (own : Option (List NamedOctets))
+    (style : Style) (old : Option (List ℕ)) → HasVisited all_extras r i w [] → HasNamed sc i [] n → HasWritten sc r own style i w n None old old
+written_none {sc} {r} {i} own style old v h = record {
   elements = [];
   visited = v;
   named = h;
@@ -132,14 +133,14 @@ written_none {sc} {r} {i} style old v h = record {
   adds = Appends-nil old;
 }
 
-pub written_more : {sc : Root} {r : Rules} {style : Style} {i : List ℕ} {w w' : Walk} {n n' : Namer} {left : Option ℕ}
-    {old mid new : Option (List ℕ)} (e : Element) (said : Option Name) (field : List ℕ) (left' : Option ℕ)
-    (p : HasWritten sc r style i w n left old mid)
+pub written_more : {sc : Root} {r : Rules} {own : Option (List NamedOctets)} {style : Style} {i : List ℕ}
+    {w w' : Walk} {n n' : Namer} {left : Option ℕ} {old mid new : Option (List ℕ)} (e : Element) (said : Option Name) (field : List ℕ) (left' : Option ℕ)
+    (p : HasWritten sc r own style i w n left old mid)
     → HasVisited all_extras r i w' (p.elements ++ visited_of e ∷ []) → HasOctets i e
     → NamesNext sc i p.elements (visited_of e) n' said → field ≡ label_text (label_of said)
     → left' ≡ left_past left (label_of said) e.offset
-    → AddsFieldLine field style (visited_of e) (content_of e) mid new → HasWritten sc r style i w' n' left' old new
-written_more {sc} {r} {style} {i} {w' = w'} {left = left} {old = old} {mid = mid} {new = new}
+    → AddsLineOf own field style (visited_of e) (content_of e) mid new → HasWritten sc r own style i w' n' left' old new
+written_more {sc} {r} {own} {style} {i} {w' = w'} {left = left} {old = old} {mid = mid} {new = new}
     e said field left' p visited octets next text is l =
     let v = visited_of e in
     let line = line_of style v (content_of e) (content_in i v) l.line (content_is i e octets) l.is_line in
@@ -151,7 +152,7 @@ written_more {sc} {r} {style} {i} {w' = w'} {left = left} {old = old} {mid = mid
           (left_more sc r i w' p.elements v left (label_of said) next.name visited p.has_left);
       text = p.text ++ l.line;
       lines = lines_more v l.line p.lines
-          (subst (λ f. IsFieldLine f style v (content_in i v) l.line) (text ∙ ap label_text next.name) line);
+          (subst (λ f. IsLineOf own f style v (content_in i v) l.line) (text ∙ ap label_text next.name) line);
       adds = Appends-trans old mid new p.text l.line p.adds l.adds;
     }
 

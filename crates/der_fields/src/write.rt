@@ -1,46 +1,50 @@
 //! Lines with the names of fields.
 ghost use Rattle.std.specs.Prelude.{◌≡◌, ◌↔◌, IfOk};
 ghost use Rattle.der_fields.specs.Fields.{WritesFields, label_text, left_past};
+ghost use Rattle.der_print.specs.Names.{table_of};
 ghost use Rattle.der_schema.specs.Known.{IsOfType};
 ghost use Rattle.der_schema.specs.Meaning.{root_of};
 ghost use Rattle.der_schema.specs.Steps.{label_of};
 
 use crate::named::{Named, ended, refused};
 use der_base::rules::Rules;
-use der_print::{Room, Style, write_field_line};
+use der_print::{Room, Style, write_line_of};
 use der_schema::{Name, Namer, Schema};
 use der_walk::Walk;
+use oid_names::OwnNames;
 use std::alloc::Global;
 use std::io;
 use std::io::Write;
 
 /// Writes a line for each element of an input, with the name of its field in a type, up to the end of the input or to
 /// what is refused. An element that isn't in the type has no name, nor has one inside it or after it in the same
-/// content. Strings that hold DER or BER are entered, and by BER values that break their type are kept. Returns how the
-/// input fits the type.
+/// content. Strings that hold DER or BER are entered, and by BER values that break their type are kept. The name of an
+/// OBJECT IDENTIFIER is that of a table of one's own, if there is one and it has the identifier, or else the built-in
+/// one. Returns how the input fits the type.
 ///
 /// # Examples
 ///
 /// ```
 /// let types = KnownTypes::new();
 /// let schema = types.type_named("Certificate").context("a known type")?;
-/// match write_fields(rt.alloc(), &input, schema, Rules::Der, style, &mut out)? {
+/// match write_fields(rt.alloc(), &input, schema, Rules::Der, style, None, &mut out)? {
 ///     Named::Whole => {}
 ///     Named::Lacks => writeln!(err, "a mandatory component lacks")?,
 ///     Named::Left(offset) => writeln!(err, "not in {} from {offset} on", schema.name)?,
 ///     Named::Refused(end) => writeln!(err, "at {}", end.refusal.offset)?,
 /// }
 /// ```
-pub fn write_fields<'a, W: Write>(
+pub fn write_fields<'a, 'n, W: Write>(
     alloc: Global,
     input: &'a [u8],
     schema: Schema<'_>,
     rules: Rules,
     style: Style,
+    own: Option<&'n OwnNames<'n>>,
     out: &mut W,
 ) -> io::Result<Named<'a>>
-    ensures writes { IfOk result (λ named. WritesFields (root_of schema.entry) rules style input.now named
-        (W.contents out.old) (W.contents out.new)) }
+    ensures writes { IfOk result (λ named. WritesFields (root_of schema.entry) rules (table_of own.entry) style
+        input.now named (W.contents out.old) (W.contents out.new)) }
     ensures whole { IfOk result (λ named. (named ≡ Named.Whole) ↔ IsOfType (root_of schema.entry) rules input.now) }
 {
     let mut walk = Walk::new(input, rules, true).keeping_values();
@@ -52,7 +56,7 @@ pub fn write_fields<'a, W: Write>(
             Ok(Some(element)) => {
                 let name = namer.name_of(&element);
                 left = left_past(left, name, element.offset);
-                room = write_field_line(out, room, &element, text_of(name), style)?;
+                room = write_line_of(out, room, &element, text_of(name), style, own)?;
             }
             Ok(None) => return Ok(ended(left, namer.is_whole())),
             Err(refusal) => return Ok(refused(walk, refusal, left)),

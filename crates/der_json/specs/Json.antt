@@ -17,7 +17,7 @@ use Rattle.der_base.specs.Time.{IsTimeText}
 use Rattle.der_print.specs.Quotes.{unquoted_text}
 use Rattle.der_print.specs.Remarks.{IsRemark}
 use Rattle.der_print.specs.declared.style.Limit.TheVariants.{Whole}
-use Rattle.der_print.specs.Values.{IsNameOf, identifier_text, is_other_type, is_quoted_type, moment_text}
+use Rattle.der_print.specs.Values.{identifier_text, is_other_type, is_quoted_type, moment_text}
 use Rattle.der_print.specs.Values.{real_text}
 use Rattle.der_json.specs.declared.members.Members.{Members}
 use Rattle.der_json.specs.declared.object.Object.{Object}
@@ -26,6 +26,7 @@ use Rattle.der_json.specs.Timestamps.{HasTimestamp, timestamp_text}
 use Rattle.der_values.specs.Decimal.{integer_text}
 use Rattle.der_walk.specs.TypeNames.{type_text}
 use Rattle.der_walk.specs.Visits.{Visited}
+use Rattle.oid_names.specs.OwnNames.{IsNameAmong, Named}
 
 -- a text is JSON without spaces
 abbrev pub IsJson : List ℕ → Type 0
@@ -102,13 +103,18 @@ abbrev pub IsTimestampOf : Visited → List ℕ → Option (List ℕ) → Type 0
 IsTimestampOf v w (Some x) = IsPrimitive v × IsTimestamp v.number w (Some x)
 IsTimestampOf v w None = IsPrimitive v → IsTimestamp v.number w None
 
--- what is said of the content of an element
-pub record AreMembersOf (v : Visited) (w : List ℕ) (m : Members) : Type 0 where
+-- the name of an OBJECT IDENTIFIER, by a table of one's own or the built-in one; none of another element
+abbrev pub IsNameMember : Option (List Named) → Visited → List ℕ → Option (List ℕ) → Type 0
+IsNameMember own v w name = MatchOption name
+    (IsPrimitive v → v.number ≡ 6 → IsNameAmong own w None)
+    (λ n. IsPrimitive v × (v.number ≡ 6) × IsNameAmong own w (Some n))
+
+-- what is said of the content of an element, with names of a table of one's own
+pub record AreMembersOf (own : Option (List Named)) (v : Visited) (w : List ℕ) (m : Members) : Type 0 where
   pub value : IsJsonValue v w (view m.value)
   pub bits : AreBitsOf v w m.bits
   pub time : IsTimestampOf v w (option_map string_bytes m.time)
-  -- the name of an OBJECT IDENTIFIER, if it has one
-  pub name : IfSome m.name (λ name. (v.class ≡ Universal) × (v.number ≡ 6) × IsNameOf w name.now)
+  pub name : IsNameMember own v w (option_map (λ name. name.now) m.name)
   -- what is said of a value that breaks its type
   pub fault : IsRemark v w (option_map string_bytes m.fault)
 
@@ -119,8 +125,8 @@ class_word Application = codes "application"
 class_word ContextSpecific = codes "context-specific"
 class_word Private = codes "private"
 
--- the members that an element with this content determines
-pub record IsObjectOf (v : Visited) (w : List ℕ) (o : Object) : Type 0 where
+-- the members that an element with this content determines, with names of a table of one's own
+pub record IsObjectOf (own : Option (List Named)) (v : Visited) (w : List ℕ) (o : Object) : Type 0 where
   pub offset : o.offset ≡ v.offset
   pub depth : o.depth ≡ v.depth
   pub header : o.header ≡ v.header
@@ -132,8 +138,7 @@ pub record IsObjectOf (v : Visited) (w : List ℕ) (o : Object) : Type 0 where
   pub value : IsJsonValue v w (view o.value)
   pub bits : AreBitsOf v w o.bits
   pub time : IsTimestampOf v w (option_map string_bytes o.time)
-  -- the name of an OBJECT IDENTIFIER, if it has one
-  pub name : IfSome o.name (λ name. (v.class ≡ Universal) × (v.number ≡ 6) × IsNameOf w name.now)
+  pub name : IsNameMember own v w (option_map (λ name. name.now) o.name)
   -- what is said of a value that breaks its type
   pub fault : IsRemark v w (option_map string_bytes o.fault)
 

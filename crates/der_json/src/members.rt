@@ -1,10 +1,10 @@
 //! What the content of an element determines of its object.
 ghost use Rattle.std.specs.Prelude.{◌≡◌, ◌<◌, ◌^◌, ℕ, IfOk, IfSome, Some, option_map, string_bytes};
 ghost use Rattle.der_base.specs.declared.header.Class.{Class};
-ghost use Rattle.der_json.specs.Json.{AreBitsOf, AreMembersOf, IsBitCount, IsTimestamp, IsTimestampOf};
+ghost use Rattle.der_json.specs.Json.{AreBitsOf, AreMembersOf, IsBitCount, IsNameMember, IsTimestamp, IsTimestampOf};
+ghost use Rattle.der_print.specs.Names.{table_of};
 ghost use Rattle.der_print.specs.Remarks.{IsRemark};
 ghost use Rattle.der_print.specs.Texts.{content_of};
-ghost use Rattle.der_print.specs.Values.{IsNameOf};
 ghost use Rattle.der_walk.specs.Walked.{visited_of};
 
 use crate::moment::timestamp_of;
@@ -13,27 +13,32 @@ use der_base::header::{Class, Tag};
 use der_base::time::read_time;
 use der_print::{Remark, octets_or_none};
 use der_walk::Element;
-use oid_names::name_of;
+use oid_names::{OwnNames, name_among};
 use serde_json::Value;
 use std::alloc::{AllocError, Global};
 
 /// The members of an object that the content of its element determines.
 #[derive(Drop)]
-pub(crate) struct Members {
+pub(crate) struct Members<'n> {
     pub value: Value,
     /// How many bits a BIT STRING has.
     pub bits: Option<usize>,
     /// A time as RFC 3339 writes it.
     pub time: Option<String>,
     /// The name of an OBJECT IDENTIFIER.
-    pub name: Option<&'static str>,
+    pub name: Option<&'n str>,
     /// What is said of a value that breaks its type.
     pub fault: Option<String>,
 }
 
-/// The members of an element's object.
-pub(crate) fn members_of(alloc: Global, element: &Element<'_>) -> Result<Members, AllocError>
-    ensures { IfOk result (AreMembersOf (visited_of element.now) (content_of element.now)) }
+/// The members of an element's object. The name of an OBJECT IDENTIFIER is that of a table of one's own, if there is one
+/// and it has the identifier, or else the built-in one.
+pub(crate) fn members_of<'n>(
+    alloc: Global,
+    element: &Element<'_>,
+    own: Option<&'n OwnNames<'n>>,
+) -> Result<Members<'n>, AllocError>
+    ensures { IfOk result (AreMembersOf (table_of own.entry) (visited_of element.now) (content_of element.now)) }
 {
     let value = value_of(alloc, element)?;
     let time = time_in(alloc, element)?;
@@ -42,7 +47,7 @@ pub(crate) fn members_of(alloc: Global, element: &Element<'_>) -> Result<Members
         value,
         bits: bits_in(element),
         time,
-        name: name_in(element),
+        name: name_in(element, own),
         fault,
     })
 }
@@ -101,15 +106,15 @@ fn timestamp(alloc: Global, number: u32, octets: &[u8]) -> Result<Option<String>
     }
 }
 
-/// The name of an object identifier.
-fn name_in(element: &Element<'_>) -> Option<&'static str>
-    ensures { IfSome result (λ name. (element.now.class ≡ Class.Universal) × (element.now.number ≡ 6)
-        × IsNameOf (content_of element.now) name.now) }
+/// The name of an OBJECT IDENTIFIER.
+fn name_in<'n>(element: &Element<'_>, own: Option<&'n OwnNames<'n>>) -> Option<&'n str>
+    ensures { IsNameMember (table_of own.entry) (visited_of element.now) (content_of element.now)
+        (option_map (λ name. name.now) result) }
 {
     if element.constructed || !element.is_universal(6) {
         return None;
     }
-    name_of(octets_or_none(element.content))
+    name_among(own, octets_or_none(element.content))
 }
 
 /// What is said of a value that breaks its type.

@@ -2,6 +2,7 @@
 ghost use Rattle.std.specs.Prelude.{◌≡◌, IfOk, OnOk, option_map, string_bytes};
 ghost use Rattle.hex.specs.Hex.{encode_lower};
 ghost use Rattle.der_json.specs.Json.{AddsJson, IsFrom, IsJson, IsObjectOf, class_word};
+ghost use Rattle.der_print.specs.Names.{table_of};
 ghost use Rattle.der_print.specs.Texts.{content_of};
 ghost use Rattle.der_walk.specs.TypeNames.{type_text};
 ghost use Rattle.der_walk.specs.Walked.{visited_of};
@@ -10,6 +11,7 @@ use crate::members::{Members, members_of};
 use der_base::header::Class;
 use der_print::{Hex, Limit};
 use der_walk::Element;
+use oid_names::OwnNames;
 use serde::Serialize;
 use serde_json::Value;
 use std::alloc::{AllocError, Global};
@@ -64,23 +66,25 @@ struct Object<'a> {
     #[serde(skip_serializing_if = "Option::is_none")]
     time: Option<String>,
     #[serde(skip_serializing_if = "Option::is_none")]
-    name: Option<&'static str>,
+    name: Option<&'a str>,
     #[serde(skip_serializing_if = "Option::is_none")]
     fault: Option<String>,
     #[serde(skip_serializing_if = "Option::is_none")]
     octets: Option<String>,
 }
 
-/// Writes an element as a line of JSON.
-pub fn write_json<W: Write>(
+/// Writes an element as a line of JSON. The name of an OBJECT IDENTIFIER is that of a table of one's own, if there is one
+/// and it has the identifier, or else the built-in one.
+pub fn write_json<'n, W: Write>(
     alloc: Global,
     source: Source<'_>,
     element: &Element<'_>,
+    own: Option<&'n OwnNames<'n>>,
     out: &mut W,
 ) -> io::Result<()>
     ensures { OnOk result (AddsJson (W.contents out.old) (W.contents out.new)) }
 {
-    let object = object_of(alloc, source, element)?;
+    let object = object_of(alloc, source, element, own)?;
     let text = json_of(alloc, object)?;
     out.write_all(text.as_bytes())?;
     out.write_all(b"\n")
@@ -101,8 +105,10 @@ fn object_of<'a>(
     alloc: Global,
     source: Source<'a>,
     element: &Element<'_>,
+    own: Option<&'a OwnNames<'a>>,
 ) -> Result<Object<'a>, AllocError>
-    ensures element { IfOk result (IsObjectOf (visited_of element.now) (content_of element.now)) }
+    ensures element { IfOk result
+        (IsObjectOf (table_of own.entry) (visited_of element.now) (content_of element.now)) }
     ensures source { IfOk result (IsFrom source.entry) }
 {
     let kind = kind_of(alloc, element)?;
@@ -113,7 +119,7 @@ fn object_of<'a>(
         time,
         name,
         fault,
-    } = members_of(alloc, element)?;
+    } = members_of(alloc, element, own)?;
     Ok(Object {
         file: source.file,
         block: source.block,

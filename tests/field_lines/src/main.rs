@@ -33,7 +33,7 @@ fn main(rt: HostRuntime) -> Result<()> {
 fn print_fields(rt: &HostRuntime, octets: &[u8], schema: Schema<'_>) -> Result<()> {
     println!(rt; "{}", schema.name)?;
     let mut text = Vec::new(rt.alloc());
-    let named = write_fields(rt.alloc(), octets, schema, Rules::Der, STYLE, &mut text)?;
+    let named = write_fields(rt.alloc(), octets, schema, Rules::Der, STYLE, None, &mut text)?;
     print_without_values(rt, octets, std::str::from_utf8(&text)?)?;
     match named {
         Named::Whole => println!(rt; "whole")?,

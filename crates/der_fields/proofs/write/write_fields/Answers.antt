@@ -1,13 +1,14 @@
 use Rattle.std.proofs.Common.{false, true}
 use Rattle.der_fields.proofs.FieldLaws.{ends_fit, ends_whole, refused_fits, refused_whole, written_more}
 use Rattle.der_fields.proofs.FieldLaws.{written_none}
+use Rattle.der_print.specs.Names.{table_of}
 use Rattle.der_schema.specs.Known.{all_extras}
 use Rattle.der_schema.specs.Meaning.{root_of}
 use Rattle.der_fields.proofs.write.write_fields.Goals as goal
 
 pub elements-init : goal.elements-init
 elements-init g c = record {
-  so = written_none c.args.style _
+  so = written_none (table_of c.args.own) c.args.style _
       (c.keeping_values-walk.ensures (record { enters_strings = true; keeps_values = false }) c.args.rules
       c.args.input.now c.new.ensures) c.new-namer.ensures;
 }

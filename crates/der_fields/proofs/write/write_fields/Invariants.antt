@@ -1,4 +1,5 @@
 use Rattle.der_walk.specs.Ends.{octets_ahead}
+use Rattle.der_print.specs.Names.{table_of}
 use Rattle.der_schema.specs.Meaning.{root_of}
 use Rattle.der_fields.proofs.FieldLaws.{HasWritten}
 use Rattle.der_fields.proofs.write.write_fields.Given as goal
@@ -6,7 +7,7 @@ use Rattle.der_fields.proofs.write.write_fields.Given as goal
 -- the lines of the elements that were visited are written
 abbrev pub invariant-elements : goal.invariant-elements
 invariant-elements g l = record {
-  so : HasWritten (root_of l.fn.schema) l.fn.rules l.fn.style l.fn.input l.walk l.namer l.left
+  so : HasWritten (root_of l.fn.schema) l.fn.rules (table_of l.fn.own) l.fn.style l.fn.input l.walk l.namer l.left
       (g.W.Write.contents l.fn.out) (g.W.Write.contents l.out);
 }
 
