@@ -2,8 +2,8 @@
 use Rattle.std.proofs.Common.{◌≡◌, ◌∙◌, ◌⊎◌, inl, inr, ℕ, MatchBool, false, true, Bool, Err, IfOk, IsTrue, Ok, OnOk, Option, Result, List, [], ◌∷◌, ◌++◌, codes, refl, subst, sym}
 use Rattle.std.proofs.KnownBytes.{Appends-kept, Appends-nil, Appends-trans}
 use Rattle.std.specs.Io.KnownBytes.{Appends, Keeps}
-use Rattle.der_print.specs.declared.style.Style.{Style}
-use Rattle.der_print.specs.Lines.{IsFieldLine, content_in}
+use Rattle.der_print.specs.Lines.{IsLineOf as IsTreeLine, content_in}
+use Rattle.der_print.specs.Names.{table_of}
 use Rattle.der_print.specs.Texts.{content_of}
 use Rattle.der_print.proofs.LineLaws.{content_is, line_of}
 use Rattle.der_schema.specs.declared.schema.Schema.{Schema}
@@ -59,25 +59,25 @@ refused_keeps (Ok x) K P f k = λ no. f k
 refused_keeps (Err y) K P f k = tt
 
 -- one more line
-pub record HasOneMore (k : Lines) (s : Option Schema) (style : Style) (i : List ℕ) (us : List Listed) (l : Listed) (text : List ℕ)
+pub record HasOneMore (k : Lines) (s : Option Schema) (o : Options) (i : List ℕ) (us : List Listed) (l : Listed) (text : List ℕ)
     (mid new : Option (List ℕ)) : Type 0 where
   pub line : List ℕ
-  pub lines : AreLinesOf k s style i (us ++ l ∷ []) (text ++ line)
+  pub lines : AreLinesOf k s o i (us ++ l ∷ []) (text ++ line)
   pub adds : Appends mid new line
 
-one_more : (k : Lines) (s : Option Schema) (style : Style) (i : List ℕ) (us : List Listed) (vs : List Visited) (e : Element) (field text : List ℕ)
-    (mid new : Option (List ℕ)) → HasOctets i e → field ≡ field_in s i vs (visited_of e) → AreLinesOf k s style i us text
-    → AddsLineOf k field style (visited_of e) (content_of e) mid new
-    → HasOneMore k s style i us (listed_after vs (visited_of e)) text mid new
-one_more kind.Tree s style i us vs e field text mid new octets same lines l =
+one_more : (k : Lines) (s : Option Schema) (o : Options) (i : List ℕ) (us : List Listed) (vs : List Visited) (e : Element) (field text : List ℕ)
+    (mid new : Option (List ℕ)) → HasOctets i e → field ≡ field_in s i vs (visited_of e) → AreLinesOf k s o i us text
+    → AddsLineOf k field o (visited_of e) (content_of e) mid new
+    → HasOneMore k s o i us (listed_after vs (visited_of e)) text mid new
+one_more kind.Tree s o i us vs e field text mid new octets same lines l =
     let v = visited_of e in
-    let line = line_of style v (content_of e) (content_in i v) l.line (content_is i e octets) l.is_line in
+    let line = line_of o.style v (content_of e) (content_in i v) l.line (content_is i e octets) l.is_line in
     record {
       line = l.line;
-      lines = one_more_line (listed_after vs v) l.line lines (subst (λ f. IsFieldLine f style v (content_in i v) l.line) same line);
+      lines = one_more_line (listed_after vs v) l.line lines (subst (λ f. IsTreeLine (table_of o.own_names) f o.style v (content_in i v) l.line) same line);
       adds = l.adds;
     }
-one_more kind.Json s style i us vs e field text mid new octets same lines l = record {
+one_more kind.Json s o i us vs e field text mid new octets same lines l = record {
   line = l.text ++ codes "\n";
   lines = one_more_line (listed_after vs (visited_of e)) (l.text ++ codes "\n") lines (l.text, l.is_json, refl);
   adds = l.adds;
@@ -93,7 +93,7 @@ pub record HasPrinted (k : Lines) (o : Options) (i : List ℕ) (w : Walk) (l : L
   pub listed : List Listed
   pub chosen : HasChosen schema i o l elements listed
   pub text : List ℕ
-  pub lines : AreLinesOf k schema o.style i listed text
+  pub lines : AreLinesOf k schema o i listed text
   pub adds : Appends old new text
 
 pub printed_none : {o : Options} {i : List ℕ} {w : Walk} {l : Listing} {f : Fields} (k : Lines) (s : Option Schema) (old : Option (List ℕ))
@@ -118,9 +118,9 @@ pub printed_more : {o : Options} {i : List ℕ} {w w' : Walk} {l l' : Listing} {
     → HasNamedBy p.schema i (p.elements ++ visited_of e ∷ []) f' → field ≡ field_in p.schema i p.elements (visited_of e)
     → MatchBool taken (HasChosen p.schema i o l' (p.elements ++ visited_of e ∷ []) (p.listed ++ listed_after p.elements (visited_of e) ∷ []))
     (HasChosen p.schema i o l' (p.elements ++ visited_of e ∷ []) p.listed)
-    → MatchBool taken (AddsLineOf k field o.style (visited_of e) (content_of e) mid new) (new ≡ mid) → HasPrinted k o i w' l' f' old new
+    → MatchBool taken (AddsLineOf k field o (visited_of e) (content_of e) mid new) (new ≡ mid) → HasPrinted k o i w' l' f' old new
 printed_more {o = o} {i = i} {old = old} {mid = mid} {new = new} k e true field p visited octets named same chosen l =
-    let m = one_more k p.schema o.style i p.listed p.elements e field p.text mid new octets same p.lines l in
+    let m = one_more k p.schema o i p.listed p.elements e field p.text mid new octets same p.lines l in
     record {
       elements = p.elements ++ visited_of e ∷ [];
       visited = visited;

@@ -8,8 +8,8 @@ use Rattle.der_canon.specs.Errors.{IsCanonErrorOf}
 use Rattle.der_canon.specs.Same.{IsDerOf}
 use Rattle.der_check.specs.Elements.{AreElements}
 use Rattle.der_json.specs.Json.{AddsJson, IsJson}
-use Rattle.der_print.specs.declared.style.Style.{Style}
-use Rattle.der_print.specs.Lines.{AddsFieldLine, IsFieldLine, content_in}
+use Rattle.der_print.specs.Lines.{AddsLineOf as AddsTreeLine, IsLineOf as IsTreeLine, content_in}
+use Rattle.der_print.specs.Names.{table_of}
 use Rattle.der_schema.specs.declared.schema.Schema.{Schema}
 use Rattle.der_cli.specs.declared.options.Action.{Action}
 use Rattle.der_cli.specs.declared.options.Action.TheVariants.{Tree, Check, Json, Canon, Get, Show}
@@ -44,23 +44,24 @@ IsChecked o i = AreSomeElements o.rules i × IsAsAsked o.naming o.rules i
 abbrev pub IsJsonLine : List ℕ → Type 0
 IsJsonLine line = (text : List ℕ) × IsJson text × (line ≡ text ++ codes "\n")
 
--- the line of a listed element of an input; in a tree with the name of its field by a type, if there is one
-abbrev pub IsLineOf : Lines → Option Schema → Style → List ℕ → Listed → List ℕ → Type 0
-IsLineOf kind.Tree s style i l line =
-    IsFieldLine (field_in s i l.before l.element) style l.element (content_in i l.element) line
-IsLineOf kind.Json s style i l line = IsJsonLine line
+-- the line of a listed element of an input; in a tree with the name of its field by a type, if there is one, and names
+-- of identifiers of the table that is asked for, if one is
+abbrev pub IsLineOf : Lines → Option Schema → Options → List ℕ → Listed → List ℕ → Type 0
+IsLineOf kind.Tree s o i l line = IsTreeLine (table_of o.own_names) (field_in s i l.before l.element) o.style l.element
+    (content_in i l.element) line
+IsLineOf kind.Json s o i l line = IsJsonLine line
 
 -- a line for each of the listed elements of an input, in their order
-pub data AreLinesOf (k : Lines) (s : Option Schema) (style : Style) (i : List ℕ)
+pub data AreLinesOf (k : Lines) (s : Option Schema) (o : Options) (i : List ℕ)
     : List Listed → List ℕ → Type 0 where
-  no_lines : AreLinesOf k s style i [] []
-  one_more_line : {us : List Listed} {text : List ℕ} (l : Listed) (line : List ℕ) → AreLinesOf k s style i us text
-      → IsLineOf k s style i l line → AreLinesOf k s style i (us ++ l ∷ []) (text ++ line)
+  no_lines : AreLinesOf k s o i [] []
+  one_more_line : {us : List Listed} {text : List ℕ} (l : Listed) (line : List ℕ) → AreLinesOf k s o i us text
+      → IsLineOf k s o i l line → AreLinesOf k s o i (us ++ l ∷ []) (text ++ line)
 
 -- known octets grew by the line of an element with this content, which is a field of this name
-abbrev pub AddsLineOf : Lines → List ℕ → Style → Visited → List ℕ → Option (List ℕ) → Option (List ℕ) → Type 0
-AddsLineOf kind.Tree field style v w old new = AddsFieldLine field style v w old new
-AddsLineOf kind.Json field style v w old new = AddsJson old new
+abbrev pub AddsLineOf : Lines → List ℕ → Options → Visited → List ℕ → Option (List ℕ) → Option (List ℕ) → Type 0
+AddsLineOf kind.Tree field o v w old new = AddsTreeLine (table_of o.own_names) field o.style v w old new
+AddsLineOf kind.Json field o v w old new = AddsJson old new
 
 -- known octets grew by a line for each listed one, one at least, of the elements that the input is, in preorder; it is
 -- of the type that is asked for, if one is
@@ -74,7 +75,7 @@ pub record WritesLines (k : Lines) (o : Options) (i : List ℕ) (old new : Optio
   pub are_listed : AreListed schema i o elements listed
   pub some : listed ≢ []
   pub text : List ℕ
-  pub lines : AreLinesOf k schema o.style i listed text
+  pub lines : AreLinesOf k schema o i listed text
   pub adds : Appends old new text
 
 -- known octets grew by the input as DER writes it
@@ -149,7 +150,7 @@ pub record RefusesLines (k : Lines) (o : Options) (i : List ℕ) (old new : Opti
   pub named_by : IsNamedBy o.naming o.rules i schema
   pub are_listed : AreListed schema i o elements listed
   pub text : List ℕ
-  pub lines : AreLinesOf k schema o.style i listed text
+  pub lines : AreLinesOf k schema o i listed text
   pub adds : Appends old new text
 
 -- octets are refused after these elements, or these are all

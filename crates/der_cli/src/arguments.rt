@@ -40,6 +40,7 @@ pub(crate) fn options_of<'a>(
             },
             colours: terminal.colours && action == Action::Tree,
         },
+        own_names: None,
         naming: Naming::Unnamed,
         place: place_of(matches),
         depth: matches.get_one::<usize>("depth"),

@@ -8,8 +8,9 @@ ghost use Rattle.der_print.specs.Texts.{content_of};
 use crate::options::Options;
 use crate::origin::Origin;
 use crate::report::report;
-use der_print::{Limit, Room, Style, octets_or_none, write_line};
+use der_print::{Limit, Room, Style, octets_or_none, write_named_line};
 use der_walk::{Element, Walk};
+use oid_names::OwnNames;
 use std::alloc::{AllocError, Global};
 use std::cmp::Ordering;
 use std::io;
@@ -50,7 +51,7 @@ pub(crate) fn compare<W: Write, X: Write>(
     if are_alike(&old, &new) {
         return Ok(Some(Difference::Same));
     }
-    print_differences(alloc, options.style, &old, &new, out)?;
+    print_differences(alloc, options, &old, &new, out)?;
     Ok(Some(Difference::Different))
 }
 
@@ -120,12 +121,13 @@ fn own_content<'a>(element: &Element<'a>) -> &'a [u8]
 /// Prints the elements that differ, or that one input alone has. Elements with the same indexes are a pair.
 fn print_differences<W: Write>(
     alloc: Global,
-    style: Style,
+    options: &Options<'_>,
     old: &[Element<'_>],
     new: &[Element<'_>],
     out: &mut W,
 ) -> io::Result<()> {
-    let style = behind_sign(style);
+    let style = behind_sign(options.style);
+    let own = options.own_names;
     let mut left = Side::new(alloc, old);
     let mut right = Side::new(alloc, new);
     let mut room = Room::new(alloc);
@@ -137,10 +139,10 @@ fn print_differences<W: Write>(
         };
         let are_alike = order == Ordering::Equal && left.is_alike(&right);
         if order != Ordering::Greater {
-            room = left.pass(are_alike, b"- ", room, style, out)?;
+            room = left.pass(are_alike, b"- ", room, style, own, out)?;
         }
         if order != Ordering::Less {
-            room = right.pass(are_alike, b"+ ", room, style, out)?;
+            room = right.pass(are_alike, b"+ ", room, style, own, out)?;
         }
     }
     Ok(())
@@ -210,12 +212,13 @@ impl<'a, 'e> Side<'a, 'e> {
     }
 
     /// Goes on after the next element, and prints its line behind a sign, unless it is alike.
-    fn pass<W: Write>(
+    fn pass<'n, W: Write>(
         &mut self,
         is_alike: bool,
         sign: &[u8],
         room: Room,
         style: Style,
+        own: Option<&'n OwnNames<'n>>,
         out: &mut W,
     ) -> io::Result<Room> {
         let Some(next) = self.elements.get(self.at) else {
@@ -226,6 +229,6 @@ impl<'a, 'e> Side<'a, 'e> {
             return Ok(room);
         }
         out.write_all(sign)?;
-        write_line(out, room, next, style)
+        write_named_line(out, room, next, style, own)
     }
 }

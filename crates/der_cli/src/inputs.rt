@@ -17,6 +17,7 @@ use clap::ArgMatches;
 use der_input::Form;
 use der_print::Style;
 use der_walk::Rules;
+use oid_names::OwnNames;
 use std::alloc::Global;
 use std::io::{ErrorKind, Read, Write};
 use std::rt::Files;
@@ -107,17 +108,21 @@ pub(crate) fn report_unread<X: Write>(name: &str, e: &io::Error, err: &mut X) ->
 }
 
 /// Compares two files. Returns the status.
-pub(crate) fn run_diff<R: Files + AllocGlobal, I: Read, W: Write, X: Write>(
+pub(crate) fn run_diff<'n, R: Files + AllocGlobal, I: Read, W: Write, X: Write>(
     rt: &R,
     matches: &ArgMatches<'_>,
     terminal: Style,
+    own_names: Option<&'n OwnNames<'n>>,
     input: &mut I,
     out: &mut W,
     err: &mut X,
 ) -> io::Result<u8>
     ensures { IfOk result (λ status. status ≤ 2) }
 {
-    let options = diff_options(matches, terminal);
+    let options = Options {
+        own_names,
+        ..diff_options(matches, terminal)
+    };
     match (matches.get_str("first"), matches.get_str("second")) {
         (Some(first), Some(second)) => diff_files(rt, &options, (first, second), input, out, err),
         _ => Ok(TROUBLE),
@@ -207,6 +212,7 @@ fn diff_options<'a>(matches: &ArgMatches<'a>, terminal: Style) -> Options<'a> {
             limit: limit_of(matches, terminal.limit),
             colours: terminal.colours,
         },
+        own_names: None,
         naming: Naming::Unnamed,
         place: None,
         depth: None,

@@ -16,6 +16,7 @@ mod name;
 mod naming;
 pub mod options;
 mod origin;
+mod own_names;
 mod part;
 pub mod place;
 mod present;

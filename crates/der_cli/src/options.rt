@@ -5,6 +5,7 @@ use der_known::KnownTypes;
 use der_print::Style;
 use der_schema::Schema;
 use der_walk::Rules;
+use oid_names::OwnNames;
 
 /// What is done with the elements of an input.
 #[derive(Clone, Copy, Debug, PartialEq)]
@@ -45,6 +46,8 @@ pub struct Options<'a> {
     /// How the inputs are written. None if each is looked at.
     pub form: Option<Form>,
     pub style: Style,
+    /// Names of identifiers in a table of one's own, which precede the built-in ones.
+    pub own_names: Option<&'a OwnNames<'a>>,
     /// By which type elements are named, and of which an input has to be.
     pub naming: Naming<'a>,
     /// Where the element is that is listed or written. None for the outermost elements.

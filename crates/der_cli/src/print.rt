@@ -2,7 +2,8 @@
 ghost use Rattle.std.specs.Prelude.{◌≡◌, IfOk, IsTrue, MatchBool, OnOk, false};
 ghost use Rattle.der_json.specs.Json.{AddsJson};
 ghost use Rattle.der_cli.specs.Outputs.{AddsLineOf, RefusesLines, WritesLines};
-ghost use Rattle.der_print.specs.Lines.{AddsFieldLine};
+ghost use Rattle.der_print.specs.Lines.{AddsLineOf as AddsTreeLine};
+ghost use Rattle.der_print.specs.Names.{table_of};
 ghost use Rattle.der_print.specs.Texts.{content_of};
 ghost use Rattle.der_walk.specs.Walked.{visited_of};
 
@@ -14,11 +15,11 @@ use crate::origin::Origin;
 use crate::report::{report_end, report_refusal};
 use crate::source::{Names, source_of};
 use der_json::{Paths, write_json};
-use der_print::{Room, Style, write_field_line};
+use der_print::{Room, write_line_of};
 use der_walk::{Element, Walk};
 use std::alloc::Global;
-use std::io;
 use std::io::Write;
+use std::{io, mem};
 
 /// What the line of an element is.
 #[derive(Clone, Copy, Debug, PartialEq)]
@@ -87,7 +88,9 @@ pub(crate) fn print_lines<W: Write, X: Write>(
                 let field = fields.name_of(&element);
                 let is_listed = listing.takes(alloc, &element, &fields)?;
                 let visit = Visit { is_listed, field };
-                kept = pass(alloc, options, printed, visit, &fields, kept, &element, out)?;
+                pass(
+                    alloc, options, printed, visit, &fields, &mut kept, &element, out,
+                )?;
             }
             Ok(None) => return report_end(options, origin, octets, &listing, out, err),
             Err(refusal) => return report_refusal(origin, &walk, &refusal, out, err),
@@ -112,40 +115,42 @@ fn pass<W: Write>(
     printed: Printed<'_>,
     visit: Visit,
     fields: &Fields<'_>,
-    kept: Kept,
+    kept: &mut Kept,
     element: &Element<'_>,
     out: &mut W,
-) -> io::Result<Kept>
+) -> io::Result<()>
     ensures { OnOk result (MatchBool visit.is_listed
-        (AddsLineOf printed.entry.lines visit.field.now options.now.style (visited_of element.now)
+        (AddsLineOf printed.entry.lines visit.field.now options.now (visited_of element.now)
         (content_of element.now) (W.contents out.old) (W.contents out.new))
         (W.contents out.new ≡ W.contents out.old)) }
 {
     match printed.lines {
-        Lines::Tree => pass_in_tree(options.style, visit, kept, element, out),
+        Lines::Tree => pass_in_tree(alloc, options, visit, kept, element, out),
         Lines::Json => pass_in_json(alloc, options, printed, visit, fields, kept, element, out),
     }
 }
 
 /// Writes the line of an element in a tree if it is listed.
 fn pass_in_tree<W: Write>(
-    style: Style,
+    alloc: Global,
+    options: &Options<'_>,
     visit: Visit,
-    kept: Kept,
+    kept: &mut Kept,
     element: &Element<'_>,
     out: &mut W,
-) -> io::Result<Kept>
-    ensures { OnOk result (MatchBool visit.is_listed
-        (AddsFieldLine visit.field.now style (visited_of element.now) (content_of element.now)
-        (W.contents out.old) (W.contents out.new))
+) -> io::Result<()>
+    ensures { let o = options.now in OnOk result (MatchBool visit.is_listed
+        (AddsTreeLine (table_of o.own_names) visit.field.now o.style (visited_of element.now)
+        (content_of element.now) (W.contents out.old) (W.contents out.new))
         (W.contents out.new ≡ W.contents out.old)) }
 {
     if !visit.is_listed {
-        return Ok(kept);
+        return Ok(());
     }
-    let Kept { room, paths } = kept;
-    let room = write_field_line(out, room, element, visit.field, style)?;
-    Ok(Kept { room, paths })
+    let (style, own) = (options.style, options.own_names);
+    let room = mem::replace(&mut kept.room, Room::new(alloc));
+    kept.room = write_line_of(out, room, element, visit.field, style, own)?;
+    Ok(())
 }
 
 /// Goes on to the path of an element, and writes its object of JSON if it is listed.
@@ -155,27 +160,24 @@ fn pass_in_json<W: Write>(
     printed: Printed<'_>,
     visit: Visit,
     fields: &Fields<'_>,
-    kept: Kept,
+    kept: &mut Kept,
     element: &Element<'_>,
     out: &mut W,
-) -> io::Result<Kept>
+) -> io::Result<()>
     ensures { OnOk result (MatchBool visit.is_listed (AddsJson (W.contents out.old) (W.contents out.new))
         (W.contents out.new ≡ W.contents out.old)) }
 {
-    let Kept { room, paths } = kept;
-    let mut paths = paths;
-    paths.enter(alloc, element)?;
+    kept.paths.enter(alloc, element)?;
     if visit.is_listed {
         let field_path = fields.path(alloc)?;
         let names = Names {
-            path: paths.last(),
+            path: kept.paths.last(),
             field: visit.field,
             field_path: &field_path,
         };
-        write_object(alloc, options, printed, names, element, out)?;
-        return Ok(Kept { room, paths });
+        return write_object(alloc, options, printed, names, element, out);
     }
-    Ok(Kept { room, paths })
+    Ok(())
 }
 
 /// Writes an element as an object of JSON.
@@ -190,5 +192,5 @@ fn write_object<W: Write>(
     ensures { OnOk result (AddsJson (W.contents out.old) (W.contents out.new)) }
 {
     let source = source_of(options, printed.origin, names, printed.octets, element);
-    write_json(alloc, source, element, out)
+    write_json(alloc, source, element, options.own_names, out)
 }

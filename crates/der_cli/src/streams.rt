@@ -15,6 +15,7 @@ use crate::command::command;
 use crate::inputs::{STANDARD_INPUT, run_diff, run_files, run_octets, run_text};
 use crate::naming::naming_of;
 use crate::options::{Action, Options};
+use crate::own_names::{names_in, table_text};
 use crate::present::at_present;
 use crate::report::report_unknown_type;
 use crate::run::run;
@@ -23,6 +24,7 @@ use crate::terminal::style_of;
 use clap::ArgMatches;
 use der_known::KnownTypes;
 use der_print::Style;
+use oid_names::OwnNames;
 use std::alloc::Global;
 use std::env::Env;
 use std::io::{BufWriter, ErrorKind, Read, Write};
@@ -130,18 +132,27 @@ fn run_subcommand<
     let Some((name, matches)) = matches.subcommand() else {
         return Ok(USAGE);
     };
+    let table = matches.get_str("names");
+    let Some(text) = table_text(rt, table, err)? else {
+        return Ok(USAGE);
+    };
+    let Some(names) = names_in(rt.alloc(), table, &text, err)? else {
+        return Ok(USAGE);
+    };
+    let own = Some(&names);
     let mut out = BufWriter::new(rt.alloc(), out)?;
-    let status = run_named(rt, name, matches, terminal, &mut input, &mut out, err)?;
+    let status = run_named(rt, name, matches, terminal, own, &mut input, &mut out, err)?;
     out.flush()?;
     Ok(status)
 }
 
 /// Runs the subcommand with this name.
-fn run_named<R: Files + Clock + AllocGlobal + Clone + Drop, I: Read, W: Write, X: Write>(
+fn run_named<'n, R: Files + Clock + AllocGlobal + Clone + Drop, I: Read, W: Write, X: Write>(
     rt: &R,
     name: &str,
     matches: &ArgMatches<'_>,
     terminal: Style,
+    own: Option<&'n OwnNames<'n>>,
     input: &mut I,
     out: &mut W,
     err: &mut X,
@@ -149,20 +160,24 @@ fn run_named<R: Files + Clock + AllocGlobal + Clone + Drop, I: Read, W: Write, X
     ensures { IfOk result (λ status. status ≤ 2) }
 {
     let are_read = match name {
-        "diff" => return run_diff(rt, matches, terminal, input, out, err),
+        "diff" => return run_diff(rt, matches, terminal, own, input, out, err),
         "text" => run_text(rt, matches, input, out, err)?,
         "octets" => run_octets(rt, matches, input, out, err)?,
-        _ => return run_action(rt, action_named(name), matches, terminal, input, out, err),
+        _ => {
+            let action = action_named(name);
+            return run_action(rt, action, matches, terminal, own, input, out, err);
+        }
     };
     Ok(status_of(are_read))
 }
 
 /// Runs an action over the files of its subcommand, or reports that a type that is asked for isn't known.
-fn run_action<R: Files + Clock + AllocGlobal + Clone + Drop, I: Read, W: Write, X: Write>(
+fn run_action<'n, R: Files + Clock + AllocGlobal + Clone + Drop, I: Read, W: Write, X: Write>(
     rt: &R,
     action: Action,
     matches: &ArgMatches<'_>,
     terminal: Style,
+    own: Option<&'n OwnNames<'n>>,
     input: &mut I,
     out: &mut W,
     err: &mut X,
@@ -176,7 +191,11 @@ fn run_action<R: Files + Clock + AllocGlobal + Clone + Drop, I: Read, W: Write, 
         return Ok(USAGE);
     };
     let asked = at_present(rt, options_of(action, matches, terminal));
-    let options = Options { naming, ..asked };
+    let options = Options {
+        naming,
+        own_names: own,
+        ..asked
+    };
     let are_read = run_inputs(rt, &options, matches, input, out, err)?;
     Ok(status_of(are_read))
 }

@@ -51,7 +51,7 @@ pub(crate) static SUBCOMMANDS: [Subcommand; 9] = [
         about: "Print a line for each element, with its offset, lengths, type and value",
         notes: Some(PATH_NOTES),
         arguments: &[
-            DER, AS, FULL, WIDTH, DEPTH, OFFSET, PATH, NO_INSIDE, RECURSIVE, FROM, FILES,
+            DER, AS, NAMES, FULL, WIDTH, DEPTH, OFFSET, PATH, NO_INSIDE, RECURSIVE, FROM, FILES,
         ],
     },
     Subcommand {
@@ -77,7 +77,7 @@ pub(crate) static SUBCOMMANDS: [Subcommand; 9] = [
         about: "Print a line of JSON for each element",
         notes: Some(JSON_NOTES),
         arguments: &[
-            DER, AS, OCTETS, DEPTH, OFFSET, PATH, NO_INSIDE, RECURSIVE, FROM, FILES,
+            DER, AS, NAMES, OCTETS, DEPTH, OFFSET, PATH, NO_INSIDE, RECURSIVE, FROM, FILES,
         ],
     },
     Subcommand {
@@ -90,7 +90,7 @@ pub(crate) static SUBCOMMANDS: [Subcommand; 9] = [
         name: "diff",
         about: "Print the elements in which two files differ",
         notes: Some(DIFF_NOTES),
-        arguments: &[DER, FULL, WIDTH, NO_INSIDE, FROM, FIRST, SECOND],
+        arguments: &[DER, NAMES, FULL, WIDTH, NO_INSIDE, FROM, FIRST, SECOND],
     },
     Subcommand {
         name: "text",
@@ -163,6 +163,14 @@ const AS: Argument = Argument {
 const AS_TYPE: Argument = Argument {
     help: "Check that it is of this type too, as Certificate",
     ..AS
+};
+
+const NAMES: Argument = Argument {
+    name: "names",
+    value: Some("FILE"),
+    help: "Name identifiers by lines of this file, as 1.2.3 ours",
+    kind: Kind::Word,
+    ..FLAG
 };
 
 const QUIET: Argument = Argument {

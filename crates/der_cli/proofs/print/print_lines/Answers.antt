@@ -21,7 +21,7 @@ elements-preserved g c =
     record {
       printed =
           printed_more c.args.lines _ _ _ p next.0 next.1 named.0 named.1 (c.in_ok-is_listed-in-Ok-Some.ensures p.schema i o p.elements p.listed p.chosen next.2 named.0)
-          c.in_ok-kept-in-Ok-Some.ensures;
+          c.in_ok-pass-in-Ok-Some.ensures;
     }
 
 pub returns-in-Ok-None-clause-read : goal.returns-in-Ok-None-clause-read
