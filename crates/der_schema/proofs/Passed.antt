@@ -14,19 +14,20 @@ use Rattle.der_schema.specs.declared.schema.Component.{Component}
 use Rattle.der_schema.specs.Encodings.{all_seen, encoding_in, seen_in}
 use Rattle.der_schema.specs.Ends.{level_ends, may_end, whole_at, whole_past, whole_by}
 use Rattle.der_schema.specs.Levels.{states_in}
-use Rattle.der_schema.specs.Meaning.{Encoding, Label, Passed, Root, State, past, state_of}
+use Rattle.der_schema.specs.Meaning.{Encoding, Label, Passed, Root, State, expected_of, has_items, past, state_of}
 use Rattle.der_schema.specs.Opened.{Seen, seen, opened_after, opened_at, opened_past, name_after, name_at, name_in, of_input, opened_by}
-use Rattle.der_schema.specs.Steps.{passed_of}
+use Rattle.der_schema.specs.Steps.{items_at, label_by, passed_of}
 
 level_at : (ts : List Component) (ls : List Level) (k : ℕ) (l : Level) → slice_get ls k ≡ Some l
     → slice_get (map (state_of ts) ls) k ≡ Some (state_of ts l)
 level_at ts ls k l get = slice_get-map (state_of ts) ls k ∙ ap (option_map (state_of ts)) get
 
 pub pass_name : (ts : List Component) (ls : List Level) (k : ℕ) (l : Level) (x : Encoding) (st : Step)
-    → slice_get ls k ≡ Some l → passed_of ts st ≡ past (state_of ts l) x
-    → (passed_of ts st).name ≡ name_in (map (state_of ts) ls) (seen k x)
+    → slice_get ls k ≡ Some l → passed_of ts (has_items (expected_of l.expected)) st ≡ past (state_of ts l) x
+    → label_by (items_at (slice_get ls k)) st.named ≡ name_in (map (state_of ts) ls) (seen k x)
 pass_name ts ls k l x st get step =
-    ap (λ (p : Passed). p.name) step ∙ sym (ap (λ (o : Option State). name_at o x) (level_at ts ls k l get))
+    ap (λ (o : Option Level). label_by (items_at o) st.named) get
+    ∙ ap (λ (p : Passed). p.name) step ∙ sym (ap (λ (o : Option State). name_at o x) (level_at ts ls k l get))
 
 pushed : (ts : List Component) (ls : List Level) (k : ℕ) (l m : Level) → map (state_of ts) (take k ls ++ l ∷ m ∷ [])
     ≡ take k (map (state_of ts) ls) ++ state_of ts l ∷ state_of ts m ∷ []
@@ -35,7 +36,7 @@ pushed ts ls k l m =
     ∙ ap (λ (ss : List State). ss ++ state_of ts l ∷ state_of ts m ∷ []) (sym (take-map (state_of ts) k ls))
 
 pub pass_opened : (ts : List Component) (ls ls' : List Level) (k : ℕ) (l : Level) (x : Encoding) (st : Step)
-    → slice_get ls k ≡ Some l → passed_of ts st ≡ past (state_of ts l) x
+    → slice_get ls k ≡ Some l → passed_of ts (has_items (expected_of l.expected)) st ≡ past (state_of ts l) x
     → ls' ≡ take k ls ++ st.after ∷ st.inside ∷ []
     → map (state_of ts) ls' ≡ opened_past (map (state_of ts) ls) (seen k x)
 pass_opened ts ls ls' k l x st get step put =

@@ -89,7 +89,7 @@ field name i = record { name = name; inside = i }
 
 abbrev pub field_of : Option Found → Option Field
 field_of None = None
-field_of (Some f) = Some (field f.name.now f.inside.now)
+field_of (Some f) = Some (field f.named.now.name.now f.inside.now)
 
 abbrev pub or_else : {A : Type 0} → Option A → Option A → Option A
 or_else (Some a) _ = Some a

@@ -1,9 +1,10 @@
 -- What the private functions of a namer find, as values of the definitions.
-use Rattle.std.specs.Prelude.{Option, Some, None, List, []}
+use Rattle.std.specs.Prelude.{Bool, false, Option, Some, None, List, []}
 use Rattle.std.specs.Borrow.{Bor}
 use Rattle.der_walk.specs.declared.element.Element.{Element}
 use Rattle.der_walk.specs.Walked.{visited_of}
 use Rattle.der_schema.specs.declared.level.Content.{Content}
+use Rattle.der_schema.specs.declared.level.Level.{Level}
 use Rattle.der_schema.specs.declared.matching.Found.{Found}
 use Rattle.der_schema.specs.declared.matching.Known.{Known}
 use Rattle.der_schema.specs.declared.matching.Name.{Name}
@@ -12,7 +13,7 @@ use Rattle.der_schema.specs.declared.schema.Component.{Component}
 use Rattle.der_schema.specs.declared.schema.Selection.{Selection}
 use Rattle.der_schema.specs.Encodings.{encoding_in}
 use Rattle.der_schema.specs.Meaning.{Around, Encoding, Expected, Field, Label, Passed, all_types, components_of}
-use Rattle.der_schema.specs.Meaning.{expected_of, field, state_of}
+use Rattle.der_schema.specs.Meaning.{expected_of, field, has_items, state_of}
 
 -- what a schema sees of an element of the input
 abbrev pub encoding_of : Known → Element → Encoding
@@ -26,17 +27,29 @@ abbrev pub label_of : Option Name → Option Label
 label_of None = None
 label_of (Some n) = Some (record { text = n.text.now; is_item = n.is_item })
 
-abbrev pub passed_of : List Component → Step → Passed
-passed_of ts s = record { name = label_of s.name; inside = state_of ts s.inside; after = state_of ts s.after }
+-- the name that a component has, of an item or not
+abbrev pub label_by : Bool → Option (Bor Component) → Option Label
+label_by item None = None
+label_by item (Some w) = Some (record { text = w.now.name.now; is_item = item })
+
+-- the elements of a content are items, if it is there
+abbrev pub items_at : Option Level → Bool
+items_at None = false
+items_at (Some l) = has_items (expected_of l.expected)
+
+-- a step of an element, which is an item or not
+abbrev pub passed_of : List Component → Bool → Step → Passed
+passed_of ts item s =
+    record { name = label_by item s.named; inside = state_of ts s.inside; after = state_of ts s.after }
 
 abbrev pub next_found : Option (Found × Bor (List Component)) → Option (Field × List Component)
 next_found None = None
-next_found (Some p) = Some (field p.0.name.now p.0.inside.now, p.1.now)
+next_found (Some p) = Some (field p.0.named.now.name.now p.0.inside.now, p.1.now)
 
 -- what is found, after which this is expected
 abbrev pub place_found : Option Found → Content → Option (Field × Expected)
 place_found None c = None
-place_found (Some f) c = Some (field f.name.now f.inside.now, expected_of c)
+place_found (Some f) c = Some (field f.named.now.name.now f.inside.now, expected_of c)
 
 abbrev pub selection_in : Option (Bor Selection) → List Component
 selection_in None = []

@@ -4,10 +4,11 @@ ghost use Rattle.std.specs.List.{list_all};
 ghost use Rattle.der_schema.specs.Ends.{level_ends, whole_past};
 ghost use Rattle.der_schema.specs.Meaning.{all_types};
 ghost use Rattle.der_schema.specs.Opened.{name_in, opened_past, seen};
-ghost use Rattle.der_schema.specs.Steps.{encoding_of, label_of};
+ghost use Rattle.der_schema.specs.Steps.{encoding_of, items_at, label_by};
 
 use crate::level::{Level, may_all_end};
-use crate::matching::{Known, Name, Step};
+use crate::matching::{Known, Step, has_items};
+use crate::schema::Component;
 use der_walk::Element;
 
 /// How many contents are open at most: the input, and that of each element around one and of itself.
@@ -16,8 +17,8 @@ const MAX_LEVELS: usize = 102;
 /// How many elements may be around an element.
 const MAX_DEPTH: usize = 100;
 
-/// What the places hold that aren't used. A constant is copied at once.
-const NO_LEVELS: [Level; MAX_LEVELS] = [Level::NOTHING; MAX_LEVELS];
+/// What the places hold that aren't used. Behind a reference it is copied at once, and else place by place.
+const NO_LEVELS: &[Level; MAX_LEVELS] = &[Level::NOTHING; MAX_LEVELS];
 
 /// Places for what is expected in contents, the outermost first.
 #[derive(Drop)]
@@ -27,7 +28,7 @@ struct Cells {
 
 impl Cells {
     ghost use Rattle.std.specs.Prelude.{◌≡◌, ◌+◌, ◌≤◌, Some, length, set, slice_get};
-    ghost use Rattle.der_schema.specs.Meaning.{all_types, past, state_of};
+    ghost use Rattle.der_schema.specs.Meaning.{all_types, expected_of, has_items, past, state_of};
     ghost use Rattle.der_schema.specs.Steps.{encoding_of, passed_of};
 
     /// Goes past an element, in the content around it, and begins that in it.
@@ -38,7 +39,7 @@ impl Cells {
         ensures cells { self.new.levels ≡ set (set self.old.levels element.now.depth result.after)
             (element.now.depth + 1) result.inside }
         ensures step { (l : Level) → slice_get self.old.levels element.now.depth ≡ Some l
-            → passed_of (all_types known.now.types.now) result
+            → passed_of (all_types known.now.types.now) (has_items (expected_of l.expected)) result
             ≡ past (state_of (all_types known.now.types.now) l) (encoding_of known.now element.now) }
     {
         let depth = element.depth;
@@ -68,7 +69,7 @@ impl Levels {
         ensures levels { levels_of result ≡ level ∷ [] }
         ensures whole { result.whole ≡ true }
     {
-        let mut levels = NO_LEVELS;
+        let mut levels = *NO_LEVELS;
         levels[0] = level;
         Levels {
             cells: Cells { levels },
@@ -77,15 +78,30 @@ impl Levels {
         }
     }
 
-    /// Goes past an element, and returns its name.
-    pub(crate) fn pass(&mut self, element: &Element<'_>, known: &Known<'_>) -> Option<Name>
+    /// Whether the elements of the content at this depth are items.
+    pub(crate) fn has_items(&self, depth: usize) -> bool
+        ensures { result ≡ items_at (slice_get (levels_of self.now) depth) }
+    {
+        match self.level_at(depth) {
+            Some(level) => has_items(level.expected),
+            None => false,
+        }
+    }
+
+    /// Goes past an element, and returns the component that has its name.
+    pub(crate) fn pass(
+        &mut self,
+        element: &Element<'_>,
+        known: &Known<'_>,
+    ) -> Option<&'static Component>
         ensures opened { element.now.depth ≤ 100 → states_in (all_types known.now.types.now) self.new
             ≡ opened_past (states_in (all_types known.now.types.now) self.old)
             (seen element.now.depth (encoding_of known.now element.now)) }
         ensures whole { element.now.depth ≤ 100 → self.new.whole
             ≡ whole_past self.old.whole (states_in (all_types known.now.types.now) self.old)
             (seen element.now.depth (encoding_of known.now element.now)) }
-        ensures name { element.now.depth ≤ 100 → label_of result
+        ensures name { element.now.depth ≤ 100
+            → label_by (items_at (slice_get (levels_of self.old) element.now.depth)) result
             ≡ name_in (states_in (all_types known.now.types.now) self.old)
             (seen element.now.depth (encoding_of known.now element.now)) }
     {
@@ -96,7 +112,7 @@ impl Levels {
         self.whole = self.is_whole_inside(depth);
         let step = self.cells.pass(element, known);
         self.len = depth + 2;
-        step.name
+        step.named
     }
 
     /// Whether each content has all its components, if they end here.

@@ -6,7 +6,8 @@ ghost use Rattle.der_schema.specs.Meaning.{all_types, alternative_in, as_alterna
 ghost use Rattle.der_schema.specs.Meaning.{as_referred, as_selected, chosen_in, components_of};
 ghost use Rattle.der_schema.specs.Meaning.{expected_of, field_of, first_content, fits, found_in, has_items, member_in};
 ghost use Rattle.der_schema.specs.Meaning.{name_or, next_in, opened, selected_by, selected_past, tagged_field};
-ghost use Rattle.der_schema.specs.Steps.{around, component_in, encoding_of, next_found, selection_in};
+ghost use Rattle.der_schema.specs.Steps.{around, component_in, encoding_of, label_by, label_of, next_found};
+ghost use Rattle.der_schema.specs.Steps.{selection_in};
 
 use crate::level::{Content, Level, nothing_selected};
 use crate::schema::{Class, Component, Form, Inside, Selection, Type};
@@ -34,40 +35,37 @@ pub(crate) struct Known<'a> {
 /// An element that is in a schema.
 #[derive(Clone, Copy)]
 pub(crate) struct Found {
-    pub name: &'static str,
+    /// The component that has its name.
+    pub named: &'static Component,
     pub inside: &'static Inside,
 }
 
-/// What a schema says of an element: its name, what is expected inside it, and after it.
+/// What a schema says of an element: the component that has its name, what is expected inside it, and after it.
 #[derive(Clone, Copy)]
 pub(crate) struct Step {
-    pub name: Option<Name>,
+    pub named: Option<&'static Component>,
     pub inside: Level,
     pub after: Level,
 }
 
 impl Level {
     ghost use Rattle.std.specs.Prelude.{◌≡◌};
-    ghost use Rattle.der_schema.specs.Meaning.{all_types, expected_of, past, place_in, state_of};
+    ghost use Rattle.der_schema.specs.Meaning.{all_types, expected_of, has_items, past, place_in, state_of};
     ghost use Rattle.der_schema.specs.Steps.{around, encoding_of, passed_of, place_found};
 
     /// Goes past the next element of the content: what is expected is then what is expected after it.
     #[inline(always)]
     pub(crate) fn go_past(&mut self, element: &Element<'_>, known: &Known<'_>) -> Step
-        ensures step { passed_of (all_types known.now.types.now) result
+        ensures step { passed_of (all_types known.now.types.now) (has_items (expected_of self.old.expected)) result
             ≡ past (state_of (all_types known.now.types.now) self.old) (encoding_of known.now element.now) }
         ensures after { self.new ≡ result.after }
     {
-        let is_item = has_items(self.expected);
         let selected = self.selected;
         match self.find(element, known) {
             Some(found) => {
                 self.selected = selected_after(found.inside, element, known, selected);
                 Step {
-                    name: Some(Name {
-                        text: found.name,
-                        is_item,
-                    }),
+                    named: Some(found.named),
                     inside: Level {
                         expected: opened(found.inside, element.constructed, selected.components),
                         selected,
@@ -78,7 +76,7 @@ impl Level {
             None => {
                 self.expected = Content::NoElement;
                 Step {
-                    name: None,
+                    named: None,
                     inside: *self,
                     after: *self,
                 }
@@ -96,7 +94,7 @@ impl Level {
     {
         match self.expected {
             Content::NoElement => None,
-            Content::Anything => Some(Found::any("")),
+            Content::Anything => Some(Found::any(&NAMELESS)),
             Content::Ordered(components) => {
                 let (found, rest) = next_of(components, element, self.selected, known)?;
                 self.expected = Content::Ordered(rest);
@@ -113,23 +111,43 @@ impl Level {
 /// What is inside any element.
 static ANY_ELEMENTS: Inside = Inside::Free;
 
+/// A component with no name.
+static NAMELESS: Component = Component {
+    name: "",
+    optional: false,
+    kind: Type::Any,
+};
+
 impl Found {
     ghost use Rattle.std.specs.Prelude.{[]};
     ghost use Rattle.der_schema.specs.Meaning.{any_elements, field};
 
-    /// Any element, with this name.
-    fn any(name: &'static str) -> Found
-        ensures { field_of (Some result) ≡ Some (field name.now any_elements) }
+    /// Any element, with the name of this component.
+    fn any(named: &'static Component) -> Found
+        ensures { field_of (Some result) ≡ Some (field named.now.name.now any_elements) }
     {
         Found {
-            name,
+            named,
             inside: &ANY_ELEMENTS,
         }
     }
 }
 
+/// The name of an element in the schema, which this component has.
+pub(crate) fn name_by(named: Option<&'static Component>, is_item: bool) -> Option<Name>
+    ensures { label_of result ≡ label_by is_item named.entry }
+{
+    match named {
+        Some(named) => Some(Name {
+            text: named.name,
+            is_item,
+        }),
+        None => None,
+    }
+}
+
 /// Whether the elements are items, which their index tells apart.
-fn has_items(expected: Content) -> bool
+pub(crate) fn has_items(expected: Content) -> bool
     ensures { result ≡ has_items (expected_of expected) }
 {
     match expected {
@@ -315,13 +333,13 @@ fn found_as(
     match &component.kind {
         Type::Tagged(class, number, form, inside) => {
             let found = Found {
-                name: component.name,
+                named: component,
                 inside,
             };
             tagged_as(*class, *number, *form, element, known, found)
         }
-        Type::Selected => selected_as(selected, element, known, component.name),
-        _ => referred_as(component, element, known, component.name),
+        Type::Selected => selected_as(selected, element, known, component),
+        _ => referred_as(component, element, known, component),
     }
 }
 
@@ -331,14 +349,14 @@ fn selected_as(
     selected: &'static Selection,
     element: &Element<'_>,
     known: &Known<'_>,
-    name: &'static str,
+    named: &'static Component,
 ) -> Option<Found>
     ensures { field_of result
-        ≡ as_selected (around selected.now known.now) (encoding_of known.now element.now) name.now }
+        ≡ as_selected (around selected.now known.now) (encoding_of known.now element.now) named.now.name.now }
 {
     match selected.components {
-        [selected, ..] => referred_as(selected, element, known, name_or(selected.name, name)),
-        [] => Some(Found::any(name)),
+        [selected, ..] => referred_as(selected, element, known, named_or(selected, named)),
+        [] => Some(Found::any(named)),
     }
 }
 
@@ -348,14 +366,14 @@ fn referred_as(
     component: &'static Component,
     element: &Element<'_>,
     known: &Known<'_>,
-    name: &'static str,
+    named: &'static Component,
 ) -> Option<Found>
     ensures { field_of result ≡ as_referred component.now (all_types known.now.types.now)
-        (encoding_of known.now element.now) name.now }
+        (encoding_of known.now element.now) named.now.name.now }
 {
     match component.kind {
-        Type::Numbered(index) => numbered_as(index, element, known, name),
-        _ => plain_as(component, element, known, name),
+        Type::Numbered(index) => numbered_as(index, element, known, named),
+        _ => plain_as(component, element, known, named),
     }
 }
 
@@ -365,13 +383,13 @@ fn numbered_as(
     index: usize,
     element: &Element<'_>,
     known: &Known<'_>,
-    name: &'static str,
+    named: &'static Component,
 ) -> Option<Found>
     ensures { field_of result ≡ as_numbered (slice_get (all_types known.now.types.now) index)
-        (encoding_of known.now element.now) name.now }
+        (encoding_of known.now element.now) named.now.name.now }
 {
     match type_at(known.types, index) {
-        Some(numbered) => plain_as(numbered, element, known, name_or(name, numbered.name)),
+        Some(numbered) => plain_as(numbered, element, known, named_or(named, numbered)),
         None => None,
     }
 }
@@ -389,12 +407,12 @@ fn plain_as(
     component: &'static Component,
     element: &Element<'_>,
     known: &Known<'_>,
-    name: &'static str,
+    named: &'static Component,
 ) -> Option<Found>
-    ensures { field_of result ≡ as_plain component.now (encoding_of known.now element.now) name.now }
+    ensures { field_of result ≡ as_plain component.now (encoding_of known.now element.now) named.now.name.now }
 {
     match &component.kind {
-        Type::Any => Some(Found::any(name)),
+        Type::Any => Some(Found::any(named)),
         Type::Tagged(class, number, form, inside) => {
             tagged_as(
                 *class,
@@ -402,10 +420,10 @@ fn plain_as(
                 *form,
                 element,
                 known,
-                Found { name, inside },
+                Found { named, inside },
             )
         }
-        Type::Choice(alternatives) => alternative_of(alternatives, element, known, name),
+        Type::Choice(alternatives) => alternative_of(alternatives, element, known, named),
         Type::Selected | Type::Numbered(_) => None,
     }
 }
@@ -416,10 +434,10 @@ fn alternative_of(
     alternatives: &'static [Component],
     element: &Element<'_>,
     known: &Known<'_>,
-    choice: &'static str,
+    choice: &'static Component,
 ) -> Option<Found>
     ensures { field_of result
-        ≡ alternative_in alternatives.now (encoding_of known.now element.now) choice.now }
+        ≡ alternative_in alternatives.now (encoding_of known.now element.now) choice.now.name.now }
 {
     let mut ahead = alternatives;
     while let Some((alternative, rest)) = ahead.split_first() {
@@ -437,31 +455,31 @@ fn as_alternative(
     alternative: &'static Component,
     element: &Element<'_>,
     known: &Known<'_>,
-    choice: &'static str,
+    choice: &'static Component,
 ) -> Option<Found>
-    ensures { field_of result ≡ as_alternative alternative.now (encoding_of known.now element.now) choice.now }
+    ensures { field_of result ≡ as_alternative alternative.now (encoding_of known.now element.now) choice.now.name.now }
 {
     match &alternative.kind {
         Type::Tagged(class, number, form, inside) => {
-            let name = name_or(alternative.name, choice);
+            let named = named_or(alternative, choice);
             tagged_as(
                 *class,
                 *number,
                 *form,
                 element,
                 known,
-                Found { name, inside },
+                Found { named, inside },
             )
         }
         _ => None,
     }
 }
 
-/// The first name, or the second if the first is empty.
-fn name_or(name: &'static str, other: &'static str) -> &'static str
-    ensures { result.now ≡ name_or name.now other.now }
+/// The component of these two that has the name: the first, or the second if the first has none.
+fn named_or(one: &'static Component, other: &'static Component) -> &'static Component
+    ensures { result.now.name.now ≡ name_or one.now.name.now other.now.name.now }
 {
-    if name.is_empty() { other } else { name }
+    if one.name.is_empty() { other } else { one }
 }
 
 /// What is found, if an element has this tag and form.
@@ -474,7 +492,7 @@ fn tagged_as(
     found: Found,
 ) -> Option<Found>
     ensures { field_of result ≡ tagged_field class number form (encoding_of known.now element.now)
-        found.name.now found.inside.now }
+        found.named.now.name.now found.inside.now }
 {
     if class == element.class && number == element.number && fits(form, element.constructed) {
         Some(found)

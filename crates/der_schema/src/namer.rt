@@ -3,7 +3,7 @@ ghost use Rattle.std.specs.Prelude.{◌≡◌, ◌≤◌, [], List, ℕ};
 
 use crate::level::{Content, Level, nothing_selected};
 use crate::levels::Levels;
-use crate::matching::{Known, Name};
+use crate::matching::{Known, Name, name_by};
 use crate::schema::Schema;
 use der_walk::Element;
 
@@ -56,7 +56,8 @@ impl<'a> Namer<'a> {
         ensures { (sc : Root) (i : List ℕ) (vs : List Visited) → HasNamed sc i vs self.old → element.now.depth ≤ 100
             → NamesNext sc i vs (visited_of element.now) self.new result }
     {
-        self.levels.pass(element, &self.known)
+        let is_item = self.levels.has_items(element.depth);
+        name_by(self.levels.pass(element, &self.known), is_item)
     }
 
     /// Whether each content of the elements so far has all its mandatory components, if they end here.
