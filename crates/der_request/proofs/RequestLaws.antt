@@ -9,11 +9,12 @@ use Rattle.der_base.specs.Numbers.{unsigned}
 use Rattle.der_cursor.specs.declared.cursor.Cursor.{Cursor}
 use Rattle.der_cursor.specs.declared.refusal.Refusal.{Refusal}
 use Rattle.der_cursor.specs.Cursors.{OpensType, ReadsAnyAt, StartsAt, octets_left}
+use Rattle.der_cursor.specs.Elements.{Element, element_of}
 use Rattle.der_cursor.proofs.KindLaws.{bits_one, identifier_one, number_one}
 use Rattle.der_request.specs.declared.refusal.Field.{Field}
 use Rattle.der_request.specs.declared.refusal.RequestRefusal.{RequestRefusal}
 use Rattle.der_request.specs.declared.request.CertificationRequest.{CertificationRequest}
-use Rattle.der_request.specs.Requests.{FieldFault, Info, Signed, attribute, attributes, extension_request, field_fault, request, request_info}
+use Rattle.der_request.specs.Requests.{FieldFault, Info, Signed, attribute, attributes, challenge_password, extension_request, field_fault, request, request_info}
 use Rattle.der_request.specs.Requests.{request_of, request_refusal, values, version, whole_request}
 use Rattle.der_x509.specs.Certificates.{Algorithm}
 use Rattle.der_x509.specs.declared.extension.Extensions.{Extensions}
@@ -65,6 +66,16 @@ extensions_ended i v rest (c, m, s, (u, m', e, d)) = d.1 ∙ e.1 ∙ e.0
 pub extensions_from_start : (i : List ℕ) (c : Cursor) (result : Result Extensions (Refusal BerError)) → StartsAt Der i c → ReadsToEnd fault_of (λ e. e.octets.now) extension_request c result
     → ReadsExactly fault_of (λ e. e.octets.now) extension_request i result
 extensions_from_start i c result s a = read_exactly fault_of (λ e. e.octets.now) extension_request extension_request_exact extensions_ended i c result s a
+
+challenge_password_exact : IsExact challenge_password
+challenge_password_exact = (tt, λ e. (tt, λ u. tt))
+
+password_ended : (i : List ℕ) (v : Element) (rest : List ℕ) → spells challenge_password i v rest → rest ≡ []
+password_ended i v rest (c, m, s, (u, m', e, d)) = d.1 ∙ e.1 ∙ e.0
+
+pub password_from_start : (i : List ℕ) (c : Cursor) (result : Result Any (Refusal BerError)) → StartsAt Der i c → ReadsToEnd fault_of element_of challenge_password c result
+    → ReadsExactly fault_of element_of challenge_password i result
+password_from_start i c result s a = read_exactly fault_of element_of challenge_password challenge_password_exact password_ended i c result s a
 
 -- the fields of a request
 pub named_read : {T V : Type 0} {view : T → V} {f : Format Fault V} {old new : Cursor} (n : Field) (found : Result T (Refusal BerError)) {result : Result T RequestRefusal}

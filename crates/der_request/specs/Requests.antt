@@ -1,12 +1,13 @@
 -- Certification requests, as the ASN.1 of RFC 2986 writes them (4 and appendix A), in DER. Each line has its ASN.1
 -- beside it.
-use Rattle.std.specs.Prelude.{◌≡◌, ℕ, true, pos, List, []}
+use Rattle.std.specs.Prelude.{◌≡◌, ℕ, ◌⊎◌, true, false, pos, List, []}
 use Rattle.der_base.specs.declared.error.Error.{Error as BerError}
 use Rattle.der_base.specs.declared.header.Class.TheVariants.{ContextSpecific, Universal}
 use Rattle.der_base.specs.declared.rules.Rules.TheVariants.{Der}
 use Rattle.der_base.specs.Numbers.{unsigned}
 use Rattle.der_base.specs.Refusal.{wrong_value}
 use Rattle.der_cursor.specs.declared.refusal.Refusal.{Refusal}
+use Rattle.der_cursor.specs.Elements.{Element}
 use Rattle.der_values.specs.Kinds.{bit_strings, borrowed_octets, identifiers, numbers}
 use Rattle.der_request.specs.declared.attribute.Attribute.{Attribute as AttributeStruct}
 use Rattle.der_request.specs.declared.refusal.Field.{Field}
@@ -108,6 +109,26 @@ extension_request = do
   es ← extensions
   _ ← end_of_content
   done es
+
+-- the numbers of UTF8String, PrintableString, TeletexString, UniversalString and BMPString
+abbrev pub IsDirectoryStringType : ℕ → Type 0
+IsDirectoryStringType t = (t ≡ 12) ⊎ (t ≡ 19) ⊎ (t ≡ 20) ⊎ (t ≡ 28) ⊎ (t ≡ 30)
+
+-- DirectoryString { INTEGER : maxSize } ::= CHOICE { teletexString TeletexString (SIZE(1..maxSize)), .. } (X.520 2.6),
+-- of which the size isn't asked
+abbrev pub IsDirectoryString : Element → Type 0
+IsDirectoryString e = (e.0 ≡ Universal) × (e.1 ≡ false) × IsDirectoryStringType e.2
+
+abbrev pub directory_string : Format Fault Element
+directory_string = requiring IsDirectoryString (wrong_at wrong_value) any
+
+-- the values of the attribute challengePassword (RFC 2985 5.4.1), of which there is one:
+-- WITH SYNTAX DirectoryString {pkcs-9-ub-challengePassword}
+abbrev pub challenge_password : Format Fault Element
+challenge_password = do
+  password ← directory_string
+  _ ← end_of_content
+  done password
 
 -- the octets that are signed say what was read, and nothing else
 abbrev pub SignedOctetsAreRead : Type 0

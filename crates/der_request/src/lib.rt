@@ -8,6 +8,7 @@
 
 mod attribute;
 pub mod attribute_identifiers;
+mod challenge_password;
 mod display;
 mod extension_request;
 pub mod laws;
@@ -16,6 +17,7 @@ mod refusal;
 mod request;
 
 pub use attribute::{Attribute, Attributes, Values};
+pub use challenge_password::read_challenge_password;
 pub use extension_request::read_extension_request;
 pub use lists::{AttributeIter, ValueIter};
 pub use refusal::{Field, RequestRefusal};
