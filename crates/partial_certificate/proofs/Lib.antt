@@ -1,0 +1,5 @@
+pub mod FieldLaws
+pub mod OpeningLaws
+pub mod PartialLaws
+pub mod VersionLaws
+pub mod WholeLaws
