@@ -9,6 +9,7 @@ mod extension_values;
 mod extensions;
 mod further_values;
 mod lists_of_extensions;
+mod partial;
 mod reasons;
 mod requests;
 mod revocation_values;
@@ -20,6 +21,7 @@ use crate::certificates::{certificate, fields, lists, reason, relative_names, st
 use crate::damage::damaged_text;
 use crate::extension_values::extension_value;
 use crate::extensions::extension;
+use crate::partial::partial;
 use crate::reasons::{reason_code, reasons};
 use crate::requests::{certificate_list, certification_request};
 use crate::times::{compared, contained};
@@ -60,6 +62,7 @@ fn answer_of_octets(alloc: Global, call: &str, octets: &[u8]) -> Result<String, 
         "fields" => fields(alloc, octets),
         "lists" => lists(alloc, octets),
         "relative_names" => relative_names(alloc, octets),
+        "partial" => partial(alloc, octets),
         "certificate_list" => certificate_list(alloc, octets),
         "certification_request" => certification_request(alloc, octets),
         "reason_code" => reason_code(alloc, octets),

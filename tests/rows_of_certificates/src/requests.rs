@@ -1,7 +1,8 @@
 //! Certification requests, and lists of revoked certificates.
 use crl_reader::read_certificate_list;
 use der_request::{
-    CertificationRequest, Values, attribute_identifiers, read_extension_request, read_request,
+    CertificationRequest, Values, attribute_identifiers, read_challenge_password,
+    read_extension_request, read_request,
 };
 use der_values::HasArcs;
 use der_x509::Name;
@@ -39,6 +40,12 @@ fn fields_text(alloc: Global, request: &CertificationRequest<'_>) -> Result<Stri
         {
             push_extensions(&mut text, attribute.values)?;
         }
+        if attribute
+            .identifier
+            .is(attribute_identifiers::CHALLENGE_PASSWORD)
+        {
+            push_password(&mut text, attribute.values)?;
+        }
     }
     write!(text, " signature {}", request.signature_algorithm.algorithm)?;
     push_octets(&mut text, request.signature.octets)?;
@@ -67,4 +74,12 @@ fn push_extensions(text: &mut String, values: Values<'_>) -> Result<(), AllocErr
         write!(text, " extension {}{critical}", extension.identifier)?;
     }
     Ok(())
+}
+
+/// Adds the octets of a password, or the refusal as it is printed.
+fn push_password(text: &mut String, values: Values<'_>) -> Result<(), AllocError> {
+    match read_challenge_password(values) {
+        Ok(password) => write!(text, " password {:?}", str::from_utf8(password.bytes).unwrap_or("")),
+        Err(refused) => write!(text, " password {refused}"),
+    }
 }
