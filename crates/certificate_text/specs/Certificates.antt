@@ -20,10 +20,13 @@ version_number V3 = 3
 abbrev pub version_text : Version → List ℕ
 version_text v = line (codes "  Version: ") (decimal (version_number v))
 
+abbrev pub serial_line : List ℕ → List ℕ
+serial_line w = line (codes "  Serial number: ") (serial_text w)
+
 -- who issued it, under which number
 abbrev pub IsIdentity : Tbs → List ℕ → Type 0
 IsIdentity t = Exactly (version_text t.version)
-    ⨾ (Exactly (line (codes "  Serial number: ") (serial_text t.serial_number))
+    ⨾ (Exactly (serial_line t.serial_number)
     ⨾ (IsIdentifierLine (codes "  Signature algorithm: ") t.signature.algorithm
     ⨾ IsNameLine (codes "  Issuer: ") t.issuer))
 

@@ -8,6 +8,7 @@ pub mod Keys
 pub mod Lists
 pub mod Names
 pub mod Notices
+pub mod Partials
 pub mod Pieces
 pub mod Points
 pub mod Policies

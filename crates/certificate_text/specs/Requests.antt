@@ -1,7 +1,7 @@
 -- Certification requests in words (RFC 2986).
 use Rattle.std.specs.Prelude.{◌≡◌, ◌≢◌, ℕ, ◌⊎◌, List, [], ◌∷◌, codes}
 use Rattle.der_cursor.specs.Elements.{Element}
-use Rattle.der_request.specs.Requests.{Attribute, Info, Signed, attribute, extension_request}
+use Rattle.der_request.specs.Requests.{Attribute, Info, Signed, attribute, challenge_password, extension_request}
 use Rattle.der_x509.specs.Formats.{any, spells}
 use Rattle.certificate_text.specs.Extensions.{IsExtensionList}
 use Rattle.certificate_text.specs.Identifiers.{IsIdentifierLine}
@@ -29,9 +29,26 @@ IsRequested a text = ((e : List ℕ) × spells extension_request a.values e []
 abbrev pub extension_request_octets : List ℕ
 extension_request_octets = 0x2a ∷ 0x86 ∷ 0x48 ∷ 0x86 ∷ 0xf7 ∷ 0x0d ∷ 1 ∷ 9 ∷ 14 ∷ []
 
+-- the password by which a certificate may be revoked, or the values that are none
+abbrev pub password_line : Element → List ℕ
+password_line e = line (codes "  Challenge password: ") (any_text e)
+
+abbrev pub IsPassword : Attribute → List ℕ → Type 0
+IsPassword a text = ((e : Element) × spells challenge_password a.values e [] × (text ≡ password_line e))
+    ⊎ (((e : Element) → ¬ spells challenge_password a.values e []) × IsOtherAttribute a text)
+
+-- challengePassword, 1.2.840.113549.1.9.7 (RFC 2985 5.4.1)
+abbrev pub challenge_password_octets : List ℕ
+challenge_password_octets = 0x2a ∷ 0x86 ∷ 0x48 ∷ 0x86 ∷ 0xf7 ∷ 0x0d ∷ 1 ∷ 9 ∷ 7 ∷ []
+
+-- an attribute that requests no extensions
+abbrev pub IsUnrequested : Attribute → List ℕ → Type 0
+IsUnrequested a text = ((a.identifier ≡ challenge_password_octets) × IsPassword a text)
+    ⊎ ((a.identifier ≢ challenge_password_octets) × IsOtherAttribute a text)
+
 abbrev pub IsRequestAttribute : Attribute → List ℕ → Type 0
 IsRequestAttribute a text = ((a.identifier ≡ extension_request_octets) × IsRequested a text)
-    ⊎ ((a.identifier ≢ extension_request_octets) × IsOtherAttribute a text)
+    ⊎ ((a.identifier ≢ extension_request_octets) × IsUnrequested a text)
 
 abbrev pub AreAttributes : List ℕ → List ℕ → Type 0
 AreAttributes i = Each (spells attribute) IsRequestAttribute i

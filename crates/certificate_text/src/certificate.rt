@@ -14,7 +14,7 @@ use crate::lines::write_octets;
 use crate::name::write_name_line;
 use crate::rules::write_rules;
 use crate::seal::{write_digests, write_signature};
-use crate::serial::Serial;
+use crate::serial::write_serial_line;
 use crate::validity::write_validity;
 use der_values::BitString;
 use der_x509::{Certificate, TbsCertificate, Version};
@@ -80,8 +80,7 @@ fn write_identity<W: fmt::Write>(
     ensures { WritesOne W.Write.write_str_gives f.old result (IsIdentity (tbs_of fields.now)) f.new }
 {
     write_version(f, fields.version)?;
-    let octets = fields.serial_number;
-    write!(f, "  Serial number: {}\n", Serial { octets })?;
+    write_serial_line(f, fields.serial_number)?;
     write_identifier_line(f, "  Signature algorithm: ", &fields.signature.algorithm)?;
     write_name_line(f, "  Issuer: ", fields.issuer)
 }
@@ -129,7 +128,7 @@ fn write_unique_ids<W: fmt::Write>(
     write_optional_id(f, "  Subject unique ID: ", fields.subject_unique_id)
 }
 
-fn write_optional_id<W: fmt::Write>(
+pub(crate) fn write_optional_id<W: fmt::Write>(
     f: &mut fmt::Formatter<W>,
     label: &str,
     id: Option<BitString<'_>>,

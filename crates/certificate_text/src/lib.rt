@@ -17,6 +17,7 @@ mod lines;
 mod lists;
 mod name;
 mod notice;
+mod partial;
 mod points;
 mod policies;
 mod reason;
@@ -34,5 +35,6 @@ mod wide;
 
 pub use certificate::{CertificateText, write_certificate};
 pub use name::{NameText, write_name};
+pub use partial::{PartialText, write_partial};
 pub use request::{RequestText, write_request};
 pub use revoked::{ListText, write_list};

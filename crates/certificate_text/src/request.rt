@@ -6,7 +6,8 @@ ghost use Rattle.der_print.specs.Writes.{WritesOne};
 ghost use Rattle.der_values.specs.Kinds.{borrowed_octets};
 ghost use Rattle.der_request.specs.Requests.{attribute_of, info_of, request_of};
 ghost use Rattle.certificate_text.specs.Requests.{AreAttributes, AreValues, IsOtherAttribute, IsRequestAttribute};
-ghost use Rattle.certificate_text.specs.Requests.{IsRequestBody, IsRequestText, IsRequested};
+ghost use Rattle.certificate_text.specs.Requests.{IsPassword, IsRequestBody, IsRequestText, IsRequested};
+ghost use Rattle.certificate_text.specs.Requests.{IsUnrequested, challenge_password_octets};
 ghost use Rattle.certificate_text.specs.Requests.{extension_request_octets, value_line};
 
 use crate::element::AnyValue;
@@ -18,13 +19,16 @@ use crate::seal::write_signature;
 use der_base::any::Any;
 use der_request::{
     Attribute, Attributes, CertificationRequest, CertificationRequestInfo, Values,
-    read_extension_request,
+    read_challenge_password, read_extension_request,
 };
 use der_values::ObjectIdentifier;
 use std::fmt;
 
 /// extensionRequest: 1.2.840.113549.1.9.14 (RFC 2985 5.4.2).
 const EXTENSION_REQUEST: &[u8] = b"\x2a\x86\x48\x86\xf7\x0d\x01\x09\x0e";
+
+/// challengePassword: 1.2.840.113549.1.9.7 (RFC 2985 5.4.1).
+const CHALLENGE_PASSWORD: &[u8] = b"\x2a\x86\x48\x86\xf7\x0d\x01\x09\x07";
 
 /// A certification request in words.
 #[derive(Clone, Copy)]
@@ -80,7 +84,7 @@ fn write_attributes<W: fmt::Write>(
     Ok(())
 }
 
-/// Writes the extensions that are requested, or another attribute.
+/// Writes the extensions that are requested, a password, or another attribute.
 fn write_attribute<W: fmt::Write>(
     f: &mut fmt::Formatter<W>,
     attribute: &Attribute<'_>,
@@ -90,7 +94,7 @@ fn write_attribute<W: fmt::Write>(
     if is_extension_request(&attribute.identifier) {
         return write_requested(f, attribute);
     }
-    write_other(f, attribute)
+    write_unrequested(f, attribute)
 }
 
 fn is_extension_request(identifier: &ObjectIdentifier<'_>) -> bool
@@ -108,6 +112,38 @@ fn write_requested<W: fmt::Write>(
 {
     match read_extension_request(attribute.values) {
         Ok(extensions) => write_extensions(f, "  Requested extensions\n", extensions),
+        Err(_) => write_other(f, attribute),
+    }
+}
+
+/// Writes a password, or another attribute.
+fn write_unrequested<W: fmt::Write>(
+    f: &mut fmt::Formatter<W>,
+    attribute: &Attribute<'_>,
+) -> fmt::Result
+    ensures { WritesOne W.Write.write_str_gives f.old result (IsUnrequested (attribute_of attribute.now)) f.new }
+{
+    if is_challenge_password(&attribute.identifier) {
+        return write_password(f, attribute);
+    }
+    write_other(f, attribute)
+}
+
+fn is_challenge_password(identifier: &ObjectIdentifier<'_>) -> bool
+    ensures { IsTrue result ↔ (borrowed_octets identifier.now ≡ challenge_password_octets) }
+{
+    octets_of(identifier) == CHALLENGE_PASSWORD
+}
+
+/// Writes the password by which a certificate may be revoked, or the values that are none.
+fn write_password<W: fmt::Write>(
+    f: &mut fmt::Formatter<W>,
+    attribute: &Attribute<'_>,
+) -> fmt::Result
+    ensures { WritesOne W.Write.write_str_gives f.old result (IsPassword (attribute_of attribute.now)) f.new }
+{
+    match read_challenge_password(attribute.values) {
+        Ok(element) => write!(f, "  Challenge password: {}\n", AnyValue { element }),
         Err(_) => write_other(f, attribute),
     }
 }

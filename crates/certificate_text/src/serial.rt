@@ -1,6 +1,8 @@
 //! Numbers of any size, as serial numbers.
-ghost use Rattle.std.specs.Prelude.{◌≡◌};
+ghost use Rattle.std.specs.Prelude.{◌≡◌, Some};
+ghost use Rattle.std.specs.Fmt.{DisplaysOnOk};
 ghost use Rattle.der_print.specs.Values.{without_leading_zero};
+ghost use Rattle.certificate_text.specs.Certificates.{serial_line};
 
 use der_print::{Hex, Limit};
 use std::fmt;
@@ -36,6 +38,16 @@ impl fmt::Display for Serial<'_> {
             }
         }
     }
+}
+
+/// Writes a line of the serial number of a certificate.
+pub(crate) fn write_serial_line<W: fmt::Write>(
+    f: &mut fmt::Formatter<W>,
+    octets: &[u8],
+) -> fmt::Result
+    ensures { DisplaysOnOk W.Write.write_str_gives f.old result (Some (serial_line octets.now)) f.new }
+{
+    write!(f, "  Serial number: {}\n", Serial { octets })
 }
 
 /// The octets without one that is 0 before others.

@@ -3,4 +3,4 @@ use Rattle.certificate_text.proofs.WriteLaws.{next, one}
 use Rattle.certificate_text.proofs.certificate.write_identity.Goals as goal
 
 pub returns : goal.returns
-returns g c = next (one c.in_ok-write_version.ensures) refl (next (one c.in_ok-write.ensures.writes) refl (next c.in_ok-write_identifier_line.ensures refl c.write_name_line.ensures))
+returns g c = next (one c.in_ok-write_version.ensures) refl (next (one c.in_ok-write_serial_line.ensures) refl (next c.in_ok-write_identifier_line.ensures refl c.write_name_line.ensures))

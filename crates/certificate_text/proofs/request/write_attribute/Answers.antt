@@ -7,4 +7,4 @@ returns-then-is_extension_request g c =
     restated (λ t x. inl (c.is_extension_request.ensures.0 c.if-is_extension_request.true, x)) c.write_requested.ensures
 
 pub returns : goal.returns
-returns g c = restated (λ t x. inr ((λ e. let h = c.is_extension_request.ensures.1 e in cc), x)) c.write_other.ensures
+returns g c = restated (λ t x. inr ((λ e. let h = c.is_extension_request.ensures.1 e in cc), x)) c.write_unrequested.ensures

@@ -1,0 +1,8 @@
+use Rattle.certificate_text.proofs.WriteLaws.{nothing}
+use Rattle.certificate_text.proofs.partial.write_optional_name.Goals as goal
+
+pub returns-in-None : goal.returns-in-None
+returns-in-None g c = rw c.in-None.is nothing
+
+pub returns-in-Some : goal.returns-in-Some
+returns-in-Some g c = rw c.in-Some.is c.write_name_line.ensures
