@@ -250,6 +250,29 @@ run_header() {
     c++ -std=c++11 -Wall -Wextra -pedantic -Werror -Ic/include "$room/header.cpp" "$archive" -o "$room/header"
 }
 
+# run_readme WORD: the command of README that begins with it, as it stands there, in a copy of what it names.
+run_readme() (
+    command=$(sed -n "s/^    \\($1 .*\\)\$/\\1/p" ../README.md)
+    copy=$room/of_readme
+    if [ ! -d "$copy" ]; then
+        mkdir -p "$copy/callers" "$copy/crates/dumarewhi_c/out" && cp -r c rust "$copy/callers" \
+            && cp "$archive" "$copy/crates/dumarewhi_c/out" && cp ../crates/der/data/certificate.der "$copy/FILE" || return
+    fi
+    [ -n "$command" ] && cd "$copy" && CARGO_NET_OFFLINE=true CARGO_TARGET_DIR=$room/target_of_readme \
+        env -u DUMAREWHI_LIB sh -ec "$command"
+)
+
+# What openssl says of the certificate, as the example x509.rs prints it.
+openssl_certificate() {
+    openssl x509 -inform DER -in ../crates/der/data/certificate.der -noout -issuer -dates -subject -nameopt RFC2253 \
+        -dateopt iso_8601 | sed 's/^\(subject\|issuer\)=/\1: /; s/^notBefore=\(.*\) /not before: \1T/
+            s/^notAfter=\(.*\) /not after: \1T/'
+}
+run_readme_rust() {
+    run_readme cargo > "$room/fields" || return
+    diff <(openssl_certificate) <(grep -E '^(issuer|subject|not before|not after): ' "$room/fields")
+}
+
 # What examples/certificate.c prints of a certificate, by openssl.
 example_certificate() {
     local file=../crates/der/data/certificate.der
@@ -432,16 +455,8 @@ int LLVMFuzzerTestOneInput(const uint8_t *input, size_t length) { return input =
     fi
     awk '/^```c$/ {on = 1; next} /^```$/ {on = 0} on' ../README.md > "$room/readme.c"
     says "README has the lines of first.c" diff "$room/readme.c" c/first.c
-    # The command that README gives, for the example beside the header.
-    run_command() (
-        command=$(sed -n 's|^    \(cc .*\)$|\1|p' ../README.md)
-        mkdir "$room/of_readme" && cp c/examples/certificate.c "$room/of_readme" && [ -n "$command" ] || return
-        cd "$room/of_readme" || return
-        command=${command//DUMAREWHI\/crates\/dumarewhi_c\/out/$(dirname "$archive")}
-        sh -ec "${command//DUMAREWHI/$root}" && ./a.out "$root/crates/der/data/certificate.der"
-    )
-    has openssl "the command of README" \
-        && prints "the command of README" 0 "$(example_certificate)" run_command
+    has openssl "the command of README for C" \
+        && prints "the command of README for C" 0 "$(example_certificate)" run_readme cc
 fi
 
 # The numbers of errors in the header are those of the specification, where 0 is no error.
@@ -484,9 +499,10 @@ if [ -d rust ]; then
         else
             echo "left out: cargo clippy (there is no clippy)"
         fi
-        # A project of its own, with the command that README gives.
+        has openssl "the command of README for Rust" && says "the command of README for Rust" run_readme_rust
+        # A project of its own, with the command that rust/README.md gives.
         if cargo add --help > /dev/null 2>&1; then
-            add=$(sed -n 's|^    \(cargo add .*\)$|\1|p' ../README.md)
+            add=$(sed -n 's|^\(cargo add .*\)$|\1|p' rust/README.md)
             run_project() (
                 (cd "$room" && cargo new --quiet --vcs none project) || return
                 rust_lines ../README.md > "$room/project/src/main.rs"

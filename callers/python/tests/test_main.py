@@ -7,7 +7,7 @@ import sys
 from pathlib import Path
 
 import pytest
-from conftest import DATA, octets_of
+from conftest import DATA, octets_of, openssl
 
 from dumarewhi import Rule, __version__, rule_text
 
@@ -88,6 +88,36 @@ def test_check(tmp_path: Path) -> None:
     assert run("check", "--ber", str(wrong)).returncode == 0
     wrong.write_bytes(octets_of("a0 02 05 01"))
     assert run("check", str(wrong)).stderr.decode().endswith(" at offset 2\n")
+
+
+FIELDS = ["-issuer", "-dates", "-subject", "-fingerprint", "-sha256", "-nameopt", "RFC2253", "-dateopt", "iso_8601"]
+
+
+def test_certificate() -> None:
+    """Each field that openssl prints, of all files that are certificates."""
+    file = DATA / "certificate.der"
+    said = openssl("x509", "-inform", "DER", "-in", file, "-noout", "-serial", *FIELDS).decode().splitlines()
+    wanted = dict(line.split("=", 1) for line in said)
+    shown = run("certificate", str(file))
+    assert (shown.stderr, shown.returncode) == (b"", 0)
+    lines = [line.split(": ", 1) for line in shown.stdout.decode().splitlines()]
+    fields = dict(lines)
+    assert fields["serial"] == wanted["serial"].lower().lstrip("0")
+    assert (fields["issuer"], fields["subject"]) == (wanted["issuer"], wanted["subject"])
+    assert fields["not before"].replace("T", " ") == wanted["notBefore"]
+    assert fields["not after"].replace("T", " ") == wanted["notAfter"]
+    assert fields["sha-256"] == wanted["sha256 Fingerprint"].replace(":", "").lower()
+    extensions = [value for title, value in lines if title == "extension"]
+    assert "2.5.29.17: DNS:example.org, IP:192.0.2.1" in extensions
+    text = b"-----BEGIN CERTIFICATE-----\n" + base64.encodebytes(file.read_bytes()) + b"-----END CERTIFICATE-----\n"
+    assert run("certificate", "-", octets=text).stdout == shown.stdout
+
+
+def test_no_certificate(tmp_path: Path) -> None:
+    (tmp_path / "message").write_bytes(MESSAGE)
+    shown = run("certificate", str(tmp_path / "message"))
+    assert (shown.stdout, shown.returncode) == (b"", 1)
+    assert b"tbsCertificate at 2: " in shown.stderr
 
 
 def test_no_file(tmp_path: Path) -> None:

@@ -1,4 +1,4 @@
-"""Shows and checks files: ``python -m dumarewhi tree FILE``, ``dump FILE``, ``check FILE..``."""
+"""Shows and checks files: ``python -m dumarewhi tree FILE``, ``certificate FILE``, ``dump FILE``, ``check FILE..``."""
 from __future__ import annotations
 
 import argparse
@@ -9,32 +9,42 @@ from pathlib import Path
 from typing import Callable, Dict, Iterator, List, NamedTuple, Optional
 
 from . import BitString, DerError, Node, ObjectIdentifier, Reader, Rules, __version__, pem
+from ._certificate_text import lines
 
 
 def main(words: Optional[List[str]] = None) -> int:
     """Runs the command. Returns 0, or 1 if a file has an error."""
     options = _options().parse_args(words)
-    rules: Rules = "ber" if options.ber else "der"
-    show = _COMMANDS[options.command].run
     failed = False
     for name in options.files:
         try:
             for octets in _encodings(sys.stdin.buffer.read() if name == "-" else Path(name).read_bytes()):
-                for node in Reader(octets, rules=rules):
-                    show(node)
+                _run(options, octets)
         except (DerError, OSError) as error:
             print(f"{name}: {error}", file=sys.stderr)
             failed = True
     return 1 if failed else 0
 
 
+def _run(options: argparse.Namespace, octets: bytes) -> None:
+    if options.command == _CERTIFICATE:
+        for line in lines(octets):
+            print(line)
+        return
+    rules: Rules = "ber" if options.ber else "der"
+    show = _COMMANDS[options.command].run
+    for node in Reader(octets, rules=rules):
+        show(node)
+
+
 def _options() -> argparse.ArgumentParser:
     parser = argparse.ArgumentParser(prog="python -m dumarewhi", description="Shows and checks files in DER or BER.")
     parser.add_argument("--version", action="version", version=__version__)
     commands = parser.add_subparsers(dest="command", required=True)
-    for name, (text, _) in _COMMANDS.items():
+    for name, text in {**{name: it.help for name, it in _COMMANDS.items()}, _CERTIFICATE: _FIELDS}.items():
         command = commands.add_parser(name, help=text, description=text)
-        command.add_argument("--ber", action="store_true", help="read by BER, and not by DER")
+        if name != _CERTIFICATE:
+            command.add_argument("--ber", action="store_true", help="read by BER, and not by DER")
         command.add_argument("files", nargs="+", metavar="FILE", help="octets or PEM; - is standard input")
     return parser
 
@@ -114,6 +124,10 @@ _COMMANDS: Dict[str, _Command] = {
     "dump": _Command("print the octets of each element in hexadecimal", _dump),
     "check": _Command("print what isn't DER, and nothing else", _check),
 }
+
+# This one reads by DER alone.
+_CERTIFICATE = "certificate"
+_FIELDS = "print the fields of a certificate"
 
 
 if __name__ == "__main__":
