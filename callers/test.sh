@@ -256,7 +256,8 @@ run_readme() (
     copy=$room/of_readme
     if [ ! -d "$copy" ]; then
         mkdir -p "$copy/callers" "$copy/crates/dumarewhi_c/out" && cp -r c rust "$copy/callers" \
-            && cp "$archive" "$copy/crates/dumarewhi_c/out" && cp ../crates/der/data/certificate.der "$copy/FILE" || return
+            && cp "$archive" "$copy/crates/dumarewhi_c/out" \
+            && cp ../crates/der/data/certificate.der "$copy/FILE" || return
     fi
     [ -n "$command" ] && cd "$copy" && CARGO_NET_OFFLINE=true CARGO_TARGET_DIR=$room/target_of_readme \
         env -u DUMAREWHI_LIB sh -ec "$command"

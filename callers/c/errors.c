@@ -147,9 +147,64 @@ static void expect_named(void) {
     }
 }
 
+static void expect_octets(const uint8_t *found, size_t size, const char *wanted) {
+    if (size == strlen(wanted) && memcmp(found, wanted, size) == 0) {
+        passed++;
+    } else {
+        failed++;
+        printf("errors: %.*s, and not %s\n", (int)size, (const char *)found, wanted);
+    }
+}
+
+/* The tag that an element has in place of the expected one. The classes have tags with the same numbers. */
+static void expect_found(void) {
+    static const struct {
+        uint8_t identifier;
+        const char *text, *found;
+    } tags[] = {
+        {0x6a, "at 2: unexpected class", ", found [APPLICATION 10]"},
+        {0xaa, "at 2: unexpected class", ", found [10]"},
+        {0xea, "at 2: unexpected class", ", found [PRIVATE 10]"},
+        {0x0a, "at 2: unexpected tag", ", found ENUMERATED"},
+        {0x0f, "at 2: unexpected tag", ", found [UNIVERSAL 15]"},
+        {0x22, "at 2: primitive encoding expected", ""},
+    };
+    uint8_t input[] = {0x30, 0x02, 0x00, 0x00}, text[DM_TEXT_OCTETS];
+    for (size_t i = 0; i < sizeof tags / sizeof *tags; i++) {
+        char wanted[DM_TEXT_OCTETS];
+        dm_cursor whole = dm_cursor_over(input, sizeof input, DM_DER), fields;
+        uint64_t number;
+        dm_fault fault;
+        input[2] = tags[i].identifier;
+        dm_next_sequence(&whole, &fields, &fault);
+        dm_next_u64(&fields, &number, &fault);
+        snprintf(wanted, sizeof wanted, "%s%s", tags[i].text, tags[i].found);
+        expect_octets(text, dm_found_text(&fault, input, sizeof input, text, sizeof text), wanted);
+        /* In an input that ends before it there is no element. */
+        expect_octets(text, dm_found_text(&fault, NULL, 0, text, sizeof text), tags[i].text);
+        expect_octets(text, dm_found_text(&fault, input, 2, text, sizeof text), tags[i].text);
+    }
+}
+
+static void expect_tags(void) {
+    uint8_t text[DM_TEXT_OCTETS];
+    expect_octets(text, dm_tag_text(DM_UNIVERSAL, DM_OCTET_STRING, text, sizeof text), "OCTET STRING");
+    expect_octets(text, dm_tag_text(DM_UNIVERSAL, DM_BMP_STRING, text, sizeof text), "BMPString");
+    expect_octets(text, dm_tag_text(DM_UNIVERSAL, 15, text, sizeof text), "[UNIVERSAL 15]");
+    expect_octets(text, dm_tag_text(DM_APPLICATION, 10, text, sizeof text), "[APPLICATION 10]");
+    expect_octets(text, dm_tag_text(DM_CONTEXT_SPECIFIC, UINT32_MAX, text, sizeof text), "[4294967295]");
+    expect_octets(text, dm_tag_text(DM_PRIVATE, 2, text, sizeof text), "[PRIVATE 2]");
+    expect_octets(text, dm_tag_text(200, 2, text, sizeof text), "[PRIVATE 2]");
+    text[3] = 7;
+    expect_octets(text, dm_tag_text(DM_UNIVERSAL, DM_SET, text, 3), "SET");
+    if (text[3] != 7 || dm_tag_text(DM_UNIVERSAL, DM_SET, NULL, 0) != 3) failed++;
+}
+
 /* Each name has its text, and each number with a text has a name. */
 int main(void) {
     expect_named();
+    expect_found();
+    expect_tags();
     for (size_t i = 0; i < sizeof names / sizeof *names; i++) expect_text(names[i].error, names[i].text);
     expect_text(0, "no error");
     for (uint32_t error = 1; error < 1000; error++) {

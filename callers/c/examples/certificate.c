@@ -29,7 +29,7 @@ int main(int count, char **words) {
     dm_fault fault;
     if (dm_read_certificate(input, length, &certificate, &fault) != DM_OK) {
         uint8_t text[DM_TEXT_OCTETS];
-        print_text("", text, dm_fault_text(&fault, text, sizeof text));
+        print_text("", text, dm_found_text(&fault, input, length, text, sizeof text));
         return 1;
     }
     print_name("subject: ", certificate.subject);

@@ -565,6 +565,14 @@ size_t dm_fault_text(const dm_fault *fault, uint8_t *text, size_t room);
  * one for the space. */
 size_t dm_named_fault_text(const dm_fault *fault, const uint8_t *name, size_t length, uint8_t *text, size_t room);
 
+/* Writes the text of a fault of this input, which offsets count from. If it is DM_ERROR_UNEXPECTED_TAG or
+ * DM_ERROR_UNEXPECTED_CLASS, the tag that the element has follows, such as ", found [APPLICATION 10]". */
+size_t dm_found_text(const dm_fault *fault, const uint8_t *input, size_t length, uint8_t *text, size_t room);
+
+/* Writes the name of a universal type (X.680 8.4), or a tag of another class as ASN.1 writes it, such as "OCTET STRING"
+ * or "[APPLICATION 10]". A class above 3 is taken as DM_PRIVATE. Returns the length, at most DM_TEXT_OCTETS. */
+size_t dm_tag_text(uint8_t tag_class, uint32_t number, uint8_t *text, size_t room);
+
 /* An algorithm (RFC 5280 4.1.1.2). */
 typedef struct dm_algorithm {
     dm_octets identifier; /* the content octets of the OBJECT IDENTIFIER: dm_read_oid writes its text */

@@ -7,13 +7,15 @@ use crate::fault::{
     CERTIFICATE, DmFault, FIRST_EC_FIELD, FIRST_ENCRYPTED_FIELD, FIRST_KEY_FIELD, FIRST_LIST_FIELD,
     FIRST_PUBLIC_FIELD, FIRST_REQUEST_FIELD, FIRST_RSA_FIELD, FIRST_RSA_PUBLIC_FIELD,
 };
+use crate::state::class_of;
 use crate::text::put_text;
 use arrayvec::ArrayString;
 use crl_reader::Field as ListField;
 use der_base::error::{BerError, DerConstraint};
+use der_base::rules::Rules;
 use der_contents::ContentError;
 use der_request::Field as RequestField;
-use der_walk::Cause;
+use der_walk::{Cause, TypeName};
 use der_x509::Field;
 use std::fmt;
 use std::fmt::Write;
@@ -26,6 +28,12 @@ const PAST_END: u32 = 17;
 
 /// That of octets left over or missing.
 const PARSER_FAULT: u32 = 18;
+
+/// That of an element with another tag than the expected one.
+const UNEXPECTED_TAG: u32 = 7;
+
+/// That of one with a tag of another class.
+const UNEXPECTED_CLASS: u32 = 8;
 
 /// An error by its number.
 #[derive(Clone, Copy)]
@@ -59,6 +67,47 @@ pub extern "C" fn dm_named_fault_text(fault: &DmFault, name: &[u8], text: &mut [
     let end = put_text(text, 0, name);
     let end = put_text(text, end, b" ");
     put_text(text, end, words.as_str().as_bytes())
+}
+
+/// Writes the text of a fault of this input, and if a tag or a class isn't the expected one, which tag the element has:
+/// ", found [APPLICATION 10]". Returns the length.
+#[unsafe(no_mangle)]
+pub extern "C" fn dm_found_text(fault: &DmFault, input: &[u8], text: &mut [u8]) -> usize
+    ensures { (words : List ℕ) × PutsText text.old 0 words text.new result }
+{
+    let mut whole = words_of(fault);
+    if let Some(name) = found_tag(fault, input) {
+        let _ = write!(whole, ", found {name}");
+    }
+    put_text(text, 0, whole.as_str().as_bytes())
+}
+
+/// Writes the name of a universal type, or a tag of another class as ASN.1 writes it, such as [APPLICATION 10]. Returns
+/// its length.
+#[unsafe(no_mangle)]
+pub extern "C" fn dm_tag_text(tag_class: u8, number: u32, text: &mut [u8]) -> usize
+    ensures { (words : List ℕ) × PutsText text.old 0 words text.new result }
+{
+    let class = class_of(tag_class);
+    let name = TypeName { class, number };
+    let mut tag = ArrayString::<LONGEST>::new();
+    let _ = write!(tag, "{name}");
+    put_text(text, 0, tag.as_str().as_bytes())
+}
+
+/// The tag of the element that a fault is about, if it isn't the expected one.
+fn found_tag(fault: &DmFault, input: &[u8]) -> Option<TypeName> {
+    if fault.error != UNEXPECTED_TAG && fault.error != UNEXPECTED_CLASS {
+        return None;
+    }
+    let octets = input.get(fault.offset..)?;
+    match Rules::Ber.read_header(octets) {
+        Ok((_, header)) => Some(TypeName {
+            class: header.class(),
+            number: header.tag().0,
+        }),
+        Err(_) => None,
+    }
 }
 
 /// The text of a fault.
