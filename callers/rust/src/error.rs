@@ -1,7 +1,7 @@
 //! Why an input isn't read, or a value isn't written.
 use crate::ffi::{self, Fault};
 use crate::x509::Field;
-use crate::Tag;
+use crate::{Rules, Tag};
 use core::fmt;
 
 /// Why an input isn't read, or has no value of the type that is asked for, and where. One of a certificate also has the
@@ -24,6 +24,8 @@ pub struct Error {
     kind: ErrorKind,
     /// What the library has of a certificate. Of another input the offset alone.
     fault: Fault,
+    /// Of a certificate: the tag of the element, if it isn't the expected one.
+    found: Option<Tag>,
 }
 
 /// What is wrong.
@@ -114,7 +116,11 @@ impl Error {
             field: 0,
             is_in_list: 0,
         };
-        Error { kind, fault }
+        Error {
+            kind,
+            fault,
+            found: None,
+        }
     }
 
     /// What the library says of a certificate, or of a field.
@@ -126,7 +132,24 @@ impl Error {
             (_, reason @ (Reason::INTEGER_TOO_LARGE | Reason::INTEGER_NEGATIVE)) => ErrorKind::Value(reason),
             (_, reason) => ErrorKind::Malformed(reason),
         };
-        Error { kind, fault }
+        Error {
+            fault,
+            ..Error::new(kind, fault.offset)
+        }
+    }
+
+    /// What the library says of this input.
+    pub(crate) fn of_input(fault: Fault, input: &[u8]) -> Error {
+        let found = match Reason(fault.error) {
+            Reason::UNEXPECTED_TAG | Reason::UNEXPECTED_CLASS => {
+                Rules::DER.first(&input[fault.offset..]).ok()
+            }
+            _ => None,
+        };
+        Error {
+            found: found.map(|element| element.tag()),
+            ..Error::of_fault(fault)
+        }
     }
 
     /// What is wrong.
@@ -149,6 +172,19 @@ impl Error {
     /// Of a certificate: where the element ends that this one is in. `None` if it is outermost.
     pub fn list_end(&self) -> Option<usize> {
         (self.fault.is_in_list != 0).then_some(self.fault.list_end)
+    }
+
+    /// Of a certificate: the tag of the element, if it isn't the expected one.
+    ///
+    /// ```
+    /// use dumarewhi::{x509::Certificate, Tag};
+    ///
+    /// let error = Certificate::from_der(&[0x30, 0x02, 0x6a, 0x00]).unwrap_err();
+    /// assert_eq!(error.found(), Some(Tag::application(10)));
+    /// assert_eq!(error.to_string(), "tbsCertificate at 2: unexpected class, found [APPLICATION 10]");
+    /// ```
+    pub const fn found(&self) -> Option<Tag> {
+        self.found
     }
 
     /// Which rule is broken, if it is one that has a number.
@@ -301,7 +337,7 @@ reasons! {
 }
 
 /// How many octets the text of an error has at most.
-const LONGEST_TEXT: usize = 160;
+pub(crate) const LONGEST_TEXT: usize = 160;
 
 /// What the function makes of a text that is written to a slice, and whose length is returned. One of more than `N`
 /// octets is written in memory that is allocated for it: without the feature `alloc` there is none.
@@ -370,7 +406,8 @@ impl fmt::Display for Error {
         if self.fault.status == ffi::OK {
             return write!(f, "{} at offset {}", self.kind, self.offset());
         }
-        show(f, |text| ffi::fault_text(&self.fault, text))
+        show(f, |text| ffi::fault_text(&self.fault, text))?;
+        self.found.map_or(Ok(()), |tag| write!(f, ", found {tag}"))
     }
 }
 

@@ -186,6 +186,7 @@ extern "C" {
     fn dm_write_der(i: *const u8, n: usize, out: *mut u8, room: usize, to: *mut Outcome) -> u32;
     fn dm_error_text(error: u32, text: *mut u8, room: usize) -> usize;
     fn dm_fault_text(fault: *const Fault, text: *mut u8, room: usize) -> usize;
+    fn dm_tag_text(tag_class: u8, number: u32, text: *mut u8, room: usize) -> usize;
     fn dm_name_text(i: *const u8, n: usize, text: *mut u8, room: usize) -> usize;
     fn dm_read_oid(i: *const u8, n: usize, text: *mut u8, room: usize, needed: *mut usize) -> u32;
     fn dm_read_i64(i: *const u8, n: usize, value: *mut i64) -> u32;
@@ -251,6 +252,11 @@ pub(crate) fn error_text(error: u32, text: &mut [u8]) -> usize {
 pub(crate) fn fault_text(fault: &Fault, text: &mut [u8]) -> usize {
     // SAFETY: see above.
     unsafe { dm_fault_text(fault, text.as_mut_ptr(), text.len()) }
+}
+
+pub(crate) fn tag_text(tag_class: u8, number: u32, text: &mut [u8]) -> usize {
+    // SAFETY: see above.
+    unsafe { dm_tag_text(tag_class, number, text.as_mut_ptr(), text.len()) }
 }
 
 pub(crate) fn name_text(name: &[u8], text: &mut [u8]) -> usize {

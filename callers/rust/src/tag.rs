@@ -1,5 +1,5 @@
 //! Tags.
-use crate::error::{ErrorKind, Reason};
+use crate::error::{with_text, ErrorKind, Reason, LONGEST_TEXT};
 use crate::ffi;
 use core::fmt;
 
@@ -39,15 +39,10 @@ macro_rules! universal {
         impl Tag {
             $(#[doc = concat!("The tag of ", $name, ", universal ", $number, ".")]
             pub const $constant: Tag = Tag::universal($number);)*
-
-            /// The name of a universal type in X.680.
-            const fn name(self) -> Option<&'static str> {
-                match (self.class, self.number) {
-                    $((Class::Universal, $number) => Some($name),)*
-                    _ => None,
-                }
-            }
         }
+
+        #[cfg(test)]
+        const NAMED: &[(Tag, &str)] = &[$((Tag::$constant, $name)),*];
     };
 }
 
@@ -70,7 +65,7 @@ universal! {
     SET = 17, "SET";
     NUMERIC_STRING = 18, "NumericString";
     PRINTABLE_STRING = 19, "PrintableString";
-    TELETEX_STRING = 20, "TeletexString";
+    TELETEX_STRING = 20, "T61String";
     VIDEOTEX_STRING = 21, "VideotexString";
     IA5_STRING = 22, "IA5String";
     UTC_TIME = 23, "UTCTime";
@@ -126,16 +121,27 @@ impl Tag {
     }
 }
 
-/// As ASN.1 writes it: `INTEGER`, `[0]`, `[APPLICATION 3]`, `[PRIVATE 1]`, `[UNIVERSAL 14]`.
+/// As ASN.1 writes it: `INTEGER`, `[0]`, `[APPLICATION 3]`, `[PRIVATE 1]`, `[UNIVERSAL 15]`.
 impl fmt::Display for Tag {
     fn fmt(&self, f: &mut fmt::Formatter<'_>) -> fmt::Result {
-        let number = self.number;
-        match (self.class, self.name()) {
-            (_, Some(name)) => f.pad(name),
-            (Class::Universal, None) => write!(f, "[UNIVERSAL {number}]"),
-            (Class::Application, None) => write!(f, "[APPLICATION {number}]"),
-            (Class::ContextSpecific, None) => write!(f, "[{number}]"),
-            (Class::Private, None) => write!(f, "[PRIVATE {number}]"),
+        let text = |text: &mut [u8]| Some(ffi::tag_text(self.class as u8, self.number, text));
+        with_text::<LONGEST_TEXT, _>(text, |text| f.pad(text)).unwrap_or(Err(fmt::Error))
+    }
+}
+
+#[cfg(test)]
+mod tests {
+    use super::*;
+    use std::string::ToString;
+
+    #[test]
+    fn names_are_those_of_the_library() {
+        for (tag, name) in NAMED {
+            assert_eq!(tag.to_string(), *name);
         }
+        assert_eq!(Tag::universal(15).to_string(), "[UNIVERSAL 15]");
+        assert_eq!(Tag::application(10).to_string(), "[APPLICATION 10]");
+        assert_eq!(Tag::context(u32::MAX).to_string(), "[4294967295]");
+        assert_eq!(Tag::private(2).to_string(), "[PRIVATE 2]");
     }
 }

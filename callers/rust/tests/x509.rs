@@ -545,14 +545,21 @@ fn rows_of_strict_certificates() {
     }
 }
 
-/// The text of an error is that of the row, which may have the values of the error after it.
+/// The text of an error is that of the row, which may have the values of the error after it. Of a tag that isn't the
+/// expected one, the crate has the tag that was found.
 fn compare(found: Result<String, Error>, expected: &str, input: &str) {
     match found {
         Ok(found) => assert_eq!(found, expected, "{input}"),
-        Err(error) => assert!(
-            expected.starts_with(&error.to_string()),
-            "{input}: {error}, and not {expected}"
-        ),
+        Err(error) => {
+            let end = error
+                .found()
+                .map_or(String::new(), |tag| format!(", found {tag}"));
+            let text = error.to_string();
+            let text = text.strip_suffix(&end).expect("the tag is at the end");
+            assert!(expected.starts_with(text), "{input}: {error}, and not {expected}");
+            let is_of_tags = expected.contains("unexpected tag") || expected.contains("unexpected class");
+            assert_eq!(error.found().is_some(), is_of_tags, "{input}: {error}");
+        }
     }
 }
 

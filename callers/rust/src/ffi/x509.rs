@@ -61,7 +61,7 @@ macro_rules! reads {
         pub(crate) fn $name<'a>(input: &'a [u8]) -> Result<$type> {
             // SAFETY: as in the module above.
             value_or_fault(|to, fault| unsafe { $call(input.as_ptr(), input.len(), to, fault) })
-                .map_err(Error::of_fault)
+                .map_err(|fault| Error::of_input(fault, input))
         })*
     };
 }
@@ -110,7 +110,7 @@ extern "C" {
 pub(crate) fn read_null_extension(input: &[u8]) -> Result<()> {
     // SAFETY: as in the module above.
     value_or_fault(|_, fault| unsafe { dm_read_null_extension(input.as_ptr(), input.len(), fault) })
-        .map_err(Error::of_fault)
+        .map_err(|fault| Error::of_input(fault, input))
 }
 
 pub(crate) fn has_unknown_critical(extensions: &[u8]) -> bool {
