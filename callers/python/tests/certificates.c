@@ -38,11 +38,11 @@ static void print_time(dm_time t) {
 
 static void print_moment(dm_moment moment) { print_time(moment.time); }
 
-static void print_fault(const dm_fault *fault) {
+static void print_fault(const dm_fault *fault, const uint8_t *input, size_t length) {
     uint8_t text[DM_TEXT_OCTETS];
-    size_t length = dm_fault_text(fault, text, sizeof text);
+    size_t size = dm_found_text(fault, input, length, text, sizeof text);
     printf(" fault %" PRIu32 " %zu %" PRIu32 " %zu (%.*s)", fault->field, fault->offset, fault->error, fault->needed,
-           (int)length, (const char *)text);
+           (int)size, (const char *)text);
 }
 
 static void print_attributes(dm_octets attributes) {
@@ -260,7 +260,7 @@ static void print_further_value(const dm_extension *extension) {
         break;
     default: print_octets(extension->value);
     }
-    if (fault.status != DM_OK) print_fault(&fault);
+    if (fault.status != DM_OK) print_fault(&fault, value, length);
 }
 
 static void print_value(const dm_extension *extension) {
@@ -315,7 +315,7 @@ static void print_value(const dm_extension *extension) {
         break;
     default: print_further_value(extension);
     }
-    if (fault.status != DM_OK) print_fault(&fault);
+    if (fault.status != DM_OK) print_fault(&fault, value, length);
 }
 
 static void print_certificate(const dm_certificate *it) {
@@ -348,7 +348,7 @@ static void print_line(read_certificate *read, const uint8_t *input, size_t leng
     dm_certificate certificate;
     dm_fault fault;
     if (read(input, length, &certificate, &fault) == DM_OK) print_certificate(&certificate);
-    else print_fault(&fault);
+    else print_fault(&fault, input, length);
     putchar('\n');
 }
 

@@ -11,6 +11,8 @@ from typing import Callable, Iterable, Iterator, List, NamedTuple, Tuple
 
 import pytest
 
+from dumarewhi import DerError
+
 TESTS = Path(__file__).resolve().parent
 REPOSITORY = TESTS.parents[2]
 HEADERS = REPOSITORY / "callers" / "c" / "include"
@@ -177,3 +179,11 @@ def damaged(count: int) -> Iterator[Tuple[bytes, int]]:
                 octets[at : at + 1] = bytes((octet,))
         depth = chance.choice((0, 1, 2, 3, 4, 50, 50, 50, 50, 250))
         yield bytes(octets), depth
+
+
+def is_text_of(error: DerError, expected: str) -> bool:
+    """Whether a row has the text of an error. It may have values of the error behind it, and the error has the tag that
+    was found where the row has such values."""
+    text, _, found = str(error).partition(", found ")
+    is_of_tags = "unexpected tag" in expected or "unexpected class" in expected
+    return expected.startswith(text) and (found != "") == is_of_tags

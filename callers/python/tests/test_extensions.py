@@ -7,7 +7,7 @@ from pathlib import Path
 from typing import Any, Callable, Dict, List, Optional, Tuple
 
 import pytest
-from conftest import REPOSITORY, inputs_of, octets_of, openssl
+from conftest import REPOSITORY, inputs_of, is_text_of, octets_of, openssl
 
 from dumarewhi import ObjectIdentifier, Reader, Tag, _extensions, parse_der, x509
 from dumarewhi.x509 import Certificate, CertificateError, Extension, GeneralName, GeneralNameKind, Name
@@ -399,7 +399,7 @@ def test_rows(call: str) -> None:
             assert " at " not in f" {row.expected}", row
             assert row.expected in words or call in OTHER_WORDS, (row, words)
         except CertificateError as error:
-            assert row.expected.replace("refused ", "").startswith(str(error)), (row, str(error))
+            assert is_text_of(error, row.expected.replace("refused ", "")), (row, str(error))
         compared += 1
     assert compared >= 2
 
@@ -414,7 +414,7 @@ def test_rows_of_reasons() -> None:
             try:
                 words.append("no reason" if entry.reason is None else f"reason {int(entry.reason)}")
             except CertificateError as error:
-                words.append(f"refused {error}")
+                words.append(f"refused {error.reason.partition(', found ')[0]}")
         # The text of a rule may have values after it.
         assert row.expected.startswith(" ".join(words)), row
         compared += 1

@@ -5,7 +5,7 @@ import ctypes
 import re
 import subprocess
 from pathlib import Path
-from typing import Callable, Dict, List
+from typing import Callable, Dict, List, Tuple, Type
 
 from conftest import HEADERS
 
@@ -32,15 +32,32 @@ CONSTANTS = {
     **{f"DM_{kind.name}": kind for kind in _certificate_calls.ExtensionKind},
 }
 
-STRUCTS = {**_library.STRUCTS, **_certificate_calls.STRUCTS}
+RECORDS = _certificate_calls.RECORDS
+STRUCTS = _library.STRUCTS
+NAMES = {**STRUCTS, **RECORDS}.keys()
+
+# Of each field its offset and its size
+Spans = Dict[str, Tuple[int, int]]
+
+
+def spans_of(struct: Type[ctypes.Structure]) -> Spans:
+    fields = [(name, getattr(struct, name)) for name, *_ in struct._fields_]
+    return {name: (field.offset, field.size) for name, field in fields}
+
+
+# A dm_time is in both.
+LAYOUTS: List[Tuple[str, int, Spans]] = [
+    *((name, ctypes.sizeof(struct), spans_of(struct)) for name, struct in STRUCTS.items()),
+    *((name, record.size, record.spans) for name, record in RECORDS.items()),
+]
 
 
 def source() -> str:
     """A program that prints a name and numbers on each line."""
     lines: List[str] = []
-    for name, struct in STRUCTS.items():
+    for name, _, spans in LAYOUTS:
         lines.append(f'printf("{name} %zu\\n", sizeof({name}));')
-        for field, *_ in struct._fields_:
+        for field in spans:
             size = f"sizeof((({name} *)0)->{field})"
             lines.append(f'printf("{name}.{field} %zu %zu\\n", offsetof({name}, {field}), {size});')
     lines += [f'printf("{name} %u\\n", (unsigned){name});' for name in CONSTANTS]
@@ -57,15 +74,12 @@ def of_c(compiled: Callable[[Path], Path], folder: Path) -> Dict[str, List[int]]
 
 def test_layout(compiled: Callable[[Path], Path], tmp_path: Path) -> None:
     numbers = of_c(compiled, tmp_path)
-    for name, struct in STRUCTS.items():
-        assert numbers[name] == [ctypes.sizeof(struct)], name
-        sizes = 0
-        for field, *_ in struct._fields_:
-            of_field = getattr(struct, field)
-            assert numbers[f"{name}.{field}"] == [of_field.offset, of_field.size], (name, field)
-            sizes += of_field.size
+    for name, whole, spans in LAYOUTS:
+        assert numbers[name] == [whole], name
+        for field, span in spans.items():
+            assert numbers[f"{name}.{field}"] == [*span], (name, field)
         # No field is left out, and there is no padding.
-        assert sizes == ctypes.sizeof(struct), name
+        assert sum(size for _, size in spans.values()) == whole, name
     for name, value in CONSTANTS.items():
         assert numbers[name] == [value], name
 
@@ -76,7 +90,7 @@ OTHERS = {"dm_cursor", "dm_digest"}
 
 def test_structs_of_the_header() -> None:
     text = (HEADERS / "dumarewhi.h").read_text()
-    assert set(re.findall(r"^typedef struct (\w+)", text, re.MULTILINE)) == STRUCTS.keys() | OTHERS
+    assert set(re.findall(r"^typedef struct (\w+)", text, re.MULTILINE)) == NAMES | OTHERS
 
 
 def test_words_of_elements() -> None:

@@ -11,7 +11,7 @@ from pathlib import Path
 from typing import Callable, Dict, Iterator, List, Sequence, Tuple
 
 import pytest
-from conftest import DATA, REPOSITORY, TESTS, certificates, inputs_of, octets_of, openssl, rows
+from conftest import DATA, REPOSITORY, TESTS, certificates, inputs_of, is_text_of, octets_of, openssl, rows
 from test_extensions import compare_with_cryptography
 
 from dumarewhi import BitString, DerError, ObjectIdentifier, Rule, Tag, Writer, named
@@ -503,6 +503,6 @@ def test_rows_of_requests_and_lists() -> None:
                 read(octets)
                 assert " at " not in row.expected, row
             except CertificateError as error:
-                assert row.expected.startswith(str(error)), (row, str(error))
+                assert is_text_of(error, row.expected), (row, str(error))
             count += 1
     assert count > 20

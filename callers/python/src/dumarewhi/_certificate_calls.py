@@ -1,56 +1,117 @@
 """The calls of the shared library that read certificates, keys and PEM, and their structs, as ``dumarewhi.h`` declares
-them."""
+them.
+
+A call writes a struct to words of memory, which are read at once as a tuple: that takes a third of the time of
+``ctypes.Structure``.
+"""
 from __future__ import annotations
 
 import ctypes
 import enum
-from ctypes import c_size_t, c_uint8, c_uint16, c_uint32, c_void_p
-from typing import TYPE_CHECKING, Any, Callable, Dict, Iterator, Tuple, Type, TypeVar, Union
+from array import array
+from ctypes import c_size_t, c_uint32, c_void_p
+from operator import itemgetter
+from struct import Struct, calcsize
+from typing import TYPE_CHECKING, Any, Callable, ClassVar, Dict, Iterator, Tuple, Type, TypeVar, Union
 
-from ._library import Call, TimeStruct, _bytes_address, _call
+from ._library import Call, _call, address_of
 
 if TYPE_CHECKING:
+    from ._library import Words
+
     Address = int
     Size = int
     U8 = int
+    I8 = int
     U16 = int
     U32 = int
 
-S = TypeVar("S", bound=ctypes.Structure)
-V = TypeVar("V", bound="Union[ctypes.Structure, c_uint32]")
+R = TypeVar("R", bound="Record")
 
-STRUCTS: Dict[str, Type[ctypes.Structure]] = {}
+# What a field of a struct is, by the word that it is declared with: a letter of the module `struct`, or a record.
+_TYPES: Dict[str, Any] = {"Address": "P", "Size": "N", "U8": "B", "I8": "b", "U16": "H", "U32": "I"}
 
-# What a field of a struct is, by the word that it is declared with.
-_TYPES: Dict[str, Any] = {
-    "Address": c_void_p,
-    "Size": c_size_t,
-    "U8": c_uint8,
-    "U16": c_uint16,
-    "U32": c_uint32,
-    "TimeStruct": TimeStruct,
-}
+_WORD = 8
 
 
-def _struct_of(name: str) -> Callable[[Type[S]], Type[S]]:
-    """A struct of the header, whose fields are those that the class declares."""
+class Record(Tuple[Any, ...]):
+    """What a call wrote to a struct of the header: all numbers, those of structs inside it too, in order."""
 
-    def declare(struct: Type[S]) -> Type[S]:
-        struct._fields_ = [(field, _TYPES[word]) for field, word in struct.__annotations__.items()]
-        STRUCTS[name] = _TYPES[struct.__name__] = struct
-        return struct
+    __slots__ = ()
+
+    letters: ClassVar[str]
+    unpack_from: ClassVar[Callable[[Words, int], Tuple[Any, ...]]]
+    size: ClassVar[int]
+    """How many octets it has."""
+    spans: ClassVar[Dict[str, Tuple[int, int]]]
+    """Of each field the offset and the size."""
+    result: ClassVar[Words]
+    """Memory for a fault and a struct."""
+    item: ClassVar[Words]
+    """Memory for what is left of a list and a struct."""
+
+    @classmethod
+    def at(cls: Type[R], memory: Words, offset: int) -> R:
+        """The struct at an offset of memory."""
+        return tuple.__new__(cls, cls.unpack_from(memory, offset))
+
+
+def _words(size: int) -> Words:
+    return array("Q", bytes(size + -size % _WORD))
+
+
+def _getter(begin: int, inner: Any) -> Callable[[Any], Any]:
+    """What reads a field that begins at an index."""
+    if isinstance(inner, str):
+        return itemgetter(begin)
+    part = slice(begin, begin + len(inner.letters))
+    if inner is OctetsStruct:
+        return itemgetter(part)
+    return lambda record: tuple.__new__(inner, record[part])
+
+
+def _declare(record: Type[R]) -> Type[R]:
+    """A struct whose fields are those that the class declares."""
+    letters = ""
+    record.spans = {}
+    for field, word in record.__annotations__.items():
+        inner = _TYPES[word]
+        setattr(record, field, property(_getter(len(letters), inner)))
+        own: str = inner if isinstance(inner, str) else inner.letters
+        # (a count of 0 aligns)
+        record.spans[field] = calcsize(f"{letters}0{own[0]}"), calcsize(own)
+        letters += own
+    record.letters, record.size = letters, calcsize(letters)
+    record.unpack_from = Struct(letters).unpack_from
+    record.result, record.item = _words(FAULT_SIZE + record.size), _words(LEFT_SIZE + record.size)
+    return record
+
+
+def _struct_of(name: str) -> Callable[[Type[R]], Type[R]]:
+    """A struct of the header."""
+
+    def declare(record: Type[R]) -> Type[R]:
+        RECORDS[name] = _TYPES[record.__name__] = _declare(record)
+        return record
 
     return declare
 
 
+RECORDS: Dict[str, Type[Record]] = {}
+
+# The sizes of a dm_fault and of a dm_octets.
+FAULT_SIZE = calcsize("NNNIIII")
+LEFT_SIZE = calcsize("PN")
+
+
 @_struct_of("dm_octets")
-class OctetsStruct(ctypes.Structure):
+class OctetsStruct(Record):
     octets: Address
     length: Size
 
 
 @_struct_of("dm_fault")
-class FaultStruct(ctypes.Structure):
+class FaultStruct(Record):
     offset: Size
     list_end: Size
     needed: Size
@@ -61,20 +122,20 @@ class FaultStruct(ctypes.Structure):
 
 
 @_struct_of("dm_algorithm")
-class AlgorithmStruct(ctypes.Structure):
+class AlgorithmStruct(Record):
     identifier: OctetsStruct
     parameters: OctetsStruct
 
 
 @_struct_of("dm_bits")
-class BitsStruct(ctypes.Structure):
+class BitsStruct(Record):
     octets: OctetsStruct
     unused: U32
     is_present: U32
 
 
 @_struct_of("dm_any")
-class AnyStruct(ctypes.Structure):
+class AnyStruct(Record):
     content: OctetsStruct
     number: U32
     tag_class: U8
@@ -82,14 +143,28 @@ class AnyStruct(ctypes.Structure):
     reserved: U16
 
 
+@_struct_of("dm_time")
+class TimeFields(Record):
+    year: U32
+    nanosecond: U32
+    month: U8
+    day: U8
+    hour: U8
+    minute: U8
+    second: U8
+    zone: U8
+    zone_hours: I8
+    zone_minutes: I8
+
+
 @_struct_of("dm_moment")
-class MomentStruct(ctypes.Structure):
-    time: TimeStruct
+class MomentStruct(Record):
+    time: TimeFields
     number: U32
 
 
 @_struct_of("dm_certificate")
-class CertificateStruct(ctypes.Structure):
+class CertificateStruct(Record):
     tbs: OctetsStruct
     serial_number: OctetsStruct
     signature: AlgorithmStruct
@@ -109,7 +184,7 @@ class CertificateStruct(ctypes.Structure):
 
 
 @_struct_of("dm_attribute")
-class AttributeStruct(ctypes.Structure):
+class AttributeStruct(Record):
     identifier: OctetsStruct
     value: OctetsStruct
     number: U32
@@ -119,7 +194,7 @@ class AttributeStruct(ctypes.Structure):
 
 
 @_struct_of("dm_extension")
-class ExtensionStruct(ctypes.Structure):
+class ExtensionStruct(Record):
     identifier: OctetsStruct
     value: OctetsStruct
     critical: U32
@@ -127,14 +202,14 @@ class ExtensionStruct(ctypes.Structure):
 
 
 @_struct_of("dm_basic_constraints")
-class BasicConstraintsStruct(ctypes.Structure):
+class BasicConstraintsStruct(Record):
     ca: U32
     has_path_length: U32
     path_length: U32
 
 
 @_struct_of("dm_general_name")
-class GeneralNameStruct(ctypes.Structure):
+class GeneralNameStruct(Record):
     octets: OctetsStruct
     identifier: OctetsStruct
     kind: U32
@@ -142,7 +217,7 @@ class GeneralNameStruct(ctypes.Structure):
 
 
 @_struct_of("dm_authority_key_identifier")
-class AuthorityKeyIdentifierStruct(ctypes.Structure):
+class AuthorityKeyIdentifierStruct(Record):
     key_identifier: OctetsStruct
     issuer: OctetsStruct
     serial_number: OctetsStruct
@@ -153,19 +228,19 @@ class AuthorityKeyIdentifierStruct(ctypes.Structure):
 
 
 @_struct_of("dm_policy")
-class PolicyStruct(ctypes.Structure):
+class PolicyStruct(Record):
     identifier: OctetsStruct
     qualifiers: OctetsStruct
 
 
 @_struct_of("dm_policy_qualifier")
-class PolicyQualifierStruct(ctypes.Structure):
+class PolicyQualifierStruct(Record):
     identifier: OctetsStruct
     value: AnyStruct
 
 
 @_struct_of("dm_distribution_point")
-class DistributionPointStruct(ctypes.Structure):
+class DistributionPointStruct(Record):
     full_name: OctetsStruct
     relative_name: OctetsStruct
     reasons: BitsStruct
@@ -173,13 +248,13 @@ class DistributionPointStruct(ctypes.Structure):
 
 
 @_struct_of("dm_name_constraints")
-class NameConstraintsStruct(ctypes.Structure):
+class NameConstraintsStruct(Record):
     permitted: OctetsStruct
     excluded: OctetsStruct
 
 
 @_struct_of("dm_subtree")
-class SubtreeStruct(ctypes.Structure):
+class SubtreeStruct(Record):
     base: GeneralNameStruct
     minimum: U32
     maximum: U32
@@ -188,19 +263,19 @@ class SubtreeStruct(ctypes.Structure):
 
 
 @_struct_of("dm_access_description")
-class AccessDescriptionStruct(ctypes.Structure):
+class AccessDescriptionStruct(Record):
     method: OctetsStruct
     location: GeneralNameStruct
 
 
 @_struct_of("dm_policy_mapping")
-class PolicyMappingStruct(ctypes.Structure):
+class PolicyMappingStruct(Record):
     issuer_policy: OctetsStruct
     subject_policy: OctetsStruct
 
 
 @_struct_of("dm_policy_constraints")
-class PolicyConstraintsStruct(ctypes.Structure):
+class PolicyConstraintsStruct(Record):
     has_require_explicit_policy: U32
     require_explicit_policy: U32
     has_inhibit_policy_mapping: U32
@@ -208,7 +283,7 @@ class PolicyConstraintsStruct(ctypes.Structure):
 
 
 @_struct_of("dm_issuing_distribution_point")
-class IssuingDistributionPointStruct(ctypes.Structure):
+class IssuingDistributionPointStruct(Record):
     full_name: OctetsStruct
     relative_name: OctetsStruct
     reasons: BitsStruct
@@ -219,7 +294,7 @@ class IssuingDistributionPointStruct(ctypes.Structure):
 
 
 @_struct_of("dm_qc_statement")
-class QcStatementStruct(ctypes.Structure):
+class QcStatementStruct(Record):
     identifier: OctetsStruct
     info: AnyStruct
     has_info: U32
@@ -227,7 +302,7 @@ class QcStatementStruct(ctypes.Structure):
 
 
 @_struct_of("dm_organization_identifier")
-class OrganizationIdentifierStruct(ctypes.Structure):
+class OrganizationIdentifierStruct(Record):
     scheme: OctetsStruct
     country: OctetsStruct
     state_or_province: OctetsStruct
@@ -237,7 +312,7 @@ class OrganizationIdentifierStruct(ctypes.Structure):
 
 
 @_struct_of("dm_certificate_list")
-class CertificateListStruct(ctypes.Structure):
+class CertificateListStruct(Record):
     tbs: OctetsStruct
     signature: AlgorithmStruct
     issuer: OctetsStruct
@@ -252,7 +327,7 @@ class CertificateListStruct(ctypes.Structure):
 
 
 @_struct_of("dm_revoked")
-class RevokedStruct(ctypes.Structure):
+class RevokedStruct(Record):
     serial_number: OctetsStruct
     extensions: OctetsStruct
     date: MomentStruct
@@ -260,7 +335,7 @@ class RevokedStruct(ctypes.Structure):
 
 
 @_struct_of("dm_request")
-class RequestStruct(ctypes.Structure):
+class RequestStruct(Record):
     info: OctetsStruct
     subject: OctetsStruct
     key_algorithm: AlgorithmStruct
@@ -271,13 +346,13 @@ class RequestStruct(ctypes.Structure):
 
 
 @_struct_of("dm_request_attribute")
-class RequestAttributeStruct(ctypes.Structure):
+class RequestAttributeStruct(Record):
     identifier: OctetsStruct
     values: OctetsStruct
 
 
 @_struct_of("dm_private_key")
-class PrivateKeyStruct(ctypes.Structure):
+class PrivateKeyStruct(Record):
     algorithm: OctetsStruct
     parameters: AnyStruct
     private_key: OctetsStruct
@@ -290,7 +365,7 @@ class PrivateKeyStruct(ctypes.Structure):
 
 
 @_struct_of("dm_rsa_private_key")
-class RsaPrivateKeyStruct(ctypes.Structure):
+class RsaPrivateKeyStruct(Record):
     modulus: OctetsStruct
     public_exponent: OctetsStruct
     private_exponent: OctetsStruct
@@ -305,7 +380,7 @@ class RsaPrivateKeyStruct(ctypes.Structure):
 
 
 @_struct_of("dm_ec_private_key")
-class EcPrivateKeyStruct(ctypes.Structure):
+class EcPrivateKeyStruct(Record):
     private_key: OctetsStruct
     parameters: AnyStruct
     public_key: BitsStruct
@@ -314,7 +389,7 @@ class EcPrivateKeyStruct(ctypes.Structure):
 
 
 @_struct_of("dm_encrypted_private_key")
-class EncryptedPrivateKeyStruct(ctypes.Structure):
+class EncryptedPrivateKeyStruct(Record):
     algorithm: OctetsStruct
     parameters: AnyStruct
     encrypted_data: OctetsStruct
@@ -323,7 +398,7 @@ class EncryptedPrivateKeyStruct(ctypes.Structure):
 
 
 @_struct_of("dm_public_key")
-class PublicKeyStruct(ctypes.Structure):
+class PublicKeyStruct(Record):
     algorithm: OctetsStruct
     parameters: AnyStruct
     public_key: BitsStruct
@@ -332,15 +407,22 @@ class PublicKeyStruct(ctypes.Structure):
 
 
 @_struct_of("dm_rsa_public_key")
-class RsaPublicKeyStruct(ctypes.Structure):
+class RsaPublicKeyStruct(Record):
     modulus: OctetsStruct
     public_exponent: OctetsStruct
 
 
 @_struct_of("dm_pem")
-class PemStruct(ctypes.Structure):
+class PemStruct(Record):
     label: OctetsStruct
     length: Size
+
+
+@_declare
+class NumberStruct(Record):
+    """A number that a call writes."""
+
+    value: U32
 
 
 class ExtensionKind(enum.IntEnum):
@@ -446,50 +528,71 @@ find_pem = _call("dm_find_pem", c_uint32, c_void_p, c_size_t, c_void_p)
 next_pem = _call("dm_next_pem", c_uint32, c_void_p, c_void_p, c_size_t, c_void_p, c_size_t, c_void_p)
 
 _name_text = _call("dm_name_text", c_size_t, c_void_p, c_size_t, c_void_p, c_size_t)
-_fault_text = _call("dm_fault_text", c_size_t, c_void_p, c_void_p, c_size_t)
+_found_text = _call("dm_found_text", c_size_t, c_void_p, c_void_p, c_size_t, c_void_p, c_size_t)
 _sha256 = _call("dm_sha256", None, c_void_p, c_size_t, c_void_p)
 _has_unknown_critical = _call("dm_has_unknown_critical", c_uint32, c_void_p, c_size_t)
 
-Within = Callable[[OctetsStruct], bytes]
+Octets = Tuple[int, ...]
+"""Two numbers, where octets are and how many: what a field of the type dm_octets has."""
+
+Within = Callable[[Octets], bytes]
 """Takes the octets of a part of an input."""
 
 
-def within(data: bytes) -> Within:
-    """The parts of an input, which is where it is as long as this lives. An empty one may be anywhere."""
-    begin: int = _bytes_address(data)
+def within(data: bytes, begin: int) -> Within:
+    """The parts of an input that begins at an address, as it does as long as this lives. An empty one may be
+    anywhere."""
 
-    def part(octets: OctetsStruct) -> bytes:
-        if octets.length == 0:
-            return b""
-        at = octets.octets - begin
-        return data[at : at + octets.length]
+    def part(octets: Octets) -> bytes:
+        address, length = octets
+        return data[address - begin : address - begin + length] if length else b""
 
     return part
 
 
-def items(call: Call, struct: Type[S], data: bytes) -> Iterator[Tuple[S, Within]]:
-    """The items of a list. Each is written over the one before it."""
-    rest, item = OctetsStruct(_bytes_address(data), len(data)), struct()
-    part = within(data)
-    while call(ctypes.byref(rest), ctypes.byref(item)):
+class Steps:
+    """A call that takes the next item of a list, and the memory that it writes to: it is for one list at a time."""
+
+    __slots__ = ("_call", "_memory", "_left", "_unpack")
+
+    def __init__(self, call: Call, record: Type[Record]) -> None:
+        self._call = call
+        self._memory = record.item[:]
+        self._left, _ = self._memory.buffer_info()
+        self._unpack = record.unpack_from
+
+    def of(self, octets: Octets) -> Iterator[Tuple[Any, ...]]:
+        """The fields of each item of a list, which has to live meanwhile. Octets begin with none if there are none."""
+        call, memory, left, unpack = self._call, self._memory, self._left, self._unpack
+        memory[0], memory[1] = octets
+        item = left + LEFT_SIZE
+        while memory[1] and call(left, item):
+            yield unpack(memory, LEFT_SIZE)
+
+
+def steps(call: Call, record: Type[R], octets: Octets) -> Iterator[R]:
+    """The items of a list, which has to live meanwhile."""
+    for fields in Steps(call, record).of(octets):
+        yield tuple.__new__(record, fields)
+
+
+def items(call: Call, record: Type[R], data: bytes) -> Iterator[Tuple[R, Within]]:
+    """The items of a list."""
+    begin = address_of(data)
+    part = within(data, begin)
+    for item in steps(call, record, (begin, len(data))):
         yield item, part
-
-
-def numbers(call: Call, data: bytes) -> Iterator[int]:
-    """The items of a list of numbers."""
-    rest, item = OctetsStruct(_bytes_address(data), len(data)), c_uint32()
-    while call(ctypes.byref(rest), ctypes.byref(item)):
-        yield item.value
 
 
 def name_text(name: bytes) -> str:
     """The text of a name by RFC 4514."""
-    return _text(_name_text, _bytes_address(name), len(name))
+    return _text(_name_text, address_of(name), len(name))
 
 
-def fault_text(fault: FaultStruct) -> str:
-    """The text of a fault."""
-    return _text(_fault_text, ctypes.addressof(fault))
+def found_text(fault: Record, data: bytes) -> str:
+    """The text of a fault of an input, with the tag of the element, if it isn't the expected one."""
+    memory = Struct(fault.letters).pack(*fault)
+    return _text(_found_text, address_of(memory), address_of(data), len(data))
 
 
 def _text(call: Call, *arguments: Any) -> str:
@@ -502,14 +605,14 @@ def _text(call: Call, *arguments: Any) -> str:
         room = length
 
 
-def has_unknown_critical(extensions: bytes) -> bool:
+def has_unknown_critical(extensions: Octets) -> bool:
     """Whether one of the extensions is critical and of none of the kinds."""
-    found: int = _has_unknown_critical(_bytes_address(extensions), len(extensions))
+    found: int = _has_unknown_critical(*extensions)
     return found != 0
 
 
 def sha256(data: bytes) -> bytes:
     """The digest of octets."""
     digest = ctypes.create_string_buffer(DIGEST_OCTETS)
-    _sha256(_bytes_address(data), len(data), digest)
+    _sha256(address_of(data), len(data), digest)
     return digest.raw

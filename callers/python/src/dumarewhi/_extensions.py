@@ -1,7 +1,6 @@
 """Extensions, and what their values are (RFC 5280 4.2, 5.3)."""
 from __future__ import annotations
 
-import ctypes
 import datetime
 import enum
 from dataclasses import dataclass
@@ -9,8 +8,8 @@ from typing import Callable, Dict, Iterable, Optional, Tuple, Union
 
 from . import _certificate_calls as _calls
 from . import _parts
-from ._certificate_calls import ExtensionKind, OctetsStruct, Within
-from ._library import TimeStruct
+from ._certificate_calls import ExtensionKind, NumberStruct, Octets, OctetsStruct, Steps, TimeFields, Within
+from ._library import address_of
 from ._names import Attribute, GeneralName, attributes_of, general_name, general_names
 from ._parts import AnyElement
 from ._values import BitString, ObjectIdentifier
@@ -271,16 +270,16 @@ class Extension:
 
 
 def read_basic_constraints(octets: bytes) -> BasicConstraints:
-    found = _parts.read(_calls.read_basic_constraints, _calls.BasicConstraintsStruct(), octets)
+    found, _ = _parts.read(_calls.read_basic_constraints, _calls.BasicConstraintsStruct, octets)
     return BasicConstraints(found.ca != 0, found.path_length if found.has_path_length else None)
 
 
 def read_key_usage(octets: bytes) -> KeyUsage:
-    return KeyUsage(_parts.read(_calls.read_key_usage, ctypes.c_uint32(), octets).value)
+    return KeyUsage(_parts.read_number(_calls.read_key_usage, octets))
 
 
 def read_general_names(octets: bytes) -> Tuple[GeneralName, ...]:
-    return general_names(_parts.read_part(_calls.read_general_names, octets))
+    return general_names(*_parts.read(_calls.read_general_names, OctetsStruct, octets))
 
 
 def read_purposes(octets: bytes) -> Tuple[ObjectIdentifier, ...]:
@@ -294,11 +293,10 @@ def read_subject_key_identifier(octets: bytes) -> bytes:
 
 
 def read_authority_key_identifier(octets: bytes) -> AuthorityKeyIdentifier:
-    found = _parts.read(_calls.read_authority_key_identifier, _calls.AuthorityKeyIdentifierStruct(), octets)
-    part = _calls.within(octets)
+    found, part = _parts.read(_calls.read_authority_key_identifier, _calls.AuthorityKeyIdentifierStruct, octets)
     return AuthorityKeyIdentifier(
         part(found.key_identifier) if found.has_key_identifier else None,
-        general_names(part(found.issuer)) if found.has_issuer else None,
+        general_names(found.issuer, part) if found.has_issuer else None,
         _parts.number(part(found.serial_number)) if found.has_serial_number else None,
     )
 
@@ -322,18 +320,17 @@ def read_distribution_points(octets: bytes) -> Tuple[DistributionPoint, ...]:
     points = _parts.read_part(_calls.read_distribution_points, octets)
     return tuple(
         DistributionPoint(
-            general_names(part(item.full_name)),
-            attributes_of(part(item.relative_name)),
+            general_names(item.full_name, part),
+            attributes_of(item.relative_name, points),
             _parts.optional_bits(item.reasons, part),
-            general_names(part(item.crl_issuer)),
+            general_names(item.crl_issuer, part),
         )
         for item, part in _calls.items(_calls.next_distribution_point, _calls.DistributionPointStruct, points)
     )
 
 
 def read_name_constraints(octets: bytes) -> NameConstraints:
-    found = _parts.read(_calls.read_name_constraints, _calls.NameConstraintsStruct(), octets)
-    part = _calls.within(octets)
+    found, part = _parts.read(_calls.read_name_constraints, _calls.NameConstraintsStruct, octets)
     return NameConstraints(_subtrees(part(found.permitted)), _subtrees(part(found.excluded)))
 
 
@@ -366,7 +363,7 @@ def read_policy_mappings(octets: bytes) -> Tuple[PolicyMapping, ...]:
 
 
 def read_policy_constraints(octets: bytes) -> PolicyConstraints:
-    found = _parts.read(_calls.read_policy_constraints, _calls.PolicyConstraintsStruct(), octets)
+    found, _ = _parts.read(_calls.read_policy_constraints, _calls.PolicyConstraintsStruct, octets)
     return PolicyConstraints(
         found.require_explicit_policy if found.has_require_explicit_policy else None,
         found.inhibit_policy_mapping if found.has_inhibit_policy_mapping else None,
@@ -374,7 +371,7 @@ def read_policy_constraints(octets: bytes) -> PolicyConstraints:
 
 
 def read_inhibit_any_policy(octets: bytes) -> int:
-    return _parts.read(_calls.read_inhibit_any_policy, ctypes.c_uint32(), octets).value
+    return _parts.read_number(_calls.read_inhibit_any_policy, octets)
 
 
 def read_directory_attributes(octets: bytes) -> Tuple[DirectoryAttribute, ...]:
@@ -390,11 +387,10 @@ def read_crl_number(octets: bytes) -> int:
 
 
 def read_issuing_distribution_point(octets: bytes) -> IssuingDistributionPoint:
-    found = _parts.read(_calls.read_issuing_distribution_point, _calls.IssuingDistributionPointStruct(), octets)
-    part = _calls.within(octets)
+    found, part = _parts.read(_calls.read_issuing_distribution_point, _calls.IssuingDistributionPointStruct, octets)
     return IssuingDistributionPoint(
-        general_names(part(found.full_name)),
-        attributes_of(part(found.relative_name)),
+        general_names(found.full_name, part),
+        attributes_of(found.relative_name, octets),
         _parts.optional_bits(found.reasons, part),
         found.only_contains_user_certs != 0,
         found.only_contains_ca_certs != 0,
@@ -404,7 +400,7 @@ def read_issuing_distribution_point(octets: bytes) -> IssuingDistributionPoint:
 
 
 def read_invalidity_date(octets: bytes) -> datetime.datetime:
-    found = _parts.read(_calls.read_invalidity_date, TimeStruct(), octets)
+    found, _ = _parts.read(_calls.read_invalidity_date, TimeFields, octets)
     return _parts.datetime_of(_parts.moment_of(found))
 
 
@@ -415,7 +411,7 @@ def read_timestamps(octets: bytes) -> Tuple[bytes, ...]:
 
 def read_tls_features(octets: bytes) -> Tuple[int, ...]:
     features = _parts.read_part(_calls.read_tls_features, octets)
-    return tuple(_calls.numbers(_calls.next_tls_feature, features))
+    return tuple(item.value for item, _ in _calls.items(_calls.next_tls_feature, NumberStruct, features))
 
 
 def read_qc_statements(octets: bytes) -> Tuple[QcStatement, ...]:
@@ -430,8 +426,7 @@ def read_qc_statements(octets: bytes) -> Tuple[QcStatement, ...]:
 
 
 def read_organization_identifier(octets: bytes) -> OrganizationIdentifier:
-    found = _parts.read(_calls.read_organization_identifier, _calls.OrganizationIdentifierStruct(), octets)
-    part = _calls.within(octets)
+    found, part = _parts.read(_calls.read_organization_identifier, _calls.OrganizationIdentifierStruct, octets)
     return OrganizationIdentifier(
         part(found.scheme).decode(),
         part(found.country).decode(),
@@ -445,7 +440,7 @@ def read_null(octets: bytes) -> None:
 
 
 def read_reason(octets: bytes) -> RevocationReason:
-    return RevocationReason(_parts.read(_calls.read_reason, ctypes.c_uint32(), octets).value)
+    return RevocationReason(_parts.read_number(_calls.read_reason, octets))
 
 
 _VALUES: Dict[int, Callable[[bytes], ExtensionValue]] = {
@@ -481,13 +476,19 @@ _VALUES: Dict[int, Callable[[bytes], ExtensionValue]] = {
 }
 
 
-def extensions_of(octets: bytes) -> Tuple[Extension, ...]:
-    """The extensions of a list."""
+def extensions_of(extensions: Octets, octets: bytes) -> Tuple[Extension, ...]:
+    """The extensions of a list, which is a part of the octets."""
+    begin, steps = address_of(octets), Steps(_calls.next_extension, _calls.ExtensionStruct)
     return tuple(
-        Extension(
-            ObjectIdentifier.from_content(part(item.identifier)), item.critical != 0, part(item.value), item.kind
-        )
-        for item, part in _calls.items(_calls.next_extension, _calls.ExtensionStruct, octets)
+        [
+            Extension(
+                ObjectIdentifier.from_content(octets[identifier - begin : identifier - begin + size]),
+                critical != 0,
+                octets[value - begin : value - begin + length],
+                kind,
+            )
+            for identifier, size, value, length, critical, kind in steps.of(extensions)
+        ]
     )
 
 

@@ -6,7 +6,7 @@ from typing import TYPE_CHECKING, Optional, Type
 
 from . import _certificate_calls as _calls
 from . import _parts
-from ._certificate_calls import OctetsStruct
+from ._certificate_calls import Octets
 from ._parts import AnyElement
 from ._values import BitString, ObjectIdentifier
 
@@ -42,8 +42,7 @@ class PrivateKey:
             CertificateError: The octets aren't a key, or it is encrypted: :class:`EncryptedPrivateKey` reads that.
         """
         octets = bytes(data)
-        found = _parts.read(_calls.read_private_key, _calls.PrivateKeyStruct(), octets)
-        part = _calls.within(octets)
+        found, part = _parts.read(_calls.read_private_key, _calls.PrivateKeyStruct, octets)
         return cls(
             version=found.version,
             algorithm=ObjectIdentifier.from_content(part(found.algorithm)),
@@ -82,10 +81,9 @@ class RsaPrivateKey:
             CertificateError: The octets aren't a key.
         """
         octets = bytes(data)
-        found = _parts.read(_calls.read_rsa_private_key, _calls.RsaPrivateKeyStruct(), octets)
-        part = _calls.within(octets)
+        found, part = _parts.read(_calls.read_rsa_private_key, _calls.RsaPrivateKeyStruct, octets)
 
-        def number(content: OctetsStruct) -> int:
+        def number(content: Octets) -> int:
             return _parts.number(part(content))
 
         return cls(
@@ -126,8 +124,7 @@ class EcPrivateKey:
             CertificateError: The octets aren't a key.
         """
         octets = bytes(data)
-        found = _parts.read(_calls.read_ec_private_key, _calls.EcPrivateKeyStruct(), octets)
-        part = _calls.within(octets)
+        found, part = _parts.read(_calls.read_ec_private_key, _calls.EcPrivateKeyStruct, octets)
         return cls(
             version=found.version,
             private_key=part(found.private_key),
@@ -157,8 +154,7 @@ class EncryptedPrivateKey:
             CertificateError: The octets aren't an encrypted key.
         """
         octets = bytes(data)
-        found = _parts.read(_calls.read_encrypted_private_key, _calls.EncryptedPrivateKeyStruct(), octets)
-        part = _calls.within(octets)
+        found, part = _parts.read(_calls.read_encrypted_private_key, _calls.EncryptedPrivateKeyStruct, octets)
         return cls(
             algorithm=ObjectIdentifier.from_content(part(found.algorithm)),
             parameters=_parts.any_element(found.parameters, part) if found.has_parameters else None,
@@ -185,8 +181,7 @@ class SubjectPublicKeyInfo:
             CertificateError: The octets aren't a key.
         """
         octets = bytes(data)
-        found = _parts.read(_calls.read_public_key, _calls.PublicKeyStruct(), octets)
-        part = _calls.within(octets)
+        found, part = _parts.read(_calls.read_public_key, _calls.PublicKeyStruct, octets)
         return cls(
             algorithm=ObjectIdentifier.from_content(part(found.algorithm)),
             parameters=_parts.any_element(found.parameters, part) if found.has_parameters else None,
@@ -209,6 +204,5 @@ class RsaPublicKey:
             CertificateError: The octets aren't a key.
         """
         octets = bytes(data)
-        found = _parts.read(_calls.read_rsa_public_key, _calls.RsaPublicKeyStruct(), octets)
-        part = _calls.within(octets)
+        found, part = _parts.read(_calls.read_rsa_public_key, _calls.RsaPublicKeyStruct, octets)
         return cls(_parts.number(part(found.modulus)), _parts.number(part(found.public_exponent)))

@@ -246,6 +246,14 @@ _release_buffer = _python_call("PyBuffer_Release", None, c_void_p)
 # The library takes no NULL, also for no octets.
 _NOTHING = b"\0"
 
+# CPython has the octets of each `bytes` so far behind its start.
+_BEHIND: int = _bytes_address(_NOTHING) - id(_NOTHING)
+
+
+def address_of(data: bytes) -> int:
+    """Where octets are, as long as they live. An error if this is no ``bytes``."""
+    return id(data) + _BEHIND if type(data) is bytes else int(_bytes_address(data))
+
 
 def _octets(view: memoryview) -> memoryview:
     """A view of any items, as one of octets."""
@@ -260,7 +268,7 @@ def _address(view: memoryview) -> int:
     _get_buffer(view, ctypes.byref(buffer), 0)
     address = buffer.buf
     _release_buffer(ctypes.byref(buffer))
-    return address or int(_bytes_address(_NOTHING))
+    return address or address_of(_NOTHING)
 
 
 if TYPE_CHECKING:
@@ -300,7 +308,7 @@ class Source:
         if type(data) is bytes:
             self.data = data
             self.view = memoryview(data)
-            self._address = _bytes_address(data)
+            self._address = address_of(data)
         else:
             self.data = self.view = _octets(memoryview(data))
             self._address = _address(self.view)

@@ -8,10 +8,15 @@ from typing import Iterator, Optional, Tuple, Union
 
 from . import _certificate_calls as _calls
 from . import _library, _parts
-from ._certificate_calls import AttributeStruct, GeneralNameStruct, OctetsStruct, Within
-from ._tag import Tag, key_of
+from ._certificate_calls import AttributeStruct, GeneralNameStruct, Octets, OctetsStruct, Steps, Within
+from ._tag import CLASS_SHIFT, Tag, tag_of
 from ._tree import _CODECS
 from ._values import ObjectIdentifier
+
+_CODECS_OF_TAGS = {tag_of(key): codec for key, codec in _CODECS.items()}
+
+# The types whose characters the library looks at. Those of the others are what the codec takes.
+_CHECKED = frozenset((Tag.NUMERIC_STRING, Tag.PRINTABLE_STRING, Tag.VISIBLE_STRING))
 
 
 @dataclass(frozen=True)
@@ -27,10 +32,10 @@ class Attribute:
     @property
     def text(self) -> Optional[str]:
         """The value, if it is a character string of a type that :meth:`Node.as_str` has."""
-        codec = _CODECS.get(key_of(self.tag))
+        codec = _CODECS_OF_TAGS.get(self.tag)
         if codec is None or self.constructed:
             return None
-        if self.tag != Tag.UNIVERSAL_STRING and _library.check_text(self.tag.number, self.value, len(self.value)):
+        if self.tag in _CHECKED and _library.check_text(self.tag.number, self.value, len(self.value)):
             return None
         try:
             return self.value.decode(codec)
@@ -56,8 +61,11 @@ class Name:
     @property
     def relative_names(self) -> Tuple[Tuple[Attribute, ...], ...]:
         """Its parts, the first ones first: each is a set of attributes, and mostly of one."""
-        parts = _calls.items(_calls.next_relative_name, OctetsStruct, self.octets)
-        return tuple(attributes_of(part(attributes)) for attributes, part in parts)
+        octets = self.octets
+        begin = _library.address_of(octets)
+        names = Steps(_calls.next_relative_name, OctetsStruct)
+        attributes = Steps(_calls.next_attribute, AttributeStruct)
+        return tuple([_attributes(attributes, name, octets, begin) for name in names.of((begin, len(octets)))])
 
     @property
     def attributes(self) -> Tuple[Attribute, ...]:
@@ -87,16 +95,22 @@ class Name:
         return hash(self.octets)
 
 
-def attributes_of(octets: bytes) -> Tuple[Attribute, ...]:
-    """The attributes of a relative name."""
+def attributes_of(name: Octets, octets: bytes) -> Tuple[Attribute, ...]:
+    """The attributes of a relative name, which is a part of the octets."""
+    return _attributes(Steps(_calls.next_attribute, AttributeStruct), name, octets, _library.address_of(octets))
+
+
+def _attributes(steps: Steps, name: Octets, octets: bytes, begin: int) -> Tuple[Attribute, ...]:
     return tuple(
-        Attribute(
-            ObjectIdentifier.from_content(part(item.identifier)),
-            _parts.tag(item),
-            item.constructed != 0,
-            part(item.value),
-        )
-        for item, part in _calls.items(_calls.next_attribute, AttributeStruct, octets)
+        [
+            Attribute(
+                ObjectIdentifier.from_content(octets[identifier - begin : identifier - begin + size]),
+                tag_of(number | tag_class << CLASS_SHIFT),
+                constructed != 0,
+                octets[value - begin : value - begin + length],
+            )
+            for identifier, size, value, length, number, tag_class, constructed, _ in steps.of(name)
+        ]
     )
 
 
@@ -116,6 +130,7 @@ class GeneralNameKind(enum.IntEnum):
 
 Address = Union[ipaddress.IPv4Address, ipaddress.IPv6Address]
 
+_KINDS = tuple(GeneralNameKind)
 _TEXTS = (GeneralNameKind.RFC822_NAME, GeneralNameKind.DNS_NAME, GeneralNameKind.URI)
 
 
@@ -130,14 +145,14 @@ class GeneralName:
     """The type of an otherName."""
 
 
-def general_names(octets: bytes) -> Tuple[GeneralName, ...]:
-    """The names of a list."""
-    found = _calls.items(_calls.next_general_name, GeneralNameStruct, octets)
-    return tuple(general_name(item, part) for item, part in found)
+def general_names(octets: Octets, part: Within) -> Tuple[GeneralName, ...]:
+    """The names of a list, which is a part of an input."""
+    found = _calls.steps(_calls.next_general_name, GeneralNameStruct, octets)
+    return tuple(general_name(item, part) for item in found)
 
 
 def general_name(found: GeneralNameStruct, part: Within) -> GeneralName:
-    kind, octets = GeneralNameKind(found.kind), part(found.octets)
+    kind, octets = _KINDS[found.kind], part(found.octets)
     if kind in _TEXTS:
         return GeneralName(kind, octets.decode("ascii"))
     if kind == GeneralNameKind.DIRECTORY_NAME:

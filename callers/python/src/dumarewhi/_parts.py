@@ -1,27 +1,30 @@
 """What certificates, lists, requests and keys have in common: how they are read, and the types of their fields."""
 from __future__ import annotations
 
-import ctypes
 import datetime
 from dataclasses import dataclass
-from typing import Optional, Tuple, Union
+from typing import Optional, Tuple, Type, Union
 
 from . import _certificate_calls as _calls
 from . import _library
 from ._certificate_calls import (
+    FAULT_SIZE,
     AlgorithmStruct,
     AnyStruct,
     AttributeStruct,
     BitsStruct,
     FaultStruct,
     MomentStruct,
+    NumberStruct,
     OctetsStruct,
+    R,
+    TimeFields,
     Within,
 )
 from ._errors import DerError
 from ._header import Field, Rule
-from ._library import Call, TimeStruct
-from ._tag import Tag, TagClass
+from ._library import Call
+from ._tag import CLASS_SHIFT, Tag, tag_of
 from ._values import BitString, ObjectIdentifier
 
 
@@ -34,6 +37,11 @@ class CertificateError(DerError):
     ... except CertificateError as error:
     ...     print(error.field.name, error.offset)
     TBS_CERTIFICATE 2
+    >>> try:
+    ...     Certificate.from_der(b"\\x30\\x02\\x6a\\x00")
+    ... except CertificateError as error:
+    ...     print(error)
+    tbsCertificate at 2: unexpected class, found [APPLICATION 10]
 
     Attributes:
         reason: What is wrong and where, as a text with the field.
@@ -45,8 +53,8 @@ class CertificateError(DerError):
         needed: How many octets the element needs, as far as the input shows, or ``None``.
     """
 
-    def __init__(self, fault: FaultStruct) -> None:
-        super().__init__(_calls.fault_text(fault), fault.offset, fault.error)
+    def __init__(self, fault: FaultStruct, reason: str) -> None:
+        super().__init__(reason, fault.offset, fault.error)
         self._fault = fault
         self.field = Field(fault.field)
         self.incomplete = fault.status == _library.INCOMPLETE
@@ -57,7 +65,7 @@ class CertificateError(DerError):
         return f"{'.'.join(self.names)} {self.reason}" if self.names else self.reason
 
     def __reduce__(self) -> Tuple[object, ...]:
-        return CertificateError, (self._fault,), {"names": self.names}
+        return CertificateError, (self._fault, self.reason), {"names": self.names}
 
 
 @dataclass(frozen=True)
@@ -88,24 +96,39 @@ class AnyElement:
     """The content octets."""
 
 
-def read(call: Call, found: _calls.V, octets: bytes) -> _calls.V:
-    """What a call reads of an input."""
-    fault = FaultStruct()
-    if call(_library._bytes_address(octets), len(octets), ctypes.byref(found), ctypes.byref(fault)) != _library.OK:
-        raise CertificateError(fault)
-    return found
+def read(call: Call, record: Type[R], octets: bytes) -> Tuple[R, Within]:
+    """What a call reads of an input, and what takes parts of the input."""
+    memory = record.result[:]
+    fault, _ = memory.buffer_info()
+    begin = _library.address_of(octets)
+    if call(begin, len(octets), fault + FAULT_SIZE, fault) != _library.OK:
+        raise _error(memory, octets)
+    found = tuple.__new__(record, record.unpack_from(memory, FAULT_SIZE))
+    return found, _calls.within(octets, begin)
+
+
+def _error(memory: _library.Words, octets: bytes) -> CertificateError:
+    """The error of a fault that a call wrote to memory."""
+    fault = FaultStruct.at(memory, 0)
+    return CertificateError(fault, _calls.found_text(fault, octets))
 
 
 def read_null(call: Call, octets: bytes) -> None:
     """Reads an input that has no value."""
-    fault = FaultStruct()
-    if call(_library._bytes_address(octets), len(octets), ctypes.byref(fault)) != _library.OK:
-        raise CertificateError(fault)
+    memory = FaultStruct.result[:]
+    if call(_library.address_of(octets), len(octets), memory.buffer_info()[0]) != _library.OK:
+        raise _error(memory, octets)
+
+
+def read_number(call: Call, octets: bytes) -> int:
+    """The number that a call reads of an input."""
+    return read(call, NumberStruct, octets)[0].value
 
 
 def read_part(call: Call, octets: bytes) -> bytes:
     """The part of an input that a call finds."""
-    return _calls.within(octets)(read(call, OctetsStruct(), octets))
+    found, part = read(call, OctetsStruct, octets)
+    return part(found)
 
 
 def number(content: bytes) -> int:
@@ -126,7 +149,7 @@ def optional_bits(found: BitsStruct, part: Within) -> Optional[BitString]:
 
 
 def tag(found: Union[AnyStruct, AttributeStruct]) -> Tag:
-    return Tag(TagClass(found.tag_class), found.number)
+    return tag_of(found.number | found.tag_class << CLASS_SHIFT)
 
 
 def any_element(found: AnyStruct, part: Within) -> AnyElement:
@@ -141,8 +164,9 @@ def moment(found: MomentStruct) -> Moment:
     return moment_of(found.time)
 
 
-def moment_of(time: TimeStruct) -> Moment:
-    return time.year, time.month, time.day, time.hour, time.minute, time.second, time.nanosecond // 1000
+def moment_of(time: TimeFields) -> Moment:
+    year, nanosecond, month, day, hour, minute, second, *_ = time
+    return year, month, day, hour, minute, second, nanosecond // 1000
 
 
 def datetime_of(moment: Moment) -> datetime.datetime:

@@ -12,11 +12,13 @@ from dataclasses import dataclass, field
 from typing import TYPE_CHECKING, Union
 
 from . import _certificate_calls as _calls
-from ._certificate_calls import OctetsStruct, PemStruct
+from ._certificate_calls import LEFT_SIZE, Octets, PemStruct
 from ._library import Source, rule_error
 
 if TYPE_CHECKING:
     from _typeshed import ReadableBuffer
+
+    from ._library import Words
 
 __all__ = ["Block", "Blocks", "blocks"]
 
@@ -62,7 +64,7 @@ class Blocks:
 
     # What the text is read from, and what is left of it.
     _source: Source
-    _rest: OctetsStruct
+    _rest: Words
     # The buffers of a block, which has no more octets than the text.
     _characters: ctypes.Array[ctypes.c_char]
     _octets: ctypes.Array[ctypes.c_char]
@@ -70,7 +72,8 @@ class Blocks:
     def __init__(self, text: Union[str, ReadableBuffer]) -> None:
         self._source = Source(text.encode() if isinstance(text, str) else text)
         length = self._source.length
-        self._rest = OctetsStruct(self._source._address, length)
+        self._rest = PemStruct.item[:]
+        self._rest[0], self._rest[1] = self._source._address, length
         self._characters = ctypes.create_string_buffer(length + 1)
         self._octets = ctypes.create_string_buffer(length + 1)
 
@@ -84,22 +87,25 @@ class Blocks:
             DerError: There is one that is encrypted (RFC 1421 4.6.1.1), or whose base64 (RFC 4648 4) isn't right: the
                 next call goes on after it. Or it has no end, or another label there: then it is the last one.
         """
-        rest, found, offset = self._rest, PemStruct(), ctypes.c_size_t()
-        before, length = rest.length, self._source.length
-        if not _calls.find_pem(rest.octets, before, ctypes.byref(offset)):
+        rest, length = self._rest, self._source.length
+        address, before = rest[0], rest[1]
+        offset = ctypes.c_size_t()
+        if not _calls.find_pem(address, before, ctypes.byref(offset)):
             raise StopIteration
         begin = length - before + offset.value
-        buffers = self._characters, length, self._octets, length
-        rule = _calls.next_pem(ctypes.byref(rest), *buffers, ctypes.byref(found))
-        if rest.length == before:
-            rest.length = 0
+        left, _ = rest.buffer_info()
+        rule = _calls.next_pem(left, self._characters, length, self._octets, length, left + LEFT_SIZE)
+        if rest[1] == before:
+            rest[1] = 0
         if rule:
             raise rule_error(rule, begin)
+        found = PemStruct.at(rest, LEFT_SIZE)
         return Block(self._text(found.label), begin, ctypes.string_at(self._octets, found.length))
 
-    def _text(self, part: OctetsStruct) -> str:
+    def _text(self, part: Octets) -> str:
         """The text of a part, which may be anywhere if it is empty."""
-        if part.length == 0:
+        address, length = part
+        if length == 0:
             return ""
-        at = part.octets - self._source._address
-        return str(self._source.view[at : at + part.length], "utf-8", "replace")
+        at = address - self._source._address
+        return str(self._source.view[at : at + length], "utf-8", "replace")

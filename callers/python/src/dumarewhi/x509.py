@@ -139,8 +139,7 @@ class Certificate:
         """
         octets = bytes(data)
         call = _calls.read_strict_certificate if strict else _calls.read_certificate
-        found = _parts.read(call, _calls.CertificateStruct(), octets)
-        part = _calls.within(octets)
+        found, part = _parts.read(call, _calls.CertificateStruct, octets)
         return cls(
             octets=octets,
             tbs=part(found.tbs),
@@ -152,8 +151,8 @@ class Certificate:
             public_key=PublicKey(_parts.algorithm(found.key_algorithm, part), _parts.bits(found.key, part)),
             issuer_unique_id=_parts.optional_bits(found.issuer_unique_id, part),
             subject_unique_id=_parts.optional_bits(found.subject_unique_id, part),
-            extensions=extensions_of(part(found.extensions)),
-            has_unknown_critical=_calls.has_unknown_critical(part(found.extensions)),
+            extensions=extensions_of(found.extensions, octets),
+            has_unknown_critical=_calls.has_unknown_critical(found.extensions),
             signature_algorithm=_parts.algorithm(found.signature_algorithm, part),
             signature_value=_parts.bits(found.signature_value, part),
             _validity=(_parts.moment(found.not_before), _parts.moment(found.not_after)),
@@ -254,8 +253,7 @@ class CertificateList:
             CertificateError: The octets aren't a list.
         """
         octets = bytes(data)
-        found = _parts.read(_calls.read_certificate_list, _calls.CertificateListStruct(), octets)
-        part = _calls.within(octets)
+        found, part = _parts.read(_calls.read_certificate_list, _calls.CertificateListStruct, octets)
         return cls(
             octets=octets,
             tbs=part(found.tbs),
@@ -263,8 +261,8 @@ class CertificateList:
             signature=_parts.algorithm(found.signature, part),
             issuer=Name(part(found.issuer)),
             revoked_certificates=_revoked(part(found.revoked)) if found.has_revoked else None,
-            extensions=extensions_of(part(found.extensions)),
-            has_unknown_critical=_calls.has_unknown_critical(part(found.extensions)),
+            extensions=extensions_of(found.extensions, octets),
+            has_unknown_critical=_calls.has_unknown_critical(found.extensions),
             signature_algorithm=_parts.algorithm(found.signature_algorithm, part),
             signature_value=_parts.bits(found.signature_value, part),
             _this_update=_parts.moment(found.this_update),
@@ -328,8 +326,7 @@ class CertificationRequest:
             CertificateError: The octets aren't a request.
         """
         octets = bytes(data)
-        found = _parts.read(_calls.read_request, _calls.RequestStruct(), octets)
-        part = _calls.within(octets)
+        found, part = _parts.read(_calls.read_request, _calls.RequestStruct, octets)
         return cls(
             octets=octets,
             info=part(found.info),
@@ -349,7 +346,8 @@ class CertificationRequest:
         """
         for attribute in self.attributes:
             if attribute.identifier == _EXTENSION_REQUEST:
-                return extensions_of(_parts.read_part(_calls.read_extension_request, attribute.values))
+                found, _ = _parts.read(_calls.read_extension_request, _calls.OctetsStruct, attribute.values)
+                return extensions_of(found, attribute.values)
         return ()
 
     def __repr__(self) -> str:
@@ -360,8 +358,8 @@ def _revoked(octets: bytes) -> Tuple[RevokedCertificate, ...]:
     return tuple(
         RevokedCertificate(
             _parts.number(part(item.serial_number)),
-            extensions_of(part(item.extensions)),
-            _calls.has_unknown_critical(part(item.extensions)),
+            extensions_of(item.extensions, octets),
+            _calls.has_unknown_critical(item.extensions),
             _parts.moment(item.date),
         )
         for item, part in _calls.items(_calls.next_revoked, _calls.RevokedStruct, octets)
