@@ -157,6 +157,18 @@ def sound() -> List[bytes]:
     return [octets_of(text) for text in texts] + [octets for octets in files if len(octets) < 4096]
 
 
+def change(octets: bytearray, kind: int, at: int, octet: int) -> None:
+    """Cuts octets off (of the kind 0), leaves one out (1), puts one in (2) or changes one."""
+    if kind == 0:
+        del octets[at:]
+    elif kind == 1:
+        del octets[at : at + 1]
+    elif kind == 2:
+        octets[at:at] = bytes((octet,))
+    else:
+        octets[at : at + 1] = bytes((octet,))
+
+
 def damaged(count: int) -> Iterator[Tuple[bytes, int]]:
     """Inputs with octets changed, left out, put in or cut off, and depths. They are the same at each run."""
     chance = random.Random(52)
@@ -168,15 +180,7 @@ def damaged(count: int) -> Iterator[Tuple[bytes, int]]:
             at = chance.randrange(len(octets) + 1)
             at = min(at, chance.choice((8, 64, 4096)))
             octet = chance.choice(likely) if chance.randrange(3) else chance.randrange(256)
-            kind = chance.randrange(5)
-            if kind == 0:
-                del octets[at:]
-            elif kind == 1:
-                del octets[at : at + 1]
-            elif kind == 2:
-                octets[at:at] = bytes((octet,))
-            else:
-                octets[at : at + 1] = bytes((octet,))
+            change(octets, chance.randrange(5), at, octet)
         depth = chance.choice((0, 1, 2, 3, 4, 50, 50, 50, 50, 250))
         yield bytes(octets), depth
 

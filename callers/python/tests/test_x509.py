@@ -11,7 +11,7 @@ from pathlib import Path
 from typing import Callable, Dict, Iterator, List, Sequence, Tuple
 
 import pytest
-from conftest import DATA, REPOSITORY, TESTS, certificates, inputs_of, is_text_of, octets_of, openssl, rows
+from conftest import DATA, REPOSITORY, TESTS, certificates, change, inputs_of, is_text_of, octets_of, openssl, rows
 from test_extensions import compare_with_cryptography
 
 from dumarewhi import BitString, DerError, ObjectIdentifier, Rule, Tag, Writer, named
@@ -117,15 +117,7 @@ def damaged(inputs: List[bytes]) -> Iterator[bytes]:
         for _ in range(chance.randrange(1, 4)):
             at = chance.randrange(len(octets) + 1)
             octet = chance.choice(likely) if chance.randrange(3) else chance.randrange(256)
-            kind = chance.randrange(8)
-            if kind == 0:
-                del octets[at:]
-            elif kind == 1:
-                del octets[at : at + 1]
-            elif kind == 2:
-                octets[at:at] = bytes((octet,))
-            else:
-                octets[at : at + 1] = bytes((octet,))
+            change(octets, chance.randrange(8), at, octet)
         yield bytes(octets)
 
 

@@ -1,36 +1,11 @@
 //! Damaged inputs: no call panics, and each element lies within the input and within the one around it.
 #![cfg(feature = "std")]
 use dumarewhi::{check_ber, check_der, list_der, Any, Buffer, Element, Node, Reader, Result, Rules, Tree};
+use shared::{damaged, Random};
+
+mod shared;
 
 const INPUTS: u64 = 40_000;
-
-/// Numbers of the generator xorshift64 (Marsaglia 2003), the same ones at each run.
-struct Random(u64);
-
-impl Random {
-    fn next(&mut self) -> u64 {
-        self.0 ^= self.0 << 13;
-        self.0 ^= self.0 >> 7;
-        self.0 ^= self.0 << 17;
-        self.0
-    }
-
-    fn below(&mut self, end: usize) -> usize {
-        (self.next() % end as u64) as usize
-    }
-
-    /// An octet, mostly one that elements are made of.
-    fn octet(&mut self) -> u8 {
-        const LIKELY: &[u8] = &[
-            0, 1, 2, 3, 4, 5, 6, 7, 10, 12, 13, 16, 18, 19, 22, 23, 24, 26, 28, 30, 0x1f, 0x30, 0x31, 0x24,
-            0x61, 0x80, 0x81, 0x82, 0xa0, 0xbf, 0xff,
-        ];
-        match self.below(3) {
-            0 => self.next() as u8,
-            _ => LIKELY[self.below(LIKELY.len())],
-        }
-    }
-}
 
 /// Elements of many types, of definite and indefinite length.
 fn sound() -> Vec<Vec<u8>> {
@@ -75,29 +50,6 @@ fn sound() -> Vec<Vec<u8>> {
         (0..40).fold(vec![5, 0], |it, _| definite(0x30, &it)),
         (0..30).fold(vec![5, 0], |it, _| indefinite(0x30, &it)),
     ]
-}
-
-/// Changes, drops, doubles or inserts some octets, or cuts the input.
-fn damaged(input: &[u8], random: &mut Random) -> Vec<u8> {
-    let mut octets = input.to_vec();
-    for _ in 0..1 + random.below(4) {
-        if octets.is_empty() {
-            break;
-        }
-        let at = random.below(octets.len());
-        match random.below(6) {
-            0 => octets[at] = random.octet(),
-            1 => octets[at] ^= 1 << random.below(8),
-            2 => drop(octets.remove(at)),
-            3 => octets.insert(at, random.octet()),
-            4 => {
-                let piece = octets[at..(at + 1 + random.below(9)).min(octets.len())].to_vec();
-                octets.splice(at..at, piece);
-            }
-            _ => octets.truncate(at),
-        }
-    }
-    octets
 }
 
 fn noise(random: &mut Random) -> Vec<u8> {

@@ -136,17 +136,21 @@ impl Random {
 /// Changes, drops, doubles or inserts some octets, or cuts the input.
 pub fn damaged(input: &[u8], random: &mut Random) -> Vec<u8> {
     let mut octets = input.to_vec();
-    for _ in 0..1 + random.below(3) {
+    for _ in 0..1 + random.below(4) {
         if octets.is_empty() {
             break;
         }
         let at = random.below(octets.len());
-        match random.below(8) {
-            0 => drop(octets.remove(at)),
-            1 => octets.insert(at, random.octet()),
-            2 => octets.truncate(at),
-            3 => octets[at] ^= 1 << random.below(8),
-            _ => octets[at] = random.octet(),
+        match random.below(6) {
+            0 => octets[at] = random.octet(),
+            1 => octets[at] ^= 1 << random.below(8),
+            2 => drop(octets.remove(at)),
+            3 => octets.insert(at, random.octet()),
+            4 => {
+                let piece = octets[at..(at + 1 + random.below(9)).min(octets.len())].to_vec();
+                octets.splice(at..at, piece);
+            }
+            _ => octets.truncate(at),
         }
     }
     octets
