@@ -9,14 +9,13 @@ from typing import Iterator, Optional, Tuple, Union
 from . import _certificate_calls as _calls
 from . import _library, _parts
 from ._certificate_calls import AttributeStruct, GeneralNameStruct, Octets, OctetsStruct, Steps, Within
-from ._tag import CLASS_SHIFT, Tag, tag_of
+from ._tag import CLASS_SHIFT, Tag, TagClass, tag_of
 from ._tree import _CODECS
 from ._values import ObjectIdentifier
 
-_CODECS_OF_TAGS = {tag_of(key): codec for key, codec in _CODECS.items()}
-
 # The types whose characters the library looks at. Those of the others are what the codec takes.
-_CHECKED = frozenset((Tag.NUMERIC_STRING, Tag.PRINTABLE_STRING, Tag.VISIBLE_STRING))
+_CHECKED = frozenset(tag.number for tag in (Tag.NUMERIC_STRING, Tag.PRINTABLE_STRING, Tag.VISIBLE_STRING))
+_UNIVERSAL = TagClass.UNIVERSAL
 
 
 @dataclass(frozen=True)
@@ -32,13 +31,14 @@ class Attribute:
     @property
     def text(self) -> Optional[str]:
         """The value, if it is a character string of a type that :meth:`Node.as_str` has."""
-        codec = _CODECS_OF_TAGS.get(self.tag)
+        number, value = self.tag.number, self.value
+        codec = _CODECS.get(number) if self.tag.tag_class == _UNIVERSAL else None
         if codec is None or self.constructed:
             return None
-        if self.tag in _CHECKED and _library.check_text(self.tag.number, self.value, len(self.value)):
+        if number in _CHECKED and _library.check_text(number, value, len(value)):
             return None
         try:
-            return self.value.decode(codec)
+            return value.decode(codec)
         except UnicodeDecodeError:
             return None
 

@@ -137,7 +137,8 @@ def number(content: bytes) -> int:
 
 
 def algorithm(found: AlgorithmStruct, part: Within) -> Algorithm:
-    return Algorithm(ObjectIdentifier.from_content(part(found.identifier)), part(found.parameters) or None)
+    identifier, size, parameters, length = found
+    return Algorithm(ObjectIdentifier.from_content(part((identifier, size))), part((parameters, length)) or None)
 
 
 def bits(found: BitsStruct, part: Within) -> BitString:
