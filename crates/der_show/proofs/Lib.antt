@@ -1,6 +1,7 @@
 pub mod Found
+pub mod KnownLaws
+pub mod LeafLaws
 pub mod PlaceLaws
 pub mod RuleLaws
-pub mod SecretLaws
 pub mod UnreadLaws
 pub mod WhyLaws

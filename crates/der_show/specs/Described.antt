@@ -5,24 +5,24 @@ use Rattle.der_show.specs.declared.known.Known.{Known}
 use Rattle.der_show.specs.declared.words.Words.{Words}
 use Rattle.der_show.specs.Fields.{AreKnown, IsByFields}
 use Rattle.der_show.specs.Known.{IsKnown, KeepsRules}
-use Rattle.der_show.specs.Messages.{IsMessage, ◌⊳◌}
+use Rattle.der_show.specs.Messages.{IsMessage}
 use Rattle.der_show.specs.Shown.{IsShown}
 
 -- there are words, those of what was read from i
 abbrev pub AreWordsOf : Option ℕ → List ℕ → Known → Option Words → Type 0
-AreWordsOf now i known (Some w) = IsShown now i known w.text.items × (IsTrue w.keeps_rules ↔ KeepsRules known)
+AreWordsOf now i known (Some w) = IsShown now i known w.text.items × (w.words_at ≡ 0)
+    × (IsTrue w.keeps_rules ↔ KeepsRules known)
 AreWordsOf now i known None = ⊥
 
--- the text of the key or the message that octets are, or else by the fields of the first type that they are of
-abbrev pub IsOther : KnownTypes → List ℕ → Option (List ℕ) → Type 0
-IsOther types = IsMessage ⊳ IsByFields types
-
--- the words with that text, if there is one; these have no rules beyond their ASN.1
-abbrev pub AreOtherWords : KnownTypes → List ℕ → Option Words → Type 0
-AreOtherWords types i (Some w) = IsOther types i (Some w.text.items) × (w.keeps_rules ≡ true)
-AreOtherWords types i None = IsOther types i None
+-- the words of the key or the message that octets are, which have no rules beyond their ASN.1, or else by the fields of
+-- the first type that they are of
+abbrev pub AreOtherWords : Option ℕ → KnownTypes → List ℕ → Option Words → Type 0
+AreOtherWords now types i (Some w) =
+    (IsMessage i (Some w.text.items) × (w.words_at ≡ 0) × (w.keeps_rules ≡ true))
+    ⊎ (IsMessage i None × IsByFields now types i (Some w))
+AreOtherWords now types i None = IsMessage i None × IsByFields now types i None
 
 -- the words of the certificate, the list or the request that i is, or else of the key, the message or the known type
 abbrev pub IsDescribed : Option ℕ → List ℕ → Option Words → Type 0
 IsDescribed now i words = ((known : Known) × IsKnown i (Some known) × AreWordsOf now i known words)
-    ⊎ (IsKnown i None × (types : KnownTypes) × AreKnown types × AreOtherWords types i words)
+    ⊎ (IsKnown i None × (types : KnownTypes) × AreKnown types × AreOtherWords now types i words)

@@ -1,40 +1,82 @@
 -- What the private functions that write the lines of a type find.
-use Rattle.std.specs.Prelude.{◌≡◌, ℕ, Bool, false, if◌then◌else◌, nat_lt, Option, Some, None, List, ◌++◌}
+use Rattle.std.specs.Prelude.{◌≡◌, ◌↔◌, ℕ, Bool, true, false, IsTrue, ◌&&◌, nat_lt, Option, Some, None, List, ◌++◌, length}
 use Rattle.der_print.specs.Lines.{IsFieldLine}
 use Rattle.der_print.specs.Texts.{content_of}
 use Rattle.der_schema.specs.declared.schema.Schema.{Schema}
 use Rattle.der_walk.specs.declared.element.Element.{Element}
 use Rattle.der_walk.specs.Visits.{Visited}
 use Rattle.der_walk.specs.Walked.{visited_of}
-use Rattle.der_show.specs.declared.secret.Secrecy.{Secrecy}
-use Rattle.der_show.specs.declared.secret.Secrecy.TheVariants.{InSecret, Secret, Open}
-use Rattle.der_show.specs.Fields.{AreShownLines, fields_style}
-use Rattle.der_show.specs.Secrets.{secret_line}
+use Rattle.der_show.specs.declared.field_lines.Written.{Written}
+use Rattle.der_show.specs.declared.known.Known.{Known}
+use Rattle.der_show.specs.declared.manner.Manner.{Manner}
+use Rattle.der_show.specs.declared.manner.Manner.TheVariants.{InLeaf, InWords, Plain, Secret}
+use Rattle.der_show.specs.declared.words.Words.{Words}
+use Rattle.der_show.specs.Fields.{AreShown, Said, fields_style}
+use Rattle.der_show.specs.InWords.{octets_in}
+use Rattle.der_show.specs.Known.{IsKnown, KeepsRules}
+use Rattle.der_show.specs.Leaves.{leaf_line, secret_end, words_end}
+use Rattle.der_show.specs.Shown.{IsShown}
 
--- an element with so many around it is in the one that goes on, if there is one
+-- an element with so many around it is in the leaf that goes on, if there is one
 abbrev pub is_inside : Option ℕ → ℕ → Bool
 is_inside None depth = false
 is_inside (Some d) depth = nat_lt d depth
 
--- how an element is shown, where this secret one goes on
-abbrev pub secrecy_of : Option ℕ → ℕ → Bool → Secrecy
-secrecy_of outer depth secret = if is_inside outer depth then InSecret else (if secret then Secret else Open)
+-- how an element of an input is shown that is secret or not, where this leaf goes on
+abbrev pub IsManner : Option ℕ → List ℕ → Element → Bool → Manner → Type 0
+IsManner leaf i e secret InLeaf = is_inside leaf e.depth ≡ true
+IsManner leaf i e secret Secret = (is_inside leaf e.depth ≡ false) × (secret ≡ true)
+IsManner leaf i e secret (InWords w known) = (is_inside leaf e.depth ≡ false) × (secret ≡ false)
+    × (w.now ≡ octets_in i (visited_of e)) × IsKnown (octets_in i (visited_of e)) (Some known)
+IsManner leaf i e secret Plain = (is_inside leaf e.depth ≡ false) × (secret ≡ false)
+    × IsKnown (octets_in i (visited_of e)) None
 
--- which secret one goes on after it
-abbrev pub open_past : Secrecy → Option ℕ → ℕ → Option ℕ
-open_past InSecret outer depth = outer
-open_past Secret outer depth = Some depth
-open_past Open outer depth = None
+-- which leaf goes on after it
+abbrev pub leaf_past : Manner → Option ℕ → ℕ → Option ℕ
+leaf_past InLeaf leaf depth = leaf
+leaf_past Secret leaf depth = Some depth
+leaf_past (InWords w known) leaf depth = Some depth
+leaf_past Plain leaf depth = None
 
--- a text grew by what is written of an element that is shown so
-abbrev pub AddsShown : Secrecy → List ℕ → Element → List ℕ → List ℕ → Type 0
-AddsShown InSecret field e old new = new ≡ old
-AddsShown Secret field e old new = new ≡ old ++ secret_line field (visited_of e)
-AddsShown Open field e old new =
-    (line : List ℕ) × IsFieldLine field fields_style (visited_of e) (content_of e) line × (new ≡ old ++ line)
+-- what is written grew by a line
+pub record AddsLine (line : List ℕ) (old new : Written) : Type 0 where
+  pub lines : new.lines.items ≡ old.lines.items ++ line
+  pub words : new.words.items ≡ old.words.items
+  pub keeps : new.keeps_rules ≡ old.keeps_rules
 
--- a text grew by the lines of all elements of an input
-pub record AddsLines (sc : Schema) (i : List ℕ) (elements : List Visited) (old new : List ℕ) : Type 0 where
-  pub lines : List ℕ
-  pub are_lines : AreShownLines sc i elements lines
-  pub adds : new ≡ old ++ lines
+-- by the words of what the octets w are
+pub record AddsWords (now : Option ℕ) (w : List ℕ) (known : Known) (old new : Written) : Type 0 where
+  pub text : List ℕ
+  pub is_shown : IsShown now w known text
+  pub words : new.words.items ≡ old.words.items ++ text
+  pub keeps_rules : Bool
+  pub rules : IsTrue keeps_rules ↔ KeepsRules known
+  pub keeps : new.keeps_rules ≡ old.keeps_rules && keeps_rules
+  pub lines : new.lines.items ≡ old.lines.items
+
+-- by what is written of an element that is shown so
+abbrev pub AddsShown : Option ℕ → Manner → List ℕ → Element → Written → Written → Type 0
+AddsShown now InLeaf field e old new = new ≡ old
+AddsShown now Secret field e old new = AddsLine (leaf_line secret_end field (visited_of e)) old new
+AddsShown now (InWords w known) field e old new = (mid : Written)
+    × AddsLine (leaf_line words_end field (visited_of e)) old mid × AddsWords now w.now known mid new
+AddsShown now Plain field e old new = (line : List ℕ)
+    × IsFieldLine field fields_style (visited_of e) (content_of e) line × AddsLine line old new
+
+-- by what is said
+pub record Adds (s : Said) (old new : Written) : Type 0 where
+  pub lines : new.lines.items ≡ old.lines.items ++ s.lines
+  pub words : new.words.items ≡ old.words.items ++ s.words
+  pub keeps : new.keeps_rules ≡ old.keeps_rules && s.keeps_rules
+
+-- by what is said of all elements of an input
+pub record AddsAll (now : Option ℕ) (sc : Schema) (i : List ℕ) (elements : List Visited) (old new : Written) : Type 0 where
+  pub said : Said
+  pub are_shown : AreShown now sc i elements said
+  pub adds : Adds said old new
+
+-- the words that are written after the lines
+pub record AreWordsFrom (written : Written) (w : Words) : Type 0 where
+  pub text : w.text.items ≡ written.lines.items ++ written.words.items
+  pub start : w.words_at ≡ length written.lines.items
+  pub keeps : w.keeps_rules ≡ written.keeps_rules

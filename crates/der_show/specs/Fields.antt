@@ -1,5 +1,6 @@
 -- Octets that are of a known type, by the names of their fields.
-use Rattle.std.specs.Prelude.{◌≡◌, ◌⊎◌, ℕ, false, Option, Some, None, List, [], ◌∷◌, ◌++◌, codes, map}
+use Rattle.std.specs.Prelude.{◌≡◌, ◌⊎◌, ◌↔◌, ℕ, Bool, true, false, IsTrue, ◌&&◌, Option, Some, None}
+use Rattle.std.specs.Prelude.{List, [], ◌∷◌, ◌++◌, codes, length, map}
 use Rattle.der_base.specs.declared.rules.Rules.TheVariants.{Ber}
 use Rattle.der_known.specs.declared.known.KnownTypes.{KnownTypes}
 use Rattle.der_known.specs.Names.{known_names}
@@ -10,35 +11,68 @@ use Rattle.der_schema.specs.declared.schema.Schema.{Schema}
 use Rattle.der_schema.specs.Known.{IsFirstSchema, IsOfType, all_extras, root_at}
 use Rattle.der_schema.specs.Meaning.{all_types}
 use Rattle.der_walk.specs.Visits.{Visited, Visits}
-use Rattle.der_show.specs.Secrets.{IsInSecret, IsSecret, field_of, secret_line}
+use Rattle.der_show.specs.declared.known.Known.{Known}
+use Rattle.der_show.specs.declared.words.Words.{Words}
+use Rattle.der_show.specs.InWords.{octets_in}
+use Rattle.der_show.specs.Known.{IsKnown, KeepsRules}
+use Rattle.der_show.specs.Leaves.{IsInLeaf, leaf_line, secret_end, words_end}
+use Rattle.der_show.specs.Secrets.{IsSecret, field_of}
+use Rattle.der_show.specs.Shown.{IsShown}
 
 -- of a long value its first octets or characters are written, without colours
 abbrev pub fields_style : Style
 fields_style = record { limit = Front; colours = false }
 
--- what is written of an element after others of an input: nothing in a secret one, no value of a secret one, or its
--- line, with the name of its field
-pub data IsShownLine (sc : Schema) (i : List ℕ) (before : List Visited) (v : Visited) : List ℕ → Type 0 where
-  in_secret : {line : List ℕ} → IsInSecret sc i before v → line ≡ [] → IsShownLine sc i before v line
-  secret : {line : List ℕ} → ¬ IsInSecret sc i before v → IsSecret sc i before v
-      → line ≡ secret_line (field_of sc i before v) v → IsShownLine sc i before v line
-  plain : {line : List ℕ} → ¬ IsInSecret sc i before v → ¬ IsSecret sc i before v
-      → IsFieldLine (field_of sc i before v) fields_style v (content_in i v) line → IsShownLine sc i before v line
+-- what is said of elements: their lines, the words of those that are certificates, lists or requests, and that these
+-- break no rule
+pub record Said : Type 0 where
+  pub lines : List ℕ
+  pub words : List ℕ
+  pub keeps_rules : Bool
 
--- what is written of the first elements of an input, in their order
-pub data AreShownLines (sc : Schema) (i : List ℕ) : List Visited → List ℕ → Type 0 where
-  no_lines : {vs : List Visited} {text : List ℕ} → vs ≡ [] → text ≡ [] → AreShownLines sc i vs text
-  one_more : {vs : List Visited} {text : List ℕ} (before : List Visited) (v : Visited) (lines line : List ℕ)
-      → vs ≡ before ++ v ∷ [] → AreShownLines sc i before lines → IsShownLine sc i before v line
-      → text ≡ lines ++ line → AreShownLines sc i vs text
+-- lines alone
+abbrev pub lines_alone : List ℕ → Said
+lines_alone text = record { lines = text; words = []; keeps_rules = true }
 
--- the text of octets that are of a type, by BER: its name, and the lines of their elements
-pub record IsTextByFields (sc : Schema) (i text : List ℕ) : Type 0 where
+-- what is said first, and after it
+abbrev pub joined : Said → Said → Said
+joined a b = record {
+  lines = a.lines ++ b.lines;
+  words = a.words ++ b.words;
+  keeps_rules = a.keeps_rules && b.keeps_rules;
+}
+
+-- what is said of an element after others of an input: nothing in a leaf, no value of a secret one, the words of what it
+-- is, or its line, with the name of its field
+pub data IsSaid (now : Option ℕ) (sc : Schema) (i : List ℕ) (before : List Visited) (v : Visited) : Said → Type 0 where
+  in_leaf : {s : Said} → IsInLeaf sc i before v → s ≡ lines_alone [] → IsSaid now sc i before v s
+  secret : {s : Said} → ¬ IsInLeaf sc i before v → IsSecret sc i before v
+      → s ≡ lines_alone (leaf_line secret_end (field_of sc i before v) v) → IsSaid now sc i before v s
+  in_words : {s : Said} (known : Known) → ¬ IsInLeaf sc i before v → ¬ IsSecret sc i before v
+      → IsKnown (octets_in i v) (Some known) → s.lines ≡ leaf_line words_end (field_of sc i before v) v
+      → IsShown now (octets_in i v) known s.words → IsTrue s.keeps_rules ↔ KeepsRules known
+      → IsSaid now sc i before v s
+  plain : {s : Said} (line : List ℕ) → ¬ IsInLeaf sc i before v → ¬ IsSecret sc i before v
+      → IsKnown (octets_in i v) None → IsFieldLine (field_of sc i before v) fields_style v (content_in i v) line
+      → s ≡ lines_alone line → IsSaid now sc i before v s
+
+-- what is said of the first elements of an input, in their order
+pub data AreShown (now : Option ℕ) (sc : Schema) (i : List ℕ) : List Visited → Said → Type 0 where
+  none_said : {vs : List Visited} {s : Said} → vs ≡ [] → s ≡ lines_alone [] → AreShown now sc i vs s
+  one_more : {vs : List Visited} {s : Said} (before : List Visited) (v : Visited) (first last : Said)
+      → vs ≡ before ++ v ∷ [] → AreShown now sc i before first → IsSaid now sc i before v last
+      → s ≡ joined first last → AreShown now sc i vs s
+
+-- The words of octets that are of a type, by BER: its name, the lines of their elements, and then the words of those
+-- that are certificates, lists or requests. The rules are those that these break.
+pub record AreWordsByFields (now : Option ℕ) (sc : Schema) (i : List ℕ) (w : Words) : Type 0 where
   pub elements : List Visited
   pub visits : Visits all_extras Ber 101 0 0 i elements
-  pub lines : List ℕ
-  pub are_lines : AreShownLines sc i elements lines
-  pub whole : text ≡ sc.name.now ++ codes "\n" ++ lines
+  pub said : Said
+  pub are_shown : AreShown now sc i elements said
+  pub whole : w.text.items ≡ (sc.name.now ++ codes "\n" ++ said.lines) ++ said.words
+  pub start : w.words_at ≡ length (sc.name.now ++ codes "\n" ++ said.lines)
+  pub rules : w.keeps_rules ≡ said.keeps_rules
 
 -- the first of some types that octets are of, by BER; there is none if they are of no one
 abbrev pub IsTypeOf : KnownTypes → List ℕ → Option Schema → Type 0
@@ -53,11 +87,11 @@ IsReadAlone name = (name ≡ codes "Certificate") ⊎ (name ≡ codes "Certifica
     ⊎ (name ≡ codes "CertificationRequest") ⊎ (name ≡ codes "PrivateKeyInfo") ⊎ (name ≡ codes "RSAPrivateKey")
     ⊎ (name ≡ codes "ECPrivateKey")
 
--- the text of octets by that type, if there is one that isn't only shown so
-abbrev pub IsByFields : KnownTypes → List ℕ → Option (List ℕ) → Type 0
-IsByFields types i (Some text) = (sc : Schema) × IsTypeOf types i (Some sc) × (¬ IsReadAlone sc.name.now)
-    × IsTextByFields sc i text
-IsByFields types i None = IsTypeOf types i None
+-- the words of octets by that type, if there is one that isn't only shown so
+abbrev pub IsByFields : Option ℕ → KnownTypes → List ℕ → Option Words → Type 0
+IsByFields now types i (Some w) = (sc : Schema) × IsTypeOf types i (Some sc) × (¬ IsReadAlone sc.name.now)
+    × AreWordsByFields now sc i w
+IsByFields now types i None = IsTypeOf types i None
     ⊎ ((sc : Schema) × IsTypeOf types i (Some sc) × IsReadAlone sc.name.now)
 
 -- the types have the names of the documents

@@ -2,7 +2,9 @@ pub mod Around
 pub mod Described
 pub mod FieldLines
 pub mod Fields
+pub mod InWords
 pub mod Known
+pub mod Leaves
 pub mod Messages
 pub mod Places
 pub mod PlaceTexts

@@ -1,7 +1,6 @@
 -- Fields whose values aren't shown.
-use Rattle.std.specs.Prelude.{◌≡◌, ◌⊎◌, ℕ, ◌<◌, Bool, false, is_some, List, ◌∷◌, [], ◌++◌, codes}
+use Rattle.std.specs.Prelude.{◌≡◌, ◌⊎◌, ℕ, Bool, false, is_some, List, codes}
 use Rattle.der_fields.specs.Fields.{label_after, label_text}
-use Rattle.der_print.specs.Lines.{front_text}
 use Rattle.der_schema.specs.declared.schema.Schema.{Schema}
 use Rattle.der_schema.specs.Meaning.{root_of}
 use Rattle.der_walk.specs.Visits.{Visited}
@@ -30,19 +29,3 @@ field_of sc i before v = label_text (label_after (root_of sc) i before v)
 
 abbrev pub IsSecret : Schema → List ℕ → List Visited → Visited → Type 0
 IsSecret sc i before v = IsSecretField sc.name.now (field_of sc i before v) (is_some v.holds)
-
--- after these elements of an input a secret one, with so many elements around it, goes on: it is the last, or it went
--- on before the last, which is in it
-pub data IsOpen (sc : Schema) (i : List ℕ) : List Visited → ℕ → Type 0 where
-  begins : {us : List Visited} {depth : ℕ} (before : List Visited) (v : Visited) → us ≡ before ++ v ∷ []
-      → IsSecret sc i before v → depth ≡ v.depth → IsOpen sc i us depth
-  goes_on : {us : List Visited} {depth : ℕ} (before : List Visited) (v : Visited) → us ≡ before ++ v ∷ []
-      → IsOpen sc i before depth → depth < v.depth → IsOpen sc i us depth
-
--- an element after others is in a secret one
-abbrev pub IsInSecret : Schema → List ℕ → List Visited → Visited → Type 0
-IsInSecret sc i before v = (depth : ℕ) × IsOpen sc i before depth × (depth < v.depth)
-
--- the line of an element that is secret, which has no value
-abbrev pub secret_line : List ℕ → Visited → List ℕ
-secret_line field v = front_text false field v ++ codes " (secret)\n"

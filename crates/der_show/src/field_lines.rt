@@ -1,4 +1,5 @@
-//! The lines of octets that are of a known type. Of what is secret no value is written.
+//! The lines of octets that are of a known type. Of what is secret no value is written, and certificates, lists of revoked
+//! certificates and requests are written in words.
 ghost use Rattle.std.specs.Prelude.{◌≡◌, ◌++◌, IfOk, List, ℕ};
 ghost use Rattle.der_fields.specs.Fields.{label_text};
 ghost use Rattle.der_print.specs.Lines.{IsFieldLine};
@@ -8,11 +9,14 @@ ghost use Rattle.der_schema.specs.Meaning.{root_of};
 ghost use Rattle.der_schema.specs.Steps.{label_of};
 ghost use Rattle.der_walk.specs.Visits.{Visited, Visits};
 ghost use Rattle.der_walk.specs.Walked.{visited_of};
-ghost use Rattle.der_show.specs.FieldLines.{AddsLines, AddsShown};
+ghost use Rattle.der_show.specs.FieldLines.{AddsAll, AddsShown, AddsWords};
 ghost use Rattle.der_show.specs.Fields.{fields_style};
-ghost use Rattle.der_show.specs.Secrets.{secret_line};
+ghost use Rattle.der_show.specs.Leaves.{leaf_line};
 
-use crate::secret::{Secrecy, is_secret};
+use crate::known::{Known, keeps_rules};
+use crate::manner::Manner;
+use crate::secret::is_secret;
+use crate::text::text_of_known;
 use der_base::rules::Rules;
 use der_print::{Limit, Room, Style, write_field_line};
 use der_schema::{Name, Namer, Schema};
@@ -28,34 +32,49 @@ const STYLE: Style = Style {
 /// What ends the line of a secret element.
 const SECRET: &[u8] = b" (secret)\n";
 
-/// A text, and after it the lines of the elements of octets that are of a type, by BER.
+/// What ends the line of an element that is written in words.
+const IN_WORDS: &[u8] = b" (in words below)\n";
+
+/// What is written of octets that are of a type.
+#[derive(Drop)]
+pub(crate) struct Written {
+    /// The lines of the elements.
+    pub(crate) lines: Vec<u8>,
+    /// The words of those that are certificates, lists of revoked certificates and requests.
+    pub(crate) words: Vec<u8>,
+    /// Whether these break no rule of RFC 5280 beyond its ASN.1.
+    pub(crate) keeps_rules: bool,
+}
+
+/// Adds what is written of the elements of octets that are of a type, by BER.
 pub(crate) fn with_lines(
     alloc: Global,
-    front: Vec<u8>,
+    front: Written,
     octets: &[u8],
     schema: Schema<'_>,
-) -> Result<Vec<u8>, AllocError>
-    ensures { IsOfType (root_of schema.entry) Rules.Ber octets.now → IfOk result (λ text.
+    now: Option<u64>,
+) -> Result<Written, AllocError>
+    ensures { IsOfType (root_of schema.entry) Rules.Ber octets.now → IfOk result (λ written.
         (vs : List Visited) × Visits all_extras Rules.Ber 101 0 0 octets.now vs
-        × AddsLines schema.entry octets.now vs front.items text.items) }
+        × AddsAll now schema.entry octets.now vs front written) }
 {
-    let mut text = front;
+    let mut written = front;
     let mut walk = Walk::new(octets, Rules::Ber, true).keeping_values();
     let mut namer = Namer::new(octets, schema);
     let mut room = Room::new(alloc);
-    let mut secret = None;
+    let mut leaf = None;
     'elements: loop {
         match walk.next_element() {
             Ok(Some(element)) => {
                 let field = text_of(namer.name_of(&element));
                 let is_secret = is_secret(schema.name, field, element.holds.is_some());
-                let secrecy = Secrecy::of(secret, element.depth, is_secret);
-                room = add_line(&mut text, room, &element, field, secrecy)?;
-                secret = secrecy.open_past(secret, element.depth);
+                let manner = Manner::of(leaf, octets, &element, is_secret);
+                leaf = manner.leaf_past(leaf, element.depth);
+                room = add_element(&mut written, alloc, room, &element, field, &manner, now)?;
             }
-            Ok(None) => return Ok(text),
+            Ok(None) => return Ok(written),
             // Octets that are of a type are elements.
-            Err(_) => return Ok(text),
+            Err(_) => return Ok(written),
         }
     }
 }
@@ -70,25 +89,35 @@ fn text_of(name: Option<Name>) -> &'static str
     }
 }
 
-/// Adds what is shown of an element.
-fn add_line(
-    text: &mut Vec<u8>,
+/// Adds what is written of an element that is shown so.
+fn add_element(
+    written: &mut Written,
+    alloc: Global,
     room: Room,
     element: &Element<'_>,
     field: &str,
-    secrecy: Secrecy,
+    manner: &Manner<'_>,
+    now: Option<u64>,
 ) -> Result<Room, AllocError>
-    ensures { IfOk result (λ r. AddsShown secrecy field.now element.now text.old.items text.new.items) }
+    ensures { IfOk result (λ r. AddsShown now manner.now field.now element.now written.old written.new) }
 {
-    match secrecy {
-        Secrecy::InSecret => Ok(room),
-        Secrecy::Secret => add_secret_line(text, room, element, field),
-        Secrecy::Open => add_open_line(text, room, element, field),
+    match manner {
+        Manner::InLeaf => Ok(room),
+        Manner::Secret => {
+            let room = add_leaf_line(&mut written.lines, room, element, field, SECRET)?;
+            Ok(room)
+        }
+        Manner::InWords(octets, known) => {
+            let room = add_leaf_line(&mut written.lines, room, element, field, IN_WORDS)?;
+            add_words(written, alloc, octets, known, now)?;
+            Ok(room)
+        }
+        Manner::Plain => add_plain_line(&mut written.lines, room, element, field),
     }
 }
 
 /// Adds the line of an element.
-fn add_open_line(
+fn add_plain_line(
     text: &mut Vec<u8>,
     room: Room,
     element: &Element<'_>,
@@ -104,22 +133,41 @@ fn add_open_line(
     }
 }
 
-/// Adds the line of an element without its value: as that of a constructed one, which has none.
-fn add_secret_line(
+/// Adds the line of an element without its value, as that of a constructed one, which has none, with this end.
+fn add_leaf_line(
     text: &mut Vec<u8>,
     room: Room,
     element: &Element<'_>,
     field: &str,
+    end: &[u8],
 ) -> Result<Room, AllocError>
-    ensures { IfOk result (λ r. text.new.items ≡ text.old.items ++ secret_line field.now (visited_of element.now)) }
+    ensures { IfOk result (λ r.
+        text.new.items ≡ text.old.items ++ leaf_line end.now field.now (visited_of element.now)) }
 {
     let without_value = Element {
         constructed: true,
         holds: None,
         ..*element
     };
-    let room = add_open_line(text, room, &without_value, field)?;
+    let room = add_plain_line(text, room, &without_value, field)?;
     text.pop();
-    text.extend_from_slice(SECRET)?;
+    text.extend_from_slice(end)?;
     Ok(room)
+}
+
+/// Adds the words of what octets are.
+fn add_words(
+    written: &mut Written,
+    alloc: Global,
+    octets: &[u8],
+    known: &Known<'_>,
+    now: Option<u64>,
+) -> Result<(), AllocError>
+    ensures { IfOk result (λ r. AddsWords now octets.now known.now written.old written.new) }
+{
+    let text = text_of_known(alloc, octets, known, now)?;
+    written.words.extend_from_slice(&text)?;
+    let keeps_rules = keeps_rules(known);
+    written.keeps_rules = written.keeps_rules && keeps_rules;
+    Ok(())
 }

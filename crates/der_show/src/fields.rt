@@ -2,33 +2,36 @@
 ghost use Rattle.std.specs.Prelude.{◌↔◌, IfOk, IsTrue};
 ghost use Rattle.der_schema.specs.Known.{IsOfType};
 ghost use Rattle.der_schema.specs.Meaning.{root_of};
-ghost use Rattle.der_show.specs.Fields.{IsByFields, IsReadAlone, IsTextByFields};
-ghost use Rattle.der_show.specs.Messages.{text_in};
+ghost use Rattle.der_show.specs.FieldLines.{AreWordsFrom};
+ghost use Rattle.der_show.specs.Fields.{AreWordsByFields, IsByFields, IsReadAlone};
 
-use crate::field_lines::with_lines;
+use crate::field_lines::{Written, with_lines};
+use crate::words::Words;
 use der_base::rules::Rules;
 use der_known::KnownTypes;
 use der_schema::Schema;
 use std::alloc::{AllocError, Global};
 
-/// The text of octets by the first of these types that they are of, by BER: the name of the type, and then a line for
-/// each element, with the name of its field. Of a field that is secret no value is written. None if they are of none of
-/// these types, and an error if there is no memory. None too if it is a certificate, a list of revoked certificates or
-/// a request, since those that aren't DER break a rule, which `why_unread` says, or a private key, since that is a
-/// secret.
-pub fn text_by_fields(
+/// The words of octets by the first of these types that they are of, by BER: the name of the type, then a line for each
+/// element, with the name of its field, and then the words of each element that is a certificate, a list of revoked
+/// certificates or a request: what is in it has no lines. Of a field that is secret no value is written. None if they are
+/// of none of these types, and an error if there is no memory. None too if it is a certificate, a list of revoked
+/// certificates or a request, since those that aren't DER break a rule, which `why_unread` says, or a private key, since
+/// that is a secret. `now` is the present, as in `words_of`.
+pub fn words_by_fields(
     alloc: Global,
     octets: &[u8],
     types: &KnownTypes,
-) -> Result<Option<Vec<u8>>, AllocError>
-    ensures { IfOk result (λ found. IsByFields types.now octets.now (text_in found)) }
+    now: Option<u64>,
+) -> Result<Option<Words>, AllocError>
+    ensures { IfOk result (λ words. IsByFields now types.now octets.now words) }
 {
     match types.type_of(octets, Rules::Ber) {
         Some(schema) => {
             if is_read_alone(schema.name) {
                 Ok(None)
             } else {
-                Ok(Some(fields_text(alloc, octets, schema)?))
+                Ok(Some(words_of_type(alloc, octets, schema, now)?))
             }
         }
         None => Ok(None),
@@ -50,13 +53,38 @@ fn is_read_alone(name: &str) -> bool
     }
 }
 
-/// The text of octets that are of a type.
-fn fields_text(alloc: Global, octets: &[u8], schema: Schema<'_>) -> Result<Vec<u8>, AllocError>
+/// The words of octets that are of a type.
+fn words_of_type(
+    alloc: Global,
+    octets: &[u8],
+    schema: Schema<'_>,
+    now: Option<u64>,
+) -> Result<Words, AllocError>
     ensures { IsOfType (root_of schema.entry) Rules.Ber octets.now
-        → IfOk result (λ text. IsTextByFields schema.entry octets.now text.items) }
+        → IfOk result (AreWordsByFields now schema.entry octets.now) }
 {
-    let mut text = Vec::new(alloc);
-    text.extend_from_slice(schema.name.as_bytes())?;
-    text.push(b'\n')?;
-    with_lines(alloc, text, octets, schema)
+    let mut lines = Vec::new(alloc);
+    lines.extend_from_slice(schema.name.as_bytes())?;
+    lines.push(b'\n')?;
+    let front = Written {
+        lines,
+        words: Vec::new(alloc),
+        keeps_rules: true,
+    };
+    let written = with_lines(alloc, front, octets, schema, now)?;
+    words_from(written)
+}
+
+/// The words after the lines.
+fn words_from(written: Written) -> Result<Words, AllocError>
+    ensures { IfOk result (AreWordsFrom written) }
+{
+    let mut text = written.lines;
+    let words_at = text.len();
+    text.extend_from_slice(&written.words)?;
+    Ok(Words {
+        text,
+        words_at,
+        keeps_rules: written.keeps_rules,
+    })
 }

@@ -1,6 +1,7 @@
 //! What octets are, in words: a certificate, a list of revoked certificates, a certification request, a key, or a
 //! message of Kerberos, SNMP or LDAP. The first of these that all the octets are is written, a line for each field.
-//! What is of another known type is written by its elements, each with the name of its field.
+//! What is of another known type is written by its elements, each with the name of its field, and the certificates, lists
+//! and requests among them in words.
 //!
 //! ```
 //! match words_of(alloc, octets, Some(now))? {
@@ -20,7 +21,9 @@ mod kerberos;
 mod key;
 mod known;
 mod ldap;
+mod manner;
 mod message;
+mod part;
 mod place;
 mod place_text;
 mod refused;
@@ -32,7 +35,7 @@ mod unread;
 mod why;
 mod words;
 
-pub use fields::text_by_fields;
+pub use fields::words_by_fields;
 pub use known::{Known, keeps_rules, what_is};
 pub use message::text_of_message;
 pub use place::Place;

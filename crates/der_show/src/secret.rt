@@ -1,55 +1,6 @@
 //! Fields whose values aren't shown.
-ghost use Rattle.std.specs.Prelude.{◌≡◌, ◌↔◌, IsTrue};
-ghost use Rattle.der_show.specs.FieldLines.{is_inside, open_past, secrecy_of};
+ghost use Rattle.std.specs.Prelude.{◌↔◌, IsTrue};
 ghost use Rattle.der_show.specs.Secrets.{IsSecretField, IsSecretName};
-
-/// How an element is shown.
-#[derive(Clone, Copy)]
-pub(crate) enum Secrecy {
-    /// Not at all, since it is in a secret one.
-    InSecret,
-    /// Without its value, and nothing in it.
-    Secret,
-    /// With its value.
-    Open,
-}
-
-impl Secrecy {
-    /// How an element is shown that has so many around it, and is secret or not, where a secret one with so many around
-    /// it goes on, or none does.
-    pub(crate) fn of(outer: Option<usize>, depth: usize, is_secret: bool) -> Secrecy
-        ensures { result ≡ secrecy_of outer depth is_secret }
-    {
-        if is_inside(outer, depth) {
-            Secrecy::InSecret
-        } else if is_secret {
-            Secrecy::Secret
-        } else {
-            Secrecy::Open
-        }
-    }
-
-    /// Which secret element goes on after one with so many around it that is shown so.
-    pub(crate) fn open_past(self, outer: Option<usize>, depth: usize) -> Option<usize>
-        ensures { result ≡ open_past self outer depth }
-    {
-        match self {
-            Secrecy::InSecret => outer,
-            Secrecy::Secret => Some(depth),
-            Secrecy::Open => None,
-        }
-    }
-}
-
-/// Whether an element with so many around it is in the secret one that goes on.
-fn is_inside(outer: Option<usize>, depth: usize) -> bool
-    ensures { result ≡ is_inside outer depth }
-{
-    match outer {
-        Some(outer) => outer < depth,
-        None => false,
-    }
-}
 
 /// Whether an element of a type is secret: it is a field that holds a secret, or in a store of keys (RFC 7292) content
 /// whose elements aren't visited, as that in pieces, since there may be a private key in it.

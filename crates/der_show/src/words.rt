@@ -1,11 +1,10 @@
 //! What octets are, in words.
-ghost use Rattle.std.specs.Prelude.{IfOk};
-ghost use Rattle.der_show.specs.Described.{AreOtherWords, AreWordsOf, IsDescribed, IsOther};
-ghost use Rattle.der_show.specs.Messages.{text_in};
+ghost use Rattle.std.specs.Prelude.{◌≡◌, IfOk};
+ghost use Rattle.der_show.specs.Described.{AreOtherWords, AreWordsOf, IsDescribed};
 
-use crate::fields::text_by_fields;
+use crate::fields::words_by_fields;
 use crate::known::{Known, keeps_rules, what_is};
-use crate::message::{Found, text_of_message};
+use crate::message::text_of_message;
 use crate::text::text_of_known;
 use der_known::KnownTypes;
 use std::alloc::{AllocError, Global};
@@ -15,13 +14,16 @@ use std::alloc::{AllocError, Global};
 pub struct Words {
     /// A line for each field, with its name and its value.
     pub text: Vec<u8>,
-    /// False for a certificate or a list of revoked certificates that breaks a rule of RFC 5280 beyond its ASN.1, and
-    /// true for anything else.
+    /// How many octets of the text are before its words: the name of a type, and lines of elements. They are words from
+    /// the start unless they are by the fields of a type (`words_by_fields`).
+    pub words_at: usize,
+    /// False for a certificate or a list of revoked certificates that breaks a rule of RFC 5280 beyond its ASN.1, and for
+    /// a message with such a one among its words. True for anything else.
     pub keeps_rules: bool,
 }
 
 /// The words of the first of these that all the octets are: a certificate, a list of revoked certificates, a
-/// certification request, what `text_of_message` knows, or of a type that der_known knows (`text_by_fields`). None if
+/// certification request, what `text_of_message` knows, or of a type that der_known knows (`words_by_fields`). None if
 /// they are none of these, and an error if there is no memory. `now` is the present, in seconds since 1970-01-01
 /// 00:00:00 UTC: with none, nothing is said of how long a certificate is valid.
 pub fn words_of(alloc: Global, octets: &[u8], now: Option<u64>) -> Result<Option<Words>, AllocError>
@@ -31,7 +33,7 @@ pub fn words_of(alloc: Global, octets: &[u8], now: Option<u64>) -> Result<Option
         Some(known) => words_of_known(alloc, octets, &known, now),
         None => {
             let types = KnownTypes::new();
-            other_words(alloc, octets, &types)
+            other_words(alloc, octets, &types, now)
         }
     }
 }
@@ -47,7 +49,7 @@ fn words_of_known(
 {
     let text = text_of_known(alloc, octets, known, now)?;
     let keeps_rules = keeps_rules(known);
-    Ok(Some(Words { text, keeps_rules }))
+    Ok(Some(words_alone(text, keeps_rules)))
 }
 
 /// The words of a key, a message, or octets of a known type.
@@ -55,26 +57,26 @@ fn other_words(
     alloc: Global,
     octets: &[u8],
     types: &KnownTypes,
+    now: Option<u64>,
 ) -> Result<Option<Words>, AllocError>
-    ensures { IfOk result (λ words. AreOtherWords types.now octets.now words) }
+    ensures { IfOk result (λ words. AreOtherWords now types.now octets.now words) }
 {
-    match other_text(alloc, octets, types) {
-        Ok(Some(text)) => Ok(Some(Words {
-            text,
-            keeps_rules: true,
-        })),
-        Ok(None) => Ok(None),
+    match text_of_message(alloc, octets) {
+        Ok(Some(text)) => Ok(Some(words_alone(text, true))),
+        Ok(None) => words_by_fields(alloc, octets, types, now),
         Err(e) => Err(e),
     }
 }
 
-/// The text of a key, a message, or octets of a known type.
-fn other_text(alloc: Global, octets: &[u8], types: &KnownTypes) -> Found
-    ensures { IfOk result (λ found. IsOther types.now octets.now (text_in found)) }
+/// Words with no lines of elements before them.
+fn words_alone(text: Vec<u8>, keeps_rules: bool) -> Words
+    ensures text { result.text.items ≡ text.items }
+    ensures start { result.words_at ≡ 0 }
+    ensures rules { result.keeps_rules ≡ keeps_rules }
 {
-    match text_of_message(alloc, octets) {
-        Ok(Some(text)) => Ok(Some(text)),
-        Ok(None) => text_by_fields(alloc, octets, types),
-        Err(e) => Err(e),
+    Words {
+        text,
+        words_at: 0,
+        keeps_rules,
     }
 }

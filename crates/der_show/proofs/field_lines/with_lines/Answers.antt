@@ -4,7 +4,7 @@ use Rattle.der_schema.specs.Known.{all_extras}
 use Rattle.der_schema.specs.Meaning.{root_of}
 use Rattle.der_schema.proofs.OfType.{no_elements}
 use Rattle.der_show.specs.Secrets.{IsSecretField}
-use Rattle.der_show.proofs.SecretLaws.{shown_more, shown_none}
+use Rattle.der_show.proofs.LeafLaws.{shown_more, shown_none}
 use Rattle.der_show.proofs.field_lines.with_lines.Goals as goal
 
 pub elements-init : goal.elements-init
@@ -25,8 +25,8 @@ elements-preserved c =
     ↔ IsSecretField c.args.schema.name.now c.text_of-field.result.now z) c.is_some.ensures c.is_secret-is_secret.ensures in
     record {
       so = shown_more c.in-Ok-Some.element c.name_of.result c.text_of-field.result.now c.is_secret-is_secret.result
-          c.of-secrecy.result p next.0 next.1 named c.text_of-field.ensures is_secret
-          c.of-secrecy.ensures c.in_ok-room-in-Ok-Some.ensures c.open_past-secret.ensures;
+          c.of-manner.result p next.0 next.1 named c.text_of-field.ensures is_secret c.of-manner.ensures
+          c.in_ok-room-in-Ok-Some.ensures c.leaf_past-leaf.ensures;
     }
 
 pub returns-in-Ok-None : goal.returns-in-Ok-None
@@ -34,7 +34,7 @@ returns-in-Ok-None c =
     let p = c.elements.invariant.so in
     let all = rw c.in-Ok-None.field-0-is
     at (c.in-Ok-None.ensures.visits all_extras Ber c.args.octets.now p.elements p.visited) in
-    λ t. (p.elements, all, p.lines)
+    λ t. (p.elements, all, p.all)
 
 pub returns-in-Err : goal.returns-in-Err
 returns-in-Err c =
