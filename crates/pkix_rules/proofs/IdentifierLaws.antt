@@ -38,6 +38,7 @@ coded n = if n == 547 then known.AuthorityKeyIdentifier
     else if n == 2053 then known.OcspNoCheck
     else if n == 2307 then known.PrecertificatePoison
     else if n == 2306 then known.SignedCertificateTimestamps
+    else if n == 568 then known.NoRevAvail
     else known.TlsFeature
 
 coded_back : (k : KnownExtension) → coded (code (octets_of k)) ≡ k
@@ -70,6 +71,7 @@ coded_back known.OcspNoCheck = refl
 coded_back known.PrecertificatePoison = refl
 coded_back known.SignedCertificateTimestamps = refl
 coded_back known.TlsFeature = refl
+coded_back known.NoRevAvail = refl
 
 -- two extensions have two identifiers
 pub one_extension : (j k : KnownExtension) → octets_of j ≡ octets_of k → j ≡ k
@@ -103,6 +105,7 @@ numbered n = if n == 0 then known.AuthorityKeyIdentifier
     else if n == 24 then known.OcspNoCheck
     else if n == 25 then known.PrecertificatePoison
     else if n == 26 then known.SignedCertificateTimestamps
+    else if n == 28 then known.NoRevAvail
     else known.TlsFeature
 
 numbered_back : (k : KnownExtension) → numbered (known_number k) ≡ k
@@ -135,12 +138,13 @@ numbered_back known.OcspNoCheck = refl
 numbered_back known.PrecertificatePoison = refl
 numbered_back known.SignedCertificateTimestamps = refl
 numbered_back known.TlsFeature = refl
+numbered_back known.NoRevAvail = refl
 
 -- and two numbers
 pub one_number : (j k : KnownExtension) → known_number j ≡ known_number k → j ≡ k
 one_number j k e = sym (numbered_back j) ∙ ap numbered e ∙ numbered_back k
 
-pub few_extensions : (k : KnownExtension) → known_number k < 28
+pub few_extensions : (k : KnownExtension) → known_number k < 29
 few_extensions known.AuthorityKeyIdentifier = omega arith
 few_extensions known.SubjectKeyIdentifier = omega arith
 few_extensions known.KeyUsage = omega arith
@@ -169,3 +173,4 @@ few_extensions known.OcspNoCheck = omega arith
 few_extensions known.PrecertificatePoison = omega arith
 few_extensions known.SignedCertificateTimestamps = omega arith
 few_extensions known.TlsFeature = omega arith
+few_extensions known.NoRevAvail = omega arith

@@ -1,6 +1,6 @@
 -- Slots of extensions, as a walk fills them.
 use Rattle.std.proofs.Common.{◌≡◌, ◌≢◌, ℕ, ◌⊎◌, Bool, List, length, replicate, sym, ap, subst, ◌∙◌, inl, inr}
-use Rattle.std.specs.Prelude.{◌↔◌, IfSome}
+use Rattle.std.specs.Prelude.{◌↔◌}
 use Rattle.std.proofs.lemmas.Bool.{cases_eq}
 use Rattle.std.proofs.lemmas.List.{get_or-replicate, length-replicate}
 use Rattle.der_x509.specs.Certificates.{ExtensionValue, extension}
@@ -14,8 +14,8 @@ use Rattle.pkix_rules.specs.declared.sorted.Slot.{Slot}
 use Rattle.pkix_rules.specs.declared.sorted.Slot.TheVariants.{Absent, Once, Unsorted}
 use Rattle.pkix_rules.specs.Facts.{Holds, IsShownBy, Shows}
 use Rattle.pkix_rules.specs.Identifiers.{known_count, known_number, octets_of}
+use Rattle.pkix_rules.specs.Readings.{IsReadingOf}
 use Rattle.pkix_rules.specs.Sorted.{AreSlotsOf, IsAfter, IsSlotOf, Puts, slot_of}
-use Rattle.pkix_rules.specs.Sound.{IsSound}
 use Rattle.pkix_rules.proofs.IdentifierLaws.{few_extensions, one_extension, one_number}
 
 -- something is somewhere in what octets begin with, or further on
@@ -39,19 +39,19 @@ nowhere n (later w s p) = n w _ s
 -- what extensions with the octets i show, the slot or those that are left show
 abbrev pub IsSlotSoFar : List ℕ → List ℕ → KnownExtension → Slot → Type 0
 IsSlotSoFar i left k Absent = (f : Fact) → Shows k f i ↔ Shows k f left
-IsSlotSoFar i left k (Once c v s) = ((f : Fact) → Shows k f i ↔ (Holds f c v.now ⊎ Shows k f left)) × IfSome s (λ t. IsSound t v.now)
+IsSlotSoFar i left k (Once c v s) = ((f : Fact) → Shows k f i ↔ (Holds f c v.now ⊎ Shows k f left)) × IsReadingOf s v.now
 IsSlotSoFar i left k Unsorted = Unit {0}
 
 pub record SortedSoFar (i left : List ℕ) (slots : List Slot) : Type 0 where
   pub all : length slots ≡ known_count
   pub each : (k : KnownExtension) → IsSlotSoFar i left k (slot_of slots k)
 
-none_yet : (k : KnownExtension) → slot_of (replicate 28 Absent) k ≡ Absent
-none_yet k = get_or-replicate {A = Slot} 28 (known_number k) Absent Unsorted (few_extensions k)
+none_yet : (k : KnownExtension) → slot_of (replicate 29 Absent) k ≡ Absent
+none_yet k = get_or-replicate {A = Slot} 29 (known_number k) Absent Unsorted (few_extensions k)
 
-pub sorted_none : {i left : List ℕ} → left ≡ i → SortedSoFar i left (replicate 28 Absent)
+pub sorted_none : {i left : List ℕ} → left ≡ i → SortedSoFar i left (replicate 29 Absent)
 sorted_none {i = i} {left = left} e = record {
-  all = length-replicate {A = Slot} 28 Absent;
+  all = length-replicate {A = Slot} 29 Absent;
   each = λ k. subst (IsSlotSoFar i left k) (sym (none_yet k)) (λ f. (λ s. subst (Shows k f) (sym e) s, λ s. subst (Shows k f) e s));
 }
 
@@ -78,7 +78,7 @@ module _ (i left rest : List ℕ) (k : KnownExtension) where
       λ s. subst (λ z. Holds f z v.now ⊎ Shows k f rest) (sym a.0) (subst (λ z. Holds f c z ⊎ Shows k f rest) (sym a.1) ((g f).0 ((h f).0 s))),
       λ s. (h f).1 ((g f).1 (subst (λ z. Holds f c z ⊎ Shows k f rest) a.1 (subst (λ z. Holds f z v.now ⊎ Shows k f rest) a.0 s))),
     ),
-    subst (λ z. IfSome u (λ t. IsSound t z)) (sym a.1) a.2,
+    subst (λ z. IsReadingOf u z) (sym a.1) a.2,
   )
   taken Absent Unsorted a g h = absurd a
   taken (Once _ _ _) t a g h = subst (IsSlotSoFar i rest k) (sym a) tt

@@ -57,7 +57,8 @@ bad_name name.NotBlank n b = inr (inr (inl b))
 bad_name name.Scheme n b = inr (inr (inr (inl b)))
 bad_name name.Mailbox n b = inr (inr (inr (inr (inl b))))
 bad_name name.PreferredName n b = inr (inr (inr (inr (inr (inl b)))))
-bad_name name.InternationalMailbox n b = inr (inr (inr (inr (inr (inr b)))))
+bad_name name.InternationalMailbox n b = inr (inr (inr (inr (inr (inr (inl b))))))
+bad_name name.OrderedAttributes n b = inr (inr (inr (inr (inr (inr (inr b))))))
 
 module _ {T E : Type 0} {view : T → List ℕ} (w : List ℕ) {x : T} (r : ReadsWhole {E = E} (Only (Required GeneralNames) Der w) view Never (Ok x)) (n : ¬ Among GeneralName IsBadName (view x)) where
   pub sound_names : (q : ValueRule) → type_of_rule q ≡ Some kind.Names → BreaksValue q w → ⊥

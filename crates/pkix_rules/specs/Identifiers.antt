@@ -48,6 +48,7 @@ octets_of known.OcspNoCheck = ocsp_nocheck
 octets_of known.PrecertificatePoison = transparency 3
 octets_of known.SignedCertificateTimestamps = transparency 2
 octets_of known.TlsFeature = id_pe 24
+octets_of known.NoRevAvail = id_ce 56
 
 -- their places in that order
 abbrev pub known_number : KnownExtension → ℕ
@@ -79,6 +80,7 @@ known_number known.OcspNoCheck = 24
 known_number known.PrecertificatePoison = 25
 known_number known.SignedCertificateTimestamps = 26
 known_number known.TlsFeature = 27
+known_number known.NoRevAvail = 28
 
 abbrev pub known_count : ℕ
-known_count = 28
+known_count = 29

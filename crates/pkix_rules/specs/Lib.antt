@@ -16,6 +16,7 @@ pub mod Names
 pub mod Notices
 pub mod Points
 pub mod Policies
+pub mod Readings
 pub mod Rules
 pub mod Sorted
 pub mod Sound

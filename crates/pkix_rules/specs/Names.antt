@@ -7,10 +7,11 @@ use Rattle.der_cursor.specs.Elements.{Element}
 use Rattle.der_extensions.specs.GeneralNames.{NameValue, other_name, rfc822_name, dns_name, x400_address}
 use Rattle.der_extensions.specs.GeneralNames.{directory_name, edi_party_name, ip_address, registered_id}
 use Rattle.der_extensions.specs.GeneralNames.{uniform_resource_identifier}
+use Rattle.der_x509.specs.Rules.{HasDescent}
 use Rattle.pkix_rules.specs.declared.names.NameRule.{NameRule}
 use Rattle.pkix_rules.specs.declared.mailbox.LocalCharacters.TheVariants.{Ascii, Utf8}
 use Rattle.pkix_rules.specs.declared.names.NameRule.TheVariants.{NotEmpty, AddressOctets, NotBlank, Scheme, Mailbox}
-use Rattle.pkix_rules.specs.declared.names.NameRule.TheVariants.{InternationalMailbox, PreferredName}
+use Rattle.pkix_rules.specs.declared.names.NameRule.TheVariants.{InternationalMailbox, OrderedAttributes, PreferredName}
 use Rattle.pkix_rules.specs.HostNames.{IsPreferredName}
 use Rattle.pkix_rules.specs.Mailboxes.{IsMailbox}
 
@@ -93,6 +94,11 @@ abbrev pub IsNoInternationalMailbox : NameValue → Type 0
 IsNoInternationalMailbox (other_name n) = (n.0 ≡ smtp_utf8_mailbox) × (¬ IsInternationalMailbox n.1.0)
 IsNoInternationalMailbox _ = ⊥
 
+-- a directoryName of which attributes descend, where by DER they ascend
+abbrev pub IsDisorderedName : NameValue → Type 0
+IsDisorderedName (directory_name w) = HasDescent w
+IsDisorderedName _ = ⊥
+
 -- the name breaks the rule
 abbrev pub BreaksName : NameRule → NameValue → Type 0
 BreaksName NotEmpty n = IsEmptyName n
@@ -102,3 +108,4 @@ BreaksName Scheme n = IsRelativeName n
 BreaksName Mailbox n = IsNoMailbox n
 BreaksName PreferredName n = IsOtherHost n
 BreaksName InternationalMailbox n = IsNoInternationalMailbox n
+BreaksName OrderedAttributes n = IsDisorderedName n

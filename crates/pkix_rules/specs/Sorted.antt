@@ -1,5 +1,5 @@
 -- Extensions, sorted by which they are.
-use Rattle.std.specs.Prelude.{◌≡◌, ◌≢◌, ℕ, ◌↔◌, Bool, List, length, slice_index_or, IfSome}
+use Rattle.std.specs.Prelude.{◌≡◌, ◌≢◌, ℕ, ◌↔◌, Bool, List, length, slice_index_or}
 use Rattle.pkix_rules.specs.declared.facts.Fact.{Fact}
 use Rattle.pkix_rules.specs.declared.known.KnownExtension.{KnownExtension}
 use Rattle.pkix_rules.specs.declared.sorted.Slot.{Slot}
@@ -7,13 +7,13 @@ use Rattle.pkix_rules.specs.declared.sorted.Slot.TheVariants.{Absent, Once, Unso
 use Rattle.pkix_rules.specs.declared.sorted.SortedExtensions.{SortedExtensions}
 use Rattle.pkix_rules.specs.Facts.{Holds, Shows}
 use Rattle.pkix_rules.specs.Identifiers.{known_count, known_number}
-use Rattle.pkix_rules.specs.Sound.{IsSound}
+use Rattle.pkix_rules.specs.Readings.{IsReadingOf}
 
 -- What the slot of an extension says is so, among extensions with these octets: none is this one; or one is, and
 -- nothing else shows what it shows.
 abbrev pub IsSlotOf : List ℕ → KnownExtension → Slot → Type 0
 IsSlotOf i k Absent = (f : Fact) → ¬ Shows k f i
-IsSlotOf i k (Once c v s) = ((f : Fact) → Shows k f i ↔ Holds f c v.now) × IfSome s (λ t. IsSound t v.now)
+IsSlotOf i k (Once c v s) = ((f : Fact) → Shows k f i ↔ Holds f c v.now) × IsReadingOf s v.now
 IsSlotOf i k Unsorted = Unit {0}
 
 abbrev pub slot_of : List Slot → KnownExtension → Slot
@@ -30,7 +30,7 @@ IsSorted s = AreSlotsOf s.extensions.octets.now s.slots
 -- the slot of one extension
 abbrev pub IsOnce : Bool → List ℕ → Slot → Type 0
 IsOnce c w Absent = ⊥
-IsOnce c w (Once d v s) = (d ≡ c) × (v.now ≡ w) × IfSome s (λ t. IsSound t w)
+IsOnce c w (Once d v s) = (d ≡ c) × (v.now ≡ w) × IsReadingOf s w
 IsOnce c w Unsorted = ⊥
 
 -- a slot with one extension more: the first is kept, and of more none

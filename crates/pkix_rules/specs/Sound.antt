@@ -8,8 +8,8 @@ use Rattle.pkix_rules.specs.declared.types.ValueType.TheVariants as kind
 use Rattle.pkix_rules.specs.declared.value_rules.ValueRule.{ValueRule}
 use Rattle.pkix_rules.specs.declared.value_rules.ValueRule.TheVariants as rule
 use Rattle.pkix_rules.specs.Lists.{Among}
-use Rattle.pkix_rules.specs.Names.{IsBlankName, IsEmptyName, IsNoInternationalMailbox, IsNoMailbox, IsOddAddress}
-use Rattle.pkix_rules.specs.Names.{IsOtherHost, IsRelativeName}
+use Rattle.pkix_rules.specs.Names.{IsBlankName, IsDisorderedName, IsEmptyName, IsNoInternationalMailbox}
+use Rattle.pkix_rules.specs.Names.{IsNoMailbox, IsOddAddress, IsOtherHost, IsRelativeName}
 use Rattle.pkix_rules.specs.Notices.{IsPointer}
 use Rattle.pkix_rules.specs.Points.{HasMoreThanName, HasRelativeName, IsUnnamed}
 use Rattle.pkix_rules.specs.Policies.{cps}
@@ -38,7 +38,7 @@ type_of_rule rule.SpecifiedReason = Some kind.Reason
 -- a name that breaks a rule of names
 abbrev pub IsBadName : NameValue → Type 0
 IsBadName n = IsEmptyName n ⊎ IsOddAddress n ⊎ IsBlankName n ⊎ IsRelativeName n ⊎ IsNoMailbox n ⊎ IsOtherHost n
-    ⊎ IsNoInternationalMailbox n
+    ⊎ IsNoInternationalMailbox n ⊎ IsDisorderedName n
 
 -- a point that has anything but a name that isn't relative
 abbrev pub IsBadPoint : PointValue → Type 0

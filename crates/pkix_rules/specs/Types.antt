@@ -40,3 +40,4 @@ IsOfType kind.NoCheck w = IsValueOf Null w
 IsOfType kind.Poison w = IsValueOf Null w
 IsOfType kind.Timestamps w = IsValueOf Timestamps w
 IsOfType kind.Features w = IsValueOf Features w
+IsOfType kind.NoRevAvail w = IsValueOf Null w

@@ -4,13 +4,15 @@ use Rattle.der_base.specs.declared.rules.Rules.TheVariants.{Der}
 use Rattle.crl_reader.specs.declared.reason.Reason.TheVariants as reason
 use Rattle.crl_reader.specs.Reasons.{CRLReason}
 use Rattle.der_cursor.specs.Formats.{Format, ObjectIdentifier, Only, Required}
+use Rattle.der_extensions.specs.Extensions.{AccessDescription, AccessValue, AuthorityInfoAccessSyntax}
 use Rattle.der_extensions.specs.Extensions.{AuthorityKeyIdentifier, BasicConstraints, ExtKeyUsageSyntax, KeyUsage}
 use Rattle.der_values.specs.Kinds.{is_bit_set}
 use Rattle.pkix_rules.specs.declared.known.KnownExtension.{KnownExtension}
 use Rattle.pkix_rules.specs.declared.known.KnownExtension.TheVariants as known
 use Rattle.pkix_rules.specs.declared.value_facts.ValueFact.{ValueFact}
 use Rattle.pkix_rules.specs.declared.value_facts.ValueFact.TheVariants.{Authority, PathLength, KeyCertSign, CrlSign}
-use Rattle.pkix_rules.specs.declared.value_facts.ValueFact.TheVariants.{KeyIdentifier, AnyPurpose, RemoveFromCrl}
+use Rattle.pkix_rules.specs.declared.value_facts.ValueFact.TheVariants.{KeyIdentifier, AnyPurpose, OcspResponder}
+use Rattle.pkix_rules.specs.declared.value_facts.ValueFact.TheVariants.{RemoveFromCrl}
 use Rattle.pkix_rules.specs.Lists.{Among}
 
 -- the octets are a value of the type, of which P holds
@@ -21,6 +23,14 @@ Says {V} F P w = (v : V) × Only (Required F) Der w v × P v
 abbrev pub any_extended_key_usage : List ℕ
 any_extended_key_usage = 85 ∷ 29 ∷ 37 ∷ 0 ∷ []
 
+-- id-ad-ocsp OBJECT IDENTIFIER ::= { id-ad 1 }, which is 1.3.6.1.5.5.7.48.1
+abbrev pub id_ad_ocsp : List ℕ
+id_ad_ocsp = 43 ∷ 6 ∷ 1 ∷ 5 ∷ 5 ∷ 7 ∷ 48 ∷ 1 ∷ []
+
+-- the accessMethod says where a responder is
+abbrev pub IsOcspResponder : AccessValue → Type 0
+IsOcspResponder v = v.0 ≡ id_ad_ocsp
+
 -- the extension that it is about
 abbrev pub extension_of_fact : ValueFact → KnownExtension
 extension_of_fact Authority = known.BasicConstraints
@@ -29,6 +39,7 @@ extension_of_fact KeyCertSign = known.KeyUsage
 extension_of_fact CrlSign = known.KeyUsage
 extension_of_fact KeyIdentifier = known.AuthorityKeyIdentifier
 extension_of_fact AnyPurpose = known.ExtendedKeyUsage
+extension_of_fact OcspResponder = known.AuthorityInfoAccess
 extension_of_fact RemoveFromCrl = known.ReasonCode
 
 -- the value says so
@@ -40,4 +51,6 @@ ValueSays CrlSign w = Says KeyUsage (λ v. is_bit_set 6 v.1 ≡ true) w
 ValueSays KeyIdentifier w = Says AuthorityKeyIdentifier (λ v. v.0 ≢ None) w
 ValueSays AnyPurpose w =
     Says ExtKeyUsageSyntax (λ v. Among (Required ObjectIdentifier) (λ x. x ≡ any_extended_key_usage) v) w
+ValueSays OcspResponder w =
+    Says AuthorityInfoAccessSyntax (λ v. Among (Required AccessDescription) IsOcspResponder v) w
 ValueSays RemoveFromCrl w = Says CRLReason (λ v. v ≡ reason.RemoveFromCrl) w

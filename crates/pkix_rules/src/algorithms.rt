@@ -56,6 +56,7 @@ const NULL: &[u8] = b"\x05\x00";
 const OBJECT_IDENTIFIER: u8 = 0x06;
 
 /// Returns whether the certificate breaks the rule.
+#[inline(never)]
 pub(crate) fn breaks_algorithm(rule: AlgorithmRule, certificate: &Certificate<'_>) -> bool
     ensures { IsTrue result ↔ BreaksAlgorithm rule (certificate_of certificate.now) }
 {

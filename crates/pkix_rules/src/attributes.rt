@@ -10,6 +10,7 @@ ghost use Rattle.pkix_rules.specs.Attributes.{kind_number, kind_octets, least_of
 
 use crate::identified::attribute_kind;
 use crate::identifier::absolute_octets;
+use crate::whole::is_self_issued;
 use der_base::any::Any;
 use der_base::header::{Class, Tag};
 use der_x509::{AttributeTypeAndValue, Certificate, Name, RelativeDistinguishedName};
@@ -195,12 +196,17 @@ impl AttributeKind {
     }
 }
 
-/// Returns of which kinds the issuer or the subject has an attribute whose value isn't of its type.
+/// Returns of which kinds the issuer or the subject has an attribute whose value isn't of its type. A name that is both
+/// is looked at once.
+#[inline(never)]
 pub(crate) fn bad_kinds(certificate: &Certificate<'_>) -> [bool; ATTRIBUTE_KINDS]
     ensures { AreBadKinds (certificate_of certificate.now) result }
 {
     let mut bad = [false; ATTRIBUTE_KINDS];
     mark_name(&mut bad, certificate.tbs_certificate.issuer);
+    if is_self_issued(certificate) {
+        return bad;
+    }
     mark_name(&mut bad, certificate.tbs_certificate.subject);
     bad
 }

@@ -64,8 +64,7 @@ impl<'r, 'a> Iterator for BrokenRules<'r, 'a> {
 fn first_broken<'r>(certificate: &Certificate<'_>, rules: &'r [Rule]) -> Option<FirstBroken<'r>>
     ensures { FindsBroken (certificate_of certificate.now) rules.now result }
 {
-    let asks_attributes = rules.iter().any(|rule| matches!(rule, Rule::Attribute(_)));
-    let examined = examine(certificate, asks_attributes);
+    let examined = examine(certificate, rules.len());
     let mut left = rules;
     while let Some((rule, rest)) = left.split_first() {
         if breaks_examined(*rule, &examined) {

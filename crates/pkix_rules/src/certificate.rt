@@ -209,6 +209,10 @@ pub const MUST_RULES: &[Rule] = &[
         ValueRule::Names(NameRule::InternationalMailbox),
     ),
     Rule::Value(
+        KnownExtension::SubjectAltName,
+        ValueRule::Names(NameRule::OrderedAttributes),
+    ),
+    Rule::Value(
         KnownExtension::IssuerAltName,
         ValueRule::Names(NameRule::NotEmpty),
     ),
@@ -235,6 +239,10 @@ pub const MUST_RULES: &[Rule] = &[
     Rule::Value(
         KnownExtension::IssuerAltName,
         ValueRule::Names(NameRule::InternationalMailbox),
+    ),
+    Rule::Value(
+        KnownExtension::IssuerAltName,
+        ValueRule::Names(NameRule::OrderedAttributes),
     ),
     Rule::NotCritical(KnownExtension::SubjectDirectoryAttributes),
     Rule::Whole(WholeRule::CriticalConstraints),
@@ -307,6 +315,14 @@ pub const MUST_RULES: &[Rule] = &[
         ValueRule::OfType(ValueType::Features),
     ),
     Rule::Critical(KnownExtension::PrecertificatePoison),
+    Rule::Value(
+        KnownExtension::NoRevAvail,
+        ValueRule::OfType(ValueType::NoRevAvail),
+    ),
+    Rule::NotCritical(KnownExtension::NoRevAvail),
+    Rule::Whole(WholeRule::NoRevAvailOfEndEntity),
+    Rule::Whole(WholeRule::NoRevAvailWithoutPoints),
+    Rule::Whole(WholeRule::NoRevAvailWithoutOcsp),
 ];
 
 /// Those that it says by SHOULD or SHOULD NOT.
@@ -361,6 +377,7 @@ pub fn breaks(rule: Rule, certificate: &Certificate<'_>) -> bool
 }
 
 /// Returns whether the certificate that was examined breaks the rule.
+#[inline(always)]
 pub(crate) fn breaks_examined(rule: Rule, certificate: &Examined<'_, '_>) -> bool
     requires { IsExamined certificate.now }
     ensures { IsTrue result ↔ Breaks rule (signed_of certificate.now) }

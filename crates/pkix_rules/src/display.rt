@@ -141,6 +141,7 @@ impl fmt::Display for KnownExtension {
             KnownExtension::SignedCertificateTimestamps =>
                 "the list of signed certificate timestamps",
             KnownExtension::TlsFeature => "TLS feature",
+            KnownExtension::NoRevAvail => "noRevAvail",
         })
     }
 }
@@ -176,6 +177,7 @@ fn section(known: KnownExtension) -> &'static str {
         KnownExtension::PrecertificatePoison => "RFC 6962 3.1",
         KnownExtension::SignedCertificateTimestamps => "RFC 6962 3.3",
         KnownExtension::TlsFeature => "RFC 7633 4",
+        KnownExtension::NoRevAvail => "RFC 9608 2",
     }
 }
 
@@ -284,6 +286,8 @@ fn name_text(rule: NameRule) -> &'static str {
             "a dNSName isn't in the preferred name syntax (RFC 5280 4.2.1.6)",
         NameRule::InternationalMailbox =>
             "an SmtpUTF8Mailbox is no mailbox beyond ASCII (RFC 9598 3)",
+        NameRule::OrderedAttributes =>
+            "attributes of a directoryName are out of order (X.690 11.6)",
     }
 }
 
@@ -342,6 +346,10 @@ fn whole_text(rule: WholeRule) -> &'static str {
             "nameConstraints, and the subject is no authority (RFC 5280 4.2.1.10)",
         WholeRule::AnyPurposeNotCritical =>
             "extKeyUsage has anyExtendedKeyUsage, and is critical (RFC 5280 4.2.1.12)",
+        WholeRule::NoRevAvailOfEndEntity => "an authority with a noRevAvail (RFC 9608 2)",
+        WholeRule::NoRevAvailWithoutPoints =>
+            "noRevAvail beside a place of lists of revoked certificates (RFC 9608 3)",
+        WholeRule::NoRevAvailWithoutOcsp => "noRevAvail beside a responder of OCSP (RFC 9608 3)",
     }
 }
 

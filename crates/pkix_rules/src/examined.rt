@@ -37,16 +37,17 @@ pub(crate) fn unexamined<'r, 'a>(signed: &'r Certificate<'a>) -> Examined<'r, 'a
     }
 }
 
-/// Examines a certificate for many questions, some of which are about attributes, if the caller says so.
-pub(crate) fn examine<'r, 'a>(
-    signed: &'r Certificate<'a>,
-    asks_attributes: bool,
-) -> Examined<'r, 'a>
+/// The most questions for which no names and values are read ahead: each question reads what it is about.
+const FEW_QUESTIONS: usize = 24;
+
+/// Examines a certificate for so many questions.
+pub(crate) fn examine<'r, 'a>(signed: &'r Certificate<'a>, questions: usize) -> Examined<'r, 'a>
     ensures certificate { signed_of result ≡ certificate_of signed.now }
     ensures examined { IsExamined result }
 {
-    let extensions = SortedExtensions::sort(signed.tbs_certificate.extensions);
-    let bad_kinds = if asks_attributes {
+    let reads_ahead = questions > FEW_QUESTIONS;
+    let extensions = SortedExtensions::sort(signed.tbs_certificate.extensions, reads_ahead);
+    let bad_kinds = if reads_ahead {
         Some(bad_kinds(signed))
     } else {
         None
@@ -59,6 +60,7 @@ pub(crate) fn examine<'r, 'a>(
 }
 
 /// Returns whether an extension of the certificate, one with the identifier of `known`, shows the fact.
+#[inline(always)]
 pub(crate) fn has(certificate: &Examined<'_, '_>, known: KnownExtension, fact: Fact) -> bool
     requires { IsExamined certificate.now }
     ensures { IsTrue result ↔ Has known fact (signed_of certificate.now) }
@@ -94,12 +96,16 @@ pub(crate) fn unexamined_list<'r, 'a>(signed: &'r CertificateList<'a>) -> Examin
     ExaminedList { signed, extensions }
 }
 
-/// Examines a list for many questions.
-pub(crate) fn examine_list<'r, 'a>(signed: &'r CertificateList<'a>) -> ExaminedList<'r, 'a>
+/// Examines a list for so many questions.
+pub(crate) fn examine_list<'r, 'a>(
+    signed: &'r CertificateList<'a>,
+    questions: usize,
+) -> ExaminedList<'r, 'a>
     ensures list { signed_list_of result ≡ certificate_list_of signed.now }
     ensures examined { IsExaminedList result }
 {
-    let extensions = SortedExtensions::sort(signed.tbs_cert_list.crl_extensions);
+    let reads_ahead = questions > FEW_QUESTIONS;
+    let extensions = SortedExtensions::sort(signed.tbs_cert_list.crl_extensions, reads_ahead);
     ExaminedList { signed, extensions }
 }
 

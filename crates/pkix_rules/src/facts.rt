@@ -25,6 +25,7 @@ pub enum Fact {
 }
 
 /// Returns whether one of the extensions, one with the identifier of `known`, shows the fact.
+#[inline(never)]
 pub(crate) fn shows(extensions: Extensions<'_>, known: KnownExtension, fact: Fact) -> bool
     ensures { IsTrue result ↔ Shows known fact extensions.entry.octets.now }
 {

@@ -63,6 +63,7 @@ fn id_ce_extension(last: u8) -> Option<KnownExtension>
         0x15 => Some(KnownExtension::ReasonCode),
         0x18 => Some(KnownExtension::InvalidityDate),
         0x1d => Some(KnownExtension::CertificateIssuer),
+        0x38 => Some(KnownExtension::NoRevAvail),
         _ => None,
     }
 }

@@ -62,10 +62,12 @@ pub enum KnownExtension {
     SignedCertificateTimestamps,
     /// RFC 7633 4.
     TlsFeature,
+    /// RFC 9608 2.
+    NoRevAvail,
 }
 
 /// How many there are.
-pub(crate) const KNOWN_EXTENSIONS: usize = 28;
+pub(crate) const KNOWN_EXTENSIONS: usize = 29;
 
 impl KnownExtension {
     /// The content octets of its identifier: of RFC 5280 2.5.29.n, or 1.3.6.1.5.5.7.1.n (A.2).
@@ -101,10 +103,12 @@ impl KnownExtension {
             KnownExtension::PrecertificatePoison => PRECERTIFICATE_POISON,
             KnownExtension::SignedCertificateTimestamps => SIGNED_CERTIFICATE_TIMESTAMPS,
             KnownExtension::TlsFeature => TLS_FEATURE,
+            KnownExtension::NoRevAvail => NO_REV_AVAIL,
         }
     }
 
     /// Its place in the order above, from 0.
+    #[inline(always)]
     pub(crate) fn number(self) -> usize
         ensures number { result ≡ known_number self }
         ensures few { result < known_count }
@@ -138,6 +142,7 @@ impl KnownExtension {
             KnownExtension::PrecertificatePoison => 25,
             KnownExtension::SignedCertificateTimestamps => 26,
             KnownExtension::TlsFeature => 27,
+            KnownExtension::NoRevAvail => 28,
         }
     }
 }
@@ -197,3 +202,5 @@ const PRECERTIFICATE_POISON: &[u8] = b"\x2b\x06\x01\x04\x01\xd6\x79\x02\x04\x03"
 const SIGNED_CERTIFICATE_TIMESTAMPS: &[u8] = b"\x2b\x06\x01\x04\x01\xd6\x79\x02\x04\x02";
 
 const TLS_FEATURE: &[u8] = b"\x2b\x06\x01\x05\x05\x07\x01\x18";
+
+const NO_REV_AVAIL: &[u8] = b"\x55\x1d\x38";

@@ -5,16 +5,17 @@ ghost use Rattle.std.specs.Char.{is_ascii_alphabetic};
 ghost use Rattle.der_cursor.specs.Elements.{element_of};
 ghost use Rattle.der_extensions.specs.GeneralNames.{GeneralName as AnyName, name_of};
 ghost use Rattle.pkix_rules.specs.Lists.{Among};
-ghost use Rattle.pkix_rules.specs.Names.{BreaksName, HasScheme, IsOddAddress, IsBlankName, IsEmptyName};
+ghost use Rattle.pkix_rules.specs.Names.{BreaksName, HasScheme, IsBlankName, IsDisorderedName, IsEmptyName};
 ghost use Rattle.pkix_rules.specs.Names.{BeginsWithMark, IsInternationalMailbox, IsInternationalText};
-ghost use Rattle.pkix_rules.specs.Names.{IsMailboxBeyondAscii, IsNoInternationalMailbox, IsNoMailbox, IsOtherHost};
-ghost use Rattle.pkix_rules.specs.Names.{IsRelativeName, SchemeFollows, is_scheme_character};
+ghost use Rattle.pkix_rules.specs.Names.{IsMailboxBeyondAscii, IsNoInternationalMailbox, IsNoMailbox, IsOddAddress};
+ghost use Rattle.pkix_rules.specs.Names.{IsOtherHost, IsRelativeName, SchemeFollows, is_scheme_character};
 ghost use Rattle.pkix_rules.specs.Sound.{IsBadName, IsSound};
 ghost use Rattle.pkix_rules.specs.ValueRules.{BreaksValue};
 
 use crate::host_name::is_preferred_name;
 use crate::identifier::has_octets;
 use crate::mailbox::{LocalCharacters, is_mailbox};
+use crate::order::has_descent;
 use crate::types::ValueType;
 use crate::value_rules::ValueRule;
 use der_base::any::Any;
@@ -39,6 +40,9 @@ pub enum NameRule {
     /// A dNSName is in the preferred name syntax (4.2.1.6, RFC 1034 3.5, RFC 1123 2.1, MUST). A name behind a leading
     /// "*." is let in, as 4.2.1.6 says.
     PreferredName,
+    /// The attributes of each relative name of a directoryName ascend, as a SET OF does by DER (4.2.1.6, 4.1,
+    /// X.690 11.6).
+    OrderedAttributes,
     /// An otherName that is an SmtpUTF8Mailbox is a UTF8String with a mailbox, whose local part isn't of ASCII alone
     /// and whose domain is (RFC 9598 3, MUST). It doesn't begin with a byte order mark.
     InternationalMailbox,
@@ -105,6 +109,7 @@ fn is_bad_name(name: &GeneralName<'_>) -> bool
         || is_no_mailbox(name)
         || is_other_host(name)
         || is_no_international_mailbox(name)
+        || is_disordered_name(name)
 }
 
 /// Returns whether the name breaks the rule.
@@ -119,6 +124,7 @@ fn breaks_name(rule: NameRule, name: &GeneralName<'_>) -> bool
         NameRule::Mailbox => is_no_mailbox(name),
         NameRule::PreferredName => is_other_host(name),
         NameRule::InternationalMailbox => is_no_international_mailbox(name),
+        NameRule::OrderedAttributes => is_disordered_name(name),
     }
 }
 
@@ -138,6 +144,16 @@ fn is_other_host(name: &GeneralName<'_>) -> bool
 {
     match name {
         GeneralName::DnsName(text) => !is_preferred_name(text.as_bytes()),
+        _ => false,
+    }
+}
+
+/// Returns whether it is a directoryName of which attributes descend.
+fn is_disordered_name(name: &GeneralName<'_>) -> bool
+    ensures { IsTrue result ↔ IsDisorderedName (name_of name.now) }
+{
+    match name {
+        GeneralName::DirectoryName(name) => has_descent(*name),
         _ => false,
     }
 }

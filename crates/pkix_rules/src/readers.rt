@@ -1,7 +1,7 @@
 //! Readers of values of one field.
 ghost use Rattle.std.specs.Prelude.{◌≡◌};
 ghost use Rattle.der_base.specs.declared.rules.Rules.{Rules};
-ghost use Rattle.der_cursor.specs.Formats.{GeneralizedTime, Integer, Never, Only, ReadsWhole, Required};
+ghost use Rattle.der_cursor.specs.Formats.{GeneralizedTime, Integer, Never, Null, Only, ReadsWhole, Required};
 
 use der_base::error::BerError;
 use der_base::time::ASN1DateTime;
@@ -25,4 +25,14 @@ pub(crate) fn read_date(octets: &[u8]) -> Result<ASN1DateTime, Refusal<BerError>
     let date = input.generalized_time()?;
     input.end()?;
     Ok(date)
+}
+
+/// Reads a NULL and nothing after it, by DER.
+pub(crate) fn read_null(octets: &[u8]) -> Result<(), Refusal<BerError>>
+    ensures { ReadsWhole (Only (Required Null) Rules.Der octets.now) (λ x. x) Never result }
+{
+    let mut input = Cursor::new(octets);
+    input.null()?;
+    input.end()?;
+    Ok(())
 }

@@ -60,7 +60,7 @@ fn begins_one(octets: &[u8], items: &[u8]) -> bool
 }
 
 /// Returns the element that the octets begin with, if it is of this universal type.
-fn first_item(octets: &[u8], constructed: bool, tag: Tag) -> Option<FirstItem<'_>>
+pub(crate) fn first_item(octets: &[u8], constructed: bool, tag: Tag) -> Option<FirstItem<'_>>
     ensures { FindsFirst (element Class.Universal constructed tag.0) octets.now result }
 {
     if octets.is_empty() {

@@ -110,6 +110,10 @@ pub const MUST_LIST_RULES: &[ListRule] = &[
         KnownExtension::IssuerAltName,
         ValueRule::Names(NameRule::InternationalMailbox),
     ),
+    ListRule::Value(
+        KnownExtension::IssuerAltName,
+        ValueRule::Names(NameRule::OrderedAttributes),
+    ),
     ListRule::Whole(WholeListRule::Number),
     ListRule::NotCritical(KnownExtension::CrlNumber),
     ListRule::Value(KnownExtension::CrlNumber, ValueRule::ShortNumber),
@@ -250,7 +254,7 @@ fn first_broken_of_list<'r>(
 ) -> Option<FirstBrokenOfList<'r>>
     ensures { FindsBrokenOfList (certificate_list_of list.now) rules.now result }
 {
-    let examined = examine_list(list);
+    let examined = examine_list(list, rules.len());
     let mut left = rules;
     while let Some((rule, rest)) = left.split_first() {
         if examined_list_breaks(*rule, &examined) {

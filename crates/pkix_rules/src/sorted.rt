@@ -1,16 +1,15 @@
 //! Extensions, sorted by which they are, so that rules about them need not walk them.
-ghost use Rattle.std.specs.Prelude.{◌≡◌, ◌↔◌, IfSome, IsTrue, length};
+ghost use Rattle.std.specs.Prelude.{◌≡◌, ◌↔◌, IsTrue, length};
 ghost use Rattle.pkix_rules.specs.Facts.{Holds, Shows};
 ghost use Rattle.pkix_rules.specs.Identifiers.{known_count};
-ghost use Rattle.pkix_rules.specs.Sound.{IsSound};
+ghost use Rattle.pkix_rules.specs.Readings.{IsReadingOf};
 ghost use Rattle.pkix_rules.specs.Sorted.{AreSlotsOf, IsAfter, IsSorted, Puts};
 
 use crate::facts::{Fact, holds, shows};
 use crate::identified::known_extension;
 use crate::identifier::absolute_octets;
 use crate::known::{KNOWN_EXTENSIONS, KnownExtension};
-use crate::sound::{is_kept, sound_type};
-use crate::types::ValueType;
+use crate::reading::{Reading, read_value};
 use der_x509::Extensions;
 
 /// What is known of the extensions with one identifier.
@@ -18,8 +17,8 @@ use der_x509::Extensions;
 pub(crate) enum Slot<'a> {
     /// There is none.
     Absent,
-    /// There is one: whether it is critical, its value, and the type of which that breaks no rule, if that was found.
-    Once(bool, &'a [u8], Option<ValueType>),
+    /// There is one: whether it is critical, its value, and what was found of that.
+    Once(bool, &'a [u8], Reading),
     /// There are several, or nobody has looked. Each question walks the extensions.
     Unsorted,
 }
@@ -32,12 +31,12 @@ pub(crate) struct SortedExtensions<'a> {
 }
 
 impl<'a> SortedExtensions<'a> {
-    /// Sorts them, in one walk.
-    pub fn sort(extensions: Extensions<'a>) -> SortedExtensions<'a>
+    /// Sorts them, in one walk. It reads values too, if the caller wants that.
+    pub fn sort(extensions: Extensions<'a>, reads_ahead: bool) -> SortedExtensions<'a>
         ensures extensions { result.extensions.octets.now ≡ extensions.entry.octets.now }
         ensures sorted { IsSorted result }
     {
-        let slots = slots_of(extensions);
+        let slots = slots_of(extensions, reads_ahead);
         SortedExtensions { extensions, slots }
     }
 
@@ -51,34 +50,45 @@ impl<'a> SortedExtensions<'a> {
     }
 
     /// Returns whether one of them, one with the identifier of `known`, shows the fact.
+    #[inline(always)]
     pub fn show(&self, known: KnownExtension, fact: Fact) -> bool
         requires { IsSorted self.now }
         ensures { IsTrue result ↔ Shows known fact self.now.extensions.octets.now }
     {
         match self.slots[known.number()] {
             Slot::Absent => false,
-            Slot::Once(critical, value, sound) => holds_once(fact, critical, value, sound),
+            Slot::Once(critical, value, reading) => holds_once(fact, critical, value, reading),
             Slot::Unsorted => shows(self.extensions, known, fact),
         }
     }
 }
 
 /// Returns whether the one extension of a slot shows the fact.
-fn holds_once(fact: Fact, critical: bool, value: &[u8], sound: Option<ValueType>) -> bool
-    requires { IfSome sound (λ t. IsSound t value.now) }
+#[inline(never)]
+fn holds_once(fact: Fact, critical: bool, value: &[u8], reading: Reading) -> bool
+    requires { IsReadingOf reading value.now }
     ensures { IsTrue result ↔ Holds fact critical value.now }
 {
-    !is_kept(sound, fact) && holds(fact, critical, value)
+    match reading.shows(fact) {
+        Some(answer) => answer,
+        None => holds(fact, critical, value),
+    }
 }
 
-/// Returns what the slots of the extensions hold.
-fn slots_of<'a>(extensions: Extensions<'a>) -> [Slot<'a>; KNOWN_EXTENSIONS]
+/// Returns what the slots of the extensions hold. Values are read, if they are to be read ahead.
+fn slots_of<'a>(extensions: Extensions<'a>, reads_ahead: bool) -> [Slot<'a>; KNOWN_EXTENSIONS]
     ensures { AreSlotsOf extensions.entry.octets.now result }
 {
     let mut slots = [Slot::Absent; KNOWN_EXTENSIONS];
     for extension in extensions.iter() {
         if let Some(known) = known_extension(absolute_octets(&extension.identifier)) {
-            put(&mut slots, known, extension.critical, extension.value);
+            put(
+                &mut slots,
+                known,
+                extension.critical,
+                extension.value,
+                reads_ahead,
+            );
         }
     }
     slots
@@ -90,22 +100,35 @@ fn put<'a>(
     known: KnownExtension,
     critical: bool,
     value: &'a [u8],
+    reads_ahead: bool,
 )
     requires { length slots.old ≡ known_count }
     ensures { Puts known critical value.now slots.old slots.new }
 {
     let number = known.number();
-    slots[number] = slots[number].after(critical, value, sound_type(known, value));
+    let reading = reading_of(reads_ahead, known, value);
+    slots[number] = slots[number].after(critical, value, reading);
+}
+
+/// Reads the value of an extension, if it is to be read ahead.
+fn reading_of(reads_ahead: bool, known: KnownExtension, value: &[u8]) -> Reading
+    ensures { IsReadingOf result value.now }
+{
+    if reads_ahead {
+        read_value(known, value)
+    } else {
+        Reading::Nothing
+    }
 }
 
 impl<'a> Slot<'a> {
     /// What it is after one more extension.
-    fn after(self, critical: bool, value: &'a [u8], sound: Option<ValueType>) -> Slot<'a>
-        requires { IfSome sound (λ t. IsSound t value.now) }
+    fn after(self, critical: bool, value: &'a [u8], reading: Reading) -> Slot<'a>
+        requires { IsReadingOf reading value.now }
         ensures { IsAfter self.entry critical value.now result }
     {
         match self {
-            Slot::Absent => Slot::Once(critical, value, sound),
+            Slot::Absent => Slot::Once(critical, value, reading),
             Slot::Once(_, _, _) | Slot::Unsorted => Slot::Unsorted,
         }
     }

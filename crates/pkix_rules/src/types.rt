@@ -2,7 +2,7 @@
 ghost use Rattle.std.specs.Prelude.{◌≡◌, ◌↔◌, IsTrue};
 ghost use Rattle.pkix_rules.specs.Types.{IsOfType};
 
-use crate::readers::{read_date, read_number};
+use crate::readers::{read_date, read_null, read_number};
 use crl_reader::read_reason;
 use der_extensions::{
     read_authority_key_identifier, read_basic_constraints, read_certificate_policies,
@@ -60,6 +60,8 @@ pub enum ValueType {
     Timestamps,
     /// Features, of numbers from 0 to 2^32-1 (RFC 7633 4.1).
     Features,
+    /// NULL, of a noRevAvail (RFC 9608 2).
+    NoRevAvail,
 }
 
 /// Returns whether the octets are a value of the type.
@@ -89,6 +91,7 @@ pub(crate) fn is_of_type(kind: ValueType, value: &[u8]) -> bool
         ValueType::Poison => is_of_poison(value),
         ValueType::Timestamps => is_of_timestamps(value),
         ValueType::Features => is_of_features(value),
+        ValueType::NoRevAvail => is_of_no_rev_avail(value),
     }
 }
 
@@ -285,6 +288,15 @@ fn is_of_features(value: &[u8]) -> bool
     ensures { IsTrue result ↔ IsOfType ValueType.Features value.now }
 {
     match read_tls_features(value) {
+        Ok(_) => true,
+        Err(_) => false,
+    }
+}
+
+fn is_of_no_rev_avail(value: &[u8]) -> bool
+    ensures { IsTrue result ↔ IsOfType ValueType.NoRevAvail value.now }
+{
+    match read_null(value) {
         Ok(_) => true,
         Err(_) => false,
     }

@@ -1,16 +1,19 @@
 //! What the value of an extension says. One that isn't of its type says nothing.
 ghost use Rattle.std.specs.Prelude.{◌≡◌, ◌≢◌, ◌↔◌, IsTrue, None};
 ghost use Rattle.der_cursor.specs.Formats.{ObjectIdentifier as IdentifierFormat, Required};
-ghost use Rattle.der_extensions.specs.Extensions.{authority_of, constraints_of};
+ghost use Rattle.der_extensions.specs.Extensions.{AccessDescription as AccessFormat, access_of, authority_of};
+ghost use Rattle.der_extensions.specs.Extensions.{constraints_of};
 ghost use Rattle.pkix_rules.specs.Lists.{Among};
-ghost use Rattle.pkix_rules.specs.ValueFacts.{ValueSays, any_extended_key_usage, extension_of_fact};
+ghost use Rattle.pkix_rules.specs.ValueFacts.{IsOcspResponder, ValueSays, any_extended_key_usage};
+ghost use Rattle.pkix_rules.specs.ValueFacts.{extension_of_fact};
 
 use crate::identifier::has_octets;
 use crate::known::KnownExtension;
 use crl_reader::{Reason, read_reason};
 use der_extensions::{
-    AuthorityKeyIdentifier, BasicConstraints, ExtendedKeyUsage, read_authority_key_identifier,
-    read_basic_constraints, read_extended_key_usage, read_key_usage,
+    AccessDescription, AuthorityKeyIdentifier, BasicConstraints, ExtendedKeyUsage,
+    InformationAccess, read_authority_key_identifier, read_basic_constraints,
+    read_extended_key_usage, read_information_access, read_key_usage,
 };
 
 /// What the value of an extension may say, for rules to be made of.
@@ -28,6 +31,8 @@ pub enum ValueFact {
     KeyIdentifier,
     /// extKeyUsage: anyExtendedKeyUsage is among the purposes (4.2.1.12).
     AnyPurpose,
+    /// authorityInfoAccess: id-ad-ocsp is among the methods (4.2.2.1).
+    OcspResponder,
     /// reasonCode: removeFromCRL (5.3.1).
     RemoveFromCrl,
 }
@@ -42,6 +47,7 @@ impl ValueFact {
             ValueFact::KeyCertSign | ValueFact::CrlSign => KnownExtension::KeyUsage,
             ValueFact::KeyIdentifier => KnownExtension::AuthorityKeyIdentifier,
             ValueFact::AnyPurpose => KnownExtension::ExtendedKeyUsage,
+            ValueFact::OcspResponder => KnownExtension::AuthorityInfoAccess,
             ValueFact::RemoveFromCrl => KnownExtension::ReasonCode,
         }
     }
@@ -49,6 +55,9 @@ impl ValueFact {
 
 /// anyExtendedKeyUsage: 2.5.29.37.0.
 const ANY_EXTENDED_KEY_USAGE: &[u8] = b"\x55\x1d\x25\x00";
+
+/// id-ad-ocsp: 1.3.6.1.5.5.7.48.1.
+const OCSP: &[u8] = b"\x2b\x06\x01\x05\x05\x07\x30\x01";
 
 /// Returns whether the value of the extension that the fact is about says so.
 pub(crate) fn says(fact: ValueFact, value: &[u8]) -> bool
@@ -61,6 +70,7 @@ pub(crate) fn says(fact: ValueFact, value: &[u8]) -> bool
         ValueFact::CrlSign => says_crl_sign(value),
         ValueFact::KeyIdentifier => says_key_identifier(value),
         ValueFact::AnyPurpose => says_any_purpose(value),
+        ValueFact::OcspResponder => says_ocsp_responder(value),
         ValueFact::RemoveFromCrl => says_remove_from_crl(value),
     }
 }
@@ -83,7 +93,7 @@ fn says_path_length(value: &[u8]) -> bool
     }
 }
 
-fn has_path_length(constraints: &BasicConstraints) -> bool
+pub(crate) fn has_path_length(constraints: &BasicConstraints) -> bool
     ensures { IsTrue result ↔ ((constraints_of constraints.now).1.0 ≢ None) }
 {
     constraints.path_length.is_some()
@@ -116,7 +126,7 @@ fn says_key_identifier(value: &[u8]) -> bool
     }
 }
 
-fn has_key_identifier(authority: &AuthorityKeyIdentifier<'_>) -> bool
+pub(crate) fn has_key_identifier(authority: &AuthorityKeyIdentifier<'_>) -> bool
     ensures { IsTrue result ↔ ((authority_of authority.now).0 ≢ None) }
 {
     authority.key_identifier.is_some()
@@ -142,6 +152,33 @@ fn has_any_purpose(purposes: &ExtendedKeyUsage<'_>) -> bool
         }
     }
     false
+}
+
+fn says_ocsp_responder(value: &[u8]) -> bool
+    ensures { IsTrue result ↔ ValueSays ValueFact.OcspResponder value.now }
+{
+    match read_information_access(value) {
+        Ok(descriptions) => has_ocsp_responder(&descriptions),
+        Err(_) => false,
+    }
+}
+
+/// Returns whether one of the methods is id-ad-ocsp.
+fn has_ocsp_responder(descriptions: &InformationAccess<'_>) -> bool
+    ensures { IsTrue result ↔ Among (Required AccessFormat) IsOcspResponder descriptions.now.octets.now }
+{
+    for description in descriptions.iter() {
+        if is_ocsp_responder(&description) {
+            return true;
+        }
+    }
+    false
+}
+
+fn is_ocsp_responder(description: &AccessDescription<'_>) -> bool
+    ensures { IsTrue result ↔ IsOcspResponder (access_of description.now) }
+{
+    has_octets(&description.access_method, OCSP)
 }
 
 fn says_remove_from_crl(value: &[u8]) -> bool

@@ -136,7 +136,7 @@ fn breaks_issuer_and_serial(value: &[u8]) -> bool
 }
 
 /// Returns whether there is an issuer without a serial number, or a serial number without an issuer.
-fn is_half(authority: &AuthorityKeyIdentifier<'_>) -> bool
+pub(crate) fn is_half(authority: &AuthorityKeyIdentifier<'_>) -> bool
     ensures { IsTrue result ↔ IsHalf (authority_of authority.now) }
 {
     let has_issuer = authority.authority_cert_issuer.is_some();

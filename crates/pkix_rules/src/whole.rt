@@ -3,7 +3,7 @@ ghost use Rattle.std.specs.Prelude.{◌≡◌, ◌↔◌, IsTrue};
 ghost use Rattle.der_x509.specs.Certificates.{Signed, certificate_of};
 ghost use Rattle.pkix_rules.specs.Examined.{IsExamined, signed_of};
 ghost use Rattle.pkix_rules.specs.Facts.{Has, IsAuthority, MaySignCertificates, Tells};
-ghost use Rattle.pkix_rules.specs.Whole.{BreaksWhole, HasNoName, IsSelfIssued};
+ghost use Rattle.pkix_rules.specs.Whole.{BreaksWhole, HasNoName, HasPoints, IsSelfIssued};
 
 use crate::examined::{Examined, has};
 use crate::facts::Fact;
@@ -45,6 +45,12 @@ pub enum WholeRule {
     NameConstraintsOfAuthority,
     /// An extKeyUsage with anyExtendedKeyUsage isn't critical (4.2.1.12, SHOULD NOT).
     AnyPurposeNotCritical,
+    /// There is a noRevAvail only in who is no authority (RFC 9608 2, MUST NOT).
+    NoRevAvailOfEndEntity,
+    /// There is neither cRLDistributionPoints nor freshestCRL beside a noRevAvail (RFC 9608 3, MUST NOT).
+    NoRevAvailWithoutPoints,
+    /// An authorityInfoAccess beside a noRevAvail has no id-ad-ocsp (RFC 9608 3, MUST NOT).
+    NoRevAvailWithoutOcsp,
 }
 
 impl WholeRule {
@@ -57,12 +63,14 @@ impl WholeRule {
             WholeRule::KeyIdentifierOfAuthority => true,
             WholeRule::KeyUsageOfAuthority => true,
             WholeRule::CriticalConstraints => true,
+            WholeRule::NoRevAvailOfEndEntity => true,
             _ => false,
         }
     }
 }
 
 /// Returns whether the certificate breaks the rule.
+#[inline(never)]
 pub(crate) fn breaks_whole(rule: WholeRule, certificate: &Examined<'_, '_>) -> bool
     requires { IsExamined certificate.now }
     ensures { IsTrue result ↔ BreaksWhole rule (signed_of certificate.now) }
@@ -82,6 +90,9 @@ pub(crate) fn breaks_whole(rule: WholeRule, certificate: &Examined<'_, '_>) -> b
         WholeRule::PathLengthOfCertSign => breaks_path_length_of_cert_sign(certificate),
         WholeRule::NameConstraintsOfAuthority => breaks_name_constraints_of_authority(certificate),
         WholeRule::AnyPurposeNotCritical => breaks_any_purpose_not_critical(certificate),
+        WholeRule::NoRevAvailOfEndEntity => breaks_no_rev_avail_of_end_entity(certificate),
+        WholeRule::NoRevAvailWithoutPoints => breaks_no_rev_avail_without_points(certificate),
+        WholeRule::NoRevAvailWithoutOcsp => breaks_no_rev_avail_without_ocsp(certificate),
     }
 }
 
@@ -189,6 +200,37 @@ fn breaks_any_purpose_not_critical(certificate: &Examined<'_, '_>) -> bool
         && tells(certificate, ValueFact::AnyPurpose)
 }
 
+fn breaks_no_rev_avail_of_end_entity(certificate: &Examined<'_, '_>) -> bool
+    requires { IsExamined certificate.now }
+    ensures { IsTrue result ↔ BreaksWhole WholeRule.NoRevAvailOfEndEntity (signed_of certificate.now) }
+{
+    is_authority(certificate) && is_there(certificate, KnownExtension::NoRevAvail)
+}
+
+fn breaks_no_rev_avail_without_points(certificate: &Examined<'_, '_>) -> bool
+    requires { IsExamined certificate.now }
+    ensures { IsTrue result ↔ BreaksWhole WholeRule.NoRevAvailWithoutPoints (signed_of certificate.now) }
+{
+    is_there(certificate, KnownExtension::NoRevAvail) && has_points(certificate)
+}
+
+fn breaks_no_rev_avail_without_ocsp(certificate: &Examined<'_, '_>) -> bool
+    requires { IsExamined certificate.now }
+    ensures { IsTrue result ↔ BreaksWhole WholeRule.NoRevAvailWithoutOcsp (signed_of certificate.now) }
+{
+    is_there(certificate, KnownExtension::NoRevAvail)
+        && tells(certificate, ValueFact::OcspResponder)
+}
+
+/// Returns whether the certificate says where lists of revoked certificates are.
+fn has_points(certificate: &Examined<'_, '_>) -> bool
+    requires { IsExamined certificate.now }
+    ensures { IsTrue result ↔ HasPoints (signed_of certificate.now) }
+{
+    is_there(certificate, KnownExtension::CrlDistributionPoints)
+        || is_there(certificate, KnownExtension::FreshestCrl)
+}
+
 /// Returns whether the subject has no name.
 fn has_no_name(certificate: &Certificate<'_>) -> bool
     ensures { IsTrue result ↔ HasNoName (certificate_of certificate.now) }
@@ -239,7 +281,7 @@ fn may_sign_certificates(certificate: &Examined<'_, '_>) -> bool
 }
 
 /// Returns whether issuer and subject are the same octets.
-fn is_self_issued(certificate: &Certificate<'_>) -> bool
+pub(crate) fn is_self_issued(certificate: &Certificate<'_>) -> bool
     ensures { IsTrue result ↔ IsSelfIssued (certificate_of certificate.now) }
 {
     certificate.tbs_certificate.issuer.octets == certificate.tbs_certificate.subject.octets

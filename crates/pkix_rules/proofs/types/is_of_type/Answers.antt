@@ -65,3 +65,6 @@ returns-in-Timestamps c = rw c.in-Timestamps.is c.is_of_timestamps.ensures
 
 pub returns-in-Features : goal.returns-in-Features
 returns-in-Features c = rw c.in-Features.is c.is_of_features.ensures
+
+pub returns-in-NoRevAvail : goal.returns-in-NoRevAvail
+returns-in-NoRevAvail c = rw c.in-NoRevAvail.is c.is_of_no_rev_avail.ensures

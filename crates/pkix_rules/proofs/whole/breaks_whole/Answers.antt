@@ -41,3 +41,12 @@ returns-in-NameConstraintsOfAuthority c = rw c.in-NameConstraintsOfAuthority.is 
 
 pub returns-in-AnyPurposeNotCritical : goal.returns-in-AnyPurposeNotCritical
 returns-in-AnyPurposeNotCritical c = rw c.in-AnyPurposeNotCritical.is c.breaks_any_purpose_not_critical.ensures
+
+pub returns-in-NoRevAvailOfEndEntity : goal.returns-in-NoRevAvailOfEndEntity
+returns-in-NoRevAvailOfEndEntity c = rw c.in-NoRevAvailOfEndEntity.is c.breaks_no_rev_avail_of_end_entity.ensures
+
+pub returns-in-NoRevAvailWithoutPoints : goal.returns-in-NoRevAvailWithoutPoints
+returns-in-NoRevAvailWithoutPoints c = rw c.in-NoRevAvailWithoutPoints.is c.breaks_no_rev_avail_without_points.ensures
+
+pub returns-in-NoRevAvailWithoutOcsp : goal.returns-in-NoRevAvailWithoutOcsp
+returns-in-NoRevAvailWithoutOcsp c = rw c.in-NoRevAvailWithoutOcsp.is c.breaks_no_rev_avail_without_ocsp.ensures

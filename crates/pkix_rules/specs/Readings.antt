@@ -1,0 +1,22 @@
+-- What one reading of a value finds.
+use Rattle.std.specs.Prelude.{ℕ, ◌↔◌, List, IsTrue}
+use Rattle.pkix_rules.specs.declared.reading.Reading.{Reading}
+use Rattle.pkix_rules.specs.declared.reading.Reading.TheVariants as found
+use Rattle.pkix_rules.specs.declared.types.ValueType.TheVariants as kind
+use Rattle.pkix_rules.specs.declared.value_facts.ValueFact.TheVariants as fact
+use Rattle.pkix_rules.specs.declared.value_rules.ValueRule.TheVariants as rule
+use Rattle.pkix_rules.specs.Sound.{IsSound}
+use Rattle.pkix_rules.specs.Types.{IsOfType}
+use Rattle.pkix_rules.specs.ValueFacts.{ValueSays}
+use Rattle.pkix_rules.specs.ValueRules.{BreaksValue}
+
+-- what was found of the value is so
+abbrev pub IsReadingOf : Reading → List ℕ → Type 0
+IsReadingOf found.Nothing w = Unit {0}
+IsReadingOf (found.Sound t) w = IsSound t w
+IsReadingOf (found.Constraints a p) w = IsOfType kind.Constraints w
+    × (IsTrue a ↔ ValueSays fact.Authority w) × (IsTrue p ↔ ValueSays fact.PathLength w)
+IsReadingOf (found.KeyUsage c l) w = IsOfType kind.KeyUsage w
+    × (IsTrue c ↔ ValueSays fact.KeyCertSign w) × (IsTrue l ↔ ValueSays fact.CrlSign w)
+IsReadingOf (found.KeyIdentifiers k h) w = IsOfType kind.KeyIdentifiers w
+    × (IsTrue k ↔ ValueSays fact.KeyIdentifier w) × (IsTrue h ↔ BreaksValue rule.IssuerAndSerial w)
