@@ -108,11 +108,11 @@ pub(crate) fn report_unread<X: Write>(name: &str, e: &io::Error, err: &mut X) ->
 }
 
 /// Compares two files. Returns the status.
-pub(crate) fn run_diff<'n, R: Files + AllocGlobal, I: Read, W: Write, X: Write>(
+pub(crate) fn run_diff<'n, 't, R: Files + AllocGlobal, I: Read, W: Write, X: Write>(
     rt: &R,
     matches: &ArgMatches<'_>,
     terminal: Style,
-    own_names: Option<&'n OwnNames<'n>>,
+    own_names: Option<&'n OwnNames<'t>>,
     input: &mut I,
     out: &mut W,
     err: &mut X,

@@ -132,27 +132,56 @@ fn run_subcommand<
     let Some((name, matches)) = matches.subcommand() else {
         return Ok(USAGE);
     };
-    let table = matches.get_str("names");
-    let Some(text) = table_text(rt, table, err)? else {
-        return Ok(USAGE);
-    };
-    let Some(names) = names_in(rt.alloc(), table, &text, err)? else {
-        return Ok(USAGE);
-    };
-    let own = Some(&names);
     let mut out = BufWriter::new(rt.alloc(), out)?;
-    let status = run_named(rt, name, matches, terminal, own, &mut input, &mut out, err)?;
+    let status = run_with_table(rt, name, matches, terminal, &mut input, &mut out, err)?;
     out.flush()?;
     Ok(status)
 }
 
-/// Runs the subcommand with this name.
-fn run_named<'n, R: Files + Clock + AllocGlobal + Clone + Drop, I: Read, W: Write, X: Write>(
+/// Reads the table of names that is asked for, and runs the subcommand with this name.
+fn run_with_table<R: Files + Clock + AllocGlobal + Clone + Drop, I: Read, W: Write, X: Write>(
     rt: &R,
     name: &str,
     matches: &ArgMatches<'_>,
     terminal: Style,
-    own: Option<&'n OwnNames<'n>>,
+    input: &mut I,
+    out: &mut W,
+    err: &mut X,
+) -> io::Result<u8>
+    ensures { IfOk result (λ status. status ≤ 2) }
+{
+    match table_text(rt, matches.get_str("names"), err)? {
+        Some(table) => run_by_table(rt, name, matches, terminal, &table, input, out, err),
+        None => Ok(USAGE),
+    }
+}
+
+/// Runs the subcommand with this name, by the text of a table of names.
+fn run_by_table<R: Files + Clock + AllocGlobal + Clone + Drop, I: Read, W: Write, X: Write>(
+    rt: &R,
+    name: &str,
+    matches: &ArgMatches<'_>,
+    terminal: Style,
+    table: &str,
+    input: &mut I,
+    out: &mut W,
+    err: &mut X,
+) -> io::Result<u8>
+    ensures { IfOk result (λ status. status ≤ 2) }
+{
+    match names_in(rt.alloc(), matches.get_str("names"), table, err)? {
+        Some(names) => run_named(rt, name, matches, terminal, Some(&names), input, out, err),
+        None => Ok(USAGE),
+    }
+}
+
+/// Runs the subcommand with this name.
+fn run_named<'n, 't, R: Files + Clock + AllocGlobal + Clone + Drop, I: Read, W: Write, X: Write>(
+    rt: &R,
+    name: &str,
+    matches: &ArgMatches<'_>,
+    terminal: Style,
+    own: Option<&'n OwnNames<'t>>,
     input: &mut I,
     out: &mut W,
     err: &mut X,
@@ -172,12 +201,12 @@ fn run_named<'n, R: Files + Clock + AllocGlobal + Clone + Drop, I: Read, W: Writ
 }
 
 /// Runs an action over the files of its subcommand, or reports that a type that is asked for isn't known.
-fn run_action<'n, R: Files + Clock + AllocGlobal + Clone + Drop, I: Read, W: Write, X: Write>(
+fn run_action<'n, 't, R: Files + Clock + AllocGlobal + Clone + Drop, I: Read, W: Write, X: Write>(
     rt: &R,
     action: Action,
     matches: &ArgMatches<'_>,
     terminal: Style,
-    own: Option<&'n OwnNames<'n>>,
+    own: Option<&'n OwnNames<'t>>,
     input: &mut I,
     out: &mut W,
     err: &mut X,
