@@ -9,6 +9,7 @@ pub mod Messages
 pub mod Places
 pub mod PlaceTexts
 pub mod Refused
+pub mod RefusedTexts
 pub mod Secrets
 pub mod Shown
 pub mod Unread

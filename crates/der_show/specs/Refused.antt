@@ -29,6 +29,12 @@ type_name (Certificate e) = codes "Certificate"
 type_name (CertificateList e) = codes "CertificateList"
 type_name (CertificationRequest e) = codes "CertificationRequest"
 
+-- it is the error as a certificate
+abbrev pub IsOfCertificate : Refused → Type 0
+IsOfCertificate (Certificate e) = Unit {0}
+IsOfCertificate (CertificateList e) = ⊥
+IsOfCertificate (CertificationRequest e) = ⊥
+
 -- the version of a certificate is refused
 abbrev pub IsVersion : Refused → Type 0
 IsVersion (Certificate e) = e.field ≡ Version

@@ -1,7 +1,7 @@
 //! The errors of the readers of certificates, lists of revoked certificates and requests.
 ghost use Rattle.std.specs.Prelude.{◌≡◌, ◌↔◌, IsTrue};
 ghost use Rattle.der_cursor.specs.Cursors.{is_at_end};
-ghost use Rattle.der_show.specs.Refused.{IsVersion, further, offset_of, refusal_of, type_name};
+ghost use Rattle.der_show.specs.Refused.{IsOfCertificate, IsVersion, further, offset_of, refusal_of, type_name};
 
 use crl_reader::ListRefusal;
 use der_base::error::BerError;
@@ -72,6 +72,17 @@ impl Refused {
         match refusal.list_end {
             Some(end) => end == refusal.offset,
             None => false,
+        }
+    }
+
+    /// Whether it is the error as a certificate.
+    pub(crate) fn is_of_certificate(&self) -> bool
+        ensures { IsTrue result ↔ IsOfCertificate self.now }
+    {
+        match self {
+            Refused::Certificate(_) => true,
+            Refused::CertificateList(_) => false,
+            Refused::CertificationRequest(_) => false,
         }
     }
 

@@ -1,9 +1,13 @@
 //! Texts in memory.
 ghost use Rattle.std.specs.Prelude.{◌≡◌, [], IfOk, IfSome};
+ghost use Rattle.certificate_text.specs.Partials.{IsPartialText};
+ghost use Rattle.partial_certificate.specs.Partials.{partial_of};
 ghost use Rattle.der_show.specs.Shown.{IsShown};
 
 use crate::known::Known;
 use crate::shown::write_known;
+use certificate_text::write_partial;
+use partial_certificate::PartialCertificate;
 use std::alloc::{AllocError, Global};
 use std::fmt;
 
@@ -45,6 +49,21 @@ pub(crate) fn text_of<D: fmt::Display + Drop>(
 {
     let mut f = fmt::Formatter::new(Text::new(alloc));
     match f.write(value) {
+        Ok(()) => Ok(f.into_inner().octets),
+        Err(_) => Err(AllocError),
+    }
+}
+
+/// The text of what was read of a certificate.
+pub(crate) fn text_of_partial(
+    alloc: Global,
+    partial: &PartialCertificate<'_>,
+    now: Option<u64>,
+) -> Result<Vec<u8>, AllocError>
+    ensures { IfOk result (λ v. IsPartialText now (partial_of partial.now) v.items) }
+{
+    let mut f = fmt::Formatter::new(Text::new(alloc));
+    match write_partial(&mut f, partial, now) {
         Ok(()) => Ok(f.into_inner().octets),
         Err(_) => Err(AllocError),
     }
