@@ -1,19 +1,21 @@
 //! What octets are, in words.
+ghost use Rattle.std.specs.Option.{option_copied};
 ghost use Rattle.std.specs.Prelude.{◌≡◌, IfOk, IsTrue, OnOk, false, not};
-ghost use Rattle.std.specs.Io.KnownBytes.{Appends, Keeps};
-ghost use Rattle.der_cli.specs.Shown.{RefusesShown, ShowsWords, is_broken};
+ghost use Rattle.std.specs.Io.KnownBytes.{Appends};
+ghost use Rattle.der_show.specs.Messages.{text_in};
+ghost use Rattle.der_cli.specs.Shown.{AddsFound, IsTextOf, RefusesShown, ShowsRead, ShowsWords, is_broken};
 
 use crate::options::Options;
 use crate::origin::Origin;
 use crate::report::report_fault;
-use der_show::{Words, why_unread, words_of};
+use der_show::{Unread, Words, text_of_refused, why_unread, words_of};
 use der_walk::Rules;
-use std::alloc::Global;
+use std::alloc::{AllocError, Global};
 use std::io;
 use std::io::Write;
 
-/// Writes what octets are in words, or reports on `err` why they are nothing that is known. Returns whether they are
-/// known, and break no rule of RFC 5280 if that is an error.
+/// Writes what octets are in words. If they are nothing that is known, it writes what was read of a certificate that is
+/// refused, and reports on `err` why. Returns whether they are known, and break no rule of RFC 5280 if that is an error.
 pub(crate) fn show<W: Write, X: Write>(
     alloc: Global,
     options: &Options<'_>,
@@ -30,7 +32,7 @@ pub(crate) fn show<W: Write, X: Write>(
     let found = words_of(alloc, octets, options.present)?;
     match found {
         Some(words) => write_words(options, origin, &words, out, err),
-        None => refuse(origin, octets, out, err),
+        None => refuse(alloc, options, origin, octets, out, err),
     }
 }
 
@@ -61,27 +63,62 @@ fn is_broken(options: &Options<'_>, words: &Words) -> bool
     options.is_strict && !words.keeps_rules
 }
 
-/// Reports that octets are nothing that is known.
+/// Writes what was read of a certificate that is refused, and reports why octets are nothing that is known.
 fn refuse<W: Write, X: Write>(
+    alloc: Global,
+    options: &Options<'_>,
     origin: Origin<'_>,
     octets: &[u8],
     out: &mut W,
     err: &mut X,
 ) -> io::Result<bool>
     ensures refused { IfOk result (λ ok. ok ≡ false) }
-    ensures keeps { OnOk result (Keeps (W.contents out.old) (W.contents out.new)) }
+    ensures shows { OnOk result (ShowsRead options.now.present octets.now (W.contents out.old) (W.contents out.new)) }
 {
+    let unread = why_unread(octets);
+    let found = text_of_unread(alloc, options.present, octets, unread.as_ref())?;
+    write_found(&found, out)?;
     out.flush()?;
-    report_unknown(origin, octets, err)?;
+    report_unknown(origin, octets, unread.as_ref(), err)?;
     Ok(false)
 }
 
+/// What was read of a certificate, in words, by why it is none.
+fn text_of_unread(
+    alloc: Global,
+    present: Option<u64>,
+    octets: &[u8],
+    unread: Option<&Unread<'_>>,
+) -> Result<Option<Vec<u8>>, AllocError>
+    ensures { IfOk result (λ found. IsTextOf present octets.now (option_copied unread.entry) (text_in found)) }
+{
+    match unread {
+        Some(unread) => text_of_refused(alloc, octets, &unread.refused, present),
+        None => Ok(None),
+    }
+}
+
+/// Writes a text, if there is one.
+fn write_found<W: Write>(found: &Option<Vec<u8>>, out: &mut W) -> io::Result<()>
+    ensures { OnOk result (AddsFound (text_in found.now) (W.contents out.old) (W.contents out.new)) }
+{
+    match found {
+        Some(text) => out.write_all(text),
+        None => Ok(()),
+    }
+}
+
 /// Reports where octets aren't elements, or else why they are no certificate, list of revoked certificates or request.
-fn report_unknown<X: Write>(origin: Origin<'_>, octets: &[u8], err: &mut X) -> io::Result<()> {
+fn report_unknown<X: Write>(
+    origin: Origin<'_>,
+    octets: &[u8],
+    unread: Option<&Unread<'_>>,
+    err: &mut X,
+) -> io::Result<()> {
     if report_fault(Rules::Ber, origin, octets, err)? {
         return Ok(());
     }
-    match why_unread(octets) {
+    match unread {
         Some(unread) => writeln!(err, "der: {origin}: {unread}"),
         None => writeln!(err, "der: {origin}: it is nothing that is known"),
     }

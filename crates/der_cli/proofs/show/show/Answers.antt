@@ -1,7 +1,7 @@
 use Rattle.std.proofs.Common.{◌≡◌, ◌∙◌, Bool, Err, IfOk, IsTrue, Ok, OnOk, Result, false, sym, true}
 use Rattle.std.specs.Prelude.{not}
-use Rattle.std.specs.Io.KnownBytes.{Appends, Keeps}
-use Rattle.der_cli.specs.Shown.{RefusesShown, ShowsWords, breaks_rule, is_broken, no_words}
+use Rattle.std.specs.Io.KnownBytes.{Appends}
+use Rattle.der_cli.specs.Shown.{RefusesShown, ShowsRead, ShowsWords, breaks_rule, is_broken, no_words}
 use Rattle.der_cli.proofs.show.show.Goals as goal
 
 no_truth : {P : Type 0} → false ≡ true → P
@@ -54,4 +54,4 @@ returns-in-None-clause-refused g c =
     let old = g.W.Write.contents c.args.out.now in
     let new = g.W.Write.contents c.refuse.new.out in
     let described = rw c.in-None.is at c.in_ok-found.ensures in
-    refusing c.refuse.result (Keeps old new) (RefusesShown o i old new) (no_words described) c.refuse.ensures.keeps
+    refusing c.refuse.result (ShowsRead o.present i old new) (RefusesShown o i old new) (no_words described) c.refuse.ensures.shows
