@@ -23,7 +23,7 @@ use crate::extension_values::extension_value;
 use crate::extensions::extension;
 use crate::partial::partial;
 use crate::reasons::{reason_code, reasons};
-use crate::requests::{certificate_list, certification_request};
+use crate::requests::{certificate_list, certification_request, request_password};
 use crate::times::{compared, contained};
 use crate::unknown::unknown_critical;
 use test_damage::octets_of;
@@ -65,6 +65,7 @@ fn answer_of_octets(alloc: Global, call: &str, octets: &[u8]) -> Result<String, 
         "partial" => partial(alloc, octets),
         "certificate_list" => certificate_list(alloc, octets),
         "certification_request" => certification_request(alloc, octets),
+        "request_password" => request_password(alloc, octets),
         "reason_code" => reason_code(alloc, octets),
         "reasons" => reasons(alloc, octets),
         "has_unknown_critical" => unknown_critical(alloc, octets),

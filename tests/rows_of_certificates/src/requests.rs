@@ -40,12 +40,6 @@ fn fields_text(alloc: Global, request: &CertificationRequest<'_>) -> Result<Stri
         {
             push_extensions(&mut text, attribute.values)?;
         }
-        if attribute
-            .identifier
-            .is(attribute_identifiers::CHALLENGE_PASSWORD)
-        {
-            push_password(&mut text, attribute.values)?;
-        }
     }
     write!(text, " signature {}", request.signature_algorithm.algorithm)?;
     push_octets(&mut text, request.signature.octets)?;
@@ -76,10 +70,33 @@ fn push_extensions(text: &mut String, values: Values<'_>) -> Result<(), AllocErr
     Ok(())
 }
 
-/// Adds the octets of a password, or the refusal as it is printed.
+/// The password of a request: its octets as a text, or the refusal as it is printed.
+pub fn request_password(alloc: Global, octets: &[u8]) -> Result<String, Fault> {
+    let mut text = String::new(alloc);
+    match read_request(octets) {
+        Ok(request) => push_passwords(&mut text, &request)?,
+        Err(refused) => write!(text, "{refused}")?,
+    }
+    Ok(text)
+}
+
+/// Adds the password of each attribute that is one.
+fn push_passwords(text: &mut String, request: &CertificationRequest<'_>) -> Result<(), AllocError> {
+    for attribute in request.info.attributes.iter() {
+        if attribute
+            .identifier
+            .is(attribute_identifiers::CHALLENGE_PASSWORD)
+        {
+            push_password(text, attribute.values)?;
+        }
+    }
+    Ok(())
+}
+
+/// Adds a password.
 fn push_password(text: &mut String, values: Values<'_>) -> Result<(), AllocError> {
     match read_challenge_password(values) {
-        Ok(password) => write!(text, " password {:?}", str::from_utf8(password.bytes).unwrap_or("")),
-        Err(refused) => write!(text, " password {refused}"),
+        Ok(password) => write!(text, "{:?}", str::from_utf8(password.bytes).unwrap_or("")),
+        Err(refused) => write!(text, "{refused}"),
     }
 }

@@ -75,6 +75,7 @@ fn options(rules: Rules) -> Options<'static> {
             limit: Limit::Front,
             colours: false,
         },
+        own_names: None,
         naming: Naming::Unnamed,
         place: None,
         depth: None,
