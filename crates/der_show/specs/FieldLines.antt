@@ -1,5 +1,6 @@
 -- What the private functions that write the lines of a type find.
-use Rattle.std.specs.Prelude.{◌≡◌, ◌↔◌, ℕ, Bool, true, false, IsTrue, ◌&&◌, nat_lt, Option, Some, None, List, ◌++◌, length}
+use Rattle.std.specs.Prelude.{◌≡◌, ◌↔◌, ℕ, Bool, true, false, IsTrue, ◌&&◌, nat_lt, Option, Some, None}
+use Rattle.std.specs.Prelude.{List, ◌++◌, length}
 use Rattle.der_print.specs.Lines.{IsFieldLine}
 use Rattle.der_print.specs.Texts.{content_of}
 use Rattle.der_schema.specs.declared.schema.Schema.{Schema}
@@ -70,7 +71,8 @@ pub record Adds (s : Said) (old new : Written) : Type 0 where
   pub keeps : new.keeps_rules ≡ old.keeps_rules && s.keeps_rules
 
 -- by what is said of all elements of an input
-pub record AddsAll (now : Option ℕ) (sc : Schema) (i : List ℕ) (elements : List Visited) (old new : Written) : Type 0 where
+pub record AddsAll (now : Option ℕ) (sc : Schema) (i : List ℕ) (elements : List Visited) (old new : Written)
+    : Type 0 where
   pub said : Said
   pub are_shown : AreShown now sc i elements said
   pub adds : Adds said old new

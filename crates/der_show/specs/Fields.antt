@@ -42,8 +42,8 @@ joined a b = record {
   keeps_rules = a.keeps_rules && b.keeps_rules;
 }
 
--- what is said of an element after others of an input: nothing in a leaf, no value of a secret one, the words of what it
--- is, or its line, with the name of its field
+-- what is said of an element after others of an input: nothing in a leaf, no value of a secret one, the words of what
+-- it is, or its line, with the name of its field
 pub data IsSaid (now : Option ℕ) (sc : Schema) (i : List ℕ) (before : List Visited) (v : Visited) : Said → Type 0 where
   in_leaf : {s : Said} → IsInLeaf sc i before v → s ≡ lines_alone [] → IsSaid now sc i before v s
   secret : {s : Said} → ¬ IsInLeaf sc i before v → IsSecret sc i before v

@@ -1,5 +1,5 @@
-//! The lines of octets that are of a known type. Of what is secret no value is written, and certificates, lists of revoked
-//! certificates and requests are written in words.
+//! The lines of octets that are of a known type. Of what is secret no value is written, and certificates, lists of
+//! revoked certificates and requests are written in words.
 ghost use Rattle.std.specs.Prelude.{◌≡◌, ◌++◌, IfOk, List, ℕ};
 ghost use Rattle.der_fields.specs.Fields.{label_text};
 ghost use Rattle.der_print.specs.Lines.{IsFieldLine};

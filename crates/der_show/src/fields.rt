@@ -14,10 +14,10 @@ use std::alloc::{AllocError, Global};
 
 /// The words of octets by the first of these types that they are of, by BER: the name of the type, then a line for each
 /// element, with the name of its field, and then the words of each element that is a certificate, a list of revoked
-/// certificates or a request: what is in it has no lines. Of a field that is secret no value is written. None if they are
-/// of none of these types, and an error if there is no memory. None too if it is a certificate, a list of revoked
-/// certificates or a request, since those that aren't DER break a rule, which `why_unread` says, or a private key, since
-/// that is a secret. `now` is the present, as in `words_of`.
+/// certificates or a request: what is in it has no lines. Of a field that is secret no value is written. None if they
+/// are of none of these types, and an error if there is no memory. None too if it is a certificate, a list of revoked
+/// certificates or a request, since those that aren't DER break a rule, which `why_unread` says, or a private key,
+/// since that is a secret. `now` is the present, as in `words_of`.
 pub fn words_by_fields(
     alloc: Global,
     octets: &[u8],

@@ -1,7 +1,7 @@
 //! What octets are, in words: a certificate, a list of revoked certificates, a certification request, a key, or a
 //! message of Kerberos, SNMP or LDAP. The first of these that all the octets are is written, a line for each field.
-//! What is of another known type is written by its elements, each with the name of its field, and the certificates, lists
-//! and requests among them in words.
+//! What is of another known type is written by its elements, each with the name of its field, and the certificates,
+//! lists and requests among them in words.
 //!
 //! ```
 //! match words_of(alloc, octets, Some(now))? {

@@ -20,8 +20,8 @@ pub(crate) enum Manner<'a> {
 }
 
 impl<'a> Manner<'a> {
-    /// How an element of octets is shown that is secret or not, where a leaf with so many elements around it goes on, or
-    /// none does.
+    /// How an element of octets is shown that is secret or not, where a leaf with so many elements around it goes on,
+    /// or none does.
     pub(crate) fn of(
         leaf: Option<usize>,
         octets: &'a [u8],

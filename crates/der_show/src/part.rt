@@ -5,8 +5,8 @@ ghost use Rattle.der_show.specs.InWords.{octets_in};
 
 use der_walk::Element;
 
-/// The octets of an element of octets: as many as its header says. Those of the header alone if it says no number (X.690
-/// 8.1.3.6).
+/// The octets of an element of octets: as many as its header says. Those of the header alone if it says no number
+/// (X.690 8.1.3.6).
 pub(crate) fn octets_of<'a>(octets: &'a [u8], element: &Element<'_>) -> &'a [u8]
     ensures { result.now ≡ octets_in octets.now (visited_of element.now) }
 {

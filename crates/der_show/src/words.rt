@@ -17,8 +17,8 @@ pub struct Words {
     /// How many octets of the text are before its words: the name of a type, and lines of elements. They are words from
     /// the start unless they are by the fields of a type (`words_by_fields`).
     pub words_at: usize,
-    /// False for a certificate or a list of revoked certificates that breaks a rule of RFC 5280 beyond its ASN.1, and for
-    /// a message with such a one among its words. True for anything else.
+    /// False for a certificate or a list of revoked certificates that breaks a rule of RFC 5280 beyond its ASN.1, and
+    /// for a message with such a one among its words. True for anything else.
     pub keeps_rules: bool,
 }
 
