@@ -115,7 +115,7 @@ fn read_tbs<'a>(parts: &mut Cursor<'a>) -> Result<TbsCertificate<'a>, Certificat
 }
 
 /// Reads a UniqueIdentifier under an implicit tag of this number, if it is next.
-fn read_unique_id<'a>(
+pub fn read_unique_id<'a>(
     fields: &mut Cursor<'a>,
     number: u32,
 ) -> Result<Option<BitString<'a>>, Refusal<BerError>>
@@ -126,7 +126,7 @@ fn read_unique_id<'a>(
 }
 
 /// Reads a Version, which is absent iff it is the first.
-fn read_version(fields: &mut Cursor<'_>) -> Result<Version, Refusal<BerError>>
+pub fn read_version(fields: &mut Cursor<'_>) -> Result<Version, Refusal<BerError>>
     ensures { ReadsBy fault_of (λ v. v) (explicit_or Version.V1 0 version) fields.old result fields.new }
 {
     let Some(mut inside) = fields.open_tagged(0)? else {

@@ -20,6 +20,7 @@ mod value_rules;
 pub use algorithm::{AlgorithmIdentifier, SubjectPublicKeyInfo};
 pub use certificate::{Certificate, TbsCertificate, Version, read_certificate};
 pub use extension::{Extension, Extensions};
+pub use list_rules::has_descent;
 pub use lists::{Attributes, ExtensionIter, RelativeNames};
 pub use name::{AttributeTypeAndValue, Name, RelativeDistinguishedName};
 pub use refusal::{CertificateRefusal, Field};

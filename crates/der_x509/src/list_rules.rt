@@ -13,8 +13,8 @@ use crate::name::Name;
 use der_base::header::Tag;
 use der_base::set_of_order::descends;
 
-/// Returns whether attributes of a relative name of the name descend.
-pub(crate) fn has_descent(name: Name<'_>) -> bool
+/// Returns whether attributes of a relative name of the name descend, which are a SET OF (X.690 11.6).
+pub fn has_descent(name: Name<'_>) -> bool
     ensures { IsTrue result ↔ HasDescent name.entry.octets.now }
 {
     let mut left = name.octets;

@@ -1,5 +1,4 @@
 pub mod FieldLaws
 pub mod OpeningLaws
 pub mod PartialLaws
-pub mod VersionLaws
 pub mod WholeLaws

@@ -7,18 +7,18 @@ ghost use Rattle.der_values.specs.Kinds.{bit_strings, integers};
 ghost use Rattle.der_x509.specs.Certificates.{algorithm_identifier, algorithm_of, bits_of, key_info_of, name};
 ghost use Rattle.der_x509.specs.Certificates.{subject_public_key_info, validity, version};
 ghost use Rattle.der_x509.specs.Formats.{explicit_or, optional_implicit, primitive};
-ghost use Rattle.der_x509.specs.Readers.{ReadsBy, fault_of};
 ghost use Rattle.partial_certificate.specs.Openings.{Field, OptionalField};
 ghost use Rattle.partial_certificate.specs.Partials.{AreFirstExtensions, GoesOn, IsTaken, octets_left};
 
 use crate::extensions::first_extensions;
 use crate::opening::open_sequence_in;
-use crate::version::read_version;
 use der_base::error::BerError;
 use der_base::header::{Class, Tag};
 use der_cursor::{Cursor, Refusal};
 use der_values::BitString;
-use der_x509::parts::{read_algorithm, read_key_info, read_name, read_validity};
+use der_x509::parts::{
+    read_algorithm, read_key_info, read_name, read_unique_id, read_validity, read_version,
+};
 use der_x509::{AlgorithmIdentifier, Extensions, Name, SubjectPublicKeyInfo, Validity, Version};
 
 /// The octets of the fields that aren't read yet. None after a field that isn't in order.
@@ -131,17 +131,6 @@ impl<'a> Fields<'a> {
             Err(_) => None,
         }
     }
-}
-
-/// Reads a UniqueIdentifier under an implicit tag of this number, if it is next.
-fn read_unique_id<'a>(
-    fields: &mut Cursor<'a>,
-    number: u32,
-) -> Result<Option<BitString<'a>>, Refusal<BerError>>
-    ensures { ReadsBy fault_of (option_map bits_of) (optional_implicit number (bit_strings Rules.Der))
-        fields.old result fields.new }
-{
-    fields.implicit(number).optional_bits()
 }
 
 /// The extensions under the explicit tag [3], up to the first that isn't in order.

@@ -6,6 +6,5 @@ mod fields;
 pub mod laws;
 mod opening;
 mod partial;
-mod version;
 
 pub use partial::{PartialCertificate, read_partial_certificate};

@@ -21,7 +21,6 @@ mod mailbox;
 mod mappings;
 mod names;
 mod notices;
-mod order;
 mod points;
 mod policies;
 mod readers;

@@ -15,12 +15,12 @@ ghost use Rattle.pkix_rules.specs.ValueRules.{BreaksValue};
 use crate::host_name::is_preferred_name;
 use crate::identifier::has_octets;
 use crate::mailbox::{LocalCharacters, is_mailbox};
-use crate::order::has_descent;
 use crate::types::ValueType;
 use crate::value_rules::ValueRule;
 use der_base::any::Any;
 use der_base::header::{Class, Tag};
 use der_extensions::{GeneralName, GeneralNames, read_general_names};
+use der_x509::has_descent;
 
 /// A rule of RFC 5280 about a general name.
 #[derive(Clone, Copy, Debug, PartialEq)]
