@@ -29,6 +29,7 @@ pub mod Pretty
 pub mod Refusal
 pub mod Rules
 pub mod SetOfOrder
+pub mod Short
 pub mod Spelling
 pub mod Stable
 pub mod Text

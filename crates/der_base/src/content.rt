@@ -1,6 +1,6 @@
 //! Framing: where the content of an element ends, by BER (X.690 8.1.3). The octets inside a definite
 //! length aren't looked into.
-ghost use Rattle.std.specs.Prelude.{◌≡◌, ◌≤◌, ◌++◌, List, ℕ, MatchBool};
+ghost use Rattle.std.specs.Prelude.{◌≡◌, ◌≤◌, ◌++◌, List, ℕ, MatchBool, MatchOption};
 ghost use Rattle.der_base.specs.declared.header.Length.{Length};
 ghost use Rattle.der_base.specs.Answer.{MatchAnswer};
 ghost use Rattle.der_base.specs.Content.{BeginsWithContent, ContentRefuses, ContentLacks};
@@ -77,5 +77,18 @@ pub fn begins_with_end_marker(i: &[u8]) -> bool
         ((rest : List ℕ) × (i.now ≡ end_marker ++ rest))
         ((rest : List ℕ) → ¬ (i.now ≡ end_marker ++ rest)) }
 {
-    matches!(i, [0, 0, ..])
+    after_end_marker(i).is_some()
+}
+
+/// What follows the end marker at the start of the input, if there is one (X.690 8.1.5).
+#[inline]
+pub fn after_end_marker(i: &[u8]) -> Option<&[u8]>
+    ensures { MatchOption result
+        ((rest : List ℕ) → ¬ (i.now ≡ end_marker ++ rest))
+        (λ x. i.now ≡ end_marker ++ x.now) }
+{
+    match i {
+        [0, 0, after @ ..] => Some(after),
+        _ => None,
+    }
 }

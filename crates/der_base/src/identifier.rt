@@ -1,9 +1,9 @@
 //! Identifier octets: a class, whether the content is constructed, and a tag number (X.690 8.1.2).
-ghost use Rattle.std.specs.Prelude.{◌≡◌, ◌+◌, ◌^◌, ◌<◌, ◌≤◌, ◌∷◌, ◌++◌};
+ghost use Rattle.std.specs.Prelude.{◌≡◌, ◌+◌, ◌/◌, ◌^◌, ◌<◌, ◌≤◌, ◌∷◌, ◌++◌};
 ghost use Rattle.der_base.specs.Answer.{MatchAnswer};
 ghost use Rattle.der_base.specs.Fault.{HasBadTag};
 ghost use Rattle.der_base.specs.Inner.Identifier.{ReadsIdentifier, IsCutIdentifier};
-ghost use Rattle.der_base.specs.Octets.{leading_bits, groups};
+ghost use Rattle.der_base.specs.Octets.{class_number, leading_bits, groups};
 ghost use Rattle.der_base.specs.Refusal.{invalid_tag};
 
 use crate::error::{BerError, Err, IResult, Needed};
@@ -67,13 +67,40 @@ pub fn first_octet(first: u8) -> (Class, bool, u8)
     ensures octet { first ≡ leading_bits result.0 result.1 + result.2 }
     ensures low { result.2 < 32 }
 {
-    let class = match first / 64 {
+    (class_of(first), first / 32 % 2 == 1, first % 32)
+}
+
+/// The class in a first identifier octet (8.1.2.2).
+#[inline]
+pub fn class_of(first: u8) -> Class
+    ensures { class_number result ≡ first / 64 }
+{
+    match first / 64 {
         0 => Class::Universal,
         1 => Class::Application,
         2 => Class::ContextSpecific,
         _ => Class::Private,
+    }
+}
+
+/// The first identifier octet with no bit of the tag number: the class, and whether the content is
+/// constructed (8.1.2.2, 8.1.2.5).
+#[inline]
+pub fn leading_octet(class: Class, constructed: bool) -> u8
+    ensures bits { result ≡ leading_bits class constructed }
+    ensures small { result ≤ 224 }
+{
+    let class_bits = match class {
+        Class::Universal => 0,
+        Class::Application => 0x40,
+        Class::ContextSpecific => 0x80,
+        Class::Private => 0xc0,
     };
-    (class, first / 32 % 2 == 1, first % 32)
+    if constructed {
+        class_bits + 0x20
+    } else {
+        class_bits
+    }
 }
 
 /// Reads the tag number after the first octet of the long form (8.1.2.4.2). The contract takes that

@@ -3,10 +3,10 @@
 #![tactic(auto)]
 
 pub mod any;
-mod content;
+pub mod content;
 pub mod error;
 pub mod header;
-mod identifier;
+pub mod identifier;
 pub mod integer;
 pub mod laws;
 mod length;
@@ -14,6 +14,7 @@ pub mod oid;
 mod oid_text;
 pub mod rules;
 pub mod set_of_order;
+pub mod short;
 pub mod spans;
 pub mod text;
 pub mod time;

@@ -36,6 +36,14 @@ pub fn read_text(tag: Tag, content: &[u8]) -> Option<&str>
     }
 }
 
+/// Whether this project keeps strings of a type as text: those that `read_text` reads.
+#[inline]
+pub fn is_text_type(tag: Tag) -> bool
+    ensures { result ≡ is_text_type tag.0 }
+{
+    matches!(tag.0, 7 | 12 | 18..=22 | 25..=27)
+}
+
 /// Whether an octet is a character of a NumericString.
 #[inline]
 fn is_numeric(b: u8) -> bool

@@ -11,8 +11,9 @@ ghost use Rattle.der_canon.specs.Same.{is_in_parts, is_string, no_extras};
 
 use crate::error::NotCanonical;
 use crate::value::check_value;
-use der_base::header::Class;
+use der_base::header::{Class, Tag};
 use der_base::rules::Rules;
+use der_base::text::is_text_type;
 use der_walk::{Cause, Element, Refusal, Walk};
 
 /// How an element is written.
@@ -216,7 +217,7 @@ pub(crate) fn is_bits_in_parts(element: &Element<'_>) -> bool
 fn is_string(number: u32) -> bool
     ensures { result ≡ is_string number }
 {
-    matches!(number, 3 | 4 | 7 | 12 | 18..=28 | 30)
+    is_text_type(Tag(number)) || matches!(number, 3 | 4 | 23 | 24 | 28 | 30)
 }
 
 /// Refuses an element that was read. A constructed one is open, so it is in the path already.

@@ -10,7 +10,8 @@ use Rattle.der_base.specs.Headers.{LeadingHeader}
 use Rattle.der_base.specs.Octets.{leading_bits}
 use Rattle.der_base.specs.Rules.{SpellsHeaderBy}
 use Rattle.der_nodes.specs.declared.element.Element.{Element}
-use Rattle.der_nodes.specs.Inner.{IsShort, universal_element}
+use Rattle.der_base.specs.Short.{IsShort}
+use Rattle.der_nodes.specs.Inner.{universal_element}
 use Rattle.der_nodes.proofs.ShortLaws.{IsListOctet, short_header, short_der_header, short_octets}
 use Rattle.der_check.specs.declared.tape.Tape.{Tape}
 use Rattle.der_check.specs.Elements.{AreElements, MayBeConstructed, MayHaveContent}

@@ -9,5 +9,4 @@ mod rules;
 mod tape;
 
 pub use elements::{Listed, are_elements, check_element, is_element, list_element, list_elements};
-pub use reader::after_end_marker;
 pub use rules::may_be_constructed;

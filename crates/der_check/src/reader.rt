@@ -1,9 +1,8 @@
 //! Elements and what is inside them: they call each other, a depth less at each constructed element. With `LISTS` they
 //! list on a tape what they read. Without, the tape stays as it is, and the compiled code has none.
-ghost use Rattle.std.specs.Prelude.{◌≡◌, ◌↔◌, ◌+◌, ◌-◌, ◌≤◌, ◌<◌, ◌++◌, ℕ, List, length};
-ghost use Rattle.std.specs.Prelude.{IfSome, IsTrue, MatchOption};
+ghost use Rattle.std.specs.Prelude.{◌≡◌, ◌↔◌, ◌+◌, ◌-◌, ◌≤◌, ◌<◌, length};
+ghost use Rattle.std.specs.Prelude.{IfSome, IsTrue};
 ghost use Rattle.der_base.specs.Header.{class_of, is_constructed, number_of, length_of};
-ghost use Rattle.der_base.specs.Spelling.{end_marker};
 ghost use Rattle.der_check.specs.Elements.{AreElements};
 ghost use Rattle.der_check.specs.Readers.{BeginsWithContent, BeginsWithElement, BeginsWithElements};
 ghost use Rattle.der_check.specs.Readers.{BeginsWithOpenContent, Finds, Follows, IsPlain};
@@ -12,9 +11,11 @@ ghost use Rattle.der_check.specs.Tapes.{KeepsContent, KeepsElement, KeepsElement
 use crate::element::{element_of, universal_element};
 use crate::rules::{is_content, may_be_constructed, may_have_content};
 use crate::tape::{Tape, begin, list};
+use der_base::content::after_end_marker;
 use der_base::header::{Header, Length};
 use der_base::rules::Rules;
-use der_nodes::{Slot, is_list_octet, read_short};
+use der_base::short::read_short;
+use der_nodes::{Slot, is_list_octet};
 
 /// Reads octets, which end at an offset of the input. Returns whether they are elements, one after another.
 #[cycle(reader)]
@@ -259,24 +260,5 @@ fn read_open_content<'a, N: Slot, const LISTS: bool>(
             Some(after) => rest = after,
             None => return None,
         }
-    }
-}
-
-/// What follows the end marker at the start of the input, if there is one (8.1.5).
-pub fn after_end_marker(i: &[u8]) -> Option<&[u8]>
-    ensures { MatchOption result
-        ((rest : List ℕ) → i.now ≡ end_marker ++ rest → ⊥)
-        (λ x. i.now ≡ end_marker ++ x.now) }
-{
-    let Some((first, following)) = i.split_first() else {
-        return None;
-    };
-    let Some((second, after)) = following.split_first() else {
-        return None;
-    };
-    if *first == 0 && *second == 0 {
-        Some(after)
-    } else {
-        None
     }
 }

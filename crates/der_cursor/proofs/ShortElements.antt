@@ -12,14 +12,14 @@ use Rattle.der_cursor.specs.Elements.{IsShortElement, MarkerFollows, SpellsEleme
 
 module _ (c : Class) (p : Bool) (t : ℕ) (i w rest : List ℕ) (s : IsShortElement c p t i w rest) where
   begins : i ≡ identifier c p t ++ length w ∷ (w ++ rest)
-  begins = s.2 ∙ ap (λ l. l ++ length w ∷ (w ++ rest)) (sym (identifier_short c p t s.0))
+  begins = s.1.1 ∙ ap (λ l. l ++ length w ∷ (w ++ rest)) (sym (identifier_short c p t s.0))
 
   der_header : BeginsWithDerHeader i c p t (length w) (w ++ rest)
   der_header = record {
     octets = begins ∙ sym (append_assoc (identifier c p t) (length w ∷ []) (w ++ rest))
-        ∙ ap (λ l. identifier c p t ++ l ++ (w ++ rest)) (sym (shortest_short (length w) s.1));
+        ∙ ap (λ l. identifier c p t ++ l ++ (w ++ rest)) (sym (shortest_short (length w) s.1.0));
     number = omega (arith, s.0);
-    length = omega (arith, s.1);
+    length = omega (arith, s.1.0);
   }
 
   header : LeadingHeader
@@ -30,14 +30,14 @@ module _ (c : Class) (p : Bool) (t : ℕ) (i w rest : List ℕ) (s : IsShortElem
     following = length w ∷ (w ++ rest);
     octets = begins;
     number = omega (arith, s.0);
-    length = (length w ∷ [], (omega (arith, s.1), inl (s.1, refl, refl)), refl);
+    length = (length w ∷ [], (omega (arith, s.1.0), inl (s.1.0, refl, refl)), refl);
   }
 
   pub short_spells : (r : Rules) → SpellsElement r c p t i (w, rest)
   short_spells Ber =
       let octets = begins ∙ sym (append_assoc (identifier c p t) (length w ∷ []) (w ++ rest))
       ∙ sym (append_assoc (identifier c p t ++ length w ∷ []) w rest) in
-      (omega (arith, s.0), omega arith, inl (length w ∷ [], (omega (arith, s.1), inl (s.1, refl, refl)), octets))
+      (omega (arith, s.0), omega arith, inl (length w ∷ [], (omega (arith, s.1.0), inl (s.1.0, refl, refl)), octets))
   short_spells Der = der_header
 
   pub short_marker : (r : Rules) → MarkerFollows r i 0

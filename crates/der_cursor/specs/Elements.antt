@@ -16,6 +16,7 @@ use Rattle.der_base.specs.Exactly.{AnswersExactly}
 use Rattle.der_base.specs.Fault.{DerHeaderRefuses}
 use Rattle.der_base.specs.Header.{class_of, is_constructed, number_of, length_of, raw_tag_of}
 use Rattle.der_base.specs.Headers.{BeginsWithDerHeader, BeginsWithHeader, LeadingHeader}
+use Rattle.der_base.specs.Short.{IsShort}
 use Rattle.der_base.specs.Octets.{identifier, leading_bits}
 use Rattle.der_base.specs.Refusal.{Refusal, unexpected_class, unexpected_tag, construct_expected, construct_unexpected}
 use Rattle.der_base.specs.Rules.{SpellsHeaderBy}
@@ -30,7 +31,7 @@ SpellsElement Der c p t i v = BeginsWithDerHeader i c p t (length v.0) (v.0 ++ v
 -- i begins with an element of this class, constructed bit and number whose header has two octets (8.1.2.2, 8.1.3.4)
 abbrev pub IsShortElement : Class → Bool → ℕ → List ℕ → List ℕ → List ℕ → Type 0
 IsShortElement c p t i w rest =
-    (t < 31) × (length w < 128) × (i ≡ (leading_bits c p + t) ∷ length w ∷ w ++ rest)
+    (t < 31) × IsShort i (leading_bits c p + t) w rest
 
 -- the parts of an element, and what follows it
 abbrev pub leading : Class → Bool → ℕ → List ℕ × List ℕ → LeadingElement

@@ -1,10 +1,9 @@
 //! The cursor.
-ghost use Rattle.std.specs.Prelude.{◌≡◌, ◌+◌, ◌<◌, ◌/◌, ◌↔◌, true, false, IfOk, IfSome, IsTrue, [], slice_get};
+ghost use Rattle.std.specs.Prelude.{◌≡◌, ◌↔◌, true, false, IfOk, IfSome, IsTrue, [], slice_get};
 ghost use Rattle.der_base.specs.Answer.{MatchAnswer};
 ghost use Rattle.der_base.specs.declared.header.Class.{Class};
 ghost use Rattle.der_base.specs.declared.rules.Rules.{Rules};
 ghost use Rattle.der_base.specs.Header.{length_of};
-ghost use Rattle.der_base.specs.Octets.{class_number, leading_bits};
 ghost use Rattle.der_cursor.specs.Cursors.{octets_left, place_of, list_end_of, refusal_at, advanced};
 ghost use Rattle.der_cursor.specs.Cursors.{class_wanted, number_wanted, IsTagged, StartsAt, Finds};
 ghost use Rattle.der_cursor.specs.Cursors.{Reads, ReadsLast, IsLast, OpensAt, OpensType, OpensTagged};
@@ -18,7 +17,9 @@ use crate::refusal::Refusal;
 use der_base::any::Any;
 use der_base::error::{BerError, Err as Refused, ErrorKind, IResult, ParseError, refuse_cut_item};
 use der_base::header::{Class, Length, Tag};
+use der_base::identifier::{class_of, leading_octet};
 use der_base::rules::Rules;
+use der_base::short::read_short;
 use std::alloc::Global;
 
 /// The octets of an input, or of the content of an element, that aren't read yet. A cursor knows its
@@ -426,38 +427,15 @@ fn find_short<'a>(i: &'a [u8], class: Class, constructed: bool, tag: Tag) -> Opt
     if tag.0 >= 31 {
         return None;
     }
-    let [first, size, following @ ..] = i else {
-        return None;
-    };
-    let size = usize::from(*size);
-    if *first != identifier_octet(class, constructed, tag)
-        || size >= 128
-        || size > following.len()
-    {
+    let short = read_short(i)?;
+    if short.first != leading_octet(class, constructed) + tag.0 as u8 {
         return None;
     }
-    let (content, rest) = following.split_at(size);
     Some(Found {
-        content,
+        content: short.content,
         marker: 0,
-        rest,
+        rest: short.rest,
     })
-}
-
-/// The identifier octet of a tag number below 31 (8.1.2.2).
-#[inline(always)]
-fn identifier_octet(class: Class, constructed: bool, tag: Tag) -> u8
-    requires { tag.0 < 31 }
-    ensures { result ≡ leading_bits class constructed + tag.0 }
-{
-    let class_bits: u8 = match class {
-        Class::Universal => 0,
-        Class::Application => 0x40,
-        Class::ContextSpecific => 0x80,
-        Class::Private => 0xc0,
-    };
-    let constructed_bit: u8 = if constructed { 0x20 } else { 0 };
-    class_bits + constructed_bit + tag.0 as u8
 }
 
 /// How many octets of an end marker follow a content of this length (8.1.3.6).
@@ -518,18 +496,6 @@ pub(crate) fn read_any<'a>(rules: Rules, i: &'a [u8]) -> IResult<&'a [u8], Any<'
     match rules {
         Rules::Ber => Any::from_ber(i),
         Rules::Der => Any::from_der(i),
-    }
-}
-
-/// The class of a first identifier octet (8.1.2.2).
-pub(crate) fn class_of(octet: u8) -> Class
-    ensures { class_number result ≡ octet / 64 }
-{
-    match octet {
-        0..0x40 => Class::Universal,
-        0x40..0x80 => Class::Application,
-        0x80..0xc0 => Class::ContextSpecific,
-        _ => Class::Private,
     }
 }
 

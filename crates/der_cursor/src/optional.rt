@@ -9,11 +9,12 @@ ghost use Rattle.der_cursor.specs.Elements.{IsNext};
 ghost use Rattle.der_values.specs.Kinds.{bit_strings, booleans, borrowed_octets, identifiers, integers, numbers};
 ghost use Rattle.der_values.specs.Kinds.{octet_strings, texts, times};
 
-use crate::cursor::{Cursor, class_of, read_any};
+use crate::cursor::{Cursor, read_any};
 use crate::refusal::Refusal;
 use der_base::any::Any;
 use der_base::error::{BerError, Err as Refused, refuse_cut_item};
 use der_base::header::{Class, Tag};
+use der_base::identifier::class_of;
 use der_base::rules::Rules;
 use der_base::time::ASN1DateTime;
 use der_values::{BitString, ObjectIdentifier};

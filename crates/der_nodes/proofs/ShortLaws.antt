@@ -15,7 +15,8 @@ use Rattle.der_base.proofs.Octets.ShortestLengths.{shortest_short}
 use Rattle.der_nodes.specs.declared.element.Element.{Element}
 use Rattle.der_nodes.specs.BerInner.{WritesElement, WritesFramed, WritesItems}
 use Rattle.der_nodes.specs.FaultPlaces.{ShowsFaultAt, ItemsRefuseAt, DerShowsFaultAt, DerItemsRefuseAt}
-use Rattle.der_nodes.specs.Inner.{IsShort, IsPlainLeaf, WritesDerElement, WritesDerItems, universal_element}
+use Rattle.der_base.specs.Short.{IsShort}
+use Rattle.der_nodes.specs.Inner.{IsPlainLeaf, WritesDerElement, WritesDerItems, universal_element}
 use Rattle.der_nodes.specs.Places.{overlay}
 use Rattle.der_nodes.proofs.BerElements.{element_at, is_element, begins_at}
 use Rattle.der_nodes.proofs.BerFaultPlaces as ber

@@ -31,10 +31,6 @@ IsDerLeafOf p t w = (x : Content) × (p ≡ false) × IsDerLeaf t x × (w ≡ co
 abbrev pub IsPlainLeaf : ℕ → List ℕ → Type 0
 IsPlainLeaf t w = (1 ≤ t) × (t < 31) × IsDerLeafOf false t w
 
--- i begins with an identifier octet and a length of one octet, the content w follows, and then rest
-abbrev pub IsShort : List ℕ → ℕ → List ℕ → List ℕ → Type 0
-IsShort i first w rest = (length w < 128) × (i ≡ first ∷ length w ∷ w ++ rest)
-
 -- the element of a universal type with a header of two octets
 abbrev pub universal_element : Bool → ℕ → ℕ → ℕ → ℕ → Element
 universal_element p t size end inside = record {

@@ -18,11 +18,12 @@ ghost use Rattle.der_nodes.specs.FaultPlaces.{InsideRefusesAt};
 use crate::element::{Element, Slot, element_of, put};
 use crate::framing::{frame_content, frame_to_end_marker, read_next};
 use crate::leaf::{check_ber_leaf, is_list};
-use crate::short::{is_list_octet, is_plain_leaf, read_short, universal_element};
+use crate::short::{is_list_octet, is_plain_leaf, universal_element};
 use crate::tape::{Progress, Tape};
 use der_base::MAX_RECURSION;
 use der_base::error::{BerError, Err, IResult, refuse_cut_item};
 use der_base::header::{Header, Length, Tag, ber_read_element_header};
+use der_base::short::read_short;
 use der_base::spans::ber_read_definite;
 
 /// Whether the values of framed elements are accepted, or the first error.

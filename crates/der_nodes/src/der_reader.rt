@@ -15,11 +15,12 @@ ghost use Rattle.der_nodes.specs.Inner.{AnswersDerItems, FramesDer, IsDerClosed,
 
 use crate::element::{Slot, element_of, put};
 use crate::leaf::{check_der_leaf, is_list};
-use crate::short::{is_list_octet, is_plain_leaf, read_short, universal_element};
+use crate::short::{is_list_octet, is_plain_leaf, universal_element};
 use crate::tape::Tape;
 use der_base::MAX_OBJECT_SIZE;
 use der_base::error::{BerError, Err, IResult, Needed, refuse_cut_item};
 use der_base::header::{Header, Tag, der_read_element_header};
+use der_base::short::read_short;
 
 /// One element before octets that end at an offset of the input. It and what is inside it are written.
 /// Returns what follows. The offset of an error is that of the innermost element that shows it.

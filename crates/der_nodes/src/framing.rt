@@ -1,14 +1,14 @@
 //! Framing that keeps the offset of an error: where the content of an element ends, by BER (X.690
 //! 8.1.3). The octets inside a definite length aren't looked into.
-ghost use Rattle.std.specs.Prelude.{◌≡◌, ◌+◌, ◌-◌, ◌*◌, ◌^◌, ◌<◌, ◌≤◌, ◌++◌, List, ℕ, IfOk, MatchBool, length};
+ghost use Rattle.std.specs.Prelude.{◌≡◌, ◌+◌, ◌-◌, ◌*◌, ◌^◌, ◌<◌, ◌≤◌, IfOk, length};
 ghost use Rattle.der_base.specs.declared.header.Length.{Length};
 ghost use Rattle.der_base.specs.Answer.{MatchAnswer};
 ghost use Rattle.der_base.specs.Content.{BeginsWithContent, ContentLacks};
-ghost use Rattle.der_base.specs.Spelling.{end_marker};
 ghost use Rattle.der_nodes.specs.BerInner.{FramingRefusesAt, StandsNext};
 ghost use Rattle.der_nodes.specs.FaultPlaces.{InsideRefusesAt};
 
 use crate::tape::Progress;
+use der_base::content::begins_with_end_marker;
 use der_base::error::{BerError, Err, IResult};
 use der_base::header::{Header, Length, ber_read_element_header};
 use der_base::spans::ber_read_definite;
@@ -111,14 +111,4 @@ pub(crate) fn read_next<'a>(
         return Ok((behind, None));
     }
     Ok((behind, Some(header)))
-}
-
-/// Whether the input begins with the two octets of an end marker (X.690 8.1.5).
-#[inline]
-fn begins_with_end_marker(i: &[u8]) -> bool
-    ensures { MatchBool result
-        ((rest : List ℕ) × (i.now ≡ end_marker ++ rest))
-        ((rest : List ℕ) → ¬ (i.now ≡ end_marker ++ rest)) }
-{
-    matches!(i, [0, 0, ..])
 }

@@ -19,4 +19,4 @@ pub use parser::{
     parse_ber_nodes_placed, parse_der_nodes, parse_der_nodes_into, parse_der_nodes_placed,
 };
 pub use reading::{Counted, PlacedError, PlacedResult};
-pub use short::{Short, is_list_octet, is_plain_leaf, read_short};
+pub use short::{is_list_octet, is_plain_leaf};

@@ -1,46 +1,17 @@
-//! Elements as most are: a header of two octets, and in a primitive element of class Universal a content
-//! that DER allows. They are read by these few tests; any other element is read whole. Each reader calls
-//! them itself, since a function for both would test the rules at each element.
-ghost use Rattle.std.specs.Prelude.{◌≡◌, ◌⊎◌, ◌↔◌, ◌+◌, ◌≤◌, false, IfSome, IsTrue, length};
+//! What is asked of an element with a header of two octets, as most are: a list, or in a primitive element
+//! of class Universal a content that DER allows. Any other element is read whole. Each reader calls these
+//! itself, since a function for both would test the rules at each element.
+ghost use Rattle.std.specs.Prelude.{◌≡◌, ◌⊎◌, ◌↔◌, ◌+◌, ◌≤◌, false, IsTrue};
 ghost use Rattle.der_base.specs.Leaf.{is_list, is_mapped, is_time};
 ghost use Rattle.der_base.specs.Text.{is_text_type};
-ghost use Rattle.der_nodes.specs.Inner.{IsDerLeafOf, IsPlainLeaf, IsShort, universal_element};
+ghost use Rattle.der_nodes.specs.Inner.{IsDerLeafOf, IsPlainLeaf, universal_element};
 
 use crate::element::Element;
 use crate::leaf::check_der_leaf;
 use der_base::header::{Class, Tag};
 use der_base::rules::Rules;
+use der_base::text::is_text_type;
 use der_values::{read_text, read_time};
-
-/// The parts of an element with a header of two octets.
-#[derive(Clone, Copy)]
-pub struct Short<'a> {
-    /// The identifier octet, if the tag number is below 31.
-    pub first: u8,
-    pub content: &'a [u8],
-    /// What follows the element.
-    pub rest: &'a [u8],
-}
-
-/// Splits an element whose length is one octet (8.1.3.4), if its content is whole.
-#[inline(always)]
-pub fn read_short(i: &[u8]) -> Option<Short<'_>>
-    ensures { IfSome result (λ x. IsShort i.now x.first x.content.now x.rest.now) }
-{
-    let [first, size, behind @ ..] = i else {
-        return None;
-    };
-    let size = usize::from(*size);
-    if size >= 128 || size > behind.len() {
-        return None;
-    }
-    let (content, rest) = behind.split_at(size);
-    Some(Short {
-        first: *first,
-        content,
-        rest,
-    })
-}
 
 /// Whether it is the identifier octet of a SEQUENCE or a SET (8.9.1, 8.11.1).
 #[inline(always)]
@@ -64,8 +35,8 @@ pub fn is_plain_leaf(first: u8, content: &[u8]) -> bool
         5 => is_leaf(Tag::Null, content),
         6 => is_leaf(Tag::Oid, content),
         10 => is_leaf(Tag::Enumerated, content),
-        12 | 18 | 19 | 20 | 22 | 26 => is_text(first, content),
         23 | 24 => is_time(first, content),
+        _ if is_text_type(Tag(u32::from(first))) => is_text(first, content),
         _ => false,
     }
 }

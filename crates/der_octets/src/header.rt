@@ -2,11 +2,11 @@
 ghost use Rattle.std.specs.Prelude.{◌≡◌, ◌≤◌, ◌++◌, Bool, length};
 ghost use Rattle.der_base.specs.declared.header.Class.{Class};
 ghost use Rattle.der_base.specs.Octets.{identifier, shortest_length, shortest_integer, octets, groups, needs_zero};
-ghost use Rattle.der_base.specs.Octets.{leading_bits};
 ghost use Rattle.der_octets.specs.Room.{PutsBefore};
 
 use crate::octets::{write_octet, write_octets};
 use der_base::header::{Class, Tag};
+use der_base::identifier::leading_octet;
 
 /// How many identifier octets a tag number has (8.1.2).
 #[tactic(auto, using(der_base::proofs::Octets::Numbers::identifier_short_length, der_base::proofs::Octets::Numbers::identifier_long_length))]
@@ -93,20 +93,6 @@ pub fn write_identifier(
         let begin = write_groups(out, end, u64::from(tag.0));
         write_octet(out, begin, leading + 31)
     }
-}
-
-/// The first identifier octet, with no bit of the tag number (8.1.2.2, 8.1.2.5).
-fn leading_octet(class: Class, constructed: bool) -> u8
-    ensures value { result ≡ leading_bits class constructed }
-    ensures small { result ≤ 224 }
-{
-    let class = match class {
-        Class::Universal => 0,
-        Class::Application => 0x40,
-        Class::ContextSpecific => 0x80,
-        Class::Private => 0xc0,
-    };
-    if constructed { class + 0x20 } else { class }
 }
 
 /// Writes a number before an offset, in the fewest groups of seven bits (8.1.2.4.2, 8.19.2).

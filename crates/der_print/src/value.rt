@@ -22,6 +22,7 @@ use crate::style::Limit;
 use crate::text::{Quoted, is_printable_ascii};
 use crate::time::Moment;
 use der_base::header::{Class, Tag};
+use der_base::text::is_text_type;
 use der_base::time::read_time;
 use der_walk::Element;
 use oid_names::{OwnNames, name_among};
@@ -117,10 +118,7 @@ fn write_universal<'n, W: fmt::Write>(
 pub fn is_quoted_type(number: u32) -> bool
     ensures { result ≡ is_quoted_type number }
 {
-    matches!(
-        number,
-        7 | 12 | 18 | 19 | 20 | 21 | 22 | 25 | 26 | 27 | 28 | 30
-    )
+    is_text_type(Tag(number)) || matches!(number, 28 | 30)
 }
 
 /// Writes a string in quotes.

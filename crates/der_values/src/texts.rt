@@ -23,7 +23,7 @@ pub fn read_text(tag: Tag, octets: &[u8]) -> Result<&str, BerError>
 
 /// The octets of a BMPString (8.23.9), which are UTF-16. Unsupported for an odd number of octets,
 /// StringInvalidCharset for a surrogate without its partner.
-pub(crate) fn read_bmp_string(octets: &[u8]) -> Result<&[u8], BerError>
+pub fn read_bmp_string(octets: &[u8]) -> Result<&[u8], BerError>
     ensures { Decodes (λ v. v.now) (texts 30) octets.now result }
 {
     if octets.len() % 2 == 1 {

@@ -26,7 +26,7 @@ pub fn read_time(rules: Rules, tag: Tag, octets: &[u8]) -> Result<ASN1DateTime, 
 
 /// The fields of a UTCTime or a GeneralizedTime, with the two digits of a UTCTime's year. The errors are
 /// those of `read_time`.
-pub(crate) fn read_moment(rules: Rules, tag: Tag, octets: &[u8]) -> Result<ASN1DateTime, BerError>
+pub fn read_moment(rules: Rules, tag: Tag, octets: &[u8]) -> Result<ASN1DateTime, BerError>
     requires { IsTrue (is_time tag.0) }
     ensures { Decodes (λ v. v) (moments rules tag.0) octets.now result }
 {

@@ -11,10 +11,11 @@ use crate::path::Path;
 use crate::reason::Reason;
 use crate::refusal::Refusal;
 use arrayvec::ArrayVec;
+use der_base::content::after_end_marker;
 use der_base::error::{BerError, Err as Refused, Needed};
 use der_base::header::{Class, Header, Length, Tag};
 use der_base::rules::Rules;
-use der_check::{after_end_marker, may_be_constructed};
+use der_check::may_be_constructed;
 use der_contents::check_content;
 
 /// How many elements may be around an element.

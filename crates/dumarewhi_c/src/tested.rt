@@ -3,7 +3,6 @@ ghost use Rattle.std.specs.Prelude.{◌≡◌, Result, false};
 ghost use Rattle.der_base.specs.declared.error.Error.{Error as BerError};
 ghost use Rattle.der_base.specs.declared.error.OidParseError.{OidParseError};
 ghost use Rattle.der_base.specs.OidArcs.{octets_of_arcs};
-ghost use Rattle.der_base.specs.Text.{is_text_type};
 ghost use Rattle.der_writer.specs.Written.{PutsArcs};
 ghost use Rattle.dumarewhi_c.specs.ErrorNumbers.{number_of_result};
 ghost use Rattle.dumarewhi_c.specs.Tested.{PutsAnyText, PutsInteger, PutsTime, number_of_arcs};
@@ -16,6 +15,7 @@ use crate::time::DmTime;
 use der_base::error::{BerError, OidParseError};
 use der_base::header::Tag;
 use der_base::integer::check_fewest_octets;
+use der_base::text::is_text_type;
 use der_writer::Writer;
 
 /// An INTEGER with these content octets, in two's complement (X.690 8.3), if they are the fewest for their number.
@@ -100,18 +100,11 @@ fn put_text_of(fields: &mut Writer<'_>, tag: Tag, octets: &[u8]) -> Result<(), B
 {
     if tag == Tag::BmpString {
         fields.put_bmp(octets)
-    } else if has_text(tag) {
+    } else if is_text_type(tag) {
         fields.put_text(tag, octets)
     } else {
         Err(BerError::BerTypeError)
     }
-}
-
-/// Whether the type is kept as a text.
-fn has_text(tag: Tag) -> bool
-    ensures { result ≡ is_text_type tag.0 }
-{
-    matches!(tag.0, 7 | 12 | 18..=22 | 25..=27)
 }
 
 /// A UTCTime (23, 11.8) or a GeneralizedTime (24, 11.7), in universal time.

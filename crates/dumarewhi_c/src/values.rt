@@ -5,7 +5,6 @@ ghost use Rattle.der_base.specs.declared.error.Error.{Error as BerError};
 ghost use Rattle.std.specs.Option.{option_map};
 ghost use Rattle.der_base.specs.Numbers.{AnswersSigned, AnswersUnsigned};
 ghost use Rattle.der_base.specs.Pretty.{dotted};
-ghost use Rattle.der_base.specs.Text.{is_text_type};
 ghost use Rattle.der_base.specs.Tree.{integer};
 ghost use Rattle.der_values.specs.ArcNumbers.{u128_arcs};
 ghost use Rattle.dumarewhi_c.specs.ErrorNumbers.{number_of_result};
@@ -19,7 +18,7 @@ use crate::time::{DmTime, read_fields};
 use der_base::error::BerError;
 use der_base::header::Tag;
 use der_base::integer::{read_i64, read_u64};
-use der_base::text::{is_utf16, read_text};
+use der_base::text::{is_text_type, is_utf16, read_text};
 use der_values::ObjectIdentifier;
 
 /// Writes what a reader returned. Returns 0 or the number of its error.
@@ -110,13 +109,6 @@ fn check_text(tag: Tag, content: &[u8]) -> Result<(), BerError>
         Some(_) => Ok(()),
         None => Err(BerError::StringInvalidCharset),
     }
-}
-
-/// Whether the type is kept as a text (8.23).
-fn is_text_type(tag: Tag) -> bool
-    ensures { result ≡ is_text_type tag.0 }
-{
-    matches!(tag.0, 7 | 12 | 18..=22 | 25..=27)
 }
 
 /// A BMPString (8.23.9).
