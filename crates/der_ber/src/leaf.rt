@@ -3,10 +3,12 @@
 ghost use Rattle.std.specs.Prelude.{◌≡◌, false, true, IsTrue};
 ghost use Rattle.der_base.specs.declared.rules.Rules.{Rules};
 ghost use Rattle.der_base.specs.Leaf.{is_list, is_mapped, is_time};
+ghost use Rattle.der_base.specs.LeafRefusal.{IsFirstRefusal};
+ghost use Rattle.der_base.specs.Refusal.{refusal};
 ghost use Rattle.der_base.specs.Text.{is_text_type};
 ghost use Rattle.der_base.specs.Tree.{string, time};
 ghost use Rattle.der_object.specs.View.{content_tree};
-ghost use Rattle.der_values.specs.Kinds.{Decodes, contents, enumerated_numbers, moments, primitives};
+ghost use Rattle.der_values.specs.Kinds.{Decodes, content_tests, contents, enumerated_numbers, primitives};
 ghost use Rattle.der_ber.specs.Inner.BerLeaves.{ReadsLeaf};
 
 use der_base::error::BerError;
@@ -14,9 +16,11 @@ use der_base::header::Tag;
 use der_base::integer::read_u64;
 use der_base::oid::Oid;
 use der_base::rules::Rules;
-use der_base::time::{ASN1DateTime, read_der_time, read_time};
+use der_base::time::ASN1DateTime;
 use der_object::{BerObjectContent, BitStringObject};
-use der_values::{check_value, read_bits, read_bool, read_integer, read_null, read_text};
+use der_values::{
+    check_value, read_bits, read_bool, read_integer, read_moment, read_null, read_text,
+};
 use std::borrow::CowSlice;
 
 /// Reads the content octets of a universal type that is no list, in an element that is constructed
@@ -47,26 +51,36 @@ pub fn read_content<'a>(
     ensures { Decodes content_tree (contents rules constructed tag.0) octets.now result }
 {
     // `Ok(..?)` copies the answer of a call.
-    if constructed {
-        Ok(read_constructed(rules, tag, octets)?)
-    } else {
-        read_primitive(rules, tag, octets)
+    match (constructed, rules) {
+        (false, _) => read_primitive(rules, tag, octets),
+        (true, Rules::Ber) => Ok(read_constructed(tag, octets)?),
+        (true, Rules::Der) => Err(constructed_fault(tag, octets)),
     }
 }
 
-/// The content of a constructed element. The types that aren't refused keep their octets, or have none.
+/// The error of a constructed element by DER, which has none (10.2).
 #[cold]
 #[inline(never)]
-fn read_constructed<'a>(
-    rules: Rules,
-    tag: Tag,
-    octets: &'a [u8],
-) -> Result<BerObjectContent<'a>, BerError>
+fn constructed_fault(tag: Tag, octets: &[u8]) -> BerError
     requires mapped { IsTrue (is_mapped tag.0) }
     requires no_list { is_list tag.0 ≡ false }
-    ensures { Decodes content_tree (contents rules true tag.0) octets.now result }
+    ensures { IsFirstRefusal (content_tests Rules.Der true tag.0 octets.now) (refusal result) }
 {
-    check_value(rules, true, tag, octets)?;
+    match check_value(Rules::Der, true, tag, octets) {
+        Ok(()) => unreachable!(),
+        Err(e) => e,
+    }
+}
+
+/// The content of a constructed element by BER. The types that aren't refused keep their octets, or have none.
+#[cold]
+#[inline(never)]
+fn read_constructed<'a>(tag: Tag, octets: &'a [u8]) -> Result<BerObjectContent<'a>, BerError>
+    requires mapped { IsTrue (is_mapped tag.0) }
+    requires no_list { is_list tag.0 ≡ false }
+    ensures { Decodes content_tree (contents Rules.Ber true tag.0) octets.now result }
+{
+    check_value(Rules::Ber, true, tag, octets)?;
     match tag {
         Tag::EndOfContent => Ok(BerObjectContent::EndOfContent),
         Tag::Integer => Ok(BerObjectContent::Integer(octets)),
@@ -106,7 +120,10 @@ fn read_primitive<'a>(
         Tag::Enumerated => Ok(BerObjectContent::Enum(read_enumerated(rules, octets)?)),
         Tag::UtcTime | Tag::GeneralizedTime => read_time_content(rules, tag, octets),
         Tag::UniversalString => Ok(BerObjectContent::UniversalString(octets)),
-        Tag::BmpString => read_bmp_string(rules, octets),
+        Tag::BmpString => {
+            check_value(rules, false, Tag::BmpString, octets)?;
+            Ok(BerObjectContent::BmpString(octets))
+        }
         _ => Ok(read_string(tag, octets)?),
     }
 }
@@ -162,29 +179,6 @@ fn read_der_time_content(tag: Tag, octets: &[u8]) -> Result<BerObjectContent<'_>
     Ok(time_content(tag, read_moment(Rules::Der, tag, octets)?))
 }
 
-/// The fields of a time, with the two digits of a UTCTime's year.
-#[inline(always)]
-fn read_moment(rules: Rules, tag: Tag, octets: &[u8]) -> Result<ASN1DateTime, BerError>
-    requires { IsTrue (is_time tag.0) }
-    ensures { Decodes (λ v. v) (moments rules tag.0) octets.now result }
-{
-    match rules {
-        Rules::Ber => read_ber_time(tag, octets),
-        Rules::Der => read_der_time(tag, octets),
-    }
-}
-
-#[inline(always)]
-fn read_ber_time(tag: Tag, octets: &[u8]) -> Result<ASN1DateTime, BerError>
-    requires { IsTrue (is_time tag.0) }
-    ensures { Decodes (λ v. v) (moments Rules.Ber tag.0) octets.now result }
-{
-    match read_time(tag, octets) {
-        Some(moment) => Ok(moment),
-        None => Err(BerError::InvalidDateTime),
-    }
-}
-
 /// The content of a time type.
 fn time_content<'a>(tag: Tag, moment: ASN1DateTime) -> BerObjectContent<'a>
     requires { IsTrue (is_time tag.0) }
@@ -195,15 +189,6 @@ fn time_content<'a>(tag: Tag, moment: ASN1DateTime) -> BerObjectContent<'a>
     } else {
         BerObjectContent::GeneralizedTime(moment)
     }
-}
-
-/// A BMPString (8.23.9), by its octets.
-#[inline(always)]
-fn read_bmp_string(rules: Rules, octets: &[u8]) -> Result<BerObjectContent<'_>, BerError>
-    ensures { Decodes content_tree (primitives rules 30) octets.now result }
-{
-    check_value(rules, false, Tag::BmpString, octets)?;
-    Ok(BerObjectContent::BmpString(octets))
 }
 
 /// A string type that is kept as a text (8.23), for which DER has no rules of its own.
