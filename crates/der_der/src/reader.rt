@@ -94,7 +94,7 @@ pub fn read_object<'a>(
     ensures bounded { 2 * count.new ≤ 2 * count.old + length octets.now + 2 }
 {
     let tag = header.tag();
-    if !header.is_universal() {
+    if !header.is_universal() || !tag.is_mapped() {
         let content = BerObjectContent::Unknown(Any::new(header, octets));
         return Ok((rest, BerObject::from_header_and_content(header, content)));
     }
@@ -108,11 +108,7 @@ pub fn read_object<'a>(
         let content = BerObjectContent::Set(read_items(alloc, octets, max_depth - 1, count)?);
         return Ok((rest, BerObject::from_header_and_content(header, content)));
     }
-    if tag.is_mapped() {
-        let content = read_leaf(header.constructed(), tag, octets)?;
-        return Ok((rest, BerObject::from_header_and_content(header, content)));
-    }
-    let content = BerObjectContent::Unknown(Any::new(header, octets));
+    let content = read_leaf(header.constructed(), tag, octets)?;
     Ok((rest, BerObject::from_header_and_content(header, content)))
 }
 

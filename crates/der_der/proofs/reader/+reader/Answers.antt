@@ -135,15 +135,15 @@ read_object-returns-then-eq-2-clause-found t c =
     let e = c.from_header_and_content-then-eq-2.ensures in
     (refl, e.header, rw e.content (set_content c.args.octets.now h c.in_ok-read_items-2.field-0 c.args.max_depth universal constructed number c.requires.deep c.in_ok-read_items-2.ensures.found))
 
-pub read_object-returns-then-is_mapped-clause-found : goal.read_object-returns-then-is_mapped-clause-found
-read_object-returns-then-is_mapped-clause-found t c =
+pub read_object-returns-clause-found : goal.read_object-returns-clause-found
+read_object-returns-clause-found t c =
     let h = c.args.header in
     let w = c.args.octets.now in
     let x = c.in_ok-content.content in
     let universal : class_of h ≡ Universal = search rules in
     let read : (is_constructed h ≡ false) × IsDerLeaf (number_of h) (content_tree x) × (w ≡ content_octets (content_tree x)) =
     rw (← c.constructed.ensures, ← c.tag-tag.ensures) c.in_ok-content.ensures in
-    let e = c.from_header_and_content-then-is_mapped.ensures in
+    let e = c.from_header_and_content-2.ensures in
     (refl, e.header, rw e.content (leaf_content w h x c.args.max_depth universal c.requires.deep read.0 read.1 read.2))
 
 -- counts
@@ -182,14 +182,9 @@ read_object-returns-then-not-is_universal-clause-counted t c =
 pub read_object-returns-clause-counted : goal.read_object-returns-clause-counted
 read_object-returns-clause-counted t c =
     let n = c.args.count.now in
-    rw c.from_header_and_content-2.ensures.content (none_counted 0 n refl c.requires.counts)
-
-pub read_object-returns-then-is_mapped-clause-counted : goal.read_object-returns-then-is_mapped-clause-counted
-read_object-returns-then-is_mapped-clause-counted t c =
-    let n = c.args.count.now in
     let x = content_tree c.in_ok-content.content in
     let none = leaf_counted false c.tag-tag.result.0 (content_octets x) x c.in_ok-content.ensures.1.0 in
-    rw c.from_header_and_content-then-is_mapped.ensures.content (none_counted (content_count x) n none c.requires.counts)
+    rw c.from_header_and_content-2.ensures.content (none_counted (content_count x) n none c.requires.counts)
 
 pub read_object-returns-then-eq-clause-counted : goal.read_object-returns-then-eq-clause-counted
 read_object-returns-then-eq-clause-counted t c =
