@@ -1,5 +1,5 @@
 -- What follows the first element.
-use Rattle.std.proofs.Common.{◌≡◌, ℕ, List, Ok, Err, true, sym, subst, ◌∙◌}
+use Rattle.std.proofs.Common.{◌≡◌, ℕ, List, Ok, Err, true, sym, subst}
 use Rattle.der_base.specs.declared.error.Error.{Error as BerError}
 use Rattle.der_base.specs.declared.rules.Rules.TheVariants.{Der}
 use Rattle.der_cursor.specs.declared.cursor.Cursor.{Cursor}

@@ -4,6 +4,5 @@ pub mod Alike
 pub mod Firsts
 pub mod Moments
 pub mod Puts
-pub mod TextTests
 pub mod TextsPut
 pub mod Within

@@ -6,7 +6,8 @@ use Rattle.der_base.specs.declared.error.Error.{Error as BerError}
 use Rattle.der_base.specs.Text.{is_text_type}
 use Rattle.der_writer.specs.declared.writer.Writer.{Writer}
 use Rattle.der_writer.specs.Written.{PutsText}
-use Rattle.dumarewhi_c.specs.Tested.{PutsAnyText, is_string_type}
+use Rattle.dumarewhi_c.specs.Tested.{PutsAnyText}
+use Rattle.dumarewhi_c.specs.Values.{is_string_type}
 
 or_true : (x : Bool) → (x || true) ≡ true
 or_true true = refl

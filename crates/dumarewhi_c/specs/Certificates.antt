@@ -32,8 +32,8 @@ bits_numbers None = ([], 0, 0)
 
 -- The fields of a time, and the number of its type. Its year has all digits, whichever type it is.
 abbrev pub moment_fields : Time → DmMoment
-moment_fields (Utc t) = record { time = time_fields 24 t; number = 23 }
-moment_fields (Generalized t) = record { time = time_fields 24 t; number = 24 }
+moment_fields (Utc t) = record { time = time_fields t; number = 23 }
+moment_fields (Generalized t) = record { time = time_fields t; number = 24 }
 
 abbrev pub no_time : DmTime
 no_time = record {

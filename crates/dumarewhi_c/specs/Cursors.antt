@@ -103,7 +103,7 @@ IsBits x d = bits_in d ≡ bits_numbers (Some (bits_of x))
 
 -- its year has all digits
 abbrev pub IsTime : ASN1DateTime → DmTime → Type 0
-IsTime x d = d ≡ time_fields 24 x
+IsTime x d = d ≡ time_fields x
 
 -- the cursor over the content of an element of the octets that were left
 pub record IsInner (old : DmCursor) (c : Cursor) (d : DmCursor) : Type 0 where

@@ -1,6 +1,6 @@
 -- Values of extensions as C sees them (RFC 5280 4.2.1).
 use Rattle.std.specs.Borrow.{Bor}
-use Rattle.std.specs.Prelude.{◌≡◌, ℕ, ◌+◌, if◌then◌else◌, Bool, is_some, Option, List, []}
+use Rattle.std.specs.Prelude.{◌≡◌, ℕ, ◌+◌, if◌then◌else◌, Bool, is_some, List, []}
 use Rattle.std.specs.Option.{unwrap_or}
 use Rattle.der_extensions.specs.declared.basic_constraints.BasicConstraints.{BasicConstraints}
 use Rattle.der_extensions.specs.declared.general_name.GeneralName.{GeneralName}

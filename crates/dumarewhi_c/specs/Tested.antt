@@ -1,5 +1,5 @@
 -- Values that are tested before they are put. If one isn't put, the writer stays as it was.
-use Rattle.std.specs.Prelude.{◌≡◌, ℕ, ◌%◌, ◌⊎◌, ◌&&◌, ◌||◌, ◌==◌, nat_le, if◌then◌else◌, Bool, false, IsTrue}
+use Rattle.std.specs.Prelude.{◌≡◌, ℕ, ◌%◌, ◌⊎◌, ◌&&◌, ◌==◌, nat_le, if◌then◌else◌, Bool, false, IsTrue}
 use Rattle.std.specs.Prelude.{Some, None, List, Result, Ok, Err, MatchResult}
 use Rattle.der_base.specs.declared.error.Error.{Error as BerError}
 use Rattle.der_base.specs.declared.error.OidParseError.{OidParseError}
@@ -10,22 +10,19 @@ use Rattle.der_base.specs.Encoding.{content_octets}
 use Rattle.der_base.specs.Leaf.{IsMinimalInteger}
 use Rattle.der_base.specs.LeafRefusal.{IsFirstRefusal, integer_tests}
 use Rattle.der_base.specs.Refusal.{refusal, invalid_charset, invalid_date_time, invalid_length, wrong_type, wrong_value}
-use Rattle.der_base.specs.Text.{IsTextOf, is_text_type, is_within}
+use Rattle.der_base.specs.Text.{IsTextOf, is_within}
 use Rattle.der_base.specs.Tree.{time}
 use Rattle.der_writer.specs.declared.writer.Writer.{Writer}
 use Rattle.der_writer.specs.Written.{IsBmp, PutsLeaf}
 use Rattle.dumarewhi_c.specs.declared.time.DmTime.{DmTime}
 use Rattle.dumarewhi_c.specs.ErrorNumbers.{refusal_number}
+use Rattle.dumarewhi_c.specs.Values.{is_string_type}
 
 -- an INTEGER, if these content octets are the fewest for their number (X.690 8.3.2)
 abbrev pub PutsInteger : List ℕ → Writer → Result (Unit {0}) BerError → Writer → Type 0
 PutsInteger w old found new = MatchResult found
     (λ _. IsMinimalInteger w × PutsLeaf 2 w old new)
     (λ e. IsFirstRefusal (integer_tests w) (refusal e) × (new ≡ old))
-
--- a string type that is kept as a text (8.23), or a BMPString (30)
-abbrev pub is_string_type : ℕ → Bool
-is_string_type t = t == 30 || is_text_type t
 
 -- the octets are in its character set
 abbrev pub IsStringOf : ℕ → List ℕ → Type 0

@@ -1,5 +1,5 @@
 -- Values of content octets as C sees them.
-use Rattle.std.specs.Prelude.{◌≡◌, ℕ, ◌||◌, ◌==◌, if◌then◌else◌, false, List, [], ◌∷◌, ℤ, pos}
+use Rattle.std.specs.Prelude.{◌≡◌, ℕ, ◌||◌, ◌==◌, false, List, [], ◌∷◌, ℤ, pos}
 use Rattle.std.specs.Prelude.{Result, Ok, Err, MatchResult, unwrap_or, Bool}
 use Rattle.der_base.specs.declared.error.Error.{Error as BerError}
 use Rattle.der_base.specs.declared.time.ASN1DateTime.{ASN1DateTime}
@@ -10,8 +10,9 @@ use Rattle.der_base.specs.LeafRefusal.{BerLeafRefuses, IsNotTime, Test, refuse, 
 use Rattle.der_base.specs.LeafRefusal.{NoneHolds}
 use Rattle.der_base.specs.Refusal.{refusal, invalid_date_time, wrong_type}
 use Rattle.der_base.specs.Text.{is_text_type}
-use Rattle.der_base.specs.Time.{IsTimeText, rfc5280_year}
+use Rattle.der_base.specs.Time.{IsTimeText}
 use Rattle.der_base.specs.Tree.{boolean}
+use Rattle.der_values.specs.Kinds.{with_whole_year}
 use Rattle.dumarewhi_c.specs.declared.time.DmTime.{DmTime}
 use Rattle.dumarewhi_c.specs.Elements.{bit}
 use Rattle.dumarewhi_c.specs.ErrorNumbers.{number_of_result}
@@ -31,9 +32,13 @@ abbrev pub AnswersBoolean : List ℕ → Result ℕ BerError → Type 0
 AnswersBoolean w found = MatchResult found (λ n. (v : Bool) × IsLeafContent false 1 w (boolean v) × (n ≡ bit v))
     (λ e. BerLeafRefuses false 1 w (refusal e))
 
--- what the octets of a string type that is kept as a text (8.23), or of a BMPString, are tested for
+-- a string type that is kept as a text (8.23), or a BMPString (30)
+abbrev pub is_string_type : ℕ → Bool
+is_string_type t = t == 30 || is_text_type t
+
+-- what the octets of such a string are tested for
 abbrev pub text_tests : ℕ → List ℕ → List Test
-text_tests t w = choose (is_text_type t || t == 30) (ber_tests false t w) (refuse (Unit {0}) wrong_type ∷ [])
+text_tests t w = choose (is_string_type t) (ber_tests false t w) (refuse (Unit {0}) wrong_type ∷ [])
 
 -- 0 if no test holds, or the number of the refusal of the first that does
 abbrev pub AnswersText : ℕ → List ℕ → Result (Unit {0}) BerError → Type 0
@@ -53,10 +58,10 @@ abbrev pub zone_minutes : ASN1TimeZone → ℤ
 zone_minutes (Offset h m) = m
 zone_minutes _ = pos 0
 
--- the fields of a time of this type: a UTCTime (23) has its year by RFC 5280
-abbrev pub time_fields : ℕ → ASN1DateTime → DmTime
-time_fields k t = record {
-  year = if k == 23 then rfc5280_year t.year else t.year;
+-- the fields of a time whose year has all digits
+abbrev pub time_fields : ASN1DateTime → DmTime
+time_fields t = record {
+  year = t.year;
   nanosecond = unwrap_or t.nanosecond 0;
   month = t.month;
   day = t.day;
@@ -68,7 +73,8 @@ time_fields k t = record {
   zone_minutes = zone_minutes t.tz;
 }
 
--- the fields of the time that the octets spell, or that they spell none
+-- the fields of the time that the octets spell, where a UTCTime (23) has its year by RFC 5280, or that they spell none
 abbrev pub AnswersTime : ℕ → List ℕ → Result DmTime BerError → Type 0
-AnswersTime k w found = MatchResult found (λ x. (t : ASN1DateTime) × IsTimeText k w t × (x ≡ time_fields k t))
+AnswersTime k w found = MatchResult found
+    (λ x. (t : ASN1DateTime) × IsTimeText k w t × (x ≡ time_fields (with_whole_year k t)))
     (λ e. IsNotTime k w × (refusal e ≡ invalid_date_time))

@@ -367,7 +367,7 @@ fn finish_time<'a>(
 {
     match found {
         Ok(found) => {
-            *time = time_fields(Tag::GeneralizedTime, found);
+            *time = time_fields(found);
             advance(cursor, after);
             no_fault()
         }

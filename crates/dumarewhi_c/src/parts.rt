@@ -7,7 +7,6 @@ ghost use Rattle.dumarewhi_c.specs.Certificates.{algorithm_in, bits_in, bits_num
 ghost use Rattle.dumarewhi_c.specs.Certificates.{no_time, optional_moment_fields, version_number};
 
 use crate::time::{DmTime, time_fields};
-use der_base::header::Tag;
 use der_values::{BitString, ObjectIdentifier};
 use der_x509::{AlgorithmIdentifier, Time, Version};
 
@@ -94,11 +93,11 @@ pub(crate) fn moment(time: Time) -> DmMoment
 {
     match time {
         Time::Utc(moment) => DmMoment {
-            time: time_fields(Tag::GeneralizedTime, moment),
+            time: time_fields(moment),
             number: 23,
         },
         Time::Generalized(moment) => DmMoment {
-            time: time_fields(Tag::GeneralizedTime, moment),
+            time: time_fields(moment),
             number: 24,
         },
     }

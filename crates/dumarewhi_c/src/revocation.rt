@@ -17,7 +17,6 @@ use crate::point::name_octets;
 use crate::time::{DmTime, time_fields};
 use crate::writing::write_octets;
 use der_base::error::BerError;
-use der_base::header::Tag;
 use der_base::time::ASN1DateTime;
 use der_cursor::Refusal;
 use der_extensions::{
@@ -128,7 +127,7 @@ fn write_date(found: Result<ASN1DateTime, Refusal<BerError>>, date: &mut DmTime)
 {
     match found {
         Ok(found) => {
-            *date = time_fields(Tag::GeneralizedTime, found);
+            *date = time_fields(found);
             no_fault()
         }
         Err(e) => field_fault(0, e),

@@ -4,7 +4,9 @@ ghost use Rattle.dumarewhi_c.specs.Values.{AnswersTime, time_fields, zone_hours,
 
 use der_base::error::BerError;
 use der_base::header::Tag;
-use der_base::time::{ASN1DateTime, ASN1TimeZone, read_time};
+use der_base::rules::Rules;
+use der_base::time::{ASN1DateTime, ASN1TimeZone};
+use der_values::read_time;
 
 /// The fields of a UTCTime or a GeneralizedTime.
 #[repr(C)]
@@ -37,24 +39,21 @@ pub struct DmTime {
 pub(crate) fn read_fields(tag: Tag, content: &[u8]) -> Result<DmTime, BerError>
     ensures { AnswersTime tag.0 content.now result }
 {
-    match read_time(tag, content) {
-        Some(time) => Ok(time_fields(tag, time)),
-        None => Err(BerError::InvalidDateTime),
+    match tag {
+        Tag::UtcTime | Tag::GeneralizedTime => {
+            Ok(time_fields(read_time(Rules::Ber, tag, content)?))
+        }
+        _ => Err(BerError::InvalidDateTime),
     }
 }
 
-/// The fields of a time of this type.
-pub(crate) fn time_fields(tag: Tag, time: ASN1DateTime) -> DmTime
-    ensures { result ≡ time_fields tag.0 time }
+/// The fields of a time whose year has all digits.
+pub(crate) fn time_fields(time: ASN1DateTime) -> DmTime
+    ensures { result ≡ time_fields time }
 {
     let (zone, zone_hours, zone_minutes) = zone_fields(time.tz);
-    let year = if tag == Tag::UtcTime {
-        time.rfc5280_year()
-    } else {
-        time.year
-    };
     DmTime {
-        year,
+        year: time.year,
         nanosecond: time.nanosecond.unwrap_or(0),
         month: time.month,
         day: time.day,

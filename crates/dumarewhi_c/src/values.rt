@@ -17,9 +17,9 @@ use crate::text::put_arcs;
 use crate::time::{DmTime, read_fields};
 use der_base::error::BerError;
 use der_base::header::Tag;
-use der_base::integer::{read_i64, read_u64};
-use der_base::text::{is_text_type, is_utf16, read_text};
-use der_values::ObjectIdentifier;
+use der_base::rules::Rules;
+use der_base::text::is_text_type;
+use der_values::{ObjectIdentifier, read_bmp_string, read_bool, read_i64, read_text, read_u64};
 
 /// Writes what a reader returned. Returns 0 or the number of its error.
 fn write<V: Copy>(found: Result<V, BerError>, value: &mut V) -> u32
@@ -40,7 +40,7 @@ fn write<V: Copy>(found: Result<V, BerError>, value: &mut V) -> u32
 pub extern "C" fn dm_read_i64(content: &[u8], value: &mut i64) -> u32
     ensures { Returns (AnswersSigned 64 (integer content.now)) value.old value.new result }
 {
-    write(read_i64(content), value)
+    write(read_i64(Rules::Ber, content), value)
 }
 
 /// The number of an INTEGER, from 0 to 2^64-1.
@@ -48,7 +48,7 @@ pub extern "C" fn dm_read_i64(content: &[u8], value: &mut i64) -> u32
 pub extern "C" fn dm_read_u64(content: &[u8], value: &mut u64) -> u32
     ensures { Returns (AnswersUnsigned 64 (integer content.now)) value.old value.new result }
 {
-    write(read_u64(content), value)
+    write(read_u64(Rules::Ber, content), value)
 }
 
 /// The value of a BOOLEAN, 0 or 1.
@@ -59,14 +59,11 @@ pub extern "C" fn dm_read_bool(content: &[u8], value: &mut u8) -> u32
     write(read_boolean(content), value)
 }
 
-/// A BOOLEAN is one octet, false where it is 00 (X.690 8.2).
+/// The value of a BOOLEAN as a number.
 fn read_boolean(content: &[u8]) -> Result<u8, BerError>
     ensures { AnswersBoolean content.now result }
 {
-    match content {
-        [octet] => Ok(bit(*octet != 0)),
-        _ => Err(BerError::InvalidLength),
-    }
+    Ok(bit(read_bool(Rules::Ber, content)?))
 }
 
 /// Writes the arcs of an OBJECT IDENTIFIER with points between them, and the length of that text. Each
@@ -100,26 +97,11 @@ fn check_text(tag: Tag, content: &[u8]) -> Result<(), BerError>
     ensures { AnswersText tag.0 content.now result }
 {
     if tag == Tag::BmpString {
-        return check_bmp_string(content);
-    }
-    if !is_text_type(tag) {
+        read_bmp_string(content)?;
+    } else if is_text_type(tag) {
+        read_text(tag, content)?;
+    } else {
         return Err(BerError::BerTypeError);
-    }
-    match read_text(tag, content) {
-        Some(_) => Ok(()),
-        None => Err(BerError::StringInvalidCharset),
-    }
-}
-
-/// A BMPString (8.23.9).
-fn check_bmp_string(content: &[u8]) -> Result<(), BerError>
-    ensures { AnswersText 30 content.now result }
-{
-    if content.len() % 2 == 1 {
-        return Err(BerError::Unsupported);
-    }
-    if !is_utf16(content) {
-        return Err(BerError::StringInvalidCharset);
     }
     Ok(())
 }
