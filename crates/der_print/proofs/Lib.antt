@@ -1,7 +1,9 @@
+pub mod CutLaws
+pub mod FitLaws
 pub mod FrontLaws
 pub mod LineLaws
-pub mod NameLaws
 pub mod NumberLaws
+pub mod PartLaws
 pub mod PieceLaws
 pub mod QuoteLaws
 pub mod RowLaws

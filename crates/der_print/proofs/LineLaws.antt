@@ -28,7 +28,7 @@ pub line_of : {own : Option (List Named)} {field : List ℕ} (style : Style) (v 
 line_of {own} {field} style v w w' line same l = record {
   value = l.value;
   shown = l.shown;
-  ending = ending_of (l.value ≡ []) v.holds (λ s. l.value ≡ holding_text s) v.constructed (λ u. IsValueSaid own (limit_of style field v) v u l.value) w w' same l.ending;
+  ending = ending_of (l.value ≡ []) v.holds (λ s. l.value ≡ holding_text s) v.constructed (λ u. IsValueSaid own (limit_of style.limit field v) v u l.value) w w' same l.ending;
   whole = l.whole;
 }
 

@@ -36,14 +36,20 @@ at_right_of o text e s at columns free long within is =
     others_after o (text ++ drop e o) e s at free (omega arith) (omega arith)
     ∙ ap (λ n. spaces n ++ (text ++ drop e o)) some ∙ sym (append_assoc (spaces (columns - length text)) text (drop e o))
 
--- a text with so many of the spaces after it
+-- a number with so many of the spaces after it
+pub number_at_left_of : (o text : List ℕ) (e s end columns : ℕ) → take e o ≡ spaces e → columns ≤ e → end ≡ e - (columns - length text) → s + length text ≡ end
+    → drop s (take s o ++ (text ++ drop end o)) ≡ at_left columns text ++ drop e o
+number_at_left_of o text e s end columns free within ends long =
+    let none : s - s ≡ 0 = omega arith in
+    let some : e - end ≡ columns - length text = omega arith in
+    others_after o (text ++ drop end o) e s s free (omega arith) (omega arith) ∙ ap (λ n. spaces n ++ (text ++ drop end o)) none
+    ∙ ap (λ w. text ++ w) (last_spaces o e end free (omega arith) ∙ ap (λ n. spaces n ++ drop e o) some)
+    ∙ sym (append_assoc text (spaces (columns - length text)) (drop e o))
+
+-- the same where the text was copied
 pub at_left_of : (o text : List ℕ) (e s end columns : ℕ) → take e o ≡ spaces e → columns ≤ e → end ≡ e - (columns - length text) → s + length text ≡ end
     → drop s (take s o ++ (text ++ drop (end - s) (drop s o))) ≡ at_left columns text ++ drop e o
 at_left_of o text e s end columns free within ends long =
-    let none : s - s ≡ 0 = omega arith in
     let next : s + (end - s) ≡ end = omega arith in
-    let some : e - end ≡ columns - length text = omega arith in
-    others_after o (text ++ drop (end - s) (drop s o)) e s s free (omega arith) (omega arith)
-    ∙ ap (λ n. spaces n ++ (text ++ drop (end - s) (drop s o))) none
-    ∙ ap (λ w. text ++ w) (drop-drop (end - s) s o ∙ ap (λ n. drop n o) next ∙ last_spaces o e end free (omega arith) ∙ ap (λ n. spaces n ++ drop e o) some)
-    ∙ sym (append_assoc text (spaces (columns - length text)) (drop e o))
+    ap (λ w. drop s (take s o ++ (text ++ w))) (drop-drop (end - s) s o ∙ ap (λ n. drop n o) next)
+    ∙ number_at_left_of o text e s end columns free within ends long

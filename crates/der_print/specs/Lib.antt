@@ -1,5 +1,8 @@
+pub mod Cuts
+pub mod Laws
 pub mod Lines
 pub mod Names
+pub mod Parts
 pub mod Pieces
 pub mod Quotes
 pub mod Remarks

@@ -1,16 +1,18 @@
 -- The line that is printed of an element.
-use Rattle.std.specs.Prelude.{◌≡◌, ℕ, ◌+◌, ◌-◌, Bool, false, if◌then◌else◌, MatchBool, MatchOption, Option, Some, None}
-use Rattle.std.specs.Prelude.{List, [], ◌∷◌, ◌++◌, codes, decimal, length}
+use Rattle.std.specs.Prelude.{◌≡◌, ℕ, ◌+◌, ◌-◌, ◌*◌, ◌/◌, min, Bool, false, if◌then◌else◌, MatchBool, MatchOption}
+use Rattle.std.specs.Prelude.{Option, Some, None, List, [], ◌∷◌, ◌++◌, codes, decimal, length}
 use Rattle.std.specs.Option.{unwrap_or}
 use Rattle.std.specs.Io.KnownBytes.{Appends}
 use Rattle.der_base.specs.declared.rules.Rules.{Rules}
 use Rattle.der_base.specs.declared.rules.Rules.TheVariants.{Ber, Der}
 use Rattle.der_base.specs.Pretty.{spaces}
 use Rattle.der_print.specs.declared.style.Limit.{Limit}
+use Rattle.der_print.specs.declared.style.Limit.TheVariants.{Whole, Front, Columns}
 use Rattle.der_print.specs.declared.style.Style.{Style}
+use Rattle.der_print.specs.Cuts.{behind, cut}
 use Rattle.der_print.specs.Remarks.{IsRemark}
 use Rattle.der_print.specs.Shown.{IsShown}
-use Rattle.der_print.specs.Values.{IsValue, limit_without}
+use Rattle.der_print.specs.Values.{IsValue}
 use Rattle.der_walk.specs.Ends.{between}
 use Rattle.der_walk.specs.TypeNames.{type_text}
 use Rattle.der_walk.specs.Visits.{Visited}
@@ -34,9 +36,20 @@ place_text offset header l =
     at_right 7 (decimal offset) ++ codes " " ++ at_right 2 (decimal header) ++ codes "+" ++ at_left 7 (length_text l)
     ++ codes " "
 
+-- the most spaces before the name of a field and the type: those of an element with 100 around it, which none has more
+-- of, but half of the columns of a line behind its numbers
+abbrev pub most_spaces : Limit → ℕ
+most_spaces (Columns columns) = min 200 ((columns - 19) / 2)
+most_spaces Whole = 200
+most_spaces Front = 200
+
 -- two spaces for each element around it
-abbrev pub indentation : ℕ → List ℕ
-indentation depth = spaces depth ++ spaces depth
+abbrev pub indentation : Limit → ℕ → List ℕ
+indentation limit depth = spaces (min (depth * 2) (most_spaces limit))
+
+-- what precedes the name of the field and the type
+abbrev pub margin_text : Limit → Visited → List ℕ
+margin_text limit v = place_text v.offset v.header v.length ++ indentation limit v.depth
 
 -- what begins dim letters and bold ones, and ends them, where there are colours (ECMA-48 8.3.117)
 abbrev pub letters : Bool → List ℕ → List ℕ
@@ -56,15 +69,26 @@ abbrev pub field_text : List ℕ → List ℕ
 field_text [] = []
 field_text (c ∷ cs) = (c ∷ cs) ++ codes " "
 
--- what precedes the value: the place, the indentation, the name of the field, the type or tag
-abbrev pub front_text : Bool → List ℕ → Visited → List ℕ
-front_text colours field v =
-    dim colours ++ place_text v.offset v.header v.length ++ plain colours ++ indentation v.depth ++ field_text field
-    ++ bold colours ++ type_text v.class v.number ++ plain colours
+-- how much of the line is left behind the margin, and behind the name of the field
+abbrev pub left_of_margin : Limit → Visited → Limit
+left_of_margin limit v = behind limit (cut limit (margin_text limit v))
 
--- how much is printed of the value: the limit of a line is one of the whole line
-abbrev pub limit_of : Style → List ℕ → Visited → Limit
-limit_of style field v = limit_without style.limit (length (front_text false field v))
+abbrev pub left_of_field : Limit → List ℕ → Visited → Limit
+left_of_field limit field v = let left = left_of_margin limit v in behind left (cut left (field_text field))
+
+-- the type or tag, as much as fits
+abbrev pub type_part : Limit → List ℕ → Visited → List ℕ
+type_part limit field v = cut (left_of_field limit field v) (type_text v.class v.number)
+
+-- what precedes the value: the margin, the name of the field, the type or tag
+abbrev pub front_text : Bool → Limit → List ℕ → Visited → List ℕ
+front_text colours limit field v =
+    dim colours ++ cut limit (margin_text limit v) ++ plain colours ++ cut (left_of_margin limit v) (field_text field)
+    ++ bold colours ++ type_part limit field v ++ plain colours
+
+-- how much of the line is left for the value
+abbrev pub limit_of : Limit → List ℕ → Visited → Limit
+limit_of limit field v = behind (left_of_field limit field v) (type_part limit field v)
 
 -- the value of an element with this content, and nothing where the content is elements
 abbrev pub IsValueAlone : Limit → Visited → List ℕ → List ℕ → Type 0
@@ -76,12 +100,17 @@ abbrev pub after_spaces : Option (List ℕ) → List ℕ
 after_spaces (Some remark) = codes "  " ++ remark
 after_spaces None = []
 
+-- how much is printed of a value that something is said of: half of the columns are for the remark
+abbrev pub limit_beside : Limit → Option (List ℕ) → Limit
+limit_beside (Columns columns) (Some remark) = Columns (columns / 2)
+limit_beside limit remark = limit
+
 -- the value of a primitive element with this content, and what is said of one that breaks its type
 pub record IsValueSaid (own : Option (List Named)) (limit : Limit) (v : Visited) (w text : List ℕ) : Type 0 where
-  pub value : List ℕ
-  pub is_value : IsValue own limit v.class v.number w value
   pub remark : Option (List ℕ)
   pub is_remark : IsRemark v w remark
+  pub value : List ℕ
+  pub is_value : IsValue own (limit_beside limit remark) v.class v.number w value
   pub whole : text ≡ value ++ after_spaces remark
 
 -- by which rules a string holds an element
@@ -95,18 +124,14 @@ abbrev pub IsEnding : Option (List Named) → Limit → Visited → List ℕ →
 IsEnding own limit v w text = MatchOption v.holds
     (MatchBool v.constructed (text ≡ []) (IsValueSaid own limit v w text)) (λ s. text ≡ holding_text s)
 
--- a text grew by that, which is on one line
-abbrev pub AddsEnding : Option (List Named) → Limit → Visited → List ℕ → List ℕ → List ℕ → Type 0
-AddsEnding own limit v w old new =
-    (value : List ℕ) × IsShown value × IsEnding own limit v w value × (new ≡ old ++ value)
-
 -- the line of an element with this content, which is a field of this name: that and the line's end
 pub record IsLineOf (own : Option (List Named)) (field : List ℕ) (style : Style) (v : Visited) (w line : List ℕ)
     : Type 0 where
   pub value : List ℕ
   pub shown : IsShown value
-  pub ending : IsEnding own (limit_of style field v) v w value
-  pub whole : line ≡ front_text style.colours field v ++ value ++ codes "\n"
+  pub ending : IsEnding own (limit_of style.limit field v) v w value
+  pub whole : line ≡ front_text style.colours style.limit field v ++ cut (limit_of style.limit field v) value
+      ++ codes "\n"
 
 -- known octets grew by the line of an element
 pub record AddsLineOf (own : Option (List Named)) (field : List ℕ) (style : Style) (v : Visited) (w : List ℕ)

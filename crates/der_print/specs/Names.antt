@@ -1,6 +1,6 @@
 -- Names of object identifiers.
 use Rattle.std.specs.Borrow.{Bor}
-use Rattle.std.specs.Prelude.{ℕ, ◌-◌, max, nat_le, if◌then◌else◌, Option, Some, None}
+use Rattle.std.specs.Prelude.{ℕ, nat_le, if◌then◌else◌, Option, Some, None}
 use Rattle.std.specs.Prelude.{List, [], ◌++◌, codes, length, map, take}
 use Rattle.std.specs.List.{concat}
 use Rattle.std.specs.Option.{option_map}
@@ -16,11 +16,12 @@ use Rattle.der_print.specs.Quotes.{piece_text}
 abbrev pub table_of : Option (Bor OwnNames) → Option (List Named)
 table_of own = option_map (λ names. entries_in names.now) own
 
--- how many characters are printed of a name of so many octets, which has no more of them: no part that isn't shorter
+-- how many characters are printed of a name of so many octets, which has no more of them; where columns are counted,
+-- the line's end is cut
 abbrev pub printed_of_name : Limit → ℕ → ℕ
 printed_of_name Whole n = n
 printed_of_name Front n = 120
-printed_of_name (Columns columns) n = if nat_le n (max (columns - 1) 13) then n else max (columns - 4) 10
+printed_of_name (Columns columns) n = n
 
 -- a name with escapes as in quotes, or its first characters
 abbrev pub cut_name : Limit → List ℕ → List ℕ

@@ -1,5 +1,5 @@
 -- Texts in quotes.
-use Rattle.std.specs.Prelude.{ℕ, ◌+◌, ◌-◌, max, ◌==◌, ◌||◌, ◌&&◌, not, nat_le, nat_lt, if◌then◌else◌, Bool, false}
+use Rattle.std.specs.Prelude.{ℕ, ◌+◌, ◌-◌, ◌==◌, ◌||◌, ◌&&◌, not, nat_le, nat_lt, if◌then◌else◌, Bool, false}
 use Rattle.std.specs.Prelude.{List, [], ◌∷◌, ◌++◌, codes, decimal, encode_utf8, length, map, take}
 use Rattle.std.specs.Char.Utf16.{utf16_lossy_chars}
 use Rattle.std.specs.Fmt.{digits}
@@ -82,13 +82,21 @@ plain_text (Octet b) = octet_text b
 abbrev pub printed_characters : Limit → ℕ → ℕ
 printed_characters Whole n = n
 printed_characters Front n = 120
-printed_characters (Columns columns) n = if nat_le n (columns - 3) then n else max (columns - 20) 10
+printed_characters (Columns columns) n =
+    if nat_le n (columns - 3) then n else if nat_lt columns 30 then columns - 6 else columns - 20
+
+-- how many octets a value has of which a part is printed, where there are at least so many columns for both
+abbrev pub octets_said : ℕ → Limit → ℕ → List ℕ
+octets_said least Whole n = codes " (" ++ decimal n ++ codes " octets)"
+octets_said least Front n = codes " (" ++ decimal n ++ codes " octets)"
+octets_said least (Columns columns) n =
+    if nat_lt columns least then [] else codes " (" ++ decimal n ++ codes " octets)"
 
 -- a string in quotes, or the first characters of it and how many octets it has
 abbrev pub quoted_text : Limit → ℕ → List ℕ → List ℕ
 quoted_text limit t w = let texts = map piece_text (pieces t w) in let n = printed_characters limit (length w) in
     codes "\"" ++ concat (take n texts)
-    ++ (if nat_le (length texts) n then codes "\"" else codes "...\" (" ++ decimal (length w) ++ codes " octets)")
+    ++ (if nat_le (length texts) n then codes "\"" else codes "...\"" ++ octets_said 30 limit (length w))
 
 -- the characters of a string as they are
 abbrev pub unquoted_text : ℕ → List ℕ → List ℕ

@@ -1,5 +1,5 @@
 -- What is printed of the value of a primitive element.
-use Rattle.std.specs.Prelude.{◌≡◌, ℕ, ◌-◌, ◌/◌, ◌^◌, min, max, ◌⊎◌, ◌==◌, ◌||◌, ◌&&◌, nat_le, nat_lt, if◌then◌else◌}
+use Rattle.std.specs.Prelude.{◌≡◌, ℕ, ◌-◌, ◌/◌, ◌^◌, ◌⊎◌, ◌==◌, ◌||◌, ◌&&◌, nat_le, nat_lt, if◌then◌else◌}
 use Rattle.std.specs.Prelude.{Bool, true, false, IsTrue, ℤ, pos, negsuc, int_lt, nat_abs, Option, Some, None}
 use Rattle.std.specs.Prelude.{List, [], ◌∷◌, ◌++◌, codes, decimal, length, take}
 use Rattle.std.specs.Fmt.{signed_decimal}
@@ -20,14 +20,9 @@ use Rattle.oid_names.specs.Tables.{HasLine}
 use Rattle.oid_names.specs.declared.table.TheConstants.{NAMES}
 use Rattle.der_print.specs.declared.style.Limit.{Limit}
 use Rattle.der_print.specs.declared.style.Limit.TheVariants.{Whole, Front, Columns}
+use Rattle.der_print.specs.Cuts.{limit_without}
 use Rattle.der_print.specs.Names.{name_text}
-use Rattle.der_print.specs.Quotes.{quoted_text}
-
--- how much is printed where so many columns are needed for something else
-abbrev pub limit_without : Limit → ℕ → Limit
-limit_without Whole columns = Whole
-limit_without Front columns = Front
-limit_without (Columns all) columns = Columns (all - columns)
+use Rattle.der_print.specs.Quotes.{octets_said, quoted_text}
 
 -- the octet of a BOOLEAN: by BER any octet but 0 is TRUE, and another one than FF is shown (8.2.2, 11.1)
 abbrev pub truth_text : ℕ → List ℕ
@@ -38,12 +33,13 @@ truth_text b =
 abbrev pub printed_octets : Limit → ℕ → ℕ
 printed_octets Whole n = n
 printed_octets Front n = if nat_le n 32 then n else 20
-printed_octets (Columns columns) n = if nat_le n ((columns - 1) / 2) then n else min (max ((columns - 18) / 2) 4) n
+printed_octets (Columns columns) n =
+    if nat_le n ((columns - 1) / 2) then n else if nat_lt columns 26 then (columns - 4) / 2 else (columns - 18) / 2
 
 -- octets in hexadecimal digits, or the first of them and how many they are
 abbrev pub hex_text : Limit → List ℕ → List ℕ
 hex_text limit w = let n = printed_octets limit (length w) in
-    if nat_lt n (length w) then encode_lower (take n w) ++ codes "... (" ++ decimal (length w) ++ codes " octets)"
+    if nat_lt n (length w) then encode_lower (take n w) ++ codes "..." ++ octets_said 26 limit (length w)
     else encode_lower w
 
 -- the octets without one that is 0 before others
@@ -81,10 +77,6 @@ identifier_text relative w = text_of_arcs (u128_arcs relative w) relative w
 abbrev pub IsNameOf : List ℕ → List ℕ → Type 0
 IsNameOf w name = HasLine NAMES.now (encode_lower w ++ 0x20 ∷ name)
 
--- how much is printed behind the identifier, which has a space before it
-abbrev pub limit_behind : Limit → List ℕ → Limit
-limit_behind limit w = limit_without (limit_without limit 1) (length (identifier_text false w))
-
 -- the unused bits of the last octet of a BIT STRING (8.6.2)
 abbrev pub unused_text : ℕ → List ℕ
 unused_text u =
@@ -92,7 +84,7 @@ unused_text u =
 
 abbrev pub bits_text : Limit → List ℕ → List ℕ
 bits_text limit [] = []
-bits_text limit (u ∷ w) = hex_text (limit_without limit 16) w ++ unused_text u
+bits_text limit (u ∷ w) = hex_text (limit_without limit (if u == 0 then 0 else 16)) w ++ unused_text u
 
 abbrev pub minutes_text : ℕ → List ℕ
 minutes_text n = codes ":" ++ at_least_digits 2 n
@@ -163,7 +155,7 @@ pub data IsUniversalValue (own : Option (List Named)) (limit : Limit) (t : ℕ) 
   bits : t ≡ 3 → text ≡ codes " " ++ bits_text limit w → IsUniversalValue own limit t w text
   -- OBJECT IDENTIFIER, and its name
   identifier : t ≡ 6 → (name : Option (List ℕ)) → IsNameAmong own w name
-      → text ≡ codes " " ++ identifier_text false w ++ name_text (limit_behind limit w) name
+      → text ≡ codes " " ++ identifier_text false w ++ name_text limit name
       → IsUniversalValue own limit t w text
   relative : t ≡ 13 → text ≡ codes " " ++ identifier_text true w → IsUniversalValue own limit t w text
   real : t ≡ 9 → text ≡ codes " " ++ real_text limit w → IsUniversalValue own limit t w text

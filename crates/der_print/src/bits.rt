@@ -28,7 +28,8 @@ impl fmt::Display for Bits<'_> {
         let [unused, octets @ ..] = self.octets else {
             return Ok(());
         };
-        let limit = self.limit.without(UNUSED);
+        let columns = if *unused == 0 { 0 } else { UNUSED };
+        let limit = self.limit.without(columns);
         write!(f, "{}", Hex { octets, limit })?;
         write_unused(f, *unused)
     }

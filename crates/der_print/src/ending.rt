@@ -1,9 +1,9 @@
 //! What follows the type on the line of an element.
-ghost use Rattle.std.specs.Prelude.{Some};
+ghost use Rattle.std.specs.Prelude.{◌≡◌, Some};
 ghost use Rattle.std.specs.Fmt.{DisplaysOnOk};
 ghost use Rattle.std.specs.Option.{option_map};
 ghost use Rattle.der_walk.specs.Walked.{visited_of};
-ghost use Rattle.der_print.specs.Lines.{IsEnding, IsValueSaid, after_spaces};
+ghost use Rattle.der_print.specs.Lines.{IsEnding, IsValueSaid, after_spaces, limit_beside};
 ghost use Rattle.der_print.specs.Names.{table_of};
 ghost use Rattle.der_print.specs.Remarks.{remark_text};
 ghost use Rattle.der_print.specs.Texts.{content_of};
@@ -45,8 +45,19 @@ fn write_value_said<'n, W: fmt::Write>(
     ensures { let v = visited_of element.now in let w = content_of element.now in
         WritesOne W.Write.write_str_gives f.old result (IsValueSaid (table_of own.entry) limit v w) f.new }
 {
-    write_value(f, element, limit, own)?;
-    write_remark(f, Remark::on(element))
+    let remark = Remark::on(element);
+    write_value(f, element, limit_beside(limit, remark), own)?;
+    write_remark(f, remark)
+}
+
+/// How much is printed of a value that something is said of: half of the columns are for the remark.
+fn limit_beside(limit: Limit, remark: Option<Remark<'_>>) -> Limit
+    ensures { result ≡ limit_beside limit (option_map remark_text remark.entry) }
+{
+    match limit {
+        Limit::Columns(columns) if remark.is_some() => Limit::Columns(columns / 2),
+        _ => limit,
+    }
 }
 
 /// Writes a remark after two spaces.

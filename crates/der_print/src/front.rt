@@ -1,14 +1,15 @@
 //! What precedes the value on the line of an element.
-ghost use Rattle.std.specs.Prelude.{◌≡◌, ◌+◌, ◌≤◌, ◌++◌, IfOk, OnOk};
+ghost use Rattle.std.specs.Prelude.{◌≡◌, ◌+◌, ◌*◌, ◌≤◌, ◌++◌, IfOk, OnOk, min};
 ghost use Rattle.der_walk.specs.Walked.{visited_of};
-ghost use Rattle.der_print.specs.Lines.{at_left, field_text, front_text, indentation, length_text, letters};
-ghost use Rattle.der_print.specs.Lines.{place_text};
+ghost use Rattle.der_print.specs.Lines.{at_left, field_text, front_text, length_text, letters, limit_of, margin_text};
+ghost use Rattle.der_print.specs.Lines.{most_spaces};
+ghost use Rattle.der_print.specs.Parts.{AddsPart};
 ghost use Rattle.der_print.specs.Texts.{octets_in, row_text};
 
 use crate::line_octets::LineOctets;
 use crate::row::Row;
-use der_walk::Element;
-use itoa::Buffer;
+use crate::style::Limit;
+use der_walk::{Element, MAX_DEPTH};
 use std::alloc::AllocError;
 
 /// Begins dim letters (ECMA-48 8.3.117), after an escape character.
@@ -29,22 +30,28 @@ const HEADER: usize = 2;
 /// The columns for the number of content octets.
 const LENGTH: usize = 7;
 
+/// The columns of the numbers, up to 10 million.
+const NUMBERS: usize = 19;
+
+/// The most spaces before the name of a field and the type. No element has more than 100 around it.
+const MOST_SPACES: usize = 2 * MAX_DEPTH;
+
 /// A line that goes on with where an element begins, how many octets its header and its content have, two spaces
-/// for each element around it, the name of its field, and its type or tag.
+/// for each element around it, the name of its field, and its type or tag, as much as fits.
 pub(crate) fn with_front(
     line: LineOctets,
     element: &Element<'_>,
     field: &str,
     colours: bool,
 ) -> Result<LineOctets, AllocError>
-    ensures { IfOk result (λ l. octets_in l
-        ≡ octets_in line ++ front_text colours field.now (visited_of element.now)) }
+    ensures { let v = visited_of element.now in IfOk result (λ l.
+        (octets_in l ≡ octets_in line ++ front_text colours line.left field.now v)
+        × (l.left ≡ limit_of line.left field.now v)) }
 {
     let mut line = line;
     put_letters(&mut line, colours, DIM)?;
-    put_place(&mut line, element)?;
+    put_margin(&mut line, element)?;
     put_letters(&mut line, colours, PLAIN)?;
-    put_indentation(&mut line, element.depth)?;
     put_field(&mut line, field)?;
     put_letters(&mut line, colours, BOLD)?;
     let mut line = line.with(element.name())?;
@@ -54,7 +61,8 @@ pub(crate) fn with_front(
 
 /// Begins or ends special letters, if there are colours.
 fn put_letters(line: &mut LineOctets, colours: bool, code: &[u8]) -> Result<(), AllocError>
-    ensures { OnOk result (octets_in line.new ≡ octets_in line.old ++ letters colours code.now) }
+    ensures octets { OnOk result (octets_in line.new ≡ octets_in line.old ++ letters colours code.now) }
+    ensures left { line.new.left ≡ line.old.left }
 {
     if colours {
         line.put(b"\x1b")?;
@@ -63,19 +71,31 @@ fn put_letters(line: &mut LineOctets, colours: bool, code: &[u8]) -> Result<(), 
     Ok(())
 }
 
-/// Puts the offset and the numbers of octets.
-fn put_place(line: &mut LineOctets, element: &Element<'_>) -> Result<(), AllocError>
-    ensures { let text = place_text element.now.offset element.now.header element.now.length in
-        OnOk result (octets_in line.new ≡ octets_in line.old ++ text) }
+/// Puts the offset and the numbers of octets, and two spaces for each element around.
+fn put_margin(line: &mut LineOctets, element: &Element<'_>) -> Result<(), AllocError>
+    ensures { OnOk result (AddsPart line.old (margin_text line.old.left (visited_of element.now)) line.new) }
 {
     let mut row = Row::new();
+    row.put_spaces(spaces_of(element.depth, line.left));
     row.put(b' ');
     put_length(&mut row, element.length);
     row.put(b'+');
     row.put_at_right(HEADER, element.header);
     row.put(b' ');
     row.put_at_right(OFFSET, element.offset);
-    line.put(row.as_bytes())
+    line.put_part(row.as_bytes())
+}
+
+/// How many spaces precede the name of a field and the type.
+fn spaces_of(depth: usize, limit: Limit) -> usize
+    ensures spaces { result ≡ min (depth * 2) (most_spaces limit) }
+    ensures few { result ≤ 200 }
+{
+    let most = match limit {
+        Limit::Columns(columns) => MOST_SPACES.min(columns.saturating_sub(NUMBERS) / 2),
+        Limit::Whole | Limit::Front => MOST_SPACES,
+    };
+    depth.saturating_mul(2).min(most)
 }
 
 /// Puts the number of content octets before a text.
@@ -85,31 +105,17 @@ fn put_length(row: &mut Row, length: Option<usize>)
     ensures room { row.old.start ≤ row.new.start + 20 }
 {
     match length {
-        Some(length) => {
-            let mut digits = Buffer::new();
-            row.put_at_left(LENGTH, digits.format(length).as_bytes());
-        }
+        Some(length) => row.put_number_at_left(LENGTH, length),
         None => row.put_at_left(LENGTH, b"inf"),
-    }
-}
-
-/// Puts two spaces for each element around one.
-fn put_indentation(line: &mut LineOctets, depth: usize) -> Result<(), AllocError>
-    ensures { OnOk result (octets_in line.new ≡ octets_in line.old ++ indentation depth) }
-{
-    match depth.checked_mul(2) {
-        Some(columns) => line.put_spaces(columns),
-        None => Err(AllocError),
     }
 }
 
 /// Puts the name of a field and a space, or nothing if the name is empty.
 fn put_field(line: &mut LineOctets, field: &str) -> Result<(), AllocError>
-    ensures { OnOk result (octets_in line.new ≡ octets_in line.old ++ field_text field.now) }
+    ensures { OnOk result (AddsPart line.old (field_text field.now) line.new) }
 {
     if field.is_empty() {
         return Ok(());
     }
-    line.put(field.as_bytes())?;
-    line.put(b" ")
+    line.put_word(field.as_bytes())
 }

@@ -3,9 +3,11 @@
 
 mod bits;
 mod characters;
+mod cut;
 mod ending;
 mod front;
 mod identifier;
+pub mod laws;
 mod line;
 mod line_octets;
 mod name;

@@ -1,12 +1,11 @@
 //! The line of an element.
-ghost use Rattle.std.specs.Prelude.{◌≡◌, ◌-◌, OnOk, if◌then◌else◌, length};
+ghost use Rattle.std.specs.Prelude.{OnOk};
 ghost use Rattle.der_walk.specs.Walked.{visited_of};
 ghost use Rattle.der_print.specs.Lines.{AddsFieldLine, AddsLine, AddsLineOf, AddsNamedLine};
 ghost use Rattle.der_print.specs.Names.{table_of};
-ghost use Rattle.der_print.specs.Texts.{content_of, octets_in};
+ghost use Rattle.der_print.specs.Texts.{content_of};
 
 use crate::front::with_front;
-use crate::line_octets::LineOctets;
 use crate::room::Room;
 use crate::style::Style;
 use der_walk::Element;
@@ -14,12 +13,9 @@ use oid_names::OwnNames;
 use std::io;
 use std::io::Write;
 
-/// The octets that begin and end dim and bold letters.
-const LETTERS: usize = 16;
-
 /// Writes the line of an element: where it begins, how many octets its header and its content have, its type, two
-/// columns further in for each element around it, and its value. It is made in `room`, which is returned for the next
-/// line.
+/// columns further in for each element around it, and its value. If `style` limits the columns, the line has no more
+/// characters. It is made in `room`, which is returned for the next line.
 pub fn write_line<W: Write>(
     out: &mut W,
     room: Room,
@@ -75,17 +71,10 @@ pub fn write_line_of<'n, W: Write>(
     ensures { OnOk result (AddsLineOf (table_of own.entry) field.now style (visited_of element.now)
         (content_of element.now) (W.contents out.old) (W.contents out.new)) }
 {
-    let front = with_front(room.line.cleared(), element, field, style.colours)?;
-    let limit = style.limit.without(columns_of(&front, style.colours));
-    let mut line = front.with_ending(element, limit, own)?;
+    let empty = room.line.cleared(style.limit);
+    let front = with_front(empty, element, field, style.colours)?;
+    let mut line = front.with_ending(element, own)?;
     line.put(b"\n")?;
     out.write_all(line.as_bytes())?;
     Ok(Room { line })
-}
-
-/// How many columns the line has so far, without what begins and ends special letters.
-fn columns_of(line: &LineOctets, colours: bool) -> usize
-    ensures { result ≡ length (octets_in line.now) - (if colours then 16 else 0) }
-{
-    line.len().saturating_sub(if colours { LETTERS } else { 0 })
 }

@@ -5,6 +5,7 @@ ghost use Rattle.hex.specs.Hex.{encode_lower};
 ghost use Rattle.der_print.specs.Values.{printed_octets};
 
 use crate::style::Limit;
+use crate::text::write_number;
 use std::{fmt, str};
 
 /// The most octets that are printed whole where long values are cut.
@@ -13,19 +14,22 @@ const WHOLE: usize = 32;
 /// How many octets are printed of more.
 const FRONT: usize = 20;
 
-/// The least octets that are printed where there are few columns.
-const LEAST: usize = 4;
-
 /// The column of the space before the digits.
 const SPACE: usize = 1;
 
-/// The columns that are kept for what is beside the digits, as in ` 3003... (1234 octets)`.
+/// The columns of what is beside the digits of a part, as in ` 3003...`.
+const POINTS: usize = 4;
+
+/// The columns that are kept for what is beside them with the number of octets, as in ` 3003... (1234 octets)`.
 const ENDING: usize = 18;
+
+/// The least columns in which the number of octets is printed.
+const LEAST: usize = 26;
 
 /// So many octets are written at once.
 const MANY: usize = 32;
 
-/// Octets in hexadecimal digits. Where not all of them are printed, their number follows.
+/// Octets in hexadecimal digits. Where not all of them are printed, three points and their number follow.
 #[derive(Clone, Copy)]
 pub struct Hex<'a> {
     pub octets: &'a [u8],
@@ -43,7 +47,8 @@ impl fmt::Display for Hex<'_> {
         let printed = printed_octets(number, self.limit);
         if printed < number {
             write_digits(f, &self.octets[..printed])?;
-            return write!(f, "... ({number} octets)");
+            f.write_str("...")?;
+            return write_number(f, number, self.limit, LEAST);
         }
         write_digits(f, self.octets)
     }
@@ -58,7 +63,8 @@ pub(crate) fn printed_octets(number: usize, limit: Limit) -> usize
         Limit::Front if number <= WHOLE => number,
         Limit::Front => FRONT,
         Limit::Columns(columns) if number <= columns.saturating_sub(SPACE) / 2 => number,
-        Limit::Columns(columns) => (columns.saturating_sub(ENDING) / 2).max(LEAST).min(number),
+        Limit::Columns(columns) if columns < LEAST => columns.saturating_sub(POINTS) / 2,
+        Limit::Columns(columns) => columns.saturating_sub(ENDING) / 2,
     }
 }
 

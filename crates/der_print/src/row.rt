@@ -6,7 +6,7 @@ ghost use Rattle.der_print.specs.Lines.{at_left, at_right};
 use itoa::write_digits;
 
 /// The most octets that a text has.
-const ROOM: usize = 64;
+const ROOM: usize = 264;
 
 /// A text that is written from its end. The octets before it are spaces.
 #[derive(Drop)]
@@ -14,7 +14,7 @@ pub(crate) struct Row {
     octets: [u8; ROOM],
     /// Where the text begins.
     start: usize,
-    ghost within: { start ≤ 64 },
+    ghost within: { start ≤ 264 },
     ghost free: { take start octets ≡ spaces start },
 }
 
@@ -24,7 +24,7 @@ impl Row {
     /// An empty text.
     pub(crate) fn new() -> Row
         ensures text { row_text result ≡ [] }
-        ensures room { result.start ≡ 64 }
+        ensures room { result.start ≡ 264 }
     {
         Row {
             octets: [b' '; ROOM],
@@ -49,6 +49,15 @@ impl Row {
         self.octets[self.start] = octet;
     }
 
+    /// Puts so many spaces before the text.
+    pub(crate) fn put_spaces(&mut self, count: usize)
+        requires { count ≤ self.old.start }
+        ensures text { row_text self.new ≡ spaces count ++ row_text self.old }
+        ensures room { self.new.start + count ≡ self.old.start }
+    {
+        self.start -= count;
+    }
+
     /// Puts a number before the text, and spaces before it up to so many columns.
     pub(crate) fn put_at_right(&mut self, columns: usize, number: usize)
         requires { (columns ≤ 20) × (20 ≤ self.old.start) }
@@ -60,6 +69,16 @@ impl Row {
         self.start = start.min(end - columns);
     }
 
+    /// Puts a number before the text, with spaces after it up to so many columns.
+    pub(crate) fn put_number_at_left(&mut self, columns: usize, number: usize)
+        requires { (columns ≤ 20) × (20 ≤ self.old.start) }
+        ensures text { row_text self.new ≡ at_left columns (decimal number) ++ row_text self.old }
+        ensures room { self.old.start ≤ self.new.start + 20 }
+    {
+        let end = self.start - columns.saturating_sub(digits_of(number));
+        self.start = write_digits(number as u64, &mut self.octets, end);
+    }
+
     /// Puts octets before the text, with spaces after them up to so many columns.
     pub(crate) fn put_at_left(&mut self, columns: usize, octets: &[u8])
         requires { (columns ≤ 20) × (length octets.now ≤ 20) × (20 ≤ self.old.start) }
@@ -69,5 +88,15 @@ impl Row {
         let end = self.start - columns.saturating_sub(octets.len());
         self.start = end - octets.len();
         self.octets[self.start..end].copy_from_slice(octets);
+    }
+}
+
+/// How many decimal digits a number has.
+fn digits_of(number: usize) -> usize
+    ensures { result ≡ length (decimal number) }
+{
+    match number.checked_ilog10() {
+        Some(zeros) => zeros as usize + 1,
+        None => 1,
     }
 }

@@ -8,12 +8,12 @@ pub enum Limit {
     Whole,
     /// Its first octets or characters, a fixed number.
     Front,
-    /// As much as fits in so many columns, or a little.
+    /// As much as fits in so many columns.
     Columns(usize),
 }
 
 impl Limit {
-    ghost use Rattle.der_print.specs.Values.{limit_without};
+    ghost use Rattle.der_print.specs.Cuts.{limit_without};
 
     /// The limit where so many columns are needed for something else.
     pub(crate) fn without(self, columns: usize) -> Limit

@@ -5,7 +5,8 @@ ghost use Rattle.std.specs.List.{list_all};
 ghost use Rattle.std.specs.Str.{chars};
 ghost use Rattle.der_base.specs.Text.{is_visible};
 ghost use Rattle.der_print.specs.Pieces.{pieces_left};
-ghost use Rattle.der_print.specs.Quotes.{is_plain, is_unescaped, piece_text, plain_text, printed_characters};
+ghost use Rattle.der_print.specs.Quotes.{is_plain, is_unescaped, octets_said, piece_text, plain_text};
+ghost use Rattle.der_print.specs.Quotes.{printed_characters};
 ghost use Rattle.der_print.specs.Values.{is_ascii_text};
 ghost use Rattle.der_print.specs.Writes.{WritesFirst};
 ghost use Rattle.der_print.specs.declared.pieces.Piece.{Piece};
@@ -18,16 +19,19 @@ use std::fmt;
 /// The most characters that are printed where long values are cut.
 pub(crate) const MOST: usize = 120;
 
-/// The least characters that are printed where there are few columns.
-pub(crate) const LEAST: usize = 10;
-
 /// The columns of the space before a text, and of its quotes.
 const QUOTES: usize = 3;
 
-/// The columns that are kept for what is beside the characters, as in `"..." (1234 octets)`.
+/// The columns of what is beside the characters of a part, as in `"..."`.
+const POINTS: usize = 6;
+
+/// The columns that are kept for what is beside them with the number of octets, as in `"..." (1234 octets)`.
 const ENDING: usize = 20;
 
-/// A string in quotes. If only its first characters are printed, the number of its octets follows.
+/// The least columns in which the number of octets is printed.
+const LEAST: usize = 30;
+
+/// A string in quotes. If only its first characters are printed, three points and the number of its octets follow.
 #[derive(Clone, Copy)]
 pub struct Quoted<'a> {
     /// The content octets.
@@ -50,7 +54,8 @@ impl fmt::Display for Quoted<'_> {
         if write_first(f, characters_of(self.number, self.octets), most)? {
             return f.write_str("\"");
         }
-        write!(f, "...\" ({number} octets)")
+        f.write_str("...\"")?;
+        write_number(f, number, self.limit, LEAST)
     }
 }
 
@@ -97,7 +102,23 @@ fn printed_characters(number: usize, limit: Limit) -> usize
         Limit::Whole => number,
         Limit::Front => MOST,
         Limit::Columns(columns) if number <= columns.saturating_sub(QUOTES) => number,
-        Limit::Columns(columns) => columns.saturating_sub(ENDING).max(LEAST),
+        Limit::Columns(columns) if columns < LEAST => columns.saturating_sub(POINTS),
+        Limit::Columns(columns) => columns.saturating_sub(ENDING),
+    }
+}
+
+/// Writes how many octets a value has of which a part is printed, where there are at least so many columns for both.
+pub(crate) fn write_number<W: fmt::Write>(
+    f: &mut fmt::Formatter<W>,
+    number: usize,
+    limit: Limit,
+    least: usize,
+) -> fmt::Result
+    ensures { DisplaysOnOk W.Write.write_str_gives f.old result (Some (octets_said least limit number)) f.new }
+{
+    match limit {
+        Limit::Columns(columns) if columns < least => Ok(()),
+        _ => write!(f, " ({number} octets)"),
     }
 }
 

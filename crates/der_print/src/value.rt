@@ -6,7 +6,7 @@ ghost use Rattle.der_print.specs.Names.{name_text, table_of};
 ghost use Rattle.der_print.specs.Quotes.{quoted_text};
 ghost use Rattle.der_print.specs.Texts.{content_of, octets_or_none};
 ghost use Rattle.der_print.specs.Values.{IsUniversalValue, IsValue, boolean_text, identifier_text};
-ghost use Rattle.der_print.specs.Values.{is_quoted_type, limit_behind, octets_text, truth_text};
+ghost use Rattle.der_print.specs.Values.{is_quoted_type, octets_text, truth_text};
 ghost use Rattle.der_print.specs.Writes.{WritesOne};
 ghost use Rattle.der_walk.specs.Walked.{visited_of};
 ghost use Rattle.oid_names.specs.OwnNames.{IsNameAmong, Named};
@@ -14,7 +14,7 @@ ghost use Rattle.oid_names.specs.OwnNames.{IsNameAmong, Named};
 use crate::bits::Bits;
 use crate::characters::write_pair;
 use crate::identifier::Arcs;
-use crate::name::{Name, limit_behind};
+use crate::name::Name;
 use crate::number::Number;
 use crate::octets::Hex;
 use crate::real::Real;
@@ -197,17 +197,14 @@ fn write_identifier<'n, W: fmt::Write>(
 ) -> fmt::Result
     ensures { let w = octets.now in WritesOne W.Write.write_str_gives f.old result (λ text. (name : Option (List ℕ))
         × IsNameAmong (table_of own.entry) w name
-        × (text ≡ codes " " ++ identifier_text false w ++ name_text (limit_behind limit w) name)) f.new }
+        × (text ≡ codes " " ++ identifier_text false w ++ name_text limit name)) f.new }
 {
     let arcs = Arcs {
         octets,
         relative: false,
     };
     match name_among(own, octets) {
-        Some(text) => {
-            let limit = limit_behind(limit, arcs)?;
-            write!(f, " {arcs} {}", Name { text, limit })
-        }
+        Some(text) => write!(f, " {arcs} {}", Name { text, limit }),
         None => write!(f, " {arcs}"),
     }
 }

@@ -32,6 +32,9 @@ const NEGATIVE: &[u8] = b"\x02\x0c\x80\x02\x03\x04\x05\x06\x07\x08\x09\x0a\x0b\x
 /// A text of 41 octets with two quotes and a line feed.
 const TEXT: &[u8] = b"\x0c\x29one \"two\" three\nfour five six seven eight";
 
+/// A text of 33 octets.
+const PLAIN_TEXT: &[u8] = b"\x0c\x21one two three four five six seven";
+
 /// A text of 30 characters in 60 octets.
 const WIDE_TEXT: &[u8] = b"\
         \x0c\x3c\xc3\xab\xc3\xab\xc3\xab\xc3\xab\xc3\xab\xc3\xab\xc3\xab\xc3\xab\xc3\xab\xc3\xab\xc3\xab\xc3\xab\xc3\
@@ -41,7 +44,7 @@ const WIDE_TEXT: &[u8] = b"\
 /// A text of 20 characters of two octets each.
 const UNITS: &[u8] = b"\x1e\x28\0a\0b\0c\0d\0e\0f\0g\0h\0i\0j\0k\0l\0m\0n\0o\0p\0q\0r\0s\0t";
 
-const ROWS: [Row; 18] = [
+const ROWS: [Row; 26] = [
     Row {
         name: "octets that fit",
         octets: OCTETS,
@@ -55,10 +58,46 @@ const ROWS: [Row; 18] = [
         line: "      0  2+24      OCTET STRING 808182838485868788898a8b8c8d8e... (24 octets)\n",
     },
     Row {
-        name: "octets in hardly any columns",
+        name: "octets in 26 columns, with their number",
+        octets: OCTETS,
+        limit: Limit::Columns(57),
+        line: "      0  2+24      OCTET STRING 80818283... (24 octets)\n",
+    },
+    Row {
+        name: "octets in 25 columns, without their number",
+        octets: OCTETS,
+        limit: Limit::Columns(56),
+        line: "      0  2+24      OCTET STRING 80818283848586878889...\n",
+    },
+    Row {
+        name: "two columns behind the type",
+        octets: OCTETS,
+        limit: Limit::Columns(33),
+        line: "      0  2+24      OCTET STRING..\n",
+    },
+    Row {
+        name: "no column behind the type",
+        octets: OCTETS,
+        limit: Limit::Columns(31),
+        line: "      0  2+24      OCTET STRING\n",
+    },
+    Row {
+        name: "a type that is cut",
+        octets: OCTETS,
+        limit: Limit::Columns(30),
+        line: "      0  2+24      OCTET ST...\n",
+    },
+    Row {
+        name: "numbers that are cut",
+        octets: OCTETS,
+        limit: Limit::Columns(10),
+        line: "      0...\n",
+    },
+    Row {
+        name: "no columns",
         octets: OCTETS,
         limit: Limit::Columns(0),
-        line: "      0  2+24      OCTET STRING 80818283... (24 octets)\n",
+        line: "\n",
     },
     Row {
         name: "octets in a pipe",
@@ -100,25 +139,37 @@ const ROWS: [Row; 18] = [
         name: "a negative number, one column less",
         octets: NEGATIVE,
         limit: Limit::Columns(84),
-        line: "      0  2+12      INTEGER 0x80020304... (12 octets) (negative, in two's complement)\n",
+        line: "      0  2+12      INTEGER 0x8002030405060708090a... (negative, in two's complement)\n",
+    },
+    Row {
+        name: "a text that fits with its escapes",
+        octets: TEXT,
+        limit: Limit::Columns(76),
+        line: "      0  2+41      UTF8String \"one \\\"two\\\" three\\nfour five six seven eight\"\n",
     },
     Row {
         name: "a text that fits without its escapes",
         octets: TEXT,
         limit: Limit::Columns(73),
-        line: "      0  2+41      UTF8String \"one \\\"two\\\" three\\nfour five six seven eight\"\n",
+        line: "      0  2+41      UTF8String \"one \\\"two\\\" three\\nfour five six seven ...\n",
     },
     Row {
-        name: "a text, one column less",
+        name: "a text, one column less, whose escapes need three of those of its number",
         octets: TEXT,
         limit: Limit::Columns(72),
-        line: "      0  2+41      UTF8String \"one \\\"two\\\" three\\nfour fi...\" (41 octets)\n",
+        line: "      0  2+41      UTF8String \"one \\\"two\\\" three\\nfour fi...\" (41 oct...\n",
     },
     Row {
-        name: "a text in hardly any columns",
-        octets: TEXT,
-        limit: Limit::Columns(0),
-        line: "      0  2+41      UTF8String \"one \\\"two\\\" ...\" (41 octets)\n",
+        name: "a text in 29 columns, without its number",
+        octets: PLAIN_TEXT,
+        limit: Limit::Columns(58),
+        line: "      0  2+33      UTF8String \"one two three four five...\"\n",
+    },
+    Row {
+        name: "a text in 30 columns, with its number",
+        octets: PLAIN_TEXT,
+        limit: Limit::Columns(59),
+        line: "      0  2+33      UTF8String \"one two th...\" (33 octets)\n",
     },
     Row {
         name: "a text, whole",
