@@ -7,5 +7,6 @@ pub mod PartLaws
 pub mod PieceLaws
 pub mod QuoteLaws
 pub mod RowLaws
+pub mod SpacedLaws
 pub mod ValueLaws
 mod WorkedRows

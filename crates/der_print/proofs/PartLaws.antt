@@ -1,30 +1,30 @@
 -- A line that grows by a part.
-use Rattle.std.proofs.Common.{◌≡◌, ℕ, ◌+◌, ◌-◌, ◌≤◌, List, [], ◌++◌, take, drop, length, min, Result, Ok, Err, IfOk, refl, sym, ap, subst, ◌∙◌, arith, take-take, append-nil, append_assoc, length-append}
+use Rattle.std.proofs.Common.{◌≡◌, ℕ, ◌+◌, ◌-◌, ◌≤◌, List, [], ◌++◌, take, drop, length, min, Result, Ok, Err, IfOk, sym, ap, ◌∙◌, arith, take-take, append-nil, length-append}
 use Rattle.std.proofs.Math.ListN.{drop_of_length-le}
 use Rattle.std.proofs.Math.Seq.{drop-append_seam, take-append_seam}
 use Rattle.std.proofs.lemmas.List.{drop-take, length-take, take-append-drop}
-use Rattle.der_print.specs.declared.line_octets.LineOctets.{LineOctets}
 use Rattle.der_print.specs.declared.style.Limit.{Limit}
 use Rattle.der_print.specs.declared.style.Limit.TheVariants.{Columns}
 use Rattle.der_print.specs.Cuts.{behind, cut, in_columns}
-use Rattle.der_print.specs.Parts.{AddsPart, EndsPart}
-use Rattle.der_print.specs.Texts.{octets_in}
+use Rattle.der_print.specs.Parts.{AddsPart}
 use Rattle.der_print.proofs.CutLaws.{behind_none, cut_none}
 
 -- a line that grew by nothing
-pub adds_none : (l : LineOctets) → AddsPart l [] l
-adds_none l = record { octets = sym (append-nil (octets_in l)) ∙ ap (λ w. octets_in l ++ w) (sym (cut_none l.left)); left = behind_none l.left }
+pub grown_none : (limit : Limit) (w : List ℕ) → w ≡ w ++ cut limit []
+grown_none limit w = sym (append-nil w) ∙ ap (λ v. w ++ v) (sym (cut_none limit))
+
+pub adds_none : (limit : Limit) (w : List ℕ) → AddsPart limit [] w w limit
+adds_none limit w = record { octets = grown_none limit w; left = behind_none limit }
 
 -- a text that was put behind a line is its last part
-pub part_ended : (old new : LineOctets) (start : ℕ) (text all : List ℕ) → start ≡ length (octets_in old) → all ≡ octets_in old ++ text
-    → EndsPart start all old.left new → AddsPart old text new
-part_ended old new start text all at is ends =
-    let w = octets_in old in
+pub part_ended : (limit rest : Limit) (w text all new : List ℕ) (start : ℕ) → start ≡ length w → all ≡ w ++ text
+    → AddsPart limit (drop start all) (take start all) new rest → AddsPart limit text w new rest
+part_ended limit rest w text all new start at is ends =
     let front = ap (λ n. take n all) at ∙ ap (take (length w)) is ∙ take-append_seam w text in
     let part = ap (λ n. drop n all) at ∙ ap (drop (length w)) is ∙ drop-append_seam w text in
     record {
-      octets = ends.octets ∙ ap (λ v. v ++ cut old.left (drop start all)) front ∙ ap (λ v. w ++ cut old.left v) part;
-      left = ends.left ∙ ap (λ v. behind old.left (cut old.left v)) part;
+      octets = ends.octets ∙ ap (λ v. v ++ cut limit (drop start all)) front ∙ ap (λ v. w ++ cut limit v) part;
+      left = ends.left ∙ ap (λ v. behind limit (cut limit v)) part;
     }
 
 -- what is left behind a part that was cut
@@ -52,9 +52,3 @@ kept_after w start kept n within inside is = ap (λ k. take k w) is ∙ take_plu
 pub ok_then : {T E : Type 0} (r : Result T E) (P Q : T → Type 0) → ((x : T) → P x → Q x) → IfOk r P → IfOk r Q
 ok_then (Ok x) P Q f h = f x h
 ok_then (Err e) P Q f h = tt
-
--- a part of which so much is left before it
-pub part_added : (l m : LineOctets) (text : Limit → List ℕ) (left : Limit) → l.left ≡ left → AddsPart l (text l.left) m
-    → (octets_in m ≡ octets_in l ++ cut left (text left)) × (m.left ≡ behind left (cut left (text left)))
-part_added l m text left e p =
-    subst (λ x. (octets_in m ≡ octets_in l ++ cut x (text x)) × (m.left ≡ behind x (cut x (text x)))) e (p.octets, p.left)

@@ -1,5 +1,5 @@
 //! What follows the type on the line of an element.
-ghost use Rattle.std.specs.Prelude.{◌≡◌, Some};
+ghost use Rattle.std.specs.Prelude.{◌≡◌, IsTrue, None, Some, true};
 ghost use Rattle.std.specs.Fmt.{DisplaysOnOk};
 ghost use Rattle.std.specs.Option.{option_map};
 ghost use Rattle.der_walk.specs.Walked.{visited_of};
@@ -17,7 +17,15 @@ use der_walk::Element;
 use oid_names::OwnNames;
 use std::fmt;
 
+/// Whether nothing follows the type on the line of an element, as on that of a SEQUENCE.
+pub(crate) fn ends_with_type(element: &Element<'_>) -> bool
+    ensures { IsTrue result → (element.now.holds ≡ None) × (element.now.constructed ≡ true) }
+{
+    element.constructed && element.holds.is_none()
+}
+
 /// Writes what follows the type on the line of an element: its value, and what is said of one that breaks its type.
+#[inline(never)]
 pub(crate) fn write_ending<'n, W: fmt::Write>(
     f: &mut fmt::Formatter<W>,
     element: &Element<'_>,

@@ -8,7 +8,7 @@ ghost use Rattle.der_print.specs.Texts.{octets_in, row_text};
 
 use crate::line_octets::LineOctets;
 use crate::row::Row;
-use crate::style::Limit;
+use crate::style::{Limit, Style};
 use der_walk::{Element, MAX_DEPTH};
 use std::alloc::AllocError;
 
@@ -37,32 +37,35 @@ const NUMBERS: usize = 19;
 const MOST_SPACES: usize = 2 * MAX_DEPTH;
 
 /// A line that goes on with where an element begins, how many octets its header and its content have, two spaces
-/// for each element around it, the name of its field, and its type or tag, as much as fits.
+/// for each element around it, the name of its field, and its type or tag, as much as fits. With it comes how much of
+/// the line is left.
 pub(crate) fn with_front(
     line: LineOctets,
     element: &Element<'_>,
     field: &str,
-    colours: bool,
-) -> Result<LineOctets, AllocError>
-    ensures { let v = visited_of element.now in IfOk result (λ l.
-        (octets_in l ≡ octets_in line ++ front_text colours line.left field.now v)
-        × (l.left ≡ limit_of line.left field.now v)) }
+    style: Style,
+) -> Result<(LineOctets, Limit), AllocError>
+    ensures { let v = visited_of element.now in IfOk result (λ front.
+        (octets_in front.0 ≡ octets_in line ++ front_text style.colours style.limit field.now v)
+        × (front.1 ≡ limit_of style.limit field.now v)) }
 {
+    let colours = style.colours;
     let mut line = line;
     put_letters(&mut line, colours, DIM)?;
-    put_margin(&mut line, element)?;
+    let limit = put_margin(&mut line, element, style.limit)?;
     put_letters(&mut line, colours, PLAIN)?;
-    put_field(&mut line, field)?;
+    let limit = put_field(&mut line, field, limit)?;
     put_letters(&mut line, colours, BOLD)?;
+    let start = line.len();
     let mut line = line.with(element.name())?;
+    let limit = line.end_part(start, limit)?;
     put_letters(&mut line, colours, PLAIN)?;
-    Ok(line)
+    Ok((line, limit))
 }
 
 /// Begins or ends special letters, if there are colours.
 fn put_letters(line: &mut LineOctets, colours: bool, code: &[u8]) -> Result<(), AllocError>
-    ensures octets { OnOk result (octets_in line.new ≡ octets_in line.old ++ letters colours code.now) }
-    ensures left { line.new.left ≡ line.old.left }
+    ensures { OnOk result (octets_in line.new ≡ octets_in line.old ++ letters colours code.now) }
 {
     if colours {
         line.put(b"\x1b")?;
@@ -71,19 +74,25 @@ fn put_letters(line: &mut LineOctets, colours: bool, code: &[u8]) -> Result<(), 
     Ok(())
 }
 
-/// Puts the offset and the numbers of octets, and two spaces for each element around.
-fn put_margin(line: &mut LineOctets, element: &Element<'_>) -> Result<(), AllocError>
-    ensures { OnOk result (AddsPart line.old (margin_text line.old.left (visited_of element.now)) line.new) }
+/// Puts the offset and the numbers of octets, and two spaces for each element around. Returns how much of the line is
+/// left.
+fn put_margin(
+    line: &mut LineOctets,
+    element: &Element<'_>,
+    limit: Limit,
+) -> Result<Limit, AllocError>
+    ensures { let text = margin_text limit (visited_of element.now) in
+        IfOk result (AddsPart limit text (octets_in line.old) (octets_in line.new)) }
 {
     let mut row = Row::new();
-    row.put_spaces(spaces_of(element.depth, line.left));
+    row.put_spaces(spaces_of(element.depth, limit));
     row.put(b' ');
     put_length(&mut row, element.length);
     row.put(b'+');
     row.put_at_right(HEADER, element.header);
     row.put(b' ');
     row.put_at_right(OFFSET, element.offset);
-    line.put_part(row.as_bytes())
+    line.put_part(row.as_bytes(), limit)
 }
 
 /// How many spaces precede the name of a field and the type.
@@ -110,12 +119,12 @@ fn put_length(row: &mut Row, length: Option<usize>)
     }
 }
 
-/// Puts the name of a field and a space, or nothing if the name is empty.
-fn put_field(line: &mut LineOctets, field: &str) -> Result<(), AllocError>
-    ensures { OnOk result (AddsPart line.old (field_text field.now) line.new) }
+/// Puts the name of a field and a space, or nothing if the name is empty. Returns how much of the line is left.
+fn put_field(line: &mut LineOctets, field: &str, limit: Limit) -> Result<Limit, AllocError>
+    ensures { IfOk result (AddsPart limit (field_text field.now) (octets_in line.old) (octets_in line.new)) }
 {
     if field.is_empty() {
-        return Ok(());
+        return Ok(limit);
     }
-    line.put_word(field.as_bytes())
+    line.put_word(field.as_bytes(), limit)
 }

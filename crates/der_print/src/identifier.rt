@@ -1,9 +1,10 @@
 //! Object identifiers (X.690 8.19 and 8.20).
-ghost use Rattle.std.specs.Prelude.{◌≡◌, Some};
+ghost use Rattle.std.specs.Prelude.{◌≡◌, ◌++◌, Some, codes, decimal};
 ghost use Rattle.std.specs.Fmt.{DisplaysOnOk};
 ghost use Rattle.der_base.specs.Pretty.{pointed};
 ghost use Rattle.der_values.specs.Identifiers.{u128_arcs_left};
 
+use crate::number::write_decimal;
 use crate::octets::Hex;
 use crate::style::Limit;
 use der_values::{ObjectIdentifier, U128Arcs};
@@ -58,7 +59,7 @@ impl fmt::Display for Numbers<'_> {
         let Some(first) = arcs.next() else {
             return Ok(());
         };
-        write!(f, "{first}")?;
+        write_decimal(f, first)?;
         write_further_arcs(f, arcs)
     }
 }
@@ -68,9 +69,17 @@ fn write_further_arcs<W: fmt::Write>(f: &mut fmt::Formatter<W>, arcs: U128Arcs<'
     ensures { DisplaysOnOk W.Write.write_str_gives f.old result (Some (pointed (u128_arcs_left arcs.entry))) f.new }
 {
     for arc in arcs {
-        write!(f, ".{arc}")?;
+        write_arc(f, arc)?;
     }
     Ok(())
+}
+
+/// Writes an arc after a point.
+fn write_arc<W: fmt::Write>(f: &mut fmt::Formatter<W>, arc: u128) -> fmt::Result
+    ensures { DisplaysOnOk W.Write.write_str_gives f.old result (Some (codes "." ++ decimal arc)) f.new }
+{
+    f.write_str(".")?;
+    write_decimal(f, arc)
 }
 
 /// The identifier with these content octets.

@@ -19,6 +19,7 @@ mod remark;
 mod room;
 mod row;
 mod shown;
+mod spaced;
 mod style;
 mod text;
 mod time;

@@ -71,9 +71,8 @@ pub fn write_line_of<'n, W: Write>(
     ensures { OnOk result (AddsLineOf (table_of own.entry) field.now style (visited_of element.now)
         (content_of element.now) (W.contents out.old) (W.contents out.new)) }
 {
-    let empty = room.line.cleared(style.limit);
-    let front = with_front(empty, element, field, style.colours)?;
-    let mut line = front.with_ending(element, own)?;
+    let (front, limit) = with_front(room.line.cleared(), element, field, style)?;
+    let mut line = front.with_ending(element, limit, own)?;
     line.put(b"\n")?;
     out.write_all(line.as_bytes())?;
     Ok(Room { line })

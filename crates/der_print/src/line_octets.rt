@@ -1,13 +1,14 @@
 //! The octets of a line, which grow at their end.
-ghost use Rattle.std.specs.Prelude.{◌≡◌, ◌≤◌, [], ◌++◌, IfOk, IfSome, OnOk, codes, drop, length, take};
-ghost use Rattle.der_print.specs.Cuts.{in_columns};
+ghost use Rattle.std.specs.Prelude.{◌≡◌, [], ◌++◌, IfOk, IfSome, OnOk, codes, drop, length, take};
+ghost use Rattle.der_print.specs.Cuts.{cut, in_columns};
 ghost use Rattle.der_print.specs.Names.{table_of};
-ghost use Rattle.der_print.specs.Parts.{AddsEnding, AddsPart, EndsPart};
+ghost use Rattle.der_print.specs.Parts.{AddsEnding, AddsPart};
+ghost use Rattle.der_print.specs.Shown.{IsShown};
 ghost use Rattle.der_print.specs.Texts.{content_of, octets_in};
 ghost use Rattle.der_walk.specs.Walked.{visited_of};
 
 use crate::cut::{characters, end_of};
-use crate::ending::write_ending;
+use crate::ending::{ends_with_type, write_ending};
 use crate::shown::are_shown;
 use crate::style::Limit;
 use der_walk::Element;
@@ -22,8 +23,6 @@ const POINTS: &[u8] = b"...";
 #[derive(Drop)]
 pub(crate) struct LineOctets {
     octets: Vec<u8>,
-    /// How much of the line is left.
-    pub(crate) left: Limit,
 }
 
 impl LineOctets {
@@ -33,18 +32,16 @@ impl LineOctets {
     {
         LineOctets {
             octets: Vec::new(alloc),
-            left: Limit::Whole,
         }
     }
 
-    /// No octets of another line, in the memory of these.
-    pub(crate) fn cleared(self, left: Limit) -> LineOctets
-        ensures octets { octets_in result ≡ [] }
-        ensures left { result.left ≡ left }
+    /// No octets, in the memory of these.
+    pub(crate) fn cleared(self) -> LineOctets
+        ensures { octets_in result ≡ [] }
     {
         let mut octets = self.octets;
         octets.clear();
-        LineOctets { octets, left }
+        LineOctets { octets }
     }
 
     /// The octets.
@@ -61,41 +58,39 @@ impl LineOctets {
         self.octets.len()
     }
 
-    /// Puts octets at the end that need no columns.
+    /// Puts octets at the end.
     pub(crate) fn put(&mut self, octets: &[u8]) -> Result<(), AllocError>
-        ensures octets { OnOk result (octets_in self.new ≡ octets_in self.old ++ octets.now) }
-        ensures left { self.new.left ≡ self.old.left }
+        ensures { OnOk result (octets_in self.new ≡ octets_in self.old ++ octets.now) }
     {
         self.octets.extend_from_slice(octets)
     }
 
-    /// Puts a part of the line at the end, as much of it as fits.
-    pub(crate) fn put_part(&mut self, text: &[u8]) -> Result<(), AllocError>
-        ensures { OnOk result (AddsPart self.old text.now self.new) }
+    /// Puts a part of the line at the end, as much of it as fits. Returns how much of the line is left.
+    pub(crate) fn put_part(&mut self, text: &[u8], limit: Limit) -> Result<Limit, AllocError>
+        ensures { IfOk result (AddsPart limit text.now (octets_in self.old) (octets_in self.new)) }
     {
         let start = self.len();
         self.put(text)?;
-        self.end_part(start)
+        self.end_part(start, limit)
     }
 
-    /// Puts a word and a space at the end, as much of them as fits.
-    pub(crate) fn put_word(&mut self, word: &[u8]) -> Result<(), AllocError>
-        ensures { OnOk result (AddsPart self.old (word.now ++ codes " ") self.new) }
+    /// Puts a word and a space at the end, as much of them as fits. Returns how much of the line is left.
+    pub(crate) fn put_word(&mut self, word: &[u8], limit: Limit) -> Result<Limit, AllocError>
+        ensures { IfOk result (AddsPart limit (word.now ++ codes " ") (octets_in self.old) (octets_in self.new)) }
     {
         let start = self.len();
         self.put(word)?;
         self.put(b" ")?;
-        self.end_part(start)
+        self.end_part(start, limit)
     }
 
-    /// The octets, and after them as much of the text of a value as fits.
+    /// The octets, and after them the text of a value.
     pub(crate) fn with<D: fmt::Display + Drop>(self, value: D) -> Result<LineOctets, AllocError>
-        ensures { IfOk result (λ l. IfSome (D.output value) (λ text. AddsPart self text l)) }
+        ensures { IfOk result (λ l. IfSome (D.output value) (λ text. octets_in l ≡ octets_in self ++ text)) }
     {
-        let (start, left) = (self.len(), self.left);
         let mut f = fmt::Formatter::new(self);
         match f.write(value) {
-            Ok(()) => f.into_inner().with_part(start, left),
+            Ok(()) => Ok(f.into_inner()),
             Err(_) => Err(AllocError),
         }
     }
@@ -105,57 +100,58 @@ impl LineOctets {
     pub(crate) fn with_ending<'n>(
         self,
         element: &Element<'_>,
+        limit: Limit,
         own: Option<&'n OwnNames<'n>>,
     ) -> Result<LineOctets, AllocError>
-        ensures { IfOk result (AddsEnding (table_of own.entry) (visited_of element.now) (content_of element.now) self) }
+        ensures { let v = visited_of element.now in let w = content_of element.now in
+            IfOk result (λ l. AddsEnding (table_of own.entry) limit v w (octets_in self) (octets_in l)) }
     {
-        let (start, left) = (self.len(), self.left);
+        if ends_with_type(element) {
+            return Ok(self);
+        }
+        let start = self.len();
         let mut f = fmt::Formatter::new(self);
-        match write_ending(&mut f, element, left, own) {
-            Ok(()) => {
-                let line = f.into_inner();
-                if are_shown(line.octets_from(start)) {
-                    line.with_part(start, left)
-                } else {
-                    Err(AllocError)
-                }
-            }
+        match write_ending(&mut f, element, limit, own) {
+            Ok(()) => f.into_inner().with_shown(start, limit),
             Err(_) => Err(AllocError),
         }
     }
 
-    /// The octets, of which those from an offset on are the last part of a line of which so much is left before it.
-    fn with_part(self, start: usize, left: Limit) -> Result<LineOctets, AllocError>
-        ensures { IfOk result (EndsPart start (octets_in self) left) }
+    /// The octets, of which as many of those from an offset on as fit. An error if one of them is a control character
+    /// of ASCII.
+    fn with_shown(self, start: usize, limit: Limit) -> Result<LineOctets, AllocError>
+        ensures { let text = drop start (octets_in self) in IfOk result (λ l. IsShown text
+            × (octets_in l ≡ take start (octets_in self) ++ cut limit text)) }
     {
-        let mut line = LineOctets {
-            octets: self.octets,
-            left,
-        };
-        line.end_part(start)?;
+        if !are_shown(self.octets_from(start)) {
+            return Err(AllocError);
+        }
+        let mut line = self;
+        line.end_part(start, limit)?;
         Ok(line)
     }
 
-    /// Ends the last part of the line, which begins at an offset: as much of it stays as fits.
-    fn end_part(&mut self, start: usize) -> Result<(), AllocError>
-        ensures { OnOk result (EndsPart start (octets_in self.old) self.old.left self.new) }
+    /// Ends the last part of the line, which begins at an offset: as much of it stays as fits. Returns how much of the
+    /// line is left.
+    pub(crate) fn end_part(&mut self, start: usize, limit: Limit) -> Result<Limit, AllocError>
+        ensures { let old = octets_in self.old in
+            IfOk result (AddsPart limit (drop start old) (take start old) (octets_in self.new)) }
     {
-        match self.left {
+        match limit {
             Limit::Columns(columns) => {
                 self.cut(start, columns)?;
                 let part = self.len().saturating_sub(start);
-                self.left = Limit::Columns(columns.saturating_sub(part));
-                Ok(())
+                Ok(Limit::Columns(columns.saturating_sub(part)))
             }
-            _ => Ok(()),
+            _ => Ok(limit),
         }
     }
 
     /// Cuts the octets from an offset on to so many columns.
+    #[inline(never)]
     fn cut(&mut self, start: usize, columns: usize) -> Result<(), AllocError>
-        ensures octets { let old = octets_in self.old in OnOk result
+        ensures { let old = octets_in self.old in OnOk result
             (octets_in self.new ≡ take start old ++ in_columns columns (drop start old)) }
-        ensures left { self.new.left ≡ self.old.left }
     {
         let text = self.octets_from(start);
         if characters(text) <= columns {

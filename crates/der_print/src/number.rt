@@ -1,10 +1,12 @@
 //! INTEGER and ENUMERATED (X.690 8.3 and 8.4).
-ghost use Rattle.std.specs.Prelude.{◌≡◌};
+ghost use Rattle.std.specs.Prelude.{◌≡◌, Some};
+ghost use Rattle.std.specs.Fmt.{DisplaysOnOk};
 ghost use Rattle.der_print.specs.Values.{without_leading_zero};
 
 use crate::octets::Hex;
 use crate::style::Limit;
 use der_base::integer::{is_negative, read_i64, read_u64};
+use itoa::{Buffer, Integer};
 use std::fmt;
 
 /// The columns of `0x`.
@@ -30,10 +32,10 @@ impl fmt::Display for Number<'_> {
     fn fmt<W: fmt::Write>(&self, f: &mut fmt::Formatter<W>) -> fmt::Result {
         let octets = self.octets;
         if let Ok(number) = read_i64(octets) {
-            return write!(f, "{number}");
+            return write_decimal(f, number);
         }
         if let Ok(number) = read_u64(octets) {
-            return write!(f, "{number}");
+            return write_decimal(f, number);
         }
         if is_negative(octets) {
             let limit = self.limit.without(PREFIX + NEGATIVE);
@@ -44,6 +46,17 @@ impl fmt::Display for Number<'_> {
         let octets = without_leading_zero(octets);
         write!(f, "0x{}", Hex { octets, limit })
     }
+}
+
+/// Writes a number in decimal.
+pub(crate) fn write_decimal<W: fmt::Write, N: Integer>(
+    f: &mut fmt::Formatter<W>,
+    number: N,
+) -> fmt::Result
+    ensures { DisplaysOnOk W.Write.write_str_gives f.old result (Some (N.text number)) f.new }
+{
+    let mut digits = Buffer::new();
+    f.write_str(digits.format(number))
 }
 
 /// The octets without one that is 0 before others.

@@ -18,6 +18,7 @@ use crate::name::Name;
 use crate::number::Number;
 use crate::octets::Hex;
 use crate::real::Real;
+use crate::spaced::write_spaced;
 use crate::style::Limit;
 use crate::text::{Quoted, is_printable_ascii};
 use crate::time::Moment;
@@ -102,10 +103,10 @@ fn write_universal<'n, W: fmt::Write>(
     match number {
         0 | 5 => write_octets(f, octets, limit),
         1 => write_boolean(f, octets, limit),
-        2 | 10 => write!(f, " {}", Number { octets, limit }),
-        3 => write!(f, " {}", Bits { octets, limit }),
+        2 | 10 => write_spaced(f, Number { octets, limit }),
+        3 => write_spaced(f, Bits { octets, limit }),
         6 => write_identifier(f, octets, limit, own),
-        9 => write!(f, " {}", Real { octets, limit }),
+        9 => write_spaced(f, Real { octets, limit }),
         13 => write_relative(f, octets),
         23 => write_time(f, number, octets, limit),
         24 => write_time(f, number, octets, limit),
@@ -131,14 +132,13 @@ fn write_quoted<W: fmt::Write>(
     ensures { DisplaysOnOk W.Write.write_str_gives f.old result
         (Some (codes " " ++ quoted_text limit number octets.now)) f.new }
 {
-    write!(
+    write_spaced(
         f,
-        " {}",
         Quoted {
             octets,
             number,
-            limit
-        }
+            limit,
+        },
     )
 }
 
@@ -156,7 +156,7 @@ fn write_octets<W: fmt::Write>(
     if is_printable_ascii(octets) {
         return write_quoted(f, Tag::Ia5String.0, octets, limit);
     }
-    write!(f, " {}", Hex { octets, limit })
+    write_spaced(f, Hex { octets, limit })
 }
 
 /// Writes a BOOLEAN, or octets that are none.
@@ -204,8 +204,11 @@ fn write_identifier<'n, W: fmt::Write>(
         relative: false,
     };
     match name_among(own, octets) {
-        Some(text) => write!(f, " {arcs} {}", Name { text, limit }),
-        None => write!(f, " {arcs}"),
+        Some(text) => {
+            write_spaced(f, arcs)?;
+            write_spaced(f, Name { text, limit })
+        }
+        None => write_spaced(f, arcs),
     }
 }
 
@@ -218,7 +221,7 @@ fn write_relative<W: fmt::Write>(f: &mut fmt::Formatter<W>, octets: &[u8]) -> fm
         octets,
         relative: true,
     };
-    write!(f, " {arcs}")
+    write_spaced(f, arcs)
 }
 
 /// Writes a time, as a text where there is no such moment.
@@ -234,7 +237,7 @@ fn write_time<W: fmt::Write>(
     match read_time(Tag(number), octets) {
         Some(time) => {
             let is_utc_time = number == Tag::UtcTime.0;
-            write!(f, " {}", Moment { time, is_utc_time })
+            write_spaced(f, Moment { time, is_utc_time })
         }
         None => write_quoted(f, number, octets, limit),
     }

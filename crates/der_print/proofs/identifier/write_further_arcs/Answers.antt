@@ -12,6 +12,6 @@ loop-arc-preserved g c = record {
       let others = pointed (u128_arcs_left c.next.new.self) in (
         done.0 ++ text,
         done.1 ∙ ap (λ l. done.0 ++ pointed l) c.in-Some.ensures.steps ∙ sym (append_assoc done.0 text others),
-        put_two _ _ _ _ done.0 text _ done.2 (c.in_ok-write.ensures.writes done.2.plain refl) refl,
+        put_two _ _ _ _ done.0 text _ done.2 (c.in_ok-write_arc.ensures done.2.plain refl) refl,
       );
 }

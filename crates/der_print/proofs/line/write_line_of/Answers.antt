@@ -1,9 +1,9 @@
 use Rattle.std.proofs.Common.{◌++◌, codes, ap, subst, ◌∙◌}
 use Rattle.der_walk.specs.Walked.{visited_of}
-use Rattle.der_print.specs.Cuts.{cut}
 use Rattle.der_print.specs.Lines.{IsEnding, front_text, limit_of}
 use Rattle.der_print.specs.Names.{table_of}
-use Rattle.der_print.specs.Texts.{content_of, octets_in}
+use Rattle.der_print.specs.Texts.{content_of}
+use Rattle.der_print.proofs.FrontLaws.{same_part}
 use Rattle.der_print.proofs.line.write_line_of.Goals as goal
 
 pub returns : goal.returns
@@ -12,13 +12,9 @@ returns g c =
     let w = content_of c.args.element.now in
     let own = table_of c.args.own in
     let field = c.args.field.now in
-    let limit = c.args.style.limit in
-    let colours = c.args.style.colours in
-    let empty = c.cleared-empty.ensures in
-    let front = front_text colours limit field v in
-    let has_front = c.in_ok-front.ensures.0 ∙ ap (λ o. o ++ front_text colours c.cleared-empty.result.left field v) empty.octets
-    ∙ ap (λ l. front_text colours l field v) empty.left in
-    let left = c.in_ok-front.ensures.1 ∙ ap (λ l. limit_of l field v) empty.left in
+    let front = front_text c.args.style.colours c.args.style.limit field v in
+    let has_front = c.in_ok-front.ensures.0 ∙ ap (λ o. o ++ front) c.cleared.ensures in
+    let left = c.in_ok-front.ensures.1 in
     let (value, shown, ending, adds) = c.in_ok-line.ensures in
     record {
       line = c.as_bytes.result.now;
@@ -26,8 +22,7 @@ returns g c =
         value = value;
         shown = shown;
         ending = subst (λ l. IsEnding own l v w value) left ending;
-        whole = c.as_bytes.ensures ∙ c.in_ok-put.ensures.octets
-            ∙ ap (λ o. o ++ codes "\n") (adds.octets ∙ ap (λ o. o ++ cut c.in_ok-front.front.left value) has_front ∙ ap (λ l. front ++ cut l value) left);
+        whole = c.as_bytes.ensures ∙ c.in_ok-put.ensures ∙ ap (λ o. o ++ codes "\n") (adds ∙ same_part value has_front left);
       };
       adds = c.in_ok-write_all.ensures.bytes;
     }

@@ -9,7 +9,7 @@ none_is_none e = cc
 pub returns-in-Some : goal.returns-in-Some
 returns-in-Some g c =
     λ own kind plain ok.
-    (codes " " ++ moment_text (c.args.number == 23) c.in-Some.time, moment c.in-Some.time c.in-Some.ensures.found refl, c.write.ensures.writes plain ok)
+    (codes " " ++ moment_text (c.args.number == 23) c.in-Some.time, moment c.in-Some.time c.in-Some.ensures.found refl, c.write_spaced.ensures plain ok)
 
 pub returns-in-None : goal.returns-in-None
 returns-in-None g c =

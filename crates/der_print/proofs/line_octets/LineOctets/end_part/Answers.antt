@@ -9,5 +9,5 @@ returns-in_ok-cut-in-Columns c =
     let old = octets_in c.args.self.now in
     let new = octets_in c.cut.new.self in
     let same : c.saturating_sub.result ≡ c.in-Columns.columns - (length new - c.args.start) = omega arith in
-    let cut = c.in_ok-cut-in-Columns.ensures.octets in
+    let cut = c.in_ok-cut-in-Columns.ensures in
     rw c.in-Columns.is (record { octets = cut; left = ap Columns same ∙ columns_left old new c.args.start c.in-Columns.columns cut })

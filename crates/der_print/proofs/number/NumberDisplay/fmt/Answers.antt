@@ -13,4 +13,4 @@ returns-then-is_negative-clause-writes g c =
     λ plain ok. has_written_of_eq _ _ _ _ _
     (ap (λ l. codes "0x" ++ hex_text l w ++ codes " (negative, in two's complement)") c.without-limit.ensures
     ∙ sym (negative_text self.limit w (integer_value w) (c.is_negative.ensures.negative c.if-is_negative.true) out))
-    (c.write-then-is_negative.ensures.writes plain ok)
+    (c.write.ensures.writes plain ok)
