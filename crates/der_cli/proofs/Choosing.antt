@@ -5,8 +5,7 @@ use Rattle.der_walk.specs.Visits.{Visited}
 use Rattle.der_cli.specs.declared.listing.Listing.{Listing}
 use Rattle.der_cli.specs.declared.options.Options.{Options}
 use Rattle.der_cli.specs.Choices.{HasChosen, Listed, Lists, listed, listed_after, passed}
-use Rattle.der_cli.specs.Paths.{path_of}
-use Rattle.der_cli.specs.Places.{IsAsked, around_after, is_listed}
+use Rattle.der_cli.specs.Places.{FollowsPath, IsAsked, around_after, is_listed}
 use Rattle.der_schema.specs.declared.schema.Schema.{Schema}
 
 or_true : (b : Bool) → (b || true) ≡ true
@@ -26,7 +25,7 @@ some_last (u ∷ us) v e = cc
 
 -- one more element
 pub chosen_more : (s : Option Schema) (i : List ℕ) (o : Options) (l l' : Listing) (vs : List Visited) (us : List Listed) (v : Visited) (asked taken : Bool) → HasChosen s i o l vs us
-    → l'.place ≡ l.place → l'.depth ≡ l.depth → l'.around ≡ around_after l.around asked v.depth → l'.trail.steps.items ≡ path_of (vs ++ v ∷ [])
+    → l'.place ≡ l.place → l'.depth ≡ l.depth → l'.around ≡ around_after l.around asked v.depth → FollowsPath o.place l'.trail (vs ++ v ∷ [])
     → (IsTrue asked ↔ IsAsked s i o.place vs v) → taken ≡ is_listed (around_after l.around asked v.depth) l.depth v.depth → l'.has_some ≡ (l.has_some || taken)
     → MatchBool taken (HasChosen s i o l' (vs ++ v ∷ []) (us ++ listed_after vs v ∷ [])) (HasChosen s i o l' (vs ++ v ∷ []) us)
 chosen_more s i o l l' vs us v asked true h place depth around path asks is some = record {

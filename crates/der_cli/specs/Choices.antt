@@ -1,7 +1,6 @@
 -- Which elements are listed.
 use Rattle.std.specs.Prelude.{◌≡◌, ◌≢◌, ◌↔◌, ℕ, Bool, true, false, IsTrue, Option, None, List, [], ◌∷◌, ◌++◌}
-use Rattle.der_cli.specs.Paths.{path_of}
-use Rattle.der_cli.specs.Places.{IsAsked, around_after, is_listed}
+use Rattle.der_cli.specs.Places.{FollowsPath, IsAsked, around_after, is_listed}
 use Rattle.der_cli.specs.declared.listing.Listing.{Listing}
 use Rattle.der_cli.specs.declared.options.Options.{Options}
 use Rattle.der_cli.specs.declared.place.Place.{Place}
@@ -40,6 +39,6 @@ pub record HasChosen (s : Option Schema) (i : List ℕ) (o : Options) (l : Listi
   pub place : l.place ≡ o.place
   pub depth : l.depth ≡ o.depth
   pub lists : Lists s i o.place o.depth vs l.around us
-  pub trail : l.trail.steps.items ≡ path_of vs
+  pub trail : FollowsPath o.place l.trail vs
   pub some : l.has_some ≡ true → us ≢ []
   pub none : l.has_some ≡ false → us ≡ []

@@ -3,6 +3,7 @@ use Rattle.std.specs.Prelude.{◌≡◌, ◌⊎◌, ℕ, ◌-◌, Bool, true, fa
 use Rattle.std.specs.Prelude.{List, [], ◌∷◌, ◌++◌}
 use Rattle.der_cli.specs.declared.place.Place.{Place}
 use Rattle.der_cli.specs.declared.place.Place.TheVariants.{Path, Offset}
+use Rattle.der_cli.specs.declared.trail.Trail.{Trail}
 use Rattle.der_cli.specs.Paths.{HasNamePath, path_of}
 use Rattle.der_schema.specs.declared.schema.Schema.{Schema}
 use Rattle.der_walk.specs.Paths.{path_text}
@@ -18,6 +19,12 @@ abbrev pub IsAsked : Option Schema → List ℕ → Option Place → List Visite
 IsAsked s i None vs v = v.depth ≡ 0
 IsAsked s i (Some (Path text)) vs v = IsPathTo s i (vs ++ v ∷ []) text.now
 IsAsked s i (Some (Offset n)) vs v = v.offset ≡ n
+
+-- the path is that to the last of the elements that were visited, if one is asked for
+abbrev pub FollowsPath : Option Place → Trail → List Visited → Type 0
+FollowsPath (Some (Path text)) t vs = t.steps.items ≡ path_of vs
+FollowsPath (Some (Offset n)) t vs = Unit {0}
+FollowsPath None t vs = Unit {0}
 
 -- none of the elements that were visited is at a place
 pub data AreNotAsked (s : Option Schema) (i : List ℕ) (place : Option Place) : List Visited → Type 0 where

@@ -1,6 +1,6 @@
 //! Which elements are listed.
-ghost use Rattle.std.specs.Prelude.{◌≡◌, ◌||◌, ◌∷◌, ◌++◌, IfOk, List, MatchBool, Option, [], false, ℕ};
-ghost use Rattle.der_cli.specs.Places.{around_after, is_listed, still_around};
+ghost use Rattle.std.specs.Prelude.{◌≡◌, ◌||◌, ◌∷◌, ◌++◌, IfOk, List, MatchBool, OnOk, Option, Some, [], false, ℕ};
+ghost use Rattle.der_cli.specs.Places.{FollowsPath, around_after, is_listed, still_around};
 ghost use Rattle.der_cli.specs.Choices.{HasChosen, Listed, listed_after};
 ghost use Rattle.der_cli.specs.FieldNames.{HasNamedBy};
 ghost use Rattle.der_schema.specs.declared.schema.Schema.{Schema};
@@ -23,7 +23,7 @@ pub(crate) struct Listing<'a> {
     around: Option<usize>,
     /// Whether an element was listed.
     has_some: bool,
-    /// The path to the element that was visited last.
+    /// The path to the element that was visited last, if one is asked for.
     trail: Trail,
 }
 
@@ -55,7 +55,7 @@ impl<'a> Listing<'a> {
             (HasChosen s i o self.new (vs ++ v ∷ []) (us ++ listed_after vs v ∷ []))
             (HasChosen s i o self.new (vs ++ v ∷ []) us)) }
     {
-        self.trail.enter(element)?;
+        self.follow(element)?;
         let asked = is_asked(alloc, self.place, element, &self.trail, fields)?;
         self.around = around_after(self.around, asked, element.depth);
         let taken = is_listed(self.around, self.depth, element.depth);
@@ -63,11 +63,37 @@ impl<'a> Listing<'a> {
         Ok(taken)
     }
 
+    /// Goes on to the path to the element that is visited next, if one is asked for.
+    fn follow(&mut self, element: &Element<'_>) -> Result<(), AllocError>
+        ensures follows { (vs : List Visited) → FollowsPath self.old.place self.old.trail vs
+            → element.now.index ≡ index_in element.now.depth vs
+            → OnOk result (FollowsPath self.new.place self.new.trail (vs ++ visited_of element.now ∷ [])) }
+        ensures keeps { (self.new.place ≡ self.old.place) × (self.new.depth ≡ self.old.depth)
+            × (self.new.around ≡ self.old.around) × (self.new.has_some ≡ self.old.has_some) }
+    {
+        match self.place {
+            Some(place) => follow_to(&mut self.trail, place, element),
+            None => Ok(()),
+        }
+    }
+
     /// Whether an element was listed.
     pub(crate) fn has_some(&self) -> bool
         ensures { result ≡ self.now.has_some }
     {
         self.has_some
+    }
+}
+
+/// Goes on to the path to the element that is visited next, if the place is one by its path.
+fn follow_to(trail: &mut Trail, place: Place<'_>, element: &Element<'_>) -> Result<(), AllocError>
+    ensures { (vs : List Visited) → FollowsPath (Some place.entry) trail.old vs
+        → element.now.index ≡ index_in element.now.depth vs
+        → OnOk result (FollowsPath (Some place.entry) trail.new (vs ++ visited_of element.now ∷ [])) }
+{
+    match place {
+        Place::Path(_) => trail.enter(element),
+        Place::Offset(_) => Ok(()),
     }
 }
 

@@ -2,7 +2,7 @@
 ghost use Rattle.std.specs.Prelude.{◌≡◌, ◌↔◌, ◌∷◌, ◌++◌, [], IfOk, IsTrue, List, Option, Some, ℕ};
 ghost use Rattle.der_cli.specs.FieldNames.{HasNamedBy};
 ghost use Rattle.der_cli.specs.Paths.{path_of};
-ghost use Rattle.der_cli.specs.Places.{IsAsked, IsPathTo};
+ghost use Rattle.der_cli.specs.Places.{FollowsPath, IsAsked, IsPathTo};
 ghost use Rattle.der_schema.specs.declared.schema.Schema.{Schema};
 ghost use Rattle.der_walk.specs.Visits.{Visited};
 ghost use Rattle.der_walk.specs.Walked.{visited_of};
@@ -51,7 +51,7 @@ pub(crate) fn is_asked(
     fields: &Fields<'_>,
 ) -> Result<bool, AllocError>
     ensures { (s : Option Schema) (i : List ℕ) (vs : List Visited) → let v = visited_of element.now in
-        trail.now.steps.items ≡ path_of (vs ++ v ∷ []) → HasNamedBy s i (vs ++ v ∷ []) fields.now
+        FollowsPath place.entry trail.now (vs ++ v ∷ []) → HasNamedBy s i (vs ++ v ∷ []) fields.now
         → IfOk result (λ asked. IsTrue asked ↔ IsAsked s i place.entry vs v) }
 {
     match place {
@@ -69,7 +69,7 @@ fn is_at(
     fields: &Fields<'_>,
 ) -> Result<bool, AllocError>
     ensures { (s : Option Schema) (i : List ℕ) (vs : List Visited) → let v = visited_of element.now in
-        trail.now.steps.items ≡ path_of (vs ++ v ∷ []) → HasNamedBy s i (vs ++ v ∷ []) fields.now
+        FollowsPath (Some place.entry) trail.now (vs ++ v ∷ []) → HasNamedBy s i (vs ++ v ∷ []) fields.now
         → IfOk result (λ asked. IsTrue asked ↔ IsAsked s i (Some place.entry) vs v) }
 {
     match place {

@@ -5,7 +5,7 @@ use Rattle.der_cli.specs.Outputs.{RefusesPart, WritesPart, extras_of, no_element
 use Rattle.der_cli.specs.Parts.{AreOctetsOf, AreWrittenOf}
 use Rattle.der_cli.proofs.Looking.{looked_more, looked_none}
 use Rattle.der_cli.proofs.Printing.{then_reads, then_refuses}
-use Rattle.der_cli.proofs.Trails.{path_entered}
+use Rattle.der_cli.proofs.Trails.{follows, path_entered}
 use Rattle.der_cli.proofs.get.write_first.Goals as goal
 
 no_truth : {P : Type 0} {b : Bool} → b ≡ false → b ≡ true → P
@@ -33,7 +33,7 @@ elements-preserved g c =
     record {
       looked =
           looked_more (visited_of e) e.index p next.0 next.2 entered named
-          (not_so _ _ c.if-asked.false (c.in_ok-asked-in-Ok-Some.ensures p.schema i p.elements path named));
+          (not_so _ _ c.if-asked.false (c.in_ok-asked-in-Ok-Some.ensures p.schema i p.elements (follows o.place c.enter.new.self _ path) named));
       same = c.elements.invariant.same;
     }
 
@@ -50,7 +50,7 @@ returns-then-asked-clause-read g c =
     let next = rw c.in-Ok-Some.field-0-is at (c.in-Ok-Some.ensures.visits (extras_of o) o.rules i p.elements p.visited) in
     let path = path_entered p.elements v c.elements.trail.steps.items c.enter.new.self.steps.items e.index p.path next.2 c.in_ok-enter-in-Ok-Some.ensures in
     let named = (c.name_of.ensures p.schema i p.elements p.named next.3 next.2).0 in
-    let asked = (c.in_ok-asked-in-Ok-Some.ensures p.schema i p.elements path named).0 c.if-asked.true in
+    let asked = (c.in_ok-asked-in-Ok-Some.ensures p.schema i p.elements (follows o.place c.enter.new.self _ path) named).0 c.if-asked.true in
     λ as_asked. then_reads c.write_octets.result (AreWrittenOf o i v mid new) (WritesPart o i old new)
     (λ w. record {
       as_asked = as_asked;
@@ -77,7 +77,7 @@ returns-then-asked-clause-refused g c =
     let next = rw c.in-Ok-Some.field-0-is at (c.in-Ok-Some.ensures.visits (extras_of o) o.rules i p.elements p.visited) in
     let path = path_entered p.elements v c.elements.trail.steps.items c.enter.new.self.steps.items e.index p.path next.2 c.in_ok-enter-in-Ok-Some.ensures in
     let named = (c.name_of.ensures p.schema i p.elements p.named next.3 next.2).0 in
-    let asked = (c.in_ok-asked-in-Ok-Some.ensures p.schema i p.elements path named).0 c.if-asked.true in
+    let asked = (c.in_ok-asked-in-Ok-Some.ensures p.schema i p.elements (follows o.place c.enter.new.self _ path) named).0 c.if-asked.true in
     then_refuses c.write_octets.result (((w : List ℕ) → ¬ AreOctetsOf i v w) × (new ≡ mid)) (RefusesPart o i old new)
     (λ h. no_octets p.schema p.elements v p.named_by (_, next.0) p.not_asked asked h.0 (h.1 ∙ c.elements.invariant.same)) c.write_octets.ensures.refused
 
