@@ -75,12 +75,13 @@ fn enters_strings(action: Action, matches: &ArgMatches<'_>) -> bool
     }
 }
 
-/// How much is printed of long values.
+/// How much is printed of lines. No columns are no limit.
 pub(crate) fn limit_of(matches: &ArgMatches<'_>, terminal: Limit) -> Limit {
     if matches.get_flag("full") {
         return Limit::Whole;
     }
     match matches.get_one::<usize>("width") {
+        Some(0) => Limit::Whole,
         Some(columns) => Limit::Columns(columns),
         None => terminal,
     }

@@ -221,7 +221,7 @@ const RECURSIVE: Argument = Argument {
 const WIDTH: Argument = Argument {
     name: "width",
     value: Some("N"),
-    help: "Cut lines to N columns",
+    help: "Cut lines to N columns, or none with 0",
     kind: Kind::Number,
     ..FLAG
 };

@@ -48,8 +48,11 @@ fn is_dumb(name: Result<String, VarError>) -> bool
     }
 }
 
-/// The width of the terminal, if the environment says it. The kit has no call for it.
+/// The width of the terminal, if the environment says it, as a number above 0. The kit has no call for it.
 fn columns<R: Env + AllocGlobal>(rt: &R) -> Option<usize> {
     let text = env::var(rt, "COLUMNS").ok()?;
-    text.as_str().trim().parse::<usize>().ok()
+    match text.as_str().trim().parse::<usize>() {
+        Ok(columns) if columns > 0 => Some(columns),
+        _ => None,
+    }
 }
