@@ -21,8 +21,13 @@ message_names =
 abbrev pub protocol_names : List (List ℕ)
 protocol_names =
     codes "Message" ∷ codes "SNMPv3Message" ∷ codes "LDAPMessage" ∷ codes "AS-REQ" ∷ codes "AS-REP"
-    ∷ codes "TGS-REQ" ∷ codes "TGS-REP" ∷ codes "Ticket" ∷ codes "AP-REQ" ∷ codes "KRB-ERROR" ∷ []
+    ∷ codes "TGS-REQ" ∷ codes "TGS-REP" ∷ codes "Ticket" ∷ codes "AP-REQ" ∷ codes "AP-REP" ∷ codes "KRB-SAFE"
+    ∷ codes "KRB-PRIV" ∷ codes "KRB-CRED" ∷ codes "KRB-ERROR" ∷ []
+
+-- what is tried last: keys of RSA alone (RFC 8017), attribute certificates (RFC 5755)
+abbrev pub last_names : List (List ℕ)
+last_names = codes "RSAPublicKey" ∷ codes "AttributeCertificate" ∷ []
 
 -- the order in which types are tried
 abbrev pub known_names : List (List ℕ)
-known_names = certificate_names ++ key_names ++ message_names ++ protocol_names ++ codes "RSAPublicKey" ∷ []
+known_names = certificate_names ++ key_names ++ message_names ++ protocol_names ++ last_names

@@ -1,10 +1,12 @@
-//! Messages (RFC 5652, RFC 5083).
+//! Messages (RFC 5652, RFC 5083, RFC 3274), and packages of keys in them (RFC 5958).
+use crate::algorithms::SIGNATURE;
 use crate::attributes::MESSAGE_ATTRIBUTES;
 use crate::certificates::{CERTIFICATE_LIST_SEQUENCE, CERTIFICATE_SEQUENCE};
 use crate::numbered::{
-    ALGORITHM, AUTH_ENVELOPED_DATA, AUTHENTICATED_DATA, CERTIFICATE_CHOICE, DIGEST_ALGORITHM,
-    ENCAPSULATED_CONTENT, ENCRYPTED_DATA, ENVELOPED_DATA, NAME, RECIPIENT, REVOCATION_CHOICE,
-    SIGNED_DATA, SIGNER_INFO, TIME_STAMP_INFO,
+    ALGORITHM, ATTRIBUTE_CERTIFICATE_INFO, AUTH_ENVELOPED_DATA, AUTHENTICATED_DATA,
+    CERTIFICATE_CHOICE, DIGEST_ALGORITHM, ENCAPSULATED_CONTENT, ENCRYPTED_DATA, ENVELOPED_DATA,
+    NAME, PRIVATE_KEY_INFO, RECIPIENT, REVOCATION_CHOICE, SIGNATURE_ALGORITHM,
+    SIGNED_AND_ENVELOPED_DATA, SIGNED_DATA, SIGNER_INFO, TIME_STAMP_INFO,
 };
 use crate::universal::{BIT_STRING, GENERALIZED_TIME, INTEGER, OBJECT_IDENTIFIER, OCTET_STRING};
 use der_schema::schema::{Component, Inside, Selection, Type};
@@ -12,10 +14,15 @@ use der_schema::{
     explicit, field, implicit, optional, selection, sequence, sequence_of, set_of, string, tagged,
 };
 
-/// What the content of an EncapsulatedContentInfo is (RFC 3161 2.4.2). Data is any octets.
+/// An AsymmetricKeyPackage (RFC 5958 2).
+const KEY_PACKAGE: Type = sequence_of!(field!("oneAsymmetricKey" PRIVATE_KEY_INFO));
+
+/// What the content of an EncapsulatedContentInfo is (RFC 3161 2.4.2, RFC 5958 2). Data is any octets.
 const ENCAPSULATED: &[Selection] = &[
     // id-ct-TSTInfo
     selection!(b"\x2a\x86\x48\x86\xf7\x0d\x01\x09\x10\x01\x04" field!("tstInfo" TIME_STAMP_INFO)),
+    // id-ct-KP-aKeyPackage
+    selection!(b"\x60\x86\x48\x01\x65\x02\x01\x02\x4e\x05" field!("asymmetricKeyPackage" KEY_PACKAGE)),
 ];
 
 /// An EncapsulatedContentInfo (RFC 5652 5.2).
@@ -38,7 +45,11 @@ static CERTIFICATE_CHOICE_TYPE: Component = field!("certificateChoices" Type::Ch
     field!("certificate" CERTIFICATE_SEQUENCE),
     field!("extendedCertificate" implicit!(0 Inside::Free)),
     field!("v1AttrCert" implicit!(1 Inside::Free)),
-    field!("v2AttrCert" implicit!(2 Inside::Free)),
+    field!("v2AttrCert" implicit!(2 Inside::Components(&[
+        field!("acinfo" ATTRIBUTE_CERTIFICATE_INFO),
+        field!("signatureAlgorithm" SIGNATURE_ALGORITHM),
+        field!("signatureValue" SIGNATURE),
+    ]))),
     field!("other" implicit!(3 OTHER_FORMAT)),
 ]));
 
@@ -46,7 +57,7 @@ fn certificate_choice() -> &'static Component {
     &CERTIFICATE_CHOICE_TYPE
 }
 
-const CERTIFICATES: Inside = Inside::Each(&field!("" CERTIFICATE_CHOICE));
+pub(crate) const CERTIFICATES: Inside = Inside::Each(&field!("" CERTIFICATE_CHOICE));
 
 /// A RevocationInfoChoice (RFC 5652 10.2.1).
 static REVOCATION_CHOICE_TYPE: Component = field!("revocationInfoChoice" Type::Choice(&[
@@ -61,7 +72,10 @@ fn revocation_choice() -> &'static Component {
 const REVOCATIONS: Inside = Inside::Each(&field!("" REVOCATION_CHOICE));
 
 /// An IssuerAndSerialNumber (RFC 5652 10.2.4).
-const ISSUER_AND_SERIAL: Type = sequence![field!("issuer" NAME), field!("serialNumber" INTEGER)];
+pub(crate) const ISSUER_AND_SERIAL: Type = sequence![
+    field!("issuer" NAME),
+    field!("serialNumber" INTEGER)
+];
 
 /// A SignerInfo (RFC 5652 5.3).
 static SIGNER_INFO_TYPE: Component = field!("signerInfo" sequence![
@@ -238,12 +252,14 @@ fn auth_enveloped_data() -> &'static Component {
     &AUTH_ENVELOPED_DATA_TYPE
 }
 
-/// What the content of a ContentInfo is (RFC 5652 4 to 9, RFC 5083 2.1).
+/// What the content of a ContentInfo is (RFC 5652 4 to 9, RFC 2315 11, RFC 5083 2.1, RFC 3274 1.1, RFC 5958 2).
 const CONTENTS: &[Selection] = &[
-    // id-data, id-signedData, id-envelopedData, id-digestedData, id-encryptedData
+    // id-data, id-signedData, id-envelopedData, signedAndEnvelopedData, id-digestedData, id-encryptedData
     selection!(b"\x2a\x86\x48\x86\xf7\x0d\x01\x07\x01" field!("data" OCTET_STRING)),
     selection!(b"\x2a\x86\x48\x86\xf7\x0d\x01\x07\x02" field!("signedData" SIGNED_DATA)),
     selection!(b"\x2a\x86\x48\x86\xf7\x0d\x01\x07\x03" field!("envelopedData" ENVELOPED_DATA)),
+    selection!(b"\x2a\x86\x48\x86\xf7\x0d\x01\x07\x04" field!("signedAndEnvelopedData"
+        SIGNED_AND_ENVELOPED_DATA)),
     selection!(b"\x2a\x86\x48\x86\xf7\x0d\x01\x07\x05" field!("digestedData" sequence![
         field!("version" INTEGER),
         field!("digestAlgorithm" DIGEST_ALGORITHM),
@@ -251,9 +267,16 @@ const CONTENTS: &[Selection] = &[
         field!("digest" OCTET_STRING),
     ])),
     selection!(b"\x2a\x86\x48\x86\xf7\x0d\x01\x07\x06" field!("encryptedData" ENCRYPTED_DATA)),
-    // id-ct-authData, id-ct-authEnvelopedData
+    // id-ct-authData, id-ct-authEnvelopedData, id-ct-compressedData
     selection!(b"\x2a\x86\x48\x86\xf7\x0d\x01\x09\x10\x01\x02" field!("authenticatedData" AUTHENTICATED_DATA)),
     selection!(b"\x2a\x86\x48\x86\xf7\x0d\x01\x09\x10\x01\x17" field!("authEnvelopedData" AUTH_ENVELOPED_DATA)),
+    selection!(b"\x2a\x86\x48\x86\xf7\x0d\x01\x09\x10\x01\x09" field!("compressedData" sequence![
+        field!("version" INTEGER),
+        field!("compressionAlgorithm" DIGEST_ALGORITHM),
+        field!("encapContentInfo" ENCAPSULATED_CONTENT),
+    ])),
+    // id-ct-KP-aKeyPackage
+    selection!(b"\x60\x86\x48\x01\x65\x02\x01\x02\x4e\x05" field!("asymmetricKeyPackage" KEY_PACKAGE)),
 ];
 
 /// A ContentInfo (RFC 5652 3).

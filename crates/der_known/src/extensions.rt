@@ -134,6 +134,9 @@ fn access_descriptions() -> &'static Component {
     &ACCESS_DESCRIPTIONS_TYPE
 }
 
+/// What is inside an AttrSpec (RFC 5755 7.4).
+const ATTRIBUTE_TYPES: Inside = Inside::Each(&field!("" OBJECT_IDENTIFIER));
+
 /// The values of extensions.
 const VALUES: &[Selection] = &[
     selection!(b"\x55\x1d\x0e" field!("subjectKeyIdentifier" OCTET_STRING)),
@@ -174,6 +177,15 @@ const VALUES: &[Selection] = &[
     selection!(b"\x2b\x06\x01\x05\x05\x07\x01\x0b" field!("subjectInfoAccess" ACCESS_DESCRIPTIONS)),
     // id-pe-tlsfeature (RFC 7633)
     selection!(b"\x2b\x06\x01\x05\x05\x07\x01\x18" field!("tlsFeature" sequence_of!(field!("feature" INTEGER)))),
+    // id-pe-ac-auditIdentity, id-ce-noRevAvail, id-pe-aaControls (RFC 5755 4.3.1, 4.3.6, 7.4)
+    selection!(b"\x2b\x06\x01\x05\x05\x07\x01\x04" field!("auditIdentity" OCTET_STRING)),
+    selection!(b"\x55\x1d\x38" field!("noRevAvail" NULL)),
+    selection!(b"\x2b\x06\x01\x05\x05\x07\x01\x06" field!("aaControls" sequence![
+        optional!("pathLenConstraint" INTEGER),
+        optional!("permittedAttrs" implicit!(0 ATTRIBUTE_TYPES)),
+        optional!("excludedAttrs" implicit!(1 ATTRIBUTE_TYPES)),
+        optional!("permitUnSpecified" BOOLEAN),
+    ])),
     // id-pkix-ocsp-nonce, id-pkix-ocsp-response, id-pkix-ocsp-nocheck (RFC 6960 4.4)
     selection!(b"\x2b\x06\x01\x05\x05\x07\x30\x01\x02" field!("nonce" OCTET_STRING)),
     selection!(b"\x2b\x06\x01\x05\x05\x07\x30\x01\x04" field!("acceptableResponses" sequence_of!(

@@ -1,5 +1,7 @@
 //! Messages of Kerberos (RFC 4120 5).
-use crate::numbered::{AP_REQUEST, ENCRYPTED, KDC_REPLY, KDC_REQUEST, PRINCIPAL, TICKET};
+use crate::numbered::{
+    AP_REQUEST, ENCRYPTED, HOST_ADDRESS, KDC_REPLY, KDC_REQUEST, PRINCIPAL, TICKET,
+};
 use crate::universal::{BIT_STRING, GENERAL_STRING, GENERALIZED_TIME, INTEGER, OCTET_STRING};
 use der_schema::schema::{Component, Inside, Selection, Type};
 use der_schema::{explicit, field, optional, selection, sequence, sequence_of, string, tagged};
@@ -22,6 +24,16 @@ static ENCRYPTED_TYPE: Component = field!("" sequence![
 
 fn encrypted() -> &'static Component {
     &ENCRYPTED_TYPE
+}
+
+/// A HostAddress (RFC 4120 5.2.5).
+static HOST_ADDRESS_TYPE: Component = field!("" sequence![
+    field!("addr-type" explicit!(0 field!("" INTEGER))),
+    field!("address" explicit!(1 field!("" OCTET_STRING))),
+]);
+
+fn host_address() -> &'static Component {
+    &HOST_ADDRESS_TYPE
 }
 
 /// A Ticket (RFC 4120 5.3).
@@ -82,10 +94,7 @@ const REQUEST_BODY: Type = sequence![
     optional!("rtime" explicit!(6 field!("" GENERALIZED_TIME))),
     field!("nonce" explicit!(7 field!("" INTEGER))),
     field!("etype" explicit!(8 field!("" sequence_of!(field!("int32" INTEGER))))),
-    optional!("addresses" explicit!(9 field!("" sequence_of!(field!("hostAddress" sequence![
-        field!("addr-type" explicit!(0 field!("" INTEGER))),
-        field!("address" explicit!(1 field!("" OCTET_STRING))),
-    ]))))),
+    optional!("addresses" explicit!(9 field!("" sequence_of!(field!("hostAddress" HOST_ADDRESS))))),
     optional!("enc-authorization-data" explicit!(10 field!("" ENCRYPTED))),
     optional!("additional-tickets" explicit!(11 field!("" sequence_of!(field!("ticket" TICKET))))),
 ];
@@ -147,6 +156,66 @@ fn tgs_reply() -> &'static Component {
     &TGS_REPLY_TYPE
 }
 
+/// The reply to an AP-REQ (RFC 4120 5.5.2).
+static AP_REPLY_TYPE: Component = field!("ap-rep" explicit!(Application 15 field!("" sequence![
+    field!("pvno" explicit!(0 field!("" INTEGER))),
+    field!("msg-type" explicit!(1 field!("" INTEGER))),
+    field!("enc-part" explicit!(2 field!("" ENCRYPTED))),
+])));
+
+fn ap_reply() -> &'static Component {
+    &AP_REPLY_TYPE
+}
+
+/// A KRB-SAFE-BODY (RFC 4120 5.6.1).
+const SAFE_BODY: Type = sequence![
+    field!("user-data" explicit!(0 field!("" OCTET_STRING))),
+    optional!("timestamp" explicit!(1 field!("" GENERALIZED_TIME))),
+    optional!("usec" explicit!(2 field!("" INTEGER))),
+    optional!("seq-number" explicit!(3 field!("" INTEGER))),
+    field!("s-address" explicit!(4 field!("" HOST_ADDRESS))),
+    optional!("r-address" explicit!(5 field!("" HOST_ADDRESS))),
+];
+
+/// A message with a checksum (RFC 4120 5.6.1).
+static KRB_SAFE_TYPE: Component = field!("krb-safe" explicit!(Application 20 field!("" sequence![
+    field!("pvno" explicit!(0 field!("" INTEGER))),
+    field!("msg-type" explicit!(1 field!("" INTEGER))),
+    field!("safe-body" explicit!(2 field!("" SAFE_BODY))),
+    field!("cksum" explicit!(3 field!("" sequence![
+        field!("cksumtype" explicit!(0 field!("" INTEGER))),
+        field!("checksum" explicit!(1 field!("" OCTET_STRING))),
+    ]))),
+])));
+
+fn krb_safe() -> &'static Component {
+    &KRB_SAFE_TYPE
+}
+
+/// An encrypted message (RFC 4120 5.7.1). It has no component with the tag `[2]`.
+static KRB_PRIVATE_TYPE: Component = field!("krb-priv" explicit!(Application 21 field!("" sequence![
+    field!("pvno" explicit!(0 field!("" INTEGER))),
+    field!("msg-type" explicit!(1 field!("" INTEGER))),
+    field!("enc-part" explicit!(3 field!("" ENCRYPTED))),
+])));
+
+fn krb_private() -> &'static Component {
+    &KRB_PRIVATE_TYPE
+}
+
+/// A message with tickets (RFC 4120 5.8.1).
+static KRB_CREDENTIALS_TYPE: Component =
+    field!("krb-cred" explicit!(Application 22 field!("" sequence![
+    field!("pvno" explicit!(0 field!("" INTEGER))),
+    field!("msg-type" explicit!(1 field!("" INTEGER))),
+    field!("tickets" explicit!(2 field!("" sequence_of!(field!("ticket" TICKET))))),
+    field!("enc-part" explicit!(3 field!("" ENCRYPTED))),
+])));
+
+fn krb_credentials() -> &'static Component {
+    &KRB_CREDENTIALS_TYPE
+}
+
 /// An error (RFC 4120 5.9.1).
 static KRB_ERROR_TYPE: Component = field!("krb-error" explicit!(Application 30 field!("" sequence![
         field!("pvno" explicit!(0 field!("" INTEGER))),
@@ -169,7 +238,7 @@ fn krb_error() -> &'static Component {
 }
 
 /// Its types, in the order of their numbers.
-pub(crate) fn types() -> [&'static Component; 11] {
+pub(crate) fn types() -> [&'static Component; 16] {
     [
         as_request(),
         as_reply(),
@@ -179,8 +248,13 @@ pub(crate) fn types() -> [&'static Component; 11] {
         kdc_reply(),
         ticket(),
         ap_request(),
+        ap_reply(),
+        krb_safe(),
+        krb_private(),
+        krb_credentials(),
         krb_error(),
         encrypted(),
         principal(),
+        host_address(),
     ]
 }

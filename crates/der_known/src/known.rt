@@ -2,8 +2,9 @@
 ghost use Rattle.std.specs.Prelude.{◌≡◌, map};
 
 use crate::numbered::{
-    AP_REQUEST, AS_REPLY, AS_REQUEST, CERTIFICATE, CERTIFICATE_LIST, CERTIFICATION_REQUEST,
-    CONTENT_INFO, COUNT, EC_PRIVATE_KEY, ENCRYPTED_PRIVATE_KEY_INFO, KRB_ERROR, LDAP_MESSAGE,
+    AP_REPLY, AP_REQUEST, AS_REPLY, AS_REQUEST, ATTRIBUTE_CERTIFICATE, CERTIFICATE,
+    CERTIFICATE_LIST, CERTIFICATION_REQUEST, CONTENT_INFO, COUNT, EC_PRIVATE_KEY,
+    ENCRYPTED_PRIVATE_KEY_INFO, KRB_CREDENTIALS, KRB_ERROR, KRB_PRIVATE, KRB_SAFE, LDAP_MESSAGE,
     OCSP_REQUEST, OCSP_RESPONSE, PFX, PRIVATE_KEY_INFO, RSA_PRIVATE_KEY, RSA_PUBLIC_KEY,
     SNMP_MESSAGE, SNMP_V3_MESSAGE, SUBJECT_PUBLIC_KEY_INFO, TGS_REPLY, TGS_REQUEST, TICKET,
     TIME_STAMP_REQUEST, TIME_STAMP_RESPONSE, types,
@@ -23,7 +24,7 @@ macro_rules! known {
 }
 
 /// The types that are known. Where an input may be of several, the first is the most likely one.
-static KNOWN: [KnownType; 25] = [
+static KNOWN: [KnownType; 30] = [
     known!("Certificate" CERTIFICATE),
     known!("CertificateList" CERTIFICATE_LIST),
     known!("CertificationRequest" CERTIFICATION_REQUEST),
@@ -47,8 +48,13 @@ static KNOWN: [KnownType; 25] = [
     known!("TGS-REP" TGS_REPLY),
     known!("Ticket" "ticket" TICKET),
     known!("AP-REQ" AP_REQUEST),
+    known!("AP-REP" AP_REPLY),
+    known!("KRB-SAFE" KRB_SAFE),
+    known!("KRB-PRIV" KRB_PRIVATE),
+    known!("KRB-CRED" KRB_CREDENTIALS),
     known!("KRB-ERROR" KRB_ERROR),
     known!("RSAPublicKey" RSA_PUBLIC_KEY),
+    known!("AttributeCertificate" ATTRIBUTE_CERTIFICATE),
 ];
 
 /// The types that are known, and those that their components refer to by number.

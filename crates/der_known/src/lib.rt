@@ -2,6 +2,7 @@
 #![tactic(auto)]
 
 mod algorithms;
+mod attribute_certificates;
 mod attributes;
 mod certificates;
 mod cms;
@@ -14,6 +15,7 @@ mod names;
 mod numbered;
 mod ocsp;
 mod pkcs12;
+mod pkcs7;
 mod snmp;
 mod time_stamps;
 mod universal;

@@ -1,7 +1,7 @@
 //! The types that others refer to by number.
 use crate::{
-    algorithms, attributes, certificates, cms, extensions, kerberos, keys, ldap, names, ocsp,
-    pkcs12, snmp, time_stamps,
+    algorithms, attribute_certificates, attributes, certificates, cms, extensions, kerberos, keys,
+    ldap, names, ocsp, pkcs7, pkcs12, snmp, time_stamps,
 };
 use der_schema::schema::{Component, Type};
 
@@ -79,87 +79,109 @@ pub(crate) const CERTIFICATE_LIST: Type = Type::Numbered(32);
 
 pub(crate) const CERTIFICATION_REQUEST: Type = Type::Numbered(33);
 
+// Attribute certificates.
+pub(crate) const ATTRIBUTE_CERTIFICATE: Type = Type::Numbered(34);
+
+pub(crate) const ATTRIBUTE_CERTIFICATE_INFO: Type = Type::Numbered(35);
+
+pub(crate) const SERVICE_AUTHENTICATION: Type = Type::Numbered(36);
+
+pub(crate) const IETF_ATTRIBUTE: Type = Type::Numbered(37);
+
 // Messages of CMS.
-pub(crate) const CONTENT_INFO: Type = Type::Numbered(34);
+pub(crate) const CONTENT_INFO: Type = Type::Numbered(38);
 
-pub(crate) const SIGNED_DATA: Type = Type::Numbered(35);
+pub(crate) const SIGNED_DATA: Type = Type::Numbered(39);
 
-pub(crate) const ENVELOPED_DATA: Type = Type::Numbered(36);
+pub(crate) const ENVELOPED_DATA: Type = Type::Numbered(40);
 
-pub(crate) const ENCRYPTED_DATA: Type = Type::Numbered(37);
+pub(crate) const ENCRYPTED_DATA: Type = Type::Numbered(41);
 
-pub(crate) const AUTHENTICATED_DATA: Type = Type::Numbered(38);
+pub(crate) const AUTHENTICATED_DATA: Type = Type::Numbered(42);
 
-pub(crate) const AUTH_ENVELOPED_DATA: Type = Type::Numbered(39);
+pub(crate) const AUTH_ENVELOPED_DATA: Type = Type::Numbered(43);
 
-pub(crate) const SIGNER_INFO: Type = Type::Numbered(40);
+pub(crate) const SIGNER_INFO: Type = Type::Numbered(44);
 
-pub(crate) const CERTIFICATE_CHOICE: Type = Type::Numbered(41);
+pub(crate) const CERTIFICATE_CHOICE: Type = Type::Numbered(45);
 
-pub(crate) const REVOCATION_CHOICE: Type = Type::Numbered(42);
+pub(crate) const REVOCATION_CHOICE: Type = Type::Numbered(46);
 
-pub(crate) const ENCAPSULATED_CONTENT: Type = Type::Numbered(43);
+pub(crate) const ENCAPSULATED_CONTENT: Type = Type::Numbered(47);
 
-pub(crate) const RECIPIENT: Type = Type::Numbered(44);
+pub(crate) const RECIPIENT: Type = Type::Numbered(48);
+
+// Messages of PKCS #7 alone.
+pub(crate) const SIGNED_AND_ENVELOPED_DATA: Type = Type::Numbered(49);
 
 // Time stamps.
-pub(crate) const TIME_STAMP_REQUEST: Type = Type::Numbered(45);
+pub(crate) const TIME_STAMP_REQUEST: Type = Type::Numbered(50);
 
-pub(crate) const TIME_STAMP_RESPONSE: Type = Type::Numbered(46);
+pub(crate) const TIME_STAMP_RESPONSE: Type = Type::Numbered(51);
 
-pub(crate) const TIME_STAMP_INFO: Type = Type::Numbered(47);
+pub(crate) const TIME_STAMP_INFO: Type = Type::Numbered(52);
 
 // Stores of keys.
-pub(crate) const PFX: Type = Type::Numbered(48);
+pub(crate) const PFX: Type = Type::Numbered(53);
 
-pub(crate) const AUTHENTICATED_SAFE: Type = Type::Numbered(49);
+pub(crate) const AUTHENTICATED_SAFE: Type = Type::Numbered(54);
 
-pub(crate) const SAFE_CONTENTS: Type = Type::Numbered(50);
+pub(crate) const SAFE_CONTENTS: Type = Type::Numbered(55);
 
 // The status of certificates.
-pub(crate) const OCSP_REQUEST: Type = Type::Numbered(51);
+pub(crate) const OCSP_REQUEST: Type = Type::Numbered(56);
 
-pub(crate) const OCSP_RESPONSE: Type = Type::Numbered(52);
+pub(crate) const OCSP_RESPONSE: Type = Type::Numbered(57);
 
 // SNMP.
-pub(crate) const SNMP_MESSAGE: Type = Type::Numbered(53);
+pub(crate) const SNMP_MESSAGE: Type = Type::Numbered(58);
 
-pub(crate) const SNMP_V3_MESSAGE: Type = Type::Numbered(54);
+pub(crate) const SNMP_V3_MESSAGE: Type = Type::Numbered(59);
 
-pub(crate) const PDUS: Type = Type::Numbered(55);
+pub(crate) const PDUS: Type = Type::Numbered(60);
 
-pub(crate) const VAR_BIND: Type = Type::Numbered(56);
+pub(crate) const VAR_BIND: Type = Type::Numbered(61);
 
 // LDAP.
-pub(crate) const LDAP_MESSAGE: Type = Type::Numbered(57);
+pub(crate) const LDAP_MESSAGE: Type = Type::Numbered(62);
 
-pub(crate) const FILTER: Type = Type::Numbered(58);
+pub(crate) const FILTER: Type = Type::Numbered(63);
 
 // Kerberos.
-pub(crate) const AS_REQUEST: Type = Type::Numbered(59);
+pub(crate) const AS_REQUEST: Type = Type::Numbered(64);
 
-pub(crate) const AS_REPLY: Type = Type::Numbered(60);
+pub(crate) const AS_REPLY: Type = Type::Numbered(65);
 
-pub(crate) const TGS_REQUEST: Type = Type::Numbered(61);
+pub(crate) const TGS_REQUEST: Type = Type::Numbered(66);
 
-pub(crate) const TGS_REPLY: Type = Type::Numbered(62);
+pub(crate) const TGS_REPLY: Type = Type::Numbered(67);
 
-pub(crate) const KDC_REQUEST: Type = Type::Numbered(63);
+pub(crate) const KDC_REQUEST: Type = Type::Numbered(68);
 
-pub(crate) const KDC_REPLY: Type = Type::Numbered(64);
+pub(crate) const KDC_REPLY: Type = Type::Numbered(69);
 
-pub(crate) const TICKET: Type = Type::Numbered(65);
+pub(crate) const TICKET: Type = Type::Numbered(70);
 
-pub(crate) const AP_REQUEST: Type = Type::Numbered(66);
+pub(crate) const AP_REQUEST: Type = Type::Numbered(71);
 
-pub(crate) const KRB_ERROR: Type = Type::Numbered(67);
+pub(crate) const AP_REPLY: Type = Type::Numbered(72);
 
-pub(crate) const ENCRYPTED: Type = Type::Numbered(68);
+pub(crate) const KRB_SAFE: Type = Type::Numbered(73);
 
-pub(crate) const PRINCIPAL: Type = Type::Numbered(69);
+pub(crate) const KRB_PRIVATE: Type = Type::Numbered(74);
+
+pub(crate) const KRB_CREDENTIALS: Type = Type::Numbered(75);
+
+pub(crate) const KRB_ERROR: Type = Type::Numbered(76);
+
+pub(crate) const ENCRYPTED: Type = Type::Numbered(77);
+
+pub(crate) const PRINCIPAL: Type = Type::Numbered(78);
+
+pub(crate) const HOST_ADDRESS: Type = Type::Numbered(79);
 
 /// How many types there are.
-pub(crate) const COUNT: usize = 70;
+pub(crate) const COUNT: usize = 80;
 
 /// The types, each at its number.
 pub(crate) fn types() -> [&'static Component; COUNT] {
@@ -203,6 +225,12 @@ pub(crate) fn types() -> [&'static Component; COUNT] {
     ] = attributes::types();
     let [certificate, certificate_list, certification_request] = certificates::types();
     let [
+        attribute_certificate,
+        attribute_certificate_info,
+        service_authentication,
+        ietf_attribute,
+    ] = attribute_certificates::types();
+    let [
         content_info,
         signed_data,
         enveloped_data,
@@ -215,6 +243,7 @@ pub(crate) fn types() -> [&'static Component; COUNT] {
         encapsulated_content,
         recipient,
     ] = cms::types();
+    let [signed_and_enveloped_data] = pkcs7::types();
     let [time_stamp_request, time_stamp_response, time_stamp_info] = time_stamps::types();
     let [pfx, authenticated_safe, safe_contents] = pkcs12::types();
     let [ocsp_request, ocsp_response] = ocsp::types();
@@ -229,9 +258,14 @@ pub(crate) fn types() -> [&'static Component; COUNT] {
         kdc_reply,
         ticket,
         ap_request,
+        ap_reply,
+        krb_safe,
+        krb_private,
+        krb_credentials,
         krb_error,
         encrypted,
         principal,
+        host_address,
     ] = kerberos::types();
     [
         name,
@@ -268,6 +302,10 @@ pub(crate) fn types() -> [&'static Component; COUNT] {
         certificate,
         certificate_list,
         certification_request,
+        attribute_certificate,
+        attribute_certificate_info,
+        service_authentication,
+        ietf_attribute,
         content_info,
         signed_data,
         enveloped_data,
@@ -279,6 +317,7 @@ pub(crate) fn types() -> [&'static Component; COUNT] {
         revocation_choice,
         encapsulated_content,
         recipient,
+        signed_and_enveloped_data,
         time_stamp_request,
         time_stamp_response,
         time_stamp_info,
@@ -301,8 +340,13 @@ pub(crate) fn types() -> [&'static Component; COUNT] {
         kdc_reply,
         ticket,
         ap_request,
+        ap_reply,
+        krb_safe,
+        krb_private,
+        krb_credentials,
         krb_error,
         encrypted,
         principal,
+        host_address,
     ]
 }
