@@ -1,3 +1,4 @@
+pub mod Firsts
 pub mod NamePathTexts
 pub mod OfType
 pub mod Passed

@@ -14,6 +14,7 @@ use Rattle.der_walk.proofs.OneVisit.{visits_same}
 use Rattle.der_schema.specs.declared.known.KnownType.{KnownType}
 use Rattle.der_schema.specs.declared.schema.Component.{Component}
 use Rattle.der_schema.specs.declared.schema.Schema.{Schema}
+use Rattle.der_schema.specs.Beginnings.{BeginsWith}
 use Rattle.der_schema.specs.Encodings.{all_seen, seen_in}
 use Rattle.der_schema.specs.Ends.{is_whole_after}
 use Rattle.der_schema.specs.Known.{all_extras, IsOfType, IsFirstOf, IsFirstSchema, root_at}
@@ -73,11 +74,10 @@ whole_of_type sc r i t =
     ap (is_whole_after sc) t.is_tree.same ∙ whole_in_preorder sc t.tree ∙ t.whole
 
 -- if one has no name, the input isn't of the type
-pub no_name : (sc : Root) (r : Rules) (i : List ℕ) (w : Walk) (vs : List Visited) (v : Visited)
-    → HasVisited all_extras r i w (vs ++ v ∷ []) → is_some (name_after sc (all_seen i vs) (seen_in i v)) ≡ false
-    → IsOfType sc r i → ⊥
-no_name sc r i w vs v has none t =
-    let (ws, e) = visited_first all_extras r i w (vs ++ v ∷ []) t.is_tree.visited has t.is_tree.visits in
+nameless : (sc : Root) (r : Rules) (i : List ℕ) (vs ws : List Visited) (v : Visited) (t : IsOfType sc r i)
+    → t.is_tree.visited ≡ (vs ++ v ∷ []) ++ ws
+    → is_some (name_after sc (all_seen i vs) (seen_in i v)) ≡ false → ⊥
+nameless sc r i vs ws v t e none =
     let n = name_after sc (all_seen i vs) (seen_in i v) in
     let us = all_seen i (vs ++ v ∷ []) in
     let whole : list_all is_some (names_so_far sc (us ++ all_seen i ws)) ≡ true =
@@ -92,6 +92,22 @@ no_name sc r i w vs v has none t =
     ∙ left_true (list_all is_some (names_so_far sc us)) (list_all is_some later) parts in
     let one : is_some n ≡ true = left_true (is_some n) true (right_true (list_all is_some (names_so_far sc (all_seen i vs))) (is_some n && true) until) in
     absurd (cc)
+
+pub no_name : (sc : Root) (r : Rules) (i : List ℕ) (w : Walk) (vs : List Visited) (v : Visited)
+    → HasVisited all_extras r i w (vs ++ v ∷ []) → is_some (name_after sc (all_seen i vs) (seen_in i v)) ≡ false
+    → IsOfType sc r i → ⊥
+no_name sc r i w vs v has none t =
+    let (ws, e) = visited_first all_extras r i w (vs ++ v ∷ []) t.is_tree.visited has t.is_tree.visits in
+    nameless sc r i vs ws v t e none
+
+-- the same of one of the elements that an input begins with
+pub no_name_among : (sc : Root) (r : Rules) (i : List ℕ) (vs us : List Visited) (v : Visited)
+    → BeginsWith r i (vs ++ v ∷ us) → is_some (name_after sc (all_seen i vs) (seen_in i v)) ≡ false
+    → IsOfType sc r i → ⊥
+no_name_among sc r i vs us v begins none t =
+    let (ws, e) = begins t.is_tree.visited t.is_tree.visits in
+    nameless sc r i vs (us ++ ws) v t
+    (e ∙ append_assoc vs (v ∷ us) ws ∙ sym (append_assoc vs (v ∷ []) (us ++ ws))) none
 
 -- if the input is no elements, it isn't of the type
 pub no_elements : (sc : Root) (r : Rules) (i : List ℕ) → ((us : List Visited) → Visits all_extras r 101 0 0 i us → ⊥) → IsOfType sc r i → ⊥
@@ -145,6 +161,23 @@ found_first P all ahead rest sc s e it = record {
 pub found_none : (P : KnownType → Type 0) (all ahead : List KnownType) → Searched P all ahead → ahead ≡ [] → All (λ s. ¬ P s) all
 found_none P all ahead s e =
     subst (All (λ (t : KnownType). ¬ P t)) (sym (s.parts ∙ ap (λ (l : List KnownType). s.before ++ l) e ∙ append-nil s.before)) s.none
+
+-- the first of a list is the first of the others, if the one before them isn't it
+pub first_later : (P : KnownType → Type 0) (k : KnownType) (ks : List KnownType) (ts : List Component)
+    (o : Option Schema)
+    → (P k → ⊥) → IsFirstSchema P ks ts o → IsFirstSchema P (k ∷ ks) ts o
+first_later P k ks ts None never none = All-cons (λ (t : KnownType). ¬ P t) k ks never none
+first_later P k ks ts (Some sc) never (one, first, same) = (
+  one,
+  record {
+    before = k ∷ first.before;
+    after = first.after;
+    parts = ap (λ (l : List KnownType). k ∷ l) first.parts;
+    none = All-cons (λ (t : KnownType). ¬ P t) k first.before never first.none;
+    holds = first.holds;
+  },
+  same,
+)
 
 -- the first type that an input is of
 pub first_is_of_type : (ts : List Component) (ks : List KnownType) (r : Rules) (i : List ℕ) (o : Option Schema)

@@ -1,3 +1,4 @@
+pub mod Beginnings
 pub mod Encodings
 pub mod Ends
 pub mod Known

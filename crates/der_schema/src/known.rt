@@ -3,6 +3,7 @@ ghost use Rattle.std.specs.Prelude.{◌≡◌, ◌↔◌, IsTrue};
 ghost use Rattle.der_schema.specs.Known.{IsOfType, IsFirstSchema, IsSchemaOf, root_at};
 ghost use Rattle.der_schema.specs.Meaning.{all_types, root_of};
 
+use crate::beginning::Beginning;
 use crate::namer::Namer;
 use crate::schema::{Component, Schema};
 use der_base::rules::Rules;
@@ -28,10 +29,32 @@ pub fn first_of<'a>(
     ensures { IsFirstSchema (λ k. IsOfType (root_at (all_types types.now) k) rules input.now) known.now
         (all_types types.now) result }
 {
+    let Some((likely, others)) = known.split_first() else {
+        return None;
+    };
+    let schema = schema_of(likely, types);
+    if is_of_type(input, rules, schema) {
+        return Some(schema);
+    }
+    first_of_others(others, types, input, rules)
+}
+
+/// The same of types of which most are refused by the first elements of the input.
+#[inline(never)]
+fn first_of_others<'a>(
+    known: &'static [KnownType],
+    types: &'a [&'static Component],
+    input: &[u8],
+    rules: Rules,
+) -> Option<Schema<'a>>
+    ensures { IsFirstSchema (λ k. IsOfType (root_at (all_types types.now) k) rules input.now) known.now
+        (all_types types.now) result }
+{
+    let beginning = Beginning::of(input, rules);
     let mut ahead = known;
     while let Some((one, rest)) = ahead.split_first() {
         let schema = schema_of(one, types);
-        if is_of_type(input, rules, schema) {
+        if beginning.may_be(input, schema) && is_of_type(input, rules, schema) {
             return Some(schema);
         }
         ahead = rest;

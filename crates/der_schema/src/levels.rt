@@ -89,6 +89,7 @@ impl Levels {
     }
 
     /// Goes past an element, and returns the component that has its name.
+    #[inline(never)]
     pub(crate) fn pass(
         &mut self,
         element: &Element<'_>,

@@ -1,6 +1,7 @@
 //! Names of the fields of an input, element after element, from types of ASN.1 that are constant data.
 #![tactic(auto)]
 
+mod beginning;
 mod known;
 pub mod laws;
 mod level;

@@ -63,13 +63,11 @@ impl Level {
         let selected = self.selected;
         match self.find(element, known) {
             Some(found) => {
-                self.selected = selected_after(found.inside, element, known, selected);
+                let (expected, later) = entered(found.inside, element, known, selected);
+                self.selected = later;
                 Step {
                     named: Some(found.named),
-                    inside: Level {
-                        expected: opened(found.inside, element.constructed, selected.components),
-                        selected,
-                    },
+                    inside: Level { expected, selected },
                     after: *self,
                 }
             }
@@ -156,21 +154,42 @@ pub(crate) fn has_items(expected: Content) -> bool
     }
 }
 
-/// What is expected inside an element of this form.
-fn opened(inside: &'static Inside, constructed: bool, selected: &'static [Component]) -> Content
-    ensures { expected_of result ≡ opened inside.now constructed selected.now }
+/// What is expected inside an element where this is selected, and what is selected after it.
+#[inline(always)]
+fn entered(
+    inside: &'static Inside,
+    element: &Element<'_>,
+    known: &Known<'_>,
+    selected: &'static Selection,
+) -> (Content, &'static Selection)
+    ensures inside { expected_of result.0
+        ≡ opened inside.now element.now.constructed (components_of selected.now) }
+    ensures after { components_of result.1.now
+        ≡ selected_past inside.now (encoding_of known.now element.now) (components_of selected.now) }
 {
     match *inside {
-        Inside::Free => Content::Anything,
-        Inside::Nothing | Inside::Selects(_) => Content::NoElement,
-        Inside::Components(components) | Inside::Begins(components, _) => Content::Ordered(
-            components,
-        ),
-        Inside::Members(components) => Content::Unordered(components),
-        Inside::Each(component) => Content::Repeated(component),
-        Inside::Holds(_) | Inside::Chosen if constructed => Content::Anything,
-        Inside::Holds(components) => Content::Ordered(components),
-        Inside::Chosen => chosen(selected),
+        Inside::Free => (Content::Anything, selected),
+        Inside::Nothing => (Content::NoElement, selected),
+        Inside::Components(components) => (Content::Ordered(components), selected),
+        Inside::Members(components) => (Content::Unordered(components), selected),
+        Inside::Each(component) => (Content::Repeated(component), selected),
+        Inside::Holds(_) | Inside::Chosen if element.constructed => (Content::Anything, selected),
+        Inside::Holds(components) => (Content::Ordered(components), selected),
+        Inside::Chosen => (chosen(selected.components), selected),
+        Inside::Selects(selections) => {
+            let identifier = content_of(known.input, element);
+            (
+                Content::NoElement,
+                selected_or_none(selected_by(selections, identifier)),
+            )
+        }
+        Inside::Begins(components, selections) => {
+            let identifier = first_content(content_of(known.input, element));
+            (
+                Content::Ordered(components),
+                selected_or_none(selected_by(selections, identifier)),
+            )
+        }
     }
 }
 
@@ -181,28 +200,6 @@ fn chosen(selected: &'static [Component]) -> Content
     match selected {
         [] => Content::Anything,
         [_, ..] => Content::Ordered(selected),
-    }
-}
-
-/// What is selected after an element.
-fn selected_after(
-    inside: &'static Inside,
-    element: &Element<'_>,
-    known: &Known<'_>,
-    selected: &'static Selection,
-) -> &'static Selection
-    ensures { components_of result.now
-        ≡ selected_past inside.now (encoding_of known.now element.now) (components_of selected.now) }
-{
-    match *inside {
-        Inside::Selects(selections) => {
-            selected_or_none(selected_by(selections, content_of(known.input, element)))
-        }
-        Inside::Begins(_, selections) => {
-            let identifier = first_content(content_of(known.input, element));
-            selected_or_none(selected_by(selections, identifier))
-        }
-        _ => selected,
     }
 }
 
@@ -239,6 +236,7 @@ fn selected_or_none(selection: Option<&'static Selection>) -> &'static Selection
 }
 
 /// What an identifier selects.
+#[inline(never)]
 fn selected_by(selections: &'static [Selection], identifier: &[u8]) -> Option<&'static Selection>
     ensures { selection_in result ≡ selected_by selections.now identifier.now }
 {
@@ -429,7 +427,7 @@ fn plain_as(
 }
 
 /// An element as the first alternative with its tag. It is named as that, or as the choice if that has no name.
-#[inline(always)]
+#[inline(never)]
 fn alternative_of(
     alternatives: &'static [Component],
     element: &Element<'_>,

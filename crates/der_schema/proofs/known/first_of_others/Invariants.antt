@@ -2,7 +2,7 @@ use Rattle.std.proofs.Common.{length}
 use Rattle.der_schema.specs.Known.{IsOfType, root_at}
 use Rattle.der_schema.specs.Meaning.{all_types}
 use Rattle.der_schema.proofs.OfType.{Searched}
-use Rattle.der_schema.proofs.known.first_of.Given as goal
+use Rattle.der_schema.proofs.known.first_of_others.Given as goal
 
 -- the input is of none of the types before
 abbrev pub invariant-loop-one : goal.invariant-loop-one
