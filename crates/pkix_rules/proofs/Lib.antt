@@ -2,11 +2,14 @@ pub mod AmongLaws
 pub mod BelowLaws
 pub mod FirstLaws
 pub mod IdentifierLaws
+pub mod IssuerLaws
 pub mod KeptLaws
 pub mod MailboxLaws
 pub mod MarkLaws
+pub mod PositionLaws
 pub mod SaidLaws
 pub mod SchemeLaws
 pub mod SortedLaws
 pub mod SoundLaws
 pub mod TwiceLaws
+pub mod UriLaws

@@ -17,7 +17,7 @@ literal_ends {inside = inside} {last = last} e t = (
       t.1 (q.1, (λ z. s.2 (sym q.0 ∙ z)), subst (λ z. IsTrue (list_all is_literal_character z)) (sym q.0) s.3),
 )
 
-no_last : (inside : List ℕ) (last : ℕ) → [] ≡ inside ++ last ∷ [] → ⊥
+pub no_last : (inside : List ℕ) (last : ℕ) → [] ≡ inside ++ last ∷ [] → ⊥
 no_last [] last e = let q : ⊥ = cc in q
 no_last (x ∷ xs) last e = let q : ⊥ = cc in q
 

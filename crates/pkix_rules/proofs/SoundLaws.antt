@@ -1,8 +1,9 @@
 -- Values that break no rule of their type.
 use Rattle.std.proofs.Common.{◌≡◌, ◌≢◌, ℕ, Option, Some, None, Ok, List, [], ◌∷◌, sym, ap, ◌∙◌, arith, subst, inl, inr}
+use Rattle.std.specs.Option.{IsSomeAnd}
 use Rattle.der_base.specs.declared.rules.Rules.TheVariants.{Der}
 use Rattle.der_cursor.specs.Formats.{Field, Never, Only, ReadsWhole, Required}
-use Rattle.der_extensions.specs.Extensions.{CRLDistributionPoints, CertificatePolicies, DistributionPoint, PointValue, PolicyInformation, QualifierValue}
+use Rattle.der_extensions.specs.Extensions.{AccessDescription, AuthorityInfoAccessSyntax, CRLDistributionPoints, CertificatePolicies, DistributionPoint, PointNameValue, PointValue, PolicyInformation, QualifierValue, full_name, name_relative_to_issuer}
 use Rattle.der_extensions.specs.GeneralNames.{GeneralName, GeneralNames, NameValue}
 use Rattle.der_x509.specs.Rules.{HasRepetition}
 use Rattle.pkix_rules.specs.declared.names.NameRule.{NameRule}
@@ -16,13 +17,13 @@ use Rattle.pkix_rules.specs.declared.types.ValueType.TheVariants as kind
 use Rattle.pkix_rules.specs.declared.value_rules.ValueRule.{ValueRule}
 use Rattle.pkix_rules.specs.declared.value_rules.ValueRule.TheVariants as rule
 use Rattle.pkix_rules.specs.Lists.{Among, here, later}
-use Rattle.pkix_rules.specs.Names.{BreaksName}
+use Rattle.pkix_rules.specs.Names.{BreaksName, SomeNameBreaks}
 use Rattle.pkix_rules.specs.Notices.{BreaksQualifier, HasBrokenQualifier, IsBadlyQualified}
-use Rattle.pkix_rules.specs.Points.{BreaksPoint, HasOtherIssuer, IsForAllReasons}
+use Rattle.pkix_rules.specs.Points.{BreaksPoint, HasOtherIssuer, IsForAllReasons, IsFullNameBroken}
 use Rattle.pkix_rules.specs.Policies.{HasOtherQualifier, IsAnyWithOther, IsOtherQualifier, cps, user_notice}
-use Rattle.pkix_rules.specs.Sound.{HasRemark, IsBadName, IsBadPoint, IsRemark, IsRemarked, type_of_rule}
+use Rattle.pkix_rules.specs.Sound.{HasRemark, IsBadFullName, IsBadLocation, IsBadName, IsBadPoint, IsRemark, IsRemarked, type_of_rule}
 use Rattle.pkix_rules.specs.Types.{IsOfType}
-use Rattle.pkix_rules.specs.ValueRules.{BreaksValue}
+use Rattle.pkix_rules.specs.ValueRules.{BreaksValue, IsLocationBroken}
 
 -- other words for an item
 pub among_more : {V : Type 0} {F : Field V} {P Q : V → Type 0} {i : List ℕ} → ((v : V) → P v → Q v) → Among F P i → Among F Q i
@@ -55,10 +56,14 @@ bad_name name.NotEmpty n b = inl b
 bad_name name.AddressOctets n b = inr (inl b)
 bad_name name.NotBlank n b = inr (inr (inl b))
 bad_name name.Scheme n b = inr (inr (inr (inl b)))
-bad_name name.Mailbox n b = inr (inr (inr (inr (inl b))))
-bad_name name.PreferredName n b = inr (inr (inr (inr (inr (inl b)))))
-bad_name name.InternationalMailbox n b = inr (inr (inr (inr (inr (inr (inl b))))))
-bad_name name.OrderedAttributes n b = inr (inr (inr (inr (inr (inr (inr b))))))
+bad_name name.Host n b = inr (inr (inr (inr (inl b))))
+bad_name name.Mailbox n b = inr (inr (inr (inr (inr (inl b)))))
+bad_name name.PreferredName n b = inr (inr (inr (inr (inr (inr (inl b))))))
+bad_name name.InternationalMailbox n b = inr (inr (inr (inr (inr (inr (inr (inl b)))))))
+bad_name name.OrderedAttributes n b = inr (inr (inr (inr (inr (inr (inr (inr (inl b))))))))
+bad_name name.TypedAttributes n b = inr (inr (inr (inr (inr (inr (inr (inr (inr (inl b)))))))))
+bad_name name.LdapEntry n b = inr (inr (inr (inr (inr (inr (inr (inr (inr (inr (inl b))))))))))
+bad_name name.LdapAttribute n b = inr (inr (inr (inr (inr (inr (inr (inr (inr (inr (inr b))))))))))
 
 module _ {T E : Type 0} {view : T → List ℕ} (w : List ℕ) {x : T} (r : ReadsWhole {E = E} (Only (Required GeneralNames) Der w) view Never (Ok x)) (n : ¬ Among GeneralName IsBadName (view x)) where
   pub sound_names : (q : ValueRule) → type_of_rule q ≡ Some kind.Names → BreaksValue q w → ⊥
@@ -79,6 +84,9 @@ module _ {T E : Type 0} {view : T → List ℕ} (w : List ℕ) {x : T} (r : Read
   sound_names rule.ShortNumber e s = absurd (subst OfNames (sym e) tt)
   sound_names rule.NaturalNumber e s = absurd (subst OfNames (sym e) tt)
   sound_names rule.WholeSeconds e s = absurd (subst OfNames (sym e) tt)
+  sound_names (rule.Issuer q) e s = absurd (subst OfNames (sym e) tt)
+  sound_names rule.DirectoryName e s = absurd (subst OfNames (sym e) tt)
+  sound_names (rule.Locations q) e s = absurd (subst OfNames (sym e) tt)
   sound_names rule.SpecifiedReason e s = absurd (subst OfNames (sym e) tt)
 
 -- points
@@ -86,16 +94,33 @@ IsThere : {X : Type 0} → Option X → Type 0
 IsThere None = ⊥
 IsThere (Some x) = Unit {0}
 
-other_issuer : (o : Option (List ℕ)) → HasOtherIssuer o → o ≢ None
+pub is_there : {X : Type 0} (x : X) → Some x ≢ None
 unfolding IsThere
+is_there x e = subst IsThere e tt
+
+other_issuer : (o : Option (List ℕ)) → HasOtherIssuer o → o ≢ None
 other_issuer None h = absurd h
-other_issuer (Some w) h = λ e. absurd (subst IsThere e tt)
+other_issuer (Some w) h = is_there w
+
+pub broken_issuer : (q : NameRule) (o : Option (List ℕ)) → SomeNameBreaks q o → o ≢ None
+broken_issuer q None h = absurd h
+broken_issuer q (Some w) h = is_there w
+
+bad_full_names : (q : NameRule) (n : PointNameValue) → IsFullNameBroken q n → IsBadFullName n
+bad_full_names q (full_name w) a = among_more (bad_name q) a
+bad_full_names q (name_relative_to_issuer w) a = a
+
+bad_full_name : (q : NameRule) (o : Option PointNameValue) → IsSomeAnd o (IsFullNameBroken q) → IsSomeAnd o IsBadFullName
+bad_full_name q None a = a
+bad_full_name q (Some n) a = bad_full_names q n a
 
 bad_point : (q : PointRule) (p : PointValue) → BreaksPoint q p → IsBadPoint p
 bad_point point.Named p b = inl b
 bad_point point.FullName p b = inr (inl b)
-bad_point point.NameAlone p b = inr (inr b)
-bad_point point.NamedIssuers p b = inr (inr (inr (other_issuer p.1.1.0 b)))
+bad_point point.NameAlone p b = inr (inr (inl b))
+bad_point point.NamedIssuers p b = inr (inr (inl (inr (other_issuer p.1.1.0 b))))
+bad_point (point.Issuers q) p b = inr (inr (inl (inr (broken_issuer q p.1.1.0 b))))
+bad_point (point.FullNames q) p b = inr (inr (inr (bad_full_name q p.0 b)))
 bad_point point.RelativeToOneIssuer p b = inr (inl b.0)
 
 module _ {T E : Type 0} {view : T → List ℕ} (w : List ℕ) {x : T} (r : ReadsWhole {E = E} (Only (Required CRLDistributionPoints) Der w) view Never (Ok x)) (a : Among (Required DistributionPoint) IsForAllReasons (view x)) (n : ¬ Among (Required DistributionPoint) IsBadPoint (view x)) where
@@ -117,7 +142,39 @@ module _ {T E : Type 0} {view : T → List ℕ} (w : List ℕ) {x : T} (r : Read
   sound_points rule.ShortNumber e s = absurd (subst OfPoints (sym e) tt)
   sound_points rule.NaturalNumber e s = absurd (subst OfPoints (sym e) tt)
   sound_points rule.WholeSeconds e s = absurd (subst OfPoints (sym e) tt)
+  sound_points (rule.Issuer q) e s = absurd (subst OfPoints (sym e) tt)
+  sound_points rule.DirectoryName e s = absurd (subst OfPoints (sym e) tt)
+  sound_points (rule.Locations q) e s = absurd (subst OfPoints (sym e) tt)
   sound_points rule.SpecifiedReason e s = absurd (subst OfPoints (sym e) tt)
+
+-- descriptions of accesses
+OfDescriptions : Option ValueType → Type 0
+OfDescriptions (Some kind.Descriptions) = Unit {0}
+OfDescriptions _ = ⊥
+
+module _ {T E : Type 0} {view : T → List ℕ} (w : List ℕ) {x : T} (r : ReadsWhole {E = E} (Only (Required AuthorityInfoAccessSyntax) Der w) view Never (Ok x)) (n : ¬ Among (Required AccessDescription) IsBadLocation (view x)) where
+  pub sound_descriptions : (q : ValueRule) → type_of_rule q ≡ Some kind.Descriptions → BreaksValue q w → ⊥
+  unfolding OfDescriptions
+  sound_descriptions (rule.OfType s) e never = never (subst (λ z. IsOfType z w) (same_type e) (view x, r.found))
+  sound_descriptions (rule.Locations q) e s = n (among_more (λ v b. bad_name q v.1.0 b) (subst (Among (Required AccessDescription) (IsLocationBroken q)) (sym (r.only s.0 s.1)) s.2))
+  sound_descriptions rule.IssuerAndSerial e s = absurd (subst OfDescriptions (sym e) tt)
+  sound_descriptions (rule.Issuer q) e s = absurd (subst OfDescriptions (sym e) tt)
+  sound_descriptions rule.DistinctPolicies e s = absurd (subst OfDescriptions (sym e) tt)
+  sound_descriptions rule.AnyPolicyQualifiers e s = absurd (subst OfDescriptions (sym e) tt)
+  sound_descriptions (rule.Qualifiers q) e s = absurd (subst OfDescriptions (sym e) tt)
+  sound_descriptions rule.UnmappedAnyPolicy e s = absurd (subst OfDescriptions (sym e) tt)
+  sound_descriptions (rule.Names q) e s = absurd (subst OfDescriptions (sym e) tt)
+  sound_descriptions rule.DirectoryName e s = absurd (subst OfDescriptions (sym e) tt)
+  sound_descriptions rule.NotEmpty e s = absurd (subst OfDescriptions (sym e) tt)
+  sound_descriptions (rule.Subtrees q) e s = absurd (subst OfDescriptions (sym e) tt)
+  sound_descriptions (rule.Points q) e s = absurd (subst OfDescriptions (sym e) tt)
+  sound_descriptions rule.PointForAllReasons e s = absurd (subst OfDescriptions (sym e) tt)
+  sound_descriptions (rule.IssuingPoint q) e s = absurd (subst OfDescriptions (sym e) tt)
+  sound_descriptions rule.CaIssuers e s = absurd (subst OfDescriptions (sym e) tt)
+  sound_descriptions rule.ShortNumber e s = absurd (subst OfDescriptions (sym e) tt)
+  sound_descriptions rule.NaturalNumber e s = absurd (subst OfDescriptions (sym e) tt)
+  sound_descriptions rule.WholeSeconds e s = absurd (subst OfDescriptions (sym e) tt)
+  sound_descriptions rule.SpecifiedReason e s = absurd (subst OfDescriptions (sym e) tt)
 
 -- policies
 other_is_remark : (q : QualifierValue) → IsOtherQualifier q → IsRemark q
@@ -164,4 +221,7 @@ module _ {T E : Type 0} {view : T → List ℕ} (w : List ℕ) {x : T} (r : Read
   sound_policies rule.ShortNumber e s = absurd (subst OfPolicies (sym e) tt)
   sound_policies rule.NaturalNumber e s = absurd (subst OfPolicies (sym e) tt)
   sound_policies rule.WholeSeconds e s = absurd (subst OfPolicies (sym e) tt)
+  sound_policies (rule.Issuer q) e s = absurd (subst OfPolicies (sym e) tt)
+  sound_policies rule.DirectoryName e s = absurd (subst OfPolicies (sym e) tt)
+  sound_policies (rule.Locations q) e s = absurd (subst OfPolicies (sym e) tt)
   sound_policies rule.SpecifiedReason e s = absurd (subst OfPolicies (sym e) tt)

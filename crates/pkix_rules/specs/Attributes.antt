@@ -144,7 +144,19 @@ IsOfKind k e = (e.0 ≡ Universal) × (e.1 ≡ false) × IsString (string_of k) 
 abbrev pub IsBad : AttributeKind → Attribute → Type 0
 IsBad k a = (a.identifier ≡ kind_octets k) × (¬ IsOfKind k a.value)
 
+-- a relative name of the name has an attribute of the kind
+abbrev pub HasKind : AttributeKind → List ℕ → Type 0
+HasKind k i = Somewhere set (λ w _. Somewhere attribute (λ a _. a.identifier ≡ kind_octets k) w) i
+
+-- the attribute is of one of the kinds, and its value isn't so
+abbrev pub IsMistyped : Attribute → Type 0
+IsMistyped a = (k : AttributeKind) × IsBad k a
+
 -- a relative name of the name has such an attribute
+abbrev pub HasMistyped : List ℕ → Type 0
+HasMistyped i = Somewhere set (λ w _. Somewhere attribute (λ a _. IsMistyped a) w) i
+
+-- the same of one kind
 abbrev pub HasBadAttribute : AttributeKind → List ℕ → Type 0
 HasBadAttribute k i = Somewhere set (λ w _. Somewhere attribute (λ a _. IsBad k a) w) i
 

@@ -1,8 +1,11 @@
 -- What RFC 5280 asks of an issuing distribution point (5.2.5).
 use Rattle.std.specs.Prelude.{◌≡◌, ◌⊎◌, true}
+use Rattle.std.specs.Option.{IsSomeAnd}
 use Rattle.der_extensions.specs.Revocation.{IssuingPointValue}
 use Rattle.pkix_rules.specs.declared.issuing_point.IssuingPointRule.{IssuingPointRule}
 use Rattle.pkix_rules.specs.declared.issuing_point.IssuingPointRule.TheVariants.{OneKind, NoAttributeCertificates}
+use Rattle.pkix_rules.specs.declared.issuing_point.IssuingPointRule.TheVariants.{FullNames}
+use Rattle.pkix_rules.specs.Points.{IsFullNameBroken}
 
 -- onlyContainsUserCerts, onlyContainsCACerts and onlyContainsAttributeCerts
 abbrev pub IsOfUsers : IssuingPointValue → Type 0
@@ -23,3 +26,4 @@ HasTwoKinds v = (IsOfUsers v × IsOfAuthorities v) ⊎ (IsOfUsers v × IsOfAttri
 abbrev pub BreaksIssuingPoint : IssuingPointRule → IssuingPointValue → Type 0
 BreaksIssuingPoint OneKind v = HasTwoKinds v
 BreaksIssuingPoint NoAttributeCertificates v = IsOfAttributes v
+BreaksIssuingPoint (FullNames r) v = IsSomeAnd v.0 (IsFullNameBroken r)

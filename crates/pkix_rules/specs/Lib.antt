@@ -1,6 +1,8 @@
 pub mod Algorithms
 pub mod Attributes
 pub mod Broken
+pub mod Constraints
+pub mod Directories
 pub mod Entries
 pub mod Examined
 pub mod Facts
@@ -22,6 +24,7 @@ pub mod Sorted
 pub mod Sound
 pub mod Subtrees
 pub mod Types
+pub mod Uris
 pub mod ValueFacts
 pub mod ValueRules
 pub mod Whole

@@ -1,19 +1,26 @@
 -- What RFC 5280 asks of general names (4.2.1.6).
-use Rattle.std.specs.Prelude.{◌≡◌, ◌≢◌, ℕ, ◌||◌, ◌==◌, nat_le, Bool, false, IsTrue, IsUtf8, List, [], ◌∷◌, ◌++◌, length}
+use Rattle.std.specs.Prelude.{◌≡◌, ◌≢◌, ℕ, ◌||◌, ◌==◌, nat_le, Bool, false, IsTrue, IsUtf8, Option, Some, None}
+use Rattle.std.specs.Prelude.{List, [], ◌∷◌, ◌++◌, length}
 use Rattle.std.specs.Char.{is_ascii_alphabetic, is_ascii_alphanumeric}
 use Rattle.std.specs.List.{list_any}
 use Rattle.der_base.specs.declared.header.Class.TheVariants.{Universal}
 use Rattle.der_cursor.specs.Elements.{Element}
-use Rattle.der_extensions.specs.GeneralNames.{NameValue, other_name, rfc822_name, dns_name, x400_address}
+use Rattle.der_extensions.specs.GeneralNames.{GeneralName, NameValue, other_name, rfc822_name, dns_name, x400_address}
 use Rattle.der_extensions.specs.GeneralNames.{directory_name, edi_party_name, ip_address, registered_id}
 use Rattle.der_extensions.specs.GeneralNames.{uniform_resource_identifier}
 use Rattle.der_x509.specs.Rules.{HasDescent}
 use Rattle.pkix_rules.specs.declared.names.NameRule.{NameRule}
 use Rattle.pkix_rules.specs.declared.mailbox.LocalCharacters.TheVariants.{Ascii, Utf8}
-use Rattle.pkix_rules.specs.declared.names.NameRule.TheVariants.{NotEmpty, AddressOctets, NotBlank, Scheme, Mailbox}
-use Rattle.pkix_rules.specs.declared.names.NameRule.TheVariants.{InternationalMailbox, OrderedAttributes, PreferredName}
+use Rattle.pkix_rules.specs.declared.names.NameRule.TheVariants.{NotEmpty, AddressOctets, NotBlank, Scheme, Host}
+use Rattle.pkix_rules.specs.declared.names.NameRule.TheVariants.{Mailbox, InternationalMailbox, OrderedAttributes}
+use Rattle.pkix_rules.specs.declared.names.NameRule.TheVariants.{LdapAttribute, LdapEntry, PreferredName}
+use Rattle.pkix_rules.specs.declared.names.NameRule.TheVariants.{TypedAttributes}
+use Rattle.pkix_rules.specs.Attributes.{HasMistyped}
+use Rattle.pkix_rules.specs.Directories.{HasSeveralAttributes, IsOddEntry}
 use Rattle.pkix_rules.specs.HostNames.{IsPreferredName}
+use Rattle.pkix_rules.specs.Lists.{Among}
 use Rattle.pkix_rules.specs.Mailboxes.{IsMailbox}
+use Rattle.pkix_rules.specs.Uris.{HasNoHost}
 
 -- a text, an address or a distinguished name of no octets
 abbrev pub IsEmptyName : NameValue → Type 0
@@ -60,6 +67,11 @@ abbrev pub IsRelativeName : NameValue → Type 0
 IsRelativeName (uniform_resource_identifier w) = ¬ HasScheme w
 IsRelativeName _ = ⊥
 
+-- a uniformResourceIdentifier with an authority that has no host
+abbrev pub IsHostlessName : NameValue → Type 0
+IsHostlessName (uniform_resource_identifier w) = HasNoHost w
+IsHostlessName _ = ⊥
+
 -- an rfc822Name that isn't a mailbox
 abbrev pub IsNoMailbox : NameValue → Type 0
 IsNoMailbox (rfc822_name w) = ¬ IsMailbox Ascii w
@@ -99,13 +111,27 @@ abbrev pub IsDisorderedName : NameValue → Type 0
 IsDisorderedName (directory_name w) = HasDescent w
 IsDisorderedName _ = ⊥
 
+-- a directoryName with an attribute whose value isn't of its type
+abbrev pub IsMistypedName : NameValue → Type 0
+IsMistypedName (directory_name w) = HasMistyped w
+IsMistypedName _ = ⊥
+
 -- the name breaks the rule
 abbrev pub BreaksName : NameRule → NameValue → Type 0
 BreaksName NotEmpty n = IsEmptyName n
 BreaksName AddressOctets n = IsOddAddress n
 BreaksName NotBlank n = IsBlankName n
 BreaksName Scheme n = IsRelativeName n
+BreaksName Host n = IsHostlessName n
 BreaksName Mailbox n = IsNoMailbox n
 BreaksName PreferredName n = IsOtherHost n
 BreaksName InternationalMailbox n = IsNoInternationalMailbox n
 BreaksName OrderedAttributes n = IsDisorderedName n
+BreaksName TypedAttributes n = IsMistypedName n
+BreaksName LdapEntry n = IsOddEntry n
+BreaksName LdapAttribute n = HasSeveralAttributes n
+
+-- one of these names does, if there are any
+abbrev pub SomeNameBreaks : NameRule → Option (List ℕ) → Type 0
+SomeNameBreaks r None = ⊥
+SomeNameBreaks r (Some w) = Among GeneralName (BreaksName r) w

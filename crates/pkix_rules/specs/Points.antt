@@ -1,12 +1,17 @@
 -- What RFC 5280 asks of distribution points (4.2.1.13).
 use Rattle.std.specs.Prelude.{◌≡◌, ◌≢◌, ℕ, ◌⊎◌, Option, Some, None, List}
 use Rattle.std.specs.Option.{IsSomeAnd}
-use Rattle.der_extensions.specs.Extensions.{PointNameValue, PointValue, full_name, name_relative_to_issuer}
+use Rattle.der_cursor.specs.Formats.{Required}
+use Rattle.der_extensions.specs.Extensions.{CRLDistributionPoints, DistributionPoint, PointNameValue, PointValue}
+use Rattle.der_extensions.specs.Extensions.{full_name, name_relative_to_issuer}
 use Rattle.der_extensions.specs.GeneralNames.{GeneralName, NameValue, directory_name}
 use Rattle.pkix_rules.specs.declared.points.PointRule.{PointRule}
 use Rattle.pkix_rules.specs.declared.points.PointRule.TheVariants.{Named, FullName, NameAlone, NamedIssuers}
-use Rattle.pkix_rules.specs.declared.points.PointRule.TheVariants.{RelativeToOneIssuer}
+use Rattle.pkix_rules.specs.declared.points.PointRule.TheVariants.{RelativeToOneIssuer, Issuers, FullNames}
+use Rattle.pkix_rules.specs.declared.names.NameRule.{NameRule}
 use Rattle.pkix_rules.specs.Lists.{Among, Twice}
+use Rattle.pkix_rules.specs.Names.{BreaksName, SomeNameBreaks}
+use Rattle.pkix_rules.specs.ValueFacts.{Says}
 
 -- neither distributionPoint nor cRLIssuer is there
 abbrev pub IsUnnamed : PointValue → Type 0
@@ -43,6 +48,29 @@ abbrev pub HasOtherIssuer : Option (List ℕ) → Type 0
 HasOtherIssuer None = ⊥
 HasOtherIssuer (Some w) = Among GeneralName (λ n. ¬ IsDistinguished n) w
 
+-- a name of a fullName breaks the rule
+abbrev pub IsFullNameBroken : NameRule → PointNameValue → Type 0
+IsFullNameBroken r (full_name w) = Among GeneralName (BreaksName r) w
+IsFullNameBroken r (name_relative_to_issuer w) = ⊥
+
+-- a directoryName is the name with these octets
+abbrev pub IsName : List ℕ → NameValue → Type 0
+IsName name (directory_name w) = w ≡ name
+IsName name _ = ⊥
+
+-- one of these names is, if there are any
+abbrev pub SomeName : List ℕ → Option (List ℕ) → Type 0
+SomeName name None = ⊥
+SomeName name (Some w) = Among GeneralName (IsName name) w
+
+-- the point has that name in its cRLIssuer
+abbrev pub IsOfIssuer : List ℕ → PointValue → Type 0
+IsOfIssuer name p = SomeName name p.1.1.0
+
+-- the value has such a point
+abbrev pub PointsTo : List ℕ → List ℕ → Type 0
+PointsTo name w = Says CRLDistributionPoints (λ v. Among (Required DistributionPoint) (IsOfIssuer name) v) w
+
 -- the point breaks the rule
 abbrev pub BreaksPoint : PointRule → PointValue → Type 0
 BreaksPoint Named p = IsUnnamed p
@@ -50,3 +78,5 @@ BreaksPoint FullName p = HasRelativeName p
 BreaksPoint NameAlone p = HasMoreThanName p
 BreaksPoint NamedIssuers p = HasOtherIssuer p.1.1.0
 BreaksPoint RelativeToOneIssuer p = HasRelativeName p × HasSeveralIssuers p.1.1.0
+BreaksPoint (Issuers r) p = SomeNameBreaks r p.1.1.0
+BreaksPoint (FullNames r) p = IsSomeAnd p.0 (IsFullNameBroken r)

@@ -1,5 +1,6 @@
 -- What one reading of a value finds.
-use Rattle.std.specs.Prelude.{ℕ, ◌↔◌, List, IsTrue}
+use Rattle.std.specs.Prelude.{ℕ, ◌↔◌, Bool, List, IsTrue}
+use Rattle.pkix_rules.specs.declared.names.NameRule.{NameRule}
 use Rattle.pkix_rules.specs.declared.reading.Reading.{Reading}
 use Rattle.pkix_rules.specs.declared.reading.Reading.TheVariants as found
 use Rattle.pkix_rules.specs.declared.types.ValueType.TheVariants as kind
@@ -10,6 +11,10 @@ use Rattle.pkix_rules.specs.Types.{IsOfType}
 use Rattle.pkix_rules.specs.ValueFacts.{ValueSays}
 use Rattle.pkix_rules.specs.ValueRules.{BreaksValue}
 
+-- if this is so, no name of an authorityCertIssuer breaks a rule
+abbrev pub NamesNoIssuer : Bool → List ℕ → Type 0
+NamesNoIssuer n w = IsTrue n → (r : NameRule) → ¬ BreaksValue (rule.Issuer r) w
+
 -- what was found of the value is so
 abbrev pub IsReadingOf : Reading → List ℕ → Type 0
 IsReadingOf found.Nothing w = Unit {0}
@@ -18,5 +23,6 @@ IsReadingOf (found.Constraints a p) w = IsOfType kind.Constraints w
     × (IsTrue a ↔ ValueSays fact.Authority w) × (IsTrue p ↔ ValueSays fact.PathLength w)
 IsReadingOf (found.KeyUsage c l) w = IsOfType kind.KeyUsage w
     × (IsTrue c ↔ ValueSays fact.KeyCertSign w) × (IsTrue l ↔ ValueSays fact.CrlSign w)
-IsReadingOf (found.KeyIdentifiers k h) w = IsOfType kind.KeyIdentifiers w
+IsReadingOf (found.KeyIdentifiers k h n) w = IsOfType kind.KeyIdentifiers w
     × (IsTrue k ↔ ValueSays fact.KeyIdentifier w) × (IsTrue h ↔ BreaksValue rule.IssuerAndSerial w)
+    × NamesNoIssuer n w

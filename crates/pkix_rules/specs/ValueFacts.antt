@@ -6,13 +6,14 @@ use Rattle.crl_reader.specs.Reasons.{CRLReason}
 use Rattle.der_cursor.specs.Formats.{Format, ObjectIdentifier, Only, Required}
 use Rattle.der_extensions.specs.Extensions.{AccessDescription, AccessValue, AuthorityInfoAccessSyntax}
 use Rattle.der_extensions.specs.Extensions.{AuthorityKeyIdentifier, BasicConstraints, ExtKeyUsageSyntax, KeyUsage}
+use Rattle.der_extensions.specs.GeneralNames.{GeneralName, GeneralNames, NameValue, rfc822_name}
 use Rattle.der_values.specs.Kinds.{is_bit_set}
 use Rattle.pkix_rules.specs.declared.known.KnownExtension.{KnownExtension}
 use Rattle.pkix_rules.specs.declared.known.KnownExtension.TheVariants as known
 use Rattle.pkix_rules.specs.declared.value_facts.ValueFact.{ValueFact}
 use Rattle.pkix_rules.specs.declared.value_facts.ValueFact.TheVariants.{Authority, PathLength, KeyCertSign, CrlSign}
 use Rattle.pkix_rules.specs.declared.value_facts.ValueFact.TheVariants.{KeyIdentifier, AnyPurpose, OcspResponder}
-use Rattle.pkix_rules.specs.declared.value_facts.ValueFact.TheVariants.{RemoveFromCrl}
+use Rattle.pkix_rules.specs.declared.value_facts.ValueFact.TheVariants.{RemoveFromCrl, Mailbox}
 use Rattle.pkix_rules.specs.Lists.{Among}
 
 -- the octets are a value of the type, of which P holds
@@ -31,6 +32,11 @@ id_ad_ocsp = 43 ∷ 6 ∷ 1 ∷ 5 ∷ 5 ∷ 7 ∷ 48 ∷ 1 ∷ []
 abbrev pub IsOcspResponder : AccessValue → Type 0
 IsOcspResponder v = v.0 ≡ id_ad_ocsp
 
+-- an rfc822Name
+abbrev pub IsMailboxName : NameValue → Type 0
+IsMailboxName (rfc822_name w) = Unit {0}
+IsMailboxName _ = ⊥
+
 -- the extension that it is about
 abbrev pub extension_of_fact : ValueFact → KnownExtension
 extension_of_fact Authority = known.BasicConstraints
@@ -41,6 +47,7 @@ extension_of_fact KeyIdentifier = known.AuthorityKeyIdentifier
 extension_of_fact AnyPurpose = known.ExtendedKeyUsage
 extension_of_fact OcspResponder = known.AuthorityInfoAccess
 extension_of_fact RemoveFromCrl = known.ReasonCode
+extension_of_fact Mailbox = known.SubjectAltName
 
 -- the value says so
 abbrev pub ValueSays : ValueFact → List ℕ → Type 0
@@ -54,3 +61,4 @@ ValueSays AnyPurpose w =
 ValueSays OcspResponder w =
     Says AuthorityInfoAccessSyntax (λ v. Among (Required AccessDescription) IsOcspResponder v) w
 ValueSays RemoveFromCrl w = Says CRLReason (λ v. v ≡ reason.RemoveFromCrl) w
+ValueSays Mailbox w = Says GeneralNames (λ v. Among GeneralName IsMailboxName v) w

@@ -17,13 +17,15 @@ use Rattle.pkix_rules.specs.declared.value_rules.ValueRule.TheVariants.{AnyPolic
 use Rattle.pkix_rules.specs.declared.value_rules.ValueRule.TheVariants.{CaIssuers, Points, PointForAllReasons}
 use Rattle.pkix_rules.specs.declared.value_rules.ValueRule.TheVariants.{ShortNumber, NaturalNumber, WholeSeconds}
 use Rattle.pkix_rules.specs.declared.value_rules.ValueRule.TheVariants.{SpecifiedReason, UnmappedAnyPolicy}
-use Rattle.pkix_rules.specs.declared.value_rules.ValueRule.TheVariants.{IssuingPoint, Qualifiers}
+use Rattle.pkix_rules.specs.declared.value_rules.ValueRule.TheVariants.{IssuingPoint, Qualifiers, Issuer}
+use Rattle.pkix_rules.specs.declared.value_rules.ValueRule.TheVariants.{DirectoryName, Locations}
+use Rattle.pkix_rules.specs.declared.names.NameRule.{NameRule}
 use Rattle.pkix_rules.specs.IssuingPoints.{BreaksIssuingPoint}
 use Rattle.pkix_rules.specs.Lists.{Among}
-use Rattle.pkix_rules.specs.Names.{BreaksName}
+use Rattle.pkix_rules.specs.Names.{BreaksName, SomeNameBreaks}
 use Rattle.pkix_rules.specs.Notices.{IsBadlyQualified}
 use Rattle.pkix_rules.specs.Policies.{HasAnyPolicy, IsAnyWithOther}
-use Rattle.pkix_rules.specs.Points.{BreaksPoint, IsForAllReasons}
+use Rattle.pkix_rules.specs.Points.{BreaksPoint, IsDistinguished, IsForAllReasons}
 use Rattle.pkix_rules.specs.Subtrees.{HasBrokenSubtree}
 use Rattle.pkix_rules.specs.Types.{IsOfType}
 use Rattle.pkix_rules.specs.ValueFacts.{Says}
@@ -31,6 +33,10 @@ use Rattle.pkix_rules.specs.ValueFacts.{Says}
 -- authorityCertIssuer is there without authorityCertSerialNumber, or that without it
 abbrev pub IsHalf : AuthorityValue → Type 0
 IsHalf v = ((v.1.0 ≢ None) × (v.1.1.0 ≡ None)) ⊎ ((v.1.1.0 ≢ None) × (v.1.0 ≡ None))
+
+-- a name of authorityCertIssuer breaks the rule
+abbrev pub IsIssuerBroken : NameRule → AuthorityValue → Type 0
+IsIssuerBroken r v = SomeNameBreaks r v.1.0
 
 -- a SEQUENCE of no octets
 abbrev pub empty_sequence : List ℕ
@@ -44,10 +50,15 @@ ca_issuers = 43 ∷ 6 ∷ 1 ∷ 5 ∷ 5 ∷ 7 ∷ 48 ∷ 2 ∷ []
 abbrev pub IsOtherMethod : AccessValue → Type 0
 IsOtherMethod v = v.0 ≢ ca_issuers
 
+-- the accessLocation breaks the rule
+abbrev pub IsLocationBroken : NameRule → AccessValue → Type 0
+IsLocationBroken r v = BreaksName r v.1.0
+
 -- the value breaks the rule
 abbrev pub BreaksValue : ValueRule → List ℕ → Type 0
 BreaksValue (OfType t) w = ¬ IsOfType t w
 BreaksValue IssuerAndSerial w = Says AuthorityKeyIdentifier IsHalf w
+BreaksValue (Issuer r) w = Says AuthorityKeyIdentifier (IsIssuerBroken r) w
 BreaksValue DistinctPolicies w = Says CertificatePolicies (λ v. HasRepetition v) w
 BreaksValue AnyPolicyQualifiers w =
     Says CertificatePolicies (λ v. Among (Required PolicyInformation) IsAnyWithOther v) w
@@ -55,6 +66,7 @@ BreaksValue (Qualifiers r) w =
     Says CertificatePolicies (λ v. Among (Required PolicyInformation) (IsBadlyQualified r) v) w
 BreaksValue UnmappedAnyPolicy w = Says PolicyMappings (λ v. Among (Required PolicyMapping) HasAnyPolicy v) w
 BreaksValue (Names r) w = Says GeneralNames (λ v. Among GeneralName (BreaksName r) v) w
+BreaksValue DirectoryName w = Says GeneralNames (λ v. ¬ Among GeneralName IsDistinguished v) w
 BreaksValue NotEmpty w = w ≡ empty_sequence
 BreaksValue (Subtrees r) w = Says NameConstraints (HasBrokenSubtree r) w
 BreaksValue (Points r) w = Says CRLDistributionPoints (λ v. Among (Required DistributionPoint) (BreaksPoint r) v) w
@@ -62,6 +74,8 @@ BreaksValue PointForAllReasons w =
     Says CRLDistributionPoints (λ v. ¬ Among (Required DistributionPoint) IsForAllReasons v) w
 BreaksValue (IssuingPoint r) w = Says IssuingDistributionPoint (BreaksIssuingPoint r) w
 BreaksValue CaIssuers w = Says AuthorityInfoAccessSyntax (λ v. Among (Required AccessDescription) IsOtherMethod v) w
+BreaksValue (Locations r) w =
+    Says AuthorityInfoAccessSyntax (λ v. Among (Required AccessDescription) (IsLocationBroken r) v) w
 BreaksValue ShortNumber w = Says Integer (λ v. 20 < length v) w
 BreaksValue NaturalNumber w = Says Integer (λ v. integer_value v <ℤ pos 0) w
 BreaksValue WholeSeconds w = Says GeneralizedTime (λ v. v.nanosecond ≢ None) w

@@ -3,7 +3,7 @@ use Rattle.std.specs.Prelude.{◌≡◌, ◌≢◌, ◌⊎◌, Some, None, []}
 use Rattle.std.specs.Option.{IsSomeAnd}
 use Rattle.crl_reader.specs.Lists.{Signed}
 use Rattle.der_x509.specs.declared.certificate.Version.TheVariants.{V2}
-use Rattle.der_x509.specs.Rules.{HasFraction, HasRepetition, IsEarly}
+use Rattle.der_x509.specs.Rules.{HasDescent, HasFraction, HasRepetition, IsEarly}
 use Rattle.pkix_rules.specs.declared.entries.EntryRule.TheVariants.{Without}
 use Rattle.pkix_rules.specs.declared.facts.Fact.{Fact}
 use Rattle.pkix_rules.specs.declared.facts.Fact.TheVariants.{Present, Says}
@@ -13,6 +13,7 @@ use Rattle.pkix_rules.specs.declared.value_facts.ValueFact.{ValueFact}
 use Rattle.pkix_rules.specs.declared.value_facts.ValueFact.TheVariants.{KeyIdentifier, RemoveFromCrl}
 use Rattle.pkix_rules.specs.declared.whole_list.WholeListRule.{WholeListRule}
 use Rattle.pkix_rules.specs.declared.whole_list.WholeListRule.TheVariants as rule
+use Rattle.pkix_rules.specs.Attributes.{HasMistyped}
 use Rattle.pkix_rules.specs.Entries.{SomeEntry}
 use Rattle.pkix_rules.specs.Facts.{Shows}
 use Rattle.pkix_rules.specs.ValueFacts.{extension_of_fact}
@@ -38,6 +39,8 @@ abbrev pub BreaksWholeList : WholeListRule → Signed → Type 0
 BreaksWholeList rule.SameAlgorithms l = l.algorithm ≢ l.tbs_cert_list.signature
 BreaksWholeList rule.SecondVersion l = (l.tbs_cert_list.version ≢ V2) × (l.tbs_cert_list.extensions ≢ [])
 BreaksWholeList rule.NamedIssuer l = l.tbs_cert_list.issuer ≡ []
+BreaksWholeList rule.OrderedAttributes l = HasDescent l.tbs_cert_list.issuer
+BreaksWholeList rule.TypedAttributes l = HasMistyped l.tbs_cert_list.issuer
 BreaksWholeList rule.UtcTimeTo2049 l =
     let t = l.tbs_cert_list in IsEarly t.this_update ⊎ IsSomeAnd t.next_update IsEarly
 BreaksWholeList rule.WholeSeconds l =

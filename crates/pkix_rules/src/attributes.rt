@@ -4,12 +4,13 @@ ghost use Rattle.std.specs.List.{count_by};
 ghost use Rattle.der_cursor.specs.Elements.{element_of};
 ghost use Rattle.der_x509.specs.Certificates.{attribute, attribute_of, certificate_of};
 ghost use Rattle.der_x509.specs.Lists.{Somewhere};
-ghost use Rattle.pkix_rules.specs.Attributes.{AreBadKinds, FitsKind, HasBadAttribute, IsBad, IsMarked, IsOfKind};
-ghost use Rattle.pkix_rules.specs.Attributes.{IsString, Marks, begins_character, character_count, kind_count};
+ghost use Rattle.pkix_rules.specs.Attributes.{AreBadKinds, FitsKind, HasBadAttribute, HasKind, HasMistyped, IsBad};
+ghost use Rattle.pkix_rules.specs.Attributes.{IsMarked, IsMistyped, IsOfKind, IsString, Marks, begins_character};
+ghost use Rattle.pkix_rules.specs.Attributes.{character_count, kind_count};
 ghost use Rattle.pkix_rules.specs.Attributes.{kind_number, kind_octets, least_of, most_of, string_of};
 
 use crate::identified::attribute_kind;
-use crate::identifier::absolute_octets;
+use crate::identifier::{absolute_octets, has_octets};
 use crate::whole::is_self_issued;
 use der_base::any::Any;
 use der_base::header::{Class, Tag};
@@ -241,6 +242,71 @@ fn mark_attribute(bad: &mut [bool; ATTRIBUTE_KINDS], attribute: &AttributeTypeAn
     };
     if !is_of_kind(kind, &attribute.value) {
         bad[kind.number()] = true;
+    }
+}
+
+/// Returns whether the name has an attribute of the kind.
+pub(crate) fn has_kind(kind: AttributeKind, name: Name<'_>) -> bool
+    ensures { IsTrue result ↔ HasKind kind name.entry.octets.now }
+{
+    for relative_name in name.relative_names() {
+        if has_attribute(kind, relative_name) {
+            return true;
+        }
+    }
+    false
+}
+
+/// Returns whether the relative name has an attribute of the kind.
+fn has_attribute(kind: AttributeKind, name: RelativeDistinguishedName<'_>) -> bool
+    ensures { IsTrue result
+        ↔ Somewhere attribute (λ a _. a.identifier ≡ kind_octets kind) name.entry.octets.now }
+{
+    for attribute in name.attributes() {
+        if is_attribute(kind, &attribute) {
+            return true;
+        }
+    }
+    false
+}
+
+fn is_attribute(kind: AttributeKind, attribute: &AttributeTypeAndValue<'_>) -> bool
+    ensures { IsTrue result ↔ ((attribute_of attribute.now).identifier ≡ kind_octets kind) }
+{
+    has_octets(&attribute.identifier, kind.identifier())
+}
+
+/// Returns whether the name has an attribute whose value isn't of its type.
+pub(crate) fn has_mistyped(name: Name<'_>) -> bool
+    ensures { IsTrue result ↔ HasMistyped name.entry.octets.now }
+{
+    for relative_name in name.relative_names() {
+        if has_mistyped_attribute(relative_name) {
+            return true;
+        }
+    }
+    false
+}
+
+/// Returns whether the relative name has such an attribute.
+fn has_mistyped_attribute(name: RelativeDistinguishedName<'_>) -> bool
+    ensures { IsTrue result ↔ Somewhere attribute (λ a _. IsMistyped a) name.entry.octets.now }
+{
+    for attribute in name.attributes() {
+        if is_mistyped(&attribute) {
+            return true;
+        }
+    }
+    false
+}
+
+/// Returns whether the attribute is of a kind, and its value isn't of the type.
+fn is_mistyped(attribute: &AttributeTypeAndValue<'_>) -> bool
+    ensures { IsTrue result ↔ IsMistyped (attribute_of attribute.now) }
+{
+    match attribute_kind(absolute_octets(&attribute.identifier)) {
+        Some(kind) => !is_of_kind(kind, &attribute.value),
+        None => false,
     }
 }
 

@@ -73,6 +73,7 @@ pub const MUST_RULES: &[Rule] = &[
     Rule::Fields(FieldRule::DerValues),
     Rule::Whole(WholeRule::NamedAuthority),
     Rule::Whole(WholeRule::NamedCrlIssuer),
+    Rule::Whole(WholeRule::MailboxInAltName),
     Rule::Fields(FieldRule::UniqueIdVersion),
     Rule::Whole(WholeRule::NoUniqueIdentifier),
     Rule::Fields(FieldRule::ExtensionsVersion),
@@ -151,6 +152,14 @@ pub const MUST_RULES: &[Rule] = &[
         KnownExtension::AuthorityKeyIdentifier,
         ValueRule::IssuerAndSerial,
     ),
+    Rule::Value(
+        KnownExtension::AuthorityKeyIdentifier,
+        ValueRule::Issuer(NameRule::OrderedAttributes),
+    ),
+    Rule::Value(
+        KnownExtension::AuthorityKeyIdentifier,
+        ValueRule::Issuer(NameRule::TypedAttributes),
+    ),
     Rule::Whole(WholeRule::KeyIdentifierOfAuthority),
     Rule::NotCritical(KnownExtension::SubjectKeyIdentifier),
     Rule::Whole(WholeRule::KeyUsageOfAuthority),
@@ -198,6 +207,10 @@ pub const MUST_RULES: &[Rule] = &[
     ),
     Rule::Value(
         KnownExtension::SubjectAltName,
+        ValueRule::Names(NameRule::Host),
+    ),
+    Rule::Value(
+        KnownExtension::SubjectAltName,
         ValueRule::Names(NameRule::Mailbox),
     ),
     Rule::Value(
@@ -211,6 +224,10 @@ pub const MUST_RULES: &[Rule] = &[
     Rule::Value(
         KnownExtension::SubjectAltName,
         ValueRule::Names(NameRule::OrderedAttributes),
+    ),
+    Rule::Value(
+        KnownExtension::SubjectAltName,
+        ValueRule::Names(NameRule::TypedAttributes),
     ),
     Rule::Value(
         KnownExtension::IssuerAltName,
@@ -230,6 +247,10 @@ pub const MUST_RULES: &[Rule] = &[
     ),
     Rule::Value(
         KnownExtension::IssuerAltName,
+        ValueRule::Names(NameRule::Host),
+    ),
+    Rule::Value(
+        KnownExtension::IssuerAltName,
         ValueRule::Names(NameRule::Mailbox),
     ),
     Rule::Value(
@@ -243,6 +264,10 @@ pub const MUST_RULES: &[Rule] = &[
     Rule::Value(
         KnownExtension::IssuerAltName,
         ValueRule::Names(NameRule::OrderedAttributes),
+    ),
+    Rule::Value(
+        KnownExtension::IssuerAltName,
+        ValueRule::Names(NameRule::TypedAttributes),
     ),
     Rule::NotCritical(KnownExtension::SubjectDirectoryAttributes),
     Rule::Whole(WholeRule::CriticalConstraints),
@@ -258,6 +283,30 @@ pub const MUST_RULES: &[Rule] = &[
     Rule::Value(
         KnownExtension::NameConstraints,
         ValueRule::Subtrees(SubtreeRule::NetworkOctets),
+    ),
+    Rule::Value(
+        KnownExtension::NameConstraints,
+        ValueRule::Subtrees(SubtreeRule::NetworkMask),
+    ),
+    Rule::Value(
+        KnownExtension::NameConstraints,
+        ValueRule::Subtrees(SubtreeRule::HostOrDomain),
+    ),
+    Rule::Value(
+        KnownExtension::NameConstraints,
+        ValueRule::Subtrees(SubtreeRule::MailboxOrHost),
+    ),
+    Rule::Value(
+        KnownExtension::NameConstraints,
+        ValueRule::Subtrees(SubtreeRule::DomainName),
+    ),
+    Rule::Value(
+        KnownExtension::NameConstraints,
+        ValueRule::Subtrees(SubtreeRule::Base(NameRule::OrderedAttributes)),
+    ),
+    Rule::Value(
+        KnownExtension::NameConstraints,
+        ValueRule::Subtrees(SubtreeRule::Base(NameRule::TypedAttributes)),
     ),
     Rule::Critical(KnownExtension::PolicyConstraints),
     Rule::Value(KnownExtension::PolicyConstraints, ValueRule::NotEmpty),
@@ -275,8 +324,33 @@ pub const MUST_RULES: &[Rule] = &[
     ),
     Rule::Value(
         KnownExtension::CrlDistributionPoints,
+        ValueRule::Points(PointRule::Issuers(NameRule::OrderedAttributes)),
+    ),
+    Rule::Value(
+        KnownExtension::CrlDistributionPoints,
+        ValueRule::Points(PointRule::Issuers(NameRule::TypedAttributes)),
+    ),
+    Rule::Value(
+        KnownExtension::CrlDistributionPoints,
+        ValueRule::Points(PointRule::FullNames(NameRule::OrderedAttributes)),
+    ),
+    Rule::Value(
+        KnownExtension::CrlDistributionPoints,
+        ValueRule::Points(PointRule::FullNames(NameRule::TypedAttributes)),
+    ),
+    Rule::Value(
+        KnownExtension::CrlDistributionPoints,
+        ValueRule::Points(PointRule::FullNames(NameRule::LdapEntry)),
+    ),
+    Rule::Value(
+        KnownExtension::CrlDistributionPoints,
+        ValueRule::Points(PointRule::FullNames(NameRule::LdapAttribute)),
+    ),
+    Rule::Value(
+        KnownExtension::CrlDistributionPoints,
         ValueRule::PointForAllReasons,
     ),
+    Rule::Whole(WholeRule::OtherCrlIssuer),
     Rule::Critical(KnownExtension::InhibitAnyPolicy),
     Rule::Value(KnownExtension::InhibitAnyPolicy, ValueRule::NaturalNumber),
     Rule::NotCritical(KnownExtension::FreshestCrl),
@@ -292,8 +366,56 @@ pub const MUST_RULES: &[Rule] = &[
         KnownExtension::FreshestCrl,
         ValueRule::Points(PointRule::RelativeToOneIssuer),
     ),
+    Rule::Value(
+        KnownExtension::FreshestCrl,
+        ValueRule::Points(PointRule::Issuers(NameRule::OrderedAttributes)),
+    ),
+    Rule::Value(
+        KnownExtension::FreshestCrl,
+        ValueRule::Points(PointRule::Issuers(NameRule::TypedAttributes)),
+    ),
+    Rule::Value(
+        KnownExtension::FreshestCrl,
+        ValueRule::Points(PointRule::FullNames(NameRule::OrderedAttributes)),
+    ),
+    Rule::Value(
+        KnownExtension::FreshestCrl,
+        ValueRule::Points(PointRule::FullNames(NameRule::TypedAttributes)),
+    ),
+    Rule::Value(
+        KnownExtension::FreshestCrl,
+        ValueRule::Points(PointRule::FullNames(NameRule::LdapEntry)),
+    ),
+    Rule::Value(
+        KnownExtension::FreshestCrl,
+        ValueRule::Points(PointRule::FullNames(NameRule::LdapAttribute)),
+    ),
     Rule::NotCritical(KnownExtension::AuthorityInfoAccess),
+    Rule::Value(
+        KnownExtension::AuthorityInfoAccess,
+        ValueRule::Locations(NameRule::OrderedAttributes),
+    ),
+    Rule::Value(
+        KnownExtension::AuthorityInfoAccess,
+        ValueRule::Locations(NameRule::TypedAttributes),
+    ),
+    Rule::Value(
+        KnownExtension::AuthorityInfoAccess,
+        ValueRule::Locations(NameRule::LdapEntry),
+    ),
     Rule::NotCritical(KnownExtension::SubjectInfoAccess),
+    Rule::Value(
+        KnownExtension::SubjectInfoAccess,
+        ValueRule::Locations(NameRule::OrderedAttributes),
+    ),
+    Rule::Value(
+        KnownExtension::SubjectInfoAccess,
+        ValueRule::Locations(NameRule::TypedAttributes),
+    ),
+    Rule::Value(
+        KnownExtension::SubjectInfoAccess,
+        ValueRule::Locations(NameRule::LdapEntry),
+    ),
     Rule::Value(
         KnownExtension::QcStatements,
         ValueRule::OfType(ValueType::Statements),

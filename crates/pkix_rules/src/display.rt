@@ -239,17 +239,20 @@ fn value_text(rule: ValueRule) -> &'static str {
     match rule {
         ValueRule::OfType(_) => "it isn't of its type (RFC 5280 4.2, 5.2, 5.3)",
         ValueRule::IssuerAndSerial => "an issuer or a serial number alone (RFC 5280 4.2.1.1)",
+        ValueRule::Issuer(rule) => name_text(rule),
         ValueRule::DistinctPolicies => "a policy comes twice (RFC 5280 4.2.1.4)",
         ValueRule::AnyPolicyQualifiers => "another qualifier of anyPolicy (RFC 5280 4.2.1.4)",
         ValueRule::Qualifiers(rule) => qualifier_text(rule),
         ValueRule::UnmappedAnyPolicy => "anyPolicy is in a mapping (RFC 5280 4.2.1.5)",
         ValueRule::Names(rule) => name_text(rule),
+        ValueRule::DirectoryName => "no name is a directoryName (RFC 5280 5.3.3)",
         ValueRule::NotEmpty => "it is an empty sequence (RFC 5280 4.2.1.10, 4.2.1.11, 5.2.5)",
         ValueRule::Subtrees(rule) => subtree_text(rule),
         ValueRule::Points(rule) => point_text(rule),
         ValueRule::PointForAllReasons => "no point is for all reasons (RFC 5280 4.2.1.13)",
         ValueRule::IssuingPoint(rule) => issuing_point_text(rule),
         ValueRule::CaIssuers => "a method isn't id-ad-caIssuers (RFC 5280 5.2.7)",
+        ValueRule::Locations(rule) => name_text(rule),
         ValueRule::ShortNumber => "the number has more than 20 octets (RFC 5280 5.2.3)",
         ValueRule::NaturalNumber => "the number is negative (RFC 5280 4.2.1.14, 5.2.3, 5.2.4)",
         ValueRule::WholeSeconds => "the date has a fraction of a second (RFC 5280 5.3.2)",
@@ -281,13 +284,21 @@ fn name_text(rule: NameRule) -> &'static str {
         NameRule::AddressOctets => "an address hasn't 4 or 16 octets (RFC 5280 4.2.1.6)",
         NameRule::NotBlank => "a dNSName is a space (RFC 5280 4.2.1.6)",
         NameRule::Scheme => "a resource identifier has no scheme (RFC 5280 4.2.1.6)",
+        NameRule::Host => "a resource identifier has no host (RFC 5280 4.2.1.6)",
         NameRule::Mailbox => "an rfc822Name is no mailbox (RFC 5280 4.2.1.6)",
         NameRule::PreferredName =>
             "a dNSName isn't in the preferred name syntax (RFC 5280 4.2.1.6)",
         NameRule::InternationalMailbox =>
             "an SmtpUTF8Mailbox is no mailbox beyond ASCII (RFC 9598 3)",
+        NameRule::LdapEntry => {
+            "an identifier of LDAP lacks an entry or attributes (RFC 5280 4.2.1.13, 4.2.2)"
+        }
+        NameRule::LdapAttribute =>
+            "an identifier of LDAP has several attributes (RFC 5280 4.2.1.13)",
         NameRule::OrderedAttributes =>
             "attributes of a directoryName are out of order (X.690 11.6)",
+        NameRule::TypedAttributes =>
+            "an attribute of a directoryName isn't of its type (RFC 5280 A.1)",
     }
 }
 
@@ -295,6 +306,13 @@ fn subtree_text(rule: SubtreeRule) -> &'static str {
     match rule {
         SubtreeRule::NoDistance => "a subtree has a minimum or a maximum (RFC 5280 4.2.1.10)",
         SubtreeRule::NetworkOctets => "an address hasn't 8 or 32 octets (RFC 5280 4.2.1.10)",
+        SubtreeRule::NetworkMask => "a mask of an address has a gap (RFC 5280 4.2.1.10)",
+        SubtreeRule::HostOrDomain =>
+            "a resource identifier is neither a host nor a domain (RFC 5280 4.2.1.10)",
+        SubtreeRule::MailboxOrHost =>
+            "an rfc822Name is no mailbox, host or domain (RFC 5280 4.2.1.10)",
+        SubtreeRule::DomainName => "a dNSName isn't a host name (RFC 5280 4.2.1.10)",
+        SubtreeRule::Base(rule) => name_text(rule),
         SubtreeRule::UsualName => "a subtree of an unusual kind of name (RFC 5280 4.2.1.10)",
     }
 }
@@ -307,6 +325,8 @@ fn point_text(rule: PointRule) -> &'static str {
         PointRule::NamedIssuers => "a cRLIssuer isn't a directoryName (RFC 5280 4.2.1.13)",
         PointRule::RelativeToOneIssuer =>
             "a name is relative to more than one cRLIssuer (RFC 5280 4.2.1.13)",
+        PointRule::Issuers(rule) => name_text(rule),
+        PointRule::FullNames(rule) => name_text(rule),
     }
 }
 
@@ -315,6 +335,7 @@ fn issuing_point_text(rule: IssuingPointRule) -> &'static str {
         IssuingPointRule::OneKind => "it contains only certificates of two kinds (RFC 5280 5.2.5)",
         IssuingPointRule::NoAttributeCertificates =>
             "it contains only attribute certificates (RFC 5280 5.2.5)",
+        IssuingPointRule::FullNames(rule) => name_text(rule),
     }
 }
 
@@ -325,6 +346,8 @@ fn whole_text(rule: WholeRule) -> &'static str {
             "the subject is an authority, and has no name (RFC 5280 4.1.2.6)",
         WholeRule::NamedCrlIssuer =>
             "the subject signs lists of revoked certificates, and has no name (RFC 5280 4.1.2.6)",
+        WholeRule::MailboxInAltName =>
+            "the subject has an emailAddress, and no rfc822Name (RFC 5280 4.1.2.6)",
         WholeRule::KeyIdentifierOfIssuer =>
             "no authorityKeyIdentifier has a keyIdentifier (RFC 5280 4.2.1.1)",
         WholeRule::KeyIdentifierOfAuthority =>
@@ -346,6 +369,7 @@ fn whole_text(rule: WholeRule) -> &'static str {
             "nameConstraints, and the subject is no authority (RFC 5280 4.2.1.10)",
         WholeRule::AnyPurposeNotCritical =>
             "extKeyUsage has anyExtendedKeyUsage, and is critical (RFC 5280 4.2.1.12)",
+        WholeRule::OtherCrlIssuer => "a cRLIssuer is the issuer (RFC 5280 4.2.1.13)",
         WholeRule::NoRevAvailOfEndEntity => "an authority with a noRevAvail (RFC 9608 2)",
         WholeRule::NoRevAvailWithoutPoints =>
             "noRevAvail beside a place of lists of revoked certificates (RFC 9608 3)",
@@ -358,6 +382,10 @@ fn whole_list_text(rule: WholeListRule) -> &'static str {
         WholeListRule::SameAlgorithms => "the signature algorithms differ (RFC 5280 5.1.1.2)",
         WholeListRule::SecondVersion => "extensions before version 2 (RFC 5280 5.1.2.1)",
         WholeListRule::NamedIssuer => "the issuer has no name (RFC 5280 5.1.2.3)",
+        WholeListRule::OrderedAttributes =>
+            "attributes of a relative name are out of order (X.690 11.6)",
+        WholeListRule::TypedAttributes =>
+            "an attribute of the issuer isn't of its type (RFC 5280 A.1)",
         WholeListRule::UtcTimeTo2049 =>
             "a date before 2050 is a GeneralizedTime (RFC 5280 5.1.2.4)",
         WholeListRule::WholeSeconds => "a date has a fraction of a second (RFC 5280 5.1.2.4)",

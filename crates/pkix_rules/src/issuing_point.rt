@@ -1,9 +1,13 @@
 //! Rules of an issuing distribution point (RFC 5280 5.2.5).
 ghost use Rattle.std.specs.Prelude.{◌↔◌, IsTrue};
+ghost use Rattle.std.specs.Option.{IsSomeAnd};
 ghost use Rattle.der_extensions.specs.Revocation.{issuing_point_of};
 ghost use Rattle.pkix_rules.specs.IssuingPoints.{BreaksIssuingPoint, HasTwoKinds, IsOfAttributes};
+ghost use Rattle.pkix_rules.specs.Points.{IsFullNameBroken};
 ghost use Rattle.pkix_rules.specs.ValueRules.{BreaksValue};
 
+use crate::names::NameRule;
+use crate::points::is_full_name_broken;
 use crate::value_rules::ValueRule;
 use der_extensions::{IssuingDistributionPoint, read_issuing_distribution_point};
 
@@ -14,6 +18,8 @@ pub enum IssuingPointRule {
     OneKind,
     /// onlyContainsAttributeCerts is FALSE (5.2.5, MUST).
     NoAttributeCertificates,
+    /// The names of its fullName keep the rule of names (5.2.5, 4.2.1.6).
+    FullNames(NameRule),
 }
 
 /// Returns whether the octets are an issuing distribution point that breaks the rule.
@@ -33,6 +39,17 @@ fn breaks_rule(rule: IssuingPointRule, point: &IssuingDistributionPoint<'_>) -> 
     match rule {
         IssuingPointRule::OneKind => has_two_kinds(point),
         IssuingPointRule::NoAttributeCertificates => is_of_attributes(point),
+        IssuingPointRule::FullNames(rule) => has_broken_full_name(rule, point),
+    }
+}
+
+/// Returns whether the point has a fullName, and a name of it breaks the rule.
+fn has_broken_full_name(rule: NameRule, point: &IssuingDistributionPoint<'_>) -> bool
+    ensures { IsTrue result ↔ IsSomeAnd (issuing_point_of point.now).0 (IsFullNameBroken rule) }
+{
+    match &point.distribution_point {
+        Some(name) => is_full_name_broken(rule, name),
+        None => false,
     }
 }
 

@@ -189,7 +189,7 @@ fn is_closed_by(last: u8, inside: &[u8]) -> bool
     last == b']' && !inside.is_empty() && are_literal_characters(inside)
 }
 
-fn are_literal_characters(text: &[u8]) -> bool
+pub(crate) fn are_literal_characters(text: &[u8]) -> bool
     ensures { result ≡ list_all is_literal_character text.now }
 {
     text.iter().all(|octet| is_literal_character(*octet))

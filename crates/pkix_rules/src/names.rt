@@ -2,20 +2,26 @@
 ghost use Rattle.std.specs.Prelude.{◌≡◌, ◌≢◌, ◌↔◌, [], nat_le, IsTrue};
 ghost use Rattle.std.specs.List.{list_any};
 ghost use Rattle.std.specs.Char.{is_ascii_alphabetic};
+ghost use Rattle.std.specs.Option.{option_map};
 ghost use Rattle.der_cursor.specs.Elements.{element_of};
 ghost use Rattle.der_extensions.specs.GeneralNames.{GeneralName as AnyName, name_of};
+ghost use Rattle.der_extensions.specs.Lists.{list_octets};
 ghost use Rattle.pkix_rules.specs.Lists.{Among};
 ghost use Rattle.pkix_rules.specs.Names.{BreaksName, HasScheme, IsBlankName, IsDisorderedName, IsEmptyName};
 ghost use Rattle.pkix_rules.specs.Names.{BeginsWithMark, IsInternationalMailbox, IsInternationalText};
 ghost use Rattle.pkix_rules.specs.Names.{IsMailboxBeyondAscii, IsNoInternationalMailbox, IsNoMailbox, IsOddAddress};
-ghost use Rattle.pkix_rules.specs.Names.{IsOtherHost, IsRelativeName, SchemeFollows, is_scheme_character};
+ghost use Rattle.pkix_rules.specs.Names.{IsHostlessName, IsMistypedName, IsOtherHost, IsRelativeName};
+ghost use Rattle.pkix_rules.specs.Names.{SchemeFollows, SomeNameBreaks, is_scheme_character};
 ghost use Rattle.pkix_rules.specs.Sound.{IsBadName, IsSound};
 ghost use Rattle.pkix_rules.specs.ValueRules.{BreaksValue};
 
+use crate::attributes::has_mistyped;
+use crate::directory::{has_several_attributes, is_odd_entry};
 use crate::host_name::is_preferred_name;
 use crate::identifier::has_octets;
 use crate::mailbox::{LocalCharacters, is_mailbox};
 use crate::types::ValueType;
+use crate::uri::has_no_host;
 use crate::value_rules::ValueRule;
 use der_base::any::Any;
 use der_base::header::{Class, Tag};
@@ -35,6 +41,9 @@ pub enum NameRule {
     /// A uniformResourceIdentifier begins with a scheme, a colon and something behind it (4.2.1.6, RFC 3986 3.1,
     /// MUST).
     Scheme,
+    /// A uniformResourceIdentifier with an authority has a host in it, which is a name or an address (4.2.1.6,
+    /// RFC 3986 3.2, MUST). Whether the name is one of the DNS isn't asked.
+    Host,
     /// An rfc822Name is a mailbox, as "a@a.example" (4.2.1.6, RFC 5321 4.1.2, MUST).
     Mailbox,
     /// A dNSName is in the preferred name syntax (4.2.1.6, RFC 1034 3.5, RFC 1123 2.1, MUST). A name behind a leading
@@ -43,9 +52,16 @@ pub enum NameRule {
     /// The attributes of each relative name of a directoryName ascend, as a SET OF does by DER (4.2.1.6, 4.1,
     /// X.690 11.6).
     OrderedAttributes,
+    /// The attributes of a directoryName that have a type in A.1 have values of it (4.2.1.6, 4.1.2.4).
+    TypedAttributes,
     /// An otherName that is an SmtpUTF8Mailbox is a UTF8String with a mailbox, whose local part isn't of ASCII alone
     /// and whose domain is (RFC 9598 3, MUST). It doesn't begin with a byte order mark.
     InternationalMailbox,
+    /// A uniformResourceIdentifier of LDAP has the name of an entry and attributes (4.2.1.13, 4.2.2.1, 4.2.2.2,
+    /// RFC 4516 2, MUST). What these are isn't asked.
+    LdapEntry,
+    /// A uniformResourceIdentifier of LDAP has no more than one attribute (4.2.1.13, MUST).
+    LdapAttribute,
 }
 
 /// id-on-SmtpUTF8Mailbox: 1.3.6.1.5.5.7.8.9.
@@ -65,7 +81,7 @@ pub(crate) fn breaks_names(rule: NameRule, value: &[u8]) -> bool
 }
 
 /// Returns whether one of the names breaks the rule.
-fn has_broken_name(rule: NameRule, names: &GeneralNames<'_>) -> bool
+pub(crate) fn has_broken_name(rule: NameRule, names: &GeneralNames<'_>) -> bool
     ensures { IsTrue result ↔ Among AnyName (BreaksName rule) names.now.octets.now }
 {
     for name in names.iter() {
@@ -74,6 +90,16 @@ fn has_broken_name(rule: NameRule, names: &GeneralNames<'_>) -> bool
         }
     }
     false
+}
+
+/// Returns whether there are names, one of which breaks the rule.
+pub(crate) fn is_one_name_broken(rule: NameRule, names: &Option<GeneralNames<'_>>) -> bool
+    ensures { IsTrue result ↔ SomeNameBreaks rule (option_map list_octets names.now) }
+{
+    match names {
+        Some(names) => has_broken_name(rule, names),
+        None => false,
+    }
 }
 
 /// Returns whether the octets are general names, none of which breaks a rule.
@@ -87,7 +113,7 @@ pub(crate) fn are_sound_names(value: &[u8]) -> bool
 }
 
 /// Returns whether one of the names breaks a rule.
-fn has_bad_name(names: &GeneralNames<'_>) -> bool
+pub(crate) fn has_bad_name(names: &GeneralNames<'_>) -> bool
     ensures { IsTrue result ↔ Among AnyName IsBadName names.now.octets.now }
 {
     for name in names.iter() {
@@ -99,21 +125,25 @@ fn has_bad_name(names: &GeneralNames<'_>) -> bool
 }
 
 /// Returns whether the name breaks a rule.
-fn is_bad_name(name: &GeneralName<'_>) -> bool
+pub(crate) fn is_bad_name(name: &GeneralName<'_>) -> bool
     ensures { IsTrue result ↔ IsBadName (name_of name.now) }
 {
     is_empty_name(name)
         || is_odd_address(name)
         || is_blank_name(name)
         || is_relative_name(name)
+        || is_hostless_name(name)
         || is_no_mailbox(name)
         || is_other_host(name)
         || is_no_international_mailbox(name)
         || is_disordered_name(name)
+        || is_mistyped_name(name)
+        || is_odd_entry(name)
+        || has_several_attributes(name)
 }
 
 /// Returns whether the name breaks the rule.
-fn breaks_name(rule: NameRule, name: &GeneralName<'_>) -> bool
+pub(crate) fn breaks_name(rule: NameRule, name: &GeneralName<'_>) -> bool
     ensures { IsTrue result ↔ BreaksName rule (name_of name.now) }
 {
     match rule {
@@ -121,10 +151,14 @@ fn breaks_name(rule: NameRule, name: &GeneralName<'_>) -> bool
         NameRule::AddressOctets => is_odd_address(name),
         NameRule::NotBlank => is_blank_name(name),
         NameRule::Scheme => is_relative_name(name),
+        NameRule::Host => is_hostless_name(name),
         NameRule::Mailbox => is_no_mailbox(name),
         NameRule::PreferredName => is_other_host(name),
         NameRule::InternationalMailbox => is_no_international_mailbox(name),
         NameRule::OrderedAttributes => is_disordered_name(name),
+        NameRule::TypedAttributes => is_mistyped_name(name),
+        NameRule::LdapEntry => is_odd_entry(name),
+        NameRule::LdapAttribute => has_several_attributes(name),
     }
 }
 
@@ -154,6 +188,16 @@ fn is_disordered_name(name: &GeneralName<'_>) -> bool
 {
     match name {
         GeneralName::DirectoryName(name) => has_descent(*name),
+        _ => false,
+    }
+}
+
+/// Returns whether it is a directoryName with an attribute whose value isn't of its type.
+fn is_mistyped_name(name: &GeneralName<'_>) -> bool
+    ensures { IsTrue result ↔ IsMistypedName (name_of name.now) }
+{
+    match name {
+        GeneralName::DirectoryName(name) => has_mistyped(*name),
         _ => false,
     }
 }
@@ -256,6 +300,16 @@ fn is_relative_name(name: &GeneralName<'_>) -> bool
 {
     match name {
         GeneralName::UniformResourceIdentifier(text) => !has_scheme(text.as_bytes()),
+        _ => false,
+    }
+}
+
+/// Returns whether it is a uniformResourceIdentifier with an authority that has no host.
+fn is_hostless_name(name: &GeneralName<'_>) -> bool
+    ensures { IsTrue result ↔ IsHostlessName (name_of name.now) }
+{
+    match name {
+        GeneralName::UniformResourceIdentifier(text) => has_no_host(text.as_bytes()),
         _ => false,
     }
 }

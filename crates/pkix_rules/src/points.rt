@@ -1,14 +1,16 @@
 //! Rules of distribution points (RFC 5280 4.2.1.13).
 ghost use Rattle.std.specs.Prelude.{◌≡◌, ◌↔◌, IsTrue};
+ghost use Rattle.std.specs.Option.{IsSomeAnd};
 ghost use Rattle.der_cursor.specs.Formats.{Required};
 ghost use Rattle.der_extensions.specs.Extensions.{DistributionPoint as PointFormat, point_name_of, point_of};
 ghost use Rattle.pkix_rules.specs.Lists.{Among};
 ghost use Rattle.pkix_rules.specs.Points.{BreaksPoint, HasMoreThanName, HasRelativeName, IsForAllReasons};
-ghost use Rattle.pkix_rules.specs.Points.{IsRelative, IsUnnamed};
-ghost use Rattle.pkix_rules.specs.Sound.{IsBadPoint, IsSound};
+ghost use Rattle.pkix_rules.specs.Points.{IsFullNameBroken, IsRelative, IsUnnamed};
+ghost use Rattle.pkix_rules.specs.Sound.{IsBadFullName, IsBadPoint, IsSound};
 ghost use Rattle.pkix_rules.specs.ValueRules.{BreaksValue};
 
 use crate::issuers::{has_other_issuer, has_several_issuers};
+use crate::names::{NameRule, has_bad_name, has_broken_name, is_one_name_broken};
 use crate::types::ValueType;
 use crate::value_rules::ValueRule;
 use der_extensions::{
@@ -28,6 +30,10 @@ pub enum PointRule {
     NamedIssuers,
     /// Its name isn't relative where its cRLIssuer has more than one directoryName (4.2.1.13, MUST NOT).
     RelativeToOneIssuer,
+    /// The names of its cRLIssuer keep the rule of names (4.2.1.13, 4.2.1.6).
+    Issuers(NameRule),
+    /// The names of its fullName keep the rule of names (4.2.1.13, 4.2.1.6).
+    FullNames(NameRule),
 }
 
 /// Returns whether the octets are distribution points, one of which breaks the rule.
@@ -74,11 +80,14 @@ fn has_bad_point(points: &CrlDistributionPoints<'_>) -> bool
     false
 }
 
-/// Returns whether the point has anything but a name that isn't relative. So it keeps all rules or breaks one.
+/// Returns whether the point has anything but a fullName whose names keep the rules of names.
 fn is_bad_point(point: &DistributionPoint<'_>) -> bool
     ensures { IsTrue result ↔ IsBadPoint (point_of point.now) }
 {
-    is_unnamed(point) || has_relative_name(point) || has_more_than_name(point)
+    is_unnamed(point)
+        || has_relative_name(point)
+        || has_more_than_name(point)
+        || has_bad_full_name(point)
 }
 
 /// Returns whether the point breaks the rule.
@@ -93,6 +102,8 @@ fn breaks_point(rule: PointRule, point: &DistributionPoint<'_>) -> bool
         PointRule::RelativeToOneIssuer => {
             has_relative_name(point) && has_several_issuers(&point.crl_issuer)
         }
+        PointRule::Issuers(rule) => is_one_name_broken(rule, &point.crl_issuer),
+        PointRule::FullNames(rule) => has_broken_full_name(rule, point),
     }
 }
 
@@ -126,6 +137,45 @@ fn is_relative(name: &DistributionPointName<'_>) -> bool
     match name {
         DistributionPointName::FullName(_) => false,
         DistributionPointName::NameRelativeToCrlIssuer(_) => true,
+    }
+}
+
+/// Returns whether the point has a fullName, and a name of it breaks the rule.
+fn has_broken_full_name(rule: NameRule, point: &DistributionPoint<'_>) -> bool
+    ensures { IsTrue result ↔ IsSomeAnd (point_of point.now).0 (IsFullNameBroken rule) }
+{
+    match &point.distribution_point {
+        Some(name) => is_full_name_broken(rule, name),
+        None => false,
+    }
+}
+
+/// Returns whether it is a fullName, and a name of it breaks the rule.
+pub(crate) fn is_full_name_broken(rule: NameRule, name: &DistributionPointName<'_>) -> bool
+    ensures { IsTrue result ↔ IsFullNameBroken rule (point_name_of name.now) }
+{
+    match name {
+        DistributionPointName::FullName(names) => has_broken_name(rule, names),
+        DistributionPointName::NameRelativeToCrlIssuer(_) => false,
+    }
+}
+
+/// Returns whether the point has a fullName, and a name of it breaks a rule.
+fn has_bad_full_name(point: &DistributionPoint<'_>) -> bool
+    ensures { IsTrue result ↔ IsSomeAnd (point_of point.now).0 IsBadFullName }
+{
+    match &point.distribution_point {
+        Some(name) => is_bad_full_name(name),
+        None => false,
+    }
+}
+
+fn is_bad_full_name(name: &DistributionPointName<'_>) -> bool
+    ensures { IsTrue result ↔ IsBadFullName (point_name_of name.now) }
+{
+    match name {
+        DistributionPointName::FullName(names) => has_bad_name(names),
+        DistributionPointName::NameRelativeToCrlIssuer(_) => false,
     }
 }
 

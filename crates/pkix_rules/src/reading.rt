@@ -1,7 +1,7 @@
 //! What one reading of a value finds. Each rule about the value would read it anew.
 ghost use Rattle.std.specs.Prelude.{◌≡◌, ◌↔◌, Bool, IfSome, IsTrue, List, Some, ℕ};
 ghost use Rattle.pkix_rules.specs.Facts.{Holds};
-ghost use Rattle.pkix_rules.specs.Readings.{IsReadingOf};
+ghost use Rattle.pkix_rules.specs.Readings.{IsReadingOf, NamesNoIssuer};
 ghost use Rattle.pkix_rules.specs.Sound.{IsSound, type_of_rule};
 ghost use Rattle.pkix_rules.specs.Types.{IsOfType};
 ghost use Rattle.pkix_rules.specs.ValueFacts.{ValueSays};
@@ -9,12 +9,12 @@ ghost use Rattle.pkix_rules.specs.ValueRules.{BreaksValue};
 
 use crate::facts::Fact;
 use crate::known::KnownExtension;
-use crate::names::are_sound_names;
+use crate::names::{NameRule, are_sound_names};
 use crate::notices::are_sound_policies;
 use crate::points::are_sound_points;
 use crate::types::ValueType;
 use crate::value_facts::{ValueFact, has_key_identifier, has_path_length};
-use crate::value_rules::{ValueRule, is_half};
+use crate::value_rules::{ValueRule, are_sound_descriptions, is_half, lacks_issuer};
 use der_extensions::{read_authority_key_identifier, read_basic_constraints, read_key_usage};
 
 /// What was found of the value of an extension.
@@ -44,6 +44,8 @@ pub(crate) enum Reading {
         has_identifier: bool,
         /// There is an issuer without a serial number, or a serial number without an issuer.
         is_half: bool,
+        /// There is no issuer.
+        lacks_issuer: bool,
     },
 }
 
@@ -55,6 +57,9 @@ pub(crate) fn read_value(known: KnownExtension, value: &[u8]) -> Reading
         KnownExtension::SubjectAltName | KnownExtension::IssuerAltName => read_names(value),
         KnownExtension::CertificatePolicies => read_policies(value),
         KnownExtension::CrlDistributionPoints | KnownExtension::FreshestCrl => read_points(value),
+        KnownExtension::AuthorityInfoAccess | KnownExtension::SubjectInfoAccess => {
+            read_descriptions(value)
+        }
         KnownExtension::BasicConstraints => read_constraints(value),
         KnownExtension::KeyUsage => read_usage(value),
         KnownExtension::AuthorityKeyIdentifier => read_key_identifiers(value),
@@ -92,6 +97,16 @@ fn read_points(value: &[u8]) -> Reading
     }
 }
 
+fn read_descriptions(value: &[u8]) -> Reading
+    ensures { IsReadingOf result value.now }
+{
+    if are_sound_descriptions(value) {
+        Reading::Sound(ValueType::Descriptions)
+    } else {
+        Reading::Nothing
+    }
+}
+
 fn read_constraints(value: &[u8]) -> Reading
     ensures { IsReadingOf result value.now }
 {
@@ -123,6 +138,7 @@ fn read_key_identifiers(value: &[u8]) -> Reading
         Ok(authority) => Reading::KeyIdentifiers {
             has_identifier: has_key_identifier(&authority),
             is_half: is_half(&authority),
+            lacks_issuer: lacks_issuer(&authority),
         },
         Err(_) => Reading::Nothing,
     }
@@ -177,7 +193,11 @@ impl Reading {
             Reading::Sound(kind) => sound_breaks(kind, rule),
             Reading::Constraints { .. } => read_breaks(ValueType::Constraints, rule),
             Reading::KeyUsage { .. } => read_breaks(ValueType::KeyUsage, rule),
-            Reading::KeyIdentifiers { is_half, .. } => key_identifiers_break(is_half, rule),
+            Reading::KeyIdentifiers {
+                is_half,
+                lacks_issuer,
+                ..
+            } => key_identifiers_break(is_half, lacks_issuer, rule),
         }
     }
 }
@@ -210,17 +230,26 @@ fn is_no_other(kind: ValueType, asked: ValueType) -> Option<bool>
     if asked == kind { Some(false) } else { None }
 }
 
-/// Returns whether an AuthorityKeyIdentifier, one with half of issuer and serial number or not, breaks the rule, if
-/// that is known.
-fn key_identifiers_break(is_half: bool, rule: ValueRule) -> Option<bool>
+/// Returns whether an AuthorityKeyIdentifier, one with half of issuer and serial number or not, and with an issuer or
+/// not, breaks the rule, if that is known.
+fn key_identifiers_break(is_half: bool, lacks_issuer: bool, rule: ValueRule) -> Option<bool>
     ensures { (w : List ℕ) → IsOfType ValueType.KeyIdentifiers w
-        → IsTrue is_half ↔ BreaksValue ValueRule.IssuerAndSerial w
+        → IsTrue is_half ↔ BreaksValue ValueRule.IssuerAndSerial w → NamesNoIssuer lacks_issuer w
         → IfSome result (λ b. IsTrue b ↔ BreaksValue rule w) }
 {
     match rule {
         ValueRule::IssuerAndSerial => Some(is_half),
+        ValueRule::Issuer(rule) => no_issuer_breaks(lacks_issuer, rule),
         _ => read_breaks(ValueType::KeyIdentifiers, rule),
     }
+}
+
+/// Returns that no name of an issuer breaks the rule, if there is none.
+fn no_issuer_breaks(lacks_issuer: bool, rule: NameRule) -> Option<bool>
+    ensures { (w : List ℕ) → NamesNoIssuer lacks_issuer w
+        → IfSome result (λ b. IsTrue b ↔ BreaksValue (ValueRule.Issuer rule) w) }
+{
+    if lacks_issuer { Some(false) } else { None }
 }
 
 /// Returns whether the rule is about the type.

@@ -38,6 +38,8 @@ pub const MUST_LIST_RULES: &[ListRule] = &[
     ListRule::Whole(WholeListRule::SameAlgorithms),
     ListRule::Whole(WholeListRule::SecondVersion),
     ListRule::Whole(WholeListRule::NamedIssuer),
+    ListRule::Whole(WholeListRule::OrderedAttributes),
+    ListRule::Whole(WholeListRule::TypedAttributes),
     ListRule::Whole(WholeListRule::UtcTimeTo2049),
     ListRule::Whole(WholeListRule::WholeSeconds),
     ListRule::Whole(WholeListRule::NextUpdate),
@@ -83,6 +85,14 @@ pub const MUST_LIST_RULES: &[ListRule] = &[
         ValueRule::IssuerAndSerial,
     ),
     ListRule::Value(
+        KnownExtension::AuthorityKeyIdentifier,
+        ValueRule::Issuer(NameRule::OrderedAttributes),
+    ),
+    ListRule::Value(
+        KnownExtension::AuthorityKeyIdentifier,
+        ValueRule::Issuer(NameRule::TypedAttributes),
+    ),
+    ListRule::Value(
         KnownExtension::IssuerAltName,
         ValueRule::Names(NameRule::NotEmpty),
     ),
@@ -100,6 +110,10 @@ pub const MUST_LIST_RULES: &[ListRule] = &[
     ),
     ListRule::Value(
         KnownExtension::IssuerAltName,
+        ValueRule::Names(NameRule::Host),
+    ),
+    ListRule::Value(
+        KnownExtension::IssuerAltName,
         ValueRule::Names(NameRule::Mailbox),
     ),
     ListRule::Value(
@@ -113,6 +127,10 @@ pub const MUST_LIST_RULES: &[ListRule] = &[
     ListRule::Value(
         KnownExtension::IssuerAltName,
         ValueRule::Names(NameRule::OrderedAttributes),
+    ),
+    ListRule::Value(
+        KnownExtension::IssuerAltName,
+        ValueRule::Names(NameRule::TypedAttributes),
     ),
     ListRule::Whole(WholeListRule::Number),
     ListRule::NotCritical(KnownExtension::CrlNumber),
@@ -134,6 +152,14 @@ pub const MUST_LIST_RULES: &[ListRule] = &[
         KnownExtension::IssuingDistributionPoint,
         ValueRule::IssuingPoint(IssuingPointRule::NoAttributeCertificates),
     ),
+    ListRule::Value(
+        KnownExtension::IssuingDistributionPoint,
+        ValueRule::IssuingPoint(IssuingPointRule::FullNames(NameRule::OrderedAttributes)),
+    ),
+    ListRule::Value(
+        KnownExtension::IssuingDistributionPoint,
+        ValueRule::IssuingPoint(IssuingPointRule::FullNames(NameRule::TypedAttributes)),
+    ),
     ListRule::NotCritical(KnownExtension::FreshestCrl),
     ListRule::Whole(WholeListRule::FreshestOfComplete),
     ListRule::Value(
@@ -144,8 +170,36 @@ pub const MUST_LIST_RULES: &[ListRule] = &[
         KnownExtension::FreshestCrl,
         ValueRule::Points(PointRule::NameAlone),
     ),
+    ListRule::Value(
+        KnownExtension::FreshestCrl,
+        ValueRule::Points(PointRule::FullNames(NameRule::OrderedAttributes)),
+    ),
+    ListRule::Value(
+        KnownExtension::FreshestCrl,
+        ValueRule::Points(PointRule::FullNames(NameRule::TypedAttributes)),
+    ),
+    ListRule::Value(
+        KnownExtension::FreshestCrl,
+        ValueRule::Points(PointRule::FullNames(NameRule::LdapEntry)),
+    ),
+    ListRule::Value(
+        KnownExtension::FreshestCrl,
+        ValueRule::Points(PointRule::FullNames(NameRule::LdapAttribute)),
+    ),
     ListRule::NotCritical(KnownExtension::AuthorityInfoAccess),
     ListRule::Value(KnownExtension::AuthorityInfoAccess, ValueRule::CaIssuers),
+    ListRule::Value(
+        KnownExtension::AuthorityInfoAccess,
+        ValueRule::Locations(NameRule::OrderedAttributes),
+    ),
+    ListRule::Value(
+        KnownExtension::AuthorityInfoAccess,
+        ValueRule::Locations(NameRule::TypedAttributes),
+    ),
+    ListRule::Value(
+        KnownExtension::AuthorityInfoAccess,
+        ValueRule::Locations(NameRule::LdapEntry),
+    ),
     ListRule::Entry(EntryRule::Without(
         KnownExtension::ReasonCode,
         Fact::Breaks(ValueRule::OfType(ValueType::Reason)),
@@ -166,6 +220,18 @@ pub const MUST_LIST_RULES: &[ListRule] = &[
     ListRule::Whole(WholeListRule::RemovalOfDelta),
     ListRule::Entry(EntryRule::Without(KnownExtension::InvalidityDate, Fact::Critical)),
     ListRule::Entry(EntryRule::Without(KnownExtension::CertificateIssuer, Fact::NotCritical)),
+    ListRule::Entry(EntryRule::Without(
+        KnownExtension::CertificateIssuer,
+        Fact::Breaks(ValueRule::DirectoryName),
+    )),
+    ListRule::Entry(EntryRule::Without(
+        KnownExtension::CertificateIssuer,
+        Fact::Breaks(ValueRule::Names(NameRule::OrderedAttributes)),
+    )),
+    ListRule::Entry(EntryRule::Without(
+        KnownExtension::CertificateIssuer,
+        Fact::Breaks(ValueRule::Names(NameRule::TypedAttributes)),
+    )),
 ];
 
 /// Those that it says by SHOULD or SHOULD NOT.

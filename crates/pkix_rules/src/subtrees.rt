@@ -6,10 +6,14 @@ ghost use Rattle.der_extensions.specs.GeneralNames.{name_of};
 ghost use Rattle.der_extensions.specs.Lists.{list_octets};
 ghost use Rattle.std.specs.Option.{option_map};
 ghost use Rattle.pkix_rules.specs.Lists.{Among};
-ghost use Rattle.pkix_rules.specs.Subtrees.{BreaksSubtree, HasDistance, HasBrokenSubtree, IsOddNetwork, IsUnusual};
-ghost use Rattle.pkix_rules.specs.Subtrees.{SomeBroken};
+ghost use Rattle.pkix_rules.specs.Subtrees.{BreaksSubtree, HasDistance, HasBrokenSubtree, HasOddMask, IsOddDomain};
+ghost use Rattle.pkix_rules.specs.Subtrees.{IsOddHost, IsOddMailbox, IsOddNetwork, IsUnusual, SomeBroken};
 ghost use Rattle.pkix_rules.specs.ValueRules.{BreaksValue};
 
+use crate::constraint::{is_host_or_domain, is_mask, second_half};
+use crate::host_name::is_host_name;
+use crate::mailbox::{LocalCharacters, is_mailbox};
+use crate::names::{NameRule, breaks_name};
 use crate::value_rules::ValueRule;
 use der_extensions::{
     GeneralName, GeneralSubtree, NameConstraints, SequenceOf, read_name_constraints,
@@ -22,6 +26,17 @@ pub enum SubtreeRule {
     NoDistance,
     /// An iPAddress is one of IPv4 or IPv6 with a mask: it has 8 or 32 octets (4.2.1.10, MUST).
     NetworkOctets,
+    /// The mask of an iPAddress, its second half, has bits 1 and then bits 0, as one of an address range has
+    /// (4.2.1.10, RFC 4632 3.1, MUST).
+    NetworkMask,
+    /// A uniformResourceIdentifier is the name of a host, or that of a domain with "." before it (4.2.1.10, MUST).
+    HostOrDomain,
+    /// An rfc822Name is a mailbox, the name of a host, or that of a domain with "." before it (4.2.1.10).
+    MailboxOrHost,
+    /// A dNSName is the name of a host, or empty, so that it is part of all names (4.2.1.10).
+    DomainName,
+    /// Its base keeps the rule of names (4.2.1.10, 4.2.1.6).
+    Base(NameRule),
     /// It isn't one of an x400Address, an ediPartyName or a registeredID (4.2.1.10, SHOULD NOT).
     UsualName,
 }
@@ -73,6 +88,11 @@ fn breaks_subtree(rule: SubtreeRule, subtree: &GeneralSubtree<'_>) -> bool
     match rule {
         SubtreeRule::NoDistance => has_distance(subtree),
         SubtreeRule::NetworkOctets => is_odd_network(&subtree.base),
+        SubtreeRule::NetworkMask => has_odd_mask(&subtree.base),
+        SubtreeRule::HostOrDomain => is_odd_host(&subtree.base),
+        SubtreeRule::MailboxOrHost => is_odd_mailbox(&subtree.base),
+        SubtreeRule::DomainName => is_odd_domain(&subtree.base),
+        SubtreeRule::Base(rule) => breaks_name(rule, &subtree.base),
         SubtreeRule::UsualName => is_unusual(&subtree.base),
     }
 }
@@ -90,6 +110,48 @@ fn is_odd_network(name: &GeneralName<'_>) -> bool
 {
     match name {
         GeneralName::IpAddress(octets) => octets.len() != 8 && octets.len() != 32,
+        _ => false,
+    }
+}
+
+/// Returns whether it is an address whose second half isn't a mask.
+fn has_odd_mask(name: &GeneralName<'_>) -> bool
+    ensures { IsTrue result ↔ HasOddMask (name_of name.now) }
+{
+    match name {
+        GeneralName::IpAddress(octets) => !is_mask(second_half(octets)),
+        _ => false,
+    }
+}
+
+/// Returns whether it is a uniformResourceIdentifier that is the name of neither a host nor a domain.
+fn is_odd_host(name: &GeneralName<'_>) -> bool
+    ensures { IsTrue result ↔ IsOddHost (name_of name.now) }
+{
+    match name {
+        GeneralName::UniformResourceIdentifier(text) => !is_host_or_domain(text.as_bytes()),
+        _ => false,
+    }
+}
+
+/// Returns whether it is an rfc822Name that is neither a mailbox nor the name of a host or a domain.
+fn is_odd_mailbox(name: &GeneralName<'_>) -> bool
+    ensures { IsTrue result ↔ IsOddMailbox (name_of name.now) }
+{
+    match name {
+        GeneralName::Rfc822Name(text) => {
+            !is_mailbox(LocalCharacters::Ascii, text) && !is_host_or_domain(text.as_bytes())
+        }
+        _ => false,
+    }
+}
+
+/// Returns whether it is a dNSName that isn't empty, and isn't the name of a host.
+fn is_odd_domain(name: &GeneralName<'_>) -> bool
+    ensures { IsTrue result ↔ IsOddDomain (name_of name.now) }
+{
+    match name {
+        GeneralName::DnsName(text) => !text.is_empty() && !is_host_name(text.as_bytes()),
         _ => false,
     }
 }

@@ -4,16 +4,17 @@ ghost use Rattle.der_cursor.specs.Formats.{ObjectIdentifier as IdentifierFormat,
 ghost use Rattle.der_extensions.specs.Extensions.{AccessDescription as AccessFormat, access_of, authority_of};
 ghost use Rattle.der_extensions.specs.Extensions.{constraints_of};
 ghost use Rattle.pkix_rules.specs.Lists.{Among};
-ghost use Rattle.pkix_rules.specs.ValueFacts.{IsOcspResponder, ValueSays, any_extended_key_usage};
+ghost use Rattle.der_extensions.specs.GeneralNames.{GeneralName as AnyName, name_of};
+ghost use Rattle.pkix_rules.specs.ValueFacts.{IsMailboxName, IsOcspResponder, ValueSays, any_extended_key_usage};
 ghost use Rattle.pkix_rules.specs.ValueFacts.{extension_of_fact};
 
 use crate::identifier::has_octets;
 use crate::known::KnownExtension;
 use crl_reader::{Reason, read_reason};
 use der_extensions::{
-    AccessDescription, AuthorityKeyIdentifier, BasicConstraints, ExtendedKeyUsage,
-    InformationAccess, read_authority_key_identifier, read_basic_constraints,
-    read_extended_key_usage, read_information_access, read_key_usage,
+    AccessDescription, AuthorityKeyIdentifier, BasicConstraints, ExtendedKeyUsage, GeneralName,
+    GeneralNames, InformationAccess, read_authority_key_identifier, read_basic_constraints,
+    read_extended_key_usage, read_general_names, read_information_access, read_key_usage,
 };
 
 /// What the value of an extension may say, for rules to be made of.
@@ -35,6 +36,8 @@ pub enum ValueFact {
     OcspResponder,
     /// reasonCode: removeFromCRL (5.3.1).
     RemoveFromCrl,
+    /// subjectAltName: there is an rfc822Name (4.2.1.6).
+    Mailbox,
 }
 
 impl ValueFact {
@@ -49,6 +52,7 @@ impl ValueFact {
             ValueFact::AnyPurpose => KnownExtension::ExtendedKeyUsage,
             ValueFact::OcspResponder => KnownExtension::AuthorityInfoAccess,
             ValueFact::RemoveFromCrl => KnownExtension::ReasonCode,
+            ValueFact::Mailbox => KnownExtension::SubjectAltName,
         }
     }
 }
@@ -72,6 +76,7 @@ pub(crate) fn says(fact: ValueFact, value: &[u8]) -> bool
         ValueFact::AnyPurpose => says_any_purpose(value),
         ValueFact::OcspResponder => says_ocsp_responder(value),
         ValueFact::RemoveFromCrl => says_remove_from_crl(value),
+        ValueFact::Mailbox => says_mailbox(value),
     }
 }
 
@@ -194,4 +199,34 @@ fn is_removal(reason: Reason) -> bool
     ensures { IsTrue result ↔ (reason ≡ Reason.RemoveFromCrl) }
 {
     reason == Reason::RemoveFromCrl
+}
+
+fn says_mailbox(value: &[u8]) -> bool
+    ensures { IsTrue result ↔ ValueSays ValueFact.Mailbox value.now }
+{
+    match read_general_names(value) {
+        Ok(names) => has_mailbox(&names),
+        Err(_) => false,
+    }
+}
+
+/// Returns whether one of the names is an rfc822Name.
+fn has_mailbox(names: &GeneralNames<'_>) -> bool
+    ensures { IsTrue result ↔ Among AnyName IsMailboxName names.now.octets.now }
+{
+    for name in names.iter() {
+        if is_mailbox_name(&name) {
+            return true;
+        }
+    }
+    false
+}
+
+fn is_mailbox_name(name: &GeneralName<'_>) -> bool
+    ensures { IsTrue result ↔ IsMailboxName (name_of name.now) }
+{
+    match name {
+        GeneralName::Rfc822Name(_) => true,
+        _ => false,
+    }
 }

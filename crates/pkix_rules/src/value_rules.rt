@@ -4,13 +4,15 @@ ghost use Rattle.der_base.specs.Octets.{integer_value};
 ghost use Rattle.der_cursor.specs.Formats.{Required};
 ghost use Rattle.der_extensions.specs.Extensions.{AccessDescription as AccessFormat, access_of, authority_of};
 ghost use Rattle.pkix_rules.specs.Lists.{Among};
-ghost use Rattle.pkix_rules.specs.Sound.{type_of_rule};
-ghost use Rattle.pkix_rules.specs.ValueRules.{BreaksValue, IsHalf, IsOtherMethod};
+ghost use Rattle.pkix_rules.specs.Sound.{IsBadLocation, IsSound, type_of_rule};
+ghost use Rattle.pkix_rules.specs.ValueRules.{BreaksValue, IsHalf, IsIssuerBroken, IsLocationBroken};
+ghost use Rattle.pkix_rules.specs.ValueRules.{IsOtherMethod};
 
 use crate::identifier::has_octets;
+use crate::issuers::has_distinguished;
 use crate::issuing_point::{IssuingPointRule, breaks_issuing_point};
 use crate::mappings::breaks_unmapped_any_policy;
-use crate::names::{NameRule, breaks_names};
+use crate::names::{NameRule, breaks_name, breaks_names, is_bad_name, is_one_name_broken};
 use crate::notices::{QualifierRule, breaks_qualifiers};
 use crate::points::{PointRule, breaks_points, is_without_whole_point};
 use crate::policies::{breaks_any_policy_qualifiers, breaks_distinct_policies};
@@ -22,7 +24,7 @@ use der_base::integer::is_negative;
 use der_base::time::ASN1DateTime;
 use der_extensions::{
     AccessDescription, AuthorityKeyIdentifier, InformationAccess, read_authority_key_identifier,
-    read_information_access,
+    read_general_names, read_information_access,
 };
 
 /// A rule of RFC 5280 about the value of an extension.
@@ -32,6 +34,8 @@ pub enum ValueRule {
     OfType(ValueType),
     /// authorityKeyIdentifier: issuer and serial number are both there, or neither (4.2.1.1, A.2, MUST).
     IssuerAndSerial,
+    /// authorityKeyIdentifier: each name of authorityCertIssuer keeps the rule (4.2.1.1, 4.2.1.6).
+    Issuer(NameRule),
     /// certificatePolicies: no policy comes twice (4.2.1.4, MUST NOT). Each is compared with all that follow it.
     DistinctPolicies,
     /// certificatePolicies: anyPolicy has no qualifiers but CPS pointers and user notices (4.2.1.4, MUST).
@@ -42,6 +46,8 @@ pub enum ValueRule {
     UnmappedAnyPolicy,
     /// subjectAltName, issuerAltName, certificateIssuer: each name keeps the rule (4.2.1.6).
     Names(NameRule),
+    /// certificateIssuer: one of the names is a directoryName (5.3.3, MUST).
+    DirectoryName,
     /// nameConstraints, policyConstraints, issuingDistributionPoint: it isn't an empty sequence (4.2.1.10, 4.2.1.11,
     /// 5.2.5, MUST NOT).
     NotEmpty,
@@ -55,6 +61,8 @@ pub enum ValueRule {
     IssuingPoint(IssuingPointRule),
     /// authorityInfoAccess of such a list: each method is id-ad-caIssuers (5.2.7, MUST NOT).
     CaIssuers,
+    /// authorityInfoAccess, subjectInfoAccess: each location keeps the rule of names (4.2.2.1, 4.2.2.2).
+    Locations(NameRule),
     /// cRLNumber, deltaCRLIndicator: the number has at most 20 octets (5.2.3, MUST NOT).
     ShortNumber,
     /// inhibitAnyPolicy, cRLNumber, deltaCRLIndicator: the number isn't negative (4.2.1.14, 5.2.3, 5.2.4).
@@ -66,24 +74,27 @@ pub enum ValueRule {
 }
 
 impl ValueRule {
-    /// The type that it is about, if it is about one.
+    /// The type of which it asks each value, if there is one.
     pub(crate) fn value_type(self) -> Option<ValueType>
         ensures { result ≡ type_of_rule self }
     {
         match self {
             ValueRule::OfType(kind) => Some(kind),
             ValueRule::IssuerAndSerial => Some(ValueType::KeyIdentifiers),
+            ValueRule::Issuer(_) => Some(ValueType::KeyIdentifiers),
             ValueRule::DistinctPolicies => Some(ValueType::Policies),
             ValueRule::AnyPolicyQualifiers => Some(ValueType::Policies),
             ValueRule::Qualifiers(_) => Some(ValueType::Policies),
             ValueRule::UnmappedAnyPolicy => Some(ValueType::Mappings),
             ValueRule::Names(_) => Some(ValueType::Names),
+            ValueRule::DirectoryName => None,
             ValueRule::NotEmpty => None,
             ValueRule::Subtrees(_) => Some(ValueType::NameConstraints),
             ValueRule::Points(_) => Some(ValueType::Points),
             ValueRule::PointForAllReasons => Some(ValueType::Points),
             ValueRule::IssuingPoint(_) => Some(ValueType::IssuingPoint),
-            ValueRule::CaIssuers => Some(ValueType::Descriptions),
+            ValueRule::CaIssuers => None,
+            ValueRule::Locations(_) => Some(ValueType::Descriptions),
             ValueRule::ShortNumber => Some(ValueType::Number),
             ValueRule::NaturalNumber => Some(ValueType::Number),
             ValueRule::WholeSeconds => Some(ValueType::Date),
@@ -108,17 +119,20 @@ pub(crate) fn breaks_value(rule: ValueRule, value: &[u8]) -> bool
     match rule {
         ValueRule::OfType(kind) => !is_of_type(kind, value),
         ValueRule::IssuerAndSerial => breaks_issuer_and_serial(value),
+        ValueRule::Issuer(rule) => breaks_issuer(rule, value),
         ValueRule::DistinctPolicies => breaks_distinct_policies(value),
         ValueRule::AnyPolicyQualifiers => breaks_any_policy_qualifiers(value),
         ValueRule::Qualifiers(rule) => breaks_qualifiers(rule, value),
         ValueRule::UnmappedAnyPolicy => breaks_unmapped_any_policy(value),
         ValueRule::Names(rule) => breaks_names(rule, value),
+        ValueRule::DirectoryName => breaks_directory_name(value),
         ValueRule::NotEmpty => value == EMPTY_SEQUENCE,
         ValueRule::Subtrees(rule) => breaks_subtrees(rule, value),
         ValueRule::Points(rule) => breaks_points(rule, value),
         ValueRule::PointForAllReasons => is_without_whole_point(value),
         ValueRule::IssuingPoint(rule) => breaks_issuing_point(rule, value),
         ValueRule::CaIssuers => breaks_ca_issuers(value),
+        ValueRule::Locations(rule) => breaks_locations(rule, value),
         ValueRule::ShortNumber => breaks_short_number(value),
         ValueRule::NaturalNumber => breaks_natural_number(value),
         ValueRule::WholeSeconds => breaks_whole_seconds(value),
@@ -142,6 +156,37 @@ pub(crate) fn is_half(authority: &AuthorityKeyIdentifier<'_>) -> bool
     let has_issuer = authority.authority_cert_issuer.is_some();
     let has_serial = authority.authority_cert_serial_number.is_some();
     (has_issuer && !has_serial) || (has_serial && !has_issuer)
+}
+
+fn breaks_issuer(rule: NameRule, value: &[u8]) -> bool
+    ensures { IsTrue result ↔ BreaksValue (ValueRule.Issuer rule) value.now }
+{
+    match read_authority_key_identifier(value) {
+        Ok(authority) => is_issuer_broken(rule, &authority),
+        Err(_) => false,
+    }
+}
+
+/// Returns whether a name of authorityCertIssuer breaks the rule.
+fn is_issuer_broken(rule: NameRule, authority: &AuthorityKeyIdentifier<'_>) -> bool
+    ensures { IsTrue result ↔ IsIssuerBroken rule (authority_of authority.now) }
+{
+    is_one_name_broken(rule, &authority.authority_cert_issuer)
+}
+
+pub(crate) fn lacks_issuer(authority: &AuthorityKeyIdentifier<'_>) -> bool
+    ensures { IsTrue result ↔ ((authority_of authority.now).1.0 ≡ None) }
+{
+    authority.authority_cert_issuer.is_none()
+}
+
+fn breaks_directory_name(value: &[u8]) -> bool
+    ensures { IsTrue result ↔ BreaksValue ValueRule.DirectoryName value.now }
+{
+    match read_general_names(value) {
+        Ok(names) => !has_distinguished(&names),
+        Err(_) => false,
+    }
 }
 
 fn breaks_ca_issuers(value: &[u8]) -> bool
@@ -169,6 +214,62 @@ fn is_other_method(description: &AccessDescription<'_>) -> bool
     ensures { IsTrue result ↔ IsOtherMethod (access_of description.now) }
 {
     !has_octets(&description.access_method, CA_ISSUERS)
+}
+
+fn breaks_locations(rule: NameRule, value: &[u8]) -> bool
+    ensures { IsTrue result ↔ BreaksValue (ValueRule.Locations rule) value.now }
+{
+    match read_information_access(value) {
+        Ok(descriptions) => has_broken_location(rule, &descriptions),
+        Err(_) => false,
+    }
+}
+
+/// Returns whether one of the locations breaks the rule.
+fn has_broken_location(rule: NameRule, descriptions: &InformationAccess<'_>) -> bool
+    ensures { IsTrue result
+        ↔ Among (Required AccessFormat) (IsLocationBroken rule) descriptions.now.octets.now }
+{
+    for description in descriptions.iter() {
+        if is_location_broken(rule, &description) {
+            return true;
+        }
+    }
+    false
+}
+
+fn is_location_broken(rule: NameRule, description: &AccessDescription<'_>) -> bool
+    ensures { IsTrue result ↔ IsLocationBroken rule (access_of description.now) }
+{
+    breaks_name(rule, &description.access_location)
+}
+
+/// Returns whether the octets are descriptions of accesses, none of which breaks a rule of each.
+pub(crate) fn are_sound_descriptions(value: &[u8]) -> bool
+    ensures { IsTrue result → IsSound ValueType.Descriptions value.now }
+{
+    match read_information_access(value) {
+        Ok(descriptions) => !has_bad_location(&descriptions),
+        Err(_) => false,
+    }
+}
+
+/// Returns whether one of the locations breaks a rule.
+fn has_bad_location(descriptions: &InformationAccess<'_>) -> bool
+    ensures { IsTrue result ↔ Among (Required AccessFormat) IsBadLocation descriptions.now.octets.now }
+{
+    for description in descriptions.iter() {
+        if is_bad_location(&description) {
+            return true;
+        }
+    }
+    false
+}
+
+fn is_bad_location(description: &AccessDescription<'_>) -> bool
+    ensures { IsTrue result ↔ IsBadLocation (access_of description.now) }
+{
+    is_bad_name(&description.access_location)
 }
 
 fn breaks_short_number(value: &[u8]) -> bool

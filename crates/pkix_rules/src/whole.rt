@@ -3,12 +3,17 @@ ghost use Rattle.std.specs.Prelude.{◌≡◌, ◌↔◌, IsTrue};
 ghost use Rattle.der_x509.specs.Certificates.{Signed, certificate_of};
 ghost use Rattle.pkix_rules.specs.Examined.{IsExamined, signed_of};
 ghost use Rattle.pkix_rules.specs.Facts.{Has, IsAuthority, MaySignCertificates, Tells};
-ghost use Rattle.pkix_rules.specs.Whole.{BreaksWhole, HasNoName, HasPoints, IsSelfIssued};
+ghost use Rattle.pkix_rules.specs.Whole.{BreaksWhole, HasEmailAddress, HasNoName, HasPointOfIssuer, HasPoints};
+ghost use Rattle.pkix_rules.specs.Whole.{IsSelfIssued};
 
+use crate::attributes::{AttributeKind, has_kind};
 use crate::examined::{Examined, has};
 use crate::facts::Fact;
+use crate::issuers::shows_issuer;
 use crate::known::KnownExtension;
+use crate::points::PointRule;
 use crate::value_facts::ValueFact;
+use crate::value_rules::ValueRule;
 use der_x509::Certificate;
 
 /// A rule of RFC 5280 about a certificate as a whole. An authority is a certificate whose basicConstraints has
@@ -21,6 +26,8 @@ pub enum WholeRule {
     NamedAuthority,
     /// So has an issuer of lists of revoked certificates, whose keyUsage has cRLSign (4.1.2.6, MUST).
     NamedCrlIssuer,
+    /// A subject with an emailAddress has an rfc822Name in a subjectAltName, too (4.1.2.6, MUST of new certificates).
+    MailboxInAltName,
     /// There is an authorityKeyIdentifier with a keyIdentifier, unless issuer and subject are the same octets
     /// (4.2.1.1, MUST).
     KeyIdentifierOfIssuer,
@@ -45,6 +52,9 @@ pub enum WholeRule {
     NameConstraintsOfAuthority,
     /// An extKeyUsage with anyExtendedKeyUsage isn't critical (4.2.1.12, SHOULD NOT).
     AnyPurposeNotCritical,
+    /// No point of cRLDistributionPoints or freshestCRL has the issuer of the certificate in its cRLIssuer (4.2.1.13,
+    /// MUST). Names of other octets are other ones.
+    OtherCrlIssuer,
     /// There is a noRevAvail only in who is no authority (RFC 9608 2, MUST NOT).
     NoRevAvailOfEndEntity,
     /// There is neither cRLDistributionPoints nor freshestCRL beside a noRevAvail (RFC 9608 3, MUST NOT).
@@ -69,6 +79,9 @@ impl WholeRule {
     }
 }
 
+/// A point has reasons or a cRLIssuer: only such a one may have the issuer of the certificate there.
+const MORE_THAN_NAME: Fact = Fact::Breaks(ValueRule::Points(PointRule::NameAlone));
+
 /// Returns whether the certificate breaks the rule.
 #[inline(never)]
 pub(crate) fn breaks_whole(rule: WholeRule, certificate: &Examined<'_, '_>) -> bool
@@ -79,6 +92,7 @@ pub(crate) fn breaks_whole(rule: WholeRule, certificate: &Examined<'_, '_>) -> b
         WholeRule::NoUniqueIdentifier => breaks_no_unique_identifier(certificate.signed),
         WholeRule::NamedAuthority => breaks_named_authority(certificate),
         WholeRule::NamedCrlIssuer => breaks_named_crl_issuer(certificate),
+        WholeRule::MailboxInAltName => breaks_mailbox_in_alt_name(certificate),
         WholeRule::KeyIdentifierOfIssuer => breaks_key_identifier_of_issuer(certificate),
         WholeRule::KeyIdentifierOfAuthority => breaks_key_identifier_of_authority(certificate),
         WholeRule::KeyIdentifierOfEndEntity => breaks_key_identifier_of_end_entity(certificate),
@@ -90,6 +104,7 @@ pub(crate) fn breaks_whole(rule: WholeRule, certificate: &Examined<'_, '_>) -> b
         WholeRule::PathLengthOfCertSign => breaks_path_length_of_cert_sign(certificate),
         WholeRule::NameConstraintsOfAuthority => breaks_name_constraints_of_authority(certificate),
         WholeRule::AnyPurposeNotCritical => breaks_any_purpose_not_critical(certificate),
+        WholeRule::OtherCrlIssuer => breaks_other_crl_issuer(certificate),
         WholeRule::NoRevAvailOfEndEntity => breaks_no_rev_avail_of_end_entity(certificate),
         WholeRule::NoRevAvailWithoutPoints => breaks_no_rev_avail_without_points(certificate),
         WholeRule::NoRevAvailWithoutOcsp => breaks_no_rev_avail_without_ocsp(certificate),
@@ -115,6 +130,13 @@ fn breaks_named_crl_issuer(certificate: &Examined<'_, '_>) -> bool
     ensures { IsTrue result ↔ BreaksWhole WholeRule.NamedCrlIssuer (signed_of certificate.now) }
 {
     has_no_name(certificate.signed) && tells(certificate, ValueFact::CrlSign)
+}
+
+fn breaks_mailbox_in_alt_name(certificate: &Examined<'_, '_>) -> bool
+    requires { IsExamined certificate.now }
+    ensures { IsTrue result ↔ BreaksWhole WholeRule.MailboxInAltName (signed_of certificate.now) }
+{
+    has_email_address(certificate.signed) && !tells(certificate, ValueFact::Mailbox)
 }
 
 fn breaks_key_identifier_of_issuer(certificate: &Examined<'_, '_>) -> bool
@@ -200,6 +222,14 @@ fn breaks_any_purpose_not_critical(certificate: &Examined<'_, '_>) -> bool
         && tells(certificate, ValueFact::AnyPurpose)
 }
 
+fn breaks_other_crl_issuer(certificate: &Examined<'_, '_>) -> bool
+    requires { IsExamined certificate.now }
+    ensures { IsTrue result ↔ BreaksWhole WholeRule.OtherCrlIssuer (signed_of certificate.now) }
+{
+    has_point_of_issuer(certificate, KnownExtension::CrlDistributionPoints)
+        || has_point_of_issuer(certificate, KnownExtension::FreshestCrl)
+}
+
 fn breaks_no_rev_avail_of_end_entity(certificate: &Examined<'_, '_>) -> bool
     requires { IsExamined certificate.now }
     ensures { IsTrue result ↔ BreaksWhole WholeRule.NoRevAvailOfEndEntity (signed_of certificate.now) }
@@ -229,6 +259,24 @@ fn has_points(certificate: &Examined<'_, '_>) -> bool
 {
     is_there(certificate, KnownExtension::CrlDistributionPoints)
         || is_there(certificate, KnownExtension::FreshestCrl)
+}
+
+/// Returns whether a point of the extension has the issuer of the certificate in its cRLIssuer.
+fn has_point_of_issuer(certificate: &Examined<'_, '_>, known: KnownExtension) -> bool
+    requires { IsExamined certificate.now }
+    ensures { IsTrue result ↔ HasPointOfIssuer known (signed_of certificate.now) }
+{
+    has(certificate, known, MORE_THAN_NAME) && shows_issuer(certificate.signed, known)
+}
+
+/// Returns whether the subject has an emailAddress.
+fn has_email_address(certificate: &Certificate<'_>) -> bool
+    ensures { IsTrue result ↔ HasEmailAddress (certificate_of certificate.now) }
+{
+    has_kind(
+        AttributeKind::EmailAddress,
+        certificate.tbs_certificate.subject,
+    )
 }
 
 /// Returns whether the subject has no name.

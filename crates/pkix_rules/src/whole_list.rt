@@ -6,6 +6,7 @@ ghost use Rattle.der_x509.specs.Rules.{HasFraction, IsEarly};
 ghost use Rattle.pkix_rules.specs.Examined.{IsExaminedList, signed_list_of};
 ghost use Rattle.pkix_rules.specs.WholeLists.{BreaksWholeList, HasRemoval, IsDelta, ListTells};
 
+use crate::attributes::has_mistyped;
 use crate::entries::{EntryRule, is_entry_broken};
 use crate::examined::{ExaminedList, list_has};
 use crate::facts::Fact;
@@ -14,7 +15,7 @@ use crate::known::KnownExtension;
 use crate::repetition::has_repetition;
 use crate::value_facts::ValueFact;
 use crl_reader::{CertificateList, RevokedCertificates};
-use der_x509::{Time, Version};
+use der_x509::{Time, Version, has_descent};
 
 /// A rule of RFC 5280 about a list of revoked certificates as a whole. A list of changes has a
 /// deltaCRLIndicator (5.2.4).
@@ -26,6 +27,10 @@ pub enum WholeListRule {
     SecondVersion,
     /// The issuer has a name (5.1.2.3, MUST).
     NamedIssuer,
+    /// The attributes of each relative name of the issuer ascend, as a SET OF does by DER (5.1.2.3, 5.1, X.690 11.6).
+    OrderedAttributes,
+    /// The attributes of the issuer that have a type in A.1 have values of it (5.1.2.3, A.1).
+    TypedAttributes,
     /// A date to the end of 2049 is a UTCTime (5.1.2.4, 5.1.2.5, MUST).
     UtcTimeTo2049,
     /// A date has no fraction of a second (5.1.2.4, 5.1.2.5, 4.1.2.5.2, MUST NOT).
@@ -55,6 +60,8 @@ pub(crate) fn breaks_whole_list(rule: WholeListRule, list: &ExaminedList<'_, '_>
         WholeListRule::SameAlgorithms => breaks_same_algorithms(list.signed),
         WholeListRule::SecondVersion => breaks_second_version(list.signed),
         WholeListRule::NamedIssuer => breaks_named_issuer(list.signed),
+        WholeListRule::OrderedAttributes => breaks_ordered_attributes(list.signed),
+        WholeListRule::TypedAttributes => breaks_typed_attributes(list.signed),
         WholeListRule::UtcTimeTo2049 => breaks_utc_time_to_2049(list.signed),
         WholeListRule::WholeSeconds => breaks_whole_seconds(list.signed),
         WholeListRule::NextUpdate => breaks_next_update(list.signed),
@@ -84,6 +91,18 @@ fn breaks_named_issuer(list: &CertificateList<'_>) -> bool
     ensures { IsTrue result ↔ BreaksWholeList WholeListRule.NamedIssuer (certificate_list_of list.now) }
 {
     list.tbs_cert_list.issuer.octets.is_empty()
+}
+
+fn breaks_ordered_attributes(list: &CertificateList<'_>) -> bool
+    ensures { IsTrue result ↔ BreaksWholeList WholeListRule.OrderedAttributes (certificate_list_of list.now) }
+{
+    has_descent(list.tbs_cert_list.issuer)
+}
+
+fn breaks_typed_attributes(list: &CertificateList<'_>) -> bool
+    ensures { IsTrue result ↔ BreaksWholeList WholeListRule.TypedAttributes (certificate_list_of list.now) }
+{
+    has_mistyped(list.tbs_cert_list.issuer)
 }
 
 fn breaks_utc_time_to_2049(list: &CertificateList<'_>) -> bool

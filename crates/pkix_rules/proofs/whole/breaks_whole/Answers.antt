@@ -9,6 +9,9 @@ returns-in-NamedAuthority c = rw c.in-NamedAuthority.is c.breaks_named_authority
 pub returns-in-NamedCrlIssuer : goal.returns-in-NamedCrlIssuer
 returns-in-NamedCrlIssuer c = rw c.in-NamedCrlIssuer.is c.breaks_named_crl_issuer.ensures
 
+pub returns-in-MailboxInAltName : goal.returns-in-MailboxInAltName
+returns-in-MailboxInAltName c = rw c.in-MailboxInAltName.is c.breaks_mailbox_in_alt_name.ensures
+
 pub returns-in-KeyIdentifierOfIssuer : goal.returns-in-KeyIdentifierOfIssuer
 returns-in-KeyIdentifierOfIssuer c = rw c.in-KeyIdentifierOfIssuer.is c.breaks_key_identifier_of_issuer.ensures
 
@@ -41,6 +44,9 @@ returns-in-NameConstraintsOfAuthority c = rw c.in-NameConstraintsOfAuthority.is 
 
 pub returns-in-AnyPurposeNotCritical : goal.returns-in-AnyPurposeNotCritical
 returns-in-AnyPurposeNotCritical c = rw c.in-AnyPurposeNotCritical.is c.breaks_any_purpose_not_critical.ensures
+
+pub returns-in-OtherCrlIssuer : goal.returns-in-OtherCrlIssuer
+returns-in-OtherCrlIssuer c = rw c.in-OtherCrlIssuer.is c.breaks_other_crl_issuer.ensures
 
 pub returns-in-NoRevAvailOfEndEntity : goal.returns-in-NoRevAvailOfEndEntity
 returns-in-NoRevAvailOfEndEntity c = rw c.in-NoRevAvailOfEndEntity.is c.breaks_no_rev_avail_of_end_entity.ensures

@@ -9,6 +9,12 @@ returns-in-SecondVersion c = rw c.in-SecondVersion.is c.breaks_second_version.en
 pub returns-in-NamedIssuer : goal.returns-in-NamedIssuer
 returns-in-NamedIssuer c = rw c.in-NamedIssuer.is c.breaks_named_issuer.ensures
 
+pub returns-in-OrderedAttributes : goal.returns-in-OrderedAttributes
+returns-in-OrderedAttributes c = rw c.in-OrderedAttributes.is c.breaks_ordered_attributes.ensures
+
+pub returns-in-TypedAttributes : goal.returns-in-TypedAttributes
+returns-in-TypedAttributes c = rw c.in-TypedAttributes.is c.breaks_typed_attributes.ensures
+
 pub returns-in-UtcTimeTo2049 : goal.returns-in-UtcTimeTo2049
 returns-in-UtcTimeTo2049 c = rw c.in-UtcTimeTo2049.is c.breaks_utc_time_to_2049.ensures
 

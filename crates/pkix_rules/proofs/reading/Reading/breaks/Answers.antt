@@ -10,4 +10,4 @@ pub returns-in-KeyUsage : goal.returns-in-KeyUsage
 returns-in-KeyUsage c = rw c.in-KeyUsage.is (λ w r. c.read_breaks-in-KeyUsage.ensures w r.0)
 
 pub returns-in-KeyIdentifiers : goal.returns-in-KeyIdentifiers
-returns-in-KeyIdentifiers c = rw c.in-KeyIdentifiers.is (λ w r. c.key_identifiers_break.ensures w r.0 r.2)
+returns-in-KeyIdentifiers c = rw c.in-KeyIdentifiers.is (λ w r. c.key_identifiers_break.ensures w r.0 r.2 r.3)
