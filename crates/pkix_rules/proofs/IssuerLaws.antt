@@ -8,7 +8,6 @@ use Rattle.der_x509.specs.Certificates.{Signed}
 use Rattle.der_x509.proofs.WalkLaws.{elsewhere}
 use Rattle.pkix_rules.specs.declared.facts.Fact.TheVariants.{Breaks}
 use Rattle.pkix_rules.specs.declared.known.KnownExtension.{KnownExtension}
-use Rattle.pkix_rules.specs.declared.names.NameRule.{NameRule}
 use Rattle.pkix_rules.specs.declared.points.PointRule.TheVariants.{NameAlone}
 use Rattle.pkix_rules.specs.declared.value_rules.ValueRule.TheVariants as rule
 use Rattle.pkix_rules.specs.Facts.{Has, Shows}

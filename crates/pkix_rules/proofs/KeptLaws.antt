@@ -1,5 +1,5 @@
 -- Reading a field of which a fact holds, too.
-use Rattle.std.proofs.Common.{◌≡◌, Ok, Err, sym, subst}
+use Rattle.std.proofs.Common.{Ok, Err, sym, subst}
 use Rattle.der_cursor.specs.declared.cursor.Cursor.{Cursor}
 use Rattle.der_cursor.specs.Formats.{Field, ReadsField}
 use Rattle.pkix_rules.specs.Notices.{Kept}

@@ -1,5 +1,5 @@
 -- Mailboxes: the literal of an address, and quoted strings.
-use Rattle.std.proofs.Common.{◌≡◌, ◌≢◌, ℕ, Bool, true, false, IsTrue, List, [], ◌∷◌, ◌++◌, ◌<◌, length, arith, refl, sym, ap, subst, ◌∙◌, inl, inr}
+use Rattle.std.proofs.Common.{◌≡◌, ◌≢◌, ℕ, Bool, false, IsTrue, List, [], ◌∷◌, ◌++◌, ◌<◌, length, arith, refl, sym, ap, subst, ◌∙◌, inl, inr}
 use Rattle.std.specs.Prelude.{◌↔◌}
 use Rattle.std.specs.List.{IsLastAndRest, after_first, before_first, list_all, position_or_len}
 use Rattle.std.proofs.lemmas.Bool.{false≢true}

@@ -1,5 +1,5 @@
 -- What was read of a value is all that it says.
-use Rattle.std.proofs.Common.{◌≡◌, ◌≢◌, Bool, true, false, IsTrue, Ok, Err, refl, sym, subst, ◌∙◌}
+use Rattle.std.proofs.Common.{◌≡◌, Bool, true, false, IsTrue, Ok, Err, refl, sym, subst, ◌∙◌}
 use Rattle.std.specs.Prelude.{◌↔◌, not}
 use Rattle.std.proofs.lemmas.Bool.{false≢true}
 use Rattle.der_cursor.specs.Formats.{Never, ReadsWhole}

@@ -1,5 +1,5 @@
 -- The forms that names have in constraints (RFC 5280 4.2.1.10).
-use Rattle.std.specs.Prelude.{◌≡◌, ℕ, ◌⊎◌, ◌==◌, not, Bool, IsTrue, List, [], ◌∷◌, drop}
+use Rattle.std.specs.Prelude.{◌≡◌, ℕ, ◌/◌, ◌⊎◌, ◌==◌, not, Bool, IsTrue, List, [], ◌∷◌, drop, length}
 use Rattle.std.specs.List.{list_all, list_any, position_or_len}
 use Rattle.pkix_rules.specs.HostNames.{is_host_name}
 
@@ -25,3 +25,7 @@ EndsMask (b ∷ w) = IsTrue (is_edge b) × IsTrue (list_all (λ z. z == 0) w)
 -- a mask of a prefix: bits 1 and then bits 0 (RFC 4632 3.1)
 abbrev pub IsMask : List ℕ → Type 0
 IsMask w = EndsMask (behind_ones w)
+
+-- the second half of the octets of an address is one
+abbrev pub EndsInMask : List ℕ → Type 0
+EndsInMask w = IsMask (drop (length w / 2) w)

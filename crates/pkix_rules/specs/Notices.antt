@@ -1,5 +1,5 @@
 -- What RFC 5280 asks of the qualifiers of policies (4.2.1.4, with RFC 6818 3).
-use Rattle.std.specs.Prelude.{◌≡◌, ◌≢◌, ℕ, ◌<◌, ◌%◌, ◌⊎◌, Bool, true, false, Option, Some, None, List, length}
+use Rattle.std.specs.Prelude.{◌≡◌, ◌≢◌, ℕ, ◌<◌, ◌%◌, ◌⊎◌, true, false, Option, Some, None, List, length}
 use Rattle.std.specs.Option.{IsSomeAnd, option_map}
 use Rattle.der_base.specs.declared.header.Class.TheVariants.{Universal}
 use Rattle.der_base.specs.declared.rules.Rules.TheVariants.{Der}

@@ -1,5 +1,5 @@
 -- What RFC 5280 asks of the subtrees of name constraints (4.2.1.10).
-use Rattle.std.specs.Prelude.{◌≡◌, ◌≢◌, ℕ, ◌/◌, ◌⊎◌, pos, false, Option, Some, None, List, [], drop, length}
+use Rattle.std.specs.Prelude.{◌≡◌, ◌≢◌, ℕ, ◌⊎◌, pos, false, Option, Some, None, List, [], length}
 use Rattle.der_cursor.specs.Formats.{Required}
 use Rattle.der_extensions.specs.Extensions.{GeneralSubtree, NameConstraintsValue, SubtreeValue}
 use Rattle.der_extensions.specs.GeneralNames.{NameValue, dns_name, edi_party_name, ip_address, registered_id}
@@ -9,7 +9,7 @@ use Rattle.pkix_rules.specs.declared.subtrees.SubtreeRule.{SubtreeRule}
 use Rattle.pkix_rules.specs.declared.subtrees.SubtreeRule.TheVariants.{NoDistance, NetworkOctets, NetworkMask}
 use Rattle.pkix_rules.specs.declared.subtrees.SubtreeRule.TheVariants.{HostOrDomain, MailboxOrHost, DomainName}
 use Rattle.pkix_rules.specs.declared.subtrees.SubtreeRule.TheVariants.{Base, UsualName}
-use Rattle.pkix_rules.specs.Constraints.{IsHostOrDomain, IsMask}
+use Rattle.pkix_rules.specs.Constraints.{EndsInMask, IsHostOrDomain}
 use Rattle.pkix_rules.specs.HostNames.{is_host_name}
 use Rattle.pkix_rules.specs.Lists.{Among}
 use Rattle.pkix_rules.specs.Mailboxes.{IsMailbox}
@@ -26,7 +26,7 @@ IsOddNetwork _ = ⊥
 
 -- an address whose second half isn't a mask
 abbrev pub HasOddMask : NameValue → Type 0
-HasOddMask (ip_address w) = ¬ IsMask (drop (length w / 2) w)
+HasOddMask (ip_address w) = ¬ EndsInMask w
 HasOddMask _ = ⊥
 
 -- a uniformResourceIdentifier that is the name of neither a host nor a domain

@@ -1,6 +1,7 @@
 -- The syntax of identifiers of resources: the host (RFC 3986 3.2, for RFC 5280 4.2.1.6), and the entry that one of LDAP
 -- names (RFC 4516 2, for 4.2.1.13, 4.2.2.1 and 4.2.2.2).
-use Rattle.std.specs.Prelude.{◌≡◌, ◌≢◌, ℕ, ◌⊎◌, ◌||◌, ◌==◌, Bool, IsTrue, if◌then◌else◌, List, [], ◌∷◌, ◌++◌, codes, map}
+use Rattle.std.specs.Prelude.{◌≡◌, ◌≢◌, ℕ, ◌⊎◌, ◌||◌, ◌==◌, Bool, IsTrue, if◌then◌else◌, List, [], ◌∷◌, ◌++◌}
+use Rattle.std.specs.Prelude.{codes, map}
 use Rattle.std.specs.Char.{is_ascii_digit, to_ascii_lowercase}
 use Rattle.std.specs.List.{after_first, before_first, list_all, list_any}
 use Rattle.pkix_rules.specs.HostNames.{is_host_name}
@@ -56,9 +57,11 @@ abbrev pub IsHostAndPort : List ℕ → Type 0
 IsHostAndPort w = IsLiteralAndPort w ⊎ IsNameAndPort w
 
 -- behind the scheme is an authority, and its host is neither a name nor an address
+abbrev pub IsHostless : List ℕ → Type 0
+IsHostless w = ¬ IsHostAndPort (without_user (before_first ends_authority w))
+
 abbrev pub HasNoHost : List ℕ → Type 0
-HasNoHost w = (rest : List ℕ) × (after_first is_colon w ≡ 47 ∷ 47 ∷ rest)
-    × (¬ IsHostAndPort (without_user (before_first ends_authority rest)))
+HasNoHost w = (rest : List ℕ) × (after_first is_colon w ≡ 47 ∷ 47 ∷ rest) × IsHostless rest
 
 -- the scheme is "ldap", in letters of any case (RFC 3986 3.1)
 abbrev pub IsLdap : List ℕ → Type 0

@@ -1,7 +1,8 @@
 //! The forms that names have in constraints (RFC 5280 4.2.1.10).
 ghost use Rattle.std.specs.Prelude.{◌≡◌, ◌↔◌, ◌≤◌, ◌==◌, ◌/◌, IsTrue, drop, length, not};
 ghost use Rattle.std.specs.List.{list_all, position_or_len};
-ghost use Rattle.pkix_rules.specs.Constraints.{EndsMask, IsDomainPart, IsHostOrDomain, IsMask, behind_ones, is_edge};
+ghost use Rattle.pkix_rules.specs.Constraints.{EndsInMask, EndsMask, IsDomainPart, IsHostOrDomain, IsMask};
+ghost use Rattle.pkix_rules.specs.Constraints.{behind_ones, is_edge};
 
 use crate::host_name::is_host_name;
 
@@ -24,15 +25,21 @@ fn is_domain_part(text: &[u8]) -> bool
     }
 }
 
-/// The second half of the octets of an address: its mask.
-pub(crate) fn second_half(octets: &[u8]) -> &[u8]
+/// Returns whether the second half of the octets of an address is a mask.
+pub(crate) fn ends_in_mask(octets: &[u8]) -> bool
+    ensures { IsTrue result ↔ EndsInMask octets.now }
+{
+    is_mask(second_half(octets))
+}
+
+fn second_half(octets: &[u8]) -> &[u8]
     ensures { result.now ≡ drop (length octets.now / 2) octets.now }
 {
     &octets[octets.len() / 2..]
 }
 
 /// Returns whether the octets have bits 1 and then bits 0.
-pub(crate) fn is_mask(octets: &[u8]) -> bool
+fn is_mask(octets: &[u8]) -> bool
     ensures { IsTrue result ↔ IsMask octets.now }
 {
     ends_mask(behind_ones(octets))

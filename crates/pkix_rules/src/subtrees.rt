@@ -10,7 +10,7 @@ ghost use Rattle.pkix_rules.specs.Subtrees.{BreaksSubtree, HasDistance, HasBroke
 ghost use Rattle.pkix_rules.specs.Subtrees.{IsOddHost, IsOddMailbox, IsOddNetwork, IsUnusual, SomeBroken};
 ghost use Rattle.pkix_rules.specs.ValueRules.{BreaksValue};
 
-use crate::constraint::{is_host_or_domain, is_mask, second_half};
+use crate::constraint::{ends_in_mask, is_host_or_domain};
 use crate::host_name::is_host_name;
 use crate::mailbox::{LocalCharacters, is_mailbox};
 use crate::names::{NameRule, breaks_name};
@@ -119,7 +119,7 @@ fn has_odd_mask(name: &GeneralName<'_>) -> bool
     ensures { IsTrue result ↔ HasOddMask (name_of name.now) }
 {
     match name {
-        GeneralName::IpAddress(octets) => !is_mask(second_half(octets)),
+        GeneralName::IpAddress(octets) => !ends_in_mask(octets),
         _ => false,
     }
 }

@@ -1,10 +1,10 @@
 //! The syntax of identifiers of resources: the host (RFC 3986 3.2, for RFC 5280 4.2.1.6), and the entry that one of
 //! LDAP names (RFC 4516 2, for 4.2.1.13, 4.2.2.1 and 4.2.2.2).
-ghost use Rattle.std.specs.Prelude.{◌≡◌, ◌↔◌, ◌≤◌, ◌==◌, IsTrue, length};
+ghost use Rattle.std.specs.Prelude.{◌≡◌, ◌≢◌, ◌↔◌, ◌≤◌, ◌==◌, ◌∷◌, IsTrue, List, MatchOption, length, ℕ};
 ghost use Rattle.std.specs.Char.{is_ascii_digit};
 ghost use Rattle.std.specs.List.{after_first, before_first, list_all, list_any, position_or_len};
 ghost use Rattle.pkix_rules.specs.HostNames.{is_host_name};
-ghost use Rattle.pkix_rules.specs.Uris.{ClosesLiteral, HasNoHost, IsEntry, IsHostAndPort, IsLdap};
+ghost use Rattle.pkix_rules.specs.Uris.{ClosesLiteral, HasNoHost, IsEntry, IsHostAndPort, IsHostless, IsLdap};
 ghost use Rattle.pkix_rules.specs.Uris.{IsLiteralAndPort, IsNameAndPort, IsPort, IsRootedName, NamesEntry};
 ghost use Rattle.pkix_rules.specs.Uris.{NamesSeveralAttributes, attributes_of, dn_of, ends_authority, without_user};
 
@@ -18,10 +18,17 @@ const LDAP: &[u8] = b"ldap";
 pub(crate) fn has_no_host(text: &[u8]) -> bool
     ensures { IsTrue result ↔ HasNoHost text.now }
 {
-    match behind(text, b':') {
-        [b'/', b'/', rest @ ..] => !is_host_and_port(without_user(before_path(rest))),
-        _ => false,
+    match behind_slashes(behind(text, b':')) {
+        Some(rest) => is_hostless(rest),
+        None => false,
     }
+}
+
+/// Returns whether the authority that the text begins with has no host.
+fn is_hostless(text: &[u8]) -> bool
+    ensures { IsTrue result ↔ IsHostless text.now }
+{
+    !is_host_and_port(without_user(before_path(text)))
 }
 
 /// Returns whether it is a host, and perhaps a port behind it.
@@ -35,9 +42,9 @@ fn is_host_and_port(text: &[u8]) -> bool
 fn is_literal_and_port(text: &[u8]) -> bool
     ensures { IsTrue result ↔ IsLiteralAndPort text.now }
 {
-    match text {
-        [b'[', rest @ ..] => closes_literal(rest),
-        _ => false,
+    match behind_bracket(text) {
+        Some(rest) => closes_literal(rest),
+        None => false,
     }
 }
 
@@ -114,9 +121,9 @@ pub(crate) fn is_ldap(text: &[u8]) -> bool
 pub(crate) fn names_entry(text: &[u8]) -> bool
     ensures { IsTrue result ↔ NamesEntry text.now }
 {
-    match behind(text, b':') {
-        [b'/', b'/', rest @ ..] => is_entry(rest),
-        _ => false,
+    match behind_slashes(behind(text, b':')) {
+        Some(rest) => is_entry(rest),
+        None => false,
     }
 }
 
@@ -124,9 +131,9 @@ pub(crate) fn names_entry(text: &[u8]) -> bool
 pub(crate) fn names_several_attributes(text: &[u8]) -> bool
     ensures { IsTrue result ↔ NamesSeveralAttributes text.now }
 {
-    match behind(text, b':') {
-        [b'/', b'/', rest @ ..] => attributes_of(rest).contains(&b','),
-        _ => false,
+    match behind_slashes(behind(text, b':')) {
+        Some(rest) => attributes_of(rest).contains(&b','),
+        None => false,
     }
 }
 
@@ -172,6 +179,26 @@ fn ends_authority(octet: u8) -> bool
     ensures { result ≡ ends_authority octet }
 {
     octet == b'/' || octet == b'?' || octet == b'#'
+}
+
+/// Returns what is behind two slashes, if the text begins with these.
+fn behind_slashes(text: &[u8]) -> Option<&[u8]>
+    ensures { MatchOption result ((x : List ℕ) → text.now ≢ 47 ∷ 47 ∷ x) (λ x. text.now ≡ 47 ∷ 47 ∷ x.now) }
+{
+    match text {
+        [b'/', b'/', rest @ ..] => Some(rest),
+        _ => None,
+    }
+}
+
+/// Returns what is behind a bracket, if the text begins with one.
+fn behind_bracket(text: &[u8]) -> Option<&[u8]>
+    ensures { MatchOption result ((x : List ℕ) → text.now ≢ 91 ∷ x) (λ x. text.now ≡ 91 ∷ x.now) }
+{
+    match text {
+        [b'[', rest @ ..] => Some(rest),
+        _ => None,
+    }
 }
 
 /// What is before the first such octet, or all where there is none.

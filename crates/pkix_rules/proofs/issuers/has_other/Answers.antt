@@ -1,6 +1,5 @@
 use Rattle.std.proofs.Common.{sym, ◌∙◌}
 use Rattle.std.proofs.lemmas.Bool.{false≢true}
-use Rattle.der_cursor.specs.Formats.{Required}
 use Rattle.der_extensions.specs.GeneralNames.{GeneralName}
 use Rattle.pkix_rules.proofs.AmongLaws.{found_here, not_found, still_on}
 use Rattle.pkix_rules.proofs.issuers.has_other.Goals as goal

@@ -1,4 +1,3 @@
-use Rattle.der_cursor.specs.Formats.{Required}
 use Rattle.der_extensions.specs.GeneralNames.{GeneralName}
 use Rattle.der_extensions.specs.Lists.{items_left}
 use Rattle.pkix_rules.specs.Points.{IsDistinguished}

@@ -3,7 +3,7 @@ use Rattle.pkix_rules.proofs.UriLaws.{no_root, rooted_ends}
 use Rattle.pkix_rules.proofs.uri.is_rooted_name.Goals as goal
 
 pub returns-in-Some : goal.returns-in-Some
-returns-in-Some c = rooted_ends c.in-Some.ensures.cases c.is_rooted_by.ensures
+returns-in-Some c = rooted_ends c.in-Some.name.now c.in-Some.ensures.cases c.is_rooted_by.ensures
 
 pub returns-in-None : goal.returns-in-None
 returns-in-None c = no_root (nil_from_length _ c.in-None.ensures.cases)
