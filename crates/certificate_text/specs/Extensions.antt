@@ -25,9 +25,10 @@ use Rattle.certificate_text.specs.Pieces.{Each, Exactly, ◌⨾◌}
 use Rattle.certificate_text.specs.Points.{ArePoints, IsIssuingPoint}
 use Rattle.certificate_text.specs.Policies.{AreMappings, ArePolicies, policy_constraints_text}
 use Rattle.certificate_text.specs.Timestamps.{AreTimestamps}
+use Rattle.certificate_text.specs.Unread.{IsUnread}
 use Rattle.certificate_text.specs.Usage.{usage_text}
 use Rattle.certificate_text.specs.Values.{critical_text, line, number_line, octets_line, optional_number}
-use Rattle.certificate_text.specs.Values.{optional_octets, optional_serial, time_line, unread_text}
+use Rattle.certificate_text.specs.Values.{optional_octets, optional_serial, time_line}
 use Rattle.certificate_text.specs.Web.{AreDirectoryAttributes, AreFeatures, AreStatements, organization_text}
 
 -- BasicConstraints (4.2.1.9)
@@ -120,7 +121,7 @@ IsValue w x = Exactly (octets_line (codes "      Octets: ") w)
 -- the value as the type that the identifier names, or that it isn't of this type
 abbrev pub IsResult : List ℕ → Result ExtensionValue (Refusal BerError) → List ℕ → Type 0
 IsResult w (Ok x) = IsValue w x
-IsResult w (Err e) = Exactly (unread_text w e.offset)
+IsResult w (Err e) = IsUnread (codes "      ") w e
 
 abbrev pub IsRead : Extension → List ℕ → Type 0
 IsRead e text = (r : Result ExtensionValue (Refusal BerError)) × ReadsExtension e r × IsResult e.value.now r text

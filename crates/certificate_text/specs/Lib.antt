@@ -15,7 +15,9 @@ pub mod Policies
 pub mod Requests
 pub mod Rules
 pub mod Timestamps
+pub mod Unread
 pub mod Usage
 pub mod Values
 pub mod Web
+pub mod Why
 pub mod Wide

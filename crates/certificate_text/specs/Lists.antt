@@ -1,15 +1,16 @@
 -- Lists of revoked certificates in words (RFC 5280 5.1).
-use Rattle.std.specs.Prelude.{◌≡◌, ℕ, ◌⊎◌, Option, Some, None, List, [], ◌++◌, codes, Result, Ok}
+use Rattle.std.specs.Prelude.{◌≡◌, ℕ, Option, Some, None, List, [], ◌++◌, codes, Result, Ok, Err}
 use Rattle.crl_reader.specs.declared.reason.Reason.{Reason}
 use Rattle.crl_reader.specs.declared.reason.Reason.TheVariants.{Unspecified, KeyCompromise, CaCompromise}
 use Rattle.crl_reader.specs.declared.reason.Reason.TheVariants.{AffiliationChanged, Superseded, CessationOfOperation}
 use Rattle.crl_reader.specs.declared.reason.Reason.TheVariants.{CertificateHold, RemoveFromCrl, PrivilegeWithdrawn}
 use Rattle.crl_reader.specs.declared.reason.Reason.TheVariants.{AaCompromise}
 use Rattle.crl_reader.specs.Lists.{Revoked, Signed, Tbs, revoked_certificate}
-use Rattle.crl_reader.specs.Reasons.{ReasonCode}
+use Rattle.crl_reader.specs.Reasons.{CRLReason}
 use Rattle.der_base.specs.declared.error.Error.{Error as BerError}
 use Rattle.der_base.specs.declared.rules.Rules.TheVariants.{Der}
 use Rattle.der_cursor.specs.declared.refusal.Refusal.{Refusal}
+use Rattle.der_cursor.specs.Formats.{Never, ReadsInput}
 use Rattle.der_extensions.specs.declared.value.ExtensionValue.{ExtensionValue}
 use Rattle.der_extensions.specs.declared.value.ExtensionValue.TheVariants as value
 use Rattle.der_extensions.specs.Lists.{list_octets}
@@ -26,6 +27,7 @@ use Rattle.certificate_text.specs.Identifiers.{IsIdentifierLine}
 use Rattle.certificate_text.specs.Names.{IsNameLine}
 use Rattle.certificate_text.specs.Pieces.{Each, Exactly, ◌⨾◌}
 use Rattle.certificate_text.specs.Rules.{AreListRules}
+use Rattle.certificate_text.specs.Unread.{IsUnread}
 use Rattle.certificate_text.specs.Values.{digests_text, line, octets_line, serial_text, signature_text, time_line}
 
 -- CRLReason (5.3.1)
@@ -44,16 +46,21 @@ reason_name AaCompromise = codes "aACompromise"
 abbrev pub reason_line : Reason → List ℕ
 reason_line r = line (codes "        Reason: ") (reason_name r)
 
--- the octets are a reason, or none
+-- the reason that a value is, or that it is none
+abbrev pub IsReasonResult : List ℕ → Result Reason (Refusal BerError) → List ℕ → Type 0
+IsReasonResult w (Ok r) = Exactly (reason_line r)
+IsReasonResult w (Err e) = IsUnread (codes "        ") w e
+
 abbrev pub IsReason : List ℕ → List ℕ → Type 0
-IsReason w text = ((r : Reason) × ReasonCode Der w r × (text ≡ reason_line r))
-    ⊎ (((r : Reason) → ¬ ReasonCode Der w r) × (text ≡ octets_line (codes "        Octets: ") w))
+IsReason w text =
+    (r : Result Reason (Refusal BerError)) × ReadsInput Der CRLReason (λ v. v) Never w r × IsReasonResult w r text
 
 -- what the value of an extension of an entry says; w has the octets of one that isn't shown otherwise
 abbrev pub IsEntryResult : List ℕ → Result ExtensionValue (Refusal BerError) → List ℕ → Type 0
 IsEntryResult w (Ok value.ReasonCode) = IsReason w
 IsEntryResult w (Ok (value.InvalidityDate t)) = Exactly (time_line (codes "        Invalid since: ") t)
 IsEntryResult w (Ok (value.CertificateIssuer x)) = AreGeneralNames (codes "        ") (list_octets x)
+IsEntryResult w (Err e) = IsUnread (codes "        ") w e
 IsEntryResult w r = Exactly (octets_line (codes "        Octets: ") w)
 
 abbrev pub IsEntryRead : Extension → List ℕ → Type 0

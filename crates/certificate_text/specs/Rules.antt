@@ -1,5 +1,5 @@
 -- The rules of RFC 5280 that a certificate or a list of revoked certificates breaks, in words.
-use Rattle.std.specs.Prelude.{◌≡◌, ℕ, ◌⊎◌, List, [], codes, Option, IfSome}
+use Rattle.std.specs.Prelude.{◌≡◌, ℕ, ◌⊎◌, List, [], codes}
 use Rattle.crl_reader.specs.Lists.{Signed as SignedList}
 use Rattle.der_x509.specs.Certificates.{Signed}
 use Rattle.pkix_rules.specs.declared.certificate.TheConstants.{MUST_RULES, SHOULD_RULES}
@@ -8,14 +8,6 @@ use Rattle.pkix_rules.specs.ListRules.{BreaksList}
 use Rattle.pkix_rules.specs.Rules.{Breaks}
 use Rattle.certificate_text.specs.Pieces.{InOrder, ◌⨾◌}
 use Rattle.certificate_text.specs.Values.{line}
-
--- the text that a `Display` writes, which is `said` where it says that
-abbrev pub IsDisplayed : Option (List ℕ) → List ℕ → Type 0
-IsDisplayed said t = IfSome said (λ s. t ≡ s)
-
--- a line of a label and that text
-abbrev pub IsLineOf : List ℕ → Option (List ℕ) → List ℕ → Type 0
-IsLineOf label said text = (t : List ℕ) × IsDisplayed said t × (text ≡ line label t)
 
 -- a line of a label and a text
 abbrev pub IsLine : List ℕ → List ℕ → Type 0

@@ -1,6 +1,6 @@
 -- The texts of values.
-use Rattle.std.specs.Prelude.{ℕ, ◌==◌, ◌&&◌, not, nat_le, Bool, true, false, if◌then◌else◌}
-use Rattle.std.specs.Prelude.{List, [], ◌∷◌, ◌++◌, codes, decimal, length, Option, Some, None}
+use Rattle.std.specs.Prelude.{◌≡◌, ℕ, ◌==◌, ◌&&◌, not, nat_le, Bool, true, false, if◌then◌else◌}
+use Rattle.std.specs.Prelude.{List, [], ◌∷◌, ◌++◌, codes, decimal, length, Option, Some, None, IfSome}
 use Rattle.std.specs.Net.Addr.{segments_of}
 use Rattle.std.specs.Net.Text.{ipv4_text, ipv6_text}
 use Rattle.der_base.specs.declared.header.Class.{Class}
@@ -20,6 +20,14 @@ use Rattle.sha2.specs.Sha256.{sha256}
 -- a line of a label and a value
 abbrev pub line : List ℕ → List ℕ → List ℕ
 line label value = label ++ (value ++ codes "\n")
+
+-- the text that a `Display` writes, which is `said` where it says that
+abbrev pub IsDisplayed : Option (List ℕ) → List ℕ → Type 0
+IsDisplayed said t = IfSome said (λ s. t ≡ s)
+
+-- a line of a label and that text
+abbrev pub IsLineOf : List ℕ → Option (List ℕ) → List ℕ → Type 0
+IsLineOf label said text = (t : List ℕ) × IsDisplayed said t × (text ≡ line label t)
 
 -- octets in hexadecimal digits
 abbrev pub hex : List ℕ → List ℕ
@@ -70,10 +78,6 @@ validity_text now v = time_line (codes "  Not before: ") (moment_of v.not_before
 
 abbrev pub octets_line : List ℕ → List ℕ → List ℕ
 octets_line label w = line label (hex w)
-
--- the value of an extension that isn't of its type: where in it that shows, and its octets
-abbrev pub unread_text : List ℕ → ℕ → List ℕ
-unread_text w offset = line (codes "      Wrong at octet: ") (decimal offset) ++ octets_line (codes "      Octets: ") w
 
 abbrev pub critical_text : Bool → List ℕ
 critical_text true = codes ", critical"

@@ -27,10 +27,12 @@ mod rules;
 mod seal;
 mod serial;
 mod timestamps;
+mod unread;
 mod usage;
 mod validity;
 mod value;
 mod web;
+mod why;
 mod wide;
 
 pub use certificate::{CertificateText, write_certificate};
@@ -38,3 +40,4 @@ pub use name::{NameText, write_name};
 pub use partial::{PartialText, write_partial};
 pub use request::{RequestText, write_request};
 pub use revoked::{ListText, write_list};
+pub use why::{ErrorText, Why, is_at_end, why_of};

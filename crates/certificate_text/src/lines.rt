@@ -1,15 +1,22 @@
 //! Lines of a label and a value, and of values that may be absent.
 ghost use Rattle.std.specs.Option.{option_map};
-ghost use Rattle.std.specs.Prelude.{Some};
+ghost use Rattle.std.specs.Prelude.{IfOk, Some};
 ghost use Rattle.std.specs.Fmt.{DisplaysOnOk};
 ghost use Rattle.der_cursor.specs.Elements.{element_of};
+ghost use Rattle.der_print.specs.Writes.{WritesOne};
+ghost use Rattle.certificate_text.specs.Values.{IsDisplayed, IsLineOf};
 ghost use Rattle.certificate_text.specs.Values.{number_line, octets_line, optional_any, optional_number};
 ghost use Rattle.certificate_text.specs.Values.{optional_octets, optional_plain, plain_line, true_line};
 
 use crate::element::{AnyValue, Plain};
+use arrayvec::ArrayString;
 use der_base::any::Any;
 use der_print::{Hex, Limit, Number};
 use std::fmt;
+use std::fmt::Write;
+
+/// The most octets that a text has of which nothing is promised.
+const LONGEST_DISPLAYED: usize = 256;
 
 /// Writes a line of a text.
 pub(crate) fn write_plain<W: fmt::Write>(
@@ -117,4 +124,25 @@ pub(crate) fn write_true<W: fmt::Write>(
         return write!(f, "{label}true\n");
     }
     Ok(())
+}
+
+/// Writes a line of what a value displays. That is written apart first, because nothing may be promised of it.
+pub(crate) fn write_displayed<W: fmt::Write, D: fmt::Display>(
+    f: &mut fmt::Formatter<W>,
+    label: &str,
+    value: &D,
+) -> fmt::Result
+    ensures { WritesOne W.Write.write_str_gives f.old result (IsLineOf label.now (D.output value.now)) f.new }
+{
+    let text = text_of(value)?;
+    write!(f, "{label}{text}\n")
+}
+
+/// What a value displays.
+fn text_of<D: fmt::Display>(value: &D) -> Result<ArrayString<LONGEST_DISPLAYED>, fmt::Error>
+    ensures { IfOk result (λ text. IsDisplayed (D.output value.now) text.bytes) }
+{
+    let mut text = ArrayString::new();
+    write!(text, "{value}")?;
+    Ok(text)
 }

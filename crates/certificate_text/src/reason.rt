@@ -5,13 +5,14 @@ ghost use Rattle.certificate_text.specs.Lists.{IsEntryRead, IsEntryResult, IsRea
 
 use crate::general_name::write_general_names;
 use crate::lines::write_octets;
+use crate::unread::{error_in, write_unread};
 use crate::validity::write_moment;
 use crl_reader::{Reason, read_reason};
 use der_extensions::{ExtensionValue, read_extension_value};
 use der_x509::Extension;
 use std::fmt;
 
-/// Writes the value of an extension of an entry: what it says, or its octets.
+/// Writes the value of an extension of an entry: what it says, or its octets, after why it isn't of its type.
 pub(crate) fn write_entry_value<W: fmt::Write>(
     f: &mut fmt::Formatter<W>,
     extension: &Extension<'_>,
@@ -20,7 +21,12 @@ pub(crate) fn write_entry_value<W: fmt::Write>(
 {
     match read_extension_value(extension) {
         Ok(value) => write_read_value(f, extension.value, &value),
-        Err(_) => write_octets(f, "        Octets: ", extension.value),
+        Err(e) => write_unread(
+            f,
+            "        ",
+            extension.value,
+            error_in(extension.value, &e),
+        ),
     }
 }
 
@@ -39,13 +45,13 @@ fn write_read_value<W: fmt::Write>(
     }
 }
 
-/// Writes a reason (5.3.1), or the octets that are none.
+/// Writes a reason (5.3.1), or why octets are none.
 fn write_reason<W: fmt::Write>(f: &mut fmt::Formatter<W>, octets: &[u8]) -> fmt::Result
     ensures { WritesOne W.Write.write_str_gives f.old result (IsReason octets.now) f.new }
 {
     match read_reason(octets) {
         Ok(reason) => write!(f, "        Reason: {}\n", reason_name(reason)),
-        Err(_) => write_octets(f, "        Octets: ", octets),
+        Err(e) => write_unread(f, "        ", octets, error_in(octets, &e)),
     }
 }
 

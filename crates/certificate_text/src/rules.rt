@@ -1,13 +1,12 @@
 //! The rules of RFC 5280 that a certificate or a list of revoked certificates breaks.
-ghost use Rattle.std.specs.Prelude.{IfOk};
 ghost use Rattle.crl_reader.specs.Lists.{certificate_list_of};
 ghost use Rattle.der_print.specs.Writes.{WritesOne};
 ghost use Rattle.der_x509.specs.Certificates.{certificate_of};
 ghost use Rattle.pkix_rules.specs.ListRules.{BreaksList};
 ghost use Rattle.pkix_rules.specs.Rules.{Breaks};
-ghost use Rattle.certificate_text.specs.Rules.{AreBroken, AreListRules, AreRules, IsDisplayed, IsLineOf};
+ghost use Rattle.certificate_text.specs.Rules.{AreBroken, AreListRules, AreRules};
 
-use arrayvec::ArrayString;
+use crate::lines::write_displayed;
 use crl_reader::CertificateList;
 use der_x509::Certificate;
 use pkix_rules::{
@@ -15,10 +14,6 @@ use pkix_rules::{
     broken_list_rules, broken_rules,
 };
 use std::fmt;
-use std::fmt::Write;
-
-/// The most octets that the text of a rule has.
-const LONGEST_RULE: usize = 256;
 
 /// What stands before a rule that RFC 5280 says by MUST.
 const RULE: &str = "  Broken rule: ";
@@ -48,7 +43,7 @@ fn write_broken<W: fmt::Write>(
         (AreBroken (λ r. Breaks r (certificate_of certificate.now)) label.now rules.now) f.new }
 {
     for rule in broken_rules(certificate, rules) {
-        write_rule(f, label, &rule)?;
+        write_displayed(f, label, &rule)?;
     }
     Ok(())
 }
@@ -75,28 +70,7 @@ fn write_broken_of_list<W: fmt::Write>(
         (AreBroken (λ r. BreaksList r (certificate_list_of list.now)) label.now rules.now) f.new }
 {
     for rule in broken_list_rules(list, rules) {
-        write_rule(f, label, &rule)?;
+        write_displayed(f, label, &rule)?;
     }
     Ok(())
-}
-
-/// Writes a line of a rule that is broken. Its text is written apart first, because nothing is promised of it.
-fn write_rule<W: fmt::Write, R: fmt::Display>(
-    f: &mut fmt::Formatter<W>,
-    label: &str,
-    rule: &R,
-) -> fmt::Result
-    ensures { WritesOne W.Write.write_str_gives f.old result (IsLineOf label.now (R.output rule.now)) f.new }
-{
-    let text = text_of(rule)?;
-    write!(f, "{label}{text}\n")
-}
-
-/// What a rule displays.
-fn text_of<R: fmt::Display>(rule: &R) -> Result<ArrayString<LONGEST_RULE>, fmt::Error>
-    ensures { IfOk result (λ text. IsDisplayed (R.output rule.now) text.bytes) }
-{
-    let mut text = ArrayString::new();
-    write!(text, "{rule}")?;
-    Ok(text)
 }

@@ -1,8 +1,5 @@
 //! The values of extensions (RFC 5280 4.2).
-ghost use Rattle.std.specs.Prelude.{Some};
-ghost use Rattle.std.specs.Fmt.{DisplaysOnOk};
 ghost use Rattle.der_print.specs.Writes.{WritesOne};
-ghost use Rattle.certificate_text.specs.Values.{unread_text};
 ghost use Rattle.certificate_text.specs.Extensions.{IsRead, IsValue};
 
 use crate::authority::{write_authority, write_constraints};
@@ -13,6 +10,7 @@ use crate::lists::write_name_constraints;
 use crate::points::write_issuing_point;
 use crate::policies::write_policy_constraints;
 use crate::timestamps::write_timestamps;
+use crate::unread::{error_in, write_unread};
 use crate::usage::write_usage;
 use crate::validity::write_moment;
 use crate::web::write_organization;
@@ -20,7 +18,7 @@ use der_extensions::{ExtensionValue, read_extension_value};
 use der_x509::Extension;
 use std::fmt;
 
-/// Writes the value of an extension: what it says, or its octets.
+/// Writes the value of an extension: what it says, or why it isn't of its type, and its octets.
 pub(crate) fn write_extension_value<W: fmt::Write>(
     f: &mut fmt::Formatter<W>,
     extension: &Extension<'_>,
@@ -29,20 +27,8 @@ pub(crate) fn write_extension_value<W: fmt::Write>(
 {
     match read_extension_value(extension) {
         Ok(value) => write_value(f, extension.value, &value),
-        Err(e) => write_unread(f, extension.value, e.offset),
+        Err(e) => write_unread(f, "      ", extension.value, error_in(extension.value, &e)),
     }
-}
-
-/// Writes the octets of a value that isn't of its type, and where in it that shows.
-fn write_unread<W: fmt::Write>(
-    f: &mut fmt::Formatter<W>,
-    octets: &[u8],
-    offset: usize,
-) -> fmt::Result
-    ensures { DisplaysOnOk W.Write.write_str_gives f.old result (Some (unread_text octets.now offset)) f.new }
-{
-    write!(f, "      Wrong at octet: {offset}\n")?;
-    write_octets(f, "      Octets: ", octets)
 }
 
 fn write_value<W: fmt::Write>(

@@ -36,6 +36,7 @@ mod unread;
 mod why;
 mod words;
 
+pub use certificate_text::Why;
 pub use fields::words_by_fields;
 pub use known::{Known, keeps_rules, what_is};
 pub use message::text_of_message;
@@ -44,5 +45,4 @@ pub use refused::Refused;
 pub use refused_text::text_of_refused;
 pub use shown::{Shown, write_known};
 pub use unread::{Unread, why_unread};
-pub use why::Why;
 pub use words::{Words, words_of};

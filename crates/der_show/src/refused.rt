@@ -3,6 +3,7 @@ ghost use Rattle.std.specs.Prelude.{◌≡◌, ◌↔◌, IsTrue};
 ghost use Rattle.der_cursor.specs.Cursors.{is_at_end};
 ghost use Rattle.der_show.specs.Refused.{IsOfCertificate, IsVersion, further, offset_of, refusal_of, type_name};
 
+use certificate_text::is_at_end;
 use crl_reader::ListRefusal;
 use der_base::error::BerError;
 use der_cursor::Refusal;
@@ -68,11 +69,7 @@ impl Refused {
     pub(crate) fn is_at_end(&self) -> bool
         ensures { result ≡ is_at_end (refusal_of self.now).list_end (refusal_of self.now).offset }
     {
-        let refusal = self.refusal();
-        match refusal.list_end {
-            Some(end) => end == refusal.offset,
-            None => false,
-        }
+        is_at_end(self.refusal())
     }
 
     /// Whether it is the error as a certificate.

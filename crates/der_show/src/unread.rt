@@ -5,7 +5,8 @@ ghost use Rattle.der_show.specs.Unread.{IsWhyUnread};
 use crate::place::{Place, place_of};
 use crate::place_text::{tells_more, write_path};
 use crate::refused::Refused;
-use crate::why::{Why, why_of};
+use crate::why::why_at;
+use certificate_text::{ErrorText, Why};
 use crl_reader::read_certificate_list;
 use der_known::KnownTypes;
 use der_request::read_request;
@@ -33,7 +34,7 @@ pub fn why_unread(octets: &[u8]) -> Option<Unread<'_>>
 {
     let refused = why_refused(octets)?;
     let place = place_in(octets, &refused);
-    let why = why_of(&refused, place.as_ref());
+    let why = why_at(&refused, place.as_ref());
     Some(Unread {
         refused,
         place,
@@ -107,10 +108,7 @@ impl fmt::Display for Unread<'_> {
             _ => self.refused.write_field(f)?,
         }
         let refusal = self.refused.refusal();
-        let offset = refusal.offset;
-        match self.why {
-            Why::AsRead => write!(f, " {refusal}"),
-            why => write!(f, " at {offset}: {why}"),
-        }
+        let why = self.why;
+        write!(f, " {}", ErrorText { refusal, why })
     }
 }

@@ -18,7 +18,7 @@ loop-rule-preserved g c =
       same = steps.0;
       done = λ plain.
           let done = c.loop-rule.invariant.done plain in
-          let item = c.in_ok-write_rule.ensures done.2.plain refl in (
+          let item = c.in_ok-write_displayed.ensures done.2.plain refl in (
             done.0 ++ item.0,
             rules_on (λ r. Breaks r (certificate_of c.args.certificate.now)) c.args.label.now c.args.rules.now done.0 item.0 steps.1 (item.1.0, item.1.2) done.1,
             has_written_append _ _ _ _ _ _ done.2 item.2,

@@ -6,5 +6,5 @@ pub returns : goal.returns
 returns c = record {
   furthest = c.in_ok-refused.ensures;
   place = c.place_in-place.ensures;
-  why = subst (λ p. IsWhy c.in_ok-refused.refused p c.why_of-why.result) c.as_ref.ensures.value c.why_of-why.ensures;
+  why = subst (λ p. IsWhy c.in_ok-refused.refused p c.why_at-why.result) c.as_ref.ensures.value c.why_at-why.ensures;
 }
