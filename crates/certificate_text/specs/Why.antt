@@ -9,7 +9,7 @@ use Rattle.der_cursor.specs.Cursors.{is_at_end, refusal_text}
 use Rattle.der_walk.specs.declared.name.TypeName.{TypeName}
 use Rattle.der_walk.specs.TypeNames.{type_text}
 use Rattle.certificate_text.specs.declared.why.Why.{Why}
-use Rattle.certificate_text.specs.declared.why.Why.TheVariants.{AsRead, Default, Empty, Unexpected}
+use Rattle.certificate_text.specs.declared.why.Why.TheVariants.{AsRead, Default, Empty, LastBit, Unexpected}
 use Rattle.certificate_text.specs.Values.{is_universal}
 
 -- what is said
@@ -17,6 +17,7 @@ abbrev pub why_text : Why → List ℕ
 why_text AsRead = []
 why_text Default = codes "a default value is written (X.690 11.5)"
 why_text Empty = codes "the list is empty"
+why_text LastBit = codes "the last bit is 0 (X.690 11.2.2)"
 why_text (Unexpected n) = codes "unexpected " ++ type_text n.class n.number
 
 -- a tag that isn't due; the reader tells which universal type it is of

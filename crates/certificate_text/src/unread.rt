@@ -5,8 +5,8 @@ ghost use Rattle.der_base.specs.declared.rules.Rules.{Rules};
 ghost use Rattle.der_cursor.specs.Elements.{element_of};
 ghost use Rattle.der_cursor.specs.Formats.{AnyElement, Never, ReadsField};
 ghost use Rattle.der_print.specs.Writes.{WritesOne};
-ghost use Rattle.certificate_text.specs.Unread.{FindsElement, IsSequence, IsUnreadBy, IsWhyIn};
-ghost use Rattle.certificate_text.specs.Unread.{IsWhyWrong, MayBeDefault, type_of};
+ghost use Rattle.certificate_text.specs.Unread.{FindsElement, IsUnreadBy, IsWhyIn};
+ghost use Rattle.certificate_text.specs.Unread.{IsWhyWrong, IsWhyWrongField, MayBeDefault, type_of};
 
 use crate::lines::{write_displayed, write_octets};
 use crate::why::{ErrorText, Why, why_of};
@@ -17,7 +17,10 @@ use der_cursor::{Cursor, Refusal};
 use der_walk::TypeName;
 use std::fmt;
 
-/// The identifier octet of a SEQUENCE (X.690 8.9, 8.10).
+/// The identifier octet of a BIT STRING (X.690 8.1.2, 8.6).
+const BIT_STRING: u8 = 0x03;
+
+/// The identifier octet of a SEQUENCE (X.690 8.1.2, 8.9).
 const SEQUENCE: u8 = 0x30;
 
 /// Writes the error of a value that isn't of its type, and its octets, so far in.
@@ -102,9 +105,17 @@ fn type_of(element: &Any<'_>) -> TypeName
 fn why_wrong(value: &[u8], element: &Any<'_>) -> Why
     ensures { IsWhyWrong value.now (element_of element.now) result }
 {
-    if !is_sequence(value) {
-        return Why::AsRead;
+    match value {
+        [SEQUENCE, ..] => why_wrong_field(element),
+        [BIT_STRING, ..] if element.bytes.len() > 1 => Why::LastBit,
+        _ => Why::AsRead,
     }
+}
+
+/// The same of an element in a SEQUENCE, or the SEQUENCE itself.
+fn why_wrong_field(element: &Any<'_>) -> Why
+    ensures { IsWhyWrongField (element_of element.now) result }
+{
     match element.bytes {
         [] if element.header.is_constructed() => Why::Empty,
         [0] if may_be_default(element) => Why::Default,
@@ -120,15 +131,5 @@ fn may_be_default(element: &Any<'_>) -> bool
         Class::Universal => element.tag() == Tag::Boolean,
         Class::ContextSpecific => true,
         _ => false,
-    }
-}
-
-/// Whether octets begin like a SEQUENCE.
-fn is_sequence(octets: &[u8]) -> bool
-    ensures { IsTrue result ↔ IsSequence octets.now }
-{
-    match octets {
-        [first, ..] => *first == SEQUENCE,
-        [] => false,
     }
 }

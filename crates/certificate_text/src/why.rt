@@ -18,6 +18,8 @@ pub enum Why {
     Default,
     /// A list has no item, where its type has one at least.
     Empty,
+    /// The last of some named bits is 0, which DER leaves out (X.690 11.2.2).
+    LastBit,
     /// An element with this tag stands where another one is due.
     Unexpected(TypeName),
 }
@@ -33,6 +35,7 @@ impl fmt::Display for Why {
             Why::AsRead => Ok(()),
             Why::Default => write!(f, "a default value is written (X.690 11.5)"),
             Why::Empty => write!(f, "the list is empty"),
+            Why::LastBit => write!(f, "the last bit is 0 (X.690 11.2.2)"),
             Why::Unexpected(name) => write!(f, "unexpected {name}"),
         }
     }

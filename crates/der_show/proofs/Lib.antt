@@ -4,3 +4,4 @@ pub mod LeafLaws
 pub mod PlaceLaws
 pub mod RuleLaws
 pub mod UnreadLaws
+pub mod WhyLaws
