@@ -1,0 +1,3 @@
+mod LineLaws
+mod ObjectLaws
+mod WordLaws
