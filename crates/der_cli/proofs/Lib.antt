@@ -6,4 +6,5 @@ pub mod NamePaths
 pub mod Octets
 pub mod Printing
 pub mod Refusing
+pub mod Showing
 pub mod Trails

@@ -30,7 +30,7 @@ pub record ReadsBlock (o : Options) (name label lines : List ℕ) (old new : Opt
   pub readable : ¬ IsEncrypted lines
   pub spells : base64_decode_of standard_pad_indifferent (characters_of lines) ≡ Ok octets
   pub between : Option (List ℕ)
-  pub heading : WritesHeading o.action name label old between
+  pub heading : WritesHeading o name label old between
   pub writes : WritesInside o.action o label octets between new
 
 -- the n blocks of a text are read, in their order

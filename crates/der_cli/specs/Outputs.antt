@@ -1,5 +1,6 @@
 -- What is written of octets: of those that are read to their end, and of those that are refused.
-use Rattle.std.specs.Prelude.{◌≡◌, ◌≢◌, ◌⊎◌, ℕ, Bool, true, false, MatchBool, Option, List, [], ◌∷◌, ◌++◌, codes}
+use Rattle.std.specs.Prelude.{◌≡◌, ◌≢◌, ◌⊎◌, ◌&&◌, not, ℕ, Bool, true, false, MatchBool, Option, List, [], ◌∷◌, ◌++◌}
+use Rattle.std.specs.Prelude.{codes}
 use Rattle.std.specs.Io.KnownBytes.{Appends, Keeps}
 use Rattle.der_base.specs.declared.rules.Rules.{Rules}
 use Rattle.der_canon.specs.declared.error.CanonError.TheVariants as canon
@@ -180,33 +181,36 @@ IsRefusedBy Canon o i old new = RefusesDer i old new
 IsRefusedBy Get o i old new = RefusesPart o i old new
 IsRefusedBy Show o i old new = RefusesShown o i old new
 
--- what an action writes has a line with the name before it
-abbrev pub has_heading : Action → Bool
-has_heading Tree = true
-has_heading Check = false
-has_heading Json = false
-has_heading Canon = false
-has_heading Get = false
-has_heading Show = true
+-- an action writes lines of a tree or of words, unless these are JSON
+abbrev pub writes_lines : Action → Bool
+writes_lines Tree = true
+writes_lines Check = false
+writes_lines Json = false
+writes_lines Canon = false
+writes_lines Get = false
+writes_lines Show = true
+
+-- what is written has a line with the name before it
+abbrev pub has_heading : Options → Bool
+has_heading o = writes_lines o.action && not o.is_json
 
 -- what precedes that of a block with this label: the name and the label
-abbrev pub WritesHeading : Action → List ℕ → List ℕ → Option (List ℕ) → Option (List ℕ) → Type 0
-WritesHeading action name label old new =
-    MatchBool (has_heading action) (Appends old new (heading_text name label)) (new ≡ old)
+abbrev pub WritesHeading : Options → List ℕ → List ℕ → Option (List ℕ) → Option (List ℕ) → Type 0
+WritesHeading o name label old new = MatchBool (has_heading o) (Appends old new (heading_text name label)) (new ≡ old)
 
 -- what precedes that of a file without blocks, if there are several: its name
-abbrev pub WritesName : Action → List ℕ → Option (List ℕ) → Option (List ℕ) → Type 0
-WritesName action name old new =
-    MatchBool (has_heading action) (Appends old new (name_text name ++ codes ":\n")) (new ≡ old)
+abbrev pub WritesName : Options → List ℕ → Option (List ℕ) → Option (List ℕ) → Type 0
+WritesName o name old new =
+    MatchBool (has_heading o) (Appends old new (name_text name ++ codes ":\n")) (new ≡ old)
 
 -- what is written of a file without blocks, which is these octets
 pub record WritesFile (o : Options) (name i : List ℕ) (old new : Option (List ℕ)) : Type 0 where
   pub between : Option (List ℕ)
-  pub heading : MatchBool o.has_several_files (WritesName o.action name old between) (between ≡ old)
+  pub heading : MatchBool o.has_several_files (WritesName o name old between) (between ≡ old)
   pub writes : Writes o.action o i between new
 
 -- a file without blocks, which is these octets, is refused, and this is written
 pub record RefusesFile (o : Options) (name i : List ℕ) (old new : Option (List ℕ)) : Type 0 where
   pub between : Option (List ℕ)
-  pub heading : MatchBool o.has_several_files (WritesName o.action name old between) (between ≡ old)
+  pub heading : MatchBool o.has_several_files (WritesName o name old between) (between ≡ old)
   pub refused : IsRefusedBy o.action o i between new

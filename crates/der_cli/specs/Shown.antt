@@ -1,23 +1,59 @@
 -- What is written of octets in words.
-use Rattle.std.specs.Prelude.{◌≡◌, ◌&&◌, not, ℕ, Bool, true, false, MatchOption, Option, Some, None, List}
+use Rattle.std.specs.Prelude.{◌≡◌, ◌⊎◌, ◌&&◌, not, ℕ, Bool, true, false, MatchBool, MatchOption, Option, Some, None}
+use Rattle.std.specs.Prelude.{List, [], ◌++◌, codes, drop, take}
 use Rattle.std.specs.Io.KnownBytes.{Appends, Keeps}
+use Rattle.std.specs.Option.{option_map, unwrap_or}
+use Rattle.der_base.specs.declared.rules.Rules.TheVariants.{Ber}
 use Rattle.der_cli.specs.declared.options.Options.{Options}
+use Rattle.der_cli.specs.declared.origin.Origin.{Origin}
 use Rattle.der_show.specs.declared.unread.Unread.{Unread}
 use Rattle.der_show.specs.declared.words.Words.{Words}
 use Rattle.der_show.specs.Described.{IsDescribed}
+use Rattle.der_show.specs.Refused.{offset_of}
 use Rattle.der_show.specs.RefusedTexts.{IsRefusedText}
 use Rattle.der_show.specs.Unread.{IsWhyUnread}
+use Rattle.der_walk.specs.declared.refusal.Refusal.{Refusal}
+use Rattle.der_walk.specs.declared.walk.Walk.{Walk}
+use Rattle.der_walk.specs.Visits.{Extras, Visited, Visits}
+use Rattle.der_walk.specs.Walked.{IsRefused}
+use Rattle.show_json.specs.declared.object.Source.{Source}
+use Rattle.show_json.specs.Objects.{refused_text, shown_text}
 
 -- a rule of RFC 5280 is broken, and that is an error
 abbrev pub is_broken : Options → Words → Bool
 is_broken o w = o.is_strict && not w.keeps_rules
+
+-- where an object of JSON says that octets are from
+abbrev pub source_of : Origin → Source
+source_of o = record {
+  file = o.name;
+  block = option_map (λ b. b.number) o.block;
+  label = option_map (λ b. b.shown) o.block;
+}
+
+-- known octets grew by a line with an object
+abbrev pub AddsObject : List ℕ → Option (List ℕ) → Option (List ℕ) → Type 0
+AddsObject object old new = Appends old new (object ++ codes "\n")
+
+-- words as an object, with the lines before them
+abbrev pub words_object : Source → Words → List ℕ
+words_object s w = shown_text s (take w.words_at w.text.items) (drop w.words_at w.text.items) w.keeps_rules
+
+-- known octets grew by words from there, or by the object of them
+abbrev pub AddsWordsFrom : Source → Options → Words → Option (List ℕ) → Option (List ℕ) → Type 0
+AddsWordsFrom s o w old new =
+    MatchBool o.is_json (AddsObject (words_object s w) old new) (Appends old new w.text.items)
+
+-- the same from somewhere
+abbrev pub AddsWords : Options → Words → Option (List ℕ) → Option (List ℕ) → Type 0
+AddsWords o w old new = (s : Source) × AddsWordsFrom s o w old new
 
 -- known octets grew by the words of an input, and whether it is broken so
 pub record ShowsWordsOf (o : Options) (i : List ℕ) (broken : Bool) (old new : Option (List ℕ)) : Type 0 where
   pub words : Words
   pub describes : IsDescribed o.present i (Some words)
   pub breaks : is_broken o words ≡ broken
-  pub adds : Appends old new words.text.items
+  pub adds : AddsWords o words old new
 
 -- known octets grew by the words of an input
 abbrev pub ShowsWords : Options → List ℕ → Option (List ℕ) → Option (List ℕ) → Type 0
@@ -28,20 +64,52 @@ abbrev pub IsTextOf : Option ℕ → List ℕ → Option Unread → Option (List
 IsTextOf now i (Some u) text = IsRefusedText now i u.refused text
 IsTextOf now i None text = text ≡ None
 
--- known octets grew by a text, or stayed if there is none
-abbrev pub AddsFound : Option (List ℕ) → Option (List ℕ) → Option (List ℕ) → Type 0
-AddsFound text old new = MatchOption text (Keeps old new) (Appends old new)
+-- the elements of an input, without those inside strings
+abbrev pub plain : Extras
+plain = record { enters_strings = false; keeps_values = false }
 
--- known octets grew by what was read of a certificate that is refused
-pub record ShowsRead (now : Option ℕ) (i : List ℕ) (old new : Option (List ℕ)) : Type 0 where
+-- the walk over the elements of an input ends at this error
+abbrev pub EndsAt : List ℕ → Refusal → Type 0
+EndsAt i f = (vs : List Visited) × (w : Walk) × IsRefused plain Ber i vs w f
+
+-- an input is elements by BER
+abbrev pub AreAllElements : List ℕ → Type 0
+AreAllElements i = (vs : List Visited) × Visits plain Ber 101 0 0 i vs
+
+-- the offset of the error: of the first element that is refused by BER, or else of the reader that says why
+abbrev pub IsErrorOffset : List ℕ → Option Unread → Option ℕ → Type 0
+IsErrorOffset i unread offset = ((f : Refusal) × EndsAt i f × (offset ≡ Some f.offset))
+    ⊎ (AreAllElements i × (offset ≡ option_map (λ u. offset_of u.refused) unread))
+
+-- known octets grew by a text, or stayed if there is none
+abbrev pub AddsText : Option (List ℕ) → Option (List ℕ) → Option (List ℕ) → Type 0
+AddsText text old new = MatchOption text (Keeps old new) (Appends old new)
+
+-- known octets grew by the object of an error, with its offset and the text that was read before it
+pub record AddsError (s : Source) (i : List ℕ) (unread : Option Unread) (text : Option (List ℕ))
+    (old new : Option (List ℕ)) : Type 0 where
+  pub error : List ℕ
+  pub offset : Option ℕ
+  pub is_offset : IsErrorOffset i unread offset
+  pub adds : AddsObject (refused_text s error offset (unwrap_or text [])) old new
+
+-- known octets grew by what was read, or by the object of the error
+abbrev pub AddsFoundFrom : Source → Options → List ℕ → Option Unread → Option (List ℕ) → Option (List ℕ)
+    → Option (List ℕ) → Type 0
+AddsFoundFrom s o i unread text old new =
+    MatchBool o.is_json (AddsError s i unread text old new) (AddsText text old new)
+
+-- known octets grew by what was read of a certificate that is refused, or by the object of the error
+pub record ShowsRead (o : Options) (i : List ℕ) (old new : Option (List ℕ)) : Type 0 where
   pub unread : Option Unread
   pub why : IsWhyUnread i unread
   pub text : Option (List ℕ)
-  pub is_text : IsTextOf now i unread text
-  pub adds : AddsFound text old new
+  pub is_text : IsTextOf o.present i unread text
+  pub source : Source
+  pub adds : AddsFoundFrom source o i unread text old new
 
 -- An input has no words, and what was read of a certificate is written. Or known octets grew by its words, and that it
 -- breaks a rule is an error.
 pub data RefusesShown (o : Options) (i : List ℕ) (old new : Option (List ℕ)) : Type 0 where
-  no_words : IsDescribed o.present i None → ShowsRead o.present i old new → RefusesShown o i old new
+  no_words : IsDescribed o.present i None → ShowsRead o i old new → RefusesShown o i old new
   breaks_rule : ShowsWordsOf o i true old new → RefusesShown o i old new

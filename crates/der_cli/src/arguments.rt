@@ -44,6 +44,7 @@ pub(crate) fn options_of<'a>(
         naming: Naming::Unnamed,
         place: place_of(matches),
         depth: matches.get_one::<usize>("depth"),
+        is_json: matches.get_flag("json"),
         has_octets: matches.get_flag("octets"),
         is_content: matches.get_flag("content"),
         is_quiet: matches.get_flag("quiet"),

@@ -216,6 +216,7 @@ fn diff_options<'a>(matches: &ArgMatches<'a>, terminal: Style) -> Options<'a> {
         naming: Naming::Unnamed,
         place: None,
         depth: None,
+        is_json: false,
         has_octets: false,
         is_content: false,
         is_quiet: false,

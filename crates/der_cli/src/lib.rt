@@ -24,6 +24,7 @@ mod print;
 mod report;
 pub mod run;
 mod show;
+mod shown_object;
 mod source;
 mod status;
 mod streams;

@@ -54,6 +54,8 @@ pub struct Options<'a> {
     pub place: Option<Place<'a>>,
     /// How many elements may be around a listed one, besides those around the place. None for any number.
     pub depth: Option<usize>,
+    /// Whether words are written as an object of JSON.
+    pub is_json: bool,
     /// Whether an object of JSON has the octets of its element.
     pub has_octets: bool,
     /// Whether the content of an element is written, without its header.

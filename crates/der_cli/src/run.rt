@@ -124,7 +124,7 @@ fn act_on_file<W: Write, X: Write>(
 /// Writes the name of a file, before its tree or words if there are several.
 fn write_heading<W: Write>(options: &Options<'_>, name: &str, out: &mut W) -> io::Result<()>
     ensures { OnOk result (MatchBool options.now.has_several_files
-        (WritesName options.now.action name.now (W.contents out.old) (W.contents out.new))
+        (WritesName options.now name.now (W.contents out.old) (W.contents out.new))
         (W.contents out.new ≡ W.contents out.old)) }
 {
     if options.has_several_files {
@@ -135,19 +135,19 @@ fn write_heading<W: Write>(options: &Options<'_>, name: &str, out: &mut W) -> io
 
 /// Writes the name of a file, before its tree or words.
 fn write_name<W: Write>(options: &Options<'_>, name: &str, out: &mut W) -> io::Result<()>
-    ensures { OnOk result (WritesName options.now.action name.now (W.contents out.old) (W.contents out.new)) }
+    ensures { OnOk result (WritesName options.now name.now (W.contents out.old) (W.contents out.new)) }
 {
-    if !has_heading(options.action) {
+    if !has_heading(options) {
         return Ok(());
     }
     writeln!(out, "{}:", Name(name))
 }
 
-/// Whether a line with the name is before what an action writes.
-fn has_heading(action: Action) -> bool
-    ensures { result ≡ has_heading action }
+/// Whether a line with the name is before what is written: a tree, or words that aren't JSON.
+fn has_heading(options: &Options<'_>) -> bool
+    ensures { result ≡ has_heading options.now }
 {
-    matches!(action, Action::Tree | Action::Show)
+    matches!(options.action, Action::Tree | Action::Show) && !options.is_json
 }
 
 /// Does it with octets.
@@ -281,10 +281,9 @@ fn write_label<W: Write>(
     label: &[u8],
     out: &mut W,
 ) -> io::Result<()>
-    ensures { OnOk result (WritesHeading options.now.action name.now label.now
-        (W.contents out.old) (W.contents out.new)) }
+    ensures { OnOk result (WritesHeading options.now name.now label.now (W.contents out.old) (W.contents out.new)) }
 {
-    if !has_heading(options.action) {
+    if !has_heading(options) {
         return Ok(());
     }
     writeln!(out, "{}: {}", Name(name), Label(label))

@@ -1,13 +1,14 @@
 //! What octets are, in words.
 ghost use Rattle.std.specs.Option.{option_copied};
 ghost use Rattle.std.specs.Prelude.{◌≡◌, IfOk, IsTrue, OnOk, false, not};
-ghost use Rattle.std.specs.Io.KnownBytes.{Appends};
 ghost use Rattle.der_show.specs.Messages.{text_in};
-ghost use Rattle.der_cli.specs.Shown.{AddsFound, IsTextOf, RefusesShown, ShowsRead, ShowsWords, is_broken};
+ghost use Rattle.der_cli.specs.Shown.{AddsFoundFrom, AddsText, AddsWords, AddsWordsFrom, IsTextOf, RefusesShown};
+ghost use Rattle.der_cli.specs.Shown.{ShowsRead, ShowsWords, is_broken, source_of};
 
 use crate::options::Options;
 use crate::origin::Origin;
 use crate::report::report_fault;
+use crate::shown_object::{write_refused, write_shown};
 use der_show::{Unread, Words, text_of_refused, why_unread, words_of};
 use der_walk::Rules;
 use std::alloc::{AllocError, Global};
@@ -31,29 +32,47 @@ pub(crate) fn show<W: Write, X: Write>(
 {
     let found = words_of(alloc, octets, options.present)?;
     match found {
-        Some(words) => write_words(options, origin, &words, out, err),
+        Some(words) => write_words(alloc, options, origin, &words, out, err),
         None => refuse(alloc, options, origin, octets, out, err),
     }
 }
 
 /// Writes words, and reports that a rule of RFC 5280 is broken if that is an error. Returns whether there is none.
 fn write_words<W: Write, X: Write>(
+    alloc: Global,
     options: &Options<'_>,
     origin: Origin<'_>,
     words: &Words,
     out: &mut W,
     err: &mut X,
 ) -> io::Result<bool>
-    ensures written { OnOk result (Appends (W.contents out.old) (W.contents out.new) words.now.text.items) }
+    ensures written { OnOk result (AddsWords options.now words.now (W.contents out.old) (W.contents out.new)) }
     ensures broken { IfOk result (λ ok. is_broken options.now words.now ≡ not ok) }
 {
-    out.write_all(&words.text)?;
+    put_words(alloc, options, origin, words, out)?;
     if !is_broken(options, words) {
         return Ok(true);
     }
     out.flush()?;
     writeln!(err, "der: {origin}: it breaks a rule of RFC 5280")?;
     Ok(false)
+}
+
+/// Writes words, as an object of JSON if that is asked.
+fn put_words<W: Write>(
+    alloc: Global,
+    options: &Options<'_>,
+    origin: Origin<'_>,
+    words: &Words,
+    out: &mut W,
+) -> io::Result<()>
+    ensures { OnOk result (AddsWordsFrom (source_of origin.entry) options.now words.now
+        (W.contents out.old) (W.contents out.new)) }
+{
+    if options.is_json {
+        return write_shown(alloc, origin, words, out);
+    }
+    out.write_all(&words.text)
 }
 
 /// Whether a rule of RFC 5280 is broken, and that is an error.
@@ -73,11 +92,11 @@ fn refuse<W: Write, X: Write>(
     err: &mut X,
 ) -> io::Result<bool>
     ensures refused { IfOk result (λ ok. ok ≡ false) }
-    ensures shows { OnOk result (ShowsRead options.now.present octets.now (W.contents out.old) (W.contents out.new)) }
+    ensures shows { OnOk result (ShowsRead options.now octets.now (W.contents out.old) (W.contents out.new)) }
 {
     let unread = why_unread(octets);
     let found = text_of_unread(alloc, options.present, octets, unread.as_ref())?;
-    write_found(&found, out)?;
+    put_found(alloc, options, origin, octets, unread.as_ref(), &found, out)?;
     out.flush()?;
     report_unknown(origin, octets, unread.as_ref(), err)?;
     Ok(false)
@@ -98,9 +117,28 @@ fn text_of_unread(
     }
 }
 
+/// Writes what was read, or an object of JSON with it and the error if that is asked.
+fn put_found<W: Write>(
+    alloc: Global,
+    options: &Options<'_>,
+    origin: Origin<'_>,
+    octets: &[u8],
+    unread: Option<&Unread<'_>>,
+    found: &Option<Vec<u8>>,
+    out: &mut W,
+) -> io::Result<()>
+    ensures { OnOk result (AddsFoundFrom (source_of origin.entry) options.now octets.now (option_copied unread.entry)
+        (text_in found.now) (W.contents out.old) (W.contents out.new)) }
+{
+    if options.is_json {
+        return write_refused(alloc, origin, octets, unread, found, out);
+    }
+    write_found(found, out)
+}
+
 /// Writes a text, if there is one.
 fn write_found<W: Write>(found: &Option<Vec<u8>>, out: &mut W) -> io::Result<()>
-    ensures { OnOk result (AddsFound (text_in found.now) (W.contents out.old) (W.contents out.new)) }
+    ensures { OnOk result (AddsText (text_in found.now) (W.contents out.old) (W.contents out.new)) }
 {
     match found {
         Some(text) => out.write_all(text),
@@ -109,7 +147,7 @@ fn write_found<W: Write>(found: &Option<Vec<u8>>, out: &mut W) -> io::Result<()>
 }
 
 /// Reports where octets aren't elements, or else why they are no certificate, list of revoked certificates or request.
-fn report_unknown<X: Write>(
+pub(crate) fn report_unknown<X: Write>(
     origin: Origin<'_>,
     octets: &[u8],
     unread: Option<&Unread<'_>>,

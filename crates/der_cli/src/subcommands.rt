@@ -58,7 +58,7 @@ pub(crate) static SUBCOMMANDS: [Subcommand; 9] = [
         name: "show",
         about: "Print certificates, keys, requests and messages in words",
         notes: Some(SHOW_NOTES),
-        arguments: &[STRICT, NOW, RECURSIVE, FROM, FILES],
+        arguments: &[JSON, STRICT, NOW, RECURSIVE, FROM, FILES],
     },
     Subcommand {
         name: "check",
@@ -108,7 +108,8 @@ pub(crate) static SUBCOMMANDS: [Subcommand; 9] = [
 
 const SHOW_NOTES: &str = "\
 It knows certificates, their requests and revocation lists, keys, and messages
-of SNMP, LDAP and Kerberos. No signature is verified.";
+of SNMP, LDAP and Kerberos. No signature is verified.
+docs/show-json.schema.json says what the members of --json are.";
 
 const CANON_NOTES: &str = "\
 PEM stays PEM. What depends on types that the file doesn't name stays as it is:
@@ -183,6 +184,12 @@ const QUIET: Argument = Argument {
 const STRICT: Argument = Argument {
     name: "strict",
     help: "End with status 1 if a rule of RFC 5280 is broken",
+    ..FLAG
+};
+
+const JSON: Argument = Argument {
+    name: "json",
+    help: "Print a line of JSON for each file or block",
     ..FLAG
 };
 

@@ -79,6 +79,7 @@ fn options(rules: Rules) -> Options<'static> {
         naming: Naming::Unnamed,
         place: None,
         depth: None,
+        is_json: false,
         has_octets: false,
         is_content: false,
         is_quiet: false,

@@ -1,24 +1,24 @@
-use Rattle.std.proofs.Common.{ℕ, Option, Some, None, List, subst}
-use Rattle.std.proofs.KnownBytes.{Appends-kept, Keeps-trans}
-use Rattle.std.specs.Io.KnownBytes.{Keeps}
+use Rattle.std.proofs.Common.{subst}
 use Rattle.der_show.specs.Messages.{text_in}
-use Rattle.der_cli.specs.Shown.{AddsFound, IsTextOf}
+use Rattle.der_cli.specs.Shown.{AddsFoundFrom, IsTextOf, source_of}
+use Rattle.der_cli.proofs.Showing.{kept_found}
 use Rattle.der_cli.proofs.show.refuse.Goals as goal
-
--- what was written stays
-kept : (text : Option (List ℕ)) (old mid new : Option (List ℕ)) → AddsFound text old mid → Keeps mid new → AddsFound text old new
-kept None old mid new adds keeps = Keeps-trans old mid new adds keeps
-kept (Some text) old mid new adds keeps = Appends-kept old mid new text adds keeps
 
 pub returns-clause-shows : goal.returns-clause-shows
 returns-clause-shows g c =
-    let now = c.args.options.now.present in
+    let o = c.args.options.now in
     let i = c.args.octets.now in
+    let s = source_of c.args.origin in
     let text = text_in c.in_ok-found.found in
+    let old = g.W.Write.contents c.args.out.now in
+    let put = g.W.Write.contents c.put_found.new.out in
+    let new = g.W.Write.contents c.flush.new.self in
+    let adds = subst (λ u. AddsFoundFrom s o i u text old put) c.as_ref-2.ensures.value c.in_ok-put_found.ensures in
     record {
       unread = c.why_unread-unread.result;
       why = c.why_unread-unread.ensures;
       text = text;
-      is_text = subst (λ u. IsTextOf now i u text) c.as_ref.ensures.value c.in_ok-found.ensures;
-      adds = kept text _ _ _ c.in_ok-write_found.ensures c.in_ok-flush.ensures.bytes;
+      is_text = subst (λ u. IsTextOf o.present i u text) c.as_ref.ensures.value c.in_ok-found.ensures;
+      source = s;
+      adds = kept_found s o i c.why_unread-unread.result text old put new adds c.in_ok-flush.ensures.bytes;
     }

@@ -1,7 +1,6 @@
 use Rattle.std.proofs.Common.{◌≡◌, ◌∙◌, Bool, Err, IfOk, IsTrue, Ok, OnOk, Result, false, sym, true}
 use Rattle.std.specs.Prelude.{not}
-use Rattle.std.specs.Io.KnownBytes.{Appends}
-use Rattle.der_cli.specs.Shown.{RefusesShown, ShowsRead, ShowsWords, breaks_rule, is_broken, no_words}
+use Rattle.der_cli.specs.Shown.{AddsWords, RefusesShown, ShowsRead, ShowsWords, breaks_rule, is_broken, no_words}
 use Rattle.der_cli.proofs.show.show.Goals as goal
 
 no_truth : {P : Type 0} → false ≡ true → P
@@ -32,7 +31,7 @@ returns-in-Some-clause-read g c =
     let new = g.W.Write.contents c.write_words.new.out in
     let w = c.in-Some.words in
     let described = rw c.in-Some.is at c.in_ok-found.ensures in
-    keeping c.write_words.result (Appends old new w.text.items) (ShowsWords o i old new) (is_broken o w)
+    keeping c.write_words.result (AddsWords o w old new) (ShowsWords o i old new) (is_broken o w)
     (λ adds keeps. record { words = w; describes = described; breaks = keeps; adds = adds }) c.write_words.ensures.written c.write_words.ensures.broken
 
 pub returns-in-Some-clause-refused : goal.returns-in-Some-clause-refused
@@ -43,7 +42,7 @@ returns-in-Some-clause-refused g c =
     let new = g.W.Write.contents c.write_words.new.out in
     let w = c.in-Some.words in
     let described = rw c.in-Some.is at c.in_ok-found.ensures in
-    breaking c.write_words.result (Appends old new w.text.items) (RefusesShown o i old new) (is_broken o w)
+    breaking c.write_words.result (AddsWords o w old new) (RefusesShown o i old new) (is_broken o w)
     (λ adds breaks. breaks_rule (record { words = w; describes = described; breaks = breaks; adds = adds })) c.write_words.ensures.written
     c.write_words.ensures.broken
 
@@ -54,4 +53,4 @@ returns-in-None-clause-refused g c =
     let old = g.W.Write.contents c.args.out.now in
     let new = g.W.Write.contents c.refuse.new.out in
     let described = rw c.in-None.is at c.in_ok-found.ensures in
-    refusing c.refuse.result (ShowsRead o.present i old new) (RefusesShown o i old new) (no_words described) c.refuse.ensures.shows
+    refusing c.refuse.result (ShowsRead o i old new) (RefusesShown o i old new) (no_words described) c.refuse.ensures.shows

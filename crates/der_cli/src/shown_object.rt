@@ -1,0 +1,134 @@
+//! What octets are, in words, as an object of JSON.
+ghost use Rattle.std.specs.Option.{option_copied, option_map, unwrap_or};
+ghost use Rattle.std.specs.Prelude.{◌≡◌, ◌++◌, [], OnOk, codes, drop, take};
+ghost use Rattle.std.specs.Io.KnownBytes.{Appends};
+ghost use Rattle.der_show.specs.Messages.{text_in};
+ghost use Rattle.der_show.specs.Refused.{offset_of};
+ghost use Rattle.der_cli.specs.Shown.{AddsError, AddsObject, IsErrorOffset, source_of, words_object};
+
+use crate::origin::Origin;
+use crate::show::report_unknown;
+use der_show::{Unread, Words};
+use der_walk::{Rules, Walk};
+use show_json::{Source, refused_json, shown_json};
+use std::alloc::Global;
+use std::io;
+use std::io::Write;
+
+/// Writes words as an object of JSON.
+pub(crate) fn write_shown<W: Write>(
+    alloc: Global,
+    origin: Origin<'_>,
+    words: &Words,
+    out: &mut W,
+) -> io::Result<()>
+    ensures { OnOk result (AddsObject (words_object (source_of origin.entry) words.now)
+        (W.contents out.old) (W.contents out.new)) }
+{
+    let (lines, inside) = parts_of(words);
+    let object = shown_json(alloc, source_of(origin), lines, inside, words.keeps_rules)?;
+    write_line(&object, out)
+}
+
+/// Writes why octets are refused as an object of JSON, with the text that was read before the error.
+pub(crate) fn write_refused<W: Write>(
+    alloc: Global,
+    origin: Origin<'_>,
+    octets: &[u8],
+    unread: Option<&Unread<'_>>,
+    found: &Option<Vec<u8>>,
+    out: &mut W,
+) -> io::Result<()>
+    ensures { OnOk result (AddsError (source_of origin.entry) octets.now (option_copied unread.entry)
+        (text_in found.now) (W.contents out.old) (W.contents out.new)) }
+{
+    let error = error_text(alloc, origin, octets, unread)?;
+    let offset = error_offset(octets, unread);
+    let object = refused_json(alloc, source_of(origin), &error, offset, text_of(found))?;
+    write_line(&object, out)
+}
+
+/// The lines before the words, and these.
+fn parts_of(words: &Words) -> (&[u8], &[u8])
+    ensures lines { result.0.now ≡ take words.now.words_at words.now.text.items }
+    ensures inside { result.1.now ≡ drop words.now.words_at words.now.text.items }
+{
+    let text = words.text.as_slice();
+    if words.words_at <= text.len() {
+        return text.split_at(words.words_at);
+    }
+    (text, &[])
+}
+
+/// Where an object says that octets are from.
+fn source_of(origin: Origin<'_>) -> Source<'_>
+    ensures { result ≡ source_of origin.entry }
+{
+    match origin.block {
+        Some(block) => Source {
+            file: origin.name,
+            block: Some(block.number),
+            label: Some(block.shown),
+        },
+        None => Source {
+            file: origin.name,
+            block: None,
+            label: None,
+        },
+    }
+}
+
+/// A text that was read. It is empty if there is none.
+fn text_of(found: &Option<Vec<u8>>) -> &[u8]
+    ensures { result.now ≡ unwrap_or (text_in found.now) [] }
+{
+    match found {
+        Some(text) => text,
+        None => &[],
+    }
+}
+
+/// Why octets are refused, as the report says it.
+fn error_text(
+    alloc: Global,
+    origin: Origin<'_>,
+    octets: &[u8],
+    unread: Option<&Unread<'_>>,
+) -> io::Result<String> {
+    let mut report = Vec::new(alloc);
+    report_unknown(origin, octets, unread, &mut report)?;
+    let report = String::from_utf8_lossy(alloc, &report)?;
+    let start = format!(in alloc; "der: {origin}: ")?;
+    let line = report.trim_end();
+    let error = line.strip_prefix(start.as_str()).unwrap_or(line);
+    Ok(String::from_str(alloc, error)?)
+}
+
+/// The offset of the error: of the first element that is refused, or else of the reader that says why.
+fn error_offset(octets: &[u8], unread: Option<&Unread<'_>>) -> Option<usize>
+    ensures { IsErrorOffset octets.now (option_copied unread.entry) result }
+{
+    let mut walk = Walk::new(octets, Rules::Ber, false);
+    match walk.find_fault() {
+        Some(refusal) => Some(refusal.offset),
+        None => reader_offset(unread),
+    }
+}
+
+/// The offset of the error of the reader that says why.
+fn reader_offset(unread: Option<&Unread<'_>>) -> Option<usize>
+    ensures { result ≡ option_map (λ u. offset_of u.refused) (option_copied unread.entry) }
+{
+    match unread {
+        Some(unread) => Some(unread.refused.offset()),
+        None => None,
+    }
+}
+
+/// Writes an object and the line's end.
+fn write_line<W: Write>(object: &str, out: &mut W) -> io::Result<()>
+    ensures { OnOk result (Appends (W.contents out.old) (W.contents out.new) (object.now ++ codes "\n")) }
+{
+    out.write_all(object.as_bytes())?;
+    out.write_all(b"\n")
+}
