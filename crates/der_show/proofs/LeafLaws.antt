@@ -9,6 +9,7 @@ use Rattle.std.specs.Option.{is_some, option_to_list}
 use Rattle.der_base.specs.declared.rules.Rules.{Rules}
 use Rattle.der_base.specs.declared.rules.Rules.TheVariants.{Ber}
 use Rattle.der_fields.specs.Fields.{label_text}
+use Rattle.der_print.specs.declared.style.Limit.TheVariants.{Front}
 use Rattle.der_print.specs.Lines.{IsFieldLine, IsValueSaid, content_in, front_text, holding_text, limit_of}
 use Rattle.der_print.specs.Texts.{content_of}
 use Rattle.der_print.proofs.LineLaws.{content_is, line_of}
@@ -65,12 +66,12 @@ no_ending A B Q None false h m e = absurd (true≢false (sym m))
 no_ending A B Q (Some s) made h m e = absurd (cc)
 
 no_value : (field : List ℕ) (v : Visited) (w line : List ℕ) → v.holds ≡ None → v.constructed ≡ true
-    → IsFieldLine field fields_style v w line → line ≡ front_text false field v ++ codes "\n"
+    → IsFieldLine field fields_style v w line → line ≡ front_text false Front field v ++ codes "\n"
 no_value field v w line held made l =
     let none : l.value ≡ [] =
-    no_ending (l.value ≡ []) (IsValueSaid None (limit_of fields_style field v) v w l.value) (λ s. l.value ≡ holding_text s)
+    no_ending (l.value ≡ []) (IsValueSaid None (limit_of fields_style.limit field v) v w l.value) (λ s. l.value ≡ holding_text s)
     v.holds v.constructed held made l.ending in
-    l.whole ∙ without_nothing (front_text false field v) l.value (codes "\n") none
+    l.whole ∙ without_nothing (front_text false Front field v) l.value (codes "\n") none
 
 -- what is left of a text without its last octet
 without_last : (old mid popped : List ℕ) (b n : ℕ) (r : Option ℕ) → mid ≡ old ++ b ∷ [] → mid ≡ popped ++ option_to_list r
@@ -89,7 +90,7 @@ pub leaf_added : (field end old mid popped new : List ℕ) (v : Visited) (w : Li
     → MatchOption r ((n ≡ 0) × (m ≡ 0)) (λ _. m + 1 ≡ n)
     → new ≡ popped ++ end → new ≡ old ++ leaf_line end field v
 leaf_added field end old mid popped new v w n m r held made added k len cases e =
-    let front = front_text false field v in
+    let front = front_text false Front field v in
     let text : mid ≡ (old ++ front) ++ codes "\n" =
     added.2 ∙ ap (λ x. old ++ x) (no_value field v w added.0 held made added.1) ∙ sym (append_assoc old front (codes "\n")) in
     let left : popped ≡ old ++ front = without_last (old ++ front) mid popped 10 n r text k len (m ≡ 0) (m + 1 ≡ n) cases in

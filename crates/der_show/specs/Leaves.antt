@@ -1,5 +1,6 @@
 -- Elements whose inside has no lines: secret ones, and those that are written in words.
 use Rattle.std.specs.Prelude.{◌≡◌, ◌⊎◌, ℕ, ◌<◌, false, List, ◌∷◌, [], ◌++◌, codes}
+use Rattle.der_print.specs.declared.style.Limit.TheVariants.{Front}
 use Rattle.der_print.specs.Lines.{front_text}
 use Rattle.der_schema.specs.declared.schema.Schema.{Schema}
 use Rattle.der_walk.specs.Visits.{Visited}
@@ -24,7 +25,7 @@ IsInLeaf sc i before v = (depth : ℕ) × IsOpen sc i before depth × (depth < v
 
 -- the line of a leaf has this end in place of a value
 abbrev pub leaf_line : List ℕ → List ℕ → Visited → List ℕ
-leaf_line end field v = front_text false field v ++ end
+leaf_line end field v = front_text false Front field v ++ end
 
 -- the end of the line of a secret one, and of one that is written in words
 abbrev pub secret_end : List ℕ
