@@ -109,6 +109,29 @@ fn breaks(reason: Reason, element: &[u8]) -> bool {
         Reason::TIME_COMMA => is(&[24]) && content.contains(&b','),
         Reason::TIME_LAST_ZERO => is(&[24]) && content.ends_with(b"0Z"),
         Reason::UNUSED_BIT_IS_SET => is(&[3]) && has_unused_bits(content),
+        _ => is(&[9]) && breaks_real(reason, content),
+    }
+}
+
+/// Whether the content of a REAL breaks the rule of DER that a reason names (11.3).
+fn breaks_real(reason: Reason, content: &[u8]) -> bool {
+    let (first, rest) = match content.split_first() {
+        Some(parts) => parts,
+        None => return false,
+    };
+    let exponent = match first & 3 {
+        3 => rest.first().map_or(0, |size| 1 + usize::from(*size)),
+        size => 1 + usize::from(size),
+    };
+    let mantissa = rest.get(exponent..).unwrap_or(&[]);
+    match reason {
+        Reason::REAL_BASE_OR_SCALE => first & 0x80 != 0 && first & 0x3c != 0,
+        Reason::REAL_EXPONENT_NOT_FEWEST => first & 0x80 != 0 && first & 3 != 0,
+        Reason::REAL_MANTISSA_NOT_FEWEST => {
+            first & 0x80 != 0
+                && (mantissa.first() == Some(&0) || mantissa.last().map_or(false, |it| it % 2 == 0))
+        }
+        Reason::REAL_DECIMAL_NOT_STRICT => first & 0xc0 == 0,
         _ => false,
     }
 }

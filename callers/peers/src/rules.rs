@@ -310,7 +310,11 @@ pub const RULES: &[Rule] = &[
         source: "10, 11; DIFFERENCES: by DER at every depth",
         is_of_header: false,
         decides: |_| false,
-        examples: &[(true, "30 03 01 01 7f"), (true, "30 04 31 80 00 00")],
+        examples: &[
+            (true, "30 03 01 01 7f"),
+            (true, "30 04 31 80 00 00"),
+            (true, "31 07 09 05 8c 05 7f 01 07"),
+        ],
     },
 ];
 
